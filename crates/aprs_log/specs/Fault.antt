@@ -1,0 +1,78 @@
+-- Numbers and names of faults, causes and reasons.
+use Rattle.std.specs.Prelude.{ℕ, List, codes}
+use Rattle.aprs_log.specs.declared.fault.LineFault.{LineFault}
+use Rattle.aprs_log.specs.declared.fault.LineFault.TheVariants as fault
+use Rattle.aprs_log.specs.declared.fault.LogCause.{LogCause}
+use Rattle.aprs_log.specs.declared.fault.LogCause.TheVariants as cause
+use Rattle.aprs_log.specs.declared.fault.Reason.{Reason}
+use Rattle.aprs_log.specs.declared.fault.Reason.TheVariants as reason
+
+abbrev pub line_fault_number : LineFault → ℕ
+line_fault_number fault.LongLine = 1
+line_fault_number fault.NoNewline = 2
+line_fault_number fault.Moment = 3
+line_fault_number fault.Receiver = 4
+line_fault_number fault.Hex = 5
+
+abbrev pub line_fault_name : LineFault → List ℕ
+line_fault_name fault.LongLine = codes "LongLine"
+line_fault_name fault.NoNewline = codes "NoNewline"
+line_fault_name fault.Moment = codes "Moment"
+line_fault_name fault.Receiver = codes "Receiver"
+line_fault_name fault.Hex = codes "Hex"
+
+-- a line's fault as a log's cause
+abbrev pub log_cause_of : LineFault → LogCause
+log_cause_of fault.LongLine = cause.LongLine
+log_cause_of fault.NoNewline = cause.NoNewline
+log_cause_of fault.Moment = cause.Moment
+log_cause_of fault.Receiver = cause.Receiver
+log_cause_of fault.Hex = cause.Hex
+
+abbrev pub log_cause_number : LogCause → ℕ
+log_cause_number cause.LongLine = 1
+log_cause_number cause.NoNewline = 2
+log_cause_number cause.Moment = 3
+log_cause_number cause.Receiver = 4
+log_cause_number cause.Hex = 5
+log_cause_number cause.Read = 6
+log_cause_number cause.TooLong = 7
+log_cause_number cause.Memory = 8
+
+abbrev pub log_cause_name : LogCause → List ℕ
+log_cause_name cause.LongLine = codes "LongLine"
+log_cause_name cause.NoNewline = codes "NoNewline"
+log_cause_name cause.Moment = codes "Moment"
+log_cause_name cause.Receiver = codes "Receiver"
+log_cause_name cause.Hex = codes "Hex"
+log_cause_name cause.Read = codes "Read"
+log_cause_name cause.TooLong = codes "TooLong"
+log_cause_name cause.Memory = codes "Memory"
+
+abbrev pub reason_number : Reason → ℕ
+reason_number reason.Unended = 1
+reason_number reason.NoFrame = 2
+reason_number reason.TwoFrames = 3
+reason_number reason.BadEscape = 4
+reason_number reason.TooLong = 5
+reason_number reason.NotData = 6
+reason_number reason.Address = 7
+reason_number reason.Callsign = 8
+reason_number reason.Control = 9
+reason_number reason.Pid = 10
+reason_number reason.NoInfo = 11
+reason_number reason.LongInfo = 12
+
+abbrev pub reason_name : Reason → List ℕ
+reason_name reason.Unended = codes "Unended"
+reason_name reason.NoFrame = codes "NoFrame"
+reason_name reason.TwoFrames = codes "TwoFrames"
+reason_name reason.BadEscape = codes "BadEscape"
+reason_name reason.TooLong = codes "TooLong"
+reason_name reason.NotData = codes "NotData"
+reason_name reason.Address = codes "Address"
+reason_name reason.Callsign = codes "Callsign"
+reason_name reason.Control = codes "Control"
+reason_name reason.Pid = codes "Pid"
+reason_name reason.NoInfo = codes "NoInfo"
+reason_name reason.LongInfo = codes "LongInfo"

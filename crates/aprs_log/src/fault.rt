@@ -1,0 +1,198 @@
+//! Why a line is refused or passed over, and why a log ends before its end.
+ghost use Rattle.std.specs.Prelude.{◌≡◌, codes};
+ghost use Rattle.aprs_log.specs.Fault.{
+    line_fault_number, line_fault_name, log_cause_number, log_cause_name, log_cause_of,
+    reason_number, reason_name,
+};
+
+/// What is wrong with a line of a log, in the order in which a line is judged.
+#[derive(Clone, Copy, Debug, PartialEq, Eq)]
+pub enum LineFault {
+    /// The line has more than 8,192 bytes.
+    LongLine,
+    /// The input ends inside a line.
+    NoNewline,
+    /// No moment stands before the first space.
+    Moment,
+    /// No receiver's name stands between the first two spaces.
+    Receiver,
+    /// What stands after the second space are no bytes in hexadecimal.
+    Hex,
+}
+
+impl LineFault {
+    /// Its number, from 1.
+    pub fn number(&self) -> u8
+        ensures { result ≡ line_fault_number self.now }
+    {
+        match self {
+            LineFault::LongLine => 1,
+            LineFault::NoNewline => 2,
+            LineFault::Moment => 3,
+            LineFault::Receiver => 4,
+            LineFault::Hex => 5,
+        }
+    }
+
+    /// Its name.
+    pub fn name(&self) -> &'static str
+        ensures { result.now ≡ line_fault_name self.now }
+    {
+        match self {
+            LineFault::LongLine => "LongLine",
+            LineFault::NoNewline => "NoNewline",
+            LineFault::Moment => "Moment",
+            LineFault::Receiver => "Receiver",
+            LineFault::Hex => "Hex",
+        }
+    }
+}
+
+/// Why a log is read no further.
+#[derive(Clone, Copy, Debug, PartialEq, Eq)]
+pub enum LogCause {
+    /// A line has more than 8,192 bytes.
+    LongLine,
+    /// The input ends inside a line.
+    NoNewline,
+    /// No moment stands before a line's first space.
+    Moment,
+    /// No receiver's name stands between a line's first two spaces.
+    Receiver,
+    /// What stands after a line's second space are no bytes in hexadecimal.
+    Hex,
+    /// The reader failed.
+    Read,
+    /// The input has more bytes than the limit.
+    TooLong,
+    /// Memory was refused.
+    Memory,
+}
+
+impl LogCause {
+    /// Its number, from 1.
+    pub fn number(&self) -> u8
+        ensures { result ≡ log_cause_number self.now }
+    {
+        match self {
+            LogCause::LongLine => 1,
+            LogCause::NoNewline => 2,
+            LogCause::Moment => 3,
+            LogCause::Receiver => 4,
+            LogCause::Hex => 5,
+            LogCause::Read => 6,
+            LogCause::TooLong => 7,
+            LogCause::Memory => 8,
+        }
+    }
+
+    /// Its name.
+    pub fn name(&self) -> &'static str
+        ensures { result.now ≡ log_cause_name self.now }
+    {
+        match self {
+            LogCause::LongLine => "LongLine",
+            LogCause::NoNewline => "NoNewline",
+            LogCause::Moment => "Moment",
+            LogCause::Receiver => "Receiver",
+            LogCause::Hex => "Hex",
+            LogCause::Read => "Read",
+            LogCause::TooLong => "TooLong",
+            LogCause::Memory => "Memory",
+        }
+    }
+}
+
+impl From<LineFault> for LogCause {
+    ghost from_gives = { λ fault cause. cause ≡ log_cause_of fault };
+
+    fn from(fault: LineFault) -> LogCause {
+        match fault {
+            LineFault::LongLine => LogCause::LongLine,
+            LineFault::NoNewline => LogCause::NoNewline,
+            LineFault::Moment => LogCause::Moment,
+            LineFault::Receiver => LogCause::Receiver,
+            LineFault::Hex => LogCause::Hex,
+        }
+    }
+}
+
+/// The line, counted from 1, at which a log is read no further, and why.
+#[derive(Clone, Copy, Debug, PartialEq, Eq)]
+pub struct LogFault {
+    /// The number of the line.
+    pub line: u64,
+    /// Why.
+    pub cause: LogCause,
+}
+
+/// Why a sound line holds no frame, in the order in which its bytes are judged.
+#[derive(Clone, Copy, Debug, PartialEq, Eq)]
+pub enum Reason {
+    /// Bytes follow the last frame end.
+    Unended,
+    /// No byte stands before a frame end.
+    NoFrame,
+    /// Two frames or more.
+    TwoFrames,
+    /// An escape that nothing fitting follows.
+    BadEscape,
+    /// A frame of more than 1,024 bytes.
+    TooLong,
+    /// A command other than data.
+    NotData,
+    /// The address field doesn't end after 2 to 10 addresses.
+    Address,
+    /// An address holds no callsign.
+    Callsign,
+    /// The control octet isn't that of a UI frame.
+    Control,
+    /// The protocol isn't that of no layer 3.
+    Pid,
+    /// No information follows.
+    NoInfo,
+    /// More than 256 bytes of information.
+    LongInfo,
+}
+
+impl Reason {
+    /// Its number, from 1.
+    pub fn number(&self) -> u8
+        ensures { result ≡ reason_number self.now }
+    {
+        match self {
+            Reason::Unended => 1,
+            Reason::NoFrame => 2,
+            Reason::TwoFrames => 3,
+            Reason::BadEscape => 4,
+            Reason::TooLong => 5,
+            Reason::NotData => 6,
+            Reason::Address => 7,
+            Reason::Callsign => 8,
+            Reason::Control => 9,
+            Reason::Pid => 10,
+            Reason::NoInfo => 11,
+            Reason::LongInfo => 12,
+        }
+    }
+
+    /// Its name.
+    pub fn name(&self) -> &'static str
+        ensures { result.now ≡ reason_name self.now }
+    {
+        match self {
+            Reason::Unended => "Unended",
+            Reason::NoFrame => "NoFrame",
+            Reason::TwoFrames => "TwoFrames",
+            Reason::BadEscape => "BadEscape",
+            Reason::TooLong => "TooLong",
+            Reason::NotData => "NotData",
+            Reason::Address => "Address",
+            Reason::Callsign => "Callsign",
+            Reason::Control => "Control",
+            Reason::Pid => "Pid",
+            Reason::NoInfo => "NoInfo",
+            Reason::LongInfo => "LongInfo",
+        }
+    }
+}

@@ -1,0 +1,14 @@
+//! Moments, receivers and the lines of a log, where each line holds a frame as it was heard.
+#![tactic(auto)]
+
+mod bytes;
+mod fault;
+mod moment;
+mod receiver;
+
+pub use fault::{LineFault, LogCause, LogFault, Reason};
+pub use moment::Moment;
+pub use receiver::Receiver;
+
+/// The most bytes of input that a reader is asked to take.
+pub const MAX_INPUT: u64 = 1_073_741_824;

@@ -1,0 +1,74 @@
+//! Names of receivers.
+ghost use Rattle.std.specs.Prelude.{◌≡◌, List, ℕ, SomeIff};
+ghost use Rattle.std.specs.List.{list_all};
+ghost use Rattle.aprs_log.specs.Receiver.{IsName, is_name, is_name_byte};
+
+use crate::bytes::copied;
+use arrayvec::ArrayVec;
+use std::marker::Model;
+
+/// The name of a receiver: 1 to 16 letters, digits, `-` and `_`. Names are ordered by their bytes.
+#[derive(PartialEq, Eq, PartialOrd, Ord, Drop)]
+pub struct Receiver {
+    bytes: ArrayVec<u8, 16>,
+}
+
+impl Model for Receiver {
+    ghost Value = { List ℕ };
+
+    ghost view = { λ r. r.bytes.items };
+
+    ghost invariant = { λ r. IsName r.bytes.items };
+
+    ghost inverse = { λ bytes. record { bytes = record { items = bytes } } };
+}
+
+impl Receiver {
+    /// The receiver of this name, where the bytes are one. Takes no memory.
+    pub fn parse(bytes: &[u8]) -> Option<Receiver>
+        ensures { SomeIff result (IsName bytes.now) bytes.now }
+    {
+        if !is_name(bytes) {
+            return None;
+        }
+        match ArrayVec::try_from(bytes) {
+            Ok(bytes) => Some(Receiver { bytes }),
+            Err(_) => None,
+        }
+    }
+
+    /// The bytes of the name.
+    pub fn as_bytes(&self) -> &[u8]
+        ensures value { result.now ≡ self.now }
+        ensures name { IsName self.now }
+    {
+        self.bytes.as_slice()
+    }
+
+    /// The same name. Takes no memory.
+    pub fn copy(&self) -> Receiver
+        ensures { result ≡ self.now }
+    {
+        Receiver {
+            bytes: copied(&self.bytes),
+        }
+    }
+}
+
+fn is_name(bytes: &[u8]) -> bool
+    ensures { result ≡ is_name bytes.now }
+{
+    matches!(bytes.len(), 1..=16) && has_name_bytes(bytes)
+}
+
+fn has_name_bytes(bytes: &[u8]) -> bool
+    ensures { result ≡ list_all is_name_byte bytes.now }
+{
+    bytes.iter().all(|b| is_name_byte(*b))
+}
+
+fn is_name_byte(byte: u8) -> bool
+    ensures { result ≡ is_name_byte byte }
+{
+    byte.is_ascii_alphanumeric() || byte == b'-' || byte == b'_'
+}
