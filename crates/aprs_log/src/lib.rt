@@ -2,6 +2,8 @@
 #![tactic(auto)]
 
 mod bytes;
+mod calendar;
+mod civil;
 mod fault;
 mod moment;
 mod receiver;

@@ -1,0 +1,85 @@
+-- The days of 1970 to 2099.
+use Rattle.std.proofs.Common.{◌≡◌, ℕ, ◌+◌, ◌-◌, ◌<◌, ◌≤◌, refl, arith, ℤ, pos, negsuc, unsigned_abs, ap, ◌+ℤ◌, ◌-ℤ◌, ◌≤ℤ◌, ◌<ℤ◌, ◌∙◌, sym}
+use Rattle.std.proofs.lemmas.Int.{by_lt_z}
+use Rattle.jiff_core.specs.Calendar.{day_count, days_from_civil, days_in_month, IsCivilDate}
+use Rattle.aprs_log.specs.Moment.{IsDay}
+use Rattle.jiff_core.proofs.SignedLemmas.{signed_arith}
+use Rattle.jiff_core.proofs.MarchLemmas.{day_count-early}
+use Rattle.jiff_core.proofs.CalendarLemmas.{day_count-epoch, days_from_civil-day_count, day_count-lt_year, day_count-last_of_year, day_count-next_year}
+
+day_count-2100 : day_count (pos 2100) 1 1 ≡ 4_419_435
+day_count-2100 = day_count-early (pos 2100) 12099 1 1 refl (omega arith) (omega arith) (omega arith)
+
+day_count-1969 : day_count (pos 1969) 12 31 + 1 ≡ 4_371_953
+day_count-1969 = day_count-last_of_year (pos 1969) ∙ sym (day_count-next_year (pos 1969) (pos 1970) (omega (arith, signed_arith)) refl) ∙ day_count-epoch
+
+day_count-2099 : day_count (pos 2099) 12 31 + 1 ≡ 4_419_435
+day_count-2099 = day_count-last_of_year (pos 2099) ∙ sym (day_count-next_year (pos 2099) (pos 2100) (omega (arith, signed_arith)) refl) ∙ day_count-2100
+
+last_day : (y : ℕ) → y ≤ 9999 → IsCivilDate (pos y) 12 31
+last_day y h = ((omega (arith, signed_arith), omega (arith, signed_arith)), (omega arith, omega arith), (omega arith, omega arith))
+
+pub count_from : (y : ℤ) (m d : ℕ) → IsCivilDate y m d → pos 1970 ≤ℤ y → 4_371_953 ≤ day_count y m d
+count_from y m d h low =
+    let before = day_count-lt_year (pos 1969) 12 31 y m d (last_day 1969 (omega arith)) h.2.0 (omega (arith, signed_arith)) in
+    omega (arith, day_count-1969, before)
+
+pub count_to : (y : ℤ) (m d : ℕ) → IsCivilDate y m d → y ≤ℤ pos 2099 → day_count y m d < 4_419_435
+count_to y m d h high =
+    let after = day_count-lt_year y m d (pos 2100) 1 1 h (omega arith) (omega (arith, signed_arith)) in
+    omega (arith, day_count-2100, after)
+
+pub year_from : (y : ℤ) (m d : ℕ) → IsCivilDate y m d → 4_371_953 ≤ day_count y m d → pos 1970 ≤ℤ y
+year_from y m d h low = by_lt_z y (pos 1970)
+    (λ lt. absurd (omega (arith, day_count-epoch, day_count-lt_year y m d (pos 1970) 1 1 h (omega arith) lt, low)))
+    (λ ge. ge)
+
+pub year_to : (y : ℤ) (m d : ℕ) → IsCivilDate y m d → day_count y m d < 4_419_435 → y ≤ℤ pos 2099
+year_to y m d h high = by_lt_z (pos 2099) y
+    (λ lt. absurd (omega (arith, day_count-2099, day_count-lt_year (pos 2099) 12 31 y m d (last_day 2099 (omega arith)) h.2.0 lt, high)))
+    (λ ge. ge)
+
+-- the number of a date, counted from -9999-01-01
+pub day_is : (y : ℤ) (m d n : ℕ) → IsCivilDate y m d → pos 1970 ≤ℤ y → (days_from_civil y m d +ℤ pos 4_371_587) ≡ pos n
+    → y ≤ℤ pos 2099 → (4_371_587 ≤ n) × (pos (n - 4_371_587) ≡ days_from_civil y m d) × (n - 4_371_587 < 47482)
+day_is y m d n h low e high =
+    let c = count_from y m d h low in
+    let b = count_to y m d h high in
+    let k = days_from_civil-day_count y m d in
+    (omega (arith, signed_arith, c, k, e), omega (arith, signed_arith, c, k, e), omega (arith, signed_arith, b, c, k, e))
+
+-- the date of a number
+pub years_are : (y : ℤ) (m d n : ℕ) → IsCivilDate y m d → (days_from_civil y m d +ℤ pos 4_371_587) ≡ pos (4_371_587 + n) → n < 47482
+    → (pos 1970 ≤ℤ y) × (y ≤ℤ pos 2099) × (days_from_civil y m d ≡ pos n)
+years_are y m d n h e lt =
+    let k = days_from_civil-day_count y m d in
+    (year_from y m d h (omega (arith, signed_arith, k, e)), year_to y m d h (omega (arith, signed_arith, k, e)), omega (arith, signed_arith, e))
+
+-- the same, of the parts that the caller gave
+pub parts_are : (y : ℤ) (m d : ℕ) (year month day n : ℕ) → IsCivilDate y m d → y ≡ pos year → pos m ≡ pos month → pos d ≡ pos day → 1970 ≤ year → year ≤ 2099
+    → (days_from_civil y m d +ℤ pos 4_371_587) ≡ pos n
+    → (4_371_587 ≤ n) × (pos (n - 4_371_587) ≡ days_from_civil (pos year) month day) × (n - 4_371_587 < 47482)
+parts_are y m d year month day n h a b c low high e =
+    let b' : m ≡ month = cc in
+    let c' : d ≡ day = cc in
+    let is = day_is y m d n h (omega (arith, signed_arith, a)) e (omega (arith, signed_arith, a)) in (
+      is.0,
+      is.1 ∙ ap (λ z. days_from_civil z m d) a ∙ ap (λ k. days_from_civil (pos year) k d) b' ∙ ap (λ k. days_from_civil (pos year) month k) c',
+      is.2,
+    )
+
+pub IsDay-from : (y : ℤ) (year m d : ℕ) → pos year ≡ y → IsCivilDate y m d → pos 1970 ≤ℤ y → y ≤ℤ pos 2099 → IsDay year m d
+IsDay-from y year m d e h low high =
+    let days : days_in_month (pos year) m ≡ days_in_month y m = ap (λ z. days_in_month z m) e in (
+      omega (arith, signed_arith, e),
+      omega (arith, signed_arith, e),
+      (
+        (omega (arith, signed_arith, e, h.0.0), omega (arith, signed_arith, e, h.0.1)),
+        (omega (arith, signed_arith, h.1.0), omega (arith, signed_arith, h.1.1)),
+        (omega (arith, signed_arith, h.2.0), omega (arith, signed_arith, h.2.1, days)),
+      ),
+    )
+
+pub abs_is : (y : ℤ) (a : ℕ) → a ≡ unsigned_abs y → pos 1970 ≤ℤ y → pos a ≡ y
+abs_is (pos n) a e low = ap (λ n. pos n) e
+abs_is (negsuc n) a e low = absurd (omega (arith, signed_arith))

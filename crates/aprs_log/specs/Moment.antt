@@ -1,0 +1,85 @@
+-- Moments and their texts.
+use Rattle.std.specs.Prelude.{◌≡◌, ℕ, ◌+◌, ◌-◌, ◌*◌, ◌/◌, ◌%◌, ◌<◌, ◌≤◌, ◌&&◌, min, Bool, if◌then◌else◌, List, [], ◌∷◌, ◌++◌, slice_index, Option, None, Some, nat_le, nat_lt, nat_eq, pos, unsigned_abs, ◌+ℤ◌, ◌*ℤ◌}
+use Rattle.std.specs.Cmp.Lexicographic.{pointwise}
+use Rattle.jiff_core.specs.Calendar.{IsDate, days_from_civil, days_in_month}
+
+-- a date of the civil calendar and a time of its day, in UTC
+pub record Civil : Type 0 where
+  pub year : ℕ
+  pub month : ℕ
+  pub day : ℕ
+  pub hour : ℕ
+  pub minute : ℕ
+  pub second : ℕ
+
+abbrev pub two_digits : ℕ → List ℕ
+two_digits n = (48 + n / 10) ∷ (48 + n % 10) ∷ []
+
+abbrev pub four_digits : ℕ → List ℕ
+four_digits n = two_digits (n / 100) ++ two_digits (n % 100)
+
+-- YYYY-MM-DDTHH:MM:SSZ
+abbrev pub civil_text : Civil → List ℕ
+civil_text c = four_digits c.year ++ 45 ∷ two_digits c.month ++ 45 ∷ two_digits c.day
+    ++ 84 ∷ two_digits c.hour ++ 58 ∷ two_digits c.minute ++ 58 ∷ two_digits c.second ++ 90 ∷ []
+
+-- a date of the calendar, in one of the years 1970 to 2099
+abbrev pub IsDay : ℕ → ℕ → ℕ → Type 0
+IsDay y m d = (1970 ≤ y) × (y ≤ 2099) × IsDate (pos y) (pos m) (pos d)
+
+-- such a date, and a second of its day
+pub record IsCivil (c : Civil) : Type 0 where
+  pub date : IsDay c.year c.month c.day
+  pub hour : c.hour < 24
+  pub minute : c.minute < 60
+  pub second : c.second < 60
+
+abbrev pub second_of_day : Civil → ℕ
+second_of_day c = c.hour * 3600 + c.minute * 60 + c.second
+
+-- t is the text of the moment m, which is 86,400 times the day number of the civil date (0 for
+-- 1970-01-01) and the seconds of the day
+pub record MomentText (m : ℕ) (t : List ℕ) : Type 0 where
+  pub civil : Civil
+  pub real : IsCivil civil
+  pub number : pos m ≡ (days_from_civil (pos civil.year) civil.month civil.day *ℤ pos 86400) +ℤ pos (second_of_day civil)
+  pub spelled : t ≡ civil_text civil
+
+-- ---- the same as a function
+
+-- the value of a digit, and of another byte that of the digit next to it
+abbrev pub digit_of : ℕ → ℕ
+digit_of b = min 9 (b - 48)
+
+abbrev pub pair_at : List ℕ → ℕ → ℕ
+pair_at t i = 10 * digit_of (slice_index t i) + digit_of (slice_index t (i + 1))
+
+-- the civil time whose digits stand at their places in a text
+abbrev pub civil_at : List ℕ → Civil
+civil_at t = record {
+  year = 100 * pair_at t 0 + pair_at t 2;
+  month = pair_at t 5;
+  day = pair_at t 8;
+  hour = pair_at t 11;
+  minute = pair_at t 14;
+  second = pair_at t 17;
+}
+
+abbrev pub is_date : Civil → Bool
+is_date c = nat_le 1970 c.year && nat_le c.year 2099 && nat_le 1 c.month && nat_le c.month 12
+    && nat_le 1 c.day && nat_le c.day (days_in_month (pos c.year) c.month)
+
+abbrev pub is_time : Civil → Bool
+is_time c = nat_lt c.hour 24 && nat_lt c.minute 60 && nat_lt c.second 60
+
+abbrev pub is_civil : Civil → Bool
+is_civil c = is_date c && is_time c
+
+-- the seconds from 1970-01-01T00:00:00Z to a civil time from then on
+abbrev pub seconds_of : Civil → ℕ
+seconds_of c = 86400 * unsigned_abs (days_from_civil (pos c.year) c.month c.day) + second_of_day c
+
+-- the moment of a text: that of the civil time at its places, where that is real and has this text
+unfoldable pub moment_of : List ℕ → Option ℕ
+moment_of t = if is_civil (civil_at t) && pointwise nat_eq (civil_text (civil_at t)) t
+    then Some (seconds_of (civil_at t)) else None

@@ -1,0 +1,34 @@
+//! Days of the civil calendar, by their number.
+ghost use Rattle.std.specs.Prelude.{◌≡◌, ◌≤◌, ◌<◌, pos, MatchOption};
+ghost use Rattle.jiff_core.specs.Calendar.{days_from_civil};
+ghost use Rattle.aprs_log.specs.Moment.{IsDay};
+
+use jiff::civil::Date;
+
+/// The days from -9999-01-01, at which the calendar's own count begins, to 1970-01-01.
+const FIRST_DAY: u32 = 4_371_587;
+
+/// The days from 1970-01-01 to a date, where the calendar has it.
+pub fn day_number(year: u16, month: u8, day: u8) -> Option<u32>
+    requires low { 1970 ≤ year }
+    requires high { year ≤ 2099 }
+    requires month { month < 100 }
+    requires day { day < 100 }
+    ensures { MatchOption result (IsDay year month day → ⊥)
+        (λ n. IsDay year month day × (pos n ≡ days_from_civil (pos year) month day) × (n < 47482)) }
+{
+    match Date::new(year as i16, month as i8, day as i8) {
+        Ok(date) => Some(date.to_plain().days_since_min() - FIRST_DAY),
+        Err(_) => None,
+    }
+}
+
+/// The date so many days after 1970-01-01: its year, month and day.
+pub fn date_of(day: u32) -> (u16, u8, u8)
+    requires { day < 47482 }
+    ensures date { IsDay result.0 result.1 result.2 }
+    ensures number { days_from_civil (pos result.0) result.1 result.2 ≡ pos day }
+{
+    let date = jiff_core::civil::Date::from_days_since_min(FIRST_DAY + day);
+    (date.year.unsigned_abs(), date.month, date.day)
+}

@@ -1,0 +1,157 @@
+//! Dates of the civil calendar with a time of the day.
+ghost use Rattle.std.specs.Prelude.{◌≡◌, ◌≤◌, ◌<◌, ◌+◌, ◌*◌, ◌/◌, ◌%◌, ◌∷◌, ◌++◌, [], length, pos, SomeIff, IfSome};
+ghost use Rattle.aprs_log.specs.Moment.{Civil, civil_at, civil_text, digit_of, is_time, pair_at, second_of_day, seconds_of, IsCivil};
+
+use crate::calendar::{date_of, day_number};
+use std::marker::Model;
+
+/// A date and a time of its day, as the digits of a text say them.
+#[derive(Clone, Copy)]
+pub struct CivilTime {
+    year: u16,
+    month: u8,
+    day: u8,
+    hour: u8,
+    minute: u8,
+    second: u8,
+}
+
+impl Model for CivilTime {
+    ghost Value = { Civil };
+
+    ghost view = { λ c. record {
+        year = c.year; month = c.month; day = c.day;
+        hour = c.hour; minute = c.minute; second = c.second;
+    } };
+
+    ghost invariant = { λ c. (c.year < 10000) × (c.month < 100) × (c.day < 100)
+        × (c.hour < 100) × (c.minute < 100) × (c.second < 100) };
+
+    ghost inverse = { λ c. record {
+        year = c.year; month = c.month; day = c.day;
+        hour = c.hour; minute = c.minute; second = c.second;
+    } };
+}
+
+impl CivilTime {
+    /// The time whose digits stand at their places in a text.
+    pub fn at(text: &[u8]) -> CivilTime
+        requires { length text.now ≡ 20 }
+        ensures { result ≡ civil_at text.now }
+    {
+        CivilTime {
+            year: u16::from(pair_at(text, 0)) * 100 + u16::from(pair_at(text, 2)),
+            month: pair_at(text, 5),
+            day: pair_at(text, 8),
+            hour: pair_at(text, 11),
+            minute: pair_at(text, 14),
+            second: pair_at(text, 17),
+        }
+    }
+
+    /// The date and the time of the day that are so many seconds after 1970-01-01T00:00:00Z.
+    pub fn of_seconds(seconds: u64) -> CivilTime
+        requires { seconds ≤ 4102444799 }
+        ensures real { IsCivil result }
+        ensures number { seconds_of result ≡ seconds }
+    {
+        let second = (seconds % 86_400) as u32;
+        let (year, month, day) = date_of((seconds / 86_400) as u32);
+        CivilTime {
+            year,
+            month,
+            day,
+            hour: (second / 3600) as u8,
+            minute: (second / 60 % 60) as u8,
+            second: (second % 60) as u8,
+        }
+    }
+
+    /// The seconds from 1970-01-01T00:00:00Z to this time, where the calendar and the clock have it.
+    pub fn seconds(&self) -> Option<u64>
+        ensures value { SomeIff result (IsCivil self.now) (seconds_of self.now) }
+        ensures bound { IfSome result (λ n. n ≤ 4102444799) }
+    {
+        if self.year < 1970 || self.year > 2099 || !self.is_time() {
+            return None;
+        }
+        match day_number(self.year, self.month, self.day) {
+            Some(day) => Some(u64::from(day) * 86_400 + u64::from(self.second_of_day())),
+            None => None,
+        }
+    }
+
+    /// Whether a day has this hour, minute and second.
+    fn is_time(&self) -> bool
+        ensures { result ≡ is_time self.now }
+    {
+        self.hour < 24 && self.minute < 60 && self.second < 60
+    }
+
+    fn second_of_day(&self) -> u32
+        ensures value { result ≡ second_of_day self.now }
+        ensures bound { result < 363000 }
+    {
+        u32::from(self.hour) * 3600 + u32::from(self.minute) * 60 + u32::from(self.second)
+    }
+
+    /// The text, as `2024-05-01T12:00:00Z`.
+    pub fn text(&self) -> [u8; 20]
+        ensures { result ≡ civil_text self.now }
+    {
+        let century = (self.year / 100) as u8;
+        let year = (self.year % 100) as u8;
+        [
+            tens(century),
+            units(century),
+            tens(year),
+            units(year),
+            b'-',
+            tens(self.month),
+            units(self.month),
+            b'-',
+            tens(self.day),
+            units(self.day),
+            b'T',
+            tens(self.hour),
+            units(self.hour),
+            b':',
+            tens(self.minute),
+            units(self.minute),
+            b':',
+            tens(self.second),
+            units(self.second),
+            b'Z',
+        ]
+    }
+}
+
+/// The value of a digit, and of another byte that of the digit next to it.
+fn digit_of(byte: u8) -> u8
+    ensures value { result ≡ digit_of byte }
+    ensures bound { result ≤ 9 }
+{
+    byte.saturating_sub(b'0').min(9)
+}
+
+/// The number whose two digits stand at `i`.
+fn pair_at(text: &[u8], i: usize) -> u8
+    requires { i + 1 < length text.now }
+    ensures value { result ≡ pair_at text.now i }
+    ensures bound { result < 100 }
+{
+    digit_of(text[i]) * 10 + digit_of(text[i + 1])
+}
+
+fn tens(n: u8) -> u8
+    requires { n < 100 }
+    ensures { result ≡ 48 + n / 10 }
+{
+    b'0' + n / 10
+}
+
+fn units(n: u8) -> u8
+    ensures { result ≡ 48 + n % 10 }
+{
+    b'0' + n % 10
+}
