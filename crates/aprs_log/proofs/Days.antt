@@ -1,11 +1,12 @@
 -- The days of 1970 to 2099.
-use Rattle.std.proofs.Common.{◌≡◌, ℕ, ◌+◌, ◌-◌, ◌<◌, ◌≤◌, refl, arith, ℤ, pos, negsuc, unsigned_abs, ap, ◌+ℤ◌, ◌-ℤ◌, ◌≤ℤ◌, ◌<ℤ◌, ◌∙◌, sym}
+use Rattle.std.proofs.Common.{◌≡◌, ℕ, ◌+◌, ◌-◌, ◌<◌, ◌≤◌, refl, arith, ℤ, pos, negsuc, unsigned_abs, ap, ◌+ℤ◌, ◌-ℤ◌, ◌≤ℤ◌, ◌<ℤ◌, ◌∙◌, sym, subst, inl, inr}
 use Rattle.std.proofs.lemmas.Int.{by_lt_z}
+use Rattle.std.proofs.lemmas.Bool.{cases_lt}
 use Rattle.jiff_core.specs.Calendar.{day_count, days_from_civil, days_in_month, IsCivilDate}
 use Rattle.aprs_log.specs.Moment.{IsDay}
 use Rattle.jiff_core.proofs.SignedLemmas.{signed_arith}
 use Rattle.jiff_core.proofs.MarchLemmas.{day_count-early}
-use Rattle.jiff_core.proofs.CalendarLemmas.{day_count-epoch, days_from_civil-day_count, day_count-lt_year, day_count-last_of_year, day_count-next_year}
+use Rattle.jiff_core.proofs.CalendarLemmas.{day_count-epoch, days_from_civil-day_count, day_count-day, day_count-lt_month, day_count-lt_year, day_count-last_of_year, day_count-next_year}
 
 day_count-2100 : day_count (pos 2100) 1 1 ≡ 4_419_435
 day_count-2100 = day_count-early (pos 2100) 12099 1 1 refl (omega arith) (omega arith) (omega arith)
@@ -83,3 +84,61 @@ IsDay-from y year m d e h low high =
 pub abs_is : (y : ℤ) (a : ℕ) → a ≡ unsigned_abs y → pos 1970 ≤ℤ y → pos a ≡ y
 abs_is (pos n) a e low = ap (λ n. pos n) e
 abs_is (negsuc n) a e low = absurd (omega (arith, signed_arith))
+
+-- ---- dates of 1970 to 2099 by their number
+
+IsDay-civil : (y m d : ℕ) → IsDay y m d → IsCivilDate (pos y) m d
+IsDay-civil y m d h = (
+  (omega (arith, signed_arith, h.0, h.1), omega (arith, signed_arith, h.0, h.1)),
+  (omega (arith, signed_arith, h.2.1), omega (arith, signed_arith, h.2.1)),
+  (omega (arith, signed_arith, h.2.2), omega (arith, signed_arith, h.2.2)),
+)
+
+abs_of : (z : ℤ) → pos 0 ≤ℤ z → pos (unsigned_abs z) ≡ z
+abs_of (pos n) h = refl
+abs_of (negsuc n) h = absurd (omega (arith, signed_arith))
+
+-- the number of a date is no less than 0
+pub IsDay-number : (y m d : ℕ) → IsDay y m d → pos (unsigned_abs (days_from_civil (pos y) m d)) ≡ days_from_civil (pos y) m d
+IsDay-number y m d h =
+    let c = count_from (pos y) m d (IsDay-civil y m d h) (omega (arith, signed_arith, h.0)) in
+    let k = days_from_civil-day_count (pos y) m d in
+    abs_of (days_from_civil (pos y) m d) (omega (arith, signed_arith, c, k))
+
+pub record SameDay (y m d y₂ m₂ d₂ : ℕ) : Type 0 where
+  pub year : y ≡ y₂
+  pub month : m ≡ m₂
+  pub day : d ≡ d₂
+
+not_before : (y m d y₂ m₂ d₂ : ℕ) → IsDay y m d → IsDay y₂ m₂ d₂ → day_count (pos y) m d ≡ day_count (pos y₂) m₂ d₂ → y₂ ≤ y
+not_before y m d y₂ m₂ d₂ h k e = elim (cases_lt y y₂) [
+  | inl lt ↦ absurd (omega (arith, e, day_count-lt_year (pos y) m d (pos y₂) m₂ d₂ (IsDay-civil y m d h) (IsDay-civil y₂ m₂ d₂ k).2.0 (omega (arith, signed_arith))))
+  | inr ge ↦ ge
+]
+
+not_before_month : (y m d m₂ d₂ : ℕ) → IsDay y m d → IsDay y m₂ d₂ → day_count (pos y) m d ≡ day_count (pos y) m₂ d₂ → m₂ ≤ m
+not_before_month y m d m₂ d₂ h k e = elim (cases_lt m m₂) [
+  | inl lt ↦ absurd (omega (arith, e, day_count-lt_month (pos y) m d m₂ d₂ (IsDay-civil y m d h) (IsDay-civil y m₂ d₂ k).2.0 lt))
+  | inr ge ↦ ge
+]
+
+same_count : (y m d y₂ m₂ d₂ : ℕ) → IsDay y m d → IsDay y₂ m₂ d₂ → day_count (pos y) m d ≡ day_count (pos y₂) m₂ d₂ → SameDay y m d y₂ m₂ d₂
+same_count y m d y₂ m₂ d₂ h k e =
+    let year : y₂ ≡ y = omega (arith, not_before y m d y₂ m₂ d₂ h k e, not_before y₂ m₂ d₂ y m d k h (sym e)) in
+    let k' = let P : ℕ → Type 0 = λ n. IsDay n m₂ d₂ in subst P year k in
+    let e' = e ∙ ap (λ n. day_count (pos n) m₂ d₂) year in
+    let month : m₂ ≡ m = omega (arith, not_before_month y m d m₂ d₂ h k' e', not_before_month y m₂ d₂ m d k' h (sym e')) in
+    let e'' = e' ∙ ap (λ n. day_count (pos y) n d₂) month in
+    record {
+      year = sym year;
+      month = sym month;
+      day = omega (arith, e'', day_count-day (pos y) m d d₂ (IsDay-civil y m d h).2.0 (IsDay-civil y₂ m₂ d₂ k).2.0);
+    }
+
+-- a day has one date
+pub one_date : (y m d y₂ m₂ d₂ : ℕ) → IsDay y m d → IsDay y₂ m₂ d₂ → days_from_civil (pos y) m d ≡ days_from_civil (pos y₂) m₂ d₂
+    → SameDay y m d y₂ m₂ d₂
+one_date y m d y₂ m₂ d₂ h k e =
+    let a = days_from_civil-day_count (pos y) m d in
+    let b = days_from_civil-day_count (pos y₂) m₂ d₂ in
+    same_count y m d y₂ m₂ d₂ h k (omega (arith, a, rw (← e) at b))

@@ -1,6 +1,6 @@
 -- Moments and their texts.
-use Rattle.std.specs.Prelude.{◌≡◌, ℕ, ◌+◌, ◌-◌, ◌*◌, ◌/◌, ◌%◌, ◌<◌, ◌≤◌, ◌&&◌, min, Bool, if◌then◌else◌, List, [], ◌∷◌, ◌++◌, slice_index, Option, None, Some, nat_le, nat_lt, nat_eq, pos, unsigned_abs, ◌+ℤ◌, ◌*ℤ◌}
-use Rattle.std.specs.Cmp.Lexicographic.{pointwise}
+use Rattle.std.specs.Prelude.{◌≡◌, ℕ, ◌+◌, ◌-◌, ◌*◌, ◌/◌, ◌%◌, ◌<◌, ◌≤◌, ◌&&◌, min, Bool, if◌then◌else◌, List, [], ◌∷◌, ◌++◌, slice_index, Option, None, Some, nat_le, nat_lt, pos, unsigned_abs, ◌+ℤ◌, ◌*ℤ◌}
+use Rattle.std.specs.Str.{bytes_eq}
 use Rattle.jiff_core.specs.Calendar.{IsDate, days_from_civil, days_in_month}
 
 -- a date of the civil calendar and a time of its day, in UTC
@@ -81,5 +81,5 @@ seconds_of c = 86400 * unsigned_abs (days_from_civil (pos c.year) c.month c.day)
 
 -- the moment of a text: that of the civil time at its places, where that is real and has this text
 unfoldable pub moment_of : List ℕ → Option ℕ
-moment_of t = if is_civil (civil_at t) && pointwise nat_eq (civil_text (civil_at t)) t
+moment_of t = if is_civil (civil_at t) && bytes_eq (civil_text (civil_at t)) t
     then Some (seconds_of (civil_at t)) else None

@@ -5,6 +5,9 @@ ghost use Rattle.aprs_log.specs.Moment.{Civil, civil_at, civil_text, digit_of, i
 use crate::calendar::{date_of, day_number};
 use std::marker::Model;
 
+/// The bytes of a date and time's text.
+const TEXT_LEN: usize = 20;
+
 /// A date and a time of its day, as the digits of a text say them.
 #[derive(Clone, Copy)]
 pub struct CivilTime {
@@ -34,8 +37,23 @@ impl Model for CivilTime {
 }
 
 impl CivilTime {
+    /// The date and time of a text as `2024-05-01T12:00:00Z`, where the bytes are in that form.
+    pub fn parse(text: &[u8]) -> Option<CivilTime>
+        ensures { SomeIff result (civil_text (civil_at text.now) ≡ text.now) (civil_at text.now) }
+    {
+        if text.len() != TEXT_LEN {
+            return None;
+        }
+        let civil = CivilTime::at(text);
+        if civil.text().as_slice() == text {
+            Some(civil)
+        } else {
+            None
+        }
+    }
+
     /// The time whose digits stand at their places in a text.
-    pub fn at(text: &[u8]) -> CivilTime
+    fn at(text: &[u8]) -> CivilTime
         requires { length text.now ≡ 20 }
         ensures { result ≡ civil_at text.now }
     {

@@ -1,6 +1,8 @@
 //! Moments in whole seconds.
-ghost use Rattle.std.specs.Prelude.{◌≡◌, ℕ, ◌≤◌, SomeIff};
+ghost use Rattle.std.specs.Prelude.{◌≡◌, ◌↔◌, ℕ, ◌≤◌, List, SomeIff};
+ghost use Rattle.aprs_log.specs.Moment.{MomentText, moment_of};
 
+use crate::civil::CivilTime;
 use std::marker::Model;
 
 /// The last second of the year 2099.
@@ -40,6 +42,30 @@ impl Moment {
         ensures in_range { result ≤ 4102444799 }
     {
         self.seconds
+    }
+
+    /// The moment of a text as `2024-05-01T12:00:00Z`, where the bytes are the text of one: a date
+    /// of the civil calendar from 1970 to 2099, an hour below 24, a minute and a second below 60.
+    /// Takes no memory.
+    pub fn parse(text: &[u8]) -> Option<Moment>
+        ensures value { result ≡ moment_of text.now }
+        ensures exact { (m : ℕ) → (result ≡ Some m) ↔ MomentText m text.now }
+    {
+        match CivilTime::parse(text) {
+            Some(civil) => match civil.seconds() {
+                Some(seconds) => Some(Moment { seconds }),
+                None => None,
+            },
+            None => None,
+        }
+    }
+
+    /// The moment's one text, as `2024-05-01T12:00:00Z`. Takes no memory.
+    pub fn text(&self) -> [u8; 20]
+        ensures exact { (t : List ℕ) → (t ≡ result) ↔ MomentText self.now t }
+        ensures reads_back { moment_of result ≡ Some self.now }
+    {
+        CivilTime::of_seconds(self.seconds).text()
     }
 
     /// The same moment.

@@ -1,0 +1,17 @@
+use Rattle.std.proofs.Common.{◌≡◌, ℕ, List, sym, ◌∙◌, subst}
+use Rattle.aprs_log.specs.Moment.{MomentText}
+use Rattle.aprs_log.proofs.MomentLemmas.{civil_text-moment, one_text, text-moment_of}
+use Rattle.aprs_log.proofs.moment.Moment.text.Goals as goal
+
+spells : (c : goal.After-text) → MomentText c.args.self.now c.text.result
+spells c = subst (MomentText c.args.self.now) (sym c.text.ensures)
+    (civil_text-moment c.of_seconds.result c.args.self.now c.of_seconds.ensures.real (c.of_seconds.ensures.number ∙ c.self.view_is))
+
+pub returns-clause-exact : goal.returns-clause-exact
+returns-clause-exact c t = (
+  λ e. subst (MomentText c.args.self.now) (sym e) (spells c),
+  λ h. one_text c.args.self.now t c.text.result h (spells c),
+)
+
+pub returns-clause-reads_back : goal.returns-clause-reads_back
+returns-clause-reads_back c = text-moment_of c.text.result c.args.self.now (spells c)
