@@ -4,7 +4,9 @@
 mod bytes;
 mod calendar;
 mod civil;
+mod cut;
 mod fault;
+mod hexadecimal;
 mod moment;
 mod receiver;
 

@@ -1,0 +1,31 @@
+//! Bytes in hexadecimal.
+ghost use Rattle.std.specs.Prelude.{◌≡◌, ◌≤◌, ◌*◌, take, length, true, false, Ok, MatchOption, MatchResult, IsOk};
+ghost use Rattle.hex.specs.Hex.{decode_of};
+
+/// The most bytes that the hexadecimal text of a line holds.
+pub const MAX_BYTES: usize = 4096;
+
+/// Reads a hexadecimal text into the front of `room` and answers how many bytes it holds, where it
+/// is one: an even number of digits, `A` to `F` in either case.
+pub fn decode_into(text: &[u8], room: &mut [u8; MAX_BYTES]) -> Option<usize>
+    requires { length text.now ≤ 8192 }
+    ensures { MatchOption result (¬ IsOk (decode_of text.now)) (λ n. (n ≤ 4096) × (decode_of text.now ≡ Ok (take n room.new))) }
+{
+    if !text.len().is_multiple_of(2) {
+        return None;
+    }
+    let len = text.len() / 2;
+    if decode_to(text, &mut room[..len]) {
+        Some(len)
+    } else {
+        None
+    }
+}
+
+/// Whether the bytes of a hexadecimal text now fill `out`.
+fn decode_to(text: &[u8], out: &mut [u8]) -> bool
+    requires { length text.now ≡ 2 * length out.old }
+    ensures { MatchResult (decode_of text.now) (λ bytes. (result ≡ true) × (out.new ≡ bytes)) (λ e. result ≡ false) }
+{
+    hex::decode_to_slice(text, out).is_ok()
+}
