@@ -1,0 +1,7 @@
+-- Definitions that contracts of callsigns and frames cite.
+pub mod Callsign
+pub mod Address
+pub mod Frame
+pub mod FrameFault
+pub mod Fault
+pub mod Scan

@@ -1,0 +1,51 @@
+//! Why bytes are refused.
+ghost use Rattle.std.specs.Prelude.{◌≡◌, codes};
+ghost use Rattle.aprs_ax25.specs.Fault.{frame_fault_number, frame_fault_name};
+
+/// Why bytes are no UI frame: the first of these that is true of them, in the order of their numbers.
+#[derive(Clone, Copy, Debug, PartialEq, Eq)]
+pub enum FrameFault {
+    /// The first octet with its extension bit set doesn't end 2 to 10 addresses, or there is none
+    /// (AX.25 2.2, section 3.12).
+    Address,
+    /// An address's callsign isn't 1 to 6 capitals or digits, padded with spaces.
+    Callsign,
+    /// The control octet isn't 03, that of a UI frame without poll (AX.25 2.2, section 4.3.3.6).
+    Control,
+    /// The PID octet isn't F0, no layer 3 protocol.
+    Pid,
+    /// There is no information.
+    NoInfo,
+    /// There are more than 256 bytes of information.
+    LongInfo,
+}
+
+impl FrameFault {
+    /// The fault's number, 1 to 6. Takes no memory.
+    pub fn number(&self) -> u8
+        ensures { result ≡ frame_fault_number self.now }
+    {
+        match self {
+            FrameFault::Address => 1,
+            FrameFault::Callsign => 2,
+            FrameFault::Control => 3,
+            FrameFault::Pid => 4,
+            FrameFault::NoInfo => 5,
+            FrameFault::LongInfo => 6,
+        }
+    }
+
+    /// The fault's name, as in `Address`. Takes no memory.
+    pub fn name(&self) -> &'static str
+        ensures { result.now ≡ frame_fault_name self.now }
+    {
+        match self {
+            FrameFault::Address => "Address",
+            FrameFault::Callsign => "Callsign",
+            FrameFault::Control => "Control",
+            FrameFault::Pid => "Pid",
+            FrameFault::NoInfo => "NoInfo",
+            FrameFault::LongInfo => "LongInfo",
+        }
+    }
+}

@@ -1,0 +1,134 @@
+//! What bytes that may be a frame have where.
+ghost use Rattle.std.specs.Prelude.{◌≡◌, ◌≤◌, ◌/◌, ◌+◌, ◌%◌, length, true};
+ghost use Rattle.std.specs.List.{list_all, position_or_len};
+ghost use Rattle.aprs_ax25.specs.Callsign.{is_callsign_byte};
+ghost use Rattle.aprs_ax25.specs.FrameFault.{ends_field, field_len, is_field_len, sevens, letters_len, has_callsign, is_space_octet, frame_fault};
+ghost use Rattle.aprs_ax25.specs.Scan.{SplitsField, fault_after_field, fault_of_info};
+
+use crate::fault::FrameFault;
+
+/// The control octet of a UI frame without poll (AX.25 2.2, section 4.3.3.6).
+pub const CONTROL_UI: u8 = 0x03;
+
+/// The PID octet of no layer 3 protocol (AX.25 2.2, section 3.4).
+pub const PID_NONE: u8 = 0xf0;
+
+fn is_callsign_byte(b: u8) -> bool
+    ensures { result ≡ is_callsign_byte b }
+{
+    b.is_ascii_uppercase() || b.is_ascii_digit()
+}
+
+/// How many octets there are up to the first with bit 0 set, or one more than all.
+pub fn field_len(bytes: &[u8]) -> usize
+    ensures { result ≡ field_len bytes.now }
+{
+    for (i, octet) in bytes.iter().enumerate() {
+        if octet % 2 == 1 {
+            return i + 1;
+        }
+    }
+    bytes.len() + 1
+}
+
+/// How many of an address's first six octets are letters or digits, from the front on.
+pub fn letters_len(octets: &[u8]) -> usize
+    requires { 6 ≤ length octets.now }
+    ensures value { result ≡ letters_len octets.now }
+    ensures six { result ≤ 6 }
+{
+    let six = &octets[..6];
+    for (i, octet) in six.iter().enumerate() {
+        if !is_callsign_byte(octet / 2) {
+            return i;
+        }
+    }
+    6
+}
+
+/// Whether the octets, shifted right by one bit, are spaces.
+fn are_spaces(octets: &[u8]) -> bool
+    ensures { result ≡ list_all is_space_octet octets.now }
+{
+    octets.iter().all(|octet| *octet / 2 == b' ')
+}
+
+/// Whether the octets of an address are a callsign padded with spaces.
+fn has_callsign(octets: &[u8]) -> bool
+    requires { 6 ≤ length octets.now }
+    ensures { result ≡ has_callsign octets.now }
+{
+    let len = letters_len(octets);
+    let (_, spaces) = octets[..6].split_at(len);
+    len > 0 && are_spaces(spaces)
+}
+
+/// Whether each of the addresses has a callsign.
+fn have_callsigns(field: &[u8]) -> bool
+    ensures { result ≡ list_all has_callsign (sevens (length field.now / 7) field.now) }
+{
+    let mut rest = field;
+    while rest.len() >= 7 {
+        let (address, after) = rest.split_at(7);
+        if !has_callsign(address) {
+            return false;
+        }
+        rest = after;
+    }
+    true
+}
+
+/// The address field and what stands after it, where the field may be one.
+pub fn split_field(bytes: &[u8]) -> Option<(&[u8], &[u8])>
+    ensures { SplitsField result bytes.now }
+{
+    let len = field_len(bytes);
+    if len <= bytes.len() && is_field_len(len) {
+        Some(bytes.split_at(len))
+    } else {
+        None
+    }
+}
+
+/// Whether so many octets may be an address field.
+fn is_field_len(len: usize) -> bool
+    ensures { result ≡ is_field_len len }
+{
+    len % 7 == 0 && 14 <= len && len <= 70
+}
+
+/// The first fault of what stands after the address field.
+fn fault_after(rest: &[u8]) -> Option<FrameFault>
+    ensures { result ≡ fault_after_field rest.now }
+{
+    match rest {
+        [CONTROL_UI, PID_NONE, info @ ..] => fault_of_info(info.len()),
+        [CONTROL_UI, ..] => Some(FrameFault::Pid),
+        _ => Some(FrameFault::Control),
+    }
+}
+
+/// The fault of so many bytes of information.
+fn fault_of_info(len: usize) -> Option<FrameFault>
+    ensures { result ≡ fault_of_info len }
+{
+    match len {
+        0 => Some(FrameFault::NoInfo),
+        1..=256 => None,
+        _ => Some(FrameFault::LongInfo),
+    }
+}
+
+/// The first fault of the bytes as a frame.
+pub fn fault_of(bytes: &[u8]) -> Option<FrameFault>
+    ensures { result ≡ frame_fault bytes.now }
+{
+    let Some((field, rest)) = split_field(bytes) else {
+        return Some(FrameFault::Address);
+    };
+    if have_callsigns(field) {
+        fault_after(rest)
+    } else {
+        Some(FrameFault::Callsign)
+    }
+}
