@@ -9,10 +9,12 @@ mod fault;
 mod hexadecimal;
 mod moment;
 mod receiver;
+mod reception;
 
 pub use fault::{LineFault, LogCause, LogFault, Reason};
 pub use moment::Moment;
 pub use receiver::Receiver;
+pub use reception::Reception;
 
 /// The most bytes of input that a reader is asked to take.
 pub const MAX_INPUT: u64 = 1_073_741_824;

@@ -1,0 +1,94 @@
+//! Receptions.
+ghost use Rattle.std.specs.Prelude.{◌≡◌};
+ghost use Rattle.std.specs.Ordering.{as_partial_cmp};
+ghost use Rattle.std.proofs.Common.{rules};
+ghost use Rattle.std.specs.Cmp.{partial_order_from_own_ties};
+ghost use Rattle.std.specs.Cmp.Rules.{comparing};
+ghost use Rattle.aprs_log.specs.Reception.{Heard, heard_cmp};
+
+use crate::{Moment, Receiver};
+use aprs_ax25::Frame;
+use std::cmp::Ordering;
+use std::marker::Model;
+
+/// A frame as one receiver heard it at one moment. Receptions are ordered by moment, then by
+/// receiver, then by frame.
+#[derive(PartialEq, Eq, Drop)]
+pub struct Reception {
+    moment: Moment,
+    receiver: Receiver,
+    frame: Frame,
+}
+
+impl Model for Reception {
+    ghost Value = { Heard };
+
+    ghost view = { λ x. record { moment = x.moment; receiver = x.receiver; frame = x.frame } };
+
+    ghost inverse = { λ x. record { moment = x.moment; receiver = x.receiver; frame = x.frame } };
+}
+
+impl Reception {
+    /// The reception of these three parts.
+    pub fn new(moment: Moment, receiver: Receiver, frame: Frame) -> Reception
+        ensures { result ≡ record { moment = moment; receiver = receiver; frame = frame } }
+    {
+        Reception {
+            moment,
+            receiver,
+            frame,
+        }
+    }
+
+    /// When the frame was heard.
+    pub fn moment(&self) -> Moment
+        ensures { result ≡ self.now.moment }
+    {
+        self.moment
+    }
+
+    /// Who heard it.
+    pub fn receiver(&self) -> &Receiver
+        ensures { result.now ≡ self.now.receiver }
+    {
+        &self.receiver
+    }
+
+    /// What was heard.
+    pub fn frame(&self) -> &Frame
+        ensures { result.now ≡ self.now.frame }
+    {
+        &self.frame
+    }
+}
+
+impl Ord for Reception {
+    ghost cmp = { heard_cmp };
+
+    ghost total = { Prim.search (comparing, rules) };
+
+    ghost matches_partial_cmp = { Prim.search (comparing, rules) };
+
+    ghost matches_eq = { Prim.search (comparing, rules) };
+
+    fn cmp(&self, other: &Reception) -> Ordering {
+        match self.moment.cmp(&other.moment) {
+            Ordering::Equal => match self.receiver.cmp(&other.receiver) {
+                Ordering::Equal => self.frame.cmp(&other.frame),
+                unequal => unequal,
+            },
+            unequal => unequal,
+        }
+    }
+}
+
+impl PartialOrd for Reception {
+    ghost partial_cmp = { as_partial_cmp heard_cmp };
+
+    ghost laws = { partial_order_from_own_ties (Prim.search (comparing, rules))
+        (Prim.search (comparing, rules)) };
+
+    fn partial_cmp(&self, other: &Reception) -> Option<Ordering> {
+        Some(self.cmp(other))
+    }
+}
