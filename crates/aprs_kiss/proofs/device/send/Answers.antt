@@ -1,0 +1,13 @@
+use Rattle.std.proofs.Common.{[], arith, refl}
+use Rattle.std.proofs.KnownBytes.{Appends-nil}
+use Rattle.aprs_kiss.proofs.Bytes.{AppendsAllBut-more}
+use Rattle.aprs_kiss.proofs.device.send.Goals as goal
+
+pub loop-rest-init : goal.loop-rest-init
+loop-rest-init g c = record { count = omega arith; sent = ([], refl, Appends-nil _) }
+
+pub loop-rest-preserved : goal.loop-rest-preserved
+loop-rest-preserved g c = record {
+  count = c.loop-rest.invariant.count;
+  sent = AppendsAllBut-more _ _ _ _ _ _ c.loop-rest.invariant.sent c.in-Ok.ensures.bytes;
+}

@@ -1,0 +1,24 @@
+-- What a device that counts its failed calls does in one call.
+use Rattle.std.specs.Prelude.{◌≡◌, ℕ, ◌+◌, ◌-◌, ◌^◌, ◌≤◌, min, List, ◌++◌, Option}
+use Rattle.std.specs.Io.KnownBytes.{Appends}
+use Rattle.aprs_kiss.specs.declared.device.Counted.{Counted}
+
+-- the reader or writer inside
+abbrev pub device_of : {T : Type 0} → Counted T → T
+device_of c = c.device
+
+-- how many of its calls failed
+abbrev pub failures_of : {T : Type 0} → Counted T → ℕ
+failures_of c = c.failed
+
+-- the count of failed calls rose, or is the greatest that there is, where it stays
+abbrev pub Rose : ℕ → ℕ → Type 0
+Rose old new = min (old + 1) (2 ^ 64 - 1) ≤ new
+
+-- known bytes grow by a front of bs, and rest is what didn't go out
+abbrev pub AppendsAllBut : Option (List ℕ) → Option (List ℕ) → List ℕ → List ℕ → Type 0
+AppendsAllBut old new bs rest = (front : List ℕ) × (bs ≡ front ++ rest) × Appends old new front
+
+-- known bytes grow by a front of bs
+abbrev pub AppendsFront : Option (List ℕ) → Option (List ℕ) → List ℕ → Type 0
+AppendsFront old new bs = (rest : List ℕ) × AppendsAllBut old new bs rest
