@@ -1,6 +1,7 @@
 -- Definitions that contracts of a log cite.
 pub mod Cut
 pub mod Fault
+pub mod Line
 pub mod Moment
 pub mod Receiver
 pub mod Reception

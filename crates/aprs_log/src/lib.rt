@@ -7,11 +7,13 @@ mod civil;
 mod cut;
 mod fault;
 mod hexadecimal;
+mod line;
 mod moment;
 mod receiver;
 mod reception;
 
 pub use fault::{LineFault, LogCause, LogFault, Reason};
+pub use line::{Line, MAX_LINE};
 pub use moment::Moment;
 pub use receiver::Receiver;
 pub use reception::Reception;
