@@ -2,6 +2,7 @@
 pub mod Cut
 pub mod Fault
 pub mod Line
+pub mod LogAnswers
 pub mod Moment
 pub mod Receiver
 pub mod Reception

@@ -5,6 +5,7 @@ mod bytes;
 mod calendar;
 mod civil;
 mod cut;
+mod ending;
 mod fault;
 mod hexadecimal;
 mod line;

@@ -1,0 +1,32 @@
+//! How a log ends.
+ghost use Rattle.std.specs.Prelude.{◌≡◌};
+ghost use Rattle.aprs_log.specs.LogAnswers.{tail_cause};
+
+use crate::fault::LogCause;
+use crate::line::MAX_LINE;
+
+/// What came after the bytes that were got of an input.
+#[derive(Clone, Copy, Debug, PartialEq, Eq)]
+pub enum Ending {
+    /// The input ended.
+    End,
+    /// The reader failed.
+    Read,
+    /// One byte more than the limit.
+    TooLong,
+}
+
+/// Why a log ends at `tail`, which stands after its last LF, unless it ends well.
+pub fn refuse_tail(tail: &[u8], ending: Ending) -> Option<LogCause>
+    ensures { result ≡ tail_cause tail.now ending }
+{
+    if tail.len() > MAX_LINE {
+        return Some(LogCause::LongLine);
+    }
+    match ending {
+        Ending::Read => Some(LogCause::Read),
+        Ending::TooLong => Some(LogCause::TooLong),
+        Ending::End if tail.is_empty() => None,
+        Ending::End => Some(LogCause::NoNewline),
+    }
+}
