@@ -1,9 +1,10 @@
 -- Lemmas on texts that are cut at a byte.
-use Rattle.std.proofs.Common.{◌≡◌, ℕ, ◌+◌, ◌-◌, ◌<◌, ◌≤◌, Bool, true, false, List, [], ◌∷◌, ◌++◌, length, get_or, take, drop, Option, None, Some, cond, refl, arith, sym, ap, ◌∙◌, eqb-true}
-use Rattle.std.specs.List.{position_or_len, before_first, after_first, AllPass, All}
+use Rattle.std.proofs.Common.{◌≡◌, ℕ, ◌+◌, ◌-◌, ◌<◌, ◌≤◌, Bool, true, false, List, [], ◌∷◌, ◌++◌, length, get_or, take, drop, Option, None, Some, cond, refl, arith, sym, ap, ◌∙◌, eqb-true, eq-eqb, length-append}
+use Rattle.std.specs.List.{position_or_len, before_first, after_first, AllByRecursion}
 use Rattle.std.proofs.lemmas.Bool.Decides.{nat_tests}
 use Rattle.std.proofs.lemmas.List.{take_rest}
 use Rattle.std.proofs.lemmas.List.Sums.{position_or_len_is, split_at_first, passes_at_first, fails_before_first}
+use Rattle.std.proofs.Math.Seq.{take-append_seam, drop-append-add}
 use Rattle.aprs_log.specs.Cut.{Cut, cut_at, has_byte, is_byte}
 
 some_if : (b : Bool) (x : Cut) → b ≡ true → Some x ≡ cond b (Some x) None
@@ -33,3 +34,52 @@ unfolding cut_at parts_of
 cut_at-missing stop text h =
     let has : has_byte stop text ≡ false = grind (arith, nat_tests) in
     none_if (has_byte stop text) (parts_of stop text) has
+
+-- no element is `stop`
+abbrev pub Lacks : ℕ → List ℕ → Type 0
+Lacks stop text = AllByRecursion (λ b. is_byte stop b ≡ false) text
+
+position-here : (stop : ℕ) (rest : List ℕ) (b : Bool) → is_byte stop stop ≡ b → b ≡ true → position_or_len (is_byte stop) (stop ∷ rest) ≡ 0
+position-here stop rest b e h = let f : is_byte stop stop ≡ true = e ∙ h in rw f refl
+
+position-next : (stop x : ℕ) (text : List ℕ) → is_byte stop x ≡ false
+    → position_or_len (is_byte stop) (x ∷ text) ≡ position_or_len (is_byte stop) text + 1
+position-next stop x text h = rw h (omega arith)
+
+position-lacks : (stop : ℕ) (front rest : List ℕ) → Lacks stop front → position_or_len (is_byte stop) (front ++ stop ∷ rest) ≡ length front
+position-lacks stop [] rest h = position-here stop rest (is_byte stop stop) refl (eq-eqb stop stop refl)
+position-lacks stop (x ∷ front) rest h =
+    position-next stop x (front ++ stop ∷ rest) h.0 ∙ omega (arith, position-lacks stop front rest h.1)
+
+-- a text is cut where a byte stands behind a front without it
+pub cut_at-append : (stop : ℕ) (front rest : List ℕ) → Lacks stop front
+    → cut_at stop (front ++ stop ∷ rest) ≡ Some (record { before = front; after = rest })
+unfolding cut_at parts_of
+cut_at-append stop front rest h =
+    let text = front ++ stop ∷ rest in
+    let at = position-lacks stop front rest h in
+    let len : length text ≡ length front + (length rest + 1) = simp length-append (omega arith) in
+    let has : has_byte stop text ≡ true = grind (arith, nat_tests) in
+    let before : before_first (is_byte stop) text ≡ front = ap (λ n. take n text) at ∙ take-append_seam front (stop ∷ rest) in
+    let after : after_first (is_byte stop) text ≡ rest = ap (λ n. drop (n + 1) text) at ∙ drop-append-add front (stop ∷ rest) 1 in
+    let same : parts_of stop text ≡ (record { before = front; after = rest }) = cc in
+    sym (some_if (has_byte stop text) (parts_of stop text) has) ∙ ap (λ (x : Cut). Some x) same
+
+-- a byte stands between the parts
+some_of_if : (b : Bool) (x y : Cut) → cond b (Some x) None ≡ Some y → (b ≡ true) × (x ≡ y)
+some_of_if true x y e = (refl, cc)
+some_of_if false x y e = absurd cc
+
+below_len : (stop : ℕ) (text : List ℕ) → has_byte stop text ≡ true → position_or_len (is_byte stop) text < length text
+below_len stop text h = grind (arith, nat_tests)
+
+pub cut_at-parts : (stop : ℕ) (text : List ℕ) (cut : Cut) → cut_at stop text ≡ Some cut → text ≡ cut.before ++ stop ∷ cut.after
+unfolding cut_at parts_of
+cut_at-parts stop text cut e =
+    let found = some_of_if (has_byte stop text) (parts_of stop text) cut e in
+    let h = below_len stop text found.0 in
+    let x = get_or text (position_or_len (is_byte stop) text) 0 in
+    let same : x ≡ stop = eqb-true x stop (passes_at_first (is_byte stop) text 0 h) in
+    split_at_first (is_byte stop) text 0 h
+    ∙ ap (λ b. before_first (is_byte stop) text ++ b ∷ after_first (is_byte stop) text) same
+    ∙ ap (λ (c : Cut). c.before ++ stop ∷ c.after) found.1

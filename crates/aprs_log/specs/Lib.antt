@@ -6,3 +6,4 @@ pub mod LogAnswers
 pub mod Moment
 pub mod Receiver
 pub mod Reception
+pub mod Window

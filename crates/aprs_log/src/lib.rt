@@ -12,6 +12,7 @@ mod line;
 mod moment;
 mod receiver;
 mod reception;
+mod window;
 
 pub use fault::{LineFault, LogCause, LogFault, Reason};
 pub use line::{Line, MAX_LINE};
