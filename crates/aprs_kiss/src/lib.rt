@@ -2,5 +2,10 @@
 #![tactic(auto)]
 
 mod device;
+mod fault;
+mod reader;
+mod spelling;
 
 pub use device::{Counted, DeviceFault, WriteFault, send};
+pub use fault::PassFault;
+pub use reader::{Fed, KissReader, MAX_FRAME};

@@ -1,0 +1,35 @@
+use Rattle.std.proofs.Common.{◌≡◌, ◌∙◌, ap, sym, refl, List, ℕ, Some}
+use Rattle.aprs_kiss.specs.Reader.{StandsAfter, Holds}
+use Rattle.aprs_kiss.specs.Spelling.{unspelled}
+use Rattle.aprs_kiss.proofs.Pieces.{HasNoEnd-append, HasNoEnd-one}
+use Rattle.aprs_kiss.proofs.Escapes.{unspelled-nil}
+use Rattle.aprs_kiss.proofs.Holding.{Holds-in, Holds-escape_again}
+use Rattle.aprs_kiss.proofs.reader.KissReader.take_escape.Goals as goal
+
+pub returns-in-Ended : goal.returns-in-Ended
+returns-in-Ended c e s =
+    let empty = Holds-in _ _ _ e c.in-Ended.is s.held in
+    record {
+      whole = HasNoEnd-append e _ s.whole (HasNoEnd-one 0xDB refl);
+      held = (e, refl, ap unspelled empty ∙ unspelled-nil ∙ ap Some (sym c.clear.ensures));
+    }
+
+pub returns-in-Plain : goal.returns-in-Plain
+returns-in-Plain c e s = record {
+  whole = HasNoEnd-append e _ s.whole (HasNoEnd-one 0xDB refl);
+  held = (e, refl, (Holds-in _ _ _ e c.in-Plain.is s.held).1);
+}
+
+pub returns-in-Long : goal.returns-in-Long
+returns-in-Long c e s =
+    let h = Holds-in _ _ _ e c.in-Long.is s.held in
+    record {
+      whole = HasNoEnd-append e _ s.whole (HasNoEnd-one 0xDB refl);
+      held = (e, h.0, refl, h.1, h.2);
+    }
+
+pub returns-in_default : goal.returns-in_default
+returns-in_default c e s = record {
+  whole = HasNoEnd-append e _ s.whole (HasNoEnd-one 0xDB refl);
+  held = Holds-escape_again _ _ e c.in_default.not-Ended c.in_default.not-Plain c.in_default.not-Long s.whole s.held;
+}

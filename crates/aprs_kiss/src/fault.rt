@@ -1,0 +1,38 @@
+//! Why a piece of a KISS stream is passed over.
+ghost use Rattle.std.specs.Prelude.{◌≡◌};
+ghost use Rattle.aprs_kiss.specs.Fault.{number_of, name_of};
+
+/// Why a nonempty piece between two frame ends is no data frame: the first that holds.
+#[derive(Clone, Copy, Debug, PartialEq, Eq)]
+pub enum PassFault {
+    /// An escape that is followed neither by TFEND nor by TFESC in the piece.
+    BadEscape,
+    /// More than 1,024 bytes once the escapes are undone, the type byte among them.
+    TooLong,
+    /// A command other than 0, the data frame, in the low four bits of the type byte.
+    NotData,
+}
+
+impl PassFault {
+    /// 1 to 3, in the order in which the faults are looked for.
+    pub fn number(&self) -> u8
+        ensures { result ≡ number_of self.now }
+    {
+        match self {
+            PassFault::BadEscape => 1,
+            PassFault::TooLong => 2,
+            PassFault::NotData => 3,
+        }
+    }
+
+    /// The variant's name.
+    pub fn name(&self) -> &'static str
+        ensures { result.now ≡ name_of self.now }
+    {
+        match self {
+            PassFault::BadEscape => "BadEscape",
+            PassFault::TooLong => "TooLong",
+            PassFault::NotData => "NotData",
+        }
+    }
+}

@@ -1,0 +1,254 @@
+//! A reader of a KISS stream that comes in any pieces.
+ghost use Rattle.std.specs.Prelude.{◌≡◌, ◌≢◌, ◌≤◌, ◌<◌, ◌+◌, ◌∷◌, ◌++◌, ◌↔◌, ℕ, List, [], false, IsTrue, IfNone, IfSome, OnSome, OnOk, length, take};
+ghost use Rattle.std.specs.Bool.{OnTrue, OnFalse};
+ghost use Rattle.std.specs.Borrow.{sem};
+ghost use Rattle.std.specs.Option.{option_map, option_and_then};
+ghost use Rattle.std.specs.Io.BufRead.{Rests};
+ghost use Rattle.aprs_kiss.specs.Judgement.{judgement_of, frame_of};
+ghost use Rattle.aprs_kiss.specs.Reader.{StandsAfter, IsOpen, IsClosed, told_by, judged_as};
+ghost use Rattle.aprs_kiss.specs.Spelling.{HasNoEnd, IsPlain, is_special, unspelled};
+ghost use Rattle.aprs_kiss.specs.Stream.{EndsPiece, judgements_of, rest_of};
+ghost use Rattle.aprs_kiss.specs.contracts.reader.KissReader.{the_row};
+
+use crate::fault::PassFault;
+use crate::spelling::{FEND, FESC, TFEND, TFESC, cut_plain};
+use arrayvec::ArrayVec;
+
+/// The most bytes of a frame once its escapes are undone, the type byte among them.
+pub const MAX_FRAME: usize = 1024;
+
+/// What a reader tells of the bytes that it was fed.
+#[derive(Clone, Copy, Debug, PartialEq, Eq)]
+pub enum Fed<'a> {
+    /// No nonempty piece ended: all bytes were used.
+    Nothing,
+    /// A data frame without its type byte, and the port from 0 to 15 that the type byte names.
+    Frame { port: u8, frame: &'a [u8] },
+    /// A piece that is no data frame.
+    Passed(PassFault),
+}
+
+/// What the buffer holds of the piece that is being read.
+#[derive(Clone, Copy, Debug, PartialEq, Eq)]
+enum State {
+    /// Nothing: no byte came since the last frame end. The frame before it may still lie there.
+    Ended,
+    /// The bytes that the piece spells so far.
+    Plain,
+    /// The same, before an escape that isn't whole yet.
+    Escape,
+    /// The piece spells more bytes than there is room for.
+    Long,
+    /// The same, before an escape that isn't whole yet.
+    LongEscape,
+    /// The piece has an escape that spells nothing.
+    Broken,
+}
+
+/// Reads the frames of a KISS stream that comes in pieces of any size. It has a buffer of its own
+/// and takes no memory.
+#[derive(Drop)]
+pub struct KissReader {
+    bytes: ArrayVec<u8, MAX_FRAME>,
+    state: State,
+}
+
+impl KissReader {
+    /// A reader at the beginning of a stream.
+    pub fn new() -> Self
+        ensures { StandsAfter result [] }
+    {
+        KissReader {
+            bytes: ArrayVec::new(),
+            state: State::Ended,
+        }
+    }
+
+    /// Takes the bytes of `piece` up to the end of a nonempty piece of the stream, or all of them.
+    /// Says how many were used and what they tell: the frame then lies in the reader until the next
+    /// call. An answer is a data frame of at most 1,023 bytes, or the first fault of its piece, after
+    /// which the reader reads on. Takes no memory.
+    pub fn feed(&mut self, piece: &[u8]) -> (usize, Fed<'_>)
+        ensures* stands { sem 𝓛 (Rests the_row self.entry (λ new. (e : List ℕ) → StandsAfter self.old e
+            → StandsAfter new (rest_of (e ++ take result.0 piece.now)))) }
+        // The nonempty pieces that ended are none or one, and what is told is its judgement.
+        ensures judged { (e : List ℕ) → StandsAfter self.old e
+            → judgements_of (e ++ take result.0 piece.now) ≡ told_by result.1 }
+        ensures used { result.0 ≤ length piece.now }
+        ensures whole { told_by result.1 ≡ [] → result.0 ≡ length piece.now }
+        // The byte that was used last is the frame end of the piece that is told of.
+        ensures ends { (e : List ℕ) → StandsAfter self.old e → told_by result.1 ≢ []
+            → EndsPiece (e ++ take result.0 piece.now) }
+        ensures progress { 0 < length piece.now → 0 < result.0 }
+    {
+        let (used, outcome) = self.step(piece);
+        match outcome {
+            None => (used, Fed::Nothing),
+            Some(Ok(port)) => {
+                let frame = &self.bytes.as_slice()[1..];
+                (used, Fed::Frame { port, frame })
+            }
+            Some(Err(fault)) => (used, Fed::Passed(fault)),
+        }
+    }
+
+    /// Whether no byte came since the last frame end, so that a stream may end here.
+    pub fn finish(&self) -> bool
+        ensures { (e : List ℕ) → StandsAfter self.now e → IsTrue result ↔ (e ≡ []) }
+    {
+        matches!(self.state, State::Ended)
+    }
+
+    /// As `feed`, with the frame left in the buffer, behind its type byte.
+    fn step(&mut self, piece: &[u8]) -> (usize, Option<Result<u8, PassFault>>)
+        ensures stands { (e : List ℕ) → StandsAfter self.old e
+            → StandsAfter self.new (rest_of (e ++ take result.0 piece.now)) }
+        ensures judged { (e : List ℕ) → StandsAfter self.old e
+            → judgements_of (e ++ take result.0 piece.now) ≡ judged_as result.1 self.new.bytes.items }
+        ensures used { result.0 ≤ length piece.now }
+        ensures whole { IfNone result.1 (result.0 ≡ length piece.now) }
+        ensures ends { (e : List ℕ) → StandsAfter self.old e → OnSome result.1 (EndsPiece (e ++ take result.0 piece.now)) }
+        ensures progress { OnSome result.1 (0 < result.0) }
+        ensures frame { IfSome result.1 (λ o. OnOk o (0 < length self.new.bytes.items)) }
+    {
+        let mut rest = piece;
+        loop {
+            let (plain, mark) = cut_plain(rest);
+            self.take_plain(plain);
+            let Some((byte, after)) = mark else {
+                return (piece.len(), None);
+            };
+            if byte == FESC {
+                self.take_escape();
+            } else if !self.finish() {
+                return (piece.len() - after.len(), Some(self.end_piece()));
+            }
+            rest = after;
+        }
+    }
+
+    /// Takes bytes that stand for themselves, but for the first where an escape is open.
+    fn take_plain(&mut self, run: &[u8])
+        requires { IsPlain run.now }
+        ensures { (e : List ℕ) → StandsAfter self.old e → StandsAfter self.new (e ++ run.now) }
+    {
+        let [first, after @ ..] = run else {
+            return;
+        };
+        if self.is_open() {
+            self.take_escaped(*first);
+            self.take_unescaped(after);
+        } else {
+            self.take_unescaped(run);
+        }
+    }
+
+    /// Whether an escape has begun.
+    fn is_open(&self) -> bool
+        ensures open { OnTrue result (IsOpen self.now.state) }
+        ensures closed { OnFalse result (IsClosed self.now.state) }
+    {
+        matches!(self.state, State::Escape | State::LongEscape)
+    }
+
+    /// Takes bytes that stand for themselves, where no escape is open.
+    fn take_unescaped(&mut self, run: &[u8])
+        requires plain { IsPlain run.now }
+        requires closed { IsClosed self.old.state }
+        ensures { (e : List ℕ) → StandsAfter self.old e → StandsAfter self.new (e ++ run.now) }
+    {
+        match self.state {
+            State::Ended if run.is_empty() => {}
+            State::Ended => {
+                self.bytes.clear();
+                self.hold(run);
+            }
+            State::Plain => self.hold(run),
+            _ => {}
+        }
+    }
+
+    /// Takes the byte after an escape.
+    fn take_escaped(&mut self, code: u8)
+        requires open { IsOpen self.old.state }
+        requires plain { is_special code ≡ false }
+        ensures stands { (e : List ℕ) → StandsAfter self.old e → StandsAfter self.new (e ++ code ∷ []) }
+        ensures closed { IsClosed self.new.state }
+    {
+        match unescape(code) {
+            None => self.state = State::Broken,
+            Some(byte) => match self.state {
+                State::Escape => self.hold(&[byte]),
+                _ => self.state = State::Long,
+            },
+        }
+    }
+
+    /// Adds to what is held the last bytes that a piece spells, where there is room.
+    fn hold(&mut self, bytes: &[u8])
+        ensures stands { (e : List ℕ) → HasNoEnd e → 0 < length e
+            → unspelled e ≡ Some (self.old.bytes.items ++ bytes.now) → StandsAfter self.new e }
+        ensures closed { IsClosed self.new.state }
+    {
+        match self.bytes.try_extend_from_slice(bytes) {
+            Ok(()) => self.state = State::Plain,
+            Err(_) => self.state = State::Long,
+        }
+    }
+
+    /// Takes the byte that begins an escape.
+    fn take_escape(&mut self)
+        ensures { (e : List ℕ) → StandsAfter self.old e → StandsAfter self.new (e ++ 0xDB ∷ []) }
+    {
+        match self.state {
+            State::Ended => {
+                self.bytes.clear();
+                self.state = State::Escape;
+            }
+            State::Plain => self.state = State::Escape,
+            State::Long => self.state = State::LongEscape,
+            _ => self.state = State::Broken,
+        }
+    }
+
+    /// Judges the piece that a frame end ends: the port of its frame, or its first fault.
+    fn end_piece(&mut self) -> Result<u8, PassFault>
+        ensures stands { StandsAfter self.new [] }
+        ensures judged { (e : List ℕ) → StandsAfter self.old e → 0 < length e
+            → judged_as (Some result) self.new.bytes.items ≡ judgement_of e ∷ [] }
+        ensures frame { OnOk result (0 < length self.new.bytes.items) }
+    {
+        let state = self.state;
+        self.state = State::Ended;
+        match state {
+            State::Plain => port_of(self.bytes.as_slice()),
+            State::Long => Err(PassFault::TooLong),
+            _ => Err(PassFault::BadEscape),
+        }
+    }
+}
+
+/// The port of a data frame, from its type byte.
+fn port_of(bytes: &[u8]) -> Result<u8, PassFault>
+    ensures judged { judged_as (Some result) bytes.now ≡ frame_of bytes.now ∷ [] }
+    ensures frame { OnOk result (0 < length bytes.now) }
+{
+    match bytes {
+        [head, ..] if head % 16 == 0 => Ok(head / 16),
+        _ => Err(PassFault::NotData),
+    }
+}
+
+/// The byte that an escape and this code stand for.
+fn unescape(code: u8) -> Option<u8>
+    ensures { (more : List ℕ) → unspelled (0xDB ∷ code ∷ more)
+        ≡ option_and_then (λ byte. option_map (λ bytes. byte ∷ bytes) (unspelled more)) result }
+{
+    if code == TFEND {
+        Some(FEND)
+    } else if code == TFESC {
+        Some(FESC)
+    } else {
+        None
+    }
+}
