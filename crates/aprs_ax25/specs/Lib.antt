@@ -5,3 +5,5 @@ pub mod Frame
 pub mod FrameFault
 pub mod Fault
 pub mod Scan
+pub mod Law
+pub mod Hop

@@ -1,12 +1,16 @@
 //! Callsigns and UI frames of AX.25, as APRS uses them.
 #![tactic(auto)]
 
+mod bytes;
 mod callsign;
 mod fault;
-mod scan;
 mod frame;
-mod bytes;
+mod hop;
+mod law;
+mod scan;
 
 pub use callsign::Callsign;
 pub use fault::FrameFault;
 pub use frame::Frame;
+pub use hop::Hop;
+pub use law::each_is_a_frame_or_refused;

@@ -1,5 +1,5 @@
 //! What bytes that may be a frame have where.
-ghost use Rattle.std.specs.Prelude.{◌≡◌, ◌≤◌, ◌/◌, ◌+◌, ◌%◌, length, true};
+ghost use Rattle.std.specs.Prelude.{◌≡◌, ◌≤◌, ◌/◌, ◌+◌, ◌%◌, length, take, drop, true};
 ghost use Rattle.std.specs.List.{list_all, position_or_len};
 ghost use Rattle.aprs_ax25.specs.Callsign.{is_callsign_byte};
 ghost use Rattle.aprs_ax25.specs.FrameFault.{ends_field, field_len, is_field_len, sevens, letters_len, has_callsign, is_space_octet, frame_fault};
@@ -131,4 +131,14 @@ pub fn fault_of(bytes: &[u8]) -> Option<FrameFault>
     } else {
         Some(FrameFault::Callsign)
     }
+}
+
+/// The seven octets from `start` on.
+pub fn seven_at(bytes: &[u8], start: usize) -> &[u8]
+    requires { start + 7 ≤ length bytes.now }
+    ensures value { result.now ≡ take 7 (drop start bytes.now) }
+    ensures seven { length result.now ≡ 7 }
+{
+    let (_, rest) = bytes.split_at(start);
+    &rest[..7]
 }

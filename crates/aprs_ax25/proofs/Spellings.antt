@@ -1,0 +1,88 @@
+-- The frame of any parts has no fault, and these parts.
+use Rattle.std.proofs.Common.{◌≡◌, ℕ, ◌+◌, ◌-◌, ◌*◌, ◌/◌, ◌%◌, ◌≤◌, ◌<◌, ◌==◌, suc, zero, List, [], ◌∷◌, ◌++◌, length, get_or, take, drop, map, Bool, true, false, not, cond, ◌&&◌, nat_le, nat_lt, Option, None, Some, arith, sym, ap, ◌∙◌, refl, slice_index, append_assoc, subst, take-append-drop, ◌⊎◌, inl, inr}
+use Rattle.std.specs.List.{list_all, position_or_len, AllByRecursion, All, find}
+use Rattle.std.proofs.lemmas.List.{length-take, length-take-le, length-drop, length-append, length-map, take_at, drop_at, take-take, drop-take, get_or-take}
+use Rattle.std.proofs.lemmas.List.Sums.{fails_before_first, passes_at_first, position_or_len_is}
+use Rattle.std.proofs.lemmas.Bool.{and_parts, and_from, eqb-true, leb-true, leb-false, ltb-false, le-leb, lt-leb, le-ltb}
+use Rattle.aprs_ax25.specs.Address.{Address, IsAddress}
+use Rattle.aprs_ax25.specs.Frame.{Parts, IsParts, FrameOf, address_field, spelling}
+use Rattle.aprs_ax25.specs.FrameFault.{ends_field, field_len, field_of, after_field, is_field_len, sevens, has_callsign, addresses, is_wrong, frame_fault, address_of, parts_of}
+use Rattle.aprs_ax25.specs.declared.fault.FrameFault.{FrameFault}
+use Rattle.aprs_ax25.specs.declared.fault.FrameFault.TheVariants.{Address as AddressFault, Callsign, Control, Pid, NoInfo, LongInfo}
+use Rattle.aprs_ax25.proofs.Sounds.{IsSound, frame_fault-IsSound, IsSound-frame_fault, all_of, same_parts, all-addresses}
+use Rattle.aprs_ax25.proofs.Fields.{Spells, Spells-sevens, Holds, sevens-address_field, length-address_field, position-address_field, All-take}
+
+module _ (p : Parts) (h : IsParts p) where
+  abbrev f : List ℕ
+  f = spelling p
+
+  abbrev others : List Address
+  others = p.source ∷ p.digipeaters
+
+  abbrev field : List ℕ
+  field = address_field (p.destination ∷ others)
+
+  abbrev rest : List ℕ
+  rest = 3 ∷ 240 ∷ p.info
+
+  abbrev len : ℕ
+  len = 7 * suc (length others)
+
+  each : AllByRecursion IsAddress (p.destination ∷ others)
+  each = (h.destination, (h.source, h.digipeaters))
+
+  length-field : length field ≡ len
+  length-field = length-address_field p.destination others each
+
+  field_len-is : field_len f ≡ len
+  field_len-is = position-address_field p.destination others rest each
+
+  field_of-is : field_of f ≡ field
+  field_of-is = ap (λ m. take m f) field_len-is ∙ take_at field rest len length-field
+
+  after_field-is : after_field f ≡ rest
+  after_field-is = ap (λ m. drop m f) field_len-is ∙ drop_at field rest len length-field
+
+  addresses-are : addresses f ≡ sevens (suc (length others)) field
+  addresses-are =
+      let e : len / 7 ≡ suc (length others) = omega arith in
+      ap (λ l. sevens (length l / 7) l) field_of-is ∙ ap (λ m. sevens (m / 7) field) length-field ∙ ap (λ m. sevens m field) e
+
+  held : Holds (p.destination ∷ others) (sevens (suc (length others)) field)
+  held = sevens-address_field p.destination others each
+
+  sound : IsSound f
+  sound =
+      let few = h.few in
+      let some = h.some in
+      let most = h.most in
+      let whole : length f ≡ length field + length rest = length-append field rest in
+      record {
+        within = omega (arith, field_len-is, length-field);
+        sevenfold = omega (arith, field_len-is);
+        least = omega (arith, field_len-is);
+        most = omega (arith, field_len-is);
+        callsigns = ap (list_all has_callsign) addresses-are ∙ held.callsigns;
+        control = ap (λ l. slice_index l 0) after_field-is;
+        pid = ap (λ l. slice_index l 1) after_field-is;
+        some = omega (arith, ap length after_field-is);
+        few = omega (arith, ap length after_field-is);
+      }
+
+  pub spelling-frame_fault : frame_fault (spelling p) ≡ None
+  spelling-frame_fault = IsSound-frame_fault f sound
+
+  pub parts_of-spelling : parts_of (spelling p) ≡ p
+  parts_of-spelling =
+      same_parts (parts_of f) p (sym (all-addresses f sound) ∙ ap (map address_of) addresses-are ∙ held.addresses) (ap (drop 2) after_field-is)
+
+-- ---- bytes that are a frame
+
+pub FrameOf-frame_fault : (p : Parts) (bytes : List ℕ) → FrameOf p bytes → frame_fault bytes ≡ None
+FrameOf-frame_fault p bytes h = ap frame_fault h.spelled ∙ spelling-frame_fault p h.parts
+
+pub FrameOf-parts_of : (p : Parts) (bytes : List ℕ) → FrameOf p bytes → parts_of bytes ≡ p
+FrameOf-parts_of p bytes h = ap parts_of h.spelled ∙ parts_of-spelling p h.parts
+
+pub FrameOf-IsSound : (p : Parts) (bytes : List ℕ) → FrameOf p bytes → IsSound bytes
+FrameOf-IsSound p bytes h = frame_fault-IsSound bytes (FrameOf-frame_fault p bytes h)
