@@ -1,5 +1,9 @@
 -- Numbers and names of faults, causes and reasons.
 use Rattle.std.specs.Prelude.{ℕ, List, codes}
+use Rattle.aprs_kiss.specs.declared.fault.PassFault.{PassFault}
+use Rattle.aprs_kiss.specs.declared.fault.PassFault.TheVariants as pass
+use Rattle.aprs_ax25.specs.declared.fault.FrameFault.{FrameFault}
+use Rattle.aprs_ax25.specs.declared.fault.FrameFault.TheVariants as frame
 use Rattle.aprs_log.specs.declared.fault.LineFault.{LineFault}
 use Rattle.aprs_log.specs.declared.fault.LineFault.TheVariants as fault
 use Rattle.aprs_log.specs.declared.fault.LogCause.{LogCause}
@@ -76,3 +80,17 @@ reason_name reason.Control = codes "Control"
 reason_name reason.Pid = codes "Pid"
 reason_name reason.NoInfo = codes "NoInfo"
 reason_name reason.LongInfo = codes "LongInfo"
+
+-- why a line holds no frame, where its one piece is passed over, or is no frame
+abbrev pub reason_of_pass : PassFault → Reason
+reason_of_pass pass.BadEscape = reason.BadEscape
+reason_of_pass pass.TooLong = reason.TooLong
+reason_of_pass pass.NotData = reason.NotData
+
+abbrev pub reason_of_frame : FrameFault → Reason
+reason_of_frame frame.Address = reason.Address
+reason_of_frame frame.Callsign = reason.Callsign
+reason_of_frame frame.Control = reason.Control
+reason_of_frame frame.Pid = reason.Pid
+reason_of_frame frame.NoInfo = reason.NoInfo
+reason_of_frame frame.LongInfo = reason.LongInfo

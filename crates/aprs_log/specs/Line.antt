@@ -6,12 +6,10 @@ use Rattle.hex.specs.declared.error.FromHexError.{FromHexError}
 use Rattle.aprs_kiss.specs.Spelling.{kiss_text}
 use Rattle.aprs_kiss.specs.Stream.{rest_of, is_nonempty, judgements_of}
 use Rattle.aprs_kiss.specs.Judgement.{Judgement}
-use Rattle.aprs_kiss.specs.declared.fault.PassFault.{PassFault}
-use Rattle.aprs_kiss.specs.declared.fault.PassFault.TheVariants as pass
 use Rattle.aprs_ax25.specs.FrameFault.{frame_of}
 use Rattle.aprs_ax25.specs.declared.fault.FrameFault.{FrameFault}
-use Rattle.aprs_ax25.specs.declared.fault.FrameFault.TheVariants as frame
 use Rattle.aprs_log.specs.Cut.{Cut, cut_at}
+use Rattle.aprs_log.specs.Fault.{reason_of_pass, reason_of_frame}
 use Rattle.aprs_log.specs.Moment.{MomentText, moment_of}
 use Rattle.aprs_log.specs.Receiver.{IsName, is_name}
 use Rattle.aprs_log.specs.Reception.{Heard}
@@ -23,19 +21,6 @@ use Rattle.aprs_log.specs.declared.line.Line.{Line}
 use Rattle.aprs_log.specs.declared.line.Line.TheVariants as line
 
 -- ---- the frame in a line's bytes, or the first reason why there is none
-
-abbrev pub reason_of_pass : PassFault → Reason
-reason_of_pass pass.BadEscape = reason.BadEscape
-reason_of_pass pass.TooLong = reason.TooLong
-reason_of_pass pass.NotData = reason.NotData
-
-abbrev pub reason_of_frame : FrameFault → Reason
-reason_of_frame frame.Address = reason.Address
-reason_of_frame frame.Callsign = reason.Callsign
-reason_of_frame frame.Control = reason.Control
-reason_of_frame frame.Pid = reason.Pid
-reason_of_frame frame.NoInfo = reason.NoInfo
-reason_of_frame frame.LongInfo = reason.LongInfo
 
 abbrev pub frame_or_reason : Result (List ℕ) FrameFault → Result (List ℕ) Reason
 frame_or_reason (Ok frame) = Ok frame

@@ -2,8 +2,11 @@
 ghost use Rattle.std.specs.Prelude.{◌≡◌, codes};
 ghost use Rattle.aprs_log.specs.Fault.{
     line_fault_number, line_fault_name, log_cause_number, log_cause_name, log_cause_of,
-    reason_number, reason_name,
+    reason_number, reason_name, reason_of_pass, reason_of_frame,
 };
+
+use aprs_ax25::FrameFault;
+use aprs_kiss::PassFault;
 
 /// What is wrong with a line of a log, in the order in which a line is judged.
 #[derive(Clone, Copy, Debug, PartialEq, Eq)]
@@ -193,6 +196,33 @@ impl Reason {
             Reason::Pid => "Pid",
             Reason::NoInfo => "NoInfo",
             Reason::LongInfo => "LongInfo",
+        }
+    }
+}
+
+impl From<PassFault> for Reason {
+    ghost from_gives = { λ fault reason. reason ≡ reason_of_pass fault };
+
+    fn from(fault: PassFault) -> Reason {
+        match fault {
+            PassFault::BadEscape => Reason::BadEscape,
+            PassFault::TooLong => Reason::TooLong,
+            PassFault::NotData => Reason::NotData,
+        }
+    }
+}
+
+impl From<FrameFault> for Reason {
+    ghost from_gives = { λ fault reason. reason ≡ reason_of_frame fault };
+
+    fn from(fault: FrameFault) -> Reason {
+        match fault {
+            FrameFault::Address => Reason::Address,
+            FrameFault::Callsign => Reason::Callsign,
+            FrameFault::Control => Reason::Control,
+            FrameFault::Pid => Reason::Pid,
+            FrameFault::NoInfo => Reason::NoInfo,
+            FrameFault::LongInfo => Reason::LongInfo,
         }
     }
 }

@@ -9,6 +9,7 @@ mod ending;
 mod fault;
 mod hexadecimal;
 mod line;
+mod line_bytes;
 mod moment;
 mod receiver;
 mod reception;

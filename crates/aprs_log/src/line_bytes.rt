@@ -1,0 +1,50 @@
+//! The frame in the bytes that a line holds.
+ghost use Rattle.std.specs.Prelude.{◌≡◌};
+ghost use Rattle.aprs_kiss.specs.Stream.{is_nonempty, rest_of};
+ghost use Rattle.aprs_log.specs.Bytes.{has_other};
+ghost use Rattle.aprs_log.specs.Line.{frame_in};
+
+use crate::fault::Reason;
+use aprs_ax25::Frame;
+use aprs_kiss::{Fed, KissReader};
+
+/// Stands before and after a frame.
+const FEND: u8 = 0xC0;
+
+/// The one frame that the bytes hold, or the first reason why they hold none.
+pub fn frame_in(bytes: &[u8]) -> Result<Frame, Reason>
+    ensures { result ≡ frame_in bytes.now }
+{
+    if is_unended(bytes) {
+        return Err(Reason::Unended);
+    }
+    let mut reader = KissReader::new();
+    let (used, fed) = reader.feed(bytes);
+    let has_more = has_other(&bytes[used..]);
+    match fed {
+        Fed::Nothing => Err(Reason::NoFrame),
+        _ if has_more => Err(Reason::TwoFrames),
+        Fed::Passed(fault) => Err(Reason::from(fault)),
+        Fed::Frame { port: _, frame } => match Frame::read(frame) {
+            Ok(frame) => Ok(frame),
+            Err(fault) => Err(Reason::from(fault)),
+        },
+    }
+}
+
+/// Whether bytes follow the last frame end.
+fn is_unended(bytes: &[u8]) -> bool
+    ensures { result ≡ is_nonempty (rest_of bytes.now) }
+{
+    match bytes {
+        [.., last] => *last != FEND,
+        [] => false,
+    }
+}
+
+/// Whether a byte is no frame end.
+fn has_other(bytes: &[u8]) -> bool
+    ensures { result ≡ has_other bytes.now }
+{
+    bytes.iter().any(|b| *b != FEND)
+}
