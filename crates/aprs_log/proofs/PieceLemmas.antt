@@ -1,12 +1,16 @@
 -- Lemmas on the pieces of a line's bytes.
-use Rattle.std.proofs.Common.{◌≡◌, ◌≢◌, ℕ, ◌+◌, ◌-◌, ◌<◌, ◌≤◌, Bool, true, false, not, ◌||◌, List, [], ◌∷◌, ◌++◌, length, get_or, take, drop, Option, Result, Ok, Err, cond, refl, arith, sym, ap, ◌∙◌, subst, append_assoc, append-nil, take-append-drop, length-append, map, filter, ◌⊎◌, inl, inr, suc, nat_eq, eqb-true}
+use Rattle.std.proofs.Common.{◌≡◌, ◌≢◌, ℕ, ◌+◌, ◌-◌, ◌<◌, ◌≤◌, Bool, true, false, not, ◌||◌, List, [], ◌∷◌, ◌++◌, length, get_or, take, drop, Option, None, Some, Result, Ok, Err, cond, refl, arith, sym, ap, ◌∙◌, subst, append_assoc, append-nil, take-append-drop, length-append, map, filter, ◌⊎◌, inl, inr, suc, nat_eq, eqb-true}
 use Rattle.std.proofs.lemmas.Bool.Decides.{nat_tests}
+use Rattle.std.proofs.lemmas.List.{take_rest}
 use Rattle.std.proofs.Math.Seq.{drop-cons, take-length, drop-length}
 use Rattle.aprs_kiss.specs.Spelling.{HasNoEnd, is_frame_end}
 use Rattle.aprs_kiss.specs.Stream.{rest_of, pieces_of, is_nonempty, nonempty_pieces_of, judgements_of, EndsPiece}
 use Rattle.aprs_kiss.specs.Judgement.{Judgement, judgement_of}
 use Rattle.aprs_kiss.proofs.Pieces.{HasNoEnd-nil, HasNoEnd-append, HasNoEnd-one, pieces_of-end, rest_of-none, rest_of-end, cuts, judgements_of-append, judgements_of-empty, judgements_of-none}
-use Rattle.aprs_log.specs.Bytes.{has_other}
+use Rattle.aprs_kiss.specs.Reader.{told_by}
+use Rattle.aprs_kiss.specs.declared.reader.Fed.{Fed}
+use Rattle.aprs_kiss.specs.declared.reader.Fed.TheVariants.{Nothing, Frame, Passed}
+use Rattle.aprs_log.specs.Bytes.{first_frame, has_other}
 use Rattle.aprs_log.specs.Line.{frame_in, only_frame}
 use Rattle.aprs_log.specs.declared.fault.Reason.{Reason}
 use Rattle.aprs_log.specs.declared.fault.Reason.TheVariants as reason
@@ -149,3 +153,65 @@ frame_in-two used more j e u other =
     let moved : rest_of (used ++ more) ≡ rest_of more = (cuts used more).rest ∙ ap (λ l. rest_of (l ++ more)) u.whole in
     let some = tells more [] HasNoEnd-nil (sym moved ∙ rest) (inr other) in
     sym (frame_in-ended (used ++ more) e ∙ ap only_frame (told_then used more j u) ∙ two_frames j (judgements_of more) some)
+
+-- ---- what a reader tells of a line's bytes at once
+
+pub record FedOnce (bytes : List ℕ) (n : ℕ) (told : List Judgement) : Type 0 where
+  pub judged : judgements_of (take n bytes) ≡ told
+  pub used : n ≤ length bytes
+  pub whole : told ≡ [] → n ≡ length bytes
+  pub ends : told ≢ [] → EndsPiece (take n bytes)
+
+pub once : (bytes : List ℕ) (n : ℕ) (told : List Judgement) → judgements_of (take n bytes) ≡ told → n ≤ length bytes
+    → (told ≡ [] → n ≡ length bytes) → (told ≢ [] → EndsPiece (take n bytes)) → FedOnce bytes n told
+once bytes n told judged used whole ends = record { judged = judged; used = used; whole = whole; ends = ends }
+
+after_used : List ℕ → ℕ → List ℕ
+after_used bytes n = take (length bytes - n) (drop n bytes)
+
+again : (bytes : List ℕ) (n : ℕ) → take n bytes ++ after_used bytes n ≡ bytes
+unfolding after_used
+again bytes n = ap (λ l. take n bytes ++ l) (take_rest bytes n) ∙ take-append-drop n bytes
+
+used_to : (bytes : List ℕ) (n : ℕ) (j : Judgement) → FedOnce bytes n (j ∷ []) → UsedTo (take n bytes) j
+used_to bytes n j f = record { told = f.judged; whole = (f.ends (λ e. let h : ⊥ = absurd cc in h)).whole }
+
+pub told_nothing : (bytes : List ℕ) (n : ℕ) → false ≡ is_nonempty (rest_of bytes) → FedOnce bytes n [] → Err reason.NoFrame ≡ frame_in bytes
+told_nothing bytes n e f =
+    let all : take n bytes ≡ bytes = ap (λ k. take k bytes) (f.whole refl) ∙ take-length bytes in
+    frame_in-none bytes (sym e) (ap judgements_of (sym all) ∙ f.judged)
+
+pub told_one : (bytes : List ℕ) (n : ℕ) (j : Judgement) → false ≡ is_nonempty (rest_of bytes) → FedOnce bytes n (j ∷ [])
+    → false ≡ has_other (take (length bytes - n) (drop n bytes)) → only_frame (j ∷ []) ≡ frame_in bytes
+unfolding after_used
+told_one bytes n j e f alone =
+    let same = again bytes n in
+    frame_in-one (take n bytes) (after_used bytes n) j (ap (λ l. is_nonempty (rest_of l)) same ∙ sym e) (used_to bytes n j f) (sym alone) ∙ ap frame_in same
+
+pub told_two : (bytes : List ℕ) (n : ℕ) (j : Judgement) → false ≡ is_nonempty (rest_of bytes) → FedOnce bytes n (j ∷ [])
+    → true ≡ has_other (take (length bytes - n) (drop n bytes)) → Err reason.TwoFrames ≡ frame_in bytes
+unfolding after_used
+told_two bytes n j e f other =
+    let same = again bytes n in
+    frame_in-two (take n bytes) (after_used bytes n) j (ap (λ l. is_nonempty (rest_of l)) same ∙ sym e) (used_to bytes n j f) (sym other) ∙ ap frame_in same
+
+same_some : (x y : Result (List ℕ) Reason) → Some x ≡ Some y → x ≡ y
+same_some x y e = cc
+
+pub fed_none : (bytes : List ℕ) (n : ℕ) (fed : Fed) → false ≡ is_nonempty (rest_of bytes) → FedOnce bytes n (told_by fed)
+    → None ≡ first_frame (told_by fed) → Err reason.NoFrame ≡ frame_in bytes
+fed_none bytes n Nothing e f none = told_nothing bytes n e f
+fed_none bytes n (Frame port frame) e f none = absurd cc
+fed_none bytes n (Passed fault) e f none = absurd cc
+
+pub fed_two : (bytes : List ℕ) (n : ℕ) (fed : Fed) (r : Result (List ℕ) Reason) → false ≡ is_nonempty (rest_of bytes) → FedOnce bytes n (told_by fed)
+    → Some r ≡ first_frame (told_by fed) → true ≡ has_other (take (length bytes - n) (drop n bytes)) → Err reason.TwoFrames ≡ frame_in bytes
+fed_two bytes n Nothing r e f some other = absurd cc
+fed_two bytes n (Frame port frame) r e f some other = told_two bytes n _ e f other
+fed_two bytes n (Passed fault) r e f some other = told_two bytes n _ e f other
+
+pub fed_one : (bytes : List ℕ) (n : ℕ) (fed : Fed) (r : Result (List ℕ) Reason) → false ≡ is_nonempty (rest_of bytes) → FedOnce bytes n (told_by fed)
+    → Some r ≡ first_frame (told_by fed) → false ≡ has_other (take (length bytes - n) (drop n bytes)) → r ≡ frame_in bytes
+fed_one bytes n Nothing r e f some alone = absurd cc
+fed_one bytes n (Frame port frame) r e f some alone = same_some r _ some ∙ told_one bytes n _ e f alone
+fed_one bytes n (Passed fault) r e f some alone = same_some r _ some ∙ told_one bytes n _ e f alone

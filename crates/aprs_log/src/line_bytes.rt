@@ -1,7 +1,8 @@
 //! The frame in the bytes that a line holds.
 ghost use Rattle.std.specs.Prelude.{◌≡◌};
 ghost use Rattle.aprs_kiss.specs.Stream.{is_nonempty, rest_of};
-ghost use Rattle.aprs_log.specs.Bytes.{has_other};
+ghost use Rattle.aprs_kiss.specs.Reader.{told_by};
+ghost use Rattle.aprs_log.specs.Bytes.{first_frame, has_other};
 ghost use Rattle.aprs_log.specs.Line.{frame_in};
 
 use crate::fault::Reason;
@@ -20,14 +21,28 @@ pub fn frame_in(bytes: &[u8]) -> Result<Frame, Reason>
     }
     let mut reader = KissReader::new();
     let (used, fed) = reader.feed(bytes);
-    let has_more = has_other(&bytes[used..]);
+    match frame_told(fed) {
+        None => Err(Reason::NoFrame),
+        Some(frame) => {
+            if has_other(&bytes[used..]) {
+                Err(Reason::TwoFrames)
+            } else {
+                frame
+            }
+        }
+    }
+}
+
+/// The frame of the piece that a reader told of, or why it holds none.
+fn frame_told(fed: Fed<'_>) -> Option<Result<Frame, Reason>>
+    ensures { result ≡ first_frame (told_by fed.entry) }
+{
     match fed {
-        Fed::Nothing => Err(Reason::NoFrame),
-        _ if has_more => Err(Reason::TwoFrames),
-        Fed::Passed(fault) => Err(Reason::from(fault)),
+        Fed::Nothing => None,
+        Fed::Passed(fault) => Some(Err(Reason::from(fault))),
         Fed::Frame { port: _, frame } => match Frame::read(frame) {
-            Ok(frame) => Ok(frame),
-            Err(fault) => Err(Reason::from(fault)),
+            Ok(frame) => Some(Ok(frame)),
+            Err(fault) => Some(Err(Reason::from(fault))),
         },
     }
 }
