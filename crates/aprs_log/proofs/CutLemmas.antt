@@ -83,3 +83,9 @@ cut_at-parts stop text cut e =
     split_at_first (is_byte stop) text 0 h
     ∙ ap (λ b. before_first (is_byte stop) text ++ b ∷ after_first (is_byte stop) text) same
     ∙ ap (λ (c : Cut). c.before ++ stop ∷ c.after) found.1
+
+-- what stands after the byte is no longer than all
+pub cut_at-after : (stop : ℕ) (text : List ℕ) (cut : Cut) → Some cut ≡ cut_at stop text → length cut.after ≤ length text
+cut_at-after stop text cut e =
+    let len : length (cut.before ++ stop ∷ cut.after) ≡ length cut.before + (length cut.after + 1) = simp length-append (omega arith) in
+    omega (arith, len, ap length (cut_at-parts stop text cut (sym e)))

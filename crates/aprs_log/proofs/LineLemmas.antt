@@ -1,5 +1,5 @@
 -- Lemmas on the lines of a log.
-use Rattle.std.proofs.Common.{◌≡◌, ℕ, ◌+◌, ◌*◌, ◌/◌, ◌%◌, ◌<◌, ◌≤◌, ◌&&◌, Bool, true, false, List, [], ◌∷◌, ◌++◌, length, Option, None, Some, Result, Ok, Err, IsOk, IsTrue, cond, refl, arith, sym, ap, ◌∙◌, subst, append_assoc, nat_lt}
+use Rattle.std.proofs.Common.{◌≡◌, ◌↔◌, ℕ, ◌+◌, ◌*◌, ◌/◌, ◌%◌, ◌<◌, ◌≤◌, ◌&&◌, Bool, true, false, List, [], ◌∷◌, ◌++◌, length, Option, None, Some, Result, Ok, Err, IsOk, IsTrue, cond, refl, arith, sym, ap, ◌∙◌, subst, append_assoc, nat_lt}
 use Rattle.std.specs.List.{list_all, AllByRecursion}
 use Rattle.std.proofs.lemmas.Bool.Decides.{nat_tests}
 use Rattle.hex.specs.Hex.{decode_of}
@@ -52,6 +52,10 @@ MomentText-lacks m t h = subst (Lacks 32) (sym h.spelled) (civil_text-lacks h.ci
 if_true : (b : Bool) (x y : Result Line LineFault) → b ≡ true → cond b x y ≡ x
 if_true true x y e = refl
 if_true false x y e = absurd (let f : false ≡ true = e in cc)
+
+if_false : (b : Bool) (x y : Result Line LineFault) → ¬ (b ≡ true) → cond b x y ≡ y
+if_false true x y e = absurd (e refl)
+if_false false x y e = refl
 
 not_long : (l : List ℕ) (x : Result Line LineFault) → length l ≤ 8192 → cond (nat_lt 8192 (length l)) (Err fault.LongLine) x ≡ x
 not_long l x h = grind (arith, nat_tests)
@@ -130,3 +134,56 @@ short_found l false e h = (grind (arith, nat_tests), cut_found l (cut_at 32 l) r
 pub line_of-sound : (l : List ℕ) → IsOk (line_of l) → (length l ≤ 8192) × LineSyntax l
 unfolding line_of
 line_of-sound l h = short_found l (nat_lt 8192 (length l)) refl h
+
+-- ---- the answer, field by field
+
+module _ (l : List ℕ) (short : length l ≤ 8192) where
+  pub line_of-uncut : None ≡ cut_at 32 l → Err fault.Moment ≡ line_of l
+  unfolding line_of
+  line_of-uncut e = ap line_of_cut e ∙ sym (not_long l (line_of_cut (cut_at 32 l)) short)
+
+  pub line_of-cut : (first : Cut) → Some first ≡ cut_at 32 l → line_after_moment (moment_of first.before) (cut_at 32 first.after) ≡ line_of l
+  unfolding line_of
+  line_of-cut first e = ap line_of_cut e ∙ sym (not_long l (line_of_cut (cut_at 32 l)) short)
+
+  pub line_of-no_moment : (first : Cut) → Some first ≡ cut_at 32 l → None ≡ moment_of first.before → Err fault.Moment ≡ line_of l
+  line_of-no_moment first e none = ap (λ m. line_after_moment m (cut_at 32 first.after)) none ∙ line_of-cut first e
+
+  pub line_of-one_cut : (first : Cut) (m : ℕ) → Some first ≡ cut_at 32 l → Some m ≡ moment_of first.before → None ≡ cut_at 32 first.after
+      → Err fault.Receiver ≡ line_of l
+  line_of-one_cut first m e read none =
+      ap (λ next. line_after_moment (Some m) next) none ∙ ap (λ m. line_after_moment m (cut_at 32 first.after)) read ∙ line_of-cut first e
+
+  fields : (first next : Cut) (m : ℕ) → Some first ≡ cut_at 32 l → Some m ≡ moment_of first.before → Some next ≡ cut_at 32 first.after
+      → line_after_moment (Some m) (Some next) ≡ line_of l
+  fields first next m e read second =
+      ap (λ next. line_after_moment (Some m) next) second ∙ ap (λ m. line_after_moment m (cut_at 32 first.after)) read ∙ line_of-cut first e
+
+  pub line_of-no_name : (first next : Cut) (m : ℕ) → Some first ≡ cut_at 32 l → Some m ≡ moment_of first.before → Some next ≡ cut_at 32 first.after
+      → ¬ IsName next.before → Err fault.Receiver ≡ line_of l
+  line_of-no_name first next m e read second none =
+      sym (if_false (is_name next.before) (line_of_bytes m next.before (decode_of next.after)) (Err fault.Receiver) none) ∙ fields first next m e read second
+
+  pub line_of-fields : (first next : Cut) (m : ℕ) (r : List ℕ) → Some first ≡ cut_at 32 l → Some m ≡ moment_of first.before
+      → Some next ≡ cut_at 32 first.after → IsName next.before → r ≡ next.before → line_of_bytes m r (decode_of next.after) ≡ line_of l
+  line_of-fields first next m r e read second name is =
+      ap (λ r. line_of_bytes m r (decode_of next.after)) is
+      ∙ sym (if_true (is_name next.before) (line_of_bytes m next.before (decode_of next.after)) (Err fault.Receiver) name) ∙ fields first next m e read second
+
+pub line_of-long : (l : List ℕ) → 8192 < length l → Err fault.LongLine ≡ line_of l
+unfolding line_of
+line_of-long l h = by (nat_lt 8192 (length l)) refl
+  where
+    by : (b : Bool) → b ≡ nat_lt 8192 (length l) → Err fault.LongLine ≡ cond b (Err fault.LongLine) (line_of_cut (cut_at 32 l))
+    by true e = refl
+    by false e = absurd (grind (arith, nat_tests))
+
+ok_is : (m : ℕ) (r : List ℕ) (bytes : List ℕ) (x : Result Line LineFault) → x ≡ Ok (heard_or_passed m r (frame_in bytes)) → IsOk x
+ok_is m r bytes x e = subst (λ y. IsOk y) (sym e) refl
+
+-- sound exactly where it has the syntax
+pub IsOk-line_of : (l : List ℕ) (x : Result Line LineFault) → x ≡ line_of l → IsOk x ↔ ((length l ≤ 8192) × LineSyntax l)
+IsOk-line_of l x e = (
+  λ h. line_of-sound l (subst (λ y. IsOk y) e h),
+  λ h. ok_is h.1.moment h.1.receiver h.1.bytes x (e ∙ line_of-syntax l h.0 h.1),
+)

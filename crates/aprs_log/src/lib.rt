@@ -16,7 +16,7 @@ mod reception;
 mod window;
 
 pub use fault::{LineFault, LogCause, LogFault, Reason};
-pub use line::{Line, MAX_LINE};
+pub use line::{Line, MAX_LINE, read_line};
 pub use moment::Moment;
 pub use receiver::Receiver;
 pub use reception::Reception;

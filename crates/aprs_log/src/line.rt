@@ -1,15 +1,71 @@
 //! Lines of a log.
-use crate::fault::Reason;
-use crate::reception::Reception;
+ghost use Rattle.std.specs.Prelude.{◌≡◌, ◌≤◌, ◌↔◌, length, IsOk};
+ghost use Rattle.hex.specs.Hex.{decode_of};
+ghost use Rattle.aprs_log.specs.Line.{line_of, line_of_bytes, LineSyntax};
+
+use crate::cut::cut_at;
+use crate::fault::{LineFault, Reason};
+use crate::hexadecimal::{MAX_BYTES, decode_into};
+use crate::line_bytes::frame_in;
+use crate::{Moment, Receiver, Reception};
+
+/// The most bytes of a line, without its LF.
+pub const MAX_LINE: usize = 8192;
 
 /// What a sound line of a log tells.
 #[derive(PartialEq, Eq, Drop)]
 pub enum Line {
     /// A frame was heard.
     Heard(Reception),
-    /// The line's bytes are no frame, and why.
+    /// The line's bytes hold no frame, and why.
     Passed(Reason),
 }
 
-/// The most bytes of a line, without its LF.
-pub const MAX_LINE: usize = 8192;
+/// What a line tells, without its LF: a moment, a space, a receiver's name, a space, and the bytes
+/// that the receiver gave in hexadecimal, in which one KISS frame stands. Or the first fault of
+/// `LongLine`, `Moment`, `Receiver` and `Hex`. What the bytes are is no fault of the line: it is then
+/// passed over. Takes no memory.
+pub fn read_line(line: &[u8]) -> Result<Line, LineFault>
+    ensures line { result ≡ line_of line.now }
+    // Whatever the bytes are, a line of this syntax is not refused.
+    ensures sound { IsOk result ↔ ((length line.now ≤ 8192) × LineSyntax line.now) }
+{
+    read_fields(line)
+}
+
+/// The same, field by field.
+fn read_fields(line: &[u8]) -> Result<Line, LineFault>
+    ensures { result ≡ line_of line.now }
+{
+    if line.len() > MAX_LINE {
+        return Err(LineFault::LongLine);
+    }
+    let Some((moment, rest)) = cut_at(line, b' ') else {
+        return Err(LineFault::Moment);
+    };
+    let Some(moment) = Moment::parse(moment) else {
+        return Err(LineFault::Moment);
+    };
+    let Some((receiver, digits)) = cut_at(rest, b' ') else {
+        return Err(LineFault::Receiver);
+    };
+    let Some(receiver) = Receiver::parse(receiver) else {
+        return Err(LineFault::Receiver);
+    };
+    read_bytes(moment, receiver, digits)
+}
+
+/// The line of a moment, a receiver and the bytes that the receiver gave.
+fn read_bytes(moment: Moment, receiver: Receiver, digits: &[u8]) -> Result<Line, LineFault>
+    requires { length digits.now ≤ 8192 }
+    ensures { result ≡ line_of_bytes moment receiver (decode_of digits.now) }
+{
+    let mut room = [0; MAX_BYTES];
+    let Some(len) = decode_into(digits, &mut room) else {
+        return Err(LineFault::Hex);
+    };
+    match frame_in(&room[..len]) {
+        Ok(frame) => Ok(Line::Heard(Reception::new(moment, receiver, frame))),
+        Err(reason) => Ok(Line::Passed(reason)),
+    }
+}
