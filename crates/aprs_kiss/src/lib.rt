@@ -3,11 +3,13 @@
 
 mod device;
 mod fault;
+mod listen;
 mod reader;
 mod spelling;
 mod write;
 
 pub use device::{Counted, DeviceFault, WriteFault, send};
 pub use fault::PassFault;
+pub use listen::{Listener, feed_all, feed_in_parts};
 pub use reader::{Fed, KissReader, MAX_FRAME};
 pub use write::write_kiss;
