@@ -10,7 +10,7 @@ use Rattle.std.proofs.lemmas.List.Splits.{slice_split-cons_no, slice_split-cons_
 use Rattle.std.proofs.lemmas.Grind.{flat_map-append}
 use Rattle.aprs_kiss.specs.Spelling.{HasNoEnd, IsPlain, CutsPlain, is_special, is_frame_end, is_escape, spelling_of_byte, spelling_of, unescaped, all_joined, unspelled_parts, unspelled}
 
-is_true_or_not : (b : Bool) → (b ≡ true) ⊎ (b ≡ false)
+pub is_true_or_not : (b : Bool) → (b ≡ true) ⊎ (b ≡ false)
 is_true_or_not true = inl refl
 is_true_or_not false = inr refl
 
