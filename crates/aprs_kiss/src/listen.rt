@@ -1,5 +1,6 @@
 //! The answers of a whole stream, however it is cut.
-ghost use Rattle.std.specs.Prelude.{◌≡◌, ◌++◌, ℕ, List};
+ghost use Rattle.std.specs.Prelude.{◌++◌, ℕ, List};
+ghost use Rattle.std.specs.List.{FoldsTo};
 ghost use Rattle.aprs_kiss.specs.Judgement.{Judgement};
 ghost use Rattle.aprs_kiss.specs.Reader.{StandsAfter, told_by};
 ghost use Rattle.aprs_kiss.specs.Stream.{judgements_of, rest_of};
@@ -8,19 +9,19 @@ use crate::reader::{Fed, KissReader};
 
 /// Takes what a reader tells, one answer after another.
 pub trait Listener {
-    /// The answers that it was told, in order.
-    ghost told: { Self → List Judgement };
+    /// What an answer makes of it: the listener before, the answer, and the listener after.
+    ghost hears: { Self → Judgement → Self → Type 0 };
 
-    /// Takes the next answer. `Fed::Nothing` is none.
+    /// Takes the next answer. By `Fed::Nothing` it stays as it is.
     fn hear(&mut self, fed: Fed<'_>)
-        ensures { told self.new ≡ told self.old ++ told_by fed.entry };
+        ensures { FoldsTo hears self.old (told_by fed.entry) self.new };
 }
 
 /// Feeds all of a piece of a stream, and hands on each answer. Takes no memory.
 pub fn feed_all<L: Listener>(reader: &mut KissReader, piece: &[u8], listener: &mut L)
     ensures stands { (e : List ℕ) → StandsAfter reader.old e → StandsAfter reader.new (rest_of (e ++ piece.now)) }
     ensures told { (e : List ℕ) → StandsAfter reader.old e
-        → L.told listener.new ≡ L.told listener.old ++ judgements_of (e ++ piece.now) }
+        → FoldsTo L.hears listener.old (judgements_of (e ++ piece.now)) listener.new }
 {
     let mut rest = piece;
     while !rest.is_empty() {
@@ -41,7 +42,7 @@ pub fn feed_in_parts<L: Listener>(
 )
     ensures stands { (e : List ℕ) → StandsAfter reader.old e → StandsAfter reader.new (rest_of (e ++ stream.now)) }
     ensures told { (e : List ℕ) → StandsAfter reader.old e
-        → L.told listener.new ≡ L.told listener.old ++ judgements_of (e ++ stream.now) }
+        → FoldsTo L.hears listener.old (judgements_of (e ++ stream.now)) listener.new }
 {
     let mut rest = stream;
     for len in lengths {
