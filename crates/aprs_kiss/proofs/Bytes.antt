@@ -1,9 +1,9 @@
 -- Lemmas on the bytes that a writer tells.
-use Rattle.std.proofs.Common.{ℕ, ◌-◌, List, ◌++◌, length, take, drop, Option, sym, ap, ◌∙◌, append_assoc, take-append-drop}
+use Rattle.std.proofs.Common.{◌≡◌, Result, Ok, Err, OnOk, OnErr, ℕ, ◌-◌, List, [], ◌++◌, refl, subst, append-nil, length, take, drop, Option, sym, ap, ◌∙◌, append_assoc, take-append-drop}
 use Rattle.std.proofs.lemmas.List.{take_rest}
 use Rattle.std.specs.Io.KnownBytes.{Appends}
-use Rattle.std.proofs.KnownBytes.{Appends-trans}
-use Rattle.aprs_kiss.specs.Device.{AppendsAllBut}
+use Rattle.std.proofs.KnownBytes.{Appends-nil, Appends-trans}
+use Rattle.aprs_kiss.specs.Device.{AppendsAllBut, AppendsFront}
 
 -- the writer took n bytes of what was left
 pub AppendsAllBut-more : (a b c : Option (List ℕ)) (bs rest : List ℕ) (n : ℕ) → AppendsAllBut a b bs rest
@@ -14,3 +14,65 @@ AppendsAllBut-more a b c bs rest n p q = (
       ∙ ap (λ l. (p.0 ++ take n rest) ++ l) (sym (take_rest rest n)),
   Appends-trans a b c p.0 (take n rest) p.2 q,
 )
+
+-- ---- a text that goes out part by part
+
+-- nothing of it went out yet
+pub AppendsAllBut-none : (a : Option (List ℕ)) (bs : List ℕ) → AppendsAllBut a a bs bs
+AppendsAllBut-none a bs = ([], refl, Appends-nil a)
+
+-- one part more
+pub AppendsAllBut-sent : (a b c : Option (List ℕ)) (bs rest part more : List ℕ) → AppendsAllBut a b bs rest → rest ≡ part ++ more
+    → Appends b c part → AppendsAllBut a c bs more
+AppendsAllBut-sent a b c bs rest part more p e q = (
+  p.0 ++ part,
+  p.1 ∙ ap (λ l. p.0 ++ l) e ∙ sym (append_assoc p.0 part more),
+  Appends-trans a b c p.0 part p.2 q,
+)
+
+-- a front of the next part
+pub AppendsFront-after : (a b c : Option (List ℕ)) (bs rest part more : List ℕ) → AppendsAllBut a b bs rest → rest ≡ part ++ more
+    → AppendsFront b c part → AppendsFront a c bs
+AppendsFront-after a b c bs rest part more p e q = (
+  q.0 ++ more,
+  (
+    p.0 ++ q.1.0,
+    p.1 ∙ ap (λ l. p.0 ++ l) (e ∙ ap (λ l. l ++ more) q.1.1 ∙ append_assoc q.1.0 q.0 more)
+        ∙ sym (append_assoc p.0 q.1.0 (q.0 ++ more)),
+    Appends-trans a b c p.0 q.1.0 p.2 q.1.2,
+  ),
+)
+
+-- all of it went out
+pub Appends-from_all : (a b : Option (List ℕ)) (bs : List ℕ) → AppendsAllBut a b bs [] → Appends a b bs
+Appends-from_all a b bs p = subst (Appends a b) (sym (p.1 ∙ append-nil p.0)) p.2
+
+pub AppendsFront-all : (a b : Option (List ℕ)) (bs : List ℕ) → Appends a b bs → AppendsFront a b bs
+AppendsFront-all a b bs p = ([], (bs, sym (append-nil bs), p))
+
+-- two texts, one after another
+pub AppendsFront-more : (a b : Option (List ℕ)) (bs more : List ℕ) → AppendsFront a b bs → AppendsFront a b (bs ++ more)
+AppendsFront-more a b bs more p =
+    AppendsFront-after a a b (bs ++ more) (bs ++ more) bs more (AppendsAllBut-none a (bs ++ more)) refl p
+
+pub AppendsFront-then : (a b c : Option (List ℕ)) (bs more : List ℕ) → Appends a b bs → AppendsFront b c more → AppendsFront a c (bs ++ more)
+AppendsFront-then a b c bs more p q =
+    let whole = AppendsAllBut-sent a a b (bs ++ more) (bs ++ more) bs more (AppendsAllBut-none a (bs ++ more)) refl p in
+    AppendsFront-after a b c (bs ++ more) more more [] whole (sym (append-nil more)) q
+
+-- ---- where a call's answer is known, or not
+
+pub on_err : {T E P : Type 0} (r : Result T E) → P → OnErr r P
+on_err (Ok x) p = tt
+on_err (Err e) p = p
+
+-- the last part of a text is sent, or a front of it
+pub sent_last : {T E : Type 0} (r : Result T E) (a b c : Option (List ℕ)) (bs part : List ℕ) → AppendsAllBut a b bs part
+    → OnOk r (Appends b c part) → OnOk r (Appends a c bs)
+sent_last (Ok x) a b c bs part p q = Appends-from_all a c bs (AppendsAllBut-sent a b c bs part part [] p (sym (append-nil part)) q)
+sent_last (Err e) a b c bs part p q = tt
+
+pub front_of_last : {T E : Type 0} (r : Result T E) (a b c : Option (List ℕ)) (bs part : List ℕ) → AppendsAllBut a b bs part
+    → OnErr r (AppendsFront b c part) → OnErr r (AppendsFront a c bs)
+front_of_last (Ok x) a b c bs part p q = tt
+front_of_last (Err e) a b c bs part p q = AppendsFront-after a b c bs part part [] p (sym (append-nil part)) q

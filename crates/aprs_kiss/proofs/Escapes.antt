@@ -1,15 +1,16 @@
 -- Lemmas on what a list of bytes spells.
 use Rattle.std.proofs.Common.{◌≡◌, ◌≢◌, ℕ, ◌∙◌, sym, ap, refl, Bool, true, false, cond, List, [], ◌∷◌, ◌++◌, length, map, append_assoc, append-nil, arith, rules, ◌⊎◌, inl, inr, Option, None, Some, ◌<◌}
 use Rattle.std.specs.List.{slice_split, onto_first, All, AllByRecursion, flat_map}
+use Rattle.std.specs.Borrow.{Bor}
 use Rattle.std.specs.Option.{option_map}
 use Rattle.std.proofs.lemmas.Bool.{eqb-true}
 use Rattle.std.proofs.lemmas.Bool.Decides.{nat_tests}
 use Rattle.std.proofs.lemmas.List.Elements.{recursion_from_All}
 use Rattle.std.proofs.lemmas.List.Splits.{slice_split-cons_no, slice_split-cons_yes}
 use Rattle.std.proofs.lemmas.Grind.{flat_map-append}
-use Rattle.aprs_kiss.specs.Spelling.{HasNoEnd, IsPlain, is_special, is_frame_end, is_escape, spelling_of_byte, spelling_of, unescaped, all_joined, unspelled_parts, unspelled}
+use Rattle.aprs_kiss.specs.Spelling.{HasNoEnd, IsPlain, CutsPlain, is_special, is_frame_end, is_escape, spelling_of_byte, spelling_of, unescaped, all_joined, unspelled_parts, unspelled}
 
-is_true_or_not : (b : Bool) → (b ≡ true) ⊎ (b ≡ false)
+pub is_true_or_not : (b : Bool) → (b ≡ true) ⊎ (b ≡ false)
 is_true_or_not true = inl refl
 is_true_or_not false = inr refl
 
@@ -228,3 +229,30 @@ spelling_of-append a b = flat_map-append spelling_of_byte a b
 
 pub unspelled-run-all : (run : List ℕ) → IsPlain run → unspelled run ≡ Some run
 unspelled-run-all run p = unspelled-run run (recursion_from_All (λ b. is_special b ≡ false) run p)
+
+spelling_of-cons : (mark : ℕ) (after end : List ℕ) → spelling_of (mark ∷ after) ++ end ≡ spelling_of_byte mark ++ (spelling_of after ++ end)
+unfolding spelling_of
+spelling_of-cons mark after end = append_assoc (spelling_of_byte mark) (spelling_of after) end
+
+-- ---- a frame that is written part by part
+
+pub spelling_of-all : (rest plain end : List ℕ) → IsPlain plain → rest ≡ plain → spelling_of rest ++ end ≡ plain ++ end
+spelling_of-all rest plain end p e =
+    ap (λ l. spelling_of l ++ end) e
+    ∙ ap (λ l. l ++ end) (spelling_of-run plain (recursion_from_All (λ b. is_special b ≡ false) plain p))
+
+pub spelling_of-cut : (rest plain after end : List ℕ) (mark : ℕ) → IsPlain plain → rest ≡ plain ++ mark ∷ after
+    → spelling_of rest ++ end ≡ plain ++ (spelling_of_byte mark ++ (spelling_of after ++ end))
+spelling_of-cut rest plain after end mark p e =
+    ap (λ l. spelling_of l ++ end) e
+    ∙ ap (λ l. l ++ end) (spelling_of-append plain (mark ∷ after))
+    ∙ append_assoc (spelling_of plain) (spelling_of (mark ∷ after)) end
+    ∙ ap (λ l. l ++ (spelling_of (mark ∷ after) ++ end)) (spelling_of-run plain (recursion_from_All (λ b. is_special b ≡ false) plain p))
+    ∙ ap (λ l. plain ++ l) (spelling_of-cons mark after end)
+
+-- the plain bytes go out first, whatever follows them
+pub spelling_of-front : (rest plain end : List ℕ) (mark : Option (ℕ × Bor (List ℕ))) → IsPlain plain → CutsPlain rest plain mark
+    → (more : List ℕ) × (spelling_of rest ++ end ≡ plain ++ more)
+spelling_of-front rest plain end None p e = (end, spelling_of-all rest plain end p e)
+spelling_of-front rest plain end (Some (mark, after)) p e =
+    (spelling_of_byte mark ++ (spelling_of after.now ++ end), spelling_of-cut rest plain after.now end mark p e.0)

@@ -3,9 +3,15 @@
 
 mod device;
 mod fault;
+mod laws;
+mod listen;
 mod reader;
 mod spelling;
+mod write;
 
 pub use device::{Counted, DeviceFault, WriteFault, send};
 pub use fault::PassFault;
+pub use laws::{cuts_change_nothing, each_piece_is_judged_once, written_frames_are_read_back};
+pub use listen::{Listener, feed_all, feed_in_parts};
 pub use reader::{Fed, KissReader, MAX_FRAME};
+pub use write::write_kiss;

@@ -1,0 +1,54 @@
+//! The answers of a whole stream, however it is cut.
+ghost use Rattle.std.specs.Prelude.{◌++◌, ℕ, List};
+ghost use Rattle.std.specs.List.{FoldsTo};
+ghost use Rattle.aprs_kiss.specs.Judgement.{Judgement};
+ghost use Rattle.aprs_kiss.specs.Reader.{StandsAfter, told_by};
+ghost use Rattle.aprs_kiss.specs.Stream.{judgements_of, rest_of};
+
+use crate::reader::{Fed, KissReader};
+
+/// Takes what a reader tells, one answer after another.
+pub trait Listener {
+    /// What an answer makes of it: the listener before, the answer, and the listener after.
+    ghost hears: { Self → Judgement → Self → Type 0 };
+
+    /// Takes the next answer. By `Fed::Nothing` it stays as it is.
+    fn hear(&mut self, fed: Fed<'_>)
+        ensures { FoldsTo hears self.old (told_by fed.entry) self.new };
+}
+
+/// Feeds all of a piece of a stream, and hands on each answer. Takes no memory.
+pub fn feed_all<L: Listener>(reader: &mut KissReader, piece: &[u8], listener: &mut L)
+    ensures stands { (e : List ℕ) → StandsAfter reader.old e → StandsAfter reader.new (rest_of (e ++ piece.now)) }
+    ensures told { (e : List ℕ) → StandsAfter reader.old e
+        → FoldsTo L.hears listener.old (judgements_of (e ++ piece.now)) listener.new }
+{
+    let mut rest = piece;
+    while !rest.is_empty() {
+        let (used, fed) = reader.feed(rest);
+        listener.hear(fed);
+        let (_, after) = rest.split_at(used);
+        rest = after;
+    }
+}
+
+/// Feeds a stream cut into parts of these lengths, and then what is left of it. The answers are
+/// those of the stream, whatever the lengths. Takes no memory.
+pub fn feed_in_parts<L: Listener>(
+    reader: &mut KissReader,
+    stream: &[u8],
+    lengths: &[usize],
+    listener: &mut L,
+)
+    ensures stands { (e : List ℕ) → StandsAfter reader.old e → StandsAfter reader.new (rest_of (e ++ stream.now)) }
+    ensures told { (e : List ℕ) → StandsAfter reader.old e
+        → FoldsTo L.hears listener.old (judgements_of (e ++ stream.now)) listener.new }
+{
+    let mut rest = stream;
+    for len in lengths {
+        let (part, after) = rest.split_at((*len).min(rest.len()));
+        feed_all(reader, part, listener);
+        rest = after;
+    }
+    feed_all(reader, rest, listener);
+}
