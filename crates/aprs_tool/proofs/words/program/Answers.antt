@@ -1,0 +1,14 @@
+use Rattle.std.proofs.Common.{◌≡◌, rules, codes, ap, ap₂, ◌∙◌}
+use Rattle.std.proofs.lemmas.Result.{IfOk-weaker}
+use Rattle.clap.specs.Words.{App, app_of, with_subcommand}
+use Rattle.aprs_tool.proofs.words.program.Goals as goal
+
+pub returns : goal.returns
+returns c =
+    let convert = c.in_ok-convert.ensures.app in
+    let with_convert = c.in_ok-with_convert.ensures.shape c.in_ok-convert.ensures.globals ∙ ap₂ with_subcommand c.new.ensures.app (ap (λ (a : App). a.top) convert.2) in
+    IfOk-weaker c.subcommand-2.result _ _ (λ m h. (
+      convert.0,
+      convert.1,
+      h.shape c.in_ok-check.ensures.globals ∙ ap₂ with_subcommand with_convert (ap (λ (a : App). a.top) c.in_ok-check.ensures.app),
+    )) c.subcommand-2.ensures

@@ -1,0 +1,5 @@
+-- Definitions that contracts of runs cite.
+pub mod Shown
+pub mod Monitor
+pub mod Status
+pub mod Words

@@ -1,0 +1,26 @@
+-- The program's exit status for a run's fault.
+use Rattle.std.specs.Prelude.{ℕ}
+use Rattle.aprs_log.specs.declared.fault.LogCause.{LogCause}
+use Rattle.aprs_log.specs.declared.fault.LogCause.TheVariants as cause
+use Rattle.aprs_tool.specs.declared.fault.InputFault.{InputFault}
+use Rattle.aprs_tool.specs.declared.fault.InputFault.TheVariants.{Log}
+use Rattle.aprs_tool.specs.declared.fault.RunFault.{RunFault}
+use Rattle.aprs_tool.specs.declared.fault.RunFault.TheVariants.{Input, Write}
+
+-- 4 where memory was refused, 1 for every other cause
+abbrev pub status_of_cause : LogCause → ℕ
+status_of_cause cause.Memory = 4
+status_of_cause cause.LongLine = 1
+status_of_cause cause.NoNewline = 1
+status_of_cause cause.Moment = 1
+status_of_cause cause.Receiver = 1
+status_of_cause cause.Hex = 1
+status_of_cause cause.Read = 1
+status_of_cause cause.TooLong = 1
+
+abbrev pub status_of_input : InputFault → ℕ
+status_of_input (Log fault) = status_of_cause fault.cause
+
+abbrev pub status_of_fault : RunFault → ℕ
+status_of_fault (Input index fault) = status_of_input fault
+status_of_fault Write = 3

@@ -1,0 +1,95 @@
+-- The program's words, as the definition of its command reads them.
+use Rattle.std.specs.Prelude.{◌≡◌, ℕ, List, [], ◌∷◌, map, Bool, true, Option, None, Some, Result, MatchResult, codes, if◌then◌else◌, option_map, option_and_then}
+use Rattle.std.specs.Str.{bytes_eq}
+use Rattle.std.specs.Borrow.{Bor}
+use Rattle.clap.specs.Words.{App, Row, Rule, Text, first_of, new_app, new_rule, subcommand_of, takes, with_rule, with_subcommand}
+use Rattle.clap.specs.declared.builder.value_parser.ValueParser.{ValueParser}
+use Rattle.clap.specs.declared.builder.value_parser.ValueParser.TheVariants as vp
+use Rattle.aprs_log.specs.Moment.{moment_of}
+use Rattle.aprs_log.specs.Receiver.{is_name}
+use Rattle.aprs_tool.specs.declared.form.Form.{Form}
+use Rattle.aprs_tool.specs.declared.form.Form.TheVariants as form
+use Rattle.aprs_tool.specs.declared.form.Job.{Job}
+use Rattle.aprs_tool.specs.declared.form.Job.TheVariants as job
+use Rattle.aprs_tool.specs.declared.form.JobFault.{JobFault}
+use Rattle.aprs_tool.specs.declared.form.JobFault.TheVariants as fault
+use Rattle.aprs_tool.specs.declared.words.Task.{Task}
+use Rattle.aprs_tool.specs.declared.words.Task.TheVariants as task
+
+-- ---- the command
+
+abbrev pub form_names : List Text
+form_names = codes "text" ∷ codes "kiss" ∷ codes "log" ∷ codes "capture" ∷ []
+
+-- takes the names of the forms and no other word
+abbrev pub IsForms : ValueParser → Type 0
+IsForms p = (names : Bor (List (Bor Text))) × (p ≡ vp.Names names) × (map (λ s. s.now) names.now ≡ form_names)
+
+abbrev pub form_rule : ValueParser → Rule
+form_rule p = record (new_rule (codes "form")) { required = true; parser = Some p }
+
+abbrev pub option_rule : Text → Rule
+option_rule name = record (new_rule name) { long = Some name }
+
+abbrev pub input_rule : Rule
+input_rule = new_rule (codes "input")
+
+abbrev pub convert_app : ValueParser → App
+convert_app p = with_rule (with_rule (with_rule (with_rule (new_app (codes "convert")) (form_rule p)) input_rule)
+    (option_rule (codes "receiver"))) (option_rule (codes "moment"))
+
+abbrev pub check_app : App
+check_app = with_rule (new_app (codes "check")) input_rule
+
+abbrev pub program_app : ValueParser → App
+program_app p = with_subcommand (with_subcommand (new_app (codes "aprsbook")) (convert_app p).top) check_app.top
+
+-- ---- what is read of the matches
+
+abbrev pub receiver_of : Text → Option (List ℕ)
+receiver_of t = if is_name t then Some t else None
+
+abbrev pub plain_form_of : Form → Option Text → Option Text → Option Form
+plain_form_of f None None = Some f
+plain_form_of f _ _ = None
+
+abbrev pub capture_of : Option (List ℕ) → Option ℕ → Option Form
+capture_of (Some r) (Some m) = Some (form.Capture r m)
+capture_of _ _ = None
+
+abbrev pub capture_form_of : Option Text → Option Text → Option Form
+capture_form_of r m = capture_of (option_and_then receiver_of r) (option_and_then moment_of m)
+
+-- `capture` with both options, another form without them, and else none
+abbrev pub named_form_of : Text → Option Text → Option Text → Option Form
+named_form_of name r m = if bytes_eq name (codes "text") then plain_form_of form.Text r m
+    else (if bytes_eq name (codes "kiss") then plain_form_of form.Kiss r m
+    else (if bytes_eq name (codes "log") then plain_form_of form.Log r m
+    else capture_form_of r m))
+
+abbrev pub form_of : List Row → Option Form
+form_of rows = option_and_then (λ name. named_form_of name (first_of (codes "receiver") rows) (first_of (codes "moment") rows)) (first_of (codes "form") rows)
+
+abbrev pub task_named : Text → List Row → Option Task
+task_named name rows = if bytes_eq name (codes "convert") then option_map (λ f. task.Convert f) (form_of rows) else Some task.Check
+
+-- the task, or none where the options break the rule on capture; `convert text` without a command
+abbrev pub task_of : Option (Text × List Row) → Option Task
+task_of None = Some (task.Convert form.Text)
+task_of (Some p) = task_named p.0 p.1
+
+-- ---- the answer
+
+-- what a job asks for, apart from its inputs
+abbrev pub asked_by : Job → Task
+asked_by (job.Check inputs) = task.Check
+asked_by (job.Convert f inputs) = task.Convert f
+
+-- words are refused only where the command doesn't take them, and options only where they break the rule
+abbrev pub FailsSo : App → List Text → JobFault → Type 0
+FailsSo a words fault.Memory = Unit {0}
+FailsSo a words fault.Options = task_of (subcommand_of a words) ≡ None
+FailsSo a words (fault.Clap e) = takes a words ≡ true → ⊥
+
+abbrev pub AnswersWords : App → List Text → Result Job JobFault → Type 0
+AnswersWords a words r = MatchResult r (λ j. task_of (subcommand_of a words) ≡ Some (asked_by j)) (FailsSo a words)

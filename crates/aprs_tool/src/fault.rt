@@ -1,0 +1,40 @@
+//! Why a run ends before its end.
+ghost use Rattle.std.specs.Prelude.{◌≡◌};
+ghost use Rattle.aprs_tool.specs.Status.{status_of_fault};
+
+use aprs_log::{LogCause, LogFault};
+use thiserror::Error;
+
+/// What is wrong with an input.
+#[derive(Debug, Drop, Error)]
+pub enum InputFault {
+    /// A log, or a KISS stream at line 0.
+    #[error("line {}: {}", .0.line, .0.cause.name())]
+    Log(LogFault),
+}
+
+/// Why a run answers before its end.
+#[derive(Debug, Drop, Error)]
+pub enum RunFault {
+    /// An input's fault. Inputs are counted from 0.
+    #[error("input {index}: {fault}")]
+    Input { index: usize, fault: InputFault },
+    /// The output was refused.
+    #[error("cannot write")]
+    Write,
+}
+
+/// The program's exit status for a run's fault: 4 where memory was refused, 3 where the output was,
+/// and 1 for an input's own fault. Takes no memory.
+pub fn status_of(fault: &RunFault) -> u8
+    ensures { result ≡ status_of_fault fault.now }
+{
+    match fault {
+        RunFault::Input {
+            fault: InputFault::Log(fault),
+            ..
+        } if fault.cause == LogCause::Memory => 4,
+        RunFault::Input { .. } => 1,
+        RunFault::Write => 3,
+    }
+}

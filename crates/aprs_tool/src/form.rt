@@ -1,0 +1,35 @@
+//! What a log or a stream is converted to, and what the program is asked to do.
+use aprs_log::{Moment, Receiver};
+
+/// What a log is converted to, or that a KISS stream is captured as a log.
+#[derive(PartialEq, Eq, Drop)]
+pub enum Form {
+    /// The text of a monitor, a line for each frame.
+    Text,
+    /// A KISS stream of the frames.
+    Kiss,
+    /// The log again, in its one spelling.
+    Log,
+    /// The log of a KISS stream, as if each frame were heard by one receiver at one moment.
+    Capture { receiver: Receiver, moment: Moment },
+}
+
+/// What the program's words ask for, with the paths of its inputs, none for standard input.
+#[derive(Drop)]
+pub enum Job {
+    /// Tell of each line that holds no frame, and how many do.
+    Check(Vec<String>),
+    /// Convert a log or a stream.
+    Convert(Form, Vec<String>),
+}
+
+/// Why the program's words ask for nothing.
+#[derive(Drop)]
+pub enum JobFault {
+    /// The words are not those of the command, or ask for help: its text says so.
+    Clap(clap::Error),
+    /// The options of `capture` are missing, unreadable or given to another form.
+    Options,
+    /// Memory was refused.
+    Memory,
+}

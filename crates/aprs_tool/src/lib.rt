@@ -1,0 +1,12 @@
+//! Runs over logs and streams, and the words of the command line.
+#![tactic(auto)]
+
+mod fault;
+mod form;
+mod monitor;
+mod text;
+mod words;
+
+pub use fault::{InputFault, RunFault, status_of};
+pub use form::{Form, Job, JobFault};
+pub use words::{command_is_simple, job};

@@ -1,0 +1,85 @@
+//! A line of output, while it is put together.
+ghost use Rattle.std.specs.Prelude.{◌≡◌, ◌+◌, ◌*◌, ◌≤◌, ◌++◌, ◌∷◌, [], length};
+ghost use Rattle.std.specs.Fmt.{decimal};
+ghost use Rattle.arrayvec.specs.ArrayVec.{array_vec_len};
+ghost use Rattle.hex.specs.Hex.{encode_lower};
+ghost use Rattle.aprs_tool.specs.Shown.{is_shown, shown, shown_byte};
+
+use arrayvec::ArrayVec;
+
+/// The most bytes of a line that is put together before it is written.
+pub const ROOM: usize = 1200;
+
+/// Such a line. It takes no memory.
+pub type Text = ArrayVec<u8, ROOM>;
+
+/// Puts the bytes at the end.
+pub fn push_all(out: &mut Text, bytes: &[u8])
+    requires { array_vec_len out.old + length bytes.now ≤ 1200 }
+    ensures bytes { out.new.items ≡ out.old.items ++ bytes.now }
+    ensures len { array_vec_len out.new ≡ array_vec_len out.old + length bytes.now }
+{
+    if out.try_extend_from_slice(bytes).is_err() {
+        unreachable!()
+    }
+}
+
+/// Whether the byte is shown as itself.
+fn is_shown(b: u8) -> bool
+    ensures { result ≡ is_shown b }
+{
+    (b' '..=b'~').contains(&b) && b != b'\\'
+}
+
+/// Puts at the end what the byte is shown as.
+fn push_shown_byte(out: &mut Text, b: u8)
+    requires { array_vec_len out.old + 4 ≤ 1200 }
+    ensures shown { out.new.items ≡ out.old.items ++ shown_byte b }
+    ensures most { array_vec_len out.new ≤ array_vec_len out.old + 4 }
+{
+    if is_shown(b) {
+        out.push(b);
+    } else {
+        out.push(b'\\');
+        out.push(b'x');
+        push_hex(out, b);
+    }
+}
+
+/// Puts the byte's two lower case hexadecimal digits at the end.
+fn push_hex(out: &mut Text, b: u8)
+    requires { array_vec_len out.old + 2 ≤ 1200 }
+    ensures digits { out.new.items ≡ out.old.items ++ encode_lower (b ∷ []) }
+    ensures len { array_vec_len out.new ≡ array_vec_len out.old + 2 }
+{
+    let mut digits = [0; 2];
+    if hex::encode_to_slice([b], &mut digits).is_err() {
+        unreachable!()
+    }
+    push_all(out, &digits);
+}
+
+/// Puts at the end what the bytes are shown as.
+pub fn push_shown(out: &mut Text, bytes: &[u8])
+    requires { array_vec_len out.old + 4 * length bytes.now ≤ 1200 }
+    ensures shown { out.new.items ≡ out.old.items ++ shown bytes.now }
+    ensures most { array_vec_len out.new ≤ array_vec_len out.old + 4 * length bytes.now }
+{
+    for b in bytes {
+        push_shown_byte(out, *b);
+    }
+}
+
+/// Puts the number at the end, in decimal.
+pub fn push_decimal(out: &mut Text, n: u64)
+    requires { array_vec_len out.old + length (decimal n) ≤ 1200 }
+    ensures decimal { out.new.items ≡ out.old.items ++ decimal n }
+    ensures len { array_vec_len out.new ≡ array_vec_len out.old + length (decimal n) }
+{
+    if n < 10 {
+        out.push(b'0' + n as u8);
+        return;
+    }
+    push_decimal(out, n / 10);
+    out.push(b'0' + (n % 10) as u8);
+}

@@ -1,0 +1,215 @@
+//! The words of the command line.
+ghost use Rattle.std.specs.Prelude.{◌≡◌, ◌≢◌, ◌⊎◌, option_map, IfOk, map, true, false};
+ghost use Rattle.clap.specs.Words.{app_of, first_of, found_of, is_simple, kind_of, rows_of, rule_of, subcommand_rows_of};
+ghost use Rattle.clap.specs.declared.error.kind.ErrorKind.TheVariants.{OutOfMemory};
+ghost use Rattle.clap.specs.declared.builder.command.Command.TheViews.{out-Command};
+ghost use Rattle.clap.specs.declared.builder.value_parser.ValueParser.{ValueParser};
+ghost use Rattle.aprs_tool.specs.Words.{IsForms, AnswersWords, asked_by, form_rule, option_rule, check_app, convert_app, program_app, receiver_of, plain_form_of, capture_form_of, named_form_of, form_of, task_named, task_of};
+ghost use Rattle.aprs_log.specs.Moment.{moment_of};
+
+use crate::form::{Form, Job, JobFault};
+use aprs_log::{Moment, Receiver};
+use clap::error::ErrorKind;
+use clap::{Arg, ArgMatches, Command};
+use std::alloc::{AllocError, Global};
+
+static FORMS: [&str; 4] = ["text", "kiss", "log", "capture"];
+
+/// What is asked for, without the inputs.
+#[derive(Drop)]
+enum Task {
+    Check,
+    Convert(Form),
+}
+
+/// What the program's words ask for, its name being the first: a command of `check [INPUT]` and
+/// `convert FORM [INPUT]`, and `convert text` where no command is given. `convert capture` needs
+/// `--receiver NAME` and `--moment MOMENT`, and the other forms refuse both.
+pub fn job(alloc: Global, words: &[&str]) -> Result<Job, JobFault>
+    ensures { (p : ValueParser) × IsForms p
+        × AnswersWords (program_app p) (map (λ w. w.now) words.now) result }
+{
+    let command = match program(alloc) {
+        Ok(command) => command,
+        Err(_) => return Err(JobFault::Memory),
+    };
+    let matches = match command.try_get_matches_from(words) {
+        Ok(matches) => matches,
+        Err(error) => return Err(clap_fault(error)),
+    };
+    let Some(task) = read_task(&matches) else {
+        return Err(JobFault::Options);
+    };
+    match read_inputs(alloc, &matches) {
+        Ok(inputs) => Ok(with_inputs(task, inputs)),
+        Err(_) => Err(JobFault::Memory),
+    }
+}
+
+/// The program's command is simple, whatever memory its forms stand in.
+pub fn command_is_simple()
+    ensures { (p : ValueParser) → is_simple (program_app p) ≡ true }
+{
+}
+
+fn form_arg<'a>(alloc: Global) -> Arg<'a>
+    ensures rule { (p : ValueParser) × IsForms p × (rule_of result ≡ form_rule p) }
+    ensures local { result.global ≡ false }
+{
+    Arg::new(alloc, "form")
+        .required(true)
+        .value_parser(FORMS.as_slice())
+}
+
+fn option_arg<'a>(alloc: Global, name: &'static str) -> Arg<'a>
+    ensures rule { rule_of result ≡ option_rule name.entry.now }
+    ensures local { result.global ≡ false }
+{
+    Arg::new(alloc, name).long(name)
+}
+
+fn convert_command<'a>(alloc: Global) -> Result<Command<'a>, AllocError>
+    ensures app { IfOk result (λ c. (p : ValueParser) × IsForms p × (app_of c ≡ convert_app p)) }
+    ensures globals { IfOk result (λ c. (out-Command c).has_globals ≡ false) }
+{
+    let form = form_arg(alloc);
+    let input = Arg::new(alloc, "input");
+    let receiver = option_arg(alloc, "receiver");
+    let moment = option_arg(alloc, "moment");
+    let with_form = Command::new(alloc, "convert").arg(form)?;
+    let with_input = with_form.arg(input)?;
+    let with_receiver = with_input.arg(receiver)?;
+    with_receiver.arg(moment)
+}
+
+fn check_command<'a>(alloc: Global) -> Result<Command<'a>, AllocError>
+    ensures app { IfOk result (λ c. app_of c ≡ check_app) }
+    ensures globals { IfOk result (λ c. (out-Command c).has_globals ≡ false) }
+{
+    let input = Arg::new(alloc, "input");
+    Command::new(alloc, "check").arg(input)
+}
+
+fn program<'a>(alloc: Global) -> Result<Command<'a>, AllocError>
+    ensures { IfOk result (λ c. (p : ValueParser) × IsForms p × (app_of c ≡ program_app p)) }
+{
+    let convert = convert_command(alloc)?;
+    let check = check_command(alloc)?;
+    let with_convert = Command::new(alloc, "aprsbook").subcommand(convert)?;
+    with_convert.subcommand(check)
+}
+
+fn clap_fault(error: clap::Error) -> JobFault
+    ensures { ((kind_of error ≡ OutOfMemory) × (result ≡ JobFault.Memory))
+        ⊎ ((kind_of error ≢ OutOfMemory) × (result ≡ JobFault.Clap error)) }
+{
+    match error.kind() {
+        ErrorKind::OutOfMemory => JobFault::Memory,
+        _ => JobFault::Clap(error),
+    }
+}
+
+/// The first value of the argument.
+fn text_at<'a>(matches: &ArgMatches<'a>, id: &str) -> Option<&'a str>
+    ensures { option_map (λ s. s.now) result ≡ first_of id.now (rows_of (found_of matches.now)) }
+{
+    matches.get_str(id)
+}
+
+fn read_task(matches: &ArgMatches<'_>) -> Option<Task>
+    ensures { result ≡ task_of (subcommand_rows_of matches.now) }
+{
+    match matches.subcommand() {
+        None => Some(Task::Convert(Form::Text)),
+        Some((name, inner)) => read_named(name, inner),
+    }
+}
+
+fn read_named(name: &str, matches: &ArgMatches<'_>) -> Option<Task>
+    ensures { result ≡ task_named name.now (rows_of (found_of matches.now)) }
+{
+    if name == "convert" {
+        Some(Task::Convert(read_form(matches)?))
+    } else {
+        Some(Task::Check)
+    }
+}
+
+fn read_form(matches: &ArgMatches<'_>) -> Option<Form>
+    ensures { result ≡ form_of (rows_of (found_of matches.now)) }
+{
+    let name = text_at(matches, "form")?;
+    named_form(
+        name,
+        text_at(matches, "receiver"),
+        text_at(matches, "moment"),
+    )
+}
+
+fn named_form(name: &str, receiver: Option<&str>, moment: Option<&str>) -> Option<Form>
+    ensures { result ≡ named_form_of name.now (option_map (λ s. s.now) receiver.entry)
+        (option_map (λ s. s.now) moment.entry) }
+{
+    if name == "text" {
+        plain_form(Form::Text, receiver, moment)
+    } else if name == "kiss" {
+        plain_form(Form::Kiss, receiver, moment)
+    } else if name == "log" {
+        plain_form(Form::Log, receiver, moment)
+    } else {
+        capture_form(receiver, moment)
+    }
+}
+
+/// A form that refuses both options.
+fn plain_form(form: Form, receiver: Option<&str>, moment: Option<&str>) -> Option<Form>
+    ensures { result ≡ plain_form_of form (option_map (λ s. s.now) receiver.entry)
+        (option_map (λ s. s.now) moment.entry) }
+{
+    match (receiver, moment) {
+        (None, None) => Some(form),
+        _ => None,
+    }
+}
+
+/// The form that needs both options.
+fn capture_form(receiver: Option<&str>, moment: Option<&str>) -> Option<Form>
+    ensures { result ≡ capture_form_of (option_map (λ s. s.now) receiver.entry)
+        (option_map (λ s. s.now) moment.entry) }
+{
+    let receiver = read_receiver(receiver?)?;
+    let moment = read_moment(moment?)?;
+    Some(Form::Capture { receiver, moment })
+}
+
+fn read_receiver(text: &str) -> Option<Receiver>
+    ensures { result ≡ receiver_of text.now }
+{
+    Receiver::parse(text.as_bytes())
+}
+
+fn read_moment(text: &str) -> Option<Moment>
+    ensures { result ≡ moment_of text.now }
+{
+    Moment::parse(text.as_bytes())
+}
+
+/// The paths of the inputs, in order.
+fn read_inputs(alloc: Global, matches: &ArgMatches<'_>) -> Result<Vec<String>, AllocError> {
+    let mut inputs = Vec::new(alloc);
+    if let Some((_, inner)) = matches.subcommand() {
+        if let Some(input) = text_at(inner, "input") {
+            inputs.push(String::from_str(alloc, input)?)?;
+        }
+    }
+    Ok(inputs)
+}
+
+fn with_inputs(task: Task, inputs: Vec<String>) -> Job
+    ensures { asked_by result ≡ task }
+{
+    match task {
+        Task::Check => Job::Check(inputs),
+        Task::Convert(form) => Job::Convert(form, inputs),
+    }
+}
