@@ -3,3 +3,4 @@ pub mod Shown
 pub mod Monitor
 pub mod Status
 pub mod Words
+pub mod Run

@@ -1,0 +1,119 @@
+-- What a run writes and answers, as a function of what was got of its input.
+use Rattle.std.specs.Prelude.{◌≡◌, ℕ, ◌+◌, ◌≤◌, List, [], ◌∷◌, ◌++◌, Option, None, Some, Result, Ok, Err, MatchResult, IfSome, codes}
+use Rattle.std.specs.List.{flat_map}
+use Rattle.std.specs.Fmt.{decimal}
+use Rattle.std.specs.Io.KnownBytes.{Appends}
+use Rattle.aprs_kiss.specs.Device.{AppendsFront}
+use Rattle.aprs_kiss.specs.Judgement.{Judgement}
+use Rattle.aprs_kiss.specs.Spelling.{kiss_text}
+use Rattle.aprs_kiss.specs.Stream.{judgements_of}
+use Rattle.aprs_ax25.specs.FrameFault.{frame_of, parts_of}
+use Rattle.aprs_ax25.specs.declared.fault.FrameFault.{FrameFault}
+use Rattle.aprs_log.specs.Fault.{reason_name}
+use Rattle.aprs_log.specs.Line.{written_line}
+use Rattle.aprs_log.specs.LogAnswers.{Answers, log_answers, Gets}
+use Rattle.aprs_log.specs.Reception.{Heard}
+use Rattle.aprs_log.specs.declared.ending.Ending.{Ending}
+use Rattle.aprs_log.specs.declared.ending.Ending.TheVariants as ending
+use Rattle.aprs_log.specs.declared.fault.LogCause.TheVariants as cause
+use Rattle.aprs_log.specs.declared.fault.LogFault.{LogFault}
+use Rattle.aprs_log.specs.declared.line.Line.{Line}
+use Rattle.aprs_log.specs.declared.line.Line.TheVariants as line
+use Rattle.aprs_tool.specs.Monitor.{monitor_text}
+use Rattle.aprs_tool.specs.declared.fault.InputFault.TheVariants.{Log}
+use Rattle.aprs_tool.specs.declared.fault.RunFault.{RunFault}
+use Rattle.aprs_tool.specs.declared.fault.RunFault.TheVariants.{Input, Write}
+use Rattle.aprs_tool.specs.declared.form.Form.{Form}
+use Rattle.aprs_tool.specs.declared.form.Form.TheVariants as form
+
+abbrev pub ended_by_lf : List ℕ → List ℕ
+ended_by_lf text = text ++ 10 ∷ []
+
+-- ---- the lines of a conversion
+
+-- what is written for a reception; a capture's input has no lines
+abbrev pub reception_text : Form → Heard → List ℕ
+reception_text form.Text x = ended_by_lf (monitor_text (parts_of x.frame))
+reception_text form.Kiss x = kiss_text x.frame
+reception_text form.Log x = ended_by_lf (written_line x)
+reception_text (form.Capture r m) x = []
+
+-- a line that is passed over gives nothing
+abbrev pub line_text : Form → Line → List ℕ
+line_text f (line.Heard x) = reception_text f x
+line_text f (line.Passed reason) = []
+
+-- ---- the lines of a capture
+
+abbrev pub captured : List ℕ → ℕ → Result (List ℕ) FrameFault → List ℕ
+captured r m (Ok frame) = ended_by_lf (written_line (record { moment = m; receiver = r; frame = frame }))
+captured r m (Err fault) = []
+
+-- the log line of a data frame that is a UI frame; anything else gives nothing
+abbrev pub capture_text : List ℕ → ℕ → Judgement → List ℕ
+capture_text r m (Ok data_frame) = captured r m (frame_of data_frame.bytes)
+capture_text r m (Err fault) = []
+
+abbrev pub cut_short : Ending → Option LogFault
+cut_short ending.End = None
+cut_short ending.Read = Some (record { line = 0; cause = cause.Read })
+cut_short ending.TooLong = Some (record { line = 0; cause = cause.TooLong })
+
+-- ---- a conversion
+
+abbrev pub convert_text : Form → List ℕ → Ending → List ℕ
+convert_text (form.Capture r m) t c = flat_map (capture_text r m) (judgements_of t)
+convert_text f t c = flat_map (line_text f) (log_answers t c).given
+
+abbrev pub convert_fault : Form → List ℕ → Ending → Option LogFault
+convert_fault (form.Capture r m) t c = cut_short c
+convert_fault f t c = (log_answers t c).fault
+
+-- ---- what a check tells
+
+-- of each line from number n on that is passed over
+abbrev pub check_lines : ℕ → List Line → List ℕ
+check_lines n [] = []
+check_lines n (line.Heard x ∷ lines) = check_lines (n + 1) lines
+check_lines n (line.Passed reason ∷ lines) =
+    ended_by_lf (codes "line " ++ decimal n ++ codes " passed " ++ reason_name reason) ++ check_lines (n + 1) lines
+
+abbrev pub count_heard : List Line → ℕ
+count_heard [] = 0
+count_heard (line.Heard x ∷ lines) = count_heard lines + 1
+count_heard (line.Passed reason ∷ lines) = count_heard lines
+
+abbrev pub count_passed : List Line → ℕ
+count_passed [] = 0
+count_passed (line.Heard x ∷ lines) = count_passed lines
+count_passed (line.Passed reason ∷ lines) = count_passed lines + 1
+
+-- the totals, which a fault leaves out
+abbrev pub totals : Option LogFault → List Line → List ℕ
+totals None lines = ended_by_lf (codes "heard " ++ decimal (count_heard lines) ++ codes " passed " ++ decimal (count_passed lines))
+totals (Some fault) lines = []
+
+abbrev pub check_text : Answers → List ℕ
+check_text a = check_lines 1 a.given ++ totals a.fault a.given
+
+-- ---- how a run goes
+
+-- An input's fault comes after the whole text, and a refused output after a front of it. There is one
+-- input, number 0.
+abbrev pub FailsSo : RunFault → Option (List ℕ) → Option (List ℕ) → List ℕ → Option LogFault → Type 0
+FailsSo (Input index (Log f)) old new text fault = (index ≡ 0) × (fault ≡ Some f) × Appends old new text
+FailsSo Write old new text fault = AppendsFront old new text
+
+-- the run of a text and a fault writes and answers so
+abbrev pub RunsSo : Result (Unit {0}) RunFault → Option (List ℕ) → Option (List ℕ) → List ℕ → Option LogFault → Type 0
+RunsSo r old new text fault = MatchResult r (λ _. (fault ≡ None) × Appends old new text) (λ e. FailsSo e old new text fault)
+
+-- some bytes were got of the input, at most `limit`, and the run is that of their text and fault
+abbrev pub RunsOver : (List ℕ → Ending → List ℕ) → (List ℕ → Ending → Option LogFault) → ℕ → Option (List ℕ)
+    → Result (Unit {0}) RunFault → Option (List ℕ) → Option (List ℕ) → Type 0
+RunsOver text fault limit known r old new = IfSome known (λ input. (t : List ℕ) × (c : Ending) × Gets limit input t c × RunsSo r old new (text t c) (fault t c))
+
+-- the answer is a failed read of the input
+abbrev pub IsRead : RunFault → Type 0
+IsRead (Input index (Log f)) = f.cause ≡ cause.Read
+IsRead Write = ⊥
