@@ -1,13 +1,14 @@
 //! Lines of a log as they are written.
-ghost use Rattle.std.specs.Prelude.{◌≡◌, ◌≤◌, ◌+◌, ◌*◌, [], ◌∷◌, ◌++◌, length, OnOk, OnErr};
+ghost use Rattle.std.specs.Prelude.{◌≡◌, ◌≤◌, ◌+◌, ◌*◌, [], ◌∷◌, ◌++◌, length, Ok, OnOk, OnErr};
 ghost use Rattle.std.specs.Io.KnownBytes.{Appends};
 ghost use Rattle.arrayvec.specs.ArrayVec.{array_vec_len};
-ghost use Rattle.hex.specs.Hex.{encode_lower};
+ghost use Rattle.hex.specs.Hex.{decode_of, encode_lower};
 ghost use Rattle.aprs_kiss.specs.Device.{device_of, failures_of, Rose, AppendsFront};
 ghost use Rattle.aprs_kiss.specs.Spelling.{kiss_text, spelling_of_byte};
 ghost use Rattle.aprs_log.specs.Line.{line_of, written_line};
 
 use crate::bytes::push_all;
+use crate::line::Line;
 use crate::reception::Reception;
 use aprs_kiss::{Counted, WriteFault, send};
 use arrayvec::ArrayVec;
@@ -30,13 +31,16 @@ pub fn write_line<W: Write>(w: &mut Counted<W>, reception: &Reception) -> Result
     ensures prefix { OnErr result (AppendsFront (W.contents (device_of w.old)) (W.contents (device_of w.new)) (written_line reception.now ++ 10 ∷ [])) }
     ensures count { failures_of w.old ≤ failures_of w.new }
     ensures fault { OnErr result (Rose (failures_of w.old) (failures_of w.new)) }
+    // The line reads back as the reception.
+    ensures reads_back { line_of (written_line reception.now) ≡ Ok (Line.Heard reception.now) }
 {
     send(w, written(reception).as_slice())
 }
 
 /// The line and its LF.
 fn written(reception: &Reception) -> ArrayVec<u8, MAX_WRITTEN>
-    ensures { result.items ≡ written_line reception.now ++ 10 ∷ [] }
+    ensures line { result.items ≡ written_line reception.now ++ 10 ∷ [] }
+    ensures back { length (written_line reception.now) ≤ 8192 → line_of (written_line reception.now) ≡ Ok (Line.Heard reception.now) }
 {
     let mut line = ArrayVec::new();
     push_all(&mut line, &reception.moment().text());
@@ -82,6 +86,7 @@ fn push_hex(out: &mut ArrayVec<u8, MAX_WRITTEN>, bytes: &[u8])
     requires room { array_vec_len out.old + 2 * length bytes.now ≤ 1357 }
     ensures items { out.new.items ≡ out.old.items ++ encode_lower bytes.now }
     ensures len { array_vec_len out.new ≡ array_vec_len out.old + 2 * length bytes.now }
+    ensures back { decode_of (encode_lower bytes.now) ≡ Ok bytes.now }
 {
     let mut digits = [0; MAX_DIGITS];
     let digits = &mut digits[..2 * bytes.len()];
@@ -92,7 +97,8 @@ fn push_hex(out: &mut ArrayVec<u8, MAX_WRITTEN>, bytes: &[u8])
 /// Writes the digits of bytes.
 fn encode_to(bytes: &[u8], digits: &mut [u8])
     requires { length digits.old ≡ 2 * length bytes.now }
-    ensures { digits.new ≡ encode_lower bytes.now }
+    ensures digits { digits.new ≡ encode_lower bytes.now }
+    ensures back { decode_of (encode_lower bytes.now) ≡ Ok bytes.now }
 {
     hex::encode_to_slice(bytes, digits).unwrap();
 }
