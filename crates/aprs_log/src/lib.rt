@@ -13,6 +13,7 @@ mod line_bytes;
 mod moment;
 mod receiver;
 mod reception;
+mod refill;
 mod window;
 mod write;
 
