@@ -89,3 +89,24 @@ pub cut_at-after : (stop : ℕ) (text : List ℕ) (cut : Cut) → Some cut ≡ c
 cut_at-after stop text cut e =
     let len : length (cut.before ++ stop ∷ cut.after) ≡ length cut.before + (length cut.after + 1) = simp length-append (omega arith) in
     omega (arith, len, ap length (cut_at-parts stop text cut (sym e)))
+
+cut_len : (stop : ℕ) (text : List ℕ) (cut : Cut) → cut_at stop text ≡ Some cut → length text ≡ length cut.before + 1 + length cut.after
+cut_len stop text cut e =
+    let len : length (cut.before ++ stop ∷ cut.after) ≡ length cut.before + (length cut.after + 1) = simp length-append (omega arith) in
+    omega (arith, len, ap length (cut_at-parts stop text cut e))
+
+-- what is left once the first part and the byte are gone
+pub record Taken (stop : ℕ) (text : List ℕ) (cut : Cut) : Type 0 where
+  pub is : cut_at stop text ≡ Some cut
+  pub used : length cut.before + 1 ≤ length text
+  pub left : drop (length cut.before + 1) text ≡ cut.after
+
+pub taken : (stop : ℕ) (part text : List ℕ) (cut : Cut) → Some cut ≡ cut_at stop part → part ≡ text → Taken stop text cut
+taken stop part text cut e same =
+    let is : cut_at stop text ≡ Some cut = sym (e ∙ ap (cut_at stop) same) in
+    let parts = cut_at-parts stop text cut is in
+    record {
+      is = is;
+      used = omega (arith, cut_len stop text cut is);
+      left = ap (λ t. drop (length cut.before + 1) t) parts ∙ drop-append-add cut.before (stop ∷ cut.after) 1;
+    }

@@ -1,12 +1,13 @@
 -- The days of 1970 to 2099.
-use Rattle.std.proofs.Common.{◌≡◌, ℕ, ◌+◌, ◌-◌, ◌<◌, ◌≤◌, refl, arith, ℤ, pos, negsuc, unsigned_abs, ap, ◌+ℤ◌, ◌-ℤ◌, ◌≤ℤ◌, ◌<ℤ◌, ◌∙◌, sym, subst, inl, inr}
+use Rattle.std.proofs.Common.{◌≡◌, ℕ, zero, suc, Bool, true, false, cond, nat_lt, ◌+◌, ◌-◌, ◌<◌, ◌≤◌, refl, arith, ℤ, pos, negsuc, unsigned_abs, ap, ◌+ℤ◌, ◌-ℤ◌, ◌≤ℤ◌, ◌<ℤ◌, ◌∙◌, sym, subst, inl, inr}
 use Rattle.std.proofs.lemmas.Int.{by_lt_z}
 use Rattle.std.proofs.lemmas.Bool.{cases_lt}
+use Rattle.std.proofs.lemmas.Bool.Decides.{nat_tests}
 use Rattle.jiff_core.specs.Calendar.{day_count, days_from_civil, days_in_month, IsCivilDate}
-use Rattle.aprs_log.specs.Moment.{IsDay}
+use Rattle.aprs_log.specs.Moment.{IsDay, Day, next_day, day_after}
 use Rattle.jiff_core.proofs.SignedLemmas.{signed_arith}
 use Rattle.jiff_core.proofs.MarchLemmas.{day_count-early}
-use Rattle.jiff_core.proofs.CalendarLemmas.{day_count-epoch, days_from_civil-day_count, day_count-day, day_count-lt_month, day_count-lt_year, day_count-last_of_year, day_count-next_year}
+use Rattle.jiff_core.proofs.CalendarLemmas.{day_count-epoch, days_from_civil-day_count, day_count-day, day_count-lt_month, day_count-lt_year, day_count-last_of_year, day_count-next_year, day_count-next_month, days_in_month_bounds}
 
 day_count-2100 : day_count (pos 2100) 1 1 ≡ 4_419_435
 day_count-2100 = day_count-early (pos 2100) 12099 1 1 refl (omega arith) (omega arith) (omega arith)
@@ -142,3 +143,101 @@ one_date y m d y₂ m₂ d₂ h k e =
     let a = days_from_civil-day_count (pos y) m d in
     let b = days_from_civil-day_count (pos y₂) m₂ d₂ in
     same_count y m d y₂ m₂ d₂ h k (omega (arith, a, rw (← e) at b))
+
+-- ---- day after day
+
+-- the n-th day after 1970-01-01
+record IsNth (n : ℕ) (d : Day) : Type 0 where
+  from : 1970 ≤ d.year
+  month : (1 ≤ d.month) × (d.month ≤ 12)
+  day : (1 ≤ d.day) × (d.day ≤ days_in_month (pos d.year) d.month)
+  count : day_count (pos d.year) d.month d.day ≡ 4_371_953 + n
+
+first_month : (y m : ℕ) → m ≡ 1 → 31 ≤ days_in_month (pos y) m
+first_month y m e = grind (arith, nat_tests)
+
+last_month : (y m : ℕ) → m ≡ 12 → days_in_month (pos y) m ≡ 31
+last_month y m e = grind (arith, nat_tests)
+
+month_has_days : (y m : ℕ) → 1 ≤ days_in_month (pos y) m
+month_has_days y m = omega (arith, (days_in_month_bounds (pos y) m).1)
+
+next_in_month : (n : ℕ) (d : Day) → IsNth n d → d.day < days_in_month (pos d.year) d.month
+    → IsNth (n + 1) (record { year = d.year; month = d.month; day = d.day + 1 })
+next_in_month n d h lt = record {
+  from = h.from;
+  month = h.month;
+  day = (omega arith, omega arith);
+  count = omega (arith, h.count, day_count-day (pos d.year) d.month d.day (d.day + 1) h.day.0 (omega arith));
+}
+
+next_month : (n : ℕ) (d : Day) → IsNth n d → days_in_month (pos d.year) d.month ≤ d.day → d.month < 12
+    → IsNth (n + 1) (record { year = d.year; month = d.month + 1; day = 1 })
+next_month n d h ge lt = record {
+  from = h.from;
+  month = (omega arith, omega arith);
+  day = (omega arith, month_has_days d.year (d.month + 1));
+  count = omega (arith, h.count, h.day.1, ge, day_count-next_month (pos d.year) d.month h.month.0, day_count-day (pos d.year) d.month d.day 1 h.day.0 (omega arith));
+}
+
+end_of_year : (n y m k : ℕ) → m ≡ 12 → k ≡ 31 → day_count (pos y) m k ≡ 4_371_953 + n → day_count (pos (y + 1)) 1 1 ≡ 4_371_953 + (n + 1)
+end_of_year n y m k month day e =
+    let here = ap (λ m. day_count (pos y) m k) month ∙ ap (λ k. day_count (pos y) 12 k) day in
+    omega (arith, e, here, day_count-last_of_year (pos y), day_count-next_year (pos y) (pos (y + 1)) (omega (arith, signed_arith)) (omega (arith, signed_arith)))
+
+next_year : (n : ℕ) (d : Day) → IsNth n d → days_in_month (pos d.year) d.month ≤ d.day → 12 ≤ d.month
+    → IsNth (n + 1) (record { year = d.year + 1; month = 1; day = 1 })
+next_year n d h ge last =
+    let month : d.month ≡ 12 = omega (arith, h.month.1) in
+    let day : d.day ≡ 31 = omega (arith, h.day.1, last_month d.year d.month month) in
+    record {
+      from = omega (arith, h.from);
+      month = (omega arith, omega arith);
+      day = (omega arith, month_has_days (d.year + 1) 1);
+      count = end_of_year n d.year d.month d.day month day h.count;
+    }
+
+next_nth : (n : ℕ) (d : Day) → IsNth n d → IsNth (n + 1) (next_day d)
+next_nth n d h = by (nat_lt d.day (days_in_month (pos d.year) d.month)) refl (nat_lt d.month 12) refl
+  where
+    by : (a : Bool) → nat_lt d.day (days_in_month (pos d.year) d.month) ≡ a → (b : Bool) → nat_lt d.month 12 ≡ b
+        → IsNth (n + 1) (cond a (record { year = d.year; month = d.month; day = d.day + 1 })
+            (cond b (record { year = d.year; month = d.month + 1; day = 1 }) (record { year = d.year + 1; month = 1; day = 1 })))
+    by true e b f = next_in_month n d h (grind (arith, nat_tests))
+    by false e true f = next_month n d h (grind (arith, nat_tests)) (grind (arith, nat_tests))
+    by false e false f = next_year n d h (grind (arith, nat_tests)) (grind (arith, nat_tests))
+
+nth : (n : ℕ) → IsNth n (day_after n)
+unfolding day_after
+nth zero = record { from = omega arith; month = (omega arith, omega arith); day = (omega arith, month_has_days 1970 1); count = day_count-epoch }
+nth (suc n) = let P : ℕ → Type 0 = λ k. IsNth k (day_after (suc n)) in subst P (omega arith) (next_nth n (day_after n) (nth n))
+
+pub record NthDay (n : ℕ) (d : Day) : Type 0 where
+  pub date : IsDay d.year d.month d.day
+  pub number : pos n ≡ days_from_civil (pos d.year) d.month d.day
+
+nth_to : (n : ℕ) (d : Day) → IsNth n d → n < 47482 → d.year ≤ 2099
+nth_to n d h lt = elim (cases_lt 2099 d.year) [
+  | inl late ↦ absurd (omega (arith, day_count-2099, h.count, day_count-lt_year (pos 2099) 12 31 (pos d.year) d.month d.day (last_day 2099 (omega arith)) h.day.0 (omega (arith, signed_arith))))
+  | inr le ↦ le
+]
+
+nth_is : (n : ℕ) (d : Day) → IsNth n d → n < 47482 → NthDay n d
+nth_is n d h lt =
+    let high = nth_to n d h lt in
+    let k = days_from_civil-day_count (pos d.year) d.month d.day in
+    record {
+      date = (
+        h.from,
+        high,
+        (
+          (omega (arith, signed_arith, h.from, high), omega (arith, signed_arith, h.from, high)),
+          (omega (arith, signed_arith, h.month.0), omega (arith, signed_arith, h.month.1)),
+          (omega (arith, signed_arith, h.day.0), omega (arith, signed_arith, h.day.1)),
+        ),
+      );
+      number = omega (arith, signed_arith, k, h.count);
+    }
+
+pub day_after-is : (n : ℕ) → n < 47482 → NthDay n (day_after n)
+day_after-is n lt = nth_is n (day_after n) (nth n) lt

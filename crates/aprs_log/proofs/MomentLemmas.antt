@@ -5,8 +5,8 @@ use Rattle.std.specs.Str.{bytes_eq}
 use Rattle.std.proofs.lemmas.Slice.Eq.{bytes_eq-Decides}
 use Rattle.jiff_core.specs.Calendar.{days_from_civil, days_in_month, IsDate}
 use Rattle.jiff_core.proofs.SignedLemmas.{signed_arith}
-use Rattle.aprs_log.proofs.Days.{IsDay-number, one_date}
-use Rattle.aprs_log.specs.Moment.{Civil, civil_at, civil_text, digit_of, pair_at, two_digits, IsDay, IsCivil, is_date, is_time, is_civil, second_of_day, seconds_of, MomentText, moment_of}
+use Rattle.aprs_log.proofs.Days.{IsDay-number, one_date, NthDay, day_after-is}
+use Rattle.aprs_log.specs.Moment.{Civil, civil_at, civil_text, digit_of, pair_at, two_digits, IsDay, IsCivil, is_date, is_time, is_civil, second_of_day, seconds_of, MomentText, moment_of, day_after, civil_after, moment_text}
 
 -- a civil time whose parts have as many digits as a text has room for
 pub record FitsText (c : Civil) : Type 0 where
@@ -203,3 +203,25 @@ civil_text-moment c m h e = record {
   number = ap (λ n. pos n) (sym e) ∙ seconds_of-number c h;
   spelled = refl;
 }
+
+-- ---- the text as a function
+
+civil_after-day : (m : ℕ) → m ≤ 4102444799 → NthDay (m / 86400) (day_after (m / 86400))
+civil_after-day m h = day_after-is (m / 86400) (omega arith)
+
+-- each moment has the text that the function gives
+pub moment_text-is : (m : ℕ) → m ≤ 4102444799 → MomentText m (moment_text m)
+unfolding moment_text
+moment_text-is m h =
+    let n = m / 86400 in
+    let s = m % 86400 in
+    let d = civil_after-day m h in
+    let sum : 86400 * n + (s / 3600 * 3600 + s / 60 % 60 * 60 + s % 60) ≡ m = omega arith in
+    let number : pos (86400 * n + (s / 3600 * 3600 + s / 60 % 60 * 60 + s % 60)) ≡ (pos n *ℤ pos 86400) +ℤ pos (s / 3600 * 3600 + s / 60 % 60 * 60 + s % 60)
+        = omega (arith, signed_arith) in
+    record {
+      civil = civil_after m;
+      real = record { date = d.date; hour = omega arith; minute = omega arith; second = omega arith };
+      number = ap (λ k. pos k) (sym sum) ∙ number ∙ ap (λ z. (z *ℤ pos 86400) +ℤ pos (s / 3600 * 3600 + s / 60 % 60 * 60 + s % 60)) d.number;
+      spelled = refl;
+    }

@@ -3,15 +3,17 @@ use Rattle.std.proofs.Common.{◌≡◌, ◌≢◌, ℕ, ◌+◌, ◌-◌, ◌<�
 use Rattle.std.proofs.lemmas.Bool.Decides.{nat_tests}
 use Rattle.std.proofs.lemmas.List.{take_rest}
 use Rattle.std.proofs.Math.Seq.{drop-cons, take-length, drop-length}
-use Rattle.aprs_kiss.specs.Spelling.{HasNoEnd, is_frame_end}
+use Rattle.aprs_kiss.specs.Spelling.{HasNoEnd, is_frame_end, kiss_text}
 use Rattle.aprs_kiss.specs.Stream.{rest_of, pieces_of, is_nonempty, nonempty_pieces_of, judgements_of, EndsPiece}
 use Rattle.aprs_kiss.specs.Judgement.{Judgement, judgement_of}
 use Rattle.aprs_kiss.proofs.Pieces.{HasNoEnd-nil, HasNoEnd-append, HasNoEnd-one, pieces_of-end, rest_of-none, rest_of-end, cuts, judgements_of-append, judgements_of-empty, judgements_of-none}
 use Rattle.aprs_kiss.specs.Reader.{told_by}
 use Rattle.aprs_kiss.specs.declared.reader.Fed.{Fed}
 use Rattle.aprs_kiss.specs.declared.reader.Fed.TheVariants.{Nothing, Frame, Passed}
+use Rattle.aprs_kiss.proofs.ReadingBack.{begins_empty, read_back, read_whole}
+use Rattle.aprs_ax25.specs.FrameFault.{frame_of}
 use Rattle.aprs_log.specs.Bytes.{first_frame, has_other}
-use Rattle.aprs_log.specs.Line.{frame_in, only_frame}
+use Rattle.aprs_log.specs.Line.{frame_in, frame_or_reason, only_frame}
 use Rattle.aprs_log.specs.declared.fault.Reason.{Reason}
 use Rattle.aprs_log.specs.declared.fault.Reason.TheVariants as reason
 
@@ -215,3 +217,14 @@ pub fed_one : (bytes : List ℕ) (n : ℕ) (fed : Fed) (r : Result (List ℕ) Re
 fed_one bytes n Nothing r e f some alone = absurd cc
 fed_one bytes n (Frame port frame) r e f some alone = same_some r _ some ∙ told_one bytes n _ e f alone
 fed_one bytes n (Passed fault) r e f some alone = same_some r _ some ∙ told_one bytes n _ e f alone
+
+-- ---- what is written for a frame
+
+frame_in-judged : (bytes : List ℕ) (j : Judgement) → rest_of bytes ≡ [] → judgements_of bytes ≡ j ∷ [] → frame_in bytes ≡ only_frame (j ∷ [])
+frame_in-judged bytes j rest told = frame_in-ended bytes (ap is_nonempty rest) ∙ ap only_frame told
+
+-- it holds that frame
+pub frame_in-kiss_text : (frame : List ℕ) → length frame ≤ 1023 → frame_of frame ≡ Ok frame → frame_in (kiss_text frame) ≡ Ok frame
+frame_in-kiss_text frame len is =
+    let told = read_back [] frame begins_empty.1 len ∙ ap (λ js. js ++ Ok (record { port = 0; bytes = frame }) ∷ []) begins_empty.0 in
+    frame_in-judged (kiss_text frame) (Ok (record { port = 0; bytes = frame })) (read_whole [] frame) told ∙ ap frame_or_reason is

@@ -1,4 +1,5 @@
 -- Definitions that contracts of a log cite.
+pub mod Awaits
 pub mod Bytes
 pub mod Cut
 pub mod Fault

@@ -10,7 +10,7 @@ use Rattle.aprs_ax25.specs.FrameFault.{frame_of}
 use Rattle.aprs_ax25.specs.declared.fault.FrameFault.{FrameFault}
 use Rattle.aprs_log.specs.Cut.{Cut, cut_at}
 use Rattle.aprs_log.specs.Fault.{reason_of_pass, reason_of_frame}
-use Rattle.aprs_log.specs.Moment.{MomentText, moment_of}
+use Rattle.aprs_log.specs.Moment.{MomentText, moment_of, moment_text}
 use Rattle.aprs_log.specs.Receiver.{IsName, is_name}
 use Rattle.aprs_log.specs.Reception.{Heard}
 use Rattle.aprs_log.specs.declared.fault.LineFault.{LineFault}
@@ -78,8 +78,6 @@ pub record LineSyntax (l : List ℕ) : Type 0 where
 
 -- ---- the line that is written
 
--- l is the line of a reception, without its LF
-pub record IsWritten (x : Heard) (l : List ℕ) : Type 0 where
-  pub text : List ℕ
-  pub is_moment : MomentText x.moment text
-  pub spelled : l ≡ text ++ 32 ∷ x.receiver ++ 32 ∷ encode_lower (kiss_text x.frame)
+-- the line of a reception, without its LF
+abbrev pub written_line : Heard → List ℕ
+written_line x = moment_text x.moment ++ 32 ∷ x.receiver ++ 32 ∷ encode_lower (kiss_text x.frame)

@@ -1,5 +1,5 @@
 -- Moments and their texts.
-use Rattle.std.specs.Prelude.{◌≡◌, ℕ, ◌+◌, ◌-◌, ◌*◌, ◌/◌, ◌%◌, ◌<◌, ◌≤◌, ◌&&◌, min, Bool, if◌then◌else◌, List, [], ◌∷◌, ◌++◌, slice_index, Option, None, Some, nat_le, nat_lt, pos, unsigned_abs, ◌+ℤ◌, ◌*ℤ◌}
+use Rattle.std.specs.Prelude.{◌≡◌, ℕ, zero, suc, ◌+◌, ◌-◌, ◌*◌, ◌/◌, ◌%◌, ◌<◌, ◌≤◌, ◌&&◌, min, Bool, if◌then◌else◌, List, [], ◌∷◌, ◌++◌, slice_index, Option, None, Some, nat_le, nat_lt, pos, unsigned_abs, ◌+ℤ◌, ◌*ℤ◌}
 use Rattle.std.specs.Str.{bytes_eq}
 use Rattle.jiff_core.specs.Calendar.{IsDate, days_from_civil, days_in_month}
 
@@ -45,7 +45,40 @@ pub record MomentText (m : ℕ) (t : List ℕ) : Type 0 where
   pub number : pos m ≡ (days_from_civil (pos civil.year) civil.month civil.day *ℤ pos 86400) +ℤ pos (second_of_day civil)
   pub spelled : t ≡ civil_text civil
 
--- ---- the same as a function
+-- ---- a moment's one text, as a function
+
+pub record Day : Type 0 where
+  pub year : ℕ
+  pub month : ℕ
+  pub day : ℕ
+
+-- the day after this one
+abbrev pub next_day : Day → Day
+next_day d =
+    if nat_lt d.day (days_in_month (pos d.year) d.month) then record { year = d.year; month = d.month; day = d.day + 1 }
+    else (if nat_lt d.month 12 then record { year = d.year; month = d.month + 1; day = 1 }
+    else record { year = d.year + 1; month = 1; day = 1 })
+
+-- the day so many days after 1970-01-01
+unfoldable pub day_after : ℕ → Day
+day_after zero = record { year = 1970; month = 1; day = 1 }
+day_after (suc n) = next_day (day_after n)
+
+-- the civil time so many seconds after 1970-01-01T00:00:00Z
+abbrev pub civil_after : ℕ → Civil
+civil_after m = record {
+  year = (day_after (m / 86400)).year;
+  month = (day_after (m / 86400)).month;
+  day = (day_after (m / 86400)).day;
+  hour = m % 86400 / 3600;
+  minute = m % 86400 / 60 % 60;
+  second = m % 86400 % 60;
+}
+
+unfoldable pub moment_text : ℕ → List ℕ
+moment_text m = civil_text (civil_after m)
+
+-- ---- the moment of a text, as a function
 
 -- the value of a digit, and of another byte that of the digit next to it
 abbrev pub digit_of : ℕ → ℕ

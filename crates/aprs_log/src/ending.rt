@@ -16,6 +16,17 @@ pub enum Ending {
     TooLong,
 }
 
+/// What a reader of a log does next.
+#[derive(Clone, Copy, Debug, PartialEq, Eq)]
+pub enum State {
+    /// It gives lines.
+    Reading,
+    /// It tells the end.
+    Ended,
+    /// It tells a fault.
+    Failed(LogCause),
+}
+
 /// Why a log ends at `tail`, which stands after its last LF, unless it ends well.
 pub fn refuse_tail(tail: &[u8], ending: Ending) -> Option<LogCause>
     ensures { result ≡ tail_cause tail.now ending }

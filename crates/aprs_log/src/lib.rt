@@ -13,13 +13,16 @@ mod line_bytes;
 mod moment;
 mod receiver;
 mod reception;
+mod refill;
 mod window;
+mod write;
 
 pub use fault::{LineFault, LogCause, LogFault, Reason};
 pub use line::{Line, MAX_LINE, read_line};
 pub use moment::Moment;
 pub use receiver::Receiver;
 pub use reception::Reception;
+pub use write::write_line;
 
 /// The most bytes of input that a reader is asked to take.
 pub const MAX_INPUT: u64 = 1_073_741_824;

@@ -1,6 +1,6 @@
 //! Moments in whole seconds.
 ghost use Rattle.std.specs.Prelude.{◌≡◌, ◌↔◌, ℕ, ◌≤◌, List, SomeIff};
-ghost use Rattle.aprs_log.specs.Moment.{MomentText, moment_of};
+ghost use Rattle.aprs_log.specs.Moment.{MomentText, moment_of, moment_text};
 
 use crate::civil::CivilTime;
 use std::marker::Model;
@@ -62,6 +62,7 @@ impl Moment {
 
     /// The moment's one text, as `2024-05-01T12:00:00Z`. Takes no memory.
     pub fn text(&self) -> [u8; 20]
+        ensures value { result ≡ moment_text self.now }
         ensures exact { (t : List ℕ) → (t ≡ result) ↔ MomentText self.now t }
         ensures reads_back { moment_of result ≡ Some self.now }
     {

@@ -60,6 +60,17 @@ impl Reception {
     {
         &self.frame
     }
+
+    /// The same reception. Takes no memory.
+    pub fn copy(&self) -> Reception
+        ensures { result ≡ self.now }
+    {
+        Reception {
+            moment: self.moment,
+            receiver: self.receiver.copy(),
+            frame: self.frame.copy(),
+        }
+    }
 }
 
 impl Ord for Reception {

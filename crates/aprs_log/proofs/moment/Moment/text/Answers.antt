@@ -1,11 +1,14 @@
-use Rattle.std.proofs.Common.{◌≡◌, ℕ, List, sym, ◌∙◌, subst}
+use Rattle.std.proofs.Common.{◌≡◌, ℕ, List, sym, ◌∙◌, subst, arith}
 use Rattle.aprs_log.specs.Moment.{MomentText}
-use Rattle.aprs_log.proofs.MomentLemmas.{civil_text-moment, one_text, text-moment_of}
+use Rattle.aprs_log.proofs.MomentLemmas.{civil_text-moment, moment_text-is, one_text, text-moment_of}
 use Rattle.aprs_log.proofs.moment.Moment.text.Goals as goal
 
 spells : (c : goal.After-text) → MomentText c.args.self.now c.text.result
 spells c = subst (MomentText c.args.self.now) (sym c.text.ensures)
     (civil_text-moment c.of_seconds.result c.args.self.now c.of_seconds.ensures.real (c.of_seconds.ensures.number ∙ c.self.view_is))
+
+pub returns-clause-value : goal.returns-clause-value
+returns-clause-value c = one_text c.args.self.now c.text.result _ (spells c) (moment_text-is c.args.self.now (omega (arith, c.self.invariant, c.self.view_is)))
 
 pub returns-clause-exact : goal.returns-clause-exact
 returns-clause-exact c t = (

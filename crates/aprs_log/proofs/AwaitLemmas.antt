@@ -1,0 +1,131 @@
+-- Lemmas on what a reader of a log may still answer.
+use Rattle.std.proofs.Common.{◌≡◌, ℕ, ◌+◌, ◌-◌, ◌<◌, ◌≤◌, List, [], ◌∷◌, ◌++◌, length, take, drop, Option, None, Some, Ok, Err, IfSome, ◌⊎◌, inl, inr, refl, arith, sym, ap, ◌∙◌, append_assoc, append-nil, length-append, length-take, length-drop, take-append-drop}
+use Rattle.std.specs.Io.KnownBytes.{Consumes, IsAtEnd}
+use Rattle.std.proofs.lemmas.Bool.{cases_lt}
+use Rattle.aprs_log.specs.Cut.{Cut, cut_at}
+use Rattle.aprs_log.specs.Fault.{log_cause_of}
+use Rattle.aprs_log.specs.Line.{line_of}
+use Rattle.aprs_log.specs.LogAnswers.{Answers, EndsSo, Gets, answers_from, ended, fault_at, tail_cause, then_answers, then_given}
+use Rattle.aprs_log.specs.Awaits.{Awaited, AwaitsIn, EndsHere, fault_after}
+use Rattle.aprs_log.specs.declared.line.Line.{Line}
+use Rattle.aprs_log.specs.declared.fault.LineFault.{LineFault}
+use Rattle.aprs_log.specs.declared.fault.LogCause.{LogCause}
+use Rattle.aprs_log.specs.declared.fault.LogCause.TheVariants as cause
+use Rattle.aprs_log.specs.declared.ending.Ending.{Ending}
+use Rattle.aprs_log.specs.declared.ending.Ending.TheVariants as ending
+use Rattle.aprs_log.specs.declared.ending.State.TheVariants.{Reading, Ended, Failed}
+use Rattle.aprs_log.proofs.AnswerLemmas.{answers_from-line, answers_from-tail, answers_from-long, no_lf}
+
+-- ---- an input that is read to its end or to the limit
+
+record GetsWhole (left : ℕ) (input : List ℕ) : Type 0 where
+  text : List ℕ
+  ending : Ending
+  gets : Gets left input text ending
+
+gets_whole : (left : ℕ) (input : List ℕ) → GetsWhole left input
+gets_whole left input = elim (cases_lt left (length input)) [
+  | inl lt ↦ record {
+    text = take left input;
+    ending = ending.TooLong;
+    gets = record {
+      rest = drop left input;
+      whole = sym (take-append-drop left input);
+      ends = (simp length-drop (omega arith), simp length-take (omega arith));
+    };
+  }
+  | inr le ↦ record {
+    text = input;
+    ending = ending.End;
+    gets = record { rest = []; whole = sym (append-nil input); ends = (refl, le) };
+  }
+]
+
+-- an answer that doesn't depend on the bytes to come
+always : (known : Option (List ℕ)) (left line : ℕ) (held : List ℕ) (a : Answers)
+    → ((text : List ℕ) (c : Ending) → a ≡ answers_from (line + 1) (held ++ text) c) → AwaitsIn Reading known left line held a
+always None left line held a h = tt
+always (Some input) left line held a h = let g = gets_whole left input in
+    record { text = g.text; ending = g.ending; gets = g.gets; is = h g.text g.ending }
+
+-- ---- a line
+
+pub awaits_line : (known : Option (List ℕ)) (left line : ℕ) (held : List ℕ) (cut : Cut) (x : Line) (a : Answers) → cut_at 10 held ≡ Some cut
+    → Ok x ≡ line_of cut.before → AwaitsIn Reading known left (line + 1) cut.after a → AwaitsIn Reading known left line held (then_given x a)
+awaits_line None left line held cut x a e f w = tt
+awaits_line (Some input) left line held cut x a e f w = record {
+  text = w.text;
+  ending = w.ending;
+  gets = w.gets;
+  is = ap (λ a. then_given x a) w.is
+      ∙ ap (λ r. then_answers (line + 1) r (answers_from (line + 1 + 1) (cut.after ++ w.text) w.ending)) f
+      ∙ sym (answers_from-line (line + 1) held w.text w.ending cut e);
+}
+
+pub awaits_fault : (known : Option (List ℕ)) (left line : ℕ) (held : List ℕ) (cut : Cut) (f : LineFault) → cut_at 10 held ≡ Some cut
+    → Err f ≡ line_of cut.before → AwaitsIn Reading known left line held (ended (Some (fault_after line (log_cause_of f))))
+awaits_fault known left line held cut f e g = always known left line held _
+    (λ text c. ap (λ r. then_answers (line + 1) r (answers_from (line + 1 + 1) (cut.after ++ text) c)) g
+    ∙ sym (answers_from-line (line + 1) held text c cut e))
+
+-- ---- no whole line
+
+pub awaits_long : (known : Option (List ℕ)) (left line : ℕ) (held : List ℕ) → cut_at 10 held ≡ None → 8192 < length held
+    → AwaitsIn Reading known left line held (ended (Some (fault_after line cause.LongLine)))
+awaits_long known left line held none long = always known left line held _
+    (λ text c. sym (answers_from-long (line + 1) held text c (no_lf held none) long))
+
+pub awaits_end : (known : Option (List ℕ)) (left line : ℕ) (held : List ℕ) (c : Ending) → cut_at 10 held ≡ None → EndsHere c left known
+    → AwaitsIn Reading known left line held (ended (fault_at (line + 1) (tail_cause held c)))
+awaits_end None left line held c none ends = tt
+awaits_end (Some input) left line held c none ends = record {
+  text = [];
+  ending = c;
+  gets = ends;
+  is = sym (ap (λ t. answers_from (line + 1) t c) (append-nil held) ∙ answers_from-tail (line + 1) held c (no_lf held none));
+}
+
+-- ---- more bytes
+
+ends_more : (c : Ending) (left n : ℕ) (more text rest : List ℕ) → length more ≡ n → n ≤ left → EndsSo c (left - n) text rest
+    → EndsSo c left (more ++ text) rest
+ends_more ending.End left n more text rest len le h = (h.0, simp length-append (omega (arith, h.1)))
+ends_more ending.Read left n more text rest len le h = simp length-append (omega (arith, h))
+ends_more ending.TooLong left n more text rest len le h = (h.0, simp length-append (omega (arith, h.1)))
+
+pub awaits_more : (known after : Option (List ℕ)) (left n line : ℕ) (held more : List ℕ) (a : Answers) → Consumes known after more → length more ≡ n
+    → n ≤ left → AwaitsIn Reading after (left - n) line (held ++ more) a → AwaitsIn Reading known left line held a
+awaits_more None after left n line held more a took len le w = tt
+awaits_more (Some input) None left n line held more a took len le w = absurd took
+awaits_more (Some input) (Some rest) left n line held more a took len le w = record {
+  text = more ++ w.text;
+  ending = w.ending;
+  gets = record {
+    rest = w.gets.rest;
+    whole = took ∙ ap (λ l. more ++ l) w.gets.whole ∙ sym (append_assoc more w.text w.gets.rest);
+    ends = ends_more w.ending left n more w.text w.gets.rest len le w.gets.ends;
+  };
+  is = w.is ∙ ap (λ t. answers_from (line + 1) t w.ending) (append_assoc held more w.text);
+}
+
+-- ---- how an input ends
+
+pub ends_at_end : (known after : Option (List ℕ)) (left : ℕ) (more : List ℕ) → Consumes known after more → length more ≡ 0 → IsAtEnd after
+    → EndsHere ending.End left known
+ends_at_end None after left more took none end = tt
+ends_at_end (Some input) None left more took none end = absurd took
+ends_at_end (Some input) (Some rest) left [] took none end = record { rest = []; whole = took ∙ end; ends = (refl, omega arith) }
+ends_at_end (Some input) (Some rest) left (x ∷ more) took none end = absurd (omega (arith, none))
+
+pub ends_by_fault : (known : Option (List ℕ)) (left : ℕ) → EndsHere ending.Read left known
+ends_by_fault None left = tt
+ends_by_fault (Some input) left = record { rest = input; whole = refl; ends = omega arith }
+
+pub ends_past : (known after : Option (List ℕ)) (more : List ℕ) → Consumes known after more → 0 < length more → EndsHere ending.TooLong 0 known
+ends_past None after more took some = tt
+ends_past (Some input) None more took some = absurd took
+ends_past (Some input) (Some rest) more took some = record {
+  rest = input;
+  whole = refl;
+  ends = (let e : length (more ++ rest) ≡ length more + length rest = length-append more rest in omega (arith, ap length took, e), refl);
+}

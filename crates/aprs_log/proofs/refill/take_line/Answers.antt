@@ -1,0 +1,11 @@
+use Rattle.std.proofs.Common.{◌≡◌, ◌∙◌}
+use Rattle.aprs_log.proofs.CutLemmas.{taken}
+use Rattle.aprs_log.proofs.refill.take_line.Goals as goal
+
+pub consume-requires : goal.consume-requires
+consume-requires c = (taken 10 _ _ _ c.in-Some.ensures c.as_slice.ensures.value).used
+
+pub returns-clause-some : goal.returns-clause-some
+returns-clause-some c =
+    let t = taken 10 _ _ _ c.in-Some.ensures c.as_slice.ensures.value in
+    (_, t.is, c.read_line-answer.ensures.line, c.consume.ensures ∙ t.left)

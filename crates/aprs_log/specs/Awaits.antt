@@ -1,0 +1,35 @@
+-- What a reader of a log may still answer, by what it holds. No public contract cites this module by itself.
+use Rattle.std.specs.Prelude.{◌≡◌, ℕ, ◌+◌, List, [], ◌++◌, Option, None, Some, IfSome}
+use Rattle.aprs_log.specs.LogAnswers.{Answers, answers_from, ended, Gets}
+use Rattle.aprs_log.specs.declared.fault.LogCause.{LogCause}
+use Rattle.aprs_log.specs.declared.fault.LogFault.{LogFault}
+use Rattle.aprs_log.specs.declared.ending.Ending.{Ending}
+use Rattle.aprs_log.specs.declared.ending.State.{State}
+use Rattle.aprs_log.specs.declared.ending.State.TheVariants.{Reading, Ended, Failed}
+
+-- after `line` lines, `left` bytes may be read yet of the input, and `held` were read before them
+pub record Awaited (left line : ℕ) (held input : List ℕ) (a : Answers) : Type 0 where
+  pub text : List ℕ
+  pub ending : Ending
+  pub gets : Gets left input text ending
+  pub is : a ≡ answers_from (line + 1) (held ++ text) ending
+
+-- the fault with this cause in the line that follows
+abbrev pub fault_after : ℕ → LogCause → LogFault
+fault_after line c = record { line = line + 1; cause = c }
+
+-- these answers may come, where the input's bytes are known
+abbrev pub AwaitsIn : State → Option (List ℕ) → ℕ → ℕ → List ℕ → Answers → Type 0
+AwaitsIn Reading known left line held a = IfSome known (λ input. Awaited left line held input a)
+AwaitsIn Ended known left line held a = a ≡ ended None
+AwaitsIn (Failed c) known left line held a = a ≡ ended (Some (fault_after line c))
+
+-- the fault or the end that is answered from now on, if the reader has stopped
+abbrev pub stop_in : State → ℕ → Option (Option LogFault)
+stop_in Reading line = None
+stop_in Ended line = Some None
+stop_in (Failed c) line = Some (Some (fault_after line c))
+
+-- nothing of the input is got, since it ends so
+abbrev pub EndsHere : Ending → ℕ → Option (List ℕ) → Type 0
+EndsHere e left known = IfSome known (λ input. Gets left input [] e)

@@ -1,0 +1,104 @@
+//! Lines of a log as they are written.
+ghost use Rattle.std.specs.Prelude.{◌≡◌, ◌≤◌, ◌+◌, ◌*◌, [], ◌∷◌, ◌++◌, length, Ok, OnOk, OnErr};
+ghost use Rattle.std.specs.Io.KnownBytes.{Appends};
+ghost use Rattle.arrayvec.specs.ArrayVec.{array_vec_len};
+ghost use Rattle.hex.specs.Hex.{decode_of, encode_lower};
+ghost use Rattle.aprs_kiss.specs.Device.{device_of, failures_of, Rose, AppendsFront};
+ghost use Rattle.aprs_kiss.specs.Spelling.{kiss_text, spelling_of_byte};
+ghost use Rattle.aprs_log.specs.Line.{line_of, written_line};
+
+use crate::bytes::push_all;
+use crate::line::Line;
+use crate::reception::Reception;
+use aprs_kiss::{Counted, WriteFault, send};
+use arrayvec::ArrayVec;
+use std::io::Write;
+
+/// The most bytes that a frame of 328 bytes is sent as: each byte as two, and three around them.
+const MAX_SPELLED: usize = 659;
+
+/// The digits of so many bytes.
+const MAX_DIGITS: usize = 1318;
+
+/// The most bytes of a line that is written: a moment, a name, two spaces, the digits and the LF.
+const MAX_WRITTEN: usize = 1357;
+
+/// Writes a reception as a line of a log: its moment, its receiver and its frame between two frame
+/// ends, as lower case hexadecimal. At a fault a front of the line went out, and the count of the
+/// device's failures rose. Takes no memory.
+pub fn write_line<W: Write>(w: &mut Counted<W>, reception: &Reception) -> Result<(), WriteFault>
+    ensures sent { OnOk result (Appends (W.contents (device_of w.old)) (W.contents (device_of w.new)) (written_line reception.now ++ 10 ∷ [])) }
+    ensures prefix { OnErr result (AppendsFront (W.contents (device_of w.old)) (W.contents (device_of w.new)) (written_line reception.now ++ 10 ∷ [])) }
+    ensures count { failures_of w.old ≤ failures_of w.new }
+    ensures fault { OnErr result (Rose (failures_of w.old) (failures_of w.new)) }
+    // The line reads back as the reception.
+    ensures reads_back { line_of (written_line reception.now) ≡ Ok (Line.Heard reception.now) }
+{
+    send(w, written(reception).as_slice())
+}
+
+/// The line and its LF.
+fn written(reception: &Reception) -> ArrayVec<u8, MAX_WRITTEN>
+    ensures line { result.items ≡ written_line reception.now ++ 10 ∷ [] }
+    ensures back { length (written_line reception.now) ≤ 8192 → line_of (written_line reception.now) ≡ Ok (Line.Heard reception.now) }
+{
+    let mut line = ArrayVec::new();
+    push_all(&mut line, &reception.moment().text());
+    push_all(&mut line, b" ");
+    push_all(&mut line, reception.receiver().as_bytes());
+    push_all(&mut line, b" ");
+    let spelled = spelled(reception.frame().bytes());
+    push_hex(&mut line, spelled.as_slice());
+    push_all(&mut line, b"\n");
+    line
+}
+
+/// What goes out for a frame.
+fn spelled(frame: &[u8]) -> ArrayVec<u8, MAX_SPELLED>
+    requires { length frame.now ≤ 328 }
+    ensures { result.items ≡ kiss_text frame.now }
+{
+    let mut out = ArrayVec::new();
+    push_all(&mut out, &[0xC0, 0]);
+    for byte in frame {
+        push_spelled(&mut out, *byte);
+    }
+    push_all(&mut out, &[0xC0]);
+    out
+}
+
+/// Puts what goes out for a byte behind what is there.
+fn push_spelled(out: &mut ArrayVec<u8, MAX_SPELLED>, byte: u8)
+    requires { array_vec_len out.old + 2 ≤ 659 }
+    ensures value { out.new.items ≡ out.old.items ++ spelling_of_byte byte }
+    ensures len { array_vec_len out.new ≤ array_vec_len out.old + 2 }
+{
+    match byte {
+        0xC0 => push_all(out, &[0xDB, 0xDC]),
+        0xDB => push_all(out, &[0xDB, 0xDD]),
+        _ => push_all(out, &[byte]),
+    }
+}
+
+/// Puts the digits of bytes behind what is there.
+fn push_hex(out: &mut ArrayVec<u8, MAX_WRITTEN>, bytes: &[u8])
+    requires few { length bytes.now ≤ 659 }
+    requires room { array_vec_len out.old + 2 * length bytes.now ≤ 1357 }
+    ensures items { out.new.items ≡ out.old.items ++ encode_lower bytes.now }
+    ensures len { array_vec_len out.new ≡ array_vec_len out.old + 2 * length bytes.now }
+    ensures back { decode_of (encode_lower bytes.now) ≡ Ok bytes.now }
+{
+    let mut digits = [0; MAX_DIGITS];
+    let digits = &mut digits[..2 * bytes.len()];
+    encode_to(bytes, digits);
+    push_all(out, digits);
+}
+
+/// Writes the digits of bytes.
+fn encode_to(bytes: &[u8], digits: &mut [u8])
+    requires { length digits.old ≡ 2 * length bytes.now }
+    ensures digits { digits.new ≡ encode_lower bytes.now }
+    ensures back { decode_of (encode_lower bytes.now) ≡ Ok bytes.now }
+{
+    hex::encode_to_slice(bytes, digits).unwrap();
+}
