@@ -1,0 +1,11 @@
+pub mod Bytes
+pub mod Numeral
+pub mod Ending
+pub mod Stamp
+pub mod Symbol
+pub mod Coordinate
+pub mod Compressed
+pub mod Place
+pub mod Reading
+pub mod Reader
+pub mod Examples
