@@ -4,4 +4,8 @@ pub mod Numerals
 pub mod Coordinates
 pub mod Stamps
 pub mod Places
+pub mod Names
+pub mod Objects
+pub mod Statuses
+pub mod Messages
 pub mod Readings

@@ -1,13 +1,9 @@
 -- Bytes that are cut at the end of others.
-use Rattle.std.specs.Prelude.{◌≡◌, ℕ, Bool, true, false, ◌||◌, ◌==◌, List, [], ◌∷◌, ◌++◌}
+use Rattle.std.specs.Prelude.{◌≡◌, ℕ, Bool, true, false, List, [], ◌∷◌, ◌++◌}
 use Rattle.std.specs.List.{list_all}
 use Rattle.aprs_report.specs.declared.bytes.Ending.{Ending}
 use Rattle.aprs_report.specs.declared.bytes.Ending.TheVariants.{Spaces, LineEnds}
-use Rattle.aprs_report.specs.Bytes.{is_space}
-
--- CR or LF
-abbrev pub is_line_end : ℕ → Bool
-is_line_end b = b == 13 || b == 10
+use Rattle.aprs_report.specs.Bytes.{is_space, is_line_end}
 
 abbrev pub is_end : Ending → ℕ → Bool
 is_end Spaces b = is_space b

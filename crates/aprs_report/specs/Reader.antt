@@ -1,18 +1,20 @@
 -- The readers' steps as functions of byte lists. They stand in no public clause.
-use Rattle.std.specs.Prelude.{ℕ, ℤ, ◌+◌, ◌*◌, ◌-◌, ◌^◌, Bool, true, false, ◌&&◌, ◌||◌, nat_le, nat_lt, ◌==◌, if◌then◌else◌, List, [], ◌∷◌, length, take, drop, slice_index, Option, Some, None}
-use Rattle.std.specs.List.{list_all}
+use Rattle.std.specs.Prelude.{ℕ, ℤ, ◌+◌, ◌*◌, ◌-◌, ◌^◌, Bool, true, false, ◌&&◌, ◌||◌, nat_le, nat_lt, ◌==◌, if◌then◌else◌, List, [], ◌∷◌, length, take, drop, slice_index, Option, Some, None, codes}
+use Rattle.std.specs.List.{list_all, position as first_place}
 use Rattle.aprs_report.specs.declared.stamp.Stamp.{Stamp}
 use Rattle.aprs_report.specs.declared.symbol.Symbol.{Symbol}
 use Rattle.aprs_report.specs.declared.coordinate.Axis.{Axis}
 use Rattle.aprs_report.specs.declared.coordinate.Axis.TheVariants.{Latitude, Longitude}
 use Rattle.aprs_report.specs.declared.place.Place.{Place}
 use Rattle.aprs_report.specs.declared.place.Place.TheVariants.{Plain, Base91}
-use Rattle.aprs_report.specs.Bytes.{is_digit, is_capital, is_space}
+use Rattle.aprs_report.specs.Bytes.{is_digit, is_capital, is_printable, is_space, is_line_end}
 use Rattle.aprs_report.specs.Numeral.{is_digit_of, number}
 use Rattle.aprs_report.specs.Stamp.{is_mark}
 use Rattle.aprs_report.specs.Symbol.{is_table, is_code}
 use Rattle.aprs_report.specs.Coordinate.{limit, letter, signed, is_blank}
-use Rattle.aprs_report.specs.Reading.{Value, position}
+use Rattle.aprs_report.specs.Object.{is_item_mark}
+use Rattle.aprs_report.specs.Message.{is_id}
+use Rattle.aprs_report.specs.Reading.{Value, position, object, item, message, ack, rej, status}
 
 infixl 10 ◌>>=◌
 abbrev pub ◌>>=◌ : {A B : Type 0} → Option A → (A → Option B) → Option B
@@ -122,7 +124,7 @@ unfoldable pub place_of : List ℕ → Option (Place × Symbol × List ℕ)
 place_of [] = None
 place_of (b ∷ rest) = if is_digit b then plain_of (b ∷ rest) else compressed_of (b ∷ rest)
 
--- ---- reports
+-- ---- position reports
 
 unfoldable pub position_of : Bool → Option Stamp → List ℕ → Option Value
 position_of messaging stamp bytes = do
@@ -134,10 +136,112 @@ stamped_of messaging bytes = do
   s ← stamp_at bytes
   position_of messaging (Some s.0) s.1
 
+-- ---- objects and items
+
+abbrev pub name_of : List ℕ → Option (List ℕ)
+name_of field = guarded (list_all is_printable field && nat_lt 0 (length (cut_end is_space field))) (cut_end is_space field)
+
+-- the state that a mark names, and the rest
+abbrev pub state_of : ℕ → List ℕ → Option (Bool × List ℕ)
+state_of live [] = None
+state_of live (b ∷ rest) = if b == live then Some (true, rest) else guarded (b == 95) (false, rest)
+
+unfoldable pub object_of : List ℕ → Option Value
+object_of bytes = do
+  field ← chunk_of 9 bytes
+  name ← name_of field.0
+  state ← state_of 42 field.1
+  stamp ← stamp_at state.1
+  p ← place_of stamp.1
+  Some (object name state.0 stamp.0 p.0 p.1 p.2)
+
+-- the bytes before an item's mark, and the rest
+unfoldable pub item_field_of : List ℕ → Option (List ℕ × List ℕ)
+item_field_of bytes = do
+  end ← first_place is_item_mark bytes
+  guarded (nat_le 3 end && nat_le end 9) (take end bytes, drop end bytes)
+
+unfoldable pub item_of : List ℕ → Option Value
+item_of bytes = do
+  field ← item_field_of bytes
+  name ← name_of field.0
+  state ← state_of 33 field.1
+  p ← place_of state.1
+  Some (item name state.0 p.0 p.1 p.2)
+
+-- ---- statuses
+
+unfoldable pub utc_at : List ℕ → Option (Stamp × List ℕ)
+utc_at bytes = do
+  s ← stamp_at bytes
+  guarded (s.0.mark == 122) s
+
+abbrev pub status_with : List ℕ → Option (Stamp × List ℕ) → Value
+status_with bytes None = status None bytes
+status_with bytes (Some s) = status (Some s.0) s.1
+
+abbrev pub status_of : List ℕ → Value
+status_of bytes = status_with bytes (utc_at bytes)
+
+-- ---- messages
+
+abbrev pub is_colon : ℕ → Bool
+is_colon b = b == 58
+
+-- the addressee and the part
+unfoldable pub addressed_of : List ℕ → Option (List ℕ × List ℕ)
+addressed_of bytes = do
+  field ← chunk_of 9 bytes
+  name ← name_of field.0
+  colon ← byte_of is_colon field.1
+  Some (name, cut_end is_line_end colon.1)
+
+-- an id behind a word of three bytes
+unfoldable pub answer_at : List ℕ → List ℕ → Option (List ℕ)
+answer_at word [] = None
+answer_at word (x ∷ []) = None
+answer_at word (x ∷ y ∷ []) = None
+answer_at word (x ∷ y ∷ z ∷ id) =
+    guarded (x == slice_index word 0 && y == slice_index word 1 && z == slice_index word 2 && is_id id) id
+
+-- an id behind a brace at the front
+abbrev pub id_at : List ℕ → Option (List ℕ)
+id_at [] = None
+id_at (b ∷ id) = guarded (b == 123 && is_id id) id
+
+abbrev pub numbered_with : ℕ → Option (List ℕ) → Option (List ℕ × List ℕ) → Option (List ℕ × List ℕ)
+numbered_with b (Some id) later = Some ([], id)
+numbered_with b None later = later >>= λ x. Some (b ∷ x.0, x.1)
+
+unfoldable pub numbered_of : List ℕ → Option (List ℕ × List ℕ)
+numbered_of [] = None
+numbered_of (b ∷ bs) = numbered_with b (id_at (b ∷ bs)) (numbered_of bs)
+
+abbrev pub part_with : List ℕ → List ℕ → Option (List ℕ) → Option (List ℕ) → Option (List ℕ × List ℕ) → Value
+part_with addressee part (Some id) rejected numbered = ack addressee id
+part_with addressee part None (Some id) numbered = rej addressee id
+part_with addressee part None None (Some x) = message addressee x.0 (Some x.1)
+part_with addressee part None None None = message addressee part None
+
+abbrev pub part_of : List ℕ → List ℕ → Value
+part_of addressee part =
+    part_with addressee part (answer_at (codes "ack") part) (answer_at (codes "rej") part) (numbered_of part)
+
+unfoldable pub message_of : List ℕ → Option Value
+message_of bytes = do
+  a ← addressed_of bytes
+  Some (part_of a.0 a.1)
+
+-- ---- by the first byte
+
 unfoldable pub form_of : List ℕ → Option Value
 form_of [] = None
 form_of (b ∷ rest) =
     if b == 33 then position_of false None rest
     else (if b == 61 then position_of true None rest
     else (if b == 47 then stamped_of false rest
-    else (if b == 64 then stamped_of true rest else None)))
+    else (if b == 64 then stamped_of true rest
+    else (if b == 59 then object_of rest
+    else (if b == 41 then item_of rest
+    else (if b == 62 then Some (status_of rest)
+    else (if b == 58 then message_of rest else None)))))))

@@ -2,7 +2,7 @@
 
 ghost use Rattle.std.specs.Prelude.{◌≡◌, ◌≤◌, length};
 ghost use Rattle.std.specs.Option.{option_map};
-ghost use Rattle.aprs_report.specs.Bytes.{is_digit, is_capital};
+ghost use Rattle.aprs_report.specs.Bytes.{is_digit, is_capital, is_alphanumeric, is_printable};
 ghost use Rattle.aprs_report.specs.Reader.{chunk_of, cut_end};
 
 pub fn is_digit_byte(byte: u8) -> bool
@@ -15,6 +15,18 @@ pub fn is_capital_byte(byte: u8) -> bool
     ensures { result ≡ is_capital byte }
 {
     b'A' <= byte && byte <= b'Z'
+}
+
+pub fn is_alphanumeric_byte(byte: u8) -> bool
+    ensures { result ≡ is_alphanumeric byte }
+{
+    is_digit_byte(byte) || is_capital_byte(byte) || (b'a' <= byte && byte <= b'z')
+}
+
+pub fn is_printable_byte(byte: u8) -> bool
+    ensures { result ≡ is_printable byte }
+{
+    b' ' <= byte && byte <= b'~'
 }
 
 /// The first `N` bytes and the rest.

@@ -5,8 +5,11 @@ ghost use Rattle.std.specs.Option.{option_map};
 ghost use Rattle.aprs_report.specs.Reading.{view};
 ghost use Rattle.aprs_report.specs.Reader.{form_of};
 
+use crate::message::message;
+use crate::object::{item, object};
 use crate::position::{position, stamped};
 use crate::report::Report;
+use crate::status::status;
 
 /// The report of a field, if its bytes have a form.
 #[tactic(auto, unfolding(crate::specs::Reader::form_of))]
@@ -18,6 +21,10 @@ pub fn form(info: &[u8]) -> Option<Report<'_>>
         [b'=', rest @ ..] => position(true, None, rest),
         [b'/', rest @ ..] => stamped(false, rest),
         [b'@', rest @ ..] => stamped(true, rest),
+        [b';', rest @ ..] => object(rest),
+        [b')', rest @ ..] => item(rest),
+        [b'>', rest @ ..] => Some(status(rest)),
+        [b':', rest @ ..] => message(rest),
         _ => None,
     }
 }

@@ -4,13 +4,18 @@
 mod bytes;
 mod compressed;
 mod coordinate;
+mod examples;
 mod form;
 mod laws;
+mod message;
+mod name;
 mod numeral;
+mod object;
 mod place;
 mod position;
 mod report;
 mod stamp;
+mod status;
 mod symbol;
 
 pub use laws::each_field_has_one_reading;

@@ -20,6 +20,52 @@ pub enum Report<'a> {
         /// All that follows the position.
         comment: &'a [u8],
     },
+    /// The state and position of an object (chapter 11).
+    Object {
+        /// Without the spaces at its end.
+        name: &'a [u8],
+        /// Whether the object is live, or killed.
+        live: bool,
+        stamp: Stamp,
+        place: Place,
+        symbol: Symbol,
+        comment: &'a [u8],
+    },
+    /// The state and position of an item (chapter 11).
+    Item {
+        /// Without the spaces at its end.
+        name: &'a [u8],
+        /// Whether the item is live, or killed.
+        live: bool,
+        place: Place,
+        symbol: Symbol,
+        comment: &'a [u8],
+    },
+    /// A message (chapter 14).
+    Message {
+        /// Without the spaces at its end.
+        addressee: &'a [u8],
+        /// Without the id, and without CR and LF at its end.
+        text: &'a [u8],
+        /// One to five letters or digits.
+        id: Option<&'a [u8]>,
+    },
+    /// That a message with this id has arrived (chapter 14).
+    Ack {
+        addressee: &'a [u8],
+        id: &'a [u8],
+    },
+    /// That a message with this id was rejected (chapter 14).
+    Rej {
+        addressee: &'a [u8],
+        id: &'a [u8],
+    },
+    /// The status of the frame's source (chapter 16).
+    Status {
+        /// Day, hour and minute in UTC: its mark is `z`.
+        stamp: Option<Stamp>,
+        text: &'a [u8],
+    },
     /// Any other field.
     Raw,
 }
@@ -44,6 +90,12 @@ impl<'a> Report<'a> {
     {
         match self {
             Report::Position { .. } => "position",
+            Report::Object { .. } => "object",
+            Report::Item { .. } => "item",
+            Report::Message { .. } => "message",
+            Report::Ack { .. } => "ack",
+            Report::Rej { .. } => "rej",
+            Report::Status { .. } => "status",
             Report::Raw => "raw",
         }
     }

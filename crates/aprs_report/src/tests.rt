@@ -133,3 +133,170 @@ fn compressed_positions(rt: HostRuntime) {
     assert_eq!(rt; Report::read(b"=/5L!!<*e7> sT").kind(), "position");
     assert_eq!(rt; Report::read(b"").kind(), "raw");
 }
+
+const LEADER: &[u8] = b"LEADER";
+
+fn object(live: bool, comment: &[u8]) -> Report<'_> {
+    Report::Object {
+        name: LEADER,
+        live,
+        stamp: Stamp {
+            digits: *b"092345",
+            mark: b'z',
+        },
+        place: HERE,
+        symbol: CAR,
+        comment,
+    }
+}
+
+fn item(name: &[u8], code: u8) -> Report<'_> {
+    Report::Item {
+        name,
+        live: true,
+        place: HERE,
+        symbol: Symbol { table: b'/', code },
+        comment: b"",
+    }
+}
+
+#[test]
+fn objects_and_items(rt: HostRuntime) {
+    let table = [
+        (
+            b";LEADER   *092345z4903.50N/07201.75W>".as_slice(),
+            object(true, b""),
+        ),
+        (
+            b";LEADER   _092345z4903.50N/07201.75W>".as_slice(),
+            object(false, b""),
+        ),
+        (
+            b";LEADER   *092345z4903.50N/07201.75W>088/036".as_slice(),
+            object(true, b"088/036"),
+        ),
+        (
+            b";         *092345z4903.50N/07201.75W>".as_slice(),
+            Report::Raw,
+        ),
+        (
+            b")LEADER!4903.50N/07201.75W>".as_slice(),
+            item(LEADER, b'>'),
+        ),
+        (
+            b")AID #2!4903.50N/07201.75WA".as_slice(),
+            item(b"AID #2", b'A'),
+        ),
+        (b")AI!4903.50N/07201.75WA".as_slice(), Report::Raw),
+        (b")AID NUMBER!4903.50N/07201.75WA".as_slice(), Report::Raw),
+    ];
+    for (info, report) in table {
+        assert_eq!(rt; Report::read(info), report, "at {info:?}");
+    }
+    assert_eq!(rt; object(true, b"").kind(), "object");
+    assert_eq!(rt; item(LEADER, b'>').kind(), "item");
+}
+
+fn status(stamp: Option<Stamp>, text: &[u8]) -> Report<'_> {
+    Report::Status { stamp, text }
+}
+
+fn message<'a>(text: &'a [u8], id: Option<&'a [u8]>) -> Report<'a> {
+    Report::Message {
+        addressee: b"WU2Z",
+        text,
+        id,
+    }
+}
+
+#[test]
+fn statuses_and_messages(rt: HostRuntime) {
+    let ack = Report::Ack {
+        addressee: b"N0CALL-7",
+        id: b"003",
+    };
+    let rej = Report::Rej {
+        addressee: b"N0CALL-7",
+        id: b"003",
+    };
+    let table = [
+        (
+            b">Net Control Center".as_slice(),
+            status(None, b"Net Control Center"),
+            "status",
+        ),
+        (
+            b">092345zNet Control Center".as_slice(),
+            status(stamp(b'z'), b"Net Control Center"),
+            "status",
+        ),
+        (
+            b">092345/Net".as_slice(),
+            status(None, b"092345/Net"),
+            "status",
+        ),
+        (
+            b":WU2Z     :Testing".as_slice(),
+            message(b"Testing", None),
+            "message",
+        ),
+        (
+            b":WU2Z     :Testing{003".as_slice(),
+            message(b"Testing", Some(b"003")),
+            "message",
+        ),
+        (
+            b":WU2Z     :Testing{003\r".as_slice(),
+            message(b"Testing", Some(b"003")),
+            "message",
+        ),
+        (
+            b":WU2Z     :Testing{AB}CD".as_slice(),
+            message(b"Testing{AB}CD", None),
+            "message",
+        ),
+        (
+            b":WU2Z     :ack".as_slice(),
+            message(b"ack", None),
+            "message",
+        ),
+        (b":N0CALL-7 :ack003".as_slice(), ack, "ack"),
+        (b":N0CALL-7 :rej003".as_slice(), rej, "rej"),
+        (
+            b":KB2ICI-14:ack003".as_slice(),
+            Report::Ack {
+                addressee: b"KB2ICI-14",
+                id: b"003",
+            },
+            "ack",
+        ),
+    ];
+    for (info, report, kind) in table {
+        assert_eq!(rt; Report::read(info), report, "at {info:?}");
+        assert_eq!(rt; report.kind(), kind, "at {info:?}");
+    }
+}
+
+/// Mic-E, weather, telemetry, raw GPS, queries, capabilities, user-defined, third-party, grid
+/// locators, test data, no bytes, and a position behind other text.
+#[test]
+fn left_raw(rt: HostRuntime) {
+    let table = [
+        b"`(_fn\"Oj/".as_slice(),
+        b"'(_fn\"Oj/".as_slice(),
+        b"_10090556c220s004g005t077".as_slice(),
+        b"T#005,199,000,255,073,123,01101001".as_slice(),
+        b"$GPRMC,063909,A,3349.4302,N,11700.3721,W".as_slice(),
+        b"?APRS?".as_slice(),
+        b"<IGATE,MSG_CNT=43,LOC_CNT=14".as_slice(),
+        b"{Q1qwerty".as_slice(),
+        b"}WIDE1-1>APRS:>Hi".as_slice(),
+        b"[IO91SX]35 miles NNW of London".as_slice(),
+        b",191146,V,4214.2466,N,07303.5181,W".as_slice(),
+        b"".as_slice(),
+        b"xx!4903.50N/07201.75W-".as_slice(),
+    ];
+    for info in table {
+        assert_eq!(rt; Report::read(info), Report::Raw, "at {info:?}");
+    }
+}
