@@ -1,0 +1,11 @@
+pub mod Steps
+pub mod Cuts
+pub mod Numerals
+pub mod Coordinates
+pub mod Stamps
+pub mod Places
+pub mod Names
+pub mod Objects
+pub mod Statuses
+pub mod Messages
+pub mod Readings

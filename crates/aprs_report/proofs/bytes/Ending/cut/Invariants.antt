@@ -1,0 +1,13 @@
+use Rattle.std.proofs.Common.{◌≡◌, ◌≤◌, length}
+use Rattle.aprs_report.specs.Ending.{is_end}
+use Rattle.aprs_report.specs.Reader.{cut_end}
+use Rattle.aprs_report.proofs.bytes.Ending.cut.Given as goal
+
+abbrev pub invariant-loop-rest : goal.invariant-loop-rest
+invariant-loop-rest l = record {
+  same : cut_end (is_end l.self) l.rest ≡ cut_end (is_end l.self) l.bytes;
+  short : length l.rest ≤ length l.bytes;
+}
+
+abbrev pub decreases-loop-rest : goal.decreases-loop-rest
+decreases-loop-rest l = length l.rest

@@ -1,0 +1,17 @@
+use Rattle.std.proofs.Common.{refl}
+use Rattle.aprs_report.specs.Reader.{form_of, message_of, addressed_of, answer_at, numbered_of, cut_end}
+use Rattle.aprs_report.proofs.Readings.{computed}
+use Rattle.aprs_report.proofs.examples.message_examples.Goals as goal
+
+pub returns : goal.returns
+unfolding form_of message_of addressed_of answer_at numbered_of cut_end
+returns c = record {
+  numbered = computed refl;
+  line_end = computed refl;
+  last_brace = computed refl;
+  reply_ack = computed refl;
+  long_id = computed refl;
+  acks = computed refl;
+  rejects = computed refl;
+  ack_without_id = computed refl;
+}

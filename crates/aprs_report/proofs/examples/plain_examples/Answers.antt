@@ -1,0 +1,18 @@
+use Rattle.std.proofs.Common.{refl}
+use Rattle.aprs_report.specs.Reader.{form_of, position_of, place_of, plain_of, angle_of, minutes_of, numeral_of, cut_end}
+use Rattle.aprs_report.proofs.Readings.{computed}
+use Rattle.aprs_report.proofs.examples.plain_examples.Goals as goal
+
+pub returns : goal.returns
+unfolding form_of position_of place_of plain_of angle_of minutes_of numeral_of cut_end
+returns c = record {
+  full = computed refl;
+  to_tenths = computed refl;
+  to_degrees = computed refl;
+  only_in_longitude = computed refl;
+  corner = computed refl;
+  past_the_pole = computed refl;
+  sixty_minutes = computed refl;
+  digits_left = computed refl;
+  sixty_to_tens = computed refl;
+}

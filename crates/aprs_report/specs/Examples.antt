@@ -1,0 +1,42 @@
+-- Worked examples of the definitions.
+use Rattle.std.specs.Prelude.{ℕ, ℤ, pos, neg_ℤ, Bool, true, false, List, [], ◌∷◌, None, codes}
+use Rattle.aprs_report.specs.declared.stamp.Stamp.{Stamp}
+use Rattle.aprs_report.specs.declared.symbol.Symbol.{Symbol}
+use Rattle.aprs_report.specs.declared.place.Fraction.{Fraction}
+use Rattle.aprs_report.specs.declared.place.Place.{Place}
+use Rattle.aprs_report.specs.declared.place.Place.TheVariants.{Plain, Base91}
+use Rattle.aprs_report.specs.Reading.{Value, position, object, item, Reads}
+
+-- a field and what it reads as
+pub record Example (info : List ℕ) (v : Value) : Type 0 where
+  pub reads : Reads v info
+
+abbrev pub minus : ℕ → ℤ
+minus n = neg_ℤ (pos n)
+
+abbrev pub fraction : ℤ → ℕ → Fraction
+fraction n d = record { numerator = n; denominator = pos d }
+
+abbrev pub symbol_of : ℕ → ℕ → Symbol
+symbol_of table code = record { table = table; code = code }
+
+-- a house (symbol /-), without stamp, messages or comment
+abbrev pub plain : ℤ → ℤ → ℕ → Value
+plain lat lon ambiguity = position false None (Plain lat lon ambiguity) (symbol_of 47 45) []
+
+-- a car (symbol >) of a station that takes messages, with c, s and T " sT"
+abbrev pub compressed : ℕ → ℕ → ℕ → Value
+compressed table y x = position true None (Base91 y x (32 ∷ 115 ∷ 84 ∷ [])) (symbol_of table 62) []
+
+abbrev pub stamp_with : ℕ → Stamp
+stamp_with mark = record { digits = codes "092345"; mark = mark }
+
+-- 49 degrees 3.50 minutes north, 72 degrees 1.75 minutes west
+abbrev pub here : Place
+here = Plain (pos 294350) (minus 432175) 0
+
+abbrev pub leader : Bool → Value
+leader live = object (codes "LEADER") live (stamp_with 122) here (symbol_of 47 62) []
+
+abbrev pub leader_item : Bool → Value
+leader_item live = item (codes "LEADER") live here (symbol_of 47 62) []

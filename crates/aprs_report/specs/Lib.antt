@@ -1,0 +1,16 @@
+pub mod Bytes
+pub mod Ending
+pub mod Numeral
+pub mod Stamp
+pub mod Symbol
+pub mod Coordinate
+pub mod Compressed
+pub mod Place
+pub mod Name
+pub mod Position
+pub mod Object
+pub mod Status
+pub mod Message
+pub mod Reading
+pub mod Reader
+pub mod Examples

@@ -1,0 +1,247 @@
+-- The readers' steps as functions of byte lists. They stand in no public clause.
+use Rattle.std.specs.Prelude.{ℕ, ℤ, ◌+◌, ◌*◌, ◌-◌, ◌^◌, Bool, true, false, ◌&&◌, ◌||◌, nat_le, nat_lt, ◌==◌, if◌then◌else◌, List, [], ◌∷◌, length, take, drop, slice_index, Option, Some, None, codes}
+use Rattle.std.specs.List.{list_all, position as first_place}
+use Rattle.aprs_report.specs.declared.stamp.Stamp.{Stamp}
+use Rattle.aprs_report.specs.declared.symbol.Symbol.{Symbol}
+use Rattle.aprs_report.specs.declared.coordinate.Axis.{Axis}
+use Rattle.aprs_report.specs.declared.coordinate.Axis.TheVariants.{Latitude, Longitude}
+use Rattle.aprs_report.specs.declared.place.Place.{Place}
+use Rattle.aprs_report.specs.declared.place.Place.TheVariants.{Plain, Base91}
+use Rattle.aprs_report.specs.Bytes.{is_digit, is_capital, is_printable, is_space, is_line_end}
+use Rattle.aprs_report.specs.Numeral.{is_digit_of, number}
+use Rattle.aprs_report.specs.Stamp.{is_mark}
+use Rattle.aprs_report.specs.Symbol.{is_table, is_code}
+use Rattle.aprs_report.specs.Coordinate.{limit, letter, signed, is_blank}
+use Rattle.aprs_report.specs.Object.{is_item_mark}
+use Rattle.aprs_report.specs.Message.{is_id}
+use Rattle.aprs_report.specs.Reading.{Value, position, object, item, message, ack, rej, status}
+
+infixl 10 ◌>>=◌
+abbrev pub ◌>>=◌ : {A B : Type 0} → Option A → (A → Option B) → Option B
+(Some x) >>= f = f x
+None >>= f = None
+
+abbrev pub guarded : {A : Type 0} → Bool → A → Option A
+guarded b x = if b then Some x else None
+
+-- the first bytes and the rest
+abbrev pub chunk_of : ℕ → List ℕ → Option (List ℕ × List ℕ)
+chunk_of n bytes = if nat_lt (length bytes) n then None else Some (take n bytes, drop n bytes)
+
+-- a byte that passes and the rest
+abbrev pub byte_of : (ℕ → Bool) → List ℕ → Option (ℕ × List ℕ)
+byte_of p [] = None
+byte_of p (b ∷ rest) = guarded (p b) (b, rest)
+
+-- what is left when the bytes at the end that pass are cut
+abbrev pub kept : (ℕ → Bool) → ℕ → List ℕ → List ℕ
+kept p b [] = if p b then [] else b ∷ []
+kept p b (x ∷ xs) = b ∷ x ∷ xs
+
+unfoldable pub cut_end : (ℕ → Bool) → List ℕ → List ℕ
+cut_end p [] = []
+cut_end p (b ∷ bs) = kept p b (cut_end p bs)
+
+unfoldable pub numeral_of : ℕ → ℕ → List ℕ → Option ℕ
+numeral_of base nought text = guarded (list_all (is_digit_of base nought) text) (number base nought text)
+
+-- ---- stamps
+
+unfoldable pub stamp_at : List ℕ → Option (Stamp × List ℕ)
+stamp_at bytes = do
+  digits ← chunk_of 6 bytes
+  mark ← byte_of is_mark digits.1
+  guarded (list_all is_digit digits.0) (record { digits = digits.0; mark = mark.0 }, mark.1)
+
+-- ---- plain positions
+
+-- the four places of MM.hhN
+abbrev pub places_of : List ℕ → List ℕ
+places_of text = slice_index text 0 ∷ slice_index text 1 ∷ slice_index text 3 ∷ slice_index text 4 ∷ []
+
+abbrev pub ambiguity_of : List ℕ → ℕ
+ambiguity_of text = 4 - length (cut_end is_space (places_of text))
+
+unfoldable pub minutes_of : Axis → ℕ → List ℕ → Option ℕ
+minutes_of axis ambiguity places =
+    if list_all (is_blank axis) (drop (4 - ambiguity) places)
+    then (do
+      known ← numeral_of 10 48 (take (4 - ambiguity) places)
+      guarded (nat_lt (known * 10 ^ ambiguity) 6000) (known * 10 ^ ambiguity))
+    else None
+
+abbrev pub half_of : Axis → ℕ → Option Bool
+half_of axis b = if b == letter axis true then Some true else guarded (b == letter axis false) false
+
+unfoldable pub angle_of : Axis → ℕ → List ℕ → List ℕ → Option ℤ
+angle_of axis ambiguity degree_text text = do
+  degrees ← numeral_of 10 48 degree_text
+  minutes ← minutes_of axis ambiguity (places_of text)
+  is_negative ← half_of axis (slice_index text 5)
+  guarded (slice_index text 2 == 46 && nat_le (degrees * 6000 + minutes) (limit axis)) (signed is_negative (degrees * 6000 + minutes))
+
+unfoldable pub plain_of : List ℕ → Option (Place × Symbol × List ℕ)
+plain_of bytes = do
+  north ← chunk_of 2 bytes
+  north_minutes ← chunk_of 6 north.1
+  table ← byte_of is_table north_minutes.1
+  east ← chunk_of 3 table.1
+  east_minutes ← chunk_of 6 east.1
+  code ← byte_of is_code east_minutes.1
+  lat ← angle_of Latitude (ambiguity_of north_minutes.0) north.0 north_minutes.0
+  lon ← angle_of Longitude (ambiguity_of north_minutes.0) east.0 east_minutes.0
+  Some (Plain lat lon (ambiguity_of north_minutes.0), record { table = table.0; code = code.0 }, code.1)
+
+-- ---- compressed positions
+
+-- the table that a byte stands for
+abbrev pub table_named : ℕ → Option ℕ
+table_named b = if nat_le 97 b && nat_le b 106 then Some (b - 49) else guarded (b == 47 || b == 92 || is_capital b) b
+
+unfoldable pub named_of : List ℕ → Option (ℕ × List ℕ)
+named_of [] = None
+named_of (b ∷ rest) = do
+  table ← table_named b
+  Some (table, rest)
+
+unfoldable pub base91_of : List ℕ → Option ℕ
+base91_of text = do
+  n ← numeral_of 91 33 text
+  guarded (nat_le n 68566680) n
+
+unfoldable pub compressed_of : List ℕ → Option (Place × Symbol × List ℕ)
+compressed_of bytes = do
+  table ← named_of bytes
+  ys ← chunk_of 4 table.1
+  xs ← chunk_of 4 ys.1
+  code ← byte_of is_code xs.1
+  cst ← chunk_of 3 code.1
+  y ← base91_of ys.0
+  x ← base91_of xs.0
+  Some (Base91 y x cst.0, record { table = table.0; code = code.0 }, cst.1)
+
+unfoldable pub place_of : List ℕ → Option (Place × Symbol × List ℕ)
+place_of [] = None
+place_of (b ∷ rest) = if is_digit b then plain_of (b ∷ rest) else compressed_of (b ∷ rest)
+
+-- ---- position reports
+
+unfoldable pub position_of : Bool → Option Stamp → List ℕ → Option Value
+position_of messaging stamp bytes = do
+  p ← place_of bytes
+  Some (position messaging stamp p.0 p.1 p.2)
+
+unfoldable pub stamped_of : Bool → List ℕ → Option Value
+stamped_of messaging bytes = do
+  s ← stamp_at bytes
+  position_of messaging (Some s.0) s.1
+
+-- ---- objects and items
+
+abbrev pub name_of : List ℕ → Option (List ℕ)
+name_of field = guarded (list_all is_printable field && nat_lt 0 (length (cut_end is_space field))) (cut_end is_space field)
+
+-- the state that a mark names, and the rest
+abbrev pub state_of : ℕ → List ℕ → Option (Bool × List ℕ)
+state_of live [] = None
+state_of live (b ∷ rest) = if b == live then Some (true, rest) else guarded (b == 95) (false, rest)
+
+unfoldable pub object_of : List ℕ → Option Value
+object_of bytes = do
+  field ← chunk_of 9 bytes
+  name ← name_of field.0
+  state ← state_of 42 field.1
+  stamp ← stamp_at state.1
+  p ← place_of stamp.1
+  Some (object name state.0 stamp.0 p.0 p.1 p.2)
+
+-- the bytes before an item's mark, and the rest
+unfoldable pub item_field_of : List ℕ → Option (List ℕ × List ℕ)
+item_field_of bytes = do
+  end ← first_place is_item_mark bytes
+  guarded (nat_le 3 end && nat_le end 9) (take end bytes, drop end bytes)
+
+unfoldable pub item_of : List ℕ → Option Value
+item_of bytes = do
+  field ← item_field_of bytes
+  name ← name_of field.0
+  state ← state_of 33 field.1
+  p ← place_of state.1
+  Some (item name state.0 p.0 p.1 p.2)
+
+-- ---- statuses
+
+unfoldable pub utc_at : List ℕ → Option (Stamp × List ℕ)
+utc_at bytes = do
+  s ← stamp_at bytes
+  guarded (s.0.mark == 122) s
+
+abbrev pub status_with : List ℕ → Option (Stamp × List ℕ) → Value
+status_with bytes None = status None bytes
+status_with bytes (Some s) = status (Some s.0) s.1
+
+abbrev pub status_of : List ℕ → Value
+status_of bytes = status_with bytes (utc_at bytes)
+
+-- ---- messages
+
+abbrev pub is_colon : ℕ → Bool
+is_colon b = b == 58
+
+-- the addressee and the part
+unfoldable pub addressed_of : List ℕ → Option (List ℕ × List ℕ)
+addressed_of bytes = do
+  field ← chunk_of 9 bytes
+  name ← name_of field.0
+  colon ← byte_of is_colon field.1
+  Some (name, cut_end is_line_end colon.1)
+
+-- an id behind a word of three bytes
+unfoldable pub answer_at : List ℕ → List ℕ → Option (List ℕ)
+answer_at word [] = None
+answer_at word (x ∷ []) = None
+answer_at word (x ∷ y ∷ []) = None
+answer_at word (x ∷ y ∷ z ∷ id) =
+    guarded (x == slice_index word 0 && y == slice_index word 1 && z == slice_index word 2 && is_id id) id
+
+-- an id behind a brace at the front
+abbrev pub id_at : List ℕ → Option (List ℕ)
+id_at [] = None
+id_at (b ∷ id) = guarded (b == 123 && is_id id) id
+
+abbrev pub numbered_with : ℕ → Option (List ℕ) → Option (List ℕ × List ℕ) → Option (List ℕ × List ℕ)
+numbered_with b (Some id) later = Some ([], id)
+numbered_with b None later = later >>= λ x. Some (b ∷ x.0, x.1)
+
+unfoldable pub numbered_of : List ℕ → Option (List ℕ × List ℕ)
+numbered_of [] = None
+numbered_of (b ∷ bs) = numbered_with b (id_at (b ∷ bs)) (numbered_of bs)
+
+abbrev pub part_with : List ℕ → List ℕ → Option (List ℕ) → Option (List ℕ) → Option (List ℕ × List ℕ) → Value
+part_with addressee part (Some id) rejected numbered = ack addressee id
+part_with addressee part None (Some id) numbered = rej addressee id
+part_with addressee part None None (Some x) = message addressee x.0 (Some x.1)
+part_with addressee part None None None = message addressee part None
+
+abbrev pub part_of : List ℕ → List ℕ → Value
+part_of addressee part =
+    part_with addressee part (answer_at (codes "ack") part) (answer_at (codes "rej") part) (numbered_of part)
+
+unfoldable pub message_of : List ℕ → Option Value
+message_of bytes = do
+  a ← addressed_of bytes
+  Some (part_of a.0 a.1)
+
+-- ---- by the first byte
+
+unfoldable pub form_of : List ℕ → Option Value
+form_of [] = None
+form_of (b ∷ rest) =
+    if b == 33 then position_of false None rest
+    else (if b == 61 then position_of true None rest
+    else (if b == 47 then stamped_of false rest
+    else (if b == 64 then stamped_of true rest
+    else (if b == 59 then object_of rest
+    else (if b == 41 then item_of rest
+    else (if b == 62 then Some (status_of rest)
+    else (if b == 58 then message_of rest else None)))))))

@@ -1,0 +1,72 @@
+//! Kinds of bytes, and the ends of byte lists.
+
+ghost use Rattle.std.specs.Prelude.{◌≡◌, ◌≤◌, length};
+ghost use Rattle.std.specs.Option.{option_map};
+ghost use Rattle.aprs_report.specs.Bytes.{is_digit, is_capital, is_alphanumeric, is_printable};
+ghost use Rattle.aprs_report.specs.Reader.{chunk_of, cut_end};
+
+pub fn is_digit_byte(byte: u8) -> bool
+    ensures { result ≡ is_digit byte }
+{
+    b'0' <= byte && byte <= b'9'
+}
+
+pub fn is_capital_byte(byte: u8) -> bool
+    ensures { result ≡ is_capital byte }
+{
+    b'A' <= byte && byte <= b'Z'
+}
+
+pub fn is_alphanumeric_byte(byte: u8) -> bool
+    ensures { result ≡ is_alphanumeric byte }
+{
+    is_digit_byte(byte) || is_capital_byte(byte) || (b'a' <= byte && byte <= b'z')
+}
+
+pub fn is_printable_byte(byte: u8) -> bool
+    ensures { result ≡ is_printable byte }
+{
+    b' ' <= byte && byte <= b'~'
+}
+
+/// The first `N` bytes and the rest.
+pub fn chunk<const N: usize>(bytes: &[u8]) -> Option<(&[u8; N], &[u8])>
+    ensures { option_map (λ x. (x.0.now, x.1.now)) result ≡ chunk_of N bytes.now }
+{
+    bytes.split_first_chunk::<N>()
+}
+
+/// Which bytes are cut at the end of some others.
+#[derive(Clone, Copy)]
+pub enum Ending {
+    Spaces,
+    LineEnds,
+}
+
+impl Ending {
+    ghost use Rattle.aprs_report.specs.Ending.{is_end};
+
+    fn has(self, byte: u8) -> bool
+        ensures { result ≡ is_end self byte }
+    {
+        match self {
+            Ending::Spaces => byte == b' ',
+            Ending::LineEnds => byte == b'\r' || byte == b'\n',
+        }
+    }
+
+    /// The bytes without those of this kind at their end.
+    pub fn cut(self, bytes: &[u8]) -> &[u8]
+        ensures exact { result.now ≡ cut_end (is_end self) bytes.now }
+        ensures short { length result.now ≤ length bytes.now }
+    {
+        let mut rest = bytes;
+        while let [front @ .., last] = rest {
+            if !self.has(*last) {
+                return rest;
+            }
+            rest = front;
+        }
+        rest
+    }
+}

@@ -1,0 +1,124 @@
+//! Latitudes and longitudes of plain positions, in hundredths of minutes.
+
+ghost use Rattle.std.specs.Prelude.{◌≡◌, ◌<◌, ◌≤◌, ◌^◌, length, IfSome};
+ghost use Rattle.std.specs.List.{list_all};
+ghost use Rattle.aprs_report.specs.Reader.{ambiguity_of, minutes_of, half_of, angle_of};
+
+use crate::bytes::{Ending, is_digit_byte};
+use crate::numeral::numeral;
+
+#[derive(Clone, Copy)]
+pub enum Axis {
+    Latitude,
+    Longitude,
+}
+
+impl Axis {
+    ghost use Rattle.aprs_report.specs.Coordinate.{limit, letter, is_blank};
+
+    fn limit(self) -> u32
+        ensures { result ≡ limit self }
+    {
+        match self {
+            Axis::Latitude => 540_000,
+            Axis::Longitude => 1_080_000,
+        }
+    }
+
+    fn letter(self, is_negative: bool) -> u8
+        ensures { result ≡ letter self is_negative }
+    {
+        match (self, is_negative) {
+            (Axis::Latitude, true) => b'S',
+            (Axis::Latitude, false) => b'N',
+            (Axis::Longitude, true) => b'W',
+            (Axis::Longitude, false) => b'E',
+        }
+    }
+
+    /// Whether a byte may stand at an ambiguous place.
+    fn can_blank(self, byte: u8) -> bool
+        ensures { result ≡ is_blank self byte }
+    {
+        match self {
+            Axis::Latitude => byte == b' ',
+            Axis::Longitude => byte == b' ' || is_digit_byte(byte),
+        }
+    }
+
+    fn all_blank(self, places: &[u8]) -> bool
+        ensures { result ≡ list_all (is_blank self) places.now }
+    {
+        places.iter().all(|place| self.can_blank(*place))
+    }
+
+    /// Whether a letter names the negative half.
+    fn half(self, letter: u8) -> Option<bool>
+        ensures { result ≡ half_of self letter }
+    {
+        if letter == self.letter(true) {
+            Some(true)
+        } else if letter == self.letter(false) {
+            Some(false)
+        } else {
+            None
+        }
+    }
+}
+
+/// How many of the minutes' four digits are left out, counted from the right: 0 to 4.
+pub fn ambiguity(text: &[u8; 6]) -> u8
+    ensures exact { result ≡ ambiguity_of text.now }
+    ensures small { result ≤ 4 }
+{
+    let [tens, units, _, tenths, hundredths, _] = *text;
+    let places = [tens, units, tenths, hundredths];
+    4 - Ending::Spaces.cut(&places).len() as u8
+}
+
+fn power_of_ten(exponent: u8) -> u64
+    requires { exponent ≤ 4 }
+    ensures exact { result ≡ 10 ^ exponent }
+    ensures small { result ≤ 10000 }
+{
+    match exponent {
+        0 => 1,
+        1 => 10,
+        2 => 100,
+        3 => 1_000,
+        _ => 10_000,
+    }
+}
+
+#[tactic(auto, unfolding(crate::specs::Reader::minutes_of))]
+fn minutes(axis: Axis, ambiguity: u8, places: &[u8; 4]) -> Option<u64>
+    requires { ambiguity ≤ 4 }
+    ensures exact { result ≡ minutes_of axis ambiguity places.now }
+    ensures small { IfSome result (λ n. n < 6000) }
+{
+    let (known, blank) = places.split_at(4 - ambiguity as usize);
+    if !axis.all_blank(blank) {
+        return None;
+    }
+    let minutes = numeral(10, b'0', known)? as u64 * power_of_ten(ambiguity);
+    if minutes < 6_000 { Some(minutes) } else { None }
+}
+
+/// An angle, of its degrees and of `MM.hh` and its half's letter.
+#[tactic(auto, unfolding(crate::specs::Reader::angle_of))]
+pub fn angle(axis: Axis, ambiguity: u8, degrees: &[u8], text: &[u8; 6]) -> Option<i32>
+    requires places { ambiguity ≤ 4 }
+    requires digits { length degrees.now ≤ 3 }
+    ensures { result ≡ angle_of axis ambiguity degrees.now text.now }
+{
+    let [tens, units, point, tenths, hundredths, letter] = *text;
+    let degrees = numeral(10, b'0', degrees)? as u64;
+    let minutes = minutes(axis, ambiguity, &[tens, units, tenths, hundredths])?;
+    let is_negative = axis.half(letter)?;
+    let angle = degrees * 6_000 + minutes;
+    if point != b'.' || angle > axis.limit() as u64 {
+        return None;
+    }
+    let angle = angle as i32;
+    Some(if is_negative { -angle } else { angle })
+}

@@ -1,0 +1,30 @@
+//! The reports that have a form of their own.
+
+ghost use Rattle.std.specs.Prelude.{◌≡◌};
+ghost use Rattle.std.specs.Option.{option_map};
+ghost use Rattle.aprs_report.specs.Reading.{view};
+ghost use Rattle.aprs_report.specs.Reader.{form_of};
+
+use crate::message::message;
+use crate::object::{item, object};
+use crate::position::{position, stamped};
+use crate::report::Report;
+use crate::status::status;
+
+/// The report of a field, if its bytes have a form.
+#[tactic(auto, unfolding(crate::specs::Reader::form_of))]
+pub fn form(info: &[u8]) -> Option<Report<'_>>
+    ensures { option_map view result ≡ form_of info.now }
+{
+    match info {
+        [b'!', rest @ ..] => position(false, None, rest),
+        [b'=', rest @ ..] => position(true, None, rest),
+        [b'/', rest @ ..] => stamped(false, rest),
+        [b'@', rest @ ..] => stamped(true, rest),
+        [b';', rest @ ..] => object(rest),
+        [b')', rest @ ..] => item(rest),
+        [b'>', rest @ ..] => Some(status(rest)),
+        [b':', rest @ ..] => message(rest),
+        _ => None,
+    }
+}

@@ -1,0 +1,106 @@
+//! Messages, and what answers them.
+
+ghost use Rattle.std.specs.Prelude.{◌≡◌};
+ghost use Rattle.std.specs.Option.{option_map};
+ghost use Rattle.std.specs.List.{list_all};
+ghost use Rattle.aprs_report.specs.Bytes.{is_alphanumeric};
+ghost use Rattle.aprs_report.specs.Message.{is_id};
+ghost use Rattle.aprs_report.specs.Reading.{view};
+ghost use Rattle.aprs_report.specs.Reader.{addressed_of, answer_at, id_at, numbered_of, part_of, message_of};
+
+use crate::bytes::{Ending, chunk, is_alphanumeric_byte};
+use crate::name::name_in;
+use crate::report::Report;
+
+fn all_alphanumeric(bytes: &[u8]) -> bool
+    ensures { result ≡ list_all is_alphanumeric bytes.now }
+{
+    bytes.iter().all(|byte| is_alphanumeric_byte(*byte))
+}
+
+/// One to five letters or digits.
+fn can_be_id(bytes: &[u8]) -> bool
+    ensures { result ≡ is_id bytes.now }
+{
+    1 <= bytes.len() && bytes.len() <= 5 && all_alphanumeric(bytes)
+}
+
+/// The id behind a word.
+#[tactic(auto, unfolding(crate::specs::Reader::answer_at))]
+fn answer(word: [u8; 3], part: &[u8]) -> Option<&[u8]>
+    ensures { option_map (λ x. x.now) result ≡ answer_at word part.now }
+{
+    let [a, b, c] = word;
+    match part {
+        [x, y, z, id @ ..] if *x == a && *y == b && *z == c && can_be_id(id) => Some(id),
+        _ => None,
+    }
+}
+
+fn id_behind_brace(bytes: &[u8]) -> Option<&[u8]>
+    ensures { option_map (λ x. x.now) result ≡ id_at bytes.now }
+{
+    match bytes {
+        [b'{', id @ ..] if can_be_id(id) => Some(id),
+        _ => None,
+    }
+}
+
+/// The text before a brace and an id, and the id. No id has a brace, so this one is the last.
+fn numbered(part: &[u8]) -> Option<(&[u8], &[u8])>
+    ensures { option_map (λ x. (x.0.now, x.1.now)) result ≡ numbered_of part.now }
+{
+    for i in 0..part.len() {
+        match id_behind_brace(&part[i..]) {
+            Some(id) => return Some((&part[..i], id)),
+            None => {}
+        }
+    }
+    None
+}
+
+/// What a part says to an addressee.
+fn part_to<'a>(addressee: &'a [u8], part: &'a [u8]) -> Report<'a>
+    ensures { view result ≡ part_of addressee.now part.now }
+{
+    if let Some(id) = answer(*b"ack", part) {
+        return Report::Ack { addressee, id };
+    }
+    if let Some(id) = answer(*b"rej", part) {
+        return Report::Rej { addressee, id };
+    }
+    match numbered(part) {
+        Some((text, id)) => Report::Message {
+            addressee,
+            text,
+            id: Some(id),
+        },
+        None => Report::Message {
+            addressee,
+            text: part,
+            id: None,
+        },
+    }
+}
+
+/// The addressee and the part, without the line's end.
+#[tactic(auto, unfolding(crate::specs::Reader::addressed_of))]
+fn addressed(bytes: &[u8]) -> Option<(&[u8], &[u8])>
+    ensures { option_map (λ x. (x.0.now, x.1.now)) result ≡ addressed_of bytes.now }
+{
+    let (field, rest) = chunk::<9>(bytes)?;
+    let addressee = name_in(field)?;
+    match rest {
+        [b':', part @ ..] => Some((addressee, Ending::LineEnds.cut(part))),
+        _ => None,
+    }
+}
+
+/// A message or its answer, of the bytes behind its first.
+#[tactic(auto, unfolding(crate::specs::Reader::message_of))]
+pub fn message(bytes: &[u8]) -> Option<Report<'_>>
+    ensures { option_map view result ≡ message_of bytes.now }
+{
+    let (addressee, part) = addressed(bytes)?;
+    Some(part_to(addressee, part))
+}

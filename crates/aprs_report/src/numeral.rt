@@ -1,0 +1,28 @@
+//! Numbers written in digits.
+
+ghost use Rattle.std.specs.Prelude.{◌≡◌, ◌<◌, ◌≤◌, length, IfSome};
+ghost use Rattle.aprs_report.specs.Numeral.{is_digit_of};
+ghost use Rattle.aprs_report.specs.Reader.{numeral_of};
+
+fn is_digit_in(base: u32, nought: u8, byte: u8) -> bool
+    ensures { result ≡ is_digit_of base nought byte }
+{
+    nought <= byte && ((byte - nought) as u32) < base
+}
+
+/// The number that up to four digits spell, the most significant first. `nought` is the digit 0.
+pub fn numeral(base: u32, nought: u8, text: &[u8]) -> Option<u32>
+    requires base { base ≤ 91 }
+    requires four { length text.now ≤ 4 }
+    ensures exact { result ≡ numeral_of base nought text.now }
+    ensures small { IfSome result (λ n. n < 68574961) }
+{
+    let mut n = 0;
+    for byte in text {
+        if !is_digit_in(base, nought, *byte) {
+            return None;
+        }
+        n = n * base + (*byte - nought) as u32;
+    }
+    Some(n)
+}

@@ -1,0 +1,82 @@
+//! Objects and items.
+
+ghost use Rattle.std.specs.Prelude.{◌≡◌, ◌<◌, length, position, IfSome};
+ghost use Rattle.std.specs.Option.{option_map};
+ghost use Rattle.aprs_report.specs.Object.{is_item_mark};
+ghost use Rattle.aprs_report.specs.Reading.{view};
+ghost use Rattle.aprs_report.specs.Reader.{state_of, object_of, item_field_of, item_of};
+
+use crate::bytes::chunk;
+use crate::name::name_in;
+use crate::place::place_at_front;
+use crate::report::Report;
+use crate::stamp::stamp_at_front;
+
+/// Whether the mark at the front is that of a live one or `_`, and the rest.
+fn state_at_front(live: u8, bytes: &[u8]) -> Option<(bool, &[u8])>
+    ensures { option_map (λ x. (x.0, x.1.now)) result ≡ state_of live bytes.now }
+{
+    match bytes {
+        [mark, rest @ ..] if *mark == live => Some((true, rest)),
+        [b'_', rest @ ..] => Some((false, rest)),
+        _ => None,
+    }
+}
+
+/// An object, of the bytes behind its first.
+#[tactic(auto, unfolding(crate::specs::Reader::object_of))]
+pub fn object(bytes: &[u8]) -> Option<Report<'_>>
+    ensures { option_map view result ≡ object_of bytes.now }
+{
+    let (field, rest) = chunk::<9>(bytes)?;
+    let name = name_in(field)?;
+    let (live, rest) = state_at_front(b'*', rest)?;
+    let (stamp, rest) = stamp_at_front(rest)?;
+    let (place, symbol, comment) = place_at_front(rest)?;
+    Some(Report::Object {
+        name,
+        live,
+        stamp,
+        place,
+        symbol,
+        comment,
+    })
+}
+
+fn place_of_mark(bytes: &[u8]) -> Option<usize>
+    ensures exact { result ≡ position is_item_mark bytes.now }
+    ensures within { IfSome result (λ i. i < length bytes.now) }
+{
+    bytes.iter().position(|byte| *byte == b'!' || *byte == b'_')
+}
+
+/// An item's name as it stands before the mark, and the rest.
+#[tactic(auto, unfolding(crate::specs::Reader::item_field_of))]
+fn item_field(bytes: &[u8]) -> Option<(&[u8], &[u8])>
+    ensures { option_map (λ x. (x.0.now, x.1.now)) result ≡ item_field_of bytes.now }
+{
+    let end = place_of_mark(bytes)?;
+    if 3 <= end && end <= 9 {
+        Some(bytes.split_at(end))
+    } else {
+        None
+    }
+}
+
+/// An item, of the bytes behind its first.
+#[tactic(auto, unfolding(crate::specs::Reader::item_of))]
+pub fn item(bytes: &[u8]) -> Option<Report<'_>>
+    ensures { option_map view result ≡ item_of bytes.now }
+{
+    let (field, rest) = item_field(bytes)?;
+    let name = name_in(field)?;
+    let (live, rest) = state_at_front(b'!', rest)?;
+    let (place, symbol, comment) = place_at_front(rest)?;
+    Some(Report::Item {
+        name,
+        live,
+        place,
+        symbol,
+        comment,
+    })
+}

@@ -1,0 +1,127 @@
+//! Positions' places.
+
+ghost use Rattle.std.specs.Prelude.{◌≡◌};
+ghost use Rattle.std.specs.Option.{option_map};
+ghost use Rattle.aprs_report.specs.Reader.{plain_of, compressed_of, place_of};
+
+use crate::bytes::{chunk, is_digit_byte};
+use crate::compressed::base91;
+use crate::coordinate::{Axis, ambiguity, angle};
+use crate::symbol::{Symbol, code_at_front, compressed_table_at_front, table_at_front};
+
+/// An exact fraction, not reduced.
+#[derive(Clone, Copy, Debug, PartialEq, Eq)]
+pub struct Fraction {
+    pub numerator: i64,
+    pub denominator: i64,
+}
+
+/// Where a report places its subject.
+#[derive(Clone, Copy, Debug, PartialEq, Eq)]
+pub enum Place {
+    /// Written in degrees and minutes (APRS Protocol Reference 1.0.1, chapter 6).
+    Plain {
+        /// Hundredths of minutes north, -540000 to 540000.
+        lat: i32,
+        /// Hundredths of minutes east, -1080000 to 1080000.
+        lon: i32,
+        /// How many digits of the minutes are left out, from the right: 0 to 4. They are read as 0.
+        ambiguity: u8,
+    },
+    /// Compressed in base 91 (APRS Protocol Reference 1.0.1, chapter 9).
+    Base91 {
+        /// Down from the north pole, in 380926ths of a degree: 0 to 68566680.
+        y: u32,
+        /// East from 180 degrees west, in 190463ths of a degree: 0 to 68566680.
+        x: u32,
+        /// The bytes c, s and T, as they stand.
+        cst: [u8; 3],
+    },
+}
+
+impl Place {
+    ghost use Rattle.aprs_report.specs.Place.{latitude_of, longitude_of};
+
+    /// The latitude in degrees, south negative. Takes no memory.
+    pub fn lat(&self) -> Fraction
+        ensures { result ≡ latitude_of self.now }
+    {
+        match *self {
+            Place::Plain { lat, .. } => Fraction {
+                numerator: lat as i64,
+                denominator: 6_000,
+            },
+            Place::Base91 { y, .. } => Fraction {
+                numerator: 34_283_340 - y as i64,
+                denominator: 380_926,
+            },
+        }
+    }
+
+    /// The longitude in degrees, west negative. Takes no memory.
+    pub fn lon(&self) -> Fraction
+        ensures { result ≡ longitude_of self.now }
+    {
+        match *self {
+            Place::Plain { lon, .. } => Fraction {
+                numerator: lon as i64,
+                denominator: 6_000,
+            },
+            Place::Base91 { x, .. } => Fraction {
+                numerator: x as i64 - 34_283_340,
+                denominator: 190_463,
+            },
+        }
+    }
+}
+
+#[tactic(auto, unfolding(crate::specs::Reader::plain_of))]
+fn plain_at_front(bytes: &[u8]) -> Option<(Place, Symbol, &[u8])>
+    ensures { option_map (λ x. (x.0, x.1, x.2.now)) result ≡ plain_of bytes.now }
+{
+    let (north, rest) = chunk::<2>(bytes)?;
+    let (north_minutes, rest) = chunk::<6>(rest)?;
+    let (table, rest) = table_at_front(rest)?;
+    let (east, rest) = chunk::<3>(rest)?;
+    let (east_minutes, rest) = chunk::<6>(rest)?;
+    let (code, rest) = code_at_front(rest)?;
+    let ambiguity = ambiguity(north_minutes);
+    let lat = angle(Axis::Latitude, ambiguity, north, north_minutes)?;
+    let lon = angle(Axis::Longitude, ambiguity, east, east_minutes)?;
+    let place = Place::Plain {
+        lat,
+        lon,
+        ambiguity,
+    };
+    Some((place, Symbol { table, code }, rest))
+}
+
+#[tactic(auto, unfolding(crate::specs::Reader::compressed_of))]
+fn compressed_at_front(bytes: &[u8]) -> Option<(Place, Symbol, &[u8])>
+    ensures { option_map (λ x. (x.0, x.1, x.2.now)) result ≡ compressed_of bytes.now }
+{
+    let (table, rest) = compressed_table_at_front(bytes)?;
+    let (y_text, rest) = chunk::<4>(rest)?;
+    let (x_text, rest) = chunk::<4>(rest)?;
+    let (code, rest) = code_at_front(rest)?;
+    let (cst, rest) = chunk::<3>(rest)?;
+    let y = base91(y_text)?;
+    let x = base91(x_text)?;
+    Some((
+        Place::Base91 { y, x, cst: *cst },
+        Symbol { table, code },
+        rest,
+    ))
+}
+
+/// The position that some bytes begin with, its symbol, and the rest.
+#[tactic(auto, unfolding(crate::specs::Reader::place_of))]
+pub fn place_at_front(bytes: &[u8]) -> Option<(Place, Symbol, &[u8])>
+    ensures { option_map (λ x. (x.0, x.1, x.2.now)) result ≡ place_of bytes.now }
+{
+    match bytes {
+        [] => None,
+        [first, ..] if is_digit_byte(*first) => plain_at_front(bytes),
+        _ => compressed_at_front(bytes),
+    }
+}

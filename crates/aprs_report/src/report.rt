@@ -1,0 +1,102 @@
+//! Which report an information field is.
+
+ghost use Rattle.std.specs.Prelude.{◌≡◌};
+
+use crate::form::form;
+use crate::place::Place;
+use crate::stamp::Stamp;
+use crate::symbol::Symbol;
+
+/// What an information field says. Its slices are borrowed from the field.
+#[derive(Clone, Copy, Debug, PartialEq, Eq)]
+pub enum Report<'a> {
+    /// The position of the frame's source (APRS Protocol Reference 1.0.1, chapters 6, 8 and 9).
+    Position {
+        /// Whether the station can take messages.
+        messaging: bool,
+        stamp: Option<Stamp>,
+        place: Place,
+        symbol: Symbol,
+        /// All that follows the position.
+        comment: &'a [u8],
+    },
+    /// The state and position of an object (chapter 11).
+    Object {
+        /// Without the spaces at its end.
+        name: &'a [u8],
+        /// Whether the object is live, or killed.
+        live: bool,
+        stamp: Stamp,
+        place: Place,
+        symbol: Symbol,
+        comment: &'a [u8],
+    },
+    /// The state and position of an item (chapter 11).
+    Item {
+        /// Without the spaces at its end.
+        name: &'a [u8],
+        /// Whether the item is live, or killed.
+        live: bool,
+        place: Place,
+        symbol: Symbol,
+        comment: &'a [u8],
+    },
+    /// A message (chapter 14).
+    Message {
+        /// Without the spaces at its end.
+        addressee: &'a [u8],
+        /// Without the id, and without CR and LF at its end.
+        text: &'a [u8],
+        /// One to five letters or digits.
+        id: Option<&'a [u8]>,
+    },
+    /// That a message with this id has arrived (chapter 14).
+    Ack {
+        addressee: &'a [u8],
+        id: &'a [u8],
+    },
+    /// That a message with this id was rejected (chapter 14).
+    Rej {
+        addressee: &'a [u8],
+        id: &'a [u8],
+    },
+    /// The status of the frame's source (chapter 16).
+    Status {
+        /// Day, hour and minute in UTC: its mark is `z`.
+        stamp: Option<Stamp>,
+        text: &'a [u8],
+    },
+    /// Any other field.
+    Raw,
+}
+
+impl<'a> Report<'a> {
+    ghost use Rattle.aprs_report.specs.Reading.{view, kind_of, Reads};
+
+    /// What an information field says. Every field is some report; what has no other form is raw.
+    /// Takes no memory.
+    pub fn read(info: &'a [u8]) -> Report<'a>
+        ensures { Reads (view result) info.now }
+    {
+        match form(info) {
+            Some(report) => report,
+            None => Report::Raw,
+        }
+    }
+
+    /// The kind's name in lower case, as `position`. Takes no memory.
+    pub fn kind(&self) -> &'static str
+        ensures { result.now ≡ kind_of (view self.now) }
+    {
+        match self {
+            Report::Position { .. } => "position",
+            Report::Object { .. } => "object",
+            Report::Item { .. } => "item",
+            Report::Message { .. } => "message",
+            Report::Ack { .. } => "ack",
+            Report::Rej { .. } => "rej",
+            Report::Status { .. } => "status",
+            Report::Raw => "raw",
+        }
+    }
+}

@@ -1,0 +1,73 @@
+//! Symbols.
+
+ghost use Rattle.std.specs.Prelude.{◌≡◌};
+ghost use Rattle.std.specs.Option.{option_map};
+ghost use Rattle.aprs_report.specs.Symbol.{is_table, is_code};
+ghost use Rattle.aprs_report.specs.Reader.{byte_of, table_named, named_of};
+
+use crate::bytes::{is_capital_byte, is_digit_byte};
+
+/// What a station or object is shown as on a map (APRS Protocol Reference 1.0.1, chapter 20).
+#[derive(Clone, Copy, Debug, PartialEq, Eq)]
+pub struct Symbol {
+    /// `/`, `\`, or a digit or capital that lies over a symbol of `\`.
+    pub table: u8,
+    /// `!` to `~`.
+    pub code: u8,
+}
+
+fn is_table_byte(byte: u8) -> bool
+    ensures { result ≡ is_table byte }
+{
+    byte == b'/' || byte == b'\\' || is_digit_byte(byte) || is_capital_byte(byte)
+}
+
+fn is_code_byte(byte: u8) -> bool
+    ensures { result ≡ is_code byte }
+{
+    b'!' <= byte && byte <= b'~'
+}
+
+/// The table that a plain position names, and the rest.
+pub fn table_at_front(bytes: &[u8]) -> Option<(u8, &[u8])>
+    ensures { option_map (λ x. (x.0, x.1.now)) result ≡ byte_of is_table bytes.now }
+{
+    match bytes {
+        [table, rest @ ..] if is_table_byte(*table) => Some((*table, rest)),
+        _ => None,
+    }
+}
+
+pub fn code_at_front(bytes: &[u8]) -> Option<(u8, &[u8])>
+    ensures { option_map (λ x. (x.0, x.1.now)) result ≡ byte_of is_code bytes.now }
+{
+    match bytes {
+        [code, rest @ ..] if is_code_byte(*code) => Some((*code, rest)),
+        _ => None,
+    }
+}
+
+/// The table that a byte of a compressed position stands for.
+fn table_by_name(byte: u8) -> Option<u8>
+    ensures { result ≡ table_named byte }
+{
+    match byte {
+        b'a'..=b'j' => Some(byte - b'a' + b'0'),
+        b'/' | b'\\' | b'A'..=b'Z' => Some(byte),
+        _ => None,
+    }
+}
+
+/// The table that a compressed position names, and the rest.
+#[tactic(auto, unfolding(crate::specs::Reader::named_of))]
+pub fn compressed_table_at_front(bytes: &[u8]) -> Option<(u8, &[u8])>
+    ensures { option_map (λ x. (x.0, x.1.now)) result ≡ named_of bytes.now }
+{
+    match bytes {
+        [] => None,
+        [name, rest @ ..] => {
+            let table = table_by_name(*name)?;
+            Some((table, rest))
+        }
+    }
+}

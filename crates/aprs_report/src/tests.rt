@@ -1,0 +1,302 @@
+use super::*;
+
+const HOUSE: Symbol = Symbol {
+    table: b'/',
+    code: b'-',
+};
+
+const CAR: Symbol = Symbol {
+    table: b'/',
+    code: b'>',
+};
+
+/// 49 degrees 3.50 minutes north, 72 degrees 1.75 minutes west.
+const HERE: Place = Place::Plain {
+    lat: 49 * 6_000 + 350,
+    lon: -(72 * 6_000 + 175),
+    ambiguity: 0,
+};
+
+fn stamp(mark: u8) -> Option<Stamp> {
+    Some(Stamp {
+        digits: *b"092345",
+        mark,
+    })
+}
+
+fn position(
+    messaging: bool,
+    stamp: Option<Stamp>,
+    place: Place,
+    symbol: Symbol,
+    comment: &[u8],
+) -> Report<'_> {
+    Report::Position {
+        messaging,
+        stamp,
+        place,
+        symbol,
+        comment,
+    }
+}
+
+fn house(lat: i32, lon: i32, ambiguity: u8) -> Report<'static> {
+    let place = Place::Plain {
+        lat,
+        lon,
+        ambiguity,
+    };
+    position(false, None, place, HOUSE, b"")
+}
+
+fn car(table: u8, y: u32, x: u32) -> Report<'static> {
+    let place = Place::Base91 { y, x, cst: *b" sT" };
+    let symbol = Symbol { table, code: b'>' };
+    position(true, None, place, symbol, b"")
+}
+
+#[test]
+fn plain_positions(rt: HostRuntime) {
+    let table = [
+        (
+            b"!4903.50N/07201.75W-".as_slice(),
+            house(294350, -432175, 0),
+        ),
+        (
+            b"!4903.5 N/07201.75W-".as_slice(),
+            house(294350, -432170, 1),
+        ),
+        (
+            b"!49  .  N/072  .  W-".as_slice(),
+            house(294000, -432000, 4),
+        ),
+        (
+            b"!49  .  N/07299.99W-".as_slice(),
+            house(294000, -432000, 4),
+        ),
+        (b"!4903.50N/07201.7 W-".as_slice(), Report::Raw),
+        (
+            b"!9000.00N/18000.00E-".as_slice(),
+            house(540000, 1080000, 0),
+        ),
+        (b"!9000.01N/07201.75W-".as_slice(), Report::Raw),
+        (b"!4960.00N/07201.75W-".as_slice(), Report::Raw),
+        (b"!496 .  N/07201.75W-".as_slice(), Report::Raw),
+        (
+            b"!4903.50N/07201.75W-Test 001234".as_slice(),
+            position(false, None, HERE, HOUSE, b"Test 001234"),
+        ),
+        (
+            b"/092345z4903.50N/07201.75W>Test1234".as_slice(),
+            position(false, stamp(b'z'), HERE, CAR, b"Test1234"),
+        ),
+        (
+            b"@092345/4903.50N/07201.75W>Test1234".as_slice(),
+            position(true, stamp(b'/'), HERE, CAR, b"Test1234"),
+        ),
+    ];
+    for (info, report) in table {
+        assert_eq!(rt; Report::read(info), report, "at {info:?}");
+    }
+    let (lat, lon) = (HERE.lat(), HERE.lon());
+    assert_eq!(rt; (lat.numerator, lat.denominator), (294350, 6000));
+    assert_eq!(rt; (lon.numerator, lon.denominator), (-432175, 6000));
+}
+
+#[test]
+fn compressed_positions(rt: HostRuntime) {
+    let table = [
+        (b"=/5L!!<*e7> sT".as_slice(), car(b'/', 15427503, 20427156)),
+        (b"=/{{!!<*e7> sT".as_slice(), car(b'/', 68566680, 20427156)),
+        (b"=/{{!\"<*e7> sT".as_slice(), Report::Raw),
+        (b"=/5L!!{{!!> sT".as_slice(), car(b'/', 15427503, 68566680)),
+        (b"=c5L!!<*e7> sT".as_slice(), car(b'2', 15427503, 20427156)),
+    ];
+    for (info, report) in table {
+        assert_eq!(rt; Report::read(info), report, "at {info:?}");
+    }
+    let place = Place::Base91 {
+        y: 15427503,
+        x: 20427156,
+        cst: *b" sT",
+    };
+    assert_eq!(rt;
+        Report::read(b"=/5L!!<*e7> sTComment"),
+        position(true, None, place, CAR, b"Comment")
+    );
+    // 49.5 degrees north, and 72.75 west to one part in 190463.
+    let (lat, lon) = (place.lat(), place.lon());
+    assert_eq!(rt; (lat.numerator, lat.denominator), (18855837, 380926));
+    assert_eq!(rt; lat.numerator * 2, lat.denominator * 99);
+    assert_eq!(rt; (lon.numerator, lon.denominator), (-13856184, 190463));
+    assert_eq!(rt; (lon.numerator * 4 + lon.denominator * 291) / 4, 0);
+    assert_eq!(rt; Report::read(b"=/5L!!<*e7> sT").kind(), "position");
+    assert_eq!(rt; Report::read(b"").kind(), "raw");
+}
+
+const LEADER: &[u8] = b"LEADER";
+
+fn object(live: bool, comment: &[u8]) -> Report<'_> {
+    Report::Object {
+        name: LEADER,
+        live,
+        stamp: Stamp {
+            digits: *b"092345",
+            mark: b'z',
+        },
+        place: HERE,
+        symbol: CAR,
+        comment,
+    }
+}
+
+fn item(name: &[u8], code: u8) -> Report<'_> {
+    Report::Item {
+        name,
+        live: true,
+        place: HERE,
+        symbol: Symbol { table: b'/', code },
+        comment: b"",
+    }
+}
+
+#[test]
+fn objects_and_items(rt: HostRuntime) {
+    let table = [
+        (
+            b";LEADER   *092345z4903.50N/07201.75W>".as_slice(),
+            object(true, b""),
+        ),
+        (
+            b";LEADER   _092345z4903.50N/07201.75W>".as_slice(),
+            object(false, b""),
+        ),
+        (
+            b";LEADER   *092345z4903.50N/07201.75W>088/036".as_slice(),
+            object(true, b"088/036"),
+        ),
+        (
+            b";         *092345z4903.50N/07201.75W>".as_slice(),
+            Report::Raw,
+        ),
+        (
+            b")LEADER!4903.50N/07201.75W>".as_slice(),
+            item(LEADER, b'>'),
+        ),
+        (
+            b")AID #2!4903.50N/07201.75WA".as_slice(),
+            item(b"AID #2", b'A'),
+        ),
+        (b")AI!4903.50N/07201.75WA".as_slice(), Report::Raw),
+        (b")AID NUMBER!4903.50N/07201.75WA".as_slice(), Report::Raw),
+    ];
+    for (info, report) in table {
+        assert_eq!(rt; Report::read(info), report, "at {info:?}");
+    }
+    assert_eq!(rt; object(true, b"").kind(), "object");
+    assert_eq!(rt; item(LEADER, b'>').kind(), "item");
+}
+
+fn status(stamp: Option<Stamp>, text: &[u8]) -> Report<'_> {
+    Report::Status { stamp, text }
+}
+
+fn message<'a>(text: &'a [u8], id: Option<&'a [u8]>) -> Report<'a> {
+    Report::Message {
+        addressee: b"WU2Z",
+        text,
+        id,
+    }
+}
+
+#[test]
+fn statuses_and_messages(rt: HostRuntime) {
+    let ack = Report::Ack {
+        addressee: b"N0CALL-7",
+        id: b"003",
+    };
+    let rej = Report::Rej {
+        addressee: b"N0CALL-7",
+        id: b"003",
+    };
+    let table = [
+        (
+            b">Net Control Center".as_slice(),
+            status(None, b"Net Control Center"),
+            "status",
+        ),
+        (
+            b">092345zNet Control Center".as_slice(),
+            status(stamp(b'z'), b"Net Control Center"),
+            "status",
+        ),
+        (
+            b">092345/Net".as_slice(),
+            status(None, b"092345/Net"),
+            "status",
+        ),
+        (
+            b":WU2Z     :Testing".as_slice(),
+            message(b"Testing", None),
+            "message",
+        ),
+        (
+            b":WU2Z     :Testing{003".as_slice(),
+            message(b"Testing", Some(b"003")),
+            "message",
+        ),
+        (
+            b":WU2Z     :Testing{003\r".as_slice(),
+            message(b"Testing", Some(b"003")),
+            "message",
+        ),
+        (
+            b":WU2Z     :Testing{AB}CD".as_slice(),
+            message(b"Testing{AB}CD", None),
+            "message",
+        ),
+        (
+            b":WU2Z     :ack".as_slice(),
+            message(b"ack", None),
+            "message",
+        ),
+        (b":N0CALL-7 :ack003".as_slice(), ack, "ack"),
+        (b":N0CALL-7 :rej003".as_slice(), rej, "rej"),
+        (
+            b":KB2ICI-14:ack003".as_slice(),
+            Report::Ack {
+                addressee: b"KB2ICI-14",
+                id: b"003",
+            },
+            "ack",
+        ),
+    ];
+    for (info, report, kind) in table {
+        assert_eq!(rt; Report::read(info), report, "at {info:?}");
+        assert_eq!(rt; report.kind(), kind, "at {info:?}");
+    }
+}
+
+/// Mic-E, weather, telemetry, raw GPS, queries, capabilities, user-defined, third-party, grid
+/// locators, test data, no bytes, and a position behind other text.
+#[test]
+fn left_raw(rt: HostRuntime) {
+    let table = [
+        b"`(_fn\"Oj/".as_slice(),
+        b"'(_fn\"Oj/".as_slice(),
+        b"_10090556c220s004g005t077".as_slice(),
+        b"T#005,199,000,255,073,123,01101001".as_slice(),
+        b"$GPRMC,063909,A,3349.4302,N,11700.3721,W".as_slice(),
+        b"?APRS?".as_slice(),
+        b"<IGATE,MSG_CNT=43,LOC_CNT=14".as_slice(),
+        b"{Q1qwerty".as_slice(),
+        b"}WIDE1-1>APRS:>Hi".as_slice(),
+        b"[IO91SX]35 miles NNW of London".as_slice(),
+        b",191146,V,4214.2466,N,07303.5181,W".as_slice(),
+        b"".as_slice(),
+        b"xx!4903.50N/07201.75W-".as_slice(),
+    ];
+    for info in table {
+        assert_eq!(rt; Report::read(info), Report::Raw, "at {info:?}");
+    }
+}
