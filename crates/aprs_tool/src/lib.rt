@@ -1,6 +1,7 @@
 //! Runs over logs and streams, and the words of the command line.
 #![tactic(auto)]
 
+mod answer;
 mod fault;
 mod form;
 mod monitor;
