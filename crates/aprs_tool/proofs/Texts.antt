@@ -6,6 +6,9 @@ use Rattle.std.specs.Fmt.{decimal}
 use Rattle.std.proofs.lemmas.List.{length-append, take_more, flat_map_more}
 use Rattle.std.proofs.lemmas.Option.{slice_get-map, slice_get_within, get_or_from_slice_get}
 use Rattle.std.proofs.lemmas.Fmt.{decimal_step}
+use Rattle.aprs_log.specs.Fault.{reason_name}
+use Rattle.aprs_log.specs.declared.fault.Reason.{Reason}
+use Rattle.aprs_log.specs.declared.fault.Reason.TheVariants as reason
 
 -- one more element was shown
 pub shown-more : {X : Type 0} (f : X → List ℕ) (a b : List ℕ) (xs : List X) (i : ℕ) (x : X) → slice_get xs i ≡ Some x → b ≡ a ++ f x
@@ -16,3 +19,17 @@ shown-more f a b xs i x is out start done =
 
 pub length-decimal-step : (n : ℕ) → 10 ≤ n → n < 2 ^ 64 → length (decimal n) ≡ length (decimal (n / 10)) + 1
 length-decimal-step n low h = ap length (decimal_step n low h) ∙ length-append (decimal (n / 10)) ((48 + n % 10) ∷ [])
+
+pub length-reason_name : (r : Reason) → length (reason_name r) ≤ 10
+length-reason_name reason.Unended = omega arith
+length-reason_name reason.NoFrame = omega arith
+length-reason_name reason.TwoFrames = omega arith
+length-reason_name reason.BadEscape = omega arith
+length-reason_name reason.TooLong = omega arith
+length-reason_name reason.NotData = omega arith
+length-reason_name reason.Address = omega arith
+length-reason_name reason.Callsign = omega arith
+length-reason_name reason.Control = omega arith
+length-reason_name reason.Pid = omega arith
+length-reason_name reason.NoInfo = omega arith
+length-reason_name reason.LongInfo = omega arith

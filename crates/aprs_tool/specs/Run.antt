@@ -17,6 +17,7 @@ use Rattle.aprs_log.specs.declared.ending.Ending.{Ending}
 use Rattle.aprs_log.specs.declared.ending.Ending.TheVariants as ending
 use Rattle.aprs_log.specs.declared.fault.LogCause.TheVariants as cause
 use Rattle.aprs_log.specs.declared.fault.LogFault.{LogFault}
+use Rattle.aprs_log.specs.declared.fault.Reason.{Reason}
 use Rattle.aprs_log.specs.declared.line.Line.{Line}
 use Rattle.aprs_log.specs.declared.line.Line.TheVariants as line
 use Rattle.aprs_tool.specs.Monitor.{monitor_text}
@@ -71,12 +72,17 @@ convert_fault f t c = (log_answers t c).fault
 
 -- ---- what a check tells
 
+abbrev pub passed_line : ℕ → Reason → List ℕ
+passed_line n reason = ended_by_lf (codes "line " ++ decimal n ++ codes " passed " ++ reason_name reason)
+
+abbrev pub totals_line : ℕ → ℕ → List ℕ
+totals_line heard passed = ended_by_lf (codes "heard " ++ decimal heard ++ codes " passed " ++ decimal passed)
+
 -- of each line from number n on that is passed over
 abbrev pub check_lines : ℕ → List Line → List ℕ
 check_lines n [] = []
 check_lines n (line.Heard x ∷ lines) = check_lines (n + 1) lines
-check_lines n (line.Passed reason ∷ lines) =
-    ended_by_lf (codes "line " ++ decimal n ++ codes " passed " ++ reason_name reason) ++ check_lines (n + 1) lines
+check_lines n (line.Passed reason ∷ lines) = passed_line n reason ++ check_lines (n + 1) lines
 
 abbrev pub count_heard : List Line → ℕ
 count_heard [] = 0
@@ -90,7 +96,7 @@ count_passed (line.Passed reason ∷ lines) = count_passed lines + 1
 
 -- the totals, which a fault leaves out
 abbrev pub totals : Option LogFault → List Line → List ℕ
-totals None lines = ended_by_lf (codes "heard " ++ decimal (count_heard lines) ++ codes " passed " ++ decimal (count_passed lines))
+totals None lines = totals_line (count_heard lines) (count_passed lines)
 totals (Some fault) lines = []
 
 abbrev pub check_text : Answers → List ℕ

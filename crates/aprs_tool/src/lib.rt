@@ -2,6 +2,7 @@
 #![tactic(auto)]
 
 mod answer;
+mod check;
 mod fault;
 mod form;
 mod monitor;

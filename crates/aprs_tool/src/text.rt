@@ -70,8 +70,17 @@ pub fn push_shown(out: &mut Text, bytes: &[u8])
     }
 }
 
-/// Puts the number at the end, in decimal.
+/// Puts the number at the end, in decimal: at most 20 digits.
 pub fn push_decimal(out: &mut Text, n: u64)
+    requires { array_vec_len out.old + 20 ≤ 1200 }
+    ensures decimal { out.new.items ≡ out.old.items ++ decimal n }
+    ensures most { array_vec_len out.new ≤ array_vec_len out.old + 20 }
+{
+    push_digits(out, n);
+}
+
+/// Puts the number's digits at the end.
+fn push_digits(out: &mut Text, n: u64)
     requires { array_vec_len out.old + length (decimal n) ≤ 1200 }
     ensures decimal { out.new.items ≡ out.old.items ++ decimal n }
     ensures len { array_vec_len out.new ≡ array_vec_len out.old + length (decimal n) }
@@ -80,6 +89,6 @@ pub fn push_decimal(out: &mut Text, n: u64)
         out.push(b'0' + n as u8);
         return;
     }
-    push_decimal(out, n / 10);
+    push_digits(out, n / 10);
     out.push(b'0' + (n % 10) as u8);
 }

@@ -1,0 +1,76 @@
+//! What a check tells of a log.
+ghost use Rattle.std.specs.Prelude.{◌≡◌, ◌≤◌, ◌++◌, codes, OnOk, OnErr};
+ghost use Rattle.std.specs.Fmt.{decimal};
+ghost use Rattle.std.specs.Io.KnownBytes.{Appends};
+ghost use Rattle.arrayvec.specs.ArrayVec.{array_vec_len};
+ghost use Rattle.aprs_kiss.specs.Device.{device_of, failures_of, Rose, AppendsFront};
+ghost use Rattle.aprs_log.specs.Fault.{reason_name};
+ghost use Rattle.aprs_tool.specs.Run.{ended_by_lf, passed_line, totals_line};
+
+use crate::text::{Text, push_all, push_decimal};
+use aprs_kiss::{Counted, WriteFault, send};
+use aprs_log::Reason;
+use std::io::Write;
+
+/// Writes that a line is passed over, and why.
+pub fn write_passed<W: Write>(
+    w: &mut Counted<W>,
+    line: u64,
+    reason: Reason,
+) -> Result<(), WriteFault>
+    ensures sent { OnOk result (Appends (W.contents (device_of w.old)) (W.contents (device_of w.new)) (passed_line line reason)) }
+    ensures prefix { OnErr result (AppendsFront (W.contents (device_of w.old)) (W.contents (device_of w.new)) (passed_line line reason)) }
+    ensures count { failures_of w.old ≤ failures_of w.new }
+    ensures fault { OnErr result (Rose (failures_of w.old) (failures_of w.new)) }
+{
+    let text = passed_line(line, reason);
+    send(w, text.as_slice())
+}
+
+/// Writes how many lines are heard and how many passed over.
+pub fn write_totals<W: Write>(
+    w: &mut Counted<W>,
+    heard: u64,
+    passed: u64,
+) -> Result<(), WriteFault>
+    ensures sent { OnOk result (Appends (W.contents (device_of w.old)) (W.contents (device_of w.new)) (totals_line heard passed)) }
+    ensures prefix { OnErr result (AppendsFront (W.contents (device_of w.old)) (W.contents (device_of w.new)) (totals_line heard passed)) }
+    ensures count { failures_of w.old ≤ failures_of w.new }
+    ensures fault { OnErr result (Rose (failures_of w.old) (failures_of w.new)) }
+{
+    let text = totals_line(heard, passed);
+    send(w, text.as_slice())
+}
+
+fn passed_line(line: u64, reason: Reason) -> Text
+    ensures { result.items ≡ passed_line line reason }
+{
+    let mut text = Text::new();
+    push_all(&mut text, b"line ");
+    push_decimal(&mut text, line);
+    push_all(&mut text, b" passed ");
+    push_reason(&mut text, reason);
+    text.push(b'\n');
+    text
+}
+
+fn totals_line(heard: u64, passed: u64) -> Text
+    ensures { result.items ≡ totals_line heard passed }
+{
+    let mut text = Text::new();
+    push_all(&mut text, b"heard ");
+    push_decimal(&mut text, heard);
+    push_all(&mut text, b" passed ");
+    push_decimal(&mut text, passed);
+    text.push(b'\n');
+    text
+}
+
+/// Puts the reason's name at the end.
+fn push_reason(out: &mut Text, reason: Reason)
+    requires { array_vec_len out.old ≤ 1000 }
+    ensures name { out.new.items ≡ out.old.items ++ reason_name reason }
+    ensures most { array_vec_len out.new ≤ 1100 }
+{
+    push_all(out, reason.name().as_bytes());
+}
