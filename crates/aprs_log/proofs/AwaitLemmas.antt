@@ -7,6 +7,7 @@ use Rattle.aprs_log.specs.Fault.{log_cause_of}
 use Rattle.aprs_log.specs.Line.{line_of}
 use Rattle.aprs_log.specs.LogAnswers.{Answers, EndsSo, Gets, answers_from, ended, fault_at, tail_cause, then_answers, then_given}
 use Rattle.aprs_log.specs.Awaits.{Awaited, AwaitsIn, EndsHere, fault_after}
+use Rattle.aprs_log.specs.Reader.{AreAnswersOf}
 use Rattle.aprs_log.specs.declared.line.Line.{Line}
 use Rattle.aprs_log.specs.declared.fault.LineFault.{LineFault}
 use Rattle.aprs_log.specs.declared.fault.LogCause.{LogCause}
@@ -128,4 +129,20 @@ ends_past (Some input) (Some rest) more took some = record {
   rest = input;
   whole = refl;
   ends = (let e : length (more ++ rest) ≡ length more + length rest = length-append more rest in omega (arith, ap length took, e), refl);
+}
+
+-- ---- from the first line on
+
+pub from_start : (known : Option (List ℕ)) (limit : ℕ) (head held : List ℕ) (a : Answers) → length head ≤ limit → held ≡ head
+    → AwaitsIn Reading known (limit - length head) 0 held a → IfSome known (λ input. AreAnswersOf limit (head ++ input) a)
+from_start None limit head held a le e w = tt
+from_start (Some input) limit head held a le e w = record {
+  text = head ++ w.text;
+  ending = w.ending;
+  gets = record {
+    rest = w.gets.rest;
+    whole = ap (λ l. head ++ l) w.gets.whole ∙ sym (append_assoc head w.text w.gets.rest);
+    ends = ends_more w.ending limit (length head) head w.text w.gets.rest refl le w.gets.ends;
+  };
+  is = w.is ∙ ap (λ l. answers_from 1 (l ++ w.text) w.ending) e;
 }
