@@ -31,6 +31,16 @@ stop_in Reading line = None
 stop_in Ended line = Some None
 stop_in (Failed c) line = Some (Some (fault_after line c))
 
+-- what a reader does after the tail
+abbrev pub state_after : Option LogCause → State
+state_after None = Ended
+state_after (Some c) = Failed c
+
+abbrev pub work_in : State → ℕ → ℕ
+work_in Reading left = left + 1
+work_in Ended left = 0
+work_in (Failed c) left = 0
+
 -- nothing of the input is got, since it ends so
 abbrev pub EndsHere : Ending → ℕ → Option (List ℕ) → Type 0
 EndsHere e left known = IfSome known (λ input. Gets left input [] e)

@@ -1,7 +1,8 @@
 -- What contracts see of a reader of a log.
 use Rattle.std.specs.Prelude.{◌≡◌, ℕ, ◌+◌, List, Option, None, Some, Result, Ok, Err}
+use Rattle.std.specs.Borrow.{GName, RattleType}
 use Rattle.aprs_kiss.specs.declared.device.Counted.{Counted}
-use Rattle.aprs_log.specs.Awaits.{AwaitsIn, stop_in}
+use Rattle.aprs_log.specs.Awaits.{AwaitsIn, stop_in, work_in}
 use Rattle.aprs_log.specs.LogAnswers.{Answers, Gets, ended, log_answers, then_given}
 use Rattle.aprs_log.specs.Window.{items}
 use Rattle.aprs_log.specs.declared.line.Line.{Line}
@@ -9,9 +10,12 @@ use Rattle.aprs_log.specs.declared.fault.LogFault.{LogFault}
 use Rattle.aprs_log.specs.declared.ending.Ending.{Ending}
 use Rattle.aprs_log.specs.declared.reader.LogReader.{LogReader}
 
--- the reader that it borrows, and the loan
+-- the reader that it borrows, and the name of that loan
 abbrev pub source_of : {R : Type 0} → LogReader R → Counted R
 source_of r = r.source.now
+
+abbrev pub loan_of : {R : Type 0} → LogReader R → GName
+loan_of r = r.source.ghost_name
 
 -- how many lines it has given
 abbrev pub lines_of : {R : Type 0} → LogReader R → ℕ
@@ -31,6 +35,10 @@ pub record AreAnswersOf (limit : ℕ) (input : List ℕ) (a : Answers) : Type 0 
   pub ending : Ending
   pub gets : Gets limit input text ending
   pub is : a ≡ log_answers text ending
+
+-- how much it may read yet, where it has not stopped
+abbrev pub work_of : {R : Type 0} → LogReader R → ℕ
+work_of r = work_in r.state r.left
 
 -- the answer is the next of those that may come, where the reader and what its device has left
 -- were `old` and `known`, and now are `new` and `after`

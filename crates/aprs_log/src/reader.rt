@@ -25,10 +25,12 @@ pub struct LogReader<'a, R> {
 }
 
 impl<'a, R: Read> LogReader<'a, R> {
-    ghost use Rattle.std.specs.Prelude.{◌≡◌, ◌≢◌, ◌+◌, ◌≤◌, ◌<◌, ◌++◌, length, None, Some, IfSome, IfErr};
+    ghost use Rattle.std.specs.Prelude.{◌≡◌, ◌≢◌, ◌+◌, ◌≤◌, ◌<◌, ◌++◌, length, Option, None, Some, IfNone, IfSome, IfErr};
     ghost use Rattle.aprs_kiss.specs.Device.{device_of, failures_of, Rose};
-    ghost use Rattle.aprs_log.specs.LogAnswers.{Answers};
-    ghost use Rattle.aprs_log.specs.Reader.{Awaits, AreAnswersOf, GivesNext, lines_of, source_of, stop_of};
+    ghost use Rattle.aprs_log.specs.Cut.{cut_at};
+    ghost use Rattle.aprs_log.specs.LogAnswers.{Answers, then_given};
+    ghost use Rattle.aprs_log.specs.Window.{items};
+    ghost use Rattle.aprs_log.specs.Reader.{Awaits, AreAnswersOf, GivesNext, lines_of, loan_of, source_of, stop_of, work_of};
 
     /// A reader of the log that `head` and then the bytes of `source` are, of which it takes at most
     /// `limit` bytes. It reads nothing yet, refuses nothing and takes no memory.
@@ -36,7 +38,7 @@ impl<'a, R: Read> LogReader<'a, R> {
         requires limit { limit ≤ 1073741824 }
         requires head { length head.now ≤ 8 }
         requires within { length head.now ≤ limit }
-        ensures same_reference { result.source.ghost_name ≡ source.entry.ghost_name }
+        ensures same_reference { loan_of result ≡ source.entry.ghost_name }
         ensures source { source_of result ≡ source.old }
         ensures first { lines_of result ≡ 0 }
         ensures going { stop_of result ≡ None }
@@ -67,8 +69,87 @@ impl<'a, R: Read> LogReader<'a, R> {
         self.source.failures()
     }
 
-    /// Reads on while no whole line is there, or stops.
-    fn read_on(&mut self) {
+    /// The next line, where there is one, or `None` at the end, or the fault at which the log is read
+    /// no further, with the number of its line. After a fault it answers the same fault, and after the
+    /// end `None`, and reads no more. Takes no memory.
+    pub fn next(&mut self) -> Result<Option<Line>, LogFault>
+        ensures same_reference { loan_of self.new ≡ loan_of self.old }
+        ensures count { failures_of (source_of self.old) ≤ failures_of (source_of self.new) }
+        ensures gives { GivesNext result (R.remaining (device_of (source_of self.old))) self.old
+            (R.remaining (device_of (source_of self.new))) self.new }
+        // What it came to stays.
+        ensures stays { (stop : Option LogFault) → stop_of self.old ≡ Some stop
+            → (stop_of self.new ≡ Some stop) × (source_of self.new ≡ source_of self.old) }
+        ensures read { IfErr result (λ f. f.cause ≡ LogCause.Read → stop_of self.old ≡ None
+            → Rose (failures_of (source_of self.old)) (failures_of (source_of self.new))) }
+        ensures memory { IfErr result (λ f. f.cause ≢ LogCause.Memory) }
+    {
+        loop {
+            match self.state {
+                State::Reading => {}
+                State::Ended => return Ok(None),
+                State::Failed(cause) => return Err(self.fault(cause)),
+            }
+            if let Some(line) = self.step() {
+                return Ok(Some(line));
+            }
+        }
+    }
+
+    /// The fault with this cause in the line that follows.
+    fn fault(&self, cause: LogCause) -> LogFault
+        ensures { result ≡ record { line = self.now.line + 1; cause = cause } }
+    {
+        LogFault {
+            line: self.line + 1,
+            cause,
+        }
+    }
+
+    /// Gives a line that is there, or reads on, or stops.
+    fn step(&mut self) -> Option<Line>
+        requires { self.old.state ≡ State.Reading }
+        ensures same_reference { loan_of self.new ≡ loan_of self.old }
+        ensures count { failures_of (source_of self.old) ≤ failures_of (source_of self.new) }
+        ensures given { IfSome result (λ x. (lines_of self.new ≡ lines_of self.old + 1) × ((a : Answers)
+            → Awaits (R.remaining (device_of (source_of self.new))) self.new a
+            → Awaits (R.remaining (device_of (source_of self.old))) self.old (then_given x a))) }
+        ensures none { IfNone result ((lines_of self.new ≡ lines_of self.old) × ((a : Answers)
+            → Awaits (R.remaining (device_of (source_of self.new))) self.new a
+            → Awaits (R.remaining (device_of (source_of self.old))) self.old a)) }
+        ensures less { IfNone result (work_of self.new < work_of self.old) }
+        ensures read { IfNone result (self.new.state ≡ State.Failed LogCause.Read
+            → Rose (failures_of (source_of self.old)) (failures_of (source_of self.new))) }
+    {
+        match take_line(&mut self.window) {
+            Some(Ok(line)) => {
+                self.line += 1;
+                Some(line)
+            }
+            Some(Err(fault)) => {
+                self.state = State::Failed(LogCause::from(fault));
+                None
+            }
+            None => {
+                self.read_on();
+                None
+            }
+        }
+    }
+
+    /// Reads once, where no whole line is there, or stops.
+    fn read_on(&mut self)
+        requires going { self.old.state ≡ State.Reading }
+        requires none { cut_at 10 (items self.old.window) ≡ None }
+        ensures same_reference { loan_of self.new ≡ loan_of self.old }
+        ensures count { failures_of (source_of self.old) ≤ failures_of (source_of self.new) }
+        ensures lines { lines_of self.new ≡ lines_of self.old }
+        ensures moves { (a : Answers) → Awaits (R.remaining (device_of (source_of self.new))) self.new a
+            → Awaits (R.remaining (device_of (source_of self.old))) self.old a }
+        ensures less { work_of self.new < work_of self.old }
+        ensures read { self.new.state ≡ State.Failed LogCause.Read
+            → Rose (failures_of (source_of self.old)) (failures_of (source_of self.new)) }
+    {
         if self.window.as_slice().len() > MAX_LINE {
             self.state = State::Failed(LogCause::LongLine);
             return;
