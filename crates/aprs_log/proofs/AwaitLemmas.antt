@@ -1,18 +1,21 @@
 -- Lemmas on what a reader of a log may still answer.
-use Rattle.std.proofs.Common.{◌≡◌, ℕ, ◌+◌, ◌-◌, ◌<◌, ◌≤◌, List, [], ◌∷◌, ◌++◌, length, take, drop, Option, None, Some, Ok, Err, IfSome, ◌⊎◌, inl, inr, refl, arith, sym, ap, ◌∙◌, append_assoc, append-nil, length-append, length-take, length-drop, take-append-drop}
+use Rattle.std.proofs.Common.{◌≡◌, ℕ, ◌+◌, ◌-◌, ◌<◌, ◌≤◌, List, [], ◌∷◌, ◌++◌, length, take, drop, Option, None, Some, Ok, Err, IfSome, ◌⊎◌, inl, inr, refl, arith, sym, ap, ◌∙◌, append_assoc, append-nil, length-append, length-take, length-drop, take-append-drop, subst}
 use Rattle.std.specs.Io.KnownBytes.{Consumes, IsAtEnd}
 use Rattle.std.proofs.lemmas.Bool.{cases_lt}
 use Rattle.aprs_log.specs.Cut.{Cut, cut_at}
 use Rattle.aprs_log.specs.Fault.{log_cause_of}
 use Rattle.aprs_log.specs.Line.{line_of}
 use Rattle.aprs_log.specs.LogAnswers.{Answers, EndsSo, Gets, answers_from, ended, fault_at, tail_cause, then_answers, then_given}
-use Rattle.aprs_log.specs.Awaits.{Awaited, AwaitsIn, EndsHere, fault_after}
+use Rattle.aprs_log.specs.Awaits.{Awaited, AwaitsIn, EndsHere, KeepsMemory, fault_after, state_after}
+use Rattle.aprs_log.specs.Reader.{AreAnswersOf}
 use Rattle.aprs_log.specs.declared.line.Line.{Line}
 use Rattle.aprs_log.specs.declared.fault.LineFault.{LineFault}
+use Rattle.aprs_log.specs.declared.fault.LineFault.TheVariants as fault
 use Rattle.aprs_log.specs.declared.fault.LogCause.{LogCause}
 use Rattle.aprs_log.specs.declared.fault.LogCause.TheVariants as cause
 use Rattle.aprs_log.specs.declared.ending.Ending.{Ending}
 use Rattle.aprs_log.specs.declared.ending.Ending.TheVariants as ending
+use Rattle.aprs_log.specs.declared.ending.State.{State}
 use Rattle.aprs_log.specs.declared.ending.State.TheVariants.{Reading, Ended, Failed}
 use Rattle.aprs_log.proofs.AnswerLemmas.{answers_from-line, answers_from-tail, answers_from-long, no_lf}
 
@@ -129,3 +132,88 @@ ends_past (Some input) (Some rest) more took some = record {
   whole = refl;
   ends = (let e : length (more ++ rest) ≡ length more + length rest = length-append more rest in omega (arith, ap length took, e), refl);
 }
+
+-- ---- from the first line on
+
+pub from_start : (known : Option (List ℕ)) (limit : ℕ) (head held : List ℕ) (a : Answers) → length head ≤ limit → held ≡ head
+    → AwaitsIn Reading known (limit - length head) 0 held a → IfSome known (λ input. AreAnswersOf limit (head ++ input) a)
+from_start None limit head held a le e w = tt
+from_start (Some input) limit head held a le e w = record {
+  text = head ++ w.text;
+  ending = w.ending;
+  gets = record {
+    rest = w.gets.rest;
+    whole = ap (λ l. head ++ l) w.gets.whole ∙ sym (append_assoc head w.text w.gets.rest);
+    ends = ends_more w.ending limit (length head) head w.text w.gets.rest refl le w.gets.ends;
+  };
+  is = w.is ∙ ap (λ l. answers_from 1 (l ++ w.text) w.ending) e;
+}
+
+-- ---- the steps of a reader that goes on, by what the code knows of them
+
+going_on : (s : State) (known : Option (List ℕ)) (left line : ℕ) (held : List ℕ) (a : Answers) → s ≡ Reading
+    → AwaitsIn Reading known left line held a → AwaitsIn s known left line held a
+going_on s known left line held a going w = subst (λ s. AwaitsIn s known left line held a) (sym going) w
+
+went_on : (s : State) (known : Option (List ℕ)) (left line : ℕ) (held : List ℕ) (a : Answers) → s ≡ Reading
+    → AwaitsIn s known left line held a → AwaitsIn Reading known left line held a
+went_on s known left line held a going w = subst (λ s. AwaitsIn s known left line held a) going w
+
+pub step_line : (s : State) (known : Option (List ℕ)) (left line : ℕ) (held now : List ℕ) (x : Line) (cut : Cut) (a : Answers) → s ≡ Reading
+    → cut_at 10 held ≡ Some cut → Ok x ≡ line_of cut.before → now ≡ cut.after
+    → AwaitsIn s known left (line + 1) now a → AwaitsIn s known left line held (then_given x a)
+step_line s known left line held now x cut a going e f rest w =
+    going_on s known left line held (then_given x a) going
+    (awaits_line known left line held cut x a e f (subst (λ t. AwaitsIn Reading known left (line + 1) t a) rest (went_on s known left (line + 1) now a going w)))
+
+pub step_fault : (s : State) (known : Option (List ℕ)) (left line : ℕ) (held : List ℕ) (f : LineFault) (cut : Cut) (c : LogCause) (a : Answers) → s ≡ Reading
+    → cut_at 10 held ≡ Some cut → Err f ≡ line_of cut.before → c ≡ log_cause_of f → a ≡ ended (Some (fault_after line c))
+    → AwaitsIn s known left line held a
+step_fault s known left line held f cut c a going e g same is =
+    going_on s known left line held a going
+    (subst (λ a. AwaitsIn Reading known left line held a) (sym (is ∙ ap (λ c. ended (Some (fault_after line c))) same))
+    (awaits_fault known left line held cut f e g))
+
+pub step_long : (s : State) (known : Option (List ℕ)) (left line : ℕ) (held slice : List ℕ) (a : Answers) → s ≡ Reading
+    → cut_at 10 held ≡ None → slice ≡ held → 8192 < length slice → a ≡ ended (Some (fault_after line cause.LongLine)) → AwaitsIn s known left line held a
+step_long s known left line held slice a going none same long is =
+    going_on s known left line held a going
+    (subst (λ a. AwaitsIn Reading known left line held a) (sym is)
+    (awaits_long known left line held none (omega (arith, long, ap length same))))
+
+-- more bytes came
+pub record CameMore (known after : Option (List ℕ)) (held now : List ℕ) (n : ℕ) : Type 0 where
+  pub more : List ℕ
+  pub count : length more ≡ n
+  pub grown : now ≡ held ++ more
+  pub took : Consumes known after more
+
+pub step_more : (s : State) (known after : Option (List ℕ)) (left n line : ℕ) (held now : List ℕ) (a : Answers) → s ≡ Reading → n ≤ left
+    → CameMore known after held now n → AwaitsIn s after (left - n) line now a → AwaitsIn s known left line held a
+step_more s known after left n line held now a going le came w =
+    going_on s known left line held a going
+    (awaits_more known after left n line held came.more a came.took came.count le
+    (subst (λ t. AwaitsIn Reading after (left - n) line t a) came.grown (went_on s after (left - n) line now a going w)))
+
+-- the input ends
+pub step_end : (s next : State) (known after : Option (List ℕ)) (left line : ℕ) (held now slice : List ℕ) (e : Ending) (o : Option LogCause) (a : Answers) → s ≡ Reading
+    → cut_at 10 held ≡ None → now ≡ held → slice ≡ now → EndsHere e left known → o ≡ tail_cause slice e → next ≡ state_after o
+    → AwaitsIn next after left line now a → AwaitsIn s known left line held a
+step_end s next known after left line held now slice e None a going none same is ends o to w =
+    let stopped : a ≡ ended None = subst (λ s. AwaitsIn s after left line now a) to w in
+    going_on s known left line held a going
+    (subst (λ a. AwaitsIn Reading known left line held a) (sym (stopped ∙ ap (λ o. ended (fault_at (line + 1) o)) (o ∙ ap (λ t. tail_cause t e) (is ∙ same))))
+    (awaits_end known left line held e none ends))
+step_end s next known after left line held now slice e (Some c) a going none same is ends o to w =
+    let stopped : a ≡ ended (Some (fault_after line c)) = subst (λ s. AwaitsIn s after left line now a) to w in
+    going_on s known left line held a going
+    (subst (λ a. AwaitsIn Reading known left line held a) (sym (stopped ∙ ap (λ o. ended (fault_at (line + 1) o)) (o ∙ ap (λ t. tail_cause t e) (is ∙ same))))
+    (awaits_end known left line held e none ends))
+
+-- no line's fault is a want of memory
+pub faults_keep : (f : LineFault) (c : LogCause) → c ≡ log_cause_of f → KeepsMemory (Failed c)
+faults_keep fault.LongLine c e k = cc
+faults_keep fault.NoNewline c e k = cc
+faults_keep fault.Moment c e k = cc
+faults_keep fault.Receiver c e k = cc
+faults_keep fault.Hex c e k = cc

@@ -100,6 +100,7 @@ pub record Taken (stop : ℕ) (text : List ℕ) (cut : Cut) : Type 0 where
   pub is : cut_at stop text ≡ Some cut
   pub used : length cut.before + 1 ≤ length text
   pub left : drop (length cut.before + 1) text ≡ cut.after
+  pub len : length text ≡ length cut.before + 1 + length cut.after
 
 pub taken : (stop : ℕ) (part text : List ℕ) (cut : Cut) → Some cut ≡ cut_at stop part → part ≡ text → Taken stop text cut
 taken stop part text cut e same =
@@ -109,4 +110,5 @@ taken stop part text cut e same =
       is = is;
       used = omega (arith, cut_len stop text cut is);
       left = ap (λ t. drop (length cut.before + 1) t) parts ∙ drop-append-add cut.before (stop ∷ cut.after) 1;
+      len = cut_len stop text cut is;
     }

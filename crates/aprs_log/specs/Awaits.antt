@@ -1,7 +1,8 @@
 -- What a reader of a log may still answer, by what it holds. No public contract cites this module by itself.
-use Rattle.std.specs.Prelude.{◌≡◌, ℕ, ◌+◌, List, [], ◌++◌, Option, None, Some, IfSome}
+use Rattle.std.specs.Prelude.{◌≡◌, ◌≢◌, ℕ, ◌+◌, List, [], ◌++◌, Option, None, Some, IfSome}
 use Rattle.aprs_log.specs.LogAnswers.{Answers, answers_from, ended, Gets}
 use Rattle.aprs_log.specs.declared.fault.LogCause.{LogCause}
+use Rattle.aprs_log.specs.declared.fault.LogCause.TheVariants as cause
 use Rattle.aprs_log.specs.declared.fault.LogFault.{LogFault}
 use Rattle.aprs_log.specs.declared.ending.Ending.{Ending}
 use Rattle.aprs_log.specs.declared.ending.State.{State}
@@ -30,6 +31,20 @@ stop_in Reading line = None
 stop_in Ended line = Some None
 stop_in (Failed c) line = Some (Some (fault_after line c))
 
+-- what a reader does after the tail
+abbrev pub state_after : Option LogCause → State
+state_after None = Ended
+state_after (Some c) = Failed c
+
+abbrev pub work_in : State → ℕ → ℕ
+work_in Reading left = left + 1
+work_in Ended left = 0
+work_in (Failed c) left = 0
+
 -- nothing of the input is got, since it ends so
 abbrev pub EndsHere : Ending → ℕ → Option (List ℕ) → Type 0
 EndsHere e left known = IfSome known (λ input. Gets left input [] e)
+
+-- it hasn't failed for want of memory
+abbrev pub KeepsMemory : State → Type 0
+KeepsMemory state = state ≢ Failed cause.Memory

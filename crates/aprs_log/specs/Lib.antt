@@ -6,6 +6,7 @@ pub mod Fault
 pub mod Line
 pub mod LogAnswers
 pub mod Moment
+pub mod Reader
 pub mod Receiver
 pub mod Reception
 pub mod Window

@@ -12,6 +12,7 @@ mod line;
 mod line_bytes;
 mod moment;
 mod receiver;
+mod reader;
 mod reception;
 mod refill;
 mod window;
@@ -21,6 +22,7 @@ pub use fault::{LineFault, LogCause, LogFault, Reason};
 pub use line::{Line, MAX_LINE, read_line};
 pub use moment::Moment;
 pub use receiver::Receiver;
+pub use reader::LogReader;
 pub use reception::Reception;
 pub use write::write_line;
 

@@ -20,6 +20,7 @@ pub fn take_line(window: &mut Window) -> Option<Result<Line, LineFault>>
     ensures none { IfNone result ((cut_at 10 (items window.old) ≡ None) × (items window.new ≡ items window.old)) }
     ensures some { IfSome result (λ r. (cut : Cut) × (cut_at 10 (items window.old) ≡ Some cut)
         × (r ≡ line_of cut.before) × (items window.new ≡ cut.after)) }
+    ensures shorter { IfSome result (λ _. length (items window.new) < length (items window.old)) }
 {
     let Some((line, _)) = cut_at(window.as_slice(), b'\n') else {
         return None;

@@ -1,4 +1,4 @@
-use Rattle.std.proofs.Common.{◌≡◌, ◌∙◌}
+use Rattle.std.proofs.Common.{◌≡◌, ◌∙◌, ap, length, arith}
 use Rattle.aprs_log.proofs.CutLemmas.{taken}
 use Rattle.aprs_log.proofs.refill.take_line.Goals as goal
 
@@ -9,3 +9,8 @@ pub returns-clause-some : goal.returns-clause-some
 returns-clause-some c =
     let t = taken 10 _ _ _ c.in-Some.ensures c.as_slice.ensures.value in
     (_, t.is, c.read_line-answer.ensures.line, c.consume.ensures ∙ t.left)
+
+pub returns-clause-shorter : goal.returns-clause-shorter
+returns-clause-shorter c =
+    let t = taken 10 _ _ _ c.in-Some.ensures c.as_slice.ensures.value in
+    omega (arith, t.len, ap length (c.consume.ensures ∙ t.left))

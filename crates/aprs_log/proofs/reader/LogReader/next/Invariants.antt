@@ -1,0 +1,24 @@
+use Rattle.std.proofs.Common.{◌≡◌, ◌≤◌, Option, None, Some}
+use Rattle.aprs_kiss.specs.Device.{device_of, failures_of, Rose}
+use Rattle.aprs_log.specs.LogAnswers.{Answers}
+use Rattle.aprs_log.specs.Reader.{Awaits, lines_of, loan_of, source_of, stop_of, work_of}
+use Rattle.aprs_log.specs.declared.ending.State.TheVariants.{Failed}
+use Rattle.aprs_log.specs.declared.fault.LogCause.TheVariants as cause
+use Rattle.aprs_log.specs.declared.fault.LogFault.{LogFault}
+use Rattle.aprs_log.proofs.reader.LogReader.next.Given as goal
+
+abbrev pub invariant-loop-self : goal.invariant-loop-self
+invariant-loop-self g l = record {
+  same_reference : loan_of l.self ≡ loan_of l.initial.self;
+  count : failures_of (source_of l.initial.self) ≤ failures_of (source_of l.self);
+  lines : lines_of l.self ≡ lines_of l.initial.self;
+  moves : (a : Answers) → Awaits (g.R.Read.remaining (device_of (source_of l.self))) l.self a
+      → Awaits (g.R.Read.remaining (device_of (source_of l.initial.self))) l.initial.self a;
+  stays : (stop : Option LogFault) → stop_of l.initial.self ≡ Some stop
+      → (stop_of l.self ≡ Some stop) × (source_of l.self ≡ source_of l.initial.self);
+  read : l.self.state ≡ Failed cause.Read → stop_of l.initial.self ≡ None
+      → Rose (failures_of (source_of l.initial.self)) (failures_of (source_of l.self));
+}
+
+abbrev pub decreases-loop-self : goal.decreases-loop-self
+decreases-loop-self g l = work_of l.self

@@ -1,0 +1,49 @@
+-- What contracts see of a reader of a log.
+use Rattle.std.specs.Prelude.{◌≡◌, ℕ, ◌+◌, List, Option, None, Some, Result, Ok, Err}
+use Rattle.std.specs.Borrow.{GName, RattleType}
+use Rattle.aprs_kiss.specs.declared.device.Counted.{Counted}
+use Rattle.aprs_log.specs.Awaits.{AwaitsIn, stop_in, work_in}
+use Rattle.aprs_log.specs.LogAnswers.{Answers, Gets, ended, log_answers, then_given}
+use Rattle.aprs_log.specs.Window.{items}
+use Rattle.aprs_log.specs.declared.line.Line.{Line}
+use Rattle.aprs_log.specs.declared.fault.LogFault.{LogFault}
+use Rattle.aprs_log.specs.declared.ending.Ending.{Ending}
+use Rattle.aprs_log.specs.declared.reader.LogReader.{LogReader}
+
+-- the reader that it borrows, and the name of that loan
+abbrev pub source_of : {R : Type 0} → LogReader R → Counted R
+source_of r = r.source.now
+
+abbrev pub loan_of : {R : Type 0} → LogReader R → GName
+loan_of r = r.source.ghost_name
+
+-- how many lines it has given
+abbrev pub lines_of : {R : Type 0} → LogReader R → ℕ
+lines_of r = r.line
+
+-- the fault or the end that it answers from now on, if it has come to one
+abbrev pub stop_of : {R : Type 0} → LogReader R → Option (Option LogFault)
+stop_of r = stop_in r.state r.line
+
+-- these answers may come from now on, where the bytes that are left of the input are known
+abbrev pub Awaits : {R : Type 0} → Option (List ℕ) → LogReader R → Answers → Type 0
+Awaits known r a = AwaitsIn r.state known r.left r.line (items r.window) a
+
+-- the answers of a log of which at most `limit` bytes are got
+pub record AreAnswersOf (limit : ℕ) (input : List ℕ) (a : Answers) : Type 0 where
+  pub text : List ℕ
+  pub ending : Ending
+  pub gets : Gets limit input text ending
+  pub is : a ≡ log_answers text ending
+
+-- how much it may read yet, where it has not stopped
+abbrev pub work_of : {R : Type 0} → LogReader R → ℕ
+work_of r = work_in r.state r.left
+
+-- the answer is the next of those that may come, where the reader and what its device has left
+-- were `old` and `known`, and now are `new` and `after`
+abbrev pub GivesNext : {R : Type 0} → Result (Option Line) LogFault → Option (List ℕ) → LogReader R → Option (List ℕ) → LogReader R → Type 0
+GivesNext (Ok (Some x)) known old after new = (lines_of new ≡ lines_of old + 1)
+    × ((a : Answers) → Awaits after new a → Awaits known old (then_given x a))
+GivesNext (Ok None) known old after new = (lines_of new ≡ lines_of old) × (stop_of new ≡ Some None) × Awaits known old (ended None)
+GivesNext (Err f) known old after new = (lines_of new ≡ lines_of old) × (stop_of new ≡ Some (Some f)) × Awaits known old (ended (Some f))

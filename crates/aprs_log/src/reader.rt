@@ -1,0 +1,167 @@
+//! A reader of a log's lines.
+ghost use Rattle.std.specs.Prelude.{◌≡◌, ◌≢◌, ◌+◌, ◌≤◌, length};
+ghost use Rattle.aprs_log.specs.Awaits.{KeepsMemory};
+ghost use Rattle.aprs_log.specs.Window.{items};
+
+use crate::ending::{Ending, State, refuse_tail};
+use crate::fault::{LogCause, LogFault};
+use crate::line::{Line, MAX_LINE};
+use crate::refill::{read_more, take_line};
+use crate::window::Window;
+use aprs_kiss::Counted;
+use std::alloc::Global;
+use std::io::Read;
+
+/// Gives the lines of a log in order, up to the first fault. It has a buffer of its own.
+#[derive(Drop)]
+pub struct LogReader<'a, R> {
+    source: &'a mut Counted<R>,
+    window: Window,
+    left: u64,
+    line: u64,
+    state: State,
+    ghost few: { line + length (items window) + left ≤ 1073741824 },
+    ghost no_memory: { KeepsMemory state },
+}
+
+impl<'a, R: Read> LogReader<'a, R> {
+    ghost use Rattle.std.specs.Prelude.{◌≡◌, ◌≢◌, ◌+◌, ◌≤◌, ◌<◌, ◌++◌, length, Option, None, Some, IfNone, IfSome, IfErr};
+    ghost use Rattle.aprs_kiss.specs.Device.{device_of, failures_of, Rose};
+    ghost use Rattle.aprs_log.specs.Cut.{cut_at};
+    ghost use Rattle.aprs_log.specs.LogAnswers.{Answers, then_given};
+    ghost use Rattle.aprs_log.specs.Window.{items};
+    ghost use Rattle.aprs_log.specs.Reader.{Awaits, AreAnswersOf, GivesNext, lines_of, loan_of, source_of, stop_of, work_of};
+
+    /// A reader of the log that `head` and then the bytes of `source` are, of which it takes at most
+    /// `limit` bytes. It reads nothing yet, refuses nothing and takes no memory.
+    pub fn new(_alloc: Global, limit: u64, head: &[u8], source: &'a mut Counted<R>) -> LogReader<'a, R>
+        requires limit { limit ≤ 1073741824 }
+        requires head { length head.now ≤ 8 }
+        requires within { length head.now ≤ limit }
+        ensures same_reference { loan_of result ≡ source.entry.ghost_name }
+        ensures source { source_of result ≡ source.old }
+        ensures first { lines_of result ≡ 0 }
+        ensures going { stop_of result ≡ None }
+        // What may come are the answers of the whole log.
+        ensures whole { (a : Answers) → Awaits (R.remaining (device_of (source_of result))) result a
+            → IfSome (R.remaining (device_of source.old)) (λ input. AreAnswersOf limit (head.now ++ input) a) }
+    {
+        LogReader {
+            source,
+            window: Window::new(head),
+            left: limit - head.len() as u64,
+            line: 0,
+            state: State::Reading,
+        }
+    }
+
+    /// The number of the last line that was given, from 1, or 0 before any.
+    pub fn line(&self) -> u64
+        ensures { result ≡ lines_of self.now }
+    {
+        self.line
+    }
+
+    /// How many calls of the reader that it borrows failed.
+    pub fn failures(&self) -> u64
+        ensures { result ≡ failures_of (source_of self.now) }
+    {
+        self.source.failures()
+    }
+
+    /// The next line, where there is one, or `None` at the end, or the fault at which the log is read
+    /// no further, with the number of its line. After a fault it answers the same fault, and after the
+    /// end `None`, and reads no more. Takes no memory.
+    pub fn next(&mut self) -> Result<Option<Line>, LogFault>
+        ensures same_reference { loan_of self.new ≡ loan_of self.old }
+        ensures count { failures_of (source_of self.old) ≤ failures_of (source_of self.new) }
+        ensures gives { GivesNext result (R.remaining (device_of (source_of self.old))) self.old
+            (R.remaining (device_of (source_of self.new))) self.new }
+        // What it came to stays.
+        ensures stays { (stop : Option LogFault) → stop_of self.old ≡ Some stop
+            → (stop_of self.new ≡ Some stop) × (source_of self.new ≡ source_of self.old) }
+        ensures read { IfErr result (λ f. f.cause ≡ LogCause.Read → stop_of self.old ≡ None
+            → Rose (failures_of (source_of self.old)) (failures_of (source_of self.new))) }
+        ensures memory { IfErr result (λ f. f.cause ≢ LogCause.Memory) }
+    {
+        loop {
+            match self.state {
+                State::Reading => {}
+                State::Ended => return Ok(None),
+                State::Failed(cause) => return Err(self.fault(cause)),
+            }
+            if let Some(line) = self.step() {
+                return Ok(Some(line));
+            }
+        }
+    }
+
+    /// The fault with this cause in the line that follows.
+    fn fault(&self, cause: LogCause) -> LogFault
+        ensures { result ≡ record { line = self.now.line + 1; cause = cause } }
+    {
+        LogFault {
+            line: self.line + 1,
+            cause,
+        }
+    }
+
+    /// Gives a line that is there, or reads on, or stops.
+    fn step(&mut self) -> Option<Line>
+        requires { self.old.state ≡ State.Reading }
+        ensures same_reference { loan_of self.new ≡ loan_of self.old }
+        ensures count { failures_of (source_of self.old) ≤ failures_of (source_of self.new) }
+        ensures given { IfSome result (λ x. (lines_of self.new ≡ lines_of self.old + 1) × ((a : Answers)
+            → Awaits (R.remaining (device_of (source_of self.new))) self.new a
+            → Awaits (R.remaining (device_of (source_of self.old))) self.old (then_given x a))) }
+        ensures none { IfNone result ((lines_of self.new ≡ lines_of self.old) × ((a : Answers)
+            → Awaits (R.remaining (device_of (source_of self.new))) self.new a
+            → Awaits (R.remaining (device_of (source_of self.old))) self.old a)) }
+        ensures less { IfNone result (work_of self.new < work_of self.old) }
+        ensures read { IfNone result (self.new.state ≡ State.Failed LogCause.Read
+            → Rose (failures_of (source_of self.old)) (failures_of (source_of self.new))) }
+    {
+        match take_line(&mut self.window) {
+            Some(Ok(line)) => {
+                self.line += 1;
+                Some(line)
+            }
+            Some(Err(fault)) => {
+                self.state = State::Failed(LogCause::from(fault));
+                None
+            }
+            None => {
+                self.read_on();
+                None
+            }
+        }
+    }
+
+    /// Reads once, where no whole line is there, or stops.
+    fn read_on(&mut self)
+        requires going { self.old.state ≡ State.Reading }
+        requires none { cut_at 10 (items self.old.window) ≡ None }
+        ensures same_reference { loan_of self.new ≡ loan_of self.old }
+        ensures count { failures_of (source_of self.old) ≤ failures_of (source_of self.new) }
+        ensures lines { lines_of self.new ≡ lines_of self.old }
+        ensures moves { (a : Answers) → Awaits (R.remaining (device_of (source_of self.new))) self.new a
+            → Awaits (R.remaining (device_of (source_of self.old))) self.old a }
+        ensures less { work_of self.new < work_of self.old }
+        ensures read { self.new.state ≡ State.Failed LogCause.Read
+            → Rose (failures_of (source_of self.old)) (failures_of (source_of self.new)) }
+    {
+        if self.window.as_slice().len() > MAX_LINE {
+            self.state = State::Failed(LogCause::LongLine);
+            return;
+        }
+        match read_more(&mut self.window, self.source, self.left) {
+            Ok(count) => self.left -= count,
+            Err(ending) => {
+                self.state = match refuse_tail(self.window.as_slice(), ending) {
+                    Some(cause) => State::Failed(cause),
+                    None => State::Ended,
+                }
+            }
+        }
+    }
+}
