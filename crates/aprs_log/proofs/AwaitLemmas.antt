@@ -217,3 +217,12 @@ faults_keep fault.NoNewline c e k = cc
 faults_keep fault.Moment c e k = cc
 faults_keep fault.Receiver c e k = cc
 faults_keep fault.Hex c e k = cc
+
+-- some answers may always come
+pub something : (s : State) (known : Option (List ℕ)) (left line : ℕ) (held : List ℕ) → (a : Answers) × AwaitsIn s known left line held a
+something Reading None left line held = (ended None, tt)
+something Reading (Some input) left line held =
+    let g = gets_whole left input in
+    (answers_from (line + 1) (held ++ g.text) g.ending, record { text = g.text; ending = g.ending; gets = g.gets; is = refl })
+something Ended known left line held = (ended None, refl)
+something (Failed c) known left line held = (ended (Some (fault_after line c)), refl)

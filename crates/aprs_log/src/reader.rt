@@ -30,7 +30,7 @@ impl<'a, R: Read> LogReader<'a, R> {
     ghost use Rattle.aprs_log.specs.Cut.{cut_at};
     ghost use Rattle.aprs_log.specs.LogAnswers.{Answers, then_given};
     ghost use Rattle.aprs_log.specs.Window.{items};
-    ghost use Rattle.aprs_log.specs.Reader.{Awaits, AreAnswersOf, GivesNext, lines_of, loan_of, source_of, stop_of, work_of};
+    ghost use Rattle.aprs_log.specs.Reader.{answer_at, Awaits, AreAnswersOf, GivesNext, lines_of, loan_of, source_of, stop_of, work_of};
 
     /// A reader of the log that `head` and then the bytes of `source` are, of which it takes at most
     /// `limit` bytes. It reads nothing yet, refuses nothing and takes no memory.
@@ -45,6 +45,8 @@ impl<'a, R: Read> LogReader<'a, R> {
         // What may come are the answers of the whole log.
         ensures whole { (a : Answers) → Awaits (R.remaining (device_of (source_of result))) result a
             → IfSome (R.remaining (device_of source.old)) (λ input. AreAnswersOf limit (head.now ++ input) a) }
+        // Some answers may always come.
+        ensures awaits { (a : Answers) × Awaits (R.remaining (device_of (source_of result))) result a }
     {
         LogReader {
             source,
@@ -77,9 +79,13 @@ impl<'a, R: Read> LogReader<'a, R> {
         ensures count { failures_of (source_of self.old) ≤ failures_of (source_of self.new) }
         ensures gives { GivesNext result (R.remaining (device_of (source_of self.old))) self.old
             (R.remaining (device_of (source_of self.new))) self.new }
-        // What it came to stays.
+        // What it came to stays, and it reads no more.
+        ensures repeats { (stop : Option LogFault) → stop_of self.old ≡ Some stop → result ≡ answer_at stop }
         ensures stays { (stop : Option LogFault) → stop_of self.old ≡ Some stop
             → (stop_of self.new ≡ Some stop) × (source_of self.new ≡ source_of self.old) }
+        ensures number { IfErr result (λ f. f.line ≡ lines_of self.new + 1) }
+        // Some answers may always come.
+        ensures awaits { (a : Answers) × Awaits (R.remaining (device_of (source_of self.new))) self.new a }
         ensures read { IfErr result (λ f. f.cause ≡ LogCause.Read → stop_of self.old ≡ None
             → Rose (failures_of (source_of self.old)) (failures_of (source_of self.new))) }
         ensures memory { IfErr result (λ f. f.cause ≢ LogCause.Memory) }
@@ -117,6 +123,7 @@ impl<'a, R: Read> LogReader<'a, R> {
         ensures none { IfNone result ((lines_of self.new ≡ lines_of self.old) × ((a : Answers)
             → Awaits (R.remaining (device_of (source_of self.new))) self.new a
             → Awaits (R.remaining (device_of (source_of self.old))) self.old a)) }
+        ensures going { IfSome result (λ _. stop_of self.new ≡ None) }
         ensures less { IfNone result (work_of self.new < work_of self.old) }
         ensures read { IfNone result (self.new.state ≡ State.Failed LogCause.Read
             → Rose (failures_of (source_of self.old)) (failures_of (source_of self.new))) }
