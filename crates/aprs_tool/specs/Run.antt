@@ -62,13 +62,24 @@ cut_short ending.TooLong = Some (record { line = 0; cause = cause.TooLong })
 
 -- ---- a conversion
 
+-- of a log's lines
+abbrev pub lines_text : Form → List ℕ → Ending → List ℕ
+lines_text f t c = flat_map (line_text f) (log_answers t c).given
+
+abbrev pub lines_fault : List ℕ → Ending → Option LogFault
+lines_fault t c = (log_answers t c).fault
+
 abbrev pub convert_text : Form → List ℕ → Ending → List ℕ
 convert_text (form.Capture r m) t c = flat_map (capture_text r m) (judgements_of t)
-convert_text f t c = flat_map (line_text f) (log_answers t c).given
+convert_text form.Text t c = lines_text form.Text t c
+convert_text form.Kiss t c = lines_text form.Kiss t c
+convert_text form.Log t c = lines_text form.Log t c
 
 abbrev pub convert_fault : Form → List ℕ → Ending → Option LogFault
 convert_fault (form.Capture r m) t c = cut_short c
-convert_fault f t c = (log_answers t c).fault
+convert_fault form.Text t c = lines_fault t c
+convert_fault form.Kiss t c = lines_fault t c
+convert_fault form.Log t c = lines_fault t c
 
 -- ---- what a check tells
 

@@ -3,6 +3,7 @@
 
 mod answer;
 mod check;
+mod convert;
 mod fault;
 mod form;
 mod monitor;

@@ -1,0 +1,102 @@
+-- Lemmas on a run over the lines that a reader gives.
+use Rattle.std.proofs.Common.{◌≡◌, ◌≤◌, ℕ, ◌+◌, List, [], ◌∷◌, ◌++◌, length, Option, None, Some, Result, Ok, Err, IfSome, refl, ap, sym, ◌∙◌, arith, append_assoc, append-nil, subst}
+use Rattle.std.specs.List.{flat_map}
+use Rattle.std.specs.Io.KnownBytes.{Appends}
+use Rattle.std.proofs.KnownBytes.{Appends-nil, Appends-trans}
+use Rattle.std.proofs.lemmas.List.{flat_map_more}
+use Rattle.aprs_kiss.specs.Device.{AppendsFront}
+use Rattle.aprs_kiss.proofs.Bytes.{AppendsFront-more, AppendsFront-then}
+use Rattle.aprs_log.specs.LogAnswers.{Answers, ended, then_given}
+use Rattle.aprs_log.specs.Reader.{AreAnswersOf}
+use Rattle.aprs_log.specs.declared.line.Line.{Line}
+use Rattle.aprs_log.specs.declared.fault.LogFault.{LogFault}
+use Rattle.aprs_tool.specs.Run.{line_text, lines_text, lines_fault, RunsSo, RunsOver}
+use Rattle.aprs_tool.specs.declared.fault.InputFault.TheVariants.{Log}
+use Rattle.aprs_tool.specs.declared.fault.RunFault.{RunFault}
+use Rattle.aprs_tool.specs.declared.fault.RunFault.TheVariants.{Input, Write}
+use Rattle.aprs_tool.specs.declared.form.Form.{Form}
+
+-- these lines came before those answers
+abbrev pub prepended : List Line → Answers → Answers
+prepended seen a = record { given = seen ++ a.given; fault = a.fault }
+
+-- After these lines, the answers that may still come complete those that were to come. What may come
+-- is a fact of the answers alone, so that the reader's own state is not spoken of.
+pub record HasSeen (first now : Answers → Type 0) (seen : List Line) : Type 0 where
+  pub complete : (a : Answers) → now a → first (prepended seen a)
+
+pub HasSeen-none : (first : Answers → Type 0) → HasSeen first first []
+HasSeen-none first = record { complete = λ a h. h }
+
+pub HasSeen-line : (first now after : Answers → Type 0) (seen : List Line) (x : Line) → HasSeen first now seen
+    → ((a : Answers) → after a → now (then_given x a)) → HasSeen first after (seen ++ x ∷ [])
+HasSeen-line first now after seen x h next = record {
+  complete = λ a may. subst (λ (lines : List Line). first (record { given = lines; fault = a.fault }))
+      (sym (append_assoc seen (x ∷ []) a.given)) (h.complete (then_given x a) (next a may));
+}
+
+-- what a run over these lines has written
+pub record Ran (text : List Line → List ℕ) (first now : Answers → Type 0) (old new : Option (List ℕ)) : Type 0 where
+  pub seen : List Line
+  pub has : HasSeen first now seen
+  pub out : Appends old new (text seen)
+
+flat_map-append : (f : Line → List ℕ) (xs ys : List Line) → flat_map f (xs ++ ys) ≡ flat_map f xs ++ flat_map f ys
+flat_map-append f [] ys = refl
+flat_map-append f (x ∷ xs) ys = ap (λ l. f x ++ l) (flat_map-append f xs ys) ∙ sym (append_assoc (f x) (flat_map f xs) (flat_map f ys))
+
+-- a line was written
+pub Ran-line : (f : Line → List ℕ) (first now after : Answers → Type 0) (a b c : Option (List ℕ)) (x : Line) → Ran (flat_map f) first now a b
+    → ((answers : Answers) → after answers → now (then_given x answers)) → Appends b c (f x) → Ran (flat_map f) first after a c
+Ran-line f first now after a b c x h next out = record {
+  seen = h.seen ++ x ∷ [];
+  has = HasSeen-line first now after h.seen x h.has next;
+  out = subst (Appends a c) (flat_map_more f [] h.seen x) (Appends-trans a b c (flat_map f h.seen) (f x) h.out out);
+}
+
+-- ---- the run of a log of which these answers may come first
+
+abbrev pub IsWhole : (Answers → Type 0) → ℕ → Option (List ℕ) → Type 0
+IsWhole first limit known = (a : Answers) → first a → IfSome known (λ input. AreAnswersOf limit input a)
+
+-- it runs so where all its answers are these
+over : (form : Form) (limit : ℕ) (known : Option (List ℕ)) (r : Result (Unit {0}) RunFault) (old new : Option (List ℕ)) (a : Answers)
+    → IfSome known (λ input. AreAnswersOf limit input a) → RunsSo r old new (flat_map (line_text form) a.given) a.fault
+    → RunsOver (lines_text form) lines_fault limit known r old new
+over form limit None r old new a h runs = tt
+over form limit (Some input) r old new a h runs =
+    (h.text, h.ending, h.gets, subst (λ (x : Answers). RunsSo r old new (flat_map (line_text form) x.given) x.fault) h.is runs)
+
+-- the output was refused
+pub Ran-refused : (form : Form) (first now after : Answers → Type 0) (limit : ℕ) (known a b c : Option (List ℕ)) (x : Line)
+    → Ran (flat_map (line_text form)) first now a b → ((answers : Answers) → after answers → now (then_given x answers))
+    → (answers : Answers) → after answers → AppendsFront b c (line_text form x) → IsWhole first limit known
+    → RunsOver (lines_text form) lines_fault limit known (Err Write) a c
+Ran-refused form first now after limit known a b c x h next answers may front whole =
+    let f = line_text form in
+    let all = prepended h.seen (then_given x answers) in
+    let text : flat_map f all.given ≡ (flat_map f h.seen ++ f x) ++ flat_map f answers.given =
+        flat_map-append f h.seen (x ∷ answers.given) ∙ sym (append_assoc (flat_map f h.seen) (f x) (flat_map f answers.given)) in
+    over form limit known (Err Write) a c all (whole all (h.has.complete (then_given x answers) (next answers may)))
+        (subst (AppendsFront a c) (sym text) (AppendsFront-more a c (flat_map f h.seen ++ f x) (flat_map f answers.given)
+            (AppendsFront-then a b c (flat_map f h.seen) (f x) h.out front)))
+
+-- what was written is the text of all answers, where none is left
+whole_text : (f : Line → List ℕ) (seen : List Line) (a b : Option (List ℕ)) → Appends a b (flat_map f seen) → Appends a b (flat_map f (seen ++ []))
+whole_text f seen a b out = subst (λ (lines : List Line). Appends a b (flat_map f lines)) (sym (append-nil seen)) out
+
+-- the log ended
+pub Ran-ended : (form : Form) (first now : Answers → Type 0) (limit : ℕ) (known a b : Option (List ℕ))
+    → Ran (flat_map (line_text form)) first now a b → now (ended None) → IsWhole first limit known
+    → RunsOver (lines_text form) lines_fault limit known (Ok tt) a b
+Ran-ended form first now limit known a b h may whole =
+    over form limit known (Ok tt) a b (prepended h.seen (ended None)) (whole _ (h.has.complete (ended None) may))
+        (refl, whole_text (line_text form) h.seen a b h.out)
+
+-- the log has a fault
+pub Ran-fault : (form : Form) (first now : Answers → Type 0) (limit : ℕ) (known a b : Option (List ℕ)) (fault : LogFault)
+    → Ran (flat_map (line_text form)) first now a b → now (ended (Some fault)) → IsWhole first limit known
+    → RunsOver (lines_text form) lines_fault limit known (Err (Input 0 (Log fault))) a b
+Ran-fault form first now limit known a b fault h may whole =
+    over form limit known (Err (Input 0 (Log fault))) a b (prepended h.seen (ended (Some fault))) (whole _ (h.has.complete (ended (Some fault)) may))
+        (refl, refl, whole_text (line_text form) h.seen a b h.out)

@@ -1,0 +1,23 @@
+use Rattle.std.proofs.Common.{◌≡◌, ◌≤◌, ◌-◌, None}
+use Rattle.std.specs.List.{flat_map}
+use Rattle.aprs_kiss.specs.Device.{device_of, failures_of}
+use Rattle.aprs_log.specs.Reader.{Awaits, lines_of, loan_of, source_of, stop_of}
+use Rattle.aprs_tool.specs.Run.{line_text}
+use Rattle.aprs_tool.proofs.Seen.{Ran}
+use Rattle.aprs_tool.proofs.convert.convert_lines.Given as goal
+
+abbrev pub invariant-loop-line : goal.invariant-loop-line
+invariant-loop-line g l =
+    let remaining = g.R.Read.remaining in
+    let contents = g.W.Write.contents in
+    record {
+      same_reference : loan_of l.reader ≡ loan_of l.initial.reader;
+      reads : failures_of (source_of l.initial.reader) ≤ failures_of (source_of l.reader);
+      writes : failures_of l.initial.w ≤ failures_of l.w;
+      going : stop_of l.reader ≡ None;
+      ran : Ran (flat_map (line_text l.form)) (Awaits (remaining (device_of (source_of l.initial.reader))) l.initial.reader)
+          (Awaits (remaining (device_of (source_of l.reader))) l.reader) (contents (device_of l.initial.w)) (contents (device_of l.w));
+    }
+
+abbrev pub decreases-loop-line : goal.decreases-loop-line
+decreases-loop-line g l = 1073741824 - lines_of l.reader

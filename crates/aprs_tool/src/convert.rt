@@ -1,0 +1,49 @@
+//! A log's lines, converted as they are read.
+ghost use Rattle.std.specs.Prelude.{◌≡◌, ◌≤◌, IfErr};
+ghost use Rattle.aprs_kiss.specs.Device.{device_of, failures_of, Rose};
+ghost use Rattle.aprs_tool.specs.Run.{RunsOver, IsRead, lines_text, lines_fault};
+
+use crate::answer::write_answer;
+use crate::fault::{InputFault, RunFault};
+use crate::form::Form;
+use aprs_kiss::Counted;
+use aprs_log::{LogFault, LogReader};
+use std::alloc::Global;
+use std::io::{Read, Write};
+
+/// Writes what a form gives for each line of a log.
+pub fn convert_lines<R: Read, W: Write>(
+    alloc: Global,
+    limit: u64,
+    form: &Form,
+    r: &mut Counted<R>,
+    w: &mut Counted<W>,
+) -> Result<(), RunFault>
+    requires { limit ≤ 1073741824 }
+    ensures run { RunsOver (lines_text form.now) lines_fault limit (R.remaining (device_of r.old))
+        result (W.contents (device_of w.old)) (W.contents (device_of w.new)) }
+    ensures read { IfErr result (λ e. IsRead e → Rose (failures_of r.old) (failures_of r.new)) }
+    ensures write { IfErr result (λ e. e ≡ RunFault.Write → Rose (failures_of w.old) (failures_of w.new)) }
+{
+    let mut reader = LogReader::new(alloc, limit, &[], r);
+    loop {
+        match reader.next() {
+            Ok(Some(line)) => match write_answer(form, w, &line) {
+                Ok(()) => {}
+                Err(_) => return Err(RunFault::Write),
+            },
+            Ok(None) => return Ok(()),
+            Err(fault) => return Err(log_fault(fault)),
+        }
+    }
+}
+
+/// The fault of a run whose only input is a log with this fault.
+pub fn log_fault(fault: LogFault) -> RunFault
+    ensures { result ≡ RunFault.Input 0 (InputFault.Log fault) }
+{
+    RunFault::Input {
+        index: 0,
+        fault: InputFault::Log(fault),
+    }
+}
