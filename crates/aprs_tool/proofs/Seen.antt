@@ -6,7 +6,7 @@ use Rattle.std.proofs.KnownBytes.{Appends-nil, Appends-trans}
 use Rattle.std.proofs.lemmas.List.{flat_map_more}
 use Rattle.aprs_kiss.specs.Device.{AppendsFront}
 use Rattle.aprs_kiss.proofs.Bytes.{AppendsFront-more, AppendsFront-then}
-use Rattle.aprs_log.specs.LogAnswers.{Answers, ended, then_given}
+use Rattle.aprs_log.specs.LogAnswers.{Answers, ended, log_answers, then_given}
 use Rattle.aprs_log.specs.Reader.{AreAnswersOf}
 use Rattle.aprs_log.specs.declared.line.Line.{Line}
 use Rattle.aprs_log.specs.declared.fault.LogFault.{LogFault}
@@ -60,12 +60,15 @@ abbrev pub IsWhole : (Answers → Type 0) → ℕ → Option (List ℕ) → Type
 IsWhole first limit known = (a : Answers) → first a → IfSome known (λ input. AreAnswersOf limit input a)
 
 -- it runs so where all its answers are these
-over : (form : Form) (limit : ℕ) (known : Option (List ℕ)) (r : Result (Unit {0}) RunFault) (old new : Option (List ℕ)) (a : Answers)
-    → IfSome known (λ input. AreAnswersOf limit input a) → RunsSo r old new (flat_map (line_text form) a.given) a.fault
-    → RunsOver (lines_text form) lines_fault limit known r old new
-over form limit None r old new a h runs = tt
-over form limit (Some input) r old new a h runs =
-    (h.text, h.ending, h.gets, subst (λ (x : Answers). RunsSo r old new (flat_map (line_text form) x.given) x.fault) h.is runs)
+pub over : (whole : Answers → List ℕ) (limit : ℕ) (known : Option (List ℕ)) (r : Result (Unit {0}) RunFault) (old new : Option (List ℕ)) (a : Answers)
+    → IfSome known (λ input. AreAnswersOf limit input a) → RunsSo r old new (whole a) a.fault
+    → RunsOver (λ t c. whole (log_answers t c)) lines_fault limit known r old new
+over whole limit None r old new a h runs = tt
+over whole limit (Some input) r old new a h runs =
+    (h.text, h.ending, h.gets, subst (λ (x : Answers). RunsSo r old new (whole x) x.fault) h.is runs)
+
+abbrev lines_of : Form → Answers → List ℕ
+lines_of form a = flat_map (line_text form) a.given
 
 -- the output was refused
 pub Ran-refused : (form : Form) (first now after : Answers → Type 0) (limit : ℕ) (known a b c : Option (List ℕ)) (x : Line)
@@ -77,7 +80,7 @@ Ran-refused form first now after limit known a b c x h next answers may front wh
     let all = prepended h.seen (then_given x answers) in
     let text : flat_map f all.given ≡ (flat_map f h.seen ++ f x) ++ flat_map f answers.given =
         flat_map-append f h.seen (x ∷ answers.given) ∙ sym (append_assoc (flat_map f h.seen) (f x) (flat_map f answers.given)) in
-    over form limit known (Err Write) a c all (whole all (h.has.complete (then_given x answers) (next answers may)))
+    over (lines_of form) limit known (Err Write) a c all (whole all (h.has.complete (then_given x answers) (next answers may)))
         (subst (AppendsFront a c) (sym text) (AppendsFront-more a c (flat_map f h.seen ++ f x) (flat_map f answers.given)
             (AppendsFront-then a b c (flat_map f h.seen) (f x) h.out front)))
 
@@ -90,7 +93,7 @@ pub Ran-ended : (form : Form) (first now : Answers → Type 0) (limit : ℕ) (kn
     → Ran (flat_map (line_text form)) first now a b → now (ended None) → IsWhole first limit known
     → RunsOver (lines_text form) lines_fault limit known (Ok tt) a b
 Ran-ended form first now limit known a b h may whole =
-    over form limit known (Ok tt) a b (prepended h.seen (ended None)) (whole _ (h.has.complete (ended None) may))
+    over (lines_of form) limit known (Ok tt) a b (prepended h.seen (ended None)) (whole _ (h.has.complete (ended None) may))
         (refl, whole_text (line_text form) h.seen a b h.out)
 
 -- the log has a fault
@@ -98,5 +101,5 @@ pub Ran-fault : (form : Form) (first now : Answers → Type 0) (limit : ℕ) (kn
     → Ran (flat_map (line_text form)) first now a b → now (ended (Some fault)) → IsWhole first limit known
     → RunsOver (lines_text form) lines_fault limit known (Err (Input 0 (Log fault))) a b
 Ran-fault form first now limit known a b fault h may whole =
-    over form limit known (Err (Input 0 (Log fault))) a b (prepended h.seen (ended (Some fault))) (whole _ (h.has.complete (ended (Some fault)) may))
+    over (lines_of form) limit known (Err (Input 0 (Log fault))) a b (prepended h.seen (ended (Some fault))) (whole _ (h.has.complete (ended (Some fault)) may))
         (refl, refl, whole_text (line_text form) h.seen a b h.out)

@@ -110,8 +110,12 @@ abbrev pub totals : Option LogFault → List Line → List ℕ
 totals None lines = totals_line (count_heard lines) (count_passed lines)
 totals (Some fault) lines = []
 
-abbrev pub check_text : Answers → List ℕ
-check_text a = check_lines 1 a.given ++ totals a.fault a.given
+-- of a log's answers
+abbrev pub check_of : Answers → List ℕ
+check_of a = check_lines 1 a.given ++ totals a.fault a.given
+
+abbrev pub check_text : List ℕ → Ending → List ℕ
+check_text t c = check_of (log_answers t c)
 
 -- ---- how a run goes
 

@@ -1,19 +1,59 @@
 //! What a check tells of a log.
-ghost use Rattle.std.specs.Prelude.{◌≡◌, ◌≤◌, ◌++◌, codes, OnOk, OnErr};
+ghost use Rattle.std.specs.Prelude.{◌≡◌, ◌≤◌, ◌++◌, codes, OnOk, OnErr, IfErr};
 ghost use Rattle.std.specs.Fmt.{decimal};
 ghost use Rattle.std.specs.Io.KnownBytes.{Appends};
 ghost use Rattle.arrayvec.specs.ArrayVec.{array_vec_len};
 ghost use Rattle.aprs_kiss.specs.Device.{device_of, failures_of, Rose, AppendsFront};
 ghost use Rattle.aprs_log.specs.Fault.{reason_name};
-ghost use Rattle.aprs_tool.specs.Run.{ended_by_lf, passed_line, totals_line};
+ghost use Rattle.aprs_tool.specs.Run.{RunsOver, IsRead, check_text, lines_fault, ended_by_lf, passed_line, totals_line};
 
+use crate::convert::log_fault;
+use crate::fault::RunFault;
 use crate::text::{Text, push_all, push_decimal};
 use aprs_kiss::{Counted, WriteFault, send};
-use aprs_log::Reason;
-use std::io::Write;
+use aprs_log::{Line, LogReader, Reason};
+use std::alloc::Global;
+use std::io::{Read, Write};
+
+/// Writes a line for each line of a log that holds no frame, with the reason, and last how many lines
+/// are heard and how many passed over. Requires that `limit` is at most `MAX_INPUT`. At a fault all
+/// lines before it have been told of, and there are no totals; at `Write` a front of the text was
+/// written. Takes no memory.
+pub fn check_run<R: Read, W: Write>(
+    alloc: Global,
+    limit: u64,
+    r: &mut Counted<R>,
+    w: &mut Counted<W>,
+) -> Result<(), RunFault>
+    requires { limit ≤ 1073741824 }
+    ensures run { RunsOver check_text lines_fault limit (R.remaining (device_of r.old))
+        result (W.contents (device_of w.old)) (W.contents (device_of w.new)) }
+    ensures read { IfErr result (λ e. IsRead e → Rose (failures_of r.old) (failures_of r.new)) }
+    ensures write { IfErr result (λ e. e ≡ RunFault.Write → Rose (failures_of w.old) (failures_of w.new)) }
+{
+    let mut reader = LogReader::new(alloc, limit, &[], r);
+    let mut heard = 0;
+    let mut passed = 0;
+    loop {
+        match reader.next() {
+            Ok(Some(Line::Heard(_))) => heard += 1,
+            Ok(Some(Line::Passed(reason))) => match write_passed(w, reader.line(), reason) {
+                Ok(()) => passed += 1,
+                Err(_) => return Err(RunFault::Write),
+            },
+            Ok(None) => {
+                return match write_totals(w, heard, passed) {
+                    Ok(()) => Ok(()),
+                    Err(_) => Err(RunFault::Write),
+                };
+            }
+            Err(fault) => return Err(log_fault(fault)),
+        }
+    }
+}
 
 /// Writes that a line is passed over, and why.
-pub fn write_passed<W: Write>(
+fn write_passed<W: Write>(
     w: &mut Counted<W>,
     line: u64,
     reason: Reason,
@@ -28,7 +68,7 @@ pub fn write_passed<W: Write>(
 }
 
 /// Writes how many lines are heard and how many passed over.
-pub fn write_totals<W: Write>(
+fn write_totals<W: Write>(
     w: &mut Counted<W>,
     heard: u64,
     passed: u64,

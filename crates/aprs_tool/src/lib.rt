@@ -10,6 +10,7 @@ mod monitor;
 mod text;
 mod words;
 
+pub use check::check_run;
 pub use fault::{InputFault, RunFault, status_of};
 pub use form::{Form, Job, JobFault};
 pub use words::{command_is_simple, job};

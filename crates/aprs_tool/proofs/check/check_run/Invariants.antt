@@ -1,0 +1,22 @@
+use Rattle.std.proofs.Common.{◌≡◌, ◌≤◌, ◌-◌, None}
+use Rattle.aprs_kiss.specs.Device.{device_of, failures_of}
+use Rattle.aprs_log.specs.Reader.{Awaits, lines_of, loan_of, source_of, stop_of}
+use Rattle.aprs_tool.proofs.Checked.{Checked}
+use Rattle.aprs_tool.proofs.check.check_run.Given as goal
+
+abbrev pub invariant-loop-heard : goal.invariant-loop-heard
+invariant-loop-heard g l =
+    let remaining = g.R.Read.remaining in
+    let contents = g.W.Write.contents in
+    record {
+      same_reference : loan_of l.reader ≡ loan_of l.initial.reader;
+      reads : failures_of (source_of l.initial.reader) ≤ failures_of (source_of l.reader);
+      writes : failures_of l.initial.w ≤ failures_of l.w;
+      going : stop_of l.reader ≡ None;
+      checked : Checked (Awaits (remaining (device_of (source_of l.initial.reader))) l.initial.reader)
+          (Awaits (remaining (device_of (source_of l.reader))) l.reader) (contents (device_of l.initial.w)) (contents (device_of l.w))
+          l.heard l.passed (lines_of l.reader);
+    }
+
+abbrev pub decreases-loop-heard : goal.decreases-loop-heard
+decreases-loop-heard g l = 1073741824 - lines_of l.reader
