@@ -1,5 +1,5 @@
 -- Lemmas on the answers of a log, of which only the first bytes may be known.
-use Rattle.std.proofs.Common.{◌≡◌, ℕ, ◌+◌, ◌-◌, ◌≤◌, ◌<◌, List, [], ◌∷◌, ◌++◌, Bool, true, false, length, get_or, take, drop, Option, None, Some, Result, Ok, Err, ◌⊎◌, inl, inr, cond, refl, arith, sym, ap, ◌∙◌, append_assoc, append-nil, subst, length-append, length-take, nat_lt}
+use Rattle.std.proofs.Common.{◌≡◌, ℕ, ◌+◌, ◌≤◌, ◌<◌, List, [], ◌∷◌, ◌++◌, Bool, true, false, length, get_or, None, Some, Err, inl, inr, cond, refl, arith, sym, ap, ◌∙◌, append_assoc, append-nil, length-append, length-take, nat_lt}
 use Rattle.std.specs.List.{slice_split, position_or_len, before_first, after_first, All}
 use Rattle.std.proofs.lemmas.List.Splits.{slice_split_at, slice_split_none, length-slice_split}
 use Rattle.std.proofs.lemmas.List.Sums.{fails_before_first, passes_at_first, split_at_first}
@@ -7,12 +7,10 @@ use Rattle.std.proofs.lemmas.List.{get_or-take}
 use Rattle.std.proofs.Math.ListN.{get_or-append}
 use Rattle.std.proofs.lemmas.Bool.Decides.{nat_tests}
 use Rattle.std.proofs.lemmas.Bool.{cases_lt}
-use Rattle.aprs_log.specs.Cut.{Cut, cut_at, has_byte, is_byte}
+use Rattle.aprs_log.specs.Cut.{Cut, cut_at, has_byte}
 use Rattle.aprs_log.specs.Line.{line_of, line_of_cut}
-use Rattle.aprs_log.specs.LogAnswers.{Answers, is_lf, tail_cause, fault_at, ended, then_answers, answers_of, answers_from}
+use Rattle.aprs_log.specs.LogAnswers.{is_lf, tail_cause, fault_at, ended, then_answers, answers_of, answers_from}
 use Rattle.aprs_log.specs.declared.ending.Ending.{Ending}
-use Rattle.aprs_log.specs.declared.line.Line.{Line}
-use Rattle.aprs_log.specs.declared.fault.LineFault.{LineFault}
 use Rattle.aprs_log.specs.declared.fault.LineFault.TheVariants as fault
 use Rattle.aprs_log.specs.declared.fault.LogCause.TheVariants as cause
 
@@ -104,6 +102,6 @@ answers_from-long n held more c none long =
     elim (cases_lt (position_or_len is_lf all) (length all)) [
       | inl lt ↦ ap (λ l. answers_from n l c) (sym (append-nil all)) ∙ from_first n all [] c lt
           ∙ ap (λ r. then_answers n r (answers_from (n + 1) (after_first is_lf all ++ []) c))
-              (too_long_line (before_first is_lf all) (simp length-take (omega arith)))
+          (too_long_line (before_first is_lf all) (simp length-take (omega arith)))
       | inr ge ↦ answers_from-tail n all c ge ∙ ap (λ o. ended (fault_at n o)) (too_long_tail all c (simp length-append (omega arith)))
     ]

@@ -1,12 +1,12 @@
 -- Lemmas on what a reader of a log may still answer.
-use Rattle.std.proofs.Common.{◌≡◌, ℕ, ◌+◌, ◌-◌, ◌<◌, ◌≤◌, List, [], ◌∷◌, ◌++◌, length, take, drop, Option, None, Some, Ok, Err, IfSome, ◌⊎◌, inl, inr, refl, arith, sym, ap, ◌∙◌, append_assoc, append-nil, length-append, length-take, length-drop, take-append-drop, subst}
+use Rattle.std.proofs.Common.{◌≡◌, ℕ, ◌+◌, ◌-◌, ◌<◌, ◌≤◌, List, [], ◌∷◌, ◌++◌, length, take, drop, Option, None, Some, Ok, Err, IfSome, inl, inr, refl, arith, sym, ap, ◌∙◌, append_assoc, append-nil, length-append, length-take, length-drop, take-append-drop, subst}
 use Rattle.std.specs.Io.KnownBytes.{Consumes, IsAtEnd}
 use Rattle.std.proofs.lemmas.Bool.{cases_lt}
 use Rattle.aprs_log.specs.Cut.{Cut, cut_at}
 use Rattle.aprs_log.specs.Fault.{log_cause_of}
 use Rattle.aprs_log.specs.Line.{line_of}
 use Rattle.aprs_log.specs.LogAnswers.{Answers, EndsSo, Gets, answers_from, ended, fault_at, tail_cause, then_answers, then_given}
-use Rattle.aprs_log.specs.Awaits.{Awaited, AwaitsIn, EndsHere, KeepsMemory, fault_after, state_after}
+use Rattle.aprs_log.specs.Awaits.{AwaitsIn, EndsHere, KeepsMemory, fault_after, state_after}
 use Rattle.aprs_log.specs.Reader.{AreAnswersOf}
 use Rattle.aprs_log.specs.declared.line.Line.{Line}
 use Rattle.aprs_log.specs.declared.fault.LineFault.{LineFault}

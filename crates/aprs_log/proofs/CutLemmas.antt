@@ -1,9 +1,9 @@
 -- Lemmas on texts that are cut at a byte.
-use Rattle.std.proofs.Common.{◌≡◌, ℕ, ◌+◌, ◌-◌, ◌<◌, ◌≤◌, Bool, true, false, List, [], ◌∷◌, ◌++◌, length, get_or, take, drop, Option, None, Some, cond, refl, arith, sym, ap, ◌∙◌, eqb-true, eq-eqb, length-append}
+use Rattle.std.proofs.Common.{◌≡◌, ℕ, ◌+◌, ◌-◌, ◌<◌, ◌≤◌, Bool, true, false, List, [], ◌∷◌, ◌++◌, length, get_or, take, drop, None, Some, cond, refl, arith, sym, ap, ◌∙◌, eqb-true, eq-eqb, length-append}
 use Rattle.std.specs.List.{position_or_len, before_first, after_first, AllByRecursion}
 use Rattle.std.proofs.lemmas.Bool.Decides.{nat_tests}
 use Rattle.std.proofs.lemmas.List.{take_rest}
-use Rattle.std.proofs.lemmas.List.Sums.{position_or_len_is, split_at_first, passes_at_first, fails_before_first}
+use Rattle.std.proofs.lemmas.List.Sums.{split_at_first, passes_at_first}
 use Rattle.std.proofs.Math.Seq.{take-append_seam, drop-append-add}
 use Rattle.aprs_log.specs.Cut.{Cut, cut_at, has_byte, is_byte}
 
@@ -25,7 +25,7 @@ cut_at-found stop text n e h =
     let has : has_byte stop text ≡ true = grind (arith, nat_tests) in
     let before : take n text ≡ before_first (is_byte stop) text = ap (λ k. take k text) e in
     let after : take (length text - (n + 1)) (drop (n + 1) text) ≡ after_first (is_byte stop) text
-        = take_rest text (n + 1) ∙ ap (λ k. drop (k + 1) text) e in
+    = take_rest text (n + 1) ∙ ap (λ k. drop (k + 1) text) e in
     let same : (record { before = take n text; after = take (length text - (n + 1)) (drop (n + 1) text) }) ≡ parts_of stop text = cc in
     ap (λ (x : Cut). Some x) same ∙ some_if (has_byte stop text) (parts_of stop text) has
 

@@ -1,5 +1,5 @@
 -- The days of 1970 to 2099.
-use Rattle.std.proofs.Common.{◌≡◌, ℕ, zero, suc, Bool, true, false, cond, nat_lt, ◌+◌, ◌-◌, ◌<◌, ◌≤◌, refl, arith, ℤ, pos, negsuc, unsigned_abs, ap, ◌+ℤ◌, ◌-ℤ◌, ◌≤ℤ◌, ◌<ℤ◌, ◌∙◌, sym, subst, inl, inr}
+use Rattle.std.proofs.Common.{◌≡◌, ℕ, zero, suc, Bool, true, false, cond, nat_lt, ◌+◌, ◌-◌, ◌<◌, ◌≤◌, refl, arith, ℤ, pos, negsuc, unsigned_abs, ap, ◌+ℤ◌, ◌≤ℤ◌, ◌∙◌, sym, subst, inl, inr}
 use Rattle.std.proofs.lemmas.Int.{by_lt_z}
 use Rattle.std.proofs.lemmas.Bool.{cases_lt}
 use Rattle.std.proofs.lemmas.Bool.Decides.{nat_tests}
@@ -202,7 +202,7 @@ next_nth n d h = by (nat_lt d.day (days_in_month (pos d.year) d.month)) refl (na
   where
     by : (a : Bool) → nat_lt d.day (days_in_month (pos d.year) d.month) ≡ a → (b : Bool) → nat_lt d.month 12 ≡ b
         → IsNth (n + 1) (cond a (record { year = d.year; month = d.month; day = d.day + 1 })
-            (cond b (record { year = d.year; month = d.month + 1; day = 1 }) (record { year = d.year + 1; month = 1; day = 1 })))
+        (cond b (record { year = d.year; month = d.month + 1; day = 1 }) (record { year = d.year + 1; month = 1; day = 1 })))
     by true e b f = next_in_month n d h (grind (arith, nat_tests))
     by false e true f = next_month n d h (grind (arith, nat_tests)) (grind (arith, nat_tests))
     by false e false f = next_year n d h (grind (arith, nat_tests)) (grind (arith, nat_tests))

@@ -1,6 +1,6 @@
 -- Lemmas on the lines of a log.
-use Rattle.std.proofs.Common.{◌≡◌, ◌↔◌, ℕ, ◌+◌, ◌*◌, ◌/◌, ◌%◌, ◌<◌, ◌≤◌, ◌&&◌, Bool, true, false, List, [], ◌∷◌, ◌++◌, length, Option, None, Some, Result, Ok, Err, IsOk, IsTrue, cond, refl, arith, sym, ap, ◌∙◌, subst, append_assoc, nat_lt}
-use Rattle.std.specs.List.{list_all, AllByRecursion}
+use Rattle.std.proofs.Common.{◌≡◌, ◌↔◌, ℕ, ◌<◌, ◌≤◌, ◌&&◌, Bool, true, false, List, [], ◌∷◌, ◌++◌, length, Option, None, Some, Result, Ok, Err, IsOk, cond, refl, arith, sym, ap, ◌∙◌, subst, append_assoc, nat_lt}
+use Rattle.std.specs.List.{list_all}
 use Rattle.std.proofs.lemmas.Bool.Decides.{nat_tests}
 use Rattle.hex.specs.Hex.{decode_of}
 use Rattle.hex.specs.declared.error.FromHexError.{FromHexError}
@@ -36,13 +36,64 @@ IsName-lacks : (r : List ℕ) → IsName r → Lacks 32 r
 IsName-lacks r h = names_lack r (both _ (list_all is_name_byte r) h).1
 
 civil_text-lacks : (c : Civil) → FitsText c → Lacks 32 (civil_text c)
-civil_text-lacks c h =
-    (not_space _ (omega arith), (not_space _ (omega arith), (not_space _ (omega arith),
-    (not_space _ (omega arith), (refl, (not_space _ (omega arith), (not_space _ (omega arith),
-    (refl, (not_space _ (omega arith), (not_space _ (omega arith), (refl,
-    (not_space _ (omega arith), (not_space _ (omega arith), (refl, (not_space _ (omega arith),
-    (not_space _ (omega arith), (refl, (not_space _ (omega arith), (not_space _ (omega arith),
-    (refl, tt))))))))))))))))))))
+civil_text-lacks c h = (
+  not_space _ (omega arith),
+  (
+    not_space _ (omega arith),
+    (
+      not_space _ (omega arith),
+      (
+        not_space _ (omega arith),
+        (
+          refl,
+          (
+            not_space _ (omega arith),
+            (
+              not_space _ (omega arith),
+              (
+                refl,
+                (
+                  not_space _ (omega arith),
+                  (
+                    not_space _ (omega arith),
+                    (
+                      refl,
+                      (
+                        not_space _ (omega arith),
+                        (
+                          not_space _ (omega arith),
+                          (
+                            refl,
+                            (
+                              not_space _ (omega arith),
+                              (
+                                not_space _ (omega arith),
+                                (
+                                  refl,
+                                  (
+                                    not_space _ (omega arith),
+                                    (
+                                      not_space _ (omega arith),
+                                      (refl, tt),
+                                    ),
+                                  ),
+                                ),
+                              ),
+                            ),
+                          ),
+                        ),
+                      ),
+                    ),
+                  ),
+                ),
+              ),
+            ),
+          ),
+        ),
+      ),
+    ),
+  ),
+)
 
 MomentText-lacks : (m : ℕ) (t : List ℕ) → MomentText m t → Lacks 32 t
 MomentText-lacks m t h = subst (Lacks 32) (sym h.spelled) (civil_text-lacks h.civil (IsCivil-fits h.civil h.real))

@@ -1,12 +1,12 @@
 -- Lemmas on moments and their texts.
-use Rattle.std.proofs.Common.{◌≡◌, ◌≢◌, ℕ, ◌+◌, ◌-◌, ◌*◌, ◌/◌, ◌%◌, ◌<◌, ◌≤◌, ◌↔◌, min, Bool, true, false, List, [], ◌∷◌, ◌++◌, length, Option, None, Some, pos, ◌+ℤ◌, ◌*ℤ◌, unsigned_abs, refl, arith, rules, sym, ap, ◌∙◌, subst, ◌&&◌, ◌⊎◌, inl, inr, IsTrue, cond, nat_eq}
+use Rattle.std.proofs.Common.{◌≡◌, ℕ, ◌+◌, ◌*◌, ◌/◌, ◌%◌, ◌<◌, ◌≤◌, ◌↔◌, Bool, true, false, List, Option, None, Some, pos, ◌+ℤ◌, ◌*ℤ◌, unsigned_abs, refl, arith, sym, ap, ◌∙◌, ◌&&◌, cond}
 use Rattle.std.proofs.lemmas.Bool.Decides.{nat_tests}
 use Rattle.std.specs.Str.{bytes_eq}
 use Rattle.std.proofs.lemmas.Slice.Eq.{bytes_eq-Decides}
-use Rattle.jiff_core.specs.Calendar.{days_from_civil, days_in_month, IsDate}
+use Rattle.jiff_core.specs.Calendar.{days_from_civil, days_in_month}
 use Rattle.jiff_core.proofs.SignedLemmas.{signed_arith}
 use Rattle.aprs_log.proofs.Days.{IsDay-number, one_date, NthDay, day_after-is}
-use Rattle.aprs_log.specs.Moment.{Civil, civil_at, civil_text, digit_of, pair_at, two_digits, IsDay, IsCivil, is_date, is_time, is_civil, second_of_day, seconds_of, MomentText, moment_of, day_after, civil_after, moment_text}
+use Rattle.aprs_log.specs.Moment.{Civil, civil_at, civil_text, digit_of, IsCivil, is_date, is_time, is_civil, second_of_day, seconds_of, MomentText, moment_of, day_after, civil_after, moment_text}
 
 -- a civil time whose parts have as many digits as a text has room for
 pub record FitsText (c : Civil) : Type 0 where
@@ -35,7 +35,12 @@ four n h =
 
 abbrev civil_of : ℕ → ℕ → ℕ → ℕ → ℕ → ℕ → Civil
 civil_of year month day hour minute second = record {
-  year = year; month = month; day = day; hour = hour; minute = minute; second = second;
+  year = year;
+  month = month;
+  day = day;
+  hour = hour;
+  minute = minute;
+  second = second;
 }
 
 same_civil : (y m d h n s y' m' d' h' n' s' : ℕ) → y ≡ y' → m ≡ m' → d ≡ d' → h ≡ h' → n ≡ n' → s ≡ s'
@@ -142,7 +147,7 @@ moment_of-civil c h =
     let t = civil_text c in
     let e = civil_at-civil_text c (IsCivil-fits c h) in
     let there : moment_of t ≡ (cond (is_civil c && bytes_eq (civil_text c) t) (Some (seconds_of c)) None)
-        = ap (λ c. cond (is_civil c && bytes_eq (civil_text c) t) (Some (seconds_of c)) None) e in
+    = ap (λ c. cond (is_civil c && bytes_eq (civil_text c) t) (Some (seconds_of c)) None) e in
     there ∙ if_both (is_civil c) (bytes_eq t t) (seconds_of c) (IsCivil-is_civil c h) ((bytes_eq-Decides t t).1 refl)
 
 pub text-moment_of : (t : List ℕ) (m : ℕ) → MomentText m t → moment_of t ≡ Some m
@@ -218,7 +223,7 @@ moment_text-is m h =
     let d = civil_after-day m h in
     let sum : 86400 * n + (s / 3600 * 3600 + s / 60 % 60 * 60 + s % 60) ≡ m = omega arith in
     let number : pos (86400 * n + (s / 3600 * 3600 + s / 60 % 60 * 60 + s % 60)) ≡ (pos n *ℤ pos 86400) +ℤ pos (s / 3600 * 3600 + s / 60 % 60 * 60 + s % 60)
-        = omega (arith, signed_arith) in
+    = omega (arith, signed_arith) in
     record {
       civil = civil_after m;
       real = record { date = d.date; hour = omega arith; minute = omega arith; second = omega arith };

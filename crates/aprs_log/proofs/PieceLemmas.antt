@@ -1,10 +1,9 @@
 -- Lemmas on the pieces of a line's bytes.
-use Rattle.std.proofs.Common.{◌≡◌, ◌≢◌, ℕ, ◌+◌, ◌-◌, ◌<◌, ◌≤◌, Bool, true, false, not, ◌||◌, List, [], ◌∷◌, ◌++◌, length, get_or, take, drop, Option, None, Some, Result, Ok, Err, cond, refl, arith, sym, ap, ◌∙◌, subst, append_assoc, append-nil, take-append-drop, length-append, map, filter, ◌⊎◌, inl, inr, suc, nat_eq, eqb-true}
-use Rattle.std.proofs.lemmas.Bool.Decides.{nat_tests}
+use Rattle.std.proofs.Common.{◌≡◌, ◌≢◌, ℕ, ◌-◌, ◌<◌, ◌≤◌, Bool, true, false, not, ◌||◌, List, [], ◌∷◌, ◌++◌, length, get_or, take, drop, None, Some, Result, Ok, Err, cond, refl, arith, sym, ap, ◌∙◌, subst, append_assoc, append-nil, take-append-drop, length-append, map, filter, ◌⊎◌, inl, inr, suc, nat_eq, eqb-true}
 use Rattle.std.proofs.lemmas.List.{take_rest}
 use Rattle.std.proofs.Math.Seq.{drop-cons, take-length, drop-length}
 use Rattle.aprs_kiss.specs.Spelling.{HasNoEnd, is_frame_end, kiss_text}
-use Rattle.aprs_kiss.specs.Stream.{rest_of, pieces_of, is_nonempty, nonempty_pieces_of, judgements_of, EndsPiece}
+use Rattle.aprs_kiss.specs.Stream.{rest_of, is_nonempty, judgements_of, EndsPiece}
 use Rattle.aprs_kiss.specs.Judgement.{Judgement, judgement_of}
 use Rattle.aprs_kiss.proofs.Pieces.{HasNoEnd-nil, HasNoEnd-append, HasNoEnd-one, pieces_of-end, rest_of-none, rest_of-end, cuts, judgements_of-append, judgements_of-empty, judgements_of-none}
 use Rattle.aprs_kiss.specs.Reader.{told_by}

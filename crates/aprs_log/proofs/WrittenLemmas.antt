@@ -1,7 +1,6 @@
 -- Lemmas on the line that is written for a reception.
-use Rattle.std.proofs.Common.{◌≡◌, ℕ, ◌+◌, ◌*◌, ◌<◌, ◌≤◌, List, [], ◌∷◌, ◌++◌, length, get_or, take, Ok, Err, Result, Some, None, refl, arith, sym, ap, ◌∙◌, append-nil, append_assoc, subst}
+use Rattle.std.proofs.Common.{◌≡◌, ℕ, ◌+◌, ◌<◌, ◌≤◌, List, [], ◌∷◌, ◌++◌, length, get_or, take, Ok, refl, arith, sym, ap, ◌∙◌, append-nil, subst}
 use Rattle.std.proofs.lemmas.List.{take_more}
-use Rattle.std.specs.List.{flat_map}
 use Rattle.aprs_kiss.specs.Spelling.{spelling_of, spelling_of_byte, kiss_text}
 use Rattle.aprs_kiss.proofs.Escapes.{spelling_of-append}
 use Rattle.aprs_ax25.specs.Frame.{FrameOf, Parts}

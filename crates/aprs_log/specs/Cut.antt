@@ -1,6 +1,6 @@
 -- Texts that are cut at a byte.
-use Rattle.std.specs.Prelude.{◌≡◌, ℕ, ◌==◌, Bool, if◌then◌else◌, List, ◌∷◌, ◌++◌, length, Option, None, Some, nat_lt}
-use Rattle.std.specs.List.{position_or_len, before_first, after_first, AllPass}
+use Rattle.std.specs.Prelude.{ℕ, ◌==◌, Bool, if◌then◌else◌, List, length, Option, None, Some, nat_lt}
+use Rattle.std.specs.List.{position_or_len, before_first, after_first}
 use Rattle.std.specs.Borrow.{Bor}
 
 abbrev pub is_byte : ℕ → ℕ → Bool

@@ -1,6 +1,6 @@
 -- What contracts see of a reader of a log.
 use Rattle.std.specs.Prelude.{◌≡◌, ℕ, ◌+◌, List, Option, None, Some, Result, Ok, Err}
-use Rattle.std.specs.Borrow.{GName, RattleType}
+use Rattle.std.specs.Borrow.{GName}
 use Rattle.aprs_kiss.specs.declared.device.Counted.{Counted}
 use Rattle.aprs_log.specs.Awaits.{AwaitsIn, stop_in, work_in}
 use Rattle.aprs_log.specs.LogAnswers.{Answers, Gets, ended, log_answers, then_given}

@@ -23,16 +23,24 @@ impl Model for CivilTime {
     ghost Value = { Civil };
 
     ghost view = { λ c. record {
-        year = c.year; month = c.month; day = c.day;
-        hour = c.hour; minute = c.minute; second = c.second;
+      year = c.year;
+      month = c.month;
+      day = c.day;
+      hour = c.hour;
+      minute = c.minute;
+      second = c.second;
     } };
 
     ghost invariant = { λ c. (c.year < 10000) × (c.month < 100) × (c.day < 100)
         × (c.hour < 100) × (c.minute < 100) × (c.second < 100) };
 
     ghost inverse = { λ c. record {
-        year = c.year; month = c.month; day = c.day;
-        hour = c.hour; minute = c.minute; second = c.second;
+      year = c.year;
+      month = c.month;
+      day = c.day;
+      hour = c.hour;
+      minute = c.minute;
+      second = c.second;
     } };
 }
 

@@ -1,8 +1,15 @@
 //! Why a line is refused or passed over, and why a log ends before its end.
 ghost use Rattle.std.specs.Prelude.{◌≡◌, codes};
 ghost use Rattle.aprs_log.specs.Fault.{
-    line_fault_number, line_fault_name, log_cause_number, log_cause_name, log_cause_of,
-    reason_number, reason_name, reason_of_pass, reason_of_frame,
+  line_fault_number,
+  line_fault_name,
+  log_cause_number,
+  log_cause_name,
+  log_cause_of,
+  reason_number,
+  reason_name,
+  reason_of_pass,
+  reason_of_frame,
 };
 
 use aprs_ax25::FrameFault;

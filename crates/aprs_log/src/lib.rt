@@ -11,18 +11,20 @@ mod hexadecimal;
 mod line;
 mod line_bytes;
 mod moment;
-mod receiver;
 mod reader;
+mod receiver;
 mod reception;
 mod refill;
+#[cfg(test)]
+mod tests;
 mod window;
 mod write;
 
 pub use fault::{LineFault, LogCause, LogFault, Reason};
 pub use line::{Line, MAX_LINE, read_line};
 pub use moment::Moment;
-pub use receiver::Receiver;
 pub use reader::LogReader;
+pub use receiver::Receiver;
 pub use reception::Reception;
 pub use write::write_line;
 

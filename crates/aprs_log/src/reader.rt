@@ -34,7 +34,12 @@ impl<'a, R: Read> LogReader<'a, R> {
 
     /// A reader of the log that `head` and then the bytes of `source` are, of which it takes at most
     /// `limit` bytes. It reads nothing yet, refuses nothing and takes no memory.
-    pub fn new(_alloc: Global, limit: u64, head: &[u8], source: &'a mut Counted<R>) -> LogReader<'a, R>
+    pub fn new(
+        _alloc: Global,
+        limit: u64,
+        head: &[u8],
+        source: &'a mut Counted<R>,
+    ) -> LogReader<'a, R>
         requires limit { limit ≤ 1073741824 }
         requires head { length head.now ≤ 8 }
         requires within { length head.now ≤ limit }

@@ -1,4 +1,4 @@
-use Rattle.std.proofs.Common.{◌≡◌, ℕ, arith, rules, pos, ap, ◌∙◌, w16, sym, FitsSigned, unsigned_abs}
+use Rattle.std.proofs.Common.{arith, ap, ◌∙◌, w16, FitsSigned}
 use Rattle.std.proofs.lemmas.Int.{to_z-of_z}
 use Rattle.jiff_core.specs.Calendar.{days_from_civil}
 use Rattle.jiff_core.proofs.SignedLemmas.{signed_arith}

@@ -1,6 +1,4 @@
-use Rattle.std.proofs.Common.{◌≡◌, ◌≤◌, length, arith, subst}
-use Rattle.std.specs.List.{position_or_len}
-use Rattle.aprs_log.specs.Cut.{is_byte}
+use Rattle.std.proofs.Common.{arith}
 use Rattle.aprs_log.proofs.CutLemmas.{cut_at-found, cut_at-missing}
 use Rattle.aprs_log.proofs.cut.cut_at.Goals as goal
 

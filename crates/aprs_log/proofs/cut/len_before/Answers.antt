@@ -1,4 +1,4 @@
-use Rattle.std.proofs.Common.{◌≡◌, ℕ, ◌+◌, ◌≤◌, ◌<◌, length, get_or, true, false, arith, rules, sym}
+use Rattle.std.proofs.Common.{length, arith, rules, sym}
 use Rattle.std.proofs.lemmas.List.Sums.{position_or_len_is}
 use Rattle.aprs_log.specs.Cut.{is_byte}
 use Rattle.aprs_log.proofs.cut.len_before.Goals as goal

@@ -1,4 +1,4 @@
-use Rattle.std.proofs.Common.{◌≡◌, ◌∙◌, arith, sym}
+use Rattle.std.proofs.Common.{◌∙◌, arith}
 use Rattle.aprs_log.proofs.CutLemmas.{cut_at-after}
 use Rattle.aprs_log.proofs.LineLemmas.{line_of-long, line_of-uncut, line_of-no_moment, line_of-one_cut, line_of-no_name, line_of-fields}
 use Rattle.aprs_log.proofs.line.read_fields.Goals as goal
@@ -32,4 +32,4 @@ pub returns : goal.returns
 returns c =
     let name = c.in-Some-parse-2.ensures in
     c.read_bytes.ensures ∙ line_of-fields c.args.line.now c.if-line-gt-MAX_LINE.false _ _ _ _ c.in-Some.ensures c.in-Some-parse.ensures.value
-        c.in-Some-cut_at.ensures name.0 name.1
+    c.in-Some-cut_at.ensures name.0 name.1

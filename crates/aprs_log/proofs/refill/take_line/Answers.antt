@@ -1,4 +1,4 @@
-use Rattle.std.proofs.Common.{◌≡◌, ◌∙◌, ap, length, arith}
+use Rattle.std.proofs.Common.{◌∙◌, ap, length, arith}
 use Rattle.aprs_log.proofs.CutLemmas.{taken}
 use Rattle.aprs_log.proofs.refill.take_line.Goals as goal
 

@@ -1,4 +1,4 @@
-use Rattle.std.proofs.Common.{◌≡◌, ◌≤◌, ℕ, List, length, ap, ◌∙◌, refl, subst, arith, Ok}
+use Rattle.std.proofs.Common.{◌≡◌, ◌≤◌, length, ap, ◌∙◌, refl, subst, arith, Ok}
 use Rattle.hex.specs.Hex.{decode_of, encode_lower}
 use Rattle.aprs_kiss.specs.Spelling.{kiss_text}
 use Rattle.aprs_ax25.specs.Frame.{FrameOf}
@@ -15,8 +15,8 @@ returns-clause-back c short =
     let frame : c.bytes.result.now ≡ x.frame = c.bytes.ensures.value ∙ c.frame.ensures in
     let few : length x.frame ≤ 328 = omega (arith, c.bytes.ensures.most, ap length frame) in
     let is = real x c.text.result parts (c.text.ensures.value ∙ ap moment_text c.moment.ensures)
-        (subst (λ m. MomentText m c.text.result) c.moment.ensures ((c.text.ensures.exact c.text.result).0 refl))
-        (subst IsName c.receiver.ensures c.as_bytes.ensures.name)
-        (subst (FrameOf parts) c.frame.ensures c.bytes.ensures.frame) few in
+    (subst (λ m. MomentText m c.text.result) c.moment.ensures ((c.text.ensures.exact c.text.result).0 refl))
+    (subst IsName c.receiver.ensures c.as_bytes.ensures.name)
+    (subst (FrameOf parts) c.frame.ensures c.bytes.ensures.frame) few in
     let sent : c.as_slice.result.now ≡ kiss_text x.frame = c.as_slice.ensures.value ∙ c.spelled-spelled.ensures ∙ ap kiss_text frame in
     line_of-written x is (subst (λ l. decode_of (encode_lower l) ≡ Ok l) sent c.push_hex.ensures.back) short

@@ -1,5 +1,5 @@
-use Rattle.std.proofs.Common.{◌≡◌, Some, None, sym, ap, ◌∙◌, subst}
-use Rattle.aprs_log.specs.Moment.{Civil, IsCivil, civil_at, seconds_of}
+use Rattle.std.proofs.Common.{Some, ap, ◌∙◌, subst}
+use Rattle.aprs_log.specs.Moment.{IsCivil, seconds_of}
 use Rattle.aprs_log.proofs.MomentLemmas.{moment_of-read, moment_of-unread, moment_of-unreal, IsExact}
 use Rattle.aprs_log.proofs.moment.Moment.parse.Goals as goal
 

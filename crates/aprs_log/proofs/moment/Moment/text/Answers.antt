@@ -1,4 +1,4 @@
-use Rattle.std.proofs.Common.{◌≡◌, ℕ, List, sym, ◌∙◌, subst, arith}
+use Rattle.std.proofs.Common.{sym, ◌∙◌, subst, arith}
 use Rattle.aprs_log.specs.Moment.{MomentText}
 use Rattle.aprs_log.proofs.MomentLemmas.{civil_text-moment, moment_text-is, one_text, text-moment_of}
 use Rattle.aprs_log.proofs.moment.Moment.text.Goals as goal

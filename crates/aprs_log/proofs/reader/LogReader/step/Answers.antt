@@ -1,4 +1,4 @@
-use Rattle.std.proofs.Common.{◌≡◌, ◌∙◌, sym, refl}
+use Rattle.std.proofs.Common.{◌∙◌, sym, refl}
 use Rattle.aprs_log.proofs.AwaitLemmas.{step_line, step_fault, faults_keep}
 use Rattle.aprs_log.proofs.reader.LogReader.step.Goals as goal
 
