@@ -20,6 +20,7 @@ mod tests;
 mod window;
 mod write;
 
+pub use ending::Ending;
 pub use fault::{LineFault, LogCause, LogFault, Reason};
 pub use line::{Line, MAX_LINE, read_line};
 pub use moment::Moment;

@@ -69,17 +69,24 @@ lines_text f t c = flat_map (line_text f) (log_answers t c).given
 abbrev pub lines_fault : List ℕ → Ending → Option LogFault
 lines_fault t c = (log_answers t c).fault
 
+-- of a stream's pieces
+abbrev pub stream_text : List ℕ → ℕ → List ℕ → Ending → List ℕ
+stream_text r m t c = flat_map (capture_text r m) (judgements_of t)
+
+abbrev pub stream_fault : List ℕ → Ending → Option LogFault
+stream_fault t c = cut_short c
+
 abbrev pub convert_text : Form → List ℕ → Ending → List ℕ
-convert_text (form.Capture r m) t c = flat_map (capture_text r m) (judgements_of t)
 convert_text form.Text t c = lines_text form.Text t c
 convert_text form.Kiss t c = lines_text form.Kiss t c
 convert_text form.Log t c = lines_text form.Log t c
+convert_text (form.Capture r m) t c = stream_text r m t c
 
 abbrev pub convert_fault : Form → List ℕ → Ending → Option LogFault
-convert_fault (form.Capture r m) t c = cut_short c
 convert_fault form.Text t c = lines_fault t c
 convert_fault form.Kiss t c = lines_fault t c
 convert_fault form.Log t c = lines_fault t c
+convert_fault (form.Capture r m) t c = stream_fault t c
 
 -- ---- what a check tells
 
@@ -138,3 +145,9 @@ RunsOver text fault limit known r old new = IfSome known (λ input. (t : List �
 abbrev pub IsRead : RunFault → Type 0
 IsRead (Input index (Log f)) = f.cause ≡ cause.Read
 IsRead Write = ⊥
+
+-- what a run over a stream answers that ends so
+abbrev pub EndsStream : Result (Unit {0}) RunFault → Ending → Type 0
+EndsStream r ending.End = r ≡ Ok tt
+EndsStream r ending.Read = r ≡ Err (Input 0 (Log (record { line = 0; cause = cause.Read })))
+EndsStream r ending.TooLong = r ≡ Err (Input 0 (Log (record { line = 0; cause = cause.TooLong })))

@@ -1,0 +1,30 @@
+use Rattle.std.proofs.Common.{◌≡◌, ◌≤◌, ◌-◌, length, ap, subst, sym, arith}
+use Rattle.std.specs.Io.KnownBytes.{Consumes}
+use Rattle.aprs_kiss.specs.Device.{device_of}
+use Rattle.aprs_tool.specs.Run.{capture_text}
+use Rattle.aprs_tool.proofs.Captures.{HasGot-none, HasGot-more, HasGot-refused}
+use Rattle.aprs_tool.proofs.capture.capture.Goals as goal
+
+pub loop-count-init : goal.loop-count-init
+loop-count-init g c = record {
+  reads = omega arith;
+  writes = omega arith;
+  most = omega arith;
+  got = HasGot-none (capture_text c.args.receiver.now c.args.moment.now) c.args.limit _ _ _ c.new-reader.ensures;
+}
+
+pub loop-count-preserved : goal.loop-count-preserved
+loop-count-preserved g c = record {
+  reads = omega (arith, c.in-Ok.ensures.count, c.loop-count.invariant.reads);
+  writes = omega (arith, c.in-Ok-capture_chunk.ensures.count, c.loop-count.invariant.writes);
+  most = omega (arith, c.loop-count.invariant.most);
+  got = HasGot-more (capture_text c.args.receiver.now c.args.moment.now) c.args.limit c.loop-count.left _ _ _ _ _ _ _ _ _ c.split_at.result.0.now
+      c.loop-count.invariant.got (subst (Consumes _ _) (sym c.split_at.ensures.front) c.in-Ok.ensures.bytes)
+      (omega (arith, c.split_at.ensures.front_len, c.in-Ok.ensures.some)) c.in-Ok-capture_chunk.ensures.stands c.in-Ok-capture_chunk.ensures.sent;
+}
+
+pub returns-in-Err-capture_chunk-clause-run : goal.returns-in-Err-capture_chunk-clause-run
+returns-in-Err-capture_chunk-clause-run g c =
+    HasGot-refused c.args.receiver.now c.args.moment.now c.args.limit c.loop-count.left _ _ _ _ _ _ _ c.split_at.result.0.now
+        c.loop-count.invariant.got (subst (Consumes _ _) (sym c.split_at.ensures.front) c.in-Ok.ensures.bytes)
+        (omega (arith, c.split_at.ensures.front_len, c.in-Ok.ensures.some)) c.in-Err-capture_chunk.ensures.prefix

@@ -1,0 +1,174 @@
+//! A KISS stream, captured as a log.
+ghost use Rattle.std.specs.Prelude.{◌≡◌, ◌≤◌, ◌<◌, ◌++◌, ℕ, List, length, take, IfOk, IfErr, OnOk, OnErr};
+ghost use Rattle.std.specs.List.{flat_map};
+ghost use Rattle.std.specs.Io.KnownBytes.{Appends, Consumes};
+ghost use Rattle.aprs_ax25.specs.FrameFault.{frame_of};
+ghost use Rattle.aprs_kiss.specs.Device.{device_of, failures_of, Rose, AppendsFront};
+ghost use Rattle.aprs_kiss.specs.Reader.{StandsAfter, told_by};
+ghost use Rattle.aprs_kiss.specs.Stream.{judgements_of, rest_of};
+ghost use Rattle.aprs_log.specs.Awaits.{EndsHere};
+ghost use Rattle.aprs_log.specs.declared.ending.Ending.TheVariants.{Read as ReadFailed};
+ghost use Rattle.aprs_tool.specs.declared.fault.InputFault.TheVariants.{Log};
+ghost use Rattle.aprs_tool.specs.Run.{RunsOver, IsRead, stream_text, stream_fault, capture_text, captured, EndsStream};
+
+use crate::convert::log_fault;
+use crate::fault::RunFault;
+use aprs_ax25::Frame;
+use aprs_kiss::{Counted, Fed, KissReader, WriteFault};
+use aprs_log::{Ending, LogCause, LogFault, Moment, Receiver, Reception, write_line};
+use std::io::{Read, Write};
+
+/// How many bytes of the stream are read at once, at most.
+const CHUNK: usize = 16_384;
+
+/// Writes a log line for each frame of a KISS stream, as if one receiver had heard all at one moment.
+pub fn capture<R: Read, W: Write>(
+    limit: u64,
+    receiver: &Receiver,
+    moment: &Moment,
+    r: &mut Counted<R>,
+    w: &mut Counted<W>,
+) -> Result<(), RunFault>
+    requires { limit ≤ 1073741824 }
+    ensures run { RunsOver (stream_text receiver.now moment.now) stream_fault limit (R.remaining (device_of r.old))
+        result (W.contents (device_of w.old)) (W.contents (device_of w.new)) }
+    ensures read { IfErr result (λ e. IsRead e → Rose (failures_of r.old) (failures_of r.new)) }
+    ensures write { IfErr result (λ e. e ≡ RunFault.Write → Rose (failures_of w.old) (failures_of w.new)) }
+{
+    let mut reader = KissReader::new();
+    let mut buffer = [0; CHUNK];
+    let mut left = limit;
+    loop {
+        match read_chunk(r, &mut buffer, left) {
+            Ok(count) => {
+                let (chunk, _) = buffer.split_at(count);
+                match capture_chunk(&mut reader, chunk, receiver, moment, w) {
+                    Ok(()) => left -= count as u64,
+                    Err(_) => return Err(RunFault::Write),
+                }
+            }
+            Err(ending) => return stream_end(ending),
+        }
+    }
+}
+
+/// What a run over a stream answers that ends so.
+fn stream_end(ending: Ending) -> Result<(), RunFault>
+    ensures { EndsStream result ending }
+{
+    match ending {
+        Ending::End => Ok(()),
+        Ending::Read => Err(fault_of_stream(LogCause::Read)),
+        Ending::TooLong => Err(fault_of_stream(LogCause::TooLong)),
+    }
+}
+
+/// A stream has no lines: its faults stand in line 0.
+fn fault_of_stream(cause: LogCause) -> RunFault
+    ensures { result ≡ RunFault.Input 0 (Log (record { line = 0; cause = cause })) }
+{
+    log_fault(LogFault { line: 0, cause })
+}
+
+/// Reads once, at most `left` bytes, or says how the stream ends.
+fn read_chunk<R: Read>(
+    r: &mut Counted<R>,
+    buffer: &mut [u8; CHUNK],
+    left: u64,
+) -> Result<usize, Ending>
+    requires { left ≤ 1073741824 }
+    ensures some { IfOk result (λ n. (0 < n) × (n ≤ 16384) × (n ≤ left)) }
+    ensures bytes { IfOk result (λ n. Consumes (R.remaining (device_of r.old)) (R.remaining (device_of r.new)) (take n buffer.new)) }
+    ensures end { IfErr result (λ e. EndsHere e left (R.remaining (device_of r.old))) }
+    ensures count { failures_of r.old ≤ failures_of r.new }
+    ensures fault { IfErr result (λ e. e ≡ ReadFailed → Rose (failures_of r.old) (failures_of r.new)) }
+{
+    if left == 0 {
+        return Err(ending_at_limit(r));
+    }
+    let most = (left as usize).min(CHUNK);
+    match r.read(&mut buffer[..most]) {
+        Ok(0) => Err(Ending::End),
+        Ok(count) => Ok(count),
+        Err(_) => Err(Ending::Read),
+    }
+}
+
+/// How a stream ends of which as many bytes were got as may be: whether a further byte exists.
+fn ending_at_limit<R: Read>(r: &mut Counted<R>) -> Ending
+    ensures end { EndsHere result 0 (R.remaining (device_of r.old)) }
+    ensures count { failures_of r.old ≤ failures_of r.new }
+    ensures fault { result ≡ ReadFailed → Rose (failures_of r.old) (failures_of r.new) }
+{
+    let mut one = [0];
+    match r.read(&mut one) {
+        Ok(0) => Ending::End,
+        Ok(_) => Ending::TooLong,
+        Err(_) => Ending::Read,
+    }
+}
+
+/// Writes the log lines of the frames that end in a chunk of the stream.
+fn capture_chunk<W: Write>(
+    reader: &mut KissReader,
+    chunk: &[u8],
+    receiver: &Receiver,
+    moment: &Moment,
+    w: &mut Counted<W>,
+) -> Result<(), WriteFault>
+    ensures stands { OnOk result ((e : List ℕ) → StandsAfter reader.old e → StandsAfter reader.new (rest_of (e ++ chunk.now))) }
+    ensures sent { OnOk result ((e : List ℕ) → StandsAfter reader.old e → Appends (W.contents (device_of w.old)) (W.contents (device_of w.new))
+        (flat_map (capture_text receiver.now moment.now) (judgements_of (e ++ chunk.now)))) }
+    ensures prefix { OnErr result ((e : List ℕ) → StandsAfter reader.old e → AppendsFront (W.contents (device_of w.old)) (W.contents (device_of w.new))
+        (flat_map (capture_text receiver.now moment.now) (judgements_of (e ++ chunk.now)))) }
+    ensures count { failures_of w.old ≤ failures_of w.new }
+    ensures fault { OnErr result (Rose (failures_of w.old) (failures_of w.new)) }
+{
+    let mut rest = chunk;
+    while !rest.is_empty() {
+        let (used, fed) = reader.feed(rest);
+        match write_fed(w, receiver, moment, fed) {
+            Ok(()) => {}
+            Err(fault) => return Err(fault),
+        }
+        let (_, after) = rest.split_at(used);
+        rest = after;
+    }
+    Ok(())
+}
+
+/// Writes the log line of what the reader tells, where it is a frame.
+fn write_fed<W: Write>(
+    w: &mut Counted<W>,
+    receiver: &Receiver,
+    moment: &Moment,
+    fed: Fed<'_>,
+) -> Result<(), WriteFault>
+    ensures sent { OnOk result (Appends (W.contents (device_of w.old)) (W.contents (device_of w.new)) (flat_map (capture_text receiver.now moment.now) (told_by fed.entry))) }
+    ensures prefix { OnErr result (AppendsFront (W.contents (device_of w.old)) (W.contents (device_of w.new)) (flat_map (capture_text receiver.now moment.now) (told_by fed.entry))) }
+    ensures count { failures_of w.old ≤ failures_of w.new }
+    ensures fault { OnErr result (Rose (failures_of w.old) (failures_of w.new)) }
+{
+    match fed {
+        Fed::Frame { frame, .. } => write_frame(w, receiver, moment, frame),
+        Fed::Nothing | Fed::Passed(_) => Ok(()),
+    }
+}
+
+/// Writes the log line of a data frame's bytes, where they are a UI frame.
+fn write_frame<W: Write>(
+    w: &mut Counted<W>,
+    receiver: &Receiver,
+    moment: &Moment,
+    bytes: &[u8],
+) -> Result<(), WriteFault>
+    ensures sent { OnOk result (Appends (W.contents (device_of w.old)) (W.contents (device_of w.new)) (captured receiver.now moment.now (frame_of bytes.now))) }
+    ensures prefix { OnErr result (AppendsFront (W.contents (device_of w.old)) (W.contents (device_of w.new)) (captured receiver.now moment.now (frame_of bytes.now))) }
+    ensures count { failures_of w.old ≤ failures_of w.new }
+    ensures fault { OnErr result (Rose (failures_of w.old) (failures_of w.new)) }
+{
+    match Frame::read(bytes) {
+        Ok(frame) => write_line(w, &Reception::new(moment.copy(), receiver.copy(), frame)),
+        Err(_) => Ok(()),
+    }
+}
