@@ -43,7 +43,7 @@ parts_plain x [] = refl
 parts_plain x (part ∷ parts) =
     let o = all_joined (map unescaped parts) in
     elim o as (λ o. option_map (λ more. (x ∷ part) ++ more) o ≡ option_map (λ l. x ∷ l) (option_map (λ more. part ++ more) o))
-      [ None ↦ refl | Some l ↦ refl ]
+    [ None ↦ refl | Some l ↦ refl ]
 
 -- any other byte stands for itself
 pub unspelled-plain : (x : ℕ) (more : List ℕ) → is_escape x ≡ false → unspelled (x ∷ more) ≡ option_map (λ l. x ∷ l) (unspelled more)
@@ -56,8 +56,8 @@ parts_escaped : (code x : ℕ) (parts : List (List ℕ)) → ((bytes : List ℕ)
 parts_escaped code x [] h = rw (h []) refl
 parts_escaped code x (part ∷ parts) h =
     rw (h part) (elim (all_joined (map unescaped parts)) as (λ o. option_map (λ l. l) (option_map (λ more. (x ∷ part) ++ more) o)
-        ≡ option_map (λ l. x ∷ l) (option_map (λ more. part ++ more) o))
-      [ None ↦ refl | Some l ↦ refl ])
+    ≡ option_map (λ l. x ∷ l) (option_map (λ more. part ++ more) o))
+    [ None ↦ refl | Some l ↦ refl ])
 
 -- FESC TFEND and FESC TFESC
 pub unspelled-end : (more : List ℕ) → unspelled (0xDB ∷ 0xDC ∷ more) ≡ option_map (λ l. 0xC0 ∷ l) (unspelled more)
@@ -82,8 +82,8 @@ pub unspelled-broken : (x : ℕ) (more : List ℕ) → x ≢ 0xDC → x ≢ 0xDD
 unfolding unspelled
 unspelled-broken x more h g =
     elim (is_true_or_not (is_escape x)) as (λ _. unspelled (0xDB ∷ x ∷ more) ≡ None) [
-      inl e ↦ rw (slice_split-cons_yes is_escape x more e) refl
-    | inr e ↦ rw (slice_split-cons_no is_escape x more e) (parts_broken x (slice_split is_escape more) h g)
+      | inl e ↦ rw (slice_split-cons_yes is_escape x more e) refl
+      | inr e ↦ rw (slice_split-cons_no is_escape x more e) (parts_broken x (slice_split is_escape more) h g)
     ]
 
 -- ---- spelling and reading back
@@ -96,10 +96,10 @@ spelled_byte : (x : ℕ) → SpelledByte x
 spelled_byte x = record {
   reads = λ more.
       elim (is_true_or_not (is_frame_end x)) as (λ _. unspelled (spelling_of_byte x ++ more) ≡ option_map (λ l. x ∷ l) (unspelled more)) [
-        inl e ↦ let n : x ≡ 0xC0 = eqb-true x 0xC0 e in rw n (unspelled-end more)
-      | inr e ↦ elim (is_true_or_not (is_escape x)) as (λ _. unspelled (spelling_of_byte x ++ more) ≡ option_map (λ l. x ∷ l) (unspelled more)) [
-          inl d ↦ let n : x ≡ 0xDB = eqb-true x 0xDB d in rw n (unspelled-escape more)
-        | inr d ↦ rw (e, d) (unspelled-plain x more d)
+        | inl e ↦ let n : x ≡ 0xC0 = eqb-true x 0xC0 e in rw n (unspelled-end more)
+        | inr e ↦ elim (is_true_or_not (is_escape x)) as (λ _. unspelled (spelling_of_byte x ++ more) ≡ option_map (λ l. x ∷ l) (unspelled more)) [
+          | inl d ↦ let n : x ≡ 0xDB = eqb-true x 0xDB d in rw n (unspelled-escape more)
+          | inr d ↦ rw (e, d) (unspelled-plain x more d)
         ]
       ];
 }
@@ -137,11 +137,11 @@ from_more : (x : ℕ) (list more bytes : List ℕ) → list ≡ spelling_of_byte
 unfolding spelling_of
 from_more x list more bytes e ih h =
     elim (is_some_or_none (unspelled more)) as (λ _. list ≡ spelling_of bytes) [
-      inl s ↦
+      | inl s ↦
           let same : Some (x ∷ s.0) ≡ Some bytes = ap (option_map (λ l. x ∷ l)) (sym s.1) ∙ h in
           let n : x ∷ s.0 ≡ bytes = cc in
           e ∙ ap (λ l. spelling_of_byte x ++ l) (ih s.0 s.1) ∙ ap spelling_of n
-    | inr s ↦
+      | inr s ↦
           let nothing : Option (List ℕ) = None in
           let none : nothing ≡ Some bytes = ap (option_map (λ l. x ∷ l)) (sym s) ∙ h in
           cc
@@ -167,10 +167,10 @@ is_or_not x y = grind (arith, nat_tests)
 reads_back_escape : (x : ℕ) (more : List ℕ) → ReadsBack more → ReadsBack (0xDB ∷ x ∷ more)
 reads_back_escape x more ih bytes h =
     elim (is_or_not x 0xDC) as (λ _. 0xDB ∷ x ∷ more ≡ spelling_of bytes) [
-      inl e ↦ from_more 0xC0 (0xDB ∷ x ∷ more) more bytes (rw e refl) ih (sym (unspelled-end more) ∙ ap (λ x. unspelled (0xDB ∷ x ∷ more)) (sym e) ∙ h)
-    | inr e ↦ elim (is_or_not x 0xDD) as (λ _. 0xDB ∷ x ∷ more ≡ spelling_of bytes) [
-        inl d ↦ from_more 0xDB (0xDB ∷ x ∷ more) more bytes (rw d refl) ih (sym (unspelled-escape more) ∙ ap (λ x. unspelled (0xDB ∷ x ∷ more)) (sym d) ∙ h)
-      | inr d ↦ absurd (nothing_read (0xDB ∷ x ∷ more) bytes (unspelled-broken x more e d) h)
+      | inl e ↦ from_more 0xC0 (0xDB ∷ x ∷ more) more bytes (rw e refl) ih (sym (unspelled-end more) ∙ ap (λ x. unspelled (0xDB ∷ x ∷ more)) (sym e) ∙ h)
+      | inr e ↦ elim (is_or_not x 0xDD) as (λ _. 0xDB ∷ x ∷ more ≡ spelling_of bytes) [
+        | inl d ↦ from_more 0xDB (0xDB ∷ x ∷ more) more bytes (rw d refl) ih (sym (unspelled-escape more) ∙ ap (λ x. unspelled (0xDB ∷ x ∷ more)) (sym d) ∙ h)
+        | inr d ↦ absurd (nothing_read (0xDB ∷ x ∷ more) bytes (unspelled-broken x more e d) h)
       ]
     ]
 
@@ -188,16 +188,16 @@ reads_back : (list : List ℕ) → NoEnds list → ReadsBack list
 reads_back [] n bytes h = reads_back_nil bytes h
 reads_back (x ∷ []) n bytes h =
     elim (is_true_or_not (is_escape x)) as (λ _. x ∷ [] ≡ spelling_of bytes) [
-      inl e ↦ absurd (nothing_read (0xDB ∷ []) bytes unspelled-open (ap (λ x. unspelled (x ∷ [])) (sym (eqb-true x 0xDB e)) ∙ h))
-    | inr e ↦ reads_back_plain x [] n.0 e reads_back_nil bytes h
+      | inl e ↦ absurd (nothing_read (0xDB ∷ []) bytes unspelled-open (ap (λ x. unspelled (x ∷ [])) (sym (eqb-true x 0xDB e)) ∙ h))
+      | inr e ↦ reads_back_plain x [] n.0 e reads_back_nil bytes h
     ]
 reads_back (x ∷ y ∷ more) n bytes h =
     elim (is_true_or_not (is_escape x)) as (λ _. x ∷ y ∷ more ≡ spelling_of bytes) [
-      inl e ↦
+      | inl e ↦
           let same : x ≡ 0xDB = eqb-true x 0xDB e in
           ap (λ x. x ∷ y ∷ more) same
           ∙ reads_back_escape y more (reads_back more n.1.1) bytes (ap (λ x. unspelled (x ∷ y ∷ more)) (sym same) ∙ h)
-    | inr e ↦ reads_back_plain x (y ∷ more) n.0 e (reads_back (y ∷ more) n.1) bytes h
+      | inr e ↦ reads_back_plain x (y ∷ more) n.0 e (reads_back (y ∷ more) n.1) bytes h
     ]
 
 pub spelling_of-unspelled : (list bytes : List ℕ) → HasNoEnd list → unspelled list ≡ Some bytes → list ≡ spelling_of bytes

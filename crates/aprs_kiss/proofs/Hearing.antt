@@ -40,8 +40,8 @@ module _ {P : Type 0} (R : P → Judgement → P → Type 0) where
   Hears-more old mid new before between after seen more p q = record {
     stands = λ e s. rw (← append_assoc e seen more, (cuts (e ++ seen) more).rest) (q.stands (rest_of (e ++ seen)) (p.stands e s));
     told = λ e s. rw (← append_assoc e seen more, judgements_of-append (e ++ seen) more)
-          (FoldsTo-append R before between after (judgements_of (e ++ seen)) (judgements_of (rest_of (e ++ seen) ++ more))
-            (p.told e s) (q.told (rest_of (e ++ seen)) (p.stands e s)));
+        (FoldsTo-append R before between after (judgements_of (e ++ seen)) (judgements_of (rest_of (e ++ seen) ++ more))
+        (p.told e s) (q.told (rest_of (e ++ seen)) (p.stands e s)));
   }
 
   pub HasHeard-none : (old : KissReader) (before : P) (piece : List ℕ) → HasHeard old old before before piece piece

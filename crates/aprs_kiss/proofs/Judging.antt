@@ -41,8 +41,8 @@ only_broken : (piece : List ℕ) → HasNoEnd piece → ((bytes : List ℕ) → 
 unfolding judgement_of
 only_broken piece n h =
     elim (broken_or_not (unspelled piece)) as (λ _. judgement_of piece ≡ Err BadEscape) [
-      inl e ↦ ap judgement_by e
-    | inr b ↦ absurd (h b.0 (spelling_of-unspelled piece b.0 n b.1))
+      | inl e ↦ ap judgement_by e
+      | inr b ↦ absurd (h b.0 (spelling_of-unspelled piece b.0 n b.1))
     ]
 
 judged_only : (piece : List ℕ) → HasNoEnd piece → (j : Judgement) → Judged piece j → j ≡ judgement_of piece
@@ -59,8 +59,8 @@ judged_data : (piece bytes : List ℕ) → 0 < length bytes → Spells bytes pie
 judged_data piece [] z s l = absurd (omega (arith, z))
 judged_data piece (head ∷ bytes) z s l =
     elim (eqb_tells (head % 16) 0) as (λ _. Judged piece (frame_of (head ∷ bytes))) [
-      inl e ↦ rw e.0 (head, s, l, e.1, refl)
-    | inr e ↦ rw e.0 (head, bytes, s, l, e.1)
+      | inl e ↦ rw e.0 (head, s, l, e.1, refl)
+      | inr e ↦ rw e.0 (head, bytes, s, l, e.1)
     ]
 
 long_or_not : (n : ℕ) → (1024 < n) ⊎ (n ≤ 1024)
@@ -75,16 +75,16 @@ spelled_some (b ∷ bs) piece s z = omega arith
 judged_bytes : (piece bytes : List ℕ) → 0 < length piece → Spells bytes piece → Judged piece (judgement_by (Some bytes))
 judged_bytes piece bytes z s =
     elim (long_or_not (length bytes)) as (λ _. Judged piece (judgement_by (Some bytes))) [
-      inl l ↦ rw (lt-ltb 1024 (length bytes) l) (bytes, s, l)
-    | inr l ↦ rw (le-ltb 1024 (length bytes) l) (judged_data piece bytes (spelled_some bytes piece s z) s l)
+      | inl l ↦ rw (lt-ltb 1024 (length bytes) l) (bytes, s, l)
+      | inr l ↦ rw (le-ltb 1024 (length bytes) l) (judged_data piece bytes (spelled_some bytes piece s z) s l)
     ]
 
 judged_so : (piece : List ℕ) → 0 < length piece → HasNoEnd piece → Judged piece (judgement_of piece)
 unfolding judgement_of
 judged_so piece z n =
     elim (broken_or_not (unspelled piece)) as (λ _. Judged piece (judgement_by (unspelled piece))) [
-      inl e ↦ rw e (λ bytes s. let none : Option (List ℕ) = None in let w : none ≡ Some bytes = sym e ∙ unspelled_at bytes piece s in cc)
-    | inr b ↦ rw b.1 (judged_bytes piece b.0 z (spelling_of-unspelled piece b.0 n b.1))
+      | inl e ↦ rw e (λ bytes s. let none : Option (List ℕ) = None in let w : none ≡ Some bytes = sym e ∙ unspelled_at bytes piece s in cc)
+      | inr b ↦ rw b.1 (judged_bytes piece b.0 z (spelling_of-unspelled piece b.0 n b.1))
     ]
 
 pub judged_once : JudgedOnce

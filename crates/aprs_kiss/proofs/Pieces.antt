@@ -82,8 +82,8 @@ cuts_from : (t d u : List ℕ) → HasNoEnd d → Cuts (d ++ t) u
 cuts_from [] d u h = rw (append-nil d) (cuts_none d u h)
 cuts_from (x ∷ t) d u h =
     elim (is_end_or_not x) as (λ _. Cuts (d ++ x ∷ t) u) [
-      inl e ↦ rw e (cuts_end d t u h (cuts_from t [] u HasNoEnd-nil))
-    | inr e ↦ rw (← append_assoc d (x ∷ []) t) (cuts_from t (d ++ x ∷ []) u (HasNoEnd-append d (x ∷ []) h (HasNoEnd-one x e)))
+      | inl e ↦ rw e (cuts_end d t u h (cuts_from t [] u HasNoEnd-nil))
+      | inr e ↦ rw (← append_assoc d (x ∷ []) t) (cuts_from t (d ++ x ∷ []) u (HasNoEnd-append d (x ∷ []) h (HasNoEnd-one x e)))
     ]
 
 pub cuts : (t u : List ℕ) → Cuts t u

@@ -48,7 +48,7 @@ Quiet-end old mid seen q f = record {
       let t = q.stands e s in
       let z = f (rest_of (e ++ seen)) t in
       rw (← append_assoc e seen (0xC0 ∷ []), (cuts (e ++ seen) (0xC0 ∷ [])).rest, z, rest_of-end [] [] HasNoEnd-nil, rest_of-none [] HasNoEnd-nil)
-         (subst (λ d. StandsAfter mid d) z t);
+      (subst (λ d. StandsAfter mid d) z t);
   silent = λ e s.
       let t = q.stands e s in
       let z = f (rest_of (e ++ seen)) t in
@@ -72,7 +72,7 @@ Told-end old mid new seen told q f n j = record {
       let t = q.stands e s in
       let l : 0 < length (rest_of (e ++ seen)) = nonempty_length (rest_of (e ++ seen)) (f (rest_of (e ++ seen)) t) in
       rw (← append_assoc e seen (0xC0 ∷ []), judgements_of-append (e ++ seen) (0xC0 ∷ []), q.silent e s, judgements_of-end (rest_of (e ++ seen)) t.whole l)
-         (sym (j (rest_of (e ++ seen)) t l));
+      (sym (j (rest_of (e ++ seen)) t l));
   ends = λ e s.
       let t = q.stands e s in
       let d = rest_of (e ++ seen) in
@@ -130,7 +130,7 @@ pub Told-used : (old mid new : KissReader) (piece rest after : List ℕ) (told :
 Told-used old mid new piece rest after told h e f n j =
     let cut = h.cut ∙ ap (λ l. h.seen ++ l) e ∙ sym (append_assoc h.seen (0xC0 ∷ []) after) in
     subst (λ used. Told old new used told) (sym (used_of piece (h.seen ++ 0xC0 ∷ []) after cut))
-      (Told-end old mid new h.seen told h.quiet f n j)
+    (Told-end old mid new h.seen told h.quiet f n j)
 
 pub frame_end_else : (mark : ℕ) → is_special mark ≡ true → mark ≢ 0xDB → mark ≡ 0xC0
 frame_end_else mark h n = grind (arith, nat_tests)

@@ -29,10 +29,10 @@ no_end_of_two code h = HasNoEnd-append (0xDB ∷ []) (code ∷ []) (HasNoEnd-one
 no_end_of_byte : (b : ℕ) → HasNoEnd (spelling_of_byte b)
 no_end_of_byte b =
     elim (is_true_or_not (is_frame_end b)) as (λ _. HasNoEnd (spelling_of_byte b)) [
-      inl e ↦ rw e (no_end_of_two 0xDC refl)
-    | inr e ↦ elim (is_true_or_not (is_escape b)) as (λ _. HasNoEnd (spelling_of_byte b)) [
-        inl d ↦ rw (e, d) (no_end_of_two 0xDD refl)
-      | inr d ↦ rw (e, d) (HasNoEnd-one b e)
+      | inl e ↦ rw e (no_end_of_two 0xDC refl)
+      | inr e ↦ elim (is_true_or_not (is_escape b)) as (λ _. HasNoEnd (spelling_of_byte b)) [
+        | inl d ↦ rw (e, d) (no_end_of_two 0xDD refl)
+        | inr d ↦ rw (e, d) (HasNoEnd-one b e)
       ]
     ]
 

@@ -1,5 +1,5 @@
 -- What a KISS reader holds, and what it tells.
-use Rattle.std.specs.Prelude.{◌≡◌, ◌<◌, ℕ, List, [], ◌∷◌, ◌++◌, length, drop, Option, None, Some, Result, Ok, Err}
+use Rattle.std.specs.Prelude.{◌≡◌, ◌≤◌, ◌<◌, ℕ, List, [], ◌∷◌, ◌++◌, length, drop, Option, None, Some, Result, Ok, Err}
 use Rattle.std.specs.Borrow.{Bor}
 use Rattle.aprs_kiss.specs.Spelling.{HasNoEnd, unspelled}
 use Rattle.aprs_kiss.specs.Judgement.{Judgement, DataFrame}
@@ -31,7 +31,13 @@ told_by fed.Nothing = []
 told_by (fed.Frame port frame) = Ok (record { port = port; bytes = frame.now }) ∷ []
 told_by (fed.Passed fault) = Err fault ∷ []
 
--- the same, of a port, where the frame lies behind its type byte
+-- a frame's port is four bits, and its bytes fit in the buffer behind a type byte
+abbrev pub IsWithinBounds : Fed → Type 0
+IsWithinBounds fed.Nothing = Unit {0}
+IsWithinBounds (fed.Frame port frame) = (port < 16) × (length frame.now ≤ 1023)
+IsWithinBounds (fed.Passed fault) = Unit {0}
+
+-- what an outcome tells, of a port where the frame lies behind its type byte
 abbrev pub judged_as : Option (Result ℕ PassFault) → List ℕ → List Judgement
 judged_as None held = []
 judged_as (Some (Ok port)) held = Ok (record { port = port; bytes = drop 1 held }) ∷ []

@@ -6,16 +6,14 @@ ghost use Rattle.aprs_kiss.specs.Laws.{SpellsOnce, JudgedOnce, BeginsEmpty, Told
 pub fn each_piece_is_judged_once()
     ensures spelled { SpellsOnce }
     ensures judged { JudgedOnce }
-{
-}
+{}
 
 /// Where a stream is cut changes neither what is told of it nor what is left of it.
 pub fn cuts_change_nothing()
     ensures empty { BeginsEmpty }
     ensures told { ToldInParts }
     ensures left { LeftInParts }
-{
-}
+{}
 
 /// What `write_kiss` writes is read as a data frame of port 0 with the same bytes, where there are
 /// at most 1,023 of them. In whatever pieces it is read, a reader stands at its end after it.
@@ -23,5 +21,4 @@ pub fn written_frames_are_read_back()
     ensures frame { ReadBack }
     ensures long { ReadBackLong }
     ensures whole { ReadWhole }
-{
-}
+{}

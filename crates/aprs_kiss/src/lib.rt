@@ -15,3 +15,6 @@ pub use laws::{cuts_change_nothing, each_piece_is_judged_once, written_frames_ar
 pub use listen::{Listener, feed_all, feed_in_parts};
 pub use reader::{Fed, KissReader, MAX_FRAME};
 pub use write::write_kiss;
+
+#[cfg(test)]
+mod tests;

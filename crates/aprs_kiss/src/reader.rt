@@ -1,11 +1,11 @@
 //! A reader of a KISS stream that comes in any pieces.
-ghost use Rattle.std.specs.Prelude.{◌≡◌, ◌≢◌, ◌≤◌, ◌<◌, ◌+◌, ◌∷◌, ◌++◌, ◌↔◌, ℕ, List, [], false, IsTrue, IfNone, IfSome, OnSome, OnOk, length, take};
+ghost use Rattle.std.specs.Prelude.{◌≡◌, ◌≢◌, ◌≤◌, ◌<◌, ◌+◌, ◌∷◌, ◌++◌, ◌↔◌, ℕ, List, [], false, IsTrue, IfNone, IfSome, OnSome, IfOk, length, take};
 ghost use Rattle.std.specs.Bool.{OnTrue, OnFalse};
 ghost use Rattle.std.specs.Borrow.{sem};
 ghost use Rattle.std.specs.Option.{option_map, option_and_then};
 ghost use Rattle.std.specs.Io.BufRead.{Rests};
 ghost use Rattle.aprs_kiss.specs.Judgement.{judgement_of, frame_of};
-ghost use Rattle.aprs_kiss.specs.Reader.{StandsAfter, IsOpen, IsClosed, told_by, judged_as};
+ghost use Rattle.aprs_kiss.specs.Reader.{StandsAfter, IsWithinBounds, IsOpen, IsClosed, told_by, judged_as};
 ghost use Rattle.aprs_kiss.specs.Spelling.{HasNoEnd, IsPlain, is_special, unspelled};
 ghost use Rattle.aprs_kiss.specs.Stream.{EndsPiece, judgements_of, rest_of};
 ghost use Rattle.aprs_kiss.specs.contracts.reader.KissReader.{the_row};
@@ -80,6 +80,7 @@ impl KissReader {
         ensures ends { (e : List ℕ) → StandsAfter self.old e → told_by result.1 ≢ []
             → EndsPiece (e ++ take result.0 piece.now) }
         ensures progress { 0 < length piece.now → 0 < result.0 }
+        ensures bounds { IsWithinBounds result.1 }
     {
         let (used, outcome) = self.step(piece);
         match outcome {
@@ -109,7 +110,7 @@ impl KissReader {
         ensures whole { IfNone result.1 (result.0 ≡ length piece.now) }
         ensures ends { (e : List ℕ) → StandsAfter self.old e → OnSome result.1 (EndsPiece (e ++ take result.0 piece.now)) }
         ensures progress { OnSome result.1 (0 < result.0) }
-        ensures frame { IfSome result.1 (λ o. OnOk o (0 < length self.new.bytes.items)) }
+        ensures frame { IfSome result.1 (λ o. IfOk o (λ port. (port < 16) × (0 < length self.new.bytes.items))) }
     {
         let mut rest = piece;
         loop {
@@ -216,7 +217,7 @@ impl KissReader {
         ensures stands { StandsAfter self.new [] }
         ensures judged { (e : List ℕ) → StandsAfter self.old e → 0 < length e
             → judged_as (Some result) self.new.bytes.items ≡ judgement_of e ∷ [] }
-        ensures frame { OnOk result (0 < length self.new.bytes.items) }
+        ensures frame { IfOk result (λ port. (port < 16) × (0 < length self.new.bytes.items)) }
     {
         let state = self.state;
         self.state = State::Ended;
@@ -231,7 +232,7 @@ impl KissReader {
 /// The port of a data frame, from its type byte.
 fn port_of(bytes: &[u8]) -> Result<u8, PassFault>
     ensures judged { judged_as (Some result) bytes.now ≡ frame_of bytes.now ∷ [] }
-    ensures frame { OnOk result (0 < length bytes.now) }
+    ensures frame { IfOk result (λ port. (port < 16) × (0 < length bytes.now)) }
 {
     match bytes {
         [head, ..] if head % 16 == 0 => Ok(head / 16),

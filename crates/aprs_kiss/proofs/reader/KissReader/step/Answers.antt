@@ -27,8 +27,8 @@ returns-then-not-finish c =
     let cut = subst (CutsPlain _ _) c.in-Some.is c.cut_plain.ensures.cut in
     let read = HasRead-mark _ _ _ _ _ _ _ _ 0xC0 c.loop-byte.invariant cut.0 (frame_end_else _ cut.1 c.if-byte.false) c.take_plain.ensures in
     let told = Told-used _ _ _ _ _ c.in-Some.after.now _ read refl
-            (λ d s. begun_by_test _ d c.if-not-finish.true (c.finish.ensures d s).1)
-            c.end_piece.ensures.stands c.end_piece.ensures.judged in
+    (λ d s. begun_by_test _ d c.if-not-finish.true (c.finish.ensures d s).1)
+    c.end_piece.ensures.stands c.end_piece.ensures.judged in
     record {
       stands = told.stands;
       judged = told.judged;
