@@ -1,15 +1,15 @@
 -- Lemmas on what a reader holds as bytes come.
-use Rattle.std.proofs.Common.{◌≡◌, ◌≢◌, ℕ, ◌+◌, ◌<◌, ◌≤◌, ◌∙◌, sym, ap, refl, Bool, true, false, cond, List, [], ◌∷◌, ◌++◌, length, length-append, map, append_assoc, append-nil, arith, rules, ◌==◌, subst, ◌⊎◌, inl, inr, Option, None, Some, Ok, Err, Result, drop}
-use Rattle.std.specs.List.{All, AllByRecursion}
+use Rattle.std.proofs.Common.{◌≡◌, ◌≢◌, ℕ, ◌<◌, ◌≤◌, ◌∙◌, sym, ap, refl, false, List, [], ◌∷◌, ◌++◌, length, length-append, append_assoc, append-nil, arith, ◌==◌, subst, Option, None, Some, Err}
+use Rattle.std.specs.List.{All}
 use Rattle.std.specs.Option.{option_map}
 use Rattle.std.proofs.lemmas.Bool.{lt-ltb, le-ltb, eqb-false}
 use Rattle.std.proofs.lemmas.List.Elements.{recursion_from_All, All-weaker, All-take}
 use Rattle.aprs_kiss.specs.Spelling.{HasNoEnd, IsPlain, is_special, is_frame_end, unspelled}
-use Rattle.aprs_kiss.specs.Judgement.{Judgement, judgement_by, judgement_of, frame_of}
+use Rattle.aprs_kiss.specs.Judgement.{judgement_by, judgement_of, frame_of}
 use Rattle.aprs_kiss.specs.Reader.{Holds, IsOpen, IsClosed}
 use Rattle.aprs_kiss.specs.declared.reader.State.{State}
 use Rattle.aprs_kiss.specs.declared.reader.State.TheVariants.{Ended, Plain, Escape, Long, LongEscape, Broken}
-use Rattle.aprs_kiss.specs.declared.fault.PassFault.TheVariants.{BadEscape, TooLong, NotData}
+use Rattle.aprs_kiss.specs.declared.fault.PassFault.TheVariants.{BadEscape, TooLong}
 use Rattle.aprs_kiss.proofs.Escapes.{not_end, unspelled-nil, unspelled-open, unspelled-append, unspelled-run, unspelled-twice}
 use Rattle.std.proofs.Math.Seq.{take-append_seam}
 

@@ -1,10 +1,9 @@
 -- Proofs of the laws on what a piece spells and how it is judged.
-use Rattle.std.proofs.Common.{◌≡◌, ◌≢◌, ℕ, ◌<◌, ◌≤◌, ◌%◌, ◌/◌, ◌∙◌, sym, ap, refl, subst, List, [], ◌∷◌, ◌++◌, length, append-nil, append_assoc, arith, ◌⊎◌, inl, inr, Option, None, Some, Ok, Err, Bool, true, false}
-use Rattle.std.specs.List.{All}
-use Rattle.std.proofs.lemmas.Bool.{eqb-true, eqb-false, lt-ltb, le-ltb, eq-eqb}
+use Rattle.std.proofs.Common.{◌≡◌, ◌≢◌, ℕ, ◌<◌, ◌≤◌, ◌%◌, ◌/◌, ◌∙◌, sym, ap, refl, subst, List, [], ◌∷◌, length, arith, ◌⊎◌, inl, inr, Option, None, Some, Ok, Err}
+use Rattle.std.proofs.lemmas.Bool.{lt-ltb, le-ltb, eq-eqb}
 use Rattle.std.proofs.lemmas.Bool.Decides.{eqb_tells, nat_tests}
-use Rattle.aprs_kiss.specs.Spelling.{HasNoEnd, Spells, is_frame_end, is_escape, kiss_text, spelling_of, spelling_of_byte, unspelled}
-use Rattle.aprs_kiss.specs.Judgement.{Judgement, DataFrame, Judged, judgement_of, judgement_by, frame_of}
+use Rattle.aprs_kiss.specs.Spelling.{HasNoEnd, Spells, spelling_of, unspelled}
+use Rattle.aprs_kiss.specs.Judgement.{Judgement, Judged, judgement_of, judgement_by, frame_of}
 use Rattle.aprs_kiss.specs.Laws.{SpellsOnce, JudgedOnce}
 use Rattle.aprs_kiss.specs.declared.fault.PassFault.TheVariants.{BadEscape, TooLong, NotData}
 use Rattle.aprs_kiss.proofs.Escapes.{unspelled-of, spelling_of-unspelled}

@@ -1,12 +1,9 @@
 -- Proofs of the laws on frames that are written and read.
-use Rattle.std.proofs.Common.{◌≡◌, ◌≢◌, ℕ, ◌+◌, ◌<◌, ◌≤◌, ◌∙◌, sym, ap, refl, List, [], ◌∷◌, ◌++◌, length, append-nil, append_assoc, arith, ◌⊎◌, inl, inr, Some, Ok, Err, Bool, true, false}
+use Rattle.std.proofs.Common.{◌≡◌, ℕ, ◌<◌, ◌≤◌, ◌∙◌, sym, ap, refl, List, [], ◌∷◌, ◌++◌, length, append_assoc, arith, inl, inr, Ok, Err, false}
 use Rattle.std.proofs.lemmas.Bool.{lt-ltb, le-ltb}
-use Rattle.std.proofs.lemmas.Bool.Decides.{nat_tests}
-use Rattle.std.specs.List.{All}
-use Rattle.std.proofs.lemmas.List.Elements.{All-append, All-cons, All-nil}
-use Rattle.aprs_kiss.specs.Spelling.{HasNoEnd, is_frame_end, is_escape, kiss_text, spelling_of, spelling_of_byte, unspelled}
+use Rattle.aprs_kiss.specs.Spelling.{HasNoEnd, is_frame_end, is_escape, kiss_text, spelling_of, spelling_of_byte}
 use Rattle.aprs_kiss.specs.Stream.{judgements_of, rest_of}
-use Rattle.aprs_kiss.specs.Judgement.{Judgement, judgement_of, judgement_by, frame_of}
+use Rattle.aprs_kiss.specs.Judgement.{Judgement, judgement_of, judgement_by}
 use Rattle.aprs_kiss.specs.Laws.{BeginsEmpty, ToldInParts, LeftInParts, ReadBack, ReadBackLong, ReadWhole}
 use Rattle.aprs_kiss.specs.declared.fault.PassFault.TheVariants.{TooLong}
 use Rattle.aprs_kiss.proofs.Escapes.{is_true_or_not, unspelled-of}

@@ -1,8 +1,7 @@
 -- What a KISS reader holds, and what it tells.
 use Rattle.std.specs.Prelude.{◌≡◌, ◌≤◌, ◌<◌, ℕ, List, [], ◌∷◌, ◌++◌, length, drop, Option, None, Some, Result, Ok, Err}
-use Rattle.std.specs.Borrow.{Bor}
 use Rattle.aprs_kiss.specs.Spelling.{HasNoEnd, unspelled}
-use Rattle.aprs_kiss.specs.Judgement.{Judgement, DataFrame}
+use Rattle.aprs_kiss.specs.Judgement.{Judgement}
 use Rattle.aprs_kiss.specs.declared.fault.PassFault.{PassFault}
 use Rattle.aprs_kiss.specs.declared.reader.KissReader.{KissReader}
 use Rattle.aprs_kiss.specs.declared.reader.Fed.{Fed}

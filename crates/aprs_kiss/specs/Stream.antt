@@ -1,5 +1,5 @@
 -- A KISS stream, cut at each frame end.
-use Rattle.std.specs.Prelude.{◌≡◌, ◌<◌, ℕ, List, [], ◌∷◌, ◌++◌, length, filter, map, Bool, true, false, Option, Result}
+use Rattle.std.specs.Prelude.{◌≡◌, ◌<◌, ℕ, List, [], ◌∷◌, ◌++◌, length, filter, map, Bool, true, false}
 use Rattle.std.specs.List.{slice_split}
 use Rattle.aprs_kiss.specs.Spelling.{is_frame_end}
 use Rattle.aprs_kiss.specs.Judgement.{Judgement, judgement_of}

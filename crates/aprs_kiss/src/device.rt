@@ -49,7 +49,8 @@ impl<T> Counted<T> {
         ensures count { self.old.failed ≤ self.new.failed }
         ensures rose { Rose self.old.failed self.new.failed }
     {
-        self.failed = self.failed.saturating_add(1);
+        let count = &mut self.failed;
+        *count = count.saturating_add(1);
     }
 }
 

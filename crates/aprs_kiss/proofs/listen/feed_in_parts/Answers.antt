@@ -1,5 +1,5 @@
-use Rattle.std.proofs.Common.{◌≡◌, refl, sym, append-nil, []}
-use Rattle.aprs_kiss.proofs.Hearing.{HasHeard-none, HasHeard-more, Hears-all, Hears-call, parts_of}
+use Rattle.std.proofs.Common.{refl, sym, append-nil, []}
+use Rattle.aprs_kiss.proofs.Hearing.{HasHeard-none, HasHeard-more, Hears-all, parts_of}
 use Rattle.aprs_kiss.proofs.listen.feed_in_parts.Goals as goal
 
 pub loop-len-init : goal.loop-len-init

@@ -1,4 +1,4 @@
-use Rattle.std.proofs.Common.{◌≡◌, false, arith}
+use Rattle.std.proofs.Common.{◌≡◌, false}
 use Rattle.std.proofs.lemmas.List.Elements.{All-more}
 use Rattle.aprs_kiss.specs.Spelling.{is_special}
 use Rattle.aprs_kiss.proofs.Escapes.{not_special}

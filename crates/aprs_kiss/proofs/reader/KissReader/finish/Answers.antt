@@ -1,5 +1,3 @@
-use Rattle.std.proofs.Common.{◌≡◌}
-use Rattle.aprs_kiss.specs.Reader.{StandsAfter, Holds}
 use Rattle.aprs_kiss.proofs.Holding.{Holds-begun}
 use Rattle.aprs_kiss.proofs.reader.KissReader.finish.Goals as goal
 

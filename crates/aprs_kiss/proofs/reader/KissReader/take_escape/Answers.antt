@@ -1,5 +1,4 @@
-use Rattle.std.proofs.Common.{◌≡◌, ◌∙◌, ap, sym, refl, List, ℕ, Some}
-use Rattle.aprs_kiss.specs.Reader.{StandsAfter, Holds}
+use Rattle.std.proofs.Common.{◌∙◌, ap, sym, refl, Some}
 use Rattle.aprs_kiss.specs.Spelling.{unspelled}
 use Rattle.aprs_kiss.proofs.Pieces.{HasNoEnd-append, HasNoEnd-one}
 use Rattle.aprs_kiss.proofs.Escapes.{unspelled-nil}

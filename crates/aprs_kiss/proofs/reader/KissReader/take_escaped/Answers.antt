@@ -1,6 +1,4 @@
-use Rattle.std.proofs.Common.{◌≡◌, ◌∙◌, ◌+◌, ◌++◌, ◌∷◌, [], ap, sym, refl, length-append, List, ℕ, arith}
-use Rattle.aprs_kiss.specs.Reader.{StandsAfter, Holds}
-use Rattle.aprs_kiss.specs.Spelling.{unspelled}
+use Rattle.std.proofs.Common.{◌++◌, ◌∷◌, [], length-append, arith}
 use Rattle.aprs_kiss.proofs.Pieces.{HasNoEnd-append, HasNoEnd-one}
 use Rattle.aprs_kiss.proofs.Escapes.{not_end}
 use Rattle.aprs_kiss.proofs.Holding.{Holds-in, Holds-unescaped, Holds-escaped_long, unspelled-escaped}

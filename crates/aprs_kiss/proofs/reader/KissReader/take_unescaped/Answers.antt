@@ -1,5 +1,4 @@
-use Rattle.std.proofs.Common.{◌≡◌, ◌∙◌, ◌+◌, ◌++◌, ap, sym, length, length-append, List, ℕ, arith, Some}
-use Rattle.aprs_kiss.specs.Reader.{StandsAfter, Holds}
+use Rattle.std.proofs.Common.{◌≡◌, ◌∙◌, ◌++◌, ap, sym, length-append, arith, Some}
 use Rattle.aprs_kiss.specs.Spelling.{unspelled}
 use Rattle.aprs_kiss.proofs.Pieces.{HasNoEnd-append}
 use Rattle.aprs_kiss.proofs.Escapes.{unspelled-run-all}
