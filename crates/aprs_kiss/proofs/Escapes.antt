@@ -8,7 +8,9 @@ use Rattle.std.proofs.lemmas.Bool.Decides.{nat_tests}
 use Rattle.std.proofs.lemmas.List.Elements.{recursion_from_All}
 use Rattle.std.proofs.lemmas.List.Splits.{slice_split-cons_no, slice_split-cons_yes}
 use Rattle.std.proofs.lemmas.Grind.{flat_map-append}
-use Rattle.aprs_kiss.specs.Spelling.{HasNoEnd, IsPlain, CutsPlain, is_special, is_frame_end, is_escape, spelling_of_byte, spelling_of, unescaped, all_joined, unspelled_parts, unspelled}
+use Rattle.aprs_kiss.specs.Plain.{IsPlain, CutsPlain, is_special}
+use Rattle.aprs_kiss.specs.Spelling.{HasNoEnd, is_frame_end, is_escape, spelling_of_byte, spelling_of}
+use Rattle.aprs_kiss.specs.Unspelling.{unescaped, all_joined, unspelled_parts, unspelled}
 
 pub is_true_or_not : (b : Bool) → (b ≡ true) ⊎ (b ≡ false)
 is_true_or_not true = inl refl

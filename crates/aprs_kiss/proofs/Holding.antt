@@ -4,7 +4,9 @@ use Rattle.std.specs.List.{All}
 use Rattle.std.specs.Option.{option_map}
 use Rattle.std.proofs.lemmas.Bool.{lt-ltb, le-ltb, eqb-false}
 use Rattle.std.proofs.lemmas.List.Elements.{recursion_from_All, All-weaker, All-take}
-use Rattle.aprs_kiss.specs.Spelling.{HasNoEnd, IsPlain, is_special, is_frame_end, unspelled}
+use Rattle.aprs_kiss.specs.Plain.{IsPlain, is_special}
+use Rattle.aprs_kiss.specs.Spelling.{HasNoEnd, is_frame_end}
+use Rattle.aprs_kiss.specs.Unspelling.{unspelled}
 use Rattle.aprs_kiss.specs.Judgement.{judgement_by, judgement_of, frame_of}
 use Rattle.aprs_kiss.specs.Reader.{Holds, IsOpen, IsClosed}
 use Rattle.aprs_kiss.specs.declared.reader.State.{State}

@@ -2,7 +2,8 @@
 use Rattle.std.proofs.Common.{◌≡◌, ◌≢◌, ℕ, ◌<◌, ◌≤◌, ◌%◌, ◌/◌, ◌∙◌, sym, ap, refl, subst, List, [], ◌∷◌, length, arith, ◌⊎◌, inl, inr, Option, None, Some, Ok, Err}
 use Rattle.std.proofs.lemmas.Bool.{lt-ltb, le-ltb, eq-eqb}
 use Rattle.std.proofs.lemmas.Bool.Decides.{eqb_tells, nat_tests}
-use Rattle.aprs_kiss.specs.Spelling.{HasNoEnd, Spells, spelling_of, unspelled}
+use Rattle.aprs_kiss.specs.Spelling.{HasNoEnd, Spells, spelling_of}
+use Rattle.aprs_kiss.specs.Unspelling.{unspelled}
 use Rattle.aprs_kiss.specs.Judgement.{Judgement, Judged, judgement_of, judgement_by, frame_of}
 use Rattle.aprs_kiss.specs.Laws.{SpellsOnce, JudgedOnce}
 use Rattle.aprs_kiss.specs.declared.fault.PassFault.TheVariants.{BadEscape, TooLong, NotData}

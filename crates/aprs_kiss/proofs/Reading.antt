@@ -2,7 +2,7 @@
 use Rattle.std.proofs.Common.{◌≡◌, ◌≢◌, ℕ, ◌-◌, ◌<◌, ◌∙◌, sym, ap, refl, subst, List, [], ◌∷◌, ◌++◌, length, length-append, take, append_assoc, append-nil, arith, Bool, true, false}
 use Rattle.std.proofs.lemmas.Bool.Decides.{nat_tests}
 use Rattle.std.proofs.Math.Seq.{take-append_seam, take-length}
-use Rattle.aprs_kiss.specs.Spelling.{is_special}
+use Rattle.aprs_kiss.specs.Plain.{is_special}
 use Rattle.aprs_kiss.specs.Stream.{EndsPiece, pieces_of, rest_of, judgements_of}
 use Rattle.aprs_kiss.specs.Judgement.{Judgement, judgement_of}
 use Rattle.aprs_kiss.specs.Reader.{StandsAfter}
@@ -81,7 +81,7 @@ Told-end old mid new seen told q f n j = record {
         piece = d;
         last = (cuts (e ++ seen) (0xC0 ∷ [])).pieces ∙ ap (λ l. pieces_of (e ++ seen) ++ l) (pieces_of-end d [] t.whole ∙ ap (λ l. d ∷ l) (pieces_of-none [] HasNoEnd-nil));
         nonempty = nonempty_length d (f d t);
-        whole = rest_at e s;
+        left = rest_at e s;
       });
 }
   where

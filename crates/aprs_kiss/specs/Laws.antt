@@ -12,19 +12,23 @@ SpellsOnce = (spelled a b : List ℕ) → Spells a spelled → Spells b spelled 
 -- each piece, that is a nonempty list without a frame end, is judged in one way
 abbrev pub JudgedOnce : Type 0
 JudgedOnce = (piece : List ℕ) → 0 < length piece → HasNoEnd piece → (judgement : Judgement)
-    → (Judged piece judgement → judgement ≡ judgement_of piece) × (judgement ≡ judgement_of piece → Judged piece judgement)
+    → (Judged piece judgement → judgement ≡ judgement_of piece)
+    × (judgement ≡ judgement_of piece → Judged piece judgement)
 
 -- a stream that goes on tells what it told, and then what its rest and the bytes after it tell
 abbrev pub ToldInParts : Type 0
-ToldInParts = (front back : List ℕ) → judgements_of (front ++ back) ≡ judgements_of front ++ judgements_of (rest_of front ++ back)
+ToldInParts = (front back : List ℕ)
+    → judgements_of (front ++ back) ≡ judgements_of front ++ judgements_of (rest_of front ++ back)
 
 abbrev pub LeftInParts : Type 0
 LeftInParts = (front back : List ℕ) → rest_of (front ++ back) ≡ rest_of (rest_of front ++ back)
 
--- a frame that was written, at the beginning of a stream or after other whole pieces, is told of as it was
+-- a frame that was written, at the beginning of a stream or after other whole pieces, is told of as
+-- it was
 abbrev pub ReadBack : Type 0
 ReadBack = (stream frame : List ℕ) → rest_of stream ≡ [] → length frame ≤ 1023
-    → judgements_of (stream ++ kiss_text frame) ≡ judgements_of stream ++ Ok (record { port = 0; bytes = frame }) ∷ []
+    → judgements_of (stream ++ kiss_text frame)
+        ≡ judgements_of stream ++ Ok (record { port = 0; bytes = frame }) ∷ []
 
 -- a longer one is told of as too long
 abbrev pub ReadBackLong : Type 0

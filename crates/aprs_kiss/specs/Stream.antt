@@ -40,4 +40,4 @@ pub record EndsPiece (stream : List ℕ) : Type 0 where
   pub piece : List ℕ
   pub last : pieces_of stream ≡ before ++ piece ∷ []
   pub nonempty : 0 < length piece
-  pub whole : rest_of stream ≡ []
+  pub left : rest_of stream ≡ []

@@ -2,7 +2,8 @@
 ghost use Rattle.std.specs.Prelude.{◌++◌, ℕ, List};
 ghost use Rattle.std.specs.List.{FoldsTo};
 ghost use Rattle.aprs_kiss.specs.Judgement.{Judgement};
-ghost use Rattle.aprs_kiss.specs.Reader.{StandsAfter, told_by};
+ghost use Rattle.aprs_kiss.specs.Reader.{StandsAfter};
+ghost use Rattle.aprs_kiss.specs.Told.{told_by};
 ghost use Rattle.aprs_kiss.specs.Stream.{judgements_of, rest_of};
 
 use crate::reader::{Fed, KissReader};

@@ -5,8 +5,11 @@ ghost use Rattle.std.specs.Borrow.{sem};
 ghost use Rattle.std.specs.Option.{option_map, option_and_then};
 ghost use Rattle.std.specs.Io.BufRead.{Rests};
 ghost use Rattle.aprs_kiss.specs.Judgement.{judgement_of, frame_of};
-ghost use Rattle.aprs_kiss.specs.Reader.{StandsAfter, IsWithinBounds, IsOpen, IsClosed, told_by, judged_as};
-ghost use Rattle.aprs_kiss.specs.Spelling.{HasNoEnd, IsPlain, is_special, unspelled};
+ghost use Rattle.aprs_kiss.specs.Reader.{StandsAfter, IsOpen, IsClosed, judged_as};
+ghost use Rattle.aprs_kiss.specs.Told.{IsWithinBounds, told_by};
+ghost use Rattle.aprs_kiss.specs.Plain.{IsPlain, is_special};
+ghost use Rattle.aprs_kiss.specs.Spelling.{HasNoEnd};
+ghost use Rattle.aprs_kiss.specs.Unspelling.{unspelled};
 ghost use Rattle.aprs_kiss.specs.Stream.{EndsPiece, judgements_of, rest_of};
 ghost use Rattle.aprs_kiss.specs.contracts.reader.KissReader.{the_row};
 

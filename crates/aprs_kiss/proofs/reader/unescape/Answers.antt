@@ -1,5 +1,5 @@
 use Rattle.std.proofs.Common.{◌∙◌, ap, ◌∷◌}
-use Rattle.aprs_kiss.specs.Spelling.{unspelled}
+use Rattle.aprs_kiss.specs.Unspelling.{unspelled}
 use Rattle.aprs_kiss.proofs.Escapes.{unspelled-end, unspelled-escape, unspelled-broken}
 use Rattle.aprs_kiss.proofs.reader.unescape.Goals as goal
 

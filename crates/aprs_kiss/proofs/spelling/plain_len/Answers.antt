@@ -1,6 +1,6 @@
 use Rattle.std.proofs.Common.{◌≡◌, false}
 use Rattle.std.proofs.lemmas.List.Elements.{All-more}
-use Rattle.aprs_kiss.specs.Spelling.{is_special}
+use Rattle.aprs_kiss.specs.Plain.{is_special}
 use Rattle.aprs_kiss.proofs.Escapes.{not_special}
 use Rattle.aprs_kiss.proofs.spelling.plain_len.Goals as goal
 

@@ -1,5 +1,5 @@
 use Rattle.std.proofs.Common.{◌∙◌, ap, sym, refl, Some}
-use Rattle.aprs_kiss.specs.Spelling.{unspelled}
+use Rattle.aprs_kiss.specs.Unspelling.{unspelled}
 use Rattle.aprs_kiss.proofs.Pieces.{HasNoEnd-append, HasNoEnd-one}
 use Rattle.aprs_kiss.proofs.Escapes.{unspelled-nil}
 use Rattle.aprs_kiss.proofs.Holding.{Holds-in, Holds-escape_again}

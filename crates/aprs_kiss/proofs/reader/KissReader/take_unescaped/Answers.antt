@@ -1,5 +1,5 @@
 use Rattle.std.proofs.Common.{◌≡◌, ◌∙◌, ◌++◌, ap, sym, length-append, arith, Some}
-use Rattle.aprs_kiss.specs.Spelling.{unspelled}
+use Rattle.aprs_kiss.specs.Unspelling.{unspelled}
 use Rattle.aprs_kiss.proofs.Pieces.{HasNoEnd-append}
 use Rattle.aprs_kiss.proofs.Escapes.{unspelled-run-all}
 use Rattle.aprs_kiss.proofs.Holding.{HasNoEnd-plain, Holds-in, Holds-more, Holds-run, nonempty_from_test}
