@@ -30,11 +30,13 @@ rest_of-none d h = ap last_part (slice_split_none is_frame_end d h)
 
 -- ---- up to the first frame end
 
-all_but_last-cons : (part : List ℕ) (parts : List (List ℕ)) → 0 < length parts → all_but_last (part ∷ parts) ≡ part ∷ all_but_last parts
+all_but_last-cons : (part : List ℕ) (parts : List (List ℕ)) → 0 < length parts
+    → all_but_last (part ∷ parts) ≡ part ∷ all_but_last parts
 all_but_last-cons part [] h = absurd (omega (arith, h))
 all_but_last-cons part (next ∷ more) h = refl
 
-last_part-cons : (part : List ℕ) (parts : List (List ℕ)) → 0 < length parts → last_part (part ∷ parts) ≡ last_part parts
+last_part-cons : (part : List ℕ) (parts : List (List ℕ)) → 0 < length parts
+    → last_part (part ∷ parts) ≡ last_part parts
 last_part-cons part [] h = absurd (omega (arith, h))
 last_part-cons part (next ∷ more) h = refl
 
@@ -42,13 +44,15 @@ pub pieces_of-end : (d u : List ℕ) → HasNoEnd d → pieces_of (d ++ 0xC0 ∷
 unfolding pieces_of
 pieces_of-end d u h =
     ap all_but_last (slice_split_at is_frame_end d 0xC0 u h refl)
-    ∙ all_but_last-cons d (slice_split is_frame_end u) (omega (arith, length-slice_split is_frame_end u))
+    ∙ all_but_last-cons d (slice_split is_frame_end u)
+    (omega (arith, length-slice_split is_frame_end u))
 
 pub rest_of-end : (d u : List ℕ) → HasNoEnd d → rest_of (d ++ 0xC0 ∷ u) ≡ rest_of u
 unfolding rest_of
 rest_of-end d u h =
     ap last_part (slice_split_at is_frame_end d 0xC0 u h refl)
-    ∙ last_part-cons d (slice_split is_frame_end u) (omega (arith, length-slice_split is_frame_end u))
+    ∙ last_part-cons d (slice_split is_frame_end u)
+    (omega (arith, length-slice_split is_frame_end u))
 
 -- ---- a stream that goes on
 
@@ -70,7 +74,13 @@ cuts_none d u h =
 cuts_end : (d t u : List ℕ) → HasNoEnd d → Cuts t u → Cuts (d ++ 0xC0 ∷ t) u
 cuts_end d t u h c =
     record {
-      pieces = rw (append_assoc d (0xC0 ∷ t) u, pieces_of-end d (t ++ u) h, pieces_of-end d t h, rest_of-end d t h) (ap (λ l. d ∷ l) c.pieces);
+      pieces = rw (
+        append_assoc d (0xC0 ∷ t) u,
+        pieces_of-end d
+            (t ++ u) h,
+        pieces_of-end d t h,
+        rest_of-end d t h,
+      ) (ap (λ l. d ∷ l) c.pieces);
       rest = rw (append_assoc d (0xC0 ∷ t) u, rest_of-end d (t ++ u) h, rest_of-end d t h) c.rest;
       whole = rw (rest_of-end d t h) c.whole;
     }
@@ -83,7 +93,8 @@ cuts_from [] d u h = rw (append-nil d) (cuts_none d u h)
 cuts_from (x ∷ t) d u h =
     elim (is_end_or_not x) as (λ _. Cuts (d ++ x ∷ t) u) [
       | inl e ↦ rw e (cuts_end d t u h (cuts_from t [] u HasNoEnd-nil))
-      | inr e ↦ rw (← append_assoc d (x ∷ []) t) (cuts_from t (d ++ x ∷ []) u (HasNoEnd-append d (x ∷ []) h (HasNoEnd-one x e)))
+      | inr e ↦ rw (← append_assoc d (x ∷ []) t)
+          (cuts_from t (d ++ x ∷ []) u (HasNoEnd-append d (x ∷ []) h (HasNoEnd-one x e)))
     ]
 
 pub cuts : (t u : List ℕ) → Cuts t u
@@ -91,7 +102,8 @@ cuts t u = cuts_from t [] u HasNoEnd-nil
 
 -- ---- judgements
 
-pub judgements_of-append : (t u : List ℕ) → judgements_of (t ++ u) ≡ judgements_of t ++ judgements_of (rest_of t ++ u)
+pub judgements_of-append : (t u : List ℕ)
+    → judgements_of (t ++ u) ≡ judgements_of t ++ judgements_of (rest_of t ++ u)
 unfolding judgements_of
 judgements_of-append t u =
     ap (λ pieces. map judgement_of (filter is_nonempty pieces)) (cuts t u).pieces
@@ -107,7 +119,9 @@ pub judgements_of-empty : judgements_of (0xC0 ∷ []) ≡ []
 unfolding judgements_of pieces_of
 judgements_of-empty = refl
 
-pub judgements_of-end : (d : List ℕ) → HasNoEnd d → 0 < length d → judgements_of (d ++ 0xC0 ∷ []) ≡ judgement_of d ∷ []
+pub judgements_of-end : (d : List ℕ) → HasNoEnd d → 0 < length d
+    → judgements_of (d ++ 0xC0 ∷ []) ≡ judgement_of d ∷ []
 unfolding judgements_of
 judgements_of-end [] h l = absurd (omega (arith, l))
-judgements_of-end (x ∷ xs) h l = rw (pieces_of-end (x ∷ xs) [] h, pieces_of-none [] HasNoEnd-nil) refl
+judgements_of-end (x ∷ xs) h l =
+    rw (pieces_of-end (x ∷ xs) [] h, pieces_of-none [] HasNoEnd-nil) refl

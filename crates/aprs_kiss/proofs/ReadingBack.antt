@@ -21,7 +21,8 @@ left_in_parts front back = (cuts front back).rest
 -- ---- a spelling is a piece
 
 no_end_of_two : (code : ℕ) → is_frame_end code ≡ false → HasNoEnd (0xDB ∷ code ∷ [])
-no_end_of_two code h = HasNoEnd-append (0xDB ∷ []) (code ∷ []) (HasNoEnd-one 0xDB refl) (HasNoEnd-one code h)
+no_end_of_two code h =
+    HasNoEnd-append (0xDB ∷ []) (code ∷ []) (HasNoEnd-one 0xDB refl) (HasNoEnd-one code h)
 
 no_end_of_byte : (b : ℕ) → HasNoEnd (spelling_of_byte b)
 no_end_of_byte b =
@@ -36,7 +37,8 @@ no_end_of_byte b =
 no_end : (bytes : List ℕ) → HasNoEnd (spelling_of bytes)
 unfolding spelling_of
 no_end [] = HasNoEnd-nil
-no_end (b ∷ bytes) = HasNoEnd-append (spelling_of_byte b) (spelling_of bytes) (no_end_of_byte b) (no_end bytes)
+no_end (b ∷ bytes) =
+    HasNoEnd-append (spelling_of_byte b) (spelling_of bytes) (no_end_of_byte b) (no_end bytes)
 
 -- the type byte of data on port 0 is sent as itself
 typed : (frame : List ℕ) → spelling_of (0 ∷ frame) ≡ 0 ∷ spelling_of frame
@@ -49,28 +51,34 @@ after_end : (u : List ℕ) → judgements_of (0xC0 ∷ u) ≡ judgements_of u
 after_end u =
     judgements_of-append (0xC0 ∷ []) u
     ∙ ap (λ l. l ++ judgements_of (rest_of (0xC0 ∷ []) ++ u)) judgements_of-empty
-    ∙ ap (λ d. judgements_of (d ++ u)) (rest_of-end [] [] HasNoEnd-nil ∙ rest_of-none [] HasNoEnd-nil)
+    ∙ ap (λ d. judgements_of (d ++ u))
+    (rest_of-end [] [] HasNoEnd-nil ∙ rest_of-none [] HasNoEnd-nil)
 
-told_of_text : (frame : List ℕ) → judgements_of (kiss_text frame) ≡ judgement_of (spelling_of (0 ∷ frame)) ∷ []
+told_of_text : (frame : List ℕ)
+    → judgements_of (kiss_text frame) ≡ judgement_of (spelling_of (0 ∷ frame)) ∷ []
 told_of_text frame =
     after_end (0 ∷ spelling_of frame ++ 0xC0 ∷ [])
     ∙ ap (λ l. judgements_of (l ++ 0xC0 ∷ [])) (sym (typed frame))
-    ∙ judgements_of-end (spelling_of (0 ∷ frame)) (no_end (0 ∷ frame)) (rw (typed frame) (omega arith))
+    ∙ judgements_of-end (spelling_of (0 ∷ frame)) (no_end (0 ∷ frame))
+    (rw (typed frame) (omega arith))
 
-told_after : (stream frame : List ℕ) (j : Judgement) → rest_of stream ≡ [] → judgement_of (spelling_of (0 ∷ frame)) ≡ j
+told_after : (stream frame : List ℕ) (j : Judgement) → rest_of stream ≡ []
+    → judgement_of (spelling_of (0 ∷ frame)) ≡ j
     → judgements_of (stream ++ kiss_text frame) ≡ judgements_of stream ++ j ∷ []
 told_after stream frame j r e =
     judgements_of-append stream (kiss_text frame)
     ∙ ap (λ d. judgements_of stream ++ judgements_of (d ++ kiss_text frame)) r
     ∙ ap (λ l. judgements_of stream ++ l) (told_of_text frame ∙ ap (λ j. j ∷ []) e)
 
-judged_short : (frame : List ℕ) → length frame ≤ 1023 → judgement_of (spelling_of (0 ∷ frame)) ≡ Ok (record { port = 0; bytes = frame })
+judged_short : (frame : List ℕ) → length frame ≤ 1023
+    → judgement_of (spelling_of (0 ∷ frame)) ≡ Ok (record { port = 0; bytes = frame })
 unfolding judgement_of
 judged_short frame l =
     let n : length (0 ∷ frame) ≤ 1024 = omega arith in
     ap judgement_by (unspelled-of (0 ∷ frame)) ∙ rw (le-ltb 1024 (length (0 ∷ frame)) n) refl
 
-judged_long : (frame : List ℕ) → 1023 < length frame → judgement_of (spelling_of (0 ∷ frame)) ≡ Err TooLong
+judged_long : (frame : List ℕ) → 1023 < length frame
+    → judgement_of (spelling_of (0 ∷ frame)) ≡ Err TooLong
 unfolding judgement_of
 judged_long frame l =
     let n : 1024 < length (0 ∷ frame) = omega arith in

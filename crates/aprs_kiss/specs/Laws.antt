@@ -28,7 +28,7 @@ LeftInParts = (front back : List ℕ) → rest_of (front ++ back) ≡ rest_of (r
 abbrev pub ReadBack : Type 0
 ReadBack = (stream frame : List ℕ) → rest_of stream ≡ [] → length frame ≤ 1023
     → judgements_of (stream ++ kiss_text frame)
-        ≡ judgements_of stream ++ Ok (record { port = 0; bytes = frame }) ∷ []
+    ≡ judgements_of stream ++ Ok (record { port = 0; bytes = frame }) ∷ []
 
 -- a longer one is told of as too long
 abbrev pub ReadBackLong : Type 0

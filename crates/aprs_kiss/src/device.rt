@@ -59,7 +59,8 @@ impl<R: Read> Counted<R> {
     /// is empty. At a fault no byte is lost and the count rises. Takes no memory.
     pub fn read(&mut self, buf: &mut [u8]) -> Result<usize, DeviceFault>
         ensures bound { ReadsAtMost result buf.new }
-        ensures bytes { ReadConsumes (R.remaining (device_of self.old)) (R.remaining (device_of self.new)) result buf.new }
+        ensures bytes { ReadConsumes (R.remaining (device_of self.old))
+            (R.remaining (device_of self.new)) result buf.new }
         ensures count { failures_of self.old ≤ failures_of self.new }
         ensures fault { OnErr result (Rose (failures_of self.old) (failures_of self.new)) }
     {
@@ -76,8 +77,10 @@ impl<R: Read> Counted<R> {
 /// Writes all of `bytes`, or at a fault a front of them, and then the count rises. A write that
 /// takes nothing is a fault. Takes no memory.
 pub fn send<W: Write>(w: &mut Counted<W>, bytes: &[u8]) -> Result<(), WriteFault>
-    ensures sent { OnOk result (Appends (W.contents (device_of w.old)) (W.contents (device_of w.new)) bytes.now) }
-    ensures prefix { OnErr result (AppendsFront (W.contents (device_of w.old)) (W.contents (device_of w.new)) bytes.now) }
+    ensures sent { OnOk result
+        (Appends (W.contents (device_of w.old)) (W.contents (device_of w.new)) bytes.now) }
+    ensures prefix { OnErr result
+        (AppendsFront (W.contents (device_of w.old)) (W.contents (device_of w.new)) bytes.now) }
     ensures count { failures_of w.old ≤ failures_of w.new }
     ensures fault { OnErr result (Rose (failures_of w.old) (failures_of w.new)) }
 {

@@ -20,7 +20,8 @@ pub trait Listener {
 
 /// Feeds all of a piece of a stream, and hands on each answer. Takes no memory.
 pub fn feed_all<L: Listener>(reader: &mut KissReader, piece: &[u8], listener: &mut L)
-    ensures stands { (e : List ℕ) → StandsAfter reader.old e → StandsAfter reader.new (rest_of (e ++ piece.now)) }
+    ensures stands { (e : List ℕ) → StandsAfter reader.old e
+        → StandsAfter reader.new (rest_of (e ++ piece.now)) }
     ensures told { (e : List ℕ) → StandsAfter reader.old e
         → FoldsTo L.hears listener.old (judgements_of (e ++ piece.now)) listener.new }
 {
@@ -41,7 +42,8 @@ pub fn feed_in_parts<L: Listener>(
     lengths: &[usize],
     listener: &mut L,
 )
-    ensures stands { (e : List ℕ) → StandsAfter reader.old e → StandsAfter reader.new (rest_of (e ++ stream.now)) }
+    ensures stands { (e : List ℕ) → StandsAfter reader.old e
+        → StandsAfter reader.new (rest_of (e ++ stream.now)) }
     ensures told { (e : List ℕ) → StandsAfter reader.old e
         → FoldsTo L.hears listener.old (judgements_of (e ++ stream.now)) listener.new }
 {

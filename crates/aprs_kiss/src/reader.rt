@@ -67,13 +67,14 @@ impl KissReader {
         }
     }
 
-    /// Takes the bytes of `piece` up to the end of a nonempty piece of the stream, or all of them.
-    /// Says how many were used and what they tell: the frame then lies in the reader until the next
-    /// call. An answer is a data frame of at most 1,023 bytes, or the first fault of its piece, after
-    /// which the reader reads on. Takes no memory.
+    /// Takes the bytes of `piece` up to the frame end of a nonempty piece of the stream, or all of
+    /// them, and says how many they were and what they tell: a data frame of at most 1,023 bytes,
+    /// which lies in the reader until the next call, or why the piece is passed over. The reader
+    /// then reads on. Takes no memory.
     pub fn feed(&mut self, piece: &[u8]) -> (usize, Fed<'_>)
-        ensures* stands { sem 𝓛 (Rests the_row self.entry (λ new. (e : List ℕ) → StandsAfter self.old e
-            → StandsAfter new (rest_of (e ++ take result.0 piece.now)))) }
+        // Here and below, e is what came since the last frame end before the call.
+        ensures* stands { sem 𝓛 (Rests the_row self.entry (λ new. (e : List ℕ)
+            → StandsAfter self.old e → StandsAfter new (rest_of (e ++ take result.0 piece.now)))) }
         // The nonempty pieces that ended are none or one, and what is told is its judgement.
         ensures judged { (e : List ℕ) → StandsAfter self.old e
             → judgements_of (e ++ take result.0 piece.now) ≡ told_by result.1 }
@@ -108,12 +109,15 @@ impl KissReader {
         ensures stands { (e : List ℕ) → StandsAfter self.old e
             → StandsAfter self.new (rest_of (e ++ take result.0 piece.now)) }
         ensures judged { (e : List ℕ) → StandsAfter self.old e
-            → judgements_of (e ++ take result.0 piece.now) ≡ judged_as result.1 self.new.bytes.items }
+            → judgements_of (e ++ take result.0 piece.now)
+            ≡ judged_as result.1 self.new.bytes.items }
         ensures used { result.0 ≤ length piece.now }
         ensures whole { IfNone result.1 (result.0 ≡ length piece.now) }
-        ensures ends { (e : List ℕ) → StandsAfter self.old e → OnSome result.1 (EndsPiece (e ++ take result.0 piece.now)) }
+        ensures ends { (e : List ℕ) → StandsAfter self.old e
+            → OnSome result.1 (EndsPiece (e ++ take result.0 piece.now)) }
         ensures progress { OnSome result.1 (0 < result.0) }
-        ensures frame { IfSome result.1 (λ o. IfOk o (λ port. (port < 16) × (0 < length self.new.bytes.items))) }
+        ensures frame { IfSome result.1 (λ o.
+            IfOk o (λ port. (port < 16) × (0 < length self.new.bytes.items))) }
     {
         let mut rest = piece;
         loop {
@@ -176,7 +180,8 @@ impl KissReader {
     fn take_escaped(&mut self, code: u8)
         requires open { IsOpen self.old.state }
         requires plain { is_special code ≡ false }
-        ensures stands { (e : List ℕ) → StandsAfter self.old e → StandsAfter self.new (e ++ code ∷ []) }
+        ensures stands { (e : List ℕ) → StandsAfter self.old e
+            → StandsAfter self.new (e ++ code ∷ []) }
         ensures closed { IsClosed self.new.state }
     {
         match unescape(code) {

@@ -30,5 +30,6 @@ returns-in-Long c e s =
 pub returns-in_default : goal.returns-in_default
 returns-in_default c e s = record {
   whole = HasNoEnd-append e _ s.whole (HasNoEnd-one 0xDB refl);
-  held = Holds-escape_again _ _ e c.in_default.not-Ended c.in_default.not-Plain c.in_default.not-Long s.whole s.held;
+  held = Holds-escape_again _ _ e c.in_default.not-Ended c.in_default.not-Plain
+      c.in_default.not-Long s.whole s.held;
 }

@@ -22,7 +22,8 @@ pub returns-in_default : goal.returns-in_default
 returns-in_default c = record {
   stands = λ e s. record {
     whole = HasNoEnd-append e _ s.whole (HasNoEnd-one _ (not_end _ c.requires.plain));
-    held = Holds-escaped_long _ _ e _ _ c.requires.open c.in_default.not-Escape s.whole c.in-Some.ensures s.held;
+    held = Holds-escaped_long _ _ e _ _ c.requires.open c.in_default.not-Escape s.whole
+        c.in-Some.ensures s.held;
   };
   closed = tt;
 }

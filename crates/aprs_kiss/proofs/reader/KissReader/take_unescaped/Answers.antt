@@ -8,7 +8,8 @@ use Rattle.aprs_kiss.proofs.reader.KissReader.take_unescaped.Goals as goal
 pub returns-in_default : goal.returns-in_default
 returns-in_default c e s = record {
   whole = HasNoEnd-append e _ s.whole (HasNoEnd-plain _ c.requires.plain);
-  held = Holds-more _ _ e _ c.in_default.not-Ended c.in_default.not-Plain c.requires.closed s.whole c.requires.plain s.held;
+  held = Holds-more _ _ e _ c.in_default.not-Ended c.in_default.not-Plain
+      c.requires.closed s.whole c.requires.plain s.held;
 }
 
 pub returns-in-Plain : goal.returns-in-Plain
@@ -26,4 +27,5 @@ returns-in-Ended-2 c e s =
     c.hold.ensures.stands (e ++ c.args.run.now)
     (HasNoEnd-append e _ s.whole (HasNoEnd-plain _ c.requires.plain))
     (rw same (nonempty_from_test c.args.run.now c.if-is_empty.ensures))
-    (ap unspelled same ∙ unspelled-run-all c.args.run.now c.requires.plain ∙ ap (λ l. Some (l ++ c.args.run.now)) (sym c.clear.ensures))
+    (ap unspelled same ∙ unspelled-run-all c.args.run.now c.requires.plain
+    ∙ ap (λ l. Some (l ++ c.args.run.now)) (sym c.clear.ensures))
