@@ -1,9 +1,9 @@
 -- Lemmas on the pieces of a stream and its rest, however it is cut.
-use Rattle.std.proofs.Common.{◌≡◌, ℕ, ◌<◌, ◌∙◌, ap, refl, false, List, [], ◌∷◌, ◌++◌, length, map, filter, append_assoc, append-nil, arith, ◌⊎◌, inl, inr}
+use Rattle.std.proofs.Common.{sym, All, ◌≡◌, ℕ, ◌<◌, ◌∙◌, ap, refl, false, List, [], ◌∷◌, ◌++◌, length, map, filter, append_assoc, append-nil, arith, ◌⊎◌, inl, inr}
 use Rattle.std.proofs.lemmas.Bool.Decides.{nat_tests}
-use Rattle.std.specs.List.{slice_split}
+use Rattle.std.specs.List.{slice_split, flat_map}
 use Rattle.std.proofs.lemmas.List.{map-append}
-use Rattle.std.proofs.lemmas.List.Elements.{filter-append, All-append, All-nil}
+use Rattle.std.proofs.lemmas.List.Elements.{filter-append, All-append, All-cons, All-nil}
 use Rattle.std.proofs.lemmas.List.Splits.{slice_split_none, slice_split_at, length-slice_split}
 use Rattle.aprs_kiss.specs.Spelling.{HasNoEnd, is_frame_end}
 use Rattle.aprs_kiss.specs.Stream.{all_but_last, last_part, pieces_of, rest_of, is_nonempty, nonempty_pieces_of, judgements_of}
@@ -125,3 +125,42 @@ unfolding judgements_of
 judgements_of-end [] h l = absurd (omega (arith, l))
 judgements_of-end (x ∷ xs) h l =
     rw (pieces_of-end (x ∷ xs) [] h, pieces_of-none [] HasNoEnd-nil) refl
+
+-- ---- a stream and its pieces
+
+-- the bytes, and then each piece with the frame end after it, and the rest
+joined_end : (d t more rest : List ℕ) → t ≡ more ++ rest
+    → d ++ 0xC0 ∷ t ≡ ((d ++ 0xC0 ∷ []) ++ more) ++ rest
+joined_end d t more rest e =
+    ap (λ l. d ++ 0xC0 ∷ l) e
+    ∙ sym (append_assoc d (0xC0 ∷ []) (more ++ rest))
+    ∙ sym (append_assoc (d ++ 0xC0 ∷ []) more rest)
+
+pub record MadeSo (stream : List ℕ) : Type 0 where
+  pub joined : stream ≡ flat_map (λ piece. piece ++ 0xC0 ∷ []) (pieces_of stream) ++ rest_of stream
+  pub clean : All HasNoEnd (pieces_of stream)
+
+made_none : (d : List ℕ) → HasNoEnd d → MadeSo d
+made_none d h = record {
+  joined = rw (pieces_of-none d h, rest_of-none d h) refl;
+  clean = rw (pieces_of-none d h) (All-nil HasNoEnd);
+}
+
+made_end : (d t : List ℕ) → HasNoEnd d → MadeSo t → MadeSo (d ++ 0xC0 ∷ t)
+made_end d t h m = record {
+  joined = rw (pieces_of-end d t h, rest_of-end d t h)
+      (joined_end d t (flat_map (λ piece. piece ++ 0xC0 ∷ []) (pieces_of t)) (rest_of t) m.joined);
+  clean = rw (pieces_of-end d t h) (All-cons HasNoEnd d (pieces_of t) h m.clean);
+}
+
+made_from : (t d : List ℕ) → HasNoEnd d → MadeSo (d ++ t)
+made_from [] d h = rw (append-nil d) (made_none d h)
+made_from (x ∷ t) d h =
+    elim (is_end_or_not x) as (λ _. MadeSo (d ++ x ∷ t)) [
+      | inl e ↦ rw e (made_end d t h (made_from t [] HasNoEnd-nil))
+      | inr e ↦ rw (← append_assoc d (x ∷ []) t)
+          (made_from t (d ++ x ∷ []) (HasNoEnd-append d (x ∷ []) h (HasNoEnd-one x e)))
+    ]
+
+pub made_so : (stream : List ℕ) → MadeSo stream
+made_so stream = made_from stream [] HasNoEnd-nil

@@ -1,7 +1,8 @@
 -- What follows from the definitions, whatever calls are made.
 use Rattle.std.specs.Prelude.{◌≡◌, ◌≤◌, ◌<◌, ℕ, List, [], ◌∷◌, ◌++◌, length, Ok, Err}
+use Rattle.std.specs.List.{All, flat_map}
 use Rattle.aprs_kiss.specs.Spelling.{HasNoEnd, Spells, kiss_text}
-use Rattle.aprs_kiss.specs.Stream.{judgements_of, rest_of}
+use Rattle.aprs_kiss.specs.Stream.{judgements_of, pieces_of, rest_of}
 use Rattle.aprs_kiss.specs.Judgement.{Judgement, Judged, judgement_of}
 use Rattle.aprs_kiss.specs.declared.fault.PassFault.TheVariants.{TooLong}
 
@@ -42,3 +43,12 @@ ReadWhole = (stream frame : List ℕ) → rest_of (stream ++ kiss_text frame) �
 -- before its first byte a stream tells nothing and leaves nothing
 abbrev pub BeginsEmpty : Type 0
 BeginsEmpty = (judgements_of [] ≡ []) × (rest_of [] ≡ [])
+
+-- a stream is its pieces, each with the frame end after it, and its rest
+abbrev pub MadeOfPieces : Type 0
+MadeOfPieces = (stream : List ℕ)
+    → stream ≡ flat_map (λ piece. piece ++ 0xC0 ∷ []) (pieces_of stream) ++ rest_of stream
+
+-- no frame end is left in them
+abbrev pub CutAtEachEnd : Type 0
+CutAtEachEnd = (stream : List ℕ) → All HasNoEnd (pieces_of stream) × HasNoEnd (rest_of stream)

@@ -1,7 +1,6 @@
 -- What an answer of a KISS reader tells of the stream.
-use Rattle.std.specs.Prelude.{◌≤◌, ◌<◌, ℕ, List, [], ◌∷◌, length, Ok, Err}
-use Rattle.std.specs.Borrow.{Bor}
-use Rattle.aprs_kiss.specs.Judgement.{Judgement, DataFrame}
+use Rattle.std.specs.Prelude.{◌≤◌, ◌<◌, List, [], ◌∷◌, length, Ok, Err}
+use Rattle.aprs_kiss.specs.Judgement.{Judgement}
 use Rattle.aprs_kiss.specs.declared.reader.Fed.{Fed}
 use Rattle.aprs_kiss.specs.declared.reader.Fed.TheVariants.{Nothing, Frame, Passed}
 

@@ -30,20 +30,22 @@ impl<T> Counted<T> {
         Counted { device, failed: 0 }
     }
 
-    /// How many calls of the device failed, or `u64::MAX` where that many did or more.
+    /// How many calls of the device failed, or `u64::MAX` where that many did or more. Takes no
+    /// memory.
     pub fn failures(&self) -> u64
         ensures { result ≡ failures_of self.now }
     {
         self.failed
     }
 
-    /// Gives the device back.
+    /// Gives the device back. Takes no memory.
     pub fn into_inner(self) -> T
         ensures { result ≡ device_of self }
     {
         self.device
     }
 
+    /// Counts a failed call.
     fn note_failure(&mut self)
         ensures device { self.new.device ≡ self.old.device }
         ensures count { self.old.failed ≤ self.new.failed }

@@ -1,11 +1,17 @@
 //! What holds of KISS streams whatever calls are made. These functions do nothing: a caller that
 //! makes such a call knows what it ensures.
-ghost use Rattle.aprs_kiss.specs.Laws.{SpellsOnce, JudgedOnce, BeginsEmpty, ToldInParts, LeftInParts, ReadBack, ReadBackLong, ReadWhole};
+ghost use Rattle.aprs_kiss.specs.Laws.{SpellsOnce, JudgedOnce, BeginsEmpty, ToldInParts, LeftInParts, ReadBack, ReadBackLong, ReadWhole, MadeOfPieces, CutAtEachEnd};
 
 /// No bytes are spelled as others are, and each nonempty piece of a stream is judged in one way.
 pub fn each_piece_is_judged_once()
     ensures spelled { SpellsOnce }
     ensures judged { JudgedOnce }
+{}
+
+/// A stream is its pieces and its rest, with one frame end after each piece and none in them.
+pub fn a_stream_is_its_pieces()
+    ensures joined { MadeOfPieces }
+    ensures cut { CutAtEachEnd }
 {}
 
 /// Where a stream is cut changes neither what is told of it nor what is left of it.
