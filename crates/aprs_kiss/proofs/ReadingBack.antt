@@ -4,7 +4,7 @@ use Rattle.std.proofs.lemmas.Bool.{lt-ltb, le-ltb}
 use Rattle.aprs_kiss.specs.Spelling.{HasNoEnd, is_frame_end, is_escape, kiss_text, spelling_of, spelling_of_byte}
 use Rattle.aprs_kiss.specs.Stream.{judgements_of, rest_of}
 use Rattle.aprs_kiss.specs.Judgement.{Judgement, judgement_of, judgement_by}
-use Rattle.aprs_kiss.specs.Laws.{BeginsEmpty, ToldInParts, LeftInParts, ReadBack, ReadBackLong, ReadWhole}
+use Rattle.aprs_kiss.specs.Laws.{BeginsEmpty, ToldInParts, LeftInParts, ReadBack, ReadBackLong, ReadWhole, EndedStream}
 use Rattle.aprs_kiss.specs.declared.fault.PassFault.TheVariants.{TooLong}
 use Rattle.aprs_kiss.proofs.Escapes.{is_true_or_not, unspelled-of}
 use Rattle.aprs_kiss.proofs.Pieces.{HasNoEnd-nil, HasNoEnd-append, HasNoEnd-one, cuts, rest_of-none, rest_of-end, judgements_of-append, judgements_of-none, judgements_of-empty, judgements_of-end}
@@ -90,10 +90,13 @@ read_back stream frame r l = told_after stream frame _ r (judged_short frame l)
 pub read_back_long : ReadBackLong
 read_back_long stream frame r l = told_after stream frame _ r (judged_long frame l)
 
+pub ended_stream : EndedStream
+ended_stream stream =
+    (cuts stream (0xC0 ∷ [])).rest
+    ∙ rest_of-end (rest_of stream) [] (cuts stream []).whole
+    ∙ rest_of-none [] HasNoEnd-nil
+
 pub read_whole : ReadWhole
 read_whole stream frame =
-    let whole = stream ++ 0xC0 ∷ 0 ∷ spelling_of frame in
     ap rest_of (sym (append_assoc stream (0xC0 ∷ 0 ∷ spelling_of frame) (0xC0 ∷ [])))
-    ∙ (cuts whole (0xC0 ∷ [])).rest
-    ∙ rest_of-end (rest_of whole) [] (cuts whole []).whole
-    ∙ rest_of-none [] HasNoEnd-nil
+    ∙ ended_stream (stream ++ 0xC0 ∷ 0 ∷ spelling_of frame)

@@ -52,3 +52,20 @@ MadeOfPieces = (stream : List ℕ)
 -- no frame end is left in them
 abbrev pub CutAtEachEnd : Type 0
 CutAtEachEnd = (stream : List ℕ) → All HasNoEnd (pieces_of stream) × HasNoEnd (rest_of stream)
+
+-- bytes without a frame end tell nothing yet, and are all left
+abbrev pub OpenPiece : Type 0
+OpenPiece = (bytes : List ℕ) → HasNoEnd bytes → (judgements_of bytes ≡ []) × (rest_of bytes ≡ bytes)
+
+-- a frame end after them ends one piece
+abbrev pub EndedPiece : Type 0
+EndedPiece = (bytes : List ℕ) → HasNoEnd bytes → 0 < length bytes
+    → judgements_of (bytes ++ 0xC0 ∷ []) ≡ judgement_of bytes ∷ []
+
+-- one after nothing ends none
+abbrev pub EmptyPiece : Type 0
+EmptyPiece = judgements_of (0xC0 ∷ []) ≡ []
+
+-- after one nothing is left
+abbrev pub EndedStream : Type 0
+EndedStream = (stream : List ℕ) → rest_of (stream ++ 0xC0 ∷ []) ≡ []

@@ -1,6 +1,6 @@
 //! What holds of KISS streams whatever calls are made. These functions do nothing: a caller that
 //! makes such a call knows what it ensures.
-ghost use Rattle.aprs_kiss.specs.Laws.{SpellsOnce, JudgedOnce, BeginsEmpty, ToldInParts, LeftInParts, ReadBack, ReadBackLong, ReadWhole, MadeOfPieces, CutAtEachEnd};
+ghost use Rattle.aprs_kiss.specs.Laws.{SpellsOnce, JudgedOnce, BeginsEmpty, ToldInParts, LeftInParts, ReadBack, ReadBackLong, ReadWhole, MadeOfPieces, CutAtEachEnd, OpenPiece, EndedPiece, EmptyPiece, EndedStream};
 
 /// No bytes are spelled as others are, and each nonempty piece of a stream is judged in one way.
 pub fn each_piece_is_judged_once()
@@ -12,6 +12,14 @@ pub fn each_piece_is_judged_once()
 pub fn a_stream_is_its_pieces()
     ensures joined { MadeOfPieces }
     ensures cut { CutAtEachEnd }
+{}
+
+/// A piece is told of at the frame end after it, and then nothing is left.
+pub fn frame_ends_end_pieces()
+    ensures begun { OpenPiece }
+    ensures ended { EndedPiece }
+    ensures empty { EmptyPiece }
+    ensures left { EndedStream }
 {}
 
 /// Where a stream is cut changes neither what is told of it nor what is left of it.
