@@ -98,7 +98,8 @@ impl KissReader {
         }
     }
 
-    /// Whether no byte came since the last frame end, so that a stream may end here. Takes no memory.
+    /// Whether no byte came since the last frame end, so that a stream may end here. Takes no
+    /// memory.
     pub fn finish(&self) -> bool
         ensures { (before : List ℕ) → StandsAfter self.now before → IsTrue result ↔ (before ≡ []) }
     {
