@@ -14,3 +14,6 @@ pub use fault::{CallFault, FrameFault, MakeFault};
 pub use frame::Frame;
 pub use hop::Hop;
 pub use law::each_is_a_frame_or_refused;
+
+#[cfg(test)]
+mod tests;
