@@ -6,11 +6,13 @@ use Rattle.std.proofs.KnownBytes.{Appends-nil, Appends-trans}
 use Rattle.aprs_kiss.specs.Device.{AppendsAllBut, AppendsFront}
 
 -- the writer took n bytes of what was left
-pub AppendsAllBut-more : (a b c : Option (List ℕ)) (bs rest : List ℕ) (n : ℕ) → AppendsAllBut a b bs rest
+pub AppendsAllBut-more : (a b c : Option (List ℕ)) (bs rest : List ℕ) (n : ℕ)
+    → AppendsAllBut a b bs rest
     → Appends b c (take n rest) → AppendsAllBut a c bs (take (length rest - n) (drop n rest))
 AppendsAllBut-more a b c bs rest n p q = (
   p.0 ++ take n rest,
-  p.1 ∙ ap (λ l. p.0 ++ l) (sym (take-append-drop n rest)) ∙ sym (append_assoc p.0 (take n rest) (drop n rest))
+  p.1 ∙ ap (λ l. p.0 ++ l) (sym (take-append-drop n rest))
+      ∙ sym (append_assoc p.0 (take n rest) (drop n rest))
       ∙ ap (λ l. (p.0 ++ take n rest) ++ l) (sym (take_rest rest n)),
   Appends-trans a b c p.0 (take n rest) p.2 q,
 )
@@ -22,7 +24,8 @@ pub AppendsAllBut-none : (a : Option (List ℕ)) (bs : List ℕ) → AppendsAllB
 AppendsAllBut-none a bs = ([], refl, Appends-nil a)
 
 -- one part more
-pub AppendsAllBut-sent : (a b c : Option (List ℕ)) (bs rest part more : List ℕ) → AppendsAllBut a b bs rest → rest ≡ part ++ more
+pub AppendsAllBut-sent : (a b c : Option (List ℕ)) (bs rest part more : List ℕ)
+    → AppendsAllBut a b bs rest → rest ≡ part ++ more
     → Appends b c part → AppendsAllBut a c bs more
 AppendsAllBut-sent a b c bs rest part more p e q = (
   p.0 ++ part,
@@ -31,7 +34,8 @@ AppendsAllBut-sent a b c bs rest part more p e q = (
 )
 
 -- a front of the next part
-pub AppendsFront-after : (a b c : Option (List ℕ)) (bs rest part more : List ℕ) → AppendsAllBut a b bs rest → rest ≡ part ++ more
+pub AppendsFront-after : (a b c : Option (List ℕ)) (bs rest part more : List ℕ)
+    → AppendsAllBut a b bs rest → rest ≡ part ++ more
     → AppendsFront b c part → AppendsFront a c bs
 AppendsFront-after a b c bs rest part more p e q = (
   q.0 ++ more,
@@ -44,20 +48,26 @@ AppendsFront-after a b c bs rest part more p e q = (
 )
 
 -- all of it went out
-pub Appends-from_all : (a b : Option (List ℕ)) (bs : List ℕ) → AppendsAllBut a b bs [] → Appends a b bs
+pub Appends-from_all : (a b : Option (List ℕ)) (bs : List ℕ) → AppendsAllBut a b bs []
+    → Appends a b bs
 Appends-from_all a b bs p = subst (Appends a b) (sym (p.1 ∙ append-nil p.0)) p.2
 
 pub AppendsFront-all : (a b : Option (List ℕ)) (bs : List ℕ) → Appends a b bs → AppendsFront a b bs
 AppendsFront-all a b bs p = ([], (bs, sym (append-nil bs), p))
 
 -- two texts, one after another
-pub AppendsFront-more : (a b : Option (List ℕ)) (bs more : List ℕ) → AppendsFront a b bs → AppendsFront a b (bs ++ more)
+pub AppendsFront-more : (a b : Option (List ℕ)) (bs more : List ℕ) → AppendsFront a b bs
+    → AppendsFront a b (bs ++ more)
 AppendsFront-more a b bs more p =
-    AppendsFront-after a a b (bs ++ more) (bs ++ more) bs more (AppendsAllBut-none a (bs ++ more)) refl p
+    AppendsFront-after a a b (bs ++ more) (bs ++ more) bs more
+    (AppendsAllBut-none a (bs ++ more)) refl p
 
-pub AppendsFront-then : (a b c : Option (List ℕ)) (bs more : List ℕ) → Appends a b bs → AppendsFront b c more → AppendsFront a c (bs ++ more)
+pub AppendsFront-then : (a b c : Option (List ℕ)) (bs more : List ℕ) → Appends a b bs
+    → AppendsFront b c more → AppendsFront a c (bs ++ more)
 AppendsFront-then a b c bs more p q =
-    let whole = AppendsAllBut-sent a a b (bs ++ more) (bs ++ more) bs more (AppendsAllBut-none a (bs ++ more)) refl p in
+    let whole =
+    AppendsAllBut-sent a a b (bs ++ more) (bs ++ more) bs more
+    (AppendsAllBut-none a (bs ++ more)) refl p in
     AppendsFront-after a b c (bs ++ more) more more [] whole (sym (append-nil more)) q
 
 -- ---- where a call's answer is known, or not
@@ -67,12 +77,16 @@ on_err (Ok x) p = tt
 on_err (Err e) p = p
 
 -- the last part of a text is sent, or a front of it
-pub sent_last : {T E : Type 0} (r : Result T E) (a b c : Option (List ℕ)) (bs part : List ℕ) → AppendsAllBut a b bs part
+pub sent_last : {T E : Type 0} (r : Result T E) (a b c : Option (List ℕ)) (bs part : List ℕ)
+    → AppendsAllBut a b bs part
     → OnOk r (Appends b c part) → OnOk r (Appends a c bs)
-sent_last (Ok x) a b c bs part p q = Appends-from_all a c bs (AppendsAllBut-sent a b c bs part part [] p (sym (append-nil part)) q)
+sent_last (Ok x) a b c bs part p q =
+    Appends-from_all a c bs (AppendsAllBut-sent a b c bs part part [] p (sym (append-nil part)) q)
 sent_last (Err e) a b c bs part p q = tt
 
-pub front_of_last : {T E : Type 0} (r : Result T E) (a b c : Option (List ℕ)) (bs part : List ℕ) → AppendsAllBut a b bs part
+pub front_of_last : {T E : Type 0} (r : Result T E) (a b c : Option (List ℕ)) (bs part : List ℕ)
+    → AppendsAllBut a b bs part
     → OnErr r (AppendsFront b c part) → OnErr r (AppendsFront a c bs)
 front_of_last (Ok x) a b c bs part p q = tt
-front_of_last (Err e) a b c bs part p q = AppendsFront-after a b c bs part part [] p (sym (append-nil part)) q
+front_of_last (Err e) a b c bs part p q =
+    AppendsFront-after a b c bs part part [] p (sym (append-nil part)) q

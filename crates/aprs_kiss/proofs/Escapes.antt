@@ -1,6 +1,6 @@
 -- Lemmas on what a list of bytes spells.
-use Rattle.std.proofs.Common.{◌≡◌, ◌≢◌, ℕ, ◌∙◌, sym, ap, refl, Bool, true, false, cond, List, [], ◌∷◌, ◌++◌, length, map, append_assoc, append-nil, arith, rules, ◌⊎◌, inl, inr, Option, None, Some, ◌<◌}
-use Rattle.std.specs.List.{slice_split, onto_first, All, AllByRecursion, flat_map}
+use Rattle.std.proofs.Common.{◌≡◌, ◌≢◌, ℕ, ◌∙◌, sym, ap, refl, Bool, true, false, List, [], ◌∷◌, ◌++◌, map, append_assoc, append-nil, arith, ◌⊎◌, inl, inr, Option, None, Some}
+use Rattle.std.specs.List.{slice_split, onto_first, AllByRecursion}
 use Rattle.std.specs.Borrow.{Bor}
 use Rattle.std.specs.Option.{option_map}
 use Rattle.std.proofs.lemmas.Bool.{eqb-true}
@@ -8,7 +8,9 @@ use Rattle.std.proofs.lemmas.Bool.Decides.{nat_tests}
 use Rattle.std.proofs.lemmas.List.Elements.{recursion_from_All}
 use Rattle.std.proofs.lemmas.List.Splits.{slice_split-cons_no, slice_split-cons_yes}
 use Rattle.std.proofs.lemmas.Grind.{flat_map-append}
-use Rattle.aprs_kiss.specs.Spelling.{HasNoEnd, IsPlain, CutsPlain, is_special, is_frame_end, is_escape, spelling_of_byte, spelling_of, unescaped, all_joined, unspelled_parts, unspelled}
+use Rattle.aprs_kiss.specs.Plain.{IsPlain, CutsPlain, is_special}
+use Rattle.aprs_kiss.specs.Spelling.{HasNoEnd, is_frame_end, is_escape, spelling_of_byte, spelling_of}
+use Rattle.aprs_kiss.specs.Unspelling.{unescaped, all_joined, unspelled_parts, unspelled}
 
 pub is_true_or_not : (b : Bool) → (b ≡ true) ⊎ (b ≡ false)
 is_true_or_not true = inl refl
@@ -38,33 +40,43 @@ pub unspelled-open : unspelled (0xDB ∷ []) ≡ None
 unfolding unspelled
 unspelled-open = refl
 
-parts_plain : (x : ℕ) (parts : List (List ℕ)) → unspelled_parts (onto_first x parts) ≡ option_map (λ l. x ∷ l) (unspelled_parts parts)
+parts_plain : (x : ℕ) (parts : List (List ℕ))
+    → unspelled_parts (onto_first x parts) ≡ option_map (λ l. x ∷ l) (unspelled_parts parts)
 parts_plain x [] = refl
 parts_plain x (part ∷ parts) =
     let o = all_joined (map unescaped parts) in
-    elim o as (λ o. option_map (λ more. (x ∷ part) ++ more) o ≡ option_map (λ l. x ∷ l) (option_map (λ more. part ++ more) o))
-      [ None ↦ refl | Some l ↦ refl ]
+    elim o as
+    (λ o. option_map (λ more. (x ∷ part) ++ more) o
+    ≡ option_map (λ l. x ∷ l) (option_map (λ more. part ++ more) o))
+    [ None ↦ refl | Some l ↦ refl ]
 
 -- any other byte stands for itself
-pub unspelled-plain : (x : ℕ) (more : List ℕ) → is_escape x ≡ false → unspelled (x ∷ more) ≡ option_map (λ l. x ∷ l) (unspelled more)
+pub unspelled-plain : (x : ℕ) (more : List ℕ) → is_escape x ≡ false
+    → unspelled (x ∷ more) ≡ option_map (λ l. x ∷ l) (unspelled more)
 unfolding unspelled
 unspelled-plain x more h =
-    ap unspelled_parts (slice_split-cons_no is_escape x more h) ∙ parts_plain x (slice_split is_escape more)
+    ap unspelled_parts (slice_split-cons_no is_escape x more h)
+    ∙ parts_plain x (slice_split is_escape more)
 
-parts_escaped : (code x : ℕ) (parts : List (List ℕ)) → ((bytes : List ℕ) → unescaped (code ∷ bytes) ≡ Some (x ∷ bytes))
+parts_escaped : (code x : ℕ) (parts : List (List ℕ))
+    → ((bytes : List ℕ) → unescaped (code ∷ bytes) ≡ Some (x ∷ bytes))
     → unspelled_parts ([] ∷ onto_first code parts) ≡ option_map (λ l. x ∷ l) (unspelled_parts parts)
 parts_escaped code x [] h = rw (h []) refl
 parts_escaped code x (part ∷ parts) h =
-    rw (h part) (elim (all_joined (map unescaped parts)) as (λ o. option_map (λ l. l) (option_map (λ more. (x ∷ part) ++ more) o)
-        ≡ option_map (λ l. x ∷ l) (option_map (λ more. part ++ more) o))
-      [ None ↦ refl | Some l ↦ refl ])
+    rw (h part)
+    (elim (all_joined (map unescaped parts))
+    as (λ o. option_map (λ l. l) (option_map (λ more. (x ∷ part) ++ more) o)
+    ≡ option_map (λ l. x ∷ l) (option_map (λ more. part ++ more) o))
+    [ None ↦ refl | Some l ↦ refl ])
 
 -- FESC TFEND and FESC TFESC
-pub unspelled-end : (more : List ℕ) → unspelled (0xDB ∷ 0xDC ∷ more) ≡ option_map (λ l. 0xC0 ∷ l) (unspelled more)
+pub unspelled-end : (more : List ℕ)
+    → unspelled (0xDB ∷ 0xDC ∷ more) ≡ option_map (λ l. 0xC0 ∷ l) (unspelled more)
 unfolding unspelled
 unspelled-end more = parts_escaped 0xDC 0xC0 (slice_split is_escape more) (λ _. refl)
 
-pub unspelled-escape : (more : List ℕ) → unspelled (0xDB ∷ 0xDD ∷ more) ≡ option_map (λ l. 0xDB ∷ l) (unspelled more)
+pub unspelled-escape : (more : List ℕ)
+    → unspelled (0xDB ∷ 0xDD ∷ more) ≡ option_map (λ l. 0xDB ∷ l) (unspelled more)
 unfolding unspelled
 unspelled-escape more = parts_escaped 0xDD 0xDB (slice_split is_escape more) (λ _. refl)
 
@@ -73,39 +85,48 @@ pub unspelled-twice : (more : List ℕ) → unspelled (0xDB ∷ 0xDB ∷ more) �
 unfolding unspelled
 unspelled-twice more = refl
 
-parts_broken : (x : ℕ) (parts : List (List ℕ)) → x ≢ 0xDC → x ≢ 0xDD → unspelled_parts ([] ∷ onto_first x parts) ≡ None
+parts_broken : (x : ℕ) (parts : List (List ℕ)) → x ≢ 0xDC → x ≢ 0xDD
+    → unspelled_parts ([] ∷ onto_first x parts) ≡ None
 parts_broken x [] h g = grind (arith, nat_tests)
 parts_broken x (part ∷ parts) h g = grind (arith, nat_tests)
 
 -- an escape before any other byte
-pub unspelled-broken : (x : ℕ) (more : List ℕ) → x ≢ 0xDC → x ≢ 0xDD → unspelled (0xDB ∷ x ∷ more) ≡ None
+pub unspelled-broken : (x : ℕ) (more : List ℕ) → x ≢ 0xDC → x ≢ 0xDD
+    → unspelled (0xDB ∷ x ∷ more) ≡ None
 unfolding unspelled
 unspelled-broken x more h g =
     elim (is_true_or_not (is_escape x)) as (λ _. unspelled (0xDB ∷ x ∷ more) ≡ None) [
-      inl e ↦ rw (slice_split-cons_yes is_escape x more e) refl
-    | inr e ↦ rw (slice_split-cons_no is_escape x more e) (parts_broken x (slice_split is_escape more) h g)
+      | inl e ↦ rw (slice_split-cons_yes is_escape x more e) refl
+      | inr e ↦ rw (slice_split-cons_no is_escape x more e)
+          (parts_broken x (slice_split is_escape more) h g)
     ]
 
 -- ---- spelling and reading back
 
 -- what a byte is sent as, by cases
 record SpelledByte (x : ℕ) : Type 0 where
-  reads : (more : List ℕ) → unspelled (spelling_of_byte x ++ more) ≡ option_map (λ l. x ∷ l) (unspelled more)
+  reads : (more : List ℕ)
+      → unspelled (spelling_of_byte x ++ more) ≡ option_map (λ l. x ∷ l) (unspelled more)
 
 spelled_byte : (x : ℕ) → SpelledByte x
 spelled_byte x = record {
   reads = λ more.
-      elim (is_true_or_not (is_frame_end x)) as (λ _. unspelled (spelling_of_byte x ++ more) ≡ option_map (λ l. x ∷ l) (unspelled more)) [
-        inl e ↦ let n : x ≡ 0xC0 = eqb-true x 0xC0 e in rw n (unspelled-end more)
-      | inr e ↦ elim (is_true_or_not (is_escape x)) as (λ _. unspelled (spelling_of_byte x ++ more) ≡ option_map (λ l. x ∷ l) (unspelled more)) [
-          inl d ↦ let n : x ≡ 0xDB = eqb-true x 0xDB d in rw n (unspelled-escape more)
-        | inr d ↦ rw (e, d) (unspelled-plain x more d)
-        ]
+      elim (is_true_or_not (is_frame_end x))
+      as (λ _. unspelled (spelling_of_byte x ++ more)
+      ≡ option_map (λ l. x ∷ l) (unspelled more)) [
+        | inl e ↦ let n : x ≡ 0xC0 = eqb-true x 0xC0 e in rw n (unspelled-end more)
+        | inr e ↦ elim (is_true_or_not (is_escape x))
+            as (λ _. unspelled (spelling_of_byte x ++ more)
+            ≡ option_map (λ l. x ∷ l) (unspelled more)) [
+              | inl d ↦ let n : x ≡ 0xDB = eqb-true x 0xDB d in rw n (unspelled-escape more)
+              | inr d ↦ rw (e, d) (unspelled-plain x more d)
+            ]
       ];
 }
 
 option_map-cons : (x : ℕ) (bytes : List ℕ) (o : Option (List ℕ))
-    → option_map (λ l. x ∷ l) (option_map (λ l. bytes ++ l) o) ≡ option_map (λ l. (x ∷ bytes) ++ l) o
+    → option_map (λ l. x ∷ l) (option_map (λ l. bytes ++ l) o)
+    ≡ option_map (λ l. (x ∷ bytes) ++ l) o
 option_map-cons x bytes None = refl
 option_map-cons x bytes (Some l) = refl
 
@@ -114,7 +135,8 @@ option_map-nil None = refl
 option_map-nil (Some l) = refl
 
 -- a list that goes on after what is spelled
-pub unspelled-spelling : (bytes more : List ℕ) → unspelled (spelling_of bytes ++ more) ≡ option_map (λ l. bytes ++ l) (unspelled more)
+pub unspelled-spelling : (bytes more : List ℕ)
+    → unspelled (spelling_of bytes ++ more) ≡ option_map (λ l. bytes ++ l) (unspelled more)
 unfolding spelling_of
 unspelled-spelling [] more = sym (option_map-nil (unspelled more))
 unspelled-spelling (x ∷ bytes) more =
@@ -137,11 +159,11 @@ from_more : (x : ℕ) (list more bytes : List ℕ) → list ≡ spelling_of_byte
 unfolding spelling_of
 from_more x list more bytes e ih h =
     elim (is_some_or_none (unspelled more)) as (λ _. list ≡ spelling_of bytes) [
-      inl s ↦
+      | inl s ↦
           let same : Some (x ∷ s.0) ≡ Some bytes = ap (option_map (λ l. x ∷ l)) (sym s.1) ∙ h in
           let n : x ∷ s.0 ≡ bytes = cc in
           e ∙ ap (λ l. spelling_of_byte x ++ l) (ih s.0 s.1) ∙ ap spelling_of n
-    | inr s ↦
+      | inr s ↦
           let nothing : Option (List ℕ) = None in
           let none : nothing ≡ Some bytes = ap (option_map (λ l. x ∷ l)) (sym s) ∙ h in
           cc
@@ -151,7 +173,8 @@ from_more x list more bytes e ih h =
 abbrev ReadsBack : List ℕ → Type 0
 ReadsBack list = (bytes : List ℕ) → unspelled list ≡ Some bytes → list ≡ spelling_of bytes
 
-reads_back_plain : (x : ℕ) (more : List ℕ) → is_frame_end x ≡ false → is_escape x ≡ false → ReadsBack more → ReadsBack (x ∷ more)
+reads_back_plain : (x : ℕ) (more : List ℕ) → is_frame_end x ≡ false → is_escape x ≡ false
+    → ReadsBack more → ReadsBack (x ∷ more)
 reads_back_plain x more d e ih bytes h =
     from_more x (x ∷ more) more bytes (rw (d, e) refl) ih (sym (unspelled-plain x more e) ∙ h)
 
@@ -167,10 +190,12 @@ is_or_not x y = grind (arith, nat_tests)
 reads_back_escape : (x : ℕ) (more : List ℕ) → ReadsBack more → ReadsBack (0xDB ∷ x ∷ more)
 reads_back_escape x more ih bytes h =
     elim (is_or_not x 0xDC) as (λ _. 0xDB ∷ x ∷ more ≡ spelling_of bytes) [
-      inl e ↦ from_more 0xC0 (0xDB ∷ x ∷ more) more bytes (rw e refl) ih (sym (unspelled-end more) ∙ ap (λ x. unspelled (0xDB ∷ x ∷ more)) (sym e) ∙ h)
-    | inr e ↦ elim (is_or_not x 0xDD) as (λ _. 0xDB ∷ x ∷ more ≡ spelling_of bytes) [
-        inl d ↦ from_more 0xDB (0xDB ∷ x ∷ more) more bytes (rw d refl) ih (sym (unspelled-escape more) ∙ ap (λ x. unspelled (0xDB ∷ x ∷ more)) (sym d) ∙ h)
-      | inr d ↦ absurd (nothing_read (0xDB ∷ x ∷ more) bytes (unspelled-broken x more e d) h)
+      | inl e ↦ from_more 0xC0 (0xDB ∷ x ∷ more) more bytes (rw e refl) ih
+          (sym (unspelled-end more) ∙ ap (λ x. unspelled (0xDB ∷ x ∷ more)) (sym e) ∙ h)
+      | inr e ↦ elim (is_or_not x 0xDD) as (λ _. 0xDB ∷ x ∷ more ≡ spelling_of bytes) [
+        | inl d ↦ from_more 0xDB (0xDB ∷ x ∷ more) more bytes (rw d refl) ih
+            (sym (unspelled-escape more) ∙ ap (λ x. unspelled (0xDB ∷ x ∷ more)) (sym d) ∙ h)
+        | inr d ↦ absurd (nothing_read (0xDB ∷ x ∷ more) bytes (unspelled-broken x more e d) h)
       ]
     ]
 
@@ -188,34 +213,42 @@ reads_back : (list : List ℕ) → NoEnds list → ReadsBack list
 reads_back [] n bytes h = reads_back_nil bytes h
 reads_back (x ∷ []) n bytes h =
     elim (is_true_or_not (is_escape x)) as (λ _. x ∷ [] ≡ spelling_of bytes) [
-      inl e ↦ absurd (nothing_read (0xDB ∷ []) bytes unspelled-open (ap (λ x. unspelled (x ∷ [])) (sym (eqb-true x 0xDB e)) ∙ h))
-    | inr e ↦ reads_back_plain x [] n.0 e reads_back_nil bytes h
+      | inl e ↦ absurd
+          (nothing_read (0xDB ∷ []) bytes unspelled-open
+          (ap (λ x. unspelled (x ∷ [])) (sym (eqb-true x 0xDB e)) ∙ h))
+      | inr e ↦ reads_back_plain x [] n.0 e reads_back_nil bytes h
     ]
 reads_back (x ∷ y ∷ more) n bytes h =
     elim (is_true_or_not (is_escape x)) as (λ _. x ∷ y ∷ more ≡ spelling_of bytes) [
-      inl e ↦
+      | inl e ↦
           let same : x ≡ 0xDB = eqb-true x 0xDB e in
           ap (λ x. x ∷ y ∷ more) same
-          ∙ reads_back_escape y more (reads_back more n.1.1) bytes (ap (λ x. unspelled (x ∷ y ∷ more)) (sym same) ∙ h)
-    | inr e ↦ reads_back_plain x (y ∷ more) n.0 e (reads_back (y ∷ more) n.1) bytes h
+          ∙ reads_back_escape y more (reads_back more n.1.1) bytes
+          (ap (λ x. unspelled (x ∷ y ∷ more)) (sym same) ∙ h)
+      | inr e ↦ reads_back_plain x (y ∷ more) n.0 e (reads_back (y ∷ more) n.1) bytes h
     ]
 
-pub spelling_of-unspelled : (list bytes : List ℕ) → HasNoEnd list → unspelled list ≡ Some bytes → list ≡ spelling_of bytes
-spelling_of-unspelled list bytes n h = reads_back list (recursion_from_All (λ b. is_frame_end b ≡ false) list n) bytes h
+pub spelling_of-unspelled : (list bytes : List ℕ) → HasNoEnd list → unspelled list ≡ Some bytes
+    → list ≡ spelling_of bytes
+spelling_of-unspelled list bytes n h =
+    reads_back list (recursion_from_All (λ b. is_frame_end b ≡ false) list n) bytes h
 
 -- a list that goes on after what reads as some bytes
 pub unspelled-append : (list bytes more : List ℕ) → HasNoEnd list → unspelled list ≡ Some bytes
     → unspelled (list ++ more) ≡ option_map (λ l. bytes ++ l) (unspelled more)
 unspelled-append list bytes more n h =
-    ap (λ l. unspelled (l ++ more)) (spelling_of-unspelled list bytes n h) ∙ unspelled-spelling bytes more
+    ap (λ l. unspelled (l ++ more)) (spelling_of-unspelled list bytes n h)
+    ∙ unspelled-spelling bytes more
 
 -- bytes that are neither frame end nor escape stand for themselves
-pub unspelled-run : (run : List ℕ) → AllByRecursion (λ b. is_special b ≡ false) run → unspelled run ≡ Some run
+pub unspelled-run : (run : List ℕ) → AllByRecursion (λ b. is_special b ≡ false) run
+    → unspelled run ≡ Some run
 unspelled-run [] p = unspelled-nil
 unspelled-run (x ∷ run) p =
     unspelled-plain x run (not_escape x p.0) ∙ ap (option_map (λ l. x ∷ l)) (unspelled-run run p.1)
 
-pub spelling_of-run : (run : List ℕ) → AllByRecursion (λ b. is_special b ≡ false) run → spelling_of run ≡ run
+pub spelling_of-run : (run : List ℕ) → AllByRecursion (λ b. is_special b ≡ false) run
+    → spelling_of run ≡ run
 unfolding spelling_of
 spelling_of-run [] p = refl
 spelling_of-run (x ∷ run) p =
@@ -230,29 +263,38 @@ spelling_of-append a b = flat_map-append spelling_of_byte a b
 pub unspelled-run-all : (run : List ℕ) → IsPlain run → unspelled run ≡ Some run
 unspelled-run-all run p = unspelled-run run (recursion_from_All (λ b. is_special b ≡ false) run p)
 
-spelling_of-cons : (mark : ℕ) (after end : List ℕ) → spelling_of (mark ∷ after) ++ end ≡ spelling_of_byte mark ++ (spelling_of after ++ end)
+spelling_of-cons : (mark : ℕ) (after end : List ℕ)
+    → spelling_of (mark ∷ after) ++ end ≡ spelling_of_byte mark ++ (spelling_of after ++ end)
 unfolding spelling_of
 spelling_of-cons mark after end = append_assoc (spelling_of_byte mark) (spelling_of after) end
 
 -- ---- a frame that is written part by part
 
-pub spelling_of-all : (rest plain end : List ℕ) → IsPlain plain → rest ≡ plain → spelling_of rest ++ end ≡ plain ++ end
+pub spelling_of-all : (rest plain end : List ℕ) → IsPlain plain → rest ≡ plain
+    → spelling_of rest ++ end ≡ plain ++ end
 spelling_of-all rest plain end p e =
     ap (λ l. spelling_of l ++ end) e
-    ∙ ap (λ l. l ++ end) (spelling_of-run plain (recursion_from_All (λ b. is_special b ≡ false) plain p))
+    ∙ ap (λ l. l ++ end)
+    (spelling_of-run plain (recursion_from_All (λ b. is_special b ≡ false) plain p))
 
-pub spelling_of-cut : (rest plain after end : List ℕ) (mark : ℕ) → IsPlain plain → rest ≡ plain ++ mark ∷ after
+pub spelling_of-cut : (rest plain after end : List ℕ) (mark : ℕ) → IsPlain plain
+    → rest ≡ plain ++ mark ∷ after
     → spelling_of rest ++ end ≡ plain ++ (spelling_of_byte mark ++ (spelling_of after ++ end))
 spelling_of-cut rest plain after end mark p e =
     ap (λ l. spelling_of l ++ end) e
     ∙ ap (λ l. l ++ end) (spelling_of-append plain (mark ∷ after))
     ∙ append_assoc (spelling_of plain) (spelling_of (mark ∷ after)) end
-    ∙ ap (λ l. l ++ (spelling_of (mark ∷ after) ++ end)) (spelling_of-run plain (recursion_from_All (λ b. is_special b ≡ false) plain p))
+    ∙ ap (λ l. l ++ (spelling_of (mark ∷ after) ++ end))
+    (spelling_of-run plain (recursion_from_All (λ b. is_special b ≡ false) plain p))
     ∙ ap (λ l. plain ++ l) (spelling_of-cons mark after end)
 
 -- the plain bytes go out first, whatever follows them
-pub spelling_of-front : (rest plain end : List ℕ) (mark : Option (ℕ × Bor (List ℕ))) → IsPlain plain → CutsPlain rest plain mark
+pub spelling_of-front : (rest plain end : List ℕ) (mark : Option (ℕ × Bor (List ℕ)))
+    → IsPlain plain → CutsPlain rest plain mark
     → (more : List ℕ) × (spelling_of rest ++ end ≡ plain ++ more)
 spelling_of-front rest plain end None p e = (end, spelling_of-all rest plain end p e)
-spelling_of-front rest plain end (Some (mark, after)) p e =
-    (spelling_of_byte mark ++ (spelling_of after.now ++ end), spelling_of-cut rest plain after.now end mark p e.0)
+spelling_of-front rest plain end (Some (mark, after)) p e = (
+  spelling_of_byte mark ++
+      (spelling_of after.now ++ end),
+  spelling_of-cut rest plain after.now end mark p e.0,
+)

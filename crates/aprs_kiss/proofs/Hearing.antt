@@ -8,14 +8,17 @@ use Rattle.aprs_kiss.specs.declared.reader.KissReader.{KissReader}
 use Rattle.aprs_kiss.proofs.Pieces.{cuts, rest_of-none, judgements_of-append, judgements_of-none}
 
 -- a listener's answers, some after others
-pub FoldsTo-append : {P A : Type 0} (R : P → A → P → Type 0) (p m q : P) (xs ys : List A) → FoldsTo R p xs m → FoldsTo R m ys q
+pub FoldsTo-append : {P A : Type 0} (R : P → A → P → Type 0) (p m q : P) (xs ys : List A)
+    → FoldsTo R p xs m → FoldsTo R m ys q
     → FoldsTo R p (xs ++ ys) q
 FoldsTo-append R p m q [] ys f g = rw f g
 FoldsTo-append R p m q (x ∷ xs) ys f g = (f.0, f.1, FoldsTo-append R f.0 m q xs ys f.2 g)
 
 -- a part and what is left of the rest
-pub parts_of : (rest part left : List ℕ) (used : ℕ) → part ≡ take used rest → left ≡ drop used rest → rest ≡ part ++ left
-parts_of rest part left used p l = sym (ap (λ x. x ++ left) p ∙ ap (λ x. take used rest ++ x) l ∙ take-append-drop used rest)
+pub parts_of : (rest part left : List ℕ) (used : ℕ) → part ≡ take used rest
+    → left ≡ drop used rest → rest ≡ part ++ left
+parts_of rest part left used p l =
+    sym (ap (λ x. x ++ left) p ∙ ap (λ x. take used rest ++ x) l ∙ take-append-drop used rest)
 
 module _ {P : Type 0} (R : P → Judgement → P → Type 0) where
   -- the reader went from old to new over these bytes, and its listener from before to after
@@ -36,19 +39,25 @@ module _ {P : Type 0} (R : P → Judgement → P → Type 0) where
   }
 
   Hears-more : (old mid new : KissReader) (before between after : P) (seen more : List ℕ)
-      → Hears old mid before between seen → Hears mid new between after more → Hears old new before after (seen ++ more)
+      → Hears old mid before between seen → Hears mid new between after more
+      → Hears old new before after (seen ++ more)
   Hears-more old mid new before between after seen more p q = record {
-    stands = λ e s. rw (← append_assoc e seen more, (cuts (e ++ seen) more).rest) (q.stands (rest_of (e ++ seen)) (p.stands e s));
+    stands = λ e s. rw (← append_assoc e seen more, (cuts (e ++ seen) more).rest)
+        (q.stands (rest_of (e ++ seen)) (p.stands e s));
     told = λ e s. rw (← append_assoc e seen more, judgements_of-append (e ++ seen) more)
-          (FoldsTo-append R before between after (judgements_of (e ++ seen)) (judgements_of (rest_of (e ++ seen) ++ more))
-            (p.told e s) (q.told (rest_of (e ++ seen)) (p.stands e s)));
+        (FoldsTo-append R before between after (judgements_of (e ++ seen))
+        (judgements_of (rest_of (e ++ seen) ++ more))
+        (p.told e s) (q.told (rest_of (e ++ seen)) (p.stands e s)));
   }
 
-  pub HasHeard-none : (old : KissReader) (before : P) (piece : List ℕ) → HasHeard old old before before piece piece
+  pub HasHeard-none : (old : KissReader) (before : P) (piece : List ℕ)
+      → HasHeard old old before before piece piece
   HasHeard-none old before piece = record { seen = []; cut = refl; hears = Hears-none old before }
 
-  pub HasHeard-more : (old mid new : KissReader) (before between after : P) (piece rest part left : List ℕ)
-      → HasHeard old mid before between piece rest → rest ≡ part ++ left → Hears mid new between after part
+  pub HasHeard-more : (old mid new : KissReader) (before between after : P)
+      (piece rest part left : List ℕ)
+      → HasHeard old mid before between piece rest → rest ≡ part ++ left
+      → Hears mid new between after part
       → HasHeard old new before after piece left
   HasHeard-more old mid new before between after piece rest part left h e p = record {
     seen = h.seen ++ part;

@@ -1,24 +1,28 @@
 -- Lemmas on what a reader holds as bytes come.
-use Rattle.std.proofs.Common.{◌≡◌, ◌≢◌, ℕ, ◌+◌, ◌<◌, ◌≤◌, ◌∙◌, sym, ap, refl, Bool, true, false, cond, List, [], ◌∷◌, ◌++◌, length, length-append, map, append_assoc, append-nil, arith, rules, ◌==◌, subst, ◌⊎◌, inl, inr, Option, None, Some, Ok, Err, Result, drop}
-use Rattle.std.specs.List.{All, AllByRecursion}
+use Rattle.std.proofs.Common.{◌≡◌, ◌≢◌, ℕ, ◌<◌, ◌≤◌, ◌∙◌, sym, ap, refl, false, List, [], ◌∷◌, ◌++◌, length, length-append, append_assoc, append-nil, arith, ◌==◌, subst, Option, None, Some, Err}
+use Rattle.std.specs.List.{All}
 use Rattle.std.specs.Option.{option_map}
 use Rattle.std.proofs.lemmas.Bool.{lt-ltb, le-ltb, eqb-false}
 use Rattle.std.proofs.lemmas.List.Elements.{recursion_from_All, All-weaker, All-take}
-use Rattle.aprs_kiss.specs.Spelling.{HasNoEnd, IsPlain, is_special, is_frame_end, unspelled}
-use Rattle.aprs_kiss.specs.Judgement.{Judgement, judgement_by, judgement_of, frame_of}
+use Rattle.aprs_kiss.specs.Plain.{IsPlain, is_special}
+use Rattle.aprs_kiss.specs.Spelling.{HasNoEnd, is_frame_end}
+use Rattle.aprs_kiss.specs.Unspelling.{unspelled}
+use Rattle.aprs_kiss.specs.Judgement.{judgement_by, judgement_of, frame_of}
 use Rattle.aprs_kiss.specs.Reader.{Holds, IsOpen, IsClosed}
 use Rattle.aprs_kiss.specs.declared.reader.State.{State}
 use Rattle.aprs_kiss.specs.declared.reader.State.TheVariants.{Ended, Plain, Escape, Long, LongEscape, Broken}
-use Rattle.aprs_kiss.specs.declared.fault.PassFault.TheVariants.{BadEscape, TooLong, NotData}
+use Rattle.aprs_kiss.specs.declared.fault.PassFault.TheVariants.{BadEscape, TooLong}
 use Rattle.aprs_kiss.proofs.Escapes.{not_end, unspelled-nil, unspelled-open, unspelled-append, unspelled-run, unspelled-twice}
 use Rattle.std.proofs.Math.Seq.{take-append_seam}
 
 pub HasNoEnd-front : (a b : List ℕ) → HasNoEnd (a ++ b) → HasNoEnd a
 HasNoEnd-front a b h =
-    subst HasNoEnd (take-append_seam a b) (All-take (λ b. is_frame_end b ≡ false) (length a) (a ++ b) h)
+    subst HasNoEnd (take-append_seam a b)
+    (All-take (λ b. is_frame_end b ≡ false) (length a) (a ++ b) h)
 
 pub HasNoEnd-plain : (run : List ℕ) → IsPlain run → HasNoEnd run
-HasNoEnd-plain run p = All-weaker (λ b. is_special b ≡ false) (λ b. is_frame_end b ≡ false) not_end run p
+HasNoEnd-plain run p =
+    All-weaker (λ b. is_special b ≡ false) (λ b. is_frame_end b ≡ false) not_end run p
 
 -- what is held in the state that a test found
 pub Holds-in : (s t : State) (held bytes : List ℕ) → s ≡ t → Holds s held bytes → Holds t held bytes
@@ -28,12 +32,16 @@ Holds-in s t held bytes e h = subst (λ s. Holds s held bytes) e h
 pub Holds-begun : (s : State) (held bytes : List ℕ) → s ≢ Ended → Holds s held bytes → bytes ≢ []
 Holds-begun Ended held bytes n h = λ _. n refl
 Holds-begun Plain held bytes n h = λ e. let z : length bytes ≡ 0 = ap length e in omega (arith, h.0)
-Holds-begun Escape held bytes n h = λ e. let z : length bytes ≡ 0 = ap length e in omega (arith, ap length h.1, length-append h.0 (0xDB ∷ []))
+Holds-begun Escape held bytes n h =
+    λ e. let z : length bytes ≡ 0 =
+    ap length e in omega (arith, ap length h.1, length-append h.0 (0xDB ∷ []))
 Holds-begun Long held bytes n h = λ e.
     let r : Some [] ≡ Some h.0 = sym unspelled-nil ∙ ap unspelled (sym e) ∙ h.1 in
     let z : [] ≡ h.0 = cc in
     omega (arith, h.2, ap length z)
-Holds-begun LongEscape held bytes n h = λ e. let z : length bytes ≡ 0 = ap length e in omega (arith, ap length h.2, length-append h.0 (0xDB ∷ []))
+Holds-begun LongEscape held bytes n h =
+    λ e. let z : length bytes ≡ 0 =
+    ap length e in omega (arith, ap length h.2, length-append h.0 (0xDB ∷ []))
 Holds-begun Broken held bytes n h = λ e.
     let none : Option (List ℕ) = None in
     let r : Some [] ≡ none = sym unspelled-nil ∙ ap (λ l. unspelled (l ++ [])) (sym e) ∙ h [] in
@@ -45,49 +53,66 @@ pub Holds-run : (held bytes run : List ℕ) → HasNoEnd bytes → All (λ b. is
     → unspelled bytes ≡ Some held → unspelled (bytes ++ run) ≡ Some (held ++ run)
 Holds-run held bytes run n p h =
     unspelled-append bytes held run n h
-    ∙ ap (option_map (λ l. held ++ l)) (unspelled-run run (recursion_from_All (λ b. is_special b ≡ false) run p))
+    ∙ ap (option_map (λ l. held ++ l))
+    (unspelled-run run (recursion_from_All (λ b. is_special b ≡ false) run p))
 
-pub Holds-broken : (held bytes run : List ℕ) → Holds Broken held bytes → Holds Broken held (bytes ++ run)
+pub Holds-broken : (held bytes run : List ℕ) → Holds Broken held bytes
+    → Holds Broken held (bytes ++ run)
 Holds-broken held bytes run h = λ more. ap unspelled (append_assoc bytes run more) ∙ h (run ++ more)
 
 -- ---- the byte after an escape
 
-module _ (held front bytes : List ℕ) (code : ℕ) (n : HasNoEnd bytes) (e : bytes ≡ front ++ 0xDB ∷ []) (h : unspelled front ≡ Some held) where
-  after_escape : (more : List ℕ) → unspelled (bytes ++ code ∷ more) ≡ option_map (λ l. held ++ l) (unspelled (0xDB ∷ code ∷ more))
+module _ (held front bytes : List ℕ) (code : ℕ) (n : HasNoEnd bytes)
+    (e : bytes ≡ front ++ 0xDB ∷ []) (h : unspelled front ≡ Some held) where
+  after_escape : (more : List ℕ)
+      → unspelled (bytes ++ code ∷ more)
+      ≡ option_map (λ l. held ++ l) (unspelled (0xDB ∷ code ∷ more))
   after_escape more =
       ap (λ l. unspelled (l ++ code ∷ more)) e
       ∙ ap unspelled (append_assoc front (0xDB ∷ []) (code ∷ more))
-      ∙ unspelled-append front held (0xDB ∷ code ∷ more) (HasNoEnd-front front (0xDB ∷ []) (subst HasNoEnd e n)) h
+      ∙ unspelled-append front held (0xDB ∷ code ∷ more)
+      (HasNoEnd-front front (0xDB ∷ []) (subst HasNoEnd e n)) h
 
   -- the code stands for a byte
-  pub unspelled-escaped : (x : ℕ) → ((more : List ℕ) → unspelled (0xDB ∷ code ∷ more) ≡ option_map (λ l. x ∷ l) (unspelled more))
+  pub unspelled-escaped : (x : ℕ)
+      → ((more : List ℕ)
+      → unspelled (0xDB ∷ code ∷ more) ≡ option_map (λ l. x ∷ l) (unspelled more))
       → unspelled (bytes ++ code ∷ []) ≡ Some (held ++ x ∷ [])
   unspelled-escaped x k =
-      after_escape [] ∙ ap (option_map (λ l. held ++ l)) (k [] ∙ ap (option_map (λ l. x ∷ l)) unspelled-nil)
+      after_escape []
+      ∙ ap (option_map (λ l. held ++ l)) (k [] ∙ ap (option_map (λ l. x ∷ l)) unspelled-nil)
 
   -- it stands for nothing
   pub unspelled-unescaped : ((more : List ℕ) → unspelled (0xDB ∷ code ∷ more) ≡ None)
       → (more : List ℕ) → unspelled ((bytes ++ code ∷ []) ++ more) ≡ None
   unspelled-unescaped k more =
-      ap unspelled (append_assoc bytes (code ∷ []) more) ∙ after_escape more ∙ ap (option_map (λ l. held ++ l)) (k more)
+      ap unspelled (append_assoc bytes (code ∷ []) more) ∙ after_escape more
+      ∙ ap (option_map (λ l. held ++ l)) (k more)
 
 -- no byte stands for the code
 pub Holds-unescaped : (s : State) (held bytes : List ℕ) (code : ℕ) → IsOpen s → HasNoEnd bytes
-    → ((more : List ℕ) → unspelled (0xDB ∷ code ∷ more) ≡ None) → Holds s held bytes → Holds Broken held (bytes ++ code ∷ [])
+    → ((more : List ℕ) → unspelled (0xDB ∷ code ∷ more) ≡ None) → Holds s held bytes
+    → Holds Broken held (bytes ++ code ∷ [])
 Holds-unescaped Escape held bytes code o n k h = unspelled-unescaped held h.0 bytes code n h.1 h.2 k
-Holds-unescaped LongEscape held bytes code o n k h = unspelled-unescaped h.1 h.0 bytes code n h.2 h.3 k
+Holds-unescaped LongEscape held bytes code o n k h =
+    unspelled-unescaped h.1 h.0 bytes code n h.2 h.3 k
 Holds-unescaped Ended held bytes code o n k h = absurd o
 Holds-unescaped Plain held bytes code o n k h = absurd o
 Holds-unescaped Long held bytes code o n k h = absurd o
 Holds-unescaped Broken held bytes code o n k h = absurd o
 
 -- a byte for which there is no room
-pub Holds-escaped_long : (s : State) (held bytes : List ℕ) (code x : ℕ) → IsOpen s → s ≢ Escape → HasNoEnd bytes
+pub Holds-escaped_long : (s : State) (held bytes : List ℕ) (code x : ℕ) → IsOpen s → s ≢ Escape
+    → HasNoEnd bytes
     → ((more : List ℕ) → unspelled (0xDB ∷ code ∷ more) ≡ option_map (λ l. x ∷ l) (unspelled more))
     → Holds s held bytes → Holds Long held (bytes ++ code ∷ [])
 Holds-escaped_long Escape held bytes code x o e n k h = absurd (e refl)
-Holds-escaped_long LongEscape held bytes code x o e n k h =
-    (h.1 ++ x ∷ [], unspelled-escaped h.1 h.0 bytes code n h.2 h.3 x k, omega (arith, h.4, length-append h.1 (x ∷ [])))
+Holds-escaped_long LongEscape held bytes code x o e n k h = (
+  h.1 ++ x ∷ [],
+  unspelled-escaped h.1 h.0 bytes code n h.2 h.3 x k,
+  omega
+      (arith, h.4, length-append h.1 (x ∷ [])),
+)
 Holds-escaped_long Ended held bytes code x o e n k h = absurd o
 Holds-escaped_long Plain held bytes code x o e n k h = absurd o
 Holds-escaped_long Long held bytes code x o e n k h = absurd o
@@ -96,7 +121,8 @@ Holds-escaped_long Broken held bytes code x o e n k h = absurd o
 -- ---- the reader's steps
 
 -- bytes that stand for themselves, where the buffer is of no more use
-pub Holds-more : (s : State) (held bytes run : List ℕ) → s ≢ Ended → s ≢ Plain → IsClosed s → HasNoEnd bytes → IsPlain run
+pub Holds-more : (s : State) (held bytes run : List ℕ) → s ≢ Ended → s ≢ Plain → IsClosed s
+    → HasNoEnd bytes → IsPlain run
     → Holds s held bytes → Holds s held (bytes ++ run)
 Holds-more Ended held bytes run e p k n q h = absurd (e refl)
 Holds-more Plain held bytes run e p k n q h = absurd (p refl)
@@ -107,7 +133,8 @@ Holds-more LongEscape held bytes run e p k n q h = absurd k
 Holds-more Broken held bytes run e p k n q h = Holds-broken held bytes run h
 
 -- an escape begins
-pub Holds-escape_again : (s : State) (held bytes : List ℕ) → s ≢ Ended → s ≢ Plain → s ≢ Long → HasNoEnd bytes
+pub Holds-escape_again : (s : State) (held bytes : List ℕ) → s ≢ Ended → s ≢ Plain → s ≢ Long
+    → HasNoEnd bytes
     → Holds s held bytes → Holds Broken held (bytes ++ 0xDB ∷ [])
 Holds-escape_again Ended held bytes e p l n h = absurd (e refl)
 Holds-escape_again Plain held bytes e p l n h = absurd (p refl)
@@ -120,29 +147,38 @@ Holds-escape_again Broken held bytes e p l n h = Holds-broken held bytes (0xDB �
 
 -- ---- the end of a piece
 
-open_ends : (held front bytes : List ℕ) → HasNoEnd bytes → bytes ≡ front ++ 0xDB ∷ [] → unspelled front ≡ Some held
+open_ends : (held front bytes : List ℕ) → HasNoEnd bytes → bytes ≡ front ++ 0xDB ∷ []
+    → unspelled front ≡ Some held
     → unspelled bytes ≡ None
 open_ends held front bytes n e h =
     ap unspelled e
-    ∙ unspelled-append front held (0xDB ∷ []) (HasNoEnd-front front (0xDB ∷ []) (subst HasNoEnd e n)) h
+    ∙ unspelled-append front held (0xDB ∷ [])
+    (HasNoEnd-front front (0xDB ∷ []) (subst HasNoEnd e n)) h
     ∙ ap (option_map (λ l. held ++ l)) unspelled-open
 
 -- an escape is broken, or isn't whole
-pub judgement_of-broken : (s : State) (held bytes : List ℕ) → s ≢ Plain → s ≢ Long → 0 < length bytes → HasNoEnd bytes
+pub judgement_of-broken : (s : State) (held bytes : List ℕ) → s ≢ Plain → s ≢ Long
+    → 0 < length bytes → HasNoEnd bytes
     → Holds s held bytes → judgement_of bytes ≡ Err BadEscape
 unfolding judgement_of
-judgement_of-broken Ended held bytes p l z n h = absurd (let e : length bytes ≡ 0 = ap length h in omega (arith, z))
+judgement_of-broken Ended held bytes p l z n h =
+    absurd (let e : length bytes ≡ 0 = ap length h in omega (arith, z))
 judgement_of-broken Plain held bytes p l z n h = absurd (p refl)
 judgement_of-broken Long held bytes p l z n h = absurd (l refl)
-judgement_of-broken Escape held bytes p l z n h = ap judgement_by (open_ends held h.0 bytes n h.1 h.2)
-judgement_of-broken LongEscape held bytes p l z n h = ap judgement_by (open_ends h.1 h.0 bytes n h.2 h.3)
-judgement_of-broken Broken held bytes p l z n h = ap judgement_by (ap unspelled (sym (append-nil bytes)) ∙ h [])
+judgement_of-broken Escape held bytes p l z n h =
+    ap judgement_by (open_ends held h.0 bytes n h.1 h.2)
+judgement_of-broken LongEscape held bytes p l z n h =
+    ap judgement_by (open_ends h.1 h.0 bytes n h.2 h.3)
+judgement_of-broken Broken held bytes p l z n h =
+    ap judgement_by (ap unspelled (sym (append-nil bytes)) ∙ h [])
 
-pub judgement_of-long : (bytes held : List ℕ) → Holds Long held bytes → judgement_of bytes ≡ Err TooLong
+pub judgement_of-long : (bytes held : List ℕ) → Holds Long held bytes
+    → judgement_of bytes ≡ Err TooLong
 unfolding judgement_of
 judgement_of-long bytes held h = ap judgement_by h.1 ∙ rw (lt-ltb 1024 (length h.0) h.2) refl
 
-pub judgement_of-plain : (bytes held : List ℕ) → unspelled bytes ≡ Some held → length held ≤ 1024 → judgement_of bytes ≡ frame_of held
+pub judgement_of-plain : (bytes held : List ℕ) → unspelled bytes ≡ Some held → length held ≤ 1024
+    → judgement_of bytes ≡ frame_of held
 unfolding judgement_of
 judgement_of-plain bytes held h l = ap judgement_by h ∙ rw (le-ltb 1024 (length held) l) refl
 

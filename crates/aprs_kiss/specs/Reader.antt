@@ -1,12 +1,10 @@
--- What a KISS reader holds, and what it tells.
+-- What a KISS reader holds of the piece that it reads.
 use Rattle.std.specs.Prelude.{◌≡◌, ◌<◌, ℕ, List, [], ◌∷◌, ◌++◌, length, drop, Option, None, Some, Result, Ok, Err}
-use Rattle.std.specs.Borrow.{Bor}
-use Rattle.aprs_kiss.specs.Spelling.{HasNoEnd, unspelled}
-use Rattle.aprs_kiss.specs.Judgement.{Judgement, DataFrame}
+use Rattle.aprs_kiss.specs.Spelling.{HasNoEnd}
+use Rattle.aprs_kiss.specs.Unspelling.{unspelled}
+use Rattle.aprs_kiss.specs.Judgement.{Judgement}
 use Rattle.aprs_kiss.specs.declared.fault.PassFault.{PassFault}
 use Rattle.aprs_kiss.specs.declared.reader.KissReader.{KissReader}
-use Rattle.aprs_kiss.specs.declared.reader.Fed.{Fed}
-use Rattle.aprs_kiss.specs.declared.reader.Fed.TheVariants as fed
 use Rattle.aprs_kiss.specs.declared.reader.State.{State}
 use Rattle.aprs_kiss.specs.declared.reader.State.TheVariants.{Ended, Plain, Escape, Long, LongEscape, Broken}
 
@@ -14,10 +12,12 @@ use Rattle.aprs_kiss.specs.declared.reader.State.TheVariants.{Ended, Plain, Esca
 abbrev pub Holds : State → List ℕ → List ℕ → Type 0
 Holds Ended held bytes = bytes ≡ []
 Holds Plain held bytes = (0 < length bytes) × (unspelled bytes ≡ Some held)
-Holds Escape held bytes = (front : List ℕ) × (bytes ≡ front ++ 0xDB ∷ []) × (unspelled front ≡ Some held)
+Holds Escape held bytes =
+    (front : List ℕ) × (bytes ≡ front ++ 0xDB ∷ []) × (unspelled front ≡ Some held)
 Holds Long held bytes = (all : List ℕ) × (unspelled bytes ≡ Some all) × (1024 < length all)
 Holds LongEscape held bytes =
-    (front : List ℕ) × (all : List ℕ) × (bytes ≡ front ++ 0xDB ∷ []) × (unspelled front ≡ Some all) × (1024 < length all)
+    (front : List ℕ) × (all : List ℕ) × (bytes ≡ front ++ 0xDB ∷ [])
+    × (unspelled front ≡ Some all) × (1024 < length all)
 Holds Broken held bytes = (more : List ℕ) → unspelled (bytes ++ more) ≡ None
 
 -- since the last frame end, the reader has had these bytes
@@ -25,13 +25,7 @@ pub record StandsAfter (reader : KissReader) (bytes : List ℕ) : Type 0 where
   pub whole : HasNoEnd bytes
   pub held : Holds reader.state reader.bytes.items bytes
 
--- what an answer tells of the stream
-abbrev pub told_by : Fed → List Judgement
-told_by fed.Nothing = []
-told_by (fed.Frame port frame) = Ok (record { port = port; bytes = frame.now }) ∷ []
-told_by (fed.Passed fault) = Err fault ∷ []
-
--- the same, of a port, where the frame lies behind its type byte
+-- what an outcome tells, of a port where the frame lies behind its type byte
 abbrev pub judged_as : Option (Result ℕ PassFault) → List ℕ → List Judgement
 judged_as None held = []
 judged_as (Some (Ok port)) held = Ok (record { port = port; bytes = drop 1 held }) ∷ []

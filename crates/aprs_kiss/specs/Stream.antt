@@ -1,5 +1,5 @@
 -- A KISS stream, cut at each frame end.
-use Rattle.std.specs.Prelude.{◌≡◌, ◌<◌, ℕ, List, [], ◌∷◌, ◌++◌, length, filter, map, Bool, true, false, Option, Result}
+use Rattle.std.specs.Prelude.{◌≡◌, ◌<◌, ℕ, List, [], ◌∷◌, ◌++◌, length, filter, map, Bool, true, false}
 use Rattle.std.specs.List.{slice_split}
 use Rattle.aprs_kiss.specs.Spelling.{is_frame_end}
 use Rattle.aprs_kiss.specs.Judgement.{Judgement, judgement_of}
@@ -40,4 +40,4 @@ pub record EndsPiece (stream : List ℕ) : Type 0 where
   pub piece : List ℕ
   pub last : pieces_of stream ≡ before ++ piece ∷ []
   pub nonempty : 0 < length piece
-  pub whole : rest_of stream ≡ []
+  pub left : rest_of stream ≡ []

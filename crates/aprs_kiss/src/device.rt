@@ -30,26 +30,29 @@ impl<T> Counted<T> {
         Counted { device, failed: 0 }
     }
 
-    /// How many calls of the device failed, or `u64::MAX` where that many did or more.
+    /// How many calls of the device failed, or `u64::MAX` where that many did or more. Takes no
+    /// memory.
     pub fn failures(&self) -> u64
         ensures { result ≡ failures_of self.now }
     {
         self.failed
     }
 
-    /// Gives the device back.
+    /// Gives the device back. Takes no memory.
     pub fn into_inner(self) -> T
         ensures { result ≡ device_of self }
     {
         self.device
     }
 
+    /// Counts a failed call.
     fn note_failure(&mut self)
         ensures device { self.new.device ≡ self.old.device }
         ensures count { self.old.failed ≤ self.new.failed }
         ensures rose { Rose self.old.failed self.new.failed }
     {
-        self.failed = self.failed.saturating_add(1);
+        let count = &mut self.failed;
+        *count = count.saturating_add(1);
     }
 }
 
@@ -58,7 +61,8 @@ impl<R: Read> Counted<R> {
     /// is empty. At a fault no byte is lost and the count rises. Takes no memory.
     pub fn read(&mut self, buf: &mut [u8]) -> Result<usize, DeviceFault>
         ensures bound { ReadsAtMost result buf.new }
-        ensures bytes { ReadConsumes (R.remaining (device_of self.old)) (R.remaining (device_of self.new)) result buf.new }
+        ensures bytes { ReadConsumes (R.remaining (device_of self.old))
+            (R.remaining (device_of self.new)) result buf.new }
         ensures count { failures_of self.old ≤ failures_of self.new }
         ensures fault { OnErr result (Rose (failures_of self.old) (failures_of self.new)) }
     {
@@ -75,8 +79,10 @@ impl<R: Read> Counted<R> {
 /// Writes all of `bytes`, or at a fault a front of them, and then the count rises. A write that
 /// takes nothing is a fault. Takes no memory.
 pub fn send<W: Write>(w: &mut Counted<W>, bytes: &[u8]) -> Result<(), WriteFault>
-    ensures sent { OnOk result (Appends (W.contents (device_of w.old)) (W.contents (device_of w.new)) bytes.now) }
-    ensures prefix { OnErr result (AppendsFront (W.contents (device_of w.old)) (W.contents (device_of w.new)) bytes.now) }
+    ensures sent { OnOk result
+        (Appends (W.contents (device_of w.old)) (W.contents (device_of w.new)) bytes.now) }
+    ensures prefix { OnErr result
+        (AppendsFront (W.contents (device_of w.old)) (W.contents (device_of w.new)) bytes.now) }
     ensures count { failures_of w.old ≤ failures_of w.new }
     ensures fault { OnErr result (Rose (failures_of w.old) (failures_of w.new)) }
 {

@@ -14,7 +14,7 @@ pub enum PassFault {
 }
 
 impl PassFault {
-    /// 1 to 3, in the order in which the faults are looked for.
+    /// 1 to 3, in the order in which the faults are looked for. Takes no memory.
     pub fn number(&self) -> u8
         ensures { result ≡ number_of self.now }
     {
@@ -25,7 +25,7 @@ impl PassFault {
         }
     }
 
-    /// The variant's name.
+    /// The variant's name. Takes no memory.
     pub fn name(&self) -> &'static str
         ensures { result.now ≡ name_of self.now }
     {

@@ -11,7 +11,13 @@ mod write;
 
 pub use device::{Counted, DeviceFault, WriteFault, send};
 pub use fault::PassFault;
-pub use laws::{cuts_change_nothing, each_piece_is_judged_once, written_frames_are_read_back};
+pub use laws::{
+    a_stream_is_its_pieces, cuts_change_nothing, each_piece_is_judged_once, frame_ends_end_pieces,
+    written_frames_are_read_back,
+};
 pub use listen::{Listener, feed_all, feed_in_parts};
 pub use reader::{Fed, KissReader, MAX_FRAME};
 pub use write::write_kiss;
+
+#[cfg(test)]
+mod tests;

@@ -2,7 +2,8 @@
 ghost use Rattle.std.specs.Prelude.{◌++◌, ℕ, List};
 ghost use Rattle.std.specs.List.{FoldsTo};
 ghost use Rattle.aprs_kiss.specs.Judgement.{Judgement};
-ghost use Rattle.aprs_kiss.specs.Reader.{StandsAfter, told_by};
+ghost use Rattle.aprs_kiss.specs.Reader.{StandsAfter};
+ghost use Rattle.aprs_kiss.specs.Told.{told_by};
 ghost use Rattle.aprs_kiss.specs.Stream.{judgements_of, rest_of};
 
 use crate::reader::{Fed, KissReader};
@@ -19,9 +20,10 @@ pub trait Listener {
 
 /// Feeds all of a piece of a stream, and hands on each answer. Takes no memory.
 pub fn feed_all<L: Listener>(reader: &mut KissReader, piece: &[u8], listener: &mut L)
-    ensures stands { (e : List ℕ) → StandsAfter reader.old e → StandsAfter reader.new (rest_of (e ++ piece.now)) }
-    ensures told { (e : List ℕ) → StandsAfter reader.old e
-        → FoldsTo L.hears listener.old (judgements_of (e ++ piece.now)) listener.new }
+    ensures stands { (before : List ℕ) → StandsAfter reader.old before
+        → StandsAfter reader.new (rest_of (before ++ piece.now)) }
+    ensures told { (before : List ℕ) → StandsAfter reader.old before
+        → FoldsTo L.hears listener.old (judgements_of (before ++ piece.now)) listener.new }
 {
     let mut rest = piece;
     while !rest.is_empty() {
@@ -40,9 +42,10 @@ pub fn feed_in_parts<L: Listener>(
     lengths: &[usize],
     listener: &mut L,
 )
-    ensures stands { (e : List ℕ) → StandsAfter reader.old e → StandsAfter reader.new (rest_of (e ++ stream.now)) }
-    ensures told { (e : List ℕ) → StandsAfter reader.old e
-        → FoldsTo L.hears listener.old (judgements_of (e ++ stream.now)) listener.new }
+    ensures stands { (before : List ℕ) → StandsAfter reader.old before
+        → StandsAfter reader.new (rest_of (before ++ stream.now)) }
+    ensures told { (before : List ℕ) → StandsAfter reader.old before
+        → FoldsTo L.hears listener.old (judgements_of (before ++ stream.now)) listener.new }
 {
     let mut rest = stream;
     for len in lengths {

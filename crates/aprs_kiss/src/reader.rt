@@ -1,12 +1,15 @@
 //! A reader of a KISS stream that comes in any pieces.
-ghost use Rattle.std.specs.Prelude.{◌≡◌, ◌≢◌, ◌≤◌, ◌<◌, ◌+◌, ◌∷◌, ◌++◌, ◌↔◌, ℕ, List, [], false, IsTrue, IfNone, IfSome, OnSome, OnOk, length, take};
+ghost use Rattle.std.specs.Prelude.{◌≡◌, ◌≢◌, ◌≤◌, ◌<◌, ◌+◌, ◌∷◌, ◌++◌, ◌↔◌, ℕ, List, [], false, IsTrue, IfNone, IfSome, OnSome, IfOk, length, take};
 ghost use Rattle.std.specs.Bool.{OnTrue, OnFalse};
 ghost use Rattle.std.specs.Borrow.{sem};
 ghost use Rattle.std.specs.Option.{option_map, option_and_then};
 ghost use Rattle.std.specs.Io.BufRead.{Rests};
 ghost use Rattle.aprs_kiss.specs.Judgement.{judgement_of, frame_of};
-ghost use Rattle.aprs_kiss.specs.Reader.{StandsAfter, IsOpen, IsClosed, told_by, judged_as};
-ghost use Rattle.aprs_kiss.specs.Spelling.{HasNoEnd, IsPlain, is_special, unspelled};
+ghost use Rattle.aprs_kiss.specs.Reader.{StandsAfter, IsOpen, IsClosed, judged_as};
+ghost use Rattle.aprs_kiss.specs.Told.{IsWithinBounds, told_by};
+ghost use Rattle.aprs_kiss.specs.Plain.{IsPlain, is_special};
+ghost use Rattle.aprs_kiss.specs.Spelling.{HasNoEnd};
+ghost use Rattle.aprs_kiss.specs.Unspelling.{unspelled};
 ghost use Rattle.aprs_kiss.specs.Stream.{EndsPiece, judgements_of, rest_of};
 ghost use Rattle.aprs_kiss.specs.contracts.reader.KissReader.{the_row};
 
@@ -45,8 +48,8 @@ enum State {
     Broken,
 }
 
-/// Reads the frames of a KISS stream that comes in pieces of any size. It has a buffer of its own
-/// and takes no memory.
+/// Reads the frames of a KISS stream (the KISS paper) that comes in pieces of any size, into a
+/// buffer of its own. It takes no memory.
 #[derive(Drop)]
 pub struct KissReader {
     bytes: ArrayVec<u8, MAX_FRAME>,
@@ -54,7 +57,7 @@ pub struct KissReader {
 }
 
 impl KissReader {
-    /// A reader at the beginning of a stream.
+    /// A reader at the beginning of a stream. Takes no memory.
     pub fn new() -> Self
         ensures { StandsAfter result [] }
     {
@@ -64,22 +67,25 @@ impl KissReader {
         }
     }
 
-    /// Takes the bytes of `piece` up to the end of a nonempty piece of the stream, or all of them.
-    /// Says how many were used and what they tell: the frame then lies in the reader until the next
-    /// call. An answer is a data frame of at most 1,023 bytes, or the first fault of its piece, after
-    /// which the reader reads on. Takes no memory.
+    /// Takes the bytes of `piece` up to the frame end of a nonempty piece of the stream, or all of
+    /// them, and says how many they were and what they tell: a data frame of at most 1,023 bytes,
+    /// which lies in the reader until the next call, or why the piece is passed over. The reader
+    /// then reads on. Takes no memory.
     pub fn feed(&mut self, piece: &[u8]) -> (usize, Fed<'_>)
-        ensures* stands { sem 𝓛 (Rests the_row self.entry (λ new. (e : List ℕ) → StandsAfter self.old e
-            → StandsAfter new (rest_of (e ++ take result.0 piece.now)))) }
+        // Here and below, `before` is what came since the last frame end before the call.
+        ensures* stands { sem 𝓛 (Rests the_row self.entry (λ new. (before : List ℕ)
+            → StandsAfter self.old before
+            → StandsAfter new (rest_of (before ++ take result.0 piece.now)))) }
         // The nonempty pieces that ended are none or one, and what is told is its judgement.
-        ensures judged { (e : List ℕ) → StandsAfter self.old e
-            → judgements_of (e ++ take result.0 piece.now) ≡ told_by result.1 }
+        ensures judged { (before : List ℕ) → StandsAfter self.old before
+            → judgements_of (before ++ take result.0 piece.now) ≡ told_by result.1 }
         ensures used { result.0 ≤ length piece.now }
         ensures whole { told_by result.1 ≡ [] → result.0 ≡ length piece.now }
         // The byte that was used last is the frame end of the piece that is told of.
-        ensures ends { (e : List ℕ) → StandsAfter self.old e → told_by result.1 ≢ []
-            → EndsPiece (e ++ take result.0 piece.now) }
+        ensures ends { (before : List ℕ) → StandsAfter self.old before → told_by result.1 ≢ []
+            → EndsPiece (before ++ take result.0 piece.now) }
         ensures progress { 0 < length piece.now → 0 < result.0 }
+        ensures bounds { IsWithinBounds result.1 }
     {
         let (used, outcome) = self.step(piece);
         match outcome {
@@ -92,24 +98,28 @@ impl KissReader {
         }
     }
 
-    /// Whether no byte came since the last frame end, so that a stream may end here.
+    /// Whether no byte came since the last frame end, so that a stream may end here. Takes no
+    /// memory.
     pub fn finish(&self) -> bool
-        ensures { (e : List ℕ) → StandsAfter self.now e → IsTrue result ↔ (e ≡ []) }
+        ensures { (before : List ℕ) → StandsAfter self.now before → IsTrue result ↔ (before ≡ []) }
     {
         matches!(self.state, State::Ended)
     }
 
     /// As `feed`, with the frame left in the buffer, behind its type byte.
     fn step(&mut self, piece: &[u8]) -> (usize, Option<Result<u8, PassFault>>)
-        ensures stands { (e : List ℕ) → StandsAfter self.old e
-            → StandsAfter self.new (rest_of (e ++ take result.0 piece.now)) }
-        ensures judged { (e : List ℕ) → StandsAfter self.old e
-            → judgements_of (e ++ take result.0 piece.now) ≡ judged_as result.1 self.new.bytes.items }
+        ensures stands { (before : List ℕ) → StandsAfter self.old before
+            → StandsAfter self.new (rest_of (before ++ take result.0 piece.now)) }
+        ensures judged { (before : List ℕ) → StandsAfter self.old before
+            → judgements_of (before ++ take result.0 piece.now)
+            ≡ judged_as result.1 self.new.bytes.items }
         ensures used { result.0 ≤ length piece.now }
         ensures whole { IfNone result.1 (result.0 ≡ length piece.now) }
-        ensures ends { (e : List ℕ) → StandsAfter self.old e → OnSome result.1 (EndsPiece (e ++ take result.0 piece.now)) }
+        ensures ends { (before : List ℕ) → StandsAfter self.old before
+            → OnSome result.1 (EndsPiece (before ++ take result.0 piece.now)) }
         ensures progress { OnSome result.1 (0 < result.0) }
-        ensures frame { IfSome result.1 (λ o. OnOk o (0 < length self.new.bytes.items)) }
+        ensures frame { IfSome result.1 (λ o.
+            IfOk o (λ port. (port < 16) × (0 < length self.new.bytes.items))) }
     {
         let mut rest = piece;
         loop {
@@ -130,7 +140,8 @@ impl KissReader {
     /// Takes bytes that stand for themselves, but for the first where an escape is open.
     fn take_plain(&mut self, run: &[u8])
         requires { IsPlain run.now }
-        ensures { (e : List ℕ) → StandsAfter self.old e → StandsAfter self.new (e ++ run.now) }
+        ensures { (before : List ℕ) → StandsAfter self.old before
+            → StandsAfter self.new (before ++ run.now) }
     {
         let [first, after @ ..] = run else {
             return;
@@ -155,7 +166,8 @@ impl KissReader {
     fn take_unescaped(&mut self, run: &[u8])
         requires plain { IsPlain run.now }
         requires closed { IsClosed self.old.state }
-        ensures { (e : List ℕ) → StandsAfter self.old e → StandsAfter self.new (e ++ run.now) }
+        ensures { (before : List ℕ) → StandsAfter self.old before
+            → StandsAfter self.new (before ++ run.now) }
     {
         match self.state {
             State::Ended if run.is_empty() => {}
@@ -172,7 +184,8 @@ impl KissReader {
     fn take_escaped(&mut self, code: u8)
         requires open { IsOpen self.old.state }
         requires plain { is_special code ≡ false }
-        ensures stands { (e : List ℕ) → StandsAfter self.old e → StandsAfter self.new (e ++ code ∷ []) }
+        ensures stands { (before : List ℕ) → StandsAfter self.old before
+            → StandsAfter self.new (before ++ code ∷ []) }
         ensures closed { IsClosed self.new.state }
     {
         match unescape(code) {
@@ -186,8 +199,8 @@ impl KissReader {
 
     /// Adds to what is held the last bytes that a piece spells, where there is room.
     fn hold(&mut self, bytes: &[u8])
-        ensures stands { (e : List ℕ) → HasNoEnd e → 0 < length e
-            → unspelled e ≡ Some (self.old.bytes.items ++ bytes.now) → StandsAfter self.new e }
+        ensures stands { (all : List ℕ) → HasNoEnd all → 0 < length all
+            → unspelled all ≡ Some (self.old.bytes.items ++ bytes.now) → StandsAfter self.new all }
         ensures closed { IsClosed self.new.state }
     {
         match self.bytes.try_extend_from_slice(bytes) {
@@ -198,7 +211,8 @@ impl KissReader {
 
     /// Takes the byte that begins an escape.
     fn take_escape(&mut self)
-        ensures { (e : List ℕ) → StandsAfter self.old e → StandsAfter self.new (e ++ 0xDB ∷ []) }
+        ensures { (before : List ℕ) → StandsAfter self.old before
+            → StandsAfter self.new (before ++ 0xDB ∷ []) }
     {
         match self.state {
             State::Ended => {
@@ -214,9 +228,9 @@ impl KissReader {
     /// Judges the piece that a frame end ends: the port of its frame, or its first fault.
     fn end_piece(&mut self) -> Result<u8, PassFault>
         ensures stands { StandsAfter self.new [] }
-        ensures judged { (e : List ℕ) → StandsAfter self.old e → 0 < length e
-            → judged_as (Some result) self.new.bytes.items ≡ judgement_of e ∷ [] }
-        ensures frame { OnOk result (0 < length self.new.bytes.items) }
+        ensures judged { (before : List ℕ) → StandsAfter self.old before → 0 < length before
+            → judged_as (Some result) self.new.bytes.items ≡ judgement_of before ∷ [] }
+        ensures frame { IfOk result (λ port. (port < 16) × (0 < length self.new.bytes.items)) }
     {
         let state = self.state;
         self.state = State::Ended;
@@ -231,7 +245,7 @@ impl KissReader {
 /// The port of a data frame, from its type byte.
 fn port_of(bytes: &[u8]) -> Result<u8, PassFault>
     ensures judged { judged_as (Some result) bytes.now ≡ frame_of bytes.now ∷ [] }
-    ensures frame { OnOk result (0 < length bytes.now) }
+    ensures frame { IfOk result (λ port. (port < 16) × (0 < length bytes.now)) }
 {
     match bytes {
         [head, ..] if head % 16 == 0 => Ok(head / 16),

@@ -1,6 +1,6 @@
 //! The bytes that KISS doesn't send as themselves.
 ghost use Rattle.std.specs.Prelude.{◌≡◌, ◌≤◌, ◌<◌, length, take, slice_index, true};
-ghost use Rattle.aprs_kiss.specs.Spelling.{CutsPlain, IsPlain, is_special};
+ghost use Rattle.aprs_kiss.specs.Plain.{CutsPlain, IsPlain, is_special};
 
 /// Stands before and after a frame.
 pub const FEND: u8 = 0xC0;

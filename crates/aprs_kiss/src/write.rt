@@ -2,7 +2,8 @@
 ghost use Rattle.std.specs.Prelude.{◌≡◌, ◌≤◌, true, OnOk, OnErr};
 ghost use Rattle.std.specs.Io.KnownBytes.{Appends};
 ghost use Rattle.aprs_kiss.specs.Device.{device_of, failures_of, Rose, AppendsFront};
-ghost use Rattle.aprs_kiss.specs.Spelling.{is_special, kiss_text, spelling_of_byte};
+ghost use Rattle.aprs_kiss.specs.Plain.{is_special};
+ghost use Rattle.aprs_kiss.specs.Spelling.{kiss_text, spelling_of_byte};
 
 use crate::device::{Counted, WriteFault, send};
 use crate::spelling::{FEND, FESC, TFEND, TFESC, cut_plain};
@@ -14,8 +15,12 @@ const DATA: u8 = 0;
 /// Writes a frame of any length as a data frame of port 0, between two frame ends. At a fault a
 /// front of that went out, and the count of the device's failures rose. Takes no memory.
 pub fn write_kiss<W: Write>(w: &mut Counted<W>, frame: &[u8]) -> Result<(), WriteFault>
-    ensures sent { OnOk result (Appends (W.contents (device_of w.old)) (W.contents (device_of w.new)) (kiss_text frame.now)) }
-    ensures prefix { OnErr result (AppendsFront (W.contents (device_of w.old)) (W.contents (device_of w.new)) (kiss_text frame.now)) }
+    ensures sent { OnOk result
+        (Appends (W.contents (device_of w.old)) (W.contents (device_of w.new))
+        (kiss_text frame.now)) }
+    ensures prefix { OnErr result
+        (AppendsFront (W.contents (device_of w.old)) (W.contents (device_of w.new))
+        (kiss_text frame.now)) }
     ensures count { failures_of w.old ≤ failures_of w.new }
     ensures fault { OnErr result (Rose (failures_of w.old) (failures_of w.new)) }
 {

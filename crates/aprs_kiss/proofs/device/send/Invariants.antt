@@ -5,7 +5,8 @@ use Rattle.aprs_kiss.proofs.device.send.Given as goal
 abbrev pub invariant-loop-rest : goal.invariant-loop-rest
 invariant-loop-rest g l = record {
   count : l.initial.w.failed ≤ l.w.failed;
-  sent : AppendsAllBut (g.W.Write.contents l.initial.w.device) (g.W.Write.contents l.w.device) l.initial.rest l.rest;
+  sent : AppendsAllBut (g.W.Write.contents l.initial.w.device)
+      (g.W.Write.contents l.w.device) l.initial.rest l.rest;
 }
 
 abbrev pub decreases-loop-rest : goal.decreases-loop-rest

@@ -1,5 +1,5 @@
-use Rattle.std.proofs.Common.{◌≡◌, refl, sym, append-nil, []}
-use Rattle.aprs_kiss.proofs.Hearing.{HasHeard-none, HasHeard-more, Hears-all, Hears-call, parts_of}
+use Rattle.std.proofs.Common.{refl, sym, append-nil, []}
+use Rattle.aprs_kiss.proofs.Hearing.{HasHeard-none, HasHeard-more, Hears-all, parts_of}
 use Rattle.aprs_kiss.proofs.listen.feed_in_parts.Goals as goal
 
 pub loop-len-init : goal.loop-len-init
@@ -7,11 +7,14 @@ loop-len-init g c = HasHeard-none _ _ _ _
 
 pub loop-len-preserved : goal.loop-len-preserved
 loop-len-preserved g c =
-    HasHeard-more _ _ _ _ _ _ _ _ _ _ _ c.loop-len.invariant (parts_of _ _ _ _ c.split_at.ensures.front c.split_at.ensures.back)
-      (record { stands = c.feed_all.ensures.stands; told = c.feed_all.ensures.told })
+    HasHeard-more _ _ _ _ _ _ _ _ _ _ _ c.loop-len.invariant
+    (parts_of _ _ _ _ c.split_at.ensures.front c.split_at.ensures.back)
+    (record { stands = c.feed_all.ensures.stands; told = c.feed_all.ensures.told })
 
 pub returns : goal.returns
 returns g c =
-    let all = Hears-all _ _ _ _ _ _ _ (HasHeard-more _ _ _ _ _ _ _ _ _ _ [] c.loop-len.invariant (sym (append-nil _))
-            (record { stands = c.feed_all-2.ensures.stands; told = c.feed_all-2.ensures.told })) refl in
+    let all =
+    Hears-all _ _ _ _ _ _ _
+    (HasHeard-more _ _ _ _ _ _ _ _ _ _ [] c.loop-len.invariant (sym (append-nil _))
+    (record { stands = c.feed_all-2.ensures.stands; told = c.feed_all-2.ensures.told })) refl in
     record { stands = all.stands; told = all.told }

@@ -6,7 +6,8 @@ use Rattle.aprs_kiss.proofs.write.write_kiss.Given as goal
 abbrev pub invariant-loop-byte : goal.invariant-loop-byte
 invariant-loop-byte g l = record {
   count : failures_of l.fn.w ≤ failures_of l.w;
-  sent : AppendsAllBut (g.W.Write.contents (device_of l.fn.w)) (g.W.Write.contents (device_of l.w)) (kiss_text l.frame)
+  sent : AppendsAllBut (g.W.Write.contents (device_of l.fn.w))
+      (g.W.Write.contents (device_of l.w)) (kiss_text l.frame)
       (spelling_of l.rest ++ 0xC0 ∷ []);
 }
 

@@ -1,6 +1,5 @@
-use Rattle.std.proofs.Common.{◌≡◌, ◌∙◌, ap, sym, refl, List, ℕ, Some}
-use Rattle.aprs_kiss.specs.Reader.{StandsAfter, Holds}
-use Rattle.aprs_kiss.specs.Spelling.{unspelled}
+use Rattle.std.proofs.Common.{◌∙◌, ap, sym, refl, Some}
+use Rattle.aprs_kiss.specs.Unspelling.{unspelled}
 use Rattle.aprs_kiss.proofs.Pieces.{HasNoEnd-append, HasNoEnd-one}
 use Rattle.aprs_kiss.proofs.Escapes.{unspelled-nil}
 use Rattle.aprs_kiss.proofs.Holding.{Holds-in, Holds-escape_again}
@@ -31,5 +30,6 @@ returns-in-Long c e s =
 pub returns-in_default : goal.returns-in_default
 returns-in_default c e s = record {
   whole = HasNoEnd-append e _ s.whole (HasNoEnd-one 0xDB refl);
-  held = Holds-escape_again _ _ e c.in_default.not-Ended c.in_default.not-Plain c.in_default.not-Long s.whole s.held;
+  held = Holds-escape_again _ _ e c.in_default.not-Ended c.in_default.not-Plain
+      c.in_default.not-Long s.whole s.held;
 }

@@ -1,6 +1,4 @@
-use Rattle.std.proofs.Common.{◌≡◌, ◌∙◌, ◌+◌, ◌++◌, ◌∷◌, [], ap, sym, refl, length-append, List, ℕ, arith}
-use Rattle.aprs_kiss.specs.Reader.{StandsAfter, Holds}
-use Rattle.aprs_kiss.specs.Spelling.{unspelled}
+use Rattle.std.proofs.Common.{◌++◌, ◌∷◌, [], length-append, arith}
 use Rattle.aprs_kiss.proofs.Pieces.{HasNoEnd-append, HasNoEnd-one}
 use Rattle.aprs_kiss.proofs.Escapes.{not_end}
 use Rattle.aprs_kiss.proofs.Holding.{Holds-in, Holds-unescaped, Holds-escaped_long, unspelled-escaped}
@@ -16,15 +14,16 @@ pub returns-in-Escape-clause-stands : goal.returns-in-Escape-clause-stands
 returns-in-Escape-clause-stands c e s =
     let h = Holds-in _ _ _ e c.in-Escape.is s.held in
     c.hold.ensures.stands (e ++ c.args.code ∷ [])
-      (HasNoEnd-append e _ s.whole (HasNoEnd-one _ (not_end _ c.requires.plain)))
-      (omega (arith, length-append e (c.args.code ∷ [])))
-      (unspelled-escaped _ h.0 e _ s.whole h.1 h.2 _ c.in-Some.ensures)
+    (HasNoEnd-append e _ s.whole (HasNoEnd-one _ (not_end _ c.requires.plain)))
+    (omega (arith, length-append e (c.args.code ∷ [])))
+    (unspelled-escaped _ h.0 e _ s.whole h.1 h.2 _ c.in-Some.ensures)
 
 pub returns-in_default : goal.returns-in_default
 returns-in_default c = record {
   stands = λ e s. record {
     whole = HasNoEnd-append e _ s.whole (HasNoEnd-one _ (not_end _ c.requires.plain));
-    held = Holds-escaped_long _ _ e _ _ c.requires.open c.in_default.not-Escape s.whole c.in-Some.ensures s.held;
+    held = Holds-escaped_long _ _ e _ _ c.requires.open c.in_default.not-Escape s.whole
+        c.in-Some.ensures s.held;
   };
   closed = tt;
 }

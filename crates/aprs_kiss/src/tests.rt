@@ -1,0 +1,3 @@
+//! Examples of streams and devices.
+mod devices;
+mod streams;
