@@ -11,8 +11,11 @@ use Rattle.aprs_report.proofs.Cuts.{cut_found, cut_takes}
 pub name_found : (field name : List ℕ) → name_of field ≡ Some name → IsName name field
 name_found field name e =
     let g = guarded_some _ _ _ e in
-    let d = and_parts (list_all is_printable field) (ltb 0 (length (cut_end is_space field))) g.0 in
-    subst (λ (n : List ℕ). IsName n field) g.1 (record { printable = d.0; cut = cut_found is_space field; nonempty = ltb-true _ _ d.1 })
+    let d =
+    and_parts (list_all is_printable field) (ltb 0 (length (cut_end is_space field))) g.0 in
+    subst (λ (n : List ℕ). IsName n field) g.1 (record
+    { printable = d.0; cut = cut_found is_space field; nonempty = ltb-true _ _ d.1 })
 
 pub name_takes : (field name : List ℕ) → IsName name field → name_of field ≡ Some name
-name_takes field name h = rw (cut_takes is_space name field h.cut, h.printable, lt-ltb 0 (length name) h.nonempty) refl
+name_takes field name h =
+    rw (cut_takes is_space name field h.cut, h.printable, lt-ltb 0 (length name) h.nonempty) refl

@@ -1,80 +1,83 @@
 -- An object or item that is read is spelled so, and what is spelled so is read.
-use Rattle.std.proofs.Common.{◌≡◌, ℕ, zero, suc, ◌<◌, ◌≤◌, Bool, true, false, not, List, [], ◌∷◌, ◌++◌, length, take, get_or, Some, refl, sym, ap, subst, ◌∙◌, arith, eqb, leb}
+use Rattle.std.proofs.Common.{◌≡◌, ℕ, zero, suc, ◌<◌, ◌≤◌, Bool, true, false, not, List, [], ◌∷◌}
+use Rattle.std.proofs.Common.{◌++◌, length, take, get_or, Some, refl, sym, ap, subst, ◌∙◌, arith}
+use Rattle.std.proofs.Common.{eqb, leb}
 use Rattle.std.specs.List.{list_all, position, position_or_len}
-use Rattle.std.proofs.lemmas.Bool.{and_parts, and_from, not_from_false, not-true, eqb-true, leb-true, le-leb, lt-ltb}
+use Rattle.std.proofs.lemmas.Bool.{and_parts, and_from, not_from_false, not-true, eqb-true}
+use Rattle.std.proofs.lemmas.Bool.{eq-eqb, leb-true, le-leb, lt-ltb}
 use Rattle.std.proofs.lemmas.Option.{none-some}
-use Rattle.std.proofs.lemmas.List.{take_at, drop_at, take-append-drop, length-append, length-take-le}
+use Rattle.std.proofs.lemmas.List.{take_at, drop_at, take-append-drop, length-append}
+use Rattle.std.proofs.lemmas.List.{length-take-le}
 use Rattle.std.proofs.lemmas.List.Quantifiers.{position-Some}
 use Rattle.aprs_report.specs.declared.stamp.Stamp.{Stamp}
 use Rattle.aprs_report.specs.declared.symbol.Symbol.{Symbol}
 use Rattle.aprs_report.specs.declared.place.Place.{Place}
 use Rattle.aprs_report.specs.Stamp.{stamp_bytes}
-use Rattle.aprs_report.specs.Object.{object_mark, IsObject, item_mark, is_item_mark, IsItem}
+use Rattle.aprs_report.specs.Object.{state_mark, IsObject, is_item_mark, IsItem}
 use Rattle.aprs_report.specs.Reading.{Value, object, item, HasForm}
 use Rattle.aprs_report.specs.Reader.{state_of, object_of, item_field_of, item_of}
-use Rattle.aprs_report.proofs.Steps.{after_some, guarded_some, some_is, if_either, chunk_found, chunk_takes}
+use Rattle.aprs_report.proofs.Steps.{after_some, guarded_some, some_is, if_either, chunk_found}
+use Rattle.aprs_report.proofs.Steps.{chunk_takes}
 use Rattle.aprs_report.proofs.Names.{name_found, name_takes}
 use Rattle.aprs_report.proofs.Stamps.{stamp_found, stamp_takes}
 use Rattle.aprs_report.proofs.Places.{place_found, place_takes}
 
--- the mark of a live one as it is written, or of a killed one
-abbrev mark : ℕ → Bool → ℕ
-mark live true = live
-mark live false = 95
-
-state_found : (live : ℕ) (bytes : List ℕ) (x : Bool × List ℕ) → state_of live bytes ≡ Some x → bytes ≡ mark live x.0 ∷ x.1
+state_found : (live : ℕ) (bytes : List ℕ) (x : Bool × List ℕ) → state_of live bytes ≡ Some x →
+    bytes ≡ state_mark live x.0 ∷ x.1
 state_found live [] x e = absurd (none-some x e)
-state_found live (b ∷ rest) x e = if_either (eqb b live) (Some (true, rest)) _ (Some x) _ e
-    (λ t h. ap (λ (n : ℕ). n ∷ rest) (eqb-true b live t) ∙ ap (λ (x : Bool × List ℕ). mark live x.0 ∷ x.1) (some_is (true, rest) x h))
-    (λ _ h. let g = guarded_some _ _ _ h in ap (λ (n : ℕ). n ∷ rest) (eqb-true b 95 g.0) ∙ ap (λ (x : Bool × List ℕ). mark live x.0 ∷ x.1) g.1)
+state_found live (b ∷ rest) x e =
+    let at : Bool × List ℕ → List ℕ = λ (x : Bool × List ℕ). state_mark live x.0 ∷ x.1 in
+    if_either (eqb b live) (Some (true, rest)) _ (Some x) _ e
+    (λ t h. ap (λ (n : ℕ). n ∷ rest) (eqb-true b live t) ∙ ap at (some_is (true, rest) x h))
+    (λ _ h. let g = guarded_some _ _ _ h in
+    ap (λ (n : ℕ). n ∷ rest) (eqb-true b 95 g.0) ∙ ap at g.1)
 
-object_state : (live : Bool) (rest : List ℕ) → state_of 42 (object_mark live ∷ rest) ≡ Some (live, rest)
-object_state true rest = refl
-object_state false rest = refl
-
-item_state : (live : Bool) (rest : List ℕ) → state_of 33 (item_mark live ∷ rest) ≡ Some (live, rest)
-item_state true rest = refl
-item_state false rest = refl
-
-object_marked : (live : Bool) → mark 42 live ≡ object_mark live
-object_marked true = refl
-object_marked false = refl
-
-item_marked : (live : Bool) → mark 33 live ≡ item_mark live
-item_marked true = refl
-item_marked false = refl
+state_takes : (live : ℕ) (state : Bool) (rest : List ℕ) → eqb 95 live ≡ false →
+    state_of live (state_mark live state ∷ rest) ≡ Some (state, rest)
+state_takes live true rest h = rw (eq-eqb live live refl) refl
+state_takes live false rest h = rw h refl
 
 -- ---- objects
 
-object_parts : (b : ℕ) (bytes field c1 c2 stamp c3 text comment : List ℕ) → bytes ≡ field ++ c1 → c1 ≡ b ∷ c2 → c2 ≡ stamp ++ c3 → c3 ≡ text ++ comment
+object_parts : (b : ℕ) (bytes field c1 c2 stamp c3 text comment : List ℕ) → bytes ≡ field ++ c1 →
+    c1 ≡ b ∷ c2 → c2 ≡ stamp ++ c3 → c3 ≡ text ++ comment
     → bytes ≡ field ++ (b ∷ (stamp ++ (text ++ comment)))
 object_parts b bytes field c1 c2 stamp c3 text comment e1 e2 e3 e4 = rw (e1, e2, e3, e4) refl
 
 pub object_found : (bytes : List ℕ) (v : Value) → object_of bytes ≡ Some v → HasForm v (59 ∷ bytes)
 unfolding object_of
-object_found bytes v e = after_some _ _ _ _ e (λ field e1 r1. after_some _ _ _ _ r1 (λ name e2 r2. after_some _ _ _ _ r2 (λ st e3 r3. after_some _ _ _ _ r3 (λ s e4 r4. after_some _ _ _ _ r4 (λ p e5 r5.
+object_found bytes v e =
+    after_some _ _ _ _ e (λ field e1 r1. after_some _ _ _ _ r1
+    (λ name e2 r2. after_some _ _ _ _ r2 (λ st e3 r3.
+    after_some _ _ _ _ r3 (λ s e4 r4. after_some _ _ _ _ r4 (λ p e5 r5.
     let front = chunk_found 9 bytes field e1 in
     let stamped = stamp_found st.1 s e4 in
     let at = place_found s.1 p e5 in
-    let marked : field.1 ≡ object_mark st.0 ∷ st.1 = state_found 42 field.1 st e3 ∙ ap (λ (n : ℕ). n ∷ st.1) (object_marked st.0) in
-    subst (λ (v : Value). HasForm v (59 ∷ bytes)) (some_is (object name st.0 s.0 p.0 p.1 p.2) v r5) (record {
+    let marked = state_found 42 field.1 st e3 in
+    subst (λ (v : Value). HasForm v (59 ∷ bytes)) (some_is (object name st.0 s.0 p.0 p.1 p.2) v r5)
+    (record {
       field = field.0;
       place_text = at.text;
       nine = front.len;
       named = name_found field.0 name e2;
       stamped = stamped.stamp;
       at_place = at.at_place;
-      whole = ap (λ (t : List ℕ). 59 ∷ t) (object_parts (object_mark st.0) bytes field.0 field.1 st.1 (stamp_bytes s.0) s.1 at.text p.2 front.parts marked stamped.whole at.whole);
+      whole =
+          ap (λ (t : List ℕ). 59 ∷ t) (object_parts (state_mark 42 st.0) bytes field.0 field.1 st.1
+          (stamp_bytes s.0) s.1 at.text p.2 front.parts marked stamped.whole at.whole);
     }))))))
 
-pub object_takes : (name : List ℕ) (live : Bool) (stamp : Stamp) (place : Place) (symbol : Symbol) (comment info : List ℕ) (h : IsObject name live stamp place symbol comment info)
-    → object_of (h.field ++ (object_mark live ∷ (stamp_bytes stamp ++ (h.place_text ++ comment)))) ≡ Some (object name live stamp place symbol comment)
+pub object_takes : (name : List ℕ) (live : Bool) (stamp : Stamp) (place : Place) (symbol : Symbol)
+    (comment info : List ℕ) (h : IsObject name live stamp place symbol comment info)
+    → object_of (h.field ++ (state_mark 42 live ∷ (stamp_bytes stamp ++ (h.place_text ++ comment))))
+    ≡ Some (object name live stamp place symbol comment)
 unfolding object_of
 object_takes name live stamp place symbol comment info h =
     rw (
-      chunk_takes 9 h.field (object_mark live ∷ (stamp_bytes stamp ++ (h.place_text ++ comment))) h.nine,
+      chunk_takes 9 h.field (state_mark 42 live ∷ (stamp_bytes stamp ++ (h.place_text ++ comment)))
+          h.nine,
       name_takes h.field name h.named,
-      object_state live (stamp_bytes stamp ++ (h.place_text ++ comment)),
+      state_takes 42 live (stamp_bytes stamp ++ (h.place_text ++ comment)) refl,
       stamp_takes stamp (h.place_text ++ comment) h.stamped,
       place_takes place symbol h.place_text comment h.at_place,
     ) refl
@@ -82,22 +85,33 @@ object_takes name live stamp place symbol comment info h =
 -- ---- items
 
 -- none of the first bytes passes
-none_before : (p : ℕ → Bool) (bytes : List ℕ) (i : ℕ) → i ≤ length bytes → ((k : ℕ) → k < i → p (get_or bytes k 0) ≡ false) → list_all (λ b. not (p b)) (take i bytes) ≡ true
+none_before : (p : ℕ → Bool) (bytes : List ℕ) (i : ℕ) → i ≤ length bytes →
+    ((k : ℕ) → k < i → p (get_or bytes k 0) ≡ false) →
+    list_all (λ b. not (p b)) (take i bytes) ≡ true
 none_before p bytes zero le h = refl
 none_before p [] (suc i) le h = refl
 none_before p (b ∷ bytes) (suc i) le h =
-    and_from _ _ (not_from_false (p b) (h 0 (omega arith))) (none_before p bytes i (omega arith) (λ k lt. h (suc k) (omega arith)))
+    and_from _ _ (not_from_false (p b) (h 0 (omega arith)))
+    (none_before p bytes i (omega arith) (λ k lt. h (suc k) (omega arith)))
 
 -- the first that passes stands behind bytes none of which does
-first_behind : (p : ℕ → Bool) (field : List ℕ) (b : ℕ) (rest : List ℕ) → list_all (λ b. not (p b)) field ≡ true → p b ≡ true → position_or_len p (field ++ b ∷ rest) ≡ length field
+first_behind : (p : ℕ → Bool) (field : List ℕ) (b : ℕ) (rest : List ℕ) →
+    list_all (λ b. not (p b)) field ≡ true → p b ≡ true →
+    position_or_len p (field ++ b ∷ rest) ≡ length field
 first_behind p [] b rest h t = rw t refl
 first_behind p (x ∷ field) b rest h t =
     let d = and_parts (not (p x)) _ h in
     rw (not-true (p x) d.0, first_behind p field b rest d.1 t) (omega arith)
 
-place_behind : (p : ℕ → Bool) (field : List ℕ) (b : ℕ) (rest : List ℕ) → list_all (λ b. not (p b)) field ≡ true → p b ≡ true → position p (field ++ b ∷ rest) ≡ Some (length field)
+place_behind : (p : ℕ → Bool) (field : List ℕ) (b : ℕ) (rest : List ℕ) →
+    list_all (λ b. not (p b)) field ≡ true → p b ≡ true →
+    position p (field ++ b ∷ rest) ≡ Some (length field)
 place_behind p field b rest h t =
-    rw (first_behind p field b rest h t, lt-ltb (length field) (length (field ++ b ∷ rest)) (omega (arith, length-append field (b ∷ rest)))) refl
+    rw (
+      first_behind p field b rest h t,
+      lt-ltb (length field) (length (field ++ b ∷ rest))
+          (omega (arith, length-append field (b ∷ rest))),
+    ) refl
 
 -- a name before a mark
 record ItemField (bytes field rest : List ℕ) : Type 0 where
@@ -106,7 +120,8 @@ record ItemField (bytes field rest : List ℕ) : Type 0 where
   pub unmarked : list_all (λ b. not (is_item_mark b)) field ≡ true
   pub whole : bytes ≡ field ++ rest
 
-field_found : (bytes : List ℕ) (x : List ℕ × List ℕ) → item_field_of bytes ≡ Some x → ItemField bytes x.0 x.1
+field_found : (bytes : List ℕ) (x : List ℕ × List ℕ) → item_field_of bytes ≡ Some x →
+    ItemField bytes x.0 x.1
 unfolding item_field_of
 field_found bytes x e = after_some _ _ _ _ e (λ end e1 r1.
     let g = guarded_some _ _ _ r1 in
@@ -120,26 +135,37 @@ field_found bytes x e = after_some _ _ _ _ e (λ end e1 r1.
       whole = sym (take-append-drop end bytes);
     }))
 
-is_mark_of : (live : Bool) → is_item_mark (item_mark live) ≡ true
+is_mark_of : (live : Bool) → is_item_mark (state_mark 33 live) ≡ true
 is_mark_of true = refl
 is_mark_of false = refl
 
-field_takes : (field : List ℕ) (live : Bool) (rest : List ℕ) → 3 ≤ length field → length field ≤ 9 → list_all (λ b. not (is_item_mark b)) field ≡ true
-    → item_field_of (field ++ item_mark live ∷ rest) ≡ Some (field, item_mark live ∷ rest)
+field_takes : (field : List ℕ) (live : Bool) (rest : List ℕ) → 3 ≤ length field →
+    length field ≤ 9 → list_all (λ b. not (is_item_mark b)) field ≡ true
+    → item_field_of (field ++ state_mark 33 live ∷ rest) ≡ Some (field, state_mark 33 live ∷ rest)
 unfolding item_field_of
 field_takes field live rest low high h =
-    rw (place_behind is_item_mark field (item_mark live) rest h (is_mark_of live), le-leb _ _ low, le-leb _ _ high, take_at field (item_mark live ∷ rest) (length field) refl, drop_at field (item_mark live ∷ rest) (length field) refl) refl
+    rw (
+      place_behind is_item_mark field (state_mark 33 live) rest h (is_mark_of live),
+      le-leb _ _ low,
+      le-leb _ _ high,
+      take_at field (state_mark 33 live ∷ rest) (length field) refl,
+      drop_at field (state_mark 33 live ∷ rest) (length field) refl,
+    ) refl
 
-item_parts : (b : ℕ) (bytes field c1 c2 text comment : List ℕ) → bytes ≡ field ++ c1 → c1 ≡ b ∷ c2 → c2 ≡ text ++ comment → bytes ≡ field ++ (b ∷ (text ++ comment))
+item_parts : (b : ℕ) (bytes field c1 c2 text comment : List ℕ) → bytes ≡ field ++ c1 →
+    c1 ≡ b ∷ c2 → c2 ≡ text ++ comment → bytes ≡ field ++ (b ∷ (text ++ comment))
 item_parts b bytes field c1 c2 text comment e1 e2 e3 = rw (e1, e2, e3) refl
 
 pub item_found : (bytes : List ℕ) (v : Value) → item_of bytes ≡ Some v → HasForm v (41 ∷ bytes)
 unfolding item_of
-item_found bytes v e = after_some _ _ _ _ e (λ field e1 r1. after_some _ _ _ _ r1 (λ name e2 r2. after_some _ _ _ _ r2 (λ st e3 r3. after_some _ _ _ _ r3 (λ p e4 r4.
+item_found bytes v e =
+    after_some _ _ _ _ e (λ field e1 r1. after_some _ _ _ _ r1
+    (λ name e2 r2. after_some _ _ _ _ r2 (λ st e3 r3. after_some _ _ _ _ r3 (λ p e4 r4.
     let front = field_found bytes field e1 in
     let at = place_found st.1 p e4 in
-    let marked : field.1 ≡ item_mark st.0 ∷ st.1 = state_found 33 field.1 st e3 ∙ ap (λ (n : ℕ). n ∷ st.1) (item_marked st.0) in
-    subst (λ (v : Value). HasForm v (41 ∷ bytes)) (some_is (item name st.0 p.0 p.1 p.2) v r4) (record {
+    let marked = state_found 33 field.1 st e3 in
+    subst (λ (v : Value). HasForm v (41 ∷ bytes)) (some_is (item name st.0 p.0 p.1 p.2) v r4)
+    (record {
       field = field.0;
       place_text = at.text;
       at_least = front.at_least;
@@ -147,16 +173,20 @@ item_found bytes v e = after_some _ _ _ _ e (λ field e1 r1. after_some _ _ _ _ 
       unmarked = front.unmarked;
       named = name_found field.0 name e2;
       at_place = at.at_place;
-      whole = ap (λ (t : List ℕ). 41 ∷ t) (item_parts (item_mark st.0) bytes field.0 field.1 st.1 at.text p.2 front.whole marked at.whole);
+      whole =
+          ap (λ (t : List ℕ). 41 ∷ t) (item_parts (state_mark 33 st.0) bytes field.0 field.1 st.1
+          at.text p.2 front.whole marked at.whole);
     })))))
 
-pub item_takes : (name : List ℕ) (live : Bool) (place : Place) (symbol : Symbol) (comment info : List ℕ) (h : IsItem name live place symbol comment info)
-    → item_of (h.field ++ (item_mark live ∷ (h.place_text ++ comment))) ≡ Some (item name live place symbol comment)
+pub item_takes : (name : List ℕ) (live : Bool) (place : Place) (symbol : Symbol)
+    (comment info : List ℕ) (h : IsItem name live place symbol comment info)
+    → item_of (h.field ++ (state_mark 33 live ∷ (h.place_text ++ comment))) ≡
+    Some (item name live place symbol comment)
 unfolding item_of
 item_takes name live place symbol comment info h =
     rw (
       field_takes h.field live (h.place_text ++ comment) h.at_least h.at_most h.unmarked,
       name_takes h.field name h.named,
-      item_state live (h.place_text ++ comment),
+      state_takes 33 live (h.place_text ++ comment) refl,
       place_takes place symbol h.place_text comment h.at_place,
     ) refl

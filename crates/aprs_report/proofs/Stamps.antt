@@ -1,19 +1,23 @@
 -- A stamp that is read is spelled so, and what is spelled so is read.
-use Rattle.std.proofs.Common.{◌≡◌, ℕ, List, [], ◌∷◌, ◌++◌, Some, refl, ap, subst, ◌∙◌, append_assoc}
+use Rattle.std.proofs.Common.{◌≡◌, ℕ, List, [], ◌∷◌, ◌++◌, Some, refl, ap, subst, ◌∙◌}
+use Rattle.std.proofs.Common.{append_assoc}
 use Rattle.aprs_report.specs.declared.stamp.Stamp.{Stamp}
 use Rattle.aprs_report.specs.Stamp.{is_mark, IsStamp, stamp_bytes}
 use Rattle.aprs_report.specs.Reader.{stamp_at}
-use Rattle.aprs_report.proofs.Steps.{after_some, guarded_some, chunk_found, chunk_takes, byte_found}
+use Rattle.aprs_report.proofs.Steps.{after_some, guarded_some, chunk_found, chunk_takes}
+use Rattle.aprs_report.proofs.Steps.{byte_found}
 
 -- a stamp at the front of some bytes
 pub record StampAt (bytes : List ℕ) (s : Stamp) (rest : List ℕ) : Type 0 where
   pub stamp : IsStamp s
   pub whole : bytes ≡ stamp_bytes s ++ rest
 
-parts : (mark : ℕ) (digits rest behind bytes : List ℕ) → bytes ≡ digits ++ behind → behind ≡ mark ∷ rest → bytes ≡ (digits ++ mark ∷ []) ++ rest
+parts : (mark : ℕ) (digits rest behind bytes : List ℕ) → bytes ≡ digits ++ behind →
+    behind ≡ mark ∷ rest → bytes ≡ (digits ++ mark ∷ []) ++ rest
 parts mark digits rest behind bytes e1 e2 = rw (e1, e2) (simp append_assoc)
 
-pub stamp_found : (bytes : List ℕ) (x : Stamp × List ℕ) → stamp_at bytes ≡ Some x → StampAt bytes x.0 x.1
+pub stamp_found : (bytes : List ℕ) (x : Stamp × List ℕ) → stamp_at bytes ≡ Some x →
+    StampAt bytes x.0 x.1
 unfolding stamp_at
 stamp_found bytes x e = after_some _ _ _ _ e (λ digits e1 r1. after_some _ _ _ _ r1 (λ mark e2 r2.
     let g = guarded_some _ _ _ r2 in
@@ -24,7 +28,9 @@ stamp_found bytes x e = after_some _ _ _ _ e (λ digits e1 r1. after_some _ _ _ 
       whole = parts mark.0 digits.0 mark.1 digits.1 bytes front.parts behind.0;
     })))
 
-pub stamp_takes : (s : Stamp) (rest : List ℕ) → IsStamp s → stamp_at (stamp_bytes s ++ rest) ≡ Some (s, rest)
+pub stamp_takes : (s : Stamp) (rest : List ℕ) → IsStamp s →
+    stamp_at (stamp_bytes s ++ rest) ≡ Some (s, rest)
 unfolding stamp_at
 stamp_takes s rest is =
-    ap stamp_at (append_assoc s.digits (s.mark ∷ []) rest) ∙ rw (chunk_takes 6 s.digits (s.mark ∷ rest) is.six, is.mark, is.digits) refl
+    ap stamp_at (append_assoc s.digits (s.mark ∷ []) rest)
+    ∙ rw (chunk_takes 6 s.digits (s.mark ∷ rest) is.six, is.mark, is.digits) refl

@@ -1,6 +1,7 @@
 -- A latitude DDMM.hhN or a longitude DDDMM.hhE, in hundredths of minutes
 -- (APRS Protocol Reference 1.0.1, chapter 6).
-use Rattle.std.specs.Prelude.{◌≡◌, ℕ, ℤ, pos, neg_ℤ, ◌+◌, ◌*◌, ◌^◌, ◌<◌, ◌≤◌, Bool, true, false, ◌||◌, List, [], ◌∷◌, ◌++◌, length}
+use Rattle.std.specs.Prelude.{◌≡◌, ℕ, ℤ, pos, neg_ℤ, ◌+◌, ◌*◌, ◌^◌, ◌<◌, ◌≤◌, Bool, true, false}
+use Rattle.std.specs.Prelude.{◌||◌, List, [], ◌∷◌, ◌++◌, length}
 use Rattle.std.specs.List.{list_all}
 use Rattle.aprs_report.specs.declared.coordinate.Axis.{Axis}
 use Rattle.aprs_report.specs.declared.coordinate.Axis.TheVariants.{Latitude, Longitude}
@@ -28,8 +29,8 @@ abbrev pub signed : Bool → ℕ → ℤ
 signed true n = neg_ℤ (pos n)
 signed false n = pos n
 
--- What may stand at an ambiguous place. In a longitude a digit may be left there, since the latitude
--- tells how many places are ambiguous.
+-- What may stand at an ambiguous place. In a longitude a digit may be left there, since the
+-- latitude tells how many places are ambiguous.
 abbrev pub is_blank : Axis → ℕ → Bool
 is_blank Latitude b = is_space b
 is_blank Longitude b = is_space b || is_digit b
@@ -46,6 +47,11 @@ pub record IsMinutes (axis : Axis) (ambiguity minutes : ℕ) (places : List ℕ)
   pub value : minutes ≡ number * 10 ^ ambiguity
   pub below : minutes < 6000
 
+-- MM.hh and the letter of the half
+abbrev pub minutes_text : (tens units tenths hundredths half : ℕ) → List ℕ
+minutes_text tens units tenths hundredths half =
+    tens ∷ units ∷ 46 ∷ tenths ∷ hundredths ∷ half ∷ []
+
 pub record IsCoordinate (axis : Axis) (ambiguity : ℕ) (angle : ℤ) (text : List ℕ) : Type 0 where
   pub degree_text : List ℕ
   pub tens : ℕ
@@ -60,4 +66,5 @@ pub record IsCoordinate (axis : Axis) (ambiguity : ℕ) (angle : ℤ) (text : Li
   pub at_minutes : IsMinutes axis ambiguity minutes (tens ∷ units ∷ tenths ∷ hundredths ∷ [])
   pub within : degrees * 6000 + minutes ≤ limit axis
   pub value : angle ≡ signed is_negative (degrees * 6000 + minutes)
-  pub whole : text ≡ degree_text ++ (tens ∷ units ∷ 46 ∷ tenths ∷ hundredths ∷ letter axis is_negative ∷ [])
+  pub whole : text ≡
+      degree_text ++ minutes_text tens units tenths hundredths (letter axis is_negative)

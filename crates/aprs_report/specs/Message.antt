@@ -1,5 +1,6 @@
 -- Messages and what answers them (APRS Protocol Reference 1.0.1, chapter 14).
-use Rattle.std.specs.Prelude.{◌≡◌, ℕ, Bool, true, ◌&&◌, nat_le, List, ◌∷◌, ◌++◌, length, Option, Some, None, codes}
+use Rattle.std.specs.Prelude.{◌≡◌, ℕ, Bool, true, ◌&&◌, nat_le, List, ◌∷◌, ◌++◌, length, Option}
+use Rattle.std.specs.Prelude.{Some, None, codes}
 use Rattle.std.specs.List.{list_all}
 use Rattle.aprs_report.specs.Bytes.{is_alphanumeric, is_line_end}
 use Rattle.aprs_report.specs.Ending.{IsCut}
@@ -37,11 +38,12 @@ abbrev pub IsText : List ℕ → Option (List ℕ) → List ℕ → Type 0
 IsText text (Some id) part = IsNumbered text id part
 IsText text None part = (text ≡ part) × ((t id : List ℕ) → IsNumbered t id part → ⊥)
 
-pub record IsMessage (addressee text : List ℕ) (id : Option (List ℕ)) (info : List ℕ) : Type 0 where
-  pub part : List ℕ
-  pub addressed : IsAddressed addressee part info
-  pub no_answer : IsNoAnswer part
-  pub at_text : IsText text id part
+pub record IsMessage (addressee text : List ℕ) (id : Option (List ℕ)) (info : List ℕ) : Type 0
+  where
+    pub part : List ℕ
+    pub addressed : IsAddressed addressee part info
+    pub no_answer : IsNoAnswer part
+    pub at_text : IsText text id part
 
 pub record IsReply (word addressee id info : List ℕ) : Type 0 where
   pub part : List ℕ

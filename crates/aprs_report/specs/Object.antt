@@ -1,5 +1,6 @@
 -- Object and item reports (APRS Protocol Reference 1.0.1, chapter 11).
-use Rattle.std.specs.Prelude.{◌≡◌, ℕ, ◌≤◌, Bool, true, false, not, ◌||◌, ◌==◌, List, ◌∷◌, ◌++◌, length}
+use Rattle.std.specs.Prelude.{◌≡◌, ℕ, ◌≤◌, Bool, true, false, not, ◌||◌, ◌==◌, List, ◌∷◌, ◌++◌}
+use Rattle.std.specs.Prelude.{length}
 use Rattle.std.specs.List.{list_all}
 use Rattle.aprs_report.specs.declared.stamp.Stamp.{Stamp}
 use Rattle.aprs_report.specs.declared.symbol.Symbol.{Symbol}
@@ -8,31 +9,30 @@ use Rattle.aprs_report.specs.Stamp.{IsStamp, stamp_bytes}
 use Rattle.aprs_report.specs.Place.{IsPlace}
 use Rattle.aprs_report.specs.Name.{IsName}
 
--- * for a live object, _ for a killed one
-abbrev pub object_mark : Bool → ℕ
-object_mark true = 42
-object_mark false = 95
+-- the mark of a live one, or _ for a killed one
+abbrev pub state_mark : ℕ → Bool → ℕ
+state_mark live true = live
+state_mark live false = 95
 
--- ";", a name of nine bytes, the mark, a stamp, a position, a comment
-pub record IsObject (name : List ℕ) (live : Bool) (stamp : Stamp) (place : Place) (symbol : Symbol) (comment : List ℕ) (info : List ℕ) : Type 0 where
+-- ";", a name of nine bytes, * or _, a stamp, a position, a comment
+pub record IsObject (name : List ℕ) (live : Bool) (stamp : Stamp) (place : Place) (symbol : Symbol)
+    (comment : List ℕ) (info : List ℕ) : Type 0 where
   pub field : List ℕ
   pub place_text : List ℕ
   pub nine : length field ≡ 9
   pub named : IsName name field
   pub stamped : IsStamp stamp
   pub at_place : IsPlace place symbol place_text
-  pub whole : info ≡ 59 ∷ (field ++ (object_mark live ∷ (stamp_bytes stamp ++ (place_text ++ comment))))
+  pub whole : info ≡ 59 ∷ (field ++ (state_mark 42 live ∷
+      (stamp_bytes stamp ++ (place_text ++ comment))))
 
--- ! for a live item, _ for a killed one
-abbrev pub item_mark : Bool → ℕ
-item_mark true = 33
-item_mark false = 95
-
+-- ! or _
 abbrev pub is_item_mark : ℕ → Bool
 is_item_mark b = b == 33 || b == 95
 
--- ")", a name of three to nine bytes none of which is a mark, the mark, a position, a comment
-pub record IsItem (name : List ℕ) (live : Bool) (place : Place) (symbol : Symbol) (comment : List ℕ) (info : List ℕ) : Type 0 where
+-- ")", a name of three to nine bytes none of which is a mark, ! or _, a position, a comment
+pub record IsItem (name : List ℕ) (live : Bool) (place : Place) (symbol : Symbol)
+    (comment : List ℕ) (info : List ℕ) : Type 0 where
   pub field : List ℕ
   pub place_text : List ℕ
   pub at_least : 3 ≤ length field
@@ -40,4 +40,4 @@ pub record IsItem (name : List ℕ) (live : Bool) (place : Place) (symbol : Symb
   pub unmarked : list_all (λ b. not (is_item_mark b)) field ≡ true
   pub named : IsName name field
   pub at_place : IsPlace place symbol place_text
-  pub whole : info ≡ 41 ∷ (field ++ (item_mark live ∷ (place_text ++ comment)))
+  pub whole : info ≡ 41 ∷ (field ++ (state_mark 33 live ∷ (place_text ++ comment)))

@@ -35,9 +35,17 @@ IsPlace (Base91 y x cst) s text = IsCompressed y x cst s text
 -- degrees north: hundredths of minutes are 6000 a degree, and 90 - y / 380926
 abbrev pub latitude_of : Place → Fraction
 latitude_of (Plain lat lon ambiguity) = record { numerator = lat; denominator = pos 6000 }
-latitude_of (Base91 y x cst) = record { numerator = pos 34283340 -ℤ pos y; denominator = pos 380926 }
+latitude_of (Base91 y x cst) = record {
+  numerator = pos 34283340 -ℤ pos y;
+  denominator =
+      pos 380926;
+}
 
 -- degrees east: the same, and -180 + x / 190463
 abbrev pub longitude_of : Place → Fraction
 longitude_of (Plain lat lon ambiguity) = record { numerator = lon; denominator = pos 6000 }
-longitude_of (Base91 y x cst) = record { numerator = pos x -ℤ pos 34283340; denominator = pos 190463 }
+longitude_of (Base91 y x cst) = record {
+  numerator = pos x -ℤ pos 34283340;
+  denominator =
+      pos 190463;
+}

@@ -18,7 +18,8 @@ abbrev pub IsOptionalStamp : Option Stamp → List ℕ → Type 0
 IsOptionalStamp None text = text ≡ []
 IsOptionalStamp (Some s) text = IsStamp s × (text ≡ stamp_bytes s)
 
-pub record IsPosition (messaging : Bool) (stamp : Option Stamp) (place : Place) (symbol : Symbol) (comment : List ℕ) (info : List ℕ) : Type 0 where
+pub record IsPosition (messaging : Bool) (stamp : Option Stamp) (place : Place) (symbol : Symbol)
+    (comment : List ℕ) (info : List ℕ) : Type 0 where
   pub stamp_text : List ℕ
   pub place_text : List ℕ
   pub at_stamp : IsOptionalStamp stamp stamp_text

@@ -1,5 +1,7 @@
 -- The readers' steps as functions of byte lists. They stand in no public clause.
-use Rattle.std.specs.Prelude.{ℕ, ℤ, ◌+◌, ◌*◌, ◌-◌, ◌^◌, Bool, true, false, ◌&&◌, ◌||◌, nat_le, nat_lt, ◌==◌, if◌then◌else◌, List, [], ◌∷◌, length, take, drop, slice_index, Option, Some, None, codes}
+use Rattle.std.specs.Prelude.{ℕ, ℤ, ◌+◌, ◌*◌, ◌-◌, ◌^◌, Bool, true, false, ◌&&◌, ◌||◌, nat_le}
+use Rattle.std.specs.Prelude.{nat_lt, ◌==◌, if◌then◌else◌, List, [], ◌∷◌, length, take, drop}
+use Rattle.std.specs.Prelude.{slice_index, Option, Some, None, unwrap_or, codes}
 use Rattle.std.specs.List.{list_all, position as first_place}
 use Rattle.aprs_report.specs.declared.stamp.Stamp.{Stamp}
 use Rattle.aprs_report.specs.declared.symbol.Symbol.{Symbol}
@@ -14,7 +16,7 @@ use Rattle.aprs_report.specs.Symbol.{is_table, is_code}
 use Rattle.aprs_report.specs.Coordinate.{limit, letter, signed, is_blank}
 use Rattle.aprs_report.specs.Object.{is_item_mark}
 use Rattle.aprs_report.specs.Message.{is_id}
-use Rattle.aprs_report.specs.Reading.{Value, position, object, item, message, ack, rej, status}
+use Rattle.aprs_report.specs.Reading.{Value, position, object, item, message, ack, rej, status, raw}
 
 infixl 10 ◌>>=◌
 abbrev pub ◌>>=◌ : {A B : Type 0} → Option A → (A → Option B) → Option B
@@ -43,7 +45,8 @@ cut_end p [] = []
 cut_end p (b ∷ bs) = kept p b (cut_end p bs)
 
 unfoldable pub numeral_of : ℕ → ℕ → List ℕ → Option ℕ
-numeral_of base nought text = guarded (list_all (is_digit_of base nought) text) (number base nought text)
+numeral_of base nought text =
+    guarded (list_all (is_digit_of base nought) text) (number base nought text)
 
 -- ---- stamps
 
@@ -57,7 +60,8 @@ stamp_at bytes = do
 
 -- the four places of MM.hhN
 abbrev pub places_of : List ℕ → List ℕ
-places_of text = slice_index text 0 ∷ slice_index text 1 ∷ slice_index text 3 ∷ slice_index text 4 ∷ []
+places_of text =
+    slice_index text 0 ∷ slice_index text 1 ∷ slice_index text 3 ∷ slice_index text 4 ∷ []
 
 abbrev pub ambiguity_of : List ℕ → ℕ
 ambiguity_of text = 4 - length (cut_end is_space (places_of text))
@@ -71,14 +75,16 @@ minutes_of axis ambiguity places =
     else None
 
 abbrev pub half_of : Axis → ℕ → Option Bool
-half_of axis b = if b == letter axis true then Some true else guarded (b == letter axis false) false
+half_of axis b =
+    if b == letter axis true then Some true else guarded (b == letter axis false) false
 
 unfoldable pub angle_of : Axis → ℕ → List ℕ → List ℕ → Option ℤ
 angle_of axis ambiguity degree_text text = do
   degrees ← numeral_of 10 48 degree_text
   minutes ← minutes_of axis ambiguity (places_of text)
   is_negative ← half_of axis (slice_index text 5)
-  guarded (slice_index text 2 == 46 && nat_le (degrees * 6000 + minutes) (limit axis)) (signed is_negative (degrees * 6000 + minutes))
+  guarded (slice_index text 2 == 46 && nat_le (degrees * 6000 + minutes) (limit axis))
+      (signed is_negative (degrees * 6000 + minutes))
 
 unfoldable pub plain_of : List ℕ → Option (Place × Symbol × List ℕ)
 plain_of bytes = do
@@ -90,13 +96,19 @@ plain_of bytes = do
   code ← byte_of is_code east_minutes.1
   lat ← angle_of Latitude (ambiguity_of north_minutes.0) north.0 north_minutes.0
   lon ← angle_of Longitude (ambiguity_of north_minutes.0) east.0 east_minutes.0
-  Some (Plain lat lon (ambiguity_of north_minutes.0), record { table = table.0; code = code.0 }, code.1)
+  Some (
+    Plain lat lon (ambiguity_of north_minutes.0),
+    record { table = table.0; code = code.0 },
+    code.1,
+  )
 
 -- ---- compressed positions
 
 -- the table that a byte stands for
 abbrev pub table_named : ℕ → Option ℕ
-table_named b = if nat_le 97 b && nat_le b 106 then Some (b - 49) else guarded (b == 47 || b == 92 || is_capital b) b
+table_named b =
+    if nat_le 97 b && nat_le b 106 then Some (b - 49)
+    else guarded (b == 47 || b == 92 || is_capital b) b
 
 unfoldable pub named_of : List ℕ → Option (ℕ × List ℕ)
 named_of [] = None
@@ -139,12 +151,15 @@ stamped_of messaging bytes = do
 -- ---- objects and items
 
 abbrev pub name_of : List ℕ → Option (List ℕ)
-name_of field = guarded (list_all is_printable field && nat_lt 0 (length (cut_end is_space field))) (cut_end is_space field)
+name_of field =
+    guarded (list_all is_printable field && nat_lt 0 (length (cut_end is_space field)))
+    (cut_end is_space field)
 
 -- the state that a mark names, and the rest
 abbrev pub state_of : ℕ → List ℕ → Option (Bool × List ℕ)
 state_of live [] = None
-state_of live (b ∷ rest) = if b == live then Some (true, rest) else guarded (b == 95) (false, rest)
+state_of live (b ∷ rest) =
+    if b == live then Some (true, rest) else guarded (b == 95) (false, rest)
 
 unfoldable pub object_of : List ℕ → Option Value
 object_of bytes = do
@@ -202,14 +217,16 @@ answer_at word [] = None
 answer_at word (x ∷ []) = None
 answer_at word (x ∷ y ∷ []) = None
 answer_at word (x ∷ y ∷ z ∷ id) =
-    guarded (x == slice_index word 0 && y == slice_index word 1 && z == slice_index word 2 && is_id id) id
+    let begins = x == slice_index word 0 && y == slice_index word 1 && z == slice_index word 2 in
+    guarded (begins && is_id id) id
 
 -- an id behind a brace at the front
 abbrev pub id_at : List ℕ → Option (List ℕ)
 id_at [] = None
 id_at (b ∷ id) = guarded (b == 123 && is_id id) id
 
-abbrev pub numbered_with : ℕ → Option (List ℕ) → Option (List ℕ × List ℕ) → Option (List ℕ × List ℕ)
+abbrev pub numbered_with : ℕ → Option (List ℕ) → Option (List ℕ × List ℕ) →
+    Option (List ℕ × List ℕ)
 numbered_with b (Some id) later = Some ([], id)
 numbered_with b None later = later >>= λ x. Some (b ∷ x.0, x.1)
 
@@ -217,7 +234,8 @@ unfoldable pub numbered_of : List ℕ → Option (List ℕ × List ℕ)
 numbered_of [] = None
 numbered_of (b ∷ bs) = numbered_with b (id_at (b ∷ bs)) (numbered_of bs)
 
-abbrev pub part_with : List ℕ → List ℕ → Option (List ℕ) → Option (List ℕ) → Option (List ℕ × List ℕ) → Value
+abbrev pub part_with : List ℕ → List ℕ → Option (List ℕ) → Option (List ℕ) →
+    Option (List ℕ × List ℕ) → Value
 part_with addressee part (Some id) rejected numbered = ack addressee id
 part_with addressee part None (Some id) numbered = rej addressee id
 part_with addressee part None None (Some x) = message addressee x.0 (Some x.1)
@@ -225,7 +243,8 @@ part_with addressee part None None None = message addressee part None
 
 abbrev pub part_of : List ℕ → List ℕ → Value
 part_of addressee part =
-    part_with addressee part (answer_at (codes "ack") part) (answer_at (codes "rej") part) (numbered_of part)
+    part_with addressee part (answer_at (codes "ack") part) (answer_at (codes "rej") part)
+    (numbered_of part)
 
 unfoldable pub message_of : List ℕ → Option Value
 message_of bytes = do
@@ -245,3 +264,7 @@ form_of (b ∷ rest) =
     else (if b == 41 then item_of rest
     else (if b == 62 then Some (status_of rest)
     else (if b == 58 then message_of rest else None)))))))
+
+-- what a field reads as
+abbrev pub reading_of : List ℕ → Value
+reading_of info = unwrap_or (form_of info) raw

@@ -5,7 +5,8 @@ use Rattle.aprs_report.specs.declared.stamp.Stamp.{Stamp}
 use Rattle.aprs_report.specs.declared.symbol.Symbol.{Symbol}
 use Rattle.aprs_report.specs.declared.place.Place.{Place}
 use Rattle.aprs_report.specs.declared.report.Report.{Report}
-use Rattle.aprs_report.specs.declared.report.Report.TheVariants.{Position, Object, Item, Message, Ack, Rej, Status, Raw}
+use Rattle.aprs_report.specs.declared.report.Report.TheVariants.{Position, Object, Item, Message}
+use Rattle.aprs_report.specs.declared.report.Report.TheVariants.{Ack, Rej, Status, Raw}
 use Rattle.aprs_report.specs.Position.{IsPosition}
 use Rattle.aprs_report.specs.Object.{IsObject, IsItem}
 use Rattle.aprs_report.specs.Status.{IsStatus}
@@ -13,8 +14,10 @@ use Rattle.aprs_report.specs.Message.{IsMessage, IsReply}
 
 -- what a report says, without where its bytes lie in memory
 pub data Value : Type 0 where
-  position : (messaging : Bool) (stamp : Option Stamp) (place : Place) (symbol : Symbol) (comment : List ℕ) → Value
-  object : (name : List ℕ) (live : Bool) (stamp : Stamp) (place : Place) (symbol : Symbol) (comment : List ℕ) → Value
+  position : (messaging : Bool) (stamp : Option Stamp) (place : Place) (symbol : Symbol)
+      (comment : List ℕ) → Value
+  object : (name : List ℕ) (live : Bool) (stamp : Stamp) (place : Place) (symbol : Symbol)
+      (comment : List ℕ) → Value
   item : (name : List ℕ) (live : Bool) (place : Place) (symbol : Symbol) (comment : List ℕ) → Value
   message : (addressee text : List ℕ) (id : Option (List ℕ)) → Value
   ack : (addressee id : List ℕ) → Value
@@ -23,8 +26,10 @@ pub data Value : Type 0 where
   raw : Value
 
 abbrev pub view : Report → Value
-view (Position messaging stamp place symbol comment) = position messaging stamp place symbol comment.now
-view (Object name live stamp place symbol comment) = object name.now live stamp place symbol comment.now
+view (Position messaging stamp place symbol comment) =
+    position messaging stamp place symbol comment.now
+view (Object name live stamp place symbol comment) =
+    object name.now live stamp place symbol comment.now
 view (Item name live place symbol comment) = item name.now live place symbol comment.now
 view (Message addressee text id) = message addressee.now text.now (option_map (λ x. x.now) id)
 view (Ack addressee id) = ack addressee.now id.now
@@ -45,8 +50,10 @@ kind_of raw = codes "raw"
 
 -- the reports that have a form of their own
 abbrev pub HasForm : Value → List ℕ → Type 0
-HasForm (position messaging stamp place symbol comment) info = IsPosition messaging stamp place symbol comment info
-HasForm (object name live stamp place symbol comment) info = IsObject name live stamp place symbol comment info
+HasForm (position messaging stamp place symbol comment) info =
+    IsPosition messaging stamp place symbol comment info
+HasForm (object name live stamp place symbol comment) info =
+    IsObject name live stamp place symbol comment info
 HasForm (item name live place symbol comment) info = IsItem name live place symbol comment info
 HasForm (message addressee text id) info = IsMessage addressee text id info
 HasForm (ack addressee id) info = IsReply (codes "ack") addressee id info

@@ -11,5 +11,7 @@ pub record BeginsInUtc (stamp : Stamp) (bytes rest : List ℕ) : Type 0 where
 
 -- ">", such a stamp if there is one, and the text
 abbrev pub IsStatus : Option Stamp → List ℕ → List ℕ → Type 0
-IsStatus (Some stamp) text info = (bytes : List ℕ) × BeginsInUtc stamp bytes text × (info ≡ 62 ∷ bytes)
-IsStatus None text info = (info ≡ 62 ∷ text) × ((stamp : Stamp) (rest : List ℕ) → BeginsInUtc stamp text rest → ⊥)
+IsStatus (Some stamp) text info = (bytes : List ℕ) × BeginsInUtc stamp bytes text ×
+    (info ≡ 62 ∷ bytes)
+IsStatus None text info = (info ≡ 62 ∷ text) × ((stamp : Stamp) (rest : List ℕ) →
+    BeginsInUtc stamp text rest → ⊥)

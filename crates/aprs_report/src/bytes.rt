@@ -8,19 +8,19 @@ ghost use Rattle.aprs_report.specs.Reader.{chunk_of, cut_end};
 pub fn is_digit_byte(byte: u8) -> bool
     ensures { result ≡ is_digit byte }
 {
-    b'0' <= byte && byte <= b'9'
+    byte.is_ascii_digit()
 }
 
 pub fn is_capital_byte(byte: u8) -> bool
     ensures { result ≡ is_capital byte }
 {
-    b'A' <= byte && byte <= b'Z'
+    byte.is_ascii_uppercase()
 }
 
 pub fn is_alphanumeric_byte(byte: u8) -> bool
     ensures { result ≡ is_alphanumeric byte }
 {
-    is_digit_byte(byte) || is_capital_byte(byte) || (b'a' <= byte && byte <= b'z')
+    byte.is_ascii_alphanumeric()
 }
 
 pub fn is_printable_byte(byte: u8) -> bool

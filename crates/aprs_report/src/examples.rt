@@ -4,7 +4,8 @@ ghost use Rattle.std.specs.Prelude.{◌≡◌, [], Some, None, true, false, pos,
 ghost use Rattle.aprs_report.specs.declared.place.Place.TheVariants.{Base91};
 ghost use Rattle.aprs_report.specs.Place.{latitude_of, longitude_of};
 ghost use Rattle.aprs_report.specs.Reading.{message, ack, rej, status, raw};
-ghost use Rattle.aprs_report.specs.Examples.{Example, minus, fraction, plain, compressed, stamp_with, leader, leader_item};
+ghost use Rattle.aprs_report.specs.Examples.{Example, minus, fraction, plain, compressed};
+ghost use Rattle.aprs_report.specs.Examples.{stamp_with, leader, leader_item};
 
 /// Examples of plain positions, in hundredths of minutes.
 pub fn plain_examples()

@@ -6,7 +6,8 @@ ghost use Rattle.std.specs.List.{list_all};
 ghost use Rattle.aprs_report.specs.Bytes.{is_alphanumeric};
 ghost use Rattle.aprs_report.specs.Message.{is_id};
 ghost use Rattle.aprs_report.specs.Reading.{view};
-ghost use Rattle.aprs_report.specs.Reader.{addressed_of, answer_at, id_at, numbered_of, part_of, message_of};
+ghost use Rattle.aprs_report.specs.Reader.{addressed_of, answer_at, id_at, numbered_of};
+ghost use Rattle.aprs_report.specs.Reader.{part_of, message_of};
 
 use crate::bytes::{Ending, chunk, is_alphanumeric_byte};
 use crate::name::name_in;

@@ -1,5 +1,6 @@
 use Rattle.std.proofs.Common.{refl}
-use Rattle.aprs_report.specs.Reader.{form_of, message_of, addressed_of, answer_at, numbered_of, cut_end}
+use Rattle.aprs_report.specs.Reader.{form_of, message_of, addressed_of, answer_at, numbered_of}
+use Rattle.aprs_report.specs.Reader.{cut_end}
 use Rattle.aprs_report.proofs.Readings.{computed}
 use Rattle.aprs_report.proofs.examples.message_examples.Goals as goal
 

@@ -4,10 +4,17 @@ use Rattle.aprs_report.proofs.Messages.{to_the_end, goes_on, stops, ends}
 use Rattle.aprs_report.proofs.message.numbered.Goals as goal
 
 pub returns-in-Some : goal.returns-in-Some
-returns-in-Some c = stops c.args.part.now c.loop-i.i c.in-Some.id.now (numbered_of c.args.part.now) c.loop-i-test.true (ap id_at (to_the_end c.args.part.now c.loop-i.i) ∙ sym c.in-Some.ensures) c.loop-i.invariant
+returns-in-Some c =
+    stops c.args.part.now c.loop-i.i c.in-Some.id.now (numbered_of c.args.part.now)
+    c.loop-i-test.true (ap id_at (to_the_end c.args.part.now c.loop-i.i) ∙ sym c.in-Some.ensures)
+    c.loop-i.invariant
 
 pub loop-i-preserved : goal.loop-i-preserved
-loop-i-preserved c = goes_on c.args.part.now c.loop-i.i (numbered_of c.args.part.now) c.loop-i-test.true (ap id_at (to_the_end c.args.part.now c.loop-i.i) ∙ sym c.in-None.ensures) c.loop-i.invariant
+loop-i-preserved c =
+    goes_on c.args.part.now c.loop-i.i (numbered_of c.args.part.now) c.loop-i-test.true
+    (ap id_at (to_the_end c.args.part.now c.loop-i.i) ∙ sym c.in-None.ensures) c.loop-i.invariant
 
 pub returns : goal.returns
-returns c = ends c.args.part.now c.loop-i.i (numbered_of c.args.part.now) c.loop-i-test.false c.loop-i.invariant
+returns c =
+    ends c.args.part.now c.loop-i.i (numbered_of c.args.part.now) c.loop-i-test.false
+    c.loop-i.invariant

@@ -4,4 +4,5 @@ use Rattle.aprs_report.proofs.Messages.{with_front}
 use Rattle.aprs_report.proofs.message.numbered.Given as goal
 
 abbrev pub invariant-loop-i : goal.invariant-loop-i
-invariant-loop-i l = with_front (take l.i l.part) (numbered_of (drop l.i l.part)) ≡ numbered_of l.part
+invariant-loop-i l =
+    with_front (take l.i l.part) (numbered_of (drop l.i l.part)) ≡ numbered_of l.part

@@ -5,16 +5,20 @@ use Rattle.aprs_report.proofs.bytes.Ending.cut.Goals as goal
 
 pub returns-then-not-has-clause-exact : goal.returns-then-not-has-clause-exact
 returns-then-not-has-clause-exact c =
-    cut_none (is_end c.args.self) c.loop-rest.rest.now c.in-len1-up.len_at_least (sym c.has.ensures ∙ c.if-not-has.true)
+    cut_none (is_end c.args.self) c.loop-rest.rest.now c.in-len1-up.len_at_least
+    (sym c.has.ensures ∙ c.if-not-has.true)
     ∙ c.loop-rest.invariant.same
 
 pub loop-rest-preserved : goal.loop-rest-preserved
 loop-rest-preserved c = record {
   same =
-      cut_one (is_end c.args.self) c.loop-rest.rest.now c.in-len1-up.len_at_least (sym c.has.ensures ∙ c.if-not-has.false)
+      cut_one (is_end c.args.self) c.loop-rest.rest.now c.in-len1-up.len_at_least
+      (sym c.has.ensures ∙ c.if-not-has.false)
       ∙ c.loop-rest.invariant.same;
   short = omega (arith, length-take {A = ℕ});
 }
 
 pub returns-clause-exact : goal.returns-clause-exact
-returns-clause-exact c = cut_nothing (is_end c.args.self) c.loop-rest.rest.now (omega arith) ∙ c.loop-rest.invariant.same
+returns-clause-exact c =
+    cut_nothing (is_end c.args.self) c.loop-rest.rest.now (omega arith)
+    ∙ c.loop-rest.invariant.same
