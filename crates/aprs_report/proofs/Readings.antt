@@ -1,7 +1,7 @@
 -- Each information field is one report.
 use Rattle.std.proofs.Common.{◌≡◌, ℕ, Bool, true, false, List, [], ◌∷◌, ◌++◌, Option, Some, None}
 use Rattle.std.proofs.Common.{refl, sym, ap, subst, ◌∙◌, eqb}
-use Rattle.std.specs.Prelude.{unwrap_or}
+use Rattle.std.specs.Prelude.{◌↔◌, unwrap_or}
 use Rattle.std.proofs.lemmas.Bool.{eqb-true}
 use Rattle.std.proofs.lemmas.Option.{none-some}
 use Rattle.aprs_report.specs.declared.stamp.Stamp.{Stamp}
@@ -134,6 +134,10 @@ pub reading_found : (o : Option Value) (info : List ℕ) → o ≡ form_of info 
     Reads (unwrap_or o raw) info
 reading_found o info e = found_as o info (sym e)
 
+pub form_value : (o : Option Value) (info : List ℕ) → o ≡ form_of info →
+    unwrap_or o raw ≡ reading_of info
+form_value o info e = ap (λ (o : Option Value). unwrap_or o raw) e
+
 raw_takes : (o : Option Value) (info : List ℕ) → form_of info ≡ o →
     ((v : Value) → HasForm v info → ⊥) → unwrap_or o raw ≡ raw
 raw_takes (Some v) info e h = absurd (h v (form_found info v e))
@@ -164,6 +168,11 @@ same_reading v w info h k = sym (reading_is w info k) ∙ reading_is v info h
 -- each field has exactly one reading
 pub one_reading : (info : List ℕ) → OneReading info
 one_reading info = (reading_of info, reads_as info, λ w h. sym (reading_is w info h))
+
+-- `reading_of` and `Reads` say the same
+pub reading_iff : (info : List ℕ) (v : Value) → Reads v info ↔ (reading_of info ≡ v)
+reading_iff info v =
+    (reading_is v info, λ e. subst (λ (v : Value). Reads v info) e (reads_as info))
 
 -- an example by computation
 pub computed : {info : List ℕ} {v : Value} → reading_of info ≡ v → Example info v

@@ -1,4 +1,5 @@
--- The readers' steps as functions of byte lists. They stand in no public clause.
+-- The readers' steps as functions of byte lists. Public clauses name `reading_of` alone, of which a
+-- law says that it is the one reading.
 use Rattle.std.specs.Prelude.{ℕ, ℤ, ◌+◌, ◌*◌, ◌-◌, ◌^◌, Bool, true, false, ◌&&◌, ◌||◌, nat_le}
 use Rattle.std.specs.Prelude.{nat_lt, ◌==◌, if◌then◌else◌, List, [], ◌∷◌, length, take, drop}
 use Rattle.std.specs.Prelude.{slice_index, Option, Some, None, unwrap_or, codes}

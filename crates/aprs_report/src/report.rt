@@ -72,11 +72,13 @@ pub enum Report<'a> {
 
 impl<'a> Report<'a> {
     ghost use Rattle.aprs_report.specs.Reading.{view, kind_of, Reads};
+    ghost use Rattle.aprs_report.specs.Reader.{reading_of};
 
     /// What an information field says. Every field is some report; what has no other form is raw.
     /// Takes no memory.
     pub fn read(info: &'a [u8]) -> Report<'a>
-        ensures { Reads (view result) info.now }
+        ensures reads { Reads (view result) info.now }
+        ensures value { view result ≡ reading_of info.now }
     {
         match form(info) {
             Some(report) => report,
