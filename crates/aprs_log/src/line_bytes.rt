@@ -1,13 +1,13 @@
 //! The frame in the bytes that a line holds.
 ghost use Rattle.std.specs.Prelude.{◌≡◌};
 ghost use Rattle.aprs_kiss.specs.Stream.{is_nonempty, rest_of};
-ghost use Rattle.aprs_kiss.specs.Reader.{told_by};
-ghost use Rattle.aprs_log.specs.Bytes.{first_frame, has_other};
+ghost use Rattle.aprs_kiss.specs.Told.{told_by};
+ghost use Rattle.aprs_log.specs.Bytes.{first_frame, has_other, StreamLaws};
 ghost use Rattle.aprs_log.specs.Line.{frame_in};
 
 use crate::fault::Reason;
 use aprs_ax25::Frame;
-use aprs_kiss::{Fed, KissReader};
+use aprs_kiss::{Fed, KissReader, a_stream_is_its_pieces, cuts_change_nothing, frame_ends_end_pieces};
 
 /// Stands before and after a frame.
 const FEND: u8 = 0xC0;
@@ -16,6 +16,7 @@ const FEND: u8 = 0xC0;
 pub fn frame_in(bytes: &[u8]) -> Result<Frame, Reason>
     ensures { result ≡ frame_in bytes.now }
 {
+    stream_laws();
     if is_unended(bytes) {
         return Err(Reason::Unended);
     }
@@ -51,6 +52,7 @@ fn frame_told(fed: Fed<'_>) -> Option<Result<Frame, Reason>>
 fn is_unended(bytes: &[u8]) -> bool
     ensures { result ≡ is_nonempty (rest_of bytes.now) }
 {
+    stream_laws();
     match bytes {
         [.., last] => *last != FEND,
         [] => false,
@@ -62,4 +64,13 @@ fn has_other(bytes: &[u8]) -> bool
     ensures { result ≡ has_other bytes.now }
 {
     bytes.iter().any(|b| *b != FEND)
+}
+
+/// What holds of every KISS stream. Does nothing.
+fn stream_laws()
+    ensures { StreamLaws }
+{
+    cuts_change_nothing();
+    a_stream_is_its_pieces();
+    frame_ends_end_pieces();
 }

@@ -5,12 +5,16 @@ ghost use Rattle.arrayvec.specs.ArrayVec.{array_vec_len};
 ghost use Rattle.hex.specs.Hex.{decode_of, encode_lower};
 ghost use Rattle.aprs_kiss.specs.Device.{device_of, failures_of, Rose, AppendsFront};
 ghost use Rattle.aprs_kiss.specs.Spelling.{kiss_text, spelling_of_byte};
+ghost use Rattle.aprs_ax25.specs.Frame.{FrameOf};
+ghost use Rattle.aprs_ax25.specs.FrameFault.{frame_of, parts_of};
+ghost use Rattle.aprs_log.specs.Bytes.{WrittenLaws};
 ghost use Rattle.aprs_log.specs.Line.{line_of, written_line};
 
 use crate::bytes::push_all;
 use crate::line::Line;
 use crate::reception::Reception;
-use aprs_kiss::{Counted, WriteFault, send};
+use aprs_ax25::each_is_a_frame_or_refused;
+use aprs_kiss::{Counted, WriteFault, cuts_change_nothing, send, written_frames_are_read_back};
 use arrayvec::ArrayVec;
 use std::io::Write;
 
@@ -42,15 +46,34 @@ fn written(reception: &Reception) -> ArrayVec<u8, MAX_WRITTEN>
     ensures line { result.items ≡ written_line reception.now ++ 10 ∷ [] }
     ensures back { length (written_line reception.now) ≤ 8192 → line_of (written_line reception.now) ≡ Ok (Line.Heard reception.now) }
 {
+    written_laws();
     let mut line = ArrayVec::new();
     push_all(&mut line, &reception.moment().text());
     push_all(&mut line, b" ");
     push_all(&mut line, reception.receiver().as_bytes());
     push_all(&mut line, b" ");
-    let spelled = spelled(reception.frame().bytes());
+    let frame = reception.frame().bytes();
+    frames_are_read(frame);
+    let spelled = spelled(frame);
     push_hex(&mut line, spelled.as_slice());
     push_all(&mut line, b"\n");
     line
+}
+
+/// What holds of every written frame. Does nothing.
+fn written_laws()
+    ensures { WrittenLaws }
+{
+    cuts_change_nothing();
+    written_frames_are_read_back();
+}
+
+/// The bytes of a frame are read as that frame. Does nothing.
+fn frames_are_read(frame: &[u8])
+    requires { FrameOf (parts_of frame.now) frame.now }
+    ensures { frame_of frame.now ≡ Ok frame.now }
+{
+    each_is_a_frame_or_refused();
 }
 
 /// What goes out for a frame.

@@ -1,5 +1,5 @@
 use Rattle.std.proofs.Common.{[], sym}
-use Rattle.aprs_log.proofs.PieceLemmas.{frame_in-unended, once, fed_none, fed_one, fed_two}
+use Rattle.aprs_log.proofs.FrameLemmas.{frame_in-unended, once, fed_none, fed_one, fed_two}
 use Rattle.aprs_log.proofs.line_bytes.frame_in.Goals as goal
 
 pub returns-then-is_unended : goal.returns-then-is_unended
@@ -8,17 +8,23 @@ returns-then-is_unended c = frame_in-unended c.args.bytes.now (sym c.if-is_unend
 pub returns-in-None : goal.returns-in-None
 returns-in-None c =
     let f = c.feed.ensures in
-    let told = once _ _ _ (f.judged [] c.new-reader.ensures) f.used f.whole (f.ends [] c.new-reader.ensures) in
-    fed_none c.args.bytes.now _ c.feed.result.1 c.if-is_unended.ensures told c.in-None.ensures
+    let start = c.new-reader.ensures in
+    let told = once _ _ _ (f.judged [] start) f.whole (f.ends [] start) in
+    fed_none c.stream_laws.ensures c.args.bytes.now _ c.if-is_unended.ensures
+    c.feed.result.1 told c.in-None.ensures
 
 pub returns-then-has_other : goal.returns-then-has_other
 returns-then-has_other c =
     let f = c.feed.ensures in
-    let told = once _ _ _ (f.judged [] c.new-reader.ensures) f.used f.whole (f.ends [] c.new-reader.ensures) in
-    fed_two c.args.bytes.now _ c.feed.result.1 _ c.if-is_unended.ensures told c.in-Some.ensures c.if-has_other.ensures
+    let start = c.new-reader.ensures in
+    let told = once _ _ _ (f.judged [] start) f.whole (f.ends [] start) in
+    fed_two c.stream_laws.ensures c.args.bytes.now _ c.if-is_unended.ensures
+    c.feed.result.1 _ told c.in-Some.ensures c.if-has_other.ensures
 
 pub returns-else-has_other : goal.returns-else-has_other
 returns-else-has_other c =
     let f = c.feed.ensures in
-    let told = once _ _ _ (f.judged [] c.new-reader.ensures) f.used f.whole (f.ends [] c.new-reader.ensures) in
-    fed_one c.args.bytes.now _ c.feed.result.1 _ c.if-is_unended.ensures told c.in-Some.ensures c.if-has_other.ensures
+    let start = c.new-reader.ensures in
+    let told = once _ _ _ (f.judged [] start) f.whole (f.ends [] start) in
+    fed_one c.stream_laws.ensures c.args.bytes.now _ c.if-is_unended.ensures
+    c.feed.result.1 _ told c.in-Some.ensures c.if-has_other.ensures

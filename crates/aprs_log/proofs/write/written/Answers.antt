@@ -1,22 +1,29 @@
-use Rattle.std.proofs.Common.{◌≡◌, ◌≤◌, length, ap, ◌∙◌, refl, subst, arith, Ok}
+use Rattle.std.proofs.Common.{◌≡◌, ◌≤◌, List, ℕ, length, ap, sym, ◌∙◌, refl, subst, arith, Ok}
 use Rattle.hex.specs.Hex.{decode_of, encode_lower}
 use Rattle.aprs_kiss.specs.Spelling.{kiss_text}
 use Rattle.aprs_ax25.specs.Frame.{FrameOf}
-use Rattle.aprs_ax25.specs.FrameFault.{parts_of}
+use Rattle.aprs_ax25.specs.FrameFault.{frame_of, parts_of}
 use Rattle.aprs_log.specs.Moment.{MomentText, moment_text}
 use Rattle.aprs_log.specs.Receiver.{IsName}
 use Rattle.aprs_log.proofs.WrittenLemmas.{real, line_of-written}
 use Rattle.aprs_log.proofs.write.written.Goals as goal
 
+pub frames_are_read-requires : goal.frames_are_read-requires
+frames_are_read-requires c =
+    let P : List ℕ → Type 0 = λ f. FrameOf (parts_of f) f in
+    subst P (sym c.bytes-frame.ensures.value) c.bytes-frame.ensures.frame
+
 pub returns-clause-back : goal.returns-clause-back
 returns-clause-back c short =
     let x = c.args.reception.now in
-    let parts = parts_of c.frame.result.now in
-    let frame : c.bytes.result.now ≡ x.frame = c.bytes.ensures.value ∙ c.frame.ensures in
-    let few : length x.frame ≤ 328 = omega (arith, c.bytes.ensures.most, ap length frame) in
-    let is = real x c.text.result parts (c.text.ensures.value ∙ ap moment_text c.moment.ensures)
-    (subst (λ m. MomentText m c.text.result) c.moment.ensures ((c.text.ensures.exact c.text.result).0 refl))
-    (subst IsName c.receiver.ensures c.as_bytes.ensures.name)
-    (subst (FrameOf parts) c.frame.ensures c.bytes.ensures.frame) few in
-    let sent : c.as_slice.result.now ≡ kiss_text x.frame = c.as_slice.ensures.value ∙ c.spelled-spelled.ensures ∙ ap kiss_text frame in
-    line_of-written x is (subst (λ l. decode_of (encode_lower l) ≡ Ok l) sent c.push_hex.ensures.back) short
+    let text = c.text.result in
+    let frame : c.bytes-frame.result.now ≡ x.frame = c.bytes-frame.ensures.value ∙ c.frame.ensures in
+    let few : length x.frame ≤ 328 = omega (arith, c.bytes-frame.ensures.most, ap length frame) in
+    let reads = subst (λ f. frame_of f ≡ Ok f) frame c.frames_are_read.ensures in
+    let is_text = subst (λ m. MomentText m text) c.moment.ensures ((c.text.ensures.exact text).0 refl) in
+    let is = real x text (c.text.ensures.value ∙ ap moment_text c.moment.ensures) is_text
+        (subst IsName c.receiver.ensures c.as_bytes.ensures.name) reads few in
+    let sent : c.as_slice.result.now ≡ kiss_text x.frame
+        = c.as_slice.ensures.value ∙ c.spelled-spelled.ensures ∙ ap kiss_text frame in
+    let digits = subst (λ l. decode_of (encode_lower l) ≡ Ok l) sent c.push_hex.ensures.back in
+    line_of-written c.written_laws.ensures x is digits short

@@ -1,0 +1,149 @@
+-- Lemmas on the frame in a line's bytes.
+use Rattle.std.proofs.Common.{◌≡◌, ◌≢◌, ℕ, ◌-◌, ◌<◌, ◌≤◌, Bool, true, false, List, [], ◌∷◌, ◌++◌, length, take, drop, None, Some, Result, Ok, Err, cond, refl, arith, sym, ap, ◌∙◌, take-append-drop}
+use Rattle.std.proofs.lemmas.List.{take_rest}
+use Rattle.std.proofs.Math.Seq.{take-length}
+use Rattle.aprs_kiss.specs.Spelling.{kiss_text}
+use Rattle.aprs_kiss.specs.Stream.{rest_of, is_nonempty, judgements_of, EndsPiece}
+use Rattle.aprs_kiss.specs.Judgement.{Judgement}
+use Rattle.aprs_kiss.specs.Told.{told_by}
+use Rattle.aprs_kiss.specs.declared.reader.Fed.{Fed}
+use Rattle.aprs_kiss.specs.declared.reader.Fed.TheVariants.{Nothing, Frame, Passed}
+use Rattle.aprs_ax25.specs.FrameFault.{frame_of}
+use Rattle.aprs_log.specs.Bytes.{first_frame, has_other, StreamLaws, WrittenLaws}
+use Rattle.aprs_log.specs.Line.{frame_in, frame_or_reason, only_frame}
+use Rattle.aprs_log.specs.declared.fault.Reason.{Reason}
+use Rattle.aprs_log.specs.declared.fault.Reason.TheVariants as reason
+use Rattle.aprs_log.proofs.PieceLemmas.{ends_alone, rest_nil, tells_other}
+
+unless_unended : (b : Bool) (x y : Result (List ℕ) Reason) → b ≡ false → cond b x y ≡ y
+unless_unended true x y e = absurd (let f : true ≡ false = e in cc)
+unless_unended false x y e = refl
+
+frame_in-ended : (bytes : List ℕ) → is_nonempty (rest_of bytes) ≡ false
+    → frame_in bytes ≡ only_frame (judgements_of bytes)
+unfolding frame_in
+frame_in-ended bytes e = unless_unended (is_nonempty (rest_of bytes)) _ _ e
+
+pub frame_in-unended : (bytes : List ℕ) → is_nonempty (rest_of bytes) ≡ true
+    → Err reason.Unended ≡ frame_in bytes
+unfolding frame_in
+frame_in-unended bytes e = rw e refl
+
+-- ---- what a line's bytes hold, of which `used` were used up to the end of a piece
+
+-- that is the only piece so far, and its judgement is j
+record UsedTo (used : List ℕ) (j : Judgement) : Type 0 where
+  told : judgements_of used ≡ j ∷ []
+  left : rest_of used ≡ []
+
+two_frames : (j : Judgement) (js : List Judgement) → 0 < length js
+    → only_frame (j ∷ js) ≡ Err reason.TwoFrames
+two_frames j [] h = absurd (omega (arith, h))
+two_frames j (k ∷ js) h = refl
+
+module _ (laws : StreamLaws) (used more : List ℕ) (j : Judgement) (u : UsedTo used j)
+    (e : is_nonempty (rest_of (used ++ more)) ≡ false) where
+  told_then : judgements_of (used ++ more) ≡ j ∷ judgements_of more
+  told_then =
+      laws.told used more ∙ ap (λ js. js ++ judgements_of (rest_of used ++ more)) u.told
+      ∙ ap (λ l. j ∷ judgements_of (l ++ more)) u.left
+
+  frame_in-one : has_other more ≡ false → only_frame (j ∷ []) ≡ frame_in (used ++ more)
+  frame_in-one alone =
+      let none = ap (λ js. j ∷ js) (ends_alone laws more alone) in
+      sym (frame_in-ended (used ++ more) e ∙ ap only_frame (told_then ∙ none))
+
+  frame_in-two : has_other more ≡ true → Err reason.TwoFrames ≡ frame_in (used ++ more)
+  frame_in-two other =
+      let rest = rest_nil (rest_of (used ++ more)) e in
+      let moved : rest_of (used ++ more) ≡ rest_of more
+          = laws.left used more ∙ ap (λ l. rest_of (l ++ more)) u.left in
+      let some = tells_other laws more (sym moved ∙ rest) other in
+      sym (frame_in-ended (used ++ more) e ∙ ap only_frame told_then
+      ∙ two_frames j (judgements_of more) some)
+
+-- ---- what a reader tells of a line's bytes at once
+
+pub record FedOnce (bytes : List ℕ) (n : ℕ) (told : List Judgement) : Type 0 where
+  pub judged : judgements_of (take n bytes) ≡ told
+  pub whole : told ≡ [] → n ≡ length bytes
+  pub ends : told ≢ [] → EndsPiece (take n bytes)
+
+pub once : (bytes : List ℕ) (n : ℕ) (told : List Judgement) → judgements_of (take n bytes) ≡ told
+    → (told ≡ [] → n ≡ length bytes) → (told ≢ [] → EndsPiece (take n bytes))
+    → FedOnce bytes n told
+once bytes n told judged whole ends = record { judged = judged; whole = whole; ends = ends }
+
+after_used : List ℕ → ℕ → List ℕ
+after_used bytes n = take (length bytes - n) (drop n bytes)
+
+again : (bytes : List ℕ) (n : ℕ) → take n bytes ++ after_used bytes n ≡ bytes
+unfolding after_used
+again bytes n = ap (λ l. take n bytes ++ l) (take_rest bytes n) ∙ take-append-drop n bytes
+
+used_to : (bytes : List ℕ) (n : ℕ) (j : Judgement) → FedOnce bytes n (j ∷ [])
+    → UsedTo (take n bytes) j
+used_to bytes n j f =
+    record { told = f.judged; left = (f.ends (λ e. let h : ⊥ = absurd cc in h)).left }
+
+same_some : (x y : Result (List ℕ) Reason) → Some x ≡ Some y → x ≡ y
+same_some x y e = cc
+
+module _ (laws : StreamLaws) (bytes : List ℕ) (n : ℕ) (e : false ≡ is_nonempty (rest_of bytes)) where
+  told_nothing : FedOnce bytes n [] → Err reason.NoFrame ≡ frame_in bytes
+  told_nothing f =
+      let all : take n bytes ≡ bytes = ap (λ k. take k bytes) (f.whole refl) ∙ take-length bytes in
+      let none = ap judgements_of (sym all) ∙ f.judged in
+      sym (frame_in-ended bytes (sym e) ∙ ap only_frame none)
+
+  ended : is_nonempty (rest_of (take n bytes ++ after_used bytes n)) ≡ false
+  ended = ap (λ l. is_nonempty (rest_of l)) (again bytes n) ∙ sym e
+
+  told_one : (j : Judgement) → FedOnce bytes n (j ∷ [])
+      → false ≡ has_other (take (length bytes - n) (drop n bytes))
+      → only_frame (j ∷ []) ≡ frame_in bytes
+  unfolding after_used
+  told_one j f alone =
+      frame_in-one laws (take n bytes) (after_used bytes n) j (used_to bytes n j f) ended (sym alone)
+      ∙ ap frame_in (again bytes n)
+
+  told_two : (j : Judgement) → FedOnce bytes n (j ∷ [])
+      → true ≡ has_other (take (length bytes - n) (drop n bytes))
+      → Err reason.TwoFrames ≡ frame_in bytes
+  unfolding after_used
+  told_two j f other =
+      frame_in-two laws (take n bytes) (after_used bytes n) j (used_to bytes n j f) ended (sym other)
+      ∙ ap frame_in (again bytes n)
+
+  pub fed_none : (fed : Fed) → FedOnce bytes n (told_by fed) → None ≡ first_frame (told_by fed)
+      → Err reason.NoFrame ≡ frame_in bytes
+  fed_none Nothing f none = told_nothing f
+  fed_none (Frame port frame) f none = absurd cc
+  fed_none (Passed fault) f none = absurd cc
+
+  pub fed_two : (fed : Fed) (r : Result (List ℕ) Reason) → FedOnce bytes n (told_by fed)
+      → Some r ≡ first_frame (told_by fed)
+      → true ≡ has_other (take (length bytes - n) (drop n bytes))
+      → Err reason.TwoFrames ≡ frame_in bytes
+  fed_two Nothing r f some other = absurd cc
+  fed_two (Frame port frame) r f some other = told_two _ f other
+  fed_two (Passed fault) r f some other = told_two _ f other
+
+  pub fed_one : (fed : Fed) (r : Result (List ℕ) Reason) → FedOnce bytes n (told_by fed)
+      → Some r ≡ first_frame (told_by fed)
+      → false ≡ has_other (take (length bytes - n) (drop n bytes)) → r ≡ frame_in bytes
+  fed_one Nothing r f some alone = absurd cc
+  fed_one (Frame port frame) r f some alone = same_some r _ some ∙ told_one _ f alone
+  fed_one (Passed fault) r f some alone = same_some r _ some ∙ told_one _ f alone
+
+-- ---- what is written for a frame
+
+-- it holds that frame
+pub frame_in-kiss_text : WrittenLaws → (frame : List ℕ) → length frame ≤ 1023
+    → frame_of frame ≡ Ok frame → frame_in (kiss_text frame) ≡ Ok frame
+frame_in-kiss_text laws frame len is =
+    let data_frame = Ok (record { port = 0; bytes = frame }) in
+    let told = laws.read_back [] frame laws.begins.1 len
+        ∙ ap (λ js. js ++ data_frame ∷ []) laws.begins.0 in
+    let rest = ap is_nonempty (laws.read_whole [] frame) in
+    frame_in-ended (kiss_text frame) rest ∙ ap only_frame told ∙ ap frame_or_reason is
