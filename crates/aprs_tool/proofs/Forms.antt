@@ -4,14 +4,16 @@ use Rattle.aprs_log.specs.declared.ending.Ending.{Ending}
 use Rattle.aprs_log.specs.declared.fault.LogFault.{LogFault}
 use Rattle.aprs_tool.specs.Run.{convert_fault, convert_text, lines_fault, lines_text}
 use Rattle.aprs_tool.specs.declared.form.Form.{Form}
-use Rattle.aprs_tool.specs.declared.form.Form.TheVariants.{Text, Kiss, Log, Capture}
+use Rattle.aprs_tool.specs.declared.form.Form.TheVariants.{Text, Kind, Kiss, Log, Capture}
 
 -- each form but a capture goes by the lines
 pub by_lines : (P : (List ℕ → Ending → List ℕ) → (List ℕ → Ending → Option LogFault) → Type 0) (f : Form)
-    → (f ≡ Text) ⊎ ((f ≡ Kiss) ⊎ (f ≡ Log)) → P (lines_text f) lines_fault → P (convert_text f) (convert_fault f)
+    → (f ≡ Text) ⊎ ((f ≡ Kind) ⊎ ((f ≡ Kiss) ⊎ (f ≡ Log))) → P (lines_text f) lines_fault → P (convert_text f) (convert_fault f)
 by_lines P Text e h = h
+by_lines P Kind e h = h
 by_lines P Kiss e h = h
 by_lines P Log e h = h
 by_lines P (Capture r m) (inl e) h = cc
 by_lines P (Capture r m) (inr (inl e)) h = cc
-by_lines P (Capture r m) (inr (inr e)) h = cc
+by_lines P (Capture r m) (inr (inr (inl e))) h = cc
+by_lines P (Capture r m) (inr (inr (inr e))) h = cc

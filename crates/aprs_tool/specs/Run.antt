@@ -20,7 +20,7 @@ use Rattle.aprs_log.specs.declared.fault.LogFault.{LogFault}
 use Rattle.aprs_log.specs.declared.fault.Reason.{Reason}
 use Rattle.aprs_log.specs.declared.line.Line.{Line}
 use Rattle.aprs_log.specs.declared.line.Line.TheVariants as line
-use Rattle.aprs_tool.specs.Monitor.{monitor_text}
+use Rattle.aprs_tool.specs.Monitor.{monitor_text, kind_text}
 use Rattle.aprs_tool.specs.declared.fault.InputFault.TheVariants.{Log}
 use Rattle.aprs_tool.specs.declared.fault.RunFault.{RunFault}
 use Rattle.aprs_tool.specs.declared.fault.RunFault.TheVariants.{Input, Write}
@@ -35,6 +35,7 @@ ended_by_lf text = text ++ 10 ∷ []
 -- what is written for a reception; a capture's input has no lines
 abbrev pub reception_text : Form → Heard → List ℕ
 reception_text form.Text x = ended_by_lf (monitor_text (parts_of x.frame))
+reception_text form.Kind x = ended_by_lf (kind_text (parts_of x.frame))
 reception_text form.Kiss x = kiss_text x.frame
 reception_text form.Log x = ended_by_lf (written_line x)
 reception_text (form.Capture r m) x = []
@@ -78,12 +79,14 @@ stream_fault t c = cut_short c
 
 abbrev pub convert_text : Form → List ℕ → Ending → List ℕ
 convert_text form.Text t c = lines_text form.Text t c
+convert_text form.Kind t c = lines_text form.Kind t c
 convert_text form.Kiss t c = lines_text form.Kiss t c
 convert_text form.Log t c = lines_text form.Log t c
 convert_text (form.Capture r m) t c = stream_text r m t c
 
 abbrev pub convert_fault : Form → List ℕ → Ending → Option LogFault
 convert_fault form.Text t c = lines_fault t c
+convert_fault form.Kind t c = lines_fault t c
 convert_fault form.Kiss t c = lines_fault t c
 convert_fault form.Log t c = lines_fault t c
 convert_fault (form.Capture r m) t c = stream_fault t c

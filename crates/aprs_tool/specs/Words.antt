@@ -19,7 +19,7 @@ use Rattle.aprs_tool.specs.declared.words.Task.TheVariants as task
 -- ---- the command
 
 abbrev pub form_names : List Text
-form_names = codes "text" ∷ codes "kiss" ∷ codes "log" ∷ codes "capture" ∷ []
+form_names = codes "text" ∷ codes "kind" ∷ codes "kiss" ∷ codes "log" ∷ codes "capture" ∷ []
 
 -- takes the names of the forms and no other word
 abbrev pub IsForms : ValueParser → Type 0
@@ -63,9 +63,10 @@ capture_form_of r m = capture_of (option_and_then receiver_of r) (option_and_the
 -- `capture` with both options, another form without them, and else none
 abbrev pub named_form_of : Text → Option Text → Option Text → Option Form
 named_form_of name r m = if bytes_eq name (codes "text") then plain_form_of form.Text r m
+    else (if bytes_eq name (codes "kind") then plain_form_of form.Kind r m
     else (if bytes_eq name (codes "kiss") then plain_form_of form.Kiss r m
     else (if bytes_eq name (codes "log") then plain_form_of form.Log r m
-    else capture_form_of r m))
+    else capture_form_of r m)))
 
 abbrev pub form_of : List Row → Option Form
 form_of rows = option_and_then (λ name. named_form_of name (first_of (codes "receiver") rows) (first_of (codes "moment") rows)) (first_of (codes "form") rows)

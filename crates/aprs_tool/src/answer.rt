@@ -3,15 +3,19 @@ ghost use Rattle.std.specs.Prelude.{◌≡◌, ◌≤◌, ◌++◌, ◌∷◌, [
 ghost use Rattle.std.specs.Io.KnownBytes.{Appends};
 ghost use Rattle.aprs_ax25.specs.FrameFault.{parts_of};
 ghost use Rattle.aprs_kiss.specs.Device.{device_of, failures_of, Rose, AppendsFront};
-ghost use Rattle.aprs_tool.specs.Monitor.{monitor_text};
+ghost use Rattle.aprs_report.specs.Reader.{reading_of};
+ghost use Rattle.aprs_report.specs.Reading.{kind_of};
+ghost use Rattle.arrayvec.specs.ArrayVec.{array_vec_len};
+ghost use Rattle.aprs_tool.specs.Monitor.{monitor_text, kind_text};
 ghost use Rattle.aprs_tool.specs.Run.{line_text, reception_text, ended_by_lf};
 
 use crate::form::Form;
 use crate::monitor::push_monitor_text;
-use crate::text::Text;
+use crate::text::{Text, push_all};
 use aprs_ax25::Frame;
 use aprs_kiss::{Counted, WriteFault, send, write_kiss};
 use aprs_log::{Line, Reception, write_line};
+use aprs_report::Report;
 use std::io::Write;
 
 /// Writes what a form gives for a line.
@@ -44,6 +48,7 @@ fn write_reception<W: Write>(
 {
     match form {
         Form::Text => write_monitor_line(w, reception.frame()),
+        Form::Kind => write_kind_line(w, reception.frame()),
         Form::Kiss => write_kiss(w, reception.frame().bytes()),
         Form::Log => write_line(w, reception),
         Form::Capture { .. } => Ok(()),
@@ -59,6 +64,39 @@ fn write_monitor_line<W: Write>(w: &mut Counted<W>, frame: &Frame) -> Result<(),
 {
     let text = monitor_line(frame);
     send(w, text.as_slice())
+}
+
+/// Writes the kind of report, a space, the frame as a monitor prints it, and an LF.
+fn write_kind_line<W: Write>(w: &mut Counted<W>, frame: &Frame) -> Result<(), WriteFault>
+    ensures sent { OnOk result (Appends (W.contents (device_of w.old)) (W.contents (device_of w.new)) (ended_by_lf (kind_text (parts_of frame.now)))) }
+    ensures prefix { OnErr result (AppendsFront (W.contents (device_of w.old)) (W.contents (device_of w.new)) (ended_by_lf (kind_text (parts_of frame.now)))) }
+    ensures count { failures_of w.old ≤ failures_of w.new }
+    ensures fault { OnErr result (Rose (failures_of w.old) (failures_of w.new)) }
+{
+    let text = kind_line(frame);
+    send(w, text.as_slice())
+}
+
+/// The kind of report, a space, the frame as a monitor prints it, and an LF.
+fn kind_line(frame: &Frame) -> Text
+    ensures { result.items ≡ ended_by_lf (kind_text (parts_of frame.now)) }
+{
+    let mut text = Text::new();
+    push_kind(&mut text, frame.info());
+    text.push(b' ');
+    push_monitor_text(&mut text, frame);
+    text.push(b'\n');
+    text
+}
+
+/// Puts the name of the report's kind at the end.
+fn push_kind(out: &mut Text, info: &[u8])
+    requires { array_vec_len out.old ≡ 0 }
+    ensures name { out.new.items ≡ out.old.items ++ kind_of (reading_of info.now) }
+    ensures most { array_vec_len out.new ≤ 8 }
+{
+    let kind = Report::read(info).kind();
+    push_all(out, kind.as_bytes());
 }
 
 /// The frame as a monitor prints it, and an LF.

@@ -13,7 +13,7 @@ use clap::error::ErrorKind;
 use clap::{Arg, ArgMatches, Command};
 use std::alloc::{AllocError, Global};
 
-static FORMS: [&str; 4] = ["text", "kiss", "log", "capture"];
+static FORMS: [&str; 5] = ["text", "kind", "kiss", "log", "capture"];
 
 /// What is asked for, without the inputs.
 #[derive(Drop)]
@@ -152,6 +152,8 @@ fn named_form(name: &str, receiver: Option<&str>, moment: Option<&str>) -> Optio
 {
     if name == "text" {
         plain_form(Form::Text, receiver, moment)
+    } else if name == "kind" {
+        plain_form(Form::Kind, receiver, moment)
     } else if name == "kiss" {
         plain_form(Form::Kiss, receiver, moment)
     } else if name == "log" {

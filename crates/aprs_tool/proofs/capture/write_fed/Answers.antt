@@ -1,7 +1,7 @@
 use Rattle.std.proofs.Common.{ℕ, List, OnErr, subst, ap, sym, ◌∙◌, append-nil}
 use Rattle.std.specs.List.{flat_map}
 use Rattle.aprs_kiss.specs.Device.{device_of, AppendsFront}
-use Rattle.aprs_kiss.specs.Reader.{told_by}
+use Rattle.aprs_kiss.specs.Told.{told_by}
 use Rattle.aprs_kiss.specs.declared.reader.Fed.{Fed}
 use Rattle.aprs_tool.specs.Run.{capture_text}
 use Rattle.aprs_tool.proofs.capture.write_fed.Goals as goal
