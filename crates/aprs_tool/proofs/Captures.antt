@@ -91,12 +91,12 @@ module _ (text : Judgement → List ℕ) where
       let seen = f ++ h.seen in
       let stands = h.captures.stands f s in
       let whole : f ++ chunk ≡ (seen ++ part) ++ left =
-          ap (λ l. f ++ l) (h.cut ∙ ap (λ l. h.seen ++ l) e) ∙ sym (append_assoc f h.seen (part ++ left)) ∙ sym (append_assoc seen part left) in
+      ap (λ l. f ++ l) (h.cut ∙ ap (λ l. h.seen ++ l) e) ∙ sym (append_assoc f h.seen (part ++ left)) ∙ sym (append_assoc seen part left) in
       let written : text_of (f ++ chunk) ≡ (text_of seen ++ flat_map text told) ++ text_of (rest_of (seen ++ part) ++ left) =
-          ap text_of whole ∙ text-append (seen ++ part) left
-          ∙ ap (λ l. l ++ text_of (rest_of (seen ++ part) ++ left)) (text-append seen part ∙ ap (λ j. text_of seen ++ flat_map text j) (judged (rest_of seen) stands)) in
+      ap text_of whole ∙ text-append (seen ++ part) left
+      ∙ ap (λ l. l ++ text_of (rest_of (seen ++ part) ++ left)) (text-append seen part ∙ ap (λ j. text_of seen ++ flat_map text j) (judged (rest_of seen) stands)) in
       subst (AppendsFront before after) (sym written) (AppendsFront-more before after (text_of seen ++ flat_map text told) (text_of (rest_of (seen ++ part) ++ left))
-          (AppendsFront-then before between after (text_of seen) (flat_map text told) (h.captures.sent f s) front))
+      (AppendsFront-then before between after (text_of seen) (flat_map text told) (h.captures.sent f s) front))
 
 -- ---- the stream as far as it was read
 
@@ -152,7 +152,7 @@ HasGot-refused r m limit left reader first now then_ old mid new chunk h consume
     let count = h.count in
     let got = gets_front first then_ bytes limit (Consumes-trans first now then_ h.bytes chunk h.consumed consumed) (omega (arith, length-append h.bytes chunk)) in
     let out : AppendsFront old new (text_of text bytes) = subst (AppendsFront old new) (sym (text-append text h.bytes chunk))
-        (AppendsFront-then old mid new (text_of text h.bytes) (text_of text (rest_of h.bytes ++ chunk)) h.sent (front (rest_of h.bytes) h.stands)) in
+    (AppendsFront-then old mid new (text_of text h.bytes) (text_of text (rest_of h.bytes ++ chunk)) h.sent (front (rest_of h.bytes) h.stands)) in
     runs first bytes got out
   where
     runs : (first : Option (List ℕ)) (bytes : List ℕ) → IfSome first (λ input. Gets limit input bytes ending.Read) → AppendsFront old new (text_of (capture_text r m) bytes)

@@ -91,8 +91,8 @@ module _ (first now after : Answers → Type 0) (a b : Option (List ℕ)) (heard
       let len = length-append h.seen (Passed reason ∷ []) in
       let at : number ≡ 1 + length h.seen = omega arith in
       let text : check_lines 1 (h.seen ++ Passed reason ∷ []) ≡ check_lines 1 h.seen ++ passed_line number reason =
-          check_lines-append 1 h.seen (Passed reason ∷ [])
-          ∙ ap (λ l. check_lines 1 h.seen ++ l) (append-nil (passed_line (1 + length h.seen) reason) ∙ ap (λ i. passed_line i reason) (sym at)) in
+      check_lines-append 1 h.seen (Passed reason ∷ [])
+      ∙ ap (λ l. check_lines 1 h.seen ++ l) (append-nil (passed_line (1 + length h.seen) reason) ∙ ap (λ i. passed_line i reason) (sym at)) in
       record {
         seen = h.seen ++ Passed reason ∷ [];
         has = HasSeen-line first now after h.seen (Passed reason) h.has next;
@@ -113,14 +113,14 @@ module _ (first now after : Answers → Type 0) (a b : Option (List ℕ)) (heard
       let all = prepended h.seen (then_given (Passed reason) answers) in
       let more = check_lines (1 + length h.seen + 1) answers.given ++ totals answers.fault all.given in
       let text : check_of all ≡ (check_lines 1 h.seen ++ line) ++ more =
-          ap (λ l. l ++ totals answers.fault all.given)
-              (check_lines-append 1 h.seen (Passed reason ∷ answers.given)
-              ∙ ap (λ i. check_lines 1 h.seen ++ (passed_line i reason ++ check_lines (1 + length h.seen + 1) answers.given)) (sym at)
-              ∙ sym (append_assoc (check_lines 1 h.seen) line (check_lines (1 + length h.seen + 1) answers.given)))
-          ∙ append_assoc (check_lines 1 h.seen ++ line) (check_lines (1 + length h.seen + 1) answers.given) (totals answers.fault all.given) in
+      ap (λ l. l ++ totals answers.fault all.given)
+      (check_lines-append 1 h.seen (Passed reason ∷ answers.given)
+      ∙ ap (λ i. check_lines 1 h.seen ++ (passed_line i reason ++ check_lines (1 + length h.seen + 1) answers.given)) (sym at)
+      ∙ sym (append_assoc (check_lines 1 h.seen) line (check_lines (1 + length h.seen + 1) answers.given)))
+      ∙ append_assoc (check_lines 1 h.seen ++ line) (check_lines (1 + length h.seen + 1) answers.given) (totals answers.fault all.given) in
       over check_of limit known (Err Write) a c all (whole all (h.has.complete (then_given (Passed reason) answers) (next answers may)))
-          (subst (AppendsFront a c) (sym text) (AppendsFront-more a c (check_lines 1 h.seen ++ line) more
-              (AppendsFront-then a b c (check_lines 1 h.seen) line h.out front)))
+      (subst (AppendsFront a c) (sym text) (AppendsFront-more a c (check_lines 1 h.seen ++ line) more
+      (AppendsFront-then a b c (check_lines 1 h.seen) line h.out front)))
 
 module _ (first now : Answers → Type 0) (a b : Option (List ℕ)) (heard passed lines : ℕ) (h : Checked first now a b heard passed lines) (limit : ℕ) (known : Option (List ℕ)) (whole : IsWhole first limit known) where
   seen_whole : (fault : Option LogFault) → check_of (prepended h.seen (ended fault)) ≡ check_lines 1 h.seen ++ totals fault h.seen
@@ -135,17 +135,17 @@ module _ (first now : Answers → Type 0) (a b : Option (List ℕ)) (heard passe
       → RunsOver check_text lines_fault limit known (Ok tt) a c
   Checked-ended c may out =
       over check_of limit known (Ok tt) a c (prepended h.seen (ended None)) (whole _ (h.has.complete (ended None) may))
-          (refl, subst (Appends a c) (sym told) (Appends-trans a b c (check_lines 1 h.seen) (totals_line heard passed) h.out out))
+      (refl, subst (Appends a c) (sym told) (Appends-trans a b c (check_lines 1 h.seen) (totals_line heard passed) h.out out))
 
   -- the totals are refused
   pub Checked-totals_refused : (c : Option (List ℕ)) → now (ended None) → AppendsFront b c (totals_line heard passed)
       → RunsOver check_text lines_fault limit known (Err Write) a c
   Checked-totals_refused c may front =
       over check_of limit known (Err Write) a c (prepended h.seen (ended None)) (whole _ (h.has.complete (ended None) may))
-          (subst (AppendsFront a c) (sym told) (AppendsFront-then a b c (check_lines 1 h.seen) (totals_line heard passed) h.out front))
+      (subst (AppendsFront a c) (sym told) (AppendsFront-then a b c (check_lines 1 h.seen) (totals_line heard passed) h.out front))
 
   -- the log has a fault
   pub Checked-fault : (fault : LogFault) → now (ended (Some fault)) → RunsOver check_text lines_fault limit known (Err (Input 0 (Log fault))) a b
   Checked-fault fault may =
       over check_of limit known (Err (Input 0 (Log fault))) a b (prepended h.seen (ended (Some fault))) (whole _ (h.has.complete (ended (Some fault)) may))
-          (refl, refl, subst (Appends a b) (sym (seen_whole (Some fault) ∙ append-nil (check_lines 1 h.seen))) h.out)
+      (refl, refl, subst (Appends a b) (sym (seen_whole (Some fault) ∙ append-nil (check_lines 1 h.seen))) h.out)

@@ -79,10 +79,10 @@ Ran-refused form first now after limit known a b c x h next answers may front wh
     let f = line_text form in
     let all = prepended h.seen (then_given x answers) in
     let text : flat_map f all.given ≡ (flat_map f h.seen ++ f x) ++ flat_map f answers.given =
-        flat_map-append f h.seen (x ∷ answers.given) ∙ sym (append_assoc (flat_map f h.seen) (f x) (flat_map f answers.given)) in
+    flat_map-append f h.seen (x ∷ answers.given) ∙ sym (append_assoc (flat_map f h.seen) (f x) (flat_map f answers.given)) in
     over (lines_of form) limit known (Err Write) a c all (whole all (h.has.complete (then_given x answers) (next answers may)))
-        (subst (AppendsFront a c) (sym text) (AppendsFront-more a c (flat_map f h.seen ++ f x) (flat_map f answers.given)
-            (AppendsFront-then a b c (flat_map f h.seen) (f x) h.out front)))
+    (subst (AppendsFront a c) (sym text) (AppendsFront-more a c (flat_map f h.seen ++ f x) (flat_map f answers.given)
+    (AppendsFront-then a b c (flat_map f h.seen) (f x) h.out front)))
 
 -- what was written is the text of all answers, where none is left
 whole_text : (f : Line → List ℕ) (seen : List Line) (a b : Option (List ℕ)) → Appends a b (flat_map f seen) → Appends a b (flat_map f (seen ++ []))
@@ -94,7 +94,7 @@ pub Ran-ended : (form : Form) (first now : Answers → Type 0) (limit : ℕ) (kn
     → RunsOver (lines_text form) lines_fault limit known (Ok tt) a b
 Ran-ended form first now limit known a b h may whole =
     over (lines_of form) limit known (Ok tt) a b (prepended h.seen (ended None)) (whole _ (h.has.complete (ended None) may))
-        (refl, whole_text (line_text form) h.seen a b h.out)
+    (refl, whole_text (line_text form) h.seen a b h.out)
 
 -- the log has a fault
 pub Ran-fault : (form : Form) (first now : Answers → Type 0) (limit : ℕ) (known a b : Option (List ℕ)) (fault : LogFault)
@@ -102,4 +102,4 @@ pub Ran-fault : (form : Form) (first now : Answers → Type 0) (limit : ℕ) (kn
     → RunsOver (lines_text form) lines_fault limit known (Err (Input 0 (Log fault))) a b
 Ran-fault form first now limit known a b fault h may whole =
     over (lines_of form) limit known (Err (Input 0 (Log fault))) a b (prepended h.seen (ended (Some fault))) (whole _ (h.has.complete (ended (Some fault)) may))
-        (refl, refl, whole_text (line_text form) h.seen a b h.out)
+    (refl, refl, whole_text (line_text form) h.seen a b h.out)

@@ -53,11 +53,7 @@ pub fn check_run<R: Read, W: Write>(
 }
 
 /// Writes that a line is passed over, and why.
-fn write_passed<W: Write>(
-    w: &mut Counted<W>,
-    line: u64,
-    reason: Reason,
-) -> Result<(), WriteFault>
+fn write_passed<W: Write>(w: &mut Counted<W>, line: u64, reason: Reason) -> Result<(), WriteFault>
     ensures sent { OnOk result (Appends (W.contents (device_of w.old)) (W.contents (device_of w.new)) (passed_line line reason)) }
     ensures prefix { OnErr result (AppendsFront (W.contents (device_of w.old)) (W.contents (device_of w.new)) (passed_line line reason)) }
     ensures count { failures_of w.old ≤ failures_of w.new }
@@ -68,11 +64,7 @@ fn write_passed<W: Write>(
 }
 
 /// Writes how many lines are heard and how many passed over.
-fn write_totals<W: Write>(
-    w: &mut Counted<W>,
-    heard: u64,
-    passed: u64,
-) -> Result<(), WriteFault>
+fn write_totals<W: Write>(w: &mut Counted<W>, heard: u64, passed: u64) -> Result<(), WriteFault>
     ensures sent { OnOk result (Appends (W.contents (device_of w.old)) (W.contents (device_of w.new)) (totals_line heard passed)) }
     ensures prefix { OnErr result (AppendsFront (W.contents (device_of w.old)) (W.contents (device_of w.new)) (totals_line heard passed)) }
     ensures count { failures_of w.old ≤ failures_of w.new }

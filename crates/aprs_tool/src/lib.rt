@@ -9,6 +9,8 @@ mod fault;
 mod form;
 mod monitor;
 mod run;
+#[cfg(test)]
+mod tests;
 mod text;
 mod words;
 

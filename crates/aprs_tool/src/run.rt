@@ -29,6 +29,8 @@ pub fn convert_run<R: Read, W: Write>(
 {
     match &form {
         Form::Capture { receiver, moment } => capture(limit, receiver, moment, r, w),
-        Form::Text | Form::Kind | Form::Kiss | Form::Log => convert_lines(alloc, limit, &form, r, w),
+        Form::Text | Form::Kind | Form::Kiss | Form::Log => convert_lines(
+            alloc, limit, &form, r, w,
+        ),
     }
 }

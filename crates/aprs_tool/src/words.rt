@@ -49,8 +49,7 @@ pub fn job(alloc: Global, words: &[&str]) -> Result<Job, JobFault>
 /// The program's command is simple, whatever memory its forms stand in.
 pub fn command_is_simple()
     ensures { (p : ValueParser) → is_simple (program_app p) ≡ true }
-{
-}
+{}
 
 fn form_arg<'a>(alloc: Global) -> Arg<'a>
     ensures rule { (p : ValueParser) × IsForms p × (rule_of result ≡ form_rule p) }

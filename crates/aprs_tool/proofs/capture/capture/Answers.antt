@@ -26,5 +26,5 @@ loop-count-preserved g c = record {
 pub returns-in-Err-capture_chunk-clause-run : goal.returns-in-Err-capture_chunk-clause-run
 returns-in-Err-capture_chunk-clause-run g c =
     HasGot-refused c.args.receiver.now c.args.moment.now c.args.limit c.loop-count.left _ _ _ _ _ _ _ c.split_at.result.0.now
-        c.loop-count.invariant.got (subst (Consumes _ _) (sym c.split_at.ensures.front) c.in-Ok.ensures.bytes)
-        (omega (arith, c.split_at.ensures.front_len, c.in-Ok.ensures.some)) c.in-Err-capture_chunk.ensures.prefix
+    c.loop-count.invariant.got (subst (Consumes _ _) (sym c.split_at.ensures.front) c.in-Ok.ensures.bytes)
+    (omega (arith, c.split_at.ensures.front_len, c.in-Ok.ensures.some)) c.in-Err-capture_chunk.ensures.prefix

@@ -10,7 +10,7 @@ loop-rest-init g c = record { count = omega arith; captured = HasCaptured-none (
 pub returns-in-Err-clause-prefix : goal.returns-in-Err-clause-prefix
 returns-in-Err-clause-prefix g c =
     HasCaptured-refused (capture_text c.args.receiver.now c.args.moment.now) _ _ _ _ _ _ _ _ _ _ c.loop-rest.invariant.captured
-        (parts_of _ _ _ c.feed.result.0 refl refl) c.feed.ensures.judged c.in-Err.ensures.prefix
+    (parts_of _ _ _ c.feed.result.0 refl refl) c.feed.ensures.judged c.in-Err.ensures.prefix
 
 pub loop-rest-preserved : goal.loop-rest-preserved
 loop-rest-preserved g c = record {

@@ -44,8 +44,8 @@ pub returns-in-Err-write_passed-clause-run : goal.returns-in-Err-write_passed-cl
 returns-in-Err-write_passed-clause-run g c =
     let gives = rw (c.in-Ok-Some-Passed.field-0-is, c.in-Ok-Some-Passed.field-0-0-is) at c.in-Ok-Some-Passed.ensures.gives in
     Checked-refused _ _ _ _ _ _ _ _ c.loop-heard.invariant.checked _ gives.0 c.args.limit _ _ _ c.in-Ok-Some-Passed.reason
-        c.line.ensures gives.2 c.in-Ok-Some-Passed.ensures.awaits.0 c.in-Ok-Some-Passed.ensures.awaits.1
-        c.in-Err-write_passed.ensures.prefix c.new-reader.ensures.whole
+    c.line.ensures gives.2 c.in-Ok-Some-Passed.ensures.awaits.0 c.in-Ok-Some-Passed.ensures.awaits.1
+    c.in-Err-write_passed.ensures.prefix c.new-reader.ensures.whole
 
 pub returns-in-Ok-write_totals-clause-run : goal.returns-in-Ok-write_totals-clause-run
 returns-in-Ok-write_totals-clause-run g c =

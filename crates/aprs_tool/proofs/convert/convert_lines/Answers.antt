@@ -18,4 +18,4 @@ pub returns-in-Err-write_answer-clause-run : goal.returns-in-Err-write_answer-cl
 returns-in-Err-write_answer-clause-run g c =
     let gives = rw c.in-Ok-Some.field-0-is at c.in-Ok-Some.ensures.gives in
     Ran-refused c.args.form.now _ _ _ c.args.limit _ _ _ _ c.in-Ok-Some.line c.loop-line.invariant.ran gives.2
-        c.in-Ok-Some.ensures.awaits.0 c.in-Ok-Some.ensures.awaits.1 c.in-Err-write_answer.ensures.prefix c.new-reader.ensures.whole
+    c.in-Ok-Some.ensures.awaits.0 c.in-Ok-Some.ensures.awaits.1 c.in-Err-write_answer.ensures.prefix c.new-reader.ensures.whole

@@ -1,0 +1,3 @@
+//! Worked examples: runs, their faults, and the program's words.
+mod runs;
+mod words;

@@ -1,0 +1,180 @@
+//! Runs over logs and streams.
+use crate::{Form, InputFault, RunFault, check_run, convert_run, status_of};
+use aprs_kiss::Counted;
+use aprs_log::{LogCause, LogFault, MAX_INPUT, Moment, Receiver};
+use std::io::{self, Read, Write};
+use std::test::Fail;
+
+/// N0CALL-7 to APRS, with the information `>Hi`, as one receiver heard it.
+const LOG: &[u8] = b"2024-05-01T12:00:00Z RX1 c00082a0a4a64040e09c60868298986f03f03e4869c0\n";
+
+/// The same as a KISS frame.
+const FRAME: &[u8] =
+    b"\xc0\x00\x82\xa0\xa4\xa6\x40\x40\xe0\x9c\x60\x86\x82\x98\x98\x6f\x03\xf0>Hi\xc0";
+
+/// A first part that is whole, FESC with TFEND and FESC with TFESC in it, and two that hold FESC
+/// alone.
+const ESCAPED: &[u8] = b"2024-05-01T12:00:00Z RX1 c00082a0a4a64040e09c60868298986f03f03edbdcdbddc0
+2024-05-01T12:00:00Z RX1 c00082a0a4a64040e09c60868298986f03f03edb41c0
+2024-05-01T12:00:00Z RX1 c00082a0a4a64040e09c60868298986f03f03edbc0
+";
+
+/// How a run ended: the line and cause of its input's fault.
+fn fault_of(run: Result<(), RunFault>) -> Option<(u64, LogCause)> {
+    match run {
+        Err(
+            RunFault::Input {
+                fault: InputFault::Log(LogFault { line, cause }),
+                ..
+            },
+        ) => Some((line, cause)),
+        _ => None,
+    }
+}
+
+/// What a conversion writes, and its fault.
+fn converted(
+    rt: &HostRuntime,
+    limit: u64,
+    form: Form,
+    input: &[u8],
+) -> (Vec<u8>, Option<(u64, LogCause)>) {
+    let mut r = Counted::new(input);
+    let mut w = Counted::new(Vec::new(rt.alloc()));
+    let run = convert_run(rt.alloc(), limit, form, &mut r, &mut w);
+    (w.into_inner(), fault_of(run))
+}
+
+#[test]
+fn one_line_in_each_form(rt: HostRuntime) {
+    for (form, text) in [
+        (Form::Text, b"N0CALL-7>APRS:>Hi\n".as_slice()),
+        (Form::Kind, b"status N0CALL-7>APRS:>Hi\n".as_slice()),
+        (Form::Kiss, FRAME),
+        (Form::Log, LOG),
+    ] {
+        let (written, fault) = converted(&rt, MAX_INPUT, form, LOG);
+        assert_eq!(rt; written.as_slice(), text);
+        assert!(rt; fault.is_none());
+    }
+}
+
+#[test]
+fn a_limit_cuts_a_log(rt: HostRuntime) {
+    let (written, fault) = converted(&rt, 70, Form::Log, LOG);
+    assert_eq!(rt; written.as_slice(), LOG);
+    assert!(rt; fault.is_none());
+    let (written, fault) = converted(&rt, 69, Form::Log, LOG);
+    assert!(rt; written.is_empty());
+    assert!(rt; fault == Some((1, LogCause::TooLong)));
+}
+
+#[test]
+fn lines_that_hold_no_frame(rt: HostRuntime) {
+    let (written, fault) = converted(&rt, MAX_INPUT, Form::Text, ESCAPED);
+    assert_eq!(rt;
+        written.as_slice(),
+        b"N0CALL-7>APRS:>\\xc0\\xdb\n".as_slice()
+    );
+    assert!(rt; fault.is_none());
+    let mut r = Counted::new(ESCAPED);
+    let mut w = Counted::new(Vec::new(rt.alloc()));
+    let run = check_run(rt.alloc(), MAX_INPUT, &mut r, &mut w);
+    assert!(rt; run.is_ok());
+    assert_eq!(rt;
+        w.into_inner().as_slice(),
+        b"line 2 passed BadEscape\nline 3 passed BadEscape\nheard 1 passed 2\n".as_slice()
+    );
+}
+
+#[test]
+fn a_stream_is_captured(rt: HostRuntime) -> Result<(), Fail> {
+    let receiver = Receiver::parse(b"RX1").ok_or("a name")?;
+    let moment = Moment::parse(b"2024-05-01T12:00:00Z").ok_or("a moment")?;
+    let mut stream = Vec::new(rt.alloc());
+    stream.extend_from_slice(FRAME)?;
+    stream.extend_from_slice(b"\xc0\x50")?;
+    stream.extend_from_slice(&FRAME[2..])?;
+    stream.extend_from_slice(b"\x01\xaa\xc0\x00\x82")?;
+    let form = Form::Capture { receiver, moment };
+    let (written, fault) = converted(&rt, MAX_INPUT, form, stream.as_slice());
+    assert!(rt; fault.is_none());
+    let mut twice = Vec::new(rt.alloc());
+    twice.extend_from_slice(LOG)?;
+    twice.extend_from_slice(LOG)?;
+    assert!(rt; written == twice);
+    Ok(())
+}
+
+/// A reader that gives its bytes, and then fails.
+#[derive(Drop)]
+struct Failing<'a> {
+    bytes: &'a [u8],
+}
+
+impl Read for Failing<'_> {
+    fn read(&mut self, buf: &mut [u8]) -> io::Result<usize> {
+        let n = buf.len().min(self.bytes.len());
+        if n == 0 && !buf.is_empty() {
+            return Err(io::Error::from(io::ErrorKind::Other));
+        }
+        let (front, rest) = self.bytes.split_at(n);
+        buf[..n].copy_from_slice(front);
+        self.bytes = rest;
+        Ok(n)
+    }
+}
+
+/// A writer that refuses all.
+#[derive(Drop)]
+struct Full;
+
+impl Write for Full {
+    fn write(&mut self, _: &[u8]) -> io::Result<usize> {
+        Err(io::Error::from(io::ErrorKind::Other))
+    }
+
+    fn flush(&mut self) -> io::Result<()> {
+        Ok(())
+    }
+}
+
+#[test]
+fn devices_that_fail(rt: HostRuntime) {
+    let mut r = Counted::new(Failing { bytes: LOG });
+    let mut w = Counted::new(Vec::new(rt.alloc()));
+    let run = convert_run(rt.alloc(), MAX_INPUT, Form::Text, &mut r, &mut w);
+    assert!(rt; fault_of(run) == Some((2, LogCause::Read)));
+    assert_eq!(rt; r.failures(), 1);
+    assert_eq!(rt;
+        w.into_inner().as_slice(),
+        b"N0CALL-7>APRS:>Hi\n".as_slice()
+    );
+    let mut w = Counted::new(Full);
+    let run = convert_run(
+        rt.alloc(),
+        MAX_INPUT,
+        Form::Log,
+        &mut Counted::new(LOG),
+        &mut w,
+    );
+    assert!(rt; matches!(&run, Err(RunFault::Write)));
+    assert_eq!(rt; w.failures(), 1);
+}
+
+#[test]
+fn statuses(rt: HostRuntime) {
+    for (cause, status) in [
+        (LogCause::Moment, 1),
+        (LogCause::Read, 1),
+        (LogCause::TooLong, 1),
+        (LogCause::Memory, 4),
+    ] {
+        let fault = RunFault::Input {
+            index: 0,
+            fault: InputFault::Log(LogFault { line: 1, cause }),
+        };
+        assert_eq!(rt; status_of(&fault), status);
+    }
+    assert_eq!(rt; status_of(&RunFault::Write), 3);
+}
