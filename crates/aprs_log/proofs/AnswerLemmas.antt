@@ -37,37 +37,51 @@ above text h = grind (arith, nat_tests)
 
 -- the first line of what is held is answered, whatever comes after what is held
 from_first : (n : ℕ) (held more : List ℕ) (c : Ending) → position_or_len is_lf held < length held
-    → answers_from n (held ++ more) c ≡ then_answers n (line_of (before_first is_lf held)) (answers_from (n + 1) (after_first is_lf held ++ more) c)
+    → answers_from n (held ++ more) c
+    ≡ then_answers n (line_of (before_first is_lf held))
+    (answers_from (n + 1) (after_first is_lf held ++ more) c)
 from_first n held more c h =
     let i = position_or_len is_lf held in
     let front = before_first is_lf held in
     let after = after_first is_lf held in
     let lf = get_or held i 0 in
-    let none : All (λ x. is_lf x ≡ false) front = λ k d lt. let low : k < i = omega (arith, simp length-take at lt) in
+    let none : All (λ x. is_lf x ≡ false) front = λ k d lt. let low : k < i
+    = omega (arith, simp length-take at lt) in
     ap is_lf (get_or-take i held k d low) ∙ fails_before_first is_lf held k d low in
-    let cut : held ++ more ≡ front ++ lf ∷ (after ++ more) = ap (λ l. l ++ more) (split_at_first is_lf held 0 h) ∙ append_assoc front (lf ∷ after) more in
+    let cut : held ++ more ≡ front ++ lf ∷ (after ++ more)
+    = ap (λ l. l ++ more) (split_at_first is_lf held 0 h)
+    ∙ append_assoc front (lf ∷ after) more in
     ap (λ l. answers_of n (slice_split is_lf l) c) cut
-    ∙ ap (λ parts. answers_of n parts c) (slice_split_at is_lf front lf (after ++ more) none (passes_at_first is_lf held 0 h))
-    ∙ answers_of-more n front (slice_split is_lf (after ++ more)) c (omega (arith, length-slice_split is_lf (after ++ more)))
+    ∙ ap (λ parts. answers_of n parts c)
+    (slice_split_at is_lf front lf (after ++ more) none (passes_at_first is_lf held 0 h))
+    ∙ answers_of-more n front (slice_split is_lf (after ++ more)) c
+    (omega (arith, length-slice_split is_lf (after ++ more)))
 
-pub answers_from-line : (n : ℕ) (held more : List ℕ) (c : Ending) (cut : Cut) → cut_at 10 held ≡ Some cut
-    → answers_from n (held ++ more) c ≡ then_answers n (line_of cut.before) (answers_from (n + 1) (cut.after ++ more) c)
+pub answers_from-line : (n : ℕ) (held more : List ℕ) (c : Ending) (cut : Cut)
+    → cut_at 10 held ≡ Some cut
+    → answers_from n (held ++ more) c
+    ≡ then_answers n (line_of cut.before) (answers_from (n + 1) (cut.after ++ more) c)
 unfolding cut_at
 answers_from-line n held more c cut e =
-    let parts = found (has_byte 10 held) (record { before = before_first is_lf held; after = after_first is_lf held }) cut e in
+    let parts = found (has_byte 10 held)
+    (record { before = before_first is_lf held; after = after_first is_lf held }) cut e in
     from_first n held more c (below held parts.0)
-    ∙ ap (λ (x : Cut). then_answers n (line_of x.before) (answers_from (n + 1) (x.after ++ more) c)) parts.1
+    ∙ ap (λ (x : Cut). then_answers n (line_of x.before)
+    (answers_from (n + 1) (x.after ++ more) c)) parts.1
 
 -- ---- what stands after the last LF
 
 pub no_lf : (text : List ℕ) → cut_at 10 text ≡ None → length text ≤ position_or_len is_lf text
 unfolding cut_at
-no_lf text e = above text (missing (has_byte 10 text) (record { before = before_first is_lf text; after = after_first is_lf text }) e)
+no_lf text e = above text
+    (missing (has_byte 10 text)
+    (record { before = before_first is_lf text; after = after_first is_lf text }) e)
 
 pub answers_from-tail : (n : ℕ) (t : List ℕ) (c : Ending) → length t ≤ position_or_len is_lf t
     → answers_from n t c ≡ ended (fault_at n (tail_cause t c))
 answers_from-tail n t c h =
-    let all : All (λ x. is_lf x ≡ false) t = λ k d i. fails_before_first is_lf t k d (omega arith) in
+    let all : All (λ x. is_lf x ≡ false) t
+    = λ k d i. fails_before_first is_lf t k d (omega arith) in
     ap (λ parts. answers_of n parts c) (slice_split_none is_lf t all)
 
 -- ---- more bytes than a line may have, and no LF: the line is too long, whatever comes
@@ -76,14 +90,16 @@ too_long_line : (l : List ℕ) → 8192 < length l → line_of l ≡ Err fault.L
 unfolding line_of
 too_long_line l h = by (nat_lt 8192 (length l)) refl
   where
-    by : (b : Bool) → b ≡ nat_lt 8192 (length l) → cond b (Err fault.LongLine) (line_of_cut (cut_at 32 l)) ≡ Err fault.LongLine
+    by : (b : Bool) → b ≡ nat_lt 8192 (length l)
+        → cond b (Err fault.LongLine) (line_of_cut (cut_at 32 l)) ≡ Err fault.LongLine
     by true e = refl
     by false e = absurd (grind (arith, nat_tests))
 
 too_long_tail : (l : List ℕ) (c : Ending) → 8192 < length l → tail_cause l c ≡ Some cause.LongLine
 too_long_tail l c h = grind (arith, nat_tests)
 
-not_below : (held more : List ℕ) → length held ≤ position_or_len is_lf held → position_or_len is_lf (held ++ more) < length held → ⊥
+not_below : (held more : List ℕ) → length held ≤ position_or_len is_lf held
+    → position_or_len is_lf (held ++ more) < length held → ⊥
 not_below held more h lt =
     let i = position_or_len is_lf (held ++ more) in
     let found = passes_at_first is_lf (held ++ more) 0 (simp length-append (omega arith)) in
@@ -91,10 +107,12 @@ not_below held more h lt =
     let missed = fails_before_first is_lf held i 0 (omega arith) in
     let bad : true ≡ false = sym found ∙ ap is_lf same ∙ missed in cc
 
-past : (held more : List ℕ) → length held ≤ position_or_len is_lf held → length held ≤ position_or_len is_lf (held ++ more)
+past : (held more : List ℕ) → length held ≤ position_or_len is_lf held
+    → length held ≤ position_or_len is_lf (held ++ more)
 past held more h = omega (arith, not_below held more h)
 
-pub answers_from-long : (n : ℕ) (held more : List ℕ) (c : Ending) → length held ≤ position_or_len is_lf held → 8192 < length held
+pub answers_from-long : (n : ℕ) (held more : List ℕ) (c : Ending)
+    → length held ≤ position_or_len is_lf held → 8192 < length held
     → answers_from n (held ++ more) c ≡ ended (fault_at n (Some cause.LongLine))
 answers_from-long n held more c none long =
     let all = held ++ more in
@@ -103,5 +121,6 @@ answers_from-long n held more c none long =
       | inl lt ↦ ap (λ l. answers_from n l c) (sym (append-nil all)) ∙ from_first n all [] c lt
           ∙ ap (λ r. then_answers n r (answers_from (n + 1) (after_first is_lf all ++ []) c))
           (too_long_line (before_first is_lf all) (simp length-take (omega arith)))
-      | inr ge ↦ answers_from-tail n all c ge ∙ ap (λ o. ended (fault_at n o)) (too_long_tail all c (simp length-append (omega arith)))
+      | inr ge ↦ answers_from-tail n all c ge
+          ∙ ap (λ o. ended (fault_at n o)) (too_long_tail all c (simp length-append (omega arith)))
     ]

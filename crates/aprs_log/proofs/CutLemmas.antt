@@ -16,20 +16,30 @@ none_if true x e = absurd (let f : true ≡ false = e in cc)
 none_if false x e = refl
 
 parts_of : (stop : ℕ) (text : List ℕ) → Cut
-parts_of stop text = record { before = before_first (is_byte stop) text; after = after_first (is_byte stop) text }
+parts_of stop text = record
+    { before = before_first (is_byte stop) text; after = after_first (is_byte stop) text }
 
-pub cut_at-found : (stop : ℕ) (text : List ℕ) (n : ℕ) → n ≡ position_or_len (is_byte stop) text → n < length text
-    → Some (record { before = take n text; after = take (length text - (n + 1)) (drop (n + 1) text) }) ≡ cut_at stop text
+pub cut_at-found : (stop : ℕ) (text : List ℕ) (n : ℕ) → n ≡ position_or_len (is_byte stop) text
+    → n < length text
+    → Some (record {
+      before = take n text;
+      after = take (length text - (n + 1)) (drop (n + 1) text);
+    }) ≡ cut_at stop text
 unfolding cut_at parts_of
 cut_at-found stop text n e h =
     let has : has_byte stop text ≡ true = grind (arith, nat_tests) in
     let before : take n text ≡ before_first (is_byte stop) text = ap (λ k. take k text) e in
     let after : take (length text - (n + 1)) (drop (n + 1) text) ≡ after_first (is_byte stop) text
     = take_rest text (n + 1) ∙ ap (λ k. drop (k + 1) text) e in
-    let same : (record { before = take n text; after = take (length text - (n + 1)) (drop (n + 1) text) }) ≡ parts_of stop text = cc in
+    let same : (record {
+      before = take n text;
+      after
+          = take (length text - (n + 1)) (drop (n + 1) text);
+    }) ≡ parts_of stop text = cc in
     ap (λ (x : Cut). Some x) same ∙ some_if (has_byte stop text) (parts_of stop text) has
 
-pub cut_at-missing : (stop : ℕ) (text : List ℕ) → length text ≤ position_or_len (is_byte stop) text → None ≡ cut_at stop text
+pub cut_at-missing : (stop : ℕ) (text : List ℕ) → length text ≤ position_or_len (is_byte stop) text
+    → None ≡ cut_at stop text
 unfolding cut_at parts_of
 cut_at-missing stop text h =
     let has : has_byte stop text ≡ false = grind (arith, nat_tests) in
@@ -39,17 +49,21 @@ cut_at-missing stop text h =
 abbrev pub Lacks : ℕ → List ℕ → Type 0
 Lacks stop text = AllByRecursion (λ b. is_byte stop b ≡ false) text
 
-position-here : (stop : ℕ) (rest : List ℕ) (b : Bool) → is_byte stop stop ≡ b → b ≡ true → position_or_len (is_byte stop) (stop ∷ rest) ≡ 0
+position-here : (stop : ℕ) (rest : List ℕ) (b : Bool) → is_byte stop stop ≡ b → b ≡ true
+    → position_or_len (is_byte stop) (stop ∷ rest) ≡ 0
 position-here stop rest b e h = let f : is_byte stop stop ≡ true = e ∙ h in rw f refl
 
 position-next : (stop x : ℕ) (text : List ℕ) → is_byte stop x ≡ false
     → position_or_len (is_byte stop) (x ∷ text) ≡ position_or_len (is_byte stop) text + 1
 position-next stop x text h = rw h (omega arith)
 
-position-lacks : (stop : ℕ) (front rest : List ℕ) → Lacks stop front → position_or_len (is_byte stop) (front ++ stop ∷ rest) ≡ length front
-position-lacks stop [] rest h = position-here stop rest (is_byte stop stop) refl (eq-eqb stop stop refl)
+position-lacks : (stop : ℕ) (front rest : List ℕ) → Lacks stop front
+    → position_or_len (is_byte stop) (front ++ stop ∷ rest) ≡ length front
+position-lacks stop [] rest h = position-here stop rest (is_byte stop stop) refl
+    (eq-eqb stop stop refl)
 position-lacks stop (x ∷ front) rest h =
-    position-next stop x (front ++ stop ∷ rest) h.0 ∙ omega (arith, position-lacks stop front rest h.1)
+    position-next stop x (front ++ stop ∷ rest) h.0
+    ∙ omega (arith, position-lacks stop front rest h.1)
 
 -- a text is cut where a byte stands behind a front without it
 pub cut_at-append : (stop : ℕ) (front rest : List ℕ) → Lacks stop front
@@ -60,8 +74,10 @@ cut_at-append stop front rest h =
     let at = position-lacks stop front rest h in
     let len : length text ≡ length front + (length rest + 1) = simp length-append (omega arith) in
     let has : has_byte stop text ≡ true = grind (arith, nat_tests) in
-    let before : before_first (is_byte stop) text ≡ front = ap (λ n. take n text) at ∙ take-append_seam front (stop ∷ rest) in
-    let after : after_first (is_byte stop) text ≡ rest = ap (λ n. drop (n + 1) text) at ∙ drop-append-add front (stop ∷ rest) 1 in
+    let before : before_first (is_byte stop) text ≡ front = ap (λ n. take n text) at
+    ∙ take-append_seam front (stop ∷ rest) in
+    let after : after_first (is_byte stop) text ≡ rest = ap (λ n. drop (n + 1) text) at
+    ∙ drop-append-add front (stop ∷ rest) 1 in
     let same : parts_of stop text ≡ (record { before = front; after = rest }) = cc in
     sym (some_if (has_byte stop text) (parts_of stop text) has) ∙ ap (λ (x : Cut). Some x) same
 
@@ -70,10 +86,12 @@ some_of_if : (b : Bool) (x y : Cut) → cond b (Some x) None ≡ Some y → (b �
 some_of_if true x y e = (refl, cc)
 some_of_if false x y e = absurd cc
 
-below_len : (stop : ℕ) (text : List ℕ) → has_byte stop text ≡ true → position_or_len (is_byte stop) text < length text
+below_len : (stop : ℕ) (text : List ℕ) → has_byte stop text ≡ true
+    → position_or_len (is_byte stop) text < length text
 below_len stop text h = grind (arith, nat_tests)
 
-pub cut_at-parts : (stop : ℕ) (text : List ℕ) (cut : Cut) → cut_at stop text ≡ Some cut → text ≡ cut.before ++ stop ∷ cut.after
+pub cut_at-parts : (stop : ℕ) (text : List ℕ) (cut : Cut) → cut_at stop text ≡ Some cut
+    → text ≡ cut.before ++ stop ∷ cut.after
 unfolding cut_at parts_of
 cut_at-parts stop text cut e =
     let found = some_of_if (has_byte stop text) (parts_of stop text) cut e in
@@ -85,14 +103,18 @@ cut_at-parts stop text cut e =
     ∙ ap (λ (c : Cut). c.before ++ stop ∷ c.after) found.1
 
 -- what stands after the byte is no longer than all
-pub cut_at-after : (stop : ℕ) (text : List ℕ) (cut : Cut) → Some cut ≡ cut_at stop text → length cut.after ≤ length text
+pub cut_at-after : (stop : ℕ) (text : List ℕ) (cut : Cut) → Some cut ≡ cut_at stop text
+    → length cut.after ≤ length text
 cut_at-after stop text cut e =
-    let len : length (cut.before ++ stop ∷ cut.after) ≡ length cut.before + (length cut.after + 1) = simp length-append (omega arith) in
+    let len : length (cut.before ++ stop ∷ cut.after) ≡ length cut.before + (length cut.after + 1)
+    = simp length-append (omega arith) in
     omega (arith, len, ap length (cut_at-parts stop text cut (sym e)))
 
-cut_len : (stop : ℕ) (text : List ℕ) (cut : Cut) → cut_at stop text ≡ Some cut → length text ≡ length cut.before + 1 + length cut.after
+cut_len : (stop : ℕ) (text : List ℕ) (cut : Cut) → cut_at stop text ≡ Some cut
+    → length text ≡ length cut.before + 1 + length cut.after
 cut_len stop text cut e =
-    let len : length (cut.before ++ stop ∷ cut.after) ≡ length cut.before + (length cut.after + 1) = simp length-append (omega arith) in
+    let len : length (cut.before ++ stop ∷ cut.after) ≡ length cut.before + (length cut.after + 1)
+    = simp length-append (omega arith) in
     omega (arith, len, ap length (cut_at-parts stop text cut e))
 
 -- what is left once the first part and the byte are gone
@@ -102,13 +124,15 @@ pub record Taken (stop : ℕ) (text : List ℕ) (cut : Cut) : Type 0 where
   pub left : drop (length cut.before + 1) text ≡ cut.after
   pub len : length text ≡ length cut.before + 1 + length cut.after
 
-pub taken : (stop : ℕ) (part text : List ℕ) (cut : Cut) → Some cut ≡ cut_at stop part → part ≡ text → Taken stop text cut
+pub taken : (stop : ℕ) (part text : List ℕ) (cut : Cut) → Some cut ≡ cut_at stop part → part ≡ text
+    → Taken stop text cut
 taken stop part text cut e same =
     let is : cut_at stop text ≡ Some cut = sym (e ∙ ap (cut_at stop) same) in
     let parts = cut_at-parts stop text cut is in
     record {
       is = is;
       used = omega (arith, cut_len stop text cut is);
-      left = ap (λ t. drop (length cut.before + 1) t) parts ∙ drop-append-add cut.before (stop ∷ cut.after) 1;
+      left = ap (λ t. drop (length cut.before + 1) t) parts
+          ∙ drop-append-add cut.before (stop ∷ cut.after) 1;
       len = cut_len stop text cut is;
     }

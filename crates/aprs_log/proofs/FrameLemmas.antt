@@ -57,7 +57,7 @@ module _ (laws : StreamLaws) (used more : List ℕ) (j : Judgement) (u : UsedTo 
   frame_in-two other =
       let rest = rest_nil (rest_of (used ++ more)) e in
       let moved : rest_of (used ++ more) ≡ rest_of more
-          = laws.left used more ∙ ap (λ l. rest_of (l ++ more)) u.left in
+      = laws.left used more ∙ ap (λ l. rest_of (l ++ more)) u.left in
       let some = tells_other laws more (sym moved ∙ rest) other in
       sym (frame_in-ended (used ++ more) e ∙ ap only_frame told_then
       ∙ two_frames j (judgements_of more) some)
@@ -89,52 +89,56 @@ used_to bytes n j f =
 same_some : (x y : Result (List ℕ) Reason) → Some x ≡ Some y → x ≡ y
 same_some x y e = cc
 
-module _ (laws : StreamLaws) (bytes : List ℕ) (n : ℕ) (e : false ≡ is_nonempty (rest_of bytes)) where
-  told_nothing : FedOnce bytes n [] → Err reason.NoFrame ≡ frame_in bytes
-  told_nothing f =
-      let all : take n bytes ≡ bytes = ap (λ k. take k bytes) (f.whole refl) ∙ take-length bytes in
-      let none = ap judgements_of (sym all) ∙ f.judged in
-      sym (frame_in-ended bytes (sym e) ∙ ap only_frame none)
+module _ (laws : StreamLaws) (bytes : List ℕ) (n : ℕ) (e : false ≡ is_nonempty (rest_of bytes))
+  where
+    told_nothing : FedOnce bytes n [] → Err reason.NoFrame ≡ frame_in bytes
+    told_nothing f =
+        let all : take n bytes ≡ bytes = ap (λ k. take k bytes) (f.whole refl)
+        ∙ take-length bytes in
+        let none = ap judgements_of (sym all) ∙ f.judged in
+        sym (frame_in-ended bytes (sym e) ∙ ap only_frame none)
 
-  ended : is_nonempty (rest_of (take n bytes ++ after_used bytes n)) ≡ false
-  ended = ap (λ l. is_nonempty (rest_of l)) (again bytes n) ∙ sym e
+    ended : is_nonempty (rest_of (take n bytes ++ after_used bytes n)) ≡ false
+    ended = ap (λ l. is_nonempty (rest_of l)) (again bytes n) ∙ sym e
 
-  told_one : (j : Judgement) → FedOnce bytes n (j ∷ [])
-      → false ≡ has_other (take (length bytes - n) (drop n bytes))
-      → only_frame (j ∷ []) ≡ frame_in bytes
-  unfolding after_used
-  told_one j f alone =
-      frame_in-one laws (take n bytes) (after_used bytes n) j (used_to bytes n j f) ended (sym alone)
-      ∙ ap frame_in (again bytes n)
+    told_one : (j : Judgement) → FedOnce bytes n (j ∷ [])
+        → false ≡ has_other (take (length bytes - n) (drop n bytes))
+        → only_frame (j ∷ []) ≡ frame_in bytes
+    unfolding after_used
+    told_one j f alone =
+        frame_in-one laws (take n bytes) (after_used bytes n) j (used_to bytes n j f) ended
+        (sym alone)
+        ∙ ap frame_in (again bytes n)
 
-  told_two : (j : Judgement) → FedOnce bytes n (j ∷ [])
-      → true ≡ has_other (take (length bytes - n) (drop n bytes))
-      → Err reason.TwoFrames ≡ frame_in bytes
-  unfolding after_used
-  told_two j f other =
-      frame_in-two laws (take n bytes) (after_used bytes n) j (used_to bytes n j f) ended (sym other)
-      ∙ ap frame_in (again bytes n)
+    told_two : (j : Judgement) → FedOnce bytes n (j ∷ [])
+        → true ≡ has_other (take (length bytes - n) (drop n bytes))
+        → Err reason.TwoFrames ≡ frame_in bytes
+    unfolding after_used
+    told_two j f other =
+        frame_in-two laws (take n bytes) (after_used bytes n) j (used_to bytes n j f) ended
+        (sym other)
+        ∙ ap frame_in (again bytes n)
 
-  pub fed_none : (fed : Fed) → FedOnce bytes n (told_by fed) → None ≡ first_frame (told_by fed)
-      → Err reason.NoFrame ≡ frame_in bytes
-  fed_none Nothing f none = told_nothing f
-  fed_none (Frame port frame) f none = absurd cc
-  fed_none (Passed fault) f none = absurd cc
+    pub fed_none : (fed : Fed) → FedOnce bytes n (told_by fed) → None ≡ first_frame (told_by fed)
+        → Err reason.NoFrame ≡ frame_in bytes
+    fed_none Nothing f none = told_nothing f
+    fed_none (Frame port frame) f none = absurd cc
+    fed_none (Passed fault) f none = absurd cc
 
-  pub fed_two : (fed : Fed) (r : Result (List ℕ) Reason) → FedOnce bytes n (told_by fed)
-      → Some r ≡ first_frame (told_by fed)
-      → true ≡ has_other (take (length bytes - n) (drop n bytes))
-      → Err reason.TwoFrames ≡ frame_in bytes
-  fed_two Nothing r f some other = absurd cc
-  fed_two (Frame port frame) r f some other = told_two _ f other
-  fed_two (Passed fault) r f some other = told_two _ f other
+    pub fed_two : (fed : Fed) (r : Result (List ℕ) Reason) → FedOnce bytes n (told_by fed)
+        → Some r ≡ first_frame (told_by fed)
+        → true ≡ has_other (take (length bytes - n) (drop n bytes))
+        → Err reason.TwoFrames ≡ frame_in bytes
+    fed_two Nothing r f some other = absurd cc
+    fed_two (Frame port frame) r f some other = told_two _ f other
+    fed_two (Passed fault) r f some other = told_two _ f other
 
-  pub fed_one : (fed : Fed) (r : Result (List ℕ) Reason) → FedOnce bytes n (told_by fed)
-      → Some r ≡ first_frame (told_by fed)
-      → false ≡ has_other (take (length bytes - n) (drop n bytes)) → r ≡ frame_in bytes
-  fed_one Nothing r f some alone = absurd cc
-  fed_one (Frame port frame) r f some alone = same_some r _ some ∙ told_one _ f alone
-  fed_one (Passed fault) r f some alone = same_some r _ some ∙ told_one _ f alone
+    pub fed_one : (fed : Fed) (r : Result (List ℕ) Reason) → FedOnce bytes n (told_by fed)
+        → Some r ≡ first_frame (told_by fed)
+        → false ≡ has_other (take (length bytes - n) (drop n bytes)) → r ≡ frame_in bytes
+    fed_one Nothing r f some alone = absurd cc
+    fed_one (Frame port frame) r f some alone = same_some r _ some ∙ told_one _ f alone
+    fed_one (Passed fault) r f some alone = same_some r _ some ∙ told_one _ f alone
 
 -- ---- what is written for a frame
 
@@ -144,6 +148,6 @@ pub frame_in-kiss_text : WrittenLaws → (frame : List ℕ) → length frame ≤
 frame_in-kiss_text laws frame len is =
     let data_frame = Ok (record { port = 0; bytes = frame }) in
     let told = laws.read_back [] frame laws.begins.1 len
-        ∙ ap (λ js. js ++ data_frame ∷ []) laws.begins.0 in
+    ∙ ap (λ js. js ++ data_frame ∷ []) laws.begins.0 in
     let rest = ap is_nonempty (laws.read_whole [] frame) in
     frame_in-ended (kiss_text frame) rest ∙ ap only_frame told ∙ ap frame_or_reason is

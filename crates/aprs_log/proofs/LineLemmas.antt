@@ -96,7 +96,8 @@ civil_text-lacks c h = (
 )
 
 MomentText-lacks : (m : ℕ) (t : List ℕ) → MomentText m t → Lacks 32 t
-MomentText-lacks m t h = subst (Lacks 32) (sym h.spelled) (civil_text-lacks h.civil (IsCivil-fits h.civil h.real))
+MomentText-lacks m t h = subst (Lacks 32) (sym h.spelled)
+    (civil_text-lacks h.civil (IsCivil-fits h.civil h.real))
 
 -- ---- a line's fields and its answer
 
@@ -108,22 +109,26 @@ if_false : (b : Bool) (x y : Result Line LineFault) → ¬ (b ≡ true) → cond
 if_false true x y e = absurd (e refl)
 if_false false x y e = refl
 
-not_long : (l : List ℕ) (x : Result Line LineFault) → length l ≤ 8192 → cond (nat_lt 8192 (length l)) (Err fault.LongLine) x ≡ x
+not_long : (l : List ℕ) (x : Result Line LineFault) → length l ≤ 8192
+    → cond (nat_lt 8192 (length l)) (Err fault.LongLine) x ≡ x
 not_long l x h = grind (arith, nat_tests)
 
 -- a line of this syntax is sound, whatever its bytes are
-pub line_of-syntax : (l : List ℕ) → length l ≤ 8192 → (s : LineSyntax l) → line_of l ≡ Ok (heard_or_passed s.moment s.receiver (frame_in s.bytes))
+pub line_of-syntax : (l : List ℕ) → length l ≤ 8192 → (s : LineSyntax l)
+    → line_of l ≡ Ok (heard_or_passed s.moment s.receiver (frame_in s.bytes))
 unfolding line_of
 line_of-syntax l h s =
     let rest = s.receiver ++ 32 ∷ s.digits in
     let first = cut_at-append 32 s.text rest (MomentText-lacks s.moment s.text s.is_moment) in
     let next = cut_at-append 32 s.receiver s.digits (IsName-lacks s.receiver s.is_receiver) in
-    let whole : l ≡ s.text ++ 32 ∷ rest = s.spelled ∙ append_assoc s.text (32 ∷ s.receiver) (32 ∷ s.digits) in
+    let whole : l ≡ s.text ++ 32 ∷ rest = s.spelled
+    ∙ append_assoc s.text (32 ∷ s.receiver) (32 ∷ s.digits) in
     not_long l (line_of_cut (cut_at 32 l)) h
     ∙ ap (λ t. line_of_cut (cut_at 32 t)) whole ∙ ap line_of_cut first
     ∙ ap (λ m. line_after_moment m (cut_at 32 rest)) (text-moment_of s.text s.moment s.is_moment)
     ∙ ap (λ c. line_after_moment (Some s.moment) c) next
-    ∙ if_true (is_name s.receiver) (line_of_bytes s.moment s.receiver (decode_of s.digits)) (Err fault.Receiver) s.is_receiver
+    ∙ if_true (is_name s.receiver) (line_of_bytes s.moment s.receiver (decode_of s.digits))
+    (Err fault.Receiver) s.is_receiver
     ∙ ap (λ d. line_of_bytes s.moment s.receiver d) s.is_hex
 
 -- ---- a sound line has this syntax
@@ -135,12 +140,14 @@ record ReceiverFound (o : Option Cut) : Type 0 where
   is_receiver : IsName next.before
   is_hex : decode_of next.after ≡ Ok bytes
 
-bytes_found : (m : ℕ) (r : List ℕ) (o : Result (List ℕ) FromHexError) → IsOk (line_of_bytes m r o) → (bytes : List ℕ) × (o ≡ Ok bytes)
+bytes_found : (m : ℕ) (r : List ℕ) (o : Result (List ℕ) FromHexError) → IsOk (line_of_bytes m r o)
+    → (bytes : List ℕ) × (o ≡ Ok bytes)
 bytes_found m r (Ok bytes) h = (bytes, refl)
 bytes_found m r (Err e) h = absurd cc
 
 name_found : (m : ℕ) (next : Cut) (b : Bool) → b ≡ is_name next.before
-    → IsOk (cond b (line_of_bytes m next.before (decode_of next.after)) (Err fault.Receiver)) → ReceiverFound (Some next)
+    → IsOk (cond b (line_of_bytes m next.before (decode_of next.after)) (Err fault.Receiver))
+    → ReceiverFound (Some next)
 name_found m next true e h =
     let found = bytes_found m next.before (decode_of next.after) h in
     record { next = next; bytes = found.0; is = refl; is_receiver = sym e; is_hex = found.1 }
@@ -155,7 +162,8 @@ record MomentFound (o : Option ℕ) (next : Option Cut) : Type 0 where
   is : o ≡ Some moment
   found : ReceiverFound next
 
-moment_found : (o : Option ℕ) (next : Option Cut) → IsOk (line_after_moment o next) → MomentFound o next
+moment_found : (o : Option ℕ) (next : Option Cut) → IsOk (line_after_moment o next)
+    → MomentFound o next
 moment_found None next h = absurd cc
 moment_found (Some m) next h = record { moment = m; is = refl; found = receiver_found m next h }
 
@@ -173,11 +181,13 @@ cut_found l (Some first) e h =
       is_moment = moment_of-text first.before m.moment m.is;
       is_receiver = r.is_receiver;
       is_hex = r.is_hex;
-      spelled = cut_at-parts 32 l first e ∙ ap (λ t. first.before ++ 32 ∷ t) (cut_at-parts 32 first.after r.next r.is)
+      spelled = cut_at-parts 32 l first e
+          ∙ ap (λ t. first.before ++ 32 ∷ t) (cut_at-parts 32 first.after r.next r.is)
           ∙ sym (append_assoc first.before (32 ∷ r.next.before) (32 ∷ r.next.after));
     }
 
-short_found : (l : List ℕ) (b : Bool) → b ≡ nat_lt 8192 (length l) → IsOk (cond b (Err fault.LongLine) (line_of_cut (cut_at 32 l)))
+short_found : (l : List ℕ) (b : Bool) → b ≡ nat_lt 8192 (length l)
+    → IsOk (cond b (Err fault.LongLine) (line_of_cut (cut_at 32 l)))
     → (length l ≤ 8192) × LineSyntax l
 short_found l true e h = absurd cc
 short_found l false e h = (grind (arith, nat_tests), cut_found l (cut_at 32 l) refl h)
@@ -193,47 +203,62 @@ module _ (l : List ℕ) (short : length l ≤ 8192) where
   unfolding line_of
   line_of-uncut e = ap line_of_cut e ∙ sym (not_long l (line_of_cut (cut_at 32 l)) short)
 
-  pub line_of-cut : (first : Cut) → Some first ≡ cut_at 32 l → line_after_moment (moment_of first.before) (cut_at 32 first.after) ≡ line_of l
+  pub line_of-cut : (first : Cut) → Some first ≡ cut_at 32 l
+      → line_after_moment (moment_of first.before) (cut_at 32 first.after) ≡ line_of l
   unfolding line_of
   line_of-cut first e = ap line_of_cut e ∙ sym (not_long l (line_of_cut (cut_at 32 l)) short)
 
-  pub line_of-no_moment : (first : Cut) → Some first ≡ cut_at 32 l → None ≡ moment_of first.before → Err fault.Moment ≡ line_of l
-  line_of-no_moment first e none = ap (λ m. line_after_moment m (cut_at 32 first.after)) none ∙ line_of-cut first e
+  pub line_of-no_moment : (first : Cut) → Some first ≡ cut_at 32 l → None ≡ moment_of first.before
+      → Err fault.Moment ≡ line_of l
+  line_of-no_moment first e none = ap (λ m. line_after_moment m (cut_at 32 first.after)) none
+      ∙ line_of-cut first e
 
-  pub line_of-one_cut : (first : Cut) (m : ℕ) → Some first ≡ cut_at 32 l → Some m ≡ moment_of first.before → None ≡ cut_at 32 first.after
+  pub line_of-one_cut : (first : Cut) (m : ℕ) → Some first ≡ cut_at 32 l
+      → Some m ≡ moment_of first.before → None ≡ cut_at 32 first.after
       → Err fault.Receiver ≡ line_of l
   line_of-one_cut first m e read none =
-      ap (λ next. line_after_moment (Some m) next) none ∙ ap (λ m. line_after_moment m (cut_at 32 first.after)) read ∙ line_of-cut first e
+      ap (λ next. line_after_moment (Some m) next) none
+      ∙ ap (λ m. line_after_moment m (cut_at 32 first.after)) read ∙ line_of-cut first e
 
-  fields : (first next : Cut) (m : ℕ) → Some first ≡ cut_at 32 l → Some m ≡ moment_of first.before → Some next ≡ cut_at 32 first.after
+  fields : (first next : Cut) (m : ℕ) → Some first ≡ cut_at 32 l → Some m ≡ moment_of first.before
+      → Some next ≡ cut_at 32 first.after
       → line_after_moment (Some m) (Some next) ≡ line_of l
   fields first next m e read second =
-      ap (λ next. line_after_moment (Some m) next) second ∙ ap (λ m. line_after_moment m (cut_at 32 first.after)) read ∙ line_of-cut first e
+      ap (λ next. line_after_moment (Some m) next) second
+      ∙ ap (λ m. line_after_moment m (cut_at 32 first.after)) read ∙ line_of-cut first e
 
-  pub line_of-no_name : (first next : Cut) (m : ℕ) → Some first ≡ cut_at 32 l → Some m ≡ moment_of first.before → Some next ≡ cut_at 32 first.after
+  pub line_of-no_name : (first next : Cut) (m : ℕ) → Some first ≡ cut_at 32 l
+      → Some m ≡ moment_of first.before → Some next ≡ cut_at 32 first.after
       → ¬ IsName next.before → Err fault.Receiver ≡ line_of l
   line_of-no_name first next m e read second none =
-      sym (if_false (is_name next.before) (line_of_bytes m next.before (decode_of next.after)) (Err fault.Receiver) none) ∙ fields first next m e read second
+      sym (if_false (is_name next.before) (line_of_bytes m next.before (decode_of next.after))
+      (Err fault.Receiver) none) ∙ fields first next m e read second
 
-  pub line_of-fields : (first next : Cut) (m : ℕ) (r : List ℕ) → Some first ≡ cut_at 32 l → Some m ≡ moment_of first.before
-      → Some next ≡ cut_at 32 first.after → IsName next.before → r ≡ next.before → line_of_bytes m r (decode_of next.after) ≡ line_of l
+  pub line_of-fields : (first next : Cut) (m : ℕ) (r : List ℕ) → Some first ≡ cut_at 32 l
+      → Some m ≡ moment_of first.before
+      → Some next ≡ cut_at 32 first.after → IsName next.before → r ≡ next.before
+      → line_of_bytes m r (decode_of next.after) ≡ line_of l
   line_of-fields first next m r e read second name is =
       ap (λ r. line_of_bytes m r (decode_of next.after)) is
-      ∙ sym (if_true (is_name next.before) (line_of_bytes m next.before (decode_of next.after)) (Err fault.Receiver) name) ∙ fields first next m e read second
+      ∙ sym (if_true (is_name next.before) (line_of_bytes m next.before (decode_of next.after))
+      (Err fault.Receiver) name) ∙ fields first next m e read second
 
 pub line_of-long : (l : List ℕ) → 8192 < length l → Err fault.LongLine ≡ line_of l
 unfolding line_of
 line_of-long l h = by (nat_lt 8192 (length l)) refl
   where
-    by : (b : Bool) → b ≡ nat_lt 8192 (length l) → Err fault.LongLine ≡ cond b (Err fault.LongLine) (line_of_cut (cut_at 32 l))
+    by : (b : Bool) → b ≡ nat_lt 8192 (length l)
+        → Err fault.LongLine ≡ cond b (Err fault.LongLine) (line_of_cut (cut_at 32 l))
     by true e = refl
     by false e = absurd (grind (arith, nat_tests))
 
-ok_is : (m : ℕ) (r : List ℕ) (bytes : List ℕ) (x : Result Line LineFault) → x ≡ Ok (heard_or_passed m r (frame_in bytes)) → IsOk x
+ok_is : (m : ℕ) (r : List ℕ) (bytes : List ℕ) (x : Result Line LineFault)
+    → x ≡ Ok (heard_or_passed m r (frame_in bytes)) → IsOk x
 ok_is m r bytes x e = subst (λ y. IsOk y) (sym e) refl
 
 -- sound exactly where it has the syntax
-pub IsOk-line_of : (l : List ℕ) (x : Result Line LineFault) → x ≡ line_of l → IsOk x ↔ ((length l ≤ 8192) × LineSyntax l)
+pub IsOk-line_of : (l : List ℕ) (x : Result Line LineFault) → x ≡ line_of l
+    → IsOk x ↔ ((length l ≤ 8192) × LineSyntax l)
 IsOk-line_of l x e = (
   λ h. line_of-sound l (subst (λ y. IsOk y) e h),
   λ h. ok_is h.1.moment h.1.receiver h.1.bytes x (e ∙ line_of-syntax l h.0 h.1),

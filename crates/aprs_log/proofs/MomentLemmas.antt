@@ -27,7 +27,8 @@ pair-two_digits n h =
     omega (arith, a, b)
 
 four : (n : ℕ) → n < 10000
-    → 100 * (10 * digit_of (48 + n / 100 / 10) + digit_of (48 + n / 100 % 10)) + (10 * digit_of (48 + n % 100 / 10) + digit_of (48 + n % 100 % 10)) ≡ n
+    → 100 * (10 * digit_of (48 + n / 100 / 10) + digit_of (48 + n / 100 % 10))
+    + (10 * digit_of (48 + n % 100 / 10) + digit_of (48 + n % 100 % 10)) ≡ n
 four n h =
     let a = pair-two_digits (n / 100) (omega arith) in
     let b = pair-two_digits (n % 100) (omega arith) in
@@ -43,7 +44,8 @@ civil_of year month day hour minute second = record {
   second = second;
 }
 
-same_civil : (y m d h n s y' m' d' h' n' s' : ℕ) → y ≡ y' → m ≡ m' → d ≡ d' → h ≡ h' → n ≡ n' → s ≡ s'
+same_civil : (y m d h n s y' m' d' h' n' s' : ℕ) → y ≡ y' → m ≡ m' → d ≡ d' → h ≡ h' → n ≡ n'
+    → s ≡ s'
     → civil_of y m d h n s ≡ civil_of y' m' d' h' n' s'
 same_civil y m d h n s y' m' d' h' n' s' year month day hour minute second = cc
 
@@ -79,7 +81,8 @@ is_civil-IsCivil c h =
     let r = p.1 in
     let low : 1970 ≤ c.year = grind (arith, nat_tests) in
     let high : c.year ≤ 2099 = grind (arith, nat_tests) in
-    let month : (1 ≤ c.month) × (c.month ≤ 12) = (grind (arith, nat_tests), grind (arith, nat_tests)) in
+    let month : (1 ≤ c.month) × (c.month ≤ 12)
+    = (grind (arith, nat_tests), grind (arith, nat_tests)) in
     let first : 1 ≤ c.day = grind (arith, nat_tests) in
     let last : c.day ≤ days_in_month (pos c.year) c.month = grind (arith, nat_tests) in
     record {
@@ -104,18 +107,21 @@ IsCivil-is_civil c h = grind (arith, nat_tests)
 
 -- a civil time's seconds are those of its day and of the days before it
 pub seconds_of-number : (c : Civil) → IsCivil c
-    → pos (seconds_of c) ≡ (days_from_civil (pos c.year) c.month c.day *ℤ pos 86400) +ℤ pos (second_of_day c)
+    → pos (seconds_of c)
+    ≡ (days_from_civil (pos c.year) c.month c.day *ℤ pos 86400) +ℤ pos (second_of_day c)
 seconds_of-number c h =
     let day = unsigned_abs (days_from_civil (pos c.year) c.month c.day) in
     let e = IsDay-number c.year c.month c.day h.date in
-    let number : pos (86400 * day + second_of_day c) ≡ (pos day *ℤ pos 86400) +ℤ pos (second_of_day c) = omega (arith, signed_arith) in
+    let number : pos (86400 * day + second_of_day c)
+    ≡ (pos day *ℤ pos 86400) +ℤ pos (second_of_day c) = omega (arith, signed_arith) in
     number ∙ ap (λ z. (z *ℤ pos 86400) +ℤ pos (second_of_day c)) e
 
 pos_same : (a b : ℕ) → pos a ≡ pos b → a ≡ b
 pos_same a b e = cc
 
 number-seconds_of : (m : ℕ) (c : Civil) → IsCivil c
-    → pos m ≡ (days_from_civil (pos c.year) c.month c.day *ℤ pos 86400) +ℤ pos (second_of_day c) → m ≡ seconds_of c
+    → pos m ≡ (days_from_civil (pos c.year) c.month c.day *ℤ pos 86400) +ℤ pos (second_of_day c)
+    → m ≡ seconds_of c
 number-seconds_of m c h e = pos_same m (seconds_of c) (e ∙ sym (seconds_of-number c h))
 
 some_if : (b : Bool) (x m : ℕ) → cond b (Some x) None ≡ Some m → (b ≡ true) × (x ≡ m)
@@ -146,9 +152,11 @@ unfolding moment_of
 moment_of-civil c h =
     let t = civil_text c in
     let e = civil_at-civil_text c (IsCivil-fits c h) in
-    let there : moment_of t ≡ (cond (is_civil c && bytes_eq (civil_text c) t) (Some (seconds_of c)) None)
+    let there : moment_of t
+    ≡ (cond (is_civil c && bytes_eq (civil_text c) t) (Some (seconds_of c)) None)
     = ap (λ c. cond (is_civil c && bytes_eq (civil_text c) t) (Some (seconds_of c)) None) e in
-    there ∙ if_both (is_civil c) (bytes_eq t t) (seconds_of c) (IsCivil-is_civil c h) ((bytes_eq-Decides t t).1 refl)
+    there ∙ if_both (is_civil c) (bytes_eq t t) (seconds_of c) (IsCivil-is_civil c h)
+    ((bytes_eq-Decides t t).1 refl)
 
 pub text-moment_of : (t : List ℕ) (m : ℕ) → MomentText m t → moment_of t ≡ Some m
 text-moment_of t m h = ap moment_of h.spelled ∙ moment_of-civil h.civil h.real
@@ -156,7 +164,8 @@ text-moment_of t m h = ap moment_of h.spelled ∙ moment_of-civil h.civil h.real
 
 -- a moment has one text
 parts_of_day : (a b : Civil) → IsCivil a → IsCivil b → seconds_of a ≡ seconds_of b
-    → (unsigned_abs (days_from_civil (pos a.year) a.month a.day) ≡ unsigned_abs (days_from_civil (pos b.year) b.month b.day))
+    → (unsigned_abs (days_from_civil (pos a.year) a.month a.day)
+    ≡ unsigned_abs (days_from_civil (pos b.year) b.month b.day))
     × (a.hour ≡ b.hour) × (a.minute ≡ b.minute) × (a.second ≡ b.second)
 parts_of_day a b h k e = (omega arith, omega arith, omega arith, omega arith)
 
@@ -165,12 +174,14 @@ one_civil a b h k e =
     let parts = parts_of_day a b h k e in
     let x = IsDay-number a.year a.month a.day h.date in
     let y = IsDay-number b.year b.month b.day k.date in
-    let day = one_date a.year a.month a.day b.year b.month b.day h.date k.date (sym x ∙ ap (λ n. pos n) parts.0 ∙ y) in
+    let day = one_date a.year a.month a.day b.year b.month b.day h.date k.date (sym x
+    ∙ ap (λ n. pos n) parts.0 ∙ y) in
     same_civil _ _ _ _ _ _ _ _ _ _ _ _ day.year day.month day.day parts.1 parts.2 parts.3
 
 pub one_text : (m : ℕ) (t u : List ℕ) → MomentText m t → MomentText m u → t ≡ u
 one_text m t u h k =
-    let same = sym (number-seconds_of m h.civil h.real h.number) ∙ number-seconds_of m k.civil k.real k.number in
+    let same = sym (number-seconds_of m h.civil h.real h.number)
+    ∙ number-seconds_of m k.civil k.real k.number in
     h.spelled ∙ ap civil_text (one_civil h.civil k.civil h.real k.real same) ∙ sym k.spelled
 
 -- ---- what the code knows of a text
@@ -184,24 +195,30 @@ no_if false b x h = refl
 pub moment_of-unread : (t : List ℕ) → ¬ (civil_text (civil_at t) ≡ t) → None ≡ moment_of t
 unfolding moment_of
 moment_of-unread t h = let c = civil_at t in
-    sym (no_if (is_civil c) (bytes_eq (civil_text c) t) (seconds_of c) (λ _ e. h ((bytes_eq-Decides (civil_text c) t).0 e)))
+    sym (no_if (is_civil c) (bytes_eq (civil_text c) t) (seconds_of c)
+    (λ _ e. h ((bytes_eq-Decides (civil_text c) t).0 e)))
 
 -- the places hold no real time
 pub moment_of-unreal : (t : List ℕ) → ¬ IsCivil (civil_at t) → None ≡ moment_of t
 unfolding moment_of
 moment_of-unreal t h = let c = civil_at t in
-    sym (no_if (is_civil c) (bytes_eq (civil_text c) t) (seconds_of c) (λ e _. h (is_civil-IsCivil c e)))
+    sym (no_if (is_civil c) (bytes_eq (civil_text c) t) (seconds_of c)
+    (λ e _. h (is_civil-IsCivil c e)))
 
-pub moment_of-read : (t : List ℕ) → civil_text (civil_at t) ≡ t → IsCivil (civil_at t) → Some (seconds_of (civil_at t)) ≡ moment_of t
+pub moment_of-read : (t : List ℕ) → civil_text (civil_at t) ≡ t → IsCivil (civil_at t)
+    → Some (seconds_of (civil_at t)) ≡ moment_of t
 unfolding moment_of
 moment_of-read t e h = let c = civil_at t in
-    sym (if_both (is_civil c) (bytes_eq (civil_text c) t) (seconds_of c) (IsCivil-is_civil c h) ((bytes_eq-Decides (civil_text c) t).1 e))
+    sym (if_both (is_civil c) (bytes_eq (civil_text c) t) (seconds_of c) (IsCivil-is_civil c h)
+    ((bytes_eq-Decides (civil_text c) t).1 e))
 
-pub IsExact : (t : List ℕ) (r : Option ℕ) → r ≡ moment_of t → (m : ℕ) → (r ≡ Some m) ↔ MomentText m t
+pub IsExact : (t : List ℕ) (r : Option ℕ) → r ≡ moment_of t → (m : ℕ)
+    → (r ≡ Some m) ↔ MomentText m t
 IsExact t r e m = (λ h. moment_of-text t m (sym e ∙ h), λ h. e ∙ text-moment_of t m h)
 
 -- the text of a real time
-pub civil_text-moment : (c : Civil) (m : ℕ) → IsCivil c → seconds_of c ≡ m → MomentText m (civil_text c)
+pub civil_text-moment : (c : Civil) (m : ℕ) → IsCivil c → seconds_of c ≡ m
+    → MomentText m (civil_text c)
 civil_text-moment c m h e = record {
   civil = c;
   real = h;
@@ -222,11 +239,19 @@ moment_text-is m h =
     let s = m % 86400 in
     let d = civil_after-day m h in
     let sum : 86400 * n + (s / 3600 * 3600 + s / 60 % 60 * 60 + s % 60) ≡ m = omega arith in
-    let number : pos (86400 * n + (s / 3600 * 3600 + s / 60 % 60 * 60 + s % 60)) ≡ (pos n *ℤ pos 86400) +ℤ pos (s / 3600 * 3600 + s / 60 % 60 * 60 + s % 60)
+    let number : pos (86400 * n + (s / 3600 * 3600 + s / 60 % 60 * 60 + s % 60))
+    ≡ (pos n *ℤ pos 86400) +ℤ pos (s / 3600 * 3600 + s / 60 % 60 * 60 + s % 60)
     = omega (arith, signed_arith) in
     record {
       civil = civil_after m;
-      real = record { date = d.date; hour = omega arith; minute = omega arith; second = omega arith };
-      number = ap (λ k. pos k) (sym sum) ∙ number ∙ ap (λ z. (z *ℤ pos 86400) +ℤ pos (s / 3600 * 3600 + s / 60 % 60 * 60 + s % 60)) d.number;
+      real = record {
+        date = d.date;
+        hour = omega arith;
+        minute = omega arith;
+        second = omega arith;
+      };
+      number = ap (λ k. pos k) (sym sum) ∙ number
+          ∙ ap (λ z. (z *ℤ pos 86400) +ℤ pos (s / 3600 * 3600 + s / 60 % 60 * 60 + s % 60))
+          d.number;
       spelled = refl;
     }

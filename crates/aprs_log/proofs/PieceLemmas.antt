@@ -32,7 +32,7 @@ front_and_last xs h =
     let end : suc n ≡ length xs = omega arith in
     let past : drop (suc n) xs ≡ [] = ap (λ k. drop k xs) end ∙ drop-length xs in
     let last : drop n xs ≡ get_or xs n 0 ∷ []
-        = drop-cons xs n 0 low ∙ ap (λ l. get_or xs n 0 ∷ l) past in
+    = drop-cons xs n 0 low ∙ ap (λ l. get_or xs n 0 ∷ l) past in
     ap (λ l. take n xs ++ l) (sym last) ∙ take-append-drop n xs
 
 -- a stream that ends at a frame end, and in which a byte from `more` on is none, tells something
@@ -95,14 +95,14 @@ module _ (laws : StreamLaws) where
       let regroup : ended ++ more ≡ d ++ 0xC0 ∷ more = append_assoc d (0xC0 ∷ []) more in
       let rest = judgements_of (rest_of ended ++ more) in
       let told : judgements_of (ended ++ more) ≡ judgement_of d ∷ rest
-          = laws.told ended more ∙ ap (λ js. js ++ rest) (laws.ended d h some) in
+      = laws.told ended more ∙ ap (λ js. js ++ rest) (laws.ended d h some) in
       omega (arith, ap length (ap judgements_of (sym regroup) ∙ told))
 
   tells_end : (d more : List ℕ) → Tells [] more → Tells d (0xC0 ∷ more)
   tells_end [] more rest p w (inl s) = absurd (omega (arith, s))
   tells_end [] more rest p w (inr s) =
       let left : rest_of (0xC0 ∷ more) ≡ rest_of more
-          = laws.left (0xC0 ∷ []) more ∙ ap (λ l. rest_of (l ++ more)) (laws.at_end []) in
+      = laws.left (0xC0 ∷ []) more ∙ ap (λ l. rest_of (l ++ more)) (laws.at_end []) in
       rw (after_end more) (rest no_end-nil (sym left ∙ w) (inr s))
   tells_end (y ∷ d) more rest p w s = told_first (y ∷ d) more p (omega arith)
 

@@ -31,11 +31,15 @@ spelling_of-nil = refl
 
 -- ---- what the loop over a frame's bytes has put
 
-pub sent_first : (start now : List ℕ) → start ≡ [] → now ≡ start ++ 0xC0 ∷ 0 ∷ [] → now ≡ 0xC0 ∷ 0 ∷ spelling_of []
-sent_first start now e f = f ∙ ap (λ l. l ++ 0xC0 ∷ 0 ∷ []) e ∙ ap (λ l. 0xC0 ∷ 0 ∷ l) (sym spelling_of-nil)
+pub sent_first : (start now : List ℕ) → start ≡ [] → now ≡ start ++ 0xC0 ∷ 0 ∷ []
+    → now ≡ 0xC0 ∷ 0 ∷ spelling_of []
+sent_first start now e f = f ∙ ap (λ l. l ++ 0xC0 ∷ 0 ∷ []) e
+    ∙ ap (λ l. 0xC0 ∷ 0 ∷ l) (sym spelling_of-nil)
 
-pub sent_more : (frame before now : List ℕ) (i : ℕ) → i < length frame → before ≡ 0xC0 ∷ 0 ∷ spelling_of (take i frame)
-    → now ≡ before ++ spelling_of_byte (get_or frame i 0) → now ≡ 0xC0 ∷ 0 ∷ spelling_of (take (i + 1) frame)
+pub sent_more : (frame before now : List ℕ) (i : ℕ) → i < length frame
+    → before ≡ 0xC0 ∷ 0 ∷ spelling_of (take i frame)
+    → now ≡ before ++ spelling_of_byte (get_or frame i 0)
+    → now ≡ 0xC0 ∷ 0 ∷ spelling_of (take (i + 1) frame)
 sent_more frame before now i h e f =
     let b = get_or frame i 0 in
     f ∙ ap (λ l. l ++ spelling_of_byte b) e
@@ -61,7 +65,8 @@ real x text e moment receiver frame few = record {
   few = omega arith;
 }
 
-pub line_of-written : WrittenLaws → (x : Heard) → IsReal x → decode_of (encode_lower (kiss_text x.frame)) ≡ Ok (kiss_text x.frame)
+pub line_of-written : WrittenLaws → (x : Heard) → IsReal x
+    → decode_of (encode_lower (kiss_text x.frame)) ≡ Ok (kiss_text x.frame)
     → length (written_line x) ≤ 8192 → line_of (written_line x) ≡ Ok (line.Heard x)
 line_of-written laws x h digits short =
     line_of-syntax (written_line x) short (record {
@@ -75,7 +80,8 @@ line_of-written laws x h digits short =
       is_hex = digits;
       spelled = refl;
     })
-    ∙ ap (λ r. Ok (heard_or_passed x.moment x.receiver r)) (frame_in-kiss_text laws x.frame h.few h.frame)
+    ∙ ap (λ r. Ok (heard_or_passed x.moment x.receiver r))
+    (frame_in-kiss_text laws x.frame h.few h.frame)
 
 -- ---- a frame's bytes are read as it
 

@@ -1,4 +1,4 @@
--- What a reader of a log may still answer, by what it holds. No public contract cites this module by itself.
+-- What a reader of a log may still answer, by what it holds.
 use Rattle.std.specs.Prelude.{◌≡◌, ◌≢◌, ℕ, ◌+◌, List, [], ◌++◌, Option, None, Some, IfSome}
 use Rattle.aprs_log.specs.LogAnswers.{Answers, answers_from, ended, Gets}
 use Rattle.aprs_log.specs.declared.fault.LogCause.{LogCause}

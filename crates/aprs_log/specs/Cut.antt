@@ -14,10 +14,14 @@ pub record Cut : Type 0 where
 abbrev pub has_byte : ℕ → List ℕ → Bool
 has_byte stop text = nat_lt (position_or_len (is_byte stop) text) (length text)
 
+abbrev pub first_cut : ℕ → List ℕ → Cut
+first_cut stop text = record {
+  before = before_first (is_byte stop) text;
+  after = after_first (is_byte stop) text;
+}
+
 unfoldable pub cut_at : ℕ → List ℕ → Option Cut
-cut_at stop text =
-    if has_byte stop text then Some (record { before = before_first (is_byte stop) text; after = after_first (is_byte stop) text })
-    else None
+cut_at stop text = if has_byte stop text then Some (first_cut stop text) else None
 
 -- the two parts that a function lends
 abbrev pub cut_of : Bor (List ℕ) × Bor (List ℕ) → Cut

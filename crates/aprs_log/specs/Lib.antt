@@ -1,4 +1,5 @@
 -- Definitions that contracts of a log cite.
+pub use Rattle.aprs_kiss.specs.Device
 pub mod Awaits
 pub mod Bytes
 pub mod Cut

@@ -37,7 +37,8 @@ only_frame (piece ∷ []) = frame_in_piece piece
 only_frame (piece ∷ next ∷ more) = Err reason.TwoFrames
 
 unfoldable pub frame_in : List ℕ → Result (List ℕ) Reason
-frame_in bytes = if is_nonempty (rest_of bytes) then Err reason.Unended else only_frame (judgements_of bytes)
+frame_in bytes =
+    if is_nonempty (rest_of bytes) then Err reason.Unended else only_frame (judgements_of bytes)
 
 -- ---- a line's fields, from the left
 
@@ -53,7 +54,8 @@ abbrev pub line_after_moment : Option ℕ → Option Cut → Result Line LineFau
 line_after_moment None next = Err fault.Moment
 line_after_moment (Some m) None = Err fault.Receiver
 line_after_moment (Some m) (Some next) =
-    if is_name next.before then line_of_bytes m next.before (decode_of next.after) else Err fault.Receiver
+    if is_name next.before then line_of_bytes m next.before (decode_of next.after)
+    else Err fault.Receiver
 
 abbrev pub line_of_cut : Option Cut → Result Line LineFault
 line_of_cut None = Err fault.Moment

@@ -42,7 +42,8 @@ second_of_day c = c.hour * 3600 + c.minute * 60 + c.second
 pub record MomentText (m : ℕ) (t : List ℕ) : Type 0 where
   pub civil : Civil
   pub real : IsCivil civil
-  pub number : pos m ≡ (days_from_civil (pos civil.year) civil.month civil.day *ℤ pos 86400) +ℤ pos (second_of_day civil)
+  pub number : pos m ≡ (days_from_civil (pos civil.year) civil.month civil.day *ℤ pos 86400)
+      +ℤ pos (second_of_day civil)
   pub spelled : t ≡ civil_text civil
 
 -- ---- a moment's one text, as a function
@@ -55,7 +56,8 @@ pub record Day : Type 0 where
 -- the day after this one
 abbrev pub next_day : Day → Day
 next_day d =
-    if nat_lt d.day (days_in_month (pos d.year) d.month) then record { year = d.year; month = d.month; day = d.day + 1 }
+    if nat_lt d.day (days_in_month (pos d.year) d.month)
+    then record { year = d.year; month = d.month; day = d.day + 1 }
     else (if nat_lt d.month 12 then record { year = d.year; month = d.month + 1; day = 1 }
     else record { year = d.year + 1; month = 1; day = 1 })
 

@@ -47,8 +47,13 @@ answer_at (Some f) = Err f
 
 -- the answer is the next of those that may come, where the reader and what its device has left
 -- were `old` and `known`, and now are `new` and `after`
-abbrev pub GivesNext : {R : Type 0} → Result (Option Line) LogFault → Option (List ℕ) → LogReader R → Option (List ℕ) → LogReader R → Type 0
-GivesNext (Ok (Some x)) known old after new = (lines_of new ≡ lines_of old + 1) × (stop_of new ≡ None)
+abbrev pub GivesNext : {R : Type 0} → Result (Option Line) LogFault → Option (List ℕ) → LogReader R
+    → Option (List ℕ) → LogReader R → Type 0
+GivesNext (Ok (Some x)) known old after new =
+    (lines_of new ≡ lines_of old + 1) × (stop_of new ≡ None)
     × ((a : Answers) → Awaits after new a → Awaits known old (then_given x a))
-GivesNext (Ok None) known old after new = (lines_of new ≡ lines_of old) × (stop_of new ≡ Some None) × Awaits known old (ended None)
-GivesNext (Err f) known old after new = (lines_of new ≡ lines_of old) × (stop_of new ≡ Some (Some f)) × Awaits known old (ended (Some f))
+GivesNext (Ok None) known old after new =
+    (lines_of new ≡ lines_of old) × (stop_of new ≡ Some None) × Awaits known old (ended None)
+GivesNext (Err f) known old after new =
+    (lines_of new ≡ lines_of old) × (stop_of new ≡ Some (Some f))
+    × Awaits known old (ended (Some f))

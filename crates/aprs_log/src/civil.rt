@@ -93,7 +93,7 @@ impl CivilTime {
         }
     }
 
-    /// The seconds from 1970-01-01T00:00:00Z to this time, where the calendar and the clock have it.
+    /// The seconds from 1970-01-01T00:00:00Z to this time, where the calendar and the day have it.
     pub fn seconds(&self) -> Option<u64>
         ensures value { SomeIff result (IsCivil self.now) (seconds_of self.now) }
         ensures bound { IfSome result (λ n. n ≤ 4102444799) }

@@ -9,7 +9,8 @@ pub const MAX_BYTES: usize = 4096;
 /// is one: an even number of digits, `A` to `F` in either case.
 pub fn decode_into(text: &[u8], room: &mut [u8; MAX_BYTES]) -> Option<usize>
     requires { length text.now ≤ 8192 }
-    ensures { MatchOption result (¬ IsOk (decode_of text.now)) (λ n. (n ≤ 4096) × (decode_of text.now ≡ Ok (take n room.new))) }
+    ensures { MatchOption result (¬ IsOk (decode_of text.now))
+        (λ n. (n ≤ 4096) × (decode_of text.now ≡ Ok (take n room.new))) }
 {
     if !text.len().is_multiple_of(2) {
         return None;
@@ -25,7 +26,8 @@ pub fn decode_into(text: &[u8], room: &mut [u8; MAX_BYTES]) -> Option<usize>
 /// Whether the bytes of a hexadecimal text now fill `out`.
 fn decode_to(text: &[u8], out: &mut [u8]) -> bool
     requires { length text.now ≡ 2 * length out.old }
-    ensures { MatchResult (decode_of text.now) (λ bytes. (result ≡ true) × (out.new ≡ bytes)) (λ e. result ≡ false) }
+    ensures { MatchResult (decode_of text.now) (λ bytes. (result ≡ true) × (out.new ≡ bytes))
+        (λ e. result ≡ false) }
 {
     hex::decode_to_slice(text, out).is_ok()
 }

@@ -22,9 +22,9 @@ pub enum Line {
 }
 
 /// What a line tells, without its LF: a moment, a space, a receiver's name, a space, and the bytes
-/// that the receiver gave in hexadecimal, in which one KISS frame stands. Or the first fault of
-/// `LongLine`, `Moment`, `Receiver` and `Hex`. What the bytes are is no fault of the line: it is then
-/// passed over. Takes no memory.
+/// that the receiver gave, in hexadecimal. Or the first fault of `LongLine`, `Moment`, `Receiver`
+/// and `Hex`. Bytes that aren't one KISS frame with an AX.25 frame in it are no fault: such a line
+/// is passed over. Takes no memory.
 pub fn read_line(line: &[u8]) -> Result<Line, LineFault>
     ensures line { result ≡ line_of line.now }
     // Whatever the bytes are, a line of this syntax is not refused.

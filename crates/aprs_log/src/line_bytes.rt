@@ -7,7 +7,9 @@ ghost use Rattle.aprs_log.specs.Line.{frame_in};
 
 use crate::fault::Reason;
 use aprs_ax25::Frame;
-use aprs_kiss::{Fed, KissReader, a_stream_is_its_pieces, cuts_change_nothing, frame_ends_end_pieces};
+use aprs_kiss::{
+    Fed, KissReader, a_stream_is_its_pieces, cuts_change_nothing, frame_ends_end_pieces,
+};
 
 /// Stands before and after a frame.
 const FEND: u8 = 0xC0;

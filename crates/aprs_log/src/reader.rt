@@ -32,8 +32,9 @@ impl<'a, R: Read> LogReader<'a, R> {
     ghost use Rattle.aprs_log.specs.Window.{items};
     ghost use Rattle.aprs_log.specs.Reader.{answer_at, Awaits, AreAnswersOf, GivesNext, lines_of, loan_of, source_of, stop_of, work_of};
 
-    /// A reader of the log that `head` and then the bytes of `source` are, of which it takes at most
-    /// `limit` bytes. It reads nothing yet, refuses nothing and takes no memory.
+    /// A reader of the log that begins with `head` and goes on with the bytes of `source`, of which
+    /// it takes at most `limit` bytes, the head among them. It reads nothing yet, refuses nothing
+    /// and takes no memory.
     pub fn new(
         _alloc: Global,
         limit: u64,
@@ -49,9 +50,11 @@ impl<'a, R: Read> LogReader<'a, R> {
         ensures going { stop_of result ≡ None }
         // What may come are the answers of the whole log.
         ensures whole { (a : Answers) → Awaits (R.remaining (device_of (source_of result))) result a
-            → IfSome (R.remaining (device_of source.old)) (λ input. AreAnswersOf limit (head.now ++ input) a) }
+            → IfSome (R.remaining (device_of source.old))
+            (λ input. AreAnswersOf limit (head.now ++ input) a) }
         // Some answers may always come.
-        ensures awaits { (a : Answers) × Awaits (R.remaining (device_of (source_of result))) result a }
+        ensures awaits { (a : Answers)
+            × Awaits (R.remaining (device_of (source_of result))) result a }
     {
         LogReader {
             source,
@@ -76,21 +79,23 @@ impl<'a, R: Read> LogReader<'a, R> {
         self.source.failures()
     }
 
-    /// The next line, where there is one, or `None` at the end, or the fault at which the log is read
-    /// no further, with the number of its line. After a fault it answers the same fault, and after the
-    /// end `None`, and reads no more. Takes no memory.
+    /// The next line, or `None` at the end, or the fault at which the log is read no further, with
+    /// the number of its line. After a fault it answers that fault for good, and after the end
+    /// `None`, and reads no more. All lines before a fault are given first. Takes no memory.
     pub fn next(&mut self) -> Result<Option<Line>, LogFault>
         ensures same_reference { loan_of self.new ≡ loan_of self.old }
         ensures count { failures_of (source_of self.old) ≤ failures_of (source_of self.new) }
         ensures gives { GivesNext result (R.remaining (device_of (source_of self.old))) self.old
             (R.remaining (device_of (source_of self.new))) self.new }
         // What it came to stays, and it reads no more.
-        ensures repeats { (stop : Option LogFault) → stop_of self.old ≡ Some stop → result ≡ answer_at stop }
+        ensures repeats { (stop : Option LogFault) → stop_of self.old ≡ Some stop
+            → result ≡ answer_at stop }
         ensures stays { (stop : Option LogFault) → stop_of self.old ≡ Some stop
             → (stop_of self.new ≡ Some stop) × (source_of self.new ≡ source_of self.old) }
         ensures number { IfErr result (λ f. f.line ≡ lines_of self.new + 1) }
         // Some answers may always come.
-        ensures awaits { (a : Answers) × Awaits (R.remaining (device_of (source_of self.new))) self.new a }
+        ensures awaits { (a : Answers)
+            × Awaits (R.remaining (device_of (source_of self.new))) self.new a }
         ensures read { IfErr result (λ f. f.cause ≡ LogCause.Read → stop_of self.old ≡ None
             → Rose (failures_of (source_of self.old)) (failures_of (source_of self.new))) }
         ensures memory { IfErr result (λ f. f.cause ≢ LogCause.Memory) }
@@ -122,8 +127,8 @@ impl<'a, R: Read> LogReader<'a, R> {
         requires { self.old.state ≡ State.Reading }
         ensures same_reference { loan_of self.new ≡ loan_of self.old }
         ensures count { failures_of (source_of self.old) ≤ failures_of (source_of self.new) }
-        ensures given { IfSome result (λ x. (lines_of self.new ≡ lines_of self.old + 1) × ((a : Answers)
-            → Awaits (R.remaining (device_of (source_of self.new))) self.new a
+        ensures given { IfSome result (λ x. (lines_of self.new ≡ lines_of self.old + 1)
+            × ((a : Answers) → Awaits (R.remaining (device_of (source_of self.new))) self.new a
             → Awaits (R.remaining (device_of (source_of self.old))) self.old (then_given x a))) }
         ensures none { IfNone result ((lines_of self.new ≡ lines_of self.old) × ((a : Answers)
             → Awaits (R.remaining (device_of (source_of self.new))) self.new a
@@ -156,7 +161,8 @@ impl<'a, R: Read> LogReader<'a, R> {
         ensures same_reference { loan_of self.new ≡ loan_of self.old }
         ensures count { failures_of (source_of self.old) ≤ failures_of (source_of self.new) }
         ensures lines { lines_of self.new ≡ lines_of self.old }
-        ensures moves { (a : Answers) → Awaits (R.remaining (device_of (source_of self.new))) self.new a
+        ensures moves { (a : Answers)
+            → Awaits (R.remaining (device_of (source_of self.new))) self.new a
             → Awaits (R.remaining (device_of (source_of self.old))) self.old a }
         ensures less { work_of self.new < work_of self.old }
         ensures read { self.new.state ≡ State.Failed LogCause.Read

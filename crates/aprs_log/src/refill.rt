@@ -17,7 +17,8 @@ use std::io::Read;
 
 /// Takes the first line out of the window, where it holds a whole one, and reads it.
 pub fn take_line(window: &mut Window) -> Option<Result<Line, LineFault>>
-    ensures none { IfNone result ((cut_at 10 (items window.old) ≡ None) × (items window.new ≡ items window.old)) }
+    ensures none { IfNone result ((cut_at 10 (items window.old) ≡ None)
+        × (items window.new ≡ items window.old)) }
     ensures some { IfSome result (λ r. (cut : Cut) × (cut_at 10 (items window.old) ≡ Some cut)
         × (r ≡ line_of cut.before) × (items window.new ≡ cut.after)) }
     ensures shorter { IfSome result (λ _. length (items window.new) < length (items window.old)) }
@@ -40,12 +41,14 @@ pub fn read_more<R: Read>(
     requires room { length (items window.old) ≤ 8192 }
     requires limit { left ≤ 1073741824 }
     ensures some { IfOk result (λ n. (0 < n) × (n ≤ left)) }
-    ensures more { IfOk result (λ n. (more : List ℕ) × (length more ≡ n) × (items window.new ≡ items window.old ++ more)
+    ensures more { IfOk result (λ n. (more : List ℕ) × (length more ≡ n)
+        × (items window.new ≡ items window.old ++ more)
         × Consumes (R.remaining (device_of source.old)) (R.remaining (device_of source.new)) more) }
     ensures end { IfErr result (λ e. (items window.new ≡ items window.old)
         × EndsHere e left (R.remaining (device_of source.old))) }
     ensures count { failures_of source.old ≤ failures_of source.new }
-    ensures read { IfErr result (λ e. e ≡ Ending.Read → Rose (failures_of source.old) (failures_of source.new)) }
+    ensures read { IfErr result (λ e. e ≡ Ending.Read
+        → Rose (failures_of source.old) (failures_of source.new)) }
 {
     if left == 0 {
         return Err(ending_at_limit(source));

@@ -69,8 +69,10 @@ impl Window {
         source: &mut Counted<R>,
         most: usize,
     ) -> Result<usize, DeviceFault>
-        ensures ok { IfOk result (λ n. (more : List ℕ) × (length more ≡ n) × (items self.new ≡ items self.old ++ more)
-            × Consumes (R.remaining (device_of source.old)) (R.remaining (device_of source.new)) more) }
+        ensures ok { IfOk result (λ n. (more : List ℕ) × (length more ≡ n)
+            × (items self.new ≡ items self.old ++ more)
+            × Consumes (R.remaining (device_of source.old)) (R.remaining (device_of source.new))
+            more) }
         ensures most { IfOk result (λ n. n ≤ most) }
         ensures end { IfOk result (λ n. n ≡ 0 → 0 < room self.old → 0 < most
             → IsAtEnd (R.remaining (device_of source.new))) }

@@ -31,8 +31,10 @@ const MAX_WRITTEN: usize = 1357;
 /// ends, as lower case hexadecimal. At a fault a front of the line went out, and the count of the
 /// device's failures rose. Takes no memory.
 pub fn write_line<W: Write>(w: &mut Counted<W>, reception: &Reception) -> Result<(), WriteFault>
-    ensures sent { OnOk result (Appends (W.contents (device_of w.old)) (W.contents (device_of w.new)) (written_line reception.now ++ 10 ∷ [])) }
-    ensures prefix { OnErr result (AppendsFront (W.contents (device_of w.old)) (W.contents (device_of w.new)) (written_line reception.now ++ 10 ∷ [])) }
+    ensures sent { OnOk result (Appends (W.contents (device_of w.old))
+        (W.contents (device_of w.new)) (written_line reception.now ++ 10 ∷ [])) }
+    ensures prefix { OnErr result (AppendsFront (W.contents (device_of w.old))
+        (W.contents (device_of w.new)) (written_line reception.now ++ 10 ∷ [])) }
     ensures count { failures_of w.old ≤ failures_of w.new }
     ensures fault { OnErr result (Rose (failures_of w.old) (failures_of w.new)) }
     // The line reads back as the reception.
@@ -44,7 +46,8 @@ pub fn write_line<W: Write>(w: &mut Counted<W>, reception: &Reception) -> Result
 /// The line and its LF.
 fn written(reception: &Reception) -> ArrayVec<u8, MAX_WRITTEN>
     ensures line { result.items ≡ written_line reception.now ++ 10 ∷ [] }
-    ensures back { length (written_line reception.now) ≤ 8192 → line_of (written_line reception.now) ≡ Ok (Line.Heard reception.now) }
+    ensures back { length (written_line reception.now) ≤ 8192
+        → line_of (written_line reception.now) ≡ Ok (Line.Heard reception.now) }
 {
     written_laws();
     let mut line = ArrayVec::new();

@@ -9,15 +9,19 @@ use Rattle.aprs_log.proofs.calendar.date_of.Goals as goal
 pub returns-clause-number : goal.returns-clause-number
 returns-clause-number c =
     let d = c.from_days_since_min-date.result in
-    let is = years_are d.year d.month d.day c.args.day (civil d) c.from_days_since_min-date.ensures c.requires in
+    let is = years_are d.year d.month d.day c.args.day (civil d) c.from_days_since_min-date.ensures
+    c.requires in
     let fits : FitsSigned w16 d.year = omega (arith, signed_arith, is.0, is.1) in
-    let year = abs_is d.year c.unsigned_abs.result (simp to_z-of_z at c.unsigned_abs.ensures.value) is.0 in
+    let year = abs_is d.year c.unsigned_abs.result (simp to_z-of_z at c.unsigned_abs.ensures.value)
+    is.0 in
     ap (λ y. days_from_civil y d.month d.day) year ∙ is.2
 
 pub returns-clause-date : goal.returns-clause-date
 returns-clause-date c =
     let d = c.from_days_since_min-date.result in
-    let is = years_are d.year d.month d.day c.args.day (civil d) c.from_days_since_min-date.ensures c.requires in
+    let is = years_are d.year d.month d.day c.args.day (civil d) c.from_days_since_min-date.ensures
+    c.requires in
     let fits : FitsSigned w16 d.year = omega (arith, signed_arith, is.0, is.1) in
-    let year = abs_is d.year c.unsigned_abs.result (simp to_z-of_z at c.unsigned_abs.ensures.value) is.0 in
+    let year = abs_is d.year c.unsigned_abs.result (simp to_z-of_z at c.unsigned_abs.ensures.value)
+    is.0 in
     IsDay-from d.year c.unsigned_abs.result d.month d.day year (civil d) is.0 is.1

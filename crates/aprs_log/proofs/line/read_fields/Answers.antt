@@ -7,19 +7,23 @@ pub returns-then-line-gt-MAX_LINE : goal.returns-then-line-gt-MAX_LINE
 returns-then-line-gt-MAX_LINE c = line_of-long c.args.line.now c.if-line-gt-MAX_LINE.true
 
 pub returns-in_default : goal.returns-in_default
-returns-in_default c = line_of-uncut c.args.line.now c.if-line-gt-MAX_LINE.false c.in_default.ensures
+returns-in_default c = line_of-uncut c.args.line.now c.if-line-gt-MAX_LINE.false
+    c.in_default.ensures
 
 pub returns-in_default-parse : goal.returns-in_default-parse
 returns-in_default-parse c =
-    line_of-no_moment c.args.line.now c.if-line-gt-MAX_LINE.false _ c.in-Some.ensures c.in_default-parse.ensures.value
+    line_of-no_moment c.args.line.now c.if-line-gt-MAX_LINE.false _ c.in-Some.ensures
+    c.in_default-parse.ensures.value
 
 pub returns-in_default-cut_at : goal.returns-in_default-cut_at
 returns-in_default-cut_at c =
-    line_of-one_cut c.args.line.now c.if-line-gt-MAX_LINE.false _ _ c.in-Some.ensures c.in-Some-parse.ensures.value c.in_default-cut_at.ensures
+    line_of-one_cut c.args.line.now c.if-line-gt-MAX_LINE.false _ _ c.in-Some.ensures
+    c.in-Some-parse.ensures.value c.in_default-cut_at.ensures
 
 pub returns-in_default-parse-2 : goal.returns-in_default-parse-2
 returns-in_default-parse-2 c =
-    line_of-no_name c.args.line.now c.if-line-gt-MAX_LINE.false _ _ _ c.in-Some.ensures c.in-Some-parse.ensures.value c.in-Some-cut_at.ensures
+    line_of-no_name c.args.line.now c.if-line-gt-MAX_LINE.false _ _ _ c.in-Some.ensures
+    c.in-Some-parse.ensures.value c.in-Some-cut_at.ensures
     c.in_default-parse-2.ensures
 
 pub read_bytes-requires : goal.read_bytes-requires
@@ -31,5 +35,7 @@ read_bytes-requires c =
 pub returns : goal.returns
 returns c =
     let name = c.in-Some-parse-2.ensures in
-    c.read_bytes.ensures ∙ line_of-fields c.args.line.now c.if-line-gt-MAX_LINE.false _ _ _ _ c.in-Some.ensures c.in-Some-parse.ensures.value
+    c.read_bytes.ensures
+    ∙ line_of-fields c.args.line.now c.if-line-gt-MAX_LINE.false _ _ _ _ c.in-Some.ensures
+    c.in-Some-parse.ensures.value
     c.in-Some-cut_at.ensures name.0 name.1

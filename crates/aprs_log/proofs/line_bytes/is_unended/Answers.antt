@@ -5,4 +5,5 @@ pub returns-in-empty : goal.returns-in-empty
 returns-in-empty c = is_unended-nil c.stream_laws.ensures c.args.bytes.now c.in-empty.len_below
 
 pub returns-in-len1-up : goal.returns-in-len1-up
-returns-in-len1-up c = is_unended-last c.stream_laws.ensures c.args.bytes.now c.in-len1-up.len_at_least
+returns-in-len1-up c = is_unended-last c.stream_laws.ensures c.args.bytes.now
+    c.in-len1-up.len_at_least

@@ -14,6 +14,7 @@ loop-byte-init c = record {
 
 pub loop-byte-preserved : goal.loop-byte-preserved
 loop-byte-preserved c = record {
-  sent = sent_more c.args.frame.now _ _ c.loop-byte.byte-index c.loop-byte-test.true c.loop-byte.invariant.sent c.push_spelled.ensures.value;
+  sent = sent_more c.args.frame.now _ _ c.loop-byte.byte-index c.loop-byte-test.true
+      c.loop-byte.invariant.sent c.push_spelled.ensures.value;
   len = omega (arith, c.loop-byte.invariant.len, c.push_spelled.ensures.len);
 }

@@ -17,13 +17,15 @@ pub returns-clause-back : goal.returns-clause-back
 returns-clause-back c short =
     let x = c.args.reception.now in
     let text = c.text.result in
-    let frame : c.bytes-frame.result.now ≡ x.frame = c.bytes-frame.ensures.value ∙ c.frame.ensures in
+    let frame : c.bytes-frame.result.now ≡ x.frame = c.bytes-frame.ensures.value
+    ∙ c.frame.ensures in
     let few : length x.frame ≤ 328 = omega (arith, c.bytes-frame.ensures.most, ap length frame) in
     let reads = subst (λ f. frame_of f ≡ Ok f) frame c.frames_are_read.ensures in
-    let is_text = subst (λ m. MomentText m text) c.moment.ensures ((c.text.ensures.exact text).0 refl) in
+    let is_text = subst (λ m. MomentText m text) c.moment.ensures
+    ((c.text.ensures.exact text).0 refl) in
     let is = real x text (c.text.ensures.value ∙ ap moment_text c.moment.ensures) is_text
-        (subst IsName c.receiver.ensures c.as_bytes.ensures.name) reads few in
+    (subst IsName c.receiver.ensures c.as_bytes.ensures.name) reads few in
     let sent : c.as_slice.result.now ≡ kiss_text x.frame
-        = c.as_slice.ensures.value ∙ c.spelled-spelled.ensures ∙ ap kiss_text frame in
+    = c.as_slice.ensures.value ∙ c.spelled-spelled.ensures ∙ ap kiss_text frame in
     let digits = subst (λ l. decode_of (encode_lower l) ≡ Ok l) sent c.push_hex.ensures.back in
     line_of-written c.written_laws.ensures x is digits short

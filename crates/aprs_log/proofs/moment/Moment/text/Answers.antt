@@ -5,10 +5,12 @@ use Rattle.aprs_log.proofs.moment.Moment.text.Goals as goal
 
 spells : (c : goal.After-text) → MomentText c.args.self.now c.text.result
 spells c = subst (MomentText c.args.self.now) (sym c.text.ensures)
-    (civil_text-moment c.of_seconds.result c.args.self.now c.of_seconds.ensures.real (c.of_seconds.ensures.number ∙ c.self.view_is))
+    (civil_text-moment c.of_seconds.result c.args.self.now c.of_seconds.ensures.real
+    (c.of_seconds.ensures.number ∙ c.self.view_is))
 
 pub returns-clause-value : goal.returns-clause-value
-returns-clause-value c = one_text c.args.self.now c.text.result _ (spells c) (moment_text-is c.args.self.now (omega (arith, c.self.invariant, c.self.view_is)))
+returns-clause-value c = one_text c.args.self.now c.text.result _ (spells c)
+    (moment_text-is c.args.self.now (omega (arith, c.self.invariant, c.self.view_is)))
 
 pub returns-clause-exact : goal.returns-clause-exact
 returns-clause-exact c t = (

@@ -3,19 +3,25 @@ use Rattle.aprs_log.proofs.AwaitLemmas.{step_long, step_more, step_end}
 use Rattle.aprs_log.proofs.reader.LogReader.read_on.Goals as goal
 use Rattle.aprs_log.proofs.reader.LogReader.read_on.Goals.{in-Some, in-None}
 
-pub returns-then-as_slice-gt-MAX_LINE-clause-moves : goal.returns-then-as_slice-gt-MAX_LINE-clause-moves
+pub returns-then-as_slice-gt-MAX_LINE-clause-moves
+    : goal.returns-then-as_slice-gt-MAX_LINE-clause-moves
 returns-then-as_slice-gt-MAX_LINE-clause-moves g c a =
-    step_long _ _ _ _ _ c.as_slice.result.now a c.requires.going c.requires.none c.as_slice.ensures.value c.if-as_slice-gt-MAX_LINE.true
+    step_long _ _ _ _ _ c.as_slice.result.now a c.requires.going c.requires.none
+    c.as_slice.ensures.value c.if-as_slice-gt-MAX_LINE.true
 
 pub returns-in-Ok-clause-moves : goal.returns-in-Ok-clause-moves
 returns-in-Ok-clause-moves g c a =
     let m = c.in-Ok.ensures.more in
-    step_more _ _ _ _ c.in-Ok.count _ _ _ a c.requires.going c.in-Ok.ensures.some.1 (record { more = m.0; count = m.1; grown = m.2; took = m.3 })
+    step_more _ _ _ _ c.in-Ok.count _ _ _ a c.requires.going c.in-Ok.ensures.some.1
+    (record { more = m.0; count = m.1; grown = m.2; took = m.3 })
 
 pub returns-after-refuse_tail-clause-moves : goal.returns-after-refuse_tail-clause-moves
 returns-after-refuse_tail-clause-moves g c a =
     let e = c.in-Err.ensures.end in
     elim c.match-refuse_tail.branch [
-      | in-Some w ↦ step_end _ _ _ _ _ _ _ _ _ c.in-Err.ending (Some w.in-Some.cause) a c.requires.going c.requires.none e.0 c.as_slice-in-Err.ensures.value e.1 w.in-Some.ensures w.self-is
-      | in-None w ↦ step_end _ _ _ _ _ _ _ _ _ c.in-Err.ending None a c.requires.going c.requires.none e.0 c.as_slice-in-Err.ensures.value e.1 w.in-None.ensures w.self-is
+      | in-Some w ↦ step_end _ _ _ _ _ _ _ _ _ c.in-Err.ending (Some w.in-Some.cause) a
+          c.requires.going c.requires.none e.0 c.as_slice-in-Err.ensures.value e.1
+          w.in-Some.ensures w.self-is
+      | in-None w ↦ step_end _ _ _ _ _ _ _ _ _ c.in-Err.ending None a c.requires.going
+          c.requires.none e.0 c.as_slice-in-Err.ensures.value e.1 w.in-None.ensures w.self-is
     ]

@@ -2,15 +2,23 @@ use Rattle.std.proofs.Common.{◌∙◌, sym, refl}
 use Rattle.aprs_log.proofs.AwaitLemmas.{step_line, step_fault, faults_keep}
 use Rattle.aprs_log.proofs.reader.LogReader.step.Goals as goal
 
-pub invariant_of-self-in-Some-Err-clause-no_memory : goal.invariant_of-self-in-Some-Err-clause-no_memory
-invariant_of-self-in-Some-Err-clause-no_memory g c = faults_keep c.in-Some-Err.fault c.from.result c.from.ensures
+pub invariant_of-self-in-Some-Err-clause-no_memory
+    : goal.invariant_of-self-in-Some-Err-clause-no_memory
+invariant_of-self-in-Some-Err-clause-no_memory g c = faults_keep c.in-Some-Err.fault c.from.result
+    c.from.ensures
 
 pub returns-in-Some-Ok-clause-given : goal.returns-in-Some-Ok-clause-given
 returns-in-Some-Ok-clause-given g c =
-    let t = c.in-Some-Ok.ensures.some in
-    (refl, λ a. step_line _ _ _ _ _ _ c.in-Some-Ok.line t.0 a c.requires t.1 (sym c.in-Some-Ok.field-0-is ∙ t.2) t.3)
+    let t = c.in-Some-Ok.ensures.some in (
+      refl,
+      λ a. step_line _ _ _ _ _ _ c.in-Some-Ok.line t.0 a c.requires t.1
+          (sym c.in-Some-Ok.field-0-is ∙ t.2) t.3,
+    )
 
 pub returns-in-Some-Err-clause-none : goal.returns-in-Some-Err-clause-none
 returns-in-Some-Err-clause-none g c =
-    let t = c.in-Some-Err.ensures.some in
-    (refl, λ a. step_fault _ _ _ _ _ c.in-Some-Err.fault t.0 c.from.result a c.requires t.1 (sym c.in-Some-Err.field-0-is ∙ t.2) c.from.ensures)
+    let t = c.in-Some-Err.ensures.some in (
+      refl,
+      λ a. step_fault _ _ _ _ _ c.in-Some-Err.fault t.0 c.from.result a c.requires t.1
+          (sym c.in-Some-Err.field-0-is ∙ t.2) c.from.ensures,
+    )

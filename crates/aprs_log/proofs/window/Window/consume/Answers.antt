@@ -6,4 +6,5 @@ use Rattle.aprs_log.proofs.window.Window.consume.Goals as goal
 pub returns : goal.returns
 returns c =
     let w = c.args.self.now in
-    consumed w.bytes w.start w.end c.args.count (omega (arith, length-take {A = ℕ}, length-drop {A = ℕ}))
+    consumed w.bytes w.start w.end c.args.count
+    (omega (arith, length-take {A = ℕ}, length-drop {A = ℕ}))

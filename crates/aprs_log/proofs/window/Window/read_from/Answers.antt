@@ -7,8 +7,13 @@ returns-clause-ok g c =
     let w = c.args.self.now in
     let within : w.end ≤ length w.bytes = omega arith in
     let n = c.in_ok-count.count in
-    let bound = c.in_ok-count.ensures.bound in
-    (take n c.read.new.buf, sym bound.1, grown w.bytes c.read.new.buf w.start w.end _ n w.ordered within bound.0, c.in_ok-count.ensures.bytes.0)
+    let bound = c.in_ok-count.ensures.bound in (
+      take n c.read.new.buf,
+      sym bound.1,
+      grown w.bytes c.read.new.buf w.start w.end _ n w.ordered
+          within bound.0,
+      c.in_ok-count.ensures.bytes.0,
+    )
 
 held : {T E : Type 0} (r : Result T E) (P : Type 0) → P → OnErr r P
 held (Ok v) P p = tt
@@ -18,4 +23,5 @@ pub returns-in_err-count-clause-kept : goal.returns-in_err-count-clause-kept
 returns-in_err-count-clause-kept g c =
     let w = c.args.self.now in
     let within : w.end ≤ length w.bytes = omega arith in
-    held c.from_residual.result _ (kept w.bytes c.read.new.buf w.start w.end _ w.ordered within, c.in_err-count.ensures.bytes)
+    held c.from_residual.result _
+    (kept w.bytes c.read.new.buf w.start w.end _ w.ordered within, c.in_err-count.ensures.bytes)
