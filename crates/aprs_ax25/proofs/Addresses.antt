@@ -1,12 +1,12 @@
 -- Lemmas on one address: its octets have its callsign and flags, and octets with a callsign spell it.
-use Rattle.std.proofs.Common.{◌≡◌, ℕ, ◌+◌, ◌-◌, ◌*◌, ◌/◌, ◌%◌, ◌≤◌, ◌<◌, ◌==◌, suc, zero, List, [], ◌∷◌, ◌++◌, length, get_or, take, drop, map, replicate, Bool, true, false, not, cond, ◌&&◌, nat_lt, arith, sym, ap, ◌∙◌, refl, slice_index, take-append-drop, append_assoc, append-nil}
+use Rattle.std.proofs.Common.{◌≡◌, ℕ, ◌+◌, ◌-◌, ◌*◌, ◌/◌, ◌%◌, ◌≤◌, ◌<◌, ◌==◌, suc, zero, List, [], ◌∷◌, ◌++◌, length, take, drop, map, replicate, Bool, true, false, not, cond, ◌&&◌, nat_lt, arith, sym, ap, ◌∙◌, refl, slice_index, take-append-drop, append_assoc}
 use Rattle.std.specs.List.{list_all, position_or_len}
-use Rattle.std.proofs.lemmas.List.{length-take, length-take-le, length-map, length-append, length-replicate, map-append, length-drop, take_at, drop_at, take_all, take_more, take-take, get_or_at}
+use Rattle.std.proofs.lemmas.List.{length-take-le, length-map, length-append, length-replicate, map-append, length-drop, take_at, drop_at, take_all, take_more, take-take, get_or_at}
 use Rattle.std.proofs.lemmas.List.Folds.{list_all-append}
 use Rattle.std.proofs.lemmas.Bool.{and_parts, and_from, ltb-true, lt-ltb, eqb-true, ne_eqb}
-use Rattle.aprs_ax25.specs.Callsign.{Call, IsCall, is_callsign_byte}
+use Rattle.aprs_ax25.specs.Callsign.{is_callsign_byte}
 use Rattle.aprs_ax25.specs.Address.{Address, IsAddress, padded, address_octets}
-use Rattle.aprs_ax25.specs.FrameFault.{ends_field, letters_len, is_no_letter, is_space_octet, has_callsign, call_of, address_of}
+use Rattle.aprs_ax25.specs.FrameFault.{ends_field, letters_len, is_no_letter, is_space_octet, has_callsign, address_of}
 use Rattle.aprs_ax25.proofs.Calls.{call_of-IsCall, letters_len-le}
 
 abbrev pub double : List ℕ → List ℕ

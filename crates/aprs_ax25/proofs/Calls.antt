@@ -1,14 +1,14 @@
 -- Lemmas on callsigns in an address's octets.
-use Rattle.std.proofs.Common.{◌≡◌, ℕ, ◌+◌, ◌*◌, ◌/◌, ◌%◌, ◌≤◌, ◌<◌, ◌==◌, List, [], ◌∷◌, ◌++◌, length, get_or, take, drop, map, Bool, true, false, not, arith, sym, ap, ◌∙◌, refl, slice_index}
-use Rattle.std.specs.List.{list_all, All, position_or_len}
+use Rattle.std.proofs.Common.{◌≡◌, ℕ, ◌+◌, ◌/◌, ◌%◌, ◌≤◌, ◌<◌, List, [], ◌∷◌, ◌++◌, length, take, map, Bool, true, false, not, arith, sym, ap, ◌∙◌, refl}
+use Rattle.std.specs.List.{list_all, All}
 use Rattle.std.specs.Fmt.{decimal}
 use Rattle.std.proofs.lemmas.Fmt.{decimal_digit, decimal_step}
 use Rattle.std.proofs.lemmas.List.{length-take, length-take-le, length-map, get_or-take}
 use Rattle.std.proofs.lemmas.List.Sums.{prefix_len-le-length, fails_before_first, list_all-from_AllPass}
 use Rattle.std.proofs.lemmas.List.Folds.{list_all-map}
 use Rattle.std.proofs.lemmas.Bool.{and_parts, ltb-true, ne_eqb}
-use Rattle.aprs_ax25.specs.Callsign.{Call, IsCall, is_callsign_byte, ssid_text}
-use Rattle.aprs_ax25.specs.FrameFault.{letters_len, is_no_letter, is_space_octet, has_callsign, call_of}
+use Rattle.aprs_ax25.specs.Callsign.{IsCall, is_callsign_byte, ssid_text}
+use Rattle.aprs_ax25.specs.FrameFault.{letters_len, is_no_letter, has_callsign, call_of}
 
 -- a dash and one digit
 pub ssid_text-one : (n : ℕ) → 0 < n → n < 10 → ssid_text n ≡ 45 ∷ (48 + n) ∷ []
@@ -32,10 +32,10 @@ pub letters-pass : (octets : List ℕ) → list_all is_callsign_byte (map (λ o.
 letters-pass octets =
     let n = letters_len octets in
     let pass : All (λ o. is_callsign_byte (o / 2) ≡ true) (take n octets) = λ k d h.
-        let low : k < n = omega (arith, length-take n octets) in
-        let six : k < 6 = omega (arith, letters_len-le octets) in
-        ap (λ o. is_callsign_byte (o / 2)) (get_or-take n octets k d low)
-        ∙ not-false _ (ap is_no_letter (sym (get_or-take 6 octets k d six)) ∙ fails_before_first is_no_letter (take 6 octets) k d low) in
+    let low : k < n = omega (arith, length-take n octets) in
+    let six : k < 6 = omega (arith, letters_len-le octets) in
+    ap (λ o. is_callsign_byte (o / 2)) (get_or-take n octets k d low)
+    ∙ not-false _ (ap is_no_letter (sym (get_or-take 6 octets k d six)) ∙ fails_before_first is_no_letter (take 6 octets) k d low) in
     list_all-map is_callsign_byte (λ o. o / 2) (take n octets) ∙ list_all-from_AllPass (λ o. is_callsign_byte (o / 2)) (take n octets) pass
 
 pub call_of-IsCall : (octets : List ℕ) → length octets ≡ 7 → has_callsign octets ≡ true → IsCall (call_of octets)

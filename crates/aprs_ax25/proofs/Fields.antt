@@ -1,5 +1,5 @@
 -- Lemmas on the address field: it ends where it says, and its sevens are its addresses.
-use Rattle.std.proofs.Common.{◌≡◌, ℕ, ◌+◌, ◌-◌, ◌*◌, ◌/◌, ◌%◌, ◌≤◌, ◌<◌, ◌==◌, suc, zero, List, [], ◌∷◌, ◌++◌, length, get_or, take, drop, map, Bool, true, false, not, cond, ◌&&◌, arith, sym, ap, ◌∙◌, refl, slice_index, append_assoc, subst, take-append-drop}
+use Rattle.std.proofs.Common.{◌≡◌, ℕ, ◌+◌, ◌*◌, ◌%◌, ◌≤◌, ◌<◌, ◌==◌, suc, zero, List, [], ◌∷◌, ◌++◌, length, take, drop, map, true, false, not, cond, arith, sym, ap, ◌∙◌, refl, slice_index, append_assoc, subst, take-append-drop}
 use Rattle.std.specs.List.{list_all, position_or_len, AllByRecursion, All}
 use Rattle.std.proofs.lemmas.List.{length-take, length-take-le, length-drop, length-append, take_at, drop_at, take_all, take-take, get_or-take, get_or-drop}
 use Rattle.std.proofs.lemmas.List.Sums.{fails_before_first, passes_at_first, list_all-from_AllPass}
@@ -87,8 +87,8 @@ sevens-address_field a (b ∷ others) h =
     let more = address_field (b ∷ others) in
     let seven = length-address_octets 0 a h.0 in
     let e : sevens (suc (suc (length others))) (first ++ more) ≡ first ∷ sevens (suc (length others)) more =
-        ap (λ l. l ∷ sevens (suc (length others)) (drop 7 (first ++ more))) (take_at first more 7 seven)
-        ∙ ap (λ l. first ∷ sevens (suc (length others)) l) (drop_at first more 7 seven) in
+    ap (λ l. l ∷ sevens (suc (length others)) (drop 7 (first ++ more))) (take_at first more 7 seven)
+    ∙ ap (λ l. first ∷ sevens (suc (length others)) l) (drop_at first more 7 seven) in
     let left = sevens-address_field b others h.1 in
     record {
       callsigns = ap (list_all has_callsign) e ∙ and_from _ _ (has_callsign-address_octets 0 a h.0) left.callsigns;
@@ -101,8 +101,8 @@ sevens-address_field a (b ∷ others) h =
 are_even-front : (n : ℕ) (xs : List ℕ) → n ≤ position_or_len ends_field xs → are_even (take n xs) ≡ true
 are_even-front n xs h =
     list_all-from_AllPass (λ o. not (ends_field o)) (take n xs) (λ k d lt.
-        let low : k < n = omega (arith, length-take n xs) in
-        ap (λ o. not (ends_field o)) (get_or-take n xs k d low) ∙ ap not (fails_before_first ends_field xs k d (omega arith)))
+    let low : k < n = omega (arith, length-take n xs) in
+    ap (λ o. not (ends_field o)) (get_or-take n xs k d low) ∙ ap not (fails_before_first ends_field xs k d (omega arith)))
 
 even-at : (xs : List ℕ) (k : ℕ) → k < position_or_len ends_field xs → slice_index xs k % 2 ≡ 0
 even-at xs k h =
@@ -150,7 +150,7 @@ Spells-sevens (suc m) field len end calls bytes =
     let len_rest : length rest ≡ 7 * suc m = omega (arith, length-drop 7 field) in
     let even : are_even first ≡ true = are_even-front 7 field (omega arith) in
     let there : position_or_len ends_field field ≡ 7 + position_or_len ends_field rest =
-        ap (position_or_len ends_field) (sym apart) ∙ position-past first rest even ∙ ap (λ n. n + position_or_len ends_field rest) seven in
+    ap (position_or_len ends_field) (sym apart) ∙ position-past first rest even ∙ ap (λ n. n + position_or_len ends_field rest) seven in
     let call : has_callsign first ≡ true = (and_parts _ _ calls).0 in
     let six : are_even (take 6 first) ≡ true = ap are_even (take-take 6 7 field (omega arith)) ∙ are_even-front 6 field (omega arith) in
     let last : slice_index first 6 % 2 ≡ 0 = ap (λ o. o % 2) (get_or-take 7 field 6 0 (omega arith)) ∙ even-at field 6 (omega arith) in

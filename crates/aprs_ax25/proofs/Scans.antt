@@ -1,11 +1,10 @@
 -- Lemmas on the steps of looking for a frame's first fault.
-use Rattle.std.proofs.Common.{◌≡◌, ℕ, ◌+◌, ◌-◌, ◌/◌, ◌≤◌, ◌<◌, suc, List, [], ◌∷◌, length, take, drop, Bool, true, false, ◌&&◌, Option, None, Some, arith, sym, ap, ◌∙◌, refl}
+use Rattle.std.proofs.Common.{◌≡◌, ℕ, ◌/◌, ◌≤◌, ◌<◌, suc, List, [], ◌∷◌, length, take, drop, Bool, true, false, ◌&&◌, Some, arith, sym, ap, ◌∙◌, refl}
 use Rattle.std.specs.List.{list_all}
 use Rattle.std.proofs.lemmas.List.{length-drop}
 use Rattle.std.proofs.lemmas.Bool.{lt-ltb}
 use Rattle.aprs_ax25.specs.FrameFault.{letters_len, has_callsign, is_space_octet, sevens, is_wrong, frame_fault, after_field}
 use Rattle.aprs_ax25.specs.Scan.{fault_after_field}
-use Rattle.aprs_ax25.specs.declared.fault.FrameFault.{FrameFault}
 use Rattle.aprs_ax25.specs.declared.fault.FrameFault.TheVariants.{Address, Callsign}
 
 -- a callsign is found where letters stand before the spaces

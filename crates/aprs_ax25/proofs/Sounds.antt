@@ -1,23 +1,22 @@
 -- Bytes without a fault are the frame of their parts.
-use Rattle.std.proofs.Common.{◌≡◌, ℕ, ◌+◌, ◌-◌, ◌*◌, ◌/◌, ◌%◌, ◌≤◌, ◌<◌, ◌==◌, suc, zero, List, [], ◌∷◌, ◌++◌, length, get_or, take, drop, map, Bool, true, false, not, cond, ◌&&◌, nat_le, nat_lt, Option, None, Some, slice_get, arith, sym, ap, ◌∙◌, refl, slice_index, append_assoc, subst, take-append-drop, ◌⊎◌, inl, inr}
-use Rattle.std.specs.List.{list_all, position_or_len, AllByRecursion, All, find}
-use Rattle.std.proofs.lemmas.List.{length-take, length-take-le, length-drop, length-append, length-map, take_at, drop_at, take-take, drop-take, drop-drop, get_or-take, get_or-drop}
+use Rattle.std.proofs.Common.{◌≡◌, ℕ, ◌+◌, ◌-◌, ◌*◌, ◌/◌, ◌%◌, ◌≤◌, ◌<◌, ◌==◌, suc, zero, List, [], ◌∷◌, ◌++◌, length, get_or, take, drop, map, Bool, true, false, not, cond, ◌&&◌, nat_le, Option, None, Some, slice_get, arith, sym, ap, ◌∙◌, refl, slice_index, subst, take-append-drop}
+use Rattle.std.specs.List.{list_all, position_or_len, AllByRecursion, All}
+use Rattle.std.proofs.lemmas.List.{length-take-le, length-drop, length-map, take-take, drop-take, drop-drop, get_or-take, get_or-drop}
 use Rattle.std.proofs.lemmas.Option.{slice_get-map, slice_get-get_or}
 use Rattle.std.specs.Option.{option_map}
 use Rattle.std.proofs.lemmas.List.Sums.{fails_before_first, passes_at_first, position_or_len_is, AllPass-from_list_all}
 use Rattle.std.proofs.lemmas.Bool.{and_parts, and_from, eqb-true, leb-true, leb-false, ltb-false, le-leb, lt-leb, le-ltb}
 use Rattle.aprs_ax25.specs.Address.{Address, IsAddress}
-use Rattle.aprs_ax25.specs.Frame.{Parts, IsParts, FrameOf, address_field, spelling}
+use Rattle.aprs_ax25.specs.Frame.{Parts, FrameOf, address_field}
 use Rattle.aprs_ax25.specs.FrameFault.{ends_field, field_len, field_of, after_field, is_field_len, sevens, has_callsign, addresses, is_wrong, frame_fault, address_of, parts_of}
-use Rattle.aprs_ax25.specs.declared.fault.FrameFault.{FrameFault}
 use Rattle.aprs_ax25.specs.declared.fault.FrameFault.TheVariants.{Address as AddressFault, Callsign, Control, Pid, NoInfo, LongInfo}
-use Rattle.aprs_ax25.proofs.Fields.{Spells, Spells-sevens, Holds, sevens-address_field, length-address_field, position-address_field, All-take}
+use Rattle.aprs_ax25.proofs.Fields.{Spells, Spells-sevens, All-take}
 
-cond-None : {X : Type 0} (b : Bool) (x : X) (r : Option X) → cond b (Some x) r ≡ None → (b ≡ false) × (r ≡ None)
+pub cond-None : {X : Type 0} (b : Bool) (x : X) (r : Option X) → cond b (Some x) r ≡ None → (b ≡ false) × (r ≡ None)
 cond-None true x r h = cc
 cond-None false x r h = (refl, h)
 
-not-false : (b : Bool) → not b ≡ false → b ≡ true
+pub not-false : (b : Bool) → not b ≡ false → b ≡ true
 not-false true h = refl
 not-false false h = cc
 
@@ -62,8 +61,8 @@ IsSound-frame_fault bytes s =
     let n = field_len bytes in
     let after = after_field bytes in
     let address : is_wrong AddressFault bytes ≡ false =
-        ap not (and_from (nat_le n (length bytes)) (is_field_len n) (le-leb n (length bytes) s.within)
-            (and_from (n % 7 == 0 && nat_le 14 n) (nat_le n 70) (and_from (n % 7 == 0) (nat_le 14 n) (ap (λ k. k == 0) s.sevenfold) (le-leb 14 n s.least)) (le-leb n 70 s.most))) in
+    ap not (and_from (nat_le n (length bytes)) (is_field_len n) (le-leb n (length bytes) s.within)
+    (and_from (n % 7 == 0 && nat_le 14 n) (nat_le n 70) (and_from (n % 7 == 0) (nat_le 14 n) (ap (λ k. k == 0) s.sevenfold) (le-leb 14 n s.least)) (le-leb n 70 s.most))) in
     let callsign : is_wrong Callsign bytes ≡ false = ap not s.callsigns in
     let control : is_wrong Control bytes ≡ false = ap (λ k. not (k == 3)) s.control in
     let pid : is_wrong Pid bytes ≡ false = ap (λ k. not (k == 240)) s.pid in
@@ -139,8 +138,8 @@ module _ (f : List ℕ) (s : IsSound f) where
   end =
       let i = position_or_len ends_field f in
       ap (λ m. m + 1) (position_or_len_is ends_field field i 0 (omega (arith, length-field))
-          (λ j h. ap ends_field (get_or-take n f j 0 (omega arith)) ∙ fails_before_first ends_field f j 0 h)
-          (λ h. ap ends_field (get_or-take n f i 0 (omega arith)) ∙ passes_at_first ends_field f 0 (let w = s.within in omega arith)))
+      (λ j h. ap ends_field (get_or-take n f j 0 (omega arith)) ∙ fails_before_first ends_field f j 0 h)
+      (λ h. ap ends_field (get_or-take n f i 0 (omega arith)) ∙ passes_at_first ends_field f 0 (let w = s.within in omega arith)))
       ∙ sym length-field
 
   spells : All (λ b. b < 256) f → Spells field (addresses f)
@@ -215,7 +214,7 @@ module _ (f : List ℕ) (s : IsSound f) (i : ℕ) (h : i + 2 < field_len f / 7) 
       let two : 2 + i ≡ i + 2 = omega arith in
       let many : i < length (drop 2 (addresses f)) = omega (arith, length-drop 2 (addresses f)) in
       let e : get_or (drop 2 (addresses f)) i [] ≡ take 7 (drop (7 * (i + 2)) f) =
-          get_or-drop 2 (addresses f) i [] ∙ ap (λ k. get_or (addresses f) k []) two ∙ addresses-at f s (i + 2) h [] in
+      get_or-drop 2 (addresses f) i [] ∙ ap (λ k. get_or (addresses f) k []) two ∙ addresses-at f s (i + 2) h [] in
       slice_get-map address_of (drop 2 (addresses f)) i
       ∙ ap (option_map address_of) (slice_get-get_or (drop 2 (addresses f)) i [] many ∙ ap (λ l. Some l) e)
 

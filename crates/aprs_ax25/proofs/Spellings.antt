@@ -1,16 +1,12 @@
 -- The frame of any parts has no fault, and these parts.
-use Rattle.std.proofs.Common.{◌≡◌, ℕ, ◌+◌, ◌-◌, ◌*◌, ◌/◌, ◌%◌, ◌≤◌, ◌<◌, ◌==◌, suc, zero, List, [], ◌∷◌, ◌++◌, length, get_or, take, drop, map, Bool, true, false, not, cond, ◌&&◌, nat_le, nat_lt, Option, None, Some, arith, sym, ap, ◌∙◌, refl, slice_index, append_assoc, subst, take-append-drop, ◌⊎◌, inl, inr}
-use Rattle.std.specs.List.{list_all, position_or_len, AllByRecursion, All, find}
-use Rattle.std.proofs.lemmas.List.{length-take, length-take-le, length-drop, length-append, length-map, take_at, drop_at, take-take, drop-take, get_or-take}
-use Rattle.std.proofs.lemmas.List.Sums.{fails_before_first, passes_at_first, position_or_len_is}
-use Rattle.std.proofs.lemmas.Bool.{and_parts, and_from, eqb-true, leb-true, leb-false, ltb-false, le-leb, lt-leb, le-ltb}
+use Rattle.std.proofs.Common.{◌≡◌, ℕ, ◌+◌, ◌*◌, ◌/◌, suc, List, ◌∷◌, length, take, drop, map, None, arith, sym, ap, ◌∙◌, slice_index}
+use Rattle.std.specs.List.{list_all, AllByRecursion}
+use Rattle.std.proofs.lemmas.List.{length-append, take_at, drop_at}
 use Rattle.aprs_ax25.specs.Address.{Address, IsAddress}
 use Rattle.aprs_ax25.specs.Frame.{Parts, IsParts, FrameOf, address_field, spelling}
-use Rattle.aprs_ax25.specs.FrameFault.{ends_field, field_len, field_of, after_field, is_field_len, sevens, has_callsign, addresses, is_wrong, frame_fault, address_of, parts_of}
-use Rattle.aprs_ax25.specs.declared.fault.FrameFault.{FrameFault}
-use Rattle.aprs_ax25.specs.declared.fault.FrameFault.TheVariants.{Address as AddressFault, Callsign, Control, Pid, NoInfo, LongInfo}
-use Rattle.aprs_ax25.proofs.Sounds.{IsSound, frame_fault-IsSound, IsSound-frame_fault, all_of, same_parts, all-addresses}
-use Rattle.aprs_ax25.proofs.Fields.{Spells, Spells-sevens, Holds, sevens-address_field, length-address_field, position-address_field, All-take}
+use Rattle.aprs_ax25.specs.FrameFault.{field_len, field_of, after_field, sevens, has_callsign, addresses, frame_fault, address_of, parts_of}
+use Rattle.aprs_ax25.proofs.Sounds.{IsSound, frame_fault-IsSound, IsSound-frame_fault, same_parts, all-addresses}
+use Rattle.aprs_ax25.proofs.Fields.{Holds, sevens-address_field, length-address_field, position-address_field}
 
 module _ (p : Parts) (h : IsParts p) where
   abbrev f : List ℕ

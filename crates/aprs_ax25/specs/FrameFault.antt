@@ -1,5 +1,5 @@
 -- What is wrong with bytes that are no frame, and what the parts of a frame's bytes are.
-use Rattle.std.specs.Prelude.{◌≡◌, ℕ, ◌+◌, ◌-◌, ◌*◌, ◌/◌, ◌%◌, ◌==◌, Bool, not, ◌&&◌, ◌||◌, nat_le, nat_lt, List, [], ◌∷◌, length, take, drop, map, slice_index, Option, None, Some, Result, Ok, Err, suc, zero}
+use Rattle.std.specs.Prelude.{ℕ, ◌+◌, ◌/◌, ◌%◌, ◌==◌, Bool, not, ◌&&◌, nat_le, nat_lt, List, [], ◌∷◌, length, take, drop, map, slice_index, Option, None, Some, Result, Ok, Err, suc, zero}
 use Rattle.std.specs.List.{list_all, find, position_or_len}
 use Rattle.aprs_ax25.specs.Callsign.{Call, is_callsign_byte}
 use Rattle.aprs_ax25.specs.Address.{Address}

@@ -1,5 +1,5 @@
 -- What holds of every byte list.
-use Rattle.std.specs.Prelude.{◌≡◌, ℕ, ◌⊎◌, ◌<◌, List, Option, None, Some}
+use Rattle.std.specs.Prelude.{◌≡◌, ℕ, List, None, Some}
 use Rattle.aprs_ax25.specs.Frame.{Parts, FrameOf}
 use Rattle.aprs_ax25.specs.FrameFault.{frame_fault}
 use Rattle.aprs_ax25.specs.declared.fault.FrameFault.{FrameFault}

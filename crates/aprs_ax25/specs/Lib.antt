@@ -7,3 +7,5 @@ pub mod Fault
 pub mod Scan
 pub mod Law
 pub mod Hop
+pub mod CallText
+pub mod Making

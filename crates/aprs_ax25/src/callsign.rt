@@ -1,11 +1,16 @@
 //! Callsigns.
-ghost use Rattle.std.specs.Prelude.{◌≡◌, ◌<◌, ◌≤◌, ◌/◌, ◌++◌, length, map, true};
+ghost use Rattle.std.specs.Prelude.{◌≡◌, ◌+◌, ◌<◌, ◌≤◌, ◌*◌, ◌/◌, ◌++◌, length, map, true, Ok, Some, IfOk, IfErr};
+ghost use Rattle.std.specs.List.{list_all, position_or_len};
 ghost use Rattle.arrayvec.specs.ArrayVec.{array_vec_len};
-ghost use Rattle.aprs_ax25.specs.Callsign.{Call, IsCall, call_text, ssid_text};
+ghost use Rattle.aprs_ax25.specs.Address.{address_octets, padded};
+ghost use Rattle.aprs_ax25.specs.Callsign.{Call, IsCall, call_text, ssid_text, is_callsign_byte};
+ghost use Rattle.aprs_ax25.specs.CallText.{CallText, call_fault, is_dash, before_dash, from_dash, ssid_of};
+ghost use Rattle.aprs_ax25.specs.Scan.{PartsOf};
 ghost use Rattle.aprs_ax25.specs.FrameFault.{has_callsign, call_of};
 
 use crate::bytes::{copied, push_all};
-use crate::scan::letters_len;
+use crate::fault::CallFault;
+use crate::scan::{is_callsign_byte, letters_len};
 use arrayvec::ArrayVec;
 use std::marker::Model;
 
@@ -30,6 +35,22 @@ impl Model for Callsign {
 }
 
 impl Callsign {
+    /// The callsign of this text, or the first fault in the order of the faults' numbers. Takes no
+    /// memory.
+    pub fn parse(text: &[u8]) -> Result<Callsign, CallFault>
+        ensures found { IfOk result (λ c. CallText c text.now) }
+        ensures only { (c : Call) → CallText c text.now → result ≡ Ok c }
+        ensures fault { IfErr result (λ fault. call_fault text.now ≡ Some fault) }
+    {
+        match parts_of(text) {
+            Ok((letters, ssid)) => Ok(Callsign {
+                letters: short(letters),
+                ssid,
+            }),
+            Err(fault) => Err(fault),
+        }
+    }
+
     /// The callsign as monitors print it: its letters and digits, then, unless the SSID is 0, a dash
     /// and the SSID. Takes no memory.
     pub fn text(&self) -> ArrayVec<u8, 9>
@@ -57,6 +78,19 @@ impl Callsign {
             letters: copied(&self.letters),
             ssid: self.ssid,
         }
+    }
+
+    /// Puts an address of this callsign at the end.
+    pub(crate) fn push_address(&self, out: &mut ArrayVec<u8, 328>, flags: u8, extension: u8)
+        requires room { array_vec_len out.old + 7 ≤ 328 }
+        requires flags { flags < 8 }
+        requires extension { extension < 2 }
+        ensures octets { out.new.items ≡ out.old.items
+            ++ address_octets extension (record { call = self.now; flags = flags }) }
+        ensures callsign { IsCall self.now }
+    {
+        push_padded(out, self.letters.as_slice());
+        out.push(32 * flags + 2 * self.ssid + extension);
     }
 
     /// The callsign that an address's seven octets have.
@@ -103,4 +137,88 @@ fn push_ssid(text: &mut ArrayVec<u8, 9>, ssid: u8)
             text.push(b'0' + ssid % 10);
         }
     }
+}
+
+/// What stands before the first dash, and from it on.
+fn split_dash(text: &[u8]) -> (&[u8], &[u8])
+    ensures before { result.0.now ≡ before_dash text.now }
+    ensures from { result.1.now ≡ from_dash text.now }
+{
+    text.split_at(dash_place(text))
+}
+
+/// Where the first dash stands, or how many bytes there are.
+fn dash_place(text: &[u8]) -> usize
+    ensures place { result ≡ position_or_len is_dash text.now }
+    ensures within { result ≤ length text.now }
+{
+    for (i, b) in text.iter().enumerate() {
+        if *b == b'-' {
+            return i;
+        }
+    }
+    text.len()
+}
+
+/// The SSID that nothing, or a dash and what stands behind it, is the text of.
+fn ssid_of(dash: &[u8]) -> Option<u8>
+    ensures { result ≡ ssid_of dash.now }
+{
+    match dash {
+        [] => Some(0),
+        [_, digit @ b'1'..=b'9'] => Some(digit - b'0'),
+        [_, b'1', digit @ b'0'..=b'5'] => Some(10 + (digit - b'0')),
+        _ => None,
+    }
+}
+
+/// At most six bytes.
+fn short(bytes: &[u8]) -> ArrayVec<u8, 6>
+    requires { length bytes.now ≤ 6 }
+    ensures { result.items ≡ bytes.now }
+{
+    let mut held = ArrayVec::new();
+    push_all(&mut held, bytes);
+    held
+}
+
+/// Six spaces, shifted left by one bit.
+const SPACES: [u8; 6] = [64; 6];
+
+/// Puts letters at the end, padded with spaces to six and shifted left by one bit.
+fn push_padded(out: &mut ArrayVec<u8, 328>, letters: &[u8])
+    requires room { array_vec_len out.old + 6 ≤ 328 }
+    requires six { length letters.now ≤ 6 }
+    requires bytes { list_all is_callsign_byte letters.now ≡ true }
+    ensures { out.new.items ≡ out.old.items ++ map (λ b. 2 * b) (padded letters.now) }
+{
+    for letter in letters {
+        out.push(2 * letter);
+    }
+    let (_, spaces) = SPACES.split_at(letters.len());
+    push_all(out, spaces);
+}
+
+/// What stands before the first dash, and the SSID.
+fn parts_of(text: &[u8]) -> Result<(&[u8], u8), CallFault>
+    ensures { PartsOf text.now result }
+{
+    let (letters, dash) = split_dash(text);
+    if letters.is_empty() || letters.len() > 6 {
+        return Err(CallFault::Length);
+    }
+    if !are_letters(letters) {
+        return Err(CallFault::Character);
+    }
+    match ssid_of(dash) {
+        Some(ssid) => Ok((letters, ssid)),
+        None => Err(CallFault::Ssid),
+    }
+}
+
+/// Whether each byte is a capital or a digit.
+fn are_letters(bytes: &[u8]) -> bool
+    ensures { result ≡ list_all is_callsign_byte bytes.now }
+{
+    bytes.iter().all(|b| is_callsign_byte(*b))
 }

@@ -1,6 +1,6 @@
 //! Why bytes are refused.
 ghost use Rattle.std.specs.Prelude.{◌≡◌, codes};
-ghost use Rattle.aprs_ax25.specs.Fault.{frame_fault_number, frame_fault_name};
+ghost use Rattle.aprs_ax25.specs.Fault.{frame_fault_number, frame_fault_name, call_fault_number, call_fault_name, make_fault_number, make_fault_name};
 
 /// Why bytes are no UI frame: the first of these that is true of them, in the order of their numbers.
 #[derive(Clone, Copy, Debug, PartialEq, Eq)]
@@ -46,6 +46,77 @@ impl FrameFault {
             FrameFault::Pid => "Pid",
             FrameFault::NoInfo => "NoInfo",
             FrameFault::LongInfo => "LongInfo",
+        }
+    }
+}
+
+/// Why bytes are no callsign's text: the first of these that is true of them, in the order of their
+/// numbers.
+#[derive(Clone, Copy, Debug, PartialEq, Eq)]
+pub enum CallFault {
+    /// Before the first dash don't stand 1 to 6 bytes.
+    Length,
+    /// One of those is no capital or digit.
+    Character,
+    /// Behind the dash stands no number of 1 to 15 without leading zero.
+    Ssid,
+}
+
+impl CallFault {
+    /// The fault's number, 1 to 3. Takes no memory.
+    pub fn number(&self) -> u8
+        ensures { result ≡ call_fault_number self.now }
+    {
+        match self {
+            CallFault::Length => 1,
+            CallFault::Character => 2,
+            CallFault::Ssid => 3,
+        }
+    }
+
+    /// The fault's name, as in `Length`. Takes no memory.
+    pub fn name(&self) -> &'static str
+        ensures { result.now ≡ call_fault_name self.now }
+    {
+        match self {
+            CallFault::Length => "Length",
+            CallFault::Character => "Character",
+            CallFault::Ssid => "Ssid",
+        }
+    }
+}
+
+/// Why parts make no frame: the first of these that is true of them, in the order of their numbers.
+#[derive(Clone, Copy, Debug, PartialEq, Eq)]
+pub enum MakeFault {
+    /// There are more than 8 digipeaters.
+    Hops,
+    /// There is no information.
+    NoInfo,
+    /// There are more than 256 bytes of information.
+    LongInfo,
+}
+
+impl MakeFault {
+    /// The fault's number, 1 to 3. Takes no memory.
+    pub fn number(&self) -> u8
+        ensures { result ≡ make_fault_number self.now }
+    {
+        match self {
+            MakeFault::Hops => 1,
+            MakeFault::NoInfo => 2,
+            MakeFault::LongInfo => 3,
+        }
+    }
+
+    /// The fault's name, as in `Hops`. Takes no memory.
+    pub fn name(&self) -> &'static str
+        ensures { result.now ≡ make_fault_name self.now }
+    {
+        match self {
+            MakeFault::Hops => "Hops",
+            MakeFault::NoInfo => "NoInfo",
+            MakeFault::LongInfo => "LongInfo",
         }
     }
 }

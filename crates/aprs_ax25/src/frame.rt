@@ -1,15 +1,20 @@
 //! UI frames.
-ghost use Rattle.std.specs.Prelude.{◌≡◌, ◌<◌, ◌≤◌, length, None, IsOk, IfOk, slice_get};
+ghost use Rattle.std.specs.Prelude.{◌≡◌, if◌then◌else◌, ◌<◌, ◌≤◌, [], ◌∷◌, ◌++◌, length, map, None, IsOk, IfOk, slice_get};
+ghost use Rattle.std.specs.List.{AllByRecursion};
+ghost use Rattle.std.specs.Result.{result_err};
+ghost use Rattle.arrayvec.specs.ArrayVec.{array_vec_len};
+ghost use Rattle.aprs_ax25.specs.Address.{IsAddress};
 ghost use Rattle.std.specs.Option.{option_map};
-ghost use Rattle.aprs_ax25.specs.Frame.{Parts, FrameOf};
+ghost use Rattle.aprs_ax25.specs.Frame.{Parts, FrameOf, address_field};
 ghost use Rattle.aprs_ax25.specs.FrameFault.{frame_of, frame_fault, parts_of};
 ghost use Rattle.aprs_ax25.specs.Hop.{hop_of};
+ghost use Rattle.aprs_ax25.specs.Making.{destination_address, source_address, hop_address, made_parts, make_fault};
 
 use crate::bytes::{copied, push_all};
 use crate::callsign::Callsign;
-use crate::fault::FrameFault;
+use crate::fault::{FrameFault, MakeFault};
 use crate::hop::Hop;
-use crate::scan::{fault_of, field_len, seven_at};
+use crate::scan::{CONTROL_UI, PID_NONE, fault_of, field_len, seven_at};
 use arrayvec::ArrayVec;
 use std::marker::Model;
 
@@ -50,6 +55,41 @@ impl Frame {
             Some(fault) => Err(fault),
             None => Ok(Frame::of(bytes)),
         }
+    }
+
+    /// The frame of these parts, as a command (AX.25 2.2, section 6.1.2): the destination's C bit is
+    /// 1 and the source's 0, each H bit says whether the digipeater has repeated the frame, and all
+    /// reserved bits are 1. Refuses more than 8 digipeaters, and information that isn't 1 to 256 bytes,
+    /// in this order. Takes no memory.
+    pub fn make(
+        destination: &Callsign,
+        source: &Callsign,
+        hops: &[Hop],
+        info: &[u8],
+    ) -> Result<Frame, MakeFault>
+        // Which fault it is, or that none is.
+        ensures fault { result_err result ≡ make_fault (length hops.now) (length info.now) }
+        // The frame is spelled from these parts, and is read as these parts.
+        ensures spelled { IfOk result (λ frame. FrameOf (made_parts destination.now source.now hops.now info.now) frame) }
+        ensures parts { IfOk result (λ frame. parts_of frame ≡ made_parts destination.now source.now hops.now info.now) }
+    {
+        match refused(hops.len(), info.len()) {
+            Some(fault) => Err(fault),
+            None => Ok(Frame::spelled(destination, source, hops, info)),
+        }
+    }
+
+    /// The frame of these parts, which are not too many.
+    fn spelled(destination: &Callsign, source: &Callsign, hops: &[Hop], info: &[u8]) -> Frame
+        requires { make_fault (length hops.now) (length info.now) ≡ None }
+        ensures { FrameOf (made_parts destination.now source.now hops.now info.now) result }
+    {
+        let mut bytes = ArrayVec::new();
+        push_field(&mut bytes, destination, source, hops);
+        bytes.push(CONTROL_UI);
+        bytes.push(PID_NONE);
+        push_all(&mut bytes, info);
+        Frame { bytes }
     }
 
     /// The frame that is all the bytes.
@@ -125,5 +165,55 @@ impl Frame {
         Frame {
             bytes: copied(&self.bytes),
         }
+    }
+}
+
+/// The first fault of so many digipeaters and bytes of information.
+fn refused(hops: usize, info: usize) -> Option<MakeFault>
+    ensures { result ≡ make_fault hops info }
+{
+    if hops > 8 {
+        Some(MakeFault::Hops)
+    } else if info == 0 {
+        Some(MakeFault::NoInfo)
+    } else if info > 256 {
+        Some(MakeFault::LongInfo)
+    } else {
+        None
+    }
+}
+
+/// Puts the address field at the end of nothing.
+fn push_field(out: &mut ArrayVec<u8, 328>, destination: &Callsign, source: &Callsign, hops: &[Hop])
+    requires empty { out.old.items ≡ [] }
+    requires few { length hops.now ≤ 8 }
+    ensures field { out.new.items ≡ address_field (destination_address destination.now
+        ∷ source_address source.now ∷ map hop_address hops.now) }
+    ensures each { AllByRecursion IsAddress (destination_address destination.now
+        ∷ source_address source.now ∷ map hop_address hops.now) }
+    ensures most { array_vec_len out.new ≤ 70 }
+{
+    destination.push_address(out, 7, 0);
+    source.push_address(out, 3, extension_bit(hops.is_empty()));
+    push_hops(out, hops);
+}
+
+/// The extension bit of an address: 1 in the last.
+fn extension_bit(is_last: bool) -> u8
+    ensures { result ≡ (if is_last then 1 else 0) }
+{
+    u8::from(is_last)
+}
+
+/// Puts the digipeaters' addresses at the end, the extension bit being 1 in the last.
+fn push_hops(out: &mut ArrayVec<u8, 328>, hops: &[Hop])
+    requires room { array_vec_len out.old ≡ 14 }
+    requires few { length hops.now ≤ 8 }
+    ensures field { out.new.items ≡ out.old.items ++ address_field (map hop_address hops.now) }
+    ensures each { AllByRecursion IsAddress (map hop_address hops.now) }
+    ensures most { array_vec_len out.new ≤ 70 }
+{
+    for (i, hop) in hops.iter().enumerate() {
+        hop.push(out, extension_bit(i + 1 == hops.len()));
     }
 }

@@ -1,8 +1,11 @@
 //! Digipeaters of a frame.
-ghost use Rattle.std.specs.Prelude.{◌≡◌, length, true};
+ghost use Rattle.std.specs.Prelude.{◌≡◌, ◌+◌, ◌<◌, ◌≤◌, ◌++◌, length, true};
+ghost use Rattle.arrayvec.specs.ArrayVec.{array_vec_len};
+ghost use Rattle.aprs_ax25.specs.Address.{IsAddress, address_octets};
 ghost use Rattle.aprs_ax25.specs.FrameFault.{has_callsign, address_of};
 
 use crate::callsign::Callsign;
+use arrayvec::ArrayVec;
 
 /// A digipeater that a frame names (AX.25 2.2, section 3.12.5).
 #[derive(PartialEq, Eq, Drop)]
@@ -14,6 +17,18 @@ pub struct Hop {
 
 impl Hop {
     ghost use Rattle.aprs_ax25.specs.Hop.{hop_of};
+    ghost use Rattle.aprs_ax25.specs.Making.{hop_address};
+
+    /// Puts the digipeater's address at the end.
+    pub(crate) fn push(&self, out: &mut ArrayVec<u8, 328>, extension: u8)
+        requires room { array_vec_len out.old + 7 ≤ 328 }
+        requires extension { extension < 2 }
+        ensures octets { out.new.items ≡ out.old.items ++ address_octets extension (hop_address self.now) }
+        ensures address { IsAddress (hop_address self.now) }
+    {
+        let flags = if self.repeated { 7 } else { 3 };
+        self.call.push_address(out, flags, extension);
+    }
 
     /// The digipeater that an address's seven octets have.
     pub(crate) fn at(octets: &[u8]) -> Hop

@@ -5,5 +5,4 @@ ghost use Rattle.aprs_ax25.specs.Law.{IsFrame, IsRefused};
 /// Every byte list either is the frame of exactly one set of parts, or has exactly one first fault.
 pub fn each_is_a_frame_or_refused()
     ensures { (bytes : List ℕ) → All (λ b. b < 256) bytes → IsFrame bytes ⊎ IsRefused bytes }
-{
-}
+{}

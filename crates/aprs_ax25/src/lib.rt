@@ -10,7 +10,7 @@ mod law;
 mod scan;
 
 pub use callsign::Callsign;
-pub use fault::FrameFault;
+pub use fault::{CallFault, FrameFault, MakeFault};
 pub use frame::Frame;
 pub use hop::Hop;
 pub use law::each_is_a_frame_or_refused;

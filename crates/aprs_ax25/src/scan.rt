@@ -13,7 +13,8 @@ pub const CONTROL_UI: u8 = 0x03;
 /// The PID octet of no layer 3 protocol (AX.25 2.2, section 3.4).
 pub const PID_NONE: u8 = 0xf0;
 
-fn is_callsign_byte(b: u8) -> bool
+/// Whether it is a capital or a digit.
+pub fn is_callsign_byte(b: u8) -> bool
     ensures { result ≡ is_callsign_byte b }
 {
     b.is_ascii_uppercase() || b.is_ascii_digit()

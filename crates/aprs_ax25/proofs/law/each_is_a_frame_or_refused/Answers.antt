@@ -1,4 +1,4 @@
-use Rattle.std.proofs.Common.{◌≡◌, ◌<◌, ◌⊎◌, ℕ, List, All, Option, None, Some, inl, inr, sym, ap, ◌∙◌, subst, refl}
+use Rattle.std.proofs.Common.{◌≡◌, ◌<◌, ◌⊎◌, ℕ, List, All, Option, None, Some, inl, inr, sym, ◌∙◌, refl}
 use Rattle.aprs_ax25.specs.Law.{IsFrame, IsRefused}
 use Rattle.aprs_ax25.specs.FrameFault.{frame_fault, parts_of}
 use Rattle.aprs_ax25.specs.declared.fault.FrameFault.{FrameFault}

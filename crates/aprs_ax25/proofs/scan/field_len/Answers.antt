@@ -1,4 +1,4 @@
-use Rattle.std.proofs.Common.{◌≡◌, ℕ, ◌+◌, ◌≤◌, ◌<◌, length, get_or, true, false, arith, rules, sym, ap}
+use Rattle.std.proofs.Common.{◌+◌, length, arith, rules, sym, ap}
 use Rattle.std.proofs.lemmas.List.Sums.{position_or_len_is}
 use Rattle.aprs_ax25.specs.FrameFault.{ends_field}
 use Rattle.aprs_ax25.proofs.scan.field_len.Goals as goal

@@ -8,4 +8,4 @@ invariant_of-result c =
     let octets = c.args.octets.now in
     let P : List ℕ → Type 0 = λ letters. IsCall (record { letters = letters; ssid = slice_index octets 6 / 2 % 16 }) in
     subst P (ap (λ n. map (λ o. o / 2) (take n octets)) (sym c.letters_len-len.ensures.value) ∙ sym c.letters_of.ensures)
-        (call_of-IsCall octets c.requires.seven c.requires.callsign)
+    (call_of-IsCall octets c.requires.seven c.requires.callsign)

@@ -1,7 +1,6 @@
 use Rattle.std.proofs.Common.{◌∙◌, ap, arith, take}
 use Rattle.aprs_ax25.specs.FrameFault.{has_callsign}
 use Rattle.aprs_ax25.proofs.Sounds.{frame_fault-IsSound, callsign-at}
-
 use Rattle.aprs_ax25.proofs.frame.Frame.destination.Goals as goal
 
 pub at-requires-clause-callsign : goal.at-requires-clause-callsign

@@ -1,7 +1,6 @@
 use Rattle.std.proofs.Common.{◌∙◌, ◌-◌, ◌/◌, ◌≡◌, length, ap, arith}
 use Rattle.aprs_ax25.specs.FrameFault.{field_len, parts_of}
 use Rattle.aprs_ax25.proofs.Sounds.{frame_fault-IsSound, length-digipeaters, digipeaters-few}
-
 use Rattle.aprs_ax25.proofs.frame.Frame.hops.Goals as goal
 
 pub returns-clause-value : goal.returns-clause-value

@@ -1,6 +1,5 @@
 use Rattle.std.proofs.Common.{◌∙◌, ◌+◌, ap, drop}
 use Rattle.aprs_ax25.specs.FrameFault.{field_len, parts_of}
-use Rattle.aprs_ax25.specs.Frame.{Parts}
 use Rattle.aprs_ax25.proofs.Sounds.{info-is}
 use Rattle.aprs_ax25.proofs.frame.Frame.info.Goals as goal
 

@@ -1,4 +1,4 @@
-use Rattle.std.proofs.Common.{◌≡◌, ◌<◌, ℕ, List, All, get_or, length, arith, ap, ◌++◌, subst, ◌∙◌, sym, None}
+use Rattle.std.proofs.Common.{◌≡◌, ◌<◌, ℕ, List, All, arith, ap, ◌++◌, subst, ◌∙◌, sym, None}
 use Rattle.std.proofs.lemmas.List.{get_or_default}
 use Rattle.aprs_ax25.specs.Frame.{FrameOf}
 use Rattle.aprs_ax25.specs.FrameFault.{frame_fault, parts_of}

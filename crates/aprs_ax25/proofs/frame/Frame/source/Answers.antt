@@ -1,7 +1,6 @@
 use Rattle.std.proofs.Common.{◌∙◌, ap, arith, take, drop}
 use Rattle.aprs_ax25.specs.FrameFault.{has_callsign}
 use Rattle.aprs_ax25.proofs.Sounds.{frame_fault-IsSound, callsign-at}
-
 use Rattle.aprs_ax25.proofs.frame.Frame.source.Goals as goal
 
 pub at-requires-clause-callsign : goal.at-requires-clause-callsign
