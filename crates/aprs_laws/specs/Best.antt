@@ -1,0 +1,17 @@
+-- The greatest reception with a property: what is last known.
+use Rattle.std.specs.Prelude.{List, Option, None, Some}
+use Rattle.aprs_log.specs.Reception.{Heard, heard_cmp}
+use Rattle.aprs_laws.specs.Lists.{◌∈◌}
+use Rattle.aprs_laws.specs.Order.{IsUpTo}
+use Rattle.aprs_laws.specs.Key.{Key, key_of}
+
+-- g is the greatest member of S whose key has the property
+pub record IsBest (S : List Heard) (P : Key → Type 0) (g : Heard) : Type 0 where
+  pub member : g ∈ S
+  pub property : P (key_of g.frame)
+  pub greatest : (s : Heard) → s ∈ S → P (key_of s.frame) → IsUpTo heard_cmp s g
+
+-- that member, or none where no member's key has the property
+abbrev pub LastKnown : List Heard → (Key → Type 0) → Option Heard → Type 0
+LastKnown S P None = (s : Heard) → s ∈ S → P (key_of s.frame) → ⊥
+LastKnown S P (Some g) = IsBest S P g

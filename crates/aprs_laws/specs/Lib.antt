@@ -1,0 +1,13 @@
+-- Definitions of the book and of joining, and what its laws say.
+pub mod Lists
+pub mod Order
+pub mod Key
+pub mod Run
+pub mod Row
+pub mod Book
+pub mod Sound
+pub mod Real
+pub mod Joining
+pub mod Taken
+pub mod Best
+pub mod JoinRow
