@@ -3,3 +3,7 @@ pub mod Orders
 pub mod Choices
 pub mod Rows
 pub mod Made
+pub mod Books
+pub mod Soundness
+pub mod Unions
+pub mod Parts

@@ -1,5 +1,5 @@
 -- The orders of callsigns, keys and receptions: each is total, and equals are identical.
-use Rattle.std.proofs.Common.{◌≡◌, ℕ, ◌≤◌, List, refl, ap, ◌∙◌, false, arith}
+use Rattle.std.proofs.Common.{◌≡◌, ℕ, ◌<◌, ◌≤◌, List, refl, ap, ◌∙◌, subst, false, arith}
 use Rattle.std.specs.Cmp.{IsTotalOrder}
 use Rattle.std.specs.Ordering.{nat_cmp, ordering_then, ordering_reverse, is_gt, MatchOrdering}
 use Rattle.std.specs.declared.cmp.Ordering.{Ordering}
@@ -72,3 +72,25 @@ pub moment_up_to : (s t : Heard) → IsUpTo heard_cmp s t → s.moment ≤ t.mom
 moment_up_to s t h = told (bytes_cmp s.receiver t.receiver) h where
   told : (r : Ordering) → is_gt (ordering_then (nat_cmp s.moment t.moment) (ordering_then r (bytes_cmp s.frame t.frame))) ≡ false → s.moment ≤ t.moment
   told r h = grind (arith, nat_tests)
+
+-- a reception of a smaller moment is not after
+pub up_to_moment : (s t : Heard) → s.moment < t.moment → IsUpTo heard_cmp s t
+up_to_moment s t l = told (ordering_then (bytes_cmp s.receiver t.receiver) (bytes_cmp s.frame t.frame)) where
+  told : (o : Ordering) → is_gt (ordering_then (nat_cmp s.moment t.moment) o) ≡ false
+  told o = grind (arith, nat_tests)
+
+-- one by a receiver that is not after, of the same moment and frame, is not after
+pub up_to_receiver : (s t : Heard) → s.moment ≡ t.moment → IsUpTo bytes_cmp s.receiver t.receiver → s.frame ≡ t.frame → IsUpTo heard_cmp s t
+up_to_receiver s t e h f = told (bytes_cmp s.receiver t.receiver) (bytes_cmp s.frame t.frame) h (subst (λ (q : List ℕ). bytes_cmp s.frame q ≡ Equal) f (tied_itself bytes_total s.frame)) where
+  told : (o p : Ordering) → is_gt o ≡ false → p ≡ Equal → is_gt (ordering_then (nat_cmp s.moment t.moment) (ordering_then o p)) ≡ false
+  told Less p h k = grind (arith, nat_tests)
+  told Equal p h k = rw k (grind (arith, nat_tests))
+  told Greater p h k = absurd (cc h)
+
+-- receptions of one moment are in the order of their receivers
+pub receiver_up_to : (s t : Heard) → s.moment ≡ t.moment → IsUpTo heard_cmp s t → IsUpTo bytes_cmp s.receiver t.receiver
+receiver_up_to s t e h = told (bytes_cmp s.receiver t.receiver) h where
+  told : (o : Ordering) → is_gt (ordering_then (nat_cmp s.moment t.moment) (ordering_then o (bytes_cmp s.frame t.frame))) ≡ false → is_gt o ≡ false
+  told Less h = refl
+  told Equal h = refl
+  told Greater h = grind (arith, nat_tests)
