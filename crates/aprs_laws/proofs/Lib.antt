@@ -7,3 +7,9 @@ pub mod Books
 pub mod Soundness
 pub mod Unions
 pub mod Parts
+pub mod Joins
+pub mod Folds
+pub mod Places
+pub mod Views
+pub mod Pushes
+pub mod Streams

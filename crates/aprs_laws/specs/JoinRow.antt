@@ -65,6 +65,11 @@ abbrev pub merge : ℕ → List Row → List Row → List Row
 merge gap p [] = p
 merge gap p (r ∷ rs) = merge gap (join_row gap p r) rs
 
+-- l and the rows that follow it, where each joins the one before it that it is near to
+abbrev pub coalesce : ℕ → Row → List Row → List Row
+coalesce gap l [] = l ∷ []
+coalesce gap l (x ∷ xs) = choose (place gap l x) (l ∷ coalesce gap x xs) (coalesce gap (combine l x) xs) (l ∷ coalesce gap x xs)
+
 -- the plain way to a book: one reception after another
 abbrev pub plain_book : ℕ → List Heard → List Row
 plain_book gap [] = []
