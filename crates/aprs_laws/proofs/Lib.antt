@@ -13,3 +13,8 @@ pub mod Places
 pub mod Views
 pub mod Pushes
 pub mod Streams
+pub mod NearRows
+pub mod Interleaves
+pub mod RunRows
+pub mod TakenSteps
+pub mod Known

@@ -19,8 +19,8 @@ use Rattle.aprs_laws.proofs.Soundness.{realised}
 use Rattle.aprs_laws.proofs.Unions.{merged}
 
 -- one more reception
-pub taken : (gap : ℕ) (S : List Heard) (s : Heard) (p : List Row) → BookOf gap S p → BookOf gap (s ∷ S) (join_row gap p (single s))
-taken gap S s p b = book_of_keeps gap (s ∷ S) (join_row gap p (single s))
+pub taken_first : (gap : ℕ) (S : List Heard) (s : Heard) (p : List Row) → BookOf gap S p → BookOf gap (s ∷ S) (join_row gap p (single s))
+taken_first gap S s p b = book_of_keeps gap (s ∷ S) (join_row gap p (single s))
     (keeps_join gap (s ∷ S) S (s ∷ []) p (single s)
     (λ t. (λ h. elim h [ inl e ↦ inr (inl e) | inr k ↦ inl k ], λ h. elim h [ inl k ↦ inr k | inr k ↦ elim k [ inl e ↦ inl e | inr j ↦ absurd j ] ]))
     (keeps_of_book gap S p b) (makes_single gap s))

@@ -2,6 +2,7 @@
 pub mod Lists
 pub mod Order
 pub mod Key
+pub mod Gap
 pub mod Run
 pub mod Row
 pub mod Book
@@ -11,3 +12,6 @@ pub mod Joining
 pub mod Taken
 pub mod Best
 pub mod JoinRow
+pub mod BookLaws
+pub mod BestLaws
+pub mod StepLaws
