@@ -1,2 +1,17 @@
-//! What the book of a set of receptions is, and the laws of books.
+//! What the book of a set of receptions is, and the laws of books. There is no code here: each
+//! function does nothing, and what it ensures is a law over the definitions in `specs/`.
 #![tactic(auto)]
+
+mod book_law;
+mod join_law;
+mod last_known_law;
+mod order_law;
+mod step_law;
+
+pub use book_law::{
+    books_decide_unions, runs_have_one_row_each, sets_have_one_book, sound_rows_are_books,
+};
+pub use join_law::{books_join, receivers_join, receptions_join};
+pub use last_known_law::books_tell_last_known;
+pub use order_law::{equals_are_identical, orders_are_total};
+pub use step_law::{one_more_joins, one_pass_joins, steps_give_books, two_rows_are_near_at_most};

@@ -1,0 +1,26 @@
+//! Laws of the step that books are made with.
+ghost use Rattle.std.specs.Prelude.{ℕ, ◌<◌};
+ghost use Rattle.aprs_laws.specs.StepLaws.{PlainBookIsBook, TakesReception, TakesRow, TakesRows, AtMostTwoAreNear, OnePassJoins, StepsGiveBooks};
+
+/// One more row that joins a book gives the book of the union.
+pub fn one_more_joins()
+    ensures reception { (gap : ℕ) → TakesReception gap }
+    ensures row { (gap : ℕ) → 0 < gap → TakesRow gap }
+    ensures rows { (gap : ℕ) → TakesRows gap }
+    ensures plain { (gap : ℕ) → PlainBookIsBook gap }
+{}
+
+/// One reception is near to at most two rows of a book.
+pub fn two_rows_are_near_at_most()
+    ensures { (gap : ℕ) → AtMostTwoAreNear gap }
+{}
+
+/// One pass over the rows of two books in order gives their joined value.
+pub fn one_pass_joins()
+    ensures { (gap : ℕ) → 0 < gap → OnePassJoins gap }
+{}
+
+/// After any steps on empty books, each is the book of what its place has taken.
+pub fn steps_give_books()
+    ensures { (gap : ℕ) → StepsGiveBooks gap }
+{}
