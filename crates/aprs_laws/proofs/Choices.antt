@@ -46,4 +46,3 @@ module _ {X : Type 0} {R : X → X → Ordering} (o : IsTotalOrder R) (e : CmpEq
   pub union_ordered : (xs ys : List X) → Ordered (IsBelow R) ys → Ordered (IsBelow R) (union R xs ys)
   union_ordered [] ys p = p
   union_ordered (x ∷ xs) ys p = add_ordered x (union R xs ys) (union_ordered xs ys p)
-

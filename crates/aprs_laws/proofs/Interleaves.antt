@@ -1,5 +1,5 @@
 -- Two lists of rows in order, put together in order: the one pass that merges two books.
-use Rattle.std.proofs.Common.{◌≡◌, ℕ, ◌<◌, List, [], ◌∷◌, ◌⊎◌, ◌↔◌, inl, inr, sym, refl, ap, ◌∙◌, subst}
+use Rattle.std.proofs.Common.{◌≡◌, ℕ, ◌<◌, List, [], ◌∷◌, ◌⊎◌, ◌↔◌, inl, inr, refl, ap, ◌∙◌, subst}
 use Rattle.std.proofs.lemmas.Cmp.{upto, tied_back}
 use Rattle.std.specs.Ordering.{ordering_reverse, is_gt, MatchOrdering}
 use Rattle.std.specs.declared.cmp.Ordering.{Ordering}
@@ -7,10 +7,9 @@ use Rattle.std.specs.declared.cmp.Ordering.TheVariants.{Less, Equal, Greater}
 use Rattle.aprs_laws.specs.Lists.{◌∈◌, Ordered}
 use Rattle.aprs_laws.specs.Order.{IsBelow, IsUpTo}
 use Rattle.aprs_laws.specs.Row.{Row, row_cmp}
-use Rattle.aprs_laws.specs.Book.{BookOf}
 use Rattle.aprs_laws.specs.Sound.{Sound}
 use Rattle.aprs_laws.specs.Joining.{Joined}
-use Rattle.aprs_laws.specs.JoinRow.{choose, interleave_from, interleave, coalesced}
+use Rattle.aprs_laws.specs.JoinRow.{interleave_from, interleave, coalesced}
 use Rattle.aprs_laws.proofs.Lists.{ordered_weaker}
 use Rattle.aprs_laws.proofs.Choices.{by_choice}
 use Rattle.aprs_laws.proofs.Books.{row_total}
@@ -50,17 +49,23 @@ from_ordered : (x : Row) (xs ys : List Row) → Ordered (IsUpTo row_cmp) (x ∷ 
 from_ordered x xs [] o p f = o
 from_ordered x xs (y ∷ ys) o p f =
     by_choice (λ (zs : List Row). Ordered (IsUpTo row_cmp) zs) _ _ _ _ _ _ (row_cmp y x) (row_tells y x)
-    (λ l. (λ z h. elim ((interleave_members (x ∷ xs) ys z).0 h) [
-      | inl k ↦ elim k [ inl e ↦ subst (λ (w : Row). IsUpTo row_cmp y w) e l | inr j ↦ upto row_total y x z l (o.0 z j) ]
-      | inr k ↦ p.0 z k
-    ], from_ordered x xs ys o p.1 f))
+    (λ l. (
+      λ z h. elim ((interleave_members (x ∷ xs) ys z).0 h) [
+        | inl k ↦ elim k [ inl e ↦ subst (λ (w : Row). IsUpTo row_cmp y w) e l | inr j ↦ upto row_total y x z l (o.0 z j) ]
+        | inr k ↦ p.0 z k
+      ],
+      from_ordered x xs ys o p.1 f,
+    ))
     (λ l. later l)
     (λ l. later l) where
       later : IsUpTo row_cmp x y → Ordered (IsUpTo row_cmp) (x ∷ interleave xs (y ∷ ys))
-      later l = (λ z h. elim ((interleave_members xs (y ∷ ys) z).0 h) [
-        | inl k ↦ o.0 z k
-        | inr k ↦ elim k [ inl e ↦ subst (λ (w : Row). IsUpTo row_cmp x w) e l | inr j ↦ upto row_total x y z l (p.0 z j) ]
-      ], f (y ∷ ys) p)
+      later l = (
+        λ z h. elim ((interleave_members xs (y ∷ ys) z).0 h) [
+          | inl k ↦ o.0 z k
+          | inr k ↦ elim k [ inl e ↦ subst (λ (w : Row). IsUpTo row_cmp x w) e l | inr j ↦ upto row_total x y z l (p.0 z j) ]
+        ],
+        f (y ∷ ys) p,
+      )
 
 pub interleave_ordered : (xs ys : List Row) → Ordered (IsUpTo row_cmp) xs → Ordered (IsUpTo row_cmp) ys → Ordered (IsUpTo row_cmp) (interleave xs ys)
 interleave_ordered [] ys o p = p

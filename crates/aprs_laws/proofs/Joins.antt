@@ -1,10 +1,8 @@
 -- The laws of joining, for receptions, lists of receivers and rows.
-use Rattle.std.proofs.Common.{◌≡◌, ℕ, ◌<◌, List, ◌++◌, ◌⊎◌, ◌↔◌, inl, inr, sym, refl, ap, subst}
+use Rattle.std.proofs.Common.{◌≡◌, ℕ, ◌<◌, List, ◌++◌, ◌⊎◌, ◌↔◌, inl, inr, sym, refl, subst}
 use Rattle.std.proofs.lemmas.Cmp.{upto}
-use Rattle.std.specs.Ordering.{is_gt, MatchOrdering}
 use Rattle.std.specs.Cmp.{IsTotalOrder}
 use Rattle.std.specs.declared.cmp.Ordering.{Ordering}
-use Rattle.std.specs.declared.cmp.Ordering.TheVariants.{Less, Equal, Greater}
 use Rattle.std.proofs.lemmas.Map.Lookups.{CmpEqualImpliesEq}
 use Rattle.aprs_log.specs.Reception.{Heard, heard_cmp}
 use Rattle.aprs_laws.specs.Lists.{◌∈◌, Ordered}
@@ -14,7 +12,7 @@ use Rattle.aprs_laws.specs.Real.{real}
 use Rattle.aprs_laws.specs.Joining.{JoinLaws, IsGreaterOf, IsAny, IsUnited, Joined}
 use Rattle.aprs_laws.specs.JoinRow.{union, greater}
 use Rattle.aprs_laws.proofs.Lists.{ordered_same}
-use Rattle.aprs_laws.proofs.Orders.{tells, not_both, same_greatest, up_to_itself, heard_total, heard_exact}
+use Rattle.aprs_laws.proofs.Orders.{not_both, same_greatest, up_to_itself, heard_total, heard_exact}
 use Rattle.aprs_laws.proofs.Choices.{in_union, union_ordered}
 use Rattle.aprs_laws.proofs.Rows.{the_greater}
 use Rattle.aprs_laws.proofs.Books.{one_book}

@@ -1,11 +1,11 @@
 -- What is last known of a set, and that its book tells it.
-use Rattle.std.proofs.Common.{◌≡◌, ℕ, Bool, true, false, IsTrue, List, [], ◌∷◌, ◌⊎◌, ◌↔◌, inl, inr, sym, refl, ap, ◌∙◌, subst, map, Option, None, Some}
+use Rattle.std.proofs.Common.{◌≡◌, ℕ, Bool, true, false, IsTrue, List, [], ◌∷◌, ◌⊎◌, inl, inr, sym, refl, ap, subst, map, Option, None, Some}
 use Rattle.std.proofs.lemmas.Cmp.{upto}
 use Rattle.aprs_log.specs.Reception.{Heard, heard_cmp}
 use Rattle.aprs_laws.specs.Lists.{◌∈◌, SameMembers}
 use Rattle.aprs_laws.specs.Order.{IsUpTo}
 use Rattle.aprs_laws.specs.Key.{Key, key_of}
-use Rattle.aprs_laws.specs.Row.{Row, row_key}
+use Rattle.aprs_laws.specs.Row.{Row}
 use Rattle.aprs_laws.specs.Book.{BookOf}
 use Rattle.aprs_laws.specs.Best.{IsBest, LastKnown}
 use Rattle.aprs_laws.specs.BestLaws.{Passes}
@@ -48,26 +48,35 @@ set_knows gap S p P (Some g) b h =
 
 -- of one more reception
 known_more : (P : Key → Type 0) (s : Heard) (S : List Heard) (known : Option Heard) → (P (key_of s.frame)) ⊎ (P (key_of s.frame) → ⊥) → LastKnown S P known → (more : Option Heard) × LastKnown (s ∷ S) P more
-known_more P s S None (inl q) h = (Some s, record {
-  member = inl refl;
-  property = q;
-  greatest = λ t m k. elim m [ inl e ↦ subst (λ (u : Heard). IsUpTo heard_cmp u s) e (up_to_itself heard_total s) | inr j ↦ absurd (h t j k) ];
-})
+known_more P s S None (inl q) h = (
+  Some s,
+  record {
+    member = inl refl;
+    property = q;
+    greatest = λ t m k. elim m [ inl e ↦ subst (λ (u : Heard). IsUpTo heard_cmp u s) e (up_to_itself heard_total s) | inr j ↦ absurd (h t j k) ];
+  },
+)
 known_more P s S None (inr q) h = (None, λ t m k. elim m [ inl e ↦ q (subst (λ (u : Heard). P (key_of u.frame)) (sym e) k) | inr j ↦ h t j k ])
 known_more P s S (Some g) (inl q) h =
-    let c = is_greater_of s g in (Some (greater s g), record {
-      member = elim c.one [ inl e ↦ inl (sym e) | inr e ↦ inr (subst (λ (u : Heard). u ∈ S) (sym e) h.member) ];
-      property = elim c.one [ inl e ↦ subst (λ (u : Heard). P (key_of u.frame)) (sym e) q | inr e ↦ subst (λ (u : Heard). P (key_of u.frame)) (sym e) h.property ];
-      greatest = λ t m k. elim m [
-        | inl e ↦ subst (λ (u : Heard). IsUpTo heard_cmp u (greater s g)) e c.left
-        | inr j ↦ upto heard_total t g (greater s g) (h.greatest t j k) c.right
-      ];
-    })
-known_more P s S (Some g) (inr q) h = (Some g, record {
-  member = inr h.member;
-  property = h.property;
-  greatest = λ t m k. elim m [ inl e ↦ absurd (q (subst (λ (u : Heard). P (key_of u.frame)) (sym e) k)) | inr j ↦ h.greatest t j k ];
-})
+    let c = is_greater_of s g in (
+      Some (greater s g),
+      record {
+        member = elim c.one [ inl e ↦ inl (sym e) | inr e ↦ inr (subst (λ (u : Heard). u ∈ S) (sym e) h.member) ];
+        property = elim c.one [ inl e ↦ subst (λ (u : Heard). P (key_of u.frame)) (sym e) q | inr e ↦ subst (λ (u : Heard). P (key_of u.frame)) (sym e) h.property ];
+        greatest = λ t m k. elim m [
+          | inl e ↦ subst (λ (u : Heard). IsUpTo heard_cmp u (greater s g)) e c.left
+          | inr j ↦ upto heard_total t g (greater s g) (h.greatest t j k) c.right
+        ];
+      },
+    )
+known_more P s S (Some g) (inr q) h = (
+  Some g,
+  record {
+    member = inr h.member;
+    property = h.property;
+    greatest = λ t m k. elim m [ inl e ↦ absurd (q (subst (λ (u : Heard). P (key_of u.frame)) (sym e) k)) | inr j ↦ h.greatest t j k ];
+  },
+)
 
 pub some_known : (test : Key → Bool) (S : List Heard) → (known : Option Heard) × LastKnown S (Passes test) known
 some_known test [] = (None, λ s h k. h)

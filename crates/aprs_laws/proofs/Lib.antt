@@ -18,3 +18,4 @@ pub mod Interleaves
 pub mod RunRows
 pub mod TakenSteps
 pub mod Known
+pub mod Worked

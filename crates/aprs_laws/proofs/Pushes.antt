@@ -6,7 +6,7 @@ use Rattle.aprs_laws.specs.Order.{IsBelow}
 use Rattle.aprs_laws.specs.Key.{Key, key_cmp}
 use Rattle.aprs_laws.specs.Row.{Row, row_key, last_of, row_cmp}
 use Rattle.aprs_laws.specs.Sound.{IsSoundRow, IsFar, Sound}
-use Rattle.aprs_laws.proofs.Lists.{in_left, in_right, in_either, ordered_weaker}
+use Rattle.aprs_laws.proofs.Lists.{in_right, in_either, ordered_weaker}
 use Rattle.aprs_laws.proofs.Places.{ordered_append}
 use Rattle.aprs_laws.proofs.Orders.{not_both, key_total}
 use Rattle.aprs_laws.proofs.Rows.{IsBefore, before_trans}

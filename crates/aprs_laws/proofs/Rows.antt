@@ -12,7 +12,7 @@ use Rattle.aprs_laws.specs.Lists.{◌∈◌, Ordered}
 use Rattle.aprs_laws.specs.Order.{IsBelow, IsUpTo}
 use Rattle.aprs_laws.specs.Key.{Key, key_of, key_cmp}
 use Rattle.aprs_laws.specs.Row.{Row, row_key, last_of, IsOf}
-use Rattle.aprs_laws.specs.JoinRow.{choose, union, greater, IsNear, combine, by_moments, place}
+use Rattle.aprs_laws.specs.JoinRow.{choose, greater, IsNear, combine, by_moments, place}
 use Rattle.aprs_laws.proofs.Lists.{in_left, in_right, in_either}
 use Rattle.aprs_laws.proofs.Orders.{tells, key_total, key_exact, bytes_total, bytes_exact, heard_total, moment_up_to}
 use Rattle.aprs_laws.proofs.Choices.{in_union, union_ordered}

@@ -1,10 +1,10 @@
 -- Runs and rows of one set belong together one by one.
-use Rattle.std.proofs.Common.{◌≡◌, ℕ, ◌<◌, ◌≤◌, List, [], ◌∷◌, ◌++◌, ◌↔◌, inl, inr, sym, refl, ◌∙◌, subst, arith}
+use Rattle.std.proofs.Common.{◌≡◌, ℕ, ◌<◌, List, [], ◌∷◌, ◌++◌, ◌↔◌, inl, sym, refl, ◌∙◌, subst, arith}
 use Rattle.aprs_log.specs.Reception.{Heard}
-use Rattle.aprs_laws.specs.Lists.{◌∈◌, SameMembers}
+use Rattle.aprs_laws.specs.Lists.{◌∈◌}
 use Rattle.aprs_laws.specs.Key.{Key}
 use Rattle.aprs_laws.specs.Run.{Run}
-use Rattle.aprs_laws.specs.Row.{Row, row_key, last_of, IsOf}
+use Rattle.aprs_laws.specs.Row.{Row, row_key, last_of}
 use Rattle.aprs_laws.specs.Book.{BookOf}
 use Rattle.aprs_laws.specs.Sound.{Sound}
 use Rattle.aprs_laws.specs.Real.{real}
@@ -22,7 +22,7 @@ one_row_each gap S rows b = record { some = some; only = only; run = λ x h. ((b
       let t = a_row gap S rows b h.0 h.1 in
       let e : row_key t.0 ≡ k = sym t.2.key ∙ h.2 in
       let ends = runs_same gap S k f l t.0.first (last_of t.0) f r (subst (λ (q : Key). Run gap S q t.0.first (last_of t.0)) e t.3.run)
-          (omega arith) r.in_order (omega (arith, h.3, t.2.from)) (omega (arith, h.3, t.2.to)) in
+      (omega arith) r.in_order (omega (arith, h.3, t.2.from)) (omega (arith, h.3, t.2.to)) in
       (t.0, t.1, record { key_of_row = e; first_of_row = sym ends.0; last_of_row = sym ends.1 })
 
   only : (k : Key) (f l : ℕ) (x y : Row) → x ∈ rows → y ∈ rows → IsRowAt k f l x → IsRowAt k f l y → x ≡ y

@@ -1,7 +1,6 @@
 -- Steps on sets and on their books.
-use Rattle.std.proofs.Common.{◌≡◌, ℕ, ◌==◌, ◌<◌, if◌then◌else◌, Bool, true, false, List, [], ◌∷◌, ◌++◌, ◌↔◌, inl, inr, refl, subst}
+use Rattle.std.proofs.Common.{◌≡◌, ℕ, ◌==◌, ◌<◌, if◌then◌else◌, Bool, true, false, List, [], ◌∷◌, ◌++◌, refl}
 use Rattle.aprs_log.specs.Reception.{Heard}
-use Rattle.aprs_laws.specs.Lists.{◌∈◌, SameMembers}
 use Rattle.aprs_laws.specs.Row.{Row}
 use Rattle.aprs_laws.specs.Book.{BookOf}
 use Rattle.aprs_laws.specs.Sound.{IsSoundRow, Sound}

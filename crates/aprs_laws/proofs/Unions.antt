@@ -1,25 +1,15 @@
 -- The book of two sets; two sets with one book add alike; joining books.
-use Rattle.std.proofs.Common.{◌≡◌, ℕ, zero, suc, ◌+◌, ◌-◌, ◌<◌, ◌≤◌, List, [], ◌∷◌, ◌++◌, map, ◌↔◌, inl, inr, sym, refl, ap, subst, arith, false}
-use Rattle.std.proofs.lemmas.Bool.{cases_lt}
-use Rattle.std.proofs.lemmas.Bool.Decides.{nat_tests}
-use Rattle.std.proofs.lemmas.Cmp.{tied_itself}
-use Rattle.std.specs.Ordering.{nat_cmp, ordering_then, is_gt}
-use Rattle.std.specs.declared.cmp.Ordering.{Ordering}
-use Rattle.std.specs.declared.cmp.Ordering.TheVariants.{Less, Equal, Greater}
-use Rattle.aprs_log.specs.Reception.{Heard, bytes_cmp, heard_cmp}
-use Rattle.aprs_laws.specs.Lists.{◌∈◌, SameMembers, Ordered}
-use Rattle.aprs_laws.specs.Order.{IsBelow, IsUpTo}
-use Rattle.aprs_laws.specs.Key.{Key, key_cmp}
-use Rattle.aprs_laws.specs.Row.{Row, row_key, last_of, IsOf, row_cmp}
+use Rattle.std.proofs.Common.{◌≡◌, ℕ, ◌<◌, List, ◌++◌, ◌↔◌, inl, inr, sym, subst}
+use Rattle.aprs_log.specs.Reception.{Heard}
+use Rattle.aprs_laws.specs.Lists.{◌∈◌}
+use Rattle.aprs_laws.specs.Row.{Row}
 use Rattle.aprs_laws.specs.Book.{BookOf}
-use Rattle.aprs_laws.specs.Sound.{IsSoundRow, IsFar, Sound}
-use Rattle.aprs_laws.specs.Real.{moments, at_moment, by_receiver, real_row, real}
+use Rattle.aprs_laws.specs.Sound.{Sound}
+use Rattle.aprs_laws.specs.Real.{real}
 use Rattle.aprs_laws.specs.Joining.{Joined}
-use Rattle.aprs_laws.specs.JoinRow.{merge, plain_book}
-use Rattle.aprs_laws.proofs.Lists.{in_left, in_right, in_either, in_map, from_map, ordered_weaker}
-use Rattle.aprs_laws.proofs.Orders.{not_both, key_total, key_exact, bytes_total}
-use Rattle.aprs_laws.proofs.Rows.{Makes, IsBefore}
-use Rattle.aprs_laws.proofs.Made.{Made, appended, part_of, span, Keeps, keeps_merge, keeps_book}
+use Rattle.aprs_laws.specs.JoinRow.{merge}
+use Rattle.aprs_laws.proofs.Lists.{in_left, in_right, in_either}
+use Rattle.aprs_laws.proofs.Made.{appended, keeps_merge}
 use Rattle.aprs_laws.proofs.Soundness.{realised, sound, exists}
 use Rattle.aprs_laws.proofs.Books.{book_of_keeps, book_carries, one_book, unique, keeps_of_book}
 

@@ -1,5 +1,5 @@
 -- What the book tells of its set: one more reception; the greatest reception whose key has a property.
-use Rattle.std.proofs.Common.{◌≡◌, ℕ, ◌<◌, List, [], ◌∷◌, ◌++◌, inl, inr, sym, subst}
+use Rattle.std.proofs.Common.{ℕ, ◌<◌, List, [], ◌∷◌, inl, inr, sym, subst}
 use Rattle.std.proofs.lemmas.Cmp.{upto}
 use Rattle.aprs_log.specs.Reception.{Heard, heard_cmp}
 use Rattle.aprs_laws.specs.Lists.{◌∈◌}

@@ -1,5 +1,5 @@
 -- What holds of the books of sets, under each gap.
-use Rattle.std.specs.Prelude.{◌≡◌, ℕ, ◌<◌, List, [], ◌++◌, ◌↔◌}
+use Rattle.std.specs.Prelude.{◌≡◌, ℕ, List, [], ◌++◌, ◌↔◌}
 use Rattle.aprs_log.specs.Reception.{Heard}
 use Rattle.aprs_laws.specs.Lists.{◌∈◌, SameMembers}
 use Rattle.aprs_laws.specs.Key.{Key}

@@ -1,0 +1,86 @@
+-- Receptions and rows that the worked examples are about.
+use Rattle.std.specs.Prelude.{ℕ, Bool, true, List, [], ◌∷◌, codes}
+use Rattle.aprs_ax25.specs.Callsign.{Call}
+use Rattle.aprs_log.specs.Reception.{Heard}
+use Rattle.aprs_laws.specs.Key.{Key}
+use Rattle.aprs_laws.specs.Row.{Row}
+
+-- N0CALL-7>APRS:>Hi
+abbrev pub direct : List ℕ
+direct =
+    130 ∷ 160 ∷ 164 ∷ 166 ∷ 64 ∷ 64 ∷ 224 ∷ 156 ∷ 96 ∷ 134 ∷ 130 ∷ 152 ∷ 152 ∷ 111
+    ∷ 3 ∷ 240 ∷ 62 ∷ 72 ∷ 105 ∷ []
+
+-- N0CALL-7>APRS,WIDE1-1*:>Hi
+abbrev pub repeated : List ℕ
+repeated =
+    130 ∷ 160 ∷ 164 ∷ 166 ∷ 64 ∷ 64 ∷ 224 ∷ 156 ∷ 96 ∷ 134 ∷ 130 ∷ 152 ∷ 152 ∷ 110
+    ∷ 174 ∷ 146 ∷ 136 ∷ 138 ∷ 98 ∷ 64 ∷ 227 ∷ 3 ∷ 240 ∷ 62 ∷ 72 ∷ 105 ∷ []
+
+-- the same, with the C bits the other way round
+abbrev pub answered : List ℕ
+answered =
+    130 ∷ 160 ∷ 164 ∷ 166 ∷ 64 ∷ 64 ∷ 96 ∷ 156 ∷ 96 ∷ 134 ∷ 130 ∷ 152 ∷ 152 ∷ 238
+    ∷ 174 ∷ 146 ∷ 136 ∷ 138 ∷ 98 ∷ 64 ∷ 227 ∷ 3 ∷ 240 ∷ 62 ∷ 72 ∷ 105 ∷ []
+
+-- N0CALL-8>APRS:>Hi
+abbrev pub of_other : List ℕ
+of_other =
+    130 ∷ 160 ∷ 164 ∷ 166 ∷ 64 ∷ 64 ∷ 224 ∷ 156 ∷ 96 ∷ 134 ∷ 130 ∷ 152 ∷ 152 ∷ 113
+    ∷ 3 ∷ 240 ∷ 62 ∷ 72 ∷ 105 ∷ []
+
+-- the key of the first three
+abbrev pub hi_key : Key
+hi_key = record {
+  source = record { letters = codes "N0CALL"; ssid = 7 };
+  destination = record { letters = codes "APRS"; ssid = 0 };
+  info = codes ">Hi";
+}
+
+-- N0CALL with an SSID
+abbrev pub n0call : ℕ → Call
+n0call ssid = record { letters = codes "N0CALL"; ssid = ssid }
+
+-- a property that each key has
+abbrev pub any_key : Key → Bool
+any_key key = true
+
+abbrev pub rx1 : List ℕ
+rx1 = codes "RX1"
+
+abbrev pub rx2 : List ℕ
+rx2 = codes "RX2"
+
+abbrev pub heard : ℕ → List ℕ → List ℕ → Heard
+heard moment receiver frame = record { moment = moment; receiver = receiver; frame = frame }
+
+abbrev pub row : ℕ → List (List ℕ) → Heard → Row
+row first receivers greatest = record { first = first; receivers = receivers; greatest = greatest }
+
+-- two receptions 30 seconds apart, and their row
+abbrev pub near_pair : List Heard
+near_pair = heard 30 rx1 direct ∷ heard 0 rx2 repeated ∷ []
+
+abbrev pub near_row : Row
+near_row = row 0 (rx1 ∷ rx2 ∷ []) (heard 30 rx1 direct)
+
+-- two receptions 31 seconds apart, and their rows
+abbrev pub far_pair : List Heard
+far_pair = heard 31 rx1 direct ∷ heard 0 rx2 repeated ∷ []
+
+abbrev pub early_row : Row
+early_row = row 0 (rx2 ∷ []) (heard 0 rx2 repeated)
+
+abbrev pub late_row : Row
+late_row = row 31 (rx1 ∷ []) (heard 31 rx1 direct)
+
+-- two receptions at one moment, and their row
+abbrev pub tied_pair : List Heard
+tied_pair = heard 0 rx1 direct ∷ heard 0 rx2 repeated ∷ []
+
+abbrev pub tied_row : Row
+tied_row = row 0 (rx1 ∷ rx2 ∷ []) (heard 0 rx2 repeated)
+
+-- by two receivers in two seconds, where the last reception is by the lesser receiver
+abbrev pub short_row : Row
+short_row = row 0 (rx1 ∷ rx2 ∷ []) (heard 1 rx1 direct)
