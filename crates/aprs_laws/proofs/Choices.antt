@@ -5,10 +5,12 @@ use Rattle.std.specs.Ordering.{MatchOrdering}
 use Rattle.std.specs.declared.cmp.Ordering.{Ordering}
 use Rattle.std.specs.declared.cmp.Ordering.TheVariants.{Less, Equal, Greater}
 use Rattle.std.proofs.lemmas.Map.Lookups.{CmpEqualImpliesEq}
-use Rattle.aprs_laws.specs.Lists.{◌∈◌, Ordered}
+use Rattle.aprs_laws.specs.Lists.{◌∈◌, SameMembers, Ordered}
 use Rattle.aprs_laws.specs.Order.{IsBelow}
 use Rattle.aprs_laws.specs.JoinRow.{choose, add, union}
-use Rattle.aprs_laws.proofs.Orders.{tells}
+use Rattle.aprs_laws.specs.Joining.{IsUnited}
+use Rattle.aprs_laws.proofs.Lists.{ordered_same}
+use Rattle.aprs_laws.proofs.Orders.{tells, not_both}
 
 pub by_choice : {A : Type 0} (G : A → Type 0) (a b c : A) (P Q R : Type 0) (o : Ordering) → MatchOrdering o P Q R → (P → G a) → (Q → G b) → (R → G c) → G (choose o a b c)
 by_choice G a b c P Q R Less h f g k = f h
@@ -46,3 +48,33 @@ module _ {X : Type 0} {R : X → X → Ordering} (o : IsTotalOrder R) (e : CmpEq
   pub union_ordered : (xs ys : List X) → Ordered (IsBelow R) ys → Ordered (IsBelow R) (union R xs ys)
   union_ordered [] ys p = p
   union_ordered (x ∷ xs) ys p = add_ordered x (union R xs ys) (union_ordered xs ys p)
+
+  pub same_members : (xs ys : List X) → Ordered (IsBelow R) xs → Ordered (IsBelow R) ys → SameMembers xs ys → xs ≡ ys
+  same_members xs ys p q f = ordered_same (IsBelow R) (λ x y. not_both o x y) xs ys p q (λ z h. (f z).0 h) (λ z h. (f z).1 h)
+
+  -- what is there is not added
+  pub add_listed : (x : X) (ys : List X) → Ordered (IsBelow R) ys → x ∈ ys → add R x ys ≡ ys
+  add_listed x ys p h = same_members (add R x ys) ys (add_ordered x ys p) p
+      (λ z. (λ k. elim ((in_add x ys z).0 k) [ inl d ↦ subst (λ (w : X). w ∈ ys) d h | inr j ↦ j ], λ k. (in_add x ys z).1 (inr k)))
+
+  -- one more member, as a union
+  pub union_one : (xs : List X) (x : X) → Ordered (IsBelow R) xs → union R xs (x ∷ []) ≡ add R x xs
+  union_one xs x p = same_members (union R xs (x ∷ [])) (add R x xs) (union_ordered xs (x ∷ []) (λ y h. absurd h, tt)) (add_ordered x xs p)
+      (λ z. (
+        λ h. elim ((in_union xs (x ∷ []) z).0 h) [
+          | inl k ↦ (in_add x xs z).1 (inr k)
+          | inr k ↦ elim k [ inl d ↦ (in_add x xs z).1 (inl d) | inr j ↦ absurd j ]
+        ],
+        λ h. elim ((in_add x xs z).0 h) [ inl d ↦ (in_union xs (x ∷ []) z).1 (inr (inl d)) | inr k ↦ (in_union xs (x ∷ []) z).1 (inl k) ],
+      ))
+
+  pub union_flip : (xs ys : List X) → Ordered (IsBelow R) xs → Ordered (IsBelow R) ys → union R xs ys ≡ union R ys xs
+  union_flip xs ys p q = same_members (union R xs ys) (union R ys xs) (union_ordered xs ys q) (union_ordered ys xs p)
+      (λ z. (λ h. to xs ys z h, λ h. to ys xs z h)) where
+        to : (xs ys : List X) (z : X) → z ∈ union R xs ys → z ∈ union R ys xs
+        to xs ys z h = elim ((in_union xs ys z).0 h) [ inl k ↦ (in_union ys xs z).1 (inr k) | inr k ↦ (in_union ys xs z).1 (inl k) ]
+
+  -- a united list is the union
+  pub united_is_union : (xs ys zs : List X) → Ordered (IsBelow R) ys → IsUnited R xs ys zs → zs ≡ union R xs ys
+  united_is_union xs ys zs q u = same_members zs (union R xs ys) u.ascending (union_ordered xs ys q)
+      (λ z. (λ h. (in_union xs ys z).1 ((u.members z).0 h), λ h. (u.members z).1 ((in_union xs ys z).0 h)))

@@ -19,3 +19,4 @@ pub mod RunRows
 pub mod TakenSteps
 pub mod Known
 pub mod Worked
+pub mod Inserts

@@ -57,10 +57,10 @@ pub join_front : (gap : ℕ) (c : List Row) (r : Row) → r.first ≤ last_of r 
 join_front gap [] r l s f = refl
 join_front gap (x ∷ c) r l s f = chosen gap x c r Greater (place_after gap x r (s x (inl refl)) l (f x (inl refl)))
 
-near_combined : (gap : ℕ) (x r y : Row) → row_key x ≡ row_key r → IsNear gap y r → IsNear gap y (combine x r)
+pub near_combined : (gap : ℕ) (x r y : Row) → row_key x ≡ row_key r → IsNear gap y r → IsNear gap y (combine x r)
 near_combined gap x r y e n = record { key = n.key ∙ sym e ∙ sym (combined_key x r e); after = omega (arith, n.after); before = omega (arith, n.before, combined_last x r) }
 
-combined_before : (gap : ℕ) (x r y : Row) → row_key x ≡ row_key r → IsBefore gap x y → IsBefore gap r y → IsBefore gap (combine x r) y
+pub combined_before : (gap : ℕ) (x r y : Row) → row_key x ≡ row_key r → IsBefore gap x y → IsBefore gap r y → IsBefore gap (combine x r) y
 combined_before gap x r y e (inl h) k = inl (subst (λ (q : Key). key_cmp q (row_key y) ≡ Less) (sym (combined_key x r e)) h)
 combined_before gap x r y e (inr h) (inl k) = inl (subst (λ (q : Key). key_cmp q (row_key y) ≡ Less) (sym e ∙ sym (combined_key x r e)) k)
 combined_before gap x r y e (inr h) (inr k) = inr (combined_key x r e ∙ h.0, omega (arith, h.1, k.1, combined_last x r))

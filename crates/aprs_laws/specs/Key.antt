@@ -3,6 +3,7 @@ use Rattle.std.specs.Prelude.{ℕ, List}
 use Rattle.std.specs.Ordering.{on, then_cmp}
 use Rattle.std.specs.declared.cmp.Ordering.{Ordering}
 use Rattle.aprs_ax25.specs.Callsign.{Call, call_cmp}
+use Rattle.aprs_ax25.specs.Frame.{Parts}
 use Rattle.aprs_ax25.specs.FrameFault.{parts_of}
 use Rattle.aprs_log.specs.Reception.{bytes_cmp}
 
@@ -13,12 +14,12 @@ pub record Key : Type 0 where
   pub destination : Call
   pub info : List ℕ
 
+abbrev pub key_of_parts : Parts → Key
+key_of_parts p = record { source = p.source.call; destination = p.destination.call; info = p.info }
+
+-- of a frame's bytes
 unfoldable pub key_of : List ℕ → Key
-key_of frame = record {
-  source = (parts_of frame).source.call;
-  destination = (parts_of frame).destination.call;
-  info = (parts_of frame).info;
-}
+key_of frame = key_of_parts (parts_of frame)
 
 -- by source, then destination, then the bytes of the information
 unfoldable pub key_cmp : Key → Key → Ordering

@@ -12,6 +12,7 @@ pub mod Joining
 pub mod Taken
 pub mod Best
 pub mod JoinRow
+pub mod Inserted
 pub mod Examples
 pub mod BookLaws
 pub mod BestLaws
