@@ -1,12 +1,12 @@
 -- One more row at the end of sound rows: only the last row has to be looked at.
-use Rattle.std.proofs.Common.{◌≡◌, ℕ, ◌≤◌, List, [], ◌∷◌, ◌++◌, inl, inr, refl, subst}
+use Rattle.std.proofs.Common.{◌≡◌, ℕ, ◌≤◌, List, [], ◌∷◌, ◌++◌, ◌⊎◌, ◌↔◌, inl, inr, refl, sym, ap, subst}
 use Rattle.std.specs.declared.cmp.Ordering.TheVariants.{Less}
 use Rattle.aprs_laws.specs.Lists.{◌∈◌, Ordered}
 use Rattle.aprs_laws.specs.Order.{IsBelow}
 use Rattle.aprs_laws.specs.Key.{Key, key_cmp}
 use Rattle.aprs_laws.specs.Row.{Row, row_key, last_of, row_cmp}
-use Rattle.aprs_laws.specs.Sound.{IsSoundRow, IsFar, Sound}
-use Rattle.aprs_laws.proofs.Lists.{in_right, in_either, ordered_weaker}
+use Rattle.aprs_laws.specs.Sound.{IsSoundRow, IsFar, Sound, IsNext}
+use Rattle.aprs_laws.proofs.Lists.{in_left, in_right, in_either, ordered_weaker}
 use Rattle.aprs_laws.proofs.Places.{ordered_append}
 use Rattle.aprs_laws.proofs.Orders.{not_both, key_total}
 use Rattle.aprs_laws.proofs.Rows.{IsBefore, before_trans}
@@ -54,3 +54,48 @@ push_sound gap front l x s b f w =
           (λ y z h k. elim k [ inl e ↦ subst (λ (q : Row). IsBefore gap y q) e (before_last gap front l x i.ordered span (before_of_sound gap l x b f) y h) | inr j ↦ absurd j ]);
       each = λ y h. elim (in_either y (front ++ l ∷ []) (x ∷ []) h) [ inl k ↦ s.each y k | inr k ↦ elim k [ inl e ↦ subst (λ (z : Row). IsSoundRow z) e w | inr j ↦ absurd j ] ];
     })
+
+-- ---- the other way round: what rows with one more row tell of it
+
+front_ordered : {X : Type 0} (R : X → X → Type 0) (xs ys : List X) → Ordered R (xs ++ ys) → (x y : X) → x ∈ xs → y ∈ ys → R x y
+front_ordered R [] ys o x y h k = absurd h
+front_ordered {X} R (z ∷ xs) ys o x y (inl e) k = subst (λ (w : X). R w y) e (o.0 y (in_right y xs ys k))
+front_ordered R (z ∷ xs) ys o x y (inr h) k = front_ordered R xs ys o.1 x y h k
+
+pub next_of_sound : (gap : ℕ) (rows : List Row) (x : Row) → Sound gap (rows ++ x ∷ []) → IsNext gap rows x
+next_of_sound gap rows x s = record {
+  own = s.each x (in_right x rows (x ∷ []) (inl refl));
+  after = λ front l e. (lies (IsBelow row_cmp) s.ascending front l e, lies (IsFar gap) s.apart front l e);
+} where
+  lies : (R : Row → Row → Type 0) → Ordered R (rows ++ x ∷ []) → (front : List Row) (l : Row) → rows ≡ front ++ l ∷ [] → R l x
+  lies R o front l e = front_ordered R rows (x ∷ []) o l x (subst (λ (xs : List Row). l ∈ xs) (sym e) (in_right l front (l ∷ []) (inl refl))) (inl refl)
+
+-- rows are none, or have a last one
+pub empty_or_last : {X : Type 0} (xs : List X) → (xs ≡ []) ⊎ ((front : List X) × (l : X) × (xs ≡ front ++ l ∷ []))
+empty_or_last [] = inl refl
+empty_or_last (x ∷ xs) = elim (empty_or_last xs) [
+  | inl e ↦ inr ([], x, ap (λ ys. x ∷ ys) e)
+  | inr t ↦ inr (x ∷ t.0, t.1, ap (λ ys. x ∷ ys) t.2)
+]
+
+pub sound_of_next : (gap : ℕ) (rows : List Row) (x : Row) → Sound gap rows → IsNext gap rows x → Sound gap (rows ++ x ∷ [])
+sound_of_next gap rows x s n = elim (empty_or_last rows) [
+  | inl e ↦ subst (λ (xs : List Row). Sound gap (xs ++ x ∷ [])) (sym e) (push_first gap x n.own)
+  | inr t ↦ let a = n.after t.0 t.1 t.2 in
+      subst (λ (xs : List Row). Sound gap (xs ++ x ∷ [])) (sym t.2)
+      (push_sound gap t.0 t.1 x (subst (λ (xs : List Row). Sound gap xs) t.2 s) a.0 a.1 n.own)
+]
+
+pub push_exactly : (gap : ℕ) (rows : List Row) (x : Row) → Sound gap rows → Sound gap (rows ++ x ∷ []) ↔ IsNext gap rows x
+push_exactly gap rows x s = (next_of_sound gap rows x, sound_of_next gap rows x s)
+
+-- a front of sound rows is sound
+pub sound_front : (gap : ℕ) (rows more : List Row) → Sound gap (rows ++ more) → Sound gap rows
+sound_front gap rows more s = record {
+  ascending = front (IsBelow row_cmp) rows s.ascending;
+  apart = front (IsFar gap) rows s.apart;
+  each = λ x h. s.each x (in_left x rows more h);
+} where
+  front : (R : Row → Row → Type 0) (xs : List Row) → Ordered R (xs ++ more) → Ordered R xs
+  front R [] o = tt
+  front R (x ∷ xs) o = (λ y h. o.0 y (in_left y xs more h), front R xs o.1)

@@ -1,5 +1,5 @@
 -- Rows that some set of receptions has, told from the rows alone.
-use Rattle.std.specs.Prelude.{◌≡◌, ℕ, ◌+◌, ◌<◌, ◌≤◌, List}
+use Rattle.std.specs.Prelude.{◌≡◌, ℕ, ◌+◌, ◌<◌, ◌≤◌, List, [], ◌∷◌, ◌++◌}
 use Rattle.aprs_log.specs.Reception.{bytes_cmp}
 use Rattle.aprs_laws.specs.Lists.{◌∈◌, Ordered}
 use Rattle.aprs_laws.specs.Order.{IsBelow, IsUpTo}
@@ -20,3 +20,8 @@ pub record Sound (gap : ℕ) (rows : List Row) : Type 0 where
   pub ascending : Ordered (IsBelow row_cmp) rows
   pub apart : Ordered (IsFar gap) rows
   pub each : (x : Row) → x ∈ rows → IsSoundRow x
+
+-- x can follow sound rows: it is sound by itself, and comes after their last row, far from it
+pub record IsNext (gap : ℕ) (rows : List Row) (x : Row) : Type 0 where
+  pub own : IsSoundRow x
+  pub after : (front : List Row) (l : Row) → rows ≡ front ++ l ∷ [] → IsBelow row_cmp l x × IsFar gap l x

@@ -1,12 +1,13 @@
 -- What holds of the step that books are made with.
-use Rattle.std.specs.Prelude.{◌≡◌, ℕ, ◌==◌, if◌then◌else◌, List, [], ◌∷◌, ◌++◌, ◌⊎◌}
+use Rattle.std.specs.Prelude.{◌≡◌, ℕ, ◌==◌, if◌then◌else◌, List, [], ◌∷◌, ◌++◌, ◌⊎◌, ◌↔◌, true}
 use Rattle.aprs_log.specs.Reception.{Heard}
 use Rattle.aprs_laws.specs.Lists.{◌∈◌}
 use Rattle.aprs_laws.specs.Row.{Row}
 use Rattle.aprs_laws.specs.Book.{BookOf}
-use Rattle.aprs_laws.specs.Sound.{IsSoundRow, Sound}
+use Rattle.aprs_laws.specs.Sound.{IsSoundRow, Sound, IsNext}
 use Rattle.aprs_laws.specs.Joining.{Joined}
 use Rattle.aprs_laws.specs.Taken.{Step, Take, Merge, taken}
+use Rattle.aprs_laws.specs.Inserted.{inserted, FitsInPlace, fits_in_place}
 use Rattle.aprs_laws.specs.JoinRow.{single, IsNear, join_row, merge, interleave, coalesced, plain_book}
 
 abbrev pub PlainBookIsBook : ℕ → Type 0
@@ -16,6 +17,19 @@ PlainBookIsBook gap = (S : List Heard) → BookOf gap S (plain_book gap S)
 abbrev pub TakesReception : ℕ → Type 0
 TakesReception gap =
     (S : List Heard) (s : Heard) (p : List Row) → BookOf gap S p → BookOf gap (S ++ s ∷ []) (join_row gap p (single s))
+
+-- as code does it
+abbrev pub InsertsReception : ℕ → Type 0
+InsertsReception gap =
+    (S : List Heard) (s : Heard) (p : List Row) → BookOf gap S p → BookOf gap (S ++ s ∷ []) (inserted gap s p)
+
+abbrev pub FitsByTest : ℕ → Type 0
+FitsByTest gap =
+    (s : Heard) (p : List Row) → Sound gap p → FitsInPlace gap p s → fits_in_place gap s p ≡ true
+
+-- sound rows stay sound with exactly such rows behind them
+abbrev pub OnlyNextFollows : ℕ → Type 0
+OnlyNextFollows gap = (p : List Row) (x : Row) → Sound gap p → Sound gap (p ++ x ∷ []) ↔ IsNext gap p x
 
 -- one more sound row
 abbrev pub TakesRow : ℕ → Type 0

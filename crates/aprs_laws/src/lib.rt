@@ -5,6 +5,7 @@
 mod book_law;
 mod example;
 mod join_law;
+mod key_law;
 mod last_known_law;
 mod order_law;
 mod step_law;
@@ -20,6 +21,10 @@ pub use example::{
     ties_go_by_receiver_then_frame,
 };
 pub use join_law::{books_join, receivers_join, receptions_join};
+pub use key_law::keys_are_of_parts;
 pub use last_known_law::books_tell_last_known;
 pub use order_law::{equals_are_identical, orders_are_total};
-pub use step_law::{one_more_joins, one_pass_joins, steps_give_books, two_rows_are_near_at_most};
+pub use step_law::{
+    last_row_decides, one_more_joins, one_pass_joins, reception_is_inserted, steps_give_books,
+    two_rows_are_near_at_most,
+};

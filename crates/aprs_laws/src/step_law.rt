@@ -1,6 +1,6 @@
 //! Laws of the step that books are made with.
 ghost use Rattle.std.specs.Prelude.{ℕ, ◌<◌};
-ghost use Rattle.aprs_laws.specs.StepLaws.{PlainBookIsBook, TakesReception, TakesRow, TakesRows, AtMostTwoAreNear, OnePassJoins, StepsGiveBooks};
+ghost use Rattle.aprs_laws.specs.StepLaws.{PlainBookIsBook, TakesReception, InsertsReception, FitsByTest, OnlyNextFollows, TakesRow, TakesRows, AtMostTwoAreNear, OnePassJoins, StepsGiveBooks};
 
 /// One more row that joins a book gives the book of the union.
 pub fn one_more_joins()
@@ -8,6 +8,19 @@ pub fn one_more_joins()
     ensures row { (gap : ℕ) → 0 < gap → TakesRow gap }
     ensures rows { (gap : ℕ) → TakesRows gap }
     ensures plain { (gap : ℕ) → PlainBookIsBook gap }
+{}
+
+/// Code looks at two rows at most: of sound rows, what it makes of one more reception is the book of
+/// the union, and whether that fits in place can be tested.
+pub fn reception_is_inserted()
+    ensures book { (gap : ℕ) → InsertsReception gap }
+    ensures in_place { (gap : ℕ) → FitsByTest gap }
+{}
+
+/// Behind sound rows one more row is sound exactly if it is sound by itself, and after their last
+/// row and far from it.
+pub fn last_row_decides()
+    ensures { (gap : ℕ) → OnlyNextFollows gap }
 {}
 
 /// One reception is near to at most two rows of a book.
