@@ -1,21 +1,20 @@
 -- For sound rows, what code makes of one more reception is the joined step.
-use Rattle.std.proofs.Common.{◌≡◌, ℕ, ◌+◌, ◌<◌, ◌≤◌, min, Bool, true, false, ◌&&◌, not, List, [], ◌∷◌, ◌++◌, ◌⊎◌, inl, inr, refl, sym, ap, ◌∙◌, subst, arith}
-use Rattle.std.specs.Ordering.{MatchOrdering, ordering_reverse}
+use Rattle.std.proofs.Common.{◌≡◌, ℕ, ◌<◌, ◌≤◌, min, Bool, true, false, ◌&&◌, not, List, [], ◌∷◌, ◌++◌, inl, inr, refl, sym, ap, ◌∙◌, subst, arith}
+use Rattle.std.specs.Ordering.{MatchOrdering}
 use Rattle.std.specs.declared.cmp.Ordering.{Ordering}
 use Rattle.std.specs.declared.cmp.Ordering.TheVariants.{Less, Equal, Greater}
-use Rattle.std.proofs.lemmas.Cmp.{tied_itself}
-use Rattle.aprs_log.specs.Reception.{Heard, bytes_cmp, heard_cmp}
+use Rattle.aprs_log.specs.Reception.{Heard, bytes_cmp}
 use Rattle.aprs_laws.specs.Lists.{◌∈◌, Ordered}
 use Rattle.aprs_laws.specs.Order.{IsBelow}
-use Rattle.aprs_laws.specs.Row.{Row, row_key, last_of}
+use Rattle.aprs_laws.specs.Row.{Row, last_of}
 use Rattle.aprs_laws.specs.Book.{BookOf}
 use Rattle.aprs_laws.specs.Sound.{IsSoundRow, Sound}
 use Rattle.aprs_laws.specs.Real.{real}
-use Rattle.aprs_laws.specs.JoinRow.{choose, union, greater, single, IsNear, combine, place, join_row}
-use Rattle.aprs_laws.specs.Inserted.{side, grown, bridged, inserted, FitsInPlace, is_listed, is_near_first, fits_in_place}
+use Rattle.aprs_laws.specs.JoinRow.{choose, greater, single, IsNear, combine, place, join_row}
+use Rattle.aprs_laws.specs.Inserted.{grown, bridged, inserted, FitsInPlace, is_listed, is_near_first, fits_in_place}
 use Rattle.aprs_laws.proofs.Orders.{bytes_total, bytes_exact, heard_total, heard_exact, same_greatest, tells, not_both}
 use Rattle.aprs_laws.proofs.Choices.{union_one, union_flip, union_ordered}
-use Rattle.aprs_laws.proofs.Rows.{IsBefore, the_greater, place_tells, before_trans, combined_key, combined_last}
+use Rattle.aprs_laws.proofs.Rows.{IsBefore, the_greater, place_tells, before_trans, combined_last}
 use Rattle.aprs_laws.proofs.Books.{same_row}
 use Rattle.aprs_laws.proofs.Soundness.{sound, realised}
 use Rattle.aprs_laws.proofs.Parts.{near_combined, combined_before, join_front, join_near}

@@ -8,7 +8,7 @@ use Rattle.aprs_laws.specs.Book.{BookOf}
 use Rattle.aprs_laws.specs.Sound.{Sound}
 use Rattle.aprs_laws.specs.Joining.{Joined}
 use Rattle.aprs_laws.specs.JoinRow.{single, merge, plain_book}
-use Rattle.aprs_laws.specs.Examples.{direct, repeated, answered, hi_key, rx1, rx2, heard, near_pair, near_row, far_pair, early_row, late_row, tied_pair, tied_row}
+use Rattle.aprs_laws.specs.Examples.{direct, repeated, answered, hi_key, rx1, rx2, heard, near_pair, near_row, far_pair, early_row, late_row, close_row, tied_pair, tied_row}
 use Rattle.aprs_laws.proofs.Soundness.{sound}
 use Rattle.aprs_laws.proofs.TakenSteps.{plain_is_book}
 use Rattle.aprs_laws.proofs.Views.{joined_by_merge}
@@ -63,7 +63,7 @@ gap_is_some = omega arith
 joined_singles : (s t : Heard) (rows : List Row) → merge 30 (single s ∷ []) (single t ∷ []) ≡ rows → Joined 30 (single s ∷ []) (single t ∷ []) rows
 joined_singles s t rows e = subst (λ (p : List Row). Joined 30 (single s ∷ []) (single t ∷ []) p) e (joined_by_merge 30 gap_is_some (single s ∷ []) (single t ∷ []) (single_sound s) (single_sound t))
 
-pub joined_near : Joined 30 (early_row ∷ []) (single (heard 30 rx1 direct) ∷ []) (near_row ∷ [])
+pub joined_near : Joined 30 (early_row ∷ []) (close_row ∷ []) (near_row ∷ [])
 unfolding key_of key_cmp
 joined_near = joined_singles (heard 0 rx2 repeated) (heard 30 rx1 direct) (near_row ∷ []) refl
 

@@ -1,9 +1,10 @@
 -- Receptions and rows that the worked examples are about.
-use Rattle.std.specs.Prelude.{ℕ, Bool, true, List, [], ◌∷◌, codes}
+use Rattle.std.specs.Prelude.{◌≡◌, ℕ, Bool, true, List, [], ◌∷◌, codes}
 use Rattle.aprs_ax25.specs.Callsign.{Call}
 use Rattle.aprs_log.specs.Reception.{Heard}
 use Rattle.aprs_laws.specs.Key.{Key}
 use Rattle.aprs_laws.specs.Row.{Row}
+use Rattle.aprs_laws.specs.Taken.{Step, Take, Merge}
 
 -- N0CALL-7>APRS:>Hi
 abbrev pub direct : List ℕ
@@ -84,3 +85,32 @@ tied_row = row 0 (rx1 ∷ rx2 ∷ []) (heard 0 rx2 repeated)
 -- by two receivers in two seconds, where the last reception is by the lesser receiver
 abbrev pub short_row : Row
 short_row = row 0 (rx1 ∷ rx2 ∷ []) (heard 1 rx1 direct)
+
+-- a row 30 seconds after the early one
+abbrev pub close_row : Row
+close_row = row 30 (rx1 ∷ []) (heard 30 rx1 direct)
+
+-- by one receiver at one moment, or from one moment to another
+abbrev pub row_at : ℕ → Row
+row_at moment = row moment (rx1 ∷ []) (heard moment rx1 direct)
+
+abbrev pub row_to : ℕ → ℕ → Row
+row_to first last = row first (rx1 ∷ []) (heard last rx1 direct)
+
+-- a key with this source and information
+abbrev pub key_by : ℕ → List ℕ → Key
+key_by ssid info = record { source = n0call ssid; destination = n0call 0; info = info }
+
+-- the second place takes what stands in the first, which then has one more
+abbrev pub merge_then_take : List Step
+merge_then_take = Take 0 (heard 0 rx1 direct) ∷ Merge 1 0 ∷ Take 0 (heard 31 rx1 direct) ∷ []
+
+-- each place takes one, and then what the other has, and one takes what it has itself
+abbrev pub back_and_forth : List Step
+back_and_forth =
+    Take 0 (heard 0 rx1 direct) ∷ Take 1 (heard 20 rx2 direct)
+    ∷ Merge 0 1 ∷ Merge 1 0 ∷ Merge 0 0 ∷ []
+
+-- a join that answers the first value
+abbrev pub TakesFirst : Heard → Heard → Heard → Type 0
+TakesFirst a b c = c ≡ a

@@ -51,4 +51,4 @@ abbrev pub fits_in_place : ℕ → Heard → List Row → Bool
 fits_in_place gap s [] = false
 fits_in_place gap s (r ∷ rows) =
     choose (side gap r s) (fits_in_place gap s rows)
-        (is_listed s.receiver r.receivers && not (is_near_first gap s rows)) false
+    (is_listed s.receiver r.receivers && not (is_near_first gap s rows)) false

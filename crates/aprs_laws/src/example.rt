@@ -1,23 +1,35 @@
-//! Worked examples, and near misses that the definitions leave out.
+//! Worked examples of each definition, and near misses that it leaves out.
 ghost use Rattle.std.specs.Prelude.{◌≡◌, [], ◌∷◌, None, codes};
 ghost use Rattle.std.specs.declared.cmp.Ordering.TheVariants.{Less, Greater};
 ghost use Rattle.aprs_ax25.specs.Callsign.{call_cmp};
-ghost use Rattle.aprs_log.specs.Reception.{bytes_cmp};
+ghost use Rattle.aprs_log.specs.Reception.{bytes_cmp, heard_cmp};
 ghost use Rattle.aprs_laws.specs.Lists.{◌∈◌, SameMembers, Ordered};
-ghost use Rattle.aprs_laws.specs.Order.{IsBelow};
+ghost use Rattle.aprs_laws.specs.Order.{IsBelow, IsUpTo};
 ghost use Rattle.aprs_laws.specs.Gap.{gap_seconds};
-ghost use Rattle.aprs_laws.specs.Key.{key_of};
-ghost use Rattle.aprs_laws.specs.Run.{Run};
-ghost use Rattle.aprs_laws.specs.Row.{RowOf};
+ghost use Rattle.aprs_laws.specs.Key.{key_of, key_cmp};
+ghost use Rattle.aprs_laws.specs.Run.{HeardAt, Run};
+ghost use Rattle.aprs_laws.specs.Row.{IsOf, RowOf};
 ghost use Rattle.aprs_laws.specs.Book.{BookOf};
-ghost use Rattle.aprs_laws.specs.Sound.{Sound};
+ghost use Rattle.aprs_laws.specs.Sound.{Sound, IsNext};
 ghost use Rattle.aprs_laws.specs.Real.{real};
-ghost use Rattle.aprs_laws.specs.Joining.{IsGreaterOf, IsUnited, Joined, FoldsTo};
-ghost use Rattle.aprs_laws.specs.Taken.{Take, Merge, taken};
+ghost use Rattle.aprs_laws.specs.Joining.{JoinLaws, IsGreaterOf, IsAny, IsUnited, Joined, FoldsTo};
+ghost use Rattle.aprs_laws.specs.Taken.{taken};
 ghost use Rattle.aprs_laws.specs.Best.{IsBest, LastKnown};
-ghost use Rattle.aprs_laws.specs.JoinRow.{single, IsNear, join_row, plain_book};
+ghost use Rattle.aprs_laws.specs.JoinRow.{single, IsNear, join_row, interleave, coalesced, plain_book};
+ghost use Rattle.aprs_laws.specs.Inserted.{inserted, FitsInPlace};
 ghost use Rattle.aprs_laws.specs.BestLaws.{Passes};
-ghost use Rattle.aprs_laws.specs.Examples.{direct, repeated, answered, of_other, hi_key, n0call, rx1, rx2, heard, row, near_pair, near_row, far_pair, early_row, late_row, tied_pair, tied_row, short_row, any_key};
+ghost use Rattle.aprs_laws.specs.StepLaws.{rows_after_steps};
+ghost use Rattle.aprs_laws.specs.Examples.{direct, repeated, answered, of_other, hi_key, n0call, key_by, any_key, rx1, rx2, heard, row, row_at, row_to, near_pair, near_row, far_pair, early_row, late_row, close_row, tied_pair, tied_row, short_row, merge_then_take, back_and_forth, TakesFirst};
+
+/// Members have no number and no place. Ascending lists have no repeats.
+pub fn sets_and_orders()
+    ensures members { SameMembers (rx1 ∷ rx2 ∷ rx1 ∷ []) (rx2 ∷ rx1 ∷ []) }
+    ensures misses_member { SameMembers (rx1 ∷ []) (rx1 ∷ rx2 ∷ []) → ⊥ }
+    ensures ascends { Ordered (IsBelow bytes_cmp) (rx1 ∷ rx2 ∷ []) }
+    ensures misses_repeat { Ordered (IsBelow bytes_cmp) (rx1 ∷ rx1 ∷ []) → ⊥ }
+    ensures up_to_itself { IsUpTo heard_cmp (heard 0 rx1 direct) (heard 0 rx1 direct) }
+    ensures misses_below_itself { IsBelow heard_cmp (heard 0 rx1 direct) (heard 0 rx1 direct) → ⊥ }
+{}
 
 /// Copies of a frame with other digipeaters and other C and H bits have one key. Another SSID is
 /// another key.
@@ -29,10 +41,12 @@ pub fn copies_have_one_key()
     ensures misses_bytes { direct ≡ repeated → ⊥ }
 {}
 
-/// SSIDs are ordered as numbers, where their texts would be ordered otherwise.
-pub fn ssids_are_numbers()
-    ensures below { call_cmp (n0call 2) (n0call 10) ≡ Less }
-    ensures misses_texts { bytes_cmp (codes "N0CALL-2") (codes "N0CALL-10") ≡ Greater }
+/// Keys are ordered by source first. SSIDs are ordered as numbers, and not as their texts.
+pub fn sources_are_ordered_first()
+    ensures source { key_cmp (key_by 2 (codes "b")) (key_by 10 (codes "a")) ≡ Less }
+    ensures misses_information { bytes_cmp (codes "b") (codes "a") ≡ Greater }
+    ensures ssid { call_cmp (n0call 2) (n0call 10) ≡ Less }
+    ensures misses_text { bytes_cmp (codes "N0CALL-2") (codes "N0CALL-10") ≡ Greater }
 {}
 
 /// Neighbours 30 seconds apart are of one transmission, and 31 seconds apart of two.
@@ -40,21 +54,25 @@ pub fn gaps_decide_rows()
     ensures thirty_joins { plain_book gap_seconds near_pair ≡ near_row ∷ [] }
     ensures thirty_one_does_not { plain_book gap_seconds far_pair ≡ early_row ∷ late_row ∷ [] }
     ensures two_rows { plain_book gap_seconds (heard 31 rx1 direct ∷ heard 61 rx1 direct ∷ heard 0 rx1 direct ∷ [])
-        ≡ row 0 (rx1 ∷ []) (heard 0 rx1 direct) ∷ row 31 (rx1 ∷ []) (heard 61 rx1 direct) ∷ [] }
-    ensures bridged { join_row gap_seconds (row 0 (rx1 ∷ []) (heard 0 rx1 direct) ∷ row 31 (rx1 ∷ []) (heard 61 rx1 direct) ∷ [])
-        (single (heard 30 rx1 direct))
-        ≡ row 0 (rx1 ∷ []) (heard 61 rx1 direct) ∷ [] }
-    ensures inside { join_row gap_seconds (row 0 (rx1 ∷ []) (heard 61 rx1 direct) ∷ []) (single (heard 40 rx1 direct))
-        ≡ row 0 (rx1 ∷ []) (heard 61 rx1 direct) ∷ [] }
+        ≡ row_at 0 ∷ row_to 31 61 ∷ [] }
+    ensures bridged { join_row gap_seconds (row_at 0 ∷ row_to 31 61 ∷ []) (row_at 30) ≡ row_to 0 61 ∷ [] }
+    ensures inside { join_row gap_seconds (row_to 0 61 ∷ []) (row_at 40) ≡ row_to 0 61 ∷ [] }
+{}
+
+/// The same, as code makes it.
+pub fn gaps_decide_what_is_inserted()
+    ensures apart { inserted gap_seconds (heard 61 rx1 direct) (row_at 0 ∷ []) ≡ row_at 0 ∷ row_at 61 ∷ [] }
+    ensures grown { inserted gap_seconds (heard 31 rx1 direct) (row_at 0 ∷ row_at 61 ∷ [])
+        ≡ row_at 0 ∷ row_to 31 61 ∷ [] }
+    ensures bridged { inserted gap_seconds (heard 30 rx1 direct) (row_at 0 ∷ row_to 31 61 ∷ []) ≡ row_to 0 61 ∷ [] }
+    ensures inside { inserted gap_seconds (heard 40 rx1 direct) (row_to 0 61 ∷ []) ≡ row_to 0 61 ∷ [] }
 {}
 
 /// Of receptions at one moment the greater receiver is greatest, and of one receiver's the greater
 /// frame, in whatever order they come.
 pub fn ties_go_by_receiver_then_frame()
-    ensures frame { plain_book gap_seconds (heard 0 rx1 repeated ∷ heard 0 rx1 direct ∷ [])
-        ≡ row 0 (rx1 ∷ []) (heard 0 rx1 direct) ∷ [] }
-    ensures frame_turned { plain_book gap_seconds (heard 0 rx1 direct ∷ heard 0 rx1 repeated ∷ [])
-        ≡ row 0 (rx1 ∷ []) (heard 0 rx1 direct) ∷ [] }
+    ensures frame { plain_book gap_seconds (heard 0 rx1 repeated ∷ heard 0 rx1 direct ∷ []) ≡ row_at 0 ∷ [] }
+    ensures frame_turned { plain_book gap_seconds (heard 0 rx1 direct ∷ heard 0 rx1 repeated ∷ []) ≡ row_at 0 ∷ [] }
     ensures receiver { plain_book gap_seconds tied_pair ≡ tied_row ∷ [] }
 {}
 
@@ -64,85 +82,90 @@ pub fn receivers_ascend()
         ≡ row 0 (rx1 ∷ rx2 ∷ []) (heard 10 rx2 direct) ∷ [] }
 {}
 
-/// Sets and order.
-pub fn sets_have_no_order()
-    ensures meets { SameMembers (rx1 ∷ rx2 ∷ rx1 ∷ []) (rx2 ∷ rx1 ∷ []) }
-    ensures misses { SameMembers (rx1 ∷ []) (rx1 ∷ rx2 ∷ []) → ⊥ }
-    ensures ascends { Ordered (IsBelow bytes_cmp) (rx1 ∷ rx2 ∷ []) }
-    ensures misses_repeat { Ordered (IsBelow bytes_cmp) (rx1 ∷ rx1 ∷ []) → ⊥ }
-{}
-
 /// A part of a run is none, nor are two runs one.
 pub fn runs_are_maximal()
-    ensures meets { Run gap_seconds near_pair hi_key 0 30 }
+    ensures heard { HeardAt far_pair hi_key 31 }
+    ensures misses_moment { HeardAt far_pair hi_key 30 → ⊥ }
+    ensures run { Run gap_seconds near_pair hi_key 0 30 }
     ensures misses_part { Run gap_seconds near_pair hi_key 0 0 → ⊥ }
     ensures misses_both { Run gap_seconds far_pair hi_key 0 31 → ⊥ }
 {}
 
 /// A row has its run's greatest reception, and all of its receivers.
 pub fn rows_are_whole()
-    ensures meets { RowOf gap_seconds tied_pair tied_row }
+    ensures is_of { IsOf near_row (heard 0 rx2 repeated) }
+    ensures misses_later { IsOf early_row (heard 31 rx1 direct) → ⊥ }
+    ensures row { RowOf gap_seconds tied_pair tied_row }
     ensures misses_greatest { RowOf gap_seconds tied_pair (row 0 (rx1 ∷ rx2 ∷ []) (heard 0 rx1 direct)) → ⊥ }
     ensures misses_receiver { RowOf gap_seconds tied_pair (row 0 (rx2 ∷ []) (heard 0 rx2 repeated)) → ⊥ }
 {}
 
 /// A book has all rows of its set, in order.
 pub fn books_are_whole()
-    ensures meets { BookOf gap_seconds far_pair (early_row ∷ late_row ∷ []) }
+    ensures book { BookOf gap_seconds far_pair (early_row ∷ late_row ∷ []) }
     ensures misses_row { BookOf gap_seconds far_pair (early_row ∷ []) → ⊥ }
     ensures misses_order { BookOf gap_seconds far_pair (late_row ∷ early_row ∷ []) → ⊥ }
 {}
 
 /// Rows that no set has are not sound.
 pub fn soundness_is_seen_in_rows()
-    ensures meets { Sound gap_seconds (short_row ∷ []) }
+    ensures sound { Sound gap_seconds (short_row ∷ []) }
     ensures misses_greatest { Sound gap_seconds (row 1 (rx1 ∷ rx2 ∷ []) (heard 1 rx1 direct) ∷ []) → ⊥ }
-    ensures misses_apart { Sound gap_seconds (early_row ∷ row 30 (rx1 ∷ []) (heard 30 rx1 direct) ∷ []) → ⊥ }
+    ensures misses_apart { Sound gap_seconds (early_row ∷ close_row ∷ []) → ⊥ }
     ensures misses_receivers { Sound gap_seconds (row 0 (rx2 ∷ rx1 ∷ []) (heard 1 rx1 direct) ∷ []) → ⊥ }
+    ensures next { IsNext gap_seconds (early_row ∷ []) late_row }
+    ensures misses_near_next { IsNext gap_seconds (early_row ∷ []) close_row → ⊥ }
 {}
 
-/// Real receptions are those that every set with these rows may stand for: not all that was heard.
+/// Real receptions are as few as make the rows: what else was heard is not among them.
 pub fn real_receptions_are_few()
-    ensures meets { real (short_row ∷ [])
+    ensures real { real (short_row ∷ [])
         ≡ heard 0 rx1 direct ∷ heard 1 rx1 direct ∷ heard 0 rx1 direct ∷ heard 0 rx2 direct ∷ [] }
-    ensures misses { heard 1 rx2 direct ∈ real (short_row ∷ []) → ⊥ }
+    ensures misses_other { heard 1 rx2 direct ∈ real (short_row ∷ []) → ⊥ }
 {}
 
-/// A joined value has what both have.
+/// The greater of two receptions, and the receivers of both. To answer the first value is no join.
 pub fn joins_take_both()
     ensures greater { IsGreaterOf (heard 0 rx2 repeated) (heard 31 rx1 direct) (heard 31 rx1 direct) }
-    ensures misses_first { IsGreaterOf (heard 0 rx2 repeated) (heard 31 rx1 direct) (heard 0 rx2 repeated) → ⊥ }
+    ensures misses_lesser { IsGreaterOf (heard 0 rx2 repeated) (heard 31 rx1 direct) (heard 0 rx2 repeated) → ⊥ }
     ensures united { IsUnited bytes_cmp (rx2 ∷ []) (rx1 ∷ rx2 ∷ []) (rx1 ∷ rx2 ∷ []) }
     ensures misses_repeat { IsUnited bytes_cmp (rx1 ∷ []) (rx1 ∷ []) (rx1 ∷ rx1 ∷ []) → ⊥ }
-    ensures joined { Joined gap_seconds (early_row ∷ []) (row 30 (rx1 ∷ []) (heard 30 rx1 direct) ∷ []) (near_row ∷ []) }
-    ensures misses_rows_side_by_side { Joined gap_seconds (early_row ∷ []) (row 30 (rx1 ∷ []) (heard 30 rx1 direct) ∷ [])
-        (early_row ∷ row 30 (rx1 ∷ []) (heard 30 rx1 direct) ∷ []) → ⊥ }
-    ensures misses_one_book { Joined gap_seconds (early_row ∷ []) (late_row ∷ []) (early_row ∷ []) → ⊥ }
+    ensures misses_first { JoinLaws IsAny TakesFirst → ⊥ }
+    ensures folds { FoldsTo IsGreaterOf (heard 0 rx2 repeated) (heard 31 rx1 direct ∷ []) (heard 31 rx1 direct) }
+    ensures misses_start { FoldsTo IsGreaterOf (heard 31 rx1 direct) (heard 0 rx2 repeated ∷ []) (heard 0 rx2 repeated) → ⊥ }
 {}
 
-/// Joined one after another.
-pub fn folds_start_somewhere()
-    ensures meets { FoldsTo IsGreaterOf (heard 0 rx2 repeated) (heard 31 rx1 direct ∷ []) (heard 31 rx1 direct) }
-    ensures misses_start { FoldsTo IsGreaterOf (heard 31 rx1 direct) (heard 0 rx2 repeated ∷ []) (heard 0 rx2 repeated) → ⊥ }
+/// The joined value of two books has neither the rows of one alone nor all rows side by side.
+pub fn joined_books_are_books()
+    ensures joined { Joined gap_seconds (early_row ∷ []) (close_row ∷ []) (near_row ∷ []) }
+    ensures one_pass { coalesced gap_seconds (interleave (early_row ∷ []) (close_row ∷ [])) ≡ near_row ∷ [] }
+    ensures misses_side_by_side { Joined gap_seconds (early_row ∷ []) (close_row ∷ []) (early_row ∷ close_row ∷ []) → ⊥ }
+    ensures misses_one_book { Joined gap_seconds (early_row ∷ []) (late_row ∷ []) (early_row ∷ []) → ⊥ }
 {}
 
 /// A merge takes what the other place has then, and not what comes there later.
 pub fn merges_take_what_is_there()
-    ensures meets { taken (Take 0 (heard 0 rx1 direct) ∷ Merge 1 0 ∷ Take 0 (heard 31 rx1 direct) ∷ []) 1
-        ≡ heard 0 rx1 direct ∷ [] }
-    ensures misses { heard 31 rx1 direct
-        ∈ taken (Take 0 (heard 0 rx1 direct) ∷ Merge 1 0 ∷ Take 0 (heard 31 rx1 direct) ∷ []) 1 → ⊥ }
+    ensures taken { taken merge_then_take 1 ≡ heard 0 rx1 direct ∷ [] }
+    ensures misses_later { heard 31 rx1 direct ∈ taken merge_then_take 1 → ⊥ }
+    ensures first_book { rows_after_steps gap_seconds back_and_forth (λ place. []) 0
+        ≡ row 0 (rx1 ∷ rx2 ∷ []) (heard 20 rx2 direct) ∷ [] }
+    ensures second_book { rows_after_steps gap_seconds back_and_forth (λ place. []) 1
+        ≡ row 0 (rx1 ∷ rx2 ∷ []) (heard 20 rx2 direct) ∷ [] }
 {}
 
 /// What comes last in a list is not what is last known.
 pub fn greatest_is_last_known()
-    ensures meets { IsBest far_pair (Passes any_key) (heard 31 rx1 direct) }
+    ensures best { IsBest far_pair (Passes any_key) (heard 31 rx1 direct) }
     ensures misses_last { IsBest far_pair (Passes any_key) (heard 0 rx2 repeated) → ⊥ }
     ensures misses_none { LastKnown far_pair (Passes any_key) None → ⊥ }
 {}
 
-/// Rows are near up to the gap.
+/// Rows are near up to the gap. A reception fits in place where one row alone is near and lists
+/// its receiver.
 pub fn rows_are_near_up_to_the_gap()
-    ensures meets { IsNear gap_seconds early_row (single (heard 30 rx1 direct)) }
-    ensures misses { IsNear gap_seconds early_row (single (heard 31 rx1 direct)) → ⊥ }
+    ensures near { IsNear gap_seconds early_row (single (heard 30 rx1 direct)) }
+    ensures misses_far { IsNear gap_seconds early_row (single (heard 31 rx1 direct)) → ⊥ }
+    ensures fits { FitsInPlace gap_seconds (early_row ∷ late_row ∷ []) (heard 0 rx2 direct) }
+    ensures misses_receiver { FitsInPlace gap_seconds (early_row ∷ []) (heard 10 rx1 direct) → ⊥ }
+    ensures misses_two { FitsInPlace gap_seconds (early_row ∷ late_row ∷ []) (heard 10 rx2 direct) → ⊥ }
 {}

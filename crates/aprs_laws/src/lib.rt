@@ -14,10 +14,10 @@ pub use book_law::{
     books_decide_unions, runs_have_one_row_each, sets_have_one_book, sound_rows_are_books,
 };
 pub use example::{
-    books_are_whole, copies_have_one_key, folds_start_somewhere, gaps_decide_rows,
-    greatest_is_last_known, joins_take_both, merges_take_what_is_there, real_receptions_are_few,
-    receivers_ascend, rows_are_near_up_to_the_gap, rows_are_whole, runs_are_maximal,
-    sets_have_no_order, soundness_is_seen_in_rows, ssids_are_numbers,
+    books_are_whole, copies_have_one_key, gaps_decide_rows, gaps_decide_what_is_inserted,
+    greatest_is_last_known, joined_books_are_books, joins_take_both, merges_take_what_is_there,
+    real_receptions_are_few, receivers_ascend, rows_are_near_up_to_the_gap, rows_are_whole,
+    runs_are_maximal, sets_and_orders, soundness_is_seen_in_rows, sources_are_ordered_first,
     ties_go_by_receiver_then_frame,
 };
 pub use join_law::{books_join, receivers_join, receptions_join};

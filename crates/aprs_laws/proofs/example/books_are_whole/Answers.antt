@@ -6,8 +6,8 @@ use Rattle.aprs_laws.proofs.Books.{one_book}
 use Rattle.aprs_laws.proofs.Worked.{far_book}
 use Rattle.aprs_laws.proofs.example.books_are_whole.Goals as goal
 
-pub returns-clause-meets : goal.returns-clause-meets
-returns-clause-meets c = far_book
+pub returns-clause-book : goal.returns-clause-book
+returns-clause-book c = far_book
 
 pub returns-clause-misses_row : goal.returns-clause-misses_row
 returns-clause-misses_row c = λ b. let n : 1 ≡ 2 = ap (λ (rows : List Row). length rows) (one_book 30 far_pair (early_row ∷ []) (early_row ∷ late_row ∷ []) b far_book) in omega (arith, n)
