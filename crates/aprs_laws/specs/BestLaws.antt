@@ -12,7 +12,8 @@ abbrev pub Passes : (Key → Bool) → Key → Type 0
 Passes test key = IsTrue (test key)
 
 abbrev pub SomeIsLastKnown : Type 0
-SomeIsLastKnown = (test : Key → Bool) (S : List Heard) → (known : Option Heard) × LastKnown S (Passes test) known
+SomeIsLastKnown =
+    (test : Key → Bool) (S : List Heard) → (known : Option Heard) × LastKnown S (Passes test) known
 
 abbrev pub MembersDecideLastKnown : Type 0
 MembersDecideLastKnown =
@@ -22,5 +23,7 @@ MembersDecideLastKnown =
 -- what is last known of a set is what is last known of the greatest receptions of its book's rows
 abbrev pub RowsTellLastKnown : Type 0
 RowsTellLastKnown =
-    (gap : ℕ) (test : Key → Bool) (S : List Heard) (rows : List Row) (known : Option Heard) → BookOf gap S rows
-    → LastKnown S (Passes test) known ↔ LastKnown (map (λ (x : Row). x.greatest) rows) (Passes test) known
+    (gap : ℕ) (test : Key → Bool) (S : List Heard) (rows : List Row) (known : Option Heard)
+    → BookOf gap S rows
+    → LastKnown S (Passes test) known
+    ↔ LastKnown (map (λ (x : Row). x.greatest) rows) (Passes test) known

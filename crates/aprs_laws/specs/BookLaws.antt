@@ -21,6 +21,9 @@ MembersDecideBook gap =
 abbrev pub EmptyBookIsOfNothing : ℕ → Type 0
 EmptyBookIsOfNothing gap = (S : List Heard) → BookOf gap S [] ↔ (S ≡ [])
 
+abbrev pub BooksAreSound : ℕ → Type 0
+BooksAreSound gap = (S : List Heard) (p : List Row) → BookOf gap S p → Sound gap p
+
 abbrev pub SoundRowsAreBooks : ℕ → Type 0
 SoundRowsAreBooks gap = (p : List Row) → Sound gap p ↔ ((S : List Heard) × BookOf gap S p)
 
@@ -30,7 +33,8 @@ RealReceptionsHaveBook gap = (p : List Row) → Sound gap p → BookOf gap (real
 -- what is added to sets with one book gives one book again
 abbrev pub BooksDecideUnion : ℕ → Type 0
 BooksDecideUnion gap =
-    (S S' T T' : List Heard) (p q c : List Row) → BookOf gap S p → BookOf gap S' p → BookOf gap T q → BookOf gap T' q
+    (S S' T T' : List Heard) (p q c : List Row)
+    → BookOf gap S p → BookOf gap S' p → BookOf gap T q → BookOf gap T' q
     → BookOf gap (S ++ T) c → BookOf gap (S' ++ T') c
 
 -- the union has the joined value of the books
@@ -48,5 +52,10 @@ pub record IsRowAt (key : Key) (first last : ℕ) (x : Row) : Type 0 where
 -- each run of S has exactly one row, and each row a run
 pub record HasOneRowEach (gap : ℕ) (S : List Heard) (rows : List Row) : Type 0 where
   pub some : (k : Key) (a b : ℕ) → Run gap S k a b → (x : Row) × (x ∈ rows) × IsRowAt k a b x
-  pub only : (k : Key) (a b : ℕ) (x y : Row) → x ∈ rows → y ∈ rows → IsRowAt k a b x → IsRowAt k a b y → x ≡ y
+  pub only : (k : Key) (a b : ℕ) (x y : Row) → x ∈ rows → y ∈ rows
+      → IsRowAt k a b x → IsRowAt k a b y → x ≡ y
   pub run : (x : Row) → x ∈ rows → Run gap S (row_key x) x.first (last_of x)
+
+abbrev pub RunsHaveOneRowEach : ℕ → Type 0
+RunsHaveOneRowEach gap =
+    (S : List Heard) (rows : List Row) → BookOf gap S rows → HasOneRowEach gap S rows

@@ -58,44 +58,52 @@ heard moment receiver frame = record { moment = moment; receiver = receiver; fra
 abbrev pub row : ℕ → List (List ℕ) → Heard → Row
 row first receivers greatest = record { first = first; receivers = receivers; greatest = greatest }
 
+-- heard by RX1 at a moment
+abbrev pub by_rx1 : ℕ → Heard
+by_rx1 moment = heard moment rx1 direct
+
+-- heard by RX2 through a digipeater, at moment 0
+abbrev pub early : Heard
+early = heard 0 rx2 repeated
+
 -- two receptions 30 seconds apart, and their row
 abbrev pub near_pair : List Heard
-near_pair = heard 30 rx1 direct ∷ heard 0 rx2 repeated ∷ []
+near_pair = by_rx1 30 ∷ early ∷ []
 
 abbrev pub near_row : Row
-near_row = row 0 (rx1 ∷ rx2 ∷ []) (heard 30 rx1 direct)
+near_row = row 0 (rx1 ∷ rx2 ∷ []) (by_rx1 30)
 
 -- two receptions 31 seconds apart, and their rows
 abbrev pub far_pair : List Heard
-far_pair = heard 31 rx1 direct ∷ heard 0 rx2 repeated ∷ []
+far_pair = by_rx1 31 ∷ early ∷ []
 
 abbrev pub early_row : Row
-early_row = row 0 (rx2 ∷ []) (heard 0 rx2 repeated)
+early_row = row 0 (rx2 ∷ []) early
 
 abbrev pub late_row : Row
-late_row = row 31 (rx1 ∷ []) (heard 31 rx1 direct)
+late_row = row 31 (rx1 ∷ []) (by_rx1 31)
 
 -- two receptions at one moment, and their row
 abbrev pub tied_pair : List Heard
-tied_pair = heard 0 rx1 direct ∷ heard 0 rx2 repeated ∷ []
+tied_pair = by_rx1 0 ∷ early ∷ []
 
 abbrev pub tied_row : Row
-tied_row = row 0 (rx1 ∷ rx2 ∷ []) (heard 0 rx2 repeated)
+tied_row = row 0 (rx1 ∷ rx2 ∷ []) early
 
 -- by two receivers in two seconds, where the last reception is by the lesser receiver
 abbrev pub short_row : Row
-short_row = row 0 (rx1 ∷ rx2 ∷ []) (heard 1 rx1 direct)
+short_row = row 0 (rx1 ∷ rx2 ∷ []) (by_rx1 1)
 
 -- a row 30 seconds after the early one
 abbrev pub close_row : Row
-close_row = row 30 (rx1 ∷ []) (heard 30 rx1 direct)
+close_row = row 30 (rx1 ∷ []) (by_rx1 30)
 
 -- by one receiver at one moment, or from one moment to another
 abbrev pub row_at : ℕ → Row
-row_at moment = row moment (rx1 ∷ []) (heard moment rx1 direct)
+row_at moment = row moment (rx1 ∷ []) (by_rx1 moment)
 
 abbrev pub row_to : ℕ → ℕ → Row
-row_to first last = row first (rx1 ∷ []) (heard last rx1 direct)
+row_to first last = row first (rx1 ∷ []) (by_rx1 last)
 
 -- a key with this source and information
 abbrev pub key_by : ℕ → List ℕ → Key
@@ -103,12 +111,12 @@ key_by ssid info = record { source = n0call ssid; destination = n0call 0; info =
 
 -- the second place takes what stands in the first, which then has one more
 abbrev pub merge_then_take : List Step
-merge_then_take = Take 0 (heard 0 rx1 direct) ∷ Merge 1 0 ∷ Take 0 (heard 31 rx1 direct) ∷ []
+merge_then_take = Take 0 (by_rx1 0) ∷ Merge 1 0 ∷ Take 0 (by_rx1 31) ∷ []
 
 -- each place takes one, and then what the other has, and one takes what it has itself
 abbrev pub back_and_forth : List Step
 back_and_forth =
-    Take 0 (heard 0 rx1 direct) ∷ Take 1 (heard 20 rx2 direct)
+    Take 0 (by_rx1 0) ∷ Take 1 (heard 20 rx2 direct)
     ∷ Merge 0 1 ∷ Merge 1 0 ∷ Merge 0 0 ∷ []
 
 -- a join that answers the first value

@@ -26,7 +26,8 @@ bridged gap s r (x ∷ xs) = choose (side gap x s) (r ∷ x ∷ xs) (combine r x
 abbrev pub inserted : ℕ → Heard → List Row → List Row
 inserted gap s [] = single s ∷ []
 inserted gap s (r ∷ rows) =
-    choose (side gap r s) (r ∷ inserted gap s rows) (bridged gap s (grown r s) rows) (single s ∷ r ∷ rows)
+    choose (side gap r s) (r ∷ inserted gap s rows) (bridged gap s (grown r s) rows)
+    (single s ∷ r ∷ rows)
 
 -- exactly one row is near to s, and lists its receiver: what s changes fits where it is
 pub record FitsInPlace (gap : ℕ) (rows : List Row) (s : Heard) : Type 0 where

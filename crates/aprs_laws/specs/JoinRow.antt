@@ -58,7 +58,8 @@ place gap x y = ordering_then (key_cmp (row_key x) (row_key y)) (by_moments gap 
 -- the rows with one more row, which is one with each row that it is near to
 abbrev pub join_row : ℕ → List Row → Row → List Row
 join_row gap [] r = r ∷ []
-join_row gap (x ∷ xs) r = choose (place gap x r) (x ∷ join_row gap xs r) (join_row gap xs (combine x r)) (r ∷ x ∷ xs)
+join_row gap (x ∷ xs) r =
+    choose (place gap x r) (x ∷ join_row gap xs r) (join_row gap xs (combine x r)) (r ∷ x ∷ xs)
 
 -- all rows of the second list join the first
 abbrev pub merge : ℕ → List Row → List Row → List Row
@@ -68,16 +69,19 @@ merge gap p (r ∷ rs) = merge gap (join_row gap p r) rs
 -- l and the rows that follow it, where each joins the one before it that it is near to
 abbrev pub coalesce : ℕ → Row → List Row → List Row
 coalesce gap l [] = l ∷ []
-coalesce gap l (x ∷ xs) = choose (place gap l x) (l ∷ coalesce gap x xs) (coalesce gap (combine l x) xs) (l ∷ coalesce gap x xs)
+coalesce gap l (x ∷ xs) =
+    choose (place gap l x) (l ∷ coalesce gap x xs) (coalesce gap (combine l x) xs)
+    (l ∷ coalesce gap x xs)
 
 abbrev pub coalesced : ℕ → List Row → List Row
 coalesced gap [] = []
 coalesced gap (l ∷ xs) = coalesce gap l xs
 
--- x and the rows after it, in order with others, where `rest` puts the rows after x in order with others
+-- x and the rows after it, in order with others, where `rest` does this for the rows after it
 abbrev pub interleave_from : Row → List Row → (List Row → List Row) → List Row → List Row
 interleave_from x xs rest [] = x ∷ xs
-interleave_from x xs rest (y ∷ ys) = choose (row_cmp y x) (y ∷ interleave_from x xs rest ys) (x ∷ rest (y ∷ ys)) (x ∷ rest (y ∷ ys))
+interleave_from x xs rest (y ∷ ys) =
+    choose (row_cmp y x) (y ∷ interleave_from x xs rest ys) (x ∷ rest (y ∷ ys)) (x ∷ rest (y ∷ ys))
 
 -- the rows of two lists in order, those of the first before equal ones of the second
 abbrev pub interleave : List Row → List Row → List Row

@@ -16,7 +16,8 @@ pub record JoinLaws {X : Type 0} (valid : X → Type 0) (joined : X → X → X 
   pub stays : (a b c : X) → joined a b c → valid c
   pub commutative : (a b c : X) → joined a b c → joined b a c
   pub idempotent : (a x : X) → valid a → (joined a a x ↔ (x ≡ a))
-  pub associative : (a b c x y p q : X) → joined a b x → joined x c p → joined b c y → joined a y q → p ≡ q
+  pub associative : (a b c x y p q : X)
+      → joined a b x → joined x c p → joined b c y → joined a y q → p ≡ q
 
 -- c is the greater of two receptions
 pub record IsGreaterOf (a b c : Heard) : Type 0 where
@@ -40,10 +41,12 @@ Joined gap a b c = BookOf gap (real a ++ real b) c
 -- the items joined to `start` one after another
 abbrev pub FoldsTo : {X : Type 0} → (X → X → X → Type 0) → X → List X → X → Type 0
 FoldsTo joined start [] end = end ≡ start
-FoldsTo {X} joined start (x ∷ xs) end = (next : X) × joined start x next × FoldsTo joined next xs end
+FoldsTo {X} joined start (x ∷ xs) end =
+    (next : X) × joined start x next × FoldsTo joined next xs end
 
 -- valid items in another order or with repeats fold to the same
 abbrev pub FoldsFreely : {X : Type 0} → (X → Type 0) → (X → X → X → Type 0) → Type 0
 FoldsFreely {X} valid joined =
-    (start : X) (xs ys : List X) (c d : X) → valid start → ((x : X) → x ∈ xs → valid x) → SameMembers xs ys
+    (start : X) (xs ys : List X) (c d : X)
+    → valid start → ((x : X) → x ∈ xs → valid x) → SameMembers xs ys
     → FoldsTo joined start xs c → FoldsTo joined start ys d → c ≡ d

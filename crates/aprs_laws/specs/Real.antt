@@ -18,7 +18,8 @@ by_receiver x r = record { moment = x.first; receiver = r; frame = x.greatest.fr
 
 -- at each moment of the row, and by each of its receivers
 abbrev pub real_row : Row → List Heard
-real_row x = map (at_moment x) (moments x.first (last_of x - x.first + 1)) ++ map (by_receiver x) x.receivers
+real_row x =
+    map (at_moment x) (moments x.first (last_of x - x.first + 1)) ++ map (by_receiver x) x.receivers
 
 abbrev pub real : List Row → List Heard
 real [] = []

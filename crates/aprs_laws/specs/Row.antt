@@ -32,7 +32,8 @@ pub record IsOf (x : Row) (s : Heard) : Type 0 where
 pub record RowOf (gap : ℕ) (S : List Heard) (x : Row) : Type 0 where
   pub run : Run gap S (row_key x) x.first (last_of x)
   pub ascending : Ordered (IsBelow bytes_cmp) x.receivers
-  pub receivers : (r : List ℕ) → (r ∈ x.receivers) ↔ ((s : Heard) × (s ∈ S) × IsOf x s × (s.receiver ≡ r))
+  pub receivers : (r : List ℕ)
+      → (r ∈ x.receivers) ↔ ((s : Heard) × (s ∈ S) × IsOf x s × (s.receiver ≡ r))
   pub member : x.greatest ∈ S
   pub greatest : (s : Heard) → s ∈ S → IsOf x s → IsUpTo heard_cmp s x.greatest
 

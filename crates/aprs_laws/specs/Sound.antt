@@ -10,7 +10,8 @@ pub record IsSoundRow (x : Row) : Type 0 where
   pub in_order : x.first ≤ last_of x
   pub ascending : Ordered (IsBelow bytes_cmp) x.receivers
   pub receiver : x.greatest.receiver ∈ x.receivers
-  pub single : x.first ≡ last_of x → (r : List ℕ) → r ∈ x.receivers → IsUpTo bytes_cmp r x.greatest.receiver
+  pub single : x.first ≡ last_of x
+      → (r : List ℕ) → r ∈ x.receivers → IsUpTo bytes_cmp r x.greatest.receiver
 
 -- where the keys are equal, y begins more than `gap` seconds after x ends
 abbrev pub IsFar : ℕ → Row → Row → Type 0
@@ -24,4 +25,5 @@ pub record Sound (gap : ℕ) (rows : List Row) : Type 0 where
 -- x can follow sound rows: it is sound by itself, and comes after their last row, far from it
 pub record IsNext (gap : ℕ) (rows : List Row) (x : Row) : Type 0 where
   pub own : IsSoundRow x
-  pub after : (front : List Row) (l : Row) → rows ≡ front ++ l ∷ [] → IsBelow row_cmp l x × IsFar gap l x
+  pub after : (front : List Row) (l : Row) → rows ≡ front ++ l ∷ []
+      → IsBelow row_cmp l x × IsFar gap l x

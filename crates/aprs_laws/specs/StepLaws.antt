@@ -16,12 +16,14 @@ PlainBookIsBook gap = (S : List Heard) → BookOf gap S (plain_book gap S)
 -- one more reception
 abbrev pub TakesReception : ℕ → Type 0
 TakesReception gap =
-    (S : List Heard) (s : Heard) (p : List Row) → BookOf gap S p → BookOf gap (S ++ s ∷ []) (join_row gap p (single s))
+    (S : List Heard) (s : Heard) (p : List Row) → BookOf gap S p
+    → BookOf gap (S ++ s ∷ []) (join_row gap p (single s))
 
 -- as code does it
 abbrev pub InsertsReception : ℕ → Type 0
 InsertsReception gap =
-    (S : List Heard) (s : Heard) (p : List Row) → BookOf gap S p → BookOf gap (S ++ s ∷ []) (inserted gap s p)
+    (S : List Heard) (s : Heard) (p : List Row) → BookOf gap S p
+    → BookOf gap (S ++ s ∷ []) (inserted gap s p)
 
 abbrev pub FitsByTest : ℕ → Type 0
 FitsByTest gap =
@@ -29,22 +31,26 @@ FitsByTest gap =
 
 -- sound rows stay sound with exactly such rows behind them
 abbrev pub OnlyNextFollows : ℕ → Type 0
-OnlyNextFollows gap = (p : List Row) (x : Row) → Sound gap p → Sound gap (p ++ x ∷ []) ↔ IsNext gap p x
+OnlyNextFollows gap =
+    (p : List Row) (x : Row) → Sound gap p → Sound gap (p ++ x ∷ []) ↔ IsNext gap p x
 
 -- one more sound row
 abbrev pub TakesRow : ℕ → Type 0
-TakesRow gap = (p : List Row) (r : Row) → Sound gap p → IsSoundRow r → Joined gap p (r ∷ []) (join_row gap p r)
+TakesRow gap =
+    (p : List Row) (r : Row) → Sound gap p → IsSoundRow r → Joined gap p (r ∷ []) (join_row gap p r)
 
 -- the rows of another book, one after another
 abbrev pub TakesRows : ℕ → Type 0
 TakesRows gap =
-    (S T : List Heard) (p q : List Row) → BookOf gap S p → BookOf gap T q → BookOf gap (S ++ T) (merge gap p q)
+    (S T : List Heard) (p q : List Row) → BookOf gap S p → BookOf gap T q
+    → BookOf gap (S ++ T) (merge gap p q)
 
 -- of three rows to which one reception is near, two are one
 abbrev pub AtMostTwoAreNear : ℕ → Type 0
 AtMostTwoAreNear gap =
     (p : List Row) (s : Heard) (x y z : Row) → Sound gap p → x ∈ p → y ∈ p → z ∈ p
-    → IsNear gap x (single s) → IsNear gap y (single s) → IsNear gap z (single s) → (x ≡ y) ⊎ (y ≡ z) ⊎ (x ≡ z)
+    → IsNear gap x (single s) → IsNear gap y (single s) → IsNear gap z (single s)
+    → (x ≡ y) ⊎ (y ≡ z) ⊎ (x ≡ z)
 
 -- the rows of two books in order, where each joins the one before it if they are near
 abbrev pub OnePassJoins : ℕ → Type 0
@@ -58,8 +64,11 @@ rows_after_step gap (Merge i j) rows k = if k == i then merge gap (rows k) (rows
 
 abbrev pub rows_after_steps : ℕ → List Step → (ℕ → List Row) → ℕ → List Row
 rows_after_steps gap [] rows = rows
-rows_after_steps gap (step ∷ steps) rows = rows_after_steps gap steps (rows_after_step gap step rows)
+rows_after_steps gap (step ∷ steps) rows =
+    rows_after_steps gap steps (rows_after_step gap step rows)
 
 -- the steps on rows give the books of the sets that the steps take
 abbrev pub StepsGiveBooks : ℕ → Type 0
-StepsGiveBooks gap = (steps : List Step) (i : ℕ) → BookOf gap (taken steps i) (rows_after_steps gap steps (λ k. []) i)
+StepsGiveBooks gap =
+    (steps : List Step) (i : ℕ)
+    → BookOf gap (taken steps i) (rows_after_steps gap steps (λ k. []) i)

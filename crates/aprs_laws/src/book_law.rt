@@ -1,10 +1,6 @@
 //! Laws of the book of a set.
-ghost use Rattle.std.specs.Prelude.{ℕ, ◌<◌, List};
-ghost use Rattle.aprs_log.specs.Reception.{Heard};
-ghost use Rattle.aprs_laws.specs.Row.{Row};
-ghost use Rattle.aprs_laws.specs.Book.{BookOf};
-ghost use Rattle.aprs_laws.specs.Sound.{Sound};
-ghost use Rattle.aprs_laws.specs.BookLaws.{EachSetHasBook, MembersDecideBook, EmptyBookIsOfNothing, SoundRowsAreBooks, RealReceptionsHaveBook, BooksDecideUnion, UnionIsJoined, HasOneRowEach};
+ghost use Rattle.std.specs.Prelude.{ℕ, ◌<◌};
+ghost use Rattle.aprs_laws.specs.BookLaws.{BooksAreSound, RunsHaveOneRowEach, EachSetHasBook, MembersDecideBook, EmptyBookIsOfNothing, SoundRowsAreBooks, RealReceptionsHaveBook, BooksDecideUnion, UnionIsJoined};
 
 /// Each set has exactly one book, and only the empty set has one without rows.
 pub fn sets_have_one_book()
@@ -15,7 +11,7 @@ pub fn sets_have_one_book()
 
 /// Sound rows are exactly the books, and each is the book of its real receptions.
 pub fn sound_rows_are_books()
-    ensures sound { (gap : ℕ) (S : List Heard) (rows : List Row) → BookOf gap S rows → Sound gap rows }
+    ensures sound { (gap : ℕ) → BooksAreSound gap }
     ensures exactly { (gap : ℕ) → 0 < gap → SoundRowsAreBooks gap }
     ensures real { (gap : ℕ) → 0 < gap → RealReceptionsHaveBook gap }
 {}
@@ -28,5 +24,5 @@ pub fn books_decide_unions()
 
 /// A book has exactly one row for each maximal run of its set.
 pub fn runs_have_one_row_each()
-    ensures { (gap : ℕ) (S : List Heard) (rows : List Row) → BookOf gap S rows → HasOneRowEach gap S rows }
+    ensures { (gap : ℕ) → RunsHaveOneRowEach gap }
 {}

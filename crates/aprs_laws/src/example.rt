@@ -19,7 +19,7 @@ ghost use Rattle.aprs_laws.specs.JoinRow.{single, IsNear, join_row, interleave, 
 ghost use Rattle.aprs_laws.specs.Inserted.{inserted, FitsInPlace};
 ghost use Rattle.aprs_laws.specs.BestLaws.{Passes};
 ghost use Rattle.aprs_laws.specs.StepLaws.{rows_after_steps};
-ghost use Rattle.aprs_laws.specs.Examples.{direct, repeated, answered, of_other, hi_key, n0call, key_by, any_key, rx1, rx2, heard, row, row_at, row_to, near_pair, near_row, far_pair, early_row, late_row, close_row, tied_pair, tied_row, short_row, merge_then_take, back_and_forth, TakesFirst};
+ghost use Rattle.aprs_laws.specs.Examples.{direct, repeated, answered, of_other, hi_key, n0call, key_by, any_key, rx1, rx2, heard, by_rx1, early, row, row_at, row_to, near_pair, near_row, far_pair, early_row, late_row, close_row, tied_pair, tied_row, short_row, merge_then_take, back_and_forth, TakesFirst};
 
 /// Members have no number and no place. Ascending lists have no repeats.
 pub fn sets_and_orders()
@@ -27,8 +27,8 @@ pub fn sets_and_orders()
     ensures misses_member { SameMembers (rx1 ∷ []) (rx1 ∷ rx2 ∷ []) → ⊥ }
     ensures ascends { Ordered (IsBelow bytes_cmp) (rx1 ∷ rx2 ∷ []) }
     ensures misses_repeat { Ordered (IsBelow bytes_cmp) (rx1 ∷ rx1 ∷ []) → ⊥ }
-    ensures up_to_itself { IsUpTo heard_cmp (heard 0 rx1 direct) (heard 0 rx1 direct) }
-    ensures misses_below_itself { IsBelow heard_cmp (heard 0 rx1 direct) (heard 0 rx1 direct) → ⊥ }
+    ensures up_to_itself { IsUpTo heard_cmp (by_rx1 0) (by_rx1 0) }
+    ensures misses_below_itself { IsBelow heard_cmp (by_rx1 0) (by_rx1 0) → ⊥ }
 {}
 
 /// Copies of a frame with other digipeaters and other C and H bits have one key. Another SSID is
@@ -53,32 +53,35 @@ pub fn sources_are_ordered_first()
 pub fn gaps_decide_rows()
     ensures thirty_joins { plain_book gap_seconds near_pair ≡ near_row ∷ [] }
     ensures thirty_one_does_not { plain_book gap_seconds far_pair ≡ early_row ∷ late_row ∷ [] }
-    ensures two_rows { plain_book gap_seconds (heard 31 rx1 direct ∷ heard 61 rx1 direct ∷ heard 0 rx1 direct ∷ [])
+    ensures two_rows { plain_book gap_seconds (by_rx1 31 ∷ by_rx1 61 ∷ by_rx1 0 ∷ [])
         ≡ row_at 0 ∷ row_to 31 61 ∷ [] }
-    ensures bridged { join_row gap_seconds (row_at 0 ∷ row_to 31 61 ∷ []) (row_at 30) ≡ row_to 0 61 ∷ [] }
+    ensures bridged { join_row gap_seconds (row_at 0 ∷ row_to 31 61 ∷ []) (row_at 30)
+        ≡ row_to 0 61 ∷ [] }
     ensures inside { join_row gap_seconds (row_to 0 61 ∷ []) (row_at 40) ≡ row_to 0 61 ∷ [] }
 {}
 
 /// The same, as code makes it.
 pub fn gaps_decide_what_is_inserted()
-    ensures apart { inserted gap_seconds (heard 61 rx1 direct) (row_at 0 ∷ []) ≡ row_at 0 ∷ row_at 61 ∷ [] }
-    ensures grown { inserted gap_seconds (heard 31 rx1 direct) (row_at 0 ∷ row_at 61 ∷ [])
+    ensures apart { inserted gap_seconds (by_rx1 61) (row_at 0 ∷ []) ≡ row_at 0 ∷ row_at 61 ∷ [] }
+    ensures grown { inserted gap_seconds (by_rx1 31) (row_at 0 ∷ row_at 61 ∷ [])
         ≡ row_at 0 ∷ row_to 31 61 ∷ [] }
-    ensures bridged { inserted gap_seconds (heard 30 rx1 direct) (row_at 0 ∷ row_to 31 61 ∷ []) ≡ row_to 0 61 ∷ [] }
-    ensures inside { inserted gap_seconds (heard 40 rx1 direct) (row_to 0 61 ∷ []) ≡ row_to 0 61 ∷ [] }
+    ensures bridged { inserted gap_seconds (by_rx1 30) (row_at 0 ∷ row_to 31 61 ∷ [])
+        ≡ row_to 0 61 ∷ [] }
+    ensures inside { inserted gap_seconds (by_rx1 40) (row_to 0 61 ∷ []) ≡ row_to 0 61 ∷ [] }
 {}
 
 /// Of receptions at one moment the greater receiver is greatest, and of one receiver's the greater
 /// frame, in whatever order they come.
 pub fn ties_go_by_receiver_then_frame()
-    ensures frame { plain_book gap_seconds (heard 0 rx1 repeated ∷ heard 0 rx1 direct ∷ []) ≡ row_at 0 ∷ [] }
-    ensures frame_turned { plain_book gap_seconds (heard 0 rx1 direct ∷ heard 0 rx1 repeated ∷ []) ≡ row_at 0 ∷ [] }
+    ensures frame { plain_book gap_seconds (heard 0 rx1 repeated ∷ by_rx1 0 ∷ []) ≡ row_at 0 ∷ [] }
+    ensures frame_turned { plain_book gap_seconds (by_rx1 0 ∷ heard 0 rx1 repeated ∷ [])
+        ≡ row_at 0 ∷ [] }
     ensures receiver { plain_book gap_seconds tied_pair ≡ tied_row ∷ [] }
 {}
 
 /// Receivers stand in ascending order, each once.
 pub fn receivers_ascend()
-    ensures { plain_book gap_seconds (heard 10 rx2 direct ∷ heard 5 rx1 answered ∷ heard 0 rx2 repeated ∷ [])
+    ensures { plain_book gap_seconds (heard 10 rx2 direct ∷ heard 5 rx1 answered ∷ early ∷ [])
         ≡ row 0 (rx1 ∷ rx2 ∷ []) (heard 10 rx2 direct) ∷ [] }
 {}
 
@@ -93,11 +96,11 @@ pub fn runs_are_maximal()
 
 /// A row has its run's greatest reception, and all of its receivers.
 pub fn rows_are_whole()
-    ensures is_of { IsOf near_row (heard 0 rx2 repeated) }
-    ensures misses_later { IsOf early_row (heard 31 rx1 direct) → ⊥ }
+    ensures is_of { IsOf near_row early }
+    ensures misses_later { IsOf early_row (by_rx1 31) → ⊥ }
     ensures row { RowOf gap_seconds tied_pair tied_row }
-    ensures misses_greatest { RowOf gap_seconds tied_pair (row 0 (rx1 ∷ rx2 ∷ []) (heard 0 rx1 direct)) → ⊥ }
-    ensures misses_receiver { RowOf gap_seconds tied_pair (row 0 (rx2 ∷ []) (heard 0 rx2 repeated)) → ⊥ }
+    ensures misses_greatest { RowOf gap_seconds tied_pair (row 0 (rx1 ∷ rx2 ∷ []) (by_rx1 0)) → ⊥ }
+    ensures misses_receiver { RowOf gap_seconds tied_pair (row 0 (rx2 ∷ []) early) → ⊥ }
 {}
 
 /// A book has all rows of its set, in order.
@@ -110,9 +113,9 @@ pub fn books_are_whole()
 /// Rows that no set has are not sound.
 pub fn soundness_is_seen_in_rows()
     ensures sound { Sound gap_seconds (short_row ∷ []) }
-    ensures misses_greatest { Sound gap_seconds (row 1 (rx1 ∷ rx2 ∷ []) (heard 1 rx1 direct) ∷ []) → ⊥ }
+    ensures misses_greatest { Sound gap_seconds (row 1 (rx1 ∷ rx2 ∷ []) (by_rx1 1) ∷ []) → ⊥ }
     ensures misses_apart { Sound gap_seconds (early_row ∷ close_row ∷ []) → ⊥ }
-    ensures misses_receivers { Sound gap_seconds (row 0 (rx2 ∷ rx1 ∷ []) (heard 1 rx1 direct) ∷ []) → ⊥ }
+    ensures misses_receivers { Sound gap_seconds (row 0 (rx2 ∷ rx1 ∷ []) (by_rx1 1) ∷ []) → ⊥ }
     ensures next { IsNext gap_seconds (early_row ∷ []) late_row }
     ensures misses_near_next { IsNext gap_seconds (early_row ∷ []) close_row → ⊥ }
 {}
@@ -120,33 +123,36 @@ pub fn soundness_is_seen_in_rows()
 /// Real receptions are as few as make the rows: what else was heard is not among them.
 pub fn real_receptions_are_few()
     ensures real { real (short_row ∷ [])
-        ≡ heard 0 rx1 direct ∷ heard 1 rx1 direct ∷ heard 0 rx1 direct ∷ heard 0 rx2 direct ∷ [] }
+        ≡ by_rx1 0 ∷ by_rx1 1 ∷ by_rx1 0 ∷ heard 0 rx2 direct ∷ [] }
     ensures misses_other { heard 1 rx2 direct ∈ real (short_row ∷ []) → ⊥ }
 {}
 
 /// The greater of two receptions, and the receivers of both. To answer the first value is no join.
 pub fn joins_take_both()
-    ensures greater { IsGreaterOf (heard 0 rx2 repeated) (heard 31 rx1 direct) (heard 31 rx1 direct) }
-    ensures misses_lesser { IsGreaterOf (heard 0 rx2 repeated) (heard 31 rx1 direct) (heard 0 rx2 repeated) → ⊥ }
+    ensures greater { IsGreaterOf early (by_rx1 31) (by_rx1 31) }
+    ensures misses_lesser { IsGreaterOf early (by_rx1 31) early → ⊥ }
     ensures united { IsUnited bytes_cmp (rx2 ∷ []) (rx1 ∷ rx2 ∷ []) (rx1 ∷ rx2 ∷ []) }
     ensures misses_repeat { IsUnited bytes_cmp (rx1 ∷ []) (rx1 ∷ []) (rx1 ∷ rx1 ∷ []) → ⊥ }
     ensures misses_first { JoinLaws IsAny TakesFirst → ⊥ }
-    ensures folds { FoldsTo IsGreaterOf (heard 0 rx2 repeated) (heard 31 rx1 direct ∷ []) (heard 31 rx1 direct) }
-    ensures misses_start { FoldsTo IsGreaterOf (heard 31 rx1 direct) (heard 0 rx2 repeated ∷ []) (heard 0 rx2 repeated) → ⊥ }
+    ensures folds { FoldsTo IsGreaterOf early (by_rx1 31 ∷ []) (by_rx1 31) }
+    ensures misses_start { FoldsTo IsGreaterOf (by_rx1 31) (early ∷ []) early → ⊥ }
 {}
 
 /// The joined value of two books has neither the rows of one alone nor all rows side by side.
 pub fn joined_books_are_books()
     ensures joined { Joined gap_seconds (early_row ∷ []) (close_row ∷ []) (near_row ∷ []) }
-    ensures one_pass { coalesced gap_seconds (interleave (early_row ∷ []) (close_row ∷ [])) ≡ near_row ∷ [] }
-    ensures misses_side_by_side { Joined gap_seconds (early_row ∷ []) (close_row ∷ []) (early_row ∷ close_row ∷ []) → ⊥ }
-    ensures misses_one_book { Joined gap_seconds (early_row ∷ []) (late_row ∷ []) (early_row ∷ []) → ⊥ }
+    ensures one_pass { coalesced gap_seconds (interleave (early_row ∷ []) (close_row ∷ []))
+        ≡ near_row ∷ [] }
+    ensures misses_side_by_side { Joined gap_seconds (early_row ∷ []) (close_row ∷ [])
+        (early_row ∷ close_row ∷ []) → ⊥ }
+    ensures misses_one_book { Joined gap_seconds (early_row ∷ []) (late_row ∷ [])
+        (early_row ∷ []) → ⊥ }
 {}
 
 /// A merge takes what the other place has then, and not what comes there later.
 pub fn merges_take_what_is_there()
-    ensures taken { taken merge_then_take 1 ≡ heard 0 rx1 direct ∷ [] }
-    ensures misses_later { heard 31 rx1 direct ∈ taken merge_then_take 1 → ⊥ }
+    ensures taken { taken merge_then_take 1 ≡ by_rx1 0 ∷ [] }
+    ensures misses_later { by_rx1 31 ∈ taken merge_then_take 1 → ⊥ }
     ensures first_book { rows_after_steps gap_seconds back_and_forth (λ place. []) 0
         ≡ row 0 (rx1 ∷ rx2 ∷ []) (heard 20 rx2 direct) ∷ [] }
     ensures second_book { rows_after_steps gap_seconds back_and_forth (λ place. []) 1
@@ -155,17 +161,18 @@ pub fn merges_take_what_is_there()
 
 /// What comes last in a list is not what is last known.
 pub fn greatest_is_last_known()
-    ensures best { IsBest far_pair (Passes any_key) (heard 31 rx1 direct) }
-    ensures misses_last { IsBest far_pair (Passes any_key) (heard 0 rx2 repeated) → ⊥ }
+    ensures best { IsBest far_pair (Passes any_key) (by_rx1 31) }
+    ensures misses_last { IsBest far_pair (Passes any_key) early → ⊥ }
     ensures misses_none { LastKnown far_pair (Passes any_key) None → ⊥ }
 {}
 
 /// Rows are near up to the gap. A reception fits in place where one row alone is near and lists
 /// its receiver.
 pub fn rows_are_near_up_to_the_gap()
-    ensures near { IsNear gap_seconds early_row (single (heard 30 rx1 direct)) }
-    ensures misses_far { IsNear gap_seconds early_row (single (heard 31 rx1 direct)) → ⊥ }
+    ensures near { IsNear gap_seconds early_row (single (by_rx1 30)) }
+    ensures misses_far { IsNear gap_seconds early_row (single (by_rx1 31)) → ⊥ }
     ensures fits { FitsInPlace gap_seconds (early_row ∷ late_row ∷ []) (heard 0 rx2 direct) }
-    ensures misses_receiver { FitsInPlace gap_seconds (early_row ∷ []) (heard 10 rx1 direct) → ⊥ }
-    ensures misses_two { FitsInPlace gap_seconds (early_row ∷ late_row ∷ []) (heard 10 rx2 direct) → ⊥ }
+    ensures misses_receiver { FitsInPlace gap_seconds (early_row ∷ []) (by_rx1 10) → ⊥ }
+    ensures misses_two { FitsInPlace gap_seconds (early_row ∷ late_row ∷ [])
+        (heard 10 rx2 direct) → ⊥ }
 {}

@@ -6,5 +6,5 @@ ghost use Rattle.aprs_laws.specs.Key.{key_of, key_of_parts};
 /// The key of a frame is its source, its destination and its information, whatever digipeaters and
 /// flags it has.
 pub fn keys_are_of_parts()
-    ensures { (parts : Parts) (frame : List ℕ) → FrameOf parts frame → key_of frame ≡ key_of_parts parts }
+    ensures { (p : Parts) (frame : List ℕ) → FrameOf p frame → key_of frame ≡ key_of_parts p }
 {}

@@ -10,7 +10,7 @@ pub fn one_more_joins()
     ensures plain { (gap : ℕ) → PlainBookIsBook gap }
 {}
 
-/// Code looks at two rows at most: of sound rows, what it makes of one more reception is the book of
+/// Code looks at two rows at most: what it makes of a book and one more reception is the book of
 /// the union, and whether that fits in place can be tested.
 pub fn reception_is_inserted()
     ensures book { (gap : ℕ) → InsertsReception gap }
