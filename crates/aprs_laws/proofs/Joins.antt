@@ -29,27 +29,56 @@ book_laws gap pos = record {
   associative = λ a b c x y p q j k l m. unions.associative gap a b c x y p q pos j k l m;
 }
 
-same_united : {X : Type 0} {R : X → X → Ordering} → IsTotalOrder R → (c d : List X) → Ordered (IsBelow R) c → Ordered (IsBelow R) d → ((r : X) → (r ∈ c) ↔ (r ∈ d)) → c ≡ d
-same_united {X} {R} t c d o p e = ordered_same (IsBelow R) (λ x y. not_both t x y) c d o p (λ r h. (e r).0 h) (λ r h. (e r).1 h)
+same_united : {X : Type 0} {R : X → X → Ordering} → IsTotalOrder R → (c d : List X)
+    → Ordered (IsBelow R) c → Ordered (IsBelow R) d → ((r : X) → (r ∈ c) ↔ (r ∈ d)) → c ≡ d
+same_united {X} {R} t c d o p e =
+    ordered_same (IsBelow R) (λ x y. not_both t x y) c d o p (λ r h. (e r).0 h) (λ r h. (e r).1 h)
 
-pub receivers_laws : {X : Type 0} {R : X → X → Ordering} → IsTotalOrder R → CmpEqualImpliesEq R → JoinLaws (Ordered (IsBelow R)) (IsUnited R)
+pub receivers_laws : {X : Type 0} {R : X → X → Ordering} → IsTotalOrder R → CmpEqualImpliesEq R
+    → JoinLaws (Ordered (IsBelow R)) (IsUnited R)
 receivers_laws {X} {R} t e = record {
-  some = λ a b v w. (union R a b, record { ascending = union_ordered t e a b w; members = in_union t e a b });
-  only = λ a b c d j k. same_united t c d j.ascending k.ascending (λ r. (λ h. (k.members r).1 ((j.members r).0 h), λ h. (j.members r).1 ((k.members r).0 h)));
+  some =
+      λ a b v w.
+      (union R a b, record { ascending = union_ordered t e a b w; members = in_union t e a b });
+  only =
+      λ a b c d j k. same_united t c d j.ascending k.ascending
+      (λ r. (λ h. (k.members r).1 ((j.members r).0 h), λ h. (j.members r).1 ((k.members r).0 h)));
   stays = λ a b c j. j.ascending;
-  commutative = λ a b c j. record { ascending = j.ascending; members = λ r. (λ h. flip ((j.members r).0 h), λ h. (j.members r).1 (flip h)) };
+  commutative =
+      λ a b c j. record {
+        ascending = j.ascending;
+        members = λ r.
+            (λ h. flip ((j.members r).0 h), λ h. (j.members r).1 (flip h));
+      };
   idempotent = λ a x v. (
-    λ j. same_united t x a j.ascending v (λ r. (λ h. either ((j.members r).0 h), λ h. (j.members r).1 (inl h))),
-    λ e. record { ascending = subst (λ (c : List X). Ordered (IsBelow R) c) (sym e) v; members = λ r. subst (λ (c : List X). (r ∈ c) ↔ ((r ∈ a) ⊎ (r ∈ a))) (sym e) (λ h. inl h, λ h. either h) },
+    λ j. same_united t x a j.ascending v
+        (λ r. (λ h. either ((j.members r).0 h), λ h. (j.members r).1 (inl h))),
+    λ e. record {
+      ascending = subst (λ (c : List X). Ordered (IsBelow R) c)
+          (sym e) v;
+      members =
+          λ r. subst (λ (c : List X). (r ∈ c) ↔ ((r ∈ a) ⊎ (r ∈ a))) (sym e)
+          (λ h. inl h, λ h. either h);
+    },
   );
   associative = λ a b c x y p q j k l m. same_united t p q k.ascending m.ascending (λ r. (
     λ h. elim ((k.members r).0 h) [
-      | inl g ↦ elim ((j.members r).0 g) [ inl f ↦ (m.members r).1 (inl f) | inr f ↦ (m.members r).1 (inr ((l.members r).1 (inl f))) ]
+      | inl g ↦ elim
+          ((j.members r).0 g) [
+            | inl f ↦ (m.members r).1 (inl f)
+            | inr f ↦ (m.members r).1
+                (inr ((l.members r).1 (inl f)))
+          ]
       | inr g ↦ (m.members r).1 (inr ((l.members r).1 (inr g)))
     ],
     λ h. elim ((m.members r).0 h) [
       | inl g ↦ (k.members r).1 (inl ((j.members r).1 (inl g)))
-      | inr g ↦ elim ((l.members r).0 g) [ inl f ↦ (k.members r).1 (inl ((j.members r).1 (inr f))) | inr f ↦ (k.members r).1 (inr f) ]
+      | inr g ↦ elim
+          ((l.members r).0 g) [
+            | inl f ↦ (k.members r).1 (inl ((j.members r).1 (inr f)))
+            | inr f ↦
+                (k.members r).1 (inr f)
+          ]
     ],
   ));
 } where
@@ -62,7 +91,8 @@ receivers_laws {X} {R} t e = record {
   either (inr h) = h
 
 -- a greatest of a and b is up to what both are up to
-least : (a b c d : Heard) → IsGreaterOf a b c → IsUpTo heard_cmp a d → IsUpTo heard_cmp b d → IsUpTo heard_cmp c d
+least : (a b c d : Heard) → IsGreaterOf a b c → IsUpTo heard_cmp a d → IsUpTo heard_cmp b d
+    → IsUpTo heard_cmp c d
 least a b c d g h k = elim g.one [
   | inl e ↦ subst (λ (s : Heard). IsUpTo heard_cmp s d) (sym e) h
   | inr e ↦ subst (λ (s : Heard). IsUpTo heard_cmp s d) (sym e) k
@@ -77,8 +107,20 @@ same a b h k = same_greatest heard_total heard_exact a b h k
 -- the greater of two is their joined value
 pub is_greater_of : (a b : Heard) → IsGreaterOf a b (greater a b)
 is_greater_of a b = elim (the_greater a b) as (λ _. IsGreaterOf a b (greater a b)) [
-  | inl g ↦ record { one = inl g.0; left = subst (λ (c : Heard). IsUpTo heard_cmp a c) (sym g.0) (up_to_itself heard_total a); right = subst (λ (c : Heard). IsUpTo heard_cmp b c) (sym g.0) g.1 }
-  | inr g ↦ record { one = inr g.0; left = subst (λ (c : Heard). IsUpTo heard_cmp a c) (sym g.0) g.1; right = subst (λ (c : Heard). IsUpTo heard_cmp b c) (sym g.0) (up_to_itself heard_total b) }
+  | inl g ↦ record {
+    one = inl g.0;
+    left = subst (λ (c : Heard). IsUpTo heard_cmp a c) (sym g.0)
+        (up_to_itself heard_total a);
+    right =
+        subst (λ (c : Heard). IsUpTo heard_cmp b c) (sym g.0) g.1;
+  }
+  | inr g ↦ record {
+    one = inr g.0;
+    left = subst (λ (c : Heard). IsUpTo heard_cmp a c)
+        (sym g.0) g.1;
+    right =
+        subst (λ (c : Heard). IsUpTo heard_cmp b c) (sym g.0) (up_to_itself heard_total b);
+  }
 ]
 
 pub greatest_laws : JoinLaws IsAny IsGreaterOf
@@ -86,13 +128,17 @@ greatest_laws = record {
   some = λ a b v w. (greater a b, is_greater_of a b);
   only = λ a b c d j k. same c d (least a b c d j k.left k.right) (least a b d c k j.left j.right);
   stays = λ a b c j. tt;
-  commutative = λ a b c j. record { one = elim j.one [ inl e ↦ inr e | inr e ↦ inl e ]; left = j.right; right = j.left };
+  commutative =
+      λ a b c j. record { one = elim j.one [ inl e ↦ inr e | inr e ↦ inl e ]; left = j.right; right = j.left };
   idempotent = λ a x v. (
     λ j. elim j.one [ inl e ↦ e | inr e ↦ e ],
-    λ e. subst (λ (c : Heard). IsGreaterOf a a c) (sym e) (record { one = inl refl; left = up_to_itself heard_total a; right = up_to_itself heard_total a }),
+    λ e. subst (λ (c : Heard). IsGreaterOf a a c) (sym e)
+        (record { one = inl refl; left = up_to_itself heard_total a; right = up_to_itself heard_total a }),
   );
   associative = λ a b c x y p q j k l m.
       same p q
-      (least x c p q k (least a b x q j m.left (then b y q l.left m.right)) (then c y q l.right m.right))
-      (least a y q p m (then a x p j.left k.left) (least b c y p l (then b x p j.right k.left) k.right));
+      (least x c p q k (least a b x q j m.left (then b y q l.left m.right))
+      (then c y q l.right m.right))
+      (least a y q p m (then a x p j.left k.left)
+      (least b c y p l (then b x p j.right k.left) k.right));
 }

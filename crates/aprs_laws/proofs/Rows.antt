@@ -21,7 +21,8 @@ use Rattle.aprs_laws.proofs.Choices.{in_union, union_ordered}
 pub record Makes (gap : ℕ) (X : List Heard) (x : Row) : Type 0 where
   pub own : (s : Heard) → s ∈ X → IsOf x s
   pub at_first : (s : Heard) × (s ∈ X) × (s.moment ≡ x.first)
-  pub linked : (m : ℕ) → x.first ≤ m → m < last_of x → (s : Heard) × (s ∈ X) × (m < s.moment) × (s.moment ≤ m + gap)
+  pub linked : (m : ℕ) → x.first ≤ m → m < last_of x
+      → (s : Heard) × (s ∈ X) × (m < s.moment) × (s.moment ≤ m + gap)
   pub ascending : Ordered (IsBelow bytes_cmp) x.receivers
   pub receivers : (r : List ℕ) → (r ∈ x.receivers) ↔ ((s : Heard) × (s ∈ X) × (s.receiver ≡ r))
   pub member : x.greatest ∈ X
@@ -29,7 +30,9 @@ pub record Makes (gap : ℕ) (X : List Heard) (x : Row) : Type 0 where
 
 -- y comes after x, and too late to join it
 abbrev pub IsBefore : ℕ → Row → Row → Type 0
-IsBefore gap x y = (key_cmp (row_key x) (row_key y) ≡ Less) ⊎ ((row_key x ≡ row_key y) × (last_of x + gap < y.first))
+IsBefore gap x y =
+    (key_cmp (row_key x) (row_key y) ≡ Less)
+    ⊎ ((row_key x ≡ row_key y) × (last_of x + gap < y.first))
 
 -- z is what x and y make
 pub record IsCombined (x y z : Row) : Type 0 where
@@ -38,12 +41,18 @@ pub record IsCombined (x y z : Row) : Type 0 where
   pub last : last_of z ≡ max (last_of x) (last_of y)
   pub ascending : Ordered (IsBelow bytes_cmp) z.receivers
   pub receivers : (r : List ℕ) → (r ∈ z.receivers) ↔ ((r ∈ x.receivers) ⊎ (r ∈ y.receivers))
-  pub greatest : ((z.greatest ≡ x.greatest) × IsUpTo heard_cmp y.greatest x.greatest) ⊎ ((z.greatest ≡ y.greatest) × IsUpTo heard_cmp x.greatest y.greatest)
+  pub greatest : ((z.greatest ≡ x.greatest) × IsUpTo heard_cmp y.greatest x.greatest) ⊎
+      ((z.greatest ≡ y.greatest) × IsUpTo heard_cmp x.greatest y.greatest)
 
-module _ (gap : ℕ) (X Y : List Heard) (x y z : Row) (mx : Makes gap X x) (my : Makes gap Y y) (n : IsNear gap x y) (c : IsCombined x y z) where
+module _ (gap : ℕ) (X Y : List Heard) (x y z : Row) (mx : Makes gap X x) (my : Makes gap Y y)
+    (n : IsNear gap x y) (c : IsCombined x y z) where
   combined_own : (s : Heard) → (s ∈ X) ⊎ (s ∈ Y) → IsOf z s
-  combined_own s (inl h) = let i = mx.own s h in record { key = i.key ∙ sym c.key; from = omega arith; to = omega arith }
-  combined_own s (inr h) = let i = my.own s h in record { key = i.key ∙ (sym n.key ∙ sym c.key); from = omega arith; to = omega arith }
+  combined_own s (inl h) =
+      let i = mx.own s h in record { key = i.key ∙ sym c.key; from = omega arith; to = omega arith }
+  combined_own s (inr h) =
+      let i =
+      my.own s h in
+      record { key = i.key ∙ (sym n.key ∙ sym c.key); from = omega arith; to = omega arith }
 
   combined_first : (s : Heard) × (s ∈ (X ++ Y)) × (s.moment ≡ z.first)
   combined_first = elim (cases_lt y.first x.first) [
@@ -51,13 +60,16 @@ module _ (gap : ℕ) (X Y : List Heard) (x y z : Row) (mx : Makes gap X x) (my :
     | inr l ↦ let f = mx.at_first in (f.0, in_left f.0 X Y f.1, omega (arith, f.2))
   ]
 
-  from_x : (m : ℕ) → (s : Heard) × (s ∈ X) × (m < s.moment) × (s.moment ≤ m + gap) → (s : Heard) × (s ∈ (X ++ Y)) × (m < s.moment) × (s.moment ≤ m + gap)
+  from_x : (m : ℕ) → (s : Heard) × (s ∈ X) × (m < s.moment) × (s.moment ≤ m + gap)
+      → (s : Heard) × (s ∈ (X ++ Y)) × (m < s.moment) × (s.moment ≤ m + gap)
   from_x m t = (t.0, in_left t.0 X Y t.1, t.2, t.3)
 
-  from_y : (m : ℕ) → (s : Heard) × (s ∈ Y) × (m < s.moment) × (s.moment ≤ m + gap) → (s : Heard) × (s ∈ (X ++ Y)) × (m < s.moment) × (s.moment ≤ m + gap)
+  from_y : (m : ℕ) → (s : Heard) × (s ∈ Y) × (m < s.moment) × (s.moment ≤ m + gap)
+      → (s : Heard) × (s ∈ (X ++ Y)) × (m < s.moment) × (s.moment ≤ m + gap)
   from_y m t = (t.0, in_right t.0 X Y t.1, t.2, t.3)
 
-  combined_linked : (m : ℕ) → z.first ≤ m → m < last_of z → (s : Heard) × (s ∈ (X ++ Y)) × (m < s.moment) × (s.moment ≤ m + gap)
+  combined_linked : (m : ℕ) → z.first ≤ m → m < last_of z
+      → (s : Heard) × (s ∈ (X ++ Y)) × (m < s.moment) × (s.moment ≤ m + gap)
   combined_linked m f l = elim (cases_lt m x.first) [
     | inl a ↦ elim (cases_lt m (last_of y)) [
       | inl b ↦ from_y m (my.linked m (omega arith) b)
@@ -72,7 +84,8 @@ module _ (gap : ℕ) (X Y : List Heard) (x y z : Row) (mx : Makes gap X x) (my :
     ]
   ]
 
-  combined_receivers : (r : List ℕ) → (r ∈ z.receivers) ↔ ((s : Heard) × (s ∈ (X ++ Y)) × (s.receiver ≡ r))
+  combined_receivers : (r : List ℕ)
+      → (r ∈ z.receivers) ↔ ((s : Heard) × (s ∈ (X ++ Y)) × (s.receiver ≡ r))
   combined_receivers r = (
     λ h. elim ((c.receivers r).0 h) [
       | inl k ↦ let t = (mx.receivers r).0 k in (t.0, in_left t.0 X Y t.1, t.2)
@@ -86,8 +99,18 @@ module _ (gap : ℕ) (X Y : List Heard) (x y z : Row) (mx : Makes gap X x) (my :
 
   combined_greatest : (s : Heard) → (s ∈ X) ⊎ (s ∈ Y) → IsUpTo heard_cmp s z.greatest
   combined_greatest s h = elim c.greatest [
-    | inl g ↦ rw g.0 (elim h [ inl k ↦ mx.greatest s k | inr k ↦ upto heard_total s y.greatest x.greatest (my.greatest s k) g.1 ])
-    | inr g ↦ rw g.0 (elim h [ inl k ↦ upto heard_total s x.greatest y.greatest (mx.greatest s k) g.1 | inr k ↦ my.greatest s k ])
+    | inl g ↦ rw g.0
+        (elim h [
+          | inl k ↦ mx.greatest s k
+          | inr k ↦ upto heard_total s y.greatest x.greatest
+              (my.greatest s k) g.1
+        ])
+    | inr g ↦ rw g.0
+        (elim h [
+          | inl k ↦ upto heard_total s x.greatest y.greatest
+              (mx.greatest s k) g.1
+          | inr k ↦ my.greatest s k
+        ])
   ]
 
   combined_member : z.greatest ∈ (X ++ Y)
@@ -109,9 +132,12 @@ module _ (gap : ℕ) (X Y : List Heard) (x y z : Row) (mx : Makes gap X x) (my :
   }
 
 -- the greater of two receptions, and that it is
-pub the_greater : (a b : Heard) → ((greater a b ≡ a) × IsUpTo heard_cmp b a) ⊎ ((greater a b ≡ b) × IsUpTo heard_cmp a b)
+pub the_greater : (a b : Heard)
+    → ((greater a b ≡ a) × IsUpTo heard_cmp b a) ⊎ ((greater a b ≡ b) × IsUpTo heard_cmp a b)
 the_greater a b = told (heard_cmp a b) refl where
-  told : (o : Ordering) → heard_cmp a b ≡ o → ((choose o b a a ≡ a) × IsUpTo heard_cmp b a) ⊎ ((choose o b a a ≡ b) × IsUpTo heard_cmp a b)
+  told : (o : Ordering) → heard_cmp a b ≡ o
+      → ((choose o b a a ≡ a) × IsUpTo heard_cmp b a) ⊎
+      ((choose o b a a ≡ b) × IsUpTo heard_cmp a b)
   told Less h = inr (refl, ap is_gt h)
   told Equal h = inl (refl, ap is_gt (tied_back heard_total a b h))
   told Greater h = inl (refl, ap is_gt (heard_total.antisymm b a ∙ ap ordering_reverse h))
@@ -134,7 +160,8 @@ combined_last x y = elim (the_greater x.greatest y.greatest) [
   below : last_of x ≤ last_of y → last_of y ≡ max (last_of x) (last_of y)
   below l = omega arith
 
-pub combines : (gap : ℕ) (X Y : List Heard) (x y : Row) → row_key x ≡ row_key y → Makes gap X x → Makes gap Y y → IsCombined x y (combine x y)
+pub combines : (gap : ℕ) (X Y : List Heard) (x y : Row) → row_key x ≡ row_key y → Makes gap X x
+    → Makes gap Y y → IsCombined x y (combine x y)
 combines gap X Y x y e mx my = record {
   key = combined_key x y e;
   first = refl;
@@ -144,26 +171,45 @@ combines gap X Y x y e mx my = record {
   greatest = the_greater x.greatest y.greatest;
 }
 
-pub place_tells : (gap : ℕ) (x y : Row) → MatchOrdering (place gap x y) (IsBefore gap x y) (IsNear gap x y) (IsBefore gap y x)
-place_tells gap x y = by_key (key_cmp (row_key x) (row_key y)) (tells key_total key_exact (row_key x) (row_key y)) where
-  by_moment : (e : row_key x ≡ row_key y) (p q : Bool) → nat_lt (last_of x + gap) y.first ≡ p → nat_lt (last_of y + gap) x.first ≡ q → MatchOrdering (if p then Less else if q then Greater else Equal) (IsBefore gap x y) (IsNear gap x y) (IsBefore gap y x)
-  by_moment e true q h k = inr (e, grind (arith, nat_tests))
-  by_moment e false true h k = inr (sym e, grind (arith, nat_tests))
-  by_moment e false false h k = record { key = e; after = grind (arith, nat_tests); before = grind (arith, nat_tests) }
+pub place_tells : (gap : ℕ) (x y : Row)
+    → MatchOrdering (place gap x y) (IsBefore gap x y) (IsNear gap x y) (IsBefore gap y x)
+place_tells gap x y =
+    by_key (key_cmp (row_key x) (row_key y))
+    (tells key_total key_exact (row_key x) (row_key y)) where
+      by_moment : (e : row_key x ≡ row_key y) (p q : Bool) → nat_lt (last_of x + gap) y.first ≡ p
+          → nat_lt (last_of y + gap) x.first ≡ q
+          → MatchOrdering (if p then Less else if q then Greater else Equal) (IsBefore gap x y)
+          (IsNear gap x y) (IsBefore gap y x)
+      by_moment e true q h k = inr (e, grind (arith, nat_tests))
+      by_moment e false true h k = inr (sym e, grind (arith, nat_tests))
+      by_moment e false false h k =
+          record { key = e; after = grind (arith, nat_tests); before = grind (arith, nat_tests) }
 
-  by_key : (o : Ordering) → MatchOrdering o (key_cmp (row_key x) (row_key y) ≡ Less) (row_key x ≡ row_key y) (key_cmp (row_key y) (row_key x) ≡ Less) → MatchOrdering (ordering_then o (by_moments gap x y)) (IsBefore gap x y) (IsNear gap x y) (IsBefore gap y x)
-  by_key Less h = inl h
-  by_key Equal h = by_moment h (nat_lt (last_of x + gap) y.first) (nat_lt (last_of y + gap) x.first) refl refl
-  by_key Greater h = inl h
+      by_key : (o : Ordering)
+          → MatchOrdering o (key_cmp (row_key x) (row_key y) ≡ Less) (row_key x ≡ row_key y)
+          (key_cmp (row_key y) (row_key x) ≡ Less)
+          → MatchOrdering (ordering_then o (by_moments gap x y)) (IsBefore gap x y) (IsNear gap x y)
+          (IsBefore gap y x)
+      by_key Less h = inl h
+      by_key Equal h =
+          by_moment h (nat_lt (last_of x + gap) y.first) (nat_lt (last_of y + gap) x.first) refl refl
+      by_key Greater h = inl h
 
 -- what is before x is before what x and y make, if it is before both
-pub before_combined : (gap : ℕ) (w x y z : Row) → row_key x ≡ row_key y → IsCombined x y z → IsBefore gap w x → IsBefore gap w y → IsBefore gap w z
-before_combined gap w x y z e c (inl h) k = inl (subst (λ (q : Key). key_cmp (row_key w) q ≡ Less) (sym c.key) h)
-before_combined gap w x y z e c (inr h) (inl k) = inl (subst (λ (q : Key). key_cmp (row_key w) q ≡ Less) (sym e ∙ sym c.key) k)
+pub before_combined : (gap : ℕ) (w x y z : Row) → row_key x ≡ row_key y → IsCombined x y z
+    → IsBefore gap w x → IsBefore gap w y → IsBefore gap w z
+before_combined gap w x y z e c (inl h) k =
+    inl (subst (λ (q : Key). key_cmp (row_key w) q ≡ Less) (sym c.key) h)
+before_combined gap w x y z e c (inr h) (inl k) =
+    inl (subst (λ (q : Key). key_cmp (row_key w) q ≡ Less) (sym e ∙ sym c.key) k)
 before_combined gap w x y z e c (inr h) (inr k) = inr (h.0 ∙ sym c.key, omega arith)
 
-pub before_trans : (gap : ℕ) (x y z : Row) → y.first ≤ last_of y → IsBefore gap x y → IsBefore gap y z → IsBefore gap x z
-before_trans gap x y z l (inl h) (inl k) = inl (key_total.trans (row_key x) (row_key y) (row_key z) h k)
-before_trans gap x y z l (inl h) (inr k) = inl (subst (λ (q : Key). key_cmp (row_key x) q ≡ Less) k.0 h)
-before_trans gap x y z l (inr h) (inl k) = inl (subst (λ (q : Key). key_cmp q (row_key z) ≡ Less) (sym h.0) k)
+pub before_trans : (gap : ℕ) (x y z : Row) → y.first ≤ last_of y → IsBefore gap x y
+    → IsBefore gap y z → IsBefore gap x z
+before_trans gap x y z l (inl h) (inl k) =
+    inl (key_total.trans (row_key x) (row_key y) (row_key z) h k)
+before_trans gap x y z l (inl h) (inr k) =
+    inl (subst (λ (q : Key). key_cmp (row_key x) q ≡ Less) k.0 h)
+before_trans gap x y z l (inr h) (inl k) =
+    inl (subst (λ (q : Key). key_cmp q (row_key z) ≡ Less) (sym h.0) k)
 before_trans gap x y z l (inr h) (inr k) = inr (h.0 ∙ k.0, omega arith)

@@ -30,17 +30,22 @@ sound_row gap X x m = record {
   single = λ e r h.
       let t = (m.receivers r).0 h in
       let i = m.own t.0 t.1 in
-      subst (λ (q : List ℕ). IsUpTo bytes_cmp q x.greatest.receiver) t.2 (receiver_up_to t.0 x.greatest (omega (arith, e, i.from, i.to)) (m.greatest t.0 t.1));
+      subst (λ (q : List ℕ). IsUpTo bytes_cmp q x.greatest.receiver) t.2
+      (receiver_up_to t.0 x.greatest (omega (arith, e, i.from, i.to)) (m.greatest t.0 t.1));
 }
 
-pub sound_of_keeps : (gap : ℕ) (S : List Heard) (rows : List Row) → Keeps gap S rows → Sound gap rows
+pub sound_of_keeps : (gap : ℕ) (S : List Heard) (rows : List Row) → Keeps gap S rows
+    → Sound gap rows
 sound_of_keeps gap S rows k = record {
   ascending = (book_of_keeps gap S rows k).ascending;
   apart = ordered_weaker (IsBefore gap) (IsFar gap) rows (λ x y hx hy b. far x y b) k.ordered;
   each = λ x h. let p = part_of gap S rows k.made k.ordered x h in sound_row gap p.X x p.makes;
 } where
   far : (x y : Row) → IsBefore gap x y → IsFar gap x y
-  far x y (inl h) e = let r = subst (λ (q : Key). key_cmp q (row_key y) ≡ Less) e h in absurd (not_both key_total (row_key y) (row_key y) r r)
+  far x y (inl h) e =
+      let r =
+      subst (λ (q : Key). key_cmp q (row_key y) ≡ Less) e h in
+      absurd (not_both key_total (row_key y) (row_key y) r r)
   far x y (inr h) e = h.1
 
 -- what sound rows stand for
@@ -55,33 +60,47 @@ in_moments m a (suc n) l u = elim (cases_lt a m) [
 pub from_moments : (m a n : ℕ) → m ∈ moments a n → (a ≤ m) × (m < a + n)
 from_moments m a zero h = absurd h
 from_moments m a (suc n) (inl e) = (omega arith, omega arith)
-from_moments m a (suc n) (inr h) = let k = from_moments m (a + 1) n h in (omega (arith, k), omega (arith, k))
+from_moments m a (suc n) (inr h) =
+    let k = from_moments m (a + 1) n h in (omega (arith, k), omega (arith, k))
 
 module _ (gap : ℕ) (x : Row) (w : IsSoundRow x) (pos : 0 < gap) where
   real_at : (m : ℕ) → x.first ≤ m → m ≤ last_of x → at_moment x m ∈ real_row x
-  real_at m l u = in_left (at_moment x m) (map (at_moment x) (moments x.first (last_of x - x.first + 1))) (map (by_receiver x) x.receivers) (in_map (at_moment x) m (moments x.first (last_of x - x.first + 1)) (in_moments m x.first (last_of x - x.first + 1) l (omega arith)))
+  real_at m l u =
+      in_left (at_moment x m) (map (at_moment x) (moments x.first (last_of x - x.first + 1)))
+      (map (by_receiver x) x.receivers)
+      (in_map (at_moment x) m (moments x.first (last_of x - x.first + 1))
+      (in_moments m x.first (last_of x - x.first + 1) l (omega arith)))
 
   real_by : (r : List ℕ) → r ∈ x.receivers → by_receiver x r ∈ real_row x
-  real_by r h = in_right (by_receiver x r) (map (at_moment x) (moments x.first (last_of x - x.first + 1))) (map (by_receiver x) x.receivers) (in_map (by_receiver x) r x.receivers h)
+  real_by r h =
+      in_right (by_receiver x r) (map (at_moment x) (moments x.first (last_of x - x.first + 1)))
+      (map (by_receiver x) x.receivers) (in_map (by_receiver x) r x.receivers h)
 
   -- each real reception is one of these
-  real_from : (P : Heard → Type 0) → ((m : ℕ) → x.first ≤ m → m ≤ last_of x → P (at_moment x m)) → ((r : List ℕ) → r ∈ x.receivers → P (by_receiver x r)) → (s : Heard) → s ∈ real_row x → P s
-  real_from P f g s h = elim (in_either s (map (at_moment x) (moments x.first (last_of x - x.first + 1))) (map (by_receiver x) x.receivers) h) [
-    | inl k ↦ let t = from_map (at_moment x) s (moments x.first (last_of x - x.first + 1)) k in
-        let u = from_moments t.0 x.first (last_of x - x.first + 1) t.1 in
-        subst P t.2 (f t.0 u.0 (omega (arith, u, w.in_order)))
-    | inr k ↦ let t = from_map (by_receiver x) s x.receivers k in subst P t.2 (g t.0 t.1)
-  ]
+  real_from : (P : Heard → Type 0) → ((m : ℕ) → x.first ≤ m → m ≤ last_of x → P (at_moment x m))
+      → ((r : List ℕ) → r ∈ x.receivers → P (by_receiver x r)) → (s : Heard) → s ∈ real_row x → P s
+  real_from P f g s h =
+      elim
+      (in_either s (map (at_moment x) (moments x.first (last_of x - x.first + 1)))
+      (map (by_receiver x) x.receivers) h) [
+        | inl k ↦ let t = from_map (at_moment x) s (moments x.first (last_of x - x.first + 1)) k in
+            let u = from_moments t.0 x.first (last_of x - x.first + 1) t.1 in
+            subst P t.2 (f t.0 u.0 (omega (arith, u, w.in_order)))
+        | inr k ↦ let t = from_map (by_receiver x) s x.receivers k in subst P t.2 (g t.0 t.1)
+      ]
 
   real_greatest : (s : Heard) → s ∈ real_row x → IsUpTo heard_cmp s x.greatest
   real_greatest = real_from (λ s. IsUpTo heard_cmp s x.greatest)
       (λ m l u. elim (cases_lt m (last_of x)) [
         | inl c ↦ up_to_moment (at_moment x m) x.greatest (omega arith)
-        | inr c ↦ up_to_receiver (at_moment x m) x.greatest (omega arith) (ap is_gt (tied_itself bytes_total x.greatest.receiver)) refl
+        | inr c ↦ up_to_receiver (at_moment x m) x.greatest (omega arith)
+            (ap is_gt (tied_itself bytes_total x.greatest.receiver)) refl
       ])
       (λ r h. elim (cases_lt x.first (last_of x)) [
         | inl c ↦ up_to_moment (by_receiver x r) x.greatest (omega arith)
-        | inr c ↦ let e : x.first ≡ last_of x = omega (arith, w.in_order) in up_to_receiver (by_receiver x r) x.greatest (omega arith) (w.single e r h) refl
+        | inr c ↦ let e : x.first ≡ last_of x =
+            omega (arith, w.in_order) in
+            up_to_receiver (by_receiver x r) x.greatest (omega arith) (w.single e r h) refl
       ])
 
   pub makes_real : Makes gap (real_row x) x
@@ -90,35 +109,57 @@ module _ (gap : ℕ) (x : Row) (w : IsSoundRow x) (pos : 0 < gap) where
         (λ m l u. record { key = refl; from = l; to = u })
         (λ r h. record { key = refl; from = omega arith; to = w.in_order });
     at_first = (at_moment x x.first, real_at x.first (omega arith) w.in_order, refl);
-    linked = λ m l u. (at_moment x (m + 1), real_at (m + 1) (omega arith) (omega arith), omega arith, omega arith);
+    linked =
+        λ m l u. (
+          at_moment x (m + 1),
+          real_at (m + 1) (omega arith)
+              (omega arith),
+          omega arith,
+          omega arith,
+        );
     ascending = w.ascending;
     receivers = λ r. (
       λ h. (by_receiver x r, real_by r h, refl),
-      λ t. subst (λ (q : List ℕ). q ∈ x.receivers) t.2 (real_from (λ s. s.receiver ∈ x.receivers) (λ m l u. w.receiver) (λ q h. h) t.0 t.1),
+      λ t. subst (λ (q : List ℕ). q ∈ x.receivers) t.2
+          (real_from (λ s. s.receiver ∈ x.receivers) (λ m l u. w.receiver) (λ q h. h) t.0 t.1),
     );
     member = real_at (last_of x) w.in_order (omega arith);
     greatest = real_greatest;
   }
 
-pub made_real : (gap : ℕ) → 0 < gap → (rows : List Row) → ((x : Row) → x ∈ rows → IsSoundRow x) → Made gap (real rows) rows
+pub made_real : (gap : ℕ) → 0 < gap → (rows : List Row) → ((x : Row) → x ∈ rows → IsSoundRow x)
+    → Made gap (real rows) rows
 made_real gap pos [] w = λ s h. h
-made_real gap pos (x ∷ xs) w = (real_row x, real xs, appended (real_row x) (real xs), makes_real gap x (w x (inl refl)) pos, made_real gap pos xs (λ y h. w y (inr h)))
+made_real gap pos (x ∷ xs) w = (
+  real_row x,
+  real xs,
+  appended (real_row x) (real xs),
+  makes_real gap x
+      (w x (inl refl)) pos,
+  made_real gap pos xs (λ y h. w y (inr h)),
+)
 
 pub before_of_sound : (gap : ℕ) (x y : Row) → IsBelow row_cmp x y → IsFar gap x y → IsBefore gap x y
 before_of_sound gap x y b f = told (key_cmp (row_key x) (row_key y)) refl b where
-  told : (o : Ordering) → key_cmp (row_key x) (row_key y) ≡ o → ordering_then o (nat_cmp x.first y.first) ≡ Less → IsBefore gap x y
+  told : (o : Ordering) → key_cmp (row_key x) (row_key y) ≡ o
+      → ordering_then o (nat_cmp x.first y.first) ≡ Less → IsBefore gap x y
   told Less h k = inl h
   told Equal h k = let e = key_exact (row_key x) (row_key y) h in inr (e, f e)
   told Greater h k = cc k
 
-pub both : (R Q : Row → Row → Type 0) (xs : List Row) → Ordered R xs → Ordered Q xs → Ordered (λ x y. R x y × Q x y) xs
+pub both : (R Q : Row → Row → Type 0) (xs : List Row) → Ordered R xs → Ordered Q xs
+    → Ordered (λ x y. R x y × Q x y) xs
 both R Q [] o p = tt
 both R Q (x ∷ xs) o p = (λ y h. (o.0 y h, p.0 y h), both R Q xs o.1 p.1)
 
-pub keeps_real : (gap : ℕ) → 0 < gap → (rows : List Row) → Sound gap rows → Keeps gap (real rows) rows
+pub keeps_real : (gap : ℕ) → 0 < gap → (rows : List Row) → Sound gap rows
+    → Keeps gap (real rows) rows
 keeps_real gap pos rows w = record {
   made = made_real gap pos rows w.each;
-  ordered = ordered_weaker (λ x y. IsBelow row_cmp x y × IsFar gap x y) (IsBefore gap) rows (λ x y hx hy h. before_of_sound gap x y h.0 h.1) (both (IsBelow row_cmp) (IsFar gap) rows w.ascending w.apart);
+  ordered =
+      ordered_weaker (λ x y. IsBelow row_cmp x y × IsFar gap x y) (IsBefore gap) rows
+      (λ x y hx hy h. before_of_sound gap x y h.0 h.1)
+      (both (IsBelow row_cmp) (IsFar gap) rows w.ascending w.apart);
 }
 
 pub sound : (gap : ℕ) (S : List Heard) (p : List Row) → BookOf gap S p → Sound gap p

@@ -60,8 +60,12 @@ single_sound s = sound 30 (s ∷ []) (single s ∷ []) (plain_is_book 30 (s ∷ 
 gap_is_some : 0 < 30
 gap_is_some = omega arith
 
-joined_singles : (s t : Heard) (rows : List Row) → merge 30 (single s ∷ []) (single t ∷ []) ≡ rows → Joined 30 (single s ∷ []) (single t ∷ []) rows
-joined_singles s t rows e = subst (λ (p : List Row). Joined 30 (single s ∷ []) (single t ∷ []) p) e (joined_by_merge 30 gap_is_some (single s ∷ []) (single t ∷ []) (single_sound s) (single_sound t))
+joined_singles : (s t : Heard) (rows : List Row) → merge 30 (single s ∷ []) (single t ∷ []) ≡ rows
+    → Joined 30 (single s ∷ []) (single t ∷ []) rows
+joined_singles s t rows e =
+    subst (λ (p : List Row). Joined 30 (single s ∷ []) (single t ∷ []) p) e
+    (joined_by_merge 30 gap_is_some (single s ∷ []) (single t ∷ []) (single_sound s)
+    (single_sound t))
 
 pub joined_near : Joined 30 (early_row ∷ []) (close_row ∷ []) (near_row ∷ [])
 unfolding key_of key_cmp
@@ -69,7 +73,8 @@ joined_near = joined_singles (heard 0 rx2 repeated) (heard 30 rx1 direct) (near_
 
 pub joined_far : Joined 30 (early_row ∷ []) (late_row ∷ []) (early_row ∷ late_row ∷ [])
 unfolding key_of key_cmp
-joined_far = joined_singles (heard 0 rx2 repeated) (heard 31 rx1 direct) (early_row ∷ late_row ∷ []) refl
+joined_far =
+    joined_singles (heard 0 rx2 repeated) (heard 31 rx1 direct) (early_row ∷ late_row ∷ []) refl
 
 pub other_receiver : rx2 ≡ rx1 → ⊥
 other_receiver e = let g : Greater ≡ Equal = ap (λ (r : List ℕ). bytes_cmp r rx1) e in cc
