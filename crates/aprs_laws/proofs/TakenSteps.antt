@@ -1,6 +1,7 @@
 -- Steps on sets and on their books.
 use Rattle.std.proofs.Common.{◌≡◌, ℕ, ◌==◌, ◌<◌, if◌then◌else◌, Bool, true, false, List, [], ◌∷◌, ◌++◌, refl}
 use Rattle.aprs_log.specs.Reception.{Heard}
+use Rattle.aprs_laws.specs.Lists.{SameMembers}
 use Rattle.aprs_laws.specs.Row.{Row}
 use Rattle.aprs_laws.specs.Book.{BookOf}
 use Rattle.aprs_laws.specs.Sound.{IsSoundRow, Sound}
@@ -9,7 +10,7 @@ use Rattle.aprs_laws.specs.Taken.{Step, Take, Merge, after_step, after_steps, ta
 use Rattle.aprs_laws.specs.JoinRow.{single, join_row, merge, plain_book}
 use Rattle.aprs_laws.specs.StepLaws.{rows_after_step, rows_after_steps}
 use Rattle.aprs_laws.proofs.Made.{keeps_book}
-use Rattle.aprs_laws.proofs.Books.{book_of_keeps, book_carries}
+use Rattle.aprs_laws.proofs.Books.{book_of_keeps, book_carries, unique}
 use Rattle.aprs_laws.proofs.Unions.{around, merged}
 use Rattle.aprs_laws.proofs.Views.{taken_first, joined_by_merge}
 use Rattle.aprs_laws.proofs.Pushes.{push_first}
@@ -64,3 +65,10 @@ pub after_steps_last : (steps : List Step) (step : Step) (sets : ℕ → List He
     → after_steps (steps ++ step ∷ []) sets ≡ after_step step (after_steps steps sets)
 after_steps_last [] step sets = refl
 after_steps_last (s ∷ steps) step sets = after_steps_last steps step (after_step s sets)
+
+pub same_taken : (gap : ℕ) (steps others : List Step) (i j : ℕ)
+    → SameMembers (taken steps i) (taken others j)
+    → rows_after_steps gap steps (λ k. []) i ≡ rows_after_steps gap others (λ k. []) j
+same_taken gap steps others i j e =
+    unique gap (taken steps i) (taken others j) (rows_after_steps gap steps (λ k. []) i)
+    (rows_after_steps gap others (λ k. []) j) e (steps_give gap steps i) (steps_give gap others j)

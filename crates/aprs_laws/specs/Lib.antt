@@ -17,3 +17,8 @@ pub mod Examples
 pub mod BookLaws
 pub mod BestLaws
 pub mod StepLaws
+
+-- what public clauses cite of lower crates
+pub use Rattle.aprs_ax25.specs.Callsign
+pub use Rattle.aprs_ax25.specs.Frame
+pub use Rattle.aprs_log.specs.Reception

@@ -1,7 +1,7 @@
 -- What holds of the step that books are made with.
 use Rattle.std.specs.Prelude.{◌≡◌, ℕ, ◌==◌, if◌then◌else◌, List, [], ◌∷◌, ◌++◌, ◌⊎◌, ◌↔◌, true}
 use Rattle.aprs_log.specs.Reception.{Heard}
-use Rattle.aprs_laws.specs.Lists.{◌∈◌}
+use Rattle.aprs_laws.specs.Lists.{◌∈◌, SameMembers}
 use Rattle.aprs_laws.specs.Row.{Row}
 use Rattle.aprs_laws.specs.Book.{BookOf}
 use Rattle.aprs_laws.specs.Sound.{IsSoundRow, Sound, IsNext}
@@ -72,3 +72,9 @@ abbrev pub StepsGiveBooks : ℕ → Type 0
 StepsGiveBooks gap =
     (steps : List Step) (i : ℕ)
     → BookOf gap (taken steps i) (rows_after_steps gap steps (λ k. []) i)
+
+-- places that took the same receptions, in any order, with any repeats and merges, have equal rows
+abbrev pub SameTakenSameRows : ℕ → Type 0
+SameTakenSameRows gap =
+    (steps others : List Step) (i j : ℕ) → SameMembers (taken steps i) (taken others j)
+    → rows_after_steps gap steps (λ k. []) i ≡ rows_after_steps gap others (λ k. []) j

@@ -1,6 +1,6 @@
 //! Laws of the step that books are made with.
 ghost use Rattle.std.specs.Prelude.{ℕ, ◌<◌};
-ghost use Rattle.aprs_laws.specs.StepLaws.{PlainBookIsBook, TakesReception, InsertsReception, FitsByTest, OnlyNextFollows, TakesRow, TakesRows, AtMostTwoAreNear, OnePassJoins, StepsGiveBooks};
+ghost use Rattle.aprs_laws.specs.StepLaws.{PlainBookIsBook, TakesReception, InsertsReception, FitsByTest, OnlyNextFollows, TakesRow, TakesRows, AtMostTwoAreNear, OnePassJoins, StepsGiveBooks, SameTakenSameRows};
 
 /// One more row that joins a book gives the book of the union.
 pub fn one_more_joins()
@@ -33,7 +33,9 @@ pub fn one_pass_joins()
     ensures { (gap : ℕ) → 0 < gap → OnePassJoins gap }
 {}
 
-/// After any steps on empty books, each is the book of what its place has taken.
+/// After any steps on empty books, each is the book of what its place has taken. So two that took
+/// the same receptions are equal.
 pub fn steps_give_books()
-    ensures { (gap : ℕ) → StepsGiveBooks gap }
+    ensures books { (gap : ℕ) → StepsGiveBooks gap }
+    ensures equal { (gap : ℕ) → SameTakenSameRows gap }
 {}
