@@ -1,5 +1,5 @@
 -- What is last known of a set, and that its book tells it.
-use Rattle.std.proofs.Common.{◌≡◌, ℕ, Bool, true, false, IsTrue, List, [], ◌∷◌, ◌⊎◌, inl, inr, sym, refl, ap, subst, map, Option, None, Some}
+use Rattle.std.proofs.Common.{◌≡◌, ℕ, Bool, true, false, IsTrue, List, [], ◌∷◌, ◌++◌, if◌then◌else◌, ◌⊎◌, inl, inr, sym, refl, ◌∙◌, ap, subst, map, Option, None, Some}
 use Rattle.std.proofs.lemmas.Cmp.{upto}
 use Rattle.aprs_log.specs.Reception.{Heard, heard_cmp}
 use Rattle.aprs_laws.specs.Lists.{◌∈◌, SameMembers}
@@ -7,12 +7,13 @@ use Rattle.aprs_laws.specs.Order.{IsUpTo}
 use Rattle.aprs_laws.specs.Key.{Key, key_of}
 use Rattle.aprs_laws.specs.Row.{Row}
 use Rattle.aprs_laws.specs.Book.{BookOf}
-use Rattle.aprs_laws.specs.Best.{IsBest, LastKnown}
+use Rattle.aprs_laws.specs.Best.{IsBest, LastKnown, greater_known, known_after, known_of}
 use Rattle.aprs_laws.specs.BestLaws.{Passes}
 use Rattle.aprs_laws.specs.JoinRow.{greater}
-use Rattle.aprs_laws.proofs.Lists.{in_map, from_map}
+use Rattle.aprs_laws.proofs.Lists.{in_left, in_right, in_either, in_map, from_map}
 use Rattle.aprs_laws.proofs.Orders.{same_greatest, up_to_itself, heard_total, heard_exact}
 use Rattle.aprs_laws.proofs.Joins.{is_greater_of}
+use Rattle.aprs_laws.proofs.Unions.{around}
 use Rattle.aprs_laws.proofs.Views.{a_row, best_of_rows}
 
 -- the greatest reception of a row
@@ -65,73 +66,113 @@ set_knows gap S p P (Some g) b h =
     (λ y m k. subst (λ (u : Heard). IsUpTo heard_cmp y.greatest u) (sym t.2)
     (h.greatest y.greatest (in_map greatest_of y p m) k)))
 
--- of one more reception
-known_more : (P : Key → Type 0) (s : Heard) (S : List Heard) (known : Option Heard)
-    → (P (key_of s.frame)) ⊎ (P (key_of s.frame) → ⊥) → LastKnown S P known
-    → (more : Option Heard) × LastKnown (s ∷ S) P more
-known_more P s S None (inl q) h = (
-  Some s,
-  record {
-    member = inl refl;
-    property = q;
-    greatest =
-        λ t m k. elim m [
-          | inl e ↦ subst (λ (u : Heard). IsUpTo heard_cmp u s) e
-              (up_to_itself heard_total s)
-          | inr j ↦ absurd (h t j k)
-        ];
-  },
-)
-known_more P s S None (inr q) h = (
-  None,
-  λ t m k. elim m [
-    | inl e ↦ q
-        (subst (λ (u : Heard). P (key_of u.frame)) (sym e) k)
-    | inr j ↦ h t j k
-  ],
-)
-known_more P s S (Some g) (inl q) h =
-    let c = is_greater_of s g in (
-      Some (greater s g),
-      record {
-        member =
-            elim c.one [
-              | inl e ↦ inl (sym e)
-              | inr e ↦ inr
-                  (subst (λ (u : Heard). u ∈ S) (sym e) h.member)
-            ];
-        property =
-            elim c.one [
-              | inl e ↦ subst (λ (u : Heard). P (key_of u.frame)) (sym e) q
-              | inr e ↦ subst
-                  (λ (u : Heard). P (key_of u.frame)) (sym e) h.property
-            ];
-        greatest = λ t m k. elim m [
-          | inl e ↦ subst (λ (u : Heard). IsUpTo heard_cmp u (greater s g)) e c.left
-          | inr j ↦ upto heard_total t g (greater s g) (h.greatest t j k) c.right
-        ];
-      },
-    )
-known_more P s S (Some g) (inr q) h = (
-  Some g,
-  record {
-    member = inr h.member;
-    property = h.property;
-    greatest =
-        λ t m k. elim m [
-          | inl e ↦ absurd
-              (q (subst (λ (u : Heard). P (key_of u.frame)) (sym e) k))
-          | inr j ↦ h.greatest t j k
-        ];
-  },
-)
+pub known_carries : (S T : List Heard) (P : Key → Type 0) (known : Option Heard)
+    → SameMembers S T → LastKnown S P known → LastKnown T P known
+known_carries S T P None e h = λ s m. h s ((e s).1 m)
+known_carries S T P (Some g) e h = record {
+  member = (e g).0 h.member;
+  property = h.property;
+  greatest = λ s m. h.greatest s ((e s).1 m);
+}
+
+-- one more reception that has the property
+known_greater : (P : Key → Type 0) (s : Heard) (S : List Heard) (known : Option Heard)
+    → P (key_of s.frame) → LastKnown S P known → LastKnown (s ∷ S) P (Some (greater_known known s))
+known_greater P s S None q h = record {
+  member = inl refl;
+  property = q;
+  greatest = λ t m k. elim m [
+    | inl e ↦ subst (λ (u : Heard). IsUpTo heard_cmp u s) e (up_to_itself heard_total s)
+    | inr j ↦ absurd (h t j k)
+  ];
+}
+known_greater P s S (Some g) q h =
+    let c = is_greater_of g s in
+    record {
+      member = elim c.one [
+        | inl e ↦ inr (subst (λ (u : Heard). u ∈ S) (sym e) h.member)
+        | inr e ↦ inl (sym e)
+      ];
+      property = elim c.one [
+        | inl e ↦ subst (λ (u : Heard). P (key_of u.frame)) (sym e) h.property
+        | inr e ↦ subst (λ (u : Heard). P (key_of u.frame)) (sym e) q
+      ];
+      greatest = λ t m k. elim m [
+        | inl e ↦ subst (λ (u : Heard). IsUpTo heard_cmp u (greater g s)) e c.right
+        | inr j ↦ upto heard_total t g (greater g s) (h.greatest t j k) c.left
+      ];
+    }
+
+-- and one that has not
+known_passed : (P : Key → Type 0) (s : Heard) (S : List Heard) (known : Option Heard)
+    → (P (key_of s.frame) → ⊥) → LastKnown S P known → LastKnown (s ∷ S) P known
+known_passed P s S None q h = λ t m k. elim m [
+  | inl e ↦ q (subst (λ (u : Heard). P (key_of u.frame)) (sym e) k)
+  | inr j ↦ h t j k
+]
+known_passed P s S (Some g) q h = record {
+  member = inr h.member;
+  property = h.property;
+  greatest = λ t m k. elim m [
+    | inl e ↦ absurd (q (subst (λ (u : Heard). P (key_of u.frame)) (sym e) k))
+    | inr j ↦ h.greatest t j k
+  ];
+}
+
+-- one more reception, at the end of the set's list
+pub known_last : (test : Key → Bool) (s : Heard) (S : List Heard) (known : Option Heard)
+    → LastKnown S (Passes test) known → LastKnown (S ++ s ∷ []) (Passes test)
+    (known_after test known s)
+known_last test s S known h =
+    known_carries (s ∷ S) (S ++ s ∷ []) (Passes test) (known_after test known s) (around (s ∷ []) S)
+    (told (test (key_of s.frame)) refl) where
+      told : (b : Bool) → test (key_of s.frame) ≡ b
+          → LastKnown (s ∷ S) (Passes test) (if b then Some (greater_known known s) else known)
+      told true e = known_greater (Passes test) s S known e h
+      told false e =
+          known_passed (Passes test) s S known (λ q. let n : true ≡ false = sym q ∙ e in cc) h
+
+-- what was known of the receptions so far, and those that are left
+pub known_on : (test : Key → Bool) (done S : List Heard) (known : Option Heard)
+    → LastKnown done (Passes test) known → LastKnown (done ++ S) (Passes test)
+    (known_of test known S)
+known_on test done [] known h =
+    known_carries done (done ++ []) (Passes test) known
+    (λ s. (in_left s done [], λ m. elim (in_either s done [] m) [ inl k ↦ k | inr k ↦ absurd k ])) h
+known_on test done (s ∷ S) known h =
+    known_carries ((done ++ s ∷ []) ++ S) (done ++ s ∷ S) (Passes test)
+    (known_of test (known_after test known s) S) (λ t. (to t, from t))
+    (known_on test (done ++ s ∷ []) S (known_after test known s)
+    (known_last test s done known h)) where
+      to : (t : Heard) → t ∈ ((done ++ s ∷ []) ++ S) → t ∈ (done ++ s ∷ S)
+      to t m = elim (in_either t (done ++ s ∷ []) S m) [
+        | inl k ↦ elim (in_either t done (s ∷ []) k) [
+          | inl j ↦ in_left t done (s ∷ S) j
+          | inr j ↦ elim j [ inl e ↦ in_right t done (s ∷ S) (inl e) | inr i ↦ absurd i ]
+        ]
+        | inr k ↦ in_right t done (s ∷ S) (inr k)
+      ]
+
+      from : (t : Heard) → t ∈ (done ++ s ∷ S) → t ∈ ((done ++ s ∷ []) ++ S)
+      from t m = elim (in_either t done (s ∷ S) m) [
+        | inl k ↦ in_left t (done ++ s ∷ []) S (in_left t done (s ∷ []) k)
+        | inr k ↦ elim k [
+          | inl e ↦ in_left t (done ++ s ∷ []) S (in_right t done (s ∷ []) (inl e))
+          | inr j ↦ in_right t (done ++ s ∷ []) S j
+        ]
+      ]
+
+pub plain_known : (test : Key → Bool) (S : List Heard)
+    → LastKnown S (Passes test) (known_of test None S)
+plain_known test S = known_on test [] S None (λ s m. absurd m)
 
 pub some_known : (test : Key → Bool) (S : List Heard)
     → (known : Option Heard) × LastKnown S (Passes test) known
-some_known test [] = (None, λ s h k. h)
-some_known test (s ∷ S) =
-    let t =
-    some_known test S in known_more (Passes test) s S t.0 (decide (test (key_of s.frame))) t.1 where
-      decide : (b : Bool) → IsTrue b ⊎ (IsTrue b → ⊥)
-      decide true = inl refl
-      decide false = inr (λ h. cc)
+some_known test S = (known_of test None S, plain_known test S)
+
+-- the rows of the book of S tell what is last known of S
+pub book_knows : (gap : ℕ) (test : Key → Bool) (S : List Heard) (rows : List Row)
+    → BookOf gap S rows → LastKnown S (Passes test) (known_of test None (map greatest_of rows))
+book_knows gap test S rows b =
+    set_knows gap S rows (Passes test) (known_of test None (map greatest_of rows)) b
+    (plain_known test (map greatest_of rows))

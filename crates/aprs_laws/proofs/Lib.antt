@@ -20,3 +20,4 @@ pub mod TakenSteps
 pub mod Known
 pub mod Worked
 pub mod Inserts
+pub mod Merges

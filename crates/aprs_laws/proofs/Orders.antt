@@ -8,6 +8,7 @@ use Rattle.std.proofs.lemmas.Cmp.{then_total, on_total, nat_cmp_total, nat_list_
 use Rattle.std.proofs.lemmas.Bool.Decides.{nat_tests}
 use Rattle.std.proofs.lemmas.Map.Lookups.{CmpEqualImpliesEq, exact_pairs, exact_unsigned, exact_bytes}
 use Rattle.aprs_ax25.specs.Callsign.{Call, call_cmp}
+use Rattle.aprs_ax25.specs.FrameFault.{parts_of}
 use Rattle.aprs_log.specs.Reception.{Heard, bytes_cmp, heard_cmp}
 use Rattle.aprs_laws.specs.Order.{IsUpTo}
 use Rattle.aprs_laws.specs.Key.{key_cmp}
@@ -124,3 +125,19 @@ receiver_up_to s t e h = told (bytes_cmp s.receiver t.receiver) h where
   told Less h = refl
   told Equal h = refl
   told Greater h = grind (arith, nat_tests)
+
+-- the order of two frames' keys, by their parts
+pub key_cmp_of_parts : (f g : List ℕ)
+    → key_cmp (key_of f) (key_of g)
+    ≡ ordering_then (call_cmp (parts_of f).source.call (parts_of g).source.call)
+    (ordering_then (call_cmp (parts_of f).destination.call (parts_of g).destination.call)
+    (bytes_cmp (parts_of f).info (parts_of g).info))
+unfolding key_of key_cmp
+key_cmp_of_parts f g = refl
+
+-- and that they are one where their parts are
+pub key_of_same_parts : (f g : List ℕ) → (parts_of f).source.call ≡ (parts_of g).source.call
+    → (parts_of f).destination.call ≡ (parts_of g).destination.call
+    → (parts_of f).info ≡ (parts_of g).info → key_of f ≡ key_of g
+unfolding key_of
+key_of_same_parts f g s d i = λ t. record { source = s t; destination = d t; info = i t }

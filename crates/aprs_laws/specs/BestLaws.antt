@@ -1,11 +1,11 @@
 -- What holds of what is last known. A property of keys is a test.
-use Rattle.std.specs.Prelude.{◌≡◌, ℕ, Bool, IsTrue, List, map, Option, ◌↔◌}
+use Rattle.std.specs.Prelude.{◌≡◌, ℕ, Bool, IsTrue, List, map, Option, None, ◌↔◌}
 use Rattle.aprs_log.specs.Reception.{Heard}
 use Rattle.aprs_laws.specs.Lists.{SameMembers}
 use Rattle.aprs_laws.specs.Key.{Key}
 use Rattle.aprs_laws.specs.Row.{Row}
 use Rattle.aprs_laws.specs.Book.{BookOf}
-use Rattle.aprs_laws.specs.Best.{LastKnown}
+use Rattle.aprs_laws.specs.Best.{LastKnown, known_of}
 
 -- the test holds of a key
 abbrev pub Passes : (Key → Bool) → Key → Type 0
@@ -14,6 +14,11 @@ Passes test key = IsTrue (test key)
 abbrev pub SomeIsLastKnown : Type 0
 SomeIsLastKnown =
     (test : Key → Bool) (S : List Heard) → (known : Option Heard) × LastKnown S (Passes test) known
+
+-- one reception after another
+abbrev pub PlainIsLastKnown : Type 0
+PlainIsLastKnown =
+    (test : Key → Bool) (S : List Heard) → LastKnown S (Passes test) (known_of test None S)
 
 abbrev pub MembersDecideLastKnown : Type 0
 MembersDecideLastKnown =

@@ -10,14 +10,14 @@ pub mod Sound
 pub mod Real
 pub mod Joining
 pub mod Taken
-pub mod Best
 pub mod JoinRow
+pub mod Best
 pub mod Inserted
+pub mod Merged
 pub mod Examples
 pub mod BookLaws
 pub mod BestLaws
 pub mod StepLaws
-
 -- what public clauses cite of lower crates
 pub use Rattle.aprs_ax25.specs.Callsign
 pub use Rattle.aprs_ax25.specs.Frame

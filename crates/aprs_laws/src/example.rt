@@ -1,5 +1,5 @@
 //! Worked examples of each definition, and near misses that it leaves out.
-ghost use Rattle.std.specs.Prelude.{◌≡◌, [], ◌∷◌, None, codes};
+ghost use Rattle.std.specs.Prelude.{◌≡◌, [], ◌∷◌, Some, None, codes};
 ghost use Rattle.std.specs.declared.cmp.Ordering.TheVariants.{Less, Greater};
 ghost use Rattle.aprs_ax25.specs.Callsign.{call_cmp};
 ghost use Rattle.aprs_log.specs.Reception.{bytes_cmp, heard_cmp};
@@ -14,8 +14,9 @@ ghost use Rattle.aprs_laws.specs.Sound.{Sound, IsNext};
 ghost use Rattle.aprs_laws.specs.Real.{real};
 ghost use Rattle.aprs_laws.specs.Joining.{JoinLaws, IsGreaterOf, IsAny, IsUnited, Joined, FoldsTo};
 ghost use Rattle.aprs_laws.specs.Taken.{taken};
-ghost use Rattle.aprs_laws.specs.Best.{IsBest, LastKnown};
-ghost use Rattle.aprs_laws.specs.JoinRow.{single, IsNear, join_row, interleave, coalesced, plain_book};
+ghost use Rattle.aprs_laws.specs.Best.{IsBest, LastKnown, known_of};
+ghost use Rattle.aprs_laws.specs.JoinRow.{single, IsNear, interleave, coalesced, plain_book};
+ghost use Rattle.aprs_laws.specs.Merged.{merged};
 ghost use Rattle.aprs_laws.specs.Inserted.{inserted, FitsInPlace};
 ghost use Rattle.aprs_laws.specs.BestLaws.{Passes};
 ghost use Rattle.aprs_laws.specs.StepLaws.{rows_after_steps};
@@ -55,9 +56,10 @@ pub fn gaps_decide_rows()
     ensures thirty_one_does_not { plain_book gap_seconds far_pair ≡ early_row ∷ late_row ∷ [] }
     ensures two_rows { plain_book gap_seconds (by_rx1 31 ∷ by_rx1 61 ∷ by_rx1 0 ∷ [])
         ≡ row_at 0 ∷ row_to 31 61 ∷ [] }
-    ensures bridged { join_row gap_seconds (row_at 0 ∷ row_to 31 61 ∷ []) (row_at 30)
+    ensures bridged { plain_book gap_seconds (by_rx1 30 ∷ by_rx1 31 ∷ by_rx1 61 ∷ by_rx1 0 ∷ [])
         ≡ row_to 0 61 ∷ [] }
-    ensures inside { join_row gap_seconds (row_to 0 61 ∷ []) (row_at 40) ≡ row_to 0 61 ∷ [] }
+    ensures inside { plain_book gap_seconds (by_rx1 40 ∷ by_rx1 30 ∷ by_rx1 31 ∷ by_rx1 61 ∷ by_rx1 0 ∷ [])
+        ≡ row_to 0 61 ∷ [] }
 {}
 
 /// The same, as code makes it.
@@ -132,6 +134,7 @@ pub fn joins_take_both()
     ensures greater { IsGreaterOf early (by_rx1 31) (by_rx1 31) }
     ensures misses_lesser { IsGreaterOf early (by_rx1 31) early → ⊥ }
     ensures united { IsUnited bytes_cmp (rx2 ∷ []) (rx1 ∷ rx2 ∷ []) (rx1 ∷ rx2 ∷ []) }
+    ensures merged { merged bytes_cmp (rx2 ∷ []) (rx1 ∷ rx2 ∷ []) ≡ rx1 ∷ rx2 ∷ [] }
     ensures misses_repeat { IsUnited bytes_cmp (rx1 ∷ []) (rx1 ∷ []) (rx1 ∷ rx1 ∷ []) → ⊥ }
     ensures misses_first { JoinLaws IsAny TakesFirst → ⊥ }
     ensures folds { FoldsTo IsGreaterOf early (by_rx1 31 ∷ []) (by_rx1 31) }
@@ -162,6 +165,7 @@ pub fn merges_take_what_is_there()
 /// What comes last in a list is not what is last known.
 pub fn greatest_is_last_known()
     ensures best { IsBest far_pair (Passes any_key) (by_rx1 31) }
+    ensures plain { known_of any_key None far_pair ≡ Some (by_rx1 31) }
     ensures misses_last { IsBest far_pair (Passes any_key) early → ⊥ }
     ensures misses_none { LastKnown far_pair (Passes any_key) None → ⊥ }
 {}

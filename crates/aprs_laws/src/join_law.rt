@@ -4,6 +4,7 @@ ghost use Rattle.aprs_log.specs.Reception.{bytes_cmp};
 ghost use Rattle.aprs_laws.specs.Lists.{Ordered};
 ghost use Rattle.aprs_laws.specs.Order.{IsBelow};
 ghost use Rattle.aprs_laws.specs.Sound.{Sound};
+ghost use Rattle.aprs_laws.specs.Merged.{MergesInOnePass};
 ghost use Rattle.aprs_laws.specs.Joining.{JoinLaws, FoldsFreely, IsAny, IsGreaterOf, IsUnited, Joined};
 
 /// The greater of two receptions is a join.
@@ -16,6 +17,7 @@ pub fn receptions_join()
 pub fn receivers_join()
     ensures laws { JoinLaws (Ordered (IsBelow bytes_cmp)) (IsUnited bytes_cmp) }
     ensures folds { FoldsFreely (Ordered (IsBelow bytes_cmp)) (IsUnited bytes_cmp) }
+    ensures one_pass { MergesInOnePass bytes_cmp }
 {}
 
 /// Sound rows join to the book of the real receptions of both.
