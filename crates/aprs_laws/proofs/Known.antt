@@ -1,5 +1,5 @@
 -- What is last known of a set, and that its book tells it.
-use Rattle.std.proofs.Common.{◌≡◌, ℕ, Bool, true, false, IsTrue, List, [], ◌∷◌, ◌++◌, if◌then◌else◌, ◌⊎◌, inl, inr, sym, refl, ◌∙◌, ap, subst, map, Option, None, Some}
+use Rattle.std.proofs.Common.{◌≡◌, ℕ, Bool, true, false, List, [], ◌∷◌, ◌++◌, if◌then◌else◌, inl, inr, sym, refl, ◌∙◌, ap, subst, map, Option, None, Some}
 use Rattle.std.proofs.lemmas.Cmp.{upto}
 use Rattle.aprs_log.specs.Reception.{Heard, heard_cmp}
 use Rattle.aprs_laws.specs.Lists.{◌∈◌, SameMembers}

@@ -1,13 +1,13 @@
 -- Two ascending lists, merged in one pass, are united.
-use Rattle.std.proofs.Common.{◌≡◌, List, [], ◌∷◌, ◌⊎◌, ◌↔◌, inl, inr, refl, sym, ◌∙◌, subst}
+use Rattle.std.proofs.Common.{◌≡◌, List, [], ◌∷◌, ◌⊎◌, ◌↔◌, inl, inr, sym, ◌∙◌, subst}
 use Rattle.std.specs.Cmp.{IsTotalOrder}
 use Rattle.std.specs.declared.cmp.Ordering.{Ordering}
-use Rattle.std.specs.declared.cmp.Ordering.TheVariants.{Less, Equal, Greater}
+use Rattle.std.specs.declared.cmp.Ordering.TheVariants.{Less}
 use Rattle.std.proofs.lemmas.Map.Lookups.{CmpEqualImpliesEq}
 use Rattle.aprs_laws.specs.Lists.{◌∈◌, Ordered}
 use Rattle.aprs_laws.specs.Order.{IsBelow}
 use Rattle.aprs_laws.specs.Joining.{IsUnited}
-use Rattle.aprs_laws.specs.JoinRow.{choose, union}
+use Rattle.aprs_laws.specs.JoinRow.{union}
 use Rattle.aprs_laws.specs.Merged.{merged_from, merged}
 use Rattle.aprs_laws.proofs.Orders.{tells}
 use Rattle.aprs_laws.proofs.Choices.{by_choice, united_is_union}

@@ -11,7 +11,7 @@ use Rattle.aprs_ax25.specs.Callsign.{Call, call_cmp}
 use Rattle.aprs_ax25.specs.FrameFault.{parts_of}
 use Rattle.aprs_log.specs.Reception.{Heard, bytes_cmp, heard_cmp}
 use Rattle.aprs_laws.specs.Order.{IsUpTo}
-use Rattle.aprs_laws.specs.Key.{key_cmp}
+use Rattle.aprs_laws.specs.Key.{key_of, key_cmp}
 
 pub not_both : {X : Type 0} {R : X → X → Ordering} → IsTotalOrder R → (x y : X) → R x y ≡ Less
     → R y x ≡ Less → ⊥
