@@ -1,8 +1,10 @@
 -- The laws of joining, for receptions, lists of receivers and rows.
-use Rattle.std.proofs.Common.{◌≡◌, ℕ, ◌<◌, List, ◌++◌, ◌⊎◌, ◌↔◌, inl, inr, sym, refl, subst}
-use Rattle.std.proofs.lemmas.Cmp.{upto}
+use Rattle.std.proofs.Common.{◌≡◌, ℕ, ◌<◌, List, ◌++◌, ◌⊎◌, ◌↔◌, inl, inr, sym, refl, ap, ◌∙◌, subst, true, false}
+use Rattle.std.proofs.lemmas.Cmp.{upto, tied_back}
+use Rattle.std.specs.Ordering.{is_gt, is_lt, ordering_reverse}
 use Rattle.std.specs.Cmp.{IsTotalOrder}
 use Rattle.std.specs.declared.cmp.Ordering.{Ordering}
+use Rattle.std.specs.declared.cmp.Ordering.TheVariants.{Less, Equal, Greater}
 use Rattle.std.proofs.lemmas.Map.Lookups.{CmpEqualImpliesEq}
 use Rattle.aprs_log.specs.Reception.{Heard, heard_cmp}
 use Rattle.aprs_laws.specs.Lists.{◌∈◌, Ordered}
@@ -142,3 +144,22 @@ greatest_laws = record {
       (least a y q p m (then a x p j.left k.left)
       (least b c y p l (then b x p j.right k.left) k.right));
 }
+
+-- by a test for Less
+pub second_is_greater : (a b : Heard) → is_lt (heard_cmp a b) ≡ true → IsGreaterOf a b b
+second_is_greater a b h = told (heard_cmp a b) refl h where
+  told : (o : Ordering) → heard_cmp a b ≡ o → is_lt o ≡ true → IsGreaterOf a b b
+  told Less e h = record { one = inr refl; left = ap is_gt e; right = up_to_itself heard_total b }
+  told Equal e h = let n : false ≡ true = h in cc
+  told Greater e h = let n : false ≡ true = h in cc
+
+pub first_is_greater : (a b : Heard) → is_lt (heard_cmp a b) ≡ false → IsGreaterOf a b a
+first_is_greater a b h = told (heard_cmp a b) refl h where
+  told : (o : Ordering) → heard_cmp a b ≡ o → is_lt o ≡ false → IsGreaterOf a b a
+  told Less e h = let n : true ≡ false = h in cc
+  told Equal e h = record { one = inl refl; left = up_to_itself heard_total a; right = ap is_gt (tied_back heard_total a b e) }
+  told Greater e h = record { one = inl refl; left = up_to_itself heard_total a; right = ap is_gt (heard_total.antisymm b a ∙ ap ordering_reverse e) }
+
+-- the joined value is the greater one
+pub is_the_greater : (a b c : Heard) → IsGreaterOf a b c → c ≡ greater a b
+is_the_greater a b c g = greatest_laws.only a b c (greater a b) g (is_greater_of a b)

@@ -141,3 +141,9 @@ pub key_of_same_parts : (f g : List ℕ) → (parts_of f).source.call ≡ (parts
     → (parts_of f).info ≡ (parts_of g).info → key_of f ≡ key_of g
 unfolding key_of
 key_of_same_parts f g s d i = λ t. record { source = s t; destination = d t; info = i t }
+
+pub ordering_then_assoc : (p q r : Ordering)
+    → ordering_then (ordering_then p q) r ≡ ordering_then p (ordering_then q r)
+ordering_then_assoc Less q r = refl
+ordering_then_assoc Equal q r = refl
+ordering_then_assoc Greater q r = refl
