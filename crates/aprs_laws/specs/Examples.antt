@@ -55,8 +55,8 @@ rx2 = codes "RX2"
 abbrev pub heard : ℕ → List ℕ → List ℕ → Heard
 heard moment receiver frame = record { moment = moment; receiver = receiver; frame = frame }
 
-abbrev pub row : ℕ → List (List ℕ) → Heard → Row
-row first receivers greatest = record { first = first; receivers = receivers; greatest = greatest }
+abbrev pub row_of : ℕ → List (List ℕ) → Heard → Row
+row_of first receivers greatest = record { first = first; receivers = receivers; greatest = greatest }
 
 -- heard by RX1 at a moment
 abbrev pub by_rx1 : ℕ → Heard
@@ -71,39 +71,39 @@ abbrev pub near_pair : List Heard
 near_pair = by_rx1 30 ∷ early ∷ []
 
 abbrev pub near_row : Row
-near_row = row 0 (rx1 ∷ rx2 ∷ []) (by_rx1 30)
+near_row = row_of 0 (rx1 ∷ rx2 ∷ []) (by_rx1 30)
 
 -- two receptions 31 seconds apart, and their rows
 abbrev pub far_pair : List Heard
 far_pair = by_rx1 31 ∷ early ∷ []
 
 abbrev pub early_row : Row
-early_row = row 0 (rx2 ∷ []) early
+early_row = row_of 0 (rx2 ∷ []) early
 
 abbrev pub late_row : Row
-late_row = row 31 (rx1 ∷ []) (by_rx1 31)
+late_row = row_of 31 (rx1 ∷ []) (by_rx1 31)
 
 -- two receptions at one moment, and their row
 abbrev pub tied_pair : List Heard
 tied_pair = by_rx1 0 ∷ early ∷ []
 
 abbrev pub tied_row : Row
-tied_row = row 0 (rx1 ∷ rx2 ∷ []) early
+tied_row = row_of 0 (rx1 ∷ rx2 ∷ []) early
 
 -- by two receivers in two seconds, where the last reception is by the lesser receiver
 abbrev pub short_row : Row
-short_row = row 0 (rx1 ∷ rx2 ∷ []) (by_rx1 1)
+short_row = row_of 0 (rx1 ∷ rx2 ∷ []) (by_rx1 1)
 
--- a row 30 seconds after the early one
+-- a row_of 30 seconds after the early one
 abbrev pub close_row : Row
-close_row = row 30 (rx1 ∷ []) (by_rx1 30)
+close_row = row_of 30 (rx1 ∷ []) (by_rx1 30)
 
 -- by one receiver at one moment, or from one moment to another
 abbrev pub row_at : ℕ → Row
-row_at moment = row moment (rx1 ∷ []) (by_rx1 moment)
+row_at moment = row_of moment (rx1 ∷ []) (by_rx1 moment)
 
 abbrev pub row_to : ℕ → ℕ → Row
-row_to first last = row first (rx1 ∷ []) (by_rx1 last)
+row_to first last = row_of first (rx1 ∷ []) (by_rx1 last)
 
 -- a key with this source and information
 abbrev pub key_by : ℕ → List ℕ → Key

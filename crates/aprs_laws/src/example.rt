@@ -20,7 +20,7 @@ ghost use Rattle.aprs_laws.specs.Merged.{merged};
 ghost use Rattle.aprs_laws.specs.Inserted.{inserted, FitsInPlace};
 ghost use Rattle.aprs_laws.specs.BestLaws.{Passes};
 ghost use Rattle.aprs_laws.specs.StepLaws.{rows_after_steps};
-ghost use Rattle.aprs_laws.specs.Examples.{direct, repeated, answered, of_other, hi_key, n0call, key_by, any_key, rx1, rx2, heard, by_rx1, early, row, row_at, row_to, near_pair, near_row, far_pair, early_row, late_row, close_row, tied_pair, tied_row, short_row, merge_then_take, back_and_forth, TakesFirst};
+ghost use Rattle.aprs_laws.specs.Examples.{direct, repeated, answered, of_other, hi_key, n0call, key_by, any_key, rx1, rx2, heard, by_rx1, early, row_of, row_at, row_to, near_pair, near_row, far_pair, early_row, late_row, close_row, tied_pair, tied_row, short_row, merge_then_take, back_and_forth, TakesFirst};
 
 /// Members have no number and no place. Ascending lists have no repeats.
 pub fn sets_and_orders()
@@ -84,7 +84,7 @@ pub fn ties_go_by_receiver_then_frame()
 /// Receivers stand in ascending order, each once.
 pub fn receivers_ascend()
     ensures { plain_book gap_seconds (heard 10 rx2 direct ∷ heard 5 rx1 answered ∷ early ∷ [])
-        ≡ row 0 (rx1 ∷ rx2 ∷ []) (heard 10 rx2 direct) ∷ [] }
+        ≡ row_of 0 (rx1 ∷ rx2 ∷ []) (heard 10 rx2 direct) ∷ [] }
 {}
 
 /// A part of a run is none, nor are two runs one.
@@ -101,8 +101,8 @@ pub fn rows_are_whole()
     ensures is_of { IsOf near_row early }
     ensures misses_later { IsOf early_row (by_rx1 31) → ⊥ }
     ensures row { RowOf gap_seconds tied_pair tied_row }
-    ensures misses_greatest { RowOf gap_seconds tied_pair (row 0 (rx1 ∷ rx2 ∷ []) (by_rx1 0)) → ⊥ }
-    ensures misses_receiver { RowOf gap_seconds tied_pair (row 0 (rx2 ∷ []) early) → ⊥ }
+    ensures misses_greatest { RowOf gap_seconds tied_pair (row_of 0 (rx1 ∷ rx2 ∷ []) (by_rx1 0)) → ⊥ }
+    ensures misses_receiver { RowOf gap_seconds tied_pair (row_of 0 (rx2 ∷ []) early) → ⊥ }
 {}
 
 /// A book has all rows of its set, in order.
@@ -115,9 +115,9 @@ pub fn books_are_whole()
 /// Rows that no set has are not sound.
 pub fn soundness_is_seen_in_rows()
     ensures sound { Sound gap_seconds (short_row ∷ []) }
-    ensures misses_greatest { Sound gap_seconds (row 1 (rx1 ∷ rx2 ∷ []) (by_rx1 1) ∷ []) → ⊥ }
+    ensures misses_greatest { Sound gap_seconds (row_of 1 (rx1 ∷ rx2 ∷ []) (by_rx1 1) ∷ []) → ⊥ }
     ensures misses_apart { Sound gap_seconds (early_row ∷ close_row ∷ []) → ⊥ }
-    ensures misses_receivers { Sound gap_seconds (row 0 (rx2 ∷ rx1 ∷ []) (by_rx1 1) ∷ []) → ⊥ }
+    ensures misses_receivers { Sound gap_seconds (row_of 0 (rx2 ∷ rx1 ∷ []) (by_rx1 1) ∷ []) → ⊥ }
     ensures next { IsNext gap_seconds (early_row ∷ []) late_row }
     ensures misses_near_next { IsNext gap_seconds (early_row ∷ []) close_row → ⊥ }
 {}
@@ -157,9 +157,9 @@ pub fn merges_take_what_is_there()
     ensures taken { taken merge_then_take 1 ≡ by_rx1 0 ∷ [] }
     ensures misses_later { by_rx1 31 ∈ taken merge_then_take 1 → ⊥ }
     ensures first_book { rows_after_steps gap_seconds back_and_forth (λ place. []) 0
-        ≡ row 0 (rx1 ∷ rx2 ∷ []) (heard 20 rx2 direct) ∷ [] }
+        ≡ row_of 0 (rx1 ∷ rx2 ∷ []) (heard 20 rx2 direct) ∷ [] }
     ensures second_book { rows_after_steps gap_seconds back_and_forth (λ place. []) 1
-        ≡ row 0 (rx1 ∷ rx2 ∷ []) (heard 20 rx2 direct) ∷ [] }
+        ≡ row_of 0 (rx1 ∷ rx2 ∷ []) (heard 20 rx2 direct) ∷ [] }
 {}
 
 /// What comes last in a list is not what is last known.
