@@ -56,7 +56,8 @@ abbrev pub heard : ℕ → List ℕ → List ℕ → Heard
 heard moment receiver frame = record { moment = moment; receiver = receiver; frame = frame }
 
 abbrev pub row_of : ℕ → List (List ℕ) → Heard → Row
-row_of first receivers greatest = record { first = first; receivers = receivers; greatest = greatest }
+row_of first receivers greatest =
+    record { first = first; receivers = receivers; greatest = greatest }
 
 -- heard by RX1 at a moment
 abbrev pub by_rx1 : ℕ → Heard

@@ -7,7 +7,8 @@ use Rattle.aprs_laws.specs.Joining.{IsUnited}
 use Rattle.aprs_laws.specs.JoinRow.{choose}
 
 -- x and what follows it, merged with others, where `rest` does this for what follows x
-abbrev pub merged_from : {X : Type 0} → (X → X → Ordering) → X → List X → (List X → List X) → List X → List X
+abbrev pub merged_from : {X : Type 0}
+    → (X → X → Ordering) → X → List X → (List X → List X) → List X → List X
 merged_from cmp x xs rest [] = x ∷ xs
 merged_from cmp x xs rest (y ∷ ys) =
     choose (cmp x y) (x ∷ rest (y ∷ ys)) (x ∷ rest ys) (y ∷ merged_from cmp x xs rest ys)

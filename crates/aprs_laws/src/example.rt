@@ -58,7 +58,8 @@ pub fn gaps_decide_rows()
         ≡ row_at 0 ∷ row_to 31 61 ∷ [] }
     ensures bridged { plain_book gap_seconds (by_rx1 30 ∷ by_rx1 31 ∷ by_rx1 61 ∷ by_rx1 0 ∷ [])
         ≡ row_to 0 61 ∷ [] }
-    ensures inside { plain_book gap_seconds (by_rx1 40 ∷ by_rx1 30 ∷ by_rx1 31 ∷ by_rx1 61 ∷ by_rx1 0 ∷ [])
+    ensures inside { plain_book gap_seconds
+        (by_rx1 40 ∷ by_rx1 30 ∷ by_rx1 31 ∷ by_rx1 61 ∷ by_rx1 0 ∷ [])
         ≡ row_to 0 61 ∷ [] }
 {}
 
@@ -101,7 +102,8 @@ pub fn rows_are_whole()
     ensures is_of { IsOf near_row early }
     ensures misses_later { IsOf early_row (by_rx1 31) → ⊥ }
     ensures row { RowOf gap_seconds tied_pair tied_row }
-    ensures misses_greatest { RowOf gap_seconds tied_pair (row_of 0 (rx1 ∷ rx2 ∷ []) (by_rx1 0)) → ⊥ }
+    ensures misses_greatest { RowOf gap_seconds tied_pair
+        (row_of 0 (rx1 ∷ rx2 ∷ []) (by_rx1 0)) → ⊥ }
     ensures misses_receiver { RowOf gap_seconds tied_pair (row_of 0 (rx2 ∷ []) early) → ⊥ }
 {}
 
