@@ -1,5 +1,5 @@
 -- Two lists of rows in order, put together in order: the one pass that merges two books.
-use Rattle.std.proofs.Common.{◌≡◌, ℕ, ◌<◌, List, [], ◌∷◌, ◌⊎◌, ◌↔◌, inl, inr, refl, ap, ◌∙◌, subst}
+use Rattle.std.proofs.Common.{◌≡◌, ℕ, ◌<◌, List, [], ◌∷◌, ◌++◌, ◌⊎◌, ◌↔◌, inl, inr, refl, ap, ◌∙◌, subst}
 use Rattle.std.proofs.lemmas.Cmp.{upto, tied_back}
 use Rattle.std.specs.Ordering.{ordering_reverse, is_gt, MatchOrdering}
 use Rattle.std.specs.declared.cmp.Ordering.{Ordering}
@@ -8,12 +8,14 @@ use Rattle.aprs_laws.specs.Lists.{◌∈◌, Ordered}
 use Rattle.aprs_laws.specs.Order.{IsBelow, IsUpTo}
 use Rattle.aprs_laws.specs.Row.{Row, row_cmp}
 use Rattle.aprs_laws.specs.Sound.{Sound}
+use Rattle.aprs_laws.specs.Real.{real}
 use Rattle.aprs_laws.specs.Joining.{Joined}
 use Rattle.aprs_laws.specs.JoinRow.{interleave_from, interleave, coalesced}
 use Rattle.aprs_laws.proofs.Lists.{ordered_weaker}
 use Rattle.aprs_laws.proofs.Choices.{by_choice}
-use Rattle.aprs_laws.proofs.Books.{row_total}
+use Rattle.aprs_laws.proofs.Books.{row_total, one_book}
 use Rattle.aprs_laws.proofs.Soundness.{realised}
+use Rattle.aprs_laws.proofs.Views.{joined_by_merge}
 use Rattle.aprs_laws.proofs.Streams.{streamed}
 
 -- the two ways in which rows lie
@@ -127,3 +129,14 @@ one_pass gap pos a b v w =
           → ((x : Row) → (x ∈ rows) ↔ ((x ∈ a) ⊎ (x ∈ b))) → Joined gap a b (coalesced gap rows)
       stream [] o e = empty a b e v w
       stream (l ∷ xs) o e = streamed gap pos a b l xs v w o e
+
+-- a joined value is what comes of the rows one after another, and so is that of the one pass
+pub joined_is_merge : (gap : ℕ) → 0 < gap → (a b c : List Row) → Sound gap a → Sound gap b
+    → Joined gap a b c → c ≡ merge gap a b
+joined_is_merge gap pos a b c v w j =
+    one_book gap (real a ++ real b) c (merge gap a b) j (joined_by_merge gap pos a b v w)
+
+pub one_pass_is_merge : (gap : ℕ) → 0 < gap → (a b : List Row) → Sound gap a → Sound gap b
+    → coalesced gap (interleave a b) ≡ merge gap a b
+one_pass_is_merge gap pos a b v w =
+    joined_is_merge gap pos a b (coalesced gap (interleave a b)) v w (one_pass gap pos a b v w)

@@ -1,6 +1,7 @@
 -- The sets that books have taken after some steps.
-use Rattle.std.specs.Prelude.{ℕ, ◌==◌, if◌then◌else◌, List, [], ◌∷◌, ◌++◌}
+use Rattle.std.specs.Prelude.{ℕ, ◌<◌, ◌==◌, if◌then◌else◌, List, [], ◌∷◌, ◌++◌}
 use Rattle.aprs_log.specs.Reception.{Heard}
+use Rattle.aprs_laws.specs.Lists.{◌∈◌}
 
 -- a reception goes to a place; what stands at the second place goes to the first too
 pub data Step : Type 0 where
@@ -19,3 +20,11 @@ after_steps (step ∷ steps) sets = after_steps steps (after_step step sets)
 -- from empty sets at all places
 abbrev pub taken : List Step → ℕ → List Heard
 taken steps = after_steps steps (λ k. [])
+
+-- every place is below n
+abbrev pub StepFits : ℕ → Step → Type 0
+StepFits n (Take i x) = i < n
+StepFits n (Merge i j) = (i < n) × (j < n)
+
+abbrev pub StepsFit : ℕ → List Step → Type 0
+StepsFit n steps = (step : Step) → step ∈ steps → StepFits n step

@@ -13,7 +13,7 @@ ghost use Rattle.aprs_laws.specs.Book.{BookOf};
 ghost use Rattle.aprs_laws.specs.Sound.{Sound, IsNext};
 ghost use Rattle.aprs_laws.specs.Real.{real};
 ghost use Rattle.aprs_laws.specs.Joining.{JoinLaws, IsGreaterOf, IsAny, IsUnited, Joined, FoldsTo};
-ghost use Rattle.aprs_laws.specs.Taken.{taken};
+ghost use Rattle.aprs_laws.specs.Taken.{taken, StepsFit};
 ghost use Rattle.aprs_laws.specs.Best.{IsBest, LastKnown, known_of};
 ghost use Rattle.aprs_laws.specs.JoinRow.{single, IsNear, interleave, coalesced, plain_book};
 ghost use Rattle.aprs_laws.specs.Merged.{merged};
@@ -158,6 +158,8 @@ pub fn joined_books_are_books()
 pub fn merges_take_what_is_there()
     ensures taken { taken merge_then_take 1 ≡ by_rx1 0 ∷ [] }
     ensures misses_later { by_rx1 31 ∈ taken merge_then_take 1 → ⊥ }
+    ensures fits { StepsFit 2 back_and_forth }
+    ensures misses_place { StepsFit 1 back_and_forth → ⊥ }
     ensures first_book { rows_after_steps gap_seconds back_and_forth (λ place. []) 0
         ≡ row_of 0 (rx1 ∷ rx2 ∷ []) (heard 20 rx2 direct) ∷ [] }
     ensures second_book { rows_after_steps gap_seconds back_and_forth (λ place. []) 1
