@@ -10,7 +10,7 @@ use Rattle.aprs_laws.specs.Row.{Row, row_cmp}
 use Rattle.aprs_laws.specs.Sound.{Sound}
 use Rattle.aprs_laws.specs.Real.{real}
 use Rattle.aprs_laws.specs.Joining.{Joined}
-use Rattle.aprs_laws.specs.JoinRow.{interleave_from, interleave, coalesced}
+use Rattle.aprs_laws.specs.JoinRow.{merge, interleave_from, interleave, coalesced}
 use Rattle.aprs_laws.proofs.Lists.{ordered_weaker}
 use Rattle.aprs_laws.proofs.Choices.{by_choice}
 use Rattle.aprs_laws.proofs.Books.{row_total, one_book}
