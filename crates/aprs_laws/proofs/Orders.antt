@@ -1,0 +1,149 @@
+-- The orders of callsigns, keys and receptions: each is total, and equals are identical.
+use Rattle.std.proofs.Common.{◌≡◌, ℕ, ◌<◌, ◌≤◌, List, refl, ap, ◌∙◌, subst, false, arith}
+use Rattle.std.specs.Cmp.{IsTotalOrder}
+use Rattle.std.specs.Ordering.{nat_cmp, ordering_then, ordering_reverse, is_gt, MatchOrdering}
+use Rattle.std.specs.declared.cmp.Ordering.{Ordering}
+use Rattle.std.specs.declared.cmp.Ordering.TheVariants.{Less, Equal, Greater}
+use Rattle.std.proofs.lemmas.Cmp.{then_total, on_total, nat_cmp_total, nat_list_cmp_total, tied_itself}
+use Rattle.std.proofs.lemmas.Bool.Decides.{nat_tests}
+use Rattle.std.proofs.lemmas.Map.Lookups.{CmpEqualImpliesEq, exact_pairs, exact_unsigned, exact_bytes}
+use Rattle.aprs_ax25.specs.Callsign.{Call, call_cmp}
+use Rattle.aprs_ax25.specs.FrameFault.{parts_of}
+use Rattle.aprs_log.specs.Reception.{Heard, bytes_cmp, heard_cmp}
+use Rattle.aprs_laws.specs.Order.{IsUpTo}
+use Rattle.aprs_laws.specs.Key.{key_of, key_cmp}
+
+pub not_both : {X : Type 0} {R : X → X → Ordering} → IsTotalOrder R → (x y : X) → R x y ≡ Less
+    → R y x ≡ Less → ⊥
+not_both o x y h k = let a = o.antisymm x y in cc
+
+-- the three ways in which two values of an exact order lie
+pub tells : {X : Type 0} {R : X → X → Ordering} → IsTotalOrder R → CmpEqualImpliesEq R → (x y : X)
+    → MatchOrdering (R x y) (R x y ≡ Less) (x ≡ y) (R y x ≡ Less)
+tells {X} {R} o e x y = told (R x y) refl where
+  told : (r : Ordering) → R x y ≡ r → MatchOrdering r (R x y ≡ Less) (x ≡ y) (R y x ≡ Less)
+  told Less h = h
+  told Equal h = e x y h
+  told Greater h = let a = o.antisymm y x in a ∙ ap ordering_reverse h
+
+-- two values, neither after the other
+pub same_greatest : {X : Type 0} {R : X → X → Ordering} → IsTotalOrder R → CmpEqualImpliesEq R
+    → (x y : X) → IsUpTo R x y → IsUpTo R y x → x ≡ y
+same_greatest {X} {R} o e x y h k = told (R x y) refl where
+  told : (r : Ordering) → R x y ≡ r → x ≡ y
+  told Less g =
+      let a =
+      o.antisymm y x in let b : R y x ≡ Greater = a ∙ ap ordering_reverse g in cc (ap is_gt b)
+  told Equal g = e x y g
+  told Greater g = cc (ap is_gt g)
+
+-- a value is not after itself
+pub up_to_itself : {X : Type 0} {R : X → X → Ordering} → IsTotalOrder R → (x : X) → IsUpTo R x x
+up_to_itself o x = ap is_gt (tied_itself o x)
+
+pub bytes_total : IsTotalOrder bytes_cmp
+bytes_total = nat_list_cmp_total
+
+pub bytes_exact : CmpEqualImpliesEq bytes_cmp
+bytes_exact = exact_bytes
+
+pub call_total : IsTotalOrder call_cmp
+call_total =
+    then_total (on_total (λ c. c.letters) nat_list_cmp_total) (on_total (λ c. c.ssid) nat_cmp_total)
+
+pub call_exact : CmpEqualImpliesEq call_cmp
+call_exact a b h =
+    ap (λ (p : List ℕ × ℕ). record { letters = p.0; ssid = p.1 })
+    (exact_pairs bytes_cmp nat_cmp exact_bytes exact_unsigned (a.letters, a.ssid)
+    (b.letters, b.ssid) h)
+
+pub key_total : IsTotalOrder key_cmp
+unfolding key_cmp
+key_total =
+    then_total (on_total (λ k. k.source) call_total)
+    (then_total (on_total (λ k. k.destination) call_total) (on_total (λ k. k.info) bytes_total))
+
+pub key_exact : CmpEqualImpliesEq key_cmp
+unfolding key_cmp
+key_exact a b h =
+    ap (λ (p : Call × (Call × List ℕ)). record { source = p.0; destination = p.1.0; info = p.1.1 })
+    (exact_pairs call_cmp
+    (λ (x y : Call × List ℕ). ordering_then (call_cmp x.0 y.0) (bytes_cmp x.1 y.1)) call_exact
+    (exact_pairs call_cmp bytes_cmp call_exact bytes_exact) (a.source, (a.destination, a.info))
+    (b.source, (b.destination, b.info)) h)
+
+pub heard_total : IsTotalOrder heard_cmp
+heard_total =
+    then_total (on_total (λ s. s.moment) nat_cmp_total)
+    (then_total (on_total (λ s. s.receiver) bytes_total) (on_total (λ s. s.frame) bytes_total))
+
+pub heard_exact : CmpEqualImpliesEq heard_cmp
+heard_exact a b h =
+    ap (λ (p : ℕ × (List ℕ × List ℕ)). record { moment = p.0; receiver = p.1.0; frame = p.1.1 })
+    (exact_pairs nat_cmp
+    (λ (x y : List ℕ × List ℕ). ordering_then (bytes_cmp x.0 y.0)
+    (bytes_cmp x.1 y.1)) exact_unsigned
+    (exact_pairs bytes_cmp bytes_cmp bytes_exact bytes_exact) (a.moment, (a.receiver, a.frame))
+    (b.moment, (b.receiver, b.frame)) h)
+
+-- a reception is not after one of a greater or equal moment
+pub moment_up_to : (s t : Heard) → IsUpTo heard_cmp s t → s.moment ≤ t.moment
+moment_up_to s t h = told (bytes_cmp s.receiver t.receiver) h where
+  told : (r : Ordering)
+      → is_gt
+      (ordering_then (nat_cmp s.moment t.moment) (ordering_then r (bytes_cmp s.frame t.frame)))
+      ≡ false → s.moment ≤ t.moment
+  told r h = grind (arith, nat_tests)
+
+-- a reception of a smaller moment is not after
+pub up_to_moment : (s t : Heard) → s.moment < t.moment → IsUpTo heard_cmp s t
+up_to_moment s t l =
+    told (ordering_then (bytes_cmp s.receiver t.receiver) (bytes_cmp s.frame t.frame)) where
+      told : (o : Ordering) → is_gt (ordering_then (nat_cmp s.moment t.moment) o) ≡ false
+      told o = grind (arith, nat_tests)
+
+-- one by a receiver that is not after, of the same moment and frame, is not after
+pub up_to_receiver : (s t : Heard) → s.moment ≡ t.moment → IsUpTo bytes_cmp s.receiver t.receiver
+    → s.frame ≡ t.frame → IsUpTo heard_cmp s t
+up_to_receiver s t e h f =
+    told (bytes_cmp s.receiver t.receiver) (bytes_cmp s.frame t.frame) h
+    (subst (λ (q : List ℕ). bytes_cmp s.frame q ≡ Equal) f (tied_itself bytes_total s.frame)) where
+      told : (o p : Ordering) → is_gt o ≡ false → p ≡ Equal
+          → is_gt (ordering_then (nat_cmp s.moment t.moment) (ordering_then o p)) ≡ false
+      told Less p h k = grind (arith, nat_tests)
+      told Equal p h k = rw k (grind (arith, nat_tests))
+      told Greater p h k = absurd (cc h)
+
+-- receptions of one moment are in the order of their receivers
+pub receiver_up_to : (s t : Heard) → s.moment ≡ t.moment → IsUpTo heard_cmp s t
+    → IsUpTo bytes_cmp s.receiver t.receiver
+receiver_up_to s t e h = told (bytes_cmp s.receiver t.receiver) h where
+  told : (o : Ordering)
+      → is_gt
+      (ordering_then (nat_cmp s.moment t.moment) (ordering_then o (bytes_cmp s.frame t.frame)))
+      ≡ false → is_gt o ≡ false
+  told Less h = refl
+  told Equal h = refl
+  told Greater h = grind (arith, nat_tests)
+
+-- the order of two frames' keys, by their parts
+pub key_cmp_of_parts : (f g : List ℕ)
+    → key_cmp (key_of f) (key_of g)
+    ≡ ordering_then (call_cmp (parts_of f).source.call (parts_of g).source.call)
+    (ordering_then (call_cmp (parts_of f).destination.call (parts_of g).destination.call)
+    (bytes_cmp (parts_of f).info (parts_of g).info))
+unfolding key_of key_cmp
+key_cmp_of_parts f g = refl
+
+-- and that they are one where their parts are
+pub key_of_same_parts : (f g : List ℕ) → (parts_of f).source.call ≡ (parts_of g).source.call
+    → (parts_of f).destination.call ≡ (parts_of g).destination.call
+    → (parts_of f).info ≡ (parts_of g).info → key_of f ≡ key_of g
+unfolding key_of
+key_of_same_parts f g s d i = λ t. record { source = s t; destination = d t; info = i t }
+
+pub ordering_then_assoc : (p q r : Ordering)
+    → ordering_then (ordering_then p q) r ≡ ordering_then p (ordering_then q r)
+ordering_then_assoc Less q r = refl
+ordering_then_assoc Equal q r = refl
+ordering_then_assoc Greater q r = refl

@@ -1,0 +1,160 @@
+-- What code does with rows: it keeps what lies before, joins what is near, and keeps what lies after.
+use Rattle.std.proofs.Common.{◌≡◌, ℕ, ◌+◌, ◌<◌, ◌≤◌, List, [], ◌∷◌, ◌++◌, inl, inr, sym, refl, ap, ◌∙◌, subst, arith, if◌then◌else◌, false}
+use Rattle.std.specs.Prelude.{nat_lt}
+use Rattle.std.proofs.lemmas.Bool.Decides.{nat_tests}
+use Rattle.std.proofs.lemmas.Cmp.{tied_itself}
+use Rattle.std.specs.Ordering.{nat_cmp, is_gt, MatchOrdering, ordering_then, ordering_reverse}
+use Rattle.std.specs.declared.cmp.Ordering.{Ordering}
+use Rattle.std.specs.declared.cmp.Ordering.TheVariants.{Less, Equal, Greater}
+use Rattle.aprs_laws.specs.Lists.{◌∈◌, Ordered}
+use Rattle.aprs_laws.specs.Order.{IsUpTo}
+use Rattle.aprs_laws.specs.Key.{Key, key_cmp}
+use Rattle.aprs_laws.specs.Row.{Row, row_key, last_of, row_cmp}
+use Rattle.aprs_laws.specs.JoinRow.{choose, IsNear, combine, by_moments, place, join_row}
+use Rattle.aprs_laws.proofs.Lists.{in_right}
+use Rattle.aprs_laws.proofs.Orders.{tells, key_total, key_exact}
+use Rattle.aprs_laws.proofs.Rows.{IsBefore, combined_key, combined_last}
+
+one_key : (x y : Row) → row_key x ≡ row_key y → key_cmp (row_key x) (row_key y) ≡ Equal
+one_key x y e =
+    subst (λ (k : Key). key_cmp (row_key x) k ≡ Equal) e (tied_itself key_total (row_key x))
+
+at_key : (gap : ℕ) (x y : Row) (o : Ordering) → key_cmp (row_key x) (row_key y) ≡ o
+    → place gap x y ≡ ordering_then o (by_moments gap x y)
+at_key gap x y o h = ap (λ (p : Ordering). ordering_then p (by_moments gap x y)) h
+
+pub place_before : (gap : ℕ) (x y : Row) → IsBefore gap x y → place gap x y ≡ Less
+place_before gap x y (inl h) = at_key gap x y Less h
+place_before gap x y (inr h) =
+    at_key gap x y Equal (one_key x y h.0) ∙ tests (last_of x) x.first (last_of y) y.first h.1 where
+      tests : (a b c d : ℕ) → a + gap < d
+          → (if nat_lt (a + gap) d then Less else if nat_lt (c + gap) b then Greater else Equal) ≡ Less
+      tests a b c d l = grind (arith, nat_tests)
+
+pub place_near : (gap : ℕ) (x y : Row) → IsNear gap x y → place gap x y ≡ Equal
+place_near gap x y n =
+    at_key gap x y Equal (one_key x y n.key)
+    ∙ tests (last_of x) x.first (last_of y) y.first n.after n.before where
+      tests : (a b c d : ℕ) → d ≤ a + gap → b ≤ c + gap
+          → (if nat_lt (a + gap) d then Less else if nat_lt (c + gap) b then Greater else Equal) ≡ Equal
+      tests a b c d l m = grind (arith, nat_tests)
+
+pub place_after : (gap : ℕ) (x y : Row) → x.first ≤ last_of x → y.first ≤ last_of y
+    → IsBefore gap y x → place gap x y ≡ Greater
+place_after gap x y p q (inl h) =
+    at_key gap x y Greater (key_total.antisymm (row_key x) (row_key y) ∙ ap ordering_reverse h)
+place_after gap x y p q (inr h) =
+    at_key gap x y Equal (one_key x y (sym h.0))
+    ∙ tests (last_of x) x.first (last_of y) y.first p q h.1 where
+      tests : (a b c d : ℕ) → b ≤ a → d ≤ c → c + gap < b
+          → (if nat_lt (a + gap) d then Less else if nat_lt (c + gap) b then Greater else Equal)
+          ≡ Greater
+      tests a b c d p q l = grind (arith, nat_tests)
+
+-- r with the rows that it joins
+abbrev pub gather : List Row → Row → Row
+gather [] r = r
+gather (x ∷ xs) r = gather xs (combine x r)
+
+chosen : (gap : ℕ) (x : Row) (xs : List Row) (r : Row) (o : Ordering) → place gap x r ≡ o
+    → join_row gap (x ∷ xs) r ≡ choose o (x ∷ join_row gap xs r) (join_row gap xs (combine x r))
+    (r ∷ x ∷ xs)
+chosen gap x xs r o h =
+    ap
+    (λ (p : Ordering). choose p (x ∷ join_row gap xs r) (join_row gap xs (combine x r))
+    (r ∷ x ∷ xs)) h
+
+-- rows that lie before r stay
+pub join_past : (gap : ℕ) (a b : List Row) (r : Row) → ((x : Row) → x ∈ a → IsBefore gap x r)
+    → join_row gap (a ++ b) r ≡ a ++ join_row gap b r
+join_past gap [] b r f = refl
+join_past gap (x ∷ a) b r f =
+    chosen gap x (a ++ b) r Less (place_before gap x r (f x (inl refl)))
+    ∙ ap (λ (ys : List Row). x ∷ ys) (join_past gap a b r (λ y h. f y (inr h)))
+
+-- rows that lie after r stay
+pub join_front : (gap : ℕ) (c : List Row) (r : Row) → r.first ≤ last_of r
+    → ((x : Row) → x ∈ c → x.first ≤ last_of x) → ((x : Row) → x ∈ c → IsBefore gap r x)
+    → join_row gap c r ≡ r ∷ c
+join_front gap [] r l s f = refl
+join_front gap (x ∷ c) r l s f =
+    chosen gap x c r Greater (place_after gap x r (s x (inl refl)) l (f x (inl refl)))
+
+pub near_combined : (gap : ℕ) (x r y : Row) → row_key x ≡ row_key r → IsNear gap y r
+    → IsNear gap y (combine x r)
+near_combined gap x r y e n =
+    record {
+      key = n.key ∙ sym e
+          ∙ sym (combined_key x r e);
+      after =
+          omega (arith, n.after);
+      before = omega (arith, n.before, combined_last x r);
+    }
+
+pub combined_before : (gap : ℕ) (x r y : Row) → row_key x ≡ row_key r → IsBefore gap x y
+    → IsBefore gap r y → IsBefore gap (combine x r) y
+combined_before gap x r y e (inl h) k =
+    inl (subst (λ (q : Key). key_cmp q (row_key y) ≡ Less) (sym (combined_key x r e)) h)
+combined_before gap x r y e (inr h) (inl k) =
+    inl (subst (λ (q : Key). key_cmp q (row_key y) ≡ Less) (sym e ∙ sym (combined_key x r e)) k)
+combined_before gap x r y e (inr h) (inr k) =
+    inr (combined_key x r e ∙ h.0, omega (arith, h.1, k.1, combined_last x r))
+
+-- rows near to r go into one with it
+pub join_near : (gap : ℕ) (n c : List Row) (r : Row) → r.first ≤ last_of r
+    → ((x : Row) → x ∈ (n ++ c) → x.first ≤ last_of x) → Ordered (IsBefore gap) (n ++ c)
+    → ((x : Row) → x ∈ n → IsNear gap x r) → ((x : Row) → x ∈ c → IsBefore gap r x)
+    → join_row gap (n ++ c) r ≡ gather n r ∷ c
+join_near gap [] c r l s o f g = join_front gap c r l s g
+join_near gap (x ∷ n) c r l s o f g =
+    let e = f x (inl refl) in
+    chosen gap x (n ++ c) r Equal (place_near gap x r e)
+    ∙ join_near gap n c (combine x r) (omega (arith, l, s x (inl refl), combined_last x r))
+    (λ y h. s y (inr h)) o.1
+    (λ y h. near_combined gap x r y e.key (f y (inr h)))
+    (λ y h. combined_before gap x r y e.key (o.0 y (in_right y n c h)) (g y h))
+
+-- so one cut at each end of the near rows is all that `take` has to find
+pub join_parts : (gap : ℕ) (a n c : List Row) (r : Row) → r.first ≤ last_of r
+    → ((x : Row) → x ∈ (n ++ c) → x.first ≤ last_of x) → Ordered (IsBefore gap) (n ++ c)
+    → ((x : Row) → x ∈ a → IsBefore gap x r) → ((x : Row) → x ∈ n → IsNear gap x r)
+    → ((x : Row) → x ∈ c → IsBefore gap r x)
+    → join_row gap (a ++ (n ++ c)) r ≡ a ++ (gather n r ∷ c)
+join_parts gap a n c r l s o f g h =
+    join_past gap a (n ++ c) r f ∙ ap (λ (ys : List Row). a ++ ys) (join_near gap n c r l s o g h)
+
+-- what is before l is before what is not before l
+pub before_up_to : (gap : ℕ) (x l r : Row) → IsUpTo row_cmp l r → IsBefore gap x l
+    → IsBefore gap x r
+before_up_to gap x l r u b =
+    told (key_cmp (row_key l) (row_key r))
+    (tells key_total key_exact (row_key l) (row_key r)) u b where
+      told : (o : Ordering)
+          → MatchOrdering o (key_cmp (row_key l) (row_key r) ≡ Less) (row_key l ≡ row_key r)
+          (key_cmp (row_key r) (row_key l) ≡ Less)
+          → is_gt (ordering_then o (nat_cmp l.first r.first)) ≡ false → IsBefore gap x l
+          → IsBefore gap x r
+      told Less h u (inl k) = inl (key_total.trans (row_key x) (row_key l) (row_key r) k h)
+      told Less h u (inr k) = inl (subst (λ (q : Key). key_cmp q (row_key r) ≡ Less) (sym k.0) h)
+      told Equal h u (inl k) = inl (subst (λ (q : Key). key_cmp (row_key x) q ≡ Less) h k)
+      told Equal h u (inr k) = inr (k.0 ∙ h, grind (arith, nat_tests, k.1))
+      told Greater h u b = cc u
+
+-- rows that come in order join the last one, or go behind it
+pub join_last : (gap : ℕ) (front : List Row) (l r : Row) → l.first ≤ last_of l → r.first ≤ last_of r
+    → ((x : Row) → x ∈ front → IsBefore gap x l) → IsUpTo row_cmp l r → IsNear gap l r
+    → join_row gap (front ++ l ∷ []) r ≡ front ++ combine l r ∷ []
+join_last gap front l r sl sr f u n =
+    join_parts gap front (l ∷ []) [] r sr
+    (λ x h. elim h [ inl e ↦ subst (λ (z : Row). z.first ≤ last_of z) e sl | inr k ↦ absurd k ])
+    (λ y h. absurd h, tt)
+    (λ x h. before_up_to gap x l r u (f x h))
+    (λ x h. elim h [ inl e ↦ subst (λ (z : Row). IsNear gap z r) e n | inr k ↦ absurd k ])
+    (λ x h. absurd h)
+
+pub join_behind : (gap : ℕ) (out : List Row) (r : Row) → ((x : Row) → x ∈ out → IsBefore gap x r)
+    → join_row gap out r ≡ out ++ r ∷ []
+join_behind gap [] r f = refl
+join_behind gap (x ∷ xs) r f =
+    chosen gap x xs r Less (place_before gap x r (f x (inl refl)))
+    ∙ ap (λ (ys : List Row). x ∷ ys) (join_behind gap xs r (λ y h. f y (inr h)))

@@ -1,0 +1,148 @@
+-- One more row at the end of sound rows: only the last row has to be looked at.
+use Rattle.std.proofs.Common.{◌≡◌, ℕ, ◌≤◌, List, [], ◌∷◌, ◌++◌, ◌⊎◌, ◌↔◌, inl, inr, refl, sym, ap, subst}
+use Rattle.std.specs.declared.cmp.Ordering.TheVariants.{Less}
+use Rattle.aprs_laws.specs.Lists.{◌∈◌, Ordered}
+use Rattle.aprs_laws.specs.Order.{IsBelow}
+use Rattle.aprs_laws.specs.Key.{Key, key_cmp}
+use Rattle.aprs_laws.specs.Row.{Row, row_key, last_of, row_cmp}
+use Rattle.aprs_laws.specs.Sound.{IsSoundRow, IsFar, Sound, IsNext}
+use Rattle.aprs_laws.proofs.Lists.{in_left, in_right, in_either, ordered_weaker}
+use Rattle.aprs_laws.proofs.Places.{ordered_append}
+use Rattle.aprs_laws.proofs.Orders.{not_both, key_total}
+use Rattle.aprs_laws.proofs.Rows.{IsBefore, before_trans}
+use Rattle.aprs_laws.proofs.Books.{below}
+use Rattle.aprs_laws.proofs.Soundness.{before_of_sound, both}
+
+-- soundness by the one relation
+pub record IsSound (gap : ℕ) (rows : List Row) : Type 0 where
+  pub ordered : Ordered (IsBefore gap) rows
+  pub each : (x : Row) → x ∈ rows → IsSoundRow x
+
+pub one_relation : (gap : ℕ) (rows : List Row) → Sound gap rows → IsSound gap rows
+one_relation gap rows s = record {
+  ordered =
+      ordered_weaker (λ x y. IsBelow row_cmp x y × IsFar gap x y) (IsBefore gap) rows
+      (λ x y hx hy h. before_of_sound gap x y h.0 h.1)
+      (both (IsBelow row_cmp) (IsFar gap) rows s.ascending s.apart);
+  each = s.each;
+}
+
+pub two_relations : (gap : ℕ) (rows : List Row) → IsSound gap rows → Sound gap rows
+two_relations gap rows s = record {
+  ascending =
+      ordered_weaker (IsBefore gap) (IsBelow row_cmp) rows
+      (λ x y hx hy b. below gap x y (s.each x hx).in_order b) s.ordered;
+  apart = ordered_weaker (IsBefore gap) (IsFar gap) rows (λ x y hx hy b. far x y b) s.ordered;
+  each = s.each;
+} where
+  far : (x y : Row) → IsBefore gap x y → IsFar gap x y
+  far x y (inl h) e =
+      let r =
+      subst (λ (q : Key). key_cmp q (row_key y) ≡ Less) e h in
+      absurd (not_both key_total (row_key y) (row_key y) r r)
+  far x y (inr h) e = h.1
+
+-- what is before all of some rows is known by the last of them
+pub before_last : (gap : ℕ) (front : List Row) (l x : Row)
+    → Ordered (IsBefore gap) (front ++ l ∷ []) → l.first ≤ last_of l → IsBefore gap l x → (y : Row)
+    → y ∈ (front ++ l ∷ []) → IsBefore gap y x
+before_last gap [] l x o s b y h =
+    elim h [ inl e ↦ subst (λ (z : Row). IsBefore gap z x) e b | inr k ↦ absurd k ]
+before_last gap (w ∷ front) l x o s b y h = elim h [
+  | inl e ↦ subst (λ (z : Row). IsBefore gap z x) e
+      (before_trans gap w l x s (o.0 l (in_right l front (l ∷ []) (inl refl))) b)
+  | inr k ↦ before_last gap front l x o.1 s b y k
+]
+
+pub push_first : (gap : ℕ) (x : Row) → IsSoundRow x → Sound gap (x ∷ [])
+push_first gap x w =
+    two_relations gap (x ∷ [])
+    (record {
+      ordered =
+          (λ y h. absurd h, tt);
+      each =
+          λ y h. elim h [ inl e ↦ subst (λ (z : Row). IsSoundRow z) e w | inr k ↦ absurd k ];
+    })
+
+pub push_sound : (gap : ℕ) (front : List Row) (l x : Row) → Sound gap (front ++ l ∷ [])
+    → IsBelow row_cmp l x → IsFar gap l x → IsSoundRow x → Sound gap ((front ++ l ∷ []) ++ x ∷ [])
+push_sound gap front l x s b f w =
+    let i = one_relation gap (front ++ l ∷ []) s in
+    let span : l.first ≤ last_of l = (s.each l (in_right l front (l ∷ []) (inl refl))).in_order in
+    two_relations gap ((front ++ l ∷ []) ++ x ∷ []) (record {
+      ordered =
+          ordered_append (IsBefore gap) (front ++ l ∷ []) (x ∷ []) i.ordered (λ y h. absurd h, tt)
+          (λ y z h k. elim k [
+            | inl e ↦ subst (λ (q : Row). IsBefore gap y q) e
+                (before_last gap front l x i.ordered span
+                (before_of_sound gap l x b f) y h)
+            | inr j ↦ absurd j
+          ]);
+      each =
+          λ y h. elim
+          (in_either y (front ++ l ∷ [])
+          (x ∷ []) h) [
+            | inl k ↦ s.each y k
+            | inr k ↦ elim k [
+              | inl e ↦ subst
+                  (λ (z : Row). IsSoundRow z) e w
+              | inr j ↦ absurd j
+            ]
+          ];
+    })
+
+-- ---- the other way round: what rows with one more row tell of it
+
+front_ordered : {X : Type 0} (R : X → X → Type 0) (xs ys : List X) → Ordered R (xs ++ ys)
+    → (x y : X) → x ∈ xs → y ∈ ys → R x y
+front_ordered R [] ys o x y h k = absurd h
+front_ordered {X} R (z ∷ xs) ys o x y (inl e) k =
+    subst (λ (w : X). R w y) e (o.0 y (in_right y xs ys k))
+front_ordered R (z ∷ xs) ys o x y (inr h) k = front_ordered R xs ys o.1 x y h k
+
+pub next_of_sound : (gap : ℕ) (rows : List Row) (x : Row) → Sound gap (rows ++ x ∷ [])
+    → IsNext gap rows x
+next_of_sound gap rows x s = record {
+  own = s.each x (in_right x rows (x ∷ []) (inl refl));
+  after =
+      λ front l e.
+      (lies (IsBelow row_cmp) s.ascending front l e, lies (IsFar gap) s.apart front l e);
+} where
+  lies : (R : Row → Row → Type 0) → Ordered R (rows ++ x ∷ []) → (front : List Row) (l : Row)
+      → rows ≡ front ++ l ∷ [] → R l x
+  lies R o front l e =
+      front_ordered R rows (x ∷ []) o l x
+      (subst (λ (xs : List Row). l ∈ xs) (sym e) (in_right l front (l ∷ []) (inl refl))) (inl refl)
+
+-- rows are none, or have a last one
+pub empty_or_last : {X : Type 0} (xs : List X)
+    → (xs ≡ []) ⊎ ((front : List X) × (l : X) × (xs ≡ front ++ l ∷ []))
+empty_or_last [] = inl refl
+empty_or_last (x ∷ xs) = elim (empty_or_last xs) [
+  | inl e ↦ inr ([], x, ap (λ ys. x ∷ ys) e)
+  | inr t ↦ inr (x ∷ t.0, t.1, ap (λ ys. x ∷ ys) t.2)
+]
+
+pub sound_of_next : (gap : ℕ) (rows : List Row) (x : Row) → Sound gap rows → IsNext gap rows x
+    → Sound gap (rows ++ x ∷ [])
+sound_of_next gap rows x s n = elim (empty_or_last rows) [
+  | inl e ↦ subst (λ (xs : List Row). Sound gap (xs ++ x ∷ [])) (sym e) (push_first gap x n.own)
+  | inr t ↦ let a = n.after t.0 t.1 t.2 in
+      subst (λ (xs : List Row). Sound gap (xs ++ x ∷ [])) (sym t.2)
+      (push_sound gap t.0 t.1 x (subst (λ (xs : List Row). Sound gap xs) t.2 s) a.0 a.1 n.own)
+]
+
+pub push_exactly : (gap : ℕ) (rows : List Row) (x : Row) → Sound gap rows
+    → Sound gap (rows ++ x ∷ []) ↔ IsNext gap rows x
+push_exactly gap rows x s = (next_of_sound gap rows x, sound_of_next gap rows x s)
+
+-- a front of sound rows is sound
+pub sound_front : (gap : ℕ) (rows more : List Row) → Sound gap (rows ++ more) → Sound gap rows
+sound_front gap rows more s = record {
+  ascending = front (IsBelow row_cmp) rows s.ascending;
+  apart = front (IsFar gap) rows s.apart;
+  each = λ x h. s.each x (in_left x rows more h);
+} where
+  front : (R : Row → Row → Type 0) (xs : List Row) → Ordered R (xs ++ more) → Ordered R xs
+  front R [] o = tt
+  front R (x ∷ xs) o = (λ y h. o.0 y (in_left y xs more h), front R xs o.1)

@@ -1,0 +1,172 @@
+-- Sound rows are what some set has; two sets with one book add alike; joining books.
+use Rattle.std.proofs.Common.{◌≡◌, ℕ, zero, suc, ◌+◌, ◌-◌, ◌<◌, ◌≤◌, List, [], ◌∷◌, map, inl, inr, refl, ap, subst, arith}
+use Rattle.std.proofs.lemmas.Bool.{cases_lt}
+use Rattle.std.proofs.lemmas.Cmp.{tied_itself}
+use Rattle.std.specs.Ordering.{nat_cmp, ordering_then, is_gt}
+use Rattle.std.specs.declared.cmp.Ordering.{Ordering}
+use Rattle.std.specs.declared.cmp.Ordering.TheVariants.{Less, Equal, Greater}
+use Rattle.aprs_log.specs.Reception.{Heard, bytes_cmp, heard_cmp}
+use Rattle.aprs_laws.specs.Lists.{◌∈◌, Ordered}
+use Rattle.aprs_laws.specs.Order.{IsBelow, IsUpTo}
+use Rattle.aprs_laws.specs.Key.{Key, key_cmp}
+use Rattle.aprs_laws.specs.Row.{Row, row_key, last_of, IsOf, row_cmp}
+use Rattle.aprs_laws.specs.Book.{BookOf}
+use Rattle.aprs_laws.specs.Sound.{IsSoundRow, IsFar, Sound}
+use Rattle.aprs_laws.specs.Real.{moments, at_moment, by_receiver, real_row, real}
+use Rattle.aprs_laws.specs.JoinRow.{plain_book}
+use Rattle.aprs_laws.proofs.Lists.{in_left, in_right, in_either, in_map, from_map, ordered_weaker}
+use Rattle.aprs_laws.proofs.Orders.{not_both, key_total, key_exact, bytes_total, up_to_moment, up_to_receiver, receiver_up_to}
+use Rattle.aprs_laws.proofs.Rows.{Makes, IsBefore}
+use Rattle.aprs_laws.proofs.Made.{Made, appended, part_of, span, Keeps, keeps_book}
+use Rattle.aprs_laws.proofs.Books.{book_of_keeps, keeps_of_book}
+
+-- the sound rows of a book
+
+pub sound_row : (gap : ℕ) (X : List Heard) (x : Row) → Makes gap X x → IsSoundRow x
+sound_row gap X x m = record {
+  in_order = span gap X x m;
+  ascending = m.ascending;
+  receiver = (m.receivers x.greatest.receiver).1 (x.greatest, m.member, refl);
+  single = λ e r h.
+      let t = (m.receivers r).0 h in
+      let i = m.own t.0 t.1 in
+      subst (λ (q : List ℕ). IsUpTo bytes_cmp q x.greatest.receiver) t.2
+      (receiver_up_to t.0 x.greatest (omega (arith, e, i.from, i.to)) (m.greatest t.0 t.1));
+}
+
+pub sound_of_keeps : (gap : ℕ) (S : List Heard) (rows : List Row) → Keeps gap S rows
+    → Sound gap rows
+sound_of_keeps gap S rows k = record {
+  ascending = (book_of_keeps gap S rows k).ascending;
+  apart = ordered_weaker (IsBefore gap) (IsFar gap) rows (λ x y hx hy b. far x y b) k.ordered;
+  each = λ x h. let p = part_of gap S rows k.made k.ordered x h in sound_row gap p.X x p.makes;
+} where
+  far : (x y : Row) → IsBefore gap x y → IsFar gap x y
+  far x y (inl h) e =
+      let r =
+      subst (λ (q : Key). key_cmp q (row_key y) ≡ Less) e h in
+      absurd (not_both key_total (row_key y) (row_key y) r r)
+  far x y (inr h) e = h.1
+
+-- what sound rows stand for
+
+pub in_moments : (m a n : ℕ) → a ≤ m → m < a + n → m ∈ moments a n
+in_moments m a zero l u = absurd (omega arith)
+in_moments m a (suc n) l u = elim (cases_lt a m) [
+  | inl c ↦ inr (in_moments m (a + 1) n (omega arith) (omega arith))
+  | inr c ↦ inl (omega arith)
+]
+
+pub from_moments : (m a n : ℕ) → m ∈ moments a n → (a ≤ m) × (m < a + n)
+from_moments m a zero h = absurd h
+from_moments m a (suc n) (inl e) = (omega arith, omega arith)
+from_moments m a (suc n) (inr h) =
+    let k = from_moments m (a + 1) n h in (omega (arith, k), omega (arith, k))
+
+module _ (gap : ℕ) (x : Row) (w : IsSoundRow x) (pos : 0 < gap) where
+  real_at : (m : ℕ) → x.first ≤ m → m ≤ last_of x → at_moment x m ∈ real_row x
+  real_at m l u =
+      in_left (at_moment x m) (map (at_moment x) (moments x.first (last_of x - x.first + 1)))
+      (map (by_receiver x) x.receivers)
+      (in_map (at_moment x) m (moments x.first (last_of x - x.first + 1))
+      (in_moments m x.first (last_of x - x.first + 1) l (omega arith)))
+
+  real_by : (r : List ℕ) → r ∈ x.receivers → by_receiver x r ∈ real_row x
+  real_by r h =
+      in_right (by_receiver x r) (map (at_moment x) (moments x.first (last_of x - x.first + 1)))
+      (map (by_receiver x) x.receivers) (in_map (by_receiver x) r x.receivers h)
+
+  -- each real reception is one of these
+  real_from : (P : Heard → Type 0) → ((m : ℕ) → x.first ≤ m → m ≤ last_of x → P (at_moment x m))
+      → ((r : List ℕ) → r ∈ x.receivers → P (by_receiver x r)) → (s : Heard) → s ∈ real_row x → P s
+  real_from P f g s h =
+      elim
+      (in_either s (map (at_moment x) (moments x.first (last_of x - x.first + 1)))
+      (map (by_receiver x) x.receivers) h) [
+        | inl k ↦ let t = from_map (at_moment x) s (moments x.first (last_of x - x.first + 1)) k in
+            let u = from_moments t.0 x.first (last_of x - x.first + 1) t.1 in
+            subst P t.2 (f t.0 u.0 (omega (arith, u, w.in_order)))
+        | inr k ↦ let t = from_map (by_receiver x) s x.receivers k in subst P t.2 (g t.0 t.1)
+      ]
+
+  real_greatest : (s : Heard) → s ∈ real_row x → IsUpTo heard_cmp s x.greatest
+  real_greatest = real_from (λ s. IsUpTo heard_cmp s x.greatest)
+      (λ m l u. elim (cases_lt m (last_of x)) [
+        | inl c ↦ up_to_moment (at_moment x m) x.greatest (omega arith)
+        | inr c ↦ up_to_receiver (at_moment x m) x.greatest (omega arith)
+            (ap is_gt (tied_itself bytes_total x.greatest.receiver)) refl
+      ])
+      (λ r h. elim (cases_lt x.first (last_of x)) [
+        | inl c ↦ up_to_moment (by_receiver x r) x.greatest (omega arith)
+        | inr c ↦ let e : x.first ≡ last_of x =
+            omega (arith, w.in_order) in
+            up_to_receiver (by_receiver x r) x.greatest (omega arith) (w.single e r h) refl
+      ])
+
+  pub makes_real : Makes gap (real_row x) x
+  makes_real = record {
+    own = real_from (λ s. IsOf x s)
+        (λ m l u. record { key = refl; from = l; to = u })
+        (λ r h. record { key = refl; from = omega arith; to = w.in_order });
+    at_first = (at_moment x x.first, real_at x.first (omega arith) w.in_order, refl);
+    linked =
+        λ m l u. (
+          at_moment x (m + 1),
+          real_at (m + 1) (omega arith)
+              (omega arith),
+          omega arith,
+          omega arith,
+        );
+    ascending = w.ascending;
+    receivers = λ r. (
+      λ h. (by_receiver x r, real_by r h, refl),
+      λ t. subst (λ (q : List ℕ). q ∈ x.receivers) t.2
+          (real_from (λ s. s.receiver ∈ x.receivers) (λ m l u. w.receiver) (λ q h. h) t.0 t.1),
+    );
+    member = real_at (last_of x) w.in_order (omega arith);
+    greatest = real_greatest;
+  }
+
+pub made_real : (gap : ℕ) → 0 < gap → (rows : List Row) → ((x : Row) → x ∈ rows → IsSoundRow x)
+    → Made gap (real rows) rows
+made_real gap pos [] w = λ s h. h
+made_real gap pos (x ∷ xs) w = (
+  real_row x,
+  real xs,
+  appended (real_row x) (real xs),
+  makes_real gap x
+      (w x (inl refl)) pos,
+  made_real gap pos xs (λ y h. w y (inr h)),
+)
+
+pub before_of_sound : (gap : ℕ) (x y : Row) → IsBelow row_cmp x y → IsFar gap x y → IsBefore gap x y
+before_of_sound gap x y b f = told (key_cmp (row_key x) (row_key y)) refl b where
+  told : (o : Ordering) → key_cmp (row_key x) (row_key y) ≡ o
+      → ordering_then o (nat_cmp x.first y.first) ≡ Less → IsBefore gap x y
+  told Less h k = inl h
+  told Equal h k = let e = key_exact (row_key x) (row_key y) h in inr (e, f e)
+  told Greater h k = cc k
+
+pub both : (R Q : Row → Row → Type 0) (xs : List Row) → Ordered R xs → Ordered Q xs
+    → Ordered (λ x y. R x y × Q x y) xs
+both R Q [] o p = tt
+both R Q (x ∷ xs) o p = (λ y h. (o.0 y h, p.0 y h), both R Q xs o.1 p.1)
+
+pub keeps_real : (gap : ℕ) → 0 < gap → (rows : List Row) → Sound gap rows
+    → Keeps gap (real rows) rows
+keeps_real gap pos rows w = record {
+  made = made_real gap pos rows w.each;
+  ordered =
+      ordered_weaker (λ x y. IsBelow row_cmp x y × IsFar gap x y) (IsBefore gap) rows
+      (λ x y hx hy h. before_of_sound gap x y h.0 h.1)
+      (both (IsBelow row_cmp) (IsFar gap) rows w.ascending w.apart);
+}
+
+pub sound : (gap : ℕ) (S : List Heard) (p : List Row) → BookOf gap S p → Sound gap p
+sound gap S p b = sound_of_keeps gap S p (keeps_of_book gap S p b)
+
+pub realised : (gap : ℕ) (p : List Row) → 0 < gap → Sound gap p → BookOf gap (real p) p
+realised gap p pos w = book_of_keeps gap (real p) p (keeps_real gap pos p w)
+
+pub exists : (gap : ℕ) (S : List Heard) → (p : List Row) × BookOf gap S p
+exists gap S = (plain_book gap S, book_of_keeps gap S (plain_book gap S) (keeps_book gap S))

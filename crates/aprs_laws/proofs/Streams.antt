@@ -1,0 +1,164 @@
+-- Merging in one pass: rows that come by key and first moment, from any number of books, join only the last one so far.
+use Rattle.std.proofs.Common.{◌≡◌, ℕ, ◌<◌, ◌≤◌, min, List, [], ◌∷◌, ◌++◌, ◌⊎◌, ◌↔◌, inl, inr, sym, refl, ap, ◌∙◌, subst, arith, false}
+use Rattle.std.proofs.lemmas.Bool.Decides.{nat_tests}
+use Rattle.std.specs.Ordering.{nat_cmp, ordering_then, ordering_reverse, is_gt}
+use Rattle.std.specs.declared.cmp.Ordering.{Ordering}
+use Rattle.std.specs.declared.cmp.Ordering.TheVariants.{Less, Equal, Greater}
+use Rattle.aprs_log.specs.Reception.{Heard}
+use Rattle.aprs_laws.specs.Lists.{◌∈◌, Ordered}
+use Rattle.aprs_laws.specs.Order.{IsUpTo}
+use Rattle.aprs_laws.specs.Key.{Key, key_cmp}
+use Rattle.aprs_laws.specs.Row.{Row, row_key, row_cmp}
+use Rattle.aprs_laws.specs.Sound.{IsSoundRow, Sound}
+use Rattle.aprs_laws.specs.Real.{real_row, real}
+use Rattle.aprs_laws.specs.Joining.{Joined}
+use Rattle.aprs_laws.specs.JoinRow.{combine, place, coalesce}
+use Rattle.aprs_laws.proofs.Lists.{in_left, in_right, in_either}
+use Rattle.aprs_laws.proofs.Choices.{by_choice}
+use Rattle.aprs_laws.proofs.Rows.{Makes, IsBefore, combined, combined_key, combines, place_tells, before_combined}
+use Rattle.aprs_laws.proofs.Made.{IsUnion, Made, span}
+use Rattle.aprs_laws.proofs.Books.{below, row_total, book_of_keeps, book_carries}
+use Rattle.aprs_laws.proofs.Soundness.{made_real}
+use Rattle.aprs_laws.proofs.Parts.{before_up_to}
+
+-- U = L + (X + T) is (L + X) + T
+joined_left : (U L X T W : List Heard) → IsUnion U L W → IsUnion W X T → IsUnion U (L ++ X) T
+joined_left U L X T W u v s = (
+  λ h. elim
+      ((u s).0 h) [
+        | inl k ↦ inl (in_left s L X k)
+        | inr k ↦ elim
+            ((v s).0 k) [ inl j ↦ inl (in_right s L X j) | inr j ↦ inr j ]
+      ],
+  λ h. elim h [
+    | inl k ↦ elim
+        (in_either s L X k) [
+          | inl j ↦ (u s).1 (inl j)
+          | inr j ↦ (u s).1
+              (inr ((v s).1 (inl j)))
+        ]
+    | inr k ↦ (u s).1 (inr ((v s).1 (inr k)))
+  ],
+)
+
+pub made_coalesce : (gap : ℕ) (U L T : List Heard) (l : Row) (xs : List Row) → IsUnion U L T
+    → Makes gap L l → Made gap T xs → Made gap U (coalesce gap l xs)
+made_coalesce gap U L T l [] u ml m = (L, T, u, ml, m)
+made_coalesce gap U L T l (x ∷ xs) u ml m =
+    by_choice (λ (rows : List Row). Made gap U rows) _ _ _ _ _ _ (place gap l x)
+    (place_tells gap l x)
+    (λ _. (L, T, u, ml, made_coalesce gap T m.0 m.1 x xs m.2 m.3 m.4))
+    (λ n. made_coalesce gap U (L ++ m.0) m.1 (combine l x) xs (joined_left U L m.0 m.1 T u m.2)
+    (combined gap L m.0 l x (combine l x) ml m.3 n (combines gap L m.0 l x n.key ml m.3)) m.4)
+    (λ _. (L, T, u, ml, made_coalesce gap T m.0 m.1 x xs m.2 m.3 m.4))
+
+down : (a c : ℕ) → is_gt (nat_cmp a c) ≡ false → a ≤ c
+down a c u = grind (arith, nat_tests)
+
+up : (a c : ℕ) → a ≤ c → is_gt (nat_cmp a c) ≡ false
+up a c l = grind (arith, nat_tests)
+
+combined_up_to : (l x y : Row) → row_key l ≡ row_key x → IsUpTo row_cmp l y
+    → IsUpTo row_cmp (combine l x) y
+combined_up_to l x y e u =
+    subst
+    (λ (k : Key). is_gt
+    (ordering_then (key_cmp k (row_key y)) (nat_cmp (min l.first x.first) y.first)) ≡ false)
+    (sym (combined_key l x e))
+    (told (key_cmp (row_key l) (row_key y)) l.first x.first y.first u) where
+      told : (o : Ordering) (a b c : ℕ) → is_gt (ordering_then o (nat_cmp a c)) ≡ false
+          → is_gt (ordering_then o (nat_cmp (min a b) c)) ≡ false
+      told Less a b c u = refl
+      told Equal a b c u = up (min a b) c (let n = down a c u in omega arith)
+      told Greater a b c u = u
+
+pub before_coalesce : (gap : ℕ) (L T : List Heard) (w l : Row) (xs : List Row) → Makes gap L l
+    → Made gap T xs → IsBefore gap w l → ((y : Row) → y ∈ xs → IsUpTo row_cmp l y)
+    → Ordered (IsUpTo row_cmp) xs → (y : Row) → y ∈ coalesce gap l xs → IsBefore gap w y
+before_coalesce gap L T w l [] ml m b f o =
+    λ y i. elim i [ inl e ↦ subst (λ (z : Row). IsBefore gap w z) e b | inr k ↦ absurd k ]
+before_coalesce gap L T w l (x ∷ xs) ml m b f o =
+    by_choice (λ (rows : List Row). (y : Row) → y ∈ rows → IsBefore gap w y) _ _ _ _ _ _
+    (place gap l x) (place_tells gap l x)
+    (λ _. λ y i. elim i [
+      | inl e ↦ subst
+          (λ (z : Row). IsBefore gap w z) e b
+      | inr k ↦ before_coalesce gap m.0 m.1 w x xs m.3 m.4
+          (before_up_to gap w l x (f x (inl refl)) b) o.0 o.1 y k
+    ])
+    (λ n. before_coalesce gap (L ++ m.0) m.1 w (combine l x) xs
+    (combined gap L m.0 l x (combine l x) ml m.3 n (combines gap L m.0 l x n.key ml m.3)) m.4
+    (before_combined gap w l x (combine l x) n.key (combines gap L m.0 l x n.key ml m.3) b
+    (before_up_to gap w l x (f x (inl refl)) b))
+    (λ y h. combined_up_to l x y n.key (f y (inr h))) o.1)
+    (λ _. λ y i. elim i [
+      | inl e ↦ subst
+          (λ (z : Row). IsBefore gap w z) e b
+      | inr k ↦ before_coalesce gap m.0 m.1 w x xs m.3 m.4
+          (before_up_to gap w l x (f x (inl refl)) b) o.0 o.1 y k
+    ])
+
+pub ordered_coalesce : (gap : ℕ) (L T : List Heard) (l : Row) (xs : List Row) → Makes gap L l
+    → Made gap T xs → ((y : Row) → y ∈ xs → IsUpTo row_cmp l y) → Ordered (IsUpTo row_cmp) xs
+    → Ordered (IsBefore gap) (coalesce gap l xs)
+ordered_coalesce gap L T l [] ml m f o = (λ y h. absurd h, tt)
+ordered_coalesce gap L T l (x ∷ xs) ml m f o =
+    by_choice (λ (rows : List Row). Ordered (IsBefore gap) rows) _ _ _ _ _ _ (place gap l x)
+    (place_tells gap l x)
+    (λ b.
+    (before_coalesce gap m.0 m.1 l x xs m.3 m.4 b o.0 o.1, ordered_coalesce gap m.0 m.1 x xs m.3 m.4 o.0 o.1))
+    (λ n. ordered_coalesce gap (L ++ m.0) m.1 (combine l x) xs
+    (combined gap L m.0 l x (combine l x) ml m.3 n (combines gap L m.0 l x n.key ml m.3)) m.4
+    (λ y h. combined_up_to l x y n.key (f y (inr h))) o.1)
+    (λ b. absurd (wrong b (f x (inl refl)))) where
+      wrong : IsBefore gap x l → IsUpTo row_cmp l x → ⊥
+      wrong b u =
+          cc (
+            ap is_gt
+                (row_total.antisymm l x ∙ ap ordering_reverse (below gap x l (span gap m.0 x m.3) b)),
+            u,
+          )
+
+pub in_real : (rows : List Row) (s : Heard)
+    → (s ∈ real rows) ↔ ((x : Row) × (x ∈ rows) × (s ∈ real_row x))
+in_real [] s = (λ h. absurd h, λ t. t.1)
+in_real (x ∷ xs) s = (
+  λ h. elim (in_either s (real_row x) (real xs) h) [
+    | inl k ↦ (x, inl refl, k)
+    | inr k ↦ let t = (in_real xs s).0 k in (t.0, inr t.1, t.2)
+  ],
+  λ t. elim t.1 [
+    | inl e ↦ in_left s (real_row x) (real xs) (subst (λ (z : Row). s ∈ real_row z) (sym e) t.2)
+    | inr k ↦ in_right s (real_row x) (real xs) ((in_real xs s).1 (t.0, k, t.2))
+  ],
+)
+
+-- one pass over rows in the order of key and first moment, which are those of a and of b
+pub streamed : (gap : ℕ) → 0 < gap → (a b : List Row) (l : Row) (xs : List Row) → Sound gap a
+    → Sound gap b → Ordered (IsUpTo row_cmp) (l ∷ xs)
+    → ((x : Row) → (x ∈ (l ∷ xs)) ↔ ((x ∈ a) ⊎ (x ∈ b))) → Joined gap a b (coalesce gap l xs)
+streamed gap pos a b l xs v w o e =
+    book_carries gap (real (l ∷ xs)) (real a ++ real b) (coalesce gap l xs) same
+    (book_of_keeps gap (real (l ∷ xs)) (coalesce gap l xs) (record {
+      made = made_coalesce gap (real (l ∷ xs)) m.0 m.1 l xs m.2 m.3 m.4;
+      ordered = ordered_coalesce gap m.0 m.1 l xs m.3 m.4 o.0 o.1;
+    })) where
+      each : (x : Row) → x ∈ (l ∷ xs) → IsSoundRow x
+      each x h = elim ((e x).0 h) [ inl k ↦ v.each x k | inr k ↦ w.each x k ]
+
+      m : Made gap (real (l ∷ xs)) (l ∷ xs)
+      m = made_real gap pos (l ∷ xs) each
+
+      same : (s : Heard) → (s ∈ real (l ∷ xs)) ↔ (s ∈ (real a ++ real b))
+      same s = (
+        λ h. let t = (in_real (l ∷ xs) s).0 h in elim ((e t.0).0 t.1) [
+          | inl k ↦ in_left s (real a) (real b) ((in_real a s).1 (t.0, k, t.2))
+          | inr k ↦ in_right s (real a) (real b) ((in_real b s).1 (t.0, k, t.2))
+        ],
+        λ h. elim (in_either s (real a) (real b) h) [
+          | inl k ↦ let t =
+              (in_real a s).0 k in (in_real (l ∷ xs) s).1 (t.0, (e t.0).1 (inl t.1), t.2)
+          | inr k ↦ let t =
+              (in_real b s).0 k in (in_real (l ∷ xs) s).1 (t.0, (e t.0).1 (inr t.1), t.2)
+        ],
+      )

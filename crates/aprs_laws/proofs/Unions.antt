@@ -1,0 +1,89 @@
+-- The book of two sets; two sets with one book add alike; joining books.
+use Rattle.std.proofs.Common.{◌≡◌, ℕ, ◌<◌, List, ◌++◌, ◌↔◌, inl, inr, sym, subst}
+use Rattle.aprs_log.specs.Reception.{Heard}
+use Rattle.aprs_laws.specs.Lists.{◌∈◌}
+use Rattle.aprs_laws.specs.Row.{Row}
+use Rattle.aprs_laws.specs.Book.{BookOf}
+use Rattle.aprs_laws.specs.Sound.{Sound}
+use Rattle.aprs_laws.specs.Real.{real}
+use Rattle.aprs_laws.specs.Joining.{Joined}
+use Rattle.aprs_laws.specs.JoinRow.{merge}
+use Rattle.aprs_laws.proofs.Lists.{in_left, in_right, in_either}
+use Rattle.aprs_laws.proofs.Made.{appended, keeps_merge}
+use Rattle.aprs_laws.proofs.Soundness.{realised, sound, exists}
+use Rattle.aprs_laws.proofs.Books.{book_of_keeps, book_carries, one_book, unique, keeps_of_book}
+
+-- the book of S and the book of T merge to that of both
+pub merged : (gap : ℕ) (S T : List Heard) (p q : List Row) → BookOf gap S p → BookOf gap T q
+    → BookOf gap (S ++ T) (merge gap p q)
+merged gap S T p q b c =
+    book_of_keeps gap (S ++ T) (merge gap p q)
+    (keeps_merge gap (S ++ T) S T p q (appended S T) (keeps_of_book gap S p b)
+    (keeps_of_book gap T q c).made)
+
+pub congruence : (gap : ℕ) (S T U : List Heard) (x p : List Row) → BookOf gap S x → BookOf gap T x
+    → BookOf gap (S ++ U) p → BookOf gap (T ++ U) p
+congruence gap S T U x p b c d =
+    let u = exists gap U in
+    subst (λ (q : List Row). BookOf gap (T ++ U) q)
+    (one_book gap (S ++ U) (merge gap x u.0) p (merged gap S U x u.0 b u.1) d)
+    (merged gap T U x u.0 c u.1)
+
+pub around : (S T : List Heard) (s : Heard) → (s ∈ (S ++ T)) ↔ (s ∈ (T ++ S))
+around S T s = (
+  λ h. elim (in_either s S T h) [ inl k ↦ in_right s T S k | inr k ↦ in_left s T S k ],
+  λ h. elim
+      (in_either s T S h) [ inl k ↦ in_right s S T k | inr k ↦ in_left s S T k ],
+)
+
+pub commutative : (gap : ℕ) (a b c : List Row) → Joined gap a b c → Joined gap b a c
+commutative gap a b c j =
+    book_carries gap (real a ++ real b) (real b ++ real a) c (around (real a) (real b)) j
+
+pub twice : (gap : ℕ) (a : List Row) → 0 < gap → Sound gap a → Joined gap a a a
+twice gap a pos w =
+    book_carries gap (real a) (real a ++ real a) a
+    (λ s. (
+      in_left s (real a) (real a),
+      λ h. elim
+          (in_either s (real a) (real a) h) [ inl k ↦ k | inr k ↦ k ],
+    )) (realised gap a pos w)
+
+pub idempotent : (gap : ℕ) (a x : List Row) → 0 < gap → Sound gap a → (Joined gap a a x ↔ (x ≡ a))
+idempotent gap a x pos w = (
+  λ j. one_book gap (real a ++ real a) x a j (twice gap a pos w),
+  λ e. subst (λ (y : List Row). Joined gap a a y) (sym e) (twice gap a pos w),
+)
+
+pub associative : (gap : ℕ) (a b c x y p q : List Row) → 0 < gap → Joined gap a b x
+    → Joined gap x c p → Joined gap b c y → Joined gap a y q → p ≡ q
+associative gap a b c x y p q pos abx xcp bcy ayq =
+    let A = real a in let B = real b in let C = real c in
+    let f : BookOf gap ((A ++ B) ++ C) p =
+    congruence gap (real x) (A ++ B) C x p
+    (realised gap x pos (sound gap (A ++ B) x abx)) abx xcp in
+    let g : BookOf gap ((B ++ C) ++ A) q =
+    congruence gap (real y) (B ++ C) A y q (realised gap y pos (sound gap (B ++ C) y bcy)) bcy
+    (commutative gap a y q ayq) in
+    unique gap ((A ++ B) ++ C) ((B ++ C) ++ A) p q (λ s. cycle A B C s) f g where
+      cycle : (A B C : List Heard) (s : Heard) → (s ∈ ((A ++ B) ++ C)) ↔ (s ∈ ((B ++ C) ++ A))
+      cycle A B C s = (
+        λ h. elim (in_either s (A ++ B) C h) [
+          | inl k ↦ elim
+              (in_either s A B k) [
+                | inl j ↦ in_right s (B ++ C) A j
+                | inr j ↦ in_left s (B ++ C) A
+                    (in_left s B C j)
+              ]
+          | inr k ↦ in_left s (B ++ C) A (in_right s B C k)
+        ],
+        λ h. elim (in_either s (B ++ C) A h) [
+          | inl k ↦ elim
+              (in_either s B C k) [
+                | inl j ↦ in_left s (A ++ B) C
+                    (in_right s A B j)
+                | inr j ↦ in_right s (A ++ B) C j
+              ]
+          | inr k ↦ in_left s (A ++ B) C (in_left s A B k)
+        ],
+      )

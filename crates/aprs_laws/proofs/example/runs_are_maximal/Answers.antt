@@ -1,0 +1,16 @@
+use Rattle.std.proofs.Common.{[], ◌∷◌, inl, refl, subst, arith}
+use Rattle.aprs_laws.specs.Key.{Key}
+use Rattle.aprs_laws.specs.Run.{Run}
+use Rattle.aprs_laws.specs.Examples.{rx1, direct, heard, near_pair, near_row}
+use Rattle.aprs_laws.proofs.RunRows.{one_row_each}
+use Rattle.aprs_laws.proofs.Worked.{key_direct, near_book}
+use Rattle.aprs_laws.proofs.example.runs_are_maximal.Goals as goal
+
+pub returns-clause-heard : goal.returns-clause-heard
+returns-clause-heard c = (heard 31 rx1 direct, inl refl, key_direct, refl)
+
+pub returns-clause-run : goal.returns-clause-run
+returns-clause-run c = subst (λ (k : Key). Run 30 near_pair k 0 30) key_direct ((one_row_each 30 near_pair (near_row ∷ []) near_book).run near_row (inl refl))
+
+pub returns-clause-misses_part : goal.returns-clause-misses_part
+returns-clause-misses_part c = λ r. r.none_after 30 (omega arith) (omega arith) (heard 30 rx1 direct, inl refl, key_direct, refl)

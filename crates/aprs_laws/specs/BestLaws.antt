@@ -1,0 +1,34 @@
+-- What holds of what is last known. A property of keys is a test.
+use Rattle.std.specs.Prelude.{◌≡◌, ℕ, Bool, IsTrue, List, map, Option, None, ◌↔◌}
+use Rattle.aprs_log.specs.Reception.{Heard}
+use Rattle.aprs_laws.specs.Lists.{SameMembers}
+use Rattle.aprs_laws.specs.Key.{Key}
+use Rattle.aprs_laws.specs.Row.{Row}
+use Rattle.aprs_laws.specs.Book.{BookOf}
+use Rattle.aprs_laws.specs.Best.{LastKnown, known_of}
+
+-- the test holds of a key
+abbrev pub Passes : (Key → Bool) → Key → Type 0
+Passes test key = IsTrue (test key)
+
+abbrev pub SomeIsLastKnown : Type 0
+SomeIsLastKnown =
+    (test : Key → Bool) (S : List Heard) → (known : Option Heard) × LastKnown S (Passes test) known
+
+-- one reception after another
+abbrev pub PlainIsLastKnown : Type 0
+PlainIsLastKnown =
+    (test : Key → Bool) (S : List Heard) → LastKnown S (Passes test) (known_of test None S)
+
+abbrev pub MembersDecideLastKnown : Type 0
+MembersDecideLastKnown =
+    (test : Key → Bool) (S T : List Heard) (x y : Option Heard) → SameMembers S T
+    → LastKnown S (Passes test) x → LastKnown T (Passes test) y → x ≡ y
+
+-- what is last known of a set is what is last known of the greatest receptions of its book's rows
+abbrev pub RowsTellLastKnown : Type 0
+RowsTellLastKnown =
+    (gap : ℕ) (test : Key → Bool) (S : List Heard) (rows : List Row) (known : Option Heard)
+    → BookOf gap S rows
+    → LastKnown S (Passes test) known
+    ↔ LastKnown (map (λ (x : Row). x.greatest) rows) (Passes test) known

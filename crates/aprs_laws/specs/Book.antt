@@ -1,0 +1,11 @@
+-- The book of a set of receptions.
+use Rattle.std.specs.Prelude.{ℕ, List, ◌↔◌}
+use Rattle.aprs_log.specs.Reception.{Heard}
+use Rattle.aprs_laws.specs.Lists.{◌∈◌, Ordered}
+use Rattle.aprs_laws.specs.Order.{IsBelow}
+use Rattle.aprs_laws.specs.Row.{Row, RowOf, row_cmp}
+
+-- the rows ascend, and are the rows of the runs of S
+pub record BookOf (gap : ℕ) (S : List Heard) (rows : List Row) : Type 0 where
+  pub ascending : Ordered (IsBelow row_cmp) rows
+  pub exactly : (x : Row) → (x ∈ rows) ↔ RowOf gap S x

@@ -1,0 +1,125 @@
+-- Receptions and rows that the worked examples are about.
+use Rattle.std.specs.Prelude.{◌≡◌, ℕ, Bool, true, List, [], ◌∷◌, codes}
+use Rattle.aprs_ax25.specs.Callsign.{Call}
+use Rattle.aprs_log.specs.Reception.{Heard}
+use Rattle.aprs_laws.specs.Key.{Key}
+use Rattle.aprs_laws.specs.Row.{Row}
+use Rattle.aprs_laws.specs.Taken.{Step, Take, Merge}
+
+-- N0CALL-7>APRS:>Hi
+abbrev pub direct : List ℕ
+direct =
+    130 ∷ 160 ∷ 164 ∷ 166 ∷ 64 ∷ 64 ∷ 224 ∷ 156 ∷ 96 ∷ 134 ∷ 130 ∷ 152 ∷ 152 ∷ 111
+    ∷ 3 ∷ 240 ∷ 62 ∷ 72 ∷ 105 ∷ []
+
+-- N0CALL-7>APRS,WIDE1-1*:>Hi
+abbrev pub repeated : List ℕ
+repeated =
+    130 ∷ 160 ∷ 164 ∷ 166 ∷ 64 ∷ 64 ∷ 224 ∷ 156 ∷ 96 ∷ 134 ∷ 130 ∷ 152 ∷ 152 ∷ 110
+    ∷ 174 ∷ 146 ∷ 136 ∷ 138 ∷ 98 ∷ 64 ∷ 227 ∷ 3 ∷ 240 ∷ 62 ∷ 72 ∷ 105 ∷ []
+
+-- the same, with the C bits the other way round
+abbrev pub answered : List ℕ
+answered =
+    130 ∷ 160 ∷ 164 ∷ 166 ∷ 64 ∷ 64 ∷ 96 ∷ 156 ∷ 96 ∷ 134 ∷ 130 ∷ 152 ∷ 152 ∷ 238
+    ∷ 174 ∷ 146 ∷ 136 ∷ 138 ∷ 98 ∷ 64 ∷ 227 ∷ 3 ∷ 240 ∷ 62 ∷ 72 ∷ 105 ∷ []
+
+-- N0CALL-8>APRS:>Hi
+abbrev pub of_other : List ℕ
+of_other =
+    130 ∷ 160 ∷ 164 ∷ 166 ∷ 64 ∷ 64 ∷ 224 ∷ 156 ∷ 96 ∷ 134 ∷ 130 ∷ 152 ∷ 152 ∷ 113
+    ∷ 3 ∷ 240 ∷ 62 ∷ 72 ∷ 105 ∷ []
+
+-- the key of the first three
+abbrev pub hi_key : Key
+hi_key = record {
+  source = record { letters = codes "N0CALL"; ssid = 7 };
+  destination = record { letters = codes "APRS"; ssid = 0 };
+  info = codes ">Hi";
+}
+
+-- N0CALL with an SSID
+abbrev pub n0call : ℕ → Call
+n0call ssid = record { letters = codes "N0CALL"; ssid = ssid }
+
+-- a property that each key has
+abbrev pub any_key : Key → Bool
+any_key key = true
+
+abbrev pub rx1 : List ℕ
+rx1 = codes "RX1"
+
+abbrev pub rx2 : List ℕ
+rx2 = codes "RX2"
+
+abbrev pub heard : ℕ → List ℕ → List ℕ → Heard
+heard moment receiver frame = record { moment = moment; receiver = receiver; frame = frame }
+
+abbrev pub row_of : ℕ → List (List ℕ) → Heard → Row
+row_of first receivers greatest =
+    record { first = first; receivers = receivers; greatest = greatest }
+
+-- heard by RX1 at a moment
+abbrev pub by_rx1 : ℕ → Heard
+by_rx1 moment = heard moment rx1 direct
+
+-- heard by RX2 through a digipeater, at moment 0
+abbrev pub early : Heard
+early = heard 0 rx2 repeated
+
+-- two receptions 30 seconds apart, and their row
+abbrev pub near_pair : List Heard
+near_pair = by_rx1 30 ∷ early ∷ []
+
+abbrev pub near_row : Row
+near_row = row_of 0 (rx1 ∷ rx2 ∷ []) (by_rx1 30)
+
+-- two receptions 31 seconds apart, and their rows
+abbrev pub far_pair : List Heard
+far_pair = by_rx1 31 ∷ early ∷ []
+
+abbrev pub early_row : Row
+early_row = row_of 0 (rx2 ∷ []) early
+
+abbrev pub late_row : Row
+late_row = row_of 31 (rx1 ∷ []) (by_rx1 31)
+
+-- two receptions at one moment, and their row
+abbrev pub tied_pair : List Heard
+tied_pair = by_rx1 0 ∷ early ∷ []
+
+abbrev pub tied_row : Row
+tied_row = row_of 0 (rx1 ∷ rx2 ∷ []) early
+
+-- by two receivers in two seconds, where the last reception is by the lesser receiver
+abbrev pub short_row : Row
+short_row = row_of 0 (rx1 ∷ rx2 ∷ []) (by_rx1 1)
+
+-- a row_of 30 seconds after the early one
+abbrev pub close_row : Row
+close_row = row_of 30 (rx1 ∷ []) (by_rx1 30)
+
+-- by one receiver at one moment, or from one moment to another
+abbrev pub row_at : ℕ → Row
+row_at moment = row_of moment (rx1 ∷ []) (by_rx1 moment)
+
+abbrev pub row_to : ℕ → ℕ → Row
+row_to first last = row_of first (rx1 ∷ []) (by_rx1 last)
+
+-- a key with this source and information
+abbrev pub key_by : ℕ → List ℕ → Key
+key_by ssid info = record { source = n0call ssid; destination = n0call 0; info = info }
+
+-- the second place takes what stands in the first, which then has one more
+abbrev pub merge_then_take : List Step
+merge_then_take = Take 0 (by_rx1 0) ∷ Merge 1 0 ∷ Take 0 (by_rx1 31) ∷ []
+
+-- each place takes one, and then what the other has, and one takes what it has itself
+abbrev pub back_and_forth : List Step
+back_and_forth =
+    Take 0 (by_rx1 0) ∷ Take 1 (heard 20 rx2 direct)
+    ∷ Merge 0 1 ∷ Merge 1 0 ∷ Merge 0 0 ∷ []
+
+-- a join that answers the first value
+abbrev pub TakesFirst : Heard → Heard → Heard → Type 0
+TakesFirst a b c = c ≡ a

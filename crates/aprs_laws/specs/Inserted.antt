@@ -1,0 +1,55 @@
+-- The rows after one more reception, as code makes them: at most two rows are looked at.
+use Rattle.std.specs.Prelude.{◌≡◌, ℕ, min, List, [], ◌∷◌, Bool, true, false, ◌&&◌, not}
+use Rattle.std.specs.declared.cmp.Ordering.{Ordering}
+use Rattle.aprs_log.specs.Reception.{Heard, bytes_cmp}
+use Rattle.aprs_laws.specs.Lists.{◌∈◌}
+use Rattle.aprs_laws.specs.Row.{Row}
+use Rattle.aprs_laws.specs.JoinRow.{choose, add, greater, single, IsNear, combine, place}
+
+-- where a row lies, seen from a reception: before it, near to it (`Equal`), or after it
+abbrev pub side : ℕ → Row → Heard → Ordering
+side gap r s = place gap r (single s)
+
+-- a row with one more reception
+abbrev pub grown : Row → Heard → Row
+grown r s = record {
+  first = min r.first s.moment;
+  receivers = add bytes_cmp s.receiver r.receivers;
+  greatest = greater r.greatest s;
+}
+
+-- a row grown by s, and the rows after it, of which the first may be near to s too
+abbrev pub bridged : ℕ → Heard → Row → List Row → List Row
+bridged gap s r [] = r ∷ []
+bridged gap s r (x ∷ xs) = choose (side gap x s) (r ∷ x ∷ xs) (combine r x ∷ xs) (r ∷ x ∷ xs)
+
+abbrev pub inserted : ℕ → Heard → List Row → List Row
+inserted gap s [] = single s ∷ []
+inserted gap s (r ∷ rows) =
+    choose (side gap r s) (r ∷ inserted gap s rows) (bridged gap s (grown r s) rows)
+    (single s ∷ r ∷ rows)
+
+-- exactly one row is near to s, and lists its receiver: what s changes fits where it is
+pub record FitsInPlace (gap : ℕ) (rows : List Row) (s : Heard) : Type 0 where
+  pub row : Row
+  pub member : row ∈ rows
+  pub near : IsNear gap row (single s)
+  pub listed : s.receiver ∈ row.receivers
+  pub only : (x : Row) → x ∈ rows → IsNear gap x (single s) → x ≡ row
+
+-- whether the ascending list has this receiver
+abbrev pub is_listed : List ℕ → List (List ℕ) → Bool
+is_listed r [] = false
+is_listed r (x ∷ xs) = choose (bytes_cmp r x) false true (is_listed r xs)
+
+-- whether the first of the rows is near to s
+abbrev pub is_near_first : ℕ → Heard → List Row → Bool
+is_near_first gap s [] = false
+is_near_first gap s (x ∷ xs) = choose (side gap x s) false true false
+
+-- `FitsInPlace` as a test of sound rows
+abbrev pub fits_in_place : ℕ → Heard → List Row → Bool
+fits_in_place gap s [] = false
+fits_in_place gap s (r ∷ rows) =
+    choose (side gap r s) (fits_in_place gap s rows)
+    (is_listed s.receiver r.receivers && not (is_near_first gap s rows)) false

@@ -1,0 +1,27 @@
+-- What makes frames copies of one transmission, and the order of that.
+use Rattle.std.specs.Prelude.{ℕ, List}
+use Rattle.std.specs.Ordering.{on, then_cmp}
+use Rattle.std.specs.declared.cmp.Ordering.{Ordering}
+use Rattle.aprs_ax25.specs.Callsign.{Call, call_cmp}
+use Rattle.aprs_ax25.specs.Frame.{Parts}
+use Rattle.aprs_ax25.specs.FrameFault.{parts_of}
+use Rattle.aprs_log.specs.Reception.{bytes_cmp}
+
+-- The source, the destination and the information of a frame. The digipeaters and the C, H and
+-- reserved bits change on the way, and are no part of it.
+pub record Key : Type 0 where
+  pub source : Call
+  pub destination : Call
+  pub info : List ℕ
+
+abbrev pub key_of_parts : Parts → Key
+key_of_parts p = record { source = p.source.call; destination = p.destination.call; info = p.info }
+
+-- of a frame's bytes
+unfoldable pub key_of : List ℕ → Key
+key_of frame = key_of_parts (parts_of frame)
+
+-- by source, then destination, then the bytes of the information
+unfoldable pub key_cmp : Key → Key → Ordering
+key_cmp = then_cmp (on (λ k. k.source) call_cmp)
+    (then_cmp (on (λ k. k.destination) call_cmp) (on (λ k. k.info) bytes_cmp))

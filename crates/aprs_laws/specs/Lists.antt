@@ -1,0 +1,17 @@
+-- Lists as sets, and lists in order.
+use Rattle.std.specs.Prelude.{◌≡◌, List, [], ◌∷◌, ◌⊎◌, ◌↔◌}
+
+-- x is a member of the list
+infix 50 ◌∈◌
+abbrev pub ◌∈◌ : {X : Type 0} → X → List X → Type 0
+x ∈ [] = ⊥
+x ∈ (y ∷ ys) = (y ≡ x) ⊎ (x ∈ ys)
+
+-- the lists are one set
+abbrev pub SameMembers : {X : Type 0} → List X → List X → Type 0
+SameMembers {X} xs ys = (x : X) → (x ∈ xs) ↔ (x ∈ ys)
+
+-- each element is in this relation to each later one
+abbrev pub Ordered : {X : Type 0} → (X → X → Type 0) → List X → Type 0
+Ordered R [] = Unit {0}
+Ordered {X} R (x ∷ xs) = ((y : X) → y ∈ xs → R x y) × Ordered R xs

@@ -1,0 +1,42 @@
+-- Rows, each of which stands for one transmission.
+use Rattle.std.specs.Prelude.{◌≡◌, ℕ, ◌≤◌, List, ◌↔◌}
+use Rattle.std.specs.Ordering.{nat_cmp, on, then_cmp}
+use Rattle.std.specs.declared.cmp.Ordering.{Ordering}
+use Rattle.aprs_log.specs.Reception.{Heard, bytes_cmp, heard_cmp}
+use Rattle.aprs_laws.specs.Lists.{◌∈◌, Ordered}
+use Rattle.aprs_laws.specs.Order.{IsBelow, IsUpTo}
+use Rattle.aprs_laws.specs.Key.{Key, key_of, key_cmp}
+use Rattle.aprs_laws.specs.Run.{Run}
+
+-- The first moment, in seconds; the receivers; and the greatest reception, which has the key and
+-- the last moment.
+pub record Row : Type 0 where
+  pub first : ℕ
+  pub receivers : List (List ℕ)
+  pub greatest : Heard
+
+abbrev pub row_key : Row → Key
+row_key x = key_of x.greatest.frame
+
+abbrev pub last_of : Row → ℕ
+last_of x = x.greatest.moment
+
+-- s is of the row's key, at a moment from its first to its last
+pub record IsOf (x : Row) (s : Heard) : Type 0 where
+  pub key : key_of s.frame ≡ row_key x
+  pub from : x.first ≤ s.moment
+  pub to : s.moment ≤ last_of x
+
+-- x is the row of a run of S: its receivers are those of the run's receptions, ascending and
+-- without repeats, and its greatest reception is the greatest of them
+pub record RowOf (gap : ℕ) (S : List Heard) (x : Row) : Type 0 where
+  pub run : Run gap S (row_key x) x.first (last_of x)
+  pub ascending : Ordered (IsBelow bytes_cmp) x.receivers
+  pub receivers : (r : List ℕ)
+      → (r ∈ x.receivers) ↔ ((s : Heard) × (s ∈ S) × IsOf x s × (s.receiver ≡ r))
+  pub member : x.greatest ∈ S
+  pub greatest : (s : Heard) → s ∈ S → IsOf x s → IsUpTo heard_cmp s x.greatest
+
+-- by key, then first moment
+abbrev pub row_cmp : Row → Row → Ordering
+row_cmp = then_cmp (on row_key key_cmp) (on (λ x. x.first) nat_cmp)

@@ -1,0 +1,20 @@
+-- Transmissions: maximal runs of receptions of one key.
+use Rattle.std.specs.Prelude.{◌≡◌, ℕ, ◌+◌, ◌<◌, ◌≤◌, List}
+use Rattle.aprs_log.specs.Reception.{Heard}
+use Rattle.aprs_laws.specs.Lists.{◌∈◌}
+use Rattle.aprs_laws.specs.Key.{Key, key_of}
+
+-- S has a reception of this key at this moment
+abbrev pub HeardAt : List Heard → Key → ℕ → Type 0
+HeardAt S key moment = (s : Heard) × (s ∈ S) × (key_of s.frame ≡ key) × (s.moment ≡ moment)
+
+-- The receptions of the key in S from one moment to another, where each but the last has a later
+-- one at most `gap` seconds after it, and no other reception of the key is that near.
+pub record Run (gap : ℕ) (S : List Heard) (key : Key) (first last : ℕ) : Type 0 where
+  pub in_order : first ≤ last
+  pub at_first : HeardAt S key first
+  pub at_last : HeardAt S key last
+  pub none_before : (m : ℕ) → first ≤ m + gap → m < first → HeardAt S key m → ⊥
+  pub none_after : (m : ℕ) → last < m → m ≤ last + gap → HeardAt S key m → ⊥
+  pub linked : (m : ℕ) → HeardAt S key m → first ≤ m → m < last
+      → (n : ℕ) × (m < n) × (n ≤ m + gap) × HeardAt S key n

@@ -1,0 +1,29 @@
+-- Rows that some set of receptions has, told from the rows alone.
+use Rattle.std.specs.Prelude.{◌≡◌, ℕ, ◌+◌, ◌<◌, ◌≤◌, List, [], ◌∷◌, ◌++◌}
+use Rattle.aprs_log.specs.Reception.{bytes_cmp}
+use Rattle.aprs_laws.specs.Lists.{◌∈◌, Ordered}
+use Rattle.aprs_laws.specs.Order.{IsBelow, IsUpTo}
+use Rattle.aprs_laws.specs.Row.{Row, row_key, last_of, row_cmp}
+
+-- What a row has by itself. At one moment alone the greatest reception is by the last receiver.
+pub record IsSoundRow (x : Row) : Type 0 where
+  pub in_order : x.first ≤ last_of x
+  pub ascending : Ordered (IsBelow bytes_cmp) x.receivers
+  pub receiver : x.greatest.receiver ∈ x.receivers
+  pub single : x.first ≡ last_of x
+      → (r : List ℕ) → r ∈ x.receivers → IsUpTo bytes_cmp r x.greatest.receiver
+
+-- where the keys are equal, y begins more than `gap` seconds after x ends
+abbrev pub IsFar : ℕ → Row → Row → Type 0
+IsFar gap x y = row_key x ≡ row_key y → last_of x + gap < y.first
+
+pub record Sound (gap : ℕ) (rows : List Row) : Type 0 where
+  pub ascending : Ordered (IsBelow row_cmp) rows
+  pub apart : Ordered (IsFar gap) rows
+  pub each : (x : Row) → x ∈ rows → IsSoundRow x
+
+-- x can follow sound rows: it is sound by itself, and comes after their last row, far from it
+pub record IsNext (gap : ℕ) (rows : List Row) (x : Row) : Type 0 where
+  pub own : IsSoundRow x
+  pub after : (front : List Row) (l : Row) → rows ≡ front ++ l ∷ []
+      → IsBelow row_cmp l x × IsFar gap l x

@@ -1,0 +1,80 @@
+-- What holds of the step that books are made with.
+use Rattle.std.specs.Prelude.{◌≡◌, ℕ, ◌==◌, if◌then◌else◌, List, [], ◌∷◌, ◌++◌, ◌⊎◌, ◌↔◌, true}
+use Rattle.aprs_log.specs.Reception.{Heard}
+use Rattle.aprs_laws.specs.Lists.{◌∈◌, SameMembers}
+use Rattle.aprs_laws.specs.Row.{Row}
+use Rattle.aprs_laws.specs.Book.{BookOf}
+use Rattle.aprs_laws.specs.Sound.{IsSoundRow, Sound, IsNext}
+use Rattle.aprs_laws.specs.Joining.{Joined}
+use Rattle.aprs_laws.specs.Taken.{Step, Take, Merge, taken}
+use Rattle.aprs_laws.specs.Inserted.{inserted, FitsInPlace, fits_in_place}
+use Rattle.aprs_laws.specs.JoinRow.{single, IsNear, join_row, merge, interleave, coalesced, plain_book}
+
+abbrev pub PlainBookIsBook : ℕ → Type 0
+PlainBookIsBook gap = (S : List Heard) → BookOf gap S (plain_book gap S)
+
+-- one more reception
+abbrev pub TakesReception : ℕ → Type 0
+TakesReception gap =
+    (S : List Heard) (s : Heard) (p : List Row) → BookOf gap S p
+    → BookOf gap (S ++ s ∷ []) (join_row gap p (single s))
+
+-- as code does it
+abbrev pub InsertsReception : ℕ → Type 0
+InsertsReception gap =
+    (S : List Heard) (s : Heard) (p : List Row) → BookOf gap S p
+    → BookOf gap (S ++ s ∷ []) (inserted gap s p)
+
+abbrev pub FitsByTest : ℕ → Type 0
+FitsByTest gap =
+    (s : Heard) (p : List Row) → Sound gap p → FitsInPlace gap p s → fits_in_place gap s p ≡ true
+
+-- sound rows stay sound with exactly such rows behind them
+abbrev pub OnlyNextFollows : ℕ → Type 0
+OnlyNextFollows gap =
+    (p : List Row) (x : Row) → Sound gap p → Sound gap (p ++ x ∷ []) ↔ IsNext gap p x
+
+-- one more sound row
+abbrev pub TakesRow : ℕ → Type 0
+TakesRow gap =
+    (p : List Row) (r : Row) → Sound gap p → IsSoundRow r → Joined gap p (r ∷ []) (join_row gap p r)
+
+-- the rows of another book, one after another
+abbrev pub TakesRows : ℕ → Type 0
+TakesRows gap =
+    (S T : List Heard) (p q : List Row) → BookOf gap S p → BookOf gap T q
+    → BookOf gap (S ++ T) (merge gap p q)
+
+-- of three rows to which one reception is near, two are one
+abbrev pub AtMostTwoAreNear : ℕ → Type 0
+AtMostTwoAreNear gap =
+    (p : List Row) (s : Heard) (x y z : Row) → Sound gap p → x ∈ p → y ∈ p → z ∈ p
+    → IsNear gap x (single s) → IsNear gap y (single s) → IsNear gap z (single s)
+    → (x ≡ y) ⊎ (y ≡ z) ⊎ (x ≡ z)
+
+-- the rows of two books in order, where each joins the one before it if they are near
+abbrev pub OnePassJoins : ℕ → Type 0
+OnePassJoins gap =
+    (a b : List Row) → Sound gap a → Sound gap b → Joined gap a b (coalesced gap (interleave a b))
+
+-- the rows at all places after one more step
+abbrev pub rows_after_step : ℕ → Step → (ℕ → List Row) → ℕ → List Row
+rows_after_step gap (Take i x) rows k = if k == i then join_row gap (rows k) (single x) else rows k
+rows_after_step gap (Merge i j) rows k = if k == i then merge gap (rows k) (rows j) else rows k
+
+abbrev pub rows_after_steps : ℕ → List Step → (ℕ → List Row) → ℕ → List Row
+rows_after_steps gap [] rows = rows
+rows_after_steps gap (step ∷ steps) rows =
+    rows_after_steps gap steps (rows_after_step gap step rows)
+
+-- the steps on rows give the books of the sets that the steps take
+abbrev pub StepsGiveBooks : ℕ → Type 0
+StepsGiveBooks gap =
+    (steps : List Step) (i : ℕ)
+    → BookOf gap (taken steps i) (rows_after_steps gap steps (λ k. []) i)
+
+-- places that took the same receptions, in any order, with any repeats and merges, have equal rows
+abbrev pub SameTakenSameRows : ℕ → Type 0
+SameTakenSameRows gap =
+    (steps others : List Step) (i j : ℕ) → SameMembers (taken steps i) (taken others j)
+    → rows_after_steps gap steps (λ k. []) i ≡ rows_after_steps gap others (λ k. []) j
