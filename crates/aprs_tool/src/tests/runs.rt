@@ -1,4 +1,6 @@
 //! Runs over logs and streams.
+ghost use Rattle.std.specs.Prelude.{◌≤◌};
+
 use crate::{Form, InputFault, RunFault, check_run, convert_run, status_of};
 use aprs_kiss::Counted;
 use aprs_log::{LogCause, LogFault, MAX_INPUT, Moment, Receiver};
@@ -38,7 +40,9 @@ fn converted(
     limit: u64,
     form: Form,
     input: &[u8],
-) -> (Vec<u8>, Option<(u64, LogCause)>) {
+) -> (Vec<u8>, Option<(u64, LogCause)>)
+    requires { limit ≤ 1073741824 }
+{
     let mut r = Counted::new(input);
     let mut w = Counted::new(Vec::new(rt.alloc()));
     let run = convert_run(rt.alloc(), limit, form, &mut r, &mut w);

@@ -3,22 +3,24 @@ use crate::{Form, Job, JobFault, job};
 use aprs_log::{Moment, Receiver};
 use std::test::Fail;
 
+/// Whether the words ask for a conversion to this form.
+fn asks_for(rt: &HostRuntime, form: &Form, words: &[&str]) -> bool {
+    matches!(&job(rt.alloc(), words), Ok(Job::Convert(asked, _)) if asked == form)
+}
+
 #[test]
 fn words_that_ask_for_a_conversion(rt: HostRuntime) {
-    for (words, form) in [
-        (["aprsbook", "convert", "text"].as_slice(), Form::Text),
-        (["aprsbook", "convert", "kind"].as_slice(), Form::Kind),
-        (["aprsbook", "convert", "kiss"].as_slice(), Form::Kiss),
-        (["aprsbook", "convert", "log"].as_slice(), Form::Log),
-        (["aprsbook"].as_slice(), Form::Text),
-    ] {
-        match job(rt.alloc(), words) {
-            Ok(Job::Convert(asked, inputs)) => {
-                assert!(rt; asked == form);
-                assert!(rt; inputs.is_empty());
-            }
-            _ => assert!(rt; false, "a conversion"),
-        }
+    assert!(rt; asks_for(&rt, &Form::Text, &["aprsbook", "convert", "text"]));
+    assert!(rt; asks_for(&rt, &Form::Kind, &["aprsbook", "convert", "kind"]));
+    assert!(rt; asks_for(&rt, &Form::Kiss, &["aprsbook", "convert", "kiss"]));
+    assert!(rt; asks_for(&rt, &Form::Log, &["aprsbook", "convert", "log"]));
+    assert!(rt; asks_for(&rt, &Form::Text, &["aprsbook"]));
+}
+
+fn is_only(inputs: &[String], path: &str) -> bool {
+    match inputs.first() {
+        Some(input) => inputs.len() == 1 && input.as_str() == path,
+        None => false,
     }
 }
 
@@ -40,12 +42,11 @@ fn words_that_ask_for_a_capture(rt: HostRuntime) -> Result<(), Fail> {
     let receiver = Receiver::parse(b"RX1").ok_or("a name")?;
     let moment = Moment::new(1_714_564_800).ok_or("a moment")?;
     assert!(rt; form == Form::Capture { receiver, moment });
-    assert_eq!(rt; inputs.len(), 1);
-    assert_eq!(rt; inputs[0].as_str(), "heard.kiss");
+    assert!(rt; is_only(inputs.as_slice(), "heard.kiss"));
     let Ok(Job::Check(inputs)) = job(rt.alloc(), &["aprsbook", "check", "rx1.log"]) else {
         return Err("a check".into());
     };
-    assert_eq!(rt; inputs[0].as_str(), "rx1.log");
+    assert!(rt; is_only(inputs.as_slice(), "rx1.log"));
     Ok(())
 }
 
