@@ -5,7 +5,22 @@ use Rattle.std.proofs.lemmas.Bool.Decides.{nat_tests}
 use Rattle.std.proofs.lemmas.List.{take_rest}
 use Rattle.std.proofs.lemmas.List.Sums.{split_at_first, passes_at_first}
 use Rattle.std.proofs.Math.Seq.{take-append_seam, drop-append-add}
+use Rattle.std.specs.Prelude.{Option, unwrap_or}
+use Rattle.std.proofs.lemmas.Bool.{false_from_ne_true}
+use Rattle.std.proofs.lemmas.List.Sums.{position_or_len_is}
+use Rattle.memchr.specs.Find.{IsFirstByte, is_byte as is_sought}
 use Rattle.aprs_log.specs.Cut.{Cut, cut_at, has_byte, is_byte}
+
+-- where a search finds the first such byte, or how many bytes there are
+pub first_byte-place : (stop : ℕ) (text : List ℕ) (r : Option ℕ) → IsFirstByte (is_sought stop) text r →
+    unwrap_or r (length text) ≡ position_or_len (is_byte stop) text
+first_byte-place stop text None h =
+    sym (position_or_len_is (is_byte stop) text (length text) 0 (omega arith)
+    (λ k l. false_from_ne_true _ (h k (omega arith) l)) (λ l. absurd (omega arith)))
+first_byte-place stop text (Some i) h =
+    let high = h.0.high in
+    sym (position_or_len_is (is_byte stop) text i 0 (omega arith)
+    (λ k l. false_from_ne_true _ (h.0.before k (omega arith) l)) (λ l. h.1))
 
 some_if : (b : Bool) (x : Cut) → b ≡ true → Some x ≡ cond b (Some x) None
 some_if true x e = refl

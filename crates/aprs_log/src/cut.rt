@@ -4,6 +4,8 @@ ghost use Rattle.std.specs.List.{position_or_len};
 ghost use Rattle.std.specs.Option.{option_map};
 ghost use Rattle.aprs_log.specs.Cut.{cut_at, cut_of, is_byte};
 
+use memchr::memchr;
+
 /// What stands before the first `stop` and what stands after it, where there is one.
 pub fn cut_at(text: &[u8], stop: u8) -> Option<(&[u8], &[u8])>
     ensures { option_map cut_of result ≡ cut_at stop text.now }
@@ -20,10 +22,5 @@ pub fn cut_at(text: &[u8], stop: u8) -> Option<(&[u8], &[u8])>
 fn len_before(text: &[u8], stop: u8) -> usize
     ensures { result ≡ position_or_len (is_byte stop) text.now }
 {
-    for (i, b) in text.iter().enumerate() {
-        if *b == stop {
-            return i;
-        }
-    }
-    text.len()
+    memchr(stop, text).unwrap_or(text.len())
 }

@@ -1,5 +1,5 @@
 //! Lines of a log.
-ghost use Rattle.std.specs.Prelude.{◌≡◌, ◌≤◌, ◌↔◌, length, IsOk};
+ghost use Rattle.std.specs.Prelude.{◌≡◌, ◌≤◌, ◌*◌, ◌↔◌, length, IsOk};
 ghost use Rattle.hex.specs.Hex.{decode_of};
 ghost use Rattle.aprs_log.specs.Line.{line_of, line_of_bytes, LineSyntax};
 
@@ -11,6 +11,9 @@ use crate::{Moment, Receiver, Reception};
 
 /// The most bytes of a line, without its LF.
 pub const MAX_LINE: usize = 8192;
+
+/// Room for the bytes of most lines.
+const FEW_BYTES: usize = 512;
 
 /// What a sound line of a log tells.
 #[derive(PartialEq, Eq, Drop)]
@@ -60,8 +63,25 @@ fn read_bytes(moment: Moment, receiver: Receiver, digits: &[u8]) -> Result<Line,
     requires { length digits.now ≤ 8192 }
     ensures { result ≡ line_of_bytes moment receiver (decode_of digits.now) }
 {
-    let mut room = [0; MAX_BYTES];
-    let Some(len) = decode_into(digits, &mut room) else {
+    // Most lines are short, and clearing the room takes its time.
+    if digits.len() <= 2 * FEW_BYTES {
+        read_within(moment, receiver, digits, &mut [0; FEW_BYTES])
+    } else {
+        read_within(moment, receiver, digits, &mut [0; MAX_BYTES])
+    }
+}
+
+/// The same, where `room` is for the bytes.
+fn read_within(
+    moment: Moment,
+    receiver: Receiver,
+    digits: &[u8],
+    room: &mut [u8],
+) -> Result<Line, LineFault>
+    requires { length digits.now ≤ 2 * length room.old }
+    ensures { result ≡ line_of_bytes moment receiver (decode_of digits.now) }
+{
+    let Some(len) = decode_into(digits, room) else {
         return Err(LineFault::Hex);
     };
     match frame_in(&room[..len]) {
