@@ -4,7 +4,7 @@ use Rattle.std.proofs.lemmas.List.Elements.{All-append, All-nil}
 use Rattle.std.proofs.Math.Seq.{drop-cons, drop-length}
 use Rattle.aprs_kiss.specs.Spelling.{HasNoEnd, is_frame_end}
 use Rattle.aprs_kiss.specs.Stream.{rest_of, is_nonempty, judgements_of}
-use Rattle.aprs_kiss.specs.Judgement.{Judgement, judgement_of}
+use Rattle.aprs_kiss.specs.Judgement.{judgement_of}
 use Rattle.aprs_log.specs.Bytes.{has_other, StreamLaws}
 
 no_end-nil : HasNoEnd []

@@ -8,7 +8,7 @@ use arrayvec::ArrayVec;
 use std::marker::Model;
 
 /// The name of a receiver: 1 to 16 letters, digits, `-` and `_`. Names are ordered by their bytes.
-#[derive(PartialEq, Eq, PartialOrd, Ord, Drop)]
+#[derive(Debug, PartialEq, Eq, PartialOrd, Ord, Drop)]
 pub struct Receiver {
     bytes: ArrayVec<u8, 16>,
 }
