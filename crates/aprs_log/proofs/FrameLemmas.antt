@@ -1,5 +1,5 @@
 -- Lemmas on the frame in a line's bytes.
-use Rattle.std.proofs.Common.{◌≡◌, ◌≢◌, ℕ, ◌-◌, ◌<◌, ◌≤◌, Bool, true, false, List, [], ◌∷◌, ◌++◌, length, take, drop, None, Some, Result, Ok, Err, cond, refl, arith, sym, ap, ◌∙◌, take-append-drop}
+use Rattle.std.proofs.Common.{◌≡◌, ◌≢◌, ℕ, ◌-◌, ◌<◌, ◌≤◌, Bool, true, false, List, [], ◌∷◌, ◌++◌, length, take, drop, Result, Ok, Err, cond, refl, arith, sym, ap, ◌∙◌, take-append-drop}
 use Rattle.std.proofs.lemmas.List.{take_rest}
 use Rattle.std.proofs.Math.Seq.{take-length}
 use Rattle.aprs_kiss.specs.Spelling.{kiss_text}
@@ -9,7 +9,7 @@ use Rattle.aprs_kiss.specs.Told.{told_by}
 use Rattle.aprs_kiss.specs.declared.reader.Fed.{Fed}
 use Rattle.aprs_kiss.specs.declared.reader.Fed.TheVariants.{Nothing, Frame, Passed}
 use Rattle.aprs_ax25.specs.FrameFault.{frame_of}
-use Rattle.aprs_log.specs.Bytes.{first_frame, has_other, StreamLaws, WrittenLaws}
+use Rattle.aprs_log.specs.Bytes.{has_other, StreamLaws, WrittenLaws}
 use Rattle.aprs_log.specs.Line.{frame_in, frame_or_reason, only_frame}
 use Rattle.aprs_log.specs.declared.fault.Reason.{Reason}
 use Rattle.aprs_log.specs.declared.fault.Reason.TheVariants as reason
@@ -86,9 +86,6 @@ used_to : (bytes : List ℕ) (n : ℕ) (j : Judgement) → FedOnce bytes n (j �
 used_to bytes n j f =
     record { told = f.judged; left = (f.ends (λ e. let h : ⊥ = absurd cc in h)).left }
 
-same_some : (x y : Result (List ℕ) Reason) → Some x ≡ Some y → x ≡ y
-same_some x y e = cc
-
 module _ (laws : StreamLaws) (bytes : List ℕ) (n : ℕ) (e : false ≡ is_nonempty (rest_of bytes))
   where
     told_nothing : FedOnce bytes n [] → Err reason.NoFrame ≡ frame_in bytes
@@ -119,26 +116,26 @@ module _ (laws : StreamLaws) (bytes : List ℕ) (n : ℕ) (e : false ≡ is_none
         (sym other)
         ∙ ap frame_in (again bytes n)
 
-    pub fed_none : (fed : Fed) → FedOnce bytes n (told_by fed) → None ≡ first_frame (told_by fed)
-        → Err reason.NoFrame ≡ frame_in bytes
-    fed_none Nothing f none = told_nothing f
-    fed_none (Frame port frame) f none = absurd cc
-    fed_none (Passed fault) f none = absurd cc
+    -- where all is used, nothing is left
+    used_up : n ≡ length bytes → has_other (take (length bytes - n) (drop n bytes)) ≡ false
+    used_up all =
+        let none : length bytes - n ≡ 0 = omega (arith, all) in
+        ap (λ k. has_other (take k (drop n bytes))) none
 
-    pub fed_two : (fed : Fed) (r : Result (List ℕ) Reason) → FedOnce bytes n (told_by fed)
-        → Some r ≡ first_frame (told_by fed)
+    pub fed_two : (fed : Fed) → FedOnce bytes n (told_by fed)
         → true ≡ has_other (take (length bytes - n) (drop n bytes))
         → Err reason.TwoFrames ≡ frame_in bytes
-    fed_two Nothing r f some other = absurd cc
-    fed_two (Frame port frame) r f some other = told_two _ f other
-    fed_two (Passed fault) r f some other = told_two _ f other
+    fed_two Nothing f other =
+        absurd (let no : true ≡ false = other ∙ used_up (f.whole refl) in cc)
+    fed_two (Frame port frame) f other = told_two _ f other
+    fed_two (Passed fault) f other = told_two _ f other
 
-    pub fed_one : (fed : Fed) (r : Result (List ℕ) Reason) → FedOnce bytes n (told_by fed)
-        → Some r ≡ first_frame (told_by fed)
-        → false ≡ has_other (take (length bytes - n) (drop n bytes)) → r ≡ frame_in bytes
-    fed_one Nothing r f some alone = absurd cc
-    fed_one (Frame port frame) r f some alone = same_some r _ some ∙ told_one _ f alone
-    fed_one (Passed fault) r f some alone = same_some r _ some ∙ told_one _ f alone
+    pub fed_one : (fed : Fed) → FedOnce bytes n (told_by fed)
+        → false ≡ has_other (take (length bytes - n) (drop n bytes))
+        → only_frame (told_by fed) ≡ frame_in bytes
+    fed_one Nothing f alone = told_nothing f
+    fed_one (Frame port frame) f alone = told_one _ f alone
+    fed_one (Passed fault) f alone = told_one _ f alone
 
 -- ---- what is written for a frame
 

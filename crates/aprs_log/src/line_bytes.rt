@@ -2,8 +2,8 @@
 ghost use Rattle.std.specs.Prelude.{◌≡◌};
 ghost use Rattle.aprs_kiss.specs.Stream.{is_nonempty, rest_of};
 ghost use Rattle.aprs_kiss.specs.Told.{told_by};
-ghost use Rattle.aprs_log.specs.Bytes.{first_frame, has_other, StreamLaws};
-ghost use Rattle.aprs_log.specs.Line.{frame_in};
+ghost use Rattle.aprs_log.specs.Bytes.{has_other, StreamLaws};
+ghost use Rattle.aprs_log.specs.Line.{frame_in, only_frame};
 
 use crate::fault::Reason;
 use aprs_ax25::Frame;
@@ -24,28 +24,22 @@ pub fn frame_in(bytes: &[u8]) -> Result<Frame, Reason>
     }
     let mut reader = KissReader::new();
     let (used, fed) = reader.feed(bytes);
-    match frame_told(fed) {
-        None => Err(Reason::NoFrame),
-        Some(frame) => {
-            if has_other(&bytes[used..]) {
-                Err(Reason::TwoFrames)
-            } else {
-                frame
-            }
-        }
+    if has_other(&bytes[used..]) {
+        return Err(Reason::TwoFrames);
     }
+    frame_told(fed)
 }
 
 /// The frame of the piece that a reader told of, or why it holds none.
-fn frame_told(fed: Fed<'_>) -> Option<Result<Frame, Reason>>
-    ensures { result ≡ first_frame (told_by fed.entry) }
+fn frame_told(fed: Fed<'_>) -> Result<Frame, Reason>
+    ensures { result ≡ only_frame (told_by fed.entry) }
 {
     match fed {
-        Fed::Nothing => None,
-        Fed::Passed(fault) => Some(Err(Reason::from(fault))),
+        Fed::Nothing => Err(Reason::NoFrame),
+        Fed::Passed(fault) => Err(Reason::from(fault)),
         Fed::Frame { port: _, frame } => match Frame::read(frame) {
-            Ok(frame) => Some(Ok(frame)),
-            Err(fault) => Some(Err(Reason::from(fault))),
+            Ok(frame) => Ok(frame),
+            Err(fault) => Err(Reason::from(fault)),
         },
     }
 }
