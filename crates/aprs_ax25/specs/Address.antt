@@ -1,8 +1,10 @@
 -- Addresses of a frame: AX.25 2.2, section 3.12.
-use Rattle.std.specs.Prelude.{ℕ, ◌+◌, ◌-◌, ◌*◌, ◌<◌, Bool, nat_le, List, [], ◌∷◌, ◌++◌, length, map, replicate}
+use Rattle.std.specs.Prelude.{ℕ, ◌+◌, ◌-◌, ◌*◌, ◌<◌, Bool, nat_le, List, [], ◌∷◌, ◌++◌, length, map}
+use Rattle.std.specs.Prelude.{replicate}
 use Rattle.aprs_ax25.specs.Callsign.{Call, IsCall}
 
--- a callsign, and the three high bits of the octet of its SSID: the C or H bit and two reserved ones
+-- a callsign, and the three high bits of the octet of its SSID: the C or H bit and two reserved
+-- ones
 pub record Address : Type 0 where
   pub call : Call
   pub flags : ℕ

@@ -1,5 +1,6 @@
 -- Which bytes are the text of a callsign, and what is wrong with others.
-use Rattle.std.specs.Prelude.{◌≡◌, ℕ, ◌-◌, ◌==◌, Bool, not, ◌&&◌, nat_le, if◌then◌else◌, List, [], ◌∷◌, length, drop, Option, None, Some, is_none}
+use Rattle.std.specs.Prelude.{◌≡◌, ℕ, ◌-◌, ◌==◌, Bool, not, ◌&&◌, nat_le, if◌then◌else◌, List, []}
+use Rattle.std.specs.Prelude.{◌∷◌, length, drop, Option, None, Some, is_none}
 use Rattle.std.specs.List.{list_all, find, before_first}
 use Rattle.aprs_ax25.specs.Callsign.{Call, IsCall, is_callsign_byte, call_text}
 use Rattle.aprs_ax25.specs.declared.fault.CallFault.{CallFault}
@@ -30,7 +31,8 @@ ssid_of (dash ∷ b ∷ c ∷ d ∷ more) = None
 
 -- the sentence of each fault
 abbrev pub is_wrong_call : CallFault → List ℕ → Bool
-is_wrong_call Length text = not (nat_le 1 (length (before_dash text)) && nat_le (length (before_dash text)) 6)
+is_wrong_call Length text =
+    not (nat_le 1 (length (before_dash text)) && nat_le (length (before_dash text)) 6)
 is_wrong_call Character text = not (list_all is_callsign_byte (before_dash text))
 is_wrong_call Ssid text = is_none (ssid_of (from_dash text))
 

@@ -1,11 +1,14 @@
 -- What is wrong with bytes that are no frame, and what the parts of a frame's bytes are.
-use Rattle.std.specs.Prelude.{ℕ, ◌+◌, ◌/◌, ◌%◌, ◌==◌, Bool, not, ◌&&◌, nat_le, nat_lt, List, [], ◌∷◌, length, take, drop, map, slice_index, Option, None, Some, Result, Ok, Err, suc, zero}
+use Rattle.std.specs.Prelude.{ℕ, ◌+◌, ◌/◌, ◌%◌, ◌==◌, Bool, not, ◌&&◌, nat_le, nat_lt, List, []}
+use Rattle.std.specs.Prelude.{◌∷◌, length, take, drop, map, slice_index, Option, None, Some, Result}
+use Rattle.std.specs.Prelude.{Ok, Err, suc, zero}
 use Rattle.std.specs.List.{list_all, find, position_or_len}
 use Rattle.aprs_ax25.specs.Callsign.{Call, is_callsign_byte}
 use Rattle.aprs_ax25.specs.Address.{Address}
 use Rattle.aprs_ax25.specs.Frame.{Parts}
 use Rattle.aprs_ax25.specs.declared.fault.FrameFault.{FrameFault}
-use Rattle.aprs_ax25.specs.declared.fault.FrameFault.TheVariants.{Address as AddressFault, Callsign, Control, Pid, NoInfo, LongInfo}
+use Rattle.aprs_ax25.specs.declared.fault.FrameFault.TheVariants.{Address as AddressFault, Callsign}
+use Rattle.aprs_ax25.specs.declared.fault.FrameFault.TheVariants.{Control, Pid, NoInfo, LongInfo}
 
 -- bit 0 of the octet is 1
 abbrev pub ends_field : ℕ → Bool
@@ -36,9 +39,11 @@ letters_len octets = position_or_len is_no_letter (take 6 octets)
 abbrev pub is_space_octet : ℕ → Bool
 is_space_octet octet = octet / 2 == 32
 
--- an address's first six octets, shifted right, are 1 to 6 capitals or digits, and then spaces alone
+-- an address's first six octets, shifted right, are 1 to 6 capitals or digits, and then spaces
+-- alone
 abbrev pub has_callsign : List ℕ → Bool
-has_callsign octets = nat_lt 0 (letters_len octets) && list_all is_space_octet (drop (letters_len octets) (take 6 octets))
+has_callsign octets = nat_lt 0 (letters_len octets) && list_all is_space_octet
+    (drop (letters_len octets) (take 6 octets))
 
 -- the octets up to the one that ends the address field, and those after it
 abbrev pub field_of : List ℕ → List ℕ
@@ -53,7 +58,8 @@ addresses bytes = sevens (length (field_of bytes) / 7) (field_of bytes)
 
 -- the sentence of each fault; `slice_index` is 0 past the end
 abbrev pub is_wrong : FrameFault → List ℕ → Bool
-is_wrong AddressFault bytes = not (nat_le (field_len bytes) (length bytes) && is_field_len (field_len bytes))
+is_wrong AddressFault bytes =
+    not (nat_le (field_len bytes) (length bytes) && is_field_len (field_len bytes))
 is_wrong Callsign bytes = not (list_all has_callsign (addresses bytes))
 is_wrong Control bytes = not (slice_index (after_field bytes) 0 == 3)
 is_wrong Pid bytes = not (slice_index (after_field bytes) 1 == 240)
@@ -62,7 +68,9 @@ is_wrong LongInfo bytes = nat_lt 258 (length (after_field bytes))
 
 -- the first fault whose sentence is true
 abbrev pub frame_fault : List ℕ → Option FrameFault
-frame_fault bytes = find (λ fault. is_wrong fault bytes) (AddressFault ∷ Callsign ∷ Control ∷ Pid ∷ NoInfo ∷ LongInfo ∷ [])
+frame_fault bytes =
+    find (λ fault. is_wrong fault bytes)
+    (AddressFault ∷ Callsign ∷ Control ∷ Pid ∷ NoInfo ∷ LongInfo ∷ [])
 
 -- what reading the bytes gives
 abbrev pub unless_fault : List ℕ → Option FrameFault → Result (List ℕ) FrameFault
@@ -75,7 +83,10 @@ frame_of bytes = unless_fault bytes (frame_fault bytes)
 -- ---- the parts of bytes that are a frame
 
 abbrev pub call_of : List ℕ → Call
-call_of octets = record { letters = map (λ o. o / 2) (take (letters_len octets) octets); ssid = (slice_index octets 6 / 2) % 16 }
+call_of octets = record {
+  letters = map (λ o. o / 2) (take (letters_len octets) octets);
+  ssid = (slice_index octets 6 / 2) % 16;
+}
 
 abbrev pub address_of : List ℕ → Address
 address_of octets = record { call = call_of octets; flags = slice_index octets 6 / 32 }

@@ -28,4 +28,5 @@ made_parts destination source hops info = record {
 
 -- the first fault of so many digipeaters and bytes of information
 abbrev pub make_fault : ℕ → ℕ → Option MakeFault
-make_fault hops info = if nat_lt 8 hops then Some Hops else (if info == 0 then Some NoInfo else (if nat_lt 256 info then Some LongInfo else None))
+make_fault hops info = if nat_lt 8 hops then Some Hops
+    else (if info == 0 then Some NoInfo else (if nat_lt 256 info then Some LongInfo else None))

@@ -1,25 +1,34 @@
 -- What the steps of reading answer. No public contract cites these.
-use Rattle.std.specs.Prelude.{◌≡◌, ℕ, ◌==◌, true, false, not, nat_le, nat_lt, if◌then◌else◌, List, length, slice_index, Option, None, Some, MatchOption, Result, MatchResult}
+use Rattle.std.specs.Prelude.{◌≡◌, ℕ, ◌==◌, true, false, not, nat_le, nat_lt, if◌then◌else◌, List}
+use Rattle.std.specs.Prelude.{length, slice_index, Option, None, Some, MatchOption, Result}
+use Rattle.std.specs.Prelude.{MatchResult}
 use Rattle.aprs_ax25.specs.CallText.{call_fault, before_dash, from_dash, ssid_of}
 use Rattle.aprs_ax25.specs.declared.fault.CallFault.{CallFault}
 use Rattle.std.specs.Borrow.{Bor}
 use Rattle.aprs_ax25.specs.FrameFault.{field_of, after_field, is_wrong}
 use Rattle.aprs_ax25.specs.declared.fault.FrameFault.{FrameFault}
-use Rattle.aprs_ax25.specs.declared.fault.FrameFault.TheVariants.{Address, Control, Pid, NoInfo, LongInfo}
+use Rattle.aprs_ax25.specs.declared.fault.FrameFault.TheVariants.{Address, Control, Pid, NoInfo}
+use Rattle.aprs_ax25.specs.declared.fault.FrameFault.TheVariants.{LongInfo}
 
 abbrev pub SplitsField : Option (Bor (List ℕ) × Bor (List ℕ)) → List ℕ → Type 0
-SplitsField r bytes = MatchOption r (is_wrong Address bytes ≡ true) (λ p. (is_wrong Address bytes ≡ false) × (p.0.now ≡ field_of bytes) × (p.1.now ≡ after_field bytes))
+SplitsField r bytes = MatchOption r (is_wrong Address bytes ≡ true)
+    (λ p. (is_wrong Address bytes ≡ false) × (p.0.now ≡ field_of bytes)
+    × (p.1.now ≡ after_field bytes))
 
 abbrev pub fault_of_info : ℕ → Option FrameFault
-fault_of_info len = if len == 0 then Some NoInfo else (if nat_lt 256 len then Some LongInfo else None)
+fault_of_info len = if len == 0 then Some NoInfo
+    else (if nat_lt 256 len then Some LongInfo else None)
 
 abbrev pub fault_after_field : List ℕ → Option FrameFault
 fault_after_field rest =
-    if not (slice_index rest 0 == 3) then Some Control else (if not (slice_index rest 1 == 240) then Some Pid
-    else (if nat_le (length rest) 2 then Some NoInfo else (if nat_lt 258 (length rest) then Some LongInfo else None)))
+    if not (slice_index rest 0 == 3) then Some Control
+    else (if not (slice_index rest 1 == 240) then Some Pid
+    else (if nat_le (length rest) 2 then Some NoInfo
+    else (if nat_lt 258 (length rest) then Some LongInfo else None)))
 
 -- the letters and the SSID of a callsign's text, or its first fault
 abbrev pub PartsOf : List ℕ → Result (Bor (List ℕ) × ℕ) CallFault → Type 0
 PartsOf text r = MatchResult r
-    (λ p. (call_fault text ≡ None) × (p.0.now ≡ before_dash text) × (ssid_of (from_dash text) ≡ Some p.1))
+    (λ p. (call_fault text ≡ None) × (p.0.now ≡ before_dash text)
+    × (ssid_of (from_dash text) ≡ Some p.1))
     (λ fault. call_fault text ≡ Some fault)

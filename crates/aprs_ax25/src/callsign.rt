@@ -1,10 +1,12 @@
 //! Callsigns.
-ghost use Rattle.std.specs.Prelude.{◌≡◌, ◌+◌, ◌<◌, ◌≤◌, ◌*◌, ◌/◌, ◌++◌, length, map, true, Ok, Some, IfOk, IfErr};
+ghost use Rattle.std.specs.Prelude.{◌≡◌, ◌+◌, ◌<◌, ◌≤◌, ◌*◌, ◌/◌, ◌++◌, length, map, true, Ok};
+ghost use Rattle.std.specs.Prelude.{Some, IfOk, IfErr};
 ghost use Rattle.std.specs.List.{list_all, position_or_len};
 ghost use Rattle.arrayvec.specs.ArrayVec.{array_vec_len};
 ghost use Rattle.aprs_ax25.specs.Address.{address_octets, padded};
 ghost use Rattle.aprs_ax25.specs.Callsign.{Call, IsCall, call_text, ssid_text, is_callsign_byte};
-ghost use Rattle.aprs_ax25.specs.CallText.{CallText, call_fault, is_dash, before_dash, from_dash, ssid_of};
+ghost use Rattle.aprs_ax25.specs.CallText.{CallText, call_fault, is_dash, before_dash, from_dash};
+ghost use Rattle.aprs_ax25.specs.CallText.{ssid_of};
 ghost use Rattle.aprs_ax25.specs.Scan.{PartsOf};
 ghost use Rattle.aprs_ax25.specs.FrameFault.{has_callsign, call_of};
 
@@ -51,8 +53,8 @@ impl Callsign {
         }
     }
 
-    /// The callsign as monitors print it: its letters and digits, then, unless the SSID is 0, a dash
-    /// and the SSID. Takes no memory.
+    /// The callsign as monitors print it: its letters and digits, then, unless the SSID is 0, a
+    /// dash and the SSID. Takes no memory.
     pub fn text(&self) -> ArrayVec<u8, 9>
         ensures text { result.items ≡ call_text self.now }
         ensures callsign { IsCall self.now }

@@ -1,8 +1,10 @@
 //! Why bytes are refused.
 ghost use Rattle.std.specs.Prelude.{◌≡◌, codes};
-ghost use Rattle.aprs_ax25.specs.Fault.{frame_fault_number, frame_fault_name, call_fault_number, call_fault_name, make_fault_number, make_fault_name};
+ghost use Rattle.aprs_ax25.specs.Fault.{frame_fault_number, frame_fault_name, call_fault_number};
+ghost use Rattle.aprs_ax25.specs.Fault.{call_fault_name, make_fault_number, make_fault_name};
 
-/// Why bytes are no UI frame: the first of these that is true of them, in the order of their numbers.
+/// Why bytes are no UI frame: the first of these that is true of them, in the order of their
+/// numbers.
 #[derive(Clone, Copy, Debug, PartialEq, Eq)]
 pub enum FrameFault {
     /// The first octet with its extension bit set doesn't end 2 to 10 addresses, or there is none

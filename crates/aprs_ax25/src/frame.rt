@@ -1,5 +1,6 @@
 //! UI frames.
-ghost use Rattle.std.specs.Prelude.{◌≡◌, if◌then◌else◌, ◌<◌, ◌≤◌, [], ◌∷◌, ◌++◌, length, map, None, IsOk, IfOk, slice_get};
+ghost use Rattle.std.specs.Prelude.{◌≡◌, if◌then◌else◌, ◌<◌, ◌≤◌, [], ◌∷◌, ◌++◌, length, map, None};
+ghost use Rattle.std.specs.Prelude.{IsOk, IfOk, slice_get};
 ghost use Rattle.std.specs.List.{AllByRecursion};
 ghost use Rattle.std.specs.Result.{result_err};
 ghost use Rattle.arrayvec.specs.ArrayVec.{array_vec_len};
@@ -8,7 +9,8 @@ ghost use Rattle.std.specs.Option.{option_map};
 ghost use Rattle.aprs_ax25.specs.Frame.{Parts, FrameOf, address_field};
 ghost use Rattle.aprs_ax25.specs.FrameFault.{frame_of, frame_fault, parts_of};
 ghost use Rattle.aprs_ax25.specs.Hop.{hop_of};
-ghost use Rattle.aprs_ax25.specs.Making.{destination_address, source_address, hop_address, made_parts, make_fault};
+ghost use Rattle.aprs_ax25.specs.Making.{destination_address, source_address, hop_address};
+ghost use Rattle.aprs_ax25.specs.Making.{made_parts, make_fault};
 
 use crate::bytes::{copied, push_all};
 use crate::callsign::Callsign;
@@ -42,8 +44,8 @@ impl Model for Frame {
 }
 
 impl Frame {
-    /// The frame that is all the bytes, or the first fault in the order of the faults' numbers. Takes
-    /// no memory.
+    /// The frame that is all the bytes, or the first fault in the order of the faults' numbers.
+    /// Takes no memory.
     pub fn read(bytes: &[u8]) -> Result<Frame, FrameFault>
         // What is read is the bytes, or why not is the first fault of them.
         ensures exact { result ≡ frame_of bytes.now }
@@ -57,10 +59,10 @@ impl Frame {
         }
     }
 
-    /// The frame of these parts, as a command (AX.25 2.2, section 6.1.2): the destination's C bit is
-    /// 1 and the source's 0, each H bit says whether the digipeater has repeated the frame, and all
-    /// reserved bits are 1. Refuses more than 8 digipeaters, and information that isn't 1 to 256 bytes,
-    /// in this order. Takes no memory.
+    /// The frame of these parts, as a command (AX.25 2.2, section 6.1.2): the destination's C bit
+    /// is 1 and the source's 0, each H bit says whether the digipeater has repeated the frame, and
+    /// all reserved bits are 1. Refuses more than 8 digipeaters, and information that isn't 1 to
+    /// 256 bytes, in this order. Takes no memory.
     pub fn make(
         destination: &Callsign,
         source: &Callsign,
@@ -70,8 +72,10 @@ impl Frame {
         // Which fault it is, or that none is.
         ensures fault { result_err result ≡ make_fault (length hops.now) (length info.now) }
         // The frame is spelled from these parts, and is read as these parts.
-        ensures spelled { IfOk result (λ frame. FrameOf (made_parts destination.now source.now hops.now info.now) frame) }
-        ensures parts { IfOk result (λ frame. parts_of frame ≡ made_parts destination.now source.now hops.now info.now) }
+        ensures spelled { IfOk result (λ frame. FrameOf
+            (made_parts destination.now source.now hops.now info.now) frame) }
+        ensures parts { IfOk result (λ frame. parts_of frame ≡ made_parts destination.now
+            source.now hops.now info.now) }
     {
         match refused(hops.len(), info.len()) {
             Some(fault) => Err(fault),

@@ -23,7 +23,8 @@ impl Hop {
     pub(crate) fn push(&self, out: &mut ArrayVec<u8, 328>, extension: u8)
         requires room { array_vec_len out.old + 7 ≤ 328 }
         requires extension { extension < 2 }
-        ensures octets { out.new.items ≡ out.old.items ++ address_octets extension (hop_address self.now) }
+        ensures octets { out.new.items ≡ out.old.items
+            ++ address_octets extension (hop_address self.now) }
         ensures address { IsAddress (hop_address self.now) }
     {
         let flags = if self.repeated { 7 } else { 3 };

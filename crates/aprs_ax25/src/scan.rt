@@ -2,7 +2,9 @@
 ghost use Rattle.std.specs.Prelude.{◌≡◌, ◌≤◌, ◌/◌, ◌+◌, ◌%◌, length, take, drop, true};
 ghost use Rattle.std.specs.List.{list_all, position_or_len};
 ghost use Rattle.aprs_ax25.specs.Callsign.{is_callsign_byte};
-ghost use Rattle.aprs_ax25.specs.FrameFault.{ends_field, field_len, is_field_len, sevens, letters_len, has_callsign, is_space_octet, frame_fault};
+ghost use Rattle.aprs_ax25.specs.FrameFault.{ends_field, field_len, is_field_len, sevens};
+ghost use Rattle.aprs_ax25.specs.FrameFault.{letters_len, has_callsign, is_space_octet};
+ghost use Rattle.aprs_ax25.specs.FrameFault.{frame_fault};
 ghost use Rattle.aprs_ax25.specs.Scan.{SplitsField, fault_after_field, fault_of_info};
 
 use crate::fault::FrameFault;

@@ -15,7 +15,8 @@ hop_text hop = 44 ∷ call_text hop.call ++ (if hop.repeated then 42 ∷ [] else
 
 -- SOURCE>DESTINATION,DIGIPEATER*,..:INFORMATION
 abbrev pub monitor_text : Parts → List ℕ
-monitor_text p = call_text p.source.call ++ 62 ∷ call_text p.destination.call ++ flat_map hop_text (map hop_of p.digipeaters) ++ 58 ∷ shown p.info
+monitor_text p = call_text p.source.call ++ 62 ∷ call_text p.destination.call
+    ++ flat_map hop_text (map hop_of p.digipeaters) ++ 58 ∷ shown p.info
 
 -- the same, behind the kind of report that the information is
 abbrev pub kind_text : Parts → List ℕ

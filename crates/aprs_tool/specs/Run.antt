@@ -1,5 +1,6 @@
 -- What a run writes and answers, as a function of what was got of its input.
-use Rattle.std.specs.Prelude.{◌≡◌, ℕ, ◌+◌, ◌≤◌, List, [], ◌∷◌, ◌++◌, Option, None, Some, Result, Ok, Err, MatchResult, IfSome, codes}
+use Rattle.std.specs.Prelude.{◌≡◌, ℕ, ◌+◌, ◌≤◌, List, [], ◌∷◌, ◌++◌, Option, None, Some, Result, Ok}
+use Rattle.std.specs.Prelude.{Err, MatchResult, IfSome, codes}
 use Rattle.std.specs.List.{flat_map}
 use Rattle.std.specs.Fmt.{decimal}
 use Rattle.std.specs.Io.KnownBytes.{Appends}
@@ -48,7 +49,8 @@ line_text f (line.Passed reason) = []
 -- ---- the lines of a capture
 
 abbrev pub captured : List ℕ → ℕ → Result (List ℕ) FrameFault → List ℕ
-captured r m (Ok frame) = ended_by_lf (written_line (record { moment = m; receiver = r; frame = frame }))
+captured r m (Ok frame) =
+    ended_by_lf (written_line (record { moment = m; receiver = r; frame = frame }))
 captured r m (Err fault) = []
 
 -- the log line of a data frame that is a UI frame; anything else gives nothing
@@ -94,10 +96,12 @@ convert_fault (form.Capture r m) t c = stream_fault t c
 -- ---- what a check tells
 
 abbrev pub passed_line : ℕ → Reason → List ℕ
-passed_line n reason = ended_by_lf (codes "line " ++ decimal n ++ codes " passed " ++ reason_name reason)
+passed_line n reason =
+    ended_by_lf (codes "line " ++ decimal n ++ codes " passed " ++ reason_name reason)
 
 abbrev pub totals_line : ℕ → ℕ → List ℕ
-totals_line heard passed = ended_by_lf (codes "heard " ++ decimal heard ++ codes " passed " ++ decimal passed)
+totals_line heard passed =
+    ended_by_lf (codes "heard " ++ decimal heard ++ codes " passed " ++ decimal passed)
 
 -- of each line from number n on that is passed over
 abbrev pub check_lines : ℕ → List Line → List ℕ
@@ -129,20 +133,26 @@ check_text t c = check_of (log_answers t c)
 
 -- ---- how a run goes
 
--- An input's fault comes after the whole text, and a refused output after a front of it. There is one
--- input, number 0.
-abbrev pub FailsSo : RunFault → Option (List ℕ) → Option (List ℕ) → List ℕ → Option LogFault → Type 0
-FailsSo (Input index (Log f)) old new text fault = (index ≡ 0) × (fault ≡ Some f) × Appends old new text
+-- An input's fault comes after the whole text, and a refused output after a front of it. There is
+-- one input, number 0.
+abbrev pub FailsSo : RunFault → Option (List ℕ) → Option (List ℕ) → List ℕ → Option LogFault
+    → Type 0
+FailsSo (Input index (Log f)) old new text fault =
+    (index ≡ 0) × (fault ≡ Some f) × Appends old new text
 FailsSo Write old new text fault = AppendsFront old new text
 
 -- the run of a text and a fault writes and answers so
-abbrev pub RunsSo : Result (Unit {0}) RunFault → Option (List ℕ) → Option (List ℕ) → List ℕ → Option LogFault → Type 0
-RunsSo r old new text fault = MatchResult r (λ _. (fault ≡ None) × Appends old new text) (λ e. FailsSo e old new text fault)
+abbrev pub RunsSo : Result (Unit {0}) RunFault → Option (List ℕ) → Option (List ℕ) → List ℕ
+    → Option LogFault → Type 0
+RunsSo r old new text fault = MatchResult r (λ _. (fault ≡ None) × Appends old new text)
+    (λ e. FailsSo e old new text fault)
 
 -- some bytes were got of the input, at most `limit`, and the run is that of their text and fault
-abbrev pub RunsOver : (List ℕ → Ending → List ℕ) → (List ℕ → Ending → Option LogFault) → ℕ → Option (List ℕ)
-    → Result (Unit {0}) RunFault → Option (List ℕ) → Option (List ℕ) → Type 0
-RunsOver text fault limit known r old new = IfSome known (λ input. (t : List ℕ) × (c : Ending) × Gets limit input t c × RunsSo r old new (text t c) (fault t c))
+abbrev pub RunsOver : (List ℕ → Ending → List ℕ) → (List ℕ → Ending → Option LogFault) → ℕ
+    → Option (List ℕ) → Result (Unit {0}) RunFault → Option (List ℕ) → Option (List ℕ) → Type 0
+RunsOver text fault limit known r old new = IfSome known
+    (λ input. (t : List ℕ) × (c : Ending) × Gets limit input t c
+    × RunsSo r old new (text t c) (fault t c))
 
 -- the answer is a failed read of the input
 abbrev pub IsRead : RunFault → Type 0

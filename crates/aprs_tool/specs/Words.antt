@@ -1,8 +1,10 @@
 -- The program's words, as the definition of its command reads them.
-use Rattle.std.specs.Prelude.{◌≡◌, ℕ, List, [], ◌∷◌, map, Bool, true, Option, None, Some, Result, MatchResult, codes, if◌then◌else◌, option_map, option_and_then}
+use Rattle.std.specs.Prelude.{◌≡◌, ℕ, List, [], ◌∷◌, map, Bool, true, Option, None, Some, Result}
+use Rattle.std.specs.Prelude.{MatchResult, codes, if◌then◌else◌, option_map, option_and_then}
 use Rattle.std.specs.Str.{bytes_eq}
 use Rattle.std.specs.Borrow.{Bor}
-use Rattle.clap.specs.Words.{App, Row, Rule, Text, first_of, new_app, new_rule, subcommand_of, takes, with_rule, with_subcommand}
+use Rattle.clap.specs.Words.{App, Row, Rule, Text, first_of, new_app, new_rule, subcommand_of}
+use Rattle.clap.specs.Words.{takes, with_rule, with_subcommand}
 use Rattle.clap.specs.declared.builder.value_parser.ValueParser.{ValueParser}
 use Rattle.clap.specs.declared.builder.value_parser.ValueParser.TheVariants as vp
 use Rattle.aprs_log.specs.Moment.{moment_of}
@@ -23,7 +25,8 @@ form_names = codes "text" ∷ codes "kind" ∷ codes "kiss" ∷ codes "log" ∷ 
 
 -- takes the names of the forms and no other word
 abbrev pub IsForms : ValueParser → Type 0
-IsForms p = (names : Bor (List (Bor Text))) × (p ≡ vp.Names names) × (map (λ s. s.now) names.now ≡ form_names)
+IsForms p = (names : Bor (List (Bor Text))) × (p ≡ vp.Names names)
+    × (map (λ s. s.now) names.now ≡ form_names)
 
 abbrev pub form_rule : ValueParser → Rule
 form_rule p = record (new_rule (codes "form")) { required = true; parser = Some p }
@@ -35,14 +38,16 @@ abbrev pub input_rule : Rule
 input_rule = new_rule (codes "input")
 
 abbrev pub convert_app : ValueParser → App
-convert_app p = with_rule (with_rule (with_rule (with_rule (new_app (codes "convert")) (form_rule p)) input_rule)
-    (option_rule (codes "receiver"))) (option_rule (codes "moment"))
+convert_app p =
+    with_rule (with_rule (with_rule (with_rule (new_app (codes "convert")) (form_rule p))
+    input_rule) (option_rule (codes "receiver"))) (option_rule (codes "moment"))
 
 abbrev pub check_app : App
 check_app = with_rule (new_app (codes "check")) input_rule
 
 abbrev pub program_app : ValueParser → App
-program_app p = with_subcommand (with_subcommand (new_app (codes "aprsbook")) (convert_app p).top) check_app.top
+program_app p = with_subcommand (with_subcommand (new_app (codes "aprsbook")) (convert_app p).top)
+    check_app.top
 
 -- ---- what is read of the matches
 
@@ -69,10 +74,13 @@ named_form_of name r m = if bytes_eq name (codes "text") then plain_form_of form
     else capture_form_of r m)))
 
 abbrev pub form_of : List Row → Option Form
-form_of rows = option_and_then (λ name. named_form_of name (first_of (codes "receiver") rows) (first_of (codes "moment") rows)) (first_of (codes "form") rows)
+form_of rows = option_and_then (λ name. named_form_of name (first_of (codes "receiver") rows)
+    (first_of (codes "moment") rows)) (first_of (codes "form") rows)
 
 abbrev pub task_named : Text → List Row → Option Task
-task_named name rows = if bytes_eq name (codes "convert") then option_map (λ f. task.Convert f) (form_of rows) else Some task.Check
+task_named name rows =
+    if bytes_eq name (codes "convert") then option_map (λ f. task.Convert f) (form_of rows)
+    else Some task.Check
 
 -- the task, or none where the options break the rule on capture; `convert text` without a command
 abbrev pub task_of : Option (Text × List Row) → Option Task
@@ -86,11 +94,13 @@ abbrev pub asked_by : Job → Task
 asked_by (job.Check inputs) = task.Check
 asked_by (job.Convert f inputs) = task.Convert f
 
--- words are refused only where the command doesn't take them, and options only where they break the rule
+-- words are refused only where the command doesn't take them, and options only where they break the
+-- rule
 abbrev pub FailsSo : App → List Text → JobFault → Type 0
 FailsSo a words fault.Memory = Unit {0}
 FailsSo a words fault.Options = task_of (subcommand_of a words) ≡ None
 FailsSo a words (fault.Clap e) = takes a words ≡ true → ⊥
 
 abbrev pub AnswersWords : App → List Text → Result Job JobFault → Type 0
-AnswersWords a words r = MatchResult r (λ j. task_of (subcommand_of a words) ≡ Some (asked_by j)) (FailsSo a words)
+AnswersWords a words r =
+    MatchResult r (λ j. task_of (subcommand_of a words) ≡ Some (asked_by j)) (FailsSo a words)

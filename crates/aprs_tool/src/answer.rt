@@ -24,8 +24,10 @@ pub fn write_answer<W: Write>(
     w: &mut Counted<W>,
     line: &Line,
 ) -> Result<(), WriteFault>
-    ensures sent { OnOk result (Appends (W.contents (device_of w.old)) (W.contents (device_of w.new)) (line_text form.now line.now)) }
-    ensures prefix { OnErr result (AppendsFront (W.contents (device_of w.old)) (W.contents (device_of w.new)) (line_text form.now line.now)) }
+    ensures sent { OnOk result (Appends (W.contents (device_of w.old))
+        (W.contents (device_of w.new)) (line_text form.now line.now)) }
+    ensures prefix { OnErr result (AppendsFront (W.contents (device_of w.old))
+        (W.contents (device_of w.new)) (line_text form.now line.now)) }
     ensures count { failures_of w.old ≤ failures_of w.new }
     ensures fault { OnErr result (Rose (failures_of w.old) (failures_of w.new)) }
 {
@@ -41,8 +43,10 @@ fn write_reception<W: Write>(
     w: &mut Counted<W>,
     reception: &Reception,
 ) -> Result<(), WriteFault>
-    ensures sent { OnOk result (Appends (W.contents (device_of w.old)) (W.contents (device_of w.new)) (reception_text form.now reception.now)) }
-    ensures prefix { OnErr result (AppendsFront (W.contents (device_of w.old)) (W.contents (device_of w.new)) (reception_text form.now reception.now)) }
+    ensures sent { OnOk result (Appends (W.contents (device_of w.old))
+        (W.contents (device_of w.new)) (reception_text form.now reception.now)) }
+    ensures prefix { OnErr result (AppendsFront (W.contents (device_of w.old))
+        (W.contents (device_of w.new)) (reception_text form.now reception.now)) }
     ensures count { failures_of w.old ≤ failures_of w.new }
     ensures fault { OnErr result (Rose (failures_of w.old) (failures_of w.new)) }
 {
@@ -57,8 +61,10 @@ fn write_reception<W: Write>(
 
 /// Writes the frame as a monitor prints it, and an LF.
 fn write_monitor_line<W: Write>(w: &mut Counted<W>, frame: &Frame) -> Result<(), WriteFault>
-    ensures sent { OnOk result (Appends (W.contents (device_of w.old)) (W.contents (device_of w.new)) (ended_by_lf (monitor_text (parts_of frame.now)))) }
-    ensures prefix { OnErr result (AppendsFront (W.contents (device_of w.old)) (W.contents (device_of w.new)) (ended_by_lf (monitor_text (parts_of frame.now)))) }
+    ensures sent { OnOk result (Appends (W.contents (device_of w.old))
+        (W.contents (device_of w.new)) (ended_by_lf (monitor_text (parts_of frame.now)))) }
+    ensures prefix { OnErr result (AppendsFront (W.contents (device_of w.old))
+        (W.contents (device_of w.new)) (ended_by_lf (monitor_text (parts_of frame.now)))) }
     ensures count { failures_of w.old ≤ failures_of w.new }
     ensures fault { OnErr result (Rose (failures_of w.old) (failures_of w.new)) }
 {
@@ -68,8 +74,10 @@ fn write_monitor_line<W: Write>(w: &mut Counted<W>, frame: &Frame) -> Result<(),
 
 /// Writes the kind of report, a space, the frame as a monitor prints it, and an LF.
 fn write_kind_line<W: Write>(w: &mut Counted<W>, frame: &Frame) -> Result<(), WriteFault>
-    ensures sent { OnOk result (Appends (W.contents (device_of w.old)) (W.contents (device_of w.new)) (ended_by_lf (kind_text (parts_of frame.now)))) }
-    ensures prefix { OnErr result (AppendsFront (W.contents (device_of w.old)) (W.contents (device_of w.new)) (ended_by_lf (kind_text (parts_of frame.now)))) }
+    ensures sent { OnOk result (Appends (W.contents (device_of w.old))
+        (W.contents (device_of w.new)) (ended_by_lf (kind_text (parts_of frame.now)))) }
+    ensures prefix { OnErr result (AppendsFront (W.contents (device_of w.old))
+        (W.contents (device_of w.new)) (ended_by_lf (kind_text (parts_of frame.now)))) }
     ensures count { failures_of w.old ≤ failures_of w.new }
     ensures fault { OnErr result (Rose (failures_of w.old) (failures_of w.new)) }
 {

@@ -1,5 +1,6 @@
 //! A KISS stream, captured as a log.
-ghost use Rattle.std.specs.Prelude.{◌≡◌, ◌≤◌, ◌<◌, ◌++◌, ℕ, List, length, take, IfOk, IfErr, OnOk, OnErr};
+ghost use Rattle.std.specs.Prelude.{◌≡◌, ◌≤◌, ◌<◌, ◌++◌, ℕ, List, length, take, IfOk, IfErr, OnOk};
+ghost use Rattle.std.specs.Prelude.{OnErr};
 ghost use Rattle.std.specs.List.{flat_map};
 ghost use Rattle.std.specs.Io.KnownBytes.{Appends, Consumes};
 ghost use Rattle.aprs_ax25.specs.FrameFault.{frame_of};
@@ -10,7 +11,8 @@ ghost use Rattle.aprs_kiss.specs.Stream.{judgements_of, rest_of};
 ghost use Rattle.aprs_log.specs.Awaits.{EndsHere};
 ghost use Rattle.aprs_log.specs.declared.ending.Ending.TheVariants.{Read as ReadFailed};
 ghost use Rattle.aprs_tool.specs.declared.fault.InputFault.TheVariants.{Log};
-ghost use Rattle.aprs_tool.specs.Run.{RunsOver, IsRead, stream_text, stream_fault, capture_text, captured, EndsStream};
+ghost use Rattle.aprs_tool.specs.Run.{RunsOver, IsRead, stream_text, stream_fault, capture_text};
+ghost use Rattle.aprs_tool.specs.Run.{captured, EndsStream};
 
 use crate::convert::log_fault;
 use crate::fault::RunFault;
@@ -22,7 +24,8 @@ use std::io::{Read, Write};
 /// How many bytes of the stream are read at once, at most.
 const CHUNK: usize = 16_384;
 
-/// Writes a log line for each frame of a KISS stream, as if one receiver had heard all at one moment.
+/// Writes a log line for each frame of a KISS stream, as if one receiver had heard all at one
+/// moment.
 pub fn capture<R: Read, W: Write>(
     limit: u64,
     receiver: &Receiver,
@@ -31,10 +34,12 @@ pub fn capture<R: Read, W: Write>(
     w: &mut Counted<W>,
 ) -> Result<(), RunFault>
     requires { limit ≤ 1073741824 }
-    ensures run { RunsOver (stream_text receiver.now moment.now) stream_fault limit (R.remaining (device_of r.old))
+    ensures run { RunsOver (stream_text receiver.now moment.now) stream_fault limit
+        (R.remaining (device_of r.old))
         result (W.contents (device_of w.old)) (W.contents (device_of w.new)) }
     ensures read { IfErr result (λ e. IsRead e → Rose (failures_of r.old) (failures_of r.new)) }
-    ensures write { IfErr result (λ e. e ≡ RunFault.Write → Rose (failures_of w.old) (failures_of w.new)) }
+    ensures write { IfErr result (λ e. e ≡ RunFault.Write
+        → Rose (failures_of w.old) (failures_of w.new)) }
 {
     let mut reader = KissReader::new();
     let mut buffer = [0; CHUNK];
@@ -79,10 +84,12 @@ fn read_chunk<R: Read>(
 ) -> Result<usize, Ending>
     requires { left ≤ 1073741824 }
     ensures some { IfOk result (λ n. (0 < n) × (n ≤ 16384) × (n ≤ left)) }
-    ensures bytes { IfOk result (λ n. Consumes (R.remaining (device_of r.old)) (R.remaining (device_of r.new)) (take n buffer.new)) }
+    ensures bytes { IfOk result (λ n. Consumes (R.remaining (device_of r.old))
+        (R.remaining (device_of r.new)) (take n buffer.new)) }
     ensures end { IfErr result (λ e. EndsHere e left (R.remaining (device_of r.old))) }
     ensures count { failures_of r.old ≤ failures_of r.new }
-    ensures fault { IfErr result (λ e. e ≡ ReadFailed → Rose (failures_of r.old) (failures_of r.new)) }
+    ensures fault { IfErr result (λ e. e ≡ ReadFailed
+        → Rose (failures_of r.old) (failures_of r.new)) }
 {
     if left == 0 {
         return Err(ending_at_limit(r));
@@ -117,10 +124,13 @@ fn capture_chunk<W: Write>(
     moment: &Moment,
     w: &mut Counted<W>,
 ) -> Result<(), WriteFault>
-    ensures stands { OnOk result ((e : List ℕ) → StandsAfter reader.old e → StandsAfter reader.new (rest_of (e ++ chunk.now))) }
-    ensures sent { OnOk result ((e : List ℕ) → StandsAfter reader.old e → Appends (W.contents (device_of w.old)) (W.contents (device_of w.new))
+    ensures stands { OnOk result ((e : List ℕ) → StandsAfter reader.old e
+        → StandsAfter reader.new (rest_of (e ++ chunk.now))) }
+    ensures sent { OnOk result ((e : List ℕ) → StandsAfter reader.old e
+        → Appends (W.contents (device_of w.old)) (W.contents (device_of w.new))
         (flat_map (capture_text receiver.now moment.now) (judgements_of (e ++ chunk.now)))) }
-    ensures prefix { OnErr result ((e : List ℕ) → StandsAfter reader.old e → AppendsFront (W.contents (device_of w.old)) (W.contents (device_of w.new))
+    ensures prefix { OnErr result ((e : List ℕ) → StandsAfter reader.old e
+        → AppendsFront (W.contents (device_of w.old)) (W.contents (device_of w.new))
         (flat_map (capture_text receiver.now moment.now) (judgements_of (e ++ chunk.now)))) }
     ensures count { failures_of w.old ≤ failures_of w.new }
     ensures fault { OnErr result (Rose (failures_of w.old) (failures_of w.new)) }
@@ -145,8 +155,12 @@ fn write_fed<W: Write>(
     moment: &Moment,
     fed: Fed<'_>,
 ) -> Result<(), WriteFault>
-    ensures sent { OnOk result (Appends (W.contents (device_of w.old)) (W.contents (device_of w.new)) (flat_map (capture_text receiver.now moment.now) (told_by fed.entry))) }
-    ensures prefix { OnErr result (AppendsFront (W.contents (device_of w.old)) (W.contents (device_of w.new)) (flat_map (capture_text receiver.now moment.now) (told_by fed.entry))) }
+    ensures sent { OnOk result (Appends (W.contents (device_of w.old))
+        (W.contents (device_of w.new)) (flat_map (capture_text receiver.now moment.now)
+        (told_by fed.entry))) }
+    ensures prefix { OnErr result (AppendsFront (W.contents (device_of w.old))
+        (W.contents (device_of w.new)) (flat_map (capture_text receiver.now moment.now)
+        (told_by fed.entry))) }
     ensures count { failures_of w.old ≤ failures_of w.new }
     ensures fault { OnErr result (Rose (failures_of w.old) (failures_of w.new)) }
 {
@@ -163,8 +177,10 @@ fn write_frame<W: Write>(
     moment: &Moment,
     bytes: &[u8],
 ) -> Result<(), WriteFault>
-    ensures sent { OnOk result (Appends (W.contents (device_of w.old)) (W.contents (device_of w.new)) (captured receiver.now moment.now (frame_of bytes.now))) }
-    ensures prefix { OnErr result (AppendsFront (W.contents (device_of w.old)) (W.contents (device_of w.new)) (captured receiver.now moment.now (frame_of bytes.now))) }
+    ensures sent { OnOk result (Appends (W.contents (device_of w.old))
+        (W.contents (device_of w.new)) (captured receiver.now moment.now (frame_of bytes.now))) }
+    ensures prefix { OnErr result (AppendsFront (W.contents (device_of w.old))
+        (W.contents (device_of w.new)) (captured receiver.now moment.now (frame_of bytes.now))) }
     ensures count { failures_of w.old ≤ failures_of w.new }
     ensures fault { OnErr result (Rose (failures_of w.old) (failures_of w.new)) }
 {

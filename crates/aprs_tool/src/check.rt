@@ -5,7 +5,8 @@ ghost use Rattle.std.specs.Io.KnownBytes.{Appends};
 ghost use Rattle.arrayvec.specs.ArrayVec.{array_vec_len};
 ghost use Rattle.aprs_kiss.specs.Device.{device_of, failures_of, Rose, AppendsFront};
 ghost use Rattle.aprs_log.specs.Fault.{reason_name};
-ghost use Rattle.aprs_tool.specs.Run.{RunsOver, IsRead, check_text, lines_fault, ended_by_lf, passed_line, totals_line};
+ghost use Rattle.aprs_tool.specs.Run.{RunsOver, IsRead, check_text, lines_fault, ended_by_lf};
+ghost use Rattle.aprs_tool.specs.Run.{passed_line, totals_line};
 
 use crate::convert::log_fault;
 use crate::fault::RunFault;
@@ -15,10 +16,10 @@ use aprs_log::{Line, LogReader, Reason};
 use std::alloc::Global;
 use std::io::{Read, Write};
 
-/// Writes a line for each line of a log that holds no frame, with the reason, and last how many lines
-/// are heard and how many passed over. Requires that `limit` is at most `MAX_INPUT`. At a fault all
-/// lines before it have been told of, and there are no totals; at `Write` a front of the text was
-/// written. Takes no memory.
+/// Writes a line for each line of a log that holds no frame, with the reason, and last how many
+/// lines are heard and how many passed over. Requires that `limit` is at most `MAX_INPUT`. At a
+/// fault all lines before it have been told of, and there are no totals; at `Write` a front of the
+/// text was written. Takes no memory.
 pub fn check_run<R: Read, W: Write>(
     alloc: Global,
     limit: u64,
@@ -29,7 +30,8 @@ pub fn check_run<R: Read, W: Write>(
     ensures run { RunsOver check_text lines_fault limit (R.remaining (device_of r.old))
         result (W.contents (device_of w.old)) (W.contents (device_of w.new)) }
     ensures read { IfErr result (λ e. IsRead e → Rose (failures_of r.old) (failures_of r.new)) }
-    ensures write { IfErr result (λ e. e ≡ RunFault.Write → Rose (failures_of w.old) (failures_of w.new)) }
+    ensures write { IfErr result (λ e. e ≡ RunFault.Write
+        → Rose (failures_of w.old) (failures_of w.new)) }
 {
     let mut reader = LogReader::new(alloc, limit, &[], r);
     let mut heard = 0;
@@ -54,8 +56,10 @@ pub fn check_run<R: Read, W: Write>(
 
 /// Writes that a line is passed over, and why.
 fn write_passed<W: Write>(w: &mut Counted<W>, line: u64, reason: Reason) -> Result<(), WriteFault>
-    ensures sent { OnOk result (Appends (W.contents (device_of w.old)) (W.contents (device_of w.new)) (passed_line line reason)) }
-    ensures prefix { OnErr result (AppendsFront (W.contents (device_of w.old)) (W.contents (device_of w.new)) (passed_line line reason)) }
+    ensures sent { OnOk result (Appends (W.contents (device_of w.old))
+        (W.contents (device_of w.new)) (passed_line line reason)) }
+    ensures prefix { OnErr result (AppendsFront (W.contents (device_of w.old))
+        (W.contents (device_of w.new)) (passed_line line reason)) }
     ensures count { failures_of w.old ≤ failures_of w.new }
     ensures fault { OnErr result (Rose (failures_of w.old) (failures_of w.new)) }
 {
@@ -65,8 +69,10 @@ fn write_passed<W: Write>(w: &mut Counted<W>, line: u64, reason: Reason) -> Resu
 
 /// Writes how many lines are heard and how many passed over.
 fn write_totals<W: Write>(w: &mut Counted<W>, heard: u64, passed: u64) -> Result<(), WriteFault>
-    ensures sent { OnOk result (Appends (W.contents (device_of w.old)) (W.contents (device_of w.new)) (totals_line heard passed)) }
-    ensures prefix { OnErr result (AppendsFront (W.contents (device_of w.old)) (W.contents (device_of w.new)) (totals_line heard passed)) }
+    ensures sent { OnOk result (Appends (W.contents (device_of w.old))
+        (W.contents (device_of w.new)) (totals_line heard passed)) }
+    ensures prefix { OnErr result (AppendsFront (W.contents (device_of w.old))
+        (W.contents (device_of w.new)) (totals_line heard passed)) }
     ensures count { failures_of w.old ≤ failures_of w.new }
     ensures fault { OnErr result (Rose (failures_of w.old) (failures_of w.new)) }
 {

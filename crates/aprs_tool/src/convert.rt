@@ -23,7 +23,8 @@ pub fn convert_lines<R: Read, W: Write>(
     ensures run { RunsOver (lines_text form.now) lines_fault limit (R.remaining (device_of r.old))
         result (W.contents (device_of w.old)) (W.contents (device_of w.new)) }
     ensures read { IfErr result (λ e. IsRead e → Rose (failures_of r.old) (failures_of r.new)) }
-    ensures write { IfErr result (λ e. e ≡ RunFault.Write → Rose (failures_of w.old) (failures_of w.new)) }
+    ensures write { IfErr result (λ e. e ≡ RunFault.Write
+        → Rose (failures_of w.old) (failures_of w.new)) }
 {
     let mut reader = LogReader::new(alloc, limit, &[], r);
     loop {

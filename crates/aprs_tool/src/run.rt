@@ -11,9 +11,10 @@ use aprs_kiss::Counted;
 use std::alloc::Global;
 use std::io::{Read, Write};
 
-/// Writes what a form gives for each line of a log, or for each frame of a KISS stream where the form
-/// is a capture. Requires that `limit` is at most `MAX_INPUT`. At a fault the text of all before it
-/// has been written; at `Write` a front of the text. A stream's faults have line 0. Takes no memory.
+/// Writes what a form gives for each line of a log, or for each frame of a KISS stream where the
+/// form is a capture. Requires that `limit` is at most `MAX_INPUT`. At a fault the text of all
+/// before it has been written; at `Write` a front of the text. A stream's faults have line 0. Takes
+/// no memory.
 pub fn convert_run<R: Read, W: Write>(
     alloc: Global,
     limit: u64,
@@ -22,10 +23,12 @@ pub fn convert_run<R: Read, W: Write>(
     w: &mut Counted<W>,
 ) -> Result<(), RunFault>
     requires { limit ≤ 1073741824 }
-    ensures run { RunsOver (convert_text form) (convert_fault form) limit (R.remaining (device_of r.old))
+    ensures run { RunsOver (convert_text form) (convert_fault form) limit
+        (R.remaining (device_of r.old))
         result (W.contents (device_of w.old)) (W.contents (device_of w.new)) }
     ensures read { IfErr result (λ e. IsRead e → Rose (failures_of r.old) (failures_of r.new)) }
-    ensures write { IfErr result (λ e. e ≡ RunFault.Write → Rose (failures_of w.old) (failures_of w.new)) }
+    ensures write { IfErr result (λ e. e ≡ RunFault.Write
+        → Rose (failures_of w.old) (failures_of w.new)) }
 {
     match &form {
         Form::Capture { receiver, moment } => capture(limit, receiver, moment, r, w),

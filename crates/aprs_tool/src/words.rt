@@ -1,10 +1,14 @@
 //! The words of the command line.
 ghost use Rattle.std.specs.Prelude.{◌≡◌, ◌≢◌, ◌⊎◌, option_map, IfOk, map, true, false};
-ghost use Rattle.clap.specs.Words.{app_of, first_of, found_of, is_simple, kind_of, rows_of, rule_of, subcommand_rows_of};
+ghost use Rattle.clap.specs.Words.{app_of, first_of, found_of, is_simple, kind_of, rows_of};
+ghost use Rattle.clap.specs.Words.{rule_of, subcommand_rows_of};
 ghost use Rattle.clap.specs.declared.error.kind.ErrorKind.TheVariants.{OutOfMemory};
 ghost use Rattle.clap.specs.declared.builder.command.Command.TheViews.{out-Command};
 ghost use Rattle.clap.specs.declared.builder.value_parser.ValueParser.{ValueParser};
-ghost use Rattle.aprs_tool.specs.Words.{IsForms, AnswersWords, asked_by, form_rule, option_rule, check_app, convert_app, program_app, receiver_of, plain_form_of, capture_form_of, named_form_of, form_of, task_named, task_of};
+ghost use Rattle.aprs_tool.specs.Words.{IsForms, AnswersWords, asked_by, form_rule, option_rule};
+ghost use Rattle.aprs_tool.specs.Words.{check_app, convert_app, program_app, receiver_of};
+ghost use Rattle.aprs_tool.specs.Words.{plain_form_of, capture_form_of, named_form_of, form_of};
+ghost use Rattle.aprs_tool.specs.Words.{task_named, task_of};
 ghost use Rattle.aprs_log.specs.Moment.{moment_of};
 
 use crate::form::{Form, Job, JobFault};
