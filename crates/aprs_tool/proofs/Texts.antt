@@ -1,10 +1,14 @@
 -- Lemmas on texts.
 use Rattle.std.proofs.Common.{◌≡◌, ℕ, ◌+◌, ◌/◌, ◌%◌, ◌≤◌, ◌<◌, ◌^◌, List, [], ◌∷◌, ◌++◌, length, get_or, take, map, Option, Some, None, slice_get, refl, ap, sym, ◌∙◌, arith, append_assoc, append-nil}
-use Rattle.std.specs.List.{flat_map}
+use Rattle.std.specs.List.{flat_map, list_all}
+use Rattle.std.proofs.Common.{Bool, true, false, cond}
+use Rattle.hex.specs.Hex.{encode_lower}
+use Rattle.aprs_tool.specs.Shown.{is_shown, shown}
 use Rattle.std.specs.Option.{option_map}
 use Rattle.std.specs.Fmt.{decimal}
 use Rattle.std.proofs.lemmas.List.{length-append, take_more, flat_map_more}
 use Rattle.std.proofs.lemmas.Option.{slice_get-map, slice_get_within, get_or_from_slice_get}
+use Rattle.std.proofs.lemmas.Bool.{and_parts}
 use Rattle.std.proofs.lemmas.Fmt.{decimal_step}
 use Rattle.aprs_log.specs.Fault.{reason_name}
 use Rattle.aprs_log.specs.declared.fault.Reason.{Reason}
@@ -16,6 +20,18 @@ pub shown-more : {X : Type 0} (f : X → List ℕ) (a b : List ℕ) (xs : List X
 shown-more f a b xs i x is out start done =
     out ∙ ap (λ l. l ++ f x) done ∙ flat_map_more f start (take i xs) x
     ∙ ap (λ l. start ++ flat_map f l) (ap (λ y. take i xs ++ y ∷ []) (sym (get_or_from_slice_get xs i x x is)) ∙ sym (take_more xs i x (slice_get_within xs i x is)))
+
+-- a byte that is shown as itself
+shown_byte-plain : (b : ℕ) (rest : List ℕ) (t : Bool) → is_shown b ≡ t → t ≡ true → b ∷ rest ≡ (cond t (b ∷ []) (92 ∷ 120 ∷ encode_lower (b ∷ []))) ++ rest
+shown_byte-plain b rest true is e = refl
+shown_byte-plain b rest false is e = absurd cc
+
+-- bytes that are shown as themselves
+pub shown-plain : (bytes : List ℕ) → list_all is_shown bytes ≡ true → bytes ≡ shown bytes
+shown-plain [] e = refl
+shown-plain (b ∷ bytes) e =
+    let p = and_parts _ _ e in
+    ap (λ l. b ∷ l) (shown-plain bytes p.1) ∙ shown_byte-plain b (shown bytes) (is_shown b) refl p.0
 
 pub length-decimal-step : (n : ℕ) → 10 ≤ n → n < 2 ^ 64 → length (decimal n) ≡ length (decimal (n / 10)) + 1
 length-decimal-step n low h = ap length (decimal_step n low h) ∙ length-append (decimal (n / 10)) ((48 + n % 10) ∷ [])

@@ -68,7 +68,8 @@ fn write_monitor_line<W: Write>(w: &mut Counted<W>, frame: &Frame) -> Result<(),
     ensures count { failures_of w.old ≤ failures_of w.new }
     ensures fault { OnErr result (Rose (failures_of w.old) (failures_of w.new)) }
 {
-    let text = monitor_line(frame);
+    let mut text = Text::new();
+    push_monitor_line(&mut text, frame);
     send(w, text.as_slice())
 }
 
@@ -81,20 +82,20 @@ fn write_kind_line<W: Write>(w: &mut Counted<W>, frame: &Frame) -> Result<(), Wr
     ensures count { failures_of w.old ≤ failures_of w.new }
     ensures fault { OnErr result (Rose (failures_of w.old) (failures_of w.new)) }
 {
-    let text = kind_line(frame);
+    let mut text = Text::new();
+    push_kind_line(&mut text, frame);
     send(w, text.as_slice())
 }
 
-/// The kind of report, a space, the frame as a monitor prints it, and an LF.
-fn kind_line(frame: &Frame) -> Text
-    ensures { result.items ≡ ended_by_lf (kind_text (parts_of frame.now)) }
+/// Puts the kind of report, a space, the frame as a monitor prints it, and an LF into the text.
+fn push_kind_line(text: &mut Text, frame: &Frame)
+    requires { text.old.items ≡ [] }
+    ensures { text.new.items ≡ ended_by_lf (kind_text (parts_of frame.now)) }
 {
-    let mut text = Text::new();
-    push_kind(&mut text, frame.info());
+    push_kind(text, frame.info());
     text.push(b' ');
-    push_monitor_text(&mut text, frame);
+    push_monitor_text(text, frame);
     text.push(b'\n');
-    text
 }
 
 /// Puts the name of the report's kind at the end.
@@ -107,12 +108,11 @@ fn push_kind(out: &mut Text, info: &[u8])
     push_all(out, kind.as_bytes());
 }
 
-/// The frame as a monitor prints it, and an LF.
-fn monitor_line(frame: &Frame) -> Text
-    ensures { result.items ≡ ended_by_lf (monitor_text (parts_of frame.now)) }
+/// Puts the frame as a monitor prints it, and an LF into the text.
+fn push_monitor_line(text: &mut Text, frame: &Frame)
+    requires { text.old.items ≡ [] }
+    ensures { text.new.items ≡ ended_by_lf (monitor_text (parts_of frame.now)) }
 {
-    let mut text = Text::new();
-    push_monitor_text(&mut text, frame);
+    push_monitor_text(text, frame);
     text.push(b'\n');
-    text
 }

@@ -1,5 +1,6 @@
 //! A line of output, while it is put together.
 ghost use Rattle.std.specs.Prelude.{◌≡◌, ◌+◌, ◌*◌, ◌≤◌, ◌++◌, ◌∷◌, [], length};
+ghost use Rattle.std.specs.List.{list_all};
 ghost use Rattle.std.specs.Fmt.{decimal};
 ghost use Rattle.arrayvec.specs.ArrayVec.{array_vec_len};
 ghost use Rattle.hex.specs.Hex.{encode_lower};
@@ -46,6 +47,13 @@ fn push_shown_byte(out: &mut Text, b: u8)
     }
 }
 
+/// Whether each byte is shown as itself.
+fn are_shown(bytes: &[u8]) -> bool
+    ensures { result ≡ list_all is_shown bytes.now }
+{
+    bytes.iter().all(|b| is_shown(*b))
+}
+
 /// Puts the byte's two lower case hexadecimal digits at the end.
 fn push_hex(out: &mut Text, b: u8)
     requires { array_vec_len out.old + 2 ≤ 1200 }
@@ -61,6 +69,19 @@ fn push_hex(out: &mut Text, b: u8)
 
 /// Puts at the end what the bytes are shown as.
 pub fn push_shown(out: &mut Text, bytes: &[u8])
+    requires { array_vec_len out.old + 4 * length bytes.now ≤ 1200 }
+    ensures shown { out.new.items ≡ out.old.items ++ shown bytes.now }
+    ensures most { array_vec_len out.new ≤ array_vec_len out.old + 4 * length bytes.now }
+{
+    if are_shown(bytes) {
+        push_all(out, bytes);
+    } else {
+        push_escaped(out, bytes);
+    }
+}
+
+/// The same, byte by byte.
+fn push_escaped(out: &mut Text, bytes: &[u8])
     requires { array_vec_len out.old + 4 * length bytes.now ≤ 1200 }
     ensures shown { out.new.items ≡ out.old.items ++ shown bytes.now }
     ensures most { array_vec_len out.new ≤ array_vec_len out.old + 4 * length bytes.now }

@@ -1,6 +1,6 @@
 use Rattle.std.proofs.Common.{◌≡◌, ◌+◌, ◌*◌, ◌≤◌, ◌++◌, length, take}
 use Rattle.aprs_tool.specs.Shown.{shown}
-use Rattle.aprs_tool.proofs.text.push_shown.Given as goal
+use Rattle.aprs_tool.proofs.text.push_escaped.Given as goal
 
 abbrev pub invariant-loop-b : goal.invariant-loop-b
 invariant-loop-b l = record {
