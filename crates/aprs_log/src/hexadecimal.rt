@@ -2,15 +2,12 @@
 ghost use Rattle.std.specs.Prelude.{◌≡◌, ◌≤◌, ◌*◌, take, length, true, false, Ok, MatchOption, MatchResult, IsOk};
 ghost use Rattle.hex.specs.Hex.{decode_of};
 
-/// The most bytes that the hexadecimal text of a line holds.
-pub const MAX_BYTES: usize = 4096;
-
 /// Reads a hexadecimal text into the front of `room` and answers how many bytes it holds, where it
 /// is one: an even number of digits, `A` to `F` in either case.
-pub fn decode_into(text: &[u8], room: &mut [u8; MAX_BYTES]) -> Option<usize>
-    requires { length text.now ≤ 8192 }
+pub fn decode_into(text: &[u8], room: &mut [u8]) -> Option<usize>
+    requires { length text.now ≤ 2 * length room.old }
     ensures { MatchOption result (¬ IsOk (decode_of text.now))
-        (λ n. (n ≤ 4096) × (decode_of text.now ≡ Ok (take n room.new))) }
+        (λ n. (n ≤ length room.new) × (decode_of text.now ≡ Ok (take n room.new))) }
 {
     if !text.len().is_multiple_of(2) {
         return None;

@@ -1,14 +1,24 @@
-use Rattle.std.proofs.Common.{length, arith, rules, sym}
-use Rattle.std.proofs.lemmas.List.Sums.{position_or_len_is}
-use Rattle.aprs_log.specs.Cut.{is_byte}
+use Rattle.std.proofs.Common.{arith, sym}
+use Rattle.aprs_log.proofs.BlockLemmas.{lacks_block, found_in_rest, found_within}
 use Rattle.aprs_log.proofs.cut.len_before.Goals as goal
 
-pub returns-then-b-stop : goal.returns-then-b-stop
-returns-then-b-stop c =
-    sym (position_or_len_is (is_byte c.args.stop) c.args.text.now c.loop-i.i 0 (omega arith)
-    c.loop-i.invariant (λ _. search rules))
+pub loop-start-preserved : goal.loop-start-preserved
+loop-start-preserved c =
+    let l = c.loop-start in
+    record {
+      within = omega arith;
+      lacks = lacks_block c.args.stop c.args.text.now l.start l.invariant.lacks 16 (omega arith)
+          (sym c.if-not-has_stop.ensures);
+    }
+
+pub overflow_add-result : goal.overflow_add-result
+overflow_add-result c =
+    let l = c.loop-start in
+    omega (arith, found_within c.args.stop c.args.text.now l.start l.invariant.lacks _
+        l.invariant.within c.len_in_rest.ensures)
 
 pub returns : goal.returns
 returns c =
-    sym (position_or_len_is (is_byte c.args.stop) c.args.text.now (length c.args.text.now) 0
-    (omega arith) (λ k h. c.loop-i.invariant k (omega arith)) (λ h. absurd (omega arith)))
+    let l = c.loop-start in
+    found_in_rest c.args.stop c.args.text.now l.start l.invariant.lacks _
+    l.invariant.within c.len_in_rest.ensures
