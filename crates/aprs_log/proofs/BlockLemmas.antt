@@ -1,5 +1,5 @@
 -- Lemmas on a byte that is looked for block by block.
-use Rattle.std.proofs.Common.{◌≡◌, ℕ, ◌+◌, ◌-◌, ◌<◌, ◌≤◌, Bool, true, false, ◌||◌, List, [], ◌∷◌, length, get_or, take, drop, ◌⊎◌, inl, inr, arith, sym, ap, ◌∙◌, length-drop, length-take, zero, suc, refl, not}
+use Rattle.std.proofs.Common.{◌≡◌, ℕ, ◌+◌, ◌-◌, ◌<◌, ◌≤◌, Bool, true, false, ◌||◌, List, [], ◌∷◌, length, get_or, take, drop, inl, inr, arith, sym, ap, ◌∙◌, length-drop, length-take, zero, suc, refl, not}
 use Rattle.std.specs.List.{list_any, position_or_len}
 use Rattle.std.proofs.lemmas.Bool.{cases_lt}
 use Rattle.std.proofs.lemmas.List.{get_or-drop, get_or-take, take_rest}
@@ -33,13 +33,13 @@ module _ (stop : ℕ) (text : List ℕ) (start : ℕ)
   lacks_block n within none k h = elim (cases_lt k start) [
     | inl lt ↦ lacks k lt
     | inr ge ↦
-      let m = start + n - start in
-      let i = k - start in
-      let low : i < m = omega arith in
-      let len : i < length (take m (drop start text)) = simp (length-take, length-drop) (omega arith) in
-      let there = none_of (is_byte stop) (take m (drop start text)) i none len in
-      let same = at_rest text start k ge ∙ sym (get_or-take m (drop start text) i 0 low) in
-      ap (is_byte stop) same ∙ there
+        let m = start + n - start in
+        let i = k - start in
+        let low : i < m = omega arith in
+        let len : i < length (take m (drop start text)) = simp (length-take, length-drop) (omega arith) in
+        let there = none_of (is_byte stop) (take m (drop start text)) i none len in
+        let same = at_rest text start k ge ∙ sym (get_or-take m (drop start text) i 0 low) in
+        ap (is_byte stop) same ∙ there
   ]
 
   -- the place in the rest
@@ -57,9 +57,9 @@ module _ (stop : ℕ) (text : List ℕ) (start : ℕ)
         | inr ge ↦ ap p (at_rest text start k ge) ∙ fails_before_first p rest (k - start) 0 (omega arith)
       ] in
       let here : start + n < length text → p (get_or text (start + n) 0) ≡ true = λ h.
-          let same : start + n - start ≡ position_or_len p rest = omega arith in
-          ap p (at_rest text start (start + n) (omega arith) ∙ ap (λ i. get_or rest i 0) same)
-          ∙ passes_at_first p rest 0 (omega arith) in
+      let same : start + n - start ≡ position_or_len p rest = omega arith in
+      ap p (at_rest text start (start + n) (omega arith) ∙ ap (λ i. get_or rest i 0) same)
+      ∙ passes_at_first p rest 0 (omega arith) in
       sym (position_or_len_is p text (start + n) 0 (omega arith) before here)
 
   pub found_within : (n : ℕ) → start ≤ length text

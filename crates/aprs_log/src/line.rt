@@ -1,5 +1,5 @@
 //! Lines of a log.
-ghost use Rattle.std.specs.Prelude.{◌≡◌, ◌≤◌, ◌*◌, ◌↔◌, length, IsOk};
+ghost use Rattle.std.specs.Prelude.{◌≡◌, ◌≤◌, ◌↔◌, length, IsOk};
 ghost use Rattle.hex.specs.Hex.{decode_of};
 ghost use Rattle.aprs_log.specs.Line.{line_of, line_of_bytes, LineSyntax};
 
@@ -14,9 +14,6 @@ pub const MAX_LINE: usize = 8192;
 
 /// The most bytes that the hexadecimal text of a line holds.
 const MAX_BYTES: usize = 4096;
-
-/// More bytes than most lines hold: room for them alone is made quickly.
-const USUAL_BYTES: usize = 256;
 
 /// What a sound line of a log tells.
 #[derive(PartialEq, Eq, Drop)]
@@ -66,24 +63,8 @@ fn read_bytes(moment: Moment, receiver: Receiver, digits: &[u8]) -> Result<Line,
     requires { length digits.now ≤ 8192 }
     ensures { result ≡ line_of_bytes moment receiver (decode_of digits.now) }
 {
-    if digits.len() <= 2 * USUAL_BYTES {
-        read_within(moment, receiver, digits, &mut [0; USUAL_BYTES])
-    } else {
-        read_within(moment, receiver, digits, &mut [0; MAX_BYTES])
-    }
-}
-
-/// The same, where there is room for the bytes.
-fn read_within(
-    moment: Moment,
-    receiver: Receiver,
-    digits: &[u8],
-    room: &mut [u8],
-) -> Result<Line, LineFault>
-    requires { length digits.now ≤ 2 * length room.old }
-    ensures { result ≡ line_of_bytes moment receiver (decode_of digits.now) }
-{
-    let Some(len) = decode_into(digits, room) else {
+    let mut room = [0; MAX_BYTES];
+    let Some(len) = decode_into(digits, &mut room) else {
         return Err(LineFault::Hex);
     };
     match frame_in(&room[..len]) {

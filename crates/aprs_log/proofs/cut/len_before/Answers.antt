@@ -14,8 +14,11 @@ loop-start-preserved c =
 pub overflow_add-result : goal.overflow_add-result
 overflow_add-result c =
     let l = c.loop-start in
-    omega (arith, found_within c.args.stop c.args.text.now l.start l.invariant.lacks _
-        l.invariant.within c.len_in_rest.ensures)
+    omega (
+      arith,
+      found_within c.args.stop c.args.text.now l.start l.invariant.lacks _
+          l.invariant.within c.len_in_rest.ensures,
+    )
 
 pub returns : goal.returns
 returns c =
