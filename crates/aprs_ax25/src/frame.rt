@@ -187,7 +187,7 @@ fn refused(hops: usize, info: usize) -> Option<MakeFault>
     }
 }
 
-/// Puts the address field at the end of nothing.
+/// Puts the address field into `out`, which is empty.
 fn push_field(out: &mut ArrayVec<u8, 328>, destination: &Callsign, source: &Callsign, hops: &[Hop])
     requires empty { out.old.items ≡ [] }
     requires few { length hops.now ≤ 8 }
