@@ -6,11 +6,14 @@ use Rattle.aprs_kiss.specs.Spelling.{kiss_text}
 use Rattle.aprs_kiss.specs.Stream.{rest_of, is_nonempty, judgements_of, EndsPiece}
 use Rattle.aprs_kiss.specs.Judgement.{Judgement}
 use Rattle.aprs_kiss.specs.Told.{told_by}
+use Rattle.std.specs.Borrow.{Bor}
+use Rattle.aprs_kiss.specs.declared.fault.PassFault.{PassFault}
 use Rattle.aprs_kiss.specs.declared.reader.Fed.{Fed}
 use Rattle.aprs_kiss.specs.declared.reader.Fed.TheVariants.{Nothing, Frame, Passed}
 use Rattle.aprs_ax25.specs.FrameFault.{frame_of}
 use Rattle.aprs_log.specs.Bytes.{has_other, StreamLaws, WrittenLaws}
 use Rattle.aprs_log.specs.Line.{frame_in, frame_or_reason, only_frame}
+use Rattle.aprs_log.specs.Fault.{reason_of_pass}
 use Rattle.aprs_log.specs.declared.fault.Reason.{Reason}
 use Rattle.aprs_log.specs.declared.fault.Reason.TheVariants as reason
 use Rattle.aprs_log.proofs.PieceLemmas.{ends_alone, rest_nil, tells_other}
@@ -130,12 +133,28 @@ module _ (laws : StreamLaws) (bytes : List ℕ) (n : ℕ) (e : false ≡ is_none
     fed_two (Frame port frame) f other = told_two _ f other
     fed_two (Passed fault) f other = told_two _ f other
 
-    pub fed_one : (fed : Fed) → FedOnce bytes n (told_by fed)
+    fed_one : (fed : Fed) → FedOnce bytes n (told_by fed)
         → false ≡ has_other (take (length bytes - n) (drop n bytes))
-        → only_frame (told_by fed) ≡ frame_in bytes
-    fed_one Nothing f alone = told_nothing f
-    fed_one (Frame port frame) f alone = told_one _ f alone
-    fed_one (Passed fault) f alone = told_one _ f alone
+        → frame_in bytes ≡ only_frame (told_by fed)
+    fed_one Nothing f alone = sym (told_nothing f)
+    fed_one (Frame port frame) f alone = sym (told_one _ f alone)
+    fed_one (Passed fault) f alone = sym (told_one _ f alone)
+
+    pub fed_nothing : (fed : Fed) → FedOnce bytes n (told_by fed)
+        → false ≡ has_other (take (length bytes - n) (drop n bytes)) → fed ≡ Nothing
+        → frame_in bytes ≡ Err reason.NoFrame
+    fed_nothing fed f alone is = fed_one fed f alone ∙ ap (λ x. only_frame (told_by x)) is
+
+    pub fed_passed : (fed : Fed) → FedOnce bytes n (told_by fed)
+        → false ≡ has_other (take (length bytes - n) (drop n bytes))
+        → (fault : PassFault) → fed ≡ Passed fault → frame_in bytes ≡ Err (reason_of_pass fault)
+    fed_passed fed f alone fault is = fed_one fed f alone ∙ ap (λ x. only_frame (told_by x)) is
+
+    pub fed_frame : (fed : Fed) → FedOnce bytes n (told_by fed)
+        → false ≡ has_other (take (length bytes - n) (drop n bytes))
+        → (port : ℕ) (frame : Bor (List ℕ)) → fed ≡ Frame port frame
+        → frame_in bytes ≡ frame_or_reason (frame_of frame.now)
+    fed_frame fed f alone port frame is = fed_one fed f alone ∙ ap (λ x. only_frame (told_by x)) is
 
 -- ---- what is written for a frame
 

@@ -6,8 +6,10 @@ ghost use Rattle.aprs_log.specs.Line.{line_of, line_of_bytes, LineSyntax};
 use crate::cut::cut_at;
 use crate::fault::{LineFault, Reason};
 use crate::hexadecimal::{MAX_BYTES, decode_into};
-use crate::line_bytes::frame_in;
+use crate::line_bytes::data_in;
 use crate::{Moment, Receiver, Reception};
+use aprs_ax25::Frame;
+use aprs_kiss::KissReader;
 
 /// The most bytes of a line, without its LF.
 pub const MAX_LINE: usize = 8192;
@@ -84,8 +86,13 @@ fn read_within(
     let Some(len) = decode_into(digits, room) else {
         return Err(LineFault::Hex);
     };
-    match frame_in(&room[..len]) {
+    let mut reader = KissReader::new();
+    let data = match data_in(&mut reader, &room[..len]) {
+        Ok(data) => data,
+        Err(reason) => return Ok(Line::Passed(reason)),
+    };
+    match Frame::read(data) {
         Ok(frame) => Ok(Line::Heard(Reception::new(moment, receiver, frame))),
-        Err(reason) => Ok(Line::Passed(reason)),
+        Err(fault) => Ok(Line::Passed(Reason::from(fault))),
     }
 }

@@ -1,12 +1,12 @@
 //! The frame in the bytes that a line holds.
-ghost use Rattle.std.specs.Prelude.{◌≡◌};
+ghost use Rattle.std.specs.Prelude.{◌≡◌, [], Err, MatchResult};
 ghost use Rattle.aprs_kiss.specs.Stream.{is_nonempty, rest_of};
-ghost use Rattle.aprs_kiss.specs.Told.{told_by};
+ghost use Rattle.aprs_kiss.specs.Reader.{StandsAfter};
+ghost use Rattle.aprs_ax25.specs.FrameFault.{frame_of};
 ghost use Rattle.aprs_log.specs.Bytes.{has_other, StreamLaws};
-ghost use Rattle.aprs_log.specs.Line.{frame_in, only_frame};
+ghost use Rattle.aprs_log.specs.Line.{frame_in, frame_or_reason};
 
 use crate::fault::Reason;
-use aprs_ax25::Frame;
 use aprs_kiss::{
     Fed, KissReader, a_stream_is_its_pieces, cuts_change_nothing, frame_ends_end_pieces,
 };
@@ -14,33 +14,25 @@ use aprs_kiss::{
 /// Stands before and after a frame.
 const FEND: u8 = 0xC0;
 
-/// The one frame that the bytes hold, or the first reason why they hold none.
-pub fn frame_in(bytes: &[u8]) -> Result<Frame, Reason>
-    ensures { result ≡ frame_in bytes.now }
+/// The one data frame that the bytes hold, which lies in the reader, or the first reason why they
+/// hold none. The reader is at the beginning of a stream.
+pub fn data_in<'r>(reader: &'r mut KissReader, bytes: &[u8]) -> Result<&'r [u8], Reason>
+    requires { StandsAfter reader.old [] }
+    ensures { MatchResult result (λ frame. frame_in bytes.now ≡ frame_or_reason (frame_of frame.now))
+        (λ reason. frame_in bytes.now ≡ Err reason) }
 {
     stream_laws();
     if is_unended(bytes) {
         return Err(Reason::Unended);
     }
-    let mut reader = KissReader::new();
     let (used, fed) = reader.feed(bytes);
     if has_other(&bytes[used..]) {
         return Err(Reason::TwoFrames);
     }
-    frame_told(fed)
-}
-
-/// The frame of the piece that a reader told of, or why it holds none.
-fn frame_told(fed: Fed<'_>) -> Result<Frame, Reason>
-    ensures { result ≡ only_frame (told_by fed.entry) }
-{
     match fed {
         Fed::Nothing => Err(Reason::NoFrame),
         Fed::Passed(fault) => Err(Reason::from(fault)),
-        Fed::Frame { port: _, frame } => match Frame::read(frame) {
-            Ok(frame) => Ok(frame),
-            Err(fault) => Err(Reason::from(fault)),
-        },
+        Fed::Frame { port: _, frame } => Ok(frame),
     }
 }
 

@@ -1,10 +1,10 @@
 //! Worked examples: moments, lines and logs.
 ghost use Rattle.std.specs.Prelude.{◌≤◌, Some, length};
 
-use crate::line_bytes::frame_in;
+use crate::line_bytes::data_in;
 use crate::*;
 use aprs_ax25::Frame;
-use aprs_kiss::Counted;
+use aprs_kiss::{Counted, KissReader};
 use std::io::{self, ErrorKind, Read};
 use std::test::Fail;
 
@@ -87,6 +87,13 @@ fn each_fault_of_a_line(rt: HostRuntime) -> Result<(), Fail> {
     );
     assert_eq!(rt; LogCause::Memory.name(), "Memory");
     Ok(())
+}
+
+/// The one frame that the bytes hold, or why they hold none.
+fn frame_in(bytes: &[u8]) -> Result<Frame, Reason> {
+    let mut reader = KissReader::new();
+    let data = data_in(&mut reader, bytes)?;
+    Frame::read(data).map_err(Reason::from)
 }
 
 /// The bytes between two frame ends, behind a type byte.
