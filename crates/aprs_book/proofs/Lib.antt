@@ -1,0 +1,4 @@
+-- Lemmas of the book.
+pub mod Names
+pub mod Places
+pub mod Taking
