@@ -133,7 +133,7 @@ bridge_done x rows i row next row' at at' r s after g made =
     let next_is : next ≡ s = at' ∙ rw add-one (get_here rows (suc i) s after next rest) in
     two_here rows i r s after row' g.here
     ∙ ap (λ t. take i rows ++ t ∷ after)
-      (made ∙ ap (λ t. combine (grown t x) next) row_is ∙ ap (λ t. combine (grown r x) t) next_is)
+    (made ∙ ap (λ t. combine (grown t x) next) row_is ∙ ap (λ t. combine (grown r x) t) next_is)
     ∙ sym g.inserts
 
 pub bridge_within : (x : Heard) (rows : List Row) (i : ℕ) (r s : Row) (after : List Row)

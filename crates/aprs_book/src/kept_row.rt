@@ -56,9 +56,7 @@ impl<A: Allocator + Copy> KeptRow<A> {
     {
         let moment = x.moment();
         match key_order(self.greatest.frame(), x.frame()) {
-            Ordering::Equal => {
-                moment_order(self.first, self.greatest.moment(), moment, moment)
-            }
+            Ordering::Equal => { moment_order(self.first, self.greatest.moment(), moment, moment) }
             unequal => unequal,
         }
     }

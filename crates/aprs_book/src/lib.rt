@@ -8,6 +8,8 @@ mod memory;
 mod place;
 mod receivers;
 mod row;
+#[cfg(test)]
+mod tests;
 
 pub use book::Book;
 pub use memory::Memory;

@@ -43,7 +43,11 @@ impl<'a> Model for Row<'a> {
 impl<'a> Row<'a> {
     /// The row of these parts.
     #[tactic(auto, unfolding(aprs_laws::specs::Key::key_of))]
-    pub(crate) fn shown(first: Moment, receivers: &'a [Receiver], greatest: &'a Reception) -> Row<'a>
+    pub(crate) fn shown(
+        first: Moment,
+        receivers: &'a [Receiver],
+        greatest: &'a Reception,
+    ) -> Row<'a>
         ensures { result ≡ record { first = first; receivers = receivers.now; greatest = greatest.now } }
     {
         let frame = greatest.frame();

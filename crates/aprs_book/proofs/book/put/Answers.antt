@@ -11,10 +11,10 @@ returns-in_err-grow-in-One-clause-in_place g c = λ p.
     let x = c.args.x.now in
     let found = c.in-One.ensures in
     let at =
-        subst (λ (rows : List Row). GrowsAt c.args.x.now rows c.in-One.i found.0 found.1)
-        c.as_slice.ensures.value found.2 in
+    subst (λ (rows : List Row). GrowsAt c.args.x.now rows c.in-One.i found.0 found.1)
+    c.as_slice.ensures.value found.2 in
     let listed =
-        grow_listed x c.args.rows.now.items _ _ c.index_mut-row.ensures.value found.0 found.1 at p in
+    grow_listed x c.args.rows.now.items _ _ c.index_mut-row.ensures.value found.0 found.1 at p in
     let no : false ≡ true = c.in_err-grow-in-One.ensures.listed listed in
     absurd (cc)
 
@@ -22,8 +22,8 @@ pub remove-requires : goal.remove-requires
 remove-requires g c =
     let found = c.in-Two.ensures in
     let at =
-        subst (λ (rows : List Row). BridgesAt c.args.x.now rows c.in-Two.i found.0 found.1 found.2)
-        c.as_slice.ensures.value found.3 in
+    subst (λ (rows : List Row). BridgesAt c.args.x.now rows c.in-Two.i found.0 found.1 found.2)
+    c.as_slice.ensures.value found.3 in
     let within : c.in-Two.i + 1 < length c.args.rows.now.items =
     bridge_within c.args.x.now c.args.rows.now.items _ found.0 found.1 found.2 at in
     omega (arith, c.args.rows.now.ok.0)
@@ -32,8 +32,8 @@ pub returns-in_ok-grow-in-One-clause-inserted : goal.returns-in_ok-grow-in-One-c
 returns-in_ok-grow-in-One-clause-inserted g c =
     let found = c.in-One.ensures in
     let at =
-        subst (λ (rows : List Row). GrowsAt c.args.x.now rows c.in-One.i found.0 found.1)
-        c.as_slice.ensures.value found.2 in
+    subst (λ (rows : List Row). GrowsAt c.args.x.now rows c.in-One.i found.0 found.1)
+    c.as_slice.ensures.value found.2 in
     grow_done c.args.x.now c.args.rows.now.items _ _ _ c.index_mut-row.ensures.value found.0 found.1
     at c.in_ok-grow-in-One.ensures.grown
 
@@ -41,8 +41,8 @@ pub returns-in_ok-row-in-Two-clause-inserted : goal.returns-in_ok-row-in-Two-cla
 returns-in_ok-row-in-Two-clause-inserted g c =
     let found = c.in-Two.ensures in
     let at =
-        subst (λ (rows : List Row). BridgesAt c.args.x.now rows c.in-Two.i found.0 found.1 found.2)
-        c.as_slice.ensures.value found.3 in
+    subst (λ (rows : List Row). BridgesAt c.args.x.now rows c.in-Two.i found.0 found.1 found.2)
+    c.as_slice.ensures.value found.3 in
     c.remove.ensures.items
     ∙ bridge_done c.args.x.now c.args.rows.now.items _ _ _ _ c.index.ensures c.index-in-Two.ensures
-      found.0 found.1 found.2 at c.in_ok-row-in-Two.ensures
+    found.0 found.1 found.2 at c.in_ok-row-in-Two.ensures

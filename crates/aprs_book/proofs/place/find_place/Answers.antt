@@ -13,9 +13,13 @@ returns-then-is_eq g c =
     let rows = c.args.rows.now in
     let at = here rows c.loop-i.i r (omega arith) c.index-rows-i.is in
     let next =
-        here rows (suc c.loop-i.i) s (omega arith) (rw (← add-one) c.index-rows-i-then-i-rows.is) in
-    (r, s, drop (suc (suc c.loop-i.i)) rows, two_at _ rows _ r s _ c.loop-i.invariant.0
-    c.loop-i.invariant.1 (at ∙ ap (λ t. r ∷ t) next) (search rules) (search rules))
+    here rows (suc c.loop-i.i) s (omega arith) (rw (← add-one) c.index-rows-i-then-i-rows.is) in (
+      r,
+      s,
+      drop (suc (suc c.loop-i.i)) rows,
+      two_at _ rows _ r s _ c.loop-i.invariant.0
+          c.loop-i.invariant.1 (at ∙ ap (λ t. r ∷ t) next) (search rules) (search rules),
+    )
 
 pub returns-in-Equal : goal.returns-in-Equal
 returns-in-Equal g c =
@@ -25,16 +29,19 @@ returns-in-Equal g c =
     let at = here rows c.loop-i.i r (omega arith) c.index-rows-i.is in
     let after = drop (suc c.loop-i.i) rows in
     let alone : (bridged gap_seconds x (grown r x) after ≡ grown r x ∷ after)
-        × (is_near_first gap_seconds x after ≡ false) =
+    × (is_near_first gap_seconds x after ≡ false) =
     elim c.else-i-rows.branch [
       | else-i-rows-via-then-i-rows+else-is_eq w ↦
           let s = w.index-rows-i-then-i-rows.result in
           let next =
-              here rows (suc c.loop-i.i) s (omega arith) (rw (← add-one) w.index-rows-i-then-i-rows.is) in
+          here rows (suc c.loop-i.i) s (omega arith) (rw (← add-one) w.index-rows-i-then-i-rows.is) in
           alone_next x _ s _ _ next
           (λ o. not_equal _ _ _ w.side-then-i-rows.ensures w.is_eq.ensures w.if-is_eq.false o)
       | else-i-rows-via-else-i-rows w ↦
           alone_end x _ _ (drop_all (suc c.loop-i.i) rows (omega arith))
-    ] in
-    (r, after, one_at _ rows _ r after c.loop-i.invariant.0 c.loop-i.invariant.1 at (search rules)
-    alone.0 alone.1)
+    ] in (
+      r,
+      after,
+      one_at _ rows _ r after c.loop-i.invariant.0 c.loop-i.invariant.1 at (search rules)
+          alone.0 alone.1,
+    )

@@ -6,7 +6,7 @@ use Rattle.aprs_book.proofs.receivers.merge_onto.Given as goal
 abbrev pub invariant-loop-i : goal.invariant-loop-i
 invariant-loop-i g l =
     (l.initial.names.items ++ merged bytes_cmp l.ours l.theirs
-        ≡ l.names.items ++ merged bytes_cmp (drop l.i l.ours) (drop l.j l.theirs))
+    ≡ l.names.items ++ merged bytes_cmp (drop l.i l.ours) (drop l.j l.theirs))
     × (vec_len l.names + (length l.ours - l.i) + (length l.theirs - l.j) ≤ vec_capacity l.names)
     × (l.i ≤ length l.ours)
     × (l.j ≤ length l.theirs)
