@@ -1,5 +1,5 @@
 -- Where a reception goes in the rows.
-use Rattle.std.proofs.Common.{Bool, ◌≡◌, ℕ, suc, ◌+◌, ◌<◌, ◌≤◌, List, [], ◌∷◌, ◌++◌, true, false, length, take, drop, get_or, slice_set, refl, sym, ap, arith, ◌∙◌, append_assoc, add-one, length-drop, drop-cons}
+use Rattle.std.proofs.Common.{Bool, ◌≡◌, ℕ, suc, ◌+◌, ◌<◌, ◌≤◌, List, [], ◌∷◌, ◌++◌, true, false, length, take, drop, get_or, slice_set, refl, sym, ap, subst, inl, inr, arith, ◌∙◌, append_assoc, add-one, length-drop, drop-cons}
 use Rattle.std.proofs.Math.Bool.{and-false, and-true}
 use Rattle.std.proofs.lemmas.List.{set_split, take_more_set, drop-set-lt}
 use Rattle.std.specs.List.{remove}
@@ -7,10 +7,12 @@ use Rattle.std.specs.Ordering.{is_eq}
 use Rattle.std.specs.declared.cmp.Ordering.{Ordering}
 use Rattle.std.specs.declared.cmp.Ordering.TheVariants.{Less, Equal, Greater}
 use Rattle.aprs_log.specs.Reception.{Heard, bytes_cmp}
+use Rattle.aprs_laws.specs.Lists.{◌∈◌}
 use Rattle.aprs_laws.specs.Gap.{gap_seconds}
 use Rattle.aprs_laws.specs.Row.{Row}
-use Rattle.aprs_laws.specs.JoinRow.{add, single, combine}
+use Rattle.aprs_laws.specs.JoinRow.{single, combine}
 use Rattle.aprs_laws.specs.Inserted.{side, grown, bridged, inserted, is_listed, is_near_first, fits_in_place}
+use Rattle.aprs_book.proofs.Names.{same_bytes}
 use Rattle.aprs_book.specs.Places.{IsNewAt, GrowsAt, BridgesAt}
 
 -- cases on an ordering, with the equation
@@ -53,13 +55,13 @@ here xs i x h e = let c = drop-cons xs i x h in cc
 
 -- ---- what is near
 
-pub listed_stays : (x : List ℕ) (ys : List (List ℕ)) → is_listed x ys ≡ true → add bytes_cmp x ys ≡ ys
-listed_stays x [] e = absurd (cc)
-listed_stays x (y ∷ ys) e =
+pub is_member : (x : List ℕ) (ys : List (List ℕ)) → is_listed x ys ≡ true → x ∈ ys
+is_member x [] e = absurd (cc)
+is_member x (y ∷ ys) e =
     by_order (bytes_cmp x y)
     (λ o. absurd (let f : false ≡ true = rw o at e in cc))
-    (λ o. rw o)
-    (λ o. rw o (ap (λ t. y ∷ t) (listed_stays x ys (rw o at e))))
+    (λ o. inl (sym (same_bytes x y o)))
+    (λ o. inr (is_member x ys (rw o at e)))
 
 pub two_at : (x : Heard) (rows : List Row) (i : ℕ) (r s : Row) (after : List Row)
     → inserted gap_seconds x rows ≡ take i rows ++ inserted gap_seconds x (drop i rows)
@@ -109,11 +111,11 @@ not_equal o p b e t f q = absurd (let g : true ≡ false = sym (t ∙ ap is_eq (
 
 pub grow_listed : (x : Heard) (rows : List Row) (i : ℕ) (row : Row) → row ≡ get_or rows i row
     → (r : Row) (after : List Row) → GrowsAt x rows i r after → fits_in_place gap_seconds x rows ≡ true
-    → add bytes_cmp x.receiver row.receivers ≡ row.receivers
+    → x.receiver ∈ row.receivers
 grow_listed x rows i row at r after g p =
     let row_is : row ≡ r = at ∙ get_here rows i r after row g.here in
-    let listed = listed_stays x.receiver r.receivers (sym g.in_place ∙ p) in
-    rw row_is listed
+    subst (λ (t : Row). x.receiver ∈ t.receivers) (sym row_is)
+    (is_member x.receiver r.receivers (sym g.in_place ∙ p))
 
 pub grow_done : (x : Heard) (rows : List Row) (i : ℕ) (row row' : Row) → row ≡ get_or rows i row
     → (r : Row) (after : List Row) → GrowsAt x rows i r after → row' ≡ grown row x

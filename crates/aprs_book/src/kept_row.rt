@@ -2,11 +2,11 @@
 ghost use Rattle.std.specs.Prelude.{min, ◌≡◌, ◌↔◌, IsTrue, ◌+◌, ◌≤◌, if◌then◌else◌, nat_lt, IsOk, IfOk, OnOk, OnErr};
 ghost use Rattle.std.specs.Ordering.{ordering_then};
 ghost use Rattle.std.specs.declared.cmp.Ordering.TheVariants.{Less, Equal, Greater};
-ghost use Rattle.aprs_log.specs.Reception.{bytes_cmp};
+ghost use Rattle.aprs_laws.specs.Lists.{◌∈◌};
 ghost use Rattle.aprs_laws.specs.Gap.{gap_seconds};
 ghost use Rattle.aprs_laws.specs.Key.{key_of, key_cmp};
 ghost use Rattle.aprs_laws.specs.Row.{row_key};
-ghost use Rattle.aprs_laws.specs.JoinRow.{add, single, combine};
+ghost use Rattle.aprs_laws.specs.JoinRow.{single, combine};
 ghost use Rattle.aprs_laws.specs.Inserted.{side, grown};
 
 use crate::greatest::{copied, keep_greater};
@@ -65,7 +65,7 @@ impl<A: Allocator + Copy> KeptRow<A> {
     pub(crate) fn grow(&mut self, x: &Reception) -> Result<(), Memory>
         ensures grown { OnOk result (self.new ≡ grown self.old x.now) }
         ensures unchanged { OnErr result (self.new ≡ self.old) }
-        ensures listed { add bytes_cmp x.now.receiver self.old.receivers ≡ self.old.receivers → IsOk result }
+        ensures listed { x.now.receiver ∈ self.old.receivers → IsOk result }
     {
         self.receivers.add(x.receiver())?;
         self.first = earlier(self.first, x.moment());

@@ -1,7 +1,7 @@
 //! Names of receivers in ascending order.
 ghost use Rattle.std.specs.Prelude.{◌≡◌, ℕ, ◌+◌, ◌≤◌, List, [], ◌++◌, length, insert, IsOk, OnOk, OnErr, IfOk, MatchResult, vec_len, vec_capacity};
 ghost use Rattle.aprs_log.specs.Reception.{bytes_cmp};
-ghost use Rattle.aprs_laws.specs.Lists.{Ordered};
+ghost use Rattle.aprs_laws.specs.Lists.{◌∈◌, Ordered};
 ghost use Rattle.aprs_laws.specs.Order.{IsBelow};
 ghost use Rattle.aprs_laws.specs.JoinRow.{add, union};
 ghost use Rattle.aprs_laws.specs.Merged.{merged};
@@ -49,7 +49,7 @@ impl<A: Allocator + Copy> Receivers<A> {
     pub fn add(&mut self, name: &Receiver) -> Result<(), Memory>
         ensures added { OnOk result (self.new ≡ add bytes_cmp name.now self.old) }
         ensures unchanged { OnErr result (self.new ≡ self.old) }
-        ensures listed { add bytes_cmp name.now self.old ≡ self.old → IsOk result }
+        ensures listed { name.now ∈ self.old → IsOk result }
     {
         match search(self.names.as_slice(), name) {
             Ok(_) => Ok(()),
