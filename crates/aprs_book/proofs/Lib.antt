@@ -2,3 +2,5 @@
 pub mod Names
 pub mod Places
 pub mod Taking
+pub mod Pushes
+pub mod Replays

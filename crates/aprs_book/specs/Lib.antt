@@ -2,6 +2,8 @@
 pub mod Shown
 pub mod Places
 pub mod Taking
+pub mod Pushed
+pub mod Replay
 -- what public clauses cite of lower crates
 pub use Rattle.aprs_log.specs.Reception
 pub use Rattle.aprs_laws.specs.Lists
@@ -13,3 +15,5 @@ pub use Rattle.aprs_laws.specs.Book
 pub use Rattle.aprs_laws.specs.Sound
 pub use Rattle.aprs_laws.specs.JoinRow
 pub use Rattle.aprs_laws.specs.Inserted
+pub use Rattle.aprs_laws.specs.Joining
+pub use Rattle.aprs_laws.specs.Taken

@@ -1,14 +1,18 @@
 //! The book.
-ghost use Rattle.std.specs.Prelude.{◌≡◌, ◌↔◌, List, [], length, true, IsTrue, IsOk, OnOk, OnErr};
+ghost use Rattle.std.specs.Prelude.{◌≡◌, ◌↔◌, [], length, true, IsTrue, IsOk, IfOk, OnOk, OnErr};
 ghost use Rattle.aprs_laws.specs.Gap.{gap_seconds};
 ghost use Rattle.aprs_laws.specs.Book.{BookOf};
 ghost use Rattle.aprs_laws.specs.Sound.{Sound};
 ghost use Rattle.aprs_laws.specs.Inserted.{inserted, FitsInPlace, fits_in_place};
-ghost use Rattle.aprs_book.specs.Taking.{TakesIn};
+ghost use Rattle.std.proofs.Common.{lit<};
+ghost use Rattle.aprs_laws.specs.Joining.{Joined};
+ghost use Rattle.aprs_laws.proofs.Joins.{book_laws};
+ghost use Rattle.aprs_book.specs.Taking.{TakesIn, MergesInto};
 
 use crate::kept_row::KeptRow;
+use crate::merging::merged_rows;
 use crate::place::{Place, find_place};
-use crate::{Memory, Rows};
+use crate::{Join, Memory, Rows};
 use aprs_log::Reception;
 use std::alloc::{Allocator, Global};
 use std::marker::Model;
@@ -71,11 +75,38 @@ impl<A: Allocator + Copy> Book<A> {
         put(&mut self.rows, x)
     }
 
+    /// The book of both sets together, in one pass over the rows of both. Both stay as they are.
+    pub fn merge(&self, other: &Book<A>) -> Result<Book<A>, Memory>
+        ensures joined { IfOk result (Joined gap_seconds self.now other.now) }
+        ensures book { IfOk result (MergesInto self.now other.now) }
+        ensures sound { Sound gap_seconds self.now }
+        ensures sound_other { Sound gap_seconds other.now }
+    {
+        let rows = merged_rows(
+            *self.rows.allocator(),
+            self.rows.as_slice(),
+            other.rows.as_slice(),
+        )?;
+        Ok(Book { rows })
+    }
+
     /// Whether both have the same rows. Takes no memory.
     pub fn same(&self, other: &Book<A>) -> bool
         ensures { IsTrue result ↔ (self.now ≡ other.now) }
     {
         same_rows(self.rows.as_slice(), other.rows.as_slice())
+    }
+}
+
+impl<A: Allocator + Copy> Join for Book<A> {
+    ghost valid = { Sound gap_seconds };
+
+    ghost joined = { Joined gap_seconds };
+
+    ghost laws = { book_laws gap_seconds (lit< tt) };
+
+    fn join(&self, other: &Book<A>) -> Result<Book<A>, Memory> {
+        self.merge(other)
     }
 }
 

@@ -5,8 +5,8 @@ ghost use Rattle.std.specs.declared.cmp.Ordering.TheVariants.{Less, Equal, Great
 ghost use Rattle.aprs_laws.specs.Lists.{◌∈◌};
 ghost use Rattle.aprs_laws.specs.Gap.{gap_seconds};
 ghost use Rattle.aprs_laws.specs.Key.{key_of, key_cmp};
-ghost use Rattle.aprs_laws.specs.Row.{row_key};
-ghost use Rattle.aprs_laws.specs.JoinRow.{single, combine};
+ghost use Rattle.aprs_laws.specs.Row.{row_cmp};
+ghost use Rattle.aprs_laws.specs.JoinRow.{single, combine, place};
 ghost use Rattle.aprs_laws.specs.Inserted.{side, grown};
 
 use crate::greatest::{copied, keep_greater};
@@ -61,6 +61,31 @@ impl<A: Allocator + Copy> KeptRow<A> {
         }
     }
 
+    /// Where this row lies, seen from another: before it, near to it, or after it.
+    pub(crate) fn place(&self, other: &KeptRow<A>) -> Ordering
+        ensures { result ≡ place gap_seconds self.now other.now }
+    {
+        match key_order(self.greatest.frame(), other.greatest.frame()) {
+            Ordering::Equal => moment_order(
+                self.first,
+                self.greatest.moment(),
+                other.first,
+                other.greatest.moment(),
+            ),
+            unequal => unequal,
+        }
+    }
+
+    /// The order of rows in a book.
+    pub(crate) fn order(&self, other: &KeptRow<A>) -> Ordering
+        ensures { result ≡ row_cmp self.now other.now }
+    {
+        match key_order(self.greatest.frame(), other.greatest.frame()) {
+            Ordering::Equal => self.first.cmp(&other.first),
+            unequal => unequal,
+        }
+    }
+
     /// Adds a reception that is near. Where its receiver is listed, that takes no memory.
     pub(crate) fn grow(&mut self, x: &Reception) -> Result<(), Memory>
         ensures grown { OnOk result (self.new ≡ grown self.old x.now) }
@@ -71,6 +96,28 @@ impl<A: Allocator + Copy> KeptRow<A> {
         self.first = earlier(self.first, x.moment());
         keep_greater(&mut self.greatest, x);
         Ok(())
+    }
+
+    /// Makes one row of this and a near one.
+    pub(crate) fn absorb(&mut self, other: &KeptRow<A>) -> Result<(), Memory>
+        ensures { OnOk result (self.new ≡ combine self.old other.now) }
+    {
+        let receivers = self.receivers.unite(&other.receivers)?;
+        self.receivers = receivers;
+        self.first = earlier(self.first, other.first);
+        keep_greater(&mut self.greatest, &other.greatest);
+        Ok(())
+    }
+
+    /// The same row again.
+    pub(crate) fn duplicate(&self) -> Result<KeptRow<A>, Memory>
+        ensures { IfOk result (λ copy. copy ≡ self.now) }
+    {
+        Ok(KeptRow {
+            first: self.first,
+            receivers: self.receivers.duplicate()?,
+            greatest: copied(&self.greatest),
+        })
     }
 
     /// This row with a reception that is near, and the next row, to which that is near too, as one.

@@ -5,8 +5,11 @@ ghost use Rattle.aprs_laws.specs.Lists.{◌∈◌, Ordered};
 ghost use Rattle.aprs_laws.specs.Order.{IsBelow};
 ghost use Rattle.aprs_laws.specs.JoinRow.{add, union};
 ghost use Rattle.aprs_laws.specs.Merged.{merged};
+ghost use Rattle.aprs_laws.specs.Joining.{IsUnited};
+ghost use Rattle.aprs_laws.proofs.Orders.{bytes_total, bytes_exact};
+ghost use Rattle.aprs_laws.proofs.Joins.{receivers_laws};
 
-use crate::Memory;
+use crate::{Join, Memory};
 use aprs_log::Receiver;
 use std::alloc::{Allocator, Global};
 use std::cmp::Ordering;
@@ -64,7 +67,10 @@ impl<A: Allocator + Copy> Receivers<A> {
 
     /// The names of both.
     pub(crate) fn unite(&self, other: &Receivers<A>) -> Result<Receivers<A>, Memory>
-        ensures { IfOk result (λ both. both ≡ union bytes_cmp self.now other.now) }
+        ensures union { IfOk result (λ both. both ≡ union bytes_cmp self.now other.now) }
+        ensures joined { IfOk result (IsUnited bytes_cmp self.now other.now) }
+        ensures ascending { Ordered (IsBelow bytes_cmp) self.now }
+        ensures ascending_other { Ordered (IsBelow bytes_cmp) other.now }
     {
         let ours = self.names.as_slice();
         let theirs = other.names.as_slice();
@@ -86,6 +92,18 @@ impl<A: Allocator + Copy> Receivers<A> {
         }
         copy_onto(&mut names, self.names.as_slice());
         Ok(Receivers { names })
+    }
+}
+
+impl<A: Allocator + Copy> Join for Receivers<A> {
+    ghost valid = { Ordered (IsBelow bytes_cmp) };
+
+    ghost joined = { IsUnited bytes_cmp };
+
+    ghost laws = { receivers_laws bytes_total bytes_exact };
+
+    fn join(&self, other: &Receivers<A>) -> Result<Receivers<A>, Memory> {
+        self.unite(other)
     }
 }
 

@@ -18,6 +18,6 @@ pub returns-then-is_err-clause-listed : goal.returns-then-is_err-clause-listed
 returns-then-is_err-clause-listed g c = λ h.
     let name = c.args.name.now in
     let found = subst (λ (ys : List (List ℕ)). (c.in-Err.i ≤ length ys)
-        × (add bytes_cmp name ys ≡ insert ys c.in-Err.i name)) c.as_slice.ensures.value c.in-Err.ensures in
+    × (add bytes_cmp name ys ≡ insert ys c.in-Err.i name)) c.as_slice.ensures.value c.in-Err.ensures in
     absurd (listed_is_there name c.self.inside.names.items c.in-Err.i c.self.invariant
     (subst (λ (ys : List (List ℕ)). name ∈ ys) (sym c.self.view_is) h) found.0 found.1)
