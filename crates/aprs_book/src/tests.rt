@@ -1,6 +1,6 @@
 //! Worked examples of rows, and growths refused.
 
-use crate::{Book, Receivers};
+use crate::{Book, Greatest, Join, Receivers, Step, join_all, replay, steps_fit};
 use aprs_ax25::Frame;
 use aprs_log::{Moment, Receiver, Reception};
 use linked_list_allocator::LocalHeap;
@@ -174,5 +174,87 @@ fn refused_growths_change_nothing(rt: HostRuntime) -> Result<(), Fail> {
         }
     }
     assert!(rt; refused > 4);
+    Ok(())
+}
+
+/// A book of receptions by one receiver at these seconds.
+fn book_by(alloc: Global, name: &[u8], seconds: &[u64]) -> Result<Book, Fail> {
+    let mut book = Book::new(alloc);
+    for second in seconds {
+        let x = heard(*second, name, &DIRECT)?;
+        book.take(&x).ok().ok_or("memory")?;
+    }
+    Ok(book)
+}
+
+#[test]
+fn two_rows_bridge_three(rt: HostRuntime) -> Result<(), Fail> {
+    let alloc = rt.alloc();
+    let three = book_by(alloc, b"RX1", &[0, 60, 120])?;
+    let two = book_by(alloc, b"RX2", &[30, 90])?;
+    let both = three.merge(&two).ok().ok_or("memory")?;
+    let turned = two.merge(&three).ok().ok_or("memory")?;
+    assert!(rt; both.same(&turned));
+    let text = shown(alloc, &both)?;
+    assert_eq!(rt; text.as_str(), "0-120 RX1 RX2 / RX1 6f; ");
+    assert_eq!(rt; three.len(), 3);
+    assert_eq!(rt; two.len(), 2);
+    Ok(())
+}
+
+#[test]
+fn replays_end_in_equal_books(rt: HostRuntime) -> Result<(), Fail> {
+    let alloc = rt.alloc();
+    let steps = [
+        Step::Take(0, heard(0, b"RX1", &DIRECT)?),
+        Step::Take(1, heard(20, b"RX2", &DIRECT)?),
+        Step::Merge(0, 1),
+        Step::Merge(1, 0),
+        Step::Merge(0, 0),
+    ];
+    if !steps_fit(2, &steps) {
+        return Err("places".into());
+    }
+    let books = replay(alloc, 2, &steps).ok().ok_or("memory")?;
+    assert_eq!(rt; books.len(), 2);
+    assert!(rt; books[0].same(&books[1]));
+    let text = shown(alloc, &books[0])?;
+    assert_eq!(rt; text.as_str(), "0-20 RX1 RX2 / RX2 6f; ");
+    let all = join_all(&books[0], &books).ok().ok_or("memory")?;
+    assert!(rt; all.same(&books[0]));
+    let alone = join_all(&books[0], &[]).ok().ok_or("memory")?;
+    assert!(rt; alone.same(&books[0]));
+    assert!(rt; !steps_fit(2, &[Step::Merge(0, 2)]));
+    Ok(())
+}
+
+#[test]
+fn orders_and_repeats_do_not_matter(rt: HostRuntime) -> Result<(), Fail> {
+    let alloc = rt.alloc();
+    let a = book_by(alloc, b"RX1", &[0])?;
+    let b = book_by(alloc, b"RX2", &[3000])?;
+    let c = book_by(alloc, b"RX2", &[30])?;
+    let ab = a.merge(&b).ok().ok_or("memory")?;
+    let want = join_all(&a, &[c, b, ab]).ok().ok_or("memory")?;
+    let text = shown(alloc, &want)?;
+    assert_eq!(rt;
+        text.as_str(),
+        "0-30 RX1 RX2 / RX2 6f; 3000-3000 RX2 / RX2 6f; "
+    );
+    Ok(())
+}
+
+#[test]
+fn greatest_receptions_join(rt: HostRuntime) -> Result<(), Fail> {
+    let first = Greatest::new(&heard(0, b"RX1", &DIRECT)?);
+    let second = Greatest::new(&heard(0, b"RX2", &REPEATED)?);
+    let third = Greatest::new(&heard(0, b"RX1", &REPEATED)?);
+    let all = join_all(&first, &[second, third]).ok().ok_or("memory")?;
+    assert!(rt; *all.get() == heard(0, b"RX2", &REPEATED)?);
+    let mut names = Receivers::new(rt.alloc());
+    let name = receiver(b"RX1")?;
+    names.add(&name).ok().ok_or("memory")?;
+    let twice = names.join(&names).ok().ok_or("memory")?;
+    assert_eq!(rt; twice.as_slice().len(), 1);
     Ok(())
 }
