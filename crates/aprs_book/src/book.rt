@@ -1,0 +1,152 @@
+//! The book.
+ghost use Rattle.std.specs.Prelude.{◌≡◌, ◌↔◌, [], length, true, IsTrue, IsOk, IfOk, OnOk, OnErr};
+ghost use Rattle.aprs_laws.specs.Gap.{gap_seconds};
+ghost use Rattle.aprs_laws.specs.Book.{BookOf};
+ghost use Rattle.aprs_laws.specs.Sound.{Sound};
+ghost use Rattle.aprs_laws.specs.Inserted.{inserted, FitsInPlace, fits_in_place};
+ghost use Rattle.std.proofs.Common.{lit<};
+ghost use Rattle.aprs_laws.specs.Joining.{Joined};
+ghost use Rattle.aprs_laws.proofs.Joins.{book_laws};
+ghost use Rattle.aprs_book.specs.Taking.{TakesIn, MergesInto};
+
+use crate::kept_row::KeptRow;
+use crate::merging::merged_rows;
+use crate::place::{Place, find_place};
+use crate::{Join, Memory, Rows};
+use aprs_log::Reception;
+use std::alloc::{Allocator, Global};
+use std::marker::Model;
+
+/// The book of a set of receptions: one row for each transmission, ascending by key (source,
+/// destination, information), then first moment. Receptions of one key whose neighbours are at most
+/// 30 seconds apart are one transmission.
+#[derive(Drop)]
+pub struct Book<A: Allocator = Global> {
+    rows: Vec<KeptRow<A>, A>,
+}
+
+impl<A: Allocator> Model for Book<A> {
+    ghost use Rattle.std.specs.Prelude.{List};
+    ghost use Rattle.aprs_laws.specs.Row.{Row as RowValue};
+    ghost use Rattle.aprs_laws.specs.Gap.{gap_seconds};
+    ghost use Rattle.aprs_laws.specs.Sound.{Sound};
+
+    ghost Value = { List RowValue };
+
+    ghost view = { λ b. b.rows.items };
+
+    ghost invariant = { λ b. Sound gap_seconds b.rows.items };
+}
+
+impl<A: Allocator + Copy> Book<A> {
+    /// The book of no receptions. Takes no memory.
+    pub fn new(alloc: A) -> Book<A>
+        ensures rows { result ≡ [] }
+        ensures book { BookOf gap_seconds [] result }
+    {
+        Book {
+            rows: Vec::new(alloc),
+        }
+    }
+
+    /// The number of rows. Takes no memory.
+    pub fn len(&self) -> usize
+        ensures { result ≡ length self.now }
+    {
+        self.rows.len()
+    }
+
+    /// The rows in order. Takes no memory, nor does their walk.
+    pub fn rows(&self) -> Rows<'_, A>
+        ensures rows { result ≡ self.now }
+        ensures sound { Sound gap_seconds self.now }
+    {
+        Rows::of(self.rows.as_slice())
+    }
+
+    /// Adds a reception: the book of a set becomes the book of that set and the reception. Takes no
+    /// memory where exactly one row of its key is at most 30 seconds from its moment (a moment between
+    /// first and last counts) and lists its receiver. After `Memory` the book is as before.
+    pub fn take(&mut self, x: &Reception) -> Result<(), Memory>
+        ensures taken { OnOk result (TakesIn self.old x.now self.new) }
+        ensures unchanged { OnErr result (self.new ≡ self.old) }
+        ensures in_place { FitsInPlace gap_seconds self.old x.now → IsOk result }
+    {
+        put(&mut self.rows, x)
+    }
+
+    /// The book of both sets together, in one pass over the rows of both. Both stay as they are.
+    pub fn merge(&self, other: &Book<A>) -> Result<Book<A>, Memory>
+        ensures joined { IfOk result (Joined gap_seconds self.now other.now) }
+        ensures book { IfOk result (MergesInto self.now other.now) }
+        ensures sound { Sound gap_seconds self.now }
+        ensures sound_other { Sound gap_seconds other.now }
+    {
+        let rows = merged_rows(
+            *self.rows.allocator(),
+            self.rows.as_slice(),
+            other.rows.as_slice(),
+        )?;
+        Ok(Book { rows })
+    }
+
+    /// Whether both have the same rows. Takes no memory.
+    pub fn same(&self, other: &Book<A>) -> bool
+        ensures { IsTrue result ↔ (self.now ≡ other.now) }
+    {
+        same_rows(self.rows.as_slice(), other.rows.as_slice())
+    }
+}
+
+impl<A: Allocator + Copy> Join for Book<A> {
+    ghost valid = { Sound gap_seconds };
+
+    ghost joined = { Joined gap_seconds };
+
+    ghost laws = { book_laws gap_seconds (lit< tt) };
+
+    fn join(&self, other: &Book<A>) -> Result<Book<A>, Memory> {
+        self.merge(other)
+    }
+}
+
+/// Adds a reception to the rows. What needs memory is made before the first change.
+fn put<A: Allocator + Copy>(rows: &mut Vec<KeptRow<A>, A>, x: &Reception) -> Result<(), Memory>
+    ensures inserted { OnOk result (rows.new.items ≡ inserted gap_seconds x.now rows.old.items) }
+    ensures unchanged { OnErr result (rows.new.items ≡ rows.old.items) }
+    ensures in_place { fits_in_place gap_seconds x.now rows.old.items ≡ true → IsOk result }
+{
+    match find_place(rows.as_slice(), x) {
+        Place::New(i) => {
+            let row = KeptRow::single(*rows.allocator(), x)?;
+            if rows.insert(i, row).is_err() {
+                return Err(Memory);
+            }
+        }
+        Place::One(i) => {
+            let row = &mut rows[i];
+            row.grow(x)?;
+        }
+        Place::Two(i) => {
+            let row = rows[i].bridge(x, &rows[i + 1])?;
+            rows[i] = row;
+            rows.remove(i + 1);
+        }
+    }
+    Ok(())
+}
+
+/// Whether the rows are the same.
+fn same_rows<A: Allocator + Copy>(ours: &[KeptRow<A>], theirs: &[KeptRow<A>]) -> bool
+    ensures { IsTrue result ↔ (ours.now ≡ theirs.now) }
+{
+    if ours.len() != theirs.len() {
+        return false;
+    }
+    for i in 0..ours.len() {
+        if !ours[i].equals(&theirs[i]) {
+            return false;
+        }
+    }
+    true
+}
