@@ -14,9 +14,6 @@ use aprs_kiss::KissReader;
 /// The most bytes of a line, without its LF.
 pub const MAX_LINE: usize = 8192;
 
-/// Room for the bytes of most lines.
-const FEW_BYTES: usize = 512;
-
 /// What a sound line of a log tells.
 #[derive(PartialEq, Eq, Drop)]
 pub enum Line {
@@ -35,11 +32,12 @@ pub fn read_line(line: &[u8]) -> Result<Line, LineFault>
     // Whatever the bytes are, a line of this syntax is not refused.
     ensures sound { IsOk result ↔ ((length line.now ≤ 8192) × LineSyntax line.now) }
 {
-    read_fields(line)
+    read_fields(line, &mut [0; MAX_BYTES])
 }
 
-/// The same, field by field.
-fn read_fields(line: &[u8]) -> Result<Line, LineFault>
+/// The same, field by field, where `room` is for the bytes.
+pub(crate) fn read_fields(line: &[u8], room: &mut [u8]) -> Result<Line, LineFault>
+    requires { 8192 ≤ 2 * length room.old }
     ensures { result ≡ line_of line.now }
 {
     if line.len() > MAX_LINE {
@@ -57,23 +55,10 @@ fn read_fields(line: &[u8]) -> Result<Line, LineFault>
     let Some(receiver) = Receiver::parse(receiver) else {
         return Err(LineFault::Receiver);
     };
-    read_bytes(moment, receiver, digits)
+    read_within(moment, receiver, digits, room)
 }
 
-/// The line of a moment, a receiver and the bytes that the receiver gave.
-fn read_bytes(moment: Moment, receiver: Receiver, digits: &[u8]) -> Result<Line, LineFault>
-    requires { length digits.now ≤ 8192 }
-    ensures { result ≡ line_of_bytes moment receiver (decode_of digits.now) }
-{
-    // Most lines are short, and clearing the room takes its time.
-    if digits.len() <= 2 * FEW_BYTES {
-        read_within(moment, receiver, digits, &mut [0; FEW_BYTES])
-    } else {
-        read_within(moment, receiver, digits, &mut [0; MAX_BYTES])
-    }
-}
-
-/// The same, where `room` is for the bytes.
+/// The line of a moment, a receiver and the bytes that the receiver gave, for which `room` is.
 fn read_within(
     moment: Moment,
     receiver: Receiver,

@@ -6,6 +6,7 @@ ghost use Rattle.aprs_log.specs.Window.{items};
 use crate::ending::{Ending, State, refuse_tail};
 use crate::fault::{LogCause, LogFault};
 use crate::line::{Line, MAX_LINE};
+use crate::hexadecimal::MAX_BYTES;
 use crate::refill::{read_more, take_line};
 use crate::window::Window;
 use aprs_kiss::Counted;
@@ -17,6 +18,7 @@ use std::io::Read;
 pub struct LogReader<'a, R> {
     source: &'a mut Counted<R>,
     window: Window,
+    room: [u8; MAX_BYTES],
     left: u64,
     line: u64,
     state: State,
@@ -59,6 +61,7 @@ impl<'a, R: Read> LogReader<'a, R> {
         LogReader {
             source,
             window: Window::new(head),
+            room: [0; MAX_BYTES],
             left: limit - head.len() as u64,
             line: 0,
             state: State::Reading,
@@ -138,7 +141,7 @@ impl<'a, R: Read> LogReader<'a, R> {
         ensures read { IfNone result (self.new.state ≡ State.Failed LogCause.Read
             → Rose (failures_of (source_of self.old)) (failures_of (source_of self.new))) }
     {
-        match take_line(&mut self.window) {
+        match take_line(&mut self.window, &mut self.room) {
             Some(Ok(line)) => {
                 self.line += 1;
                 Some(line)

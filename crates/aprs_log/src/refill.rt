@@ -1,5 +1,5 @@
 //! Lines out of a window, and bytes into it.
-ghost use Rattle.std.specs.Prelude.{◌≡◌, ◌+◌, ◌<◌, ◌≤◌, ℕ, List, ◌++◌, length, None, Some, IfOk, IfErr, IfNone, IfSome};
+ghost use Rattle.std.specs.Prelude.{◌≡◌, ◌+◌, ◌*◌, ◌<◌, ◌≤◌, ℕ, List, ◌++◌, length, None, Some, IfOk, IfErr, IfNone, IfSome};
 ghost use Rattle.std.specs.Io.KnownBytes.{Consumes};
 ghost use Rattle.aprs_kiss.specs.Device.{device_of, failures_of, Rose};
 ghost use Rattle.aprs_log.specs.Awaits.{EndsHere};
@@ -10,13 +10,15 @@ ghost use Rattle.aprs_log.specs.Window.{items};
 use crate::cut::cut_at;
 use crate::ending::Ending;
 use crate::fault::LineFault;
-use crate::line::{Line, read_line};
+use crate::line::{Line, read_fields};
 use crate::window::Window;
 use aprs_kiss::Counted;
 use std::io::Read;
 
-/// Takes the first line out of the window, where it holds a whole one, and reads it.
-pub fn take_line(window: &mut Window) -> Option<Result<Line, LineFault>>
+/// Takes the first line out of the window, where it holds a whole one, and reads it. `room` is for
+/// the line's bytes.
+pub fn take_line(window: &mut Window, room: &mut [u8]) -> Option<Result<Line, LineFault>>
+    requires { 8192 ≤ 2 * length room.old }
     ensures none { IfNone result ((cut_at 10 (items window.old) ≡ None)
         × (items window.new ≡ items window.old)) }
     ensures some { IfSome result (λ r. (cut : Cut) × (cut_at 10 (items window.old) ≡ Some cut)
@@ -27,7 +29,7 @@ pub fn take_line(window: &mut Window) -> Option<Result<Line, LineFault>>
         return None;
     };
     let used = line.len() + 1;
-    let answer = read_line(line);
+    let answer = read_fields(line, room);
     window.consume(used);
     Some(answer)
 }

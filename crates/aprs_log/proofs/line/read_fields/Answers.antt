@@ -26,16 +26,16 @@ returns-in_default-parse-2 c =
     c.in-Some-parse.ensures.value c.in-Some-cut_at.ensures
     c.in_default-parse-2.ensures
 
-pub read_bytes-requires : goal.read_bytes-requires
-read_bytes-requires c =
+pub read_within-requires : goal.read_within-requires
+read_within-requires c =
     let rest = cut_at-after 32 _ _ c.in-Some.ensures in
     let digits = cut_at-after 32 _ _ c.in-Some-cut_at.ensures in
-    omega (arith, rest, digits)
+    omega (arith, rest, digits, c.requires)
 
 pub returns : goal.returns
 returns c =
     let name = c.in-Some-parse-2.ensures in
-    c.read_bytes.ensures
+    c.read_within.ensures
     ∙ line_of-fields c.args.line.now c.if-line-gt-MAX_LINE.false _ _ _ _ c.in-Some.ensures
     c.in-Some-parse.ensures.value
     c.in-Some-cut_at.ensures name.0 name.1
