@@ -5,8 +5,8 @@ ghost use Rattle.aprs_log.specs.Window.{items};
 
 use crate::ending::{Ending, State, refuse_tail};
 use crate::fault::{LogCause, LogFault};
-use crate::line::{Line, MAX_LINE};
 use crate::hexadecimal::MAX_BYTES;
+use crate::line::{Line, MAX_LINE};
 use crate::refill::{read_more, take_line};
 use crate::window::Window;
 use aprs_kiss::Counted;

@@ -40,27 +40,29 @@ pub fn write_line<W: Write>(w: &mut Counted<W>, reception: &Reception) -> Result
     // The line reads back as the reception.
     ensures reads_back { line_of (written_line reception.now) ≡ Ok (Line.Heard reception.now) }
 {
-    send(w, written(reception).as_slice())
+    let mut line = ArrayVec::new();
+    push_line(&mut line, reception);
+    send(w, line.as_slice())
 }
 
-/// The line and its LF.
-fn written(reception: &Reception) -> ArrayVec<u8, MAX_WRITTEN>
-    ensures line { result.items ≡ written_line reception.now ++ 10 ∷ [] }
+/// Puts the line and its LF into `line`, which is empty.
+fn push_line(line: &mut ArrayVec<u8, MAX_WRITTEN>, reception: &Reception)
+    requires { line.old.items ≡ [] }
+    ensures line { line.new.items ≡ written_line reception.now ++ 10 ∷ [] }
     ensures back { length (written_line reception.now) ≤ 8192
         → line_of (written_line reception.now) ≡ Ok (Line.Heard reception.now) }
 {
     written_laws();
-    let mut line = ArrayVec::new();
-    push_all(&mut line, &reception.moment().text());
-    push_all(&mut line, b" ");
-    push_all(&mut line, reception.receiver().as_bytes());
-    push_all(&mut line, b" ");
+    push_all(line, &reception.moment().text());
+    push_all(line, b" ");
+    push_all(line, reception.receiver().as_bytes());
+    push_all(line, b" ");
     let frame = reception.frame().bytes();
     frames_are_read(frame);
-    let spelled = spelled(frame);
-    push_hex(&mut line, spelled.as_slice());
-    push_all(&mut line, b"\n");
-    line
+    let mut spelled = ArrayVec::new();
+    push_frame(&mut spelled, frame);
+    push_hex(line, spelled.as_slice());
+    push_all(line, b"\n");
 }
 
 /// What holds of every written frame. Does nothing.
@@ -79,18 +81,17 @@ fn frames_are_read(frame: &[u8])
     each_is_a_frame_or_refused();
 }
 
-/// What goes out for a frame.
-fn spelled(frame: &[u8]) -> ArrayVec<u8, MAX_SPELLED>
-    requires { length frame.now ≤ 328 }
-    ensures { result.items ≡ kiss_text frame.now }
+/// Puts what goes out for a frame into `out`, which is empty.
+fn push_frame(out: &mut ArrayVec<u8, MAX_SPELLED>, frame: &[u8])
+    requires few { length frame.now ≤ 328 }
+    requires empty { out.old.items ≡ [] }
+    ensures { out.new.items ≡ kiss_text frame.now }
 {
-    let mut out = ArrayVec::new();
-    push_all(&mut out, &[0xC0, 0]);
+    push_all(out, &[0xC0, 0]);
     for byte in frame {
-        push_spelled(&mut out, *byte);
+        push_spelled(out, *byte);
     }
-    push_all(&mut out, &[0xC0]);
-    out
+    push_all(out, &[0xC0]);
 }
 
 /// Puts what goes out for a byte behind what is there.

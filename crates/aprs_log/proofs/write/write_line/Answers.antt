@@ -6,5 +6,5 @@ pub returns-clause-reads_back : goal.returns-clause-reads_back
 returns-clause-reads_back g c =
     let l = written_line c.args.reception.now in
     let len : length (l ++ 10 ∷ []) ≡ length l + 1 = simp length-append (omega arith) in
-    let same = ap length (c.as_slice.ensures.value ∙ c.written.ensures.line) in
-    c.written.ensures.back (omega (arith, len, same, c.as_slice.ensures.fits))
+    let same = ap length (c.as_slice.ensures.value ∙ c.push_line.ensures.line) in
+    c.push_line.ensures.back (omega (arith, len, same, c.as_slice.ensures.fits))

@@ -1,7 +1,7 @@
 use Rattle.std.proofs.Common.{◌≡◌, ◌≤◌, ◌+◌, ◌*◌, ◌∷◌, take}
 use Rattle.arrayvec.specs.ArrayVec.{array_vec_len}
 use Rattle.aprs_kiss.specs.Spelling.{spelling_of}
-use Rattle.aprs_log.proofs.write.spelled.Given as goal
+use Rattle.aprs_log.proofs.write.push_frame.Given as goal
 
 abbrev pub invariant-loop-byte : goal.invariant-loop-byte
 invariant-loop-byte l = record {

@@ -6,7 +6,7 @@ use Rattle.aprs_ax25.specs.FrameFault.{frame_of, parts_of}
 use Rattle.aprs_log.specs.Moment.{MomentText, moment_text}
 use Rattle.aprs_log.specs.Receiver.{IsName}
 use Rattle.aprs_log.proofs.WrittenLemmas.{real, line_of-written}
-use Rattle.aprs_log.proofs.write.written.Goals as goal
+use Rattle.aprs_log.proofs.write.push_line.Goals as goal
 
 pub frames_are_read-requires : goal.frames_are_read-requires
 frames_are_read-requires c =
@@ -26,6 +26,6 @@ returns-clause-back c short =
     let is = real x text (c.text.ensures.value ∙ ap moment_text c.moment.ensures) is_text
     (subst IsName c.receiver.ensures c.as_bytes.ensures.name) reads few in
     let sent : c.as_slice.result.now ≡ kiss_text x.frame
-    = c.as_slice.ensures.value ∙ c.spelled-spelled.ensures ∙ ap kiss_text frame in
+    = c.as_slice.ensures.value ∙ c.push_frame.ensures ∙ ap kiss_text frame in
     let digits = subst (λ l. decode_of (encode_lower l) ≡ Ok l) sent c.push_hex.ensures.back in
     line_of-written c.written_laws.ensures x is digits short
