@@ -65,8 +65,8 @@ impl<A: Allocator + Copy> Book<A> {
     }
 
     /// Adds a reception: the book of a set becomes the book of that set and the reception. Takes no
-    /// memory where exactly one row of its key is at most 30 seconds from its moment (a moment between
-    /// first and last counts) and lists its receiver. After `Memory` the book is as before.
+    /// memory where exactly one row of its key is at most 30 seconds from its moment (a moment
+    /// between first and last counts) and lists its receiver. After `Memory` the book is as before.
     pub fn take(&mut self, x: &Reception) -> Result<(), Memory>
         ensures taken { OnOk result (TakesIn self.old x.now self.new) }
         ensures unchanged { OnErr result (self.new ≡ self.old) }

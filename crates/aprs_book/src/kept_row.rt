@@ -33,7 +33,8 @@ impl<A: Allocator> Model for KeptRow<A> {
 
     ghost Value = { RowValue };
 
-    ghost view = { λ r. record { first = r.first; receivers = r.receivers; greatest = r.greatest } };
+    ghost view = { λ r.
+        record { first = r.first; receivers = r.receivers; greatest = r.greatest } };
 }
 
 impl<A: Allocator + Copy> KeptRow<A> {
@@ -168,7 +169,7 @@ fn key_order(a: &Frame, b: &Frame) -> Ordering
     }
 }
 
-/// Whether the first span ends before the second and far from it, is near to it, or begins after it.
+/// Where the first span lies: before the second and far from it, near to it, or after it.
 fn moment_order(first: Moment, last: Moment, other_first: Moment, other_last: Moment) -> Ordering
     ensures { result ≡ (if nat_lt (last + gap_seconds) other_first then Less
         else if nat_lt (other_last + gap_seconds) first then Greater else Equal) }

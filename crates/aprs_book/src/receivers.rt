@@ -47,8 +47,8 @@ impl<A: Allocator + Copy> Receivers<A> {
         self.names.as_slice()
     }
 
-    /// Puts a name in its place. Where it is there already, that takes no memory. After `Memory` the
-    /// names are as before.
+    /// Puts a name in its place. Where it is there already, that takes no memory. After `Memory`
+    /// the names are as before.
     pub fn add(&mut self, name: &Receiver) -> Result<(), Memory>
         ensures added { OnOk result (self.new ≡ add bytes_cmp name.now self.old) }
         ensures unchanged { OnErr result (self.new ≡ self.old) }
@@ -111,7 +111,8 @@ impl<A: Allocator + Copy> Join for Receivers<A> {
 fn search(names: &[Receiver], name: &Receiver) -> Result<usize, usize>
     ensures { MatchResult result
         (λ _. add bytes_cmp name.now names.now ≡ names.now)
-        (λ i. (i ≤ length names.now) × (add bytes_cmp name.now names.now ≡ insert names.now i name.now)) }
+        (λ i. (i ≤ length names.now)
+        × (add bytes_cmp name.now names.now ≡ insert names.now i name.now)) }
 {
     for (i, other) in names.iter().enumerate() {
         match name.cmp(other) {

@@ -49,8 +49,8 @@ fn name_text(text: &mut String, name: &Receiver) -> Result<(), Fail> {
     Ok(())
 }
 
-/// Each row's first and last second in its hour, its receivers, the greatest reception's receiver and
-/// the last octet of its frame's source.
+/// Each row's first and last second in its hour, its receivers, the greatest reception's receiver
+/// and the last octet of its frame's source.
 fn shown<A: Allocator + Copy>(alloc: Global, book: &Book<A>) -> Result<String, Fail> {
     let mut text = String::new(alloc);
     for row in book.rows() {
@@ -139,8 +139,8 @@ fn receivers_stand_once(rt: HostRuntime) -> Result<(), Fail> {
     Ok(())
 }
 
-// The heap is full but for some units, until it refuses a step: then the rows are as before, and with
-// room again the step gives the same book.
+// The heap is full but for some units, until it refuses a step: then the rows are as before, and
+// with room again the step gives the same book.
 #[test]
 fn refused_growths_change_nothing(rt: HostRuntime) -> Result<(), Fail> {
     let alloc = rt.alloc();
@@ -228,19 +228,39 @@ fn replays_end_in_equal_books(rt: HostRuntime) -> Result<(), Fail> {
     Ok(())
 }
 
+/// A book of a log in which RX1 heard the frame at once, and RX2 30 seconds and an hour later.
+fn logged(alloc: Global, seconds: &[u64]) -> Result<Book, Fail> {
+    let mut book = Book::new(alloc);
+    for second in seconds {
+        let x = match *second {
+            0 => heard(0, b"RX1", &DIRECT)?,
+            30 => heard(30, b"RX2", &REPEATED)?,
+            other => heard(other, b"RX2", &DIRECT)?,
+        };
+        book.take(&x).ok().ok_or("memory")?;
+    }
+    Ok(book)
+}
+
 #[test]
-fn orders_and_repeats_do_not_matter(rt: HostRuntime) -> Result<(), Fail> {
+fn orders_repeats_and_merges_do_not_matter(rt: HostRuntime) -> Result<(), Fail> {
     let alloc = rt.alloc();
-    let a = book_by(alloc, b"RX1", &[0])?;
-    let b = book_by(alloc, b"RX2", &[3000])?;
-    let c = book_by(alloc, b"RX2", &[30])?;
-    let ab = a.merge(&b).ok().ok_or("memory")?;
-    let want = join_all(&a, &[c, b, ab]).ok().ok_or("memory")?;
-    let text = shown(alloc, &want)?;
-    assert_eq!(rt;
-        text.as_str(),
-        "0-30 RX1 RX2 / RX2 6f; 3000-3000 RX2 / RX2 6f; "
-    );
+    for [a, b, c] in [
+        [0, 30, 3600],
+        [0, 3600, 30],
+        [30, 0, 3600],
+        [30, 3600, 0],
+        [3600, 0, 30],
+        [3600, 30, 0],
+    ] {
+        let taken = logged(alloc, &[a, b, c, a])?;
+        let first = logged(alloc, &[a, b])?;
+        let second = logged(alloc, &[c, a])?;
+        let merged = first.merge(&second).ok().ok_or("memory")?;
+        assert!(rt; merged.same(&taken));
+        let text = shown(alloc, &merged)?;
+        assert_eq!(rt; text.as_str(), "0-30 RX1 RX2 / RX2 6e; 0-0 RX2 / RX2 6f; ");
+    }
     Ok(())
 }
 
