@@ -1,19 +1,18 @@
 -- Lemmas on a check over the lines that a reader gives.
-use Rattle.std.proofs.Common.{◌≡◌, ◌≤◌, ℕ, ◌+◌, List, [], ◌∷◌, ◌++◌, length, Option, None, Some, Result, Ok, Err, IfSome, refl, ap, sym, ◌∙◌, arith, append_assoc, append-nil, subst}
+use Rattle.std.proofs.Common.{◌≡◌, ℕ, ◌+◌, List, [], ◌∷◌, ◌++◌, length, Option, None, Some, Ok, Err, refl, ap, sym, ◌∙◌, arith, append_assoc, append-nil, subst}
 use Rattle.std.specs.Io.KnownBytes.{Appends}
 use Rattle.std.proofs.KnownBytes.{Appends-trans}
 use Rattle.std.proofs.lemmas.List.{length-append}
 use Rattle.aprs_kiss.specs.Device.{AppendsFront}
 use Rattle.aprs_kiss.proofs.Bytes.{AppendsFront-more, AppendsFront-then}
-use Rattle.aprs_log.specs.LogAnswers.{Answers, ended, log_answers, then_given}
+use Rattle.aprs_log.specs.LogAnswers.{Answers, ended, then_given}
 use Rattle.aprs_log.specs.declared.fault.LogFault.{LogFault}
 use Rattle.aprs_log.specs.declared.fault.Reason.{Reason}
 use Rattle.aprs_log.specs.declared.line.Line.{Line}
 use Rattle.aprs_log.specs.declared.line.Line.TheVariants.{Heard, Passed}
 use Rattle.aprs_log.specs.Reception.{Heard as Reception}
-use Rattle.aprs_tool.specs.Run.{RunsSo, RunsOver, check_lines, check_of, check_text, count_heard, count_passed, lines_fault, passed_line, totals_line, totals}
+use Rattle.aprs_tool.specs.Run.{RunsOver, check_lines, check_of, check_text, count_heard, count_passed, lines_fault, passed_line, totals_line, totals}
 use Rattle.aprs_tool.specs.declared.fault.InputFault.TheVariants.{Log}
-use Rattle.aprs_tool.specs.declared.fault.RunFault.{RunFault}
 use Rattle.aprs_tool.specs.declared.fault.RunFault.TheVariants.{Input, Write}
 use Rattle.aprs_tool.proofs.Seen.{HasSeen, HasSeen-line, IsWhole, over, prepended}
 

@@ -1,6 +1,5 @@
-use Rattle.std.proofs.Common.{◌≡◌, ◌≤◌, ◌-◌, length, ap, subst, sym, arith}
+use Rattle.std.proofs.Common.{subst, sym, arith}
 use Rattle.std.specs.Io.KnownBytes.{Consumes}
-use Rattle.aprs_kiss.specs.Device.{device_of}
 use Rattle.aprs_tool.specs.Run.{capture_text}
 use Rattle.aprs_tool.proofs.Captures.{HasGot-none, HasGot-more, HasGot-refused}
 use Rattle.aprs_tool.proofs.capture.capture.Goals as goal

@@ -1,7 +1,7 @@
-use Rattle.std.proofs.Common.{◌≤◌, refl, arith, ◌∙◌}
+use Rattle.std.proofs.Common.{refl, arith}
 use Rattle.aprs_kiss.proofs.Hearing.{parts_of}
 use Rattle.aprs_tool.specs.Run.{capture_text}
-use Rattle.aprs_tool.proofs.Captures.{HasCaptured-none, HasCaptured-more, HasCaptured-refused, HasCaptured-all}
+use Rattle.aprs_tool.proofs.Captures.{HasCaptured-none, HasCaptured-more, HasCaptured-refused}
 use Rattle.aprs_tool.proofs.capture.capture_chunk.Goals as goal
 
 pub loop-rest-init : goal.loop-rest-init

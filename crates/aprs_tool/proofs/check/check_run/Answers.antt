@@ -1,7 +1,4 @@
-use Rattle.std.proofs.Common.{◌≡◌, ◌≤◌, ◌+◌, ◌∙◌, ap, sym, subst, arith}
-use Rattle.std.specs.Io.KnownBytes.{Appends}
-use Rattle.aprs_log.specs.Reader.{lines_of}
-use Rattle.aprs_tool.specs.Run.{passed_line}
+use Rattle.std.proofs.Common.{arith}
 use Rattle.aprs_tool.proofs.Checked.{Checked-sum, Checked-heard, Checked-passed, Checked-refused, Checked-ended, Checked-totals_refused}
 use Rattle.aprs_tool.proofs.check.check_run.Goals as goal
 

@@ -1,4 +1,4 @@
-use Rattle.std.proofs.Common.{◌≤◌, ◌+◌, arith}
+use Rattle.std.proofs.Common.{arith}
 use Rattle.aprs_tool.specs.Run.{line_text}
 use Rattle.aprs_tool.proofs.Seen.{Ran-line, Ran-refused}
 use Rattle.aprs_tool.proofs.convert.convert_lines.Goals as goal

@@ -1,6 +1,6 @@
-use Rattle.std.proofs.Common.{◌≡◌, rules, codes, ap, ap₂, ◌∙◌}
+use Rattle.std.proofs.Common.{◌≡◌, rules, ap₂, ◌∙◌}
 use Rattle.std.proofs.lemmas.Result.{IfOk-weaker}
-use Rattle.clap.specs.Words.{app_of, rule_of, with_rule, new_rule}
+use Rattle.clap.specs.Words.{rule_of, with_rule}
 use Rattle.aprs_tool.specs.Words.{input_rule}
 use Rattle.aprs_tool.proofs.words.convert_command.Goals as goal
 
