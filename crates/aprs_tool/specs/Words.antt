@@ -4,7 +4,7 @@ use Rattle.std.specs.Prelude.{MatchResult, codes, if◌then◌else◌, option_ma
 use Rattle.std.specs.Str.{bytes_eq}
 use Rattle.std.specs.Borrow.{Bor}
 use Rattle.clap.specs.Words.{App, Row, Rule, Text, first_of, new_app, new_rule, subcommand_of}
-use Rattle.clap.specs.Words.{takes, with_rule, with_subcommand}
+use Rattle.clap.specs.Words.{IsAmong, fault_of, kind_of, takes, with_rule, with_subcommand}
 use Rattle.clap.specs.declared.builder.value_parser.ValueParser.{ValueParser}
 use Rattle.clap.specs.declared.builder.value_parser.ValueParser.TheVariants as vp
 use Rattle.aprs_log.specs.Moment.{moment_of}
@@ -104,3 +104,13 @@ FailsSo a words (fault.Clap e) = takes a words ≡ true → ⊥
 abbrev pub AnswersWords : App → List Text → Result Job JobFault → Type 0
 AnswersWords a words r =
     MatchResult r (λ j. task_of (subcommand_of a words) ≡ Some (asked_by j)) (FailsSo a words)
+
+-- Which words are refused: an answer comes only where the command's definition finds no fault in the
+-- words, and a refusal has one of the kinds that it finds.
+abbrev pub RefusesSo : App → List Text → JobFault → Type 0
+RefusesSo a words fault.Memory = Unit {0}
+RefusesSo a words fault.Options = fault_of a words ≡ []
+RefusesSo a words (fault.Clap e) = IsAmong (kind_of e) (fault_of a words)
+
+abbrev pub JudgesWords : App → List Text → Result Job JobFault → Type 0
+JudgesWords a words r = MatchResult r (λ j. fault_of a words ≡ []) (RefusesSo a words)

@@ -1,11 +1,11 @@
 //! The words of the command line.
 ghost use Rattle.std.specs.Prelude.{◌≡◌, ◌≢◌, ◌⊎◌, option_map, IfOk, map, true, false};
-ghost use Rattle.clap.specs.Words.{app_of, first_of, found_of, is_simple, kind_of, rows_of};
+ghost use Rattle.clap.specs.Words.{app_of, first_of, found_of, is_simple, is_simple_and_free, kind_of, rows_of};
 ghost use Rattle.clap.specs.Words.{rule_of, subcommand_rows_of};
 ghost use Rattle.clap.specs.declared.error.kind.ErrorKind.TheVariants.{OutOfMemory};
 ghost use Rattle.clap.specs.declared.builder.command.Command.TheViews.{out-Command};
 ghost use Rattle.clap.specs.declared.builder.value_parser.ValueParser.{ValueParser};
-ghost use Rattle.aprs_tool.specs.Words.{IsForms, AnswersWords, asked_by, form_rule, option_rule};
+ghost use Rattle.aprs_tool.specs.Words.{IsForms, AnswersWords, JudgesWords, asked_by, form_rule, option_rule};
 ghost use Rattle.aprs_tool.specs.Words.{check_app, convert_app, program_app, receiver_of};
 ghost use Rattle.aprs_tool.specs.Words.{plain_form_of, capture_form_of, named_form_of, form_of};
 ghost use Rattle.aprs_tool.specs.Words.{task_named, task_of};
@@ -30,8 +30,10 @@ enum Task {
 /// `convert FORM [INPUT]`, and `convert text` where no command is given. `convert capture` needs
 /// `--receiver NAME` and `--moment MOMENT`, and the other forms refuse both.
 pub fn job(alloc: Global, words: &[&str]) -> Result<Job, JobFault>
-    ensures { (p : ValueParser) × IsForms p
+    ensures asked { (p : ValueParser) × IsForms p
         × AnswersWords (program_app p) (map (λ w. w.now) words.now) result }
+    ensures judged { (p : ValueParser) × IsForms p
+        × JudgesWords (program_app p) (map (λ w. w.now) words.now) result }
 {
     let command = match program(alloc) {
         Ok(command) => command,
@@ -52,7 +54,8 @@ pub fn job(alloc: Global, words: &[&str]) -> Result<Job, JobFault>
 
 /// The program's command is simple, whatever memory its forms stand in.
 pub fn command_is_simple()
-    ensures { (p : ValueParser) → is_simple (program_app p) ≡ true }
+    ensures simple { (p : ValueParser) → is_simple (program_app p) ≡ true }
+    ensures free { (p : ValueParser) → IsForms p → is_simple_and_free (program_app p) ≡ true }
 {}
 
 fn form_arg<'a>(alloc: Global) -> Arg<'a>

@@ -1,5 +1,6 @@
-use Rattle.std.proofs.Common.{ℕ, List, map, refl, ap, ◌∙◌, sym, subst, inl, inr, Bor}
-use Rattle.clap.specs.Words.{App, takes}
+use Rattle.std.proofs.Common.{◌≡◌, ℕ, List, map, true, refl, ap, ◌∙◌, sym, subst, inl, inr, Bor}
+use Rattle.clap.specs.Words.{App, fault_of, is_simple_and_free, takes}
+use Rattle.clap.specs.declared.builder.value_parser.ValueParser.{ValueParser}
 use Rattle.clap.specs.declared.builder.value_parser.ValueParser.TheVariants as vp
 use Rattle.aprs_tool.specs.Words.{FailsSo, form_names, program_app}
 use Rattle.aprs_tool.proofs.words.job.Goals as goal
@@ -7,11 +8,11 @@ use Rattle.aprs_tool.proofs.words.job.Goals as goal
 abbrev at_zero : {A : Type 0} → A → Bor A
 at_zero x = record { ref_ptr = (0, 0); now = x }
 
-pub returns-in-Err : goal.returns-in-Err
-returns-in-Err c = let names = at_zero (map at_zero form_names) in (vp.Names names, (names, refl, refl), tt)
+pub returns-in-Err-clause-asked : goal.returns-in-Err-clause-asked
+returns-in-Err-clause-asked c = let names = at_zero (map at_zero form_names) in (vp.Names names, (names, refl, refl), tt)
 
-pub returns-in-Err-try_get_matches_from : goal.returns-in-Err-try_get_matches_from
-returns-in-Err-try_get_matches_from c =
+pub returns-in-Err-try_get_matches_from-clause-asked : goal.returns-in-Err-try_get_matches_from-clause-asked
+returns-in-Err-try_get_matches_from-clause-asked c =
     let built = c.in-Ok.ensures in
     let words = map (λ (w : Bor (List ℕ)). w.now) c.args.words.now in
     let fails : FailsSo (program_app built.0) words c.clap_fault.result = elim c.clap_fault.ensures [
@@ -20,3 +21,16 @@ returns-in-Err-try_get_matches_from c =
           (λ t. h.0 (c.in-Err-try_get_matches_from.ensures.passes (ap (λ (a : App). takes a words) built.2 ∙ t)))
     ] in
     (built.0, built.1, fails)
+
+pub returns-in-Err-clause-judged : goal.returns-in-Err-clause-judged
+returns-in-Err-clause-judged c = let names = at_zero (map at_zero form_names) in (vp.Names names, (names, refl, refl), tt)
+
+free : (p : ValueParser) → is_simple_and_free (program_app p) ≡ true
+free p = refl
+
+pub returns-in-Ok-read_inputs-clause-judged : goal.returns-in-Ok-read_inputs-clause-judged
+returns-in-Ok-read_inputs-clause-judged c =
+    let built = c.in-Ok.ensures in
+    let words = map (λ (w : Bor (List ℕ)). w.now) c.args.words.now in
+    let kinds = c.in-Ok-try_get_matches_from.ensures.kinds (ap is_simple_and_free built.2 ∙ free built.0) in
+    (built.0, built.1, ap (λ (a : App). fault_of a words) (sym built.2) ∙ kinds)
