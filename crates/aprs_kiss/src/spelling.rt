@@ -2,6 +2,8 @@
 ghost use Rattle.std.specs.Prelude.{◌≡◌, ◌≤◌, ◌<◌, length, take, slice_index, true};
 ghost use Rattle.aprs_kiss.specs.Plain.{CutsPlain, IsPlain, is_special};
 
+use memchr::memchr2;
+
 /// Stands before and after a frame.
 pub const FEND: u8 = 0xC0;
 /// Begins an escape.
@@ -29,10 +31,5 @@ fn plain_len(bytes: &[u8]) -> usize
     ensures plain { IsPlain (take result bytes.now) }
     ensures mark { result < length bytes.now → is_special (slice_index bytes.now result) ≡ true }
 {
-    for (i, byte) in bytes.iter().enumerate() {
-        if *byte == FEND || *byte == FESC {
-            return i;
-        }
-    }
-    bytes.len()
+    memchr2(FEND, FESC, bytes).unwrap_or(bytes.len())
 }
