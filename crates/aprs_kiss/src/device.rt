@@ -4,7 +4,10 @@ ghost use Rattle.std.specs.Io.{ReadsAtMost};
 ghost use Rattle.std.specs.Io.KnownBytes.{Appends, ReadConsumes};
 ghost use Rattle.aprs_kiss.specs.Device.{device_of, failures_of, Rose, AppendsFront};
 
-use std::io::{Read, Write};
+use std::io::{ErrorKind, Read, Write};
+
+/// So many interrupted tries in a row end a call.
+const MAX_TRIES: u32 = 1000;
 
 /// A read of the device failed.
 #[derive(Clone, Copy, Debug, PartialEq, Eq)]
@@ -58,7 +61,9 @@ impl<T> Counted<T> {
 
 impl<R: Read> Counted<R> {
     /// Reads the device's next bytes to the front of `buf`: 0 of them at its end, or where `buf`
-    /// is empty. At a fault no byte is lost and the count rises. Takes no memory.
+    /// is empty. An interrupted try is a failed call and is tried again, up to 999 in a row; the
+    /// 1,000th, and any other error at once, is a fault. At a fault no byte is lost and the count
+    /// rises. Takes no memory.
     pub fn read(&mut self, buf: &mut [u8]) -> Result<usize, DeviceFault>
         ensures bound { ReadsAtMost result buf.new }
         ensures bytes { ReadConsumes (R.remaining (device_of self.old))
@@ -66,18 +71,25 @@ impl<R: Read> Counted<R> {
         ensures count { failures_of self.old ≤ failures_of self.new }
         ensures fault { OnErr result (Rose (failures_of self.old) (failures_of self.new)) }
     {
-        match self.device.read(buf) {
-            Ok(n) => Ok(n),
-            Err(_) => {
-                self.note_failure();
-                Err(DeviceFault)
+        let mut tries = 0;
+        loop {
+            match self.device.read(buf) {
+                Ok(n) => return Ok(n),
+                Err(error) => {
+                    self.note_failure();
+                    tries += 1;
+                    if tries == MAX_TRIES || error.kind() != ErrorKind::Interrupted {
+                        return Err(DeviceFault);
+                    }
+                }
             }
         }
     }
 }
 
-/// Writes all of `bytes`, or at a fault a front of them, and then the count rises. A write that
-/// takes nothing is a fault. Takes no memory.
+/// Writes all of `bytes`, or at a fault a front of them, and then the count rises. An interrupted
+/// try is a failed call and is tried again, up to 999 in a row; the 1,000th, any other error and a
+/// write that takes nothing are faults. Takes no memory.
 pub fn send<W: Write>(w: &mut Counted<W>, bytes: &[u8]) -> Result<(), WriteFault>
     ensures sent { OnOk result
         (Appends (W.contents (device_of w.old)) (W.contents (device_of w.new)) bytes.now) }
@@ -87,9 +99,17 @@ pub fn send<W: Write>(w: &mut Counted<W>, bytes: &[u8]) -> Result<(), WriteFault
     ensures fault { OnErr result (Rose (failures_of w.old) (failures_of w.new)) }
 {
     let mut rest = bytes;
+    let mut tries = 0;
     while !rest.is_empty() {
         match w.device.write(rest) {
-            Ok(n) if n > 0 => rest = &rest[n..],
+            Ok(n) if n > 0 => {
+                rest = &rest[n..];
+                tries = 0;
+            }
+            Err(error) if tries + 1 < MAX_TRIES && error.kind() == ErrorKind::Interrupted => {
+                w.note_failure();
+                tries += 1;
+            }
             _ => {
                 w.note_failure();
                 return Err(WriteFault);

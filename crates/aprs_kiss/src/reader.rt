@@ -106,6 +106,14 @@ impl KissReader {
         matches!(self.state, State::Ended)
     }
 
+    /// Goes to the beginning of another stream. Takes no memory.
+    pub fn reset(&mut self)
+        ensures { StandsAfter self.new [] }
+    {
+        let state = &mut self.state;
+        *state = State::Ended;
+    }
+
     /// As `feed`, with the frame left in the buffer, behind its type byte.
     fn step(&mut self, piece: &[u8]) -> (usize, Option<Result<u8, PassFault>>)
         ensures stands { (before : List ℕ) → StandsAfter self.old before

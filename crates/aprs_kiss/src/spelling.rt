@@ -13,7 +13,8 @@ pub const TFEND: u8 = 0xDC;
 /// Stands for FESC after FESC.
 pub const TFESC: u8 = 0xDD;
 
-/// Cuts at the first FEND or FESC: what stands before it, and that byte with what follows it.
+/// Cuts at the first FEND or FESC, which aren't sent as themselves: what stands before it, and that
+/// byte with what follows it. Takes no memory.
 pub fn cut_plain(bytes: &[u8]) -> (&[u8], Option<(u8, &[u8])>)
     ensures plain { IsPlain result.0.now }
     ensures cut { CutsPlain bytes.now result.0.now result.1 }

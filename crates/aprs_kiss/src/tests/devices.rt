@@ -6,19 +6,26 @@ use std::io;
 use std::io::{ErrorKind, Read, Write};
 use std::test::Fail;
 
-/// A reader that tells its bytes, gives at most `most` of them a call, and fails once `good` are
-/// given.
+/// A reader that tells its bytes, gives at most `most` of them a call, fails once `good` are given,
+/// and is interrupted `interrupts` times before each call that gives any.
 #[derive(Drop)]
 struct Rough<'a> {
     bytes: &'a [u8],
     most: usize,
     good: usize,
+    interrupts: u32,
+    pauses: u32,
 }
 
 impl Read for Rough<'_> {
     ghost remaining = { λ r. Some r.bytes.now };
 
     fn read(&mut self, buf: &mut [u8]) -> io::Result<usize> {
+        if self.pauses < self.interrupts {
+            self.pauses += 1;
+            return Err(io::Error::from(ErrorKind::Interrupted));
+        }
+        self.pauses = 0;
         let n = buf
             .len()
             .min(self.bytes.len())
@@ -35,16 +42,24 @@ impl Read for Rough<'_> {
     }
 }
 
-/// A writer that has room for so many bytes, takes at most `most` a call, and tells nothing.
+/// A writer that has room for so many bytes, takes at most `most` a call, is interrupted
+/// `interrupts` times before each call that takes any, and tells nothing.
 #[derive(Drop)]
 struct Tight<'a> {
     room: &'a mut [u8],
     used: usize,
     most: usize,
+    interrupts: u32,
+    pauses: u32,
 }
 
 impl Write for Tight<'_> {
     fn write(&mut self, buf: &[u8]) -> io::Result<usize> {
+        if self.pauses < self.interrupts {
+            self.pauses += 1;
+            return Err(io::Error::from(ErrorKind::Interrupted));
+        }
+        self.pauses = 0;
         if self.used > self.room.len() {
             return Ok(0);
         }
@@ -65,6 +80,8 @@ fn a_read_fails_in_mid_stream(rt: HostRuntime) {
         bytes: b"abcdef",
         most: 2,
         good: 3,
+        interrupts: 0,
+        pauses: 0,
     });
     let mut buf = [0u8; 4];
     assert_eq!(rt; reader.read(&mut buf), Ok(2));
@@ -72,12 +89,7 @@ fn a_read_fails_in_mid_stream(rt: HostRuntime) {
     assert_eq!(rt; reader.failures(), 0);
     assert_eq!(rt; reader.read(&mut buf), Err(DeviceFault));
     assert_eq!(rt; reader.failures(), 1);
-    let Rough {
-        bytes,
-        most: _,
-        good: _,
-    } = reader.into_inner();
-    assert_eq!(rt; bytes, b"def".as_slice());
+    assert_eq!(rt; reader.into_inner().bytes, b"def".as_slice());
 }
 
 #[test]
@@ -87,18 +99,47 @@ fn a_write_fails_in_mid_stream(rt: HostRuntime) -> Result<(), Fail> {
         room: &mut room,
         used: 0,
         most: 3,
+        interrupts: 0,
+        pauses: 0,
     });
     assert_eq!(rt; send(&mut writer, b"abcdef"), Err(WriteFault));
     assert_eq!(rt; writer.failures(), 1);
-    let Tight {
-        room,
-        used,
-        most: _,
-    } = writer.into_inner();
-    assert_eq!(rt; used, 4);
+    assert_eq!(rt; writer.into_inner().used, 4);
     assert!(rt; room[..] == b"abcd"[..]);
     let mut writer = Counted::new(Vec::new(rt.alloc()));
     send(&mut writer, b"abc").ok().ok_or("sent")?;
     assert_eq!(rt; writer.into_inner().as_slice(), b"abc".as_slice());
     Ok(())
+}
+
+#[test]
+fn interrupted_reads_are_tried_again(rt: HostRuntime) {
+    for (interrupts, first) in [(0, Ok(1)), (999, Ok(1)), (1000, Err(DeviceFault))] {
+        let mut reader = Counted::new(Rough {
+            bytes: b"ab",
+            most: 1,
+            good: 2,
+            interrupts,
+            pauses: 0,
+        });
+        let mut buf = [0u8; 4];
+        assert_eq!(rt; reader.read(&mut buf), first, "after {interrupts}");
+        assert_eq!(rt; reader.failures(), u64::from(interrupts));
+    }
+}
+
+#[test]
+fn interrupted_writes_are_tried_again(rt: HostRuntime) {
+    for (interrupts, sent, used) in [(0, Ok(()), 2), (999, Ok(()), 2), (1000, Err(WriteFault), 0)] {
+        let mut room = [0u8; 4];
+        let mut writer = Counted::new(Tight {
+            room: &mut room,
+            used: 0,
+            most: 1,
+            interrupts,
+            pauses: 0,
+        });
+        assert_eq!(rt; send(&mut writer, b"ab"), sent, "after {interrupts}");
+        assert_eq!(rt; writer.into_inner().used, used, "after {interrupts}");
+    }
 }

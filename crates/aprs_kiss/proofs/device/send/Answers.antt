@@ -4,10 +4,11 @@ use Rattle.aprs_kiss.proofs.Bytes.{AppendsAllBut-more}
 use Rattle.aprs_kiss.proofs.device.send.Goals as goal
 
 pub loop-rest-init : goal.loop-rest-init
-loop-rest-init g c = record { count = omega arith; sent = ([], refl, Appends-nil _) }
+loop-rest-init g c = record { tries = omega arith; count = omega arith; sent = ([], refl, Appends-nil _) }
 
-pub loop-rest-preserved : goal.loop-rest-preserved
-loop-rest-preserved g c = record {
+pub loop-rest-preserved-then-n-gt0 : goal.loop-rest-preserved-then-n-gt0
+loop-rest-preserved-then-n-gt0 g c = record {
+  tries = omega arith;
   count = c.loop-rest.invariant.count;
   sent = AppendsAllBut-more _ _ _ _ _ _ c.loop-rest.invariant.sent c.in-Ok.ensures.bytes;
 }

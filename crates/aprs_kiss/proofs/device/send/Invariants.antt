@@ -1,13 +1,14 @@
-use Rattle.std.proofs.Common.{length, ◌≤◌}
+use Rattle.std.proofs.Common.{length, ◌+◌, ◌*◌, ◌-◌, ◌<◌, ◌≤◌}
 use Rattle.aprs_kiss.specs.Device.{AppendsAllBut}
 use Rattle.aprs_kiss.proofs.device.send.Given as goal
 
 abbrev pub invariant-loop-rest : goal.invariant-loop-rest
 invariant-loop-rest g l = record {
+  tries : l.tries < 1000;
   count : l.initial.w.failed ≤ l.w.failed;
   sent : AppendsAllBut (g.W.Write.contents l.initial.w.device)
       (g.W.Write.contents l.w.device) l.initial.rest l.rest;
 }
 
 abbrev pub decreases-loop-rest : goal.decreases-loop-rest
-decreases-loop-rest g l = length l.rest
+decreases-loop-rest g l = 1000 * length l.rest + (1000 - l.tries)

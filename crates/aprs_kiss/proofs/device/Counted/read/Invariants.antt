@@ -1,0 +1,13 @@
+use Rattle.std.proofs.Common.{◌-◌, ◌<◌, ◌≤◌}
+use Rattle.std.specs.Io.KnownBytes.{Keeps}
+use Rattle.aprs_kiss.proofs.device.Counted.read.Given as goal
+
+abbrev pub invariant-loop-n : goal.invariant-loop-n
+invariant-loop-n g l = record {
+  tries : l.tries < 1000;
+  count : l.initial.self.failed ≤ l.self.failed;
+  kept : Keeps (g.R.Read.remaining l.initial.self.device) (g.R.Read.remaining l.self.device);
+}
+
+abbrev pub decreases-loop-n : goal.decreases-loop-n
+decreases-loop-n g l = 1000 - l.tries
