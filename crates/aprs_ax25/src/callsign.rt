@@ -1,5 +1,5 @@
 //! Callsigns.
-ghost use Rattle.std.specs.Prelude.{◌≡◌, ◌+◌, ◌<◌, ◌≤◌, ◌*◌, ◌/◌, ◌++◌, length, map, true, Ok};
+ghost use Rattle.std.specs.Prelude.{◌≡◌, ◌+◌, ◌<◌, ◌≤◌, ◌*◌, ◌/◌, ◌++◌, length, map, take, true, Ok};
 ghost use Rattle.std.specs.Prelude.{Some, IfOk, IfErr};
 ghost use Rattle.std.specs.List.{list_all, position_or_len};
 ghost use Rattle.arrayvec.specs.ArrayVec.{array_vec_len};
@@ -8,11 +8,11 @@ ghost use Rattle.aprs_ax25.specs.Callsign.{Call, IsCall, call_text, ssid_text, i
 ghost use Rattle.aprs_ax25.specs.CallText.{CallText, call_fault, is_dash, before_dash, from_dash};
 ghost use Rattle.aprs_ax25.specs.CallText.{ssid_of};
 ghost use Rattle.aprs_ax25.specs.Scan.{PartsOf};
-ghost use Rattle.aprs_ax25.specs.FrameFault.{has_callsign, call_of};
+ghost use Rattle.aprs_ax25.specs.FrameFault.{has_callsign, call_of, letters_len};
 
 use crate::bytes::{copied, push_all};
 use crate::fault::CallFault;
-use crate::scan::{is_callsign_byte, letters_len};
+use crate::scan::is_callsign_byte;
 use arrayvec::ArrayVec;
 use std::marker::Model;
 
@@ -101,22 +101,26 @@ impl Callsign {
         requires callsign { has_callsign octets.now ≡ true }
         ensures { result ≡ call_of octets.now }
     {
-        let len = letters_len(octets);
         Callsign {
-            letters: letters_of(&octets[..len]),
+            letters: letters_of(octets),
             ssid: octets[6] / 2 % 16,
         }
     }
 }
 
-/// The letters that the octets are, shifted right by one bit.
+/// The letters or digits that an address's first six octets begin with, shifted right by one bit.
 fn letters_of(octets: &[u8]) -> ArrayVec<u8, 6>
-    requires { length octets.now ≤ 6 }
-    ensures { result.items ≡ map (λ octet. octet / 2) octets.now }
+    requires { 6 ≤ length octets.now }
+    ensures { result.items
+        ≡ map (λ octet. octet / 2) (take (letters_len octets.now) octets.now) }
 {
     let mut letters = ArrayVec::new();
-    for octet in octets {
-        letters.push(octet / 2);
+    for octet in &octets[..6] {
+        let letter = octet / 2;
+        if !is_callsign_byte(letter) {
+            return letters;
+        }
+        letters.push(letter);
     }
     letters
 }

@@ -1,6 +1,6 @@
 //! UI frames.
 ghost use Rattle.std.specs.Prelude.{◌≡◌, if◌then◌else◌, ◌<◌, ◌≤◌, [], ◌∷◌, ◌++◌, length, map, None};
-ghost use Rattle.std.specs.Prelude.{IsOk, IfOk, slice_get};
+ghost use Rattle.std.specs.Prelude.{IsOk, IfOk, IfErr, OnOk, OnErr, Ok, Err, slice_get};
 ghost use Rattle.std.specs.List.{AllByRecursion};
 ghost use Rattle.std.specs.Result.{result_err};
 ghost use Rattle.arrayvec.specs.ArrayVec.{array_vec_len};
@@ -16,7 +16,7 @@ use crate::bytes::{copied, push_all};
 use crate::callsign::Callsign;
 use crate::fault::{FrameFault, MakeFault};
 use crate::hop::Hop;
-use crate::scan::{CONTROL_UI, PID_NONE, fault_of, field_len, seven_at};
+use crate::scan::{CONTROL_UI, PID_NONE, end_of_field, fault_of, seven_at};
 use arrayvec::ArrayVec;
 use std::marker::Model;
 
@@ -56,6 +56,22 @@ impl Frame {
         match fault_of(bytes) {
             Some(fault) => Err(fault),
             None => Ok(Frame::of(bytes)),
+        }
+    }
+
+    /// Reads the frame that is all the bytes in the place of this one, or answers the first fault
+    /// as `read` does. Takes no memory.
+    pub fn reread(&mut self, bytes: &[u8]) -> Result<(), FrameFault>
+        ensures read { OnOk result (frame_of bytes.now ≡ Ok self.new) }
+        ensures fault { IfErr result (λ fault. frame_of bytes.now ≡ Err fault) }
+        ensures unchanged { OnErr result (self.new ≡ self.old) }
+    {
+        match fault_of(bytes) {
+            Some(fault) => Err(fault),
+            None => {
+                self.put(bytes);
+                Ok(())
+            }
         }
     }
 
@@ -107,6 +123,15 @@ impl Frame {
         Frame { bytes: held }
     }
 
+    /// Puts the frame that is all the bytes in the place of this one.
+    fn put(&mut self, bytes: &[u8])
+        requires { frame_fault bytes.now ≡ None }
+        ensures { self.new ≡ bytes.now }
+    {
+        self.bytes.clear();
+        push_all(&mut self.bytes, bytes);
+    }
+
     /// The frame's bytes, 17 to 328. Takes no memory.
     pub fn bytes(&self) -> &[u8]
         ensures value { result.now ≡ self.now }
@@ -136,7 +161,7 @@ impl Frame {
         ensures value { result ≡ length (parts_of self.now).digipeaters }
         ensures few { result ≤ 8 }
     {
-        field_len(&self.bytes) / 7 - 2
+        end_of_field(&self.bytes) / 7 - 2
     }
 
     /// Digipeater number i, counted from 0 in the order of the path, where there is one. Takes no
@@ -157,7 +182,7 @@ impl Frame {
         ensures some { 0 < length result.now }
         ensures most { length result.now ≤ 256 }
     {
-        let start = field_len(&self.bytes) + 2;
+        let start = end_of_field(&self.bytes) + 2;
         let (_, info) = self.bytes.split_at(start);
         info
     }

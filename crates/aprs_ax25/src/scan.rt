@@ -1,5 +1,5 @@
 //! What bytes that may be a frame have where.
-ghost use Rattle.std.specs.Prelude.{◌≡◌, ◌≤◌, ◌/◌, ◌+◌, ◌%◌, length, take, drop, true};
+ghost use Rattle.std.specs.Prelude.{◌≡◌, ◌≤◌, ◌<◌, ◌/◌, ◌+◌, ◌-◌, ◌%◌, length, take, drop, slice_index, true, None};
 ghost use Rattle.std.specs.List.{list_all, position_or_len};
 ghost use Rattle.aprs_ax25.specs.Callsign.{is_callsign_byte};
 ghost use Rattle.aprs_ax25.specs.FrameFault.{ends_field, field_len, is_field_len, sevens};
@@ -32,6 +32,28 @@ pub fn field_len(bytes: &[u8]) -> usize
         }
     }
     bytes.len() + 1
+}
+
+/// The same of a frame. Only the last octet of an address may have the bit set, so that every
+/// seventh octet alone is looked at.
+pub fn end_of_field(frame: &[u8]) -> usize
+    requires { frame_fault frame.now ≡ None }
+    ensures { result ≡ field_len frame.now }
+{
+    let mut end = 14;
+    'addresses: while !ends_address(frame, end) {
+        end += 7;
+    }
+    end
+}
+
+/// Whether the octet before `end` has bit 0 set.
+fn ends_address(frame: &[u8], end: usize) -> bool
+    requires some { 0 < end }
+    requires within { end ≤ length frame.now }
+    ensures { result ≡ ends_field (slice_index frame.now (end - 1)) }
+{
+    frame[end - 1] % 2 == 1
 }
 
 /// How many of an address's first six octets are letters or digits, from the front on.
