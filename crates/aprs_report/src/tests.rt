@@ -98,6 +98,10 @@ fn plain_positions(rt: HostRuntime) {
     for (info, report) in table {
         assert_eq!(rt; Report::read(info), report, "at {info:?}");
     }
+}
+
+#[test]
+fn fractions_of_a_degree(rt: HostRuntime) {
     let (lat, lon) = (HERE.lat(), HERE.lon());
     assert_eq!(rt; (lat.numerator, lat.denominator), (294350, 6000));
     assert_eq!(rt; (lon.numerator, lon.denominator), (-432175, 6000));
@@ -210,63 +214,73 @@ fn message<'a>(text: &'a [u8], id: Option<&'a [u8]>) -> Report<'a> {
 }
 
 #[test]
-fn statuses_and_messages(rt: HostRuntime) {
-    let ack = Report::Ack {
-        addressee: b"N0CALL-7",
-        id: b"003",
-    };
-    let rej = Report::Rej {
-        addressee: b"N0CALL-7",
-        id: b"003",
-    };
+fn statuses(rt: HostRuntime) {
     let table = [
         (
             b">Net Control Center".as_slice(),
             status(None, b"Net Control Center"),
-            "status",
         ),
         (
             b">092345zNet Control Center".as_slice(),
             status(stamp(b'z'), b"Net Control Center"),
-            "status",
         ),
-        (
-            b">092345/Net".as_slice(),
-            status(None, b"092345/Net"),
-            "status",
-        ),
-        (
-            b":WU2Z     :Testing".as_slice(),
-            message(b"Testing", None),
-            "message",
-        ),
+        (b">092345/Net".as_slice(), status(None, b"092345/Net")),
+    ];
+    for (info, report) in table {
+        assert_eq!(rt; Report::read(info), report, "at {info:?}");
+        assert_eq!(rt; report.kind(), "status", "at {info:?}");
+    }
+}
+
+#[test]
+fn messages(rt: HostRuntime) {
+    let table = [
+        (b":WU2Z     :Testing".as_slice(), message(b"Testing", None)),
         (
             b":WU2Z     :Testing{003".as_slice(),
             message(b"Testing", Some(b"003")),
-            "message",
         ),
         (
             b":WU2Z     :Testing{003\r".as_slice(),
             message(b"Testing", Some(b"003")),
-            "message",
         ),
         (
             b":WU2Z     :Testing{AB}CD".as_slice(),
             message(b"Testing{AB}CD", None),
-            "message",
+        ),
+        (b":WU2Z     :ack".as_slice(), message(b"ack", None)),
+    ];
+    for (info, report) in table {
+        assert_eq!(rt; Report::read(info), report, "at {info:?}");
+        assert_eq!(rt; report.kind(), "message", "at {info:?}");
+    }
+}
+
+#[test]
+fn acks_and_rejs(rt: HostRuntime) {
+    let id = b"003".as_slice();
+    let table = [
+        (
+            b":N0CALL-7 :ack003".as_slice(),
+            Report::Ack {
+                addressee: b"N0CALL-7",
+                id,
+            },
+            "ack",
         ),
         (
-            b":WU2Z     :ack".as_slice(),
-            message(b"ack", None),
-            "message",
+            b":N0CALL-7 :rej003".as_slice(),
+            Report::Rej {
+                addressee: b"N0CALL-7",
+                id,
+            },
+            "rej",
         ),
-        (b":N0CALL-7 :ack003".as_slice(), ack, "ack"),
-        (b":N0CALL-7 :rej003".as_slice(), rej, "rej"),
         (
             b":KB2ICI-14:ack003".as_slice(),
             Report::Ack {
                 addressee: b"KB2ICI-14",
-                id: b"003",
+                id,
             },
             "ack",
         ),
