@@ -1,13 +1,13 @@
 -- Lemmas on the line that is written for a reception.
-use Rattle.std.proofs.Common.{◌≡◌, ℕ, zero, suc, ◌⊎◌, inl, inr, ◌+◌, ◌<◌, ◌≤◌, List, [], ◌∷◌, ◌++◌, length, get_or, take, Ok, refl, arith, sym, ap, ◌∙◌, append-nil, subst}
+use Rattle.std.proofs.Common.{◌≡◌, ℕ, zero, suc, ◌⊎◌, inl, inr, ◌/◌, ◌%◌, ◌<◌, ◌≤◌, List, [], ◌∷◌, ◌++◌, length, get_or, slice_index, append_assoc, take, drop, take-append-drop, true, nat_eq, eqb-true, Ok, refl, arith, sym, ap, ◌∙◌, append-nil, subst}
 use Rattle.std.specs.List.{All}
-use Rattle.std.proofs.lemmas.List.{take_more}
+use Rattle.aprs_kiss.specs.Plain.{IsPlain}
 use Rattle.aprs_kiss.specs.Spelling.{spelling_of, spelling_of_byte, kiss_text}
-use Rattle.std.proofs.lemmas.Grind.{flat_map-append}
+use Rattle.aprs_kiss.proofs.Escapes.{spelling_of-all, spelling_of-cut}
 use Rattle.aprs_ax25.specs.Frame.{FrameOf, Parts}
 use Rattle.aprs_ax25.specs.FrameFault.{frame_of, unless_fault}
 use Rattle.aprs_ax25.specs.Law.{IsFrame, IsRefused}
-use Rattle.hex.specs.Hex.{decode_of, encode_lower}
+use Rattle.hex.specs.Hex.{decode_of, encode_lower, encode_with, lower_digits}
 use Rattle.aprs_log.specs.Bytes.{WrittenLaws}
 use Rattle.aprs_log.specs.Moment.{MomentText, moment_text}
 use Rattle.aprs_log.specs.Receiver.{IsName}
@@ -17,35 +17,58 @@ use Rattle.aprs_log.specs.declared.line.Line.TheVariants as line
 use Rattle.aprs_log.proofs.LineLemmas.{line_of-syntax}
 use Rattle.aprs_log.proofs.FrameLemmas.{frame_in-kiss_text}
 
-spelling_of-one : (b : ℕ) → spelling_of (b ∷ []) ≡ spelling_of_byte b
-unfolding spelling_of
-spelling_of-one b = append-nil (spelling_of_byte b)
+-- ---- a frame's bytes, cut at each byte that isn't sent as itself
 
-spelling_of-append : (a b : List ℕ) → spelling_of (a ++ b) ≡ spelling_of a ++ spelling_of b
-unfolding spelling_of
-spelling_of-append a b = flat_map-append spelling_of_byte a b
+-- what is to be put yet is `more`, after what was put
+put_more : (all rest more before now put : List ℕ) → rest ≡ put ++ more → before ++ rest ≡ all
+    → now ≡ before ++ put → now ++ more ≡ all
+put_more all rest more before now put cut was is =
+    ap (λ l. l ++ more) is ∙ append_assoc before put more ∙ ap (λ l. before ++ l) (sym cut) ∙ was
 
-spelling_of-nil : spelling_of [] ≡ []
-unfolding spelling_of
-spelling_of-nil = refl
+pub put_last : (all rest plain before now last : List ℕ) → IsPlain plain → rest ≡ plain
+    → before ++ (spelling_of rest ++ 0xC0 ∷ []) ≡ all → now ≡ before ++ plain
+    → last ≡ now ++ 0xC0 ∷ [] → last ≡ all
+put_last all rest plain before now last free cut was is then =
+    then ∙ put_more all (spelling_of rest ++ 0xC0 ∷ []) (0xC0 ∷ []) before now plain
+    (spelling_of-all rest plain (0xC0 ∷ []) free cut) was is
 
--- ---- what the loop over a frame's bytes has put
+pub put_cut : (all rest plain after before now next : List ℕ) (mark : ℕ) → IsPlain plain
+    → rest ≡ plain ++ mark ∷ after → before ++ (spelling_of rest ++ 0xC0 ∷ []) ≡ all
+    → now ≡ before ++ plain → next ≡ now ++ spelling_of_byte mark
+    → next ++ (spelling_of after ++ 0xC0 ∷ []) ≡ all
+put_cut all rest plain after before now next mark free cut was is then =
+    let left = spelling_of after ++ 0xC0 ∷ [] in
+    put_more all (spelling_of_byte mark ++ left) left now next (spelling_of_byte mark) refl
+    (put_more all (spelling_of rest ++ 0xC0 ∷ []) (spelling_of_byte mark ++ left) before now plain
+    (spelling_of-cut rest plain after (0xC0 ∷ []) mark free cut) was is) then
 
-pub sent_first : (start now : List ℕ) → start ≡ [] → now ≡ start ++ 0xC0 ∷ 0 ∷ []
-    → now ≡ 0xC0 ∷ 0 ∷ spelling_of []
-sent_first start now e f = f ∙ ap (λ l. l ++ 0xC0 ∷ 0 ∷ []) e
-    ∙ ap (λ l. 0xC0 ∷ 0 ∷ l) (sym spelling_of-nil)
+-- ---- digits, a few bytes at a time
 
-pub sent_more : (frame before now : List ℕ) (i : ℕ) → i < length frame
-    → before ≡ 0xC0 ∷ 0 ∷ spelling_of (take i frame)
-    → now ≡ before ++ spelling_of_byte (get_or frame i 0)
-    → now ≡ 0xC0 ∷ 0 ∷ spelling_of (take (i + 1) frame)
-sent_more frame before now i h e f =
-    let b = get_or frame i 0 in
-    f ∙ ap (λ l. l ++ spelling_of_byte b) e
-    ∙ ap (λ l. 0xC0 ∷ 0 ∷ spelling_of (take i frame) ++ l) (sym (spelling_of-one b))
-    ∙ ap (λ l. 0xC0 ∷ 0 ∷ l) (sym (spelling_of-append (take i frame) (b ∷ [])))
-    ∙ ap (λ l. 0xC0 ∷ 0 ∷ spelling_of l) (sym (take_more frame i 0 h))
+encode_with-append : (t a b : List ℕ) → encode_with t (a ++ b) ≡ encode_with t a ++ encode_with t b
+unfolding encode_with
+encode_with-append t [] b = refl
+encode_with-append t (x ∷ a) b =
+    ap (λ l. slice_index t (x / 16) ∷ slice_index t (x % 16) ∷ l) (encode_with-append t a b)
+
+pub put_chunk : (all rest chunk after before now : List ℕ) → rest ≡ chunk ++ after
+    → before ++ encode_lower rest ≡ all → now ≡ before ++ encode_lower chunk
+    → now ++ encode_lower after ≡ all
+put_chunk all rest chunk after before now cut was is =
+    put_more all (encode_lower rest) (encode_lower after) before now (encode_lower chunk)
+    (ap encode_lower cut ∙ encode_with-append lower_digits chunk after) was is
+
+pub cut_again : (all front back : List ℕ) (n : ℕ) → front ≡ take n all → back ≡ drop n all → all ≡ front ++ back
+cut_again all front back n e f =
+    sym (ap (λ l. l ++ back) e ∙ ap (λ l. take n all ++ l) f ∙ take-append-drop n all)
+
+pub none_left : (l : List ℕ) → true ≡ nat_eq (length l) 0 → l ≡ []
+none_left [] e = refl
+none_left (x ∷ l) e = absurd (omega (arith, eqb-true (length (x ∷ l)) 0 (sym e)))
+
+pub put_all : (all rest now : List ℕ) → rest ≡ [] → now ++ encode_lower rest ≡ all → now ≡ all
+unfolding encode_with
+put_all all rest now none was =
+    sym (append-nil now) ∙ ap (λ l. now ++ encode_lower l) (sym none) ∙ was
 
 -- ---- a written line reads back
 

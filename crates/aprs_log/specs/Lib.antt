@@ -10,4 +10,5 @@ pub mod Moment
 pub mod Reader
 pub mod Receiver
 pub mod Reception
+pub mod Slot
 pub mod Window

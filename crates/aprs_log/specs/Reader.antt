@@ -1,5 +1,5 @@
 -- What contracts see of a reader of a log.
-use Rattle.std.specs.Prelude.{◌≡◌, ℕ, ◌+◌, List, Option, None, Some, Result, Ok, Err}
+use Rattle.std.specs.Prelude.{◌≡◌, ℕ, ◌+◌, Bool, true, false, List, Option, None, Some, Result, Ok, Err}
 use Rattle.std.specs.Borrow.{GName}
 use Rattle.aprs_kiss.specs.declared.device.Counted.{Counted}
 use Rattle.aprs_log.specs.Awaits.{AwaitsIn, stop_in, work_in}
@@ -20,6 +20,10 @@ loan_of r = r.source.ghost_name
 -- how many lines it has given
 abbrev pub lines_of : {R : Type 0} → LogReader R → ℕ
 lines_of r = r.line
+
+-- the line that it gave last
+abbrev pub current_of : {R : Type 0} → LogReader R → Line
+current_of r = r.current
 
 -- the fault or the end that it answers from now on, if it has come to one
 abbrev pub stop_of : {R : Type 0} → LogReader R → Option (Option LogFault)
@@ -44,6 +48,17 @@ work_of r = work_in r.state r.left
 abbrev pub answer_at : Option LogFault → Result (Option Line) LogFault
 answer_at None = Ok None
 answer_at (Some f) = Err f
+
+-- whether a line is told
+abbrev pub tells_line : Result Bool LogFault → Bool
+tells_line (Ok b) = b
+tells_line (Err f) = false
+
+-- what is told, where the line lies in the reader
+abbrev pub answer_told : Result Bool LogFault → Line → Result (Option Line) LogFault
+answer_told (Ok true) x = Ok (Some x)
+answer_told (Ok false) x = Ok None
+answer_told (Err f) x = Err f
 
 -- the answer is the next of those that may come, where the reader and what its device has left
 -- were `old` and `known`, and now are `new` and `after`

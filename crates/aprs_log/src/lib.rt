@@ -15,6 +15,7 @@ mod reader;
 mod receiver;
 mod reception;
 mod refill;
+mod scratch;
 #[cfg(test)]
 mod tests;
 mod window;
@@ -27,7 +28,7 @@ pub use moment::Moment;
 pub use reader::LogReader;
 pub use receiver::Receiver;
 pub use reception::Reception;
-pub use write::write_line;
+pub use write::{LogWriter, write_line};
 
 /// The most bytes of input that a reader is asked to take.
 pub const MAX_INPUT: u64 = 1_073_741_824;

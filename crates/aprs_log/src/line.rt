@@ -1,15 +1,17 @@
 //! Lines of a log.
-ghost use Rattle.std.specs.Prelude.{◌≡◌, ◌≤◌, ◌*◌, ◌↔◌, length, IsOk};
+ghost use Rattle.std.specs.Prelude.{◌≡◌, ◌≤◌, ◌*◌, ◌↔◌, length, IsOk, OnErr};
 ghost use Rattle.hex.specs.Hex.{decode_of};
-ghost use Rattle.aprs_log.specs.Line.{line_of, line_of_bytes, LineSyntax};
+ghost use Rattle.aprs_ax25.specs.FrameFault.{frame_of};
+ghost use Rattle.aprs_log.specs.Line.{frame_or_reason, heard_or_passed, line_of, line_of_bytes, LineSyntax};
+ghost use Rattle.aprs_log.specs.Slot.{told_in};
 
 use crate::cut::cut_at;
 use crate::fault::{LineFault, Reason};
-use crate::hexadecimal::{MAX_BYTES, decode_into};
+use crate::hexadecimal::decode_into;
 use crate::line_bytes::data_in;
+use crate::scratch::Scratch;
 use crate::{Moment, Receiver, Reception};
 use aprs_ax25::Frame;
-use aprs_kiss::KissReader;
 
 /// The most bytes of a line, without its LF.
 pub const MAX_LINE: usize = 8192;
@@ -32,13 +34,56 @@ pub fn read_line(line: &[u8]) -> Result<Line, LineFault>
     // Whatever the bytes are, a line of this syntax is not refused.
     ensures sound { IsOk result ↔ ((length line.now ≤ 8192) × LineSyntax line.now) }
 {
-    read_fields(line, &mut [0; MAX_BYTES])
+    let mut told = Line::empty();
+    match read_fields(line, &mut Scratch::new(), &mut told) {
+        Ok(()) => Ok(told),
+        Err(fault) => Err(fault),
+    }
 }
 
-/// The same, field by field, where `room` is for the bytes.
-pub(crate) fn read_fields(line: &[u8], room: &mut [u8]) -> Result<Line, LineFault>
-    requires { 8192 ≤ 2 * length room.old }
-    ensures { result ≡ line_of line.now }
+impl Line {
+    /// The line of no bytes.
+    pub(crate) fn empty() -> Line {
+        Line::Passed(Reason::NoFrame)
+    }
+
+    /// The same line. Takes no memory.
+    pub fn copy(&self) -> Line
+        ensures { result ≡ self.now }
+    {
+        match self {
+            Line::Heard(reception) => Line::Heard(reception.copy()),
+            Line::Passed(reason) => Line::Passed(*reason),
+        }
+    }
+
+    /// Becomes the line of a frame that was heard, where the bytes are one, or of the reason why
+    /// they are none.
+    fn hear(&mut self, moment: Moment, receiver: Receiver, bytes: &[u8])
+        ensures { self.new
+            ≡ heard_or_passed moment receiver (frame_or_reason (frame_of bytes.now)) }
+    {
+        if let Line::Heard(reception) = self {
+            if let Err(fault) = reception.rehear(moment, receiver, bytes) {
+                *self = Line::Passed(Reason::from(fault));
+            }
+            return;
+        }
+        *self = match Frame::read(bytes) {
+            Ok(frame) => Line::Heard(Reception::new(moment, receiver, frame)),
+            Err(fault) => Line::Passed(Reason::from(fault)),
+        };
+    }
+}
+
+/// Reads the same, field by field, into `told`, which a fault leaves as it was.
+pub(crate) fn read_fields(
+    line: &[u8],
+    scratch: &mut Scratch,
+    told: &mut Line,
+) -> Result<(), LineFault>
+    ensures told { told_in result told.new ≡ line_of line.now }
+    ensures unchanged { OnErr result (told.new ≡ told.old) }
 {
     if line.len() > MAX_LINE {
         return Err(LineFault::LongLine);
@@ -55,29 +100,27 @@ pub(crate) fn read_fields(line: &[u8], room: &mut [u8]) -> Result<Line, LineFaul
     let Some(receiver) = Receiver::parse(receiver) else {
         return Err(LineFault::Receiver);
     };
-    read_within(moment, receiver, digits, room)
+    read_within(moment, receiver, digits, scratch, told)
 }
 
-/// The line of a moment, a receiver and the bytes that the receiver gave, for which `room` is.
+/// Reads the line of a moment, a receiver and the bytes that the receiver gave.
 fn read_within(
     moment: Moment,
     receiver: Receiver,
     digits: &[u8],
-    room: &mut [u8],
-) -> Result<Line, LineFault>
-    requires { length digits.now ≤ 2 * length room.old }
-    ensures { result ≡ line_of_bytes moment receiver (decode_of digits.now) }
+    scratch: &mut Scratch,
+    told: &mut Line,
+) -> Result<(), LineFault>
+    requires { length digits.now ≤ 8192 }
+    ensures told { told_in result told.new ≡ line_of_bytes moment receiver (decode_of digits.now) }
+    ensures unchanged { OnErr result (told.new ≡ told.old) }
 {
-    let Some(len) = decode_into(digits, room) else {
+    let Some(len) = decode_into(digits, &mut scratch.room) else {
         return Err(LineFault::Hex);
     };
-    let mut reader = KissReader::new();
-    let data = match data_in(&mut reader, &room[..len]) {
-        Ok(data) => data,
-        Err(reason) => return Ok(Line::Passed(reason)),
-    };
-    match Frame::read(data) {
-        Ok(frame) => Ok(Line::Heard(Reception::new(moment, receiver, frame))),
-        Err(fault) => Ok(Line::Passed(Reason::from(fault))),
+    match data_in(&mut scratch.kiss, &scratch.room[..len]) {
+        Ok(data) => told.hear(moment, receiver, data),
+        Err(reason) => *told = Line::Passed(reason),
     }
+    Ok(())
 }

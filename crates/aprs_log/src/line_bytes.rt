@@ -1,7 +1,6 @@
 //! The frame in the bytes that a line holds.
-ghost use Rattle.std.specs.Prelude.{◌≡◌, [], Err, MatchResult};
+ghost use Rattle.std.specs.Prelude.{◌≡◌, Err, MatchResult};
 ghost use Rattle.aprs_kiss.specs.Stream.{is_nonempty, rest_of};
-ghost use Rattle.aprs_kiss.specs.Reader.{StandsAfter};
 ghost use Rattle.aprs_ax25.specs.FrameFault.{frame_of};
 ghost use Rattle.aprs_log.specs.Bytes.{has_other, StreamLaws};
 ghost use Rattle.aprs_log.specs.Line.{frame_in, frame_or_reason};
@@ -15,9 +14,8 @@ use aprs_kiss::{
 const FEND: u8 = 0xC0;
 
 /// The one data frame that the bytes hold, which lies in the reader, or the first reason why they
-/// hold none. The reader is at the beginning of a stream.
+/// hold none. The reader begins anew.
 pub fn data_in<'r>(reader: &'r mut KissReader, bytes: &[u8]) -> Result<&'r [u8], Reason>
-    requires { StandsAfter reader.old [] }
     ensures { MatchResult result (λ frame. frame_in bytes.now ≡ frame_or_reason (frame_of frame.now))
         (λ reason. frame_in bytes.now ≡ Err reason) }
 {
@@ -25,6 +23,7 @@ pub fn data_in<'r>(reader: &'r mut KissReader, bytes: &[u8]) -> Result<&'r [u8],
     if is_unended(bytes) {
         return Err(Reason::Unended);
     }
+    reader.reset();
     let (used, fed) = reader.feed(bytes);
     if has_other(&bytes[used..]) {
         return Err(Reason::TwoFrames);

@@ -5,20 +5,22 @@ ghost use Rattle.aprs_log.specs.Window.{items};
 
 use crate::ending::{Ending, State, refuse_tail};
 use crate::fault::{LogCause, LogFault};
-use crate::hexadecimal::MAX_BYTES;
 use crate::line::{Line, MAX_LINE};
 use crate::refill::{read_more, take_line};
+use crate::scratch::Scratch;
 use crate::window::Window;
 use aprs_kiss::Counted;
 use std::alloc::Global;
 use std::io::Read;
 
-/// Gives the lines of a log in order, up to the first fault. It has a buffer of its own.
+/// Gives the lines of a log in order, up to the first fault. It has a buffer of its own, and keeps
+/// the line that it gave last.
 #[derive(Drop)]
 pub struct LogReader<'a, R> {
     source: &'a mut Counted<R>,
     window: Window,
-    room: [u8; MAX_BYTES],
+    scratch: Scratch,
+    current: Line,
     left: u64,
     line: u64,
     state: State,
@@ -27,12 +29,13 @@ pub struct LogReader<'a, R> {
 }
 
 impl<'a, R: Read> LogReader<'a, R> {
-    ghost use Rattle.std.specs.Prelude.{◌≡◌, ◌≢◌, ◌+◌, ◌≤◌, ◌<◌, ◌++◌, length, Option, None, Some, IfNone, IfSome, IfErr};
+    ghost use Rattle.std.specs.Prelude.{◌≡◌, ◌≢◌, ◌+◌, ◌≤◌, ◌<◌, ◌++◌, length, Option, None, Some, IfSome, IfErr, OnErr, false};
+    ghost use Rattle.std.specs.Bool.{OnTrue, OnFalse};
     ghost use Rattle.aprs_kiss.specs.Device.{device_of, failures_of, Rose};
     ghost use Rattle.aprs_log.specs.Cut.{cut_at};
     ghost use Rattle.aprs_log.specs.LogAnswers.{Answers, then_given};
     ghost use Rattle.aprs_log.specs.Window.{items};
-    ghost use Rattle.aprs_log.specs.Reader.{answer_at, Awaits, AreAnswersOf, GivesNext, lines_of, loan_of, source_of, stop_of, work_of};
+    ghost use Rattle.aprs_log.specs.Reader.{answer_at, answer_told, Awaits, AreAnswersOf, GivesNext, current_of, lines_of, loan_of, source_of, stop_of, tells_line, work_of};
 
     /// A reader of the log that begins with `head` and goes on with the bytes of `source`, of which
     /// it takes at most `limit` bytes, the head among them. It reads nothing yet, refuses nothing
@@ -61,7 +64,8 @@ impl<'a, R: Read> LogReader<'a, R> {
         LogReader {
             source,
             window: Window::new(head),
-            room: [0; MAX_BYTES],
+            scratch: Scratch::new(),
+            current: Line::empty(),
             left: limit - head.len() as u64,
             line: 0,
             state: State::Reading,
@@ -103,16 +107,53 @@ impl<'a, R: Read> LogReader<'a, R> {
             → Rose (failures_of (source_of self.old)) (failures_of (source_of self.new))) }
         ensures memory { IfErr result (λ f. f.cause ≢ LogCause.Memory) }
     {
+        match self.advance() {
+            Ok(true) => Ok(Some(self.current.copy())),
+            Ok(false) => Ok(None),
+            Err(fault) => Err(fault),
+        }
+    }
+
+    /// Goes to the next line, which `current` then lends, and says whether there is one: as `next`,
+    /// without a copy of the line. Takes no memory.
+    pub fn advance(&mut self) -> Result<bool, LogFault>
+        ensures same_reference { loan_of self.new ≡ loan_of self.old }
+        ensures count { failures_of (source_of self.old) ≤ failures_of (source_of self.new) }
+        ensures gives { GivesNext (answer_told result (current_of self.new))
+            (R.remaining (device_of (source_of self.old))) self.old
+            (R.remaining (device_of (source_of self.new))) self.new }
+        // Where no line comes, the last one stays.
+        ensures keeps { tells_line result ≡ false → current_of self.new ≡ current_of self.old }
+        // What it came to stays, and it reads no more.
+        ensures repeats { (stop : Option LogFault) → stop_of self.old ≡ Some stop
+            → answer_told result (current_of self.new) ≡ answer_at stop }
+        ensures stays { (stop : Option LogFault) → stop_of self.old ≡ Some stop
+            → (stop_of self.new ≡ Some stop) × (source_of self.new ≡ source_of self.old) }
+        ensures number { IfErr result (λ f. f.line ≡ lines_of self.new + 1) }
+        // Some answers may always come.
+        ensures awaits { (a : Answers)
+            × Awaits (R.remaining (device_of (source_of self.new))) self.new a }
+        ensures read { IfErr result (λ f. f.cause ≡ LogCause.Read → stop_of self.old ≡ None
+            → Rose (failures_of (source_of self.old)) (failures_of (source_of self.new))) }
+        ensures memory { IfErr result (λ f. f.cause ≢ LogCause.Memory) }
+    {
         loop {
             match self.state {
                 State::Reading => {}
-                State::Ended => return Ok(None),
+                State::Ended => return Ok(false),
                 State::Failed(cause) => return Err(self.fault(cause)),
             }
-            if let Some(line) = self.step() {
-                return Ok(Some(line));
+            if self.step() {
+                return Ok(true);
             }
         }
+    }
+
+    /// The line that was given last. Before any it is one without a frame. Takes no memory.
+    pub fn current(&self) -> &Line
+        ensures { result.now ≡ current_of self.now }
+    {
+        &self.current
     }
 
     /// The fault with this cause in the line that follows.
@@ -126,33 +167,35 @@ impl<'a, R: Read> LogReader<'a, R> {
     }
 
     /// Gives a line that is there, or reads on, or stops.
-    fn step(&mut self) -> Option<Line>
+    fn step(&mut self) -> bool
         requires { self.old.state ≡ State.Reading }
         ensures same_reference { loan_of self.new ≡ loan_of self.old }
         ensures count { failures_of (source_of self.old) ≤ failures_of (source_of self.new) }
-        ensures given { IfSome result (λ x. (lines_of self.new ≡ lines_of self.old + 1)
+        ensures given { OnTrue result ((lines_of self.new ≡ lines_of self.old + 1)
             × ((a : Answers) → Awaits (R.remaining (device_of (source_of self.new))) self.new a
-            → Awaits (R.remaining (device_of (source_of self.old))) self.old (then_given x a))) }
-        ensures none { IfNone result ((lines_of self.new ≡ lines_of self.old) × ((a : Answers)
+            → Awaits (R.remaining (device_of (source_of self.old))) self.old
+            (then_given (current_of self.new) a))) }
+        ensures none { OnFalse result ((lines_of self.new ≡ lines_of self.old)
+            × (current_of self.new ≡ current_of self.old) × ((a : Answers)
             → Awaits (R.remaining (device_of (source_of self.new))) self.new a
             → Awaits (R.remaining (device_of (source_of self.old))) self.old a)) }
-        ensures going { IfSome result (λ _. stop_of self.new ≡ None) }
-        ensures less { IfNone result (work_of self.new < work_of self.old) }
-        ensures read { IfNone result (self.new.state ≡ State.Failed LogCause.Read
+        ensures going { OnTrue result (stop_of self.new ≡ None) }
+        ensures less { OnFalse result (work_of self.new < work_of self.old) }
+        ensures read { OnFalse result (self.new.state ≡ State.Failed LogCause.Read
             → Rose (failures_of (source_of self.old)) (failures_of (source_of self.new))) }
     {
-        match take_line(&mut self.window, &mut self.room) {
-            Some(Ok(line)) => {
+        match take_line(&mut self.window, &mut self.scratch, &mut self.current) {
+            Some(Ok(())) => {
                 self.line += 1;
-                Some(line)
+                true
             }
             Some(Err(fault)) => {
                 self.state = State::Failed(LogCause::from(fault));
-                None
+                false
             }
             None => {
                 self.read_on();
-                None
+                false
             }
         }
     }
@@ -164,6 +207,7 @@ impl<'a, R: Read> LogReader<'a, R> {
         ensures same_reference { loan_of self.new ≡ loan_of self.old }
         ensures count { failures_of (source_of self.old) ≤ failures_of (source_of self.new) }
         ensures lines { lines_of self.new ≡ lines_of self.old }
+        ensures current { current_of self.new ≡ current_of self.old }
         ensures moves { (a : Answers)
             → Awaits (R.remaining (device_of (source_of self.new))) self.new a
             → Awaits (R.remaining (device_of (source_of self.old))) self.old a }

@@ -1,13 +1,14 @@
 //! Receptions.
-ghost use Rattle.std.specs.Prelude.{◌≡◌};
+ghost use Rattle.std.specs.Prelude.{◌≡◌, Ok, Err, OnOk, IfErr};
 ghost use Rattle.std.specs.Ordering.{as_partial_cmp};
 ghost use Rattle.std.proofs.Common.{rules};
 ghost use Rattle.std.specs.Cmp.{partial_order_from_own_ties};
 ghost use Rattle.std.specs.Cmp.Rules.{comparing};
+ghost use Rattle.aprs_ax25.specs.FrameFault.{frame_of};
 ghost use Rattle.aprs_log.specs.Reception.{Heard, heard_cmp};
 
 use crate::{Moment, Receiver};
-use aprs_ax25::Frame;
+use aprs_ax25::{Frame, FrameFault};
 use std::cmp::Ordering;
 use std::marker::Model;
 
@@ -38,6 +39,24 @@ impl Reception {
             receiver,
             frame,
         }
+    }
+
+    /// Puts the reception of these parts in the place of this one, where the bytes are a frame.
+    /// Takes no memory.
+    pub(crate) fn rehear(
+        &mut self,
+        moment: Moment,
+        receiver: Receiver,
+        bytes: &[u8],
+    ) -> Result<(), FrameFault>
+        ensures heard { OnOk result (frame_of bytes.now ≡ Ok self.new.frame) }
+        ensures moment { OnOk result (self.new.moment ≡ moment) }
+        ensures receiver { OnOk result (self.new.receiver ≡ receiver) }
+        ensures fault { IfErr result (λ fault. frame_of bytes.now ≡ Err fault) }
+    {
+        self.moment = moment;
+        self.receiver = receiver;
+        self.frame.reread(bytes)
     }
 
     /// When the frame was heard.

@@ -14,15 +14,17 @@ use crate::bytes::push_all;
 use crate::line::Line;
 use crate::reception::Reception;
 use aprs_ax25::each_is_a_frame_or_refused;
-use aprs_kiss::{Counted, WriteFault, cuts_change_nothing, send, written_frames_are_read_back};
+use aprs_kiss::{
+    Counted, WriteFault, cut_plain, cuts_change_nothing, send, written_frames_are_read_back,
+};
 use arrayvec::ArrayVec;
 use std::io::Write;
 
 /// The most bytes that a frame of 328 bytes is sent as: each byte as two, and three around them.
 const MAX_SPELLED: usize = 659;
 
-/// The digits of so many bytes.
-const MAX_DIGITS: usize = 1318;
+/// How many bytes are put as digits at once.
+const CHUNK: usize = 64;
 
 /// The most bytes of a line that is written: a moment, a name, two spaces, the digits and the LF.
 const MAX_WRITTEN: usize = 1357;
@@ -40,14 +42,56 @@ pub fn write_line<W: Write>(w: &mut Counted<W>, reception: &Reception) -> Result
     // The line reads back as the reception.
     ensures reads_back { line_of (written_line reception.now) ≡ Ok (Line.Heard reception.now) }
 {
-    let mut line = ArrayVec::new();
-    push_line(&mut line, reception);
-    send(w, line.as_slice())
+    LogWriter::new().write(w, reception)
 }
 
-/// Puts the line and its LF into `line`, which is empty.
-fn push_line(line: &mut ArrayVec<u8, MAX_WRITTEN>, reception: &Reception)
-    requires { line.old.items ≡ [] }
+/// Writes receptions as lines of a log. It keeps the room for a line, which to make anew costs more
+/// than to write a line.
+#[derive(Drop)]
+pub struct LogWriter {
+    line: ArrayVec<u8, MAX_WRITTEN>,
+    spelled: ArrayVec<u8, MAX_SPELLED>,
+}
+
+impl LogWriter {
+    /// A writer of lines. Takes no memory.
+    pub fn new() -> LogWriter {
+        LogWriter {
+            line: ArrayVec::new(),
+            spelled: ArrayVec::new(),
+        }
+    }
+
+    /// Writes one line, as `write_line` does. Takes no memory.
+    pub fn write<W: Write>(
+        &mut self,
+        w: &mut Counted<W>,
+        reception: &Reception,
+    ) -> Result<(), WriteFault>
+        ensures sent { OnOk result (Appends (W.contents (device_of w.old))
+            (W.contents (device_of w.new)) (written_line reception.now ++ 10 ∷ [])) }
+        ensures prefix { OnErr result (AppendsFront (W.contents (device_of w.old))
+            (W.contents (device_of w.new)) (written_line reception.now ++ 10 ∷ [])) }
+        ensures count { failures_of w.old ≤ failures_of w.new }
+        ensures fault { OnErr result (Rose (failures_of w.old) (failures_of w.new)) }
+        // The line reads back as the reception.
+        ensures reads_back { line_of (written_line reception.now) ≡ Ok (Line.Heard reception.now) }
+    {
+        self.line.clear();
+        self.spelled.clear();
+        push_line(&mut self.line, &mut self.spelled, reception);
+        send(w, self.line.as_slice())
+    }
+}
+
+/// Puts the line and its LF into `line`. Both are empty; `spelled` is room for the frame.
+fn push_line(
+    line: &mut ArrayVec<u8, MAX_WRITTEN>,
+    spelled: &mut ArrayVec<u8, MAX_SPELLED>,
+    reception: &Reception,
+)
+    requires line { line.old.items ≡ [] }
+    requires spelled { spelled.old.items ≡ [] }
     ensures line { line.new.items ≡ written_line reception.now ++ 10 ∷ [] }
     ensures back { length (written_line reception.now) ≤ 8192
         → line_of (written_line reception.now) ≡ Ok (Line.Heard reception.now) }
@@ -59,8 +103,7 @@ fn push_line(line: &mut ArrayVec<u8, MAX_WRITTEN>, reception: &Reception)
     push_all(line, b" ");
     let frame = reception.frame().bytes();
     frames_are_read(frame);
-    let mut spelled = ArrayVec::new();
-    push_frame(&mut spelled, frame);
+    push_frame(spelled, frame);
     push_hex(line, spelled.as_slice());
     push_all(line, b"\n");
 }
@@ -88,10 +131,17 @@ fn push_frame(out: &mut ArrayVec<u8, MAX_SPELLED>, frame: &[u8])
     ensures { out.new.items ≡ kiss_text frame.now }
 {
     push_all(out, &[0xC0, 0]);
-    for byte in frame {
-        push_spelled(out, *byte);
+    let mut rest = frame;
+    'cuts: loop {
+        let (plain, mark) = cut_plain(rest);
+        push_all(out, plain);
+        let Some((byte, after)) = mark else {
+            push_all(out, &[0xC0]);
+            return;
+        };
+        push_spelled(out, byte);
+        rest = after;
     }
-    push_all(out, &[0xC0]);
 }
 
 /// Puts what goes out for a byte behind what is there.
@@ -115,7 +165,22 @@ fn push_hex(out: &mut ArrayVec<u8, MAX_WRITTEN>, bytes: &[u8])
     ensures len { array_vec_len out.new ≡ array_vec_len out.old + 2 * length bytes.now }
     ensures back { decode_of (encode_lower bytes.now) ≡ Ok bytes.now }
 {
-    let mut digits = [0; MAX_DIGITS];
+    let mut rest = bytes;
+    'chunks: while !rest.is_empty() {
+        let (chunk, after) = rest.split_at(rest.len().min(CHUNK));
+        push_chunk(out, chunk);
+        rest = after;
+    }
+}
+
+/// Puts the digits of a few bytes behind what is there.
+fn push_chunk(out: &mut ArrayVec<u8, MAX_WRITTEN>, bytes: &[u8])
+    requires few { length bytes.now ≤ 64 }
+    requires room { array_vec_len out.old + 2 * length bytes.now ≤ 1357 }
+    ensures items { out.new.items ≡ out.old.items ++ encode_lower bytes.now }
+    ensures len { array_vec_len out.new ≡ array_vec_len out.old + 2 * length bytes.now }
+{
+    let mut digits = [0; 2 * CHUNK];
     let digits = &mut digits[..2 * bytes.len()];
     encode_to(bytes, digits);
     push_all(out, digits);
@@ -124,8 +189,7 @@ fn push_hex(out: &mut ArrayVec<u8, MAX_WRITTEN>, bytes: &[u8])
 /// Writes the digits of bytes.
 fn encode_to(bytes: &[u8], digits: &mut [u8])
     requires { length digits.old ≡ 2 * length bytes.now }
-    ensures digits { digits.new ≡ encode_lower bytes.now }
-    ensures back { decode_of (encode_lower bytes.now) ≡ Ok bytes.now }
+    ensures { digits.new ≡ encode_lower bytes.now }
 {
     hex::encode_to_slice(bytes, digits).unwrap();
 }

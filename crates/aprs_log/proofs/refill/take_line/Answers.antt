@@ -8,7 +8,7 @@ consume-requires c = (taken 10 _ _ _ c.in-Some.ensures c.as_slice.ensures.value)
 pub returns-clause-some : goal.returns-clause-some
 returns-clause-some c =
     let t = taken 10 _ _ _ c.in-Some.ensures c.as_slice.ensures.value in
-    (_, t.is, c.read_fields-answer.ensures, c.consume.ensures ∙ t.left)
+    (_, t.is, c.read_fields-answer.ensures.told, c.consume.ensures ∙ t.left)
 
 pub returns-clause-shorter : goal.returns-clause-shorter
 returns-clause-shorter c =

@@ -1,20 +1,25 @@
-use Rattle.std.proofs.Common.{◌≡◌, ℕ, [], length, ap, arith}
-use Rattle.arrayvec.specs.ArrayVec.{ArrayVec, array_vec_len}
-use Rattle.aprs_log.proofs.WrittenLemmas.{sent_first, sent_more}
+use Rattle.std.proofs.Common.{◌≡◌, ◌++◌, ◌∷◌, length, length-append, arith, ap, subst, sym}
+use Rattle.aprs_kiss.specs.Plain.{CutsPlain}
+use Rattle.aprs_kiss.specs.Spelling.{kiss_text}
+use Rattle.aprs_log.proofs.WrittenLemmas.{put_last, put_cut}
 use Rattle.aprs_log.proofs.write.push_frame.Goals as goal
 
-len_of : (v : ArrayVec ℕ) → v.items ≡ [] → array_vec_len v ≡ 0
-len_of v e = ap length e
+pub returns-in_default : goal.returns-in_default
+returns-in_default c =
+    let cut = subst (CutsPlain _ _) c.in_default.is c.cut_plain.ensures.cut in
+    put_last (kiss_text c.args.frame.now) _ _ _ _ _ c.cut_plain.ensures.plain cut
+    c.cuts.invariant.sent c.push_all-in-cuts.ensures.items c.push_all-in_default.ensures.items
 
-pub loop-byte-init : goal.loop-byte-init
-loop-byte-init c = record {
-  sent = sent_first _ _ c.requires.empty c.push_all.ensures.items;
-  len = omega (arith, c.push_all.ensures.len, len_of c.args.out.now c.requires.empty);
-}
-
-pub loop-byte-preserved : goal.loop-byte-preserved
-loop-byte-preserved c = record {
-  sent = sent_more c.args.frame.now _ _ c.loop-byte.byte-index c.loop-byte-test.true
-      c.loop-byte.invariant.sent c.push_spelled.ensures.value;
-  len = omega (arith, c.loop-byte.invariant.len, c.push_spelled.ensures.len);
-}
+pub cuts-preserved : goal.cuts-preserved
+cuts-preserved c =
+    let cut = subst (CutsPlain _ _) c.in-Some.is c.cut_plain.ensures.cut in
+    let plain = c.cut_plain.result.0.now in
+    let len : length (plain ++ c.in-Some.byte ∷ c.in-Some.after.now) ≡ length c.cuts.rest.now
+    = ap length (sym cut.0) in
+    let parts = length-append plain (c.in-Some.byte ∷ c.in-Some.after.now) in
+    record {
+      sent = put_cut (kiss_text c.args.frame.now) _ _ _ _ _ _ c.in-Some.byte
+          c.cut_plain.ensures.plain cut.0 c.cuts.invariant.sent
+          c.push_all-in-cuts.ensures.items c.push_spelled.ensures.value;
+      len = omega (arith, len, parts, c.cuts.invariant.len, c.push_all-in-cuts.ensures.len, c.push_spelled.ensures.len);
+    }

@@ -1,10 +1,13 @@
-use Rattle.std.proofs.Common.{◌≡◌, ◌≤◌, ◌+◌, ◌*◌, ◌∷◌, take}
+use Rattle.std.proofs.Common.{◌≡◌, ◌≤◌, ◌+◌, ◌*◌, ◌++◌, ◌∷◌, [], length}
 use Rattle.arrayvec.specs.ArrayVec.{array_vec_len}
-use Rattle.aprs_kiss.specs.Spelling.{spelling_of}
+use Rattle.aprs_kiss.specs.Spelling.{kiss_text, spelling_of}
 use Rattle.aprs_log.proofs.write.push_frame.Given as goal
 
-abbrev pub invariant-loop-byte : goal.invariant-loop-byte
-invariant-loop-byte l = record {
-  sent : l.out.items ≡ 0xC0 ∷ 0 ∷ spelling_of (take l.byte-index l.frame);
-  len : array_vec_len l.out ≤ 2 + 2 * l.byte-index;
+abbrev pub invariant-cuts : goal.invariant-cuts
+invariant-cuts l = record {
+  sent : l.out.items ++ (spelling_of l.rest ++ 0xC0 ∷ []) ≡ kiss_text l.frame;
+  len : array_vec_len l.out + 2 * length l.rest ≤ 658;
 }
+
+abbrev pub decreases-cuts : goal.decreases-cuts
+decreases-cuts l = length l.rest

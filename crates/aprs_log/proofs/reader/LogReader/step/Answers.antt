@@ -1,4 +1,5 @@
-use Rattle.std.proofs.Common.{◌∙◌, sym, refl}
+use Rattle.std.proofs.Common.{◌∙◌, ap, sym, refl, rules}
+use Rattle.aprs_log.specs.Slot.{told_in}
 use Rattle.aprs_log.proofs.AwaitLemmas.{step_line, step_fault, faults_keep}
 use Rattle.aprs_log.proofs.reader.LogReader.step.Goals as goal
 
@@ -9,16 +10,19 @@ invariant_of-self-in-Some-Err-clause-no_memory g c = faults_keep c.in-Some-Err.f
 
 pub returns-in-Some-Ok-clause-given : goal.returns-in-Some-Ok-clause-given
 returns-in-Some-Ok-clause-given g c =
-    let t = c.in-Some-Ok.ensures.some in (
+    let t = c.in-Some-Ok.ensures.some in
+    let told = c.take_line.new.told in (
       refl,
-      λ a. step_line _ _ _ _ _ _ c.in-Some-Ok.line t.0 a c.requires t.1
-          (sym c.in-Some-Ok.field-0-is ∙ t.2) t.3,
+      λ a. step_line _ _ _ _ _ _ told t.0 a c.requires t.1
+          (ap (λ r. told_in r told) (sym c.in-Some-Ok.field-0-is) ∙ t.2) t.3,
     )
 
 pub returns-in-Some-Err-clause-none : goal.returns-in-Some-Err-clause-none
 returns-in-Some-Err-clause-none g c =
-    let t = c.in-Some-Err.ensures.some in (
+    let t = c.in-Some-Err.ensures.some in
+    let told = c.take_line.new.told in (
       refl,
+      search rules,
       λ a. step_fault _ _ _ _ _ c.in-Some-Err.fault t.0 c.from.result a c.requires t.1
-          (sym c.in-Some-Err.field-0-is ∙ t.2) c.from.ensures,
+          (ap (λ r. told_in r told) (sym c.in-Some-Err.field-0-is) ∙ t.2) c.from.ensures,
     )

@@ -1,17 +1,18 @@
 use Rattle.std.proofs.Common.{◌≡◌, ◌≤◌, Option, None, Some}
 use Rattle.aprs_kiss.specs.Device.{device_of, failures_of, Rose}
 use Rattle.aprs_log.specs.LogAnswers.{Answers}
-use Rattle.aprs_log.specs.Reader.{Awaits, lines_of, loan_of, source_of, stop_of, work_of}
+use Rattle.aprs_log.specs.Reader.{Awaits, current_of, lines_of, loan_of, source_of, stop_of, work_of}
 use Rattle.aprs_log.specs.declared.ending.State.TheVariants.{Failed}
 use Rattle.aprs_log.specs.declared.fault.LogCause.TheVariants as cause
 use Rattle.aprs_log.specs.declared.fault.LogFault.{LogFault}
-use Rattle.aprs_log.proofs.reader.LogReader.next.Given as goal
+use Rattle.aprs_log.proofs.reader.LogReader.advance.Given as goal
 
 abbrev pub invariant-loop-self : goal.invariant-loop-self
 invariant-loop-self g l = record {
   same_reference : loan_of l.self ≡ loan_of l.initial.self;
   count : failures_of (source_of l.initial.self) ≤ failures_of (source_of l.self);
   lines : lines_of l.self ≡ lines_of l.initial.self;
+  current : current_of l.self ≡ current_of l.initial.self;
   moves : (a : Answers) → Awaits (g.R.Read.remaining (device_of (source_of l.self))) l.self a
       → Awaits (g.R.Read.remaining (device_of (source_of l.initial.self))) l.initial.self a;
   stays : (stop : Option LogFault) → stop_of l.initial.self ≡ Some stop

@@ -1,5 +1,5 @@
 use Rattle.aprs_log.proofs.AwaitLemmas.{something}
-use Rattle.aprs_log.proofs.reader.LogReader.next.Goals as goal
+use Rattle.aprs_log.proofs.reader.LogReader.advance.Goals as goal
 
 pub returns-in-Ended-clause-awaits : goal.returns-in-Ended-clause-awaits
 returns-in-Ended-clause-awaits g c = something _ _ _ _ _
@@ -7,5 +7,5 @@ returns-in-Ended-clause-awaits g c = something _ _ _ _ _
 pub returns-in-Failed-clause-awaits : goal.returns-in-Failed-clause-awaits
 returns-in-Failed-clause-awaits g c = something _ _ _ _ _
 
-pub returns-in-Some-clause-awaits : goal.returns-in-Some-clause-awaits
-returns-in-Some-clause-awaits g c = something _ _ _ _ _
+pub returns-then-step-clause-awaits : goal.returns-then-step-clause-awaits
+returns-then-step-clause-awaits g c = something _ _ _ _ _

@@ -1,6 +1,6 @@
 use Rattle.std.proofs.Common.{◌≡◌, ◌+◌, ◌++◌, ◌∷◌, [], length, ap, ◌∙◌, arith, length-append}
 use Rattle.aprs_log.specs.Line.{written_line}
-use Rattle.aprs_log.proofs.write.write_line.Goals as goal
+use Rattle.aprs_log.proofs.write.LogWriter.write.Goals as goal
 
 pub returns-clause-reads_back : goal.returns-clause-reads_back
 returns-clause-reads_back g c =

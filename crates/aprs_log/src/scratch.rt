@@ -1,0 +1,23 @@
+//! Room for the bytes of a line.
+use crate::hexadecimal::MAX_BYTES;
+use aprs_kiss::KissReader;
+
+/// What reading a line writes to and leaves behind. Kept from line to line, since to make it anew
+/// costs more than to read a line.
+#[derive(Drop)]
+pub struct Scratch {
+    /// The bytes that the receiver gave.
+    pub room: [u8; MAX_BYTES],
+    /// The frame in them.
+    pub kiss: KissReader,
+}
+
+impl Scratch {
+    /// Room for the first line.
+    pub fn new() -> Scratch {
+        Scratch {
+            room: [0; MAX_BYTES],
+            kiss: KissReader::new(),
+        }
+    }
+}
