@@ -4,3 +4,6 @@ pub mod Places
 pub mod Taking
 pub mod Pushes
 pub mod Replays
+pub mod Refusals
+pub mod Views
+pub mod Stations

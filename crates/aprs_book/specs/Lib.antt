@@ -4,6 +4,13 @@ pub mod Places
 pub mod Taking
 pub mod Pushed
 pub mod Replay
+pub mod RowCause
+pub mod Refusal
+pub mod Reports
+pub mod LastKnown
+pub mod Subject
+pub mod Stations
+pub mod StationRows
 -- what public clauses cite of lower crates
 pub use Rattle.aprs_log.specs.Reception
 pub use Rattle.aprs_laws.specs.Lists
@@ -17,3 +24,7 @@ pub use Rattle.aprs_laws.specs.JoinRow
 pub use Rattle.aprs_laws.specs.Inserted
 pub use Rattle.aprs_laws.specs.Joining
 pub use Rattle.aprs_laws.specs.Taken
+pub use Rattle.aprs_laws.specs.Best
+pub use Rattle.aprs_laws.specs.BestLaws
+pub use Rattle.aprs_report.specs.Reading
+pub use Rattle.aprs_report.specs.Reader

@@ -1,5 +1,5 @@
 //! The book.
-ghost use Rattle.std.specs.Prelude.{◌≡◌, ◌↔◌, [], length, true, IsTrue, IsOk, IfOk, OnOk, OnErr};
+ghost use Rattle.std.specs.Prelude.{◌≡◌, ◌↔◌, [], ◌∷◌, ◌++◌, length, true, IsTrue, IsOk, IfOk, OnOk, OnErr, IsOkUnless, MatchOption, Err};
 ghost use Rattle.aprs_laws.specs.Gap.{gap_seconds};
 ghost use Rattle.aprs_laws.specs.Book.{BookOf};
 ghost use Rattle.aprs_laws.specs.Sound.{Sound};
@@ -8,11 +8,13 @@ ghost use Rattle.std.proofs.Common.{lit<};
 ghost use Rattle.aprs_laws.specs.Joining.{Joined};
 ghost use Rattle.aprs_laws.proofs.Joins.{book_laws};
 ghost use Rattle.aprs_book.specs.Taking.{TakesIn, MergesInto};
+ghost use Rattle.aprs_book.specs.Refusal.{refusal};
 
 use crate::kept_row::KeptRow;
 use crate::merging::merged_rows;
 use crate::place::{Place, find_place};
-use crate::{Join, Memory, Rows};
+use crate::push::push_parts;
+use crate::{Join, Memory, RowCause, RowParts, Rows};
 use aprs_log::Reception;
 use std::alloc::{Allocator, Global};
 use std::marker::Model;
@@ -75,6 +77,20 @@ impl<A: Allocator + Copy> Book<A> {
         put(&mut self.rows, x)
     }
 
+    /// Adds a row behind all others, unless a cause refuses it: it is added, or memory was refused,
+    /// exactly if the rows with it are sound. Looks at the last row alone. After an error the book is
+    /// as before.
+    pub fn push_row(&mut self, parts: &RowParts<A>) -> Result<(), RowCause>
+        ensures sound { IsOkUnless result RowCause.Memory
+            ↔ Sound gap_seconds (self.old ++ parts.now ∷ []) }
+        ensures cause { MatchOption (refusal gap_seconds self.old parts.now)
+            (IsOkUnless result RowCause.Memory) (λ cause. result ≡ Err cause) }
+        ensures added { OnOk result (self.new ≡ self.old ++ parts.now ∷ []) }
+        ensures unchanged { OnErr result (self.new ≡ self.old) }
+    {
+        push_parts(&mut self.rows, parts)
+    }
+
     /// The book of both sets together, in one pass over the rows of both. Both stay as they are.
     pub fn merge(&self, other: &Book<A>) -> Result<Book<A>, Memory>
         ensures joined { IfOk result (Joined gap_seconds self.now other.now) }
@@ -88,6 +104,19 @@ impl<A: Allocator + Copy> Book<A> {
             other.rows.as_slice(),
         )?;
         Ok(Book { rows })
+    }
+
+    /// The rows as they are kept.
+    pub(crate) fn kept(&self) -> &[KeptRow<A>]
+        ensures rows { result.now ≡ self.now }
+        ensures sound { Sound gap_seconds self.now }
+    {
+        self.rows.as_slice()
+    }
+
+    /// Where the book's memory comes from.
+    pub(crate) fn allocator(&self) -> A {
+        *self.rows.allocator()
     }
 
     /// Whether both have the same rows. Takes no memory.

@@ -1,6 +1,11 @@
 //! Worked examples of rows, and growths refused.
 
-use crate::{Book, Greatest, Join, Receivers, Step, join_all, replay, steps_fit};
+mod last_known;
+
+use crate::{
+    Book, Greatest, Join, ReceiverList, Receivers, RowCause, RowParts, Step, join_all, replay,
+    steps_fit,
+};
 use aprs_ax25::Frame;
 use aprs_log::{Moment, Receiver, Reception};
 use linked_list_allocator::LocalHeap;
@@ -276,5 +281,114 @@ fn greatest_receptions_join(rt: HostRuntime) -> Result<(), Fail> {
     names.add(&name).ok().ok_or("memory")?;
     let twice = names.join(&names).ok().ok_or("memory")?;
     assert_eq!(rt; twice.as_slice().len(), 1);
+    Ok(())
+}
+
+/// What makes a row of the direct frame: its first and last second, its receivers, and who heard the
+/// greatest reception.
+fn parts<A: Allocator + Copy>(
+    alloc: A,
+    first: u64,
+    last: u64,
+    names: &[&[u8]],
+    name: &[u8],
+) -> Result<RowParts<A>, Fail> {
+    let mut list = Vec::new(alloc);
+    for name in names {
+        list.push(receiver(name)?)?;
+    }
+    Ok(RowParts {
+        first: Moment::new(first).ok_or("moment")?,
+        last: Moment::new(last).ok_or("moment")?,
+        receivers: ReceiverList::new(list),
+        receiver: receiver(name)?,
+        frame: Frame::read(&DIRECT).ok().ok_or("frame")?,
+    })
+}
+
+// At one moment the greatest reception is by the last receiver.
+#[test]
+fn rows_without_their_greatest_are_refused(rt: HostRuntime) -> Result<(), Fail> {
+    let alloc = rt.alloc();
+    let mut book = Book::new(alloc);
+    let tied = parts(alloc, NOON, NOON, &[b"RX1", b"RX2"], b"RX1")?;
+    assert!(rt; book.push_row(&tied) == Err(RowCause::NotGreatest));
+    let turned = parts(alloc, NOON, NOON, &[b"RX2", b"RX1"], b"RX1")?;
+    assert!(rt; book.push_row(&turned) == Err(RowCause::Receivers));
+    let nobody = parts(alloc, NOON, NOON, &[], b"RX1")?;
+    assert!(rt; book.push_row(&nobody) == Err(RowCause::Receivers));
+    assert_eq!(rt; book.len(), 0);
+    let earlier = parts(alloc, NOON - 1, NOON, &[b"RX1", b"RX2"], b"RX1")?;
+    assert!(rt; book.push_row(&earlier) == Ok(()));
+    let text = shown(alloc, &book)?;
+    assert_eq!(rt; text.as_str(), "3599-0 RX1 RX2 / RX1 6f; ");
+    assert_eq!(rt; tied.receivers.into_vec().len(), 2);
+    Ok(())
+}
+
+#[test]
+fn rows_are_pushed_behind_the_last(rt: HostRuntime) -> Result<(), Fail> {
+    let alloc = rt.alloc();
+    let mut book = Book::new(alloc);
+    let backwards = parts(alloc, NOON + 1, NOON, &[b"RX1"], b"RX1")?;
+    assert!(rt; book.push_row(&backwards) == Err(RowCause::Span));
+    let noon = parts(alloc, NOON, NOON, &[b"RX1"], b"RX1")?;
+    let near = parts(alloc, NOON + 30, NOON + 30, &[b"RX1"], b"RX1")?;
+    let far = parts(alloc, NOON + 31, NOON + 31, &[b"RX1"], b"RX1")?;
+    assert!(rt; book.push_row(&noon) == Ok(()));
+    assert!(rt; book.push_row(&near) == Err(RowCause::Near));
+    assert!(rt; book.push_row(&far) == Ok(()));
+    assert!(rt; book.push_row(&noon) == Err(RowCause::Order));
+    let text = shown(alloc, &book)?;
+    assert_eq!(rt; text.as_str(), "0-0 RX1 / RX1 6f; 31-31 RX1 / RX1 6f; ");
+    let mut taken = Book::new(alloc);
+    taken
+        .take(&heard(31, b"RX1", &DIRECT)?)
+        .ok()
+        .ok_or("memory")?;
+    taken
+        .take(&heard(0, b"RX1", &DIRECT)?)
+        .ok()
+        .ok_or("memory")?;
+    assert!(rt; book.same(&taken));
+    assert_eq!(rt; RowCause::NotGreatest.number(), 5);
+    assert_eq!(rt; RowCause::NotGreatest.name(), "NotGreatest");
+    Ok(())
+}
+
+// A heap that is full but for some units refuses the rows' growth, or that of the new row's
+// receivers: then the rows are as before, and with room again the row is added.
+#[test]
+fn refused_rows_change_nothing(rt: HostRuntime) -> Result<(), Fail> {
+    let alloc = rt.alloc();
+    let mut refused = [0u64; 3];
+    for units in 0..200usize {
+        let heap = LocalHeap::new(alloc, 8192)?;
+        let rows = [
+            parts(&heap, NOON, NOON, &[b"RX1", b"RX2"], b"RX2")?,
+            parts(&heap, NOON + 60, NOON + 70, &[b"RX1", b"RX2"], b"RX1")?,
+            parts(&heap, NOON + 200, NOON + 200, &[b"RX1"], b"RX1")?,
+        ];
+        let mut fill: Vec<u8, &LocalHeap> = Vec::new(&heap);
+        fill.reserve(7424 - units * 16)?;
+        let mut book = Book::new(&heap);
+        for (i, row) in rows.iter().enumerate() {
+            let before = shown(alloc, &book)?;
+            let added = book.push_row(row);
+            if added != Ok(()) {
+                assert!(rt; added == Err(RowCause::Memory));
+                let after = shown(alloc, &book)?;
+                assert_eq!(rt; before.as_str(), after.as_str());
+                refused[i] = refused[i].saturating_add(1);
+                fill = Vec::new(&heap);
+                assert!(rt; book.push_row(row) == Ok(()));
+            }
+        }
+        let text = shown(alloc, &book)?;
+        let want = "0-0 RX1 RX2 / RX2 6f; 60-70 RX1 RX2 / RX1 6f; 200-200 RX1 / RX1 6f; ";
+        assert_eq!(rt; text.as_str(), want);
+    }
+    // the first row needs both growths, the later ones that of their receivers alone
+    assert!(rt; refused[0] > 0 && refused[1] > 0);
     Ok(())
 }

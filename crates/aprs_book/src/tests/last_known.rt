@@ -1,0 +1,155 @@
+//! What is last known of stations, objects and items.
+
+use super::{NOON, receiver};
+use crate::{Book, Heard, Station};
+use aprs_ax25::{Callsign, Frame};
+use aprs_log::{Moment, Reception};
+use aprs_report::{Place, Report, Stamp, Symbol};
+use std::alloc::Global;
+use std::test::Fail;
+
+/// 49 degrees 3.50 minutes north, 72 degrees 1.75 minutes west.
+const HERE: Place = Place::Plain {
+    lat: 294_350,
+    lon: -432_175,
+    ambiguity: 0,
+};
+
+const HOUSE: Symbol = Symbol {
+    table: b'/',
+    code: b'-',
+};
+
+const CAR: Symbol = Symbol {
+    table: b'/',
+    code: b'>',
+};
+
+fn callsign(text: &[u8]) -> Result<Callsign, Fail> {
+    Ok(Callsign::parse(text).ok().ok_or("callsign")?)
+}
+
+/// What RX1 hears of a station at a second of the hour.
+fn sent(second: u64, source: &[u8], info: &[u8]) -> Result<Reception, Fail> {
+    let destination = callsign(b"APRS")?;
+    let frame = Frame::make(&destination, &callsign(source)?, &[], info);
+    Ok(Reception::new(
+        Moment::new(NOON.saturating_add(second)).ok_or("moment")?,
+        receiver(b"RX1")?,
+        frame.ok().ok_or("frame")?,
+    ))
+}
+
+fn book_of(alloc: Global, receptions: &[&Reception]) -> Result<Book, Fail> {
+    let mut book = Book::new(alloc);
+    for x in receptions {
+        book.take(x).ok().ok_or("memory")?;
+    }
+    Ok(book)
+}
+
+/// Whether these are a station's callsign and number of transmissions.
+fn counts(station: &Station<'_>, text: &[u8], transmissions: u64) -> bool {
+    station.call.text().as_slice() == text && station.transmissions == transmissions
+}
+
+/// Whether this reception is told, with this report.
+fn tells(told: &Option<Heard<'_>>, x: &Reception, report: &Report<'_>) -> bool {
+    match told {
+        Some(heard) => {
+            heard.moment == x.moment()
+                && heard.receiver == x.receiver()
+                && heard.frame == x.frame()
+                && heard.report == *report
+        }
+        None => false,
+    }
+}
+
+// A position taken later, but heard earlier, isn't the last known one.
+#[test]
+fn positions_are_the_greatest_heard(rt: HostRuntime) -> Result<(), Fail> {
+    let alloc = rt.alloc();
+    let station = callsign(b"N0CALL-7")?;
+    let late = sent(600, b"N0CALL-7", b"!4903.50N/07201.75W-")?;
+    let early = sent(0, b"N0CALL-7", b"!4904.00N/07201.75W-")?;
+    let here = Report::Position {
+        messaging: false,
+        stamp: None,
+        place: HERE,
+        symbol: HOUSE,
+        comment: b"",
+    };
+    let book = book_of(alloc, &[&late, &early])?;
+    let turned = book_of(alloc, &[&early, &late])?;
+    assert_eq!(rt; book.len(), 2);
+    assert!(rt; tells(&book.position(&station), &late, &here));
+    assert!(rt; tells(&turned.position(&station), &late, &here));
+    assert!(rt; book.status(&station).is_none());
+    assert!(rt; book.position(&callsign(b"N0CALL-8")?).is_none());
+    let stations = book.stations().ok().ok_or("memory")?;
+    assert_eq!(rt; stations.len(), 1);
+    assert!(rt; counts(&stations[0], b"N0CALL-7", 2));
+    assert!(rt; tells(&stations[0].position, &late, &here));
+    assert!(rt; stations[0].status.is_none());
+    Ok(())
+}
+
+#[test]
+fn statuses_are_no_positions(rt: HostRuntime) -> Result<(), Fail> {
+    let alloc = rt.alloc();
+    let station = callsign(b"N0CALL-7")?;
+    let status = sent(0, b"N0CALL-7", b">Hi")?;
+    let position = sent(60, b"N0CALL-7", b"!4903.50N/07201.75W-")?;
+    let book = book_of(alloc, &[&status, &position])?;
+    let hi = Report::Status {
+        stamp: None,
+        text: b"Hi",
+    };
+    assert!(rt; tells(&book.status(&station), &status, &hi));
+    assert!(rt; book.position(&station).is_some());
+    assert!(rt; Book::new(alloc).status(&station).is_none());
+    Ok(())
+}
+
+// An object belongs to no station, and an item of its name is something else.
+#[test]
+fn objects_and_items_go_by_name(rt: HostRuntime) -> Result<(), Fail> {
+    let alloc = rt.alloc();
+    let live = sent(0, b"N0CALL-7", b";LEADER   *092345z4903.50N/07201.75W>")?;
+    let killed = sent(60, b"N0CALL-8", b";LEADER   _092345z4903.50N/07201.75W>")?;
+    let item = sent(120, b"N0CALL-7", b")LEADER!4903.50N/07201.75W>")?;
+    let book = book_of(alloc, &[&live, &killed, &item])?;
+    let object_report = Report::Object {
+        name: b"LEADER",
+        live: false,
+        stamp: Stamp {
+            digits: *b"092345",
+            mark: b'z',
+        },
+        place: HERE,
+        symbol: CAR,
+        comment: b"",
+    };
+    let item_report = Report::Item {
+        name: b"LEADER",
+        live: true,
+        place: HERE,
+        symbol: CAR,
+        comment: b"",
+    };
+    for name in [b"LEADER".as_slice(), b"LEADER   ".as_slice()] {
+        assert!(rt; tells(&book.object(name), &killed, &object_report));
+        assert!(rt; tells(&book.item(name), &item, &item_report));
+    }
+    for name in [b"".as_slice(), b" LEADER".as_slice(), b"LEAD".as_slice()] {
+        assert!(rt; book.object(name).is_none());
+        assert!(rt; book.item(name).is_none());
+    }
+    let stations = book.stations().ok().ok_or("memory")?;
+    assert_eq!(rt; stations.len(), 2);
+    assert!(rt; counts(&stations[0], b"N0CALL-7", 2));
+    assert!(rt; counts(&stations[1], b"N0CALL-8", 1));
+    assert!(rt; stations[1].position.is_none());
+    Ok(())
+}
