@@ -1,0 +1,9 @@
+pub mod Accepting
+pub mod Cuts
+pub mod Digits
+pub mod Spellings
+pub mod Standing
+pub mod Inputs
+pub mod OneText
+pub mod RowReading
+pub mod Sending

@@ -1,0 +1,120 @@
+-- The first fault of a text that isn't that of a book. It lies right behind the longest front of
+-- lines that a book's text may begin with.
+use Rattle.std.specs.Prelude.{◌≡◌, ◌≢◌, ℕ, ◌+◌, ◌<◌, ◌==◌, ◌⊎◌, Bool, false, true, List, [], ◌∷◌, ◌++◌, length, map, codes, Some, Result, Ok, Err, IsErr}
+use Rattle.std.specs.List.{starts_with}
+use Rattle.aprs_ax25.specs.FrameFault.{frame_of}
+use Rattle.aprs_log.specs.LogAnswers.{Gets}
+use Rattle.aprs_log.specs.declared.ending.Ending.{Ending}
+use Rattle.aprs_log.specs.declared.ending.Ending.TheVariants as ending
+use Rattle.aprs_laws.specs.Gap.{gap_seconds}
+use Rattle.aprs_laws.specs.Row.{Row}
+use Rattle.aprs_book.specs.Refusal.{refusal}
+use Rattle.aprs_book.specs.declared.row_cause.RowCause.{RowCause}
+use Rattle.aprs_book.specs.declared.row_cause.RowCause.TheVariants as row
+use Rattle.aprs_booktext.specs.Lines.{Lacks}
+use Rattle.aprs_booktext.specs.Text.{header, row_line, end_line, lines_of, text_of_lines, book_text, IsSpelled, IsBookRow, IsBookRows}
+use Rattle.aprs_booktext.specs.declared.fault.BookCause.{BookCause}
+use Rattle.aprs_booktext.specs.declared.fault.BookCause.TheVariants as cause
+use Rattle.aprs_booktext.specs.declared.fault.BookFault.{BookFault}
+
+-- ---- what is wrong with a line behind the lines of some rows
+
+abbrev pub is_end : List ℕ → Bool
+is_end line = starts_with ◌==◌ line (codes "END")
+
+-- the line spells a row that can't be added to these, and why
+pub record IsRefused (rows : List Row) (line : List ℕ) (why : RowCause) : Type 0 where
+  pub row : Row
+  pub is : IsBookRow row
+  pub spelled : line ≡ row_line row
+  pub refused : refusal gap_seconds rows row ≡ Some why
+
+-- the line spells a row but for its frame, which is none
+pub record HasNoFrame (line : List ℕ) : Type 0 where
+  pub row : Row
+  pub is : IsSpelled row
+  pub spelled : line ≡ row_line row
+  pub refused : IsErr (frame_of row.greatest.frame)
+
+abbrev pub IsWrong : List Row → List ℕ → BookCause → Type 0
+IsWrong rows line cause.Ending = (is_end line ≡ true) × (line ≢ end_line (length rows))
+IsWrong rows line cause.RowSyntax =
+    (is_end line ≡ false) × ((x : Row) → IsSpelled x → line ≢ row_line x)
+IsWrong rows line cause.Frame = HasNoFrame line
+IsWrong rows line cause.Order = IsRefused rows line row.Order
+IsWrong rows line cause.Span = IsRefused rows line row.Span
+IsWrong rows line cause.Near = IsRefused rows line row.Near
+IsWrong rows line cause.Receivers = IsRefused rows line row.Receivers
+IsWrong rows line cause.NotGreatest = IsRefused rows line row.NotGreatest
+IsWrong rows line cause.Header = ⊥
+IsWrong rows line cause.After = ⊥
+IsWrong rows line cause.Read = ⊥
+IsWrong rows line cause.TooLong = ⊥
+IsWrong rows line cause.Memory = ⊥
+
+-- ---- what follows some sound lines
+
+-- why a byte is missing that had to come
+abbrev pub missing : Ending → BookCause
+missing ending.End = cause.Ending
+missing ending.Read = cause.Read
+missing ending.TooLong = cause.TooLong
+
+-- a line that isn't finished
+abbrev pub IsCut : List ℕ → Ending → BookCause → Type 0
+IsCut rest e c = Lacks 10 rest × (c ≡ missing e)
+
+-- a whole line of which P holds
+pub record HasLine (rest : List ℕ) (P : List ℕ → Type 0) : Type 0 where
+  pub line : List ℕ
+  pub more : List ℕ
+  pub is : rest ≡ line ++ 10 ∷ more
+  pub one : Lacks 10 line
+  pub holds : P line
+
+abbrev pub FaultAtStart : List ℕ → Ending → BookCause → Type 0
+FaultAtStart rest e c =
+    IsCut rest e c ⊎ HasLine rest (λ line. (line ≢ header) × (c ≡ cause.Header))
+
+abbrev pub FaultAfterRows : List Row → List ℕ → Ending → BookCause → Type 0
+FaultAfterRows rows rest e c = IsCut rest e c ⊎ HasLine rest (λ line. IsWrong rows line c)
+
+-- nothing may follow the last line, and that has to be seen
+abbrev pub FaultAtEnd : List ℕ → Ending → BookCause → Type 0
+FaultAtEnd rest e c = ((0 < length rest) × (c ≡ cause.After))
+    ⊎ ((rest ≡ []) × (e ≢ ending.End) × (c ≡ missing e))
+
+-- ---- the fault of a text behind which `e` came
+
+abbrev pub FaultBehind : List (List ℕ) → List ℕ → Ending → BookCause → Type 0
+FaultBehind front rest e c = ((front ≡ []) × FaultAtStart rest e c)
+    ⊎ ((rows : List Row) × IsBookRows rows
+    × (((front ≡ header ∷ map row_line rows) × FaultAfterRows rows rest e c)
+    ⊎ ((front ≡ lines_of rows) × FaultAtEnd rest e c)))
+
+pub record FirstFault (text : List ℕ) (e : Ending) (f : BookFault) : Type 0 where
+  pub front : List (List ℕ)
+  pub rest : List ℕ
+  pub whole : text ≡ text_of_lines front ++ rest
+  pub line : f.line ≡ length front + 1
+  pub fault : FaultBehind front rest e f.cause
+
+-- ---- how a text is read
+
+-- rows are read of their text alone, and nothing but that; a fault is the first, unless memory was
+-- refused before
+abbrev pub ReadsSo : Result (List Row) BookFault → List ℕ → Ending → Type 0
+ReadsSo (Ok rows) text e = (text ≡ book_text rows) × IsBookRows rows × (e ≡ ending.End)
+ReadsSo (Err f) text e = (f.cause ≡ cause.Memory) ⊎ FirstFault text e f
+
+-- some bytes were got of the input, at most `limit`, and they are read so
+pub record Reads (limit : ℕ) (input : List ℕ) (r : Result (List Row) BookFault) : Type 0 where
+  pub text : List ℕ
+  pub ending : Ending
+  pub gets : Gets limit input text ending
+  pub reads : ReadsSo r text ending
+
+-- the book of these rows, or memory was refused
+abbrev pub IsBookOrMemory : Result (List Row) BookFault → List Row → Type 0
+IsBookOrMemory (Ok found) rows = found ≡ rows
+IsBookOrMemory (Err f) rows = f.cause ≡ cause.Memory

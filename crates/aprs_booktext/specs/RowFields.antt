@@ -1,0 +1,48 @@
+-- The fields of a row's line, as they are cut. No public clause cites this module.
+use Rattle.std.specs.Prelude.{◌≡◌, ◌≢◌, ◌<◌, ◌≤◌, ◌⊎◌, ℕ, ◌∷◌, [], List, All, length, Ok, IsErr}
+use Rattle.std.specs.List.{join_with_byte}
+use Rattle.hex.specs.Hex.{encode_lower, IsBytes}
+use Rattle.aprs_ax25.specs.FrameFault.{frame_of}
+use Rattle.aprs_log.specs.Receiver.{IsName}
+use Rattle.aprs_laws.specs.Row.{Row}
+use Rattle.aprs_booktext.specs.FirstFault.{HasNoFrame}
+use Rattle.aprs_booktext.specs.Text.{row_line, IsSpelled}
+use Rattle.aprs_booktext.specs.declared.fault.BookCause.{BookCause}
+use Rattle.aprs_booktext.specs.declared.fault.BookCause.TheVariants as cause
+use Rattle.aprs_booktext.specs.declared.fields.FieldTexts.{FieldTexts}
+
+abbrev pub list_of : FieldTexts → List (List ℕ)
+list_of f = f.tag.now ∷ f.first.now ∷ f.last.now ∷ f.receivers.now ∷ f.receiver.now
+    ∷ f.frame.now ∷ []
+
+-- the digits spell these bytes, 1 to 328 of them
+pub record SpellsBytes (digits bytes : List ℕ) : Type 0 where
+  pub digits_are : digits ≡ encode_lower bytes
+  pub bytes_are : IsBytes bytes
+  pub few : (0 < length bytes) × (length bytes ≤ 328)
+
+-- the field spells these names
+pub record SpellsNames (field : List ℕ) (names : List (List ℕ)) : Type 0 where
+  pub field_is : field ≡ join_with_byte 44 names
+  pub names_are : All IsName names
+  pub some : 0 < length names
+
+abbrev pub IsWrongNames : List ℕ → BookCause → Type 0
+IsWrongNames field c = (c ≡ cause.Memory)
+    ⊎ ((c ≡ cause.RowSyntax) × ((names : List (List ℕ)) → SpellsNames field names → ⊥))
+
+-- the digits spell a frame
+pub record SpellsFrame (digits frame : List ℕ) : Type 0 where
+  pub spelled : SpellsBytes digits frame
+  pub is : frame_of frame ≡ Ok frame
+
+abbrev pub IsWrongFrame : List ℕ → BookCause → Type 0
+IsWrongFrame digits c =
+    ((c ≡ cause.RowSyntax) × ((bytes : List ℕ) → SpellsBytes digits bytes → ⊥))
+    ⊎ ((c ≡ cause.Frame) × ((bytes : List ℕ) × SpellsBytes digits bytes × IsErr (frame_of bytes)))
+
+-- a line spells no row, or one whose frame is none
+abbrev pub IsWrongRow : List ℕ → BookCause → Type 0
+IsWrongRow line c = (c ≡ cause.Memory)
+    ⊎ (((c ≡ cause.RowSyntax) × ((x : Row) → IsSpelled x → line ≢ row_line x))
+    ⊎ ((c ≡ cause.Frame) × HasNoFrame line))

@@ -1,0 +1,20 @@
+//! Texts that are cut at a byte.
+ghost use Rattle.std.specs.Prelude.{◌≡◌, ◌+◌, ◌∷◌, ◌++◌, [], length, IfNone, IfSome};
+ghost use Rattle.aprs_booktext.specs.Lines.{Lacks, pieces};
+
+use memchr::memchr;
+
+/// What stands before the first `stop` and what stands after it, where there is one.
+pub fn cut(text: &[u8], stop: u8) -> Option<(&[u8], &[u8])>
+    ensures none { IfNone result (Lacks stop text.now) }
+    ensures one { IfNone result (pieces stop text.now ≡ text.now ∷ []) }
+    ensures some { IfSome result (λ p. (text.now ≡ p.0.now ++ stop ∷ p.1.now)
+        × Lacks stop p.0.now) }
+    ensures pieces { IfSome result (λ p. pieces stop text.now ≡ p.0.now ∷ pieces stop p.1.now) }
+    ensures len { IfSome result (λ p. length p.0.now + 1 + length p.1.now ≡ length text.now) }
+{
+    match memchr(stop, text) {
+        Some(i) => Some((&text[..i], &text[i + 1..])),
+        None => None,
+    }
+}

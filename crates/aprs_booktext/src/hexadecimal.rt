@@ -1,0 +1,55 @@
+//! Bytes in lower case hexadecimal.
+ghost use Rattle.std.specs.Prelude.{◌≡◌, ◌↔◌, ◌*◌, ◌≤◌, length, ℕ, List, true, false, IsTrue, MatchResult, IfSome, IfNone};
+ghost use Rattle.hex.specs.Hex.{decode_sized, encode_lower};
+ghost use Rattle.aprs_booktext.specs.RowFields.{SpellsBytes};
+
+/// The most bytes of a frame, and their digits.
+pub const MAX_FRAME: usize = 328;
+
+pub const MAX_DIGITS: usize = 656;
+
+/// Writes the digits of bytes.
+pub fn encode_to(bytes: &[u8], digits: &mut [u8])
+    requires { length digits.old ≡ 2 * length bytes.now }
+    ensures { digits.new ≡ encode_lower bytes.now }
+{
+    hex::encode_to_slice(bytes, digits).unwrap();
+}
+
+/// The bytes whose digits these are, put into `room`: 1 to 328 of them.
+pub fn decode_into<'r>(digits: &[u8], room: &'r mut [u8; MAX_FRAME]) -> Option<&'r [u8]>
+    ensures some { IfSome result (λ bytes. SpellsBytes digits.now bytes.now) }
+    ensures none { IfNone result ((bytes : List ℕ) → SpellsBytes digits.now bytes → ⊥) }
+{
+    let count = digits.len() / 2;
+    if count == 0 || count > MAX_FRAME {
+        return None;
+    }
+    let bytes = &mut room[..count];
+    if !decode_to(digits, bytes) {
+        return None;
+    }
+    if !are_digits_of(digits, bytes) {
+        return None;
+    }
+    Some(bytes)
+}
+
+/// Whether the bytes of a hexadecimal text, of whatever case, now fill `bytes`.
+fn decode_to(digits: &[u8], bytes: &mut [u8]) -> bool
+    ensures { MatchResult (decode_sized digits.now (length bytes.old))
+        (λ read. (result ≡ true) × (bytes.new ≡ read)) (λ e. result ≡ false) }
+{
+    hex::decode_to_slice(digits, bytes).is_ok()
+}
+
+/// Whether these are the digits that the bytes are written with.
+fn are_digits_of(digits: &[u8], bytes: &[u8]) -> bool
+    requires { length bytes.now ≤ 328 }
+    ensures { IsTrue result ↔ (digits.now ≡ encode_lower bytes.now) }
+{
+    let mut room = [0; MAX_DIGITS];
+    let written = &mut room[..2 * bytes.len()];
+    encode_to(bytes, written);
+    digits == written
+}

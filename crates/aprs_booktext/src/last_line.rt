@@ -1,0 +1,22 @@
+//! The last line of a book's text.
+ghost use Rattle.std.specs.Prelude.{◌≡◌, ◌≤◌};
+ghost use Rattle.arrayvec.specs.ArrayVec.{array_vec_len};
+ghost use Rattle.aprs_booktext.specs.Text.{end_line};
+
+use crate::outbox::push_all;
+use arrayvec::ArrayVec;
+use itoa::Buffer;
+
+/// More bytes than such a line has.
+pub const LAST: usize = 64;
+
+/// The last line of a book of so many rows, without its LF.
+pub fn last_line(rows: usize) -> ArrayVec<u8, LAST>
+    ensures text { result.items ≡ end_line rows }
+    ensures short { array_vec_len result ≤ 60 }
+{
+    let mut text = ArrayVec::new();
+    push_all(&mut text, b"END ");
+    push_all(&mut text, Buffer::new().format(rows).as_bytes());
+    text
+}

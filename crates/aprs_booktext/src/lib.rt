@@ -1,0 +1,22 @@
+//! The text of a book: writing it, and reading it back.
+#![tactic(auto)]
+
+mod cut;
+mod fault;
+mod fields;
+mod hexadecimal;
+mod input;
+mod last_line;
+mod law;
+mod outbox;
+mod read;
+mod reader;
+mod row_line;
+#[cfg(test)]
+mod tests;
+mod write;
+
+pub use fault::{BookCause, BookFault};
+pub use law::each_book_has_one_text;
+pub use read::read_book;
+pub use write::write_book;

@@ -1,0 +1,59 @@
+//! Bytes on their way out, a buffer full at a time.
+ghost use Rattle.std.specs.Prelude.{◌≡◌, ◌≤◌, ◌+◌, [], ◌++◌, length, OnOk, OnErr};
+ghost use Rattle.std.specs.Io.KnownBytes.{Appends};
+ghost use Rattle.arrayvec.specs.ArrayVec.{array_vec_len};
+ghost use Rattle.aprs_kiss.specs.Device.{device_of, failures_of, Rose, AppendsFront};
+ghost use Rattle.aprs_booktext.specs.Outbox.{Puts};
+
+use aprs_kiss::{Counted, WriteFault, send};
+use arrayvec::ArrayVec;
+use std::io::Write;
+
+/// The most bytes that are held back.
+const ROOM: usize = 4096;
+
+/// Bytes that have not gone out yet.
+pub type Outbox = ArrayVec<u8, ROOM>;
+
+/// Puts bytes behind those that are held, which go out first where there is no room.
+pub fn put<W: Write>(w: &mut Counted<W>, held: &mut Outbox, bytes: &[u8]) -> Result<(), WriteFault>
+    requires { length bytes.now ≤ 4096 }
+    ensures sent { OnOk result (Puts (W.contents (device_of w.old)) (W.contents (device_of w.new))
+        held.old.items held.new.items bytes.now) }
+    ensures prefix { OnErr result (AppendsFront (W.contents (device_of w.old))
+        (W.contents (device_of w.new)) (held.old.items ++ bytes.now)) }
+    ensures count { failures_of w.old ≤ failures_of w.new }
+    ensures fault { OnErr result (Rose (failures_of w.old) (failures_of w.new)) }
+{
+    if held.len() + bytes.len() > ROOM {
+        flush(w, held)?;
+    }
+    push_all(held, bytes);
+    Ok(())
+}
+
+/// Sends what is held.
+pub fn flush<W: Write>(w: &mut Counted<W>, held: &mut Outbox) -> Result<(), WriteFault>
+    ensures sent { OnOk result (Appends (W.contents (device_of w.old))
+        (W.contents (device_of w.new)) held.old.items) }
+    ensures empty { OnOk result (held.new.items ≡ []) }
+    ensures prefix { OnErr result (AppendsFront (W.contents (device_of w.old))
+        (W.contents (device_of w.new)) held.old.items) }
+    ensures count { failures_of w.old ≤ failures_of w.new }
+    ensures fault { OnErr result (Rose (failures_of w.old) (failures_of w.new)) }
+{
+    send(w, held.as_slice())?;
+    held.clear();
+    Ok(())
+}
+
+/// Puts bytes behind those that are there.
+pub fn push_all<const N: usize>(out: &mut ArrayVec<u8, N>, bytes: &[u8])
+    requires { array_vec_len out.old + length bytes.now ≤ N }
+    ensures items { out.new.items ≡ out.old.items ++ bytes.now }
+    ensures len { array_vec_len out.new ≡ array_vec_len out.old + length bytes.now }
+{
+    if out.try_extend_from_slice(bytes).is_err() {
+        unreachable!()
+    }
+}

@@ -1,0 +1,58 @@
+//! Reading a book.
+ghost use Rattle.std.specs.Prelude.{◌≡◌, ◌≤◌, ◌++◌, List, length, IfSome, IfErr};
+ghost use Rattle.aprs_kiss.specs.Device.{device_of, failures_of, Rose};
+ghost use Rattle.aprs_laws.specs.Row.{Row};
+ghost use Rattle.aprs_booktext.specs.FirstFault.{IsBookOrMemory, Reads};
+ghost use Rattle.aprs_booktext.specs.Text.{book_text, IsBookRows};
+
+use crate::fault::{BookCause, BookFault};
+use crate::input::read_piece;
+use crate::reader::BookReader;
+use aprs_book::Book;
+use aprs_kiss::Counted;
+use std::alloc::Allocator;
+use std::io::Read;
+
+/// How many bytes are asked of the reader at once.
+const ROOM: usize = 16_384;
+
+/// Reads a book from its text, which begins with `head` and goes on with the bytes of `source`, to
+/// the end. It takes at most `limit` bytes, the head among them. Requires that `limit` is at most
+/// `MAX_INPUT`, and that the head has at most 8 bytes and no more than `limit`. A fault is the first
+/// of the text and has the number of its line; `Memory` comes before it where memory was refused.
+/// Holds the book and one line.
+pub fn read_book<R: Read, A: Allocator + Copy>(
+    alloc: A,
+    limit: u64,
+    head: &[u8],
+    source: &mut Counted<R>,
+) -> Result<Book<A>, BookFault>
+    requires limit { limit ≤ 1073741824 }
+    requires head { length head.now ≤ 8 }
+    requires within { length head.now ≤ limit }
+    ensures reads { IfSome (R.remaining (device_of source.old))
+        (λ input. Reads limit (head.now ++ input) result) }
+    // The text of a book is read, where it is short enough and the reader doesn't fail.
+    ensures accepts { IfSome (R.remaining (device_of source.old)) (λ input. (rows : List Row)
+        → IsBookRows rows → head.now ++ input ≡ book_text rows
+        → length (head.now ++ input) ≤ limit
+        → (Rose (failures_of source.old) (failures_of source.new) → ⊥)
+        → IsBookOrMemory result rows) }
+    ensures count { failures_of source.old ≤ failures_of source.new }
+    ensures read { IfErr result (λ f. f.cause ≡ BookCause.Read
+        → Rose (failures_of source.old) (failures_of source.new)) }
+{
+    let mut reader = BookReader::new(alloc);
+    reader.feed(head)?;
+    let mut room = [0; ROOM];
+    let mut left = limit - head.len() as u64;
+    loop {
+        match read_piece(source, &mut room, left) {
+            Ok(count) => {
+                reader.feed(&room[..count])?;
+                left -= count as u64;
+            }
+            Err(ending) => return reader.finish(ending),
+        }
+    }
+}

@@ -1,0 +1,197 @@
+//! Writing a book.
+ghost use Rattle.std.specs.Prelude.{◌≡◌, ◌≤◌, ◌+◌, ◌*◌, ◌++◌, ◌∷◌, [], codes, length, map, flat_map, OnOk, OnErr};
+ghost use Rattle.std.specs.List.{join_with_byte};
+ghost use Rattle.std.specs.Io.KnownBytes.{Appends};
+ghost use Rattle.hex.specs.Hex.{encode_lower};
+ghost use Rattle.arrayvec.specs.ArrayVec.{array_vec_len};
+ghost use Rattle.aprs_log.specs.Moment.{moment_text};
+ghost use Rattle.aprs_kiss.specs.Device.{device_of, failures_of, Rose, AppendsFront};
+ghost use Rattle.aprs_booktext.specs.Outbox.{Puts, line_and_lf};
+ghost use Rattle.aprs_booktext.specs.Text.{book_text, row_line, end_line, ended_by_lf};
+
+use crate::hexadecimal::{MAX_DIGITS, encode_to};
+use crate::last_line::{LAST, last_line};
+use crate::outbox::{Outbox, flush, push_all, put};
+use aprs_ax25::Frame;
+use aprs_book::{Book, Row};
+use aprs_kiss::{Counted, WriteFault};
+use aprs_log::{Moment, Receiver};
+use arrayvec::ArrayVec;
+use std::alloc::Allocator;
+use std::io::Write;
+
+/// The most bytes of a line before its receivers, of a further receiver, and after them.
+const HEAD: usize = 44;
+
+const FURTHER: usize = 17;
+
+const TAIL: usize = 675;
+
+/// Writes a book as its text: a header, a line for each row, and a last line with their number. At
+/// a fault a front of the text went out, and the count of the device's failures rose. Takes no
+/// memory.
+pub fn write_book<W: Write, A: Allocator + Copy>(
+    w: &mut Counted<W>,
+    book: &Book<A>,
+) -> Result<(), WriteFault>
+    ensures sent { OnOk result (Appends (W.contents (device_of w.old))
+        (W.contents (device_of w.new)) (book_text book.now)) }
+    ensures prefix { OnErr result (AppendsFront (W.contents (device_of w.old))
+        (W.contents (device_of w.new)) (book_text book.now)) }
+    ensures count { failures_of w.old ≤ failures_of w.new }
+    ensures fault { OnErr result (Rose (failures_of w.old) (failures_of w.new)) }
+{
+    let mut held = Outbox::new();
+    put_book(w, &mut held, book)?;
+    flush(w, &mut held)
+}
+
+/// Puts the text of a book.
+fn put_book<W: Write, A: Allocator + Copy>(
+    w: &mut Counted<W>,
+    held: &mut Outbox,
+    book: &Book<A>,
+) -> Result<(), WriteFault>
+    ensures sent { OnOk result (Puts (W.contents (device_of w.old)) (W.contents (device_of w.new))
+        held.old.items held.new.items (book_text book.now)) }
+    ensures prefix { OnErr result (AppendsFront (W.contents (device_of w.old))
+        (W.contents (device_of w.new)) (held.old.items ++ book_text book.now)) }
+    ensures count { failures_of w.old ≤ failures_of w.new }
+    ensures fault { OnErr result (Rose (failures_of w.old) (failures_of w.new)) }
+{
+    put(w, held, b"APRSBOOK 1\n")?;
+    put_rows(w, held, book)?;
+    put(w, held, end_line(book.len()).as_slice())
+}
+
+/// Puts the lines of a book's rows.
+fn put_rows<W: Write, A: Allocator + Copy>(
+    w: &mut Counted<W>,
+    held: &mut Outbox,
+    book: &Book<A>,
+) -> Result<(), WriteFault>
+    ensures sent { OnOk result (Puts (W.contents (device_of w.old)) (W.contents (device_of w.new))
+        held.old.items held.new.items (flat_map line_and_lf book.now)) }
+    ensures prefix { OnErr result (AppendsFront (W.contents (device_of w.old))
+        (W.contents (device_of w.new)) (held.old.items ++ flat_map line_and_lf book.now)) }
+    ensures count { failures_of w.old ≤ failures_of w.new }
+    ensures fault { OnErr result (Rose (failures_of w.old) (failures_of w.new)) }
+{
+    for row in book.rows() {
+        put_row(w, held, &row)?;
+    }
+    Ok(())
+}
+
+/// Puts the row's line.
+fn put_row<W: Write>(w: &mut Counted<W>, held: &mut Outbox, row: &Row<'_>) -> Result<(), WriteFault>
+    ensures sent { OnOk result (Puts (W.contents (device_of w.old)) (W.contents (device_of w.new))
+        held.old.items held.new.items (ended_by_lf (row_line row.now))) }
+    ensures prefix { OnErr result (AppendsFront (W.contents (device_of w.old))
+        (W.contents (device_of w.new)) (held.old.items ++ ended_by_lf (row_line row.now))) }
+    ensures count { failures_of w.old ≤ failures_of w.new }
+    ensures fault { OnErr result (Rose (failures_of w.old) (failures_of w.new)) }
+{
+    put(w, held, row_head(row.first, row.last).as_slice())?;
+    put_names(w, held, row.receivers)?;
+    put(w, held, row_tail(row.receiver, row.frame).as_slice())
+}
+
+/// What stands before the receivers in a row's line.
+fn row_head(first: Moment, last: Moment) -> ArrayVec<u8, HEAD>
+    ensures { result.items ≡ codes "T " ++ moment_text first ++ 32 ∷ moment_text last ++ 32 ∷ [] }
+{
+    let mut text = ArrayVec::new();
+    push_all(&mut text, b"T ");
+    push_all(&mut text, &first.text());
+    push_all(&mut text, b" ");
+    push_all(&mut text, &last.text());
+    push_all(&mut text, b" ");
+    text
+}
+
+/// What stands after the receivers in a row's line, with the LF.
+fn row_tail(receiver: &Receiver, frame: &Frame) -> ArrayVec<u8, TAIL>
+    ensures { result.items
+        ≡ 32 ∷ receiver.now ++ 32 ∷ encode_lower frame.now ++ 10 ∷ [] }
+{
+    let mut text = ArrayVec::new();
+    push_all(&mut text, b" ");
+    push_all(&mut text, receiver.as_bytes());
+    push_all(&mut text, b" ");
+    push_hex(&mut text, frame.bytes());
+    push_all(&mut text, b"\n");
+    text
+}
+
+/// Puts names with commas between.
+fn put_names<W: Write>(
+    w: &mut Counted<W>,
+    held: &mut Outbox,
+    names: &[Receiver],
+) -> Result<(), WriteFault>
+    ensures sent { OnOk result (Puts (W.contents (device_of w.old)) (W.contents (device_of w.new))
+        held.old.items held.new.items (join_with_byte 44 names.now)) }
+    ensures prefix { OnErr result (AppendsFront (W.contents (device_of w.old))
+        (W.contents (device_of w.new)) (held.old.items ++ join_with_byte 44 names.now)) }
+    ensures count { failures_of w.old ≤ failures_of w.new }
+    ensures fault { OnErr result (Rose (failures_of w.old) (failures_of w.new)) }
+{
+    let Some((first, others)) = names.split_first() else {
+        return Ok(());
+    };
+    put(w, held, first.as_bytes())?;
+    put_further_names(w, held, others)
+}
+
+/// Puts names with a comma before each.
+fn put_further_names<W: Write>(
+    w: &mut Counted<W>,
+    held: &mut Outbox,
+    names: &[Receiver],
+) -> Result<(), WriteFault>
+    ensures sent { OnOk result (Puts (W.contents (device_of w.old)) (W.contents (device_of w.new))
+        held.old.items held.new.items (flat_map (λ name. 44 ∷ name) names.now)) }
+    ensures prefix { OnErr result (AppendsFront (W.contents (device_of w.old))
+        (W.contents (device_of w.new))
+        (held.old.items ++ flat_map (λ name. 44 ∷ name) names.now)) }
+    ensures count { failures_of w.old ≤ failures_of w.new }
+    ensures fault { OnErr result (Rose (failures_of w.old) (failures_of w.new)) }
+{
+    for name in names {
+        put(w, held, after_comma(name).as_slice())?;
+    }
+    Ok(())
+}
+
+/// A comma and the name.
+fn after_comma(name: &Receiver) -> ArrayVec<u8, FURTHER>
+    ensures { result.items ≡ 44 ∷ name.now }
+{
+    let mut text = ArrayVec::new();
+    push_all(&mut text, b",");
+    push_all(&mut text, name.as_bytes());
+    text
+}
+
+/// The last line of a book of so many rows, with its LF.
+fn end_line(rows: usize) -> ArrayVec<u8, LAST>
+    ensures { result.items ≡ ended_by_lf (end_line rows) }
+{
+    let mut text = last_line(rows);
+    push_all(&mut text, b"\n");
+    text
+}
+
+/// Puts the digits of a frame's bytes behind what is there.
+fn push_hex(out: &mut ArrayVec<u8, TAIL>, bytes: &[u8])
+    requires few { length bytes.now ≤ 328 }
+    requires room { array_vec_len out.old ≤ 18 }
+    ensures items { out.new.items ≡ out.old.items ++ encode_lower bytes.now }
+    ensures len { array_vec_len out.new ≡ array_vec_len out.old + 2 * length bytes.now }
+{
+    let mut digits = [0; MAX_DIGITS];
+    let digits = &mut digits[..2 * bytes.len()];
+    encode_to(bytes, digits);
+    push_all(out, digits);
+}
