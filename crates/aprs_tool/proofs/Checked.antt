@@ -1,7 +1,7 @@
 -- Lemmas on a check over the lines that a reader gives.
 use Rattle.std.proofs.Common.{◌≡◌, ℕ, ◌+◌, List, [], ◌∷◌, ◌++◌, length, Option, None, Some, Ok, Err, refl, ap, sym, ◌∙◌, arith, append_assoc, append-nil, subst}
 use Rattle.std.specs.Io.KnownBytes.{Appends}
-use Rattle.std.proofs.KnownBytes.{Appends-trans}
+use Rattle.std.proofs.KnownBytes.{Appends-nil, Appends-trans}
 use Rattle.std.proofs.lemmas.List.{length-append}
 use Rattle.aprs_kiss.specs.Device.{AppendsFront}
 use Rattle.aprs_kiss.proofs.Bytes.{AppendsFront-more, AppendsFront-then}
@@ -13,8 +13,9 @@ use Rattle.aprs_log.specs.declared.line.Line.TheVariants.{Heard, Passed}
 use Rattle.aprs_log.specs.Reception.{Heard as Reception}
 use Rattle.aprs_tool.specs.Run.{RunsOver, check_lines, check_of, check_text, count_heard, count_passed, lines_fault, passed_line, totals_line, totals}
 use Rattle.aprs_tool.specs.declared.fault.InputFault.TheVariants.{Log}
+use Rattle.aprs_tool.specs.declared.fault.RunFault.{RunFault}
 use Rattle.aprs_tool.specs.declared.fault.RunFault.TheVariants.{Input, Write}
-use Rattle.aprs_tool.proofs.Seen.{HasSeen, HasSeen-line, IsWhole, over, prepended}
+use Rattle.aprs_tool.proofs.Seen.{HasSeen, HasSeen-none, HasSeen-line, IsWhole, over, prepended}
 
 check_lines-append : (n : ℕ) (xs ys : List Line) → check_lines n (xs ++ ys) ≡ check_lines n xs ++ check_lines (n + length xs) ys
 check_lines-append n [] ys = let e : n ≡ n + 0 = omega arith in ap (λ k. check_lines k ys) e
@@ -50,6 +51,15 @@ pub record Checked (first now : Answers → Type 0) (old new : Option (List ℕ)
   pub passed_is : passed ≡ count_passed seen
   pub lines_are : lines ≡ length seen
 
+pub Checked-none : (first : Answers → Type 0) (a : Option (List ℕ)) (lines : ℕ) → lines ≡ 0 → Checked first first a a 0 0 lines
+Checked-none first a lines none =
+    record { seen = []; has = HasSeen-none first; out = Appends-nil a; heard_is = refl; passed_is = refl; lines_are = none }
+
+-- the line that was given is this one
+given_as : (after now : Answers → Type 0) (line x : Line) → line ≡ x → ((a : Answers) → after a → now (then_given line a))
+    → (a : Answers) → after a → now (then_given x a)
+given_as after now line x is next a may = subst (λ (y : Line). now (then_given y a)) is (next a may)
+
 pub Checked-sum : (first now : Answers → Type 0) (old new : Option (List ℕ)) (heard passed lines : ℕ) → Checked first now old new heard passed lines → heard + passed ≡ lines
 Checked-sum first now old new heard passed lines h =
     let sum = counts h.seen in
@@ -60,9 +70,10 @@ Checked-sum first now old new heard passed lines h =
 
 module _ (first now after : Answers → Type 0) (a b : Option (List ℕ)) (heard passed lines : ℕ) (h : Checked first now a b heard passed lines) (count : ℕ) (next_line : count ≡ lines + 1) where
   -- a line is heard
-  pub Checked-heard : (x : Reception) → ((answers : Answers) → after answers → now (then_given (Heard x) answers))
+  pub Checked-heard : (line : Line) (x : Reception) → line ≡ Heard x → ((answers : Answers) → after answers → now (then_given line answers))
       → Checked first after a b (heard + 1) passed count
-  Checked-heard x next =
+  Checked-heard line x is given =
+      let next = given_as after now line (Heard x) is given in
       let k = h.heard_is in
       let p = h.passed_is in
       let n = h.lines_are in
@@ -79,9 +90,11 @@ module _ (first now after : Answers → Type 0) (a b : Option (List ℕ)) (heard
       }
 
   -- a line is passed over, which is told
-  pub Checked-passed : (c : Option (List ℕ)) (number : ℕ) (reason : Reason) → number ≡ count → ((answers : Answers) → after answers → now (then_given (Passed reason) answers))
+  pub Checked-passed : (c : Option (List ℕ)) (number : ℕ) (line : Line) (reason : Reason) → number ≡ count → line ≡ Passed reason
+      → ((answers : Answers) → after answers → now (then_given line answers))
       → Appends b c (passed_line number reason) → Checked first after a c heard (passed + 1) count
-  Checked-passed c number reason same next out =
+  Checked-passed c number line reason same is given out =
+      let next = given_as after now line (Passed reason) is given in
       let k = h.heard_is in
       let p = h.passed_is in
       let n = h.lines_are in
@@ -102,10 +115,12 @@ module _ (first now after : Answers → Type 0) (a b : Option (List ℕ)) (heard
       }
 
   -- what is told of such a line is refused
-  pub Checked-refused : (limit : ℕ) (known c : Option (List ℕ)) (number : ℕ) (reason : Reason) → number ≡ count → ((answers : Answers) → after answers → now (then_given (Passed reason) answers))
+  pub Checked-refused : (limit : ℕ) (known c : Option (List ℕ)) (number : ℕ) (line : Line) (reason : Reason) → number ≡ count → line ≡ Passed reason
+      → ((answers : Answers) → after answers → now (then_given line answers))
       → (answers : Answers) → after answers → AppendsFront b c (passed_line number reason) → IsWhole first limit known
       → RunsOver check_text lines_fault limit known (Err Write) a c
-  Checked-refused limit known c number reason same next answers may front whole =
+  Checked-refused limit known c number line reason same is given answers may front whole =
+      let next = given_as after now line (Passed reason) is given in
       let n = h.lines_are in
       let at : number ≡ 1 + length h.seen = omega arith in
       let line = passed_line number reason in
@@ -144,7 +159,9 @@ module _ (first now : Answers → Type 0) (a b : Option (List ℕ)) (heard passe
       (subst (AppendsFront a c) (sym told) (AppendsFront-then a b c (check_lines 1 h.seen) (totals_line heard passed) h.out front))
 
   -- the log has a fault
-  pub Checked-fault : (fault : LogFault) → now (ended (Some fault)) → RunsOver check_text lines_fault limit known (Err (Input 0 (Log fault))) a b
-  Checked-fault fault may =
-      over check_of limit known (Err (Input 0 (Log fault))) a b (prepended h.seen (ended (Some fault))) (whole _ (h.has.complete (ended (Some fault)) may))
-      (refl, refl, subst (Appends a b) (sym (seen_whole (Some fault) ∙ append-nil (check_lines 1 h.seen))) h.out)
+  pub Checked-fault : (fault : LogFault) (told : RunFault) → told ≡ Input 0 (Log fault) → now (ended (Some fault))
+      → RunsOver check_text lines_fault limit known (Err told) a b
+  Checked-fault fault answer same may =
+      subst (λ (t : RunFault). RunsOver check_text lines_fault limit known (Err t) a b) (sym same)
+      (over check_of limit known (Err (Input 0 (Log fault))) a b (prepended h.seen (ended (Some fault))) (whole _ (h.has.complete (ended (Some fault)) may))
+      (refl, refl, subst (Appends a b) (sym (seen_whole (Some fault) ∙ append-nil (check_lines 1 h.seen))) h.out))

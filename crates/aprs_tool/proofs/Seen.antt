@@ -2,7 +2,7 @@
 use Rattle.std.proofs.Common.{◌≡◌, ℕ, List, [], ◌∷◌, ◌++◌, Option, None, Some, Result, Ok, Err, IfSome, refl, ap, sym, ◌∙◌, append_assoc, append-nil, subst}
 use Rattle.std.specs.List.{flat_map}
 use Rattle.std.specs.Io.KnownBytes.{Appends}
-use Rattle.std.proofs.KnownBytes.{Appends-trans}
+use Rattle.std.proofs.KnownBytes.{Appends-nil, Appends-trans}
 use Rattle.std.proofs.lemmas.List.{flat_map_more}
 use Rattle.aprs_kiss.specs.Device.{AppendsFront}
 use Rattle.aprs_kiss.proofs.Bytes.{AppendsFront-more, AppendsFront-then}
@@ -45,13 +45,19 @@ flat_map-append : (f : Line → List ℕ) (xs ys : List Line) → flat_map f (xs
 flat_map-append f [] ys = refl
 flat_map-append f (x ∷ xs) ys = ap (λ l. f x ++ l) (flat_map-append f xs ys) ∙ sym (append_assoc (f x) (flat_map f xs) (flat_map f ys))
 
--- a line was written
-pub Ran-line : (f : Line → List ℕ) (first now after : Answers → Type 0) (a b c : Option (List ℕ)) (x : Line) → Ran (flat_map f) first now a b
-    → ((answers : Answers) → after answers → now (then_given x answers)) → Appends b c (f x) → Ran (flat_map f) first after a c
-Ran-line f first now after a b c x h next out = record {
+-- before the first line nothing is written
+pub Ran-none : (f : Line → List ℕ) (first : Answers → Type 0) (a : Option (List ℕ)) → Ran (flat_map f) first first a a
+Ran-none f first a = record { seen = []; has = HasSeen-none first; out = Appends-nil a }
+
+-- a line was written, which the reader lent
+pub Ran-line : (f : Line → List ℕ) (first now after : Answers → Type 0) (a b c : Option (List ℕ)) (x lent : Line) → lent ≡ x
+    → Ran (flat_map f) first now a b
+    → ((answers : Answers) → after answers → now (then_given x answers)) → Appends b c (f lent) → Ran (flat_map f) first after a c
+Ran-line f first now after a b c x lent same h next out = record {
   seen = h.seen ++ x ∷ [];
   has = HasSeen-line first now after h.seen x h.has next;
-  out = subst (Appends a c) (flat_map_more f [] h.seen x) (Appends-trans a b c (flat_map f h.seen) (f x) h.out out);
+  out = subst (Appends a c) (flat_map_more f [] h.seen x)
+      (Appends-trans a b c (flat_map f h.seen) (f x) h.out (subst (λ (y : Line). Appends b c (f y)) same out));
 }
 
 -- ---- the run of a log of which these answers may come first
@@ -71,18 +77,18 @@ abbrev lines_of : Form → Answers → List ℕ
 lines_of form a = flat_map (line_text form) a.given
 
 -- the output was refused
-pub Ran-refused : (form : Form) (first now after : Answers → Type 0) (limit : ℕ) (known a b c : Option (List ℕ)) (x : Line)
+pub Ran-refused : (form : Form) (first now after : Answers → Type 0) (limit : ℕ) (known a b c : Option (List ℕ)) (x lent : Line) → lent ≡ x
     → Ran (flat_map (line_text form)) first now a b → ((answers : Answers) → after answers → now (then_given x answers))
-    → (answers : Answers) → after answers → AppendsFront b c (line_text form x) → IsWhole first limit known
+    → (answers : Answers) → after answers → AppendsFront b c (line_text form lent) → IsWhole first limit known
     → RunsOver (lines_text form) lines_fault limit known (Err Write) a c
-Ran-refused form first now after limit known a b c x h next answers may front whole =
+Ran-refused form first now after limit known a b c x lent same h next answers may front whole =
     let f = line_text form in
     let all = prepended h.seen (then_given x answers) in
     let text : flat_map f all.given ≡ (flat_map f h.seen ++ f x) ++ flat_map f answers.given =
     flat_map-append f h.seen (x ∷ answers.given) ∙ sym (append_assoc (flat_map f h.seen) (f x) (flat_map f answers.given)) in
     over (lines_of form) limit known (Err Write) a c all (whole all (h.has.complete (then_given x answers) (next answers may)))
     (subst (AppendsFront a c) (sym text) (AppendsFront-more a c (flat_map f h.seen ++ f x) (flat_map f answers.given)
-    (AppendsFront-then a b c (flat_map f h.seen) (f x) h.out front)))
+    (AppendsFront-then a b c (flat_map f h.seen) (f x) h.out (subst (λ (y : Line). AppendsFront b c (f y)) same front))))
 
 -- what was written is the text of all answers, where none is left
 whole_text : (f : Line → List ℕ) (seen : List Line) (a b : Option (List ℕ)) → Appends a b (flat_map f seen) → Appends a b (flat_map f (seen ++ []))
@@ -97,9 +103,11 @@ Ran-ended form first now limit known a b h may whole =
     (refl, whole_text (line_text form) h.seen a b h.out)
 
 -- the log has a fault
-pub Ran-fault : (form : Form) (first now : Answers → Type 0) (limit : ℕ) (known a b : Option (List ℕ)) (fault : LogFault)
+pub Ran-fault : (form : Form) (first now : Answers → Type 0) (limit : ℕ) (known a b : Option (List ℕ)) (fault : LogFault) (told : RunFault)
+    → told ≡ Input 0 (Log fault)
     → Ran (flat_map (line_text form)) first now a b → now (ended (Some fault)) → IsWhole first limit known
-    → RunsOver (lines_text form) lines_fault limit known (Err (Input 0 (Log fault))) a b
-Ran-fault form first now limit known a b fault h may whole =
-    over (lines_of form) limit known (Err (Input 0 (Log fault))) a b (prepended h.seen (ended (Some fault))) (whole _ (h.has.complete (ended (Some fault)) may))
-    (refl, refl, whole_text (line_text form) h.seen a b h.out)
+    → RunsOver (lines_text form) lines_fault limit known (Err told) a b
+Ran-fault form first now limit known a b fault told same h may whole =
+    subst (λ (t : RunFault). RunsOver (lines_text form) lines_fault limit known (Err t) a b) (sym same)
+    (over (lines_of form) limit known (Err (Input 0 (Log fault))) a b (prepended h.seen (ended (Some fault))) (whole _ (h.has.complete (ended (Some fault)) may))
+    (refl, refl, whole_text (line_text form) h.seen a b h.out))

@@ -14,15 +14,33 @@ use crate::monitor::push_monitor_text;
 use crate::text::{Text, push_all};
 use aprs_ax25::Frame;
 use aprs_kiss::{Counted, WriteFault, send, write_kiss};
-use aprs_log::{Line, Reception, write_line};
+use aprs_log::{Line, LogWriter, Reception};
 use aprs_report::Report;
 use std::io::Write;
+
+/// Room for what is written for a line, kept from line to line.
+#[derive(Drop)]
+pub struct Room {
+    text: Text,
+    log: LogWriter,
+}
+
+impl Room {
+    /// Room for the first line.
+    pub fn new() -> Room {
+        Room {
+            text: Text::new(),
+            log: LogWriter::new(),
+        }
+    }
+}
 
 /// Writes what a form gives for a line.
 pub fn write_answer<W: Write>(
     form: &Form,
     w: &mut Counted<W>,
     line: &Line,
+    room: &mut Room,
 ) -> Result<(), WriteFault>
     ensures sent { OnOk result (Appends (W.contents (device_of w.old))
         (W.contents (device_of w.new)) (line_text form.now line.now)) }
@@ -32,7 +50,7 @@ pub fn write_answer<W: Write>(
     ensures fault { OnErr result (Rose (failures_of w.old) (failures_of w.new)) }
 {
     match line {
-        Line::Heard(reception) => write_reception(form, w, reception),
+        Line::Heard(reception) => write_reception(form, w, reception, room),
         Line::Passed(_) => Ok(()),
     }
 }
@@ -42,6 +60,7 @@ fn write_reception<W: Write>(
     form: &Form,
     w: &mut Counted<W>,
     reception: &Reception,
+    room: &mut Room,
 ) -> Result<(), WriteFault>
     ensures sent { OnOk result (Appends (W.contents (device_of w.old))
         (W.contents (device_of w.new)) (reception_text form.now reception.now)) }
@@ -51,16 +70,20 @@ fn write_reception<W: Write>(
     ensures fault { OnErr result (Rose (failures_of w.old) (failures_of w.new)) }
 {
     match form {
-        Form::Text => write_monitor_line(w, reception.frame()),
-        Form::Kind => write_kind_line(w, reception.frame()),
+        Form::Text => write_monitor_line(w, reception.frame(), &mut room.text),
+        Form::Kind => write_kind_line(w, reception.frame(), &mut room.text),
         Form::Kiss => write_kiss(w, reception.frame().bytes()),
-        Form::Log => write_line(w, reception),
+        Form::Log => room.log.write(w, reception),
         Form::Capture { .. } => Ok(()),
     }
 }
 
 /// Writes the frame as a monitor prints it, and an LF.
-fn write_monitor_line<W: Write>(w: &mut Counted<W>, frame: &Frame) -> Result<(), WriteFault>
+fn write_monitor_line<W: Write>(
+    w: &mut Counted<W>,
+    frame: &Frame,
+    text: &mut Text,
+) -> Result<(), WriteFault>
     ensures sent { OnOk result (Appends (W.contents (device_of w.old))
         (W.contents (device_of w.new)) (ended_by_lf (monitor_text (parts_of frame.now)))) }
     ensures prefix { OnErr result (AppendsFront (W.contents (device_of w.old))
@@ -68,13 +91,17 @@ fn write_monitor_line<W: Write>(w: &mut Counted<W>, frame: &Frame) -> Result<(),
     ensures count { failures_of w.old ≤ failures_of w.new }
     ensures fault { OnErr result (Rose (failures_of w.old) (failures_of w.new)) }
 {
-    let mut text = Text::new();
-    push_monitor_line(&mut text, frame);
+    text.clear();
+    push_monitor_line(text, frame);
     send(w, text.as_slice())
 }
 
 /// Writes the kind of report, a space, the frame as a monitor prints it, and an LF.
-fn write_kind_line<W: Write>(w: &mut Counted<W>, frame: &Frame) -> Result<(), WriteFault>
+fn write_kind_line<W: Write>(
+    w: &mut Counted<W>,
+    frame: &Frame,
+    text: &mut Text,
+) -> Result<(), WriteFault>
     ensures sent { OnOk result (Appends (W.contents (device_of w.old))
         (W.contents (device_of w.new)) (ended_by_lf (kind_text (parts_of frame.now)))) }
     ensures prefix { OnErr result (AppendsFront (W.contents (device_of w.old))
@@ -82,8 +109,8 @@ fn write_kind_line<W: Write>(w: &mut Counted<W>, frame: &Frame) -> Result<(), Wr
     ensures count { failures_of w.old ≤ failures_of w.new }
     ensures fault { OnErr result (Rose (failures_of w.old) (failures_of w.new)) }
 {
-    let mut text = Text::new();
-    push_kind_line(&mut text, frame);
+    text.clear();
+    push_kind_line(text, frame);
     send(w, text.as_slice())
 }
 

@@ -36,14 +36,16 @@ pub fn check_run<R: Read, W: Write>(
     let mut reader = LogReader::new(alloc, limit, &[], r);
     let mut heard = 0;
     let mut passed = 0;
-    loop {
-        match reader.next() {
-            Ok(Some(Line::Heard(_))) => heard += 1,
-            Ok(Some(Line::Passed(reason))) => match write_passed(w, reader.line(), reason) {
-                Ok(()) => passed += 1,
-                Err(_) => return Err(RunFault::Write),
+    'lines: loop {
+        match reader.advance() {
+            Ok(true) => match reader.current() {
+                Line::Heard(_) => heard += 1,
+                Line::Passed(reason) => match write_passed(w, reader.line(), *reason) {
+                    Ok(()) => passed += 1,
+                    Err(_) => return Err(RunFault::Write),
+                },
             },
-            Ok(None) => {
+            Ok(false) => {
                 return match write_totals(w, heard, passed) {
                     Ok(()) => Ok(()),
                     Err(_) => Err(RunFault::Write),

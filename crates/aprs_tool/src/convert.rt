@@ -3,7 +3,7 @@ ghost use Rattle.std.specs.Prelude.{◌≡◌, ◌≤◌, IfErr};
 ghost use Rattle.aprs_kiss.specs.Device.{device_of, failures_of, Rose};
 ghost use Rattle.aprs_tool.specs.Run.{RunsOver, IsRead, lines_text, lines_fault};
 
-use crate::answer::write_answer;
+use crate::answer::{Room, write_answer};
 use crate::fault::{InputFault, RunFault};
 use crate::form::Form;
 use aprs_kiss::Counted;
@@ -27,13 +27,14 @@ pub fn convert_lines<R: Read, W: Write>(
         → Rose (failures_of w.old) (failures_of w.new)) }
 {
     let mut reader = LogReader::new(alloc, limit, &[], r);
-    loop {
-        match reader.next() {
-            Ok(Some(line)) => match write_answer(form, w, &line) {
+    let mut room = Room::new();
+    'lines: loop {
+        match reader.advance() {
+            Ok(true) => match write_answer(form, w, reader.current(), &mut room) {
                 Ok(()) => {}
                 Err(_) => return Err(RunFault::Write),
             },
-            Ok(None) => return Ok(()),
+            Ok(false) => return Ok(()),
             Err(fault) => return Err(log_fault(fault)),
         }
     }

@@ -51,7 +51,12 @@ fn push_shown_byte(out: &mut Text, b: u8)
 fn are_shown(bytes: &[u8]) -> bool
     ensures { result ≡ list_all is_shown bytes.now }
 {
-    bytes.iter().all(|b| is_shown(*b))
+    // No early end, so that many bytes are looked at in one step.
+    let mut all = true;
+    for b in bytes {
+        all &= is_shown(*b);
+    }
+    all
 }
 
 /// Puts the byte's two lower case hexadecimal digits at the end.

@@ -4,8 +4,8 @@ use Rattle.aprs_log.specs.Reader.{Awaits, lines_of, loan_of, source_of, stop_of}
 use Rattle.aprs_tool.proofs.Checked.{Checked}
 use Rattle.aprs_tool.proofs.check.check_run.Given as goal
 
-abbrev pub invariant-loop-heard : goal.invariant-loop-heard
-invariant-loop-heard g l =
+abbrev pub invariant-lines : goal.invariant-lines
+invariant-lines g l =
     let remaining = g.R.Read.remaining in
     let contents = g.W.Write.contents in
     record {
@@ -18,5 +18,5 @@ invariant-loop-heard g l =
           l.heard l.passed (lines_of l.reader);
     }
 
-abbrev pub decreases-loop-heard : goal.decreases-loop-heard
-decreases-loop-heard g l = 1073741824 - lines_of l.reader
+abbrev pub decreases-lines : goal.decreases-lines
+decreases-lines g l = 1073741824 - lines_of l.reader

@@ -6,8 +6,8 @@ use Rattle.aprs_tool.specs.Run.{line_text}
 use Rattle.aprs_tool.proofs.Seen.{Ran}
 use Rattle.aprs_tool.proofs.convert.convert_lines.Given as goal
 
-abbrev pub invariant-loop-line : goal.invariant-loop-line
-invariant-loop-line g l =
+abbrev pub invariant-lines : goal.invariant-lines
+invariant-lines g l =
     let remaining = g.R.Read.remaining in
     let contents = g.W.Write.contents in
     record {
@@ -19,5 +19,5 @@ invariant-loop-line g l =
           (Awaits (remaining (device_of (source_of l.reader))) l.reader) (contents (device_of l.initial.w)) (contents (device_of l.w));
     }
 
-abbrev pub decreases-loop-line : goal.decreases-loop-line
-decreases-loop-line g l = 1073741824 - lines_of l.reader
+abbrev pub decreases-lines : goal.decreases-lines
+decreases-lines g l = 1073741824 - lines_of l.reader
