@@ -19,8 +19,6 @@ mod row_parts;
 mod station;
 mod steps;
 mod subject;
-#[cfg(test)]
-mod tests;
 
 pub use book::Book;
 pub use greatest::Greatest;

@@ -12,8 +12,6 @@ mod outbox;
 mod read;
 mod reader;
 mod row_line;
-#[cfg(test)]
-mod tests;
 mod write;
 
 pub use fault::{BookCause, BookFault};

@@ -16,8 +16,6 @@ mod receiver;
 mod reception;
 mod refill;
 mod scratch;
-#[cfg(test)]
-mod tests;
 mod window;
 mod write;
 

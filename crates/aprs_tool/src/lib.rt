@@ -9,8 +9,6 @@ mod fault;
 mod form;
 mod monitor;
 mod run;
-#[cfg(test)]
-mod tests;
 mod text;
 mod words;
 

@@ -1,8 +1,8 @@
 //! What is last known of stations, objects and items.
 
-use super::{NOON, receiver};
-use crate::{Book, Heard, Station};
+use crate::vectors::{NOON, receiver};
 use aprs_ax25::{Callsign, Frame};
+use aprs_book::{Book, Heard, Station};
 use aprs_log::{Moment, Reception};
 use aprs_report::{Place, Report, Stamp, Symbol};
 use std::alloc::Global;

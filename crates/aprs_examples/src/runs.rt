@@ -1,14 +1,14 @@
 //! Runs over logs and streams.
 ghost use Rattle.std.specs.Prelude.{◌≤◌};
 
-use crate::{Form, InputFault, RunFault, check_run, convert_run, status_of};
+use crate::devices::{Failing, Full};
 use aprs_kiss::Counted;
 use aprs_log::{LogCause, LogFault, MAX_INPUT, Moment, Receiver};
-use std::io::{self, Read, Write};
+use aprs_tool::{Form, InputFault, RunFault, check_run, convert_run, status_of};
 use std::test::Fail;
 
 /// N0CALL-7 to APRS, with the information `>Hi`, as one receiver heard it.
-const LOG: &[u8] = b"2024-05-01T12:00:00Z RX1 c00082a0a4a64040e09c60868298986f03f03e4869c0\n";
+const ONE_LINE: &[u8] = b"2024-05-01T12:00:00Z RX1 c00082a0a4a64040e09c60868298986f03f03e4869c0\n";
 
 /// The same as a KISS frame.
 const FRAME: &[u8] =
@@ -55,9 +55,9 @@ fn one_line_in_each_form(rt: HostRuntime) {
         (Form::Text, b"N0CALL-7>APRS:>Hi\n".as_slice()),
         (Form::Kind, b"status N0CALL-7>APRS:>Hi\n".as_slice()),
         (Form::Kiss, FRAME),
-        (Form::Log, LOG),
+        (Form::Log, ONE_LINE),
     ] {
-        let (written, fault) = converted(&rt, MAX_INPUT, form, LOG);
+        let (written, fault) = converted(&rt, MAX_INPUT, form, ONE_LINE);
         assert_eq!(rt; written.as_slice(), text);
         assert!(rt; fault.is_none());
     }
@@ -65,10 +65,10 @@ fn one_line_in_each_form(rt: HostRuntime) {
 
 #[test]
 fn a_limit_cuts_a_log(rt: HostRuntime) {
-    let (written, fault) = converted(&rt, 70, Form::Log, LOG);
-    assert_eq!(rt; written.as_slice(), LOG);
+    let (written, fault) = converted(&rt, 70, Form::Log, ONE_LINE);
+    assert_eq!(rt; written.as_slice(), ONE_LINE);
     assert!(rt; fault.is_none());
-    let (written, fault) = converted(&rt, 69, Form::Log, LOG);
+    let (written, fault) = converted(&rt, 69, Form::Log, ONE_LINE);
     assert!(rt; written.is_empty());
     assert!(rt; fault == Some((1, LogCause::TooLong)));
 }
@@ -104,48 +104,19 @@ fn a_stream_is_captured(rt: HostRuntime) -> Result<(), Fail> {
     let (written, fault) = converted(&rt, MAX_INPUT, form, stream.as_slice());
     assert!(rt; fault.is_none());
     let mut twice = Vec::new(rt.alloc());
-    twice.extend_from_slice(LOG)?;
-    twice.extend_from_slice(LOG)?;
+    twice.extend_from_slice(ONE_LINE)?;
+    twice.extend_from_slice(ONE_LINE)?;
     assert!(rt; written == twice);
     Ok(())
 }
 
-/// A reader that gives its bytes, and then fails.
-#[derive(Drop)]
-struct Failing<'a> {
-    bytes: &'a [u8],
-}
-
-impl Read for Failing<'_> {
-    fn read(&mut self, buf: &mut [u8]) -> io::Result<usize> {
-        let n = buf.len().min(self.bytes.len());
-        if n == 0 && !buf.is_empty() {
-            return Err(io::Error::from(io::ErrorKind::Other));
-        }
-        let (front, rest) = self.bytes.split_at(n);
-        buf[..n].copy_from_slice(front);
-        self.bytes = rest;
-        Ok(n)
-    }
-}
-
-/// A writer that refuses all.
-#[derive(Drop)]
-struct Full;
-
-impl Write for Full {
-    fn write(&mut self, _: &[u8]) -> io::Result<usize> {
-        Err(io::Error::from(io::ErrorKind::Other))
-    }
-
-    fn flush(&mut self) -> io::Result<()> {
-        Ok(())
-    }
-}
-
 #[test]
 fn devices_that_fail(rt: HostRuntime) {
-    let mut r = Counted::new(Failing { bytes: LOG });
+    let mut r = Counted::new(Failing {
+        bytes: ONE_LINE,
+        most: usize::MAX,
+        good: ONE_LINE.len(),
+    });
     let mut w = Counted::new(Vec::new(rt.alloc()));
     let run = convert_run(rt.alloc(), MAX_INPUT, Form::Text, &mut r, &mut w);
     assert!(rt; fault_of(run) == Some((2, LogCause::Read)));
@@ -159,7 +130,7 @@ fn devices_that_fail(rt: HostRuntime) {
         rt.alloc(),
         MAX_INPUT,
         Form::Log,
-        &mut Counted::new(LOG),
+        &mut Counted::new(ONE_LINE),
         &mut w,
     );
     assert!(rt; matches!(&run, Err(RunFault::Write)));

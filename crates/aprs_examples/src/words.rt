@@ -1,6 +1,7 @@
 //! The program's words.
-use crate::{Form, Job, JobFault, job};
+
 use aprs_log::{Moment, Receiver};
+use aprs_tool::{Form, Job, JobFault, job};
 use std::test::Fail;
 
 /// Whether the words ask for a conversion to this form.

@@ -1,0 +1,108 @@
+//! Books and their texts.
+
+use crate::devices::{Failing, Tight};
+use crate::vectors::{
+    DIRECT_LINE, DIRECT_TEXT, EMPTY_TEXT, FIRST_LINE, LAST_LINE, MERGED_TEXT, REPEATED_LINE,
+};
+use aprs_book::Book;
+use aprs_booktext::{BookCause, read_book, write_book};
+use aprs_kiss::{Counted, WriteFault};
+use aprs_log::{Line, MAX_INPUT, read_line};
+use std::alloc::Global;
+use std::test::Fail;
+
+/// The book of what these lines of a log tell.
+fn book_of(alloc: Global, lines: &[&[u8]]) -> Result<Book, Fail> {
+    let mut book = Book::new(alloc);
+    for line in lines {
+        let Ok(Line::Heard(heard)) = read_line(line) else {
+            return Err("heard".into());
+        };
+        book.take(&heard).ok().ok_or("memory")?;
+    }
+    Ok(book)
+}
+
+#[test]
+fn books_and_their_texts(rt: HostRuntime) -> Result<(), Fail> {
+    let alloc = rt.alloc();
+    for (lines, text) in [
+        ([].as_slice(), EMPTY_TEXT),
+        ([DIRECT_LINE].as_slice(), DIRECT_TEXT),
+        (
+            [FIRST_LINE, LAST_LINE, REPEATED_LINE].as_slice(),
+            MERGED_TEXT,
+        ),
+        (
+            [REPEATED_LINE, FIRST_LINE, LAST_LINE, FIRST_LINE].as_slice(),
+            MERGED_TEXT,
+        ),
+    ] {
+        let book = book_of(alloc, lines)?;
+        let mut out = Counted::new(Vec::new(alloc));
+        assert!(rt; write_book(&mut out, &book) == Ok(()));
+        assert_eq!(rt; out.into_inner().as_slice(), text);
+    }
+    assert_eq!(rt; EMPTY_TEXT.len(), 17);
+    assert_eq!(rt; DIRECT_TEXT.len(), 108);
+    assert_eq!(rt; MERGED_TEXT.len(), 217);
+    Ok(())
+}
+
+#[test]
+fn a_writer_fails_at_each_byte(rt: HostRuntime) -> Result<(), Fail> {
+    let book = book_of(rt.alloc(), &[FIRST_LINE, LAST_LINE, REPEATED_LINE])?;
+    for room in 0..MERGED_TEXT.len() {
+        let mut out = Counted::new(Tight {
+            bytes: Vec::new(rt.alloc()),
+            room,
+        });
+        assert!(rt; write_book(&mut out, &book) == Err(WriteFault));
+        assert_eq!(rt; out.failures(), 1);
+        assert_eq!(rt; out.into_inner().bytes.as_slice(), &MERGED_TEXT[..room]);
+    }
+    Ok(())
+}
+
+#[test]
+fn texts_are_read_back(rt: HostRuntime) -> Result<(), Fail> {
+    let alloc = rt.alloc();
+    for text in [EMPTY_TEXT, DIRECT_TEXT, MERGED_TEXT] {
+        let read = read_book(alloc, MAX_INPUT, b"", &mut Counted::new(text));
+        let book = read.ok().ok_or("a book")?;
+        let mut out = Counted::new(Vec::new(alloc));
+        assert!(rt; write_book(&mut out, &book) == Ok(()));
+        assert_eq!(rt; out.into_inner().as_slice(), text);
+        let mut rest = Counted::new(&text[8..]);
+        let again = read_book(alloc, text.len() as u64, &text[..8], &mut rest);
+        assert!(rt; again.ok().ok_or("a book")?.same(&book));
+    }
+    Ok(())
+}
+
+#[test]
+fn a_reader_fails_at_each_byte(rt: HostRuntime) {
+    for good in 0..=MERGED_TEXT.len() {
+        let mut source = Counted::new(Failing {
+            bytes: MERGED_TEXT,
+            most: 1,
+            good,
+        });
+        let line = if good <= 10 {
+            1
+        } else if good <= 119 {
+            2
+        } else if good <= 210 {
+            3
+        } else if good <= 216 {
+            4
+        } else {
+            5
+        };
+        let read = read_book(rt.alloc(), MAX_INPUT, b"", &mut source);
+        assert!(rt;
+            matches!(&read, Err(fault) if fault.line == line && fault.cause == BookCause::Read)
+        );
+        assert_eq!(rt; source.failures(), 1);
+    }
+}

@@ -1,0 +1,180 @@
+//! Books that take receptions, merge and replay.
+
+use crate::shown::{name_text, shown};
+use crate::vectors::{ANSWERED, DIRECT, REPEATED, heard, receiver};
+use aprs_book::{Book, Greatest, Join, Receivers, Step, join_all, replay, steps_fit};
+use std::alloc::Global;
+use std::test::Fail;
+
+#[test]
+fn rows_join_within_thirty_seconds(rt: HostRuntime) -> Result<(), Fail> {
+    let alloc = rt.alloc();
+    let mut book = Book::new(alloc);
+    for (second, want) in [
+        (0, "0-0 RX1 / RX1 6f; "),
+        (61, "0-0 RX1 / RX1 6f; 61-61 RX1 / RX1 6f; "),
+        (31, "0-0 RX1 / RX1 6f; 31-61 RX1 / RX1 6f; "),
+        (30, "0-61 RX1 / RX1 6f; "),
+        (40, "0-61 RX1 / RX1 6f; "),
+    ] {
+        let x = heard(second, b"RX1", &DIRECT)?;
+        book.take(&x).ok().ok_or("memory")?;
+        let text = shown(alloc, &book)?;
+        assert_eq!(rt; text.as_str(), want);
+    }
+    Ok(())
+}
+
+#[test]
+fn ties_go_by_receiver_then_frame(rt: HostRuntime) -> Result<(), Fail> {
+    let alloc = rt.alloc();
+    let direct = heard(0, b"RX1", &DIRECT)?;
+    let repeated = heard(0, b"RX1", &REPEATED)?;
+    let mut book = Book::new(alloc);
+    book.take(&repeated).ok().ok_or("memory")?;
+    book.take(&direct).ok().ok_or("memory")?;
+    let mut turned = Book::new(alloc);
+    turned.take(&direct).ok().ok_or("memory")?;
+    turned.take(&repeated).ok().ok_or("memory")?;
+    assert!(rt; book.same(&turned));
+    assert_eq!(rt; book.len(), 1);
+    let text = shown(alloc, &book)?;
+    assert_eq!(rt; text.as_str(), "0-0 RX1 / RX1 6f; ");
+    let other = heard(0, b"RX2", &REPEATED)?;
+    book.take(&other).ok().ok_or("memory")?;
+    let text = shown(alloc, &book)?;
+    assert_eq!(rt; text.as_str(), "0-0 RX1 RX2 / RX2 6e; ");
+    assert!(rt; !book.same(&turned));
+    Ok(())
+}
+
+#[test]
+fn other_digipeaters_are_no_other_row(rt: HostRuntime) -> Result<(), Fail> {
+    let alloc = rt.alloc();
+    let mut book = Book::new(alloc);
+    let direct = heard(0, b"RX1", &DIRECT)?;
+    let answered = heard(5, b"RX2", &ANSWERED)?;
+    book.take(&direct).ok().ok_or("memory")?;
+    book.take(&answered).ok().ok_or("memory")?;
+    let text = shown(alloc, &book)?;
+    assert_eq!(rt; text.as_str(), "0-5 RX1 RX2 / RX2 ee; ");
+    Ok(())
+}
+
+#[test]
+fn receivers_stand_once(rt: HostRuntime) -> Result<(), Fail> {
+    let alloc = rt.alloc();
+    let mut names = Receivers::new(alloc);
+    for name in [b"RX2", b"RX1", b"RX2"] {
+        let name = receiver(name)?;
+        names.add(&name).ok().ok_or("memory")?;
+    }
+    let mut text = String::new(alloc);
+    for name in names.as_slice() {
+        name_text(&mut text, name)?;
+    }
+    assert_eq!(rt; text.as_str(), "RX1 RX2 ");
+    Ok(())
+}
+
+/// A book of receptions by one receiver at these seconds.
+fn book_by(alloc: Global, name: &[u8], seconds: &[u64]) -> Result<Book, Fail> {
+    let mut book = Book::new(alloc);
+    for second in seconds {
+        let x = heard(*second, name, &DIRECT)?;
+        book.take(&x).ok().ok_or("memory")?;
+    }
+    Ok(book)
+}
+
+#[test]
+fn two_rows_bridge_three(rt: HostRuntime) -> Result<(), Fail> {
+    let alloc = rt.alloc();
+    let three = book_by(alloc, b"RX1", &[0, 60, 120])?;
+    let two = book_by(alloc, b"RX2", &[30, 90])?;
+    let both = three.merge(&two).ok().ok_or("memory")?;
+    let turned = two.merge(&three).ok().ok_or("memory")?;
+    assert!(rt; both.same(&turned));
+    let text = shown(alloc, &both)?;
+    assert_eq!(rt; text.as_str(), "0-120 RX1 RX2 / RX1 6f; ");
+    assert_eq!(rt; three.len(), 3);
+    assert_eq!(rt; two.len(), 2);
+    Ok(())
+}
+
+#[test]
+fn replays_end_in_equal_books(rt: HostRuntime) -> Result<(), Fail> {
+    let alloc = rt.alloc();
+    let steps = [
+        Step::Take(0, heard(0, b"RX1", &DIRECT)?),
+        Step::Take(1, heard(20, b"RX2", &DIRECT)?),
+        Step::Merge(0, 1),
+        Step::Merge(1, 0),
+        Step::Merge(0, 0),
+    ];
+    if !steps_fit(2, &steps) {
+        return Err("places".into());
+    }
+    let books = replay(alloc, 2, &steps).ok().ok_or("memory")?;
+    assert_eq!(rt; books.len(), 2);
+    assert!(rt; books[0].same(&books[1]));
+    let text = shown(alloc, &books[0])?;
+    assert_eq!(rt; text.as_str(), "0-20 RX1 RX2 / RX2 6f; ");
+    let all = join_all(&books[0], &books).ok().ok_or("memory")?;
+    assert!(rt; all.same(&books[0]));
+    let alone = join_all(&books[0], &[]).ok().ok_or("memory")?;
+    assert!(rt; alone.same(&books[0]));
+    assert!(rt; !steps_fit(2, &[Step::Merge(0, 2)]));
+    Ok(())
+}
+
+/// A book of a log in which RX1 heard the frame at once, and RX2 30 seconds and an hour later.
+fn logged(alloc: Global, seconds: &[u64]) -> Result<Book, Fail> {
+    let mut book = Book::new(alloc);
+    for second in seconds {
+        let x = match *second {
+            0 => heard(0, b"RX1", &DIRECT)?,
+            30 => heard(30, b"RX2", &REPEATED)?,
+            other => heard(other, b"RX2", &DIRECT)?,
+        };
+        book.take(&x).ok().ok_or("memory")?;
+    }
+    Ok(book)
+}
+
+#[test]
+fn orders_repeats_and_merges_do_not_matter(rt: HostRuntime) -> Result<(), Fail> {
+    let alloc = rt.alloc();
+    for [a, b, c] in [
+        [0, 30, 3600],
+        [0, 3600, 30],
+        [30, 0, 3600],
+        [30, 3600, 0],
+        [3600, 0, 30],
+        [3600, 30, 0],
+    ] {
+        let taken = logged(alloc, &[a, b, c, a])?;
+        let first = logged(alloc, &[a, b])?;
+        let second = logged(alloc, &[c, a])?;
+        let merged = first.merge(&second).ok().ok_or("memory")?;
+        assert!(rt; merged.same(&taken));
+        let text = shown(alloc, &merged)?;
+        assert_eq!(rt; text.as_str(), "0-30 RX1 RX2 / RX2 6e; 0-0 RX2 / RX2 6f; ");
+    }
+    Ok(())
+}
+
+#[test]
+fn greatest_receptions_join(rt: HostRuntime) -> Result<(), Fail> {
+    let first = Greatest::new(&heard(0, b"RX1", &DIRECT)?);
+    let second = Greatest::new(&heard(0, b"RX2", &REPEATED)?);
+    let third = Greatest::new(&heard(0, b"RX1", &REPEATED)?);
+    let all = join_all(&first, &[second, third]).ok().ok_or("memory")?;
+    assert!(rt; *all.get() == heard(0, b"RX2", &REPEATED)?);
+    let mut names = Receivers::new(rt.alloc());
+    let name = receiver(b"RX1")?;
+    names.add(&name).ok().ok_or("memory")?;
+    let twice = names.join(&names).ok().ok_or("memory")?;
+    assert_eq!(rt; twice.as_slice().len(), 1);
+    Ok(())
+}

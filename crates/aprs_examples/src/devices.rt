@@ -1,0 +1,67 @@
+//! Devices that fail.
+ghost use Rattle.std.specs.Prelude.{Some};
+
+use std::io::{self, ErrorKind, Read, Write};
+
+/// A reader that tells its bytes, gives at most `most` of them a call, and fails once `good` are
+/// given.
+#[derive(Drop)]
+pub struct Failing<'a> {
+    pub bytes: &'a [u8],
+    pub most: usize,
+    pub good: usize,
+}
+
+impl Read for Failing<'_> {
+    ghost remaining = { λ r. Some r.bytes.now };
+
+    fn read(&mut self, buf: &mut [u8]) -> io::Result<usize> {
+        if self.good == 0 {
+            return Err(io::Error::from(ErrorKind::Other));
+        }
+        let n = buf
+            .len()
+            .min(self.bytes.len())
+            .min(self.most)
+            .min(self.good);
+        let (front, rest) = self.bytes.split_at(n);
+        buf[..n].copy_from_slice(front);
+        self.bytes = rest;
+        self.good -= n;
+        Ok(n)
+    }
+}
+
+/// A writer that takes three bytes a call, until there is room for no more.
+#[derive(Drop)]
+pub struct Tight {
+    pub bytes: Vec<u8>,
+    pub room: usize,
+}
+
+impl Write for Tight {
+    fn write(&mut self, buf: &[u8]) -> io::Result<usize> {
+        let n = buf.len().min(self.room).min(3);
+        self.bytes.extend_from_slice(&buf[..n])?;
+        self.room -= n;
+        Ok(n)
+    }
+
+    fn flush(&mut self) -> io::Result<()> {
+        Ok(())
+    }
+}
+
+/// A writer that refuses all.
+#[derive(Drop)]
+pub struct Full;
+
+impl Write for Full {
+    fn write(&mut self, _: &[u8]) -> io::Result<usize> {
+        Err(io::Error::from(io::ErrorKind::Other))
+    }
+
+    fn flush(&mut self) -> io::Result<()> {
+        Ok(())
+    }
+}

@@ -1,0 +1,29 @@
+//! Worked examples of the libraries as they are used together. Each is a test.
+#![tactic(auto)]
+
+#[cfg(test)]
+mod book_faults;
+#[cfg(test)]
+mod book_texts;
+#[cfg(test)]
+mod books;
+#[cfg(test)]
+mod devices;
+#[cfg(test)]
+mod last_known;
+#[cfg(test)]
+mod lines;
+#[cfg(test)]
+mod logs;
+#[cfg(test)]
+mod pushed_rows;
+#[cfg(test)]
+mod refused_memory;
+#[cfg(test)]
+mod runs;
+#[cfg(test)]
+mod shown;
+#[cfg(test)]
+mod vectors;
+#[cfg(test)]
+mod words;

@@ -1,0 +1,173 @@
+//! Moments, and the lines of a log.
+
+use crate::vectors::{DIRECT, DIRECT_LINE, LOG};
+use aprs_kiss::Counted;
+use aprs_log::{
+    Line, LineFault, LogCause, Moment, Reason, Receiver, Reception, read_line, write_line,
+};
+use std::alloc::Global;
+use std::fmt::Write;
+use std::test::Fail;
+
+#[test]
+fn moments_and_their_texts(rt: HostRuntime) -> Result<(), Fail> {
+    for (text, seconds) in [
+        (b"1970-01-01T00:00:00Z", 0),
+        (b"2024-05-01T12:00:00Z", 1_714_564_800),
+        (b"2099-12-31T23:59:59Z", 4_102_444_799),
+    ] {
+        let moment = Moment::parse(text).ok_or("a moment")?;
+        assert_eq!(rt; moment.seconds(), seconds);
+        assert!(rt; moment.text() == *text);
+        assert!(rt; Moment::new(seconds) == Some(moment.copy()));
+    }
+    for text in [
+        b"2024-05-01T12:00:60Z",
+        b"2023-02-29T00:00:00Z",
+        b"2100-01-01T00:00:00Z",
+        b"1969-12-31T23:59:59Z",
+        b"2024-05-01t12:00:00Z",
+    ] {
+        assert!(rt; Moment::parse(text).is_none());
+    }
+    assert!(rt; Moment::new(4_102_444_800).is_none());
+    Ok(())
+}
+
+#[test]
+fn a_line_is_heard(rt: HostRuntime) -> Result<(), Fail> {
+    let Ok(Line::Heard(heard)) = read_line(DIRECT_LINE) else {
+        return Err("heard".into());
+    };
+    assert_eq!(rt; heard.moment().seconds(), 1_714_564_800);
+    assert!(rt; heard.receiver().as_bytes() == b"RX1".as_slice());
+    assert!(rt; heard.frame().bytes() == DIRECT.as_slice());
+    let mut later = Vec::new(rt.alloc());
+    let receiver = Receiver::parse(b"RX0").ok_or("a name")?;
+    let moment = Moment::new(1_714_564_801).ok_or("a moment")?;
+    later.push(Reception::new(moment, receiver, heard.frame().copy()))?;
+    assert!(rt; heard.copy() == heard);
+    assert!(rt; later.iter().all(|x| heard < *x));
+    Ok(())
+}
+
+#[test]
+fn each_fault_of_a_line(rt: HostRuntime) -> Result<(), Fail> {
+    for (line, fault) in [
+        (b"2024-05-01T12:00:60Z RX1 c0".as_slice(), LineFault::Moment),
+        (b"2024-05-01T12:00:00Z".as_slice(), LineFault::Moment),
+        (
+            b"2024-05-01T12:00:00Z ABCDEFGHIJKLMNOPQ c0".as_slice(),
+            LineFault::Receiver,
+        ),
+        (b"2024-05-01T12:00:00Z RX1".as_slice(), LineFault::Receiver),
+        (b"2024-05-01T12:00:00Z RX1 c0c".as_slice(), LineFault::Hex),
+        (b"2024-05-01T12:00:00Z RX1 zz".as_slice(), LineFault::Hex),
+    ] {
+        assert!(rt; read_line(line) == Err(fault), "{fault:?}");
+    }
+    let mut longest = Vec::new(rt.alloc());
+    longest.extend_from_slice(b"2024-05-01T12:00:00Z RX ")?;
+    longest.resize(8192, b'0')?;
+    assert!(rt; read_line(longest.as_slice()) == Ok(Line::Passed(Reason::Unended)));
+    longest.push(b'0')?;
+    assert!(rt; read_line(longest.as_slice()) == Err(LineFault::LongLine));
+    assert_eq!(rt;
+        LogCause::from(LineFault::Hex).number(),
+        LineFault::Hex.number()
+    );
+    assert_eq!(rt; LogCause::Memory.name(), "Memory");
+    Ok(())
+}
+
+#[test]
+fn a_line_of_another_port_is_written_as_of_port_0(rt: HostRuntime) -> Result<(), Fail> {
+    let line = b"2024-05-01T12:00:00Z RX1 C05082A0A4A64040E09C60868298986F03F03E4869C0";
+    let Ok(Line::Heard(heard)) = read_line(line) else {
+        return Err("heard".into());
+    };
+    let mut out = Counted::new(Vec::new(rt.alloc()));
+    assert!(rt; write_line(&mut out, &heard) == Ok(()));
+    assert!(rt; out.into_inner().as_slice() == &LOG[..70]);
+    Ok(())
+}
+
+/// What is told of a line whose hexadecimal text has these bytes.
+fn told(alloc: Global, bytes: &[u8]) -> Result<Line, Fail> {
+    let mut line = String::new(alloc);
+    line.push_str("2024-05-01T12:00:00Z RX1 ")?;
+    for byte in bytes {
+        write!(line, "{byte:02x}")?;
+    }
+    Ok(read_line(line.as_bytes()).ok().ok_or("a line")?)
+}
+
+/// The bytes between two frame ends, behind a type byte.
+fn kiss(rt: &HostRuntime, kind: u8, bytes: &[u8]) -> Result<Vec<u8>, Fail> {
+    let mut sent = Vec::new(rt.alloc());
+    sent.push(0xC0)?;
+    sent.push(kind)?;
+    sent.extend_from_slice(bytes)?;
+    sent.push(0xC0)?;
+    Ok(sent)
+}
+
+#[test]
+fn each_reason(rt: HostRuntime) -> Result<(), Fail> {
+    for (bytes, reason) in [
+        (b"\xc0\x00A".as_slice(), Reason::Unended),
+        (b"".as_slice(), Reason::NoFrame),
+        (b"\xc0\xc0".as_slice(), Reason::NoFrame),
+        (b"\xc0\x00A\xc0\x00A\xc0".as_slice(), Reason::TwoFrames),
+        (b"\xc0\x00>\xdbA\xc0".as_slice(), Reason::BadEscape),
+        (b"\xc0\x00>\xdb\xc0".as_slice(), Reason::BadEscape),
+        (b"\xc0\x01A\xc0".as_slice(), Reason::NotData),
+        (b"\xc0\x00A\xc0".as_slice(), Reason::Address),
+    ] {
+        assert!(rt;
+            told(rt.alloc(), bytes)? == Line::Passed(reason),
+            "{reason:?}"
+        );
+    }
+    for (at, byte, reason) in [
+        (6, 0xe1, Reason::Address),
+        (7, 0x40, Reason::Callsign),
+        (14, 0x13, Reason::Control),
+        (15, 0xcf, Reason::Pid),
+    ] {
+        let mut frame = Vec::new(rt.alloc());
+        frame.extend_from_slice(&DIRECT)?;
+        frame[at] = byte;
+        let sent = kiss(&rt, 0, frame.as_slice())?;
+        let line = told(rt.alloc(), sent.as_slice())?;
+        assert!(rt; line == Line::Passed(reason), "{reason:?}");
+    }
+    assert_eq!(rt; Reason::LongInfo.name(), "LongInfo");
+    assert_eq!(rt; Reason::LongInfo.number(), 12);
+    Ok(())
+}
+
+#[test]
+fn sizes_of_frames(rt: HostRuntime) -> Result<(), Fail> {
+    let no_info = kiss(&rt, 0, &DIRECT[..16])?;
+    assert!(rt; told(rt.alloc(), no_info.as_slice())? == Line::Passed(Reason::NoInfo));
+    let mut frame = Vec::new(rt.alloc());
+    frame.extend_from_slice(&DIRECT[..16])?;
+    frame.resize(16 + 256, b'A')?;
+    let full = kiss(&rt, 0x50, frame.as_slice())?;
+    let Line::Heard(heard) = told(rt.alloc(), full.as_slice())? else {
+        return Err("heard".into());
+    };
+    assert!(rt; heard.frame().bytes() == frame.as_slice());
+    frame.push(b'A')?;
+    let long = kiss(&rt, 0, frame.as_slice())?;
+    assert!(rt; told(rt.alloc(), long.as_slice())? == Line::Passed(Reason::LongInfo));
+    frame.clear();
+    frame.resize(1023, b'A')?;
+    let most = kiss(&rt, 0, frame.as_slice())?;
+    assert!(rt; told(rt.alloc(), most.as_slice())? == Line::Passed(Reason::Address));
+    frame.push(b'A')?;
+    let more = kiss(&rt, 0, frame.as_slice())?;
+    assert!(rt; told(rt.alloc(), more.as_slice())? == Line::Passed(Reason::TooLong));
+    Ok(())
+}

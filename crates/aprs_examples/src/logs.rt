@@ -1,0 +1,71 @@
+//! Logs to their end or their first fault.
+ghost use Rattle.std.specs.Prelude.{◌≤◌, length};
+
+use crate::devices::Failing;
+use crate::vectors::LOG;
+use aprs_kiss::Counted;
+use aprs_log::{Line, LogCause, LogFault, LogReader, MAX_INPUT};
+
+/// A reader that gives all its bytes, one a call.
+fn slowly(bytes: &[u8]) -> Counted<Failing<'_>> {
+    Counted::new(Failing {
+        bytes,
+        most: 1,
+        good: usize::MAX,
+    })
+}
+
+#[test]
+fn a_reader_fails_at_each_byte(rt: HostRuntime) {
+    for good in 0..LOG.len() {
+        let mut device = Counted::new(Failing {
+            bytes: LOG,
+            most: 64,
+            good,
+        });
+        let mut reader = LogReader::new(rt.alloc(), MAX_INPUT, b"", &mut device);
+        for _ in 0..good / 70 {
+            assert!(rt;
+                matches!(&reader.next(), Ok(Some(Line::Heard(_)))),
+                "at {good}"
+            );
+        }
+        let line = good as u64 / 70;
+        assert_eq!(rt; reader.line(), line);
+        for _ in 0..2 {
+            let fault = LogFault {
+                line: line + 1,
+                cause: LogCause::Read,
+            };
+            assert!(rt; reader.next() == Err(fault), "at {good}");
+            assert_eq!(rt; reader.failures(), 1);
+        }
+    }
+}
+
+#[test]
+fn logs_that_end(rt: HostRuntime) {
+    for (limit, head, input, lines, fault) in [
+        (140, 0, 140, 2, None),
+        (140, 8, 140, 2, None),
+        (70, 0, 140, 1, Some((2, LogCause::TooLong))),
+        (69, 0, 70, 0, Some((1, LogCause::TooLong))),
+        (140, 0, 139, 1, Some((2, LogCause::NoNewline))),
+        (140, 0, 70, 1, None),
+        (0, 0, 0, 0, None),
+    ] {
+        let mut device = slowly(&LOG[head..input]);
+        let mut reader = LogReader::new(rt.alloc(), limit, &LOG[..head], &mut device);
+        for _ in 0..lines {
+            assert!(rt; matches!(&reader.next(), Ok(Some(Line::Heard(_)))));
+        }
+        for _ in 0..2 {
+            let end = match fault {
+                None => Ok(None),
+                Some((line, cause)) => Err(LogFault { line, cause }),
+            };
+            assert!(rt; reader.next() == end, "{limit} {input}");
+        }
+        assert_eq!(rt; reader.failures(), 0);
+    }
+}

@@ -1,0 +1,113 @@
+//! Memory that is refused in the midst of a call.
+
+use crate::pushed_rows::parts;
+use crate::shown::shown;
+use crate::vectors::{DIRECT, MERGED_TEXT, NOON, heard};
+use aprs_book::{Book, RowCause};
+use aprs_booktext::{BookCause, BookFault, read_book, write_book};
+use aprs_kiss::Counted;
+use aprs_log::MAX_INPUT;
+use linked_list_allocator::LocalHeap;
+use std::test::Fail;
+
+// The heap is full but for some units, until it refuses a step: then the rows are as before, and
+// with room again the step gives the same book.
+#[test]
+fn refused_growths_change_nothing(rt: HostRuntime) -> Result<(), Fail> {
+    let alloc = rt.alloc();
+    let mut refused = 0u64;
+    for units in 0..48usize {
+        let heap = LocalHeap::new(alloc, 8192)?;
+        let mut fill: Vec<u8, &LocalHeap> = Vec::new(&heap);
+        fill.reserve(7936 - units * 64)?;
+        let mut book = Book::new(&heap);
+        let mut ample = Book::new(alloc);
+        for (second, name) in [
+            (0, b"RX1"),
+            (61, b"RX1"),
+            (31, b"RX2"),
+            (30, b"RX1"),
+            (40, b"RX1"),
+        ] {
+            let x = heard(second, name, &DIRECT)?;
+            let before = shown(alloc, &book)?;
+            if book.take(&x).is_err() {
+                let after = shown(alloc, &book)?;
+                assert_eq!(rt; before.as_str(), after.as_str());
+                refused = refused.saturating_add(1);
+                fill = Vec::new(&heap);
+                book.take(&x).ok().ok_or("memory")?;
+            }
+            ample.take(&x).ok().ok_or("memory")?;
+            let have = shown(alloc, &book)?;
+            let want = shown(alloc, &ample)?;
+            assert_eq!(rt; have.as_str(), want.as_str());
+        }
+    }
+    assert!(rt; refused > 4);
+    Ok(())
+}
+
+// A heap that is full but for some units refuses the rows' growth, or that of the new row's
+// receivers: then the rows are as before, and with room again the row is added.
+#[test]
+fn refused_rows_change_nothing(rt: HostRuntime) -> Result<(), Fail> {
+    let alloc = rt.alloc();
+    let mut refused = [0u64; 3];
+    for units in 0..200usize {
+        let heap = LocalHeap::new(alloc, 8192)?;
+        let rows = [
+            parts(&heap, NOON, NOON, &[b"RX1", b"RX2"], b"RX2")?,
+            parts(&heap, NOON + 60, NOON + 70, &[b"RX1", b"RX2"], b"RX1")?,
+            parts(&heap, NOON + 200, NOON + 200, &[b"RX1"], b"RX1")?,
+        ];
+        let mut fill: Vec<u8, &LocalHeap> = Vec::new(&heap);
+        fill.reserve(7424 - units * 16)?;
+        let mut book = Book::new(&heap);
+        for (i, row) in rows.iter().enumerate() {
+            let before = shown(alloc, &book)?;
+            let added = book.push_row(row);
+            if added != Ok(()) {
+                assert!(rt; added == Err(RowCause::Memory));
+                let after = shown(alloc, &book)?;
+                assert_eq!(rt; before.as_str(), after.as_str());
+                refused[i] = refused[i].saturating_add(1);
+                fill = Vec::new(&heap);
+                assert!(rt; book.push_row(row) == Ok(()));
+            }
+        }
+        let text = shown(alloc, &book)?;
+        let want = "0-0 RX1 RX2 / RX2 6f; 60-70 RX1 RX2 / RX1 6f; 200-200 RX1 / RX1 6f; ";
+        assert_eq!(rt; text.as_str(), want);
+    }
+    // the first row needs both growths, the later ones that of their receivers alone
+    assert!(rt; refused[0] > 0 && refused[1] > 0);
+    Ok(())
+}
+
+#[test]
+fn memory_is_refused_at_a_line(rt: HostRuntime) -> Result<(), Fail> {
+    let alloc = rt.alloc();
+    let mut refused = 0u64;
+    let mut granted = 0u64;
+    for units in 0..128usize {
+        let heap = LocalHeap::new(alloc, 8192)?;
+        let mut fill: Vec<u8, &LocalHeap> = Vec::new(&heap);
+        fill.reserve(7936 - units * 32)?;
+        match read_book(&heap, MAX_INPUT, b"", &mut Counted::new(MERGED_TEXT)) {
+            Ok(book) => {
+                let mut out = Counted::new(Vec::new(alloc));
+                assert!(rt; write_book(&mut out, &book) == Ok(()));
+                assert_eq!(rt; out.into_inner().as_slice(), MERGED_TEXT);
+                granted = granted.saturating_add(1);
+            }
+            Err(BookFault { line, cause }) => {
+                assert!(rt; cause == BookCause::Memory);
+                assert!(rt; line >= 1 && line <= 4);
+                refused = refused.saturating_add(1);
+            }
+        }
+    }
+    assert!(rt; refused > 0 && granted > 0);
+    Ok(())
+}

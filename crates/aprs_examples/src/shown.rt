@@ -1,0 +1,35 @@
+//! A book as a line of text.
+
+use aprs_book::Book;
+use aprs_log::Receiver;
+use std::alloc::{Allocator, Global};
+use std::fmt::Write;
+use std::test::Fail;
+
+/// Puts a name and a space.
+pub fn name_text(text: &mut String, name: &Receiver) -> Result<(), Fail> {
+    for byte in name.as_bytes() {
+        text.push(char::from(*byte))?;
+    }
+    text.push(' ')?;
+    Ok(())
+}
+
+/// Each row's first and last second in its hour, its receivers, the greatest reception's receiver
+/// and the last octet of its frame's source.
+pub fn shown<A: Allocator + Copy>(alloc: Global, book: &Book<A>) -> Result<String, Fail> {
+    let mut text = String::new(alloc);
+    for row in book.rows() {
+        let first = row.first.seconds() % 3600;
+        let last = row.last.seconds() % 3600;
+        write!(text, "{first}-{last} ")?;
+        for name in row.receivers {
+            name_text(&mut text, name)?;
+        }
+        text.push_str("/ ")?;
+        name_text(&mut text, row.receiver)?;
+        let octet = row.frame.bytes().get(13).copied().unwrap_or(0);
+        write!(text, "{octet:02x}; ")?;
+    }
+    Ok(text)
+}

@@ -1,0 +1,73 @@
+//! Frames, lines of logs and texts of books that the examples share.
+
+use aprs_ax25::Frame;
+use aprs_log::{Moment, Receiver, Reception};
+use std::test::Fail;
+
+/// An hour's first second.
+pub const NOON: u64 = 1_714_564_800;
+
+/// N0CALL-7>APRS:>Hi
+pub const DIRECT: [u8; 19] = [
+    0x82, 0xa0, 0xa4, 0xa6, 0x40, 0x40, 0xe0, 0x9c, 0x60, 0x86, 0x82, 0x98, 0x98, 0x6f, 0x03, 0xf0,
+    0x3e, 0x48, 0x69,
+];
+
+/// N0CALL-7>APRS,WIDE1-1*:>Hi
+pub const REPEATED: [u8; 26] = [
+    0x82, 0xa0, 0xa4, 0xa6, 0x40, 0x40, 0xe0, 0x9c, 0x60, 0x86, 0x82, 0x98, 0x98, 0x6e, 0xae, 0x92,
+    0x88, 0x8a, 0x62, 0x40, 0xe3, 0x03, 0xf0, 0x3e, 0x48, 0x69,
+];
+
+/// The same with the C bits the other way round.
+pub const ANSWERED: [u8; 26] = [
+    0x82, 0xa0, 0xa4, 0xa6, 0x40, 0x40, 0x60, 0x9c, 0x60, 0x86, 0x82, 0x98, 0x98, 0xee, 0xae, 0x92,
+    0x88, 0x8a, 0x62, 0x40, 0xe3, 0x03, 0xf0, 0x3e, 0x48, 0x69,
+];
+
+/// N0CALL-7>APRS:>Hi, as one receiver heard it.
+pub const DIRECT_LINE: &[u8] =
+    b"2024-05-01T12:00:00Z RX1 c00082a0a4a64040e09c60868298986f03f03e4869c0";
+
+/// The same on the first day, and as another receiver heard it in the last second.
+pub const FIRST_LINE: &[u8] =
+    b"1970-01-01T00:00:00Z RX1 c00082a0a4a64040e09c60868298986f03f03e4869c0";
+
+pub const LAST_LINE: &[u8] =
+    b"2099-12-31T23:59:59Z RX2 c00082a0a4a64040e09c60868298986f03f03e4869c0";
+
+/// N0CALL-7>APRS,WIDE1-1*:>Hi, half a minute after the first.
+pub const REPEATED_LINE: &[u8] =
+    b"1970-01-01T00:00:30Z RX2 c00082a0a4a64040e09c60868298986eae92888a6240e303f03e4869c0";
+
+/// A log of two such lines, each of 70 bytes with its LF.
+pub const LOG: &[u8] = b"2024-05-01T12:00:00Z RX1 c00082a0a4a64040e09c60868298986f03f03e4869c0
+2024-05-01T12:00:00Z RX1 c00082a0a4a64040e09c60868298986f03f03e4869c0
+";
+
+pub const EMPTY_TEXT: &[u8] = b"APRSBOOK 1\nEND 0\n";
+
+pub const DIRECT_TEXT: &[u8] = b"APRSBOOK 1
+T 2024-05-01T12:00:00Z 2024-05-01T12:00:00Z RX1 RX1 82a0a4a64040e09c60868298986f03f03e4869
+END 1
+";
+
+pub const MERGED_TEXT: &[u8] = b"APRSBOOK 1
+T 1970-01-01T00:00:00Z 1970-01-01T00:00:30Z RX1,RX2 RX2 82a0a4a64040e09c60868298986eae92888a6240e303f03e4869
+T 2099-12-31T23:59:59Z 2099-12-31T23:59:59Z RX2 RX2 82a0a4a64040e09c60868298986f03f03e4869
+END 2
+";
+
+/// A name.
+pub fn receiver(name: &[u8]) -> Result<Receiver, Fail> {
+    Ok(Receiver::parse(name).ok_or("receiver")?)
+}
+
+/// What a receiver heard at a second of the hour.
+pub fn heard(second: u64, name: &[u8], frame: &[u8]) -> Result<Reception, Fail> {
+    Ok(Reception::new(
+        Moment::new(NOON.saturating_add(second)).ok_or("moment")?,
+        receiver(name)?,
+        Frame::read(frame).ok().ok_or("frame")?,
+    ))
+}
