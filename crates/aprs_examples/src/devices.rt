@@ -16,14 +16,15 @@ impl Read for Failing<'_> {
     ghost remaining = { λ r. Some r.bytes.now };
 
     fn read(&mut self, buf: &mut [u8]) -> io::Result<usize> {
-        if self.good == 0 {
-            return Err(io::Error::from(ErrorKind::Other));
-        }
         let n = buf
             .len()
             .min(self.bytes.len())
             .min(self.most)
             .min(self.good);
+        let stuck = n == 0 && !buf.is_empty() && !self.bytes.is_empty();
+        if stuck || self.good == 0 {
+            return Err(io::Error::from(ErrorKind::Other));
+        }
         let (front, rest) = self.bytes.split_at(n);
         buf[..n].copy_from_slice(front);
         self.bytes = rest;
