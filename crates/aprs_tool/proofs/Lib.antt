@@ -1,5 +1,7 @@
 pub mod Texts
+pub mod Logs
 pub mod Seen
+pub mod ShortLogs
 pub mod Checked
 pub mod Captures
 pub mod Forms
