@@ -1,4 +1,5 @@
 pub mod Texts
+pub mod Inputs
 pub mod Logs
 pub mod Seen
 pub mod ShortLogs
