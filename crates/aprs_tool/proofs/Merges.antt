@@ -88,7 +88,14 @@ pub record HasRead (limit : ℕ) (inputs : List (List ℕ)) (index : ℕ) (rows 
 
 pub HasRead-none : (limit : ℕ) (inputs : List (List ℕ)) (rows : List Row) → BookOf gap_seconds [] rows → HasRead limit inputs 0 rows
 HasRead-none limit inputs rows book = record {
-  done = []; rest = inputs; cut = refl; place = refl; gots = []; gets = tt; faultless = tt; book = ([], refl, book);
+  done = [];
+  rest = inputs;
+  cut = refl;
+  place = refl;
+  gots = [];
+  gets = tt;
+  faultless = tt;
+  book = ([], refl, book);
 }
 
 -- the input at the place

@@ -22,10 +22,7 @@ pub struct ShortInput {
 }
 
 /// Reads the first eight bytes of an input, or all where fewer are got.
-pub fn read_head<R: Read>(
-    limit: u64,
-    r: &mut Counted<R>,
-) -> Result<ArrayVec<u8, HEAD>, ShortInput>
+pub fn read_head<R: Read>(limit: u64, r: &mut Counted<R>) -> Result<ArrayVec<u8, HEAD>, ShortInput>
     ensures whole { IfOk result (λ head. (length head.items ≡ 8) × (8 ≤ limit)) }
     ensures bytes { IfOk result (λ head. Consumes (R.remaining (device_of r.old))
         (R.remaining (device_of r.new)) head.items) }

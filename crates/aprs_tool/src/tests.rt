@@ -1,3 +1,4 @@
-//! Worked examples: runs, their faults, and the program's words.
+//! Worked examples: runs, merges, their faults, and the program's words.
+mod merge;
 mod runs;
 mod words;
