@@ -1,14 +1,13 @@
 -- Lemmas on several inputs that are read one after another.
-use Rattle.std.proofs.Common.{◌≡◌, ◌≤◌, ◌<◌, ℕ, ◌+◌, zero, suc, List, [], ◌∷◌, ◌++◌, length, map, Option, None, Some, Result, Ok, Err, IfSome, slice_get, get_or, set, option_map, refl, ap, sym, ◌∙◌, append_assoc, append-nil, length-append, subst, arith}
+use Rattle.std.proofs.Common.{◌≡◌, ◌≤◌, ◌<◌, ℕ, ◌+◌, zero, suc, List, [], ◌∷◌, ◌++◌, length, map, Option, Some, Ok, Err, slice_get, get_or, set, option_map, refl, ap, sym, ◌∙◌, append_assoc, append-nil, length-append, subst, arith}
 use Rattle.std.proofs.lemmas.List.{length-map}
 use Rattle.std.proofs.lemmas.Option.{slice_get-get_or, slice_get-map, slice_get_within}
 use Rattle.aprs_laws.specs.Book.{BookOf}
 use Rattle.aprs_laws.specs.Gap.{gap_seconds}
 use Rattle.aprs_laws.specs.Row.{Row}
-use Rattle.aprs_log.specs.LogAnswers.{Gets}
 use Rattle.aprs_log.specs.Reception.{Heard}
 use Rattle.aprs_log.specs.declared.ending.Ending.TheVariants as ending
-use Rattle.aprs_tool.specs.Inputs.{AddsAll, AreMembers, HoldsOfGot, IsFaultless, IsRefused, OfGot, TakesInput}
+use Rattle.aprs_tool.specs.Inputs.{AreMembers, HoldsOfGot, IsFaultless, IsRefused, OfGot, TakesInput}
 use Rattle.aprs_tool.specs.Merge.{AreFaultless, AreMembersOfAll, GetsEach, Got, HoldsOfEach, IsBookOfAll, IsFirstRefused, ReadsEach}
 use Rattle.aprs_tool.specs.declared.fault.InputFault.{InputFault}
 

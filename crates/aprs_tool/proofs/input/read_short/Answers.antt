@@ -1,6 +1,6 @@
 use Rattle.std.proofs.Common.{◌∙◌, ap, sym}
 use Rattle.aprs_log.specs.LogAnswers.{log_answers}
-use Rattle.aprs_tool.proofs.Inputs.{short_empty, short_fault}
+use Rattle.aprs_tool.proofs.Inputs.{short_empty}
 use Rattle.aprs_tool.proofs.input.read_short.Goals as goal
 
 pub returns-in-None-clause-reads : goal.returns-in-None-clause-reads

@@ -1,4 +1,4 @@
-use Rattle.std.proofs.Common.{List, [], ◌∷◌, OnOk, subst, sym}
+use Rattle.std.proofs.Common.{[], ◌∷◌, OnOk, subst, sym}
 use Rattle.aprs_log.specs.LogAnswers.{receptions_of}
 use Rattle.aprs_log.specs.declared.line.Line.{Line}
 use Rattle.aprs_tool.specs.Inputs.{AddsAll}
