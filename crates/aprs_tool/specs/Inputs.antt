@@ -86,7 +86,8 @@ AddsAll T old new =
     (S : List Heard) → BookOf gap_seconds S old → BookOf gap_seconds (S ++ T) new
 
 -- the receptions of a faultless input are taken, and any other is refused
-abbrev pub TakesInput : Result (Unit {0}) InputFault → List Row → List Row → List ℕ → Ending → Type 0
+abbrev pub TakesInput : Result (Unit {0}) InputFault → List Row → List Row → List ℕ → Ending
+    → Type 0
 TakesInput (Ok u) old new t c =
     IsFaultless t c × ((T : List Heard) × AreMembers t c T × AddsAll T old new)
 TakesInput (Err e) old new t c = IsRefused e t c

@@ -82,7 +82,8 @@ pub record HoldsOfEach (limit : ℕ) (inputs : List (List ℕ)) (P : List Got �
 -- where the bytes of all inputs are known
 abbrev pub OfEach : ℕ → List (Option (List ℕ)) → (List Got → Type 0) → Type 0
 OfEach limit knowns P =
-    (inputs : List (List ℕ)) → knowns ≡ map (λ input. Some input) inputs → HoldsOfEach limit inputs P
+    (inputs : List (List ℕ)) → knowns ≡ map (λ input. Some input) inputs
+    → HoldsOfEach limit inputs P
 
 -- ---- failed reads
 

@@ -17,8 +17,8 @@ use std::io::Read;
 /// The text of a book begins so.
 const BOOK_MARK: &[u8] = b"APRSBOOK";
 
-/// Reads the book of an input: its own, where its first eight bytes are `APRSBOOK`, and else that of
-/// the receptions of a log, whose other lines are passed over. At most `limit` bytes are read, to
+/// Reads the book of an input: its own, where its first eight bytes are `APRSBOOK`, and else that
+/// of the receptions of a log, whose other lines are passed over. At most `limit` bytes are read, to
 /// the end. Requires that `limit` is at most `MAX_INPUT`. A faulty input gives its first fault, and
 /// `Memory`, or a book's cause of that name, comes before it where memory was refused. An input of
 /// which fewer than eight bytes are got is a log. Holds the book and one line.

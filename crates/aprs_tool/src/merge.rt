@@ -15,8 +15,8 @@ use std::io::{Read, Write};
 
 /// Writes the text of the book of all inputs' receptions, each input read as by `read_input`.
 /// Requires that `limit` is at most `MAX_INPUT`. All inputs are read, in order, before the first
-/// byte is written: where one is refused, its number and fault are told, no further one is read, and
-/// nothing is written. At `Write` a front of the text was written.
+/// byte is written: where one is refused, its number and fault are told, no further one is read,
+/// and nothing is written. At `Write` a front of the text was written.
 pub fn merge_run<R: Read, W: Write>(
     alloc: Global,
     limit: u64,
