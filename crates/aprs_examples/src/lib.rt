@@ -16,6 +16,8 @@ mod lines;
 #[cfg(test)]
 mod logs;
 #[cfg(test)]
+mod merges;
+#[cfg(test)]
 mod pushed_rows;
 #[cfg(test)]
 mod refused_memory;

@@ -2,15 +2,13 @@
 ghost use Rattle.std.specs.Prelude.{◌≤◌};
 
 use crate::devices::{Failing, Full};
+use crate::vectors::ONE_LINE;
 use aprs_kiss::Counted;
 use aprs_log::{LogCause, LogFault, MAX_INPUT, Moment, Receiver};
 use aprs_tool::{Form, InputFault, RunFault, check_run, convert_run, status_of};
 use std::test::Fail;
 
-/// N0CALL-7 to APRS, with the information `>Hi`, as one receiver heard it.
-const ONE_LINE: &[u8] = b"2024-05-01T12:00:00Z RX1 c00082a0a4a64040e09c60868298986f03f03e4869c0\n";
-
-/// The same as a KISS frame.
+/// The frame of that log as a KISS frame.
 const FRAME: &[u8] =
     b"\xc0\x00\x82\xa0\xa4\xa6\x40\x40\xe0\x9c\x60\x86\x82\x98\x98\x6f\x03\xf0>Hi\xc0";
 

@@ -40,6 +40,10 @@ pub const LAST_LINE: &[u8] =
 pub const REPEATED_LINE: &[u8] =
     b"1970-01-01T00:00:30Z RX2 c00082a0a4a64040e09c60868298986eae92888a6240e303f03e4869c0";
 
+/// A log of that line alone.
+pub const ONE_LINE: &[u8] =
+    b"2024-05-01T12:00:00Z RX1 c00082a0a4a64040e09c60868298986f03f03e4869c0\n";
+
 /// A log of two such lines, each of 70 bytes with its LF.
 pub const LOG: &[u8] = b"2024-05-01T12:00:00Z RX1 c00082a0a4a64040e09c60868298986f03f03e4869c0
 2024-05-01T12:00:00Z RX1 c00082a0a4a64040e09c60868298986f03f03e4869c0

@@ -52,6 +52,22 @@ fn words_that_ask_for_a_capture(rt: HostRuntime) -> Result<(), Fail> {
 }
 
 #[test]
+fn words_that_ask_for_a_merge(rt: HostRuntime) -> Result<(), Fail> {
+    let Ok(Job::Merge(inputs)) = job(rt.alloc(), &["aprsbook", "merge"]) else {
+        return Err("a merge".into());
+    };
+    assert!(rt; inputs.is_empty());
+    let words = ["aprsbook", "merge", "rx1.log", "rx2.book"];
+    let Ok(Job::Merge(inputs)) = job(rt.alloc(), &words) else {
+        return Err("a merge".into());
+    };
+    assert_eq!(rt; inputs.len(), 2);
+    assert!(rt; inputs[0].as_str() == "rx1.log");
+    assert!(rt; inputs[1].as_str() == "rx2.book");
+    Ok(())
+}
+
+#[test]
 fn words_that_ask_for_nothing(rt: HostRuntime) {
     for words in [
         ["aprsbook", "convert", "capture"].as_slice(),

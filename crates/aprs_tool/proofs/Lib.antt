@@ -1,5 +1,10 @@
 pub mod Texts
+pub mod Desks
+pub mod Inputs
+pub mod Logs
+pub mod Merges
 pub mod Seen
+pub mod ShortLogs
 pub mod Checked
 pub mod Captures
 pub mod Forms

@@ -4,3 +4,6 @@ pub mod Monitor
 pub mod Status
 pub mod Words
 pub mod Run
+pub mod Inputs
+pub mod Desk
+pub mod Merge

@@ -21,8 +21,10 @@ use Rattle.aprs_log.specs.declared.fault.LogFault.{LogFault}
 use Rattle.aprs_log.specs.declared.fault.Reason.{Reason}
 use Rattle.aprs_log.specs.declared.line.Line.{Line}
 use Rattle.aprs_log.specs.declared.line.Line.TheVariants as line
+use Rattle.aprs_booktext.specs.declared.fault.BookCause.TheVariants as book
 use Rattle.aprs_tool.specs.Monitor.{monitor_text, kind_text}
-use Rattle.aprs_tool.specs.declared.fault.InputFault.TheVariants.{Log}
+use Rattle.aprs_tool.specs.declared.fault.InputFault.{InputFault}
+use Rattle.aprs_tool.specs.declared.fault.InputFault.TheVariants.{Log, Book, Memory}
 use Rattle.aprs_tool.specs.declared.fault.RunFault.{RunFault}
 use Rattle.aprs_tool.specs.declared.fault.RunFault.TheVariants.{Input, Write}
 use Rattle.aprs_tool.specs.declared.form.Form.{Form}
@@ -139,6 +141,8 @@ abbrev pub FailsSo : RunFault → Option (List ℕ) → Option (List ℕ) → Li
     → Type 0
 FailsSo (Input index (Log f)) old new text fault =
     (index ≡ 0) × (fault ≡ Some f) × Appends old new text
+FailsSo (Input index (Book f)) old new text fault = ⊥
+FailsSo (Input index Memory) old new text fault = ⊥
 FailsSo Write old new text fault = AppendsFront old new text
 
 -- the run of a text and a fault writes and answers so
@@ -154,9 +158,15 @@ RunsOver text fault limit known r old new = IfSome known
     (λ input. (t : List ℕ) × (c : Ending) × Gets limit input t c
     × RunsSo r old new (text t c) (fault t c))
 
--- the answer is a failed read of the input
+-- a read of the input failed
+abbrev pub IsReadFault : InputFault → Type 0
+IsReadFault (Log f) = f.cause ≡ cause.Read
+IsReadFault (Book f) = f.cause ≡ book.Read
+IsReadFault Memory = ⊥
+
+-- the answer is a failed read of an input
 abbrev pub IsRead : RunFault → Type 0
-IsRead (Input index (Log f)) = f.cause ≡ cause.Read
+IsRead (Input index fault) = IsReadFault fault
 IsRead Write = ⊥
 
 -- what a run over a stream answers that ends so

@@ -3,6 +3,7 @@ use Rattle.std.specs.Prelude.{◌≡◌, ℕ, List, [], ◌∷◌, map, true, Op
 use Rattle.std.specs.Prelude.{MatchResult, codes, if◌then◌else◌, option_map, option_and_then}
 use Rattle.std.specs.Str.{bytes_eq}
 use Rattle.std.specs.Borrow.{Bor}
+use Rattle.clap.specs.Lexer.{usize_max}
 use Rattle.clap.specs.Words.{App, Row, Rule, Text, first_of, new_app, new_rule, subcommand_of}
 use Rattle.clap.specs.Words.{IsAmong, fault_of, kind_of, takes, with_rule, with_subcommand}
 use Rattle.clap.specs.declared.builder.value_parser.ValueParser.{ValueParser}
@@ -37,6 +38,12 @@ option_rule name = record (new_rule name) { long = Some name }
 abbrev pub input_rule : Rule
 input_rule = new_rule (codes "input")
 
+-- any number of inputs
+abbrev pub inputs_rule : Rule
+inputs_rule = record input_rule {
+  range = Some (record { start_inclusive = 1; end_inclusive = usize_max });
+}
+
 abbrev pub convert_app : ValueParser → App
 convert_app p =
     with_rule (with_rule (with_rule (with_rule (new_app (codes "convert")) (form_rule p))
@@ -45,9 +52,12 @@ convert_app p =
 abbrev pub check_app : App
 check_app = with_rule (new_app (codes "check")) input_rule
 
+abbrev pub merge_app : App
+merge_app = with_rule (new_app (codes "merge")) inputs_rule
+
 abbrev pub program_app : ValueParser → App
-program_app p = with_subcommand (with_subcommand (new_app (codes "aprsbook")) (convert_app p).top)
-    check_app.top
+program_app p = with_subcommand (with_subcommand (with_subcommand (new_app (codes "aprsbook"))
+    (convert_app p).top) check_app.top) merge_app.top
 
 -- ---- what is read of the matches
 
@@ -80,7 +90,7 @@ form_of rows = option_and_then (λ name. named_form_of name (first_of (codes "re
 abbrev pub task_named : Text → List Row → Option Task
 task_named name rows =
     if bytes_eq name (codes "convert") then option_map (λ f. task.Convert f) (form_of rows)
-    else Some task.Check
+    else (if bytes_eq name (codes "merge") then Some task.Merge else Some task.Check)
 
 -- the task, or none where the options break the rule on capture; `convert text` without a command
 abbrev pub task_of : Option (Text × List Row) → Option Task
@@ -93,6 +103,7 @@ task_of (Some p) = task_named p.0 p.1
 abbrev pub asked_by : Job → Task
 asked_by (job.Check inputs) = task.Check
 asked_by (job.Convert f inputs) = task.Convert f
+asked_by (job.Merge inputs) = task.Merge
 
 -- words are refused only where the command doesn't take them, and options only where they break the
 -- rule

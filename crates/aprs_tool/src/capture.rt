@@ -103,7 +103,7 @@ fn read_chunk<R: Read>(
 }
 
 /// How a stream ends of which as many bytes were got as may be: whether a further byte exists.
-fn ending_at_limit<R: Read>(r: &mut Counted<R>) -> Ending
+pub fn ending_at_limit<R: Read>(r: &mut Counted<R>) -> Ending
     ensures end { EndsHere result 0 (R.remaining (device_of r.old)) }
     ensures count { failures_of r.old ≤ failures_of r.new }
     ensures fault { result ≡ ReadFailed → Rose (failures_of r.old) (failures_of r.new) }

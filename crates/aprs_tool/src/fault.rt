@@ -1,7 +1,8 @@
 //! Why a run ends before its end.
 ghost use Rattle.std.specs.Prelude.{◌≡◌};
-ghost use Rattle.aprs_tool.specs.Status.{status_of_fault};
+ghost use Rattle.aprs_tool.specs.Status.{status_of_fault, status_of_input};
 
+use aprs_booktext::{BookCause, BookFault};
 use aprs_log::{LogCause, LogFault};
 use thiserror::Error;
 
@@ -11,6 +12,12 @@ pub enum InputFault {
     /// A log, or a KISS stream at line 0.
     #[error("line {}: {}", .0.line, .0.cause.name())]
     Log(LogFault),
+    /// A book file.
+    #[error("line {}: {}", .0.line, .0.cause.name())]
+    Book(BookFault),
+    /// Memory was refused for what the input gives.
+    #[error("out of memory")]
+    Memory,
 }
 
 /// Why a run answers before its end.
@@ -30,11 +37,18 @@ pub fn status_of(fault: &RunFault) -> u8
     ensures { result ≡ status_of_fault fault.now }
 {
     match fault {
-        RunFault::Input {
-            fault: InputFault::Log(fault),
-            ..
-        } if fault.cause == LogCause::Memory => 4,
-        RunFault::Input { .. } => 1,
+        RunFault::Input { fault, .. } => status_of_input(fault),
         RunFault::Write => 3,
+    }
+}
+
+fn status_of_input(fault: &InputFault) -> u8
+    ensures { result ≡ status_of_input fault.now }
+{
+    match fault {
+        InputFault::Log(fault) if fault.cause == LogCause::Memory => 4,
+        InputFault::Book(fault) if fault.cause == BookCause::Memory => 4,
+        InputFault::Memory => 4,
+        InputFault::Log(_) | InputFault::Book(_) => 1,
     }
 }

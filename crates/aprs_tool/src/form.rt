@@ -23,6 +23,8 @@ pub enum Job {
     Check(Vec<String>),
     /// Convert a log or a stream.
     Convert(Form, Vec<String>),
+    /// Merge logs and book files into one book, and write that.
+    Merge(Vec<String>),
 }
 
 /// Why the program's words ask for nothing.

@@ -1,19 +1,26 @@
-//! Runs over logs and streams, and the words of the command line.
+//! Runs over logs, streams and book files, and the words of the command line.
 #![tactic(auto)]
 
 mod answer;
 mod capture;
 mod check;
 mod convert;
+mod desk;
 mod fault;
 mod form;
+mod head;
+mod input;
+mod merge;
 mod monitor;
 mod run;
 mod text;
 mod words;
 
 pub use check::check_run;
+pub use desk::Desk;
 pub use fault::{InputFault, RunFault, status_of};
 pub use form::{Form, Job, JobFault};
+pub use input::read_input;
+pub use merge::merge_run;
 pub use run::convert_run;
 pub use words::{command_is_simple, job};

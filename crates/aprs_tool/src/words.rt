@@ -6,7 +6,8 @@ ghost use Rattle.clap.specs.declared.error.kind.ErrorKind.TheVariants.{OutOfMemo
 ghost use Rattle.clap.specs.declared.builder.command.Command.TheViews.{out-Command};
 ghost use Rattle.clap.specs.declared.builder.value_parser.ValueParser.{ValueParser};
 ghost use Rattle.aprs_tool.specs.Words.{IsForms, AnswersWords, JudgesWords, asked_by, form_rule, option_rule};
-ghost use Rattle.aprs_tool.specs.Words.{check_app, convert_app, program_app, receiver_of};
+ghost use Rattle.aprs_tool.specs.Words.{check_app, convert_app, merge_app, program_app, receiver_of};
+ghost use Rattle.aprs_tool.specs.Words.{inputs_rule};
 ghost use Rattle.aprs_tool.specs.Words.{plain_form_of, capture_form_of, named_form_of, form_of};
 ghost use Rattle.aprs_tool.specs.Words.{task_named, task_of};
 ghost use Rattle.aprs_log.specs.Moment.{moment_of};
@@ -24,11 +25,12 @@ static FORMS: [&str; 5] = ["text", "kind", "kiss", "log", "capture"];
 enum Task {
     Check,
     Convert(Form),
+    Merge,
 }
 
-/// What the program's words ask for, its name being the first: a command of `check [INPUT]` and
-/// `convert FORM [INPUT]`, and `convert text` where no command is given. `convert capture` needs
-/// `--receiver NAME` and `--moment MOMENT`, and the other forms refuse both.
+/// What the program's words ask for, its name being the first: a command of `check [INPUT]`,
+/// `convert FORM [INPUT]` and `merge [INPUT]...`, and `convert text` where no command is given.
+/// `convert capture` needs `--receiver NAME` and `--moment MOMENT`, and the other forms refuse both.
 pub fn job(alloc: Global, words: &[&str]) -> Result<Job, JobFault>
     ensures asked { (p : ValueParser) × IsForms p
         × AnswersWords (program_app p) (map (λ w. w.now) words.now) result }
@@ -96,13 +98,31 @@ fn check_command<'a>(alloc: Global) -> Result<Command<'a>, AllocError>
     Command::new(alloc, "check").arg(input)
 }
 
+/// Any number of inputs, also none.
+fn inputs_arg<'a>(alloc: Global) -> Arg<'a>
+    ensures rule { rule_of result ≡ inputs_rule }
+    ensures local { result.global ≡ false }
+{
+    Arg::new(alloc, "input").num_args(1..)
+}
+
+fn merge_command<'a>(alloc: Global) -> Result<Command<'a>, AllocError>
+    ensures app { IfOk result (λ c. app_of c ≡ merge_app) }
+    ensures globals { IfOk result (λ c. (out-Command c).has_globals ≡ false) }
+{
+    let inputs = inputs_arg(alloc);
+    Command::new(alloc, "merge").arg(inputs)
+}
+
 fn program<'a>(alloc: Global) -> Result<Command<'a>, AllocError>
     ensures { IfOk result (λ c. (p : ValueParser) × IsForms p × (app_of c ≡ program_app p)) }
 {
     let convert = convert_command(alloc)?;
     let check = check_command(alloc)?;
+    let merge = merge_command(alloc)?;
     let with_convert = Command::new(alloc, "aprsbook").subcommand(convert)?;
-    with_convert.subcommand(check)
+    let with_check = with_convert.subcommand(check)?;
+    with_check.subcommand(merge)
 }
 
 fn clap_fault(error: clap::Error) -> JobFault
@@ -136,6 +156,8 @@ fn read_named(name: &str, matches: &ArgMatches<'_>) -> Option<Task>
 {
     if name == "convert" {
         Some(Task::Convert(read_form(matches)?))
+    } else if name == "merge" {
+        Some(Task::Merge)
     } else {
         Some(Task::Check)
     }
@@ -206,8 +228,10 @@ fn read_moment(text: &str) -> Option<Moment>
 fn read_inputs(alloc: Global, matches: &ArgMatches<'_>) -> Result<Vec<String>, AllocError> {
     let mut inputs = Vec::new(alloc);
     if let Some((_, inner)) = matches.subcommand() {
-        if let Some(input) = text_at(inner, "input") {
-            inputs.push(String::from_str(alloc, input)?)?;
+        if let Some(paths) = inner.get_strs("input") {
+            for path in paths {
+                inputs.push(String::from_str(alloc, path)?)?;
+            }
         }
     }
     Ok(inputs)
@@ -219,5 +243,6 @@ fn with_inputs(task: Task, inputs: Vec<String>) -> Job
     match task {
         Task::Check => Job::Check(inputs),
         Task::Convert(form) => Job::Convert(form, inputs),
+        Task::Merge => Job::Merge(inputs),
     }
 }

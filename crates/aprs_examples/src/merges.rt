@@ -1,0 +1,200 @@
+//! Merges, and the inputs of one.
+
+use crate::vectors::{DIRECT_TEXT, EMPTY_TEXT, MERGED_TEXT, ONE_LINE};
+use aprs_booktext::{BookCause, BookFault, write_book};
+use aprs_kiss::Counted;
+use aprs_log::{LogCause, LogFault, MAX_INPUT};
+use aprs_tool::{Desk, InputFault, RunFault, merge_run, read_input, status_of};
+use std::alloc::Global;
+use std::io::{self, Read};
+use std::test::Fail;
+
+/// A log of one line: a frame at the first moment, the same at the last, and half a minute after the
+/// first one that came over a digipeater.
+const FIRST: &[u8] = b"1970-01-01T00:00:00Z RX1 c00082a0a4a64040e09c60868298986f03f03e4869c0\n";
+
+const LAST: &[u8] = b"2099-12-31T23:59:59Z RX2 c00082a0a4a64040e09c60868298986f03f03e4869c0\n";
+
+const NEAR: &[u8] =
+    b"1970-01-01T00:00:30Z RX2 c00082a0a4a64040e09c60868298986eae92888a6240e303f03e4869c0\n";
+
+/// What a merge writes, if it goes well.
+fn merged(alloc: Global, texts: &[&[u8]]) -> Result<Vec<u8>, Fail> {
+    let mut inputs = Vec::new(alloc);
+    for text in texts {
+        inputs.push(Counted::new(*text))?;
+    }
+    let mut w = Counted::new(Vec::new(alloc));
+    match merge_run(alloc, MAX_INPUT, inputs.as_mut_slice(), &mut w) {
+        Ok(()) => Ok(w.into_inner()),
+        Err(_) => Err("a fault".into()),
+    }
+}
+
+#[test]
+fn books_are_written(rt: HostRuntime) -> Result<(), Fail> {
+    let alloc = rt.alloc();
+    assert_eq!(rt; merged(alloc, &[ONE_LINE])?.as_slice(), DIRECT_TEXT);
+    assert_eq!(rt; merged(alloc, &[b"".as_slice()])?.as_slice(), EMPTY_TEXT);
+    assert_eq!(rt;
+        merged(alloc, &[EMPTY_TEXT, EMPTY_TEXT])?.as_slice(),
+        EMPTY_TEXT
+    );
+    for texts in [
+        [FIRST, LAST, NEAR],
+        [FIRST, NEAR, LAST],
+        [LAST, FIRST, NEAR],
+        [LAST, NEAR, FIRST],
+        [NEAR, FIRST, LAST],
+        [NEAR, LAST, FIRST],
+    ] {
+        assert_eq!(rt; merged(alloc, &texts)?.as_slice(), MERGED_TEXT);
+    }
+    assert_eq!(rt;
+        merged(alloc, &[FIRST, LAST, FIRST, NEAR])?.as_slice(),
+        MERGED_TEXT
+    );
+    let both = merged(alloc, &[FIRST, LAST])?;
+    assert_eq!(rt;
+        merged(alloc, &[both.as_slice(), NEAR])?.as_slice(),
+        MERGED_TEXT
+    );
+    Ok(())
+}
+
+/// The line and the name of the cause of an input's fault.
+fn told(fault: &InputFault) -> Option<(u64, &'static str)> {
+    match fault {
+        InputFault::Log(fault) => Some((fault.line, fault.cause.name())),
+        InputFault::Book(fault) => Some((fault.line, fault.cause.name())),
+        InputFault::Memory => None,
+    }
+}
+
+#[test]
+fn a_faulty_input_writes_nothing(rt: HostRuntime) -> Result<(), Fail> {
+    let alloc = rt.alloc();
+    let mut faulty = Vec::new(alloc);
+    faulty.extend_from_slice(ONE_LINE)?;
+    faulty.extend_from_slice(ONE_LINE)?;
+    faulty.extend_from_slice(b"2024-05-01T12:00:00Z RX1 zz\n")?;
+    let mut inputs = [Counted::new(DIRECT_TEXT), Counted::new(faulty.as_slice())];
+    let mut w = Counted::new(Vec::new(alloc));
+    let run = merge_run(alloc, MAX_INPUT, inputs.as_mut_slice(), &mut w);
+    let Err(RunFault::Input { index, fault }) = run else {
+        return Err("a fault".into());
+    };
+    assert!(rt; index == 1);
+    assert!(rt; told(&fault) == Some((3, "Hex")));
+    assert_eq!(rt; status_of(&RunFault::Input { index, fault }), 1);
+    assert!(rt; w.into_inner().is_empty());
+    Ok(())
+}
+
+#[test]
+fn short_inputs_are_logs(rt: HostRuntime) -> Result<(), Fail> {
+    let alloc = rt.alloc();
+    let Ok(book) = read_input(alloc, MAX_INPUT, &mut Counted::new(&DIRECT_TEXT[..0])) else {
+        return Err("an empty log".into());
+    };
+    assert_eq!(rt; book.len(), 0);
+    for size in 1..8usize {
+        let read = read_input(alloc, MAX_INPUT, &mut Counted::new(&DIRECT_TEXT[..size]));
+        assert!(rt; matches!(&read, Err(fault) if told(fault) == Some((1, "NoNewline"))));
+        let read = read_input(alloc, size as u64, &mut Counted::new(DIRECT_TEXT));
+        assert!(rt; matches!(&read, Err(fault) if told(fault) == Some((1, "TooLong"))));
+    }
+    let read = read_input(alloc, MAX_INPUT, &mut Counted::new(b"APRS\nBO".as_slice()));
+    assert!(rt; matches!(&read, Err(fault) if told(fault) == Some((1, "Moment"))));
+    let read = read_input(alloc, MAX_INPUT, &mut Counted::new(&DIRECT_TEXT[..8]));
+    assert!(rt; matches!(&read, Err(InputFault::Book(fault)) if fault.cause == BookCause::Ending));
+    Ok(())
+}
+
+/// A reader that gives one byte a call, and then fails, once.
+#[derive(Drop)]
+struct FailingOnce<'a> {
+    bytes: &'a [u8],
+    failed: bool,
+}
+
+impl Read for FailingOnce<'_> {
+    fn read(&mut self, buf: &mut [u8]) -> io::Result<usize> {
+        let n = buf.len().min(self.bytes.len()).min(1);
+        if n == 0 && !buf.is_empty() && !self.failed {
+            self.failed = true;
+            return Err(io::Error::from(io::ErrorKind::Other));
+        }
+        let (front, rest) = self.bytes.split_at(n);
+        buf[..n].copy_from_slice(front);
+        self.bytes = rest;
+        Ok(n)
+    }
+}
+
+#[test]
+fn a_reader_fails_at_each_byte(rt: HostRuntime) {
+    for (text, is_book) in [(DIRECT_TEXT, true), (ONE_LINE, false)] {
+        for good in 0..=text.len() {
+            let mut r = Counted::new(FailingOnce {
+                bytes: &text[..good],
+                failed: false,
+            });
+            let read = read_input(rt.alloc(), MAX_INPUT, &mut r);
+            if is_book && good >= 8 {
+                assert!(rt;
+                    matches!(&read, Err(InputFault::Book(fault)) if fault.cause == BookCause::Read)
+                );
+            } else {
+                assert!(rt;
+                    matches!(&read, Err(InputFault::Log(fault)) if fault.cause == LogCause::Read)
+                );
+            }
+            assert_eq!(rt; r.failures(), 1);
+        }
+    }
+}
+
+#[test]
+fn a_desk_keeps_its_book_after_a_fault(rt: HostRuntime) -> Result<(), Fail> {
+    let alloc = rt.alloc();
+    let mut desk = Desk::new(alloc, MAX_INPUT);
+    for text in [
+        DIRECT_TEXT,
+        b"APRSBOOK 9\n".as_slice(),
+        ONE_LINE,
+        b"x\n".as_slice(),
+    ] {
+        let _ = desk.take_input(&mut Counted::new(text));
+        assert_eq!(rt; desk.book().len(), 1);
+    }
+    let mut out = Counted::new(Vec::new(alloc));
+    assert!(rt; write_book(&mut out, &desk.into_book()).is_ok());
+    assert_eq!(rt; out.into_inner().as_slice(), DIRECT_TEXT);
+    Ok(())
+}
+
+#[test]
+fn statuses_of_inputs(rt: HostRuntime) {
+    let cause = LogCause::Memory;
+    for (fault, status) in [
+        (InputFault::Memory, 4),
+        (InputFault::Log(LogFault { line: 1, cause }), 4),
+        (
+            InputFault::Book(BookFault {
+                line: 1,
+                cause: BookCause::Memory,
+            }),
+            4,
+        ),
+        (
+            InputFault::Book(BookFault {
+                line: 1,
+                cause: BookCause::Read,
+            }),
+            1,
+        ),
+    ] {
+        assert_eq!(rt; status_of(&RunFault::Input { index: 0, fault }), status);
+    }
+}

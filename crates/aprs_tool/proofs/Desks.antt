@@ -1,0 +1,16 @@
+-- Lemmas on the book that inputs are merged into.
+use Rattle.std.proofs.Common.{ℕ, List, Option, None, Some, Ok}
+use Rattle.aprs_laws.specs.Row.{Row}
+use Rattle.aprs_book.specs.Taking.{MergesInto}
+use Rattle.aprs_tool.specs.Inputs.{OfGot, ReadsInput, TakesInput}
+
+-- the book of an input is merged into another
+pub takes : (known : Option (List ℕ)) (limit : ℕ) (rows old new : List Row) → OfGot limit known (ReadsInput (Ok rows)) → MergesInto old rows new
+    → OfGot limit known (TakesInput (Ok tt) old new)
+takes None limit rows old new h merges = tt
+takes (Some input) limit rows old new h merges = record {
+  text = h.text;
+  ending = h.ending;
+  gets = h.gets;
+  holds = (h.holds.0, (h.holds.1.0, h.holds.1.1, λ S book. merges S h.holds.1.0 book h.holds.1.2));
+}

@@ -1,0 +1,271 @@
+-- Lemmas on inputs, of which the first bytes are known.
+use Rattle.std.proofs.Common.{◌≡◌, ℕ, ◌+◌, ◌<◌, ◌≤◌, Bool, true, false, not, List, [], ◌∷◌, ◌++◌, length, take, drop, map, codes, Option, None, Some, Result, Ok, Err, IfSome, inl, inr, refl, ap, sym, ◌∙◌, append_assoc, append-nil, length-append, subst, arith}
+use Rattle.std.proofs.Math.Seq.{take-append_seam}
+use Rattle.std.proofs.lemmas.Bool.{cases_lt}
+use Rattle.std.proofs.lemmas.Bool.Decides.{Decides-eqb}
+use Rattle.std.proofs.lemmas.List.{length-map, take-append-drop, take-append-le}
+use Rattle.std.proofs.lemmas.Slice.Eq.{bytes_eq-Decides, starts_is}
+use Rattle.std.specs.Str.{bytes_eq}
+use Rattle.aprs_laws.specs.Book.{BookOf}
+use Rattle.aprs_laws.specs.Gap.{gap_seconds}
+use Rattle.aprs_laws.specs.Real.{real}
+use Rattle.aprs_laws.specs.Row.{Row}
+use Rattle.aprs_laws.proofs.Soundness.{realised}
+use Rattle.aprs_log.specs.LogAnswers.{Gets, ended, fault_at, log_answers, receptions_of}
+use Rattle.aprs_log.specs.declared.ending.Ending.{Ending}
+use Rattle.aprs_log.specs.declared.ending.Ending.TheVariants as ending
+use Rattle.aprs_log.specs.declared.fault.LogCause.{LogCause}
+use Rattle.aprs_booktext.specs.FirstFault.{FaultAtStart, FaultBehind, FirstFault, Reads}
+use Rattle.aprs_booktext.specs.Lines.{Lacks}
+use Rattle.aprs_booktext.specs.Text.{book_text, ended_by_lf, header, IsBookRows, lines_of, row_line, text_of_lines}
+use Rattle.aprs_booktext.specs.declared.fault.BookCause.TheVariants as cause
+use Rattle.aprs_booktext.specs.declared.fault.BookFault.{BookFault}
+use Rattle.aprs_booktext.proofs.OneText.{cut_short}
+use Rattle.aprs_tool.specs.Inputs.{AreMembersIn, HoldsOfGot, is_book_file, IsFaultIn, ReadsInput, ReadsLog}
+use Rattle.aprs_tool.specs.declared.fault.InputFault.{InputFault}
+use Rattle.aprs_tool.specs.declared.fault.InputFault.TheVariants.{Log, Book, Memory}
+
+abbrev mark : List ℕ
+mark = codes "APRSBOOK"
+
+-- ---- which of both it is
+
+-- the test of the code, which asks whether the bytes are others
+pub is_other : (head : List ℕ) (b : Bool) → b ≡ not (bytes_eq head mark) → b ≡ true → head ≡ mark → ⊥
+is_other head b e other same =
+    let f : false ≡ true = sym (ap not ((bytes_eq-Decides head mark).1 same)) ∙ sym e ∙ other in
+    absurd cc
+
+pub is_mark : (head : List ℕ) (b : Bool) → b ≡ not (bytes_eq head mark) → b ≡ false → head ≡ mark
+is_mark head b e same = (bytes_eq-Decides head mark).0 (by (bytes_eq head mark) (sym e ∙ same))
+  where
+    by : (b : Bool) → not b ≡ false → b ≡ true
+    by true e = refl
+    by false e = absurd cc
+
+begins : (t : List ℕ) → is_book_file t ≡ true → t ≡ mark ++ drop 8 t
+begins t e = (starts_is Decides-eqb t mark (is_book_file t) refl).0 e
+
+is_book : (t rest : List ℕ) → t ≡ mark ++ rest → is_book_file t ≡ true
+is_book t rest e = (starts_is Decides-eqb t mark (is_book_file t) refl).1 rest e
+
+same_front : (a b x y : List ℕ) → length a ≡ length b → a ++ x ≡ b ++ y → a ≡ b
+same_front a b x y size e =
+    sym (take-append_seam a x) ∙ ap (λ l. take (length a) l) e ∙ ap (λ n. take n (b ++ y)) size ∙ take-append_seam b y
+
+-- no text of an input that begins otherwise
+is_log : (head more t rest : List ℕ) → length head ≡ 8 → (head ≡ mark → ⊥) → head ++ more ≡ t ++ rest → is_book_file t ≡ false
+is_log head more t rest size other e = by (is_book_file t) refl
+  where
+    by : (b : Bool) → is_book_file t ≡ b → is_book_file t ≡ false
+    by false is = is
+    by true is = absurd (other (same_front head mark more (drop 8 t ++ rest) size (e ∙ ap (λ l. l ++ rest) (begins t is) ∙ append_assoc mark (drop 8 t) rest)))
+
+-- nor a shorter one
+short_is_log : (t : List ℕ) → length t < 8 → is_book_file t ≡ false
+short_is_log t short = by (is_book_file t) refl
+  where
+    by : (b : Bool) → is_book_file t ≡ b → is_book_file t ≡ false
+    by false is = is
+    by true is = absurd (omega (arith, short, ap length (begins t is), length-append mark (drop 8 t)))
+
+-- ---- a log
+
+faultless_log : (b : Bool) (t : List ℕ) (c : Ending) → b ≡ false → (log_answers t c).fault ≡ None → (e : InputFault) → IsFaultIn b e t c → ⊥
+faultless_log true t c is none e h = absurd cc
+faultless_log false t c is none (Log f) h = absurd cc
+faultless_log false t c is none (Book f) h = h
+faultless_log false t c is none Memory h = h
+
+members_log : (b : Bool) (t : List ℕ) (c : Ending) → b ≡ false → AreMembersIn b t c (receptions_of (log_answers t c).given)
+members_log true t c is = absurd cc
+members_log false t c is = refl
+
+fault_log : (b : Bool) (e : InputFault) (t : List ℕ) (c : Ending) → b ≡ false → IsFaultIn false e t c → IsFaultIn b e t c
+fault_log true e t c is h = absurd cc
+fault_log false e t c is h = h
+
+reads_log : (r : Result (List Row) InputFault) (t : List ℕ) (c : Ending) → is_book_file t ≡ false → ReadsLog r t c → ReadsInput r t c
+reads_log (Ok rows) t c is h = (
+  faultless_log (is_book_file t) t c is h.0,
+  (receptions_of (log_answers t c).given, members_log (is_book_file t) t c is, h.1),
+)
+reads_log (Err e) t c is h = elim h [
+  | inl m ↦ inl m
+  | inr f ↦ inr (fault_log (is_book_file t) e t c is f)
+]
+
+-- what was got of one is read as a log's text
+pub log_input : (known : Option (List ℕ)) (limit : ℕ) (head : List ℕ) (r : Result (List Row) InputFault) → length head ≡ 8 → (head ≡ mark → ⊥)
+    → IfSome known (λ input. HoldsOfGot limit (head ++ input) (ReadsLog r)) → IfSome known (λ input. HoldsOfGot limit (head ++ input) (ReadsInput r))
+log_input None limit head r size other h = tt
+log_input (Some input) limit head r size other h = record {
+  text = h.text;
+  ending = h.ending;
+  gets = h.gets;
+  holds = reads_log r h.text h.ending (is_log head input h.text h.gets.rest size other h.gets.whole) h.holds;
+}
+
+-- a short one has this fault, or none
+pub short_fault : (t : List ℕ) (c : Ending) (k : LogCause) → length t < 8 → log_answers t c ≡ ended (fault_at 1 (Some k))
+    → ReadsInput (Err (Log (record { line = 1; cause = k }))) t c
+short_fault t c k short e =
+    reads_log (Err (Log (record { line = 1; cause = k }))) t c (short_is_log t short) (inr (ap (λ a. a.fault) e))
+
+pub short_empty : (t : List ℕ) (c : Ending) (rows : List Row) → length t < 8 → log_answers t c ≡ ended (fault_at 1 None) → BookOf gap_seconds [] rows
+    → ReadsInput (Ok rows) t c
+short_empty t c rows short e book =
+    reads_log (Ok rows) t c (short_is_log t short) (ap (λ a. a.fault) e, subst (λ a. BookOf gap_seconds (receptions_of a.given) rows) (sym e) book)
+
+-- ---- a book file
+
+-- each line has an LF
+lines_few : (ls : List (List ℕ)) → length ls ≤ length (text_of_lines ls)
+lines_few [] = omega arith
+lines_few (l ∷ ls) =
+    let whole : length (ended_by_lf l ++ text_of_lines ls) ≡ length l + 1 + length (text_of_lines ls) = simp (length-append, length-append) (omega arith) in
+    omega (arith, lines_few ls, whole)
+
+rows_few : (rows : List Row) → length rows ≤ length (book_text rows)
+rows_few rows =
+    let lines : length (lines_of rows) ≡ length (map row_line rows) + 2 = simp length-append (omega arith) in
+    omega (arith, lines_few (lines_of rows), lines, length-map rows row_line)
+
+faultless_book : (b : Bool) (rows : List Row) → IsBookRows rows → length (book_text rows) ≤ 1073741824 → b ≡ true
+    → (e : InputFault) → IsFaultIn b e (book_text rows) ending.End → ⊥
+faultless_book false rows is fits b e h = absurd cc
+faultless_book true rows is fits b (Book f) h =
+    (cut_short rows is (omega (arith, fits, rows_few rows)) [] ending.End f.cause (book_text rows) f (append-nil (book_text rows)) refl h).1 refl refl
+faultless_book true rows is fits b (Log f) h = h
+faultless_book true rows is fits b Memory h = h
+
+members_book : (b : Bool) (rows : List Row) → IsBookRows rows → b ≡ true → AreMembersIn b (book_text rows) ending.End (real rows)
+members_book false rows is b = absurd cc
+members_book true rows is b = record { rows = rows; is_book = is; text_is = refl; receptions_are = refl }
+
+fault_book : (b : Bool) (f : BookFault) (t : List ℕ) (c : Ending) → b ≡ true → FirstFault t c f → IsFaultIn b (Book f) t c
+fault_book false f t c is h = absurd cc
+fault_book true f t c is h = h
+
+book_begins : (rows : List Row) → is_book_file (book_text rows) ≡ true
+book_begins rows = is_book (book_text rows) (drop 8 (book_text rows)) refl
+
+reads_book : (rows : List Row) → IsBookRows rows → length (book_text rows) ≤ 1073741824 → ReadsInput (Ok rows) (book_text rows) ending.End
+reads_book rows is fits = (
+  faultless_book (is_book_file (book_text rows)) rows is fits (book_begins rows),
+  (real rows, members_book (is_book_file (book_text rows)) rows is (book_begins rows), realised gap_seconds rows (omega arith) is.sound),
+)
+
+-- ---- a fault within the first bytes
+
+-- no LF is in the front of the mark
+front_lacks : (a more t rest : List ℕ) → Lacks 10 a → length t ≤ length a → a ++ more ≡ t ++ rest → Lacks 10 t
+front_lacks a more [] rest h short e = tt
+front_lacks [] more (y ∷ t) rest h short e = absurd (omega (arith, short))
+front_lacks (x ∷ a) more (y ∷ t) rest h short e =
+    let same : x ≡ y = cc in
+    let next : a ++ more ≡ t ++ rest = cc in
+    let less : length t ≤ length a = omega (arith, short) in
+    (rw same at h.0, front_lacks a more t rest h.1 less next)
+
+lacks_line : (a b : List ℕ) → Lacks 10 (a ++ 10 ∷ b) → ⊥
+lacks_line [] b h = absurd cc
+lacks_line (x ∷ a) b h = lacks_line a b h.1
+
+-- in a text without an LF there is no line, so that a byte of the first is missing
+missing_byte : (t : List ℕ) (f : BookFault) → Lacks 10 t → FirstFault t ending.Read f → (f.line ≡ 1) × (f.cause ≡ cause.Read)
+missing_byte t f lacks first = go first.front refl
+  where
+    in_front : (l : List ℕ) (front : List (List ℕ)) → first.front ≡ l ∷ front → ⊥
+    in_front l front e = lacks_line l (text_of_lines front ++ first.rest) (subst (Lacks 10)
+        (first.whole ∙ ap (λ ls. text_of_lines ls ++ first.rest) e ∙ append_assoc (l ++ 10 ∷ []) (text_of_lines front) first.rest
+        ∙ append_assoc l (10 ∷ []) (text_of_lines front ++ first.rest)) lacks)
+
+    at_start : first.front ≡ [] → FaultAtStart first.rest ending.Read f.cause → f.cause ≡ cause.Read
+    at_start e h = elim h [
+      | inl cut ↦ cut.1
+      | inr w ↦ absurd (lacks_line w.line w.more (subst (Lacks 10) (first.whole ∙ ap (λ ls. text_of_lines ls ++ first.rest) e ∙ w.is) lacks))
+    ]
+
+    behind : FaultBehind first.front first.rest ending.Read f.cause → f.cause ≡ cause.Read
+    behind h = elim h [
+      | inl start ↦ at_start start.0 start.1
+      | inr b ↦ elim b.2 [
+        | inl lines ↦ absurd (in_front header (map row_line b.0) lines.0)
+        | inr end ↦ absurd (in_front header _ end.0)
+      ]
+    ]
+
+    go : (front : List (List ℕ)) → first.front ≡ front → (f.line ≡ 1) × (f.cause ≡ cause.Read)
+    go [] e = (first.line ∙ ap (λ (ls : List (List ℕ)). length ls + 1) e, behind first.fault)
+    go (l ∷ front) e = absurd (in_front l front e)
+
+mark_lacks : Lacks 10 mark
+mark_lacks = (refl, (refl, (refl, (refl, (refl, (refl, (refl, (refl, tt))))))))
+
+-- so the fault is that of the mark too
+at_mark : (t : List ℕ) (f : BookFault) → Lacks 10 t → FirstFault t ending.Read f → FirstFault mark ending.Read f
+at_mark t f lacks first =
+    let missing = missing_byte t f lacks first in
+    record { front = []; rest = mark; whole = refl; line = missing.0; fault = inl (refl, inl (mark_lacks, missing.1)) }
+
+-- ---- what was got of a book file
+
+module _ (limit : ℕ) (input : List ℕ) (small : limit ≤ 1073741824) (whole : 8 ≤ limit) where
+  refused : (f : BookFault) (t : List ℕ) (c : Ending) → FirstFault t c f → Gets limit (mark ++ input) t c
+      → HoldsOfGot limit (mark ++ input) (ReadsInput (Err (Book f)))
+  refused f t c first gets = elim (cases_lt (length t) 8) [
+    | inl short ↦ within c first gets short
+    | inr long ↦ record {
+      text = t;
+      ending = c;
+      gets = gets;
+      holds = inr (fault_book (is_book_file t) f t c (is_book t (drop 8 t) (begins_so t gets.rest long gets.whole)) first);
+    }
+  ]
+    where
+      begins_so : (t rest : List ℕ) → 8 ≤ length t → mark ++ input ≡ t ++ rest → t ≡ mark ++ drop 8 t
+      begins_so t rest long e =
+          sym (take-append-drop 8 t) ∙ ap (λ l. l ++ drop 8 t) (sym (take-append-le 8 t rest long) ∙ ap (λ l. take 8 l) (sym e))
+
+      within : (c : Ending) → FirstFault t c f → Gets limit (mark ++ input) t c → length t < 8
+          → HoldsOfGot limit (mark ++ input) (ReadsInput (Err (Book f)))
+      within ending.End first gets short = absurd (omega (arith, short, ap length gets.whole, ap length gets.ends.0, length-append mark input, length-append t gets.rest))
+      within ending.TooLong first gets short = absurd (omega (arith, short, gets.ends.1, whole))
+      within ending.Read first gets short = record {
+        text = mark;
+        ending = ending.Read;
+        gets = record { rest = input; whole = refl; ends = whole };
+        holds = inr (fault_book (is_book_file mark) f mark ending.Read refl
+            (at_mark t f (front_lacks mark input t gets.rest mark_lacks (omega (arith, short)) gets.whole) first));
+      }
+
+  pub refused_book : (f : BookFault) → Reads limit (mark ++ input) (Err f) → HoldsOfGot limit (mark ++ input) (ReadsInput (Err (Book f)))
+  refused_book f h = elim h.reads [
+    | inl memory ↦ record { text = h.text; ending = h.ending; gets = h.gets; holds = inl memory }
+    | inr first ↦ refused f h.text h.ending first h.gets
+  ]
+
+  pub read_book : (rows : List Row) → Reads limit (mark ++ input) (Ok rows) → HoldsOfGot limit (mark ++ input) (ReadsInput (Ok rows))
+  read_book rows h =
+      let gets : Gets limit (mark ++ input) (book_text rows) ending.End =
+      subst (λ c. Gets limit (mark ++ input) (book_text rows) c) h.reads.2 (subst (λ t. Gets limit (mark ++ input) t h.ending) h.reads.0 h.gets) in
+      record {
+        text = book_text rows;
+        ending = ending.End;
+        gets = gets;
+        holds = reads_book rows h.reads.1 (omega (arith, small, gets.ends.1));
+      }
+
+-- where its bytes may not be known
+pub book_input : (known : Option (List ℕ)) (limit : ℕ) (head : List ℕ) (rows : List Row) → limit ≤ 1073741824 → 8 ≤ limit → head ≡ mark
+    → IfSome known (λ input. Reads limit (head ++ input) (Ok rows)) → IfSome known (λ input. HoldsOfGot limit (head ++ input) (ReadsInput (Ok rows)))
+book_input None limit head rows small whole is h = tt
+book_input (Some input) limit head rows small whole is h = subst (λ l. HoldsOfGot limit (l ++ input) (ReadsInput (Ok rows))) (sym is)
+    (read_book limit input small whole rows (subst (λ l. Reads limit (l ++ input) (Ok rows)) is h))
+
+pub refused_input : (known : Option (List ℕ)) (limit : ℕ) (head : List ℕ) (f : BookFault) → limit ≤ 1073741824 → 8 ≤ limit → head ≡ mark
+    → IfSome known (λ input. Reads limit (head ++ input) (Err f)) → IfSome known (λ input. HoldsOfGot limit (head ++ input) (ReadsInput (Err (Book f))))
+refused_input None limit head f small whole is h = tt
+refused_input (Some input) limit head f small whole is h = subst (λ l. HoldsOfGot limit (l ++ input) (ReadsInput (Err (Book f)))) (sym is)
+    (refused_book limit input small whole f (subst (λ l. Reads limit (l ++ input) (Err f)) is h))

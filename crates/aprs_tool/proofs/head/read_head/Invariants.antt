@@ -1,0 +1,15 @@
+use Rattle.std.proofs.Common.{◌≤◌, ◌-◌, length}
+use Rattle.std.specs.Io.KnownBytes.{Consumes}
+use Rattle.aprs_kiss.specs.Device.{device_of, failures_of}
+use Rattle.aprs_tool.proofs.head.read_head.Given as goal
+
+abbrev pub invariant-loop-r : goal.invariant-loop-r
+invariant-loop-r g l = record {
+  took : Consumes (g.R.Read.remaining (device_of l.initial.r)) (g.R.Read.remaining (device_of l.r)) l.bytes.items;
+  few : length l.bytes.items ≤ l.limit;
+  most : length l.bytes.items ≤ 8;
+  count : failures_of l.initial.r ≤ failures_of l.r;
+}
+
+abbrev pub decreases-loop-r : goal.decreases-loop-r
+decreases-loop-r g l = 8 - length l.bytes.items

@@ -1,0 +1,19 @@
+use Rattle.std.proofs.Common.{◌≡◌, ◌≤◌, ◌-◌, None}
+use Rattle.aprs_kiss.specs.Device.{device_of, failures_of}
+use Rattle.aprs_log.specs.Reader.{Awaits, lines_of, loan_of, source_of, stop_of}
+use Rattle.aprs_tool.proofs.Logs.{Took}
+use Rattle.aprs_tool.proofs.input.read_log.Given as goal
+
+abbrev pub invariant-lines : goal.invariant-lines
+invariant-lines g l =
+    let remaining = g.R.Read.remaining in
+    record {
+      same_reference : loan_of l.reader ≡ loan_of l.initial.reader;
+      reads : failures_of (source_of l.initial.reader) ≤ failures_of (source_of l.reader);
+      going : stop_of l.reader ≡ None;
+      took : Took (Awaits (remaining (device_of (source_of l.initial.reader))) l.initial.reader)
+          (Awaits (remaining (device_of (source_of l.reader))) l.reader) l.book;
+    }
+
+abbrev pub decreases-lines : goal.decreases-lines
+decreases-lines g l = 1073741824 - lines_of l.reader

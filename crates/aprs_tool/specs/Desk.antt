@@ -1,0 +1,12 @@
+-- What contracts see of a desk.
+use Rattle.std.specs.Prelude.{ℕ, List}
+use Rattle.aprs_laws.specs.Row.{Row}
+use Rattle.aprs_tool.specs.declared.desk.Desk.{Desk}
+
+-- the rows of its book
+abbrev pub rows_of : Desk → List Row
+rows_of desk = desk.book
+
+-- how many bytes it reads of an input at most
+abbrev pub limit_of : Desk → ℕ
+limit_of desk = desk.limit

@@ -1,0 +1,106 @@
+-- What a merge of several inputs writes and answers.
+use Rattle.std.specs.Prelude.{◌≡◌, ℕ, zero, suc, List, [], ◌∷◌, ◌++◌, Option, Some, Result, Ok, Err, map, slice_get}
+use Rattle.std.specs.Io.KnownBytes.{Appends}
+use Rattle.aprs_kiss.specs.Device.{AppendsFront, failures_of, Rose}
+use Rattle.aprs_kiss.specs.declared.device.Counted.{Counted}
+use Rattle.aprs_log.specs.LogAnswers.{Gets}
+use Rattle.aprs_log.specs.Reception.{Heard}
+use Rattle.aprs_log.specs.declared.ending.Ending.{Ending}
+use Rattle.aprs_laws.specs.Book.{BookOf}
+use Rattle.aprs_laws.specs.Gap.{gap_seconds}
+use Rattle.aprs_laws.specs.Row.{Row}
+use Rattle.aprs_booktext.specs.Text.{book_text}
+use Rattle.aprs_tool.specs.Inputs.{IsFaultless, IsRefused, AreMembers}
+use Rattle.aprs_tool.specs.Run.{IsReadFault}
+use Rattle.aprs_tool.specs.declared.fault.InputFault.{InputFault}
+use Rattle.aprs_tool.specs.declared.fault.RunFault.{RunFault}
+use Rattle.aprs_tool.specs.declared.fault.RunFault.TheVariants.{Input, Write}
+
+-- ---- what was got of several inputs
+
+-- of one: a text, and what came after it
+pub record Got : Type 0 where
+  pub text : List ℕ
+  pub ending : Ending
+
+-- of each, at most `limit` bytes
+abbrev pub GetsEach : ℕ → List (List ℕ) → List Got → Type 0
+GetsEach limit [] [] = Unit {0}
+GetsEach limit (input ∷ inputs) (g ∷ gots) =
+    Gets limit input g.text g.ending × GetsEach limit inputs gots
+GetsEach limit [] (g ∷ gots) = ⊥
+GetsEach limit (input ∷ inputs) [] = ⊥
+
+abbrev pub AreFaultless : List Got → Type 0
+AreFaultless [] = Unit {0}
+AreFaultless (g ∷ gots) = IsFaultless g.text g.ending × AreFaultless gots
+
+-- number `index`, from 0, is the first that is refused
+abbrev pub IsFirstRefused : ℕ → InputFault → List Got → Type 0
+IsFirstRefused index e [] = ⊥
+IsFirstRefused zero e (g ∷ gots) = IsRefused e g.text g.ending
+IsFirstRefused (suc index) e (g ∷ gots) =
+    IsFaultless g.text g.ending × IsFirstRefused index e gots
+
+-- the receptions of all, in order
+abbrev pub AreMembersOfAll : List Got → List Heard → Type 0
+AreMembersOfAll [] S = S ≡ []
+AreMembersOfAll (g ∷ gots) S = (T : List Heard) × (U : List Heard) × AreMembers g.text g.ending T
+    × AreMembersOfAll gots U × (S ≡ T ++ U)
+
+-- the rows are the book of the receptions of all
+abbrev pub IsBookOfAll : List Row → List Got → Type 0
+IsBookOfAll rows gots = (S : List Heard) × AreMembersOfAll gots S × BookOf gap_seconds S rows
+
+-- ---- how they are read
+
+-- the one book of faultless inputs is read; otherwise the first that is refused is told, by number
+abbrev pub ReadsEach : Result (List Row) (ℕ × InputFault) → List Got → Type 0
+ReadsEach (Ok rows) gots = AreFaultless gots × IsBookOfAll rows gots
+ReadsEach (Err p) gots = IsFirstRefused p.0 p.1 gots
+
+-- ---- how they are merged
+
+-- all are faultless, and of the text of their one book P holds
+abbrev pub WritesBook : List Got → (List ℕ → Type 0) → Type 0
+WritesBook gots P =
+    AreFaultless gots × ((rows : List Row) × IsBookOfAll rows gots × P (book_text rows))
+
+-- A refused output comes after a front of the text. Where an input is refused nothing is written.
+abbrev pub MergesEach : Result (Unit {0}) RunFault → Option (List ℕ) → Option (List ℕ) → List Got
+    → Type 0
+MergesEach (Ok u) old new gots = WritesBook gots (λ text. Appends old new text)
+MergesEach (Err Write) old new gots = WritesBook gots (λ text. AppendsFront old new text)
+MergesEach (Err (Input index e)) old new gots = IsFirstRefused index e gots × (new ≡ old)
+
+-- of each input at most `limit` bytes are got, and P holds of what was got
+pub record HoldsOfEach (limit : ℕ) (inputs : List (List ℕ)) (P : List Got → Type 0) : Type 0 where
+  pub gots : List Got
+  pub gets : GetsEach limit inputs gots
+  pub holds : P gots
+
+-- where the bytes of all inputs are known
+abbrev pub OfEach : ℕ → List (Option (List ℕ)) → (List Got → Type 0) → Type 0
+OfEach limit knowns P =
+    (inputs : List (List ℕ)) → knowns ≡ map (λ input. Some input) inputs
+    → HoldsOfEach limit inputs P
+
+-- ---- failed reads
+
+-- the count of this reader's failed calls rose
+pub record RoseAt {R : Type 0} (index : ℕ) (old new : List (Counted R)) : Type 0 where
+  pub before : Counted R
+  pub after : Counted R
+  pub was : slice_get old index ≡ Some before
+  pub is : slice_get new index ≡ Some after
+  pub rose : Rose (failures_of before) (failures_of after)
+
+-- a failed read is told of an input only where its reader's count rose
+abbrev pub RoseWhereRead : {R : Type 0} → RunFault → List (Counted R) → List (Counted R) → Type 0
+RoseWhereRead (Input index e) old new = IsReadFault e → RoseAt index old new
+RoseWhereRead Write old new = Unit {0}
+
+-- where an input is refused, nothing is written
+abbrev pub WritesNothing : RunFault → Option (List ℕ) → Option (List ℕ) → Type 0
+WritesNothing (Input index e) old new = new ≡ old
+WritesNothing Write old new = Unit {0}

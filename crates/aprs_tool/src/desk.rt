@@ -1,0 +1,81 @@
+//! A book that inputs are merged into.
+ghost use Rattle.std.specs.Prelude.{◌≤◌};
+
+use crate::fault::InputFault;
+use crate::input::read_input;
+use aprs_book::{Book, Memory};
+use aprs_kiss::Counted;
+use std::alloc::Global;
+use std::io::Read;
+
+/// A book, and what is needed to read further inputs into it.
+#[derive(Drop)]
+pub struct Desk {
+    alloc: Global,
+    limit: u64,
+    book: Book,
+    ghost few: { limit ≤ 1073741824 },
+}
+
+impl Desk {
+    ghost use Rattle.std.specs.Prelude.{◌≡◌, ◌≤◌, [], IfErr, OnErr};
+    ghost use Rattle.aprs_kiss.specs.Device.{device_of, failures_of, Rose};
+    ghost use Rattle.aprs_laws.specs.Book.{BookOf};
+    ghost use Rattle.aprs_laws.specs.Gap.{gap_seconds};
+    ghost use Rattle.aprs_tool.specs.Desk.{limit_of, rows_of};
+    ghost use Rattle.aprs_tool.specs.Inputs.{OfGot, TakesInput};
+    ghost use Rattle.aprs_tool.specs.Run.{IsReadFault};
+
+    /// An empty book, into which inputs are read up to `limit` bytes each. Requires that `limit` is
+    /// at most `MAX_INPUT`. Takes no memory.
+    pub fn new(alloc: Global, limit: u64) -> Desk
+        requires { limit ≤ 1073741824 }
+        ensures rows { rows_of result ≡ [] }
+        ensures book { BookOf gap_seconds [] (rows_of result) }
+        ensures limit { limit_of result ≡ limit }
+    {
+        Desk {
+            alloc,
+            limit,
+            book: Book::new(alloc),
+        }
+    }
+
+    /// Reads an input, as `read_input` does: the book of a set becomes the book of that set and of
+    /// the input's receptions. After a fault the desk is as before.
+    pub fn take_input<R: Read>(&mut self, r: &mut Counted<R>) -> Result<(), InputFault>
+        ensures takes { OfGot (limit_of self.old) (R.remaining (device_of r.old))
+            (TakesInput result (rows_of self.old) (rows_of self.new)) }
+        ensures limit { limit_of self.new ≡ limit_of self.old }
+        ensures unchanged { OnErr result (self.new ≡ self.old) }
+        ensures count { failures_of r.old ≤ failures_of r.new }
+        ensures read { IfErr result (λ e. IsReadFault e
+            → Rose (failures_of r.old) (failures_of r.new)) }
+    {
+        let input = match read_input(self.alloc, self.limit, r) {
+            Ok(input) => input,
+            Err(fault) => return Err(fault),
+        };
+        match self.book.merge(&input) {
+            Ok(book) => {
+                self.book = book;
+                Ok(())
+            }
+            Err(Memory) => Err(InputFault::Memory),
+        }
+    }
+
+    /// The book. Takes no memory.
+    pub fn book(&self) -> &Book
+        ensures { result.now ≡ rows_of self.now }
+    {
+        &self.book
+    }
+
+    /// Gives the book. Takes no memory.
+    pub fn into_book(self) -> Book
+        ensures { result ≡ rows_of self }
+    {
+        self.book
+    }
+}

@@ -1,0 +1,65 @@
+//! The first bytes of an input, by which a book file is told from a log.
+ghost use Rattle.std.specs.Prelude.{◌≡◌, ◌<◌, ◌≤◌, [], ◌∷◌, length, IfSome, IfOk, IfErr, OnOk};
+ghost use Rattle.std.specs.Io.KnownBytes.{Consumes};
+ghost use Rattle.aprs_kiss.specs.Device.{device_of, failures_of, Rose};
+ghost use Rattle.aprs_log.specs.Awaits.{EndsHere};
+ghost use Rattle.aprs_log.specs.LogAnswers.{Gets};
+
+use crate::capture::ending_at_limit;
+use aprs_kiss::Counted;
+use aprs_log::Ending;
+use arrayvec::ArrayVec;
+use std::io::Read;
+
+/// So many bytes tell a book file from a log.
+const HEAD: usize = 8;
+
+/// All of an input of which fewer bytes were got, and what came after them.
+#[derive(Drop)]
+pub struct ShortInput {
+    pub bytes: ArrayVec<u8, HEAD>,
+    pub ending: Ending,
+}
+
+/// Reads the first eight bytes of an input, or all where fewer are got.
+pub fn read_head<R: Read>(limit: u64, r: &mut Counted<R>) -> Result<ArrayVec<u8, HEAD>, ShortInput>
+    ensures whole { IfOk result (λ head. (length head.items ≡ 8) × (8 ≤ limit)) }
+    ensures bytes { IfOk result (λ head. Consumes (R.remaining (device_of r.old))
+        (R.remaining (device_of r.new)) head.items) }
+    ensures short { IfErr result (λ s. length s.bytes.items < 8) }
+    ensures end { IfErr result (λ s. IfSome (R.remaining (device_of r.old))
+        (λ input. Gets limit input s.bytes.items s.ending)) }
+    ensures count { failures_of r.old ≤ failures_of r.new }
+    ensures read { IfErr result (λ s. s.ending ≡ Ending.Read
+        → Rose (failures_of r.old) (failures_of r.new)) }
+{
+    let mut bytes = ArrayVec::new();
+    while bytes.len() < HEAD {
+        match read_byte(r, limit - bytes.len() as u64) {
+            Ok(byte) => bytes.push(byte),
+            Err(ending) => return Err(ShortInput { bytes, ending }),
+        }
+    }
+    Ok(bytes)
+}
+
+/// The next byte of an input of which at most `left` more are got, or how it ends.
+fn read_byte<R: Read>(r: &mut Counted<R>, left: u64) -> Result<u8, Ending>
+    ensures some { OnOk result (0 < left) }
+    ensures byte { IfOk result (λ byte. Consumes (R.remaining (device_of r.old))
+        (R.remaining (device_of r.new)) (byte ∷ [])) }
+    ensures end { IfErr result (λ e. EndsHere e left (R.remaining (device_of r.old))) }
+    ensures count { failures_of r.old ≤ failures_of r.new }
+    ensures read { IfErr result (λ e. e ≡ Ending.Read
+        → Rose (failures_of r.old) (failures_of r.new)) }
+{
+    if left == 0 {
+        return Err(ending_at_limit(r));
+    }
+    let mut one = [0];
+    match r.read(&mut one) {
+        Ok(0) => Err(Ending::End),
+        Ok(_) => Ok(one[0]),
+        Err(_) => Err(Ending::Read),
+    }
+}

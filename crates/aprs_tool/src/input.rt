@@ -1,0 +1,134 @@
+//! The book of an input, which is a log or a book file.
+ghost use Rattle.std.specs.Prelude.{◌≡◌, ◌<◌, ◌≤◌, ◌∷◌, [], ◌++◌, length, Some, IfSome, IfErr, OnOk, OnErr};
+ghost use Rattle.aprs_kiss.specs.Device.{device_of, failures_of, Rose};
+ghost use Rattle.aprs_log.specs.LogAnswers.{ended, fault_at, log_answers, receptions_of};
+ghost use Rattle.aprs_tool.specs.Inputs.{AddsAll, HoldsOfGot, OfGot, ReadsInput, ReadsLog};
+ghost use Rattle.aprs_tool.specs.Run.{IsReadFault};
+
+use crate::fault::InputFault;
+use crate::head::{ShortInput, read_head};
+use aprs_book::{Book, Memory};
+use aprs_booktext::read_book;
+use aprs_kiss::Counted;
+use aprs_log::{Ending, Line, LogCause, LogFault, LogReader};
+use std::alloc::Global;
+use std::io::Read;
+
+/// The text of a book begins so.
+const BOOK_MARK: &[u8] = b"APRSBOOK";
+
+/// Reads the book of an input: its own, where its first eight bytes are `APRSBOOK`, and else that
+/// of the receptions of a log, whose other lines are passed over. At most `limit` bytes are read, to
+/// the end. Requires that `limit` is at most `MAX_INPUT`. A faulty input gives its first fault, and
+/// `Memory`, or a book's cause of that name, comes before it where memory was refused. An input of
+/// which fewer than eight bytes are got is a log. Holds the book and one line.
+pub fn read_input<R: Read>(
+    alloc: Global,
+    limit: u64,
+    r: &mut Counted<R>,
+) -> Result<Book, InputFault>
+    requires { limit ≤ 1073741824 }
+    ensures reads { OfGot limit (R.remaining (device_of r.old)) (ReadsInput result) }
+    ensures count { failures_of r.old ≤ failures_of r.new }
+    ensures read { IfErr result (λ e. IsReadFault e
+        → Rose (failures_of r.old) (failures_of r.new)) }
+{
+    match read_head(limit, r) {
+        Ok(head) => read_whole(alloc, limit, head.as_slice(), r),
+        Err(short) => read_short(alloc, &short),
+    }
+}
+
+/// The book of an input that begins with these eight bytes.
+fn read_whole<R: Read>(
+    alloc: Global,
+    limit: u64,
+    head: &[u8],
+    r: &mut Counted<R>,
+) -> Result<Book, InputFault>
+    requires limit { limit ≤ 1073741824 }
+    requires head { length head.now ≡ 8 }
+    requires within { 8 ≤ limit }
+    ensures reads { IfSome (R.remaining (device_of r.old))
+        (λ input. HoldsOfGot limit (head.now ++ input) (ReadsInput result)) }
+    ensures count { failures_of r.old ≤ failures_of r.new }
+    ensures read { IfErr result (λ e. IsReadFault e
+        → Rose (failures_of r.old) (failures_of r.new)) }
+{
+    if head != BOOK_MARK {
+        return read_log(alloc, limit, head, r);
+    }
+    match read_book(alloc, limit, head, r) {
+        Ok(book) => Ok(book),
+        Err(fault) => Err(InputFault::Book(fault)),
+    }
+}
+
+/// The book of the receptions of a log that begins with `head`.
+fn read_log<R: Read>(
+    alloc: Global,
+    limit: u64,
+    head: &[u8],
+    r: &mut Counted<R>,
+) -> Result<Book, InputFault>
+    requires limit { limit ≤ 1073741824 }
+    requires head { length head.now ≤ 8 }
+    requires within { length head.now ≤ limit }
+    ensures reads { IfSome (R.remaining (device_of r.old))
+        (λ input. HoldsOfGot limit (head.now ++ input) (ReadsLog result)) }
+    ensures count { failures_of r.old ≤ failures_of r.new }
+    ensures read { IfErr result (λ e. IsReadFault e
+        → Rose (failures_of r.old) (failures_of r.new)) }
+{
+    let mut reader = LogReader::new(alloc, limit, head, r);
+    let mut book = Book::new(alloc);
+    'lines: loop {
+        match reader.advance() {
+            Ok(true) => match take_line(&mut book, reader.current()) {
+                Ok(()) => {}
+                Err(Memory) => return Err(InputFault::Memory),
+            },
+            Ok(false) => return Ok(book),
+            Err(fault) => return Err(InputFault::Log(fault)),
+        }
+    }
+}
+
+/// Takes what a line tells, if it tells a reception.
+fn take_line(book: &mut Book, line: &Line) -> Result<(), Memory>
+    ensures { OnOk result (AddsAll (receptions_of (line.now ∷ [])) book.old book.new) }
+{
+    match line {
+        Line::Heard(reception) => book.take(reception),
+        Line::Passed(_) => Ok(()),
+    }
+}
+
+/// The answer for an input that is too short to tell what it is: that of a log.
+fn read_short(alloc: Global, short: &ShortInput) -> Result<Book, InputFault>
+    requires { length short.now.bytes.items < 8 }
+    ensures reads { ReadsInput result short.now.bytes.items short.now.ending }
+    ensures read { IfErr result (λ e. IsReadFault e → short.now.ending ≡ Ending.Read) }
+{
+    match refuse_short(short.bytes.as_slice(), short.ending) {
+        Some(cause) => Err(InputFault::Log(LogFault { line: 1, cause })),
+        None => Ok(Book::new(alloc)),
+    }
+}
+
+/// Why a log of so few bytes is refused, if it is. A line of it would be too short for a moment.
+fn refuse_short(text: &[u8], ending: Ending) -> Option<LogCause>
+    requires { length text.now < 8 }
+    ensures answers { log_answers text.now ending ≡ ended (fault_at 1 result) }
+    ensures read { result ≡ Some LogCause.Read → ending ≡ Ending.Read }
+{
+    if text.contains(&b'\n') {
+        return Some(LogCause::Moment);
+    }
+    match ending {
+        Ending::Read => Some(LogCause::Read),
+        Ending::TooLong => Some(LogCause::TooLong),
+        Ending::End if text.is_empty() => None,
+        Ending::End => Some(LogCause::NoNewline),
+    }
+}
