@@ -5,7 +5,7 @@ use crate::vectors::{DIRECT, NOON, heard, receiver};
 use aprs_ax25::Frame;
 use aprs_book::{Book, ReceiverList, RowCause, RowParts};
 use aprs_log::Moment;
-use std::alloc::Allocator;
+use std::alloc::{Allocator, Global};
 use std::test::Fail;
 
 /// What makes a row of the direct frame: its first and last second, its receivers, and who heard the
@@ -50,32 +50,52 @@ fn rows_without_their_greatest_are_refused(rt: HostRuntime) -> Result<(), Fail> 
     Ok(())
 }
 
+/// A book of two rows of one key, as close to one another as rows can be.
+fn two_rows(alloc: Global) -> Result<Book, Fail> {
+    let mut book = Book::new(alloc);
+    for second in [0, 31] {
+        let row = parts(alloc, NOON + second, NOON + second, &[b"RX1"], b"RX1")?;
+        book.push_row(&row).ok().ok_or("a row")?;
+    }
+    Ok(book)
+}
+
 #[test]
 fn rows_are_pushed_behind_the_last(rt: HostRuntime) -> Result<(), Fail> {
     let alloc = rt.alloc();
-    let mut book = Book::new(alloc);
-    let backwards = parts(alloc, NOON + 1, NOON, &[b"RX1"], b"RX1")?;
-    assert!(rt; book.push_row(&backwards) == Err(RowCause::Span));
-    let noon = parts(alloc, NOON, NOON, &[b"RX1"], b"RX1")?;
-    let near = parts(alloc, NOON + 30, NOON + 30, &[b"RX1"], b"RX1")?;
-    let far = parts(alloc, NOON + 31, NOON + 31, &[b"RX1"], b"RX1")?;
-    assert!(rt; book.push_row(&noon) == Ok(()));
-    assert!(rt; book.push_row(&near) == Err(RowCause::Near));
-    assert!(rt; book.push_row(&far) == Ok(()));
-    assert!(rt; book.push_row(&noon) == Err(RowCause::Order));
+    let book = two_rows(alloc)?;
     let text = shown(alloc, &book)?;
     assert_eq!(rt; text.as_str(), "0-0 RX1 / RX1 6f; 31-31 RX1 / RX1 6f; ");
     let mut taken = Book::new(alloc);
-    taken
-        .take(&heard(31, b"RX1", &DIRECT)?)
-        .ok()
-        .ok_or("memory")?;
-    taken
-        .take(&heard(0, b"RX1", &DIRECT)?)
-        .ok()
-        .ok_or("memory")?;
+    for second in [31, 0] {
+        taken
+            .take(&heard(second, b"RX1", &DIRECT)?)
+            .ok()
+            .ok_or("memory")?;
+    }
     assert!(rt; book.same(&taken));
+    Ok(())
+}
+
+#[test]
+fn rows_out_of_place_are_refused(rt: HostRuntime) -> Result<(), Fail> {
+    let alloc = rt.alloc();
+    let mut book = two_rows(alloc)?;
+    for (first, last, cause) in [
+        (33, 32, RowCause::Span),
+        (61, 61, RowCause::Near),
+        (31, 31, RowCause::Order),
+        (0, 0, RowCause::Order),
+    ] {
+        let row = parts(alloc, NOON + first, NOON + last, &[b"RX1"], b"RX1")?;
+        assert!(rt; book.push_row(&row) == Err(cause));
+    }
+    assert_eq!(rt; book.len(), 2);
+    Ok(())
+}
+
+#[test]
+fn causes_of_rows_have_names(rt: HostRuntime) {
     assert_eq!(rt; RowCause::NotGreatest.number(), 5);
     assert_eq!(rt; RowCause::NotGreatest.name(), "NotGreatest");
-    Ok(())
 }

@@ -1,6 +1,6 @@
 //! A book as a line of text.
 
-use aprs_book::Book;
+use aprs_book::{Book, Row};
 use aprs_log::Receiver;
 use std::alloc::{Allocator, Global};
 use std::fmt::Write;
@@ -15,21 +15,27 @@ pub fn name_text(text: &mut String, name: &Receiver) -> Result<(), Fail> {
     Ok(())
 }
 
-/// Each row's first and last second in its hour, its receivers, the greatest reception's receiver
+/// Puts a row's first and last second in its hour, its receivers, the greatest reception's receiver
 /// and the last octet of its frame's source.
+fn row_text(text: &mut String, row: &Row<'_>) -> Result<(), Fail> {
+    let first = row.first.seconds() % 3600;
+    let last = row.last.seconds() % 3600;
+    write!(text, "{first}-{last} ")?;
+    for name in row.receivers {
+        name_text(text, name)?;
+    }
+    text.push_str("/ ")?;
+    name_text(text, row.receiver)?;
+    let octet = row.frame.bytes().get(13).copied().unwrap_or(0);
+    write!(text, "{octet:02x}; ")?;
+    Ok(())
+}
+
+/// All rows so.
 pub fn shown<A: Allocator + Copy>(alloc: Global, book: &Book<A>) -> Result<String, Fail> {
     let mut text = String::new(alloc);
     for row in book.rows() {
-        let first = row.first.seconds() % 3600;
-        let last = row.last.seconds() % 3600;
-        write!(text, "{first}-{last} ")?;
-        for name in row.receivers {
-            name_text(&mut text, name)?;
-        }
-        text.push_str("/ ")?;
-        name_text(&mut text, row.receiver)?;
-        let octet = row.frame.bytes().get(13).copied().unwrap_or(0);
-        write!(text, "{octet:02x}; ")?;
+        row_text(&mut text, &row)?;
     }
     Ok(text)
 }
