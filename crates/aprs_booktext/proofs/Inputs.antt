@@ -36,35 +36,35 @@ module _ (P : List ℕ → Type 0) (head : List ℕ) (old now : Option (List ℕ
     size = let len : length (head ++ (p.got ++ piece)) ≡ length (head ++ p.got) + length piece = ap length (sym (append_assoc head p.got piece)) ∙ length-append (head ++ p.got) piece in omega (arith, len, p.size, e);
   }
 
-  ends_so : (e : Ending) (rest : List ℕ) → EndsSo e left [] rest → EndsSo e limit (head ++ p.got) rest
-  ends_so ending.End rest h = (h.0, omega (arith, p.size))
-  ends_so ending.Read rest h = omega (arith, p.size)
-  ends_so ending.TooLong rest h = (h.0, omega (arith, p.size, h.1))
+  ends_so : (e : Ending) (rest : List ℕ) (after : Option (List ℕ)) → EndsSo e left [] rest after → EndsSo e limit (head ++ p.got) rest after
+  ends_so ending.End rest after h = (h.0, omega (arith, p.size))
+  ends_so ending.Read rest after h = (h.0, omega (arith, p.size))
+  ends_so ending.TooLong rest after h = (h.0, omega (arith, p.size, h.1))
 
   -- nothing more is got, since the input ends so
-  pub Gets-here : (e : Ending) → IfSome now (λ rest. Gets left rest [] e) → IfSome old (λ input. Gets limit (head ++ input) (head ++ p.got) e)
-  Gets-here e h = here old now p.took h where
-    here : (old now : Option (List ℕ)) → Consumes old now p.got → IfSome now (λ rest. Gets left rest [] e) → IfSome old (λ input. Gets limit (head ++ input) (head ++ p.got) e)
+  pub Gets-here : (e : Ending) (after : Option (List ℕ)) → IfSome now (λ rest. Gets left rest after [] e) → IfSome old (λ input. Gets limit (head ++ input) after (head ++ p.got) e)
+  Gets-here e after h = here old now p.took h where
+    here : (old now : Option (List ℕ)) → Consumes old now p.got → IfSome now (λ rest. Gets left rest after [] e) → IfSome old (λ input. Gets limit (head ++ input) after (head ++ p.got) e)
     here None now took h = tt
     here (Some input) None took h = absurd took
     here (Some input) (Some y) took h = record {
       rest = h.rest;
       whole = ap (λ l. head ++ l) (took ∙ ap (λ l. p.got ++ l) h.whole) ∙ sym (append_assoc head p.got h.rest);
-      ends = ends_so e h.rest h.ends;
+      ends = ends_so e h.rest after h.ends;
     }
 
-  -- the reader may always fail next
-  pub Gets-read : IfSome old (λ input. Gets limit (head ++ input) (head ++ p.got) ending.Read)
-  Gets-read = Gets-here ending.Read (may now) where
-    may : (now : Option (List ℕ)) → IfSome now (λ rest. Gets left rest [] ending.Read)
+  -- what the reader has left may follow
+  pub Gets-read : IfSome old (λ input. Gets limit (head ++ input) now (head ++ p.got) ending.Read)
+  Gets-read = Gets-here ending.Read now (may now) where
+    may : (now : Option (List ℕ)) → IfSome now (λ rest. Gets left rest now [] ending.Read)
     may None = tt
-    may (Some y) = record { rest = y; whole = refl; ends = omega arith }
+    may (Some y) = record { rest = y; whole = refl; ends = (refl, omega arith) }
 
 -- what was got is read so
-pub Reads-got : (old : Option (List ℕ)) (limit : ℕ) (head got : List ℕ) (e : Ending) (r : Result (List Row) BookFault) → IfSome old (λ input. Gets limit (head ++ input) (head ++ got) e)
-    → ReadsSo r (head ++ got) e → IfSome old (λ input. Reads limit (head ++ input) r)
-Reads-got None limit head got e r gets reads = tt
-Reads-got (Some input) limit head got e r gets reads = record { text = head ++ got; ending = e; gets = gets; reads = reads }
+pub Reads-got : (old after : Option (List ℕ)) (limit : ℕ) (head got : List ℕ) (e : Ending) (r : Result (List Row) BookFault) → IfSome old (λ input. Gets limit (head ++ input) after (head ++ got) e)
+    → ReadsSo r (head ++ got) e → IfSome old (λ input. Reads limit head input after r)
+Reads-got None after limit head got e r gets reads = tt
+Reads-got (Some input) after limit head got e r gets reads = record { got = got; ending = e; gets = gets; reads = reads }
 
 pub fault_reads : (f : BookFault) (t : List ℕ) (e : Ending) → IsFault f t → ReadsSo (Err f) t e
 fault_reads f t e h = elim h [
@@ -74,6 +74,6 @@ fault_reads f t e h = elim h [
 
 -- a fault in what was got
 pub Reads-fault : (f : BookFault) (head : List ℕ) (old now : Option (List ℕ)) (limit left : ℕ) → Got (IsFault f) head old now limit left
-    → IfSome old (λ input. Reads limit (head ++ input) (Err f))
+    → IfSome old (λ input. Reads limit head input now (Err f))
 Reads-fault f head old now limit left p =
-    Reads-got old limit head p.got ending.Read (Err f) (Gets-read (IsFault f) head old now limit left p) (fault_reads f (head ++ p.got) ending.Read p.stands)
+    Reads-got old now limit head p.got ending.Read (Err f) (Gets-read (IsFault f) head old now limit left p) (fault_reads f (head ++ p.got) ending.Read p.stands)

@@ -1,6 +1,6 @@
 -- The first fault of a text that isn't that of a book. It lies right behind the longest front of
 -- lines that a book's text may begin with.
-use Rattle.std.specs.Prelude.{◌≡◌, ◌≢◌, ℕ, ◌+◌, ◌<◌, ◌==◌, ◌⊎◌, Bool, false, true, List, [], ◌∷◌, ◌++◌, length, map, codes, Some, Result, Ok, Err, IsErr}
+use Rattle.std.specs.Prelude.{◌≡◌, ◌≢◌, ℕ, ◌+◌, ◌<◌, ◌==◌, ◌⊎◌, Bool, false, true, List, [], ◌∷◌, ◌++◌, length, map, codes, Option, Some, Result, Ok, Err, IsErr}
 use Rattle.std.specs.List.{starts_with}
 use Rattle.aprs_ax25.specs.FrameFault.{frame_of}
 use Rattle.aprs_log.specs.LogAnswers.{Gets}
@@ -107,12 +107,13 @@ abbrev pub ReadsSo : Result (List Row) BookFault → List ℕ → Ending → Typ
 ReadsSo (Ok rows) text e = (text ≡ book_text rows) × IsBookRows rows × (e ≡ ending.End)
 ReadsSo (Err f) text e = (f.cause ≡ cause.Memory) ⊎ FirstFault text e f
 
--- some bytes were got of the input, at most `limit`, and they are read so
-pub record Reads (limit : ℕ) (input : List ℕ) (r : Result (List Row) BookFault) : Type 0 where
-  pub text : List ℕ
+-- some bytes were got of the input, behind its head, at most `limit`, and they are read so
+pub record Reads (limit : ℕ) (head input : List ℕ) (after : Option (List ℕ))
+    (r : Result (List Row) BookFault) : Type 0 where
+  pub got : List ℕ
   pub ending : Ending
-  pub gets : Gets limit input text ending
-  pub reads : ReadsSo r text ending
+  pub gets : Gets limit (head ++ input) after (head ++ got) ending
+  pub reads : ReadsSo r (head ++ got) ending
 
 -- the book of these rows, or memory was refused
 abbrev pub IsBookOrMemory : Result (List Row) BookFault → List Row → Type 0

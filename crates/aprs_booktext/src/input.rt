@@ -1,7 +1,7 @@
 //! Bytes of an input, a piece at a time.
-ghost use Rattle.std.specs.Prelude.{◌≡◌, ◌<◌, ◌≤◌, length, take, IfOk, IfErr};
+ghost use Rattle.std.specs.Prelude.{◌≡◌, ◌<◌, ◌≤◌, length, take, IsErrAnd, IfOk, IfErr};
 ghost use Rattle.std.specs.Io.KnownBytes.{Consumes};
-ghost use Rattle.aprs_kiss.specs.Device.{device_of, failures_of, Rose};
+ghost use Rattle.aprs_kiss.specs.Device.{device_of, failures_of, answered_of, Rose, RoseWhere};
 ghost use Rattle.aprs_log.specs.Awaits.{EndsHere};
 
 use aprs_kiss::Counted;
@@ -18,10 +18,13 @@ pub fn read_piece<R: Read>(
     ensures some { IfOk result (λ n. (0 < n) × (n ≤ left) × (n ≤ length room.new)) }
     ensures more { IfOk result (λ n. Consumes (R.remaining (device_of source.old))
         (R.remaining (device_of source.new)) (take n room.new)) }
-    ensures end { IfErr result (λ e. EndsHere e left (R.remaining (device_of source.old))) }
+    ensures end { IfErr result (λ e. EndsHere e left (R.remaining (device_of source.old))
+        (R.remaining (device_of source.new))) }
     ensures count { failures_of source.old ≤ failures_of source.new }
     ensures read { IfErr result (λ e. e ≡ Ending.Read
         → Rose (failures_of source.old) (failures_of source.new)) }
+    ensures answered { RoseWhere (IsErrAnd result (λ e. e ≡ Ending.Read)) (answered_of source.old)
+        (answered_of source.new) }
 {
     if left == 0 {
         return Err(ending_at_limit(source));
@@ -36,9 +39,12 @@ pub fn read_piece<R: Read>(
 
 /// How an input ends of which as many bytes were got as may be: whether a further byte exists.
 fn ending_at_limit<R: Read>(source: &mut Counted<R>) -> Ending
-    ensures end { EndsHere result 0 (R.remaining (device_of source.old)) }
+    ensures end { EndsHere result 0 (R.remaining (device_of source.old))
+        (R.remaining (device_of source.new)) }
     ensures count { failures_of source.old ≤ failures_of source.new }
     ensures read { result ≡ Ending.Read → Rose (failures_of source.old) (failures_of source.new) }
+    ensures answered { RoseWhere (result ≡ Ending.Read) (answered_of source.old)
+        (answered_of source.new) }
 {
     let mut one = [0];
     match source.read(&mut one) {

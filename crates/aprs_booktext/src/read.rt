@@ -1,6 +1,6 @@
 //! Reading a book.
-ghost use Rattle.std.specs.Prelude.{◌≡◌, ◌≤◌, ◌++◌, List, length, IfSome, IfErr};
-ghost use Rattle.aprs_kiss.specs.Device.{device_of, failures_of, Rose};
+ghost use Rattle.std.specs.Prelude.{◌≡◌, ◌≤◌, ◌++◌, List, length, IsErrAnd, IfSome, IfErr};
+ghost use Rattle.aprs_kiss.specs.Device.{device_of, failures_of, answered_of, Rose, RoseWhere};
 ghost use Rattle.aprs_laws.specs.Row.{Row};
 ghost use Rattle.aprs_booktext.specs.FirstFault.{IsBookOrMemory, Reads};
 ghost use Rattle.aprs_booktext.specs.Text.{book_text, IsBookRows};
@@ -31,7 +31,7 @@ pub fn read_book<R: Read, A: Allocator + Copy>(
     requires head { length head.now ≤ 8 }
     requires within { length head.now ≤ limit }
     ensures reads { IfSome (R.remaining (device_of source.old))
-        (λ input. Reads limit (head.now ++ input) result) }
+        (λ input. Reads limit head.now input (R.remaining (device_of source.new)) result) }
     // The text of a book is read, where it is short enough and the reader doesn't fail.
     ensures accepts { IfSome (R.remaining (device_of source.old)) (λ input. (rows : List Row)
         → IsBookRows rows → head.now ++ input ≡ book_text rows
@@ -41,6 +41,9 @@ pub fn read_book<R: Read, A: Allocator + Copy>(
     ensures count { failures_of source.old ≤ failures_of source.new }
     ensures read { IfErr result (λ f. f.cause ≡ BookCause.Read
         → Rose (failures_of source.old) (failures_of source.new)) }
+    // A failed read is told where a call of the reader answered one, and nowhere else.
+    ensures answered { RoseWhere (IsErrAnd result (λ f. f.cause ≡ BookCause.Read))
+        (answered_of source.old) (answered_of source.new) }
 {
     let mut reader = BookReader::new(alloc);
     reader.feed(head)?;

@@ -1,5 +1,5 @@
 //! A book, while its text is read.
-ghost use Rattle.std.specs.Prelude.{◌≡◌, ◌≢◌, ◌+◌, ◌≤◌, ◌++◌, ◌∷◌, ℕ, [], List, length, OnOk, MatchResult, IfErr};
+ghost use Rattle.std.specs.Prelude.{◌≡◌, ◌≢◌, ◌+◌, ◌≤◌, ◌++◌, ◌∷◌, ℕ, [], List, length, IsErrAnd, OnOk, MatchResult, IfErr};
 ghost use Rattle.aprs_booktext.specs.FirstFault.{missing, ReadsSo};
 ghost use Rattle.aprs_booktext.specs.Lines.{Lacks};
 ghost use Rattle.aprs_booktext.specs.Text.{end_line};
@@ -69,6 +69,7 @@ impl<A: Allocator + Copy> BookReader<A> {
         requires { length self.book ≤ 1073741824 }
         ensures reads { (t : List ℕ) → Stands self t → ReadsSo result t ending }
         ensures cause { IfErr result (λ f. f.cause ≡ BookCause.Read → ending ≡ Ending.Read) }
+        ensures read { ending ≡ Ending.Read → IsErrAnd result (λ f. f.cause ≡ BookCause.Read) }
     {
         if may_end(self.stage, ending) {
             return Ok(self.book);

@@ -1,8 +1,8 @@
 //! A reader or a writer that counts its failed calls.
-ghost use Rattle.std.specs.Prelude.{◌≡◌, ◌≤◌, OnOk, OnErr};
+ghost use Rattle.std.specs.Prelude.{◌≡◌, ◌+◌, ◌*◌, ◌≤◌, length, OnOk, OnErr};
 ghost use Rattle.std.specs.Io.{ReadsAtMost};
 ghost use Rattle.std.specs.Io.KnownBytes.{Appends, ReadConsumes};
-ghost use Rattle.aprs_kiss.specs.Device.{device_of, failures_of, Rose, AppendsFront};
+ghost use Rattle.aprs_kiss.specs.Device.{device_of, failures_of, answered_of, Rose, RoseAtErr, AppendsFront};
 
 use std::io::{ErrorKind, Read, Write};
 
@@ -17,11 +17,13 @@ pub struct DeviceFault;
 #[derive(Clone, Copy, Debug, PartialEq, Eq)]
 pub struct WriteFault;
 
-/// A reader or a writer, and how many of its calls failed. The count stays at `u64::MAX`.
+/// A reader or a writer, how many of its calls failed, and how many calls of `read` and `send`
+/// answered a fault. Each count stays at `u64::MAX`.
 #[derive(Drop)]
 pub struct Counted<T> {
     device: T,
     failed: u64,
+    answered: u64,
 }
 
 impl<T> Counted<T> {
@@ -29,8 +31,13 @@ impl<T> Counted<T> {
     pub fn new(device: T) -> Self
         ensures device { device_of result ≡ device }
         ensures failures { failures_of result ≡ 0 }
+        ensures answered { answered_of result ≡ 0 }
     {
-        Counted { device, failed: 0 }
+        Counted {
+            device,
+            failed: 0,
+            answered: 0,
+        }
     }
 
     /// How many calls of the device failed, or `u64::MAX` where that many did or more. Takes no
@@ -39,6 +46,14 @@ impl<T> Counted<T> {
         ensures { result ≡ failures_of self.now }
     {
         self.failed
+    }
+
+    /// How many calls of `read` and `send` answered a fault, or `u64::MAX` where that many did or
+    /// more. Takes no memory.
+    pub fn answered(&self) -> u64
+        ensures { result ≡ answered_of self.now }
+    {
+        self.answered
     }
 
     /// Gives the device back. Takes no memory.
@@ -51,10 +66,22 @@ impl<T> Counted<T> {
     /// Counts a failed call.
     fn note_failure(&mut self)
         ensures device { self.new.device ≡ self.old.device }
+        ensures answered { self.new.answered ≡ self.old.answered }
         ensures count { self.old.failed ≤ self.new.failed }
         ensures rose { Rose self.old.failed self.new.failed }
+        ensures once { self.new.failed ≤ self.old.failed + 1 }
     {
         let count = &mut self.failed;
+        *count = count.saturating_add(1);
+    }
+
+    /// Counts a fault that is answered.
+    fn note_answer(&mut self)
+        ensures device { self.new.device ≡ self.old.device }
+        ensures failed { self.new.failed ≡ self.old.failed }
+        ensures rose { Rose self.old.answered self.new.answered }
+    {
+        let count = &mut self.answered;
         *count = count.saturating_add(1);
     }
 }
@@ -70,6 +97,10 @@ impl<R: Read> Counted<R> {
             (R.remaining (device_of self.new)) result buf.new }
         ensures count { failures_of self.old ≤ failures_of self.new }
         ensures fault { OnErr result (Rose (failures_of self.old) (failures_of self.new)) }
+        ensures answered { RoseAtErr result (answered_of self.old) (answered_of self.new) }
+        // At most so many tries failed.
+        ensures tried { OnOk result (failures_of self.new ≤ failures_of self.old + 999) }
+        ensures given_up { failures_of self.new ≤ failures_of self.old + 1000 }
     {
         let mut tries = 0;
         loop {
@@ -79,6 +110,7 @@ impl<R: Read> Counted<R> {
                     self.note_failure();
                     tries += 1;
                     if tries == MAX_TRIES || error.kind() != ErrorKind::Interrupted {
+                        self.note_answer();
                         return Err(DeviceFault);
                     }
                 }
@@ -97,6 +129,10 @@ pub fn send<W: Write>(w: &mut Counted<W>, bytes: &[u8]) -> Result<(), WriteFault
         (AppendsFront (W.contents (device_of w.old)) (W.contents (device_of w.new)) bytes.now) }
     ensures count { failures_of w.old ≤ failures_of w.new }
     ensures fault { OnErr result (Rose (failures_of w.old) (failures_of w.new)) }
+    ensures answered { RoseAtErr result (answered_of w.old) (answered_of w.new) }
+    // At most so many tries failed: 999 for each byte, and one more at a fault.
+    ensures tried { OnOk result (failures_of w.new ≤ failures_of w.old + 999 * length bytes.now) }
+    ensures given_up { failures_of w.new ≤ failures_of w.old + 999 * length bytes.now + 1 }
 {
     let mut rest = bytes;
     let mut tries = 0;
@@ -112,6 +148,7 @@ pub fn send<W: Write>(w: &mut Counted<W>, bytes: &[u8]) -> Result<(), WriteFault
             }
             _ => {
                 w.note_failure();
+                w.note_answer();
                 return Err(WriteFault);
             }
         }

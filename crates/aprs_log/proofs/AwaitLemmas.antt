@@ -1,6 +1,6 @@
 -- Lemmas on what a reader of a log may still answer.
 use Rattle.std.proofs.Common.{◌≡◌, ℕ, ◌+◌, ◌-◌, ◌<◌, ◌≤◌, List, [], ◌∷◌, ◌++◌, length, take, drop, Option, None, Some, Ok, Err, IfSome, inl, inr, refl, arith, sym, ap, ◌∙◌, append_assoc, append-nil, length-append, length-take, length-drop, take-append-drop, subst}
-use Rattle.std.specs.Io.KnownBytes.{Consumes, IsAtEnd}
+use Rattle.std.specs.Io.KnownBytes.{Consumes, IsAtEnd, Keeps}
 use Rattle.std.proofs.lemmas.Bool.{cases_lt}
 use Rattle.aprs_log.specs.Cut.{Cut, cut_at}
 use Rattle.aprs_log.specs.Fault.{log_cause_of}
@@ -21,13 +21,13 @@ use Rattle.aprs_log.proofs.AnswerLemmas.{answers_from-line, answers_from-tail, a
 
 -- ---- an input that is read to its end or to the limit
 
-record GetsWhole (left : ℕ) (input : List ℕ) : Type 0 where
-  text : List ℕ
-  ending : Ending
-  gets : Gets left input text ending
+pub record GetsWhole (left : ℕ) (input : List ℕ) (end : Option (List ℕ)) : Type 0 where
+  pub text : List ℕ
+  pub ending : Ending
+  pub gets : Gets left input end text ending
 
-gets_whole : (left : ℕ) (input : List ℕ) → GetsWhole left input
-gets_whole left input = elim (cases_lt left (length input)) [
+pub gets_whole : (left : ℕ) (input : List ℕ) (end : Option (List ℕ)) → GetsWhole left input end
+gets_whole left input end = elim (cases_lt left (length input)) [
   | inl lt ↦ record {
     text = take left input;
     ending = ending.TooLong;
@@ -45,21 +45,21 @@ gets_whole left input = elim (cases_lt left (length input)) [
 ]
 
 -- an answer that doesn't depend on the bytes to come
-always : (known : Option (List ℕ)) (left line : ℕ) (held : List ℕ) (a : Answers)
+always : (known end : Option (List ℕ)) (left line : ℕ) (held : List ℕ) (a : Answers)
     → ((text : List ℕ) (c : Ending) → a ≡ answers_from (line + 1) (held ++ text) c)
-    → AwaitsIn Reading known left line held a
-always None left line held a h = tt
-always (Some input) left line held a h = let g = gets_whole left input in
+    → AwaitsIn Reading known end left line held a
+always None end left line held a h = tt
+always (Some input) end left line held a h = let g = gets_whole left input end in
     record { text = g.text; ending = g.ending; gets = g.gets; is = h g.text g.ending }
 
 -- ---- a line
 
-pub awaits_line : (known : Option (List ℕ)) (left line : ℕ) (held : List ℕ) (cut : Cut) (x : Line)
+pub awaits_line : (known end : Option (List ℕ)) (left line : ℕ) (held : List ℕ) (cut : Cut) (x : Line)
     (a : Answers) → cut_at 10 held ≡ Some cut
-    → Ok x ≡ line_of cut.before → AwaitsIn Reading known left (line + 1) cut.after a
-    → AwaitsIn Reading known left line held (then_given x a)
-awaits_line None left line held cut x a e f w = tt
-awaits_line (Some input) left line held cut x a e f w = record {
+    → Ok x ≡ line_of cut.before → AwaitsIn Reading known end left (line + 1) cut.after a
+    → AwaitsIn Reading known end left line held (then_given x a)
+awaits_line None end left line held cut x a e f w = tt
+awaits_line (Some input) end left line held cut x a e f w = record {
   text = w.text;
   ending = w.ending;
   gets = w.gets;
@@ -69,28 +69,28 @@ awaits_line (Some input) left line held cut x a e f w = record {
       ∙ sym (answers_from-line (line + 1) held w.text w.ending cut e);
 }
 
-pub awaits_fault : (known : Option (List ℕ)) (left line : ℕ) (held : List ℕ) (cut : Cut)
+pub awaits_fault : (known end : Option (List ℕ)) (left line : ℕ) (held : List ℕ) (cut : Cut)
     (f : LineFault) → cut_at 10 held ≡ Some cut
     → Err f ≡ line_of cut.before
-    → AwaitsIn Reading known left line held (ended (Some (fault_after line (log_cause_of f))))
-awaits_fault known left line held cut f e g = always known left line held _
+    → AwaitsIn Reading known end left line held (ended (Some (fault_after line (log_cause_of f))))
+awaits_fault known end left line held cut f e g = always known end left line held _
     (λ text c. ap (λ r. then_answers (line + 1) r
     (answers_from (line + 1 + 1) (cut.after ++ text) c)) g
     ∙ sym (answers_from-line (line + 1) held text c cut e))
 
 -- ---- no whole line
 
-pub awaits_long : (known : Option (List ℕ)) (left line : ℕ) (held : List ℕ) → cut_at 10 held ≡ None
+pub awaits_long : (known end : Option (List ℕ)) (left line : ℕ) (held : List ℕ) → cut_at 10 held ≡ None
     → 8192 < length held
-    → AwaitsIn Reading known left line held (ended (Some (fault_after line cause.LongLine)))
-awaits_long known left line held none long = always known left line held _
+    → AwaitsIn Reading known end left line held (ended (Some (fault_after line cause.LongLine)))
+awaits_long known end left line held none long = always known end left line held _
     (λ text c. sym (answers_from-long (line + 1) held text c (no_lf held none) long))
 
-pub awaits_end : (known : Option (List ℕ)) (left line : ℕ) (held : List ℕ) (c : Ending)
-    → cut_at 10 held ≡ None → EndsHere c left known
-    → AwaitsIn Reading known left line held (ended (fault_at (line + 1) (tail_cause held c)))
-awaits_end None left line held c none ends = tt
-awaits_end (Some input) left line held c none ends = record {
+pub awaits_end : (known end : Option (List ℕ)) (left line : ℕ) (held : List ℕ) (c : Ending)
+    → cut_at 10 held ≡ None → EndsHere c left known end
+    → AwaitsIn Reading known end left line held (ended (fault_at (line + 1) (tail_cause held c)))
+awaits_end None end left line held c none ends = tt
+awaits_end (Some input) end left line held c none ends = record {
   text = [];
   ending = c;
   gets = ends;
@@ -100,51 +100,55 @@ awaits_end (Some input) left line held c none ends = record {
 
 -- ---- more bytes
 
-ends_more : (c : Ending) (left n : ℕ) (more text rest : List ℕ) → length more ≡ n → n ≤ left
-    → EndsSo c (left - n) text rest
-    → EndsSo c left (more ++ text) rest
-ends_more ending.End left n more text rest len le h = (h.0, simp length-append (omega (arith, h.1)))
-ends_more ending.Read left n more text rest len le h = simp length-append (omega (arith, h))
-ends_more ending.TooLong left n more text rest len le h =
+ends_more : (c : Ending) (left n : ℕ) (more text rest : List ℕ) (end : Option (List ℕ))
+    → length more ≡ n → n ≤ left → EndsSo c (left - n) text rest end
+    → EndsSo c left (more ++ text) rest end
+ends_more ending.End left n more text rest end len le h = (h.0, simp length-append (omega (arith, h.1)))
+ends_more ending.Read left n more text rest end len le h =
+    (h.0, simp length-append (omega (arith, h.1)))
+ends_more ending.TooLong left n more text rest end len le h =
     (h.0, simp length-append (omega (arith, h.1)))
 
-pub awaits_more : (known after : Option (List ℕ)) (left n line : ℕ) (held more : List ℕ)
+pub awaits_more : (known after end : Option (List ℕ)) (left n line : ℕ) (held more : List ℕ)
     (a : Answers) → Consumes known after more → length more ≡ n
-    → n ≤ left → AwaitsIn Reading after (left - n) line (held ++ more) a
-    → AwaitsIn Reading known left line held a
-awaits_more None after left n line held more a took len le w = tt
-awaits_more (Some input) None left n line held more a took len le w = absurd took
-awaits_more (Some input) (Some rest) left n line held more a took len le w = record {
+    → n ≤ left → AwaitsIn Reading after end (left - n) line (held ++ more) a
+    → AwaitsIn Reading known end left line held a
+awaits_more None after end left n line held more a took len le w = tt
+awaits_more (Some input) None end left n line held more a took len le w = absurd took
+awaits_more (Some input) (Some rest) end left n line held more a took len le w = record {
   text = more ++ w.text;
   ending = w.ending;
   gets = record {
     rest = w.gets.rest;
     whole = took ∙ ap (λ l. more ++ l) w.gets.whole ∙ sym (append_assoc more w.text w.gets.rest);
-    ends = ends_more w.ending left n more w.text w.gets.rest len le w.gets.ends;
+    ends = ends_more w.ending left n more w.text w.gets.rest end len le w.gets.ends;
   };
   is = w.is ∙ ap (λ t. answers_from (line + 1) t w.ending) (append_assoc held more w.text);
 }
 
 -- ---- how an input ends
 
-pub ends_at_end : (known after : Option (List ℕ)) (left : ℕ) (more : List ℕ)
+pub ends_at_end : (known after end : Option (List ℕ)) (left : ℕ) (more : List ℕ)
     → Consumes known after more → length more ≡ 0 → IsAtEnd after
-    → EndsHere ending.End left known
-ends_at_end None after left more took none end = tt
-ends_at_end (Some input) None left more took none end = absurd took
-ends_at_end (Some input) (Some rest) left [] took none end =
-    record { rest = []; whole = took ∙ end; ends = (refl, omega arith) }
-ends_at_end (Some input) (Some rest) left (x ∷ more) took none end = absurd (omega (arith, none))
+    → EndsHere ending.End left known end
+ends_at_end None after end left more took none at_end = tt
+ends_at_end (Some input) None end left more took none at_end = absurd took
+ends_at_end (Some input) (Some rest) end left [] took none at_end =
+    record { rest = []; whole = took ∙ at_end; ends = (refl, omega arith) }
+ends_at_end (Some input) (Some rest) end left (x ∷ more) took none at_end = absurd (omega (arith, none))
 
-pub ends_by_fault : (known : Option (List ℕ)) (left : ℕ) → EndsHere ending.Read left known
-ends_by_fault None left = tt
-ends_by_fault (Some input) left = record { rest = input; whole = refl; ends = omega arith }
+pub ends_by_fault : (known end : Option (List ℕ)) (left : ℕ) → Keeps known end
+    → EndsHere ending.Read left known end
+ends_by_fault None end left kept = tt
+ends_by_fault (Some input) None left kept = absurd kept
+ends_by_fault (Some input) (Some rest) left kept =
+    record { rest = input; whole = refl; ends = (ap Some kept, omega arith) }
 
-pub ends_past : (known after : Option (List ℕ)) (more : List ℕ) → Consumes known after more
-    → 0 < length more → EndsHere ending.TooLong 0 known
-ends_past None after more took some = tt
-ends_past (Some input) None more took some = absurd took
-ends_past (Some input) (Some rest) more took some = record {
+pub ends_past : (known after end : Option (List ℕ)) (more : List ℕ) → Consumes known after more
+    → 0 < length more → EndsHere ending.TooLong 0 known end
+ends_past None after end more took some = tt
+ends_past (Some input) None end more took some = absurd took
+ends_past (Some input) (Some rest) end more took some = record {
   rest = input;
   whole = refl;
   ends = (
@@ -156,64 +160,64 @@ ends_past (Some input) (Some rest) more took some = record {
 
 -- ---- from the first line on
 
-pub from_start : (known : Option (List ℕ)) (limit : ℕ) (head held : List ℕ) (a : Answers)
+pub from_start : (known end : Option (List ℕ)) (limit : ℕ) (head held : List ℕ) (a : Answers)
     → length head ≤ limit → held ≡ head
-    → AwaitsIn Reading known (limit - length head) 0 held a
-    → IfSome known (λ input. AreAnswersOf limit (head ++ input) a)
-from_start None limit head held a le e w = tt
-from_start (Some input) limit head held a le e w = record {
+    → AwaitsIn Reading known end (limit - length head) 0 held a
+    → IfSome known (λ input. AreAnswersOf limit (head ++ input) end a)
+from_start None end limit head held a le e w = tt
+from_start (Some input) end limit head held a le e w = record {
   text = head ++ w.text;
   ending = w.ending;
   gets = record {
     rest = w.gets.rest;
     whole = ap (λ l. head ++ l) w.gets.whole ∙ sym (append_assoc head w.text w.gets.rest);
-    ends = ends_more w.ending limit (length head) head w.text w.gets.rest refl le w.gets.ends;
+    ends = ends_more w.ending limit (length head) head w.text w.gets.rest end refl le w.gets.ends;
   };
   is = w.is ∙ ap (λ l. answers_from 1 (l ++ w.text) w.ending) e;
 }
 
 -- ---- the steps of a reader that goes on, by what the code knows of them
 
-going_on : (s : State) (known : Option (List ℕ)) (left line : ℕ) (held : List ℕ) (a : Answers)
+going_on : (s : State) (known end : Option (List ℕ)) (left line : ℕ) (held : List ℕ) (a : Answers)
     → s ≡ Reading
-    → AwaitsIn Reading known left line held a → AwaitsIn s known left line held a
-going_on s known left line held a going w = subst (λ s. AwaitsIn s known left line held a)
+    → AwaitsIn Reading known end left line held a → AwaitsIn s known end left line held a
+going_on s known end left line held a going w = subst (λ s. AwaitsIn s known end left line held a)
     (sym going) w
 
-went_on : (s : State) (known : Option (List ℕ)) (left line : ℕ) (held : List ℕ) (a : Answers)
+went_on : (s : State) (known end : Option (List ℕ)) (left line : ℕ) (held : List ℕ) (a : Answers)
     → s ≡ Reading
-    → AwaitsIn s known left line held a → AwaitsIn Reading known left line held a
-went_on s known left line held a going w = subst (λ s. AwaitsIn s known left line held a) going w
+    → AwaitsIn s known end left line held a → AwaitsIn Reading known end left line held a
+went_on s known end left line held a going w = subst (λ s. AwaitsIn s known end left line held a) going w
 
-pub step_line : (s : State) (known : Option (List ℕ)) (left line : ℕ) (held now : List ℕ)
+pub step_line : (s : State) (known end : Option (List ℕ)) (left line : ℕ) (held now : List ℕ)
     (x : Line) (cut : Cut) (a : Answers) → s ≡ Reading
     → cut_at 10 held ≡ Some cut → Ok x ≡ line_of cut.before → now ≡ cut.after
-    → AwaitsIn s known left (line + 1) now a → AwaitsIn s known left line held (then_given x a)
-step_line s known left line held now x cut a going e f rest w =
-    going_on s known left line held (then_given x a) going
-    (awaits_line known left line held cut x a e f
-    (subst (λ t. AwaitsIn Reading known left (line + 1) t a) rest
-    (went_on s known left (line + 1) now a going w)))
+    → AwaitsIn s known end left (line + 1) now a → AwaitsIn s known end left line held (then_given x a)
+step_line s known end left line held now x cut a going e f rest w =
+    going_on s known end left line held (then_given x a) going
+    (awaits_line known end left line held cut x a e f
+    (subst (λ t. AwaitsIn Reading known end left (line + 1) t a) rest
+    (went_on s known end left (line + 1) now a going w)))
 
-pub step_fault : (s : State) (known : Option (List ℕ)) (left line : ℕ) (held : List ℕ)
+pub step_fault : (s : State) (known end : Option (List ℕ)) (left line : ℕ) (held : List ℕ)
     (f : LineFault) (cut : Cut) (c : LogCause) (a : Answers) → s ≡ Reading
     → cut_at 10 held ≡ Some cut → Err f ≡ line_of cut.before → c ≡ log_cause_of f
     → a ≡ ended (Some (fault_after line c))
-    → AwaitsIn s known left line held a
-step_fault s known left line held f cut c a going e g same is =
-    going_on s known left line held a going
-    (subst (λ a. AwaitsIn Reading known left line held a)
+    → AwaitsIn s known end left line held a
+step_fault s known end left line held f cut c a going e g same is =
+    going_on s known end left line held a going
+    (subst (λ a. AwaitsIn Reading known end left line held a)
     (sym (is ∙ ap (λ c. ended (Some (fault_after line c))) same))
-    (awaits_fault known left line held cut f e g))
+    (awaits_fault known end left line held cut f e g))
 
-pub step_long : (s : State) (known : Option (List ℕ)) (left line : ℕ) (held slice : List ℕ)
+pub step_long : (s : State) (known end : Option (List ℕ)) (left line : ℕ) (held slice : List ℕ)
     (a : Answers) → s ≡ Reading
     → cut_at 10 held ≡ None → slice ≡ held → 8192 < length slice
-    → a ≡ ended (Some (fault_after line cause.LongLine)) → AwaitsIn s known left line held a
-step_long s known left line held slice a going none same long is =
-    going_on s known left line held a going
-    (subst (λ a. AwaitsIn Reading known left line held a) (sym is)
-    (awaits_long known left line held none (omega (arith, long, ap length same))))
+    → a ≡ ended (Some (fault_after line cause.LongLine)) → AwaitsIn s known end left line held a
+step_long s known end left line held slice a going none same long is =
+    going_on s known end left line held a going
+    (subst (λ a. AwaitsIn Reading known end left line held a) (sym is)
+    (awaits_long known end left line held none (omega (arith, long, ap length same))))
 
 -- more bytes came
 pub record CameMore (known after : Option (List ℕ)) (held now : List ℕ) (n : ℕ) : Type 0 where
@@ -222,37 +226,39 @@ pub record CameMore (known after : Option (List ℕ)) (held now : List ℕ) (n :
   pub grown : now ≡ held ++ more
   pub took : Consumes known after more
 
-pub step_more : (s : State) (known after : Option (List ℕ)) (left n line : ℕ) (held now : List ℕ)
+pub step_more : (s : State) (known after end : Option (List ℕ)) (left n line : ℕ) (held now : List ℕ)
     (a : Answers) → s ≡ Reading → n ≤ left
-    → CameMore known after held now n → AwaitsIn s after (left - n) line now a
-    → AwaitsIn s known left line held a
-step_more s known after left n line held now a going le came w =
-    going_on s known left line held a going
-    (awaits_more known after left n line held came.more a came.took came.count le
-    (subst (λ t. AwaitsIn Reading after (left - n) line t a) came.grown
-    (went_on s after (left - n) line now a going w)))
+    → CameMore known after held now n → AwaitsIn s after end (left - n) line now a
+    → AwaitsIn s known end left line held a
+step_more s known after end left n line held now a going le came w =
+    going_on s known end left line held a going
+    (awaits_more known after end left n line held came.more a came.took came.count le
+    (subst (λ t. AwaitsIn Reading after end (left - n) line t a) came.grown
+    (went_on s after end (left - n) line now a going w)))
 
 -- the input ends
-pub step_end : (s next : State) (known after : Option (List ℕ)) (left line : ℕ)
+stopped_at : (next : State) (o : Option LogCause) (known end : Option (List ℕ)) (left line : ℕ)
+    (held : List ℕ) (a : Answers) → next ≡ state_after o
+    → AwaitsIn next known end left line held a
+    → (end ≡ known) × (a ≡ ended (fault_at (line + 1) o))
+stopped_at next None known end left line held a to w =
+    subst (λ s. AwaitsIn s known end left line held a) to w
+stopped_at next (Some c) known end left line held a to w =
+    subst (λ s. AwaitsIn s known end left line held a) to w
+
+pub step_end : (s next : State) (known after end : Option (List ℕ)) (left line : ℕ)
     (held now slice : List ℕ) (e : Ending) (o : Option LogCause) (a : Answers) → s ≡ Reading
-    → cut_at 10 held ≡ None → now ≡ held → slice ≡ now → EndsHere e left known
+    → cut_at 10 held ≡ None → now ≡ held → slice ≡ now → EndsHere e left known after
     → o ≡ tail_cause slice e → next ≡ state_after o
-    → AwaitsIn next after left line now a → AwaitsIn s known left line held a
-step_end s next known after left line held now slice e None a going none same is ends o to w =
-    let stopped : a ≡ ended None = subst (λ s. AwaitsIn s after left line now a) to w in
-    going_on s known left line held a going
-    (subst (λ a. AwaitsIn Reading known left line held a)
-    (sym (stopped ∙ ap (λ o. ended (fault_at (line + 1) o)) (o
-    ∙ ap (λ t. tail_cause t e) (is ∙ same))))
-    (awaits_end known left line held e none ends))
-step_end s next known after left line held now slice e (Some c) a going none same is ends o to w =
-    let stopped : a ≡ ended (Some (fault_after line c))
-    = subst (λ s. AwaitsIn s after left line now a) to w in
-    going_on s known left line held a going
-    (subst (λ a. AwaitsIn Reading known left line held a)
-    (sym (stopped ∙ ap (λ o. ended (fault_at (line + 1) o)) (o
-    ∙ ap (λ t. tail_cause t e) (is ∙ same))))
-    (awaits_end known left line held e none ends))
+    → AwaitsIn next after end left line now a → AwaitsIn s known end left line held a
+step_end s next known after end left line held now slice e o a going none same is ends why to w =
+    let stopped = stopped_at next o after end left line now a to w in
+    let cause = why ∙ ap (λ t. tail_cause t e) (is ∙ same) in
+    going_on s known end left line held a going
+    (subst (λ a. AwaitsIn Reading known end left line held a)
+    (sym (stopped.1 ∙ ap (λ o. ended (fault_at (line + 1) o)) cause))
+    (awaits_end known end left line held e none
+    (subst (λ end. EndsHere e left known end) (sym stopped.0) ends)))
 
 -- no line's fault is a want of memory
 pub faults_keep : (f : LineFault) (c : LogCause) → c ≡ log_cause_of f → KeepsMemory (Failed c)
@@ -264,13 +270,13 @@ faults_keep fault.Hex c e k = cc
 
 -- some answers may always come
 pub something : (s : State) (known : Option (List ℕ)) (left line : ℕ) (held : List ℕ)
-    → (a : Answers) × AwaitsIn s known left line held a
+    → (a : Answers) × AwaitsIn s known known left line held a
 something Reading None left line held = (ended None, tt)
 something Reading (Some input) left line held =
-    let g = gets_whole left input in (
+    let g = gets_whole left input (Some input) in (
       answers_from (line + 1) (held ++ g.text) g.ending,
       record
           { text = g.text; ending = g.ending; gets = g.gets; is = refl },
     )
-something Ended known left line held = (ended None, refl)
-something (Failed c) known left line held = (ended (Some (fault_after line c)), refl)
+something Ended known left line held = (ended None, (refl, refl))
+something (Failed c) known left line held = (ended (Some (fault_after line c)), (refl, refl))

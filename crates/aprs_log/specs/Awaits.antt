@@ -8,22 +8,27 @@ use Rattle.aprs_log.specs.declared.ending.Ending.{Ending}
 use Rattle.aprs_log.specs.declared.ending.State.{State}
 use Rattle.aprs_log.specs.declared.ending.State.TheVariants.{Reading, Ended, Failed}
 
--- after `line` lines, `left` bytes may be read yet of the input, and `held` were read before them
-pub record Awaited (left line : ℕ) (held input : List ℕ) (a : Answers) : Type 0 where
+-- after `line` lines, `left` bytes may be read yet of the input, and `held` were read before them;
+-- at the last the device has `after`
+pub record Awaited (left line : ℕ) (held input : List ℕ) (after : Option (List ℕ)) (a : Answers)
+    : Type 0 where
   pub text : List ℕ
   pub ending : Ending
-  pub gets : Gets left input text ending
+  pub gets : Gets left input after text ending
   pub is : a ≡ answers_from (line + 1) (held ++ text) ending
 
 -- the fault with this cause in the line that follows
 abbrev pub fault_after : ℕ → LogCause → LogFault
 fault_after line c = record { line = line + 1; cause = c }
 
--- these answers may come, where the input's bytes are known
-abbrev pub AwaitsIn : State → Option (List ℕ) → ℕ → ℕ → List ℕ → Answers → Type 0
-AwaitsIn Reading known left line held a = IfSome known (λ input. Awaited left line held input a)
-AwaitsIn Ended known left line held a = a ≡ ended None
-AwaitsIn (Failed c) known left line held a = a ≡ ended (Some (fault_after line c))
+-- these answers may come, where the input's bytes are known and the device has `after` at the last;
+-- a reader that has stopped reads no more
+abbrev pub AwaitsIn : State → Option (List ℕ) → Option (List ℕ) → ℕ → ℕ → List ℕ → Answers → Type 0
+AwaitsIn Reading known after left line held a =
+    IfSome known (λ input. Awaited left line held input after a)
+AwaitsIn Ended known after left line held a = (after ≡ known) × (a ≡ ended None)
+AwaitsIn (Failed c) known after left line held a =
+    (after ≡ known) × (a ≡ ended (Some (fault_after line c)))
 
 -- the fault or the end that is answered from now on, if the reader has stopped
 abbrev pub stop_in : State → ℕ → Option (Option LogFault)
@@ -42,8 +47,8 @@ work_in Ended left = 0
 work_in (Failed c) left = 0
 
 -- nothing of the input is got, since it ends so
-abbrev pub EndsHere : Ending → ℕ → Option (List ℕ) → Type 0
-EndsHere e left known = IfSome known (λ input. Gets left input [] e)
+abbrev pub EndsHere : Ending → ℕ → Option (List ℕ) → Option (List ℕ) → Type 0
+EndsHere e left known after = IfSome known (λ input. Gets left input after [] e)
 
 -- it hasn't failed for want of memory
 abbrev pub KeepsMemory : State → Type 0

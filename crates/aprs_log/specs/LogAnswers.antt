@@ -65,17 +65,19 @@ log_answers t c = answers_from 1 t c
 
 -- ---- what is got of an input
 
--- of `rest`, which is left of the input: nothing is left at its end, and something past the limit
-abbrev pub EndsSo : Ending → ℕ → List ℕ → List ℕ → Type 0
-EndsSo ending.End limit t rest = (rest ≡ []) × (length t ≤ limit)
-EndsSo ending.Read limit t rest = length t ≤ limit
-EndsSo ending.TooLong limit t rest = (0 < length rest) × (length t ≡ limit)
+-- of `rest`, which is left of the input: nothing is left at its end, something past the limit, and
+-- where a read failed just what the device still has
+abbrev pub EndsSo : Ending → ℕ → List ℕ → List ℕ → Option (List ℕ) → Type 0
+EndsSo ending.End limit t rest after = (rest ≡ []) × (length t ≤ limit)
+EndsSo ending.Read limit t rest after = (after ≡ Some rest) × (length t ≤ limit)
+EndsSo ending.TooLong limit t rest after = (0 < length rest) × (length t ≡ limit)
 
--- of the input, at most `limit` bytes are got, and `c` comes after them
-pub record Gets (limit : ℕ) (input t : List ℕ) (c : Ending) : Type 0 where
+-- of the input, at most `limit` bytes are got, and `c` comes after them; the device then has `after`
+pub record Gets (limit : ℕ) (input : List ℕ) (after : Option (List ℕ)) (t : List ℕ) (c : Ending)
+    : Type 0 where
   pub rest : List ℕ
   pub whole : input ≡ t ++ rest
-  pub ends : EndsSo c limit t rest
+  pub ends : EndsSo c limit t rest after
 
 -- ---- the receptions among the answers
 

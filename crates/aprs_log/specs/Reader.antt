@@ -1,11 +1,12 @@
 -- What contracts see of a reader of a log.
-use Rattle.std.specs.Prelude.{◌≡◌, ℕ, ◌+◌, Bool, true, false, List, Option, None, Some, Result, Ok, Err}
+use Rattle.std.specs.Prelude.{◌≡◌, ℕ, ◌+◌, Bool, true, false, List, Option, None, Some, Result, Ok, Err, IsErrAnd}
 use Rattle.std.specs.Borrow.{GName}
 use Rattle.aprs_kiss.specs.declared.device.Counted.{Counted}
 use Rattle.aprs_log.specs.Awaits.{AwaitsIn, stop_in, work_in}
 use Rattle.aprs_log.specs.LogAnswers.{Answers, Gets, ended, log_answers, then_given}
 use Rattle.aprs_log.specs.Window.{items}
 use Rattle.aprs_log.specs.declared.line.Line.{Line}
+use Rattle.aprs_log.specs.declared.fault.LogCause.TheVariants as cause
 use Rattle.aprs_log.specs.declared.fault.LogFault.{LogFault}
 use Rattle.aprs_log.specs.declared.ending.Ending.{Ending}
 use Rattle.aprs_log.specs.declared.reader.LogReader.{LogReader}
@@ -29,15 +30,27 @@ current_of r = r.current
 abbrev pub stop_of : {R : Type 0} → LogReader R → Option (Option LogFault)
 stop_of r = stop_in r.state r.line
 
--- these answers may come from now on, where the bytes that are left of the input are known
-abbrev pub Awaits : {R : Type 0} → Option (List ℕ) → LogReader R → Answers → Type 0
-Awaits known r a = AwaitsIn r.state known r.left r.line (items r.window) a
+-- these answers may come from now on, where the bytes that are left of the input are known, and the
+-- device at the last has `end`
+abbrev pub Awaits : {R : Type 0} → Option (List ℕ) → Option (List ℕ) → LogReader R → Answers → Type 0
+Awaits known end r a = AwaitsIn r.state known end r.left r.line (items r.window) a
+
+-- what may come from now on, behind nothing more, may come where the reader was `old`
+abbrev pub Moves : {R : Type 0} → Option (List ℕ) → LogReader R → Option (List ℕ) → LogReader R
+    → Type 0
+Moves known old after new = (end : Option (List ℕ)) (a : Answers) → Awaits after end new a
+    → Awaits known end old a
+
+-- a failed read is told
+abbrev pub TellsRead : {A : Type 0} → Result A LogFault → Type 0
+TellsRead r = IsErrAnd r (λ f. f.cause ≡ cause.Read)
 
 -- the answers of a log of which at most `limit` bytes are got
-pub record AreAnswersOf (limit : ℕ) (input : List ℕ) (a : Answers) : Type 0 where
+pub record AreAnswersOf (limit : ℕ) (input : List ℕ) (after : Option (List ℕ)) (a : Answers)
+    : Type 0 where
   pub text : List ℕ
   pub ending : Ending
-  pub gets : Gets limit input text ending
+  pub gets : Gets limit input after text ending
   pub is : a ≡ log_answers text ending
 
 -- how much it may read yet, where it has not stopped
@@ -66,9 +79,10 @@ abbrev pub GivesNext : {R : Type 0} → Result (Option Line) LogFault → Option
     → Option (List ℕ) → LogReader R → Type 0
 GivesNext (Ok (Some x)) known old after new =
     (lines_of new ≡ lines_of old + 1) × (stop_of new ≡ None)
-    × ((a : Answers) → Awaits after new a → Awaits known old (then_given x a))
+    × ((end : Option (List ℕ)) (a : Answers) → Awaits after end new a
+    → Awaits known end old (then_given x a))
 GivesNext (Ok None) known old after new =
-    (lines_of new ≡ lines_of old) × (stop_of new ≡ Some None) × Awaits known old (ended None)
+    (lines_of new ≡ lines_of old) × (stop_of new ≡ Some None) × Awaits known after old (ended None)
 GivesNext (Err f) known old after new =
     (lines_of new ≡ lines_of old) × (stop_of new ≡ Some (Some f))
-    × Awaits known old (ended (Some f))
+    × Awaits known after old (ended (Some f))

@@ -29,13 +29,13 @@ pub struct LogReader<'a, R> {
 }
 
 impl<'a, R: Read> LogReader<'a, R> {
-    ghost use Rattle.std.specs.Prelude.{◌≡◌, ◌≢◌, ◌+◌, ◌≤◌, ◌<◌, ◌++◌, length, Option, None, Some, IfSome, IfErr, OnErr, false};
+    ghost use Rattle.std.specs.Prelude.{◌≡◌, ◌≢◌, ◌+◌, ◌≤◌, ◌<◌, ◌++◌, ℕ, List, length, Option, None, Some, IfSome, IfErr, OnErr, false};
     ghost use Rattle.std.specs.Bool.{OnTrue, OnFalse};
-    ghost use Rattle.aprs_kiss.specs.Device.{device_of, failures_of, Rose};
+    ghost use Rattle.aprs_kiss.specs.Device.{device_of, failures_of, answered_of, Rose, RoseWhere};
     ghost use Rattle.aprs_log.specs.Cut.{cut_at};
     ghost use Rattle.aprs_log.specs.LogAnswers.{Answers, then_given};
     ghost use Rattle.aprs_log.specs.Window.{items};
-    ghost use Rattle.aprs_log.specs.Reader.{answer_at, answer_told, Awaits, AreAnswersOf, GivesNext, current_of, lines_of, loan_of, source_of, stop_of, tells_line, work_of};
+    ghost use Rattle.aprs_log.specs.Reader.{answer_at, answer_told, Awaits, AreAnswersOf, GivesNext, current_of, lines_of, loan_of, source_of, stop_of, tells_line, work_of, Moves, TellsRead};
 
     /// A reader of the log that begins with `head` and goes on with the bytes of `source`, of which
     /// it takes at most `limit` bytes, the head among them. It reads nothing yet, refuses nothing
@@ -54,12 +54,13 @@ impl<'a, R: Read> LogReader<'a, R> {
         ensures first { lines_of result ≡ 0 }
         ensures going { stop_of result ≡ None }
         // What may come are the answers of the whole log.
-        ensures whole { (a : Answers) → Awaits (R.remaining (device_of (source_of result))) result a
+        ensures whole { (end : Option (List ℕ)) (a : Answers)
+            → Awaits (R.remaining (device_of (source_of result))) end result a
             → IfSome (R.remaining (device_of source.old))
-            (λ input. AreAnswersOf limit (head.now ++ input) a) }
+            (λ input. AreAnswersOf limit (head.now ++ input) end a) }
         // Some answers may always come.
-        ensures awaits { (a : Answers)
-            × Awaits (R.remaining (device_of (source_of result))) result a }
+        ensures awaits { (a : Answers) × Awaits (R.remaining (device_of (source_of result)))
+            (R.remaining (device_of (source_of result))) result a }
     {
         LogReader {
             source,
@@ -101,10 +102,13 @@ impl<'a, R: Read> LogReader<'a, R> {
             → (stop_of self.new ≡ Some stop) × (source_of self.new ≡ source_of self.old) }
         ensures number { IfErr result (λ f. f.line ≡ lines_of self.new + 1) }
         // Some answers may always come.
-        ensures awaits { (a : Answers)
-            × Awaits (R.remaining (device_of (source_of self.new))) self.new a }
+        ensures awaits { (a : Answers) × Awaits (R.remaining (device_of (source_of self.new)))
+            (R.remaining (device_of (source_of self.new))) self.new a }
         ensures read { IfErr result (λ f. f.cause ≡ LogCause.Read → stop_of self.old ≡ None
             → Rose (failures_of (source_of self.old)) (failures_of (source_of self.new))) }
+        // A failed read is told where a call of the reader answered one, and nowhere else.
+        ensures answered { stop_of self.old ≡ None → RoseWhere (TellsRead result)
+            (answered_of (source_of self.old)) (answered_of (source_of self.new)) }
         ensures memory { IfErr result (λ f. f.cause ≢ LogCause.Memory) }
     {
         match self.advance() {
@@ -131,10 +135,13 @@ impl<'a, R: Read> LogReader<'a, R> {
             → (stop_of self.new ≡ Some stop) × (source_of self.new ≡ source_of self.old) }
         ensures number { IfErr result (λ f. f.line ≡ lines_of self.new + 1) }
         // Some answers may always come.
-        ensures awaits { (a : Answers)
-            × Awaits (R.remaining (device_of (source_of self.new))) self.new a }
+        ensures awaits { (a : Answers) × Awaits (R.remaining (device_of (source_of self.new)))
+            (R.remaining (device_of (source_of self.new))) self.new a }
         ensures read { IfErr result (λ f. f.cause ≡ LogCause.Read → stop_of self.old ≡ None
             → Rose (failures_of (source_of self.old)) (failures_of (source_of self.new))) }
+        // A failed read is told where a call of the reader answered one, and nowhere else.
+        ensures answered { stop_of self.old ≡ None → RoseWhere (TellsRead result)
+            (answered_of (source_of self.old)) (answered_of (source_of self.new)) }
         ensures memory { IfErr result (λ f. f.cause ≢ LogCause.Memory) }
     {
         loop {
@@ -172,17 +179,20 @@ impl<'a, R: Read> LogReader<'a, R> {
         ensures same_reference { loan_of self.new ≡ loan_of self.old }
         ensures count { failures_of (source_of self.old) ≤ failures_of (source_of self.new) }
         ensures given { OnTrue result ((lines_of self.new ≡ lines_of self.old + 1)
-            × ((a : Answers) → Awaits (R.remaining (device_of (source_of self.new))) self.new a
-            → Awaits (R.remaining (device_of (source_of self.old))) self.old
+            × ((end : Option (List ℕ)) (a : Answers)
+            → Awaits (R.remaining (device_of (source_of self.new))) end self.new a
+            → Awaits (R.remaining (device_of (source_of self.old))) end self.old
             (then_given (current_of self.new) a))) }
         ensures none { OnFalse result ((lines_of self.new ≡ lines_of self.old)
-            × (current_of self.new ≡ current_of self.old) × ((a : Answers)
-            → Awaits (R.remaining (device_of (source_of self.new))) self.new a
-            → Awaits (R.remaining (device_of (source_of self.old))) self.old a)) }
+            × (current_of self.new ≡ current_of self.old)
+            × Moves (R.remaining (device_of (source_of self.old))) self.old
+            (R.remaining (device_of (source_of self.new))) self.new) }
         ensures going { OnTrue result (stop_of self.new ≡ None) }
         ensures less { OnFalse result (work_of self.new < work_of self.old) }
         ensures read { OnFalse result (self.new.state ≡ State.Failed LogCause.Read
             → Rose (failures_of (source_of self.old)) (failures_of (source_of self.new))) }
+        ensures answered { RoseWhere (self.new.state ≡ State.Failed LogCause.Read)
+            (answered_of (source_of self.old)) (answered_of (source_of self.new)) }
     {
         match take_line(&mut self.window, &mut self.scratch, &mut self.current) {
             Some(Ok(())) => {
@@ -208,12 +218,13 @@ impl<'a, R: Read> LogReader<'a, R> {
         ensures count { failures_of (source_of self.old) ≤ failures_of (source_of self.new) }
         ensures lines { lines_of self.new ≡ lines_of self.old }
         ensures current { current_of self.new ≡ current_of self.old }
-        ensures moves { (a : Answers)
-            → Awaits (R.remaining (device_of (source_of self.new))) self.new a
-            → Awaits (R.remaining (device_of (source_of self.old))) self.old a }
+        ensures moves { Moves (R.remaining (device_of (source_of self.old))) self.old
+            (R.remaining (device_of (source_of self.new))) self.new }
         ensures less { work_of self.new < work_of self.old }
         ensures read { self.new.state ≡ State.Failed LogCause.Read
             → Rose (failures_of (source_of self.old)) (failures_of (source_of self.new)) }
+        ensures answered { RoseWhere (self.new.state ≡ State.Failed LogCause.Read)
+            (answered_of (source_of self.old)) (answered_of (source_of self.new)) }
     {
         if self.window.as_slice().len() > MAX_LINE {
             self.state = State::Failed(LogCause::LongLine);

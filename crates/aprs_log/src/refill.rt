@@ -1,7 +1,7 @@
 //! Lines out of a window, and bytes into it.
-ghost use Rattle.std.specs.Prelude.{◌≡◌, ◌+◌, ◌<◌, ◌≤◌, ℕ, List, ◌++◌, length, None, Some, IfOk, IfErr, IfNone, IfSome, OnErr};
+ghost use Rattle.std.specs.Prelude.{◌≡◌, ◌+◌, ◌<◌, ◌≤◌, ℕ, List, ◌++◌, length, None, Some, IsErrAnd, IfOk, IfErr, IfNone, IfSome, OnErr};
 ghost use Rattle.std.specs.Io.KnownBytes.{Consumes};
-ghost use Rattle.aprs_kiss.specs.Device.{device_of, failures_of, Rose};
+ghost use Rattle.aprs_kiss.specs.Device.{device_of, failures_of, answered_of, Rose, RoseWhere};
 ghost use Rattle.aprs_log.specs.Awaits.{EndsHere};
 ghost use Rattle.aprs_log.specs.Cut.{Cut, cut_at};
 ghost use Rattle.aprs_log.specs.Line.{line_of};
@@ -53,10 +53,13 @@ pub fn read_more<R: Read>(
         × (items window.new ≡ items window.old ++ more)
         × Consumes (R.remaining (device_of source.old)) (R.remaining (device_of source.new)) more) }
     ensures end { IfErr result (λ e. (items window.new ≡ items window.old)
-        × EndsHere e left (R.remaining (device_of source.old))) }
+        × EndsHere e left (R.remaining (device_of source.old))
+        (R.remaining (device_of source.new))) }
     ensures count { failures_of source.old ≤ failures_of source.new }
     ensures read { IfErr result (λ e. e ≡ Ending.Read
         → Rose (failures_of source.old) (failures_of source.new)) }
+    ensures answered { RoseWhere (IsErrAnd result (λ e. e ≡ Ending.Read)) (answered_of source.old)
+        (answered_of source.new) }
 {
     if left == 0 {
         return Err(ending_at_limit(source));
@@ -71,9 +74,12 @@ pub fn read_more<R: Read>(
 
 /// How an input ends of which as many bytes were got as may be: whether a further byte exists.
 fn ending_at_limit<R: Read>(source: &mut Counted<R>) -> Ending
-    ensures end { EndsHere result 0 (R.remaining (device_of source.old)) }
+    ensures end { EndsHere result 0 (R.remaining (device_of source.old))
+        (R.remaining (device_of source.new)) }
     ensures count { failures_of source.old ≤ failures_of source.new }
     ensures read { result ≡ Ending.Read → Rose (failures_of source.old) (failures_of source.new) }
+    ensures answered { RoseWhere (result ≡ Ending.Read) (answered_of source.old)
+        (answered_of source.new) }
 {
     let mut one = [0];
     match source.read(&mut one) {

@@ -19,7 +19,7 @@ pub struct Window {
 impl Window {
     ghost use Rattle.std.specs.Prelude.{◌≡◌, ◌+◌, ◌<◌, ◌≤◌, ℕ, List, ◌++◌, length, drop, IfOk, OnErr};
     ghost use Rattle.std.specs.Io.KnownBytes.{Consumes, IsAtEnd, Keeps};
-    ghost use Rattle.aprs_kiss.specs.Device.{device_of, failures_of, Rose};
+    ghost use Rattle.aprs_kiss.specs.Device.{device_of, failures_of, answered_of, Rose, RoseAtErr};
     ghost use Rattle.aprs_log.specs.Window.{items, room};
 
     /// A window that holds a few bytes.
@@ -80,6 +80,7 @@ impl Window {
             × Keeps (R.remaining (device_of source.old)) (R.remaining (device_of source.new))) }
         ensures count { failures_of source.old ≤ failures_of source.new }
         ensures fault { OnErr result (Rose (failures_of source.old) (failures_of source.new)) }
+        ensures answered { RoseAtErr result (answered_of source.old) (answered_of source.new) }
     {
         let end = self.end;
         let stop = end + most.min(SIZE - end);

@@ -136,16 +136,16 @@ module _ (text : Judgement → List ℕ) where
 
 -- of an input that is left so, these bytes were got, and no further byte is spoken of
 gets_front : (first now : Option (List ℕ)) (t : List ℕ) (limit : ℕ) → Consumes first now t → length t ≤ limit
-    → IfSome first (λ input. Gets limit input t ending.Read)
+    → IfSome first (λ input. Gets limit input now t ending.Read)
 gets_front None now t limit p h = tt
 gets_front (Some x) None t limit p h = absurd p
-gets_front (Some x) (Some y) t limit p h = record { rest = y; whole = p; ends = h }
+gets_front (Some x) (Some y) t limit p h = record { rest = y; whole = p; ends = (refl, h) }
 
 -- the output was refused while a chunk was written
 pub HasGot-refused : (r : List ℕ) (m limit left : ℕ) (reader : KissReader) (first now then_ old mid new : Option (List ℕ)) (chunk : List ℕ)
     → HasGot (capture_text r m) limit left reader first now old mid → Consumes now then_ chunk → length chunk ≤ left
     → ((e : List ℕ) → StandsAfter reader e → AppendsFront mid new (text_of (capture_text r m) (e ++ chunk)))
-    → RunsOver (stream_text r m) stream_fault limit first (Err Write) old new
+    → RunsOver (stream_text r m) stream_fault limit first then_ (Err Write) old new
 HasGot-refused r m limit left reader first now then_ old mid new chunk h consumed less front =
     let text = capture_text r m in
     let bytes = h.bytes ++ chunk in
@@ -155,7 +155,7 @@ HasGot-refused r m limit left reader first now then_ old mid new chunk h consume
     (AppendsFront-then old mid new (text_of text h.bytes) (text_of text (rest_of h.bytes ++ chunk)) h.sent (front (rest_of h.bytes) h.stands)) in
     runs first bytes got out
   where
-    runs : (first : Option (List ℕ)) (bytes : List ℕ) → IfSome first (λ input. Gets limit input bytes ending.Read) → AppendsFront old new (text_of (capture_text r m) bytes)
-        → RunsOver (stream_text r m) stream_fault limit first (Err Write) old new
+    runs : (first : Option (List ℕ)) (bytes : List ℕ) → IfSome first (λ input. Gets limit input then_ bytes ending.Read) → AppendsFront old new (text_of (capture_text r m) bytes)
+        → RunsOver (stream_text r m) stream_fault limit first then_ (Err Write) old new
     runs None bytes g out = tt
     runs (Some x) bytes g out = (bytes, ending.Read, g, out)

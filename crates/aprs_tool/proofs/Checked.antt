@@ -115,11 +115,11 @@ module _ (first now after : Answers → Type 0) (a b : Option (List ℕ)) (heard
       }
 
   -- what is told of such a line is refused
-  pub Checked-refused : (limit : ℕ) (known c : Option (List ℕ)) (number : ℕ) (line : Line) (reason : Reason) → number ≡ count → line ≡ Passed reason
+  pub Checked-refused : (limit : ℕ) (known end c : Option (List ℕ)) (number : ℕ) (line : Line) (reason : Reason) → number ≡ count → line ≡ Passed reason
       → ((answers : Answers) → after answers → now (then_given line answers))
-      → (answers : Answers) → after answers → AppendsFront b c (passed_line number reason) → IsWhole first limit known
-      → RunsOver check_text lines_fault limit known (Err Write) a c
-  Checked-refused limit known c number line reason same is given answers may front whole =
+      → (answers : Answers) → after answers → AppendsFront b c (passed_line number reason) → IsWhole first limit known end
+      → RunsOver check_text lines_fault limit known end (Err Write) a c
+  Checked-refused limit known end c number line reason same is given answers may front whole =
       let next = given_as after now line (Passed reason) is given in
       let n = h.lines_are in
       let at : number ≡ 1 + length h.seen = omega arith in
@@ -132,11 +132,11 @@ module _ (first now after : Answers → Type 0) (a b : Option (List ℕ)) (heard
       ∙ ap (λ i. check_lines 1 h.seen ++ (passed_line i reason ++ check_lines (1 + length h.seen + 1) answers.given)) (sym at)
       ∙ sym (append_assoc (check_lines 1 h.seen) line (check_lines (1 + length h.seen + 1) answers.given)))
       ∙ append_assoc (check_lines 1 h.seen ++ line) (check_lines (1 + length h.seen + 1) answers.given) (totals answers.fault all.given) in
-      over check_of limit known (Err Write) a c all (whole all (h.has.complete (then_given (Passed reason) answers) (next answers may)))
+      over check_of limit known end (Err Write) a c all (whole all (h.has.complete (then_given (Passed reason) answers) (next answers may)))
       (subst (AppendsFront a c) (sym text) (AppendsFront-more a c (check_lines 1 h.seen ++ line) more
       (AppendsFront-then a b c (check_lines 1 h.seen) line h.out front)))
 
-module _ (first now : Answers → Type 0) (a b : Option (List ℕ)) (heard passed lines : ℕ) (h : Checked first now a b heard passed lines) (limit : ℕ) (known : Option (List ℕ)) (whole : IsWhole first limit known) where
+module _ (first now : Answers → Type 0) (a b : Option (List ℕ)) (heard passed lines : ℕ) (h : Checked first now a b heard passed lines) (limit : ℕ) (known end : Option (List ℕ)) (whole : IsWhole first limit known end) where
   seen_whole : (fault : Option LogFault) → check_of (prepended h.seen (ended fault)) ≡ check_lines 1 h.seen ++ totals fault h.seen
   seen_whole fault = ap (λ (lines : List Line). check_lines 1 lines ++ totals fault lines) (append-nil h.seen)
 
@@ -146,22 +146,22 @@ module _ (first now : Answers → Type 0) (a b : Option (List ℕ)) (heard passe
 
   -- the log ended
   pub Checked-ended : (c : Option (List ℕ)) → now (ended None) → Appends b c (totals_line heard passed)
-      → RunsOver check_text lines_fault limit known (Ok tt) a c
+      → RunsOver check_text lines_fault limit known end (Ok tt) a c
   Checked-ended c may out =
-      over check_of limit known (Ok tt) a c (prepended h.seen (ended None)) (whole _ (h.has.complete (ended None) may))
+      over check_of limit known end (Ok tt) a c (prepended h.seen (ended None)) (whole _ (h.has.complete (ended None) may))
       (refl, subst (Appends a c) (sym told) (Appends-trans a b c (check_lines 1 h.seen) (totals_line heard passed) h.out out))
 
   -- the totals are refused
   pub Checked-totals_refused : (c : Option (List ℕ)) → now (ended None) → AppendsFront b c (totals_line heard passed)
-      → RunsOver check_text lines_fault limit known (Err Write) a c
+      → RunsOver check_text lines_fault limit known end (Err Write) a c
   Checked-totals_refused c may front =
-      over check_of limit known (Err Write) a c (prepended h.seen (ended None)) (whole _ (h.has.complete (ended None) may))
+      over check_of limit known end (Err Write) a c (prepended h.seen (ended None)) (whole _ (h.has.complete (ended None) may))
       (subst (AppendsFront a c) (sym told) (AppendsFront-then a b c (check_lines 1 h.seen) (totals_line heard passed) h.out front))
 
   -- the log has a fault
   pub Checked-fault : (fault : LogFault) (told : RunFault) → told ≡ Input 0 (Log fault) → now (ended (Some fault))
-      → RunsOver check_text lines_fault limit known (Err told) a b
+      → RunsOver check_text lines_fault limit known end (Err told) a b
   Checked-fault fault answer same may =
-      subst (λ (t : RunFault). RunsOver check_text lines_fault limit known (Err t) a b) (sym same)
-      (over check_of limit known (Err (Input 0 (Log fault))) a b (prepended h.seen (ended (Some fault))) (whole _ (h.has.complete (ended (Some fault)) may))
+      subst (λ (t : RunFault). RunsOver check_text lines_fault limit known end (Err t) a b) (sym same)
+      (over check_of limit known end (Err (Input 0 (Log fault))) a b (prepended h.seen (ended (Some fault))) (whole _ (h.has.complete (ended (Some fault)) may))
       (refl, refl, subst (Appends a b) (sym (seen_whole (Some fault) ∙ append-nil (check_lines 1 h.seen))) h.out))

@@ -5,10 +5,10 @@ use Rattle.aprs_book.specs.Taking.{MergesInto}
 use Rattle.aprs_tool.specs.Inputs.{OfGot, ReadsInput, TakesInput}
 
 -- the book of an input is merged into another
-pub takes : (known : Option (List ℕ)) (limit : ℕ) (rows old new : List Row) → OfGot limit known (ReadsInput (Ok rows)) → MergesInto old rows new
-    → OfGot limit known (TakesInput (Ok tt) old new)
-takes None limit rows old new h merges = tt
-takes (Some input) limit rows old new h merges = record {
+pub takes : (known after : Option (List ℕ)) (limit : ℕ) (rows old new : List Row) → OfGot limit known after (ReadsInput (Ok rows)) → MergesInto old rows new
+    → OfGot limit known after (TakesInput (Ok tt) old new)
+takes None after limit rows old new h merges = tt
+takes (Some input) after limit rows old new h merges = record {
   text = h.text;
   ending = h.ending;
   gets = h.gets;

@@ -96,10 +96,10 @@ reads_log (Err e) t c is h = elim h [
 ]
 
 -- what was got of one is read as a log's text
-pub log_input : (known : Option (List ℕ)) (limit : ℕ) (head : List ℕ) (r : Result (List Row) InputFault) → length head ≡ 8 → (head ≡ mark → ⊥)
-    → IfSome known (λ input. HoldsOfGot limit (head ++ input) (ReadsLog r)) → IfSome known (λ input. HoldsOfGot limit (head ++ input) (ReadsInput r))
-log_input None limit head r size other h = tt
-log_input (Some input) limit head r size other h = record {
+pub log_input : (known after : Option (List ℕ)) (limit : ℕ) (head : List ℕ) (r : Result (List Row) InputFault) → length head ≡ 8 → (head ≡ mark → ⊥)
+    → IfSome known (λ input. HoldsOfGot limit (head ++ input) after (ReadsLog r)) → IfSome known (λ input. HoldsOfGot limit (head ++ input) after (ReadsInput r))
+log_input None after limit head r size other h = tt
+log_input (Some input) after limit head r size other h = record {
   text = h.text;
   ending = h.ending;
   gets = h.gets;
@@ -156,100 +156,24 @@ reads_book rows is fits = (
   (real rows, members_book (is_book_file (book_text rows)) rows is (book_begins rows), realised gap_seconds rows (omega arith) is.sound),
 )
 
--- ---- a fault within the first bytes
-
--- no LF is in the front of the mark
-front_lacks : (a more t rest : List ℕ) → Lacks 10 a → length t ≤ length a → a ++ more ≡ t ++ rest → Lacks 10 t
-front_lacks a more [] rest h short e = tt
-front_lacks [] more (y ∷ t) rest h short e = absurd (omega (arith, short))
-front_lacks (x ∷ a) more (y ∷ t) rest h short e =
-    let same : x ≡ y = cc in
-    let next : a ++ more ≡ t ++ rest = cc in
-    let less : length t ≤ length a = omega (arith, short) in
-    (rw same at h.0, front_lacks a more t rest h.1 less next)
-
-lacks_line : (a b : List ℕ) → Lacks 10 (a ++ 10 ∷ b) → ⊥
-lacks_line [] b h = absurd cc
-lacks_line (x ∷ a) b h = lacks_line a b h.1
-
--- in a text without an LF there is no line, so that a byte of the first is missing
-missing_byte : (t : List ℕ) (f : BookFault) → Lacks 10 t → FirstFault t ending.Read f → (f.line ≡ 1) × (f.cause ≡ cause.Read)
-missing_byte t f lacks first = go first.front refl
-  where
-    in_front : (l : List ℕ) (front : List (List ℕ)) → first.front ≡ l ∷ front → ⊥
-    in_front l front e = lacks_line l (text_of_lines front ++ first.rest) (subst (Lacks 10)
-        (first.whole ∙ ap (λ ls. text_of_lines ls ++ first.rest) e ∙ append_assoc (l ++ 10 ∷ []) (text_of_lines front) first.rest
-        ∙ append_assoc l (10 ∷ []) (text_of_lines front ++ first.rest)) lacks)
-
-    at_start : first.front ≡ [] → FaultAtStart first.rest ending.Read f.cause → f.cause ≡ cause.Read
-    at_start e h = elim h [
-      | inl cut ↦ cut.1
-      | inr w ↦ absurd (lacks_line w.line w.more (subst (Lacks 10) (first.whole ∙ ap (λ ls. text_of_lines ls ++ first.rest) e ∙ w.is) lacks))
-    ]
-
-    behind : FaultBehind first.front first.rest ending.Read f.cause → f.cause ≡ cause.Read
-    behind h = elim h [
-      | inl start ↦ at_start start.0 start.1
-      | inr b ↦ elim b.2 [
-        | inl lines ↦ absurd (in_front header (map row_line b.0) lines.0)
-        | inr end ↦ absurd (in_front header _ end.0)
-      ]
-    ]
-
-    go : (front : List (List ℕ)) → first.front ≡ front → (f.line ≡ 1) × (f.cause ≡ cause.Read)
-    go [] e = (first.line ∙ ap (λ (ls : List (List ℕ)). length ls + 1) e, behind first.fault)
-    go (l ∷ front) e = absurd (in_front l front e)
-
-mark_lacks : Lacks 10 mark
-mark_lacks = (refl, (refl, (refl, (refl, (refl, (refl, (refl, (refl, tt))))))))
-
--- so the fault is that of the mark too
-at_mark : (t : List ℕ) (f : BookFault) → Lacks 10 t → FirstFault t ending.Read f → FirstFault mark ending.Read f
-at_mark t f lacks first =
-    let missing = missing_byte t f lacks first in
-    record { front = []; rest = mark; whole = refl; line = missing.0; fault = inl (refl, inl (mark_lacks, missing.1)) }
-
 -- ---- what was got of a book file
 
-module _ (limit : ℕ) (input : List ℕ) (small : limit ≤ 1073741824) (whole : 8 ≤ limit) where
-  refused : (f : BookFault) (t : List ℕ) (c : Ending) → FirstFault t c f → Gets limit (mark ++ input) t c
-      → HoldsOfGot limit (mark ++ input) (ReadsInput (Err (Book f)))
-  refused f t c first gets = elim (cases_lt (length t) 8) [
-    | inl short ↦ within c first gets short
-    | inr long ↦ record {
-      text = t;
-      ending = c;
-      gets = gets;
-      holds = inr (fault_book (is_book_file t) f t c (is_book t (drop 8 t) (begins_so t gets.rest long gets.whole)) first);
-    }
-  ]
-    where
-      begins_so : (t rest : List ℕ) → 8 ≤ length t → mark ++ input ≡ t ++ rest → t ≡ mark ++ drop 8 t
-      begins_so t rest long e =
-          sym (take-append-drop 8 t) ∙ ap (λ l. l ++ drop 8 t) (sym (take-append-le 8 t rest long) ∙ ap (λ l. take 8 l) (sym e))
+module _ (limit : ℕ) (input : List ℕ) (after : Option (List ℕ)) (small : limit ≤ 1073741824) where
+  pub refused_book : (f : BookFault) → Reads limit mark input after (Err f) → HoldsOfGot limit (mark ++ input) after (ReadsInput (Err (Book f)))
+  refused_book f h = record {
+    text = mark ++ h.got;
+    ending = h.ending;
+    gets = h.gets;
+    holds = elim h.reads [
+      | inl memory ↦ inl memory
+      | inr first ↦ inr (fault_book (is_book_file (mark ++ h.got)) f (mark ++ h.got) h.ending (is_book (mark ++ h.got) h.got refl) first)
+    ];
+  }
 
-      within : (c : Ending) → FirstFault t c f → Gets limit (mark ++ input) t c → length t < 8
-          → HoldsOfGot limit (mark ++ input) (ReadsInput (Err (Book f)))
-      within ending.End first gets short = absurd (omega (arith, short, ap length gets.whole, ap length gets.ends.0, length-append mark input, length-append t gets.rest))
-      within ending.TooLong first gets short = absurd (omega (arith, short, gets.ends.1, whole))
-      within ending.Read first gets short = record {
-        text = mark;
-        ending = ending.Read;
-        gets = record { rest = input; whole = refl; ends = whole };
-        holds = inr (fault_book (is_book_file mark) f mark ending.Read refl
-            (at_mark t f (front_lacks mark input t gets.rest mark_lacks (omega (arith, short)) gets.whole) first));
-      }
-
-  pub refused_book : (f : BookFault) → Reads limit (mark ++ input) (Err f) → HoldsOfGot limit (mark ++ input) (ReadsInput (Err (Book f)))
-  refused_book f h = elim h.reads [
-    | inl memory ↦ record { text = h.text; ending = h.ending; gets = h.gets; holds = inl memory }
-    | inr first ↦ refused f h.text h.ending first h.gets
-  ]
-
-  pub read_book : (rows : List Row) → Reads limit (mark ++ input) (Ok rows) → HoldsOfGot limit (mark ++ input) (ReadsInput (Ok rows))
+  pub read_book : (rows : List Row) → Reads limit mark input after (Ok rows) → HoldsOfGot limit (mark ++ input) after (ReadsInput (Ok rows))
   read_book rows h =
-      let gets : Gets limit (mark ++ input) (book_text rows) ending.End =
-      subst (λ c. Gets limit (mark ++ input) (book_text rows) c) h.reads.2 (subst (λ t. Gets limit (mark ++ input) t h.ending) h.reads.0 h.gets) in
+      let gets : Gets limit (mark ++ input) after (book_text rows) ending.End =
+      subst (λ c. Gets limit (mark ++ input) after (book_text rows) c) h.reads.2 (subst (λ t. Gets limit (mark ++ input) after t h.ending) h.reads.0 h.gets) in
       record {
         text = book_text rows;
         ending = ending.End;
@@ -258,14 +182,14 @@ module _ (limit : ℕ) (input : List ℕ) (small : limit ≤ 1073741824) (whole 
       }
 
 -- where its bytes may not be known
-pub book_input : (known : Option (List ℕ)) (limit : ℕ) (head : List ℕ) (rows : List Row) → limit ≤ 1073741824 → 8 ≤ limit → head ≡ mark
-    → IfSome known (λ input. Reads limit (head ++ input) (Ok rows)) → IfSome known (λ input. HoldsOfGot limit (head ++ input) (ReadsInput (Ok rows)))
-book_input None limit head rows small whole is h = tt
-book_input (Some input) limit head rows small whole is h = subst (λ l. HoldsOfGot limit (l ++ input) (ReadsInput (Ok rows))) (sym is)
-    (read_book limit input small whole rows (subst (λ l. Reads limit (l ++ input) (Ok rows)) is h))
+pub book_input : (known after : Option (List ℕ)) (limit : ℕ) (head : List ℕ) (rows : List Row) → limit ≤ 1073741824 → head ≡ mark
+    → IfSome known (λ input. Reads limit head input after (Ok rows)) → IfSome known (λ input. HoldsOfGot limit (head ++ input) after (ReadsInput (Ok rows)))
+book_input None after limit head rows small is h = tt
+book_input (Some input) after limit head rows small is h = subst (λ l. HoldsOfGot limit (l ++ input) after (ReadsInput (Ok rows))) (sym is)
+    (read_book limit input after small rows (subst (λ l. Reads limit l input after (Ok rows)) is h))
 
-pub refused_input : (known : Option (List ℕ)) (limit : ℕ) (head : List ℕ) (f : BookFault) → limit ≤ 1073741824 → 8 ≤ limit → head ≡ mark
-    → IfSome known (λ input. Reads limit (head ++ input) (Err f)) → IfSome known (λ input. HoldsOfGot limit (head ++ input) (ReadsInput (Err (Book f))))
-refused_input None limit head f small whole is h = tt
-refused_input (Some input) limit head f small whole is h = subst (λ l. HoldsOfGot limit (l ++ input) (ReadsInput (Err (Book f)))) (sym is)
-    (refused_book limit input small whole f (subst (λ l. Reads limit (l ++ input) (Err f)) is h))
+pub refused_input : (known after : Option (List ℕ)) (limit : ℕ) (head : List ℕ) (f : BookFault) → limit ≤ 1073741824 → head ≡ mark
+    → IfSome known (λ input. Reads limit head input after (Err f)) → IfSome known (λ input. HoldsOfGot limit (head ++ input) after (ReadsInput (Err (Book f))))
+refused_input None after limit head f small is h = tt
+refused_input (Some input) after limit head f small is h = subst (λ l. HoldsOfGot limit (l ++ input) after (ReadsInput (Err (Book f)))) (sym is)
+    (refused_book limit input after small f (subst (λ l. Reads limit l input after (Err f)) is h))

@@ -10,6 +10,7 @@ use Rattle.aprs_log.specs.declared.ending.Ending.TheVariants as ending
 use Rattle.aprs_log.specs.declared.fault.LogFault.{LogFault}
 use Rattle.aprs_log.specs.declared.line.Line.{Line}
 use Rattle.aprs_log.specs.declared.line.Line.TheVariants.{Heard, Passed}
+use Rattle.aprs_log.proofs.AwaitLemmas.{gets_whole}
 use Rattle.aprs_tool.specs.Inputs.{AddsAll, HoldsOfGot, ReadsLog}
 use Rattle.aprs_tool.specs.declared.fault.InputFault.{InputFault}
 use Rattle.aprs_tool.specs.declared.fault.InputFault.TheVariants.{Log, Memory}
@@ -41,19 +42,19 @@ Took-line first now after rows new x lent same h next adds = record {
 }
 
 -- of a log whose answers are these
-over_log : (known : Option (List ℕ)) (limit : ℕ) (head : List ℕ) (a : Answers) (r : Result (List Row) InputFault)
-    → IfSome known (λ input. AreAnswersOf limit (head ++ input) a) → ((t : List ℕ) (c : Ending) → a ≡ log_answers t c → ReadsLog r t c)
-    → IfSome known (λ input. HoldsOfGot limit (head ++ input) (ReadsLog r))
-over_log None limit head a r h reads = tt
-over_log (Some input) limit head a r h reads = record { text = h.text; ending = h.ending; gets = h.gets; holds = reads h.text h.ending h.is }
+over_log : (known end : Option (List ℕ)) (limit : ℕ) (head : List ℕ) (a : Answers) (r : Result (List Row) InputFault)
+    → IfSome known (λ input. AreAnswersOf limit (head ++ input) end a) → ((t : List ℕ) (c : Ending) → a ≡ log_answers t c → ReadsLog r t c)
+    → IfSome known (λ input. HoldsOfGot limit (head ++ input) end (ReadsLog r))
+over_log None end limit head a r h reads = tt
+over_log (Some input) end limit head a r h reads = record { text = h.text; ending = h.ending; gets = h.gets; holds = reads h.text h.ending h.is }
 
 -- the log ended
-pub Took-ended : (first now : Answers → Type 0) (rows : List Row) (known : Option (List ℕ)) (limit : ℕ) (head : List ℕ) → Took first now rows
-    → now (ended None) → ((a : Answers) → first a → IfSome known (λ input. AreAnswersOf limit (head ++ input) a))
-    → IfSome known (λ input. HoldsOfGot limit (head ++ input) (ReadsLog (Ok rows)))
-Took-ended first now rows known limit head h may whole =
+pub Took-ended : (first now : Answers → Type 0) (rows : List Row) (known end : Option (List ℕ)) (limit : ℕ) (head : List ℕ) → Took first now rows
+    → now (ended None) → ((a : Answers) → first a → IfSome known (λ input. AreAnswersOf limit (head ++ input) end a))
+    → IfSome known (λ input. HoldsOfGot limit (head ++ input) end (ReadsLog (Ok rows)))
+Took-ended first now rows known end limit head h may whole =
     let all = prepended h.seen (ended None) in
-    over_log known limit head all (Ok rows) (whole all (h.has.complete (ended None) may))
+    over_log known end limit head all (Ok rows) (whole all (h.has.complete (ended None) may))
     (λ t c e. (
       ap (λ (a : Answers). a.fault) (sym e),
       subst (λ (a : Answers). BookOf gap_seconds (receptions_of a.given) rows) e
@@ -61,15 +62,16 @@ Took-ended first now rows known limit head h may whole =
     ))
 
 -- the log has a fault
-pub Took-fault : (first now : Answers → Type 0) (rows : List Row) (known : Option (List ℕ)) (limit : ℕ) (head : List ℕ) (fault : LogFault) → Took first now rows
-    → now (ended (Some fault)) → ((a : Answers) → first a → IfSome known (λ input. AreAnswersOf limit (head ++ input) a))
-    → IfSome known (λ input. HoldsOfGot limit (head ++ input) (ReadsLog (Err (Log fault))))
-Took-fault first now rows known limit head fault h may whole =
+pub Took-fault : (first now : Answers → Type 0) (rows : List Row) (known end : Option (List ℕ)) (limit : ℕ) (head : List ℕ) (fault : LogFault) → Took first now rows
+    → now (ended (Some fault)) → ((a : Answers) → first a → IfSome known (λ input. AreAnswersOf limit (head ++ input) end a))
+    → IfSome known (λ input. HoldsOfGot limit (head ++ input) end (ReadsLog (Err (Log fault))))
+Took-fault first now rows known end limit head fault h may whole =
     let all = prepended h.seen (ended (Some fault)) in
-    over_log known limit head all (Err (Log fault)) (whole all (h.has.complete (ended (Some fault)) may))
+    over_log known end limit head all (Err (Log fault)) (whole all (h.has.complete (ended (Some fault)) may))
     (λ t c e. inr (ap (λ (a : Answers). a.fault) (sym e)))
 
 -- memory was refused
-pub Took-refused : (known : Option (List ℕ)) (limit : ℕ) (head : List ℕ) → IfSome known (λ input. HoldsOfGot limit (head ++ input) (ReadsLog (Err Memory)))
-Took-refused None limit head = tt
-Took-refused (Some input) limit head = record { text = []; ending = ending.Read; gets = record { rest = head ++ input; whole = refl; ends = omega arith }; holds = inl tt }
+pub Took-refused : (known end : Option (List ℕ)) (limit : ℕ) (head : List ℕ) → IfSome known (λ input. HoldsOfGot limit (head ++ input) end (ReadsLog (Err Memory)))
+Took-refused None end limit head = tt
+Took-refused (Some input) end limit head =
+    let g = gets_whole limit (head ++ input) end in record { text = g.text; ending = g.ending; gets = g.gets; holds = inl tt }

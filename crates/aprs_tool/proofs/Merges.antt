@@ -70,7 +70,7 @@ unread inputs = map (λ input. record { text = []; ending = ending.Read }) input
 
 gets_unread : (limit : ℕ) (inputs : List (List ℕ)) → GetsEach limit inputs (unread inputs)
 gets_unread limit [] = tt
-gets_unread limit (input ∷ inputs) = (record { rest = input; whole = refl; ends = omega arith }, gets_unread limit inputs)
+gets_unread limit (input ∷ inputs) = ((Some input, record { rest = input; whole = refl; ends = (refl, omega arith) }), gets_unread limit inputs)
 
 -- ---- as far as they were read
 
@@ -103,7 +103,7 @@ known_at : (done rest : List (List ℕ)) (input : List ℕ) (known : Option (Lis
 known_at [] rest input known e = cc
 known_at (x ∷ done) rest input known e = known_at done rest input known e
 
-module _ (limit : ℕ) (inputs : List (List ℕ)) (index : ℕ) (rows : List Row) (known : Option (List ℕ)) (h : HasRead limit inputs index rows)
+module _ (limit : ℕ) (inputs : List (List ℕ)) (index : ℕ) (rows : List Row) (known after : Option (List ℕ)) (h : HasRead limit inputs index rows)
     (at : slice_get (some_each inputs) index ≡ Some known) where
   here : (input : List ℕ) (rest : List (List ℕ)) → h.rest ≡ input ∷ rest → known ≡ Some input
   here input rest e = known_at h.done rest input known
@@ -116,13 +116,13 @@ module _ (limit : ℕ) (inputs : List (List ℕ)) (index : ℕ) (rows : List Row
       omega (arith, within, len, h.place, length-map inputs (λ (input : List ℕ). Some input))
 
   -- it is taken
-  pub HasRead-more : (new : List Row) (most : ℕ) → most ≡ limit → OfGot most known (TakesInput (Ok tt) rows new) → HasRead limit inputs (index + 1) new
+  pub HasRead-more : (new : List Row) (most : ℕ) → most ≡ limit → OfGot most known after (TakesInput (Ok tt) rows new) → HasRead limit inputs (index + 1) new
   HasRead-more new most same took = go h.rest refl
     where
       go : (rest : List (List ℕ)) → h.rest ≡ rest → HasRead limit inputs (index + 1) new
       go [] e = absurd (none_left e)
       go (input ∷ rest) e =
-          let got : HoldsOfGot limit input (TakesInput (Ok tt) rows new) = subst (λ k. OfGot limit k (TakesInput (Ok tt) rows new)) (here input rest e) (subst (λ l. OfGot l known (TakesInput (Ok tt) rows new)) same took) in
+          let got : HoldsOfGot limit input after (TakesInput (Ok tt) rows new) = subst (λ k. OfGot limit k after (TakesInput (Ok tt) rows new)) (here input rest e) (subst (λ l. OfGot l known after (TakesInput (Ok tt) rows new)) same took) in
           let g : Got = record { text = got.text; ending = got.ending } in
           let T = got.holds.1.0 in
           record {
@@ -131,25 +131,25 @@ module _ (limit : ℕ) (inputs : List (List ℕ)) (index : ℕ) (rows : List Row
             cut = h.cut ∙ ap (λ l. h.done ++ l) e ∙ sym (append_assoc h.done (input ∷ []) rest);
             place = let len = length-append h.done (input ∷ []) in omega (arith, len, h.place);
             gots = h.gots ++ g ∷ [];
-            gets = gets_more limit h.done (input ∷ []) h.gots (g ∷ []) h.gets (got.gets, tt);
+            gets = gets_more limit h.done (input ∷ []) h.gots (g ∷ []) h.gets ((after, got.gets), tt);
             faultless = faultless_more h.gots g h.faultless got.holds.0;
             book = (h.book.0 ++ T, members_more h.gots g h.book.0 T h.book.1 got.holds.1.1, got.holds.1.2 h.book.0 h.book.2);
           }
 
   -- it is refused
-  pub HasRead-refused : (e : InputFault) (old new : List Row) (most : ℕ) → most ≡ limit → OfGot most known (TakesInput (Err e) old new)
+  pub HasRead-refused : (e : InputFault) (old new : List Row) (most : ℕ) → most ≡ limit → OfGot most known after (TakesInput (Err e) old new)
       → HoldsOfEach limit inputs (ReadsEach (Err (index, e)))
   HasRead-refused fault old new most same took = go h.rest refl
     where
       go : (rest : List (List ℕ)) → h.rest ≡ rest → HoldsOfEach limit inputs (ReadsEach (Err (index, fault)))
       go [] e = absurd (none_left e)
       go (input ∷ rest) e =
-          let got : HoldsOfGot limit input (TakesInput (Err fault) old new) = subst (λ k. OfGot limit k (TakesInput (Err fault) old new)) (here input rest e) (subst (λ l. OfGot l known (TakesInput (Err fault) old new)) same took) in
+          let got : HoldsOfGot limit input after (TakesInput (Err fault) old new) = subst (λ k. OfGot limit k after (TakesInput (Err fault) old new)) (here input rest e) (subst (λ l. OfGot l known after (TakesInput (Err fault) old new)) same took) in
           let g : Got = record { text = got.text; ending = got.ending } in
           record {
             gots = h.gots ++ g ∷ unread rest;
             gets = subst (λ l. GetsEach limit l (h.gots ++ g ∷ unread rest)) (sym (h.cut ∙ ap (λ l. h.done ++ l) e))
-                (gets_more limit h.done (input ∷ rest) h.gots (g ∷ unread rest) h.gets (got.gets, gets_unread limit rest));
+                (gets_more limit h.done (input ∷ rest) h.gots (g ∷ unread rest) h.gets ((after, got.gets), gets_unread limit rest));
             holds = subst (λ i. IsFirstRefused i fault (h.gots ++ g ∷ unread rest)) (gots_len limit h.done h.gots h.gets ∙ h.place)
                 (first_refused h.gots g (unread rest) fault h.faultless got.holds);
           }

@@ -62,31 +62,31 @@ Ran-line f first now after a b c x lent same h next out = record {
 
 -- ---- the run of a log of which these answers may come first
 
-abbrev pub IsWhole : (Answers → Type 0) → ℕ → Option (List ℕ) → Type 0
-IsWhole first limit known = (a : Answers) → first a → IfSome known (λ input. AreAnswersOf limit input a)
+abbrev pub IsWhole : (Answers → Type 0) → ℕ → Option (List ℕ) → Option (List ℕ) → Type 0
+IsWhole first limit known end = (a : Answers) → first a → IfSome known (λ input. AreAnswersOf limit input end a)
 
 -- it runs so where all its answers are these
-pub over : (whole : Answers → List ℕ) (limit : ℕ) (known : Option (List ℕ)) (r : Result (Unit {0}) RunFault) (old new : Option (List ℕ)) (a : Answers)
-    → IfSome known (λ input. AreAnswersOf limit input a) → RunsSo r old new (whole a) a.fault
-    → RunsOver (λ t c. whole (log_answers t c)) lines_fault limit known r old new
-over whole limit None r old new a h runs = tt
-over whole limit (Some input) r old new a h runs =
+pub over : (whole : Answers → List ℕ) (limit : ℕ) (known end : Option (List ℕ)) (r : Result (Unit {0}) RunFault) (old new : Option (List ℕ)) (a : Answers)
+    → IfSome known (λ input. AreAnswersOf limit input end a) → RunsSo r old new (whole a) a.fault
+    → RunsOver (λ t c. whole (log_answers t c)) lines_fault limit known end r old new
+over whole limit None end r old new a h runs = tt
+over whole limit (Some input) end r old new a h runs =
     (h.text, h.ending, h.gets, subst (λ (x : Answers). RunsSo r old new (whole x) x.fault) h.is runs)
 
 abbrev lines_of : Form → Answers → List ℕ
 lines_of form a = flat_map (line_text form) a.given
 
 -- the output was refused
-pub Ran-refused : (form : Form) (first now after : Answers → Type 0) (limit : ℕ) (known a b c : Option (List ℕ)) (x lent : Line) → lent ≡ x
+pub Ran-refused : (form : Form) (first now after : Answers → Type 0) (limit : ℕ) (known end a b c : Option (List ℕ)) (x lent : Line) → lent ≡ x
     → Ran (flat_map (line_text form)) first now a b → ((answers : Answers) → after answers → now (then_given x answers))
-    → (answers : Answers) → after answers → AppendsFront b c (line_text form lent) → IsWhole first limit known
-    → RunsOver (lines_text form) lines_fault limit known (Err Write) a c
-Ran-refused form first now after limit known a b c x lent same h next answers may front whole =
+    → (answers : Answers) → after answers → AppendsFront b c (line_text form lent) → IsWhole first limit known end
+    → RunsOver (lines_text form) lines_fault limit known end (Err Write) a c
+Ran-refused form first now after limit known end a b c x lent same h next answers may front whole =
     let f = line_text form in
     let all = prepended h.seen (then_given x answers) in
     let text : flat_map f all.given ≡ (flat_map f h.seen ++ f x) ++ flat_map f answers.given =
     flat_map-append f h.seen (x ∷ answers.given) ∙ sym (append_assoc (flat_map f h.seen) (f x) (flat_map f answers.given)) in
-    over (lines_of form) limit known (Err Write) a c all (whole all (h.has.complete (then_given x answers) (next answers may)))
+    over (lines_of form) limit known end (Err Write) a c all (whole all (h.has.complete (then_given x answers) (next answers may)))
     (subst (AppendsFront a c) (sym text) (AppendsFront-more a c (flat_map f h.seen ++ f x) (flat_map f answers.given)
     (AppendsFront-then a b c (flat_map f h.seen) (f x) h.out (subst (λ (y : Line). AppendsFront b c (f y)) same front))))
 
@@ -95,19 +95,19 @@ whole_text : (f : Line → List ℕ) (seen : List Line) (a b : Option (List ℕ)
 whole_text f seen a b out = subst (λ (lines : List Line). Appends a b (flat_map f lines)) (sym (append-nil seen)) out
 
 -- the log ended
-pub Ran-ended : (form : Form) (first now : Answers → Type 0) (limit : ℕ) (known a b : Option (List ℕ))
-    → Ran (flat_map (line_text form)) first now a b → now (ended None) → IsWhole first limit known
-    → RunsOver (lines_text form) lines_fault limit known (Ok tt) a b
-Ran-ended form first now limit known a b h may whole =
-    over (lines_of form) limit known (Ok tt) a b (prepended h.seen (ended None)) (whole _ (h.has.complete (ended None) may))
+pub Ran-ended : (form : Form) (first now : Answers → Type 0) (limit : ℕ) (known end a b : Option (List ℕ))
+    → Ran (flat_map (line_text form)) first now a b → now (ended None) → IsWhole first limit known end
+    → RunsOver (lines_text form) lines_fault limit known end (Ok tt) a b
+Ran-ended form first now limit known end a b h may whole =
+    over (lines_of form) limit known end (Ok tt) a b (prepended h.seen (ended None)) (whole _ (h.has.complete (ended None) may))
     (refl, whole_text (line_text form) h.seen a b h.out)
 
 -- the log has a fault
-pub Ran-fault : (form : Form) (first now : Answers → Type 0) (limit : ℕ) (known a b : Option (List ℕ)) (fault : LogFault) (told : RunFault)
+pub Ran-fault : (form : Form) (first now : Answers → Type 0) (limit : ℕ) (known end a b : Option (List ℕ)) (fault : LogFault) (told : RunFault)
     → told ≡ Input 0 (Log fault)
-    → Ran (flat_map (line_text form)) first now a b → now (ended (Some fault)) → IsWhole first limit known
-    → RunsOver (lines_text form) lines_fault limit known (Err told) a b
-Ran-fault form first now limit known a b fault told same h may whole =
-    subst (λ (t : RunFault). RunsOver (lines_text form) lines_fault limit known (Err t) a b) (sym same)
-    (over (lines_of form) limit known (Err (Input 0 (Log fault))) a b (prepended h.seen (ended (Some fault))) (whole _ (h.has.complete (ended (Some fault)) may))
+    → Ran (flat_map (line_text form)) first now a b → now (ended (Some fault)) → IsWhole first limit known end
+    → RunsOver (lines_text form) lines_fault limit known end (Err told) a b
+Ran-fault form first now limit known end a b fault told same h may whole =
+    subst (λ (t : RunFault). RunsOver (lines_text form) lines_fault limit known end (Err t) a b) (sym same)
+    (over (lines_of form) limit known end (Err (Input 0 (Log fault))) a b (prepended h.seen (ended (Some fault))) (whole _ (h.has.complete (ended (Some fault)) may))
     (refl, refl, whole_text (line_text form) h.seen a b h.out))

@@ -94,13 +94,15 @@ TakesInput (Err e) old new t c = IsRefused e t c
 
 -- ---- what is got of it
 
--- at most `limit` bytes are got, and P holds of them and of what came after them
-pub record HoldsOfGot (limit : ℕ) (input : List ℕ) (P : List ℕ → Ending → Type 0) : Type 0 where
+-- at most `limit` bytes are got, and P holds of them and of what came after them; the device then
+-- has `after`
+pub record HoldsOfGot (limit : ℕ) (input : List ℕ) (after : Option (List ℕ))
+    (P : List ℕ → Ending → Type 0) : Type 0 where
   pub text : List ℕ
   pub ending : Ending
-  pub gets : Gets limit input text ending
+  pub gets : Gets limit input after text ending
   pub holds : P text ending
 
 -- where the input's bytes are known
-abbrev pub OfGot : ℕ → Option (List ℕ) → (List ℕ → Ending → Type 0) → Type 0
-OfGot limit known P = IfSome known (λ input. HoldsOfGot limit input P)
+abbrev pub OfGot : ℕ → Option (List ℕ) → Option (List ℕ) → (List ℕ → Ending → Type 0) → Type 0
+OfGot limit known after P = IfSome known (λ input. HoldsOfGot limit input after P)

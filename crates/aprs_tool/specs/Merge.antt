@@ -27,7 +27,8 @@ pub record Got : Type 0 where
 abbrev pub GetsEach : ℕ → List (List ℕ) → List Got → Type 0
 GetsEach limit [] [] = Unit {0}
 GetsEach limit (input ∷ inputs) (g ∷ gots) =
-    Gets limit input g.text g.ending × GetsEach limit inputs gots
+    ((after : Option (List ℕ)) × Gets limit input after g.text g.ending)
+    × GetsEach limit inputs gots
 GetsEach limit [] (g ∷ gots) = ⊥
 GetsEach limit (input ∷ inputs) [] = ⊥
 

@@ -151,11 +151,13 @@ abbrev pub RunsSo : Result (Unit {0}) RunFault → Option (List ℕ) → Option 
 RunsSo r old new text fault = MatchResult r (λ _. (fault ≡ None) × Appends old new text)
     (λ e. FailsSo e old new text fault)
 
--- some bytes were got of the input, at most `limit`, and the run is that of their text and fault
+-- some bytes were got of the input, at most `limit`, and the run is that of their text and fault;
+-- the device then has `after`
 abbrev pub RunsOver : (List ℕ → Ending → List ℕ) → (List ℕ → Ending → Option LogFault) → ℕ
-    → Option (List ℕ) → Result (Unit {0}) RunFault → Option (List ℕ) → Option (List ℕ) → Type 0
-RunsOver text fault limit known r old new = IfSome known
-    (λ input. (t : List ℕ) × (c : Ending) × Gets limit input t c
+    → Option (List ℕ) → Option (List ℕ) → Result (Unit {0}) RunFault → Option (List ℕ)
+    → Option (List ℕ) → Type 0
+RunsOver text fault limit known after r old new = IfSome known
+    (λ input. (t : List ℕ) × (c : Ending) × Gets limit input after t c
     × RunsSo r old new (text t c) (fault t c))
 
 -- a read of the input failed

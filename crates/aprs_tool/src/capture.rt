@@ -1,10 +1,10 @@
 //! A KISS stream, captured as a log.
-ghost use Rattle.std.specs.Prelude.{◌≡◌, ◌≤◌, ◌<◌, ◌++◌, ℕ, List, length, take, IfOk, IfErr, OnOk};
+ghost use Rattle.std.specs.Prelude.{◌≡◌, ◌≤◌, ◌<◌, ◌++◌, ℕ, List, length, take, IfOk, IfErr, IsErrAnd, OnOk};
 ghost use Rattle.std.specs.Prelude.{OnErr};
 ghost use Rattle.std.specs.List.{flat_map};
 ghost use Rattle.std.specs.Io.KnownBytes.{Appends, Consumes};
 ghost use Rattle.aprs_ax25.specs.FrameFault.{frame_of};
-ghost use Rattle.aprs_kiss.specs.Device.{device_of, failures_of, Rose, AppendsFront};
+ghost use Rattle.aprs_kiss.specs.Device.{device_of, failures_of, answered_of, Rose, RoseWhere, AppendsFront};
 ghost use Rattle.aprs_kiss.specs.Reader.{StandsAfter};
 ghost use Rattle.aprs_kiss.specs.Told.{told_by};
 ghost use Rattle.aprs_kiss.specs.Stream.{judgements_of, rest_of};
@@ -35,9 +35,9 @@ pub fn capture<R: Read, W: Write>(
 ) -> Result<(), RunFault>
     requires { limit ≤ 1073741824 }
     ensures run { RunsOver (stream_text receiver.now moment.now) stream_fault limit
-        (R.remaining (device_of r.old))
-        result (W.contents (device_of w.old)) (W.contents (device_of w.new)) }
+        (R.remaining (device_of r.old)) (R.remaining (device_of r.new)) result (W.contents (device_of w.old)) (W.contents (device_of w.new)) }
     ensures read { IfErr result (λ e. IsRead e → Rose (failures_of r.old) (failures_of r.new)) }
+    ensures answered { RoseWhere (IsErrAnd result IsRead) (answered_of r.old) (answered_of r.new) }
     ensures write { IfErr result (λ e. e ≡ RunFault.Write
         → Rose (failures_of w.old) (failures_of w.new)) }
 {
@@ -86,10 +86,13 @@ fn read_chunk<R: Read>(
     ensures some { IfOk result (λ n. (0 < n) × (n ≤ 16384) × (n ≤ left)) }
     ensures bytes { IfOk result (λ n. Consumes (R.remaining (device_of r.old))
         (R.remaining (device_of r.new)) (take n buffer.new)) }
-    ensures end { IfErr result (λ e. EndsHere e left (R.remaining (device_of r.old))) }
+    ensures end { IfErr result (λ e. EndsHere e left (R.remaining (device_of r.old))
+        (R.remaining (device_of r.new))) }
     ensures count { failures_of r.old ≤ failures_of r.new }
     ensures fault { IfErr result (λ e. e ≡ ReadFailed
         → Rose (failures_of r.old) (failures_of r.new)) }
+    ensures answered { RoseWhere (IsErrAnd result (λ e. e ≡ ReadFailed)) (answered_of r.old)
+        (answered_of r.new) }
 {
     if left == 0 {
         return Err(ending_at_limit(r));
@@ -104,9 +107,11 @@ fn read_chunk<R: Read>(
 
 /// How a stream ends of which as many bytes were got as may be: whether a further byte exists.
 pub fn ending_at_limit<R: Read>(r: &mut Counted<R>) -> Ending
-    ensures end { EndsHere result 0 (R.remaining (device_of r.old)) }
+    ensures end { EndsHere result 0 (R.remaining (device_of r.old))
+        (R.remaining (device_of r.new)) }
     ensures count { failures_of r.old ≤ failures_of r.new }
     ensures fault { result ≡ ReadFailed → Rose (failures_of r.old) (failures_of r.new) }
+    ensures answered { RoseWhere (result ≡ ReadFailed) (answered_of r.old) (answered_of r.new) }
 {
     let mut one = [0];
     match r.read(&mut one) {

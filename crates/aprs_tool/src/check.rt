@@ -1,9 +1,9 @@
 //! What a check tells of a log.
-ghost use Rattle.std.specs.Prelude.{◌≡◌, ◌≤◌, ◌++◌, codes, OnOk, OnErr, IfErr};
+ghost use Rattle.std.specs.Prelude.{◌≡◌, ◌≤◌, ◌++◌, codes, OnOk, OnErr, IfErr, IsErrAnd};
 ghost use Rattle.std.specs.Fmt.{decimal};
 ghost use Rattle.std.specs.Io.KnownBytes.{Appends};
 ghost use Rattle.arrayvec.specs.ArrayVec.{array_vec_len};
-ghost use Rattle.aprs_kiss.specs.Device.{device_of, failures_of, Rose, AppendsFront};
+ghost use Rattle.aprs_kiss.specs.Device.{device_of, failures_of, answered_of, Rose, RoseWhere, AppendsFront};
 ghost use Rattle.aprs_log.specs.Fault.{reason_name};
 ghost use Rattle.aprs_tool.specs.Run.{RunsOver, IsRead, check_text, lines_fault, ended_by_lf};
 ghost use Rattle.aprs_tool.specs.Run.{passed_line, totals_line};
@@ -28,8 +28,9 @@ pub fn check_run<R: Read, W: Write>(
 ) -> Result<(), RunFault>
     requires { limit ≤ 1073741824 }
     ensures run { RunsOver check_text lines_fault limit (R.remaining (device_of r.old))
-        result (W.contents (device_of w.old)) (W.contents (device_of w.new)) }
+        (R.remaining (device_of r.new)) result (W.contents (device_of w.old)) (W.contents (device_of w.new)) }
     ensures read { IfErr result (λ e. IsRead e → Rose (failures_of r.old) (failures_of r.new)) }
+    ensures answered { RoseWhere (IsErrAnd result IsRead) (answered_of r.old) (answered_of r.new) }
     ensures write { IfErr result (λ e. e ≡ RunFault.Write
         → Rose (failures_of w.old) (failures_of w.new)) }
 {

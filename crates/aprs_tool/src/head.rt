@@ -1,7 +1,7 @@
 //! The first bytes of an input, by which a book file is told from a log.
-ghost use Rattle.std.specs.Prelude.{◌≡◌, ◌<◌, ◌≤◌, [], ◌∷◌, length, IfSome, IfOk, IfErr, OnOk};
+ghost use Rattle.std.specs.Prelude.{◌≡◌, ◌<◌, ◌≤◌, [], ◌∷◌, length, IfSome, IfOk, IfErr, IsErrAnd, OnOk};
 ghost use Rattle.std.specs.Io.KnownBytes.{Consumes};
-ghost use Rattle.aprs_kiss.specs.Device.{device_of, failures_of, Rose};
+ghost use Rattle.aprs_kiss.specs.Device.{device_of, failures_of, answered_of, Rose, RoseWhere};
 ghost use Rattle.aprs_log.specs.Awaits.{EndsHere};
 ghost use Rattle.aprs_log.specs.LogAnswers.{Gets};
 
@@ -28,10 +28,12 @@ pub fn read_head<R: Read>(limit: u64, r: &mut Counted<R>) -> Result<ArrayVec<u8,
         (R.remaining (device_of r.new)) head.items) }
     ensures short { IfErr result (λ s. length s.bytes.items < 8) }
     ensures end { IfErr result (λ s. IfSome (R.remaining (device_of r.old))
-        (λ input. Gets limit input s.bytes.items s.ending)) }
+        (λ input. Gets limit input (R.remaining (device_of r.new)) s.bytes.items s.ending)) }
     ensures count { failures_of r.old ≤ failures_of r.new }
     ensures read { IfErr result (λ s. s.ending ≡ Ending.Read
         → Rose (failures_of r.old) (failures_of r.new)) }
+    ensures answered { RoseWhere (IsErrAnd result (λ s. s.ending ≡ Ending.Read)) (answered_of r.old)
+        (answered_of r.new) }
 {
     let mut bytes = ArrayVec::new();
     while bytes.len() < HEAD {
@@ -48,10 +50,13 @@ fn read_byte<R: Read>(r: &mut Counted<R>, left: u64) -> Result<u8, Ending>
     ensures some { OnOk result (0 < left) }
     ensures byte { IfOk result (λ byte. Consumes (R.remaining (device_of r.old))
         (R.remaining (device_of r.new)) (byte ∷ [])) }
-    ensures end { IfErr result (λ e. EndsHere e left (R.remaining (device_of r.old))) }
+    ensures end { IfErr result (λ e. EndsHere e left (R.remaining (device_of r.old))
+        (R.remaining (device_of r.new))) }
     ensures count { failures_of r.old ≤ failures_of r.new }
     ensures read { IfErr result (λ e. e ≡ Ending.Read
         → Rose (failures_of r.old) (failures_of r.new)) }
+    ensures answered { RoseWhere (IsErrAnd result (λ e. e ≡ Ending.Read)) (answered_of r.old)
+        (answered_of r.new) }
 {
     if left == 0 {
         return Err(ending_at_limit(r));

@@ -1,6 +1,6 @@
 //! The book of an input, which is a log or a book file.
-ghost use Rattle.std.specs.Prelude.{◌≡◌, ◌<◌, ◌≤◌, ◌∷◌, [], ◌++◌, length, Some, IfSome, IfErr, OnOk, OnErr};
-ghost use Rattle.aprs_kiss.specs.Device.{device_of, failures_of, Rose};
+ghost use Rattle.std.specs.Prelude.{◌≡◌, ◌<◌, ◌≤◌, ◌∷◌, [], ◌++◌, length, None, Some, IfSome, IfErr, IsErrAnd, OnOk, OnErr};
+ghost use Rattle.aprs_kiss.specs.Device.{device_of, failures_of, answered_of, Rose, RoseWhere};
 ghost use Rattle.aprs_log.specs.LogAnswers.{ended, fault_at, log_answers, receptions_of};
 ghost use Rattle.aprs_tool.specs.Inputs.{AddsAll, HoldsOfGot, OfGot, ReadsInput, ReadsLog};
 ghost use Rattle.aprs_tool.specs.Run.{IsReadFault};
@@ -28,10 +28,14 @@ pub fn read_input<R: Read>(
     r: &mut Counted<R>,
 ) -> Result<Book, InputFault>
     requires { limit ≤ 1073741824 }
-    ensures reads { OfGot limit (R.remaining (device_of r.old)) (ReadsInput result) }
+    ensures reads { OfGot limit (R.remaining (device_of r.old))
+        (R.remaining (device_of r.new)) (ReadsInput result) }
     ensures count { failures_of r.old ≤ failures_of r.new }
     ensures read { IfErr result (λ e. IsReadFault e
         → Rose (failures_of r.old) (failures_of r.new)) }
+    ensures answered { IfErr result (λ e. IsReadFault e
+        → Rose (answered_of r.old) (answered_of r.new)) }
+    ensures good { OnOk result (answered_of r.new ≡ answered_of r.old) }
 {
     match read_head(limit, r) {
         Ok(head) => read_whole(alloc, limit, head.as_slice(), r),
@@ -50,10 +54,13 @@ fn read_whole<R: Read>(
     requires head { length head.now ≡ 8 }
     requires within { 8 ≤ limit }
     ensures reads { IfSome (R.remaining (device_of r.old))
-        (λ input. HoldsOfGot limit (head.now ++ input) (ReadsInput result)) }
+        (λ input. HoldsOfGot limit (head.now ++ input) (R.remaining (device_of r.new))
+        (ReadsInput result)) }
     ensures count { failures_of r.old ≤ failures_of r.new }
     ensures read { IfErr result (λ e. IsReadFault e
         → Rose (failures_of r.old) (failures_of r.new)) }
+    ensures answered { RoseWhere (IsErrAnd result IsReadFault) (answered_of r.old)
+        (answered_of r.new) }
 {
     if head != BOOK_MARK {
         return read_log(alloc, limit, head, r);
@@ -75,10 +82,13 @@ fn read_log<R: Read>(
     requires head { length head.now ≤ 8 }
     requires within { length head.now ≤ limit }
     ensures reads { IfSome (R.remaining (device_of r.old))
-        (λ input. HoldsOfGot limit (head.now ++ input) (ReadsLog result)) }
+        (λ input. HoldsOfGot limit (head.now ++ input) (R.remaining (device_of r.new))
+        (ReadsLog result)) }
     ensures count { failures_of r.old ≤ failures_of r.new }
     ensures read { IfErr result (λ e. IsReadFault e
         → Rose (failures_of r.old) (failures_of r.new)) }
+    ensures answered { RoseWhere (IsErrAnd result IsReadFault) (answered_of r.old)
+        (answered_of r.new) }
 {
     let mut reader = LogReader::new(alloc, limit, head, r);
     let mut book = Book::new(alloc);
@@ -108,6 +118,7 @@ fn take_line(book: &mut Book, line: &Line) -> Result<(), Memory>
 fn read_short(alloc: Global, short: &ShortInput) -> Result<Book, InputFault>
     requires { length short.now.bytes.items < 8 }
     ensures reads { ReadsInput result short.now.bytes.items short.now.ending }
+    ensures good { OnOk result (short.now.ending ≡ Ending.End) }
     ensures read { IfErr result (λ e. IsReadFault e → short.now.ending ≡ Ending.Read) }
 {
     match refuse_short(short.bytes.as_slice(), short.ending) {
@@ -121,6 +132,7 @@ fn refuse_short(text: &[u8], ending: Ending) -> Option<LogCause>
     requires { length text.now < 8 }
     ensures answers { log_answers text.now ending ≡ ended (fault_at 1 result) }
     ensures read { result ≡ Some LogCause.Read → ending ≡ Ending.Read }
+    ensures good { result ≡ None → ending ≡ Ending.End }
 {
     if text.contains(&b'\n') {
         return Some(LogCause::Moment);

@@ -1,6 +1,6 @@
 //! Runs over one input.
-ghost use Rattle.std.specs.Prelude.{◌≡◌, ◌≤◌, IfErr};
-ghost use Rattle.aprs_kiss.specs.Device.{device_of, failures_of, Rose};
+ghost use Rattle.std.specs.Prelude.{◌≡◌, ◌≤◌, IfErr, IsErrAnd};
+ghost use Rattle.aprs_kiss.specs.Device.{device_of, failures_of, answered_of, Rose, RoseWhere};
 ghost use Rattle.aprs_tool.specs.Run.{RunsOver, IsRead, convert_text, convert_fault};
 
 use crate::capture::capture;
@@ -24,9 +24,9 @@ pub fn convert_run<R: Read, W: Write>(
 ) -> Result<(), RunFault>
     requires { limit ≤ 1073741824 }
     ensures run { RunsOver (convert_text form) (convert_fault form) limit
-        (R.remaining (device_of r.old))
-        result (W.contents (device_of w.old)) (W.contents (device_of w.new)) }
+        (R.remaining (device_of r.old)) (R.remaining (device_of r.new)) result (W.contents (device_of w.old)) (W.contents (device_of w.new)) }
     ensures read { IfErr result (λ e. IsRead e → Rose (failures_of r.old) (failures_of r.new)) }
+    ensures answered { RoseWhere (IsErrAnd result IsRead) (answered_of r.old) (answered_of r.new) }
     ensures write { IfErr result (λ e. e ≡ RunFault.Write
         → Rose (failures_of w.old) (failures_of w.new)) }
 {

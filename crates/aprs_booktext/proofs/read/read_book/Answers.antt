@@ -1,4 +1,4 @@
-use Rattle.std.proofs.Common.{◌≡◌, ◌-◌, [], ap, arith, length, take, length-take}
+use Rattle.std.proofs.Common.{◌≡◌, ◌-◌, ◌∙◌, refl, [], ap, arith, length, take, length-take}
 use Rattle.std.proofs.lemmas.Result.{err_from_is_err_and, IfErr-weaker}
 use Rattle.aprs_booktext.proofs.Accepting.{accepts}
 use Rattle.aprs_kiss.specs.Device.{device_of}
@@ -19,6 +19,7 @@ loop-count-init g c = record {
   got = Got-none (Stands c.feed.new.self) c.args.head.now _ _ _ (c.in_ok-feed.ensures.stands [] c.new-reader.ensures.stands) (omega arith);
   few = omega (arith, c.in_ok-feed.ensures.more, ap length c.new-reader.ensures.empty);
   count = omega arith;
+  answered = refl;
 }
 
 pub returns-in_err-feed-in-Ok-clause-reads : goal.returns-in_err-feed-in-Ok-clause-reads
@@ -42,28 +43,29 @@ loop-count-preserved g c =
           c.in_ok-feed-in-Ok.ensures.stands c.in-Ok.ensures.more (omega (arith, size, some));
       few = omega (arith, c.loop-count.invariant.few, c.in_ok-feed-in-Ok.ensures.more, size, some);
       count = omega (arith, c.loop-count.invariant.count, c.in-Ok.ensures.count);
+      answered = c.in-Ok.ensures.answered.1 (λ e. absurd e) ∙ c.loop-count.invariant.answered;
     }
 
 pub returns-in-Err-clause-reads : goal.returns-in-Err-clause-reads
 returns-in-Err-clause-reads g c =
     let p = c.loop-count.invariant.got in
-    Reads-got _ c.args.limit c.args.head.now p.got c.in-Err.ending _
-    (Gets-here _ c.args.head.now _ _ c.args.limit c.loop-count.left p c.in-Err.ending c.in-Err.ensures.end)
+    Reads-got _ _ c.args.limit c.args.head.now p.got c.in-Err.ending _
+    (Gets-here _ c.args.head.now _ _ c.args.limit c.loop-count.left p c.in-Err.ending _ c.in-Err.ensures.end)
     (c.finish.ensures.reads _ p.stands)
 
 pub returns-in_err-feed-clause-accepts : goal.returns-in_err-feed-clause-accepts
 returns-in_err-feed-clause-accepts g c =
     let p = err_from_is_err_and c.from_residual.result c.from_residual.ensures.1 in
-    accepts _ c.args.limit c.args.head.now c.from_residual.result _ c.requires.limit (returns-in_err-feed-clause-reads g c)
+    accepts _ _ c.args.limit c.args.head.now c.from_residual.result _ c.requires.limit (returns-in_err-feed-clause-reads g c)
     (rw (p.1, p.2) (λ e. absurd (c.in_err-feed.ensures.cause e)))
 
 pub returns-in_err-feed-in-Ok-clause-accepts : goal.returns-in_err-feed-in-Ok-clause-accepts
 returns-in_err-feed-in-Ok-clause-accepts g c =
     let p = err_from_is_err_and c.from_residual-in_err-feed-in-Ok.result c.from_residual-in_err-feed-in-Ok.ensures.1 in
-    accepts _ c.args.limit c.args.head.now c.from_residual-in_err-feed-in-Ok.result _ c.requires.limit (returns-in_err-feed-in-Ok-clause-reads g c)
+    accepts _ _ c.args.limit c.args.head.now c.from_residual-in_err-feed-in-Ok.result _ c.requires.limit (returns-in_err-feed-in-Ok-clause-reads g c)
     (rw (p.1, p.2) (λ e. absurd (c.in_err-feed-in-Ok.ensures.cause e)))
 
 pub returns-in-Err-clause-accepts : goal.returns-in-Err-clause-accepts
 returns-in-Err-clause-accepts g c =
-    accepts _ c.args.limit c.args.head.now c.finish.result _ c.requires.limit (returns-in-Err-clause-reads g c)
+    accepts _ _ c.args.limit c.args.head.now c.finish.result _ c.requires.limit (returns-in-Err-clause-reads g c)
     (IfErr-weaker c.finish.result _ _ (λ f cause e. let rose = c.in-Err.ensures.read (cause e) in omega (arith, rose, c.loop-count.invariant.count)) c.finish.ensures.cause)

@@ -1,14 +1,18 @@
-use Rattle.std.proofs.Common.{[], arith, refl}
+use Rattle.std.proofs.Common.{[], arith, refl, ℕ}
+use Rattle.std.proofs.lemmas.List.{length-drop}
 use Rattle.std.proofs.KnownBytes.{Appends-nil}
 use Rattle.aprs_kiss.proofs.Bytes.{AppendsAllBut-more}
 use Rattle.aprs_kiss.proofs.device.send.Goals as goal
 
 pub loop-rest-init : goal.loop-rest-init
-loop-rest-init g c = record { tries = omega arith; count = omega arith; sent = ([], refl, Appends-nil _) }
+loop-rest-init g c = record { tries = omega arith; count = omega arith; tried = omega arith; answered = refl; none = λ e. refl; sent = ([], refl, Appends-nil _) }
 
 pub loop-rest-preserved-then-n-gt0 : goal.loop-rest-preserved-then-n-gt0
 loop-rest-preserved-then-n-gt0 g c = record {
   tries = omega arith;
   count = c.loop-rest.invariant.count;
+  tried = omega (arith, length-drop {A = ℕ}, c.in-Ok.ensures.bound);
+  none = λ e. refl;
+  answered = c.loop-rest.invariant.answered;
   sent = AppendsAllBut-more _ _ _ _ _ _ c.loop-rest.invariant.sent c.in-Ok.ensures.bytes;
 }

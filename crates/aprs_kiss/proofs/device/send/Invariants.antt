@@ -1,4 +1,4 @@
-use Rattle.std.proofs.Common.{length, ◌+◌, ◌*◌, ◌-◌, ◌<◌, ◌≤◌}
+use Rattle.std.proofs.Common.{length, ◌≡◌, ◌+◌, ◌*◌, ◌-◌, ◌<◌, ◌≤◌}
 use Rattle.aprs_kiss.specs.Device.{AppendsAllBut}
 use Rattle.aprs_kiss.proofs.device.send.Given as goal
 
@@ -6,6 +6,9 @@ abbrev pub invariant-loop-rest : goal.invariant-loop-rest
 invariant-loop-rest g l = record {
   tries : l.tries < 1000;
   count : l.initial.w.failed ≤ l.w.failed;
+  tried : l.w.failed + 999 * length l.rest ≤ l.initial.w.failed + 999 * length l.initial.rest + l.tries;
+  none : length l.rest ≡ 0 → l.tries ≡ 0;
+  answered : l.w.answered ≡ l.initial.w.answered;
   sent : AppendsAllBut (g.W.Write.contents l.initial.w.device)
       (g.W.Write.contents l.w.device) l.initial.rest l.rest;
 }

@@ -1,4 +1,4 @@
-use Rattle.std.proofs.Common.{subst, sym, arith}
+use Rattle.std.proofs.Common.{subst, sym, arith, refl, ◌∙◌}
 use Rattle.std.specs.Io.KnownBytes.{Consumes}
 use Rattle.aprs_tool.specs.Run.{capture_text}
 use Rattle.aprs_tool.proofs.Captures.{HasGot-none, HasGot-more, HasGot-refused}
@@ -9,6 +9,7 @@ loop-count-init g c = record {
   reads = omega arith;
   writes = omega arith;
   most = omega arith;
+  answered = refl;
   got = HasGot-none (capture_text c.args.receiver.now c.args.moment.now) c.args.limit _ _ _ c.new-reader.ensures;
 }
 
@@ -17,6 +18,7 @@ loop-count-preserved g c = record {
   reads = omega (arith, c.in-Ok.ensures.count, c.loop-count.invariant.reads);
   writes = omega (arith, c.in-Ok-capture_chunk.ensures.count, c.loop-count.invariant.writes);
   most = omega (arith, c.loop-count.invariant.most);
+  answered = c.in-Ok.ensures.answered.1 (λ e. absurd e) ∙ c.loop-count.invariant.answered;
   got = HasGot-more (capture_text c.args.receiver.now c.args.moment.now) c.args.limit c.loop-count.left _ _ _ _ _ _ _ _ _ c.split_at.result.0.now
       c.loop-count.invariant.got (subst (Consumes _ _) (sym c.split_at.ensures.front) c.in-Ok.ensures.bytes)
       (omega (arith, c.split_at.ensures.front_len, c.in-Ok.ensures.some)) c.in-Ok-capture_chunk.ensures.stands c.in-Ok-capture_chunk.ensures.sent;

@@ -1,5 +1,5 @@
-use Rattle.std.proofs.Common.{◌≤◌}
-use Rattle.aprs_kiss.specs.Device.{device_of, failures_of}
+use Rattle.std.proofs.Common.{◌≡◌, ◌≤◌}
+use Rattle.aprs_kiss.specs.Device.{device_of, failures_of, answered_of}
 use Rattle.aprs_tool.specs.Run.{capture_text}
 use Rattle.aprs_tool.proofs.Captures.{HasGot}
 use Rattle.aprs_tool.proofs.capture.capture.Given as goal
@@ -9,6 +9,7 @@ invariant-loop-count g l = record {
   reads : failures_of l.initial.r ≤ failures_of l.r;
   writes : failures_of l.initial.w ≤ failures_of l.w;
   most : l.left ≤ l.limit;
+  answered : answered_of l.r ≡ answered_of l.initial.r;
   got : HasGot (capture_text l.receiver l.moment) l.limit l.left l.reader
       (g.R.Read.remaining (device_of l.initial.r)) (g.R.Read.remaining (device_of l.r))
       (g.W.Write.contents (device_of l.initial.w)) (g.W.Write.contents (device_of l.w));

@@ -1,5 +1,5 @@
-use Rattle.std.proofs.Common.{◌≡◌, ◌≤◌, ◌-◌, None}
-use Rattle.aprs_kiss.specs.Device.{device_of, failures_of}
+use Rattle.std.proofs.Common.{◌≡◌, ◌≤◌, ◌-◌, ℕ, List, Option, None}
+use Rattle.aprs_kiss.specs.Device.{device_of, failures_of, answered_of}
 use Rattle.aprs_log.specs.Reader.{Awaits, lines_of, loan_of, source_of, stop_of}
 use Rattle.aprs_tool.proofs.Checked.{Checked}
 use Rattle.aprs_tool.proofs.check.check_run.Given as goal
@@ -13,8 +13,9 @@ invariant-lines g l =
       reads : failures_of (source_of l.initial.reader) ≤ failures_of (source_of l.reader);
       writes : failures_of l.initial.w ≤ failures_of l.w;
       going : stop_of l.reader ≡ None;
-      checked : Checked (Awaits (remaining (device_of (source_of l.initial.reader))) l.initial.reader)
-          (Awaits (remaining (device_of (source_of l.reader))) l.reader) (contents (device_of l.initial.w)) (contents (device_of l.w))
+      answered : answered_of (source_of l.reader) ≡ answered_of (source_of l.initial.reader);
+      checked : (end : Option (List ℕ)) → Checked (Awaits (remaining (device_of (source_of l.initial.reader))) end l.initial.reader)
+          (Awaits (remaining (device_of (source_of l.reader))) end l.reader) (contents (device_of l.initial.w)) (contents (device_of l.w))
           l.heard l.passed (lines_of l.reader);
     }
 

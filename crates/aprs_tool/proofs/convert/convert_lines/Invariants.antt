@@ -1,6 +1,6 @@
-use Rattle.std.proofs.Common.{◌≡◌, ◌≤◌, ◌-◌, None}
+use Rattle.std.proofs.Common.{◌≡◌, ◌≤◌, ◌-◌, ℕ, List, Option, None}
 use Rattle.std.specs.List.{flat_map}
-use Rattle.aprs_kiss.specs.Device.{device_of, failures_of}
+use Rattle.aprs_kiss.specs.Device.{device_of, failures_of, answered_of}
 use Rattle.aprs_log.specs.Reader.{Awaits, lines_of, loan_of, source_of, stop_of}
 use Rattle.aprs_tool.specs.Run.{line_text}
 use Rattle.aprs_tool.proofs.Seen.{Ran}
@@ -15,8 +15,9 @@ invariant-lines g l =
       reads : failures_of (source_of l.initial.reader) ≤ failures_of (source_of l.reader);
       writes : failures_of l.initial.w ≤ failures_of l.w;
       going : stop_of l.reader ≡ None;
-      ran : Ran (flat_map (line_text l.form)) (Awaits (remaining (device_of (source_of l.initial.reader))) l.initial.reader)
-          (Awaits (remaining (device_of (source_of l.reader))) l.reader) (contents (device_of l.initial.w)) (contents (device_of l.w));
+      answered : answered_of (source_of l.reader) ≡ answered_of (source_of l.initial.reader);
+      ran : (end : Option (List ℕ)) → Ran (flat_map (line_text l.form)) (Awaits (remaining (device_of (source_of l.initial.reader))) end l.initial.reader)
+          (Awaits (remaining (device_of (source_of l.reader))) end l.reader) (contents (device_of l.initial.w)) (contents (device_of l.w));
     }
 
 abbrev pub decreases-lines : goal.decreases-lines

@@ -1,6 +1,6 @@
-use Rattle.std.proofs.Common.{◌≤◌, ◌-◌, length}
+use Rattle.std.proofs.Common.{◌≡◌, ◌≤◌, ◌-◌, length}
 use Rattle.std.specs.Io.KnownBytes.{Consumes}
-use Rattle.aprs_kiss.specs.Device.{device_of, failures_of}
+use Rattle.aprs_kiss.specs.Device.{device_of, failures_of, answered_of}
 use Rattle.aprs_tool.proofs.head.read_head.Given as goal
 
 abbrev pub invariant-loop-r : goal.invariant-loop-r
@@ -8,6 +8,7 @@ invariant-loop-r g l = record {
   took : Consumes (g.R.Read.remaining (device_of l.initial.r)) (g.R.Read.remaining (device_of l.r)) l.bytes.items;
   few : length l.bytes.items ≤ l.limit;
   most : length l.bytes.items ≤ 8;
+  answered : answered_of l.r ≡ answered_of l.initial.r;
   count : failures_of l.initial.r ≤ failures_of l.r;
 }
 

@@ -1,5 +1,5 @@
-use Rattle.std.proofs.Common.{◌≡◌, ◌≤◌, ◌-◌, None}
-use Rattle.aprs_kiss.specs.Device.{device_of, failures_of}
+use Rattle.std.proofs.Common.{◌≡◌, ◌≤◌, ◌-◌, ℕ, List, Option, None}
+use Rattle.aprs_kiss.specs.Device.{device_of, failures_of, answered_of}
 use Rattle.aprs_log.specs.Reader.{Awaits, lines_of, loan_of, source_of, stop_of}
 use Rattle.aprs_tool.proofs.Logs.{Took}
 use Rattle.aprs_tool.proofs.input.read_log.Given as goal
@@ -11,8 +11,9 @@ invariant-lines g l =
       same_reference : loan_of l.reader ≡ loan_of l.initial.reader;
       reads : failures_of (source_of l.initial.reader) ≤ failures_of (source_of l.reader);
       going : stop_of l.reader ≡ None;
-      took : Took (Awaits (remaining (device_of (source_of l.initial.reader))) l.initial.reader)
-          (Awaits (remaining (device_of (source_of l.reader))) l.reader) l.book;
+      answered : answered_of (source_of l.reader) ≡ answered_of (source_of l.initial.reader);
+      took : (end : Option (List ℕ)) → Took (Awaits (remaining (device_of (source_of l.initial.reader))) end l.initial.reader)
+          (Awaits (remaining (device_of (source_of l.reader))) end l.reader) l.book;
     }
 
 abbrev pub decreases-lines : goal.decreases-lines

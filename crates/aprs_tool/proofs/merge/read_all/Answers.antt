@@ -20,7 +20,7 @@ loop-index-preserved g c =
     record {
       limit = c.in-Ok.ensures.limit ∙ c.loop-index.invariant.limit;
       unread = λ k h. set_elsewhere c.loop-index.inputs i k c.take_input.new.r h ∙ c.loop-index.invariant.unread k (omega (arith, h));
-      read = λ inputs e. HasRead-more c.args.limit inputs i (rows_of c.loop-index.desk) _ (c.loop-index.invariant.read inputs e)
+      read = λ inputs e. HasRead-more c.args.limit inputs i (rows_of c.loop-index.desk) _ _ (c.loop-index.invariant.read inputs e)
           (element_of (λ r. g.R.Read.remaining (device_of r)) c.args.inputs.now _ i r at e) (rows_of c.take_input.new.self)
           _ c.loop-index.invariant.limit c.in-Ok.ensures.takes;
     }
@@ -31,7 +31,7 @@ returns-in-Err-clause-reads g c =
     let r = get_or c.loop-index.inputs i c.index-inputs-index.result in
     let at = element c.loop-index.inputs c.args.inputs.now i c.index-inputs-index.result (omega (arith, c.loop-index-test.true, c.loop-index.auto.inputs))
     (c.loop-index.invariant.unread i (omega arith)) in
-    λ inputs e. HasRead-refused c.args.limit inputs i (rows_of c.loop-index.desk) _ (c.loop-index.invariant.read inputs e)
+    λ inputs e. HasRead-refused c.args.limit inputs i (rows_of c.loop-index.desk) _ _ (c.loop-index.invariant.read inputs e)
     (element_of (λ r. g.R.Read.remaining (device_of r)) c.args.inputs.now _ i r at e) c.in-Err.fault (rows_of c.loop-index.desk) (rows_of c.take_input.new.self)
     _ c.loop-index.invariant.limit c.in-Err.ensures.takes
 

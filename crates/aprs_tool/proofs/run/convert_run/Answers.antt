@@ -5,5 +5,5 @@ use Rattle.aprs_tool.proofs.run.convert_run.Goals as goal
 
 pub returns-in-Text-clause-run : goal.returns-in-Text-clause-run
 returns-in-Text-clause-run g c =
-    by_lines (λ text fault. RunsOver text fault c.args.limit (g.R.Read.remaining (device_of c.args.r.now)) c.convert_lines.result
+    by_lines (λ text fault. RunsOver text fault c.args.limit (g.R.Read.remaining (device_of c.args.r.now)) (g.R.Read.remaining (device_of c.convert_lines.new.r)) c.convert_lines.result
     (g.W.Write.contents (device_of c.args.w.now)) (g.W.Write.contents (device_of c.convert_lines.new.w))) c.args.form c.in-Text.is c.convert_lines.ensures.run

@@ -1,4 +1,4 @@
-use Rattle.std.proofs.Common.{◌-◌, ◌<◌, ◌≤◌}
+use Rattle.std.proofs.Common.{◌≡◌, ◌+◌, ◌-◌, ◌<◌, ◌≤◌}
 use Rattle.std.specs.Io.KnownBytes.{Keeps}
 use Rattle.aprs_kiss.proofs.device.Counted.read.Given as goal
 
@@ -6,6 +6,8 @@ abbrev pub invariant-loop-n : goal.invariant-loop-n
 invariant-loop-n g l = record {
   tries : l.tries < 1000;
   count : l.initial.self.failed ≤ l.self.failed;
+  tried : l.self.failed ≤ l.initial.self.failed + l.tries;
+  answered : l.self.answered ≡ l.initial.self.answered;
   kept : Keeps (g.R.Read.remaining l.initial.self.device) (g.R.Read.remaining l.self.device);
 }
 

@@ -1,7 +1,6 @@
 use Rattle.std.proofs.Common.{◌≡◌, ◌≤◌, Option, None, Some}
-use Rattle.aprs_kiss.specs.Device.{device_of, failures_of, Rose}
-use Rattle.aprs_log.specs.LogAnswers.{Answers}
-use Rattle.aprs_log.specs.Reader.{Awaits, current_of, lines_of, loan_of, source_of, stop_of, work_of}
+use Rattle.aprs_kiss.specs.Device.{device_of, failures_of, answered_of, Rose, RoseWhere}
+use Rattle.aprs_log.specs.Reader.{Moves, current_of, lines_of, loan_of, source_of, stop_of, work_of}
 use Rattle.aprs_log.specs.declared.ending.State.TheVariants.{Failed}
 use Rattle.aprs_log.specs.declared.fault.LogCause.TheVariants as cause
 use Rattle.aprs_log.specs.declared.fault.LogFault.{LogFault}
@@ -13,12 +12,14 @@ invariant-loop-self g l = record {
   count : failures_of (source_of l.initial.self) ≤ failures_of (source_of l.self);
   lines : lines_of l.self ≡ lines_of l.initial.self;
   current : current_of l.self ≡ current_of l.initial.self;
-  moves : (a : Answers) → Awaits (g.R.Read.remaining (device_of (source_of l.self))) l.self a
-      → Awaits (g.R.Read.remaining (device_of (source_of l.initial.self))) l.initial.self a;
+  moves : Moves (g.R.Read.remaining (device_of (source_of l.initial.self))) l.initial.self
+      (g.R.Read.remaining (device_of (source_of l.self))) l.self;
   stays : (stop : Option LogFault) → stop_of l.initial.self ≡ Some stop
       → (stop_of l.self ≡ Some stop) × (source_of l.self ≡ source_of l.initial.self);
   read : l.self.state ≡ Failed cause.Read → stop_of l.initial.self ≡ None
       → Rose (failures_of (source_of l.initial.self)) (failures_of (source_of l.self));
+  answered : stop_of l.initial.self ≡ None → RoseWhere (l.self.state ≡ Failed cause.Read)
+      (answered_of (source_of l.initial.self)) (answered_of (source_of l.self));
 }
 
 abbrev pub decreases-loop-self : goal.decreases-loop-self

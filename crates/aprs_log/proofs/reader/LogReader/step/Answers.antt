@@ -13,7 +13,7 @@ returns-in-Some-Ok-clause-given g c =
     let t = c.in-Some-Ok.ensures.some in
     let told = c.take_line.new.told in (
       refl,
-      λ a. step_line _ _ _ _ _ _ told t.0 a c.requires t.1
+      λ end a. step_line _ _ end _ _ _ _ told t.0 a c.requires t.1
           (ap (λ r. told_in r told) (sym c.in-Some-Ok.field-0-is) ∙ t.2) t.3,
     )
 
@@ -23,6 +23,6 @@ returns-in-Some-Err-clause-none g c =
     let told = c.take_line.new.told in (
       refl,
       search rules,
-      λ a. step_fault _ _ _ _ _ c.in-Some-Err.fault t.0 c.from.result a c.requires t.1
-          (ap (λ r. told_in r told) (sym c.in-Some-Err.field-0-is) ∙ t.2) c.from.ensures,
+      λ end a w. step_fault _ _ end _ _ _ c.in-Some-Err.fault t.0 c.from.result a c.requires t.1
+          (ap (λ r. told_in r told) (sym c.in-Some-Err.field-0-is) ∙ t.2) c.from.ensures w.1,
     )
