@@ -7,3 +7,9 @@ pub mod Replays
 pub mod Refusals
 pub mod Views
 pub mod Stations
+pub mod Collected
+pub mod Messages
+pub mod Replies
+pub mod Listings
+pub mod MessagesOfSets
+pub mod Things

@@ -10,6 +10,10 @@ pub mod Reports
 pub mod LastKnown
 pub mod Subject
 pub mod Stations
+pub mod Messages
+pub mod MessageRows
+pub mod Names
+pub mod NamedRows
 pub mod StationRows
 -- what public clauses cite of lower crates
 pub use Rattle.aprs_log.specs.Reception
@@ -26,5 +30,7 @@ pub use Rattle.aprs_laws.specs.Joining
 pub use Rattle.aprs_laws.specs.Taken
 pub use Rattle.aprs_laws.specs.Best
 pub use Rattle.aprs_laws.specs.BestLaws
+pub use Rattle.aprs_laws.specs.Spans
+pub use Rattle.aprs_ax25.specs.CallText
 pub use Rattle.aprs_report.specs.Reading
 pub use Rattle.aprs_report.specs.Reader

@@ -18,6 +18,7 @@ pub mod Interleaves
 pub mod RunRows
 pub mod TakenSteps
 pub mod Known
+pub mod Spans
 pub mod Worked
 pub mod Inserts
 pub mod Merges

@@ -17,6 +17,8 @@ pub mod Merged
 pub mod Examples
 pub mod BookLaws
 pub mod BestLaws
+pub mod Spans
+pub mod SpanLaws
 pub mod StepLaws
 -- what public clauses cite of lower crates
 pub use Rattle.aprs_ax25.specs.Callsign

@@ -22,7 +22,7 @@ pub use example::{
 };
 pub use join_law::{books_join, receivers_join, receptions_join};
 pub use key_law::keys_are_of_parts;
-pub use last_known_law::books_tell_last_known;
+pub use last_known_law::{books_tell_last_known, books_tell_spans};
 pub use order_law::{equals_are_identical, orders_are_total};
 pub use step_law::{
     last_row_decides, one_more_joins, one_pass_joins, reception_is_inserted, steps_give_books,

@@ -1,0 +1,231 @@
+-- Entries of a map that are collected from rows: one for each thing that some row tells of.
+use Rattle.std.proofs.Common.{◌≡◌, ◌∙◌, List, [], ◌∷◌, ◌⊎◌, Some, None, cond, sym, ap, refl, subst, inl, inr}
+use Rattle.std.specs.List.{AllByRecursion}
+use Rattle.std.specs.Map.{lookup, keys_of}
+use Rattle.std.specs.BTreeMap.{is_at, insert_entry}
+use Rattle.std.specs.List.Sorted.{IsStrictlySortedBy}
+use Rattle.std.specs.Cmp.{IsTotalOrder}
+use Rattle.std.specs.Ordering.{is_eq, match_ordering}
+use Rattle.std.specs.declared.cmp.Ordering.{Ordering}
+use Rattle.std.specs.declared.cmp.Ordering.TheVariants.{Less, Equal, Greater}
+use Rattle.std.proofs.lemmas.Cmp.{tied_itself}
+use Rattle.std.proofs.lemmas.Map.Lookups.{CmpEqualImpliesEq}
+use Rattle.std.proofs.lemmas.Map.Keys.{sorted_head, sorted_tail}
+use Rattle.aprs_laws.specs.Lists.{◌∈◌, Ordered}
+use Rattle.aprs_laws.specs.Key.{Key}
+use Rattle.aprs_laws.specs.Row.{Row, row_key}
+use Rattle.aprs_book.specs.MessageRows.{IsCollected}
+
+-- ---- entries in order
+
+module _ {K M : Type 0} (shown : K → M) (C : M → M → Ordering) where
+  abbrev pub cmp_of : K → K → Ordering
+  cmp_of x y = C (shown x) (shown y)
+
+  abbrev pub IsEntryBefore : {V : Type 0} → K × V → K × V → Type 0
+  IsEntryBefore a b = C (shown a.0) (shown b.0) ≡ Less
+
+  all_below : {V : Type 0} (k : K) (es : List (K × V))
+      → AllByRecursion (λ (y : K). C (shown k) (shown y) ≡ Less) (keys_of es) → (b : K × V) → b ∈ es
+      → C (shown k) (shown b.0) ≡ Less
+  all_below k [] a b h = absurd h
+  all_below {V} k (e ∷ es) a b (inl s) =
+      subst (λ (t : K × V). C (shown k) (shown t.0) ≡ Less) s a.0
+  all_below k (e ∷ es) a b (inr j) = all_below k es a.1 b j
+
+  pub in_order : {V : Type 0} (es : List (K × V)) → IsStrictlySortedBy cmp_of (keys_of es)
+      → Ordered IsEntryBefore es
+  in_order [] s = tt
+  in_order (e ∷ es) s = (
+    λ b h. all_below e.0 es (sorted_head cmp_of e.0 (keys_of es) s) b h,
+    in_order es (sorted_tail cmp_of e.0 (keys_of es) s),
+  )
+
+  not_less : (total : IsTotalOrder C) (a : M) → C a a ≡ Less → ⊥
+  not_less total a l = let t : Less ≡ Equal = sym l ∙ tied_itself total a in absurd (cc)
+
+  module _ {V : Type 0} (total : IsTotalOrder C) (exact : CmpEqualImpliesEq C) where
+    -- entries in order that show the same are one
+    pub one_entry : (es : List (K × V)) → Ordered IsEntryBefore es → (a b : K × V) → a ∈ es → b ∈ es
+        → shown a.0 ≡ shown b.0 → a ≡ b
+    one_entry [] o a b h k e = absurd h
+    one_entry (x ∷ es) o a b (inl h) (inl k) e = sym h ∙ k
+    one_entry (x ∷ es) o a b (inl h) (inr k) e =
+        absurd
+        (not_less total (shown b.0)
+        (subst (λ (t : M). C t (shown b.0) ≡ Less) (ap (λ (t : K × V). shown t.0) h ∙ e) (o.0 b k)))
+    one_entry (x ∷ es) o a b (inr h) (inl k) e =
+        absurd
+        (not_less total (shown a.0)
+        (subst (λ (t : M). C t (shown a.0) ≡ Less) (ap (λ (t : K × V). shown t.0) k ∙ sym e)
+        (o.0 a h)))
+    one_entry (x ∷ es) o a b (inr h) (inr k) e = one_entry es o.1 a b h k e
+
+    abbrev pub IsFound : K → V → List (K × V) → Type 0
+    IsFound q v es = (e : K × V) × (e ∈ es) × (shown q ≡ shown e.0) × (e.1 ≡ v)
+
+    -- the entry that a look-up finds
+    pub found : (q : K) (v : V) (es : List (K × V)) → lookup (is_at (cmp_of q)) es ≡ Some v
+        → IsFound q v es
+    found q v [] h = absurd (cc)
+    found q v (e ∷ es) h = told (C (shown q) (shown e.0)) refl h (λ g. found q v es g) where
+      told : (o : Ordering) → C (shown q) (shown e.0) ≡ o
+          → cond (is_eq o) (Some e.1) (lookup (is_at (cmp_of q)) es) ≡ Some v
+          → (lookup (is_at (cmp_of q)) es ≡ Some v → IsFound q v es) → IsFound q v (e ∷ es)
+      told Less d g r = let f = r g in (f.0, inr f.1, f.2, f.3)
+      told Equal d g r = (e, inl refl, exact (shown q) (shown e.0) d, cc)
+      told Greater d g r = let f = r g in (f.0, inr f.1, f.2, f.3)
+
+    pub absent : (q : K) (es : List (K × V)) → lookup (is_at (cmp_of q)) es ≡ None → (e : K × V)
+        → e ∈ es → shown q ≡ shown e.0 → ⊥
+    absent q [] h e m d = m
+    absent q (f ∷ es) h e (inl s) d = told (C (shown q) (shown f.0)) tie h where
+      tie : C (shown q) (shown f.0) ≡ Equal
+      tie =
+          ap (C (shown q)) (ap (λ (t : K × V). shown t.0) s ∙ sym d) ∙ tied_itself total (shown q)
+
+      told : (o : Ordering) → o ≡ Equal
+          → cond (is_eq o) (Some f.1) (lookup (is_at (cmp_of q)) es) ≡ None → ⊥
+      told Less t g = absurd (cc)
+      told Equal t g = absurd (cc)
+      told Greater t g = absurd (cc)
+    absent q (f ∷ es) h e (inr j) d = absent q es (told (C (shown q) (shown f.0)) h) e j d where
+      told : (o : Ordering) → cond (is_eq o) (Some f.1) (lookup (is_at (cmp_of q)) es) ≡ None
+          → lookup (is_at (cmp_of q)) es ≡ None
+      told Less g = g
+      told Equal g = absurd (cc)
+      told Greater g = g
+
+    -- ---- one entry put
+
+    pub from_insert : (k : K) (v : V) (es : List (K × V)) (e : K × V)
+        → e ∈ insert_entry cmp_of es k v → (shown e.0 ≡ shown k) ⊎ (e ∈ es)
+    from_insert k v [] e (inl s) = inl (ap (λ (t : K × V). shown t.0) (sym s))
+    from_insert k v [] e (inr j) = absurd j
+    from_insert k v (f ∷ es) e h =
+        told (C (shown k) (shown f.0)) refl h (λ j. from_insert k v es e j) where
+          told : (o : Ordering) → C (shown k) (shown f.0) ≡ o
+              → e ∈ match_ordering o ((k, v) ∷ f ∷ es) ((f.0, v) ∷ es)
+              (f ∷ insert_entry cmp_of es k v)
+              → (e ∈ insert_entry cmp_of es k v → (shown e.0 ≡ shown k) ⊎ (e ∈ es))
+              → (shown e.0 ≡ shown k) ⊎ (e ∈ (f ∷ es))
+          told Less d (inl s) r = inl (ap (λ (t : K × V). shown t.0) (sym s))
+          told Less d (inr j) r = inr j
+          told Equal d (inl s) r =
+              inl
+              (ap (λ (t : K × V). shown t.0) (sym s) ∙ sym (exact (shown k) (shown f.0) d))
+          told Equal d (inr j) r = inr (inr j)
+          told Greater d (inl s) r = inr (inl s)
+          told Greater d (inr j) r = elim (r j) [ inl s ↦ inl s | inr m ↦ inr (inr m) ]
+
+    abbrev pub IsThere : K → V → List (K × V) → Type 0
+    IsThere k v es = (e : K × V) × (e ∈ es) × (shown e.0 ≡ shown k) × (e.1 ≡ v)
+
+    pub inserted_there : (k : K) (v : V) (es : List (K × V))
+        → IsThere k v (insert_entry cmp_of es k v)
+    inserted_there k v [] = ((k, v), inl refl, refl, refl)
+    inserted_there k v (f ∷ es) =
+        told (C (shown k) (shown f.0)) refl (inserted_there k v es) where
+          told : (o : Ordering) → C (shown k) (shown f.0) ≡ o
+              → IsThere k v (insert_entry cmp_of es k v)
+              → IsThere k v
+              (match_ordering o ((k, v) ∷ f ∷ es) ((f.0, v) ∷ es) (f ∷ insert_entry cmp_of es k v))
+          told Less d t = ((k, v), inl refl, refl, refl)
+          told Equal d t = ((f.0, v), inl refl, sym (exact (shown k) (shown f.0) d), refl)
+          told Greater d t = (t.0, inr t.1, t.2, t.3)
+
+    abbrev pub Stays : K × V → List (K × V) → Type 0
+    Stays e es = (f : K × V) × (f ∈ es) × (shown f.0 ≡ shown e.0)
+
+    pub stays_there : (k : K) (v : V) (es : List (K × V)) (e : K × V) → e ∈ es
+        → Stays e (insert_entry cmp_of es k v)
+    stays_there k v [] e h = absurd h
+    stays_there k v (f ∷ es) e h =
+        told (C (shown k) (shown f.0)) h (λ j. stays_there k v es e j) where
+          told : (o : Ordering) → e ∈ (f ∷ es)
+              → (e ∈ es → Stays e (insert_entry cmp_of es k v))
+              → Stays e
+              (match_ordering o ((k, v) ∷ f ∷ es) ((f.0, v) ∷ es) (f ∷ insert_entry cmp_of es k v))
+          told Less m r = (e, inr m, refl)
+          told Equal (inl s) r = ((f.0, v), inl refl, ap (λ (t : K × V). shown t.0) s)
+          told Equal (inr j) r = (e, inr j, refl)
+          told Greater (inl s) r = (f, inl refl, ap (λ (t : K × V). shown t.0) s)
+          told Greater (inr j) r = let t = r j in (t.0, inr t.1, t.2)
+
+-- ---- one row more
+
+pub record Adds (rows : List Row) (x : Row) (more : List Row) : Type 0 where
+  pub to : (y : Row) → y ∈ more → (y ∈ rows) ⊎ (x ≡ y)
+  pub old : (y : Row) → y ∈ rows → y ∈ more
+  pub new : x ∈ more
+
+module _ {K V M : Type 0} (shown : K → M) (C : M → M → Ordering) (total : IsTotalOrder C)
+    (exact : CmpEqualImpliesEq C) (P : M → Key → Type 0) (T : List Row → M → V → Type 0)
+    (rows more : List Row) (x : Row) (adds : Adds rows x more)
+    (other : (m : M) (v : V) → (P m (row_key x) → ⊥) → T rows m v → T more m v) (es : List (K × V))
+    (c : IsCollected shown P T rows es) where
+  -- a row that tells of nothing
+  pub passed : ((m : M) → P m (row_key x) → ⊥) → IsCollected shown P T more es
+  passed n = record {
+    each = λ e h. other (shown e.0) e.1 (n (shown e.0)) (c.each e h);
+    every = λ y h m p. elim (adds.to y h) [
+      | inl j ↦ c.every y j m p
+      | inr s ↦ absurd (n m (subst (λ (t : Row). P m (row_key t)) (sym s) p))
+    ];
+  }
+
+  -- a row that tells of what k shows
+  pub put : (k : K) (v : V) → IsStrictlySortedBy (cmp_of shown C) (keys_of (insert_entry (cmp_of shown C) es k v))
+      → ((m : M) → P m (row_key x) → shown k ≡ m) → T more (shown k) v
+      → IsCollected shown P T more (insert_entry (cmp_of shown C) es k v)
+  put k v sorted only t = record {
+    each = λ e h. told e h (C (shown e.0) (shown k)) refl;
+    every = λ y h m p. elim (adds.to y h) [
+      | inl j ↦ let f = c.every y j m p in
+          let g = stays_there shown C total exact k v es f.0 f.1 in
+          (g.0, g.1, g.2 ∙ f.2)
+      | inr s ↦ let g = inserted_there shown C total exact k v es in
+          (g.0, g.1, g.2 ∙ only m (subst (λ (t : Row). P m (row_key t)) (sym s) p))
+    ];
+  } where
+    apart : (e : K × V) → e ∈ insert_entry (cmp_of shown C) es k v → (shown e.0 ≡ shown k → ⊥)
+        → T more (shown e.0) e.1
+    apart e h n = elim (from_insert shown C total exact k v es e h) [
+      | inl s ↦ absurd (n s)
+      | inr j ↦ other (shown e.0) e.1 (λ p. n (sym (only (shown e.0) p))) (c.each e j)
+    ]
+
+    unequal : (a b : M) → a ≡ b → (C a b ≡ Equal → ⊥) → ⊥
+    unequal a b s n = n (ap (C a) (sym s) ∙ tied_itself total a)
+
+    told : (e : K × V) → e ∈ insert_entry (cmp_of shown C) es k v → (o : Ordering)
+        → C (shown e.0) (shown k) ≡ o → T more (shown e.0) e.1
+    told e h Less d = apart e h (λ s. unequal _ _ s (λ q. let t : Less ≡ Equal = sym d ∙ q in absurd (cc)))
+    told e h Greater d = apart e h (λ s. unequal _ _ s (λ q. let t : Greater ≡ Equal = sym d ∙ q in absurd (cc)))
+    told e h Equal d =
+        let i = inserted_there shown C total exact k v es in
+        let s = exact (shown e.0) (shown k) d in
+        let one = one_entry shown C total exact (insert_entry (cmp_of shown C) es k v)
+        (in_order shown C (insert_entry (cmp_of shown C) es k v) sorted) e i.0 h i.1 (s ∙ sym i.2) in
+        subst (λ (m : M). T more m e.1) (sym s)
+        (subst (T more (shown k)) (sym (ap (λ (f : K × V). f.1) one ∙ i.3)) t)
+
+  -- by an order of keys that is that of what they show
+  pub put_by : (R : K → K → Ordering) → ((a b : K) → R a b ≡ cmp_of shown C a b) → (k : K) (v : V)
+      (new : List (K × V)) → new ≡ insert_entry R es k v → IsStrictlySortedBy R (keys_of new)
+      → ((m : M) → P m (row_key x) → shown k ≡ m) → T more (shown k) v
+      → IsCollected shown P T more new
+  put_by R same k v new n sorted only t =
+      let p : cmp_of shown C ≡ R = λ j a b. sym (same a b) j in
+      subst (IsCollected shown P T more) (sym n)
+      (subst (λ (Q : K → K → Ordering). IsStrictlySortedBy Q (keys_of (insert_entry Q es k v))
+      → IsCollected shown P T more (insert_entry Q es k v)) p (λ s. put k v s only t)
+      (subst (λ (u : List (K × V)). IsStrictlySortedBy R (keys_of u)) n sorted))
+
+-- a look-up by such an order
+pub same_lookup : {K V M : Type 0} (shown : K → M) (C : M → M → Ordering) (R : K → K → Ordering)
+    → ((a b : K) → R a b ≡ cmp_of shown C a b) → (k : K) (es : List (K × V))
+    → lookup (is_at (R k)) es ≡ lookup (is_at (cmp_of shown C k)) es
+same_lookup {K} shown C R same k es =
+    let p : R ≡ cmp_of shown C = λ j a b. same a b j in
+    ap (λ (Q : K → K → Ordering). lookup (is_at (Q k)) es) p

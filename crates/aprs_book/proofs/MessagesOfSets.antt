@@ -1,0 +1,135 @@
+-- What rows tell of messages is what their set has.
+use Rattle.std.proofs.Common.{◌≡◌, ◌∙◌, ℕ, List, [], ◌∷◌, Option, Some, None, Result, Ok, Err, IfOk, sym, refl, subst, Bor}
+use Rattle.aprs_ax25.specs.Callsign.{Call}
+use Rattle.aprs_ax25.specs.CallText.{CallText}
+use Rattle.aprs_log.specs.Reception.{Heard, heard_cmp}
+use Rattle.aprs_laws.specs.Lists.{◌∈◌, Ordered}
+use Rattle.aprs_laws.specs.Order.{IsBelow, IsUpTo}
+use Rattle.aprs_laws.specs.Gap.{gap_seconds}
+use Rattle.aprs_laws.specs.Key.{Key, key_of}
+use Rattle.aprs_laws.specs.Row.{Row, row_key}
+use Rattle.aprs_laws.specs.Book.{BookOf}
+use Rattle.aprs_laws.specs.Best.{LastKnown, IsBest}
+use Rattle.aprs_laws.specs.Spans.{IsFirstMoment, IsLastMoment}
+use Rattle.aprs_laws.proofs.Spans.{first_moment, last_moment}
+use Rattle.aprs_laws.proofs.Views.{a_row, best_of_rows, none_of_rows}
+use Rattle.aprs_book.specs.declared.message.MessageRow.{MessageRow}
+use Rattle.aprs_book.specs.declared.message.MessageState.{MessageState}
+use Rattle.aprs_book.specs.declared.message_key.MessageKey.{MessageKey}
+use Rattle.aprs_book.specs.declared.message_key.Span.{Span}
+use Rattle.aprs_book.specs.declared.message_key.Asked.{Asked}
+use Rattle.aprs_book.specs.Messages.{Message, message_cmp, ReportsIt, AnswersIt, StandsBy, shown_message, IsMessageRow, AreMessages, IsListedBefore, TellsMessages}
+use Rattle.aprs_book.specs.MessageRows.{message_of, Answer, answer_of, IsReply, AreSpans, AreReplies, IsFor, TellsAnswer, StateFrom, IsListed, Zipped, IsKeyBefore}
+use Rattle.aprs_book.proofs.Listings.{in_zip_right, in_zip_left}
+
+-- what a key answers
+answer_at : (m : Message) (id : List ℕ) (k : Key) → AnswersIt m id k
+    → IsReply (record { source = m.source; addressee = k.source; id = id }) k
+    × IsFor m id (record { source = m.source; addressee = k.source; id = id })
+answer_at m id k h = (
+  record { addressee = h.addressee; sender = refl; to = h.to; answer = h.answer },
+  record { source = refl; addressee = h.sender; same_id = refl },
+)
+
+answers_by : (m : Message) (a : Answer) (k : Key) (id : List ℕ) → IsFor m id a → IsReply a k → AnswersIt m id k
+answers_by m a k id f r =
+    subst (λ (i : List ℕ). AnswersIt m i k) f.same_id (record {
+      addressee = r.addressee;
+      sender = subst (λ (c : Call). CallText c m.addressee) (sym r.sender) f.addressee;
+      to = subst (λ (c : Call). CallText c r.addressee) f.source r.to;
+      answer = r.answer;
+    })
+
+module _ (S : List Heard) (rows : List Row) (b : BookOf gap_seconds S rows) where
+  module _ (es : List (Asked × Bor Heard)) (c : AreReplies rows es) (m : Message) (id : List ℕ) where
+    pub answer_known : (answer : Option Heard) → TellsAnswer es m id answer
+        → LastKnown S (AnswersIt m id) answer
+    answer_known None t =
+        none_of_rows gap_seconds S rows (AnswersIt m id) b
+        (λ y h k. let a = answer_at m id (row_key y) k in
+        let e = c.every y h (record { source = m.source; addressee = (row_key y).source; id = id }) a.0 in
+        t e.0 e.1 (subst (IsFor m id) (sym e.2) a.1))
+    answer_known (Some g) t =
+        let r = c.each t.0 t.1 in
+        let x = r.row in
+        subst (IsBest S (AnswersIt m id)) (x.3 ∙ t.4)
+        (best_of_rows gap_seconds S rows (AnswersIt m id) b x.0 x.1
+        (answers_by m (answer_of t.0.0) (row_key x.0) id t.2 x.2)
+        (λ y h k. let a = answer_at m id (row_key y) k in
+        subst (IsUpTo heard_cmp y.greatest) (sym x.3)
+        (r.greatest y h
+        (subst (λ (q : Answer). IsReply q (row_key y))
+        (t.3 (record { source = m.source; addressee = (row_key y).source; id = id }) a.1) a.0))))
+
+  stands : (es : List (Asked × Bor Heard)) → AreReplies rows es → (m : Message) (first : ℕ)
+      (id : Option (List ℕ)) (state : MessageState) → StateFrom es m first id state
+      → StandsBy S m first id state
+  stands es c m first None state h = h
+  stands es c m first (Some id) state h = (h.0, answer_known es c m id h.0 h.1, h.2)
+
+  module _ (es : List (MessageKey × Span)) (rs : List (Asked × Bor Heard)) (xs : List MessageRow)
+      (cs : AreSpans rows es) (ca : AreReplies rows rs) (o : Ordered IsKeyBefore es)
+      (z : Zipped (IsListed rs) es xs) where
+    each_row : (x : MessageRow) → x ∈ xs → IsMessageRow S x
+    each_row x h =
+        let e = in_zip_right (IsListed rs) es xs x z h in
+        let s = cs.each e.0 e.1 in
+        record {
+          first =
+              subst (λ (m : Message). IsFirstMoment S (ReportsIt m) x.first) (sym e.2.message)
+              (subst (IsFirstMoment S (ReportsIt (message_of e.0.0))) (sym e.2.first)
+              ((first_moment gap_seconds S rows (ReportsIt (message_of e.0.0)) b e.0.1.first).1 s.first));
+          last =
+              subst (λ (m : Message). IsLastMoment S (ReportsIt m) x.last) (sym e.2.message)
+              (subst (IsLastMoment S (ReportsIt (message_of e.0.0))) (sym e.2.last)
+              ((last_moment gap_seconds S rows (ReportsIt (message_of e.0.0)) b e.0.1.last).1 s.last));
+          state =
+              subst (λ (m : Message). StandsBy S m x.first m.id x.state) (sym e.2.message)
+              (subst (λ (n : ℕ). StandsBy S (message_of e.0.0) n (message_of e.0.0).id x.state) (sym e.2.first)
+              (stands rs ca (message_of e.0.0) e.0.1.first (message_of e.0.0).id x.state e.2.state));
+        }
+
+    sent : (m : Message) → (x : MessageRow) × (x ∈ xs) × (shown_message x ≡ m)
+        → (s : Heard) × (s ∈ S) × ReportsIt m (key_of s.frame)
+    sent m h =
+        let e = in_zip_right (IsListed rs) es xs h.0 z h.1 in
+        let r = (cs.each e.0 e.1).first.row in (
+          r.0.greatest,
+          ((b.exactly r.0).0 r.1).member,
+          subst (λ (n : Message). ReportsIt n (row_key r.0)) (sym e.2.message ∙ h.2) r.2,
+        )
+
+    listed_there : (m : Message) → (s : Heard) × (s ∈ S) × ReportsIt m (key_of s.frame)
+        → (x : MessageRow) × (x ∈ xs) × (shown_message x ≡ m)
+    listed_there m h =
+        let y = a_row gap_seconds S rows b h.0 h.1 in
+        let e = cs.every y.0 y.1 m (subst (ReportsIt m) y.2.key h.2) in
+        let x = in_zip_left (IsListed rs) es xs e.0 z e.1 in
+        (x.0, x.1, x.2.message ∙ e.2)
+
+    pub messages_of_set : AreMessages S xs
+    messages_of_set = record {
+      ascending = in_order es xs z o;
+      messages = λ m. (sent m, listed_there m);
+      each = each_row;
+    } where
+      in_order : (es : List (MessageKey × Span)) (xs : List MessageRow) → Zipped (IsListed rs) es xs
+          → Ordered IsKeyBefore es → Ordered IsListedBefore xs
+      in_order [] [] z o = tt
+      in_order [] (x ∷ xs) z o = absurd z
+      in_order (e ∷ es) [] z o = absurd z
+      in_order (e ∷ es) (x ∷ xs) z o = (
+        λ y h. (let f = in_zip_right (IsListed rs) es xs y z.1 h in
+            subst (λ (m : Message). IsBelow message_cmp m (shown_message y)) (sym z.0.message)
+            (subst (λ (m : Message). IsBelow message_cmp (message_of e.0) m) (sym f.2.message) (o.0 f.0 f.1))),
+        in_order es xs z.1 o.1,
+      )
+
+pub messages_of_book : {E : Type 0} (A : Type 0) (items : A → List MessageRow) (r : Result A E)
+    (kept again rows : List Row) (es : List (MessageKey × Span)) (rs : List (Asked × Bor Heard))
+    → kept ≡ rows → again ≡ rows → AreSpans kept es → AreReplies again rs → Ordered IsKeyBefore es
+    → IfOk r (λ v. Zipped (IsListed rs) es (items v)) → IfOk r (λ v. TellsMessages rows (items v))
+messages_of_book A items (Ok v) kept again rows es rs e f cs cr o z = λ S b.
+    messages_of_set S rows b es rs (items v)
+    (subst (λ (t : List Row). AreSpans t es) e cs) (subst (λ (t : List Row). AreReplies t rs) f cr) o z
+messages_of_book A items (Err q) kept again rows es rs e f cs cr o z = tt

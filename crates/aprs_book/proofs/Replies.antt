@@ -1,0 +1,161 @@
+-- The answers to messages in rows.
+use Rattle.std.proofs.Common.{◌≡◌, ◌∙◌, ℕ, ◌+◌, ◌<◌, List, ◌↔◌, Option, Some, None, take, length, slice_index_or, sym, ap, refl, subst, inl, inr, Bor}
+use Rattle.std.specs.Option.{option_map, option_copied}
+use Rattle.std.specs.Map.{lookup, keys_of}
+use Rattle.std.specs.BTreeMap.{is_at, insert_entry}
+use Rattle.std.specs.List.Sorted.{IsStrictlySortedBy}
+use Rattle.std.specs.Cmp.{IsTotalOrder}
+use Rattle.std.specs.Ordering.{ordering_then}
+use Rattle.std.specs.declared.cmp.Ordering.{Ordering}
+use Rattle.std.proofs.lemmas.Cmp.{upto, on_total, then_total}
+use Rattle.std.proofs.lemmas.Map.Lookups.{CmpEqualImpliesEq, exact_pairs}
+use Rattle.aprs_ax25.specs.Callsign.{Call, call_cmp}
+use Rattle.aprs_log.specs.Reception.{Heard, bytes_cmp, heard_cmp}
+use Rattle.aprs_laws.specs.Lists.{◌∈◌}
+use Rattle.aprs_laws.specs.Order.{IsUpTo}
+use Rattle.aprs_laws.specs.Row.{Row, row_key}
+use Rattle.aprs_laws.specs.Best.{greater_known}
+use Rattle.aprs_laws.specs.JoinRow.{greater}
+use Rattle.aprs_laws.proofs.Joins.{is_greater_of}
+use Rattle.aprs_laws.proofs.Orders.{call_total, call_exact, bytes_total, bytes_exact, heard_total, up_to_itself}
+use Rattle.aprs_book.specs.declared.message_key.Asked.{Asked}
+use Rattle.aprs_book.specs.MessageRows.{Answer, answer_of, answer_cmp, IsReply, IsGreatestReply, IsGreatestEntry, AreReplies, IsFor, TellsAnswer}
+use Rattle.aprs_book.specs.Messages.{Message}
+use Rattle.aprs_book.proofs.Collected.{cmp_of, found, absent, Adds, passed, put_by, same_lookup}
+use Rattle.aprs_book.proofs.Messages.{adds_at}
+
+pub answer_total : IsTotalOrder answer_cmp
+answer_total =
+    then_total (on_total (λ (a : Answer). a.source) call_total)
+    (then_total (on_total (λ (a : Answer). a.addressee) call_total)
+    (on_total (λ (a : Answer). a.id) bytes_total))
+
+pub answer_exact : CmpEqualImpliesEq answer_cmp
+answer_exact a b h =
+    ap (λ (p : Call × (Call × List ℕ)). record { source = p.0; addressee = p.1.0; id = p.1.1 })
+    (exact_pairs call_cmp
+    (λ (x y : Call × List ℕ). ordering_then (call_cmp x.0 y.0) (bytes_cmp x.1 y.1)) call_exact
+    (exact_pairs call_cmp bytes_cmp call_exact bytes_exact) (a.source, (a.addressee, a.id))
+    (b.source, (b.addressee, b.id)) h)
+
+module _ (rows more : List Row) (x : Row) (adds : Adds rows x more) (a : Answer) where
+  abbrev pub Q : Row → Type 0
+  Q y = IsReply a (row_key y)
+
+  pub reply_stays : (g : Heard) → (Q x → ⊥) → IsGreatestReply rows a g → IsGreatestReply more a g
+  reply_stays g n t = record {
+    row = (t.row.0, adds.old t.row.0 t.row.1, t.row.2, t.row.3);
+    greatest = λ y h p. elim (adds.to y h) [
+      | inl j ↦ t.greatest y j p
+      | inr e ↦ absurd (n (subst Q (sym e) p))
+    ];
+  }
+
+  pub reply_begins : Q x → ((y : Row) → y ∈ rows → Q y → ⊥) → IsGreatestReply more a x.greatest
+  reply_begins p n = record {
+    row = (x, adds.new, p, refl);
+    greatest = λ y h q. elim (adds.to y h) [
+      | inl j ↦ absurd (n y j q)
+      | inr e ↦ subst (λ (t : Row). IsUpTo heard_cmp t.greatest x.greatest) e
+          (up_to_itself heard_total x.greatest)
+    ];
+  }
+
+  pub reply_grows : (g : Heard) → Q x → IsGreatestReply rows a g
+      → IsGreatestReply more a (greater g x.greatest)
+  reply_grows g p t = let c = is_greater_of g x.greatest in record {
+    row = elim c.one [
+      | inl e ↦ (t.row.0, adds.old t.row.0 t.row.1, t.row.2, t.row.3 ∙ sym e)
+      | inr e ↦ (x, adds.new, p, sym e)
+    ];
+    greatest = λ y h q. elim (adds.to y h) [
+      | inl j ↦ upto heard_total y.greatest g (greater g x.greatest) (t.greatest y j q) c.left
+      | inr e ↦ subst (λ (u : Row). IsUpTo heard_cmp u.greatest (greater g x.greatest)) e c.right
+    ];
+  }
+
+-- the order of the keys that code has
+pub asked_alike : (x y : Asked)
+    → ordering_then (call_cmp x.source y.source)
+    (ordering_then (call_cmp x.addressee y.addressee) (bytes_cmp x.id.now y.id.now))
+    ≡ answer_cmp (answer_of x) (answer_of y)
+asked_alike x y = refl
+
+abbrev pub asked_cmp : Asked → Asked → Ordering
+asked_cmp = cmp_of answer_of answer_cmp
+
+module _ (rows : List Row) (i : ℕ) (x : Row) (l : i < length rows) (at : x ≡ slice_index_or rows i x)
+    (es : List (Asked × Bor Heard)) (c : AreReplies (take i rows) es) where
+  pub replies_passed : ((a : Answer) → IsReply a (row_key x) → ⊥) → AreReplies (take (i + 1) rows) es
+  replies_passed n =
+      passed answer_of answer_cmp answer_total answer_exact IsReply IsGreatestEntry (take i rows)
+      (take (i + 1) rows) x (adds_at i rows x l at)
+      (λ a v. reply_stays (take i rows) (take (i + 1) rows) x (adds_at i rows x l at) a v.now) es c n
+
+  reply_there : (k : Asked) → IsReply (answer_of k) (row_key x) → (known : Option (Bor Heard))
+      → lookup (is_at (asked_cmp k)) es ≡ known
+      → IsGreatestReply (take (i + 1) rows) (answer_of k)
+      (greater_known (option_map (λ (b : Bor Heard). b.now) known) x.greatest)
+  reply_there k q None h =
+      reply_begins (take i rows) (take (i + 1) rows) x (adds_at i rows x l at) (answer_of k) q
+      (λ y j p. let t = c.every y j (answer_of k) p in
+      absent answer_of answer_cmp answer_total answer_exact k es h t.0 t.1 (sym t.2))
+  reply_there k q (Some s) h =
+      let f = found answer_of answer_cmp answer_total answer_exact k s es h in
+      reply_grows (take i rows) (take (i + 1) rows) x (adds_at i rows x l at) (answer_of k) s.now q
+      (subst (λ (v : Bor Heard). IsGreatestReply (take i rows) (answer_of k) v.now) f.3
+      (subst (λ (t : Answer). IsGreatestReply (take i rows) t f.0.1.now) (sym f.2) (c.each f.0 f.1)))
+
+  pub replies_put : (R : Asked → Asked → Ordering) → ((a b : Asked) → R a b ≡ asked_cmp a b) → (k : Asked)
+      (v : Bor Heard) (new : List (Asked × Bor Heard))
+      → ((a : Answer) → IsReply a (row_key x) ↔ (Some (answer_of k) ≡ Some a))
+      → v.now ≡ greater_known (option_map (λ (b : Bor Heard). b.now) (lookup (is_at (R k)) es)) x.greatest
+      → new ≡ insert_entry R es k v → IsStrictlySortedBy R (keys_of new)
+      → AreReplies (take (i + 1) rows) new
+  replies_put R same k v new q e n sorted =
+      put_by answer_of answer_cmp answer_total answer_exact IsReply IsGreatestEntry (take i rows)
+      (take (i + 1) rows) x (adds_at i rows x l at)
+      (λ a v. reply_stays (take i rows) (take (i + 1) rows) x (adds_at i rows x l at) a v.now) es c R
+      same k v new n sorted
+      (λ a p. unwrapped (answer_of k) a ((q a).0 p))
+      (subst (IsGreatestReply (take (i + 1) rows) (answer_of k))
+      (sym (e ∙ ap (λ t. greater_known (option_map (λ (b : Bor Heard). b.now) t) x.greatest)
+      (same_lookup answer_of answer_cmp R same k es)))
+      (reply_there k ((q (answer_of k)).1 refl) (lookup (is_at (asked_cmp k)) es) refl)) where
+        unwrapped : (a b : Answer) → Some a ≡ Some b → a ≡ b
+        unwrapped a b h = cc
+
+pub copied_alike : {X : Type 0} (o : Option (Bor X)) → option_copied o ≡ option_map (λ (b : Bor X). b.now) o
+copied_alike None = refl
+copied_alike (Some b) = refl
+
+pub kept_greater : (r : Heard) (o m : Option (Bor Heard)) (x y : Heard)
+    → r ≡ greater_known (option_copied o) x → o ≡ m → x ≡ y
+    → r ≡ greater_known (option_map (λ (b : Bor Heard). b.now) m) y
+kept_greater r o m x y e f h =
+    e ∙ (ap (λ t. greater_known (option_copied t) x) f
+    ∙ (ap (greater_known (option_copied m)) h ∙ ap (λ t. greater_known t y) (copied_alike m)))
+
+-- ---- the answer that a look-up finds
+
+module _ (es : List (Asked × Bor Heard)) (k : Asked) (m : Message) (id : List ℕ)
+    (f : IsFor m id (answer_of k)) (u : (a : Answer) → IsFor m id a → a ≡ answer_of k) where
+  told_by : (known : Option (Bor Heard)) → lookup (is_at (asked_cmp k)) es ≡ known
+      → TellsAnswer es m id (option_copied known)
+  told_by None h = λ e j g.
+      absent answer_of answer_cmp answer_total answer_exact k es h e j (sym (u (answer_of e.0) g))
+  told_by (Some v) h =
+      let t = found answer_of answer_cmp answer_total answer_exact k v es h in
+      (t.0, t.1, subst (IsFor m id) t.2 f, λ a g. u a g ∙ t.2, ap (λ (b : Bor Heard). b.now) t.3)
+
+  pub answer_told_by : (R : Asked → Asked → Ordering) → ((a b : Asked) → R a b ≡ asked_cmp a b)
+      → (o : Option (Bor Heard)) → o ≡ lookup (is_at (R k)) es
+      → TellsAnswer es m id (option_copied o)
+  answer_told_by R same o e =
+      subst (λ t. TellsAnswer es m id (option_copied t))
+      (sym (e ∙ same_lookup answer_of answer_cmp R same k es))
+      (told_by (lookup (is_at (asked_cmp k)) es) refl)
+
+-- an answer is told by its parts
+pub same_answer : (a b : Answer) → a.source ≡ b.source → a.addressee ≡ b.addressee → a.id ≡ b.id → a ≡ b
+same_answer a b s t d = λ i. record { source = s i; addressee = t i; id = d i }

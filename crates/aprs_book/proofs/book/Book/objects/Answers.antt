@@ -1,0 +1,8 @@
+use Rattle.aprs_book.proofs.Things.{named_of_book}
+use Rattle.aprs_book.proofs.book.Book.objects.Goals as goal
+
+pub returns : goal.returns
+returns g c =
+    named_of_book _ (λ v. v.items) c.listed.result c.kept.result.now c.args.self.now
+    c.in_ok-reports.reports.entries c.kept.ensures.rows c.in_ok-reports.ensures
+    c.listed.ensures.ascending c.listed.ensures.rows

@@ -1,0 +1,134 @@
+-- What rows tell of messages and their answers.
+use Rattle.std.specs.Prelude.{◌≡◌, ◌⊎◌, ℕ, min, max, List, [], ◌∷◌, Option, Some, None}
+use Rattle.std.specs.Option.{option_map}
+use Rattle.std.specs.Ordering.{on, then_cmp}
+use Rattle.std.specs.declared.cmp.Ordering.{Ordering}
+use denote.Ref.{Bor}
+use Rattle.aprs_ax25.specs.Callsign.{Call, call_cmp}
+use Rattle.aprs_ax25.specs.CallText.{CallText}
+use Rattle.aprs_log.specs.Reception.{Heard, bytes_cmp, heard_cmp}
+use Rattle.aprs_report.specs.Reading.{Value, ack, rej}
+use Rattle.aprs_laws.specs.Lists.{◌∈◌}
+use Rattle.aprs_laws.specs.Order.{IsBelow, IsUpTo}
+use Rattle.aprs_laws.specs.Key.{Key}
+use Rattle.aprs_laws.specs.Row.{Row, row_key, last_of}
+use Rattle.aprs_laws.specs.Spans.{IsLeastFirst, IsGreatestLast}
+use Rattle.aprs_book.specs.declared.message_key.MessageKey.{MessageKey}
+use Rattle.aprs_book.specs.declared.message_key.Asked.{Asked}
+use Rattle.aprs_book.specs.declared.message_key.Span.{Span}
+use Rattle.aprs_book.specs.Reports.{report_of}
+use Rattle.aprs_book.specs.declared.message.MessageRow.{MessageRow}
+use Rattle.aprs_book.specs.declared.message.MessageState.{MessageState}
+use Rattle.aprs_book.specs.declared.message.MessageState.TheVariants.{Unnumbered}
+use Rattle.aprs_book.specs.Messages.{Message, ReportsIt, message_cmp, shown_message, state_by}
+
+-- ---- spans
+
+abbrev pub message_of : MessageKey → Message
+message_of x = record {
+  source = x.source;
+  addressee = x.addressee.now;
+  text = x.text.now;
+  id = option_map (λ y. y.now) x.id;
+}
+
+abbrev pub span_of : Row → Span
+span_of x = record { first = x.first; last = last_of x }
+
+abbrev pub span_with : Option Span → Row → Span
+span_with None x = span_of x
+span_with (Some s) x = record { first = min s.first x.first; last = max s.last (last_of x) }
+
+-- from the least first to the greatest last moment of the rows
+pub record IsSpan (rows : List Row) (m : Message) (s : Span) : Type 0 where
+  pub first : IsLeastFirst rows (ReportsIt m) s.first
+  pub last : IsGreatestLast rows (ReportsIt m) s.last
+
+-- ---- answers
+
+-- the addressee and the id of an answer
+abbrev pub answer_told : Value → Option (List ℕ × List ℕ)
+answer_told (ack addressee id) = Some (addressee, id)
+answer_told (rej addressee id) = Some (addressee, id)
+answer_told v = None
+
+-- whose message is answered, who answers, and the id
+pub record Answer : Type 0 where
+  pub source : Call
+  pub addressee : Call
+  pub id : List ℕ
+
+abbrev pub answer_of : Asked → Answer
+answer_of x = record { source = x.source; addressee = x.addressee; id = x.id.now }
+
+pub record IsReply (a : Answer) (k : Key) : Type 0 where
+  pub addressee : List ℕ
+  pub sender : k.source ≡ a.addressee
+  pub to : CallText a.source addressee
+  pub answer : (report_of k ≡ ack addressee a.id) ⊎ (report_of k ≡ rej addressee a.id)
+
+-- g is the greatest of the greatest receptions of the rows that answer
+pub record IsGreatestReply (rows : List Row) (a : Answer) (g : Heard) : Type 0 where
+  pub row : (x : Row) × (x ∈ rows) × IsReply a (row_key x) × (x.greatest ≡ g)
+  pub greatest : (x : Row) → x ∈ rows → IsReply a (row_key x) → IsUpTo heard_cmp x.greatest g
+
+-- by the station whose message it is, the one that answers, and the id
+abbrev pub answer_cmp : Answer → Answer → Ordering
+answer_cmp = then_cmp (on (λ a. a.source) call_cmp)
+    (then_cmp (on (λ a. a.addressee) call_cmp) (on (λ a. a.id) bytes_cmp))
+
+abbrev pub IsGreatestEntry : List Row → Answer → Bor Heard → Type 0
+IsGreatestEntry rows a g = IsGreatestReply rows a g.now
+
+-- ---- entries, one for each message or answer of the rows
+
+pub record IsCollected {K V M : Type 0} (shown : K → M) (P : M → Key → Type 0)
+    (T : List Row → M → V → Type 0) (rows : List Row) (entries : List (K × V)) : Type 0 where
+  pub each : (e : K × V) → e ∈ entries → T rows (shown e.0) e.1
+  pub every : (x : Row) → x ∈ rows → (m : M) → P m (row_key x)
+      → (e : K × V) × (e ∈ entries) × (shown e.0 ≡ m)
+
+abbrev pub AreSpans : List Row → List (MessageKey × Span) → Type 0
+AreSpans rows entries = IsCollected message_of ReportsIt IsSpan rows entries
+
+abbrev pub AreReplies : List Row → List (Asked × Bor Heard) → Type 0
+AreReplies rows entries = IsCollected answer_of IsReply IsGreatestEntry rows entries
+
+-- ---- rows of the listing
+
+-- an answer that is one to this id of a message
+pub record IsFor (m : Message) (id : List ℕ) (a : Answer) : Type 0 where
+  pub source : a.source ≡ m.source
+  pub addressee : CallText a.addressee m.addressee
+  pub same_id : a.id ≡ id
+
+-- the greatest answer among the entries, or none
+abbrev pub TellsAnswer : List (Asked × Bor Heard) → Message → List ℕ → Option Heard → Type 0
+TellsAnswer entries m id None =
+    (e : Asked × Bor Heard) → e ∈ entries → IsFor m id (answer_of e.0) → ⊥
+TellsAnswer entries m id (Some g) =
+    (e : Asked × Bor Heard) × (e ∈ entries) × IsFor m id (answer_of e.0)
+    × ((a : Answer) → IsFor m id a → a ≡ answer_of e.0) × (e.1.now ≡ g)
+
+abbrev pub StateFrom : List (Asked × Bor Heard) → Message → ℕ → Option (List ℕ) → MessageState → Type 0
+StateFrom entries m first None state = state ≡ Unnumbered
+StateFrom entries m first (Some id) state =
+    (answer : Option Heard) × TellsAnswer entries m id answer × (state ≡ state_by first answer)
+
+-- the row of a message and its span
+pub record IsListed (entries : List (Asked × Bor Heard)) (e : MessageKey × Span) (x : MessageRow) :
+    Type 0 where
+  pub message : shown_message x ≡ message_of e.0
+  pub first : x.first ≡ e.1.first
+  pub last : x.last ≡ e.1.last
+  pub state : StateFrom entries (message_of e.0) e.1.first (message_of e.0).id x.state
+
+-- each of the one list with its own of the other
+abbrev pub Zipped : {X Y : Type 0} → (X → Y → Type 0) → List X → List Y → Type 0
+Zipped R [] [] = Unit {0}
+Zipped R [] (y ∷ ys) = ⊥
+Zipped R (x ∷ xs) [] = ⊥
+Zipped R (x ∷ xs) (y ∷ ys) = R x y × Zipped R xs ys
+
+abbrev pub IsKeyBefore : MessageKey × Span → MessageKey × Span → Type 0
+IsKeyBefore a b = IsBelow message_cmp (message_of a.0) (message_of b.0)

@@ -1,0 +1,107 @@
+-- The messages of a set of receptions.
+use Rattle.std.specs.Prelude.{◌≡◌, ◌↔◌, ◌⊎◌, ℕ, nat_lt, List, Option, Some, None, if◌then◌else◌}
+use Rattle.std.specs.Option.{option_cmp, option_map}
+use Rattle.std.specs.Ordering.{on, then_cmp}
+use Rattle.std.specs.declared.cmp.Ordering.{Ordering}
+use Rattle.aprs_ax25.specs.Callsign.{Call, call_cmp}
+use Rattle.aprs_ax25.specs.CallText.{CallText}
+use Rattle.aprs_log.specs.Reception.{Heard, bytes_cmp}
+use Rattle.aprs_report.specs.Reading.{Value, message, ack, rej}
+use Rattle.aprs_laws.specs.Lists.{◌∈◌, Ordered}
+use Rattle.aprs_laws.specs.Order.{IsBelow}
+use Rattle.aprs_laws.specs.Gap.{gap_seconds}
+use Rattle.aprs_laws.specs.Key.{Key, key_of}
+use Rattle.aprs_laws.specs.Row.{Row}
+use Rattle.aprs_laws.specs.Book.{BookOf}
+use Rattle.aprs_laws.specs.Best.{LastKnown}
+use Rattle.aprs_laws.specs.Spans.{IsFirstMoment, IsLastMoment}
+use Rattle.aprs_book.specs.declared.message.MessageRow.{MessageRow}
+use Rattle.aprs_book.specs.declared.message.MessageState.{MessageState}
+use Rattle.aprs_book.specs.declared.message.MessageState.TheVariants.{Unnumbered, Unanswered, Acknowledged, Rejected}
+use Rattle.aprs_book.specs.Reports.{report_of}
+
+-- who sent it, to whom, its text, and its id or none: receptions that agree in these are of one
+-- message
+pub record Message : Type 0 where
+  pub source : Call
+  pub addressee : List ℕ
+  pub text : List ℕ
+  pub id : Option (List ℕ)
+
+abbrev pub message_told : Call → Value → Option Message
+message_told from (message addressee text id) =
+    Some (record { source = from; addressee = addressee; text = text; id = id })
+message_told from v = None
+
+-- the message that a key reports, or none
+abbrev pub message_in : Key → Option Message
+message_in k = message_told k.source (report_of k)
+
+abbrev pub ReportsIt : Message → Key → Type 0
+ReportsIt m k = message_in k ≡ Some m
+
+-- by source, addressee, text, then id, where none comes before any
+abbrev pub message_cmp : Message → Message → Ordering
+message_cmp = then_cmp (on (λ m. m.source) call_cmp)
+    (then_cmp (on (λ m. m.addressee) bytes_cmp)
+    (then_cmp (on (λ m. m.text) bytes_cmp) (on (λ m. m.id) (option_cmp bytes_cmp))))
+
+-- ---- what answers a message
+
+-- A key that acknowledges or rejects this id of a message: its sender is the message's addressee, and
+-- it is addressed to the message's sender.
+pub record AnswersIt (m : Message) (id : List ℕ) (k : Key) : Type 0 where
+  pub addressee : List ℕ
+  pub sender : CallText k.source m.addressee
+  pub to : CallText m.source addressee
+  pub answer : (report_of k ≡ ack addressee id) ⊎ (report_of k ≡ rej addressee id)
+
+abbrev pub state_told : Value → MessageState
+state_told (rej addressee id) = Rejected
+state_told v = Acknowledged
+
+-- by the greatest answer, which counts from the message's first moment on
+abbrev pub state_by : ℕ → Option Heard → MessageState
+state_by first None = Unanswered
+state_by first (Some a) =
+    if nat_lt a.moment first then Unanswered else state_told (report_of (key_of a.frame))
+
+-- a message of no id can't be answered
+abbrev pub StandsBy : List Heard → Message → ℕ → Option (List ℕ) → MessageState → Type 0
+StandsBy S m first None state = state ≡ Unnumbered
+StandsBy S m first (Some id) state =
+    (answer : Option Heard) × LastKnown S (AnswersIt m id) answer × (state ≡ state_by first answer)
+
+-- ---- all messages
+
+abbrev pub shown_message : MessageRow → Message
+shown_message x = record {
+  source = x.source;
+  addressee = x.addressee.now;
+  text = x.text.now;
+  id = option_map (λ y. y.now) x.id;
+}
+
+-- S has a reception of this message
+abbrev pub IsSent : List Heard → Message → Type 0
+IsSent S m = (s : Heard) × (s ∈ S) × ReportsIt m (key_of s.frame)
+
+abbrev pub IsListedBefore : MessageRow → MessageRow → Type 0
+IsListedBefore x y = IsBelow message_cmp (shown_message x) (shown_message y)
+
+-- from its first to its last reception in S, and what came of it in S
+pub record IsMessageRow (S : List Heard) (x : MessageRow) : Type 0 where
+  pub first : IsFirstMoment S (ReportsIt (shown_message x)) x.first
+  pub last : IsLastMoment S (ReportsIt (shown_message x)) x.last
+  pub state : StandsBy S (shown_message x) x.first (shown_message x).id x.state
+
+-- one for each message in S, in order
+pub record AreMessages (S : List Heard) (xs : List MessageRow) : Type 0 where
+  pub ascending : Ordered IsListedBefore xs
+  pub messages : (m : Message)
+      → ((x : MessageRow) × (x ∈ xs) × (shown_message x ≡ m)) ↔ IsSent S m
+  pub each : (x : MessageRow) → x ∈ xs → IsMessageRow S x
+
+-- whatever set the rows are the book of, these are its messages
+abbrev pub TellsMessages : List Row → List MessageRow → Type 0
+TellsMessages rows xs = (S : List Heard) → BookOf gap_seconds S rows → AreMessages S xs

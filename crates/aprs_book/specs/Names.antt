@@ -1,0 +1,51 @@
+-- The objects and items of a set of receptions.
+use Rattle.std.specs.Prelude.{◌≡◌, ◌↔◌, ℕ, Bool, true, false, List, Option, Some, None}
+use Rattle.std.specs.Ordering.{on, then_cmp, bool_cmp}
+use Rattle.std.specs.declared.cmp.Ordering.{Ordering}
+use Rattle.aprs_log.specs.Reception.{Heard, bytes_cmp}
+use Rattle.aprs_report.specs.Reading.{Value, object, item}
+use Rattle.aprs_laws.specs.Lists.{◌∈◌, Ordered}
+use Rattle.aprs_laws.specs.Order.{IsBelow}
+use Rattle.aprs_laws.specs.Gap.{gap_seconds}
+use Rattle.aprs_laws.specs.Key.{Key, key_of}
+use Rattle.aprs_laws.specs.Row.{Row}
+use Rattle.aprs_laws.specs.Book.{BookOf}
+use Rattle.aprs_laws.specs.Best.{IsBest}
+use Rattle.aprs_book.specs.declared.named.Named.{Named}
+use Rattle.aprs_book.specs.Reports.{report_of}
+
+-- an object or an item, and its name: those of one name are two things
+pub record Thing : Type 0 where
+  pub is_item : Bool
+  pub name : List ℕ
+
+abbrev pub thing_told : Value → Option Thing
+thing_told (object name live stamp place symbol comment) =
+    Some (record { is_item = false; name = name })
+thing_told (item name live place symbol comment) = Some (record { is_item = true; name = name })
+thing_told v = None
+
+-- a key that reports this thing, live or killed, from any station
+abbrev pub TellsOf : Thing → Key → Type 0
+TellsOf t k = thing_told (report_of k) ≡ Some t
+
+-- objects by name, then items by name
+abbrev pub thing_cmp : Thing → Thing → Ordering
+thing_cmp = then_cmp (on (λ t. t.is_item) bool_cmp) (on (λ t. t.name) bytes_cmp)
+
+abbrev pub shown_thing : Named → Thing
+shown_thing x = record { is_item = x.is_item; name = x.name.now }
+
+abbrev pub IsNamedBefore : Named → Named → Type 0
+IsNamedBefore x y = IsBelow thing_cmp (shown_thing x) (shown_thing y)
+
+-- one for each thing that S has a report of, in order, with its greatest reception
+pub record AreNamed (S : List Heard) (xs : List Named) : Type 0 where
+  pub ascending : Ordered IsNamedBefore xs
+  pub things : (t : Thing) → ((x : Named) × (x ∈ xs) × (shown_thing x ≡ t))
+      ↔ ((s : Heard) × (s ∈ S) × TellsOf t (key_of s.frame))
+  pub each : (x : Named) → x ∈ xs → IsBest S (TellsOf (shown_thing x)) x.heard
+
+-- whatever set the rows are the book of, these are its objects and items
+abbrev pub TellsNamed : List Row → List Named → Type 0
+TellsNamed rows xs = (S : List Heard) → BookOf gap_seconds S rows → AreNamed S xs

@@ -1,0 +1,184 @@
+//! The messages of a book.
+ghost use Rattle.std.specs.Prelude.{◌≡◌, IfOk};
+ghost use Rattle.std.specs.Option.{option_copied};
+ghost use Rattle.aprs_laws.specs.Lists.{Ordered};
+ghost use Rattle.aprs_laws.specs.Key.{key_of};
+ghost use Rattle.aprs_book.specs.Reports.{report_of};
+ghost use Rattle.aprs_book.specs.Messages.{state_by, state_told, TellsMessages};
+ghost use Rattle.aprs_book.specs.MessageRows.{AreSpans, AreReplies, message_of, IsListed, TellsAnswer, Zipped, IsKeyBefore};
+
+use crate::kept_row::KeptRow;
+use crate::last_known::greater;
+use crate::message_key::{Asked, MessageKey, Span, message_in, reply_in, span_with};
+use crate::{Book, Memory};
+use aprs_ax25::{Callsign, Frame};
+use aprs_log::{Moment, Reception};
+use aprs_report::Report;
+use std::alloc::Allocator;
+use std::collections::BTreeMap;
+
+/// What came of a message.
+#[derive(Clone, Copy, Debug, PartialEq, Eq)]
+pub enum MessageState {
+    /// It has no id, so nothing can answer it.
+    Unnumbered,
+    /// Nothing answered it since its first reception.
+    Unanswered,
+    /// It was acknowledged last.
+    Acknowledged,
+    /// It was rejected last.
+    Rejected,
+}
+
+/// A message that was heard.
+#[derive(Drop)]
+pub struct MessageRow<'a> {
+    /// Who sent it.
+    pub source: Callsign,
+    /// To whom, without the spaces at its end.
+    pub addressee: &'a [u8],
+    /// Without the id.
+    pub text: &'a [u8],
+    /// One to five letters or digits.
+    pub id: Option<&'a [u8]>,
+    /// The first moment at which it was heard.
+    pub first: Moment,
+    /// The last moment at which it was heard.
+    pub last: Moment,
+    /// What came of it.
+    pub state: MessageState,
+}
+
+impl<A: Allocator + Copy> Book<A> {
+    /// The messages that were heard, ascending by source, addressee, text and id, where none comes
+    /// first.
+    pub fn messages(&self) -> Result<Vec<MessageRow<'_>, A>, Memory>
+        ensures { IfOk result (λ messages. TellsMessages self.now messages.items) }
+    {
+        let spans = message_spans(self.allocator(), self.kept())?;
+        let answers = greatest_answers(self.allocator(), self.kept())?;
+        listed(self.allocator(), &spans, &answers)
+    }
+}
+
+/// Each message of the rows, with its moments.
+fn message_spans<'a, A: Allocator + Copy>(
+    alloc: A,
+    rows: &'a [KeptRow<A>],
+) -> Result<BTreeMap<MessageKey<'a>, Span, A>, Memory>
+    ensures { IfOk result (λ spans. AreSpans rows.now spans.entries) }
+{
+    let mut spans = BTreeMap::new(alloc);
+    for row in rows {
+        if let Some(message) = message_in(row) {
+            let span = span_with(spans.get(&message), row);
+            if spans.insert(message, span).is_err() {
+                return Err(Memory);
+            }
+        }
+    }
+    Ok(spans)
+}
+
+/// The greatest answer of each kind in the rows.
+fn greatest_answers<'a, A: Allocator + Copy>(
+    alloc: A,
+    rows: &'a [KeptRow<A>],
+) -> Result<BTreeMap<Asked<'a>, &'a Reception, A>, Memory>
+    ensures { IfOk result (λ answers. AreReplies rows.now answers.entries) }
+{
+    let mut answers = BTreeMap::new(alloc);
+    for row in rows {
+        if let Some(asked) = reply_in(row) {
+            let answer = greater(answers.get(&asked).copied(), row.greatest());
+            if answers.insert(asked, answer).is_err() {
+                return Err(Memory);
+            }
+        }
+    }
+    Ok(answers)
+}
+
+/// The messages with their moments and what came of them.
+fn listed<'a, A: Allocator + Copy>(
+    alloc: A,
+    spans: &BTreeMap<MessageKey<'a>, Span, A>,
+    answers: &BTreeMap<Asked<'a>, &'a Reception, A>,
+) -> Result<Vec<MessageRow<'a>, A>, Memory>
+    ensures ascending { Ordered IsKeyBefore spans.now.entries }
+    ensures rows { IfOk result (λ list.
+        Zipped (IsListed answers.now.entries) spans.now.entries list.items) }
+{
+    let mut list = Vec::new(alloc);
+    for (message, span) in spans.iter() {
+        if list.push(row_of(message, span, answers)).is_err() {
+            return Err(Memory);
+        }
+    }
+    Ok(list)
+}
+
+/// A message with its moments and what came of it.
+fn row_of<'a, A: Allocator + Copy>(
+    message: &MessageKey<'a>,
+    span: &Span,
+    answers: &BTreeMap<Asked<'a>, &'a Reception, A>,
+) -> MessageRow<'a>
+    ensures { IsListed answers.now.entries (message.now, span.now) result }
+{
+    let state = match message.id {
+        Some(id) => state_by(span.first, greatest_answer(message, id, answers)),
+        None => MessageState::Unnumbered,
+    };
+    MessageRow {
+        source: message.source.copy(),
+        addressee: message.addressee,
+        text: message.text,
+        id: message.id,
+        first: span.first,
+        last: span.last,
+        state,
+    }
+}
+
+/// The greatest answer to this id of a message, or none.
+fn greatest_answer<'a, A: Allocator + Copy>(
+    message: &MessageKey<'a>,
+    id: &'a [u8],
+    answers: &BTreeMap<Asked<'a>, &'a Reception, A>,
+) -> Option<&'a Reception>
+    ensures { TellsAnswer answers.now.entries (message_of message.now) id.now (option_copied result) }
+{
+    match Callsign::parse(message.addressee) {
+        Ok(addressee) => {
+            let asked = Asked {
+                source: message.source.copy(),
+                addressee,
+                id,
+            };
+            answers.get(&asked).copied()
+        }
+        Err(_) => None,
+    }
+}
+
+/// What came of a message first heard at this moment, by its greatest answer.
+fn state_by(first: Moment, answer: Option<&Reception>) -> MessageState
+    ensures { result ≡ state_by first (option_copied answer.entry) }
+{
+    match answer {
+        Some(x) if x.moment() >= first => state_told(x.frame()),
+        _ => MessageState::Unanswered,
+    }
+}
+
+/// What an answer says.
+#[tactic(auto, unfolding(aprs_laws::specs::Key::key_of))]
+fn state_told(answer: &Frame) -> MessageState
+    ensures { result ≡ state_told (report_of (key_of answer.now)) }
+{
+    match Report::read(answer.info()) {
+        Report::Rej { .. } => MessageState::Rejected,
+        _ => MessageState::Acknowledged,
+    }
+}

@@ -1,0 +1,72 @@
+-- The rows of a book tell from when to when something was heard.
+use Rattle.std.proofs.Common.{◌≡◌, ℕ, List, ◌↔◌, sym, subst, arith}
+use Rattle.aprs_log.specs.Reception.{Heard}
+use Rattle.aprs_laws.specs.Lists.{◌∈◌}
+use Rattle.aprs_laws.specs.Key.{Key, key_of}
+use Rattle.aprs_laws.specs.Row.{Row, row_key, last_of, RowOf}
+use Rattle.aprs_laws.specs.Book.{BookOf}
+use Rattle.aprs_laws.specs.Spans.{IsFirstMoment, IsLastMoment, IsLeastFirst, IsGreatestLast}
+use Rattle.aprs_laws.proofs.Views.{a_row}
+
+module _ (gap : ℕ) (S : List Heard) (rows : List Row) (P : Key → Type 0) (b : BookOf gap S rows)
+  where
+    -- a reception at the first moment of a row
+    at_first : (x : Row) → x ∈ rows → P (row_key x)
+        → (s : Heard) × (s ∈ S) × P (key_of s.frame) × (s.moment ≡ x.first)
+    at_first x h k = let t = ((b.exactly x).0 h).run.at_first in (t.0, t.1, subst P (sym t.2) k, t.3)
+
+    at_last : (x : Row) → x ∈ rows → P (row_key x)
+        → (s : Heard) × (s ∈ S) × P (key_of s.frame) × (s.moment ≡ last_of x)
+    at_last x h k = let t = ((b.exactly x).0 h).run.at_last in (t.0, t.1, subst P (sym t.2) k, t.3)
+
+    first_told : (m : ℕ) → IsFirstMoment S P m → IsLeastFirst rows P m
+    first_told m f =
+        let s = f.heard in
+        let t = a_row gap S rows b s.0 s.1 in
+        let k = subst P t.2.key s.2 in
+        let r = at_first t.0 t.1 k in
+        record {
+          row = (t.0, t.1, k, omega (arith, f.least r.0 r.1 r.2, r.3, s.3, t.2.from));
+          least = λ x h q.
+              let u = at_first x h q in omega (arith, f.least u.0 u.1 u.2, u.3);
+        }
+
+    first_known : (m : ℕ) → IsLeastFirst rows P m → IsFirstMoment S P m
+    first_known m f =
+        let x = f.row in
+        let t = at_first x.0 x.1 x.2 in
+        record {
+          heard = (t.0, t.1, t.2, omega (arith, t.3, x.3));
+          least = λ s h q.
+              let u = a_row gap S rows b s h in
+              omega (arith, f.least u.0 u.1 (subst P u.2.key q), u.2.from);
+        }
+
+    last_told : (m : ℕ) → IsLastMoment S P m → IsGreatestLast rows P m
+    last_told m f =
+        let s = f.heard in
+        let t = a_row gap S rows b s.0 s.1 in
+        let k = subst P t.2.key s.2 in
+        let r = at_last t.0 t.1 k in
+        record {
+          row = (t.0, t.1, k, omega (arith, f.greatest r.0 r.1 r.2, r.3, s.3, t.2.to));
+          greatest = λ x h q.
+              let u = at_last x h q in omega (arith, f.greatest u.0 u.1 u.2, u.3);
+        }
+
+    last_known : (m : ℕ) → IsGreatestLast rows P m → IsLastMoment S P m
+    last_known m f =
+        let x = f.row in
+        let t = at_last x.0 x.1 x.2 in
+        record {
+          heard = (t.0, t.1, t.2, omega (arith, t.3, x.3));
+          greatest = λ s h q.
+              let u = a_row gap S rows b s h in
+              omega (arith, f.greatest u.0 u.1 (subst P u.2.key q), u.2.to);
+        }
+
+    pub first_moment : (m : ℕ) → IsFirstMoment S P m ↔ IsLeastFirst rows P m
+    first_moment m = (first_told m, first_known m)
+
+    pub last_moment : (m : ℕ) → IsLastMoment S P m ↔ IsGreatestLast rows P m
+    last_moment m = (last_told m, last_known m)
