@@ -3,8 +3,8 @@ use Rattle.std.proofs.Common.{◌≡◌, ℕ, ◌+◌, List, [], ◌++◌, lengt
 use Rattle.std.specs.Io.KnownBytes.{Consumes}
 use Rattle.std.proofs.KnownBytes.{Consumes-nil, Consumes-trans}
 use Rattle.aprs_log.specs.LogAnswers.{Gets, EndsSo}
-use Rattle.aprs_log.specs.declared.ending.Ending.{Ending}
-use Rattle.aprs_log.specs.declared.ending.Ending.TheVariants as ending
+use Rattle.aprs_log.specs.declared.Ending.{Ending}
+use Rattle.aprs_log.specs.declared.Ending.TheVariants as ending
 use Rattle.aprs_laws.specs.Row.{Row}
 use Rattle.aprs_booktext.specs.FirstFault.{Reads, ReadsSo}
 use Rattle.aprs_booktext.specs.Reader.{IsFault}

@@ -5,8 +5,8 @@ use Rattle.std.proofs.lemmas.List.{length-map}
 use Rattle.std.proofs.lemmas.List.Concat.{flat_map-append}
 use Rattle.std.proofs.lemmas.List.{map_push}
 use Rattle.std.proofs.lemmas.List.Elements.{All-push}
-use Rattle.aprs_log.specs.declared.ending.Ending.{Ending}
-use Rattle.aprs_log.specs.declared.ending.Ending.TheVariants as ending
+use Rattle.aprs_log.specs.declared.Ending.{Ending}
+use Rattle.aprs_log.specs.declared.Ending.TheVariants as ending
 use Rattle.aprs_laws.specs.Row.{Row}
 use Rattle.aprs_booktext.specs.FirstFault.{FirstFault, missing}
 use Rattle.aprs_booktext.specs.Reader.{StandsAfter, IsFault, IsJudgedIn, line_number, lines_read, may_end}

@@ -1,7 +1,7 @@
 -- What holds of all texts of books.
 use Rattle.std.specs.Prelude.{◌≡◌, ◌≢◌, ℕ, ◌^◌, ◌<◌, List, [], ◌++◌, length}
-use Rattle.aprs_log.specs.declared.ending.Ending.{Ending}
-use Rattle.aprs_log.specs.declared.ending.Ending.TheVariants as ending
+use Rattle.aprs_log.specs.declared.Ending.{Ending}
+use Rattle.aprs_log.specs.declared.Ending.TheVariants as ending
 use Rattle.aprs_laws.specs.Row.{Row}
 use Rattle.aprs_booktext.specs.FirstFault.{FirstFault, missing}
 use Rattle.aprs_booktext.specs.Text.{book_text, IsBookRows}

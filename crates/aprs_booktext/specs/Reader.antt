@@ -1,7 +1,7 @@
 -- What a reader of a book holds. No public clause cites this module.
 use Rattle.std.specs.Prelude.{◌≡◌, ◌≢◌, ℕ, ◌+◌, ◌⊎◌, Bool, true, false, List, [], ◌∷◌, ◌++◌, length, map, Result, Ok, Err}
-use Rattle.aprs_log.specs.declared.ending.Ending.{Ending}
-use Rattle.aprs_log.specs.declared.ending.Ending.TheVariants as ending
+use Rattle.aprs_log.specs.declared.Ending.{Ending}
+use Rattle.aprs_log.specs.declared.Ending.TheVariants as ending
 use Rattle.aprs_laws.specs.Gap.{gap_seconds}
 use Rattle.aprs_laws.specs.Row.{Row}
 use Rattle.aprs_laws.specs.Sound.{Sound}

@@ -1,7 +1,6 @@
-//! Devices that count their failed calls, and KISS frames both ways.
+//! KISS frames both ways, over devices that count their failed calls.
 #![tactic(auto)]
 
-mod device;
 mod fault;
 mod laws;
 mod listen;
@@ -9,7 +8,7 @@ mod reader;
 mod spelling;
 mod write;
 
-pub use device::{Counted, DeviceFault, WriteFault, send};
+pub use aprs_io::{Counted, DeviceFault, WriteFault, send};
 pub use fault::PassFault;
 pub use laws::{
     a_stream_is_its_pieces, cuts_change_nothing, each_piece_is_judged_once, frame_ends_end_pieces,

@@ -1,3 +1,2 @@
-//! Examples of streams and devices.
-mod devices;
+//! Examples of streams.
 mod streams;

@@ -1,12 +1,12 @@
 //! Writes KISS frames.
 ghost use Rattle.std.specs.Prelude.{◌≡◌, ◌≤◌, true, OnOk, OnErr};
 ghost use Rattle.std.specs.Io.KnownBytes.{Appends};
-ghost use Rattle.aprs_kiss.specs.Device.{device_of, failures_of, Rose, AppendsFront};
+ghost use Rattle.aprs_io.specs.Device.{device_of, failures_of, Rose, AppendsFront};
 ghost use Rattle.aprs_kiss.specs.Plain.{is_special};
 ghost use Rattle.aprs_kiss.specs.Spelling.{kiss_text, spelling_of_byte};
 
-use crate::device::{Counted, WriteFault, send};
 use crate::spelling::{FEND, FESC, TFEND, TFESC, cut_plain};
+use aprs_io::{Counted, WriteFault, send};
 use std::io::Write;
 
 /// The type byte of a data frame on port 0.

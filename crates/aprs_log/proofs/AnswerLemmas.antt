@@ -10,7 +10,7 @@ use Rattle.std.proofs.lemmas.Bool.{cases_lt}
 use Rattle.aprs_log.specs.Cut.{Cut, cut_at, has_byte}
 use Rattle.aprs_log.specs.Line.{line_of, line_of_cut}
 use Rattle.aprs_log.specs.LogAnswers.{is_lf, tail_cause, fault_at, ended, then_answers, answers_of, answers_from}
-use Rattle.aprs_log.specs.declared.ending.Ending.{Ending}
+use Rattle.aprs_io.specs.declared.input.Ending.{Ending}
 use Rattle.aprs_log.specs.declared.fault.LineFault.TheVariants as fault
 use Rattle.aprs_log.specs.declared.fault.LogCause.TheVariants as cause
 

@@ -4,7 +4,8 @@ use Rattle.aprs_log.specs.LogAnswers.{Answers, answers_from, ended, Gets}
 use Rattle.aprs_log.specs.declared.fault.LogCause.{LogCause}
 use Rattle.aprs_log.specs.declared.fault.LogCause.TheVariants as cause
 use Rattle.aprs_log.specs.declared.fault.LogFault.{LogFault}
-use Rattle.aprs_log.specs.declared.ending.Ending.{Ending}
+use Rattle.aprs_io.specs.declared.input.Ending.{Ending}
+pub use Rattle.aprs_io.specs.Input.{EndsHere}
 use Rattle.aprs_log.specs.declared.ending.State.{State}
 use Rattle.aprs_log.specs.declared.ending.State.TheVariants.{Reading, Ended, Failed}
 
@@ -45,10 +46,6 @@ abbrev pub work_in : State → ℕ → ℕ
 work_in Reading left = left + 1
 work_in Ended left = 0
 work_in (Failed c) left = 0
-
--- nothing of the input is got, since it ends so
-abbrev pub EndsHere : Ending → ℕ → Option (List ℕ) → Option (List ℕ) → Type 0
-EndsHere e left known after = IfSome known (λ input. Gets left input after [] e)
 
 -- it hasn't failed for want of memory
 abbrev pub KeepsMemory : State → Type 0

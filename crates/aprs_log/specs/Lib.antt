@@ -1,5 +1,6 @@
 -- Definitions that contracts of a log cite.
-pub use Rattle.aprs_kiss.specs.Device
+pub use Rattle.aprs_io.specs.Device
+pub use Rattle.aprs_io.specs.Input
 pub mod Awaits
 pub mod Bytes
 pub mod Cut

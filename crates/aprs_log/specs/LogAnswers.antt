@@ -11,8 +11,9 @@ use Rattle.aprs_log.specs.declared.fault.LineFault.{LineFault}
 use Rattle.aprs_log.specs.declared.fault.LogCause.{LogCause}
 use Rattle.aprs_log.specs.declared.fault.LogCause.TheVariants as cause
 use Rattle.aprs_log.specs.declared.fault.LogFault.{LogFault}
-use Rattle.aprs_log.specs.declared.ending.Ending.{Ending}
-use Rattle.aprs_log.specs.declared.ending.Ending.TheVariants as ending
+use Rattle.aprs_io.specs.declared.input.Ending.{Ending}
+use Rattle.aprs_io.specs.declared.input.Ending.TheVariants as ending
+pub use Rattle.aprs_io.specs.Input.{EndsSo, Gets}
 
 -- LF, which ends a line
 abbrev pub is_lf : ℕ → Bool
@@ -62,22 +63,6 @@ answers_from n t c = answers_of n (slice_split is_lf t) c
 
 abbrev pub log_answers : List ℕ → Ending → Answers
 log_answers t c = answers_from 1 t c
-
--- ---- what is got of an input
-
--- of `rest`, which is left of the input: nothing is left at its end, something past the limit, and
--- where a read failed just what the device still has
-abbrev pub EndsSo : Ending → ℕ → List ℕ → List ℕ → Option (List ℕ) → Type 0
-EndsSo ending.End limit t rest after = (rest ≡ []) × (length t ≤ limit)
-EndsSo ending.Read limit t rest after = (after ≡ Some rest) × (length t ≤ limit)
-EndsSo ending.TooLong limit t rest after = (0 < length rest) × (length t ≡ limit)
-
--- of the input, at most `limit` bytes are got, and `c` comes after them; the device then has `after`
-pub record Gets (limit : ℕ) (input : List ℕ) (after : Option (List ℕ)) (t : List ℕ) (c : Ending)
-    : Type 0 where
-  pub rest : List ℕ
-  pub whole : input ≡ t ++ rest
-  pub ends : EndsSo c limit t rest after
 
 -- ---- the receptions among the answers
 

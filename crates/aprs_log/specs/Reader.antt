@@ -1,14 +1,14 @@
 -- What contracts see of a reader of a log.
 use Rattle.std.specs.Prelude.{◌≡◌, ℕ, ◌+◌, Bool, true, false, List, Option, None, Some, Result, Ok, Err, IsErrAnd}
 use Rattle.std.specs.Borrow.{GName}
-use Rattle.aprs_kiss.specs.declared.device.Counted.{Counted}
+use Rattle.aprs_io.specs.declared.device.Counted.{Counted}
 use Rattle.aprs_log.specs.Awaits.{AwaitsIn, stop_in, work_in}
 use Rattle.aprs_log.specs.LogAnswers.{Answers, Gets, ended, log_answers, then_given}
 use Rattle.aprs_log.specs.Window.{items}
 use Rattle.aprs_log.specs.declared.line.Line.{Line}
 use Rattle.aprs_log.specs.declared.fault.LogCause.TheVariants as cause
 use Rattle.aprs_log.specs.declared.fault.LogFault.{LogFault}
-use Rattle.aprs_log.specs.declared.ending.Ending.{Ending}
+use Rattle.aprs_io.specs.declared.input.Ending.{Ending}
 use Rattle.aprs_log.specs.declared.reader.LogReader.{LogReader}
 
 -- the reader that it borrows, and the name of that loan

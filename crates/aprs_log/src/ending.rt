@@ -4,17 +4,7 @@ ghost use Rattle.aprs_log.specs.LogAnswers.{tail_cause};
 
 use crate::fault::LogCause;
 use crate::line::MAX_LINE;
-
-/// What came after the bytes that were got of an input.
-#[derive(Clone, Copy, Debug, PartialEq, Eq)]
-pub enum Ending {
-    /// The input ended.
-    End,
-    /// The reader failed.
-    Read,
-    /// One byte more than the limit.
-    TooLong,
-}
+use aprs_io::Ending;
 
 /// What a reader of a log does next.
 #[derive(Clone, Copy, Debug, PartialEq, Eq)]

@@ -19,7 +19,7 @@ mod scratch;
 mod window;
 mod write;
 
-pub use ending::Ending;
+pub use aprs_io::{Ending, MAX_INPUT};
 pub use fault::{LineFault, LogCause, LogFault, Reason};
 pub use line::{Line, MAX_LINE, read_line};
 pub use moment::Moment;
@@ -27,6 +27,3 @@ pub use reader::LogReader;
 pub use receiver::Receiver;
 pub use reception::Reception;
 pub use write::{LogWriter, write_line};
-
-/// The most bytes of input that a reader is asked to take.
-pub const MAX_INPUT: u64 = 1_073_741_824;

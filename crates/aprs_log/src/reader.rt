@@ -3,13 +3,13 @@ ghost use Rattle.std.specs.Prelude.{◌≡◌, ◌≢◌, ◌+◌, ◌≤◌, le
 ghost use Rattle.aprs_log.specs.Awaits.{KeepsMemory};
 ghost use Rattle.aprs_log.specs.Window.{items};
 
-use crate::ending::{Ending, State, refuse_tail};
+use crate::ending::{State, refuse_tail};
 use crate::fault::{LogCause, LogFault};
 use crate::line::{Line, MAX_LINE};
 use crate::refill::{read_more, take_line};
 use crate::scratch::Scratch;
 use crate::window::Window;
-use aprs_kiss::Counted;
+use aprs_io::{Counted, Ending};
 use std::alloc::Global;
 use std::io::Read;
 
@@ -31,7 +31,7 @@ pub struct LogReader<'a, R> {
 impl<'a, R: Read> LogReader<'a, R> {
     ghost use Rattle.std.specs.Prelude.{◌≡◌, ◌≢◌, ◌+◌, ◌≤◌, ◌<◌, ◌++◌, ℕ, List, length, Option, None, Some, IfSome, IfErr, OnErr, false};
     ghost use Rattle.std.specs.Bool.{OnTrue, OnFalse};
-    ghost use Rattle.aprs_kiss.specs.Device.{device_of, failures_of, answered_of, Rose, RoseWhere};
+    ghost use Rattle.aprs_io.specs.Device.{device_of, failures_of, answered_of, Rose, RoseWhere};
     ghost use Rattle.aprs_log.specs.Cut.{cut_at};
     ghost use Rattle.aprs_log.specs.LogAnswers.{Answers, then_given};
     ghost use Rattle.aprs_log.specs.Window.{items};

@@ -1,7 +1,7 @@
 //! Lines out of a window, and bytes into it.
 ghost use Rattle.std.specs.Prelude.{◌≡◌, ◌+◌, ◌<◌, ◌≤◌, ℕ, List, ◌++◌, length, None, Some, IsErrAnd, IfOk, IfErr, IfNone, IfSome, OnErr};
 ghost use Rattle.std.specs.Io.KnownBytes.{Consumes};
-ghost use Rattle.aprs_kiss.specs.Device.{device_of, failures_of, answered_of, Rose, RoseWhere};
+ghost use Rattle.aprs_io.specs.Device.{device_of, failures_of, answered_of, Rose, RoseWhere};
 ghost use Rattle.aprs_log.specs.Awaits.{EndsHere};
 ghost use Rattle.aprs_log.specs.Cut.{Cut, cut_at};
 ghost use Rattle.aprs_log.specs.Line.{line_of};
@@ -9,12 +9,11 @@ ghost use Rattle.aprs_log.specs.Slot.{told_in};
 ghost use Rattle.aprs_log.specs.Window.{items};
 
 use crate::cut::cut_at;
-use crate::ending::Ending;
 use crate::fault::LineFault;
 use crate::line::{Line, read_fields};
 use crate::scratch::Scratch;
 use crate::window::Window;
-use aprs_kiss::Counted;
+use aprs_io::{Counted, Ending};
 use std::io::Read;
 
 /// Takes the first line out of the window, where it holds a whole one, and reads it into `told`,

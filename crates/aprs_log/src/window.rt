@@ -1,7 +1,7 @@
 //! Bytes that were read and are not yet taken.
 ghost use Rattle.std.specs.Prelude.{◌≤◌};
 
-use aprs_kiss::{Counted, DeviceFault};
+use aprs_io::{Counted, DeviceFault};
 use std::io::Read;
 
 const SIZE: usize = 16_384;
@@ -19,7 +19,7 @@ pub struct Window {
 impl Window {
     ghost use Rattle.std.specs.Prelude.{◌≡◌, ◌+◌, ◌<◌, ◌≤◌, ℕ, List, ◌++◌, length, drop, IfOk, OnErr};
     ghost use Rattle.std.specs.Io.KnownBytes.{Consumes, IsAtEnd, Keeps};
-    ghost use Rattle.aprs_kiss.specs.Device.{device_of, failures_of, answered_of, Rose, RoseAtErr};
+    ghost use Rattle.aprs_io.specs.Device.{device_of, failures_of, answered_of, Rose, RoseAtErr};
     ghost use Rattle.aprs_log.specs.Window.{items, room};
 
     /// A window that holds a few bytes.

@@ -3,7 +3,7 @@ ghost use Rattle.std.specs.Prelude.{◌≡◌, ◌≤◌, ◌+◌, ◌*◌, [], 
 ghost use Rattle.std.specs.Io.KnownBytes.{Appends};
 ghost use Rattle.arrayvec.specs.ArrayVec.{array_vec_len};
 ghost use Rattle.hex.specs.Hex.{decode_of, encode_lower};
-ghost use Rattle.aprs_kiss.specs.Device.{device_of, failures_of, Rose, AppendsFront};
+ghost use Rattle.aprs_io.specs.Device.{device_of, failures_of, Rose, AppendsFront};
 ghost use Rattle.aprs_kiss.specs.Spelling.{kiss_text, spelling_of_byte};
 ghost use Rattle.aprs_ax25.specs.Frame.{FrameOf};
 ghost use Rattle.aprs_ax25.specs.FrameFault.{frame_of, parts_of};
@@ -14,9 +14,8 @@ use crate::bytes::push_all;
 use crate::line::Line;
 use crate::reception::Reception;
 use aprs_ax25::each_is_a_frame_or_refused;
-use aprs_kiss::{
-    Counted, WriteFault, cut_plain, cuts_change_nothing, send, written_frames_are_read_back,
-};
+use aprs_io::{Counted, WriteFault, send};
+use aprs_kiss::{cut_plain, cuts_change_nothing, written_frames_are_read_back};
 use arrayvec::ArrayVec;
 use std::io::Write;
 

@@ -10,7 +10,7 @@ use Rattle.aprs_kiss.specs.Judgement.{Judgement}
 use Rattle.aprs_kiss.specs.Reader.{StandsAfter}
 use Rattle.aprs_kiss.specs.declared.reader.KissReader.{KissReader}
 use Rattle.aprs_log.specs.LogAnswers.{Gets}
-use Rattle.aprs_log.specs.declared.ending.Ending.TheVariants as ending
+use Rattle.aprs_log.specs.declared.Ending.TheVariants as ending
 use Rattle.aprs_tool.specs.Run.{RunsOver, capture_text, stream_fault, stream_text}
 use Rattle.aprs_tool.specs.declared.fault.RunFault.TheVariants.{Write}
 use Rattle.aprs_kiss.proofs.Pieces.{cuts, rest_of-none, judgements_of-append, judgements_of-none}

@@ -1,6 +1,6 @@
 -- Lemmas on forms.
 use Rattle.std.proofs.Common.{◌≡◌, ◌⊎◌, inl, inr, ℕ, List, Option}
-use Rattle.aprs_log.specs.declared.ending.Ending.{Ending}
+use Rattle.aprs_log.specs.declared.Ending.{Ending}
 use Rattle.aprs_log.specs.declared.fault.LogFault.{LogFault}
 use Rattle.aprs_tool.specs.Run.{convert_fault, convert_text, lines_fault, lines_text}
 use Rattle.aprs_tool.specs.declared.form.Form.{Form}

@@ -12,8 +12,8 @@ use Rattle.aprs_laws.specs.Real.{real}
 use Rattle.aprs_laws.specs.Row.{Row}
 use Rattle.aprs_laws.proofs.Soundness.{realised}
 use Rattle.aprs_log.specs.LogAnswers.{Gets, ended, fault_at, log_answers, receptions_of}
-use Rattle.aprs_log.specs.declared.ending.Ending.{Ending}
-use Rattle.aprs_log.specs.declared.ending.Ending.TheVariants as ending
+use Rattle.aprs_log.specs.declared.Ending.{Ending}
+use Rattle.aprs_log.specs.declared.Ending.TheVariants as ending
 use Rattle.aprs_log.specs.declared.fault.LogCause.{LogCause}
 use Rattle.aprs_booktext.specs.FirstFault.{FaultAtStart, FaultBehind, FirstFault, Reads}
 use Rattle.aprs_booktext.specs.Lines.{Lacks}

@@ -6,7 +6,7 @@ use Rattle.aprs_laws.specs.Book.{BookOf}
 use Rattle.aprs_laws.specs.Gap.{gap_seconds}
 use Rattle.aprs_laws.specs.Row.{Row}
 use Rattle.aprs_log.specs.Reception.{Heard}
-use Rattle.aprs_log.specs.declared.ending.Ending.TheVariants as ending
+use Rattle.aprs_log.specs.declared.Ending.TheVariants as ending
 use Rattle.aprs_tool.specs.Inputs.{AreMembers, HoldsOfGot, IsFaultless, IsRefused, OfGot, TakesInput}
 use Rattle.aprs_tool.specs.Merge.{AreFaultless, AreMembersOfAll, GetsEach, Got, HoldsOfEach, IsBookOfAll, IsFirstRefused, ReadsEach}
 use Rattle.aprs_tool.specs.declared.fault.InputFault.{InputFault}

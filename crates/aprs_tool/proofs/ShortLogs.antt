@@ -6,8 +6,8 @@ use Rattle.aprs_log.specs.Cut.{Cut, cut_at}
 use Rattle.aprs_log.specs.Line.{line_of}
 use Rattle.aprs_log.specs.LogAnswers.{Answers, ended, ending_cause, fault_at, is_lf, log_answers, tail_cause, then_answers}
 use Rattle.aprs_log.specs.Moment.{civil_at, civil_text}
-use Rattle.aprs_log.specs.declared.ending.Ending.{Ending}
-use Rattle.aprs_log.specs.declared.ending.Ending.TheVariants as ending
+use Rattle.aprs_log.specs.declared.Ending.{Ending}
+use Rattle.aprs_log.specs.declared.Ending.TheVariants as ending
 use Rattle.aprs_log.specs.declared.fault.LineFault.{LineFault}
 use Rattle.aprs_log.specs.declared.fault.LineFault.TheVariants as fault
 use Rattle.aprs_log.specs.declared.fault.LogCause.{LogCause}

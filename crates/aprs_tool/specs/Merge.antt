@@ -2,10 +2,10 @@
 use Rattle.std.specs.Prelude.{◌≡◌, ℕ, zero, suc, List, [], ◌∷◌, ◌++◌, Option, Some, Result, Ok, Err, map, slice_get}
 use Rattle.std.specs.Io.KnownBytes.{Appends}
 use Rattle.aprs_kiss.specs.Device.{AppendsFront, failures_of, Rose}
-use Rattle.aprs_kiss.specs.declared.device.Counted.{Counted}
+use Rattle.aprs_kiss.specs.declared.Counted.{Counted}
 use Rattle.aprs_log.specs.LogAnswers.{Gets}
 use Rattle.aprs_log.specs.Reception.{Heard}
-use Rattle.aprs_log.specs.declared.ending.Ending.{Ending}
+use Rattle.aprs_log.specs.declared.Ending.{Ending}
 use Rattle.aprs_laws.specs.Book.{BookOf}
 use Rattle.aprs_laws.specs.Gap.{gap_seconds}
 use Rattle.aprs_laws.specs.Row.{Row}

@@ -9,7 +9,7 @@ ghost use Rattle.aprs_kiss.specs.Reader.{StandsAfter};
 ghost use Rattle.aprs_kiss.specs.Told.{told_by};
 ghost use Rattle.aprs_kiss.specs.Stream.{judgements_of, rest_of};
 ghost use Rattle.aprs_log.specs.Awaits.{EndsHere};
-ghost use Rattle.aprs_log.specs.declared.ending.Ending.TheVariants.{Read as ReadFailed};
+ghost use Rattle.aprs_log.specs.declared.Ending.TheVariants.{Read as ReadFailed};
 ghost use Rattle.aprs_tool.specs.declared.fault.InputFault.TheVariants.{Log};
 ghost use Rattle.aprs_tool.specs.Run.{RunsOver, IsRead, stream_text, stream_fault, capture_text};
 ghost use Rattle.aprs_tool.specs.Run.{captured, EndsStream};

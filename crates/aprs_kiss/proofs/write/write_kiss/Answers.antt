@@ -1,9 +1,9 @@
 use Rattle.std.proofs.Common.{refl, subst, [], ◌∷◌, ◌++◌, arith}
 use Rattle.std.specs.Io.KnownBytes.{Appends}
-use Rattle.aprs_kiss.specs.Device.{AppendsFront}
+use Rattle.aprs_io.specs.Device.{AppendsFront}
 use Rattle.aprs_kiss.specs.Plain.{CutsPlain}
 use Rattle.aprs_kiss.specs.Spelling.{kiss_text, spelling_of, spelling_of_byte}
-use Rattle.aprs_kiss.proofs.Bytes.{on_err, sent_last, front_of_last, AppendsAllBut-none, AppendsAllBut-sent, AppendsFront-after}
+use Rattle.aprs_io.proofs.Bytes.{on_err, sent_last, front_of_last, AppendsAllBut-none, AppendsAllBut-sent, AppendsFront-after}
 use Rattle.aprs_kiss.proofs.Escapes.{spelling_of-all, spelling_of-cut, spelling_of-front}
 use Rattle.aprs_kiss.proofs.write.write_kiss.Goals as goal
 

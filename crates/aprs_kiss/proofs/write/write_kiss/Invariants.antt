@@ -1,5 +1,5 @@
 use Rattle.std.proofs.Common.{◌≤◌, ◌++◌, ◌∷◌, [], length}
-use Rattle.aprs_kiss.specs.Device.{device_of, failures_of, AppendsAllBut}
+use Rattle.aprs_io.specs.Device.{device_of, failures_of, AppendsAllBut}
 use Rattle.aprs_kiss.specs.Spelling.{kiss_text, spelling_of}
 use Rattle.aprs_kiss.proofs.write.write_kiss.Given as goal
 

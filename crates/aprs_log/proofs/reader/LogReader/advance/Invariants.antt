@@ -1,5 +1,5 @@
 use Rattle.std.proofs.Common.{◌≡◌, ◌≤◌, Option, None, Some}
-use Rattle.aprs_kiss.specs.Device.{device_of, failures_of, answered_of, Rose, RoseWhere}
+use Rattle.aprs_io.specs.Device.{device_of, failures_of, answered_of, Rose, RoseWhere}
 use Rattle.aprs_log.specs.Reader.{Moves, current_of, lines_of, loan_of, source_of, stop_of, work_of}
 use Rattle.aprs_log.specs.declared.ending.State.TheVariants.{Failed}
 use Rattle.aprs_log.specs.declared.fault.LogCause.TheVariants as cause

@@ -1,6 +1,6 @@
 use Rattle.std.proofs.Common.{length, ◌≡◌, ◌+◌, ◌*◌, ◌-◌, ◌<◌, ◌≤◌}
-use Rattle.aprs_kiss.specs.Device.{AppendsAllBut}
-use Rattle.aprs_kiss.proofs.device.send.Given as goal
+use Rattle.aprs_io.specs.Device.{AppendsAllBut}
+use Rattle.aprs_io.proofs.device.send.Given as goal
 
 abbrev pub invariant-loop-rest : goal.invariant-loop-rest
 invariant-loop-rest g l = record {

@@ -1,7 +1,7 @@
 //! Devices that fail in mid-stream.
 ghost use Rattle.std.specs.Prelude.{Some};
 
-use crate::{Counted, DeviceFault, WriteFault, send, write_kiss};
+use crate::{Counted, DeviceFault, WriteFault, send};
 use std::io;
 use std::io::{ErrorKind, Read, Write};
 use std::test::Fail;

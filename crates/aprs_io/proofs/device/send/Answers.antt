@@ -1,8 +1,8 @@
 use Rattle.std.proofs.Common.{[], arith, refl, ℕ}
 use Rattle.std.proofs.lemmas.List.{length-drop}
 use Rattle.std.proofs.KnownBytes.{Appends-nil}
-use Rattle.aprs_kiss.proofs.Bytes.{AppendsAllBut-more}
-use Rattle.aprs_kiss.proofs.device.send.Goals as goal
+use Rattle.aprs_io.proofs.Bytes.{AppendsAllBut-more}
+use Rattle.aprs_io.proofs.device.send.Goals as goal
 
 pub loop-rest-init : goal.loop-rest-init
 loop-rest-init g c = record { tries = omega arith; count = omega arith; tried = omega arith; answered = refl; none = λ e. refl; sent = ([], refl, Appends-nil _) }

@@ -1,7 +1,7 @@
 -- What a device that counts its failed calls does in one call.
 use Rattle.std.specs.Prelude.{◌≡◌, ℕ, ◌+◌, ◌-◌, ◌^◌, ◌≤◌, min, List, ◌++◌, Option, Result, Ok, Err}
 use Rattle.std.specs.Io.KnownBytes.{Appends}
-use Rattle.aprs_kiss.specs.declared.device.Counted.{Counted}
+use Rattle.aprs_io.specs.declared.device.Counted.{Counted}
 
 -- the reader or writer inside
 abbrev pub device_of : {T : Type 0} → Counted T → T

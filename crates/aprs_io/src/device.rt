@@ -2,7 +2,7 @@
 ghost use Rattle.std.specs.Prelude.{◌≡◌, ◌+◌, ◌*◌, ◌≤◌, length, OnOk, OnErr};
 ghost use Rattle.std.specs.Io.{ReadsAtMost};
 ghost use Rattle.std.specs.Io.KnownBytes.{Appends, ReadConsumes};
-ghost use Rattle.aprs_kiss.specs.Device.{device_of, failures_of, answered_of, Rose, RoseAtErr, AppendsFront};
+ghost use Rattle.aprs_io.specs.Device.{device_of, failures_of, answered_of, Rose, RoseAtErr, AppendsFront};
 
 use std::io::{ErrorKind, Read, Write};
 

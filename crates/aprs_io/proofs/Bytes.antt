@@ -3,7 +3,7 @@ use Rattle.std.proofs.Common.{◌≡◌, Result, Ok, Err, OnOk, OnErr, ℕ, ◌-
 use Rattle.std.proofs.lemmas.List.{take_rest}
 use Rattle.std.specs.Io.KnownBytes.{Appends}
 use Rattle.std.proofs.KnownBytes.{Appends-nil, Appends-trans}
-use Rattle.aprs_kiss.specs.Device.{AppendsAllBut, AppendsFront}
+use Rattle.aprs_io.specs.Device.{AppendsAllBut, AppendsFront}
 
 -- the writer took n bytes of what was left
 pub AppendsAllBut-more : (a b c : Option (List ℕ)) (bs rest : List ℕ) (n : ℕ)

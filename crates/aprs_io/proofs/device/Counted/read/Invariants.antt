@@ -1,6 +1,6 @@
 use Rattle.std.proofs.Common.{◌≡◌, ◌+◌, ◌-◌, ◌<◌, ◌≤◌}
 use Rattle.std.specs.Io.KnownBytes.{Keeps}
-use Rattle.aprs_kiss.proofs.device.Counted.read.Given as goal
+use Rattle.aprs_io.proofs.device.Counted.read.Given as goal
 
 abbrev pub invariant-loop-n : goal.invariant-loop-n
 invariant-loop-n g l = record {

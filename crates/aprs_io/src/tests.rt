@@ -1,0 +1,2 @@
+//! Examples of devices.
+mod devices;
