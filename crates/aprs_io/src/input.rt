@@ -1,4 +1,11 @@
 //! Inputs that are read under a limit.
+ghost use Rattle.std.specs.Prelude.{◌≡◌, ◌+◌, ◌<◌, ◌≤◌, length, take, IsErrAnd, IfOk, IfErr, OnOk};
+ghost use Rattle.std.specs.Io.KnownBytes.{Consumes};
+ghost use Rattle.aprs_io.specs.Device.{device_of, failures_of, answered_of, Rose, RoseWhere};
+ghost use Rattle.aprs_io.specs.Input.{EndsHere};
+
+use crate::device::{Counted, DeviceFault};
+use std::io::Read;
 
 /// The most bytes of input that a reader is asked to take.
 pub const MAX_INPUT: u64 = 1_073_741_824;
@@ -12,4 +19,57 @@ pub enum Ending {
     Read,
     /// One byte more than the limit.
     TooLong,
+}
+
+/// Reads once to the front of `room`, which is not empty, and returns how many bytes came: at least
+/// one, at most `left`. Otherwise it returns how the input ends. Where `left` is 0, the device is
+/// asked for one byte more: if it gives one, the input is too long. Takes no memory.
+pub fn read_some<R: Read>(
+    source: &mut Counted<R>,
+    room: &mut [u8],
+    left: u64,
+) -> Result<usize, Ending>
+    requires { 0 < length room.old }
+    ensures some { IfOk result (λ n. (0 < n) × (n ≤ left) × (n ≤ length room.new)) }
+    ensures bytes { IfOk result (λ n. Consumes (R.remaining (device_of source.old))
+        (R.remaining (device_of source.new)) (take n room.new)) }
+    ensures end { IfErr result (λ e. EndsHere e left (R.remaining (device_of source.old))
+        (R.remaining (device_of source.new))) }
+    ensures count { failures_of source.old ≤ failures_of source.new }
+    ensures read { IfErr result (λ e. e ≡ Ending.Read
+        → Rose (failures_of source.old) (failures_of source.new)) }
+    // A failed read is told where the call answered one, and nowhere else.
+    ensures answered { RoseWhere (IsErrAnd result (λ e. e ≡ Ending.Read)) (answered_of source.old)
+        (answered_of source.new) }
+    // At most so many tries failed.
+    ensures tried { OnOk result (failures_of source.new ≤ failures_of source.old + 999) }
+    ensures given_up { failures_of source.new ≤ failures_of source.old + 1000 }
+{
+    if left == 0 {
+        return Err(ending_at_limit(source));
+    }
+    let most = left.min(room.len() as u64) as usize;
+    match source.read(&mut room[..most]) {
+        Ok(0) => Err(Ending::End),
+        Ok(count) => Ok(count),
+        Err(DeviceFault) => Err(Ending::Read),
+    }
+}
+
+/// How an input ends of which as many bytes were got as may be: whether a further byte exists.
+fn ending_at_limit<R: Read>(source: &mut Counted<R>) -> Ending
+    ensures end { EndsHere result 0 (R.remaining (device_of source.old))
+        (R.remaining (device_of source.new)) }
+    ensures count { failures_of source.old ≤ failures_of source.new }
+    ensures read { result ≡ Ending.Read → Rose (failures_of source.old) (failures_of source.new) }
+    ensures answered { RoseWhere (result ≡ Ending.Read) (answered_of source.old)
+        (answered_of source.new) }
+    ensures given_up { failures_of source.new ≤ failures_of source.old + 1000 }
+{
+    let mut one = [0];
+    match source.read(&mut one) {
+        Ok(0) => Ending::End,
+        Ok(_) => Ending::TooLong,
+        Err(DeviceFault) => Ending::Read,
+    }
 }

@@ -5,7 +5,7 @@ mod device;
 mod input;
 
 pub use device::{Counted, DeviceFault, WriteFault, send};
-pub use input::{Ending, MAX_INPUT};
+pub use input::{Ending, MAX_INPUT, read_some};
 
 #[cfg(test)]
 mod tests;

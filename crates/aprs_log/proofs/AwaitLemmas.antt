@@ -1,11 +1,10 @@
 -- Lemmas on what a reader of a log may still answer.
-use Rattle.std.proofs.Common.{◌≡◌, ℕ, ◌+◌, ◌-◌, ◌<◌, ◌≤◌, List, [], ◌∷◌, ◌++◌, length, take, drop, Option, None, Some, Ok, Err, IfSome, inl, inr, refl, arith, sym, ap, ◌∙◌, append_assoc, append-nil, length-append, length-take, length-drop, take-append-drop, subst}
-use Rattle.std.specs.Io.KnownBytes.{Consumes, IsAtEnd, Keeps}
-use Rattle.std.proofs.lemmas.Bool.{cases_lt}
+use Rattle.std.proofs.Common.{◌≡◌, ℕ, ◌+◌, ◌-◌, ◌<◌, ◌≤◌, List, [], ◌++◌, length, Option, None, Some, Ok, Err, IfSome, refl, arith, sym, ap, ◌∙◌, append_assoc, append-nil, subst}
+use Rattle.std.specs.Io.KnownBytes.{Consumes}
 use Rattle.aprs_log.specs.Cut.{Cut, cut_at}
 use Rattle.aprs_log.specs.Fault.{log_cause_of}
 use Rattle.aprs_log.specs.Line.{line_of}
-use Rattle.aprs_log.specs.LogAnswers.{Answers, EndsSo, Gets, answers_from, ended, fault_at, tail_cause, then_answers, then_given}
+use Rattle.aprs_log.specs.LogAnswers.{Answers, answers_from, ended, fault_at, tail_cause, then_answers, then_given}
 use Rattle.aprs_log.specs.Awaits.{AwaitsIn, EndsHere, KeepsMemory, fault_after, state_after}
 use Rattle.aprs_log.specs.Reader.{AreAnswersOf}
 use Rattle.aprs_log.specs.declared.line.Line.{Line}
@@ -14,35 +13,11 @@ use Rattle.aprs_log.specs.declared.fault.LineFault.TheVariants as fault
 use Rattle.aprs_log.specs.declared.fault.LogCause.{LogCause}
 use Rattle.aprs_log.specs.declared.fault.LogCause.TheVariants as cause
 use Rattle.aprs_io.specs.declared.input.Ending.{Ending}
-use Rattle.aprs_io.specs.declared.input.Ending.TheVariants as ending
 use Rattle.aprs_log.specs.declared.ending.State.{State}
 use Rattle.aprs_log.specs.declared.ending.State.TheVariants.{Reading, Ended, Failed}
+pub use Rattle.aprs_io.proofs.Inputs.{GetsWhole, gets_whole}
+use Rattle.aprs_io.proofs.Inputs.{Gets-after}
 use Rattle.aprs_log.proofs.AnswerLemmas.{answers_from-line, answers_from-tail, answers_from-long, no_lf}
-
--- ---- an input that is read to its end or to the limit
-
-pub record GetsWhole (left : ℕ) (input : List ℕ) (end : Option (List ℕ)) : Type 0 where
-  pub text : List ℕ
-  pub ending : Ending
-  pub gets : Gets left input end text ending
-
-pub gets_whole : (left : ℕ) (input : List ℕ) (end : Option (List ℕ)) → GetsWhole left input end
-gets_whole left input end = elim (cases_lt left (length input)) [
-  | inl lt ↦ record {
-    text = take left input;
-    ending = ending.TooLong;
-    gets = record {
-      rest = drop left input;
-      whole = sym (take-append-drop left input);
-      ends = (simp length-drop (omega arith), simp length-take (omega arith));
-    };
-  }
-  | inr le ↦ record {
-    text = input;
-    ending = ending.End;
-    gets = record { rest = []; whole = sym (append-nil input); ends = (refl, le) };
-  }
-]
 
 -- an answer that doesn't depend on the bytes to come
 always : (known end : Option (List ℕ)) (left line : ℕ) (held : List ℕ) (a : Answers)
@@ -100,15 +75,6 @@ awaits_end (Some input) end left line held c none ends = record {
 
 -- ---- more bytes
 
-ends_more : (c : Ending) (left n : ℕ) (more text rest : List ℕ) (end : Option (List ℕ))
-    → length more ≡ n → n ≤ left → EndsSo c (left - n) text rest end
-    → EndsSo c left (more ++ text) rest end
-ends_more ending.End left n more text rest end len le h = (h.0, simp length-append (omega (arith, h.1)))
-ends_more ending.Read left n more text rest end len le h =
-    (h.0, simp length-append (omega (arith, h.1)))
-ends_more ending.TooLong left n more text rest end len le h =
-    (h.0, simp length-append (omega (arith, h.1)))
-
 pub awaits_more : (known after end : Option (List ℕ)) (left n line : ℕ) (held more : List ℕ)
     (a : Answers) → Consumes known after more → length more ≡ n
     → n ≤ left → AwaitsIn Reading after end (left - n) line (held ++ more) a
@@ -118,44 +84,9 @@ awaits_more (Some input) None end left n line held more a took len le w = absurd
 awaits_more (Some input) (Some rest) end left n line held more a took len le w = record {
   text = more ++ w.text;
   ending = w.ending;
-  gets = record {
-    rest = w.gets.rest;
-    whole = took ∙ ap (λ l. more ++ l) w.gets.whole ∙ sym (append_assoc more w.text w.gets.rest);
-    ends = ends_more w.ending left n more w.text w.gets.rest end len le w.gets.ends;
-  };
+  gets = Gets-after left (left - n) input more rest w.text end w.ending took
+      (omega (arith, len, le)) w.gets;
   is = w.is ∙ ap (λ t. answers_from (line + 1) t w.ending) (append_assoc held more w.text);
-}
-
--- ---- how an input ends
-
-pub ends_at_end : (known after end : Option (List ℕ)) (left : ℕ) (more : List ℕ)
-    → Consumes known after more → length more ≡ 0 → IsAtEnd after
-    → EndsHere ending.End left known end
-ends_at_end None after end left more took none at_end = tt
-ends_at_end (Some input) None end left more took none at_end = absurd took
-ends_at_end (Some input) (Some rest) end left [] took none at_end =
-    record { rest = []; whole = took ∙ at_end; ends = (refl, omega arith) }
-ends_at_end (Some input) (Some rest) end left (x ∷ more) took none at_end = absurd (omega (arith, none))
-
-pub ends_by_fault : (known end : Option (List ℕ)) (left : ℕ) → Keeps known end
-    → EndsHere ending.Read left known end
-ends_by_fault None end left kept = tt
-ends_by_fault (Some input) None left kept = absurd kept
-ends_by_fault (Some input) (Some rest) left kept =
-    record { rest = input; whole = refl; ends = (ap Some kept, omega arith) }
-
-pub ends_past : (known after end : Option (List ℕ)) (more : List ℕ) → Consumes known after more
-    → 0 < length more → EndsHere ending.TooLong 0 known end
-ends_past None after end more took some = tt
-ends_past (Some input) None end more took some = absurd took
-ends_past (Some input) (Some rest) end more took some = record {
-  rest = input;
-  whole = refl;
-  ends = (
-    let e : length (more ++ rest) ≡ length more + length rest
-        = length-append more rest in omega (arith, ap length took, e),
-    refl,
-  );
 }
 
 -- ---- from the first line on
@@ -168,11 +99,8 @@ from_start None end limit head held a le e w = tt
 from_start (Some input) end limit head held a le e w = record {
   text = head ++ w.text;
   ending = w.ending;
-  gets = record {
-    rest = w.gets.rest;
-    whole = ap (λ l. head ++ l) w.gets.whole ∙ sym (append_assoc head w.text w.gets.rest);
-    ends = ends_more w.ending limit (length head) head w.text w.gets.rest end refl le w.gets.ends;
-  };
+  gets = Gets-after limit (limit - length head) (head ++ input) head input w.text end w.ending refl
+      (omega (arith, le)) w.gets;
   is = w.is ∙ ap (λ l. answers_from 1 (l ++ w.text) w.ending) e;
 }
 

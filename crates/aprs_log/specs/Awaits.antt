@@ -1,5 +1,5 @@
 -- What a reader of a log may still answer, by what it holds.
-use Rattle.std.specs.Prelude.{◌≡◌, ◌≢◌, ℕ, ◌+◌, List, [], ◌++◌, Option, None, Some, IfSome}
+use Rattle.std.specs.Prelude.{◌≡◌, ◌≢◌, ℕ, ◌+◌, List, ◌++◌, Option, None, Some, IfSome}
 use Rattle.aprs_log.specs.LogAnswers.{Answers, answers_from, ended, Gets}
 use Rattle.aprs_log.specs.declared.fault.LogCause.{LogCause}
 use Rattle.aprs_log.specs.declared.fault.LogCause.TheVariants as cause

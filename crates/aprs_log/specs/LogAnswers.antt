@@ -1,5 +1,5 @@
 -- The answers of a log: its lines in order, up to the first fault.
-use Rattle.std.specs.Prelude.{◌≡◌, ℕ, ◌+◌, ◌≤◌, ◌<◌, Bool, if◌then◌else◌, List, [], ◌∷◌, ◌++◌, length, Option, None, Some, Result, Ok, Err, nat_lt}
+use Rattle.std.specs.Prelude.{ℕ, ◌+◌, Bool, if◌then◌else◌, List, [], ◌∷◌, length, Option, None, Some, Result, Ok, Err, nat_lt}
 use Rattle.std.specs.List.{slice_split}
 use Rattle.aprs_log.specs.Cut.{is_byte}
 use Rattle.aprs_log.specs.Fault.{log_cause_of}

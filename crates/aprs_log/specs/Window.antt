@@ -1,9 +1,6 @@
 -- What a clause reads of a buffer. No public clause cites this module.
-use Rattle.std.specs.Prelude.{ℕ, ◌-◌, List, slice_range}
+use Rattle.std.specs.Prelude.{ℕ, List, slice_range}
 use Rattle.aprs_log.specs.declared.window.Window.{Window}
 
 abbrev pub items : Window → List ℕ
 items w = slice_range w.bytes w.start w.end
-
-abbrev pub room : Window → ℕ
-room w = 16384 - w.end

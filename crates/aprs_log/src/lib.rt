@@ -14,8 +14,8 @@ mod moment;
 mod reader;
 mod receiver;
 mod reception;
-mod refill;
 mod scratch;
+mod take;
 mod window;
 mod write;
 

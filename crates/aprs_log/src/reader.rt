@@ -6,10 +6,10 @@ ghost use Rattle.aprs_log.specs.Window.{items};
 use crate::ending::{State, refuse_tail};
 use crate::fault::{LogCause, LogFault};
 use crate::line::{Line, MAX_LINE};
-use crate::refill::{read_more, take_line};
 use crate::scratch::Scratch;
+use crate::take::take_line;
 use crate::window::Window;
-use aprs_io::{Counted, Ending};
+use aprs_io::Counted;
 use std::alloc::Global;
 use std::io::Read;
 
@@ -230,7 +230,7 @@ impl<'a, R: Read> LogReader<'a, R> {
             self.state = State::Failed(LogCause::LongLine);
             return;
         }
-        match read_more(&mut self.window, self.source, self.left) {
+        match self.window.read_more(self.source, self.left) {
             Ok(count) => self.left -= count,
             Err(ending) => {
                 self.state = match refuse_tail(self.window.as_slice(), ending) {

@@ -1,7 +1,7 @@
 //! Bytes that were read and are not yet taken.
 ghost use Rattle.std.specs.Prelude.{◌≤◌};
 
-use aprs_io::{Counted, DeviceFault};
+use aprs_io::{Counted, Ending, read_some};
 use std::io::Read;
 
 const SIZE: usize = 16_384;
@@ -17,10 +17,11 @@ pub struct Window {
 }
 
 impl Window {
-    ghost use Rattle.std.specs.Prelude.{◌≡◌, ◌+◌, ◌<◌, ◌≤◌, ℕ, List, ◌++◌, length, drop, IfOk, OnErr};
-    ghost use Rattle.std.specs.Io.KnownBytes.{Consumes, IsAtEnd, Keeps};
-    ghost use Rattle.aprs_io.specs.Device.{device_of, failures_of, answered_of, Rose, RoseAtErr};
-    ghost use Rattle.aprs_log.specs.Window.{items, room};
+    ghost use Rattle.std.specs.Prelude.{◌≡◌, ◌<◌, ◌≤◌, ℕ, List, ◌++◌, length, drop, IfOk, IfErr, IsErrAnd};
+    ghost use Rattle.std.specs.Io.KnownBytes.{Consumes};
+    ghost use Rattle.aprs_io.specs.Device.{device_of, failures_of, answered_of, Rose, RoseWhere};
+    ghost use Rattle.aprs_io.specs.Input.{EndsHere};
+    ghost use Rattle.aprs_log.specs.Window.{items};
 
     /// A window that holds a few bytes.
     pub fn new(head: &[u8]) -> Window
@@ -52,40 +53,39 @@ impl Window {
         self.start += count;
     }
 
+    /// Reads once behind the bytes that it holds, at most `left` bytes, and returns how many came;
+    /// or returns how the input ends.
+    pub fn read_more<R: Read>(&mut self, source: &mut Counted<R>, left: u64) -> Result<u64, Ending>
+        requires { length (items self.old) ≤ 8192 }
+        ensures some { IfOk result (λ n. (0 < n) × (n ≤ left)) }
+        ensures more { IfOk result (λ n. (more : List ℕ) × (length more ≡ n)
+            × (items self.new ≡ items self.old ++ more)
+            × Consumes (R.remaining (device_of source.old)) (R.remaining (device_of source.new))
+            more) }
+        ensures end { IfErr result (λ e. (items self.new ≡ items self.old)
+            × EndsHere e left (R.remaining (device_of source.old))
+            (R.remaining (device_of source.new))) }
+        ensures count { failures_of source.old ≤ failures_of source.new }
+        ensures read { IfErr result (λ e. e ≡ Ending.Read
+            → Rose (failures_of source.old) (failures_of source.new)) }
+        ensures answered { RoseWhere (IsErrAnd result (λ e. e ≡ Ending.Read))
+            (answered_of source.old) (answered_of source.new) }
+    {
+        self.move_to_front();
+        let end = self.end;
+        let count = read_some(source, &mut self.bytes[end..], left)?;
+        self.end = end + count;
+        Ok(count as u64)
+    }
+
     /// Makes all the room that there is.
-    pub fn move_to_front(&mut self)
+    fn move_to_front(&mut self)
         ensures items { items self.new ≡ items self.old }
-        ensures room { room self.new + length (items self.new) ≡ 16384 }
+        ensures room { self.new.end ≡ length (items self.old) }
     {
         let (start, end) = (self.start, self.end);
         self.bytes.copy_within(start..end, 0);
         self.start = 0;
         self.end = end - start;
-    }
-
-    /// Reads once, at most `most` bytes. After an error the window holds what it held.
-    pub fn read_from<R: Read>(
-        &mut self,
-        source: &mut Counted<R>,
-        most: usize,
-    ) -> Result<usize, DeviceFault>
-        ensures ok { IfOk result (λ n. (more : List ℕ) × (length more ≡ n)
-            × (items self.new ≡ items self.old ++ more)
-            × Consumes (R.remaining (device_of source.old)) (R.remaining (device_of source.new))
-            more) }
-        ensures most { IfOk result (λ n. n ≤ most) }
-        ensures end { IfOk result (λ n. n ≡ 0 → 0 < room self.old → 0 < most
-            → IsAtEnd (R.remaining (device_of source.new))) }
-        ensures kept { OnErr result ((items self.new ≡ items self.old)
-            × Keeps (R.remaining (device_of source.old)) (R.remaining (device_of source.new))) }
-        ensures count { failures_of source.old ≤ failures_of source.new }
-        ensures fault { OnErr result (Rose (failures_of source.old) (failures_of source.new)) }
-        ensures answered { RoseAtErr result (answered_of source.old) (answered_of source.new) }
-    {
-        let end = self.end;
-        let stop = end + most.min(SIZE - end);
-        let count = source.read(&mut self.bytes[end..stop])?;
-        self.end = end + count;
-        Ok(count)
     }
 }

@@ -1,6 +1,6 @@
 use Rattle.std.proofs.Common.{◌∙◌, ap, length, arith}
 use Rattle.aprs_log.proofs.CutLemmas.{taken}
-use Rattle.aprs_log.proofs.refill.take_line.Goals as goal
+use Rattle.aprs_log.proofs.take.take_line.Goals as goal
 
 pub consume-requires : goal.consume-requires
 consume-requires c = (taken 10 _ _ _ c.in-Some.ensures c.as_slice.ensures.value).used
