@@ -1,12 +1,15 @@
 -- Lemmas on the text of a callsign.
-use Rattle.std.proofs.Common.{◌≡◌, ℕ, ◌+◌, ◌-◌, ◌%◌, ◌≤◌, ◌<◌, ◌==◌, inl, inr, List, [], ◌∷◌, ◌++◌, length, take, drop, Bool, true, false, not, cond, ◌&&◌, nat_le, None, Some, is_none, add-zero, arith, sym, ap, ◌∙◌, refl, slice_index, subst, take-append-drop}
+use Rattle.std.proofs.Common.{◌≡◌, ◌⊎◌, ℕ, ◌+◌, ◌-◌, ◌%◌, ◌≤◌, ◌<◌, ◌==◌, inl, inr, List, [], ◌∷◌, ◌++◌, length, take, drop, Bool, true, false, not, cond, ◌&&◌, nat_le, None, Some, is_none, add-zero, arith, sym, ap, ◌∙◌, refl, slice_index, subst, take-append-drop}
 use Rattle.std.specs.List.{list_all, position_or_len, before_first}
 use Rattle.std.proofs.lemmas.List.{get_or-drop, take_at, drop_at, length-drop}
 use Rattle.std.proofs.lemmas.List.Folds.{length-prefix_len}
 use Rattle.std.proofs.lemmas.List.Sums.{passes_at_first}
 use Rattle.std.proofs.lemmas.Bool.{and_parts, and_from, leb-true, le-leb, eqb-true, ne_eqb, cases_lt}
 use Rattle.aprs_ax25.specs.Callsign.{Call, is_callsign_byte, ssid_text}
-use Rattle.aprs_ax25.specs.CallText.{CallText, is_dash, before_dash, from_dash, ssid_of, is_wrong_call, call_fault}
+use Rattle.aprs_ax25.specs.CallText.{CallText, SsidText, IsWrongCall, FirstCallFault, is_dash, before_dash, from_dash}
+use Rattle.aprs_ax25.specs.Scan.{ssid_of, is_wrong_call, call_fault}
+use Rattle.aprs_ax25.specs.Fault.{call_fault_number}
+use Rattle.aprs_ax25.specs.declared.fault.CallFault.{CallFault}
 use Rattle.aprs_ax25.specs.declared.fault.CallFault.TheVariants.{Length, Character, Ssid}
 use Rattle.aprs_ax25.proofs.Calls.{ssid_text-one, ssid_text-two}
 use Rattle.aprs_ax25.proofs.Sounds.{cond-None, not-false}
@@ -71,6 +74,13 @@ ssid_of-ssid_text s h =
       ]
       | inr none ↦ let e : 0 ≡ s = omega arith in subst (λ (n : ℕ). ssid_of (ssid_text n) ≡ Some n) e refl
     ]
+
+-- so the SSIDs that are found are those whose text it is
+pub SsidText-ssid_of : (s : ℕ) (d : List ℕ) → SsidText s d → ssid_of d ≡ Some s
+SsidText-ssid_of s d h = ap ssid_of h.spelled ∙ ssid_of-ssid_text s h.range
+
+pub ssid_of-SsidText : (s : ℕ) (d : List ℕ) → (0 < length d → slice_index d 0 ≡ 45) → ssid_of d ≡ Some s → SsidText s d
+ssid_of-SsidText s d first h = let p = ssid_of-Some s d first h in record { range = p.1; spelled = p.0 }
 
 -- ---- text that has no fault
 
@@ -140,3 +150,62 @@ module _ (c : Call) (text : List ℕ) (h : CallText c text) where
   pub CallText-is : (s : ℕ) → ssid_of (from_dash text) ≡ Some s → record { letters = before_dash text; ssid = s } ≡ c
   CallText-is s e =
       ap (λ l. record { letters = l; ssid = s }) before_dash-is ∙ ap (λ n. record { letters = c.letters; ssid = n }) (some-is s c.ssid (sym e ∙ ssid-is))
+
+-- ---- text that has a fault
+
+no-SsidText : (d : List ℕ) → is_none (ssid_of d) ≡ true → (s : ℕ) → SsidText s d → ⊥
+no-SsidText d h s t = let e : true ≡ false = sym h ∙ ap is_none (SsidText-ssid_of s d t) in cc
+
+too-short-or-long : (n : ℕ) → not (nat_le 1 n && nat_le n 6) ≡ true → (n ≡ 0) ⊎ (6 < n)
+too-short-or-long n h = elim (cases_lt n 1) [
+  | inl none ↦ inl (omega arith)
+  | inr some ↦ elim (cases_lt 6 n) [
+    | inl long ↦ inr long
+    | inr short ↦ absurd (
+        let e : not (nat_le 1 n && nat_le n 6) ≡ false = ap not (and_from (nat_le 1 n) (nat_le n 6) (le-leb 1 n some) (le-leb n 6 short)) in
+        let no : true ≡ false = sym h ∙ e in
+        cc
+        )
+  ]
+]
+
+in-range : (n : ℕ) → not (nat_le 1 n && nat_le n 6) ≡ false → (n ≡ 0) ⊎ (6 < n) → ⊥
+in-range n h (inl e) = let p = and_parts (nat_le 1 n) (nat_le n 6) (not-false _ h) in let some = leb-true 1 n p.0 in omega arith
+in-range n h (inr e) = let p = and_parts (nat_le 1 n) (nat_le n 6) (not-false _ h) in let most = leb-true n 6 p.1 in omega arith
+
+all-not : (b : Bool) → not b ≡ true → b ≡ false
+all-not true h = cc
+all-not false h = refl
+
+module _ (text : List ℕ) where
+  abbrev not-before : CallFault → Type 0
+  not-before fault = (other : CallFault) → call_fault_number other < call_fault_number fault → IsWrongCall other text → ⊥
+
+  before-Length : not-before Length
+  before-Length Length h = absurd (omega arith)
+  before-Length Character h = absurd (omega arith)
+  before-Length Ssid h = absurd (omega arith)
+
+  before-Character : is_wrong_call Length text ≡ false → not-before Character
+  before-Character a Length h = in-range (length (before_dash text)) a
+  before-Character a Character h = absurd (omega arith)
+  before-Character a Ssid h = absurd (omega arith)
+
+  before-Ssid : is_wrong_call Length text ≡ false → is_wrong_call Character text ≡ false → not-before Ssid
+  before-Ssid a b Length h = in-range (length (before_dash text)) a
+  before-Ssid a b Character h = λ w. let e : true ≡ false = sym (not-false _ b) ∙ w in cc
+  before-Ssid a b Ssid h = absurd (omega arith)
+
+  found : (fault : CallFault) (a b c : Bool) → is_wrong_call Length text ≡ a → is_wrong_call Character text ≡ b → is_wrong_call Ssid text ≡ c
+      → cond a (Some Length) (cond b (Some Character) (cond c (Some Ssid) None)) ≡ Some fault → FirstCallFault text fault
+  found fault true b c p q r h =
+      subst (FirstCallFault text) (some-is Length fault h) (record { wrong = too-short-or-long (length (before_dash text)) p; first = before-Length })
+  found fault false true c p q r h =
+      subst (FirstCallFault text) (some-is Character fault h) (record { wrong = all-not _ q; first = before-Character p })
+  found fault false false true p q r h =
+      subst (FirstCallFault text) (some-is Ssid fault h) (record { wrong = no-SsidText (from_dash text) r; first = before-Ssid p q })
+  found fault false false false p q r h = cc
+
+-- the fault that is found is the first
+pub call_fault-FirstCallFault : (text : List ℕ) (fault : CallFault) → call_fault text ≡ Some fault → FirstCallFault text fault
+call_fault-FirstCallFault text fault h = found text fault _ _ _ refl refl refl h

@@ -1,8 +1,8 @@
 -- Which bytes are the text of a callsign, and what is wrong with others.
-use Rattle.std.specs.Prelude.{◌≡◌, ℕ, ◌-◌, ◌==◌, Bool, not, ◌&&◌, nat_le, if◌then◌else◌, List, []}
-use Rattle.std.specs.Prelude.{◌∷◌, length, drop, Option, None, Some, is_none}
-use Rattle.std.specs.List.{list_all, find, before_first}
-use Rattle.aprs_ax25.specs.Callsign.{Call, IsCall, is_callsign_byte, call_text}
+use Rattle.std.specs.Prelude.{◌≡◌, ℕ, ◌<◌, ◌==◌, ◌⊎◌, Bool, false, List, length, drop}
+use Rattle.std.specs.List.{list_all, before_first}
+use Rattle.aprs_ax25.specs.Callsign.{Call, IsCall, is_callsign_byte, call_text, ssid_text}
+use Rattle.aprs_ax25.specs.Fault.{call_fault_number}
 use Rattle.aprs_ax25.specs.declared.fault.CallFault.{CallFault}
 use Rattle.aprs_ax25.specs.declared.fault.CallFault.TheVariants.{Length, Character, Ssid}
 
@@ -21,21 +21,20 @@ before_dash text = before_first is_dash text
 abbrev pub from_dash : List ℕ → List ℕ
 from_dash text = drop (length (before_dash text)) text
 
--- the SSID that nothing, or a dash and what stands behind it, is the text of
-abbrev pub ssid_of : List ℕ → Option ℕ
-ssid_of [] = Some 0
-ssid_of (dash ∷ []) = None
-ssid_of (dash ∷ d ∷ []) = if nat_le 49 d && nat_le d 57 then Some (d - 48) else None
-ssid_of (dash ∷ c ∷ d ∷ []) = if c == 49 && nat_le 48 d && nat_le d 53 then Some (d - 38) else None
-ssid_of (dash ∷ b ∷ c ∷ d ∷ more) = None
+-- nothing, and the SSID is 0; or a dash and the SSID, from 1 to 15 and without a leading zero
+pub record SsidText (ssid : ℕ) (text : List ℕ) : Type 0 where
+  pub range : ssid < 16
+  pub spelled : text ≡ ssid_text ssid
 
--- the sentence of each fault
-abbrev pub is_wrong_call : CallFault → List ℕ → Bool
-is_wrong_call Length text =
-    not (nat_le 1 (length (before_dash text)) && nat_le (length (before_dash text)) 6)
-is_wrong_call Character text = not (list_all is_callsign_byte (before_dash text))
-is_wrong_call Ssid text = is_none (ssid_of (from_dash text))
+-- The sentence of each fault: not 1 to 6 bytes stand before the first dash; not all of these are
+-- capitals or digits; what stands from the dash on is the text of no SSID.
+abbrev pub IsWrongCall : CallFault → List ℕ → Type 0
+IsWrongCall Length text = (length (before_dash text) ≡ 0) ⊎ (6 < length (before_dash text))
+IsWrongCall Character text = list_all is_callsign_byte (before_dash text) ≡ false
+IsWrongCall Ssid text = (ssid : ℕ) → SsidText ssid (from_dash text) → ⊥
 
--- the first fault whose sentence is true
-abbrev pub call_fault : List ℕ → Option CallFault
-call_fault text = find (λ fault. is_wrong_call fault text) (Length ∷ Character ∷ Ssid ∷ [])
+-- the fault's sentence is true, and that of no fault with a smaller number
+pub record FirstCallFault (text : List ℕ) (fault : CallFault) : Type 0 where
+  pub wrong : IsWrongCall fault text
+  pub first : (other : CallFault) → call_fault_number other < call_fault_number fault
+      → IsWrongCall other text → ⊥

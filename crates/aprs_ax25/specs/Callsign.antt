@@ -1,11 +1,12 @@
 -- Callsigns and their text, as monitors print it.
-use Rattle.std.specs.Prelude.{◌≡◌, ℕ, ◌<◌, ◌≤◌, ◌==◌, Bool, true, ◌&&◌, ◌||◌, nat_le, if◌then◌else◌}
+use Rattle.std.specs.Prelude.{◌≡◌, ℕ, ◌<◌, ◌≤◌, ◌==◌, Bool, true, ◌&&◌, ◌||◌, nat_le, nat_eq}
+use Rattle.std.specs.Prelude.{if◌then◌else◌}
 use Rattle.std.specs.Prelude.{List, [], ◌∷◌, ◌++◌, length}
 use Rattle.std.specs.List.{list_all}
 use Rattle.std.specs.Fmt.{decimal}
 use Rattle.std.specs.declared.cmp.Ordering.{Ordering}
-use Rattle.std.specs.Ordering.{nat_cmp, on, then_cmp}
-use Rattle.std.specs.Cmp.Lexicographic.{slice_cmp}
+use Rattle.std.specs.Ordering.{nat_cmp, on, then_cmp, eq_of_both}
+use Rattle.aprs_ax25.specs.Order.{bytes_cmp, bytes_eq}
 
 -- the letters and digits of a callsign, and its SSID
 pub record Call : Type 0 where
@@ -32,4 +33,8 @@ call_text c = c.letters ++ ssid_text c.ssid
 
 -- by the letters and digits, and then by the SSID as a number
 abbrev pub call_cmp : Call → Call → Ordering
-call_cmp = then_cmp (on (λ c. c.letters) (slice_cmp nat_cmp)) (on (λ c. c.ssid) nat_cmp)
+call_cmp = then_cmp (on (λ c. c.letters) bytes_cmp) (on (λ c. c.ssid) nat_cmp)
+
+-- the same letters and digits, and the same SSID
+abbrev pub call_eq : Call → Call → Bool
+call_eq = eq_of_both (on (λ c. c.letters) bytes_eq) (on (λ c. c.ssid) nat_eq)

@@ -1,4 +1,5 @@
 -- Definitions that contracts of callsigns and frames cite.
+pub mod Order
 pub mod Callsign
 pub mod Address
 pub mod Frame

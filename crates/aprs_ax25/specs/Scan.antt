@@ -2,8 +2,12 @@
 use Rattle.std.specs.Prelude.{◌≡◌, ℕ, ◌==◌, true, false, not, nat_le, nat_lt, if◌then◌else◌, List}
 use Rattle.std.specs.Prelude.{length, slice_index, Option, None, Some, MatchOption, Result}
 use Rattle.std.specs.Prelude.{MatchResult}
-use Rattle.aprs_ax25.specs.CallText.{call_fault, before_dash, from_dash, ssid_of}
+use Rattle.std.specs.Prelude.{[], ◌∷◌, ◌-◌, Bool, ◌&&◌, is_none}
+use Rattle.std.specs.List.{list_all, find}
+use Rattle.aprs_ax25.specs.Callsign.{is_callsign_byte}
+use Rattle.aprs_ax25.specs.CallText.{before_dash, from_dash}
 use Rattle.aprs_ax25.specs.declared.fault.CallFault.{CallFault}
+use Rattle.aprs_ax25.specs.declared.fault.CallFault.TheVariants.{Length, Character, Ssid}
 use Rattle.std.specs.Borrow.{Bor}
 use Rattle.aprs_ax25.specs.FrameFault.{field_of, after_field, is_wrong}
 use Rattle.aprs_ax25.specs.declared.fault.FrameFault.{FrameFault}
@@ -25,6 +29,24 @@ fault_after_field rest =
     else (if not (slice_index rest 1 == 240) then Some Pid
     else (if nat_le (length rest) 2 then Some NoInfo
     else (if nat_lt 258 (length rest) then Some LongInfo else None)))
+
+-- the SSID whose text it is, by its digits
+abbrev pub ssid_of : List ℕ → Option ℕ
+ssid_of [] = Some 0
+ssid_of (dash ∷ []) = None
+ssid_of (dash ∷ d ∷ []) = if nat_le 49 d && nat_le d 57 then Some (d - 48) else None
+ssid_of (dash ∷ c ∷ d ∷ []) = if c == 49 && nat_le 48 d && nat_le d 53 then Some (d - 38) else None
+ssid_of (dash ∷ b ∷ c ∷ d ∷ more) = None
+
+abbrev pub is_wrong_call : CallFault → List ℕ → Bool
+is_wrong_call Length text =
+    not (nat_le 1 (length (before_dash text)) && nat_le (length (before_dash text)) 6)
+is_wrong_call Character text = not (list_all is_callsign_byte (before_dash text))
+is_wrong_call Ssid text = is_none (ssid_of (from_dash text))
+
+-- the first fault of a callsign's text
+abbrev pub call_fault : List ℕ → Option CallFault
+call_fault text = find (λ fault. is_wrong_call fault text) (Length ∷ Character ∷ Ssid ∷ [])
 
 -- the letters and the SSID of a callsign's text, or its first fault
 abbrev pub PartsOf : List ℕ → Result (Bor (List ℕ) × ℕ) CallFault → Type 0

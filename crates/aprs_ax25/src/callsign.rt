@@ -5,20 +5,25 @@ ghost use Rattle.std.specs.List.{list_all, position_or_len};
 ghost use Rattle.arrayvec.specs.ArrayVec.{array_vec_len};
 ghost use Rattle.aprs_ax25.specs.Address.{address_octets, padded};
 ghost use Rattle.aprs_ax25.specs.Callsign.{Call, IsCall, call_text, ssid_text, is_callsign_byte};
-ghost use Rattle.aprs_ax25.specs.CallText.{CallText, call_fault, is_dash, before_dash, from_dash};
-ghost use Rattle.aprs_ax25.specs.CallText.{ssid_of};
-ghost use Rattle.aprs_ax25.specs.Scan.{PartsOf};
+ghost use Rattle.aprs_ax25.specs.Callsign.{call_cmp, call_eq};
+ghost use Rattle.aprs_ax25.specs.CallText.{CallText, FirstCallFault, is_dash, before_dash, from_dash};
+ghost use Rattle.aprs_ax25.specs.Scan.{PartsOf, ssid_of};
 ghost use Rattle.aprs_ax25.specs.FrameFault.{has_callsign, call_of, letters_len};
+ghost use Rattle.std.specs.Ordering.{as_partial_cmp};
+ghost use Rattle.std.proofs.Common.{rules};
+ghost use Rattle.std.specs.Cmp.{partial_order_from_own_ties};
+ghost use Rattle.std.specs.Cmp.Rules.{comparing};
 
 use crate::bytes::{copied, push_all};
 use crate::fault::CallFault;
 use crate::scan::is_callsign_byte;
 use arrayvec::ArrayVec;
+use std::cmp::Ordering;
 use std::marker::Model;
 
 /// A callsign of 1 to 6 capitals or digits, with an SSID of 0 to 15 (AX.25 2.2, section 3.12.2).
 /// Callsigns are ordered by their letters and digits, and then by SSID as a number.
-#[derive(PartialEq, Eq, PartialOrd, Ord, Drop)]
+#[derive(Eq, Drop)]
 pub struct Callsign {
     letters: ArrayVec<u8, 6>,
     ssid: u8,
@@ -42,7 +47,7 @@ impl Callsign {
     pub fn parse(text: &[u8]) -> Result<Callsign, CallFault>
         ensures found { IfOk result (λ c. CallText c text.now) }
         ensures only { (c : Call) → CallText c text.now → result ≡ Ok c }
-        ensures fault { IfErr result (λ fault. call_fault text.now ≡ Some fault) }
+        ensures fault { IfErr result (λ fault. FirstCallFault text.now fault) }
     {
         match parts_of(text) {
             Ok((letters, ssid)) => Ok(Callsign {
@@ -108,6 +113,44 @@ impl Callsign {
     }
 }
 
+impl PartialEq for Callsign {
+    ghost eq = { call_eq };
+
+    ghost laws = { Prim.search (comparing, rules) };
+
+    fn eq(&self, other: &Callsign) -> bool {
+        self.letters == other.letters && self.ssid == other.ssid
+    }
+}
+
+impl Ord for Callsign {
+    ghost cmp = { call_cmp };
+
+    ghost total = { Prim.search (comparing, rules) };
+
+    ghost matches_partial_cmp = { Prim.search (comparing, rules) };
+
+    ghost matches_eq = { Prim.search (comparing, rules) };
+
+    fn cmp(&self, other: &Callsign) -> Ordering {
+        match self.letters.cmp(&other.letters) {
+            Ordering::Equal => self.ssid.cmp(&other.ssid),
+            unequal => unequal,
+        }
+    }
+}
+
+impl PartialOrd for Callsign {
+    ghost partial_cmp = { as_partial_cmp call_cmp };
+
+    ghost laws = { partial_order_from_own_ties (Prim.search (comparing, rules))
+        (Prim.search (comparing, rules)) };
+
+    fn partial_cmp(&self, other: &Callsign) -> Option<Ordering> {
+        Some(self.cmp(other))
+    }
+}
+
 /// The letters or digits that an address's first six octets begin with, shifted right by one bit.
 fn letters_of(octets: &[u8]) -> ArrayVec<u8, 6>
     requires { 6 ≤ length octets.now }
@@ -166,7 +209,7 @@ fn dash_place(text: &[u8]) -> usize
     text.len()
 }
 
-/// The SSID that nothing, or a dash and what stands behind it, is the text of.
+/// The SSID that nothing, or a dash and what stands after it, is the text of.
 fn ssid_of(dash: &[u8]) -> Option<u8>
     ensures { result ≡ ssid_of dash.now }
 {

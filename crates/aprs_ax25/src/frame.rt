@@ -11,6 +11,11 @@ ghost use Rattle.aprs_ax25.specs.FrameFault.{frame_of, frame_fault, parts_of};
 ghost use Rattle.aprs_ax25.specs.Hop.{hop_of};
 ghost use Rattle.aprs_ax25.specs.Making.{destination_address, source_address, hop_address};
 ghost use Rattle.aprs_ax25.specs.Making.{made_parts, make_fault};
+ghost use Rattle.std.specs.Ordering.{as_partial_cmp};
+ghost use Rattle.std.proofs.Common.{rules};
+ghost use Rattle.std.specs.Cmp.{partial_order_from_own_ties};
+ghost use Rattle.std.specs.Cmp.Rules.{comparing};
+ghost use Rattle.aprs_ax25.specs.Order.{bytes_cmp, bytes_eq};
 
 use crate::bytes::{copied, push_all};
 use crate::callsign::Callsign;
@@ -18,12 +23,13 @@ use crate::fault::{FrameFault, MakeFault};
 use crate::hop::Hop;
 use crate::scan::{CONTROL_UI, PID_NONE, end_of_field, fault_of, seven_at};
 use arrayvec::ArrayVec;
+use std::cmp::Ordering;
 use std::marker::Model;
 
 /// A UI frame without flags and frame check sequence (AX.25 2.2, sections 3 and 4.3.3.6): 2 to 10
 /// addresses, control 03, PID F0 and 1 to 256 bytes of information; at most 328 bytes. Frames are
 /// ordered by their bytes.
-#[derive(PartialEq, Eq, PartialOrd, Ord, Drop)]
+#[derive(Eq, Drop)]
 pub struct Frame {
     bytes: ArrayVec<u8, 328>,
 }
@@ -194,6 +200,41 @@ impl Frame {
         Frame {
             bytes: copied(&self.bytes),
         }
+    }
+}
+
+impl PartialEq for Frame {
+    ghost eq = { bytes_eq };
+
+    ghost laws = { Prim.search (comparing, rules) };
+
+    fn eq(&self, other: &Frame) -> bool {
+        self.bytes == other.bytes
+    }
+}
+
+impl Ord for Frame {
+    ghost cmp = { bytes_cmp };
+
+    ghost total = { Prim.search (comparing, rules) };
+
+    ghost matches_partial_cmp = { Prim.search (comparing, rules) };
+
+    ghost matches_eq = { Prim.search (comparing, rules) };
+
+    fn cmp(&self, other: &Frame) -> Ordering {
+        self.bytes.cmp(&other.bytes)
+    }
+}
+
+impl PartialOrd for Frame {
+    ghost partial_cmp = { as_partial_cmp bytes_cmp };
+
+    ghost laws = { partial_order_from_own_ties (Prim.search (comparing, rules))
+        (Prim.search (comparing, rules)) };
+
+    fn partial_cmp(&self, other: &Frame) -> Option<Ordering> {
+        Some(self.cmp(other))
     }
 }
 

@@ -1,6 +1,6 @@
 use Rattle.std.proofs.Common.{ℕ, List, Ok, ◌∙◌, sym, ap, subst}
 use Rattle.aprs_ax25.specs.CallText.{CallText}
-use Rattle.aprs_ax25.proofs.CallTexts.{call_fault-CallText, CallText-call_fault, CallText-is}
+use Rattle.aprs_ax25.proofs.CallTexts.{call_fault-CallText, CallText-call_fault, CallText-is, call_fault-FirstCallFault}
 use Rattle.aprs_ax25.proofs.callsign.Callsign.parse.Goals as goal
 
 pub returns-in-Ok-clause-found : goal.returns-in-Ok-clause-found
@@ -15,3 +15,6 @@ returns-in-Ok-clause-only c = λ d h.
 
 pub returns-in-Err-clause-only : goal.returns-in-Err-clause-only
 returns-in-Err-clause-only c = λ d h. let e = sym c.in-Err.ensures ∙ CallText-call_fault d c.args.text.now h in cc
+
+pub returns-in-Err-clause-fault : goal.returns-in-Err-clause-fault
+returns-in-Err-clause-fault c = call_fault-FirstCallFault c.args.text.now _ c.in-Err.ensures

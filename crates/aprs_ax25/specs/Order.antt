@@ -1,0 +1,13 @@
+-- When byte lists are equal, and their order.
+use Rattle.std.specs.Prelude.{ℕ, Bool, List, nat_eq}
+use Rattle.std.specs.declared.cmp.Ordering.{Ordering}
+use Rattle.std.specs.Ordering.{nat_cmp}
+use Rattle.std.specs.Cmp.Lexicographic.{slice_cmp, pointwise}
+
+-- byte lists of one length with equal bytes
+abbrev pub bytes_eq : List ℕ → List ℕ → Bool
+bytes_eq = pointwise nat_eq
+
+-- by the first byte that differs, a proper prefix before the whole
+abbrev pub bytes_cmp : List ℕ → List ℕ → Ordering
+bytes_cmp = slice_cmp nat_cmp
