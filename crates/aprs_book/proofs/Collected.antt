@@ -1,5 +1,5 @@
 -- Entries of a map that are collected from rows: one for each thing that some row tells of.
-use Rattle.std.proofs.Common.{◌≡◌, ◌∙◌, List, [], ◌∷◌, ◌⊎◌, Some, None, cond, sym, ap, refl, subst, inl, inr}
+use Rattle.std.proofs.Common.{◌≡◌, ◌∙◌, List, [], ◌∷◌, ◌++◌, append_assoc, append-nil, ◌⊎◌, Some, None, cond, sym, ap, refl, subst, inl, inr}
 use Rattle.std.specs.List.{AllByRecursion}
 use Rattle.std.specs.Map.{lookup, keys_of}
 use Rattle.std.specs.BTreeMap.{is_at, insert_entry}
@@ -12,6 +12,7 @@ use Rattle.std.proofs.lemmas.Cmp.{tied_itself}
 use Rattle.std.proofs.lemmas.Map.Lookups.{CmpEqualImpliesEq}
 use Rattle.std.proofs.lemmas.Map.Keys.{sorted_head, sorted_tail}
 use Rattle.aprs_laws.specs.Lists.{◌∈◌, Ordered}
+use Rattle.aprs_laws.proofs.Lists.{in_left, in_right, in_either}
 use Rattle.aprs_laws.specs.Key.{Key}
 use Rattle.aprs_laws.specs.Row.{Row, row_key}
 use Rattle.aprs_book.specs.MessageRows.{IsCollected}
@@ -229,3 +230,43 @@ pub same_lookup : {K V M : Type 0} (shown : K → M) (C : M → M → Ordering) 
 same_lookup {K} shown C R same k es =
     let p : R ≡ cmp_of shown C = λ j a b. same a b j in
     ap (λ (Q : K → K → Ordering). lookup (is_at (Q k)) es) p
+
+-- of no rows nothing is told
+pub collected_first : {K V M : Type 0} (shown : K → M) (P : M → Key → Type 0)
+    (T : List Row → M → V → Type 0) (es : List (K × V)) → es ≡ [] → IsCollected shown P T [] es
+collected_first {K} {V} shown P T es e =
+    record { each = λ x h. absurd (subst (λ (t : List (K × V)). x ∈ t) e h); every = λ x h. absurd h }
+
+-- ---- a walk over all rows, of which P holds as far as it has come
+
+pub record SoFar (P : List Row → Type 0) (all rest : List Row) : Type 0 where
+  pub done : List Row
+  pub split : all ≡ done ++ rest
+  pub holds : P done
+
+adds_last : (rows : List Row) (x : Row) → Adds rows x (rows ++ x ∷ [])
+adds_last rows x = record {
+  to = λ y h. elim (in_either y rows (x ∷ []) h) [
+    | inl i ↦ inl i
+    | inr j ↦ elim j [ inl s ↦ inr s | inr k ↦ absurd k ]
+  ];
+  old = λ y h. in_left y rows (x ∷ []) h;
+  new = in_right x rows (x ∷ []) (inl refl);
+}
+
+module _ (P : List Row → Type 0) (all : List Row) where
+  pub walk_starts : (rest : List Row) → rest ≡ all → P [] → SoFar P all rest
+  walk_starts rest e p = record { done = []; split = sym e; holds = p }
+
+  pub walk_goes : (Q : List Row → Type 0) (old new : List Row) (x : Row) → old ≡ x ∷ new
+      → ((done more : List Row) → Adds done x more → P done → Q more) → SoFar P all old
+      → SoFar Q all new
+  walk_goes Q old new x e step s = record {
+    done = s.done ++ x ∷ [];
+    split = s.split ∙ ap (λ t. s.done ++ t) e ∙ sym (append_assoc s.done (x ∷ []) new);
+    holds = step s.done (s.done ++ x ∷ []) (adds_last s.done x) s.holds;
+  }
+
+  pub walk_ends : (rest : List Row) → rest ≡ [] → SoFar P all rest → P all
+  walk_ends rest e s =
+      subst P (sym (s.split ∙ ap (λ t. s.done ++ t) e ∙ append-nil s.done)) s.holds

@@ -1,5 +1,5 @@
 -- The messages of rows.
-use Rattle.std.proofs.Common.{◌≡◌, ◌∙◌, ℕ, suc, zero, ◌+◌, ◌<◌, ◌≤◌, min, max, true, List, [], ◌∷◌, Option, Some, None, take, length, slice_index_or, sym, ap, refl, subst, inl, inr, arith, Bor, Result, Ok, Err, is_ok, OnOk}
+use Rattle.std.proofs.Common.{◌≡◌, ◌∙◌, ℕ, ◌≤◌, min, max, true, List, Option, Some, None, sym, ap, refl, subst, inl, inr, arith, Bor, Result, Ok, Err, is_ok, OnOk}
 use Rattle.std.specs.Map.{lookup, keys_of}
 use Rattle.std.specs.BTreeMap.{is_at, insert_entry}
 use Rattle.std.specs.List.Sorted.{IsStrictlySortedBy}
@@ -46,34 +46,6 @@ message_exact a b h =
     (λ (x y : List ℕ × Option (List ℕ)). ordering_then (bytes_cmp x.0 y.0) (option_cmp bytes_cmp x.1 y.1)) bytes_exact
     (exact_pairs bytes_cmp (option_cmp bytes_cmp) bytes_exact ids_exact))
     (a.source, (a.addressee, (a.text, a.id))) (b.source, (b.addressee, (b.text, b.id))) h)
-
--- ---- one row more
-
--- the front of a list grows by one
-adds_next : (i : ℕ) (rows : List Row) (x : Row) → i < length rows → x ≡ slice_index_or rows i x
-    → Adds (take i rows) x (take (suc i) rows)
-adds_next i [] x l e = absurd (omega (arith, l))
-adds_next zero (r ∷ rows) x l e = record {
-  to = λ y h. elim h [ inl s ↦ inr (e ∙ s) | inr j ↦ absurd j ];
-  old = λ y h. absurd h;
-  new = inl (sym e);
-}
-adds_next (suc i) (r ∷ rows) x l e =
-    let a = adds_next i rows x (omega (arith, l)) e in
-    record {
-      to = λ y h. elim h [
-        | inl s ↦ inl (inl s)
-        | inr j ↦ elim (a.to y j) [ inl k ↦ inl (inr k) | inr s ↦ inr s ]
-      ];
-      old = λ y h. elim h [ inl s ↦ inl s | inr j ↦ inr (a.old y j) ];
-      new = inr a.new;
-    }
-
-pub adds_at : (i : ℕ) (rows : List Row) (x : Row) → i < length rows → x ≡ slice_index_or rows i x
-    → Adds (take i rows) x (take (i + 1) rows)
-adds_at i rows x l e =
-    let next : suc i ≡ i + 1 = omega arith in
-    subst (λ n. Adds (take i rows) x (take n rows)) next (adds_next i rows x l e)
 
 -- ---- spans
 
@@ -173,39 +145,39 @@ keys_alike x y =
 abbrev pub keys_cmp : MessageKey → MessageKey → Ordering
 keys_cmp = cmp_of message_of message_cmp
 
-module _ (rows : List Row) (i : ℕ) (x : Row) (l : i < length rows) (at : x ≡ slice_index_or rows i x)
-    (es : List (MessageKey × Span)) (c : AreSpans (take i rows) es) where
-  pub spans_passed : message_in (row_key x) ≡ None → AreSpans (take (i + 1) rows) es
+module _ (rows more : List Row) (x : Row) (adds : Adds rows x more)
+    (es : List (MessageKey × Span)) (c : AreSpans rows es) where
+  pub spans_passed : message_in (row_key x) ≡ None → AreSpans more es
   spans_passed n =
-      passed message_of message_cmp message_total message_exact ReportsIt IsSpan (take i rows)
-      (take (i + 1) rows) x (adds_at i rows x l at)
-      (λ m s. span_stays (take i rows) (take (i + 1) rows) x (adds_at i rows x l at) m s) es c
+      passed message_of message_cmp message_total message_exact ReportsIt IsSpan rows
+      more x adds
+      (λ m s. span_stays rows more x adds m s) es c
       (λ m p. let t : None ≡ Some m = sym n ∙ p in absurd (cc))
 
   span_there : (k : MessageKey) (m : Message) → m ≡ message_of k → message_in (row_key x) ≡ Some m
       → (known : Option Span) → lookup (is_at (keys_cmp k)) es ≡ known
-      → IsSpan (take (i + 1) rows) m (span_with known x)
+      → IsSpan more m (span_with known x)
   span_there k m e q None h =
-      span_begins (take i rows) (take (i + 1) rows) x (adds_at i rows x l at) m q
+      span_begins rows more x adds m q
       (λ y j p. let t = c.every y j m p in
       absent message_of message_cmp message_total message_exact k es h t.0 t.1 (sym e ∙ sym t.2))
   span_there k m e q (Some s) h =
       let f = found message_of message_cmp message_total message_exact k s es h in
-      span_grows (take i rows) (take (i + 1) rows) x (adds_at i rows x l at) m s q
-      (subst (IsSpan (take i rows) m) f.3
-      (subst (λ (t : Message). IsSpan (take i rows) t f.0.1) (sym f.2 ∙ sym e) (c.each f.0 f.1)))
+      span_grows rows more x adds m s q
+      (subst (IsSpan rows m) f.3
+      (subst (λ (t : Message). IsSpan rows t f.0.1) (sym f.2 ∙ sym e) (c.each f.0 f.1)))
 
   pub spans_put : (k : MessageKey) (s : Span) → message_in (row_key x) ≡ Some (message_of k)
       → s ≡ span_with (lookup (is_at (keys_cmp k)) es) x
       → IsStrictlySortedBy keys_cmp (keys_of (insert_entry keys_cmp es k s))
-      → AreSpans (take (i + 1) rows) (insert_entry keys_cmp es k s)
+      → AreSpans more (insert_entry keys_cmp es k s)
   spans_put k s q e sorted =
-      put message_of message_cmp message_total message_exact ReportsIt IsSpan (take i rows)
-      (take (i + 1) rows) x (adds_at i rows x l at)
-      (λ m v. span_stays (take i rows) (take (i + 1) rows) x (adds_at i rows x l at) m v) es c k s
+      put message_of message_cmp message_total message_exact ReportsIt IsSpan rows
+      more x adds
+      (λ m v. span_stays rows more x adds m v) es c k s
       sorted
       (λ m p. unwrapped (message_of k) m (sym q ∙ p))
-      (subst (IsSpan (take (i + 1) rows) (message_of k)) (sym e)
+      (subst (IsSpan more (message_of k)) (sym e)
       (span_there k (message_of k) refl q (lookup (is_at (keys_cmp k)) es) refl)) where
         unwrapped : (a b : Message) → Some a ≡ Some b → a ≡ b
         unwrapped a b h = cc
@@ -215,13 +187,13 @@ module _ (rows : List Row) (i : ℕ) (x : Row) (l : i < length rows) (at : x ≡
       → (k : MessageKey) (s : Span) (new : List (MessageKey × Span))
       → message_in (row_key x) ≡ Some (message_of k) → s ≡ span_with (lookup (is_at (R k)) es) x
       → new ≡ insert_entry R es k s → IsStrictlySortedBy R (keys_of new)
-      → AreSpans (take (i + 1) rows) new
+      → AreSpans more new
   spans_put_by R same k s new q e n sorted =
       let p : keys_cmp ≡ R = λ j a b. sym (same a b) j in
-      subst (AreSpans (take (i + 1) rows)) (sym n)
+      subst (AreSpans more) (sym n)
       (subst (λ (Q : MessageKey → MessageKey → Ordering). s ≡ span_with (lookup (is_at (Q k)) es) x
       → IsStrictlySortedBy Q (keys_of (insert_entry Q es k s))
-      → AreSpans (take (i + 1) rows) (insert_entry Q es k s)) p (spans_put k s q) e
+      → AreSpans more (insert_entry Q es k s)) p (spans_put k s q) e
       (subst (λ (t : List (MessageKey × Span)). IsStrictlySortedBy R (keys_of t)) n sorted))
 
 pub where_ok : {A E : Type 0} {P : Type 0} (r : Result A E) → is_ok r ≡ true → OnOk r P → P

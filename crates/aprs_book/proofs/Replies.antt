@@ -1,5 +1,5 @@
 -- The answers to messages in rows.
-use Rattle.std.proofs.Common.{◌≡◌, ◌∙◌, ℕ, ◌+◌, ◌<◌, List, ◌↔◌, Option, Some, None, take, length, slice_index_or, sym, ap, refl, subst, inl, inr, Bor}
+use Rattle.std.proofs.Common.{◌≡◌, ◌∙◌, ℕ, List, ◌↔◌, Option, Some, None, sym, ap, refl, subst, inl, inr, Bor}
 use Rattle.std.specs.Option.{option_map, option_copied}
 use Rattle.std.specs.Map.{lookup, keys_of}
 use Rattle.std.specs.BTreeMap.{is_at, insert_entry}
@@ -22,7 +22,6 @@ use Rattle.aprs_book.specs.declared.message_key.Asked.{Asked}
 use Rattle.aprs_book.specs.MessageRows.{Answer, answer_of, answer_cmp, IsReply, IsGreatestReply, IsGreatestEntry, AreReplies, IsFor, TellsAnswer}
 use Rattle.aprs_book.specs.Messages.{Message}
 use Rattle.aprs_book.proofs.Collected.{cmp_of, found, absent, Adds, passed, put_by, same_lookup}
-use Rattle.aprs_book.proofs.Messages.{adds_at}
 
 pub answer_total : IsTotalOrder answer_cmp
 answer_total =
@@ -84,41 +83,41 @@ asked_alike x y = refl
 abbrev pub asked_cmp : Asked → Asked → Ordering
 asked_cmp = cmp_of answer_of answer_cmp
 
-module _ (rows : List Row) (i : ℕ) (x : Row) (l : i < length rows) (at : x ≡ slice_index_or rows i x)
-    (es : List (Asked × Bor Heard)) (c : AreReplies (take i rows) es) where
-  pub replies_passed : ((a : Answer) → IsReply a (row_key x) → ⊥) → AreReplies (take (i + 1) rows) es
+module _ (rows more : List Row) (x : Row) (adds : Adds rows x more)
+    (es : List (Asked × Bor Heard)) (c : AreReplies rows es) where
+  pub replies_passed : ((a : Answer) → IsReply a (row_key x) → ⊥) → AreReplies more es
   replies_passed n =
-      passed answer_of answer_cmp answer_total answer_exact IsReply IsGreatestEntry (take i rows)
-      (take (i + 1) rows) x (adds_at i rows x l at)
-      (λ a v. reply_stays (take i rows) (take (i + 1) rows) x (adds_at i rows x l at) a v.now) es c n
+      passed answer_of answer_cmp answer_total answer_exact IsReply IsGreatestEntry rows
+      more x adds
+      (λ a v. reply_stays rows more x adds a v.now) es c n
 
   reply_there : (k : Asked) → IsReply (answer_of k) (row_key x) → (known : Option (Bor Heard))
       → lookup (is_at (asked_cmp k)) es ≡ known
-      → IsGreatestReply (take (i + 1) rows) (answer_of k)
+      → IsGreatestReply more (answer_of k)
       (greater_known (option_map (λ (b : Bor Heard). b.now) known) x.greatest)
   reply_there k q None h =
-      reply_begins (take i rows) (take (i + 1) rows) x (adds_at i rows x l at) (answer_of k) q
+      reply_begins rows more x adds (answer_of k) q
       (λ y j p. let t = c.every y j (answer_of k) p in
       absent answer_of answer_cmp answer_total answer_exact k es h t.0 t.1 (sym t.2))
   reply_there k q (Some s) h =
       let f = found answer_of answer_cmp answer_total answer_exact k s es h in
-      reply_grows (take i rows) (take (i + 1) rows) x (adds_at i rows x l at) (answer_of k) s.now q
-      (subst (λ (v : Bor Heard). IsGreatestReply (take i rows) (answer_of k) v.now) f.3
-      (subst (λ (t : Answer). IsGreatestReply (take i rows) t f.0.1.now) (sym f.2) (c.each f.0 f.1)))
+      reply_grows rows more x adds (answer_of k) s.now q
+      (subst (λ (v : Bor Heard). IsGreatestReply rows (answer_of k) v.now) f.3
+      (subst (λ (t : Answer). IsGreatestReply rows t f.0.1.now) (sym f.2) (c.each f.0 f.1)))
 
   pub replies_put : (R : Asked → Asked → Ordering) → ((a b : Asked) → R a b ≡ asked_cmp a b) → (k : Asked)
       (v : Bor Heard) (new : List (Asked × Bor Heard))
       → ((a : Answer) → IsReply a (row_key x) ↔ (Some (answer_of k) ≡ Some a))
       → v.now ≡ greater_known (option_map (λ (b : Bor Heard). b.now) (lookup (is_at (R k)) es)) x.greatest
       → new ≡ insert_entry R es k v → IsStrictlySortedBy R (keys_of new)
-      → AreReplies (take (i + 1) rows) new
+      → AreReplies more new
   replies_put R same k v new q e n sorted =
-      put_by answer_of answer_cmp answer_total answer_exact IsReply IsGreatestEntry (take i rows)
-      (take (i + 1) rows) x (adds_at i rows x l at)
-      (λ a v. reply_stays (take i rows) (take (i + 1) rows) x (adds_at i rows x l at) a v.now) es c R
+      put_by answer_of answer_cmp answer_total answer_exact IsReply IsGreatestEntry rows
+      more x adds
+      (λ a v. reply_stays rows more x adds a v.now) es c R
       same k v new n sorted
       (λ a p. unwrapped (answer_of k) a ((q a).0 p))
-      (subst (IsGreatestReply (take (i + 1) rows) (answer_of k))
+      (subst (IsGreatestReply more (answer_of k))
       (sym (e ∙ ap (λ t. greater_known (option_map (λ (b : Bor Heard). b.now) t) x.greatest)
       (same_lookup answer_of answer_cmp R same k es)))
       (reply_there k ((q (answer_of k)).1 refl) (lookup (is_at (asked_cmp k)) es) refl)) where

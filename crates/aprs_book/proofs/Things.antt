@@ -1,5 +1,5 @@
 -- The objects and items of rows.
-use Rattle.std.proofs.Common.{◌≡◌, ◌∙◌, ℕ, ◌+◌, ◌<◌, Bool, true, false, List, [], ◌∷◌, ◌↔◌, Option, Some, None, take, length, slice_index_or, sym, ap, refl, subst, inl, inr, Bor, Result, Ok, Err, IfOk}
+use Rattle.std.proofs.Common.{◌≡◌, ◌∙◌, ℕ, Bool, true, false, List, [], ◌∷◌, ◌↔◌, Option, Some, None, sym, ap, refl, subst, inl, inr, Bor, Result, Ok, Err, IfOk}
 use Rattle.std.specs.Option.{option_map}
 use Rattle.std.specs.Map.{lookup, keys_of}
 use Rattle.std.specs.BTreeMap.{is_at, insert_entry}
@@ -28,7 +28,6 @@ use Rattle.aprs_book.specs.NamedRows.{thing_of, IsGreatestOf, IsNamedEntry, AreN
 use Rattle.aprs_book.specs.MessageRows.{Zipped}
 use Rattle.aprs_book.proofs.Listings.{in_zip_right, in_zip_left}
 use Rattle.aprs_book.proofs.Collected.{cmp_of, in_order, found, absent, Adds, passed, put_by, same_lookup}
-use Rattle.aprs_book.proofs.Messages.{adds_at}
 
 pub thing_total : IsTotalOrder thing_cmp
 thing_total =
@@ -85,41 +84,41 @@ module _ (rows more : List Row) (x : Row) (adds : Adds rows x more) (a : Thing) 
 abbrev pub names_cmp : NameKey → NameKey → Ordering
 names_cmp = cmp_of thing_of thing_cmp
 
-module _ (rows : List Row) (i : ℕ) (x : Row) (l : i < length rows) (at : x ≡ slice_index_or rows i x)
-    (es : List (NameKey × Bor Heard)) (c : AreNames (take i rows) es) where
-  pub names_passed : ((a : Thing) → TellsOf a (row_key x) → ⊥) → AreNames (take (i + 1) rows) es
+module _ (rows more : List Row) (x : Row) (adds : Adds rows x more)
+    (es : List (NameKey × Bor Heard)) (c : AreNames rows es) where
+  pub names_passed : ((a : Thing) → TellsOf a (row_key x) → ⊥) → AreNames more es
   names_passed n =
-      passed thing_of thing_cmp thing_total thing_exact TellsOf IsNamedEntry (take i rows)
-      (take (i + 1) rows) x (adds_at i rows x l at)
-      (λ a v. name_stays (take i rows) (take (i + 1) rows) x (adds_at i rows x l at) a v.now) es c n
+      passed thing_of thing_cmp thing_total thing_exact TellsOf IsNamedEntry rows
+      more x adds
+      (λ a v. name_stays rows more x adds a v.now) es c n
 
   name_there : (k : NameKey) → TellsOf (thing_of k) (row_key x) → (known : Option (Bor Heard))
       → lookup (is_at (names_cmp k)) es ≡ known
-      → IsGreatestOf (take (i + 1) rows) (thing_of k)
+      → IsGreatestOf more (thing_of k)
       (greater_known (option_map (λ (b : Bor Heard). b.now) known) x.greatest)
   name_there k q None h =
-      name_begins (take i rows) (take (i + 1) rows) x (adds_at i rows x l at) (thing_of k) q
+      name_begins rows more x adds (thing_of k) q
       (λ y j p. let t = c.every y j (thing_of k) p in
       absent thing_of thing_cmp thing_total thing_exact k es h t.0 t.1 (sym t.2))
   name_there k q (Some s) h =
       let f = found thing_of thing_cmp thing_total thing_exact k s es h in
-      name_grows (take i rows) (take (i + 1) rows) x (adds_at i rows x l at) (thing_of k) s.now q
-      (subst (λ (v : Bor Heard). IsGreatestOf (take i rows) (thing_of k) v.now) f.3
-      (subst (λ (t : Thing). IsGreatestOf (take i rows) t f.0.1.now) (sym f.2) (c.each f.0 f.1)))
+      name_grows rows more x adds (thing_of k) s.now q
+      (subst (λ (v : Bor Heard). IsGreatestOf rows (thing_of k) v.now) f.3
+      (subst (λ (t : Thing). IsGreatestOf rows t f.0.1.now) (sym f.2) (c.each f.0 f.1)))
 
   pub names_put : (R : NameKey → NameKey → Ordering) → ((a b : NameKey) → R a b ≡ names_cmp a b) → (k : NameKey)
       (v : Bor Heard) (new : List (NameKey × Bor Heard))
       → ((a : Thing) → TellsOf a (row_key x) ↔ (Some (thing_of k) ≡ Some a))
       → v.now ≡ greater_known (option_map (λ (b : Bor Heard). b.now) (lookup (is_at (R k)) es)) x.greatest
       → new ≡ insert_entry R es k v → IsStrictlySortedBy R (keys_of new)
-      → AreNames (take (i + 1) rows) new
+      → AreNames more new
   names_put R same k v new q e n sorted =
-      put_by thing_of thing_cmp thing_total thing_exact TellsOf IsNamedEntry (take i rows)
-      (take (i + 1) rows) x (adds_at i rows x l at)
-      (λ a v. name_stays (take i rows) (take (i + 1) rows) x (adds_at i rows x l at) a v.now) es c R
+      put_by thing_of thing_cmp thing_total thing_exact TellsOf IsNamedEntry rows
+      more x adds
+      (λ a v. name_stays rows more x adds a v.now) es c R
       same k v new n sorted
       (λ a p. unwrapped (thing_of k) a ((q a).0 p))
-      (subst (IsGreatestOf (take (i + 1) rows) (thing_of k))
+      (subst (IsGreatestOf more (thing_of k))
       (sym (e ∙ ap (λ t. greater_known (option_map (λ (b : Bor Heard). b.now) t) x.greatest)
       (same_lookup thing_of thing_cmp R same k es)))
       (name_there k ((q (thing_of k)).1 refl) (lookup (is_at (names_cmp k)) es) refl)) where

@@ -14,6 +14,7 @@ use crate::kept_row::KeptRow;
 use crate::merging::merged_rows;
 use crate::place::{Place, find_place};
 use crate::push::push_parts;
+use crate::walk::Walk;
 use crate::{Join, Memory, RowCause, RowParts, Rows};
 use aprs_log::Reception;
 use std::alloc::{Allocator, Global};
@@ -63,7 +64,7 @@ impl<A: Allocator + Copy> Book<A> {
         ensures rows { result ≡ self.now }
         ensures sound { Sound gap_seconds self.now }
     {
-        Rows::of(self.rows.as_slice())
+        Rows::of(self.walk())
     }
 
     /// Adds a reception: the book of a set becomes the book of that set and the reception. Takes no
@@ -104,6 +105,14 @@ impl<A: Allocator + Copy> Book<A> {
             other.rows.as_slice(),
         )?;
         Ok(Book { rows })
+    }
+
+    /// The rows as they are kept, one after another.
+    pub(crate) fn walk(&self) -> Walk<'_, A>
+        ensures rows { result ≡ self.now }
+        ensures sound { Sound gap_seconds self.now }
+    {
+        Walk::of(self.rows.as_slice())
     }
 
     /// The rows as they are kept.

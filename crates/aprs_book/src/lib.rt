@@ -22,6 +22,7 @@ mod row_parts;
 mod station;
 mod steps;
 mod subject;
+mod walk;
 
 pub use book::Book;
 pub use greatest::Greatest;

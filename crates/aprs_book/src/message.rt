@@ -7,9 +7,9 @@ ghost use Rattle.aprs_book.specs.Reports.{report_of};
 ghost use Rattle.aprs_book.specs.Messages.{state_by, state_told, TellsMessages};
 ghost use Rattle.aprs_book.specs.MessageRows.{AreSpans, AreReplies, message_of, IsListed, TellsAnswer, Zipped, IsKeyBefore};
 
-use crate::kept_row::KeptRow;
 use crate::last_known::greater;
 use crate::message_key::{Asked, MessageKey, Span, message_in, reply_in, span_with};
+use crate::walk::Walk;
 use crate::{Book, Memory};
 use aprs_ax25::{Callsign, Frame};
 use aprs_log::{Moment, Reception};
@@ -55,8 +55,8 @@ impl<A: Allocator + Copy> Book<A> {
     pub fn messages(&self) -> Result<Vec<MessageRow<'_>, A>, Memory>
         ensures { IfOk result (λ messages. TellsMessages self.now messages.items) }
     {
-        let spans = message_spans(self.allocator(), self.kept())?;
-        let answers = greatest_answers(self.allocator(), self.kept())?;
+        let spans = message_spans(self.allocator(), self.walk())?;
+        let answers = greatest_answers(self.allocator(), self.walk())?;
         listed(self.allocator(), &spans, &answers)
     }
 }
@@ -64,9 +64,9 @@ impl<A: Allocator + Copy> Book<A> {
 /// Each message of the rows, with its moments.
 fn message_spans<'a, A: Allocator + Copy>(
     alloc: A,
-    rows: &'a [KeptRow<A>],
+    rows: Walk<'a, A>,
 ) -> Result<BTreeMap<MessageKey<'a>, Span, A>, Memory>
-    ensures { IfOk result (λ spans. AreSpans rows.now spans.entries) }
+    ensures { IfOk result (λ spans. AreSpans rows.entry spans.entries) }
 {
     let mut spans = BTreeMap::new(alloc);
     for row in rows {
@@ -83,9 +83,9 @@ fn message_spans<'a, A: Allocator + Copy>(
 /// The greatest answer of each kind in the rows.
 fn greatest_answers<'a, A: Allocator + Copy>(
     alloc: A,
-    rows: &'a [KeptRow<A>],
+    rows: Walk<'a, A>,
 ) -> Result<BTreeMap<Asked<'a>, &'a Reception, A>, Memory>
-    ensures { IfOk result (λ answers. AreReplies rows.now answers.entries) }
+    ensures { IfOk result (λ answers. AreReplies rows.entry answers.entries) }
 {
     let mut answers = BTreeMap::new(alloc);
     for row in rows {

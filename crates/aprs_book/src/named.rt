@@ -10,6 +10,7 @@ ghost use Rattle.aprs_book.specs.NamedRows.{thing_of, AreNames, IsNameBefore, Is
 
 use crate::kept_row::KeptRow;
 use crate::last_known::greater;
+use crate::walk::Walk;
 use crate::{Book, Heard, Memory};
 use aprs_log::Reception;
 use aprs_report::Report;
@@ -57,7 +58,7 @@ impl<A: Allocator + Copy> Book<A> {
     pub fn objects(&self) -> Result<Vec<Named<'_>, A>, Memory>
         ensures { IfOk result (λ named. TellsNamed self.now named.items) }
     {
-        let reports = greatest_reports(self.allocator(), self.kept())?;
+        let reports = greatest_reports(self.allocator(), self.walk())?;
         listed(self.allocator(), &reports)
     }
 }
@@ -65,9 +66,9 @@ impl<A: Allocator + Copy> Book<A> {
 /// The greatest report of each object and item.
 fn greatest_reports<'a, A: Allocator + Copy>(
     alloc: A,
-    rows: &'a [KeptRow<A>],
+    rows: Walk<'a, A>,
 ) -> Result<BTreeMap<NameKey<'a>, &'a Reception, A>, Memory>
-    ensures { IfOk result (λ reports. AreNames rows.now reports.entries) }
+    ensures { IfOk result (λ reports. AreNames rows.entry reports.entries) }
 {
     let mut reports = BTreeMap::new(alloc);
     for row in rows {
