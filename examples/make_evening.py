@@ -124,7 +124,7 @@ def evening():
     for clock in "18:20:09", "19:05:09", "19:50:09":
         yield at(clock), "Q1MIC-9", '`y4:n"O>/visiting'
     for clock, wind in ("18:00:30", "220/004g009t061"), ("19:15:30", "231/009g017t055"):
-        yield at(clock), "Q1WX-13", "!" + plain(54.6433, -3.5450, "/_") + wind + "h74b10132"
+        yield at(clock), "Q1WX-13", "!" + plain(54.5833, -3.4817, "/_") + wind + "h74b10132"
     yield at("19:16:10"), "Q1WX-13", "T#008,128,061,074,000,000,00000000"
     for clock in "18:01:02", "19:31:02":
         yield at(clock), "Q1DIG", "!" + plain(54.5430, -3.4560, "I#") + "hill digipeater"
