@@ -12,10 +12,13 @@ $1 == "T" {
 }
 
 # The receiver that heard most of those that aren't drawn yet; of equal ones the first by name.
-function next_name(   i, best) {
-    for (i = 1; i <= receivers; i++)
-        if (!(names[i] in drawn) && (best == "" || heard[names[i]] > heard[best] || (heard[names[i]] == heard[best] && names[i] "" < best "")))
-            best = names[i]
+function next_name(   i, name, best) {
+    for (i = 1; i <= receivers; i++) {
+        name = names[i]
+        if (name in drawn) continue
+        if (best == "" || heard[name] > heard[best] || (heard[name] == heard[best] && name "" < best ""))
+            best = name
+    }
     drawn[best] = 1
     return best
 }
@@ -25,12 +28,43 @@ function step_of(number,   step) {
     while (number / step > 6) step *= (step ~ /^20*$/) ? 2.5 : 2
     return step
 }
-function bar(name, row,   at) {
+function say(class, at_x, at_y, anchor, words) {
+    printf "<text class='%s' x='%.1f' y='%d' text-anchor='%s'>%s</text>\n", class, at_x, at_y, anchor, words
+}
+function block(class, at_x, at_y, wide, high, title) {
+    printf "<rect class='%s' x='%.1f' y='%d' width='%.1f' height='%d'>", class, at_x, at_y, wide, high
+    print "<title>" title "</title></rect>"
+}
+function bar(name, row,   at, share) {
     at = top + 28 * row
-    printf "<text x='%d' y='%d' text-anchor='end'>%s</text>", left - 8, at + 16, name
-    printf "<rect class='heard' x='%d' y='%d' width='%.1f' height='20'><title>%s heard %d of %d transmissions</title></rect>", left, at + 2, heard[name] * scale, name, heard[name], total
-    printf "<rect class='alone' x='%d' y='%d' width='%.1f' height='20'><title>%d of them were heard by %s alone</title></rect>", left, at + 2, alone[name] * scale, alone[name], name
-    printf "<text class='count' x='%.1f' y='%d'>%d, %.0f %%; alone %d</text>\n", left + heard[name] * scale + 6, at + 16, heard[name], 100 * heard[name] / total, alone[name]
+    share = sprintf("%d, %.0f %%; alone %d", heard[name], 100 * heard[name] / total, alone[name])
+    say("receiver", left - 8, at + 16, "end", name)
+    block("heard", left, at + 2, heard[name] * scale, 20, name " heard " heard[name] " of " total)
+    block("alone", left, at + 2, alone[name] * scale, 20, "no other heard " (alone[name] + 0) " of these")
+    say("count", left + heard[name] * scale + 6, at + 16, "start", share)
+}
+function head() {
+    printf "<svg xmlns='http://www.w3.org/2000/svg'"
+    printf " width='%d' height='%d'", left + width + 150, top + height + 48
+    print " font-family='sans-serif' font-size='12'>"
+    print "<style>"
+    print ".paper { fill: #fff } .heading { font-size: 14px } .grid { stroke: #d7deea }"
+    print ".axis { fill: #566; font-size: 11px } .heard { fill: #74a9d8 } .alone { fill: #1864ab }"
+    print ".count { paint-order: stroke; stroke: #fff; stroke-width: 3px }"
+    print "</style>"
+    print "<rect class='paper' width='100%' height='100%'/>"
+    say("heading", left, 22, "start", total + 0 (total == 1 ? " transmission" : " transmissions"))
+    block("heard", left, 33, 10, 10, "")
+    say("axis", left + 15, 42, "start", "heard by the receiver")
+    block("alone", left + 150, 33, 10, 10, "")
+    say("axis", left + 165, 42, "start", "heard by it alone")
+}
+function axis(   k) {
+    for (k = 0; k <= total; k += step_of(total)) {
+        printf "<path class='grid' d='M%.1f %dv%d'/>", left + k * scale, top, height
+        say("axis", left + k * scale, top + height + 16, "middle", k)
+    }
+    say("axis", left + width / 2, top + height + 34, "middle", "transmissions")
 }
 
 END {
@@ -38,17 +72,8 @@ END {
     width = 560
     height = 28 * receivers
     scale = total ? width / total : 0
-    printf "<svg xmlns='http://www.w3.org/2000/svg' viewBox='0 0 %d %d' width='%d' height='%d' font-family='sans-serif' font-size='12'>\n", left + width + 150, top + height + 48, left + width + 150, top + height + 48
-    print "<style>.paper{fill:#fff}.grid{stroke:#d7deea}.axis{fill:#566;font-size:11px}.heard{fill:#74a9d8}.alone{fill:#1864ab}.count{paint-order:stroke;stroke:#fff;stroke-width:3px}</style>"
-    print "<rect class='paper' width='100%' height='100%'/>"
-    printf "<text x='%d' y='22' font-size='14'>%d %s</text>\n", left, total, total == 1 ? "transmission" : "transmissions"
-    printf "<rect class='heard' x='%d' y='33' width='10' height='10'/><text class='axis' x='%d' y='42'>heard by the receiver</text>", left, left + 15
-    printf "<rect class='alone' x='%d' y='33' width='10' height='10'/><text class='axis' x='%d' y='42'>heard by it alone</text>\n", left + 150, left + 165
-    if (total) for (k = 0; k <= total; k += step_of(total)) {
-        printf "<path class='grid' d='M%.1f %dv%d'/>", left + k * scale, top, height
-        printf "<text class='axis' x='%.1f' y='%d' text-anchor='middle'>%d</text>\n", left + k * scale, top + height + 16, k
-    }
-    printf "<text class='axis' x='%.1f' y='%d' text-anchor='middle'>transmissions</text>\n", left + width / 2, top + height + 34
+    head()
+    if (total) axis()
     for (row = 0; row < receivers; row++) bar(next_name(), row)
     print "</svg>"
 }

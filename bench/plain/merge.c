@@ -58,7 +58,8 @@ static byte *spell_call(byte *at, const byte *address) {
     return at;
 }
 
-static void keep(const struct line *line, const byte *at, const byte *frame, unsigned length, unsigned field) {
+static void keep(const struct line *line, const byte *at, const byte *frame, unsigned length,
+                 unsigned field) {
     if (count == room) {
         room = room ? room * 2 : 4096;
         receptions = sure(realloc(receptions, room * sizeof *receptions));
