@@ -1,9 +1,20 @@
 #!/usr/bin/env python3
-"""Writes a log of as many lines as are asked for: positions, objects, messages, statuses, and a fifth
-of fields that stay raw. The same number of lines gives the same log."""
+"""Writes logs to measure with: positions, objects, messages, statuses, and a fifth of fields that stay
+raw. The same words give the same logs.
+
+usage: make_log.py LINES               one log of so many lines, to standard output
+       make_log.py RECEPTIONS FOLDER   a.log, b.log and c.log of three receivers that hear mostly the
+                                       same transmissions, with so many lines in all
+"""
 import datetime
 import random
 import sys
+
+START = datetime.datetime(2024, 5, 1)
+STATIONS = [("N%d%s" % (i % 10, chr(65 + i % 26) + chr(65 + i // 26) + "X"), i % 16) for i in range(300)]
+PATHS = [[], [("WIDE1", 1, 7)], [("WIDE1", 1, 7), ("WIDE2", 1, 3)]]
+# what share of the transmissions one receiver hears, in the logs of three
+HEARD = 0.9
 
 
 def address(call, ssid, flags, last):
@@ -34,19 +45,50 @@ def information(kind, numbers):
     return b"T#%03d,199,000,255,073,123,01101001" % (minute % 1000)
 
 
-def main():
-    count = int(sys.argv[1])
+def line(seconds, receiver, heard):
+    moment = (START + datetime.timedelta(seconds=seconds)).strftime("%Y-%m-%dT%H:%M:%SZ")
+    escaped = heard.replace(b"\xdb", b"\xdb\xdd").replace(b"\xc0", b"\xdb\xdc")
+    return f"{moment} {receiver} c000{escaped.hex()}c0\n".encode()
+
+
+def write_one_log(count, out):
     numbers = random.Random(1)
-    start = datetime.datetime(2024, 5, 1)
-    stations = [("N%d%s" % (i % 10, chr(65 + i % 26) + chr(65 + i // 26) + "X"), i % 16) for i in range(300)]
-    paths = [[], [("WIDE1", 1, 7)], [("WIDE1", 1, 7), ("WIDE2", 1, 3)]]
-    out = sys.stdout.buffer
     for i in range(count):
-        moment = (start + datetime.timedelta(seconds=i // 2)).strftime("%Y-%m-%dT%H:%M:%SZ")
-        source, ssid = numbers.choice(stations)
-        heard = frame(source, ssid, numbers.choice(paths), information(i % 5, numbers))
-        escaped = heard.replace(b"\xdb", b"\xdb\xdd").replace(b"\xc0", b"\xdb\xdc")
-        out.write(f"{moment} RX{i % 3 + 1} c000{escaped.hex()}c0\n".encode())
+        source, ssid = numbers.choice(STATIONS)
+        heard = frame(source, ssid, numbers.choice(PATHS), information(i % 5, numbers))
+        out.write(line(i // 2, "RX%d" % (i % 3 + 1), heard))
+
+
+def write_three_logs(count, folder):
+    """A third of the stations always sends the same, as a station at home does. A receiver's copy comes
+    some seconds later than another's, over a path of its own."""
+    numbers = random.Random(2)
+    same = [information(i % 5, numbers) for i in range(len(STATIONS) // 3)]
+    logs = {"a": [], "b": [], "c": []}
+    left, sent = count, 0
+    while left > 0:
+        station = numbers.randrange(len(STATIONS))
+        source, ssid = STATIONS[station]
+        report = same[station] if station < len(same) else information(sent % 5, numbers)
+        for name, log in logs.items():
+            if left > 0 and numbers.random() < HEARD:
+                heard = frame(source, ssid, numbers.choice(PATHS), report)
+                log.append((sent + numbers.randrange(5), "RX" + name.upper(), heard))
+                left -= 1
+        sent += 1
+    for name, log in logs.items():
+        log.sort(key=lambda reception: reception[0])
+        with open(f"{folder}/{name}.log", "wb") as out:
+            out.writelines(line(*reception) for reception in log)
+
+
+def main():
+    if len(sys.argv) == 2:
+        write_one_log(int(sys.argv[1]), sys.stdout.buffer)
+    elif len(sys.argv) == 3:
+        write_three_logs(int(sys.argv[1]), sys.argv[2])
+    else:
+        sys.exit(__doc__)
 
 
 main()

@@ -1,42 +1,44 @@
 #!/usr/bin/env bash
-# Times each job over a log of a million lines, as ratios to `wc -l` of the log and to `xxd -r -p` of
-# its hexadecimal column in the same run, and tells the peak memory.
-# usage: bench/run.sh PROGRAM [LINES]
+# Builds the plain C programs, makes the logs, and measures: what each command takes beside `wc -l` of
+# the log and `xxd -r -p` of its hexadecimal column, then the ratios that are wanted (compare.sh).
+# usage: bench/run.sh PROGRAM [LINES]    a million lines where none are asked for
+# environment: RUNS                      of how many runs the best counts (5)
+#              MERGE_RECEPTIONS          lines of the three logs of a merge, in all (6000)
 set -euo pipefail
+export LC_ALL=C
 program=$(realpath "$1")
 lines=${2:-1000000}
 here=$(dirname "$(realpath "$0")")
+. "$here/timing.sh"
 work=$(mktemp -d)
 trap 'rm -rf "$work"' EXIT
+
+mkdir "$work/plain" "$work/three"
+for source in "$here"/plain/*.c; do
+    "${CC:-cc}" -O2 -Wall -Wextra -o "$work/plain/$(basename "$source" .c)" "$source"
+done
 cd "$work"
 python3 "$here/make_log.py" "$lines" > heard.log
+python3 "$here/make_log.py" "${MERGE_RECEPTIONS:-6000}" three
 cut -d ' ' -f 3 heard.log > hexadecimal
-"$program" convert kiss heard.log > heard.kiss
+xxd -r -p hexadecimal > heard.kiss
 
-# the least time of five runs, in seconds
-least() {
-    local least=999 i began ended taken
-    for i in 1 2 3 4 5; do
-        began=$EPOCHREALTIME
-        "$@" > /dev/null
-        ended=$EPOCHREALTIME
-        taken=$(awk -v a="$began" -v b="$ended" 'BEGIN { printf "%.4f", b - a }')
-        least=$(awk -v a="$least" -v b="$taken" 'BEGIN { print a < b ? a : b }')
-    done
-    echo "$least"
-}
-
-wc_time=$(least wc -l heard.log)
-xxd_time=$(least xxd -r -p hexadecimal)
-echo "$lines lines; wc -l $wc_time s; xxd -r -p $xxd_time s"
-printf '%-16s %8s %8s %8s %12s\n' job seconds to-wc to-xxd peak-memory
+tell_load 'before'
+take_least wc -l heard.log
+wc_time=$least
+take_least xxd -r -p hexadecimal
+xxd_time=$least
+echo
+awk -v l="$lines" -v w="$wc_time" -v x="$xxd_time" \
+    'BEGIN { printf "%d lines; wc -l %.3f s, xxd -r -p %.3f s\n", l, w / 1e6, x / 1e6 }'
+printf '%-16s %8s %8s %8s %13s\n' run seconds to-wc to-xxd peak-memory
 tell() {
-    local name=$1 taken peak
+    local name=$1 peak
     shift
-    taken=$(least "$program" "$@")
-    peak=$(python3 "$here/peak_memory.py" "$program" "$@")
-    awk -v n="$name" -v t="$taken" -v w="$wc_time" -v x="$xxd_time" -v p="$peak" \
-        'BEGIN { printf "%-16s %8.3f %8.2f %8.2f %9d KiB\n", n, t, t / w, t / x, p }'
+    take_least "$program" "$@"
+    peak=$(plain/peak "$program" "$@")
+    awk -v n="$name" -v t="$least" -v w="$wc_time" -v x="$xxd_time" -v p="$peak" \
+        'BEGIN { printf "%-16s %8.3f %8.2f %8.2f %9d KiB\n", n, t / 1e6, t / w, t / x, p }'
 }
 tell check check heard.log
 tell 'convert text' convert text heard.log
@@ -44,3 +46,8 @@ tell 'convert kind' convert kind heard.log
 tell 'convert kiss' convert kiss heard.log
 tell 'convert log' convert log heard.log
 tell 'convert capture' convert capture --receiver RX1 --moment 2024-05-01T12:00:00Z heard.kiss
+
+echo
+"$here/compare.sh" "$program"
+echo
+tell_load 'after'
