@@ -8,6 +8,7 @@ pub mod Fault
 pub mod Line
 pub mod LogAnswers
 pub mod Moment
+pub mod Places
 pub mod Reader
 pub mod Receiver
 pub mod Reception

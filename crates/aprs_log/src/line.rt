@@ -43,7 +43,9 @@ pub fn read_line(line: &[u8]) -> Result<Line, LineFault>
 
 impl Line {
     /// The line of no bytes.
-    pub(crate) fn empty() -> Line {
+    pub(crate) fn empty() -> Line
+        ensures { result ≡ Line.Passed Reason.NoFrame }
+    {
         Line::Passed(Reason::NoFrame)
     }
 
