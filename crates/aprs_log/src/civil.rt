@@ -48,7 +48,8 @@ impl Model for CivilTime {
 impl CivilTime {
     /// The date and time of a text as `2024-05-01T12:00:00Z`, where the bytes are in that form.
     pub fn parse(text: &[u8]) -> Option<CivilTime>
-        ensures { SomeIff result (civil_text (near_civil text.now) ≡ text.now) (near_civil text.now) }
+        ensures { SomeIff result (civil_text (near_civil text.now) ≡ text.now)
+            (near_civil text.now) }
     {
         if text.len() != TEXT_LEN {
             return None;

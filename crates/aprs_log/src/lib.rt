@@ -1,7 +1,6 @@
 //! Moments, receivers and the lines of a log, where each line holds a frame as it was heard.
 #![tactic(auto)]
 
-mod bytes;
 mod calendar;
 mod civil;
 mod cut;

@@ -8,7 +8,7 @@ ghost use Rattle.std.specs.Cmp.Rules.{comparing};
 ghost use Rattle.aprs_log.specs.Receiver.{IsName, is_name, is_name_byte};
 ghost use Rattle.aprs_log.specs.Reception.{bytes_cmp};
 
-use crate::bytes::copied;
+use aprs_io::copied;
 use arrayvec::ArrayVec;
 use std::cmp::Ordering;
 use std::marker::Model;

@@ -10,11 +10,10 @@ ghost use Rattle.aprs_ax25.specs.FrameFault.{frame_of, parts_of};
 ghost use Rattle.aprs_log.specs.Bytes.{WrittenLaws};
 ghost use Rattle.aprs_log.specs.Line.{line_of, written_line};
 
-use crate::bytes::push_all;
 use crate::line::Line;
 use crate::reception::Reception;
 use aprs_ax25::each_is_a_frame_or_refused;
-use aprs_io::{Counted, WriteFault, send};
+use aprs_io::{Counted, WriteFault, push_all, send};
 use aprs_kiss::{cut_plain, cuts_change_nothing, written_frames_are_read_back};
 use arrayvec::ArrayVec;
 use std::io::Write;
