@@ -2,10 +2,12 @@
 #![tactic(auto)]
 
 mod byte_vectors;
+mod cut;
 mod device;
 mod input;
 
 pub use byte_vectors::{copied, push_all};
+pub use cut::cut_at;
 pub use device::{Counted, DeviceFault, WriteFault, send};
 pub use input::{Ending, MAX_INPUT, read_some};
 

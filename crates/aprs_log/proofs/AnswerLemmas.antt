@@ -7,7 +7,7 @@ use Rattle.std.proofs.lemmas.List.{get_or-take}
 use Rattle.std.proofs.Math.ListN.{get_or-append}
 use Rattle.std.proofs.lemmas.Bool.Decides.{nat_tests}
 use Rattle.std.proofs.lemmas.Bool.{cases_lt}
-use Rattle.aprs_log.specs.Cut.{Cut, cut_at, first_cut, has_byte}
+use Rattle.aprs_io.specs.Cut.{Cut, cut_at, first_cut, has_byte}
 use Rattle.aprs_log.specs.Line.{line_of, line_of_cut}
 use Rattle.aprs_log.specs.LogAnswers.{is_lf, tail_cause, fault_at, ended, then_answers, answers_of, answers_from}
 use Rattle.aprs_io.specs.declared.input.Ending.{Ending}

@@ -1,9 +1,9 @@
 -- Definitions that contracts of a log cite.
+pub use Rattle.aprs_io.specs.Cut
 pub use Rattle.aprs_io.specs.Device
 pub use Rattle.aprs_io.specs.Input
 pub mod Awaits
 pub mod Bytes
-pub mod Cut
 pub mod Fault
 pub mod Line
 pub mod LogAnswers

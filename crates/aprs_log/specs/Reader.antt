@@ -3,7 +3,7 @@ use Rattle.std.specs.Prelude.{◌≡◌, ℕ, ◌+◌, Bool, true, false, List, 
 use Rattle.std.specs.Borrow.{GName}
 use Rattle.aprs_io.specs.declared.device.Counted.{Counted}
 use Rattle.aprs_log.specs.Awaits.{AwaitsIn, stop_in, work_in}
-use Rattle.aprs_log.specs.Cut.{has_byte}
+use Rattle.aprs_io.specs.Cut.{has_byte}
 use Rattle.aprs_log.specs.LogAnswers.{Answers, Gets, ended, log_answers, then_given}
 use Rattle.aprs_log.specs.Window.{items}
 use Rattle.aprs_log.specs.declared.line.Line.{Line}

@@ -3,7 +3,6 @@
 
 mod calendar;
 mod civil;
-mod cut;
 mod ending;
 mod fault;
 mod hexadecimal;

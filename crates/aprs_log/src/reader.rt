@@ -32,7 +32,7 @@ impl<'a, R: Read> LogReader<'a, R> {
     ghost use Rattle.std.specs.Prelude.{◌≡◌, ◌≢◌, ◌+◌, ◌≤◌, ◌<◌, ◌++◌, ℕ, List, length, Option, None, Some, IfSome, IfErr, OnErr, false};
     ghost use Rattle.std.specs.Bool.{OnTrue, OnFalse};
     ghost use Rattle.aprs_io.specs.Device.{device_of, failures_of, answered_of, Rose, RoseWhere};
-    ghost use Rattle.aprs_log.specs.Cut.{cut_at};
+    ghost use Rattle.aprs_io.specs.Cut.{cut_at};
     ghost use Rattle.aprs_log.specs.LogAnswers.{Answers, then_given};
     ghost use Rattle.aprs_log.specs.Window.{items};
     ghost use Rattle.aprs_log.specs.Reader.{answer_at, answer_told, Awaits, AreAnswersOf, GivesNext, HasLine, current_of, held_of, lines_of, loan_of, source_of, stop_of, tells_line, work_of, Moves, TellsRead};
