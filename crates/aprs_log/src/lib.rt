@@ -5,7 +5,6 @@ mod calendar;
 mod civil;
 mod ending;
 mod fault;
-mod hexadecimal;
 mod line;
 mod line_bytes;
 mod moment;

@@ -6,12 +6,11 @@ ghost use Rattle.aprs_log.specs.Line.{frame_or_reason, heard_or_passed, line_of,
 ghost use Rattle.aprs_log.specs.Slot.{told_in};
 
 use crate::fault::{LineFault, Reason};
-use crate::hexadecimal::decode_into;
 use crate::line_bytes::data_in;
 use crate::scratch::Scratch;
 use crate::{Moment, Receiver, Reception};
 use aprs_ax25::Frame;
-use aprs_io::cut_at;
+use aprs_io::{cut_at, decode_into};
 
 /// The most bytes of a line, without its LF.
 pub const MAX_LINE: usize = 8192;
