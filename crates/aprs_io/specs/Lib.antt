@@ -1,3 +1,4 @@
--- Definitions that contracts on devices and inputs cite.
+-- Definitions that contracts on devices, inputs and texts cite.
+pub mod Cut
 pub mod Device
 pub mod Input

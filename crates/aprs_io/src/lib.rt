@@ -1,10 +1,16 @@
 //! Devices that count their failed calls, and what is got of an input under a limit.
 #![tactic(auto)]
 
+mod byte_vectors;
+mod cut;
 mod device;
+mod hexadecimal;
 mod input;
 
+pub use byte_vectors::{copied, push_all};
+pub use cut::cut_at;
 pub use device::{Counted, DeviceFault, WriteFault, send};
+pub use hexadecimal::{decode_into, encode_to};
 pub use input::{Ending, MAX_INPUT, read_some};
 
 #[cfg(test)]

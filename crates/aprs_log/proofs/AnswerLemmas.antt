@@ -1,5 +1,5 @@
 -- Lemmas on the answers of a log, of which only the first bytes may be known.
-use Rattle.std.proofs.Common.{◌≡◌, ℕ, ◌+◌, ◌≤◌, ◌<◌, List, [], ◌∷◌, ◌++◌, Bool, true, false, length, get_or, None, Some, Err, inl, inr, cond, refl, arith, sym, ap, ◌∙◌, append_assoc, append-nil, length-append, length-take, nat_lt}
+use Rattle.std.proofs.Common.{◌≡◌, ℕ, ◌+◌, ◌≤◌, ◌<◌, List, [], ◌∷◌, ◌++◌, Bool, true, false, length, get_or, None, Some, Err, inl, inr, cond, refl, arith, sym, ap, ◌∙◌, append_assoc, append-nil, length-append, length-take, nat_lt, IsTrue}
 use Rattle.std.specs.List.{slice_split, position_or_len, before_first, after_first, All}
 use Rattle.std.proofs.lemmas.List.Splits.{slice_split_at, slice_split_none, length-slice_split}
 use Rattle.std.proofs.lemmas.List.Sums.{fails_before_first, passes_at_first, split_at_first}
@@ -7,7 +7,7 @@ use Rattle.std.proofs.lemmas.List.{get_or-take}
 use Rattle.std.proofs.Math.ListN.{get_or-append}
 use Rattle.std.proofs.lemmas.Bool.Decides.{nat_tests}
 use Rattle.std.proofs.lemmas.Bool.{cases_lt}
-use Rattle.aprs_log.specs.Cut.{Cut, cut_at, has_byte}
+use Rattle.aprs_io.specs.Cut.{Cut, cut_at, first_cut, has_byte}
 use Rattle.aprs_log.specs.Line.{line_of, line_of_cut}
 use Rattle.aprs_log.specs.LogAnswers.{is_lf, tail_cause, fault_at, ended, then_answers, answers_of, answers_from}
 use Rattle.aprs_io.specs.declared.input.Ending.{Ending}
@@ -76,6 +76,13 @@ unfolding cut_at
 no_lf text e = above text
     (missing (has_byte 10 text)
     (record { before = before_first is_lf text; after = after_first is_lf text }) e)
+
+-- bytes that aren't cut at `stop` have none
+pub uncut_lacks : (stop : ℕ) (text : List ℕ) → cut_at stop text ≡ None → IsTrue (has_byte stop text) → ⊥
+unfolding cut_at
+uncut_lacks stop text e h =
+    let lacks : has_byte stop text ≡ false = missing (has_byte stop text) (first_cut stop text) e in
+    let bad : true ≡ false = sym h ∙ lacks in cc
 
 pub answers_from-tail : (n : ℕ) (t : List ℕ) (c : Ending) → length t ≤ position_or_len is_lf t
     → answers_from n t c ≡ ended (fault_at n (tail_cause t c))

@@ -4,14 +4,14 @@ use Rattle.std.specs.List.{list_all}
 use Rattle.std.proofs.lemmas.Bool.Decides.{nat_tests}
 use Rattle.hex.specs.Hex.{decode_of}
 use Rattle.hex.specs.declared.error.FromHexError.{FromHexError}
-use Rattle.aprs_log.specs.Cut.{Cut, cut_at, is_byte}
+use Rattle.aprs_io.specs.Cut.{Cut, cut_at, is_byte}
 use Rattle.aprs_log.specs.Moment.{Civil, civil_text, MomentText, moment_of}
 use Rattle.aprs_log.specs.Receiver.{IsName, is_name, is_name_byte}
 use Rattle.aprs_log.specs.Line.{LineSyntax, frame_in, heard_or_passed, line_of_bytes, line_after_moment, line_of_cut, line_of}
 use Rattle.aprs_log.specs.declared.fault.LineFault.{LineFault}
 use Rattle.aprs_log.specs.declared.fault.LineFault.TheVariants as fault
 use Rattle.aprs_log.specs.declared.line.Line.{Line}
-use Rattle.aprs_log.proofs.CutLemmas.{Lacks, cut_at-append, cut_at-parts}
+use Rattle.aprs_io.proofs.CutLemmas.{Lacks, cut_at-append, cut_at-parts}
 use Rattle.aprs_log.proofs.MomentLemmas.{FitsText, IsCivil-fits, moment_of-text, text-moment_of}
 
 -- ---- a line's first two fields have no space

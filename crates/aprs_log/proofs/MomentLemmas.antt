@@ -1,11 +1,12 @@
 -- Lemmas on moments and their texts.
-use Rattle.std.proofs.Common.{◌≡◌, ℕ, ◌+◌, ◌*◌, ◌/◌, ◌%◌, ◌<◌, ◌≤◌, ◌↔◌, Bool, true, false, List, Option, None, Some, pos, ◌+ℤ◌, ◌*ℤ◌, unsigned_abs, refl, arith, sym, ap, ◌∙◌, ◌&&◌, cond}
+use Rattle.std.proofs.Common.{◌≡◌, ℕ, ◌+◌, ◌*◌, ◌/◌, ◌%◌, ◌<◌, ◌≤◌, ◌↔◌, Bool, true, false, List, Option, None, Some, pos, ◌+ℤ◌, ◌*ℤ◌, unsigned_abs, refl, arith, sym, ap, ◌∙◌, ◌&&◌, cond, subst}
 use Rattle.std.proofs.lemmas.Bool.Decides.{nat_tests}
 use Rattle.std.specs.Str.{bytes_eq}
 use Rattle.std.proofs.lemmas.Slice.Eq.{bytes_eq-Decides}
 use Rattle.jiff_core.specs.Calendar.{days_from_civil, days_in_month}
 use Rattle.jiff_core.proofs.SignedLemmas.{signed_arith}
 use Rattle.aprs_log.proofs.Days.{IsDay-number, one_date, NthDay, day_after-is}
+use Rattle.aprs_log.specs.Places.{near_civil, near_digit}
 use Rattle.aprs_log.specs.Moment.{Civil, civil_at, civil_text, digit_of, IsCivil, is_date, is_time, is_civil, second_of_day, seconds_of, MomentText, moment_of, day_after, civil_after, moment_text}
 
 -- a civil time whose parts have as many digits as a text has room for
@@ -17,21 +18,29 @@ pub record FitsText (c : Civil) : Type 0 where
   pub minute : c.minute < 100
   pub second : c.second < 100
 
-digit_of-digit : (d : ℕ) → d < 10 → digit_of (48 + d) ≡ d
-digit_of-digit d h = omega arith
-
-pair-two_digits : (n : ℕ) → n < 100 → 10 * digit_of (48 + n / 10) + digit_of (48 + n % 10) ≡ n
-pair-two_digits n h =
-    let a = digit_of-digit (n / 10) (omega arith) in
-    let b = digit_of-digit (n % 10) (omega arith) in
+near-two_digits : (n : ℕ) → n < 100 → 10 * near_digit (48 + n / 10) + near_digit (48 + n % 10) ≡ n
+near-two_digits n h =
+    let a : near_digit (48 + n / 10) ≡ n / 10 = omega arith in
+    let b : near_digit (48 + n % 10) ≡ n % 10 = omega arith in
     omega (arith, a, b)
 
-four : (n : ℕ) → n < 10000
+near-four_digits : (n : ℕ) → n < 10000
+    → 100 * (10 * near_digit (48 + n / 100 / 10) + near_digit (48 + n / 100 % 10))
+    + (10 * near_digit (48 + n % 100 / 10) + near_digit (48 + n % 100 % 10)) ≡ n
+near-four_digits n h =
+    let a = near-two_digits (n / 100) (omega arith) in
+    let b = near-two_digits (n % 100) (omega arith) in
+    omega (arith, a, b)
+
+pair-two_digits : (n : ℕ) → 10 * digit_of (48 + n / 10) + digit_of (48 + n % 10) ≡ n
+pair-two_digits n = omega arith
+
+pair-four_digits : (n : ℕ)
     → 100 * (10 * digit_of (48 + n / 100 / 10) + digit_of (48 + n / 100 % 10))
     + (10 * digit_of (48 + n % 100 / 10) + digit_of (48 + n % 100 % 10)) ≡ n
-four n h =
-    let a = pair-two_digits (n / 100) (omega arith) in
-    let b = pair-two_digits (n % 100) (omega arith) in
+pair-four_digits n =
+    let a = pair-two_digits (n / 100) in
+    let b = pair-two_digits (n % 100) in
     omega (arith, a, b)
 
 abbrev civil_of : ℕ → ℕ → ℕ → ℕ → ℕ → ℕ → Civil
@@ -50,10 +59,16 @@ same_civil : (y m d h n s y' m' d' h' n' s' : ℕ) → y ≡ y' → m ≡ m' →
 same_civil y m d h n s y' m' d' h' n' s' year month day hour minute second = cc
 
 -- the parts of a text stand at their places
-pub civil_at-civil_text : (c : Civil) → FitsText c → civil_at (civil_text c) ≡ c
-civil_at-civil_text c h = same_civil _ _ _ _ _ _ _ _ _ _ _ _ (four c.year h.year)
-    (pair-two_digits c.month h.month) (pair-two_digits c.day h.day) (pair-two_digits c.hour h.hour)
-    (pair-two_digits c.minute h.minute) (pair-two_digits c.second h.second)
+civil_at-civil_text : (c : Civil) → civil_at (civil_text c) ≡ c
+civil_at-civil_text c = same_civil _ _ _ _ _ _ _ _ _ _ _ _ (pair-four_digits c.year)
+    (pair-two_digits c.month) (pair-two_digits c.day) (pair-two_digits c.hour)
+    (pair-two_digits c.minute) (pair-two_digits c.second)
+
+-- the code finds them there
+near_civil-civil_text : (c : Civil) → FitsText c → near_civil (civil_text c) ≡ c
+near_civil-civil_text c h = same_civil _ _ _ _ _ _ _ _ _ _ _ _ (near-four_digits c.year h.year)
+    (near-two_digits c.month h.month) (near-two_digits c.day h.day) (near-two_digits c.hour h.hour)
+    (near-two_digits c.minute h.minute) (near-two_digits c.second h.second)
 
 days_fit : (y : ℕ) (m : ℕ) → days_in_month (pos y) m ≤ 31
 days_fit y m = grind (arith, nat_tests)
@@ -147,11 +162,11 @@ if_both true true x p q = refl
 if_both true false x p q = absurd cc
 if_both false b x p q = absurd cc
 
-moment_of-civil : (c : Civil) → IsCivil c → moment_of (civil_text c) ≡ Some (seconds_of c)
+pub moment_of-civil : (c : Civil) → IsCivil c → moment_of (civil_text c) ≡ Some (seconds_of c)
 unfolding moment_of
 moment_of-civil c h =
     let t = civil_text c in
-    let e = civil_at-civil_text c (IsCivil-fits c h) in
+    let e = civil_at-civil_text c in
     let there : moment_of t
     ≡ (cond (is_civil c && bytes_eq (civil_text c) t) (Some (seconds_of c)) None)
     = ap (λ c. cond (is_civil c && bytes_eq (civil_text c) t) (Some (seconds_of c)) None) e in
@@ -199,18 +214,22 @@ moment_of-unread t h = let c = civil_at t in
     (λ _ e. h ((bytes_eq-Decides (civil_text c) t).0 e)))
 
 -- the places hold no real time
-pub moment_of-unreal : (t : List ℕ) → ¬ IsCivil (civil_at t) → None ≡ moment_of t
+pub moment_of-unreal : (c : Civil) → ¬ IsCivil c → None ≡ moment_of (civil_text c)
 unfolding moment_of
-moment_of-unreal t h = let c = civil_at t in
-    sym (no_if (is_civil c) (bytes_eq (civil_text c) t) (seconds_of c)
-    (λ e _. h (is_civil-IsCivil c e)))
+moment_of-unreal c h = let t = civil_text c in let at = civil_at t in
+    sym (no_if (is_civil at) (bytes_eq (civil_text at) t) (seconds_of at)
+    (λ e _. h (subst IsCivil (civil_at-civil_text c) (is_civil-IsCivil at e))))
 
-pub moment_of-read : (t : List ℕ) → civil_text (civil_at t) ≡ t → IsCivil (civil_at t)
-    → Some (seconds_of (civil_at t)) ≡ moment_of t
+-- the code finds no text at the places
+pub moment_of-unfound : (t : List ℕ) → ¬ (civil_text (near_civil t) ≡ t) → None ≡ moment_of t
 unfolding moment_of
-moment_of-read t e h = let c = civil_at t in
-    sym (if_both (is_civil c) (bytes_eq (civil_text c) t) (seconds_of c) (IsCivil-is_civil c h)
-    ((bytes_eq-Decides (civil_text c) t).1 e))
+moment_of-unfound t h = let c = civil_at t in
+    sym (no_if (is_civil c) (bytes_eq (civil_text c) t) (seconds_of c)
+    (λ e same. h (found c (is_civil-IsCivil c e) ((bytes_eq-Decides (civil_text c) t).0 same))))
+  where
+    found : (c : Civil) → IsCivil c → civil_text c ≡ t → civil_text (near_civil t) ≡ t
+    found c real is = ap (λ l. civil_text (near_civil l)) (sym is)
+        ∙ ap civil_text (near_civil-civil_text c (IsCivil-fits c real)) ∙ is
 
 pub IsExact : (t : List ℕ) (r : Option ℕ) → r ≡ moment_of t → (m : ℕ)
     → (r ≡ Some m) ↔ MomentText m t

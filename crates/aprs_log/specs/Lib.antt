@@ -1,13 +1,14 @@
 -- Definitions that contracts of a log cite.
+pub use Rattle.aprs_io.specs.Cut
 pub use Rattle.aprs_io.specs.Device
 pub use Rattle.aprs_io.specs.Input
 pub mod Awaits
 pub mod Bytes
-pub mod Cut
 pub mod Fault
 pub mod Line
 pub mod LogAnswers
 pub mod Moment
+pub mod Places
 pub mod Reader
 pub mod Receiver
 pub mod Reception

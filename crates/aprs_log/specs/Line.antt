@@ -8,7 +8,7 @@ use Rattle.aprs_kiss.specs.Stream.{rest_of, is_nonempty, judgements_of}
 use Rattle.aprs_kiss.specs.Judgement.{Judgement}
 use Rattle.aprs_ax25.specs.FrameFault.{frame_of}
 use Rattle.aprs_ax25.specs.declared.fault.FrameFault.{FrameFault}
-use Rattle.aprs_log.specs.Cut.{Cut, cut_at}
+use Rattle.aprs_io.specs.Cut.{Cut, cut_at}
 use Rattle.aprs_log.specs.Fault.{reason_of_pass, reason_of_frame}
 use Rattle.aprs_log.specs.Moment.{MomentText, moment_of, moment_text}
 use Rattle.aprs_log.specs.Receiver.{IsName, is_name}

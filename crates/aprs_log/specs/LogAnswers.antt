@@ -1,7 +1,7 @@
 -- The answers of a log: its lines in order, up to the first fault.
 use Rattle.std.specs.Prelude.{ℕ, ◌+◌, Bool, if◌then◌else◌, List, [], ◌∷◌, length, Option, None, Some, Result, Ok, Err, nat_lt}
 use Rattle.std.specs.List.{slice_split}
-use Rattle.aprs_log.specs.Cut.{is_byte}
+use Rattle.aprs_io.specs.Cut.{is_byte}
 use Rattle.aprs_log.specs.Fault.{log_cause_of}
 use Rattle.aprs_log.specs.Line.{line_of}
 use Rattle.aprs_log.specs.Reception.{Heard}

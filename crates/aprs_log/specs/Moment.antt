@@ -1,5 +1,5 @@
 -- Moments and their texts.
-use Rattle.std.specs.Prelude.{◌≡◌, ℕ, zero, suc, ◌+◌, ◌-◌, ◌*◌, ◌/◌, ◌%◌, ◌<◌, ◌≤◌, ◌&&◌, min, Bool, if◌then◌else◌, List, [], ◌∷◌, ◌++◌, slice_index, Option, None, Some, nat_le, nat_lt, pos, unsigned_abs, ◌+ℤ◌, ◌*ℤ◌}
+use Rattle.std.specs.Prelude.{◌≡◌, ℕ, zero, suc, ◌+◌, ◌-◌, ◌*◌, ◌/◌, ◌%◌, ◌<◌, ◌≤◌, ◌&&◌, Bool, if◌then◌else◌, List, [], ◌∷◌, ◌++◌, slice_index, Option, None, Some, nat_le, nat_lt, pos, unsigned_abs, ◌+ℤ◌, ◌*ℤ◌}
 use Rattle.std.specs.Str.{bytes_eq}
 use Rattle.jiff_core.specs.Calendar.{IsDate, days_from_civil, days_in_month}
 
@@ -12,9 +12,11 @@ pub record Civil : Type 0 where
   pub minute : ℕ
   pub second : ℕ
 
+-- the tens and the ones of a number below 100
 abbrev pub two_digits : ℕ → List ℕ
 two_digits n = (48 + n / 10) ∷ (48 + n % 10) ∷ []
 
+-- the same of a number's hundreds and of what is left
 abbrev pub four_digits : ℕ → List ℕ
 four_digits n = two_digits (n / 100) ++ two_digits (n % 100)
 
@@ -82,10 +84,11 @@ moment_text m = civil_text (civil_after m)
 
 -- ---- the moment of a text, as a function
 
--- the value of a digit, and of another byte that of the digit next to it
+-- the value of a digit
 abbrev pub digit_of : ℕ → ℕ
-digit_of b = min 9 (b - 48)
+digit_of b = b - 48
 
+-- the number whose two digits stand at i
 abbrev pub pair_at : List ℕ → ℕ → ℕ
 pair_at t i = 10 * digit_of (slice_index t i) + digit_of (slice_index t (i + 1))
 

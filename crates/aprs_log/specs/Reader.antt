@@ -1,8 +1,9 @@
 -- What contracts see of a reader of a log.
-use Rattle.std.specs.Prelude.{◌≡◌, ℕ, ◌+◌, Bool, true, false, List, Option, None, Some, Result, Ok, Err, IsErrAnd}
+use Rattle.std.specs.Prelude.{◌≡◌, ℕ, ◌+◌, Bool, true, false, List, Option, None, Some, Result, Ok, Err, IsErrAnd, IsTrue}
 use Rattle.std.specs.Borrow.{GName}
 use Rattle.aprs_io.specs.declared.device.Counted.{Counted}
 use Rattle.aprs_log.specs.Awaits.{AwaitsIn, stop_in, work_in}
+use Rattle.aprs_io.specs.Cut.{has_byte}
 use Rattle.aprs_log.specs.LogAnswers.{Answers, Gets, ended, log_answers, then_given}
 use Rattle.aprs_log.specs.Window.{items}
 use Rattle.aprs_log.specs.declared.line.Line.{Line}
@@ -25,6 +26,14 @@ lines_of r = r.line
 -- the line that it gave last
 abbrev pub current_of : {R : Type 0} → LogReader R → Line
 current_of r = r.current
+
+-- the bytes that it has read and not yet answered
+abbrev pub held_of : {R : Type 0} → LogReader R → List ℕ
+held_of r = items r.window
+
+-- a whole line is among the bytes: an LF stands in them
+abbrev pub HasLine : List ℕ → Type 0
+HasLine bytes = IsTrue (has_byte 10 bytes)
 
 -- the fault or the end that it answers from now on, if it has come to one
 abbrev pub stop_of : {R : Type 0} → LogReader R → Option (Option LogFault)

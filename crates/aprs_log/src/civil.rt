@@ -1,6 +1,7 @@
 //! Dates of the civil calendar with a time of the day.
 ghost use Rattle.std.specs.Prelude.{◌≡◌, ◌≤◌, ◌<◌, ◌+◌, ◌*◌, ◌/◌, ◌%◌, ◌∷◌, ◌++◌, [], length, pos, SomeIff, IfSome};
-ghost use Rattle.aprs_log.specs.Moment.{Civil, civil_at, civil_text, digit_of, is_time, pair_at, second_of_day, seconds_of, IsCivil};
+ghost use Rattle.aprs_log.specs.Moment.{Civil, civil_text, is_time, second_of_day, seconds_of, IsCivil};
+ghost use Rattle.aprs_log.specs.Places.{near_civil, near_digit, near_pair};
 
 use crate::calendar::{date_of, day_number};
 use std::marker::Model;
@@ -47,7 +48,8 @@ impl Model for CivilTime {
 impl CivilTime {
     /// The date and time of a text as `2024-05-01T12:00:00Z`, where the bytes are in that form.
     pub fn parse(text: &[u8]) -> Option<CivilTime>
-        ensures { SomeIff result (civil_text (civil_at text.now) ≡ text.now) (civil_at text.now) }
+        ensures { SomeIff result (civil_text (near_civil text.now) ≡ text.now)
+            (near_civil text.now) }
     {
         if text.len() != TEXT_LEN {
             return None;
@@ -63,7 +65,7 @@ impl CivilTime {
     /// The time whose digits stand at their places in a text.
     fn at(text: &[u8]) -> CivilTime
         requires { length text.now ≡ 20 }
-        ensures { result ≡ civil_at text.now }
+        ensures { result ≡ near_civil text.now }
     {
         CivilTime {
             year: u16::from(pair_at(text, 0)) * 100 + u16::from(pair_at(text, 2)),
@@ -154,7 +156,7 @@ impl CivilTime {
 
 /// The value of a digit, and of another byte that of the digit next to it.
 fn digit_of(byte: u8) -> u8
-    ensures value { result ≡ digit_of byte }
+    ensures value { result ≡ near_digit byte }
     ensures bound { result ≤ 9 }
 {
     byte.saturating_sub(b'0').min(9)
@@ -163,7 +165,7 @@ fn digit_of(byte: u8) -> u8
 /// The number whose two digits stand at `i`.
 fn pair_at(text: &[u8], i: usize) -> u8
     requires { i + 1 < length text.now }
-    ensures value { result ≡ pair_at text.now i }
+    ensures value { result ≡ near_pair text.now i }
     ensures bound { result < 100 }
 {
     digit_of(text[i]) * 10 + digit_of(text[i + 1])

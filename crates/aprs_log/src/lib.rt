@@ -1,13 +1,10 @@
 //! Moments, receivers and the lines of a log, where each line holds a frame as it was heard.
 #![tactic(auto)]
 
-mod bytes;
 mod calendar;
 mod civil;
-mod cut;
 mod ending;
 mod fault;
-mod hexadecimal;
 mod line;
 mod line_bytes;
 mod moment;

@@ -5,13 +5,12 @@ ghost use Rattle.aprs_ax25.specs.FrameFault.{frame_of};
 ghost use Rattle.aprs_log.specs.Line.{frame_or_reason, heard_or_passed, line_of, line_of_bytes, LineSyntax};
 ghost use Rattle.aprs_log.specs.Slot.{told_in};
 
-use crate::cut::cut_at;
 use crate::fault::{LineFault, Reason};
-use crate::hexadecimal::decode_into;
 use crate::line_bytes::data_in;
 use crate::scratch::Scratch;
 use crate::{Moment, Receiver, Reception};
 use aprs_ax25::Frame;
+use aprs_io::{cut_at, decode_into};
 
 /// The most bytes of a line, without its LF.
 pub const MAX_LINE: usize = 8192;
@@ -43,7 +42,9 @@ pub fn read_line(line: &[u8]) -> Result<Line, LineFault>
 
 impl Line {
     /// The line of no bytes.
-    pub(crate) fn empty() -> Line {
+    pub(crate) fn empty() -> Line
+        ensures { result ≡ Line.Passed Reason.NoFrame }
+    {
         Line::Passed(Reason::NoFrame)
     }
 

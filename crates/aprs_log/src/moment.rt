@@ -1,15 +1,21 @@
 //! Moments in whole seconds.
 ghost use Rattle.std.specs.Prelude.{◌≡◌, ◌↔◌, ℕ, ◌≤◌, List, SomeIff};
+ghost use Rattle.std.specs.Ordering.{nat_cmp, as_partial_cmp};
+ghost use Rattle.std.proofs.Common.{rules};
+ghost use Rattle.std.specs.Cmp.{partial_order_from_own_ties};
+ghost use Rattle.std.specs.Cmp.Rules.{comparing};
 ghost use Rattle.aprs_log.specs.Moment.{MomentText, moment_of, moment_text};
 
 use crate::civil::CivilTime;
+use std::cmp::Ordering;
 use std::marker::Model;
 
 /// The last second of the year 2099.
 const LAST_SECOND: u64 = 4_102_444_799;
 
 /// A whole second from 1970-01-01T00:00:00Z to 2099-12-31T23:59:59Z. No second is a leap second.
-#[derive(Clone, Copy, Debug, PartialEq, Eq, PartialOrd, Ord)]
+/// Moments are ordered by their number of seconds.
+#[derive(Clone, Copy, Debug, PartialEq, Eq)]
 pub struct Moment {
     seconds: u64,
 }
@@ -74,5 +80,30 @@ impl Moment {
         ensures { result ≡ self.now }
     {
         *self
+    }
+}
+
+impl Ord for Moment {
+    ghost cmp = { nat_cmp };
+
+    ghost total = { Prim.search (comparing, rules) };
+
+    ghost matches_partial_cmp = { Prim.search (comparing, rules) };
+
+    ghost matches_eq = { Prim.search (comparing, rules) };
+
+    fn cmp(&self, other: &Moment) -> Ordering {
+        self.seconds.cmp(&other.seconds)
+    }
+}
+
+impl PartialOrd for Moment {
+    ghost partial_cmp = { as_partial_cmp nat_cmp };
+
+    ghost laws = { partial_order_from_own_ties (Prim.search (comparing, rules))
+        (Prim.search (comparing, rules)) };
+
+    fn partial_cmp(&self, other: &Moment) -> Option<Ordering> {
+        Some(self.cmp(other))
     }
 }

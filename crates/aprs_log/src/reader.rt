@@ -4,13 +4,13 @@ ghost use Rattle.aprs_log.specs.Awaits.{KeepsMemory};
 ghost use Rattle.aprs_log.specs.Window.{items};
 
 use crate::ending::{State, refuse_tail};
-use crate::fault::{LogCause, LogFault};
+use crate::fault::{LogCause, LogFault, Reason};
 use crate::line::{Line, MAX_LINE};
 use crate::scratch::Scratch;
 use crate::take::take_line;
 use crate::window::Window;
 use aprs_io::Counted;
-use std::alloc::Global;
+use std::alloc::Allocator;
 use std::io::Read;
 
 /// Gives the lines of a log in order, up to the first fault. It has a buffer of its own, and keeps
@@ -32,16 +32,17 @@ impl<'a, R: Read> LogReader<'a, R> {
     ghost use Rattle.std.specs.Prelude.{◌≡◌, ◌≢◌, ◌+◌, ◌≤◌, ◌<◌, ◌++◌, ℕ, List, length, Option, None, Some, IfSome, IfErr, OnErr, false};
     ghost use Rattle.std.specs.Bool.{OnTrue, OnFalse};
     ghost use Rattle.aprs_io.specs.Device.{device_of, failures_of, answered_of, Rose, RoseWhere};
-    ghost use Rattle.aprs_log.specs.Cut.{cut_at};
+    ghost use Rattle.aprs_io.specs.Cut.{cut_at};
     ghost use Rattle.aprs_log.specs.LogAnswers.{Answers, then_given};
     ghost use Rattle.aprs_log.specs.Window.{items};
-    ghost use Rattle.aprs_log.specs.Reader.{answer_at, answer_told, Awaits, AreAnswersOf, GivesNext, current_of, lines_of, loan_of, source_of, stop_of, tells_line, work_of, Moves, TellsRead};
+    ghost use Rattle.aprs_log.specs.Reader.{answer_at, answer_told, Awaits, AreAnswersOf, GivesNext, HasLine, current_of, held_of, lines_of, loan_of, source_of, stop_of, tells_line, work_of, Moves, TellsRead};
 
-    /// A reader of the log that begins with `head` and goes on with the bytes of `source`, of which
-    /// it takes at most `limit` bytes, the head among them. It reads nothing yet, refuses nothing
-    /// and takes no memory.
-    pub fn new(
-        _alloc: Global,
+    /// A reader of the log that begins with `head` and goes on with the bytes of `source`. It takes
+    /// at most `limit` bytes, the head among them. Requires that `limit` is at most `MAX_INPUT`,
+    /// 1,073,741,824, that the head has at most 8 bytes, and that it has no more than `limit`. It
+    /// reads nothing yet, refuses nothing, and takes no memory: it asks nothing of the allocator.
+    pub fn new<A: Allocator + Copy>(
+        _alloc: A,
         limit: u64,
         head: &[u8],
         source: &'a mut Counted<R>,
@@ -52,6 +53,8 @@ impl<'a, R: Read> LogReader<'a, R> {
         ensures same_reference { loan_of result ≡ source.entry.ghost_name }
         ensures source { source_of result ≡ source.old }
         ensures first { lines_of result ≡ 0 }
+        ensures current { current_of result ≡ Line.Passed Reason.NoFrame }
+        ensures held { held_of result ≡ head.now }
         ensures going { stop_of result ≡ None }
         // What may come are the answers of the whole log.
         ensures whole { (end : Option (List ℕ)) (a : Answers)
@@ -95,6 +98,9 @@ impl<'a, R: Read> LogReader<'a, R> {
         ensures count { failures_of (source_of self.old) ≤ failures_of (source_of self.new) }
         ensures gives { GivesNext result (R.remaining (device_of (source_of self.old))) self.old
             (R.remaining (device_of (source_of self.new))) self.new }
+        // A line that it holds whole is answered without a read.
+        ensures unread { stop_of self.old ≡ None → HasLine (held_of self.old)
+            → source_of self.new ≡ source_of self.old }
         // What it came to stays, and it reads no more.
         ensures repeats { (stop : Option LogFault) → stop_of self.old ≡ Some stop
             → result ≡ answer_at stop }
@@ -126,6 +132,9 @@ impl<'a, R: Read> LogReader<'a, R> {
         ensures gives { GivesNext (answer_told result (current_of self.new))
             (R.remaining (device_of (source_of self.old))) self.old
             (R.remaining (device_of (source_of self.new))) self.new }
+        // A line that it holds whole is answered without a read.
+        ensures unread { stop_of self.old ≡ None → HasLine (held_of self.old)
+            → source_of self.new ≡ source_of self.old }
         // Where no line comes, the last one stays.
         ensures keeps { tells_line result ≡ false → current_of self.new ≡ current_of self.old }
         // What it came to stays, and it reads no more.
@@ -156,7 +165,7 @@ impl<'a, R: Read> LogReader<'a, R> {
         }
     }
 
-    /// The line that was given last. Before any it is one without a frame. Takes no memory.
+    /// The line that was given last. Before any it is `Passed(NoFrame)`. Takes no memory.
     pub fn current(&self) -> &Line
         ensures { result.now ≡ current_of self.now }
     {
@@ -189,6 +198,8 @@ impl<'a, R: Read> LogReader<'a, R> {
             (R.remaining (device_of (source_of self.new))) self.new) }
         ensures going { OnTrue result (stop_of self.new ≡ None) }
         ensures less { OnFalse result (work_of self.new < work_of self.old) }
+        ensures unread { HasLine (held_of self.old) → (source_of self.new ≡ source_of self.old)
+            × OnFalse result (stop_of self.new ≢ None) }
         ensures read { OnFalse result (self.new.state ≡ State.Failed LogCause.Read
             → Rose (failures_of (source_of self.old)) (failures_of (source_of self.new))) }
         ensures answered { RoseWhere (self.new.state ≡ State.Failed LogCause.Read)

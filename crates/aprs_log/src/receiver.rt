@@ -1,14 +1,20 @@
 //! Names of receivers.
 ghost use Rattle.std.specs.Prelude.{◌≡◌, List, ℕ, SomeIff};
 ghost use Rattle.std.specs.List.{list_all};
+ghost use Rattle.std.specs.Ordering.{as_partial_cmp};
+ghost use Rattle.std.proofs.Common.{rules};
+ghost use Rattle.std.specs.Cmp.{partial_order_from_own_ties};
+ghost use Rattle.std.specs.Cmp.Rules.{comparing};
 ghost use Rattle.aprs_log.specs.Receiver.{IsName, is_name, is_name_byte};
+ghost use Rattle.aprs_log.specs.Reception.{bytes_cmp};
 
-use crate::bytes::copied;
+use aprs_io::copied;
 use arrayvec::ArrayVec;
+use std::cmp::Ordering;
 use std::marker::Model;
 
 /// The name of a receiver: 1 to 16 letters, digits, `-` and `_`. Names are ordered by their bytes.
-#[derive(Debug, PartialEq, Eq, PartialOrd, Ord, Drop)]
+#[derive(Debug, PartialEq, Eq, Drop)]
 pub struct Receiver {
     bytes: ArrayVec<u8, 16>,
 }
@@ -52,6 +58,31 @@ impl Receiver {
         Receiver {
             bytes: copied(&self.bytes),
         }
+    }
+}
+
+impl Ord for Receiver {
+    ghost cmp = { bytes_cmp };
+
+    ghost total = { Prim.search (comparing, rules) };
+
+    ghost matches_partial_cmp = { Prim.search (comparing, rules) };
+
+    ghost matches_eq = { Prim.search (comparing, rules) };
+
+    fn cmp(&self, other: &Receiver) -> Ordering {
+        self.bytes.cmp(&other.bytes)
+    }
+}
+
+impl PartialOrd for Receiver {
+    ghost partial_cmp = { as_partial_cmp bytes_cmp };
+
+    ghost laws = { partial_order_from_own_ties (Prim.search (comparing, rules))
+        (Prim.search (comparing, rules)) };
+
+    fn partial_cmp(&self, other: &Receiver) -> Option<Ordering> {
+        Some(self.cmp(other))
     }
 }
 

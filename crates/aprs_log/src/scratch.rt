@@ -1,6 +1,8 @@
 //! Room for the bytes of a line.
-use crate::hexadecimal::MAX_BYTES;
 use aprs_kiss::KissReader;
+
+/// The most bytes that the hexadecimal text of a line holds.
+const MAX_BYTES: usize = 4096;
 
 /// What reading a line writes to and leaves behind. Kept from line to line, since to make it anew
 /// costs more than to read a line.

@@ -1,15 +1,15 @@
 //! Lines out of a window.
 ghost use Rattle.std.specs.Prelude.{◌≡◌, ◌<◌, length, None, Some, IfNone, IfSome, OnErr};
-ghost use Rattle.aprs_log.specs.Cut.{Cut, cut_at};
+ghost use Rattle.aprs_io.specs.Cut.{Cut, cut_at};
 ghost use Rattle.aprs_log.specs.Line.{line_of};
 ghost use Rattle.aprs_log.specs.Slot.{told_in};
 ghost use Rattle.aprs_log.specs.Window.{items};
 
-use crate::cut::cut_at;
 use crate::fault::LineFault;
 use crate::line::{Line, read_fields};
 use crate::scratch::Scratch;
 use crate::window::Window;
+use aprs_io::cut_at;
 
 /// Takes the first line out of the window, where it holds a whole one, and reads it into `told`,
 /// which a fault leaves as it was.

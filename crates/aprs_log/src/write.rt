@@ -10,11 +10,10 @@ ghost use Rattle.aprs_ax25.specs.FrameFault.{frame_of, parts_of};
 ghost use Rattle.aprs_log.specs.Bytes.{WrittenLaws};
 ghost use Rattle.aprs_log.specs.Line.{line_of, written_line};
 
-use crate::bytes::push_all;
 use crate::line::Line;
 use crate::reception::Reception;
 use aprs_ax25::each_is_a_frame_or_refused;
-use aprs_io::{Counted, WriteFault, send};
+use aprs_io::{Counted, WriteFault, encode_to, push_all, send};
 use aprs_kiss::{cut_plain, cuts_change_nothing, written_frames_are_read_back};
 use arrayvec::ArrayVec;
 use std::io::Write;
@@ -183,12 +182,4 @@ fn push_chunk(out: &mut ArrayVec<u8, MAX_WRITTEN>, bytes: &[u8])
     let digits = &mut digits[..2 * bytes.len()];
     encode_to(bytes, digits);
     push_all(out, digits);
-}
-
-/// Writes the digits of bytes.
-fn encode_to(bytes: &[u8], digits: &mut [u8])
-    requires { length digits.old ≡ 2 * length bytes.now }
-    ensures { digits.new ≡ encode_lower bytes.now }
-{
-    hex::encode_to_slice(bytes, digits).unwrap();
 }

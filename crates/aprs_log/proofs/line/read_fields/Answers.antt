@@ -1,5 +1,5 @@
 use Rattle.std.proofs.Common.{◌∙◌, arith}
-use Rattle.aprs_log.proofs.CutLemmas.{cut_at-after}
+use Rattle.aprs_io.proofs.CutLemmas.{cut_at-after}
 use Rattle.aprs_log.proofs.LineLemmas.{line_of-long, line_of-uncut, line_of-no_moment, line_of-one_cut, line_of-no_name, line_of-fields}
 use Rattle.aprs_log.proofs.line.read_fields.Goals as goal
 

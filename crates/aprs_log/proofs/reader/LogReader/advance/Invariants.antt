@@ -1,6 +1,6 @@
 use Rattle.std.proofs.Common.{◌≡◌, ◌≤◌, Option, None, Some}
 use Rattle.aprs_io.specs.Device.{device_of, failures_of, answered_of, Rose, RoseWhere}
-use Rattle.aprs_log.specs.Reader.{Moves, current_of, lines_of, loan_of, source_of, stop_of, work_of}
+use Rattle.aprs_log.specs.Reader.{HasLine, Moves, current_of, held_of, lines_of, loan_of, source_of, stop_of, work_of}
 use Rattle.aprs_log.specs.declared.ending.State.TheVariants.{Failed}
 use Rattle.aprs_log.specs.declared.fault.LogCause.TheVariants as cause
 use Rattle.aprs_log.specs.declared.fault.LogFault.{LogFault}
@@ -14,6 +14,9 @@ invariant-loop-self g l = record {
   current : current_of l.self ≡ current_of l.initial.self;
   moves : Moves (g.R.Read.remaining (device_of (source_of l.initial.self))) l.initial.self
       (g.R.Read.remaining (device_of (source_of l.self))) l.self;
+  unread : stop_of l.initial.self ≡ None → HasLine (held_of l.initial.self)
+      → (source_of l.self ≡ source_of l.initial.self)
+      × (stop_of l.self ≡ None → HasLine (held_of l.self));
   stays : (stop : Option LogFault) → stop_of l.initial.self ≡ Some stop
       → (stop_of l.self ≡ Some stop) × (source_of l.self ≡ source_of l.initial.self);
   read : l.self.state ≡ Failed cause.Read → stop_of l.initial.self ≡ None

@@ -1,5 +1,6 @@
 use Rattle.std.proofs.Common.{◌∙◌, ap, sym, refl, rules}
 use Rattle.aprs_log.specs.Slot.{told_in}
+use Rattle.aprs_log.proofs.AnswerLemmas.{uncut_lacks}
 use Rattle.aprs_log.proofs.AwaitLemmas.{step_line, step_fault, faults_keep}
 use Rattle.aprs_log.proofs.reader.LogReader.step.Goals as goal
 
@@ -26,3 +27,6 @@ returns-in-Some-Err-clause-none g c =
       λ end a w. step_fault _ _ end _ _ _ c.in-Some-Err.fault t.0 c.from.result a c.requires t.1
           (ap (λ r. told_in r told) (sym c.in-Some-Err.field-0-is) ∙ t.2) c.from.ensures w.1,
     )
+
+pub returns-in-None-clause-unread : goal.returns-in-None-clause-unread
+returns-in-None-clause-unread g c line = absurd (uncut_lacks 10 _ c.in-None.ensures.none.0 line)

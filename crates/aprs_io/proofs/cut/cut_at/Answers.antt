@@ -1,6 +1,6 @@
 use Rattle.std.proofs.Common.{arith}
-use Rattle.aprs_log.proofs.CutLemmas.{cut_at-found, cut_at-missing}
-use Rattle.aprs_log.proofs.cut.cut_at.Goals as goal
+use Rattle.aprs_io.proofs.CutLemmas.{cut_at-found, cut_at-missing}
+use Rattle.aprs_io.proofs.cut.cut_at.Goals as goal
 
 pub returns-then-len-text : goal.returns-then-len-text
 returns-then-len-text c = cut_at-found c.args.stop c.args.text.now c.len_before-len.result

@@ -2,11 +2,12 @@
 ghost use Rattle.std.specs.Prelude.{◌≡◌};
 ghost use Rattle.std.specs.List.{position_or_len};
 ghost use Rattle.std.specs.Option.{option_map};
-ghost use Rattle.aprs_log.specs.Cut.{cut_at, cut_of, is_byte};
+ghost use Rattle.aprs_io.specs.Cut.{cut_at, cut_of, is_byte};
 
 use memchr::memchr;
 
-/// What stands before the first `stop` and what stands after it, where there is one.
+/// What stands before the first `stop` and what stands after it, where there is one. Takes no
+/// memory.
 pub fn cut_at(text: &[u8], stop: u8) -> Option<(&[u8], &[u8])>
     ensures { option_map cut_of result ≡ cut_at stop text.now }
 {

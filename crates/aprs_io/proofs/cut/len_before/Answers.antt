@@ -1,6 +1,6 @@
 use Rattle.std.proofs.Common.{◌∙◌}
-use Rattle.aprs_log.proofs.CutLemmas.{first_byte-place}
-use Rattle.aprs_log.proofs.cut.len_before.Goals as goal
+use Rattle.aprs_io.proofs.CutLemmas.{first_byte-place}
+use Rattle.aprs_io.proofs.cut.len_before.Goals as goal
 
 pub returns : goal.returns
 returns c = c.unwrap_or.ensures ∙ first_byte-place c.args.stop c.args.text.now _ c.memchr.ensures

@@ -9,7 +9,7 @@ use Rattle.std.specs.Prelude.{Option, unwrap_or}
 use Rattle.std.proofs.lemmas.Bool.{false_from_ne_true}
 use Rattle.std.proofs.lemmas.List.Sums.{position_or_len_is}
 use Rattle.memchr.specs.Find.{IsFirstByte, is_byte as is_sought}
-use Rattle.aprs_log.specs.Cut.{Cut, cut_at, has_byte, is_byte}
+use Rattle.aprs_io.specs.Cut.{Cut, cut_at, has_byte, is_byte}
 
 -- where a search finds the first such byte, or how many bytes there are
 pub first_byte-place : (stop : ℕ) (text : List ℕ) (r : Option ℕ) → IsFirstByte (is_sought stop) text r →

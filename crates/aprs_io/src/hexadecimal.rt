@@ -1,12 +1,10 @@
 //! Bytes in hexadecimal.
 ghost use Rattle.std.specs.Prelude.{◌≡◌, ◌≤◌, ◌*◌, take, length, true, false, Ok, MatchOption, MatchResult, IsOk};
-ghost use Rattle.hex.specs.Hex.{decode_of};
+ghost use Rattle.hex.specs.Hex.{decode_of, encode_lower};
 
-/// The most bytes that the hexadecimal text of a line holds.
-pub const MAX_BYTES: usize = 4096;
-
-/// Reads a hexadecimal text into the front of `room` and answers how many bytes it holds, where it
-/// is one: an even number of digits, `A` to `F` in either case.
+/// Reads a hexadecimal text to the front of `room`, which has to have room for it, and returns how
+/// many bytes it holds, where it is one: an even number of digits, `A` to `F` in either case. Takes
+/// no memory.
 pub fn decode_into(text: &[u8], room: &mut [u8]) -> Option<usize>
     requires { length text.now ≤ 2 * length room.old }
     ensures { MatchOption result (¬ IsOk (decode_of text.now))
@@ -21,6 +19,14 @@ pub fn decode_into(text: &[u8], room: &mut [u8]) -> Option<usize>
     } else {
         None
     }
+}
+
+/// Writes the lower case digits of bytes, which are to fill `digits`. Takes no memory.
+pub fn encode_to(bytes: &[u8], digits: &mut [u8])
+    requires { length digits.old ≡ 2 * length bytes.now }
+    ensures { digits.new ≡ encode_lower bytes.now }
+{
+    hex::encode_to_slice(bytes, digits).unwrap();
 }
 
 /// Whether the bytes of a hexadecimal text now fill `out`.

@@ -1,0 +1,21 @@
+-- The digits of a text as the code reads them. No public clause cites this module.
+use Rattle.std.specs.Prelude.{ℕ, ◌+◌, ◌-◌, ◌*◌, min, List, slice_index}
+use Rattle.aprs_log.specs.Moment.{Civil}
+
+-- the value of a digit, and of another byte that of the digit next to it
+abbrev pub near_digit : ℕ → ℕ
+near_digit b = min 9 (b - 48)
+
+abbrev pub near_pair : List ℕ → ℕ → ℕ
+near_pair t i = 10 * near_digit (slice_index t i) + near_digit (slice_index t (i + 1))
+
+-- the civil time whose digits are nearest to the bytes at their places in a text
+abbrev pub near_civil : List ℕ → Civil
+near_civil t = record {
+  year = 100 * near_pair t 0 + near_pair t 2;
+  month = near_pair t 5;
+  day = near_pair t 8;
+  hour = near_pair t 11;
+  minute = near_pair t 14;
+  second = near_pair t 17;
+}
