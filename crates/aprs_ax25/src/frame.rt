@@ -21,6 +21,7 @@ use crate::bytes::{copied, push_all};
 use crate::callsign::Callsign;
 use crate::fault::{FrameFault, MakeFault};
 use crate::hop::Hop;
+use crate::plain::plain_field_len;
 use crate::scan::{CONTROL_UI, PID_NONE, end_of_field, fault_of, seven_at};
 use arrayvec::ArrayVec;
 use std::cmp::Ordering;
@@ -59,7 +60,7 @@ impl Frame {
         ensures frame { IfOk result (λ frame. FrameOf (parts_of frame) frame) }
         ensures only { (parts : Parts) → FrameOf parts bytes.now → IsOk result }
     {
-        match fault_of(bytes) {
+        match fault_in(bytes) {
             Some(fault) => Err(fault),
             None => Ok(Frame::of(bytes)),
         }
@@ -72,7 +73,7 @@ impl Frame {
         ensures fault { IfErr result (λ fault. frame_of bytes.now ≡ Err fault) }
         ensures unchanged { OnErr result (self.new ≡ self.old) }
     {
-        match fault_of(bytes) {
+        match fault_in(bytes) {
             Some(fault) => Err(fault),
             None => {
                 self.put(bytes);
@@ -235,6 +236,16 @@ impl PartialOrd for Frame {
 
     fn partial_cmp(&self, other: &Frame) -> Option<Ordering> {
         Some(self.cmp(other))
+    }
+}
+
+/// The first fault of the bytes as a frame.
+fn fault_in(bytes: &[u8]) -> Option<FrameFault>
+    ensures { result ≡ frame_fault bytes.now }
+{
+    match plain_field_len(bytes) {
+        Some(_) => None,
+        None => fault_of(bytes),
     }
 }
 
