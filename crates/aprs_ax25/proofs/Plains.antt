@@ -1,12 +1,12 @@
 -- Lemmas on frames that are seen to be fine in one pass.
-use Rattle.std.proofs.Common.{◌≡◌, ℕ, ◌+◌, ◌-◌, ◌*◌, ◌/◌, ◌%◌, ◌≤◌, ◌<◌, ◌==◌, suc, zero, List, [], ◌∷◌, ◌++◌, length, take, drop, Bool, true, false, not, cond, ◌&&◌, ◌||◌, nat_le, nat_lt, None, arith, sym, ap, ◌∙◌, refl, slice_index, subst, take-append-drop}
+use Rattle.std.proofs.Common.{◌≡◌, ℕ, ◌+◌, ◌-◌, ◌*◌, ◌/◌, ◌%◌, ◌≤◌, ◌<◌, ◌==◌, suc, zero, List, [], ◌∷◌, ◌++◌, length, get_or, take, drop, Bool, true, false, not, cond, ◌&&◌, ◌||◌, nat_le, nat_lt, None, arith, sym, ap, ◌∙◌, refl, slice_index, subst, take-append-drop, inl, inr}
 use Rattle.std.specs.List.{list_all, position_or_len}
-use Rattle.std.proofs.lemmas.List.{length-take-le, length-drop, take-take, drop-drop, drop-take, take_more, get_or-take, drop_more}
-use Rattle.std.proofs.lemmas.Bool.{and_parts, and_from, eqb-true, eqb-false, ne_eqb, le-leb, leb-true, lt-ltb}
+use Rattle.std.proofs.lemmas.List.{length-take-le, length-drop, take-take, drop-drop, drop-take, take_more, get_or-take, get_or-drop, drop_more}
+use Rattle.std.proofs.lemmas.Bool.{and_parts, and_from, eqb-true, eqb-false, ne_eqb, le-leb, leb-true, lt-ltb, lt-leb, cases_lt}
 use Rattle.aprs_ax25.specs.Callsign.{is_callsign_byte}
 use Rattle.aprs_ax25.specs.FrameFault.{ends_field, field_len, field_of, after_field, is_field_len, sevens, has_callsign, is_no_letter, is_space_octet, letters_len, is_wrong, frame_fault, addresses}
 use Rattle.aprs_ax25.specs.declared.fault.FrameFault.TheVariants.{Address, Callsign}
-use Rattle.aprs_ax25.specs.Plain.{is_letter_octet, letters_then_spaces, IsPlainAddress}
+use Rattle.aprs_ax25.specs.Plain.{is_letter_octet, letters_then_spaces, may_follow, IsPlainAddress}
 use Rattle.aprs_ax25.specs.Scan.{fault_after_field}
 use Rattle.aprs_ax25.proofs.Addresses.{are_even}
 use Rattle.aprs_ax25.proofs.Fields.{position-past}
@@ -123,6 +123,129 @@ plain-address octets seven first all =
       even = plain-even true six all;
     }
 
+-- ---- two addresses at once
+
+or-parts : (a b : Bool) → (a || b) ≡ true → a ≡ false → b ≡ true
+or-parts true b h e = let no : true ≡ false = e in cc
+or-parts false b h e = h
+
+-- what is looked at inside a callsign
+inside : (i before octet : ℕ) → (i == 5) ≡ false → nat_le 12 i ≡ false → (i == 6) ≡ false → may_follow i before octet ≡ true
+    → (octet == 64 || (is_letter_octet before && is_letter_octet octet)) ≡ true
+inside i before octet a b d h =
+    let e : ((is_letter_octet octet && is_letter_octet before) || octet == 64) ≡ true
+    = ap (λ t. ((false || false) || (is_letter_octet octet && (t || is_letter_octet before))) || (not t && octet == 64)) (sym d)
+      ∙ ap (λ t. ((false || t) || (is_letter_octet octet && (i == 6 || is_letter_octet before))) || (not (i == 6) && octet == 64)) (sym b)
+      ∙ ap (λ t. ((t || nat_le 12 i) || (is_letter_octet octet && (i == 6 || is_letter_octet before))) || (not (i == 6) && octet == 64)) (sym a)
+      ∙ h in
+    turned (is_letter_octet octet) (is_letter_octet before) (octet == 64) e
+  where
+    turned : (x y z : Bool) → ((x && y) || z) ≡ true → (z || (y && x)) ≡ true
+    turned true true true h = refl
+    turned true true false h = refl
+    turned true false true h = refl
+    turned true false false h = h
+    turned false true true h = refl
+    turned false true false h = h
+    turned false false true h = refl
+    turned false false false h = h
+
+-- and at a callsign's first octet
+begins : (before octet : ℕ) → may_follow 6 before octet ≡ true → is_letter_octet octet ≡ true
+begins before octet h =
+    elim (is_letter_octet octet) as (λ t. is_letter_octet octet ≡ t → is_letter_octet octet ≡ true) [
+      | true ↦ λ e. e
+      | false ↦ λ e. absurd (let no : false ≡ true = ap (λ t. (false || (t && true)) || false) (sym e) ∙ h in cc)
+    ] refl
+
+follow : (o : ℕ) (os : List ℕ)
+    → ((k : ℕ) → k < length os → (get_or os k 0 == 64 || (is_letter_octet (get_or (o ∷ os) k 0) && is_letter_octet (get_or os k 0))) ≡ true)
+    → letters_then_spaces (is_letter_octet o) os ≡ true
+follow o [] h = refl
+follow o (x ∷ os) h = and_from _ _ (h 0 (omega arith)) (follow x os (λ k lt. h (suc k) (omega arith)))
+
+starts-with : (o : ℕ) → is_letter_octet o ≡ true → (o == 64 || (true && is_letter_octet o)) ≡ true
+starts-with o h = elim (o == 64) as (λ t. (t || is_letter_octet o) ≡ true) [ true ↦ refl | false ↦ h ]
+
+-- seven octets, each of which may stand after the one before
+seven-plain : (a : List ℕ) → length a ≡ 7 → is_letter_octet (slice_index a 0) ≡ true
+    → ((k : ℕ) → k < 5 → (slice_index a (k + 1) == 64 || (is_letter_octet (slice_index a k) && is_letter_octet (slice_index a (k + 1)))) ≡ true)
+    → IsPlainAddress a
+seven-plain a seven first h =
+    let six = take 6 a in
+    let len : length six ≡ 6 = length-take-le 6 a (omega arith) in
+    let o = slice_index six 0 in
+    let os = drop 1 six in
+    let is : six ≡ o ∷ os = drop_more six 0 0 (omega arith) in
+    let start : is_letter_octet o ≡ true = ap is_letter_octet (get_or-take 6 a 0 0 (omega arith)) ∙ first in
+    let more : letters_then_spaces (is_letter_octet o) os ≡ true
+    = follow o os (λ k lt.
+        let small : k < 5 = omega (arith, length-drop 1 six) in
+        let here : get_or (o ∷ os) k 0 ≡ slice_index a k = ap (λ l. get_or l k 0) (sym is) ∙ get_or-take 6 a k 0 (omega arith) in
+        let one : 1 + k ≡ k + 1 = omega arith in
+        let next : get_or os k 0 ≡ slice_index a (k + 1)
+        = get_or-drop 1 six k 0 ∙ ap (slice_index six) one ∙ get_or-take 6 a (k + 1) 0 (omega arith) in
+        ap (λ x. x == 64 || (is_letter_octet (get_or (o ∷ os) k 0) && is_letter_octet x)) next
+        ∙ ap (λ x. slice_index a (k + 1) == 64 || (is_letter_octet x && is_letter_octet (slice_index a (k + 1)))) here
+        ∙ h k small) in
+    plain-address a seven first
+    (ap (letters_then_spaces true) is ∙ and_from _ _ (starts-with o start) (ap (λ t. letters_then_spaces t os) refl ∙ more))
+
+-- each octet of two addresses may stand after the one before
+abbrev pub Follows : List ℕ → ℕ → Type 0
+Follows octets n = (k : ℕ) → k < n → may_follow k (slice_index octets k) (slice_index octets (k + 1)) ≡ true
+
+module _ (octets : List ℕ) (many : 17 ≤ length octets) (all : Follows octets 16) where
+  inside-at : (k : ℕ) → k < 16 → (k ≡ 5 → ⊥) → k < 12 → (k ≡ 6 → ⊥)
+      → (slice_index octets (k + 1) == 64 || (is_letter_octet (slice_index octets k) && is_letter_octet (slice_index octets (k + 1)))) ≡ true
+  inside-at k lt a b d = inside k (slice_index octets k) (slice_index octets (k + 1)) (ne_eqb k 5 a) (lt-leb 12 k b) (ne_eqb k 6 d) (all k lt)
+
+  pub first-plain : is_letter_octet (slice_index octets 0) ≡ true → IsPlainAddress (take 7 octets)
+  first-plain h =
+      let a = take 7 octets in
+      seven-plain a (length-take-le 7 octets (omega arith)) (ap is_letter_octet (get_or-take 7 octets 0 0 (omega arith)) ∙ h)
+      (λ k lt.
+          ap (λ x. x == 64 || (is_letter_octet (slice_index a k) && is_letter_octet x)) (get_or-take 7 octets (k + 1) 0 (omega arith))
+          ∙ ap (λ x. slice_index octets (k + 1) == 64 || (is_letter_octet x && is_letter_octet (slice_index octets (k + 1)))) (get_or-take 7 octets k 0 (omega arith))
+          ∙ inside-at k (omega arith) (λ e. omega arith) (omega arith) (λ e. omega arith))
+
+  at-second : (k : ℕ) → k < 7 → slice_index (take 7 (drop 7 octets)) k ≡ slice_index octets (7 + k)
+  at-second k lt = get_or-take 7 (drop 7 octets) k 0 lt ∙ get_or-drop 7 octets k 0
+
+  pub second-plain : IsPlainAddress (take 7 (drop 7 octets))
+  second-plain =
+      let a = take 7 (drop 7 octets) in
+      seven-plain a (length-take-le 7 (drop 7 octets) (omega (arith, length-drop 7 octets)))
+      (ap is_letter_octet (at-second 0 (omega arith)) ∙ begins (slice_index octets 6) (slice_index octets 7) (all 6 (omega arith)))
+      (λ k lt.
+          let next : 7 + (k + 1) ≡ (7 + k) + 1 = omega arith in
+          ap (λ x. x == 64 || (is_letter_octet (slice_index a k) && is_letter_octet x)) (at-second (k + 1) (omega arith) ∙ ap (slice_index octets) next)
+          ∙ ap (λ x. slice_index octets ((7 + k) + 1) == 64 || (is_letter_octet x && is_letter_octet (slice_index octets ((7 + k) + 1)))) (at-second k (omega arith))
+          ∙ inside-at (7 + k) (omega arith) (λ e. omega arith) (omega arith) (λ e. omega arith))
+
+pub first-of-window : (octets : List ℕ) → 17 ≤ length octets → is_letter_octet (slice_index (take 17 octets) 0) ≡ true → Follows (take 17 octets) 16
+    → IsPlainAddress (take 7 octets)
+first-of-window octets many first all =
+    let len = length-take-le 17 octets many in
+    subst IsPlainAddress (take-take 7 17 octets (omega arith)) (first-plain (take 17 octets) (omega arith) all first)
+
+pub second-of-window : (octets : List ℕ) → 17 ≤ length octets → Follows (take 17 octets) 16 → IsPlainAddress (take 7 (drop 7 octets))
+second-of-window octets many all =
+    let len = length-take-le 17 octets many in
+    let e : take 7 (drop 7 (take 17 octets)) ≡ take 7 (drop 7 octets)
+    = ap (take 7) (drop-take 7 10 octets) ∙ take-take 7 10 (drop 7 octets) (omega arith) in
+    subst IsPlainAddress e (second-plain (take 17 octets) (omega arith) all)
+
+pub Follows-more : (octets : List ℕ) (i : ℕ) (b : Bool) → Follows octets i → b ≡ may_follow i (slice_index octets i) (slice_index octets (i + 1))
+    → b ≡ true → Follows octets (i + 1)
+Follows-more octets i b held is fine k lt = elim (cases_lt k i) [
+  | inl low ↦ held k low
+  | inr high ↦ (
+      let e : i ≡ k = omega arith in
+      subst (λ (n : ℕ). may_follow n (slice_index octets n) (slice_index octets (n + 1)) ≡ true) e (sym is ∙ fine)
+      )
+]
+
 -- ---- one address after another
 
 -- so many addresses are fine, none of which ends the field, and the rest comes after them
@@ -232,3 +355,16 @@ module _ (count : ℕ) (bytes rest address after : List ℕ) (held : ArePlain co
         (le-leb n 70 (omega arith)))) in
         let here : after_field bytes ≡ after = ap (λ k. drop k bytes) (sym e) ∙ sym after-is in
         sym (frame_fault-after bytes address_fine all-callsigns) ∙ ap fault_after_field here ∙ rest_fine
+
+-- the first of two addresses that were looked at together
+module _ (count : ℕ) (bytes rest first more second after : List ℕ) (held : ArePlain count bytes rest) (many : 17 ≤ length rest)
+    (f : first ≡ take 7 rest) (r : more ≡ drop 7 rest) (g : second ≡ take 7 more)
+    (plain : IsPlainAddress (take 7 rest)) (next : IsPlainAddress (take 7 (drop 7 rest))) (even : ends_field (slice_index first 6) ≡ false) where
+  pub past-first : ArePlain (count + 1) bytes more
+  past-first = ArePlain-more count bytes rest first more held (omega arith) f r (subst IsPlainAddress (sym f) plain) even
+
+  pub second-many : 7 ≤ length more
+  second-many = omega (arith, ap length r, length-drop 7 rest)
+
+  pub second-is : IsPlainAddress second
+  second-is = subst IsPlainAddress (sym (g ∙ ap (take 7) r)) next

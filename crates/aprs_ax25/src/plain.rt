@@ -1,7 +1,7 @@
 //! Frames that are seen to be fine in one pass over their addresses, as nearly all are.
-ghost use Rattle.std.specs.Prelude.{◌≡◌, ◌+◌, ◌*◌, ◌/◌, ◌%◌, ◌≤◌, length, true, None, IfSome};
-ghost use Rattle.aprs_ax25.specs.FrameFault.{field_len, frame_fault};
-ghost use Rattle.aprs_ax25.specs.Plain.{is_letter_octet, IsPlainAddress};
+ghost use Rattle.std.specs.Prelude.{◌≡◌, ◌≤◌, length, take, drop, slice_index, true, None, IfSome};
+ghost use Rattle.aprs_ax25.specs.FrameFault.{ends_field, field_len, frame_fault};
+ghost use Rattle.aprs_ax25.specs.Plain.{is_letter_octet, may_follow, IsPlainAddress};
 ghost use Rattle.aprs_ax25.specs.Scan.{fault_after_field};
 
 use crate::scan::{CONTROL_UI, PID_NONE, is_callsign_byte};
@@ -12,24 +12,38 @@ pub fn plain_field_len(bytes: &[u8]) -> Option<usize>
     ensures { IfSome result (λ len. (frame_fault bytes.now ≡ None) × (len ≡ field_len bytes.now)) }
 {
     let mut rest = bytes;
-    for count in 0..10 {
-        if rest.len() < 7 {
+    for pair in 0..5 {
+        if rest.len() < 17 {
             return None;
         }
-        let (address, after) = rest.split_at(7);
-        if !is_plain_callsign(address) {
+        let (first, more) = rest.split_at(7);
+        if ends_field(first) {
+            if pair > 0 && is_plain_callsign(first) && is_plain_rest(more) {
+                return Some(14 * pair + 7);
+            }
             return None;
         }
-        if address[6] % 2 == 1 {
-            return if count > 0 && is_plain_rest(after) {
-                Some(7 * count + 7)
-            } else {
-                None
-            };
+        if !are_plain_callsigns(rest) {
+            return None;
+        }
+        let (second, after) = more.split_at(7);
+        if ends_field(second) {
+            if is_plain_rest(after) {
+                return Some(14 * pair + 14);
+            }
+            return None;
         }
         rest = after;
     }
     None
+}
+
+/// Whether the last of an address's octets ends the address field.
+fn ends_field(address: &[u8]) -> bool
+    requires { length address.now ≡ 7 }
+    ensures { result ≡ ends_field (slice_index address.now 6) }
+{
+    address[6] % 2 == 1
 }
 
 /// Whether control, PID and 1 to 256 bytes of information stand there.
@@ -56,6 +70,32 @@ fn is_plain_callsign(octets: &[u8]) -> bool
         after_letter = is_letter;
     }
     is_fine
+}
+
+/// The same of two addresses, which are looked at together: all sixteen octets after the first in
+/// one step of the processor. So ten octets stand after the first address.
+fn are_plain_callsigns(octets: &[u8]) -> bool
+    requires { 17 ≤ length octets.now }
+    ensures first { result ≡ true → IsPlainAddress (take 7 octets.now) }
+    ensures second { result ≡ true → IsPlainAddress (take 7 (drop 7 octets.now)) }
+{
+    let looked_at = &octets[..17];
+    let mut are_fine = is_letter_octet(looked_at[0]);
+    for i in 0..16 {
+        are_fine &= may_follow(i, looked_at[i], looked_at[i + 1]);
+    }
+    are_fine
+}
+
+/// Whether an octet may stand after octet i of two addresses, as far as callsigns go: the second
+/// callsign begins after octet 6, and after octets 5 and 12 comes none of a callsign's.
+fn may_follow(i: usize, before: u8, octet: u8) -> bool
+    ensures { result ≡ may_follow i before octet }
+{
+    let is_first = i == 6;
+    let is_other = (i == 5) | (i >= 12);
+    let is_letter = is_letter_octet(octet) & (is_first | is_letter_octet(before));
+    is_other | is_letter | (!is_first & (octet == SPACE_OCTET))
 }
 
 /// A space, shifted left by one bit.
