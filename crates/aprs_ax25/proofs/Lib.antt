@@ -1,4 +1,5 @@
 pub mod Scans
+pub mod Plains
 pub mod Calls
 pub mod CallTexts
 pub mod Addresses

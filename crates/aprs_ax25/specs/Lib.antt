@@ -6,6 +6,7 @@ pub mod Frame
 pub mod FrameFault
 pub mod Fault
 pub mod Scan
+pub mod Plain
 pub mod Law
 pub mod Hop
 pub mod CallText

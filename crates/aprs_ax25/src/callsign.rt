@@ -158,21 +158,44 @@ fn letters_of(octets: &[u8]) -> ArrayVec<u8, 6>
         ≡ map (λ octet. octet / 2) (take (letters_len octets.now) octets.now) }
 {
     let mut letters = ArrayVec::new();
-    for octet in &octets[..6] {
-        let letter = octet / 2;
-        if !is_callsign_byte(letter) {
-            return letters;
-        }
-        letters.push(letter);
-    }
+    push_letters(&mut letters, octets);
     letters
 }
 
+/// Puts them at the end.
+fn push_letters<const N: usize>(out: &mut ArrayVec<u8, N>, octets: &[u8])
+    requires six { 6 ≤ length octets.now }
+    requires room { array_vec_len out.old + 6 ≤ N }
+    ensures letters { out.new.items ≡ out.old.items
+        ++ map (λ octet. octet / 2) (take (letters_len octets.now) octets.now) }
+    ensures most { array_vec_len out.new ≤ array_vec_len out.old + 6 }
+{
+    for octet in &octets[..6] {
+        let letter = octet / 2;
+        if !is_callsign_byte(letter) {
+            return;
+        }
+        out.push(letter);
+    }
+}
+
+/// Puts at the end the text of the callsign that an address's seven octets have.
+pub fn push_text_at<const N: usize>(out: &mut ArrayVec<u8, N>, octets: &[u8])
+    requires room { array_vec_len out.old + 9 ≤ N }
+    requires seven { length octets.now ≡ 7 }
+    ensures text { out.new.items ≡ out.old.items ++ call_text (call_of octets.now) }
+    ensures most { array_vec_len out.new ≤ array_vec_len out.old + 9 }
+{
+    push_letters(out, octets);
+    push_ssid(out, octets[6] / 2 % 16);
+}
+
 /// Puts a dash and the SSID at the end, unless it is 0.
-fn push_ssid(text: &mut ArrayVec<u8, 9>, ssid: u8)
-    requires room { array_vec_len text.old ≤ 6 }
+fn push_ssid<const N: usize>(text: &mut ArrayVec<u8, N>, ssid: u8)
+    requires room { array_vec_len text.old + 3 ≤ N }
     requires ssid { ssid < 16 }
-    ensures { text.new.items ≡ text.old.items ++ ssid_text ssid }
+    ensures text { text.new.items ≡ text.old.items ++ ssid_text ssid }
+    ensures most { array_vec_len text.new ≤ array_vec_len text.old + 3 }
 {
     match ssid {
         0 => {}

@@ -1,10 +1,11 @@
 //! UI frames.
 ghost use Rattle.std.specs.Prelude.{◌≡◌, if◌then◌else◌, ◌<◌, ◌≤◌, [], ◌∷◌, ◌++◌, length, map, None};
-ghost use Rattle.std.specs.Prelude.{IsOk, IfOk, IfErr, OnOk, OnErr, Ok, Err, slice_get};
+ghost use Rattle.std.specs.Prelude.{◌+◌, MatchOption, IsOk, IfOk, IfErr, OnOk, OnErr, Ok, Err, slice_get};
 ghost use Rattle.std.specs.List.{AllByRecursion};
 ghost use Rattle.std.specs.Result.{result_err};
 ghost use Rattle.arrayvec.specs.ArrayVec.{array_vec_len};
-ghost use Rattle.aprs_ax25.specs.Address.{IsAddress};
+ghost use Rattle.aprs_ax25.specs.Address.{IsAddress, is_repeated};
+ghost use Rattle.aprs_ax25.specs.Callsign.{call_text};
 ghost use Rattle.std.specs.Option.{option_map};
 ghost use Rattle.aprs_ax25.specs.Frame.{Parts, FrameOf, address_field};
 ghost use Rattle.aprs_ax25.specs.FrameFault.{frame_of, frame_fault, parts_of};
@@ -18,9 +19,10 @@ ghost use Rattle.std.specs.Cmp.Rules.{comparing};
 ghost use Rattle.aprs_ax25.specs.Order.{bytes_cmp, bytes_eq};
 
 use crate::bytes::{copied, push_all};
-use crate::callsign::Callsign;
+use crate::callsign::{Callsign, push_text_at};
 use crate::fault::{FrameFault, MakeFault};
 use crate::hop::Hop;
+use crate::plain::plain_field_len;
 use crate::scan::{CONTROL_UI, PID_NONE, end_of_field, fault_of, seven_at};
 use arrayvec::ArrayVec;
 use std::cmp::Ordering;
@@ -59,7 +61,7 @@ impl Frame {
         ensures frame { IfOk result (λ frame. FrameOf (parts_of frame) frame) }
         ensures only { (parts : Parts) → FrameOf parts bytes.now → IsOk result }
     {
-        match fault_of(bytes) {
+        match fault_in(bytes) {
             Some(fault) => Err(fault),
             None => Ok(Frame::of(bytes)),
         }
@@ -72,7 +74,7 @@ impl Frame {
         ensures fault { IfErr result (λ fault. frame_of bytes.now ≡ Err fault) }
         ensures unchanged { OnErr result (self.new ≡ self.old) }
     {
-        match fault_of(bytes) {
+        match fault_in(bytes) {
             Some(fault) => Err(fault),
             None => {
                 self.put(bytes);
@@ -162,6 +164,47 @@ impl Frame {
         Callsign::at(seven_at(&self.bytes, 0))
     }
 
+    /// Puts the source's text at the end, as `source` and `Callsign::text` give it: at most 9 bytes.
+    /// Takes no memory.
+    pub fn push_source_text<const N: usize>(&self, out: &mut ArrayVec<u8, N>)
+        requires room { array_vec_len out.old + 9 ≤ N }
+        ensures text { out.new.items ≡ out.old.items ++ call_text (parts_of self.now).source.call }
+        ensures most { array_vec_len out.new ≤ array_vec_len out.old + 9 }
+    {
+        push_text_at(out, seven_at(&self.bytes, 7));
+    }
+
+    /// Puts the destination's text at the end: at most 9 bytes. Takes no memory.
+    pub fn push_destination_text<const N: usize>(&self, out: &mut ArrayVec<u8, N>)
+        requires room { array_vec_len out.old + 9 ≤ N }
+        ensures text { out.new.items ≡ out.old.items
+            ++ call_text (parts_of self.now).destination.call }
+        ensures most { array_vec_len out.new ≤ array_vec_len out.old + 9 }
+    {
+        push_text_at(out, seven_at(&self.bytes, 0));
+    }
+
+    /// Where there is a digipeater number i, counted as by `hop`, puts the text of its callsign at
+    /// the end, at most 9 bytes, and returns whether it has repeated the frame. Takes no memory.
+    pub fn push_hop_text<const N: usize>(&self, i: usize, out: &mut ArrayVec<u8, N>) -> Option<bool>
+        requires room { array_vec_len out.old + 9 ≤ N }
+        ensures repeated { result
+            ≡ option_map is_repeated (slice_get (parts_of self.now).digipeaters i) }
+        ensures text { MatchOption (slice_get (parts_of self.now).digipeaters i)
+            (out.new.items ≡ out.old.items)
+            (λ a. out.new.items ≡ out.old.items ++ call_text a.call) }
+        ensures most { array_vec_len out.new ≤ array_vec_len out.old + 9 }
+    {
+        if i < self.hops() {
+            let octets = seven_at(&self.bytes, 7 * (i + 2));
+            let repeated = octets[6] >= 128;
+            push_text_at(out, octets);
+            Some(repeated)
+        } else {
+            None
+        }
+    }
+
     /// How many digipeaters the frame names, 0 to 8. Takes no memory.
     pub fn hops(&self) -> usize
         ensures value { result ≡ length (parts_of self.now).digipeaters }
@@ -235,6 +278,16 @@ impl PartialOrd for Frame {
 
     fn partial_cmp(&self, other: &Frame) -> Option<Ordering> {
         Some(self.cmp(other))
+    }
+}
+
+/// The first fault of the bytes as a frame.
+fn fault_in(bytes: &[u8]) -> Option<FrameFault>
+    ensures { result ≡ frame_fault bytes.now }
+{
+    match plain_field_len(bytes) {
+        Some(_) => None,
+        None => fault_of(bytes),
     }
 }
 

@@ -7,6 +7,7 @@ mod fault;
 mod frame;
 mod hop;
 mod law;
+mod plain;
 mod scan;
 
 pub use callsign::Callsign;

@@ -145,6 +145,7 @@ fn fault_of_info(len: usize) -> Option<FrameFault>
 }
 
 /// The first fault of the bytes as a frame.
+#[cold]
 pub fn fault_of(bytes: &[u8]) -> Option<FrameFault>
     ensures { result ≡ frame_fault bytes.now }
 {

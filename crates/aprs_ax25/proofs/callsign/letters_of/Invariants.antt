@@ -1,9 +1,0 @@
-use Rattle.std.proofs.Common.{◌≡◌, ℕ, ◌<◌, ◌/◌, get_or, map, take, false}
-use Rattle.aprs_ax25.specs.FrameFault.{is_no_letter}
-use Rattle.aprs_ax25.proofs.callsign.letters_of.Given as goal
-
-abbrev pub invariant-loop-octet : goal.invariant-loop-octet
-invariant-loop-octet l = record {
-  letters : l.letters.items ≡ map (λ octet. octet / 2) (take l.octet-index (take 6 l.octets));
-  before : (k : ℕ) → k < l.octet-index → is_no_letter (get_or (take 6 l.octets) k 0) ≡ false;
-}

@@ -1,0 +1,110 @@
+//! Frames that are seen to be fine in one pass over their addresses, as nearly all are.
+ghost use Rattle.std.specs.Prelude.{◌≡◌, ◌≤◌, length, take, drop, slice_index, true, None, IfSome};
+ghost use Rattle.aprs_ax25.specs.FrameFault.{ends_field, field_len, frame_fault};
+ghost use Rattle.aprs_ax25.specs.Plain.{is_letter_octet, may_follow, IsPlainAddress};
+ghost use Rattle.aprs_ax25.specs.Scan.{fault_after_field};
+
+use crate::scan::{CONTROL_UI, PID_NONE, is_callsign_byte};
+
+/// How many octets the address field has, where the bytes are a frame and one look at each octet
+/// of the field shows it. Where nothing comes, `fault_of` decides.
+pub fn plain_field_len(bytes: &[u8]) -> Option<usize>
+    ensures { IfSome result (λ len. (frame_fault bytes.now ≡ None) × (len ≡ field_len bytes.now)) }
+{
+    let mut rest = bytes;
+    for pair in 0..5 {
+        if rest.len() < 17 {
+            return None;
+        }
+        let (first, more) = rest.split_at(7);
+        if ends_field(first) {
+            if pair > 0 && is_plain_callsign(first) && is_plain_rest(more) {
+                return Some(14 * pair + 7);
+            }
+            return None;
+        }
+        if !are_plain_callsigns(rest) {
+            return None;
+        }
+        let (second, after) = more.split_at(7);
+        if ends_field(second) {
+            if is_plain_rest(after) {
+                return Some(14 * pair + 14);
+            }
+            return None;
+        }
+        rest = after;
+    }
+    None
+}
+
+/// Whether the last of an address's octets ends the address field.
+fn ends_field(address: &[u8]) -> bool
+    requires { length address.now ≡ 7 }
+    ensures { result ≡ ends_field (slice_index address.now 6) }
+{
+    address[6] % 2 == 1
+}
+
+/// Whether control, PID and 1 to 256 bytes of information stand there.
+fn is_plain_rest(rest: &[u8]) -> bool
+    ensures { result ≡ true → fault_after_field rest.now ≡ None }
+{
+    match rest {
+        [CONTROL_UI, PID_NONE, info @ ..] => !info.is_empty() && info.len() <= 256,
+        _ => false,
+    }
+}
+
+/// Whether the first six of an address's octets are letters or digits and then spaces, each with
+/// bit 0 clear. There is no early end, so that nothing hangs on how long a callsign is.
+fn is_plain_callsign(octets: &[u8]) -> bool
+    requires { length octets.now ≡ 7 }
+    ensures { result ≡ true → IsPlainAddress octets.now }
+{
+    let mut is_fine = is_letter_octet(octets[0]);
+    let mut after_letter = true;
+    for octet in &octets[..6] {
+        let is_letter = is_letter_octet(*octet);
+        is_fine &= (*octet == SPACE_OCTET) | (after_letter & is_letter);
+        after_letter = is_letter;
+    }
+    is_fine
+}
+
+/// The same of two addresses, which are looked at together: all sixteen octets after the first in
+/// one step of the processor. So ten octets stand after the first address.
+fn are_plain_callsigns(octets: &[u8]) -> bool
+    requires { 17 ≤ length octets.now }
+    ensures first { result ≡ true → IsPlainAddress (take 7 octets.now) }
+    ensures second { result ≡ true → IsPlainAddress (take 7 (drop 7 octets.now)) }
+{
+    let looked_at = &octets[..17];
+    let mut are_fine = is_letter_octet(looked_at[0]);
+    for i in 0..16 {
+        are_fine &= may_follow(i, looked_at[i], looked_at[i + 1]);
+    }
+    are_fine
+}
+
+/// Whether an octet may stand after octet i of two addresses, as far as callsigns go: the second
+/// callsign begins after octet 6, and after octets 5 and 12 comes none of a callsign's.
+fn may_follow(i: usize, before: u8, octet: u8) -> bool
+    ensures { result ≡ may_follow i before octet }
+{
+    let is_first = i == 6;
+    let is_other = (i == 5) | (i >= 12);
+    let is_letter = is_letter_octet(octet) & (is_first | is_letter_octet(before));
+    is_other | is_letter | (!is_first & (octet == SPACE_OCTET))
+}
+
+/// A space, shifted left by one bit.
+const SPACE_OCTET: u8 = 64;
+
+/// Whether the octet is a letter or digit, shifted left by one bit.
+fn is_letter_octet(octet: u8) -> bool
+    ensures { result ≡ is_letter_octet octet }
+{
+    // Bit 0 becomes bit 7, which no letter has.
+    is_callsign_byte(octet / 2 + 128 * (octet % 2))
+}
