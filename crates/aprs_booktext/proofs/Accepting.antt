@@ -39,7 +39,7 @@ module _ (limit : ℕ) (head rest : List ℕ) (after : Option (List ℕ)) (rows 
       let same : head ++ rest ≡ (head ++ h.got) = gets.whole ∙ ap (λ l. (head ++ h.got) ++ l) gets.ends.0 ∙ append-nil (head ++ h.got) in
       one_text found rows h.reads.1 is (sym h.reads.0 ∙ sym same ∙ text_is)
   accepted (Err f) h read = elim h.reads [
-    | inl m ↦ m
+    | inl m ↦ m.refused
     | inr first ↦ absurd (faultless h.ending (head ++ h.got) f h.gets read first)
   ]
 

@@ -6,7 +6,7 @@ use Rattle.aprs_log.specs.LogAnswers.{Gets, EndsSo}
 use Rattle.aprs_log.specs.declared.Ending.{Ending}
 use Rattle.aprs_log.specs.declared.Ending.TheVariants as ending
 use Rattle.aprs_laws.specs.Row.{Row}
-use Rattle.aprs_booktext.specs.FirstFault.{Reads, ReadsSo}
+use Rattle.aprs_booktext.specs.FirstFault.{Reads, ReadsSo, piece_most}
 use Rattle.aprs_booktext.specs.Reader.{IsFault}
 use Rattle.aprs_booktext.specs.declared.fault.BookFault.{BookFault}
 
@@ -66,14 +66,14 @@ pub Reads-got : (old after : Option (List ℕ)) (limit : ℕ) (head got : List �
 Reads-got None after limit head got e r gets reads = tt
 Reads-got (Some input) after limit head got e r gets reads = record { got = got; ending = e; gets = gets; reads = reads }
 
-pub fault_reads : (f : BookFault) (t : List ℕ) (e : Ending) → IsFault f t → ReadsSo (Err f) t e
+pub fault_reads : (f : BookFault) (t : List ℕ) (e : Ending) → IsFault piece_most f t → ReadsSo (Err f) t e
 fault_reads f t e h = elim h [
   | inl m ↦ inl m
   | inr first ↦ inr (first e)
 ]
 
 -- a fault in what was got
-pub Reads-fault : (f : BookFault) (head : List ℕ) (old now : Option (List ℕ)) (limit left : ℕ) → Got (IsFault f) head old now limit left
+pub Reads-fault : (f : BookFault) (head : List ℕ) (old now : Option (List ℕ)) (limit left : ℕ) → Got (IsFault piece_most f) head old now limit left
     → IfSome old (λ input. Reads limit head input now (Err f))
 Reads-fault f head old now limit left p =
-    Reads-got old now limit head p.got ending.Read (Err f) (Gets-read (IsFault f) head old now limit left p) (fault_reads f (head ++ p.got) ending.Read p.stands)
+    Reads-got old now limit head p.got ending.Read (Err f) (Gets-read (IsFault piece_most f) head old now limit left p) (fault_reads f (head ++ p.got) ending.Read p.stands)

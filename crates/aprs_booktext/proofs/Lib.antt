@@ -7,3 +7,4 @@ pub mod Inputs
 pub mod OneText
 pub mod RowReading
 pub mod Sending
+pub mod Written

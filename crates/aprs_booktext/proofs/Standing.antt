@@ -1,5 +1,5 @@
 -- Lemmas on what a reader of a book holds.
-use Rattle.std.proofs.Common.{◌≡◌, ℕ, ◌+◌, true, false, List, [], ◌∷◌, ◌++◌, length, map, Ok, Err, inl, inr, refl, sym, ap, ◌∙◌, subst, append_assoc, append-nil, length-append, arith}
+use Rattle.std.proofs.Common.{◌≡◌, ℕ, ◌+◌, ◌≤◌, true, false, List, [], ◌∷◌, ◌++◌, length, map, Ok, Err, inl, inr, refl, sym, ap, ◌∙◌, subst, append_assoc, append-nil, length-append, arith}
 use Rattle.std.specs.Prelude.{◌≢◌, All}
 use Rattle.std.proofs.lemmas.List.{length-map}
 use Rattle.std.proofs.lemmas.List.Concat.{flat_map-append}
@@ -9,7 +9,7 @@ use Rattle.aprs_log.specs.declared.Ending.{Ending}
 use Rattle.aprs_log.specs.declared.Ending.TheVariants as ending
 use Rattle.aprs_laws.specs.Row.{Row}
 use Rattle.aprs_booktext.specs.FirstFault.{FirstFault, missing}
-use Rattle.aprs_booktext.specs.Reader.{StandsAfter, IsFault, IsJudgedIn, line_number, lines_read, may_end}
+use Rattle.aprs_booktext.specs.Reader.{StandsAfter, IsFault, IsJudgedIn, is_done, line_number, lines_read, may_end}
 use Rattle.aprs_booktext.specs.Text.{header, row_line, lines_of, text_of_lines, ended_by_lf, IsBookRow, IsBookRows}
 use Rattle.aprs_booktext.specs.declared.fault.BookCause.{BookCause}
 use Rattle.aprs_booktext.specs.declared.fault.BookCause.TheVariants as cause
@@ -75,7 +75,7 @@ behind : (stage : Stage) (rows : List Row) (line t more : List ℕ) → StandsAf
 behind stage rows line t more s = ap (λ l. l ++ more) s.text_is ∙ append_assoc (text_of_lines (lines_read stage rows)) line more
 
 pub ended_fault : (stage : Stage) (old new : List Row) (line t more : List ℕ) (c : BookCause) → IsJudgedIn stage (Err c) old line new → StandsAfter stage old line t
-    → IsFault (record { line = line_number stage new; cause = c }) (t ++ 10 ∷ more)
+    → IsFault (length more + 1) (record { line = line_number stage new; cause = c }) (t ++ 10 ∷ more)
 ended_fault Header old new line t more c j s = inr (λ e. record {
   front = [];
   rest = line ++ 10 ∷ more;
@@ -84,7 +84,17 @@ ended_fault Header old new line t more c j s = inr (λ e. record {
   fault = inl (refl, inr (record { line = line; more = more; is = refl; one = s.one; holds = j.0 }));
 })
 ended_fault Rows old new line t more c j s = elim j.0 [
-  | inl m ↦ inl m
+  | inl m ↦ inl (record {
+    refused = m;
+    front = header ∷ map row_line old;
+    line = line;
+    more = 10 ∷ more;
+    whole = behind Rows old line t (10 ∷ more) s;
+    one = s.one;
+    near = omega arith;
+    begins = inr (old, s.book, refl);
+    number = ap (λ (rows : List Row). length rows + 2) j.1 ∙ number_is Rows old;
+  })
   | inr w ↦ inr (λ e. record {
     front = header ∷ map row_line old;
     rest = line ++ 10 ∷ more;
@@ -102,6 +112,49 @@ ended_fault Done old new line t more c j s =
       line = ap (λ (rows : List Row). length rows + 3) j.1 ∙ number_is Done old;
       fault = inr (old, s.book, inr (refl, inl (simp length-append (omega arith), is)));
     })
+
+-- memory is refused in the line that is read
+pub held_fault : (stage : Stage) (rows : List Row) (line t bytes more : List ℕ) → is_done stage ≡ false → StandsAfter stage rows line t
+    → IsFault (length bytes + length more) (record { line = line_number stage rows; cause = cause.Memory }) ((t ++ bytes) ++ more)
+held_fault Header rows line t bytes more going s = inl (record {
+  refused = refl;
+  front = [];
+  line = line;
+  more = bytes ++ more;
+  whole = append_assoc t bytes more ∙ behind Header rows line t (bytes ++ more) s;
+  one = s.one;
+  near = omega (arith, length-append bytes more);
+  begins = inl refl;
+  number = refl;
+})
+held_fault Rows rows line t bytes more going s = inl (record {
+  refused = refl;
+  front = header ∷ map row_line rows;
+  line = line;
+  more = bytes ++ more;
+  whole = append_assoc t bytes more ∙ behind Rows rows line t (bytes ++ more) s;
+  one = s.one;
+  near = omega (arith, length-append bytes more);
+  begins = inr (rows, s.book, refl);
+  number = number_is Rows rows;
+})
+held_fault Done rows line t bytes more going s = absurd (let f : true ≡ false = going in cc)
+
+pub fault_near : (few most : ℕ) (f : BookFault) (t : List ℕ) → few ≤ most → IsFault few f t → IsFault most f t
+fault_near few most f t less h = elim h [
+  | inl m ↦ inl (record {
+    refused = m.refused;
+    front = m.front;
+    line = m.line;
+    more = m.more;
+    whole = m.whole;
+    one = m.one;
+    near = omega (arith, m.near, less);
+    begins = m.begins;
+    number = m.number;
+  })
+  | inr first ↦ inr first
+]
 
 -- ---- the end
 
@@ -154,3 +207,13 @@ module _ (P Q : List ℕ → Type 0) (piece rest part after : List ℕ) (p : Fed
 
 pub Fed-all : (P Q : List ℕ → Type 0) (piece rest : List ℕ) → Fed P Q piece rest → (R : List ℕ → Type 0) → ((t : List ℕ) → Q t → R (t ++ rest)) → (t : List ℕ) → P t → R (t ++ piece)
 Fed-all P Q piece rest p R last t h = subst R (append_assoc t p.front rest ∙ ap (λ l. t ++ l) (sym p.whole)) (last (t ++ p.front) (p.fed t h))
+
+-- what is left of the piece is no longer than it
+pub Fed-len : (P Q : List ℕ → Type 0) (piece rest : List ℕ) → Fed P Q piece rest → length rest ≤ length piece
+Fed-len P Q piece rest p = let l = length-append p.front rest in omega (arith, l, ap length p.whole)
+
+pub Fed-rest : (P Q : List ℕ → Type 0) (piece rest part after : List ℕ) → Fed P Q piece rest → rest ≡ part ++ 10 ∷ after → length part + (length after + 1) ≤ length piece
+Fed-rest P Q piece rest part after p cuts =
+    let l = Fed-len P Q piece rest p in
+    let k = length-append part (10 ∷ after) in
+    omega (arith, l, k, ap length cuts)

@@ -1,6 +1,6 @@
 -- The first fault of a text that isn't that of a book. It lies right behind the longest front of
 -- lines that a book's text may begin with.
-use Rattle.std.specs.Prelude.{◌≡◌, ◌≢◌, ℕ, ◌+◌, ◌<◌, ◌==◌, ◌⊎◌, Bool, false, true, List, [], ◌∷◌, ◌++◌, length, map, codes, Option, Some, Result, Ok, Err, IsErr}
+use Rattle.std.specs.Prelude.{◌≡◌, ◌≢◌, ℕ, ◌+◌, ◌<◌, ◌≤◌, ◌==◌, ◌⊎◌, Bool, false, true, List, [], ◌∷◌, ◌++◌, length, map, codes, Option, Some, Result, Ok, Err, IsErr}
 use Rattle.std.specs.List.{starts_with}
 use Rattle.aprs_ax25.specs.FrameFault.{frame_of}
 use Rattle.aprs_log.specs.LogAnswers.{Gets}
@@ -99,13 +99,37 @@ pub record FirstFault (text : List ℕ) (e : Ending) (f : BookFault) : Type 0 wh
   pub line : f.line ≡ length front + 1
   pub fault : FaultBehind front rest e f.cause
 
+-- ---- where memory was refused
+
+-- these lines may stand in a book's text before a line that isn't behind its last
+abbrev pub BeginsBook : List (List ℕ) → Type 0
+BeginsBook front = (front ≡ [])
+    ⊎ ((rows : List Row) × IsBookRows rows × (front ≡ header ∷ map row_line rows))
+
+-- memory was refused in the line after those in front, where `line` was read of it, and of the
+-- text at most `most` bytes more
+pub record IsMemoryAt (most : ℕ) (text : List ℕ) (f : BookFault) : Type 0 where
+  pub refused : f.cause ≡ cause.Memory
+  pub front : List (List ℕ)
+  pub line : List ℕ
+  pub more : List ℕ
+  pub whole : text ≡ text_of_lines front ++ (line ++ more)
+  pub one : Lacks 10 line
+  pub near : length more ≤ most
+  pub begins : BeginsBook front
+  pub number : f.line ≡ length front + 1
+
 -- ---- how a text is read
 
+-- how many bytes are asked of a device at once, at most
+abbrev pub piece_most : ℕ
+piece_most = 16384
+
 -- rows are read of their text alone, and nothing but that; a fault is the first, unless memory was
--- refused before
+-- refused before, in the line that was being read
 abbrev pub ReadsSo : Result (List Row) BookFault → List ℕ → Ending → Type 0
 ReadsSo (Ok rows) text e = (text ≡ book_text rows) × IsBookRows rows × (e ≡ ending.End)
-ReadsSo (Err f) text e = (f.cause ≡ cause.Memory) ⊎ FirstFault text e f
+ReadsSo (Err f) text e = IsMemoryAt piece_most text f ⊎ FirstFault text e f
 
 -- some bytes were got of the input, behind its head, at most `limit`, and they are read so
 pub record Reads (limit : ℕ) (head input : List ℕ) (after : Option (List ℕ))

@@ -1,10 +1,11 @@
 -- What holds of all texts of books.
-use Rattle.std.specs.Prelude.{◌≡◌, ◌≢◌, ℕ, ◌^◌, ◌<◌, List, [], ◌++◌, length}
+use Rattle.std.specs.Prelude.{◌≡◌, ◌≢◌, ℕ, ◌^◌, ◌<◌, ◌≤◌, List, [], ◌++◌, length, Option, Result, IfErr}
 use Rattle.aprs_log.specs.declared.Ending.{Ending}
 use Rattle.aprs_log.specs.declared.Ending.TheVariants as ending
 use Rattle.aprs_laws.specs.Row.{Row}
-use Rattle.aprs_booktext.specs.FirstFault.{FirstFault, missing}
+use Rattle.aprs_booktext.specs.FirstFault.{FirstFault, IsBookOrMemory, missing, Reads}
 use Rattle.aprs_booktext.specs.Text.{book_text, IsBookRows}
+use Rattle.aprs_booktext.specs.declared.fault.BookCause.TheVariants as cause
 use Rattle.aprs_booktext.specs.declared.fault.BookFault.{BookFault}
 
 -- equal texts are of equal rows
@@ -17,3 +18,11 @@ abbrev pub AreCutShort : Type 0
 AreCutShort = (rows : List Row) → IsBookRows rows → length rows < 2 ^ 64
     → (text more : List ℕ) (e : Ending) (f : BookFault) → text ++ more ≡ book_text rows
     → FirstFault text e f → (f.cause ≡ missing e) × (e ≡ ending.End → more ≢ [])
+
+-- an input that is the text of a book gives that book, unless it is longer than the limit, a read
+-- failed or memory was refused
+abbrev pub AreReadBack : Type 0
+AreReadBack = (rows : List Row) → IsBookRows rows → (limit : ℕ) → limit ≤ 1073741824
+    → length (book_text rows) ≤ limit → (after : Option (List ℕ))
+    → (r : Result (List Row) BookFault) → Reads limit [] (book_text rows) after r
+    → IfErr r (λ f. f.cause ≢ cause.Read) → IsBookOrMemory r rows

@@ -1,6 +1,9 @@
 -- What goes out through a buffer. No public clause cites this module.
-use Rattle.std.specs.Prelude.{◌≡◌, ℕ, List, ◌++◌, Option}
+use Rattle.std.specs.Prelude.{◌≡◌, ◌<◌, ◌≤◌, ℕ, List, ◌++◌, Option, Ok, length}
 use Rattle.std.specs.Io.KnownBytes.{Appends}
+use Rattle.hex.specs.Hex.{IsBytes}
+use Rattle.aprs_ax25.specs.FrameFault.{frame_of}
+use Rattle.aprs_log.specs.Receiver.{IsName}
 use Rattle.aprs_laws.specs.Row.{Row}
 use Rattle.aprs_booktext.specs.Text.{ended_by_lf, row_line}
 
@@ -10,6 +13,13 @@ pub record Puts (old new : Option (List ℕ)) (held left bytes : List ℕ) : Typ
   pub gone : List ℕ
   pub parts : held ++ bytes ≡ gone ++ left
   pub sent : Appends old new gone
+
+-- a receiver and a frame that a row's line can spell
+pub record AreSpelled (who bytes : List ℕ) : Type 0 where
+  pub name_is : IsName who
+  pub bytes_are : IsBytes bytes
+  pub few : (0 < length bytes) × (length bytes ≤ 328)
+  pub frame_is : frame_of bytes ≡ Ok bytes
 
 -- a row's line, with its LF
 abbrev pub line_and_lf : Row → List ℕ

@@ -5,7 +5,7 @@ use Rattle.aprs_log.specs.declared.Ending.TheVariants as ending
 use Rattle.aprs_laws.specs.Gap.{gap_seconds}
 use Rattle.aprs_laws.specs.Row.{Row}
 use Rattle.aprs_laws.specs.Sound.{Sound}
-use Rattle.aprs_booktext.specs.FirstFault.{FirstFault, IsWrong}
+use Rattle.aprs_booktext.specs.FirstFault.{FirstFault, IsMemoryAt, IsWrong}
 use Rattle.aprs_booktext.specs.Lines.{Lacks}
 use Rattle.aprs_booktext.specs.Text.{header, row_line, end_line, lines_of, text_of_lines, IsBookRow, IsBookRows}
 use Rattle.aprs_booktext.specs.declared.fault.BookCause.{BookCause}
@@ -34,15 +34,22 @@ pub record StandsAfter (stage : Stage) (rows : List Row) (line text : List ℕ) 
   pub holds : HoldsIn stage rows line
   pub book : IsBookRows rows
 
--- a fault of a text, whatever follows it
-abbrev pub IsFault : BookFault → List ℕ → Type 0
-IsFault f text = (f.cause ≡ cause.Memory) ⊎ ((e : Ending) → FirstFault text e f)
+-- a fault of a text, whatever follows it; where memory was refused, at most `most` bytes of the
+-- text were not looked at
+abbrev pub IsFault : ℕ → BookFault → List ℕ → Type 0
+IsFault most f text = IsMemoryAt most text f ⊎ ((e : Ending) → FirstFault text e f)
 
 -- the number of the line that is read
 abbrev pub line_number : Stage → List Row → ℕ
 line_number Header rows = 1
 line_number Rows rows = length rows + 2
 line_number Done rows = length rows + 3
+
+-- whether the last line was read
+abbrev pub is_done : Stage → Bool
+is_done Header = false
+is_done Rows = false
+is_done Done = true
 
 -- whether a text may end there
 abbrev pub may_end : Stage → Ending → Bool

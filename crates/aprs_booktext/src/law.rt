@@ -1,9 +1,15 @@
-//! A law over all rows. Its function does nothing: what it ensures is the law.
-ghost use Rattle.aprs_booktext.specs.Law.{HaveOneText, AreCutShort};
+//! Laws over all rows. Their functions do nothing: what they ensure is the law.
+ghost use Rattle.aprs_booktext.specs.Law.{AreCutShort, AreReadBack, HaveOneText};
 
 /// The text of a book's rows is that of no other rows. What begins such a text, whole or not, has no
 /// fault but that a byte is missing behind it, and the whole text has none.
 pub fn each_book_has_one_text()
     ensures one { HaveOneText }
     ensures cut { AreCutShort }
+{}
+
+/// The rows of a text that was written whole are read back, where the text is within the limit, no
+/// read fails and memory isn't refused.
+pub fn written_books_are_read()
+    ensures { AreReadBack }
 {}

@@ -3,7 +3,7 @@ ghost use Rattle.std.specs.Prelude.{◌≡◌, ◌≢◌, ◌+◌, ◌≤◌, �
 ghost use Rattle.aprs_booktext.specs.FirstFault.{missing, ReadsSo};
 ghost use Rattle.aprs_booktext.specs.Lines.{Lacks};
 ghost use Rattle.aprs_booktext.specs.Text.{end_line};
-ghost use Rattle.aprs_booktext.specs.Reader.{IsFault, IsJudged, IsJudgedFirst, IsJudgedIn, line_number, may_end, Stands};
+ghost use Rattle.aprs_booktext.specs.Reader.{IsFault, IsJudged, IsJudgedFirst, IsJudgedIn, is_done, line_number, may_end, Stands};
 
 use crate::cut::cut;
 use crate::fault::{BookCause, BookFault};
@@ -52,7 +52,7 @@ impl<A: Allocator + Copy> BookReader<A> {
             → Stands self.new (t ++ piece.now)) }
         ensures more { OnOk result (length self.new.book ≤ length self.old.book + length piece.now) }
         ensures fault { IfErr result (λ f. (t : List ℕ) → Stands self.old t
-            → IsFault f (t ++ piece.now)) }
+            → IsFault (length piece.now) f (t ++ piece.now)) }
         ensures cause { IfErr result (λ f. f.cause ≢ BookCause.Read) }
     {
         let mut rest = piece;
@@ -84,16 +84,31 @@ impl<A: Allocator + Copy> BookReader<A> {
             → Stands self.new (t ++ bytes.now)) }
         ensures same { OnOk result (self.new.book ≡ self.old.book) }
         ensures fault { IfErr result (λ f. (t more : List ℕ) → Stands self.old t
-            → IsFault f ((t ++ bytes.now) ++ more)) }
+            → IsFault (length bytes.now + length more) f ((t ++ bytes.now) ++ more)) }
         ensures cause { IfErr result (λ f. f.cause ≢ BookCause.Read) }
     {
-        if self.stage == Stage::Done && !bytes.is_empty() {
-            return Err(self.fault(BookCause::After));
+        if is_done(self.stage) {
+            return self.hold_nothing(bytes);
         }
         match self.line.extend_from_slice(bytes) {
             Ok(()) => Ok(()),
             Err(_) => Err(self.fault(BookCause::Memory)),
         }
+    }
+
+    /// Sees that no bytes come behind the last line.
+    fn hold_nothing(&self, bytes: &[u8]) -> Result<(), BookFault>
+        requires few { length self.now.book ≤ 1073741824 }
+        requires done { self.now.stage ≡ Stage.Done }
+        ensures ok { OnOk result (bytes.now ≡ []) }
+        ensures fault { IfErr result (λ f. (t more : List ℕ) → Stands self.now t
+            → IsFault (length bytes.now + length more) f ((t ++ bytes.now) ++ more)) }
+        ensures cause { IfErr result (λ f. f.cause ≢ BookCause.Read) }
+    {
+        if bytes.is_empty() {
+            return Ok(());
+        }
+        Err(self.fault(BookCause::After))
     }
 
     /// Judges the line, which is whole.
@@ -103,7 +118,7 @@ impl<A: Allocator + Copy> BookReader<A> {
             → Stands self.new (t ++ 10 ∷ [])) }
         ensures more { OnOk result (length self.new.book ≤ length self.old.book + 1) }
         ensures fault { IfErr result (λ f. (t more : List ℕ) → Stands self.old t
-            → IsFault f (t ++ 10 ∷ more)) }
+            → IsFault (length more + 1) f (t ++ 10 ∷ more)) }
         ensures cause { IfErr result (λ f. f.cause ≢ BookCause.Read) }
     {
         match self.judge() {
@@ -144,6 +159,13 @@ impl<A: Allocator + Copy> BookReader<A> {
         };
         BookFault { line, cause }
     }
+}
+
+/// Whether the last line was read.
+fn is_done(stage: Stage) -> bool
+    ensures { result ≡ is_done stage }
+{
+    stage == Stage::Done
 }
 
 /// Whether a text may end there.

@@ -1,13 +1,14 @@
 //! Writing a book.
-ghost use Rattle.std.specs.Prelude.{◌≡◌, ◌≤◌, ◌+◌, ◌*◌, ◌++◌, ◌∷◌, [], codes, length, map, flat_map, OnOk, OnErr};
+ghost use Rattle.std.specs.Prelude.{◌≡◌, ◌<◌, ◌≤◌, ◌+◌, ◌*◌, ◌++◌, ◌∷◌, [], All, codes, length, map, flat_map, OnOk, OnErr};
 ghost use Rattle.std.specs.List.{join_with_byte};
 ghost use Rattle.std.specs.Io.KnownBytes.{Appends};
-ghost use Rattle.hex.specs.Hex.{encode_lower};
+ghost use Rattle.hex.specs.Hex.{encode_lower, IsBytes};
 ghost use Rattle.arrayvec.specs.ArrayVec.{array_vec_len};
 ghost use Rattle.aprs_log.specs.Moment.{moment_text};
+ghost use Rattle.aprs_log.specs.Receiver.{IsName};
 ghost use Rattle.aprs_kiss.specs.Device.{device_of, failures_of, Rose, AppendsFront};
-ghost use Rattle.aprs_booktext.specs.Outbox.{Puts, line_and_lf};
-ghost use Rattle.aprs_booktext.specs.Text.{book_text, row_line, end_line, ended_by_lf};
+ghost use Rattle.aprs_booktext.specs.Outbox.{AreSpelled, Puts, line_and_lf};
+ghost use Rattle.aprs_booktext.specs.Text.{book_text, row_line, end_line, ended_by_lf, IsBookRow, IsBookRows};
 
 use crate::hexadecimal::{MAX_DIGITS, encode_to};
 use crate::last_line::{LAST, last_line};
@@ -27,9 +28,9 @@ const FURTHER: usize = 17;
 
 const TAIL: usize = 675;
 
-/// Writes a book as its text: a header, a line for each row, and a last line with their number. At
-/// a fault a front of the text went out, and the count of the device's failures rose. Takes no
-/// memory.
+/// Writes a book as its text: a header, a line for each row, and a last line with their number. What
+/// it wrote whole is a text that `read_book` reads. At a fault a prefix of the text went out, and the
+/// count of the device's failures rose. Takes no memory.
 pub fn write_book<W: Write, A: Allocator + Copy>(
     w: &mut Counted<W>,
     book: &Book<A>,
@@ -40,6 +41,8 @@ pub fn write_book<W: Write, A: Allocator + Copy>(
         (W.contents (device_of w.new)) (book_text book.now)) }
     ensures count { failures_of w.old ≤ failures_of w.new }
     ensures fault { OnErr result (Rose (failures_of w.old) (failures_of w.new)) }
+    // Such rows are read back of their text.
+    ensures spelled { OnOk result (IsBookRows book.now) }
 {
     let mut held = Outbox::new();
     put_book(w, &mut held, book)?;
@@ -58,6 +61,7 @@ fn put_book<W: Write, A: Allocator + Copy>(
         (W.contents (device_of w.new)) (held.old.items ++ book_text book.now)) }
     ensures count { failures_of w.old ≤ failures_of w.new }
     ensures fault { OnErr result (Rose (failures_of w.old) (failures_of w.new)) }
+    ensures spelled { OnOk result (IsBookRows book.now) }
 {
     put(w, held, b"APRSBOOK 1\n")?;
     put_rows(w, held, book)?;
@@ -76,6 +80,7 @@ fn put_rows<W: Write, A: Allocator + Copy>(
         (W.contents (device_of w.new)) (held.old.items ++ flat_map line_and_lf book.now)) }
     ensures count { failures_of w.old ≤ failures_of w.new }
     ensures fault { OnErr result (Rose (failures_of w.old) (failures_of w.new)) }
+    ensures spelled { OnOk result (IsBookRows book.now) }
 {
     for row in book.rows() {
         put_row(w, held, &row)?;
@@ -91,6 +96,7 @@ fn put_row<W: Write>(w: &mut Counted<W>, held: &mut Outbox, row: &Row<'_>) -> Re
         (W.contents (device_of w.new)) (held.old.items ++ ended_by_lf (row_line row.now))) }
     ensures count { failures_of w.old ≤ failures_of w.new }
     ensures fault { OnErr result (Rose (failures_of w.old) (failures_of w.new)) }
+    ensures spelled { OnOk result (0 < length row.now.receivers → IsBookRow row.now) }
 {
     put(w, held, row_head(row.first, row.last).as_slice())?;
     put_names(w, held, row.receivers)?;
@@ -99,7 +105,9 @@ fn put_row<W: Write>(w: &mut Counted<W>, held: &mut Outbox, row: &Row<'_>) -> Re
 
 /// What stands before the receivers in a row's line.
 fn row_head(first: Moment, last: Moment) -> ArrayVec<u8, HEAD>
-    ensures { result.items ≡ codes "T " ++ moment_text first ++ 32 ∷ moment_text last ++ 32 ∷ [] }
+    ensures text { result.items
+        ≡ codes "T " ++ moment_text first ++ 32 ∷ moment_text last ++ 32 ∷ [] }
+    ensures moments { (first ≤ 4102444799) × (last ≤ 4102444799) }
 {
     let mut text = ArrayVec::new();
     push_all(&mut text, b"T ");
@@ -112,8 +120,9 @@ fn row_head(first: Moment, last: Moment) -> ArrayVec<u8, HEAD>
 
 /// What stands after the receivers in a row's line, with the LF.
 fn row_tail(receiver: &Receiver, frame: &Frame) -> ArrayVec<u8, TAIL>
-    ensures { result.items
+    ensures text { result.items
         ≡ 32 ∷ receiver.now ++ 32 ∷ encode_lower frame.now ++ 10 ∷ [] }
+    ensures spelled { AreSpelled receiver.now frame.now }
 {
     let mut text = ArrayVec::new();
     push_all(&mut text, b" ");
@@ -136,6 +145,7 @@ fn put_names<W: Write>(
         (W.contents (device_of w.new)) (held.old.items ++ join_with_byte 44 names.now)) }
     ensures count { failures_of w.old ≤ failures_of w.new }
     ensures fault { OnErr result (Rose (failures_of w.old) (failures_of w.new)) }
+    ensures names { OnOk result (All IsName names.now) }
 {
     let Some((first, others)) = names.split_first() else {
         return Ok(());
@@ -157,6 +167,7 @@ fn put_further_names<W: Write>(
         (held.old.items ++ flat_map (λ name. 44 ∷ name) names.now)) }
     ensures count { failures_of w.old ≤ failures_of w.new }
     ensures fault { OnErr result (Rose (failures_of w.old) (failures_of w.new)) }
+    ensures names { OnOk result (All IsName names.now) }
 {
     for name in names {
         put(w, held, after_comma(name).as_slice())?;
@@ -166,7 +177,8 @@ fn put_further_names<W: Write>(
 
 /// A comma and the name.
 fn after_comma(name: &Receiver) -> ArrayVec<u8, FURTHER>
-    ensures { result.items ≡ 44 ∷ name.now }
+    ensures text { result.items ≡ 44 ∷ name.now }
+    ensures name { IsName name.now }
 {
     let mut text = ArrayVec::new();
     push_all(&mut text, b",");
@@ -188,6 +200,7 @@ fn push_hex(out: &mut ArrayVec<u8, TAIL>, bytes: &[u8])
     requires few { length bytes.now ≤ 328 }
     requires room { array_vec_len out.old ≤ 18 }
     ensures items { out.new.items ≡ out.old.items ++ encode_lower bytes.now }
+    ensures bytes { IsBytes bytes.now }
     ensures len { array_vec_len out.new ≡ array_vec_len out.old + 2 * length bytes.now }
 {
     let mut digits = [0; MAX_DIGITS];

@@ -1,5 +1,5 @@
 -- Lemmas on inputs, of which the first bytes are known.
-use Rattle.std.proofs.Common.{◌≡◌, ℕ, ◌+◌, ◌<◌, ◌≤◌, Bool, true, false, not, List, [], ◌∷◌, ◌++◌, length, take, drop, map, codes, Option, None, Some, Result, Ok, Err, IfSome, inl, inr, refl, ap, sym, ◌∙◌, append_assoc, append-nil, length-append, subst, arith}
+use Rattle.std.proofs.Common.{◌≡◌, ℕ, zero, suc, get_or, ◌+◌, ◌<◌, ◌≤◌, Bool, true, false, not, List, [], ◌∷◌, ◌++◌, length, take, drop, map, codes, Option, None, Some, Result, Ok, Err, IfSome, inl, inr, refl, ap, sym, ◌∙◌, append_assoc, append-nil, length-append, subst, arith}
 use Rattle.std.proofs.Math.Seq.{take-append_seam}
 use Rattle.std.proofs.lemmas.Bool.{cases_lt}
 use Rattle.std.proofs.lemmas.Bool.Decides.{Decides-eqb}
@@ -15,13 +15,14 @@ use Rattle.aprs_log.specs.LogAnswers.{Gets, ended, fault_at, log_answers, recept
 use Rattle.aprs_log.specs.declared.Ending.{Ending}
 use Rattle.aprs_log.specs.declared.Ending.TheVariants as ending
 use Rattle.aprs_log.specs.declared.fault.LogCause.{LogCause}
-use Rattle.aprs_booktext.specs.FirstFault.{FaultAtStart, FaultBehind, FirstFault, Reads}
+use Rattle.aprs_booktext.specs.FirstFault.{FirstFault, IsMemoryAt, piece_most, Reads}
 use Rattle.aprs_booktext.specs.Lines.{Lacks}
 use Rattle.aprs_booktext.specs.Text.{book_text, ended_by_lf, header, IsBookRows, lines_of, row_line, text_of_lines}
 use Rattle.aprs_booktext.specs.declared.fault.BookCause.TheVariants as cause
 use Rattle.aprs_booktext.specs.declared.fault.BookFault.{BookFault}
 use Rattle.aprs_booktext.proofs.OneText.{cut_short}
-use Rattle.aprs_tool.specs.Inputs.{AreMembersIn, HoldsOfGot, is_book_file, IsFaultIn, ReadsInput, ReadsLog}
+use Rattle.aprs_tool.specs.Head.{IsHead}
+use Rattle.aprs_tool.specs.Inputs.{AreMembersIn, HoldsOfGot, is_book_file, IsFaultIn, IsMemoryIn, OfGot, ReadsInput, ReadsLog}
 use Rattle.aprs_tool.specs.declared.fault.InputFault.{InputFault}
 use Rattle.aprs_tool.specs.declared.fault.InputFault.TheVariants.{Log, Book, Memory}
 
@@ -53,13 +54,35 @@ same_front : (a b x y : List ℕ) → length a ≡ length b → a ++ x ≡ b ++ 
 same_front a b x y size e =
     sym (take-append_seam a x) ∙ ap (λ l. take (length a) l) e ∙ ap (λ n. take n (b ++ y)) size ∙ take-append_seam b y
 
+-- an LF after fewer than eight bytes
+lf_at : (line more : List ℕ) → get_or ((line ++ 10 ∷ []) ++ more) (length line) 0 ≡ 10
+lf_at [] more = refl
+lf_at (x ∷ line) more = lf_at line more
+
+mark_has_none : (i : ℕ) (rest : List ℕ) → i < 8 → get_or (mark ++ rest) i 0 ≡ 10 → ⊥
+mark_has_none zero rest h e = omega (arith, e)
+mark_has_none (suc zero) rest h e = omega (arith, e)
+mark_has_none (suc (suc zero)) rest h e = omega (arith, e)
+mark_has_none (suc (suc (suc zero))) rest h e = omega (arith, e)
+mark_has_none (suc (suc (suc (suc zero)))) rest h e = omega (arith, e)
+mark_has_none (suc (suc (suc (suc (suc zero))))) rest h e = omega (arith, e)
+mark_has_none (suc (suc (suc (suc (suc (suc zero)))))) rest h e = omega (arith, e)
+mark_has_none (suc (suc (suc (suc (suc (suc (suc zero))))))) rest h e = omega (arith, e)
+mark_has_none (suc (suc (suc (suc (suc (suc (suc (suc i)))))))) rest h e = omega (arith, h)
+
+not_mark : (head more rest : List ℕ) → IsHead head → (head ≡ mark → ⊥) → head ++ more ≡ mark ++ rest → ⊥
+not_mark head more rest is other e = elim is [
+  | inl size ↦ other (same_front head mark more rest size e)
+  | inr lf ↦ mark_has_none (length lf.0) rest lf.1 (ap (λ l. get_or l (length lf.0) 0) (sym e ∙ ap (λ l. l ++ more) lf.2) ∙ lf_at lf.0 more)
+]
+
 -- no text of an input that begins otherwise
-is_log : (head more t rest : List ℕ) → length head ≡ 8 → (head ≡ mark → ⊥) → head ++ more ≡ t ++ rest → is_book_file t ≡ false
-is_log head more t rest size other e = by (is_book_file t) refl
+is_log : (head more t rest : List ℕ) → IsHead head → (head ≡ mark → ⊥) → head ++ more ≡ t ++ rest → is_book_file t ≡ false
+is_log head more t rest whole other e = by (is_book_file t) refl
   where
     by : (b : Bool) → is_book_file t ≡ b → is_book_file t ≡ false
     by false is = is
-    by true is = absurd (other (same_front head mark more (drop 8 t ++ rest) size (e ∙ ap (λ l. l ++ rest) (begins t is) ∙ append_assoc mark (drop 8 t) rest)))
+    by true is = absurd (not_mark head more (drop 8 t ++ rest) whole other (e ∙ ap (λ l. l ++ rest) (begins t is) ∙ append_assoc mark (drop 8 t) rest))
 
 -- nor a shorter one
 short_is_log : (t : List ℕ) → length t < 8 → is_book_file t ≡ false
@@ -85,18 +108,22 @@ fault_log : (b : Bool) (e : InputFault) (t : List ℕ) (c : Ending) → b ≡ fa
 fault_log true e t c is h = absurd cc
 fault_log false e t c is h = h
 
+memory_log : (b : Bool) (e : InputFault) (t : List ℕ) → b ≡ false → IsMemoryIn false e t → IsMemoryIn b e t
+memory_log true e t is h = absurd cc
+memory_log false e t is h = h
+
 reads_log : (r : Result (List Row) InputFault) (t : List ℕ) (c : Ending) → is_book_file t ≡ false → ReadsLog r t c → ReadsInput r t c
 reads_log (Ok rows) t c is h = (
   faultless_log (is_book_file t) t c is h.0,
   (receptions_of (log_answers t c).given, members_log (is_book_file t) t c is, h.1),
 )
 reads_log (Err e) t c is h = elim h [
-  | inl m ↦ inl m
+  | inl m ↦ inl (memory_log (is_book_file t) e t is m)
   | inr f ↦ inr (fault_log (is_book_file t) e t c is f)
 ]
 
 -- what was got of one is read as a log's text
-pub log_input : (known after : Option (List ℕ)) (limit : ℕ) (head : List ℕ) (r : Result (List Row) InputFault) → length head ≡ 8 → (head ≡ mark → ⊥)
+pub log_input : (known after : Option (List ℕ)) (limit : ℕ) (head : List ℕ) (r : Result (List Row) InputFault) → IsHead head → (head ≡ mark → ⊥)
     → IfSome known (λ input. HoldsOfGot limit (head ++ input) after (ReadsLog r)) → IfSome known (λ input. HoldsOfGot limit (head ++ input) after (ReadsInput r))
 log_input None after limit head r size other h = tt
 log_input (Some input) after limit head r size other h = record {
@@ -147,6 +174,10 @@ fault_book : (b : Bool) (f : BookFault) (t : List ℕ) (c : Ending) → b ≡ tr
 fault_book false f t c is h = absurd cc
 fault_book true f t c is h = h
 
+memory_book : (b : Bool) (f : BookFault) (t : List ℕ) → b ≡ true → IsMemoryAt piece_most t f → IsMemoryIn b (Book f) t
+memory_book false f t is h = absurd cc
+memory_book true f t is h = h
+
 book_begins : (rows : List Row) → is_book_file (book_text rows) ≡ true
 book_begins rows = is_book (book_text rows) (drop 8 (book_text rows)) refl
 
@@ -165,7 +196,7 @@ module _ (limit : ℕ) (input : List ℕ) (after : Option (List ℕ)) (small : l
     ending = h.ending;
     gets = h.gets;
     holds = elim h.reads [
-      | inl memory ↦ inl memory
+      | inl memory ↦ inl (memory_book (is_book_file (mark ++ h.got)) f (mark ++ h.got) (is_book (mark ++ h.got) h.got refl) memory)
       | inr first ↦ inr (fault_book (is_book_file (mark ++ h.got)) f (mark ++ h.got) h.ending (is_book (mark ++ h.got) h.got refl) first)
     ];
   }
@@ -193,3 +224,9 @@ pub refused_input : (known after : Option (List ℕ)) (limit : ℕ) (head : List
 refused_input None after limit head f small is h = tt
 refused_input (Some input) after limit head f small is h = subst (λ l. HoldsOfGot limit (l ++ input) after (ReadsInput (Err (Book f)))) (sym is)
     (refused_book limit input after small f (subst (λ l. Reads limit l input after (Err f)) is h))
+
+-- what was got is read so
+pub of_got : (known after : Option (List ℕ)) (limit : ℕ) (t : List ℕ) (c : Ending) (r : Result (List Row) InputFault) → IfSome known (λ input. Gets limit input after t c) → ReadsInput r t c
+    → OfGot limit known after (ReadsInput r)
+of_got None after limit t c r gets reads = tt
+of_got (Some input) after limit t c r gets reads = record { text = t; ending = c; gets = gets; holds = reads }

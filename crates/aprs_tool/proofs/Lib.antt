@@ -3,6 +3,7 @@ pub mod Desks
 pub mod Inputs
 pub mod Logs
 pub mod Merges
+pub mod OneMerge
 pub mod Seen
 pub mod ShortLogs
 pub mod Checked

@@ -1,13 +1,17 @@
 -- Lemmas on several inputs that are read one after another.
-use Rattle.std.proofs.Common.{◌≡◌, ◌≤◌, ◌<◌, ℕ, ◌+◌, zero, suc, List, [], ◌∷◌, ◌++◌, length, map, Option, Some, Ok, Err, slice_get, get_or, set, option_map, refl, ap, sym, ◌∙◌, append_assoc, append-nil, length-append, subst, arith}
-use Rattle.std.proofs.lemmas.List.{length-map}
+use Rattle.std.proofs.Common.{◌≡◌, ◌≤◌, ◌<◌, ℕ, ◌+◌, zero, suc, List, [], ◌∷◌, ◌++◌, length, map, take, drop, Option, Some, Ok, Err, inl, inr, slice_get, get_or, set, option_map, refl, ap, sym, ◌∙◌, add-one, append_assoc, append-nil, length-append, length-drop, take-append-drop, subst, arith}
+use Rattle.std.specs.Prelude.{◌≢◌}
+use Rattle.std.proofs.Math.Seq.{take-suc-set}
+use Rattle.std.proofs.lemmas.Bool.{cases_lt}
+use Rattle.std.proofs.lemmas.List.{length-map, map-set, take_all}
 use Rattle.std.proofs.lemmas.Option.{slice_get-get_or, slice_get-map, slice_get_within}
+use Rattle.aprs_kiss.specs.Device.{RoseWhere}
 use Rattle.aprs_laws.specs.Book.{BookOf}
 use Rattle.aprs_laws.specs.Gap.{gap_seconds}
 use Rattle.aprs_laws.specs.Row.{Row}
 use Rattle.aprs_log.specs.Reception.{Heard}
-use Rattle.aprs_log.specs.declared.Ending.TheVariants as ending
-use Rattle.aprs_tool.specs.Inputs.{AreMembers, HoldsOfGot, IsFaultless, IsRefused, OfGot, TakesInput}
+use Rattle.aprs_log.proofs.AwaitLemmas.{gets_whole}
+use Rattle.aprs_tool.specs.Inputs.{AreMembers, HoldsOfGot, IsFaultless, IsNotTaken, OfGot, TakesInput}
 use Rattle.aprs_tool.specs.Merge.{AreFaultless, AreMembersOfAll, GetsEach, Got, HoldsOfEach, IsBookOfAll, IsFirstRefused, ReadsEach}
 use Rattle.aprs_tool.specs.declared.fault.InputFault.{InputFault}
 
@@ -16,11 +20,12 @@ some_each inputs = map (λ input. Some input) inputs
 
 -- ---- an element that is written
 
-pub set_elsewhere : {X : Type 0} (xs : List X) (i k : ℕ) (y : X) → i + 1 ≤ k → slice_get (set xs i y) k ≡ slice_get xs k
+pub set_elsewhere : {X : Type 0} (xs : List X) (i k : ℕ) (y : X) → i ≢ k → slice_get (set xs i y) k ≡ slice_get xs k
 set_elsewhere [] i k y h = refl
-set_elsewhere (x ∷ xs) i zero y h = absurd (omega (arith, h))
+set_elsewhere (x ∷ xs) zero zero y h = absurd (h refl)
+set_elsewhere (x ∷ xs) (suc i) zero y h = refl
 set_elsewhere (x ∷ xs) zero (suc k) y h = refl
-set_elsewhere (x ∷ xs) (suc i) (suc k) y h = set_elsewhere xs i k y (omega (arith, h))
+set_elsewhere (x ∷ xs) (suc i) (suc k) y h = set_elsewhere xs i k y (λ e. h (omega (arith, e)))
 
 pub set_here : {X : Type 0} (xs : List X) (i : ℕ) (y : X) → i < length xs → slice_get (set xs i y) i ≡ Some y
 set_here [] i y h = absurd (omega (arith, h))
@@ -34,20 +39,71 @@ element now old i d within same = sym same ∙ slice_get-get_or now i d within
 pub element_of : {X Y : Type 0} (f : X → Y) (old : List X) (all : List Y) (i : ℕ) (x : X) → slice_get old i ≡ Some x → map f old ≡ all → slice_get all i ≡ Some (f x)
 element_of f old all i x is e = ap (λ l. slice_get l i) (sym e) ∙ slice_get-map f old i ∙ ap (option_map f) is
 
+-- ---- counts of readers that are written one by one
+
+-- none rose
+abbrev pub AreCounts : {X : Type 0} → (X → ℕ) → List X → List X → Type 0
+AreCounts {X} f old now = (k : ℕ) (before after : X) → slice_get old k ≡ Some before → slice_get now k ≡ Some after → f after ≡ f before
+
+pub counts_none : {X : Type 0} (f : X → ℕ) (xs : List X) → AreCounts f xs xs
+counts_none f xs k before after was is = let e : Some after ≡ Some before = sym is ∙ was in ap f (cc)
+
+module _ {X : Type 0} (f : X → ℕ) (old now : List X) (i : ℕ) (x y : X) (was : slice_get old i ≡ Some x) (within : i < length now) (same : AreCounts f old now) where
+  -- the element that was written, or another
+  pub at_each : (P : ℕ → ℕ → ℕ → Type 0) → P i (f x) (f y) → ((k n : ℕ) → i ≢ k → P k n n) → (k : ℕ) (before after : X) → slice_get old k ≡ Some before
+      → slice_get (set now i y) k ≡ Some after → P k (f before) (f after)
+  at_each P here other k before after b a = elim (cases_lt i k) [
+    | inl lt ↦ elsewhere (λ e. omega (arith, lt, e))
+    | inr le ↦ elim (cases_lt k i) [
+      | inl lt ↦ elsewhere (λ e. omega (arith, lt, e))
+      | inr ge ↦ at_it (omega (arith, le, ge))
+    ]
+  ] where
+    elsewhere : i ≢ k → P k (f before) (f after)
+    elsewhere differs = subst (λ n. P k (f before) n) (sym (same k before after b (sym (set_elsewhere now i k y differs) ∙ a))) (other k (f before) differs)
+
+    at_it : i ≡ k → P k (f before) (f after)
+    at_it e =
+        let first : Some x ≡ Some before = sym was ∙ ap (λ n. slice_get old n) e ∙ b in
+        let second : Some y ≡ Some after = sym (set_here now i y within) ∙ ap (λ n. slice_get (set now i y) n) e ∙ a in
+        let x_is : x ≡ before = cc in
+        let y_is : y ≡ after = cc in
+        subst (λ n. P n (f before) (f after)) e (subst (λ z. P i (f z) (f after)) x_is (subst (λ z. P i (f x) (f z)) y_is here))
+
+  pub counts_more : f y ≡ f x → AreCounts f old (set now i y)
+  counts_more e = at_each (λ k m n. n ≡ m) e (λ k n differs. refl)
+
+  pub rose_where : (Q : Type 0) → RoseWhere Q (f x) (f y) → (k : ℕ) (before after : X) → slice_get old k ≡ Some before → slice_get (set now i y) k ≡ Some after
+      → RoseWhere ((i ≡ k) × Q) (f before) (f after)
+  rose_where Q rose = at_each (λ k m n. RoseWhere ((i ≡ k) × Q) m n) (λ p. rose.0 p.1, λ none. rose.1 (λ q. none (refl, q))) (λ k n differs. (λ p. absurd (differs p.0), λ h. refl))
+
+-- a place that is read adds what its device then has
+pub after_more : {X Y : Type 0} (f : X → Y) (now : List X) (i : ℕ) (y : X) → i < length now → take (i + 1) (map f (set now i y)) ≡ take i (map f now) ++ f y ∷ []
+after_more f now i y within =
+    ap (take (i + 1)) (map-set f now i y) ∙ ap (λ n. take n (set (map f now) i (f y))) (add-one i) ∙ take-suc-set (map f now) i (f y) (omega (arith, within, length-map now f))
+
 -- ---- one input more
 
-gets_more : (limit : ℕ) (done more : List (List ℕ)) (gots others : List Got) → GetsEach limit done gots → GetsEach limit more others
-    → GetsEach limit (done ++ more) (gots ++ others)
-gets_more limit [] more [] others h k = k
-gets_more limit [] more (g ∷ gots) others h k = absurd h
-gets_more limit (input ∷ done) more [] others h k = absurd h
-gets_more limit (input ∷ done) more (g ∷ gots) others h k = (h.0, gets_more limit done more gots others h.1 k)
+gets_more : (limit : ℕ) (done more : List (List ℕ)) (afters next : List (Option (List ℕ))) (gots others : List Got) → GetsEach limit done afters gots → GetsEach limit more next others
+    → GetsEach limit (done ++ more) (afters ++ next) (gots ++ others)
+gets_more limit [] more [] next [] others h k = k
+gets_more limit (input ∷ done) more (after ∷ afters) next (g ∷ gots) others h k = (h.0, gets_more limit done more afters next gots others h.1 k)
+gets_more limit [] more [] next (g ∷ gots) others h k = absurd h
+gets_more limit [] more (after ∷ afters) next [] others h k = absurd h
+gets_more limit [] more (after ∷ afters) next (g ∷ gots) others h k = absurd h
+gets_more limit (input ∷ done) more [] next [] others h k = absurd h
+gets_more limit (input ∷ done) more [] next (g ∷ gots) others h k = absurd h
+gets_more limit (input ∷ done) more (after ∷ afters) next [] others h k = absurd h
 
-gots_len : (limit : ℕ) (done : List (List ℕ)) (gots : List Got) → GetsEach limit done gots → length gots ≡ length done
-gots_len limit [] [] h = refl
-gots_len limit [] (g ∷ gots) h = absurd h
-gots_len limit (input ∷ done) [] h = absurd h
-gots_len limit (input ∷ done) (g ∷ gots) h = let e = gots_len limit done gots h.1 in omega (arith, e)
+gots_len : (limit : ℕ) (done : List (List ℕ)) (afters : List (Option (List ℕ))) (gots : List Got) → GetsEach limit done afters gots → length gots ≡ length done
+gots_len limit [] [] [] h = refl
+gots_len limit (input ∷ done) (after ∷ afters) (g ∷ gots) h = let e = gots_len limit done afters gots h.1 in omega (arith, e)
+gots_len limit [] [] (g ∷ gots) h = absurd h
+gots_len limit [] (after ∷ afters) [] h = absurd h
+gots_len limit [] (after ∷ afters) (g ∷ gots) h = absurd h
+gots_len limit (input ∷ done) [] [] h = absurd h
+gots_len limit (input ∷ done) [] (g ∷ gots) h = absurd h
+gots_len limit (input ∷ done) (after ∷ afters) [] h = absurd h
 
 faultless_more : (gots : List Got) (g : Got) → AreFaultless gots → IsFaultless g.text g.ending → AreFaultless (gots ++ g ∷ [])
 faultless_more [] g h k = (k, tt)
@@ -58,35 +114,41 @@ members_more [] g S T h k = (T, [], k, refl, ap (λ l. l ++ T) h ∙ sym (append
 members_more (x ∷ gots) g S T h k =
     (h.0, h.1 ++ T, h.2, members_more gots g h.1 T h.3 k, ap (λ l. l ++ T) h.4 ∙ append_assoc h.0 h.1 T)
 
--- the first that is refused stands behind faultless ones
-first_refused : (gots : List Got) (g : Got) (more : List Got) (e : InputFault) → AreFaultless gots → IsRefused e g.text g.ending
+-- the first that is not taken stands behind faultless ones
+first_refused : (gots : List Got) (g : Got) (more : List Got) (e : InputFault) → AreFaultless gots → IsNotTaken e g.text g.ending
     → IsFirstRefused (length gots) e (gots ++ g ∷ more)
 first_refused [] g more e h k = k
 first_refused (x ∷ gots) g more e h k = (h.0, first_refused gots g more e h.1 k)
 
--- of inputs that aren't read nothing is got
-abbrev unread : List (List ℕ) → List Got
-unread inputs = map (λ input. record { text = []; ending = ending.Read }) inputs
+-- inputs that aren't read may be got whole
+pub record GetsUnread (limit : ℕ) (inputs : List (List ℕ)) (afters : List (Option (List ℕ))) : Type 0 where
+  pub gots : List Got
+  pub gets : GetsEach limit inputs afters gots
 
-gets_unread : (limit : ℕ) (inputs : List (List ℕ)) → GetsEach limit inputs (unread inputs)
-gets_unread limit [] = tt
-gets_unread limit (input ∷ inputs) = ((Some input, record { rest = input; whole = refl; ends = (refl, omega arith) }), gets_unread limit inputs)
+gets_unread : (limit : ℕ) (inputs : List (List ℕ)) (afters : List (Option (List ℕ))) → length inputs ≡ length afters → GetsUnread limit inputs afters
+gets_unread limit [] [] e = record { gots = []; gets = tt }
+gets_unread limit [] (after ∷ afters) e = absurd (omega (arith, e))
+gets_unread limit (input ∷ inputs) [] e = absurd (omega (arith, e))
+gets_unread limit (input ∷ inputs) (after ∷ afters) e =
+    let w = gets_whole limit input after in
+    let more = gets_unread limit inputs afters (omega (arith, e)) in
+    record { gots = record { text = w.text; ending = w.ending } ∷ more.gots; gets = (w.gets, more.gets) }
 
 -- ---- as far as they were read
 
 -- the rows are the book of the first `index` inputs
-pub record HasRead (limit : ℕ) (inputs : List (List ℕ)) (index : ℕ) (rows : List Row) : Type 0 where
+pub record HasRead (limit : ℕ) (inputs : List (List ℕ)) (afters : List (Option (List ℕ))) (index : ℕ) (rows : List Row) : Type 0 where
   pub done : List (List ℕ)
   pub rest : List (List ℕ)
   pub cut : inputs ≡ done ++ rest
   pub place : length done ≡ index
   pub gots : List Got
-  pub gets : GetsEach limit done gots
+  pub gets : GetsEach limit done (take index afters) gots
   pub faultless : AreFaultless gots
   pub book : IsBookOfAll rows gots
 
-pub HasRead-none : (limit : ℕ) (inputs : List (List ℕ)) (rows : List Row) → BookOf gap_seconds [] rows → HasRead limit inputs 0 rows
-HasRead-none limit inputs rows book = record {
+pub HasRead-none : (limit : ℕ) (inputs : List (List ℕ)) (afters : List (Option (List ℕ))) (rows : List Row) → BookOf gap_seconds [] rows → HasRead limit inputs afters 0 rows
+HasRead-none limit inputs afters rows book = record {
   done = [];
   rest = inputs;
   cut = refl;
@@ -103,8 +165,8 @@ known_at : (done rest : List (List ℕ)) (input : List ℕ) (known : Option (Lis
 known_at [] rest input known e = cc
 known_at (x ∷ done) rest input known e = known_at done rest input known e
 
-module _ (limit : ℕ) (inputs : List (List ℕ)) (index : ℕ) (rows : List Row) (known after : Option (List ℕ)) (h : HasRead limit inputs index rows)
-    (at : slice_get (some_each inputs) index ≡ Some known) where
+module _ (limit : ℕ) (inputs : List (List ℕ)) (afters next : List (Option (List ℕ))) (index : ℕ) (rows : List Row) (known after : Option (List ℕ))
+    (h : HasRead limit inputs afters index rows) (at : slice_get (some_each inputs) index ≡ Some known) (adds : take (index + 1) next ≡ take index afters ++ after ∷ []) where
   here : (input : List ℕ) (rest : List (List ℕ)) → h.rest ≡ input ∷ rest → known ≡ Some input
   here input rest e = known_at h.done rest input known
       (ap (λ l. slice_get (some_each (h.done ++ l)) (length h.done)) (sym e) ∙ ap (λ l. slice_get (some_each l) (length h.done)) (sym h.cut) ∙ ap (λ i. slice_get (some_each inputs) i) h.place ∙ at)
@@ -116,10 +178,10 @@ module _ (limit : ℕ) (inputs : List (List ℕ)) (index : ℕ) (rows : List Row
       omega (arith, within, len, h.place, length-map inputs (λ (input : List ℕ). Some input))
 
   -- it is taken
-  pub HasRead-more : (new : List Row) (most : ℕ) → most ≡ limit → OfGot most known after (TakesInput (Ok tt) rows new) → HasRead limit inputs (index + 1) new
+  pub HasRead-more : (new : List Row) (most : ℕ) → most ≡ limit → OfGot most known after (TakesInput (Ok tt) rows new) → HasRead limit inputs next (index + 1) new
   HasRead-more new most same took = go h.rest refl
     where
-      go : (rest : List (List ℕ)) → h.rest ≡ rest → HasRead limit inputs (index + 1) new
+      go : (rest : List (List ℕ)) → h.rest ≡ rest → HasRead limit inputs next (index + 1) new
       go [] e = absurd (none_left e)
       go (input ∷ rest) e =
           let got : HoldsOfGot limit input after (TakesInput (Ok tt) rows new) = subst (λ k. OfGot limit k after (TakesInput (Ok tt) rows new)) (here input rest e) (subst (λ l. OfGot l known after (TakesInput (Ok tt) rows new)) same took) in
@@ -131,27 +193,38 @@ module _ (limit : ℕ) (inputs : List (List ℕ)) (index : ℕ) (rows : List Row
             cut = h.cut ∙ ap (λ l. h.done ++ l) e ∙ sym (append_assoc h.done (input ∷ []) rest);
             place = let len = length-append h.done (input ∷ []) in omega (arith, len, h.place);
             gots = h.gots ++ g ∷ [];
-            gets = gets_more limit h.done (input ∷ []) h.gots (g ∷ []) h.gets ((after, got.gets), tt);
+            gets = subst (λ l. GetsEach limit (h.done ++ input ∷ []) l (h.gots ++ g ∷ [])) (sym adds)
+                (gets_more limit h.done (input ∷ []) (take index afters) (after ∷ []) h.gots (g ∷ []) h.gets (got.gets, tt));
             faultless = faultless_more h.gots g h.faultless got.holds.0;
             book = (h.book.0 ++ T, members_more h.gots g h.book.0 T h.book.1 got.holds.1.1, got.holds.1.2 h.book.0 h.book.2);
           }
 
-  -- it is refused
-  pub HasRead-refused : (e : InputFault) (old new : List Row) (most : ℕ) → most ≡ limit → OfGot most known after (TakesInput (Err e) old new)
-      → HoldsOfEach limit inputs (ReadsEach (Err (index, e)))
-  HasRead-refused fault old new most same took = go h.rest refl
+  -- it is not
+  pub HasRead-refused : (e : InputFault) (old new : List Row) (most : ℕ) → most ≡ limit → length next ≡ length inputs → OfGot most known after (TakesInput (Err e) old new)
+      → HoldsOfEach limit inputs next (ReadsEach (Err (index, e)))
+  HasRead-refused fault old new most same size took = go h.rest refl
     where
-      go : (rest : List (List ℕ)) → h.rest ≡ rest → HoldsOfEach limit inputs (ReadsEach (Err (index, fault)))
+      tail : List (Option (List ℕ))
+      tail = drop (index + 1) next
+
+      parts : next ≡ take index afters ++ after ∷ tail
+      parts = sym (take-append-drop (index + 1) next) ∙ ap (λ l. l ++ tail) adds ∙ append_assoc (take index afters) (after ∷ []) tail
+
+      go : (rest : List (List ℕ)) → h.rest ≡ rest → HoldsOfEach limit inputs next (ReadsEach (Err (index, fault)))
       go [] e = absurd (none_left e)
       go (input ∷ rest) e =
           let got : HoldsOfGot limit input after (TakesInput (Err fault) old new) = subst (λ k. OfGot limit k after (TakesInput (Err fault) old new)) (here input rest e) (subst (λ l. OfGot l known after (TakesInput (Err fault) old new)) same took) in
           let g : Got = record { text = got.text; ending = got.ending } in
+          let whole : length inputs ≡ length h.done + length (input ∷ rest) = ap length (h.cut ∙ ap (λ l. h.done ++ l) e) ∙ length-append h.done (input ∷ rest) in
+          let few = length-drop (index + 1) next in
+          let left = gets_unread limit rest tail (omega (arith, whole, few, size, h.place)) in
           record {
-            gots = h.gots ++ g ∷ unread rest;
-            gets = subst (λ l. GetsEach limit l (h.gots ++ g ∷ unread rest)) (sym (h.cut ∙ ap (λ l. h.done ++ l) e))
-                (gets_more limit h.done (input ∷ rest) h.gots (g ∷ unread rest) h.gets ((after, got.gets), gets_unread limit rest));
-            holds = subst (λ i. IsFirstRefused i fault (h.gots ++ g ∷ unread rest)) (gots_len limit h.done h.gots h.gets ∙ h.place)
-                (first_refused h.gots g (unread rest) fault h.faultless got.holds);
+            gots = h.gots ++ g ∷ left.gots;
+            gets = subst (λ l. GetsEach limit inputs l (h.gots ++ g ∷ left.gots)) (sym parts)
+                (subst (λ l. GetsEach limit l (take index afters ++ after ∷ tail) (h.gots ++ g ∷ left.gots)) (sym (h.cut ∙ ap (λ l. h.done ++ l) e))
+                (gets_more limit h.done (input ∷ rest) (take index afters) (after ∷ tail) h.gots (g ∷ left.gots) h.gets (got.gets, left.gets)));
+            holds = subst (λ i. IsFirstRefused i fault (h.gots ++ g ∷ left.gots)) (gots_len limit h.done (take index afters) h.gots h.gets ∙ h.place)
+                (first_refused h.gots g left.gots fault h.faultless got.holds);
           }
 
 -- there are as many as their bytes
@@ -159,11 +232,12 @@ pub same_len : {X : Type 0} (f : X → Option (List ℕ)) (xs : List X) (inputs 
 same_len f xs inputs e = sym (length-map inputs (λ input. Some input)) ∙ ap length (sym e) ∙ length-map xs f
 
 -- all are read
-pub HasRead-all : (limit : ℕ) (inputs : List (List ℕ)) (index : ℕ) (rows found : List Row) → found ≡ rows → HasRead limit inputs index rows → length inputs ≡ index
-    → HoldsOfEach limit inputs (ReadsEach (Ok found))
-HasRead-all limit inputs index rows found same h all = record {
+pub HasRead-all : (limit : ℕ) (inputs : List (List ℕ)) (afters : List (Option (List ℕ))) (index : ℕ) (rows found : List Row) → found ≡ rows → HasRead limit inputs afters index rows
+    → length inputs ≡ index → length afters ≡ index → HoldsOfEach limit inputs afters (ReadsEach (Ok found))
+HasRead-all limit inputs afters index rows found same h all many = record {
   gots = h.gots;
-  gets = subst (λ l. GetsEach limit l h.gots) (sym (h.cut ∙ ap (λ l. h.done ++ l) (none h.rest (let len : length inputs ≡ length h.done + length h.rest = ap length h.cut ∙ length-append h.done h.rest in omega (arith, len, all, h.place))) ∙ append-nil h.done)) h.gets;
+  gets = subst (λ l. GetsEach limit inputs l h.gots) (take_all index afters (omega (arith, many)))
+      (subst (λ l. GetsEach limit l (take index afters) h.gots) (sym (h.cut ∙ ap (λ l. h.done ++ l) (none h.rest (let len : length inputs ≡ length h.done + length h.rest = ap length h.cut ∙ length-append h.done h.rest in omega (arith, len, all, h.place))) ∙ append-nil h.done)) h.gets);
   holds = (h.faultless, subst (λ r. IsBookOfAll r h.gots) (sym same) h.book);
 }
   where

@@ -9,9 +9,8 @@ use Rattle.aprs_laws.specs.Book.{BookOf}
 use Rattle.aprs_laws.specs.Gap.{gap_seconds}
 use Rattle.aprs_laws.specs.Real.{real}
 use Rattle.aprs_laws.specs.Row.{Row}
-use Rattle.aprs_booktext.specs.FirstFault.{FirstFault}
+use Rattle.aprs_booktext.specs.FirstFault.{FirstFault, IsMemoryAt, piece_most}
 use Rattle.aprs_booktext.specs.Text.{book_text, IsBookRows}
-use Rattle.aprs_booktext.specs.declared.fault.BookCause.TheVariants as cause
 use Rattle.aprs_tool.specs.declared.fault.InputFault.{InputFault}
 use Rattle.aprs_tool.specs.declared.fault.InputFault.TheVariants.{Log, Book, Memory}
 
@@ -55,15 +54,22 @@ AreMembers t c S = AreMembersIn (is_book_file t) t c S
 
 -- ---- how it is read
 
--- memory was refused
-abbrev pub IsMemory : InputFault → Type 0
-IsMemory Memory = Unit {0}
-IsMemory (Book f) = f.cause ≡ cause.Memory
-IsMemory (Log f) = ⊥
+-- memory was refused: for a log, or in the line of a book that was being read
+abbrev pub IsMemoryIn : Bool → InputFault → List ℕ → Type 0
+IsMemoryIn false Memory t = Unit {0}
+IsMemoryIn false (Book f) t = ⊥
+IsMemoryIn false (Log f) t = ⊥
+IsMemoryIn true Memory t = ⊥
+IsMemoryIn true (Book f) t = IsMemoryAt piece_most t f
+IsMemoryIn true (Log f) t = ⊥
 
 -- the input's fault, unless memory was refused before
 abbrev pub IsRefused : InputFault → List ℕ → Ending → Type 0
-IsRefused e t c = IsMemory e ⊎ IsFaultOf e t c
+IsRefused e t c = IsMemoryIn (is_book_file t) e t ⊎ IsFaultOf e t c
+
+-- the input is refused, or it is faultless and memory was refused for the merge with its book
+abbrev pub IsNotTaken : InputFault → List ℕ → Ending → Type 0
+IsNotTaken e t c = IsRefused e t c ⊎ ((e ≡ Memory) × IsFaultless t c)
 
 -- the rows are the book of the input's receptions
 abbrev pub IsBookOfInput : List Row → List ℕ → Ending → Type 0
@@ -78,19 +84,19 @@ ReadsInput (Err e) t c = IsRefused e t c
 abbrev pub ReadsLog : Result (List Row) InputFault → List ℕ → Ending → Type 0
 ReadsLog (Ok rows) t c = ((log_answers t c).fault ≡ None)
     × BookOf gap_seconds (receptions_of (log_answers t c).given) rows
-ReadsLog (Err e) t c = IsMemory e ⊎ IsFaultIn false e t c
+ReadsLog (Err e) t c = IsMemoryIn false e t ⊎ IsFaultIn false e t c
 
 -- whatever set the old rows are the book of, the new are that of this set and the receptions
 abbrev pub AddsAll : List Heard → List Row → List Row → Type 0
 AddsAll T old new =
     (S : List Heard) → BookOf gap_seconds S old → BookOf gap_seconds (S ++ T) new
 
--- the receptions of a faultless input are taken, and any other is refused
+-- the receptions of a faultless input are taken, unless memory was refused, and any other is refused
 abbrev pub TakesInput : Result (Unit {0}) InputFault → List Row → List Row → List ℕ → Ending
     → Type 0
 TakesInput (Ok u) old new t c =
     IsFaultless t c × ((T : List Heard) × AreMembers t c T × AddsAll T old new)
-TakesInput (Err e) old new t c = IsRefused e t c
+TakesInput (Err e) old new t c = IsNotTaken e t c
 
 -- ---- what is got of it
 

@@ -4,6 +4,8 @@ pub mod Monitor
 pub mod Status
 pub mod Words
 pub mod Run
+pub mod Head
 pub mod Inputs
 pub mod Desk
 pub mod Merge
+pub mod StandsFor

@@ -1,7 +1,7 @@
 -- What a merge of several inputs writes and answers.
-use Rattle.std.specs.Prelude.{◌≡◌, ℕ, zero, suc, List, [], ◌∷◌, ◌++◌, Option, Some, Result, Ok, Err, map, slice_get}
+use Rattle.std.specs.Prelude.{◌≡◌, ◌<◌, ℕ, zero, suc, List, [], ◌∷◌, ◌++◌, Option, Some, Result, Ok, Err, map, slice_get}
 use Rattle.std.specs.Io.KnownBytes.{Appends}
-use Rattle.aprs_kiss.specs.Device.{AppendsFront, failures_of, Rose}
+use Rattle.aprs_kiss.specs.Device.{AppendsFront, answered_of, failures_of, Rose, RoseWhere}
 use Rattle.aprs_kiss.specs.declared.Counted.{Counted}
 use Rattle.aprs_log.specs.LogAnswers.{Gets}
 use Rattle.aprs_log.specs.Reception.{Heard}
@@ -10,11 +10,11 @@ use Rattle.aprs_laws.specs.Book.{BookOf}
 use Rattle.aprs_laws.specs.Gap.{gap_seconds}
 use Rattle.aprs_laws.specs.Row.{Row}
 use Rattle.aprs_booktext.specs.Text.{book_text}
-use Rattle.aprs_tool.specs.Inputs.{IsFaultless, IsRefused, AreMembers}
+use Rattle.aprs_tool.specs.Inputs.{IsFaultless, IsNotTaken, AreMembers}
 use Rattle.aprs_tool.specs.Run.{IsReadFault}
 use Rattle.aprs_tool.specs.declared.fault.InputFault.{InputFault}
 use Rattle.aprs_tool.specs.declared.fault.RunFault.{RunFault}
-use Rattle.aprs_tool.specs.declared.fault.RunFault.TheVariants.{Input, Write}
+use Rattle.aprs_tool.specs.declared.fault.RunFault.TheVariants.{Input, Write, Memory}
 
 -- ---- what was got of several inputs
 
@@ -23,23 +23,21 @@ pub record Got : Type 0 where
   pub text : List ℕ
   pub ending : Ending
 
--- of each, at most `limit` bytes
-abbrev pub GetsEach : ℕ → List (List ℕ) → List Got → Type 0
-GetsEach limit [] [] = Unit {0}
-GetsEach limit (input ∷ inputs) (g ∷ gots) =
-    ((after : Option (List ℕ)) × Gets limit input after g.text g.ending)
-    × GetsEach limit inputs gots
-GetsEach limit [] (g ∷ gots) = ⊥
-GetsEach limit (input ∷ inputs) [] = ⊥
+-- of each, at most `limit` bytes; their devices then have `afters`
+abbrev pub GetsEach : ℕ → List (List ℕ) → List (Option (List ℕ)) → List Got → Type 0
+GetsEach limit [] [] [] = Unit {0}
+GetsEach limit (input ∷ inputs) (after ∷ afters) (g ∷ gots) =
+    Gets limit input after g.text g.ending × GetsEach limit inputs afters gots
+GetsEach limit _ _ _ = ⊥
 
 abbrev pub AreFaultless : List Got → Type 0
 AreFaultless [] = Unit {0}
 AreFaultless (g ∷ gots) = IsFaultless g.text g.ending × AreFaultless gots
 
--- number `index`, from 0, is the first that is refused
+-- number `index`, from 0, is the first that is not taken
 abbrev pub IsFirstRefused : ℕ → InputFault → List Got → Type 0
 IsFirstRefused index e [] = ⊥
-IsFirstRefused zero e (g ∷ gots) = IsRefused e g.text g.ending
+IsFirstRefused zero e (g ∷ gots) = IsNotTaken e g.text g.ending
 IsFirstRefused (suc index) e (g ∷ gots) =
     IsFaultless g.text g.ending × IsFirstRefused index e gots
 
@@ -73,18 +71,22 @@ abbrev pub MergesEach : Result (Unit {0}) RunFault → Option (List ℕ) → Opt
 MergesEach (Ok u) old new gots = WritesBook gots (λ text. Appends old new text)
 MergesEach (Err Write) old new gots = WritesBook gots (λ text. AppendsFront old new text)
 MergesEach (Err (Input index e)) old new gots = IsFirstRefused index e gots × (new ≡ old)
+MergesEach (Err Memory) old new gots = ⊥
 
--- of each input at most `limit` bytes are got, and P holds of what was got
-pub record HoldsOfEach (limit : ℕ) (inputs : List (List ℕ)) (P : List Got → Type 0) : Type 0 where
+-- of each input at most `limit` bytes are got, and P holds of what was got; the devices then have
+-- `afters`
+pub record HoldsOfEach (limit : ℕ) (inputs : List (List ℕ)) (afters : List (Option (List ℕ)))
+    (P : List Got → Type 0) : Type 0 where
   pub gots : List Got
-  pub gets : GetsEach limit inputs gots
+  pub gets : GetsEach limit inputs afters gots
   pub holds : P gots
 
 -- where the bytes of all inputs are known
-abbrev pub OfEach : ℕ → List (Option (List ℕ)) → (List Got → Type 0) → Type 0
-OfEach limit knowns P =
+abbrev pub OfEach : ℕ → List (Option (List ℕ)) → List (Option (List ℕ)) → (List Got → Type 0)
+    → Type 0
+OfEach limit knowns afters P =
     (inputs : List (List ℕ)) → knowns ≡ map (λ input. Some input) inputs
-    → HoldsOfEach limit inputs P
+    → HoldsOfEach limit inputs afters P
 
 -- ---- failed reads
 
@@ -100,8 +102,33 @@ pub record RoseAt {R : Type 0} (index : ℕ) (old new : List (Counted R)) : Type
 abbrev pub RoseWhereRead : {R : Type 0} → RunFault → List (Counted R) → List (Counted R) → Type 0
 RoseWhereRead (Input index e) old new = IsReadFault e → RoseAt index old new
 RoseWhereRead Write old new = Unit {0}
+RoseWhereRead Memory old new = ⊥
+
+-- the answer is a failed read of input number `k`
+abbrev pub IsReadOf : ℕ → RunFault → Type 0
+IsReadOf k (Input index e) = (index ≡ k) × IsReadFault e
+IsReadOf k Write = ⊥
+IsReadOf k Memory = ⊥
+
+-- of each reader, the count of answered faults rose where P holds of its number, and else is as it
+-- was
+abbrev pub RoseWhereEach : {R : Type 0} → (ℕ → Type 0) → List (Counted R) → List (Counted R)
+    → Type 0
+RoseWhereEach {R} P old new = (k : ℕ) (before after : Counted R) → slice_get old k ≡ Some before
+    → slice_get new k ≡ Some after → RoseWhere (P k) (answered_of before) (answered_of after)
+
+-- the readers after number `index` are as they were
+abbrev pub IsAsBefore : {R : Type 0} → ℕ → List (Counted R) → List (Counted R) → Type 0
+IsAsBefore index old new = (k : ℕ) → index < k → slice_get new k ≡ slice_get old k
+
+-- no input was read after one that is refused
+abbrev pub ReadsNoFurther : {R : Type 0} → RunFault → List (Counted R) → List (Counted R) → Type 0
+ReadsNoFurther (Input index e) old new = IsAsBefore index old new
+ReadsNoFurther Write old new = Unit {0}
+ReadsNoFurther Memory old new = ⊥
 
 -- where an input is refused, nothing is written
 abbrev pub WritesNothing : RunFault → Option (List ℕ) → Option (List ℕ) → Type 0
 WritesNothing (Input index e) old new = new ≡ old
 WritesNothing Write old new = Unit {0}
+WritesNothing Memory old new = new ≡ old

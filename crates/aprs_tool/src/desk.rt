@@ -3,7 +3,7 @@ ghost use Rattle.std.specs.Prelude.{◌≤◌};
 
 use crate::fault::InputFault;
 use crate::input::read_input;
-use aprs_book::{Book, Memory};
+use aprs_book::Book;
 use aprs_kiss::Counted;
 use std::alloc::Global;
 use std::io::Read;
@@ -18,8 +18,8 @@ pub struct Desk {
 }
 
 impl Desk {
-    ghost use Rattle.std.specs.Prelude.{◌≡◌, ◌≤◌, [], IfErr, OnErr};
-    ghost use Rattle.aprs_kiss.specs.Device.{device_of, failures_of, Rose};
+    ghost use Rattle.std.specs.Prelude.{◌≡◌, ◌≤◌, [], IfErr, IsErrAnd, OnErr};
+    ghost use Rattle.aprs_kiss.specs.Device.{device_of, failures_of, answered_of, Rose, RoseWhere};
     ghost use Rattle.aprs_laws.specs.Book.{BookOf};
     ghost use Rattle.aprs_laws.specs.Gap.{gap_seconds};
     ghost use Rattle.aprs_tool.specs.Desk.{limit_of, rows_of};
@@ -27,7 +27,7 @@ impl Desk {
     ghost use Rattle.aprs_tool.specs.Run.{IsReadFault};
 
     /// An empty book, into which inputs are read up to `limit` bytes each. Requires that `limit` is
-    /// at most `MAX_INPUT`. Takes no memory.
+    /// at most 1,073,741,824 (`MAX_INPUT`). Takes no memory.
     pub fn new(alloc: Global, limit: u64) -> Desk
         requires { limit ≤ 1073741824 }
         ensures rows { rows_of result ≡ [] }
@@ -42,7 +42,8 @@ impl Desk {
     }
 
     /// Reads an input, as `read_input` does: the book of a set becomes the book of that set and of
-    /// the input's receptions. After a fault the desk is as before.
+    /// the input's receptions. `Memory` also comes where it was refused for the merge. After a fault
+    /// the desk is as before.
     pub fn take_input<R: Read>(&mut self, r: &mut Counted<R>) -> Result<(), InputFault>
         ensures takes { OfGot (limit_of self.old) (R.remaining (device_of r.old))
             (R.remaining (device_of r.new)) (TakesInput result (rows_of self.old) (rows_of self.new)) }
@@ -51,18 +52,13 @@ impl Desk {
         ensures count { failures_of r.old ≤ failures_of r.new }
         ensures read { IfErr result (λ e. IsReadFault e
             → Rose (failures_of r.old) (failures_of r.new)) }
+        // A failed read is told where a call of the reader answered one, and nowhere else.
+        ensures answered { RoseWhere (IsErrAnd result IsReadFault) (answered_of r.old)
+            (answered_of r.new) }
     {
-        let input = match read_input(self.alloc, self.limit, r) {
-            Ok(input) => input,
-            Err(fault) => return Err(fault),
-        };
-        match self.book.merge(&input) {
-            Ok(book) => {
-                self.book = book;
-                Ok(())
-            }
-            Err(Memory) => Err(InputFault::Memory),
-        }
+        let input = read_input(self.alloc, self.limit, r)?;
+        self.book = self.book.merge(&input)?;
+        Ok(())
     }
 
     /// The book. Takes no memory.

@@ -2,7 +2,9 @@
 ghost use Rattle.std.specs.Prelude.{◌≡◌};
 ghost use Rattle.aprs_tool.specs.Status.{status_of_fault, status_of_input};
 
+use aprs_book::Memory;
 use aprs_booktext::{BookCause, BookFault};
+use aprs_kiss::WriteFault;
 use aprs_log::{LogCause, LogFault};
 use thiserror::Error;
 
@@ -20,6 +22,36 @@ pub enum InputFault {
     Memory,
 }
 
+impl From<LogFault> for InputFault {
+    ghost use Rattle.aprs_tool.specs.declared.fault.InputFault.TheVariants.{Log};
+
+    ghost from_gives = { λ fault made. made ≡ Log fault };
+
+    fn from(fault: LogFault) -> InputFault {
+        InputFault::Log(fault)
+    }
+}
+
+impl From<BookFault> for InputFault {
+    ghost use Rattle.aprs_tool.specs.declared.fault.InputFault.TheVariants.{Book};
+
+    ghost from_gives = { λ fault made. made ≡ Book fault };
+
+    fn from(fault: BookFault) -> InputFault {
+        InputFault::Book(fault)
+    }
+}
+
+impl From<Memory> for InputFault {
+    ghost use Rattle.aprs_tool.specs.declared.fault.InputFault.TheVariants as fault;
+
+    ghost from_gives = { λ memory made. made ≡ fault.Memory };
+
+    fn from(_memory: Memory) -> InputFault {
+        InputFault::Memory
+    }
+}
+
 /// Why a run answers before its end.
 #[derive(Debug, Drop, Error)]
 pub enum RunFault {
@@ -29,6 +61,34 @@ pub enum RunFault {
     /// The output was refused.
     #[error("cannot write")]
     Write,
+    /// Memory was refused for what the run shows.
+    #[error("out of memory")]
+    Memory,
+}
+
+/// The only input, number 0, has this fault.
+impl From<LogFault> for RunFault {
+    ghost use Rattle.aprs_tool.specs.declared.fault.InputFault.TheVariants.{Log};
+    ghost use Rattle.aprs_tool.specs.declared.fault.RunFault.TheVariants.{Input};
+
+    ghost from_gives = { λ fault made. made ≡ Input 0 (Log fault) };
+
+    fn from(fault: LogFault) -> RunFault {
+        RunFault::Input {
+            index: 0,
+            fault: InputFault::Log(fault),
+        }
+    }
+}
+
+impl From<WriteFault> for RunFault {
+    ghost use Rattle.aprs_tool.specs.declared.fault.RunFault.TheVariants.{Write};
+
+    ghost from_gives = { λ fault made. made ≡ Write };
+
+    fn from(_fault: WriteFault) -> RunFault {
+        RunFault::Write
+    }
 }
 
 /// The program's exit status for a run's fault: 4 where memory was refused, 3 where the output was,
@@ -39,6 +99,7 @@ pub fn status_of(fault: &RunFault) -> u8
     match fault {
         RunFault::Input { fault, .. } => status_of_input(fault),
         RunFault::Write => 3,
+        RunFault::Memory => 4,
     }
 }
 

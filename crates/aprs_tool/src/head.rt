@@ -1,9 +1,11 @@
 //! The first bytes of an input, by which a book file is told from a log.
-ghost use Rattle.std.specs.Prelude.{◌≡◌, ◌<◌, ◌≤◌, [], ◌∷◌, length, IfSome, IfOk, IfErr, IsErrAnd, OnOk};
+ghost use Rattle.std.specs.Prelude.{◌≡◌, ◌<◌, ◌≤◌, [], ◌∷◌, false, length, IfSome, IfOk, IfErr, IsErrAnd, OnOk};
+ghost use Rattle.std.specs.List.{list_any};
 ghost use Rattle.std.specs.Io.KnownBytes.{Consumes};
 ghost use Rattle.aprs_kiss.specs.Device.{device_of, failures_of, answered_of, Rose, RoseWhere};
 ghost use Rattle.aprs_log.specs.Awaits.{EndsHere};
-ghost use Rattle.aprs_log.specs.LogAnswers.{Gets};
+ghost use Rattle.aprs_log.specs.LogAnswers.{Gets, is_lf};
+ghost use Rattle.aprs_tool.specs.Head.{IsHead};
 
 use crate::capture::ending_at_limit;
 use aprs_kiss::Counted;
@@ -14,19 +16,25 @@ use std::io::Read;
 /// So many bytes tell a book file from a log.
 const HEAD: usize = 8;
 
-/// All of an input of which fewer bytes were got, and what came after them.
+/// What ends a line.
+const LF: u8 = b'\n';
+
+/// All of an input of which fewer bytes were got, none of them an LF, and what came after them.
 #[derive(Drop)]
 pub struct ShortInput {
     pub bytes: ArrayVec<u8, HEAD>,
     pub ending: Ending,
 }
 
-/// Reads the first eight bytes of an input, or all where fewer are got.
+/// Reads the first eight bytes of an input, or fewer where an LF is the last of them, or all where
+/// neither is got.
 pub fn read_head<R: Read>(limit: u64, r: &mut Counted<R>) -> Result<ArrayVec<u8, HEAD>, ShortInput>
-    ensures whole { IfOk result (λ head. (length head.items ≡ 8) × (8 ≤ limit)) }
+    ensures whole { IfOk result (λ head. IsHead head.items × (length head.items ≤ limit)) }
+    ensures few { IfOk result (λ head. length head.items ≤ 8) }
     ensures bytes { IfOk result (λ head. Consumes (R.remaining (device_of r.old))
         (R.remaining (device_of r.new)) head.items) }
     ensures short { IfErr result (λ s. length s.bytes.items < 8) }
+    ensures one { IfErr result (λ s. list_any is_lf s.bytes.items ≡ false) }
     ensures end { IfErr result (λ s. IfSome (R.remaining (device_of r.old))
         (λ input. Gets limit input (R.remaining (device_of r.new)) s.bytes.items s.ending)) }
     ensures count { failures_of r.old ≤ failures_of r.new }
@@ -38,6 +46,10 @@ pub fn read_head<R: Read>(limit: u64, r: &mut Counted<R>) -> Result<ArrayVec<u8,
     let mut bytes = ArrayVec::new();
     while bytes.len() < HEAD {
         match read_byte(r, limit - bytes.len() as u64) {
+            Ok(LF) => {
+                bytes.push(LF);
+                return Ok(bytes);
+            }
             Ok(byte) => bytes.push(byte),
             Err(ending) => return Err(ShortInput { bytes, ending }),
         }

@@ -1,7 +1,9 @@
 //! The book of an input, which is a log or a book file.
-ghost use Rattle.std.specs.Prelude.{◌≡◌, ◌<◌, ◌≤◌, ◌∷◌, [], ◌++◌, length, None, Some, IfSome, IfErr, IsErrAnd, OnOk, OnErr};
+ghost use Rattle.std.specs.Prelude.{◌≡◌, ◌↔◌, ◌<◌, ◌≤◌, ◌∷◌, [], ◌++◌, false, length, None, Some, IfSome, IfErr, IsErrAnd, OnOk, OnErr};
+ghost use Rattle.std.specs.List.{list_any};
 ghost use Rattle.aprs_kiss.specs.Device.{device_of, failures_of, answered_of, Rose, RoseWhere};
-ghost use Rattle.aprs_log.specs.LogAnswers.{ended, fault_at, log_answers, receptions_of};
+ghost use Rattle.aprs_log.specs.LogAnswers.{ended, fault_at, is_lf, log_answers, receptions_of};
+ghost use Rattle.aprs_tool.specs.Head.{IsHead};
 ghost use Rattle.aprs_tool.specs.Inputs.{AddsAll, HoldsOfGot, OfGot, ReadsInput, ReadsLog};
 ghost use Rattle.aprs_tool.specs.Run.{IsReadFault};
 
@@ -19,9 +21,11 @@ const BOOK_MARK: &[u8] = b"APRSBOOK";
 
 /// Reads the book of an input: its own, where its first eight bytes are `APRSBOOK`, and else that
 /// of the receptions of a log, whose other lines are passed over. At most `limit` bytes are read, to
-/// the end. Requires that `limit` is at most `MAX_INPUT`. A faulty input gives its first fault, and
-/// `Memory`, or a book's cause of that name, comes before it where memory was refused. An input of
-/// which fewer than eight bytes are got is a log. Holds the book and one line.
+/// the end. Requires that `limit` is at most 1,073,741,824 (`MAX_INPUT`). A faulty input gives its
+/// first fault. Where memory was refused before it, a log gives `Memory`, and a book file `Book` with
+/// that cause and the line that was being read. An input of which fewer than eight bytes are got is
+/// a log, and one with an LF among its first eight is judged by that line first. Holds the book and
+/// one line.
 pub fn read_input<R: Read>(
     alloc: Global,
     limit: u64,
@@ -33,9 +37,9 @@ pub fn read_input<R: Read>(
     ensures count { failures_of r.old ≤ failures_of r.new }
     ensures read { IfErr result (λ e. IsReadFault e
         → Rose (failures_of r.old) (failures_of r.new)) }
-    ensures answered { IfErr result (λ e. IsReadFault e
-        → Rose (answered_of r.old) (answered_of r.new)) }
-    ensures good { OnOk result (answered_of r.new ≡ answered_of r.old) }
+    // A failed read is told where a call of the reader answered one, and nowhere else.
+    ensures answered { RoseWhere (IsErrAnd result IsReadFault) (answered_of r.old)
+        (answered_of r.new) }
 {
     match read_head(limit, r) {
         Ok(head) => read_whole(alloc, limit, head.as_slice(), r),
@@ -43,7 +47,7 @@ pub fn read_input<R: Read>(
     }
 }
 
-/// The book of an input that begins with these eight bytes.
+/// The book of an input that begins with these bytes, which tell what it is.
 fn read_whole<R: Read>(
     alloc: Global,
     limit: u64,
@@ -51,8 +55,9 @@ fn read_whole<R: Read>(
     r: &mut Counted<R>,
 ) -> Result<Book, InputFault>
     requires limit { limit ≤ 1073741824 }
-    requires head { length head.now ≡ 8 }
-    requires within { 8 ≤ limit }
+    requires head { IsHead head.now }
+    requires few { length head.now ≤ 8 }
+    requires within { length head.now ≤ limit }
     ensures reads { IfSome (R.remaining (device_of r.old))
         (λ input. HoldsOfGot limit (head.now ++ input) (R.remaining (device_of r.new))
         (ReadsInput result)) }
@@ -65,10 +70,8 @@ fn read_whole<R: Read>(
     if head != BOOK_MARK {
         return read_log(alloc, limit, head, r);
     }
-    match read_book(alloc, limit, head, r) {
-        Ok(book) => Ok(book),
-        Err(fault) => Err(InputFault::Book(fault)),
-    }
+    let book = read_book(alloc, limit, head, r)?;
+    Ok(book)
 }
 
 /// The book of the receptions of a log that begins with `head`.
@@ -93,14 +96,10 @@ fn read_log<R: Read>(
     let mut reader = LogReader::new(alloc, limit, head, r);
     let mut book = Book::new(alloc);
     'lines: loop {
-        match reader.advance() {
-            Ok(true) => match take_line(&mut book, reader.current()) {
-                Ok(()) => {}
-                Err(Memory) => return Err(InputFault::Memory),
-            },
-            Ok(false) => return Ok(book),
-            Err(fault) => return Err(InputFault::Log(fault)),
+        if !reader.advance()? {
+            return Ok(book);
         }
+        take_line(&mut book, reader.current())?;
     }
 }
 
@@ -116,27 +115,24 @@ fn take_line(book: &mut Book, line: &Line) -> Result<(), Memory>
 
 /// The answer for an input that is too short to tell what it is: that of a log.
 fn read_short(alloc: Global, short: &ShortInput) -> Result<Book, InputFault>
-    requires { length short.now.bytes.items < 8 }
+    requires few { length short.now.bytes.items < 8 }
+    requires one { list_any is_lf short.now.bytes.items ≡ false }
     ensures reads { ReadsInput result short.now.bytes.items short.now.ending }
-    ensures good { OnOk result (short.now.ending ≡ Ending.End) }
-    ensures read { IfErr result (λ e. IsReadFault e → short.now.ending ≡ Ending.Read) }
+    ensures read { IsErrAnd result IsReadFault ↔ (short.now.ending ≡ Ending.Read) }
 {
     match refuse_short(short.bytes.as_slice(), short.ending) {
-        Some(cause) => Err(InputFault::Log(LogFault { line: 1, cause })),
+        Some(cause) => Err(InputFault::from(LogFault { line: 1, cause })),
         None => Ok(Book::new(alloc)),
     }
 }
 
-/// Why a log of so few bytes is refused, if it is. A line of it would be too short for a moment.
+/// Why a log of so few bytes without an LF is refused, if it is.
 fn refuse_short(text: &[u8], ending: Ending) -> Option<LogCause>
-    requires { length text.now < 8 }
+    requires few { length text.now < 8 }
+    requires one { list_any is_lf text.now ≡ false }
     ensures answers { log_answers text.now ending ≡ ended (fault_at 1 result) }
-    ensures read { result ≡ Some LogCause.Read → ending ≡ Ending.Read }
-    ensures good { result ≡ None → ending ≡ Ending.End }
+    ensures read { (result ≡ Some LogCause.Read) ↔ (ending ≡ Ending.Read) }
 {
-    if text.contains(&b'\n') {
-        return Some(LogCause::Moment);
-    }
     match ending {
         Ending::Read => Some(LogCause::Read),
         Ending::TooLong => Some(LogCause::TooLong),

@@ -1,7 +1,8 @@
 //! The merge of several inputs.
-ghost use Rattle.std.specs.Prelude.{◌≡◌, ◌≤◌, map, IfErr};
+ghost use Rattle.std.specs.Prelude.{◌≡◌, ◌≤◌, map, IfErr, IsErrAnd};
 ghost use Rattle.aprs_kiss.specs.Device.{device_of, failures_of, Rose};
-ghost use Rattle.aprs_tool.specs.Merge.{MergesEach, OfEach, ReadsEach, RoseAt, RoseWhereRead};
+ghost use Rattle.aprs_tool.specs.Merge.{IsAsBefore, IsReadOf, MergesEach, OfEach, ReadsEach};
+ghost use Rattle.aprs_tool.specs.Merge.{ReadsNoFurther, RoseAt, RoseWhereEach, RoseWhereRead};
 ghost use Rattle.aprs_tool.specs.Merge.{WritesNothing};
 ghost use Rattle.aprs_tool.specs.Run.{IsReadFault};
 
@@ -14,9 +15,10 @@ use std::alloc::Global;
 use std::io::{Read, Write};
 
 /// Writes the text of the book of all inputs' receptions, each input read as by `read_input`.
-/// Requires that `limit` is at most `MAX_INPUT`. All inputs are read, in order, before the first
-/// byte is written: where one is refused, its number and fault are told, no further one is read,
-/// and nothing is written. At `Write` a front of the text was written.
+/// Requires that `limit` is at most 1,073,741,824 (`MAX_INPUT`). All inputs are read, in order,
+/// before the first byte is written: where one is refused, its number and fault are reported, no
+/// further one is read, and nothing is written. At `Write` a prefix of the text was written. Never
+/// answers `RunFault::Memory`: want of memory is that of an input.
 pub fn merge_run<R: Read, W: Write>(
     alloc: Global,
     limit: u64,
@@ -25,10 +27,14 @@ pub fn merge_run<R: Read, W: Write>(
 ) -> Result<(), RunFault>
     requires { limit ≤ 1073741824 }
     ensures run { OfEach limit (map (λ r. R.remaining (device_of r)) inputs.old)
+        (map (λ r. R.remaining (device_of r)) inputs.new)
         (MergesEach result (W.contents (device_of w.old)) (W.contents (device_of w.new))) }
     ensures nothing { IfErr result (λ e. WritesNothing e (W.contents (device_of w.old))
         (W.contents (device_of w.new))) }
+    ensures unread { IfErr result (λ e. ReadsNoFurther e inputs.old inputs.new) }
     ensures read { IfErr result (λ e. RoseWhereRead e inputs.old inputs.new) }
+    // A failed read is told of an input where a call of its reader answered one, and nowhere else.
+    ensures answered { RoseWhereEach (λ k. IsErrAnd result (IsReadOf k)) inputs.old inputs.new }
     ensures write { IfErr result (λ e. e ≡ RunFault.Write
         → Rose (failures_of w.old) (failures_of w.new)) }
 {
@@ -36,10 +42,7 @@ pub fn merge_run<R: Read, W: Write>(
         Ok(book) => book,
         Err((index, fault)) => return Err(RunFault::Input { index, fault }),
     };
-    match write_book(w, &book) {
-        Ok(()) => Ok(()),
-        Err(_) => Err(RunFault::Write),
-    }
+    Ok(write_book(w, &book)?)
 }
 
 /// The book of all inputs' receptions, or the first input that is refused, with its fault.
@@ -50,8 +53,11 @@ fn read_all<R: Read>(
 ) -> Result<Book, (usize, InputFault)>
     requires { limit ≤ 1073741824 }
     ensures reads { OfEach limit (map (λ r. R.remaining (device_of r)) inputs.old)
-        (ReadsEach result) }
+        (map (λ r. R.remaining (device_of r)) inputs.new) (ReadsEach result) }
+    ensures unread { IfErr result (λ p. IsAsBefore p.0 inputs.old inputs.new) }
     ensures read { IfErr result (λ p. IsReadFault p.1 → RoseAt p.0 inputs.old inputs.new) }
+    ensures answered { RoseWhereEach (λ k. IsErrAnd result (λ p. (p.0 ≡ k) × IsReadFault p.1))
+        inputs.old inputs.new }
 {
     let mut desk = Desk::new(alloc, limit);
     for (index, r) in inputs.iter_mut().enumerate() {

@@ -2,7 +2,9 @@ use Rattle.std.proofs.Common.{◌≡◌, ◌-◌, ◌∙◌, refl, [], ap, arith
 use Rattle.std.proofs.lemmas.Result.{err_from_is_err_and, IfErr-weaker}
 use Rattle.aprs_booktext.proofs.Accepting.{accepts}
 use Rattle.aprs_kiss.specs.Device.{device_of}
+use Rattle.aprs_booktext.specs.FirstFault.{piece_most}
 use Rattle.aprs_booktext.specs.Reader.{IsFault, Stands}
+use Rattle.aprs_booktext.proofs.Standing.{fault_near}
 use Rattle.aprs_booktext.proofs.Inputs.{Got-none, Got-more, Gets-here, Reads-got, Reads-fault}
 use Rattle.aprs_booktext.proofs.read.read_book.Goals as goal
 
@@ -11,8 +13,8 @@ returns-in_err-feed-clause-reads g c =
     let p = err_from_is_err_and c.from_residual.result c.from_residual.ensures.1 in
     let f = c.in_err-feed.field-0.0 in
     rw (p.1, p.2) (Reads-fault f c.args.head.now _ _ _ _
-    (Got-none (IsFault f) c.args.head.now (g.R.Read.remaining (device_of c.args.source.now)) c.args.limit (c.args.limit - length c.args.head.now)
-    (c.in_err-feed.ensures.fault [] c.new-reader.ensures.stands) (omega arith)))
+    (Got-none (IsFault piece_most f) c.args.head.now (g.R.Read.remaining (device_of c.args.source.now)) c.args.limit (c.args.limit - length c.args.head.now)
+    (fault_near (length c.args.head.now) piece_most f c.args.head.now (omega arith) (c.in_err-feed.ensures.fault [] c.new-reader.ensures.stands)) (omega arith)))
 
 pub loop-count-init : goal.loop-count-init
 loop-count-init g c = record {
@@ -30,8 +32,8 @@ returns-in_err-feed-in-Ok-clause-reads g c =
     let some = c.in-Ok.ensures.some in
     let size : length (take n c.read_piece.new.room) ≡ n = simp length-take (omega (arith, some)) in
     rw (p.1, p.2) (Reads-fault f c.args.head.now _ _ _ _
-    (Got-more _ c.args.head.now _ _ _ _ c.loop-count.invariant.got (IsFault f) _ (take n c.read_piece.new.room) (c.loop-count.left - n)
-    c.in_err-feed-in-Ok.ensures.fault c.in-Ok.ensures.more (omega (arith, size, some))))
+    (Got-more _ c.args.head.now _ _ _ _ c.loop-count.invariant.got (IsFault piece_most f) _ (take n c.read_piece.new.room) (c.loop-count.left - n)
+    (λ t s. fault_near (length (take n c.read_piece.new.room)) piece_most f _ (omega (arith, size, some)) (c.in_err-feed-in-Ok.ensures.fault t s)) c.in-Ok.ensures.more (omega (arith, size, some))))
 
 pub loop-count-preserved : goal.loop-count-preserved
 loop-count-preserved g c =

@@ -2,15 +2,17 @@ use Rattle.std.proofs.Common.{arith}
 use Rattle.aprs_kiss.proofs.Bytes.{on_err}
 use Rattle.aprs_booktext.specs.Outbox.{line_and_lf}
 use Rattle.aprs_booktext.proofs.Sending.{PutSoFar-none, PutSoFar-more, front_of_more}
+use Rattle.aprs_booktext.proofs.Written.{WrittenSoFar-none, WrittenSoFar-more}
 use Rattle.aprs_booktext.proofs.write.put_rows.Goals as goal
 
 pub loop-row-init : goal.loop-row-init
-loop-row-init g c = record { put = rw (c.into_iter-row-iterator.ensures.into_iter_gives, c.rows-row-items.ensures.rows) (PutSoFar-none line_and_lf _ _ _); count = omega arith }
+loop-row-init g c = record { put = rw (c.into_iter-row-iterator.ensures.into_iter_gives, c.rows-row-items.ensures.rows) (PutSoFar-none line_and_lf _ _ _); count = omega arith; written = rw (c.into_iter-row-iterator.ensures.into_iter_gives, c.rows-row-items.ensures.rows) (WrittenSoFar-none _) }
 
 pub loop-row-preserved : goal.loop-row-preserved
 loop-row-preserved g c = record {
   put = PutSoFar-more line_and_lf _ _ _ _ _ _ _ _ _ c.loop-row.invariant.put c.in-Some.ensures.steps _ c.in_ok-put_row.ensures.sent;
   count = omega (arith, c.loop-row.invariant.count, c.put_row.ensures.count);
+  written = WrittenSoFar-more _ _ _ _ c.rows-row-items.ensures.sound c.loop-row.invariant.written c.in-Some.ensures.steps c.in_ok-put_row.ensures.spelled;
 }
 
 pub returns-in_err-put_row-clause-prefix : goal.returns-in_err-put_row-clause-prefix

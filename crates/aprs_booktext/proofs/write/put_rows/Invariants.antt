@@ -2,6 +2,7 @@ use Rattle.std.proofs.Common.{◌≤◌}
 use Rattle.aprs_kiss.specs.Device.{device_of, failures_of}
 use Rattle.aprs_booktext.specs.Outbox.{line_and_lf}
 use Rattle.aprs_booktext.proofs.Sending.{PutSoFar}
+use Rattle.aprs_booktext.proofs.Written.{WrittenSoFar}
 use Rattle.aprs_booktext.proofs.write.put_rows.Given as goal
 
 abbrev pub invariant-loop-row : goal.invariant-loop-row
@@ -10,4 +11,5 @@ invariant-loop-row g l =
     record {
       put : PutSoFar line_and_lf (contents (device_of l.initial.w)) (contents (device_of l.w)) l.initial.held.items l.held.items l.fn.book l.row-iterator;
       count : failures_of l.initial.w ≤ failures_of l.w;
+      written : WrittenSoFar l.fn.book l.row-iterator;
     }

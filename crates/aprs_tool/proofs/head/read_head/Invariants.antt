@@ -1,6 +1,8 @@
-use Rattle.std.proofs.Common.{◌≡◌, ◌≤◌, ◌-◌, length}
+use Rattle.std.proofs.Common.{◌≡◌, ◌≤◌, ◌-◌, length, false}
+use Rattle.std.specs.List.{list_any}
 use Rattle.std.specs.Io.KnownBytes.{Consumes}
 use Rattle.aprs_kiss.specs.Device.{device_of, failures_of, answered_of}
+use Rattle.aprs_log.specs.LogAnswers.{is_lf}
 use Rattle.aprs_tool.proofs.head.read_head.Given as goal
 
 abbrev pub invariant-loop-r : goal.invariant-loop-r
@@ -8,6 +10,7 @@ invariant-loop-r g l = record {
   took : Consumes (g.R.Read.remaining (device_of l.initial.r)) (g.R.Read.remaining (device_of l.r)) l.bytes.items;
   few : length l.bytes.items ≤ l.limit;
   most : length l.bytes.items ≤ 8;
+  one : list_any is_lf l.bytes.items ≡ false;
   answered : answered_of l.r ≡ answered_of l.initial.r;
   count : failures_of l.initial.r ≤ failures_of l.r;
 }

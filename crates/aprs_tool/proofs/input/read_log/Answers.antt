@@ -1,4 +1,5 @@
 use Rattle.std.proofs.Common.{arith, refl, ◌∙◌, ◌++◌, subst, rules, IfSome, Ok, Err}
+use Rattle.std.proofs.lemmas.Result.{err_from_is_err_and}
 use Rattle.aprs_kiss.specs.Device.{device_of}
 use Rattle.aprs_tool.specs.Inputs.{HoldsOfGot, ReadsLog}
 use Rattle.aprs_tool.specs.declared.fault.InputFault.TheVariants.{Log}
@@ -17,25 +18,30 @@ lines-init g c = record {
 
 pub lines-preserved : goal.lines-preserved
 lines-preserved g c =
-    let gives = rw c.in-Ok-true.field-0-test at c.in-Ok-true.ensures.gives in
+    let gives = rw c.if-not-branch.false at c.in_ok-advance.ensures.gives in
     record {
       same_reference = cc;
-      reads = omega (arith, c.in-Ok-true.ensures.count, c.lines.invariant.reads);
+      reads = omega (arith, c.in_ok-advance.ensures.count, c.lines.invariant.reads);
       going = gives.1;
-      answered = (c.in-Ok-true.ensures.answered c.lines.invariant.going).1 (λ e. absurd e) ∙ c.lines.invariant.answered;
-      took = λ end. Took-line _ _ _ _ _ (current_of c.advance.new.self) _ c.current.ensures (c.lines.invariant.took end) (gives.2 end) c.in-Ok.ensures;
+      answered = (c.in_ok-advance.ensures.answered c.lines.invariant.going).1 (λ e. absurd e) ∙ c.lines.invariant.answered;
+      took = λ end. Took-line _ _ _ _ _ (current_of c.advance.new.self) _ c.current.ensures (c.lines.invariant.took end) (gives.2 end) c.in_ok-take_line.ensures;
     }
 
-pub returns-in-Ok-false-clause-reads : goal.returns-in-Ok-false-clause-reads
-returns-in-Ok-false-clause-reads g c =
-    let gives = rw c.in-Ok-false.field-0-test at c.in-Ok-false.ensures.gives in
+pub returns-then-not-branch-clause-reads : goal.returns-then-not-branch-clause-reads
+returns-then-not-branch-clause-reads g c =
+    let gives = rw c.if-not-branch.true at c.in_ok-advance.ensures.gives in
     subst (λ k. IfSome (g.R.Read.remaining (device_of c.args.r.now)) (λ input. HoldsOfGot c.args.limit (c.args.head.now ++ input) k (ReadsLog (Ok c.lines.book)))) (search rules)
     (Took-ended _ _ _ _ _ c.args.limit c.args.head.now (c.lines.invariant.took _) gives.2 (c.new-reader.ensures.whole _))
 
-pub returns-in-Err-clause-reads : goal.returns-in-Err-clause-reads
-returns-in-Err-clause-reads g c =
-    subst (λ k. IfSome (g.R.Read.remaining (device_of c.args.r.now)) (λ input. HoldsOfGot c.args.limit (c.args.head.now ++ input) k (ReadsLog (Err (Log c.in-Err.fault))))) (search rules)
-    (Took-fault _ _ _ _ _ c.args.limit c.args.head.now c.in-Err.fault (c.lines.invariant.took _) c.in-Err.ensures.gives.2 (c.new-reader.ensures.whole _))
+pub returns-in_err-advance-clause-reads : goal.returns-in_err-advance-clause-reads
+returns-in_err-advance-clause-reads g c =
+    let p = err_from_is_err_and c.from_residual.result c.from_residual.ensures.1 in
+    let fault = c.in_err-advance.field-0.0 in
+    rw (p.1, p.2)
+    (subst (λ k. IfSome (g.R.Read.remaining (device_of c.args.r.now)) (λ input. HoldsOfGot c.args.limit (c.args.head.now ++ input) k (ReadsLog (Err (Log fault))))) (search rules)
+    (Took-fault _ _ _ _ _ c.args.limit c.args.head.now fault (c.lines.invariant.took _) c.in_err-advance.ensures.gives.2 (c.new-reader.ensures.whole _)))
 
-pub returns-in-Err-take_line-clause-reads : goal.returns-in-Err-take_line-clause-reads
-returns-in-Err-take_line-clause-reads g c = Took-refused _ _ c.args.limit c.args.head.now
+pub returns-in_err-take_line-clause-reads : goal.returns-in_err-take_line-clause-reads
+returns-in_err-take_line-clause-reads g c =
+    let p = err_from_is_err_and c.from_residual-in_err-take_line.result c.from_residual-in_err-take_line.ensures.1 in
+    rw (p.1, p.2) (Took-refused _ _ c.args.limit c.args.head.now)

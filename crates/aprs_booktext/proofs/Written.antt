@@ -1,0 +1,65 @@
+-- Rows that were written can be read.
+use Rattle.std.proofs.Common.{◌≡◌, ℕ, ◌+◌, ◌<◌, ◌≤◌, List, [], ◌∷◌, ◌++◌, length, get_or, take, OnOk, Result, Ok, Err, ◌⊎◌, inl, inr, refl, sym, ap, ◌∙◌, subst, append_assoc, append-nil, arith}
+use Rattle.std.specs.Prelude.{All}
+use Rattle.std.proofs.lemmas.List.{take_more}
+use Rattle.std.proofs.lemmas.List.Elements.{All-nil, All-push}
+use Rattle.aprs_log.specs.Receiver.{IsName}
+use Rattle.aprs_laws.specs.Gap.{gap_seconds}
+use Rattle.aprs_laws.specs.Lists.{◌∈◌}
+use Rattle.aprs_laws.specs.Row.{Row}
+use Rattle.aprs_laws.specs.Sound.{Sound}
+use Rattle.aprs_laws.proofs.Lists.{in_right}
+use Rattle.aprs_book.specs.Shown.{row_of}
+use Rattle.aprs_booktext.specs.Outbox.{AreSpelled}
+use Rattle.aprs_booktext.specs.Text.{IsBookRow, IsBookRows}
+
+pub on_ok : {T E P : Type 0} (r : Result T E) → P → OnOk r P
+on_ok (Ok x) p = p
+on_ok (Err e) p = tt
+
+-- the row of what its parts spell
+pub row_written : (first last : ℕ) (names : List (List ℕ)) (who bytes : List ℕ) (row : Row) → row_of first last names who bytes ≡ row
+    → (first ≤ 4102444799) × (last ≤ 4102444799) → All IsName names → AreSpelled who bytes → 0 < length row.receivers → IsBookRow row
+row_written first last names who bytes row e moments names_are s some =
+    let here : 0 < length names = subst (λ (x : Row). 0 < length x.receivers) (sym e) some in
+    let is : IsBookRow (row_of first last names who bytes) = record {
+      spelled = record { first = moments.0; last = moments.1; some = here; receivers = names_are; receiver = s.name_is; bytes = s.bytes_are; few = s.few };
+      frame = s.frame_is;
+    } in
+    subst IsBookRow e is
+
+-- one name more
+pub names_more : (names : List (List ℕ)) (i : ℕ) (name : List ℕ) → i < length names → name ≡ get_or names i name → All IsName (take i names) → IsName name
+    → All IsName (take (i + 1) names)
+names_more names i name lt is h n =
+    subst (All IsName) (ap (λ (y : List ℕ). take i names ++ y ∷ []) is ∙ sym (take_more names i name lt)) (All-push IsName (take i names) name h n)
+
+some_of : (x : List ℕ) (xs : List (List ℕ)) → x ∈ xs → 0 < length xs
+some_of x [] h = absurd h
+some_of x (y ∷ ys) h = omega arith
+
+-- those that were written so far are rows of books
+pub record WrittenSoFar (all rest : List Row) : Type 0 where
+  pub front : List Row
+  pub whole : all ≡ front ++ rest
+  pub each : All IsBookRow front
+
+pub WrittenSoFar-none : (all : List Row) → WrittenSoFar all all
+WrittenSoFar-none all = record { front = []; whole = refl; each = All-nil IsBookRow }
+
+pub WrittenSoFar-more : (all rest more : List Row) (x : Row) → Sound gap_seconds all → WrittenSoFar all rest → rest ≡ x ∷ more → (0 < length x.receivers → IsBookRow x)
+    → WrittenSoFar all more
+WrittenSoFar-more all rest more x sound p next is =
+    let cut : all ≡ p.front ++ x ∷ more = p.whole ∙ ap (λ r. p.front ++ r) next in
+    let own = sound.each x (subst (λ l. x ∈ l) (sym cut) (in_right x p.front (x ∷ more) (inl refl))) in
+    record {
+      front = p.front ++ x ∷ [];
+      whole = cut ∙ sym (append_assoc p.front (x ∷ []) more);
+      each = All-push IsBookRow p.front x p.each (is (some_of x.greatest.receiver x.receivers own.receiver));
+    }
+
+pub WrittenSoFar-all : (all rest : List Row) → Sound gap_seconds all → WrittenSoFar all rest → rest ≡ [] → IsBookRows all
+WrittenSoFar-all all rest sound p e = record {
+  sound = sound;
+  each = subst (All IsBookRow) (sym (p.whole ∙ ap (λ r. p.front ++ r) e ∙ append-nil p.front)) p.each;
+}

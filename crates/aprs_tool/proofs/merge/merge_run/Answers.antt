@@ -1,0 +1,7 @@
+use Rattle.std.proofs.lemmas.Result.{err_from_is_err_and}
+use Rattle.aprs_tool.proofs.merge.merge_run.Goals as goal
+
+pub returns-in_err-write_book-clause-answered : goal.returns-in_err-write_book-clause-answered
+returns-in_err-write_book-clause-answered g c =
+    let p = err_from_is_err_and c.from_residual.result c.from_residual.ensures.1 in
+    rw (p.1, p.2) (λ k before after was is. (λ e. absurd e, λ h. (c.in-Ok.ensures.answered k before after was is).1 (λ e. absurd e)))
