@@ -2,6 +2,7 @@
 #![tactic(auto)]
 
 mod book;
+mod gap;
 mod greatest;
 mod heard;
 mod join;
