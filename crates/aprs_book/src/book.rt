@@ -13,7 +13,7 @@ ghost use Rattle.aprs_book.specs.Refusal.{refusal};
 use crate::gap::Gap;
 use crate::kept_row::KeptRow;
 use crate::merging::merged_rows;
-use crate::place::{Place, find_place};
+use crate::place::put;
 use crate::push::push_parts;
 use crate::walk::Walk;
 use crate::{Join, Memory, RowCause, RowParts, Rows};
@@ -148,36 +148,6 @@ impl<A: Allocator + Copy> Join for Book<A> {
     fn join(&self, other: &Book<A>) -> Result<Book<A>, Memory> {
         self.merge(other)
     }
-}
-
-/// Adds a reception to the rows. What needs memory is made before the first change.
-fn put<A: Allocator + Copy>(
-    gap: Gap,
-    rows: &mut Vec<KeptRow<A>, A>,
-    x: &Reception,
-) -> Result<(), Memory>
-    ensures inserted { OnOk result (rows.new.items ≡ inserted gap x.now rows.old.items) }
-    ensures unchanged { OnErr result (rows.new.items ≡ rows.old.items) }
-    ensures in_place { fits_in_place gap x.now rows.old.items ≡ true → IsOk result }
-{
-    match find_place(gap, rows.as_slice(), x) {
-        Place::New(i) => {
-            let row = KeptRow::single(*rows.allocator(), x)?;
-            if rows.insert(i, row).is_err() {
-                return Err(Memory);
-            }
-        }
-        Place::One(i) => {
-            let row = &mut rows[i];
-            row.grow(x)?;
-        }
-        Place::Two(i) => {
-            let row = rows[i].bridge(x, &rows[i + 1])?;
-            rows[i] = row;
-            rows.remove(i + 1);
-        }
-    }
-    Ok(())
 }
 
 /// Whether the rows are the same.
