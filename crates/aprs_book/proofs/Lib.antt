@@ -1,4 +1,10 @@
 -- Lemmas of the book.
+mod Letters
+mod KnownSteps
+mod KeyBytes
+mod IndexSteps
+mod MergedKeys
+mod Entries
 pub mod Names
 pub mod Places
 pub mod Taking

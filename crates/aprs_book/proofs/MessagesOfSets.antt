@@ -5,7 +5,6 @@ use Rattle.aprs_ax25.specs.CallText.{CallText}
 use Rattle.aprs_log.specs.Reception.{Heard, heard_cmp}
 use Rattle.aprs_laws.specs.Lists.{◌∈◌, Ordered}
 use Rattle.aprs_laws.specs.Order.{IsBelow, IsUpTo}
-use Rattle.aprs_laws.specs.Gap.{gap_seconds}
 use Rattle.aprs_laws.specs.Key.{Key, key_of}
 use Rattle.aprs_laws.specs.Row.{Row, row_key}
 use Rattle.aprs_laws.specs.Book.{BookOf}
@@ -40,12 +39,12 @@ answers_by m a k id f r =
       answer = r.answer;
     })
 
-module _ (S : List Heard) (rows : List Row) (b : BookOf gap_seconds S rows) where
+module _ (gap : ℕ) (S : List Heard) (rows : List Row) (b : BookOf gap S rows) where
   module _ (es : List (Asked × Bor Heard)) (c : AreReplies rows es) (m : Message) (id : List ℕ) where
     pub answer_known : (answer : Option Heard) → TellsAnswer es m id answer
         → LastKnown S (AnswersIt m id) answer
     answer_known None t =
-        none_of_rows gap_seconds S rows (AnswersIt m id) b
+        none_of_rows gap S rows (AnswersIt m id) b
         (λ y h k. let a = answer_at m id (row_key y) k in
         let e = c.every y h (record { source = m.source; addressee = (row_key y).source; id = id }) a.0 in
         t e.0 e.1 (subst (IsFor m id) (sym e.2) a.1))
@@ -53,7 +52,7 @@ module _ (S : List Heard) (rows : List Row) (b : BookOf gap_seconds S rows) wher
         let r = c.each t.0 t.1 in
         let x = r.row in
         subst (IsBest S (AnswersIt m id)) (x.3 ∙ t.4)
-        (best_of_rows gap_seconds S rows (AnswersIt m id) b x.0 x.1
+        (best_of_rows gap S rows (AnswersIt m id) b x.0 x.1
         (answers_by m (answer_of t.0.0) (row_key x.0) id t.2 x.2)
         (λ y h k. let a = answer_at m id (row_key y) k in
         subst (IsUpTo heard_cmp y.greatest) (sym x.3)
@@ -78,11 +77,11 @@ module _ (S : List Heard) (rows : List Row) (b : BookOf gap_seconds S rows) wher
           first =
               subst (λ (m : Message). IsFirstMoment S (ReportsIt m) x.first) (sym e.2.message)
               (subst (IsFirstMoment S (ReportsIt (message_of e.0.0))) (sym e.2.first)
-              ((first_moment gap_seconds S rows (ReportsIt (message_of e.0.0)) b e.0.1.first).1 s.first));
+              ((first_moment gap S rows (ReportsIt (message_of e.0.0)) b e.0.1.first).1 s.first));
           last =
               subst (λ (m : Message). IsLastMoment S (ReportsIt m) x.last) (sym e.2.message)
               (subst (IsLastMoment S (ReportsIt (message_of e.0.0))) (sym e.2.last)
-              ((last_moment gap_seconds S rows (ReportsIt (message_of e.0.0)) b e.0.1.last).1 s.last));
+              ((last_moment gap S rows (ReportsIt (message_of e.0.0)) b e.0.1.last).1 s.last));
           state =
               subst (λ (m : Message). StandsBy S m x.first m.id x.state) (sym e.2.message)
               (subst (λ (n : ℕ). StandsBy S (message_of e.0.0) n (message_of e.0.0).id x.state) (sym e.2.first)
@@ -102,7 +101,7 @@ module _ (S : List Heard) (rows : List Row) (b : BookOf gap_seconds S rows) wher
     listed_there : (m : Message) → (s : Heard) × (s ∈ S) × ReportsIt m (key_of s.frame)
         → (x : MessageRow) × (x ∈ xs) × (shown_message x ≡ m)
     listed_there m h =
-        let y = a_row gap_seconds S rows b h.0 h.1 in
+        let y = a_row gap S rows b h.0 h.1 in
         let e = cs.every y.0 y.1 m (subst (ReportsIt m) y.2.key h.2) in
         let x = in_zip_left (IsListed rs) es xs e.0 z e.1 in
         (x.0, x.1, x.2.message ∙ e.2)
@@ -125,11 +124,11 @@ module _ (S : List Heard) (rows : List Row) (b : BookOf gap_seconds S rows) wher
         in_order es xs z.1 o.1,
       )
 
-pub messages_of_book : {E : Type 0} (A : Type 0) (items : A → List MessageRow) (r : Result A E)
+pub messages_of_book : {E : Type 0} (gap : ℕ) (A : Type 0) (items : A → List MessageRow) (r : Result A E)
     (kept again rows : List Row) (es : List (MessageKey × Span)) (rs : List (Asked × Bor Heard))
     → kept ≡ rows → again ≡ rows → AreSpans kept es → AreReplies again rs → Ordered IsKeyBefore es
-    → IfOk r (λ v. Zipped (IsListed rs) es (items v)) → IfOk r (λ v. TellsMessages rows (items v))
-messages_of_book A items (Ok v) kept again rows es rs e f cs cr o z = λ S b.
-    messages_of_set S rows b es rs (items v)
+    → IfOk r (λ v. Zipped (IsListed rs) es (items v)) → IfOk r (λ v. TellsMessages gap rows (items v))
+messages_of_book gap A items (Ok v) kept again rows es rs e f cs cr o z = λ S b.
+    messages_of_set gap S rows b es rs (items v)
     (subst (λ (t : List Row). AreSpans t es) e cs) (subst (λ (t : List Row). AreReplies t rs) f cr) o z
-messages_of_book A items (Err q) kept again rows es rs e f cs cr o z = tt
+messages_of_book gap A items (Err q) kept again rows es rs e f cs cr o z = tt

@@ -12,7 +12,6 @@ use Rattle.std.proofs.lemmas.Map.Lookups.{CmpEqualImpliesEq, exact_pairs}
 use Rattle.aprs_log.specs.Reception.{Heard, bytes_cmp, heard_cmp}
 use Rattle.aprs_laws.specs.Lists.{◌∈◌, Ordered}
 use Rattle.aprs_laws.specs.Order.{IsBelow, IsUpTo}
-use Rattle.aprs_laws.specs.Gap.{gap_seconds}
 use Rattle.aprs_laws.specs.Key.{key_of}
 use Rattle.aprs_laws.specs.Row.{Row, row_key}
 use Rattle.aprs_laws.specs.Book.{BookOf}
@@ -155,7 +154,7 @@ rows_in_order (e ∷ es) (x ∷ xs) z o = (
   rows_in_order es xs z.1 o.1,
 )
 
-module _ (S : List Heard) (rows : List Row) (b : BookOf gap_seconds S rows)
+module _ (gap : ℕ) (S : List Heard) (rows : List Row) (b : BookOf gap S rows)
     (es : List (NameKey × Bor Heard)) (xs : List Named) (c : AreNames rows es)
     (o : Ordered IsNameBefore es) (z : Zipped IsNamedRow es xs) where
   best : (x : Named) → x ∈ xs → IsBest S (TellsOf (shown_thing x)) x.heard
@@ -165,7 +164,7 @@ module _ (S : List Heard) (rows : List Row) (b : BookOf gap_seconds S rows)
       let y = r.row in
       subst (λ (t : Thing). IsBest S (TellsOf t) x.heard) (sym e.2.thing)
       (subst (IsBest S (TellsOf (thing_of e.0.0))) (y.3 ∙ sym e.2.heard)
-      (best_of_rows gap_seconds S rows (TellsOf (thing_of e.0.0)) b y.0 y.1 y.2
+      (best_of_rows gap S rows (TellsOf (thing_of e.0.0)) b y.0 y.1 y.2
       (λ w k p. subst (IsUpTo heard_cmp w.greatest) (sym y.3) (r.greatest w k p))))
 
   told_of : (t : Thing) → (x : Named) × (x ∈ xs) × (shown_thing x ≡ t)
@@ -177,7 +176,7 @@ module _ (S : List Heard) (rows : List Row) (b : BookOf gap_seconds S rows)
   listed_of : (t : Thing) → (s : Heard) × (s ∈ S) × TellsOf t (key_of s.frame)
       → (x : Named) × (x ∈ xs) × (shown_thing x ≡ t)
   listed_of t h =
-      let y = a_row gap_seconds S rows b h.0 h.1 in
+      let y = a_row gap S rows b h.0 h.1 in
       let e = c.every y.0 y.1 t (subst (TellsOf t) y.2.key h.2) in
       let x = in_zip_left IsNamedRow es xs e.0 z e.1 in
       (x.0, x.1, x.2.thing ∙ e.2)
@@ -189,10 +188,10 @@ module _ (S : List Heard) (rows : List Row) (b : BookOf gap_seconds S rows)
     each = best;
   }
 
-pub named_of_book : {E : Type 0} (A : Type 0) (items : A → List Named) (r : Result A E)
+pub named_of_book : {E : Type 0} (gap : ℕ) (A : Type 0) (items : A → List Named) (r : Result A E)
     (kept rows : List Row) (es : List (NameKey × Bor Heard)) → kept ≡ rows → AreNames kept es
     → Ordered IsNameBefore es → IfOk r (λ v. Zipped IsNamedRow es (items v))
-    → IfOk r (λ v. TellsNamed rows (items v))
-named_of_book A items (Ok v) kept rows es e c o z = λ S b.
-    named_of_set S rows b es (items v) (subst (λ (t : List Row). AreNames t es) e c) o z
-named_of_book A items (Err q) kept rows es e c o z = tt
+    → IfOk r (λ v. TellsNamed gap rows (items v))
+named_of_book gap A items (Ok v) kept rows es e c o z = λ S b.
+    named_of_set gap S rows b es (items v) (subst (λ (t : List Row). AreNames t es) e c) o z
+named_of_book gap A items (Err q) kept rows es e c o z = tt

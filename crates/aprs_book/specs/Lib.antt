@@ -1,4 +1,6 @@
 -- Definitions that contracts of the book cite.
+pub mod Keyed
+pub mod Known
 pub mod Shown
 pub mod Places
 pub mod Taking

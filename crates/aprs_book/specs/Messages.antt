@@ -9,7 +9,6 @@ use Rattle.aprs_log.specs.Reception.{Heard, bytes_cmp}
 use Rattle.aprs_report.specs.Reading.{Value, message, ack, rej}
 use Rattle.aprs_laws.specs.Lists.{◌∈◌, Ordered}
 use Rattle.aprs_laws.specs.Order.{IsBelow}
-use Rattle.aprs_laws.specs.Gap.{gap_seconds}
 use Rattle.aprs_laws.specs.Key.{Key, key_of}
 use Rattle.aprs_laws.specs.Row.{Row}
 use Rattle.aprs_laws.specs.Book.{BookOf}
@@ -103,5 +102,5 @@ pub record AreMessages (S : List Heard) (xs : List MessageRow) : Type 0 where
   pub each : (x : MessageRow) → x ∈ xs → IsMessageRow S x
 
 -- whatever set the rows are the book of, these are its messages
-abbrev pub TellsMessages : List Row → List MessageRow → Type 0
-TellsMessages rows xs = (S : List Heard) → BookOf gap_seconds S rows → AreMessages S xs
+abbrev pub TellsMessages : ℕ → List Row → List MessageRow → Type 0
+TellsMessages gap rows xs = (S : List Heard) → BookOf gap S rows → AreMessages S xs

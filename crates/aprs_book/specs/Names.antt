@@ -6,7 +6,6 @@ use Rattle.aprs_log.specs.Reception.{Heard, bytes_cmp}
 use Rattle.aprs_report.specs.Reading.{Value, object, item}
 use Rattle.aprs_laws.specs.Lists.{◌∈◌, Ordered}
 use Rattle.aprs_laws.specs.Order.{IsBelow}
-use Rattle.aprs_laws.specs.Gap.{gap_seconds}
 use Rattle.aprs_laws.specs.Key.{Key, key_of}
 use Rattle.aprs_laws.specs.Row.{Row}
 use Rattle.aprs_laws.specs.Book.{BookOf}
@@ -47,5 +46,5 @@ pub record AreNamed (S : List Heard) (xs : List Named) : Type 0 where
   pub each : (x : Named) → x ∈ xs → IsBest S (TellsOf (shown_thing x)) x.heard
 
 -- whatever set the rows are the book of, these are its objects and items
-abbrev pub TellsNamed : List Row → List Named → Type 0
-TellsNamed rows xs = (S : List Heard) → BookOf gap_seconds S rows → AreNamed S xs
+abbrev pub TellsNamed : ℕ → List Row → List Named → Type 0
+TellsNamed gap rows xs = (S : List Heard) → BookOf gap S rows → AreNamed S xs

@@ -10,9 +10,10 @@ ghost use Rattle.aprs_laws.proofs.Joins.{book_laws};
 ghost use Rattle.aprs_book.specs.Taking.{TakesIn, MergesInto};
 ghost use Rattle.aprs_book.specs.Refusal.{refusal};
 
+use crate::gap::Gap;
 use crate::kept_row::KeptRow;
 use crate::merging::merged_rows;
-use crate::place::{Place, find_place};
+use crate::place::put;
 use crate::push::push_parts;
 use crate::walk::Walk;
 use crate::{Join, Memory, RowCause, RowParts, Rows};
@@ -71,11 +72,11 @@ impl<A: Allocator + Copy> Book<A> {
     /// memory where exactly one row of its key is at most 30 seconds from its moment (a moment
     /// between first and last counts) and lists its receiver. After `Memory` the book is as before.
     pub fn take(&mut self, x: &Reception) -> Result<(), Memory>
-        ensures taken { OnOk result (TakesIn self.old x.now self.new) }
+        ensures taken { OnOk result (TakesIn gap_seconds self.old x.now self.new) }
         ensures unchanged { OnErr result (self.new ≡ self.old) }
         ensures in_place { FitsInPlace gap_seconds self.old x.now → IsOk result }
     {
-        put(&mut self.rows, x)
+        put(Gap::STANDARD, &mut self.rows, x)
     }
 
     /// Adds a row behind all others, unless a cause refuses it: it is added, or memory was refused,
@@ -89,18 +90,19 @@ impl<A: Allocator + Copy> Book<A> {
         ensures added { OnOk result (self.new ≡ self.old ++ parts.now ∷ []) }
         ensures unchanged { OnErr result (self.new ≡ self.old) }
     {
-        push_parts(&mut self.rows, parts)
+        push_parts(Gap::STANDARD, &mut self.rows, parts)
     }
 
     /// The book of both sets together, in one pass over the rows of both. Both stay as they are.
     pub fn merge(&self, other: &Book<A>) -> Result<Book<A>, Memory>
         ensures joined { IfOk result (Joined gap_seconds self.now other.now) }
-        ensures book { IfOk result (MergesInto self.now other.now) }
+        ensures book { IfOk result (MergesInto gap_seconds self.now other.now) }
         ensures sound { Sound gap_seconds self.now }
         ensures sound_other { Sound gap_seconds other.now }
     {
         let rows = merged_rows(
             *self.rows.allocator(),
+            Gap::STANDARD,
             self.rows.as_slice(),
             other.rows.as_slice(),
         )?;
@@ -146,32 +148,6 @@ impl<A: Allocator + Copy> Join for Book<A> {
     fn join(&self, other: &Book<A>) -> Result<Book<A>, Memory> {
         self.merge(other)
     }
-}
-
-/// Adds a reception to the rows. What needs memory is made before the first change.
-fn put<A: Allocator + Copy>(rows: &mut Vec<KeptRow<A>, A>, x: &Reception) -> Result<(), Memory>
-    ensures inserted { OnOk result (rows.new.items ≡ inserted gap_seconds x.now rows.old.items) }
-    ensures unchanged { OnErr result (rows.new.items ≡ rows.old.items) }
-    ensures in_place { fits_in_place gap_seconds x.now rows.old.items ≡ true → IsOk result }
-{
-    match find_place(rows.as_slice(), x) {
-        Place::New(i) => {
-            let row = KeptRow::single(*rows.allocator(), x)?;
-            if rows.insert(i, row).is_err() {
-                return Err(Memory);
-            }
-        }
-        Place::One(i) => {
-            let row = &mut rows[i];
-            row.grow(x)?;
-        }
-        Place::Two(i) => {
-            let row = rows[i].bridge(x, &rows[i + 1])?;
-            rows[i] = row;
-            rows.remove(i + 1);
-        }
-    }
-    Ok(())
 }
 
 /// Whether the rows are the same.

@@ -2,10 +2,14 @@
 #![tactic(auto)]
 
 mod book;
+mod gap;
 mod greatest;
 mod heard;
 mod join;
 mod kept_row;
+mod key_bytes;
+mod keyed;
+mod known;
 mod last_known;
 mod memory;
 mod merging;

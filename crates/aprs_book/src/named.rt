@@ -2,6 +2,7 @@
 ghost use Rattle.std.specs.Prelude.{◌≡◌, IfOk};
 ghost use Rattle.std.specs.Option.{option_map};
 ghost use Rattle.aprs_laws.specs.Row.{row_key};
+ghost use Rattle.aprs_laws.specs.Gap.{gap_seconds};
 ghost use Rattle.aprs_book.specs.Reports.{report_of};
 ghost use Rattle.aprs_book.specs.Names.{thing_told, TellsNamed};
 ghost use Rattle.aprs_laws.specs.Lists.{Ordered};
@@ -56,7 +57,7 @@ pub(crate) fn name_in<'a, A: Allocator + Copy>(row: &'a KeptRow<A>) -> Option<Na
 impl<A: Allocator + Copy> Book<A> {
     /// The last report of each object, by name, and then of each item, by name.
     pub fn objects(&self) -> Result<Vec<Named<'_>, A>, Memory>
-        ensures { IfOk result (λ named. TellsNamed self.now named.items) }
+        ensures { IfOk result (λ named. TellsNamed gap_seconds self.now named.items) }
     {
         let reports = greatest_reports(self.allocator(), self.walk())?;
         listed(self.allocator(), &reports)

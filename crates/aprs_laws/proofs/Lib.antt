@@ -22,3 +22,6 @@ pub mod Spans
 pub mod Worked
 pub mod Inserts
 pub mod Merges
+pub mod Widening
+pub mod Scaling
+pub mod Narrowing

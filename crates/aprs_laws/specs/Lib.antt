@@ -20,6 +20,8 @@ pub mod BestLaws
 pub mod Spans
 pub mod SpanLaws
 pub mod StepLaws
+pub mod Widening
+pub mod Scaling
 -- what public clauses cite of lower crates
 pub use Rattle.aprs_ax25.specs.Callsign
 pub use Rattle.aprs_ax25.specs.Frame

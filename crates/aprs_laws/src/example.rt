@@ -1,5 +1,5 @@
 //! Worked examples of each definition, and near misses that it leaves out.
-ghost use Rattle.std.specs.Prelude.{◌≡◌, [], ◌∷◌, Some, None, codes};
+ghost use Rattle.std.specs.Prelude.{◌≡◌, [], ◌∷◌, Some, None, codes, map};
 ghost use Rattle.std.specs.declared.cmp.Ordering.TheVariants.{Less, Greater};
 ghost use Rattle.aprs_ax25.specs.Callsign.{call_cmp};
 ghost use Rattle.aprs_log.specs.Reception.{bytes_cmp, heard_cmp};
@@ -19,6 +19,8 @@ ghost use Rattle.aprs_laws.specs.JoinRow.{single, IsNear, interleave, coalesced,
 ghost use Rattle.aprs_laws.specs.Merged.{merged};
 ghost use Rattle.aprs_laws.specs.Inserted.{inserted, FitsInPlace};
 ghost use Rattle.aprs_laws.specs.BestLaws.{Passes};
+ghost use Rattle.aprs_laws.specs.Widening.{widened};
+ghost use Rattle.aprs_laws.specs.Scaling.{scaled, scaled_heard};
 ghost use Rattle.aprs_laws.specs.StepLaws.{rows_after_steps};
 ghost use Rattle.aprs_laws.specs.Examples.{direct, repeated, answered, of_other, hi_key, n0call, key_by, any_key, rx1, rx2, heard, by_rx1, early, row_of, row_at, row_to, near_pair, near_row, far_pair, early_row, late_row, close_row, tied_pair, tied_row, short_row, merge_then_take, back_and_forth, TakesFirst};
 
@@ -61,6 +63,24 @@ pub fn gaps_decide_rows()
     ensures inside { plain_book gap_seconds
         (by_rx1 40 ∷ by_rx1 30 ∷ by_rx1 31 ∷ by_rx1 61 ∷ by_rx1 0 ∷ [])
         ≡ row_to 0 61 ∷ [] }
+{}
+
+/// Two rows 31 seconds apart are one under a gap of 31, and stay two under their own.
+pub fn wider_gaps_join_rows()
+    ensures widened { widened 31 (early_row ∷ late_row ∷ [])
+        ≡ row_of 0 (rx1 ∷ rx2 ∷ []) (by_rx1 31) ∷ [] }
+    ensures misses_one { widened 30 (early_row ∷ late_row ∷ []) ≡ early_row ∷ late_row ∷ [] }
+{}
+
+/// One transmission of 30 seconds is one of 30,000 milliseconds under the gap in milliseconds. Under
+/// the gap in seconds it would be two.
+pub fn units_scale_gaps_too()
+    ensures scaled { scaled 1000 (near_row ∷ [])
+        ≡ row_of 0 (rx1 ∷ rx2 ∷ []) (by_rx1 30000) ∷ [] }
+    ensures plain { plain_book 30000 (map (scaled_heard 1000) near_pair)
+        ≡ scaled 1000 (near_row ∷ []) }
+    ensures misses_gap { plain_book 30 (map (scaled_heard 1000) near_pair)
+        ≡ early_row ∷ row_at 30000 ∷ [] }
 {}
 
 /// The same, as code makes it.

@@ -1,5 +1,6 @@
 -- Lemmas on the book that inputs are merged into.
 use Rattle.std.proofs.Common.{ℕ, List, Option, None, Some, Ok, Err, inl, inr, refl}
+use Rattle.aprs_laws.specs.Gap.{gap_seconds}
 use Rattle.aprs_laws.specs.Row.{Row}
 use Rattle.aprs_book.specs.Taking.{MergesInto}
 use Rattle.aprs_tool.specs.Inputs.{OfGot, ReadsInput, TakesInput}
@@ -7,7 +8,7 @@ use Rattle.aprs_tool.specs.declared.fault.InputFault.{InputFault}
 use Rattle.aprs_tool.specs.declared.fault.InputFault.TheVariants.{Memory}
 
 -- the book of an input is merged into another
-pub takes : (known after : Option (List ℕ)) (limit : ℕ) (rows old new : List Row) → OfGot limit known after (ReadsInput (Ok rows)) → MergesInto old rows new
+pub takes : (known after : Option (List ℕ)) (limit : ℕ) (rows old new : List Row) → OfGot limit known after (ReadsInput (Ok rows)) → MergesInto gap_seconds old rows new
     → OfGot limit known after (TakesInput (Ok tt) old new)
 takes None after limit rows old new h merges = tt
 takes (Some input) after limit rows old new h merges = record {

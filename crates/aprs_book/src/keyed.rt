@@ -1,0 +1,77 @@
+//! The rows of a book by their keys.
+ghost use Rattle.std.specs.Prelude.{◌≡◌, [], true, IsOk, IfOk, OnOk, OnErr};
+ghost use Rattle.aprs_laws.specs.Inserted.{inserted, fits_in_place};
+
+use crate::Memory;
+use crate::gap::Gap;
+use crate::kept_row::KeptRow;
+use crate::key_bytes::key_bytes;
+use crate::place::put;
+use aprs_log::Reception;
+use std::alloc::{Allocator, Global};
+use std::collections::BTreeMap;
+use std::marker::Model;
+
+/// The rows of each key, by the bytes of the keys. A key without rows stands for nothing.
+#[derive(Drop)]
+pub(crate) struct KeyedRows<A: Allocator = Global> {
+    map: BTreeMap<Vec<u8, A>, Vec<KeptRow<A>, A>, A>,
+    alloc: A,
+}
+
+impl<A: Allocator> Model for KeyedRows<A> {
+    ghost use Rattle.std.specs.Prelude.{List};
+    ghost use Rattle.aprs_laws.specs.Row.{Row as RowValue};
+    ghost use Rattle.aprs_book.specs.Keyed.{rows_of, AreKeyed};
+
+    ghost Value = { List RowValue };
+
+    ghost view = { λ b. rows_of (λ k. k.items) (λ v. v.items) b.map.entries };
+
+    ghost invariant = { λ b. AreKeyed (λ k. k.items) (λ v. v.items) b.map.entries };
+}
+
+impl<A: Allocator + Copy> KeyedRows<A> {
+    /// No rows.
+    pub(crate) fn new(alloc: A) -> KeyedRows<A>
+        ensures { result ≡ [] }
+    {
+        KeyedRows {
+            map: BTreeMap::new(alloc),
+            alloc,
+        }
+    }
+
+    /// Adds a reception. What needs memory is made before the first change.
+    pub(crate) fn take(&mut self, gap: Gap, x: &Reception) -> Result<(), Memory>
+        ensures inserted { OnOk result (self.new ≡ inserted gap x.now self.old) }
+        ensures unchanged { OnErr result (self.new ≡ self.old) }
+        ensures in_place { fits_in_place gap x.now self.old ≡ true → IsOk result }
+    {
+        let bytes = key_bytes(x.frame());
+        if let Some(rows) = self.map.get_mut(bytes.as_slice()) {
+            return put(gap, rows, x);
+        }
+        let key = owned(self.alloc, bytes.as_slice())?;
+        let mut rows = Vec::new(self.alloc);
+        put(gap, &mut rows, x)?;
+        if self.map.insert(key, rows).is_err() {
+            return Err(Memory);
+        }
+        Ok(())
+    }
+}
+
+/// The same bytes, in memory of their own.
+fn owned<A: Allocator + Copy>(alloc: A, bytes: &[u8]) -> Result<Vec<u8, A>, Memory>
+    ensures { IfOk result (λ owned. owned.items ≡ bytes.now) }
+{
+    let mut owned = Vec::new(alloc);
+    if owned.reserve_exact(bytes.len()).is_err() {
+        return Err(Memory);
+    }
+    if owned.extend_from_slice(bytes).is_err() {
+        return Err(Memory);
+    }
+    Ok(owned)
+}

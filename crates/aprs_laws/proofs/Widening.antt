@@ -1,0 +1,83 @@
+-- Books under another gap.
+use Rattle.std.proofs.Common.{◌≡◌, ℕ, ◌<◌, ◌≤◌, List, [], ◌∷◌, ◌++◌, ap, arith}
+use Rattle.std.specs.Ordering.{is_gt}
+use Rattle.aprs_log.specs.Reception.{Heard}
+use Rattle.aprs_laws.specs.Lists.{Ordered}
+use Rattle.aprs_laws.specs.Order.{IsBelow, IsUpTo}
+use Rattle.aprs_laws.specs.Row.{Row, row_cmp}
+use Rattle.aprs_laws.specs.Book.{BookOf}
+use Rattle.aprs_laws.specs.Sound.{Sound}
+use Rattle.aprs_laws.specs.Real.{real}
+use Rattle.aprs_laws.specs.Joining.{Joined}
+use Rattle.aprs_laws.specs.JoinRow.{coalesced}
+use Rattle.aprs_laws.specs.Widening.{widened}
+use Rattle.aprs_laws.proofs.Lists.{ordered_weaker}
+use Rattle.aprs_laws.proofs.Rows.{Makes}
+use Rattle.aprs_laws.proofs.Made.{Made, Keeps}
+use Rattle.aprs_laws.proofs.Books.{book_of_keeps, keeps_of_book, one_book}
+use Rattle.aprs_laws.proofs.Soundness.{sound, realised}
+use Rattle.aprs_laws.proofs.Streams.{made_coalesce, ordered_coalesce}
+use Rattle.aprs_laws.proofs.RunRows.{union_is_joined}
+
+-- what is linked under a gap is linked under a greater one
+makes_wider : (g h : ℕ) (X : List Heard) (x : Row) → g ≤ h → Makes g X x → Makes h X x
+makes_wider g h X x l m = record {
+  own = m.own;
+  at_first = m.at_first;
+  linked = λ n a b. let t = m.linked n a b in (t.0, t.1, t.2, omega (arith, l, t.3));
+  ascending = m.ascending;
+  receivers = m.receivers;
+  member = m.member;
+  greatest = m.greatest;
+}
+
+made_wider : (g h : ℕ) (S : List Heard) (rows : List Row) → g ≤ h → Made g S rows → Made h S rows
+made_wider g h S [] l m = m
+made_wider g h S (x ∷ xs) l m =
+    (m.0, m.1, m.2, makes_wider g h m.0 x l m.3, made_wider g h m.1 xs l m.4)
+
+-- rows that are made of S in order of key and first moment, joined in one pass
+keeps_coalesced : (gap : ℕ) (S : List Heard) (rows : List Row) → Made gap S rows
+    → Ordered (IsUpTo row_cmp) rows → Keeps gap S (coalesced gap rows)
+keeps_coalesced gap S [] m o = record { made = m; ordered = tt }
+keeps_coalesced gap S (x ∷ xs) m o = record {
+  made = made_coalesce gap S m.0 m.1 x xs m.2 m.3 m.4;
+  ordered = ordered_coalesce gap m.0 m.1 x xs m.3 m.4 o.0 o.1;
+}
+
+pub widens_book : (g h : ℕ) (S : List Heard) (rows : List Row) → g ≤ h → BookOf g S rows
+    → BookOf h S (widened h rows)
+widens_book g h S rows l b =
+    book_of_keeps h S (coalesced h rows)
+    (keeps_coalesced h S rows (made_wider g h S rows l (keeps_of_book g S rows b).made)
+    (ordered_weaker (IsBelow row_cmp) (IsUpTo row_cmp) rows (λ x y hx hy e. ap is_gt e)
+    b.ascending))
+
+-- sound rows are the book of their real receptions
+pub widens_real : (g h : ℕ) (rows : List Row) → 0 < g → g ≤ h → Sound g rows
+    → BookOf h (real rows) (widened h rows)
+widens_real g h rows pos l w = widens_book g h (real rows) rows l (realised g rows pos w)
+
+pub widened_sound : (g h : ℕ) (rows : List Row) → 0 < g → g ≤ h → Sound g rows
+    → Sound h (widened h rows)
+widened_sound g h rows pos l w = sound h (real rows) (widened h rows) (widens_real g h rows pos l w)
+
+pub keeps_under_own_gap : (gap : ℕ) (rows : List Row) → 0 < gap → Sound gap rows
+    → widened gap rows ≡ rows
+keeps_under_own_gap gap rows pos w =
+    one_book gap (real rows) (widened gap rows) rows
+    (widens_real gap gap rows pos (omega arith) w) (realised gap rows pos w)
+
+pub widens_in_steps : (g h k : ℕ) (rows : List Row) → 0 < g → g ≤ h → h ≤ k → Sound g rows
+    → widened k (widened h rows) ≡ widened k rows
+widens_in_steps g h k rows pos l m w =
+    one_book k (real rows) (widened k (widened h rows)) (widened k rows)
+    (widens_book h k (real rows) (widened h rows) m (widens_real g h rows pos l w))
+    (widens_real g k rows pos (omega arith) w)
+
+pub widens_joined : (g h : ℕ) (a b c : List Row) → 0 < g → g ≤ h → Sound g a → Sound g b
+    → Joined g a b c → Joined h (widened h a) (widened h b) (widened h c)
+widens_joined g h a b c pos l v w j =
+    (union_is_joined h (omega arith) (real a) (real b) (widened h a) (widened h b) (widened h c)
+    (widens_real g h a pos l v) (widens_real g h b pos l w)).0
+    (widens_book g h (real a ++ real b) c l j)

@@ -1,0 +1,27 @@
+-- Books in another unit of time.
+use Rattle.std.specs.Prelude.{ℕ, ◌*◌, ◌<◌, List, map, ◌↔◌}
+use Rattle.aprs_log.specs.Reception.{Heard}
+use Rattle.aprs_laws.specs.Row.{Row}
+use Rattle.aprs_laws.specs.Book.{BookOf}
+
+-- the same reception, its moment counted in units of which one of the old has `factor`
+abbrev pub scaled_heard : ℕ → Heard → Heard
+scaled_heard factor s =
+    record { moment = s.moment * factor; receiver = s.receiver; frame = s.frame }
+
+abbrev pub scaled_row : ℕ → Row → Row
+scaled_row factor x = record {
+  first = x.first * factor;
+  receivers = x.receivers;
+  greatest = scaled_heard factor x.greatest;
+}
+
+abbrev pub scaled : ℕ → List Row → List Row
+scaled factor rows = map (scaled_row factor) rows
+
+-- The same rows in the finer unit are the book of the same receptions in it, under the same gap in
+-- it; and no other rows of the old unit are.
+abbrev pub ScalesBook : Type 0
+ScalesBook =
+    (factor gap : ℕ) (S : List Heard) (rows : List Row) → 0 < factor
+    → BookOf gap S rows ↔ BookOf (gap * factor) (map (scaled_heard factor) S) (scaled factor rows)

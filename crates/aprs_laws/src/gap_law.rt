@@ -1,0 +1,18 @@
+//! Laws of books under another gap.
+ghost use Rattle.std.specs.Prelude.{ℕ};
+ghost use Rattle.aprs_laws.specs.Widening.{WidensBook, WidenedIsSound, KeepsUnderOwnGap, WidensInSteps, WidensJoined, NarrowsNot};
+
+/// One pass over the rows of a book, which joins neighbours that are near under a gap that is not
+/// less, gives the book of the same set under that gap. So widening and joining change places.
+pub fn gaps_can_be_widened()
+    ensures book { WidensBook }
+    ensures sound { WidenedIsSound }
+    ensures equal { (gap : ℕ) → KeepsUnderOwnGap gap }
+    ensures steps { WidensInSteps }
+    ensures joined { WidensJoined }
+{}
+
+/// Under a lesser gap the rows don't tell the book: no function of rows alone gives it.
+pub fn gaps_cannot_be_narrowed()
+    ensures { NarrowsNot }
+{}
