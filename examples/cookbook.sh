@@ -1,18 +1,26 @@
 #!/usr/bin/env bash
 # Runs the recipes of docs/cookbook.md, in order, on the logs of examples/evening, and says which it left
 # out because a tool isn't there.
-# usage: examples/cookbook.sh PROGRAM [FOLDER]    FOLDER keeps what they make; else it is thrown away
+# usage: examples/cookbook.sh [--posix] PROGRAM [FOLDER]
+#        --posix runs those alone that need no tool beyond a POSIX system
+#        FOLDER keeps what they make; otherwise it is thrown away
 #
 # A recipe is a block that begins with ```sh. The words after sh are the tools that it needs beyond those
 # of a POSIX system; `show` stands for that command of the program.
 set -euo pipefail
 export LC_ALL=C
+posix=
+if [ "$1" = --posix ]; then
+    posix=yes
+    shift
+fi
 program=$(realpath "$1")
 here=$(dirname "$(realpath "$0")")
 scratch=$(mktemp -d)
 trap 'rm -rf "$scratch"' EXIT
 work=${2:-$scratch/work}
 mkdir -p "$work/logs/2024-06-21" "$scratch/bin" "$scratch/blocks"
+work=$(realpath "$work")
 ln -s "$program" "$scratch/bin/aprsbook"
 export PATH="$scratch/bin:$here/recipes:$PATH"
 export RECIPES="$here/recipes" EXAMPLES="$here"
@@ -39,7 +47,7 @@ awk -v to="$scratch/blocks/" '
 is_there() {
     case $1 in
     show) aprsbook show < /dev/null > /dev/null 2>&1 ;;
-    *) command -v "$1" > /dev/null ;;
+    *) [ -z "$posix" ] && command -v "$1" > /dev/null ;;
     esac
 }
 
