@@ -1,3 +1,4 @@
+# shellcheck shell=bash
 # What run.sh, compare.sh and growth.sh share. Sourced, not run.
 : "${RUNS:=5}"
 

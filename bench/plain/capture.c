@@ -9,7 +9,8 @@ static size_t length;
 static int escaped, refused;
 
 static void end_piece(void) {
-    if (!refused && !escaped && length > 0 && !(piece[0] & 15) && sound_field(piece + 1, length - 1)) {
+    int data = !refused && !escaped && length > 0 && !(piece[0] & 15);
+    if (data && sound_field(piece + 1, length - 1)) {
         make_room();
         put_bytes(head, strlen(head));
         put_frame_column(piece + 1, length - 1);

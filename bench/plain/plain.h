@@ -69,7 +69,8 @@ static inline void make_value_of_hex(void) {
 }
 
 /* Calls `take` with each line of `input`, its LF left out; `take` returns 0 for a faulty line. */
-static inline void each_line(int input, const char *place, int (*take)(const byte *, const byte *)) {
+static inline void each_line(int input, const char *place,
+                             int (*take)(const byte *, const byte *)) {
     static byte room[INPUT_ROOM];
     unsigned long number = 0;
     size_t have = 0;
@@ -113,7 +114,8 @@ static inline long long moment(const byte *text, size_t length) {
         text[13] != ':' || text[16] != ':' || text[19] != 'Z')
         return -1;
     int year = decimal(text, 4), month = decimal(text + 5, 2), day = decimal(text + 8, 2);
-    int hour = decimal(text + 11, 2), minute = decimal(text + 14, 2), second = decimal(text + 17, 2);
+    int hour = decimal(text + 11, 2), minute = decimal(text + 14, 2);
+    int second = decimal(text + 17, 2);
     int leap = year % 4 == 0;
     if (year < 1970 || year > 2099 || month < 1 || month > 12 || day < 1 || hour < 0 || hour > 23 ||
         minute < 0 || minute > 59 || second < 0 || second > 59 ||
@@ -128,7 +130,8 @@ static inline int is_name(const byte *text, size_t length) {
     if (length < 1 || length > LONGEST_NAME) return 0;
     for (size_t i = 0; i < length; i++) {
         byte c = text[i], small = c | 0x20;
-        if (!((small >= 'a' && small <= 'z') || (c >= '0' && c <= '9') || c == '-' || c == '_')) return 0;
+        int letter = small >= 'a' && small <= 'z', digit = c >= '0' && c <= '9';
+        if (!letter && !digit && c != '-' && c != '_') return 0;
     }
     return 1;
 }
