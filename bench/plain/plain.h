@@ -59,13 +59,13 @@ static inline void put_frame_column(const byte *frame, size_t length) {
 
 /* Input */
 
-static signed char value_of_hex[256];
+/* The value of a digit; 255 for a byte that is none. */
+static byte value_of_hex[256];
 
 static inline void make_value_of_hex(void) {
-    memset(value_of_hex, -1, sizeof value_of_hex);
-    for (int i = 0; i < 10; i++) value_of_hex['0' + i] = (signed char)i;
-    for (int i = 0; i < 6; i++)
-        value_of_hex['a' + i] = value_of_hex['A' + i] = (signed char)(10 + i);
+    memset(value_of_hex, 255, sizeof value_of_hex);
+    for (int i = 0; i < 10; i++) value_of_hex['0' + i] = (byte)i;
+    for (int i = 0; i < 6; i++) value_of_hex['a' + i] = value_of_hex['A' + i] = (byte)(10 + i);
 }
 
 /* Calls `take` with each line of `input`, its LF left out; `take` returns 0 for a faulty line. */
@@ -146,15 +146,15 @@ struct line {
 
 /* Undoes the digits from `at` to `end`. Returns 0 where they are no hexadecimal. */
 static inline int undo_hex(struct line *line, const byte *at, const byte *end) {
-    int faulty = (end - at) & 1 ? -1 : 0;
-    size_t count = 0;
+    unsigned seen = 0;
+    byte *out = line->bytes;
     for (; at + 1 < end; at += 2) {
-        int high = value_of_hex[at[0]], low = value_of_hex[at[1]];
-        faulty |= high | low;
-        line->bytes[count++] = (byte)((unsigned)high << 4 | (unsigned)low);
+        unsigned high = value_of_hex[at[0]], low = value_of_hex[at[1]];
+        seen |= high | low;
+        *out++ = (byte)(high << 4 | low);
     }
-    line->count = count;
-    return faulty >= 0;
+    line->count = (size_t)(out - line->bytes);
+    return at == end && seen < 16;
 }
 
 /* Cuts the line from `at` to `end`. Returns 0 where it is faulty. */
