@@ -3,7 +3,7 @@
 # out because a tool isn't there.
 # usage: examples/cookbook.sh [--posix] PROGRAM [FOLDER]
 #        --posix runs those alone that need no tool beyond a POSIX system
-#        FOLDER keeps what they make; otherwise it is thrown away
+#        FOLDER, a new one, keeps what they make; otherwise it is thrown away
 #
 # A recipe is a block that begins with ```sh. The words after sh are the tools that it needs beyond those
 # of a POSIX system; `show` stands for that command of the program.
@@ -19,6 +19,10 @@ here=$(dirname "$(realpath "$0")")
 scratch=$(mktemp -d)
 trap 'rm -rf "$scratch"' EXIT
 work=${2:-$scratch/work}
+if [ -e "$work" ]; then
+    echo "cookbook.sh: $work is there already" >&2
+    exit 1
+fi
 mkdir -p "$work/logs/2024-06-21" "$scratch/bin" "$scratch/blocks"
 work=$(realpath "$work")
 ln -s "$program" "$scratch/bin/aprsbook"
