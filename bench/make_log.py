@@ -5,6 +5,8 @@ raw. The same words give the same logs.
 usage: make_log.py LINES               one log of so many lines, to standard output
        make_log.py RECEPTIONS FOLDER   a.log, b.log and c.log of three receivers that hear mostly the
                                        same transmissions, with so many lines in all
+       make_log.py one-key ROWS        one log of one transmission after another of the same key, each
+                                       31 seconds after the last, to standard output
 """
 import datetime
 import random
@@ -82,8 +84,16 @@ def write_three_logs(count, folder):
             out.writelines(line(*reception) for reception in log)
 
 
+def write_one_key(rows, out):
+    heard = frame("N0CALL", 7, [], b">Hi")
+    for row in range(rows):
+        out.write(line(31 * row, "RX1", heard))
+
+
 def main():
-    if len(sys.argv) == 2:
+    if len(sys.argv) == 3 and sys.argv[1] == "one-key":
+        write_one_key(int(sys.argv[2]), sys.stdout.buffer)
+    elif len(sys.argv) == 2:
         write_one_log(int(sys.argv[1]), sys.stdout.buffer)
     elif len(sys.argv) == 3:
         write_three_logs(int(sys.argv[1]), sys.argv[2])

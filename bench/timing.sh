@@ -1,4 +1,5 @@
-# What run.sh and compare.sh share. Sourced, not run.
+# shellcheck shell=bash
+# What run.sh, compare.sh and growth.sh share. Sourced, not run.
 : "${RUNS:=5}"
 
 # Sets `taken` to the microseconds that a command took, its output thrown away.

@@ -90,6 +90,43 @@ FINISH = (54.5208, -3.5139)
 PARKING = (54.5186, -3.5288)
 FIRST_AID = (54.5450, -3.5550)
 RACE = [HARBOUR, SHED, BRIDGE, SUMMIT, FINISH]
+ROAD = [HARBOUR, (54.5350, -3.5500), BRIDGE, (54.5190, -3.5240)]
+SEA = [(54.5540, -3.6130), (54.5660, -3.6420), (54.5480, -3.6240)]
+MEDIC = [("18:12:20", SHED, 0), ("19:02:20", BRIDGE, 0), ("19:41:20", SUMMIT, 2)]
+OBJECTS = [
+    ("18:15:05", "START", "*", HARBOUR, "off at 1830"),
+    ("18:16:05", "CP1 SHED", "*", SHED, ""),
+    ("18:17:05", "CP2 BECK", "*", BRIDGE, "water"),
+    ("18:18:05", "CP3 TOP", "*", SUMMIT, "cut-off 2000"),
+    ("18:19:05", "FINISH", "*", FINISH, "soup"),
+    ("18:36:40", "START", "_", HARBOUR, ""),
+    ("20:26:30", "CP3 TOP", "_", SUMMIT, ""),
+]
+ITEMS = [
+    ("18:21:30", "FIRST AID", "!", FIRST_AID, "/+", "until 2030"),
+    ("18:23:30", "PARKING", "!", PARKING, "\\P", ""),
+    ("20:10:20", "FIRST AID", "_", FIRST_AID, "/+", ""),
+]
+SAID = [
+    ("18:03:00", "Q1NET", ">211803zFell race net opens, all welcome"),
+    ("18:04:10", "Q1NET", ":BLN1RACE :Start 1830, cut-off at the summit 2000"),
+    ("18:37:10", "Q1NET", ":Q1VAN-9  :Water is low at CP2{01"),
+    ("18:37:14", "Q1VAN-9", ":Q1NET    :ack01"),
+    ("18:52:00", "Q1SEA-8", b">\xc0 bient\xf4t, watching the harbour mouth"),
+    ("19:08:25", "Q1NET", ":Q1MED-7  :Runner 118 hurt a knee near CP3{02"),
+    ("19:09:05", "Q1NET", ":Q1MED-7  :Runner 118 hurt a knee near CP3{02"),
+    ("19:09:09", "Q1MED-7", ":Q1NET    :ack02"),
+    ("19:10:30", "Q1MED-7", ":Q1NET    :Going up from CP2{A1"),
+    ("19:10:34", "Q1NET", ":Q1MED-7  :ackA1"),
+    ("19:22:50", "Q1NET", ":Q1FEL-9  :Can you take the signs down at CP1?{03"),
+    ("19:22:55", "Q1FEL-9", ":Q1NET    :rej03"),
+    ("19:44:10", "Q1MED-7", ">211944zWith 118, walking down, no help needed"),
+    ("20:04:00", "Q1NET", ":BLN1RACE :First home in 92 minutes, well run"),
+    ("20:12:00", "Q1NET", ":Q1SEA-8  :All are off the shore path, thank you{04"),
+    ("20:12:25", "Q1NET", ":Q1SEA-8  :All are off the shore path, thank you{04"),
+    ("20:14:30", "Q1NET", ":Q1SEA-8  :All are off the shore path, thank you{04"),
+    ("20:29:00", "Q1NET", ">212029zNet closed, 73"),
+]
 
 
 def moving(sender, points, begin, end, minutes, report):
@@ -102,8 +139,8 @@ def moving(sender, points, begin, end, minutes, report):
         now += datetime.timedelta(minutes=minutes)
 
 
-def evening():
-    """All transmissions: moment, sender, information."""
+def on_the_move():
+    """Runners, the van and the boat."""
     yield from moving(
         "Q1RUN-7", RACE, "18:30:11", "20:02:11", 11.5,
         lambda now, lat, lon: "!" + compressed(lat, lon, "/[", 116, 5) + "leader",
@@ -113,16 +150,23 @@ def evening():
         lambda now, lat, lon: "/" + now.strftime("%H%M%Sh") + plain(lat, lon, "/[") + "sweeper",
     )
     yield from moving(
-        "Q1VAN-9", [HARBOUR, (54.5350, -3.5500), BRIDGE, (54.5190, -3.5240)], "18:05:37", "20:20:37", 27,
+        "Q1VAN-9", ROAD, "18:05:37", "20:20:37", 27,
         lambda now, lat, lon: "=" + plain(lat, lon, "/v") + "096/022 water and blankets",
     )
     yield from moving(
-        "Q1SEA-8", [(54.5540, -3.6130), (54.5660, -3.6420), (54.5480, -3.6240)], "18:10:48", "19:40:48", 30,
+        "Q1SEA-8", SEA, "18:10:48", "19:40:48", 30,
         lambda now, lat, lon: "@" + now.strftime("%d%H%Mz") + compressed(lat, lon, "/s", 28, 6) + "boat",
     )
+    for clock, place, ambiguity in MEDIC:
+        yield at(clock), "Q1MED-7", "!" + plain(*place, "/+", ambiguity) + "medic on foot"
     # Mic-E: the latitude, 54 38.50 north, stands in the destination (see `destination`)
     for clock in "18:20:09", "19:05:09", "19:50:09":
         yield at(clock), "Q1MIC-9", '`y4:n"O>/visiting'
+
+
+def at_home():
+    """Net control, the weather station and the digipeaters."""
+    yield at("18:02:15"), "Q1NET", "=" + plain(54.5481, -3.5897, "/-") + "net control 145.500"
     for clock, wind in ("18:00:30", "220/004g009t061"), ("19:15:30", "231/009g017t055"):
         yield at(clock), "Q1WX-13", "!" + plain(54.5833, -3.4817, "/_") + wind + "h74b10132"
     yield at("19:16:10"), "Q1WX-13", "T#008,128,061,074,000,000,00000000"
@@ -130,48 +174,27 @@ def evening():
         yield at(clock), "Q1DIG", "!" + plain(54.5430, -3.4560, "I#") + "hill digipeater"
         later = at(clock) + datetime.timedelta(minutes=7)
         yield later, "Q1BAY", "!" + plain(54.5108, -3.6156, "1#") + "bay fill-in"
-    for clock, place, ambiguity in ("18:12:20", SHED, 0), ("19:02:20", BRIDGE, 0), ("19:41:20", SUMMIT, 2):
-        yield at(clock), "Q1MED-7", "!" + plain(*place, "/+", ambiguity) + "medic on foot"
 
-    def sent(clock, sender, information):
-        return at(clock), sender, information
 
-    def thing(mark, state, name, place, symbol, stamp="", about=""):
-        return mark + name + state + stamp + plain(*place, symbol) + about
-
-    net = "Q1NET"
-    yield sent("18:02:15", net, "=" + plain(54.5481, -3.5897, "/-") + "net control 145.500")
-    yield sent("18:03:00", net, ">211803zFell race net opens, all welcome")
-    yield sent("18:04:10", net, ":BLN1RACE :Start 1830, cut-off at the summit 2000")
-    for clock, name, place, about in (
-        ("18:15:05", "START    ", HARBOUR, "off at 1830"),
-        ("18:16:05", "CP1 SHED ", SHED, ""),
-        ("18:17:05", "CP2 BECK ", BRIDGE, "water"),
-        ("18:18:05", "CP3 TOP  ", SUMMIT, "cut-off 2000"),
-        ("18:19:05", "FINISH   ", FINISH, "soup"),
-    ):
+def placed():
+    """Objects of net control and items of the van: name, state and place."""
+    for clock, name, state, place, about in OBJECTS:
         stamp = at(clock).strftime("%d%H%Mz")
-        yield sent(clock, net, thing(";", "*", name, place, "/E", stamp, about))
-    yield sent("18:21:30", "Q1VAN-9", thing(")", "!", "FIRST AID", FIRST_AID, "/+", about="until 2030"))
-    yield sent("18:23:30", "Q1VAN-9", thing(")", "!", "PARKING", PARKING, "\\P"))
-    yield sent("18:36:40", net, thing(";", "_", "START    ", HARBOUR, "/E", "211836z"))
-    yield sent("18:37:10", net, ":Q1VAN-9  :Water is low at CP2{01")
-    yield sent("18:37:14", "Q1VAN-9", ":Q1NET    :ack01")
-    yield sent("18:52:00", "Q1SEA-8", b">\xc0 bient\xf4t, watching the harbour mouth")
-    yield sent("19:08:25", net, ":Q1MED-7  :Runner 118 hurt a knee near CP3{02")
-    yield sent("19:09:05", net, ":Q1MED-7  :Runner 118 hurt a knee near CP3{02")
-    yield sent("19:09:09", "Q1MED-7", ":Q1NET    :ack02")
-    yield sent("19:10:30", "Q1MED-7", ":Q1NET    :Going up from CP2{A1")
-    yield sent("19:10:34", net, ":Q1MED-7  :ackA1")
-    yield sent("19:22:50", net, ":Q1FEL-9  :Can you take the signs down at CP1?{03")
-    yield sent("19:22:55", "Q1FEL-9", ":Q1NET    :rej03")
-    yield sent("19:44:10", "Q1MED-7", ">211944zWith 118, walking down, no help needed")
-    yield sent("20:04:00", net, ":BLN1RACE :First home in 92 minutes, well run")
-    yield sent("20:10:20", "Q1VAN-9", thing(")", "_", "FIRST AID", FIRST_AID, "/+"))
-    for clock in "20:12:00", "20:12:25", "20:14:30":
-        yield sent(clock, net, ":Q1SEA-8  :All are off the shore path, thank you{04")
-    yield sent("20:26:30", net, thing(";", "_", "CP3 TOP  ", SUMMIT, "/E", "212026z"))
-    yield sent("20:29:00", net, ">212029zNet closed, 73")
+        yield at(clock), "Q1NET", ";" + name.ljust(9) + state + stamp + plain(*place, "/E") + about
+    for clock, name, state, place, symbol, about in ITEMS:
+        yield at(clock), "Q1VAN-9", ")" + name + state + plain(*place, symbol) + about
+
+
+def said():
+    """Messages and statuses."""
+    for clock, sender, information in SAID:
+        yield at(clock), sender, information
+
+
+def evening():
+    """All transmissions: moment, sender, information."""
+    for part in on_the_move, at_home, placed, said:
+        yield from part()
 
 
 def destination(sender):

@@ -2,7 +2,7 @@
    It reads no book files. */
 #include "plain.h"
 
-enum { GAP_SECONDS = 30, BLOCK = 1 << 24 };
+enum { GAP = 30, BLOCK = 1 << 24 };
 
 /* The key is the bytes of source, destination (six characters and the SSID each) and information. */
 struct reception {
@@ -91,7 +91,8 @@ static int take_line(const byte *at, const byte *end) {
 }
 
 /* The row of the receptions from `first` to before `end`. */
-static void print_row(const struct reception *first, const struct reception *end, const char **names) {
+static void print_row(const struct reception *first, const struct reception *end,
+                      const char **names) {
     size_t named = 0;
     const struct reception *greatest = end - 1;
     for (const struct reception *r = first; r < end; r++) {
@@ -117,7 +118,8 @@ static void print_book(void) {
     puts("APRSBOOK 1");
     for (const struct reception *first = receptions, *next; first < end; first = next) {
         next = first + 1;
-        while (next < end && !by_key(next, first) && next->seconds - next[-1].seconds <= GAP_SECONDS) next++;
+        while (next < end && !by_key(next, first) && next->seconds - next[-1].seconds <= GAP)
+            next++;
         print_row(first, next, names);
         rows++;
     }

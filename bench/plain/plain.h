@@ -59,17 +59,18 @@ static inline void put_frame_column(const byte *frame, size_t length) {
 
 /* Input */
 
-static signed char value_of_hex[256];
+/* The value of a digit; 255 for a byte that is none. */
+static byte value_of_hex[256];
 
 static inline void make_value_of_hex(void) {
-    memset(value_of_hex, -1, sizeof value_of_hex);
-    for (int i = 0; i < 10; i++) value_of_hex['0' + i] = (signed char)i;
-    for (int i = 0; i < 6; i++)
-        value_of_hex['a' + i] = value_of_hex['A' + i] = (signed char)(10 + i);
+    memset(value_of_hex, 255, sizeof value_of_hex);
+    for (int i = 0; i < 10; i++) value_of_hex['0' + i] = (byte)i;
+    for (int i = 0; i < 6; i++) value_of_hex['a' + i] = value_of_hex['A' + i] = (byte)(10 + i);
 }
 
 /* Calls `take` with each line of `input`, its LF left out; `take` returns 0 for a faulty line. */
-static inline void each_line(int input, const char *place, int (*take)(const byte *, const byte *)) {
+static inline void each_line(int input, const char *place,
+                             int (*take)(const byte *, const byte *)) {
     static byte room[INPUT_ROOM];
     unsigned long number = 0;
     size_t have = 0;
@@ -113,7 +114,8 @@ static inline long long moment(const byte *text, size_t length) {
         text[13] != ':' || text[16] != ':' || text[19] != 'Z')
         return -1;
     int year = decimal(text, 4), month = decimal(text + 5, 2), day = decimal(text + 8, 2);
-    int hour = decimal(text + 11, 2), minute = decimal(text + 14, 2), second = decimal(text + 17, 2);
+    int hour = decimal(text + 11, 2), minute = decimal(text + 14, 2);
+    int second = decimal(text + 17, 2);
     int leap = year % 4 == 0;
     if (year < 1970 || year > 2099 || month < 1 || month > 12 || day < 1 || hour < 0 || hour > 23 ||
         minute < 0 || minute > 59 || second < 0 || second > 59 ||
@@ -128,7 +130,8 @@ static inline int is_name(const byte *text, size_t length) {
     if (length < 1 || length > LONGEST_NAME) return 0;
     for (size_t i = 0; i < length; i++) {
         byte c = text[i], small = c | 0x20;
-        if (!((small >= 'a' && small <= 'z') || (c >= '0' && c <= '9') || c == '-' || c == '_')) return 0;
+        int letter = small >= 'a' && small <= 'z', digit = c >= '0' && c <= '9';
+        if (!letter && !digit && c != '-' && c != '_') return 0;
     }
     return 1;
 }
@@ -143,15 +146,15 @@ struct line {
 
 /* Undoes the digits from `at` to `end`. Returns 0 where they are no hexadecimal. */
 static inline int undo_hex(struct line *line, const byte *at, const byte *end) {
-    int faulty = (end - at) & 1 ? -1 : 0;
-    size_t count = 0;
+    unsigned seen = 0;
+    byte *out = line->bytes;
     for (; at + 1 < end; at += 2) {
-        int high = value_of_hex[at[0]], low = value_of_hex[at[1]];
-        faulty |= high | low;
-        line->bytes[count++] = (byte)((unsigned)high << 4 | (unsigned)low);
+        unsigned high = value_of_hex[at[0]], low = value_of_hex[at[1]];
+        seen |= high | low;
+        *out++ = (byte)(high << 4 | low);
     }
-    line->count = count;
-    return faulty >= 0;
+    line->count = (size_t)(out - line->bytes);
+    return at == end && seen < 16;
 }
 
 /* Cuts the line from `at` to `end`. Returns 0 where it is faulty. */

@@ -31,10 +31,10 @@ enum Heard {
     Passed(PassFault),
 }
 
-/// Keeps the first answers.
+/// Keeps all answers: a stream of fewer than 64 bytes has no more of them.
 #[derive(Drop)]
 struct Log {
-    answers: ArrayVec<Heard, 4>,
+    answers: ArrayVec<Heard, 64>,
 }
 
 impl Log {

@@ -1,0 +1,139 @@
+//! With memory there no call refuses it: books of a hundred rows, and nine inputs.
+
+use crate::pushed_rows::parts;
+use crate::shown::shown;
+use crate::vectors::{DIRECT, NOON, heard};
+use aprs_book::{Book, Join, join_all};
+use aprs_booktext::{read_book, write_book};
+use aprs_kiss::Counted;
+use aprs_log::{MAX_INPUT, write_line};
+use aprs_tool::{merge_run, read_input};
+use linked_list_allocator::LocalHeap;
+use std::alloc::Global;
+use std::test::Fail;
+
+/// A hundred receptions of one frame, a minute apart, from a second of the hour on.
+fn hundred(alloc: Global, first: u64, name: &[u8]) -> Result<Book, Fail> {
+    let mut book = Book::new(alloc);
+    for minute in 0..100u64 {
+        let x = heard(first.saturating_add(minute * 60), name, &DIRECT)?;
+        book.take(&x).ok().ok_or("memory")?;
+    }
+    Ok(book)
+}
+
+/// The same receptions as a log.
+fn hundred_lines(alloc: Global, first: u64, name: &[u8]) -> Result<Vec<u8>, Fail> {
+    let mut log = Counted::new(Vec::new(alloc));
+    for minute in 0..100u64 {
+        let x = heard(first.saturating_add(minute * 60), name, &DIRECT)?;
+        write_line(&mut log, &x).ok().ok_or("memory")?;
+    }
+    Ok(log.into_inner())
+}
+
+/// The text of a book.
+fn text_of(alloc: Global, book: &Book) -> Result<Vec<u8>, Fail> {
+    let mut out = Counted::new(Vec::new(alloc));
+    write_book(&mut out, book).ok().ok_or("memory")?;
+    Ok(out.into_inner())
+}
+
+// Receivers that hear in turn each half minute make one transmission of two hundred receptions; a
+// second later than that, each stays a row of its own.
+#[test]
+fn a_hundred_rows_are_taken_and_merged(rt: HostRuntime) -> Result<(), Fail> {
+    let alloc = rt.alloc();
+    let book = hundred(alloc, 0, b"RX1")?;
+    assert_eq!(rt; book.len(), 100);
+    let between = hundred(alloc, 30, b"RX2")?;
+    let merged = book.merge(&between).ok().ok_or("memory")?;
+    let text = shown(alloc, &merged)?;
+    assert_eq!(rt; text.as_str(), "0-2370 RX1 RX2 / RX2 6f; ");
+    let later = hundred(alloc, 6031, b"RX2")?;
+    let merged = book.merge(&later).ok().ok_or("memory")?;
+    assert_eq!(rt; merged.len(), 200);
+    let joined = join_all(&book, &[later, between]).ok().ok_or("memory")?;
+    assert_eq!(rt; joined.len(), 101);
+    let again = joined.join(&book).ok().ok_or("memory")?;
+    assert!(rt; again.same(&joined));
+    Ok(())
+}
+
+#[test]
+fn a_hundred_rows_are_pushed_written_and_read(rt: HostRuntime) -> Result<(), Fail> {
+    let alloc = rt.alloc();
+    let mut book = Book::new(alloc);
+    for minute in 0..100u64 {
+        let second = NOON.saturating_add(minute * 60);
+        let row = parts(alloc, second, second, &[b"RX1"], b"RX1")?;
+        assert!(rt; book.push_row(&row) == Ok(()));
+    }
+    assert!(rt; book.same(&hundred(alloc, 0, b"RX1")?));
+    let text = text_of(alloc, &book)?;
+    let mut input = Counted::new(text.as_slice());
+    let read = read_book(alloc, MAX_INPUT, b"", &mut input);
+    assert!(rt; read.ok().ok_or("a fault")?.same(&book));
+    Ok(())
+}
+
+#[test]
+fn a_hundred_lines_are_read(rt: HostRuntime) -> Result<(), Fail> {
+    let alloc = rt.alloc();
+    let book = hundred(alloc, 0, b"RX1")?;
+    let log = hundred_lines(alloc, 0, b"RX1")?;
+    let read = read_input(alloc, MAX_INPUT, &mut Counted::new(log.as_slice()));
+    assert!(rt; read.ok().ok_or("a fault")?.same(&book));
+    let text = text_of(alloc, &book)?;
+    let read = read_input(alloc, MAX_INPUT, &mut Counted::new(text.as_slice()));
+    assert!(rt; read.ok().ok_or("a fault")?.same(&book));
+    Ok(())
+}
+
+// Two of the nine are heard between the others' receptions, and five were merged before.
+#[test]
+fn nine_inputs_are_merged(rt: HostRuntime) -> Result<(), Fail> {
+    let alloc = rt.alloc();
+    let book = hundred(alloc, 0, b"RX1")?;
+    let text = text_of(alloc, &book)?;
+    let log = hundred_lines(alloc, 0, b"RX1")?;
+    let between = hundred_lines(alloc, 30, b"RX2")?;
+    let mut inputs = Vec::new(alloc);
+    for i in 0..9usize {
+        let input = match i {
+            2 | 7 => between.as_slice(),
+            0 | 3 => log.as_slice(),
+            _ => text.as_slice(),
+        };
+        inputs.push(Counted::new(input))?;
+    }
+    let mut out = Counted::new(Vec::new(alloc));
+    let run = merge_run(alloc, MAX_INPUT, inputs.as_mut_slice(), &mut out);
+    assert!(rt; run.is_ok());
+    let text = out.into_inner();
+    let one_row = b"APRSBOOK 1
+T 2024-05-01T12:00:00Z 2024-05-01T13:39:30Z RX1,RX2 RX2 82a0a4a64040e09c60868298986f03f03e4869
+END 1
+";
+    assert_eq!(rt; text.as_slice(), one_row.as_slice());
+    Ok(())
+}
+
+// A reception that fits into a row that lists its receiver leaves the heap as it was.
+#[test]
+fn a_listed_receiver_takes_no_room(rt: HostRuntime) -> Result<(), Fail> {
+    let heap = LocalHeap::new(rt.alloc(), 65_536)?;
+    let mut book = Book::new(&heap);
+    for second in [0, 61, 122, 20] {
+        let x = heard(second, b"RX1", &DIRECT)?;
+        book.take(&x).ok().ok_or("memory")?;
+    }
+    let used = heap.used();
+    for second in [0, 10, 20, 61, 70, 91, 122, 152] {
+        let x = heard(second, b"RX1", &DIRECT)?;
+        book.take(&x).ok().ok_or("memory")?;
+        assert_eq!(rt; heap.used(), used);
+    }
+    assert_eq!(rt; book.len(), 3);
+    Ok(())
+}

@@ -1,0 +1,77 @@
+#!/usr/bin/env bash
+# Runs the recipes of docs/cookbook.md, in order, on the logs of examples/evening, and says which it left
+# out because a tool isn't there.
+# usage: examples/cookbook.sh [--posix] PROGRAM [FOLDER]
+#        --posix runs those alone that need no tool beyond a POSIX system
+#        FOLDER, a new one, keeps what they make; otherwise it is thrown away
+#
+# A recipe is a block that begins with ```sh. The words after sh are the tools that it needs beyond those
+# of a POSIX system; `show` stands for that command of the program.
+set -euo pipefail
+export LC_ALL=C
+posix=
+if [ "$1" = --posix ]; then
+    posix=yes
+    shift
+fi
+program=$(realpath "$1")
+here=$(dirname "$(realpath "$0")")
+scratch=$(mktemp -d)
+trap 'rm -rf "$scratch"' EXIT
+work=${2:-$scratch/work}
+if [ -e "$work" ]; then
+    echo "cookbook.sh: $work is there already" >&2
+    exit 1
+fi
+mkdir -p "$work/logs/2024-06-21" "$scratch/bin" "$scratch/blocks"
+work=$(realpath "$work")
+ln -s "$program" "$scratch/bin/aprsbook"
+export PATH="$scratch/bin:$here/recipes:$PATH"
+export RECIPES="$here/recipes" EXAMPLES="$here"
+cp "$here"/evening/*.log "$work"
+cp "$here"/evening/*.log "$work/logs/2024-06-21"
+cd "$work"
+
+# each block into a file of its own: its heading, its tools, its commands
+awk -v to="$scratch/blocks/" '
+    /^##+ / { heading = $0; sub(/^#+ /, "", heading) }
+    /^```sh( |$)/ {
+        file = to sprintf("%03d", ++n)
+        tools = $0
+        sub(/^```sh */, "", tools)
+        print heading > file
+        print tools > file
+        open = 1
+        next
+    }
+    /^```/ { if (open) close(file); open = 0 }
+    open { print > file }
+' "$here/../docs/cookbook.md"
+
+is_there() {
+    case $1 in
+    show) aprsbook show < /dev/null > /dev/null 2>&1 ;;
+    *) [ -z "$posix" ] && command -v "$1" > /dev/null ;;
+    esac
+}
+
+ran=0 left=0
+for block in "$scratch"/blocks/*; do
+    heading=$(sed -n 1p "$block")
+    missing=
+    for tool in $(sed -n 2p "$block"); do is_there "$tool" || missing="$missing $tool"; done
+    if [ -n "$missing" ]; then
+        echo "left out: $heading (needs$missing)"
+        left=$((left + 1))
+        continue
+    fi
+    if ! bash -euo pipefail -c "$(sed 1,2d "$block")" > "$scratch/output" 2>&1 < /dev/null; then
+        echo "failed: $heading"
+        sed 1,2d "$block"
+        cat "$scratch/output"
+        exit 1
+    fi
+    echo "ran: $heading"
+    ran=$((ran + 1))
+done
+echo "$ran ran, $left left out"

@@ -1,0 +1,17 @@
+# atest -h FILE.wav | awk -v start=SECONDS -v name=NAME -f atest.awk
+# A log of a recording: atest, which comes with Dire Wolf, prints each frame with its time from the
+# start. SECONDS is the start of the recording, as `date +%s` prints it. Needs mawk or gawk.
+/^DECODED\[/ {
+    split($2, part, ":")
+    at = start + int(part[1] * 60 + part[2])
+    frame = ""
+}
+/^  [0-9a-f]+:  / { hex = substr($0, 9, 48); gsub(/ /, "", hex); frame = frame hex; open = 1 }
+/^------/ && open {
+    gsub(/../, "&,", frame)
+    gsub(/db,/, "db,dd,", frame)
+    gsub(/c0,/, "db,dc,", frame)
+    gsub(/,/, "", frame)
+    print strftime("%Y-%m-%dT%H:%M:%SZ", at, 1), name, "c000" frame "c0"
+    open = 0
+}

@@ -1,0 +1,10 @@
+# awk -f receivers.awk NET.book: receiver, transmissions, share, how many it alone heard
+$1 == "T" {
+    total++
+    n = split($4, by, ",")
+    for (i = 1; i <= n; i++) {
+        heard[by[i]]++
+        if (n == 1) alone[by[i]]++
+    }
+}
+END { for (r in heard) printf "%-16s %7d %5.1f%% %7d\n", r, heard[r], 100 * heard[r] / total, alone[r] }
