@@ -1,10 +1,10 @@
 -- Lemmas on frames that are seen to be fine in one pass.
-use Rattle.std.proofs.Common.{◌≡◌, ℕ, ◌+◌, ◌-◌, ◌*◌, ◌/◌, ◌%◌, ◌≤◌, ◌<◌, ◌==◌, suc, zero, List, [], ◌∷◌, ◌++◌, length, get_or, take, drop, Bool, true, false, not, cond, ◌&&◌, ◌||◌, nat_le, nat_lt, None, arith, sym, ap, ◌∙◌, refl, slice_index, subst, take-append-drop, inl, inr}
+use Rattle.std.proofs.Common.{◌≡◌, ℕ, ◌+◌, ◌-◌, ◌*◌, ◌/◌, ◌%◌, ◌≤◌, ◌<◌, ◌==◌, suc, zero, List, [], ◌∷◌, length, get_or, take, drop, Bool, true, false, not, cond, ◌&&◌, ◌||◌, nat_le, None, arith, sym, ap, ◌∙◌, refl, slice_index, subst, take-append-drop, inl, inr}
 use Rattle.std.specs.List.{list_all, position_or_len}
-use Rattle.std.proofs.lemmas.List.{length-take-le, length-drop, take-take, drop-drop, drop-take, take_more, get_or-take, get_or-drop, drop_more}
-use Rattle.std.proofs.lemmas.Bool.{and_parts, and_from, eqb-true, eqb-false, ne_eqb, le-leb, leb-true, lt-ltb, lt-leb, cases_lt}
+use Rattle.std.proofs.lemmas.List.{length-take-le, length-drop, take-take, drop-drop, drop-take, get_or-take, get_or-drop, drop_more}
+use Rattle.std.proofs.lemmas.Bool.{and_parts, and_from, eqb-true, ne_eqb, le-leb, leb-true, lt-ltb, lt-leb, cases_lt}
 use Rattle.aprs_ax25.specs.Callsign.{is_callsign_byte}
-use Rattle.aprs_ax25.specs.FrameFault.{ends_field, field_len, field_of, after_field, is_field_len, sevens, has_callsign, is_no_letter, is_space_octet, letters_len, is_wrong, frame_fault, addresses}
+use Rattle.aprs_ax25.specs.FrameFault.{ends_field, field_len, field_of, after_field, is_field_len, sevens, has_callsign, is_no_letter, is_space_octet, letters_len, is_wrong, frame_fault}
 use Rattle.aprs_ax25.specs.declared.fault.FrameFault.TheVariants.{Address, Callsign}
 use Rattle.aprs_ax25.specs.Plain.{is_letter_octet, letters_then_spaces, may_follow, IsPlainAddress}
 use Rattle.aprs_ax25.specs.Scan.{fault_after_field}
@@ -135,9 +135,9 @@ inside : (i before octet : ℕ) → (i == 5) ≡ false → nat_le 12 i ≡ false
 inside i before octet a b d h =
     let e : ((is_letter_octet octet && is_letter_octet before) || octet == 64) ≡ true
     = ap (λ t. ((false || false) || (is_letter_octet octet && (t || is_letter_octet before))) || (not t && octet == 64)) (sym d)
-      ∙ ap (λ t. ((false || t) || (is_letter_octet octet && (i == 6 || is_letter_octet before))) || (not (i == 6) && octet == 64)) (sym b)
-      ∙ ap (λ t. ((t || nat_le 12 i) || (is_letter_octet octet && (i == 6 || is_letter_octet before))) || (not (i == 6) && octet == 64)) (sym a)
-      ∙ h in
+    ∙ ap (λ t. ((false || t) || (is_letter_octet octet && (i == 6 || is_letter_octet before))) || (not (i == 6) && octet == 64)) (sym b)
+    ∙ ap (λ t. ((t || nat_le 12 i) || (is_letter_octet octet && (i == 6 || is_letter_octet before))) || (not (i == 6) && octet == 64)) (sym a)
+    ∙ h in
     turned (is_letter_octet octet) (is_letter_octet before) (octet == 64) e
   where
     turned : (x y z : Bool) → ((x && y) || z) ≡ true → (z || (y && x)) ≡ true
@@ -180,14 +180,14 @@ seven-plain a seven first h =
     let start : is_letter_octet o ≡ true = ap is_letter_octet (get_or-take 6 a 0 0 (omega arith)) ∙ first in
     let more : letters_then_spaces (is_letter_octet o) os ≡ true
     = follow o os (λ k lt.
-        let small : k < 5 = omega (arith, length-drop 1 six) in
-        let here : get_or (o ∷ os) k 0 ≡ slice_index a k = ap (λ l. get_or l k 0) (sym is) ∙ get_or-take 6 a k 0 (omega arith) in
-        let one : 1 + k ≡ k + 1 = omega arith in
-        let next : get_or os k 0 ≡ slice_index a (k + 1)
-        = get_or-drop 1 six k 0 ∙ ap (slice_index six) one ∙ get_or-take 6 a (k + 1) 0 (omega arith) in
-        ap (λ x. x == 64 || (is_letter_octet (get_or (o ∷ os) k 0) && is_letter_octet x)) next
-        ∙ ap (λ x. slice_index a (k + 1) == 64 || (is_letter_octet x && is_letter_octet (slice_index a (k + 1)))) here
-        ∙ h k small) in
+    let small : k < 5 = omega (arith, length-drop 1 six) in
+    let here : get_or (o ∷ os) k 0 ≡ slice_index a k = ap (λ l. get_or l k 0) (sym is) ∙ get_or-take 6 a k 0 (omega arith) in
+    let one : 1 + k ≡ k + 1 = omega arith in
+    let next : get_or os k 0 ≡ slice_index a (k + 1)
+    = get_or-drop 1 six k 0 ∙ ap (slice_index six) one ∙ get_or-take 6 a (k + 1) 0 (omega arith) in
+    ap (λ x. x == 64 || (is_letter_octet (get_or (o ∷ os) k 0) && is_letter_octet x)) next
+    ∙ ap (λ x. slice_index a (k + 1) == 64 || (is_letter_octet x && is_letter_octet (slice_index a (k + 1)))) here
+    ∙ h k small) in
     plain-address a seven first
     (ap (letters_then_spaces true) is ∙ and_from _ _ (starts-with o start) (ap (λ t. letters_then_spaces t os) refl ∙ more))
 
@@ -205,9 +205,9 @@ module _ (octets : List ℕ) (many : 17 ≤ length octets) (all : Follows octets
       let a = take 7 octets in
       seven-plain a (length-take-le 7 octets (omega arith)) (ap is_letter_octet (get_or-take 7 octets 0 0 (omega arith)) ∙ h)
       (λ k lt.
-          ap (λ x. x == 64 || (is_letter_octet (slice_index a k) && is_letter_octet x)) (get_or-take 7 octets (k + 1) 0 (omega arith))
-          ∙ ap (λ x. slice_index octets (k + 1) == 64 || (is_letter_octet x && is_letter_octet (slice_index octets (k + 1)))) (get_or-take 7 octets k 0 (omega arith))
-          ∙ inside-at k (omega arith) (λ e. omega arith) (omega arith) (λ e. omega arith))
+      ap (λ x. x == 64 || (is_letter_octet (slice_index a k) && is_letter_octet x)) (get_or-take 7 octets (k + 1) 0 (omega arith))
+      ∙ ap (λ x. slice_index octets (k + 1) == 64 || (is_letter_octet x && is_letter_octet (slice_index octets (k + 1)))) (get_or-take 7 octets k 0 (omega arith))
+      ∙ inside-at k (omega arith) (λ e. omega arith) (omega arith) (λ e. omega arith))
 
   at-second : (k : ℕ) → k < 7 → slice_index (take 7 (drop 7 octets)) k ≡ slice_index octets (7 + k)
   at-second k lt = get_or-take 7 (drop 7 octets) k 0 lt ∙ get_or-drop 7 octets k 0
@@ -218,10 +218,10 @@ module _ (octets : List ℕ) (many : 17 ≤ length octets) (all : Follows octets
       seven-plain a (length-take-le 7 (drop 7 octets) (omega (arith, length-drop 7 octets)))
       (ap is_letter_octet (at-second 0 (omega arith)) ∙ begins (slice_index octets 6) (slice_index octets 7) (all 6 (omega arith)))
       (λ k lt.
-          let next : 7 + (k + 1) ≡ (7 + k) + 1 = omega arith in
-          ap (λ x. x == 64 || (is_letter_octet (slice_index a k) && is_letter_octet x)) (at-second (k + 1) (omega arith) ∙ ap (slice_index octets) next)
-          ∙ ap (λ x. slice_index octets ((7 + k) + 1) == 64 || (is_letter_octet x && is_letter_octet (slice_index octets ((7 + k) + 1)))) (at-second k (omega arith))
-          ∙ inside-at (7 + k) (omega arith) (λ e. omega arith) (omega arith) (λ e. omega arith))
+      let next : 7 + (k + 1) ≡ (7 + k) + 1 = omega arith in
+      ap (λ x. x == 64 || (is_letter_octet (slice_index a k) && is_letter_octet x)) (at-second (k + 1) (omega arith) ∙ ap (slice_index octets) next)
+      ∙ ap (λ x. slice_index octets ((7 + k) + 1) == 64 || (is_letter_octet x && is_letter_octet (slice_index octets ((7 + k) + 1)))) (at-second k (omega arith))
+      ∙ inside-at (7 + k) (omega arith) (λ e. omega arith) (omega arith) (λ e. omega arith))
 
 pub first-of-window : (octets : List ℕ) → 17 ≤ length octets → is_letter_octet (slice_index (take 17 octets) 0) ≡ true → Follows (take 17 octets) 16
     → IsPlainAddress (take 7 octets)

@@ -1,5 +1,6 @@
 //! Frames and callsigns of the AX.25 and APRS documents, byte by byte.
 use super::*;
+use arrayvec::ArrayVec;
 use std::test::*;
 
 /// From N0CALL-7 to APRS, `>Hi`.
@@ -138,10 +139,12 @@ fn makes_frames(rt: HostRuntime) -> Result<(), Fail> {
 }
 
 #[test]
-fn orders_callsigns_by_ssid_as_a_number(rt: HostRuntime) -> Result<(), Fail> {
-    let two = Callsign::parse(b"N0CALL-2").ok().ok_or("a callsign")?;
-    let ten = Callsign::parse(b"N0CALL-10").ok().ok_or("a callsign")?;
-    assert!(rt; two < ten);
-    assert!(rt; two.copy() == two);
+fn puts_texts_of_callsigns(rt: HostRuntime) -> Result<(), Fail> {
+    let frame = Frame::read(&REPEATED).ok().ok_or("a frame")?;
+    let mut text: ArrayVec<u8, 27> = ArrayVec::new();
+    frame.push_source_text(&mut text);
+    frame.push_destination_text(&mut text);
+    assert!(rt; frame.push_hop_text(0, &mut text) == Some(true));
+    assert_eq!(rt; text.as_slice(), b"N0CALL-7APRSWIDE1-1".as_slice());
     Ok(())
 }

@@ -5,6 +5,7 @@ mod KeyBytes
 mod IndexSteps
 mod MergedKeys
 mod Entries
+mod EntryEnds
 pub mod Names
 pub mod Places
 pub mod Taking

@@ -6,13 +6,14 @@ use crate::Memory;
 use crate::gap::Gap;
 use crate::kept_row::KeptRow;
 use crate::key_bytes::key_bytes;
+use crate::keyed_walk::KeyedWalk;
 use crate::place::put;
 use aprs_log::Reception;
 use std::alloc::{Allocator, Global};
 use std::collections::BTreeMap;
 use std::marker::Model;
 
-/// The rows of each key, by the bytes of the keys. A key without rows stands for nothing.
+/// The rows of each key, by the bytes of the keys. No key is without rows.
 #[derive(Drop)]
 pub(crate) struct KeyedRows<A: Allocator = Global> {
     map: BTreeMap<Vec<u8, A>, Vec<KeptRow<A>, A>, A>,
@@ -22,13 +23,13 @@ pub(crate) struct KeyedRows<A: Allocator = Global> {
 impl<A: Allocator> Model for KeyedRows<A> {
     ghost use Rattle.std.specs.Prelude.{List};
     ghost use Rattle.aprs_laws.specs.Row.{Row as RowValue};
-    ghost use Rattle.aprs_book.specs.Keyed.{rows_of, AreKeyed};
+    ghost use Rattle.aprs_book.specs.Keyed.{rows_of, AreKept};
 
     ghost Value = { List RowValue };
 
     ghost view = { λ b. rows_of (λ k. k.items) (λ v. v.items) b.map.entries };
 
-    ghost invariant = { λ b. AreKeyed (λ k. k.items) (λ v. v.items) b.map.entries };
+    ghost invariant = { λ b. AreKept (λ k. k.items) (λ v. v.items) b.map.entries };
 }
 
 impl<A: Allocator + Copy> KeyedRows<A> {
@@ -40,6 +41,13 @@ impl<A: Allocator + Copy> KeyedRows<A> {
             map: BTreeMap::new(alloc),
             alloc,
         }
+    }
+
+    /// The rows one after another.
+    pub(crate) fn walk(&self) -> KeyedWalk<'_, A>
+        ensures { result ≡ self.now }
+    {
+        KeyedWalk::of(self.map.values())
     }
 
     /// Adds a reception. What needs memory is made before the first change.

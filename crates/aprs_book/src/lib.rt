@@ -9,6 +9,7 @@ mod join;
 mod kept_row;
 mod key_bytes;
 mod keyed;
+mod keyed_walk;
 mod known;
 mod last_known;
 mod memory;

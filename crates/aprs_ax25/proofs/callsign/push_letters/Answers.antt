@@ -1,4 +1,4 @@
-use Rattle.std.proofs.Common.{◌≡◌, ◌/◌, ◌++◌, ◌∷◌, [], ℕ, List, false, length, map, take, not, arith, sym, ap, ◌∙◌, append_assoc, slice_index, subst, inl, inr}
+use Rattle.std.proofs.Common.{◌≡◌, ◌/◌, ◌++◌, ◌∷◌, [], ℕ, false, length, map, take, not, arith, sym, ap, ◌∙◌, append_assoc, slice_index, subst, inl, inr}
 use Rattle.std.proofs.lemmas.List.Sums.{position_or_len_is}
 use Rattle.std.proofs.lemmas.List.{length-take-le, take-take, take_more, map-append}
 use Rattle.std.proofs.lemmas.Bool.{cases_lt}

@@ -1,4 +1,4 @@
-use Rattle.std.proofs.Common.{◌≡◌, true, arith, subst, ℕ, List, ◌≤◌, take}
+use Rattle.std.proofs.Common.{◌≡◌, arith, subst, ℕ, List, ◌≤◌, take}
 use Rattle.std.proofs.lemmas.Bool.{and_parts}
 use Rattle.aprs_ax25.proofs.Plains.{Follows, Follows-more, first-of-window, second-of-window}
 use Rattle.aprs_ax25.proofs.plain.are_plain_callsigns.Goals as goal

@@ -1,4 +1,4 @@
-use Rattle.std.proofs.Common.{◌≡◌, length, take, drop, true, [], arith, ap, ◌∙◌, refl}
+use Rattle.std.proofs.Common.{◌≡◌, length, take, drop, [], arith, ap, ◌∙◌, refl}
 use Rattle.std.proofs.lemmas.List.{length-take-le, drop_all}
 use Rattle.aprs_ax25.specs.Plain.{letters_then_spaces}
 use Rattle.aprs_ax25.proofs.Plains.{plain-address}

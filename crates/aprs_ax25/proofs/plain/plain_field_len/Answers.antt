@@ -1,4 +1,4 @@
-use Rattle.std.proofs.Common.{◌≡◌, ◌+◌, ◌*◌, ◌≤◌, ℕ, List, arith, sym, ap, ◌∙◌, subst}
+use Rattle.std.proofs.Common.{◌≡◌, ◌+◌, ◌*◌, ℕ, arith, sym, ◌∙◌, subst}
 use Rattle.aprs_ax25.proofs.Plains.{ArePlain, ArePlain-more, plain-frame, ends-here, past-first, second-many, second-is}
 use Rattle.aprs_ax25.proofs.plain.plain_field_len.Goals as goal
 

@@ -1,4 +1,4 @@
-use Rattle.std.proofs.Common.{◌≡◌, ◌+◌, ◌*◌, ◌/◌, ◌++◌, ◌∙◌, ℕ, Bool, ap, sym, arith, subst, inl, inr, refl, nat_le, take, drop, length, Option, None, Some, MatchOption, slice_get, slice_index}
+use Rattle.std.proofs.Common.{◌≡◌, ◌+◌, ◌*◌, ◌/◌, ◌++◌, ◌∙◌, ℕ, ap, sym, arith, subst, inl, inr, refl, nat_le, take, drop, length, Option, None, Some, MatchOption, slice_get, slice_index}
 use Rattle.std.specs.Option.{option_map}
 use Rattle.std.proofs.lemmas.Option.{slice_get_past}
 use Rattle.std.proofs.lemmas.Bool.{cases_lt, lt-leb, le-leb}

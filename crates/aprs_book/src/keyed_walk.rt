@@ -1,0 +1,52 @@
+//! The walk over the rows of all keys.
+ghost use Rattle.std.specs.Prelude.{◌≡◌, ◌++◌, List};
+ghost use Rattle.std.specs.List.{flat_map};
+ghost use Rattle.std.specs.Iterator.{YieldsFirstRef, item_count};
+
+use crate::kept_row::KeptRow;
+use std::alloc::{Allocator, Global};
+use std::collections::btree_map::Values;
+use std::marker::Model;
+
+/// The rows as they are kept that are still to come, in order: those of one key, then all others.
+#[derive(Drop)]
+pub(crate) struct KeyedWalk<'a, A: Allocator = Global> {
+    rows: &'a [KeptRow<A>],
+    others: Values<'a, Vec<u8, A>, Vec<KeptRow<A>, A>>,
+}
+
+impl<'a, A: Allocator> Model for KeyedWalk<'a, A> {
+    ghost use Rattle.std.specs.Prelude.{List, ◌++◌};
+    ghost use Rattle.std.specs.List.{flat_map};
+    ghost use Rattle.aprs_laws.specs.Row.{Row as RowValue};
+
+    ghost Value = { List RowValue };
+
+    ghost view = { λ w. w.rows.now ++ flat_map (λ v. v.items) w.others };
+}
+
+impl<'a, A: Allocator> KeyedWalk<'a, A> {
+    /// These rows of all keys.
+    pub(crate) fn of(others: Values<'a, Vec<u8, A>, Vec<KeptRow<A>, A>>) -> KeyedWalk<'a, A>
+        ensures { result ≡ flat_map (λ v. v.items) others.entry }
+    {
+        KeyedWalk { rows: &[], others }
+    }
+}
+
+impl<'a, A: Allocator + Copy> Iterator for KeyedWalk<'a, A> {
+    type Item = &'a KeptRow<A>;
+
+    ghost next_gives = { YieldsFirstRef (λ rows. rows) };
+
+    ghost remaining = { item_count (λ rows. rows) };
+
+    fn next(&mut self) -> Option<&'a KeptRow<A>> {
+        while self.rows.is_empty() {
+            self.rows = self.others.next()?.as_slice();
+        }
+        let (first, others) = self.rows.split_first()?;
+        self.rows = others;
+        Some(first)
+    }
+}
