@@ -13,13 +13,13 @@ use Rattle.aprs_booktext.specs.declared.fault.BookFault.{BookFault}
 use Rattle.aprs_booktext.proofs.OneText.{one_text, cut_short}
 
 -- each line has an LF
-lines_few : (ls : List (List ℕ)) → length ls ≤ length (text_of_lines ls)
+pub lines_few : (ls : List (List ℕ)) → length ls ≤ length (text_of_lines ls)
 lines_few [] = omega arith
 lines_few (l ∷ ls) =
     let whole : length (ended_by_lf l ++ text_of_lines ls) ≡ length l + 1 + length (text_of_lines ls) = simp (length-append, length-append) (omega arith) in
     omega (arith, lines_few ls, whole)
 
-rows_few : (rows : List Row) → length rows ≤ length (book_text rows)
+pub rows_few : (rows : List Row) → length rows ≤ length (book_text rows)
 rows_few rows =
     let lines : length (lines_of rows) ≡ length (map row_line rows) + 2 = simp length-append (omega arith) in
     omega (arith, lines_few (lines_of rows), lines, length-map rows row_line)

@@ -1,9 +1,11 @@
 pub mod Accepting
 pub mod Cuts
+pub mod Deciding
 pub mod Digits
 pub mod Spellings
 pub mod Standing
 pub mod Inputs
+pub mod OneFault
 pub mod OneText
 pub mod RowReading
 pub mod Sending

@@ -39,12 +39,12 @@ byte_is : (c : ℕ) → eqb c c ≡ true
 byte_is c = grind arith
 
 -- a text that begins with a line has one
-has_line : (c : ℕ) (a b : List ℕ) → Lacks c (a ++ c ∷ b) → ⊥
+pub has_line : (c : ℕ) (a b : List ℕ) → Lacks c (a ++ c ∷ b) → ⊥
 has_line c [] b h = let f : false ≡ true = sym h.0 ∙ byte_is c in absurd cc
 has_line c (x ∷ a) b h = has_line c a b h.1
 
 -- one text has one first line
-same_line : (c : ℕ) (a b x y : List ℕ) → Lacks c a → Lacks c x → a ++ c ∷ b ≡ x ++ c ∷ y → (a ≡ x) × (b ≡ y)
+pub same_line : (c : ℕ) (a b x y : List ℕ) → Lacks c a → Lacks c x → a ++ c ∷ b ≡ x ++ c ∷ y → (a ≡ x) × (b ≡ y)
 same_line c [] b [] y h k e = (refl, cc)
 same_line c [] b (z ∷ x) y h k e =
     let is : c ≡ z = cc in
@@ -60,12 +60,12 @@ same_line c (z ∷ a) b (w ∷ x) y h k e =
     let t = same_line c a b x y h.1 k.1 tail in
     (ap (λ n. n ∷ a) head ∙ ap (λ l. w ∷ l) t.0, t.1)
 
-line_first : (line : List ℕ) (ls : List (List ℕ)) (rest : List ℕ) → text_of_lines (line ∷ ls) ++ rest ≡ line ++ 10 ∷ (text_of_lines ls ++ rest)
+pub line_first : (line : List ℕ) (ls : List (List ℕ)) (rest : List ℕ) → text_of_lines (line ∷ ls) ++ rest ≡ line ++ 10 ∷ (text_of_lines ls ++ rest)
 line_first line ls rest = ap (λ l. l ++ rest) (append_assoc line (10 ∷ []) (text_of_lines ls)) ∙ append_assoc line (10 ∷ text_of_lines ls) rest
 
 -- ---- no line of a row or of a number has an LF
 
-row_lacks : (x : Row) → IsSpelled x → Lacks 10 (row_line x)
+pub row_lacks : (x : Row) → IsSpelled x → Lacks 10 (row_line x)
 row_lacks x h = lacks_joined 10 32 (fields_of x) refl (row_fields_lack 10 x (omega arith) h)
 
 -- ---- a line is that of one row
@@ -106,14 +106,14 @@ decimal_lacks n h = decimal_by_steps (λ m ds. Lacks 10 ds)
     (λ m low. (digit_lacks (48 + m) (omega arith), tt))
     (λ m ds low before. lacks_append 10 ds ((48 + m % 10) ∷ []) before (digit_lacks (48 + m % 10) (omega arith), tt)) n h
 
-end_lacks : (n : ℕ) → n < 2 ^ 64 → Lacks 10 (end_line n)
+pub end_lacks : (n : ℕ) → n < 2 ^ 64 → Lacks 10 (end_line n)
 end_lacks n h = (refl, (refl, (refl, (refl, decimal_lacks n h))))
 
 -- it is no row's
 end_or_row : (n : ℕ) (x : Row) (a b : List ℕ) → end_line n ++ a ≡ row_line x ++ b → ⊥
 end_or_row n x a b e = let f : 69 ≡ 84 = ap (λ l. get_or l 0 0) e in omega (arith, f)
 
-end_is_row : (n : ℕ) (x : Row) → end_line n ≡ row_line x → ⊥
+pub end_is_row : (n : ℕ) (x : Row) → end_line n ≡ row_line x → ⊥
 end_is_row n x e = let f : 69 ≡ 84 = ap (λ l. get_or l 0 0) e in omega (arith, f)
 
 -- ---- the lines of rows, and then the last
@@ -148,7 +148,7 @@ peel (x ∷ a) (y ∷ b) n rest h k e =
 book_first : (rows : List Row) → book_text rows ≡ header ++ 10 ∷ row_lines rows (length rows)
 book_first rows = append_assoc header (10 ∷ []) (row_lines rows (length rows))
 
-header_lacks : Lacks 10 header
+pub header_lacks : Lacks 10 header
 header_lacks = (refl, (refl, (refl, (refl, (refl, (refl, (refl, (refl, (refl, (refl, tt))))))))))
 
 -- behind the header and some rows' lines
@@ -183,7 +183,7 @@ one_text a b h k e = (ended a b [] h k (e ∙ sym (append-nil (book_text b)))).0
 
 -- ---- lines of a book's text are not wrong
 
-All-middle : (P : Row → Type 0) (a : List Row) (x : Row) (b : List Row) → All P (a ++ x ∷ b) → P x
+pub All-middle : (P : Row → Type 0) (a : List Row) (x : Row) (b : List Row) → All P (a ++ x ∷ b) → P x
 All-middle P [] x b h = All-head P x b h
 All-middle P (y ∷ a) x b h = All-middle P a x b (All-tail P y (a ++ x ∷ b) h)
 
@@ -196,7 +196,7 @@ refused rows more x why h s w =
     let f : None ≡ Some why = sym none ∙ ap (λ (r : Row). refusal gap_seconds rows r) same ∙ w.refused in
     absurd cc
 
-wrong_row : (rows more : List Row) (x : Row) (c : BookCause) → IsBookRow x → Sound gap_seconds (rows ++ x ∷ more) → IsWrong rows (row_line x) c → ⊥
+pub wrong_row : (rows more : List Row) (x : Row) (c : BookCause) → IsBookRow x → Sound gap_seconds (rows ++ x ∷ more) → IsWrong rows (row_line x) c → ⊥
 wrong_row rows more x cause.Ending h s w = false≢true w.0
 wrong_row rows more x cause.RowSyntax h s w = w.1 x h.spelled refl
 wrong_row rows more x cause.Frame h s w =
@@ -213,7 +213,7 @@ wrong_row rows more x cause.Read h s w = w
 wrong_row rows more x cause.TooLong h s w = w
 wrong_row rows more x cause.Memory h s w = w
 
-wrong_end : (rows : List Row) (c : BookCause) → IsWrong rows (end_line (length rows)) c → ⊥
+pub wrong_end : (rows : List Row) (c : BookCause) → IsWrong rows (end_line (length rows)) c → ⊥
 wrong_end rows cause.Ending w = w.1 refl
 wrong_end rows cause.RowSyntax w = false≢true (sym w.0)
 wrong_end rows cause.Frame w = end_is_row (length rows) w.row w.spelled

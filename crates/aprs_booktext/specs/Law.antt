@@ -1,7 +1,13 @@
 -- What holds of all texts of books.
+<<<<<<< HEAD
 use Rattle.std.specs.Prelude.{◌≡◌, ◌≢◌, ℕ, ◌^◌, ◌<◌, ◌≤◌, List, [], ◌++◌, length, Option, Result, IfErr}
 use Rattle.aprs_log.specs.declared.Ending.{Ending}
 use Rattle.aprs_log.specs.declared.Ending.TheVariants as ending
+=======
+use Rattle.std.specs.Prelude.{◌≡◌, ◌≢◌, ℕ, ◌^◌, ◌<◌, ◌≤◌, ◌⊎◌, List, [], ◌++◌, length, Option, Result, IfErr}
+use Rattle.aprs_log.specs.declared.Ending.{Ending}
+use Rattle.aprs_log.specs.declared.Ending.TheVariants as ending
+>>>>>>> pins
 use Rattle.aprs_laws.specs.Row.{Row}
 use Rattle.aprs_booktext.specs.FirstFault.{FirstFault, IsBookOrMemory, missing, Reads}
 use Rattle.aprs_booktext.specs.Text.{book_text, IsBookRows}
@@ -26,3 +32,25 @@ AreReadBack = (rows : List Row) → IsBookRows rows → (limit : ℕ) → limit 
     → length (book_text rows) ≤ limit → (after : Option (List ℕ))
     → (r : Result (List Row) BookFault) → Reads limit [] (book_text rows) after r
     → IfErr r (λ f. f.cause ≢ cause.Read) → IsBookOrMemory r rows
+
+-- a text has at most one first fault, for each way of ending
+abbrev pub HaveOneFaultAtMost : Type 0
+HaveOneFaultAtMost = (text : List ℕ) (e : Ending) (f g : BookFault) → length text < 2 ^ 64
+    → FirstFault text e f → FirstFault text e g → f ≡ g
+
+-- the text is that of a book, and the end came after it
+pub record IsBookText (text : List ℕ) (e : Ending) : Type 0 where
+  pub rows : List Row
+  pub is : IsBookRows rows
+  pub text_is : text ≡ book_text rows
+  pub ended : e ≡ ending.End
+
+-- a text that isn't the whole text of a book has a first fault
+abbrev pub HaveFaultOrBook : Type 0
+HaveFaultOrBook = (text : List ℕ) (e : Ending)
+    → IsBookText text e ⊎ ((f : BookFault) × FirstFault text e f)
+
+-- and one that is has none
+abbrev pub BooksAreFaultless : Type 0
+BooksAreFaultless = (text : List ℕ) (e : Ending) (f : BookFault) → length text < 2 ^ 64
+    → IsBookText text e → FirstFault text e f → ⊥

@@ -15,6 +15,6 @@ mod row_line;
 mod write;
 
 pub use fault::{BookCause, BookFault};
-pub use law::{each_book_has_one_text, written_books_are_read};
+pub use law::{each_book_has_one_text, each_text_has_one_fault_or_none, written_books_are_read};
 pub use read::read_book;
 pub use write::write_book;

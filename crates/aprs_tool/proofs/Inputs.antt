@@ -20,6 +20,7 @@ use Rattle.aprs_booktext.specs.Lines.{Lacks}
 use Rattle.aprs_booktext.specs.Text.{book_text, ended_by_lf, header, IsBookRows, lines_of, row_line, text_of_lines}
 use Rattle.aprs_booktext.specs.declared.fault.BookCause.TheVariants as cause
 use Rattle.aprs_booktext.specs.declared.fault.BookFault.{BookFault}
+use Rattle.aprs_booktext.proofs.Accepting.{rows_few}
 use Rattle.aprs_booktext.proofs.OneText.{cut_short}
 use Rattle.aprs_tool.specs.Head.{IsHead}
 use Rattle.aprs_tool.specs.Inputs.{AreMembersIn, HoldsOfGot, is_book_file, IsFaultIn, IsMemoryIn, OfGot, ReadsInput, ReadsLog}
@@ -145,18 +146,6 @@ short_empty t c rows short e book =
     reads_log (Ok rows) t c (short_is_log t short) (ap (λ a. a.fault) e, subst (λ a. BookOf gap_seconds (receptions_of a.given) rows) (sym e) book)
 
 -- ---- a book file
-
--- each line has an LF
-lines_few : (ls : List (List ℕ)) → length ls ≤ length (text_of_lines ls)
-lines_few [] = omega arith
-lines_few (l ∷ ls) =
-    let whole : length (ended_by_lf l ++ text_of_lines ls) ≡ length l + 1 + length (text_of_lines ls) = simp (length-append, length-append) (omega arith) in
-    omega (arith, lines_few ls, whole)
-
-rows_few : (rows : List Row) → length rows ≤ length (book_text rows)
-rows_few rows =
-    let lines : length (lines_of rows) ≡ length (map row_line rows) + 2 = simp length-append (omega arith) in
-    omega (arith, lines_few (lines_of rows), lines, length-map rows row_line)
 
 faultless_book : (b : Bool) (rows : List Row) → IsBookRows rows → length (book_text rows) ≤ 1073741824 → b ≡ true
     → (e : InputFault) → IsFaultIn b e (book_text rows) ending.End → ⊥

@@ -14,7 +14,6 @@ ghost use Rattle.aprs_tool.specs.declared.fault.InputFault.TheVariants.{Log};
 ghost use Rattle.aprs_tool.specs.Run.{RunsOver, IsRead, stream_text, stream_fault, capture_text};
 ghost use Rattle.aprs_tool.specs.Run.{captured, EndsStream};
 
-use crate::convert::log_fault;
 use crate::fault::RunFault;
 use aprs_ax25::Frame;
 use aprs_kiss::{Counted, Fed, KissReader, WriteFault};
@@ -48,10 +47,8 @@ pub fn capture<R: Read, W: Write>(
         match read_chunk(r, &mut buffer, left) {
             Ok(count) => {
                 let (chunk, _) = buffer.split_at(count);
-                match capture_chunk(&mut reader, chunk, receiver, moment, w) {
-                    Ok(()) => left -= count as u64,
-                    Err(_) => return Err(RunFault::Write),
-                }
+                capture_chunk(&mut reader, chunk, receiver, moment, w)?;
+                left -= count as u64;
             }
             Err(ending) => return stream_end(ending),
         }
@@ -73,7 +70,7 @@ fn stream_end(ending: Ending) -> Result<(), RunFault>
 fn fault_of_stream(cause: LogCause) -> RunFault
     ensures { result ≡ RunFault.Input 0 (Log (record { line = 0; cause = cause })) }
 {
-    log_fault(LogFault { line: 0, cause })
+    RunFault::from(LogFault { line: 0, cause })
 }
 
 /// Reads once, at most `left` bytes, or says how the stream ends.
@@ -143,10 +140,7 @@ fn capture_chunk<W: Write>(
     let mut rest = chunk;
     while !rest.is_empty() {
         let (used, fed) = reader.feed(rest);
-        match write_fed(w, receiver, moment, fed) {
-            Ok(()) => {}
-            Err(fault) => return Err(fault),
-        }
+        write_fed(w, receiver, moment, fed)?;
         let (_, after) = rest.split_at(used);
         rest = after;
     }

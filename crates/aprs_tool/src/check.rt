@@ -8,7 +8,6 @@ ghost use Rattle.aprs_log.specs.Fault.{reason_name};
 ghost use Rattle.aprs_tool.specs.Run.{RunsOver, IsRead, check_text, lines_fault, ended_by_lf};
 ghost use Rattle.aprs_tool.specs.Run.{passed_line, totals_line};
 
-use crate::convert::log_fault;
 use crate::fault::RunFault;
 use crate::text::{Text, push_all, push_decimal};
 use aprs_kiss::{Counted, WriteFault, send};
@@ -17,9 +16,9 @@ use std::alloc::Global;
 use std::io::{Read, Write};
 
 /// Writes a line for each line of a log that holds no frame, with the reason, and last how many
-/// lines are heard and how many passed over. Requires that `limit` is at most `MAX_INPUT`. At a
-/// fault all lines before it have been told of, and there are no totals; at `Write` a front of the
-/// text was written. Takes no memory.
+/// lines are heard and how many passed over. Requires that `limit` is at most 1,073,741,824
+/// (`MAX_INPUT`). At a fault all lines before it have been reported, and there are no totals; at
+/// `Write` a prefix of the text was written. Takes no memory.
 pub fn check_run<R: Read, W: Write>(
     alloc: Global,
     limit: u64,
@@ -38,21 +37,16 @@ pub fn check_run<R: Read, W: Write>(
     let mut heard = 0;
     let mut passed = 0;
     'lines: loop {
-        match reader.advance() {
-            Ok(true) => match reader.current() {
-                Line::Heard(_) => heard += 1,
-                Line::Passed(reason) => match write_passed(w, reader.line(), *reason) {
-                    Ok(()) => passed += 1,
-                    Err(_) => return Err(RunFault::Write),
-                },
-            },
-            Ok(false) => {
-                return match write_totals(w, heard, passed) {
-                    Ok(()) => Ok(()),
-                    Err(_) => Err(RunFault::Write),
-                };
+        if !reader.advance()? {
+            write_totals(w, heard, passed)?;
+            return Ok(());
+        }
+        match reader.current() {
+            Line::Heard(_) => heard += 1,
+            Line::Passed(reason) => {
+                write_passed(w, reader.line(), *reason)?;
+                passed += 1;
             }
-            Err(fault) => return Err(log_fault(fault)),
         }
     }
 }

@@ -4,10 +4,10 @@ ghost use Rattle.aprs_kiss.specs.Device.{device_of, failures_of, answered_of, Ro
 ghost use Rattle.aprs_tool.specs.Run.{RunsOver, IsRead, lines_text, lines_fault};
 
 use crate::answer::{Room, write_answer};
-use crate::fault::{InputFault, RunFault};
+use crate::fault::RunFault;
 use crate::form::Form;
 use aprs_kiss::Counted;
-use aprs_log::{LogFault, LogReader};
+use aprs_log::LogReader;
 use std::alloc::Global;
 use std::io::{Read, Write};
 
@@ -30,23 +30,9 @@ pub fn convert_lines<R: Read, W: Write>(
     let mut reader = LogReader::new(alloc, limit, &[], r);
     let mut room = Room::new();
     'lines: loop {
-        match reader.advance() {
-            Ok(true) => match write_answer(form, w, reader.current(), &mut room) {
-                Ok(()) => {}
-                Err(_) => return Err(RunFault::Write),
-            },
-            Ok(false) => return Ok(()),
-            Err(fault) => return Err(log_fault(fault)),
+        if !reader.advance()? {
+            return Ok(());
         }
-    }
-}
-
-/// The fault of a run whose only input is a log with this fault.
-pub fn log_fault(fault: LogFault) -> RunFault
-    ensures { result ≡ RunFault.Input 0 (InputFault.Log fault) }
-{
-    RunFault::Input {
-        index: 0,
-        fault: InputFault::Log(fault),
+        write_answer(form, w, reader.current(), &mut room)?;
     }
 }
