@@ -16,5 +16,6 @@ mod write;
 
 pub use fault::{BookCause, BookFault};
 pub use law::each_book_has_one_text;
+pub use outbox::{Outbox, flush, put};
 pub use read::read_book;
 pub use write::write_book;
