@@ -2,6 +2,7 @@ pub mod Texts
 pub mod Desks
 pub mod Inputs
 pub mod Logs
+pub mod Lines
 pub mod Merges
 pub mod Seen
 pub mod ShortLogs

@@ -7,3 +7,6 @@ pub mod Run
 pub mod Inputs
 pub mod Desk
 pub mod Merge
+pub mod Listing
+pub mod Lines
+pub mod Show

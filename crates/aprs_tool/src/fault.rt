@@ -29,6 +29,9 @@ pub enum RunFault {
     /// The output was refused.
     #[error("cannot write")]
     Write,
+    /// Memory was refused for what a listing shows.
+    #[error("out of memory")]
+    Memory,
 }
 
 /// The program's exit status for a run's fault: 4 where memory was refused, 3 where the output was,
@@ -39,6 +42,7 @@ pub fn status_of(fault: &RunFault) -> u8
     match fault {
         RunFault::Input { fault, .. } => status_of_input(fault),
         RunFault::Write => 3,
+        RunFault::Memory => 4,
     }
 }
 
