@@ -3,6 +3,7 @@ pub mod Desks
 pub mod Inputs
 pub mod Logs
 pub mod Lines
+pub mod Shows
 pub mod Merges
 pub mod Seen
 pub mod ShortLogs

@@ -1,6 +1,7 @@
 -- Lemmas on lines that go out through a buffer.
-use Rattle.std.proofs.Common.{Bool, ◌∷◌, ◌≡◌, ◌≤◌, ◌<◌, ℕ, ◌+◌, List, ◌++◌, length, get_or, take, Option, Result, Ok, Err, OnOk, OnErr, [], refl, subst, arith}
+use Rattle.std.proofs.Common.{Bool, ◌∷◌, ap, ap₂, sym, ◌∙◌, append_assoc, map, ◌≡◌, ◌≤◌, ◌<◌, ℕ, ◌+◌, List, ◌++◌, length, get_or, take, Option, Result, Ok, Err, OnOk, OnErr, [], refl, subst, arith}
 use Rattle.std.specs.List.{flat_map}
+use Rattle.std.proofs.lemmas.List.Concat.{flat_map-append}
 use Rattle.std.specs.Result.{IsErr}
 use Rattle.std.specs.Io.KnownBytes.{Appends}
 use Rattle.aprs_kiss.specs.Device.{AppendsFront, Rose}
@@ -11,13 +12,10 @@ use Rattle.aprs_ax25.specs.Callsign.{Call, call_text}
 use Rattle.aprs_laws.specs.Key.{key_of}
 use Rattle.aprs_log.specs.Moment.{moment_text}
 use Rattle.aprs_log.specs.Reception.{Heard}
-use Rattle.aprs_report.specs.Place.{latitude_of, longitude_of}
-use Rattle.aprs_report.specs.declared.place.Fraction.{Fraction}
-use Rattle.aprs_report.specs.declared.place.Place.{Place}
-use Rattle.aprs_report.specs.declared.stamp.Stamp.{Stamp}
-use Rattle.aprs_report.specs.declared.symbol.Symbol.{Symbol}
-use Rattle.aprs_tool.specs.Lines.{PutsText}
-use Rattle.aprs_tool.specs.Listing.{ambiguity_text, fraction_text, live_text, name_fields, place_fields, stamp_text, symbol_text, text_line_of, word}
+use Rattle.aprs_tool.specs.Lines.{PutsText, field_text, spaced_field}
+use Rattle.aprs_tool.specs.Listing.{after_space, heard_fields, live_text, name_fields, text_line_of, word}
+use Rattle.aprs_tool.specs.Shown.{shown}
+use Rattle.aprs_tool.specs.declared.field.Field.{Field}
 
 abbrev Answer : Type 0
 Answer = Result (Unit {0}) WriteFault
@@ -80,11 +78,24 @@ module _ {X : Type 0} (f : X → List ℕ) (xs : List X) (i : ℕ) (x : X) (lt :
       } in
       PutsText-err r is_err whole
 
--- ---- the line of a name
+-- ---- fields
 
-module _ (kind name live_word who comment : List ℕ) (live : Bool) (heard shown_as : Heard) (from : Call) (lat lon : Fraction) (stamp : Option Stamp) (place : Place) (symbol : Symbol) where
-  pub name_line : heard ≡ shown_as → live_word ≡ live_text live → who ≡ heard.receiver → from ≡ (key_of heard.frame).source → lat ≡ latitude_of place → lon ≡ longitude_of place
-      → text_line_of kind
-          (word name ∷ live_word ∷ moment_text heard.moment ∷ who ∷ call_text from ∷ stamp_text stamp ∷ fraction_text lat ∷ fraction_text lon ∷ ambiguity_text place ∷ symbol_text symbol ∷ []) comment
-      ≡ text_line_of kind (name_fields name live shown_as ++ place_fields stamp place symbol) comment
-  name_line e l w f a o = rw (l, w, f, a, o, e) refl
+spaced_fields : (xs : List Field) → flat_map spaced_field xs ≡ flat_map after_space (map field_text xs)
+spaced_fields [] = refl
+spaced_fields (x ∷ xs) = ap (λ l. spaced_field x ++ l) (spaced_fields xs)
+
+-- the fields of a line and those of a place
+pub placed : (kind comment : List ℕ) (fields known place : List (List ℕ)) (others : List Field) → fields ≡ known → map field_text others ≡ place
+    → kind ++ (flat_map after_space fields ++ (flat_map spaced_field others ++ (58 ∷ shown comment ++ 10 ∷ []))) ≡ text_line_of kind (known ++ place) comment
+placed kind comment fields known place others e o =
+    let rest = 58 ∷ shown comment ++ 10 ∷ [] in
+    ap₂ (λ l m. kind ++ (flat_map after_space l ++ (m ++ rest))) e (spaced_fields others ∙ ap (flat_map after_space) o)
+    ∙ ap (λ l. kind ++ l) (sym (append_assoc (flat_map after_space known) (flat_map after_space place) rest) ∙ ap (λ l. l ++ rest) (sym (flat_map-append after_space known place)))
+
+pub heard_fields_of : (heard shown_as : Heard) (who : List ℕ) → heard ≡ shown_as → who ≡ heard.receiver → moment_text heard.moment ∷ who ∷ [] ≡ heard_fields shown_as
+heard_fields_of heard shown_as who e w = rw (w, e) refl
+
+pub name_fields_of : (name live_word who : List ℕ) (live : Bool) (heard shown_as : Heard) (from : Call) → heard ≡ shown_as → live_word ≡ live_text live → who ≡ heard.receiver
+    → from ≡ (key_of heard.frame).source
+    → word name ∷ live_word ∷ moment_text heard.moment ∷ who ∷ call_text from ∷ [] ≡ name_fields name live shown_as
+name_fields_of name live_word who live heard shown_as from e l w f = rw (l, w, f, e) refl

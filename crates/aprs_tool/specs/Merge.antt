@@ -14,7 +14,7 @@ use Rattle.aprs_tool.specs.Inputs.{IsFaultless, IsRefused, AreMembers}
 use Rattle.aprs_tool.specs.Run.{IsReadFault}
 use Rattle.aprs_tool.specs.declared.fault.InputFault.{InputFault}
 use Rattle.aprs_tool.specs.declared.fault.RunFault.{RunFault}
-use Rattle.aprs_tool.specs.declared.fault.RunFault.TheVariants.{Input, Write, Memory as NoMemory}
+use Rattle.aprs_tool.specs.declared.fault.RunFault.TheVariants.{Input, Write, Memory}
 
 -- ---- what was got of several inputs
 
@@ -75,13 +75,12 @@ abbrev pub WritesBook : List Got → (List ℕ → Type 0) → Type 0
 WritesBook gots P = WritesOfAll IsBookTextOf gots P
 
 -- A refused output comes after a front of the text. Where an input is refused nothing is written.
--- Memory is told as that of an input.
 abbrev pub MergesEach : Result (Unit {0}) RunFault → Option (List ℕ) → Option (List ℕ) → List Got
     → Type 0
 MergesEach (Ok u) old new gots = WritesBook gots (λ text. Appends old new text)
 MergesEach (Err Write) old new gots = WritesBook gots (λ text. AppendsFront old new text)
 MergesEach (Err (Input index e)) old new gots = IsFirstRefused index e gots × (new ≡ old)
-MergesEach (Err NoMemory) old new gots = ⊥
+MergesEach (Err Memory) old new gots = ⊥
 
 -- of each input at most `limit` bytes are got, and P holds of what was got
 pub record HoldsOfEach (limit : ℕ) (inputs : List (List ℕ)) (P : List Got → Type 0) : Type 0 where
@@ -109,10 +108,10 @@ pub record RoseAt {R : Type 0} (index : ℕ) (old new : List (Counted R)) : Type
 abbrev pub RoseWhereRead : {R : Type 0} → RunFault → List (Counted R) → List (Counted R) → Type 0
 RoseWhereRead (Input index e) old new = IsReadFault e → RoseAt index old new
 RoseWhereRead Write old new = Unit {0}
-RoseWhereRead NoMemory old new = Unit {0}
+RoseWhereRead Memory old new = Unit {0}
 
 -- where an input is refused, or memory for a listing, nothing is written
 abbrev pub WritesNothing : RunFault → Option (List ℕ) → Option (List ℕ) → Type 0
 WritesNothing (Input index e) old new = new ≡ old
 WritesNothing Write old new = Unit {0}
-WritesNothing NoMemory old new = new ≡ old
+WritesNothing Memory old new = new ≡ old

@@ -26,7 +26,8 @@ use Rattle.aprs_tool.specs.Monitor.{monitor_text, kind_text}
 use Rattle.aprs_tool.specs.declared.fault.InputFault.{InputFault}
 use Rattle.aprs_tool.specs.declared.fault.InputFault.TheVariants.{Log, Book, Memory}
 use Rattle.aprs_tool.specs.declared.fault.RunFault.{RunFault}
-use Rattle.aprs_tool.specs.declared.fault.RunFault.TheVariants.{Input, Write, Memory as NoMemory}
+use Rattle.aprs_tool.specs.declared.fault.RunFault.TheVariants.{Input, Write}
+use Rattle.aprs_tool.specs.declared.fault.RunFault.TheVariants as run
 use Rattle.aprs_tool.specs.declared.form.Form.{Form}
 use Rattle.aprs_tool.specs.declared.form.Form.TheVariants as form
 
@@ -144,7 +145,7 @@ FailsSo (Input index (Log f)) old new text fault =
 FailsSo (Input index (Book f)) old new text fault = ⊥
 FailsSo (Input index Memory) old new text fault = ⊥
 FailsSo Write old new text fault = AppendsFront old new text
-FailsSo NoMemory old new text fault = ⊥
+FailsSo run.Memory old new text fault = ⊥
 
 -- the run of a text and a fault writes and answers so
 abbrev pub RunsSo : Result (Unit {0}) RunFault → Option (List ℕ) → Option (List ℕ) → List ℕ
@@ -171,7 +172,7 @@ IsReadFault Memory = ⊥
 abbrev pub IsRead : RunFault → Type 0
 IsRead (Input index fault) = IsReadFault fault
 IsRead Write = ⊥
-IsRead NoMemory = ⊥
+IsRead run.Memory = ⊥
 
 -- what a run over a stream answers that ends so
 abbrev pub EndsStream : Result (Unit {0}) RunFault → Ending → Type 0

@@ -1,14 +1,16 @@
 -- What the listing of several inputs writes and answers.
-use Rattle.std.specs.Prelude.{◌≡◌, ℕ, List, ◌++◌, Option, Result, Ok, Err}
+use Rattle.std.specs.Prelude.{◌≡◌, ◌≢◌, ℕ, List, [], ◌∷◌, ◌++◌, Option, Result, Ok, Err, codes}
 use Rattle.std.specs.List.{flat_map}
+use Rattle.std.specs.Fmt.{decimal}
 use Rattle.std.specs.Io.KnownBytes.{Appends}
 use Rattle.aprs_kiss.specs.Device.{AppendsFront}
-use Rattle.aprs_ax25.specs.Callsign.{Call}
+use Rattle.aprs_ax25.specs.Callsign.{Call, call_text}
 use Rattle.aprs_log.specs.Reception.{Heard}
 use Rattle.aprs_laws.specs.Best.{LastKnown}
 use Rattle.aprs_laws.specs.BestLaws.{Passes}
 use Rattle.aprs_laws.specs.Book.{BookOf}
 use Rattle.aprs_laws.specs.Gap.{gap_seconds}
+use Rattle.aprs_laws.specs.Lists.{◌∈◌}
 use Rattle.aprs_laws.specs.Row.{Row}
 use Rattle.aprs_book.specs.Messages.{AreMessages}
 use Rattle.aprs_book.specs.Names.{AreNamed}
@@ -47,3 +49,23 @@ ShowsEach (Err Write) old new gots =
     WritesOfAll IsListingOf gots (λ text. AppendsFront old new text)
 ShowsEach (Err (Input index e)) old new gots = IsFirstRefused index e gots × (new ≡ old)
 ShowsEach (Err Memory) old new gots = AreFaultless gots × (new ≡ old)
+
+-- ---- what it tells
+
+-- The text has a line of this station, and right after it the position line of `known`, if that is a
+-- reception. Only lines of other stations stand before.
+pub record TellsPosition (text : List ℕ) (call : Call) (known : Option Heard) : Type 0 where
+  pub before : List Station
+  pub transmissions : ℕ
+  pub after : List ℕ
+  pub others : (x : Station) → x ∈ before → x.call ≢ call
+  pub text_is : text ≡ flat_map station_lines before
+      ++ (line_of (codes "station") (call_text call ∷ decimal transmissions ∷ [])
+      ++ (known_line known ++ after))
+
+-- The listing of any set tells, of each source in the set, the position that is the set's greatest
+-- reception of a position report from it.
+abbrev pub ListingsTellPositions : Type 0
+ListingsTellPositions = (S : List Heard) (text : List ℕ) (call : Call) (known : Option Heard)
+    → IsListingOf S text → IsSource S call → LastKnown S (Passes (tells_position call)) known
+    → TellsPosition text call known

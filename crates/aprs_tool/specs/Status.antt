@@ -7,7 +7,8 @@ use Rattle.aprs_booktext.specs.declared.fault.BookCause.TheVariants as book
 use Rattle.aprs_tool.specs.declared.fault.InputFault.{InputFault}
 use Rattle.aprs_tool.specs.declared.fault.InputFault.TheVariants.{Log, Book, Memory}
 use Rattle.aprs_tool.specs.declared.fault.RunFault.{RunFault}
-use Rattle.aprs_tool.specs.declared.fault.RunFault.TheVariants.{Input, Write, Memory as NoMemory}
+use Rattle.aprs_tool.specs.declared.fault.RunFault.TheVariants.{Input, Write}
+use Rattle.aprs_tool.specs.declared.fault.RunFault.TheVariants as run
 
 -- 4 where memory was refused, 1 for every other cause
 abbrev pub status_of_cause : LogCause → ℕ
@@ -43,4 +44,4 @@ status_of_input Memory = 4
 abbrev pub status_of_fault : RunFault → ℕ
 status_of_fault (Input index fault) = status_of_input fault
 status_of_fault Write = 3
-status_of_fault NoMemory = 4
+status_of_fault run.Memory = 4

@@ -29,7 +29,7 @@ pub enum RunFault {
     /// The output was refused.
     #[error("cannot write")]
     Write,
-    /// Memory was refused for what a listing shows.
+    /// Memory was refused for what the run shows.
     #[error("out of memory")]
     Memory,
 }

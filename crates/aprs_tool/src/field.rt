@@ -75,9 +75,15 @@ fn fraction_text(fraction: &Fraction) -> ArrayVec<u8, 81>
     ensures { result.items ≡ fraction_text fraction.now }
 {
     let mut text = ArrayVec::new();
-    push_all(&mut text, Buffer::new().format(fraction.numerator).as_bytes());
+    push_all(
+        &mut text,
+        Buffer::new().format(fraction.numerator).as_bytes(),
+    );
     push_all(&mut text, b"/");
-    push_all(&mut text, Buffer::new().format(fraction.denominator).as_bytes());
+    push_all(
+        &mut text,
+        Buffer::new().format(fraction.denominator).as_bytes(),
+    );
     text
 }
 
@@ -114,11 +120,7 @@ pub fn put_shown<W: Write>(
 }
 
 /// Puts a name, in which a space is shown too.
-fn put_word<W: Write>(
-    w: &mut Counted<W>,
-    held: &mut Outbox,
-    bytes: &[u8],
-) -> Result<(), WriteFault>
+fn put_word<W: Write>(w: &mut Counted<W>, held: &mut Outbox, bytes: &[u8]) -> Result<(), WriteFault>
     ensures { PutsText result (W.contents (device_of w.old)) (W.contents (device_of w.new))
         (failures_of w.old) (failures_of w.new) held.old.items held.new.items (word bytes.now) }
 {

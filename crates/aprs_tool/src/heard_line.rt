@@ -1,7 +1,7 @@
 //! The line of what was heard last of something.
-ghost use Rattle.std.specs.Prelude.{◌≡◌, ◌++◌, ◌∷◌, [], codes};
+ghost use Rattle.std.specs.Prelude.{◌≡◌, ◌++◌, ◌∷◌, [], codes, map};
 ghost use Rattle.aprs_kiss.specs.Device.{device_of, failures_of};
-ghost use Rattle.aprs_tool.specs.Lines.{PutsText};
+ghost use Rattle.aprs_tool.specs.Lines.{PutsText, field_text};
 ghost use Rattle.aprs_tool.specs.Listing.{heard_fields, heard_line, live_text, name_fields, place_fields};
 ghost use Rattle.aprs_tool.specs.Listing.{stamp_text, text_line_of};
 
@@ -99,13 +99,8 @@ fn put_position<W: Write>(
     let fields = [
         Field::Moment(heard.moment),
         Field::Plain(heard.receiver.as_bytes()),
-        Field::Stamp(at.stamp),
-        Field::Degrees(at.place.lat()),
-        Field::Degrees(at.place.lon()),
-        Field::Ambiguity(at.place),
-        Field::Symbol(at.symbol),
     ];
-    put_text_line(w, held, b"position", &fields, at.comment)
+    put_text_line(w, held, b"position", &fields, &place_fields(at), at.comment)
 }
 
 /// Puts the line of an object or an item of this name, which is live or killed.
@@ -129,13 +124,8 @@ fn put_name<'a, W: Write>(
         Field::Moment(heard.moment),
         Field::Plain(heard.receiver.as_bytes()),
         Field::Call(heard.frame.source()),
-        Field::Stamp(at.stamp),
-        Field::Degrees(at.place.lat()),
-        Field::Degrees(at.place.lon()),
-        Field::Ambiguity(at.place),
-        Field::Symbol(at.symbol),
     ];
-    put_text_line(w, held, kind, &fields, at.comment)
+    put_text_line(w, held, kind, &fields, &place_fields(at), at.comment)
 }
 
 /// Puts the line of a status.
@@ -155,7 +145,20 @@ fn put_status<W: Write>(
         Field::Plain(heard.receiver.as_bytes()),
         Field::Stamp(stamp),
     ];
-    put_text_line(w, held, b"status", &fields, text)
+    put_text_line(w, held, b"status", &fields, &[], text)
+}
+
+/// Where something is.
+fn place_fields(at: &Whereabouts<'_>) -> [Field<'static>; 5]
+    ensures { map field_text result ≡ place_fields at.now.stamp at.now.place at.now.symbol }
+{
+    [
+        Field::Stamp(at.stamp),
+        Field::Degrees(at.place.lat()),
+        Field::Degrees(at.place.lon()),
+        Field::Ambiguity(at.place),
+        Field::Symbol(at.symbol),
+    ]
 }
 
 /// Whether it is there.

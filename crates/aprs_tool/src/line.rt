@@ -26,20 +26,23 @@ pub fn put_line<W: Write>(
     put(w, held, b"\n")
 }
 
-/// Puts a line with a text at its end, after a colon.
+/// Puts a line of the one fields and then the others, with a text at its end, after a colon.
 pub fn put_text_line<W: Write>(
     w: &mut Counted<W>,
     held: &mut Outbox,
     kind: &[u8],
     fields: &[Field<'_>],
+    others: &[Field<'_>],
     text: &[u8],
 ) -> Result<(), WriteFault>
     ensures { PutsText result (W.contents (device_of w.old)) (W.contents (device_of w.new))
         (failures_of w.old) (failures_of w.new) held.old.items held.new.items
-        (kind.now ++ (flat_map spaced_field fields.now ++ (58 ∷ shown text.now ++ 10 ∷ []))) }
+        (kind.now ++ (flat_map spaced_field fields.now
+        ++ (flat_map spaced_field others.now ++ (58 ∷ shown text.now ++ 10 ∷ [])))) }
 {
     put(w, held, kind)?;
     put_fields(w, held, fields)?;
+    put_fields(w, held, others)?;
     put_text(w, held, text)
 }
 
@@ -74,11 +77,7 @@ fn put_spaced<W: Write>(
 }
 
 /// Puts a colon, the text as it is shown, and an LF.
-fn put_text<W: Write>(
-    w: &mut Counted<W>,
-    held: &mut Outbox,
-    text: &[u8],
-) -> Result<(), WriteFault>
+fn put_text<W: Write>(w: &mut Counted<W>, held: &mut Outbox, text: &[u8]) -> Result<(), WriteFault>
     ensures { PutsText result (W.contents (device_of w.old)) (W.contents (device_of w.new))
         (failures_of w.old) (failures_of w.new) held.old.items held.new.items
         (58 ∷ shown text.now ++ 10 ∷ []) }

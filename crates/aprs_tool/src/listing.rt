@@ -172,7 +172,7 @@ fn put_message<W: Write>(
         Field::Moment(message.first),
         Field::Moment(message.last),
     ];
-    put_text_line(w, held, b"message", &fields, message.text)
+    put_text_line(w, held, b"message", &fields, &[], message.text)
 }
 
 /// The id, or `-` without one.

@@ -11,5 +11,13 @@ returns-in_err-put_fields g c =
     let p = c.in_ok-put.ensures in
     PutsText-then {x = c.args.kind.now} (record { sent = p.sent; prefix = tt; count = p.count; fault = tt }) (PutsText-fails c.from_residual-in_err-put_fields.result c.from_residual-in_err-put_fields.ensures.0 c.in_err-put_fields.ensures _)
 
+pub returns-in_err-put_fields-2 : goal.returns-in_err-put_fields-2
+returns-in_err-put_fields-2 g c =
+    let p = c.in_ok-put.ensures in
+    PutsText-then {x = c.args.kind.now} (record { sent = p.sent; prefix = tt; count = p.count; fault = tt })
+    (PutsText-then c.in_ok-put_fields.ensures (PutsText-fails c.from_residual-in_err-put_fields-2.result c.from_residual-in_err-put_fields-2.ensures.0 c.in_err-put_fields-2.ensures _))
+
 pub returns : goal.returns
-returns g c = let p = c.in_ok-put.ensures in PutsText-then {x = c.args.kind.now} (record { sent = p.sent; prefix = tt; count = p.count; fault = tt }) (PutsText-then c.in_ok-put_fields.ensures c.put_text.ensures)
+returns g c =
+    let p = c.in_ok-put.ensures in
+    PutsText-then {x = c.args.kind.now} (record { sent = p.sent; prefix = tt; count = p.count; fault = tt }) (PutsText-then c.in_ok-put_fields.ensures (PutsText-then c.in_ok-put_fields-2.ensures c.put_text.ensures))
