@@ -19,6 +19,10 @@ use Rattle.aprs_booktext.specs.Text.{header, row_line, end_line, ended_by_lf, bo
 pub Puts-nil : (a : Option (List ℕ)) (h : List ℕ) → Puts a a h h []
 Puts-nil a h = record { gone = []; parts = append-nil h; sent = Appends-nil a }
 
+-- all that was held went out
+pub Puts-sent : {a b : Option (List ℕ)} {h i : List ℕ} → Appends a b h → i ≡ [] → Puts a b h i []
+Puts-sent {a} {b} {h} {i} p e = record { gone = h; parts = ap (λ l. h ++ l) (sym e); sent = p }
+
 -- two texts, one after another
 pub Puts-then : {a b c : Option (List ℕ)} {h i j x y : List ℕ} → Puts a b h i x → Puts b c i j y → Puts a c h j (x ++ y)
 Puts-then {a} {b} {c} {h} {i} {j} {x} {y} p q = record {

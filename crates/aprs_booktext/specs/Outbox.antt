@@ -1,4 +1,4 @@
--- What goes out through a buffer. No public clause cites this module.
+-- What goes out through a buffer.
 use Rattle.std.specs.Prelude.{◌≡◌, ◌<◌, ◌≤◌, ℕ, List, ◌++◌, Option, Ok, length}
 use Rattle.std.specs.Io.KnownBytes.{Appends}
 use Rattle.hex.specs.Hex.{IsBytes}

@@ -16,5 +16,6 @@ mod write;
 
 pub use fault::{BookCause, BookFault};
 pub use law::{each_book_has_one_text, each_text_has_one_fault_or_none, written_books_are_read};
+pub use outbox::{Outbox, flush, put};
 pub use read::read_book;
 pub use write::write_book;

@@ -15,9 +15,9 @@ const ROOM: usize = 4096;
 /// Bytes that have not gone out yet.
 pub type Outbox = ArrayVec<u8, ROOM>;
 
-/// Puts bytes behind those that are held, which go out first where there is no room.
+/// Puts bytes after those that are held, which go out first where there is no room. At a fault a
+/// prefix of both went out. Takes no memory.
 pub fn put<W: Write>(w: &mut Counted<W>, held: &mut Outbox, bytes: &[u8]) -> Result<(), WriteFault>
-    requires { length bytes.now ≤ 4096 }
     ensures sent { OnOk result (Puts (W.contents (device_of w.old)) (W.contents (device_of w.new))
         held.old.items held.new.items bytes.now) }
     ensures prefix { OnErr result (AppendsFront (W.contents (device_of w.old))
@@ -27,12 +27,15 @@ pub fn put<W: Write>(w: &mut Counted<W>, held: &mut Outbox, bytes: &[u8]) -> Res
 {
     if held.len() + bytes.len() > ROOM {
         flush(w, held)?;
+        if bytes.len() > ROOM {
+            return send(w, bytes);
+        }
     }
     push_all(held, bytes);
     Ok(())
 }
 
-/// Sends what is held.
+/// Sends what is held. At a fault a prefix of it went out. Takes no memory.
 pub fn flush<W: Write>(w: &mut Counted<W>, held: &mut Outbox) -> Result<(), WriteFault>
     ensures sent { OnOk result (Appends (W.contents (device_of w.old))
         (W.contents (device_of w.new)) held.old.items) }

@@ -25,18 +25,23 @@ const CAR: Symbol = Symbol {
     code: b'>',
 };
 
-fn callsign(text: &[u8]) -> Result<Callsign, Fail> {
+pub fn callsign(text: &[u8]) -> Result<Callsign, Fail> {
     Ok(Callsign::parse(text).ok().ok_or("callsign")?)
 }
 
-/// What RX1 hears of a station at a second of the hour.
-fn sent(second: u64, source: &[u8], info: &[u8]) -> Result<Reception, Fail> {
+/// A frame to APRS.
+pub fn frame_of(source: &[u8], info: &[u8]) -> Result<Frame, Fail> {
     let destination = callsign(b"APRS")?;
     let frame = Frame::make(&destination, &callsign(source)?, &[], info);
+    Ok(frame.ok().ok_or("frame")?)
+}
+
+/// What RX1 hears of a station at a second of the hour.
+pub fn sent(second: u64, source: &[u8], info: &[u8]) -> Result<Reception, Fail> {
     Ok(Reception::new(
         Moment::new(NOON.saturating_add(second)).ok_or("moment")?,
         receiver(b"RX1")?,
-        frame.ok().ok_or("frame")?,
+        frame_of(source, info)?,
     ))
 }
 

@@ -16,6 +16,10 @@ mod last_known;
 #[cfg(test)]
 mod lines;
 #[cfg(test)]
+mod listed;
+#[cfg(test)]
+mod listings;
+#[cfg(test)]
 mod logs;
 #[cfg(test)]
 mod merges;
@@ -25,6 +29,8 @@ mod pushed_rows;
 mod refused_memory;
 #[cfg(test)]
 mod runs;
+#[cfg(test)]
+mod show_runs;
 #[cfg(test)]
 mod shown;
 #[cfg(test)]

@@ -2,6 +2,8 @@ pub mod Texts
 pub mod Desks
 pub mod Inputs
 pub mod Logs
+pub mod Lines
+pub mod Shows
 pub mod Merges
 pub mod OneMerge
 pub mod Seen

@@ -12,7 +12,7 @@ use Rattle.aprs_laws.specs.Row.{Row}
 use Rattle.aprs_log.specs.Reception.{Heard}
 use Rattle.aprs_log.proofs.AwaitLemmas.{gets_whole}
 use Rattle.aprs_tool.specs.Inputs.{AreMembers, HoldsOfGot, IsFaultless, IsNotTaken, OfGot, TakesInput}
-use Rattle.aprs_tool.specs.Merge.{AreFaultless, AreMembersOfAll, GetsEach, Got, HoldsOfEach, IsBookOfAll, IsFirstRefused, ReadsEach}
+use Rattle.aprs_tool.specs.Merge.{AreFaultless, AreMembersOfAll, GetsEach, Got, HoldsOfEach, IsBookOfAll, IsFirstRefused, ReadsEach, WritesOfAll}
 use Rattle.aprs_tool.specs.declared.fault.InputFault.{InputFault}
 
 abbrev pub some_each : List (List ℕ) → List (Option (List ℕ))
@@ -226,6 +226,11 @@ module _ (limit : ℕ) (inputs : List (List ℕ)) (afters next : List (Option (L
             holds = subst (λ i. IsFirstRefused i fault (h.gots ++ g ∷ left.gots)) (gots_len limit h.done (take index afters) h.gots h.gets ∙ h.place)
                 (first_refused h.gots g left.gots fault h.faultless got.holds);
           }
+
+-- a text that tells of whatever set the rows are the book of tells of the receptions of all
+pub written : (Tells : List Heard → List ℕ → Type 0) (gots : List Got) (rows : List Row) (text : List ℕ) (P : List ℕ → Type 0) → ReadsEach (Ok rows) gots
+    → ((S : List Heard) → BookOf gap_seconds S rows → Tells S text) → P text → WritesOfAll Tells gots P
+written Tells gots rows text P read tells p = (read.0, (read.1.0, text, read.1.1, tells read.1.0 read.1.2, p))
 
 -- there are as many as their bytes
 pub same_len : {X : Type 0} (f : X → Option (List ℕ)) (xs : List X) (inputs : List (List ℕ)) → map f xs ≡ some_each inputs → length inputs ≡ length xs

@@ -9,3 +9,6 @@ pub mod Inputs
 pub mod Desk
 pub mod Merge
 pub mod StandsFor
+pub mod Listing
+pub mod Lines
+pub mod Show

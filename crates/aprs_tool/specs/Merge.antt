@@ -60,10 +60,17 @@ ReadsEach (Err p) gots = IsFirstRefused p.0 p.1 gots
 
 -- ---- how they are merged
 
--- all are faultless, and of the text of their one book P holds
+-- all are faultless, and P holds of a text that tells of the receptions of all
+abbrev pub WritesOfAll : (List Heard → List ℕ → Type 0) → List Got → (List ℕ → Type 0) → Type 0
+WritesOfAll Tells gots P = AreFaultless gots × ((S : List Heard) × (text : List ℕ)
+    × AreMembersOfAll gots S × Tells S text × P text)
+
+-- the text is that of the book of S
+abbrev pub IsBookTextOf : List Heard → List ℕ → Type 0
+IsBookTextOf S text = (rows : List Row) × BookOf gap_seconds S rows × (text ≡ book_text rows)
+
 abbrev pub WritesBook : List Got → (List ℕ → Type 0) → Type 0
-WritesBook gots P =
-    AreFaultless gots × ((rows : List Row) × IsBookOfAll rows gots × P (book_text rows))
+WritesBook gots P = WritesOfAll IsBookTextOf gots P
 
 -- A refused output comes after a front of the text. Where an input is refused nothing is written.
 abbrev pub MergesEach : Result (Unit {0}) RunFault → Option (List ℕ) → Option (List ℕ) → List Got
@@ -102,7 +109,7 @@ pub record RoseAt {R : Type 0} (index : ℕ) (old new : List (Counted R)) : Type
 abbrev pub RoseWhereRead : {R : Type 0} → RunFault → List (Counted R) → List (Counted R) → Type 0
 RoseWhereRead (Input index e) old new = IsReadFault e → RoseAt index old new
 RoseWhereRead Write old new = Unit {0}
-RoseWhereRead Memory old new = ⊥
+RoseWhereRead Memory old new = Unit {0}
 
 -- the answer is a failed read of input number `k`
 abbrev pub IsReadOf : ℕ → RunFault → Type 0
@@ -125,9 +132,9 @@ IsAsBefore index old new = (k : ℕ) → index < k → slice_get new k ≡ slice
 abbrev pub ReadsNoFurther : {R : Type 0} → RunFault → List (Counted R) → List (Counted R) → Type 0
 ReadsNoFurther (Input index e) old new = IsAsBefore index old new
 ReadsNoFurther Write old new = Unit {0}
-ReadsNoFurther Memory old new = ⊥
+ReadsNoFurther Memory old new = Unit {0}
 
--- where an input is refused, nothing is written
+-- where an input is refused, or memory for a listing, nothing is written
 abbrev pub WritesNothing : RunFault → Option (List ℕ) → Option (List ℕ) → Type 0
 WritesNothing (Input index e) old new = new ≡ old
 WritesNothing Write old new = Unit {0}

@@ -1,10 +1,12 @@
 -- The program's words, as the definition of its command reads them.
 use Rattle.std.specs.Prelude.{◌≡◌, ℕ, List, [], ◌∷◌, map, true, Option, None, Some, Result}
-use Rattle.std.specs.Prelude.{MatchResult, codes, if◌then◌else◌, option_map, option_and_then}
+use Rattle.std.specs.Prelude.{MatchResult, codes, if◌then◌else◌, option_map, option_and_then, unwrap_or}
 use Rattle.std.specs.Str.{bytes_eq}
+use Rattle.std.specs.String.{string_bytes}
+use Rattle.std.specs.declared.string.String.{String}
 use Rattle.std.specs.Borrow.{Bor}
 use Rattle.clap.specs.Lexer.{usize_max}
-use Rattle.clap.specs.Words.{App, Row, Rule, Text, first_of, new_app, new_rule, subcommand_of}
+use Rattle.clap.specs.Words.{App, Row, Rule, Text, all_of, first_of, new_app, new_rule, subcommand_of}
 use Rattle.clap.specs.Words.{IsAmong, fault_of, kind_of, takes, with_rule, with_subcommand}
 use Rattle.clap.specs.declared.builder.value_parser.ValueParser.{ValueParser}
 use Rattle.clap.specs.declared.builder.value_parser.ValueParser.TheVariants as vp
@@ -55,9 +57,12 @@ check_app = with_rule (new_app (codes "check")) input_rule
 abbrev pub merge_app : App
 merge_app = with_rule (new_app (codes "merge")) inputs_rule
 
+abbrev pub show_app : App
+show_app = with_rule (new_app (codes "show")) inputs_rule
+
 abbrev pub program_app : ValueParser → App
-program_app p = with_subcommand (with_subcommand (with_subcommand (new_app (codes "aprsbook"))
-    (convert_app p).top) check_app.top) merge_app.top
+program_app p = with_subcommand (with_subcommand (with_subcommand (with_subcommand
+    (new_app (codes "aprsbook")) (convert_app p).top) check_app.top) merge_app.top) show_app.top
 
 -- ---- what is read of the matches
 
@@ -90,20 +95,41 @@ form_of rows = option_and_then (λ name. named_form_of name (first_of (codes "re
 abbrev pub task_named : Text → List Row → Option Task
 task_named name rows =
     if bytes_eq name (codes "convert") then option_map (λ f. task.Convert f) (form_of rows)
-    else (if bytes_eq name (codes "merge") then Some task.Merge else Some task.Check)
+    else (if bytes_eq name (codes "merge") then Some task.Merge
+    else (if bytes_eq name (codes "show") then Some task.Show else Some task.Check))
 
 -- the task, or none where the options break the rule on capture; `convert text` without a command
 abbrev pub task_of : Option (Text × List Row) → Option Task
 task_of None = Some (task.Convert form.Text)
 task_of (Some p) = task_named p.0 p.1
 
+-- the paths of the inputs, in the order of the words; none without a command
+abbrev pub inputs_named : Option (Text × List Row) → List Text
+inputs_named None = []
+inputs_named (Some p) = unwrap_or (all_of (codes "input") p.1) []
+
 -- ---- the answer
+
+abbrev pub paths_of : {Z : Type 0} → List (String Z) → List Text
+paths_of inputs = map (λ path. string_bytes path) inputs
+
+abbrev pub inputs_of : Job → List Text
+inputs_of (job.Check inputs) = paths_of inputs.items
+inputs_of (job.Convert f inputs) = paths_of inputs.items
+inputs_of (job.Merge inputs) = paths_of inputs.items
+inputs_of (job.Show inputs) = paths_of inputs.items
 
 -- what a job asks for, apart from its inputs
 abbrev pub asked_by : Job → Task
 asked_by (job.Check inputs) = task.Check
 asked_by (job.Convert f inputs) = task.Convert f
 asked_by (job.Merge inputs) = task.Merge
+asked_by (job.Show inputs) = task.Show
+
+-- the job that these matches ask for, with their inputs
+pub record IsJobOf (found : Option (Text × List Row)) (j : Job) : Type 0 where
+  pub task : task_of found ≡ Some (asked_by j)
+  pub inputs : inputs_of j ≡ inputs_named found
 
 -- words are refused only where the command doesn't take them, and options only where they break the
 -- rule
@@ -114,7 +140,7 @@ FailsSo a words (fault.Clap e) = takes a words ≡ true → ⊥
 
 abbrev pub AnswersWords : App → List Text → Result Job JobFault → Type 0
 AnswersWords a words r =
-    MatchResult r (λ j. task_of (subcommand_of a words) ≡ Some (asked_by j)) (FailsSo a words)
+    MatchResult r (IsJobOf (subcommand_of a words)) (FailsSo a words)
 
 -- Which words are refused: an answer comes only where the command's definition finds no fault in the
 -- words, and a refusal has one of the kinds that it finds.

@@ -25,6 +25,8 @@ pub enum Job {
     Convert(Form, Vec<String>),
     /// Merge logs and book files into one book, and write that.
     Merge(Vec<String>),
+    /// List what logs and book files tell.
+    Show(Vec<String>),
 }
 
 /// Why the program's words ask for nothing.

@@ -1,5 +1,6 @@
-//! What a merge writes depends on the set of receptions alone. Its function does nothing: what it
-//! ensures is the law.
+//! What a merge writes depends on the set of receptions alone, and so does what a listing tells of
+//! positions. The functions do nothing: what they ensure are the laws.
+ghost use Rattle.aprs_tool.specs.Show.{ListingsTellPositions};
 ghost use Rattle.aprs_tool.specs.StandsFor.{AreBooksOfUnions, HaveOneMerge};
 
 /// Inputs that stand for sets with the same members have one book, and `merge_run` writes the same
@@ -8,4 +9,10 @@ ghost use Rattle.aprs_tool.specs.StandsFor.{AreBooksOfUnions, HaveOneMerge};
 pub fn same_receptions_same_bytes()
     ensures book { AreBooksOfUnions }
     ensures one { HaveOneMerge }
+{}
+
+/// In the listing of any set of receptions, each station's line is followed by the position that is
+/// its greatest reception of a position report in the set, where it has one.
+pub fn listings_tell_positions()
+    ensures positions { ListingsTellPositions }
 {}

@@ -46,7 +46,7 @@ pub fn merge_run<R: Read, W: Write>(
 }
 
 /// The book of all inputs' receptions, or the first input that is refused, with its fault.
-fn read_all<R: Read>(
+pub(crate) fn read_all<R: Read>(
     alloc: Global,
     limit: u64,
     inputs: &mut [Counted<R>],

@@ -15,8 +15,8 @@ pub const ROOM: usize = 1200;
 pub type Text = ArrayVec<u8, ROOM>;
 
 /// Puts the bytes at the end.
-pub fn push_all(out: &mut Text, bytes: &[u8])
-    requires { array_vec_len out.old + length bytes.now ≤ 1200 }
+pub fn push_all<const N: usize>(out: &mut ArrayVec<u8, N>, bytes: &[u8])
+    requires { array_vec_len out.old + length bytes.now ≤ N }
     ensures bytes { out.new.items ≡ out.old.items ++ bytes.now }
     ensures len { array_vec_len out.new ≡ array_vec_len out.old + length bytes.now }
 {
@@ -33,8 +33,8 @@ fn is_shown(b: u8) -> bool
 }
 
 /// Puts at the end what the byte is shown as.
-fn push_shown_byte(out: &mut Text, b: u8)
-    requires { array_vec_len out.old + 4 ≤ 1200 }
+pub fn push_shown_byte<const N: usize>(out: &mut ArrayVec<u8, N>, b: u8)
+    requires { array_vec_len out.old + 4 ≤ N }
     ensures shown { out.new.items ≡ out.old.items ++ shown_byte b }
     ensures most { array_vec_len out.new ≤ array_vec_len out.old + 4 }
 {
@@ -48,7 +48,7 @@ fn push_shown_byte(out: &mut Text, b: u8)
 }
 
 /// Whether each byte is shown as itself.
-fn are_shown(bytes: &[u8]) -> bool
+pub fn are_shown(bytes: &[u8]) -> bool
     ensures { result ≡ list_all is_shown bytes.now }
 {
     // No early end, so that many bytes are looked at in one step.
@@ -60,8 +60,8 @@ fn are_shown(bytes: &[u8]) -> bool
 }
 
 /// Puts the byte's two lower case hexadecimal digits at the end.
-fn push_hex(out: &mut Text, b: u8)
-    requires { array_vec_len out.old + 2 ≤ 1200 }
+fn push_hex<const N: usize>(out: &mut ArrayVec<u8, N>, b: u8)
+    requires { array_vec_len out.old + 2 ≤ N }
     ensures digits { out.new.items ≡ out.old.items ++ encode_lower (b ∷ []) }
     ensures len { array_vec_len out.new ≡ array_vec_len out.old + 2 }
 {

@@ -6,8 +6,8 @@ ghost use Rattle.clap.specs.declared.error.kind.ErrorKind.TheVariants.{OutOfMemo
 ghost use Rattle.clap.specs.declared.builder.command.Command.TheViews.{out-Command};
 ghost use Rattle.clap.specs.declared.builder.value_parser.ValueParser.{ValueParser};
 ghost use Rattle.aprs_tool.specs.Words.{IsForms, AnswersWords, JudgesWords, asked_by, form_rule, option_rule};
-ghost use Rattle.aprs_tool.specs.Words.{check_app, convert_app, merge_app, program_app, receiver_of};
-ghost use Rattle.aprs_tool.specs.Words.{inputs_rule};
+ghost use Rattle.aprs_tool.specs.Words.{check_app, convert_app, merge_app, program_app, receiver_of, show_app};
+ghost use Rattle.aprs_tool.specs.Words.{inputs_named, inputs_of, inputs_rule, paths_of};
 ghost use Rattle.aprs_tool.specs.Words.{plain_form_of, capture_form_of, named_form_of, form_of};
 ghost use Rattle.aprs_tool.specs.Words.{task_named, task_of};
 ghost use Rattle.aprs_log.specs.Moment.{moment_of};
@@ -26,11 +26,13 @@ enum Task {
     Check,
     Convert(Form),
     Merge,
+    Show,
 }
 
 /// What the program's words ask for, its name being the first: a command of `check [INPUT]`,
-/// `convert FORM [INPUT]` and `merge [INPUT]...`, and `convert text` where no command is given.
-/// `convert capture` needs `--receiver NAME` and `--moment MOMENT`, and the other forms refuse both.
+/// `convert FORM [INPUT]`, `merge [INPUT]...` and `show [INPUT]...`, and `convert text` where no
+/// command is given. `convert capture` needs `--receiver NAME` and `--moment MOMENT`, and the other
+/// forms refuse both. The inputs' paths are given in the order of the words.
 pub fn job(alloc: Global, words: &[&str]) -> Result<Job, JobFault>
     ensures asked { (p : ValueParser) × IsForms p
         × AnswersWords (program_app p) (map (λ w. w.now) words.now) result }
@@ -114,15 +116,25 @@ fn merge_command<'a>(alloc: Global) -> Result<Command<'a>, AllocError>
     Command::new(alloc, "merge").arg(inputs)
 }
 
+fn show_command<'a>(alloc: Global) -> Result<Command<'a>, AllocError>
+    ensures app { IfOk result (λ c. app_of c ≡ show_app) }
+    ensures globals { IfOk result (λ c. (out-Command c).has_globals ≡ false) }
+{
+    let inputs = inputs_arg(alloc);
+    Command::new(alloc, "show").arg(inputs)
+}
+
 fn program<'a>(alloc: Global) -> Result<Command<'a>, AllocError>
     ensures { IfOk result (λ c. (p : ValueParser) × IsForms p × (app_of c ≡ program_app p)) }
 {
     let convert = convert_command(alloc)?;
     let check = check_command(alloc)?;
     let merge = merge_command(alloc)?;
+    let show = show_command(alloc)?;
     let with_convert = Command::new(alloc, "aprsbook").subcommand(convert)?;
     let with_check = with_convert.subcommand(check)?;
-    with_check.subcommand(merge)
+    let with_merge = with_check.subcommand(merge)?;
+    with_merge.subcommand(show)
 }
 
 fn clap_fault(error: clap::Error) -> JobFault
@@ -158,6 +170,8 @@ fn read_named(name: &str, matches: &ArgMatches<'_>) -> Option<Task>
         Some(Task::Convert(read_form(matches)?))
     } else if name == "merge" {
         Some(Task::Merge)
+    } else if name == "show" {
+        Some(Task::Show)
     } else {
         Some(Task::Check)
     }
@@ -225,24 +239,37 @@ fn read_moment(text: &str) -> Option<Moment>
 }
 
 /// The paths of the inputs, in order.
-fn read_inputs(alloc: Global, matches: &ArgMatches<'_>) -> Result<Vec<String>, AllocError> {
+fn read_inputs(alloc: Global, matches: &ArgMatches<'_>) -> Result<Vec<String>, AllocError>
+    ensures { IfOk result (λ v. paths_of v.items ≡ inputs_named (subcommand_rows_of matches.now)) }
+{
+    let Some((_, inner)) = matches.subcommand() else {
+        return Ok(Vec::new(alloc));
+    };
+    match inner.get_strs("input") {
+        Some(paths) => copied(alloc, paths),
+        None => Ok(Vec::new(alloc)),
+    }
+}
+
+/// The texts as they are, in memory of their own.
+fn copied(alloc: Global, paths: &[&str]) -> Result<Vec<String>, AllocError>
+    ensures { IfOk result (λ v. paths_of v.items ≡ map (λ path. path.now) paths.now) }
+{
     let mut inputs = Vec::new(alloc);
-    if let Some((_, inner)) = matches.subcommand() {
-        if let Some(paths) = inner.get_strs("input") {
-            for path in paths {
-                inputs.push(String::from_str(alloc, path)?)?;
-            }
-        }
+    for path in paths {
+        inputs.push(String::from_str(alloc, path)?)?;
     }
     Ok(inputs)
 }
 
 fn with_inputs(task: Task, inputs: Vec<String>) -> Job
-    ensures { asked_by result ≡ task }
+    ensures task { asked_by result ≡ task }
+    ensures inputs { inputs_of result ≡ paths_of inputs.items }
 {
     match task {
         Task::Check => Job::Check(inputs),
         Task::Convert(form) => Job::Convert(form, inputs),
         Task::Merge => Job::Merge(inputs),
+        Task::Show => Job::Show(inputs),
     }
 }

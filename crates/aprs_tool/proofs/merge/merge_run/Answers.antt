@@ -1,3 +1,7 @@
+use Rattle.std.proofs.Common.{refl}
+use Rattle.aprs_booktext.specs.Text.{book_text}
+use Rattle.aprs_tool.specs.Merge.{IsBookTextOf}
+use Rattle.aprs_tool.proofs.Merges.{written}
 use Rattle.std.proofs.lemmas.Result.{err_from_is_err_and}
 use Rattle.aprs_tool.proofs.merge.merge_run.Goals as goal
 
@@ -5,3 +9,12 @@ pub returns-in_err-write_book-clause-answered : goal.returns-in_err-write_book-c
 returns-in_err-write_book-clause-answered g c =
     let p = err_from_is_err_and c.from_residual.result c.from_residual.ensures.1 in
     rw (p.1, p.2) (λ k before after was is. (λ e. absurd e, λ h. (c.in-Ok.ensures.answered k before after was is).1 (λ e. absurd e)))
+
+pub returns-clause-run : goal.returns-clause-run
+returns-clause-run g c = λ inputs e.
+    let read = c.in-Ok.ensures.reads inputs e in
+    record {
+      gots = read.gots;
+      gets = read.gets;
+      holds = written IsBookTextOf read.gots _ _ _ read.holds (λ S book. (_, book, refl)) c.in-Err-write_book.ensures.prefix;
+    }

@@ -1,0 +1,48 @@
+//! Objects and messages of a larger book, as values.
+
+use crate::last_known::sent;
+use aprs_book::{Book, MessageState};
+use std::test::Fail;
+
+// With ample memory no list is refused. Each of 50 messages has an id of its own, and each of 50
+// items a name of its own.
+#[test]
+fn many_rows_are_listed(rt: HostRuntime) -> Result<(), Fail> {
+    let alloc = rt.alloc();
+    let mut book = Book::new(alloc);
+    for i in 0..50u64 {
+        let tens = b'0' + (i / 10) as u8;
+        let ones = b'0' + (i % 10) as u8;
+        let message = [
+            b':', b'W', b'U', b'2', b'Z', b' ', b' ', b' ', b' ', b' ', b':', b'H', b'i', b'{', tens,
+            ones,
+        ];
+        let item = [
+            b')', b'N', b'R', tens, ones, b'!', b'4', b'9', b'0', b'3', b'.', b'5', b'0', b'N', b'/',
+            b'0', b'7', b'2', b'0', b'1', b'.', b'7', b'5', b'W', b'>',
+        ];
+        // Later ones first.
+        let second = (50 - i) * 60;
+        for x in [
+            sent(second, b"N0CALL-7", message.as_slice())?,
+            sent(second, b"N0CALL-8", item.as_slice())?,
+        ] {
+            book.take(&x).ok().ok_or("memory")?;
+        }
+    }
+    assert_eq!(rt; book.len(), 100);
+    let messages = book.messages().ok().ok_or("memory")?;
+    let named = book.objects().ok().ok_or("memory")?;
+    assert_eq!(rt; messages.len(), 50);
+    assert_eq!(rt; named.len(), 50);
+    for i in 0..50usize {
+        let digits = [b'0' + (i / 10) as u8, b'0' + (i % 10) as u8];
+        let message = &messages[i];
+        assert!(rt; message.id == Some(digits.as_slice()));
+        assert!(rt; message.text == b"Hi".as_slice() && message.addressee == b"WU2Z".as_slice());
+        assert!(rt; message.state == MessageState::Unanswered);
+        assert!(rt; message.first == message.last);
+        assert!(rt; named[i].is_item && &named[i].name[2..] == digits.as_slice());
+    }
+    Ok(())
+}

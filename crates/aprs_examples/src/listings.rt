@@ -1,0 +1,260 @@
+//! Listings, word for word.
+
+use crate::last_known::frame_of;
+use crate::vectors::receiver;
+use aprs_kiss::Counted;
+use aprs_log::{MAX_INPUT, Moment, Reception, write_line};
+use aprs_tool::show_run;
+use std::alloc::Global;
+use std::test::Fail;
+
+/// What RX1 heard: when, from whom, and what.
+type Sent = (&'static str, &'static str, &'static [u8]);
+
+/// The log of these.
+fn log_of(alloc: Global, all: &[Sent]) -> Result<Vec<u8>, Fail> {
+    let mut w = Counted::new(Vec::new(alloc));
+    for (moment, source, info) in all {
+        let x = Reception::new(
+            Moment::parse(moment.as_bytes()).ok_or("moment")?,
+            receiver(b"RX1")?,
+            frame_of(source.as_bytes(), info)?,
+        );
+        if write_line(&mut w, &x).is_err() {
+            return Err("a fault".into());
+        }
+    }
+    Ok(w.into_inner())
+}
+
+/// What is listed of an input, if it goes well.
+pub fn listing(alloc: Global, input: &[u8]) -> Result<Vec<u8>, Fail> {
+    let mut inputs = [Counted::new(input)];
+    let mut w = Counted::new(Vec::new(alloc));
+    match show_run(alloc, MAX_INPUT, inputs.as_mut_slice(), &mut w) {
+        Ok(()) => Ok(w.into_inner()),
+        Err(_) => Err("a fault".into()),
+    }
+}
+
+/// Whether each log has the listing beside it.
+fn are_listed(alloc: Global, cases: &[(&[Sent], &str)]) -> Result<bool, Fail> {
+    for (all, text) in cases {
+        let log = log_of(alloc, all)?;
+        if listing(alloc, log.as_slice())?.as_slice() != text.as_bytes() {
+            return Ok(false);
+        }
+    }
+    Ok(true)
+}
+
+const FROM: &str = "N0CALL-7";
+
+const NOON: &str = "2024-05-01T12:00:00Z";
+
+const HELLO: Sent = (NOON, FROM, b">Hi");
+
+const LATE: Sent = ("2024-05-01T12:10:00Z", FROM, b"!4903.50N/07201.75W-");
+
+const EARLY: Sent = (NOON, FROM, b"!4904.00N/07201.75W-");
+
+const GREATEST: &str = "station N0CALL-7 2
+position 2024-05-01T12:10:00Z RX1 - 294350/6000 -432175/6000 0 /-:
+";
+
+// The greatest position is listed, whichever was taken last.
+#[test]
+fn stations_are_listed(rt: HostRuntime) -> Result<(), Fail> {
+    let cases: [(&[Sent], &str); 4] = [
+        (&[], ""),
+        (
+            &[HELLO],
+            "station N0CALL-7 1\nstatus 2024-05-01T12:00:00Z RX1 -:Hi\n",
+        ),
+        (&[LATE, EARLY], GREATEST),
+        (&[EARLY, LATE], GREATEST),
+    ];
+    assert!(rt; are_listed(rt.alloc(), cases.as_slice())?);
+    Ok(())
+}
+
+// An object is that of whoever reported it last, and an item of its name is something else.
+#[test]
+fn objects_and_items_are_listed(rt: HostRuntime) -> Result<(), Fail> {
+    let cases: [(&[Sent], &str); 1] = [(
+        &[
+            (NOON, FROM, b";LEADER   *092345z4903.50N/07201.75W>"),
+            (
+                "2024-05-01T12:01:00Z",
+                "N0CALL-8",
+                b";LEADER   _092345z4903.50N/07201.75W>",
+            ),
+            ("2024-05-01T12:02:00Z", FROM, b")LEADER!4903.50N/07201.75W>"),
+        ],
+        "station N0CALL-7 2
+station N0CALL-8 1
+object LEADER killed 2024-05-01T12:01:00Z RX1 N0CALL-8 092345z 294350/6000 -432175/6000 0 />:
+item LEADER live 2024-05-01T12:02:00Z RX1 N0CALL-7 - 294350/6000 -432175/6000 0 />:
+",
+    )];
+    assert!(rt; are_listed(rt.alloc(), cases.as_slice())?);
+    Ok(())
+}
+
+const TESTING: Sent = (NOON, FROM, b":WU2Z     :Testing{003");
+
+const BEFORE: Sent = ("2024-05-01T11:59:00Z", "WU2Z", b":N0CALL-7 :ack003");
+
+const AFTER: Sent = ("2024-05-01T12:00:10Z", "WU2Z", b":N0CALL-7 :ack003");
+
+const REJECTED: Sent = ("2024-05-01T12:01:00Z", "WU2Z", b":N0CALL-7 :rej003");
+
+const AGAIN: Sent = ("2024-05-01T12:00:40Z", FROM, b":WU2Z     :Testing{003\r");
+
+const OWN: Sent = ("2024-05-01T12:00:10Z", FROM, b":N0CALL-7 :ack003");
+
+// An answer counts from the message's first moment on, and only from whom it was sent to.
+#[test]
+fn messages_are_listed(rt: HostRuntime) -> Result<(), Fail> {
+    let cases: [(&[Sent], &str); 5] = [
+        (
+            &[TESTING, BEFORE],
+            "station N0CALL-7 1
+station WU2Z 1
+message N0CALL-7 WU2Z 003 unanswered 2024-05-01T12:00:00Z 2024-05-01T12:00:00Z:Testing
+",
+        ),
+        (
+            &[TESTING, BEFORE, AFTER],
+            "station N0CALL-7 1
+station WU2Z 2
+message N0CALL-7 WU2Z 003 acknowledged 2024-05-01T12:00:00Z 2024-05-01T12:00:00Z:Testing
+",
+        ),
+        (
+            &[TESTING, BEFORE, AFTER, REJECTED],
+            "station N0CALL-7 1
+station WU2Z 3
+message N0CALL-7 WU2Z 003 rejected 2024-05-01T12:00:00Z 2024-05-01T12:00:00Z:Testing
+",
+        ),
+        (
+            &[TESTING, AGAIN],
+            "station N0CALL-7 2
+message N0CALL-7 WU2Z 003 unanswered 2024-05-01T12:00:00Z 2024-05-01T12:00:40Z:Testing
+",
+        ),
+        (
+            &[TESTING, OWN],
+            "station N0CALL-7 2
+message N0CALL-7 WU2Z 003 unanswered 2024-05-01T12:00:00Z 2024-05-01T12:00:00Z:Testing
+",
+        ),
+    ];
+    assert!(rt; are_listed(rt.alloc(), cases.as_slice())?);
+    Ok(())
+}
+
+// Without an id, what looks like one is text. By text, then none before any id.
+#[test]
+fn messages_without_an_id_are_listed(rt: HostRuntime) -> Result<(), Fail> {
+    let cases: [(&[Sent], &str); 2] = [
+        (
+            &[
+                (NOON, FROM, b":WU2Z     :ack"),
+                (NOON, FROM, b":WU2Z     :Testing{AB}CD"),
+            ],
+            "station N0CALL-7 2
+message N0CALL-7 WU2Z - unnumbered 2024-05-01T12:00:00Z 2024-05-01T12:00:00Z:Testing{AB}CD
+message N0CALL-7 WU2Z - unnumbered 2024-05-01T12:00:00Z 2024-05-01T12:00:00Z:ack
+",
+        ),
+        (
+            &[TESTING, (NOON, FROM, b":WU2Z     :Testing")],
+            "station N0CALL-7 2
+message N0CALL-7 WU2Z - unnumbered 2024-05-01T12:00:00Z 2024-05-01T12:00:00Z:Testing
+message N0CALL-7 WU2Z 003 unanswered 2024-05-01T12:00:00Z 2024-05-01T12:00:00Z:Testing
+",
+        ),
+    ];
+    assert!(rt; are_listed(rt.alloc(), cases.as_slice())?);
+    Ok(())
+}
+
+// A stamp, a compressed place, a place of four digits less, south and east, a symbol whose code is a
+// colon, and one of the alternate table.
+#[test]
+fn places_are_listed(rt: HostRuntime) -> Result<(), Fail> {
+    let cases: [(&[Sent], &str); 5] = [
+        (
+            &[(NOON, FROM, b"@092345/4903.50N/07201.75W>Test1234")],
+            "station N0CALL-7 1
+position 2024-05-01T12:00:00Z RX1 092345/ 294350/6000 -432175/6000 0 />:Test1234
+",
+        ),
+        (
+            &[(NOON, FROM, b"=/5L!!<*e7> sTComment")],
+            "station N0CALL-7 1
+position 2024-05-01T12:00:00Z RX1 - 18855837/380926 -13856184/190463 c />:Comment
+",
+        ),
+        (
+            &[(NOON, FROM, b"!49  .  N/072  .  W-")],
+            "station N0CALL-7 1
+position 2024-05-01T12:00:00Z RX1 - 294000/6000 -432000/6000 4 /-:
+",
+        ),
+        (
+            &[(NOON, FROM, b"!4903.50S/07201.75E:")],
+            "station N0CALL-7 1
+position 2024-05-01T12:00:00Z RX1 - -294350/6000 432175/6000 0 /::
+",
+        ),
+        (
+            &[(NOON, FROM, b"!4903.50N\\07201.75W\\")],
+            "station N0CALL-7 1
+position 2024-05-01T12:00:00Z RX1 - 294350/6000 -432175/6000 0 \\x5c\\x5c:
+",
+        ),
+    ];
+    assert!(rt; are_listed(rt.alloc(), cases.as_slice())?);
+    Ok(())
+}
+
+// Each field that shows bytes, with a backslash, and with a byte over 7e where it may have one; a
+// space in a name, but none in a text.
+#[test]
+fn bytes_are_shown(rt: HostRuntime) -> Result<(), Fail> {
+    let cases: [(&[Sent], &str); 4] = [
+        (
+            &[
+                (NOON, FROM, b"!4903.50N/07201.75W-a \\\xff"),
+                (NOON, FROM, b">092345zNet \\\x7f"),
+            ],
+            "station N0CALL-7 2
+position 2024-05-01T12:00:00Z RX1 - 294350/6000 -432175/6000 0 /-:a \\x5c\\xff
+status 2024-05-01T12:00:00Z RX1 092345z:Net \\x5c\\x7f
+",
+        ),
+        (
+            &[(NOON, FROM, b";MY \\CAR  *092345z4903.50N/07201.75W>\\\x80")],
+            "station N0CALL-7 1
+object MY\\x20\\x5cCAR live 2024-05-01T12:00:00Z RX1 N0CALL-7 092345z 294350/6000 -432175/6000 0 />:\\x5c\\x80
+",
+        ),
+        (
+            &[(NOON, FROM, b")A \\B_4903.50N/07201.75W>\\\x00")],
+            "station N0CALL-7 1
+item A\\x20\\x5cB killed 2024-05-01T12:00:00Z RX1 N0CALL-7 - 294350/6000 -432175/6000 0 />:\\x5c\\x00
+",
+        ),
+        (
+            &[(NOON, FROM, b":A \\B     :It is \\\xfe{1")],
+            "station N0CALL-7 1
+message N0CALL-7 A\\x20\\x5cB 1 unanswered 2024-05-01T12:00:00Z 2024-05-01T12:00:00Z:It is \\x5c\\xfe
+",
+        ),
+    ];
+    assert!(rt; are_listed(rt.alloc(), cases.as_slice())?);
+    Ok(())
+}

@@ -1,0 +1,76 @@
+-- Lemmas on what a listing tells.
+use Rattle.std.proofs.Common.{◌≡◌, ◌≢◌, ℕ, List, [], ◌∷◌, ◌++◌, Option, inl, inr, refl, ap, ap₂, sym, ◌∙◌, append_assoc, subst, codes}
+use Rattle.std.specs.List.{flat_map}
+use Rattle.std.proofs.lemmas.List.Concat.{flat_map-append}
+use Rattle.std.specs.Fmt.{decimal}
+use Rattle.std.specs.declared.cmp.Ordering.TheVariants.{Less}
+use Rattle.aprs_ax25.specs.Callsign.{Call, call_cmp, call_text}
+use Rattle.aprs_laws.proofs.Orders.{call_total, not_both}
+use Rattle.aprs_laws.proofs.Known.{known_once}
+use Rattle.aprs_laws.specs.Best.{LastKnown}
+use Rattle.aprs_laws.specs.BestLaws.{Passes}
+use Rattle.aprs_laws.specs.Lists.{◌∈◌, Ordered}
+use Rattle.aprs_log.specs.Reception.{Heard}
+use Rattle.aprs_book.specs.Reports.{tells_position}
+use Rattle.aprs_book.specs.Stations.{ComesBefore, IsSource}
+use Rattle.aprs_book.specs.declared.station.Station.{Station}
+use Rattle.aprs_tool.specs.Listing.{known_line, line_of, message_line, named_line, station_lines}
+use Rattle.aprs_tool.specs.Show.{IsListingOf, TellsPosition}
+
+below_itself : (c : Call) → call_cmp c c ≡ Less → ⊥
+below_itself c h = not_both call_total c c h h
+
+-- a station of the list, and those before it, which are others
+record Cut (xs : List Station) (call : Call) : Type 0 where
+  before : List Station
+  found : Station
+  after : List Station
+  is : found.call ≡ call
+  member : found ∈ xs
+  others : (x : Station) → x ∈ before → x.call ≢ call
+  whole : xs ≡ before ++ found ∷ after
+
+cut_at : (xs : List Station) (call : Call) (x : Station) → Ordered ComesBefore xs → x ∈ xs → x.call ≡ call → Cut xs call
+cut_at [] call x o m e = absurd m
+cut_at (y ∷ ys) call x o (inl s) e =
+    record { before = []; found = y; after = ys; is = ap (λ (x : Station). x.call) s ∙ e; member = inl refl; others = λ z m. absurd m; whole = refl }
+cut_at (y ∷ ys) call x o (inr m) e =
+    let rest = cut_at ys call x o.1 m e in
+    let first : y.call ≢ call = λ same. below_itself y.call (subst (λ c. call_cmp y.call c ≡ Less) (e ∙ sym same) (o.0 x m)) in
+    record {
+      before = y ∷ rest.before;
+      found = rest.found;
+      after = rest.after;
+      is = rest.is;
+      member = inr rest.member;
+      others = λ z k. elim k [
+        | inl s ↦ subst (λ (t : Station). t.call ≢ call) s first
+        | inr k ↦ rest.others z k
+      ];
+      whole = ap (λ l. y ∷ l) rest.whole;
+    }
+
+parts : (before after : List Station) (x : Station) (line position status rest : List ℕ) → station_lines x ≡ line ++ (position ++ status)
+    → flat_map station_lines (before ++ x ∷ after) ++ rest ≡ flat_map station_lines before ++ (line ++ (position ++ (status ++ (flat_map station_lines after ++ rest))))
+parts before after x line position status rest e =
+    ap (λ l. l ++ rest) (flat_map-append station_lines before (x ∷ after) ∙ ap (λ l. flat_map station_lines before ++ (l ++ flat_map station_lines after)) e)
+    ∙ simp append_assoc
+
+pub tells_position_of : (S : List Heard) (text : List ℕ) (call : Call) (known : Option Heard) → IsListingOf S text → IsSource S call → LastKnown S (Passes (tells_position call)) known
+    → TellsPosition text call known
+tells_position_of S text call known l source best =
+    let found = (l.are_stations.sources call).1 source in
+    let cut = cut_at l.stations call found.0 l.are_stations.ascending found.1 found.2 in
+    let x = cut.found in
+    let rest = flat_map named_line l.named ++ flat_map message_line l.messages in
+    let its = (l.are_stations.each x cut.member).position in
+    let same : x.position ≡ known = known_once S S (Passes (tells_position call)) x.position known (λ s. (λ h. h, λ h. h)) (subst (λ c. LastKnown S (Passes (tells_position c)) x.position) cut.is its) best in
+    record {
+      before = cut.before;
+      transmissions = x.transmissions;
+      after = known_line x.status ++ (flat_map station_lines cut.after ++ rest);
+      others = cut.others;
+      text_is = l.text_is ∙ ap (λ l. flat_map station_lines l ++ rest) cut.whole
+          ∙ parts cut.before cut.after x (line_of (codes "station") (call_text call ∷ decimal x.transmissions ∷ [])) (known_line known) (known_line x.status) rest
+          (ap₂ (λ (c : Call) (p : Option Heard). line_of (codes "station") (call_text c ∷ decimal x.transmissions ∷ []) ++ (known_line p ++ known_line x.status)) cut.is same);
+    }

@@ -1,0 +1,50 @@
+use Rattle.std.proofs.Common.{List, refl}
+use Rattle.aprs_book.specs.Messages.{TellsMessages}
+use Rattle.aprs_book.specs.Names.{TellsNamed}
+use Rattle.aprs_book.specs.Stations.{TellsStations}
+use Rattle.aprs_book.specs.declared.message.MessageRow.{MessageRow}
+use Rattle.aprs_book.specs.declared.named.Named.{Named}
+use Rattle.aprs_book.specs.declared.station.Station.{Station}
+use Rattle.aprs_laws.specs.Book.{BookOf}
+use Rattle.aprs_laws.specs.Gap.{gap_seconds}
+use Rattle.aprs_laws.specs.Row.{Row}
+use Rattle.aprs_log.specs.Reception.{Heard}
+use Rattle.aprs_tool.specs.Listing.{show_text}
+use Rattle.aprs_tool.specs.Show.{IsListingOf}
+use Rattle.aprs_tool.proofs.Merges.{written}
+use Rattle.aprs_tool.proofs.show.show_run.Goals as goal
+
+-- the listing of whatever set the rows are the book of
+listed : (rows : List Row) (stations : List Station) (named : List Named) (messages : List MessageRow) → TellsStations rows stations → TellsNamed rows named → TellsMessages rows messages
+    → (S : List Heard) → BookOf gap_seconds S rows → IsListingOf S (show_text stations named messages)
+listed rows stations named messages s n m S book = record {
+  rows = rows;
+  stations = stations;
+  named = named;
+  messages = messages;
+  book = book;
+  are_stations = s S book;
+  are_named = n S book;
+  are_messages = m S book;
+  text_is = refl;
+}
+
+pub returns-in-Ok-write-clause-run : goal.returns-in-Ok-write-clause-run
+returns-in-Ok-write-clause-run g c = λ inputs e.
+    let read = c.in-Ok.ensures.reads inputs e in
+    let views = c.in-Ok-of.ensures in
+    record {
+      gots = read.gots;
+      gets = read.gets;
+      holds = written IsListingOf read.gots _ _ _ read.holds (listed _ _ _ _ views.stations views.named views.messages) c.in-Ok-write.ensures.sent;
+    }
+
+pub returns-clause-run : goal.returns-clause-run
+returns-clause-run g c = λ inputs e.
+    let read = c.in-Ok.ensures.reads inputs e in
+    let views = c.in-Ok-of.ensures in
+    record {
+      gots = read.gots;
+      gets = read.gets;
+      holds = written IsListingOf read.gots _ _ _ read.holds (listed _ _ _ _ views.stations views.named views.messages) c.in-Err-write.ensures.prefix;
+    }

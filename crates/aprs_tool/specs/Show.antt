@@ -1,0 +1,71 @@
+-- What the listing of several inputs writes and answers.
+use Rattle.std.specs.Prelude.{◌≡◌, ◌≢◌, ℕ, List, [], ◌∷◌, ◌++◌, Option, Result, Ok, Err, codes}
+use Rattle.std.specs.List.{flat_map}
+use Rattle.std.specs.Fmt.{decimal}
+use Rattle.std.specs.Io.KnownBytes.{Appends}
+use Rattle.aprs_kiss.specs.Device.{AppendsFront}
+use Rattle.aprs_ax25.specs.Callsign.{Call, call_text}
+use Rattle.aprs_log.specs.Reception.{Heard}
+use Rattle.aprs_laws.specs.Best.{LastKnown}
+use Rattle.aprs_laws.specs.BestLaws.{Passes}
+use Rattle.aprs_laws.specs.Book.{BookOf}
+use Rattle.aprs_laws.specs.Gap.{gap_seconds}
+use Rattle.aprs_laws.specs.Lists.{◌∈◌}
+use Rattle.aprs_laws.specs.Row.{Row}
+use Rattle.aprs_book.specs.Messages.{AreMessages}
+use Rattle.aprs_book.specs.Names.{AreNamed}
+use Rattle.aprs_book.specs.Reports.{tells_position}
+use Rattle.aprs_book.specs.Stations.{AreStations, IsSource}
+use Rattle.aprs_book.specs.declared.message.MessageRow.{MessageRow}
+use Rattle.aprs_book.specs.declared.named.Named.{Named}
+use Rattle.aprs_book.specs.declared.station.Station.{Station}
+use Rattle.aprs_tool.specs.Listing.{known_line, line_of, show_text, station_lines}
+use Rattle.aprs_tool.specs.Merge.{AreFaultless, Got, IsFirstRefused, WritesOfAll}
+use Rattle.aprs_tool.specs.declared.fault.RunFault.{RunFault}
+use Rattle.aprs_tool.specs.declared.fault.RunFault.TheVariants.{Input, Write, Memory}
+
+-- ---- the listing of a set
+
+-- the text is that of the stations, the objects and items, and the messages of S
+pub record IsListingOf (S : List Heard) (text : List ℕ) : Type 0 where
+  pub rows : List Row
+  pub stations : List Station
+  pub named : List Named
+  pub messages : List MessageRow
+  pub book : BookOf gap_seconds S rows
+  pub are_stations : AreStations S rows stations
+  pub are_named : AreNamed S named
+  pub are_messages : AreMessages S messages
+  pub text_is : text ≡ show_text stations named messages
+
+-- ---- how it is written
+
+-- A refused output comes after a prefix of the listing of the receptions of all. Where an input is
+-- refused, or memory for the listing, nothing is written.
+abbrev pub ShowsEach : Result (Unit {0}) RunFault → Option (List ℕ) → Option (List ℕ) → List Got
+    → Type 0
+ShowsEach (Ok u) old new gots = WritesOfAll IsListingOf gots (λ text. Appends old new text)
+ShowsEach (Err Write) old new gots =
+    WritesOfAll IsListingOf gots (λ text. AppendsFront old new text)
+ShowsEach (Err (Input index e)) old new gots = IsFirstRefused index e gots × (new ≡ old)
+ShowsEach (Err Memory) old new gots = AreFaultless gots × (new ≡ old)
+
+-- ---- what it tells
+
+-- The text has a line of this station, and right after it the position line of `known`, if that is a
+-- reception. Only lines of other stations stand before.
+pub record TellsPosition (text : List ℕ) (call : Call) (known : Option Heard) : Type 0 where
+  pub before : List Station
+  pub transmissions : ℕ
+  pub after : List ℕ
+  pub others : (x : Station) → x ∈ before → x.call ≢ call
+  pub text_is : text ≡ flat_map station_lines before
+      ++ (line_of (codes "station") (call_text call ∷ decimal transmissions ∷ [])
+      ++ (known_line known ++ after))
+
+-- The listing of any set tells, of each source in the set, the position that is the set's greatest
+-- reception of a position report from it.
+abbrev pub ListingsTellPositions : Type 0
+ListingsTellPositions = (S : List Heard) (text : List ℕ) (call : Call) (known : Option Heard)
+    → IsListingOf S text → IsSource S call → LastKnown S (Passes (tells_position call)) known
+    → TellsPosition text call known

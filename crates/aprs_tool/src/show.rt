@@ -1,0 +1,51 @@
+//! The listing of several inputs.
+ghost use Rattle.std.specs.Prelude.{◌≡◌, ◌≤◌, map, IfErr, IsErrAnd};
+ghost use Rattle.aprs_kiss.specs.Device.{device_of, failures_of, Rose};
+ghost use Rattle.aprs_tool.specs.Merge.{IsReadOf, OfEach, ReadsNoFurther, RoseWhereEach};
+ghost use Rattle.aprs_tool.specs.Merge.{RoseWhereRead, WritesNothing};
+ghost use Rattle.aprs_tool.specs.Show.{ShowsEach};
+
+use crate::fault::RunFault;
+use crate::listing::Views;
+use crate::merge::read_all;
+use aprs_kiss::Counted;
+use std::alloc::Global;
+use std::io::{Read, Write};
+
+/// Writes the listing of all inputs' receptions: the stations, objects, items and messages that were
+/// heard, and what is last known of them. Each input is read as by `read_input`. Requires that
+/// `limit` is at most 1,073,741,824 (`MAX_INPUT`). All inputs are read, in order, and the lists are made, before the
+/// first byte is written: where an input is refused, its number and fault are reported, no further
+/// one is read, and nothing is written; nor is anything at `Memory`, which is that of the lists. At
+/// `Write` a prefix of the listing was written.
+pub fn show_run<R: Read, W: Write>(
+    alloc: Global,
+    limit: u64,
+    inputs: &mut [Counted<R>],
+    w: &mut Counted<W>,
+) -> Result<(), RunFault>
+    requires { limit ≤ 1073741824 }
+    ensures run { OfEach limit (map (λ r. R.remaining (device_of r)) inputs.old)
+        (map (λ r. R.remaining (device_of r)) inputs.new)
+        (ShowsEach result (W.contents (device_of w.old)) (W.contents (device_of w.new))) }
+    ensures nothing { IfErr result (λ e. WritesNothing e (W.contents (device_of w.old))
+        (W.contents (device_of w.new))) }
+    ensures unread { IfErr result (λ e. ReadsNoFurther e inputs.old inputs.new) }
+    ensures read { IfErr result (λ e. RoseWhereRead e inputs.old inputs.new) }
+    // A failed read is told of an input where a call of its reader answered one, and nowhere else.
+    ensures answered { RoseWhereEach (λ k. IsErrAnd result (IsReadOf k)) inputs.old inputs.new }
+    ensures write { IfErr result (λ e. e ≡ RunFault.Write
+        → Rose (failures_of w.old) (failures_of w.new)) }
+{
+    let book = match read_all(alloc, limit, inputs) {
+        Ok(book) => book,
+        Err((index, fault)) => return Err(RunFault::Input { index, fault }),
+    };
+    let Ok(views) = Views::of(&book) else {
+        return Err(RunFault::Memory);
+    };
+    match views.write(w) {
+        Ok(()) => Ok(()),
+        Err(_) => Err(RunFault::Write),
+    }
+}
