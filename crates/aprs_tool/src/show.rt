@@ -14,10 +14,10 @@ use std::io::{Read, Write};
 
 /// Writes the listing of all inputs' receptions: the stations, objects, items and messages that were
 /// heard, and what is last known of them. Each input is read as by `read_input`. Requires that
-/// `limit` is at most 1,073,741,824 (`MAX_INPUT`). All inputs are read, in order, and the lists are made, before the
-/// first byte is written: where an input is refused, its number and fault are reported, no further
-/// one is read, and nothing is written; nor is anything at `Memory`, which is that of the lists. At
-/// `Write` a prefix of the listing was written.
+/// `limit` is at most 1,073,741,824 (`MAX_INPUT`). All inputs are read, in order, and the lists are
+/// made, before the first byte is written: where an input is refused, its number and fault are
+/// reported, no further one is read, and nothing is written; nor is anything at `Memory`, which is
+/// that of the lists. At `Write` a prefix of the listing was written.
 pub fn show_run<R: Read, W: Write>(
     alloc: Global,
     limit: u64,
