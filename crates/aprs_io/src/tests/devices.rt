@@ -74,6 +74,20 @@ impl Write for Tight<'_> {
     }
 }
 
+/// A writer that takes nothing and fails each time.
+#[derive(Drop)]
+struct Shut;
+
+impl Write for Shut {
+    fn write(&mut self, _buf: &[u8]) -> io::Result<usize> {
+        Err(io::Error::from(ErrorKind::Other))
+    }
+
+    fn flush(&mut self) -> io::Result<()> {
+        Ok(())
+    }
+}
+
 #[test]
 fn a_read_fails_in_mid_stream(rt: HostRuntime) {
     let mut reader = Counted::new(Rough {
@@ -113,6 +127,14 @@ fn a_write_fails_in_mid_stream(rt: HostRuntime) -> Result<(), Fail> {
 }
 
 #[test]
+fn a_refused_write_is_not_tried_again(rt: HostRuntime) {
+    let mut writer = Counted::new(Shut);
+    assert_eq!(rt; send(&mut writer, b"ab"), Err(WriteFault));
+    assert_eq!(rt; writer.failures(), 1);
+    assert_eq!(rt; writer.answered(), 1);
+}
+
+#[test]
 fn interrupted_reads_are_tried_again(rt: HostRuntime) {
     for (interrupts, first) in [(0, Ok(1)), (999, Ok(1)), (1000, Err(DeviceFault))] {
         let mut reader = Counted::new(Rough {
@@ -125,12 +147,17 @@ fn interrupted_reads_are_tried_again(rt: HostRuntime) {
         let mut buf = [0u8; 4];
         assert_eq!(rt; reader.read(&mut buf), first, "after {interrupts}");
         assert_eq!(rt; reader.failures(), u64::from(interrupts));
+        assert_eq!(rt; reader.answered(), u64::from(first.is_err()));
     }
 }
 
 #[test]
 fn interrupted_writes_are_tried_again(rt: HostRuntime) {
-    for (interrupts, sent, used) in [(0, Ok(()), 2), (999, Ok(()), 2), (1000, Err(WriteFault), 0)] {
+    for (interrupts, sent, used, failures) in [
+        (0, Ok(()), 2, 0),
+        (999, Ok(()), 2, 1998),
+        (1000, Err(WriteFault), 0, 1000),
+    ] {
         let mut room = [0u8; 4];
         let mut writer = Counted::new(Tight {
             room: &mut room,
@@ -140,6 +167,7 @@ fn interrupted_writes_are_tried_again(rt: HostRuntime) {
             pauses: 0,
         });
         assert_eq!(rt; send(&mut writer, b"ab"), sent, "after {interrupts}");
+        assert_eq!(rt; writer.failures(), failures, "after {interrupts}");
         assert_eq!(rt; writer.into_inner().used, used, "after {interrupts}");
     }
 }
