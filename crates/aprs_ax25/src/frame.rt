@@ -1,6 +1,7 @@
 //! UI frames.
 ghost use Rattle.std.specs.Prelude.{◌≡◌, if◌then◌else◌, ◌<◌, ◌≤◌, [], ◌∷◌, ◌++◌, length, map, None};
-ghost use Rattle.std.specs.Prelude.{◌+◌, MatchOption, IsOk, IfOk, IfErr, OnOk, OnErr, Ok, Err, slice_get};
+ghost use Rattle.std.specs.Prelude.{IsOk, IfOk, IfErr, OnOk, OnErr, Ok, Err, slice_get};
+ghost use Rattle.std.specs.Prelude.{◌+◌, MatchOption};
 ghost use Rattle.std.specs.List.{AllByRecursion};
 ghost use Rattle.std.specs.Result.{result_err};
 ghost use Rattle.arrayvec.specs.ArrayVec.{array_vec_len};
@@ -164,8 +165,8 @@ impl Frame {
         Callsign::at(seven_at(&self.bytes, 0))
     }
 
-    /// Puts the source's text at the end, as `source` and `Callsign::text` give it: at most 9 bytes.
-    /// Takes no memory.
+    /// Puts the source's text at the end, as `source` and `Callsign::text` give it: at most 9
+    /// bytes. Takes no memory.
     pub fn push_source_text<const N: usize>(&self, out: &mut ArrayVec<u8, N>)
         requires room { array_vec_len out.old + 9 ≤ N }
         ensures text { out.new.items ≡ out.old.items ++ call_text (parts_of self.now).source.call }
