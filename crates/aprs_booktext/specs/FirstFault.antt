@@ -101,7 +101,7 @@ pub record FirstFault (text : List ℕ) (e : Ending) (f : BookFault) : Type 0 wh
 
 -- ---- where memory was refused
 
--- these lines may stand in a book's text before a line that isn't behind its last
+-- a book's text may begin with these lines, none of which is its last
 abbrev pub BeginsBook : List (List ℕ) → Type 0
 BeginsBook front = (front ≡ [])
     ⊎ ((rows : List Row) × IsBookRows rows × (front ≡ header ∷ map row_line rows))

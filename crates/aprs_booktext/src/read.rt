@@ -18,9 +18,10 @@ const ROOM: usize = 16_384;
 
 /// Reads a book from its text, which begins with `head` and goes on with the bytes of `source`, to
 /// the end. It takes at most `limit` bytes, the head among them. Requires that `limit` is at most
-/// 1,073,741,824 (`MAX_INPUT`), that the head has at most 8 bytes, and that it has at most `limit`. A
-/// fault is the first of the text and has the number of its line; `Memory` comes before it where
-/// memory was refused, with the number of the line that was being read. Holds the book and one line.
+/// 1,073,741,824 (`MAX_INPUT`), that the head has at most 8 bytes, and that it has at most `limit`.
+/// A fault is the first of the text and has the number of its line; `Memory` comes before it where
+/// memory was refused, with the number of the line that was being read. Holds the book and one
+/// line.
 pub fn read_book<R: Read, A: Allocator + Copy>(
     alloc: A,
     limit: u64,

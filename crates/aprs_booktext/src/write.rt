@@ -28,9 +28,9 @@ const FURTHER: usize = 17;
 
 const TAIL: usize = 675;
 
-/// Writes a book as its text: a header, a line for each row, and a last line with their number. What
-/// it wrote whole is a text that `read_book` reads. At a fault a prefix of the text went out, and the
-/// count of the device's failures rose. Takes no memory.
+/// Writes a book as its text: a header, a line for each row, and a last line with their number.
+/// What it wrote whole is a text that `read_book` reads. At a fault a prefix of the text went out,
+/// and the count of the device's failures rose. Takes no memory.
 pub fn write_book<W: Write, A: Allocator + Copy>(
     w: &mut Counted<W>,
     book: &Book<A>,

@@ -1,22 +1,13 @@
 -- Lemmas on logs of fewer bytes than a line must have.
-use Rattle.std.proofs.Common.{◌≡◌, ◌==◌, ℕ, ◌+◌, ◌<◌, ◌≤◌, Bool, true, false, not, ◌||◌, cond, List, [], ◌∷◌, ◌++◌, length, Option, None, Some, Result, Err, refl, ap, sym, ◌∙◌, append-nil, length-append, arith}
+use Rattle.std.proofs.Common.{◌≡◌, ◌==◌, ℕ, ◌+◌, ◌<◌, ◌≤◌, Bool, true, false, not, ◌||◌, cond, List, [], ◌∷◌, length, Option, Some, ap, ◌∙◌, arith}
 use Rattle.std.specs.List.{list_any, position_or_len}
 use Rattle.std.proofs.lemmas.Bool.Decides.{nat_tests}
-use Rattle.aprs_log.specs.Cut.{Cut, cut_at}
-use Rattle.aprs_log.specs.Line.{line_of}
-use Rattle.aprs_log.specs.LogAnswers.{Answers, ended, ending_cause, fault_at, is_lf, log_answers, tail_cause, then_answers}
-use Rattle.aprs_log.specs.Moment.{civil_at, civil_text}
+use Rattle.aprs_log.specs.LogAnswers.{ended, ending_cause, fault_at, is_lf, log_answers, tail_cause}
 use Rattle.aprs_log.specs.declared.Ending.{Ending}
 use Rattle.aprs_log.specs.declared.Ending.TheVariants as ending
-use Rattle.aprs_log.specs.declared.fault.LineFault.{LineFault}
-use Rattle.aprs_log.specs.declared.fault.LineFault.TheVariants as fault
 use Rattle.aprs_log.specs.declared.fault.LogCause.{LogCause}
 use Rattle.aprs_log.specs.declared.fault.LogCause.TheVariants as cause
-use Rattle.aprs_log.specs.declared.line.Line.{Line}
-use Rattle.aprs_log.proofs.AnswerLemmas.{answers_from-line, answers_from-tail, no_lf}
-use Rattle.aprs_log.proofs.CutLemmas.{cut_at-parts}
-use Rattle.aprs_log.proofs.LineLemmas.{line_of-no_moment, line_of-uncut}
-use Rattle.aprs_log.proofs.MomentLemmas.{moment_of-unread}
+use Rattle.aprs_log.proofs.AnswerLemmas.{answers_from-tail}
 
 -- one without an LF is a tail
 tail_step : (b any : Bool) (n k : ℕ) → (b || any) ≡ false → (any ≡ false → n ≤ k) → n + 1 ≤ cond (not b) (1 + k) 0

@@ -1,4 +1,5 @@
--- The first bytes of an input, as they are read before the others. No public clause cites this module.
+-- The first bytes of an input, as they are read before the others. No public clause cites this
+-- module.
 use Rattle.std.specs.Prelude.{◌≡◌, ◌<◌, ◌⊎◌, ℕ, List, [], ◌∷◌, ◌++◌, length}
 
 -- eight bytes, or fewer of which the last is an LF

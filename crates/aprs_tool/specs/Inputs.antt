@@ -91,7 +91,8 @@ abbrev pub AddsAll : List Heard → List Row → List Row → Type 0
 AddsAll T old new =
     (S : List Heard) → BookOf gap_seconds S old → BookOf gap_seconds (S ++ T) new
 
--- the receptions of a faultless input are taken, unless memory was refused, and any other is refused
+-- the receptions of a faultless input are taken, unless memory was refused, and any other input is
+-- refused
 abbrev pub TakesInput : Result (Unit {0}) InputFault → List Row → List Row → List ℕ → Ending
     → Type 0
 TakesInput (Ok u) old new t c =

@@ -34,7 +34,8 @@ pub fn capture<R: Read, W: Write>(
 ) -> Result<(), RunFault>
     requires { limit ≤ 1073741824 }
     ensures run { RunsOver (stream_text receiver.now moment.now) stream_fault limit
-        (R.remaining (device_of r.old)) (R.remaining (device_of r.new)) result (W.contents (device_of w.old)) (W.contents (device_of w.new)) }
+        (R.remaining (device_of r.old)) (R.remaining (device_of r.new)) result
+        (W.contents (device_of w.old)) (W.contents (device_of w.new)) }
     ensures read { IfErr result (λ e. IsRead e → Rose (failures_of r.old) (failures_of r.new)) }
     ensures answered { RoseWhere (IsErrAnd result IsRead) (answered_of r.old) (answered_of r.new) }
     ensures write { IfErr result (λ e. e ≡ RunFault.Write

@@ -42,11 +42,12 @@ impl Desk {
     }
 
     /// Reads an input, as `read_input` does: the book of a set becomes the book of that set and of
-    /// the input's receptions. `Memory` also comes where it was refused for the merge. After a fault
-    /// the desk is as before.
+    /// the input's receptions. `Memory` also comes where it was refused for the merge. After a
+    /// fault the desk is as before.
     pub fn take_input<R: Read>(&mut self, r: &mut Counted<R>) -> Result<(), InputFault>
         ensures takes { OfGot (limit_of self.old) (R.remaining (device_of r.old))
-            (R.remaining (device_of r.new)) (TakesInput result (rows_of self.old) (rows_of self.new)) }
+            (R.remaining (device_of r.new))
+            (TakesInput result (rows_of self.old) (rows_of self.new)) }
         ensures limit { limit_of self.new ≡ limit_of self.old }
         ensures unchanged { OnErr result (self.new ≡ self.old) }
         ensures count { failures_of r.old ≤ failures_of r.new }

@@ -20,12 +20,12 @@ use std::io::Read;
 const BOOK_MARK: &[u8] = b"APRSBOOK";
 
 /// Reads the book of an input: its own, where its first eight bytes are `APRSBOOK`, and else that
-/// of the receptions of a log, whose other lines are passed over. At most `limit` bytes are read, to
-/// the end. Requires that `limit` is at most 1,073,741,824 (`MAX_INPUT`). A faulty input gives its
-/// first fault. Where memory was refused before it, a log gives `Memory`, and a book file `Book` with
-/// that cause and the line that was being read. An input of which fewer than eight bytes are got is
-/// a log, and one with an LF among its first eight is judged by that line first. Holds the book and
-/// one line.
+/// of the receptions of a log, whose other lines are passed over. At most `limit` bytes are read,
+/// to the end. Requires that `limit` is at most 1,073,741,824 (`MAX_INPUT`). A faulty input gives
+/// its first fault. Where memory was refused before it, a log gives `Memory`, and a book file `Book`
+/// with that cause and the line that was being read. An input of which fewer than eight bytes are
+/// got is a log, and one with an LF among its first eight is judged by that line first. Holds the
+/// book and one line.
 pub fn read_input<R: Read>(
     alloc: Global,
     limit: u64,

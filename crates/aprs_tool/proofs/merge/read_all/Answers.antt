@@ -1,4 +1,4 @@
-use Rattle.std.proofs.Common.{get_or, set, map, length, refl, ◌∙◌, arith, ap, sym}
+use Rattle.std.proofs.Common.{get_or, set, map, refl, ◌∙◌, arith}
 use Rattle.std.proofs.lemmas.List.{length-map, length-set}
 use Rattle.aprs_kiss.specs.Device.{answered_of, device_of}
 use Rattle.aprs_tool.specs.Desk.{rows_of}
