@@ -10,11 +10,13 @@ returns-in_err-write_book-clause-answered g c =
     let p = err_from_is_err_and c.from_residual.result c.from_residual.ensures.1 in
     rw (p.1, p.2) (λ k before after was is. (λ e. absurd e, λ h. (c.in-Ok.ensures.answered k before after was is).1 (λ e. absurd e)))
 
-pub returns-clause-run : goal.returns-clause-run
-returns-clause-run g c = λ inputs e.
-    let read = c.in-Ok.ensures.reads inputs e in
-    record {
-      gots = read.gots;
-      gets = read.gets;
-      holds = written IsBookTextOf read.gots _ _ _ read.holds (λ S book. (_, book, refl)) c.in-Err-write_book.ensures.prefix;
-    }
+pub returns-in_err-write_book-clause-run : goal.returns-in_err-write_book-clause-run
+returns-in_err-write_book-clause-run g c =
+    let p = err_from_is_err_and c.from_residual.result c.from_residual.ensures.1 in
+    rw (p.1, p.2) (λ inputs e.
+        let read = c.in-Ok.ensures.reads inputs e in
+        record {
+          gots = read.gots;
+          gets = read.gets;
+          holds = written IsBookTextOf read.gots _ _ _ read.holds (λ S book. (_, book, refl)) c.in_err-write_book.ensures.prefix;
+        })
