@@ -14,12 +14,12 @@ fn many_rows_are_listed(rt: HostRuntime) -> Result<(), Fail> {
         let tens = b'0' + (i / 10) as u8;
         let ones = b'0' + (i % 10) as u8;
         let message = [
-            b':', b'W', b'U', b'2', b'Z', b' ', b' ', b' ', b' ', b' ', b':', b'H', b'i', b'{', tens,
-            ones,
+            b':', b'W', b'U', b'2', b'Z', b' ', b' ', b' ', b' ', b' ', b':', b'H', b'i', b'{',
+            tens, ones,
         ];
         let item = [
-            b')', b'N', b'R', tens, ones, b'!', b'4', b'9', b'0', b'3', b'.', b'5', b'0', b'N', b'/',
-            b'0', b'7', b'2', b'0', b'1', b'.', b'7', b'5', b'W', b'>',
+            b')', b'N', b'R', tens, ones, b'!', b'4', b'9', b'0', b'3', b'.', b'5', b'0', b'N',
+            b'/', b'0', b'7', b'2', b'0', b'1', b'.', b'7', b'5', b'W', b'>',
         ];
         // Later ones first.
         let second = (50 - i) * 60;

@@ -68,7 +68,12 @@ fn a_refused_output_has_a_prefix(rt: HostRuntime) {
         assert!(rt; w.into_inner().bytes.as_slice() == &HELLO_LISTING[..room]);
     }
     let mut inputs = [Counted::new(ONE_LINE)];
-    let run = show_run(alloc, MAX_INPUT, inputs.as_mut_slice(), &mut Counted::new(Full));
+    let run = show_run(
+        alloc,
+        MAX_INPUT,
+        inputs.as_mut_slice(),
+        &mut Counted::new(Full),
+    );
     assert!(rt; matches!(&run, Err(RunFault::Write)));
     assert!(rt; status_of(&RunFault::Memory) == 4);
 }

@@ -68,6 +68,15 @@ fn words_that_ask_for_a_merge(rt: HostRuntime) -> Result<(), Fail> {
 }
 
 #[test]
+fn words_that_ask_for_a_listing(rt: HostRuntime) -> Result<(), Fail> {
+    let Ok(Job::Show(inputs)) = job(rt.alloc(), &["aprsbook", "show", "rx1.log"]) else {
+        return Err("a listing".into());
+    };
+    assert!(rt; is_only(inputs.as_slice(), "rx1.log"));
+    Ok(())
+}
+
+#[test]
 fn words_that_ask_for_nothing(rt: HostRuntime) {
     for words in [
         ["aprsbook", "convert", "capture"].as_slice(),

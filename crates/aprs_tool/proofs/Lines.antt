@@ -1,13 +1,11 @@
 -- Lemmas on lines that go out through a buffer.
-use Rattle.std.proofs.Common.{Bool, ◌∷◌, ap, ap₂, sym, ◌∙◌, append_assoc, map, ◌≡◌, ◌≤◌, ◌<◌, ℕ, ◌+◌, List, ◌++◌, length, get_or, take, Option, Result, Ok, Err, OnOk, OnErr, [], refl, subst, arith}
+use Rattle.std.proofs.Common.{Bool, ◌∷◌, ap, ap₂, sym, ◌∙◌, append_assoc, map, ◌≡◌, ◌<◌, ℕ, ◌+◌, List, ◌++◌, length, get_or, take, Option, Result, Ok, Err, OnErr, [], refl, subst, arith}
 use Rattle.std.specs.List.{flat_map}
 use Rattle.std.proofs.lemmas.List.Concat.{flat_map-append}
 use Rattle.std.specs.Result.{IsErr}
-use Rattle.std.specs.Io.KnownBytes.{Appends}
-use Rattle.aprs_kiss.specs.Device.{AppendsFront, Rose}
+use Rattle.aprs_kiss.specs.Device.{Rose}
 use Rattle.aprs_kiss.specs.declared.device.WriteFault.{WriteFault}
-use Rattle.aprs_booktext.specs.Outbox.{Puts}
-use Rattle.aprs_booktext.proofs.Sending.{Puts-last, Puts-more, Puts-nil, front_of_first, front_of_last, front_of_piece, Appends-last, front_of_held}
+use Rattle.aprs_booktext.proofs.Sending.{Puts-last, Puts-more, Puts-nil, front_of_first, front_of_last, front_of_piece}
 use Rattle.aprs_ax25.specs.Callsign.{Call, call_text}
 use Rattle.aprs_laws.specs.Key.{key_of}
 use Rattle.aprs_log.specs.Moment.{moment_text}

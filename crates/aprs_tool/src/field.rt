@@ -1,5 +1,5 @@
 //! The fields of the listing's lines.
-ghost use Rattle.std.specs.Prelude.{◌≡◌, [], ◌++◌};
+ghost use Rattle.std.specs.Prelude.{◌≡◌};
 ghost use Rattle.aprs_kiss.specs.Device.{device_of, failures_of};
 ghost use Rattle.aprs_tool.specs.Lines.{PutsText, field_text};
 ghost use Rattle.aprs_tool.specs.Listing.{ambiguity_text, fraction_text, stamp_text, word, word_byte};

@@ -1,5 +1,5 @@
 //! The listing's lines on their way out.
-ghost use Rattle.std.specs.Prelude.{◌≡◌, [], ◌∷◌, ◌++◌};
+ghost use Rattle.std.specs.Prelude.{[], ◌∷◌, ◌++◌};
 ghost use Rattle.std.specs.List.{flat_map};
 ghost use Rattle.aprs_kiss.specs.Device.{device_of, failures_of};
 ghost use Rattle.aprs_tool.specs.Lines.{PutsText, spaced_field};

@@ -1,8 +1,7 @@
-use Rattle.std.proofs.Common.{Err, get_or, sym, arith}
+use Rattle.std.proofs.Common.{Err, get_or, arith}
 use Rattle.std.proofs.lemmas.List.{get_or_default}
 use Rattle.aprs_tool.specs.Listing.{word_byte}
 use Rattle.aprs_tool.proofs.Lines.{PutsText-broken, PutsText-is, PutsText-more, PutsText-none}
-use Rattle.aprs_tool.proofs.Texts.{shown-plain}
 use Rattle.aprs_tool.proofs.field.put_word.Goals as goal
 
 pub loop-b-init : goal.loop-b-init

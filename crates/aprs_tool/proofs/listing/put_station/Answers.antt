@@ -1,4 +1,4 @@
-use Rattle.std.proofs.Common.{Err, Ok, List, [], ◌∷◌, ap, codes}
+use Rattle.std.proofs.Common.{[], ◌∷◌, ap, codes}
 use Rattle.std.specs.Fmt.{decimal}
 use Rattle.aprs_ax25.specs.Callsign.{Call, call_text}
 use Rattle.aprs_tool.specs.Listing.{line_of, station_line}

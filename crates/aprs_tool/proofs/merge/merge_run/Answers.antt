@@ -1,5 +1,4 @@
 use Rattle.std.proofs.Common.{refl}
-use Rattle.aprs_booktext.specs.Text.{book_text}
 use Rattle.aprs_tool.specs.Merge.{IsBookTextOf}
 use Rattle.aprs_tool.proofs.Merges.{written}
 use Rattle.std.proofs.lemmas.Result.{err_from_is_err_and}

@@ -1,5 +1,5 @@
 use Rattle.aprs_kiss.proofs.Bytes.{on_err}
-use Rattle.aprs_booktext.proofs.Sending.{Appends-last, front_of_held}
+use Rattle.aprs_booktext.proofs.Sending.{front_of_held}
 use Rattle.aprs_tool.proofs.listing.Views.write.Goals as goal
 
 pub returns-in_err-put_views-clause-prefix : goal.returns-in_err-put_views-clause-prefix
