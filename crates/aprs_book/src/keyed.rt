@@ -2,17 +2,20 @@
 ghost use Rattle.std.specs.Prelude.{◌≡◌, [], ◌∷◌, ◌++◌, true, IsOk, IfOk, OnOk, OnErr, IsOkUnless, MatchOption, Err};
 ghost use Rattle.aprs_book.specs.Keyed.{EndsUpTo, IsEndOf};
 ghost use Rattle.aprs_book.specs.Refusal.{refusal};
+ghost use Rattle.aprs_laws.specs.JoinRow.{interleave, coalesced};
 ghost use Rattle.aprs_laws.specs.Inserted.{inserted, fits_in_place};
 
 use crate::gap::Gap;
 use crate::kept_row::KeptRow;
 use crate::key_bytes::key_bytes;
 use crate::keyed_walk::KeyedWalk;
+use crate::merging_keys::{put_joined, put_merged};
 use crate::place::put;
 use crate::push::first_cause;
 use crate::{Memory, RowCause, RowParts};
 use aprs_log::Reception;
 use std::alloc::{Allocator, Global};
+use std::cmp::Ordering;
 use std::collections::BTreeMap;
 use std::marker::Model;
 
@@ -51,6 +54,50 @@ impl<A: Allocator + Copy> KeyedRows<A> {
         ensures { result ≡ self.now }
     {
         KeyedWalk::of(self.map.values())
+    }
+
+    /// The rows of both, key by key, in one pass over the keys of both.
+    pub(crate) fn merged(&self, gap: Gap, other: &KeyedRows<A>) -> Result<KeyedRows<A>, Memory>
+        ensures { IfOk result (λ both. both ≡ coalesced gap (interleave self.now other.now)) }
+    {
+        let alloc = self.alloc;
+        let mut map = BTreeMap::new(alloc);
+        let mut ours = self.map.iter();
+        let mut theirs = other.map.iter();
+        let mut our = ours.next();
+        let mut their = theirs.next();
+        loop {
+            match (our, their) {
+                (None, None) => break,
+                (Some((key, x)), None) => {
+                    put_joined(alloc, gap, &mut map, key.as_slice(), x.as_slice())?;
+                    our = ours.next();
+                }
+                (None, Some((key, y))) => {
+                    put_joined(alloc, gap, &mut map, key.as_slice(), y.as_slice())?;
+                    their = theirs.next();
+                }
+                (Some((key, x)), Some((other_key, y))) => {
+                    match key.as_slice().cmp(other_key.as_slice()) {
+                        Ordering::Less => {
+                            put_joined(alloc, gap, &mut map, key.as_slice(), x.as_slice())?;
+                            our = ours.next();
+                        }
+                        Ordering::Equal => {
+                            let (k, x, y) = (key.as_slice(), x.as_slice(), y.as_slice());
+                            put_merged(alloc, gap, &mut map, k, x, y)?;
+                            our = ours.next();
+                            their = theirs.next();
+                        }
+                        Ordering::Greater => {
+                            put_joined(alloc, gap, &mut map, other_key.as_slice(), y.as_slice())?;
+                            their = theirs.next();
+                        }
+                    }
+                }
+            }
+        }
+        Ok(KeyedRows { map, alloc })
     }
 
     /// The last key's rows.
@@ -136,7 +183,7 @@ fn push_one<A: Allocator + Copy>(
 }
 
 /// The same bytes, in memory of their own.
-fn owned<A: Allocator + Copy>(alloc: A, bytes: &[u8]) -> Result<Vec<u8, A>, Memory>
+pub(crate) fn owned<A: Allocator + Copy>(alloc: A, bytes: &[u8]) -> Result<Vec<u8, A>, Memory>
     ensures { IfOk result (λ owned. owned.items ≡ bytes.now) }
 {
     let mut owned = Vec::new(alloc);
