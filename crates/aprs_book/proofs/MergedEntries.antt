@@ -6,21 +6,18 @@ use Rattle.std.specs.Map.{keys_of}
 use Rattle.std.specs.BTreeMap.{insert_entry}
 use Rattle.std.specs.Map.Iter.{TakesFirst, deref_pair}
 use Rattle.std.specs.Ordering.{ordering_reverse}
-use Rattle.std.specs.declared.cmp.Ordering.TheVariants.{Less, Equal, Greater}
+use Rattle.std.specs.declared.cmp.Ordering.TheVariants.{Less, Greater}
 use Rattle.std.proofs.lemmas.Map.Keys.{sorted_head, sorted_tail}
-use Rattle.std.proofs.lemmas.Cmp.{tied_itself}
 use Rattle.aprs_log.specs.Reception.{bytes_cmp}
-use Rattle.aprs_laws.specs.Key.{key_cmp}
 use Rattle.aprs_laws.specs.Row.{Row, row_key, row_cmp}
 use Rattle.aprs_laws.specs.JoinRow.{combine, place, coalesce, coalesced, interleave}
 use Rattle.aprs_laws.proofs.Orders.{bytes_total}
 use Rattle.aprs_book.proofs.Places.{by_order}
-use Rattle.aprs_book.proofs.Names.{same_bytes}
 use Rattle.aprs_book.proofs.KeyBytes.{key_bytes_cmp}
 use Rattle.aprs_book.proofs.Entries.{order, Above, below_all, combined, AreKeyed-insert_entry}
 use Rattle.aprs_book.proofs.EntryEnds.{filled_insert}
 use Rattle.aprs_book.proofs.MergedKeys.{interleave-nil, IsBelowAll, AreBelow, merged_keys}
-use Rattle.aprs_book.specs.Keyed.{key_bytes, HaveKey, rows_of, AreKeyed, AreFilled, AreKept, PutsRows, held}
+use Rattle.aprs_book.specs.Keyed.{key_bytes, HaveKey, rows_of, AreKeyed, AreKept, PutsRows, held}
 
 -- ---- the rows of one key
 

@@ -1,5 +1,3 @@
-use Rattle.std.proofs.Common.{◌∙◌, sym, subst}
-use Rattle.aprs_book.specs.Keyed.{rows_of, IsEndOf}
 use Rattle.aprs_book.proofs.EntryEnds.{end_of_entries}
 use Rattle.aprs_book.proofs.keyed.KeyedRows.last_rows.Goals as goal
 

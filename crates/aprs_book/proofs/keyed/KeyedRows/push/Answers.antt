@@ -1,7 +1,6 @@
-use Rattle.std.proofs.Common.{◌≡◌, ◌∙◌, None, refl, sym, subst}
+use Rattle.std.proofs.Common.{◌∙◌, refl, sym, subst}
 use Rattle.aprs_laws.specs.Row.{Row}
 use Rattle.aprs_book.specs.Keyed.{EndsUpTo}
-use Rattle.aprs_book.specs.Refusal.{refusal}
 use Rattle.aprs_book.proofs.Refusals.{free_ascends, refused_at_end, none_ends_up_to}
 use Rattle.aprs_book.proofs.keyed.KeyedRows.push.Goals as goal
 
