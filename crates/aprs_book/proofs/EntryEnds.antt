@@ -1,20 +1,24 @@
 -- Entries that all have rows, and rows behind those of all entries.
-use Rattle.std.proofs.Common.{◌≡◌, ◌∙◌, ℕ, ◌+◌, ◌<◌, ◌≤◌, List, [], ◌∷◌, ◌++◌, Option, Some, None, Result, Ok, Err, OnOk, OnErr, map, length, refl, sym, ap, subst, arith, append_assoc, append-nil}
-use Rattle.std.specs.List.{flat_map, AllByRecursion}
+use Rattle.std.proofs.Common.{◌≡◌, ◌∙◌, ℕ, ◌<◌, ◌-◌, suc, List, [], ◌∷◌, ◌++◌, Some, None, Result, Ok, Err, OnOk, OnErr, inl, inr, true, false, length, length-append, refl, sym, ap, subst, arith, append_assoc, append-nil}
+use Rattle.std.specs.List.{slice_get, flat_map, AllByRecursion}
 use Rattle.std.specs.List.Sorted.{IsStrictlySortedBy}
 use Rattle.std.specs.Map.{keys_of, values_of, lookup, set_value}
 use Rattle.std.specs.BTreeMap.{insert_entry}
-use Rattle.std.specs.declared.cmp.Ordering.{Ordering}
-use Rattle.std.specs.declared.cmp.Ordering.TheVariants.{Less, Equal, Greater}
+use Rattle.std.specs.Ordering.{is_gt, ordering_reverse}
+use Rattle.std.specs.declared.cmp.Ordering.TheVariants.{Less, Greater}
 use Rattle.std.proofs.lemmas.Map.Keys.{sorted_head, sorted_tail}
 use Rattle.aprs_log.specs.Reception.{Heard, bytes_cmp}
-use Rattle.aprs_laws.specs.Row.{Row}
-use Rattle.aprs_laws.specs.JoinRow.{choose}
+use Rattle.aprs_laws.specs.Order.{IsUpTo}
+use Rattle.aprs_laws.specs.Key.{key_cmp}
+use Rattle.aprs_laws.specs.Row.{Row, row_key}
+use Rattle.aprs_laws.proofs.Orders.{bytes_total, key_total}
 use Rattle.aprs_laws.specs.Inserted.{side, grown, bridged, inserted}
+use Rattle.aprs_laws.proofs.Pushes.{empty_or_last}
 use Rattle.aprs_book.proofs.Places.{by_order}
 use Rattle.aprs_book.proofs.Names.{same_bytes}
-use Rattle.aprs_book.proofs.Entries.{order, test, bytes_of, IsWritten}
-use Rattle.aprs_book.specs.Keyed.{rows_of, AreFilled}
+use Rattle.aprs_book.proofs.Entries.{order, test, IsWritten, set_same, found_key, AreKeyed-set_value, AreKeyed-insert_entry}
+use Rattle.aprs_book.proofs.KeyBytes.{key_bytes_cmp}
+use Rattle.aprs_book.specs.Keyed.{key_bytes, HaveKey, rows_of, AreKeyed, AreFilled, AreKept, EndsUpTo, IsEndOf}
 
 bridged_some : (gap : ℕ) (x : Heard) (j : Row) (rows : List Row) → 0 < length (bridged gap x j rows)
 bridged_some gap x j [] = omega arith
@@ -74,3 +78,173 @@ module _ {K V : Type 0} (bytes : K → List ℕ) (rows : V → List Row) where
   written_filled gap x k es es' old new (Err _) w h e f =
       rw w.written (filled_set k es new h
       (subst (λ (t : List Row). 0 < length t) (sym f) (filled_found k es old h (sym w.found))))
+
+have_last : (k : List ℕ) (front : List Row) (l : Row) → HaveKey k (front ++ l ∷ [])
+    → key_bytes (row_key l) ≡ k
+have_last k [] l h = h.0
+have_last k (r ∷ front) l h = have_last k front l h.1
+
+have_append : (k : List ℕ) (rows : List Row) (x : Row) → HaveKey k rows
+    → key_bytes (row_key x) ≡ k → HaveKey k (rows ++ x ∷ [])
+have_append k [] x h e = (e, tt)
+have_append k (r ∷ rows) x h e = (h.0, have_append k rows x h.1 e)
+
+not_above : (x l : Row) → IsUpTo key_cmp (row_key l) (row_key x)
+    → bytes_cmp (key_bytes (row_key x)) (key_bytes (row_key l)) ≡ Less → ⊥
+not_above x l u e =
+    let f : key_cmp (row_key x) (row_key l) ≡ Less = sym (key_bytes_cmp (row_key x) (row_key l)) ∙ e in
+    let g : key_cmp (row_key l) (row_key x) ≡ Greater =
+    key_total.antisymm (row_key l) (row_key x) ∙ ap ordering_reverse f in
+    let h : true ≡ false = sym (ap is_gt g) ∙ u in absurd (cc)
+
+module _ {K V : Type 0} (bytes : K → List ℕ) (rows : V → List Row) where
+  abbrev NoneAbove : List ℕ → List (K × V) → Type 0
+  NoneAbove k es = AllByRecursion (λ q. bytes_cmp k (bytes q) ≡ Less → ⊥) (keys_of es)
+
+  none_above : (x : Row) (es : List (K × V))
+      → IsStrictlySortedBy (order bytes rows) (keys_of es) → AreKeyed bytes rows es
+      → AreFilled bytes rows es → EndsUpTo x (rows_of bytes rows es)
+      → NoneAbove (key_bytes (row_key x)) es
+  none_above x [] s g h u = tt
+  none_above x (e ∷ []) s g h u = (
+    λ below. elim (empty_or_last (rows e.1)) [
+      | inl n ↦ absurd (omega (arith, h.0, ap length n))
+      | inr t ↦ not_above x t.1 (u t.0 t.1 (append-nil (rows e.1) ∙ t.2))
+          (ap (bytes_cmp (key_bytes (row_key x)))
+          (have_last (bytes e.0) t.0 t.1 (subst (HaveKey (bytes e.0)) t.2 g.0)) ∙ below)
+    ],
+    tt,
+  )
+  none_above x (e ∷ f ∷ es) s g h u =
+      let rest = none_above x (f ∷ es) (sorted_tail (order bytes rows) e.0 (keys_of (f ∷ es)) s) g.1 h.1
+      (λ front l p. u (rows e.1 ++ front) l
+      (ap (λ t. rows e.1 ++ t) p ∙ sym (append_assoc (rows e.1) front (l ∷ [])))) in (
+        λ below. rest.0 (bytes_total.trans (key_bytes (row_key x)) (bytes e.0) (bytes f.0) below
+            (sorted_head (order bytes rows) e.0 (keys_of (f ∷ es)) s).0),
+        rest,
+      )
+
+  push_found : (k : List ℕ) (es : List (K × V)) (old new : V) (x : Row)
+      → IsStrictlySortedBy (order bytes rows) (keys_of es) → NoneAbove k es
+      → lookup (test bytes rows k) es ≡ Some old → rows new ≡ rows old ++ x ∷ []
+      → rows_of bytes rows (set_value (test bytes rows k) es new) ≡ rows_of bytes rows es ++ x ∷ []
+  push_found k [] old new x s n found made = absurd (cc)
+  push_found k (e ∷ []) old new x s n found made =
+      by_order (bytes_cmp k (bytes e.0))
+      (λ o. absurd (n.0 o))
+      (λ o.
+      let f : Some e.1 ≡ Some old = rw o at found in
+      let r : e.1 ≡ old = cc in
+      rw o (append-nil (rows new) ∙ made ∙ ap (λ v. rows v ++ x ∷ []) (sym r)
+      ∙ ap (λ t. t ++ x ∷ []) (sym (append-nil (rows e.1)))))
+      (λ o. absurd (let f : None ≡ Some old = rw o at found in cc))
+  push_found k (e ∷ f ∷ es) old new x s n found made =
+      by_order (bytes_cmp k (bytes e.0))
+      (λ o. absurd (n.0 o))
+      (λ o. absurd (n.1.0 (subst (λ (t : List ℕ). bytes_cmp t (bytes f.0) ≡ Less)
+      (sym (same_bytes k (bytes e.0) o))
+      (sorted_head (order bytes rows) e.0 (keys_of (f ∷ es)) s).0)))
+      (λ o. rw o (ap (λ t. rows e.1 ++ t)
+      (push_found k (f ∷ es) old new x (sorted_tail (order bytes rows) e.0 (keys_of (f ∷ es)) s) n.1
+      (rw o at found) made)
+      ∙ sym (append_assoc (rows e.1) (rows_of bytes rows (f ∷ es)) (x ∷ []))))
+
+  push_absent : (key : K) (es : List (K × V)) (new : V) (x : Row) → NoneAbove (bytes key) es
+      → lookup (test bytes rows (bytes key)) es ≡ None → rows new ≡ x ∷ []
+      → rows_of bytes rows (insert_entry (order bytes rows) es key new)
+      ≡ rows_of bytes rows es ++ x ∷ []
+  push_absent key [] new x n found made = rw made
+  push_absent key (e ∷ es) new x n found made =
+      by_order (bytes_cmp (bytes key) (bytes e.0))
+      (λ o. absurd (n.0 o))
+      (λ o. absurd (let f : Some e.1 ≡ None = rw o at found in cc))
+      (λ o. rw o (ap (λ t. rows e.1 ++ t) (push_absent key es new x n.1 (rw o at found) made)
+      ∙ sym (append_assoc (rows e.1) (rows_of bytes rows es) (x ∷ []))))
+
+  -- ---- what the code does: x goes behind all rows, and k is the bytes of its key
+
+  pub record IsBehind (x : Row) (k : List ℕ) (es : List (K × V)) : Type 0 where
+    pub key : k ≡ key_bytes (row_key x)
+    pub sorted : IsStrictlySortedBy (order bytes rows) (keys_of es)
+    pub kept : AreKept bytes rows es
+    pub ends : EndsUpTo x (rows_of bytes rows es)
+
+  above_of : (x : Row) (k : List ℕ) (es : List (K × V)) → IsBehind x k es → NoneAbove k es
+  above_of x k es b =
+      subst (λ (t : List ℕ). NoneAbove t es) (sym b.key)
+      (none_above x es b.sorted b.kept.0 b.kept.1 b.ends)
+
+  pub behind_ok : {A E : Type 0} (x : Row) (k : List ℕ) (es es' : List (K × V)) (old new : V)
+      (r : Result A E) → IsBehind x k es → Some old ≡ lookup (test bytes rows k) es
+      → es' ≡ set_value (test bytes rows k) es new → OnOk r (rows new ≡ rows old ++ x ∷ [])
+      → OnOk r (rows_of bytes rows es' ≡ rows_of bytes rows es ++ x ∷ [])
+  behind_ok x k es es' old new (Ok _) b found w e =
+      rw w (push_found k es old new x b.sorted (above_of x k es b) (sym found) e)
+  behind_ok x k es es' old new (Err _) b found w e = tt
+
+  pub behind_err : {A E : Type 0} (x : Row) (k : List ℕ) (es es' : List (K × V)) (old new : V)
+      (r : Result A E) → Some old ≡ lookup (test bytes rows k) es
+      → es' ≡ set_value (test bytes rows k) es new → OnErr r (rows new ≡ rows old)
+      → OnErr r (rows_of bytes rows es' ≡ rows_of bytes rows es)
+  behind_err x k es es' old new (Ok _) found w e = tt
+  behind_err x k es es' old new (Err _) found w e =
+      rw w (set_same bytes rows k es old new (sym found) e)
+
+  behind_put : (k : List ℕ) (es : List (K × V)) (new : V) → AreKept bytes rows es
+      → HaveKey k (rows new) → 0 < length (rows new)
+      → AreKept bytes rows (set_value (test bytes rows k) es new)
+  behind_put k es new t h s =
+      (AreKeyed-set_value bytes rows k es new t.0 h, filled_set bytes rows k es new t.1 s)
+
+  pub behind_kept : {A E : Type 0} (x : Row) (k : List ℕ) (es es' : List (K × V)) (old new : V)
+      (r : Result A E) → IsBehind x k es → Some old ≡ lookup (test bytes rows k) es
+      → es' ≡ set_value (test bytes rows k) es new → OnOk r (rows new ≡ rows old ++ x ∷ [])
+      → OnErr r (rows new ≡ rows old) → AreKept bytes rows es'
+  behind_kept x k es es' old new (Ok _) b found w e f =
+      let have = found_key bytes rows k es old b.kept.0 (sym found) in
+      rw w (behind_put k es new b.kept
+      (subst (HaveKey k) (sym e) (have_append k (rows old) x have (sym b.key)))
+      (omega (arith, ap length e, length-append (rows old) (x ∷ []))))
+  behind_kept x k es es' old new (Err _) b found w e f =
+      rw w (behind_put k es new b.kept
+      (subst (HaveKey k) (sym f) (found_key bytes rows k es old b.kept.0 (sym found)))
+      (subst (λ (t : List Row). 0 < length t) (sym f) (filled_found bytes rows k es old b.kept.1 (sym found))))
+
+  pub behind_new : (x : Row) (k : List ℕ) (es es' : List (K × V)) (key : K) (new : V)
+      → IsBehind x k es → None ≡ lookup (test bytes rows k) es → bytes key ≡ k
+      → rows new ≡ x ∷ [] → es' ≡ insert_entry (order bytes rows) es key new
+      → (rows_of bytes rows es' ≡ rows_of bytes rows es ++ x ∷ []) × AreKept bytes rows es'
+  behind_new x k es es' key new b absent i made w =
+      rw w (
+        push_absent key es new x (subst (λ (t : List ℕ). NoneAbove t es) (sym i) (above_of x k es b))
+            (subst (λ (t : List ℕ). lookup (test bytes rows t) es ≡ None) (sym i) (sym absent)) made,
+        (
+          AreKeyed-insert_entry bytes rows key es new b.kept.0
+              (subst (HaveKey (bytes key)) (sym made) (sym b.key ∙ sym i, tt)),
+          filled_insert bytes rows key es new b.kept.1 (rw made (omega arith)),
+        ),
+      )
+
+  less_more : (x y : K × V) (ys : List (K × V))
+      → length (x ∷ y ∷ ys) - 1 ≡ suc (length (y ∷ ys) - 1)
+  less_more x y ys = omega arith
+
+  -- the rows of the last entry
+  pub end_of_entries : (es : List (K × V)) (e : K × V) → AreFilled bytes rows es
+      → slice_get es (length es - 1) ≡ Some e → IsEndOf (rows e.1) (rows_of bytes rows es)
+  end_of_entries [] e h f = absurd (cc)
+  end_of_entries (d ∷ []) e h f =
+      let same : d ≡ e = cc in
+      record {
+        front = [];
+        split = append-nil (rows d.1) ∙ ap (λ (t : K × V). rows t.1) same;
+        none = λ n. absurd (omega (arith, h.0, ap length (ap (λ (t : K × V). rows t.1) same ∙ n)));
+      }
+  end_of_entries (d ∷ q ∷ es) e h f =
+      let r = end_of_entries (q ∷ es) e h.1
+      (sym (ap (slice_get (d ∷ q ∷ es)) (less_more d q es)) ∙ f) in
+      record {
+        front = rows d.1 ++ r.front;
+        split = ap (λ t. rows d.1 ++ t) r.split ∙ sym (append_assoc (rows d.1) r.front (rows e.1));
+        none = λ n. absurd (omega (arith, h.1.0, length-append (rows q.1) (rows_of bytes rows es), ap length (r.none n)));
+      }

@@ -6,6 +6,7 @@ mod IndexSteps
 mod MergedKeys
 mod Entries
 mod EntryEnds
+mod MergedEntries
 pub mod Names
 pub mod Places
 pub mod Taking

@@ -14,6 +14,7 @@ mod known;
 mod last_known;
 mod memory;
 mod merging;
+mod merging_keys;
 mod message;
 mod message_key;
 mod named;

@@ -13,9 +13,10 @@ invariant_of-self g c =
     let x = c.args.x.now in
     let es = c.self.inside.map.entries in
     let w : IsWritten (λ k. k.items) (λ v. v.items) x c.as_slice.result.now es (c.get_mut.follows.lender c.put.new.rows).entries c.in-Some.rows.now c.put.new.rows =
-    record { key = c.as_slice.ensures.value ∙ c.key_bytes-bytes.ensures ∙ ap (λ t. key_bytes (key_of t)) c.frame.ensures; sorted = c.in-Some.ensures.ordered; keyed = c.self.invariant.0; found = c.in-Some.ensures.value; written = (c.get_mut.follows.holds c.put.new.rows).0 } in
-    (written_keyed (λ k. k.items) (λ v. v.items) c.args.gap x _ es _ _ _ c.put.result w c.put.ensures.inserted c.put.ensures.unchanged,
-    written_filled (λ k. k.items) (λ v. v.items) c.args.gap x _ es _ _ _ c.put.result w c.self.invariant.1 c.put.ensures.inserted c.put.ensures.unchanged)
+    record { key = c.as_slice.ensures.value ∙ c.key_bytes-bytes.ensures ∙ ap (λ t. key_bytes (key_of t)) c.frame.ensures; sorted = c.in-Some.ensures.ordered; keyed = c.self.invariant.0; found = c.in-Some.ensures.value; written = (c.get_mut.follows.holds c.put.new.rows).0 } in (
+      written_keyed (λ k. k.items) (λ v. v.items) c.args.gap x _ es _ _ _ c.put.result w c.put.ensures.inserted c.put.ensures.unchanged,
+      written_filled (λ k. k.items) (λ v. v.items) c.args.gap x _ es _ _ _ c.put.result w c.self.invariant.1 c.put.ensures.inserted c.put.ensures.unchanged,
+    )
 
 pub returns-in-Some-clause-inserted : goal.returns-in-Some-clause-inserted
 returns-in-Some-clause-inserted g c =
