@@ -4,7 +4,7 @@ use Rattle.std.specs.List.{flat_map}
 use Rattle.std.proofs.lemmas.List.Concat.{flat_map-append}
 use Rattle.std.specs.Result.{IsErr}
 use Rattle.aprs_kiss.specs.Device.{Rose}
-use Rattle.aprs_kiss.specs.declared.device.WriteFault.{WriteFault}
+use Rattle.aprs_kiss.specs.declared.WriteFault.{WriteFault}
 use Rattle.aprs_booktext.proofs.Sending.{Puts-last, Puts-more, Puts-nil, front_of_first, front_of_last, front_of_piece}
 use Rattle.aprs_ax25.specs.Callsign.{Call, call_text}
 use Rattle.aprs_laws.specs.Key.{key_of}

@@ -3,7 +3,7 @@ use Rattle.std.specs.Prelude.{ℕ, ◌≤◌, List, ◌∷◌, ◌++◌, Option,
 use Rattle.std.specs.Fmt.{decimal}
 use Rattle.aprs_ax25.specs.Callsign.{call_text}
 use Rattle.aprs_kiss.specs.Device.{AppendsFront, Rose}
-use Rattle.aprs_kiss.specs.declared.device.WriteFault.{WriteFault}
+use Rattle.aprs_kiss.specs.declared.WriteFault.{WriteFault}
 use Rattle.aprs_log.specs.Moment.{moment_text}
 use Rattle.aprs_booktext.specs.Outbox.{Puts}
 use Rattle.aprs_tool.specs.Listing.{word, stamp_text, fraction_text, ambiguity_text, symbol_text}
