@@ -5,7 +5,6 @@ mod cut;
 mod fault;
 mod fields;
 mod hexadecimal;
-mod input;
 mod last_line;
 mod law;
 mod outbox;

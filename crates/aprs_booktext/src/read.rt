@@ -6,9 +6,9 @@ ghost use Rattle.aprs_booktext.specs.FirstFault.{IsBookOrMemory, Reads};
 ghost use Rattle.aprs_booktext.specs.Text.{book_text, IsBookRows};
 
 use crate::fault::{BookCause, BookFault};
-use crate::input::read_piece;
 use crate::reader::BookReader;
 use aprs_book::Book;
+use aprs_io::read_some;
 use aprs_kiss::Counted;
 use std::alloc::Allocator;
 use std::io::Read;
@@ -51,7 +51,7 @@ pub fn read_book<R: Read, A: Allocator + Copy>(
     let mut room = [0; ROOM];
     let mut left = limit - head.len() as u64;
     loop {
-        match read_piece(source, &mut room, left) {
+        match read_some(source, &mut room, left) {
             Ok(count) => {
                 reader.feed(&room[..count])?;
                 left -= count as u64;

@@ -16,6 +16,7 @@ ghost use Rattle.aprs_tool.specs.Run.{captured, EndsStream};
 
 use crate::fault::RunFault;
 use aprs_ax25::Frame;
+use aprs_io::read_some;
 use aprs_kiss::{Counted, Fed, KissReader, WriteFault};
 use aprs_log::{Ending, LogCause, LogFault, Moment, Receiver, Reception, write_line};
 use std::io::{Read, Write};
@@ -45,7 +46,7 @@ pub fn capture<R: Read, W: Write>(
     let mut buffer = [0; CHUNK];
     let mut left = limit;
     loop {
-        match read_chunk(r, &mut buffer, left) {
+        match read_some(r, &mut buffer, left) {
             Ok(count) => {
                 let (chunk, _) = buffer.split_at(count);
                 capture_chunk(&mut reader, chunk, receiver, moment, w)?;
@@ -72,51 +73,6 @@ fn fault_of_stream(cause: LogCause) -> RunFault
     ensures { result ≡ RunFault.Input 0 (Log (record { line = 0; cause = cause })) }
 {
     RunFault::from(LogFault { line: 0, cause })
-}
-
-/// Reads once, at most `left` bytes, or says how the stream ends.
-fn read_chunk<R: Read>(
-    r: &mut Counted<R>,
-    buffer: &mut [u8; CHUNK],
-    left: u64,
-) -> Result<usize, Ending>
-    requires { left ≤ 1073741824 }
-    ensures some { IfOk result (λ n. (0 < n) × (n ≤ 16384) × (n ≤ left)) }
-    ensures bytes { IfOk result (λ n. Consumes (R.remaining (device_of r.old))
-        (R.remaining (device_of r.new)) (take n buffer.new)) }
-    ensures end { IfErr result (λ e. EndsHere e left (R.remaining (device_of r.old))
-        (R.remaining (device_of r.new))) }
-    ensures count { failures_of r.old ≤ failures_of r.new }
-    ensures fault { IfErr result (λ e. e ≡ ReadFailed
-        → Rose (failures_of r.old) (failures_of r.new)) }
-    ensures answered { RoseWhere (IsErrAnd result (λ e. e ≡ ReadFailed)) (answered_of r.old)
-        (answered_of r.new) }
-{
-    if left == 0 {
-        return Err(ending_at_limit(r));
-    }
-    let most = (left as usize).min(CHUNK);
-    match r.read(&mut buffer[..most]) {
-        Ok(0) => Err(Ending::End),
-        Ok(count) => Ok(count),
-        Err(_) => Err(Ending::Read),
-    }
-}
-
-/// How a stream ends of which as many bytes were got as may be: whether a further byte exists.
-pub fn ending_at_limit<R: Read>(r: &mut Counted<R>) -> Ending
-    ensures end { EndsHere result 0 (R.remaining (device_of r.old))
-        (R.remaining (device_of r.new)) }
-    ensures count { failures_of r.old ≤ failures_of r.new }
-    ensures fault { result ≡ ReadFailed → Rose (failures_of r.old) (failures_of r.new) }
-    ensures answered { RoseWhere (result ≡ ReadFailed) (answered_of r.old) (answered_of r.new) }
-{
-    let mut one = [0];
-    match r.read(&mut one) {
-        Ok(0) => Ending::End,
-        Ok(_) => Ending::TooLong,
-        Err(_) => Ending::Read,
-    }
 }
 
 /// Writes the log lines of the frames that end in a chunk of the stream.

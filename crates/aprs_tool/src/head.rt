@@ -7,7 +7,7 @@ ghost use Rattle.aprs_log.specs.Awaits.{EndsHere};
 ghost use Rattle.aprs_log.specs.LogAnswers.{Gets, is_lf};
 ghost use Rattle.aprs_tool.specs.Head.{IsHead};
 
-use crate::capture::ending_at_limit;
+use aprs_io::read_some;
 use aprs_kiss::Counted;
 use aprs_log::Ending;
 use arrayvec::ArrayVec;
@@ -70,13 +70,9 @@ fn read_byte<R: Read>(r: &mut Counted<R>, left: u64) -> Result<u8, Ending>
     ensures answered { RoseWhere (IsErrAnd result (λ e. e ≡ Ending.Read)) (answered_of r.old)
         (answered_of r.new) }
 {
-    if left == 0 {
-        return Err(ending_at_limit(r));
-    }
     let mut one = [0];
-    match r.read(&mut one) {
-        Ok(0) => Err(Ending::End),
+    match read_some(r, &mut one, left) {
         Ok(_) => Ok(one[0]),
-        Err(_) => Err(Ending::Read),
+        Err(ending) => Err(ending),
     }
 }

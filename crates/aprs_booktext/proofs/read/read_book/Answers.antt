@@ -30,19 +30,19 @@ returns-in_err-feed-in-Ok-clause-reads g c =
     let f = c.in_err-feed-in-Ok.field-0.0 in
     let n = c.in-Ok.count in
     let some = c.in-Ok.ensures.some in
-    let size : length (take n c.read_piece.new.room) ≡ n = simp length-take (omega (arith, some)) in
+    let size : length (take n c.read_some.new.room) ≡ n = simp length-take (omega (arith, some)) in
     rw (p.1, p.2) (Reads-fault f c.args.head.now _ _ _ _
-    (Got-more _ c.args.head.now _ _ _ _ c.loop-count.invariant.got (IsFault piece_most f) _ (take n c.read_piece.new.room) (c.loop-count.left - n)
-    (λ t s. fault_near (length (take n c.read_piece.new.room)) piece_most f _ (omega (arith, size, some)) (c.in_err-feed-in-Ok.ensures.fault t s)) c.in-Ok.ensures.more (omega (arith, size, some))))
+    (Got-more _ c.args.head.now _ _ _ _ c.loop-count.invariant.got (IsFault piece_most f) _ (take n c.read_some.new.room) (c.loop-count.left - n)
+    (λ t s. fault_near (length (take n c.read_some.new.room)) piece_most f _ (omega (arith, size, some)) (c.in_err-feed-in-Ok.ensures.fault t s)) c.in-Ok.ensures.bytes (omega (arith, size, some))))
 
 pub loop-count-preserved : goal.loop-count-preserved
 loop-count-preserved g c =
     let n = c.in-Ok.count in
     let some = c.in-Ok.ensures.some in
-    let size : length (take n c.read_piece.new.room) ≡ n = simp length-take (omega (arith, some)) in
+    let size : length (take n c.read_some.new.room) ≡ n = simp length-take (omega (arith, some)) in
     record {
-      got = Got-more _ c.args.head.now _ _ _ _ c.loop-count.invariant.got (Stands c.feed-in-Ok.new.self) _ (take n c.read_piece.new.room) (c.loop-count.left - n)
-          c.in_ok-feed-in-Ok.ensures.stands c.in-Ok.ensures.more (omega (arith, size, some));
+      got = Got-more _ c.args.head.now _ _ _ _ c.loop-count.invariant.got (Stands c.feed-in-Ok.new.self) _ (take n c.read_some.new.room) (c.loop-count.left - n)
+          c.in_ok-feed-in-Ok.ensures.stands c.in-Ok.ensures.bytes (omega (arith, size, some));
       few = omega (arith, c.loop-count.invariant.few, c.in_ok-feed-in-Ok.ensures.more, size, some);
       count = omega (arith, c.loop-count.invariant.count, c.in-Ok.ensures.count);
       answered = c.in-Ok.ensures.answered.1 (λ e. absurd e) ∙ c.loop-count.invariant.answered;
