@@ -134,7 +134,7 @@ impl<A: Allocator + Copy> Book<A> {
     pub fn same(&self, other: &Book<A>) -> bool
         ensures { IsTrue result ↔ (self.now ≡ other.now) }
     {
-        same_rows(self.rows.as_slice(), other.rows.as_slice())
+        same_rows(self.walk(), other.walk())
     }
 }
 
@@ -151,16 +151,14 @@ impl<A: Allocator + Copy> Join for Book<A> {
 }
 
 /// Whether the rows are the same.
-fn same_rows<A: Allocator + Copy>(ours: &[KeptRow<A>], theirs: &[KeptRow<A>]) -> bool
-    ensures { IsTrue result ↔ (ours.now ≡ theirs.now) }
+fn same_rows<A: Allocator + Copy>(ours: Walk<'_, A>, mut theirs: Walk<'_, A>) -> bool
+    ensures { IsTrue result ↔ (ours.entry ≡ theirs.entry) }
 {
-    if ours.len() != theirs.len() {
-        return false;
-    }
-    for i in 0..ours.len() {
-        if !ours[i].equals(&theirs[i]) {
-            return false;
+    for row in ours {
+        match theirs.next() {
+            Some(other) if row.equals(other) => {}
+            _ => return false,
         }
     }
-    true
+    theirs.next().is_none()
 }
