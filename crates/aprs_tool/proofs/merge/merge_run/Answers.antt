@@ -13,9 +13,9 @@ pub returns-in_err-write_book-clause-run : goal.returns-in_err-write_book-clause
 returns-in_err-write_book-clause-run g c =
     let p = err_from_is_err_and c.from_residual.result c.from_residual.ensures.1 in
     rw (p.1, p.2) (λ inputs e.
-        let read = c.in-Ok.ensures.reads inputs e in
-        record {
-          gots = read.gots;
-          gets = read.gets;
-          holds = written IsBookTextOf read.gots _ _ _ read.holds (λ S book. (_, book, refl)) c.in_err-write_book.ensures.prefix;
-        })
+    let read = c.in-Ok.ensures.reads inputs e in
+    record {
+      gots = read.gots;
+      gets = read.gets;
+      holds = written IsBookTextOf read.gots _ _ _ read.holds (λ S book. (_, book, refl)) c.in_err-write_book.ensures.prefix;
+    })
