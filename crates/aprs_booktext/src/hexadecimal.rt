@@ -3,18 +3,12 @@ ghost use Rattle.std.specs.Prelude.{◌≡◌, ◌↔◌, ◌*◌, ◌≤◌, le
 ghost use Rattle.hex.specs.Hex.{decode_sized, encode_lower};
 ghost use Rattle.aprs_booktext.specs.RowFields.{SpellsBytes};
 
+use aprs_io::encode_to;
+
 /// The most bytes of a frame, and their digits.
 pub const MAX_FRAME: usize = 328;
 
 pub const MAX_DIGITS: usize = 656;
-
-/// Writes the digits of bytes.
-pub fn encode_to(bytes: &[u8], digits: &mut [u8])
-    requires { length digits.old ≡ 2 * length bytes.now }
-    ensures { digits.new ≡ encode_lower bytes.now }
-{
-    hex::encode_to_slice(bytes, digits).unwrap();
-}
 
 /// The bytes whose digits these are, put into `room`: 1 to 328 of them.
 pub fn decode_into<'r>(digits: &[u8], room: &'r mut [u8; MAX_FRAME]) -> Option<&'r [u8]>

@@ -3,7 +3,7 @@ ghost use Rattle.std.specs.Prelude.{◌≡◌, ◌≤◌};
 ghost use Rattle.arrayvec.specs.ArrayVec.{array_vec_len};
 ghost use Rattle.aprs_booktext.specs.Text.{end_line};
 
-use crate::outbox::push_all;
+use aprs_io::push_all;
 use arrayvec::ArrayVec;
 use itoa::Buffer;
 

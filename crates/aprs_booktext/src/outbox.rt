@@ -5,6 +5,7 @@ ghost use Rattle.arrayvec.specs.ArrayVec.{array_vec_len};
 ghost use Rattle.aprs_kiss.specs.Device.{device_of, failures_of, Rose, AppendsFront};
 ghost use Rattle.aprs_booktext.specs.Outbox.{Puts};
 
+use aprs_io::push_all;
 use aprs_kiss::{Counted, WriteFault, send};
 use arrayvec::ArrayVec;
 use std::io::Write;
@@ -48,15 +49,4 @@ pub fn flush<W: Write>(w: &mut Counted<W>, held: &mut Outbox) -> Result<(), Writ
     send(w, held.as_slice())?;
     held.clear();
     Ok(())
-}
-
-/// Puts bytes behind those that are there.
-pub fn push_all<const N: usize>(out: &mut ArrayVec<u8, N>, bytes: &[u8])
-    requires { array_vec_len out.old + length bytes.now ≤ N }
-    ensures items { out.new.items ≡ out.old.items ++ bytes.now }
-    ensures len { array_vec_len out.new ≡ array_vec_len out.old + length bytes.now }
-{
-    if out.try_extend_from_slice(bytes).is_err() {
-        unreachable!()
-    }
 }

@@ -10,11 +10,12 @@ ghost use Rattle.aprs_kiss.specs.Device.{device_of, failures_of, Rose, AppendsFr
 ghost use Rattle.aprs_booktext.specs.Outbox.{AreSpelled, Puts, line_and_lf};
 ghost use Rattle.aprs_booktext.specs.Text.{book_text, row_line, end_line, ended_by_lf, IsBookRow, IsBookRows};
 
-use crate::hexadecimal::{MAX_DIGITS, encode_to};
+use crate::hexadecimal::MAX_DIGITS;
 use crate::last_line::{LAST, last_line};
-use crate::outbox::{Outbox, flush, push_all, put};
+use crate::outbox::{Outbox, flush, put};
 use aprs_ax25::Frame;
 use aprs_book::{Book, Row};
+use aprs_io::{encode_to, push_all};
 use aprs_kiss::{Counted, WriteFault};
 use aprs_log::{Moment, Receiver};
 use arrayvec::ArrayVec;

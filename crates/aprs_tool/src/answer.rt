@@ -11,8 +11,9 @@ ghost use Rattle.aprs_tool.specs.Run.{line_text, reception_text, ended_by_lf};
 
 use crate::form::Form;
 use crate::monitor::push_monitor_text;
-use crate::text::{Text, push_all};
+use crate::text::Text;
 use aprs_ax25::Frame;
+use aprs_io::push_all;
 use aprs_kiss::{Counted, WriteFault, send, write_kiss};
 use aprs_log::{Line, LogWriter, Reception};
 use aprs_report::Report;

@@ -9,7 +9,8 @@ ghost use Rattle.aprs_tool.specs.Run.{RunsOver, IsRead, check_text, lines_fault,
 ghost use Rattle.aprs_tool.specs.Run.{passed_line, totals_line};
 
 use crate::fault::RunFault;
-use crate::text::{Text, push_all, push_decimal};
+use crate::text::{Text, push_decimal};
+use aprs_io::push_all;
 use aprs_kiss::{Counted, WriteFault, send};
 use aprs_log::{Line, LogReader, Reason};
 use std::alloc::Allocator;

@@ -5,9 +5,10 @@ ghost use Rattle.aprs_tool.specs.Lines.{PutsText, field_text};
 ghost use Rattle.aprs_tool.specs.Listing.{ambiguity_text, fraction_text, stamp_text, word, word_byte};
 ghost use Rattle.aprs_tool.specs.Shown.{shown, shown_byte};
 
-use crate::text::{are_shown, push_all, push_shown_byte};
+use crate::text::{are_shown, push_shown_byte};
 use aprs_ax25::Callsign;
 use aprs_booktext::{Outbox, put};
+use aprs_io::push_all;
 use aprs_kiss::{Counted, WriteFault};
 use aprs_log::Moment;
 use aprs_report::{Fraction, Place, Stamp, Symbol};

@@ -7,8 +7,9 @@ ghost use Rattle.aprs_ax25.specs.FrameFault.{parts_of};
 ghost use Rattle.aprs_ax25.specs.Hop.{hop_of};
 ghost use Rattle.aprs_tool.specs.Monitor.{hop_text, monitor_text};
 
-use crate::text::{Text, push_all, push_shown};
+use crate::text::{Text, push_shown};
 use aprs_ax25::{Callsign, Frame, Hop};
+use aprs_io::push_all;
 
 /// Puts the frame's text at the end: source, destination, digipeaters and information.
 pub fn push_monitor_text(out: &mut Text, frame: &Frame)

@@ -6,6 +6,7 @@ ghost use Rattle.arrayvec.specs.ArrayVec.{array_vec_len};
 ghost use Rattle.hex.specs.Hex.{encode_lower};
 ghost use Rattle.aprs_tool.specs.Shown.{is_shown, shown, shown_byte};
 
+use aprs_io::push_all;
 use arrayvec::ArrayVec;
 
 /// The most bytes of a line that is put together before it is written.
@@ -13,17 +14,6 @@ pub const ROOM: usize = 1200;
 
 /// Such a line. It takes no memory.
 pub type Text = ArrayVec<u8, ROOM>;
-
-/// Puts the bytes at the end.
-pub fn push_all<const N: usize>(out: &mut ArrayVec<u8, N>, bytes: &[u8])
-    requires { array_vec_len out.old + length bytes.now ≤ N }
-    ensures bytes { out.new.items ≡ out.old.items ++ bytes.now }
-    ensures len { array_vec_len out.new ≡ array_vec_len out.old + length bytes.now }
-{
-    if out.try_extend_from_slice(bytes).is_err() {
-        unreachable!()
-    }
-}
 
 /// Whether the byte is shown as itself.
 fn is_shown(b: u8) -> bool

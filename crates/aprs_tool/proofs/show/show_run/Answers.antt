@@ -15,7 +15,7 @@ use Rattle.aprs_tool.proofs.Merges.{written}
 use Rattle.aprs_tool.proofs.show.show_run.Goals as goal
 
 -- the listing of whatever set the rows are the book of
-listed : (rows : List Row) (stations : List Station) (named : List Named) (messages : List MessageRow) → TellsStations rows stations → TellsNamed rows named → TellsMessages rows messages
+listed : (rows : List Row) (stations : List Station) (named : List Named) (messages : List MessageRow) → TellsStations gap_seconds rows stations → TellsNamed gap_seconds rows named → TellsMessages gap_seconds rows messages
     → (S : List Heard) → BookOf gap_seconds S rows → IsListingOf S (show_text stations named messages)
 listed rows stations named messages s n m S book = record {
   rows = rows;
