@@ -5,19 +5,19 @@ use crate::fault::InputFault;
 use crate::input::read_input;
 use aprs_book::Book;
 use aprs_kiss::Counted;
-use std::alloc::{Allocator, Global};
+use std::alloc::Global;
 use std::io::Read;
 
 /// A book, and what is needed to read further inputs into it.
 #[derive(Drop)]
-pub struct Desk<A: Allocator = Global> {
-    alloc: A,
+pub struct Desk {
+    alloc: Global,
     limit: u64,
-    book: Book<A>,
+    book: Book,
     ghost few: { limit ≤ 1073741824 },
 }
 
-impl<A: Allocator + Copy> Desk<A> {
+impl Desk {
     ghost use Rattle.std.specs.Prelude.{◌≡◌, ◌≤◌, [], IfErr, IsErrAnd, OnErr};
     ghost use Rattle.aprs_kiss.specs.Device.{device_of, failures_of, answered_of, Rose, RoseWhere};
     ghost use Rattle.aprs_laws.specs.Book.{BookOf};
@@ -28,7 +28,7 @@ impl<A: Allocator + Copy> Desk<A> {
 
     /// An empty book, into which inputs are read up to `limit` bytes each. Requires that `limit` is
     /// at most 1,073,741,824 (`MAX_INPUT`). Takes no memory.
-    pub fn new(alloc: A, limit: u64) -> Desk<A>
+    pub fn new(alloc: Global, limit: u64) -> Desk
         requires { limit ≤ 1073741824 }
         ensures rows { rows_of result ≡ [] }
         ensures book { BookOf gap_seconds [] (rows_of result) }
@@ -63,14 +63,14 @@ impl<A: Allocator + Copy> Desk<A> {
     }
 
     /// The book. Takes no memory.
-    pub fn book(&self) -> &Book<A>
+    pub fn book(&self) -> &Book
         ensures { result.now ≡ rows_of self.now }
     {
         &self.book
     }
 
     /// Gives the book. Takes no memory.
-    pub fn into_book(self) -> Book<A>
+    pub fn into_book(self) -> Book
         ensures { result ≡ rows_of self }
     {
         self.book

@@ -13,7 +13,7 @@ use aprs_book::{Book, Memory};
 use aprs_booktext::read_book;
 use aprs_kiss::Counted;
 use aprs_log::{Ending, Line, LogCause, LogFault, LogReader};
-use std::alloc::Allocator;
+use std::alloc::Global;
 use std::io::Read;
 
 /// The text of a book begins so.
@@ -26,11 +26,11 @@ const BOOK_MARK: &[u8] = b"APRSBOOK";
 /// with that cause and the line that was being read. An input of which fewer than eight bytes are
 /// got is a log, and one with an LF among its first eight is judged by that line first. Holds the
 /// book and one line.
-pub fn read_input<R: Read, A: Allocator + Copy>(
-    alloc: A,
+pub fn read_input<R: Read>(
+    alloc: Global,
     limit: u64,
     r: &mut Counted<R>,
-) -> Result<Book<A>, InputFault>
+) -> Result<Book, InputFault>
     requires { limit ≤ 1073741824 }
     ensures reads { OfGot limit (R.remaining (device_of r.old))
         (R.remaining (device_of r.new)) (ReadsInput result) }
@@ -48,12 +48,12 @@ pub fn read_input<R: Read, A: Allocator + Copy>(
 }
 
 /// The book of an input that begins with these bytes, which tell what it is.
-fn read_whole<R: Read, A: Allocator + Copy>(
-    alloc: A,
+fn read_whole<R: Read>(
+    alloc: Global,
     limit: u64,
     head: &[u8],
     r: &mut Counted<R>,
-) -> Result<Book<A>, InputFault>
+) -> Result<Book, InputFault>
     requires limit { limit ≤ 1073741824 }
     requires head { IsHead head.now }
     requires few { length head.now ≤ 8 }
@@ -75,12 +75,12 @@ fn read_whole<R: Read, A: Allocator + Copy>(
 }
 
 /// The book of the receptions of a log that begins with `head`.
-fn read_log<R: Read, A: Allocator + Copy>(
-    alloc: A,
+fn read_log<R: Read>(
+    alloc: Global,
     limit: u64,
     head: &[u8],
     r: &mut Counted<R>,
-) -> Result<Book<A>, InputFault>
+) -> Result<Book, InputFault>
     requires limit { limit ≤ 1073741824 }
     requires head { length head.now ≤ 8 }
     requires within { length head.now ≤ limit }
@@ -104,7 +104,7 @@ fn read_log<R: Read, A: Allocator + Copy>(
 }
 
 /// Takes what a line tells, if it tells a reception.
-fn take_line<A: Allocator + Copy>(book: &mut Book<A>, line: &Line) -> Result<(), Memory>
+fn take_line(book: &mut Book, line: &Line) -> Result<(), Memory>
     ensures { OnOk result (AddsAll (receptions_of (line.now ∷ [])) book.old book.new) }
 {
     match line {
@@ -114,7 +114,7 @@ fn take_line<A: Allocator + Copy>(book: &mut Book<A>, line: &Line) -> Result<(),
 }
 
 /// The answer for an input that is too short to tell what it is: that of a log.
-fn read_short<A: Allocator + Copy>(alloc: A, short: &ShortInput) -> Result<Book<A>, InputFault>
+fn read_short(alloc: Global, short: &ShortInput) -> Result<Book, InputFault>
     requires few { length short.now.bytes.items < 8 }
     requires one { list_any is_lf short.now.bytes.items ≡ false }
     ensures reads { ReadsInput result short.now.bytes.items short.now.ending }

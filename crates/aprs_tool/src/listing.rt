@@ -16,20 +16,19 @@ use crate::line::{put_line, put_text_line};
 use aprs_book::{Book, Heard, Memory, MessageRow, MessageState, Named, Station};
 use aprs_booktext::{Outbox, flush};
 use aprs_kiss::{Counted, WriteFault};
-use std::alloc::{Allocator, Global};
 use std::io::Write;
 
 /// What is listed of a book.
 #[derive(Drop)]
-pub struct Views<'a, A: Allocator = Global> {
-    stations: Vec<Station<'a>, A>,
-    named: Vec<Named<'a>, A>,
-    messages: Vec<MessageRow<'a>, A>,
+pub struct Views<'a> {
+    stations: Vec<Station<'a>>,
+    named: Vec<Named<'a>>,
+    messages: Vec<MessageRow<'a>>,
 }
 
-impl<'a, A: Allocator + Copy> Views<'a, A> {
+impl<'a> Views<'a> {
     /// What is listed of the book.
-    pub fn of(book: &'a Book<A>) -> Result<Views<'a, A>, Memory>
+    pub fn of(book: &'a Book) -> Result<Views<'a>, Memory>
         ensures stations { IfOk result (λ v. TellsStations gap_seconds book.now v.stations.items) }
         ensures named { IfOk result (λ v. TellsNamed gap_seconds book.now v.named.items) }
         ensures messages { IfOk result (λ v. TellsMessages gap_seconds book.now v.messages.items) }
@@ -59,10 +58,10 @@ impl<'a, A: Allocator + Copy> Views<'a, A> {
 }
 
 /// Puts the lines of all.
-fn put_views<W: Write, A: Allocator + Copy>(
+fn put_views<W: Write>(
     w: &mut Counted<W>,
     held: &mut Outbox,
-    views: &Views<'_, A>,
+    views: &Views<'_>,
 ) -> Result<(), WriteFault>
     ensures { PutsText result (W.contents (device_of w.old)) (W.contents (device_of w.new))
         (failures_of w.old) (failures_of w.new) held.old.items held.new.items

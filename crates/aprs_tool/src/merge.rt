@@ -11,7 +11,7 @@ use crate::fault::{InputFault, RunFault};
 use aprs_book::Book;
 use aprs_booktext::write_book;
 use aprs_kiss::Counted;
-use std::alloc::Allocator;
+use std::alloc::Global;
 use std::io::{Read, Write};
 
 /// Writes the text of the book of all inputs' receptions, each input read as by `read_input`.
@@ -19,8 +19,8 @@ use std::io::{Read, Write};
 /// before the first byte is written: where one is refused, its number and fault are reported, no
 /// further one is read, and nothing is written. At `Write` a prefix of the text was written. Never
 /// answers `RunFault::Memory`: want of memory is that of an input.
-pub fn merge_run<R: Read, W: Write, A: Allocator + Copy>(
-    alloc: A,
+pub fn merge_run<R: Read, W: Write>(
+    alloc: Global,
     limit: u64,
     inputs: &mut [Counted<R>],
     w: &mut Counted<W>,
@@ -46,11 +46,11 @@ pub fn merge_run<R: Read, W: Write, A: Allocator + Copy>(
 }
 
 /// The book of all inputs' receptions, or the first input that is refused, with its fault.
-pub(crate) fn read_all<R: Read, A: Allocator + Copy>(
-    alloc: A,
+pub(crate) fn read_all<R: Read>(
+    alloc: Global,
     limit: u64,
     inputs: &mut [Counted<R>],
-) -> Result<Book<A>, (usize, InputFault)>
+) -> Result<Book, (usize, InputFault)>
     requires { limit ≤ 1073741824 }
     ensures reads { OfEach limit (map (λ r. R.remaining (device_of r)) inputs.old)
         (map (λ r. R.remaining (device_of r)) inputs.new) (ReadsEach result) }
