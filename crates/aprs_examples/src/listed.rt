@@ -42,7 +42,8 @@ fn many_rows_are_listed(rt: HostRuntime) -> Result<(), Fail> {
         assert!(rt; message.text == b"Hi".as_slice() && message.addressee == b"WU2Z".as_slice());
         assert!(rt; message.state == MessageState::Unanswered);
         assert!(rt; message.first == message.last);
-        assert!(rt; named[i].is_item && &named[i].name[2..] == digits.as_slice());
+        let name = [b'N', b'R', digits[0], digits[1]];
+        assert!(rt; named[i].is_item && named[i].name == name.as_slice());
     }
     Ok(())
 }
