@@ -1,8 +1,9 @@
 # The commands of this repository. The kit's `rt` does the work.
 PREFIX ?= /usr/local
 PROGRAM = crates/aprsbook/out/aprsbook
+SHARE = $(DESTDIR)$(PREFIX)/share
 
-.PHONY: build run test bench install
+.PHONY: build run test words recipes cookbook bench install
 
 # the program alone, each call of it proved
 build:
@@ -13,12 +14,33 @@ run: build
 	$(PROGRAM) convert text examples/sample.log
 
 # the whole gate: every proof, edit that must fail, test and stored run
-test:
+test: words recipes
 	rt ci
+
+# the manual page and the completions name what the program has
+words:
+	tests/words.sh
+
+# the README's example and the recipes that need only a POSIX system, where a program is there that is
+# newer than its sources
+recipes:
+	@if [ -x $(PROGRAM) ] && [ -z "$$(find crates -name '*.rt' -newer $(PROGRAM))" ]; then \
+	    tests/readme.sh $(PROGRAM) && examples/cookbook.sh --posix $(PROGRAM); \
+	else echo 'left out: the recipes of the cookbook, since no program is built (make build)'; fi
+
+# the README's example, and every recipe of the cookbook whose tools are there
+cookbook: build
+	tests/readme.sh $(PROGRAM)
+	examples/cookbook.sh $(PROGRAM)
 
 bench: build
 	bench/run.sh $(PROGRAM)
 
 install: build
-	install -d $(DESTDIR)$(PREFIX)/bin
+	install -d $(DESTDIR)$(PREFIX)/bin $(SHARE)/man/man1 $(SHARE)/bash-completion/completions \
+	    $(SHARE)/zsh/site-functions $(SHARE)/fish/vendor_completions.d
 	install -m 755 $(PROGRAM) $(DESTDIR)$(PREFIX)/bin/aprsbook
+	install -m 644 man/aprsbook.1 $(SHARE)/man/man1/aprsbook.1
+	install -m 644 completions/aprsbook.bash $(SHARE)/bash-completion/completions/aprsbook
+	install -m 644 completions/_aprsbook $(SHARE)/zsh/site-functions/_aprsbook
+	install -m 644 completions/aprsbook.fish $(SHARE)/fish/vendor_completions.d/aprsbook.fish

@@ -2,17 +2,21 @@
 # Runs the recipes of docs/cookbook.md, in order, on the logs of examples/evening, and says which it left
 # out because a tool isn't there.
 # usage: examples/cookbook.sh [--posix] PROGRAM [FOLDER]
-#        --posix runs those alone that need no tool beyond a POSIX system
+#        --posix runs those alone that need no tool beyond a POSIX system, and passes over the others
 #        FOLDER, a new one, keeps what they make; otherwise it is thrown away
 #
 # A recipe is a block that begins with ```sh. The words after sh are the tools that it needs beyond those
-# of a POSIX system; `show` stands for that command of the program.
+# of a POSIX system.
 set -euo pipefail
 export LC_ALL=C
 posix=
-if [ "$1" = --posix ]; then
+if [ "${1:-}" = --posix ]; then
     posix=yes
     shift
+fi
+if [ $# = 0 ]; then
+    echo "usage: cookbook.sh [--posix] PROGRAM [FOLDER]" >&2
+    exit 2
 fi
 program=$(realpath "$1")
 here=$(dirname "$(realpath "$0")")
@@ -48,18 +52,15 @@ awk -v to="$scratch/blocks/" '
     open { print > file }
 ' "$here/../docs/cookbook.md"
 
-is_there() {
-    case $1 in
-    show) aprsbook show < /dev/null > /dev/null 2>&1 ;;
-    *) [ -z "$posix" ] && command -v "$1" > /dev/null ;;
-    esac
-}
-
 ran=0 left=0
 for block in "$scratch"/blocks/*; do
     heading=$(sed -n 1p "$block")
+    read -ra tools <<< "$(sed -n 2p "$block")"
+    if [ -n "$posix" ] && [ "${#tools[@]}" -gt 0 ]; then
+        continue
+    fi
     missing=
-    for tool in $(sed -n 2p "$block"); do is_there "$tool" || missing="$missing $tool"; done
+    for tool in "${tools[@]}"; do command -v "$tool" > /dev/null || missing="$missing $tool"; done
     if [ -n "$missing" ]; then
         echo "left out: $heading (needs$missing)"
         left=$((left + 1))

@@ -156,6 +156,7 @@ module _ {K M : Type 0} (shown : K → M) (C : M → M → Ordering) where
 -- ---- one row more
 
 pub record Adds (rows : List Row) (x : Row) (more : List Row) : Type 0 where
+  pub last : more ≡ rows ++ x ∷ []
   pub to : (y : Row) → y ∈ more → (y ∈ rows) ⊎ (x ≡ y)
   pub old : (y : Row) → y ∈ rows → y ∈ more
   pub new : x ∈ more
@@ -246,6 +247,7 @@ pub record SoFar (P : List Row → Type 0) (all rest : List Row) : Type 0 where
 
 adds_last : (rows : List Row) (x : Row) → Adds rows x (rows ++ x ∷ [])
 adds_last rows x = record {
+  last = refl;
   to = λ y h. elim (in_either y rows (x ∷ []) h) [
     | inl i ↦ inl i
     | inr j ↦ elim j [ inl s ↦ inr s | inr k ↦ absurd k ]

@@ -1,5 +1,5 @@
 -- Entries that all have rows, and rows behind those of all entries.
-use Rattle.std.proofs.Common.{◌≡◌, ◌∙◌, ℕ, ◌<◌, ◌-◌, suc, List, [], ◌∷◌, ◌++◌, Some, None, Result, Ok, Err, OnOk, OnErr, inl, inr, true, false, length, length-append, refl, sym, ap, subst, arith, append_assoc, append-nil}
+use Rattle.std.proofs.Common.{◌≡◌, ◌∙◌, ℕ, ◌<◌, ◌≤◌, ◌+◌, ◌-◌, suc, List, [], ◌∷◌, ◌++◌, Some, None, Result, Ok, Err, OnOk, OnErr, inl, inr, true, false, length, length-append, refl, sym, ap, subst, arith, append_assoc, append-nil}
 use Rattle.std.specs.List.{slice_get, flat_map, AllByRecursion}
 use Rattle.std.specs.List.Sorted.{IsStrictlySortedBy}
 use Rattle.std.specs.Map.{keys_of, values_of, lookup, set_value}
@@ -38,6 +38,16 @@ module _ {K V : Type 0} (bytes : K → List ℕ) (rows : V → List Row) where
   rows_of_values [] = refl
   rows_of_values (e ∷ es) = ap (λ t. rows e.1 ++ t) (rows_of_values es)
 
+  -- the rows of entries that stay
+  pub stays : (es es' : List (K × V)) (old : List Row) → es' ≡ es → rows_of bytes rows es ≡ old
+      → rows_of bytes rows es' ≡ old
+  stays es es' old same e = ap (rows_of bytes rows) same ∙ e
+
+  pub err_stays : {A E : Type 0} (r : Result A E) (es es' : List (K × V)) (old : List Row) → es' ≡ es
+      → rows_of bytes rows es ≡ old → OnErr r (rows_of bytes rows es' ≡ old)
+  err_stays (Ok _) es es' old same e = tt
+  err_stays (Err _) es es' old same e = stays es es' old same e
+
   pub filled_set : (k : List ℕ) (es : List (K × V)) (new : V) → AreFilled bytes rows es
       → 0 < length (rows new) → AreFilled bytes rows (set_value (test bytes rows k) es new)
   filled_set k [] new h s = tt
@@ -55,6 +65,76 @@ module _ {K V : Type 0} (bytes : K → List ℕ) (rows : V → List Row) where
       (λ o. rw o (s, h))
       (λ o. rw o (s, h.1))
       (λ o. rw o (h.0, filled_insert k es new h.1 s))
+
+  -- ---- how many rows there are
+
+  -- where a key's rows are written back
+  pub set_length : (k : List ℕ) (es : List (K × V)) (old new : V)
+      → Some old ≡ lookup (test bytes rows k) es
+      → length (rows_of bytes rows (set_value (test bytes rows k) es new)) + length (rows old)
+      ≡ length (rows_of bytes rows es) + length (rows new)
+  set_length k [] old new found = absurd (cc)
+  set_length k (e ∷ es) old new found =
+      let whole = length-append (rows e.1) (rows_of bytes rows es) in
+      let behind =
+      length-append (rows e.1) (rows_of bytes rows (set_value (test bytes rows k) es new)) in
+      by_order (bytes_cmp k (bytes e.0))
+      (λ o. rw o (omega (arith, whole, behind, set_length k es old new (rw o at found))))
+      (λ o.
+      let f : Some old ≡ Some e.1 = rw o at found in
+      let same : old ≡ e.1 = cc in
+      rw (o, same) (omega (arith, whole, length-append (rows new) (rows_of bytes rows es))))
+      (λ o. rw o (omega (arith, whole, behind, set_length k es old new (rw o at found))))
+
+  -- where a new key gets rows
+  pub insert_length : (k : K) (es : List (K × V)) (new : V)
+      → None ≡ lookup (test bytes rows (bytes k)) es
+      → length (rows_of bytes rows (insert_entry (order bytes rows) es k new))
+      ≡ length (rows_of bytes rows es) + length (rows new)
+  insert_length k [] new found =
+      omega (arith, length-append (rows new) [])
+  insert_length k (e ∷ es) new found =
+      let whole = length-append (rows e.1) (rows_of bytes rows es) in
+      by_order (bytes_cmp (bytes k) (bytes e.0))
+      (λ o. rw o (omega (arith, length-append (rows new) (rows_of bytes rows (e ∷ es)))))
+      (λ o. absurd (let f : None ≡ Some e.1 = rw o at found in cc))
+      (λ o. rw o (omega (
+        arith,
+        whole,
+        insert_length k es new (rw o at found),
+        length-append (rows e.1) (rows_of bytes rows (insert_entry (order bytes rows) es k new)),
+      )))
+
+  pub found_length : (k : List ℕ) (es : List (K × V)) (old : V)
+      → Some old ≡ lookup (test bytes rows k) es → length (rows old) ≤ length (rows_of bytes rows es)
+  found_length k [] old found = absurd (cc)
+  found_length k (e ∷ es) old found =
+      let whole = length-append (rows e.1) (rows_of bytes rows es) in
+      by_order (bytes_cmp k (bytes e.0))
+      (λ o. omega (arith, whole, found_length k es old (rw o at found)))
+      (λ o.
+      let f : Some old ≡ Some e.1 = rw o at found in
+      let same : old ≡ e.1 = cc in
+      rw same (omega (arith, whole)))
+      (λ o. omega (arith, whole, found_length k es old (rw o at found)))
+
+  -- the count goes with a key's rows
+  pub count_set : (k : List ℕ) (es es' : List (K × V)) (old new : V) (count more : ℕ)
+      → Some old ≡ lookup (test bytes rows k) es → es' ≡ set_value (test bytes rows k) es new
+      → count ≡ length (rows_of bytes rows es)
+      → more + length (rows old) ≡ count + length (rows new)
+      → more ≡ length (rows_of bytes rows es')
+  count_set k es es' old new count more found written all counted =
+      rw written (omega (arith, set_length k es old new found, all, counted))
+
+  pub count_insert : (k : List ℕ) (es es' : List (K × V)) (key : K) (new : V) (none : List Row)
+      (count more : ℕ) → None ≡ lookup (test bytes rows k) es → bytes key ≡ k → none ≡ []
+      → es' ≡ insert_entry (order bytes rows) es key new → count ≡ length (rows_of bytes rows es)
+      → more + length none ≡ count + length (rows new) → more ≡ length (rows_of bytes rows es')
+  count_insert k es es' key new none count more found own empty written all counted =
+      let absent =
+      subst (λ (t : List ℕ). None ≡ lookup (test bytes rows t) es) (sym own) found in
+      rw written (omega (arith, insert_length key es new absent, all, counted, ap length empty))
 
   pub filled_found : (k : List ℕ) (es : List (K × V)) (old : V) → AreFilled bytes rows es
       → lookup (test bytes rows k) es ≡ Some old → 0 < length (rows old)

@@ -1,13 +1,17 @@
--- What an index knows after one more reception, one more row, or a merge.
-use Rattle.std.proofs.Common.{Bool, List, [], ◌∷◌, ◌++◌, Option, None, Some, map, inl, inr, sym, subst, ℕ, ◌<◌}
+-- What the indexes know after one more reception, one more row, or a merge.
+use Rattle.std.proofs.Common.{◌≡◌, ◌∙◌, Bool, true, false, ◌&&◌, if◌then◌else◌, List, [], ◌∷◌, ◌++◌, Option, None, Some, map, inl, inr, refl, sym, ap, subst, ℕ, ◌<◌}
+use Rattle.std.proofs.Math.Bool.{and-false, and-true}
 use Rattle.std.proofs.lemmas.Cmp.{upto}
 use Rattle.std.proofs.lemmas.List.{map-append}
-use Rattle.aprs_log.specs.Reception.{Heard}
+use Rattle.std.specs.Ordering.{is_eq}
+use Rattle.aprs_ax25.specs.Callsign.{Call, call_cmp}
+use Rattle.aprs_log.specs.Reception.{Heard, bytes_cmp}
+use Rattle.aprs_report.specs.Reading.{Value, position, object, item, message, ack, rej, status, raw}
 use Rattle.aprs_laws.specs.Lists.{◌∈◌}
 use Rattle.aprs_laws.specs.Key.{Key, key_of}
-use Rattle.aprs_laws.specs.Row.{Row}
+use Rattle.aprs_laws.specs.Row.{Row, row_key}
 use Rattle.aprs_laws.specs.JoinRow.{greater}
-use Rattle.aprs_laws.specs.Inserted.{inserted}
+use Rattle.aprs_laws.specs.Inserted.{inserted, FitsInPlace}
 use Rattle.aprs_laws.specs.Sound.{Sound}
 use Rattle.aprs_laws.specs.Real.{real}
 use Rattle.aprs_laws.specs.Joining.{Joined}
@@ -19,12 +23,12 @@ use Rattle.aprs_laws.proofs.Inserts.{inserted_is_book}
 use Rattle.aprs_laws.proofs.Joins.{is_greater_of}
 use Rattle.aprs_laws.proofs.Orders.{heard_total}
 use Rattle.aprs_laws.proofs.Known.{rows_know, set_knows, known_last}
+use Rattle.aprs_book.specs.declared.told.Told.{Told}
+use Rattle.aprs_book.specs.Reports.{report_of, is_position, is_status, is_object, is_item, is_from, tells_position, tells_status, tells_object, tells_item, without_spaces}
 use Rattle.aprs_book.specs.LastKnown.{IsLastKnown, greatest_of}
-
--- the greater of what two sets know
-abbrev pub known_both : Option Heard → Option Heard → Option Heard
-known_both known None = known
-known_both known (Some g) = Some (greater_known known g)
+use Rattle.aprs_book.specs.Known.{FourIndexes, Topic, positions, statuses, objects, items, index_of, known_at, known_both, is_told, tells_at, told_by, told_in, told_at, call_bytes, AreIndexesOf, SameKnown, HaveEntries}
+use Rattle.aprs_book.proofs.KeyBytes.{call_bytes_cmp}
+use Rattle.aprs_book.proofs.KnownSteps.{entry_there, same_as_itself}
 
 -- the receptions of a row are of its greatest's key: what the rows know the book's set knows
 pub takes_note : (gap : ℕ) → 0 < gap → (x : Heard) (old : List Row) (test : Key → Bool) (known : Option Heard)
@@ -98,3 +102,160 @@ pushes_note old r test known h =
     subst (λ (t : List Heard). LastKnown t (Passes test) (known_after test known r.greatest))
     (sym (map-append greatest_of old (r ∷ [])))
     (known_last test r.greatest (map greatest_of old) known h)
+
+-- ---- the four indexes
+
+pub same_indexes : (rows : List Row) (old new : FourIndexes) → AreIndexesOf rows old → SameKnown old new
+    → AreIndexesOf rows new
+same_indexes rows old new h same = λ topic bytes.
+    subst (LastKnown (map greatest_of rows) (Passes (tells_at (told_in topic) bytes)))
+    (sym (same topic bytes)) (h topic bytes)
+
+-- what a reception tells of is noted
+abbrev pub Noted : Told → Heard → FourIndexes → FourIndexes → Type 0
+Noted t x old new = (topic : Topic) (bytes : List ℕ)
+    → known_at bytes (index_of topic new) ≡ (if is_told bytes (told_at topic t)
+    then Some (greater_known (known_at bytes (index_of topic old)) x)
+    else known_at bytes (index_of topic old))
+
+abbrev pub IsTold : Told → Key → Type 0
+IsTold t k = (topic : Topic) → told_at topic t ≡ told_in topic k
+
+noted_known : (t : Told) (x : Heard) (i j k : FourIndexes) → IsTold t (key_of x.frame) → SameKnown i j
+    → Noted t x j k → (topic : Topic) (bytes : List ℕ)
+    → known_after (tells_at (told_in topic) bytes) (known_at bytes (index_of topic i)) x
+    ≡ known_at bytes (index_of topic k)
+noted_known t x i j k told same noted topic bytes =
+    sym (noted topic bytes
+    ∙ ap (λ o. if is_told bytes o then Some (greater_known (known_at bytes (index_of topic j)) x) else known_at bytes (index_of topic j)) (told topic)
+    ∙ ap (λ n. if is_told bytes (told_in topic (key_of x.frame)) then Some (greater_known n x) else n) (same topic bytes))
+
+pub takes_indexes : (gap : ℕ) → 0 < gap → (t : Told) (x : Heard) (rows new : List Row)
+    (i j k : FourIndexes) → Sound gap rows → AreIndexesOf rows i → IsTold t (key_of x.frame)
+    → SameKnown i j → Noted t x j k → new ≡ inserted gap x rows → AreIndexesOf new k
+takes_indexes gap pos t x rows new i j k w h told same noted made = λ topic bytes.
+    subst (λ (r : List Row). LastKnown (map greatest_of r) (Passes (tells_at (told_in topic) bytes)) (known_at bytes (index_of topic k)))
+    (sym made)
+    (subst (LastKnown (map greatest_of (inserted gap x rows)) (Passes (tells_at (told_in topic) bytes)))
+    (noted_known t x i j k told same noted topic bytes)
+    (takes_note gap pos x rows (tells_at (told_in topic) bytes) (known_at bytes (index_of topic i)) w
+    (h topic bytes)))
+
+pub pushes_indexes : (t : Told) (r : Row) (rows new : List Row) (i j k : FourIndexes)
+    → AreIndexesOf rows i → IsTold t (row_key r) → SameKnown i j → Noted t r.greatest j k
+    → new ≡ rows ++ r ∷ [] → AreIndexesOf new k
+pushes_indexes t r rows new i j k h told same noted made = λ topic bytes.
+    subst (λ (q : List Row). LastKnown (map greatest_of q) (Passes (tells_at (told_in topic) bytes)) (known_at bytes (index_of topic k)))
+    (sym made)
+    (subst (LastKnown (map greatest_of (rows ++ r ∷ [])) (Passes (tells_at (told_in topic) bytes)))
+    (noted_known t r.greatest i j k told same noted topic bytes)
+    (pushes_note rows r (tells_at (told_in topic) bytes) (known_at bytes (index_of topic i))
+    (h topic bytes)))
+
+pub merges_indexes : (gap : ℕ) → 0 < gap → (a b c : List Row) (i j k : FourIndexes) → Sound gap a
+    → Sound gap b → Joined gap a b c → AreIndexesOf a i → AreIndexesOf b j
+    → ((topic : Topic) (bytes : List ℕ) → known_at bytes (index_of topic k)
+    ≡ known_both (known_at bytes (index_of topic i)) (known_at bytes (index_of topic j)))
+    → AreIndexesOf c k
+merges_indexes gap pos a b c i j k v w joined h g both = λ topic bytes.
+    subst (LastKnown (map greatest_of c) (Passes (tells_at (told_in topic) bytes)))
+    (sym (both topic bytes))
+    (merges_notes gap pos a b c (tells_at (told_in topic) bytes) (known_at bytes (index_of topic i))
+    (known_at bytes (index_of topic j)) v w joined (h topic bytes) (g topic bytes))
+
+-- what fits in place has its entries: a row that is near tells of the same
+pub near_entries : (gap : ℕ) (t : Told) (x : Heard) (rows : List Row) (i : FourIndexes)
+    → AreIndexesOf rows i → IsTold t (key_of x.frame) → FitsInPlace gap rows x → HaveEntries t i
+near_entries gap t x rows i h told f = λ topic bytes e.
+    entry_there (told_in topic) rows (index_of topic i) bytes f.row (h topic) f.member
+    (ap (λ k. is_told bytes (told_in topic k)) f.near.key
+    ∙ ap (is_told bytes) (sym (told topic) ∙ e) ∙ same_as_itself bytes)
+
+-- ---- what reports tell of
+
+told_position : (call : Call) (v : Value)
+    → told_by positions call v ≡ (if is_position v then Some (call_bytes call) else None)
+told_position call (position messaging stamp place symbol comment) = refl
+told_position call (object name live stamp place symbol comment) = refl
+told_position call (item name live place symbol comment) = refl
+told_position call (message addressee text id) = refl
+told_position call (ack addressee id) = refl
+told_position call (rej addressee id) = refl
+told_position call (status stamp text) = refl
+told_position call raw = refl
+
+told_status : (call : Call) (v : Value)
+    → told_by statuses call v ≡ (if is_status v then Some (call_bytes call) else None)
+told_status call (position messaging stamp place symbol comment) = refl
+told_status call (object name live stamp place symbol comment) = refl
+told_status call (item name live place symbol comment) = refl
+told_status call (message addressee text id) = refl
+told_status call (ack addressee id) = refl
+told_status call (rej addressee id) = refl
+told_status call (status stamp text) = refl
+told_status call raw = refl
+
+told_object : (wanted : List ℕ) (call : Call) (v : Value)
+    → is_told wanted (told_by objects call v) ≡ is_object wanted v
+told_object wanted call (position messaging stamp place symbol comment) = refl
+told_object wanted call (object name live stamp place symbol comment) = refl
+told_object wanted call (item name live place symbol comment) = refl
+told_object wanted call (message addressee text id) = refl
+told_object wanted call (ack addressee id) = refl
+told_object wanted call (rej addressee id) = refl
+told_object wanted call (status stamp text) = refl
+told_object wanted call raw = refl
+
+told_item : (wanted : List ℕ) (call : Call) (v : Value)
+    → is_told wanted (told_by items call v) ≡ is_item wanted v
+told_item wanted call (position messaging stamp place symbol comment) = refl
+told_item wanted call (object name live stamp place symbol comment) = refl
+told_item wanted call (item name live place symbol comment) = refl
+told_item wanted call (message addressee text id) = refl
+told_item wanted call (ack addressee id) = refl
+told_item wanted call (rej addressee id) = refl
+told_item wanted call (status stamp text) = refl
+told_item wanted call raw = refl
+
+-- ---- what is looked up
+
+-- an index by bytes tells what a test of keys tells
+pub by_bytes : (gap : ℕ) (rows : List Row) (test : Key → Bool) (topic : Topic) (bytes : List ℕ)
+    (i : FourIndexes) (known : Option Heard) → AreIndexesOf rows i
+    → ((k : Key) → tells_at (told_in topic) bytes k ≡ test k) → known ≡ known_at bytes (index_of topic i)
+    → IsLastKnown gap rows test known
+by_bytes gap rows test topic bytes i known h same is =
+    let alike : tells_at (told_in topic) bytes ≡ test = λ j k. same k j in
+    entry_tells gap rows test known
+    (subst (LastKnown (map greatest_of rows) (Passes test)) (sym is)
+    (subst (λ (p : Key → Bool). LastKnown (map greatest_of rows) (Passes p) (known_at bytes (index_of topic i))) alike
+    (h topic bytes)))
+
+call_same : (a b : Call) → is_eq (bytes_cmp (call_bytes a) (call_bytes b)) ≡ is_eq (call_cmp a b)
+call_same a b = ap is_eq (call_bytes_cmp a b)
+
+of_call : (own : Bool) (call : Call) (k : Key)
+    → is_told (call_bytes call) (if own then Some (call_bytes k.source) else None)
+    ≡ is_from call k && own
+of_call true call k = call_same k.source call ∙ sym (and-true (is_from call k))
+of_call false call k = sym (and-false (is_from call k))
+
+pub tells_of_position : (call : Call) (k : Key)
+    → tells_at (told_in positions) (call_bytes call) k ≡ tells_position call k
+tells_of_position call k =
+    ap (is_told (call_bytes call)) (told_position k.source (report_of k))
+    ∙ of_call (is_position (report_of k)) call k
+
+pub tells_of_status : (call : Call) (k : Key)
+    → tells_at (told_in statuses) (call_bytes call) k ≡ tells_status call k
+tells_of_status call k =
+    ap (is_told (call_bytes call)) (told_status k.source (report_of k))
+    ∙ of_call (is_status (report_of k)) call k
+
+pub tells_of_object : (name : List ℕ) (k : Key)
+    → tells_at (told_in objects) (without_spaces name) k ≡ tells_object name k
+tells_of_object name k = told_object (without_spaces name) k.source (report_of k)
+
+pub tells_of_item : (name : List ℕ) (k : Key)
+    → tells_at (told_in items) (without_spaces name) k ≡ tells_item name k
+tells_of_item name k = told_item (without_spaces name) k.source (report_of k)

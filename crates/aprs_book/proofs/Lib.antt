@@ -5,6 +5,7 @@ mod KeyBytes
 mod IndexSteps
 mod MergedKeys
 mod Entries
+mod Searches
 mod EntryEnds
 mod MergedEntries
 pub mod Names

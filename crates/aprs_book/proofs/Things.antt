@@ -1,34 +1,32 @@
--- The objects and items of rows.
-use Rattle.std.proofs.Common.{◌≡◌, ◌∙◌, ℕ, Bool, true, false, List, [], ◌∷◌, ◌↔◌, Option, Some, None, sym, ap, refl, subst, inl, inr, Bor, Result, Ok, Err, IfOk}
-use Rattle.std.specs.Option.{option_map}
-use Rattle.std.specs.Map.{lookup, keys_of}
-use Rattle.std.specs.BTreeMap.{is_at, insert_entry}
-use Rattle.std.specs.List.Sorted.{IsStrictlySortedBy}
+-- The objects and items that the indexes know.
+use Rattle.std.proofs.Common.{◌≡◌, ◌∙◌, ℕ, Bool, true, false, List, [], ◌∷◌, ◌++◌, map, Option, Some, None, sym, ap, refl, subst, inl, inr}
+use Rattle.std.specs.Prelude.{IsTrue}
 use Rattle.std.specs.Cmp.{IsTotalOrder, bool_cmp_total}
-use Rattle.std.specs.Ordering.{ordering_then, bool_cmp}
-use Rattle.std.specs.declared.cmp.Ordering.{Ordering}
-use Rattle.std.proofs.lemmas.Cmp.{upto, on_total, then_total}
+use Rattle.std.specs.Ordering.{is_eq, ordering_then, bool_cmp}
+use Rattle.std.proofs.lemmas.Cmp.{tied_itself, on_total, then_total}
 use Rattle.std.proofs.lemmas.Map.Lookups.{CmpEqualImpliesEq, exact_pairs}
-use Rattle.aprs_log.specs.Reception.{Heard, bytes_cmp, heard_cmp}
+use Rattle.aprs_ax25.specs.Callsign.{Call}
+use Rattle.aprs_log.specs.Reception.{Heard, bytes_cmp}
+use Rattle.aprs_report.specs.Reading.{Value, position, object, item, message, ack, rej, status, raw}
 use Rattle.aprs_laws.specs.Lists.{◌∈◌, Ordered}
-use Rattle.aprs_laws.specs.Order.{IsBelow, IsUpTo}
-use Rattle.aprs_laws.specs.Key.{key_of}
-use Rattle.aprs_laws.specs.Row.{Row, row_key}
+use Rattle.aprs_laws.specs.Order.{IsBelow}
+use Rattle.aprs_laws.specs.Key.{Key, key_of}
+use Rattle.aprs_laws.specs.Row.{Row}
 use Rattle.aprs_laws.specs.Book.{BookOf}
-use Rattle.aprs_laws.specs.Best.{IsBest, greater_known}
-use Rattle.aprs_laws.specs.JoinRow.{greater}
-use Rattle.aprs_laws.proofs.Joins.{is_greater_of}
-use Rattle.aprs_laws.proofs.Orders.{bytes_total, bytes_exact, heard_total, up_to_itself}
-use Rattle.aprs_laws.proofs.Views.{a_row, best_of_rows}
-use Rattle.aprs_book.specs.declared.named.NameKey.{NameKey}
+use Rattle.aprs_laws.specs.Best.{IsBest, LastKnown}
+use Rattle.aprs_laws.specs.BestLaws.{Passes}
+use Rattle.aprs_laws.proofs.Lists.{in_left, in_right, in_either, in_map, from_map}
+use Rattle.aprs_laws.proofs.Orders.{bytes_total, bytes_exact}
 use Rattle.aprs_book.specs.declared.named.Named.{Named}
-use Rattle.aprs_book.specs.Names.{Thing, thing_cmp, TellsOf, shown_thing, IsNamedBefore, AreNamed, TellsNamed}
-use Rattle.aprs_book.specs.NamedRows.{thing_of, IsGreatestOf, IsNamedEntry, AreNames, IsNameBefore, IsNamedRow}
-use Rattle.aprs_book.specs.MessageRows.{Zipped}
-use Rattle.aprs_book.proofs.Listings.{in_zip_right, in_zip_left}
-use Rattle.aprs_book.proofs.Collected.{cmp_of, in_order, found, absent, Adds, passed, put_by, same_lookup}
+use Rattle.aprs_book.specs.Reports.{report_of}
+use Rattle.aprs_book.specs.Names.{Thing, thing_told, thing_cmp, TellsOf, shown_thing, IsNamedBefore, AreNamed, TellsNamed}
+use Rattle.aprs_book.specs.NamedRows.{shown_report, report_in, reports_in}
+use Rattle.aprs_book.specs.Known.{Entries, FourIndexes, Topic, objects, items, index_of, entry_at, entry_known, known_at, is_told, tells_at, told_by, told_in, IsEntryBefore, AreIndexesOf}
+use Rattle.aprs_book.proofs.Collected.{found, absent, one_entry}
+use Rattle.aprs_book.proofs.IndexSteps.{entry_tells}
+use Rattle.aprs_book.proofs.Places.{by_order}
 
-pub thing_total : IsTotalOrder thing_cmp
+thing_total : IsTotalOrder thing_cmp
 thing_total =
     then_total (on_total (λ (t : Thing). t.is_item) bool_cmp_total)
     (on_total (λ (t : Thing). t.name) bytes_total)
@@ -39,159 +37,284 @@ bool_exact false false h = refl
 bool_exact true false h = absurd (cc)
 bool_exact false true h = absurd (cc)
 
-pub thing_exact : CmpEqualImpliesEq thing_cmp
+thing_exact : CmpEqualImpliesEq thing_cmp
 thing_exact a b h =
     ap (λ (p : Bool × List ℕ). record { is_item = p.0; name = p.1 })
-    (exact_pairs bool_cmp bytes_cmp bool_exact bytes_exact (a.is_item, a.name) (b.is_item, b.name) h)
+    (exact_pairs bool_cmp bytes_cmp bool_exact bytes_exact (a.is_item, a.name)
+    (b.is_item, b.name) h)
 
-module _ (rows more : List Row) (x : Row) (adds : Adds rows x more) (a : Thing) where
-  abbrev pub Q : Row → Type 0
-  Q y = TellsOf a (row_key y)
+-- ---- what tells of a thing
 
-  pub name_stays : (g : Heard) → (Q x → ⊥) → IsGreatestOf rows a g → IsGreatestOf more a g
-  name_stays g n t = record {
-    row = (t.row.0, adds.old t.row.0 t.row.1, t.row.2, t.row.3);
-    greatest = λ y h p. elim (adds.to y h) [
-      | inl j ↦ t.greatest y j p
-      | inr e ↦ absurd (n (subst Q (sym e) p))
-    ];
-  }
+abbrev topic_of : Bool → Topic
+topic_of false = objects
+topic_of true = items
 
-  pub name_begins : Q x → ((y : Row) → y ∈ rows → Q y → ⊥) → IsGreatestOf more a x.greatest
-  name_begins p n = record {
-    row = (x, adds.new, p, refl);
-    greatest = λ y h q. elim (adds.to y h) [
-      | inl j ↦ absurd (n y j q)
-      | inr e ↦ subst (λ (t : Row). IsUpTo heard_cmp t.greatest x.greatest) e
-          (up_to_itself heard_total x.greatest)
-    ];
-  }
+abbrev thing : Bool → List ℕ → Thing
+thing is_item name = record { is_item = is_item; name = name }
 
-  pub name_grows : (g : Heard) → Q x → IsGreatestOf rows a g
-      → IsGreatestOf more a (greater g x.greatest)
-  name_grows g p t = let c = is_greater_of g x.greatest in record {
-    row = elim c.one [
-      | inl e ↦ (t.row.0, adds.old t.row.0 t.row.1, t.row.2, t.row.3 ∙ sym e)
-      | inr e ↦ (x, adds.new, p, sym e)
-    ];
-    greatest = λ y h q. elim (adds.to y h) [
-      | inl j ↦ upto heard_total y.greatest g (greater g x.greatest) (t.greatest y j q) c.left
-      | inr e ↦ subst (λ (u : Row). IsUpTo heard_cmp u.greatest (greater g x.greatest)) e c.right
-    ];
-  }
+abbrev is_that : Thing → Option Thing → Bool
+is_that t None = false
+is_that t (Some u) = is_eq (thing_cmp u t)
 
-abbrev pub names_cmp : NameKey → NameKey → Ordering
-names_cmp = cmp_of thing_of thing_cmp
+that_one : (t : Thing) (o : Option Thing) → is_that t o ≡ true → o ≡ Some t
+that_one t None h = absurd (cc)
+that_one t (Some u) h =
+    by_order (thing_cmp u t)
+    (λ o. absurd (let f : false ≡ true = sym (ap is_eq o) ∙ h in cc))
+    (λ o. ap Some (thing_exact u t o))
+    (λ o. absurd (let f : false ≡ true = sym (ap is_eq o) ∙ h in cc))
 
-module _ (rows more : List Row) (x : Row) (adds : Adds rows x more)
-    (es : List (NameKey × Bor Heard)) (c : AreNames rows es) where
-  pub names_passed : ((a : Thing) → TellsOf a (row_key x) → ⊥) → AreNames more es
-  names_passed n =
-      passed thing_of thing_cmp thing_total thing_exact TellsOf IsNamedEntry rows
-      more x adds
-      (λ a v. name_stays rows more x adds a v.now) es c n
+is_itself : (t : Thing) (o : Option Thing) → o ≡ Some t → is_that t o ≡ true
+is_itself t o e = ap (is_that t) e ∙ ap is_eq (tied_itself thing_total t)
 
-  name_there : (k : NameKey) → TellsOf (thing_of k) (row_key x) → (known : Option (Bor Heard))
-      → lookup (is_at (names_cmp k)) es ≡ known
-      → IsGreatestOf more (thing_of k)
-      (greater_known (option_map (λ (b : Bor Heard). b.now) known) x.greatest)
-  name_there k q None h =
-      name_begins rows more x adds (thing_of k) q
-      (λ y j p. let t = c.every y j (thing_of k) p in
-      absent thing_of thing_cmp thing_total thing_exact k es h t.0 t.1 (sym t.2))
-  name_there k q (Some s) h =
-      let f = found thing_of thing_cmp thing_total thing_exact k s es h in
-      name_grows rows more x adds (thing_of k) s.now q
-      (subst (λ (v : Bor Heard). IsGreatestOf rows (thing_of k) v.now) f.3
-      (subst (λ (t : Thing). IsGreatestOf rows t f.0.1.now) (sym f.2) (c.each f.0 f.1)))
+told_alike : (is_item : Bool) (name : List ℕ) (call : Call) (v : Value)
+    → is_told name (told_by (topic_of is_item) call v) ≡ is_that (thing is_item name) (thing_told v)
+told_alike false name call (position messaging stamp place symbol comment) = refl
+told_alike false name call (object other live stamp place symbol comment) = refl
+told_alike false name call (item other live place symbol comment) = refl
+told_alike false name call (message addressee text id) = refl
+told_alike false name call (ack addressee id) = refl
+told_alike false name call (rej addressee id) = refl
+told_alike false name call (status stamp text) = refl
+told_alike false name call raw = refl
+told_alike true name call (position messaging stamp place symbol comment) = refl
+told_alike true name call (object other live stamp place symbol comment) = refl
+told_alike true name call (item other live place symbol comment) = refl
+told_alike true name call (message addressee text id) = refl
+told_alike true name call (ack addressee id) = refl
+told_alike true name call (rej addressee id) = refl
+told_alike true name call (status stamp text) = refl
+told_alike true name call raw = refl
 
-  pub names_put : (R : NameKey → NameKey → Ordering) → ((a b : NameKey) → R a b ≡ names_cmp a b) → (k : NameKey)
-      (v : Bor Heard) (new : List (NameKey × Bor Heard))
-      → ((a : Thing) → TellsOf a (row_key x) ↔ (Some (thing_of k) ≡ Some a))
-      → v.now ≡ greater_known (option_map (λ (b : Bor Heard). b.now) (lookup (is_at (R k)) es)) x.greatest
-      → new ≡ insert_entry R es k v → IsStrictlySortedBy R (keys_of new)
-      → AreNames more new
-  names_put R same k v new q e n sorted =
-      put_by thing_of thing_cmp thing_total thing_exact TellsOf IsNamedEntry rows
-      more x adds
-      (λ a v. name_stays rows more x adds a v.now) es c R
-      same k v new n sorted
-      (λ a p. unwrapped (thing_of k) a ((q a).0 p))
-      (subst (IsGreatestOf more (thing_of k))
-      (sym (e ∙ ap (λ t. greater_known (option_map (λ (b : Bor Heard). b.now) t) x.greatest)
-      (same_lookup thing_of thing_cmp R same k es)))
-      (name_there k ((q (thing_of k)).1 refl) (lookup (is_at (names_cmp k)) es) refl)) where
-        unwrapped : (a b : Thing) → Some a ≡ Some b → a ≡ b
-        unwrapped a b h = cc
+-- what the index of objects or of items tells by
+abbrev tells_thing : Thing → Key → Bool
+tells_thing t = tells_at (told_in (topic_of t.is_item)) t.name
 
-bools_alike : (x y : NameKey)
-    → ordering_then (bool_cmp x.is_item y.is_item) (bytes_cmp x.name.now y.name.now)
-    ≡ thing_cmp (thing_of x) (thing_of y)
-bools_alike x y = refl
+tells_of : (t : Thing) (k : Key) → IsTrue (tells_thing t k) → TellsOf t k
+tells_of t k h =
+    that_one t (thing_told (report_of k))
+    (sym (told_alike t.is_item t.name k.source (report_of k)) ∙ h)
 
-pub names_alike : (x y : NameKey)
-    → ordering_then (bool_cmp x.is_item y.is_item) (bytes_cmp x.name.now y.name.now) ≡ names_cmp x y
-names_alike x y = refl
+tells_by : (t : Thing) (k : Key) → TellsOf t k → IsTrue (tells_thing t k)
+tells_by t k e =
+    told_alike t.is_item t.name k.source (report_of k)
+    ∙ is_itself t (thing_told (report_of k)) e
 
-pub ascending_names : (R : NameKey → NameKey → Ordering) → ((a b : NameKey) → R a b ≡ names_cmp a b)
-    → (es : List (NameKey × Bor Heard)) → IsStrictlySortedBy R (keys_of es) → Ordered IsNameBefore es
-ascending_names R same es s =
-    let p : R ≡ names_cmp = λ j a b. same a b j in
-    in_order thing_of thing_cmp es
-    (subst (λ (Q : NameKey → NameKey → Ordering). IsStrictlySortedBy Q (keys_of es)) p s)
+-- ---- entries
 
--- ---- of a set
+abbrev itself : List ℕ → List ℕ
+itself bytes = bytes
 
-rows_in_order : (es : List (NameKey × Bor Heard)) (xs : List Named) → Zipped IsNamedRow es xs
-    → Ordered IsNameBefore es → Ordered IsNamedBefore xs
-rows_in_order [] [] z o = tt
-rows_in_order [] (x ∷ xs) z o = absurd z
-rows_in_order (e ∷ es) [] z o = absurd z
-rows_in_order (e ∷ es) (x ∷ xs) z o = (
-  λ y h. (let f = in_zip_right IsNamedRow es xs y z.1 h in
-      subst (λ (t : Thing). IsBelow thing_cmp t (shown_thing y)) (sym z.0.thing)
-      (subst (λ (t : Thing). IsBelow thing_cmp (thing_of e.0) t) (sym f.2.thing) (o.0 f.0 f.1))),
-  rows_in_order es xs z.1 o.1,
+known_entry : (es : Entries) (name : List ℕ) (g : Heard) → known_at name es ≡ Some g
+    → (name, Some g) ∈ es
+known_entry es name g h = case (entry_at name es) refl where
+  case : (o : Option (Option Heard)) → entry_at name es ≡ o → (name, Some g) ∈ es
+  case None e = absurd (let n : None ≡ Some g = sym (ap entry_known e) ∙ h in cc)
+  case (Some known) e =
+      let f = found itself bytes_cmp bytes_total bytes_exact name known es e in
+      let same : known ≡ Some g = sym (ap entry_known e) ∙ h in
+      subst (λ (n : List ℕ). (n, Some g) ∈ es) (sym f.2)
+      (subst (λ (k : Option Heard). (f.0.0, k) ∈ es) (f.3 ∙ same) f.1)
+
+entry_is_known : (es : Entries) (name : List ℕ) (g : Heard) → Ordered IsEntryBefore es
+    → (name, Some g) ∈ es → known_at name es ≡ Some g
+entry_is_known es name g o m = case (entry_at name es) refl where
+  case : (o : Option (Option Heard)) → entry_at name es ≡ o → known_at name es ≡ Some g
+  case None e =
+      absurd (absent itself bytes_cmp bytes_total bytes_exact name es e (name, Some g) m refl)
+  case (Some known) e =
+      let f = found itself bytes_cmp bytes_total bytes_exact name known es e in
+      let one =
+      one_entry itself bytes_cmp bytes_total bytes_exact es o f.0 (name, Some g) f.1 m (sym f.2) in
+      ap entry_known e ∙ sym f.3 ∙ ap (λ (p : List ℕ × Option Heard). p.1) one
+
+-- ---- the reports of one index
+
+first_report : (is_item : Bool) (name : List ℕ) (known : Option Heard) (t : Thing) (g : Heard)
+    → (t, g) ∈ report_in is_item name known
+    → (t.is_item ≡ is_item) × (name ≡ t.name) × (known ≡ Some g)
+first_report is_item name None t g h = absurd h
+first_report is_item name (Some x) t g (inl e) = (
+  sym (ap (λ (p : Thing × Heard). p.0.is_item) e),
+  ap (λ (p : Thing × Heard). p.0.name) e,
+  ap (λ (p : Thing × Heard). Some p.1) e,
+)
+first_report is_item name (Some x) t g (inr j) = absurd j
+
+report_entry : (is_item : Bool) (es : Entries) (t : Thing) (g : Heard)
+    → (t, g) ∈ reports_in is_item es → (t.is_item ≡ is_item) × ((t.name, Some g) ∈ es)
+report_entry is_item [] t g h = absurd h
+report_entry is_item (e ∷ es) t g h =
+    elim (in_either (t, g) (report_in is_item e.0 e.1) (reports_in is_item es) h) [
+      | inl j ↦
+          let f = first_report is_item e.0 e.1 t g j in (
+            f.0,
+            subst (λ (n : List ℕ). (n, Some g) ∈ (e ∷ es)) f.1
+                (subst (λ (k : Option Heard). (e.0, k) ∈ (e ∷ es)) f.2 (inl refl)),
+          )
+      | inr j ↦ let r = report_entry is_item es t g j in (r.0, inr r.1)
+    ]
+
+entry_report : (is_item : Bool) (es : Entries) (name : List ℕ) (g : Heard) → (name, Some g) ∈ es
+    → (thing is_item name, g) ∈ reports_in is_item es
+entry_report is_item [] name g h = absurd h
+entry_report is_item (e ∷ es) name g (inl s) =
+    in_left (thing is_item name, g) (report_in is_item e.0 e.1) (reports_in is_item es)
+    (subst (λ (p : List ℕ × Option Heard). (thing is_item name, g) ∈ report_in is_item p.0 p.1)
+    (sym s) (inl refl))
+entry_report is_item (e ∷ es) name g (inr j) =
+    in_right (thing is_item name, g) (report_in is_item e.0 e.1) (reports_in is_item es)
+    (entry_report is_item es name g j)
+
+-- ---- in order
+
+abbrev IsReportBefore : Thing × Heard → Thing × Heard → Type 0
+IsReportBefore a b = IsBelow thing_cmp a.0 b.0
+
+by_name : (is_item : Bool) (a b : List ℕ) → IsBelow bytes_cmp a b
+    → IsBelow thing_cmp (thing is_item a) (thing is_item b)
+by_name false a b h = h
+by_name true a b h = h
+
+items_later : (a b : Thing) → a.is_item ≡ false → b.is_item ≡ true → IsBelow thing_cmp a b
+items_later a b e f =
+    ap (λ o. ordering_then o (bytes_cmp a.name b.name))
+    (ap (λ t. bool_cmp t b.is_item) e ∙ ap (bool_cmp false) f)
+
+report_first : (is_item : Bool) (name : List ℕ) (known : Option Heard)
+    (later : List (Thing × Heard))
+    → ((x : Thing × Heard) → x ∈ later → IsBelow thing_cmp (thing is_item name) x.0)
+    → Ordered IsReportBefore later → Ordered IsReportBefore (report_in is_item name known ++ later)
+report_first is_item name None later f o = o
+report_first is_item name (Some g) later f o = (f, o)
+
+reports_ascend : (is_item : Bool) (es : Entries) → Ordered IsEntryBefore es
+    → Ordered IsReportBefore (reports_in is_item es)
+reports_ascend is_item [] o = tt
+reports_ascend is_item (e ∷ es) o =
+    report_first is_item e.0 e.1 (reports_in is_item es)
+    (λ x m. let r = report_entry is_item es x.0 x.1 m in
+    subst (λ (b : Bool). IsBelow thing_cmp (thing is_item e.0) (thing b x.0.name)) (sym r.0)
+    (by_name is_item e.0 x.0.name (o.0 (x.0.name, Some x.1) r.1)))
+    (reports_ascend is_item es o.1)
+
+both_ordered : {X : Type 0} (R : X → X → Type 0) (xs ys : List X) → Ordered R xs → Ordered R ys
+    → ((x y : X) → x ∈ xs → y ∈ ys → R x y) → Ordered R (xs ++ ys)
+both_ordered R [] ys o p f = p
+both_ordered R (x ∷ xs) ys o p f = (
+  λ y h. elim (in_either y xs ys h) [ inl j ↦ o.0 y j | inr j ↦ f x y (inl refl) j ],
+  both_ordered R xs ys o.1 p (λ a b m n. f a b (inr m) n),
 )
 
-module _ (gap : ℕ) (S : List Heard) (rows : List Row) (b : BookOf gap S rows)
-    (es : List (NameKey × Bor Heard)) (xs : List Named) (c : AreNames rows es)
-    (o : Ordered IsNameBefore es) (z : Zipped IsNamedRow es xs) where
-  best : (x : Named) → x ∈ xs → IsBest S (TellsOf (shown_thing x)) x.heard
-  best x h =
-      let e = in_zip_right IsNamedRow es xs x z h in
-      let r = c.each e.0 e.1 in
-      let y = r.row in
-      subst (λ (t : Thing). IsBest S (TellsOf t) x.heard) (sym e.2.thing)
-      (subst (IsBest S (TellsOf (thing_of e.0.0))) (y.3 ∙ sym e.2.heard)
-      (best_of_rows gap S rows (TellsOf (thing_of e.0.0)) b y.0 y.1 y.2
-      (λ w k p. subst (IsUpTo heard_cmp w.greatest) (sym y.3) (r.greatest w k p))))
+named_ascend : (xs : List Named) → Ordered IsReportBefore (map shown_report xs)
+    → Ordered IsNamedBefore xs
+named_ascend [] o = tt
+named_ascend (x ∷ xs) o = (
+  λ y m. o.0 (shown_report y) (in_map shown_report y xs m),
+  named_ascend xs o.1,
+)
 
-  told_of : (t : Thing) → (x : Named) × (x ∈ xs) × (shown_thing x ≡ t)
-      → (s : Heard) × (s ∈ S) × TellsOf t (key_of s.frame)
-  told_of t h =
-      let k = best h.0 h.1 in
-      (h.0.heard, k.member, subst (λ (u : Thing). TellsOf u (key_of h.0.heard.frame)) h.2 k.property)
+-- ---- the reports of both indexes
 
-  listed_of : (t : Thing) → (s : Heard) × (s ∈ S) × TellsOf t (key_of s.frame)
-      → (x : Named) × (x ∈ xs) × (shown_thing x ≡ t)
-  listed_of t h =
-      let y = a_row gap S rows b h.0 h.1 in
-      let e = c.every y.0 y.1 t (subst (TellsOf t) y.2.key h.2) in
-      let x = in_zip_left IsNamedRow es xs e.0 z e.1 in
-      (x.0, x.1, x.2.thing ∙ e.2)
+abbrev all_reports : FourIndexes → List (Thing × Heard)
+all_reports i = reports_in false i.objects ++ reports_in true i.items
 
-  pub named_of_set : AreNamed S xs
-  named_of_set = record {
-    ascending = rows_in_order es xs z o;
-    things = λ t. (told_of t, listed_of t);
-    each = best;
-  }
+abbrev known_of : FourIndexes → Thing → Option Heard
+known_of i t = known_at t.name (index_of (topic_of t.is_item) i)
 
-pub named_of_book : {E : Type 0} (gap : ℕ) (A : Type 0) (items : A → List Named) (r : Result A E)
-    (kept rows : List Row) (es : List (NameKey × Bor Heard)) → kept ≡ rows → AreNames kept es
-    → Ordered IsNameBefore es → IfOk r (λ v. Zipped IsNamedRow es (items v))
-    → IfOk r (λ v. TellsNamed gap rows (items v))
-named_of_book gap A items (Ok v) kept rows es e c o z = λ S b.
-    named_of_set gap S rows b es (items v) (subst (λ (t : List Row). AreNames t es) e c) o z
-named_of_book gap A items (Err q) kept rows es e c o z = tt
+known_report : (i : FourIndexes) (is_item : Bool) (name : List ℕ) (g : Heard)
+    → known_of i (thing is_item name) ≡ Some g → (thing is_item name, g) ∈ all_reports i
+known_report i false name g h =
+    in_left (thing false name, g) (reports_in false i.objects) (reports_in true i.items)
+    (entry_report false i.objects name g (known_entry i.objects name g h))
+known_report i true name g h =
+    in_right (thing true name, g) (reports_in false i.objects) (reports_in true i.items)
+    (entry_report true i.items name g (known_entry i.items name g h))
+
+module _ (i : FourIndexes) (o : Ordered IsEntryBefore i.objects)
+    (p : Ordered IsEntryBefore i.items) where
+  report_known : (t : Thing) (g : Heard) → (t, g) ∈ all_reports i → known_of i t ≡ Some g
+  report_known t g h =
+      elim (in_either (t, g) (reports_in false i.objects) (reports_in true i.items) h) [
+        | inl j ↦
+            let r = report_entry false i.objects t g j in
+            ap (λ b. known_at t.name (index_of (topic_of b) i)) r.0
+            ∙ entry_is_known i.objects t.name g o r.1
+        | inr j ↦
+            let r = report_entry true i.items t g j in
+            ap (λ b. known_at t.name (index_of (topic_of b) i)) r.0
+            ∙ entry_is_known i.items t.name g p r.1
+      ]
+
+  all_ascend : Ordered IsReportBefore (all_reports i)
+  all_ascend =
+      both_ordered IsReportBefore (reports_in false i.objects) (reports_in true i.items)
+      (reports_ascend false i.objects o) (reports_ascend true i.items p)
+      (λ x y m n. items_later x.0 y.0 (report_entry false i.objects x.0 x.1 m).0
+      (report_entry true i.items y.0 y.1 n).0)
+
+  -- ---- of a set
+
+  module _ (gap : ℕ) (S : List Heard) (rows : List Row) (b : BookOf gap S rows)
+      (h : AreIndexesOf rows i) (xs : List Named) (e : map shown_report xs ≡ all_reports i) where
+    last_known : (t : Thing) → LastKnown S (Passes (tells_thing t)) (known_of i t)
+    last_known t =
+        entry_tells gap rows (tells_thing t) (known_of i t) (h (topic_of t.is_item) t.name) S b
+
+    best : (x : Named) → x ∈ xs → IsBest S (TellsOf (shown_thing x)) x.heard
+    best x m =
+        let t = shown_thing x in
+        let known =
+        report_known t x.heard
+        (subst (λ (l : List (Thing × Heard)). shown_report x ∈ l) e (in_map shown_report x xs m)) in
+        let g : IsBest S (Passes (tells_thing t)) x.heard =
+        subst (LastKnown S (Passes (tells_thing t))) known (last_known t) in
+        record {
+          member = g.member;
+          property = tells_of t (key_of x.heard.frame) g.property;
+          greatest = λ s n q. g.greatest s n (tells_by t (key_of s.frame) q);
+        }
+
+    told_of : (t : Thing) → (x : Named) × (x ∈ xs) × (shown_thing x ≡ t)
+        → (s : Heard) × (s ∈ S) × TellsOf t (key_of s.frame)
+    told_of t n =
+        let k = best n.0 n.1 in
+        let told = subst (λ (u : Thing). TellsOf u (key_of n.0.heard.frame)) n.2 k.property in
+        (n.0.heard, k.member, told)
+
+    listed_of : (t : Thing) → (s : Heard) × (s ∈ S) × TellsOf t (key_of s.frame)
+        → (x : Named) × (x ∈ xs) × (shown_thing x ≡ t)
+    listed_of t n = there (known_of i t) refl (last_known t) where
+      there : (known : Option Heard) → known_of i t ≡ known
+          → LastKnown S (Passes (tells_thing t)) known
+          → (x : Named) × (x ∈ xs) × (shown_thing x ≡ t)
+      there None k none = absurd (none n.0 n.1 (tells_by t (key_of n.0.frame) n.2))
+      there (Some g) k h =
+          let m =
+          subst (λ (l : List (Thing × Heard)). (t, g) ∈ l) (sym e)
+          (known_report i t.is_item t.name g k) in
+          let f = from_map shown_report (t, g) xs m in
+          (f.0, f.1, ap (λ (r : Thing × Heard). r.0) f.2)
+
+    named_of_set : AreNamed S xs
+    named_of_set = record {
+      ascending = named_ascend xs (subst (Ordered IsReportBefore) (sym e) all_ascend);
+      things = λ t. (told_of t, listed_of t);
+      each = best;
+    }
+
+pub named_of_indexes : (gap : ℕ) (rows : List Row) (i : FourIndexes) (first second : Entries)
+    (none some all : List Named) → AreIndexesOf rows i → first ≡ index_of objects i
+    → second ≡ index_of items i → Ordered IsEntryBefore first → Ordered IsEntryBefore second
+    → none ≡ []
+    → map shown_report some ≡ map shown_report none ++ reports_in false first
+    → map shown_report all ≡ map shown_report some ++ reports_in true second
+    → TellsNamed gap rows all
+named_of_indexes gap rows i first second none some all h e f o p n s t = λ S b.
+    named_of_set i (subst (Ordered IsEntryBefore) e o) (subst (Ordered IsEntryBefore) f p) gap S
+    rows b h all
+    (t
+    ∙ ap (λ l. l ++ reports_in true second)
+    (s ∙ ap (λ l. map shown_report l ++ reports_in false first) n)
+    ∙ ap (λ es. reports_in false es ++ reports_in true second) e
+    ∙ ap (λ es. reports_in false i.objects ++ reports_in true es) f)

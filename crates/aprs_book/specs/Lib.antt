@@ -1,5 +1,6 @@
 -- Definitions that contracts of the book cite.
 pub mod Keyed
+pub mod KeptNames
 pub mod Known
 pub mod Shown
 pub mod Places
@@ -10,7 +11,6 @@ pub mod RowCause
 pub mod Refusal
 pub mod Reports
 pub mod LastKnown
-pub mod Subject
 pub mod Stations
 pub mod Messages
 pub mod MessageRows

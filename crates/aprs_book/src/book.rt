@@ -1,5 +1,5 @@
 //! The book.
-ghost use Rattle.std.specs.Prelude.{◌≡◌, ◌↔◌, [], ◌∷◌, ◌++◌, length, true, IsTrue, IsOk, IfOk, OnOk, OnErr, IsOkUnless, MatchOption, Err};
+ghost use Rattle.std.specs.Prelude.{◌≡◌, ◌↔◌, [], ◌∷◌, ◌++◌, length, true, IsTrue, IsOk, IfOk, OnOk, OnErr, IsOkUnless, MatchOption, Err, None};
 ghost use Rattle.aprs_laws.specs.Gap.{gap_seconds};
 ghost use Rattle.aprs_laws.specs.Book.{BookOf};
 ghost use Rattle.aprs_laws.specs.Sound.{Sound};
@@ -9,12 +9,12 @@ ghost use Rattle.aprs_laws.specs.Joining.{Joined};
 ghost use Rattle.aprs_laws.proofs.Joins.{book_laws};
 ghost use Rattle.aprs_book.specs.Taking.{TakesIn, MergesInto};
 ghost use Rattle.aprs_book.specs.Refusal.{refusal};
+ghost use Rattle.aprs_book.specs.Known.{AreIndexesOf};
 
 use crate::gap::Gap;
-use crate::kept_row::KeptRow;
-use crate::merging::merged_rows;
-use crate::place::put;
-use crate::push::push_parts;
+use crate::indexes::Indexes;
+use crate::keyed::KeyedRows;
+use crate::told::Told;
 use crate::walk::Walk;
 use crate::{Join, Memory, RowCause, RowParts, Rows};
 use aprs_log::Reception;
@@ -26,7 +26,8 @@ use std::marker::Model;
 /// 30 seconds apart are one transmission.
 #[derive(Drop)]
 pub struct Book<A: Allocator = Global> {
-    rows: Vec<KeptRow<A>, A>,
+    rows: KeyedRows<A>,
+    indexes: Indexes<A>,
 }
 
 impl<A: Allocator> Model for Book<A> {
@@ -34,12 +35,13 @@ impl<A: Allocator> Model for Book<A> {
     ghost use Rattle.aprs_laws.specs.Row.{Row as RowValue};
     ghost use Rattle.aprs_laws.specs.Gap.{gap_seconds};
     ghost use Rattle.aprs_laws.specs.Sound.{Sound};
+    ghost use Rattle.aprs_book.specs.Known.{AreIndexesOf};
 
     ghost Value = { List RowValue };
 
-    ghost view = { λ b. b.rows.items };
+    ghost view = { λ b. b.rows };
 
-    ghost invariant = { λ b. Sound gap_seconds b.rows.items };
+    ghost invariant = { λ b. Sound gap_seconds b.rows × AreIndexesOf b.rows b.indexes };
 }
 
 impl<A: Allocator + Copy> Book<A> {
@@ -49,7 +51,8 @@ impl<A: Allocator + Copy> Book<A> {
         ensures book { BookOf gap_seconds [] result }
     {
         Book {
-            rows: Vec::new(alloc),
+            rows: KeyedRows::new(alloc),
+            indexes: Indexes::new(alloc),
         }
     }
 
@@ -76,7 +79,11 @@ impl<A: Allocator + Copy> Book<A> {
         ensures unchanged { OnErr result (self.new ≡ self.old) }
         ensures in_place { FitsInPlace gap_seconds self.old x.now → IsOk result }
     {
-        put(Gap::STANDARD, &mut self.rows, x)
+        let told = Told::of(x.frame());
+        self.indexes.place(&told)?;
+        self.rows.take(Gap::STANDARD, x)?;
+        self.indexes.note(&told, x);
+        Ok(())
     }
 
     /// Adds a row behind all others, unless a cause refuses it: it is added, or memory was refused,
@@ -90,7 +97,26 @@ impl<A: Allocator + Copy> Book<A> {
         ensures added { OnOk result (self.new ≡ self.old ++ parts.now ∷ []) }
         ensures unchanged { OnErr result (self.new ≡ self.old) }
     {
-        push_parts(Gap::STANDARD, &mut self.rows, parts)
+        if let Some(cause) = self.rows.refusal(Gap::STANDARD, parts) {
+            return Err(cause);
+        }
+        if self.add(parts).is_err() {
+            return Err(RowCause::Memory);
+        }
+        Ok(())
+    }
+
+    /// Adds a row that nothing refuses.
+    fn add(&mut self, parts: &RowParts<A>) -> Result<(), Memory>
+        requires { refusal gap_seconds self.old parts.now ≡ None }
+        ensures added { OnOk result (self.new ≡ self.old ++ parts.now ∷ []) }
+        ensures unchanged { OnErr result (self.new ≡ self.old) }
+    {
+        let told = Told::of(&parts.frame);
+        self.indexes.place(&told)?;
+        self.rows.push(parts)?;
+        self.indexes.note(&told, &parts.greatest());
+        Ok(())
     }
 
     /// The book of both sets together, in one pass over the rows of both. Both stay as they are.
@@ -100,13 +126,9 @@ impl<A: Allocator + Copy> Book<A> {
         ensures sound { Sound gap_seconds self.now }
         ensures sound_other { Sound gap_seconds other.now }
     {
-        let rows = merged_rows(
-            *self.rows.allocator(),
-            Gap::STANDARD,
-            self.rows.as_slice(),
-            other.rows.as_slice(),
-        )?;
-        Ok(Book { rows })
+        let rows = self.rows.merged(Gap::STANDARD, &other.rows)?;
+        let indexes = self.indexes.merged(&other.indexes)?;
+        Ok(Book { rows, indexes })
     }
 
     /// The rows as they are kept, one after another.
@@ -114,20 +136,19 @@ impl<A: Allocator + Copy> Book<A> {
         ensures rows { result ≡ self.now }
         ensures sound { Sound gap_seconds self.now }
     {
-        Walk::of(self.rows.as_slice())
+        self.rows.walk()
     }
 
-    /// The rows as they are kept.
-    pub(crate) fn kept(&self) -> &[KeptRow<A>]
-        ensures rows { result.now ≡ self.now }
-        ensures sound { Sound gap_seconds self.now }
+    /// What is last known.
+    pub(crate) fn indexes(&self) -> &Indexes<A>
+        ensures { AreIndexesOf self.now result.now }
     {
-        self.rows.as_slice()
+        &self.indexes
     }
 
     /// Where the book's memory comes from.
     pub(crate) fn allocator(&self) -> A {
-        *self.rows.allocator()
+        self.rows.allocator()
     }
 
     /// Whether both have the same rows. Takes no memory.

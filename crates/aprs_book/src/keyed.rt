@@ -1,17 +1,22 @@
 //! The rows of a book by their keys.
-ghost use Rattle.std.specs.Prelude.{◌≡◌, [], ◌∷◌, ◌++◌, true, IsOk, IfOk, OnOk, OnErr, IsOkUnless, MatchOption, Err};
-ghost use Rattle.aprs_book.specs.Keyed.{EndsUpTo, IsEndOf};
+ghost use Rattle.std.specs.Prelude.{◌≡◌, ◌+◌, [], ◌∷◌, ◌++◌, length, true, IsOk, IfOk, OnOk, OnErr};
+ghost use Rattle.aprs_book.specs.Keyed.{EndsUpTo, IsEndOf, rows_of};
 ghost use Rattle.aprs_book.specs.Refusal.{refusal};
 ghost use Rattle.aprs_laws.specs.JoinRow.{interleave, coalesced};
+ghost use Rattle.aprs_log.specs.Reception.{bytes_cmp};
+ghost use Rattle.aprs_laws.specs.Lists.{Ordered};
+ghost use Rattle.aprs_laws.specs.Order.{IsBelow};
 ghost use Rattle.aprs_laws.specs.Inserted.{inserted, fits_in_place};
+ghost use Rattle.aprs_laws.specs.Sound.{Sound};
 
 use crate::gap::Gap;
 use crate::kept_row::KeptRow;
 use crate::key_bytes::key_bytes;
-use crate::keyed_walk::KeyedWalk;
 use crate::merging_keys::{put_joined, put_merged};
 use crate::place::put;
 use crate::push::first_cause;
+use crate::room::make_room;
+use crate::walk::Walk;
 use crate::{Memory, RowCause, RowParts};
 use aprs_log::Reception;
 use std::alloc::{Allocator, Global};
@@ -23,11 +28,13 @@ use std::marker::Model;
 #[derive(Drop)]
 pub(crate) struct KeyedRows<A: Allocator = Global> {
     map: BTreeMap<Vec<u8, A>, Vec<KeptRow<A>, A>, A>,
+    /// The number of the rows of all keys.
+    count: usize,
     alloc: A,
 }
 
 impl<A: Allocator> Model for KeyedRows<A> {
-    ghost use Rattle.std.specs.Prelude.{List};
+    ghost use Rattle.std.specs.Prelude.{◌≡◌, List, length};
     ghost use Rattle.aprs_laws.specs.Row.{Row as RowValue};
     ghost use Rattle.aprs_book.specs.Keyed.{rows_of, AreKept};
 
@@ -35,7 +42,8 @@ impl<A: Allocator> Model for KeyedRows<A> {
 
     ghost view = { λ b. rows_of (λ k. k.items) (λ v. v.items) b.map.entries };
 
-    ghost invariant = { λ b. AreKept (λ k. k.items) (λ v. v.items) b.map.entries };
+    ghost invariant = { λ b. AreKept (λ k. k.items) (λ v. v.items) b.map.entries
+        × (b.count ≡ length (rows_of (λ k. k.items) (λ v. v.items) b.map.entries)) };
 }
 
 impl<A: Allocator + Copy> KeyedRows<A> {
@@ -45,15 +53,28 @@ impl<A: Allocator + Copy> KeyedRows<A> {
     {
         KeyedRows {
             map: BTreeMap::new(alloc),
+            count: 0,
             alloc,
         }
     }
 
+    /// The number of rows.
+    pub(crate) fn len(&self) -> usize
+        ensures { result ≡ length self.now }
+    {
+        self.count
+    }
+
+    /// Where the rows' memory comes from.
+    pub(crate) fn allocator(&self) -> A {
+        self.alloc
+    }
+
     /// The rows one after another.
-    pub(crate) fn walk(&self) -> KeyedWalk<'_, A>
+    pub(crate) fn walk(&self) -> Walk<'_, A>
         ensures { result ≡ self.now }
     {
-        KeyedWalk::of(self.map.values())
+        Walk::of(self.map.values())
     }
 
     /// The rows of both, key by key, in one pass over the keys of both.
@@ -97,7 +118,8 @@ impl<A: Allocator + Copy> KeyedRows<A> {
                 }
             }
         }
-        Ok(KeyedRows { map, alloc })
+        let count = number_of_rows(&map)?;
+        Ok(KeyedRows { map, count, alloc })
     }
 
     /// The last key's rows.
@@ -117,69 +139,103 @@ impl<A: Allocator + Copy> KeyedRows<A> {
         ensures unchanged { OnErr result (self.new ≡ self.old) }
     {
         let bytes = key_bytes(row.greatest().frame());
+        let mut count = self.count;
         if let Some(rows) = self.map.get_mut(bytes.as_slice()) {
-            return push_one(rows, row);
+            let pushed = push_one(rows, &mut count, row);
+            self.count = count;
+            return pushed;
         }
         let key = owned(self.alloc, bytes.as_slice())?;
         let mut rows = Vec::new(self.alloc);
-        push_one(&mut rows, row)?;
+        push_one(&mut rows, &mut count, row)?;
         if self.map.insert(key, rows).is_err() {
             return Err(Memory);
         }
+        self.count = count;
         Ok(())
     }
 
-    /// Adds a row behind all others, unless a cause refuses it. Looks at the last row alone.
-    pub(crate) fn push(&mut self, gap: Gap, parts: &RowParts<A>) -> Result<(), RowCause>
-        ensures cause { MatchOption (refusal gap self.old parts.now)
-            (IsOkUnless result RowCause.Memory) (λ cause. result ≡ Err cause) }
+    /// The first cause that refuses a row of these parts after all others. Looks at the last row
+    /// alone.
+    pub(crate) fn refusal(&self, gap: Gap, parts: &RowParts<A>) -> Option<RowCause>
+        ensures { result ≡ refusal gap self.now parts.now }
+    {
+        first_cause(gap, self.last_rows(), parts)
+    }
+
+    /// Adds a row of these parts after all others. What needs memory is made before the first change.
+    pub(crate) fn push(&mut self, parts: &RowParts<A>) -> Result<(), Memory>
+        requires ascending { Ordered (IsBelow bytes_cmp) parts.now.receivers }
+        requires last { EndsUpTo parts.now self.old }
         ensures added { OnOk result (self.new ≡ self.old ++ parts.now ∷ []) }
         ensures unchanged { OnErr result (self.new ≡ self.old) }
     {
-        if let Some(cause) = first_cause(gap, self.last_rows(), parts) {
-            return Err(cause);
-        }
-        let Ok(row) = KeptRow::of(self.alloc, parts) else {
-            return Err(RowCause::Memory);
-        };
-        if self.append(row).is_err() {
-            return Err(RowCause::Memory);
-        }
-        Ok(())
+        let row = KeptRow::of(self.alloc, parts)?;
+        self.append(row)
     }
 
     /// Adds a reception. What needs memory is made before the first change.
     pub(crate) fn take(&mut self, gap: Gap, x: &Reception) -> Result<(), Memory>
+        requires { Sound gap self.old }
         ensures inserted { OnOk result (self.new ≡ inserted gap x.now self.old) }
         ensures unchanged { OnErr result (self.new ≡ self.old) }
         ensures in_place { fits_in_place gap x.now self.old ≡ true → IsOk result }
     {
         let bytes = key_bytes(x.frame());
+        let mut count = self.count;
         if let Some(rows) = self.map.get_mut(bytes.as_slice()) {
-            return put(gap, rows, x);
+            let taken = put(gap, rows, &mut count, x);
+            self.count = count;
+            return taken;
         }
         let key = owned(self.alloc, bytes.as_slice())?;
         let mut rows = Vec::new(self.alloc);
-        put(gap, &mut rows, x)?;
+        put(gap, &mut rows, &mut count, x)?;
         if self.map.insert(key, rows).is_err() {
             return Err(Memory);
         }
+        self.count = count;
         Ok(())
     }
 }
 
-/// Puts a row behind the others.
+/// Puts a row after the others of its key. `count` is the number of the rows of all keys, and goes
+/// with them.
 fn push_one<A: Allocator + Copy>(
     rows: &mut Vec<KeptRow<A>, A>,
+    count: &mut usize,
     row: KeptRow<A>,
 ) -> Result<(), Memory>
     ensures added { OnOk result (rows.new.items ≡ rows.old.items ++ row ∷ []) }
     ensures unchanged { OnErr result (rows.new.items ≡ rows.old.items) }
+    ensures counted { count.new + length rows.old.items ≡ count.old + length rows.new.items }
 {
+    let Some(more) = count.checked_add(1) else {
+        return Err(Memory);
+    };
+    make_room(rows)?;
     if rows.push(row).is_err() {
         return Err(Memory);
     }
+    *count = more;
     Ok(())
+}
+
+/// The number of the rows of all keys.
+fn number_of_rows<A: Allocator + Copy>(
+    map: &BTreeMap<Vec<u8, A>, Vec<KeptRow<A>, A>, A>,
+) -> Result<usize, Memory>
+    ensures { IfOk result (λ n.
+        n ≡ length (rows_of (λ k. k.items) (λ v. v.items) map.now.entries)) }
+{
+    let mut count: usize = 0;
+    for rows in map.values() {
+        let Some(more) = count.checked_add(rows.len()) else {
+            return Err(Memory);
+        };
+        count = more;
+    }
+    Ok(count)
 }
 
 /// The same bytes, in memory of their own.

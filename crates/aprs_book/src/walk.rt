@@ -1,32 +1,36 @@
-//! The walk over the rows of a book.
-ghost use Rattle.std.specs.Prelude.{◌≡◌, List};
+//! The walk over the rows of a book, key by key.
+ghost use Rattle.std.specs.Prelude.{◌≡◌, ◌++◌, List};
+ghost use Rattle.std.specs.List.{flat_map};
 ghost use Rattle.std.specs.Iterator.{YieldsFirstRef, item_count};
 
 use crate::kept_row::KeptRow;
 use std::alloc::{Allocator, Global};
+use std::collections::btree_map::Values;
 use std::marker::Model;
 
-/// The rows as they are kept that are still to come, in order.
+/// The rows as they are kept that are still to come, in order: those of one key, then all others.
 #[derive(Drop)]
 pub(crate) struct Walk<'a, A: Allocator = Global> {
     rows: &'a [KeptRow<A>],
+    others: Values<'a, Vec<u8, A>, Vec<KeptRow<A>, A>>,
 }
 
 impl<'a, A: Allocator> Model for Walk<'a, A> {
-    ghost use Rattle.std.specs.Prelude.{List};
+    ghost use Rattle.std.specs.Prelude.{List, ◌++◌};
+    ghost use Rattle.std.specs.List.{flat_map};
     ghost use Rattle.aprs_laws.specs.Row.{Row as RowValue};
 
     ghost Value = { List RowValue };
 
-    ghost view = { λ w. w.rows.now };
+    ghost view = { λ w. w.rows.now ++ flat_map (λ v. v.items) w.others };
 }
 
 impl<'a, A: Allocator> Walk<'a, A> {
-    /// These rows.
-    pub(crate) fn of(rows: &'a [KeptRow<A>]) -> Walk<'a, A>
-        ensures { result ≡ rows.now }
+    /// These rows of all keys.
+    pub(crate) fn of(others: Values<'a, Vec<u8, A>, Vec<KeptRow<A>, A>>) -> Walk<'a, A>
+        ensures { result ≡ flat_map (λ v. v.items) others.entry }
     {
-        Walk { rows }
+        Walk { rows: &[], others }
     }
 }
 
@@ -38,6 +42,9 @@ impl<'a, A: Allocator + Copy> Iterator for Walk<'a, A> {
     ghost remaining = { item_count (λ rows. rows) };
 
     fn next(&mut self) -> Option<&'a KeptRow<A>> {
+        while self.rows.is_empty() {
+            self.rows = self.others.next()?.as_slice();
+        }
         let (first, others) = self.rows.split_first()?;
         self.rows = others;
         Some(first)

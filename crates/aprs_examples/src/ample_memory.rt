@@ -7,7 +7,7 @@ use aprs_book::{Book, Join, join_all};
 use aprs_booktext::{read_book, write_book};
 use aprs_kiss::Counted;
 use aprs_log::{MAX_INPUT, write_line};
-use aprs_tool::{merge_run, read_input};
+use aprs_tool::{merge_run, read_input, show_run};
 use linked_list_allocator::LocalHeap;
 use std::alloc::Global;
 use std::test::Fail;
@@ -90,32 +90,43 @@ fn a_hundred_lines_are_read(rt: HostRuntime) -> Result<(), Fail> {
     Ok(())
 }
 
+/// What is written of the nine inputs' one row, and what is listed of it.
+const ONE_ROW: &[u8] = b"APRSBOOK 1
+T 2024-05-01T12:00:00Z 2024-05-01T13:39:30Z RX1,RX2 RX2 82a0a4a64040e09c60868298986f03f03e4869
+END 1
+";
+
+const ONE_STATION: &[u8] = b"station N0CALL-7 1\nstatus 2024-05-01T13:39:30Z RX2 -:Hi\n";
+
 // Two of the nine are heard between the others' receptions, and five were merged before.
 #[test]
-fn nine_inputs_are_merged(rt: HostRuntime) -> Result<(), Fail> {
+fn nine_inputs_are_merged_and_listed(rt: HostRuntime) -> Result<(), Fail> {
     let alloc = rt.alloc();
     let book = hundred(alloc, 0, b"RX1")?;
     let text = text_of(alloc, &book)?;
     let log = hundred_lines(alloc, 0, b"RX1")?;
     let between = hundred_lines(alloc, 30, b"RX2")?;
-    let mut inputs = Vec::new(alloc);
-    for i in 0..9usize {
-        let input = match i {
-            2 | 7 => between.as_slice(),
-            0 | 3 => log.as_slice(),
-            _ => text.as_slice(),
+    let heap = LocalHeap::new(alloc, 1_048_576)?;
+    for (is_listing, want) in [(false, ONE_ROW), (true, ONE_STATION)] {
+        let mut inputs = Vec::new(alloc);
+        for i in 0..9usize {
+            let input = match i {
+                2 | 7 => between.as_slice(),
+                0 | 3 => log.as_slice(),
+                _ => text.as_slice(),
+            };
+            inputs.push(Counted::new(input))?;
+        }
+        let mut out = Counted::new(Vec::new(alloc));
+        let run = if is_listing {
+            show_run(&heap, MAX_INPUT, inputs.as_mut_slice(), &mut out)
+        } else {
+            merge_run(&heap, MAX_INPUT, inputs.as_mut_slice(), &mut out)
         };
-        inputs.push(Counted::new(input))?;
+        assert!(rt; run.is_ok());
+        assert_eq!(rt; out.into_inner().as_slice(), want);
+        assert_eq!(rt; heap.used(), 0);
     }
-    let mut out = Counted::new(Vec::new(alloc));
-    let run = merge_run(alloc, MAX_INPUT, inputs.as_mut_slice(), &mut out);
-    assert!(rt; run.is_ok());
-    let text = out.into_inner();
-    let one_row = b"APRSBOOK 1
-T 2024-05-01T12:00:00Z 2024-05-01T13:39:30Z RX1,RX2 RX2 82a0a4a64040e09c60868298986f03f03e4869
-END 1
-";
-    assert_eq!(rt; text.as_slice(), one_row.as_slice());
     Ok(())
 }
 

@@ -28,6 +28,8 @@ mod pushed_rows;
 #[cfg(test)]
 mod refused_memory;
 #[cfg(test)]
+mod refused_runs;
+#[cfg(test)]
 mod runs;
 #[cfg(test)]
 mod show_runs;

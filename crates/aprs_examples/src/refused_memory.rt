@@ -17,10 +17,10 @@ use std::test::Fail;
 fn refused_growths_change_nothing(rt: HostRuntime) -> Result<(), Fail> {
     let alloc = rt.alloc();
     let mut refused = 0u64;
-    for units in 0..48usize {
-        let heap = LocalHeap::new(alloc, 8192)?;
+    for units in 0..192usize {
+        let heap = LocalHeap::new(alloc, 65536)?;
         let mut fill: Vec<u8, &LocalHeap> = Vec::new(&heap);
-        fill.reserve(7936 - units * 64)?;
+        fill.reserve(65280 - units * 64)?;
         let mut book = Book::new(&heap);
         let mut ample = Book::new(alloc);
         for (second, name) in [
@@ -78,11 +78,11 @@ fn is_refused<'a>(
 fn refused_rows_change_nothing(rt: HostRuntime) -> Result<(), Fail> {
     let alloc = rt.alloc();
     let mut refused = [0u64; 3];
-    for units in 0..200usize {
-        let heap = LocalHeap::new(alloc, 8192)?;
+    for units in 0..700usize {
+        let heap = LocalHeap::new(alloc, 65536)?;
         let rows = three_rows(&heap)?;
         let mut fill: Vec<u8, &LocalHeap> = Vec::new(&heap);
-        fill.reserve(7424 - units * 16)?;
+        fill.reserve(64768 - units * 16)?;
         let mut book = Book::new(&heap);
         for (i, row) in rows.iter().enumerate() {
             if is_refused(alloc, &mut book, row)? {
@@ -106,9 +106,9 @@ fn memory_is_refused_at_a_line(rt: HostRuntime) -> Result<(), Fail> {
     let mut refused = 0u64;
     let mut granted = 0u64;
     for units in 0..128usize {
-        let heap = LocalHeap::new(alloc, 8192)?;
+        let heap = LocalHeap::new(alloc, 65536)?;
         let mut fill: Vec<u8, &LocalHeap> = Vec::new(&heap);
-        fill.reserve(7936 - units * 32)?;
+        fill.reserve(65280 - units * 128)?;
         match read_book(&heap, MAX_INPUT, b"", &mut Counted::new(MERGED_TEXT)) {
             Ok(book) => {
                 let mut out = Counted::new(Vec::new(alloc));

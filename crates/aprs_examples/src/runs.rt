@@ -9,7 +9,7 @@ use aprs_tool::{Form, InputFault, RunFault, check_run, convert_run, status_of};
 use std::test::Fail;
 
 /// The frame of that log as a KISS frame.
-const FRAME: &[u8] =
+pub const FRAME: &[u8] =
     b"\xc0\x00\x82\xa0\xa4\xa6\x40\x40\xe0\x9c\x60\x86\x82\x98\x98\x6f\x03\xf0>Hi\xc0";
 
 /// A first part that is whole, FESC with TFEND and FESC with TFESC in it, and two that hold FESC

@@ -93,3 +93,70 @@ fn words_that_ask_for_nothing(rt: HostRuntime) {
         assert!(rt; matches!(&job(rt.alloc(), words), Err(JobFault::Clap(_))));
     }
 }
+
+/// Words that ask for help or the version, and what its text has to say.
+const HELP: [(&[&str], &[&str]); 6] = [
+    (
+        &["aprsbook", "--help"],
+        &[
+            "Usage: aprsbook [COMMAND]",
+            "  check ",
+            "  convert ",
+            "  merge ",
+            "  show ",
+            "convert text of standard input",
+            "  aprsbook check rx1.log",
+            "  aprsbook convert text rx1.log",
+            "  aprsbook merge rx1.log rx2.log",
+            "  aprsbook show net.book",
+            "  0  done",
+            "  1  an input",
+            "  2  the words",
+            "  3  the output",
+            "  4  memory",
+        ],
+    ),
+    (
+        &["aprsbook", "convert", "--help"],
+        &[
+            "Usage: aprsbook convert [OPTIONS] <FORM> [INPUT]",
+            "- text: ",
+            "- kind: ",
+            "- kiss: ",
+            "- log: ",
+            "- capture: ",
+            "--receiver <NAME>",
+            "--moment <MOMENT>",
+        ],
+    ),
+    (
+        &["aprsbook", "check", "--help"],
+        &["Usage: aprsbook check [INPUT]"],
+    ),
+    (
+        &["aprsbook", "merge", "--help"],
+        &["Usage: aprsbook merge [INPUT]..."],
+    ),
+    (
+        &["aprsbook", "show", "--help"],
+        &["Usage: aprsbook show [INPUT]..."],
+    ),
+    (&["aprsbook", "--version"], &["aprsbook 0.1.0"]),
+];
+
+// Help and the version go to standard output.
+#[test]
+fn words_that_ask_for_help(rt: HostRuntime) -> Result<(), Fail> {
+    let alloc = rt.alloc();
+    for (words, parts) in HELP {
+        let Err(JobFault::Clap(error)) = job(alloc, words) else {
+            return Err("help".into());
+        };
+        assert!(rt; !error.use_stderr());
+        let text = format!(in alloc; "{error}")?;
+        for part in parts {
+            assert!(rt; text.as_str().contains(*part), "{part} in {text}");
+        }
+    }
+    Ok(())
+}

@@ -1,4 +1,5 @@
 -- Definitions that contracts on devices, inputs and texts cite.
 pub mod Cut
 pub mod Device
+pub mod Hexadecimal
 pub mod Input

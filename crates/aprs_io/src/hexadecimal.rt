@@ -1,6 +1,11 @@
 //! Bytes in hexadecimal.
-ghost use Rattle.std.specs.Prelude.{◌≡◌, ◌≤◌, ◌*◌, take, length, true, false, Ok, MatchOption, MatchResult, IsOk};
-ghost use Rattle.hex.specs.Hex.{decode_of, encode_lower};
+ghost use Rattle.std.specs.Prelude.{◌≡◌, ◌≤◌, ◌<◌, ◌+◌, ◌*◌, ℕ, take, length, slice_index, true, false, Ok, Some, MatchOption, MatchResult, IsOk};
+ghost use Rattle.std.specs.Bool.{OnTrue};
+ghost use Rattle.hex.specs.Hex.{decode_of, encode_lower, hex_digit_value, lower_digits};
+ghost use Rattle.aprs_io.specs.Hexadecimal.{HoldsByte, HoldsDigits, HoldsValue, byte_of};
+
+/// How many bytes are read or written in a step.
+const BLOCK: usize = 16;
 
 /// Reads a hexadecimal text to the front of `room`, which has to have room for it, and returns how
 /// many bytes it holds, where it is one: an even number of digits, `A` to `F` in either case. Takes
@@ -26,7 +31,67 @@ pub fn encode_to(bytes: &[u8], digits: &mut [u8])
     requires { length digits.old ≡ 2 * length bytes.now }
     ensures { digits.new ≡ encode_lower bytes.now }
 {
-    hex::encode_to_slice(bytes, digits).unwrap();
+    let len = bytes.len();
+    if len < BLOCK {
+        encode_few(bytes, digits);
+        return;
+    }
+    'blocks: for i in 0..len.div_ceil(BLOCK) {
+        encode_block(bytes, digits, (BLOCK * i).min(len - BLOCK));
+    }
+}
+
+/// The same, byte by byte.
+fn encode_few(bytes: &[u8], digits: &mut [u8])
+    requires { length digits.old ≡ 2 * length bytes.now }
+    ensures { digits.new ≡ encode_lower bytes.now }
+{
+    'bytes: for i in 0..bytes.len() {
+        let byte = bytes[i];
+        digits[2 * i] = digit_of(byte / 16);
+        digits[2 * i + 1] = digit_of(byte % 16);
+    }
+}
+
+/// Writes the digits of the bytes of a block. They are made apart, so that many of them are made in
+/// one step of the processor.
+#[inline(always)]
+fn encode_block(bytes: &[u8], digits: &mut [u8], at: usize)
+    requires len { length digits.old ≡ 2 * length bytes.now }
+    requires room { at + 16 ≤ length bytes.now }
+    ensures len { length digits.new ≡ length digits.old }
+    ensures kept { (k : ℕ) → k < 2 * at → slice_index digits.new k ≡ slice_index digits.old k }
+    ensures digits { (k : ℕ) → at ≤ k → k < at + 16 → HoldsDigits bytes.now digits.new k }
+{
+    let mut block = [0; 2 * BLOCK];
+    put_digits(&bytes[at..at + BLOCK], &mut block);
+    digits[2 * at..2 * at + 2 * BLOCK].copy_from_slice(&block);
+}
+
+/// Puts the digits of the bytes of a block.
+#[inline(always)]
+fn put_digits(bytes: &[u8], digits: &mut [u8; 32])
+    requires { length bytes.now ≡ 16 }
+    ensures { (j : ℕ) → j < 16 → HoldsDigits bytes.now digits.new j }
+{
+    'bytes: for j in 0..BLOCK {
+        let byte = bytes[j];
+        digits[2 * j] = digit_of(byte / 16);
+        digits[2 * j + 1] = digit_of(byte % 16);
+    }
+}
+
+/// The lower case digit of a value.
+#[inline(always)]
+fn digit_of(value: u8) -> u8
+    requires { value < 16 }
+    ensures { result ≡ slice_index lower_digits value }
+{
+    if value < 10 {
+        value + b'0'
+    } else {
+        value - 10 + b'a'
+    }
 }
 
 /// Whether the bytes of a hexadecimal text now fill `out`.
@@ -35,5 +100,90 @@ fn decode_to(text: &[u8], out: &mut [u8]) -> bool
     ensures { MatchResult (decode_of text.now) (λ bytes. (result ≡ true) × (out.new ≡ bytes))
         (λ e. result ≡ false) }
 {
-    hex::decode_to_slice(text, out).is_ok()
+    decode_digits(text, out) || hex::decode_to_slice(text, out).is_ok()
+}
+
+/// Whether the text is seen to have digits alone, and then its bytes fill `out`. Digits are read
+/// a block at a time; the last block may overlap the one before it. Where it says no, as of a text
+/// that is shorter than a block, `out` says nothing.
+fn decode_digits(text: &[u8], out: &mut [u8]) -> bool
+    requires { length text.now ≡ 2 * length out.old }
+    ensures len { length out.new ≡ length out.old }
+    ensures bytes { OnTrue result (decode_of text.now ≡ Ok out.new) }
+{
+    let len = out.len();
+    if len < BLOCK {
+        return false;
+    }
+    'blocks: for i in 0..len.div_ceil(BLOCK) {
+        let at = (BLOCK * i).min(len - BLOCK);
+        if !decode_block(text, out, at) {
+            return false;
+        }
+    }
+    true
+}
+
+/// Whether the digits of the bytes of a block are digits, and then `out` has these bytes there.
+#[inline(always)]
+fn decode_block(text: &[u8], out: &mut [u8], at: usize) -> bool
+    requires len { length text.now ≡ 2 * length out.old }
+    requires room { at + 16 ≤ length out.old }
+    ensures len { length out.new ≡ length out.old }
+    ensures kept { (k : ℕ) → k < at → slice_index out.new k ≡ slice_index out.old k }
+    ensures bytes { OnTrue result ((k : ℕ) → at ≤ k → k < at + 16
+        → HoldsByte text.now out.new k) }
+{
+    let mut values = [0; 2 * BLOCK];
+    let are_digits = put_values(&text[2 * at..2 * at + 2 * BLOCK], &mut values);
+    put_bytes(&values, &mut out[at..at + BLOCK]);
+    are_digits
+}
+
+/// Puts the values of digits, and says whether they are digits. There is no early end, so that many
+/// are looked at in one step of the processor.
+#[inline(always)]
+fn put_values(digits: &[u8], values: &mut [u8; 32]) -> bool
+    requires { length digits.now ≡ 32 }
+    ensures { OnTrue result ((j : ℕ) → j < 32 → HoldsValue digits.now values.new j) }
+{
+    let mut most = 0;
+    'digits: for j in 0..2 * BLOCK {
+        let value = value_of(digits[j]);
+        most = value.max(most);
+        values[j] = value;
+    }
+    most < 16
+}
+
+/// Puts the bytes of pairs of digits that have these values.
+#[inline(always)]
+fn put_bytes(values: &[u8; 32], out: &mut [u8])
+    requires { length out.old ≡ 16 }
+    ensures len { length out.new ≡ 16 }
+    ensures bytes { (j : ℕ) → j < 16 → slice_index out.new j
+        ≡ byte_of (slice_index values.now (2 * j)) (slice_index values.now (2 * j + 1)) }
+{
+    'bytes: for j in 0..BLOCK {
+        out[j] = values[2 * j]
+            .wrapping_mul(16)
+            .wrapping_add(values[2 * j + 1]);
+    }
+}
+
+/// The value of a digit, and 255 for another byte.
+#[inline(always)]
+fn value_of(byte: u8) -> u8
+    ensures { result < 16 → hex_digit_value byte ≡ Some result }
+{
+    let number = byte.wrapping_sub(b'0');
+    // Bit 5 tells a small letter from a capital one.
+    let letter = (byte | 0x20).wrapping_sub(b'a');
+    if number < 10 {
+        number
+    } else if letter < 6 {
+        letter + 10
+    } else {
+        255
+    }
 }

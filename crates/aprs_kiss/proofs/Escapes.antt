@@ -9,7 +9,7 @@ use Rattle.std.proofs.lemmas.List.Elements.{recursion_from_All}
 use Rattle.std.proofs.lemmas.List.Splits.{slice_split-cons_no, slice_split-cons_yes}
 use Rattle.std.proofs.lemmas.Grind.{flat_map-append}
 use Rattle.aprs_kiss.specs.Plain.{IsPlain, CutsPlain, is_special}
-use Rattle.aprs_kiss.specs.Spelling.{HasNoEnd, is_frame_end, is_escape, spelling_of_byte, spelling_of}
+use Rattle.aprs_kiss.specs.Spelling.{HasNoEnd, is_frame_end, is_escape, kiss_text, spelling_of_byte, spelling_of}
 use Rattle.aprs_kiss.specs.Unspelling.{unescaped, all_joined, unspelled_parts, unspelled}
 
 pub is_true_or_not : (b : Bool) → (b ≡ true) ⊎ (b ≡ false)
@@ -298,3 +298,10 @@ spelling_of-front rest plain end (Some (mark, after)) p e = (
       (spelling_of after.now ++ end),
   spelling_of-cut rest plain after.now end mark p e.0,
 )
+
+-- plain bytes between two frame ends are what is sent for them
+pub plain_text : (frame begun put text : List ℕ) → IsPlain frame → begun ≡ 0xC0 ∷ 0 ∷ []
+    → put ≡ begun ++ frame → text ≡ put ++ 0xC0 ∷ [] → text ≡ kiss_text frame
+plain_text frame begun put text plain e f g =
+    g ∙ ap (λ l. l ++ 0xC0 ∷ []) (f ∙ ap (λ l. l ++ frame) e)
+    ∙ ap (λ l. 0xC0 ∷ 0 ∷ l) (sym (spelling_of-all frame frame (0xC0 ∷ []) plain refl))

@@ -15,6 +15,7 @@ pub const TFESC: u8 = 0xDD;
 
 /// Cuts at the first FEND or FESC, which aren't sent as themselves: what stands before it, and that
 /// byte with what follows it. Takes no memory.
+#[inline(always)]
 pub fn cut_plain(bytes: &[u8]) -> (&[u8], Option<(u8, &[u8])>)
     ensures plain { IsPlain result.0.now }
     ensures cut { CutsPlain bytes.now result.0.now result.1 }

@@ -1,8 +1,10 @@
 -- Lemmas on the frame in a line's bytes.
-use Rattle.std.proofs.Common.{◌≡◌, ◌≢◌, ℕ, ◌-◌, ◌<◌, ◌≤◌, Bool, true, false, List, [], ◌∷◌, ◌++◌, length, take, drop, Result, Ok, Err, cond, refl, arith, sym, ap, ◌∙◌, take-append-drop}
+use Rattle.std.proofs.Common.{◌≡◌, ◌≢◌, ℕ, ◌+◌, ◌-◌, ◌<◌, ◌≤◌, Bool, true, false, List, [], ◌∷◌, ◌++◌, length, take, drop, Result, Ok, Err, cond, refl, arith, sym, ap, ◌∙◌, take-append-drop, length-append, slice_index, subst, Option, Some}
 use Rattle.std.proofs.lemmas.List.{take_rest}
 use Rattle.std.proofs.Math.Seq.{take-length}
-use Rattle.aprs_kiss.specs.Spelling.{kiss_text}
+use Rattle.aprs_kiss.specs.Plain.{CutsPlain, IsPlain}
+use Rattle.aprs_kiss.specs.Spelling.{kiss_text, spelling_of}
+use Rattle.aprs_kiss.proofs.Escapes.{spelling_of-all}
 use Rattle.aprs_kiss.specs.Stream.{rest_of, is_nonempty, judgements_of, EndsPiece}
 use Rattle.aprs_kiss.specs.Judgement.{Judgement}
 use Rattle.aprs_kiss.specs.Told.{told_by}
@@ -158,12 +160,51 @@ module _ (laws : StreamLaws) (bytes : List ℕ) (n : ℕ) (e : false ≡ is_none
 
 -- ---- what is written for a frame
 
--- it holds that frame
-pub frame_in-kiss_text : WrittenLaws → (frame : List ℕ) → length frame ≤ 1023
-    → frame_of frame ≡ Ok frame → frame_in (kiss_text frame) ≡ Ok frame
-frame_in-kiss_text laws frame len is =
+-- it holds the frame's bytes
+frame_in-written : WrittenLaws → (frame : List ℕ) → length frame ≤ 1023
+    → frame_in (kiss_text frame) ≡ frame_or_reason (frame_of frame)
+frame_in-written laws frame len =
     let data_frame = Ok (record { port = 0; bytes = frame }) in
     let told = laws.read_back [] frame laws.begins.1 len
     ∙ ap (λ js. js ++ data_frame ∷ []) laws.begins.0 in
     let rest = ap is_nonempty (laws.read_whole [] frame) in
-    frame_in-ended (kiss_text frame) rest ∙ ap only_frame told ∙ ap frame_or_reason is
+    frame_in-ended (kiss_text frame) rest ∙ ap only_frame told
+
+-- it holds that frame
+pub frame_in-kiss_text : WrittenLaws → (frame : List ℕ) → length frame ≤ 1023
+    → frame_of frame ≡ Ok frame → frame_in (kiss_text frame) ≡ Ok frame
+frame_in-kiss_text laws frame len is = frame_in-written laws frame len ∙ ap frame_or_reason is
+
+-- bytes that are sent as themselves, between two frame ends, are what is written
+pub frame_in-plain : WrittenLaws → (bytes ended frame : List ℕ) → bytes ≡ 0xC0 ∷ 0 ∷ ended
+    → IsPlain frame → ended ≡ frame ++ 0xC0 ∷ [] → length ended ≤ 1024
+    → frame_in bytes ≡ frame_or_reason (frame_of frame)
+frame_in-plain laws bytes ended frame all plain is few =
+    let written : spelling_of frame ++ 0xC0 ∷ [] ≡ frame ++ 0xC0 ∷ []
+    = spelling_of-all frame frame (0xC0 ∷ []) plain refl in
+    let same : bytes ≡ kiss_text frame = all ∙ ap (λ l. 0xC0 ∷ 0 ∷ l) (is ∙ sym written) in
+    let len : length ended ≡ length frame + 1 = ap length is ∙ length-append frame (0xC0 ∷ []) in
+    ap frame_in same ∙ frame_in-written laws frame (omega arith)
+
+two_bytes : (bytes : List ℕ) → 2 ≤ length bytes → slice_index bytes 0 ≡ 0xC0 → slice_index bytes 1 ≡ 0
+    → bytes ≡ 0xC0 ∷ 0 ∷ drop 2 bytes
+two_bytes [] len e f = absurd (omega arith)
+two_bytes (a ∷ []) len e f = absurd (omega arith)
+two_bytes (a ∷ b ∷ rest) len e f = cc
+
+nothing : (l : List ℕ) → length l ≡ 0 → l ≡ []
+nothing [] e = refl
+nothing (x ∷ l) e = absurd (omega arith)
+
+-- so are these bytes, where the cut at the first byte that isn't sent as itself leaves nothing
+pub frame_in-cut : WrittenLaws → (bytes ended frame : List ℕ) (cut : Option (ℕ × Bor (List ℕ)))
+    (end : ℕ) (after : Bor (List ℕ)) → 2 ≤ length bytes → slice_index bytes 0 ≡ 0xC0
+    → slice_index bytes 1 ≡ 0 → ended ≡ drop 2 bytes → IsPlain frame → CutsPlain ended frame cut
+    → cut ≡ Some (end, after) → end ≡ 0xC0 → length after.now ≡ 0 → length ended ≤ 1024
+    → frame_in bytes ≡ frame_or_reason (frame_of frame)
+frame_in-cut laws bytes ended frame cut end after two first kind is plain cuts e last none few =
+    let parts = (subst (CutsPlain ended frame) e cuts).0 in
+    let tail : ended ≡ frame ++ 0xC0 ∷ []
+    = parts ∙ ap (λ l. frame ++ end ∷ l) (nothing after.now none) ∙ ap (λ n. frame ++ n ∷ []) last in
+    frame_in-plain laws bytes ended frame (two_bytes bytes two first kind ∙ ap (λ l. 0xC0 ∷ 0 ∷ l) (sym is))
+    plain tail few

@@ -19,10 +19,10 @@ use Rattle.aprs_log.proofs.MomentLemmas.{FitsText, IsCivil-fits, moment_of-text,
 not_space : (b : ℕ) → 32 < b → is_byte 32 b ≡ false
 not_space b h = grind (arith, nat_tests)
 
-name_byte : (b : ℕ) → is_name_byte b ≡ true → 32 < b
+pub name_byte : (b : ℕ) → is_name_byte b ≡ true → 32 < b
 name_byte b h = grind (arith, nat_tests)
 
-both : (a b : Bool) → a && b ≡ true → (a ≡ true) × (b ≡ true)
+pub both : (a b : Bool) → a && b ≡ true → (a ≡ true) × (b ≡ true)
 both true b h = (refl, h)
 both false b h = absurd (let e : false ≡ true = h in cc)
 
@@ -32,7 +32,7 @@ names_lack (b ∷ r) h =
     let parts = both (is_name_byte b) (list_all is_name_byte r) h in
     (not_space b (name_byte b parts.0), names_lack r parts.1)
 
-IsName-lacks : (r : List ℕ) → IsName r → Lacks 32 r
+pub IsName-lacks : (r : List ℕ) → IsName r → Lacks 32 r
 IsName-lacks r h = names_lack r (both _ (list_all is_name_byte r) h).1
 
 civil_text-lacks : (c : Civil) → FitsText c → Lacks 32 (civil_text c)
@@ -95,7 +95,7 @@ civil_text-lacks c h = (
   ),
 )
 
-MomentText-lacks : (m : ℕ) (t : List ℕ) → MomentText m t → Lacks 32 t
+pub MomentText-lacks : (m : ℕ) (t : List ℕ) → MomentText m t → Lacks 32 t
 MomentText-lacks m t h = subst (Lacks 32) (sym h.spelled)
     (civil_text-lacks h.civil (IsCivil-fits h.civil h.real))
 

@@ -1,13 +1,15 @@
 -- Lemmas on the line that is written for a reception.
-use Rattle.std.proofs.Common.{◌≡◌, ℕ, zero, suc, ◌⊎◌, inl, inr, ◌/◌, ◌%◌, ◌<◌, ◌≤◌, List, [], ◌∷◌, ◌++◌, length, get_or, slice_index, append_assoc, take, drop, take-append-drop, true, nat_eq, eqb-true, Ok, refl, arith, sym, ap, ◌∙◌, append-nil, subst}
+use Rattle.std.proofs.Common.{◌≡◌, ℕ, zero, suc, ◌⊎◌, inl, inr, ◌+◌, ◌<◌, ◌≤◌, List, [], ◌∷◌, ◌++◌, length, get_or, append_assoc, take, length-append, length-take, Ok, refl, arith, sym, ap, ◌∙◌, subst}
 use Rattle.std.specs.List.{All}
+use Rattle.std.proofs.lemmas.List.{take-take}
+use Rattle.std.proofs.Math.Seq.{take-append_seam}
 use Rattle.aprs_kiss.specs.Plain.{IsPlain}
 use Rattle.aprs_kiss.specs.Spelling.{spelling_of, spelling_of_byte, kiss_text}
 use Rattle.aprs_kiss.proofs.Escapes.{spelling_of-all, spelling_of-cut}
 use Rattle.aprs_ax25.specs.Frame.{FrameOf, Parts}
 use Rattle.aprs_ax25.specs.FrameFault.{frame_of, unless_fault}
 use Rattle.aprs_ax25.specs.Law.{IsFrame, IsRefused}
-use Rattle.hex.specs.Hex.{decode_of, encode_lower, encode_with, lower_digits}
+use Rattle.hex.specs.Hex.{decode_of, encode_lower}
 use Rattle.aprs_log.specs.Bytes.{WrittenLaws}
 use Rattle.aprs_log.specs.Moment.{MomentText, moment_text}
 use Rattle.aprs_log.specs.Receiver.{IsName}
@@ -42,33 +44,26 @@ put_cut all rest plain after before now next mark free cut was is then =
     (put_more all (spelling_of rest ++ 0xC0 ∷ []) (spelling_of_byte mark ++ left) before now plain
     (spelling_of-cut rest plain after (0xC0 ∷ []) mark free cut) was is) then
 
--- ---- digits, a few bytes at a time
+-- ---- a line's moment
 
-encode_with-append : (t a b : List ℕ) → encode_with t (a ++ b) ≡ encode_with t a ++ encode_with t b
-unfolding encode_with
-encode_with-append t [] b = refl
-encode_with-append t (x ∷ a) b =
-    ap (λ l. slice_index t (x / 16) ∷ slice_index t (x % 16) ∷ l) (encode_with-append t a b)
+begins : (line text more : List ℕ) (n : ℕ) → take n line ≡ text ++ more → length text ≡ 20
+    → take 20 line ≡ text
+begins line text more n e len =
+    let most : length (take n line) ≤ n = simp length-take (omega arith) in
+    let size : length (text ++ more) ≡ length text + length more = length-append text more in
+    let least : 20 ≤ n = omega (arith, ap length e, size, len) in
+    sym (take-take 20 n line least) ∙ ap (λ l. take 20 l) e
+    ∙ ap (λ k. take k (text ++ more)) (sym len) ∙ take-append_seam text more
 
-pub put_chunk : (all rest chunk after before now : List ℕ) → rest ≡ chunk ++ after
-    → before ++ encode_lower rest ≡ all → now ≡ before ++ encode_lower chunk
-    → now ++ encode_lower after ≡ all
-put_chunk all rest chunk after before now cut was is =
-    put_more all (encode_lower rest) (encode_lower after) before now (encode_lower chunk)
-    (ap encode_lower cut ∙ encode_with-append lower_digits chunk after) was is
-
-pub cut_again : (all front back : List ℕ) (n : ℕ) → front ≡ take n all → back ≡ drop n all → all ≡ front ++ back
-cut_again all front back n e f =
-    sym (ap (λ l. l ++ back) e ∙ ap (λ l. take n all ++ l) f ∙ take-append-drop n all)
-
-pub none_left : (l : List ℕ) → true ≡ nat_eq (length l) 0 → l ≡ []
-none_left [] e = refl
-none_left (x ∷ l) e = absurd (omega (arith, eqb-true (length (x ∷ l)) 0 (sym e)))
-
-pub put_all : (all rest now : List ℕ) → rest ≡ [] → now ++ encode_lower rest ≡ all → now ≡ all
-unfolding encode_with
-put_all all rest now none was =
-    sym (append-nil now) ∙ ap (λ l. now ++ encode_lower l) (sym none) ∙ was
+-- a line that was put together begins with its moment's text
+pub begins_with_moment : (line : List ℕ) (n : ℕ) (x : Heard) → take n line ≡ written_line x ++ 10 ∷ []
+    → length (moment_text x.moment) ≡ 20 → take 20 line ≡ moment_text x.moment
+begins_with_moment line n x e len =
+    let text = moment_text x.moment in
+    let name = 32 ∷ x.receiver in
+    let digits = 32 ∷ encode_lower (kiss_text x.frame) in
+    begins line text (name ++ (digits ++ 10 ∷ [])) n
+    (e ∙ append_assoc (text ++ name) digits (10 ∷ []) ∙ append_assoc text name (digits ++ 10 ∷ [])) len
 
 -- ---- a written line reads back
 

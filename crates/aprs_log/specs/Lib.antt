@@ -4,7 +4,9 @@ pub use Rattle.aprs_io.specs.Device
 pub use Rattle.aprs_io.specs.Input
 pub mod Awaits
 pub mod Bytes
+pub mod Clock
 pub mod Fault
+pub mod Fields
 pub mod Line
 pub mod LogAnswers
 pub mod Moment

@@ -3,8 +3,10 @@
 
 mod calendar;
 mod civil;
+mod clock;
 mod ending;
 mod fault;
+mod fields;
 mod line;
 mod line_bytes;
 mod moment;

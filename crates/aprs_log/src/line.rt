@@ -6,11 +6,12 @@ ghost use Rattle.aprs_log.specs.Line.{frame_or_reason, heard_or_passed, line_of,
 ghost use Rattle.aprs_log.specs.Slot.{told_in};
 
 use crate::fault::{LineFault, Reason};
+use crate::fields::{RECEIVER_PLACE, first_moment, take_receiver};
 use crate::line_bytes::data_in;
 use crate::scratch::Scratch;
 use crate::{Moment, Receiver, Reception};
 use aprs_ax25::Frame;
-use aprs_io::{cut_at, decode_into};
+use aprs_io::decode_into;
 
 /// The most bytes of a line, without its LF.
 pub const MAX_LINE: usize = 8192;
@@ -64,16 +65,36 @@ impl Line {
         ensures { self.new
             ≡ heard_or_passed moment receiver (frame_or_reason (frame_of bytes.now)) }
     {
-        if let Line::Heard(reception) = self {
-            if let Err(fault) = reception.rehear(moment, receiver, bytes) {
-                *self = Line::Passed(Reason::from(fault));
-            }
+        let Line::Heard(reception) = self else {
+            self.hear_anew(moment, receiver, bytes);
             return;
+        };
+        if let Err(fault) = reception.rehear(moment, receiver, bytes) {
+            self.pass(Reason::from(fault));
         }
+    }
+
+    /// Becomes the same line, where none was heard before. Apart from `hear`, which so has no room
+    /// for a line to clear.
+    #[cold]
+    #[inline(never)]
+    fn hear_anew(&mut self, moment: Moment, receiver: Receiver, bytes: &[u8])
+        ensures { self.new
+            ≡ heard_or_passed moment receiver (frame_or_reason (frame_of bytes.now)) }
+    {
         *self = match Frame::read(bytes) {
             Ok(frame) => Line::Heard(Reception::new(moment, receiver, frame)),
             Err(fault) => Line::Passed(Reason::from(fault)),
         };
+    }
+
+    /// Becomes a line that is passed over.
+    #[cold]
+    #[inline(never)]
+    fn pass(&mut self, reason: Reason)
+        ensures { self.new ≡ Line.Passed reason }
+    {
+        *self = Line::Passed(reason);
     }
 }
 
@@ -89,16 +110,10 @@ pub(crate) fn read_fields(
     if line.len() > MAX_LINE {
         return Err(LineFault::LongLine);
     }
-    let Some((moment, rest)) = cut_at(line, b' ') else {
+    let Some(moment) = first_moment(&mut scratch.clock, line) else {
         return Err(LineFault::Moment);
     };
-    let Some(moment) = Moment::parse(moment) else {
-        return Err(LineFault::Moment);
-    };
-    let Some((receiver, digits)) = cut_at(rest, b' ') else {
-        return Err(LineFault::Receiver);
-    };
-    let Some(receiver) = Receiver::parse(receiver) else {
+    let Some((receiver, digits)) = take_receiver(&line[RECEIVER_PLACE..]) else {
         return Err(LineFault::Receiver);
     };
     read_within(moment, receiver, digits, scratch, told)
@@ -121,7 +136,7 @@ fn read_within(
     };
     match data_in(&mut scratch.kiss, &scratch.room[..len]) {
         Ok(data) => told.hear(moment, receiver, data),
-        Err(reason) => *told = Line::Passed(reason),
+        Err(reason) => told.pass(reason),
     }
     Ok(())
 }

@@ -1,22 +1,63 @@
 //! The frame in the bytes that a line holds.
-ghost use Rattle.std.specs.Prelude.{◌≡◌, Err, MatchResult};
+ghost use Rattle.std.specs.Prelude.{◌≡◌, Err, IfSome, MatchResult};
 ghost use Rattle.aprs_kiss.specs.Stream.{is_nonempty, rest_of};
 ghost use Rattle.aprs_ax25.specs.FrameFault.{frame_of};
 ghost use Rattle.aprs_log.specs.Bytes.{has_other, StreamLaws};
 ghost use Rattle.aprs_log.specs.Line.{frame_in, frame_or_reason};
 
 use crate::fault::Reason;
+use crate::write::written_laws;
 use aprs_kiss::{
-    Fed, KissReader, a_stream_is_its_pieces, cuts_change_nothing, frame_ends_end_pieces,
+    Fed, KissReader, a_stream_is_its_pieces, cut_plain, cuts_change_nothing, frame_ends_end_pieces,
 };
 
 /// Stands before and after a frame.
 const FEND: u8 = 0xC0;
+/// The type byte of a data frame on port 0.
+const DATA: u8 = 0;
+/// The most bytes of a frame, and the frame end after it.
+const MAX_ENDED: usize = 1024;
 
-/// The one data frame that the bytes hold, which lies in the reader, or the first reason why they
-/// hold none. The reader begins anew.
-pub fn data_in<'r>(reader: &'r mut KissReader, bytes: &[u8]) -> Result<&'r [u8], Reason>
-    ensures { MatchResult result (λ frame. frame_in bytes.now ≡ frame_or_reason (frame_of frame.now))
+/// The one data frame that the bytes hold, or the first reason why they hold none. It lies in the
+/// bytes or in the reader, which then begins anew.
+pub fn data_in<'r>(reader: &'r mut KissReader, bytes: &'r [u8]) -> Result<&'r [u8], Reason>
+    ensures { MatchResult result
+        (λ frame. frame_in bytes.now ≡ frame_or_reason (frame_of frame.now))
+        (λ reason. frame_in bytes.now ≡ Err reason) }
+{
+    match plain_frame_in(bytes) {
+        Some(frame) => Ok(frame),
+        None => fed_frame_in(reader, bytes),
+    }
+}
+
+/// The same, where the bytes are plainly one data frame of port 0 without an escape, as most are.
+fn plain_frame_in(bytes: &[u8]) -> Option<&[u8]>
+    ensures { IfSome result
+        (λ frame. frame_in bytes.now ≡ frame_or_reason (frame_of frame.now)) }
+{
+    written_laws();
+    let [first, kind, ended @ ..] = bytes else {
+        return None;
+    };
+    if *first != FEND || *kind != DATA || ended.len() > MAX_ENDED {
+        return None;
+    }
+    let (frame, mark) = cut_plain(ended);
+    let (end, after) = mark?;
+    if end == FEND && after.is_empty() {
+        Some(frame)
+    } else {
+        None
+    }
+}
+
+/// The same by a reader of KISS streams, which begins anew.
+#[cold]
+#[inline(never)]
+fn fed_frame_in<'r>(reader: &'r mut KissReader, bytes: &[u8]) -> Result<&'r [u8], Reason>
+    ensures { MatchResult result
+        (λ frame. frame_in bytes.now ≡ frame_or_reason (frame_of frame.now))
         (λ reason. frame_in bytes.now ≡ Err reason) }
 {
     stream_laws();

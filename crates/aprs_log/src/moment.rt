@@ -42,6 +42,13 @@ impl Moment {
         }
     }
 
+    /// The moment 1970-01-01T00:00:00Z.
+    pub(crate) fn first() -> Moment
+        ensures { result ≡ 0 }
+    {
+        Moment { seconds: 0 }
+    }
+
     /// The seconds since 1970-01-01T00:00:00Z.
     pub fn seconds(&self) -> u64
         ensures value { result ≡ self.now }
@@ -73,6 +80,13 @@ impl Moment {
         ensures reads_back { moment_of result ≡ Some self.now }
     {
         CivilTime::of_seconds(self.seconds).text()
+    }
+
+    /// Each moment has a text. Does nothing.
+    pub(crate) fn has_a_text(&self)
+        ensures { MomentText self.now (moment_text self.now) }
+    {
+        let _in_range = self.seconds();
     }
 
     /// The same moment.

@@ -34,12 +34,21 @@ impl Receiver {
     pub fn parse(bytes: &[u8]) -> Option<Receiver>
         ensures { SomeIff result (IsName bytes.now) bytes.now }
     {
-        if !is_name(bytes) {
-            return None;
+        if is_name(bytes) {
+            Some(Receiver::named(bytes))
+        } else {
+            None
         }
+    }
+
+    /// The receiver of this name.
+    pub(crate) fn named(bytes: &[u8]) -> Receiver
+        requires { IsName bytes.now }
+        ensures { result ≡ bytes.now }
+    {
         match ArrayVec::try_from(bytes) {
-            Ok(bytes) => Some(Receiver { bytes }),
-            Err(_) => None,
+            Ok(bytes) => Receiver { bytes },
+            Err(_) => unreachable!(),
         }
     }
 
@@ -98,7 +107,7 @@ fn has_name_bytes(bytes: &[u8]) -> bool
     bytes.iter().all(|b| is_name_byte(*b))
 }
 
-fn is_name_byte(byte: u8) -> bool
+pub(crate) fn is_name_byte(byte: u8) -> bool
     ensures { result ≡ is_name_byte byte }
 {
     byte.is_ascii_alphanumeric() || byte == b'-' || byte == b'_'

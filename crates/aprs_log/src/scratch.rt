@@ -1,4 +1,5 @@
-//! Room for the bytes of a line.
+//! What is kept from line to line.
+use crate::clock::Clock;
 use aprs_kiss::KissReader;
 
 /// The most bytes that the hexadecimal text of a line holds.
@@ -12,6 +13,8 @@ pub struct Scratch {
     pub room: [u8; MAX_BYTES],
     /// The frame in them.
     pub kiss: KissReader,
+    /// The day of the line before.
+    pub clock: Clock,
 }
 
 impl Scratch {
@@ -20,6 +23,7 @@ impl Scratch {
         Scratch {
             room: [0; MAX_BYTES],
             kiss: KissReader::new(),
+            clock: Clock::new(),
         }
     }
 }

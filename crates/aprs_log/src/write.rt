@@ -1,7 +1,7 @@
 //! Lines of a log as they are written.
-ghost use Rattle.std.specs.Prelude.{◌≡◌, ◌≤◌, ◌+◌, ◌*◌, [], ◌∷◌, ◌++◌, length, Ok, OnOk, OnErr};
+ghost use Rattle.std.specs.Prelude.{◌≡◌, ◌≤◌, ◌+◌, ◌*◌, [], ◌∷◌, ◌++◌, length, take, Ok, Some, IfSome, OnOk, OnErr};
 ghost use Rattle.std.specs.Io.KnownBytes.{Appends};
-ghost use Rattle.arrayvec.specs.ArrayVec.{array_vec_len};
+ghost use Rattle.std.proofs.Props.{props};
 ghost use Rattle.hex.specs.Hex.{decode_of, encode_lower};
 ghost use Rattle.aprs_io.specs.Device.{device_of, failures_of, Rose, AppendsFront};
 ghost use Rattle.aprs_kiss.specs.Spelling.{kiss_text, spelling_of_byte};
@@ -9,20 +9,19 @@ ghost use Rattle.aprs_ax25.specs.Frame.{FrameOf};
 ghost use Rattle.aprs_ax25.specs.FrameFault.{frame_of, parts_of};
 ghost use Rattle.aprs_log.specs.Bytes.{WrittenLaws};
 ghost use Rattle.aprs_log.specs.Line.{line_of, written_line};
+ghost use Rattle.aprs_log.specs.Moment.{moment_text};
 
+use crate::fields::MOMENT_LEN;
 use crate::line::Line;
+use crate::moment::Moment;
 use crate::reception::Reception;
 use aprs_ax25::each_is_a_frame_or_refused;
-use aprs_io::{Counted, WriteFault, encode_to, push_all, send};
+use aprs_io::{Counted, WriteFault, encode_to, send};
 use aprs_kiss::{cut_plain, cuts_change_nothing, written_frames_are_read_back};
-use arrayvec::ArrayVec;
 use std::io::Write;
 
 /// The most bytes that a frame of 328 bytes is sent as: each byte as two, and three around them.
 const MAX_SPELLED: usize = 659;
-
-/// How many bytes are put as digits at once.
-const CHUNK: usize = 64;
 
 /// The most bytes of a line that is written: a moment, a name, two spaces, the digits and the LF.
 const MAX_WRITTEN: usize = 1357;
@@ -47,16 +46,20 @@ pub fn write_line<W: Write>(w: &mut Counted<W>, reception: &Reception) -> Result
 /// than to write a line.
 #[derive(Drop)]
 pub struct LogWriter {
-    line: ArrayVec<u8, MAX_WRITTEN>,
-    spelled: ArrayVec<u8, MAX_SPELLED>,
+    line: [u8; MAX_WRITTEN],
+    spelled: [u8; MAX_SPELLED],
+    /// The moment whose text the line begins with.
+    moment: Option<Moment>,
+    ghost begins: { IfSome moment (λ m. take 20 line ≡ moment_text m) } by { Prim.hlevel props },
 }
 
 impl LogWriter {
     /// A writer of lines. Takes no memory.
     pub fn new() -> LogWriter {
         LogWriter {
-            line: ArrayVec::new(),
-            spelled: ArrayVec::new(),
+            line: [0; MAX_WRITTEN],
+            spelled: [0; MAX_SPELLED],
+            moment: None,
         }
     }
 
@@ -75,39 +78,53 @@ impl LogWriter {
         // The line reads back as the reception.
         ensures reads_back { line_of (written_line reception.now) ≡ Ok (Line.Heard reception.now) }
     {
-        self.line.clear();
-        self.spelled.clear();
-        push_line(&mut self.line, &mut self.spelled, reception);
-        send(w, self.line.as_slice())
+        self.begin(reception.moment());
+        let len = put_line(&mut self.line, &mut self.spelled, reception);
+        send(w, &self.line[..len])
+    }
+
+    /// Has the line begin with the text of a moment, as it may from the line before.
+    fn begin(&mut self, moment: Moment)
+        ensures line { take 20 self.new.line ≡ moment_text moment }
+        ensures moment { self.new.moment ≡ Some moment }
+    {
+        let is_there = match &self.moment {
+            Some(last) => *last == moment,
+            None => false,
+        };
+        if !is_there {
+            put(&mut self.line, 0, &moment.text());
+            self.moment = Some(moment);
+        }
     }
 }
 
-/// Puts the line and its LF into `line`. Both are empty; `spelled` is room for the frame.
-fn push_line(
-    line: &mut ArrayVec<u8, MAX_WRITTEN>,
-    spelled: &mut ArrayVec<u8, MAX_SPELLED>,
-    reception: &Reception,
-)
-    requires line { line.old.items ≡ [] }
-    requires spelled { spelled.old.items ≡ [] }
-    ensures line { line.new.items ≡ written_line reception.now ++ 10 ∷ [] }
+/// Puts the line and its LF at the front of `line`, which begins with the text of its moment, and
+/// returns how many bytes they are. `spelled` is room for the frame.
+fn put_line(line: &mut [u8], spelled: &mut [u8], reception: &Reception) -> usize
+    requires line { length line.old ≡ 1357 }
+    requires spelled { length spelled.old ≡ 659 }
+    requires begins { take 20 line.old ≡ moment_text reception.now.moment }
+    ensures fits { result ≤ 1357 }
+    ensures len { length line.new ≡ 1357 }
+    ensures line { take result line.new ≡ written_line reception.now ++ 10 ∷ [] }
     ensures back { length (written_line reception.now) ≤ 8192
         → line_of (written_line reception.now) ≡ Ok (Line.Heard reception.now) }
 {
     written_laws();
-    push_all(line, &reception.moment().text());
-    push_all(line, b" ");
-    push_all(line, reception.receiver().as_bytes());
-    push_all(line, b" ");
+    reception.moment().has_a_text();
+    let space = put(line, MOMENT_LEN, b" ");
+    let receiver = put(line, space, reception.receiver().as_bytes());
+    let place = put(line, receiver, b" ");
     let frame = reception.frame().bytes();
     frames_are_read(frame);
-    push_frame(spelled, frame);
-    push_hex(line, spelled.as_slice());
-    push_all(line, b"\n");
+    let spelled_len = put_frame(spelled, frame);
+    let digits = put_hex(line, place, &spelled[..spelled_len]);
+    put(line, digits, b"\n")
 }
 
 /// What holds of every written frame. Does nothing.
-fn written_laws()
+pub(crate) fn written_laws()
     ensures { WrittenLaws }
 {
     cuts_change_nothing();
@@ -122,64 +139,62 @@ fn frames_are_read(frame: &[u8])
     each_is_a_frame_or_refused();
 }
 
-/// Puts what goes out for a frame into `out`, which is empty.
-fn push_frame(out: &mut ArrayVec<u8, MAX_SPELLED>, frame: &[u8])
-    requires few { length frame.now ≤ 328 }
-    requires empty { out.old.items ≡ [] }
-    ensures { out.new.items ≡ kiss_text frame.now }
+/// Puts bytes at a place, and returns the place after them.
+fn put(out: &mut [u8], at: usize, bytes: &[u8]) -> usize
+    requires { at + length bytes.now ≤ length out.old }
+    ensures end { result ≡ at + length bytes.now }
+    ensures len { length out.new ≡ length out.old }
+    ensures bytes { take result out.new ≡ take at out.old ++ bytes.now }
 {
-    push_all(out, &[0xC0, 0]);
+    let end = at + bytes.len();
+    out[at..end].copy_from_slice(bytes);
+    end
+}
+
+/// Puts the digits of bytes at a place, and returns the place after them.
+fn put_hex(out: &mut [u8], at: usize, bytes: &[u8]) -> usize
+    requires { at + 2 * length bytes.now ≤ length out.old }
+    ensures end { result ≡ at + 2 * length bytes.now }
+    ensures len { length out.new ≡ length out.old }
+    ensures digits { take result out.new ≡ take at out.old ++ encode_lower bytes.now }
+    ensures back { decode_of (encode_lower bytes.now) ≡ Ok bytes.now }
+{
+    let end = at + 2 * bytes.len();
+    encode_to(bytes, &mut out[at..end]);
+    end
+}
+
+/// Puts what goes out for a frame at the front of `out`, and returns how many bytes it is.
+fn put_frame(out: &mut [u8], frame: &[u8]) -> usize
+    requires few { length frame.now ≤ 328 }
+    requires room { length out.old ≡ 659 }
+    ensures fits { result ≤ 659 }
+    ensures len { length out.new ≡ 659 }
+    ensures bytes { take result out.new ≡ kiss_text frame.now }
+{
+    let mut end = put(out, 0, &[0xC0, 0]);
     let mut rest = frame;
     'cuts: loop {
         let (plain, mark) = cut_plain(rest);
-        push_all(out, plain);
+        end = put(out, end, plain);
         let Some((byte, after)) = mark else {
-            push_all(out, &[0xC0]);
-            return;
+            return put(out, end, &[0xC0]);
         };
-        push_spelled(out, byte);
+        end = put_spelled(out, end, byte);
         rest = after;
     }
 }
 
-/// Puts what goes out for a byte behind what is there.
-fn push_spelled(out: &mut ArrayVec<u8, MAX_SPELLED>, byte: u8)
-    requires { array_vec_len out.old + 2 ≤ 659 }
-    ensures value { out.new.items ≡ out.old.items ++ spelling_of_byte byte }
-    ensures len { array_vec_len out.new ≤ array_vec_len out.old + 2 }
+/// Puts what goes out for a byte at a place, and returns the place after it.
+fn put_spelled(out: &mut [u8], at: usize, byte: u8) -> usize
+    requires { at + 2 ≤ length out.old }
+    ensures end { result ≤ at + 2 }
+    ensures len { length out.new ≡ length out.old }
+    ensures bytes { take result out.new ≡ take at out.old ++ spelling_of_byte byte }
 {
     match byte {
-        0xC0 => push_all(out, &[0xDB, 0xDC]),
-        0xDB => push_all(out, &[0xDB, 0xDD]),
-        _ => push_all(out, &[byte]),
+        0xC0 => put(out, at, &[0xDB, 0xDC]),
+        0xDB => put(out, at, &[0xDB, 0xDD]),
+        _ => put(out, at, &[byte]),
     }
-}
-
-/// Puts the digits of bytes behind what is there.
-fn push_hex(out: &mut ArrayVec<u8, MAX_WRITTEN>, bytes: &[u8])
-    requires few { length bytes.now ≤ 659 }
-    requires room { array_vec_len out.old + 2 * length bytes.now ≤ 1357 }
-    ensures items { out.new.items ≡ out.old.items ++ encode_lower bytes.now }
-    ensures len { array_vec_len out.new ≡ array_vec_len out.old + 2 * length bytes.now }
-    ensures back { decode_of (encode_lower bytes.now) ≡ Ok bytes.now }
-{
-    let mut rest = bytes;
-    'chunks: while !rest.is_empty() {
-        let (chunk, after) = rest.split_at(rest.len().min(CHUNK));
-        push_chunk(out, chunk);
-        rest = after;
-    }
-}
-
-/// Puts the digits of a few bytes behind what is there.
-fn push_chunk(out: &mut ArrayVec<u8, MAX_WRITTEN>, bytes: &[u8])
-    requires few { length bytes.now ≤ 64 }
-    requires room { array_vec_len out.old + 2 * length bytes.now ≤ 1357 }
-    ensures items { out.new.items ≡ out.old.items ++ encode_lower bytes.now }
-    ensures len { array_vec_len out.new ≡ array_vec_len out.old + 2 * length bytes.now }
-{
-    let mut digits = [0; 2 * CHUNK];
-    let digits = &mut digits[..2 * bytes.len()];
-    encode_to(bytes, digits);
-    push_all(out, digits);
 }

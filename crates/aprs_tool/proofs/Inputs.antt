@@ -19,7 +19,7 @@ use Rattle.aprs_booktext.specs.declared.fault.BookFault.{BookFault}
 use Rattle.aprs_booktext.proofs.Accepting.{rows_few}
 use Rattle.aprs_booktext.proofs.OneText.{cut_short}
 use Rattle.aprs_tool.specs.Head.{IsHead}
-use Rattle.aprs_tool.specs.Inputs.{AreMembersIn, HoldsOfGot, is_book_file, IsFaultIn, IsMemoryIn, OfGot, ReadsInput, ReadsLog}
+use Rattle.aprs_tool.specs.Inputs.{AddsAll, AreMembersIn, HoldsOfGot, is_book_file, IsFaultIn, IsMemoryIn, OfGot, ReadsInput, ReadsInto, ReadsLog}
 use Rattle.aprs_tool.specs.declared.fault.InputFault.{InputFault}
 use Rattle.aprs_tool.specs.declared.fault.InputFault.TheVariants.{Log, Book, Memory}
 
@@ -109,37 +109,42 @@ memory_log : (b : Bool) (e : InputFault) (t : List ℕ) → b ≡ false → IsMe
 memory_log true e t is h = absurd cc
 memory_log false e t is h = h
 
-reads_log : (r : Result (List Row) InputFault) (t : List ℕ) (c : Ending) → is_book_file t ≡ false → ReadsLog r t c → ReadsInput r t c
-reads_log (Ok rows) t c is h = (
+-- rows that nothing is added to
+pub adds_none : (rows : List Row) → AddsAll [] rows rows
+adds_none rows S book = subst (λ T. BookOf gap_seconds T rows) (sym (append-nil S)) book
+
+reads_log : (r : Result (Unit {0}) InputFault) (old new : List Row) (t : List ℕ) (c : Ending) → is_book_file t ≡ false → ReadsLog r old new t c
+    → ReadsInto r old new t c
+reads_log (Ok u) old new t c is h = (
   faultless_log (is_book_file t) t c is h.0,
   (receptions_of (log_answers t c).given, members_log (is_book_file t) t c is, h.1),
 )
-reads_log (Err e) t c is h = elim h [
-  | inl m ↦ inl (memory_log (is_book_file t) e t is m)
-  | inr f ↦ inr (fault_log (is_book_file t) e t c is f)
+reads_log (Err e) old new t c is h = elim h [
+  | inl m ↦ inl (inl (memory_log (is_book_file t) e t is m))
+  | inr f ↦ inl (inr (fault_log (is_book_file t) e t c is f))
 ]
 
 -- what was got of one is read as a log's text
-pub log_input : (known after : Option (List ℕ)) (limit : ℕ) (head : List ℕ) (r : Result (List Row) InputFault) → IsHead head → (head ≡ mark → ⊥)
-    → IfSome known (λ input. HoldsOfGot limit (head ++ input) after (ReadsLog r)) → IfSome known (λ input. HoldsOfGot limit (head ++ input) after (ReadsInput r))
-log_input None after limit head r size other h = tt
-log_input (Some input) after limit head r size other h = record {
+pub log_input : (known after : Option (List ℕ)) (limit : ℕ) (head : List ℕ) (r : Result (Unit {0}) InputFault) (old new : List Row) → IsHead head → (head ≡ mark → ⊥)
+    → IfSome known (λ input. HoldsOfGot limit (head ++ input) after (ReadsLog r old new)) → IfSome known (λ input. HoldsOfGot limit (head ++ input) after (ReadsInto r old new))
+log_input None after limit head r old new size other h = tt
+log_input (Some input) after limit head r old new size other h = record {
   text = h.text;
   ending = h.ending;
   gets = h.gets;
-  holds = reads_log r h.text h.ending (is_log head input h.text h.gets.rest size other h.gets.whole) h.holds;
+  holds = reads_log r old new h.text h.ending (is_log head input h.text h.gets.rest size other h.gets.whole) h.holds;
 }
 
 -- a short one has this fault, or none
-pub short_fault : (t : List ℕ) (c : Ending) (k : LogCause) → length t < 8 → log_answers t c ≡ ended (fault_at 1 (Some k))
-    → ReadsInput (Err (Log (record { line = 1; cause = k }))) t c
-short_fault t c k short e =
-    reads_log (Err (Log (record { line = 1; cause = k }))) t c (short_is_log t short) (inr (ap (λ a. a.fault) e))
+pub short_fault : (t : List ℕ) (c : Ending) (k : LogCause) (rows : List Row) → length t < 8 → log_answers t c ≡ ended (fault_at 1 (Some k))
+    → ReadsInto (Err (Log (record { line = 1; cause = k }))) rows rows t c
+short_fault t c k rows short e =
+    reads_log (Err (Log (record { line = 1; cause = k }))) rows rows t c (short_is_log t short) (inr (ap (λ a. a.fault) e))
 
-pub short_empty : (t : List ℕ) (c : Ending) (rows : List Row) → length t < 8 → log_answers t c ≡ ended (fault_at 1 None) → BookOf gap_seconds [] rows
-    → ReadsInput (Ok rows) t c
-short_empty t c rows short e book =
-    reads_log (Ok rows) t c (short_is_log t short) (ap (λ a. a.fault) e, subst (λ a. BookOf gap_seconds (receptions_of a.given) rows) (sym e) book)
+pub short_empty : (t : List ℕ) (c : Ending) (rows : List Row) → length t < 8 → log_answers t c ≡ ended (fault_at 1 None)
+    → ReadsInto (Ok tt) rows rows t c
+short_empty t c rows short e =
+    reads_log (Ok tt) rows rows t c (short_is_log t short) (ap (λ a. a.fault) e, subst (λ a. AddsAll (receptions_of a.given) rows rows) (sym e) (adds_none rows))
 
 -- ---- a book file
 
@@ -211,7 +216,7 @@ refused_input (Some input) after limit head f small is h = subst (λ l. HoldsOfG
     (refused_book limit input after small f (subst (λ l. Reads limit l input after (Err f)) is h))
 
 -- what was got is read so
-pub of_got : (known after : Option (List ℕ)) (limit : ℕ) (t : List ℕ) (c : Ending) (r : Result (List Row) InputFault) → IfSome known (λ input. Gets limit input after t c) → ReadsInput r t c
-    → OfGot limit known after (ReadsInput r)
-of_got None after limit t c r gets reads = tt
-of_got (Some input) after limit t c r gets reads = record { text = t; ending = c; gets = gets; holds = reads }
+pub of_got : (known after : Option (List ℕ)) (limit : ℕ) (t : List ℕ) (c : Ending) (r : Result (Unit {0}) InputFault) (old new : List Row) → IfSome known (λ input. Gets limit input after t c)
+    → ReadsInto r old new t c → OfGot limit known after (ReadsInto r old new)
+of_got None after limit t c r old new gets reads = tt
+of_got (Some input) after limit t c r old new gets reads = record { text = t; ending = c; gets = gets; holds = reads }

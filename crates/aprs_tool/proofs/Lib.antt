@@ -1,6 +1,7 @@
 pub mod Texts
 pub mod Desks
 pub mod Inputs
+pub mod Into
 pub mod Logs
 pub mod Lines
 pub mod Shows

@@ -1,5 +1,5 @@
 -- Lemmas on the book of a log whose lines are read one by one.
-use Rattle.std.proofs.Common.{◌≡◌, ℕ, List, [], ◌∷◌, ◌++◌, Option, None, Some, Result, Ok, Err, IfSome, inl, inr, refl, ap, sym, ◌∙◌, append-nil, subst}
+use Rattle.std.proofs.Common.{◌≡◌, ℕ, List, [], ◌∷◌, ◌++◌, Option, None, Some, Result, Ok, Err, IfSome, inl, inr, refl, ap, sym, ◌∙◌, append_assoc, append-nil, subst}
 use Rattle.aprs_laws.specs.Book.{BookOf}
 use Rattle.aprs_laws.specs.Gap.{gap_seconds}
 use Rattle.aprs_laws.specs.Row.{Row}
@@ -13,6 +13,7 @@ use Rattle.aprs_log.proofs.AwaitLemmas.{gets_whole}
 use Rattle.aprs_tool.specs.Inputs.{AddsAll, HoldsOfGot, ReadsLog}
 use Rattle.aprs_tool.specs.declared.fault.InputFault.{InputFault}
 use Rattle.aprs_tool.specs.declared.fault.InputFault.TheVariants.{Log, Memory}
+use Rattle.aprs_tool.proofs.Inputs.{adds_none}
 use Rattle.aprs_tool.proofs.Seen.{HasSeen, HasSeen-none, HasSeen-line, prepended}
 
 receptions_of-append : (xs ys : List Line) → receptions_of (xs ++ ys) ≡ receptions_of xs ++ receptions_of ys
@@ -20,57 +21,59 @@ receptions_of-append [] ys = refl
 receptions_of-append (Heard x ∷ xs) ys = ap (λ l. x ∷ l) (receptions_of-append xs ys)
 receptions_of-append (Passed reason ∷ xs) ys = receptions_of-append xs ys
 
--- the rows are the book of the lines that were read
-pub record Took (first now : Answers → Type 0) (rows : List Row) : Type 0 where
+-- the lines that were read were taken into the old rows
+pub record Took (first now : Answers → Type 0) (old rows : List Row) : Type 0 where
   pub seen : List Line
   pub has : HasSeen first now seen
-  pub book : BookOf gap_seconds (receptions_of seen) rows
+  pub adds : AddsAll (receptions_of seen) old rows
 
-pub Took-none : (first : Answers → Type 0) (rows : List Row) → BookOf gap_seconds [] rows → Took first first rows
-Took-none first rows book = record { seen = []; has = HasSeen-none first; book = book }
+pub Took-none : (first : Answers → Type 0) (rows : List Row) → Took first first rows rows
+Took-none first rows = record { seen = []; has = HasSeen-none first; adds = adds_none rows }
 
 -- a line was taken, which the reader lent
-pub Took-line : (first now after : Answers → Type 0) (rows new : List Row) (x lent : Line) → lent ≡ x → Took first now rows
-    → ((answers : Answers) → after answers → now (then_given x answers)) → AddsAll (receptions_of (lent ∷ [])) rows new → Took first after new
-Took-line first now after rows new x lent same h next adds = record {
+pub Took-line : (first now after : Answers → Type 0) (old rows new : List Row) (x lent : Line) → lent ≡ x → Took first now old rows
+    → ((answers : Answers) → after answers → now (then_given x answers)) → AddsAll (receptions_of (lent ∷ [])) rows new → Took first after old new
+Took-line first now after old rows new x lent same h next adds = record {
   seen = h.seen ++ x ∷ [];
   has = HasSeen-line first now after h.seen x h.has next;
-  book = subst (λ S. BookOf gap_seconds S new)
-      (ap (λ (y : Line). receptions_of h.seen ++ receptions_of (y ∷ [])) same ∙ sym (receptions_of-append h.seen (x ∷ [])))
-      (adds (receptions_of h.seen) h.book);
+  adds = λ S book. subst (λ T. BookOf gap_seconds T new)
+      (append_assoc S (receptions_of h.seen) (receptions_of (lent ∷ []))
+      ∙ ap (λ (y : Line). S ++ (receptions_of h.seen ++ receptions_of (y ∷ []))) same ∙ ap (λ T. S ++ T) (sym (receptions_of-append h.seen (x ∷ []))))
+      (adds (S ++ receptions_of h.seen) (h.adds S book));
 }
 
 -- of a log whose answers are these
-over_log : (known end : Option (List ℕ)) (limit : ℕ) (head : List ℕ) (a : Answers) (r : Result (List Row) InputFault)
-    → IfSome known (λ input. AreAnswersOf limit (head ++ input) end a) → ((t : List ℕ) (c : Ending) → a ≡ log_answers t c → ReadsLog r t c)
-    → IfSome known (λ input. HoldsOfGot limit (head ++ input) end (ReadsLog r))
-over_log None end limit head a r h reads = tt
-over_log (Some input) end limit head a r h reads = record { text = h.text; ending = h.ending; gets = h.gets; holds = reads h.text h.ending h.is }
+over_log : (known end : Option (List ℕ)) (limit : ℕ) (head : List ℕ) (a : Answers) (r : Result (Unit {0}) InputFault) (old new : List Row)
+    → IfSome known (λ input. AreAnswersOf limit (head ++ input) end a) → ((t : List ℕ) (c : Ending) → a ≡ log_answers t c → ReadsLog r old new t c)
+    → IfSome known (λ input. HoldsOfGot limit (head ++ input) end (ReadsLog r old new))
+over_log None end limit head a r old new h reads = tt
+over_log (Some input) end limit head a r old new h reads = record { text = h.text; ending = h.ending; gets = h.gets; holds = reads h.text h.ending h.is }
 
 -- the log ended
-pub Took-ended : (first now : Answers → Type 0) (rows : List Row) (known end : Option (List ℕ)) (limit : ℕ) (head : List ℕ) → Took first now rows
+pub Took-ended : (first now : Answers → Type 0) (old rows : List Row) (known end : Option (List ℕ)) (limit : ℕ) (head : List ℕ) → Took first now old rows
     → now (ended None) → ((a : Answers) → first a → IfSome known (λ input. AreAnswersOf limit (head ++ input) end a))
-    → IfSome known (λ input. HoldsOfGot limit (head ++ input) end (ReadsLog (Ok rows)))
-Took-ended first now rows known end limit head h may whole =
+    → IfSome known (λ input. HoldsOfGot limit (head ++ input) end (ReadsLog (Ok tt) old rows))
+Took-ended first now old rows known end limit head h may whole =
     let all = prepended h.seen (ended None) in
-    over_log known end limit head all (Ok rows) (whole all (h.has.complete (ended None) may))
+    over_log known end limit head all (Ok tt) old rows (whole all (h.has.complete (ended None) may))
     (λ t c e. (
       ap (λ (a : Answers). a.fault) (sym e),
-      subst (λ (a : Answers). BookOf gap_seconds (receptions_of a.given) rows) e
-          (subst (λ lines. BookOf gap_seconds (receptions_of lines) rows) (sym (append-nil h.seen)) h.book),
+      subst (λ (a : Answers). AddsAll (receptions_of a.given) old rows) e
+          (subst (λ lines. AddsAll (receptions_of lines) old rows) (sym (append-nil h.seen)) h.adds),
     ))
 
 -- the log has a fault
-pub Took-fault : (first now : Answers → Type 0) (rows : List Row) (known end : Option (List ℕ)) (limit : ℕ) (head : List ℕ) (fault : LogFault) → Took first now rows
+pub Took-fault : (first now : Answers → Type 0) (old rows : List Row) (known end : Option (List ℕ)) (limit : ℕ) (head : List ℕ) (fault : LogFault) → Took first now old rows
     → now (ended (Some fault)) → ((a : Answers) → first a → IfSome known (λ input. AreAnswersOf limit (head ++ input) end a))
-    → IfSome known (λ input. HoldsOfGot limit (head ++ input) end (ReadsLog (Err (Log fault))))
-Took-fault first now rows known end limit head fault h may whole =
+    → IfSome known (λ input. HoldsOfGot limit (head ++ input) end (ReadsLog (Err (Log fault)) old rows))
+Took-fault first now old rows known end limit head fault h may whole =
     let all = prepended h.seen (ended (Some fault)) in
-    over_log known end limit head all (Err (Log fault)) (whole all (h.has.complete (ended (Some fault)) may))
+    over_log known end limit head all (Err (Log fault)) old rows (whole all (h.has.complete (ended (Some fault)) may))
     (λ t c e. inr (ap (λ (a : Answers). a.fault) (sym e)))
 
 -- memory was refused
-pub Took-refused : (known end : Option (List ℕ)) (limit : ℕ) (head : List ℕ) → IfSome known (λ input. HoldsOfGot limit (head ++ input) end (ReadsLog (Err Memory)))
-Took-refused None end limit head = tt
-Took-refused (Some input) end limit head =
+pub Took-refused : (known end : Option (List ℕ)) (limit : ℕ) (head : List ℕ) (old new : List Row)
+    → IfSome known (λ input. HoldsOfGot limit (head ++ input) end (ReadsLog (Err Memory) old new))
+Took-refused None end limit head old new = tt
+Took-refused (Some input) end limit head old new =
     let g = gets_whole limit (head ++ input) end in record { text = g.text; ending = g.ending; gets = g.gets; holds = inl tt }

@@ -4,9 +4,9 @@ use Rattle.aprs_laws.specs.Row.{Row}
 use Rattle.aprs_tool.specs.declared.desk.Desk.{Desk}
 
 -- the rows of its book
-abbrev pub rows_of : Desk → List Row
+abbrev pub rows_of : {A : Type 0} → Desk A → List Row
 rows_of desk = desk.book
 
 -- how many bytes it reads of an input at most
-abbrev pub limit_of : Desk → ℕ
+abbrev pub limit_of : {A : Type 0} → Desk A → ℕ
 limit_of desk = desk.limit

@@ -1,6 +1,6 @@
 -- What an input gives and how it is refused, by the text that was got of it and by what came after
 -- that.
-use Rattle.std.specs.Prelude.{◌≡◌, ◌==◌, ◌⊎◌, ℕ, Bool, true, false, List, ◌++◌, codes, Option, None, Some, Result, Ok, Err, IfSome}
+use Rattle.std.specs.Prelude.{◌≡◌, ◌≢◌, ◌==◌, ◌⊎◌, ℕ, Bool, true, false, List, [], ◌++◌, codes, Option, None, Some, Result, Ok, Err, IfSome}
 use Rattle.std.specs.List.{starts_with}
 use Rattle.aprs_log.specs.LogAnswers.{log_answers, receptions_of, Gets}
 use Rattle.aprs_log.specs.Reception.{Heard}
@@ -80,12 +80,6 @@ abbrev pub ReadsInput : Result (List Row) InputFault → List ℕ → Ending →
 ReadsInput (Ok rows) t c = IsFaultless t c × IsBookOfInput rows t c
 ReadsInput (Err e) t c = IsRefused e t c
 
--- the same of a text that is known to be a log's
-abbrev pub ReadsLog : Result (List Row) InputFault → List ℕ → Ending → Type 0
-ReadsLog (Ok rows) t c = ((log_answers t c).fault ≡ None)
-    × BookOf gap_seconds (receptions_of (log_answers t c).given) rows
-ReadsLog (Err e) t c = IsMemoryIn false e t ⊎ IsFaultIn false e t c
-
 -- whatever set the old rows are the book of, the new are that of this set and the receptions
 abbrev pub AddsAll : List Heard → List Row → List Row → Type 0
 AddsAll T old new =
@@ -98,6 +92,25 @@ abbrev pub TakesInput : Result (Unit {0}) InputFault → List Row → List Row �
 TakesInput (Ok u) old new t c =
     IsFaultless t c × ((T : List Heard) × AreMembers t c T × AddsAll T old new)
 TakesInput (Err e) old new t c = IsNotTaken e t c
+
+-- a refused input, or a faultless one where memory was refused for the merge with rows that were
+-- there
+abbrev pub IsNotRead : InputFault → List Row → List ℕ → Ending → Type 0
+IsNotRead e old t c = IsRefused e t c ⊎ ((e ≡ Memory) × (old ≢ []) × IsFaultless t c)
+
+-- the receptions of a faultless input are taken into rows, and any other input is refused
+abbrev pub ReadsInto : Result (Unit {0}) InputFault → List Row → List Row → List ℕ → Ending
+    → Type 0
+ReadsInto (Ok u) old new t c =
+    IsFaultless t c × ((T : List Heard) × AreMembers t c T × AddsAll T old new)
+ReadsInto (Err e) old new t c = IsNotRead e old t c
+
+-- the same of a text that is known to be a log's
+abbrev pub ReadsLog : Result (Unit {0}) InputFault → List Row → List Row → List ℕ → Ending
+    → Type 0
+ReadsLog (Ok u) old new t c = ((log_answers t c).fault ≡ None)
+    × AddsAll (receptions_of (log_answers t c).given) old new
+ReadsLog (Err e) old new t c = IsMemoryIn false e t ⊎ IsFaultIn false e t c
 
 -- ---- what is got of it
 

@@ -10,6 +10,7 @@ use Rattle.clap.specs.Words.{App, Row, Rule, Text, all_of, first_of, new_app, ne
 use Rattle.clap.specs.Words.{IsAmong, fault_of, kind_of, takes, with_rule, with_subcommand}
 use Rattle.clap.specs.declared.builder.value_parser.ValueParser.{ValueParser}
 use Rattle.clap.specs.declared.builder.value_parser.ValueParser.TheVariants as vp
+use Rattle.clap.specs.declared.builder.possible_value.PossibleValue.{PossibleValue}
 use Rattle.aprs_log.specs.Moment.{moment_of}
 use Rattle.aprs_log.specs.Receiver.{is_name}
 use Rattle.aprs_tool.specs.declared.form.Form.{Form}
@@ -26,19 +27,26 @@ use Rattle.aprs_tool.specs.declared.words.Task.TheVariants as task
 abbrev pub form_names : List Text
 form_names = codes "text" ∷ codes "kind" ∷ codes "kiss" ∷ codes "log" ∷ codes "capture" ∷ []
 
+-- all words for a value
+abbrev pub words_for : PossibleValue → List Text
+words_for v = v.name.now ∷ map (λ s. s.now) v.aliases.now
+
+-- each has the name of a form, and no other word
+abbrev pub AreForms : List PossibleValue → Type 0
+AreForms values = map words_for values ≡ map (λ name. name ∷ []) form_names
+
 -- takes the names of the forms and no other word
 abbrev pub IsForms : ValueParser → Type 0
-IsForms p = (names : Bor (List (Bor Text))) × (p ≡ vp.Names names)
-    × (map (λ s. s.now) names.now ≡ form_names)
+IsForms p = (values : Bor (List PossibleValue)) × (p ≡ vp.Values values) × AreForms values.now
 
 abbrev pub form_rule : ValueParser → Rule
-form_rule p = record (new_rule (codes "form")) { required = true; parser = Some p }
+form_rule p = record (new_rule (codes "form")) { required = true; parser = Some p; value_names = 1 }
 
 abbrev pub option_rule : Text → Rule
-option_rule name = record (new_rule name) { long = Some name }
+option_rule name = record (new_rule name) { long = Some name; value_names = 1 }
 
 abbrev pub input_rule : Rule
-input_rule = new_rule (codes "input")
+input_rule = record (new_rule (codes "input")) { value_names = 1 }
 
 -- any number of inputs
 abbrev pub inputs_rule : Rule
@@ -60,9 +68,14 @@ merge_app = with_rule (new_app (codes "merge")) inputs_rule
 abbrev pub show_app : App
 show_app = with_rule (new_app (codes "show")) inputs_rule
 
+-- it has a version
+abbrev pub program_top : App
+program_top = let a = new_app (codes "aprsbook") in
+    record a { top = record a.top { has_version = true } }
+
 abbrev pub program_app : ValueParser → App
-program_app p = with_subcommand (with_subcommand (with_subcommand (with_subcommand
-    (new_app (codes "aprsbook")) (convert_app p).top) check_app.top) merge_app.top) show_app.top
+program_app p = with_subcommand (with_subcommand (with_subcommand (with_subcommand program_top
+    (convert_app p).top) check_app.top) merge_app.top) show_app.top
 
 -- ---- what is read of the matches
 

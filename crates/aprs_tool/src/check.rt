@@ -13,15 +13,15 @@ use crate::text::{Text, push_decimal};
 use aprs_io::push_all;
 use aprs_kiss::{Counted, WriteFault, send};
 use aprs_log::{Line, LogReader, Reason};
-use std::alloc::Global;
+use std::alloc::Allocator;
 use std::io::{Read, Write};
 
 /// Writes a line for each line of a log that holds no frame, with the reason, and last how many
 /// lines are heard and how many passed over. Requires that `limit` is at most 1,073,741,824
 /// (`MAX_INPUT`). At a fault all lines before it have been reported, and there are no totals; at
 /// `Write` a prefix of the text was written. Takes no memory.
-pub fn check_run<R: Read, W: Write>(
-    alloc: Global,
+pub fn check_run<R: Read, W: Write, A: Allocator + Copy>(
+    alloc: A,
     limit: u64,
     r: &mut Counted<R>,
     w: &mut Counted<W>,

@@ -8,12 +8,12 @@ use crate::fault::RunFault;
 use crate::form::Form;
 use aprs_kiss::Counted;
 use aprs_log::LogReader;
-use std::alloc::Global;
+use std::alloc::Allocator;
 use std::io::{Read, Write};
 
 /// Writes what a form gives for each line of a log.
-pub fn convert_lines<R: Read, W: Write>(
-    alloc: Global,
+pub fn convert_lines<R: Read, W: Write, A: Allocator + Copy>(
+    alloc: A,
     limit: u64,
     form: &Form,
     r: &mut Counted<R>,

@@ -2,22 +2,22 @@
 ghost use Rattle.std.specs.Prelude.{◌≤◌};
 
 use crate::fault::InputFault;
-use crate::input::read_input;
+use crate::input::{merged, read_input};
 use aprs_book::Book;
 use aprs_kiss::Counted;
-use std::alloc::Global;
+use std::alloc::{Allocator, Global};
 use std::io::Read;
 
 /// A book, and what is needed to read further inputs into it.
 #[derive(Drop)]
-pub struct Desk {
-    alloc: Global,
+pub struct Desk<A: Allocator = Global> {
+    alloc: A,
     limit: u64,
-    book: Book,
+    book: Book<A>,
     ghost few: { limit ≤ 1073741824 },
 }
 
-impl Desk {
+impl<A: Allocator + Copy> Desk<A> {
     ghost use Rattle.std.specs.Prelude.{◌≡◌, ◌≤◌, [], IfErr, IsErrAnd, OnErr};
     ghost use Rattle.aprs_kiss.specs.Device.{device_of, failures_of, answered_of, Rose, RoseWhere};
     ghost use Rattle.aprs_laws.specs.Book.{BookOf};
@@ -28,7 +28,7 @@ impl Desk {
 
     /// An empty book, into which inputs are read up to `limit` bytes each. Requires that `limit` is
     /// at most 1,073,741,824 (`MAX_INPUT`). Takes no memory.
-    pub fn new(alloc: Global, limit: u64) -> Desk
+    pub fn new(alloc: A, limit: u64) -> Desk<A>
         requires { limit ≤ 1073741824 }
         ensures rows { rows_of result ≡ [] }
         ensures book { BookOf gap_seconds [] (rows_of result) }
@@ -58,19 +58,19 @@ impl Desk {
             (answered_of r.new) }
     {
         let input = read_input(self.alloc, self.limit, r)?;
-        self.book = self.book.merge(&input)?;
+        self.book = merged(&self.book, input)?;
         Ok(())
     }
 
     /// The book. Takes no memory.
-    pub fn book(&self) -> &Book
+    pub fn book(&self) -> &Book<A>
         ensures { result.now ≡ rows_of self.now }
     {
         &self.book
     }
 
     /// Gives the book. Takes no memory.
-    pub fn into_book(self) -> Book
+    pub fn into_book(self) -> Book<A>
         ensures { result ≡ rows_of self }
     {
         self.book

@@ -32,7 +32,7 @@ pub enum Job {
 /// Why the program's words ask for nothing.
 #[derive(Drop)]
 pub enum JobFault {
-    /// The words are not those of the command, or ask for help: its text says so.
+    /// The words are not those of the command, or ask for help or the version: its text says so.
     Clap(clap::Error),
     /// The options of `capture` are missing, unreadable or given to another form.
     Options,

@@ -1,10 +1,14 @@
 //! The book of an input, which is a log or a book file.
-ghost use Rattle.std.specs.Prelude.{◌≡◌, ◌↔◌, ◌<◌, ◌≤◌, ◌∷◌, [], ◌++◌, false, length, None, Some, IfSome, IfErr, IsErrAnd, OnOk, OnErr};
+ghost use Rattle.std.specs.Prelude.{◌≡◌, ◌≢◌, ◌↔◌, ◌<◌, ◌≤◌, ◌∷◌, [], ◌++◌, false, length, List, None, Some, IfSome, IfOk, IfErr, IsErrAnd, OnOk, OnErr};
 ghost use Rattle.std.specs.List.{list_any};
 ghost use Rattle.aprs_kiss.specs.Device.{device_of, failures_of, answered_of, Rose, RoseWhere};
 ghost use Rattle.aprs_log.specs.LogAnswers.{ended, fault_at, is_lf, log_answers, receptions_of};
+ghost use Rattle.aprs_laws.specs.Gap.{gap_seconds};
+ghost use Rattle.aprs_laws.specs.Row.{Row};
+ghost use Rattle.aprs_book.specs.Taking.{MergesInto};
 ghost use Rattle.aprs_tool.specs.Head.{IsHead};
-ghost use Rattle.aprs_tool.specs.Inputs.{AddsAll, HoldsOfGot, OfGot, ReadsInput, ReadsLog};
+ghost use Rattle.aprs_tool.specs.Inputs.{AddsAll, HoldsOfGot, OfGot, ReadsInput, ReadsInto};
+ghost use Rattle.aprs_tool.specs.Inputs.{ReadsLog};
 ghost use Rattle.aprs_tool.specs.Run.{IsReadFault};
 
 use crate::fault::InputFault;
@@ -13,7 +17,7 @@ use aprs_book::{Book, Memory};
 use aprs_booktext::read_book;
 use aprs_kiss::Counted;
 use aprs_log::{Ending, Line, LogCause, LogFault, LogReader};
-use std::alloc::Global;
+use std::alloc::Allocator;
 use std::io::Read;
 
 /// The text of a book begins so.
@@ -26,11 +30,11 @@ const BOOK_MARK: &[u8] = b"APRSBOOK";
 /// with that cause and the line that was being read. An input of which fewer than eight bytes are
 /// got is a log, and one with an LF among its first eight is judged by that line first. Holds the
 /// book and one line.
-pub fn read_input<R: Read>(
-    alloc: Global,
+pub fn read_input<R: Read, A: Allocator + Copy>(
+    alloc: A,
     limit: u64,
     r: &mut Counted<R>,
-) -> Result<Book, InputFault>
+) -> Result<Book<A>, InputFault>
     requires { limit ≤ 1073741824 }
     ensures reads { OfGot limit (R.remaining (device_of r.old))
         (R.remaining (device_of r.new)) (ReadsInput result) }
@@ -41,26 +45,50 @@ pub fn read_input<R: Read>(
     ensures answered { RoseWhere (IsErrAnd result IsReadFault) (answered_of r.old)
         (answered_of r.new) }
 {
+    let mut book = Book::new(alloc);
+    read_into(alloc, limit, &mut book, r)?;
+    Ok(book)
+}
+
+/// Reads an input, as `read_input` does, into a book: that of a set becomes the book of that set and
+/// of the input's receptions. `Memory` also comes where it was refused for a merge with rows that
+/// were there. After a fault the book may have any rows.
+pub(crate) fn read_into<R: Read, A: Allocator + Copy>(
+    alloc: A,
+    limit: u64,
+    book: &mut Book<A>,
+    r: &mut Counted<R>,
+) -> Result<(), InputFault>
+    requires { limit ≤ 1073741824 }
+    ensures reads { OfGot limit (R.remaining (device_of r.old))
+        (R.remaining (device_of r.new)) (ReadsInto result book.old book.new) }
+    ensures count { failures_of r.old ≤ failures_of r.new }
+    ensures read { IfErr result (λ e. IsReadFault e
+        → Rose (failures_of r.old) (failures_of r.new)) }
+    ensures answered { RoseWhere (IsErrAnd result IsReadFault) (answered_of r.old)
+        (answered_of r.new) }
+{
     match read_head(limit, r) {
-        Ok(head) => read_whole(alloc, limit, head.as_slice(), r),
-        Err(short) => read_short(alloc, &short),
+        Ok(head) => read_whole(alloc, limit, head.as_slice(), book, r),
+        Err(short) => read_short(&short),
     }
 }
 
-/// The book of an input that begins with these bytes, which tell what it is.
-fn read_whole<R: Read>(
-    alloc: Global,
+/// Reads an input that begins with these bytes, which tell what it is.
+fn read_whole<R: Read, A: Allocator + Copy>(
+    alloc: A,
     limit: u64,
     head: &[u8],
+    book: &mut Book<A>,
     r: &mut Counted<R>,
-) -> Result<Book, InputFault>
+) -> Result<(), InputFault>
     requires limit { limit ≤ 1073741824 }
     requires head { IsHead head.now }
     requires few { length head.now ≤ 8 }
     requires within { length head.now ≤ limit }
     ensures reads { IfSome (R.remaining (device_of r.old))
         (λ input. HoldsOfGot limit (head.now ++ input) (R.remaining (device_of r.new))
-        (ReadsInput result)) }
+        (ReadsInto result book.old book.new)) }
     ensures count { failures_of r.old ≤ failures_of r.new }
     ensures read { IfErr result (λ e. IsReadFault e
         → Rose (failures_of r.old) (failures_of r.new)) }
@@ -68,25 +96,27 @@ fn read_whole<R: Read>(
         (answered_of r.new) }
 {
     if head != BOOK_MARK {
-        return read_log(alloc, limit, head, r);
+        return read_log(alloc, limit, head, book, r);
     }
-    let book = read_book(alloc, limit, head, r)?;
-    Ok(book)
+    let input = read_book(alloc, limit, head, r)?;
+    *book = merged(book, input)?;
+    Ok(())
 }
 
-/// The book of the receptions of a log that begins with `head`.
-fn read_log<R: Read>(
-    alloc: Global,
+/// Takes the receptions of a log that begins with `head`.
+fn read_log<R: Read, A: Allocator + Copy>(
+    alloc: A,
     limit: u64,
     head: &[u8],
+    book: &mut Book<A>,
     r: &mut Counted<R>,
-) -> Result<Book, InputFault>
+) -> Result<(), InputFault>
     requires limit { limit ≤ 1073741824 }
     requires head { length head.now ≤ 8 }
     requires within { length head.now ≤ limit }
     ensures reads { IfSome (R.remaining (device_of r.old))
         (λ input. HoldsOfGot limit (head.now ++ input) (R.remaining (device_of r.new))
-        (ReadsLog result)) }
+        (ReadsLog result book.old book.new)) }
     ensures count { failures_of r.old ≤ failures_of r.new }
     ensures read { IfErr result (λ e. IsReadFault e
         → Rose (failures_of r.old) (failures_of r.new)) }
@@ -94,17 +124,16 @@ fn read_log<R: Read>(
         (answered_of r.new) }
 {
     let mut reader = LogReader::new(alloc, limit, head, r);
-    let mut book = Book::new(alloc);
     'lines: loop {
         if !reader.advance()? {
-            return Ok(book);
+            return Ok(());
         }
-        take_line(&mut book, reader.current())?;
+        take_line(book, reader.current())?;
     }
 }
 
 /// Takes what a line tells, if it tells a reception.
-fn take_line(book: &mut Book, line: &Line) -> Result<(), Memory>
+fn take_line<A: Allocator + Copy>(book: &mut Book<A>, line: &Line) -> Result<(), Memory>
     ensures { OnOk result (AddsAll (receptions_of (line.now ∷ [])) book.old book.new) }
 {
     match line {
@@ -113,16 +142,28 @@ fn take_line(book: &mut Book, line: &Line) -> Result<(), Memory>
     }
 }
 
+/// The book of both sets together: the second itself where the first has no rows.
+pub(crate) fn merged<A: Allocator + Copy>(book: &Book<A>, input: Book<A>) -> Result<Book<A>, Memory>
+    ensures merges { IfOk result (MergesInto gap_seconds book.now input) }
+    ensures some { OnErr result (book.now ≢ []) }
+{
+    if book.len() == 0 {
+        return Ok(input);
+    }
+    book.merge(&input)
+}
+
 /// The answer for an input that is too short to tell what it is: that of a log.
-fn read_short(alloc: Global, short: &ShortInput) -> Result<Book, InputFault>
+fn read_short(short: &ShortInput) -> Result<(), InputFault>
     requires few { length short.now.bytes.items < 8 }
     requires one { list_any is_lf short.now.bytes.items ≡ false }
-    ensures reads { ReadsInput result short.now.bytes.items short.now.ending }
+    ensures reads { (rows : List Row) → ReadsInto result rows rows short.now.bytes.items
+        short.now.ending }
     ensures read { IsErrAnd result IsReadFault ↔ (short.now.ending ≡ Ending.Read) }
 {
     match refuse_short(short.bytes.as_slice(), short.ending) {
         Some(cause) => Err(InputFault::from(LogFault { line: 1, cause })),
-        None => Ok(Book::new(alloc)),
+        None => Ok(()),
     }
 }
 

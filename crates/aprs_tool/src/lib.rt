@@ -11,6 +11,7 @@ mod field;
 mod form;
 mod head;
 mod heard_line;
+mod help;
 mod input;
 mod law;
 mod line;

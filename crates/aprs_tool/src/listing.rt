@@ -16,19 +16,20 @@ use crate::line::{put_line, put_text_line};
 use aprs_book::{Book, Heard, Memory, MessageRow, MessageState, Named, Station};
 use aprs_booktext::{Outbox, flush};
 use aprs_kiss::{Counted, WriteFault};
+use std::alloc::{Allocator, Global};
 use std::io::Write;
 
 /// What is listed of a book.
 #[derive(Drop)]
-pub struct Views<'a> {
-    stations: Vec<Station<'a>>,
-    named: Vec<Named<'a>>,
-    messages: Vec<MessageRow<'a>>,
+pub struct Views<'a, A: Allocator = Global> {
+    stations: Vec<Station<'a>, A>,
+    named: Vec<Named<'a>, A>,
+    messages: Vec<MessageRow<'a>, A>,
 }
 
-impl<'a> Views<'a> {
+impl<'a, A: Allocator + Copy> Views<'a, A> {
     /// What is listed of the book.
-    pub fn of(book: &'a Book) -> Result<Views<'a>, Memory>
+    pub fn of(book: &'a Book<A>) -> Result<Views<'a, A>, Memory>
         ensures stations { IfOk result (λ v. TellsStations gap_seconds book.now v.stations.items) }
         ensures named { IfOk result (λ v. TellsNamed gap_seconds book.now v.named.items) }
         ensures messages { IfOk result (λ v. TellsMessages gap_seconds book.now v.messages.items) }
@@ -58,10 +59,10 @@ impl<'a> Views<'a> {
 }
 
 /// Puts the lines of all.
-fn put_views<W: Write>(
+fn put_views<W: Write, A: Allocator + Copy>(
     w: &mut Counted<W>,
     held: &mut Outbox,
-    views: &Views<'_>,
+    views: &Views<'_, A>,
 ) -> Result<(), WriteFault>
     ensures { PutsText result (W.contents (device_of w.old)) (W.contents (device_of w.new))
         (failures_of w.old) (failures_of w.new) held.old.items held.new.items

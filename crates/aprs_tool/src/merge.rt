@@ -6,12 +6,12 @@ ghost use Rattle.aprs_tool.specs.Merge.{ReadsNoFurther, RoseAt, RoseWhereEach, R
 ghost use Rattle.aprs_tool.specs.Merge.{WritesNothing};
 ghost use Rattle.aprs_tool.specs.Run.{IsReadFault};
 
-use crate::desk::Desk;
 use crate::fault::{InputFault, RunFault};
+use crate::input::read_into;
 use aprs_book::Book;
 use aprs_booktext::write_book;
 use aprs_kiss::Counted;
-use std::alloc::Global;
+use std::alloc::Allocator;
 use std::io::{Read, Write};
 
 /// Writes the text of the book of all inputs' receptions, each input read as by `read_input`.
@@ -19,8 +19,8 @@ use std::io::{Read, Write};
 /// before the first byte is written: where one is refused, its number and fault are reported, no
 /// further one is read, and nothing is written. At `Write` a prefix of the text was written. Never
 /// answers `RunFault::Memory`: want of memory is that of an input.
-pub fn merge_run<R: Read, W: Write>(
-    alloc: Global,
+pub fn merge_run<R: Read, W: Write, A: Allocator + Copy>(
+    alloc: A,
     limit: u64,
     inputs: &mut [Counted<R>],
     w: &mut Counted<W>,
@@ -46,11 +46,11 @@ pub fn merge_run<R: Read, W: Write>(
 }
 
 /// The book of all inputs' receptions, or the first input that is refused, with its fault.
-pub(crate) fn read_all<R: Read>(
-    alloc: Global,
+pub(crate) fn read_all<R: Read, A: Allocator + Copy>(
+    alloc: A,
     limit: u64,
     inputs: &mut [Counted<R>],
-) -> Result<Book, (usize, InputFault)>
+) -> Result<Book<A>, (usize, InputFault)>
     requires { limit ≤ 1073741824 }
     ensures reads { OfEach limit (map (λ r. R.remaining (device_of r)) inputs.old)
         (map (λ r. R.remaining (device_of r)) inputs.new) (ReadsEach result) }
@@ -59,12 +59,12 @@ pub(crate) fn read_all<R: Read>(
     ensures answered { RoseWhereEach (λ k. IsErrAnd result (λ p. (p.0 ≡ k) × IsReadFault p.1))
         inputs.old inputs.new }
 {
-    let mut desk = Desk::new(alloc, limit);
+    let mut book = Book::new(alloc);
     for (index, r) in inputs.iter_mut().enumerate() {
-        match desk.take_input(r) {
+        match read_into(alloc, limit, &mut book, r) {
             Ok(()) => {}
             Err(fault) => return Err((index, fault)),
         }
     }
-    Ok(desk.into_book())
+    Ok(book)
 }

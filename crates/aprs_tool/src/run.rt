@@ -8,15 +8,15 @@ use crate::convert::convert_lines;
 use crate::fault::RunFault;
 use crate::form::Form;
 use aprs_kiss::Counted;
-use std::alloc::Global;
+use std::alloc::Allocator;
 use std::io::{Read, Write};
 
 /// Writes what a form gives for each line of a log, or for each frame of a KISS stream where the
 /// form is a capture. Requires that `limit` is at most 1,073,741,824 (`MAX_INPUT`). At a fault the
 /// text of all before it has been written; at `Write` a prefix of the text. A stream's faults have
 /// line 0. Takes no memory.
-pub fn convert_run<R: Read, W: Write>(
-    alloc: Global,
+pub fn convert_run<R: Read, W: Write, A: Allocator + Copy>(
+    alloc: A,
     limit: u64,
     form: Form,
     r: &mut Counted<R>,

@@ -9,7 +9,7 @@ use crate::fault::RunFault;
 use crate::listing::Views;
 use crate::merge::read_all;
 use aprs_kiss::Counted;
-use std::alloc::Global;
+use std::alloc::Allocator;
 use std::io::{Read, Write};
 
 /// Writes the listing of all inputs' receptions: the stations, objects, items and messages that were
@@ -18,8 +18,8 @@ use std::io::{Read, Write};
 /// made, before the first byte is written: where an input is refused, its number and fault are
 /// reported, no further one is read, and nothing is written; nor is anything at `Memory`, which is
 /// that of the lists. At `Write` a prefix of the listing was written.
-pub fn show_run<R: Read, W: Write>(
-    alloc: Global,
+pub fn show_run<R: Read, W: Write, A: Allocator + Copy>(
+    alloc: A,
     limit: u64,
     inputs: &mut [Counted<R>],
     w: &mut Counted<W>,

@@ -7,18 +7,18 @@ ghost use Rattle.clap.specs.declared.builder.command.Command.TheViews.{out-Comma
 ghost use Rattle.clap.specs.declared.builder.value_parser.ValueParser.{ValueParser};
 ghost use Rattle.aprs_tool.specs.Words.{IsForms, AnswersWords, JudgesWords, asked_by, form_rule, option_rule};
 ghost use Rattle.aprs_tool.specs.Words.{check_app, convert_app, merge_app, program_app, receiver_of, show_app};
-ghost use Rattle.aprs_tool.specs.Words.{inputs_named, inputs_of, inputs_rule, paths_of};
+ghost use Rattle.aprs_tool.specs.Words.{AreForms, input_rule, inputs_named, inputs_of, inputs_rule, paths_of};
 ghost use Rattle.aprs_tool.specs.Words.{plain_form_of, capture_form_of, named_form_of, form_of};
 ghost use Rattle.aprs_tool.specs.Words.{task_named, task_of};
 ghost use Rattle.aprs_log.specs.Moment.{moment_of};
 
 use crate::form::{Form, Job, JobFault};
+use crate::help;
 use aprs_log::{Moment, Receiver};
+use clap::builder::PossibleValue;
 use clap::error::ErrorKind;
 use clap::{Arg, ArgMatches, Command};
 use std::alloc::{AllocError, Global};
-
-static FORMS: [&str; 5] = ["text", "kind", "kiss", "log", "capture"];
 
 /// What is asked for, without the inputs.
 #[derive(Drop)]
@@ -32,14 +32,16 @@ enum Task {
 /// What the program's words ask for, its name being the first: a command of `check [INPUT]`,
 /// `convert FORM [INPUT]`, `merge [INPUT]...` and `show [INPUT]...`, and `convert text` where no
 /// command is given. `convert capture` needs `--receiver NAME` and `--moment MOMENT`, and the other
-/// forms refuse both. The inputs' paths are given in the order of the words.
+/// forms refuse both. The inputs' paths are given in the order of the words. Where these ask for
+/// help or the version, its text is that of `JobFault::Clap`.
 pub fn job(alloc: Global, words: &[&str]) -> Result<Job, JobFault>
     ensures asked { (p : ValueParser) × IsForms p
         × AnswersWords (program_app p) (map (λ w. w.now) words.now) result }
     ensures judged { (p : ValueParser) × IsForms p
         × JudgesWords (program_app p) (map (λ w. w.now) words.now) result }
 {
-    let command = match program(alloc) {
+    let forms = form_values();
+    let command = match program(alloc, forms.as_slice()) {
         Ok(command) => command,
         Err(_) => return Err(JobFault::Memory),
     };
@@ -62,31 +64,80 @@ pub fn command_is_simple()
     ensures free { (p : ValueParser) → IsForms p → is_simple_and_free (program_app p) ≡ true }
 {}
 
-fn form_arg<'a>(alloc: Global) -> Arg<'a>
+/// The forms, as help describes them.
+fn form_values<'a>() -> [PossibleValue<'a>; 5]
+    ensures { AreForms result }
+{
+    [
+        PossibleValue::new("text").help(help::TEXT),
+        PossibleValue::new("kind").help(help::KIND),
+        PossibleValue::new("kiss").help(help::KISS),
+        PossibleValue::new("log").help(help::LOG),
+        PossibleValue::new("capture").help(help::CAPTURE),
+    ]
+}
+
+fn form_arg<'a>(alloc: Global, forms: &'a [PossibleValue<'a>]) -> Arg<'a>
+    requires { AreForms forms.now }
     ensures rule { (p : ValueParser) × IsForms p × (rule_of result ≡ form_rule p) }
     ensures local { result.global ≡ false }
 {
     Arg::new(alloc, "form")
         .required(true)
-        .value_parser(FORMS.as_slice())
+        .value_name("FORM")
+        .help(help::FORM)
+        .value_parser(forms)
 }
 
-fn option_arg<'a>(alloc: Global, name: &'static str) -> Arg<'a>
+fn option_arg<'a>(
+    alloc: Global,
+    name: &'static str,
+    value_name: &'static str,
+    help: &'static str,
+) -> Arg<'a>
     ensures rule { rule_of result ≡ option_rule name.entry.now }
     ensures local { result.global ≡ false }
 {
-    Arg::new(alloc, name).long(name)
+    Arg::new(alloc, name)
+        .long(name)
+        .value_name(value_name)
+        .help(help)
 }
 
-fn convert_command<'a>(alloc: Global) -> Result<Command<'a>, AllocError>
+/// One input, or none.
+fn input_arg<'a>(alloc: Global, help: &'static str) -> Arg<'a>
+    ensures rule { rule_of result ≡ input_rule }
+    ensures local { result.global ≡ false }
+{
+    Arg::new(alloc, "input").value_name("INPUT").help(help)
+}
+
+/// Any number of inputs, also none.
+fn inputs_arg<'a>(alloc: Global) -> Arg<'a>
+    ensures rule { rule_of result ≡ inputs_rule }
+    ensures local { result.global ≡ false }
+{
+    Arg::new(alloc, "input")
+        .num_args(1..)
+        .value_name("INPUT")
+        .help(help::GATHERED)
+}
+
+fn convert_command<'a>(
+    alloc: Global,
+    forms: &'a [PossibleValue<'a>],
+) -> Result<Command<'a>, AllocError>
+    requires { AreForms forms.now }
     ensures app { IfOk result (λ c. (p : ValueParser) × IsForms p × (app_of c ≡ convert_app p)) }
     ensures globals { IfOk result (λ c. (out-Command c).has_globals ≡ false) }
 {
-    let form = form_arg(alloc);
-    let input = Arg::new(alloc, "input");
-    let receiver = option_arg(alloc, "receiver");
-    let moment = option_arg(alloc, "moment");
-    let with_form = Command::new(alloc, "convert").arg(form)?;
+    let form = form_arg(alloc, forms);
+    let input = input_arg(alloc, help::CONVERTED);
+    let receiver = option_arg(alloc, "receiver", "NAME", help::RECEIVER);
+    let moment = option_arg(alloc, "moment", "MOMENT", help::MOMENT);
+    let with_form = Command::new(alloc, "convert")
+        .about(help::CONVERT)
+        .arg(form)?;
     let with_input = with_form.arg(input)?;
     let with_receiver = with_input.arg(receiver)?;
     with_receiver.arg(moment)
@@ -96,16 +147,8 @@ fn check_command<'a>(alloc: Global) -> Result<Command<'a>, AllocError>
     ensures app { IfOk result (λ c. app_of c ≡ check_app) }
     ensures globals { IfOk result (λ c. (out-Command c).has_globals ≡ false) }
 {
-    let input = Arg::new(alloc, "input");
-    Command::new(alloc, "check").arg(input)
-}
-
-/// Any number of inputs, also none.
-fn inputs_arg<'a>(alloc: Global) -> Arg<'a>
-    ensures rule { rule_of result ≡ inputs_rule }
-    ensures local { result.global ≡ false }
-{
-    Arg::new(alloc, "input").num_args(1..)
+    let input = input_arg(alloc, help::CHECKED);
+    Command::new(alloc, "check").about(help::CHECK).arg(input)
 }
 
 fn merge_command<'a>(alloc: Global) -> Result<Command<'a>, AllocError>
@@ -113,7 +156,7 @@ fn merge_command<'a>(alloc: Global) -> Result<Command<'a>, AllocError>
     ensures globals { IfOk result (λ c. (out-Command c).has_globals ≡ false) }
 {
     let inputs = inputs_arg(alloc);
-    Command::new(alloc, "merge").arg(inputs)
+    Command::new(alloc, "merge").about(help::MERGE).arg(inputs)
 }
 
 fn show_command<'a>(alloc: Global) -> Result<Command<'a>, AllocError>
@@ -121,17 +164,23 @@ fn show_command<'a>(alloc: Global) -> Result<Command<'a>, AllocError>
     ensures globals { IfOk result (λ c. (out-Command c).has_globals ≡ false) }
 {
     let inputs = inputs_arg(alloc);
-    Command::new(alloc, "show").arg(inputs)
+    Command::new(alloc, "show").about(help::SHOW).arg(inputs)
 }
 
-fn program<'a>(alloc: Global) -> Result<Command<'a>, AllocError>
+fn program<'a>(alloc: Global, forms: &'a [PossibleValue<'a>]) -> Result<Command<'a>, AllocError>
+    requires { AreForms forms.now }
     ensures { IfOk result (λ c. (p : ValueParser) × IsForms p × (app_of c ≡ program_app p)) }
 {
-    let convert = convert_command(alloc)?;
+    let convert = convert_command(alloc, forms)?;
     let check = check_command(alloc)?;
     let merge = merge_command(alloc)?;
     let show = show_command(alloc)?;
-    let with_convert = Command::new(alloc, "aprsbook").subcommand(convert)?;
+    let with_convert = Command::new(alloc, "aprsbook")
+        .version(help::VERSION)
+        .about(help::ABOUT)
+        .after_help(help::NO_COMMAND)
+        .after_long_help(help::EXAMPLES)
+        .subcommand(convert)?;
     let with_check = with_convert.subcommand(check)?;
     let with_merge = with_check.subcommand(merge)?;
     with_merge.subcommand(show)

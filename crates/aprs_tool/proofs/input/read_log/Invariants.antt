@@ -13,7 +13,7 @@ invariant-lines g l =
       going : stop_of l.reader ≡ None;
       answered : answered_of (source_of l.reader) ≡ answered_of (source_of l.initial.reader);
       took : (end : Option (List ℕ)) → Took (Awaits (remaining (device_of (source_of l.initial.reader))) end l.initial.reader)
-          (Awaits (remaining (device_of (source_of l.reader))) end l.reader) l.book;
+          (Awaits (remaining (device_of (source_of l.reader))) end l.reader) l.fn.book l.book;
     }
 
 abbrev pub decreases-lines : goal.decreases-lines

@@ -6,6 +6,5 @@ use Rattle.aprs_tool.proofs.input.read_short.Goals as goal
 pub returns-in-None-clause-reads : goal.returns-in-None-clause-reads
 returns-in-None-clause-reads c =
     let short = c.args.short.now in
-    short_empty short.bytes.items short.ending c.new.result c.requires.few
+    λ rows. short_empty short.bytes.items short.ending rows c.requires.few
     (ap (λ t. log_answers t short.ending) (sym c.as_slice.ensures.value) ∙ c.in-None.ensures.answers)
-    c.new.ensures.book

@@ -5,5 +5,5 @@ use Rattle.aprs_tool.specs.Inputs.{AddsAll}
 use Rattle.aprs_tool.proofs.input.take_line.Goals as goal
 
 pub returns-in-Heard : goal.returns-in-Heard
-returns-in-Heard c =
+returns-in-Heard g c =
     subst (λ (x : Line). OnOk c.take.result (AddsAll (receptions_of (x ∷ [])) c.args.book.now c.take.new.self)) (sym c.in-Heard.is) c.take.ensures.taken

@@ -1,15 +1,19 @@
-use Rattle.std.proofs.Common.{◌≡◌, ℕ, List, map, true, refl, ap, ◌∙◌, sym, subst, inl, inr, Bor}
+use Rattle.std.proofs.Common.{◌≡◌, ℕ, List, [], None, map, true, false, refl, ap, ◌∙◌, sym, subst, inl, inr, Bor}
 use Rattle.clap.specs.Words.{App, fault_of, is_simple_and_free, takes}
 use Rattle.clap.specs.declared.builder.value_parser.ValueParser.{ValueParser}
 use Rattle.clap.specs.declared.builder.value_parser.ValueParser.TheVariants as vp
+use Rattle.clap.specs.declared.builder.possible_value.PossibleValue.{PossibleValue}
 use Rattle.aprs_tool.specs.Words.{FailsSo, form_names, program_app}
 use Rattle.aprs_tool.proofs.words.job.Goals as goal
 
 abbrev at_zero : {A : Type 0} → A → Bor A
 at_zero x = record { ref_ptr = (0, 0); now = x }
 
+abbrev value_named : List ℕ → PossibleValue
+value_named t = record { name = at_zero t; help = None; aliases = at_zero []; hide = false }
+
 pub returns-in-Err-clause-asked : goal.returns-in-Err-clause-asked
-returns-in-Err-clause-asked c = let names = at_zero (map at_zero form_names) in (vp.Names names, (names, refl, refl), tt)
+returns-in-Err-clause-asked c = let values = at_zero (map value_named form_names) in (vp.Values values, (values, refl, refl), tt)
 
 pub returns-in-Err-try_get_matches_from-clause-asked : goal.returns-in-Err-try_get_matches_from-clause-asked
 returns-in-Err-try_get_matches_from-clause-asked c =
@@ -23,7 +27,7 @@ returns-in-Err-try_get_matches_from-clause-asked c =
     (built.0, built.1, fails)
 
 pub returns-in-Err-clause-judged : goal.returns-in-Err-clause-judged
-returns-in-Err-clause-judged c = let names = at_zero (map at_zero form_names) in (vp.Names names, (names, refl, refl), tt)
+returns-in-Err-clause-judged c = let values = at_zero (map value_named form_names) in (vp.Values values, (values, refl, refl), tt)
 
 free : (p : ValueParser) → is_simple_and_free (program_app p) ≡ true
 free p = refl

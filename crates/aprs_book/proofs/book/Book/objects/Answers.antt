@@ -1,8 +1,11 @@
-use Rattle.aprs_book.proofs.Things.{named_of_book}
+use Rattle.aprs_book.proofs.Things.{named_of_indexes}
 use Rattle.aprs_book.proofs.book.Book.objects.Goals as goal
 
 pub returns : goal.returns
 returns g c =
-    named_of_book _ _ (λ v. v.items) c.listed.result c.walk.result c.args.self.now
-    c.in_ok-reports.reports.entries c.walk.ensures.rows c.in_ok-reports.ensures
-    c.listed.ensures.ascending c.listed.ensures.rows
+    named_of_indexes _ c.args.self.now c.indexes-indexes.result.now c.objects.result.now
+    c.items.result.now c.new-list.result.items c.push_reports.new.list.items
+    c.push_reports-2.new.list.items c.indexes-indexes.ensures c.objects.ensures c.items.ensures
+    c.in_ok-push_reports.ensures.ascending c.in_ok-push_reports-2.ensures.ascending
+    c.new-list.ensures.items c.in_ok-push_reports.ensures.reports
+    c.in_ok-push_reports-2.ensures.reports

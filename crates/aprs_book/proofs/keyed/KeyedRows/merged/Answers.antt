@@ -8,8 +8,8 @@ pub loop-our-init : goal.loop-our-init
 loop-our-init g c =
     starts (λ k. k.items) (λ v. v.items) c.args.gap c.args.self.now c.args.other.now c.self.inside.map.entries
     c.other.inside.map.entries _ _ _ _ _ _ _ c.self.view_is c.other.view_is
-    (record { sorted = c.iter-ours.ensures.ordered; kept = c.self.invariant })
-    (record { sorted = c.iter-theirs.ensures.ordered; kept = c.other.invariant })
+    (record { sorted = c.iter-ours.ensures.ordered; kept = c.self.invariant.0 })
+    (record { sorted = c.iter-theirs.ensures.ordered; kept = c.other.invariant.0 })
     c.new-map.ensures.empty c.iter-ours.ensures.rest c.iter-theirs.ensures.rest
     c.next-our.ensures.steps c.next-their.ensures.steps
 
@@ -62,6 +62,22 @@ loop-our-preserved-in-Equal g c =
     (sym c.as_slice-in-Some-Some.ensures.value
     ∙ same_bytes c.as_slice-in-Some-Some.result.now c.as_slice-in-Some-Some-2.result.now (sym c.cmp.ensures ∙ c.in-Equal.is) ∙ c.as_slice-in-Some-Some-2.ensures.value)
     c.next-our-in-Equal.ensures.steps c.next-their-in-Equal.ensures.steps
+
+pub loop-our-smaller-in-Less : goal.loop-our-smaller-in-Less
+loop-our-smaller-in-Less g c =
+    omega (
+      arith,
+      held_length c.next-our-in-Less.result c.loop-our.ours c.next-our-in-Less.new.self c.next-our-in-Less.ensures.steps,
+      held_some c.loop-our.our (c.in-Some-Some.key, c.in-Some-Some.x) c.loop-our.ours c.in-Some-Some.is-0,
+    )
+
+pub loop-our-smaller : goal.loop-our-smaller
+loop-our-smaller g c =
+    omega (
+      arith,
+      held_length c.next-their-in-Greater.result c.loop-our.theirs c.next-their-in-Greater.new.self c.next-their-in-Greater.ensures.steps,
+      held_some c.loop-our.their (c.in-Some-Some.other_key, c.in-Some-Some.y) c.loop-our.theirs c.in-Some-Some.is-1,
+    )
 
 pub loop-our-smaller-in-Equal : goal.loop-our-smaller-in-Equal
 loop-our-smaller-in-Equal g c =

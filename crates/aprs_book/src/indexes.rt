@@ -1,0 +1,142 @@
+//! What is last known of each station, object and item.
+ghost use Rattle.std.specs.Prelude.{◌≡◌, ℕ, List, [], Some, IsOk, IfOk, OnOk, if◌then◌else◌};
+ghost use Rattle.std.specs.Option.{option_copied};
+ghost use Rattle.aprs_laws.specs.Best.{greater_known};
+ghost use Rattle.aprs_book.specs.Known.{Topic, FourIndexes, index_of, known_at, known_both, call_bytes, is_told, told_at, SameKnown, HaveEntries, positions, statuses, objects, items};
+
+use crate::Memory;
+use crate::key_bytes::call_bytes;
+use crate::known::Known;
+use crate::told::Told;
+use aprs_ax25::Callsign;
+use aprs_log::Reception;
+use std::alloc::{Allocator, Global};
+use std::marker::Model;
+
+/// The last position and status by callsign, and the last report of an object and an item by name.
+#[derive(Drop)]
+pub(crate) struct Indexes<A: Allocator = Global> {
+    positions: Known<A>,
+    statuses: Known<A>,
+    objects: Known<A>,
+    items: Known<A>,
+}
+
+impl<A: Allocator> Model for Indexes<A> {
+    ghost use Rattle.aprs_book.specs.Known.{FourIndexes};
+
+    ghost Value = { FourIndexes };
+
+    ghost view = { λ i. record {
+      positions = i.positions;
+      statuses = i.statuses;
+      objects = i.objects;
+      items = i.items;
+    } };
+}
+
+impl<A: Allocator + Copy> Indexes<A> {
+    /// Nothing is known.
+    pub(crate) fn new(alloc: A) -> Indexes<A>
+        ensures { (topic : Topic) → index_of topic result ≡ [] }
+    {
+        Indexes {
+            positions: Known::new(alloc),
+            statuses: Known::new(alloc),
+            objects: Known::new(alloc),
+            items: Known::new(alloc),
+        }
+    }
+
+    /// The last position reception of this station. Takes no memory, as the other three.
+    pub(crate) fn position(&self, station: &Callsign) -> Option<&Reception>
+        ensures { option_copied result
+            ≡ known_at (call_bytes station.now) (index_of positions self.now) }
+    {
+        self.positions.get(call_bytes(station).as_slice())
+    }
+
+    /// The last status reception of this station.
+    pub(crate) fn status(&self, station: &Callsign) -> Option<&Reception>
+        ensures { option_copied result
+            ≡ known_at (call_bytes station.now) (index_of statuses self.now) }
+    {
+        self.statuses.get(call_bytes(station).as_slice())
+    }
+
+    /// The last report of the object of this name, which has no spaces at its end.
+    pub(crate) fn object(&self, name: &[u8]) -> Option<&Reception>
+        ensures { option_copied result ≡ known_at name.now (index_of objects self.now) }
+    {
+        self.objects.get(name)
+    }
+
+    /// The last report of the item of this name, which has no spaces at its end.
+    pub(crate) fn item(&self, name: &[u8]) -> Option<&Reception>
+        ensures { option_copied result ≡ known_at name.now (index_of items self.now) }
+    {
+        self.items.get(name)
+    }
+
+    /// The last report of each object, by name.
+    pub(crate) fn objects(&self) -> &Known<A>
+        ensures { result.now ≡ index_of objects self.now }
+    {
+        &self.objects
+    }
+
+    /// The last report of each item, by name.
+    pub(crate) fn items(&self) -> &Known<A>
+        ensures { result.now ≡ index_of items self.now }
+    {
+        &self.items
+    }
+
+    /// Makes an entry for what is told of, which is empty, unless there is one.
+    pub(crate) fn place(&mut self, told: &Told<'_>) -> Result<(), Memory>
+        ensures same { SameKnown self.old self.new }
+        ensures made { OnOk result (HaveEntries told.now self.new) }
+        ensures there { HaveEntries told.now self.old → IsOk result }
+    {
+        match told {
+            Told::Position(call) => self.positions.place(call.as_slice()),
+            Told::Status(call) => self.statuses.place(call.as_slice()),
+            Told::Object(name) => self.objects.place(name),
+            Told::Item(name) => self.items.place(name),
+            Told::Nothing => Ok(()),
+        }
+    }
+
+    /// Keeps the reception in the entry for what is told of, if it is greater than what is known.
+    /// Takes no memory.
+    pub(crate) fn note(&mut self, told: &Told<'_>, x: &Reception)
+        requires { HaveEntries told.now self.old }
+        ensures { (topic : Topic) (bytes : List ℕ) → known_at bytes (index_of topic self.new)
+            ≡ (if is_told bytes (told_at topic told.now)
+            then Some (greater_known (known_at bytes (index_of topic self.old)) x.now)
+            else known_at bytes (index_of topic self.old)) }
+    {
+        match told {
+            Told::Position(call) => self.positions.note(call.as_slice(), x),
+            Told::Status(call) => self.statuses.note(call.as_slice(), x),
+            Told::Object(name) => self.objects.note(name, x),
+            Told::Item(name) => self.items.note(name, x),
+            Told::Nothing => {}
+        }
+    }
+
+    /// What is known to both.
+    pub(crate) fn merged(&self, other: &Indexes<A>) -> Result<Indexes<A>, Memory>
+        ensures { IfOk result (λ both. (topic : Topic) (bytes : List ℕ)
+            → known_at bytes (index_of topic both)
+            ≡ known_both (known_at bytes (index_of topic self.now))
+            (known_at bytes (index_of topic other.now))) }
+    {
+        Ok(Indexes {
+            positions: self.positions.merged(&other.positions)?,
+            statuses: self.statuses.merged(&other.statuses)?,
+            objects: self.objects.merged(&other.objects)?,
+            items: self.items.merged(&other.items)?,
+        })
+    }
+}

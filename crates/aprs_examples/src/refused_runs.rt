@@ -1,0 +1,205 @@
+//! Memory that is refused in the midst of a run.
+
+use crate::runs::FRAME;
+use crate::shown::shown;
+use crate::vectors::{LOG, MERGED_TEXT, ONE_LINE, THREE_LINES};
+use aprs_booktext::{BookCause, write_book};
+use aprs_kiss::Counted;
+use aprs_log::{MAX_INPUT, Moment, Receiver};
+use aprs_tool::{
+    Desk, Form, InputFault, RunFault, check_run, convert_run, merge_run, read_input, show_run,
+    status_of,
+};
+use bumpalo::Bump;
+use std::alloc::Global;
+use std::test::Fail;
+
+/// What is listed of `MERGED_TEXT`.
+const MERGED_LISTING: &[u8] = b"station N0CALL-7 2\nstatus 2099-12-31T23:59:59Z RX2 -:Hi\n";
+
+/// An arena that has room for so many units of 64 bytes, and refuses the growth that would take it
+/// beyond until its limit is lifted.
+fn arena(alloc: Global, units: usize) -> Result<Bump, Fail> {
+    let bump = Bump::try_with_capacity(alloc, 131_072)?;
+    bump.set_allocation_limit(Some(0));
+    let taken = bump
+        .chunk_capacity()
+        .saturating_sub(units.saturating_mul(64));
+    bump.try_alloc_slice_fill_clone(taken, 0u8)?;
+    Ok(bump)
+}
+
+/// Memory was refused for a log, or in a line of a book.
+fn is_memory(fault: &InputFault, is_book: bool) -> bool {
+    match fault {
+        InputFault::Log(_) => false,
+        InputFault::Book(fault) => is_book && fault.cause == BookCause::Memory,
+        InputFault::Memory => !is_book,
+    }
+}
+
+#[test]
+fn inputs_are_refused_for_memory(rt: HostRuntime) -> Result<(), Fail> {
+    let alloc = rt.alloc();
+    for (text, is_book) in [(THREE_LINES, false), (MERGED_TEXT, true)] {
+        let mut refused = 0u64;
+        let mut granted = 0u64;
+        for units in 0..1024usize {
+            let bump = arena(alloc, units)?;
+            match read_input(&bump, MAX_INPUT, &mut Counted::new(text)) {
+                Ok(book) => {
+                    let mut out = Counted::new(Vec::new(alloc));
+                    assert!(rt; write_book(&mut out, &book).is_ok());
+                    assert_eq!(rt; out.into_inner().as_slice(), MERGED_TEXT);
+                    granted = granted.saturating_add(1);
+                }
+                Err(fault) => {
+                    assert!(rt; is_memory(&fault, is_book));
+                    refused = refused.saturating_add(1);
+                }
+            }
+        }
+        assert!(rt; refused > 0 && granted > 0);
+    }
+    Ok(())
+}
+
+// With room again the input is taken.
+#[test]
+fn a_desk_is_as_before_where_memory_is_refused(rt: HostRuntime) -> Result<(), Fail> {
+    let alloc = rt.alloc();
+    let mut refused = [0u64; 2];
+    let mut merges = 0u64;
+    for units in 0..1024usize {
+        let bump = arena(alloc, units)?;
+        let mut desk = Desk::new(&bump, MAX_INPUT);
+        for (i, text) in [THREE_LINES, MERGED_TEXT].iter().enumerate() {
+            let before = shown(alloc, desk.book())?;
+            if let Err(fault) = desk.take_input(&mut Counted::new(*text)) {
+                assert_eq!(rt; shown(alloc, desk.book())?.as_str(), before.as_str());
+                if i == 1 && matches!(&fault, InputFault::Memory) {
+                    merges = merges.saturating_add(1);
+                } else {
+                    assert!(rt; is_memory(&fault, i == 1));
+                    refused[i] = refused[i].saturating_add(1);
+                }
+                bump.set_allocation_limit(None);
+                assert!(rt; desk.take_input(&mut Counted::new(*text)).is_ok());
+            }
+        }
+        let mut out = Counted::new(Vec::new(alloc));
+        assert!(rt; write_book(&mut out, &desk.into_book()).is_ok());
+        assert_eq!(rt; out.into_inner().as_slice(), MERGED_TEXT);
+    }
+    assert!(rt; refused[0] > 0 && refused[1] > 0 && merges > 0);
+    Ok(())
+}
+
+/// Which run is tried.
+#[derive(Clone, Copy)]
+enum Gathering {
+    Merge,
+    Show,
+}
+
+/// How far a run came: to its log, to its book file, to the lists, or to its end.
+#[derive(Clone, Copy, PartialEq, Eq)]
+enum Stage {
+    Log,
+    Book,
+    Lists,
+    End,
+}
+
+/// Where memory was refused, if no other fault is told.
+fn stage_of(run: &Result<(), RunFault>) -> Option<Stage> {
+    match run {
+        Ok(()) => Some(Stage::End),
+        Err(RunFault::Input { index: 0, fault }) => is_memory(fault, false).then_some(Stage::Log),
+        Err(RunFault::Input { fault, .. }) => {
+            (is_memory(fault, true) || is_memory(fault, false)).then_some(Stage::Book)
+        }
+        Err(RunFault::Memory) => Some(Stage::Lists),
+        Err(RunFault::Write) => None,
+    }
+}
+
+/// What a run over a log and a book file writes, and its answer.
+fn gathered(alloc: Global, bump: &Bump, gathering: Gathering) -> (Vec<u8>, Result<(), RunFault>) {
+    let mut inputs = [Counted::new(THREE_LINES), Counted::new(MERGED_TEXT)];
+    let mut out = Counted::new(Vec::new(alloc));
+    let run = match gathering {
+        Gathering::Merge => merge_run(bump, MAX_INPUT, inputs.as_mut_slice(), &mut out),
+        Gathering::Show => show_run(bump, MAX_INPUT, inputs.as_mut_slice(), &mut out),
+    };
+    (out.into_inner(), run)
+}
+
+#[test]
+fn runs_write_nothing_where_memory_is_refused(rt: HostRuntime) -> Result<(), Fail> {
+    let alloc = rt.alloc();
+    for (gathering, whole, stages) in [
+        (
+            Gathering::Merge,
+            MERGED_TEXT,
+            [Stage::Log, Stage::Book, Stage::End].as_slice(),
+        ),
+        (
+            Gathering::Show,
+            MERGED_LISTING,
+            [Stage::Log, Stage::Book, Stage::Lists, Stage::End].as_slice(),
+        ),
+    ] {
+        let mut seen = Vec::new(alloc);
+        for units in 0..1024usize {
+            let bump = arena(alloc, units)?;
+            let (written, run) = gathered(alloc, &bump, gathering);
+            let stage = stage_of(&run).ok_or("another fault")?;
+            if seen.last() != Some(&stage) {
+                seen.push(stage)?;
+            }
+            let want = if run.is_ok() { whole } else { b"".as_slice() };
+            assert_eq!(rt; written.as_slice(), want);
+            if let Err(fault) = run {
+                assert_eq!(rt; status_of(&fault), 4);
+            }
+        }
+        assert!(rt; seen.as_slice() == stages);
+    }
+    Ok(())
+}
+
+// The allocator refuses everything.
+#[test]
+fn checks_and_conversions_take_no_memory(rt: HostRuntime) -> Result<(), Fail> {
+    let alloc = rt.alloc();
+    let bump = Bump::new(alloc);
+    bump.set_allocation_limit(Some(0));
+    assert!(rt; bump.try_alloc(0u8).is_err());
+    let receiver = Receiver::parse(b"RX1").ok_or("a name")?;
+    let moment = Moment::parse(b"2024-05-01T12:00:00Z").ok_or("a moment")?;
+    for (form, input, text) in [
+        (Form::Text, ONE_LINE, b"N0CALL-7>APRS:>Hi\n".as_slice()),
+        (
+            Form::Kind,
+            ONE_LINE,
+            b"status N0CALL-7>APRS:>Hi\n".as_slice(),
+        ),
+        (Form::Kiss, ONE_LINE, FRAME),
+        (Form::Log, LOG, LOG),
+        (Form::Capture { receiver, moment }, FRAME, ONE_LINE),
+    ] {
+        let mut out = Counted::new(Vec::new(alloc));
+        let run = convert_run(&bump, MAX_INPUT, form, &mut Counted::new(input), &mut out);
+        assert!(rt; run.is_ok());
+        assert_eq!(rt; out.into_inner().as_slice(), text);
+    }
+    let mut out = Counted::new(Vec::new(alloc));
+    let run = check_run(&bump, MAX_INPUT, &mut Counted::new(LOG), &mut out);
+    assert!(rt; run.is_ok());
+    assert_eq!(rt;
+        out.into_inner().as_slice(),
+        b"heard 2 passed 0\n".as_slice()
+    );
+    Ok(())
+}

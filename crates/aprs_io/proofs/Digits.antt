@@ -1,0 +1,248 @@
+-- Lemmas on digits that are read in blocks.
+use Rattle.std.proofs.Common.{◌≡◌, ℕ, zero, suc, ◌+◌, ◌-◌, ◌*◌, ◌/◌, ◌%◌, ◌<◌, ◌≤◌, ◌≢◌, ◌==◌, ◌&&◌, Bool, true, nat_lt, cond, List, ◌++◌, length, take, drop, slice_index, slice_set, Option, Some, None, Ok, if◌then◌else◌, unwrap_or, inl, inr, refl, sym, ap, ◌∙◌, arith, subst}
+use Rattle.std.specs.Int.Bits.{bit_or}
+use Rattle.std.proofs.lemmas.Bool.{and_parts, cases_lt, eqb-true, lt-ltb}
+use Rattle.std.proofs.lemmas.List.{get_or-append_right, get_or-drop, get_or-set_other, get_or-set_same, get_or-take, get_or_append_left, length-set, length-take-le, set-get_or, take_more}
+use borrow.Rule.Slice.PartMut.{post_of, put_mid}
+use Rattle.hex.specs.Hex.{decode_of, decode_pairs, encode_lower, hex_digit_value, lower_digits, digit_or_error, value_at, pair_value}
+use Rattle.hex.proofs.Pairs.{cons_byte, decode_done, decode_pairs-ok_pair, decode_start, drop-pair, encode_done, encode_step, prepend, prepend-cons_byte}
+use Rattle.hex.proofs.HexLemmas.{decode_of-even}
+use Rattle.aprs_io.specs.Hexadecimal.{HoldsByte, HoldsDigits, HoldsValue, byte_of}
+
+-- ---- the value of a letter, by a test of each byte
+
+-- the place of a letter in the alphabet
+abbrev place : ℕ → ℕ
+place b = (bit_or b 32 + 159) % 256
+
+-- the test of one byte, which computes
+abbrev reads_letter : ℕ → Bool
+reads_letter b = if nat_lt (place b) 6 then unwrap_or (hex_digit_value b) 99 == place b + 10 else true
+
+-- the test of the first n bytes
+abbrev all_read : ℕ → Bool
+all_read zero = true
+all_read (suc n) = reads_letter n && all_read n
+
+all_read-at : (n b : ℕ) → all_read n ≡ true → b < n → reads_letter b ≡ true
+all_read-at zero b h lt = absurd (omega arith)
+all_read-at (suc n) b h lt =
+    let parts = and_parts (reads_letter n) (all_read n) h in
+    elim (cases_lt b n) [
+      | inl below ↦ all_read-at n b parts.1 below
+      | inr top ↦
+          let e : b ≡ n = omega arith in
+          rw e parts.0
+    ]
+
+each_reads : (b : ℕ) → b < 256 → reads_letter b ≡ true
+each_reads b lt = all_read-at 256 b refl lt
+
+some_from_unwrap : (o : Option ℕ) (d : ℕ) → d < 16 → unwrap_or o 99 ≡ d → o ≡ Some d
+some_from_unwrap (Some v) d lt e = ap Some e
+some_from_unwrap None d lt e = absurd (omega arith)
+
+pub letter_value : (b : ℕ) → b < 256 → place b < 6 → hex_digit_value b ≡ Some (place b + 10)
+letter_value b lt few =
+    let t : nat_lt (place b) 6 ≡ true = lt-ltb _ _ few in
+    let test : (unwrap_or (hex_digit_value b) 99 == place b + 10) ≡ true
+    = ap (λ t. cond t (unwrap_or (hex_digit_value b) 99 == place b + 10) true) (sym t) ∙ each_reads b lt in
+    some_from_unwrap (hex_digit_value b) (place b + 10) (omega arith) (eqb-true _ _ test)
+
+-- ---- pairs of digits
+
+-- two digits make a byte
+pub HoldsByte-of : (text out : List ℕ) (k h l : ℕ) → h < 16 → l < 16
+    → hex_digit_value (slice_index text (2 * k)) ≡ Some h
+    → hex_digit_value (slice_index text (2 * k + 1)) ≡ Some l
+    → slice_index out k ≡ byte_of h l → HoldsByte text out k
+unfolding HoldsByte
+HoldsByte-of text out k h l hs ls eh el is =
+    let a = slice_index text (2 * k) in
+    let b = slice_index text (2 * k + 1) in
+    let ha : value_at a (2 * k) ≡ Ok h = ap (digit_or_error a (2 * k)) eh in
+    let hb : value_at b (2 * k + 1) ≡ Ok l = ap (digit_or_error b (2 * k + 1)) el in
+    let pair : pair_value a b (2 * k) ≡ Ok (h * 16 + l) = rw (ha, hb) refl in
+    let whole : h * 16 + l ≡ byte_of h l = omega arith in
+    pair ∙ ap Ok (whole ∙ sym is)
+
+-- the same byte in another list
+pub HoldsByte-kept : (text before after : List ℕ) (k : ℕ) → slice_index after k ≡ slice_index before k
+    → HoldsByte text before k → HoldsByte text after k
+unfolding HoldsByte
+HoldsByte-kept text before after k same h = h ∙ ap Ok (sym same)
+
+-- one byte more
+next_byte : (text out : List ℕ) (i : ℕ) → 2 * i + 1 < length text → i < length out → HoldsByte text out i
+    → decode_pairs 0 text ≡ prepend (take i out) (decode_pairs (2 * i) (drop (2 * i) text))
+    → decode_pairs 0 text ≡ prepend (take (i + 1) out) (decode_pairs (2 * (i + 1)) (drop (2 * (i + 1)) text))
+unfolding HoldsByte
+next_byte text out i fits room ok so_far =
+    let v = slice_index out i in
+    let rest : List ℕ = drop (2 * (i + 1)) text in
+    let two : 2 * i + 2 ≡ 2 * (i + 1) = omega arith in
+    let pair = ap (decode_pairs (2 * i)) (drop-pair text i fits) ∙ decode_pairs-ok_pair (2 * i) _ _ v rest ok
+    ∙ ap (λ (k : ℕ). cons_byte v (decode_pairs k rest)) two in
+    so_far ∙ ap (prepend (take i out)) pair ∙ prepend-cons_byte (take i out) v _
+    ∙ ap (λ (f : List ℕ). prepend f (decode_pairs (2 * (i + 1)) rest)) (sym (take_more out i 0 room))
+
+-- the first i bytes
+first_bytes : (text out : List ℕ) → length text ≡ 2 * length out
+    → ((k : ℕ) → k < length out → HoldsByte text out k)
+    → (i : ℕ) → i ≤ length out
+    → decode_pairs 0 text ≡ prepend (take i out) (decode_pairs (2 * i) (drop (2 * i) text))
+first_bytes text out len all zero h = decode_start text out
+first_bytes text out len all (suc i) h =
+    let one : suc i ≡ i + 1 = omega arith in
+    rw one (next_byte text out i (omega arith) (omega arith) (all i (omega arith)) (first_bytes text out len all i (omega arith)))
+
+-- a text is read where each pair of its digits is
+pub decode_of-bytes : (text out : List ℕ) → length text ≡ 2 * length out
+    → ((k : ℕ) → k < length out → HoldsByte text out k) → decode_of text ≡ Ok out
+decode_of-bytes text out len all =
+    let n = length out in
+    decode_of-even text (omega arith)
+    ∙ decode_done text out n (omega arith) (omega arith) (first_bytes text out len all n (omega arith))
+
+-- ---- a block
+
+-- one value more
+pub values_more : (digits values : List ℕ) (j v : ℕ) → j < length values → v < 16
+    → hex_digit_value (slice_index digits j) ≡ Some v
+    → ((k : ℕ) → k < j → HoldsValue digits values k)
+    → (k : ℕ) → k < j + 1 → HoldsValue digits (slice_set values j v) k
+values_more digits values j v room small is so_far k below =
+    elim (cases_lt k j) [
+      | inl before ↦
+          let other : k ≢ j = omega arith in
+          let same : slice_index (slice_set values j v) k ≡ slice_index values k = get_or-set_other values j k v 0 other in
+          rw same (so_far k before)
+      | inr top ↦
+          let e : k ≡ j = omega arith in
+          let same : slice_index (slice_set values j v) j ≡ v = get_or-set_same values j v 0 room in
+          rw (e, same) (small, is)
+    ]
+
+-- a digit of a part of the text
+digit_in : (text : List ℕ) (from j : ℕ) → j < 32
+    → slice_index (take (from + 32 - from) (drop from text)) j ≡ slice_index text (from + j)
+digit_in text from j lt =
+    get_or-take (from + 32 - from) (drop from text) j 0 (omega arith) ∙ get_or-drop from text j 0
+
+-- a byte in the part that was written
+byte_in : (out new : List ℕ) (at j : ℕ) → at + 16 ≤ length out → length new ≡ 16 → j < 16
+    → slice_index (put_mid at (at + 16 - at) out new) (at + j) ≡ slice_index new j
+byte_in out new at j room len lt =
+    let front : length (take at out) ≡ at = length-take-le at out (omega arith) in
+    let here : at + j - at ≡ j = omega arith in
+    get_or-append_right (take at out) (new ++ post_of at (at + 16 - at) out) at (at + j) 0 front (omega arith)
+    ∙ ap (λ n. slice_index (new ++ post_of at (at + 16 - at) out) n) here
+    ∙ get_or_append_left new (post_of at (at + 16 - at) out) 0 j (omega arith)
+
+-- the bytes of a block
+pub block_bytes : (text out values new : List ℕ) (at : ℕ) → at + 16 ≤ length out → length new ≡ 16
+    → ((j : ℕ) → j < 32 → HoldsValue (take (2 * at + 32 - 2 * at) (drop (2 * at) text)) values j)
+    → ((j : ℕ) → j < 16 → slice_index new j ≡ byte_of (slice_index values (2 * j)) (slice_index values (2 * j + 1)))
+    → (k : ℕ) → at ≤ k → k < at + 16 → HoldsByte text (put_mid at (at + 16 - at) out new) k
+block_bytes text out values new at room len digits bytes k low high =
+    let j : ℕ = k - at in
+    let here : k ≡ at + j = omega arith in
+    let even : 2 * at + 2 * j ≡ 2 * k = omega arith in
+    let odd : 2 * at + (2 * j + 1) ≡ 2 * k + 1 = omega arith in
+    let h = digits (2 * j) (omega arith) in
+    let l = digits (2 * j + 1) (omega arith) in
+    let eh : hex_digit_value (slice_index text (2 * k)) ≡ Some (slice_index values (2 * j))
+    = ap (λ n. hex_digit_value (slice_index text n)) (sym even)
+    ∙ ap hex_digit_value (sym (digit_in text (2 * at) (2 * j) (omega arith))) ∙ h.1 in
+    let el : hex_digit_value (slice_index text (2 * k + 1)) ≡ Some (slice_index values (2 * j + 1))
+    = ap (λ n. hex_digit_value (slice_index text n)) (sym odd)
+    ∙ ap hex_digit_value (sym (digit_in text (2 * at) (2 * j + 1) (omega arith))) ∙ l.1 in
+    let is : slice_index (put_mid at (at + 16 - at) out new) k ≡ byte_of (slice_index values (2 * j)) (slice_index values (2 * j + 1))
+    = ap (slice_index (put_mid at (at + 16 - at) out new)) here
+    ∙ byte_in out new at j room len (omega arith) ∙ bytes j (omega arith) in
+    HoldsByte-of text (put_mid at (at + 16 - at) out new) k _ _ h.0 l.0 eh el is
+
+-- ---- the digits of bytes
+
+-- one byte's digits more
+pub digits_more : (bytes digits : List ℕ) (j x y : ℕ) → 2 * j + 1 < length digits
+    → x ≡ slice_index lower_digits (slice_index bytes j / 16)
+    → y ≡ slice_index lower_digits (slice_index bytes j % 16)
+    → ((k : ℕ) → k < j → HoldsDigits bytes digits k)
+    → (k : ℕ) → k < j + 1 → HoldsDigits bytes (slice_set (slice_set digits (2 * j) x) (2 * j + 1) y) k
+digits_more bytes digits j x y room ex ey so_far k below =
+    let one = slice_set digits (2 * j) x in
+    let len : length one ≡ length digits = length-set digits (2 * j) x in
+    elim (cases_lt k j) [
+      | inl before ↦
+          let h = so_far k before in
+          let even1 : 2 * k ≢ 2 * j + 1 = omega arith in
+          let even0 : 2 * k ≢ 2 * j = omega arith in
+          let odd1 : 2 * k + 1 ≢ 2 * j + 1 = omega arith in
+          let odd0 : 2 * k + 1 ≢ 2 * j = omega arith in (
+            get_or-set_other one (2 * j + 1) (2 * k) y 0 even1 ∙ get_or-set_other digits (2 * j) (2 * k) x 0 even0 ∙ h.0,
+            get_or-set_other one (2 * j + 1) (2 * k + 1) y 0 odd1 ∙ get_or-set_other digits (2 * j) (2 * k + 1) x 0 odd0 ∙ h.1,
+          )
+      | inr top ↦
+          let e : k ≡ j = omega arith in
+          let even : 2 * j ≢ 2 * j + 1 = omega arith in
+          let here : HoldsDigits bytes (slice_set one (2 * j + 1) y) j = (
+            get_or-set_other one (2 * j + 1) (2 * j) y 0 even ∙ get_or-set_same digits (2 * j) x 0 (omega arith) ∙ ex,
+            get_or-set_same one (2 * j + 1) y 0 (omega (arith, len)) ∙ ey,
+          ) in
+          subst (HoldsDigits bytes (slice_set one (2 * j + 1) y)) (sym e) here
+    ]
+
+-- a digit in the part that was written
+digit_out : (digits block : List ℕ) (from j : ℕ) → from + 32 ≤ length digits → length block ≡ 32 → j < 32
+    → slice_index (put_mid from (from + 32 - from) digits block) (from + j) ≡ slice_index block j
+digit_out digits block from j room len lt =
+    let front : length (take from digits) ≡ from = length-take-le from digits (omega arith) in
+    let here : from + j - from ≡ j = omega arith in
+    get_or-append_right (take from digits) (block ++ post_of from (from + 32 - from) digits) from (from + j) 0 front (omega arith)
+    ∙ ap (λ n. slice_index (block ++ post_of from (from + 32 - from) digits) n) here
+    ∙ get_or_append_left block (post_of from (from + 32 - from) digits) 0 j (omega arith)
+
+-- the digits of a block
+pub block_digits : (bytes digits block : List ℕ) (at : ℕ) → length digits ≡ 2 * length bytes
+    → at + 16 ≤ length bytes → length block ≡ 32
+    → ((j : ℕ) → j < 16 → HoldsDigits (take (at + 16 - at) (drop at bytes)) block j)
+    → (k : ℕ) → at ≤ k → k < at + 16 → HoldsDigits bytes (put_mid (2 * at) (2 * at + 32 - 2 * at) digits block) k
+block_digits bytes digits block at size room len holds k low high =
+    let j : ℕ = k - at in
+    let whole = put_mid (2 * at) (2 * at + 32 - 2 * at) digits block in
+    let h = holds j (omega arith) in
+    let here : at + j ≡ k = omega arith in
+    let even : 2 * k ≡ 2 * at + 2 * j = omega arith in
+    let odd : 2 * k + 1 ≡ 2 * at + (2 * j + 1) = omega arith in
+    let byte : slice_index (take (at + 16 - at) (drop at bytes)) j ≡ slice_index bytes k
+    = get_or-take (at + 16 - at) (drop at bytes) j 0 (omega arith) ∙ get_or-drop at bytes j 0
+    ∙ ap (λ n. slice_index bytes n) here in (
+      ap (λ n. slice_index whole n) even ∙ digit_out digits block (2 * at) (2 * j) (omega arith) len (omega arith)
+          ∙ h.0 ∙ ap (λ b. slice_index lower_digits (b / 16)) byte,
+      ap (λ n. slice_index whole n) odd ∙ digit_out digits block (2 * at) (2 * j + 1) (omega arith) len (omega arith)
+          ∙ h.1 ∙ ap (λ b. slice_index lower_digits (b % 16)) byte,
+    )
+
+-- the digits of the first i bytes
+first_digits : (bytes digits : List ℕ) → length digits ≡ 2 * length bytes
+    → ((k : ℕ) → k < length bytes → HoldsDigits bytes digits k)
+    → (i : ℕ) → i ≤ length bytes
+    → take (2 * i) digits ++ encode_lower (drop i bytes) ≡ encode_lower bytes
+first_digits bytes digits size all zero h = refl
+first_digits bytes digits size all (suc i) h =
+    let one : suc i ≡ i + 1 = omega arith in
+    let d = all i (omega arith) in
+    let same : slice_set (slice_set digits (2 * i) (slice_index digits (2 * i))) (2 * i + 1) (slice_index digits (2 * i + 1)) ≡ digits
+    = ap (λ l. slice_set l (2 * i + 1) (slice_index digits (2 * i + 1))) (set-get_or digits (2 * i) 0)
+    ∙ set-get_or digits (2 * i + 1) 0 in
+    let step = encode_step lower_digits bytes digits i (slice_index digits (2 * i)) (slice_index digits (2 * i + 1))
+    (omega arith) (omega arith) d.0 d.1 (first_digits bytes digits size all i (omega arith)) in
+    rw one (ap (λ l. take (2 * (i + 1)) l ++ encode_lower (drop (i + 1) bytes)) (sym same) ∙ step)
+
+-- bytes are written where the digits of each are
+pub encode_lower-digits : (bytes digits : List ℕ) → length digits ≡ 2 * length bytes
+    → ((k : ℕ) → k < length bytes → HoldsDigits bytes digits k) → digits ≡ encode_lower bytes
+encode_lower-digits bytes digits size all =
+    encode_done lower_digits bytes digits (length bytes) (omega arith) size
+    (first_digits bytes digits size all (length bytes) (omega arith))

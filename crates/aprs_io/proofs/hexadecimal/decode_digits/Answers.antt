@@ -1,0 +1,21 @@
+use Rattle.std.proofs.Common.{arith, inl, inr}
+use Rattle.std.proofs.lemmas.Bool.{OnTrue_at, cases_lt}
+use Rattle.aprs_io.proofs.Digits.{HoldsByte-kept, decode_of-bytes}
+use Rattle.aprs_io.proofs.hexadecimal.decode_digits.Goals as goal
+
+pub blocks-2-preserved : goal.blocks-2-preserved
+blocks-2-preserved c k below room =
+    elim (cases_lt k c.min-at.result) [
+      | inl front ↦
+          HoldsByte-kept c.args.text.now c.blocks-2.out c.decode_block.new.out k
+          (c.decode_block.ensures.kept k front)
+          (c.blocks-2.invariant k (omega (arith, c.min-at.ensures)) (omega (arith, c.decode_block.ensures.len)))
+      | inr behind ↦
+          OnTrue_at c.if-not-decode_block.false c.decode_block.ensures.bytes k behind
+          (omega (arith, c.min-at.ensures, c.decode_block.ensures.len))
+    ]
+
+pub returns-clause-bytes : goal.returns-clause-bytes
+returns-clause-bytes c =
+    decode_of-bytes c.args.text.now c.blocks-2.out (omega arith)
+    (λ k lt. c.blocks-2.invariant k (omega (arith, c.div_ceil-i-end.ensures)) lt)

@@ -1,0 +1,32 @@
+-- The first field of a text, which ends before a space. No public clause cites this module.
+use Rattle.std.specs.Prelude.{◌≡◌, ℕ, Bool, not, List, None, Some}
+use Rattle.aprs_io.specs.Cut.{Cut, cut_at}
+use Rattle.aprs_log.specs.Moment.{moment_of}
+use Rattle.aprs_log.specs.Receiver.{IsName, is_name_byte}
+
+-- the text's first field is the moment m, and `rest` stands after the space
+pub record TakesMoment (text : List ℕ) (m : ℕ) (rest : List ℕ) : Type 0 where
+  pub cut : Cut
+  pub is : Some cut ≡ cut_at 32 text
+  pub moment : Some m ≡ moment_of cut.before
+  pub rest_is : rest ≡ cut.after
+
+-- it is none
+abbrev pub TakesNoMoment : List ℕ → Type 0
+TakesNoMoment text = (cut : Cut) → Some cut ≡ cut_at 32 text → None ≡ moment_of cut.before
+
+-- the text's first field is the name r of a receiver, and `rest` stands after the space
+pub record TakesName (text r rest : List ℕ) : Type 0 where
+  pub cut : Cut
+  pub is : Some cut ≡ cut_at 32 text
+  pub name : IsName cut.before
+  pub name_is : r ≡ cut.before
+  pub rest_is : rest ≡ cut.after
+
+-- it is none
+abbrev pub TakesNoName : List ℕ → Type 0
+TakesNoName text = (cut : Cut) → Some cut ≡ cut_at 32 text → ¬ IsName cut.before
+
+-- a byte that no name has
+abbrev pub ends_name : ℕ → Bool
+ends_name b = not (is_name_byte b)

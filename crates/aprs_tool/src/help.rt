@@ -1,0 +1,57 @@
+//! What the program's help says, beside the words that it takes.
+
+/// The program's version.
+pub const VERSION: &str = "0.1.0";
+
+/// What the program is for.
+pub const ABOUT: &str = "Reads, checks, converts, merges and lists the logs of APRS receivers";
+
+/// What the program does without a command.
+pub const NO_COMMAND: &str = "Without a command: convert text of standard input.";
+
+/// The same, examples and exit statuses.
+pub const EXAMPLES: &str = "Without a command: convert text of standard input.
+
+Examples:
+  aprsbook check rx1.log
+  aprsbook convert text rx1.log | less
+  aprsbook convert capture --receiver RX1 --moment 2024-05-01T12:00:00Z rx1.kiss > rx1.log
+  aprsbook merge rx1.log rx2.log > net.book
+  aprsbook show net.book
+
+Exit status:
+  0  done, or help or the version was asked for
+  1  an input can't be opened or read, or is faulty
+  2  the words aren't those of a command, or the options of capture are wrong
+  3  the output was refused
+  4  memory was refused";
+
+pub const CHECK: &str = "Tell which lines of a log hold no frame, and why";
+
+pub const CONVERT: &str = "Write the frames that were heard in another form";
+
+pub const MERGE: &str = "Write the book of all inputs' receptions";
+
+pub const SHOW: &str = "List stations, objects, items and messages, with what is last known";
+
+pub const FORM: &str = "What to write";
+
+pub const TEXT: &str = "each frame as a monitor prints it";
+
+pub const KIND: &str = "the same, with the kind of report before it";
+
+pub const KISS: &str = "the frames as a KISS stream";
+
+pub const LOG: &str = "the log again, in its one spelling";
+
+pub const CAPTURE: &str = "a log of a KISS stream; needs --receiver and --moment";
+
+pub const CHECKED: &str = "A log; without one, standard input";
+
+pub const CONVERTED: &str = "A log, or with capture a KISS stream; without one, standard input";
+
+pub const GATHERED: &str = "Logs and book files; without any, standard input";
+
+pub const RECEIVER: &str = "With capture: the receiver's name, of 1 to 16 letters, digits, - and _";
+
+pub const MOMENT: &str = "With capture: when all was heard, in UTC, as 2024-05-01T12:00:00Z";

@@ -1,0 +1,163 @@
+#!/bin/sh
+# Checks, both ways, that the manual page and the completions name the words that the program has:
+# its commands, forms, options, kinds of reports, lines and states of a listing, exit statuses and
+# messages, the causes of faults, and the reasons for which a line is passed over. The program's
+# words are read from its sources. Needs a POSIX system alone; where mandoc, bash, zsh or fish is
+# there, it also looks at its file.
+set -eu
+export LC_ALL=C
+cd "$(dirname "$0")/.."
+scratch=$(mktemp -d)
+trap 'rm -rf "$scratch"' EXIT
+mkdir "$scratch/program" "$scratch/page" "$scratch/bash" "$scratch/zsh" "$scratch/fish"
+failed=0
+fail() {
+    echo "tests/words.sh: $*" >&2
+    failed=1
+}
+
+# ---- the program: a file of each kind of words ----
+
+# arms FILE BEGINNING: the texts that a match gives, from the line that begins so to the next }
+arms() {
+    awk -v beginning="$2" '
+        index($0, beginning) == 1 { open = 1 }
+        /^}/ { open = 0 }
+        open && /=> b?"/ { sub(/^[^"]*"/, ""); sub(/".*/, ""); print }
+    ' "$1"
+}
+cd crates
+# clap adds help to the commands, and help and the version to the options
+words=aprs_tool/src/words.rt
+{
+    sed -n 's/.*Command::new(alloc, "\([a-z]*\)").*/\1/p' $words | sed '/^aprsbook$/d'
+    echo help
+} > "$scratch/program/commands"
+sed -n 's/.*PossibleValue::new("\([a-z]*\)").*/\1/p' $words > "$scratch/program/forms"
+{
+    sed -n 's/.*option_arg(alloc, "\([a-z]*\)".*/--\1/p' $words
+    printf '%s\n' -h --help
+    grep -q '\.version(' $words && printf '%s\n' -V --version
+} > "$scratch/program/options"
+sed '/^-.$/d' "$scratch/program/options" > "$scratch/program/long_options"
+arms aprs_report/src/report.rt 'impl<' > "$scratch/program/kinds"
+sed -n 's/.*put_[a-z_]*(w, held, b"\([a-z]*\)".*/\1/p' aprs_tool/src/listing.rt \
+    aprs_tool/src/heard_line.rt > "$scratch/program/listed"
+sed -n 's/.*if live { b"\([a-z]*\)" } else { b"\([a-z]*\)" }.*/\1 \2/p' \
+    aprs_tool/src/heard_line.rt | tr ' ' '\n' > "$scratch/program/object_states"
+arms aprs_tool/src/listing.rt 'fn state_text' > "$scratch/program/message_states"
+arms aprs_log/src/fault.rt 'impl Reason {' > "$scratch/program/reasons"
+# want of memory is told by a message of its own
+arms aprs_log/src/fault.rt 'impl LogCause {' | sed '/^Memory$/d' > "$scratch/program/log_causes"
+arms aprs_booktext/src/fault.rt 'impl BookCause {' | sed '/^Memory$/d' \
+    > "$scratch/program/book_causes"
+{
+    echo 0
+    sed -n 's/^const [A-Z]*: u8 = \([0-9]*\);/\1/p' aprsbook/src/main.rt
+} > "$scratch/program/statuses"
+sed -n 's/.*eprintln!(rt; "\(aprsbook: .*\)").*/\1/p' aprsbook/src/main.rt |
+    sed 's/{p[a-z]*}/PLACE/; s/{line}/N/; s/{cause}/CAUSE/' > "$scratch/program/messages"
+cd ..
+
+# ---- the manual page: the tags below each heading ----
+
+page=man/aprsbook.1
+# tags HEADING: as they are read
+tags() {
+    awk -v heading="$1" '
+        /^\.S[HS] / {
+            name = $0
+            sub(/^\.S[HS] /, "", name)
+            gsub(/"/, "", name)
+            open = name == heading
+        }
+        /^\.PD/ { next }
+        tag {
+            sub(/^\.B[RI]? /, "")
+            gsub(/\\f[BIR]/, "")
+            gsub(/\\-/, "-")
+            gsub(/"/, "")
+            print
+        }
+        { tag = open && /^\.TP/ }
+    ' $page
+}
+# first_words HEADING: of each tag
+first_words() { tags "$1" | awk '{ print $1 }'; }
+first_words COMMANDS > "$scratch/page/commands"
+first_words FORMS > "$scratch/page/forms"
+first_words OPTIONS > "$scratch/page/options"
+first_words KINDS > "$scratch/page/kinds"
+first_words 'Lines of a listing' > "$scratch/page/listed"
+first_words 'States of an object or an item' > "$scratch/page/object_states"
+first_words 'States of a message' > "$scratch/page/message_states"
+first_words 'Why a line is passed over' > "$scratch/page/reasons"
+first_words 'Causes in a log' > "$scratch/page/log_causes"
+first_words 'Causes in a book' > "$scratch/page/book_causes"
+first_words 'EXIT STATUS' > "$scratch/page/statuses"
+tags DIAGNOSTICS > "$scratch/page/messages"
+
+# ---- the completions ----
+
+file=completions/aprsbook.bash
+# list NAME: the words of a local variable
+list() { sed -n "s/^ *local $1='\(.*\)'\$/\1/p" $file | tr ' ' '\n'; }
+list commands > "$scratch/bash/commands"
+list forms > "$scratch/bash/forms"
+{
+    list options
+    grep -o -e '--help' -e '--version' $file
+} > "$scratch/bash/long_options"
+
+file=completions/_aprsbook
+# array NAME: the words of an array, each before its description
+array() { sed -n "/^    $1=(\$/,/^    )\$/s/^ *'\([a-z]*\):.*/\1/p" $file; }
+array commands > "$scratch/zsh/commands"
+array forms > "$scratch/zsh/forms"
+sed -n 's/^[^#]*\(--[a-z]*\)[[}].*/\1/p' $file > "$scratch/zsh/long_options"
+
+file=completions/aprsbook.fish
+# offered WHEN: the words that are offered then
+offered() { sed -n "s/^complete -c aprsbook -n $1 -f -a \([a-z]*\) .*/\1/p" $file; }
+offered __aprsbook_wants_command > "$scratch/fish/commands"
+offered __aprsbook_wants_form > "$scratch/fish/forms"
+sed -n 's/^complete .* -l \([a-z]*\) .*/--\1/p' $file > "$scratch/fish/long_options"
+
+# ---- both ways ----
+
+for list in "$scratch"/*/*; do sort -u -o "$list" "$list"; done
+# same KIND PLACE: the words of the program, of which there are some, are those of the place
+same() {
+    program=$scratch/program/$1 place=$scratch/$2/$1
+    [ -s "$program" ] || fail "found no $1 in the sources"
+    if ! cmp -s "$program" "$place"; then
+        fail "$1 differ"
+        grep -vxF -f "$place" "$program" | sed "s/^/    $2 lacks: /" >&2
+        grep -vxF -f "$program" "$place" | sed "s/^/    only $2 has: /" >&2
+    fi
+}
+for kind in commands forms options kinds listed object_states message_states reasons log_causes \
+    book_causes statuses messages; do
+    same $kind page
+done
+for shell in bash zsh fish; do
+    for kind in commands forms long_options; do same $kind $shell; done
+done
+
+# ---- each file by its own reader ----
+
+# read_by TOOL WORD..: the tool, where it is there, has nothing to say of the file
+read_by() {
+    command -v "$1" > /dev/null || return 0
+    "$@" > "$scratch/said" 2>&1 || fail "$* ended with $?"
+    [ ! -s "$scratch/said" ] || fail "$* says: $(cat "$scratch/said")"
+}
+read_by mandoc -T lint $page
+read_by bash -n completions/aprsbook.bash
+read_by zsh -n completions/_aprsbook
+read_by fish -n completions/aprsbook.fish
+
+if [ $failed = 0 ]; then
+    echo "the manual page and the completions name the program's words"
+fi
+exit $failed
