@@ -24,28 +24,28 @@ rows_few rows =
     let lines : length (lines_of rows) ≡ length (map row_line rows) + 2 = simp length-append (omega arith) in
     omega (arith, lines_few (lines_of rows), lines, length-map rows row_line)
 
-module _ (limit : ℕ) (head rest : List ℕ) (after : Option (List ℕ)) (rows : List Row) (small : limit ≤ 1073741824) (is : IsBookRows rows) (text_is : head ++ rest ≡ book_text rows) (fits : length (head ++ rest) ≤ limit) where
+module _ (gap limit : ℕ) (head rest : List ℕ) (after : Option (List ℕ)) (rows : List Row) (small : limit ≤ 1073741824) (is : IsBookRows gap rows) (text_is : head ++ rest ≡ book_text rows) (fits : length (head ++ rest) ≤ limit) where
   few : length rows < 2 ^ 64
   few = omega (arith, rows_few rows, ap length text_is)
 
-  faultless : (e : Ending) (text : List ℕ) (f : BookFault) → Gets limit (head ++ rest) after text e → (f.cause ≡ cause.Read → ⊥) → FirstFault text e f → ⊥
-  faultless ending.End text f gets read first = (cut_short rows is few gets.rest ending.End f.cause text f (sym gets.whole ∙ text_is) refl first).1 refl gets.ends.0
-  faultless ending.Read text f gets read first = read (cut_short rows is few gets.rest ending.Read f.cause text f (sym gets.whole ∙ text_is) refl first).0
+  faultless : (e : Ending) (text : List ℕ) (f : BookFault) → Gets limit (head ++ rest) after text e → (f.cause ≡ cause.Read → ⊥) → FirstFault gap text e f → ⊥
+  faultless ending.End text f gets read first = (cut_short gap rows is few gets.rest ending.End f.cause text f (sym gets.whole ∙ text_is) refl first).1 refl gets.ends.0
+  faultless ending.Read text f gets read first = read (cut_short gap rows is few gets.rest ending.Read f.cause text f (sym gets.whole ∙ text_is) refl first).0
   faultless ending.TooLong text f gets read first = omega (arith, ap length gets.whole, length-append text gets.rest, gets.ends)
 
-  pub accepted : (r : Result (List Row) BookFault) → Reads limit head rest after r → IfErr r (λ f. f.cause ≡ cause.Read → ⊥) → IsBookOrMemory r rows
+  pub accepted : (r : Result (List Row) BookFault) → Reads gap limit head rest after r → IfErr r (λ f. f.cause ≡ cause.Read → ⊥) → IsBookOrMemory r rows
   accepted (Ok found) h read =
       let gets : Gets limit (head ++ rest) after (head ++ h.got) ending.End = subst (Gets limit (head ++ rest) after (head ++ h.got)) h.reads.2 h.gets in
       let same : head ++ rest ≡ (head ++ h.got) = gets.whole ∙ ap (λ l. (head ++ h.got) ++ l) gets.ends.0 ∙ append-nil (head ++ h.got) in
-      one_text found rows h.reads.1 is (sym h.reads.0 ∙ sym same ∙ text_is)
+      one_text gap found rows h.reads.1 is (sym h.reads.0 ∙ sym same ∙ text_is)
   accepted (Err f) h read = elim h.reads [
     | inl m ↦ m.refused
     | inr first ↦ absurd (faultless h.ending (head ++ h.got) f h.gets read first)
   ]
 
 -- the same, where the input's bytes may not be known, and a failed read has Q
-pub accepts : (known after : Option (List ℕ)) (limit : ℕ) (head : List ℕ) (r : Result (List Row) BookFault) (Q : Type 0) → limit ≤ 1073741824 → IfSome known (λ input. Reads limit head input after r)
+pub accepts : (gap : ℕ) (known after : Option (List ℕ)) (limit : ℕ) (head : List ℕ) (r : Result (List Row) BookFault) (Q : Type 0) → limit ≤ 1073741824 → IfSome known (λ input. Reads gap limit head input after r)
     → IfErr r (λ f. f.cause ≡ cause.Read → Q)
-    → IfSome known (λ input. (rows : List Row) → IsBookRows rows → head ++ input ≡ book_text rows → length (head ++ input) ≤ limit → (Q → ⊥) → IsBookOrMemory r rows)
-accepts None after limit head r Q small h read = tt
-accepts (Some input) after limit head r Q small h read = λ rows is text_is fits good. accepted limit head input after rows small is text_is fits r h (IfErr-weaker r _ _ (λ f q e. good (q e)) read)
+    → IfSome known (λ input. (rows : List Row) → IsBookRows gap rows → head ++ input ≡ book_text rows → length (head ++ input) ≤ limit → (Q → ⊥) → IsBookOrMemory r rows)
+accepts gap None after limit head r Q small h read = tt
+accepts gap (Some input) after limit head r Q small h read = λ rows is text_is fits good. accepted gap limit head input after rows small is text_is fits r h (IfErr-weaker r _ _ (λ f q e. good (q e)) read)

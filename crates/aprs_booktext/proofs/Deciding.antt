@@ -17,7 +17,6 @@ use Rattle.aprs_log.specs.Receiver.{IsName, is_name}
 use Rattle.aprs_log.proofs.MomentLemmas.{text-moment_of, moment_text-is}
 use Rattle.aprs_log.specs.declared.Ending.{Ending}
 use Rattle.aprs_log.specs.declared.Ending.TheVariants as ending
-use Rattle.aprs_laws.specs.Gap.{gap_seconds}
 use Rattle.aprs_laws.specs.Row.{Row, last_of}
 use Rattle.aprs_laws.specs.Sound.{Sound}
 use Rattle.aprs_book.specs.Refusal.{refusal, is_refused}
@@ -151,10 +150,10 @@ by_fields line (a ∷ b ∷ c ∷ d ∷ e ∷ f ∷ g ∷ ps) is = not_six line 
 
 -- ---- what a line is judged to be
 
-pub record Judged (stage : Stage) (rows : List Row) (line : List ℕ) : Type 0 where
+pub record Judged (gap : ℕ) (stage : Stage) (rows : List Row) (line : List ℕ) : Type 0 where
   pub result : Result Stage BookCause
   pub new : List Row
-  pub judged : IsJudgedIn stage result rows line new
+  pub judged : IsJudgedIn gap stage result rows line new
   pub known : result ≢ Err cause.Memory
 
 five : (a b c d e : Bool) → cond a (Some row.Order) (cond b (Some row.Span) (cond c (Some row.Near) (cond d (Some row.Receivers) (cond e (Some row.NotGreatest) None)))) ≡ Some row.Memory → ⊥
@@ -165,36 +164,36 @@ five false false false true e is = absurd cc
 five false false false false true is = absurd cc
 five false false false false false is = absurd cc
 
-never_memory : (rows : List Row) (x : Row) → refusal gap_seconds rows x ≡ Some row.Memory → ⊥
+never_memory : (gap : ℕ) (rows : List Row) (x : Row) → refusal gap rows x ≡ Some row.Memory → ⊥
 unfolding refusal
-never_memory rows x is = five (is_refused gap_seconds rows x row.Order) (is_refused gap_seconds rows x row.Span) (is_refused gap_seconds rows x row.Near)
-    (is_refused gap_seconds rows x row.Receivers) (is_refused gap_seconds rows x row.NotGreatest) is
+never_memory gap rows x is = five (is_refused gap rows x row.Order) (is_refused gap rows x row.Span) (is_refused gap rows x row.Near)
+    (is_refused gap rows x row.Receivers) (is_refused gap rows x row.NotGreatest) is
 
-judge_header : (rows : List Row) (line : List ℕ) → Judged Header rows line
-judge_header rows line = elim (one_or_other line header) [
+judge_header : (gap : ℕ) (rows : List Row) (line : List ℕ) → Judged gap Header rows line
+judge_header gap rows line = elim (one_or_other line header) [
   | inl same ↦ record { result = Ok Rows; new = rows; judged = (same, refl); known = λ e. absurd cc }
   | inr other ↦ record { result = Err cause.Header; new = rows; judged = ((other, refl), refl); known = λ e. absurd cc }
 ]
 
-module _ (rows : List Row) (line : List ℕ) (s : SpelledRow line) where
-  judge_why : (why : RowCause) → refusal gap_seconds rows s.row ≡ Some why → IsBookRow s.row → Judged Rows rows line
+module _ (gap : ℕ) (rows : List Row) (line : List ℕ) (s : SpelledRow line) where
+  judge_why : (why : RowCause) → refusal gap rows s.row ≡ Some why → IsBookRow s.row → Judged gap Rows rows line
   judge_why row.Order e is = record { result = Err cause.Order; new = rows; judged = (inr (record { row = s.row; is = is; spelled = s.line_is; refused = e }), refl); known = λ f. absurd cc }
   judge_why row.Span e is = record { result = Err cause.Span; new = rows; judged = (inr (record { row = s.row; is = is; spelled = s.line_is; refused = e }), refl); known = λ f. absurd cc }
   judge_why row.Near e is = record { result = Err cause.Near; new = rows; judged = (inr (record { row = s.row; is = is; spelled = s.line_is; refused = e }), refl); known = λ f. absurd cc }
   judge_why row.Receivers e is = record { result = Err cause.Receivers; new = rows; judged = (inr (record { row = s.row; is = is; spelled = s.line_is; refused = e }), refl); known = λ f. absurd cc }
   judge_why row.NotGreatest e is = record { result = Err cause.NotGreatest; new = rows; judged = (inr (record { row = s.row; is = is; spelled = s.line_is; refused = e }), refl); known = λ f. absurd cc }
-  judge_why row.Memory e is = absurd (never_memory rows s.row e)
+  judge_why row.Memory e is = absurd (never_memory gap rows s.row e)
 
-  judge_row : Sound gap_seconds rows → (o : Option RowCause) → refusal gap_seconds rows s.row ≡ o → IsBookRow s.row → Judged Rows rows line
+  judge_row : Sound gap rows → (o : Option RowCause) → refusal gap rows s.row ≡ o → IsBookRow s.row → Judged gap Rows rows line
   judge_row sound None e is = record {
     result = Ok Rows;
     new = rows ++ s.row ∷ [];
-    judged = (s.row, is, s.line_is, refl, (none_exactly gap_seconds rows s.row sound).0 e);
+    judged = (s.row, is, s.line_is, refl, (none_exactly gap rows s.row sound).0 e);
     known = λ f. absurd cc;
   }
   judge_row sound (Some why) e is = judge_why why e is
 
-  judge_frame : Sound gap_seconds rows → (r : Result (List ℕ) FrameFault) → frame_of s.row.greatest.frame ≡ r → Judged Rows rows line
+  judge_frame : Sound gap rows → (r : Result (List ℕ) FrameFault) → frame_of s.row.greatest.frame ≡ r → Judged gap Rows rows line
   judge_frame sound (Err fault) e = record {
     result = Err cause.Frame;
     new = rows;
@@ -202,24 +201,24 @@ module _ (rows : List Row) (line : List ℕ) (s : SpelledRow line) where
     known = λ f. absurd cc;
   }
   judge_frame sound (Ok b) e =
-      judge_row sound (refusal gap_seconds rows s.row) refl (record { spelled = s.is; frame = e ∙ ap (λ (l : List ℕ). Ok l) (frame_is s.row.greatest.frame b e) })
+      judge_row sound (refusal gap rows s.row) refl (record { spelled = s.is; frame = e ∙ ap (λ (l : List ℕ). Ok l) (frame_is s.row.greatest.frame b e) })
 
-judge_line : (rows : List Row) (line : List ℕ) → Sound gap_seconds rows → Judged Rows rows line
-judge_line rows line sound = by (is_end line) refl where
-  by : (b : Bool) → is_end line ≡ b → Judged Rows rows line
+judge_line : (gap : ℕ) (rows : List Row) (line : List ℕ) → Sound gap rows → Judged gap Rows rows line
+judge_line gap rows line sound = by (is_end line) refl where
+  by : (b : Bool) → is_end line ≡ b → Judged gap Rows rows line
   by true e = elim (one_or_other line (end_line (length rows))) [
     | inl same ↦ record { result = Ok Done; new = rows; judged = (same, refl); known = λ f. absurd cc }
     | inr other ↦ record { result = Err cause.Ending; new = rows; judged = (inr (e, other), refl); known = λ f. absurd cc }
   ]
   by false e = elim (by_fields line (pieces 32 line) refl) [
-    | inl s ↦ judge_frame rows line s sound (frame_of s.row.greatest.frame) refl
+    | inl s ↦ judge_frame gap rows line s sound (frame_of s.row.greatest.frame) refl
     | inr none ↦ record { result = Err cause.RowSyntax; new = rows; judged = (inr (e, none), refl); known = λ f. absurd cc }
   ]
 
-judge : (stage : Stage) (rows : List Row) (line : List ℕ) → Sound gap_seconds rows → Judged stage rows line
-judge Header rows line sound = judge_header rows line
-judge Rows rows line sound = judge_line rows line sound
-judge Done rows line sound = record { result = Err cause.After; new = rows; judged = (refl, refl); known = λ f. absurd cc }
+judge : (gap : ℕ) (stage : Stage) (rows : List Row) (line : List ℕ) → Sound gap rows → Judged gap stage rows line
+judge gap Header rows line sound = judge_header gap rows line
+judge gap Rows rows line sound = judge_line gap rows line sound
+judge gap Done rows line sound = record { result = Err cause.After; new = rows; judged = (refl, refl); known = λ f. absurd cc }
 
 -- ---- a text, line by line
 
@@ -240,17 +239,17 @@ cut_text (b ∷ text) = by (cut_text text) (is_byte 10 b) refl where
   ]
 
 -- it is a book's, or has a first fault
-pub record HasFault (text : List ℕ) (e : Ending) : Type 0 where
+pub record HasFault (gap : ℕ) (text : List ℕ) (e : Ending) : Type 0 where
   pub fault : BookFault
-  pub first : FirstFault text e fault
+  pub first : FirstFault gap text e fault
 
-abbrev pub Found : List ℕ → Ending → Type 0
-Found text e = IsBookText text e ⊎ HasFault text e
+abbrev pub Found : ℕ → List ℕ → Ending → Type 0
+Found gap text e = IsBookText gap text e ⊎ HasFault gap text e
 
 -- the text ends in this line
-at_end : (stage : Stage) (rows : List Row) (line t : List ℕ) (e : Ending) → StandsAfter stage rows line t → Found t e
-at_end stage rows line t e s = by (may_end stage e) refl where
-  whole : (stage : Stage) (e : Ending) → may_end stage e ≡ true → StandsAfter stage rows line t → IsBookText t e
+at_end : (gap : ℕ) (stage : Stage) (rows : List Row) (line t : List ℕ) (e : Ending) → StandsAfter gap stage rows line t → Found gap t e
+at_end gap stage rows line t e s = by (may_end stage e) refl where
+  whole : (stage : Stage) (e : Ending) → may_end stage e ≡ true → StandsAfter gap stage rows line t → IsBookText gap t e
   whole Header e may s = absurd (let f : false ≡ true = may in cc)
   whole Rows e may s = absurd (let f : false ≡ true = may in cc)
   whole Done ending.Read may s = absurd (let f : false ≡ true = may in cc)
@@ -262,13 +261,13 @@ at_end stage rows line t e s = by (may_end stage e) refl where
     ended = refl;
   }
 
-  by : (b : Bool) → may_end stage e ≡ b → Found t e
+  by : (b : Bool) → may_end stage e ≡ b → Found gap t e
   by true may = inl (whole stage e may s)
-  by false may = inr (record { fault = _; first = cut_fault stage rows line t e may s })
+  by false may = inr (record { fault = _; first = cut_fault gap stage rows line t e may s })
 
 -- of a line that goes on
-goes_on : (stage : Stage) (rows : List Row) (line t : List ℕ) → (stage ≡ Done → line ≡ []) → Lacks 10 line → StandsAfter stage rows [] t → StandsAfter stage rows line (t ++ line)
-goes_on stage rows line t none one s = record {
+goes_on : (gap : ℕ) (stage : Stage) (rows : List Row) (line t : List ℕ) → (stage ≡ Done → line ≡ []) → Lacks 10 line → StandsAfter gap stage rows [] t → StandsAfter gap stage rows line (t ++ line)
+goes_on gap stage rows line t none one s = record {
   text_is = ap (λ l. l ++ line) (s.text_is ∙ append-nil _);
   one = one;
   holds = holds stage none s.holds;
@@ -279,8 +278,8 @@ goes_on stage rows line t none one s = record {
   holds Rows none h = tt
   holds Done none h = none refl
 
-after_last : (rows : List Row) (rest t : List ℕ) (e : Ending) → 0 < length rest → StandsAfter Done rows [] t → HasFault (t ++ rest) e
-after_last rows rest t e some s = record {
+after_last : (gap : ℕ) (rows : List Row) (rest t : List ℕ) (e : Ending) → 0 < length rest → StandsAfter gap Done rows [] t → HasFault gap (t ++ rest) e
+after_last gap rows rest t e some s = record {
   fault = record { line = length (lines_of rows) + 1; cause = cause.After };
   first = record {
     front = lines_of rows;
@@ -291,15 +290,15 @@ after_last rows rest t e some s = record {
   };
 }
 
-abbrev FoundAfter : Ending → List ℕ → Type 0
-FoundAfter e rest = (stage : Stage) (rows : List Row) (t : List ℕ) → StandsAfter stage rows [] t → Found (t ++ rest) e
+abbrev FoundAfter : ℕ → Ending → List ℕ → Type 0
+FoundAfter gap e rest = (stage : Stage) (rows : List Row) (t : List ℕ) → StandsAfter gap stage rows [] t → Found gap (t ++ rest) e
 
 -- one line more, and then what is found behind it
-step : (e : Ending) (rest : List ℕ) (stage : Stage) (rows : List Row) (t : List ℕ) → (stage ≡ Done → ⊥) → StandsAfter stage rows [] t
-    → ((more : List ℕ) → length more < length rest → FoundAfter e more) → Found (t ++ rest) e
-step e rest stage rows t going s next = elim (cut_text rest) [
-  | inl lacks ↦ at_end stage rows rest (t ++ rest) e (goes_on stage rows rest t (λ done. absurd (going done)) lacks s)
-  | inr c ↦ by c (goes_on stage rows c.line t (λ done. absurd (going done)) c.one s) (judge stage rows c.line s.book.sound)
+step : (gap : ℕ) (e : Ending) (rest : List ℕ) (stage : Stage) (rows : List Row) (t : List ℕ) → (stage ≡ Done → ⊥) → StandsAfter gap stage rows [] t
+    → ((more : List ℕ) → length more < length rest → FoundAfter gap e more) → Found gap (t ++ rest) e
+step gap e rest stage rows t going s next = elim (cut_text rest) [
+  | inl lacks ↦ at_end gap stage rows rest (t ++ rest) e (goes_on gap stage rows rest t (λ done. absurd (going done)) lacks s)
+  | inr c ↦ by c (goes_on gap stage rows c.line t (λ done. absurd (going done)) c.one s) (judge gap stage rows c.line s.book.sound)
 ] where
   text_is : (c : CutsLine rest) → (t ++ c.line) ++ 10 ∷ c.more ≡ t ++ rest
   text_is c = append_assoc t c.line (10 ∷ c.more) ∙ ap (λ l. t ++ l) (sym c.is)
@@ -307,41 +306,41 @@ step e rest stage rows t going s next = elim (cut_text rest) [
   shorter : (c : CutsLine rest) → length c.more < length rest
   shorter c = let l = length-append c.line (10 ∷ c.more) in omega (arith, l, ap length c.is)
 
-  whole : (c : CutsLine rest) (r : Result Stage BookCause) (new : List Row) → StandsAfter stage rows c.line (t ++ c.line) → IsJudgedIn stage r rows c.line new → r ≢ Err cause.Memory → Found (t ++ rest) e
+  whole : (c : CutsLine rest) (r : Result Stage BookCause) (new : List Row) → StandsAfter gap stage rows c.line (t ++ c.line) → IsJudgedIn gap stage r rows c.line new → r ≢ Err cause.Memory → Found gap (t ++ rest) e
   whole c (Ok after) new stands judged known =
-      subst (λ l. Found l e) (append_assoc (t ++ c.line) (10 ∷ []) c.more ∙ text_is c)
-      (next c.more (shorter c) after new ((t ++ c.line) ++ 10 ∷ []) (ended_stands stage after rows new c.line (t ++ c.line) judged stands))
-  whole c (Err k) new stands judged known = elim (ended_fault stage rows new c.line (t ++ c.line) c.more k judged stands) [
+      subst (λ l. Found gap l e) (append_assoc (t ++ c.line) (10 ∷ []) c.more ∙ text_is c)
+      (next c.more (shorter c) after new ((t ++ c.line) ++ 10 ∷ []) (ended_stands gap stage after rows new c.line (t ++ c.line) judged stands))
+  whole c (Err k) new stands judged known = elim (ended_fault gap stage rows new c.line (t ++ c.line) c.more k judged stands) [
     | inl m ↦ absurd (known (ap (λ (x : BookCause). Err x) m.refused))
     | inr first ↦ inr (record {
       fault = record { line = line_number stage new; cause = k };
-      first = subst (λ l. FirstFault l e (record { line = line_number stage new; cause = k })) (text_is c) (first e);
+      first = subst (λ l. FirstFault gap l e (record { line = line_number stage new; cause = k })) (text_is c) (first e);
     })
   ]
 
-  by : (c : CutsLine rest) → StandsAfter stage rows c.line (t ++ c.line) → Judged stage rows c.line → Found (t ++ rest) e
+  by : (c : CutsLine rest) → StandsAfter gap stage rows c.line (t ++ c.line) → Judged gap stage rows c.line → Found gap (t ++ rest) e
   by c stands j = whole c j.result j.new stands j.judged j.known
 
-run : (n : ℕ) (e : Ending) (rest : List ℕ) → length rest ≤ n → FoundAfter e rest
-run n e rest fits Done rows t s = elim (cases_lt 0 (length rest)) [
-  | inl some ↦ inr (after_last rows rest t e some s)
-  | inr none ↦ subst (λ l. Found (t ++ l) e) (sym (nil_from_length rest (omega (arith, none)))) (at_end Done rows [] (t ++ []) e (subst (λ l. StandsAfter Done rows [] l) (sym (append-nil t)) s))
+run : (gap n : ℕ) (e : Ending) (rest : List ℕ) → length rest ≤ n → FoundAfter gap e rest
+run gap n e rest fits Done rows t s = elim (cases_lt 0 (length rest)) [
+  | inl some ↦ inr (after_last gap rows rest t e some s)
+  | inr none ↦ subst (λ l. Found gap (t ++ l) e) (sym (nil_from_length rest (omega (arith, none)))) (at_end gap Done rows [] (t ++ []) e (subst (λ l. StandsAfter gap Done rows [] l) (sym (append-nil t)) s))
 ]
-run zero e rest fits Header rows t s = step e rest Header rows t (λ done. absurd (let f : Header ≡ Done = done in cc)) s (λ more less. absurd (omega (arith, less, fits)))
-run zero e rest fits Rows rows t s = step e rest Rows rows t (λ done. absurd (let f : Rows ≡ Done = done in cc)) s (λ more less. absurd (omega (arith, less, fits)))
-run (suc n) e rest fits Header rows t s = step e rest Header rows t (λ done. absurd (let f : Header ≡ Done = done in cc)) s (λ more less. run n e more (omega (arith, less, fits)))
-run (suc n) e rest fits Rows rows t s = step e rest Rows rows t (λ done. absurd (let f : Rows ≡ Done = done in cc)) s (λ more less. run n e more (omega (arith, less, fits)))
+run gap zero e rest fits Header rows t s = step gap e rest Header rows t (λ done. absurd (let f : Header ≡ Done = done in cc)) s (λ more less. absurd (omega (arith, less, fits)))
+run gap zero e rest fits Rows rows t s = step gap e rest Rows rows t (λ done. absurd (let f : Rows ≡ Done = done in cc)) s (λ more less. absurd (omega (arith, less, fits)))
+run gap (suc n) e rest fits Header rows t s = step gap e rest Header rows t (λ done. absurd (let f : Header ≡ Done = done in cc)) s (λ more less. run gap n e more (omega (arith, less, fits)))
+run gap (suc n) e rest fits Rows rows t s = step gap e rest Rows rows t (λ done. absurd (let f : Rows ≡ Done = done in cc)) s (λ more less. run gap n e more (omega (arith, less, fits)))
 
-found : (text : List ℕ) (e : Ending) → Found text e
-found text e = run (length text) e text (omega arith) Header [] [] (record {
+found : (gap : ℕ) (text : List ℕ) (e : Ending) → Found gap text e
+found gap text e = run gap (length text) e text (omega arith) Header [] [] (record {
   text_is = refl;
   one = tt;
   holds = refl;
   book = record { sound = record { ascending = tt; apart = tt; each = λ x h. absurd h }; each = All-nil IsBookRow };
 })
 
-pub book_or_fault : (text : List ℕ) (e : Ending) → IsBookText text e ⊎ ((f : BookFault) × FirstFault text e f)
-book_or_fault text e = elim (found text e) [
+pub book_or_fault : (gap : ℕ) (text : List ℕ) (e : Ending) → IsBookText gap text e ⊎ ((f : BookFault) × FirstFault gap text e f)
+book_or_fault gap text e = elim (found gap text e) [
   | inl whole ↦ inl whole
   | inr has ↦ inr (has.fault, has.first)
 ]

@@ -7,7 +7,6 @@ use Rattle.std.proofs.lemmas.List.{length-map}
 use Rattle.std.proofs.lemmas.List.Elements.{All-head, All-tail}
 use Rattle.aprs_ax25.specs.FrameFault.{frame_of}
 use Rattle.aprs_log.specs.declared.Ending.{Ending}
-use Rattle.aprs_laws.specs.Gap.{gap_seconds}
 use Rattle.aprs_laws.specs.Row.{Row}
 use Rattle.aprs_laws.specs.Sound.{Sound}
 use Rattle.aprs_book.specs.Refusal.{refusal}
@@ -26,14 +25,14 @@ use Rattle.aprs_booktext.proofs.OneText.{All-middle, end_is_row, end_lacks, has_
 -- ---- a line is wrong in one way
 
 -- a row can't be refused in two ways
-same_why : (rows : List Row) (line : List ℕ) (a b : RowCause) → IsRefused rows line a → IsRefused rows line b → a ≡ b
-same_why rows line a b h k =
+same_why : (gap : ℕ) (rows : List Row) (line : List ℕ) (a b : RowCause) → IsRefused gap rows line a → IsRefused gap rows line b → a ≡ b
+same_why gap rows line a b h k =
     let same = same_row h.row k.row h.is.spelled k.is.spelled (sym h.spelled ∙ k.spelled) in
-    let some : Some a ≡ Some b = sym h.refused ∙ ap (λ (r : Row). refusal gap_seconds rows r) same ∙ k.refused in
+    let some : Some a ≡ Some b = sym h.refused ∙ ap (λ (r : Row). refusal gap rows r) same ∙ k.refused in
     cc
 
-no_frame : (rows : List Row) (line : List ℕ) (why : RowCause) → HasNoFrame line → IsRefused rows line why → ⊥
-no_frame rows line why h k =
+no_frame : (gap : ℕ) (rows : List Row) (line : List ℕ) (why : RowCause) → HasNoFrame line → IsRefused gap rows line why → ⊥
+no_frame gap rows line why h k =
     let same = same_row h.row k.row h.is k.is.spelled (sym h.spelled ∙ k.spelled) in
     false≢true (subst IsErr (ap (λ (r : Row). frame_of r.greatest.frame) same ∙ k.is.frame) h.refused)
 
@@ -41,28 +40,28 @@ no_end : (line : List ℕ) (x : Row) → is_end line ≡ true → line ≡ row_l
 no_end line x e is = let f : false ≡ true = sym (ap is_end is) ∙ e in absurd cc
 
 -- what each cause says, in one sum
-abbrev Wrong : List Row → List ℕ → BookCause → Type 0
-Wrong rows line c = ((c ≡ cause.Ending) × (is_end line ≡ true))
+abbrev Wrong : ℕ → List Row → List ℕ → BookCause → Type 0
+Wrong gap rows line c = ((c ≡ cause.Ending) × (is_end line ≡ true))
     ⊎ (((c ≡ cause.RowSyntax) × (is_end line ≡ false) × ((x : Row) → IsSpelled x → line ≢ row_line x))
-    ⊎ (((c ≡ cause.Frame) × HasNoFrame line) ⊎ ((why : RowCause) × (c ≡ book_cause_of why) × IsRefused rows line why)))
+    ⊎ (((c ≡ cause.Frame) × HasNoFrame line) ⊎ ((why : RowCause) × (c ≡ book_cause_of why) × IsRefused gap rows line why)))
 
-wrong : (rows : List Row) (line : List ℕ) (c : BookCause) → IsWrong rows line c → Wrong rows line c
-wrong rows line cause.Ending w = inl (refl, w.0)
-wrong rows line cause.RowSyntax w = inr (inl (refl, w.0, w.1))
-wrong rows line cause.Frame w = inr (inr (inl (refl, w)))
-wrong rows line cause.Order w = inr (inr (inr (row.Order, refl, w)))
-wrong rows line cause.Span w = inr (inr (inr (row.Span, refl, w)))
-wrong rows line cause.Near w = inr (inr (inr (row.Near, refl, w)))
-wrong rows line cause.Receivers w = inr (inr (inr (row.Receivers, refl, w)))
-wrong rows line cause.NotGreatest w = inr (inr (inr (row.NotGreatest, refl, w)))
-wrong rows line cause.Header w = absurd w
-wrong rows line cause.After w = absurd w
-wrong rows line cause.Read w = absurd w
-wrong rows line cause.TooLong w = absurd w
-wrong rows line cause.Memory w = absurd w
+wrong : (gap : ℕ) (rows : List Row) (line : List ℕ) (c : BookCause) → IsWrong gap rows line c → Wrong gap rows line c
+wrong gap rows line cause.Ending w = inl (refl, w.0)
+wrong gap rows line cause.RowSyntax w = inr (inl (refl, w.0, w.1))
+wrong gap rows line cause.Frame w = inr (inr (inl (refl, w)))
+wrong gap rows line cause.Order w = inr (inr (inr (row.Order, refl, w)))
+wrong gap rows line cause.Span w = inr (inr (inr (row.Span, refl, w)))
+wrong gap rows line cause.Near w = inr (inr (inr (row.Near, refl, w)))
+wrong gap rows line cause.Receivers w = inr (inr (inr (row.Receivers, refl, w)))
+wrong gap rows line cause.NotGreatest w = inr (inr (inr (row.NotGreatest, refl, w)))
+wrong gap rows line cause.Header w = absurd w
+wrong gap rows line cause.After w = absurd w
+wrong gap rows line cause.Read w = absurd w
+wrong gap rows line cause.TooLong w = absurd w
+wrong gap rows line cause.Memory w = absurd w
 
-module _ (rows : List Row) (line : List ℕ) (a b : BookCause) where
-  spelled_twice : Wrong rows line a → Wrong rows line b → a ≡ b
+module _ (gap : ℕ) (rows : List Row) (line : List ℕ) (a b : BookCause) where
+  spelled_twice : Wrong gap rows line a → Wrong gap rows line b → a ≡ b
   spelled_twice h k = elim h [
     | inl ends ↦ elim k [
       | inl e ↦ ends.0 ∙ sym e.0
@@ -92,7 +91,7 @@ module _ (rows : List Row) (line : List ℕ) (a b : BookCause) where
             | inl t ↦ absurd (t.2 f.1.row f.1.is f.1.spelled)
             | inr k ↦ elim k [
               | inl g ↦ f.0 ∙ sym g.0
-              | inr r ↦ absurd (no_frame rows line r.0 f.1 r.2)
+              | inr r ↦ absurd (no_frame gap rows line r.0 f.1 r.2)
             ]
           ]
         ]
@@ -101,8 +100,8 @@ module _ (rows : List Row) (line : List ℕ) (a b : BookCause) where
           | inr k ↦ elim k [
             | inl t ↦ absurd (t.2 r.2.row r.2.is.spelled r.2.spelled)
             | inr k ↦ elim k [
-              | inl g ↦ absurd (no_frame rows line r.0 g.1 r.2)
-              | inr q ↦ r.1 ∙ ap book_cause_of (same_why rows line r.0 q.0 r.2 q.2) ∙ sym q.1
+              | inl g ↦ absurd (no_frame gap rows line r.0 g.1 r.2)
+              | inr q ↦ r.1 ∙ ap book_cause_of (same_why gap rows line r.0 q.0 r.2 q.2) ∙ sym q.1
             ]
           ]
         ]
@@ -205,9 +204,9 @@ no_last a b n more h k e = let r = rows_on a b (end_line n) more h k e in end_is
 
 -- ---- each front lacks an LF in its lines
 
-front_lacks : (front : List (List ℕ)) (rest text : List ℕ) (e : Ending) (c : BookCause) → length text < 2 ^ 64 → text ≡ text_of_lines front ++ rest → FaultBehind front rest e c
+front_lacks : (gap : ℕ) (front : List (List ℕ)) (rest text : List ℕ) (e : Ending) (c : BookCause) → length text < 2 ^ 64 → text ≡ text_of_lines front ++ rest → FaultBehind gap front rest e c
     → AllByRecursion (Lacks 10) front
-front_lacks front rest text e c small whole h = elim h [
+front_lacks gap front rest text e c small whole h = elim h [
   | inl start ↦ subst (AllByRecursion (Lacks 10)) (sym start.0) tt
   | inr behind ↦ elim behind.2 [
     | inl lines ↦ subst (AllByRecursion (Lacks 10)) (sym lines.0)
@@ -227,26 +226,26 @@ front_lacks front rest text e c small whole h = elim h [
 not_cut : (rest line tail : List ℕ) (e : Ending) (c : BookCause) → rest ≡ line ++ 10 ∷ tail → IsCut rest e c → ⊥
 not_cut rest line tail e c is h = has_line 10 line tail (subst (Lacks 10) is h.0)
 
-wrong_on : (a b : List Row) (line rest tail : List ℕ) (e : Ending) (c : BookCause) → IsBookRows b → RowsGoOn a b line → rest ≡ line ++ 10 ∷ tail → Lacks 10 line → FaultAfterRows a rest e c → ⊥
-wrong_on a b line rest tail e c is on text one h = elim h [
+wrong_on : (gap : ℕ) (a b : List Row) (line rest tail : List ℕ) (e : Ending) (c : BookCause) → IsBookRows gap b → RowsGoOn a b line → rest ≡ line ++ 10 ∷ tail → Lacks 10 line → FaultAfterRows gap a rest e c → ⊥
+wrong_on gap a b line rest tail e c is on text one h = elim h [
   | inl cut ↦ not_cut rest line tail e c text cut
   | inr w ↦
       let same : w.line ≡ row_line on.row_is = (same_line 10 w.line w.more line tail w.one one (sym w.is ∙ text)).0 ∙ on.line_is in
-      wrong_row a on.more on.row_is c (All-middle IsBookRow a on.row_is on.more (subst (All IsBookRow) on.is is.each))
-      (subst (Sound gap_seconds) on.is is.sound) (subst (λ l. IsWrong a l c) same w.holds)
+      wrong_row gap a on.more on.row_is c (All-middle IsBookRow a on.row_is on.more (subst (All IsBookRow) on.is is.each))
+      (subst (Sound gap) on.is is.sound) (subst (λ l. IsWrong gap a l c) same w.holds)
 ]
 
-wrong_at_end : (a b : List Row) (line rest tail : List ℕ) (e : Ending) (c : BookCause) → a ≡ b → line ≡ end_line (length b) → rest ≡ line ++ 10 ∷ tail → Lacks 10 line → FaultAfterRows a rest e c → ⊥
-wrong_at_end a b line rest tail e c same is text one h = elim h [
+wrong_at_end : (gap : ℕ) (a b : List Row) (line rest tail : List ℕ) (e : Ending) (c : BookCause) → a ≡ b → line ≡ end_line (length b) → rest ≡ line ++ 10 ∷ tail → Lacks 10 line → FaultAfterRows gap a rest e c → ⊥
+wrong_at_end gap a b line rest tail e c same is text one h = elim h [
   | inl cut ↦ not_cut rest line tail e c text cut
   | inr w ↦
       let line_is : w.line ≡ end_line (length b) = (same_line 10 w.line w.more line tail w.one one (sym w.is ∙ text)).0 ∙ is in
-      wrong_end b c (subst (λ (r : List Row). IsWrong r (end_line (length b)) c) same (subst (λ l. IsWrong a l c) line_is w.holds))
+      wrong_end gap b c (subst (λ (r : List Row). IsWrong gap r (end_line (length b)) c) same (subst (λ l. IsWrong gap a l c) line_is w.holds))
 ]
 
 -- the first line of a front is the header
-first_line : (front : List (List ℕ)) (rest line : List ℕ) (more : List (List ℕ)) (e : Ending) (c : BookCause) → FaultBehind front rest e c → front ≡ line ∷ more → line ≡ header
-first_line front rest line more e c h is = elim h [
+first_line : (gap : ℕ) (front : List (List ℕ)) (rest line : List ℕ) (more : List (List ℕ)) (e : Ending) (c : BookCause) → FaultBehind gap front rest e c → front ≡ line ∷ more → line ≡ header
+first_line gap front rest line more e c h is = elim h [
   | inl start ↦ absurd (let l = ap length (sym start.0 ∙ is) in omega (arith, l))
   | inr behind ↦ elim behind.2 [
     | inl lines ↦ (let f : line ∷ more ≡ header ∷ map row_line behind.0 = sym is ∙ lines.0 in cons_first line more header (map row_line behind.0) f)
@@ -254,32 +253,32 @@ first_line front rest line more e c h is = elim h [
   ]
 ]
 
-module _ (front b : List (List ℕ)) (rest other : List ℕ) (e : Ending) (c d : BookCause) (k : FaultBehind b other e d) (on : GoesOn front b rest) where
+module _ (gap : ℕ) (front b : List (List ℕ)) (rest other : List ℕ) (e : Ending) (c d : BookCause) (k : FaultBehind gap b other e d) (on : GoesOn front b rest) where
   after_start : front ≡ [] → FaultAtStart rest e c → ⊥
   after_start none h = elim h [
     | inl cut ↦ not_cut rest on.line on.tail e c on.text_is cut
     | inr w ↦ w.holds.0 ((same_line 10 w.line w.more on.line on.tail w.one on.one (sym w.is ∙ on.text_is)).0
-        ∙ first_line b other on.line on.more e d k (on.is ∙ ap (λ l. l ++ on.line ∷ on.more) none))
+        ∙ first_line gap b other on.line on.more e d k (on.is ∙ ap (λ l. l ++ on.line ∷ on.more) none))
   ]
 
-  after_rows : (rows : List Row) → IsBookRows rows → front ≡ header ∷ map row_line rows → FaultAfterRows rows rest e c → ⊥
+  after_rows : (rows : List Row) → IsBookRows gap rows → front ≡ header ∷ map row_line rows → FaultAfterRows gap rows rest e c → ⊥
   after_rows rows is lines h = elim k [
     | inl start ↦ let l = ap length (sym start.0 ∙ whole) in omega (arith, l)
     | inr behind ↦ elim behind.2 [
-      | inl more ↦ wrong_on rows behind.0 on.line rest on.tail e c behind.1
+      | inl more ↦ wrong_on gap rows behind.0 on.line rest on.tail e c behind.1
           (rows_on rows behind.0 on.line on.more is.each behind.1.each (cons_others header (map row_line behind.0) header (map row_line rows ++ on.line ∷ on.more) (sym more.0 ∙ whole)))
           on.text_is on.one h
       | inr end ↦ elim (end_on rows behind.0 (length behind.0) on.line on.more is.each behind.1.each
           (cons_others header (map row_line behind.0 ++ end_line (length behind.0) ∷ []) header (map row_line rows ++ on.line ∷ on.more) (sym end.0 ∙ whole))) [
-            | inl r ↦ wrong_on rows behind.0 on.line rest on.tail e c behind.1 r on.text_is on.one h
-            | inr last ↦ wrong_at_end rows behind.0 on.line rest on.tail e c last.0 last.1 on.text_is on.one h
+            | inl r ↦ wrong_on gap rows behind.0 on.line rest on.tail e c behind.1 r on.text_is on.one h
+            | inr last ↦ wrong_at_end gap rows behind.0 on.line rest on.tail e c last.0 last.1 on.text_is on.one h
           ]
     ]
   ] where
     whole : b ≡ header ∷ (map row_line rows ++ on.line ∷ on.more)
     whole = on.is ∙ ap (λ l. l ++ on.line ∷ on.more) lines
 
-  after_end : (rows : List Row) → IsBookRows rows → front ≡ lines_of rows → ⊥
+  after_end : (rows : List Row) → IsBookRows gap rows → front ≡ lines_of rows → ⊥
   after_end rows is lines = elim k [
     | inl start ↦ let l = ap length (sym start.0 ∙ whole) in omega (arith, l)
     | inr behind ↦ elim behind.2 [
@@ -301,7 +300,7 @@ module _ (front b : List (List ℕ)) (rest other : List ℕ) (e : Ending) (c d :
     whole : b ≡ header ∷ (map row_line rows ++ end_line (length rows) ∷ on.line ∷ on.more)
     whole = on.is ∙ ap (λ l. l ++ on.line ∷ on.more) lines ∙ ap (λ l. header ∷ l) (append_assoc (map row_line rows) (end_line (length rows) ∷ []) (on.line ∷ on.more))
 
-  no_further : FaultBehind front rest e c → ⊥
+  no_further : FaultBehind gap front rest e c → ⊥
   no_further h = elim h [
     | inl start ↦ after_start start.0 start.1
     | inr behind ↦ elim behind.2 [
@@ -312,7 +311,7 @@ module _ (front b : List (List ℕ)) (rest other : List ℕ) (e : Ending) (c d :
 
 -- ---- behind one front the cause is one
 
-module _ (rest : List ℕ) (e : Ending) (c d : BookCause) where
+module _ (gap : ℕ) (rest : List ℕ) (e : Ending) (c d : BookCause) where
   start_once : FaultAtStart rest e c → FaultAtStart rest e d → c ≡ d
   start_once h k = elim h [
     | inl cut ↦ elim k [
@@ -325,7 +324,7 @@ module _ (rest : List ℕ) (e : Ending) (c d : BookCause) where
     ]
   ]
 
-  rows_once : (rows : List Row) → FaultAfterRows rows rest e c → FaultAfterRows rows rest e d → c ≡ d
+  rows_once : (rows : List Row) → FaultAfterRows gap rows rest e c → FaultAfterRows gap rows rest e d → c ≡ d
   rows_once rows h k = elim h [
     | inl cut ↦ elim k [
       | inl too ↦ cut.1 ∙ sym too.1
@@ -335,7 +334,7 @@ module _ (rest : List ℕ) (e : Ending) (c d : BookCause) where
       | inl cut ↦ absurd (not_cut rest w.line w.more e d w.is cut)
       | inr v ↦
           let line : v.line ≡ w.line = (same_line 10 v.line v.more w.line w.more v.one w.one (sym v.is ∙ w.is)).0 in
-          spelled_twice rows w.line c d (wrong rows w.line c w.holds) (wrong rows w.line d (subst (λ l. IsWrong rows l d) line v.holds))
+          spelled_twice gap rows w.line c d (wrong gap rows w.line c w.holds) (wrong gap rows w.line d (subst (λ l. IsWrong gap rows l d) line v.holds))
     ]
   ]
 
@@ -351,7 +350,7 @@ module _ (rest : List ℕ) (e : Ending) (c d : BookCause) where
     ]
   ]
 
-  one_cause : (front : List (List ℕ)) → FaultBehind front rest e c → FaultBehind front rest e d → c ≡ d
+  one_cause : (front : List (List ℕ)) → FaultBehind gap front rest e c → FaultBehind gap front rest e d → c ≡ d
   one_cause front h k = elim h [
     | inl start ↦ elim k [
       | inl too ↦ start_once start.1 too.1
@@ -366,7 +365,7 @@ module _ (rest : List ℕ) (e : Ending) (c d : BookCause) where
         | inr other ↦ elim other.2 [
           | inl too ↦
               let same : other.0 ≡ behind.0 = same_rows other.0 behind.0 other.1.each behind.1.each (cons_others header (map row_line other.0) header (map row_line behind.0) (sym too.0 ∙ lines.0)) in
-              rows_once behind.0 lines.1 (subst (λ (r : List Row). FaultAfterRows r rest e d) same too.1)
+              rows_once behind.0 lines.1 (subst (λ (r : List Row). FaultAfterRows gap r rest e d) same too.1)
           | inr end ↦ absurd (no_last other.0 behind.0 (length other.0) [] other.1.each behind.1.each (cons_others header (map row_line behind.0) header _ (sym lines.0 ∙ end.0)))
         ]
       ]
@@ -380,16 +379,16 @@ module _ (rest : List ℕ) (e : Ending) (c d : BookCause) where
     ]
   ]
 
-pub one_fault : (text : List ℕ) (e : Ending) (f g : BookFault) → length text < 2 ^ 64 → FirstFault text e f → FirstFault text e g → f ≡ g
-one_fault text e f g small h k =
-    elim (two_fronts h.front k.front h.rest k.rest (front_lacks h.front h.rest text e f.cause small h.whole h.fault) (front_lacks k.front k.rest text e g.cause small k.whole k.fault) (sym h.whole ∙ k.whole)) [
+pub one_fault : (gap : ℕ) (text : List ℕ) (e : Ending) (f g : BookFault) → length text < 2 ^ 64 → FirstFault gap text e f → FirstFault gap text e g → f ≡ g
+one_fault gap text e f g small h k =
+    elim (two_fronts h.front k.front h.rest k.rest (front_lacks gap h.front h.rest text e f.cause small h.whole h.fault) (front_lacks gap k.front k.rest text e g.cause small k.whole k.fault) (sym h.whole ∙ k.whole)) [
       | inl same ↦
           let line : f.line ≡ g.line = h.line ∙ ap (λ (l : List (List ℕ)). length l + 1) same.0 ∙ sym k.line in
-          let other : FaultBehind h.front h.rest e g.cause = subst (λ r. FaultBehind h.front r e g.cause) (sym same.1) (subst (λ l. FaultBehind l k.rest e g.cause) (sym same.0) k.fault) in
-          let cause : f.cause ≡ g.cause = one_cause h.rest e f.cause g.cause h.front h.fault other in
+          let other : FaultBehind gap h.front h.rest e g.cause = subst (λ r. FaultBehind gap h.front r e g.cause) (sym same.1) (subst (λ l. FaultBehind gap l k.rest e g.cause) (sym same.0) k.fault) in
+          let cause : f.cause ≡ g.cause = one_cause gap h.rest e f.cause g.cause h.front h.fault other in
           fault_is f g line cause
       | inr on ↦ absurd (elim on [
-        | inl further ↦ no_further h.front k.front h.rest k.rest e f.cause g.cause k.fault further h.fault
-        | inr further ↦ no_further k.front h.front k.rest h.rest e g.cause f.cause h.fault further k.fault
+        | inl further ↦ no_further gap h.front k.front h.rest k.rest e f.cause g.cause k.fault further h.fault
+        | inr further ↦ no_further gap k.front h.front k.rest h.rest e g.cause f.cause h.fault further k.fault
       ])
     ]

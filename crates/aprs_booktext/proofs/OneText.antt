@@ -16,7 +16,6 @@ use Rattle.aprs_log.specs.Moment.{moment_of, moment_text}
 use Rattle.aprs_log.proofs.MomentLemmas.{text-moment_of, moment_text-is}
 use Rattle.aprs_log.specs.declared.Ending.{Ending}
 use Rattle.aprs_log.specs.declared.Ending.TheVariants as ending
-use Rattle.aprs_laws.specs.Gap.{gap_seconds}
 use Rattle.aprs_laws.specs.Row.{Row, last_of}
 use Rattle.aprs_laws.specs.Sound.{Sound}
 use Rattle.aprs_laws.proofs.Pushes.{sound_front}
@@ -152,21 +151,21 @@ pub header_lacks : Lacks 10 header
 header_lacks = (refl, (refl, (refl, (refl, (refl, (refl, (refl, (refl, (refl, (refl, tt))))))))))
 
 -- behind the header and some rows' lines
-begun : (a b : List Row) (rest : List ℕ) → IsBookRows a → IsBookRows b → book_text a ≡ text_of_lines (header ∷ map row_line b) ++ rest → Begins a b (length a) rest
-begun a b rest h k e =
+begun : (gap : ℕ) (a b : List Row) (rest : List ℕ) → IsBookRows gap a → IsBookRows gap b → book_text a ≡ text_of_lines (header ∷ map row_line b) ++ rest → Begins a b (length a) rest
+begun gap a b rest h k e =
     let whole : header ++ 10 ∷ row_lines a (length a) ≡ header ++ 10 ∷ (text_of_lines (map row_line b) ++ rest) = sym (book_first a) ∙ e ∙ line_first header (map row_line b) rest in
     peel a b (length a) rest h.each k.each (same_line 10 header _ header _ header_lacks header_lacks whole).1
 
 -- behind the last line of as many rows nothing is left
-ended : (a b : List Row) (rest : List ℕ) → IsBookRows a → IsBookRows b → book_text a ≡ book_text b ++ rest → (a ≡ b) × (rest ≡ [])
-ended a b rest h k e = last p.more p.rows p.text where
+ended : (gap : ℕ) (a b : List Row) (rest : List ℕ) → IsBookRows gap a → IsBookRows gap b → book_text a ≡ book_text b ++ rest → (a ≡ b) × (rest ≡ [])
+ended gap a b rest h k e = last p.more p.rows p.text where
   lines : text_of_lines (header ∷ map row_line b ++ end_line (length b) ∷ []) ++ rest ≡ text_of_lines (header ∷ map row_line b) ++ (end_line (length b) ++ 10 ∷ rest)
   lines = ap (λ l. l ++ rest) (flat_map-append ended_by_lf (header ∷ map row_line b) (end_line (length b) ∷ []))
       ∙ append_assoc (text_of_lines (header ∷ map row_line b)) (text_of_lines (end_line (length b) ∷ [])) rest
       ∙ ap (λ l. text_of_lines (header ∷ map row_line b) ++ l) (ap (λ l. l ++ rest) (append-nil (ended_by_lf (end_line (length b)))) ∙ append_assoc (end_line (length b)) (10 ∷ []) rest)
 
   p : Begins a b (length a) (end_line (length b) ++ 10 ∷ rest)
-  p = begun a b (end_line (length b) ++ 10 ∷ rest) h k (e ∙ lines)
+  p = begun gap a b (end_line (length b) ++ 10 ∷ rest) h k (e ∙ lines)
 
   last : (more : List Row) → a ≡ b ++ more → end_line (length b) ++ 10 ∷ rest ≡ row_lines more (length a) → (a ≡ b) × (rest ≡ [])
   last [] r t =
@@ -178,8 +177,8 @@ ended a b rest h k e = last p.more p.rows p.text where
   last (x ∷ more) r t = absurd (end_or_row (length b) x (10 ∷ rest) (10 ∷ row_lines more (length a)) (t ∙ row_lines_cons x more (length a)))
 
 -- the text of rows is that of no others
-pub one_text : (a b : List Row) → IsBookRows a → IsBookRows b → book_text a ≡ book_text b → a ≡ b
-one_text a b h k e = (ended a b [] h k (e ∙ sym (append-nil (book_text b)))).0
+pub one_text : (gap : ℕ) (a b : List Row) → IsBookRows gap a → IsBookRows gap b → book_text a ≡ book_text b → a ≡ b
+one_text gap a b h k e = (ended gap a b [] h k (e ∙ sym (append-nil (book_text b)))).0
 
 -- ---- lines of a book's text are not wrong
 
@@ -188,45 +187,45 @@ All-middle P [] x b h = All-head P x b h
 All-middle P (y ∷ a) x b h = All-middle P a x b (All-tail P y (a ++ x ∷ b) h)
 
 -- no cause refuses a row behind those that it follows
-refused : (rows more : List Row) (x : Row) (why : RowCause) → IsBookRow x → Sound gap_seconds (rows ++ x ∷ more) → IsRefused rows (row_line x) why → ⊥
-refused rows more x why h s w =
+refused : (gap : ℕ) (rows more : List Row) (x : Row) (why : RowCause) → IsBookRow x → Sound gap (rows ++ x ∷ more) → IsRefused gap rows (row_line x) why → ⊥
+refused gap rows more x why h s w =
     let same = same_row x w.row h.spelled w.is.spelled w.spelled in
-    let first : Sound gap_seconds (rows ++ x ∷ []) = sound_front gap_seconds (rows ++ x ∷ []) more (subst (Sound gap_seconds) (sym (append_assoc rows (x ∷ []) more)) s) in
-    let none : refusal gap_seconds rows x ≡ None = (none_exactly gap_seconds rows x (sound_front gap_seconds rows (x ∷ []) first)).1 first in
-    let f : None ≡ Some why = sym none ∙ ap (λ (r : Row). refusal gap_seconds rows r) same ∙ w.refused in
+    let first : Sound gap (rows ++ x ∷ []) = sound_front gap (rows ++ x ∷ []) more (subst (Sound gap) (sym (append_assoc rows (x ∷ []) more)) s) in
+    let none : refusal gap rows x ≡ None = (none_exactly gap rows x (sound_front gap rows (x ∷ []) first)).1 first in
+    let f : None ≡ Some why = sym none ∙ ap (λ (r : Row). refusal gap rows r) same ∙ w.refused in
     absurd cc
 
-pub wrong_row : (rows more : List Row) (x : Row) (c : BookCause) → IsBookRow x → Sound gap_seconds (rows ++ x ∷ more) → IsWrong rows (row_line x) c → ⊥
-wrong_row rows more x cause.Ending h s w = false≢true w.0
-wrong_row rows more x cause.RowSyntax h s w = w.1 x h.spelled refl
-wrong_row rows more x cause.Frame h s w =
+pub wrong_row : (gap : ℕ) (rows more : List Row) (x : Row) (c : BookCause) → IsBookRow x → Sound gap (rows ++ x ∷ more) → IsWrong gap rows (row_line x) c → ⊥
+wrong_row gap rows more x cause.Ending h s w = false≢true w.0
+wrong_row gap rows more x cause.RowSyntax h s w = w.1 x h.spelled refl
+wrong_row gap rows more x cause.Frame h s w =
     let same = same_row x w.row h.spelled w.is w.spelled in
     false≢true (subst IsErr (ap (λ (r : Row). frame_of r.greatest.frame) (sym same) ∙ h.frame) w.refused)
-wrong_row rows more x cause.Order h s w = refused rows more x _ h s w
-wrong_row rows more x cause.Span h s w = refused rows more x _ h s w
-wrong_row rows more x cause.Near h s w = refused rows more x _ h s w
-wrong_row rows more x cause.Receivers h s w = refused rows more x _ h s w
-wrong_row rows more x cause.NotGreatest h s w = refused rows more x _ h s w
-wrong_row rows more x cause.Header h s w = w
-wrong_row rows more x cause.After h s w = w
-wrong_row rows more x cause.Read h s w = w
-wrong_row rows more x cause.TooLong h s w = w
-wrong_row rows more x cause.Memory h s w = w
+wrong_row gap rows more x cause.Order h s w = refused gap rows more x _ h s w
+wrong_row gap rows more x cause.Span h s w = refused gap rows more x _ h s w
+wrong_row gap rows more x cause.Near h s w = refused gap rows more x _ h s w
+wrong_row gap rows more x cause.Receivers h s w = refused gap rows more x _ h s w
+wrong_row gap rows more x cause.NotGreatest h s w = refused gap rows more x _ h s w
+wrong_row gap rows more x cause.Header h s w = w
+wrong_row gap rows more x cause.After h s w = w
+wrong_row gap rows more x cause.Read h s w = w
+wrong_row gap rows more x cause.TooLong h s w = w
+wrong_row gap rows more x cause.Memory h s w = w
 
-pub wrong_end : (rows : List Row) (c : BookCause) → IsWrong rows (end_line (length rows)) c → ⊥
-wrong_end rows cause.Ending w = w.1 refl
-wrong_end rows cause.RowSyntax w = false≢true (sym w.0)
-wrong_end rows cause.Frame w = end_is_row (length rows) w.row w.spelled
-wrong_end rows cause.Order w = end_is_row (length rows) w.row w.spelled
-wrong_end rows cause.Span w = end_is_row (length rows) w.row w.spelled
-wrong_end rows cause.Near w = end_is_row (length rows) w.row w.spelled
-wrong_end rows cause.Receivers w = end_is_row (length rows) w.row w.spelled
-wrong_end rows cause.NotGreatest w = end_is_row (length rows) w.row w.spelled
-wrong_end rows cause.Header w = w
-wrong_end rows cause.After w = w
-wrong_end rows cause.Read w = w
-wrong_end rows cause.TooLong w = w
-wrong_end rows cause.Memory w = w
+pub wrong_end : (gap : ℕ) (rows : List Row) (c : BookCause) → IsWrong gap rows (end_line (length rows)) c → ⊥
+wrong_end gap rows cause.Ending w = w.1 refl
+wrong_end gap rows cause.RowSyntax w = false≢true (sym w.0)
+wrong_end gap rows cause.Frame w = end_is_row (length rows) w.row w.spelled
+wrong_end gap rows cause.Order w = end_is_row (length rows) w.row w.spelled
+wrong_end gap rows cause.Span w = end_is_row (length rows) w.row w.spelled
+wrong_end gap rows cause.Near w = end_is_row (length rows) w.row w.spelled
+wrong_end gap rows cause.Receivers w = end_is_row (length rows) w.row w.spelled
+wrong_end gap rows cause.NotGreatest w = end_is_row (length rows) w.row w.spelled
+wrong_end gap rows cause.Header w = w
+wrong_end gap rows cause.After w = w
+wrong_end gap rows cause.Read w = w
+wrong_end gap rows cause.TooLong w = w
+wrong_end gap rows cause.Memory w = w
 
 -- ---- the fault of a front of a book's text is that it is cut there
 
@@ -237,7 +236,7 @@ IsCutShort e more c = (c ≡ missing e) × (e ≡ ending.End → more ≢ [])
 cut_at_line : (rest more line tail : List ℕ) (e : Ending) (c : BookCause) → rest ++ more ≡ line ++ 10 ∷ tail → IsCut rest e c → IsCutShort e more c
 cut_at_line rest more line tail e c is h = (h.1, λ end none. has_line 10 line tail (subst (Lacks 10) (sym (append-nil rest) ∙ ap (λ l. rest ++ l) (sym none) ∙ is) h.0))
 
-module _ (rows : List Row) (is : IsBookRows rows) (small : length rows < 2 ^ 64) (more : List ℕ) (e : Ending) (c : BookCause) where
+module _ (gap : ℕ) (rows : List Row) (is : IsBookRows gap rows) (small : length rows < 2 ^ 64) (more : List ℕ) (e : Ending) (c : BookCause) where
   at_start : (rest : List ℕ) → rest ++ more ≡ book_text rows → FaultAtStart rest e c → IsCutShort e more c
   at_start rest whole h = elim h [
     | inl cut ↦ cut_at_line rest more header (row_lines rows (length rows)) e c (whole ∙ book_first rows) cut
@@ -245,20 +244,20 @@ module _ (rows : List Row) (is : IsBookRows rows) (small : length rows < 2 ^ 64)
         (sym (append_assoc w.line (10 ∷ w.more) more) ∙ ap (λ l. l ++ more) (sym w.is) ∙ whole ∙ book_first rows)).0)
   ]
 
-  after_rows : (front : List Row) (rest : List ℕ) → Begins rows front (length rows) (rest ++ more) → FaultAfterRows front rest e c → IsCutShort e more c
+  after_rows : (front : List Row) (rest : List ℕ) → Begins rows front (length rows) (rest ++ more) → FaultAfterRows gap front rest e c → IsCutShort e more c
   after_rows front rest b h = go b.more b.rows b.text where
-    wrong : (x : Row) (tail : List Row) → rows ≡ front ++ x ∷ tail → rest ++ more ≡ row_lines (x ∷ tail) (length rows) → HasLine rest (λ line. IsWrong front line c) → ⊥
+    wrong : (x : Row) (tail : List Row) → rows ≡ front ++ x ∷ tail → rest ++ more ≡ row_lines (x ∷ tail) (length rows) → HasLine rest (λ line. IsWrong gap front line c) → ⊥
     wrong x tail r t w =
         let book : IsBookRow x = All-middle IsBookRow front x tail (subst (All IsBookRow) r is.each) in
         let line : w.line ≡ row_line x = (same_line 10 w.line (w.more ++ more) (row_line x) (row_lines tail (length rows)) w.one (row_lacks x book.spelled)
         (sym (append_assoc w.line (10 ∷ w.more) more) ∙ ap (λ l. l ++ more) (sym w.is) ∙ t ∙ row_lines_cons x tail (length rows))).0 in
-        wrong_row front tail x c book (subst (Sound gap_seconds) r is.sound) (subst (λ l. IsWrong front l c) line w.holds)
+        wrong_row gap front tail x c book (subst (Sound gap) r is.sound) (subst (λ l. IsWrong gap front l c) line w.holds)
 
-    wrong_last : rows ≡ front → rest ++ more ≡ row_lines [] (length rows) → HasLine rest (λ line. IsWrong front line c) → ⊥
+    wrong_last : rows ≡ front → rest ++ more ≡ row_lines [] (length rows) → HasLine rest (λ line. IsWrong gap front line c) → ⊥
     wrong_last r t w =
         let line : w.line ≡ end_line (length rows) = (same_line 10 w.line (w.more ++ more) (end_line (length rows)) [] w.one (end_lacks (length rows) small)
         (sym (append_assoc w.line (10 ∷ w.more) more) ∙ ap (λ l. l ++ more) (sym w.is) ∙ t ∙ row_lines_nil (length rows))).0 in
-        wrong_end front c (subst (λ l. IsWrong front l c) (line ∙ ap (λ (l : List Row). end_line (length l)) r) w.holds)
+        wrong_end gap front c (subst (λ l. IsWrong gap front l c) (line ∙ ap (λ (l : List Row). end_line (length l)) r) w.holds)
 
     go : (tail : List Row) → rows ≡ front ++ tail → rest ++ more ≡ row_lines tail (length rows) → IsCutShort e more c
     go [] r t = elim h [
@@ -276,16 +275,16 @@ module _ (rows : List Row) (is : IsBookRows rows) (small : length rows < 2 ^ 64)
     | inr end ↦ (end.2, λ is n. end.1 is)
   ]
 
-  pub cut_short : (text : List ℕ) (f : BookFault) → text ++ more ≡ book_text rows → f.cause ≡ c → FirstFault text e f → IsCutShort e more c
-  cut_short text f whole cause_is first = go (subst (FaultBehind first.front first.rest e) cause_is first.fault) where
+  pub cut_short : (text : List ℕ) (f : BookFault) → text ++ more ≡ book_text rows → f.cause ≡ c → FirstFault gap text e f → IsCutShort e more c
+  cut_short text f whole cause_is first = go (subst (FaultBehind gap first.front first.rest e) cause_is first.fault) where
     all : (front : List (List ℕ)) → first.front ≡ front → text_of_lines front ++ (first.rest ++ more) ≡ book_text rows
     all front same = ap (λ ls. text_of_lines ls ++ (first.rest ++ more)) (sym same) ∙ sym (append_assoc (text_of_lines first.front) first.rest more) ∙ ap (λ l. l ++ more) (sym first.whole) ∙ whole
 
-    go : FaultBehind first.front first.rest e c → IsCutShort e more c
+    go : FaultBehind gap first.front first.rest e c → IsCutShort e more c
     go h = elim h [
       | inl start ↦ at_start first.rest (all [] start.0) start.1
       | inr behind ↦ elim behind.2 [
-        | inl lines ↦ after_rows behind.0 first.rest (begun rows behind.0 (first.rest ++ more) is behind.1 (sym (all _ lines.0))) lines.1
-        | inr end ↦ at_end first.rest (ended rows behind.0 (first.rest ++ more) is behind.1 (sym (all _ end.0))).1 end.1
+        | inl lines ↦ after_rows behind.0 first.rest (begun gap rows behind.0 (first.rest ++ more) is behind.1 (sym (all _ lines.0))) lines.1
+        | inr end ↦ at_end first.rest (ended gap rows behind.0 (first.rest ++ more) is behind.1 (sym (all _ end.0))).1 end.1
       ]
     ]

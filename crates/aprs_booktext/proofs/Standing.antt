@@ -26,20 +26,20 @@ one_more ls line t e =
     ∙ sym (flat_map-append ended_by_lf ls (line ∷ []))
     ∙ sym (append-nil (text_of_lines (ls ++ line ∷ [])))
 
-pub ended_stands : (stage next : Stage) (old new : List Row) (line t : List ℕ) → IsJudgedIn stage (Ok next) old line new → StandsAfter stage old line t
-    → StandsAfter next new [] (t ++ 10 ∷ [])
-ended_stands Header Header old new line t j s = absurd j.0
-ended_stands Header Rows old new line t j s =
+pub ended_stands : (gap : ℕ) (stage next : Stage) (old new : List Row) (line t : List ℕ) → IsJudgedIn gap stage (Ok next) old line new → StandsAfter gap stage old line t
+    → StandsAfter gap next new [] (t ++ 10 ∷ [])
+ended_stands gap Header Header old new line t j s = absurd j.0
+ended_stands gap Header Rows old new line t j s =
     let none : new ≡ [] = j.1 ∙ s.holds in
     record {
       text_is = one_more [] line t s.text_is ∙ ap (λ (ls : List (List ℕ)). text_of_lines ls ++ []) (ap (λ l. l ∷ []) j.0 ∙ ap (λ (rows : List Row). header ∷ map row_line rows) (sym none));
       one = tt;
       holds = tt;
-      book = subst IsBookRows (sym j.1) s.book;
+      book = subst (IsBookRows gap) (sym j.1) s.book;
     }
-ended_stands Header Done old new line t j s = absurd j.0
-ended_stands Rows Header old new line t j s = absurd j
-ended_stands Rows Rows old new line t j s =
+ended_stands gap Header Done old new line t j s = absurd j.0
+ended_stands gap Rows Header old new line t j s = absurd j
+ended_stands gap Rows Rows old new line t j s =
     let x = j.0 in
     let grown = j.3 in
     let lines : header ∷ map row_line old ++ line ∷ [] ≡ header ∷ map row_line new
@@ -50,16 +50,16 @@ ended_stands Rows Rows old new line t j s =
       holds = tt;
       book = record { sound = j.4; each = subst (All IsBookRow) (sym grown) (All-push IsBookRow old x s.book.each j.1) };
     }
-ended_stands Rows Done old new line t j s =
+ended_stands gap Rows Done old new line t j s =
     let lines : header ∷ map row_line old ++ line ∷ [] ≡ lines_of new
     = ap (λ l. header ∷ map row_line old ++ l ∷ []) j.0 ∙ ap lines_of (sym j.1) in
     record {
       text_is = one_more (header ∷ map row_line old) line t s.text_is ∙ ap (λ (ls : List (List ℕ)). text_of_lines ls ++ []) lines;
       one = tt;
       holds = refl;
-      book = subst IsBookRows (sym j.1) s.book;
+      book = subst (IsBookRows gap) (sym j.1) s.book;
     }
-ended_stands Done next old new line t j s = absurd (let e : Ok next ≡ Err cause.After = j.0 in cc)
+ended_stands gap Done next old new line t j s = absurd (let e : Ok next ≡ Err cause.After = j.0 in cc)
 
 -- ---- faults
 
@@ -71,25 +71,25 @@ number_is Header rows = refl
 number_is Rows rows = omega (arith, length-map rows row_line)
 number_is Done rows = let e : length (lines_of rows) ≡ length (map row_line rows) + 2 = simp length-append (omega arith) in omega (arith, length-map rows row_line, e)
 
-behind : (stage : Stage) (rows : List Row) (line t more : List ℕ) → StandsAfter stage rows line t → t ++ more ≡ text_of_lines (lines_read stage rows) ++ (line ++ more)
-behind stage rows line t more s = ap (λ l. l ++ more) s.text_is ∙ append_assoc (text_of_lines (lines_read stage rows)) line more
+behind : (gap : ℕ) (stage : Stage) (rows : List Row) (line t more : List ℕ) → StandsAfter gap stage rows line t → t ++ more ≡ text_of_lines (lines_read stage rows) ++ (line ++ more)
+behind gap stage rows line t more s = ap (λ l. l ++ more) s.text_is ∙ append_assoc (text_of_lines (lines_read stage rows)) line more
 
-pub ended_fault : (stage : Stage) (old new : List Row) (line t more : List ℕ) (c : BookCause) → IsJudgedIn stage (Err c) old line new → StandsAfter stage old line t
-    → IsFault (length more + 1) (record { line = line_number stage new; cause = c }) (t ++ 10 ∷ more)
-ended_fault Header old new line t more c j s = inr (λ e. record {
+pub ended_fault : (gap : ℕ) (stage : Stage) (old new : List Row) (line t more : List ℕ) (c : BookCause) → IsJudgedIn gap stage (Err c) old line new → StandsAfter gap stage old line t
+    → IsFault gap (length more + 1) (record { line = line_number stage new; cause = c }) (t ++ 10 ∷ more)
+ended_fault gap Header old new line t more c j s = inr (λ e. record {
   front = [];
   rest = line ++ 10 ∷ more;
-  whole = behind Header old line t (10 ∷ more) s;
+  whole = behind gap Header old line t (10 ∷ more) s;
   line = refl;
   fault = inl (refl, inr (record { line = line; more = more; is = refl; one = s.one; holds = j.0 }));
 })
-ended_fault Rows old new line t more c j s = elim j.0 [
+ended_fault gap Rows old new line t more c j s = elim j.0 [
   | inl m ↦ inl (record {
     refused = m;
     front = header ∷ map row_line old;
     line = line;
     more = 10 ∷ more;
-    whole = behind Rows old line t (10 ∷ more) s;
+    whole = behind gap Rows old line t (10 ∷ more) s;
     one = s.one;
     near = omega arith;
     begins = inr (old, s.book, refl);
@@ -98,50 +98,50 @@ ended_fault Rows old new line t more c j s = elim j.0 [
   | inr w ↦ inr (λ e. record {
     front = header ∷ map row_line old;
     rest = line ++ 10 ∷ more;
-    whole = behind Rows old line t (10 ∷ more) s;
+    whole = behind gap Rows old line t (10 ∷ more) s;
     line = ap (λ (rows : List Row). length rows + 2) j.1 ∙ number_is Rows old;
     fault = inr (old, s.book, inl (refl, inr (record { line = line; more = more; is = refl; one = s.one; holds = w })));
   })
 ]
-ended_fault Done old new line t more c j s =
+ended_fault gap Done old new line t more c j s =
     let is : c ≡ cause.After = (let e : Err c ≡ Err cause.After = j.0 in cc) in
     inr (λ e. record {
       front = lines_of old;
       rest = line ++ 10 ∷ more;
-      whole = behind Done old line t (10 ∷ more) s;
+      whole = behind gap Done old line t (10 ∷ more) s;
       line = ap (λ (rows : List Row). length rows + 3) j.1 ∙ number_is Done old;
       fault = inr (old, s.book, inr (refl, inl (simp length-append (omega arith), is)));
     })
 
 -- memory is refused in the line that is read
-pub held_fault : (stage : Stage) (rows : List Row) (line t bytes more : List ℕ) → is_done stage ≡ false → StandsAfter stage rows line t
-    → IsFault (length bytes + length more) (record { line = line_number stage rows; cause = cause.Memory }) ((t ++ bytes) ++ more)
-held_fault Header rows line t bytes more going s = inl (record {
+pub held_fault : (gap : ℕ) (stage : Stage) (rows : List Row) (line t bytes more : List ℕ) → is_done stage ≡ false → StandsAfter gap stage rows line t
+    → IsFault gap (length bytes + length more) (record { line = line_number stage rows; cause = cause.Memory }) ((t ++ bytes) ++ more)
+held_fault gap Header rows line t bytes more going s = inl (record {
   refused = refl;
   front = [];
   line = line;
   more = bytes ++ more;
-  whole = append_assoc t bytes more ∙ behind Header rows line t (bytes ++ more) s;
+  whole = append_assoc t bytes more ∙ behind gap Header rows line t (bytes ++ more) s;
   one = s.one;
   near = omega (arith, length-append bytes more);
   begins = inl refl;
   number = refl;
 })
-held_fault Rows rows line t bytes more going s = inl (record {
+held_fault gap Rows rows line t bytes more going s = inl (record {
   refused = refl;
   front = header ∷ map row_line rows;
   line = line;
   more = bytes ++ more;
-  whole = append_assoc t bytes more ∙ behind Rows rows line t (bytes ++ more) s;
+  whole = append_assoc t bytes more ∙ behind gap Rows rows line t (bytes ++ more) s;
   one = s.one;
   near = omega (arith, length-append bytes more);
   begins = inr (rows, s.book, refl);
   number = number_is Rows rows;
 })
-held_fault Done rows line t bytes more going s = absurd (let f : true ≡ false = going in cc)
+held_fault gap Done rows line t bytes more going s = absurd (let f : true ≡ false = going in cc)
 
-pub fault_near : (few most : ℕ) (f : BookFault) (t : List ℕ) → few ≤ most → IsFault few f t → IsFault most f t
-fault_near few most f t less h = elim h [
+pub fault_near : (gap few most : ℕ) (f : BookFault) (t : List ℕ) → few ≤ most → IsFault gap few f t → IsFault gap most f t
+fault_near gap few most f t less h = elim h [
   | inl m ↦ inl (record {
     refused = m.refused;
     front = m.front;
@@ -158,17 +158,17 @@ fault_near few most f t less h = elim h [
 
 -- ---- the end
 
-pub cut_fault : (stage : Stage) (rows : List Row) (line t : List ℕ) (e : Ending) → may_end stage e ≡ false → StandsAfter stage rows line t
-    → FirstFault t e (record { line = line_number stage rows; cause = missing e })
-cut_fault Header rows line t e may s = record { front = []; rest = line; whole = s.text_is; line = refl; fault = inl (refl, inl (s.one, refl)) }
-cut_fault Rows rows line t e may s = record {
+pub cut_fault : (gap : ℕ) (stage : Stage) (rows : List Row) (line t : List ℕ) (e : Ending) → may_end stage e ≡ false → StandsAfter gap stage rows line t
+    → FirstFault gap t e (record { line = line_number stage rows; cause = missing e })
+cut_fault gap Header rows line t e may s = record { front = []; rest = line; whole = s.text_is; line = refl; fault = inl (refl, inl (s.one, refl)) }
+cut_fault gap Rows rows line t e may s = record {
   front = header ∷ map row_line rows;
   rest = line;
   whole = s.text_is;
   line = number_is Rows rows;
   fault = inr (rows, s.book, inl (refl, inl (s.one, refl)));
 }
-cut_fault Done rows line t e may s = record {
+cut_fault gap Done rows line t e may s = record {
   front = lines_of rows;
   rest = line;
   whole = s.text_is;

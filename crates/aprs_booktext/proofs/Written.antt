@@ -4,7 +4,6 @@ use Rattle.std.specs.Prelude.{All}
 use Rattle.std.proofs.lemmas.List.{take_more}
 use Rattle.std.proofs.lemmas.List.Elements.{All-nil, All-push}
 use Rattle.aprs_log.specs.Receiver.{IsName}
-use Rattle.aprs_laws.specs.Gap.{gap_seconds}
 use Rattle.aprs_laws.specs.Lists.{◌∈◌}
 use Rattle.aprs_laws.specs.Row.{Row}
 use Rattle.aprs_laws.specs.Sound.{Sound}
@@ -47,9 +46,9 @@ pub record WrittenSoFar (all rest : List Row) : Type 0 where
 pub WrittenSoFar-none : (all : List Row) → WrittenSoFar all all
 WrittenSoFar-none all = record { front = []; whole = refl; each = All-nil IsBookRow }
 
-pub WrittenSoFar-more : (all rest more : List Row) (x : Row) → Sound gap_seconds all → WrittenSoFar all rest → rest ≡ x ∷ more → (0 < length x.receivers → IsBookRow x)
+pub WrittenSoFar-more : (gap : ℕ) (all rest more : List Row) (x : Row) → Sound gap all → WrittenSoFar all rest → rest ≡ x ∷ more → (0 < length x.receivers → IsBookRow x)
     → WrittenSoFar all more
-WrittenSoFar-more all rest more x sound p next is =
+WrittenSoFar-more gap all rest more x sound p next is =
     let cut : all ≡ p.front ++ x ∷ more = p.whole ∙ ap (λ r. p.front ++ r) next in
     let own = sound.each x (subst (λ l. x ∈ l) (sym cut) (in_right x p.front (x ∷ more) (inl refl))) in
     record {
@@ -58,8 +57,8 @@ WrittenSoFar-more all rest more x sound p next is =
       each = All-push IsBookRow p.front x p.each (is (some_of x.greatest.receiver x.receivers own.receiver));
     }
 
-pub WrittenSoFar-all : (all rest : List Row) → Sound gap_seconds all → WrittenSoFar all rest → rest ≡ [] → IsBookRows all
-WrittenSoFar-all all rest sound p e = record {
+pub WrittenSoFar-all : (gap : ℕ) (all rest : List Row) → Sound gap all → WrittenSoFar all rest → rest ≡ [] → IsBookRows gap all
+WrittenSoFar-all gap all rest sound p e = record {
   sound = sound;
   each = subst (All IsBookRow) (sym (p.whole ∙ ap (λ r. p.front ++ r) e ∙ append-nil p.front)) p.each;
 }

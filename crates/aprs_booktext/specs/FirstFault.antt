@@ -6,7 +6,6 @@ use Rattle.aprs_ax25.specs.FrameFault.{frame_of}
 use Rattle.aprs_log.specs.LogAnswers.{Gets}
 use Rattle.aprs_log.specs.declared.Ending.{Ending}
 use Rattle.aprs_log.specs.declared.Ending.TheVariants as ending
-use Rattle.aprs_laws.specs.Gap.{gap_seconds}
 use Rattle.aprs_laws.specs.Row.{Row}
 use Rattle.aprs_book.specs.Refusal.{refusal}
 use Rattle.aprs_book.specs.declared.row_cause.RowCause.{RowCause}
@@ -23,11 +22,11 @@ abbrev pub is_end : List ℕ → Bool
 is_end line = starts_with ◌==◌ line (codes "END")
 
 -- the line spells a row that can't be added to these, and why
-pub record IsRefused (rows : List Row) (line : List ℕ) (why : RowCause) : Type 0 where
+pub record IsRefused (gap : ℕ) (rows : List Row) (line : List ℕ) (why : RowCause) : Type 0 where
   pub row : Row
   pub is : IsBookRow row
   pub spelled : line ≡ row_line row
-  pub refused : refusal gap_seconds rows row ≡ Some why
+  pub refused : refusal gap rows row ≡ Some why
 
 -- the line spells a row but for its frame, which is none
 pub record HasNoFrame (line : List ℕ) : Type 0 where
@@ -36,21 +35,21 @@ pub record HasNoFrame (line : List ℕ) : Type 0 where
   pub spelled : line ≡ row_line row
   pub refused : IsErr (frame_of row.greatest.frame)
 
-abbrev pub IsWrong : List Row → List ℕ → BookCause → Type 0
-IsWrong rows line cause.Ending = (is_end line ≡ true) × (line ≢ end_line (length rows))
-IsWrong rows line cause.RowSyntax =
+abbrev pub IsWrong : ℕ → List Row → List ℕ → BookCause → Type 0
+IsWrong gap rows line cause.Ending = (is_end line ≡ true) × (line ≢ end_line (length rows))
+IsWrong gap rows line cause.RowSyntax =
     (is_end line ≡ false) × ((x : Row) → IsSpelled x → line ≢ row_line x)
-IsWrong rows line cause.Frame = HasNoFrame line
-IsWrong rows line cause.Order = IsRefused rows line row.Order
-IsWrong rows line cause.Span = IsRefused rows line row.Span
-IsWrong rows line cause.Near = IsRefused rows line row.Near
-IsWrong rows line cause.Receivers = IsRefused rows line row.Receivers
-IsWrong rows line cause.NotGreatest = IsRefused rows line row.NotGreatest
-IsWrong rows line cause.Header = ⊥
-IsWrong rows line cause.After = ⊥
-IsWrong rows line cause.Read = ⊥
-IsWrong rows line cause.TooLong = ⊥
-IsWrong rows line cause.Memory = ⊥
+IsWrong gap rows line cause.Frame = HasNoFrame line
+IsWrong gap rows line cause.Order = IsRefused gap rows line row.Order
+IsWrong gap rows line cause.Span = IsRefused gap rows line row.Span
+IsWrong gap rows line cause.Near = IsRefused gap rows line row.Near
+IsWrong gap rows line cause.Receivers = IsRefused gap rows line row.Receivers
+IsWrong gap rows line cause.NotGreatest = IsRefused gap rows line row.NotGreatest
+IsWrong gap rows line cause.Header = ⊥
+IsWrong gap rows line cause.After = ⊥
+IsWrong gap rows line cause.Read = ⊥
+IsWrong gap rows line cause.TooLong = ⊥
+IsWrong gap rows line cause.Memory = ⊥
 
 -- ---- what follows some sound lines
 
@@ -76,8 +75,8 @@ abbrev pub FaultAtStart : List ℕ → Ending → BookCause → Type 0
 FaultAtStart rest e c =
     IsCut rest e c ⊎ HasLine rest (λ line. (line ≢ header) × (c ≡ cause.Header))
 
-abbrev pub FaultAfterRows : List Row → List ℕ → Ending → BookCause → Type 0
-FaultAfterRows rows rest e c = IsCut rest e c ⊎ HasLine rest (λ line. IsWrong rows line c)
+abbrev pub FaultAfterRows : ℕ → List Row → List ℕ → Ending → BookCause → Type 0
+FaultAfterRows gap rows rest e c = IsCut rest e c ⊎ HasLine rest (λ line. IsWrong gap rows line c)
 
 -- nothing may follow the last line, and that has to be seen
 abbrev pub FaultAtEnd : List ℕ → Ending → BookCause → Type 0
@@ -86,29 +85,29 @@ FaultAtEnd rest e c = ((0 < length rest) × (c ≡ cause.After))
 
 -- ---- the fault of a text behind which `e` came
 
-abbrev pub FaultBehind : List (List ℕ) → List ℕ → Ending → BookCause → Type 0
-FaultBehind front rest e c = ((front ≡ []) × FaultAtStart rest e c)
-    ⊎ ((rows : List Row) × IsBookRows rows
-    × (((front ≡ header ∷ map row_line rows) × FaultAfterRows rows rest e c)
+abbrev pub FaultBehind : ℕ → List (List ℕ) → List ℕ → Ending → BookCause → Type 0
+FaultBehind gap front rest e c = ((front ≡ []) × FaultAtStart rest e c)
+    ⊎ ((rows : List Row) × IsBookRows gap rows
+    × (((front ≡ header ∷ map row_line rows) × FaultAfterRows gap rows rest e c)
     ⊎ ((front ≡ lines_of rows) × FaultAtEnd rest e c)))
 
-pub record FirstFault (text : List ℕ) (e : Ending) (f : BookFault) : Type 0 where
+pub record FirstFault (gap : ℕ) (text : List ℕ) (e : Ending) (f : BookFault) : Type 0 where
   pub front : List (List ℕ)
   pub rest : List ℕ
   pub whole : text ≡ text_of_lines front ++ rest
   pub line : f.line ≡ length front + 1
-  pub fault : FaultBehind front rest e f.cause
+  pub fault : FaultBehind gap front rest e f.cause
 
 -- ---- where memory was refused
 
 -- a book's text may begin with these lines, none of which is its last
-abbrev pub BeginsBook : List (List ℕ) → Type 0
-BeginsBook front = (front ≡ [])
-    ⊎ ((rows : List Row) × IsBookRows rows × (front ≡ header ∷ map row_line rows))
+abbrev pub BeginsBook : ℕ → List (List ℕ) → Type 0
+BeginsBook gap front = (front ≡ [])
+    ⊎ ((rows : List Row) × IsBookRows gap rows × (front ≡ header ∷ map row_line rows))
 
 -- memory was refused in the line after those in front, where `line` was read of it, and of the
 -- text at most `most` bytes more
-pub record IsMemoryAt (most : ℕ) (text : List ℕ) (f : BookFault) : Type 0 where
+pub record IsMemoryAt (gap most : ℕ) (text : List ℕ) (f : BookFault) : Type 0 where
   pub refused : f.cause ≡ cause.Memory
   pub front : List (List ℕ)
   pub line : List ℕ
@@ -116,7 +115,7 @@ pub record IsMemoryAt (most : ℕ) (text : List ℕ) (f : BookFault) : Type 0 wh
   pub whole : text ≡ text_of_lines front ++ (line ++ more)
   pub one : Lacks 10 line
   pub near : length more ≤ most
-  pub begins : BeginsBook front
+  pub begins : BeginsBook gap front
   pub number : f.line ≡ length front + 1
 
 -- ---- how a text is read
@@ -127,17 +126,17 @@ piece_most = 16384
 
 -- rows are read of their text alone, and nothing but that; a fault is the first, unless memory was
 -- refused before, in the line that was being read
-abbrev pub ReadsSo : Result (List Row) BookFault → List ℕ → Ending → Type 0
-ReadsSo (Ok rows) text e = (text ≡ book_text rows) × IsBookRows rows × (e ≡ ending.End)
-ReadsSo (Err f) text e = IsMemoryAt piece_most text f ⊎ FirstFault text e f
+abbrev pub ReadsSo : ℕ → Result (List Row) BookFault → List ℕ → Ending → Type 0
+ReadsSo gap (Ok rows) text e = (text ≡ book_text rows) × IsBookRows gap rows × (e ≡ ending.End)
+ReadsSo gap (Err f) text e = IsMemoryAt gap piece_most text f ⊎ FirstFault gap text e f
 
 -- some bytes were got of the input, behind its head, at most `limit`, and they are read so
-pub record Reads (limit : ℕ) (head input : List ℕ) (after : Option (List ℕ))
+pub record Reads (gap limit : ℕ) (head input : List ℕ) (after : Option (List ℕ))
     (r : Result (List Row) BookFault) : Type 0 where
   pub got : List ℕ
   pub ending : Ending
   pub gets : Gets limit (head ++ input) after (head ++ got) ending
-  pub reads : ReadsSo r (head ++ got) ending
+  pub reads : ReadsSo gap r (head ++ got) ending
 
 -- the book of these rows, or memory was refused
 abbrev pub IsBookOrMemory : Result (List Row) BookFault → List Row → Type 0

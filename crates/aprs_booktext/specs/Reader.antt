@@ -2,7 +2,6 @@
 use Rattle.std.specs.Prelude.{◌≡◌, ◌≢◌, ℕ, ◌+◌, ◌⊎◌, Bool, true, false, List, [], ◌∷◌, ◌++◌, length, map, Result, Ok, Err}
 use Rattle.aprs_log.specs.declared.Ending.{Ending}
 use Rattle.aprs_log.specs.declared.Ending.TheVariants as ending
-use Rattle.aprs_laws.specs.Gap.{gap_seconds}
 use Rattle.aprs_laws.specs.Row.{Row}
 use Rattle.aprs_laws.specs.Sound.{Sound}
 use Rattle.aprs_booktext.specs.FirstFault.{FirstFault, IsMemoryAt, IsWrong}
@@ -28,16 +27,17 @@ HoldsIn Rows rows line = Unit {0}
 HoldsIn Done rows line = line ≡ []
 
 -- the reader has read this text: whole lines, and the front of a line
-pub record StandsAfter (stage : Stage) (rows : List Row) (line text : List ℕ) : Type 0 where
+pub record StandsAfter (gap : ℕ) (stage : Stage) (rows : List Row)
+    (line text : List ℕ) : Type 0 where
   pub text_is : text ≡ text_of_lines (lines_read stage rows) ++ line
   pub one : Lacks 10 line
   pub holds : HoldsIn stage rows line
-  pub book : IsBookRows rows
+  pub book : IsBookRows gap rows
 
 -- a fault of a text, whatever follows it; where memory was refused, at most `most` bytes of the
 -- text were not looked at
-abbrev pub IsFault : ℕ → BookFault → List ℕ → Type 0
-IsFault most f text = IsMemoryAt most text f ⊎ ((e : Ending) → FirstFault text e f)
+abbrev pub IsFault : ℕ → ℕ → BookFault → List ℕ → Type 0
+IsFault gap most f text = IsMemoryAt gap most text f ⊎ ((e : Ending) → FirstFault gap text e f)
 
 -- the number of the line that is read
 abbrev pub line_number : Stage → List Row → ℕ
@@ -60,12 +60,12 @@ may_end Header e = false
 may_end Rows e = false
 
 -- what a line is judged to be behind the lines of rows
-abbrev pub IsJudged : Result Stage BookCause → List Row → List ℕ → List Row → Type 0
-IsJudged (Ok Header) old line new = ⊥
-IsJudged (Ok Rows) old line new = (x : Row) × IsBookRow x × (line ≡ row_line x)
-    × (new ≡ old ++ x ∷ []) × Sound gap_seconds new
-IsJudged (Ok Done) old line new = (line ≡ end_line (length old)) × (new ≡ old)
-IsJudged (Err c) old line new = ((c ≡ cause.Memory) ⊎ IsWrong old line c) × (new ≡ old)
+abbrev pub IsJudged : ℕ → Result Stage BookCause → List Row → List ℕ → List Row → Type 0
+IsJudged gap (Ok Header) old line new = ⊥
+IsJudged gap (Ok Rows) old line new = (x : Row) × IsBookRow x × (line ≡ row_line x)
+    × (new ≡ old ++ x ∷ []) × Sound gap new
+IsJudged gap (Ok Done) old line new = (line ≡ end_line (length old)) × (new ≡ old)
+IsJudged gap (Err c) old line new = ((c ≡ cause.Memory) ⊎ IsWrong gap old line c) × (new ≡ old)
 
 -- and as the first line
 abbrev pub IsJudgedFirst : Result Stage BookCause → List ℕ → Type 0
@@ -74,10 +74,10 @@ IsJudgedFirst (Ok Rows) line = line ≡ header
 IsJudgedFirst (Ok Done) line = ⊥
 IsJudgedFirst (Err c) line = (line ≢ header) × (c ≡ cause.Header)
 
-abbrev pub IsJudgedIn : Stage → Result Stage BookCause → List Row → List ℕ → List Row → Type 0
-IsJudgedIn Header r old line new = IsJudgedFirst r line × (new ≡ old)
-IsJudgedIn Rows r old line new = IsJudged r old line new
-IsJudgedIn Done r old line new = (r ≡ Err cause.After) × (new ≡ old)
+abbrev pub IsJudgedIn : ℕ → Stage → Result Stage BookCause → List Row → List ℕ → List Row → Type 0
+IsJudgedIn gap Header r old line new = IsJudgedFirst r line × (new ≡ old)
+IsJudgedIn gap Rows r old line new = IsJudged gap r old line new
+IsJudgedIn gap Done r old line new = (r ≡ Err cause.After) × (new ≡ old)
 
-abbrev pub Stands : {A : Type 0} → BookReader A → List ℕ → Type 0
-Stands r text = StandsAfter r.stage r.book r.line.items text
+abbrev pub Stands : {A : Type 0} → ℕ → BookReader A → List ℕ → Type 0
+Stands gap r text = StandsAfter gap r.stage r.book r.line.items text

@@ -5,7 +5,6 @@ use Rattle.hex.specs.Hex.{encode_lower, IsBytes}
 use Rattle.aprs_ax25.specs.FrameFault.{frame_of}
 use Rattle.aprs_log.specs.Moment.{moment_text}
 use Rattle.aprs_log.specs.Receiver.{IsName}
-use Rattle.aprs_laws.specs.Gap.{gap_seconds}
 use Rattle.aprs_laws.specs.Row.{Row, last_of}
 use Rattle.aprs_laws.specs.Sound.{Sound}
 
@@ -57,6 +56,6 @@ pub record IsBookRow (x : Row) : Type 0 where
   pub spelled : IsSpelled x
   pub frame : frame_of x.greatest.frame ≡ Ok x.greatest.frame
 
-pub record IsBookRows (rows : List Row) : Type 0 where
-  pub sound : Sound gap_seconds rows
+pub record IsBookRows (gap : ℕ) (rows : List Row) : Type 0 where
+  pub sound : Sound gap rows
   pub each : All IsBookRow rows

@@ -1,6 +1,7 @@
 //! Reading a book.
 ghost use Rattle.std.specs.Prelude.{◌≡◌, ◌≤◌, ◌++◌, List, length, IsErrAnd, IfSome, IfErr};
 ghost use Rattle.aprs_kiss.specs.Device.{device_of, failures_of, answered_of, Rose, RoseWhere};
+ghost use Rattle.aprs_laws.specs.Gap.{gap_seconds};
 ghost use Rattle.aprs_laws.specs.Row.{Row};
 ghost use Rattle.aprs_booktext.specs.FirstFault.{IsBookOrMemory, Reads};
 ghost use Rattle.aprs_booktext.specs.Text.{book_text, IsBookRows};
@@ -32,10 +33,11 @@ pub fn read_book<R: Read, A: Allocator + Copy>(
     requires head { length head.now ≤ 8 }
     requires within { length head.now ≤ limit }
     ensures reads { IfSome (R.remaining (device_of source.old))
-        (λ input. Reads limit head.now input (R.remaining (device_of source.new)) result) }
+        (λ input. Reads gap_seconds limit head.now input (R.remaining (device_of source.new))
+        result) }
     // The text of a book is read, where it is short enough and the reader doesn't fail.
     ensures accepts { IfSome (R.remaining (device_of source.old)) (λ input. (rows : List Row)
-        → IsBookRows rows → head.now ++ input ≡ book_text rows
+        → IsBookRows gap_seconds rows → head.now ++ input ≡ book_text rows
         → length (head.now ++ input) ≤ limit
         → (Rose (failures_of source.old) (failures_of source.new) → ⊥)
         → IsBookOrMemory result rows) }

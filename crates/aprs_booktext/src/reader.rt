@@ -1,5 +1,6 @@
 //! A book, while its text is read.
 ghost use Rattle.std.specs.Prelude.{◌≡◌, ◌≢◌, ◌+◌, ◌≤◌, ◌++◌, ◌∷◌, ℕ, [], List, length, IsErrAnd, OnOk, MatchResult, IfErr};
+ghost use Rattle.aprs_laws.specs.Gap.{gap_seconds};
 ghost use Rattle.aprs_booktext.specs.FirstFault.{missing, ReadsSo};
 ghost use Rattle.aprs_booktext.specs.Lines.{Lacks};
 ghost use Rattle.aprs_booktext.specs.Text.{end_line};
@@ -35,7 +36,7 @@ pub struct BookReader<A: Allocator> {
 impl<A: Allocator + Copy> BookReader<A> {
     /// A reader before a text.
     pub fn new(alloc: A) -> BookReader<A>
-        ensures stands { Stands result [] }
+        ensures stands { Stands gap_seconds result [] }
         ensures empty { result.book ≡ [] }
     {
         BookReader {
@@ -48,11 +49,11 @@ impl<A: Allocator + Copy> BookReader<A> {
     /// Reads on.
     pub fn feed(&mut self, piece: &[u8]) -> Result<(), BookFault>
         requires { length self.old.book + length piece.now ≤ 1073741824 }
-        ensures stands { OnOk result ((t : List ℕ) → Stands self.old t
-            → Stands self.new (t ++ piece.now)) }
+        ensures stands { OnOk result ((t : List ℕ) → Stands gap_seconds self.old t
+            → Stands gap_seconds self.new (t ++ piece.now)) }
         ensures more { OnOk result (length self.new.book ≤ length self.old.book + length piece.now) }
-        ensures fault { IfErr result (λ f. (t : List ℕ) → Stands self.old t
-            → IsFault (length piece.now) f (t ++ piece.now)) }
+        ensures fault { IfErr result (λ f. (t : List ℕ) → Stands gap_seconds self.old t
+            → IsFault gap_seconds (length piece.now) f (t ++ piece.now)) }
         ensures cause { IfErr result (λ f. f.cause ≢ BookCause.Read) }
     {
         let mut rest = piece;
@@ -67,7 +68,8 @@ impl<A: Allocator + Copy> BookReader<A> {
     /// The book of the text behind which `ending` came.
     pub fn finish(self, ending: Ending) -> Result<Book<A>, BookFault>
         requires { length self.book ≤ 1073741824 }
-        ensures reads { (t : List ℕ) → Stands self t → ReadsSo result t ending }
+        ensures reads { (t : List ℕ) → Stands gap_seconds self t
+            → ReadsSo gap_seconds result t ending }
         ensures cause { IfErr result (λ f. f.cause ≡ BookCause.Read → ending ≡ Ending.Read) }
         ensures read { ending ≡ Ending.Read → IsErrAnd result (λ f. f.cause ≡ BookCause.Read) }
     {
@@ -80,11 +82,11 @@ impl<A: Allocator + Copy> BookReader<A> {
     /// Puts bytes behind those of the line.
     fn hold(&mut self, bytes: &[u8]) -> Result<(), BookFault>
         requires { length self.old.book ≤ 1073741824 }
-        ensures stands { OnOk result ((t : List ℕ) → Stands self.old t → Lacks 10 bytes.now
-            → Stands self.new (t ++ bytes.now)) }
+        ensures stands { OnOk result ((t : List ℕ) → Stands gap_seconds self.old t
+            → Lacks 10 bytes.now → Stands gap_seconds self.new (t ++ bytes.now)) }
         ensures same { OnOk result (self.new.book ≡ self.old.book) }
-        ensures fault { IfErr result (λ f. (t more : List ℕ) → Stands self.old t
-            → IsFault (length bytes.now + length more) f ((t ++ bytes.now) ++ more)) }
+        ensures fault { IfErr result (λ f. (t more : List ℕ) → Stands gap_seconds self.old t
+            → IsFault gap_seconds (length bytes.now + length more) f ((t ++ bytes.now) ++ more)) }
         ensures cause { IfErr result (λ f. f.cause ≢ BookCause.Read) }
     {
         if is_done(self.stage) {
@@ -101,8 +103,8 @@ impl<A: Allocator + Copy> BookReader<A> {
         requires few { length self.now.book ≤ 1073741824 }
         requires done { self.now.stage ≡ Stage.Done }
         ensures ok { OnOk result (bytes.now ≡ []) }
-        ensures fault { IfErr result (λ f. (t more : List ℕ) → Stands self.now t
-            → IsFault (length bytes.now + length more) f ((t ++ bytes.now) ++ more)) }
+        ensures fault { IfErr result (λ f. (t more : List ℕ) → Stands gap_seconds self.now t
+            → IsFault gap_seconds (length bytes.now + length more) f ((t ++ bytes.now) ++ more)) }
         ensures cause { IfErr result (λ f. f.cause ≢ BookCause.Read) }
     {
         if bytes.is_empty() {
@@ -114,11 +116,11 @@ impl<A: Allocator + Copy> BookReader<A> {
     /// Judges the line, which is whole.
     fn end_line(&mut self) -> Result<(), BookFault>
         requires { length self.old.book ≤ 1073741824 }
-        ensures stands { OnOk result ((t : List ℕ) → Stands self.old t
-            → Stands self.new (t ++ 10 ∷ [])) }
+        ensures stands { OnOk result ((t : List ℕ) → Stands gap_seconds self.old t
+            → Stands gap_seconds self.new (t ++ 10 ∷ [])) }
         ensures more { OnOk result (length self.new.book ≤ length self.old.book + 1) }
-        ensures fault { IfErr result (λ f. (t more : List ℕ) → Stands self.old t
-            → IsFault (length more + 1) f (t ++ 10 ∷ more)) }
+        ensures fault { IfErr result (λ f. (t more : List ℕ) → Stands gap_seconds self.old t
+            → IsFault gap_seconds (length more + 1) f (t ++ 10 ∷ more)) }
         ensures cause { IfErr result (λ f. f.cause ≢ BookCause.Read) }
     {
         match self.judge() {
@@ -133,8 +135,8 @@ impl<A: Allocator + Copy> BookReader<A> {
 
     /// What comes after the line.
     fn judge(&mut self) -> Result<Stage, BookCause>
-        ensures judged { IsJudgedIn self.old.stage result self.old.book self.old.line.items
-            self.new.book }
+        ensures judged { IsJudgedIn gap_seconds self.old.stage result self.old.book
+            self.old.line.items self.new.book }
         ensures line { self.new.line.items ≡ self.old.line.items }
         ensures stage { self.new.stage ≡ self.old.stage }
     {
@@ -192,7 +194,7 @@ fn judge_line<A: Allocator + Copy>(
     book: &mut Book<A>,
     line: &[u8],
 ) -> Result<Stage, BookCause>
-    ensures { IsJudged result book.old line.now book.new }
+    ensures { IsJudged gap_seconds result book.old line.now book.new }
 {
     if line.starts_with(b"END") {
         return judge_end(line, book.len());

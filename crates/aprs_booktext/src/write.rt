@@ -7,6 +7,7 @@ ghost use Rattle.arrayvec.specs.ArrayVec.{array_vec_len};
 ghost use Rattle.aprs_log.specs.Moment.{moment_text};
 ghost use Rattle.aprs_log.specs.Receiver.{IsName};
 ghost use Rattle.aprs_kiss.specs.Device.{device_of, failures_of, Rose, AppendsFront};
+ghost use Rattle.aprs_laws.specs.Gap.{gap_seconds};
 ghost use Rattle.aprs_booktext.specs.Outbox.{AreSpelled, Puts, line_and_lf};
 ghost use Rattle.aprs_booktext.specs.Text.{book_text, row_line, end_line, ended_by_lf, IsBookRow, IsBookRows};
 
@@ -43,7 +44,7 @@ pub fn write_book<W: Write, A: Allocator + Copy>(
     ensures count { failures_of w.old ≤ failures_of w.new }
     ensures fault { OnErr result (Rose (failures_of w.old) (failures_of w.new)) }
     // Such rows are read back of their text.
-    ensures spelled { OnOk result (IsBookRows book.now) }
+    ensures spelled { OnOk result (IsBookRows gap_seconds book.now) }
 {
     let mut held = Outbox::new();
     put_book(w, &mut held, book)?;
@@ -62,7 +63,7 @@ fn put_book<W: Write, A: Allocator + Copy>(
         (W.contents (device_of w.new)) (held.old.items ++ book_text book.now)) }
     ensures count { failures_of w.old ≤ failures_of w.new }
     ensures fault { OnErr result (Rose (failures_of w.old) (failures_of w.new)) }
-    ensures spelled { OnOk result (IsBookRows book.now) }
+    ensures spelled { OnOk result (IsBookRows gap_seconds book.now) }
 {
     put(w, held, b"APRSBOOK 1\n")?;
     put_rows(w, held, book)?;
@@ -81,7 +82,7 @@ fn put_rows<W: Write, A: Allocator + Copy>(
         (W.contents (device_of w.new)) (held.old.items ++ flat_map line_and_lf book.now)) }
     ensures count { failures_of w.old ≤ failures_of w.new }
     ensures fault { OnErr result (Rose (failures_of w.old) (failures_of w.new)) }
-    ensures spelled { OnOk result (IsBookRows book.now) }
+    ensures spelled { OnOk result (IsBookRows gap_seconds book.now) }
 {
     for row in book.rows() {
         put_row(w, held, &row)?;

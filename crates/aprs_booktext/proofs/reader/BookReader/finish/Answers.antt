@@ -3,4 +3,4 @@ use Rattle.aprs_booktext.proofs.Standing.{cut_fault}
 use Rattle.aprs_booktext.proofs.reader.BookReader.finish.Goals as goal
 
 pub returns-clause-reads : goal.returns-clause-reads
-returns-clause-reads g c = λ t s. rw (c.fault.ensures, c.missing.ensures) (inr (cut_fault _ _ _ t _ (sym c.may_end.ensures ∙ c.if-may_end.false) s))
+returns-clause-reads g c = λ t s. rw (c.fault.ensures, c.missing.ensures) (inr (cut_fault _ _ _ _ t _ (sym c.may_end.ensures ∙ c.if-may_end.false) s))
