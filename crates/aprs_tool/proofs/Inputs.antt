@@ -5,7 +5,6 @@ use Rattle.std.proofs.lemmas.Bool.Decides.{Decides-eqb}
 use Rattle.std.proofs.lemmas.Slice.Eq.{bytes_eq-Decides, starts_is}
 use Rattle.std.specs.Str.{bytes_eq}
 use Rattle.aprs_laws.specs.Book.{BookOf}
-use Rattle.aprs_laws.specs.Gap.{gap_seconds}
 use Rattle.aprs_laws.specs.Real.{real}
 use Rattle.aprs_laws.specs.Row.{Row}
 use Rattle.aprs_laws.proofs.Soundness.{realised}
@@ -91,132 +90,132 @@ short_is_log t short = by (is_book_file t) refl
 
 -- ---- a log
 
-faultless_log : (b : Bool) (t : List ℕ) (c : Ending) → b ≡ false → (log_answers t c).fault ≡ None → (e : InputFault) → IsFaultIn b e t c → ⊥
-faultless_log true t c is none e h = absurd cc
-faultless_log false t c is none (Log f) h = absurd cc
-faultless_log false t c is none (Book f) h = h
-faultless_log false t c is none Memory h = h
+faultless_log : (gap : ℕ) (b : Bool) (t : List ℕ) (c : Ending) → b ≡ false → (log_answers t c).fault ≡ None → (e : InputFault) → IsFaultIn gap b e t c → ⊥
+faultless_log gap true t c is none e h = absurd cc
+faultless_log gap false t c is none (Log f) h = absurd cc
+faultless_log gap false t c is none (Book f) h = h
+faultless_log gap false t c is none Memory h = h
 
-members_log : (b : Bool) (t : List ℕ) (c : Ending) → b ≡ false → AreMembersIn b t c (receptions_of (log_answers t c).given)
-members_log true t c is = absurd cc
-members_log false t c is = refl
+members_log : (gap : ℕ) (b : Bool) (t : List ℕ) (c : Ending) → b ≡ false → AreMembersIn gap b t c (receptions_of (log_answers t c).given)
+members_log gap true t c is = absurd cc
+members_log gap false t c is = refl
 
-fault_log : (b : Bool) (e : InputFault) (t : List ℕ) (c : Ending) → b ≡ false → IsFaultIn false e t c → IsFaultIn b e t c
-fault_log true e t c is h = absurd cc
-fault_log false e t c is h = h
+fault_log : (gap : ℕ) (b : Bool) (e : InputFault) (t : List ℕ) (c : Ending) → b ≡ false → IsFaultIn gap false e t c → IsFaultIn gap b e t c
+fault_log gap true e t c is h = absurd cc
+fault_log gap false e t c is h = h
 
-memory_log : (b : Bool) (e : InputFault) (t : List ℕ) → b ≡ false → IsMemoryIn false e t → IsMemoryIn b e t
-memory_log true e t is h = absurd cc
-memory_log false e t is h = h
+memory_log : (gap : ℕ) (b : Bool) (e : InputFault) (t : List ℕ) → b ≡ false → IsMemoryIn gap false e t → IsMemoryIn gap b e t
+memory_log gap true e t is h = absurd cc
+memory_log gap false e t is h = h
 
 -- rows that nothing is added to
-pub adds_none : (rows : List Row) → AddsAll [] rows rows
-adds_none rows S book = subst (λ T. BookOf gap_seconds T rows) (sym (append-nil S)) book
+pub adds_none : (gap : ℕ) (rows : List Row) → AddsAll gap [] rows rows
+adds_none gap rows S book = subst (λ T. BookOf gap T rows) (sym (append-nil S)) book
 
-reads_log : (r : Result (Unit {0}) InputFault) (old new : List Row) (t : List ℕ) (c : Ending) → is_book_file t ≡ false → ReadsLog r old new t c
-    → ReadsInto r old new t c
-reads_log (Ok u) old new t c is h = (
-  faultless_log (is_book_file t) t c is h.0,
-  (receptions_of (log_answers t c).given, members_log (is_book_file t) t c is, h.1),
+reads_log : (gap : ℕ) (r : Result (Unit {0}) InputFault) (old new : List Row) (t : List ℕ) (c : Ending) → is_book_file t ≡ false → ReadsLog gap r old new t c
+    → ReadsInto gap r old new t c
+reads_log gap (Ok u) old new t c is h = (
+  faultless_log gap (is_book_file t) t c is h.0,
+  (receptions_of (log_answers t c).given, members_log gap (is_book_file t) t c is, h.1),
 )
-reads_log (Err e) old new t c is h = elim h [
-  | inl m ↦ inl (inl (memory_log (is_book_file t) e t is m))
-  | inr f ↦ inl (inr (fault_log (is_book_file t) e t c is f))
+reads_log gap (Err e) old new t c is h = elim h [
+  | inl m ↦ inl (inl (memory_log gap (is_book_file t) e t is m))
+  | inr f ↦ inl (inr (fault_log gap (is_book_file t) e t c is f))
 ]
 
 -- what was got of one is read as a log's text
-pub log_input : (known after : Option (List ℕ)) (limit : ℕ) (head : List ℕ) (r : Result (Unit {0}) InputFault) (old new : List Row) → IsHead head → (head ≡ mark → ⊥)
-    → IfSome known (λ input. HoldsOfGot limit (head ++ input) after (ReadsLog r old new)) → IfSome known (λ input. HoldsOfGot limit (head ++ input) after (ReadsInto r old new))
-log_input None after limit head r old new size other h = tt
-log_input (Some input) after limit head r old new size other h = record {
+pub log_input : (gap : ℕ) (known after : Option (List ℕ)) (limit : ℕ) (head : List ℕ) (r : Result (Unit {0}) InputFault) (old new : List Row) → IsHead head → (head ≡ mark → ⊥)
+    → IfSome known (λ input. HoldsOfGot limit (head ++ input) after (ReadsLog gap r old new)) → IfSome known (λ input. HoldsOfGot limit (head ++ input) after (ReadsInto gap r old new))
+log_input gap None after limit head r old new size other h = tt
+log_input gap (Some input) after limit head r old new size other h = record {
   text = h.text;
   ending = h.ending;
   gets = h.gets;
-  holds = reads_log r old new h.text h.ending (is_log head input h.text h.gets.rest size other h.gets.whole) h.holds;
+  holds = reads_log gap r old new h.text h.ending (is_log head input h.text h.gets.rest size other h.gets.whole) h.holds;
 }
 
 -- a short one has this fault, or none
-pub short_fault : (t : List ℕ) (c : Ending) (k : LogCause) (rows : List Row) → length t < 8 → log_answers t c ≡ ended (fault_at 1 (Some k))
-    → ReadsInto (Err (Log (record { line = 1; cause = k }))) rows rows t c
-short_fault t c k rows short e =
-    reads_log (Err (Log (record { line = 1; cause = k }))) rows rows t c (short_is_log t short) (inr (ap (λ a. a.fault) e))
+pub short_fault : (gap : ℕ) (t : List ℕ) (c : Ending) (k : LogCause) (rows : List Row) → length t < 8 → log_answers t c ≡ ended (fault_at 1 (Some k))
+    → ReadsInto gap (Err (Log (record { line = 1; cause = k }))) rows rows t c
+short_fault gap t c k rows short e =
+    reads_log gap (Err (Log (record { line = 1; cause = k }))) rows rows t c (short_is_log t short) (inr (ap (λ a. a.fault) e))
 
-pub short_empty : (t : List ℕ) (c : Ending) (rows : List Row) → length t < 8 → log_answers t c ≡ ended (fault_at 1 None)
-    → ReadsInto (Ok tt) rows rows t c
-short_empty t c rows short e =
-    reads_log (Ok tt) rows rows t c (short_is_log t short) (ap (λ a. a.fault) e, subst (λ a. AddsAll (receptions_of a.given) rows rows) (sym e) (adds_none rows))
+pub short_empty : (gap : ℕ) (t : List ℕ) (c : Ending) (rows : List Row) → length t < 8 → log_answers t c ≡ ended (fault_at 1 None)
+    → ReadsInto gap (Ok tt) rows rows t c
+short_empty gap t c rows short e =
+    reads_log gap (Ok tt) rows rows t c (short_is_log t short) (ap (λ a. a.fault) e, subst (λ a. AddsAll gap (receptions_of a.given) rows rows) (sym e) (adds_none gap rows))
 
 -- ---- a book file
 
-faultless_book : (b : Bool) (rows : List Row) → IsBookRows rows → length (book_text rows) ≤ 1073741824 → b ≡ true
-    → (e : InputFault) → IsFaultIn b e (book_text rows) ending.End → ⊥
-faultless_book false rows is fits b e h = absurd cc
-faultless_book true rows is fits b (Book f) h =
-    (cut_short rows is (omega (arith, fits, rows_few rows)) [] ending.End f.cause (book_text rows) f (append-nil (book_text rows)) refl h).1 refl refl
-faultless_book true rows is fits b (Log f) h = h
-faultless_book true rows is fits b Memory h = h
+faultless_book : (gap : ℕ) (b : Bool) (rows : List Row) → IsBookRows gap rows → length (book_text rows) ≤ 1073741824 → b ≡ true
+    → (e : InputFault) → IsFaultIn gap b e (book_text rows) ending.End → ⊥
+faultless_book gap false rows is fits b e h = absurd cc
+faultless_book gap true rows is fits b (Book f) h =
+    (cut_short gap rows is (omega (arith, fits, rows_few rows)) [] ending.End f.cause (book_text rows) f (append-nil (book_text rows)) refl h).1 refl refl
+faultless_book gap true rows is fits b (Log f) h = h
+faultless_book gap true rows is fits b Memory h = h
 
-members_book : (b : Bool) (rows : List Row) → IsBookRows rows → b ≡ true → AreMembersIn b (book_text rows) ending.End (real rows)
-members_book false rows is b = absurd cc
-members_book true rows is b = record { rows = rows; is_book = is; text_is = refl; receptions_are = refl }
+members_book : (gap : ℕ) (b : Bool) (rows : List Row) → IsBookRows gap rows → b ≡ true → AreMembersIn gap b (book_text rows) ending.End (real rows)
+members_book gap false rows is b = absurd cc
+members_book gap true rows is b = record { rows = rows; is_book = is; text_is = refl; receptions_are = refl }
 
-fault_book : (b : Bool) (f : BookFault) (t : List ℕ) (c : Ending) → b ≡ true → FirstFault t c f → IsFaultIn b (Book f) t c
-fault_book false f t c is h = absurd cc
-fault_book true f t c is h = h
+fault_book : (gap : ℕ) (b : Bool) (f : BookFault) (t : List ℕ) (c : Ending) → b ≡ true → FirstFault gap t c f → IsFaultIn gap b (Book f) t c
+fault_book gap false f t c is h = absurd cc
+fault_book gap true f t c is h = h
 
-memory_book : (b : Bool) (f : BookFault) (t : List ℕ) → b ≡ true → IsMemoryAt piece_most t f → IsMemoryIn b (Book f) t
-memory_book false f t is h = absurd cc
-memory_book true f t is h = h
+memory_book : (gap : ℕ) (b : Bool) (f : BookFault) (t : List ℕ) → b ≡ true → IsMemoryAt gap piece_most t f → IsMemoryIn gap b (Book f) t
+memory_book gap false f t is h = absurd cc
+memory_book gap true f t is h = h
 
 book_begins : (rows : List Row) → is_book_file (book_text rows) ≡ true
 book_begins rows = is_book (book_text rows) (drop 8 (book_text rows)) refl
 
-reads_book : (rows : List Row) → IsBookRows rows → length (book_text rows) ≤ 1073741824 → ReadsInput (Ok rows) (book_text rows) ending.End
-reads_book rows is fits = (
-  faultless_book (is_book_file (book_text rows)) rows is fits (book_begins rows),
-  (real rows, members_book (is_book_file (book_text rows)) rows is (book_begins rows), realised gap_seconds rows (omega arith) is.sound),
+reads_book : (gap : ℕ) → 0 < gap → (rows : List Row) → IsBookRows gap rows → length (book_text rows) ≤ 1073741824 → ReadsInput gap (Ok rows) (book_text rows) ending.End
+reads_book gap pos rows is fits = (
+  faultless_book gap (is_book_file (book_text rows)) rows is fits (book_begins rows),
+  (real rows, members_book gap (is_book_file (book_text rows)) rows is (book_begins rows), realised gap rows pos is.sound),
 )
 
 -- ---- what was got of a book file
 
-module _ (limit : ℕ) (input : List ℕ) (after : Option (List ℕ)) (small : limit ≤ 1073741824) where
-  pub refused_book : (f : BookFault) → Reads limit mark input after (Err f) → HoldsOfGot limit (mark ++ input) after (ReadsInput (Err (Book f)))
+module _ (gap limit : ℕ) (input : List ℕ) (after : Option (List ℕ)) (small : limit ≤ 1073741824) where
+  pub refused_book : (f : BookFault) → Reads gap limit mark input after (Err f) → HoldsOfGot limit (mark ++ input) after (ReadsInput gap (Err (Book f)))
   refused_book f h = record {
     text = mark ++ h.got;
     ending = h.ending;
     gets = h.gets;
     holds = elim h.reads [
-      | inl memory ↦ inl (memory_book (is_book_file (mark ++ h.got)) f (mark ++ h.got) (is_book (mark ++ h.got) h.got refl) memory)
-      | inr first ↦ inr (fault_book (is_book_file (mark ++ h.got)) f (mark ++ h.got) h.ending (is_book (mark ++ h.got) h.got refl) first)
+      | inl memory ↦ inl (memory_book gap (is_book_file (mark ++ h.got)) f (mark ++ h.got) (is_book (mark ++ h.got) h.got refl) memory)
+      | inr first ↦ inr (fault_book gap (is_book_file (mark ++ h.got)) f (mark ++ h.got) h.ending (is_book (mark ++ h.got) h.got refl) first)
     ];
   }
 
-  pub read_book : (rows : List Row) → Reads limit mark input after (Ok rows) → HoldsOfGot limit (mark ++ input) after (ReadsInput (Ok rows))
-  read_book rows h =
+  pub read_book : 0 < gap → (rows : List Row) → Reads gap limit mark input after (Ok rows) → HoldsOfGot limit (mark ++ input) after (ReadsInput gap (Ok rows))
+  read_book pos rows h =
       let gets : Gets limit (mark ++ input) after (book_text rows) ending.End =
       subst (λ c. Gets limit (mark ++ input) after (book_text rows) c) h.reads.2 (subst (λ t. Gets limit (mark ++ input) after t h.ending) h.reads.0 h.gets) in
       record {
         text = book_text rows;
         ending = ending.End;
         gets = gets;
-        holds = reads_book rows h.reads.1 (omega (arith, small, gets.ends.1));
+        holds = reads_book gap pos rows h.reads.1 (omega (arith, small, gets.ends.1));
       }
 
 -- where its bytes may not be known
-pub book_input : (known after : Option (List ℕ)) (limit : ℕ) (head : List ℕ) (rows : List Row) → limit ≤ 1073741824 → head ≡ mark
-    → IfSome known (λ input. Reads limit head input after (Ok rows)) → IfSome known (λ input. HoldsOfGot limit (head ++ input) after (ReadsInput (Ok rows)))
-book_input None after limit head rows small is h = tt
-book_input (Some input) after limit head rows small is h = subst (λ l. HoldsOfGot limit (l ++ input) after (ReadsInput (Ok rows))) (sym is)
-    (read_book limit input after small rows (subst (λ l. Reads limit l input after (Ok rows)) is h))
+pub book_input : (gap : ℕ) → 0 < gap → (known after : Option (List ℕ)) (limit : ℕ) (head : List ℕ) (rows : List Row) → limit ≤ 1073741824 → head ≡ mark
+    → IfSome known (λ input. Reads gap limit head input after (Ok rows)) → IfSome known (λ input. HoldsOfGot limit (head ++ input) after (ReadsInput gap (Ok rows)))
+book_input gap pos None after limit head rows small is h = tt
+book_input gap pos (Some input) after limit head rows small is h = subst (λ l. HoldsOfGot limit (l ++ input) after (ReadsInput gap (Ok rows))) (sym is)
+    (read_book gap limit input after small pos rows (subst (λ l. Reads gap limit l input after (Ok rows)) is h))
 
-pub refused_input : (known after : Option (List ℕ)) (limit : ℕ) (head : List ℕ) (f : BookFault) → limit ≤ 1073741824 → head ≡ mark
-    → IfSome known (λ input. Reads limit head input after (Err f)) → IfSome known (λ input. HoldsOfGot limit (head ++ input) after (ReadsInput (Err (Book f))))
-refused_input None after limit head f small is h = tt
-refused_input (Some input) after limit head f small is h = subst (λ l. HoldsOfGot limit (l ++ input) after (ReadsInput (Err (Book f)))) (sym is)
-    (refused_book limit input after small f (subst (λ l. Reads limit l input after (Err f)) is h))
+pub refused_input : (gap : ℕ) (known after : Option (List ℕ)) (limit : ℕ) (head : List ℕ) (f : BookFault) → limit ≤ 1073741824 → head ≡ mark
+    → IfSome known (λ input. Reads gap limit head input after (Err f)) → IfSome known (λ input. HoldsOfGot limit (head ++ input) after (ReadsInput gap (Err (Book f))))
+refused_input gap None after limit head f small is h = tt
+refused_input gap (Some input) after limit head f small is h = subst (λ l. HoldsOfGot limit (l ++ input) after (ReadsInput gap (Err (Book f)))) (sym is)
+    (refused_book gap limit input after small f (subst (λ l. Reads gap limit l input after (Err f)) is h))
 
 -- what was got is read so
-pub of_got : (known after : Option (List ℕ)) (limit : ℕ) (t : List ℕ) (c : Ending) (r : Result (Unit {0}) InputFault) (old new : List Row) → IfSome known (λ input. Gets limit input after t c)
-    → ReadsInto r old new t c → OfGot limit known after (ReadsInto r old new)
-of_got None after limit t c r old new gets reads = tt
-of_got (Some input) after limit t c r old new gets reads = record { text = t; ending = c; gets = gets; holds = reads }
+pub of_got : (gap : ℕ) (known after : Option (List ℕ)) (limit : ℕ) (t : List ℕ) (c : Ending) (r : Result (Unit {0}) InputFault) (old new : List Row) → IfSome known (λ input. Gets limit input after t c)
+    → ReadsInto gap r old new t c → OfGot limit known after (ReadsInto gap r old new)
+of_got gap None after limit t c r old new gets reads = tt
+of_got gap (Some input) after limit t c r old new gets reads = record { text = t; ending = c; gets = gets; holds = reads }

@@ -7,7 +7,6 @@ use Rattle.std.proofs.lemmas.List.{length-map, map-set, take_all}
 use Rattle.std.proofs.lemmas.Option.{slice_get-get_or, slice_get-map, slice_get_within}
 use Rattle.aprs_kiss.specs.Device.{RoseWhere}
 use Rattle.aprs_laws.specs.Book.{BookOf}
-use Rattle.aprs_laws.specs.Gap.{gap_seconds}
 use Rattle.aprs_laws.specs.Row.{Row}
 use Rattle.aprs_log.specs.Reception.{Heard}
 use Rattle.aprs_log.proofs.AwaitLemmas.{gets_whole}
@@ -105,20 +104,20 @@ gots_len limit (input ∷ done) [] [] h = absurd h
 gots_len limit (input ∷ done) [] (g ∷ gots) h = absurd h
 gots_len limit (input ∷ done) (after ∷ afters) [] h = absurd h
 
-faultless_more : (gots : List Got) (g : Got) → AreFaultless gots → IsFaultless g.text g.ending → AreFaultless (gots ++ g ∷ [])
-faultless_more [] g h k = (k, tt)
-faultless_more (x ∷ gots) g h k = (h.0, faultless_more gots g h.1 k)
+faultless_more : (gap : ℕ) (gots : List Got) (g : Got) → AreFaultless gap gots → IsFaultless gap g.text g.ending → AreFaultless gap (gots ++ g ∷ [])
+faultless_more gap [] g h k = (k, tt)
+faultless_more gap (x ∷ gots) g h k = (h.0, faultless_more gap gots g h.1 k)
 
-members_more : (gots : List Got) (g : Got) (S T : List Heard) → AreMembersOfAll gots S → AreMembers g.text g.ending T → AreMembersOfAll (gots ++ g ∷ []) (S ++ T)
-members_more [] g S T h k = (T, [], k, refl, ap (λ l. l ++ T) h ∙ sym (append-nil T))
-members_more (x ∷ gots) g S T h k =
-    (h.0, h.1 ++ T, h.2, members_more gots g h.1 T h.3 k, ap (λ l. l ++ T) h.4 ∙ append_assoc h.0 h.1 T)
+members_more : (gap : ℕ) (gots : List Got) (g : Got) (S T : List Heard) → AreMembersOfAll gap gots S → AreMembers gap g.text g.ending T → AreMembersOfAll gap (gots ++ g ∷ []) (S ++ T)
+members_more gap [] g S T h k = (T, [], k, refl, ap (λ l. l ++ T) h ∙ sym (append-nil T))
+members_more gap (x ∷ gots) g S T h k =
+    (h.0, h.1 ++ T, h.2, members_more gap gots g h.1 T h.3 k, ap (λ l. l ++ T) h.4 ∙ append_assoc h.0 h.1 T)
 
 -- the first that is not taken stands behind faultless ones
-first_refused : (gots : List Got) (g : Got) (more : List Got) (e : InputFault) → AreFaultless gots → IsNotTaken e g.text g.ending
-    → IsFirstRefused (length gots) e (gots ++ g ∷ more)
-first_refused [] g more e h k = k
-first_refused (x ∷ gots) g more e h k = (h.0, first_refused gots g more e h.1 k)
+first_refused : (gap : ℕ) (gots : List Got) (g : Got) (more : List Got) (e : InputFault) → AreFaultless gap gots → IsNotTaken gap e g.text g.ending
+    → IsFirstRefused gap (length gots) e (gots ++ g ∷ more)
+first_refused gap [] g more e h k = k
+first_refused gap (x ∷ gots) g more e h k = (h.0, first_refused gap gots g more e h.1 k)
 
 -- inputs that aren't read may be got whole
 pub record GetsUnread (limit : ℕ) (inputs : List (List ℕ)) (afters : List (Option (List ℕ))) : Type 0 where
@@ -137,18 +136,18 @@ gets_unread limit (input ∷ inputs) (after ∷ afters) e =
 -- ---- as far as they were read
 
 -- the rows are the book of the first `index` inputs
-pub record HasRead (limit : ℕ) (inputs : List (List ℕ)) (afters : List (Option (List ℕ))) (index : ℕ) (rows : List Row) : Type 0 where
+pub record HasRead (gap limit : ℕ) (inputs : List (List ℕ)) (afters : List (Option (List ℕ))) (index : ℕ) (rows : List Row) : Type 0 where
   pub done : List (List ℕ)
   pub rest : List (List ℕ)
   pub cut : inputs ≡ done ++ rest
   pub place : length done ≡ index
   pub gots : List Got
   pub gets : GetsEach limit done (take index afters) gots
-  pub faultless : AreFaultless gots
-  pub book : IsBookOfAll rows gots
+  pub faultless : AreFaultless gap gots
+  pub book : IsBookOfAll gap rows gots
 
-pub HasRead-none : (limit : ℕ) (inputs : List (List ℕ)) (afters : List (Option (List ℕ))) (rows : List Row) → BookOf gap_seconds [] rows → HasRead limit inputs afters 0 rows
-HasRead-none limit inputs afters rows book = record {
+pub HasRead-none : (gap limit : ℕ) (inputs : List (List ℕ)) (afters : List (Option (List ℕ))) (rows : List Row) → BookOf gap [] rows → HasRead gap limit inputs afters 0 rows
+HasRead-none gap limit inputs afters rows book = record {
   done = [];
   rest = inputs;
   cut = refl;
@@ -165,8 +164,8 @@ known_at : (done rest : List (List ℕ)) (input : List ℕ) (known : Option (Lis
 known_at [] rest input known e = cc
 known_at (x ∷ done) rest input known e = known_at done rest input known e
 
-module _ (limit : ℕ) (inputs : List (List ℕ)) (afters next : List (Option (List ℕ))) (index : ℕ) (rows : List Row) (known after : Option (List ℕ))
-    (h : HasRead limit inputs afters index rows) (at : slice_get (some_each inputs) index ≡ Some known) (adds : take (index + 1) next ≡ take index afters ++ after ∷ []) where
+module _ (gap limit : ℕ) (inputs : List (List ℕ)) (afters next : List (Option (List ℕ))) (index : ℕ) (rows : List Row) (known after : Option (List ℕ))
+    (h : HasRead gap limit inputs afters index rows) (at : slice_get (some_each inputs) index ≡ Some known) (adds : take (index + 1) next ≡ take index afters ++ after ∷ []) where
   here : (input : List ℕ) (rest : List (List ℕ)) → h.rest ≡ input ∷ rest → known ≡ Some input
   here input rest e = known_at h.done rest input known
       (ap (λ l. slice_get (some_each (h.done ++ l)) (length h.done)) (sym e) ∙ ap (λ l. slice_get (some_each l) (length h.done)) (sym h.cut) ∙ ap (λ i. slice_get (some_each inputs) i) h.place ∙ at)
@@ -178,13 +177,13 @@ module _ (limit : ℕ) (inputs : List (List ℕ)) (afters next : List (Option (L
       omega (arith, within, len, h.place, length-map inputs (λ (input : List ℕ). Some input))
 
   -- it is taken
-  pub HasRead-more : (new : List Row) (most : ℕ) → most ≡ limit → OfGot most known after (TakesInput (Ok tt) rows new) → HasRead limit inputs next (index + 1) new
+  pub HasRead-more : (new : List Row) (most : ℕ) → most ≡ limit → OfGot most known after (TakesInput gap (Ok tt) rows new) → HasRead gap limit inputs next (index + 1) new
   HasRead-more new most same took = go h.rest refl
     where
-      go : (rest : List (List ℕ)) → h.rest ≡ rest → HasRead limit inputs next (index + 1) new
+      go : (rest : List (List ℕ)) → h.rest ≡ rest → HasRead gap limit inputs next (index + 1) new
       go [] e = absurd (none_left e)
       go (input ∷ rest) e =
-          let got : HoldsOfGot limit input after (TakesInput (Ok tt) rows new) = subst (λ k. OfGot limit k after (TakesInput (Ok tt) rows new)) (here input rest e) (subst (λ l. OfGot l known after (TakesInput (Ok tt) rows new)) same took) in
+          let got : HoldsOfGot limit input after (TakesInput gap (Ok tt) rows new) = subst (λ k. OfGot limit k after (TakesInput gap (Ok tt) rows new)) (here input rest e) (subst (λ l. OfGot l known after (TakesInput gap (Ok tt) rows new)) same took) in
           let g : Got = record { text = got.text; ending = got.ending } in
           let T = got.holds.1.0 in
           record {
@@ -195,13 +194,13 @@ module _ (limit : ℕ) (inputs : List (List ℕ)) (afters next : List (Option (L
             gots = h.gots ++ g ∷ [];
             gets = subst (λ l. GetsEach limit (h.done ++ input ∷ []) l (h.gots ++ g ∷ [])) (sym adds)
                 (gets_more limit h.done (input ∷ []) (take index afters) (after ∷ []) h.gots (g ∷ []) h.gets (got.gets, tt));
-            faultless = faultless_more h.gots g h.faultless got.holds.0;
-            book = (h.book.0 ++ T, members_more h.gots g h.book.0 T h.book.1 got.holds.1.1, got.holds.1.2 h.book.0 h.book.2);
+            faultless = faultless_more gap h.gots g h.faultless got.holds.0;
+            book = (h.book.0 ++ T, members_more gap h.gots g h.book.0 T h.book.1 got.holds.1.1, got.holds.1.2 h.book.0 h.book.2);
           }
 
   -- it is not
-  pub HasRead-refused : (e : InputFault) (old new : List Row) (most : ℕ) → most ≡ limit → length next ≡ length inputs → OfGot most known after (TakesInput (Err e) old new)
-      → HoldsOfEach limit inputs next (ReadsEach (Err (index, e)))
+  pub HasRead-refused : (e : InputFault) (old new : List Row) (most : ℕ) → most ≡ limit → length next ≡ length inputs → OfGot most known after (TakesInput gap (Err e) old new)
+      → HoldsOfEach limit inputs next (ReadsEach gap (Err (index, e)))
   HasRead-refused fault old new most same size took = go h.rest refl
     where
       tail : List (Option (List ℕ))
@@ -210,10 +209,10 @@ module _ (limit : ℕ) (inputs : List (List ℕ)) (afters next : List (Option (L
       parts : next ≡ take index afters ++ after ∷ tail
       parts = sym (take-append-drop (index + 1) next) ∙ ap (λ l. l ++ tail) adds ∙ append_assoc (take index afters) (after ∷ []) tail
 
-      go : (rest : List (List ℕ)) → h.rest ≡ rest → HoldsOfEach limit inputs next (ReadsEach (Err (index, fault)))
+      go : (rest : List (List ℕ)) → h.rest ≡ rest → HoldsOfEach limit inputs next (ReadsEach gap (Err (index, fault)))
       go [] e = absurd (none_left e)
       go (input ∷ rest) e =
-          let got : HoldsOfGot limit input after (TakesInput (Err fault) old new) = subst (λ k. OfGot limit k after (TakesInput (Err fault) old new)) (here input rest e) (subst (λ l. OfGot l known after (TakesInput (Err fault) old new)) same took) in
+          let got : HoldsOfGot limit input after (TakesInput gap (Err fault) old new) = subst (λ k. OfGot limit k after (TakesInput gap (Err fault) old new)) (here input rest e) (subst (λ l. OfGot l known after (TakesInput gap (Err fault) old new)) same took) in
           let g : Got = record { text = got.text; ending = got.ending } in
           let whole : length inputs ≡ length h.done + length (input ∷ rest) = ap length (h.cut ∙ ap (λ l. h.done ++ l) e) ∙ length-append h.done (input ∷ rest) in
           let few = length-drop (index + 1) next in
@@ -223,27 +222,27 @@ module _ (limit : ℕ) (inputs : List (List ℕ)) (afters next : List (Option (L
             gets = subst (λ l. GetsEach limit inputs l (h.gots ++ g ∷ left.gots)) (sym parts)
                 (subst (λ l. GetsEach limit l (take index afters ++ after ∷ tail) (h.gots ++ g ∷ left.gots)) (sym (h.cut ∙ ap (λ l. h.done ++ l) e))
                 (gets_more limit h.done (input ∷ rest) (take index afters) (after ∷ tail) h.gots (g ∷ left.gots) h.gets (got.gets, left.gets)));
-            holds = subst (λ i. IsFirstRefused i fault (h.gots ++ g ∷ left.gots)) (gots_len limit h.done (take index afters) h.gots h.gets ∙ h.place)
-                (first_refused h.gots g left.gots fault h.faultless got.holds);
+            holds = subst (λ i. IsFirstRefused gap i fault (h.gots ++ g ∷ left.gots)) (gots_len limit h.done (take index afters) h.gots h.gets ∙ h.place)
+                (first_refused gap h.gots g left.gots fault h.faultless got.holds);
           }
 
 -- a text that tells of whatever set the rows are the book of tells of the receptions of all
-pub written : (Tells : List Heard → List ℕ → Type 0) (gots : List Got) (rows : List Row) (text : List ℕ) (P : List ℕ → Type 0) → ReadsEach (Ok rows) gots
-    → ((S : List Heard) → BookOf gap_seconds S rows → Tells S text) → P text → WritesOfAll Tells gots P
-written Tells gots rows text P read tells p = (read.0, (read.1.0, text, read.1.1, tells read.1.0 read.1.2, p))
+pub written : (gap : ℕ) (Tells : List Heard → List ℕ → Type 0) (gots : List Got) (rows : List Row) (text : List ℕ) (P : List ℕ → Type 0) → ReadsEach gap (Ok rows) gots
+    → ((S : List Heard) → BookOf gap S rows → Tells S text) → P text → WritesOfAll gap Tells gots P
+written gap Tells gots rows text P read tells p = (read.0, (read.1.0, text, read.1.1, tells read.1.0 read.1.2, p))
 
 -- there are as many as their bytes
 pub same_len : {X : Type 0} (f : X → Option (List ℕ)) (xs : List X) (inputs : List (List ℕ)) → map f xs ≡ some_each inputs → length inputs ≡ length xs
 same_len f xs inputs e = sym (length-map inputs (λ input. Some input)) ∙ ap length (sym e) ∙ length-map xs f
 
 -- all are read
-pub HasRead-all : (limit : ℕ) (inputs : List (List ℕ)) (afters : List (Option (List ℕ))) (index : ℕ) (rows found : List Row) → found ≡ rows → HasRead limit inputs afters index rows
-    → length inputs ≡ index → length afters ≡ index → HoldsOfEach limit inputs afters (ReadsEach (Ok found))
-HasRead-all limit inputs afters index rows found same h all many = record {
+pub HasRead-all : (gap limit : ℕ) (inputs : List (List ℕ)) (afters : List (Option (List ℕ))) (index : ℕ) (rows found : List Row) → found ≡ rows → HasRead gap limit inputs afters index rows
+    → length inputs ≡ index → length afters ≡ index → HoldsOfEach limit inputs afters (ReadsEach gap (Ok found))
+HasRead-all gap limit inputs afters index rows found same h all many = record {
   gots = h.gots;
   gets = subst (λ l. GetsEach limit inputs l h.gots) (take_all index afters (omega (arith, many)))
       (subst (λ l. GetsEach limit l (take index afters) h.gots) (sym (h.cut ∙ ap (λ l. h.done ++ l) (none h.rest (let len : length inputs ≡ length h.done + length h.rest = ap length h.cut ∙ length-append h.done h.rest in omega (arith, len, all, h.place))) ∙ append-nil h.done)) h.gets);
-  holds = (h.faultless, subst (λ r. IsBookOfAll r h.gots) (sym same) h.book);
+  holds = (h.faultless, subst (λ r. IsBookOfAll gap r h.gots) (sym same) h.book);
 }
   where
     none : (l : List (List ℕ)) → length l ≡ 0 → l ≡ []

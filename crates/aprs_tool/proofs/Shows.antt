@@ -56,9 +56,9 @@ parts before after x line position status rest e =
     ap (λ l. l ++ rest) (flat_map-append station_lines before (x ∷ after) ∙ ap (λ l. flat_map station_lines before ++ (l ++ flat_map station_lines after)) e)
     ∙ simp append_assoc
 
-pub tells_position_of : (S : List Heard) (text : List ℕ) (call : Call) (known : Option Heard) → IsListingOf S text → IsSource S call → LastKnown S (Passes (tells_position call)) known
+pub tells_position_of : (gap : ℕ) (S : List Heard) (text : List ℕ) (call : Call) (known : Option Heard) → IsListingOf gap S text → IsSource S call → LastKnown S (Passes (tells_position call)) known
     → TellsPosition text call known
-tells_position_of S text call known l source best =
+tells_position_of gap S text call known l source best =
     let found = (l.are_stations.sources call).1 source in
     let cut = cut_at l.stations call found.0 l.are_stations.ascending found.1 found.2 in
     let x = cut.found in

@@ -7,7 +7,6 @@ use Rattle.aprs_log.specs.LogAnswers.{Gets}
 use Rattle.aprs_log.specs.Reception.{Heard}
 use Rattle.aprs_log.specs.declared.Ending.{Ending}
 use Rattle.aprs_laws.specs.Book.{BookOf}
-use Rattle.aprs_laws.specs.Gap.{gap_seconds}
 use Rattle.aprs_laws.specs.Row.{Row}
 use Rattle.aprs_booktext.specs.Text.{book_text}
 use Rattle.aprs_tool.specs.Inputs.{IsFaultless, IsNotTaken, AreMembers}
@@ -30,55 +29,55 @@ GetsEach limit (input ∷ inputs) (after ∷ afters) (g ∷ gots) =
     Gets limit input after g.text g.ending × GetsEach limit inputs afters gots
 GetsEach limit _ _ _ = ⊥
 
-abbrev pub AreFaultless : List Got → Type 0
-AreFaultless [] = Unit {0}
-AreFaultless (g ∷ gots) = IsFaultless g.text g.ending × AreFaultless gots
+abbrev pub AreFaultless : ℕ → List Got → Type 0
+AreFaultless gap [] = Unit {0}
+AreFaultless gap (g ∷ gots) = IsFaultless gap g.text g.ending × AreFaultless gap gots
 
 -- number `index`, from 0, is the first that is not taken
-abbrev pub IsFirstRefused : ℕ → InputFault → List Got → Type 0
-IsFirstRefused index e [] = ⊥
-IsFirstRefused zero e (g ∷ gots) = IsNotTaken e g.text g.ending
-IsFirstRefused (suc index) e (g ∷ gots) =
-    IsFaultless g.text g.ending × IsFirstRefused index e gots
+abbrev pub IsFirstRefused : ℕ → ℕ → InputFault → List Got → Type 0
+IsFirstRefused gap index e [] = ⊥
+IsFirstRefused gap zero e (g ∷ gots) = IsNotTaken gap e g.text g.ending
+IsFirstRefused gap (suc index) e (g ∷ gots) =
+    IsFaultless gap g.text g.ending × IsFirstRefused gap index e gots
 
 -- the receptions of all, in order
-abbrev pub AreMembersOfAll : List Got → List Heard → Type 0
-AreMembersOfAll [] S = S ≡ []
-AreMembersOfAll (g ∷ gots) S = (T : List Heard) × (U : List Heard) × AreMembers g.text g.ending T
-    × AreMembersOfAll gots U × (S ≡ T ++ U)
+abbrev pub AreMembersOfAll : ℕ → List Got → List Heard → Type 0
+AreMembersOfAll gap [] S = S ≡ []
+AreMembersOfAll gap (g ∷ gots) S = (T : List Heard) × (U : List Heard)
+    × AreMembers gap g.text g.ending T × AreMembersOfAll gap gots U × (S ≡ T ++ U)
 
 -- the rows are the book of the receptions of all
-abbrev pub IsBookOfAll : List Row → List Got → Type 0
-IsBookOfAll rows gots = (S : List Heard) × AreMembersOfAll gots S × BookOf gap_seconds S rows
+abbrev pub IsBookOfAll : ℕ → List Row → List Got → Type 0
+IsBookOfAll gap rows gots = (S : List Heard) × AreMembersOfAll gap gots S × BookOf gap S rows
 
 -- ---- how they are read
 
 -- the one book of faultless inputs is read; otherwise the first that is refused is told, by number
-abbrev pub ReadsEach : Result (List Row) (ℕ × InputFault) → List Got → Type 0
-ReadsEach (Ok rows) gots = AreFaultless gots × IsBookOfAll rows gots
-ReadsEach (Err p) gots = IsFirstRefused p.0 p.1 gots
+abbrev pub ReadsEach : ℕ → Result (List Row) (ℕ × InputFault) → List Got → Type 0
+ReadsEach gap (Ok rows) gots = AreFaultless gap gots × IsBookOfAll gap rows gots
+ReadsEach gap (Err p) gots = IsFirstRefused gap p.0 p.1 gots
 
 -- ---- how they are merged
 
 -- all are faultless, and P holds of a text that tells of the receptions of all
-abbrev pub WritesOfAll : (List Heard → List ℕ → Type 0) → List Got → (List ℕ → Type 0) → Type 0
-WritesOfAll Tells gots P = AreFaultless gots × ((S : List Heard) × (text : List ℕ)
-    × AreMembersOfAll gots S × Tells S text × P text)
+abbrev pub WritesOfAll : ℕ → (List Heard → List ℕ → Type 0) → List Got → (List ℕ → Type 0) → Type 0
+WritesOfAll gap Tells gots P = AreFaultless gap gots × ((S : List Heard) × (text : List ℕ)
+    × AreMembersOfAll gap gots S × Tells S text × P text)
 
 -- the text is that of the book of S
-abbrev pub IsBookTextOf : List Heard → List ℕ → Type 0
-IsBookTextOf S text = (rows : List Row) × BookOf gap_seconds S rows × (text ≡ book_text rows)
+abbrev pub IsBookTextOf : ℕ → List Heard → List ℕ → Type 0
+IsBookTextOf gap S text = (rows : List Row) × BookOf gap S rows × (text ≡ book_text rows)
 
-abbrev pub WritesBook : List Got → (List ℕ → Type 0) → Type 0
-WritesBook gots P = WritesOfAll IsBookTextOf gots P
+abbrev pub WritesBook : ℕ → List Got → (List ℕ → Type 0) → Type 0
+WritesBook gap gots P = WritesOfAll gap (IsBookTextOf gap) gots P
 
 -- A refused output comes after a front of the text. Where an input is refused nothing is written.
-abbrev pub MergesEach : Result (Unit {0}) RunFault → Option (List ℕ) → Option (List ℕ) → List Got
-    → Type 0
-MergesEach (Ok u) old new gots = WritesBook gots (λ text. Appends old new text)
-MergesEach (Err Write) old new gots = WritesBook gots (λ text. AppendsFront old new text)
-MergesEach (Err (Input index e)) old new gots = IsFirstRefused index e gots × (new ≡ old)
-MergesEach (Err Memory) old new gots = ⊥
+abbrev pub MergesEach : ℕ → Result (Unit {0}) RunFault → Option (List ℕ) → Option (List ℕ)
+    → List Got → Type 0
+MergesEach gap (Ok u) old new gots = WritesBook gap gots (λ text. Appends old new text)
+MergesEach gap (Err Write) old new gots = WritesBook gap gots (λ text. AppendsFront old new text)
+MergesEach gap (Err (Input index e)) old new gots = IsFirstRefused gap index e gots × (new ≡ old)
+MergesEach gap (Err Memory) old new gots = ⊥
 
 -- of each input at most `limit` bytes are got, and P holds of what was got; the devices then have
 -- `afters`

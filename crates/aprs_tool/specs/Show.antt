@@ -9,7 +9,6 @@ use Rattle.aprs_log.specs.Reception.{Heard}
 use Rattle.aprs_laws.specs.Best.{LastKnown}
 use Rattle.aprs_laws.specs.BestLaws.{Passes}
 use Rattle.aprs_laws.specs.Book.{BookOf}
-use Rattle.aprs_laws.specs.Gap.{gap_seconds}
 use Rattle.aprs_laws.specs.Lists.{◌∈◌}
 use Rattle.aprs_laws.specs.Row.{Row}
 use Rattle.aprs_book.specs.Messages.{AreMessages}
@@ -27,12 +26,12 @@ use Rattle.aprs_tool.specs.declared.fault.RunFault.TheVariants.{Input, Write, Me
 -- ---- the listing of a set
 
 -- the text is that of the stations, the objects and items, and the messages of S
-pub record IsListingOf (S : List Heard) (text : List ℕ) : Type 0 where
+pub record IsListingOf (gap : ℕ) (S : List Heard) (text : List ℕ) : Type 0 where
   pub rows : List Row
   pub stations : List Station
   pub named : List Named
   pub messages : List MessageRow
-  pub book : BookOf gap_seconds S rows
+  pub book : BookOf gap S rows
   pub are_stations : AreStations S rows stations
   pub are_named : AreNamed S named
   pub are_messages : AreMessages S messages
@@ -42,13 +41,14 @@ pub record IsListingOf (S : List Heard) (text : List ℕ) : Type 0 where
 
 -- A refused output comes after a prefix of the listing of the receptions of all. Where an input is
 -- refused, or memory for the listing, nothing is written.
-abbrev pub ShowsEach : Result (Unit {0}) RunFault → Option (List ℕ) → Option (List ℕ) → List Got
-    → Type 0
-ShowsEach (Ok u) old new gots = WritesOfAll IsListingOf gots (λ text. Appends old new text)
-ShowsEach (Err Write) old new gots =
-    WritesOfAll IsListingOf gots (λ text. AppendsFront old new text)
-ShowsEach (Err (Input index e)) old new gots = IsFirstRefused index e gots × (new ≡ old)
-ShowsEach (Err Memory) old new gots = AreFaultless gots × (new ≡ old)
+abbrev pub ShowsEach : ℕ → Result (Unit {0}) RunFault → Option (List ℕ) → Option (List ℕ)
+    → List Got → Type 0
+ShowsEach gap (Ok u) old new gots =
+    WritesOfAll gap (IsListingOf gap) gots (λ text. Appends old new text)
+ShowsEach gap (Err Write) old new gots =
+    WritesOfAll gap (IsListingOf gap) gots (λ text. AppendsFront old new text)
+ShowsEach gap (Err (Input index e)) old new gots = IsFirstRefused gap index e gots × (new ≡ old)
+ShowsEach gap (Err Memory) old new gots = AreFaultless gap gots × (new ≡ old)
 
 -- ---- what it tells
 
@@ -65,7 +65,7 @@ pub record TellsPosition (text : List ℕ) (call : Call) (known : Option Heard) 
 
 -- The listing of any set tells, of each source in the set, the position that is the set's greatest
 -- reception of a position report from it.
-abbrev pub ListingsTellPositions : Type 0
-ListingsTellPositions = (S : List Heard) (text : List ℕ) (call : Call) (known : Option Heard)
-    → IsListingOf S text → IsSource S call → LastKnown S (Passes (tells_position call)) known
+abbrev pub ListingsTellPositions : ℕ → Type 0
+ListingsTellPositions gap = (S : List Heard) (text : List ℕ) (call : Call) (known : Option Heard)
+    → IsListingOf gap S text → IsSource S call → LastKnown S (Passes (tells_position call)) known
     → TellsPosition text call known

@@ -47,7 +47,7 @@ impl<A: Allocator + Copy> Desk<A> {
     pub fn take_input<R: Read>(&mut self, r: &mut Counted<R>) -> Result<(), InputFault>
         ensures takes { OfGot (limit_of self.old) (R.remaining (device_of r.old))
             (R.remaining (device_of r.new))
-            (TakesInput result (rows_of self.old) (rows_of self.new)) }
+            (TakesInput gap_seconds result (rows_of self.old) (rows_of self.new)) }
         ensures limit { limit_of self.new ≡ limit_of self.old }
         ensures unchanged { OnErr result (self.new ≡ self.old) }
         ensures count { failures_of r.old ≤ failures_of r.new }

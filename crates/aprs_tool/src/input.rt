@@ -37,7 +37,7 @@ pub fn read_input<R: Read, A: Allocator + Copy>(
 ) -> Result<Book<A>, InputFault>
     requires { limit ≤ 1073741824 }
     ensures reads { OfGot limit (R.remaining (device_of r.old))
-        (R.remaining (device_of r.new)) (ReadsInput result) }
+        (R.remaining (device_of r.new)) (ReadsInput gap_seconds result) }
     ensures count { failures_of r.old ≤ failures_of r.new }
     ensures read { IfErr result (λ e. IsReadFault e
         → Rose (failures_of r.old) (failures_of r.new)) }
@@ -61,7 +61,7 @@ pub(crate) fn read_into<R: Read, A: Allocator + Copy>(
 ) -> Result<(), InputFault>
     requires { limit ≤ 1073741824 }
     ensures reads { OfGot limit (R.remaining (device_of r.old))
-        (R.remaining (device_of r.new)) (ReadsInto result book.old book.new) }
+        (R.remaining (device_of r.new)) (ReadsInto gap_seconds result book.old book.new) }
     ensures count { failures_of r.old ≤ failures_of r.new }
     ensures read { IfErr result (λ e. IsReadFault e
         → Rose (failures_of r.old) (failures_of r.new)) }
@@ -88,7 +88,7 @@ fn read_whole<R: Read, A: Allocator + Copy>(
     requires within { length head.now ≤ limit }
     ensures reads { IfSome (R.remaining (device_of r.old))
         (λ input. HoldsOfGot limit (head.now ++ input) (R.remaining (device_of r.new))
-        (ReadsInto result book.old book.new)) }
+        (ReadsInto gap_seconds result book.old book.new)) }
     ensures count { failures_of r.old ≤ failures_of r.new }
     ensures read { IfErr result (λ e. IsReadFault e
         → Rose (failures_of r.old) (failures_of r.new)) }
@@ -116,7 +116,7 @@ fn read_log<R: Read, A: Allocator + Copy>(
     requires within { length head.now ≤ limit }
     ensures reads { IfSome (R.remaining (device_of r.old))
         (λ input. HoldsOfGot limit (head.now ++ input) (R.remaining (device_of r.new))
-        (ReadsLog result book.old book.new)) }
+        (ReadsLog gap_seconds result book.old book.new)) }
     ensures count { failures_of r.old ≤ failures_of r.new }
     ensures read { IfErr result (λ e. IsReadFault e
         → Rose (failures_of r.old) (failures_of r.new)) }
@@ -134,7 +134,7 @@ fn read_log<R: Read, A: Allocator + Copy>(
 
 /// Takes what a line tells, if it tells a reception.
 fn take_line<A: Allocator + Copy>(book: &mut Book<A>, line: &Line) -> Result<(), Memory>
-    ensures { OnOk result (AddsAll (receptions_of (line.now ∷ [])) book.old book.new) }
+    ensures { OnOk result (AddsAll gap_seconds (receptions_of (line.now ∷ [])) book.old book.new) }
 {
     match line {
         Line::Heard(reception) => book.take(reception),
@@ -157,7 +157,7 @@ pub(crate) fn merged<A: Allocator + Copy>(book: &Book<A>, input: Book<A>) -> Res
 fn read_short(short: &ShortInput) -> Result<(), InputFault>
     requires few { length short.now.bytes.items < 8 }
     requires one { list_any is_lf short.now.bytes.items ≡ false }
-    ensures reads { (rows : List Row) → ReadsInto result rows rows short.now.bytes.items
+    ensures reads { (rows : List Row) → ReadsInto gap_seconds result rows rows short.now.bytes.items
         short.now.ending }
     ensures read { IsErrAnd result IsReadFault ↔ (short.now.ending ≡ Ending.Read) }
 {

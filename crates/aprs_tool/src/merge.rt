@@ -1,6 +1,7 @@
 //! The merge of several inputs.
 ghost use Rattle.std.specs.Prelude.{◌≡◌, ◌≤◌, map, IfErr, IsErrAnd};
 ghost use Rattle.aprs_kiss.specs.Device.{device_of, failures_of, Rose};
+ghost use Rattle.aprs_laws.specs.Gap.{gap_seconds};
 ghost use Rattle.aprs_tool.specs.Merge.{IsAsBefore, IsReadOf, MergesEach, OfEach, ReadsEach};
 ghost use Rattle.aprs_tool.specs.Merge.{ReadsNoFurther, RoseAt, RoseWhereEach, RoseWhereRead};
 ghost use Rattle.aprs_tool.specs.Merge.{WritesNothing};
@@ -28,7 +29,8 @@ pub fn merge_run<R: Read, W: Write, A: Allocator + Copy>(
     requires { limit ≤ 1073741824 }
     ensures run { OfEach limit (map (λ r. R.remaining (device_of r)) inputs.old)
         (map (λ r. R.remaining (device_of r)) inputs.new)
-        (MergesEach result (W.contents (device_of w.old)) (W.contents (device_of w.new))) }
+        (MergesEach gap_seconds result (W.contents (device_of w.old))
+        (W.contents (device_of w.new))) }
     ensures nothing { IfErr result (λ e. WritesNothing e (W.contents (device_of w.old))
         (W.contents (device_of w.new))) }
     ensures unread { IfErr result (λ e. ReadsNoFurther e inputs.old inputs.new) }
@@ -53,7 +55,7 @@ pub(crate) fn read_all<R: Read, A: Allocator + Copy>(
 ) -> Result<Book<A>, (usize, InputFault)>
     requires { limit ≤ 1073741824 }
     ensures reads { OfEach limit (map (λ r. R.remaining (device_of r)) inputs.old)
-        (map (λ r. R.remaining (device_of r)) inputs.new) (ReadsEach result) }
+        (map (λ r. R.remaining (device_of r)) inputs.new) (ReadsEach gap_seconds result) }
     ensures unread { IfErr result (λ p. IsAsBefore p.0 inputs.old inputs.new) }
     ensures read { IfErr result (λ p. IsReadFault p.1 → RoseAt p.0 inputs.old inputs.new) }
     ensures answered { RoseWhereEach (λ k. IsErrAnd result (λ p. (p.0 ≡ k) × IsReadFault p.1))

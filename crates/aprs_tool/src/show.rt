@@ -1,6 +1,7 @@
 //! The listing of several inputs.
 ghost use Rattle.std.specs.Prelude.{◌≡◌, ◌≤◌, map, IfErr, IsErrAnd};
 ghost use Rattle.aprs_kiss.specs.Device.{device_of, failures_of, Rose};
+ghost use Rattle.aprs_laws.specs.Gap.{gap_seconds};
 ghost use Rattle.aprs_tool.specs.Merge.{IsReadOf, OfEach, ReadsNoFurther, RoseWhereEach};
 ghost use Rattle.aprs_tool.specs.Merge.{RoseWhereRead, WritesNothing};
 ghost use Rattle.aprs_tool.specs.Show.{ShowsEach};
@@ -27,7 +28,8 @@ pub fn show_run<R: Read, W: Write, A: Allocator + Copy>(
     requires { limit ≤ 1073741824 }
     ensures run { OfEach limit (map (λ r. R.remaining (device_of r)) inputs.old)
         (map (λ r. R.remaining (device_of r)) inputs.new)
-        (ShowsEach result (W.contents (device_of w.old)) (W.contents (device_of w.new))) }
+        (ShowsEach gap_seconds result (W.contents (device_of w.old))
+        (W.contents (device_of w.new))) }
     ensures nothing { IfErr result (λ e. WritesNothing e (W.contents (device_of w.old))
         (W.contents (device_of w.new))) }
     ensures unread { IfErr result (λ e. ReadsNoFurther e inputs.old inputs.new) }

@@ -17,5 +17,5 @@ returns-in_err-write_book-clause-run g c =
     record {
       gots = read.gots;
       gets = read.gets;
-      holds = written IsBookTextOf read.gots _ _ _ read.holds (λ S book. (_, book, refl)) c.in_err-write_book.ensures.prefix;
+      holds = written _ (IsBookTextOf _) read.gots _ _ _ read.holds (λ S book. (_, book, refl)) c.in_err-write_book.ensures.prefix;
     })

@@ -1,4 +1,4 @@
-use Rattle.std.proofs.Common.{List, refl}
+use Rattle.std.proofs.Common.{ℕ, List, refl}
 use Rattle.aprs_book.specs.Messages.{TellsMessages}
 use Rattle.aprs_book.specs.Names.{TellsNamed}
 use Rattle.aprs_book.specs.Stations.{TellsStations}
@@ -6,7 +6,6 @@ use Rattle.aprs_book.specs.declared.message.MessageRow.{MessageRow}
 use Rattle.aprs_book.specs.declared.named.Named.{Named}
 use Rattle.aprs_book.specs.declared.station.Station.{Station}
 use Rattle.aprs_laws.specs.Book.{BookOf}
-use Rattle.aprs_laws.specs.Gap.{gap_seconds}
 use Rattle.aprs_laws.specs.Row.{Row}
 use Rattle.aprs_log.specs.Reception.{Heard}
 use Rattle.aprs_tool.specs.Listing.{show_text}
@@ -15,9 +14,9 @@ use Rattle.aprs_tool.proofs.Merges.{written}
 use Rattle.aprs_tool.proofs.show.show_run.Goals as goal
 
 -- the listing of whatever set the rows are the book of
-listed : (rows : List Row) (stations : List Station) (named : List Named) (messages : List MessageRow) → TellsStations gap_seconds rows stations → TellsNamed gap_seconds rows named → TellsMessages gap_seconds rows messages
-    → (S : List Heard) → BookOf gap_seconds S rows → IsListingOf S (show_text stations named messages)
-listed rows stations named messages s n m S book = record {
+listed : (gap : ℕ) (rows : List Row) (stations : List Station) (named : List Named) (messages : List MessageRow) → TellsStations gap rows stations → TellsNamed gap rows named → TellsMessages gap rows messages
+    → (S : List Heard) → BookOf gap S rows → IsListingOf gap S (show_text stations named messages)
+listed gap rows stations named messages s n m S book = record {
   rows = rows;
   stations = stations;
   named = named;
@@ -36,7 +35,7 @@ returns-in-Ok-write-clause-run g c = λ inputs e.
     record {
       gots = read.gots;
       gets = read.gets;
-      holds = written IsListingOf read.gots _ _ _ read.holds (listed _ _ _ _ views.stations views.named views.messages) c.in-Ok-write.ensures.sent;
+      holds = written _ (IsListingOf _) read.gots _ _ _ read.holds (listed _ _ _ _ _ views.stations views.named views.messages) c.in-Ok-write.ensures.sent;
     }
 
 pub returns-clause-run : goal.returns-clause-run
@@ -46,5 +45,5 @@ returns-clause-run g c = λ inputs e.
     record {
       gots = read.gots;
       gets = read.gets;
-      holds = written IsListingOf read.gots _ _ _ read.holds (listed _ _ _ _ views.stations views.named views.messages) c.in-Err-write.ensures.prefix;
+      holds = written _ (IsListingOf _) read.gots _ _ _ read.holds (listed _ _ _ _ _ views.stations views.named views.messages) c.in-Err-write.ensures.prefix;
     }
