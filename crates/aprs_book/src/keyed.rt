@@ -163,7 +163,8 @@ impl<A: Allocator + Copy> KeyedRows<A> {
         first_cause(gap, self.last_rows(), parts)
     }
 
-    /// Adds a row of these parts after all others. What needs memory is made before the first change.
+    /// Adds a row of these parts after all others. What needs memory is made before the first
+    /// change.
     pub(crate) fn push(&mut self, parts: &RowParts<A>) -> Result<(), Memory>
         requires ascending { Ordered (IsBelow bytes_cmp) parts.now.receivers }
         requires last { EndsUpTo parts.now self.old }

@@ -148,7 +148,8 @@ fn greatest_answer<'a, A: Allocator + Copy>(
     id: &'a [u8],
     answers: &BTreeMap<Asked<'a>, &'a Reception, A>,
 ) -> Option<&'a Reception>
-    ensures { TellsAnswer answers.now.entries (message_of message.now) id.now (option_copied result) }
+    ensures { TellsAnswer answers.now.entries (message_of message.now) id.now
+        (option_copied result) }
 {
     match Callsign::parse(message.addressee) {
         Ok(addressee) => {

@@ -93,7 +93,8 @@ pub(crate) fn reply_in<'a, A: Allocator + Copy>(row: &'a KeptRow<A>) -> Option<A
 /// The addressee and the id of an answer.
 #[tactic(auto, unfolding(aprs_laws::specs::Key::key_of))]
 fn answer_in(frame: &Frame) -> Option<(&[u8], &[u8])>
-    ensures { option_map (λ x. (x.0.now, x.1.now)) result ≡ answer_told (report_of (key_of frame.now)) }
+    ensures { option_map (λ x. (x.0.now, x.1.now)) result
+        ≡ answer_told (report_of (key_of frame.now)) }
 {
     match Report::read(frame.info()) {
         Report::Ack { addressee, id } => Some((addressee, id)),

@@ -4,7 +4,7 @@ ghost use Rattle.std.specs.Prelude.{◌≡◌, ◌<◌, OnOk, vec_len, vec_capac
 use crate::Memory;
 use std::alloc::Allocator;
 
-/// Makes room for one more item where there is none, and for a quarter of those that are there, so
+/// Makes room for one more item where there is none, and for an eighth of those that are there, so
 /// that little memory lies idle.
 pub(crate) fn make_room<T, A: Allocator>(items: &mut Vec<T, A>) -> Result<(), Memory>
     ensures items { items.new.items ≡ items.old.items }
@@ -13,7 +13,7 @@ pub(crate) fn make_room<T, A: Allocator>(items: &mut Vec<T, A>) -> Result<(), Me
     if items.len() < items.capacity() {
         return Ok(());
     }
-    let more = items.len() / 4 + 1;
+    let more = items.len() / 8 + 1;
     if items.reserve_exact(more).is_err() {
         return Err(Memory);
     }

@@ -12,9 +12,9 @@ use arrayvec::ArrayVec;
 #[derive(Drop)]
 pub(crate) enum Told<'a> {
     /// Where this station is.
-    Position(ArrayVec<u8, 272>),
+    Position(ArrayVec<u8, 8>),
     /// The status of this station.
-    Status(ArrayVec<u8, 272>),
+    Status(ArrayVec<u8, 8>),
     /// The object of this name.
     Object(&'a [u8]),
     /// The item of this name.
