@@ -14,6 +14,7 @@ pub mod Taking
 pub mod Pushes
 pub mod Replays
 pub mod Refusals
+pub mod RowsFaults
 pub mod Views
 pub mod Stations
 pub mod Collected

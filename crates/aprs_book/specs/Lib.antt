@@ -9,6 +9,7 @@ pub mod Pushed
 pub mod Replay
 pub mod RowCause
 pub mod Refusal
+pub mod RowsFault
 pub mod Reports
 pub mod LastKnown
 pub mod Stations

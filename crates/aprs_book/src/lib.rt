@@ -2,6 +2,7 @@
 #![tactic(auto)]
 
 mod book;
+mod from_parts;
 mod gap;
 mod greatest;
 mod heard;
@@ -34,6 +35,7 @@ mod told;
 mod walk;
 
 pub use book::Book;
+pub use from_parts::{RowsFault, from_rows, rows_are_sound_or_have_one_fault};
 pub use greatest::Greatest;
 pub use heard::Heard;
 pub use join::{Join, join_all};
