@@ -1,5 +1,5 @@
 -- Rows are sound, or have one fault that isn't of memory.
-use Rattle.std.proofs.Common.{◌≡◌, ◌≢◌, ◌∙◌, ℕ, zero, suc, ◌+◌, ◌<◌, ◌≤◌, ◌⊎◌, inl, inr, List, [], ◌∷◌, ◌++◌, Option, None, Some, Result, Err, get_or, length, take, drop, take-take, take_all, take-append-drop, refl, sym, ap, subst, arith}
+use Rattle.std.proofs.Common.{◌≡◌, ◌≢◌, ◌∙◌, ℕ, zero, suc, ◌+◌, ◌<◌, ◌≤◌, ◌⊎◌, inl, inr, List, [], ◌∷◌, ◌++◌, Option, None, Some, Err, get_or, length, take, drop, take-take, take_all, take-append-drop, refl, sym, ap, subst, arith}
 use Rattle.std.specs.List.{slice_get}
 use Rattle.std.proofs.lemmas.Bool.{cases_lt}
 use Rattle.std.proofs.lemmas.List.{take_more}
@@ -13,7 +13,7 @@ use Rattle.aprs_book.specs.declared.row_cause.RowCause.{RowCause}
 use Rattle.aprs_book.specs.declared.row_cause.RowCause.TheVariants.{Memory}
 use Rattle.aprs_book.specs.declared.from_parts.RowsFault.{RowsFault}
 use Rattle.aprs_book.specs.Refusal.{refusal}
-use Rattle.aprs_book.specs.RowsFault.{IsRefusedFor, IsRowsFault, AreSoundOrFaulty, SoundRowsAreFaultless, HaveOneFaultAtMost}
+use Rattle.aprs_book.specs.RowsFault.{IsRowsFault, AreSoundOrFaulty, SoundRowsAreFaultless, HaveOneFaultAtMost}
 use Rattle.aprs_book.proofs.Refusals.{Answers, none_exactly, never_memory}
 
 -- ---- fronts of rows
@@ -26,7 +26,8 @@ one_more xs i x at =
 
 front_of_all : (gap : ℕ) (rows : List Row) (n : ℕ) → Sound gap rows → Sound gap (take n rows)
 front_of_all gap rows n s =
-    sound_front gap (take n rows) (drop n rows) (subst (Sound gap) (sym (take-append-drop n rows)) s)
+    sound_front gap (take n rows) (drop n rows)
+    (subst (Sound gap) (sym (take-append-drop n rows)) s)
 
 front_of_front : (gap : ℕ) (rows : List Row) (m n : ℕ) → m ≤ n → Sound gap (take n rows)
     → Sound gap (take m rows)
@@ -87,7 +88,8 @@ one_fault gap rows f g a other b = elim a.refused [
         let f_first = up_to_fault gap rows g b k f.place a.sound in
         let place : g.place ≡ f.place = omega arith in
         inl (same_fault g f place
-        (one_cause gap rows g.place f.place b.row a.row g.cause f.cause place b.at_place a.at_place k e))
+        (one_cause gap rows g.place f.place b.row a.row g.cause f.cause place
+        b.at_place a.at_place k e))
     | inr m ↦
         let le = up_to_fault gap rows f a e (g.place + 1)
         (sound_with gap rows g.place b.row b.at_place b.sound m.1) in
@@ -135,8 +137,8 @@ sound_or_faulty gap rows = elim (judged gap rows (length rows) (omega arith)) [
 
 -- ---- what `from_rows` answers
 
-for_a_cause : (first : Option RowCause) (cause : RowCause) → Answers {U = Unit {0}} first (Err cause)
-    → (first ≡ Some cause) ⊎ ((cause ≡ Memory) × (first ≡ None))
+for_a_cause : (first : Option RowCause) (cause : RowCause)
+    → Answers {U = Unit {0}} first (Err cause) → (first ≡ Some cause) ⊎ ((cause ≡ Memory) × (first ≡ None))
 for_a_cause None cause h = inr (h, refl)
 for_a_cause (Some other) cause h = inl (cc)
 

@@ -1,4 +1,4 @@
-use Rattle.std.proofs.Common.{◌≡◌, ◌∙◌, ◌∷◌, ◌++◌, [], ℕ, List, get_or, length, length-append, ap, not, sym, subst, arith}
+use Rattle.std.proofs.Common.{◌∙◌, ◌∷◌, ◌++◌, [], List, get_or, length, length-append, ap, not, arith}
 use Rattle.aprs_laws.specs.Row.{Row}
 use Rattle.aprs_book.proofs.Listings.{pushed}
 use Rattle.aprs_book.proofs.Replays.{one_more_empty}

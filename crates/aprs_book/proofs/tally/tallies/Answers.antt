@@ -1,4 +1,4 @@
-use Rattle.std.proofs.Common.{◌∙◌, ◌+◌, ◌<◌, ◌≤◌, sym, ap, not, arith}
+use Rattle.std.proofs.Common.{◌∙◌, ◌+◌, ap, not, arith}
 use Rattle.aprs_book.specs.StationRows.{counted}
 use Rattle.aprs_book.proofs.Collected.{collected_first, walk_starts, walk_goes, walk_ends}
 use Rattle.aprs_book.proofs.Messages.{where_ok}
