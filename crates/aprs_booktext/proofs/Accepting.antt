@@ -24,6 +24,14 @@ rows_few rows =
     let lines : length (lines_of rows) ≡ length (map row_line rows) + 2 = simp length-append (omega arith) in
     omega (arith, lines_few (lines_of rows), lines, length-map rows row_line)
 
+-- where rows were read, all of the input was got, and is their text
+pub text_of_read : (gap limit : ℕ) (head input : List ℕ) (after : Option (List ℕ)) (rows : List Row)
+    → Reads gap limit head input after (Ok rows) → book_text rows ≡ head ++ input
+text_of_read gap limit head input after rows h =
+    let gets = subst (Gets limit (head ++ input) after (head ++ h.got)) h.reads.2 h.gets in
+    sym h.reads.0
+    ∙ sym (gets.whole ∙ ap (λ l. (head ++ h.got) ++ l) gets.ends.0 ∙ append-nil (head ++ h.got))
+
 module _ (gap limit : ℕ) (head rest : List ℕ) (after : Option (List ℕ)) (rows : List Row) (small : limit ≤ 1073741824) (is : IsBookRows gap rows) (text_is : head ++ rest ≡ book_text rows) (fits : length (head ++ rest) ≤ limit) where
   few : length rows < 2 ^ 64
   few = omega (arith, rows_few rows, ap length text_is)
@@ -35,9 +43,7 @@ module _ (gap limit : ℕ) (head rest : List ℕ) (after : Option (List ℕ)) (r
 
   pub accepted : (r : Result (List Row) BookFault) → Reads gap limit head rest after r → IfErr r (λ f. f.cause ≡ cause.Read → ⊥) → IsBookOrMemory r rows
   accepted (Ok found) h read =
-      let gets : Gets limit (head ++ rest) after (head ++ h.got) ending.End = subst (Gets limit (head ++ rest) after (head ++ h.got)) h.reads.2 h.gets in
-      let same : head ++ rest ≡ (head ++ h.got) = gets.whole ∙ ap (λ l. (head ++ h.got) ++ l) gets.ends.0 ∙ append-nil (head ++ h.got) in
-      one_text gap found rows h.reads.1 is (sym h.reads.0 ∙ sym same ∙ text_is)
+      one_text gap found rows h.reads.1 is (text_of_read gap limit head rest after found h ∙ text_is)
   accepted (Err f) h read = elim h.reads [
     | inl m ↦ m.refused
     | inr first ↦ absurd (faultless h.ending (head ++ h.got) f h.gets read first)

@@ -1,10 +1,12 @@
 -- What holds of all texts of books.
-use Rattle.std.specs.Prelude.{◌≡◌, ◌≢◌, ℕ, ◌^◌, ◌<◌, ◌≤◌, ◌⊎◌, List, [], ◌++◌, length, Option, Result, IfErr}
+use Rattle.std.specs.Prelude.{◌≡◌, ◌≢◌, ℕ, ◌^◌, ◌<◌, ◌≤◌, ◌⊎◌, ◌↔◌, List, [], ◌++◌, length, All, Option, Result, Ok, IfErr}
 use Rattle.aprs_log.specs.declared.Ending.{Ending}
 use Rattle.aprs_log.specs.declared.Ending.TheVariants as ending
+use Rattle.aprs_log.specs.Reception.{Heard}
+use Rattle.aprs_laws.specs.Book.{BookOf}
 use Rattle.aprs_laws.specs.Row.{Row}
 use Rattle.aprs_booktext.specs.FirstFault.{FirstFault, IsBookOrMemory, missing, Reads}
-use Rattle.aprs_booktext.specs.Text.{book_text, IsBookRows}
+use Rattle.aprs_booktext.specs.Text.{book_text, IsBookRow, IsBookRows}
 use Rattle.aprs_booktext.specs.declared.fault.BookCause.TheVariants as cause
 use Rattle.aprs_booktext.specs.declared.fault.BookFault.{BookFault}
 
@@ -49,3 +51,20 @@ HaveFaultOrBook gap = (text : List ℕ) (e : Ending)
 abbrev pub BooksAreFaultless : ℕ → Type 0
 BooksAreFaultless gap = (text : List ℕ) (e : Ending) (f : BookFault) → length text < 2 ^ 64
     → IsBookText gap text e → FirstFault gap text e f → ⊥
+
+-- the text is that of the book of these receptions, each row of which can be spelled
+pub record IsTextOfSet (gap : ℕ) (S : List Heard) (text : List ℕ) : Type 0 where
+  pub rows : List Row
+  pub book : BookOf gap S rows
+  pub each : All IsBookRow rows
+  pub text_is : text ≡ book_text rows
+
+-- the whole texts of books are exactly the texts of sets' books
+abbrev pub AreOfSets : ℕ → Type 0
+AreOfSets gap = (text : List ℕ)
+    → IsBookText gap text ending.End ↔ ((S : List Heard) × IsTextOfSet gap S text)
+
+-- the text of rows that were read is all of the input, with its head
+abbrev pub AreWrittenBack : ℕ → Type 0
+AreWrittenBack gap = (limit : ℕ) (head input : List ℕ) (after : Option (List ℕ)) (rows : List Row)
+    → Reads gap limit head input after (Ok rows) → book_text rows ≡ head ++ input

@@ -14,7 +14,10 @@ mod row_line;
 mod write;
 
 pub use fault::{BookCause, BookFault};
-pub use law::{each_book_has_one_text, each_text_has_one_fault_or_none, written_books_are_read};
+pub use law::{
+    book_texts_are_of_sets, each_book_has_one_text, each_text_has_one_fault_or_none,
+    read_books_are_written_back, written_books_are_read,
+};
 pub use outbox::{Outbox, flush, put};
 pub use read::read_book;
 pub use write::write_book;
