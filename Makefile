@@ -3,7 +3,7 @@ PREFIX ?= /usr/local
 PROGRAM = crates/aprsbook/out/aprsbook
 SHARE = $(DESTDIR)$(PREFIX)/share
 
-.PHONY: build run test words recipes cookbook bench install
+.PHONY: build run test words recipes cookbook bench hostile install
 
 # the program alone, each call of it proved
 build:
@@ -35,6 +35,10 @@ cookbook: build
 
 bench: build
 	bench/run.sh $(PROGRAM)
+
+# book files that nobody would write by hand: what each takes
+hostile: build
+	bench/hostile.sh $(PROGRAM)
 
 install: build
 	install -d $(DESTDIR)$(PREFIX)/bin $(SHARE)/man/man1 $(SHARE)/bash-completion/completions \

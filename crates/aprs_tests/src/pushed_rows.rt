@@ -3,7 +3,7 @@
 use crate::shown::shown;
 use crate::vectors::{DIRECT, NOON, heard, receiver};
 use aprs_ax25::Frame;
-use aprs_book::{Book, ReceiverList, RowCause, RowParts};
+use aprs_book::{Book, ReceiverList, RowCause, RowParts, RowsFault, from_rows};
 use aprs_log::Moment;
 use std::alloc::{Allocator, Global};
 use std::test::Fail;
@@ -35,18 +35,26 @@ pub fn parts<A: Allocator + Copy>(
 fn rows_without_their_greatest_are_refused(rt: HostRuntime) -> Result<(), Fail> {
     let alloc = rt.alloc();
     let mut book = Book::new(alloc);
-    let tied = parts(alloc, NOON, NOON, &[b"RX1", b"RX2"], b"RX1")?;
-    assert!(rt; book.push_row(&tied) == Err(RowCause::NotGreatest));
-    let turned = parts(alloc, NOON, NOON, &[b"RX2", b"RX1"], b"RX1")?;
-    assert!(rt; book.push_row(&turned) == Err(RowCause::Receivers));
-    let nobody = parts(alloc, NOON, NOON, &[], b"RX1")?;
-    assert!(rt; book.push_row(&nobody) == Err(RowCause::Receivers));
-    assert_eq!(rt; book.len(), 0);
-    let earlier = parts(alloc, NOON - 1, NOON, &[b"RX1", b"RX2"], b"RX1")?;
-    assert!(rt; book.push_row(&earlier) == Ok(()));
+    let (one, two) = (b"RX1".as_slice(), b"RX2".as_slice());
+    for (first, names, want) in [
+        (NOON, [one, two].as_slice(), Err(RowCause::NotGreatest)),
+        (NOON, [two, one].as_slice(), Err(RowCause::Receivers)),
+        (NOON, [].as_slice(), Err(RowCause::Receivers)),
+        (NOON - 1, [one, two].as_slice(), Ok(())),
+    ] {
+        assert_eq!(rt; book.len(), 0);
+        let row = parts(alloc, first, NOON, names, one)?;
+        assert!(rt; book.push_row(&row) == want);
+    }
     let text = shown(alloc, &book)?;
     assert_eq!(rt; text.as_str(), "3599-0 RX1 RX2 / RX1 6f; ");
-    assert_eq!(rt; tied.receivers.into_vec().len(), 2);
+    Ok(())
+}
+
+#[test]
+fn receivers_are_given_back(rt: HostRuntime) -> Result<(), Fail> {
+    let row = parts(rt.alloc(), NOON, NOON, &[b"RX1", b"RX2"], b"RX1")?;
+    assert_eq!(rt; row.receivers.into_vec().len(), 2);
     Ok(())
 }
 
@@ -91,6 +99,40 @@ fn rows_out_of_place_are_refused(rt: HostRuntime) -> Result<(), Fail> {
         assert!(rt; book.push_row(&row) == Err(cause));
     }
     assert_eq!(rt; book.len(), 2);
+    Ok(())
+}
+
+/// Rows of the direct frame, all by RX1, from these to these seconds.
+fn rows_of(alloc: Global, spans: &[(u64, u64)]) -> Result<Vec<RowParts>, Fail> {
+    let mut rows = Vec::new(alloc);
+    for (first, last) in spans {
+        let (first, last) = (NOON.saturating_add(*first), NOON.saturating_add(*last));
+        rows.push(parts(alloc, first, last, &[b"RX1"], b"RX1")?)?;
+    }
+    Ok(rows)
+}
+
+// The first row that is refused is told by its place, from 0.
+#[test]
+fn books_are_made_of_rows(rt: HostRuntime) -> Result<(), Fail> {
+    let alloc = rt.alloc();
+    for (spans, rows, fault) in [
+        ([].as_slice(), 0, None),
+        ([(0, 0), (31, 40), (71, 71)].as_slice(), 3, None),
+        ([(0, 1), (31, 40)].as_slice(), 0, Some((1, RowCause::Near))),
+        ([(40, 31)].as_slice(), 0, Some((0, RowCause::Span))),
+        (
+            [(0, 0), (31, 31), (0, 0), (9, 8)].as_slice(),
+            0,
+            Some((2, RowCause::Order)),
+        ),
+    ] {
+        let parts = rows_of(alloc, spans)?;
+        match from_rows(alloc, parts.as_slice()) {
+            Ok(book) => assert!(rt; fault.is_none() && book.len() == rows),
+            Err(RowsFault { place, cause }) => assert!(rt; fault == Some((place, cause))),
+        }
+    }
     Ok(())
 }
 

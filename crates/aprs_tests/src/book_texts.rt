@@ -1,8 +1,9 @@
 //! Books and their texts.
 
 use crate::devices::{Failing, Tight};
+use crate::last_known::callsign;
 use crate::vectors::{
-    DIRECT_LINE, DIRECT_TEXT, EMPTY_TEXT, FIRST_LINE, LAST_LINE, MERGED_TEXT, REPEATED_LINE,
+    DIRECT_LINE, DIRECT_TEXT, EMPTY_TEXT, FIRST_LINE, LAST_LINE, MERGED_TEXT, NOON, REPEATED_LINE,
 };
 use aprs_book::Book;
 use aprs_booktext::{BookCause, read_book, write_book};
@@ -105,4 +106,52 @@ fn a_reader_fails_at_each_byte(rt: HostRuntime) {
         );
         assert_eq!(rt; source.failures(), 1);
     }
+}
+
+/// A row of two receivers, the greatest reception of which is by the first of them.
+const SPAN_TEXT: &[u8] = b"APRSBOOK 1
+T 2024-05-01T11:59:59Z 2024-05-01T12:00:00Z RX1,RX2 RX1 82a0a4a64040e09c60868298986f03f03e4869
+END 1
+";
+
+const EARLY_LINE: &[u8] = b"2024-05-01T11:59:59Z RX1 c00082a0a4a64040e09c60868298986f03f03e4869c0";
+
+const EARLY_OTHER_LINE: &[u8] =
+    b"2024-05-01T11:59:59Z RX2 c00082a0a4a64040e09c60868298986f03f03e4869c0";
+
+/// The book of a text.
+fn read_text(alloc: Global, text: &[u8]) -> Result<Book, Fail> {
+    let read = read_book(alloc, MAX_INPUT, b"", &mut Counted::new(text));
+    Ok(read.ok().ok_or("a book")?)
+}
+
+// Receptions that the row may stand for make the same book, in any order.
+#[test]
+fn a_read_row_stands_for_receptions(rt: HostRuntime) -> Result<(), Fail> {
+    let alloc = rt.alloc();
+    let book = read_text(alloc, SPAN_TEXT)?;
+    let (a, b, c) = (EARLY_LINE, DIRECT_LINE, EARLY_OTHER_LINE);
+    for lines in [
+        [a, b, c],
+        [a, c, b],
+        [b, a, c],
+        [b, c, a],
+        [c, a, b],
+        [c, b, a],
+    ] {
+        assert!(rt; book_of(alloc, &lines)?.same(&book));
+    }
+    assert!(rt; book.merge(&book).ok().ok_or("memory")?.same(&book));
+    Ok(())
+}
+
+#[test]
+fn what_is_known_of_a_read_row(rt: HostRuntime) -> Result<(), Fail> {
+    let book = read_text(rt.alloc(), SPAN_TEXT)?;
+    let station = callsign(b"N0CALL-7")?;
+    assert!(rt; book.position(&station).is_none());
+    let status = book.status(&station).ok_or("a status")?;
+    assert_eq!(rt; status.moment.seconds(), NOON);
+    assert!(rt; status.receiver.as_bytes() == b"RX1".as_slice());
+    Ok(())
 }

@@ -10,7 +10,11 @@ mod book_texts;
 #[cfg(test)]
 mod books;
 #[cfg(test)]
+mod compared_books;
+#[cfg(test)]
 mod devices;
+#[cfg(test)]
+mod failing_inputs;
 #[cfg(test)]
 mod last_known;
 #[cfg(test)]
@@ -24,7 +28,13 @@ mod logs;
 #[cfg(test)]
 mod merges;
 #[cfg(test)]
+mod pieces;
+#[cfg(test)]
+mod plain_book;
+#[cfg(test)]
 mod pushed_rows;
+#[cfg(test)]
+mod refused_calls;
 #[cfg(test)]
 mod refused_memory;
 #[cfg(test)]

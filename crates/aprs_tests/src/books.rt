@@ -25,26 +25,30 @@ fn rows_join_within_thirty_seconds(rt: HostRuntime) -> Result<(), Fail> {
     Ok(())
 }
 
+/// The rows of a book that takes these, all of which are heard at once.
+fn heard_at_once(alloc: Global, all: &[(&[u8], &[u8])]) -> Result<String, Fail> {
+    let mut book = Book::new(alloc);
+    for (name, frame) in all {
+        book.take(&heard(0, name, frame)?).ok().ok_or("memory")?;
+    }
+    shown(alloc, &book)
+}
+
 #[test]
 fn ties_go_by_receiver_then_frame(rt: HostRuntime) -> Result<(), Fail> {
-    let alloc = rt.alloc();
-    let direct = heard(0, b"RX1", &DIRECT)?;
-    let repeated = heard(0, b"RX1", &REPEATED)?;
-    let mut book = Book::new(alloc);
-    book.take(&repeated).ok().ok_or("memory")?;
-    book.take(&direct).ok().ok_or("memory")?;
-    let mut turned = Book::new(alloc);
-    turned.take(&direct).ok().ok_or("memory")?;
-    turned.take(&repeated).ok().ok_or("memory")?;
-    assert!(rt; book.same(&turned));
-    assert_eq!(rt; book.len(), 1);
-    let text = shown(alloc, &book)?;
-    assert_eq!(rt; text.as_str(), "0-0 RX1 / RX1 6f; ");
-    let other = heard(0, b"RX2", &REPEATED)?;
-    book.take(&other).ok().ok_or("memory")?;
-    let text = shown(alloc, &book)?;
-    assert_eq!(rt; text.as_str(), "0-0 RX1 RX2 / RX2 6e; ");
-    assert!(rt; !book.same(&turned));
+    let direct = (b"RX1".as_slice(), DIRECT.as_slice());
+    let repeated = (b"RX1".as_slice(), REPEATED.as_slice());
+    let other = (b"RX2".as_slice(), REPEATED.as_slice());
+    for (all, want) in [
+        ([repeated, direct].as_slice(), "0-0 RX1 / RX1 6f; "),
+        ([direct, repeated].as_slice(), "0-0 RX1 / RX1 6f; "),
+        (
+            [repeated, direct, other].as_slice(),
+            "0-0 RX1 RX2 / RX2 6e; ",
+        ),
+    ] {
+        assert_eq!(rt; heard_at_once(rt.alloc(), all)?.as_str(), want);
+    }
     Ok(())
 }
 
@@ -87,24 +91,29 @@ fn book_by(alloc: Global, name: &[u8], seconds: &[u64]) -> Result<Book, Fail> {
     Ok(book)
 }
 
+/// The rows of both together.
+fn merged_text(alloc: Global, ours: &Book, theirs: &Book) -> Result<String, Fail> {
+    let both = ours.merge(theirs).ok().ok_or("memory")?;
+    shown(alloc, &both)
+}
+
 #[test]
 fn two_rows_bridge_three(rt: HostRuntime) -> Result<(), Fail> {
     let alloc = rt.alloc();
     let three = book_by(alloc, b"RX1", &[0, 60, 120])?;
     let two = book_by(alloc, b"RX2", &[30, 90])?;
-    let both = three.merge(&two).ok().ok_or("memory")?;
-    let turned = two.merge(&three).ok().ok_or("memory")?;
-    assert!(rt; both.same(&turned));
-    let text = shown(alloc, &both)?;
-    assert_eq!(rt; text.as_str(), "0-120 RX1 RX2 / RX1 6f; ");
+    for (ours, theirs) in [(&three, &two), (&two, &three)] {
+        let text = merged_text(alloc, ours, theirs)?;
+        assert_eq!(rt; text.as_str(), "0-120 RX1 RX2 / RX1 6f; ");
+    }
     assert_eq!(rt; three.len(), 3);
     assert_eq!(rt; two.len(), 2);
+    assert!(rt; !three.same(&two) && two.same(&two));
     Ok(())
 }
 
-#[test]
-fn replays_end_in_equal_books(rt: HostRuntime) -> Result<(), Fail> {
-    let alloc = rt.alloc();
+/// Two books that take in turn, and merge both ways.
+fn two_books(alloc: Global) -> Result<Vec<Book>, Fail> {
     let steps = [
         Step::Take(0, heard(0, b"RX1", &DIRECT)?),
         Step::Take(1, heard(20, b"RX2", &DIRECT)?),
@@ -112,19 +121,24 @@ fn replays_end_in_equal_books(rt: HostRuntime) -> Result<(), Fail> {
         Step::Merge(1, 0),
         Step::Merge(0, 0),
     ];
-    if !steps_fit(2, &steps) {
+    if !steps_fit(2, &steps) || steps_fit(1, &steps) {
         return Err("places".into());
     }
-    let books = replay(alloc, 2, &steps).ok().ok_or("memory")?;
+    Ok(replay(alloc, 2, &steps).ok().ok_or("memory")?)
+}
+
+#[test]
+fn replays_end_in_equal_books(rt: HostRuntime) -> Result<(), Fail> {
+    let alloc = rt.alloc();
+    let books = two_books(alloc)?;
     assert_eq!(rt; books.len(), 2);
     assert!(rt; books[0].same(&books[1]));
     let text = shown(alloc, &books[0])?;
     assert_eq!(rt; text.as_str(), "0-20 RX1 RX2 / RX2 6f; ");
-    let all = join_all(&books[0], &books).ok().ok_or("memory")?;
-    assert!(rt; all.same(&books[0]));
-    let alone = join_all(&books[0], &[]).ok().ok_or("memory")?;
-    assert!(rt; alone.same(&books[0]));
-    assert!(rt; !steps_fit(2, &[Step::Merge(0, 2)]));
+    for items in [books.as_slice(), &[]] {
+        let all = join_all(&books[0], items).ok().ok_or("memory")?;
+        assert!(rt; all.same(&books[0]));
+    }
     Ok(())
 }
 
@@ -132,14 +146,22 @@ fn replays_end_in_equal_books(rt: HostRuntime) -> Result<(), Fail> {
 fn logged(alloc: Global, seconds: &[u64]) -> Result<Book, Fail> {
     let mut book = Book::new(alloc);
     for second in seconds {
-        let x = match *second {
-            0 => heard(0, b"RX1", &DIRECT)?,
-            30 => heard(30, b"RX2", &REPEATED)?,
-            other => heard(other, b"RX2", &DIRECT)?,
+        let (name, frame): (&[u8], &[u8]) = match *second {
+            0 => (b"RX1", &DIRECT),
+            30 => (b"RX2", &REPEATED),
+            _ => (b"RX2", &DIRECT),
         };
+        let x = heard(*second, name, frame)?;
         book.take(&x).ok().ok_or("memory")?;
     }
     Ok(book)
+}
+
+/// The book of two such logs.
+fn merged(alloc: Global, ours: &[u64], theirs: &[u64]) -> Result<Book, Fail> {
+    let ours = logged(alloc, ours)?;
+    let theirs = logged(alloc, theirs)?;
+    Ok(ours.merge(&theirs).ok().ok_or("memory")?)
 }
 
 #[test]
@@ -154,11 +176,8 @@ fn orders_repeats_and_merges_do_not_matter(rt: HostRuntime) -> Result<(), Fail> 
         [3600, 30, 0],
     ] {
         let taken = logged(alloc, &[a, b, c, a])?;
-        let first = logged(alloc, &[a, b])?;
-        let second = logged(alloc, &[c, a])?;
-        let merged = first.merge(&second).ok().ok_or("memory")?;
-        assert!(rt; merged.same(&taken));
-        let text = shown(alloc, &merged)?;
+        assert!(rt; merged(alloc, &[a, b], &[c, a])?.same(&taken));
+        let text = shown(alloc, &taken)?;
         assert_eq!(rt; text.as_str(), "0-30 RX1 RX2 / RX2 6e; 0-0 RX2 / RX2 6f; ");
     }
     Ok(())

@@ -2,7 +2,7 @@
 ghost use Rattle.std.specs.Prelude.{◌≤◌};
 
 use crate::devices::{Failing, Full};
-use crate::vectors::ONE_LINE;
+use crate::vectors::{LOG, ONE_LINE};
 use aprs_kiss::Counted;
 use aprs_log::{LogCause, LogFault, MAX_INPUT, Moment, Receiver};
 use aprs_tool::{Form, InputFault, RunFault, check_run, convert_run, status_of};
@@ -89,22 +89,28 @@ fn lines_that_hold_no_frame(rt: HostRuntime) {
     );
 }
 
+/// A stream of the frame to port 0, the same to port 5, a frame of another command, and the begin
+/// of a third.
+const STREAM: [&[u8]; 5] = [
+    FRAME,
+    b"\xc0\x50",
+    b"\x82\xa0\xa4\xa6\x40\x40\xe0\x9c\x60\x86\x82\x98\x98\x6f\x03\xf0>Hi\xc0",
+    b"\x01\xaa\xc0",
+    b"\x00\x82",
+];
+
 #[test]
 fn a_stream_is_captured(rt: HostRuntime) -> Result<(), Fail> {
     let receiver = Receiver::parse(b"RX1").ok_or("a name")?;
     let moment = Moment::parse(b"2024-05-01T12:00:00Z").ok_or("a moment")?;
     let mut stream = Vec::new(rt.alloc());
-    stream.extend_from_slice(FRAME)?;
-    stream.extend_from_slice(b"\xc0\x50")?;
-    stream.extend_from_slice(&FRAME[2..])?;
-    stream.extend_from_slice(b"\x01\xaa\xc0\x00\x82")?;
+    for piece in STREAM {
+        stream.extend_from_slice(piece)?;
+    }
     let form = Form::Capture { receiver, moment };
     let (written, fault) = converted(&rt, MAX_INPUT, form, stream.as_slice());
     assert!(rt; fault.is_none());
-    let mut twice = Vec::new(rt.alloc());
-    twice.extend_from_slice(ONE_LINE)?;
-    twice.extend_from_slice(ONE_LINE)?;
-    assert!(rt; written == twice);
+    assert_eq!(rt; written.as_slice(), LOG);
     Ok(())
 }
 

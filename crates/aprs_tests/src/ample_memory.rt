@@ -39,54 +39,81 @@ fn text_of(alloc: Global, book: &Book) -> Result<Vec<u8>, Fail> {
     Ok(out.into_inner())
 }
 
+/// The number of rows of a hundred minutes by RX1 together with as many by RX2 from this second on.
+fn rows_together(alloc: Global, first: u64) -> Result<usize, Fail> {
+    let book = hundred(alloc, 0, b"RX1")?;
+    let other = hundred(alloc, first, b"RX2")?;
+    Ok(book.merge(&other).ok().ok_or("memory")?.len())
+}
+
 // Receivers that hear in turn each half minute make one transmission of two hundred receptions; a
 // second later than that, each stays a row of its own.
 #[test]
 fn a_hundred_rows_are_taken_and_merged(rt: HostRuntime) -> Result<(), Fail> {
     let alloc = rt.alloc();
-    let book = hundred(alloc, 0, b"RX1")?;
-    assert_eq!(rt; book.len(), 100);
-    let between = hundred(alloc, 30, b"RX2")?;
-    let merged = book.merge(&between).ok().ok_or("memory")?;
-    let text = shown(alloc, &merged)?;
-    assert_eq!(rt; text.as_str(), "0-2370 RX1 RX2 / RX2 6f; ");
-    let later = hundred(alloc, 6031, b"RX2")?;
-    let merged = book.merge(&later).ok().ok_or("memory")?;
-    assert_eq!(rt; merged.len(), 200);
-    let joined = join_all(&book, &[later, between]).ok().ok_or("memory")?;
+    assert_eq!(rt; hundred(alloc, 0, b"RX1")?.len(), 100);
+    for (first, rows) in [(0, 100), (30, 1), (6031, 200)] {
+        assert_eq!(rt; rows_together(alloc, first)?, rows);
+    }
+    Ok(())
+}
+
+/// Three books of a hundred minutes each, and two of them close to each other.
+fn three_books(alloc: Global) -> Result<Vec<Book>, Fail> {
+    let mut books = Vec::new(alloc);
+    for (first, name) in [(0, b"RX1"), (30, b"RX2"), (6031, b"RX2")] {
+        books.push(hundred(alloc, first, name)?)?;
+    }
+    Ok(books)
+}
+
+#[test]
+fn a_hundred_rows_are_joined(rt: HostRuntime) -> Result<(), Fail> {
+    let books = three_books(rt.alloc())?;
+    let first = books.first().ok_or("a book")?;
+    let joined = join_all(first, books.as_slice()).ok().ok_or("memory")?;
     assert_eq!(rt; joined.len(), 101);
-    let again = joined.join(&book).ok().ok_or("memory")?;
+    let again = joined.join(first).ok().ok_or("memory")?;
     assert!(rt; again.same(&joined));
     Ok(())
+}
+
+/// A book of a hundred rows that are pushed.
+fn pushed(alloc: Global) -> Result<Book, Fail> {
+    let mut book = Book::new(alloc);
+    for minute in 0..100u64 {
+        let second = NOON.saturating_add(minute * 60);
+        let row = parts(alloc, second, second, &[b"RX1"], b"RX1")?;
+        book.push_row(&row).ok().ok_or("a cause")?;
+    }
+    Ok(book)
 }
 
 #[test]
 fn a_hundred_rows_are_pushed_written_and_read(rt: HostRuntime) -> Result<(), Fail> {
     let alloc = rt.alloc();
-    let mut book = Book::new(alloc);
-    for minute in 0..100u64 {
-        let second = NOON.saturating_add(minute * 60);
-        let row = parts(alloc, second, second, &[b"RX1"], b"RX1")?;
-        assert!(rt; book.push_row(&row) == Ok(()));
-    }
+    let book = pushed(alloc)?;
     assert!(rt; book.same(&hundred(alloc, 0, b"RX1")?));
     let text = text_of(alloc, &book)?;
-    let mut input = Counted::new(text.as_slice());
-    let read = read_book(alloc, MAX_INPUT, b"", &mut input);
+    let read = read_book(alloc, MAX_INPUT, b"", &mut Counted::new(text.as_slice()));
     assert!(rt; read.ok().ok_or("a fault")?.same(&book));
     Ok(())
+}
+
+/// Whether the book of this input is this one.
+fn is_read(alloc: Global, input: &[u8], book: &Book) -> bool {
+    match read_input(alloc, MAX_INPUT, &mut Counted::new(input)) {
+        Ok(read) => read.same(book),
+        Err(_) => false,
+    }
 }
 
 #[test]
 fn a_hundred_lines_are_read(rt: HostRuntime) -> Result<(), Fail> {
     let alloc = rt.alloc();
     let book = hundred(alloc, 0, b"RX1")?;
-    let log = hundred_lines(alloc, 0, b"RX1")?;
-    let read = read_input(alloc, MAX_INPUT, &mut Counted::new(log.as_slice()));
-    assert!(rt; read.ok().ok_or("a fault")?.same(&book));
-    let text = text_of(alloc, &book)?;
-    let read = read_input(alloc, MAX_INPUT, &mut Counted::new(text.as_slice()));
-    assert!(rt; read.ok().ok_or("a fault")?.same(&book));
+    assert!(rt; is_read(alloc, hundred_lines(alloc, 0, b"RX1")?.as_slice(), &book));
+    assert!(rt; is_read(alloc, text_of(alloc, &book)?.as_slice(), &book));
     Ok(())
 }
 
@@ -98,25 +125,33 @@ END 1
 
 const ONE_STATION: &[u8] = b"station N0CALL-7 1\nstatus 2024-05-01T13:39:30Z RX2 -:Hi\n";
 
+/// A log of a hundred lines, one of what was heard between, and the first one's book.
+fn three_inputs(alloc: Global) -> Result<Vec<Vec<u8>>, Fail> {
+    let mut inputs = Vec::new(alloc);
+    inputs.push(hundred_lines(alloc, 0, b"RX1")?)?;
+    inputs.push(hundred_lines(alloc, 30, b"RX2")?)?;
+    inputs.push(text_of(alloc, &hundred(alloc, 0, b"RX1")?)?)?;
+    Ok(inputs)
+}
+
+/// Nine inputs, each one of three.
+fn nine_of<'a>(alloc: Global, three: &'a [Vec<u8>]) -> Result<Vec<Counted<&'a [u8]>>, Fail> {
+    let mut inputs = Vec::new(alloc);
+    for number in [0usize, 2, 1, 0, 2, 2, 2, 1, 2] {
+        let input = three.get(number).ok_or("an input")?;
+        inputs.push(Counted::new(input.as_slice()))?;
+    }
+    Ok(inputs)
+}
+
 // Two of the nine are heard between the others' receptions, and five were merged before.
 #[test]
 fn nine_inputs_are_merged_and_listed(rt: HostRuntime) -> Result<(), Fail> {
     let alloc = rt.alloc();
-    let book = hundred(alloc, 0, b"RX1")?;
-    let text = text_of(alloc, &book)?;
-    let log = hundred_lines(alloc, 0, b"RX1")?;
-    let between = hundred_lines(alloc, 30, b"RX2")?;
+    let three = three_inputs(alloc)?;
     let heap = LocalHeap::new(alloc, 1_048_576)?;
     for (is_listing, want) in [(false, ONE_ROW), (true, ONE_STATION)] {
-        let mut inputs = Vec::new(alloc);
-        for i in 0..9usize {
-            let input = match i {
-                2 | 7 => between.as_slice(),
-                0 | 3 => log.as_slice(),
-                _ => text.as_slice(),
-            };
-            inputs.push(Counted::new(input))?;
-        }
+        let mut inputs = nine_of(alloc, three.as_slice())?;
         let mut out = Counted::new(Vec::new(alloc));
         let run = if is_listing {
             show_run(&heap, MAX_INPUT, inputs.as_mut_slice(), &mut out)

@@ -1,6 +1,6 @@
 //! Texts that are no book's.
 
-use crate::vectors::DIRECT_TEXT;
+use crate::vectors::{DIRECT_TEXT, MERGED_TEXT, line_after};
 use aprs_booktext::{BookCause, BookFault, read_book, write_book};
 use aprs_kiss::Counted;
 use aprs_log::MAX_INPUT;
@@ -87,19 +87,20 @@ fn a_second_row(rt: HostRuntime) -> Result<(), Fail> {
     Ok(())
 }
 
+// The fault is of the line in which the text ends.
 #[test]
-fn texts_cut_short_and_grown(rt: HostRuntime) -> Result<(), Fail> {
-    let alloc = rt.alloc();
-    for cut in 0..DIRECT_TEXT.len() {
-        let line = if cut <= 10 {
-            1
-        } else if cut <= 101 {
-            2
-        } else {
-            3
-        };
-        assert!(rt; fault_of(alloc, &DIRECT_TEXT[..cut]) == Some((line, "Ending")));
+fn texts_cut_short(rt: HostRuntime) {
+    for text in [DIRECT_TEXT, MERGED_TEXT] {
+        for cut in 0..text.len() {
+            let fault = fault_of(rt.alloc(), &text[..cut]);
+            assert!(rt; fault == Some((line_after(text, cut), "Ending")));
+        }
     }
+}
+
+#[test]
+fn texts_grown_or_beyond_the_limit(rt: HostRuntime) -> Result<(), Fail> {
+    let alloc = rt.alloc();
     let mut more = Vec::new(alloc);
     more.extend_from_slice(DIRECT_TEXT)?;
     more.push(b'\n')?;
@@ -127,26 +128,59 @@ fn texts_cut_short_and_grown(rt: HostRuntime) -> Result<(), Fail> {
     Ok(())
 }
 
-#[test]
-fn another_byte_is_a_fault_or_another_book(rt: HostRuntime) -> Result<(), Fail> {
-    let alloc = rt.alloc();
-    let mut read = 0u64;
-    for place in 0..DIRECT_TEXT.len() {
-        for byte in b"0T \n" {
-            let mut text = Vec::new(alloc);
-            text.extend_from_slice(&DIRECT_TEXT[..place])?;
-            text.push(*byte)?;
-            text.extend_from_slice(&DIRECT_TEXT[place + 1..])?;
-            let answer = read_book(alloc, MAX_INPUT, b"", &mut Counted::new(text.as_slice()));
-            if let Ok(book) = answer {
-                let mut out = Counted::new(Vec::new(alloc));
-                assert!(rt; write_book(&mut out, &book) == Ok(()));
-                assert_eq!(rt; out.into_inner().as_slice(), text.as_slice());
-                read = read.saturating_add(1);
+/// Whether a text with this byte at this place is refused, or the book of it is written as the same
+/// text.
+fn is_refused_or_written_back(
+    alloc: Global,
+    text: &[u8],
+    place: usize,
+    byte: u8,
+) -> Result<bool, Fail> {
+    let mut changed = Vec::new(alloc);
+    changed.extend_from_slice(text)?;
+    *changed.get_mut(place).ok_or("a place")? = byte;
+    match read_book(alloc, MAX_INPUT, b"", &mut Counted::new(changed.as_slice())) {
+        Err(_) => Ok(true),
+        Ok(book) => {
+            let mut out = Counted::new(Vec::new(alloc));
+            write_book(&mut out, &book).ok().ok_or("a fault")?;
+            Ok(out.into_inner().as_slice() == changed.as_slice())
+        }
+    }
+}
+
+/// Whether that holds of each byte at each of these places.
+fn are_refused_or_written_back(
+    alloc: Global,
+    text: &[u8],
+    from: usize,
+    to: usize,
+) -> Result<bool, Fail> {
+    for place in from..to {
+        for byte in 0..=255u8 {
+            if !is_refused_or_written_back(alloc, text, place, byte)? {
+                return Ok(false);
             }
         }
     }
-    assert!(rt; read > 0);
+    Ok(true)
+}
+
+#[test]
+fn each_other_byte_in_a_text_of_one_row(rt: HostRuntime) -> Result<(), Fail> {
+    assert!(rt; are_refused_or_written_back(rt.alloc(), DIRECT_TEXT, 0, 108)?);
+    Ok(())
+}
+
+#[test]
+fn each_other_byte_in_the_first_row_of_two(rt: HostRuntime) -> Result<(), Fail> {
+    assert!(rt; are_refused_or_written_back(rt.alloc(), MERGED_TEXT, 0, 120)?);
+    Ok(())
+}
+
+#[test]
+fn each_other_byte_in_the_second_row_of_two(rt: HostRuntime) -> Result<(), Fail> {
+    assert!(rt; are_refused_or_written_back(rt.alloc(), MERGED_TEXT, 120, 217)?);
     Ok(())
 }
 

@@ -20,12 +20,13 @@ const MERGED_LISTING: &[u8] = b"station N0CALL-7 2\nstatus 2099-12-31T23:59:59Z 
 /// An arena that has room for so many units of 64 bytes, and refuses the growth that would take it
 /// beyond until its limit is lifted.
 fn arena(alloc: Global, units: usize) -> Result<Bump, Fail> {
-    let bump = Bump::try_with_capacity(alloc, 131_072)?;
+    let room = units.saturating_mul(64);
+    let bump = Bump::try_with_capacity(alloc, room)?;
     bump.set_allocation_limit(Some(0));
-    let taken = bump
-        .chunk_capacity()
-        .saturating_sub(units.saturating_mul(64));
-    bump.try_alloc_slice_fill_clone(taken, 0u8)?;
+    let beyond = bump.chunk_capacity().saturating_sub(room);
+    if beyond > 0 {
+        bump.try_alloc_slice_fill_clone(beyond, 0u8)?;
+    }
     Ok(bump)
 }
 

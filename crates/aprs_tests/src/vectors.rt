@@ -83,3 +83,14 @@ pub fn heard(second: u64, name: &[u8], frame: &[u8]) -> Result<Reception, Fail> 
         Frame::read(frame).ok().ok_or("frame")?,
     ))
 }
+
+/// The line in which a text ends after so many bytes.
+pub fn line_after(text: &[u8], good: usize) -> u64 {
+    let mut line = 1u64;
+    for byte in text.iter().take(good) {
+        if *byte == b'\n' {
+            line = line.saturating_add(1);
+        }
+    }
+    line
+}

@@ -33,6 +33,62 @@ impl Read for Failing<'_> {
     }
 }
 
+/// A reader that gives one byte a call, each after so many interrupted tries, and after a thousand
+/// where `stuck` bytes are left.
+#[derive(Drop)]
+pub struct Stuttering<'a> {
+    pub bytes: &'a [u8],
+    pub tries: u64,
+    pub left: u64,
+    pub stuck: usize,
+}
+
+impl Read for Stuttering<'_> {
+    ghost remaining = { λ r. Some r.bytes.now };
+
+    fn read(&mut self, buf: &mut [u8]) -> io::Result<usize> {
+        if self.left > 0 {
+            self.left -= 1;
+            return Err(io::Error::from(ErrorKind::Interrupted));
+        }
+        let n = buf.len().min(self.bytes.len()).min(1);
+        let (front, rest) = self.bytes.split_at(n);
+        buf[..n].copy_from_slice(front);
+        self.bytes = rest;
+        self.left = if rest.len() == self.stuck {
+            1000
+        } else {
+            self.tries
+        };
+        Ok(n)
+    }
+}
+
+/// A writer that takes one byte a call, each after so many interrupted tries.
+#[derive(Drop)]
+pub struct Halting {
+    pub bytes: Vec<u8>,
+    pub tries: u64,
+    pub left: u64,
+}
+
+impl Write for Halting {
+    fn write(&mut self, buf: &[u8]) -> io::Result<usize> {
+        if self.left > 0 {
+            self.left -= 1;
+            return Err(io::Error::from(ErrorKind::Interrupted));
+        }
+        let n = buf.len().min(1);
+        self.bytes.extend_from_slice(&buf[..n])?;
+        self.left = self.tries;
+        Ok(n)
+    }
+
+    fn flush(&mut self) -> io::Result<()> {
+        Ok(())
+    }
+}
+
 /// A writer that takes three bytes a call, until there is room for no more.
 #[derive(Drop)]
 pub struct Tight {

@@ -71,11 +71,28 @@ fn tells(told: &Option<Heard<'_>>, x: &Reception, report: &Report<'_>) -> bool {
     }
 }
 
+/// Whether a book of two receptions from N0CALL-7 tells the later one's report as its position.
+fn knows_the_later(book: &Book, late: &Reception, report: &Report<'_>) -> Result<bool, Fail> {
+    let station = callsign(b"N0CALL-7")?;
+    let stations = book.stations().ok().ok_or("memory")?;
+    let [listed] = stations.as_slice() else {
+        return Ok(false);
+    };
+    Ok(
+        book.len() == 2
+            && tells(&book.position(&station), late, report)
+            && book.status(&station).is_none()
+            && book.position(&callsign(b"N0CALL-8")?).is_none()
+            && counts(listed, b"N0CALL-7", 2)
+            && tells(&listed.position, late, report)
+            && listed.status.is_none(),
+    )
+}
+
 // A position taken later, but heard earlier, isn't the last known one.
 #[test]
 fn positions_are_the_greatest_heard(rt: HostRuntime) -> Result<(), Fail> {
     let alloc = rt.alloc();
-    let station = callsign(b"N0CALL-7")?;
     let late = sent(600, b"N0CALL-7", b"!4903.50N/07201.75W-")?;
     let early = sent(0, b"N0CALL-7", b"!4904.00N/07201.75W-")?;
     let here = Report::Position {
@@ -86,17 +103,9 @@ fn positions_are_the_greatest_heard(rt: HostRuntime) -> Result<(), Fail> {
         comment: b"",
     };
     let book = book_of(alloc, &[&late, &early])?;
+    assert!(rt; knows_the_later(&book, &late, &here)?);
     let turned = book_of(alloc, &[&early, &late])?;
-    assert_eq!(rt; book.len(), 2);
-    assert!(rt; tells(&book.position(&station), &late, &here));
-    assert!(rt; tells(&turned.position(&station), &late, &here));
-    assert!(rt; book.status(&station).is_none());
-    assert!(rt; book.position(&callsign(b"N0CALL-8")?).is_none());
-    let stations = book.stations().ok().ok_or("memory")?;
-    assert_eq!(rt; stations.len(), 1);
-    assert!(rt; counts(&stations[0], b"N0CALL-7", 2));
-    assert!(rt; tells(&stations[0].position, &late, &here));
-    assert!(rt; stations[0].status.is_none());
+    assert!(rt; knows_the_later(&turned, &late, &here)?);
     Ok(())
 }
 

@@ -3,13 +3,43 @@
 use crate::pushed_rows::parts;
 use crate::shown::shown;
 use crate::vectors::{DIRECT, MERGED_TEXT, NOON, heard};
-use aprs_book::{Book, RowCause, RowParts};
+use aprs_book::{Book, RowCause, RowParts, RowsFault, from_rows};
 use aprs_booktext::{BookCause, BookFault, read_book, write_book};
 use aprs_kiss::Counted;
-use aprs_log::MAX_INPUT;
+use aprs_log::{MAX_INPUT, Reception};
 use linked_list_allocator::LocalHeap;
-use std::alloc::Global;
+use std::alloc::{Allocator, Global};
 use std::test::Fail;
+
+/// Whether the book shows these rows.
+fn shows<A: Allocator + Copy>(alloc: Global, book: &Book<A>, text: &str) -> Result<bool, Fail> {
+    Ok(shown(alloc, book)?.as_str() == text)
+}
+
+/// Takes a reception, and tells whether memory was refused. Then the rows have to be as before.
+fn is_untaken<'a>(
+    alloc: Global,
+    book: &mut Book<&'a LocalHeap>,
+    x: &Reception,
+) -> Result<bool, Fail> {
+    let before = shown(alloc, book)?;
+    if book.take(x).is_ok() {
+        return Ok(false);
+    }
+    if shows(alloc, book, before.as_str())? {
+        return Ok(true);
+    }
+    Err("other rows".into())
+}
+
+/// Receptions, and the rows after each.
+const STEPS: [(u64, &[u8], &str); 5] = [
+    (0, b"RX1", "0-0 RX1 / RX1 6f; "),
+    (61, b"RX1", "0-0 RX1 / RX1 6f; 61-61 RX1 / RX1 6f; "),
+    (31, b"RX2", "0-0 RX1 / RX1 6f; 31-61 RX1 RX2 / RX1 6f; "),
+    (30, b"RX1", "0-61 RX1 RX2 / RX1 6f; "),
+    (40, b"RX1", "0-61 RX1 RX2 / RX1 6f; "),
+];
 
 // The heap is full but for some units, until it refuses a step: then the rows are as before, and
 // with room again the step gives the same book.
@@ -22,27 +52,14 @@ fn refused_growths_change_nothing(rt: HostRuntime) -> Result<(), Fail> {
         let mut fill: Vec<u8, &LocalHeap> = Vec::new(&heap);
         fill.reserve(65280 - units * 64)?;
         let mut book = Book::new(&heap);
-        let mut ample = Book::new(alloc);
-        for (second, name) in [
-            (0, b"RX1"),
-            (61, b"RX1"),
-            (31, b"RX2"),
-            (30, b"RX1"),
-            (40, b"RX1"),
-        ] {
+        for (second, name, rows) in STEPS {
             let x = heard(second, name, &DIRECT)?;
-            let before = shown(alloc, &book)?;
-            if book.take(&x).is_err() {
-                let after = shown(alloc, &book)?;
-                assert_eq!(rt; before.as_str(), after.as_str());
+            if is_untaken(alloc, &mut book, &x)? {
                 refused = refused.saturating_add(1);
                 fill = Vec::new(&heap);
-                book.take(&x).ok().ok_or("memory")?;
+                assert!(rt; book.take(&x).is_ok());
             }
-            ample.take(&x).ok().ok_or("memory")?;
-            let have = shown(alloc, &book)?;
-            let want = shown(alloc, &ample)?;
-            assert_eq!(rt; have.as_str(), want.as_str());
+            assert!(rt; shows(alloc, &book, rows)?);
         }
     }
     assert!(rt; refused > 4);
@@ -67,7 +84,7 @@ fn is_refused<'a>(
     let before = shown(alloc, book)?;
     match book.push_row(row) {
         Ok(()) => Ok(false),
-        Err(RowCause::Memory) if before == shown(alloc, book)? => Ok(true),
+        Err(RowCause::Memory) if shows(alloc, book, before.as_str())? => Ok(true),
         Err(_) => Err("another answer".into()),
     }
 }
@@ -91,12 +108,37 @@ fn refused_rows_change_nothing(rt: HostRuntime) -> Result<(), Fail> {
                 assert!(rt; book.push_row(row) == Ok(()));
             }
         }
-        let text = shown(alloc, &book)?;
         let want = "0-0 RX1 RX2 / RX2 6f; 60-70 RX1 RX2 / RX1 6f; 200-200 RX1 / RX1 6f; ";
-        assert_eq!(rt; text.as_str(), want);
+        assert!(rt; shows(alloc, &book, want)?);
     }
     // the first row needs both growths, the later ones that of their receivers alone
     assert!(rt; refused[0] > 0 && refused[1] > 0);
+    Ok(())
+}
+
+// The place is that of the row for which memory was refused.
+#[test]
+fn memory_is_refused_at_a_row(rt: HostRuntime) -> Result<(), Fail> {
+    let alloc = rt.alloc();
+    let mut refused = [0u64; 3];
+    let mut granted = 0u64;
+    for units in 0..700usize {
+        let heap = LocalHeap::new(alloc, 65536)?;
+        let rows = three_rows(&heap)?;
+        let mut fill: Vec<u8, &LocalHeap> = Vec::new(&heap);
+        fill.reserve(64768 - units * 16)?;
+        match from_rows(&heap, &rows) {
+            Ok(book) => {
+                assert_eq!(rt; book.len(), 3);
+                granted = granted.saturating_add(1);
+            }
+            Err(RowsFault { place, cause }) => {
+                assert!(rt; cause == RowCause::Memory && place < 3);
+                refused[place] = refused[place].saturating_add(1);
+            }
+        }
+    }
+    assert!(rt; refused[0] > 0 && refused[1] > 0 && granted > 0);
     Ok(())
 }
 

@@ -147,27 +147,33 @@ fn each_reason(rt: HostRuntime) -> Result<(), Fail> {
     Ok(())
 }
 
-#[test]
-fn sizes_of_frames(rt: HostRuntime) -> Result<(), Fail> {
-    let no_info = kiss(&rt, 0, &DIRECT[..16])?;
-    assert!(rt; told(rt.alloc(), no_info.as_slice())? == Line::Passed(Reason::NoInfo));
+/// What is told of a frame of the direct one's header and so many more bytes, to any port.
+fn told_of_size(rt: &HostRuntime, kind: u8, more: usize) -> Result<Line, Fail> {
     let mut frame = Vec::new(rt.alloc());
     frame.extend_from_slice(&DIRECT[..16])?;
-    frame.resize(16 + 256, b'A')?;
-    let full = kiss(&rt, 0x50, frame.as_slice())?;
-    let Line::Heard(heard) = told(rt.alloc(), full.as_slice())? else {
+    frame.resize(frame.len().saturating_add(more), b'A')?;
+    told(rt.alloc(), kiss(rt, kind, frame.as_slice())?.as_slice())
+}
+
+#[test]
+fn sizes_of_frames(rt: HostRuntime) -> Result<(), Fail> {
+    for (more, reason) in [(0, Reason::NoInfo), (257, Reason::LongInfo)] {
+        assert!(rt; told_of_size(&rt, 0, more)? == Line::Passed(reason));
+    }
+    let Line::Heard(heard) = told_of_size(&rt, 0x50, 256)? else {
         return Err("heard".into());
     };
-    assert!(rt; heard.frame().bytes() == frame.as_slice());
-    frame.push(b'A')?;
-    let long = kiss(&rt, 0, frame.as_slice())?;
-    assert!(rt; told(rt.alloc(), long.as_slice())? == Line::Passed(Reason::LongInfo));
-    frame.clear();
-    frame.resize(1023, b'A')?;
-    let most = kiss(&rt, 0, frame.as_slice())?;
-    assert!(rt; told(rt.alloc(), most.as_slice())? == Line::Passed(Reason::Address));
-    frame.push(b'A')?;
-    let more = kiss(&rt, 0, frame.as_slice())?;
-    assert!(rt; told(rt.alloc(), more.as_slice())? == Line::Passed(Reason::TooLong));
+    assert!(rt; heard.frame().bytes().starts_with(&DIRECT[..16]));
+    assert!(rt; heard.frame().info() == [b'A'; 256].as_slice());
+    Ok(())
+}
+
+#[test]
+fn sizes_of_pieces(rt: HostRuntime) -> Result<(), Fail> {
+    let most = [b'A'; 1024];
+    for (size, reason) in [(1023, Reason::Address), (1024, Reason::TooLong)] {
+        let sent = kiss(&rt, 0, &most[..size])?;
+        assert!(rt; told(rt.alloc(), sent.as_slice())? == Line::Passed(reason));
+    }
     Ok(())
 }

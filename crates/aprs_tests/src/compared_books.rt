@@ -1,0 +1,319 @@
+//! The book beside a plain one, which keeps its rows in one vector: after each step both have the
+//! same rows, and the same is last known to both.
+
+use crate::last_known::{callsign, frame_of};
+use crate::plain_book::{Plain, PlainBook, PlainRow};
+use crate::vectors::{NOON, REPEATED, receiver};
+use aprs_ax25::Frame;
+use aprs_book::{Book, Heard, Row};
+use aprs_log::{Moment, Receiver, Reception};
+use std::alloc::Global;
+use std::test::Fail;
+
+/// The keys of the table's frames, by their place among keys.
+const KEYS: [u8; 6] = [2, 0, 1, 2, 3, 4];
+
+/// The keys from N0CALL-7: a position, an object and a status.
+const SEVEN: &[u8] = &[0, 1, 2];
+
+/// The keys from N0CALL-8: an item and an object.
+const EIGHT: &[u8] = &[3, 4];
+
+/// Six frames, ascending: of a status the repeated one and the direct one, a position, two of an
+/// object, and one of an item.
+fn table(alloc: Global) -> Result<Vec<Frame>, Fail> {
+    let mut frames = Vec::new(alloc);
+    frames.push(Frame::read(&REPEATED).ok().ok_or("frame")?)?;
+    for (source, info) in [
+        (b"N0CALL-7", b"!4903.50N/07201.75W-".as_slice()),
+        (b"N0CALL-7", b";LEADER   *092345z4903.50N/07201.75W>"),
+        (b"N0CALL-7", b">Hi"),
+        (b"N0CALL-8", b")LEADER!4903.50N/07201.75W>"),
+        (b"N0CALL-8", b";LEADER   _092345z4903.50N/07201.75W>"),
+    ] {
+        frames.push(frame_of(source, info)?)?;
+    }
+    Ok(frames)
+}
+
+/// The receiver of a bit.
+fn name_of(bit: u8) -> &'static [u8] {
+    match bit {
+        1 => b"RX1",
+        2 => b"RX2",
+        _ => b"RX3",
+    }
+}
+
+/// The bit of a receiver.
+fn bit_of(name: &Receiver) -> u8 {
+    match name.as_bytes() {
+        b"RX1" => 1,
+        b"RX2" => 2,
+        _ => 4,
+    }
+}
+
+/// The reception of these numbers.
+fn reception(frames: &[Frame], x: Plain) -> Result<Reception, Fail> {
+    Ok(Reception::new(
+        Moment::new(NOON.saturating_add(x.second)).ok_or("moment")?,
+        receiver(name_of(x.receiver))?,
+        frames.get(x.frame as usize).ok_or("a frame")?.copy(),
+    ))
+}
+
+/// The numbers of a reception.
+fn plain(frames: &[Frame], moment: Moment, name: &Receiver, frame: &Frame) -> Option<Plain> {
+    Some(Plain {
+        second: moment.seconds().checked_sub(NOON)?,
+        receiver: bit_of(name),
+        frame: u8::try_from(frames.iter().position(|known| known == frame)?).ok()?,
+    })
+}
+
+/// The numbers of a row.
+fn plain_row(frames: &[Frame], row: &Row<'_>) -> Option<PlainRow> {
+    let greatest = plain(frames, row.last, row.receiver, row.frame)?;
+    let mut receivers = 0;
+    for name in row.receivers {
+        receivers |= bit_of(name);
+    }
+    Some(PlainRow {
+        key: *KEYS.get(greatest.frame as usize)?,
+        first: row.first.seconds().checked_sub(NOON)?,
+        greatest,
+        receivers,
+    })
+}
+
+/// Whether the rows of both are the same.
+fn same_rows(frames: &[Frame], book: &Book, plain: &PlainBook) -> bool {
+    book.len() == plain.rows.len()
+        && book
+            .rows()
+            .zip(plain.rows.iter())
+            .all(|(row, want)| plain_row(frames, &row) == Some(*want))
+}
+
+/// Whether what is told is the greatest reception of these keys.
+fn tells(frames: &[Frame], told: Option<Heard<'_>>, plain_book: &PlainBook, keys: &[u8]) -> bool {
+    let told = told.and_then(|x| plain(frames, x.moment, x.receiver, x.frame));
+    told == plain_book.greatest(keys)
+}
+
+/// Whether the same is last known to both.
+fn same_known(frames: &[Frame], book: &Book, plain: &PlainBook) -> Result<bool, Fail> {
+    let seven = callsign(b"N0CALL-7")?;
+    let eight = callsign(b"N0CALL-8")?;
+    Ok(
+        tells(frames, book.position(&seven), plain, &[0])
+            && tells(frames, book.status(&seven), plain, &[2])
+            && tells(frames, book.position(&eight), plain, &[])
+            && tells(frames, book.object(b"LEADER"), plain, &[1, 4])
+            && tells(frames, book.item(b"LEADER  "), plain, &[3]),
+    )
+}
+
+/// Whether both list the same stations with as many transmissions.
+fn same_stations(book: &Book, plain: &PlainBook) -> Result<bool, Fail> {
+    let stations = book.stations().ok().ok_or("memory")?;
+    let mut listed = stations.iter().map(|station| station.transmissions);
+    for keys in [SEVEN, EIGHT] {
+        let count = plain.transmissions(keys);
+        if count > 0 && listed.next() != Some(count) {
+            return Ok(false);
+        }
+    }
+    Ok(listed.next().is_none())
+}
+
+/// A book and the plain one.
+#[derive(Drop)]
+struct Both {
+    book: Book,
+    plain: PlainBook,
+}
+
+impl Both {
+    fn new(alloc: Global) -> Both {
+        Both {
+            book: Book::new(alloc),
+            plain: PlainBook::new(alloc),
+        }
+    }
+
+    /// Takes a reception into both.
+    fn take(&mut self, alloc: Global, frames: &[Frame], x: Plain) -> Result<(), Fail> {
+        let key = *KEYS.get(x.frame as usize).ok_or("a key")?;
+        self.book.take(&reception(frames, x)?).ok().ok_or("memory")?;
+        self.plain.add(alloc, PlainRow::single(key, x))
+    }
+
+    /// Merges others into these.
+    fn merge(&mut self, alloc: Global, other: &Both) -> Result<(), Fail> {
+        self.book = self.book.merge(&other.book).ok().ok_or("memory")?;
+        self.plain.merge(alloc, &other.plain)
+    }
+
+    /// Whether both tell the same.
+    fn agree(&self, frames: &[Frame]) -> Result<bool, Fail> {
+        Ok(
+            same_rows(frames, &self.book, &self.plain)
+                && same_known(frames, &self.book, &self.plain)?
+                && same_stations(&self.book, &self.plain)?,
+        )
+    }
+}
+
+/// Five receptions of one key, the last by another receiver over a digipeater.
+const FIVE: [Plain; 5] = [
+    Plain {
+        second: 0,
+        receiver: 1,
+        frame: 3,
+    },
+    Plain {
+        second: 61,
+        receiver: 1,
+        frame: 3,
+    },
+    Plain {
+        second: 31,
+        receiver: 1,
+        frame: 3,
+    },
+    Plain {
+        second: 30,
+        receiver: 1,
+        frame: 3,
+    },
+    Plain {
+        second: 50,
+        receiver: 2,
+        frame: 0,
+    },
+];
+
+/// Takes the five in the order of this number, below 120, into both.
+fn agrees_in_order(alloc: Global, frames: &[Frame], order: usize) -> Result<bool, Fail> {
+    let mut left = Vec::new(alloc);
+    left.extend_from_slice(&FIVE)?;
+    let mut both = Both::new(alloc);
+    let mut rest = order;
+    for size in [5usize, 4, 3, 2, 1] {
+        let place = rest % size;
+        rest /= size;
+        if place >= left.len() {
+            return Ok(false);
+        }
+        both.take(alloc, frames, left.remove(place))?;
+        if !both.agree(frames)? {
+            return Ok(false);
+        }
+    }
+    Ok(true)
+}
+
+#[test]
+fn five_receptions_in_each_order(rt: HostRuntime) -> Result<(), Fail> {
+    let alloc = rt.alloc();
+    let frames = table(alloc)?;
+    for order in 0..120usize {
+        assert!(rt;
+            agrees_in_order(alloc, frames.as_slice(), order)?,
+            "{order}"
+        );
+    }
+    Ok(())
+}
+
+/// Numbers that look like chance, the same in each run.
+#[derive(Clone, Copy)]
+struct Numbers {
+    state: u64,
+}
+
+impl Numbers {
+    /// The next one, below `end`, or 0.
+    fn below(&mut self, end: u64) -> u64 {
+        self.state = self
+            .state
+            .wrapping_mul(6_364_136_223_846_793_005)
+            .wrapping_add(1_442_695_040_888_963_407);
+        (self.state >> 33).checked_rem(end).unwrap_or(0)
+    }
+
+    /// A reception of the table within some minutes.
+    fn reception(&mut self) -> Plain {
+        Plain {
+            second: self.below(400),
+            receiver: match self.below(3) {
+                0 => 1,
+                1 => 2,
+                _ => 4,
+            },
+            frame: u8::try_from(self.below(6)).unwrap_or(0),
+        }
+    }
+}
+
+/// Takes and merges in the order of this number, and looks at both books after each step.
+fn agrees_in_steps(alloc: Global, frames: &[Frame], number: u64) -> Result<bool, Fail> {
+    let mut numbers = Numbers { state: number };
+    let mut ours = Both::new(alloc);
+    let mut theirs = Both::new(alloc);
+    for _ in 0..24u64 {
+        match numbers.below(8) {
+            0 => ours.merge(alloc, &theirs)?,
+            1 => theirs.merge(alloc, &ours)?,
+            2..5 => theirs.take(alloc, frames, numbers.reception())?,
+            _ => ours.take(alloc, frames, numbers.reception())?,
+        }
+        if !ours.agree(frames)? || !theirs.agree(frames)? {
+            return Ok(false);
+        }
+    }
+    Ok(true)
+}
+
+#[test]
+fn a_hundred_sequences_of_steps(rt: HostRuntime) -> Result<(), Fail> {
+    let alloc = rt.alloc();
+    let frames = table(alloc)?;
+    for number in 0..100u64 {
+        assert!(rt;
+            agrees_in_steps(alloc, frames.as_slice(), number)?,
+            "{number}"
+        );
+    }
+    Ok(())
+}
+
+/// Takes a thousand rows of one key, this many places apart.
+fn agrees_in_a_thousand(alloc: Global, frames: &[Frame], stride: u64) -> Result<bool, Fail> {
+    let mut both = Both::new(alloc);
+    for i in 0..1000u64 {
+        let x = Plain {
+            second: i.wrapping_mul(stride) % 1000 * 31,
+            receiver: 1,
+            frame: 3,
+        };
+        both.take(alloc, frames, x)?;
+    }
+    Ok(both.agree(frames)? && both.plain.rows.len() == 1000)
+}
+
+// In order, against it, and scattered.
+#[test]
+fn a_thousand_rows_of_one_key(rt: HostRuntime) -> Result<(), Fail> {
+    let alloc = rt.alloc();
+    let frames = table(alloc)?;
+    for stride in [1u64, 999, 387] {
+        assert!(rt;
+            agrees_in_a_thousand(alloc, frames.as_slice(), stride)?,
+            "{stride}"
+        );
+    }
+    Ok(())
+}

@@ -1,0 +1,83 @@
+//! Merges and listings of several inputs, over devices that fail at each byte.
+
+use crate::devices::{Failing, Tight};
+use crate::vectors::{
+    DIRECT_TEXT, FIRST_LINE, LOG, MERGED_TEXT, ONE_LINE, THREE_LINES, line_after,
+};
+use aprs_booktext::BookCause;
+use aprs_kiss::Counted;
+use aprs_log::{LogCause, MAX_INPUT};
+use aprs_tool::{InputFault, RunFault, merge_run, show_run, status_of};
+
+/// A reader that gives all its bytes, or so many of them before it fails.
+fn reader(bytes: &[u8], good: usize) -> Counted<Failing<'_>> {
+    Counted::new(Failing {
+        bytes,
+        most: 7,
+        good,
+    })
+}
+
+#[test]
+fn a_merge_is_written_up_to_a_refused_byte(rt: HostRuntime) {
+    let alloc = rt.alloc();
+    for room in 0..MERGED_TEXT.len() {
+        let mut inputs = [Counted::new(THREE_LINES), Counted::new(MERGED_TEXT)];
+        let mut w = Counted::new(Tight {
+            bytes: Vec::new(alloc),
+            room,
+        });
+        let run = merge_run(alloc, MAX_INPUT, inputs.as_mut_slice(), &mut w);
+        assert!(rt; matches!(&run, Err(RunFault::Write)));
+        assert_eq!(rt; w.failures(), 1);
+        assert_eq!(rt; w.into_inner().bytes.as_slice(), &MERGED_TEXT[..room]);
+    }
+}
+
+/// The line of a failed read of the second input.
+fn line_of(run: &Result<(), RunFault>) -> Option<u64> {
+    match run {
+        Err(RunFault::Input { index: 1, fault }) => match fault {
+            InputFault::Log(fault) => (fault.cause == LogCause::Read).then_some(fault.line),
+            InputFault::Book(fault) => (fault.cause == BookCause::Read).then_some(fault.line),
+            InputFault::Memory => None,
+        },
+        _ => None,
+    }
+}
+
+// Nothing is written, and the third isn't read.
+#[test]
+fn the_second_of_three_inputs_fails_at_each_byte(rt: HostRuntime) {
+    let alloc = rt.alloc();
+    for second in [LOG, DIRECT_TEXT] {
+        for good in 0..=second.len() {
+            for is_listing in [false, true] {
+                let mut inputs = [
+                    reader(ONE_LINE, usize::MAX),
+                    reader(second, good),
+                    reader(MERGED_TEXT, usize::MAX),
+                ];
+                let mut w = Counted::new(Vec::new(alloc));
+                let run = if is_listing {
+                    show_run(alloc, MAX_INPUT, inputs.as_mut_slice(), &mut w)
+                } else {
+                    merge_run(alloc, MAX_INPUT, inputs.as_mut_slice(), &mut w)
+                };
+                assert!(rt; line_of(&run) == Some(line_after(second, good)), "{good}");
+                assert!(rt; w.into_inner().is_empty());
+                assert_eq!(rt; inputs[1].failures(), 1);
+            }
+        }
+    }
+}
+
+#[test]
+fn a_fault_of_an_input_has_status_1(rt: HostRuntime) {
+    let mut inputs = [Counted::new(ONE_LINE), Counted::new(FIRST_LINE)];
+    let mut w = Counted::new(Vec::new(rt.alloc()));
+    match merge_run(rt.alloc(), MAX_INPUT, inputs.as_mut_slice(), &mut w) {
+        Err(fault) => assert_eq!(rt; status_of(&fault), 1),
+        Ok(()) => assert!(rt; false),
+    }
+}

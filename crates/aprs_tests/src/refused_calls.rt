@@ -1,0 +1,187 @@
+//! Memory that is refused in the midst of each call that joins books or lists what is in them.
+
+use crate::last_known::sent;
+use crate::shown::shown;
+use crate::vectors::receiver;
+use aprs_book::{Book, Join, Receivers, Step, join_all, replay};
+use bumpalo::Bump;
+use std::alloc::Global;
+use std::test::Fail;
+
+/// What each station sent, and when.
+const SENT: [(u64, &[u8], &[u8]); 5] = [
+    (0, b"N0CALL-7", b"!4903.50N/07201.75W-"),
+    (10, b"N0CALL-7", b":WU2Z     :Testing{003"),
+    (20, b"WU2Z", b":N0CALL-7 :ack003"),
+    (30, b"N0CALL-8", b";LEADER   *092345z4903.50N/07201.75W>"),
+    (40, b"N0CALL-8", b")LEADER!4903.50N/07201.75W>"),
+];
+
+/// Two books of them, the second a minute later.
+fn two_books<'a>(bump: &'a Bump, alloc: Global) -> Result<Vec<Book<&'a Bump>>, Fail> {
+    let mut books = Vec::new(alloc);
+    for later in [0u64, 60] {
+        let mut book = Book::new(bump);
+        for (second, source, info) in SENT {
+            let x = sent(later.saturating_add(second), source, info)?;
+            book.take(&x).ok().ok_or("memory")?;
+        }
+        books.push(book)?;
+    }
+    Ok(books)
+}
+
+/// The same as steps of two books, which then merge.
+fn steps(alloc: Global) -> Result<Vec<Step>, Fail> {
+    let mut steps = Vec::new(alloc);
+    for (second, source, info) in SENT {
+        steps.push(Step::Take(0, sent(second, source, info)?))?;
+        steps.push(Step::Take(1, sent(second.saturating_add(60), source, info)?))?;
+    }
+    steps.push(Step::Merge(0, 1))?;
+    Ok(steps)
+}
+
+/// A call that takes memory, and how many rows or entries it gives of those books.
+#[derive(Clone, Copy)]
+enum Call {
+    Merge,
+    Join,
+    JoinAll,
+    Replay,
+    Stations,
+    Objects,
+    Messages,
+}
+
+const CALLS: [(Call, usize); 7] = [
+    (Call::Merge, 10),
+    (Call::Join, 10),
+    (Call::JoinAll, 10),
+    (Call::Replay, 10),
+    (Call::Stations, 3),
+    (Call::Objects, 2),
+    (Call::Messages, 1),
+];
+
+/// How many rows or entries the call gives, or nothing where memory was refused.
+fn called<'a>(
+    bump: &'a Bump,
+    call: Call,
+    books: &[Book<&'a Bump>],
+    steps: &[Step],
+) -> Option<usize> {
+    let [first, second] = books else {
+        return None;
+    };
+    match call {
+        Call::Merge => Some(first.merge(second).ok()?.len()),
+        Call::Join => Some(first.join(second).ok()?.len()),
+        Call::JoinAll => Some(join_all(first, books).ok()?.len()),
+        Call::Replay => Some(replayed(bump, steps)?),
+        Call::Stations => Some(first.stations().ok()?.len()),
+        Call::Objects => Some(first.objects().ok()?.len()),
+        Call::Messages => Some(first.messages().ok()?.len()),
+    }
+}
+
+/// The number of rows of the first book after the steps.
+fn replayed(bump: &Bump, steps: &[Step]) -> Option<usize> {
+    if !aprs_book::steps_fit(2, steps) {
+        return None;
+    }
+    let books = replay(bump, 2, steps).ok()?;
+    Some(books.first()?.len())
+}
+
+/// Takes all room but for so many units of 128 bytes, and refuses any growth beyond.
+fn squeeze(bump: &Bump, units: usize) -> Result<Vec<u8, &Bump>, Fail> {
+    bump.set_allocation_limit(Some(0));
+    let mut fill = Vec::new(bump);
+    let room = units.saturating_mul(128);
+    fill.reserve(bump.chunk_capacity().saturating_sub(room))?;
+    Ok(fill)
+}
+
+/// Whether the call was refused with so many units of room. Then the books are as before, and with
+/// room again the call gives what it has to.
+fn is_refused(alloc: Global, call: Call, want: usize, units: usize) -> Result<bool, Fail> {
+    let bump = Bump::try_with_capacity(alloc, 524_288)?;
+    let books = two_books(&bump, alloc)?;
+    let steps = steps(alloc)?;
+    let _fill = squeeze(&bump, units)?;
+    let answer = called(&bump, call, books.as_slice(), steps.as_slice());
+    if answer == Some(want) {
+        return Ok(false);
+    }
+    bump.set_allocation_limit(None);
+    let again = called(&bump, call, books.as_slice(), steps.as_slice());
+    if answer.is_some() || again != Some(want) {
+        return Err("another answer".into());
+    }
+    let first = books.first().ok_or("a book")?;
+    match shown(alloc, first)?.as_str() {
+        ROWS => Ok(true),
+        _ => Err("other rows".into()),
+    }
+}
+
+/// The rows of the first book.
+const ROWS: &str =
+    "0-0 RX1 / RX1 6f; 10-10 RX1 / RX1 6f; 40-40 RX1 / RX1 71; 30-30 RX1 / RX1 71; 20-20 RX1 / RX1 61; ";
+
+// Room for more and more units, until nothing is refused.
+#[test]
+fn refused_calls_change_nothing(rt: HostRuntime) -> Result<(), Fail> {
+    for (call, want) in CALLS {
+        let mut granted = None;
+        for units in 0..2048usize {
+            if !is_refused(rt.alloc(), call, want, units)? {
+                granted = Some(units);
+                break;
+            }
+        }
+        assert!(rt; granted > Some(0));
+    }
+    Ok(())
+}
+
+/// Adds names to receivers that have room for so many units, and tells whether one was refused.
+fn is_name_refused(alloc: Global, units: usize) -> Result<bool, Fail> {
+    let bump = Bump::try_with_capacity(alloc, 65_536)?;
+    let _fill = squeeze(&bump, units)?;
+    let mut names = Receivers::new(&bump);
+    let mut is_refused = false;
+    for (i, name) in [b"RX2", b"RX1", b"RX3", b"RX1"].iter().enumerate() {
+        let name = receiver(*name)?;
+        let before = names.as_slice().len();
+        if names.add(&name).is_err() {
+            is_refused = true;
+            assert_same(names.as_slice().len(), before)?;
+            bump.set_allocation_limit(None);
+            names.add(&name).ok().ok_or("memory")?;
+        }
+        assert_same(names.as_slice().len(), (i + 1).min(3))?;
+    }
+    Ok(is_refused)
+}
+
+fn assert_same(have: usize, want: usize) -> Result<(), Fail> {
+    if have == want {
+        Ok(())
+    } else {
+        Err("another number".into())
+    }
+}
+
+#[test]
+fn refused_names_are_not_added(rt: HostRuntime) -> Result<(), Fail> {
+    let mut refused = 0u64;
+    for units in 0..64usize {
+        if is_name_refused(rt.alloc(), units)? {
+            refused = refused.saturating_add(1);
+        }
+    }
+    assert!(rt; refused > 0 && refused < 64);
+    Ok(())
+}
