@@ -3,15 +3,21 @@ PREFIX ?= /usr/local
 PROGRAM = crates/aprsbook/out/aprsbook
 SHARE = $(DESTDIR)$(PREFIX)/share
 
-.PHONY: build run test words recipes cookbook bench hostile install
+.PHONY: build run try test words recipes cookbook bench hostile install
 
-# the program alone, each call of it proved
+# the program alone, each call of it proved: first the crates that don't stand on each other, side by
+# side, then those above them
 build:
+	@for crate in aprs_ax25 aprs_report aprs_kiss; do (cd crates/$$crate && rt lib) & done; wait
 	cd crates/aprsbook && rt run -- check ../../examples/sample.log > /dev/null
 
 # the sample log as a monitor prints it
 run: build
 	$(PROGRAM) convert text examples/sample.log
+
+# the same without any proof
+try:
+	cd crates/aprsbook && rt try < ../../examples/sample.log
 
 # the whole gate: every proof, edit that must fail, test and stored run
 test: words recipes
