@@ -65,6 +65,108 @@ fn each_fault_of_a_line(rt: HostRuntime) -> Result<(), Fail> {
     Ok(())
 }
 
+/// A row of RX1 alone.
+const ROW: &[u8] =
+    b"T 2024-05-01T12:00:00Z 2024-05-01T12:00:00Z RX1 RX1 82a0a4a64040e09c60868298986f03f03e4869";
+
+// What begins with END is a last line, if a wrong one; whatever else differs is no row.
+#[test]
+fn last_lines_have_one_spelling(rt: HostRuntime) -> Result<(), Fail> {
+    let alloc = rt.alloc();
+    for (last, fault) in [
+        (b"END 1\n".as_slice(), None),
+        (b"END +1\n".as_slice(), Some((3, "Ending"))),
+        (b"END 01\n".as_slice(), Some((3, "Ending"))),
+        (b"END 2\n".as_slice(), Some((3, "Ending"))),
+        (b"END 1 \n".as_slice(), Some((3, "Ending"))),
+        (b"END 1\r\n".as_slice(), Some((3, "Ending"))),
+        (b"END \r1\n".as_slice(), Some((3, "Ending"))),
+        (b"END\r1\n".as_slice(), Some((3, "Ending"))),
+        (b"END\n".as_slice(), Some((3, "Ending"))),
+        (b"EN\rD 1\n".as_slice(), Some((3, "RowSyntax"))),
+        (b"\rEND 1\n".as_slice(), Some((3, "RowSyntax"))),
+        (b"end 1\n".as_slice(), Some((3, "RowSyntax"))),
+        (b"END 1\n\n".as_slice(), Some((4, "After"))),
+    ] {
+        let text = text_of(alloc, &[ROW], last)?;
+        assert!(rt; fault_of(alloc, text.as_slice()) == fault);
+    }
+    Ok(())
+}
+
+// Lower case and upper case don't stand for each other, and names ascend, each once.
+#[test]
+fn fields_have_one_spelling(rt: HostRuntime) -> Result<(), Fail> {
+    let alloc = rt.alloc();
+    for (line, cause) in [
+        (
+            b"t 2024-05-01T12:00:00Z 2024-05-01T12:00:00Z RX1 RX1 82a0a4a64040e09c60868298986f03f03e4869".as_slice(),
+            "RowSyntax",
+        ),
+        (
+            b"T 2024-05-01t12:00:00Z 2024-05-01T12:00:00Z RX1 RX1 82a0a4a64040e09c60868298986f03f03e4869".as_slice(),
+            "RowSyntax",
+        ),
+        (
+            b"T 2024-05-01T12:00:00Z 2024-05-01T12:00:00z RX1 RX1 82a0a4a64040e09c60868298986f03f03e4869".as_slice(),
+            "RowSyntax",
+        ),
+        (
+            b"T 2024-05-01T12:00:00Z 2024-05-01T12:00:00Z rx1 RX1 82a0a4a64040e09c60868298986f03f03e4869".as_slice(),
+            "Receivers",
+        ),
+        (
+            b"T 2024-05-01T12:00:00Z 2024-05-01T12:00:00Z RX1,RX1 RX1 82a0a4a64040e09c60868298986f03f03e4869".as_slice(),
+            "Receivers",
+        ),
+        (
+            b"T 2024-05-01T12:00:00Z 2024-05-01T12:00:00Z RX1 RX1 82A0A4A64040E09C60868298986F03F03E4869".as_slice(),
+            "RowSyntax",
+        ),
+        (
+            b"T 2024-05-01T12:00:00Z 2024-05-01T12:00:00Z RX1 RX1 82a0a4a64040e09c60868298986f03f03e4869 ".as_slice(),
+            "RowSyntax",
+        ),
+    ] {
+        let text = text_of(alloc, &[line], b"END 1\n")?;
+        assert!(rt; fault_of(alloc, text.as_slice()) == Some((2, cause)));
+    }
+    Ok(())
+}
+
+/// Rows of three keys, by the SSID of the source, each two 30 seconds apart.
+const NEAR_PAIRS: [&[u8]; 6] = [
+    b"T 2024-05-01T12:00:00Z 2024-05-01T12:00:00Z RX1 RX1 82a0a4a64040e09c60868298986103f03e4869",
+    b"T 2024-05-01T12:00:30Z 2024-05-01T12:00:30Z RX1 RX1 82a0a4a64040e09c60868298986103f03e4869",
+    b"T 2024-05-01T12:00:00Z 2024-05-01T12:00:00Z RX1 RX1 82a0a4a64040e09c60868298986303f03e4869",
+    b"T 2024-05-01T12:00:30Z 2024-05-01T12:00:30Z RX1 RX1 82a0a4a64040e09c60868298986303f03e4869",
+    b"T 2024-05-01T12:00:00Z 2024-05-01T12:00:00Z RX1 RX1 82a0a4a64040e09c60868298986f03f03e4869",
+    b"T 2024-05-01T12:00:30Z 2024-05-01T12:00:30Z RX1 RX1 82a0a4a64040e09c60868298986f03f03e4869",
+];
+
+// The first of each two alone are a book; with a second one, the line of that is at fault.
+#[test]
+fn rows_of_three_keys_are_near_in_pairs(rt: HostRuntime) -> Result<(), Fail> {
+    let alloc = rt.alloc();
+    let [a, near_a, b, near_b, c, near_c] = NEAR_PAIRS;
+    for (rows, fault) in [
+        ([a, b, c].as_slice(), None),
+        ([a, near_a, b, c].as_slice(), Some((3, "Near"))),
+        ([a, b, near_b, c].as_slice(), Some((4, "Near"))),
+        ([a, b, c, near_c].as_slice(), Some((5, "Near"))),
+        (NEAR_PAIRS.as_slice(), Some((3, "Near"))),
+    ] {
+        let last: &[u8] = if rows.len() == 3 {
+            b"END 3\n"
+        } else {
+            b"END 4\n"
+        };
+        let text = text_of(alloc, rows, last)?;
+        assert!(rt; fault_of(alloc, text.as_slice()) == fault);
+    }
+    Ok(())
+}
+
 #[test]
 fn a_second_row(rt: HostRuntime) -> Result<(), Fail> {
     let alloc = rt.alloc();

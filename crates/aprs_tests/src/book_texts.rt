@@ -82,6 +82,24 @@ fn texts_are_read_back(rt: HostRuntime) -> Result<(), Fail> {
 }
 
 #[test]
+fn texts_are_read_byte_by_byte(rt: HostRuntime) -> Result<(), Fail> {
+    let alloc = rt.alloc();
+    for text in [EMPTY_TEXT, DIRECT_TEXT, MERGED_TEXT] {
+        let mut source = Counted::new(Failing {
+            bytes: text,
+            most: 1,
+            good: usize::MAX,
+        });
+        let read = read_book(alloc, MAX_INPUT, b"", &mut source);
+        let mut out = Counted::new(Vec::new(alloc));
+        assert!(rt; write_book(&mut out, &read.ok().ok_or("a book")?) == Ok(()));
+        assert_eq!(rt; out.into_inner().as_slice(), text);
+        assert_eq!(rt; source.failures(), 0);
+    }
+    Ok(())
+}
+
+#[test]
 fn a_reader_fails_at_each_byte(rt: HostRuntime) {
     for good in 0..=MERGED_TEXT.len() {
         let mut source = Counted::new(Failing {

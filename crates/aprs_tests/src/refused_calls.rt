@@ -185,3 +185,28 @@ fn refused_names_are_not_added(rt: HostRuntime) -> Result<(), Fail> {
     assert!(rt; refused > 0 && refused < 64);
     Ok(())
 }
+
+/// Receivers of these names.
+fn receivers<'a>(bump: &'a Bump, names: &[&[u8]]) -> Result<Receivers<&'a Bump>, Fail> {
+    let mut receivers = Receivers::new(bump);
+    for name in names {
+        receivers.add(&receiver(name)?).ok().ok_or("memory")?;
+    }
+    Ok(receivers)
+}
+
+// With room again the join gives each name once.
+#[test]
+fn refused_names_are_not_joined(rt: HostRuntime) -> Result<(), Fail> {
+    let bump = Bump::try_with_capacity(rt.alloc(), 4096)?;
+    let ours = receivers(&bump, &[b"RX1", b"RX2"])?;
+    let theirs = receivers(&bump, &[b"RX2", b"RX3"])?;
+    let _fill = squeeze(&bump, 0)?;
+    assert!(rt; ours.join(&theirs).is_err());
+    assert_eq!(rt; ours.as_slice().len(), 2);
+    assert_eq!(rt; theirs.as_slice().len(), 2);
+    bump.set_allocation_limit(None);
+    let joined = ours.join(&theirs).ok().ok_or("memory")?;
+    assert_eq!(rt; joined.as_slice().len(), 3);
+    Ok(())
+}
