@@ -3,7 +3,7 @@
 # many transmissions of one key cost, in their order and against it.
 # usage: bench/growth.sh PROGRAM
 # environment: RUNS            of how many runs the best counts (5)
-#              GROWTH_LINES    the sizes: lines of three logs in all ("1500 3000 6000")
+#              GROWTH_LINES    the sizes: lines of three logs in all ("10000 100000 1000000")
 #              ONE_KEY_ROWS    transmissions of one key (2000)
 set -euo pipefail
 export LC_ALL=C
@@ -18,7 +18,7 @@ tell_load 'before'
 echo
 printf '%-26s %9s %14s %16s\n' 'merge of three logs' seconds 'us a line' 'to the first'
 first=
-for lines in ${GROWTH_LINES:-1500 3000 6000}; do
+for lines in ${GROWTH_LINES:-10000 100000 1000000}; do
     mkdir "$lines"
     python3 "$here/make_log.py" "$lines" "$lines"
     take_least "$program" merge "$lines/a.log" "$lines/b.log" "$lines/c.log"
@@ -29,7 +29,7 @@ done
 echo
 printf '%-26s %9s %14s %16s\n' 'merge of two books' seconds 'ns a byte' 'to the first'
 first=
-for lines in ${GROWTH_LINES:-1500 3000 6000}; do
+for lines in ${GROWTH_LINES:-10000 100000 1000000}; do
     for log in a b; do "$program" merge "$lines/$log.log" > "$lines/$log.book"; done
     bytes=$(cat "$lines/a.book" "$lines/b.book" | wc -c)
     take_least "$program" merge "$lines/a.book" "$lines/b.book"

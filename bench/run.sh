@@ -3,7 +3,7 @@
 # the log and `xxd -r -p` of its hexadecimal column, then the ratios that are wanted (compare.sh).
 # usage: bench/run.sh PROGRAM [LINES]    a million lines where none are asked for
 # environment: RUNS                      of how many runs the best counts (5)
-#              MERGE_RECEPTIONS          lines of the three logs of a merge, in all (6000)
+#              MERGE_RECEPTIONS          lines of the three logs of a merge, in all (200000)
 set -euo pipefail
 export LC_ALL=C
 program=$(realpath "$1")
@@ -19,7 +19,7 @@ for source in "$here"/plain/*.c; do
 done
 cd "$work"
 python3 "$here/make_log.py" "$lines" > heard.log
-python3 "$here/make_log.py" "${MERGE_RECEPTIONS:-6000}" three
+python3 "$here/make_log.py" "${MERGE_RECEPTIONS:-200000}" three
 cut -d ' ' -f 3 heard.log > hexadecimal
 xxd -r -p hexadecimal > heard.kiss
 
