@@ -13,7 +13,7 @@ START = datetime(1970, 1, 1)
 
 
 def moment(seconds):
-    return (START + timedelta(seconds=seconds)).strftime("%Y-%m-%dT%H:%M:%SZ")
+    return (START + timedelta(seconds=seconds)).strftime("%Y-%m-%dT%H:%M:%S.000Z")
 
 
 def rows(number):
@@ -31,7 +31,7 @@ def receivers(number):
 def main():
     kind, number = sys.argv[1], int(sys.argv[2])
     out = sys.stdout
-    out.write("APRSBOOK 1\n")
+    out.write("APRSBOOK 3 30\n")
     if kind == "line":
         while number > 0:
             size = min(number, 1 << 20)

@@ -106,6 +106,7 @@ list commands > "$scratch/bash/commands"
 list forms > "$scratch/bash/forms"
 {
     list options
+    list gap_option
     grep -o -e '--help' -e '--version' $file
 } > "$scratch/bash/long_options"
 

@@ -42,12 +42,14 @@ static void capture_stream(void) {
 }
 
 int main(int count, char **words) {
+    char heard[MOMENT_LENGTH + 1] = "";
     if (count != 3 || !is_name((byte *)words[1], strlen(words[1])) ||
         moment((byte *)words[2], strlen(words[2])) < 0) {
         fprintf(stderr, "usage: capture NAME MOMENT < STREAM\n");
         return 2;
     }
-    snprintf(head, sizeof head, "%s %s ", words[2], words[1]);
+    write_moment(heard, words[2], strlen(words[2]));
+    snprintf(head, sizeof head, "%s %s ", heard, words[1]);
     capture_stream();
     flush_output();
 }

@@ -8,7 +8,9 @@ static int take_line(const byte *at, const byte *end) {
     size_t length = only_piece(line.bytes, line.count, piece);
     if (!length || !sound_field(piece + 1, length - 1)) return 1;
     make_room();
-    put_bytes(at, (size_t)(line.digits - at));
+    write_moment(output + filled, at, line.moment_length);
+    filled += MOMENT_LENGTH;
+    put_bytes(at + line.moment_length, (size_t)(line.digits - at) - line.moment_length);
     put_frame_column(piece + 1, length - 1);
     return 1;
 }

@@ -2,13 +2,14 @@
    It reads no book files. */
 #include "plain.h"
 
-enum { GAP = 30, BLOCK = 1 << 24 };
+/* The gap is in milliseconds. */
+enum { GAP = 30000, BLOCK = 1 << 24 };
 
 /* The key is the bytes of source, destination (six characters and the SSID each) and information. */
 struct reception {
     const byte *key, *frame;
     unsigned key_length, frame_length;
-    long long seconds;
+    long long millis;
     char moment[MOMENT_LENGTH], name[LONGEST_NAME + 1];
 };
 
@@ -43,7 +44,7 @@ static int by_key(const struct reception *a, const struct reception *b) {
 static int by_key_then_reception(const void *first, const void *second) {
     const struct reception *a = first, *b = second;
     int order = by_key(a, b);
-    if (!order) order = (a->seconds > b->seconds) - (a->seconds < b->seconds);
+    if (!order) order = (a->millis > b->millis) - (a->millis < b->millis);
     if (!order) order = strcmp(a->name, b->name);
     return order ? order : by_bytes(a->frame, a->frame_length, b->frame, b->frame_length);
 }
@@ -73,8 +74,8 @@ static void keep(const struct line *line, const byte *at, const byte *frame, uns
     memcpy(bytes, frame + field + 2, information);
     kept->frame = memcpy(bytes + information, frame, length);
     kept->frame_length = length;
-    kept->seconds = line->seconds;
-    memcpy(kept->moment, at, MOMENT_LENGTH);
+    kept->millis = line->millis;
+    write_moment(kept->moment, at, line->moment_length);
     size_t name_length = (size_t)(line->digits - 1 - line->name);
     memcpy(kept->name, line->name, name_length);
     kept->name[name_length] = 0;
@@ -101,7 +102,7 @@ static void print_row(const struct reception *first, const struct reception *end
         if (i == named) names[named++] = r->name;
     }
     qsort(names, named, sizeof *names, by_name);
-    printf("T %.20s %.20s ", first->moment, greatest->moment);
+    printf("T %.24s %.24s ", first->moment, greatest->moment);
     for (size_t i = 0; i < named; i++) printf("%s%s", i ? "," : "", names[i]);
     printf(" %s ", greatest->name);
     for (unsigned i = 0; i < greatest->frame_length; i++) {
@@ -115,10 +116,10 @@ static void print_book(void) {
     const char **names = sure(malloc((count + 1) * sizeof *names));
     const struct reception *end = receptions + count;
     size_t rows = 0;
-    puts("APRSBOOK 1");
+    puts("APRSBOOK 3 30");
     for (const struct reception *first = receptions, *next; first < end; first = next) {
         next = first + 1;
-        while (next < end && !by_key(next, first) && next->seconds - next[-1].seconds <= GAP)
+        while (next < end && !by_key(next, first) && next->millis - next[-1].millis <= GAP)
             next++;
         print_row(first, next, names);
         rows++;

@@ -10,7 +10,9 @@
 typedef unsigned char byte;
 
 enum { FEND = 0xc0, FESC = 0xdb, TFEND = 0xdc, TFESC = 0xdd };
-enum { LONGEST_LINE = 8192, LONGEST_PIECE = 1024, LONGEST_NAME = 16, MOMENT_LENGTH = 20 };
+enum { LONGEST_LINE = 8192, LONGEST_PIECE = 1024, LONGEST_NAME = 16 };
+/* A moment's text: up to its seconds, as logs may have it, and as it is written. */
+enum { TO_SECONDS = 19, SHORT_MOMENT = 20, MOMENT_LENGTH = 24 };
 enum { SHORTEST_FIELD = 14, LONGEST_FIELD = 70, LONGEST_INFORMATION = 256 };
 enum { INPUT_ROOM = 1 << 16, OUTPUT_ROOM = 1 << 17, MOST_OUTPUT_OF_A_LINE = 1 << 12 };
 
@@ -106,24 +108,34 @@ static inline int decimal(const byte *text, int count) {
     return number;
 }
 
-/* The seconds since 1970-01-01T00:00:00Z of a moment's text, or -1. */
+/* The milliseconds since 1970-01-01T00:00:00Z of a moment's text, or -1. */
 static inline long long moment(const byte *text, size_t length) {
     static const int days_of[] = {31, 28, 31, 30, 31, 30, 31, 31, 30, 31, 30, 31};
     static const int days_before[] = {0, 31, 59, 90, 120, 151, 181, 212, 243, 273, 304, 334};
-    if (length != MOMENT_LENGTH || text[4] != '-' || text[7] != '-' || text[10] != 'T' ||
-        text[13] != ':' || text[16] != ':' || text[19] != 'Z')
+    if ((length != SHORT_MOMENT && length != MOMENT_LENGTH) || text[4] != '-' || text[7] != '-' ||
+        text[10] != 'T' || text[13] != ':' || text[16] != ':' || text[length - 1] != 'Z' ||
+        (length == MOMENT_LENGTH && text[TO_SECONDS] != '.'))
         return -1;
     int year = decimal(text, 4), month = decimal(text + 5, 2), day = decimal(text + 8, 2);
     int hour = decimal(text + 11, 2), minute = decimal(text + 14, 2);
     int second = decimal(text + 17, 2);
+    int milli = length == MOMENT_LENGTH ? decimal(text + TO_SECONDS + 1, 3) : 0;
     int leap = year % 4 == 0;
     if (year < 1970 || year > 2099 || month < 1 || month > 12 || day < 1 || hour < 0 || hour > 23 ||
-        minute < 0 || minute > 59 || second < 0 || second > 59 ||
+        minute < 0 || minute > 59 || second < 0 || second > 59 || milli < 0 ||
         day > days_of[month - 1] + (month == 2 && leap))
         return -1;
     long long days = (year - 1970) * 365LL + (year - 1969) / 4 + days_before[month - 1] +
                      (month > 2 && leap) + day - 1;
-    return ((days * 24 + hour) * 60 + minute) * 60 + second;
+    return (((days * 24 + hour) * 60 + minute) * 60 + second) * 1000 + milli;
+}
+
+/* Copies a moment's text of that length, with `.000` where it has no milliseconds. */
+static inline void write_moment(void *to, const void *text, size_t length) {
+    memcpy(to, text, TO_SECONDS);
+    memcpy((byte *)to + TO_SECONDS,
+           length == MOMENT_LENGTH ? (const byte *)text + TO_SECONDS : (const byte *)".000Z",
+           MOMENT_LENGTH - TO_SECONDS);
 }
 
 static inline int is_name(const byte *text, size_t length) {
@@ -138,7 +150,8 @@ static inline int is_name(const byte *text, size_t length) {
 
 /* The parts of a log line: where the name and the digits begin, and the bytes that the digits stand for. */
 struct line {
-    long long seconds;
+    long long millis;
+    size_t moment_length;
     const byte *name, *digits;
     size_t count;
     byte bytes[LONGEST_LINE / 2];
@@ -160,7 +173,8 @@ static inline int undo_hex(struct line *line, const byte *at, const byte *end) {
 /* Cuts the line from `at` to `end`. Returns 0 where it is faulty. */
 static inline int cut_line(struct line *line, const byte *at, const byte *end) {
     const byte *space = memchr(at, ' ', (size_t)(end - at));
-    if (!space || (line->seconds = moment(at, (size_t)(space - at))) < 0) return 0;
+    if (!space || (line->millis = moment(at, (size_t)(space - at))) < 0) return 0;
+    line->moment_length = (size_t)(space - at);
     line->name = space + 1;
     space = memchr(line->name, ' ', (size_t)(end - line->name));
     if (!space || !is_name(line->name, (size_t)(space - line->name))) return 0;

@@ -1,9 +1,11 @@
 # atest -h FILE.wav | awk -v start=SECONDS -v name=NAME -f atest.awk
 # A log of a recording: atest, which comes with Dire Wolf, prints each frame with its time from the
-# start. SECONDS is the start of the recording, as `date +%s` prints it. Needs mawk or gawk.
+# start, such as 1:02.345. SECONDS is the start of the recording, as `date +%s` prints it. Needs mawk or
+# gawk.
 /^DECODED\[/ {
     split($2, part, ":")
-    at = start + int(part[1] * 60 + part[2])
+    from_start = int((part[1] * 60 + part[2]) * 1000 + 0.5)
+    at = start + int(from_start / 1000)
     frame = ""
 }
 /^  [0-9a-f]+:  / { hex = substr($0, 9, 48); gsub(/ /, "", hex); frame = frame hex; open = 1 }
@@ -12,6 +14,7 @@
     gsub(/db,/, "db,dd,", frame)
     gsub(/c0,/, "db,dc,", frame)
     gsub(/,/, "", frame)
-    print strftime("%Y-%m-%dT%H:%M:%SZ", at, 1), name, "c000" frame "c0"
+    moment = strftime("%Y-%m-%dT%H:%M:%S", at, 1) sprintf(".%03dZ", from_start % 1000)
+    print moment, name, "c000" frame "c0"
     open = 0
 }

@@ -11,9 +11,9 @@ function place(kind, name, state, moment, receiver, source, n,   tail) {
     tail = after_field(n + 3)
     match(tail, /^(\\x5c|.)(\\x5c|.):/)
     gsub(/\\x20/, " ", name)
-    print kind, quoted(name), state, substr(moment, 1, 10), substr(moment, 12, 8), receiver, source,
-        degrees($(n + 1)), degrees($(n + 2)), $(n + 3), quoted(substr(tail, 1, RLENGTH - 1)),
-        quoted(substr(tail, RLENGTH + 1))
+    print kind, quoted(name), state, substr(moment, 1, 10), substr(moment, 12, length(moment) - 12),
+        receiver, source, degrees($(n + 1)), degrees($(n + 2)), $(n + 3),
+        quoted(substr(tail, 1, RLENGTH - 1)), quoted(substr(tail, RLENGTH + 1))
 }
 BEGIN { OFS = ","; print "kind,name,state,utc_d,utc_t,receiver,source,lat,lon,ambiguity,symbol,desc" }
 $1 == "station" { call = $2 }

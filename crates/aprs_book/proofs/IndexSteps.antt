@@ -1,5 +1,5 @@
 -- What the indexes know after one more reception, one more row, or a merge.
-use Rattle.std.proofs.Common.{◌≡◌, ◌∙◌, Bool, true, false, ◌&&◌, if◌then◌else◌, List, [], ◌∷◌, ◌++◌, Option, None, Some, map, inl, inr, refl, sym, ap, subst, ℕ, ◌<◌}
+use Rattle.std.proofs.Common.{◌≡◌, ◌∙◌, Bool, true, false, ◌&&◌, if◌then◌else◌, List, [], ◌∷◌, ◌++◌, Option, None, Some, map, inl, inr, refl, sym, ap, subst, ℕ, ◌<◌, ◌≤◌}
 use Rattle.std.proofs.Math.Bool.{and-false, and-true}
 use Rattle.std.proofs.lemmas.Cmp.{upto}
 use Rattle.std.proofs.lemmas.List.{map-append}
@@ -15,6 +15,8 @@ use Rattle.aprs_laws.specs.Inserted.{inserted, FitsInPlace}
 use Rattle.aprs_laws.specs.Sound.{Sound}
 use Rattle.aprs_laws.specs.Real.{real}
 use Rattle.aprs_laws.specs.Joining.{Joined}
+use Rattle.aprs_laws.specs.Widening.{widened}
+use Rattle.aprs_laws.proofs.Widening.{widens_book}
 use Rattle.aprs_laws.specs.Best.{LastKnown, greater_known, known_after}
 use Rattle.aprs_laws.specs.BestLaws.{Passes}
 use Rattle.aprs_laws.proofs.Lists.{in_left, in_right, in_either}
@@ -164,6 +166,28 @@ merges_indexes gap pos a b c i j k v w joined h g both = λ topic bytes.
     (known_at bytes (index_of topic j)) v w joined (h topic bytes) (g topic bytes))
 
 -- what fits in place has its entries: a row that is near tells of the same
+-- a wider gap joins rows, and their greatest receptions know what they knew
+pub widens_note : (g h : ℕ) → 0 < g → g ≤ h → (old : List Row) (test : Key → Bool)
+    (known : Option Heard) → Sound g old → LastKnown (map greatest_of old) (Passes test) known
+    → LastKnown (map greatest_of (widened h old)) (Passes test) known
+widens_note g h pos l old test known w k =
+    let b = realised g old pos w in
+    rows_know h (real old) (widened h old) (Passes test) known (widens_book g h (real old) old l b)
+    (set_knows g (real old) old (Passes test) known b k)
+
+pub widens_indexes : (g h : ℕ) → 0 < g → g ≤ h → (rows new : List Row) (i none k : FourIndexes)
+    → Sound g rows → AreIndexesOf rows i → ((topic : Topic) → index_of topic none ≡ [])
+    → ((topic : Topic) (bytes : List ℕ) → known_at bytes (index_of topic k)
+    ≡ known_both (known_at bytes (index_of topic i)) (known_at bytes (index_of topic none)))
+    → new ≡ widened h rows → AreIndexesOf new k
+widens_indexes g h pos l rows new i none k w held empty both made = λ topic bytes.
+    let known = known_at bytes (index_of topic i) in
+    subst (λ (r : List Row). LastKnown (map greatest_of r) (Passes (tells_at (told_in topic) bytes)) (known_at bytes (index_of topic k)))
+    (sym made)
+    (subst (LastKnown (map greatest_of (widened h rows)) (Passes (tells_at (told_in topic) bytes)))
+    (sym (both topic bytes ∙ ap (λ t. known_both known (known_at bytes t)) (empty topic)))
+    (widens_note g h pos l rows (tells_at (told_in topic) bytes) known w (held topic bytes)))
+
 pub near_entries : (gap : ℕ) (t : Told) (x : Heard) (rows : List Row) (i : FourIndexes)
     → AreIndexesOf rows i → IsTold t (key_of x.frame) → FitsInPlace gap rows x → HaveEntries t i
 near_entries gap t x rows i h told f = λ topic bytes e.

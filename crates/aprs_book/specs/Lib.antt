@@ -8,6 +8,7 @@ pub mod Taking
 pub mod Pushed
 pub mod Replay
 pub mod RowCause
+pub mod BookFaults
 pub mod Refusal
 pub mod RowsFault
 pub mod Reports
@@ -30,6 +31,8 @@ pub use Rattle.aprs_laws.specs.Sound
 pub use Rattle.aprs_laws.specs.JoinRow
 pub use Rattle.aprs_laws.specs.Inserted
 pub use Rattle.aprs_laws.specs.Joining
+pub use Rattle.aprs_laws.specs.Widening
+pub use Rattle.aprs_laws.specs.BookValue
 pub use Rattle.aprs_laws.specs.Taken
 pub use Rattle.aprs_laws.specs.Best
 pub use Rattle.aprs_laws.specs.BestLaws

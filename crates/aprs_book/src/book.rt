@@ -1,103 +1,121 @@
 //! The book.
-ghost use Rattle.std.specs.Prelude.{◌≡◌, ◌↔◌, [], ◌∷◌, ◌++◌, length, true, IsTrue, IsOk, IfOk, OnOk, OnErr, IsOkUnless, MatchOption, Err, None};
-ghost use Rattle.aprs_laws.specs.Gap.{gap_seconds};
-ghost use Rattle.aprs_laws.specs.Book.{BookOf};
+ghost use Rattle.std.specs.Prelude.{◌≡◌, ◌↔◌, [], ◌∷◌, ◌++◌, ◌<◌, ◌≤◌, length, IsTrue, IsOk, IfOk, OnOk, OnErr, IsOkUnless, MatchOption, Err, None};
+ghost use Rattle.aprs_laws.specs.Gap.{standard_gap, millis_of};
+ghost use Rattle.aprs_laws.specs.BookValue.{Holds, IsSoundBook, HaveOneGap, AreJoined, widened_to};
 ghost use Rattle.aprs_laws.specs.Sound.{Sound};
-ghost use Rattle.aprs_laws.specs.Inserted.{inserted, FitsInPlace, fits_in_place};
-ghost use Rattle.std.proofs.Common.{lit<};
-ghost use Rattle.aprs_laws.specs.Joining.{Joined};
-ghost use Rattle.aprs_laws.proofs.Joins.{book_laws};
-ghost use Rattle.aprs_book.specs.Taking.{TakesIn, MergesInto};
+ghost use Rattle.aprs_laws.specs.Inserted.{FitsInPlace};
+ghost use Rattle.aprs_laws.proofs.Joins.{gap_laws};
+ghost use Rattle.aprs_book.specs.Taking.{TakesIn, MergesInto, WidensTo};
 ghost use Rattle.aprs_book.specs.Refusal.{refusal};
 ghost use Rattle.aprs_book.specs.Known.{AreIndexesOf};
 
-use crate::gap::Gap;
 use crate::indexes::Indexes;
 use crate::keyed::KeyedRows;
 use crate::told::Told;
 use crate::walk::Walk;
-use crate::{Join, Memory, RowCause, RowParts, Rows};
+use crate::{Gap, Join, Memory, MergeFault, RowCause, RowParts, Rows, WidenFault};
 use aprs_log::Reception;
 use std::alloc::{Allocator, Global};
 use std::marker::Model;
 
 /// The book of a set of receptions: one row for each transmission, ascending by key (source,
 /// destination, information), then first moment. Receptions of one key whose neighbours are at most
-/// 30 seconds apart are one transmission.
+/// the book's gap apart are one transmission.
 #[derive(Drop)]
 pub struct Book<A: Allocator = Global> {
+    gap: Gap,
     rows: KeyedRows<A>,
     indexes: Indexes<A>,
 }
 
 impl<A: Allocator> Model for Book<A> {
-    ghost use Rattle.std.specs.Prelude.{List};
-    ghost use Rattle.aprs_laws.specs.Row.{Row as RowValue};
-    ghost use Rattle.aprs_laws.specs.Gap.{gap_seconds};
-    ghost use Rattle.aprs_laws.specs.Sound.{Sound};
+    ghost use Rattle.aprs_laws.specs.BookValue.{BookValue, IsSoundBook};
     ghost use Rattle.aprs_book.specs.Known.{AreIndexesOf};
 
-    ghost Value = { List RowValue };
+    ghost Value = { BookValue };
 
-    ghost view = { λ b. b.rows };
+    ghost view = { λ b. record { gap = b.gap; rows = b.rows } };
 
-    ghost invariant = { λ b. Sound gap_seconds b.rows × AreIndexesOf b.rows b.indexes };
+    ghost invariant = { λ b. IsSoundBook (record { gap = b.gap; rows = b.rows })
+        × AreIndexesOf b.rows b.indexes };
 }
 
 impl<A: Allocator + Copy> Book<A> {
-    /// The book of no receptions. Takes no memory.
+    /// The book of no receptions, with a gap of 30 seconds. Takes no memory.
     pub fn new(alloc: A) -> Book<A>
-        ensures rows { result ≡ [] }
-        ensures book { BookOf gap_seconds [] result }
+        ensures gap { result.gap ≡ standard_gap }
+        ensures rows { result.rows ≡ [] }
+        ensures book { Holds [] result }
+    {
+        Book::with_gap(alloc, Gap::STANDARD)
+    }
+
+    /// The book of no receptions, with this gap. Takes no memory.
+    pub fn with_gap(alloc: A, gap: Gap) -> Book<A>
+        ensures gap { result.gap ≡ gap }
+        ensures rows { result.rows ≡ [] }
+        ensures book { Holds [] result }
     {
         Book {
+            gap,
             rows: KeyedRows::new(alloc),
             indexes: Indexes::new(alloc),
         }
     }
 
+    /// The gap: receptions of one key whose neighbours are at most so far apart are one
+    /// transmission. Takes no memory.
+    pub fn gap(&self) -> Gap
+        ensures { result ≡ self.now.gap }
+    {
+        self.gap
+    }
+
     /// The number of rows. Takes no memory.
     pub fn len(&self) -> usize
-        ensures { result ≡ length self.now }
+        ensures { result ≡ length self.now.rows }
     {
         self.rows.len()
     }
 
     /// The rows in order. Takes no memory, nor does their walk.
     pub fn rows(&self) -> Rows<'_, A>
-        ensures rows { result ≡ self.now }
-        ensures sound { Sound gap_seconds self.now }
+        ensures rows { result ≡ self.now.rows }
+        ensures sound { IsSoundBook self.now }
     {
         Rows::of(self.walk())
     }
 
     /// Adds a reception: the book of a set becomes the book of that set and the reception. Takes no
-    /// memory where exactly one row of its key is at most 30 seconds from its moment (a moment
-    /// between first and last counts) and lists its receiver. After `Memory` the book is as before.
+    /// memory where exactly one row of its key is at most the gap from its moment (a moment between
+    /// first and last counts) and lists its receiver. After `Memory` the book is as before.
     pub fn take(&mut self, x: &Reception) -> Result<(), Memory>
-        ensures taken { OnOk result (TakesIn gap_seconds self.old x.now self.new) }
+        ensures taken { OnOk result
+            (TakesIn (millis_of self.old.gap) self.old.rows x.now self.new.rows) }
+        ensures gap { self.new.gap ≡ self.old.gap }
         ensures unchanged { OnErr result (self.new ≡ self.old) }
-        ensures in_place { FitsInPlace gap_seconds self.old x.now → IsOk result }
+        ensures in_place { FitsInPlace (millis_of self.old.gap) self.old.rows x.now → IsOk result }
     {
         let told = Told::of(x.frame());
         self.indexes.place(&told)?;
-        self.rows.take(Gap::STANDARD, x)?;
+        self.rows.take(self.gap.millis(), x)?;
         self.indexes.note(&told, x);
         Ok(())
     }
 
     /// Adds a row behind all others, unless a cause refuses it: it is added, or memory was refused,
-    /// exactly if the rows with it are sound. Looks at the last row alone. After an error the book is
-    /// as before.
+    /// exactly if the rows with it are sound. Looks at the last row alone. After an error the book
+    /// is as before.
     pub fn push_row(&mut self, parts: &RowParts<A>) -> Result<(), RowCause>
         ensures sound { IsOkUnless result RowCause.Memory
-            ↔ Sound gap_seconds (self.old ++ parts.now ∷ []) }
-        ensures cause { MatchOption (refusal gap_seconds self.old parts.now)
+            ↔ Sound (millis_of self.old.gap) (self.old.rows ++ parts.now ∷ []) }
+        ensures cause { MatchOption (refusal (millis_of self.old.gap) self.old.rows parts.now)
             (IsOkUnless result RowCause.Memory) (λ cause. result ≡ Err cause) }
-        ensures added { OnOk result (self.new ≡ self.old ++ parts.now ∷ []) }
+        ensures added { OnOk result (self.new.rows ≡ self.old.rows ++ parts.now ∷ []) }
+        ensures gap { self.new.gap ≡ self.old.gap }
         ensures unchanged { OnErr result (self.new ≡ self.old) }
     {
-        if let Some(cause) = self.rows.refusal(Gap::STANDARD, parts) {
+        if let Some(cause) = self.rows.refusal(self.gap.millis(), parts) {
             return Err(cause);
         }
         if self.add(parts).is_err() {
@@ -108,8 +126,9 @@ impl<A: Allocator + Copy> Book<A> {
 
     /// Adds a row that nothing refuses.
     fn add(&mut self, parts: &RowParts<A>) -> Result<(), Memory>
-        requires { refusal gap_seconds self.old parts.now ≡ None }
-        ensures added { OnOk result (self.new ≡ self.old ++ parts.now ∷ []) }
+        requires { refusal (millis_of self.old.gap) self.old.rows parts.now ≡ None }
+        ensures added { OnOk result (self.new.rows ≡ self.old.rows ++ parts.now ∷ []) }
+        ensures gap { self.new.gap ≡ self.old.gap }
         ensures unchanged { OnErr result (self.new ≡ self.old) }
     {
         let told = Told::of(&parts.frame);
@@ -120,28 +139,86 @@ impl<A: Allocator + Copy> Book<A> {
     }
 
     /// The book of both sets together, in one pass over the rows of both. Both stay as they are.
-    pub fn merge(&self, other: &Book<A>) -> Result<Book<A>, Memory>
-        ensures joined { IfOk result (Joined gap_seconds self.now other.now) }
-        ensures book { IfOk result (MergesInto gap_seconds self.now other.now) }
-        ensures sound { Sound gap_seconds self.now }
-        ensures sound_other { Sound gap_seconds other.now }
+    /// `OtherGap` comes exactly where the gaps differ, and before any memory is taken.
+    pub fn merge(&self, other: &Book<A>) -> Result<Book<A>, MergeFault>
+        ensures joined { IfOk result (AreJoined self.now other.now) }
+        ensures book { IfOk result (λ both.
+            MergesInto (millis_of self.now.gap) self.now.rows other.now.rows both.rows) }
+        ensures other_gap { (result ≡ Err MergeFault.OtherGap)
+            ↔ (HaveOneGap self.now other.now → ⊥) }
+        ensures sound { IsSoundBook self.now }
+        ensures sound_other { IsSoundBook other.now }
     {
-        let rows = self.rows.merged(Gap::STANDARD, &other.rows)?;
+        if self.gap != other.gap {
+            return Err(MergeFault::OtherGap);
+        }
+        match self.unite(other) {
+            Ok(both) => Ok(both),
+            Err(_) => Err(MergeFault::Memory),
+        }
+    }
+
+    /// The book of both sets together, where the gaps are equal.
+    fn unite(&self, other: &Book<A>) -> Result<Book<A>, Memory>
+        requires { HaveOneGap self.now other.now }
+        ensures joined { IfOk result (AreJoined self.now other.now) }
+        ensures book { IfOk result (λ both.
+            MergesInto (millis_of self.now.gap) self.now.rows other.now.rows both.rows) }
+        ensures sound { IsSoundBook self.now }
+        ensures sound_other { IsSoundBook other.now }
+        ensures sound_result { IfOk result IsSoundBook }
+    {
+        let rows = self.rows.merged(self.gap.millis(), &other.rows)?;
         let indexes = self.indexes.merged(&other.indexes)?;
-        Ok(Book { rows, indexes })
+        Ok(Book {
+            gap: self.gap,
+            rows,
+            indexes,
+        })
+    }
+
+    /// The book of the same set under a gap that is not less, in one pass over the rows. `Narrower`
+    /// comes exactly where the gap is less, since rows don't tell what lies between their moments,
+    /// and before any memory is taken. This book stays as it is.
+    pub fn widen(&self, gap: Gap) -> Result<Book<A>, WidenFault>
+        ensures wide { IfOk result (λ wide. wide ≡ widened_to gap self.now) }
+        ensures gap { IfOk result (λ wide. wide.gap ≡ gap) }
+        ensures book { IfOk result (WidensTo self.now) }
+        ensures equal { gap ≡ self.now.gap → IfOk result (λ wide. wide ≡ self.now) }
+        ensures narrower { (result ≡ Err WidenFault.Narrower) ↔ (gap < self.now.gap) }
+    {
+        if gap.seconds() < self.gap.seconds() {
+            return Err(WidenFault::Narrower);
+        }
+        match self.widened(gap) {
+            Ok(wide) => Ok(wide),
+            Err(_) => Err(WidenFault::Memory),
+        }
+    }
+
+    /// The book of the same set under a gap that is not less.
+    fn widened(&self, gap: Gap) -> Result<Book<A>, Memory>
+        requires { self.now.gap ≤ gap }
+        ensures wide { IfOk result (λ wide. wide ≡ widened_to gap self.now) }
+        ensures sound { IsSoundBook self.now }
+    {
+        let alloc = self.rows.allocator();
+        let rows = self.rows.merged(gap.millis(), &KeyedRows::new(alloc))?;
+        let indexes = self.indexes.merged(&Indexes::new(alloc))?;
+        Ok(Book { gap, rows, indexes })
     }
 
     /// The rows as they are kept, one after another.
     pub(crate) fn walk(&self) -> Walk<'_, A>
-        ensures rows { result ≡ self.now }
-        ensures sound { Sound gap_seconds self.now }
+        ensures rows { result ≡ self.now.rows }
+        ensures sound { IsSoundBook self.now }
     {
         self.rows.walk()
     }
 
     /// What is last known.
     pub(crate) fn indexes(&self) -> &Indexes<A>
-        ensures { AreIndexesOf self.now result.now }
+        ensures { AreIndexesOf self.now.rows result.now }
     {
         &self.indexes
     }
@@ -151,23 +228,32 @@ impl<A: Allocator + Copy> Book<A> {
         self.rows.allocator()
     }
 
-    /// Whether both have the same rows. Takes no memory.
+    /// Whether both have the same gap and the same rows. Takes no memory.
     pub fn same(&self, other: &Book<A>) -> bool
         ensures { IsTrue result ↔ (self.now ≡ other.now) }
     {
+        if !self.fits(other) {
+            return false;
+        }
         same_rows(self.walk(), other.walk())
     }
 }
 
 impl<A: Allocator + Copy> Join for Book<A> {
-    ghost valid = { Sound gap_seconds };
+    ghost valid = { IsSoundBook };
 
-    ghost joined = { Joined gap_seconds };
+    ghost alike = { HaveOneGap };
 
-    ghost laws = { book_laws gap_seconds (lit< tt) };
+    ghost joined = { AreJoined };
+
+    ghost laws = { gap_laws };
+
+    fn fits(&self, other: &Book<A>) -> bool {
+        other.gap == self.gap
+    }
 
     fn join(&self, other: &Book<A>) -> Result<Book<A>, Memory> {
-        self.merge(other)
+        self.unite(other)
     }
 }
 

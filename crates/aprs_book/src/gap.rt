@@ -1,36 +1,89 @@
 //! The gap inside a transmission.
-ghost use Rattle.std.specs.Prelude.{◌≡◌, ◌≤◌};
+ghost use Rattle.std.specs.Prelude.{◌≡◌, ◌≤◌, SomeIff};
+ghost use Rattle.aprs_laws.specs.Gap.{IsGap, millis_of};
 
 use std::marker::Model;
 
+/// The greatest gap, in seconds.
+const GREATEST: u64 = 3600;
+
 /// How far apart neighbours of one transmission may be at most: 1 to 3,600 seconds.
-#[derive(Clone, Copy)]
-pub(crate) struct Gap {
+#[derive(Clone, Copy, Debug, PartialEq, Eq)]
+pub struct Gap {
     seconds: u64,
 }
 
 impl Model for Gap {
-    ghost use Rattle.std.specs.Prelude.{◌≤◌, ℕ};
+    ghost use Rattle.std.specs.Prelude.{ℕ};
+    ghost use Rattle.aprs_laws.specs.Gap.{IsGap};
 
     ghost Value = { ℕ };
 
     ghost view = { λ g. g.seconds };
 
-    ghost invariant = { λ g. (1 ≤ g.seconds) × (g.seconds ≤ 3600) };
+    ghost invariant = { λ g. IsGap g.seconds };
 
     ghost inverse = { λ n. record { seconds = n } };
 }
 
 impl Gap {
-    /// That of all books: 30 seconds.
-    pub(crate) const STANDARD: Gap = Gap { seconds: 30 };
+    /// The gap that a book has where no other is chosen: 30 seconds.
+    pub const STANDARD: Gap = Gap { seconds: 30 };
 
-    /// The seconds.
-    pub(crate) fn seconds(&self) -> u64
+    /// The gap of so many seconds, or none where they are not 1 to 3,600. Takes no memory.
+    pub fn new(seconds: u64) -> Option<Gap>
+        ensures { SomeIff result (IsGap seconds) seconds }
+    {
+        if 1 <= seconds && seconds <= GREATEST {
+            Some(Gap { seconds })
+        } else {
+            None
+        }
+    }
+
+    /// The seconds, 1 to 3,600. Takes no memory.
+    pub fn seconds(&self) -> u64
         ensures value { result ≡ self.now }
-        ensures from { 1 ≤ result }
-        ensures to { result ≤ 3600 }
+        ensures range { IsGap result }
     {
         self.seconds
+    }
+
+    /// The gap as moments count.
+    pub(crate) fn millis(&self) -> Millis
+        ensures value { result ≡ millis_of self.now }
+        ensures range { IsGap self.now }
+    {
+        Millis {
+            millis: self.seconds * 1000,
+        }
+    }
+}
+
+/// A gap in milliseconds, the unit of moments: at most an hour.
+#[derive(Clone, Copy)]
+pub(crate) struct Millis {
+    millis: u64,
+}
+
+impl Model for Millis {
+    ghost use Rattle.std.specs.Prelude.{◌≤◌, ℕ};
+
+    ghost Value = { ℕ };
+
+    ghost view = { λ g. g.millis };
+
+    ghost invariant = { λ g. g.millis ≤ 3600000 };
+
+    ghost inverse = { λ n. record { millis = n } };
+}
+
+impl Millis {
+    /// The number, at most 3,600,000.
+    pub(crate) fn get(&self) -> u64
+        ensures value { result ≡ self.now }
+        ensures bound { result ≤ 3600000 }
+    {
+        self.millis
     }
 }

@@ -9,7 +9,7 @@ ghost use Rattle.aprs_laws.specs.Order.{IsBelow};
 ghost use Rattle.aprs_laws.specs.Inserted.{inserted, fits_in_place};
 ghost use Rattle.aprs_laws.specs.Sound.{Sound};
 
-use crate::gap::Gap;
+use crate::gap::Millis;
 use crate::kept_row::KeptRow;
 use crate::key_bytes::key_bytes;
 use crate::merging_keys::{put_joined, put_merged};
@@ -78,7 +78,7 @@ impl<A: Allocator + Copy> KeyedRows<A> {
     }
 
     /// The rows of both, key by key, in one pass over the keys of both.
-    pub(crate) fn merged(&self, gap: Gap, other: &KeyedRows<A>) -> Result<KeyedRows<A>, Memory>
+    pub(crate) fn merged(&self, gap: Millis, other: &KeyedRows<A>) -> Result<KeyedRows<A>, Memory>
         ensures { IfOk result (λ both. both ≡ coalesced gap (interleave self.now other.now)) }
     {
         let alloc = self.alloc;
@@ -157,7 +157,7 @@ impl<A: Allocator + Copy> KeyedRows<A> {
 
     /// The first cause that refuses a row of these parts after all others. Looks at the last row
     /// alone.
-    pub(crate) fn refusal(&self, gap: Gap, parts: &RowParts<A>) -> Option<RowCause>
+    pub(crate) fn refusal(&self, gap: Millis, parts: &RowParts<A>) -> Option<RowCause>
         ensures { result ≡ refusal gap self.now parts.now }
     {
         first_cause(gap, self.last_rows(), parts)
@@ -176,7 +176,7 @@ impl<A: Allocator + Copy> KeyedRows<A> {
     }
 
     /// Adds a reception. What needs memory is made before the first change.
-    pub(crate) fn take(&mut self, gap: Gap, x: &Reception) -> Result<(), Memory>
+    pub(crate) fn take(&mut self, gap: Millis, x: &Reception) -> Result<(), Memory>
         requires { Sound gap self.old }
         ensures inserted { OnOk result (self.new ≡ inserted gap x.now self.old) }
         ensures unchanged { OnErr result (self.new ≡ self.old) }

@@ -4,7 +4,7 @@ ghost use Rattle.aprs_laws.specs.JoinRow.{interleave, coalesced};
 ghost use Rattle.aprs_book.specs.Keyed.{PutsRows};
 
 use crate::Memory;
-use crate::gap::Gap;
+use crate::gap::Millis;
 use crate::kept_row::KeptRow;
 use crate::keyed::owned;
 use crate::merging::{joined_rows, merged_rows};
@@ -14,7 +14,7 @@ use std::collections::BTreeMap;
 /// Puts one key's rows of both at the end.
 pub(crate) fn put_merged<A: Allocator + Copy>(
     alloc: A,
-    gap: Gap,
+    gap: Millis,
     map: &mut BTreeMap<Vec<u8, A>, Vec<KeptRow<A>, A>, A>,
     key: &[u8],
     ours: &[KeptRow<A>],
@@ -34,7 +34,7 @@ pub(crate) fn put_merged<A: Allocator + Copy>(
 /// Puts one key's rows of either at the end.
 pub(crate) fn put_joined<A: Allocator + Copy>(
     alloc: A,
-    gap: Gap,
+    gap: Millis,
     map: &mut BTreeMap<Vec<u8, A>, Vec<KeptRow<A>, A>, A>,
     key: &[u8],
     rows: &[KeptRow<A>],

@@ -3,7 +3,7 @@ ghost use Rattle.std.specs.Prelude.{◌≡◌, IfOk};
 ghost use Rattle.std.specs.Option.{option_copied};
 ghost use Rattle.aprs_laws.specs.Lists.{Ordered};
 ghost use Rattle.aprs_laws.specs.Key.{key_of};
-ghost use Rattle.aprs_laws.specs.Gap.{gap_seconds};
+ghost use Rattle.aprs_laws.specs.Gap.{millis_of};
 ghost use Rattle.aprs_book.specs.Reports.{report_of};
 ghost use Rattle.aprs_book.specs.Messages.{state_by, state_told, TellsMessages};
 ghost use Rattle.aprs_book.specs.MessageRows.{AreSpans, AreReplies, message_of, IsListed, TellsAnswer, Zipped, IsKeyBefore};
@@ -54,7 +54,8 @@ impl<A: Allocator + Copy> Book<A> {
     /// The messages that were heard, ascending by source, addressee, text and id, where none comes
     /// first.
     pub fn messages(&self) -> Result<Vec<MessageRow<'_>, A>, Memory>
-        ensures { IfOk result (λ messages. TellsMessages gap_seconds self.now messages.items) }
+        ensures { IfOk result (λ messages.
+            TellsMessages (millis_of self.now.gap) self.now.rows messages.items) }
     {
         let spans = message_spans(self.allocator(), self.walk())?;
         let answers = greatest_answers(self.allocator(), self.walk())?;

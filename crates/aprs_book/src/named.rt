@@ -1,6 +1,6 @@
 //! The objects and items of a book.
 ghost use Rattle.std.specs.Prelude.{◌≡◌, ◌++◌, map, IfOk, OnOk};
-ghost use Rattle.aprs_laws.specs.Gap.{gap_seconds};
+ghost use Rattle.aprs_laws.specs.Gap.{millis_of};
 ghost use Rattle.aprs_laws.specs.Lists.{Ordered};
 ghost use Rattle.aprs_book.specs.Known.{IsEntryBefore};
 ghost use Rattle.aprs_book.specs.Names.{TellsNamed};
@@ -24,7 +24,8 @@ pub struct Named<'a> {
 impl<A: Allocator + Copy> Book<A> {
     /// The last report of each object, by name, and then of each item, by name.
     pub fn objects(&self) -> Result<Vec<Named<'_>, A>, Memory>
-        ensures { IfOk result (λ named. TellsNamed gap_seconds self.now named.items) }
+        ensures { IfOk result (λ named.
+            TellsNamed (millis_of self.now.gap) self.now.rows named.items) }
     {
         let indexes = self.indexes();
         let mut list = Vec::new(self.allocator());

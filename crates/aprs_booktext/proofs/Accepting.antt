@@ -1,16 +1,33 @@
 -- The text of a book is read, unless memory is refused or the reader fails.
-use Rattle.std.proofs.Common.{◌≡◌, ℕ, ◌+◌, ◌^◌, ◌<◌, ◌≤◌, List, [], ◌∷◌, ◌++◌, length, map, Option, None, Some, IfSome, IfErr, Result, Ok, Err, inl, inr, refl, sym, ap, ◌∙◌, subst, append-nil, length-append, arith}
+use Rattle.std.proofs.Common.{◌≡◌, ℕ, ◌+◌, ◌*◌, ◌/◌, ◌%◌, ◌^◌, ◌<◌, ◌≤◌, List, [], ◌∷◌, ◌++◌, length, map, Option, None, Some, IfSome, IfOk, IfErr, Result, Ok, Err, inl, inr, refl, sym, ap, ◌∙◌, subst, append-nil, length-append, arith}
 use Rattle.std.proofs.lemmas.List.{length-map}
+use Rattle.std.proofs.lemmas.List.Elements.{All-weaker}
 use Rattle.std.proofs.lemmas.Result.{IfErr-weaker}
 use Rattle.aprs_log.specs.LogAnswers.{Gets}
+use Rattle.aprs_log.specs.Moment.{civil_after, civil_text, moment_text_in}
+use Rattle.aprs_log.specs.Reception.{Heard}
 use Rattle.aprs_log.specs.declared.Ending.{Ending}
 use Rattle.aprs_log.specs.declared.Ending.TheVariants as ending
-use Rattle.aprs_laws.specs.Row.{Row}
+use Rattle.aprs_log.specs.declared.moment_form.MomentForm.{MomentForm}
+use Rattle.aprs_log.specs.declared.moment_form.MomentForm.TheVariants.{Seconds, Millis}
+use Rattle.aprs_laws.specs.BookValue.{BookValue, Holds}
+use Rattle.aprs_laws.specs.Gap.{IsGap, millis_of, standard_gap}
+use Rattle.aprs_laws.specs.Row.{Row, last_of}
+use Rattle.aprs_laws.specs.Scaling.{scaled, scaled_heard}
+use Rattle.aprs_laws.specs.Sound.{Sound}
+use Rattle.aprs_laws.proofs.Scaling.{scaled_book}
+use Rattle.aprs_laws.proofs.Soundness.{sound}
 use Rattle.aprs_booktext.specs.FirstFault.{FirstFault, IsBookOrMemory, Reads}
-use Rattle.aprs_booktext.specs.Text.{row_line, lines_of, text_of_lines, ended_by_lf, book_text, IsBookRows}
+use Rattle.aprs_booktext.specs.Law.{IsWrittenBack}
+use Rattle.aprs_booktext.specs.Seconds.{AreToldToTheSecond, IsTextInSeconds}
+use Rattle.aprs_booktext.specs.Text.{row_line, lines_of, text_of_lines, ended_by_lf, book_of, book_text, IsBookRow, IsBookRows, IsTold, written_version}
+use Rattle.aprs_booktext.specs.Version.{form_of, gap_of}
 use Rattle.aprs_booktext.specs.declared.fault.BookCause.TheVariants as cause
 use Rattle.aprs_booktext.specs.declared.fault.BookFault.{BookFault}
-use Rattle.aprs_booktext.proofs.OneText.{one_text, cut_short}
+use Rattle.aprs_booktext.specs.declared.version.Version.{Version}
+use Rattle.aprs_booktext.specs.declared.version.Version.TheVariants.{One, Three}
+use Rattle.aprs_booktext.proofs.OneText.{one_text, one_version, same_book, cut_short}
+use Rattle.aprs_booktext.proofs.Versions.{range}
 
 -- each line has an LF
 pub lines_few : (ls : List (List ℕ)) → length ls ≤ length (text_of_lines ls)
@@ -19,39 +36,125 @@ lines_few (l ∷ ls) =
     let whole : length (ended_by_lf l ++ text_of_lines ls) ≡ length l + 1 + length (text_of_lines ls) = simp (length-append, length-append) (omega arith) in
     omega (arith, lines_few ls, whole)
 
-pub rows_few : (rows : List Row) → length rows ≤ length (book_text rows)
-rows_few rows =
-    let lines : length (lines_of rows) ≡ length (map row_line rows) + 2 = simp length-append (omega arith) in
-    omega (arith, lines_few (lines_of rows), lines, length-map rows row_line)
+pub rows_few : (v : Version) (rows : List Row) → length rows ≤ length (book_text v rows)
+rows_few v rows =
+    let lines : length (lines_of v rows) ≡ length (map (row_line (form_of v)) rows) + 2 = simp length-append (omega arith) in
+    omega (arith, lines_few (lines_of v rows), lines, length-map rows (row_line (form_of v)))
 
--- where rows were read, all of the input was got, and is their text
-pub text_of_read : (gap limit : ℕ) (head input : List ℕ) (after : Option (List ℕ)) (rows : List Row)
-    → Reads gap limit head input after (Ok rows) → book_text rows ≡ head ++ input
-text_of_read gap limit head input after rows h =
-    let gets = subst (Gets limit (head ++ input) after (head ++ h.got)) h.reads.2 h.gets in
-    sym h.reads.0
-    ∙ sym (gets.whole ∙ ap (λ l. (head ++ h.got) ++ l) gets.ends.0 ∙ append-nil (head ++ h.got))
+-- where rows were read, all of the input was got, and is their text in some version
+pub record IsTextOf (book : BookValue) (text : List ℕ) : Type 0 where
+  pub version : Version
+  pub gap_is : book.gap ≡ gap_of version
+  pub text_is : book_text version book.rows ≡ text
+  pub is : IsBookRows version book.rows
 
-module _ (gap limit : ℕ) (head rest : List ℕ) (after : Option (List ℕ)) (rows : List Row) (small : limit ≤ 1073741824) (is : IsBookRows gap rows) (text_is : head ++ rest ≡ book_text rows) (fits : length (head ++ rest) ≤ limit) where
-  few : length rows < 2 ^ 64
-  few = omega (arith, rows_few rows, ap length text_is)
+pub text_of_read : (limit : ℕ) (head input : List ℕ) (after : Option (List ℕ)) (book : BookValue)
+    → Reads limit head input after (Ok book) → IsTextOf book (head ++ input)
+text_of_read limit head input after book h =
+    let gets = subst (Gets limit (head ++ input) after (head ++ h.got)) h.reads.4 h.gets in
+    record {
+      version = h.reads.0;
+      gap_is = h.reads.1;
+      text_is = sym h.reads.2 ∙ sym (gets.whole ∙ ap (λ l. (head ++ h.got) ++ l) gets.ends.0 ∙ append-nil (head ++ h.got));
+      is = h.reads.3;
+    }
 
-  faultless : (e : Ending) (text : List ℕ) (f : BookFault) → Gets limit (head ++ rest) after text e → (f.cause ≡ cause.Read → ⊥) → FirstFault gap text e f → ⊥
-  faultless ending.End text f gets read first = (cut_short gap rows is few gets.rest ending.End f.cause text f (sym gets.whole ∙ text_is) refl first).1 refl gets.ends.0
-  faultless ending.Read text f gets read first = read (cut_short gap rows is few gets.rest ending.Read f.cause text f (sym gets.whole ∙ text_is) refl first).0
-  faultless ending.TooLong text f gets read first = omega (arith, ap length gets.whole, length-append text gets.rest, gets.ends)
+module _ (limit : ℕ) (head rest : List ℕ) (after : Option (List ℕ)) (v : Version) (rows : List Row) (small : limit ≤ 1073741824) (is : IsBookRows v rows) (text_is : head ++ rest ≡ book_text v rows) where
+  -- what was read is the book of the rows
+  pub same_read : (found : BookValue) → Reads limit head rest after (Ok found) → found ≡ book_of v rows
+  same_read found h =
+      let t = text_of_read limit head rest after found h in
+      let one = one_text t.version v found.rows rows t.is is (t.text_is ∙ text_is) in
+      same_book found (book_of v rows) (t.gap_is ∙ ap gap_of one.0) one.1
 
-  pub accepted : (r : Result (List Row) BookFault) → Reads gap limit head rest after r → IfErr r (λ f. f.cause ≡ cause.Read → ⊥) → IsBookOrMemory r rows
-  accepted (Ok found) h read =
-      one_text gap found rows h.reads.1 is (text_of_read gap limit head rest after found h ∙ text_is)
-  accepted (Err f) h read = elim h.reads [
-    | inl m ↦ m.refused
-    | inr first ↦ absurd (faultless h.ending (head ++ h.got) f h.gets read first)
-  ]
+  module _ (fits : length (head ++ rest) ≤ limit) where
+    few : length rows < 2 ^ 64
+    few = omega (arith, rows_few v rows, ap length text_is, small, fits)
+
+    faultless : (e : Ending) (text : List ℕ) (f : BookFault) → Gets limit (head ++ rest) after text e → (f.cause ≡ cause.Read → ⊥) → FirstFault text e f → ⊥
+    faultless ending.End text f gets read first = (cut_short v rows is few gets.rest ending.End f.cause text f (sym gets.whole ∙ text_is) refl first).1 refl gets.ends.0
+    faultless ending.Read text f gets read first = read (cut_short v rows is few gets.rest ending.Read f.cause text f (sym gets.whole ∙ text_is) refl first).0
+    faultless ending.TooLong text f gets read first = omega (arith, ap length gets.whole, length-append text gets.rest, gets.ends, fits)
+
+    pub accepted : (r : Result BookValue BookFault) → Reads limit head rest after r → IfErr r (λ f. f.cause ≡ cause.Read → ⊥) → IsBookOrMemory r (book_of v rows)
+    accepted (Ok found) h read = same_read found h
+    accepted (Err f) h read = elim h.reads [
+      | inl m ↦ m.refused
+      | inr first ↦ absurd (faultless h.ending (head ++ h.got) f h.gets read first)
+    ]
 
 -- the same, where the input's bytes may not be known, and a failed read has Q
-pub accepts : (gap : ℕ) (known after : Option (List ℕ)) (limit : ℕ) (head : List ℕ) (r : Result (List Row) BookFault) (Q : Type 0) → limit ≤ 1073741824 → IfSome known (λ input. Reads gap limit head input after r)
+pub accepts : (known after : Option (List ℕ)) (limit : ℕ) (head : List ℕ) (r : Result BookValue BookFault) (Q : Type 0) → limit ≤ 1073741824 → IfSome known (λ input. Reads limit head input after r)
     → IfErr r (λ f. f.cause ≡ cause.Read → Q)
-    → IfSome known (λ input. (rows : List Row) → IsBookRows gap rows → head ++ input ≡ book_text rows → length (head ++ input) ≤ limit → (Q → ⊥) → IsBookOrMemory r rows)
-accepts gap None after limit head r Q small h read = tt
-accepts gap (Some input) after limit head r Q small h read = λ rows is text_is fits good. accepted gap limit head input after rows small is text_is fits r h (IfErr-weaker r _ _ (λ f q e. good (q e)) read)
+    → IfSome known (λ input. (v : Version) (rows : List Row) → IsBookRows v rows → head ++ input ≡ book_text v rows → length (head ++ input) ≤ limit → (Q → ⊥) → IsBookOrMemory r (book_of v rows))
+accepts None after limit head r Q small h read = tt
+accepts (Some input) after limit head r Q small h read =
+    λ v rows is text_is fits good. accepted limit head input after v rows small is text_is fits r h (IfErr-weaker r _ _ (λ f q e. good (q e)) read)
+
+-- ---- texts of version 1
+
+module _ (limit : ℕ) (head : List ℕ) (after : Option (List ℕ)) (small : limit ≤ 1073741824) where
+  in_seconds : (input : List ℕ) (S : List Heard) → IsTextInSeconds S (head ++ input) → (r : Result BookValue BookFault) → Reads limit head input after r
+      → IfOk r (λ book. (book.gap ≡ standard_gap) × Holds (map (scaled_heard 1000) S) book)
+  in_seconds input S t (Err f) h = tt
+  in_seconds input S t (Ok found) h =
+      let rows = scaled 1000 t.rows in
+      let book : Holds (map (scaled_heard 1000) S) (book_of One rows) = scaled_book 1000 standard_gap (omega arith) S t.rows t.book in
+      let is : IsBookRows One rows = record { version = tt; sound = sound (millis_of standard_gap) (map (scaled_heard 1000) S) rows book; each = t.each } in
+      let same = same_read limit head input after One rows small is t.text_is found h in
+      (ap (λ (b : BookValue). b.gap) same, subst (Holds (map (scaled_heard 1000) S)) (sym same) book)
+
+  pub reads_seconds : (known : Option (List ℕ)) (r : Result BookValue BookFault) → IfSome known (λ input. Reads limit head input after r)
+      → IfSome known (λ input. (S : List Heard) → IsTextInSeconds S (head ++ input) → IfOk r (λ book. (book.gap ≡ standard_gap) × Holds (map (scaled_heard 1000) S) book))
+  reads_seconds None r h = tt
+  reads_seconds (Some input) r h = λ S t. in_seconds input S t r h
+
+-- a moment of whole seconds is told by its date and its time of the day
+pub told_to_the_second : AreToldToTheSecond
+unfolding moment_text_in
+told_to_the_second = λ s h.
+    let q : s * 1000 / 1000 ≡ s = omega arith in
+    let r : s * 1000 % 1000 ≡ 0 = omega arith in
+    ap (λ n. civil_text Seconds (civil_after n) (s * 1000 % 1000)) q
+    ∙ ap (λ n. civil_text Seconds (civil_after s) n) r
+
+-- ---- what was read is written in version 3
+
+told_more : (form : MomentForm) (m : ℕ) → IsTold form m → IsTold Millis m
+told_more form m h = record { in_range = h.in_range; whole = omega arith }
+
+row_more : (form : MomentForm) (x : Row) → IsBookRow form x → IsBookRow Millis x
+row_more form x h = record {
+  spelled = record {
+    first = told_more form x.first h.spelled.first;
+    last = told_more form (last_of x) h.spelled.last;
+    some = h.spelled.some;
+    receivers = h.spelled.receivers;
+    receiver = h.spelled.receiver;
+    bytes = h.spelled.bytes;
+    few = h.spelled.few;
+  };
+  frame = h.frame;
+}
+
+rows_more : (v : Version) (gap : ℕ) (rows : List Row) → gap ≡ gap_of v → IsBookRows v rows → IsBookRows (Three gap) rows
+rows_more v gap rows e h = record {
+  version = subst IsGap (sym e) (range v h.version);
+  sound = subst (λ g. Sound (millis_of g) rows) (sym e) h.sound;
+  each = All-weaker (IsBookRow (form_of v)) (IsBookRow Millis) (row_more (form_of v)) rows h.each;
+}
+
+pub written_back : (limit : ℕ) (head input : List ℕ) (after : Option (List ℕ)) (book : BookValue) → Reads limit head input after (Ok book) → IsWrittenBack book (head ++ input)
+written_back limit head input after book h =
+    let t = text_of_read limit head input after book h in
+    let more = rows_more t.version book.gap book.rows t.gap_is t.is in
+    record {
+      version = t.version;
+      gap_is = t.gap_is;
+      text_is = sym t.text_is;
+      written = more;
+      same = (
+        λ e. sym (one_version (written_version book) t.version book.rows book.rows more.version t.is.version (e ∙ sym t.text_is)),
+        λ e. ap (λ (v : Version). book_text v book.rows) (sym e) ∙ t.text_is,
+      );
+    }

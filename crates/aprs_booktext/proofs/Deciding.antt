@@ -6,17 +6,18 @@ use Rattle.std.specs.List.{AllByRecursion}
 use Rattle.std.proofs.lemmas.Bool.{cases_lt}
 use Rattle.std.proofs.lemmas.List.{nil_from_length}
 use Rattle.std.proofs.lemmas.Slice.Eq.{bytes_eq-Decides}
-use Rattle.std.proofs.lemmas.List.Elements.{All-from_recursion, All-nil, recursion_from_All}
+use Rattle.std.proofs.lemmas.List.Elements.{All-from_recursion, recursion_from_All}
 use Rattle.hex.specs.Hex.{encode_lower, decode_of}
 use Rattle.hex.specs.declared.error.FromHexError.{FromHexError}
 use Rattle.hex.proofs.HexLemmas.{decode_of-encode_lower, decode_of-ok}
 use Rattle.aprs_ax25.specs.FrameFault.{frame_of}
 use Rattle.aprs_ax25.specs.declared.fault.FrameFault.{FrameFault}
-use Rattle.aprs_log.specs.Moment.{moment_of, moment_text}
+use Rattle.aprs_log.specs.Moment.{moment_in, moment_text_in}
 use Rattle.aprs_log.specs.Receiver.{IsName, is_name}
-use Rattle.aprs_log.proofs.MomentLemmas.{text-moment_of, moment_text-is}
+use Rattle.aprs_log.specs.declared.moment_form.MomentForm.{MomentForm}
+use Rattle.aprs_log.proofs.MomentLemmas.{moment_in-text}
 use Rattle.aprs_log.specs.declared.Ending.{Ending}
-use Rattle.aprs_log.specs.declared.Ending.TheVariants as ending
+use Rattle.aprs_laws.specs.Gap.{greatest_gap, IsGap, millis_of}
 use Rattle.aprs_laws.specs.Row.{Row, last_of}
 use Rattle.aprs_laws.specs.Sound.{Sound}
 use Rattle.aprs_book.specs.Refusal.{refusal, is_refused}
@@ -27,18 +28,22 @@ use Rattle.aprs_book.proofs.Refusals.{none_exactly}
 use Rattle.aprs_booktext.specs.FirstFault.{FirstFault, is_end}
 use Rattle.aprs_booktext.specs.Law.{IsBookText}
 use Rattle.aprs_booktext.specs.Lines.{is_byte, Lacks, pieces}
-use Rattle.aprs_booktext.specs.Reader.{HoldsIn, IsJudgedIn, StandsAfter, line_number, may_end}
+use Rattle.aprs_booktext.specs.Reader.{HoldsIn, IsJudgedIn, StandsAfter, is_done, line_number, may_end}
 use Rattle.aprs_booktext.specs.RowFields.{SpellsBytes, SpellsNames}
-use Rattle.aprs_booktext.specs.Text.{header, row_line, end_line, lines_of, text_of_lines, book_text, IsSpelled, IsBookRow}
+use Rattle.aprs_booktext.specs.Text.{row_line, end_line, lines_of, book_text, IsSpelled, IsBookRow, IsTold}
+use Rattle.aprs_booktext.specs.Version.{form_of, gap_of, header_of}
 use Rattle.aprs_booktext.specs.declared.fault.BookCause.{BookCause}
 use Rattle.aprs_booktext.specs.declared.fault.BookCause.TheVariants as cause
 use Rattle.aprs_booktext.specs.declared.fault.BookFault.{BookFault}
 use Rattle.aprs_booktext.specs.declared.reader.Stage.{Stage}
 use Rattle.aprs_booktext.specs.declared.reader.Stage.TheVariants.{Header, Rows, Done}
+use Rattle.aprs_booktext.specs.declared.version.Version.{Version}
+use Rattle.aprs_booktext.specs.declared.version.Version.TheVariants.{One, Two, Three}
 use Rattle.aprs_booktext.proofs.Cuts.{joined_pieces, pieces_some}
 use Rattle.aprs_booktext.proofs.RowReading.{IsNoRow}
-use Rattle.aprs_booktext.proofs.Spellings.{frame_is, moment_found, moment_missed, names_pieces, same_fields, six_pieces, spelled_by}
-use Rattle.aprs_booktext.proofs.Standing.{cut_fault, ended_fault, ended_stands}
+use Rattle.aprs_booktext.proofs.Spellings.{frame_is, moment_found, moment_missed, moment_read, names_pieces, same_fields, six_pieces, spelled_by}
+use Rattle.aprs_booktext.proofs.Standing.{cut_fault, ended_fault, ended_stands, ended_whole, held_stands}
+use Rattle.aprs_booktext.proofs.Versions.{no_header}
 
 -- ---- one list, or another
 
@@ -50,19 +55,19 @@ one_or_other a b = by (bytes_eq a b) refl where
 
 -- ---- fields
 
-abbrev IsMoment : List ℕ → ℕ → Type 0
-IsMoment t m = (m ≤ 4102444799) × (t ≡ moment_text m)
+abbrev IsMoment : MomentForm → List ℕ → ℕ → Type 0
+IsMoment form t m = IsTold form m × (t ≡ moment_text_in form m)
 
-moment_or_none : (t : List ℕ) → ((m : ℕ) × IsMoment t m) ⊎ ((m : ℕ) → m ≤ 4102444799 → t ≢ moment_text m)
-moment_or_none t = by (moment_of t) refl where
-  by : (o : Option ℕ) → moment_of t ≡ o → ((m : ℕ) × IsMoment t m) ⊎ ((m : ℕ) → m ≤ 4102444799 → t ≢ moment_text m)
-  by None e = inr (moment_missed t e)
-  by (Some m) e = elim (cases_lt 4102444799 m) [
-    | inl late ↦ inr (λ k low same.
-        let some : Some m ≡ Some k = sym e ∙ ap moment_of same ∙ text-moment_of (moment_text k) k (moment_text-is k low) in
+moment_or_none : (form : MomentForm) (t : List ℕ) → ((m : ℕ) × IsMoment form t m) ⊎ ((m : ℕ) → IsTold form m → t ≢ moment_text_in form m)
+moment_or_none form t = by (moment_in form t) refl where
+  by : (o : Option ℕ) → moment_in form t ≡ o → ((m : ℕ) × IsMoment form t m) ⊎ ((m : ℕ) → IsTold form m → t ≢ moment_text_in form m)
+  by None e = inr (moment_missed form t e)
+  by (Some m) e = elim (cases_lt 4102444799999 m) [
+    | inl late ↦ inr (λ k h same.
+        let some : Some m ≡ Some k = sym e ∙ ap (moment_in form) same ∙ moment_read form k h in
         let is : m ≡ k = cc in
-        omega (arith, late, low, is))
-    | inr low ↦ inl (m, (low, moment_found t m low e))
+        omega (arith, late, h.in_range, is))
+    | inr low ↦ inl (m, moment_found form t m low (moment_in-text form t m e))
   ]
 
 all_names : (ps : List (List ℕ)) → AllByRecursion IsName ps ⊎ (AllByRecursion IsName ps → ⊥)
@@ -103,29 +108,29 @@ bytes_or_none d = by (decode_of d) refl where
 
 -- ---- a row's line
 
-pub record SpelledRow (line : List ℕ) : Type 0 where
+pub record SpelledRow (form : MomentForm) (line : List ℕ) : Type 0 where
   pub row : Row
-  pub is : IsSpelled row
-  pub line_is : line ≡ row_line row
+  pub is : IsSpelled form row
+  pub line_is : line ≡ row_line form row
 
-module _ (line t f l n w d : List ℕ) (is : pieces 32 line ≡ t ∷ f ∷ l ∷ n ∷ w ∷ d ∷ []) where
-  row_or_none : SpelledRow line ⊎ IsNoRow line
+module _ (form : MomentForm) (line t f l n w d : List ℕ) (is : pieces 32 line ≡ t ∷ f ∷ l ∷ n ∷ w ∷ d ∷ []) where
+  row_or_none : SpelledRow form line ⊎ IsNoRow form line
   row_or_none = elim (one_or_other t (codes "T")) [
-    | inr other ↦ inr (λ x h e. other (same_fields line t f l n w d is x h e).tag)
-    | inl tag ↦ elim (moment_or_none f) [
-      | inr none ↦ inr (λ x h e. none x.first h.first (same_fields line t f l n w d is x h e).first)
-      | inl first ↦ elim (moment_or_none l) [
-        | inr none ↦ inr (λ x h e. none (last_of x) h.last (same_fields line t f l n w d is x h e).last)
+    | inr other ↦ inr (λ x h e. other (same_fields form line t f l n w d is x h e).tag)
+    | inl tag ↦ elim (moment_or_none form f) [
+      | inr none ↦ inr (λ x h e. none x.first h.first (same_fields form line t f l n w d is x h e).first)
+      | inl first ↦ elim (moment_or_none form l) [
+        | inr none ↦ inr (λ x h e. none (last_of x) h.last (same_fields form line t f l n w d is x h e).last)
         | inl last ↦ elim (names_or_none n) [
-          | inr none ↦ inr (λ x h e. none x.receivers (record { field_is = (same_fields line t f l n w d is x h e).receivers; names_are = h.receivers; some = h.some }))
+          | inr none ↦ inr (λ x h e. none x.receivers (record { field_is = (same_fields form line t f l n w d is x h e).receivers; names_are = h.receivers; some = h.some }))
           | inl names ↦ elim (all_names (w ∷ [])) [
-            | inr none ↦ inr (λ x h e. none (subst IsName (sym (same_fields line t f l n w d is x h e).receiver) h.receiver, tt))
+            | inr none ↦ inr (λ x h e. none (subst IsName (sym (same_fields form line t f l n w d is x h e).receiver) h.receiver, tt))
             | inl name ↦ elim (bytes_or_none d) [
-              | inr none ↦ inr (λ x h e. none x.greatest.frame (record { digits_are = (same_fields line t f l n w d is x h e).frame; bytes_are = h.bytes; few = h.few }))
+              | inr none ↦ inr (λ x h e. none x.greatest.frame (record { digits_are = (same_fields form line t f l n w d is x h e).frame; bytes_are = h.bytes; few = h.few }))
               | inl bytes ↦ inl (record {
                 row = row_of first.0 last.0 names.0 w bytes.0;
                 is = record { first = first.1.0; last = last.1.0; some = names.1.some; receivers = names.1.names_are; receiver = name.0; bytes = bytes.1.bytes_are; few = bytes.1.few };
-                line_is = spelled_by line t f l n w d is (row_of first.0 last.0 names.0 w bytes.0)
+                line_is = spelled_by form line t f l n w d is (row_of first.0 last.0 names.0 w bytes.0)
                     (record { tag = tag; first = first.1.1; last = last.1.1; receivers = names.1.field_is; receiver = refl; frame = bytes.1.digits_are });
               })
             ]
@@ -135,25 +140,25 @@ module _ (line t f l n w d : List ℕ) (is : pieces 32 line ≡ t ∷ f ∷ l �
     ]
   ]
 
-not_six : (line : List ℕ) → ¬ (length (pieces 32 line) ≡ 6) → SpelledRow line ⊎ IsNoRow line
-not_six line other = inr (λ x h e. six_pieces x line h other e)
+not_six : (form : MomentForm) (line : List ℕ) → ¬ (length (pieces 32 line) ≡ 6) → SpelledRow form line ⊎ IsNoRow form line
+not_six form line other = inr (λ x h e. six_pieces form x line h other e)
 
-by_fields : (line : List ℕ) (ps : List (List ℕ)) → pieces 32 line ≡ ps → SpelledRow line ⊎ IsNoRow line
-by_fields line [] is = not_six line (λ six. omega (arith, ap length is, six))
-by_fields line (a ∷ []) is = not_six line (λ six. omega (arith, ap length is, six))
-by_fields line (a ∷ b ∷ []) is = not_six line (λ six. omega (arith, ap length is, six))
-by_fields line (a ∷ b ∷ c ∷ []) is = not_six line (λ six. omega (arith, ap length is, six))
-by_fields line (a ∷ b ∷ c ∷ d ∷ []) is = not_six line (λ six. omega (arith, ap length is, six))
-by_fields line (a ∷ b ∷ c ∷ d ∷ e ∷ []) is = not_six line (λ six. omega (arith, ap length is, six))
-by_fields line (t ∷ f ∷ l ∷ n ∷ w ∷ d ∷ []) is = row_or_none line t f l n w d is
-by_fields line (a ∷ b ∷ c ∷ d ∷ e ∷ f ∷ g ∷ ps) is = not_six line (λ six. omega (arith, ap length is, six))
+by_fields : (form : MomentForm) (line : List ℕ) (ps : List (List ℕ)) → pieces 32 line ≡ ps → SpelledRow form line ⊎ IsNoRow form line
+by_fields form line [] is = not_six form line (λ six. omega (arith, ap length is, six))
+by_fields form line (a ∷ []) is = not_six form line (λ six. omega (arith, ap length is, six))
+by_fields form line (a ∷ b ∷ []) is = not_six form line (λ six. omega (arith, ap length is, six))
+by_fields form line (a ∷ b ∷ c ∷ []) is = not_six form line (λ six. omega (arith, ap length is, six))
+by_fields form line (a ∷ b ∷ c ∷ d ∷ []) is = not_six form line (λ six. omega (arith, ap length is, six))
+by_fields form line (a ∷ b ∷ c ∷ d ∷ e ∷ []) is = not_six form line (λ six. omega (arith, ap length is, six))
+by_fields form line (t ∷ f ∷ l ∷ n ∷ w ∷ d ∷ []) is = row_or_none form line t f l n w d is
+by_fields form line (a ∷ b ∷ c ∷ d ∷ e ∷ f ∷ g ∷ ps) is = not_six form line (λ six. omega (arith, ap length is, six))
 
 -- ---- what a line is judged to be
 
-pub record Judged (gap : ℕ) (stage : Stage) (rows : List Row) (line : List ℕ) : Type 0 where
+pub record Judged (stage : Stage) (rows : List Row) (line : List ℕ) : Type 0 where
   pub result : Result Stage BookCause
   pub new : List Row
-  pub judged : IsJudgedIn gap stage result rows line new
+  pub judged : IsJudgedIn stage result rows line new
   pub known : result ≢ Err cause.Memory
 
 five : (a b c d e : Bool) → cond a (Some row.Order) (cond b (Some row.Span) (cond c (Some row.Near) (cond d (Some row.Receivers) (cond e (Some row.NotGreatest) None)))) ≡ Some row.Memory → ⊥
@@ -169,31 +174,56 @@ unfolding refusal
 never_memory gap rows x is = five (is_refused gap rows x row.Order) (is_refused gap rows x row.Span) (is_refused gap rows x row.Near)
     (is_refused gap rows x row.Receivers) (is_refused gap rows x row.NotGreatest) is
 
-judge_header : (gap : ℕ) (rows : List Row) (line : List ℕ) → Judged gap Header rows line
-judge_header gap rows line = elim (one_or_other line header) [
-  | inl same ↦ record { result = Ok Rows; new = rows; judged = (same, refl); known = λ e. absurd cc }
-  | inr other ↦ record { result = Err cause.Header; new = rows; judged = ((other, refl), refl); known = λ e. absurd cc }
+-- a line tells a gap up to n, or none
+gap_or_none : (line : List ℕ) (n : ℕ) → n ≤ greatest_gap → ((g : ℕ) × IsGap g × (line ≡ header_of (Three g))) ⊎ ((g : ℕ) → 0 < g → g ≤ n → line ≢ header_of (Three g))
+gap_or_none line zero h = inr (λ g some few e. absurd (omega (arith, some, few)))
+gap_or_none line (suc n) h = elim (gap_or_none line n (omega (arith, h))) [
+  | inl found ↦ inl found
+  | inr none ↦ elim (one_or_other line (header_of (Three (suc n)))) [
+    | inl same ↦ inl (suc n, (omega arith, h), same)
+    | inr other ↦ inr (λ g some few e. elim (cases_lt n g) [
+      | inl more ↦ let is : g ≡ suc n = omega (arith, more, few) in other (e ∙ ap (λ k. header_of (Three k)) is)
+      | inr less ↦ none g some (omega (arith, less)) e
+    ])
+  ]
 ]
 
-module _ (gap : ℕ) (rows : List Row) (line : List ℕ) (s : SpelledRow line) where
-  judge_why : (why : RowCause) → refusal gap rows s.row ≡ Some why → IsBookRow s.row → Judged gap Rows rows line
+judge_header : (rows : List Row) (line : List ℕ) → Judged Header rows line
+judge_header rows line = elim (one_or_other line (header_of One)) [
+  | inl same ↦ record { result = Ok (Rows One); new = []; judged = (tt, same, refl); known = λ e. absurd cc }
+  | inr first ↦ elim (one_or_other line (header_of Two)) [
+    | inl same ↦ record { result = Ok (Rows Two); new = []; judged = (tt, same, refl); known = λ e. absurd cc }
+    | inr second ↦ elim (gap_or_none line greatest_gap (omega arith)) [
+      | inl third ↦ record { result = Ok (Rows (Three third.0)); new = []; judged = (third.1, third.2, refl); known = λ e. absurd cc }
+      | inr none ↦ record {
+        result = Err cause.Header;
+        new = rows;
+        judged = (no_header line first second (λ g is. none g is.0 is.1), refl);
+        known = λ e. absurd cc;
+      }
+    ]
+  ]
+]
+
+module _ (v : Version) (rows : List Row) (line : List ℕ) (s : SpelledRow (form_of v) line) where
+  judge_why : (why : RowCause) → refusal (millis_of (gap_of v)) rows s.row ≡ Some why → IsBookRow (form_of v) s.row → Judged (Rows v) rows line
   judge_why row.Order e is = record { result = Err cause.Order; new = rows; judged = (inr (record { row = s.row; is = is; spelled = s.line_is; refused = e }), refl); known = λ f. absurd cc }
   judge_why row.Span e is = record { result = Err cause.Span; new = rows; judged = (inr (record { row = s.row; is = is; spelled = s.line_is; refused = e }), refl); known = λ f. absurd cc }
   judge_why row.Near e is = record { result = Err cause.Near; new = rows; judged = (inr (record { row = s.row; is = is; spelled = s.line_is; refused = e }), refl); known = λ f. absurd cc }
   judge_why row.Receivers e is = record { result = Err cause.Receivers; new = rows; judged = (inr (record { row = s.row; is = is; spelled = s.line_is; refused = e }), refl); known = λ f. absurd cc }
   judge_why row.NotGreatest e is = record { result = Err cause.NotGreatest; new = rows; judged = (inr (record { row = s.row; is = is; spelled = s.line_is; refused = e }), refl); known = λ f. absurd cc }
-  judge_why row.Memory e is = absurd (never_memory gap rows s.row e)
+  judge_why row.Memory e is = absurd (never_memory (millis_of (gap_of v)) rows s.row e)
 
-  judge_row : Sound gap rows → (o : Option RowCause) → refusal gap rows s.row ≡ o → IsBookRow s.row → Judged gap Rows rows line
+  judge_row : Sound (millis_of (gap_of v)) rows → (o : Option RowCause) → refusal (millis_of (gap_of v)) rows s.row ≡ o → IsBookRow (form_of v) s.row → Judged (Rows v) rows line
   judge_row sound None e is = record {
-    result = Ok Rows;
+    result = Ok (Rows v);
     new = rows ++ s.row ∷ [];
-    judged = (s.row, is, s.line_is, refl, (none_exactly gap rows s.row sound).0 e);
+    judged = (refl, s.row, is, s.line_is, refl, (none_exactly (millis_of (gap_of v)) rows s.row sound).0 e);
     known = λ f. absurd cc;
   }
   judge_row sound (Some why) e is = judge_why why e is
 
-  judge_frame : Sound gap rows → (r : Result (List ℕ) FrameFault) → frame_of s.row.greatest.frame ≡ r → Judged gap Rows rows line
+  judge_frame : Sound (millis_of (gap_of v)) rows → (r : Result (List ℕ) FrameFault) → frame_of s.row.greatest.frame ≡ r → Judged (Rows v) rows line
   judge_frame sound (Err fault) e = record {
     result = Err cause.Frame;
     new = rows;
@@ -201,24 +231,24 @@ module _ (gap : ℕ) (rows : List Row) (line : List ℕ) (s : SpelledRow line) w
     known = λ f. absurd cc;
   }
   judge_frame sound (Ok b) e =
-      judge_row sound (refusal gap rows s.row) refl (record { spelled = s.is; frame = e ∙ ap (λ (l : List ℕ). Ok l) (frame_is s.row.greatest.frame b e) })
+      judge_row sound (refusal (millis_of (gap_of v)) rows s.row) refl (record { spelled = s.is; frame = e ∙ ap (λ (l : List ℕ). Ok l) (frame_is s.row.greatest.frame b e) })
 
-judge_line : (gap : ℕ) (rows : List Row) (line : List ℕ) → Sound gap rows → Judged gap Rows rows line
-judge_line gap rows line sound = by (is_end line) refl where
-  by : (b : Bool) → is_end line ≡ b → Judged gap Rows rows line
+judge_line : (v : Version) (rows : List Row) (line : List ℕ) → Sound (millis_of (gap_of v)) rows → Judged (Rows v) rows line
+judge_line v rows line sound = by (is_end line) refl where
+  by : (b : Bool) → is_end line ≡ b → Judged (Rows v) rows line
   by true e = elim (one_or_other line (end_line (length rows))) [
-    | inl same ↦ record { result = Ok Done; new = rows; judged = (same, refl); known = λ f. absurd cc }
+    | inl same ↦ record { result = Ok (Done v); new = rows; judged = (refl, same, refl); known = λ f. absurd cc }
     | inr other ↦ record { result = Err cause.Ending; new = rows; judged = (inr (e, other), refl); known = λ f. absurd cc }
   ]
-  by false e = elim (by_fields line (pieces 32 line) refl) [
-    | inl s ↦ judge_frame gap rows line s sound (frame_of s.row.greatest.frame) refl
+  by false e = elim (by_fields (form_of v) line (pieces 32 line) refl) [
+    | inl s ↦ judge_frame v rows line s sound (frame_of s.row.greatest.frame) refl
     | inr none ↦ record { result = Err cause.RowSyntax; new = rows; judged = (inr (e, none), refl); known = λ f. absurd cc }
   ]
 
-judge : (gap : ℕ) (stage : Stage) (rows : List Row) (line : List ℕ) → Sound gap rows → Judged gap stage rows line
-judge gap Header rows line sound = judge_header gap rows line
-judge gap Rows rows line sound = judge_line gap rows line sound
-judge gap Done rows line sound = record { result = Err cause.After; new = rows; judged = (refl, refl); known = λ f. absurd cc }
+judge : (stage : Stage) (rows : List Row) (line held : List ℕ) → HoldsIn stage rows held → Judged stage rows line
+judge Header rows line held h = judge_header rows line
+judge (Rows v) rows line held h = judge_line v rows line h.sound
+judge (Done v) rows line held h = record { result = Err cause.After; new = rows; judged = (refl, refl); known = λ f. absurd cc }
 
 -- ---- a text, line by line
 
@@ -239,66 +269,48 @@ cut_text (b ∷ text) = by (cut_text text) (is_byte 10 b) refl where
   ]
 
 -- it is a book's, or has a first fault
-pub record HasFault (gap : ℕ) (text : List ℕ) (e : Ending) : Type 0 where
+pub record HasFault (text : List ℕ) (e : Ending) : Type 0 where
   pub fault : BookFault
-  pub first : FirstFault gap text e fault
+  pub first : FirstFault text e fault
 
-abbrev pub Found : ℕ → List ℕ → Ending → Type 0
-Found gap text e = IsBookText gap text e ⊎ HasFault gap text e
+abbrev pub Found : List ℕ → Ending → Type 0
+Found text e = IsBookText text e ⊎ HasFault text e
 
 -- the text ends in this line
-at_end : (gap : ℕ) (stage : Stage) (rows : List Row) (line t : List ℕ) (e : Ending) → StandsAfter gap stage rows line t → Found gap t e
-at_end gap stage rows line t e s = by (may_end stage e) refl where
-  whole : (stage : Stage) (e : Ending) → may_end stage e ≡ true → StandsAfter gap stage rows line t → IsBookText gap t e
-  whole Header e may s = absurd (let f : false ≡ true = may in cc)
-  whole Rows e may s = absurd (let f : false ≡ true = may in cc)
-  whole Done ending.Read may s = absurd (let f : false ≡ true = may in cc)
-  whole Done ending.TooLong may s = absurd (let f : false ≡ true = may in cc)
-  whole Done ending.End may s = record {
-    rows = rows;
-    is = s.book;
-    text_is = s.text_is ∙ ap (λ l. text_of_lines (lines_of rows) ++ l) s.holds ∙ append-nil (book_text rows);
-    ended = refl;
-  }
-
-  by : (b : Bool) → may_end stage e ≡ b → Found gap t e
-  by true may = inl (whole stage e may s)
-  by false may = inr (record { fault = _; first = cut_fault gap stage rows line t e may s })
+at_end : (stage : Stage) (rows : List Row) (line t : List ℕ) (e : Ending) → StandsAfter stage rows line t → Found t e
+at_end stage rows line t e s = by (may_end stage e) refl where
+  by : (b : Bool) → may_end stage e ≡ b → Found t e
+  by true may = let r = ended_whole stage rows line t e may s in inl (record { version = r.version; rows = rows; is = r.is; text_is = r.text_is; ended = r.ended })
+  by false may = inr (record { fault = _; first = cut_fault stage rows line t e may s })
 
 -- of a line that goes on
-goes_on : (gap : ℕ) (stage : Stage) (rows : List Row) (line t : List ℕ) → (stage ≡ Done → line ≡ []) → Lacks 10 line → StandsAfter gap stage rows [] t → StandsAfter gap stage rows line (t ++ line)
-goes_on gap stage rows line t none one s = record {
-  text_is = ap (λ l. l ++ line) (s.text_is ∙ append-nil _);
-  one = one;
-  holds = holds stage none s.holds;
-  book = s.book;
-} where
-  holds : (stage : Stage) → (stage ≡ Done → line ≡ []) → HoldsIn stage rows [] → HoldsIn stage rows line
-  holds Header none h = h
-  holds Rows none h = tt
-  holds Done none h = none refl
+goes_on : (stage : Stage) (rows : List Row) (line t : List ℕ) → (is_done stage ≡ true → ⊥) → Lacks 10 line → StandsAfter stage rows [] t → StandsAfter stage rows line (t ++ line)
+goes_on stage rows line t going one s = held_stands stage rows [] t line (undone (is_done stage) going) one s where
+  undone : (b : Bool) → (b ≡ true → ⊥) → b ≡ false
+  undone true h = absurd (h refl)
+  undone false h = refl
 
-after_last : (gap : ℕ) (rows : List Row) (rest t : List ℕ) (e : Ending) → 0 < length rest → StandsAfter gap Done rows [] t → HasFault gap (t ++ rest) e
-after_last gap rows rest t e some s = record {
-  fault = record { line = length (lines_of rows) + 1; cause = cause.After };
+after_last : (v : Version) (rows : List Row) (rest t : List ℕ) (e : Ending) → 0 < length rest → StandsAfter (Done v) rows [] t → HasFault (t ++ rest) e
+after_last v rows rest t e some s = record {
+  fault = record { line = length (lines_of v rows) + 1; cause = cause.After };
   first = record {
-    front = lines_of rows;
+    front = lines_of v rows;
     rest = rest;
-    whole = ap (λ l. l ++ rest) (s.text_is ∙ append-nil (book_text rows));
+    whole = ap (λ l. l ++ rest) (s.text_is ∙ append-nil (book_text v rows));
     line = refl;
-    fault = inr (rows, s.book, inr (refl, inl (some, refl)));
+    fault = inr (v, rows, s.holds.0, inr (refl, inl (some, refl)));
   };
 }
 
-abbrev FoundAfter : ℕ → Ending → List ℕ → Type 0
-FoundAfter gap e rest = (stage : Stage) (rows : List Row) (t : List ℕ) → StandsAfter gap stage rows [] t → Found gap (t ++ rest) e
+abbrev FoundAfter : Ending → List ℕ → Type 0
+FoundAfter e rest = (stage : Stage) (rows : List Row) (t : List ℕ) → StandsAfter stage rows [] t → Found (t ++ rest) e
 
 -- one line more, and then what is found behind it
-step : (gap : ℕ) (e : Ending) (rest : List ℕ) (stage : Stage) (rows : List Row) (t : List ℕ) → (stage ≡ Done → ⊥) → StandsAfter gap stage rows [] t
-    → ((more : List ℕ) → length more < length rest → FoundAfter gap e more) → Found gap (t ++ rest) e
-step gap e rest stage rows t going s next = elim (cut_text rest) [
-  | inl lacks ↦ at_end gap stage rows rest (t ++ rest) e (goes_on gap stage rows rest t (λ done. absurd (going done)) lacks s)
-  | inr c ↦ by c (goes_on gap stage rows c.line t (λ done. absurd (going done)) c.one s) (judge gap stage rows c.line s.book.sound)
+step : (e : Ending) (rest : List ℕ) (stage : Stage) (rows : List Row) (t : List ℕ) → (is_done stage ≡ true → ⊥) → StandsAfter stage rows [] t
+    → ((more : List ℕ) → length more < length rest → FoundAfter e more) → Found (t ++ rest) e
+step e rest stage rows t going s next = elim (cut_text rest) [
+  | inl lacks ↦ at_end stage rows rest (t ++ rest) e (goes_on stage rows rest t going lacks s)
+  | inr c ↦ by c (goes_on stage rows c.line t going c.one s) (judge stage rows c.line [] s.holds)
 ] where
   text_is : (c : CutsLine rest) → (t ++ c.line) ++ 10 ∷ c.more ≡ t ++ rest
   text_is c = append_assoc t c.line (10 ∷ c.more) ∙ ap (λ l. t ++ l) (sym c.is)
@@ -306,41 +318,36 @@ step gap e rest stage rows t going s next = elim (cut_text rest) [
   shorter : (c : CutsLine rest) → length c.more < length rest
   shorter c = let l = length-append c.line (10 ∷ c.more) in omega (arith, l, ap length c.is)
 
-  whole : (c : CutsLine rest) (r : Result Stage BookCause) (new : List Row) → StandsAfter gap stage rows c.line (t ++ c.line) → IsJudgedIn gap stage r rows c.line new → r ≢ Err cause.Memory → Found gap (t ++ rest) e
+  whole : (c : CutsLine rest) (r : Result Stage BookCause) (new : List Row) → StandsAfter stage rows c.line (t ++ c.line) → IsJudgedIn stage r rows c.line new → r ≢ Err cause.Memory → Found (t ++ rest) e
   whole c (Ok after) new stands judged known =
-      subst (λ l. Found gap l e) (append_assoc (t ++ c.line) (10 ∷ []) c.more ∙ text_is c)
-      (next c.more (shorter c) after new ((t ++ c.line) ++ 10 ∷ []) (ended_stands gap stage after rows new c.line (t ++ c.line) judged stands))
-  whole c (Err k) new stands judged known = elim (ended_fault gap stage rows new c.line (t ++ c.line) c.more k judged stands) [
+      subst (λ l. Found l e) (append_assoc (t ++ c.line) (10 ∷ []) c.more ∙ text_is c)
+      (next c.more (shorter c) after new ((t ++ c.line) ++ 10 ∷ []) (ended_stands stage after rows new c.line (t ++ c.line) judged stands))
+  whole c (Err k) new stands judged known = elim (ended_fault stage rows new c.line (t ++ c.line) c.more k judged stands) [
     | inl m ↦ absurd (known (ap (λ (x : BookCause). Err x) m.refused))
     | inr first ↦ inr (record {
       fault = record { line = line_number stage new; cause = k };
-      first = subst (λ l. FirstFault gap l e (record { line = line_number stage new; cause = k })) (text_is c) (first e);
+      first = subst (λ l. FirstFault l e (record { line = line_number stage new; cause = k })) (text_is c) (first e);
     })
   ]
 
-  by : (c : CutsLine rest) → StandsAfter gap stage rows c.line (t ++ c.line) → Judged gap stage rows c.line → Found gap (t ++ rest) e
+  by : (c : CutsLine rest) → StandsAfter stage rows c.line (t ++ c.line) → Judged stage rows c.line → Found (t ++ rest) e
   by c stands j = whole c j.result j.new stands j.judged j.known
 
-run : (gap n : ℕ) (e : Ending) (rest : List ℕ) → length rest ≤ n → FoundAfter gap e rest
-run gap n e rest fits Done rows t s = elim (cases_lt 0 (length rest)) [
-  | inl some ↦ inr (after_last gap rows rest t e some s)
-  | inr none ↦ subst (λ l. Found gap (t ++ l) e) (sym (nil_from_length rest (omega (arith, none)))) (at_end gap Done rows [] (t ++ []) e (subst (λ l. StandsAfter gap Done rows [] l) (sym (append-nil t)) s))
+run : (n : ℕ) (e : Ending) (rest : List ℕ) → length rest ≤ n → FoundAfter e rest
+run n e rest fits (Done v) rows t s = elim (cases_lt 0 (length rest)) [
+  | inl some ↦ inr (after_last v rows rest t e some s)
+  | inr none ↦ subst (λ l. Found (t ++ l) e) (sym (nil_from_length rest (omega (arith, none)))) (at_end (Done v) rows [] (t ++ []) e (subst (λ l. StandsAfter (Done v) rows [] l) (sym (append-nil t)) s))
 ]
-run gap zero e rest fits Header rows t s = step gap e rest Header rows t (λ done. absurd (let f : Header ≡ Done = done in cc)) s (λ more less. absurd (omega (arith, less, fits)))
-run gap zero e rest fits Rows rows t s = step gap e rest Rows rows t (λ done. absurd (let f : Rows ≡ Done = done in cc)) s (λ more less. absurd (omega (arith, less, fits)))
-run gap (suc n) e rest fits Header rows t s = step gap e rest Header rows t (λ done. absurd (let f : Header ≡ Done = done in cc)) s (λ more less. run gap n e more (omega (arith, less, fits)))
-run gap (suc n) e rest fits Rows rows t s = step gap e rest Rows rows t (λ done. absurd (let f : Rows ≡ Done = done in cc)) s (λ more less. run gap n e more (omega (arith, less, fits)))
+run zero e rest fits Header rows t s = step e rest Header rows t (λ done. absurd (let f : false ≡ true = done in cc)) s (λ more less. absurd (omega (arith, less, fits)))
+run zero e rest fits (Rows v) rows t s = step e rest (Rows v) rows t (λ done. absurd (let f : false ≡ true = done in cc)) s (λ more less. absurd (omega (arith, less, fits)))
+run (suc n) e rest fits Header rows t s = step e rest Header rows t (λ done. absurd (let f : false ≡ true = done in cc)) s (λ more less. run n e more (omega (arith, less, fits)))
+run (suc n) e rest fits (Rows v) rows t s = step e rest (Rows v) rows t (λ done. absurd (let f : false ≡ true = done in cc)) s (λ more less. run n e more (omega (arith, less, fits)))
 
-found : (gap : ℕ) (text : List ℕ) (e : Ending) → Found gap text e
-found gap text e = run gap (length text) e text (omega arith) Header [] [] (record {
-  text_is = refl;
-  one = tt;
-  holds = refl;
-  book = record { sound = record { ascending = tt; apart = tt; each = λ x h. absurd h }; each = All-nil IsBookRow };
-})
+found : (text : List ℕ) (e : Ending) → Found text e
+found text e = run (length text) e text (omega arith) Header [] [] (record { text_is = refl; one = tt; holds = refl })
 
-pub book_or_fault : (gap : ℕ) (text : List ℕ) (e : Ending) → IsBookText gap text e ⊎ ((f : BookFault) × FirstFault gap text e f)
-book_or_fault gap text e = elim (found gap text e) [
+pub book_or_fault : (text : List ℕ) (e : Ending) → IsBookText text e ⊎ ((f : BookFault) × FirstFault text e f)
+book_or_fault text e = elim (found text e) [
   | inl whole ↦ inl whole
   | inr has ↦ inr (has.fault, has.first)
 ]

@@ -5,7 +5,7 @@ use Rattle.std.proofs.KnownBytes.{Consumes-nil, Consumes-trans}
 use Rattle.aprs_log.specs.LogAnswers.{Gets, EndsSo}
 use Rattle.aprs_log.specs.declared.Ending.{Ending}
 use Rattle.aprs_log.specs.declared.Ending.TheVariants as ending
-use Rattle.aprs_laws.specs.Row.{Row}
+use Rattle.aprs_laws.specs.BookValue.{BookValue}
 use Rattle.aprs_booktext.specs.FirstFault.{Reads, ReadsSo, piece_most}
 use Rattle.aprs_booktext.specs.Reader.{IsFault}
 use Rattle.aprs_booktext.specs.declared.fault.BookFault.{BookFault}
@@ -61,19 +61,19 @@ module _ (P : List ℕ → Type 0) (head : List ℕ) (old now : Option (List ℕ
     may (Some y) = record { rest = y; whole = refl; ends = (refl, omega arith) }
 
 -- what was got is read so
-pub Reads-got : (gap : ℕ) (old after : Option (List ℕ)) (limit : ℕ) (head got : List ℕ) (e : Ending) (r : Result (List Row) BookFault) → IfSome old (λ input. Gets limit (head ++ input) after (head ++ got) e)
-    → ReadsSo gap r (head ++ got) e → IfSome old (λ input. Reads gap limit head input after r)
-Reads-got gap None after limit head got e r gets reads = tt
-Reads-got gap (Some input) after limit head got e r gets reads = record { got = got; ending = e; gets = gets; reads = reads }
+pub Reads-got : (old after : Option (List ℕ)) (limit : ℕ) (head got : List ℕ) (e : Ending) (r : Result BookValue BookFault) → IfSome old (λ input. Gets limit (head ++ input) after (head ++ got) e)
+    → ReadsSo r (head ++ got) e → IfSome old (λ input. Reads limit head input after r)
+Reads-got None after limit head got e r gets reads = tt
+Reads-got (Some input) after limit head got e r gets reads = record { got = got; ending = e; gets = gets; reads = reads }
 
-pub fault_reads : (gap : ℕ) (f : BookFault) (t : List ℕ) (e : Ending) → IsFault gap piece_most f t → ReadsSo gap (Err f) t e
-fault_reads gap f t e h = elim h [
+pub fault_reads : (f : BookFault) (t : List ℕ) (e : Ending) → IsFault piece_most f t → ReadsSo (Err f) t e
+fault_reads f t e h = elim h [
   | inl m ↦ inl m
   | inr first ↦ inr (first e)
 ]
 
 -- a fault in what was got
-pub Reads-fault : (gap : ℕ) (f : BookFault) (head : List ℕ) (old now : Option (List ℕ)) (limit left : ℕ) → Got (IsFault gap piece_most f) head old now limit left
-    → IfSome old (λ input. Reads gap limit head input now (Err f))
-Reads-fault gap f head old now limit left p =
-    Reads-got gap old now limit head p.got ending.Read (Err f) (Gets-read (IsFault gap piece_most f) head old now limit left p) (fault_reads gap f (head ++ p.got) ending.Read p.stands)
+pub Reads-fault : (f : BookFault) (head : List ℕ) (old now : Option (List ℕ)) (limit left : ℕ) → Got (IsFault piece_most f) head old now limit left
+    → IfSome old (λ input. Reads limit head input now (Err f))
+Reads-fault f head old now limit left p =
+    Reads-got old now limit head p.got ending.Read (Err f) (Gets-read (IsFault piece_most f) head old now limit left p) (fault_reads f (head ++ p.got) ending.Read p.stands)

@@ -10,3 +10,4 @@ pub mod OneText
 pub mod RowReading
 pub mod Sending
 pub mod Written
+pub mod Versions

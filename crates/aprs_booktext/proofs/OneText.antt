@@ -1,21 +1,20 @@
 -- The text of a book's rows is that of no others, and has no fault but that it may be cut short.
-use Rattle.std.proofs.Common.{◌≡◌, ℕ, ◌+◌, ◌%◌, ◌^◌, ◌<◌, ◌≤◌, true, false, eqb, List, [], ◌∷◌, ◌++◌, length, get_or, map, Some, None, Ok, IsErr, inl, inr, refl, sym, ap, ◌∙◌, subst, append_assoc, append-nil, length-append, arith}
+use Rattle.std.proofs.Common.{◌≡◌, ℕ, ◌+◌, ◌^◌, ◌<◌, true, false, eqb, List, [], ◌∷◌, ◌++◌, length, get_or, map, Some, None, Ok, IsErr, inl, inr, refl, sym, ap, ◌∙◌, subst, append_assoc, append-nil, length-append, arith}
 use Rattle.std.specs.Prelude.{◌≢◌, All, codes}
 use Rattle.std.specs.List.{join_with_byte}
 use Rattle.std.proofs.lemmas.List.Elements.{All-head, All-tail}
-use Rattle.std.specs.Fmt.{decimal}
-use Rattle.std.proofs.lemmas.Fmt.{decimal_by_steps}
 use Rattle.std.proofs.lemmas.Bool.{false≢true}
-use Rattle.std.proofs.lemmas.Bool.Decides.{nat_tests}
 use Rattle.std.proofs.lemmas.List.{nil_from_length}
 use Rattle.std.proofs.lemmas.List.Concat.{flat_map-append}
 use Rattle.hex.specs.Hex.{encode_lower, decode_of}
 use Rattle.hex.proofs.HexLemmas.{decode_of-encode_lower}
 use Rattle.aprs_ax25.specs.FrameFault.{frame_of}
-use Rattle.aprs_log.specs.Moment.{moment_of, moment_text}
-use Rattle.aprs_log.proofs.MomentLemmas.{text-moment_of, moment_text-is}
+use Rattle.aprs_log.specs.Moment.{moment_in, moment_text_in}
+use Rattle.aprs_log.specs.declared.moment_form.MomentForm.{MomentForm}
 use Rattle.aprs_log.specs.declared.Ending.{Ending}
 use Rattle.aprs_log.specs.declared.Ending.TheVariants as ending
+use Rattle.aprs_laws.specs.BookValue.{BookValue}
+use Rattle.aprs_laws.specs.Gap.{millis_of}
 use Rattle.aprs_laws.specs.Row.{Row, last_of}
 use Rattle.aprs_laws.specs.Sound.{Sound}
 use Rattle.aprs_laws.proofs.Pushes.{sound_front}
@@ -24,13 +23,16 @@ use Rattle.aprs_book.specs.Shown.{row_of}
 use Rattle.aprs_book.specs.declared.row_cause.RowCause.{RowCause}
 use Rattle.aprs_book.proofs.Refusals.{none_exactly}
 use Rattle.aprs_booktext.specs.FirstFault.{FirstFault, FaultBehind, FaultAtStart, FaultAfterRows, FaultAtEnd, HasLine, IsCut, IsRefused, IsWrong, missing}
-use Rattle.aprs_booktext.specs.Lines.{is_byte, Lacks, pieces}
-use Rattle.aprs_booktext.specs.Text.{header, fields_of, row_line, end_line, text_of_lines, ended_by_lf, book_text, IsSpelled, IsBookRow, IsBookRows}
+use Rattle.aprs_booktext.specs.Lines.{Lacks, pieces}
+use Rattle.aprs_booktext.specs.Text.{fields_of, row_line, end_line, text_of_lines, ended_by_lf, book_text, IsSpelled, IsBookRow, IsBookRows, IsTold, written_text, written_version}
+use Rattle.aprs_booktext.specs.Version.{form_of, gap_of, header_of, IsVersion}
 use Rattle.aprs_booktext.specs.declared.fault.BookCause.{BookCause}
 use Rattle.aprs_booktext.specs.declared.fault.BookCause.TheVariants as cause
 use Rattle.aprs_booktext.specs.declared.fault.BookFault.{BookFault}
-use Rattle.aprs_booktext.proofs.Cuts.{lacks_append, lacks_joined}
-use Rattle.aprs_booktext.proofs.Spellings.{names_pieces, row_fields_lack, row_pieces}
+use Rattle.aprs_booktext.specs.declared.version.Version.{Version}
+use Rattle.aprs_booktext.proofs.Cuts.{lacks_joined}
+use Rattle.aprs_booktext.proofs.Versions.{decimal_lacks, header_lacks, headers_differ}
+use Rattle.aprs_booktext.proofs.Spellings.{moment_read, names_pieces, row_fields_lack, row_pieces}
 
 -- ---- lines
 
@@ -64,28 +66,28 @@ line_first line ls rest = ap (λ l. l ++ rest) (append_assoc line (10 ∷ []) (t
 
 -- ---- no line of a row or of a number has an LF
 
-pub row_lacks : (x : Row) → IsSpelled x → Lacks 10 (row_line x)
-row_lacks x h = lacks_joined 10 32 (fields_of x) refl (row_fields_lack 10 x (omega arith) h)
+pub row_lacks : (form : MomentForm) (x : Row) → IsSpelled form x → Lacks 10 (row_line form x)
+row_lacks form x h = lacks_joined 10 32 (fields_of form x) refl (row_fields_lack form 10 x (omega arith) h)
 
 -- ---- a line is that of one row
 
-same_moment : (m n : ℕ) → m ≤ 4102444799 → n ≤ 4102444799 → moment_text m ≡ moment_text n → m ≡ n
-same_moment m n h k e =
-    let some : Some m ≡ Some n = sym (text-moment_of (moment_text m) m (moment_text-is m h)) ∙ ap moment_of e ∙ text-moment_of (moment_text n) n (moment_text-is n k) in
+same_moment : (form : MomentForm) (m n : ℕ) → IsTold form m → IsTold form n → moment_text_in form m ≡ moment_text_in form n → m ≡ n
+same_moment form m n h k e =
+    let some : Some m ≡ Some n = sym (moment_read form m h) ∙ ap (moment_in form) e ∙ moment_read form n k in
     cc
 
-pub same_row : (x y : Row) → IsSpelled x → IsSpelled y → row_line x ≡ row_line y → x ≡ y
-same_row x y h k e =
-    let lists : codes "T" ∷ moment_text x.first ∷ moment_text (last_of x) ∷ join_with_byte 44 x.receivers ∷ x.greatest.receiver ∷ encode_lower x.greatest.frame ∷ []
-    ≡ codes "T" ∷ moment_text y.first ∷ moment_text (last_of y) ∷ join_with_byte 44 y.receivers ∷ y.greatest.receiver ∷ encode_lower y.greatest.frame ∷ []
-    = sym (row_pieces x h) ∙ ap (pieces 32) e ∙ row_pieces y k in
-    let first_text : moment_text x.first ≡ moment_text y.first = cc in
-    let last_text : moment_text (last_of x) ≡ moment_text (last_of y) = cc in
+pub same_row : (form : MomentForm) (x y : Row) → IsSpelled form x → IsSpelled form y → row_line form x ≡ row_line form y → x ≡ y
+same_row form x y h k e =
+    let lists : codes "T" ∷ moment_text_in form x.first ∷ moment_text_in form (last_of x) ∷ join_with_byte 44 x.receivers ∷ x.greatest.receiver ∷ encode_lower x.greatest.frame ∷ []
+    ≡ codes "T" ∷ moment_text_in form y.first ∷ moment_text_in form (last_of y) ∷ join_with_byte 44 y.receivers ∷ y.greatest.receiver ∷ encode_lower y.greatest.frame ∷ []
+    = sym (row_pieces form x h) ∙ ap (pieces 32) e ∙ row_pieces form y k in
+    let first_text : moment_text_in form x.first ≡ moment_text_in form y.first = cc in
+    let last_text : moment_text_in form (last_of x) ≡ moment_text_in form (last_of y) = cc in
     let names_text : join_with_byte 44 x.receivers ≡ join_with_byte 44 y.receivers = cc in
     let who : x.greatest.receiver ≡ y.greatest.receiver = cc in
     let digits : encode_lower x.greatest.frame ≡ encode_lower y.greatest.frame = cc in
-    let first = same_moment x.first y.first h.first k.first first_text in
-    let last = same_moment (last_of x) (last_of y) h.last k.last last_text in
+    let first = same_moment form x.first y.first h.first k.first first_text in
+    let last = same_moment form (last_of x) (last_of y) h.last k.last last_text in
     let names = sym (names_pieces x.receivers h.some h.receivers) ∙ ap (pieces 44) names_text ∙ names_pieces y.receivers k.some k.receivers in
     let read : Ok x.greatest.frame ≡ Ok y.greatest.frame = sym (decode_of-encode_lower x.greatest.frame h.bytes) ∙ ap decode_of digits ∙ decode_of-encode_lower y.greatest.frame k.bytes in
     let frame : x.greatest.frame ≡ y.greatest.frame = cc in
@@ -97,88 +99,111 @@ same_row x y h k e =
 
 -- ---- the last line
 
-digit_lacks : (d : ℕ) → 48 ≤ d → is_byte 10 d ≡ false
-digit_lacks d h = grind (arith, nat_tests)
-
-decimal_lacks : (n : ℕ) → n < 2 ^ 64 → Lacks 10 (decimal n)
-decimal_lacks n h = decimal_by_steps (λ m ds. Lacks 10 ds)
-    (λ m low. (digit_lacks (48 + m) (omega arith), tt))
-    (λ m ds low before. lacks_append 10 ds ((48 + m % 10) ∷ []) before (digit_lacks (48 + m % 10) (omega arith), tt)) n h
-
 pub end_lacks : (n : ℕ) → n < 2 ^ 64 → Lacks 10 (end_line n)
 end_lacks n h = (refl, (refl, (refl, (refl, decimal_lacks n h))))
 
 -- it is no row's
-end_or_row : (n : ℕ) (x : Row) (a b : List ℕ) → end_line n ++ a ≡ row_line x ++ b → ⊥
-end_or_row n x a b e = let f : 69 ≡ 84 = ap (λ l. get_or l 0 0) e in omega (arith, f)
+end_or_row : (form : MomentForm) (n : ℕ) (x : Row) (a b : List ℕ) → end_line n ++ a ≡ row_line form x ++ b → ⊥
+end_or_row form n x a b e = let f : 69 ≡ 84 = ap (λ l. get_or l 0 0) e in omega (arith, f)
 
-pub end_is_row : (n : ℕ) (x : Row) → end_line n ≡ row_line x → ⊥
-end_is_row n x e = let f : 69 ≡ 84 = ap (λ l. get_or l 0 0) e in omega (arith, f)
+pub end_is_row : (form : MomentForm) (n : ℕ) (x : Row) → end_line n ≡ row_line form x → ⊥
+end_is_row form n x e = let f : 69 ≡ 84 = ap (λ l. get_or l 0 0) e in omega (arith, f)
 
 -- ---- the lines of rows, and then the last
 
-abbrev pub row_lines : List Row → ℕ → List ℕ
-row_lines rows n = text_of_lines (map row_line rows ++ end_line n ∷ [])
+abbrev pub row_lines : MomentForm → List Row → ℕ → List ℕ
+row_lines form rows n = text_of_lines (map (row_line form) rows ++ end_line n ∷ [])
 
 -- b's rows come first
-pub record Begins (a b : List Row) (n : ℕ) (rest : List ℕ) : Type 0 where
+pub record Begins (form : MomentForm) (a b : List Row) (n : ℕ) (rest : List ℕ) : Type 0 where
   pub more : List Row
   pub rows : a ≡ b ++ more
-  pub text : rest ≡ row_lines more n
+  pub text : rest ≡ row_lines form more n
 
-row_lines_cons : (x : Row) (a : List Row) (n : ℕ) → row_lines (x ∷ a) n ≡ row_line x ++ 10 ∷ row_lines a n
-row_lines_cons x a n = append_assoc (row_line x) (10 ∷ []) (row_lines a n)
+row_lines_cons : (form : MomentForm) (x : Row) (a : List Row) (n : ℕ) → row_lines form (x ∷ a) n ≡ row_line form x ++ 10 ∷ row_lines form a n
+row_lines_cons form x a n = append_assoc (row_line form x) (10 ∷ []) (row_lines form a n)
 
-row_lines_nil : (n : ℕ) → row_lines [] n ≡ end_line n ++ 10 ∷ []
-row_lines_nil n = append-nil (ended_by_lf (end_line n))
+row_lines_nil : (form : MomentForm) (n : ℕ) → row_lines form [] n ≡ end_line n ++ 10 ∷ []
+row_lines_nil form n = append-nil (ended_by_lf (end_line n))
 
-peel : (a b : List Row) (n : ℕ) (rest : List ℕ) → All IsBookRow a → All IsBookRow b → row_lines a n ≡ text_of_lines (map row_line b) ++ rest → Begins a b n rest
-peel a [] n rest h k e = record { more = a; rows = refl; text = sym e }
-peel [] (y ∷ b) n rest h k e = absurd (end_or_row n y (10 ∷ []) (10 ∷ (text_of_lines (map row_line b) ++ rest)) (sym (row_lines_nil n) ∙ e ∙ line_first (row_line y) (map row_line b) rest))
-peel (x ∷ a) (y ∷ b) n rest h k e =
-    let hx = All-head IsBookRow x a h in
-    let ky = All-head IsBookRow y b k in
-    let whole : row_line x ++ 10 ∷ row_lines a n ≡ row_line y ++ 10 ∷ (text_of_lines (map row_line b) ++ rest) = sym (row_lines_cons x a n) ∙ e ∙ line_first (row_line y) (map row_line b) rest in
-    let s = same_line 10 _ _ _ _ (row_lacks x hx.spelled) (row_lacks y ky.spelled) whole in
-    let same = same_row x y hx.spelled ky.spelled s.0 in
-    let p = peel a b n rest (All-tail IsBookRow x a h) (All-tail IsBookRow y b k) s.1 in
+peel : (form : MomentForm) (a b : List Row) (n : ℕ) (rest : List ℕ) → All (IsBookRow form) a → All (IsBookRow form) b → row_lines form a n ≡ text_of_lines (map (row_line form) b) ++ rest → Begins form a b n rest
+peel form a [] n rest h k e = record { more = a; rows = refl; text = sym e }
+peel form [] (y ∷ b) n rest h k e =
+    absurd (end_or_row form n y (10 ∷ []) (10 ∷ (text_of_lines (map (row_line form) b) ++ rest)) (sym (row_lines_nil form n) ∙ e ∙ line_first (row_line form y) (map (row_line form) b) rest))
+peel form (x ∷ a) (y ∷ b) n rest h k e =
+    let hx = All-head (IsBookRow form) x a h in
+    let ky = All-head (IsBookRow form) y b k in
+    let whole : row_line form x ++ 10 ∷ row_lines form a n ≡ row_line form y ++ 10 ∷ (text_of_lines (map (row_line form) b) ++ rest)
+    = sym (row_lines_cons form x a n) ∙ e ∙ line_first (row_line form y) (map (row_line form) b) rest in
+    let s = same_line 10 _ _ _ _ (row_lacks form x hx.spelled) (row_lacks form y ky.spelled) whole in
+    let same = same_row form x y hx.spelled ky.spelled s.0 in
+    let p = peel form a b n rest (All-tail (IsBookRow form) x a h) (All-tail (IsBookRow form) y b k) s.1 in
     record { more = p.more; rows = ap (λ z. z ∷ a) same ∙ ap (λ l. y ∷ l) p.rows; text = p.text }
 
-book_first : (rows : List Row) → book_text rows ≡ header ++ 10 ∷ row_lines rows (length rows)
-book_first rows = append_assoc header (10 ∷ []) (row_lines rows (length rows))
-
-pub header_lacks : Lacks 10 header
-header_lacks = (refl, (refl, (refl, (refl, (refl, (refl, (refl, (refl, (refl, (refl, tt))))))))))
+book_first : (v : Version) (rows : List Row) → book_text v rows ≡ header_of v ++ 10 ∷ row_lines (form_of v) rows (length rows)
+book_first v rows = append_assoc (header_of v) (10 ∷ []) (row_lines (form_of v) rows (length rows))
 
 -- behind the header and some rows' lines
-begun : (gap : ℕ) (a b : List Row) (rest : List ℕ) → IsBookRows gap a → IsBookRows gap b → book_text a ≡ text_of_lines (header ∷ map row_line b) ++ rest → Begins a b (length a) rest
-begun gap a b rest h k e =
-    let whole : header ++ 10 ∷ row_lines a (length a) ≡ header ++ 10 ∷ (text_of_lines (map row_line b) ++ rest) = sym (book_first a) ∙ e ∙ line_first header (map row_line b) rest in
-    peel a b (length a) rest h.each k.each (same_line 10 header _ header _ header_lacks header_lacks whole).1
+begun : (v w : Version) (a b : List Row) (rest : List ℕ) → IsBookRows v a → IsBookRows w b → book_text v a ≡ text_of_lines (header_of w ∷ map (row_line (form_of w)) b) ++ rest
+    → (w ≡ v) × Begins (form_of v) a b (length a) rest
+begun v w a b rest h k e =
+    let whole : header_of v ++ 10 ∷ row_lines (form_of v) a (length a) ≡ header_of w ++ 10 ∷ (text_of_lines (map (row_line (form_of w)) b) ++ rest)
+    = sym (book_first v a) ∙ e ∙ line_first (header_of w) (map (row_line (form_of w)) b) rest in
+    let s = same_line 10 (header_of v) _ (header_of w) _ (header_lacks v h.version) (header_lacks w k.version) whole in
+    let same : w ≡ v = sym (headers_differ v w h.version k.version s.0) in (
+      same,
+      peel (form_of v) a b (length a) rest h.each (subst (λ (u : Version). All (IsBookRow (form_of u)) b) same k.each)
+          (s.1 ∙ ap (λ (u : Version). text_of_lines (map (row_line (form_of u)) b) ++ rest) same),
+    )
+
+-- what is the same of two texts, behind one of which this stands
+pub record IsEnded (v w : Version) (a b : List Row) (rest : List ℕ) : Type 0 where
+  pub version : w ≡ v
+  pub rows : a ≡ b
+  pub none : rest ≡ []
 
 -- behind the last line of as many rows nothing is left
-ended : (gap : ℕ) (a b : List Row) (rest : List ℕ) → IsBookRows gap a → IsBookRows gap b → book_text a ≡ book_text b ++ rest → (a ≡ b) × (rest ≡ [])
-ended gap a b rest h k e = last p.more p.rows p.text where
-  lines : text_of_lines (header ∷ map row_line b ++ end_line (length b) ∷ []) ++ rest ≡ text_of_lines (header ∷ map row_line b) ++ (end_line (length b) ++ 10 ∷ rest)
-  lines = ap (λ l. l ++ rest) (flat_map-append ended_by_lf (header ∷ map row_line b) (end_line (length b) ∷ []))
-      ∙ append_assoc (text_of_lines (header ∷ map row_line b)) (text_of_lines (end_line (length b) ∷ [])) rest
-      ∙ ap (λ l. text_of_lines (header ∷ map row_line b) ++ l) (ap (λ l. l ++ rest) (append-nil (ended_by_lf (end_line (length b)))) ∙ append_assoc (end_line (length b)) (10 ∷ []) rest)
+ended : (v w : Version) (a b : List Row) (rest : List ℕ) → IsBookRows v a → IsBookRows w b → book_text v a ≡ book_text w b ++ rest → IsEnded v w a b rest
+ended v w a b rest h k e = last p.1.more p.1.rows p.1.text where
+  front : List ℕ
+  front = text_of_lines (header_of w ∷ map (row_line (form_of w)) b)
 
-  p : Begins a b (length a) (end_line (length b) ++ 10 ∷ rest)
-  p = begun gap a b (end_line (length b) ++ 10 ∷ rest) h k (e ∙ lines)
+  lines : book_text w b ++ rest ≡ front ++ (end_line (length b) ++ 10 ∷ rest)
+  lines = ap (λ l. l ++ rest) (flat_map-append ended_by_lf (header_of w ∷ map (row_line (form_of w)) b) (end_line (length b) ∷ []))
+      ∙ append_assoc front (text_of_lines (end_line (length b) ∷ [])) rest
+      ∙ ap (λ l. front ++ l) (ap (λ l. l ++ rest) (append-nil (ended_by_lf (end_line (length b)))) ∙ append_assoc (end_line (length b)) (10 ∷ []) rest)
 
-  last : (more : List Row) → a ≡ b ++ more → end_line (length b) ++ 10 ∷ rest ≡ row_lines more (length a) → (a ≡ b) × (rest ≡ [])
+  p : (w ≡ v) × Begins (form_of v) a b (length a) (end_line (length b) ++ 10 ∷ rest)
+  p = begun v w a b (end_line (length b) ++ 10 ∷ rest) h k (e ∙ lines)
+
+  last : (more : List Row) → a ≡ b ++ more → end_line (length b) ++ 10 ∷ rest ≡ row_lines (form_of v) more (length a) → IsEnded v w a b rest
   last [] r t =
       let same : a ≡ b = r ∙ append-nil b in
-      let both : end_line (length b) ++ 10 ∷ rest ≡ end_line (length b) ++ 10 ∷ [] = t ∙ row_lines_nil (length a) ∙ ap (λ (l : List Row). end_line (length l) ++ 10 ∷ []) same in
+      let both : end_line (length b) ++ 10 ∷ rest ≡ end_line (length b) ++ 10 ∷ [] = t ∙ row_lines_nil (form_of v) (length a) ∙ ap (λ (l : List Row). end_line (length l) ++ 10 ∷ []) same in
       let left : length (end_line (length b) ++ 10 ∷ rest) ≡ length (end_line (length b)) + (length rest + 1) = simp length-append (omega arith) in
       let right : length (end_line (length b) ++ 10 ∷ []) ≡ length (end_line (length b)) + 1 = simp length-append (omega arith) in
-      (same, nil_from_length rest (omega (arith, left, right, ap length both)))
-  last (x ∷ more) r t = absurd (end_or_row (length b) x (10 ∷ rest) (10 ∷ row_lines more (length a)) (t ∙ row_lines_cons x more (length a)))
+      record { version = p.0; rows = same; none = nil_from_length rest (omega (arith, left, right, ap length both)) }
+  last (x ∷ more) r t = absurd (end_or_row (form_of v) (length b) x (10 ∷ rest) (10 ∷ row_lines (form_of v) more (length a)) (t ∙ row_lines_cons (form_of v) x more (length a)))
 
--- the text of rows is that of no others
-pub one_text : (gap : ℕ) (a b : List Row) → IsBookRows gap a → IsBookRows gap b → book_text a ≡ book_text b → a ≡ b
-one_text gap a b h k e = (ended gap a b [] h k (e ∙ sym (append-nil (book_text b)))).0
+-- the text of rows in a version is that of no others
+pub one_text : (v w : Version) (a b : List Row) → IsBookRows v a → IsBookRows w b → book_text v a ≡ book_text w b → (v ≡ w) × (a ≡ b)
+one_text v w a b h k e = let same = ended v w a b [] h k (e ∙ sym (append-nil (book_text w b))) in (sym same.version, same.rows)
+
+-- equal texts are of one version, whatever the rows
+pub one_version : (v w : Version) (a b : List Row) → IsVersion v → IsVersion w → book_text v a ≡ book_text w b → v ≡ w
+one_version v w a b h k e = headers_differ v w h k (same_line 10 (header_of v) _ (header_of w) _ (header_lacks v h) (header_lacks w k) (sym (book_first v a) ∙ e ∙ book_first w b)).0
+
+-- books of equal values
+pub same_book : (a b : BookValue) → a.gap ≡ b.gap → a.rows ≡ b.rows → a ≡ b
+same_book a b gap rows =
+    let first : a ≡ record { gap = b.gap; rows = a.rows } = ap (λ n. record { gap = n; rows = a.rows }) gap in
+    first ∙ ap (λ r. record { gap = b.gap; rows = r }) rows
+
+-- books that are written as one text
+pub one_book : (a b : BookValue) → IsBookRows (written_version a) a.rows → IsBookRows (written_version b) b.rows → written_text a ≡ written_text b → a ≡ b
+one_book a b h k e =
+    let t = one_text (written_version a) (written_version b) a.rows b.rows h k e in
+    same_book a b (ap gap_of t.0) t.1
 
 -- ---- lines of a book's text are not wrong
 
@@ -187,45 +212,45 @@ All-middle P [] x b h = All-head P x b h
 All-middle P (y ∷ a) x b h = All-middle P a x b (All-tail P y (a ++ x ∷ b) h)
 
 -- no cause refuses a row behind those that it follows
-refused : (gap : ℕ) (rows more : List Row) (x : Row) (why : RowCause) → IsBookRow x → Sound gap (rows ++ x ∷ more) → IsRefused gap rows (row_line x) why → ⊥
-refused gap rows more x why h s w =
-    let same = same_row x w.row h.spelled w.is.spelled w.spelled in
+refused : (gap : ℕ) (form : MomentForm) (rows more : List Row) (x : Row) (why : RowCause) → IsBookRow form x → Sound gap (rows ++ x ∷ more) → IsRefused gap form rows (row_line form x) why → ⊥
+refused gap form rows more x why h s w =
+    let same = same_row form x w.row h.spelled w.is.spelled w.spelled in
     let first : Sound gap (rows ++ x ∷ []) = sound_front gap (rows ++ x ∷ []) more (subst (Sound gap) (sym (append_assoc rows (x ∷ []) more)) s) in
     let none : refusal gap rows x ≡ None = (none_exactly gap rows x (sound_front gap rows (x ∷ []) first)).1 first in
     let f : None ≡ Some why = sym none ∙ ap (λ (r : Row). refusal gap rows r) same ∙ w.refused in
     absurd cc
 
-pub wrong_row : (gap : ℕ) (rows more : List Row) (x : Row) (c : BookCause) → IsBookRow x → Sound gap (rows ++ x ∷ more) → IsWrong gap rows (row_line x) c → ⊥
-wrong_row gap rows more x cause.Ending h s w = false≢true w.0
-wrong_row gap rows more x cause.RowSyntax h s w = w.1 x h.spelled refl
-wrong_row gap rows more x cause.Frame h s w =
-    let same = same_row x w.row h.spelled w.is w.spelled in
+pub wrong_row : (gap : ℕ) (form : MomentForm) (rows more : List Row) (x : Row) (c : BookCause) → IsBookRow form x → Sound gap (rows ++ x ∷ more) → IsWrong gap form rows (row_line form x) c → ⊥
+wrong_row gap form rows more x cause.Ending h s w = false≢true w.0
+wrong_row gap form rows more x cause.RowSyntax h s w = w.1 x h.spelled refl
+wrong_row gap form rows more x cause.Frame h s w =
+    let same = same_row form x w.row h.spelled w.is w.spelled in
     false≢true (subst IsErr (ap (λ (r : Row). frame_of r.greatest.frame) (sym same) ∙ h.frame) w.refused)
-wrong_row gap rows more x cause.Order h s w = refused gap rows more x _ h s w
-wrong_row gap rows more x cause.Span h s w = refused gap rows more x _ h s w
-wrong_row gap rows more x cause.Near h s w = refused gap rows more x _ h s w
-wrong_row gap rows more x cause.Receivers h s w = refused gap rows more x _ h s w
-wrong_row gap rows more x cause.NotGreatest h s w = refused gap rows more x _ h s w
-wrong_row gap rows more x cause.Header h s w = w
-wrong_row gap rows more x cause.After h s w = w
-wrong_row gap rows more x cause.Read h s w = w
-wrong_row gap rows more x cause.TooLong h s w = w
-wrong_row gap rows more x cause.Memory h s w = w
+wrong_row gap form rows more x cause.Order h s w = refused gap form rows more x _ h s w
+wrong_row gap form rows more x cause.Span h s w = refused gap form rows more x _ h s w
+wrong_row gap form rows more x cause.Near h s w = refused gap form rows more x _ h s w
+wrong_row gap form rows more x cause.Receivers h s w = refused gap form rows more x _ h s w
+wrong_row gap form rows more x cause.NotGreatest h s w = refused gap form rows more x _ h s w
+wrong_row gap form rows more x cause.Header h s w = w
+wrong_row gap form rows more x cause.After h s w = w
+wrong_row gap form rows more x cause.Read h s w = w
+wrong_row gap form rows more x cause.TooLong h s w = w
+wrong_row gap form rows more x cause.Memory h s w = w
 
-pub wrong_end : (gap : ℕ) (rows : List Row) (c : BookCause) → IsWrong gap rows (end_line (length rows)) c → ⊥
-wrong_end gap rows cause.Ending w = w.1 refl
-wrong_end gap rows cause.RowSyntax w = false≢true (sym w.0)
-wrong_end gap rows cause.Frame w = end_is_row (length rows) w.row w.spelled
-wrong_end gap rows cause.Order w = end_is_row (length rows) w.row w.spelled
-wrong_end gap rows cause.Span w = end_is_row (length rows) w.row w.spelled
-wrong_end gap rows cause.Near w = end_is_row (length rows) w.row w.spelled
-wrong_end gap rows cause.Receivers w = end_is_row (length rows) w.row w.spelled
-wrong_end gap rows cause.NotGreatest w = end_is_row (length rows) w.row w.spelled
-wrong_end gap rows cause.Header w = w
-wrong_end gap rows cause.After w = w
-wrong_end gap rows cause.Read w = w
-wrong_end gap rows cause.TooLong w = w
-wrong_end gap rows cause.Memory w = w
+pub wrong_end : (gap : ℕ) (form : MomentForm) (rows : List Row) (c : BookCause) → IsWrong gap form rows (end_line (length rows)) c → ⊥
+wrong_end gap form rows cause.Ending w = w.1 refl
+wrong_end gap form rows cause.RowSyntax w = false≢true (sym w.0)
+wrong_end gap form rows cause.Frame w = end_is_row form (length rows) w.row w.spelled
+wrong_end gap form rows cause.Order w = end_is_row form (length rows) w.row w.spelled
+wrong_end gap form rows cause.Span w = end_is_row form (length rows) w.row w.spelled
+wrong_end gap form rows cause.Near w = end_is_row form (length rows) w.row w.spelled
+wrong_end gap form rows cause.Receivers w = end_is_row form (length rows) w.row w.spelled
+wrong_end gap form rows cause.NotGreatest w = end_is_row form (length rows) w.row w.spelled
+wrong_end gap form rows cause.Header w = w
+wrong_end gap form rows cause.After w = w
+wrong_end gap form rows cause.Read w = w
+wrong_end gap form rows cause.TooLong w = w
+wrong_end gap form rows cause.Memory w = w
 
 -- ---- the fault of a front of a book's text is that it is cut there
 
@@ -236,36 +261,36 @@ IsCutShort e more c = (c ≡ missing e) × (e ≡ ending.End → more ≢ [])
 cut_at_line : (rest more line tail : List ℕ) (e : Ending) (c : BookCause) → rest ++ more ≡ line ++ 10 ∷ tail → IsCut rest e c → IsCutShort e more c
 cut_at_line rest more line tail e c is h = (h.1, λ end none. has_line 10 line tail (subst (Lacks 10) (sym (append-nil rest) ∙ ap (λ l. rest ++ l) (sym none) ∙ is) h.0))
 
-module _ (gap : ℕ) (rows : List Row) (is : IsBookRows gap rows) (small : length rows < 2 ^ 64) (more : List ℕ) (e : Ending) (c : BookCause) where
-  at_start : (rest : List ℕ) → rest ++ more ≡ book_text rows → FaultAtStart rest e c → IsCutShort e more c
+module _ (v : Version) (rows : List Row) (is : IsBookRows v rows) (small : length rows < 2 ^ 64) (more : List ℕ) (e : Ending) (c : BookCause) where
+  at_start : (rest : List ℕ) → rest ++ more ≡ book_text v rows → FaultAtStart rest e c → IsCutShort e more c
   at_start rest whole h = elim h [
-    | inl cut ↦ cut_at_line rest more header (row_lines rows (length rows)) e c (whole ∙ book_first rows) cut
-    | inr w ↦ absurd (w.holds.0 (same_line 10 w.line (w.more ++ more) header (row_lines rows (length rows)) w.one header_lacks
-        (sym (append_assoc w.line (10 ∷ w.more) more) ∙ ap (λ l. l ++ more) (sym w.is) ∙ whole ∙ book_first rows)).0)
+    | inl cut ↦ cut_at_line rest more (header_of v) (row_lines (form_of v) rows (length rows)) e c (whole ∙ book_first v rows) cut
+    | inr w ↦ absurd (w.holds.0 v is.version (same_line 10 w.line (w.more ++ more) (header_of v) (row_lines (form_of v) rows (length rows)) w.one (header_lacks v is.version)
+        (sym (append_assoc w.line (10 ∷ w.more) more) ∙ ap (λ l. l ++ more) (sym w.is) ∙ whole ∙ book_first v rows)).0)
   ]
 
-  after_rows : (front : List Row) (rest : List ℕ) → Begins rows front (length rows) (rest ++ more) → FaultAfterRows gap front rest e c → IsCutShort e more c
+  after_rows : (front : List Row) (rest : List ℕ) → Begins (form_of v) rows front (length rows) (rest ++ more) → FaultAfterRows v front rest e c → IsCutShort e more c
   after_rows front rest b h = go b.more b.rows b.text where
-    wrong : (x : Row) (tail : List Row) → rows ≡ front ++ x ∷ tail → rest ++ more ≡ row_lines (x ∷ tail) (length rows) → HasLine rest (λ line. IsWrong gap front line c) → ⊥
+    wrong : (x : Row) (tail : List Row) → rows ≡ front ++ x ∷ tail → rest ++ more ≡ row_lines (form_of v) (x ∷ tail) (length rows) → HasLine rest (λ line. IsWrong (millis_of (gap_of v)) (form_of v) front line c) → ⊥
     wrong x tail r t w =
-        let book : IsBookRow x = All-middle IsBookRow front x tail (subst (All IsBookRow) r is.each) in
-        let line : w.line ≡ row_line x = (same_line 10 w.line (w.more ++ more) (row_line x) (row_lines tail (length rows)) w.one (row_lacks x book.spelled)
-        (sym (append_assoc w.line (10 ∷ w.more) more) ∙ ap (λ l. l ++ more) (sym w.is) ∙ t ∙ row_lines_cons x tail (length rows))).0 in
-        wrong_row gap front tail x c book (subst (Sound gap) r is.sound) (subst (λ l. IsWrong gap front l c) line w.holds)
+        let book : IsBookRow (form_of v) x = All-middle (IsBookRow (form_of v)) front x tail (subst (All (IsBookRow (form_of v))) r is.each) in
+        let line : w.line ≡ row_line (form_of v) x = (same_line 10 w.line (w.more ++ more) (row_line (form_of v) x) (row_lines (form_of v) tail (length rows)) w.one (row_lacks (form_of v) x book.spelled)
+        (sym (append_assoc w.line (10 ∷ w.more) more) ∙ ap (λ l. l ++ more) (sym w.is) ∙ t ∙ row_lines_cons (form_of v) x tail (length rows))).0 in
+        wrong_row (millis_of (gap_of v)) (form_of v) front tail x c book (subst (Sound (millis_of (gap_of v))) r is.sound) (subst (λ l. IsWrong (millis_of (gap_of v)) (form_of v) front l c) line w.holds)
 
-    wrong_last : rows ≡ front → rest ++ more ≡ row_lines [] (length rows) → HasLine rest (λ line. IsWrong gap front line c) → ⊥
+    wrong_last : rows ≡ front → rest ++ more ≡ row_lines (form_of v) [] (length rows) → HasLine rest (λ line. IsWrong (millis_of (gap_of v)) (form_of v) front line c) → ⊥
     wrong_last r t w =
         let line : w.line ≡ end_line (length rows) = (same_line 10 w.line (w.more ++ more) (end_line (length rows)) [] w.one (end_lacks (length rows) small)
-        (sym (append_assoc w.line (10 ∷ w.more) more) ∙ ap (λ l. l ++ more) (sym w.is) ∙ t ∙ row_lines_nil (length rows))).0 in
-        wrong_end gap front c (subst (λ l. IsWrong gap front l c) (line ∙ ap (λ (l : List Row). end_line (length l)) r) w.holds)
+        (sym (append_assoc w.line (10 ∷ w.more) more) ∙ ap (λ l. l ++ more) (sym w.is) ∙ t ∙ row_lines_nil (form_of v) (length rows))).0 in
+        wrong_end (millis_of (gap_of v)) (form_of v) front c (subst (λ l. IsWrong (millis_of (gap_of v)) (form_of v) front l c) (line ∙ ap (λ (l : List Row). end_line (length l)) r) w.holds)
 
-    go : (tail : List Row) → rows ≡ front ++ tail → rest ++ more ≡ row_lines tail (length rows) → IsCutShort e more c
+    go : (tail : List Row) → rows ≡ front ++ tail → rest ++ more ≡ row_lines (form_of v) tail (length rows) → IsCutShort e more c
     go [] r t = elim h [
-      | inl cut ↦ cut_at_line rest more (end_line (length rows)) [] e c (t ∙ row_lines_nil (length rows)) cut
+      | inl cut ↦ cut_at_line rest more (end_line (length rows)) [] e c (t ∙ row_lines_nil (form_of v) (length rows)) cut
       | inr w ↦ absurd (wrong_last (r ∙ append-nil front) t w)
     ]
     go (x ∷ tail) r t = elim h [
-      | inl cut ↦ cut_at_line rest more (row_line x) (row_lines tail (length rows)) e c (t ∙ row_lines_cons x tail (length rows)) cut
+      | inl cut ↦ cut_at_line rest more (row_line (form_of v) x) (row_lines (form_of v) tail (length rows)) e c (t ∙ row_lines_cons (form_of v) x tail (length rows)) cut
       | inr w ↦ absurd (wrong x tail r t w)
     ]
 
@@ -275,16 +300,18 @@ module _ (gap : ℕ) (rows : List Row) (is : IsBookRows gap rows) (small : lengt
     | inr end ↦ (end.2, λ is n. end.1 is)
   ]
 
-  pub cut_short : (text : List ℕ) (f : BookFault) → text ++ more ≡ book_text rows → f.cause ≡ c → FirstFault gap text e f → IsCutShort e more c
-  cut_short text f whole cause_is first = go (subst (FaultBehind gap first.front first.rest e) cause_is first.fault) where
-    all : (front : List (List ℕ)) → first.front ≡ front → text_of_lines front ++ (first.rest ++ more) ≡ book_text rows
+  pub cut_short : (text : List ℕ) (f : BookFault) → text ++ more ≡ book_text v rows → f.cause ≡ c → FirstFault text e f → IsCutShort e more c
+  cut_short text f whole cause_is first = go (subst (FaultBehind first.front first.rest e) cause_is first.fault) where
+    all : (front : List (List ℕ)) → first.front ≡ front → text_of_lines front ++ (first.rest ++ more) ≡ book_text v rows
     all front same = ap (λ ls. text_of_lines ls ++ (first.rest ++ more)) (sym same) ∙ sym (append_assoc (text_of_lines first.front) first.rest more) ∙ ap (λ l. l ++ more) (sym first.whole) ∙ whole
 
-    go : FaultBehind gap first.front first.rest e c → IsCutShort e more c
+    go : FaultBehind first.front first.rest e c → IsCutShort e more c
     go h = elim h [
       | inl start ↦ at_start first.rest (all [] start.0) start.1
-      | inr behind ↦ elim behind.2 [
-        | inl lines ↦ after_rows behind.0 first.rest (begun gap rows behind.0 (first.rest ++ more) is behind.1 (sym (all _ lines.0))) lines.1
-        | inr end ↦ at_end first.rest (ended gap rows behind.0 (first.rest ++ more) is behind.1 (sym (all _ end.0))).1 end.1
+      | inr behind ↦ elim behind.3 [
+        | inl lines ↦
+            let b = begun v behind.0 rows behind.1 (first.rest ++ more) is behind.2 (sym (all _ lines.0)) in
+            after_rows behind.1 first.rest b.1 (subst (λ (u : Version). FaultAfterRows u behind.1 first.rest e c) b.0 lines.1)
+        | inr end ↦ at_end first.rest (ended v behind.0 rows behind.1 (first.rest ++ more) is behind.2 (sym (all _ end.0))).none end.1
       ]
     ]

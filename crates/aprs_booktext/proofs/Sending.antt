@@ -11,10 +11,14 @@ use Rattle.aprs_kiss.proofs.Bytes.{AppendsFront-more, AppendsFront-then}
 use Rattle.std.specs.Prelude.{codes}
 use Rattle.hex.specs.Hex.{encode_lower}
 use Rattle.aprs_log.specs.Moment.{moment_text}
+use Rattle.aprs_log.specs.declared.moment_form.MomentForm.TheVariants.{Millis}
+use Rattle.aprs_laws.specs.BookValue.{BookValue}
 use Rattle.aprs_laws.specs.Row.{Row}
 use Rattle.aprs_book.specs.Shown.{row_of}
 use Rattle.aprs_booktext.specs.Outbox.{Puts, line_and_lf}
-use Rattle.aprs_booktext.specs.Text.{header, row_line, end_line, ended_by_lf, book_text}
+use Rattle.aprs_booktext.specs.Text.{row_line, end_line, ended_by_lf, written_text}
+use Rattle.aprs_booktext.specs.Version.{header_of}
+use Rattle.aprs_booktext.specs.declared.version.Version.TheVariants.{Three}
 
 pub Puts-nil : (a : Option (List ℕ)) (h : List ℕ) → Puts a a h h []
 Puts-nil a h = record { gone = []; parts = append-nil h; sent = Appends-nil a }
@@ -145,26 +149,29 @@ line_parts a b names who digits =
 
 pub row_parts : (first last : ℕ) (names : List (List ℕ)) (who bytes : List ℕ) (row : Row) → row_of first last names who bytes ≡ row → (head tail : List ℕ)
     → head ≡ codes "T " ++ moment_text first ++ 32 ∷ moment_text last ++ 32 ∷ [] → tail ≡ 32 ∷ who ++ 32 ∷ encode_lower bytes ++ 10 ∷ []
-    → ended_by_lf (row_line row) ≡ head ++ (join_with_byte 44 names ++ tail)
+    → ended_by_lf (row_line Millis row) ≡ head ++ (join_with_byte 44 names ++ tail)
 row_parts first last names who bytes row e head tail h t =
-    ap (λ x. ended_by_lf (row_line x)) (sym e)
+    ap (λ x. ended_by_lf (row_line Millis x)) (sym e)
     ∙ line_parts (moment_text first) (moment_text last) (join_with_byte 44 names) who (encode_lower bytes)
     ∙ ap (λ l. l ++ (join_with_byte 44 names ++ 32 ∷ (who ++ 32 ∷ (encode_lower bytes ++ 10 ∷ [])))) (sym (h ∙ append_assoc (84 ∷ 32 ∷ moment_text first) (32 ∷ moment_text last) (32 ∷ [])))
     ∙ ap (λ l. head ++ (join_with_byte 44 names ++ l)) (sym (t ∙ append_assoc (32 ∷ who) (32 ∷ encode_lower bytes) (10 ∷ [])))
 
 -- ---- the parts of a text
 
-row_lines : (rows : List Row) → flat_map ended_by_lf (map row_line rows) ≡ flat_map line_and_lf rows
+row_lines : (rows : List Row) → flat_map ended_by_lf (map (row_line Millis) rows) ≡ flat_map line_and_lf rows
 row_lines [] = refl
 row_lines (x ∷ rows) = ap (λ l. line_and_lf x ++ l) (row_lines rows)
 
-pub text_parts : (rows : List Row) → book_text rows ≡ ended_by_lf header ++ (flat_map line_and_lf rows ++ ended_by_lf (end_line (length rows)))
-text_parts rows = ap (λ l. ended_by_lf header ++ l) (
-    flat_map-append ended_by_lf (map row_line rows) (end_line (length rows) ∷ [])
-    ∙ ap (λ l. l ++ flat_map ended_by_lf (end_line (length rows) ∷ [])) (row_lines rows)
-    ∙ ap (λ l. flat_map line_and_lf rows ++ l) (append-nil (ended_by_lf (end_line (length rows))))
+pub text_parts : (book : BookValue) (gap : ℕ) (head : List ℕ) → gap ≡ book.gap → head ≡ ended_by_lf (header_of (Three gap))
+    → written_text book ≡ head ++ (flat_map line_and_lf book.rows ++ ended_by_lf (end_line (length book.rows)))
+text_parts book gap head g is = ap (λ l. ended_by_lf (header_of (Three book.gap)) ++ l) (
+    flat_map-append ended_by_lf (map (row_line Millis) book.rows) (end_line (length book.rows) ∷ [])
+    ∙ ap (λ l. l ++ flat_map ended_by_lf (end_line (length book.rows) ∷ [])) (row_lines book.rows)
+    ∙ ap (λ l. flat_map line_and_lf book.rows ++ l) (append-nil (ended_by_lf (end_line (length book.rows))))
     )
+    ∙ ap (λ l. l ++ (flat_map line_and_lf book.rows ++ ended_by_lf (end_line (length book.rows)))) (sym (is ∙ ap (λ n. ended_by_lf (header_of (Three n))) g))
 
-pub text_end : (rows : List Row) (n : ℕ) (last : List ℕ) → n ≡ length rows → last ≡ ended_by_lf (end_line n) → book_text rows ≡ (ended_by_lf header ++ flat_map line_and_lf rows) ++ last
-text_end rows n last e is = text_parts rows ∙ sym (append_assoc (ended_by_lf header) (flat_map line_and_lf rows) (ended_by_lf (end_line (length rows))))
-    ∙ ap (λ l. (ended_by_lf header ++ flat_map line_and_lf rows) ++ l) (ap (λ k. ended_by_lf (end_line k)) (sym e) ∙ sym is)
+pub text_end : (book : BookValue) (gap : ℕ) (head : List ℕ) → gap ≡ book.gap → head ≡ ended_by_lf (header_of (Three gap)) → (n : ℕ) (last : List ℕ) → n ≡ length book.rows → last ≡ ended_by_lf (end_line n)
+    → written_text book ≡ (head ++ flat_map line_and_lf book.rows) ++ last
+text_end book gap head g h n last e is = text_parts book gap head g h ∙ sym (append_assoc head (flat_map line_and_lf book.rows) (ended_by_lf (end_line (length book.rows))))
+    ∙ ap (λ l. (head ++ flat_map line_and_lf book.rows) ++ l) (ap (λ k. ended_by_lf (end_line k)) (sym e) ∙ sym is)

@@ -6,9 +6,11 @@ use Rattle.std.proofs.lemmas.Bool.{and_parts}
 use Rattle.std.proofs.lemmas.Bool.Decides.{nat_tests}
 use Rattle.std.proofs.lemmas.List.Elements.{recursion_from_All}
 use Rattle.hex.specs.Hex.{encode_lower, encode_with, lower_digits, IsBytes}
-use Rattle.aprs_log.specs.Moment.{moment_of, moment_text, civil_after, civil_text, Civil, two_digits}
+use Rattle.aprs_log.specs.Moment.{moment_in, moment_text_in, MomentTextIn, civil_after, civil_text, fraction_text, Civil, two_digits}
+use Rattle.aprs_log.specs.declared.moment_form.MomentForm.{MomentForm}
+use Rattle.aprs_log.specs.declared.moment_form.MomentForm.TheVariants.{Seconds, Millis}
 use Rattle.aprs_log.specs.Receiver.{IsName, is_name_byte}
-use Rattle.aprs_log.proofs.MomentLemmas.{moment_of-text, text-moment_of, one_text, moment_text-is}
+use Rattle.aprs_log.proofs.MomentLemmas.{text-moment_in, one_text, moment_text-is, millis_told}
 use Rattle.aprs_laws.specs.Row.{Row, last_of}
 use Rattle.aprs_booktext.specs.Lines.{Lacks, pieces}
 use Rattle.aprs_ax25.specs.FrameFault.{frame_of, frame_fault, unless_fault}
@@ -16,18 +18,24 @@ use Rattle.aprs_ax25.specs.declared.fault.FrameFault.{FrameFault}
 use Rattle.aprs_booktext.specs.RowFields.{SpellsNames, IsWrongNames}
 use Rattle.aprs_booktext.specs.declared.fault.BookCause.{BookCause}
 use Rattle.aprs_booktext.specs.declared.fault.BookCause.TheVariants as cause
-use Rattle.aprs_booktext.specs.Text.{fields_of, row_line, IsSpelled}
+use Rattle.aprs_booktext.specs.Text.{fields_of, row_line, IsSpelled, IsTold}
 use Rattle.aprs_booktext.proofs.Cuts.{lacks_joined, pieces_joined, joined_pieces}
 
 -- ---- moments
 
-pub moment_found : (t : List ℕ) (m : ℕ) → m ≤ 4102444799 → moment_of t ≡ Some m → t ≡ moment_text m
-moment_found t m h e = one_text m t (moment_text m) (moment_of-text t m e) (moment_text-is m h)
+pub moment_found : (form : MomentForm) (t : List ℕ) (m : ℕ) → m ≤ 4102444799999 → MomentTextIn form m t
+    → IsTold form m × (t ≡ moment_text_in form m)
+moment_found form t m h is =
+    let whole = millis_told form m t is in
+    (record { in_range = h; whole = whole }, one_text form m t (moment_text_in form m) is (moment_text-is form m h whole))
 
-pub moment_missed : (t : List ℕ) → moment_of t ≡ None → (m : ℕ) → m ≤ 4102444799 → t ≡ moment_text m → ⊥
-moment_missed t none m h e =
-    let some : moment_of t ≡ Some m = ap moment_of e ∙ text-moment_of (moment_text m) m (moment_text-is m h) in
-    let f : None ≡ Some m = sym none ∙ some in
+-- what is read of the text of a moment that can be told
+pub moment_read : (form : MomentForm) (m : ℕ) → IsTold form m → moment_in form (moment_text_in form m) ≡ Some m
+moment_read form m h = text-moment_in form (moment_text_in form m) m (moment_text-is form m h.in_range h.whole)
+
+pub moment_missed : (form : MomentForm) (t : List ℕ) → moment_in form t ≡ None → (m : ℕ) → IsTold form m → t ≡ moment_text_in form m → ⊥
+moment_missed form t none m h e =
+    let f : None ≡ Some m = sym none ∙ ap (moment_in form) e ∙ moment_read form m h in
     cc
 
 -- ---- no field but the receivers' has a byte below `-`
@@ -46,12 +54,28 @@ high_append (x ∷ a) b h k = (h.0, high_append a b h.1 k)
 high_two : (n : ℕ) (rest : List ℕ) → High rest → High (two_digits n ++ rest)
 high_two n rest h = (omega arith, (omega arith, h))
 
-high_civil : (c : Civil) → High (civil_text c)
-high_civil c = search rules
+high_end : (form : MomentForm) (n : ℕ) → High (fraction_text form n ++ 90 ∷ [])
+high_end Seconds n = search rules
+high_end Millis n = (omega arith, (omega arith, high_two (n % 100) (90 ∷ []) (omega arith, tt)))
 
-pub high_moment : (m : ℕ) → High (moment_text m)
-unfolding moment_text
-high_moment m = high_civil (civil_after m)
+high_civil : (form : MomentForm) (c : Civil) (n : ℕ) → High (civil_text form c n)
+high_civil form c n =
+    let end = fraction_text form n ++ 90 ∷ [] in
+    let second = 58 ∷ two_digits c.second ++ end in
+    let minute = 58 ∷ two_digits c.minute ++ second in
+    let hour = 84 ∷ two_digits c.hour ++ minute in
+    let day = 45 ∷ two_digits c.day ++ hour in
+    let month = 45 ∷ two_digits c.month ++ day in
+    let s : High second = (omega arith, high_two c.second end (high_end form n)) in
+    let m : High minute = (omega arith, high_two c.minute second s) in
+    let h : High hour = (omega arith, high_two c.hour minute m) in
+    let d : High day = (omega arith, high_two c.day hour h) in
+    let o : High month = (omega arith, high_two c.month day d) in
+    high_two (c.year / 100) (two_digits (c.year % 100) ++ month) (high_two (c.year % 100) month o)
+
+pub high_moment : (form : MomentForm) (m : ℕ) → High (moment_text_in form m)
+unfolding moment_text_in
+high_moment form m = high_civil form (civil_after (m / 1000)) (m % 1000)
 
 name_byte : (b : ℕ) → is_name_byte b ≡ true → 45 ≤ b
 name_byte b h = grind (arith, nat_tests)
@@ -107,14 +131,14 @@ lacks_names c names low h = lacks_joined c 44 names (grind (arith, nat_tests)) (
 
 -- ---- a row's line
 
-pub row_fields_lack : (c : ℕ) (x : Row) → c < 44 → IsSpelled x → AllByRecursion (Lacks c) (fields_of x)
-row_fields_lack c x low h =
+pub row_fields_lack : (form : MomentForm) (c : ℕ) (x : Row) → c < 44 → IsSpelled form x → AllByRecursion (Lacks c) (fields_of form x)
+row_fields_lack form c x low h =
     let below : c < 45 = omega arith in (
       high_lacks c (codes "T") below (search rules),
       (
-        high_lacks c (moment_text x.first) below (high_moment x.first),
+        high_lacks c (moment_text_in form x.first) below (high_moment form x.first),
         (
-          high_lacks c (moment_text (last_of x)) below (high_moment (last_of x)),
+          high_lacks c (moment_text_in form (last_of x)) below (high_moment form (last_of x)),
           (
             lacks_names c x.receivers low h.receivers,
             (
@@ -126,33 +150,33 @@ row_fields_lack c x low h =
       ),
     )
 
-pub row_pieces : (x : Row) → IsSpelled x → pieces 32 (row_line x) ≡ fields_of x
-row_pieces x h = pieces_joined 32 (fields_of x) (omega arith) (row_fields_lack 32 x (omega arith) h)
+pub row_pieces : (form : MomentForm) (x : Row) → IsSpelled form x → pieces 32 (row_line form x) ≡ fields_of form x
+row_pieces form x h = pieces_joined 32 (fields_of form x) (omega arith) (row_fields_lack form 32 x (omega arith) h)
 
 -- what the fields of a line are that spells a row
-pub record SameFields (x : Row) (t f l n w d : List ℕ) : Type 0 where
+pub record SameFields (form : MomentForm) (x : Row) (t f l n w d : List ℕ) : Type 0 where
   pub tag : t ≡ codes "T"
-  pub first : f ≡ moment_text x.first
-  pub last : l ≡ moment_text (last_of x)
+  pub first : f ≡ moment_text_in form x.first
+  pub last : l ≡ moment_text_in form (last_of x)
   pub receivers : n ≡ join_with_byte 44 x.receivers
   pub receiver : w ≡ x.greatest.receiver
   pub frame : d ≡ encode_lower x.greatest.frame
 
-module _ (line t f l n w d : List ℕ) (is : pieces 32 line ≡ t ∷ f ∷ l ∷ n ∷ w ∷ d ∷ []) where
-  pub same_fields : (x : Row) → IsSpelled x → line ≡ row_line x → SameFields x t f l n w d
+module _ (form : MomentForm) (line t f l n w d : List ℕ) (is : pieces 32 line ≡ t ∷ f ∷ l ∷ n ∷ w ∷ d ∷ []) where
+  pub same_fields : (x : Row) → IsSpelled form x → line ≡ row_line form x → SameFields form x t f l n w d
   same_fields x h e =
-      let same : t ∷ f ∷ l ∷ n ∷ w ∷ d ∷ [] ≡ fields_of x = sym is ∙ ap (pieces 32) e ∙ row_pieces x h in
-      let lists : t ∷ f ∷ l ∷ n ∷ w ∷ d ∷ [] ≡ codes "T" ∷ moment_text x.first ∷ moment_text (last_of x) ∷ join_with_byte 44 x.receivers ∷ x.greatest.receiver ∷ encode_lower x.greatest.frame ∷ [] = same in
+      let same : t ∷ f ∷ l ∷ n ∷ w ∷ d ∷ [] ≡ fields_of form x = sym is ∙ ap (pieces 32) e ∙ row_pieces form x h in
+      let lists : t ∷ f ∷ l ∷ n ∷ w ∷ d ∷ [] ≡ codes "T" ∷ moment_text_in form x.first ∷ moment_text_in form (last_of x) ∷ join_with_byte 44 x.receivers ∷ x.greatest.receiver ∷ encode_lower x.greatest.frame ∷ [] = same in
       record { tag = cc; first = cc; last = cc; receivers = cc; receiver = cc; frame = cc }
 
-  pub spelled_by : (x : Row) → SameFields x t f l n w d → line ≡ row_line x
+  pub spelled_by : (x : Row) → SameFields form x t f l n w d → line ≡ row_line form x
   spelled_by x s =
-      let fields : t ∷ f ∷ l ∷ n ∷ w ∷ d ∷ [] ≡ fields_of x = cc (s.tag, s.first, s.last, s.receivers, s.receiver, s.frame) in
+      let fields : t ∷ f ∷ l ∷ n ∷ w ∷ d ∷ [] ≡ fields_of form x = cc (s.tag, s.first, s.last, s.receivers, s.receiver, s.frame) in
       joined_pieces 32 line (t ∷ f ∷ l ∷ n ∷ w ∷ d ∷ []) is ∙ ap (join_with_byte 32) fields
 
 -- a row's line has six pieces
-pub six_pieces : (x : Row) (line : List ℕ) → IsSpelled x → ¬ (length (pieces 32 line) ≡ 6) → line ≡ row_line x → ⊥
-six_pieces x line h other e = other (ap (λ l. length (pieces 32 l)) e ∙ ap length (row_pieces x h))
+pub six_pieces : (form : MomentForm) (x : Row) (line : List ℕ) → IsSpelled form x → ¬ (length (pieces 32 line) ≡ 6) → line ≡ row_line form x → ⊥
+six_pieces form x line h other e = other (ap (λ l. length (pieces 32 l)) e ∙ ap length (row_pieces form x h))
 
 -- ---- names read one by one
 

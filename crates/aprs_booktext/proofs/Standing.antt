@@ -1,21 +1,33 @@
 -- Lemmas on what a reader of a book holds.
-use Rattle.std.proofs.Common.{◌≡◌, ℕ, ◌+◌, ◌≤◌, true, false, List, [], ◌∷◌, ◌++◌, length, map, Ok, Err, inl, inr, refl, sym, ap, ◌∙◌, subst, append_assoc, append-nil, length-append, arith}
-use Rattle.std.specs.Prelude.{◌≢◌, All}
+use Rattle.std.proofs.Common.{◌≡◌, ℕ, ◌+◌, ◌<◌, ◌≤◌, true, false, List, [], ◌∷◌, ◌++◌, length, map, Option, None, Some, Result, Ok, Err, IfOk, ◌⊎◌, inl, inr, refl, sym, ap, ◌∙◌, subst, append_assoc, append-nil, length-append, arith}
+use Rattle.std.specs.Prelude.{◌≢◌, All, IsOkUnless, MatchOption}
 use Rattle.std.proofs.lemmas.List.{length-map}
 use Rattle.std.proofs.lemmas.List.Concat.{flat_map-append}
 use Rattle.std.proofs.lemmas.List.{map_push}
-use Rattle.std.proofs.lemmas.List.Elements.{All-push}
+use Rattle.std.proofs.lemmas.List.Elements.{All-nil, All-push}
 use Rattle.aprs_log.specs.declared.Ending.{Ending}
 use Rattle.aprs_log.specs.declared.Ending.TheVariants as ending
+use Rattle.aprs_laws.specs.BookValue.{BookValue}
+use Rattle.aprs_laws.specs.Gap.{millis_of}
 use Rattle.aprs_laws.specs.Row.{Row}
-use Rattle.aprs_booktext.specs.FirstFault.{FirstFault, missing}
-use Rattle.aprs_booktext.specs.Reader.{StandsAfter, IsFault, IsJudgedIn, is_done, line_number, lines_read, may_end}
-use Rattle.aprs_booktext.specs.Text.{header, row_line, lines_of, text_of_lines, ended_by_lf, IsBookRow, IsBookRows}
+use Rattle.aprs_laws.specs.Sound.{Sound}
+use Rattle.aprs_booktext.specs.Lines.{Lacks}
+use Rattle.aprs_booktext.proofs.Cuts.{lacks_append}
+use Rattle.aprs_log.specs.declared.moment_form.MomentForm.{MomentForm}
+use Rattle.aprs_book.specs.Refusal.{refusal}
+use Rattle.aprs_book.specs.declared.row_cause.RowCause.{RowCause}
+use Rattle.aprs_book.specs.declared.row_cause.RowCause.TheVariants as row
+use Rattle.aprs_booktext.specs.Fault.{book_cause_of}
+use Rattle.aprs_booktext.specs.FirstFault.{FirstFault, IsWrong, missing, ReadsSo}
+use Rattle.aprs_booktext.specs.Reader.{HasItsGap, HoldsIn, StandsAfter, IsFault, IsJudged, IsJudgedIn, is_done, line_number, lines_read, may_end}
+use Rattle.aprs_booktext.specs.Text.{row_line, end_line, lines_of, text_of_lines, ended_by_lf, book_text, IsBookRow, IsBookRows}
+use Rattle.aprs_booktext.specs.Version.{form_of, gap_of, header_of, IsVersion}
 use Rattle.aprs_booktext.specs.declared.fault.BookCause.{BookCause}
 use Rattle.aprs_booktext.specs.declared.fault.BookCause.TheVariants as cause
 use Rattle.aprs_booktext.specs.declared.fault.BookFault.{BookFault}
 use Rattle.aprs_booktext.specs.declared.reader.Stage.{Stage}
 use Rattle.aprs_booktext.specs.declared.reader.Stage.TheVariants.{Header, Rows, Done}
+use Rattle.aprs_booktext.specs.declared.version.Version.{Version}
 
 -- ---- one more line
 
@@ -26,122 +38,178 @@ one_more ls line t e =
     ∙ sym (flat_map-append ended_by_lf ls (line ∷ []))
     ∙ sym (append-nil (text_of_lines (ls ++ line ∷ [])))
 
-pub ended_stands : (gap : ℕ) (stage next : Stage) (old new : List Row) (line t : List ℕ) → IsJudgedIn gap stage (Ok next) old line new → StandsAfter gap stage old line t
-    → StandsAfter gap next new [] (t ++ 10 ∷ [])
-ended_stands gap Header Header old new line t j s = absurd j.0
-ended_stands gap Header Rows old new line t j s =
-    let none : new ≡ [] = j.1 ∙ s.holds in
+-- ---- a row that can't be added
+
+module _ (gap : ℕ) (form : MomentForm) (old new : List Row) (x : Row) (line : List ℕ) (is : IsBookRow form x) (spelled : line ≡ row_line form x) (same : new ≡ old) where
+  abbrev IsWrongNow : RowCause → Type 0
+  IsWrongNow why = (book_cause_of why ≡ cause.Memory) ⊎ IsWrong gap form old line (book_cause_of why)
+
+  for_cause : (why : RowCause) → refusal gap old x ≡ Some why → IsWrongNow why
+  for_cause row.Order e = inr (record { row = x; is = is; spelled = spelled; refused = e })
+  for_cause row.Span e = inr (record { row = x; is = is; spelled = spelled; refused = e })
+  for_cause row.Near e = inr (record { row = x; is = is; spelled = spelled; refused = e })
+  for_cause row.Receivers e = inr (record { row = x; is = is; spelled = spelled; refused = e })
+  for_cause row.NotGreatest e = inr (record { row = x; is = is; spelled = spelled; refused = e })
+  for_cause row.Memory e = inl refl
+
+  pub refused_line : {T : Type 0} (r : Result T RowCause) (why : RowCause) → Err why ≡ r → MatchOption (refusal gap old x) (IsOkUnless r row.Memory) (λ c. r ≡ Err c)
+      → IsWrongNow why × (new ≡ old)
+  refused_line {T} r why was h = (by (refusal gap old x) refl h, same) where
+    by : (o : Option RowCause) → refusal gap old x ≡ o → MatchOption o (IsOkUnless r row.Memory) (λ c. r ≡ Err c) → IsWrongNow why
+    by None e m = let k : why ≡ row.Memory = subst (λ (q : Result T RowCause). IsOkUnless q row.Memory) (sym was) m in inl (ap book_cause_of k)
+    by (Some c) e m = let f : Err why ≡ Err c = was ∙ m in let k : c ≡ why = cc in for_cause why (e ∙ ap (λ (w : RowCause). Some w) k)
+
+-- no rows are a book's
+pub no_rows : (v : Version) → IsVersion v → IsBookRows v []
+no_rows v h = record { version = h; sound = record { ascending = tt; apart = tt; each = λ x h. absurd h }; each = All-nil (IsBookRow (form_of v)) }
+
+ended_header : (v : Version) (old new : List Row) (line t : List ℕ) → IsVersion v → line ≡ header_of v → new ≡ [] → StandsAfter Header old line t → StandsAfter (Rows v) new [] (t ++ 10 ∷ [])
+ended_header v old new line t h is none s =
+    let lines : line ∷ [] ≡ header_of v ∷ map (row_line (form_of v)) new
+    = ap (λ l. l ∷ []) is ∙ ap (λ (rows : List Row). header_of v ∷ map (row_line (form_of v)) rows) (sym none) in
     record {
-      text_is = one_more [] line t s.text_is ∙ ap (λ (ls : List (List ℕ)). text_of_lines ls ++ []) (ap (λ l. l ∷ []) j.0 ∙ ap (λ (rows : List Row). header ∷ map row_line rows) (sym none));
+      text_is = one_more [] line t s.text_is ∙ ap (λ (ls : List (List ℕ)). text_of_lines ls ++ []) lines;
       one = tt;
-      holds = tt;
-      book = subst (IsBookRows gap) (sym j.1) s.book;
+      holds = subst (IsBookRows v) (sym none) (no_rows v h);
     }
-ended_stands gap Header Done old new line t j s = absurd j.0
-ended_stands gap Rows Header old new line t j s = absurd j
-ended_stands gap Rows Rows old new line t j s =
-    let x = j.0 in
-    let grown = j.3 in
-    let lines : header ∷ map row_line old ++ line ∷ [] ≡ header ∷ map row_line new
-    = ap (λ l. header ∷ map row_line old ++ l ∷ []) j.2 ∙ ap (λ ls. header ∷ ls) (sym (map_push row_line old x)) ∙ ap (λ (rows : List Row). header ∷ map row_line rows) (sym grown) in
+
+ended_row : (v : Version) (old new : List Row) (x : Row) (line t : List ℕ) → IsBookRow (form_of v) x → line ≡ row_line (form_of v) x → new ≡ old ++ x ∷ [] → Sound (millis_of (gap_of v)) new
+    → StandsAfter (Rows v) old line t → StandsAfter (Rows v) new [] (t ++ 10 ∷ [])
+ended_row v old new x line t is line_is grown sound s =
+    let lines : header_of v ∷ map (row_line (form_of v)) old ++ line ∷ [] ≡ header_of v ∷ map (row_line (form_of v)) new
+    = ap (λ l. header_of v ∷ map (row_line (form_of v)) old ++ l ∷ []) line_is ∙ ap (λ ls. header_of v ∷ ls) (sym (map_push (row_line (form_of v)) old x))
+    ∙ ap (λ (rows : List Row). header_of v ∷ map (row_line (form_of v)) rows) (sym grown) in
     record {
-      text_is = one_more (header ∷ map row_line old) line t s.text_is ∙ ap (λ (ls : List (List ℕ)). text_of_lines ls ++ []) lines;
+      text_is = one_more (header_of v ∷ map (row_line (form_of v)) old) line t s.text_is ∙ ap (λ (ls : List (List ℕ)). text_of_lines ls ++ []) lines;
       one = tt;
-      holds = tt;
-      book = record { sound = j.4; each = subst (All IsBookRow) (sym grown) (All-push IsBookRow old x s.book.each j.1) };
+      holds = record { version = s.holds.version; sound = sound; each = subst (All (IsBookRow (form_of v))) (sym grown) (All-push (IsBookRow (form_of v)) old x s.holds.each is) };
     }
-ended_stands gap Rows Done old new line t j s =
-    let lines : header ∷ map row_line old ++ line ∷ [] ≡ lines_of new
-    = ap (λ l. header ∷ map row_line old ++ l ∷ []) j.0 ∙ ap lines_of (sym j.1) in
+
+ended_last : (v : Version) (old new : List Row) (line t : List ℕ) → line ≡ end_line (length old) → new ≡ old → StandsAfter (Rows v) old line t → StandsAfter (Done v) new [] (t ++ 10 ∷ [])
+ended_last v old new line t is same s =
+    let lines : header_of v ∷ map (row_line (form_of v)) old ++ line ∷ [] ≡ lines_of v new
+    = ap (λ l. header_of v ∷ map (row_line (form_of v)) old ++ l ∷ []) is ∙ ap (lines_of v) (sym same) in
     record {
-      text_is = one_more (header ∷ map row_line old) line t s.text_is ∙ ap (λ (ls : List (List ℕ)). text_of_lines ls ++ []) lines;
+      text_is = one_more (header_of v ∷ map (row_line (form_of v)) old) line t s.text_is ∙ ap (λ (ls : List (List ℕ)). text_of_lines ls ++ []) lines;
       one = tt;
-      holds = refl;
-      book = subst (IsBookRows gap) (sym j.1) s.book;
+      holds = (subst (IsBookRows v) (sym same) s.holds, refl);
     }
-ended_stands gap Done next old new line t j s = absurd (let e : Ok next ≡ Err cause.After = j.0 in cc)
+
+pub ended_stands : (stage next : Stage) (old new : List Row) (line t : List ℕ) → IsJudgedIn stage (Ok next) old line new → StandsAfter stage old line t → StandsAfter next new [] (t ++ 10 ∷ [])
+ended_stands Header Header old new line t j s = absurd j
+ended_stands Header (Rows v) old new line t j s = ended_header v old new line t j.0 j.1 j.2 s
+ended_stands Header (Done v) old new line t j s = absurd j
+ended_stands (Rows v) Header old new line t j s = absurd j
+ended_stands (Rows v) (Rows w) old new line t j s =
+    subst (λ (u : Version). StandsAfter (Rows u) new [] (t ++ 10 ∷ [])) (sym j.0) (ended_row v old new j.1 line t j.2 j.3 j.4 j.5 s)
+ended_stands (Rows v) (Done w) old new line t j s = subst (λ (u : Version). StandsAfter (Done u) new [] (t ++ 10 ∷ [])) (sym j.0) (ended_last v old new line t j.1 j.2 s)
+ended_stands (Done v) next old new line t j s = absurd (let e : Ok next ≡ Err cause.After = j.0 in cc)
 
 -- ---- faults
 
-fault_in : (stage : Stage) (rows : List Row) (c : BookCause) → BookFault
-fault_in stage rows c = record { line = line_number stage rows; cause = c }
-
 number_is : (stage : Stage) (rows : List Row) → line_number stage rows ≡ length (lines_read stage rows) + 1
 number_is Header rows = refl
-number_is Rows rows = omega (arith, length-map rows row_line)
-number_is Done rows = let e : length (lines_of rows) ≡ length (map row_line rows) + 2 = simp length-append (omega arith) in omega (arith, length-map rows row_line, e)
+number_is (Rows v) rows = omega (arith, length-map rows (row_line (form_of v)))
+number_is (Done v) rows =
+    let e : length (lines_of v rows) ≡ length (map (row_line (form_of v)) rows) + 2 = simp length-append (omega arith) in
+    omega (arith, length-map rows (row_line (form_of v)), e)
 
-behind : (gap : ℕ) (stage : Stage) (rows : List Row) (line t more : List ℕ) → StandsAfter gap stage rows line t → t ++ more ≡ text_of_lines (lines_read stage rows) ++ (line ++ more)
-behind gap stage rows line t more s = ap (λ l. l ++ more) s.text_is ∙ append_assoc (text_of_lines (lines_read stage rows)) line more
+behind : (stage : Stage) (rows : List Row) (line t more : List ℕ) → StandsAfter stage rows line t → t ++ more ≡ text_of_lines (lines_read stage rows) ++ (line ++ more)
+behind stage rows line t more s = ap (λ l. l ++ more) s.text_is ∙ append_assoc (text_of_lines (lines_read stage rows)) line more
 
-pub ended_fault : (gap : ℕ) (stage : Stage) (old new : List Row) (line t more : List ℕ) (c : BookCause) → IsJudgedIn gap stage (Err c) old line new → StandsAfter gap stage old line t
-    → IsFault gap (length more + 1) (record { line = line_number stage new; cause = c }) (t ++ 10 ∷ more)
-ended_fault gap Header old new line t more c j s = inr (λ e. record {
+pub ended_fault : (stage : Stage) (old new : List Row) (line t more : List ℕ) (c : BookCause) → IsJudgedIn stage (Err c) old line new → StandsAfter stage old line t
+    → IsFault (length more + 1) (record { line = line_number stage new; cause = c }) (t ++ 10 ∷ more)
+ended_fault Header old new line t more c j s = inr (λ e. record {
   front = [];
   rest = line ++ 10 ∷ more;
-  whole = behind gap Header old line t (10 ∷ more) s;
+  whole = behind Header old line t (10 ∷ more) s;
   line = refl;
-  fault = inl (refl, inr (record { line = line; more = more; is = refl; one = s.one; holds = j.0 }));
+  fault = inl (refl, inr (record { line = line; more = more; is = refl; one = s.one; holds = j }));
 })
-ended_fault gap Rows old new line t more c j s = elim j.0 [
+ended_fault (Rows v) old new line t more c j s = elim j.0 [
   | inl m ↦ inl (record {
     refused = m;
-    front = header ∷ map row_line old;
+    front = header_of v ∷ map (row_line (form_of v)) old;
     line = line;
     more = 10 ∷ more;
-    whole = behind gap Rows old line t (10 ∷ more) s;
+    whole = behind (Rows v) old line t (10 ∷ more) s;
     one = s.one;
     near = omega arith;
-    begins = inr (old, s.book, refl);
-    number = ap (λ (rows : List Row). length rows + 2) j.1 ∙ number_is Rows old;
+    begins = inr (v, old, s.holds, refl);
+    number = ap (λ (rows : List Row). length rows + 2) j.1 ∙ number_is (Rows v) old;
   })
   | inr w ↦ inr (λ e. record {
-    front = header ∷ map row_line old;
+    front = header_of v ∷ map (row_line (form_of v)) old;
     rest = line ++ 10 ∷ more;
-    whole = behind gap Rows old line t (10 ∷ more) s;
-    line = ap (λ (rows : List Row). length rows + 2) j.1 ∙ number_is Rows old;
-    fault = inr (old, s.book, inl (refl, inr (record { line = line; more = more; is = refl; one = s.one; holds = w })));
+    whole = behind (Rows v) old line t (10 ∷ more) s;
+    line = ap (λ (rows : List Row). length rows + 2) j.1 ∙ number_is (Rows v) old;
+    fault = inr (v, old, s.holds, inl (refl, inr (record { line = line; more = more; is = refl; one = s.one; holds = w })));
   })
 ]
-ended_fault gap Done old new line t more c j s =
+ended_fault (Done v) old new line t more c j s =
     let is : c ≡ cause.After = (let e : Err c ≡ Err cause.After = j.0 in cc) in
     inr (λ e. record {
-      front = lines_of old;
+      front = lines_of v old;
       rest = line ++ 10 ∷ more;
-      whole = behind gap Done old line t (10 ∷ more) s;
-      line = ap (λ (rows : List Row). length rows + 3) j.1 ∙ number_is Done old;
-      fault = inr (old, s.book, inr (refl, inl (simp length-append (omega arith), is)));
+      whole = behind (Done v) old line t (10 ∷ more) s;
+      line = ap (λ (rows : List Row). length rows + 3) j.1 ∙ number_is (Done v) old;
+      fault = inr (v, old, s.holds.0, inr (refl, inl (simp length-append (omega arith), is)));
     })
 
 -- memory is refused in the line that is read
-pub held_fault : (gap : ℕ) (stage : Stage) (rows : List Row) (line t bytes more : List ℕ) → is_done stage ≡ false → StandsAfter gap stage rows line t
-    → IsFault gap (length bytes + length more) (record { line = line_number stage rows; cause = cause.Memory }) ((t ++ bytes) ++ more)
-held_fault gap Header rows line t bytes more going s = inl (record {
+pub held_fault : (stage : Stage) (rows : List Row) (line t bytes more : List ℕ) → is_done stage ≡ false → StandsAfter stage rows line t
+    → IsFault (length bytes + length more) (record { line = line_number stage rows; cause = cause.Memory }) ((t ++ bytes) ++ more)
+held_fault Header rows line t bytes more going s = inl (record {
   refused = refl;
   front = [];
   line = line;
   more = bytes ++ more;
-  whole = append_assoc t bytes more ∙ behind gap Header rows line t (bytes ++ more) s;
+  whole = append_assoc t bytes more ∙ behind Header rows line t (bytes ++ more) s;
   one = s.one;
   near = omega (arith, length-append bytes more);
   begins = inl refl;
   number = refl;
 })
-held_fault gap Rows rows line t bytes more going s = inl (record {
+held_fault (Rows v) rows line t bytes more going s = inl (record {
   refused = refl;
-  front = header ∷ map row_line rows;
+  front = header_of v ∷ map (row_line (form_of v)) rows;
   line = line;
   more = bytes ++ more;
-  whole = append_assoc t bytes more ∙ behind gap Rows rows line t (bytes ++ more) s;
+  whole = append_assoc t bytes more ∙ behind (Rows v) rows line t (bytes ++ more) s;
   one = s.one;
   near = omega (arith, length-append bytes more);
-  begins = inr (rows, s.book, refl);
-  number = number_is Rows rows;
+  begins = inr (v, rows, s.holds, refl);
+  number = number_is (Rows v) rows;
 })
-held_fault gap Done rows line t bytes more going s = absurd (let f : true ≡ false = going in cc)
+held_fault (Done v) rows line t bytes more going s = absurd (let f : true ≡ false = going in cc)
 
-pub fault_near : (gap few most : ℕ) (f : BookFault) (t : List ℕ) → few ≤ most → IsFault gap few f t → IsFault gap most f t
-fault_near gap few most f t less h = elim h [
+-- bytes that are held behind those of the line
+pub held_stands : (stage : Stage) (rows : List Row) (line t bytes : List ℕ) → is_done stage ≡ false → Lacks 10 bytes → StandsAfter stage rows line t → StandsAfter stage rows (line ++ bytes) (t ++ bytes)
+held_stands stage rows line t bytes going lacks s = record {
+  text_is = ap (λ l. l ++ bytes) s.text_is ∙ append_assoc (text_of_lines (lines_read stage rows)) line bytes;
+  one = lacks_append 10 line bytes s.one lacks;
+  holds = holds stage going s.holds;
+} where
+  holds : (stage : Stage) → is_done stage ≡ false → HoldsIn stage rows line → HoldsIn stage rows (line ++ bytes)
+  holds Header going h = h
+  holds (Rows v) going h = h
+  holds (Done v) going h = absurd (let f : true ≡ false = going in cc)
+
+-- none may be held behind the last line
+pub after_fault : (stage : Stage) (rows : List Row) (line t bytes more : List ℕ) → is_done stage ≡ true → 0 < length bytes → StandsAfter stage rows line t
+    → IsFault (length bytes + length more) (record { line = line_number stage rows; cause = cause.After }) ((t ++ bytes) ++ more)
+after_fault Header rows line t bytes more done some s = absurd (let f : false ≡ true = done in cc)
+after_fault (Rows v) rows line t bytes more done some s = absurd (let f : false ≡ true = done in cc)
+after_fault (Done v) rows line t bytes more done some s = inr (λ e. record {
+  front = lines_of v rows;
+  rest = line ++ (bytes ++ more);
+  whole = append_assoc t bytes more ∙ behind (Done v) rows line t (bytes ++ more) s;
+  line = number_is (Done v) rows;
+  fault = inr (v, rows, s.holds.0, inr (refl, inl (simp (length-append, length-append) (omega (arith, some)), refl)));
+})
+
+pub fault_near : (few most : ℕ) (f : BookFault) (t : List ℕ) → few ≤ most → IsFault few f t → IsFault most f t
+fault_near few most f t less h = elim h [
   | inl m ↦ inl (record {
     refused = m.refused;
     front = m.front;
@@ -158,27 +226,69 @@ fault_near gap few most f t less h = elim h [
 
 -- ---- the end
 
-pub cut_fault : (gap : ℕ) (stage : Stage) (rows : List Row) (line t : List ℕ) (e : Ending) → may_end stage e ≡ false → StandsAfter gap stage rows line t
-    → FirstFault gap t e (record { line = line_number stage rows; cause = missing e })
-cut_fault gap Header rows line t e may s = record { front = []; rest = line; whole = s.text_is; line = refl; fault = inl (refl, inl (s.one, refl)) }
-cut_fault gap Rows rows line t e may s = record {
-  front = header ∷ map row_line rows;
+pub cut_fault : (stage : Stage) (rows : List Row) (line t : List ℕ) (e : Ending) → may_end stage e ≡ false → StandsAfter stage rows line t
+    → FirstFault t e (record { line = line_number stage rows; cause = missing e })
+cut_fault Header rows line t e may s = record { front = []; rest = line; whole = s.text_is; line = refl; fault = inl (refl, inl (s.one, refl)) }
+cut_fault (Rows v) rows line t e may s = record {
+  front = header_of v ∷ map (row_line (form_of v)) rows;
   rest = line;
   whole = s.text_is;
-  line = number_is Rows rows;
-  fault = inr (rows, s.book, inl (refl, inl (s.one, refl)));
+  line = number_is (Rows v) rows;
+  fault = inr (v, rows, s.holds, inl (refl, inl (s.one, refl)));
 }
-cut_fault gap Done rows line t e may s = record {
-  front = lines_of rows;
+cut_fault (Done v) rows line t e may s = record {
+  front = lines_of v rows;
   rest = line;
   whole = s.text_is;
-  line = number_is Done rows;
-  fault = inr (rows, s.book, inr (refl, inr (s.holds, not_end e may, refl)));
+  line = number_is (Done v) rows;
+  fault = inr (v, rows, s.holds.0, inr (refl, inr (s.holds.1, not_end e may, refl)));
 } where
-  not_end : (e : Ending) → may_end Done e ≡ false → e ≢ ending.End
+  not_end : (e : Ending) → may_end (Done v) e ≡ false → e ≢ ending.End
   not_end ending.End may = λ x. (let f : true ≡ false = may in cc)
   not_end ending.Read may = λ x. cc
   not_end ending.TooLong may = λ x. cc
+
+-- the whole text was read
+pub record IsWhole (stage : Stage) (rows : List Row) (t : List ℕ) (e : Ending) : Type 0 where
+  pub version : Version
+  pub stage_is : stage ≡ Done version
+  pub text_is : t ≡ book_text version rows
+  pub is : IsBookRows version rows
+  pub ended : e ≡ ending.End
+
+pub ended_whole : (stage : Stage) (rows : List Row) (line t : List ℕ) (e : Ending) → may_end stage e ≡ true → StandsAfter stage rows line t → IsWhole stage rows t e
+ended_whole Header rows line t e may s = absurd (let f : false ≡ true = may in cc)
+ended_whole (Rows v) rows line t e may s = absurd (let f : false ≡ true = may in cc)
+ended_whole (Done v) rows line t e may s = record {
+  version = v;
+  stage_is = refl;
+  text_is = s.text_is ∙ ap (λ l. book_text v rows ++ l) s.holds.1 ∙ append-nil (book_text v rows);
+  is = s.holds.0;
+  ended = is_end e may;
+} where
+  is_end : (e : Ending) → may_end (Done v) e ≡ true → e ≡ ending.End
+  is_end ending.End may = refl
+  is_end ending.Read may = absurd (let f : false ≡ true = may in cc)
+  is_end ending.TooLong may = absurd (let f : false ≡ true = may in cc)
+
+pub ended_read : (stage : Stage) (book : BookValue) (line t : List ℕ) (e : Ending) → may_end stage e ≡ true → StandsAfter stage book.rows line t → HasItsGap stage book.gap
+    → ReadsSo (Ok book) t e
+ended_read stage book line t e may s own =
+    let w = ended_whole stage book.rows line t e may s in
+    (w.version, subst (λ (g : Stage). HasItsGap g book.gap) w.stage_is own, w.text_is, w.is, w.ended)
+
+-- ---- rows are judged by the gap of the header
+
+pub judged_so : (v : Version) (gap : ℕ) (r : Result Stage BookCause) (old : List Row) (line : List ℕ) (new : List Row) → IsJudged (millis_of gap) v r old line new → gap ≡ gap_of v
+    → IsJudgedIn (Rows v) r old line new
+judged_so v gap r old line new j e = subst (λ (g : ℕ). IsJudged (millis_of g) v r old line new) e j
+
+pub keeps_gap : (v : Version) (millis gap next : ℕ) (r : Result Stage BookCause) (old : List Row) (line : List ℕ) (new : List Row) → IsJudged millis v r old line new → next ≡ gap → gap ≡ gap_of v
+    → IfOk r (λ stage. HasItsGap stage next)
+keeps_gap v millis gap next (Ok Header) old line new j same own = absurd j
+keeps_gap v millis gap next (Ok (Rows w)) old line new j same own = same ∙ own ∙ ap gap_of (sym j.0)
+keeps_gap v millis gap next (Ok (Done w)) old line new j same own = same ∙ own ∙ ap gap_of (sym j.0)
+keeps_gap v millis gap next (Err c) old line new j same own = tt
 
 -- ---- a piece, line by line
 

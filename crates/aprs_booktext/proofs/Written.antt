@@ -1,16 +1,18 @@
 -- Rows that were written can be read.
-use Rattle.std.proofs.Common.{◌≡◌, ℕ, ◌+◌, ◌<◌, ◌≤◌, List, [], ◌∷◌, ◌++◌, length, get_or, take, OnOk, Result, Ok, Err, inl, refl, sym, ap, ◌∙◌, subst, append_assoc, append-nil, arith}
+use Rattle.std.proofs.Common.{◌≡◌, ℕ, ◌+◌, ◌<◌, List, [], ◌∷◌, ◌++◌, length, get_or, take, OnOk, Result, Ok, Err, inl, refl, sym, ap, ◌∙◌, subst, append_assoc, append-nil, arith}
 use Rattle.std.specs.Prelude.{All}
 use Rattle.std.proofs.lemmas.List.{take_more}
 use Rattle.std.proofs.lemmas.List.Elements.{All-nil, All-push}
 use Rattle.aprs_log.specs.Receiver.{IsName}
+use Rattle.aprs_log.specs.declared.moment_form.MomentForm.TheVariants.{Millis}
+use Rattle.aprs_laws.specs.BookValue.{BookValue, IsSoundBook}
 use Rattle.aprs_laws.specs.Lists.{◌∈◌}
 use Rattle.aprs_laws.specs.Row.{Row}
 use Rattle.aprs_laws.specs.Sound.{Sound}
 use Rattle.aprs_laws.proofs.Lists.{in_right}
 use Rattle.aprs_book.specs.Shown.{row_of}
 use Rattle.aprs_booktext.specs.Outbox.{AreSpelled}
-use Rattle.aprs_booktext.specs.Text.{IsBookRow, IsBookRows}
+use Rattle.aprs_booktext.specs.Text.{IsBookRow, IsBookRows, IsTold, written_version}
 
 pub on_ok : {T E P : Type 0} (r : Result T E) → P → OnOk r P
 on_ok (Ok x) p = p
@@ -18,14 +20,14 @@ on_ok (Err e) p = tt
 
 -- the row of what its parts spell
 pub row_written : (first last : ℕ) (names : List (List ℕ)) (who bytes : List ℕ) (row : Row) → row_of first last names who bytes ≡ row
-    → (first ≤ 4102444799) × (last ≤ 4102444799) → All IsName names → AreSpelled who bytes → 0 < length row.receivers → IsBookRow row
+    → IsTold Millis first × IsTold Millis last → All IsName names → AreSpelled who bytes → 0 < length row.receivers → IsBookRow Millis row
 row_written first last names who bytes row e moments names_are s some =
     let here : 0 < length names = subst (λ (x : Row). 0 < length x.receivers) (sym e) some in
-    let is : IsBookRow (row_of first last names who bytes) = record {
+    let is : IsBookRow Millis (row_of first last names who bytes) = record {
       spelled = record { first = moments.0; last = moments.1; some = here; receivers = names_are; receiver = s.name_is; bytes = s.bytes_are; few = s.few };
       frame = s.frame_is;
     } in
-    subst IsBookRow e is
+    subst (IsBookRow Millis) e is
 
 -- one name more
 pub names_more : (names : List (List ℕ)) (i : ℕ) (name : List ℕ) → i < length names → name ≡ get_or names i name → All IsName (take i names) → IsName name
@@ -41,12 +43,12 @@ some_of x (y ∷ ys) h = omega arith
 pub record WrittenSoFar (all rest : List Row) : Type 0 where
   pub front : List Row
   pub whole : all ≡ front ++ rest
-  pub each : All IsBookRow front
+  pub each : All (IsBookRow Millis) front
 
 pub WrittenSoFar-none : (all : List Row) → WrittenSoFar all all
-WrittenSoFar-none all = record { front = []; whole = refl; each = All-nil IsBookRow }
+WrittenSoFar-none all = record { front = []; whole = refl; each = All-nil (IsBookRow Millis) }
 
-pub WrittenSoFar-more : (gap : ℕ) (all rest more : List Row) (x : Row) → Sound gap all → WrittenSoFar all rest → rest ≡ x ∷ more → (0 < length x.receivers → IsBookRow x)
+pub WrittenSoFar-more : (gap : ℕ) (all rest more : List Row) (x : Row) → Sound gap all → WrittenSoFar all rest → rest ≡ x ∷ more → (0 < length x.receivers → IsBookRow Millis x)
     → WrittenSoFar all more
 WrittenSoFar-more gap all rest more x sound p next is =
     let cut : all ≡ p.front ++ x ∷ more = p.whole ∙ ap (λ r. p.front ++ r) next in
@@ -54,11 +56,12 @@ WrittenSoFar-more gap all rest more x sound p next is =
     record {
       front = p.front ++ x ∷ [];
       whole = cut ∙ sym (append_assoc p.front (x ∷ []) more);
-      each = All-push IsBookRow p.front x p.each (is (some_of x.greatest.receiver x.receivers own.receiver));
+      each = All-push (IsBookRow Millis) p.front x p.each (is (some_of x.greatest.receiver x.receivers own.receiver));
     }
 
-pub WrittenSoFar-all : (gap : ℕ) (all rest : List Row) → Sound gap all → WrittenSoFar all rest → rest ≡ [] → IsBookRows gap all
-WrittenSoFar-all gap all rest sound p e = record {
-  sound = sound;
-  each = subst (All IsBookRow) (sym (p.whole ∙ ap (λ r. p.front ++ r) e ∙ append-nil p.front)) p.each;
+pub WrittenSoFar-all : (book : BookValue) (rest : List Row) → IsSoundBook book → WrittenSoFar book.rows rest → rest ≡ [] → IsBookRows (written_version book) book.rows
+WrittenSoFar-all book rest h p e = record {
+  version = h.range;
+  sound = h.sound;
+  each = subst (All (IsBookRow Millis)) (sym (p.whole ∙ ap (λ r. p.front ++ r) e ∙ append-nil p.front)) p.each;
 }

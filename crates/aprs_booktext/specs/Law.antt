@@ -3,68 +3,89 @@ use Rattle.std.specs.Prelude.{◌≡◌, ◌≢◌, ℕ, ◌^◌, ◌<◌, ◌�
 use Rattle.aprs_log.specs.declared.Ending.{Ending}
 use Rattle.aprs_log.specs.declared.Ending.TheVariants as ending
 use Rattle.aprs_log.specs.Reception.{Heard}
-use Rattle.aprs_laws.specs.Book.{BookOf}
+use Rattle.aprs_laws.specs.BookValue.{BookValue, Holds}
 use Rattle.aprs_laws.specs.Row.{Row}
 use Rattle.aprs_booktext.specs.FirstFault.{FirstFault, IsBookOrMemory, missing, Reads}
-use Rattle.aprs_booktext.specs.Text.{book_text, IsBookRow, IsBookRows}
+use Rattle.aprs_booktext.specs.Text.{book_of, book_text, IsBookRow, IsBookRows, written_text, written_version}
+use Rattle.aprs_booktext.specs.Version.{form_of, gap_of, IsVersion}
 use Rattle.aprs_booktext.specs.declared.fault.BookCause.TheVariants as cause
 use Rattle.aprs_booktext.specs.declared.fault.BookFault.{BookFault}
+use Rattle.aprs_booktext.specs.declared.version.Version.{Version}
 
--- equal texts are of equal rows
-abbrev pub HaveOneText : ℕ → Type 0
-HaveOneText gap = (a b : List Row) → IsBookRows gap a → IsBookRows gap b
-    → book_text a ≡ book_text b → a ≡ b
+-- equal texts are of one version and of equal rows
+abbrev pub HaveOneText : Type 0
+HaveOneText = (v w : Version) (a b : List Row) → IsBookRows v a → IsBookRows w b
+    → book_text v a ≡ book_text w b → (v ≡ w) × (a ≡ b)
+
+-- books that are written as equal texts are equal
+abbrev pub TellBooksApart : Type 0
+TellBooksApart = (a b : BookValue) → IsBookRows (written_version a) a.rows
+    → IsBookRows (written_version b) b.rows → written_text a ≡ written_text b → a ≡ b
 
 -- a fault in the front of a book's text is that a byte is missing behind it, as one is unless
 -- that front is the whole text
-abbrev pub AreCutShort : ℕ → Type 0
-AreCutShort gap = (rows : List Row) → IsBookRows gap rows → length rows < 2 ^ 64
-    → (text more : List ℕ) (e : Ending) (f : BookFault) → text ++ more ≡ book_text rows
-    → FirstFault gap text e f → (f.cause ≡ missing e) × (e ≡ ending.End → more ≢ [])
+abbrev pub AreCutShort : Type 0
+AreCutShort = (v : Version) (rows : List Row) → IsBookRows v rows → length rows < 2 ^ 64
+    → (text more : List ℕ) (e : Ending) (f : BookFault) → text ++ more ≡ book_text v rows
+    → FirstFault text e f → (f.cause ≡ missing e) × (e ≡ ending.End → more ≢ [])
 
 -- an input that is the text of a book gives that book, unless it is longer than the limit, a read
 -- failed or memory was refused
-abbrev pub AreReadBack : ℕ → Type 0
-AreReadBack gap = (rows : List Row) → IsBookRows gap rows → (limit : ℕ) → limit ≤ 1073741824
-    → length (book_text rows) ≤ limit → (after : Option (List ℕ))
-    → (r : Result (List Row) BookFault) → Reads gap limit [] (book_text rows) after r
-    → IfErr r (λ f. f.cause ≢ cause.Read) → IsBookOrMemory r rows
+abbrev pub AreReadBack : Type 0
+AreReadBack = (v : Version) (rows : List Row) → IsBookRows v rows
+    → (limit : ℕ) → limit ≤ 1073741824
+    → length (book_text v rows) ≤ limit → (after : Option (List ℕ))
+    → (r : Result BookValue BookFault) → Reads limit [] (book_text v rows) after r
+    → IfErr r (λ f. f.cause ≢ cause.Read) → IsBookOrMemory r (book_of v rows)
 
 -- a text has at most one first fault, for each way of ending
-abbrev pub HaveOneFaultAtMost : ℕ → Type 0
-HaveOneFaultAtMost gap = (text : List ℕ) (e : Ending) (f g : BookFault) → length text < 2 ^ 64
-    → FirstFault gap text e f → FirstFault gap text e g → f ≡ g
+abbrev pub HaveOneFaultAtMost : Type 0
+HaveOneFaultAtMost = (text : List ℕ) (e : Ending) (f g : BookFault) → length text < 2 ^ 64
+    → FirstFault text e f → FirstFault text e g → f ≡ g
 
--- the text is that of a book, and the end came after it
-pub record IsBookText (gap : ℕ) (text : List ℕ) (e : Ending) : Type 0 where
+-- the text is that of a book in some version, and the end came after it
+pub record IsBookText (text : List ℕ) (e : Ending) : Type 0 where
+  pub version : Version
   pub rows : List Row
-  pub is : IsBookRows gap rows
-  pub text_is : text ≡ book_text rows
+  pub is : IsBookRows version rows
+  pub text_is : text ≡ book_text version rows
   pub ended : e ≡ ending.End
 
 -- a text that isn't the whole text of a book has a first fault
-abbrev pub HaveFaultOrBook : ℕ → Type 0
-HaveFaultOrBook gap = (text : List ℕ) (e : Ending)
-    → IsBookText gap text e ⊎ ((f : BookFault) × FirstFault gap text e f)
+abbrev pub HaveFaultOrBook : Type 0
+HaveFaultOrBook = (text : List ℕ) (e : Ending)
+    → IsBookText text e ⊎ ((f : BookFault) × FirstFault text e f)
 
 -- and one that is has none
-abbrev pub BooksAreFaultless : ℕ → Type 0
-BooksAreFaultless gap = (text : List ℕ) (e : Ending) (f : BookFault) → length text < 2 ^ 64
-    → IsBookText gap text e → FirstFault gap text e f → ⊥
+abbrev pub BooksAreFaultless : Type 0
+BooksAreFaultless = (text : List ℕ) (e : Ending) (f : BookFault) → length text < 2 ^ 64
+    → IsBookText text e → FirstFault text e f → ⊥
 
--- the text is that of the book of these receptions, each row of which can be spelled
-pub record IsTextOfSet (gap : ℕ) (S : List Heard) (text : List ℕ) : Type 0 where
+-- the text is that of the book of these receptions in some version, under its gap, and each row
+-- can be spelled in it
+pub record IsTextOfSet (S : List Heard) (text : List ℕ) : Type 0 where
+  pub version : Version
+  pub is : IsVersion version
   pub rows : List Row
-  pub book : BookOf gap S rows
-  pub each : All IsBookRow rows
-  pub text_is : text ≡ book_text rows
+  pub holds : Holds S (book_of version rows)
+  pub each : All (IsBookRow (form_of version)) rows
+  pub text_is : text ≡ book_text version rows
 
 -- the whole texts of books are exactly the texts of sets' books
-abbrev pub AreOfSets : ℕ → Type 0
-AreOfSets gap = (text : List ℕ)
-    → IsBookText gap text ending.End ↔ ((S : List Heard) × IsTextOfSet gap S text)
+abbrev pub AreOfSets : Type 0
+AreOfSets = (text : List ℕ)
+    → IsBookText text ending.End ↔ ((S : List Heard) × IsTextOfSet S text)
 
--- the text of rows that were read is all of the input, with its head
-abbrev pub AreWrittenBack : ℕ → Type 0
-AreWrittenBack gap = (limit : ℕ) (head input : List ℕ) (after : Option (List ℕ)) (rows : List Row)
-    → Reads gap limit head input after (Ok rows) → book_text rows ≡ head ++ input
+-- the text is that of the book's rows in some version of its gap, the book can be written too, and
+-- that gives the same text exactly if it is of the version that is written
+pub record IsWrittenBack (book : BookValue) (text : List ℕ) : Type 0 where
+  pub version : Version
+  pub gap_is : book.gap ≡ gap_of version
+  pub text_is : text ≡ book_text version book.rows
+  pub written : IsBookRows (written_version book) book.rows
+  pub same : (written_text book ≡ text) ↔ (version ≡ written_version book)
+
+-- so it is with all of an input, with its head, that a book was read of
+abbrev pub AreWrittenBack : Type 0
+AreWrittenBack = (limit : ℕ) (head input : List ℕ) (after : Option (List ℕ)) (book : BookValue)
+    → Reads limit head input after (Ok book) → IsWrittenBack book (head ++ input)

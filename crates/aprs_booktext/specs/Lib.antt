@@ -5,4 +5,6 @@ pub mod Lines
 pub mod Outbox
 pub mod Reader
 pub mod RowFields
+pub mod Seconds
 pub mod Text
+pub mod Version

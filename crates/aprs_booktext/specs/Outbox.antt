@@ -4,6 +4,7 @@ use Rattle.std.specs.Io.KnownBytes.{Appends}
 use Rattle.hex.specs.Hex.{IsBytes}
 use Rattle.aprs_ax25.specs.FrameFault.{frame_of}
 use Rattle.aprs_log.specs.Receiver.{IsName}
+use Rattle.aprs_log.specs.declared.moment_form.MomentForm.TheVariants.{Millis}
 use Rattle.aprs_laws.specs.Row.{Row}
 use Rattle.aprs_booktext.specs.Text.{ended_by_lf, row_line}
 
@@ -21,6 +22,6 @@ pub record AreSpelled (who bytes : List ℕ) : Type 0 where
   pub few : (0 < length bytes) × (length bytes ≤ 328)
   pub frame_is : frame_of bytes ≡ Ok bytes
 
--- a row's line, with its LF
+-- a row's line as it is written, with its LF
 abbrev pub line_and_lf : Row → List ℕ
-line_and_lf x = ended_by_lf (row_line x)
+line_and_lf x = ended_by_lf (row_line Millis x)

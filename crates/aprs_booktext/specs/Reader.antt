@@ -2,82 +2,92 @@
 use Rattle.std.specs.Prelude.{◌≡◌, ◌≢◌, ℕ, ◌+◌, ◌⊎◌, Bool, true, false, List, [], ◌∷◌, ◌++◌, length, map, Result, Ok, Err}
 use Rattle.aprs_log.specs.declared.Ending.{Ending}
 use Rattle.aprs_log.specs.declared.Ending.TheVariants as ending
+use Rattle.aprs_laws.specs.Gap.{millis_of}
 use Rattle.aprs_laws.specs.Row.{Row}
 use Rattle.aprs_laws.specs.Sound.{Sound}
 use Rattle.aprs_booktext.specs.FirstFault.{FirstFault, IsMemoryAt, IsWrong}
 use Rattle.aprs_booktext.specs.Lines.{Lacks}
-use Rattle.aprs_booktext.specs.Text.{header, row_line, end_line, lines_of, text_of_lines, IsBookRow, IsBookRows}
+use Rattle.aprs_booktext.specs.Text.{row_line, end_line, lines_of, text_of_lines, IsBookRow, IsBookRows}
+use Rattle.aprs_booktext.specs.Version.{form_of, gap_of, header_of, IsVersion}
 use Rattle.aprs_booktext.specs.declared.fault.BookCause.{BookCause}
 use Rattle.aprs_booktext.specs.declared.fault.BookCause.TheVariants as cause
 use Rattle.aprs_booktext.specs.declared.fault.BookFault.{BookFault}
 use Rattle.aprs_booktext.specs.declared.reader.BookReader.{BookReader}
 use Rattle.aprs_booktext.specs.declared.reader.Stage.{Stage}
 use Rattle.aprs_booktext.specs.declared.reader.Stage.TheVariants.{Header, Rows, Done}
+use Rattle.aprs_booktext.specs.declared.version.Version.{Version}
 
 -- the lines that were read
 abbrev pub lines_read : Stage → List Row → List (List ℕ)
 lines_read Header rows = []
-lines_read Rows rows = header ∷ map row_line rows
-lines_read Done rows = lines_of rows
+lines_read (Rows v) rows = header_of v ∷ map (row_line (form_of v)) rows
+lines_read (Done v) rows = lines_of v rows
 
--- whether there were rows to read
+-- what rows there may be, and whether there is a front of a line
 abbrev pub HoldsIn : Stage → List Row → List ℕ → Type 0
 HoldsIn Header rows line = rows ≡ []
-HoldsIn Rows rows line = Unit {0}
-HoldsIn Done rows line = line ≡ []
+HoldsIn (Rows v) rows line = IsBookRows v rows
+HoldsIn (Done v) rows line = IsBookRows v rows × (line ≡ [])
 
 -- the reader has read this text: whole lines, and the front of a line
-pub record StandsAfter (gap : ℕ) (stage : Stage) (rows : List Row)
-    (line text : List ℕ) : Type 0 where
+pub record StandsAfter (stage : Stage) (rows : List Row) (line text : List ℕ) : Type 0 where
   pub text_is : text ≡ text_of_lines (lines_read stage rows) ++ line
   pub one : Lacks 10 line
   pub holds : HoldsIn stage rows line
-  pub book : IsBookRows gap rows
 
 -- a fault of a text, whatever follows it; where memory was refused, at most `most` bytes of the
 -- text were not looked at
-abbrev pub IsFault : ℕ → ℕ → BookFault → List ℕ → Type 0
-IsFault gap most f text = IsMemoryAt gap most text f ⊎ ((e : Ending) → FirstFault gap text e f)
+abbrev pub IsFault : ℕ → BookFault → List ℕ → Type 0
+IsFault most f text = IsMemoryAt most text f ⊎ ((e : Ending) → FirstFault text e f)
 
 -- the number of the line that is read
 abbrev pub line_number : Stage → List Row → ℕ
 line_number Header rows = 1
-line_number Rows rows = length rows + 2
-line_number Done rows = length rows + 3
+line_number (Rows v) rows = length rows + 2
+line_number (Done v) rows = length rows + 3
 
 -- whether the last line was read
 abbrev pub is_done : Stage → Bool
 is_done Header = false
-is_done Rows = false
-is_done Done = true
+is_done (Rows v) = false
+is_done (Done v) = true
 
 -- whether a text may end there
 abbrev pub may_end : Stage → Ending → Bool
-may_end Done ending.End = true
-may_end Done ending.Read = false
-may_end Done ending.TooLong = false
+may_end (Done v) ending.End = true
+may_end (Done v) ending.Read = false
+may_end (Done v) ending.TooLong = false
 may_end Header e = false
-may_end Rows e = false
+may_end (Rows v) e = false
 
--- what a line is judged to be behind the lines of rows
-abbrev pub IsJudged : ℕ → Result Stage BookCause → List Row → List ℕ → List Row → Type 0
-IsJudged gap (Ok Header) old line new = ⊥
-IsJudged gap (Ok Rows) old line new = (x : Row) × IsBookRow x × (line ≡ row_line x)
-    × (new ≡ old ++ x ∷ []) × Sound gap new
-IsJudged gap (Ok Done) old line new = (line ≡ end_line (length old)) × (new ≡ old)
-IsJudged gap (Err c) old line new = ((c ≡ cause.Memory) ⊎ IsWrong gap old line c) × (new ≡ old)
+-- what a line is judged to be behind the lines of rows of this version
+abbrev pub IsJudged : ℕ → Version → Result Stage BookCause → List Row → List ℕ → List Row → Type 0
+IsJudged gap v (Ok Header) old line new = ⊥
+IsJudged gap v (Ok (Rows w)) old line new = (w ≡ v) × (x : Row) × IsBookRow (form_of v) x
+    × (line ≡ row_line (form_of v) x) × (new ≡ old ++ x ∷ []) × Sound gap new
+IsJudged gap v (Ok (Done w)) old line new =
+    (w ≡ v) × (line ≡ end_line (length old)) × (new ≡ old)
+IsJudged gap v (Err c) old line new =
+    ((c ≡ cause.Memory) ⊎ IsWrong gap (form_of v) old line c) × (new ≡ old)
 
 -- and as the first line
-abbrev pub IsJudgedFirst : Result Stage BookCause → List ℕ → Type 0
-IsJudgedFirst (Ok Header) line = ⊥
-IsJudgedFirst (Ok Rows) line = line ≡ header
-IsJudgedFirst (Ok Done) line = ⊥
-IsJudgedFirst (Err c) line = (line ≢ header) × (c ≡ cause.Header)
+abbrev pub IsJudgedFirst : Result Stage BookCause → List ℕ → List Row → Type 0
+IsJudgedFirst (Ok Header) line new = ⊥
+IsJudgedFirst (Ok (Rows v)) line new = IsVersion v × (line ≡ header_of v) × (new ≡ [])
+IsJudgedFirst (Ok (Done v)) line new = ⊥
+IsJudgedFirst (Err c) line new =
+    ((v : Version) → IsVersion v → line ≢ header_of v) × (c ≡ cause.Header)
 
-abbrev pub IsJudgedIn : ℕ → Stage → Result Stage BookCause → List Row → List ℕ → List Row → Type 0
-IsJudgedIn gap Header r old line new = IsJudgedFirst r line × (new ≡ old)
-IsJudgedIn gap Rows r old line new = IsJudged gap r old line new
-IsJudgedIn gap Done r old line new = (r ≡ Err cause.After) × (new ≡ old)
+abbrev pub IsJudgedIn : Stage → Result Stage BookCause → List Row → List ℕ → List Row → Type 0
+IsJudgedIn Header r old line new = IsJudgedFirst r line new
+IsJudgedIn (Rows v) r old line new = IsJudged (millis_of (gap_of v)) v r old line new
+IsJudgedIn (Done v) r old line new = (r ≡ Err cause.After) × (new ≡ old)
 
-abbrev pub Stands : {A : Type 0} → ℕ → BookReader A → List ℕ → Type 0
-Stands gap r text = StandsAfter gap r.stage r.book r.line.items text
+-- the reader's book has the gap of the header that was read
+abbrev pub HasItsGap : Stage → ℕ → Type 0
+HasItsGap Header gap = Unit {0}
+HasItsGap (Rows v) gap = gap ≡ gap_of v
+HasItsGap (Done v) gap = gap ≡ gap_of v
+
+abbrev pub Stands : {A : Type 0} → BookReader A → List ℕ → Type 0
+Stands r text = StandsAfter r.stage r.book.rows r.line.items text × HasItsGap r.stage r.book.gap

@@ -4,6 +4,7 @@ use Rattle.std.specs.List.{join_with_byte}
 use Rattle.hex.specs.Hex.{encode_lower, IsBytes}
 use Rattle.aprs_ax25.specs.FrameFault.{frame_of}
 use Rattle.aprs_log.specs.Receiver.{IsName}
+use Rattle.aprs_log.specs.declared.moment_form.MomentForm.{MomentForm}
 use Rattle.aprs_laws.specs.Row.{Row}
 use Rattle.aprs_booktext.specs.FirstFault.{HasNoFrame}
 use Rattle.aprs_booktext.specs.Text.{row_line, IsSpelled}
@@ -42,7 +43,7 @@ IsWrongFrame digits c =
     ⊎ ((c ≡ cause.Frame) × ((bytes : List ℕ) × SpellsBytes digits bytes × IsErr (frame_of bytes)))
 
 -- a line spells no row, or one whose frame is none
-abbrev pub IsWrongRow : List ℕ → BookCause → Type 0
-IsWrongRow line c = (c ≡ cause.Memory)
-    ⊎ (((c ≡ cause.RowSyntax) × ((x : Row) → IsSpelled x → line ≢ row_line x))
-    ⊎ ((c ≡ cause.Frame) × HasNoFrame line))
+abbrev pub IsWrongRow : MomentForm → List ℕ → BookCause → Type 0
+IsWrongRow form line c = (c ≡ cause.Memory)
+    ⊎ (((c ≡ cause.RowSyntax) × ((x : Row) → IsSpelled form x → line ≢ row_line form x))
+    ⊎ ((c ≡ cause.Frame) × HasNoFrame form line))

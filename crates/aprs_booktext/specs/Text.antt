@@ -1,32 +1,35 @@
--- The one text of a book's rows.
-use Rattle.std.specs.Prelude.{◌≡◌, ℕ, ◌<◌, ◌≤◌, List, [], ◌∷◌, ◌++◌, length, map, flat_map, codes, decimal, All, Ok}
+-- The one text of a book's rows in each version, and the text that a book is written as.
+use Rattle.std.specs.Prelude.{◌≡◌, ℕ, ◌%◌, ◌<◌, ◌≤◌, List, [], ◌∷◌, ◌++◌, length, map, flat_map, codes, decimal, All, Ok}
 use Rattle.std.specs.List.{join_with_byte}
 use Rattle.hex.specs.Hex.{encode_lower, IsBytes}
 use Rattle.aprs_ax25.specs.FrameFault.{frame_of}
-use Rattle.aprs_log.specs.Moment.{moment_text}
+use Rattle.aprs_log.specs.Moment.{moment_text_in, room_of}
+use Rattle.aprs_log.specs.declared.moment_form.MomentForm.{MomentForm}
 use Rattle.aprs_log.specs.Receiver.{IsName}
+use Rattle.aprs_laws.specs.BookValue.{BookValue}
+use Rattle.aprs_laws.specs.Gap.{millis_of}
 use Rattle.aprs_laws.specs.Row.{Row, last_of}
 use Rattle.aprs_laws.specs.Sound.{Sound}
+use Rattle.aprs_booktext.specs.Version.{form_of, gap_of, header_of, IsVersion}
+use Rattle.aprs_booktext.specs.declared.version.Version.{Version}
+use Rattle.aprs_booktext.specs.declared.version.Version.TheVariants.{Three}
 
 -- ---- lines, without the LF that ends each
 
-abbrev pub header : List ℕ
-header = codes "APRSBOOK 1"
-
 -- T, the first and the last moment, the receivers, and the greatest reception's receiver and frame
-abbrev pub fields_of : Row → List (List ℕ)
-fields_of x = codes "T" ∷ moment_text x.first ∷ moment_text (last_of x)
+abbrev pub fields_of : MomentForm → Row → List (List ℕ)
+fields_of form x = codes "T" ∷ moment_text_in form x.first ∷ moment_text_in form (last_of x)
     ∷ join_with_byte 44 x.receivers ∷ x.greatest.receiver ∷ encode_lower x.greatest.frame ∷ []
 
-abbrev pub row_line : Row → List ℕ
-row_line x = join_with_byte 32 (fields_of x)
+abbrev pub row_line : MomentForm → Row → List ℕ
+row_line form x = join_with_byte 32 (fields_of form x)
 
 -- how many rows there were
 abbrev pub end_line : ℕ → List ℕ
 end_line n = codes "END " ++ decimal n
 
-abbrev pub lines_of : List Row → List (List ℕ)
-lines_of rows = header ∷ map row_line rows ++ end_line (length rows) ∷ []
+abbrev pub lines_of : Version → List Row → List (List ℕ)
+lines_of v rows = header_of v ∷ map (row_line (form_of v)) rows ++ end_line (length rows) ∷ []
 
 -- ---- the text
 
@@ -36,15 +39,32 @@ ended_by_lf line = line ++ 10 ∷ []
 abbrev pub text_of_lines : List (List ℕ) → List ℕ
 text_of_lines lines = flat_map ended_by_lf lines
 
-abbrev pub book_text : List Row → List ℕ
-book_text rows = text_of_lines (lines_of rows)
+abbrev pub book_text : Version → List Row → List ℕ
+book_text v rows = text_of_lines (lines_of v rows)
+
+-- the book of the rows of a text of this version
+abbrev pub book_of : Version → List Row → BookValue
+book_of v rows = record { gap = gap_of v; rows = rows }
+
+-- ---- the text that a book is written as
+
+abbrev pub written_version : BookValue → Version
+written_version book = Three book.gap
+
+abbrev pub written_text : BookValue → List ℕ
+written_text book = book_text (written_version book) book.rows
 
 -- ---- whose text it is
 
+-- a moment that can be written in this form: to the second, those of whole seconds
+pub record IsTold (form : MomentForm) (m : ℕ) : Type 0 where
+  pub in_range : m ≤ 4102444799999
+  pub whole : m % 1000 < room_of form
+
 -- what the fields of a line can spell: moments, at least one name, a name, and 1 to 328 bytes
-pub record IsSpelled (x : Row) : Type 0 where
-  pub first : x.first ≤ 4102444799
-  pub last : last_of x ≤ 4102444799
+pub record IsSpelled (form : MomentForm) (x : Row) : Type 0 where
+  pub first : IsTold form x.first
+  pub last : IsTold form (last_of x)
   pub some : 0 < length x.receivers
   pub receivers : All IsName x.receivers
   pub receiver : IsName x.greatest.receiver
@@ -52,10 +72,12 @@ pub record IsSpelled (x : Row) : Type 0 where
   pub few : (0 < length x.greatest.frame) × (length x.greatest.frame ≤ 328)
 
 -- and these bytes are a UI frame
-pub record IsBookRow (x : Row) : Type 0 where
-  pub spelled : IsSpelled x
+pub record IsBookRow (form : MomentForm) (x : Row) : Type 0 where
+  pub spelled : IsSpelled form x
   pub frame : frame_of x.greatest.frame ≡ Ok x.greatest.frame
 
-pub record IsBookRows (gap : ℕ) (rows : List Row) : Type 0 where
-  pub sound : Sound gap rows
-  pub each : All IsBookRow rows
+-- sound rows under the version's gap, each of which can be spelled in its form
+pub record IsBookRows (v : Version) (rows : List Row) : Type 0 where
+  pub version : IsVersion v
+  pub sound : Sound (millis_of (gap_of v)) rows
+  pub each : All (IsBookRow (form_of v)) rows

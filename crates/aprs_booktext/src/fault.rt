@@ -7,7 +7,7 @@ use aprs_book::RowCause;
 /// Why the text of a book is read no further.
 #[derive(Clone, Copy, Debug, PartialEq, Eq)]
 pub enum BookCause {
-    /// The first line isn't the header.
+    /// The first line is the header of no version.
     Header,
     /// A line isn't that of a row.
     RowSyntax,

@@ -1,35 +1,43 @@
 //! Laws over all rows. Their functions do nothing: what they ensure is the law.
-ghost use Rattle.aprs_laws.specs.Gap.{gap_seconds};
-ghost use Rattle.aprs_booktext.specs.Law.{AreCutShort, AreOfSets, AreReadBack, AreWrittenBack, BooksAreFaultless, HaveFaultOrBook, HaveOneFaultAtMost, HaveOneText};
+ghost use Rattle.aprs_booktext.specs.Law.{AreCutShort, AreOfSets, AreReadBack, AreWrittenBack, BooksAreFaultless, HaveFaultOrBook, HaveOneFaultAtMost, HaveOneText, TellBooksApart};
+ghost use Rattle.aprs_booktext.specs.Seconds.{AreToldToTheSecond};
 
-/// The text of a book's rows is that of no other rows. What begins such a text, whole or not, has no
-/// fault but that a byte is missing behind it, and the whole text has none.
+/// The text of a book's rows in a version, with its gap, is that of no other version, gap or rows,
+/// so different books are written as different texts. What begins such a text, whole or not, has no
+/// fault but that a byte is missing after it, and the whole text has none.
 pub fn each_book_has_one_text()
-    ensures one { HaveOneText gap_seconds }
-    ensures cut { AreCutShort gap_seconds }
+    ensures one { HaveOneText }
+    ensures written { TellBooksApart }
+    ensures cut { AreCutShort }
 {}
 
-/// The rows of a text that was written whole are read back, where the text is within the limit, no
-/// read fails and memory isn't refused.
+/// The rows and the gap of a whole text of any version are read back, where the text is within the
+/// limit, no read fails and memory isn't refused.
 pub fn written_books_are_read()
-    ensures { AreReadBack gap_seconds }
+    ensures { AreReadBack }
 {}
 
 /// A text has exactly one first fault, for each way in which the input may end, unless it is the
 /// whole text of a book and the end came after it: then it has none.
 pub fn each_text_has_one_fault_or_none()
-    ensures some { HaveFaultOrBook gap_seconds }
-    ensures one { HaveOneFaultAtMost gap_seconds }
-    ensures none { BooksAreFaultless gap_seconds }
+    ensures some { HaveFaultOrBook }
+    ensures one { HaveOneFaultAtMost }
+    ensures none { BooksAreFaultless }
 {}
 
-/// A text is the whole text of a book exactly if it is that of the book of some set of receptions,
-/// each row of which can be spelled in a line.
+/// A text is the whole text of a book exactly if it is, in some version, that of the book of some
+/// set of receptions under the version's gap, each row of which can be spelled in a line of it.
 pub fn book_texts_are_of_sets()
-    ensures { AreOfSets gap_seconds }
+    ensures { AreOfSets }
 {}
 
-/// A book that was read and is written gives the same bytes again, to the last.
+/// A book that was read of a text is written as the text of version 3 of the same gap and the same
+/// rows. Those are the same bytes, to the last, exactly if what was read is of version 3.
 pub fn read_books_are_written_back()
-    ensures { AreWrittenBack gap_seconds }
+    ensures { AreWrittenBack }
+{}
+
+/// In a text of version 1 the moment of a whole second is told by its date and its time of the day.
+pub fn old_moments_are_told_to_the_second()
+    ensures { AreToldToTheSecond }
 {}

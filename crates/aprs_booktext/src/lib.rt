@@ -11,13 +11,15 @@ mod outbox;
 mod read;
 mod reader;
 mod row_line;
+mod version;
 mod write;
 
 pub use fault::{BookCause, BookFault};
 pub use law::{
     book_texts_are_of_sets, each_book_has_one_text, each_text_has_one_fault_or_none,
-    read_books_are_written_back, written_books_are_read,
+    old_moments_are_told_to_the_second, read_books_are_written_back, written_books_are_read,
 };
 pub use outbox::{Outbox, flush, put};
 pub use read::read_book;
+pub use version::Version;
 pub use write::write_book;

@@ -1,15 +1,17 @@
 //! A book, while its text is read.
-ghost use Rattle.std.specs.Prelude.{◌≡◌, ◌≢◌, ◌+◌, ◌≤◌, ◌++◌, ◌∷◌, ℕ, [], List, length, IsErrAnd, OnOk, MatchResult, IfErr};
-ghost use Rattle.aprs_laws.specs.Gap.{gap_seconds};
+ghost use Rattle.std.specs.Prelude.{◌≡◌, ◌≢◌, ◌+◌, ◌≤◌, ◌++◌, ◌∷◌, ℕ, [], true, List, length, IsErrAnd, OnOk, OnErr, MatchResult, IfOk, IfErr};
+ghost use Rattle.aprs_laws.specs.Gap.{millis_of};
 ghost use Rattle.aprs_booktext.specs.FirstFault.{missing, ReadsSo};
 ghost use Rattle.aprs_booktext.specs.Lines.{Lacks};
 ghost use Rattle.aprs_booktext.specs.Text.{end_line};
-ghost use Rattle.aprs_booktext.specs.Reader.{IsFault, IsJudged, IsJudgedFirst, IsJudgedIn, is_done, line_number, may_end, Stands};
+ghost use Rattle.aprs_booktext.specs.Version.{gap_of};
+ghost use Rattle.aprs_booktext.specs.Reader.{HasItsGap, IsFault, IsJudged, IsJudgedFirst, IsJudgedIn, is_done, line_number, may_end, Stands};
 
 use crate::cut::cut;
 use crate::fault::{BookCause, BookFault};
 use crate::last_line::last_line;
 use crate::row_line::read_row;
+use crate::version::Version;
 use aprs_book::Book;
 use aprs_log::Ending;
 use std::alloc::Allocator;
@@ -19,10 +21,10 @@ use std::alloc::Allocator;
 pub enum Stage {
     /// The header.
     Header,
-    /// That of a row, or the last one.
-    Rows,
+    /// That of a row of a text of this version, or the last one.
+    Rows(Version),
     /// None.
-    Done,
+    Done(Version),
 }
 
 /// What was read of a book's text: whole lines, and the front of a line.
@@ -36,8 +38,8 @@ pub struct BookReader<A: Allocator> {
 impl<A: Allocator + Copy> BookReader<A> {
     /// A reader before a text.
     pub fn new(alloc: A) -> BookReader<A>
-        ensures stands { Stands gap_seconds result [] }
-        ensures empty { result.book ≡ [] }
+        ensures stands { Stands result [] }
+        ensures empty { result.book.rows ≡ [] }
     {
         BookReader {
             book: Book::new(alloc),
@@ -48,12 +50,13 @@ impl<A: Allocator + Copy> BookReader<A> {
 
     /// Reads on.
     pub fn feed(&mut self, piece: &[u8]) -> Result<(), BookFault>
-        requires { length self.old.book + length piece.now ≤ 1073741824 }
-        ensures stands { OnOk result ((t : List ℕ) → Stands gap_seconds self.old t
-            → Stands gap_seconds self.new (t ++ piece.now)) }
-        ensures more { OnOk result (length self.new.book ≤ length self.old.book + length piece.now) }
-        ensures fault { IfErr result (λ f. (t : List ℕ) → Stands gap_seconds self.old t
-            → IsFault gap_seconds (length piece.now) f (t ++ piece.now)) }
+        requires { length self.old.book.rows + length piece.now ≤ 1073741824 }
+        ensures stands { OnOk result ((t : List ℕ) → Stands self.old t
+            → Stands self.new (t ++ piece.now)) }
+        ensures more { OnOk result
+            (length self.new.book.rows ≤ length self.old.book.rows + length piece.now) }
+        ensures fault { IfErr result (λ f. (t : List ℕ) → Stands self.old t
+            → IsFault (length piece.now) f (t ++ piece.now)) }
         ensures cause { IfErr result (λ f. f.cause ≢ BookCause.Read) }
     {
         let mut rest = piece;
@@ -67,9 +70,8 @@ impl<A: Allocator + Copy> BookReader<A> {
 
     /// The book of the text behind which `ending` came.
     pub fn finish(self, ending: Ending) -> Result<Book<A>, BookFault>
-        requires { length self.book ≤ 1073741824 }
-        ensures reads { (t : List ℕ) → Stands gap_seconds self t
-            → ReadsSo gap_seconds result t ending }
+        requires { length self.book.rows ≤ 1073741824 }
+        ensures reads { (t : List ℕ) → Stands self t → ReadsSo result t ending }
         ensures cause { IfErr result (λ f. f.cause ≡ BookCause.Read → ending ≡ Ending.Read) }
         ensures read { ending ≡ Ending.Read → IsErrAnd result (λ f. f.cause ≡ BookCause.Read) }
     {
@@ -81,12 +83,12 @@ impl<A: Allocator + Copy> BookReader<A> {
 
     /// Puts bytes behind those of the line.
     fn hold(&mut self, bytes: &[u8]) -> Result<(), BookFault>
-        requires { length self.old.book ≤ 1073741824 }
-        ensures stands { OnOk result ((t : List ℕ) → Stands gap_seconds self.old t
-            → Lacks 10 bytes.now → Stands gap_seconds self.new (t ++ bytes.now)) }
+        requires { length self.old.book.rows ≤ 1073741824 }
+        ensures stands { OnOk result ((t : List ℕ) → Stands self.old t
+            → Lacks 10 bytes.now → Stands self.new (t ++ bytes.now)) }
         ensures same { OnOk result (self.new.book ≡ self.old.book) }
-        ensures fault { IfErr result (λ f. (t more : List ℕ) → Stands gap_seconds self.old t
-            → IsFault gap_seconds (length bytes.now + length more) f ((t ++ bytes.now) ++ more)) }
+        ensures fault { IfErr result (λ f. (t more : List ℕ) → Stands self.old t
+            → IsFault (length bytes.now + length more) f ((t ++ bytes.now) ++ more)) }
         ensures cause { IfErr result (λ f. f.cause ≢ BookCause.Read) }
     {
         if is_done(self.stage) {
@@ -100,11 +102,11 @@ impl<A: Allocator + Copy> BookReader<A> {
 
     /// Sees that no bytes come behind the last line.
     fn hold_nothing(&self, bytes: &[u8]) -> Result<(), BookFault>
-        requires few { length self.now.book ≤ 1073741824 }
-        requires done { self.now.stage ≡ Stage.Done }
+        requires few { length self.now.book.rows ≤ 1073741824 }
+        requires done { is_done self.now.stage ≡ true }
         ensures ok { OnOk result (bytes.now ≡ []) }
-        ensures fault { IfErr result (λ f. (t more : List ℕ) → Stands gap_seconds self.now t
-            → IsFault gap_seconds (length bytes.now + length more) f ((t ++ bytes.now) ++ more)) }
+        ensures fault { IfErr result (λ f. (t more : List ℕ) → Stands self.now t
+            → IsFault (length bytes.now + length more) f ((t ++ bytes.now) ++ more)) }
         ensures cause { IfErr result (λ f. f.cause ≢ BookCause.Read) }
     {
         if bytes.is_empty() {
@@ -115,12 +117,12 @@ impl<A: Allocator + Copy> BookReader<A> {
 
     /// Judges the line, which is whole.
     fn end_line(&mut self) -> Result<(), BookFault>
-        requires { length self.old.book ≤ 1073741824 }
-        ensures stands { OnOk result ((t : List ℕ) → Stands gap_seconds self.old t
-            → Stands gap_seconds self.new (t ++ 10 ∷ [])) }
-        ensures more { OnOk result (length self.new.book ≤ length self.old.book + 1) }
-        ensures fault { IfErr result (λ f. (t more : List ℕ) → Stands gap_seconds self.old t
-            → IsFault gap_seconds (length more + 1) f (t ++ 10 ∷ more)) }
+        requires { length self.old.book.rows ≤ 1073741824 }
+        ensures stands { OnOk result ((t : List ℕ) → Stands self.old t
+            → Stands self.new (t ++ 10 ∷ [])) }
+        ensures more { OnOk result (length self.new.book.rows ≤ length self.old.book.rows + 1) }
+        ensures fault { IfErr result (λ f. (t more : List ℕ) → Stands self.old t
+            → IsFault (length more + 1) f (t ++ 10 ∷ more)) }
         ensures cause { IfErr result (λ f. f.cause ≢ BookCause.Read) }
     {
         match self.judge() {
@@ -135,29 +137,39 @@ impl<A: Allocator + Copy> BookReader<A> {
 
     /// What comes after the line.
     fn judge(&mut self) -> Result<Stage, BookCause>
-        ensures judged { IsJudgedIn gap_seconds self.old.stage result self.old.book
-            self.old.line.items self.new.book }
+        ensures judged { HasItsGap self.old.stage self.old.book.gap
+            → IsJudgedIn self.old.stage result self.old.book.rows
+            self.old.line.items self.new.book.rows }
+        ensures gap { HasItsGap self.old.stage self.old.book.gap
+            → IfOk result (λ next. HasItsGap next self.new.book.gap) }
+        ensures more { OnOk result
+            (length self.new.book.rows ≤ length self.old.book.rows + 1) }
+        ensures unchanged { OnErr result (self.new.book ≡ self.old.book) }
+        ensures cause { IfErr result (λ c. c ≢ BookCause.Read) }
         ensures line { self.new.line.items ≡ self.old.line.items }
         ensures stage { self.new.stage ≡ self.old.stage }
     {
+        let stage = self.stage;
+        let alloc = *self.line.allocator();
         let line = self.line.as_slice();
-        match self.stage {
-            Stage::Header => judge_header(line),
-            Stage::Rows => judge_line(*self.line.allocator(), &mut self.book, line),
-            Stage::Done => Err(BookCause::After),
+        match stage {
+            Stage::Header => judge_header(alloc, &mut self.book, line),
+            Stage::Rows(version) => judge_line(alloc, &mut self.book, version, line),
+            Stage::Done(_) => Err(BookCause::After),
         }
     }
 
     /// A fault of this cause in the line that is read.
     fn fault(&self, cause: BookCause) -> BookFault
-        requires { length self.now.book ≤ 1073741824 }
-        ensures { result ≡ record { line = line_number self.now.stage self.now.book; cause = cause } }
+        requires { length self.now.book.rows ≤ 1073741824 }
+        ensures { result
+            ≡ record { line = line_number self.now.stage self.now.book.rows; cause = cause } }
     {
         let rows = self.book.len() as u64;
         let line = match self.stage {
             Stage::Header => 1,
-            Stage::Rows => rows + 2,
-            Stage::Done => rows + 3,
+            Stage::Rows(_) => rows + 2,
+            Stage::Done(_) => rows + 3,
         };
         BookFault { line, cause }
     }
@@ -167,52 +179,68 @@ impl<A: Allocator + Copy> BookReader<A> {
 fn is_done(stage: Stage) -> bool
     ensures { result ≡ is_done stage }
 {
-    stage == Stage::Done
+    match stage {
+        Stage::Done(_) => true,
+        Stage::Header | Stage::Rows(_) => false,
+    }
 }
 
 /// Whether a text may end there.
 fn may_end(stage: Stage, ending: Ending) -> bool
     ensures { result ≡ may_end stage ending }
 {
-    stage == Stage::Done && ending == Ending::End
+    is_done(stage) && ending == Ending::End
 }
 
-/// What comes after the first line.
-fn judge_header(line: &[u8]) -> Result<Stage, BookCause>
-    ensures { IsJudgedFirst result line.now }
-{
-    if line == b"APRSBOOK 1".as_slice() {
-        Ok(Stage::Rows)
-    } else {
-        Err(BookCause::Header)
-    }
-}
-
-/// Adds the row that a line spells, or sees that it is the last line.
-fn judge_line<A: Allocator + Copy>(
+/// What comes after the first line: rows of a book with the gap of the line's version.
+fn judge_header<A: Allocator + Copy>(
     alloc: A,
     book: &mut Book<A>,
     line: &[u8],
 ) -> Result<Stage, BookCause>
-    ensures { IsJudged gap_seconds result book.old line.now book.new }
+    ensures judged { IsJudgedFirst result line.now book.new.rows }
+    ensures gap { IfOk result (λ next. HasItsGap next book.new.gap) }
+    ensures more { OnOk result (book.new.rows ≡ []) }
+    ensures unchanged { OnErr result (book.new ≡ book.old) }
+{
+    match Version::of_header(line) {
+        Some(version) => {
+            *book = Book::with_gap(alloc, version.gap());
+            Ok(Stage::Rows(version))
+        }
+        None => Err(BookCause::Header),
+    }
+}
+
+/// Adds the row that a line spells in a text of this version, or sees that it is the last line.
+fn judge_line<A: Allocator + Copy>(
+    alloc: A,
+    book: &mut Book<A>,
+    version: Version,
+    line: &[u8],
+) -> Result<Stage, BookCause>
+    ensures judged { IsJudged (millis_of book.old.gap) version result
+        book.old.rows line.now book.new.rows }
+    ensures gap { book.new.gap ≡ book.old.gap }
 {
     if line.starts_with(b"END") {
-        return judge_end(line, book.len());
+        return judge_end(line, version, book.len());
     }
-    let row = read_row(alloc, line)?;
+    let row = read_row(alloc, version.form(), line)?;
     match book.push_row(&row) {
-        Ok(()) => Ok(Stage::Rows),
+        Ok(()) => Ok(Stage::Rows(version)),
         Err(cause) => Err(BookCause::from(cause)),
     }
 }
 
-/// Whether this is the last line of so many rows.
-fn judge_end(line: &[u8], rows: usize) -> Result<Stage, BookCause>
-    ensures { MatchResult result (λ stage. (stage ≡ Stage.Done) × (line.now ≡ end_line rows))
+/// Whether this is the last line of so many rows, in a text of this version.
+fn judge_end(line: &[u8], version: Version, rows: usize) -> Result<Stage, BookCause>
+    ensures { MatchResult result
+        (λ stage. (stage ≡ Stage.Done version) × (line.now ≡ end_line rows))
         (λ c. (c ≡ BookCause.Ending) × (line.now ≢ end_line rows)) }
 {
     if line == last_line(rows).as_slice() {
-        Ok(Stage::Done)
+        Ok(Stage::Done(version))
     } else {
         Err(BookCause::Ending)
     }

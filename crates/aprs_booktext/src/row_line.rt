@@ -1,10 +1,10 @@
 //! A row's line.
 ghost use Rattle.std.specs.Prelude.{◌≡◌, ◌≢◌, ◌↔◌, ◌≤◌, ◌++◌, ◌∷◌, ◌⊎◌, [], ℕ, codes, length, List, IsTrue, OnOk, IfOk, IfErr, IfNone, IfSome};
 ghost use Rattle.aprs_log.specs.Receiver.{IsName};
-ghost use Rattle.aprs_log.specs.Moment.{moment_text};
+ghost use Rattle.aprs_log.specs.Moment.{moment_text_in};
 ghost use Rattle.aprs_booktext.specs.Lines.{pieces};
 ghost use Rattle.aprs_booktext.specs.RowFields.{IsWrongFrame, IsWrongNames, IsWrongRow, list_of, SpellsFrame, SpellsNames};
-ghost use Rattle.aprs_booktext.specs.Text.{row_line, IsBookRow};
+ghost use Rattle.aprs_booktext.specs.Text.{row_line, IsBookRow, IsTold};
 
 use crate::cut::cut;
 use crate::fault::BookCause;
@@ -12,13 +12,17 @@ use crate::fields::cut_fields;
 use crate::hexadecimal::{MAX_FRAME, decode_into};
 use aprs_ax25::Frame;
 use aprs_book::{ReceiverList, RowParts};
-use aprs_log::{Moment, Receiver};
+use aprs_log::{Moment, MomentForm, Receiver};
 use std::alloc::Allocator;
 
-/// The row that a line spells, or why it spells none.
-pub fn read_row<A: Allocator + Copy>(alloc: A, line: &[u8]) -> Result<RowParts<A>, BookCause>
-    ensures ok { IfOk result (λ x. IsBookRow x × (line.now ≡ row_line x)) }
-    ensures err { IfErr result (λ c. IsWrongRow line.now c) }
+/// The row that a line spells, its moments in this form, or why it spells none.
+pub fn read_row<A: Allocator + Copy>(
+    alloc: A,
+    form: MomentForm,
+    line: &[u8],
+) -> Result<RowParts<A>, BookCause>
+    ensures ok { IfOk result (λ x. IsBookRow form x × (line.now ≡ row_line form x)) }
+    ensures err { IfErr result (λ c. IsWrongRow form line.now c) }
 {
     let Some(fields) = cut_fields(line) else {
         return Err(BookCause::RowSyntax);
@@ -26,10 +30,10 @@ pub fn read_row<A: Allocator + Copy>(alloc: A, line: &[u8]) -> Result<RowParts<A
     if !is_tag(fields.tag) {
         return Err(BookCause::RowSyntax);
     }
-    let Some(first) = read_moment(fields.first) else {
+    let Some(first) = read_moment(form, fields.first) else {
         return Err(BookCause::RowSyntax);
     };
-    let Some(last) = read_moment(fields.last) else {
+    let Some(last) = read_moment(form, fields.last) else {
         return Err(BookCause::RowSyntax);
     };
     let names = read_names(alloc, fields.receivers)?;
@@ -53,14 +57,18 @@ fn is_tag(field: &[u8]) -> bool
     field == b"T".as_slice()
 }
 
-/// The moment that a field spells.
-fn read_moment(field: &[u8]) -> Option<Moment>
-    ensures some { IfSome result (λ m. (m ≤ 4102444799) × (field.now ≡ moment_text m)) }
-    ensures none { IfNone result ((m : ℕ) → m ≤ 4102444799 → field.now ≢ moment_text m) }
+/// The moment that a field spells in this form.
+fn read_moment(form: MomentForm, field: &[u8]) -> Option<Moment>
+    ensures some { IfSome result (λ m. IsTold form m × (field.now ≡ moment_text_in form m)) }
+    ensures none { IfNone result ((m : ℕ) → IsTold form m → field.now ≢ moment_text_in form m) }
 {
-    let moment = Moment::parse(field)?;
-    prove!(moment.seconds() <= 4_102_444_799);
-    Some(moment)
+    match Moment::parse_in(form, field) {
+        Some(moment) => {
+            prove!(moment.millis() <= 4_102_444_799_999);
+            Some(moment)
+        }
+        None => None,
+    }
 }
 
 /// The names of a field, with commas between.
@@ -95,8 +103,10 @@ fn read_frame(field: &[u8]) -> Result<Frame, BookCause>
 
 /// Puts the name that a piece spells behind those that are there.
 fn push_name<A: Allocator>(names: &mut Vec<Receiver, A>, piece: &[u8]) -> Result<(), BookCause>
-    ensures ok { OnOk result (IsName piece.now × (names.new.items ≡ names.old.items ++ piece.now ∷ [])) }
-    ensures err { IfErr result (λ c. (c ≡ BookCause.Memory) ⊎ ((c ≡ BookCause.RowSyntax) × ¬ IsName piece.now)) }
+    ensures ok { OnOk result
+        (IsName piece.now × (names.new.items ≡ names.old.items ++ piece.now ∷ [])) }
+    ensures err { IfErr result
+        (λ c. (c ≡ BookCause.Memory) ⊎ ((c ≡ BookCause.RowSyntax) × ¬ IsName piece.now)) }
 {
     let Some(name) = Receiver::parse(piece) else {
         return Err(BookCause::RowSyntax);

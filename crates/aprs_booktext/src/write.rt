@@ -6,16 +6,19 @@ ghost use Rattle.hex.specs.Hex.{encode_lower, IsBytes};
 ghost use Rattle.arrayvec.specs.ArrayVec.{array_vec_len};
 ghost use Rattle.aprs_log.specs.Moment.{moment_text};
 ghost use Rattle.aprs_log.specs.Receiver.{IsName};
+ghost use Rattle.aprs_log.specs.declared.moment_form.MomentForm.TheVariants.{Millis};
 ghost use Rattle.aprs_kiss.specs.Device.{device_of, failures_of, Rose, AppendsFront};
-ghost use Rattle.aprs_laws.specs.Gap.{gap_seconds};
 ghost use Rattle.aprs_booktext.specs.Outbox.{AreSpelled, Puts, line_and_lf};
-ghost use Rattle.aprs_booktext.specs.Text.{book_text, row_line, end_line, ended_by_lf, IsBookRow, IsBookRows};
+ghost use Rattle.aprs_booktext.specs.Text.{row_line, end_line, ended_by_lf, IsBookRow, IsBookRows, IsTold, written_text, written_version};
+ghost use Rattle.aprs_booktext.specs.Version.{header_of};
+ghost use Rattle.aprs_booktext.specs.declared.version.Version.TheVariants.{Three};
 
 use crate::hexadecimal::MAX_DIGITS;
 use crate::last_line::{LAST, last_line};
 use crate::outbox::{Outbox, flush, put};
+use crate::version::{HEADER, Version};
 use aprs_ax25::Frame;
-use aprs_book::{Book, Row};
+use aprs_book::{Book, Gap, Row};
 use aprs_io::{encode_to, push_all};
 use aprs_kiss::{Counted, WriteFault};
 use aprs_log::{Moment, Receiver};
@@ -24,13 +27,14 @@ use std::alloc::Allocator;
 use std::io::Write;
 
 /// The most bytes of a line before its receivers, of a further receiver, and after them.
-const HEAD: usize = 44;
+const HEAD: usize = 52;
 
 const FURTHER: usize = 17;
 
 const TAIL: usize = 675;
 
-/// Writes a book as its text: a header, a line for each row, and a last line with their number.
+/// Writes a book as its text of version 3: a header with the book's gap in seconds, a line for each
+/// row, with its moments to the millisecond, and a last line with their number.
 /// What it wrote whole is a text that `read_book` reads. At a fault a prefix of the text went out,
 /// and the count of the device's failures rose. Takes no memory.
 pub fn write_book<W: Write, A: Allocator + Copy>(
@@ -38,13 +42,13 @@ pub fn write_book<W: Write, A: Allocator + Copy>(
     book: &Book<A>,
 ) -> Result<(), WriteFault>
     ensures sent { OnOk result (Appends (W.contents (device_of w.old))
-        (W.contents (device_of w.new)) (book_text book.now)) }
+        (W.contents (device_of w.new)) (written_text book.now)) }
     ensures prefix { OnErr result (AppendsFront (W.contents (device_of w.old))
-        (W.contents (device_of w.new)) (book_text book.now)) }
+        (W.contents (device_of w.new)) (written_text book.now)) }
     ensures count { failures_of w.old ≤ failures_of w.new }
     ensures fault { OnErr result (Rose (failures_of w.old) (failures_of w.new)) }
     // Such rows are read back of their text.
-    ensures spelled { OnOk result (IsBookRows gap_seconds book.now) }
+    ensures spelled { OnOk result (IsBookRows (written_version book.now) book.now.rows) }
 {
     let mut held = Outbox::new();
     put_book(w, &mut held, book)?;
@@ -58,14 +62,14 @@ fn put_book<W: Write, A: Allocator + Copy>(
     book: &Book<A>,
 ) -> Result<(), WriteFault>
     ensures sent { OnOk result (Puts (W.contents (device_of w.old)) (W.contents (device_of w.new))
-        held.old.items held.new.items (book_text book.now)) }
+        held.old.items held.new.items (written_text book.now)) }
     ensures prefix { OnErr result (AppendsFront (W.contents (device_of w.old))
-        (W.contents (device_of w.new)) (held.old.items ++ book_text book.now)) }
+        (W.contents (device_of w.new)) (held.old.items ++ written_text book.now)) }
     ensures count { failures_of w.old ≤ failures_of w.new }
     ensures fault { OnErr result (Rose (failures_of w.old) (failures_of w.new)) }
-    ensures spelled { OnOk result (IsBookRows gap_seconds book.now) }
+    ensures spelled { OnOk result (IsBookRows (written_version book.now) book.now.rows) }
 {
-    put(w, held, b"APRSBOOK 1\n")?;
+    put(w, held, header_line(book.gap()).as_slice())?;
     put_rows(w, held, book)?;
     put(w, held, end_line(book.len()).as_slice())
 }
@@ -77,12 +81,12 @@ fn put_rows<W: Write, A: Allocator + Copy>(
     book: &Book<A>,
 ) -> Result<(), WriteFault>
     ensures sent { OnOk result (Puts (W.contents (device_of w.old)) (W.contents (device_of w.new))
-        held.old.items held.new.items (flat_map line_and_lf book.now)) }
+        held.old.items held.new.items (flat_map line_and_lf book.now.rows)) }
     ensures prefix { OnErr result (AppendsFront (W.contents (device_of w.old))
-        (W.contents (device_of w.new)) (held.old.items ++ flat_map line_and_lf book.now)) }
+        (W.contents (device_of w.new)) (held.old.items ++ flat_map line_and_lf book.now.rows)) }
     ensures count { failures_of w.old ≤ failures_of w.new }
     ensures fault { OnErr result (Rose (failures_of w.old) (failures_of w.new)) }
-    ensures spelled { OnOk result (IsBookRows gap_seconds book.now) }
+    ensures spelled { OnOk result (IsBookRows (written_version book.now) book.now.rows) }
 {
     for row in book.rows() {
         put_row(w, held, &row)?;
@@ -93,12 +97,12 @@ fn put_rows<W: Write, A: Allocator + Copy>(
 /// Puts the row's line.
 fn put_row<W: Write>(w: &mut Counted<W>, held: &mut Outbox, row: &Row<'_>) -> Result<(), WriteFault>
     ensures sent { OnOk result (Puts (W.contents (device_of w.old)) (W.contents (device_of w.new))
-        held.old.items held.new.items (ended_by_lf (row_line row.now))) }
+        held.old.items held.new.items (ended_by_lf (row_line Millis row.now))) }
     ensures prefix { OnErr result (AppendsFront (W.contents (device_of w.old))
-        (W.contents (device_of w.new)) (held.old.items ++ ended_by_lf (row_line row.now))) }
+        (W.contents (device_of w.new)) (held.old.items ++ ended_by_lf (row_line Millis row.now))) }
     ensures count { failures_of w.old ≤ failures_of w.new }
     ensures fault { OnErr result (Rose (failures_of w.old) (failures_of w.new)) }
-    ensures spelled { OnOk result (0 < length row.now.receivers → IsBookRow row.now) }
+    ensures spelled { OnOk result (0 < length row.now.receivers → IsBookRow Millis row.now) }
 {
     put(w, held, row_head(row.first, row.last).as_slice())?;
     put_names(w, held, row.receivers)?;
@@ -109,7 +113,7 @@ fn put_row<W: Write>(w: &mut Counted<W>, held: &mut Outbox, row: &Row<'_>) -> Re
 fn row_head(first: Moment, last: Moment) -> ArrayVec<u8, HEAD>
     ensures text { result.items
         ≡ codes "T " ++ moment_text first ++ 32 ∷ moment_text last ++ 32 ∷ [] }
-    ensures moments { (first ≤ 4102444799) × (last ≤ 4102444799) }
+    ensures moments { IsTold Millis first × IsTold Millis last }
 {
     let mut text = ArrayVec::new();
     push_all(&mut text, b"T ");
@@ -185,6 +189,15 @@ fn after_comma(name: &Receiver) -> ArrayVec<u8, FURTHER>
     let mut text = ArrayVec::new();
     push_all(&mut text, b",");
     push_all(&mut text, name.as_bytes());
+    text
+}
+
+/// The first line of a book with this gap, with its LF.
+fn header_line(gap: Gap) -> ArrayVec<u8, HEADER>
+    ensures { result.items ≡ ended_by_lf (header_of (Three gap)) }
+{
+    let mut text = Version::Three(gap).header();
+    push_all(&mut text, b"\n");
     text
 }
 

@@ -3,8 +3,8 @@ use Rattle.std.proofs.Common.{◌≡◌, List, [], ◌∷◌, ◌++◌, inl, inr
 use Rattle.aprs_laws.specs.Lists.{◌∈◌}
 use Rattle.aprs_laws.specs.Joining.{JoinLaws, FoldsTo, FoldsFreely}
 
-module _ {X : Type 0} (valid : X → Type 0) (joined : X → X → X → Type 0)
-    (laws : JoinLaws valid joined) where
+module _ {X : Type 0} (valid : X → Type 0) (alike : X → X → Type 0) (joined : X → X → X → Type 0)
+    (laws : JoinLaws valid alike joined) where
   -- c·a = c, where that has the value p
   fixed : (c a p : X) → joined c a p → p ≡ c → joined c a c
   fixed c a p j e = subst (λ (q : X). joined c a q) e j
@@ -15,23 +15,28 @@ module _ {X : Type 0} (valid : X → Type 0) (joined : X → X → X → Type 0)
   takes_first : (a b c : X) → valid a → valid b → joined a b c → joined c a c
   takes_first a b c v w j =
       let k = laws.commutative a b c j in
-      let p = laws.some c a (laws.stays a b c j) v in
+      let p = laws.some c a (laws.stays a b c j) v
+      (laws.symmetric a c (laws.both a b c j).0) in
       fixed c a p.0 p.1 (laws.associative b a a c a p.0 c k p.1 (itself a v) k)
 
   takes_second : (a b c : X) → valid a → valid b → joined a b c → joined c b c
   takes_second a b c v w j =
-      let p = laws.some c b (laws.stays a b c j) w in
+      let p = laws.some c b (laws.stays a b c j) w
+      (laws.symmetric b c (laws.both a b c j).1) in
       fixed c b p.0 p.1 (laws.associative a b b c b p.0 c j p.1 (itself b w) j)
 
   -- what takes two values in takes their join in
   takes_joined : (a b c e : X) → valid c → joined a b e → joined c a c → joined c b c → joined c e c
   takes_joined a b c e v j k l =
-      let p = laws.some c e v (laws.stays a b e j) in
+      let p = laws.some c e v (laws.stays a b e j)
+      (laws.transitive c a e (laws.symmetric a c (laws.both c a c k).1) (laws.both a b e j).0) in
       fixed c e p.0 p.1 (sym (laws.associative c a b c e c p.0 k l j p.1))
 
   takes_through : (a b c : X) → valid a → valid c → joined c b c → joined b a b → joined c a c
   takes_through a b c v w j k =
-      let p = laws.some c a w v in
+      let p = laws.some c a w v
+      (laws.symmetric a c (laws.transitive a b c (laws.both b a b k).1
+      (laws.both c b c j).1)) in
       fixed c a p.0 p.1 (laws.associative c b a c b p.0 c j p.1 k j)
 
   pub fold_valid : (a : X) (xs : List X) (c : X) → valid a → FoldsTo joined a xs c → valid c

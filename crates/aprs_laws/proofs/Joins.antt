@@ -1,5 +1,5 @@
 -- The laws of joining, for receptions, lists of receivers and rows.
-use Rattle.std.proofs.Common.{◌≡◌, ℕ, ◌<◌, List, ◌++◌, ◌⊎◌, ◌↔◌, inl, inr, sym, refl, ap, ◌∙◌, subst, true, false}
+use Rattle.std.proofs.Common.{◌≡◌, ℕ, ◌<◌, List, ◌++◌, ◌⊎◌, ◌↔◌, inl, inr, sym, refl, ap, ◌∙◌, subst, true, false, arith}
 use Rattle.std.proofs.lemmas.Cmp.{upto, tied_back}
 use Rattle.std.specs.Ordering.{is_gt, is_lt, ordering_reverse}
 use Rattle.std.specs.Cmp.{IsTotalOrder}
@@ -9,9 +9,12 @@ use Rattle.std.proofs.lemmas.Map.Lookups.{CmpEqualImpliesEq}
 use Rattle.aprs_log.specs.Reception.{Heard, heard_cmp}
 use Rattle.aprs_laws.specs.Lists.{◌∈◌, Ordered}
 use Rattle.aprs_laws.specs.Order.{IsBelow, IsUpTo}
+use Rattle.aprs_laws.specs.Gap.{IsGap, millis_of}
+use Rattle.aprs_laws.specs.Row.{Row}
 use Rattle.aprs_laws.specs.Sound.{Sound}
 use Rattle.aprs_laws.specs.Real.{real}
-use Rattle.aprs_laws.specs.Joining.{JoinLaws, IsGreaterOf, IsAny, IsUnited, Joined}
+use Rattle.aprs_laws.specs.Joining.{JoinLaws, AreAny, IsGreaterOf, IsAny, IsUnited, Joined}
+use Rattle.aprs_laws.specs.BookValue.{BookValue, IsSoundBook, HaveOneGap, AreJoined}
 use Rattle.aprs_laws.specs.JoinRow.{union, greater}
 use Rattle.aprs_laws.proofs.Lists.{ordered_same}
 use Rattle.aprs_laws.proofs.Orders.{not_both, same_greatest, up_to_itself, heard_total, heard_exact}
@@ -21,14 +24,76 @@ use Rattle.aprs_laws.proofs.Books.{one_book}
 use Rattle.aprs_laws.proofs.Soundness.{sound, exists}
 use Rattle.aprs_laws.proofs.Unions as unions
 
-pub book_laws : (gap : ℕ) → 0 < gap → JoinLaws (Sound gap) (Joined gap)
+pub book_laws : (gap : ℕ) → 0 < gap → JoinLaws (Sound gap) AreAny (Joined gap)
 book_laws gap pos = record {
-  some = λ a b v w. exists gap (real a ++ real b);
+  reflexive = λ a. tt;
+  symmetric = λ a b h. tt;
+  transitive = λ a b c h k. tt;
+  both = λ a b c j. (tt, tt);
+  some = λ a b v w _. exists gap (real a ++ real b);
   only = λ a b c d j k. one_book gap (real a ++ real b) c d j k;
   stays = λ a b c j. sound gap (real a ++ real b) c j;
   commutative = unions.commutative gap;
   idempotent = λ a x v. unions.idempotent gap a x pos v;
   associative = λ a b c x y p q j k l m. unions.associative gap a b c x y p q pos j k l m;
+}
+
+-- ---- books with their gaps
+
+pub one_value : (a b : BookValue) → a.gap ≡ b.gap → a.rows ≡ b.rows → a ≡ b
+one_value a b g r = λ i. record { gap = g i; rows = r i }
+
+-- rows joined under one gap are so under an equal one
+pub under : (g h : ℕ) (a b c : List Row) → g ≡ h → Joined (millis_of g) a b c
+    → Joined (millis_of h) a b c
+under g h a b c e j = subst (λ (k : ℕ). Joined (millis_of k) a b c) e j
+
+pub some_millis : (gap : ℕ) → IsGap gap → 0 < millis_of gap
+some_millis gap r = omega (arith, r.0)
+
+pub gap_laws : JoinLaws IsSoundBook HaveOneGap AreJoined
+gap_laws = record {
+  reflexive = λ a. refl;
+  symmetric = λ a b h. sym h;
+  transitive = λ a b c h k. h ∙ k;
+  both = λ a b c j. (j.left, j.right);
+  some = λ a b v w e. let t = exists (millis_of a.gap) (real a.rows ++ real b.rows) in (
+    record { gap = a.gap; rows = t.0 },
+    record { left = refl; right = sym e; range = v.range; rows = t.1 },
+  );
+  only = λ a b c d j k. let e : c.gap ≡ d.gap = sym j.left ∙ k.left in
+      one_value c d e (one_book (millis_of d.gap) (real a.rows ++ real b.rows) c.rows d.rows
+      (under c.gap d.gap a.rows b.rows c.rows e j.rows) k.rows);
+  stays = λ a b c j. record {
+    range = j.range;
+    sound = sound (millis_of c.gap) (real a.rows ++ real b.rows) c.rows j.rows;
+  };
+  commutative = λ a b c j. record {
+    left = j.right;
+    right = j.left;
+    range = j.range;
+    rows = unions.commutative (millis_of c.gap) a.rows b.rows c.rows j.rows;
+  };
+  idempotent = λ a x v. (
+    λ j. one_value x a (sym j.left)
+        ((unions.idempotent (millis_of a.gap) a.rows x.rows (some_millis a.gap v.range) v.sound).0
+        (under x.gap a.gap a.rows a.rows x.rows (sym j.left) j.rows)),
+    λ e. subst (λ (y : BookValue). AreJoined a a y) (sym e) (record {
+      left = refl;
+      right = refl;
+      range = v.range;
+      rows = (unions.idempotent (millis_of a.gap) a.rows a.rows (some_millis a.gap v.range) v.sound).1
+          refl;
+    }),
+  );
+  associative = λ a b c x y p q j k l m.
+      let x_p : x.gap ≡ p.gap = k.left in
+      let y_p : y.gap ≡ p.gap = sym l.right ∙ k.right in
+      let q_p : q.gap ≡ p.gap = sym m.right ∙ y_p in
+      sym (one_value q p q_p (sym (unions.associative (millis_of p.gap) a.rows b.rows c.rows x.rows y.rows
+      p.rows q.rows (some_millis p.gap k.range) (under x.gap p.gap a.rows b.rows x.rows x_p j.rows) k.rows
+      (under y.gap p.gap b.rows c.rows y.rows y_p l.rows)
+      (under q.gap p.gap a.rows y.rows q.rows q_p m.rows))));
 }
 
 same_united : {X : Type 0} {R : X → X → Ordering} → IsTotalOrder R → (c d : List X)
@@ -37,10 +102,14 @@ same_united {X} {R} t c d o p e =
     ordered_same (IsBelow R) (λ x y. not_both t x y) c d o p (λ r h. (e r).0 h) (λ r h. (e r).1 h)
 
 pub receivers_laws : {X : Type 0} {R : X → X → Ordering} → IsTotalOrder R → CmpEqualImpliesEq R
-    → JoinLaws (Ordered (IsBelow R)) (IsUnited R)
+    → JoinLaws (Ordered (IsBelow R)) AreAny (IsUnited R)
 receivers_laws {X} {R} t e = record {
+  reflexive = λ a. tt;
+  symmetric = λ a b h. tt;
+  transitive = λ a b c h k. tt;
+  both = λ a b c j. (tt, tt);
   some =
-      λ a b v w.
+      λ a b v w _.
       (union R a b, record { ascending = union_ordered t e a b w; members = in_union t e a b });
   only =
       λ a b c d j k. same_united t c d j.ascending k.ascending
@@ -125,9 +194,13 @@ is_greater_of a b = elim (the_greater a b) as (λ _. IsGreaterOf a b (greater a 
   }
 ]
 
-pub greatest_laws : JoinLaws IsAny IsGreaterOf
+pub greatest_laws : JoinLaws IsAny AreAny IsGreaterOf
 greatest_laws = record {
-  some = λ a b v w. (greater a b, is_greater_of a b);
+  reflexive = λ a. tt;
+  symmetric = λ a b h. tt;
+  transitive = λ a b c h k. tt;
+  both = λ a b c j. (tt, tt);
+  some = λ a b v w _. (greater a b, is_greater_of a b);
   only = λ a b c d j k. same c d (least a b c d j k.left k.right) (least a b d c k j.left j.right);
   stays = λ a b c j. tt;
   commutative =

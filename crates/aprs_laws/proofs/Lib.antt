@@ -25,3 +25,4 @@ pub mod Merges
 pub mod Widening
 pub mod Scaling
 pub mod Narrowing
+pub mod BookValues

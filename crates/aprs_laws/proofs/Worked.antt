@@ -28,53 +28,53 @@ key_answered = refl
 pub same_key : key_of repeated ≡ key_of direct
 same_key = key_repeated ∙ sym key_direct
 
-pub near_plain : plain_book 30 near_pair ≡ near_row ∷ []
+pub near_plain : plain_book 30000 near_pair ≡ near_row ∷ []
 unfolding key_of key_cmp
 near_plain = refl
 
-pub far_plain : plain_book 30 far_pair ≡ early_row ∷ late_row ∷ []
+pub far_plain : plain_book 30000 far_pair ≡ early_row ∷ late_row ∷ []
 unfolding key_of key_cmp
 far_plain = refl
 
-pub tied_plain : plain_book 30 tied_pair ≡ tied_row ∷ []
+pub tied_plain : plain_book 30000 tied_pair ≡ tied_row ∷ []
 unfolding key_of key_cmp
 tied_plain = refl
 
 -- a computed book is the book
-book_by : (S : List Heard) (rows : List Row) → plain_book 30 S ≡ rows → BookOf 30 S rows
-book_by S rows e = subst (λ (p : List Row). BookOf 30 S p) e (plain_is_book 30 S)
+book_by : (S : List Heard) (rows : List Row) → plain_book 30000 S ≡ rows → BookOf 30000 S rows
+book_by S rows e = subst (λ (p : List Row). BookOf 30000 S p) e (plain_is_book 30000 S)
 
-pub near_book : BookOf 30 near_pair (near_row ∷ [])
+pub near_book : BookOf 30000 near_pair (near_row ∷ [])
 near_book = book_by near_pair (near_row ∷ []) near_plain
 
-pub far_book : BookOf 30 far_pair (early_row ∷ late_row ∷ [])
+pub far_book : BookOf 30000 far_pair (early_row ∷ late_row ∷ [])
 far_book = book_by far_pair (early_row ∷ late_row ∷ []) far_plain
 
-pub tied_book : BookOf 30 tied_pair (tied_row ∷ [])
+pub tied_book : BookOf 30000 tied_pair (tied_row ∷ [])
 tied_book = book_by tied_pair (tied_row ∷ []) tied_plain
 
 -- the book of one reception
-pub single_sound : (s : Heard) → Sound 30 (single s ∷ [])
-single_sound s = sound 30 (s ∷ []) (single s ∷ []) (plain_is_book 30 (s ∷ []))
+pub single_sound : (s : Heard) → Sound 30000 (single s ∷ [])
+single_sound s = sound 30000 (s ∷ []) (single s ∷ []) (plain_is_book 30000 (s ∷ []))
 
-gap_is_some : 0 < 30
+gap_is_some : 0 < 30000
 gap_is_some = omega arith
 
-joined_singles : (s t : Heard) (rows : List Row) → merge 30 (single s ∷ []) (single t ∷ []) ≡ rows
-    → Joined 30 (single s ∷ []) (single t ∷ []) rows
+joined_singles : (s t : Heard) (rows : List Row) → merge 30000 (single s ∷ []) (single t ∷ []) ≡ rows
+    → Joined 30000 (single s ∷ []) (single t ∷ []) rows
 joined_singles s t rows e =
-    subst (λ (p : List Row). Joined 30 (single s ∷ []) (single t ∷ []) p) e
-    (joined_by_merge 30 gap_is_some (single s ∷ []) (single t ∷ []) (single_sound s)
+    subst (λ (p : List Row). Joined 30000 (single s ∷ []) (single t ∷ []) p) e
+    (joined_by_merge 30000 gap_is_some (single s ∷ []) (single t ∷ []) (single_sound s)
     (single_sound t))
 
-pub joined_near : Joined 30 (early_row ∷ []) (close_row ∷ []) (near_row ∷ [])
+pub joined_near : Joined 30000 (early_row ∷ []) (close_row ∷ []) (near_row ∷ [])
 unfolding key_of key_cmp
-joined_near = joined_singles (heard 0 rx2 repeated) (heard 30 rx1 direct) (near_row ∷ []) refl
+joined_near = joined_singles (heard 0 rx2 repeated) (heard 30000 rx1 direct) (near_row ∷ []) refl
 
-pub joined_far : Joined 30 (early_row ∷ []) (late_row ∷ []) (early_row ∷ late_row ∷ [])
+pub joined_far : Joined 30000 (early_row ∷ []) (late_row ∷ []) (early_row ∷ late_row ∷ [])
 unfolding key_of key_cmp
 joined_far =
-    joined_singles (heard 0 rx2 repeated) (heard 31 rx1 direct) (early_row ∷ late_row ∷ []) refl
+    joined_singles (heard 0 rx2 repeated) (heard 30001 rx1 direct) (early_row ∷ late_row ∷ []) refl
 
 pub other_receiver : rx2 ≡ rx1 → ⊥
 other_receiver e = let g : Greater ≡ Equal = ap (λ (r : List ℕ). bytes_cmp r rx1) e in cc

@@ -4,6 +4,7 @@ use Rattle.aprs_ax25.specs.Callsign.{Call}
 use Rattle.aprs_log.specs.Reception.{Heard}
 use Rattle.aprs_laws.specs.Key.{Key}
 use Rattle.aprs_laws.specs.Row.{Row}
+use Rattle.aprs_laws.specs.BookValue.{BookValue}
 use Rattle.aprs_laws.specs.Taken.{Step, Take, Merge}
 
 -- N0CALL-7>APRS:>Hi
@@ -67,22 +68,30 @@ by_rx1 moment = heard moment rx1 direct
 abbrev pub early : Heard
 early = heard 0 rx2 repeated
 
+-- the standard gap, in milliseconds
+abbrev pub half_minute : ℕ
+half_minute = 30000
+
 -- two receptions 30 seconds apart, and their row
 abbrev pub near_pair : List Heard
-near_pair = by_rx1 30 ∷ early ∷ []
+near_pair = by_rx1 30000 ∷ early ∷ []
 
 abbrev pub near_row : Row
-near_row = row_of 0 (rx1 ∷ rx2 ∷ []) (by_rx1 30)
+near_row = row_of 0 (rx1 ∷ rx2 ∷ []) (by_rx1 30000)
 
--- two receptions 31 seconds apart, and their rows
+-- two receptions 30,001 milliseconds apart, and their rows
 abbrev pub far_pair : List Heard
-far_pair = by_rx1 31 ∷ early ∷ []
+far_pair = by_rx1 30001 ∷ early ∷ []
 
 abbrev pub early_row : Row
 early_row = row_of 0 (rx2 ∷ []) early
 
 abbrev pub late_row : Row
-late_row = row_of 31 (rx1 ∷ []) (by_rx1 31)
+late_row = row_of 30001 (rx1 ∷ []) (by_rx1 30001)
+
+-- these rows, under a gap in seconds
+abbrev pub book_under : ℕ → BookValue
+book_under gap = record { gap = gap; rows = early_row ∷ late_row ∷ [] }
 
 -- two receptions at one moment, and their row
 abbrev pub tied_pair : List Heard
@@ -91,13 +100,13 @@ tied_pair = by_rx1 0 ∷ early ∷ []
 abbrev pub tied_row : Row
 tied_row = row_of 0 (rx1 ∷ rx2 ∷ []) early
 
--- by two receivers in two seconds, where the last reception is by the lesser receiver
+-- by two receivers in two milliseconds, where the last reception is by the lesser receiver
 abbrev pub short_row : Row
 short_row = row_of 0 (rx1 ∷ rx2 ∷ []) (by_rx1 1)
 
--- a row_of 30 seconds after the early one
+-- a row that begins 30 seconds after the early one
 abbrev pub close_row : Row
-close_row = row_of 30 (rx1 ∷ []) (by_rx1 30)
+close_row = row_of 30000 (rx1 ∷ []) (by_rx1 30000)
 
 -- by one receiver at one moment, or from one moment to another
 abbrev pub row_at : ℕ → Row
@@ -112,7 +121,7 @@ key_by ssid info = record { source = n0call ssid; destination = n0call 0; info =
 
 -- the second place takes what stands in the first, which then has one more
 abbrev pub merge_then_take : List Step
-merge_then_take = Take 0 (by_rx1 0) ∷ Merge 1 0 ∷ Take 0 (by_rx1 31) ∷ []
+merge_then_take = Take 0 (by_rx1 0) ∷ Merge 1 0 ∷ Take 0 (by_rx1 30001) ∷ []
 
 -- each place takes one, and then what the other has, and one takes what it has itself
 abbrev pub back_and_forth : List Step

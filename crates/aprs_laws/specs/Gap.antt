@@ -1,6 +1,18 @@
--- The gap inside a transmission.
-use Rattle.std.specs.Prelude.{ℕ}
+-- The gap inside a transmission, in seconds. Moments are in milliseconds.
+use Rattle.std.specs.Prelude.{ℕ, ◌*◌, ◌<◌, ◌≤◌}
 
--- in seconds: neighbours at most this far apart are of one transmission
-abbrev pub gap_seconds : ℕ
-gap_seconds = 30
+-- of a book that no other was chosen for
+abbrev pub standard_gap : ℕ
+standard_gap = 30
+
+-- an hour
+abbrev pub greatest_gap : ℕ
+greatest_gap = 3600
+
+-- a gap that a book can have
+abbrev pub IsGap : ℕ → Type 0
+IsGap gap = (0 < gap) × (gap ≤ greatest_gap)
+
+-- the gap in milliseconds: neighbours at most this far apart are of one transmission
+abbrev pub millis_of : ℕ → ℕ
+millis_of gap = gap * 1000

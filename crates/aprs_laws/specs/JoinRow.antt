@@ -31,7 +31,7 @@ greater a b = choose (heard_cmp a b) b a a
 abbrev pub single : Heard → Row
 single s = record { first = s.moment; receivers = s.receiver ∷ []; greatest = s }
 
--- x and y have one key, and neither begins more than `gap` seconds after the other ends
+-- x and y have one key, and neither begins more than `gap` milliseconds after the other ends
 pub record IsNear (gap : ℕ) (x y : Row) : Type 0 where
   pub key : row_key x ≡ row_key y
   pub after : y.first ≤ last_of x + gap

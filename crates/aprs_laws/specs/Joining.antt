@@ -8,10 +8,16 @@ use Rattle.aprs_laws.specs.Row.{Row}
 use Rattle.aprs_laws.specs.Book.{BookOf}
 use Rattle.aprs_laws.specs.Real.{real}
 
--- Valid values have exactly one joined value, which is valid. Neither order nor grouping changes
--- it, and a valid value joined with itself is itself.
-pub record JoinLaws {X : Type 0} (valid : X → Type 0) (joined : X → X → X → Type 0) : Type 0 where
-  pub some : (a b : X) → valid a → valid b → (c : X) × joined a b c
+-- Which values are alike is an equivalence. Valid values that are alike have exactly one joined
+-- value, which is valid and alike to both; others have none. Neither order nor grouping changes it,
+-- and a valid value joined with itself is itself.
+pub record JoinLaws {X : Type 0} (valid : X → Type 0) (alike : X → X → Type 0)
+    (joined : X → X → X → Type 0) : Type 0 where
+  pub reflexive : (a : X) → alike a a
+  pub symmetric : (a b : X) → alike a b → alike b a
+  pub transitive : (a b c : X) → alike a b → alike b c → alike a c
+  pub both : (a b c : X) → joined a b c → alike a c × alike b c
+  pub some : (a b : X) → valid a → valid b → alike a b → (c : X) × joined a b c
   pub only : (a b c d : X) → joined a b c → joined a b d → c ≡ d
   pub stays : (a b c : X) → joined a b c → valid c
   pub commutative : (a b c : X) → joined a b c → joined b a c
@@ -24,6 +30,14 @@ pub record IsGreaterOf (a b c : Heard) : Type 0 where
   pub one : (c ≡ a) ⊎ (c ≡ b)
   pub left : IsUpTo heard_cmp a c
   pub right : IsUpTo heard_cmp b c
+
+-- any two are alike
+abbrev pub AreAny : {X : Type 0} → X → X → Type 0
+AreAny x y = Unit {0}
+
+-- each item is alike to `start`
+abbrev pub AreAllAlike : {X : Type 0} → (X → X → Type 0) → X → List X → Type 0
+AreAllAlike {X} alike start items = (item : X) → item ∈ items → alike start item
 
 -- every reception is valid
 abbrev pub IsAny : Heard → Type 0

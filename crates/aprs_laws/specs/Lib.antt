@@ -21,6 +21,7 @@ pub mod Spans
 pub mod SpanLaws
 pub mod StepLaws
 pub mod Widening
+pub mod BookValue
 pub mod Scaling
 -- what public clauses cite of lower crates
 pub use Rattle.aprs_ax25.specs.Callsign

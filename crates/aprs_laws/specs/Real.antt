@@ -16,7 +16,7 @@ at_moment x m = record { moment = m; receiver = x.greatest.receiver; frame = x.g
 abbrev pub by_receiver : Row → List ℕ → Heard
 by_receiver x r = record { moment = x.first; receiver = r; frame = x.greatest.frame }
 
--- at each moment of the row, and by each of its receivers
+-- at each millisecond of the row, and by each of its receivers
 abbrev pub real_row : Row → List Heard
 real_row x =
     map (at_moment x) (moments x.first (last_of x - x.first + 1)) ++ map (by_receiver x) x.receivers

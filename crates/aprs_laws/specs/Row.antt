@@ -8,8 +8,8 @@ use Rattle.aprs_laws.specs.Order.{IsBelow, IsUpTo}
 use Rattle.aprs_laws.specs.Key.{Key, key_of, key_cmp}
 use Rattle.aprs_laws.specs.Run.{Run}
 
--- The first moment, in seconds; the receivers; and the greatest reception, which has the key and
--- the last moment.
+-- The first moment, in milliseconds; the receivers; and the greatest reception, which has the key
+-- and the last moment.
 pub record Row : Type 0 where
   pub first : ℕ
   pub receivers : List (List ℕ)

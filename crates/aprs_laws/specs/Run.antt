@@ -9,7 +9,7 @@ abbrev pub HeardAt : List Heard → Key → ℕ → Type 0
 HeardAt S key moment = (s : Heard) × (s ∈ S) × (key_of s.frame ≡ key) × (s.moment ≡ moment)
 
 -- The receptions of the key in S from one moment to another, where each but the last has a later
--- one at most `gap` seconds after it, and no other reception of the key is that near.
+-- one at most `gap` milliseconds after it, and no other reception of the key is that near.
 pub record Run (gap : ℕ) (S : List Heard) (key : Key) (first last : ℕ) : Type 0 where
   pub in_order : first ≤ last
   pub at_first : HeardAt S key first

@@ -13,7 +13,7 @@ pub record IsSoundRow (x : Row) : Type 0 where
   pub single : x.first ≡ last_of x
       → (r : List ℕ) → r ∈ x.receivers → IsUpTo bytes_cmp r x.greatest.receiver
 
--- where the keys are equal, y begins more than `gap` seconds after x ends
+-- where the keys are equal, y begins more than `gap` milliseconds after x ends
 abbrev pub IsFar : ℕ → Row → Row → Type 0
 IsFar gap x y = row_key x ≡ row_key y → last_of x + gap < y.first
 

@@ -5,14 +5,15 @@ ghost use Rattle.aprs_ax25.specs.Callsign.{call_cmp};
 ghost use Rattle.aprs_log.specs.Reception.{bytes_cmp, heard_cmp};
 ghost use Rattle.aprs_laws.specs.Lists.{◌∈◌, SameMembers, Ordered};
 ghost use Rattle.aprs_laws.specs.Order.{IsBelow, IsUpTo};
-ghost use Rattle.aprs_laws.specs.Gap.{gap_seconds};
+ghost use Rattle.aprs_laws.specs.Gap.{standard_gap, IsGap, millis_of};
 ghost use Rattle.aprs_laws.specs.Key.{key_of, key_cmp};
 ghost use Rattle.aprs_laws.specs.Run.{HeardAt, Run};
 ghost use Rattle.aprs_laws.specs.Row.{IsOf, RowOf};
 ghost use Rattle.aprs_laws.specs.Book.{BookOf};
 ghost use Rattle.aprs_laws.specs.Sound.{Sound, IsNext};
 ghost use Rattle.aprs_laws.specs.Real.{real};
-ghost use Rattle.aprs_laws.specs.Joining.{JoinLaws, IsGreaterOf, IsAny, IsUnited, Joined, FoldsTo};
+ghost use Rattle.aprs_laws.specs.Joining.{JoinLaws, AreAny, IsGreaterOf, IsAny, IsUnited, Joined, FoldsTo};
+ghost use Rattle.aprs_laws.specs.BookValue.{Holds, IsSoundBook, HaveOneGap, AreJoined, widened_to};
 ghost use Rattle.aprs_laws.specs.Taken.{taken, StepsFit};
 ghost use Rattle.aprs_laws.specs.Best.{IsBest, LastKnown, known_of};
 ghost use Rattle.aprs_laws.specs.JoinRow.{single, IsNear, interleave, coalesced, plain_book};
@@ -22,7 +23,7 @@ ghost use Rattle.aprs_laws.specs.BestLaws.{Passes};
 ghost use Rattle.aprs_laws.specs.Widening.{widened};
 ghost use Rattle.aprs_laws.specs.Scaling.{scaled, scaled_heard};
 ghost use Rattle.aprs_laws.specs.StepLaws.{rows_after_steps};
-ghost use Rattle.aprs_laws.specs.Examples.{direct, repeated, answered, of_other, hi_key, n0call, key_by, any_key, rx1, rx2, heard, by_rx1, early, row_of, row_at, row_to, near_pair, near_row, far_pair, early_row, late_row, close_row, tied_pair, tied_row, short_row, merge_then_take, back_and_forth, TakesFirst};
+ghost use Rattle.aprs_laws.specs.Examples.{half_minute, direct, repeated, answered, of_other, hi_key, n0call, key_by, any_key, rx1, rx2, heard, by_rx1, early, row_of, row_at, row_to, near_pair, near_row, far_pair, book_under, early_row, late_row, close_row, tied_pair, tied_row, short_row, merge_then_take, back_and_forth, TakesFirst};
 
 /// Members have no number and no place. Ascending lists have no repeats.
 pub fn sets_and_orders()
@@ -52,96 +53,121 @@ pub fn sources_are_ordered_first()
     ensures misses_text { bytes_cmp (codes "N0CALL-2") (codes "N0CALL-10") ≡ Greater }
 {}
 
-/// Neighbours 30 seconds apart are of one transmission, and 31 seconds apart of two.
+/// Neighbours 30 seconds apart are of one transmission, and 30,001 milliseconds apart of two.
 pub fn gaps_decide_rows()
-    ensures thirty_joins { plain_book gap_seconds near_pair ≡ near_row ∷ [] }
-    ensures thirty_one_does_not { plain_book gap_seconds far_pair ≡ early_row ∷ late_row ∷ [] }
-    ensures two_rows { plain_book gap_seconds (by_rx1 31 ∷ by_rx1 61 ∷ by_rx1 0 ∷ [])
-        ≡ row_at 0 ∷ row_to 31 61 ∷ [] }
-    ensures bridged { plain_book gap_seconds (by_rx1 30 ∷ by_rx1 31 ∷ by_rx1 61 ∷ by_rx1 0 ∷ [])
-        ≡ row_to 0 61 ∷ [] }
-    ensures inside { plain_book gap_seconds
-        (by_rx1 40 ∷ by_rx1 30 ∷ by_rx1 31 ∷ by_rx1 61 ∷ by_rx1 0 ∷ [])
-        ≡ row_to 0 61 ∷ [] }
+    ensures thirty_joins { plain_book half_minute near_pair ≡ near_row ∷ [] }
+    ensures thirty_one_does_not { plain_book half_minute far_pair ≡ early_row ∷ late_row ∷ [] }
+    ensures two_rows { plain_book half_minute (by_rx1 30001 ∷ by_rx1 60001 ∷ by_rx1 0 ∷ [])
+        ≡ row_at 0 ∷ row_to 30001 60001 ∷ [] }
+    ensures bridged { plain_book half_minute
+        (by_rx1 30000 ∷ by_rx1 30001 ∷ by_rx1 60001 ∷ by_rx1 0 ∷ [])
+        ≡ row_to 0 60001 ∷ [] }
+    ensures inside { plain_book half_minute
+        (by_rx1 40000 ∷ by_rx1 30000 ∷ by_rx1 30001 ∷ by_rx1 60001 ∷ by_rx1 0 ∷ [])
+        ≡ row_to 0 60001 ∷ [] }
 {}
 
-/// Two rows 31 seconds apart are one under a gap of 31, and stay two under their own.
+/// Gaps are 1 to 3,600 seconds, and the standard gap is 30,000 milliseconds.
+pub fn gaps_are_of_seconds()
+    ensures standard { millis_of standard_gap ≡ half_minute }
+    ensures least { IsGap 1 }
+    ensures greatest { IsGap 3600 }
+    ensures misses_none { IsGap 0 → ⊥ }
+    ensures misses_more { IsGap 3601 → ⊥ }
+{}
+
+/// A book holds a set under its own gap, and is joined with books of that gap alone.
+pub fn books_have_gaps()
+    ensures holds { Holds far_pair (book_under 30) }
+    ensures misses_gap { Holds far_pair (book_under 31) → ⊥ }
+    ensures sound { IsSoundBook (book_under 30) }
+    ensures misses_sound { IsSoundBook (book_under 31) → ⊥ }
+    ensures misses_range { IsSoundBook (record { gap = 0; rows = [] }) → ⊥ }
+    ensures misses_other { HaveOneGap (book_under 30) (book_under 31) → ⊥ }
+    ensures misses_joined { AreJoined (book_under 30) (book_under 31) (book_under 30) → ⊥ }
+    ensures widened { widened_to 31 (book_under 30)
+        ≡ record { gap = 31; rows = row_of 0 (rx1 ∷ rx2 ∷ []) (by_rx1 30001) ∷ [] } }
+{}
+
+/// Two rows 30,001 milliseconds apart are one under a gap of 30,001, and stay two under their own.
 pub fn wider_gaps_join_rows()
-    ensures widened { widened 31 (early_row ∷ late_row ∷ [])
-        ≡ row_of 0 (rx1 ∷ rx2 ∷ []) (by_rx1 31) ∷ [] }
-    ensures misses_one { widened 30 (early_row ∷ late_row ∷ []) ≡ early_row ∷ late_row ∷ [] }
+    ensures widened { widened 30001 (early_row ∷ late_row ∷ [])
+        ≡ row_of 0 (rx1 ∷ rx2 ∷ []) (by_rx1 30001) ∷ [] }
+    ensures misses_one { widened 30000 (early_row ∷ late_row ∷ []) ≡ early_row ∷ late_row ∷ [] }
 {}
 
-/// One transmission of 30 seconds is one of 30,000 milliseconds under the gap in milliseconds. Under
-/// the gap in seconds it would be two.
+/// One transmission of 30,000 milliseconds is one of 30,000,000 microseconds under the gap in
+/// microseconds. Under the gap in milliseconds it would be two.
 pub fn units_scale_gaps_too()
     ensures scaled { scaled 1000 (near_row ∷ [])
-        ≡ row_of 0 (rx1 ∷ rx2 ∷ []) (by_rx1 30000) ∷ [] }
-    ensures plain { plain_book 30000 (map (scaled_heard 1000) near_pair)
+        ≡ row_of 0 (rx1 ∷ rx2 ∷ []) (by_rx1 30000000) ∷ [] }
+    ensures plain { plain_book 30000000 (map (scaled_heard 1000) near_pair)
         ≡ scaled 1000 (near_row ∷ []) }
-    ensures misses_gap { plain_book 30 (map (scaled_heard 1000) near_pair)
-        ≡ early_row ∷ row_at 30000 ∷ [] }
+    ensures misses_gap { plain_book 30000 (map (scaled_heard 1000) near_pair)
+        ≡ early_row ∷ row_at 30000000 ∷ [] }
 {}
 
 /// The same, as code makes it.
 pub fn gaps_decide_what_is_inserted()
-    ensures apart { inserted gap_seconds (by_rx1 61) (row_at 0 ∷ []) ≡ row_at 0 ∷ row_at 61 ∷ [] }
-    ensures grown { inserted gap_seconds (by_rx1 31) (row_at 0 ∷ row_at 61 ∷ [])
-        ≡ row_at 0 ∷ row_to 31 61 ∷ [] }
-    ensures bridged { inserted gap_seconds (by_rx1 30) (row_at 0 ∷ row_to 31 61 ∷ [])
-        ≡ row_to 0 61 ∷ [] }
-    ensures inside { inserted gap_seconds (by_rx1 40) (row_to 0 61 ∷ []) ≡ row_to 0 61 ∷ [] }
+    ensures apart { inserted half_minute (by_rx1 60001) (row_at 0 ∷ [])
+        ≡ row_at 0 ∷ row_at 60001 ∷ [] }
+    ensures grown { inserted half_minute (by_rx1 30001) (row_at 0 ∷ row_at 60001 ∷ [])
+        ≡ row_at 0 ∷ row_to 30001 60001 ∷ [] }
+    ensures bridged { inserted half_minute (by_rx1 30000) (row_at 0 ∷ row_to 30001 60001 ∷ [])
+        ≡ row_to 0 60001 ∷ [] }
+    ensures inside { inserted half_minute (by_rx1 40000) (row_to 0 60001 ∷ [])
+        ≡ row_to 0 60001 ∷ [] }
 {}
 
 /// Of receptions at one moment the greater receiver is greatest, and of one receiver's the greater
 /// frame, in whatever order they come.
 pub fn ties_go_by_receiver_then_frame()
-    ensures frame { plain_book gap_seconds (heard 0 rx1 repeated ∷ by_rx1 0 ∷ []) ≡ row_at 0 ∷ [] }
-    ensures frame_turned { plain_book gap_seconds (by_rx1 0 ∷ heard 0 rx1 repeated ∷ [])
+    ensures frame { plain_book half_minute (heard 0 rx1 repeated ∷ by_rx1 0 ∷ []) ≡ row_at 0 ∷ [] }
+    ensures frame_turned { plain_book half_minute (by_rx1 0 ∷ heard 0 rx1 repeated ∷ [])
         ≡ row_at 0 ∷ [] }
-    ensures receiver { plain_book gap_seconds tied_pair ≡ tied_row ∷ [] }
+    ensures receiver { plain_book half_minute tied_pair ≡ tied_row ∷ [] }
 {}
 
 /// Receivers stand in ascending order, each once.
 pub fn receivers_ascend()
-    ensures { plain_book gap_seconds (heard 10 rx2 direct ∷ heard 5 rx1 answered ∷ early ∷ [])
+    ensures { plain_book half_minute (heard 10 rx2 direct ∷ heard 5 rx1 answered ∷ early ∷ [])
         ≡ row_of 0 (rx1 ∷ rx2 ∷ []) (heard 10 rx2 direct) ∷ [] }
 {}
 
 /// A part of a run is none, nor are two runs one.
 pub fn runs_are_maximal()
-    ensures heard { HeardAt far_pair hi_key 31 }
-    ensures misses_moment { HeardAt far_pair hi_key 30 → ⊥ }
-    ensures run { Run gap_seconds near_pair hi_key 0 30 }
-    ensures misses_part { Run gap_seconds near_pair hi_key 0 0 → ⊥ }
-    ensures misses_both { Run gap_seconds far_pair hi_key 0 31 → ⊥ }
+    ensures heard { HeardAt far_pair hi_key 30001 }
+    ensures misses_moment { HeardAt far_pair hi_key 30000 → ⊥ }
+    ensures run { Run half_minute near_pair hi_key 0 30000 }
+    ensures misses_part { Run half_minute near_pair hi_key 0 0 → ⊥ }
+    ensures misses_both { Run half_minute far_pair hi_key 0 30001 → ⊥ }
 {}
 
 /// A row has its run's greatest reception, and all of its receivers.
 pub fn rows_are_whole()
     ensures is_of { IsOf near_row early }
-    ensures misses_later { IsOf early_row (by_rx1 31) → ⊥ }
-    ensures row { RowOf gap_seconds tied_pair tied_row }
-    ensures misses_greatest { RowOf gap_seconds tied_pair
+    ensures misses_later { IsOf early_row (by_rx1 30001) → ⊥ }
+    ensures row { RowOf half_minute tied_pair tied_row }
+    ensures misses_greatest { RowOf half_minute tied_pair
         (row_of 0 (rx1 ∷ rx2 ∷ []) (by_rx1 0)) → ⊥ }
-    ensures misses_receiver { RowOf gap_seconds tied_pair (row_of 0 (rx2 ∷ []) early) → ⊥ }
+    ensures misses_receiver { RowOf half_minute tied_pair (row_of 0 (rx2 ∷ []) early) → ⊥ }
 {}
 
 /// A book has all rows of its set, in order.
 pub fn books_are_whole()
-    ensures book { BookOf gap_seconds far_pair (early_row ∷ late_row ∷ []) }
-    ensures misses_row { BookOf gap_seconds far_pair (early_row ∷ []) → ⊥ }
-    ensures misses_order { BookOf gap_seconds far_pair (late_row ∷ early_row ∷ []) → ⊥ }
+    ensures book { BookOf half_minute far_pair (early_row ∷ late_row ∷ []) }
+    ensures misses_row { BookOf half_minute far_pair (early_row ∷ []) → ⊥ }
+    ensures misses_order { BookOf half_minute far_pair (late_row ∷ early_row ∷ []) → ⊥ }
 {}
 
 /// Rows that no set has are not sound.
 pub fn soundness_is_seen_in_rows()
-    ensures sound { Sound gap_seconds (short_row ∷ []) }
-    ensures misses_greatest { Sound gap_seconds (row_of 1 (rx1 ∷ rx2 ∷ []) (by_rx1 1) ∷ []) → ⊥ }
-    ensures misses_apart { Sound gap_seconds (early_row ∷ close_row ∷ []) → ⊥ }
-    ensures misses_receivers { Sound gap_seconds (row_of 0 (rx2 ∷ rx1 ∷ []) (by_rx1 1) ∷ []) → ⊥ }
-    ensures next { IsNext gap_seconds (early_row ∷ []) late_row }
-    ensures misses_near_next { IsNext gap_seconds (early_row ∷ []) close_row → ⊥ }
+    ensures sound { Sound half_minute (short_row ∷ []) }
+    ensures misses_greatest { Sound half_minute (row_of 1 (rx1 ∷ rx2 ∷ []) (by_rx1 1) ∷ []) → ⊥ }
+    ensures misses_apart { Sound half_minute (early_row ∷ close_row ∷ []) → ⊥ }
+    ensures misses_receivers { Sound half_minute (row_of 0 (rx2 ∷ rx1 ∷ []) (by_rx1 1) ∷ []) → ⊥ }
+    ensures next { IsNext half_minute (early_row ∷ []) late_row }
+    ensures misses_near_next { IsNext half_minute (early_row ∷ []) close_row → ⊥ }
 {}
 
 /// Real receptions are as few as make the rows: what else was heard is not among them.
@@ -153,43 +179,43 @@ pub fn real_receptions_are_few()
 
 /// The greater of two receptions, and the receivers of both. To answer the first value is no join.
 pub fn joins_take_both()
-    ensures greater { IsGreaterOf early (by_rx1 31) (by_rx1 31) }
-    ensures misses_lesser { IsGreaterOf early (by_rx1 31) early → ⊥ }
+    ensures greater { IsGreaterOf early (by_rx1 30001) (by_rx1 30001) }
+    ensures misses_lesser { IsGreaterOf early (by_rx1 30001) early → ⊥ }
     ensures united { IsUnited bytes_cmp (rx2 ∷ []) (rx1 ∷ rx2 ∷ []) (rx1 ∷ rx2 ∷ []) }
     ensures merged { merged bytes_cmp (rx2 ∷ []) (rx1 ∷ rx2 ∷ []) ≡ rx1 ∷ rx2 ∷ [] }
     ensures misses_repeat { IsUnited bytes_cmp (rx1 ∷ []) (rx1 ∷ []) (rx1 ∷ rx1 ∷ []) → ⊥ }
-    ensures misses_first { JoinLaws IsAny TakesFirst → ⊥ }
-    ensures folds { FoldsTo IsGreaterOf early (by_rx1 31 ∷ []) (by_rx1 31) }
-    ensures misses_start { FoldsTo IsGreaterOf (by_rx1 31) (early ∷ []) early → ⊥ }
+    ensures misses_first { JoinLaws IsAny AreAny TakesFirst → ⊥ }
+    ensures folds { FoldsTo IsGreaterOf early (by_rx1 30001 ∷ []) (by_rx1 30001) }
+    ensures misses_start { FoldsTo IsGreaterOf (by_rx1 30001) (early ∷ []) early → ⊥ }
 {}
 
 /// The joined value of two books has neither the rows of one alone nor all rows side by side.
 pub fn joined_books_are_books()
-    ensures joined { Joined gap_seconds (early_row ∷ []) (close_row ∷ []) (near_row ∷ []) }
-    ensures one_pass { coalesced gap_seconds (interleave (early_row ∷ []) (close_row ∷ []))
+    ensures joined { Joined half_minute (early_row ∷ []) (close_row ∷ []) (near_row ∷ []) }
+    ensures one_pass { coalesced half_minute (interleave (early_row ∷ []) (close_row ∷ []))
         ≡ near_row ∷ [] }
-    ensures misses_side_by_side { Joined gap_seconds (early_row ∷ []) (close_row ∷ [])
+    ensures misses_side_by_side { Joined half_minute (early_row ∷ []) (close_row ∷ [])
         (early_row ∷ close_row ∷ []) → ⊥ }
-    ensures misses_one_book { Joined gap_seconds (early_row ∷ []) (late_row ∷ [])
+    ensures misses_one_book { Joined half_minute (early_row ∷ []) (late_row ∷ [])
         (early_row ∷ []) → ⊥ }
 {}
 
 /// A merge takes what the other place has then, and not what comes there later.
 pub fn merges_take_what_is_there()
     ensures taken { taken merge_then_take 1 ≡ by_rx1 0 ∷ [] }
-    ensures misses_later { by_rx1 31 ∈ taken merge_then_take 1 → ⊥ }
+    ensures misses_later { by_rx1 30001 ∈ taken merge_then_take 1 → ⊥ }
     ensures fits { StepsFit 2 back_and_forth }
     ensures misses_place { StepsFit 1 back_and_forth → ⊥ }
-    ensures first_book { rows_after_steps gap_seconds back_and_forth (λ place. []) 0
+    ensures first_book { rows_after_steps half_minute back_and_forth (λ place. []) 0
         ≡ row_of 0 (rx1 ∷ rx2 ∷ []) (heard 20 rx2 direct) ∷ [] }
-    ensures second_book { rows_after_steps gap_seconds back_and_forth (λ place. []) 1
+    ensures second_book { rows_after_steps half_minute back_and_forth (λ place. []) 1
         ≡ row_of 0 (rx1 ∷ rx2 ∷ []) (heard 20 rx2 direct) ∷ [] }
 {}
 
 /// What comes last in a list is not what is last known.
 pub fn greatest_is_last_known()
-    ensures best { IsBest far_pair (Passes any_key) (by_rx1 31) }
-    ensures plain { known_of any_key None far_pair ≡ Some (by_rx1 31) }
+    ensures best { IsBest far_pair (Passes any_key) (by_rx1 30001) }
+    ensures plain { known_of any_key None far_pair ≡ Some (by_rx1 30001) }
     ensures misses_last { IsBest far_pair (Passes any_key) early → ⊥ }
     ensures misses_none { LastKnown far_pair (Passes any_key) None → ⊥ }
 {}
@@ -197,10 +223,10 @@ pub fn greatest_is_last_known()
 /// Rows are near up to the gap. A reception fits in place where one row alone is near and lists
 /// its receiver.
 pub fn rows_are_near_up_to_the_gap()
-    ensures near { IsNear gap_seconds early_row (single (by_rx1 30)) }
-    ensures misses_far { IsNear gap_seconds early_row (single (by_rx1 31)) → ⊥ }
-    ensures fits { FitsInPlace gap_seconds (early_row ∷ late_row ∷ []) (heard 0 rx2 direct) }
-    ensures misses_receiver { FitsInPlace gap_seconds (early_row ∷ []) (by_rx1 10) → ⊥ }
-    ensures misses_two { FitsInPlace gap_seconds (early_row ∷ late_row ∷ [])
+    ensures near { IsNear half_minute early_row (single (by_rx1 30000)) }
+    ensures misses_far { IsNear half_minute early_row (single (by_rx1 30001)) → ⊥ }
+    ensures fits { FitsInPlace half_minute (early_row ∷ late_row ∷ []) (heard 0 rx2 direct) }
+    ensures misses_receiver { FitsInPlace half_minute (early_row ∷ []) (by_rx1 10) → ⊥ }
+    ensures misses_two { FitsInPlace half_minute (early_row ∷ late_row ∷ [])
         (heard 10 rx2 direct) → ⊥ }
 {}

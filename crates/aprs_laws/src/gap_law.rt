@@ -1,5 +1,6 @@
 //! Laws of books under another gap.
 ghost use Rattle.std.specs.Prelude.{ℕ};
+ghost use Rattle.aprs_laws.specs.BookValue.{WidenedHolds, WidensJoinedBooks};
 ghost use Rattle.aprs_laws.specs.Widening.{WidensBook, WidenedIsSound, KeepsUnderOwnGap, WidensInSteps, WidensJoined, NarrowsNot};
 
 /// One pass over the rows of a book, which joins neighbours that are near under a gap that is not
@@ -10,6 +11,13 @@ pub fn gaps_can_be_widened()
     ensures equal { (gap : ℕ) → KeepsUnderOwnGap gap }
     ensures steps { WidensInSteps }
     ensures joined { WidensJoined }
+{}
+
+/// A book under a gap that is not less holds the set that it held before, and widening the join of
+/// two books is joining the widened books.
+pub fn books_can_be_widened()
+    ensures holds { WidenedHolds }
+    ensures joined { WidensJoinedBooks }
 {}
 
 /// Under a lesser gap the rows don't tell the book: no function of rows alone gives it.

@@ -16,13 +16,14 @@ pub use book_law::{
     books_decide_unions, runs_have_one_row_each, sets_have_one_book, sound_rows_are_books,
 };
 pub use example::{
-    books_are_whole, copies_have_one_key, gaps_decide_rows, gaps_decide_what_is_inserted,
-    greatest_is_last_known, joined_books_are_books, joins_take_both, merges_take_what_is_there,
-    real_receptions_are_few, receivers_ascend, rows_are_near_up_to_the_gap, rows_are_whole,
-    runs_are_maximal, sets_and_orders, soundness_is_seen_in_rows, sources_are_ordered_first,
-    ties_go_by_receiver_then_frame, units_scale_gaps_too, wider_gaps_join_rows,
+    books_are_whole, books_have_gaps, copies_have_one_key, gaps_are_of_seconds, gaps_decide_rows,
+    gaps_decide_what_is_inserted, greatest_is_last_known, joined_books_are_books, joins_take_both,
+    merges_take_what_is_there, real_receptions_are_few, receivers_ascend,
+    rows_are_near_up_to_the_gap, rows_are_whole, runs_are_maximal, sets_and_orders,
+    soundness_is_seen_in_rows, sources_are_ordered_first, ties_go_by_receiver_then_frame,
+    units_scale_gaps_too, wider_gaps_join_rows,
 };
-pub use gap_law::{gaps_can_be_widened, gaps_cannot_be_narrowed};
+pub use gap_law::{books_can_be_widened, gaps_can_be_widened, gaps_cannot_be_narrowed};
 pub use join_law::{books_join, receivers_join, receptions_join};
 pub use key_law::keys_are_of_parts;
 pub use last_known_law::{books_tell_last_known, books_tell_spans};

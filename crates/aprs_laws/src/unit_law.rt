@@ -2,7 +2,7 @@
 ghost use Rattle.aprs_laws.specs.Scaling.{ScalesBook};
 
 /// A book whose moments are counted in a finer unit is the book of the receptions so counted, under
-/// the gap so counted. So a book in seconds becomes one in milliseconds.
+/// the gap so counted. So a book in milliseconds becomes one in microseconds.
 pub fn units_can_change()
     ensures { ScalesBook }
 {}

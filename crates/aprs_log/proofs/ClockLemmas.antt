@@ -1,15 +1,22 @@
 -- Lemmas on times of a day whose date is known.
-use Rattle.std.proofs.Common.{◌≡◌, ℕ, Bool, true, false, not, ◌+◌, ◌-◌, ◌*◌, ◌/◌, ◌%◌, ◌<◌, List, [], ◌∷◌, ◌++◌, length, take, drop, slice_index, Option, None, Some, pos, unsigned_abs, refl, arith, sym, ap, ◌∙◌, take-append-drop}
+use Rattle.std.proofs.Common.{◌≡◌, ◌≢◌, ◌⊎◌, inl, inr, ℕ, Bool, true, false, not, ◌+◌, ◌-◌, ◌*◌, ◌/◌, ◌%◌, ◌<◌, List, [], ◌∷◌, ◌++◌, ◌==◌, cond, length, length-append, take, drop, slice_index, Option, None, Some, pos, unsigned_abs, refl, arith, sym, ap, ◌∙◌, subst, take-append-drop}
 use Rattle.std.specs.Prelude.{IfSome, SomeIff}
 use Rattle.std.proofs.Math.Seq.{take-append_seam, drop-append-add}
 use Rattle.jiff_core.specs.Calendar.{days_from_civil}
-use Rattle.aprs_log.specs.Clock.{SecondText, midnight_text, time_text}
-use Rattle.aprs_log.specs.Moment.{Civil, IsCivil, civil_text, day_after, four_digits, moment_of, moment_text, second_of_day, seconds_of, two_digits}
-use Rattle.aprs_log.proofs.MomentLemmas.{moment_of-civil, moment_of-text, moment_text-is, text-moment_of}
+use Rattle.aprs_log.specs.declared.moment_form.MomentForm.{MomentForm}
+use Rattle.aprs_log.specs.declared.moment_form.MomentForm.TheVariants.{Seconds, Millis}
+use Rattle.aprs_log.specs.Clock.{FractionText, SecondText, clock_text, form_of_end, midnight_text}
+use Rattle.aprs_log.specs.Moment.{Civil, IsCivil, civil_text, day_after, form_of, four_digits, fraction_text, moment_in, moment_of, moment_text_in, room_of, second_of_day, seconds_of, two_digits}
+use Rattle.aprs_log.proofs.MomentLemmas.{moment_in-civil, moment_in-text, moment_text-is, room_most, text-moment_in}
 
 -- YYYY-MM-DDT
 abbrev date_text : Civil → List ℕ
 date_text c = four_digits c.year ++ 45 ∷ two_digits c.month ++ 45 ∷ two_digits c.day ++ 84 ∷ []
+
+-- HH:MM:SS and what follows it
+abbrev time_text : MomentForm → ℕ → ℕ → ℕ → ℕ → List ℕ
+time_text form hour minute second n =
+    clock_text hour minute second ++ fraction_text form n ++ 90 ∷ []
 
 -- the same day at another time
 abbrev at_time : Civil → ℕ → ℕ → ℕ → Civil
@@ -29,44 +36,80 @@ some_same : (a b : ℕ) → Some a ≡ Some b → a ≡ b
 some_same a b e = cc
 
 -- what a text's moment is made of
-record Found (m : ℕ) (t : List ℕ) : Type 0 where
+record Found (form : MomentForm) (m : ℕ) (t : List ℕ) : Type 0 where
   civil : Civil
+  millis : ℕ
   real : IsCivil civil
-  spelled : t ≡ civil_text civil
-  number : m ≡ 86400 * days_of civil + second_of_day civil
+  below : millis < room_of form
+  spelled : t ≡ civil_text form civil millis
+  number : m ≡ (86400 * days_of civil + second_of_day civil) * 1000 + millis
 
-found : (t : List ℕ) (m : ℕ) → moment_of t ≡ Some m → Found m t
+found : (form : MomentForm) (t : List ℕ) (m : ℕ) → moment_in form t ≡ Some m → Found form m t
 unfolding days_of
-found t m e =
-    let h = moment_of-text t m e in
-    let same : Some m ≡ Some (seconds_of h.civil) = sym e ∙ ap moment_of h.spelled ∙ moment_of-civil h.civil h.real in
-    record { civil = h.civil; real = h.real; spelled = h.spelled; number = some_same _ _ same }
+found form t m e =
+    let h = moment_in-text form t m e in
+    let same : Some m ≡ Some (seconds_of h.civil * 1000 + h.millis)
+    = sym e ∙ ap (moment_in form) h.spelled ∙ moment_in-civil form h.civil h.millis h.real h.below in
+    record {
+      civil = h.civil;
+      millis = h.millis;
+      real = h.real;
+      below = h.below;
+      spelled = h.spelled;
+      number = some_same _ _ same;
+    }
 
--- a moment's text has 20 bytes
-pub moment_of-length : (t : List ℕ) (m : ℕ) → moment_of t ≡ Some m → length t ≡ 20
-moment_of-length t m e = ap length (found t m e).spelled
+civil_text-length : (form : MomentForm) (c : Civil) (n : ℕ)
+    → (length (civil_text form c n) ≡ 20) ⊎ (length (civil_text form c n) ≡ 24)
+civil_text-length Seconds c n = inl refl
+civil_text-length Millis c n = inr refl
+
+-- a moment's text has 20 bytes or 24
+pub moment_of-length : (t : List ℕ) (m : ℕ) → moment_of t ≡ Some m
+    → (length t ≡ 20) ⊎ (length t ≡ 24)
+moment_of-length t m e =
+    let f = found (form_of t) t m e in
+    subst (λ (l : List ℕ). (length l ≡ 20) ⊎ (length l ≡ 24)) (sym f.spelled)
+    (civil_text-length (form_of t) f.civil f.millis)
+
+digit_inside : (form : MomentForm) (c : Civil) (n : ℕ) → length (civil_text form c n) ≡ 24
+    → slice_index (civil_text form c n) 20 ≢ 32
+digit_inside Seconds c n len e = let no : 20 ≡ 24 = len in absurd (omega (arith, no))
+digit_inside Millis c n len e = let no : 48 + n / 100 ≡ 32 = e in absurd (omega (arith, no))
+
+-- in the longer one no space stands where one would end the shorter
+pub moment_of-inside : (t : List ℕ) (m : ℕ) → moment_of t ≡ Some m → length t ≡ 24
+    → slice_index t 20 ≢ 32
+moment_of-inside t m e len space =
+    let f = found (form_of t) t m e in
+    digit_inside (form_of t) f.civil f.millis (ap length (sym f.spelled) ∙ len)
+    (ap (λ l. slice_index l 20) (sym f.spelled) ∙ space)
 
 -- another time of the day of a civil time
-moment_at : (c : Civil) → IsCivil c → (hour minute second : ℕ) → hour < 24 → minute < 60 → second < 60
-    → moment_of (date_text c ++ time_text hour minute second)
-    ≡ Some (86400 * days_of c + (hour * 3600 + minute * 60 + second))
+moment_at : (form : MomentForm) (c : Civil) → IsCivil c → (hour minute second n : ℕ)
+    → hour < 24 → minute < 60 → second < 60 → n < room_of form
+    → moment_in form (date_text c ++ time_text form hour minute second n)
+    ≡ Some ((86400 * days_of c + (hour * 3600 + minute * 60 + second)) * 1000 + n)
 unfolding days_of
-moment_at c real hour minute second h m s =
-    moment_of-civil (at_time c hour minute second)
-    (record { date = real.date; hour = h; minute = m; second = s })
+moment_at form c real hour minute second n h m s below =
+    moment_in-civil form (at_time c hour minute second) n
+    (record { date = real.date; hour = h; minute = m; second = s }) below
 
-cut_text : (date time : List ℕ) (c : Civil) → length date ≡ 11 → date ++ time ≡ civil_text c
-    → (date ≡ date_text c) × (time ≡ time_text c.hour c.minute c.second)
-cut_text date time c len e =
-    let front : take 11 (date ++ time) ≡ date = ap (λ n. take n (date ++ time)) (sym len) ∙ take-append_seam date time in
+cut_text : (form : MomentForm) (date time : List ℕ) (c : Civil) (n : ℕ) → length date ≡ 11
+    → date ++ time ≡ civil_text form c n
+    → (date ≡ date_text c) × (time ≡ time_text form c.hour c.minute c.second n)
+cut_text form date time c n len e =
+    let front : take 11 (date ++ time) ≡ date
+    = ap (λ k. take k (date ++ time)) (sym len) ∙ take-append_seam date time in
     let end : 11 ≡ length date + 0 = omega (arith, len) in
     let back : drop 11 (date ++ time) ≡ time
-    = ap (λ n. drop n (date ++ time)) end ∙ drop-append-add date time 0 in
+    = ap (λ k. drop k (date ++ time)) end ∙ drop-append-add date time 0 in
     (sym front ∙ ap (λ l. take 11 l) e, sym back ∙ ap (λ l. drop 11 l) e)
 
 -- at midnight no second of the day has gone by
-no_second : (c : Civil) → midnight_text ≡ time_text c.hour c.minute c.second → second_of_day c ≡ 0
-no_second c e =
+no_second : (c : Civil) (n : ℕ) → midnight_text ≡ time_text Seconds c.hour c.minute c.second n
+    → second_of_day c ≡ 0
+no_second c n e =
     let h1 : 48 + c.hour / 10 ≡ 48 = sym (ap (λ l. slice_index l 0) e) in
     let h0 : 48 + c.hour % 10 ≡ 48 = sym (ap (λ l. slice_index l 1) e) in
     let m1 : 48 + c.minute / 10 ≡ 48 = sym (ap (λ l. slice_index l 3) e) in
@@ -76,34 +119,66 @@ no_second c e =
     omega arith
 
 -- the moment of a text with a date that is known
-pub moment_of-same_day : (date time : List ℕ) (midnight n : ℕ) → length date ≡ 11
-    → moment_of (date ++ midnight_text) ≡ Some midnight → SecondText n time
-    → moment_of (date ++ time) ≡ Some (midnight + n)
-moment_of-same_day date time midnight n len e t =
-    let f = found (date ++ midnight_text) midnight e in
-    let parts = cut_text date midnight_text f.civil len f.spelled in
-    let none = no_second f.civil parts.1 in
-    let sum : 86400 * days_of f.civil + (t.hour * 3600 + t.minute * 60 + t.second) ≡ midnight + n
-    = omega (arith, f.number, none, t.number) in
-    ap (λ l. moment_of (l ++ time)) parts.0 ∙ ap (λ l. moment_of (date_text f.civil ++ l)) t.spelled
-    ∙ moment_at f.civil f.real t.hour t.minute t.second t.is_hour t.is_minute t.is_second
+moment_in-same_day : (form : MomentForm) (date time end : List ℕ) (midnight second n : ℕ)
+    → length date ≡ 11 → moment_in Seconds (date ++ midnight_text) ≡ Some midnight
+    → SecondText second time → FractionText form n end
+    → moment_in form (date ++ (time ++ end)) ≡ Some (midnight + second * 1000 + n)
+moment_in-same_day form date time end midnight second n len e t f =
+    let day = found Seconds (date ++ midnight_text) midnight e in
+    let parts = cut_text Seconds date midnight_text day.civil day.millis len day.spelled in
+    let none = no_second day.civil day.millis parts.1 in
+    let zero : day.millis < 1 = day.below in
+    let sum : (86400 * days_of day.civil + (t.hour * 3600 + t.minute * 60 + t.second)) * 1000 + n
+    ≡ midnight + second * 1000 + n
+    = omega (arith, day.number, none, zero, t.number) in
+    ap (λ l. moment_in form (l ++ (time ++ end))) parts.0
+    ∙ ap (λ l. moment_in form (date_text day.civil ++ (l ++ end))) t.spelled
+    ∙ ap (λ l. moment_in form (date_text day.civil ++ (clock_text t.hour t.minute t.second ++ l))) f.spelled
+    ∙ moment_at form day.civil day.real t.hour t.minute t.second n t.is_hour t.is_minute t.is_second f.below
     ∙ ap (λ k. Some k) sum
 
--- the first second of a moment's day
+-- what follows the seconds says the form
+same_form : (text end : List ℕ) → (length text ≡ 20) ⊎ (length text ≡ 24)
+    → length text ≡ 19 + length end → form_of text ≡ form_of_end end
+same_form text end (inl e) len =
+    let one : length end ≡ 1 = omega (arith, len, e) in
+    ap (λ n. cond (n == 20) Seconds Millis) e ∙ sym (ap (λ n. cond (n == 1) Seconds Millis) one)
+same_form text end (inr e) len =
+    let five : length end ≡ 5 = omega (arith, len, e) in
+    ap (λ n. cond (n == 20) Seconds Millis) e ∙ sym (ap (λ n. cond (n == 1) Seconds Millis) five)
+
+pub moment_of-same_day : (text date rest time end : List ℕ) (midnight second n : ℕ)
+    → (length text ≡ 20) ⊎ (length text ≡ 24) → length date ≡ 11 → text ≡ date ++ rest
+    → rest ≡ time ++ end → moment_in Seconds (date ++ midnight_text) ≡ Some midnight
+    → SecondText second time → FractionText (form_of_end end) n end
+    → moment_of text ≡ Some (midnight + second * 1000 + n)
+moment_of-same_day text date rest time end midnight second n either len is then e t f =
+    let whole = is ∙ ap (λ l. date ++ l) then in
+    let eight : length time ≡ 8 = ap length t.spelled in
+    let size : length text ≡ 19 + length end
+    = omega (arith, ap length whole, length-append date (time ++ end), length-append time end, len, eight) in
+    let form = form_of_end end in
+    ap (λ g. moment_in g text) (same_form text end either size) ∙ ap (moment_in form) whole
+    ∙ moment_in-same_day form date time end midnight second n len e t f
+
+-- the first moment of a moment's day
 pub moment_of-midnight : (t : List ℕ) (m : ℕ) → moment_of t ≡ Some m
-    → moment_of (take 11 t ++ midnight_text) ≡ Some (m - m % 86400)
+    → moment_in Seconds (take 11 t ++ midnight_text) ≡ Some (m - m % 86400000)
 moment_of-midnight t m e =
-    let f = found t m e in
+    let form = form_of t in
+    let f = found form t m e in
+    let most = room_most form f.millis f.below in
     let second : second_of_day f.civil < 86400 = omega (arith, f.real.hour, f.real.minute, f.real.second) in
-    let start : 86400 * days_of f.civil + (0 * 3600 + 0 * 60 + 0) ≡ m - m % 86400 = omega (arith, f.number, second) in
-    ap (λ l. moment_of (take 11 l ++ midnight_text)) f.spelled
-    ∙ moment_at f.civil f.real 0 0 0 (omega arith) (omega arith) (omega arith)
+    let start : (86400 * days_of f.civil + (0 * 3600 + 0 * 60 + 0)) * 1000 + 0 ≡ m - m % 86400000
+    = omega (arith, f.number, second, most) in
+    ap (λ l. moment_in Seconds (take 11 l ++ midnight_text)) f.spelled
+    ∙ moment_at Seconds f.civil f.real 0 0 0 0 (omega arith) (omega arith) (omega arith) (omega arith)
     ∙ ap (λ k. Some k) start
 
 -- the first moment's day
-pub first_day : moment_of (49 ∷ 57 ∷ 55 ∷ 48 ∷ 45 ∷ 48 ∷ 49 ∷ 45 ∷ 48 ∷ 49 ∷ 84 ∷ midnight_text) ≡ Some 0
-unfolding moment_text day_after
-first_day = text-moment_of (moment_text 0) 0 (moment_text-is 0 (omega arith))
+pub first_day : moment_in Seconds (49 ∷ 57 ∷ 55 ∷ 48 ∷ 45 ∷ 48 ∷ 49 ∷ 45 ∷ 48 ∷ 49 ∷ 84 ∷ midnight_text) ≡ Some 0
+unfolding moment_text_in day_after
+first_day = text-moment_in Seconds (moment_text_in Seconds 0) 0 (moment_text-is Seconds 0 (omega arith) (omega arith))
 
 -- a moment that is made where the number is in range
 pub IfSome-moment : (t : List ℕ) (r : Option ℕ) (P : Type 0) (m : ℕ) → SomeIff r P m
@@ -111,12 +186,10 @@ pub IfSome-moment : (t : List ℕ) (r : Option ℕ) (P : Type 0) (m : ℕ) → S
 IfSome-moment t None P m h e = tt
 IfSome-moment t (Some k) P m h e = e ∙ ap (λ n. Some n) (sym h.1)
 
--- a text that begins with a date
-pub begins : (text date front back : List ℕ) → front ≡ take 11 text → back ≡ drop 11 text
-    → front ≡ date → text ≡ date ++ back
-begins text date front back e f g =
-    sym (take-append-drop 11 text) ∙ ap (λ l. l ++ drop 11 text) (sym e ∙ g)
-    ∙ ap (λ l. date ++ l) (sym f)
+-- a list that was cut in two
+pub halves : (n : ℕ) (l front back : List ℕ) → front ≡ take n l → back ≡ drop n l → l ≡ front ++ back
+halves n l front back e f =
+    sym (take-append-drop n l) ∙ ap (λ x. x ++ drop n l) (sym e) ∙ ap (λ x. front ++ x) (sym f)
 
 pub not_false : (b : Bool) → not b ≡ false → b ≡ true
 not_false true e = refl

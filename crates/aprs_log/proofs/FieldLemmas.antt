@@ -1,20 +1,20 @@
 -- Lemmas on the first field of a text.
-use Rattle.std.proofs.Common.{◌≡◌, ℕ, ◌+◌, ◌<◌, ◌≤◌, ◌≢◌, suc, ◌&&◌, Bool, true, false, not, cond, List, [], ◌∷◌, ◌++◌, length, take, drop, slice_index, Option, None, Some, Err, nat_le, nat_lt, refl, arith, sym, ap, ◌∙◌, take-append-drop}
+use Rattle.std.proofs.Common.{◌≡◌, ◌⊎◌, inl, inr, ℕ, ◌+◌, ◌<◌, ◌≤◌, suc, ◌&&◌, Bool, true, false, not, cond, List, [], ◌∷◌, ◌++◌, length, take, drop, slice_index, Option, None, Some, Err, nat_le, nat_lt, refl, arith, sym, ap, ◌∙◌, subst, take-append-drop}
 use Rattle.std.specs.Prelude.{MatchOption}
 use Rattle.std.specs.List.{list_all, position, position_or_len}
 use Rattle.std.proofs.Math.Seq.{take-append_seam}
 use Rattle.std.proofs.lemmas.Bool.{and_from, le-leb, leb-true, ltb-true}
 use Rattle.std.proofs.lemmas.Bool.Decides.{nat_tests}
-use Rattle.std.proofs.lemmas.List.{drop_more, get_or-append-add, length-append, length-take-le}
+use Rattle.std.proofs.lemmas.List.{drop_more, get_or-append-add, get_or-take, length-append, length-take-le}
 use Rattle.aprs_io.specs.Cut.{Cut, cut_at}
 use Rattle.aprs_io.proofs.CutLemmas.{Lacks, cut_at-after, cut_at-append, cut_at-parts}
-use Rattle.aprs_log.specs.Fields.{TakesMoment, TakesName, TakesNoMoment, TakesNoName, ends_name}
+use Rattle.aprs_log.specs.Fields.{EndsMoment, EndsNoMoment, HasSpace, TakesMoment, TakesName, TakesNoMoment, TakesNoName, ends_name}
 use Rattle.hex.specs.Hex.{decode_of}
 use Rattle.aprs_log.specs.Line.{line_of, line_of_bytes}
 use Rattle.aprs_log.specs.declared.fault.LineFault.TheVariants as fault
 use Rattle.aprs_log.specs.Moment.{moment_of}
 use Rattle.aprs_log.specs.Receiver.{IsName, is_name_byte}
-use Rattle.aprs_log.proofs.ClockLemmas.{moment_of-length}
+use Rattle.aprs_log.proofs.ClockLemmas.{moment_of-inside, moment_of-length}
 use Rattle.aprs_log.proofs.LineLemmas.{IsName-lacks, MomentText-lacks, both, line_of-fields, line_of-no_moment, line_of-no_name, line_of-one_cut, line_of-uncut}
 use Rattle.aprs_log.proofs.MomentLemmas.{moment_of-text}
 
@@ -64,48 +64,63 @@ none_if : (o : Option ℕ) → ((m : ℕ) → o ≡ Some m → ⊥) → None ≡
 none_if None h = refl
 none_if (Some m) h = absurd (h m refl)
 
-TakesMoment-at : (text : List ℕ) (m : ℕ) (rest : List ℕ) → 20 < length text → slice_index text 20 ≡ 32
-    → Some m ≡ moment_of (take 20 text) → rest ≡ drop 21 text → TakesMoment text m rest
-TakesMoment-at text m rest room e read after = record {
-  cut = record { before = take 20 text; after = drop 21 text };
-  is = cut_there text 20 room e (MomentText-lacks m (take 20 text) (moment_of-text (take 20 text) m (sym read)));
-  moment = read;
+pub EndsMoment-space : (text : List ℕ) (n : ℕ) → EndsMoment text n → HasSpace text n
+EndsMoment-space text n (inl short) = subst (HasSpace text) (sym short.0) short.1
+EndsMoment-space text n (inr long) = subst (HasSpace text) (sym long.0) long.1
+
+pub TakesMoment-at : (text : List ℕ) (n m : ℕ) (rest : List ℕ) → HasSpace text n
+    → moment_of (take n text) ≡ Some m → rest ≡ drop (n + 1) text → TakesMoment text m rest
+TakesMoment-at text n m rest space read after = record {
+  cut = record { before = take n text; after = drop (n + 1) text };
+  is = cut_there text n space.0 space.1 (MomentText-lacks m (take n text) (moment_of-text (take n text) m read));
+  moment = sym read;
   rest_is = after;
 }
 
 -- the first field of a text that has a moment there
-record MomentThere (text : List ℕ) (m : ℕ) : Type 0 where
-  room : 20 < length text
-  space : slice_index text 20 ≡ 32
-  read : moment_of (take 20 text) ≡ Some m
+record MomentThere (text : List ℕ) (n m : ℕ) : Type 0 where
+  space : HasSpace text n
+  place : (n ≡ 20) ⊎ (n ≡ 24)
+  read : moment_of (take n text) ≡ Some m
 
 moment_there : (text : List ℕ) (cut : Cut) (m : ℕ) → Some cut ≡ cut_at 32 text → moment_of cut.before ≡ Some m
-    → MomentThere text m
+    → MomentThere text (length cut.before) m
 moment_there text cut m e read =
     let t = cut_text text cut e in
-    let len = moment_of-length cut.before m read in
     record {
-      room = omega (arith, t.room, len);
-      space = ap (λ n. slice_index text n) (sym len) ∙ t.space;
-      read = ap (λ n. moment_of (take n text)) (sym len) ∙ ap moment_of t.front ∙ read;
+      space = (t.room, t.space);
+      place = moment_of-length cut.before m read;
+      read = ap moment_of t.front ∙ read;
     }
 
-pub TakesNoMoment-short : (text : List ℕ) → length text ≤ 20 → TakesNoMoment text
-TakesNoMoment-short text h = λ cut e. none_if (moment_of cut.before) (λ m read.
-    let there = moment_there text cut m e read in omega (arith, there.room, h))
+pub TakesNoMoment-nowhere : (text : List ℕ) → EndsNoMoment text → TakesNoMoment text
+TakesNoMoment-nowhere text none = λ cut e. none_if (moment_of cut.before) (λ m read.
+    let there = moment_there text cut m e read in nowhere there.place there.space)
+  where
+    nowhere : {n : ℕ} → (n ≡ 20) ⊎ (n ≡ 24) → HasSpace text n → ⊥
+    nowhere (inl e) space = none.0 (subst (HasSpace text) e space)
+    nowhere (inr e) space = none.1 (subst (HasSpace text) e space)
 
-pub TakesNoMoment-other : (text : List ℕ) → slice_index text 20 ≢ 32 → TakesNoMoment text
-TakesNoMoment-other text h = λ cut e. none_if (moment_of cut.before) (λ m read.
-    let there = moment_there text cut m e read in h there.space)
+-- where a space ends a moment, no other ends it
+pub TakesNoMoment-unread : (text : List ℕ) (n : ℕ) → EndsMoment text n
+    → None ≡ moment_of (take n text) → TakesNoMoment text
+TakesNoMoment-unread text n ends none = λ cut e. none_if (moment_of cut.before) (λ m read.
+    let there = moment_there text cut m e read in other ends there.place there.space there.read)
+  where
+    same : {k m : ℕ} → n ≡ k → moment_of (take k text) ≡ Some m → ⊥
+    same {k} {m} e read =
+        let no : None ≡ Some m = none ∙ ap (λ k. moment_of (take k text)) e ∙ read in cc
 
--- what is read where a space stands behind 20 bytes
-pub takes_as_read : (text : List ℕ) (r : Option ℕ) → 20 < length text → slice_index text 20 ≡ 32
-    → r ≡ moment_of (take 20 text)
-    → MatchOption r (TakesNoMoment text) (λ m. (21 ≤ length text) × TakesMoment text m (drop 21 text))
-takes_as_read text None room space h = λ cut e. none_if (moment_of cut.before) (λ m read.
-    let there = moment_there text cut m e read in
-    let no : None ≡ Some m = h ∙ there.read in cc)
-takes_as_read text (Some m) room space h = (omega arith, TakesMoment-at text m (drop 21 text) room space h refl)
+    other : {k m : ℕ} → EndsMoment text n → (k ≡ 20) ⊎ (k ≡ 24) → HasSpace text k
+        → moment_of (take k text) ≡ Some m → ⊥
+    other (inl short) (inl e) space read = same (short.0 ∙ sym e) read
+    other (inr long) (inr e) space read = same (long.0 ∙ sym e) read
+    other (inr long) (inl e) space read = long.2 (subst (HasSpace text) e space)
+    other {k} {m} (inl short) (inr e) space read =
+        let there = subst (HasSpace text) e space in
+        moment_of-inside (take 24 text) m (ap (λ k. moment_of (take k text)) (sym e) ∙ read)
+        (length-take-le 24 text (omega (arith, there.0)))
+        (get_or-take 24 text 20 0 (omega arith) ∙ short.1.1)
 
 -- ---- a name
 

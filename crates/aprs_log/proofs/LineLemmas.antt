@@ -1,18 +1,20 @@
 -- Lemmas on the lines of a log.
-use Rattle.std.proofs.Common.{◌≡◌, ◌↔◌, ℕ, ◌<◌, ◌≤◌, ◌&&◌, Bool, true, false, List, [], ◌∷◌, ◌++◌, length, Option, None, Some, Result, Ok, Err, IsOk, cond, refl, arith, sym, ap, ◌∙◌, subst, append_assoc, nat_lt}
+use Rattle.std.proofs.Common.{◌≡◌, ◌↔◌, ℕ, ◌/◌, ◌%◌, ◌<◌, ◌≤◌, ◌&&◌, Bool, true, false, List, [], ◌∷◌, ◌++◌, length, Option, None, Some, Result, Ok, Err, IsOk, cond, refl, arith, sym, ap, ◌∙◌, subst, append_assoc, nat_lt}
 use Rattle.std.specs.List.{list_all}
 use Rattle.std.proofs.lemmas.Bool.Decides.{nat_tests}
 use Rattle.hex.specs.Hex.{decode_of}
 use Rattle.hex.specs.declared.error.FromHexError.{FromHexError}
 use Rattle.aprs_io.specs.Cut.{Cut, cut_at, is_byte}
-use Rattle.aprs_log.specs.Moment.{Civil, civil_text, MomentText, moment_of}
+use Rattle.aprs_log.specs.declared.moment_form.MomentForm.{MomentForm}
+use Rattle.aprs_log.specs.declared.moment_form.MomentForm.TheVariants.{Seconds, Millis}
+use Rattle.aprs_log.specs.Moment.{Civil, two_digits, fraction_text, civil_text, MomentText, moment_of}
 use Rattle.aprs_log.specs.Receiver.{IsName, is_name, is_name_byte}
 use Rattle.aprs_log.specs.Line.{LineSyntax, frame_in, heard_or_passed, line_of_bytes, line_after_moment, line_of_cut, line_of}
 use Rattle.aprs_log.specs.declared.fault.LineFault.{LineFault}
 use Rattle.aprs_log.specs.declared.fault.LineFault.TheVariants as fault
 use Rattle.aprs_log.specs.declared.line.Line.{Line}
 use Rattle.aprs_io.proofs.CutLemmas.{Lacks, cut_at-append, cut_at-parts}
-use Rattle.aprs_log.proofs.MomentLemmas.{FitsText, IsCivil-fits, moment_of-text, text-moment_of}
+use Rattle.aprs_log.proofs.MomentLemmas.{moment_of-text, text-moment_of}
 
 -- ---- a line's first two fields have no space
 
@@ -35,69 +37,34 @@ names_lack (b ∷ r) h =
 pub IsName-lacks : (r : List ℕ) → IsName r → Lacks 32 r
 IsName-lacks r h = names_lack r (both _ (list_all is_name_byte r) h).1
 
-civil_text-lacks : (c : Civil) → FitsText c → Lacks 32 (civil_text c)
-civil_text-lacks c h = (
-  not_space _ (omega arith),
-  (
-    not_space _ (omega arith),
-    (
-      not_space _ (omega arith),
-      (
-        not_space _ (omega arith),
-        (
-          refl,
-          (
-            not_space _ (omega arith),
-            (
-              not_space _ (omega arith),
-              (
-                refl,
-                (
-                  not_space _ (omega arith),
-                  (
-                    not_space _ (omega arith),
-                    (
-                      refl,
-                      (
-                        not_space _ (omega arith),
-                        (
-                          not_space _ (omega arith),
-                          (
-                            refl,
-                            (
-                              not_space _ (omega arith),
-                              (
-                                not_space _ (omega arith),
-                                (
-                                  refl,
-                                  (
-                                    not_space _ (omega arith),
-                                    (
-                                      not_space _ (omega arith),
-                                      (refl, tt),
-                                    ),
-                                  ),
-                                ),
-                              ),
-                            ),
-                          ),
-                        ),
-                      ),
-                    ),
-                  ),
-                ),
-              ),
-            ),
-          ),
-        ),
-      ),
-    ),
-  ),
-)
+-- a text lacks spaces if its parts do
+lacks_pair : (n : ℕ) (xs : List ℕ) → Lacks 32 xs → Lacks 32 (two_digits n ++ xs)
+lacks_pair n xs k = (not_space _ (omega arith), (not_space _ (omega arith), k))
+
+lacks_end : (form : MomentForm) (n : ℕ) → Lacks 32 (fraction_text form n ++ 90 ∷ [])
+lacks_end Seconds n = (refl, tt)
+lacks_end Millis n =
+    (refl, (not_space _ (omega arith), lacks_pair (n % 100) (90 ∷ []) (refl, tt)))
+
+civil_text-lacks : (form : MomentForm) (c : Civil) (n : ℕ) → Lacks 32 (civil_text form c n)
+civil_text-lacks form c n =
+    let end = fraction_text form n ++ 90 ∷ [] in
+    let second = 58 ∷ two_digits c.second ++ end in
+    let minute = 58 ∷ two_digits c.minute ++ second in
+    let hour = 84 ∷ two_digits c.hour ++ minute in
+    let day = 45 ∷ two_digits c.day ++ hour in
+    let month = 45 ∷ two_digits c.month ++ day in
+    let s : Lacks 32 second = (refl, lacks_pair c.second end (lacks_end form n)) in
+    let m : Lacks 32 minute = (refl, lacks_pair c.minute second s) in
+    let h : Lacks 32 hour = (refl, lacks_pair c.hour minute m) in
+    let d : Lacks 32 day = (refl, lacks_pair c.day hour h) in
+    let o : Lacks 32 month = (refl, lacks_pair c.month day d) in
+    lacks_pair (c.year / 100) (two_digits (c.year % 100) ++ month)
+    (lacks_pair (c.year % 100) month o)
 
 pub MomentText-lacks : (m : ℕ) (t : List ℕ) → MomentText m t → Lacks 32 t
-MomentText-lacks m t h = subst (Lacks 32) (sym h.spelled)
-    (civil_text-lacks h.civil (IsCivil-fits h.civil h.real))
+MomentText-lacks m t h = subst (Lacks 32) (sym h.1.spelled)
+    (civil_text-lacks h.0 h.1.civil h.1.millis)
 
 -- ---- a line's fields and its answer
 

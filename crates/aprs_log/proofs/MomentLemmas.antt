@@ -1,13 +1,16 @@
 -- Lemmas on moments and their texts.
-use Rattle.std.proofs.Common.{◌≡◌, ℕ, ◌+◌, ◌*◌, ◌/◌, ◌%◌, ◌<◌, ◌≤◌, ◌↔◌, Bool, true, false, List, Option, None, Some, pos, ◌+ℤ◌, ◌*ℤ◌, unsigned_abs, refl, arith, sym, ap, ◌∙◌, ◌&&◌, cond, subst}
+use Rattle.std.proofs.Common.{◌≡◌, ℕ, ◌+◌, ◌*◌, ◌/◌, ◌%◌, ◌<◌, ◌≤◌, ◌↔◌, nat_lt, Bool, true, false, List, Option, None, Some, pos, ◌+ℤ◌, ◌*ℤ◌, unsigned_abs, refl, arith, sym, ap, ◌∙◌, ◌&&◌, cond, subst}
+use Rattle.std.proofs.lemmas.Bool.{and_from, lt-ltb, ltb-true}
 use Rattle.std.proofs.lemmas.Bool.Decides.{nat_tests}
 use Rattle.std.specs.Str.{bytes_eq}
 use Rattle.std.proofs.lemmas.Slice.Eq.{bytes_eq-Decides}
 use Rattle.jiff_core.specs.Calendar.{days_from_civil, days_in_month}
 use Rattle.jiff_core.proofs.SignedLemmas.{signed_arith}
 use Rattle.aprs_log.proofs.Days.{IsDay-number, one_date, NthDay, day_after-is}
-use Rattle.aprs_log.specs.Places.{near_civil, near_digit}
-use Rattle.aprs_log.specs.Moment.{Civil, civil_at, civil_text, digit_of, IsCivil, is_date, is_time, is_civil, second_of_day, seconds_of, MomentText, moment_of, day_after, civil_after, moment_text}
+use Rattle.aprs_log.specs.declared.moment_form.MomentForm.{MomentForm}
+use Rattle.aprs_log.specs.declared.moment_form.MomentForm.TheVariants.{Seconds, Millis}
+use Rattle.aprs_log.specs.Places.{near_civil, near_digit, near_millis}
+use Rattle.aprs_log.specs.Moment.{Civil, civil_at, civil_text, digit_of, IsCivil, is_date, is_time, is_civil, is_real, second_of_day, seconds_of, room_of, MomentTextIn, MomentText, millis_at, moment_in, form_of, moment_of, day_after, civil_after, moment_text_in}
 
 -- a civil time whose parts have as many digits as a text has room for
 pub record FitsText (c : Civil) : Type 0 where
@@ -59,14 +62,34 @@ same_civil : (y m d h n s y' m' d' h' n' s' : ℕ) → y ≡ y' → m ≡ m' →
 same_civil y m d h n s y' m' d' h' n' s' year month day hour minute second = cc
 
 -- the parts of a text stand at their places
-civil_at-civil_text : (c : Civil) → civil_at (civil_text c) ≡ c
-civil_at-civil_text c = same_civil _ _ _ _ _ _ _ _ _ _ _ _ (pair-four_digits c.year)
+civil_at-civil_text : (form : MomentForm) (c : Civil) (n : ℕ) → civil_at (civil_text form c n) ≡ c
+civil_at-civil_text form c n = same_civil _ _ _ _ _ _ _ _ _ _ _ _ (pair-four_digits c.year)
     (pair-two_digits c.month) (pair-two_digits c.day) (pair-two_digits c.hour)
     (pair-two_digits c.minute) (pair-two_digits c.second)
 
+millis_at-civil_text : (form : MomentForm) (c : Civil) (n : ℕ) → n < room_of form
+    → millis_at form (civil_text form c n) ≡ n
+millis_at-civil_text Seconds c n h = omega arith
+millis_at-civil_text Millis c n h =
+    let a = pair-two_digits (n % 100) in
+    omega (arith, a)
+
 -- the code finds them there
-near_civil-civil_text : (c : Civil) → FitsText c → near_civil (civil_text c) ≡ c
-near_civil-civil_text c h = same_civil _ _ _ _ _ _ _ _ _ _ _ _ (near-four_digits c.year h.year)
+near_millis-civil_text : (form : MomentForm) (c : Civil) (n : ℕ) → n < room_of form
+    → near_millis form (civil_text form c n) ≡ n
+near_millis-civil_text Seconds c n h = omega arith
+near_millis-civil_text Millis c n h =
+    let a : near_digit (48 + n / 100) ≡ n / 100 = omega arith in
+    let b = near-two_digits (n % 100) (omega arith) in
+    omega (arith, a, b)
+
+pub near_millis-below : (form : MomentForm) (t : List ℕ) → near_millis form t < room_of form
+near_millis-below Seconds t = omega arith
+near_millis-below Millis t = omega arith
+
+near_civil-civil_text : (form : MomentForm) (c : Civil) (n : ℕ) → FitsText c
+    → near_civil (civil_text form c n) ≡ c
+near_civil-civil_text form c n h = same_civil _ _ _ _ _ _ _ _ _ _ _ _ (near-four_digits c.year h.year)
     (near-two_digits c.month h.month) (near-two_digits c.day h.day) (near-two_digits c.hour h.hour)
     (near-two_digits c.minute h.minute) (near-two_digits c.second h.second)
 
@@ -118,6 +141,20 @@ is_civil-IsCivil c h =
 IsCivil-is_civil : (c : Civil) → IsCivil c → is_civil c ≡ true
 IsCivil-is_civil c h = grind (arith, nat_tests)
 
+-- a real time, with milliseconds that the form tells apart
+record Real (form : MomentForm) (c : Civil) (n : ℕ) : Type 0 where
+  civil : IsCivil c
+  below : n < room_of form
+
+is_real-Real : (form : MomentForm) (c : Civil) (n : ℕ) → is_real form c n ≡ true → Real form c n
+is_real-Real form c n h =
+    let p = both (is_civil c) (nat_lt n (room_of form)) h in
+    record { civil = is_civil-IsCivil c p.0; below = ltb-true _ _ p.1 }
+
+is_real-true : (form : MomentForm) (c : Civil) (n : ℕ) → IsCivil c → n < room_of form
+    → is_real form c n ≡ true
+is_real-true form c n h below = and_from _ _ (IsCivil-is_civil c h) (lt-ltb _ _ below)
+
 -- ---- the text of a moment both ways
 
 -- a civil time's seconds are those of its day and of the days before it
@@ -134,27 +171,43 @@ seconds_of-number c h =
 pos_same : (a b : ℕ) → pos a ≡ pos b → a ≡ b
 pos_same a b e = cc
 
-number-seconds_of : (m : ℕ) (c : Civil) → IsCivil c
-    → pos m ≡ (days_from_civil (pos c.year) c.month c.day *ℤ pos 86400) +ℤ pos (second_of_day c)
-    → m ≡ seconds_of c
-number-seconds_of m c h e = pos_same m (seconds_of c) (e ∙ sym (seconds_of-number c h))
+-- the number of a moment
+number : (c : Civil) (n : ℕ) → IsCivil c
+    → pos (seconds_of c * 1000 + n)
+    ≡ (((days_from_civil (pos c.year) c.month c.day *ℤ pos 86400)
+    +ℤ pos (second_of_day c)) *ℤ pos 1000) +ℤ pos n
+number c n h =
+    let s = seconds_of c in
+    let e : pos (s * 1000 + n) ≡ (pos s *ℤ pos 1000) +ℤ pos n = omega (arith, signed_arith) in
+    e ∙ ap (λ z. (z *ℤ pos 1000) +ℤ pos n) (seconds_of-number c h)
+
+number-back : (m : ℕ) (c : Civil) (n : ℕ) → IsCivil c
+    → pos m ≡ (((days_from_civil (pos c.year) c.month c.day *ℤ pos 86400)
+    +ℤ pos (second_of_day c)) *ℤ pos 1000) +ℤ pos n
+    → m ≡ seconds_of c * 1000 + n
+number-back m c n h e = pos_same m (seconds_of c * 1000 + n) (e ∙ sym (number c n h))
 
 some_if : (b : Bool) (x m : ℕ) → cond b (Some x) None ≡ Some m → (b ≡ true) × (x ≡ m)
 some_if true x m e = (refl, cc)
 some_if false x m e = absurd cc
 
-pub moment_of-text : (t : List ℕ) (m : ℕ) → moment_of t ≡ Some m → MomentText m t
-unfolding moment_of
-moment_of-text t m e =
+pub moment_in-text : (form : MomentForm) (t : List ℕ) (m : ℕ) → moment_in form t ≡ Some m
+    → MomentTextIn form m t
+unfolding moment_in
+moment_in-text form t m e =
     let c = civil_at t in
-    let found = some_if (is_civil c && bytes_eq (civil_text c) t) (seconds_of c) m e in
-    let parts = both (is_civil c) (bytes_eq (civil_text c) t) found.0 in
-    let real = is_civil-IsCivil c parts.0 in
+    let n = millis_at form t in
+    let found = some_if (is_real form c n && bytes_eq (civil_text form c n) t)
+    (seconds_of c * 1000 + n) m e in
+    let parts = both (is_real form c n) (bytes_eq (civil_text form c n) t) found.0 in
+    let real = is_real-Real form c n parts.0 in
     record {
       civil = c;
-      real = real;
-      number = ap (λ n. pos n) (sym found.1) ∙ seconds_of-number c real;
-      spelled = sym ((bytes_eq-Decides (civil_text c) t).0 parts.1);
+      millis = n;
+      real = real.civil;
+      below = real.below;
+      number = ap (λ k. pos k) (sym found.1) ∙ number c n real.civil;
+      spelled = sym ((bytes_eq-Decides (civil_text form c n) t).0 parts.1);
     }
 
 if_both : (a b : Bool) (x : ℕ) → a ≡ true → b ≡ true → cond (a && b) (Some x) None ≡ Some x
@@ -162,22 +215,41 @@ if_both true true x p q = refl
 if_both true false x p q = absurd cc
 if_both false b x p q = absurd cc
 
-pub moment_of-civil : (c : Civil) → IsCivil c → moment_of (civil_text c) ≡ Some (seconds_of c)
-unfolding moment_of
-moment_of-civil c h =
-    let t = civil_text c in
-    let e = civil_at-civil_text c in
-    let there : moment_of t
-    ≡ (cond (is_civil c && bytes_eq (civil_text c) t) (Some (seconds_of c)) None)
-    = ap (λ c. cond (is_civil c && bytes_eq (civil_text c) t) (Some (seconds_of c)) None) e in
-    there ∙ if_both (is_civil c) (bytes_eq t t) (seconds_of c) (IsCivil-is_civil c h)
-    ((bytes_eq-Decides t t).1 refl)
+pub moment_in-civil : (form : MomentForm) (c : Civil) (n : ℕ) → IsCivil c → n < room_of form
+    → moment_in form (civil_text form c n) ≡ Some (seconds_of c * 1000 + n)
+unfolding moment_in
+moment_in-civil form c n h below =
+    let t = civil_text form c n in
+    let e = civil_at-civil_text form c n in
+    let f = millis_at-civil_text form c n below in
+    let there : moment_in form t
+    ≡ (cond (is_real form c n && bytes_eq (civil_text form c n) t) (Some (seconds_of c * 1000 + n)) None)
+    = ap (λ d. cond (is_real form d (millis_at form t) && bytes_eq (civil_text form d (millis_at form t)) t)
+    (Some (seconds_of d * 1000 + millis_at form t)) None) e
+    ∙ ap (λ k. cond (is_real form c k && bytes_eq (civil_text form c k) t)
+    (Some (seconds_of c * 1000 + k)) None) f in
+    there ∙ if_both (is_real form c n) (bytes_eq t t) (seconds_of c * 1000 + n)
+    (is_real-true form c n h below) ((bytes_eq-Decides t t).1 refl)
+
+pub text-moment_in : (form : MomentForm) (t : List ℕ) (m : ℕ) → MomentTextIn form m t
+    → moment_in form t ≡ Some m
+text-moment_in form t m h = ap (moment_in form) h.spelled
+    ∙ moment_in-civil form h.civil h.millis h.real h.below
+    ∙ ap (λ n. Some n) (sym (number-back m h.civil h.millis h.real h.number))
+
+-- the length of a text says its form
+form_of-text : (form : MomentForm) (m : ℕ) (t : List ℕ) → MomentTextIn form m t → form_of t ≡ form
+form_of-text Seconds m t h = ap form_of h.spelled
+form_of-text Millis m t h = ap form_of h.spelled
+
+pub moment_of-text : (t : List ℕ) (m : ℕ) → moment_of t ≡ Some m → MomentText m t
+moment_of-text t m e = (form_of t, moment_in-text (form_of t) t m e)
 
 pub text-moment_of : (t : List ℕ) (m : ℕ) → MomentText m t → moment_of t ≡ Some m
-text-moment_of t m h = ap moment_of h.spelled ∙ moment_of-civil h.civil h.real
-    ∙ ap (λ n. Some n) (sym (number-seconds_of m h.civil h.real h.number))
+text-moment_of t m h =
+    ap (λ f. moment_in f t) (form_of-text h.0 m t h.1) ∙ text-moment_in h.0 t m h.1
 
--- a moment has one text
+-- a moment has one text in each form
 parts_of_day : (a b : Civil) → IsCivil a → IsCivil b → seconds_of a ≡ seconds_of b
     → (unsigned_abs (days_from_civil (pos a.year) a.month a.day)
     ≡ unsigned_abs (days_from_civil (pos b.year) b.month b.day))
@@ -193,11 +265,22 @@ one_civil a b h k e =
     ∙ ap (λ n. pos n) parts.0 ∙ y) in
     same_civil _ _ _ _ _ _ _ _ _ _ _ _ day.year day.month day.day parts.1 parts.2 parts.3
 
-pub one_text : (m : ℕ) (t u : List ℕ) → MomentText m t → MomentText m u → t ≡ u
-one_text m t u h k =
-    let same = sym (number-seconds_of m h.civil h.real h.number)
-    ∙ number-seconds_of m k.civil k.real k.number in
-    h.spelled ∙ ap civil_text (one_civil h.civil k.civil h.real k.real same) ∙ sym k.spelled
+split : (a b n k : ℕ) → n < 1000 → k < 1000 → a * 1000 + n ≡ b * 1000 + k → (a ≡ b) × (n ≡ k)
+split a b n k h g e = (omega arith, omega arith)
+
+pub room_most : (form : MomentForm) (n : ℕ) → n < room_of form → n < 1000
+room_most Seconds n h = omega arith
+room_most Millis n h = h
+
+pub one_text : (form : MomentForm) (m : ℕ) (t u : List ℕ) → MomentTextIn form m t
+    → MomentTextIn form m u → t ≡ u
+one_text form m t u h k =
+    let same = sym (number-back m h.civil h.millis h.real h.number)
+    ∙ number-back m k.civil k.millis k.real k.number in
+    let parts = split (seconds_of h.civil) (seconds_of k.civil) h.millis k.millis
+    (room_most form h.millis h.below) (room_most form k.millis k.below) same in
+    h.spelled ∙ ap (λ c. civil_text form c h.millis) (one_civil h.civil k.civil h.real k.real parts.0)
+    ∙ ap (civil_text form k.civil) parts.1 ∙ sym k.spelled
 
 -- ---- what the code knows of a text
 
@@ -206,42 +289,49 @@ no_if true true x h = absurd (h refl refl)
 no_if true false x h = refl
 no_if false b x h = refl
 
--- the places hold another text
-pub moment_of-unread : (t : List ℕ) → ¬ (civil_text (civil_at t) ≡ t) → None ≡ moment_of t
-unfolding moment_of
-moment_of-unread t h = let c = civil_at t in
-    sym (no_if (is_civil c) (bytes_eq (civil_text c) t) (seconds_of c)
-    (λ _ e. h ((bytes_eq-Decides (civil_text c) t).0 e)))
-
 -- the places hold no real time
-pub moment_of-unreal : (c : Civil) → ¬ IsCivil c → None ≡ moment_of (civil_text c)
-unfolding moment_of
-moment_of-unreal c h = let t = civil_text c in let at = civil_at t in
-    sym (no_if (is_civil at) (bytes_eq (civil_text at) t) (seconds_of at)
-    (λ e _. h (subst IsCivil (civil_at-civil_text c) (is_civil-IsCivil at e))))
+pub moment_in-unreal : (form : MomentForm) (c : Civil) (n : ℕ) → ¬ IsCivil c
+    → None ≡ moment_in form (civil_text form c n)
+unfolding moment_in
+moment_in-unreal form c n h = let t = civil_text form c n in let at = civil_at t in
+    let k = millis_at form t in
+    sym (no_if (is_real form at k) (bytes_eq (civil_text form at k) t) (seconds_of at * 1000 + k)
+    (λ e _. h (subst IsCivil (civil_at-civil_text form c n) (is_real-Real form at k e).civil)))
 
 -- the code finds no text at the places
-pub moment_of-unfound : (t : List ℕ) → ¬ (civil_text (near_civil t) ≡ t) → None ≡ moment_of t
-unfolding moment_of
-moment_of-unfound t h = let c = civil_at t in
-    sym (no_if (is_civil c) (bytes_eq (civil_text c) t) (seconds_of c)
-    (λ e same. h (found c (is_civil-IsCivil c e) ((bytes_eq-Decides (civil_text c) t).0 same))))
+pub moment_in-unfound : (form : MomentForm) (t : List ℕ)
+    → ¬ (civil_text form (near_civil t) (near_millis form t) ≡ t) → None ≡ moment_in form t
+unfolding moment_in
+moment_in-unfound form t h = let c = civil_at t in let n = millis_at form t in
+    sym (no_if (is_real form c n) (bytes_eq (civil_text form c n) t) (seconds_of c * 1000 + n)
+    (λ e same. h (found c n (is_real-Real form c n e) ((bytes_eq-Decides (civil_text form c n) t).0 same))))
   where
-    found : (c : Civil) → IsCivil c → civil_text c ≡ t → civil_text (near_civil t) ≡ t
-    found c real is = ap (λ l. civil_text (near_civil l)) (sym is)
-        ∙ ap civil_text (near_civil-civil_text c (IsCivil-fits c real)) ∙ is
+    found : (c : Civil) (n : ℕ) → Real form c n → civil_text form c n ≡ t
+        → civil_text form (near_civil t) (near_millis form t) ≡ t
+    found c n real is =
+        ap (λ l. civil_text form (near_civil l) (near_millis form l)) (sym is)
+        ∙ ap (λ d. civil_text form d (near_millis form (civil_text form c n)))
+        (near_civil-civil_text form c n (IsCivil-fits c real.civil))
+        ∙ ap (civil_text form c) (near_millis-civil_text form c n real.below) ∙ is
+
+pub IsExactIn : (form : MomentForm) (t : List ℕ) (r : Option ℕ) → r ≡ moment_in form t → (m : ℕ)
+    → (r ≡ Some m) ↔ MomentTextIn form m t
+IsExactIn form t r e m =
+    (λ h. moment_in-text form t m (sym e ∙ h), λ h. e ∙ text-moment_in form t m h)
 
 pub IsExact : (t : List ℕ) (r : Option ℕ) → r ≡ moment_of t → (m : ℕ)
     → (r ≡ Some m) ↔ MomentText m t
 IsExact t r e m = (λ h. moment_of-text t m (sym e ∙ h), λ h. e ∙ text-moment_of t m h)
 
 -- the text of a real time
-pub civil_text-moment : (c : Civil) (m : ℕ) → IsCivil c → seconds_of c ≡ m
-    → MomentText m (civil_text c)
-civil_text-moment c m h e = record {
+pub civil_text-moment : (form : MomentForm) (c : Civil) (n m : ℕ) → IsCivil c → n < room_of form
+    → seconds_of c * 1000 + n ≡ m → MomentTextIn form m (civil_text form c n)
+civil_text-moment form c n m h below e = record {
   civil = c;
+  millis = n;
   real = h;
-  number = ap (λ n. pos n) (sym e) ∙ seconds_of-number c h;
+  below = below;
+  number = ap (λ k. pos k) (sym e) ∙ number c n h;
   spelled = refl;
 }
 
@@ -250,27 +340,41 @@ civil_text-moment c m h e = record {
 civil_after-day : (m : ℕ) → m ≤ 4102444799 → NthDay (m / 86400) (day_after (m / 86400))
 civil_after-day m h = day_after-is (m / 86400) (omega arith)
 
--- each moment has the text that the function gives
-pub moment_text-is : (m : ℕ) → m ≤ 4102444799 → MomentText m (moment_text m)
-unfolding moment_text
-moment_text-is m h =
+after_real : (m : ℕ) → m ≤ 4102444799 → IsCivil (civil_after m)
+after_real m h = record {
+  date = (civil_after-day m h).date;
+  hour = omega arith;
+  minute = omega arith;
+  second = omega arith;
+}
+
+after_seconds : (m : ℕ) → m ≤ 4102444799 → seconds_of (civil_after m) ≡ m
+after_seconds m h =
     let n = m / 86400 in
     let s = m % 86400 in
     let d = civil_after-day m h in
     let sum : 86400 * n + (s / 3600 * 3600 + s / 60 % 60 * 60 + s % 60) ≡ m = omega arith in
-    let number : pos (86400 * n + (s / 3600 * 3600 + s / 60 % 60 * 60 + s % 60))
-    ≡ (pos n *ℤ pos 86400) +ℤ pos (s / 3600 * 3600 + s / 60 % 60 * 60 + s % 60)
-    = omega (arith, signed_arith) in
-    record {
-      civil = civil_after m;
-      real = record {
-        date = d.date;
-        hour = omega arith;
-        minute = omega arith;
-        second = omega arith;
-      };
-      number = ap (λ k. pos k) (sym sum) ∙ number
-          ∙ ap (λ z. (z *ℤ pos 86400) +ℤ pos (s / 3600 * 3600 + s / 60 % 60 * 60 + s % 60))
-          d.number;
-      spelled = refl;
-    }
+    ap (λ k. 86400 * k + (s / 3600 * 3600 + s / 60 % 60 * 60 + s % 60))
+    (pos_same _ n (IsDay-number (day_after n).year (day_after n).month (day_after n).day d.date
+    ∙ sym d.number)) ∙ sum
+
+-- each moment that the form can tell has the text that the function gives
+pub moment_text-is : (form : MomentForm) (m : ℕ) → m ≤ 4102444799999 → m % 1000 < room_of form
+    → MomentTextIn form m (moment_text_in form m)
+unfolding moment_text_in
+moment_text-is form m h below =
+    civil_text-moment form (civil_after (m / 1000)) (m % 1000) m
+    (after_real (m / 1000) (omega arith)) below
+    (whole (m / 1000) (m % 1000) (seconds_of (civil_after (m / 1000)))
+    (after_seconds (m / 1000) (omega arith)) (omega arith)) where
+      whole : (q r s : ℕ) → s ≡ q → q * 1000 + r ≡ m → s * 1000 + r ≡ m
+      whole q r s e f = omega arith
+
+-- a form's text is of a moment that the form can tell
+pub millis_told : (form : MomentForm) (m : ℕ) (t : List ℕ) → MomentTextIn form m t
+    → m % 1000 < room_of form
+millis_told form m t h =
+    left (seconds_of h.civil) h.millis (room_of form) (room_most form h.millis h.below) h.below
+    (number-back m h.civil h.millis h.real h.number) where
+      left : (s n r : ℕ) → n < 1000 → n < r → m ≡ s * 1000 + n → m % 1000 < r
+      left s n r a b e = omega arith

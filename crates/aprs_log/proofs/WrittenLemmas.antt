@@ -46,18 +46,18 @@ put_cut all rest plain after before now next mark free cut was is then =
 
 -- ---- a line's moment
 
-begins : (line text more : List ℕ) (n : ℕ) → take n line ≡ text ++ more → length text ≡ 20
-    → take 20 line ≡ text
+begins : (line text more : List ℕ) (n : ℕ) → take n line ≡ text ++ more → length text ≡ 24
+    → take 24 line ≡ text
 begins line text more n e len =
     let most : length (take n line) ≤ n = simp length-take (omega arith) in
     let size : length (text ++ more) ≡ length text + length more = length-append text more in
-    let least : 20 ≤ n = omega (arith, ap length e, size, len) in
-    sym (take-take 20 n line least) ∙ ap (λ l. take 20 l) e
+    let least : 24 ≤ n = omega (arith, ap length e, size, len) in
+    sym (take-take 24 n line least) ∙ ap (λ l. take 24 l) e
     ∙ ap (λ k. take k (text ++ more)) (sym len) ∙ take-append_seam text more
 
 -- a line that was put together begins with its moment's text
 pub begins_with_moment : (line : List ℕ) (n : ℕ) (x : Heard) → take n line ≡ written_line x ++ 10 ∷ []
-    → length (moment_text x.moment) ≡ 20 → take 20 line ≡ moment_text x.moment
+    → length (moment_text x.moment) ≡ 24 → take 24 line ≡ moment_text x.moment
 begins_with_moment line n x e len =
     let text = moment_text x.moment in
     let name = 32 ∷ x.receiver in

@@ -1,7 +1,9 @@
--- Moments and their texts.
-use Rattle.std.specs.Prelude.{◌≡◌, ℕ, zero, suc, ◌+◌, ◌-◌, ◌*◌, ◌/◌, ◌%◌, ◌<◌, ◌≤◌, ◌&&◌, Bool, if◌then◌else◌, List, [], ◌∷◌, ◌++◌, slice_index, Option, None, Some, nat_le, nat_lt, pos, unsigned_abs, ◌+ℤ◌, ◌*ℤ◌}
+-- Moments, in milliseconds, and their texts.
+use Rattle.std.specs.Prelude.{◌≡◌, ℕ, zero, suc, ◌+◌, ◌-◌, ◌*◌, ◌/◌, ◌%◌, ◌<◌, ◌≤◌, ◌==◌, ◌&&◌, Bool, if◌then◌else◌, List, [], ◌∷◌, ◌++◌, length, slice_index, Option, None, Some, nat_le, nat_lt, pos, unsigned_abs, ◌+ℤ◌, ◌*ℤ◌}
 use Rattle.std.specs.Str.{bytes_eq}
 use Rattle.jiff_core.specs.Calendar.{IsDate, days_from_civil, days_in_month}
+use Rattle.aprs_log.specs.declared.moment_form.MomentForm.{MomentForm}
+use Rattle.aprs_log.specs.declared.moment_form.MomentForm.TheVariants.{Seconds, Millis}
 
 -- a date of the civil calendar and a time of its day, in UTC
 pub record Civil : Type 0 where
@@ -20,10 +22,25 @@ two_digits n = (48 + n / 10) ∷ (48 + n % 10) ∷ []
 abbrev pub four_digits : ℕ → List ℕ
 four_digits n = two_digits (n / 100) ++ two_digits (n % 100)
 
--- YYYY-MM-DDTHH:MM:SSZ
-abbrev pub civil_text : Civil → List ℕ
-civil_text c = four_digits c.year ++ 45 ∷ two_digits c.month ++ 45 ∷ two_digits c.day
-    ++ 84 ∷ two_digits c.hour ++ 58 ∷ two_digits c.minute ++ 58 ∷ two_digits c.second ++ 90 ∷ []
+-- the hundreds, the tens and the ones of a number below 1,000
+abbrev pub three_digits : ℕ → List ℕ
+three_digits n = (48 + n / 100) ∷ two_digits (n % 100)
+
+-- what stands between the seconds and the Z
+abbrev pub fraction_text : MomentForm → ℕ → List ℕ
+fraction_text Seconds n = []
+fraction_text Millis n = 46 ∷ three_digits n
+
+-- YYYY-MM-DDTHH:MM:SSZ, or with .mmm before the Z
+abbrev pub civil_text : MomentForm → Civil → ℕ → List ℕ
+civil_text form c n = four_digits c.year ++ 45 ∷ two_digits c.month ++ 45 ∷ two_digits c.day
+    ++ 84 ∷ two_digits c.hour ++ 58 ∷ two_digits c.minute ++ 58 ∷ two_digits c.second
+    ++ fraction_text form n ++ 90 ∷ []
+
+-- how many moments of one second a form tells apart
+abbrev pub room_of : MomentForm → ℕ
+room_of Seconds = 1
+room_of Millis = 1000
 
 -- a date of the calendar, in one of the years 1970 to 2099
 abbrev pub IsDay : ℕ → ℕ → ℕ → Type 0
@@ -39,16 +56,23 @@ pub record IsCivil (c : Civil) : Type 0 where
 abbrev pub second_of_day : Civil → ℕ
 second_of_day c = c.hour * 3600 + c.minute * 60 + c.second
 
--- t is the text of the moment m, which is 86,400 times the day number of the civil date (0 for
--- 1970-01-01) and the seconds of the day
-pub record MomentText (m : ℕ) (t : List ℕ) : Type 0 where
+-- In this form t is the text of the moment m, which is 1,000 times the seconds and the milliseconds
+-- of the second; the seconds are 86,400 times the day number of the civil date (0 for 1970-01-01)
+-- and the seconds of the day.
+pub record MomentTextIn (form : MomentForm) (m : ℕ) (t : List ℕ) : Type 0 where
   pub civil : Civil
+  pub millis : ℕ
   pub real : IsCivil civil
-  pub number : pos m ≡ (days_from_civil (pos civil.year) civil.month civil.day *ℤ pos 86400)
-      +ℤ pos (second_of_day civil)
-  pub spelled : t ≡ civil_text civil
+  pub below : millis < room_of form
+  pub number : pos m ≡ (((days_from_civil (pos civil.year) civil.month civil.day *ℤ pos 86400)
+      +ℤ pos (second_of_day civil)) *ℤ pos 1000) +ℤ pos millis
+  pub spelled : t ≡ civil_text form civil millis
 
--- ---- a moment's one text, as a function
+-- t is a text of the moment m, in either form
+abbrev pub MomentText : ℕ → List ℕ → Type 0
+MomentText m t = (form : MomentForm) × MomentTextIn form m t
+
+-- ---- a moment's one text in a form, as a function
 
 pub record Day : Type 0 where
   pub year : ℕ
@@ -79,8 +103,13 @@ civil_after m = record {
   second = m % 86400 % 60;
 }
 
-unfoldable pub moment_text : ℕ → List ℕ
-moment_text m = civil_text (civil_after m)
+-- where the form can't tell the milliseconds, they are left out
+unfoldable pub moment_text_in : MomentForm → ℕ → List ℕ
+moment_text_in form m = civil_text form (civil_after (m / 1000)) (m % 1000)
+
+-- the text that is written
+abbrev pub moment_text : ℕ → List ℕ
+moment_text m = moment_text_in Millis m
 
 -- ---- the moment of a text, as a function
 
@@ -117,7 +146,26 @@ is_civil c = is_date c && is_time c
 abbrev pub seconds_of : Civil → ℕ
 seconds_of c = 86400 * unsigned_abs (days_from_civil (pos c.year) c.month c.day) + second_of_day c
 
--- the moment of a text: that of the civil time at its places, where that is real and has this text
-unfoldable pub moment_of : List ℕ → Option ℕ
-moment_of t = if is_civil (civil_at t) && bytes_eq (civil_text (civil_at t)) t
-    then Some (seconds_of (civil_at t)) else None
+-- the milliseconds whose digits stand at their places in a text
+abbrev pub millis_at : MomentForm → List ℕ → ℕ
+millis_at Seconds t = 0
+millis_at Millis t = 100 * digit_of (slice_index t 20) + pair_at t 21
+
+-- a civil time, and milliseconds that the form tells apart
+abbrev pub is_real : MomentForm → Civil → ℕ → Bool
+is_real form c n = is_civil c && nat_lt n (room_of form)
+
+-- the moment of a text in a form: that of the civil time and the milliseconds at their places, where
+-- these are real and have this text
+unfoldable pub moment_in : MomentForm → List ℕ → Option ℕ
+moment_in form t = if is_real form (civil_at t) (millis_at form t)
+    && bytes_eq (civil_text form (civil_at t) (millis_at form t)) t
+    then Some (seconds_of (civil_at t) * 1000 + millis_at form t) else None
+
+-- the one form that a text can be in, by its length
+abbrev pub form_of : List ℕ → MomentForm
+form_of t = if length t == 20 then Seconds else Millis
+
+-- the moment of a text in either form
+abbrev pub moment_of : List ℕ → Option ℕ
+moment_of t = moment_in (form_of t) t

@@ -1,5 +1,7 @@
 -- The digits of a text as the code reads them. No public clause cites this module.
 use Rattle.std.specs.Prelude.{ℕ, ◌+◌, ◌-◌, ◌*◌, min, List, slice_index}
+use Rattle.aprs_log.specs.declared.moment_form.MomentForm.{MomentForm}
+use Rattle.aprs_log.specs.declared.moment_form.MomentForm.TheVariants.{Seconds, Millis}
 use Rattle.aprs_log.specs.Moment.{Civil}
 
 -- the value of a digit, and of another byte that of the digit next to it
@@ -19,3 +21,8 @@ near_civil t = record {
   minute = near_pair t 14;
   second = near_pair t 17;
 }
+
+-- the milliseconds whose digits are nearest to the bytes at their places
+abbrev pub near_millis : MomentForm → List ℕ → ℕ
+near_millis Seconds t = 0
+near_millis Millis t = 100 * near_digit (slice_index t 20) + near_pair t 21

@@ -1,13 +1,17 @@
 //! Dates of the civil calendar with a time of the day.
 ghost use Rattle.std.specs.Prelude.{◌≡◌, ◌≤◌, ◌<◌, ◌+◌, ◌*◌, ◌/◌, ◌%◌, ◌∷◌, ◌++◌, [], length, pos, SomeIff, IfSome};
 ghost use Rattle.aprs_log.specs.Moment.{Civil, civil_text, is_time, second_of_day, seconds_of, IsCivil};
-ghost use Rattle.aprs_log.specs.Places.{near_civil, near_digit, near_pair};
+ghost use Rattle.aprs_log.specs.Places.{near_civil, near_digit, near_millis, near_pair};
 
+use crate::MomentForm;
 use crate::calendar::{date_of, day_number};
 use std::marker::Model;
 
-/// The bytes of a date and time's text.
-const TEXT_LEN: usize = 20;
+/// The bytes of a date and time's text to the second.
+pub const SHORT: usize = 20;
+
+/// The bytes of a date and time's text to the millisecond.
+pub const LONG: usize = 24;
 
 /// A date and a time of its day, as the digits of a text say them.
 #[derive(Clone, Copy)]
@@ -46,17 +50,47 @@ impl Model for CivilTime {
 }
 
 impl CivilTime {
-    /// The date and time of a text as `2024-05-01T12:00:00Z`, where the bytes are in that form.
-    pub fn parse(text: &[u8]) -> Option<CivilTime>
-        ensures { SomeIff result (civil_text (near_civil text.now) ≡ text.now)
-            (near_civil text.now) }
+    /// The date and time of a text, and its milliseconds, where the bytes are in the form.
+    pub fn parse(form: MomentForm, text: &[u8]) -> Option<(CivilTime, u16)>
+        ensures { SomeIff result
+            (civil_text form (near_civil text.now) (near_millis form text.now) ≡ text.now)
+            (near_civil text.now, near_millis form text.now) }
     {
-        if text.len() != TEXT_LEN {
+        match form {
+            MomentForm::Seconds => CivilTime::parse_short(text),
+            MomentForm::Millis => CivilTime::parse_long(text),
+        }
+    }
+
+    /// The same of a text as `2024-05-01T12:00:00Z`.
+    fn parse_short(text: &[u8]) -> Option<(CivilTime, u16)>
+        ensures { SomeIff result (civil_text MomentForm.Seconds (near_civil text.now) 0 ≡ text.now)
+            (near_civil text.now, 0) }
+    {
+        if text.len() != SHORT {
             return None;
         }
         let civil = CivilTime::at(text);
-        if civil.text().as_slice() == text {
-            Some(civil)
+        if civil.short_text().as_slice() == text {
+            Some((civil, 0))
+        } else {
+            None
+        }
+    }
+
+    /// The same of a text as `2024-05-01T12:00:00.000Z`.
+    fn parse_long(text: &[u8]) -> Option<(CivilTime, u16)>
+        ensures { SomeIff result (civil_text MomentForm.Millis (near_civil text.now)
+            (near_millis MomentForm.Millis text.now) ≡ text.now)
+            (near_civil text.now, near_millis MomentForm.Millis text.now) }
+    {
+        if text.len() != LONG {
+            return None;
+        }
+        let civil = CivilTime::at(text);
+        let millis = u16::from(digit_of(text[20])) * 100 + u16::from(pair_at(text, 21));
+        if civil.text(millis).as_slice() == text {
+            Some((civil, millis))
         } else {
             None
         }
@@ -64,7 +98,7 @@ impl CivilTime {
 
     /// The time whose digits stand at their places in a text.
     fn at(text: &[u8]) -> CivilTime
-        requires { length text.now ≡ 20 }
+        requires { 20 ≤ length text.now }
         ensures { result ≡ near_civil text.now }
     {
         CivilTime {
@@ -123,9 +157,9 @@ impl CivilTime {
         u32::from(self.hour) * 3600 + u32::from(self.minute) * 60 + u32::from(self.second)
     }
 
-    /// The text, as `2024-05-01T12:00:00Z`.
-    pub fn text(&self) -> [u8; 20]
-        ensures { result ≡ civil_text self.now }
+    /// The text to the second, as `2024-05-01T12:00:00Z`.
+    fn short_text(&self) -> [u8; SHORT]
+        ensures { result ≡ civil_text MomentForm.Seconds self.now 0 }
     {
         let century = (self.year / 100) as u8;
         let year = (self.year % 100) as u8;
@@ -151,6 +185,20 @@ impl CivilTime {
             units(self.second),
             b'Z',
         ]
+    }
+
+    /// The text to the millisecond, as `2024-05-01T12:00:00.000Z`.
+    pub fn text(&self, millis: u16) -> [u8; LONG]
+        requires { millis < 1000 }
+        ensures { result ≡ civil_text MomentForm.Millis self.now millis }
+    {
+        let mut text = [b'Z'; LONG];
+        text[..19].copy_from_slice(&self.short_text()[..19]);
+        text[19] = b'.';
+        text[20] = b'0' + (millis / 100) as u8;
+        text[21] = tens((millis % 100) as u8);
+        text[22] = units((millis % 100) as u8);
+        text
     }
 }
 

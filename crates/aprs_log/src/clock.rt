@@ -1,23 +1,28 @@
 //! The day of the line before.
-ghost use Rattle.std.specs.Prelude.{◌≡◌, ◌<◌, ◌+◌, ◌∷◌, ◌++◌, [], length, slice_index, Some, IfSome};
-ghost use Rattle.aprs_log.specs.Clock.{SecondText, midnight_text};
-ghost use Rattle.aprs_log.specs.Moment.{moment_of, two_digits};
+ghost use Rattle.std.specs.Prelude.{◌≡◌, ◌⊎◌, ◌<◌, ◌+◌, ◌∷◌, ◌++◌, [], length, slice_index, Some, IfSome};
+ghost use Rattle.aprs_log.specs.declared.moment_form.MomentForm.{MomentForm};
+ghost use Rattle.aprs_log.specs.Clock.{FractionText, form_of_end, SecondText, midnight_text};
+ghost use Rattle.aprs_log.specs.Moment.{moment_in, moment_of, two_digits};
 
+use crate::MomentForm;
 use crate::moment::Moment;
 
 /// The bytes of a moment's date, with the `T` after it.
 const DATE_LEN: usize = 11;
 
-/// How many seconds a day has.
-const DAY: u64 = 86_400;
+/// The bytes of a time's hour, minute and second.
+const TIME_LEN: usize = 8;
 
-/// A date and its first second, since lines of a log that follow one another mostly have the same
+/// How many milliseconds a day has.
+const DAY: u64 = 86_400_000;
+
+/// A date and its first moment, since lines of a log that follow one another mostly have the same
 /// date.
 #[derive(Drop)]
 pub struct Clock {
     date: [u8; DATE_LEN],
     midnight: Moment,
-    ghost reads: { moment_of (date ++ midnight_text) ≡ Some midnight },
+    ghost reads: { moment_in MomentForm.Seconds (date ++ midnight_text) ≡ Some midnight },
 }
 
 impl Clock {
@@ -31,7 +36,7 @@ impl Clock {
 
     /// The moment of a text, as `Moment::parse`. Keeps its date.
     pub fn parse(&mut self, text: &[u8]) -> Option<Moment>
-        requires { length text.now ≡ 20 }
+        requires { (length text.now ≡ 20) ⊎ (length text.now ≡ 24) }
         ensures { result ≡ moment_of text.now }
     {
         match self.parse_same_day(text) {
@@ -42,27 +47,29 @@ impl Clock {
 
     /// The same, where the text has the date that is kept.
     fn parse_same_day(&self, text: &[u8]) -> Option<Moment>
-        requires { length text.now ≡ 20 }
+        requires { (length text.now ≡ 20) ⊎ (length text.now ≡ 24) }
         ensures { IfSome result (λ m. moment_of text.now ≡ Some m) }
     {
-        let (date, time) = text.split_at(DATE_LEN);
+        let (date, rest) = text.split_at(DATE_LEN);
         if date != self.date.as_slice() {
             return None;
         }
+        let (time, fraction) = rest.split_at(TIME_LEN);
         let second = second_of_text(time)?;
-        Moment::new(self.midnight.seconds() + u64::from(second))
+        let milli = milli_of_text(fraction)?;
+        Moment::from_millis(self.midnight.millis() + u64::from(second) * 1000 + u64::from(milli))
     }
 
     /// The same, whatever the date is.
     #[cold]
     #[inline(never)]
     fn parse_anew(&mut self, text: &[u8]) -> Option<Moment>
-        requires { length text.now ≡ 20 }
+        requires { (length text.now ≡ 20) ⊎ (length text.now ≡ 24) }
         ensures { result ≡ moment_of text.now }
     {
         let moment = Moment::parse(text)?;
-        let seconds = moment.seconds();
-        if let Some(midnight) = Moment::new(seconds - seconds % DAY) {
+        let millis = moment.millis();
+        if let Some(midnight) = Moment::from_millis(millis - millis % DAY) {
             let mut date = [0; DATE_LEN];
             date.copy_from_slice(&text[..DATE_LEN]);
             *self = Clock { date, midnight };
@@ -71,15 +78,32 @@ impl Clock {
     }
 }
 
-/// The second of the day that a text as `12:00:00Z` tells, where it is one.
+/// The second of the day that a text as `12:00:00` tells, where it is one.
 fn second_of_text(text: &[u8]) -> Option<u32>
-    requires { length text.now ≡ 9 }
+    requires { length text.now ≡ 8 }
     ensures { IfSome result (λ n. SecondText n text.now) }
 {
     let (hour, minute, second) = (pair_at(text, 0), pair_at(text, 3), pair_at(text, 6));
-    let is_marked = text[2] == b':' && text[5] == b':' && text[8] == b'Z';
+    let is_marked = text[2] == b':' && text[5] == b':';
     if hour < 24 && minute < 60 && second < 60 && is_marked {
         Some(u32::from(hour) * 3600 + u32::from(minute) * 60 + u32::from(second))
+    } else {
+        None
+    }
+}
+
+/// The millisecond of a second that the end of a text tells, `Z` or as `.000Z`, where it is one.
+fn milli_of_text(text: &[u8]) -> Option<u32>
+    requires { (length text.now ≡ 1) ⊎ (length text.now ≡ 5) }
+    ensures { IfSome result (λ n. FractionText (form_of_end text.now) n text.now) }
+{
+    if text.len() == 1 {
+        return if text[0] == b'Z' { Some(0) } else { None };
+    }
+    let hundreds = text[1].wrapping_sub(b'0');
+    let rest = pair_at(text, 2);
+    if text[0] == b'.' && hundreds < 10 && rest < 100 && text[4] == b'Z' {
+        Some(u32::from(hundreds) * 100 + u32::from(rest))
     } else {
         None
     }

@@ -1,32 +1,38 @@
-//! The first two fields of a line. Each ends before a space and has none in it, so a moment's place
-//! is known, and a name ends where its bytes do.
-ghost use Rattle.std.specs.Prelude.{◌≡◌, ◌≤◌, length, drop, MatchOption};
+//! The first two fields of a line. Each ends before a space and has none in it, so a moment ends at
+//! one of two places, and a name where its bytes do.
+ghost use Rattle.std.specs.Prelude.{◌≡◌, ◌↔◌, IsTrue, MatchOption};
 ghost use Rattle.std.specs.List.{position};
-ghost use Rattle.aprs_log.specs.Fields.{TakesMoment, TakesName, TakesNoMoment, TakesNoName, ends_name};
+ghost use Rattle.aprs_log.specs.Fields.{EndsMoment, EndsNoMoment, HasSpace, TakesMoment, TakesName, TakesNoMoment, TakesNoName, ends_name};
 
+use crate::civil::{LONG, SHORT};
 use crate::clock::Clock;
 use crate::receiver::is_name_byte;
 use crate::{Moment, Receiver};
 
-/// The bytes of a moment's text.
-pub const MOMENT_LEN: usize = 20;
-
-/// Where the name of a line's receiver begins.
-pub const RECEIVER_PLACE: usize = MOMENT_LEN + 1;
-
 /// The most bytes of a name.
 const MAX_NAME: usize = 16;
 
-/// The moment that a line begins with, after which a space stands. `RECEIVER_PLACE` is the place
-/// after that.
-pub fn first_moment(clock: &mut Clock, line: &[u8]) -> Option<Moment>
+/// The moment that a line begins with, and what stands after it and a space.
+pub fn first_moment<'a>(clock: &mut Clock, line: &'a [u8]) -> Option<(Moment, &'a [u8])>
     ensures { MatchOption result (TakesNoMoment line.now)
-        (λ m. (21 ≤ length line.now) × TakesMoment line.now m (drop 21 line.now)) }
+        (λ found. TakesMoment line.now found.0 found.1.now) }
 {
-    if line.len() <= MOMENT_LEN || line[MOMENT_LEN] != b' ' {
-        return None;
+    let len = moment_len(line)?;
+    let moment = clock.parse(&line[..len])?;
+    Some((moment, &line[len + 1..]))
+}
+
+/// The bytes of the moment that a line may begin with, by the place of the space after it.
+fn moment_len(line: &[u8]) -> Option<usize>
+    ensures { MatchOption result (EndsNoMoment line.now) (EndsMoment line.now) }
+{
+    if has_space(line, SHORT) {
+        Some(SHORT)
+    } else if has_space(line, LONG) {
+        Some(LONG)
+    } else {
+        None
     }
-    clock.parse(&line[..MOMENT_LEN])
 }
 
 /// The receiver whose name a text begins with, and what stands after it and a space.
@@ -46,4 +52,11 @@ fn name_end(text: &[u8]) -> Option<usize>
     ensures { result ≡ position ends_name text.now }
 {
     text.iter().position(|byte| !is_name_byte(*byte))
+}
+
+/// Whether a space stands at a place.
+fn has_space(text: &[u8], at: usize) -> bool
+    ensures { IsTrue result ↔ HasSpace text.now at }
+{
+    text.get(at) == Some(&b' ')
 }

@@ -6,7 +6,7 @@ ghost use Rattle.aprs_log.specs.Line.{frame_or_reason, heard_or_passed, line_of,
 ghost use Rattle.aprs_log.specs.Slot.{told_in};
 
 use crate::fault::{LineFault, Reason};
-use crate::fields::{RECEIVER_PLACE, first_moment, take_receiver};
+use crate::fields::{first_moment, take_receiver};
 use crate::line_bytes::data_in;
 use crate::scratch::Scratch;
 use crate::{Moment, Receiver, Reception};
@@ -110,10 +110,11 @@ pub(crate) fn read_fields(
     if line.len() > MAX_LINE {
         return Err(LineFault::LongLine);
     }
-    let Some(moment) = first_moment(&mut scratch.clock, line) else {
+    let Some(first) = first_moment(&mut scratch.clock, line) else {
         return Err(LineFault::Moment);
     };
-    let Some((receiver, digits)) = take_receiver(&line[RECEIVER_PLACE..]) else {
+    let (moment, rest) = first;
+    let Some((receiver, digits)) = take_receiver(rest) else {
         return Err(LineFault::Receiver);
     };
     read_within(moment, receiver, digits, scratch, told)

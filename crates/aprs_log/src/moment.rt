@@ -1,42 +1,61 @@
-//! Moments in whole seconds.
-ghost use Rattle.std.specs.Prelude.{◌≡◌, ◌↔◌, ℕ, ◌≤◌, List, SomeIff};
+//! Moments in milliseconds.
+ghost use Rattle.std.specs.Prelude.{◌≡◌, ◌↔◌, ℕ, ◌≤◌, ◌*◌, ◌/◌, List, SomeIff};
 ghost use Rattle.std.specs.Ordering.{nat_cmp, as_partial_cmp};
 ghost use Rattle.std.proofs.Common.{rules};
 ghost use Rattle.std.specs.Cmp.{partial_order_from_own_ties};
 ghost use Rattle.std.specs.Cmp.Rules.{comparing};
-ghost use Rattle.aprs_log.specs.Moment.{MomentText, moment_of, moment_text};
+ghost use Rattle.aprs_log.specs.Moment.{MomentText, MomentTextIn, form_of, moment_in, moment_of, moment_text};
 
-use crate::civil::CivilTime;
+use crate::MomentForm;
+use crate::civil::{CivilTime, SHORT};
 use std::cmp::Ordering;
 use std::marker::Model;
 
 /// The last second of the year 2099.
 const LAST_SECOND: u64 = 4_102_444_799;
 
-/// A whole second from 1970-01-01T00:00:00Z to 2099-12-31T23:59:59Z. No second is a leap second.
-/// Moments are ordered by their number of seconds.
+/// The last millisecond of the year 2099.
+const LAST_MILLI: u64 = 4_102_444_799_999;
+
+/// A whole millisecond from 1970-01-01T00:00:00.000Z to 2099-12-31T23:59:59.999Z. No second is a
+/// leap second. Moments are ordered by their number of milliseconds.
 #[derive(Clone, Copy, Debug, PartialEq, Eq)]
 pub struct Moment {
-    seconds: u64,
+    millis: u64,
 }
 
 impl Model for Moment {
     ghost Value = { ℕ };
 
-    ghost view = { λ m. m.seconds };
+    ghost view = { λ m. m.millis };
 
-    ghost invariant = { λ m. m.seconds ≤ 4102444799 };
+    ghost invariant = { λ m. m.millis ≤ 4102444799999 };
 
-    ghost inverse = { λ n. record { seconds = n } };
+    ghost inverse = { λ n. record { millis = n } };
 }
 
 impl Moment {
-    /// The moment so many seconds after 1970-01-01T00:00:00Z, where it is in range.
+    /// The moment so many seconds after 1970-01-01T00:00:00Z, where these are 0 to 4,102,444,799.
+    /// Takes no memory.
     pub fn new(seconds: u64) -> Option<Moment>
-        ensures { SomeIff result (seconds ≤ 4102444799) seconds }
+        ensures { SomeIff result (seconds ≤ 4102444799) (seconds * 1000) }
     {
         if seconds <= LAST_SECOND {
-            Some(Moment { seconds })
+            Some(Moment {
+                millis: seconds * 1000,
+            })
+        } else {
+            None
+        }
+    }
+
+    /// The moment so many milliseconds after 1970-01-01T00:00:00Z, where these are 0 to
+    /// 4,102,444,799,999. Takes no memory.
+    pub fn from_millis(millis: u64) -> Option<Moment>
+        ensures { SomeIff result (millis ≤ 4102444799999) millis }
+    {
+        if millis <= LAST_MILLI {
+            Some(Moment { millis })
         } else {
             None
         }
@@ -46,47 +65,65 @@ impl Moment {
     pub(crate) fn first() -> Moment
         ensures { result ≡ 0 }
     {
-        Moment { seconds: 0 }
+        Moment { millis: 0 }
     }
 
-    /// The seconds since 1970-01-01T00:00:00Z.
-    pub fn seconds(&self) -> u64
+    /// The milliseconds since 1970-01-01T00:00:00Z. Takes no memory.
+    pub fn millis(&self) -> u64
         ensures value { result ≡ self.now }
+        ensures in_range { result ≤ 4102444799999 }
+    {
+        self.millis
+    }
+
+    /// The whole seconds since 1970-01-01T00:00:00Z, rounded down. Takes no memory.
+    pub fn seconds(&self) -> u64
+        ensures value { result ≡ self.now / 1000 }
         ensures in_range { result ≤ 4102444799 }
     {
-        self.seconds
+        self.millis / 1000
     }
 
-    /// The moment of a text as `2024-05-01T12:00:00Z`, where the bytes are the text of one: a date
-    /// of the civil calendar from 1970 to 2099, an hour below 24, a minute and a second below 60.
-    /// Takes no memory.
+    /// The moment of a text as `2024-05-01T12:00:00Z` or `2024-05-01T12:00:00.000Z`, where the
+    /// bytes are the text of one: a date of the civil calendar from 1970 to 2099, an hour below 24,
+    /// a minute and a second below 60. Takes no memory.
     pub fn parse(text: &[u8]) -> Option<Moment>
         ensures value { result ≡ moment_of text.now }
         ensures exact { (m : ℕ) → (result ≡ Some m) ↔ MomentText m text.now }
     {
-        match CivilTime::parse(text) {
-            Some(civil) => match civil.seconds() {
-                Some(seconds) => Some(Moment { seconds }),
+        Moment::parse_in(form_of(text), text)
+    }
+
+    /// The same, of a text in one form alone. Takes no memory.
+    pub fn parse_in(form: MomentForm, text: &[u8]) -> Option<Moment>
+        ensures value { result ≡ moment_in form text.now }
+        ensures exact { (m : ℕ) → (result ≡ Some m) ↔ MomentTextIn form m text.now }
+    {
+        match CivilTime::parse(form, text) {
+            Some(read) => match read.0.seconds() {
+                Some(seconds) => Some(Moment {
+                    millis: seconds * 1000 + u64::from(read.1),
+                }),
                 None => None,
             },
             None => None,
         }
     }
 
-    /// The moment's one text, as `2024-05-01T12:00:00Z`. Takes no memory.
-    pub fn text(&self) -> [u8; 20]
+    /// The moment's text that is written, as `2024-05-01T12:00:00.000Z`. Takes no memory.
+    pub fn text(&self) -> [u8; 24]
         ensures value { result ≡ moment_text self.now }
-        ensures exact { (t : List ℕ) → (t ≡ result) ↔ MomentText self.now t }
+        ensures exact { (t : List ℕ) → (t ≡ result) ↔ MomentTextIn MomentForm.Millis self.now t }
         ensures reads_back { moment_of result ≡ Some self.now }
     {
-        CivilTime::of_seconds(self.seconds).text()
+        CivilTime::of_seconds(self.millis / 1000).text((self.millis % 1000) as u16)
     }
 
     /// Each moment has a text. Does nothing.
     pub(crate) fn has_a_text(&self)
         ensures { MomentText self.now (moment_text self.now) }
     {
-        let _in_range = self.seconds();
+        let _in_range = self.millis();
     }
 
     /// The same moment.
@@ -107,7 +144,7 @@ impl Ord for Moment {
     ghost matches_eq = { Prim.search (comparing, rules) };
 
     fn cmp(&self, other: &Moment) -> Ordering {
-        self.seconds.cmp(&other.seconds)
+        self.millis.cmp(&other.millis)
     }
 }
 
@@ -119,5 +156,16 @@ impl PartialOrd for Moment {
 
     fn partial_cmp(&self, other: &Moment) -> Option<Ordering> {
         Some(self.cmp(other))
+    }
+}
+
+/// The one form that a text can be in, by its length.
+fn form_of(text: &[u8]) -> MomentForm
+    ensures { result ≡ form_of text.now }
+{
+    if text.len() == SHORT {
+        MomentForm::Seconds
+    } else {
+        MomentForm::Millis
     }
 }

@@ -11,7 +11,7 @@ ghost use Rattle.aprs_log.specs.Bytes.{WrittenLaws};
 ghost use Rattle.aprs_log.specs.Line.{line_of, written_line};
 ghost use Rattle.aprs_log.specs.Moment.{moment_text};
 
-use crate::fields::MOMENT_LEN;
+use crate::civil::LONG;
 use crate::line::Line;
 use crate::moment::Moment;
 use crate::reception::Reception;
@@ -24,7 +24,7 @@ use std::io::Write;
 const MAX_SPELLED: usize = 659;
 
 /// The most bytes of a line that is written: a moment, a name, two spaces, the digits and the LF.
-const MAX_WRITTEN: usize = 1357;
+const MAX_WRITTEN: usize = 1361;
 
 /// Writes a reception as a line of a log: its moment, its receiver and its frame between two frame
 /// ends, as lower case hexadecimal. At a fault a front of the line went out, and the count of the
@@ -50,7 +50,7 @@ pub struct LogWriter {
     spelled: [u8; MAX_SPELLED],
     /// The moment whose text the line begins with.
     moment: Option<Moment>,
-    ghost begins: { IfSome moment (λ m. take 20 line ≡ moment_text m) } by { Prim.hlevel props },
+    ghost begins: { IfSome moment (λ m. take 24 line ≡ moment_text m) } by { Prim.hlevel props },
 }
 
 impl LogWriter {
@@ -85,7 +85,7 @@ impl LogWriter {
 
     /// Has the line begin with the text of a moment, as it may from the line before.
     fn begin(&mut self, moment: Moment)
-        ensures line { take 20 self.new.line ≡ moment_text moment }
+        ensures line { take 24 self.new.line ≡ moment_text moment }
         ensures moment { self.new.moment ≡ Some moment }
     {
         let is_there = match &self.moment {
@@ -102,18 +102,18 @@ impl LogWriter {
 /// Puts the line and its LF at the front of `line`, which begins with the text of its moment, and
 /// returns how many bytes they are. `spelled` is room for the frame.
 fn put_line(line: &mut [u8], spelled: &mut [u8], reception: &Reception) -> usize
-    requires line { length line.old ≡ 1357 }
+    requires line { length line.old ≡ 1361 }
     requires spelled { length spelled.old ≡ 659 }
-    requires begins { take 20 line.old ≡ moment_text reception.now.moment }
-    ensures fits { result ≤ 1357 }
-    ensures len { length line.new ≡ 1357 }
+    requires begins { take 24 line.old ≡ moment_text reception.now.moment }
+    ensures fits { result ≤ 1361 }
+    ensures len { length line.new ≡ 1361 }
     ensures line { take result line.new ≡ written_line reception.now ++ 10 ∷ [] }
     ensures back { length (written_line reception.now) ≤ 8192
         → line_of (written_line reception.now) ≡ Ok (Line.Heard reception.now) }
 {
     written_laws();
     reception.moment().has_a_text();
-    let space = put(line, MOMENT_LEN, b" ");
+    let space = put(line, LONG, b" ");
     let receiver = put(line, space, reception.receiver().as_bytes());
     let place = put(line, receiver, b" ");
     let frame = reception.frame().bytes();

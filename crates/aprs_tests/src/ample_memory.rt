@@ -3,7 +3,7 @@
 use crate::pushed_rows::parts;
 use crate::shown::shown;
 use crate::vectors::{DIRECT, NOON, heard};
-use aprs_book::{Book, Join, join_all};
+use aprs_book::{Book, Gap, Join, all_fit, join_all};
 use aprs_booktext::{read_book, write_book};
 use aprs_kiss::Counted;
 use aprs_log::{MAX_INPUT, write_line};
@@ -67,12 +67,23 @@ fn three_books(alloc: Global) -> Result<Vec<Book>, Fail> {
     Ok(books)
 }
 
+/// The books joined to the first, where they all have its gap.
+pub fn joined_all(first: &Book, books: &[Book]) -> Option<Book> {
+    if !all_fit(first, books) {
+        return None;
+    }
+    Some(join_all(first, books).ok()?)
+}
+
 #[test]
 fn a_hundred_rows_are_joined(rt: HostRuntime) -> Result<(), Fail> {
     let books = three_books(rt.alloc())?;
     let first = books.first().ok_or("a book")?;
-    let joined = join_all(first, books.as_slice()).ok().ok_or("memory")?;
+    let joined = joined_all(first, books.as_slice()).ok_or("a joined book")?;
     assert_eq!(rt; joined.len(), 101);
+    if !joined.fits(first) {
+        return Err("one gap".into());
+    }
     let again = joined.join(first).ok().ok_or("memory")?;
     assert!(rt; again.same(&joined));
     Ok(())
@@ -102,7 +113,7 @@ fn a_hundred_rows_are_pushed_written_and_read(rt: HostRuntime) -> Result<(), Fai
 
 /// Whether the book of this input is this one.
 fn is_read(alloc: Global, input: &[u8], book: &Book) -> bool {
-    match read_input(alloc, MAX_INPUT, &mut Counted::new(input)) {
+    match read_input(alloc, MAX_INPUT, Gap::STANDARD, &mut Counted::new(input)) {
         Ok(read) => read.same(book),
         Err(_) => false,
     }
@@ -118,12 +129,12 @@ fn a_hundred_lines_are_read(rt: HostRuntime) -> Result<(), Fail> {
 }
 
 /// What is written of the nine inputs' one row, and what is listed of it.
-const ONE_ROW: &[u8] = b"APRSBOOK 1
-T 2024-05-01T12:00:00Z 2024-05-01T13:39:30Z RX1,RX2 RX2 82a0a4a64040e09c60868298986f03f03e4869
+const ONE_ROW: &[u8] = b"APRSBOOK 3 30
+T 2024-05-01T12:00:00.000Z 2024-05-01T13:39:30.000Z RX1,RX2 RX2 82a0a4a64040e09c60868298986f03f03e4869
 END 1
 ";
 
-const ONE_STATION: &[u8] = b"station N0CALL-7 1\nstatus 2024-05-01T13:39:30Z RX2 -:Hi\n";
+const ONE_STATION: &[u8] = b"station N0CALL-7 1\nstatus 2024-05-01T13:39:30.000Z RX2 -:Hi\n";
 
 /// A log of a hundred lines, one of what was heard between, and the first one's book.
 fn three_inputs(alloc: Global) -> Result<Vec<Vec<u8>>, Fail> {
@@ -154,9 +165,21 @@ fn nine_inputs_are_merged_and_listed(rt: HostRuntime) -> Result<(), Fail> {
         let mut inputs = nine_of(alloc, three.as_slice())?;
         let mut out = Counted::new(Vec::new(alloc));
         let run = if is_listing {
-            show_run(&heap, MAX_INPUT, inputs.as_mut_slice(), &mut out)
+            show_run(
+                &heap,
+                MAX_INPUT,
+                Gap::STANDARD,
+                inputs.as_mut_slice(),
+                &mut out,
+            )
         } else {
-            merge_run(&heap, MAX_INPUT, inputs.as_mut_slice(), &mut out)
+            merge_run(
+                &heap,
+                MAX_INPUT,
+                Gap::STANDARD,
+                inputs.as_mut_slice(),
+                &mut out,
+            )
         };
         assert!(rt; run.is_ok());
         assert_eq!(rt; out.into_inner().as_slice(), want);

@@ -1,6 +1,6 @@
 //! Texts that are no book's.
 
-use crate::vectors::{DIRECT_TEXT, MERGED_TEXT, line_after};
+use crate::vectors::{DIRECT_TEXT, MERGED_TEXT, OLD_DIRECT_TEXT, OLD_MERGED_TEXT, line_after};
 use aprs_booktext::{BookCause, BookFault, read_book, write_book};
 use aprs_kiss::Counted;
 use aprs_log::MAX_INPUT;
@@ -8,7 +8,7 @@ use std::alloc::Global;
 use std::test::Fail;
 
 /// The line and the name of the cause of a text's fault, or nothing.
-fn fault_of(alloc: Global, text: &[u8]) -> Option<(u64, &'static str)> {
+pub fn fault_of(alloc: Global, text: &[u8]) -> Option<(u64, &'static str)> {
     match read_book(alloc, MAX_INPUT, b"", &mut Counted::new(text)) {
         Ok(_) => None,
         Err(BookFault { line, cause }) => Some((line, cause.name())),
@@ -18,7 +18,7 @@ fn fault_of(alloc: Global, text: &[u8]) -> Option<(u64, &'static str)> {
 /// A text between a header and the last line of so many rows.
 fn text_of(alloc: Global, lines: &[&[u8]], last: &[u8]) -> Result<Vec<u8>, Fail> {
     let mut text = Vec::new(alloc);
-    text.extend_from_slice(b"APRSBOOK 1\n")?;
+    text.extend_from_slice(b"APRSBOOK 3 30\n")?;
     for line in lines {
         text.extend_from_slice(line)?;
         text.push(b'\n')?;
@@ -32,27 +32,27 @@ fn each_fault_of_a_line(rt: HostRuntime) -> Result<(), Fail> {
     let alloc = rt.alloc();
     for (line, fault) in [
         (
-            b"T 2024-05-01T12:00:00Z 2024-05-01T12:00:00Z RX1,RX2 RX1 82a0a4a64040e09c60868298986f03f03e4869".as_slice(),
+            b"T 2024-05-01T12:00:00.000Z 2024-05-01T12:00:00.000Z RX1,RX2 RX1 82a0a4a64040e09c60868298986f03f03e4869".as_slice(),
             Some((2, "NotGreatest")),
         ),
         (
-            b"T 2024-05-01T11:59:59Z 2024-05-01T12:00:00Z RX1,RX2 RX1 82a0a4a64040e09c60868298986f03f03e4869".as_slice(),
+            b"T 2024-05-01T11:59:59.000Z 2024-05-01T12:00:00.000Z RX1,RX2 RX1 82a0a4a64040e09c60868298986f03f03e4869".as_slice(),
             None,
         ),
         (
-            b"T 2024-05-01T12:00:00Z 2024-05-01T12:00:00Z RX2,RX1 RX1 82a0a4a64040e09c60868298986f03f03e4869".as_slice(),
+            b"T 2024-05-01T12:00:00.000Z 2024-05-01T12:00:00.000Z RX2,RX1 RX1 82a0a4a64040e09c60868298986f03f03e4869".as_slice(),
             Some((2, "Receivers")),
         ),
         (
-            b"T 2024-05-01T12:00:00Z 2024-05-01T12:00:00Z RX1 RX1 82A0a4a64040e09c60868298986f03f03e4869".as_slice(),
+            b"T 2024-05-01T12:00:00.000Z 2024-05-01T12:00:00.000Z RX1 RX1 82A0a4a64040e09c60868298986f03f03e4869".as_slice(),
             Some((2, "RowSyntax")),
         ),
         (
-            b"T 2024-05-01T12:00:00Z 2024-05-01T12:00:00Z RX1 RX1 82a0a4a64040e09c60868298986f13f03e4869".as_slice(),
+            b"T 2024-05-01T12:00:00.000Z 2024-05-01T12:00:00.000Z RX1 RX1 82a0a4a64040e09c60868298986f13f03e4869".as_slice(),
             Some((2, "Frame")),
         ),
         (
-            b"T 2024-05-01T12:00:01Z 2024-05-01T12:00:00Z RX1 RX1 82a0a4a64040e09c60868298986f03f03e4869".as_slice(),
+            b"T 2024-05-01T12:00:01.000Z 2024-05-01T12:00:00.000Z RX1 RX1 82a0a4a64040e09c60868298986f03f03e4869".as_slice(),
             Some((2, "Span")),
         ),
         (b"END 2".as_slice(), Some((2, "Ending"))),
@@ -67,7 +67,7 @@ fn each_fault_of_a_line(rt: HostRuntime) -> Result<(), Fail> {
 
 /// A row of RX1 alone.
 const ROW: &[u8] =
-    b"T 2024-05-01T12:00:00Z 2024-05-01T12:00:00Z RX1 RX1 82a0a4a64040e09c60868298986f03f03e4869";
+    b"T 2024-05-01T12:00:00.000Z 2024-05-01T12:00:00.000Z RX1 RX1 82a0a4a64040e09c60868298986f03f03e4869";
 
 // What begins with END is a last line, if a wrong one; whatever else differs is no row.
 #[test]
@@ -100,31 +100,31 @@ fn fields_have_one_spelling(rt: HostRuntime) -> Result<(), Fail> {
     let alloc = rt.alloc();
     for (line, cause) in [
         (
-            b"t 2024-05-01T12:00:00Z 2024-05-01T12:00:00Z RX1 RX1 82a0a4a64040e09c60868298986f03f03e4869".as_slice(),
+            b"t 2024-05-01T12:00:00.000Z 2024-05-01T12:00:00.000Z RX1 RX1 82a0a4a64040e09c60868298986f03f03e4869".as_slice(),
             "RowSyntax",
         ),
         (
-            b"T 2024-05-01t12:00:00Z 2024-05-01T12:00:00Z RX1 RX1 82a0a4a64040e09c60868298986f03f03e4869".as_slice(),
+            b"T 2024-05-01t12:00:00.000Z 2024-05-01T12:00:00.000Z RX1 RX1 82a0a4a64040e09c60868298986f03f03e4869".as_slice(),
             "RowSyntax",
         ),
         (
-            b"T 2024-05-01T12:00:00Z 2024-05-01T12:00:00z RX1 RX1 82a0a4a64040e09c60868298986f03f03e4869".as_slice(),
+            b"T 2024-05-01T12:00:00.000Z 2024-05-01T12:00:00.000z RX1 RX1 82a0a4a64040e09c60868298986f03f03e4869".as_slice(),
             "RowSyntax",
         ),
         (
-            b"T 2024-05-01T12:00:00Z 2024-05-01T12:00:00Z rx1 RX1 82a0a4a64040e09c60868298986f03f03e4869".as_slice(),
+            b"T 2024-05-01T12:00:00.000Z 2024-05-01T12:00:00.000Z rx1 RX1 82a0a4a64040e09c60868298986f03f03e4869".as_slice(),
             "Receivers",
         ),
         (
-            b"T 2024-05-01T12:00:00Z 2024-05-01T12:00:00Z RX1,RX1 RX1 82a0a4a64040e09c60868298986f03f03e4869".as_slice(),
+            b"T 2024-05-01T12:00:00.000Z 2024-05-01T12:00:00.000Z RX1,RX1 RX1 82a0a4a64040e09c60868298986f03f03e4869".as_slice(),
             "Receivers",
         ),
         (
-            b"T 2024-05-01T12:00:00Z 2024-05-01T12:00:00Z RX1 RX1 82A0A4A64040E09C60868298986F03F03E4869".as_slice(),
+            b"T 2024-05-01T12:00:00.000Z 2024-05-01T12:00:00.000Z RX1 RX1 82A0A4A64040E09C60868298986F03F03E4869".as_slice(),
             "RowSyntax",
         ),
         (
-            b"T 2024-05-01T12:00:00Z 2024-05-01T12:00:00Z RX1 RX1 82a0a4a64040e09c60868298986f03f03e4869 ".as_slice(),
+            b"T 2024-05-01T12:00:00.000Z 2024-05-01T12:00:00.000Z RX1 RX1 82a0a4a64040e09c60868298986f03f03e4869 ".as_slice(),
             "RowSyntax",
         ),
     ] {
@@ -136,12 +136,12 @@ fn fields_have_one_spelling(rt: HostRuntime) -> Result<(), Fail> {
 
 /// Rows of three keys, by the SSID of the source, each two 30 seconds apart.
 const NEAR_PAIRS: [&[u8]; 6] = [
-    b"T 2024-05-01T12:00:00Z 2024-05-01T12:00:00Z RX1 RX1 82a0a4a64040e09c60868298986103f03e4869",
-    b"T 2024-05-01T12:00:30Z 2024-05-01T12:00:30Z RX1 RX1 82a0a4a64040e09c60868298986103f03e4869",
-    b"T 2024-05-01T12:00:00Z 2024-05-01T12:00:00Z RX1 RX1 82a0a4a64040e09c60868298986303f03e4869",
-    b"T 2024-05-01T12:00:30Z 2024-05-01T12:00:30Z RX1 RX1 82a0a4a64040e09c60868298986303f03e4869",
-    b"T 2024-05-01T12:00:00Z 2024-05-01T12:00:00Z RX1 RX1 82a0a4a64040e09c60868298986f03f03e4869",
-    b"T 2024-05-01T12:00:30Z 2024-05-01T12:00:30Z RX1 RX1 82a0a4a64040e09c60868298986f03f03e4869",
+    b"T 2024-05-01T12:00:00.000Z 2024-05-01T12:00:00.000Z RX1 RX1 82a0a4a64040e09c60868298986103f03e4869",
+    b"T 2024-05-01T12:00:30.000Z 2024-05-01T12:00:30.000Z RX1 RX1 82a0a4a64040e09c60868298986103f03e4869",
+    b"T 2024-05-01T12:00:00.000Z 2024-05-01T12:00:00.000Z RX1 RX1 82a0a4a64040e09c60868298986303f03e4869",
+    b"T 2024-05-01T12:00:30.000Z 2024-05-01T12:00:30.000Z RX1 RX1 82a0a4a64040e09c60868298986303f03e4869",
+    b"T 2024-05-01T12:00:00.000Z 2024-05-01T12:00:00.000Z RX1 RX1 82a0a4a64040e09c60868298986f03f03e4869",
+    b"T 2024-05-01T12:00:30.000Z 2024-05-01T12:00:30.000Z RX1 RX1 82a0a4a64040e09c60868298986f03f03e4869",
 ];
 
 // The first of each two alone are a book; with a second one, the line of that is at fault.
@@ -171,11 +171,11 @@ fn rows_of_three_keys_are_near_in_pairs(rt: HostRuntime) -> Result<(), Fail> {
 fn a_second_row(rt: HostRuntime) -> Result<(), Fail> {
     let alloc = rt.alloc();
     let first =
-        b"T 2024-05-01T12:00:00Z 2024-05-01T12:00:00Z RX1 RX1 82a0a4a64040e09c60868298986f03f03e4869".as_slice();
+        b"T 2024-05-01T12:00:00.000Z 2024-05-01T12:00:00.000Z RX1 RX1 82a0a4a64040e09c60868298986f03f03e4869".as_slice();
     let near =
-        b"T 2024-05-01T12:00:30Z 2024-05-01T12:00:30Z RX1 RX1 82a0a4a64040e09c60868298986f03f03e4869".as_slice();
+        b"T 2024-05-01T12:00:30.000Z 2024-05-01T12:00:30.000Z RX1 RX1 82a0a4a64040e09c60868298986f03f03e4869".as_slice();
     let far =
-        b"T 2024-05-01T12:00:31Z 2024-05-01T12:00:31Z RX1 RX1 82a0a4a64040e09c60868298986f03f03e4869".as_slice();
+        b"T 2024-05-01T12:00:31.000Z 2024-05-01T12:00:31.000Z RX1 RX1 82a0a4a64040e09c60868298986f03f03e4869".as_slice();
     for (second, fault) in [
         (near, Some((3, "Near"))),
         (far, None),
@@ -192,7 +192,7 @@ fn a_second_row(rt: HostRuntime) -> Result<(), Fail> {
 // The fault is of the line in which the text ends.
 #[test]
 fn texts_cut_short(rt: HostRuntime) {
-    for text in [DIRECT_TEXT, MERGED_TEXT] {
+    for text in [DIRECT_TEXT, MERGED_TEXT, OLD_DIRECT_TEXT, OLD_MERGED_TEXT] {
         for cut in 0..text.len() {
             let fault = fault_of(rt.alloc(), &text[..cut]);
             assert!(rt; fault == Some((line_after(text, cut), "Ending")));
@@ -207,7 +207,7 @@ fn texts_grown_or_beyond_the_limit(rt: HostRuntime) -> Result<(), Fail> {
     more.extend_from_slice(DIRECT_TEXT)?;
     more.push(b'\n')?;
     assert!(rt; fault_of(alloc, more.as_slice()) == Some((4, "After")));
-    let short = read_book(alloc, 108, b"", &mut Counted::new(more.as_slice()));
+    let short = read_book(alloc, 119, b"", &mut Counted::new(more.as_slice()));
     assert!(rt;
         matches!(
             &short,
@@ -217,7 +217,7 @@ fn texts_grown_or_beyond_the_limit(rt: HostRuntime) -> Result<(), Fail> {
             })
         )
     );
-    let shorter = read_book(alloc, 107, b"", &mut Counted::new(DIRECT_TEXT));
+    let shorter = read_book(alloc, 118, b"", &mut Counted::new(DIRECT_TEXT));
     assert!(rt;
         matches!(
             &shorter,
@@ -270,19 +270,19 @@ fn are_refused_or_written_back(
 
 #[test]
 fn each_other_byte_in_a_text_of_one_row(rt: HostRuntime) -> Result<(), Fail> {
-    assert!(rt; are_refused_or_written_back(rt.alloc(), DIRECT_TEXT, 0, 108)?);
+    assert!(rt; are_refused_or_written_back(rt.alloc(), DIRECT_TEXT, 0, 119)?);
     Ok(())
 }
 
 #[test]
 fn each_other_byte_in_the_first_row_of_two(rt: HostRuntime) -> Result<(), Fail> {
-    assert!(rt; are_refused_or_written_back(rt.alloc(), MERGED_TEXT, 0, 120)?);
+    assert!(rt; are_refused_or_written_back(rt.alloc(), MERGED_TEXT, 0, 131)?);
     Ok(())
 }
 
 #[test]
 fn each_other_byte_in_the_second_row_of_two(rt: HostRuntime) -> Result<(), Fail> {
-    assert!(rt; are_refused_or_written_back(rt.alloc(), MERGED_TEXT, 120, 217)?);
+    assert!(rt; are_refused_or_written_back(rt.alloc(), MERGED_TEXT, 131, 236)?);
     Ok(())
 }
 

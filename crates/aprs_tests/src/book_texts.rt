@@ -44,9 +44,9 @@ fn books_and_their_texts(rt: HostRuntime) -> Result<(), Fail> {
         assert!(rt; write_book(&mut out, &book) == Ok(()));
         assert_eq!(rt; out.into_inner().as_slice(), text);
     }
-    assert_eq!(rt; EMPTY_TEXT.len(), 17);
-    assert_eq!(rt; DIRECT_TEXT.len(), 108);
-    assert_eq!(rt; MERGED_TEXT.len(), 217);
+    assert_eq!(rt; EMPTY_TEXT.len(), 20);
+    assert_eq!(rt; DIRECT_TEXT.len(), 119);
+    assert_eq!(rt; MERGED_TEXT.len(), 236);
     Ok(())
 }
 
@@ -107,13 +107,13 @@ fn a_reader_fails_at_each_byte(rt: HostRuntime) {
             most: 1,
             good,
         });
-        let line = if good <= 10 {
+        let line = if good <= 13 {
             1
-        } else if good <= 119 {
+        } else if good <= 130 {
             2
-        } else if good <= 210 {
+        } else if good <= 229 {
             3
-        } else if good <= 216 {
+        } else if good <= 235 {
             4
         } else {
             5
@@ -159,7 +159,7 @@ fn a_read_row_stands_for_receptions(rt: HostRuntime) -> Result<(), Fail> {
     ] {
         assert!(rt; book_of(alloc, &lines)?.same(&book));
     }
-    assert!(rt; book.merge(&book).ok().ok_or("memory")?.same(&book));
+    assert!(rt; book.merge(&book).ok().ok_or("a merge")?.same(&book));
     Ok(())
 }
 

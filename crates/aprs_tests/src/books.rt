@@ -1,8 +1,9 @@
 //! Books that take receptions, merge and replay.
 
+use crate::ample_memory::joined_all;
 use crate::shown::{name_text, shown};
 use crate::vectors::{ANSWERED, DIRECT, REPEATED, heard, receiver};
-use aprs_book::{Book, Greatest, Join, Receivers, Step, join_all, replay, steps_fit};
+use aprs_book::{Book, Gap, Greatest, Join, Receivers, Step, join_all, replay, steps_fit};
 use std::alloc::Global;
 use std::test::Fail;
 
@@ -124,7 +125,11 @@ fn two_books(alloc: Global) -> Result<Vec<Book>, Fail> {
     if !steps_fit(2, &steps) || steps_fit(1, &steps) {
         return Err("places".into());
     }
-    Ok(replay(alloc, 2, &steps).ok().ok_or("memory")?)
+    Ok(
+        replay(alloc, Gap::STANDARD, 2, &steps)
+            .ok()
+            .ok_or("memory")?,
+    )
 }
 
 #[test]
@@ -136,7 +141,7 @@ fn replays_end_in_equal_books(rt: HostRuntime) -> Result<(), Fail> {
     let text = shown(alloc, &books[0])?;
     assert_eq!(rt; text.as_str(), "0-20 RX1 RX2 / RX2 6f; ");
     for items in [books.as_slice(), &[]] {
-        let all = join_all(&books[0], items).ok().ok_or("memory")?;
+        let all = joined_all(&books[0], items).ok_or("a joined book")?;
         assert!(rt; all.same(&books[0]));
     }
     Ok(())

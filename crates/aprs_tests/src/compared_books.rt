@@ -3,12 +3,15 @@
 
 use crate::last_known::{callsign, frame_of};
 use crate::plain_book::{Plain, PlainBook, PlainRow};
-use crate::vectors::{NOON, REPEATED, receiver};
+use crate::vectors::{REPEATED, receiver};
 use aprs_ax25::Frame;
 use aprs_book::{Book, Heard, Row};
 use aprs_log::{Moment, Receiver, Reception};
 use std::alloc::Global;
 use std::test::Fail;
+
+/// An hour's first millisecond.
+const NOON: u64 = 1_714_564_800_000;
 
 /// The keys of the table's frames, by their place among keys.
 const KEYS: [u8; 6] = [2, 0, 1, 2, 3, 4];
@@ -57,7 +60,7 @@ fn bit_of(name: &Receiver) -> u8 {
 /// The reception of these numbers.
 fn reception(frames: &[Frame], x: Plain) -> Result<Reception, Fail> {
     Ok(Reception::new(
-        Moment::new(NOON.saturating_add(x.second)).ok_or("moment")?,
+        Moment::from_millis(NOON.saturating_add(x.milli)).ok_or("moment")?,
         receiver(name_of(x.receiver))?,
         frames.get(x.frame as usize).ok_or("a frame")?.copy(),
     ))
@@ -66,7 +69,7 @@ fn reception(frames: &[Frame], x: Plain) -> Result<Reception, Fail> {
 /// The numbers of a reception.
 fn plain(frames: &[Frame], moment: Moment, name: &Receiver, frame: &Frame) -> Option<Plain> {
     Some(Plain {
-        second: moment.seconds().checked_sub(NOON)?,
+        milli: moment.millis().checked_sub(NOON)?,
         receiver: bit_of(name),
         frame: u8::try_from(frames.iter().position(|known| known == frame)?).ok()?,
     })
@@ -81,7 +84,7 @@ fn plain_row(frames: &[Frame], row: &Row<'_>) -> Option<PlainRow> {
     }
     Some(PlainRow {
         key: *KEYS.get(greatest.frame as usize)?,
-        first: row.first.seconds().checked_sub(NOON)?,
+        first: row.first.millis().checked_sub(NOON)?,
         greatest,
         receivers,
     })
@@ -169,27 +172,27 @@ impl Both {
 /// Five receptions of one key, the last by another receiver over a digipeater.
 const FIVE: [Plain; 5] = [
     Plain {
-        second: 0,
+        milli: 0,
         receiver: 1,
         frame: 3,
     },
     Plain {
-        second: 61,
+        milli: 60_001,
         receiver: 1,
         frame: 3,
     },
     Plain {
-        second: 31,
+        milli: 30_001,
         receiver: 1,
         frame: 3,
     },
     Plain {
-        second: 30,
+        milli: 30_000,
         receiver: 1,
         frame: 3,
     },
     Plain {
-        second: 50,
+        milli: 50_000,
         receiver: 2,
         frame: 0,
     },
@@ -244,10 +247,14 @@ impl Numbers {
         (self.state >> 33).checked_rem(end).unwrap_or(0)
     }
 
-    /// A reception of the table within some minutes.
+    /// A reception of the table within some minutes. Two of one key are as far apart as the gap, or
+    /// a millisecond or two nearer or farther, or more.
     fn reception(&mut self) -> Plain {
         Plain {
-            second: self.below(400),
+            milli: self
+                .below(14)
+                .wrapping_mul(30_000)
+                .wrapping_add(self.below(3)),
             receiver: match self.below(3) {
                 0 => 1,
                 1 => 2,
@@ -295,7 +302,7 @@ fn agrees_in_a_thousand(alloc: Global, frames: &[Frame], stride: u64) -> Result<
     let mut both = Both::new(alloc);
     for i in 0..1000u64 {
         let x = Plain {
-            second: i.wrapping_mul(stride) % 1000 * 31,
+            milli: i.wrapping_mul(stride) % 1000 * 30_001,
             receiver: 1,
             frame: 3,
         };

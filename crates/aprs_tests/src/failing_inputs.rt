@@ -4,6 +4,7 @@ use crate::devices::{Failing, Tight};
 use crate::vectors::{
     DIRECT_TEXT, FIRST_LINE, LOG, MERGED_TEXT, ONE_LINE, THREE_LINES, line_after,
 };
+use aprs_book::Gap;
 use aprs_booktext::BookCause;
 use aprs_kiss::Counted;
 use aprs_log::{LogCause, MAX_INPUT};
@@ -27,7 +28,13 @@ fn a_merge_is_written_up_to_a_refused_byte(rt: HostRuntime) {
             bytes: Vec::new(alloc),
             room,
         });
-        let run = merge_run(alloc, MAX_INPUT, inputs.as_mut_slice(), &mut w);
+        let run = merge_run(
+            alloc,
+            MAX_INPUT,
+            Gap::STANDARD,
+            inputs.as_mut_slice(),
+            &mut w,
+        );
         assert!(rt; matches!(&run, Err(RunFault::Write)));
         assert_eq!(rt; w.failures(), 1);
         assert_eq!(rt; w.into_inner().bytes.as_slice(), &MERGED_TEXT[..room]);
@@ -40,7 +47,7 @@ fn line_of(run: &Result<(), RunFault>) -> Option<u64> {
         Err(RunFault::Input { index: 1, fault }) => match fault {
             InputFault::Log(fault) => (fault.cause == LogCause::Read).then_some(fault.line),
             InputFault::Book(fault) => (fault.cause == BookCause::Read).then_some(fault.line),
-            InputFault::Memory => None,
+            InputFault::Memory | InputFault::OtherGap | InputFault::Narrower => None,
         },
         _ => None,
     }
@@ -60,9 +67,21 @@ fn the_second_of_three_inputs_fails_at_each_byte(rt: HostRuntime) {
                 ];
                 let mut w = Counted::new(Vec::new(alloc));
                 let run = if is_listing {
-                    show_run(alloc, MAX_INPUT, inputs.as_mut_slice(), &mut w)
+                    show_run(
+                        alloc,
+                        MAX_INPUT,
+                        Gap::STANDARD,
+                        inputs.as_mut_slice(),
+                        &mut w,
+                    )
                 } else {
-                    merge_run(alloc, MAX_INPUT, inputs.as_mut_slice(), &mut w)
+                    merge_run(
+                        alloc,
+                        MAX_INPUT,
+                        Gap::STANDARD,
+                        inputs.as_mut_slice(),
+                        &mut w,
+                    )
                 };
                 assert!(rt; line_of(&run) == Some(line_after(second, good)), "{good}");
                 assert!(rt; w.into_inner().is_empty());
@@ -76,7 +95,13 @@ fn the_second_of_three_inputs_fails_at_each_byte(rt: HostRuntime) {
 fn a_fault_of_an_input_has_status_1(rt: HostRuntime) {
     let mut inputs = [Counted::new(ONE_LINE), Counted::new(FIRST_LINE)];
     let mut w = Counted::new(Vec::new(rt.alloc()));
-    match merge_run(rt.alloc(), MAX_INPUT, inputs.as_mut_slice(), &mut w) {
+    match merge_run(
+        rt.alloc(),
+        MAX_INPUT,
+        Gap::STANDARD,
+        inputs.as_mut_slice(),
+        &mut w,
+    ) {
         Err(fault) => assert_eq!(rt; status_of(&fault), 1),
         Ok(()) => assert!(rt; false),
     }

@@ -16,6 +16,8 @@ mod devices;
 #[cfg(test)]
 mod failing_inputs;
 #[cfg(test)]
+mod gaps;
+#[cfg(test)]
 mod last_known;
 #[cfg(test)]
 mod lines;
@@ -27,6 +29,8 @@ mod listings;
 mod logs;
 #[cfg(test)]
 mod merges;
+#[cfg(test)]
+mod millis;
 #[cfg(test)]
 mod pieces;
 #[cfg(test)]

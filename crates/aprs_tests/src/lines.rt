@@ -11,14 +11,22 @@ use std::test::Fail;
 
 #[test]
 fn moments_and_their_texts(rt: HostRuntime) -> Result<(), Fail> {
-    for (text, seconds) in [
-        (b"1970-01-01T00:00:00Z", 0),
-        (b"2024-05-01T12:00:00Z", 1_714_564_800),
-        (b"2099-12-31T23:59:59Z", 4_102_444_799),
+    for (text, seconds, written) in [
+        (b"1970-01-01T00:00:00Z", 0, b"1970-01-01T00:00:00.000Z"),
+        (
+            b"2024-05-01T12:00:00Z",
+            1_714_564_800,
+            b"2024-05-01T12:00:00.000Z",
+        ),
+        (
+            b"2099-12-31T23:59:59Z",
+            4_102_444_799,
+            b"2099-12-31T23:59:59.000Z",
+        ),
     ] {
         let moment = Moment::parse(text).ok_or("a moment")?;
         assert_eq!(rt; moment.seconds(), seconds);
-        assert!(rt; moment.text() == *text);
+        assert!(rt; moment.text() == *written);
         assert!(rt; Moment::new(seconds) == Some(moment.copy()));
     }
     for text in [
@@ -88,7 +96,7 @@ fn a_line_of_another_port_is_written_as_of_port_0(rt: HostRuntime) -> Result<(),
     };
     let mut out = Counted::new(Vec::new(rt.alloc()));
     assert!(rt; write_line(&mut out, &heard) == Ok(()));
-    assert!(rt; out.into_inner().as_slice() == &LOG[..70]);
+    assert!(rt; out.into_inner().as_slice() == &LOG[..74]);
     Ok(())
 }
 

@@ -2,6 +2,7 @@
 
 use crate::last_known::frame_of;
 use crate::vectors::receiver;
+use aprs_book::Gap;
 use aprs_kiss::Counted;
 use aprs_log::{MAX_INPUT, Moment, Reception, write_line};
 use aprs_tool::show_run;
@@ -31,7 +32,13 @@ fn log_of(alloc: Global, all: &[Sent]) -> Result<Vec<u8>, Fail> {
 pub fn listing(alloc: Global, input: &[u8]) -> Result<Vec<u8>, Fail> {
     let mut inputs = [Counted::new(input)];
     let mut w = Counted::new(Vec::new(alloc));
-    match show_run(alloc, MAX_INPUT, inputs.as_mut_slice(), &mut w) {
+    match show_run(
+        alloc,
+        MAX_INPUT,
+        Gap::STANDARD,
+        inputs.as_mut_slice(),
+        &mut w,
+    ) {
         Ok(()) => Ok(w.into_inner()),
         Err(_) => Err("a fault".into()),
     }
@@ -59,7 +66,7 @@ const LATE: Sent = ("2024-05-01T12:10:00Z", FROM, b"!4903.50N/07201.75W-");
 const EARLY: Sent = (NOON, FROM, b"!4904.00N/07201.75W-");
 
 const GREATEST: &str = "station N0CALL-7 2
-position 2024-05-01T12:10:00Z RX1 - 294350/6000 -432175/6000 0 /-:
+position 2024-05-01T12:10:00.000Z RX1 - 294350/6000 -432175/6000 0 /-:
 ";
 
 // The greatest position is listed, whichever was taken last.
@@ -69,7 +76,7 @@ fn stations_are_listed(rt: HostRuntime) -> Result<(), Fail> {
         (&[], ""),
         (
             &[HELLO],
-            "station N0CALL-7 1\nstatus 2024-05-01T12:00:00Z RX1 -:Hi\n",
+            "station N0CALL-7 1\nstatus 2024-05-01T12:00:00.000Z RX1 -:Hi\n",
         ),
         (&[LATE, EARLY], GREATEST),
         (&[EARLY, LATE], GREATEST),
@@ -93,8 +100,8 @@ fn objects_and_items_are_listed(rt: HostRuntime) -> Result<(), Fail> {
         ],
         "station N0CALL-7 2
 station N0CALL-8 1
-object LEADER killed 2024-05-01T12:01:00Z RX1 N0CALL-8 092345z 294350/6000 -432175/6000 0 />:
-item LEADER live 2024-05-01T12:02:00Z RX1 N0CALL-7 - 294350/6000 -432175/6000 0 />:
+object LEADER killed 2024-05-01T12:01:00.000Z RX1 N0CALL-8 092345z 294350/6000 -432175/6000 0 />:
+item LEADER live 2024-05-01T12:02:00.000Z RX1 N0CALL-7 - 294350/6000 -432175/6000 0 />:
 ",
     )];
     assert!(rt; are_listed(rt.alloc(), cases.as_slice())?);
@@ -121,33 +128,33 @@ fn messages_are_listed(rt: HostRuntime) -> Result<(), Fail> {
             &[TESTING, BEFORE],
             "station N0CALL-7 1
 station WU2Z 1
-message N0CALL-7 WU2Z 003 unanswered 2024-05-01T12:00:00Z 2024-05-01T12:00:00Z:Testing
+message N0CALL-7 WU2Z 003 unanswered 2024-05-01T12:00:00.000Z 2024-05-01T12:00:00.000Z:Testing
 ",
         ),
         (
             &[TESTING, BEFORE, AFTER],
             "station N0CALL-7 1
 station WU2Z 2
-message N0CALL-7 WU2Z 003 acknowledged 2024-05-01T12:00:00Z 2024-05-01T12:00:00Z:Testing
+message N0CALL-7 WU2Z 003 acknowledged 2024-05-01T12:00:00.000Z 2024-05-01T12:00:00.000Z:Testing
 ",
         ),
         (
             &[TESTING, BEFORE, AFTER, REJECTED],
             "station N0CALL-7 1
 station WU2Z 3
-message N0CALL-7 WU2Z 003 rejected 2024-05-01T12:00:00Z 2024-05-01T12:00:00Z:Testing
+message N0CALL-7 WU2Z 003 rejected 2024-05-01T12:00:00.000Z 2024-05-01T12:00:00.000Z:Testing
 ",
         ),
         (
             &[TESTING, AGAIN],
             "station N0CALL-7 2
-message N0CALL-7 WU2Z 003 unanswered 2024-05-01T12:00:00Z 2024-05-01T12:00:40Z:Testing
+message N0CALL-7 WU2Z 003 unanswered 2024-05-01T12:00:00.000Z 2024-05-01T12:00:40.000Z:Testing
 ",
         ),
         (
             &[TESTING, OWN],
             "station N0CALL-7 2
-message N0CALL-7 WU2Z 003 unanswered 2024-05-01T12:00:00Z 2024-05-01T12:00:00Z:Testing
+message N0CALL-7 WU2Z 003 unanswered 2024-05-01T12:00:00.000Z 2024-05-01T12:00:00.000Z:Testing
 ",
         ),
     ];
@@ -165,15 +172,15 @@ fn messages_without_an_id_are_listed(rt: HostRuntime) -> Result<(), Fail> {
                 (NOON, FROM, b":WU2Z     :Testing{AB}CD"),
             ],
             "station N0CALL-7 2
-message N0CALL-7 WU2Z - unnumbered 2024-05-01T12:00:00Z 2024-05-01T12:00:00Z:Testing{AB}CD
-message N0CALL-7 WU2Z - unnumbered 2024-05-01T12:00:00Z 2024-05-01T12:00:00Z:ack
+message N0CALL-7 WU2Z - unnumbered 2024-05-01T12:00:00.000Z 2024-05-01T12:00:00.000Z:Testing{AB}CD
+message N0CALL-7 WU2Z - unnumbered 2024-05-01T12:00:00.000Z 2024-05-01T12:00:00.000Z:ack
 ",
         ),
         (
             &[TESTING, (NOON, FROM, b":WU2Z     :Testing")],
             "station N0CALL-7 2
-message N0CALL-7 WU2Z - unnumbered 2024-05-01T12:00:00Z 2024-05-01T12:00:00Z:Testing
-message N0CALL-7 WU2Z 003 unanswered 2024-05-01T12:00:00Z 2024-05-01T12:00:00Z:Testing
+message N0CALL-7 WU2Z - unnumbered 2024-05-01T12:00:00.000Z 2024-05-01T12:00:00.000Z:Testing
+message N0CALL-7 WU2Z 003 unanswered 2024-05-01T12:00:00.000Z 2024-05-01T12:00:00.000Z:Testing
 ",
         ),
     ];
@@ -189,31 +196,31 @@ fn places_are_listed(rt: HostRuntime) -> Result<(), Fail> {
         (
             &[(NOON, FROM, b"@092345/4903.50N/07201.75W>Test1234")],
             "station N0CALL-7 1
-position 2024-05-01T12:00:00Z RX1 092345/ 294350/6000 -432175/6000 0 />:Test1234
+position 2024-05-01T12:00:00.000Z RX1 092345/ 294350/6000 -432175/6000 0 />:Test1234
 ",
         ),
         (
             &[(NOON, FROM, b"=/5L!!<*e7> sTComment")],
             "station N0CALL-7 1
-position 2024-05-01T12:00:00Z RX1 - 18855837/380926 -13856184/190463 c />:Comment
+position 2024-05-01T12:00:00.000Z RX1 - 18855837/380926 -13856184/190463 c />:Comment
 ",
         ),
         (
             &[(NOON, FROM, b"!49  .  N/072  .  W-")],
             "station N0CALL-7 1
-position 2024-05-01T12:00:00Z RX1 - 294000/6000 -432000/6000 4 /-:
+position 2024-05-01T12:00:00.000Z RX1 - 294000/6000 -432000/6000 4 /-:
 ",
         ),
         (
             &[(NOON, FROM, b"!4903.50S/07201.75E:")],
             "station N0CALL-7 1
-position 2024-05-01T12:00:00Z RX1 - -294350/6000 432175/6000 0 /::
+position 2024-05-01T12:00:00.000Z RX1 - -294350/6000 432175/6000 0 /::
 ",
         ),
         (
             &[(NOON, FROM, b"!4903.50N\\07201.75W\\")],
             "station N0CALL-7 1
-position 2024-05-01T12:00:00Z RX1 - 294350/6000 -432175/6000 0 \\x5c\\x5c:
+position 2024-05-01T12:00:00.000Z RX1 - 294350/6000 -432175/6000 0 \\x5c\\x5c:
 ",
         ),
     ];
@@ -232,26 +239,26 @@ fn bytes_are_shown(rt: HostRuntime) -> Result<(), Fail> {
                 (NOON, FROM, b">092345zNet \\\x7f"),
             ],
             "station N0CALL-7 2
-position 2024-05-01T12:00:00Z RX1 - 294350/6000 -432175/6000 0 /-:a \\x5c\\xff
-status 2024-05-01T12:00:00Z RX1 092345z:Net \\x5c\\x7f
+position 2024-05-01T12:00:00.000Z RX1 - 294350/6000 -432175/6000 0 /-:a \\x5c\\xff
+status 2024-05-01T12:00:00.000Z RX1 092345z:Net \\x5c\\x7f
 ",
         ),
         (
             &[(NOON, FROM, b";MY \\CAR  *092345z4903.50N/07201.75W>\\\x80")],
             "station N0CALL-7 1
-object MY\\x20\\x5cCAR live 2024-05-01T12:00:00Z RX1 N0CALL-7 092345z 294350/6000 -432175/6000 0 />:\\x5c\\x80
+object MY\\x20\\x5cCAR live 2024-05-01T12:00:00.000Z RX1 N0CALL-7 092345z 294350/6000 -432175/6000 0 />:\\x5c\\x80
 ",
         ),
         (
             &[(NOON, FROM, b")A \\B_4903.50N/07201.75W>\\\x00")],
             "station N0CALL-7 1
-item A\\x20\\x5cB killed 2024-05-01T12:00:00Z RX1 N0CALL-7 - 294350/6000 -432175/6000 0 />:\\x5c\\x00
+item A\\x20\\x5cB killed 2024-05-01T12:00:00.000Z RX1 N0CALL-7 - 294350/6000 -432175/6000 0 />:\\x5c\\x00
 ",
         ),
         (
             &[(NOON, FROM, b":A \\B     :It is \\\xfe{1")],
             "station N0CALL-7 1
-message N0CALL-7 A\\x20\\x5cB 1 unanswered 2024-05-01T12:00:00Z 2024-05-01T12:00:00Z:It is \\x5c\\xfe
+message N0CALL-7 A\\x20\\x5cB 1 unanswered 2024-05-01T12:00:00.000Z 2024-05-01T12:00:00.000Z:It is \\x5c\\xfe
 ",
         ),
     ];

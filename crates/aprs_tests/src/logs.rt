@@ -24,13 +24,13 @@ fn a_reader_fails_at_each_byte(rt: HostRuntime) {
             good,
         });
         let mut reader = LogReader::new(rt.alloc(), MAX_INPUT, b"", &mut device);
-        for _ in 0..good / 70 {
+        for _ in 0..good / 74 {
             assert!(rt;
                 matches!(&reader.next(), Ok(Some(Line::Heard(_)))),
                 "at {good}"
             );
         }
-        let line = good as u64 / 70;
+        let line = good as u64 / 74;
         assert_eq!(rt; reader.line(), line);
         for _ in 0..2 {
             let fault = LogFault {
@@ -46,12 +46,12 @@ fn a_reader_fails_at_each_byte(rt: HostRuntime) {
 #[test]
 fn logs_that_end(rt: HostRuntime) {
     for (limit, head, input, lines, fault) in [
-        (140, 0, 140, 2, None),
-        (140, 8, 140, 2, None),
-        (70, 0, 140, 1, Some((2, LogCause::TooLong))),
-        (69, 0, 70, 0, Some((1, LogCause::TooLong))),
-        (140, 0, 139, 1, Some((2, LogCause::NoNewline))),
-        (140, 0, 70, 1, None),
+        (148, 0, 148, 2, None),
+        (148, 8, 148, 2, None),
+        (74, 0, 148, 1, Some((2, LogCause::TooLong))),
+        (73, 0, 74, 0, Some((1, LogCause::TooLong))),
+        (148, 0, 147, 1, Some((2, LogCause::NoNewline))),
+        (148, 0, 74, 1, None),
         (0, 0, 0, 0, None),
     ] {
         let mut device = slowly(&LOG[head..input]);

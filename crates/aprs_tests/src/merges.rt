@@ -1,6 +1,7 @@
 //! Merges, and the inputs of one.
 
 use crate::vectors::{DIRECT_TEXT, EMPTY_TEXT, MERGED_TEXT, ONE_LINE};
+use aprs_book::Gap;
 use aprs_booktext::{BookCause, BookFault, write_book};
 use aprs_kiss::Counted;
 use aprs_log::{LogCause, LogFault, MAX_INPUT};
@@ -19,13 +20,19 @@ const NEAR: &[u8] =
     b"1970-01-01T00:00:30Z RX2 c00082a0a4a64040e09c60868298986eae92888a6240e303f03e4869c0\n";
 
 /// What a merge writes, if it goes well.
-fn merged(alloc: Global, texts: &[&[u8]]) -> Result<Vec<u8>, Fail> {
+pub fn merged(alloc: Global, texts: &[&[u8]]) -> Result<Vec<u8>, Fail> {
     let mut inputs = Vec::new(alloc);
     for text in texts {
         inputs.push(Counted::new(*text))?;
     }
     let mut w = Counted::new(Vec::new(alloc));
-    match merge_run(alloc, MAX_INPUT, inputs.as_mut_slice(), &mut w) {
+    match merge_run(
+        alloc,
+        MAX_INPUT,
+        Gap::STANDARD,
+        inputs.as_mut_slice(),
+        &mut w,
+    ) {
         Ok(()) => Ok(w.into_inner()),
         Err(_) => Err("a fault".into()),
     }
@@ -67,7 +74,7 @@ fn told(fault: &InputFault) -> Option<(u64, &'static str)> {
     match fault {
         InputFault::Log(fault) => Some((fault.line, fault.cause.name())),
         InputFault::Book(fault) => Some((fault.line, fault.cause.name())),
-        InputFault::Memory => None,
+        InputFault::Memory | InputFault::OtherGap | InputFault::Narrower => None,
     }
 }
 
@@ -80,7 +87,13 @@ fn a_faulty_input_writes_nothing(rt: HostRuntime) -> Result<(), Fail> {
     faulty.extend_from_slice(b"2024-05-01T12:00:00Z RX1 zz\n")?;
     let mut inputs = [Counted::new(DIRECT_TEXT), Counted::new(faulty.as_slice())];
     let mut w = Counted::new(Vec::new(alloc));
-    let run = merge_run(alloc, MAX_INPUT, inputs.as_mut_slice(), &mut w);
+    let run = merge_run(
+        alloc,
+        MAX_INPUT,
+        Gap::STANDARD,
+        inputs.as_mut_slice(),
+        &mut w,
+    );
     let Err(RunFault::Input { index, fault }) = run else {
         return Err("a fault".into());
     };
@@ -94,19 +107,44 @@ fn a_faulty_input_writes_nothing(rt: HostRuntime) -> Result<(), Fail> {
 #[test]
 fn short_inputs_are_logs(rt: HostRuntime) -> Result<(), Fail> {
     let alloc = rt.alloc();
-    let Ok(book) = read_input(alloc, MAX_INPUT, &mut Counted::new(&DIRECT_TEXT[..0])) else {
+    let Ok(book) = read_input(
+        alloc,
+        MAX_INPUT,
+        Gap::STANDARD,
+        &mut Counted::new(&DIRECT_TEXT[..0]),
+    ) else {
         return Err("an empty log".into());
     };
     assert_eq!(rt; book.len(), 0);
     for size in 1..8usize {
-        let read = read_input(alloc, MAX_INPUT, &mut Counted::new(&DIRECT_TEXT[..size]));
+        let read = read_input(
+            alloc,
+            MAX_INPUT,
+            Gap::STANDARD,
+            &mut Counted::new(&DIRECT_TEXT[..size]),
+        );
         assert!(rt; matches!(&read, Err(fault) if told(fault) == Some((1, "NoNewline"))));
-        let read = read_input(alloc, size as u64, &mut Counted::new(DIRECT_TEXT));
+        let read = read_input(
+            alloc,
+            size as u64,
+            Gap::STANDARD,
+            &mut Counted::new(DIRECT_TEXT),
+        );
         assert!(rt; matches!(&read, Err(fault) if told(fault) == Some((1, "TooLong"))));
     }
-    let read = read_input(alloc, MAX_INPUT, &mut Counted::new(b"APRS\nBO".as_slice()));
+    let read = read_input(
+        alloc,
+        MAX_INPUT,
+        Gap::STANDARD,
+        &mut Counted::new(b"APRS\nBO".as_slice()),
+    );
     assert!(rt; matches!(&read, Err(fault) if told(fault) == Some((1, "Moment"))));
-    let read = read_input(alloc, MAX_INPUT, &mut Counted::new(&DIRECT_TEXT[..8]));
+    let read = read_input(
+        alloc,
+        MAX_INPUT,
+        Gap::STANDARD,
+        &mut Counted::new(&DIRECT_TEXT[..8]),
+    );
     assert!(rt; matches!(&read, Err(InputFault::Book(fault)) if fault.cause == BookCause::Ending));
     Ok(())
 }
@@ -140,7 +178,7 @@ fn a_reader_fails_at_each_byte(rt: HostRuntime) {
                 bytes: &text[..good],
                 failed: false,
             });
-            let read = read_input(rt.alloc(), MAX_INPUT, &mut r);
+            let read = read_input(rt.alloc(), MAX_INPUT, Gap::STANDARD, &mut r);
             if is_book && good >= 8 {
                 assert!(rt;
                     matches!(&read, Err(InputFault::Book(fault)) if fault.cause == BookCause::Read)
@@ -179,6 +217,8 @@ fn statuses_of_inputs(rt: HostRuntime) {
     let cause = LogCause::Memory;
     for (fault, status) in [
         (InputFault::Memory, 4),
+        (InputFault::OtherGap, 1),
+        (InputFault::Narrower, 1),
         (InputFault::Log(LogFault { line: 1, cause }), 4),
         (
             InputFault::Book(BookFault {

@@ -3,7 +3,7 @@
 
 use crate::devices::{Failing, Halting, Stuttering, Tight};
 use crate::runs::FRAME;
-use crate::vectors::LOG;
+use crate::vectors::{LOG, SHORT_LOG, line_after};
 use aprs_kiss::Counted;
 use aprs_log::{LogCause, LogFault, MAX_INPUT, Moment, Receiver};
 use aprs_tool::{Form, InputFault, RunFault, check_run, convert_run, status_of};
@@ -29,7 +29,7 @@ const FRAMES: &[u8] =
     b"\xc0\x00\x82\xa0\xa4\xa6\x40\x40\xe0\x9c\x60\x86\x82\x98\x98\x6f\x03\xf0>Hi\xc0\xc0\x00\x82\xa0\xa4\xa6\x40\x40\xe0\x9c\x60\x86\x82\x98\x98\x6f\x03\xf0>Hi\xc0";
 
 /// Each run, an input of two frames, and what the run writes.
-const RUNS: [(Run, &[u8], &[u8]); 6] = [
+const RUNS: [(Run, &[u8], &[u8]); 7] = [
     (Run::Check, LOG, b"heard 2 passed 0\n"),
     (Run::Text, LOG, TEXT),
     (
@@ -39,6 +39,7 @@ const RUNS: [(Run, &[u8], &[u8]); 6] = [
     ),
     (Run::Kiss, LOG, FRAMES),
     (Run::Log, LOG, LOG),
+    (Run::Log, SHORT_LOG, LOG),
     (Run::Capture, FRAMES, LOG),
 ];
 
@@ -72,7 +73,7 @@ fn gone<R: Read, W: Write>(
 // Neither device fails.
 #[test]
 fn readers_give_few_bytes(rt: HostRuntime) {
-    for most in 1..=140usize {
+    for most in 1..=148usize {
         for (run, input, text) in RUNS {
             let mut r = Counted::new(Failing {
                 bytes: input,
@@ -111,7 +112,7 @@ fn a_thousand_interrupted_reads_fail(rt: HostRuntime) {
         bytes: LOG,
         tries: 0,
         left: 0,
-        stuck: 70,
+        stuck: 74,
     });
     let mut w = Counted::new(Vec::new(rt.alloc()));
     let run = gone(rt.alloc(), Run::Text, &mut r, &mut w);
@@ -182,7 +183,7 @@ fn readers_fail_at_each_byte(rt: HostRuntime) -> Result<(), Fail> {
             assert_eq!(rt; status_of(&fault), 1);
             let line = match run {
                 Run::Capture => 0,
-                _ => good as u64 / 70 + 1,
+                _ => line_after(input, good),
             };
             assert!(rt; is_read_fault(&Err(fault), line), "{good}");
             assert_eq!(rt; r.failures(), 1);
@@ -214,5 +215,5 @@ fn a_stream_of_one_frame(rt: HostRuntime) {
     let mut w = Counted::new(Vec::new(rt.alloc()));
     let run = gone(rt.alloc(), Run::Capture, &mut Counted::new(FRAME), &mut w);
     assert!(rt; run.is_ok());
-    assert_eq!(rt; w.into_inner().as_slice(), &LOG[..70]);
+    assert_eq!(rt; w.into_inner().as_slice(), &LOG[..74]);
 }

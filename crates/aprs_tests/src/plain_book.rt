@@ -3,17 +3,18 @@
 use std::alloc::Global;
 use std::test::Fail;
 
-/// A reception: its second, its receiver's bit, and the number of its frame. Receptions are ordered
-/// as those of a book are, where greater bits are later names and greater numbers later bytes.
+/// A reception: its millisecond, its receiver's bit, and the number of its frame. Receptions are
+/// ordered as those of a book are, where greater bits are later names and greater numbers later
+/// bytes.
 #[derive(Clone, Copy, PartialEq, Eq, PartialOrd, Ord)]
 pub struct Plain {
-    pub second: u64,
+    pub milli: u64,
     pub receiver: u8,
     pub frame: u8,
 }
 
-/// A row: the number of its key, its first second, its greatest reception, which is its last, and
-/// its receivers' bits.
+/// A row: the number of its key, its first millisecond, its greatest reception, which is its last,
+/// and its receivers' bits.
 #[derive(Clone, Copy, PartialEq, Eq, PartialOrd, Ord)]
 pub struct PlainRow {
     pub key: u8,
@@ -27,7 +28,7 @@ impl PlainRow {
     pub fn single(key: u8, x: Plain) -> PlainRow {
         PlainRow {
             key,
-            first: x.second,
+            first: x.milli,
             greatest: x,
             receivers: x.receiver,
         }
@@ -36,8 +37,8 @@ impl PlainRow {
     /// Whether both have one key and at most 30 seconds lie between them.
     fn is_near(&self, other: &PlainRow) -> bool {
         self.key == other.key
-            && self.first <= other.greatest.second.saturating_add(30)
-            && other.first <= self.greatest.second.saturating_add(30)
+            && self.first <= other.greatest.milli.saturating_add(30_000)
+            && other.first <= self.greatest.milli.saturating_add(30_000)
     }
 
     /// Both as one row.

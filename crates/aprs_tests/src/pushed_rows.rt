@@ -3,7 +3,7 @@
 use crate::shown::shown;
 use crate::vectors::{DIRECT, NOON, heard, receiver};
 use aprs_ax25::Frame;
-use aprs_book::{Book, ReceiverList, RowCause, RowParts, RowsFault, from_rows};
+use aprs_book::{Book, Gap, ReceiverList, RowCause, RowParts, RowsFault, from_rows};
 use aprs_log::Moment;
 use std::alloc::{Allocator, Global};
 use std::test::Fail;
@@ -128,7 +128,7 @@ fn books_are_made_of_rows(rt: HostRuntime) -> Result<(), Fail> {
         ),
     ] {
         let parts = rows_of(alloc, spans)?;
-        match from_rows(alloc, parts.as_slice()) {
+        match from_rows(alloc, Gap::STANDARD, parts.as_slice()) {
             Ok(book) => assert!(rt; fault.is_none() && book.len() == rows),
             Err(RowsFault { place, cause }) => assert!(rt; fault == Some((place, cause))),
         }

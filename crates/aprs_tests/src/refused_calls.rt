@@ -3,7 +3,7 @@
 use crate::last_known::sent;
 use crate::shown::shown;
 use crate::vectors::receiver;
-use aprs_book::{Book, Join, Receivers, Step, join_all, replay};
+use aprs_book::{Book, Gap, Join, Receivers, Step, all_fit, join_all, replay};
 use bumpalo::Bump;
 use std::alloc::Global;
 use std::test::Fail;
@@ -74,6 +74,9 @@ fn called<'a>(
     let [first, second] = books else {
         return None;
     };
+    if !first.fits(second) || !all_fit(first, books) {
+        return None;
+    }
     match call {
         Call::Merge => Some(first.merge(second).ok()?.len()),
         Call::Join => Some(first.join(second).ok()?.len()),
@@ -90,12 +93,12 @@ fn replayed(bump: &Bump, steps: &[Step]) -> Option<usize> {
     if !aprs_book::steps_fit(2, steps) {
         return None;
     }
-    let books = replay(bump, 2, steps).ok()?;
+    let books = replay(bump, Gap::STANDARD, 2, steps).ok()?;
     Some(books.first()?.len())
 }
 
 /// Takes all room but for so many units of 128 bytes, and refuses any growth beyond.
-fn squeeze(bump: &Bump, units: usize) -> Result<Vec<u8, &Bump>, Fail> {
+pub fn squeeze(bump: &Bump, units: usize) -> Result<Vec<u8, &Bump>, Fail> {
     bump.set_allocation_limit(Some(0));
     let mut fill = Vec::new(bump);
     let room = units.saturating_mul(128);

@@ -3,7 +3,7 @@
 use crate::pushed_rows::parts;
 use crate::shown::shown;
 use crate::vectors::{DIRECT, MERGED_TEXT, NOON, heard};
-use aprs_book::{Book, RowCause, RowParts, RowsFault, from_rows};
+use aprs_book::{Book, Gap, RowCause, RowParts, RowsFault, from_rows};
 use aprs_booktext::{BookCause, BookFault, read_book, write_book};
 use aprs_kiss::Counted;
 use aprs_log::{MAX_INPUT, Reception};
@@ -127,7 +127,7 @@ fn memory_is_refused_at_a_row(rt: HostRuntime) -> Result<(), Fail> {
         let rows = three_rows(&heap)?;
         let mut fill: Vec<u8, &LocalHeap> = Vec::new(&heap);
         fill.reserve(64768 - units * 16)?;
-        match from_rows(&heap, &rows) {
+        match from_rows(&heap, Gap::STANDARD, &rows) {
             Ok(book) => {
                 assert_eq!(rt; book.len(), 3);
                 granted = granted.saturating_add(1);

@@ -2,7 +2,8 @@
 
 use crate::runs::FRAME;
 use crate::shown::shown;
-use crate::vectors::{LOG, MERGED_TEXT, ONE_LINE, THREE_LINES};
+use crate::vectors::{LOG, MERGED_TEXT, ONE_LINE, THREE_LINES, WRITTEN_LINE};
+use aprs_book::Gap;
 use aprs_booktext::{BookCause, write_book};
 use aprs_kiss::Counted;
 use aprs_log::{MAX_INPUT, Moment, Receiver};
@@ -15,11 +16,11 @@ use std::alloc::Global;
 use std::test::Fail;
 
 /// What is listed of `MERGED_TEXT`.
-const MERGED_LISTING: &[u8] = b"station N0CALL-7 2\nstatus 2099-12-31T23:59:59Z RX2 -:Hi\n";
+const MERGED_LISTING: &[u8] = b"station N0CALL-7 2\nstatus 2099-12-31T23:59:59.000Z RX2 -:Hi\n";
 
 /// An arena that has room for so many units of 64 bytes, and refuses the growth that would take it
 /// beyond until its limit is lifted.
-fn arena(alloc: Global, units: usize) -> Result<Bump, Fail> {
+pub fn arena(alloc: Global, units: usize) -> Result<Bump, Fail> {
     let room = units.saturating_mul(64);
     let bump = Bump::try_with_capacity(alloc, room)?;
     bump.set_allocation_limit(Some(0));
@@ -36,6 +37,7 @@ fn is_memory(fault: &InputFault, is_book: bool) -> bool {
         InputFault::Log(_) => false,
         InputFault::Book(fault) => is_book && fault.cause == BookCause::Memory,
         InputFault::Memory => !is_book,
+        InputFault::OtherGap | InputFault::Narrower => false,
     }
 }
 
@@ -47,7 +49,7 @@ fn inputs_are_refused_for_memory(rt: HostRuntime) -> Result<(), Fail> {
         let mut granted = 0u64;
         for units in 0..1024usize {
             let bump = arena(alloc, units)?;
-            match read_input(&bump, MAX_INPUT, &mut Counted::new(text)) {
+            match read_input(&bump, MAX_INPUT, Gap::STANDARD, &mut Counted::new(text)) {
                 Ok(book) => {
                     let mut out = Counted::new(Vec::new(alloc));
                     assert!(rt; write_book(&mut out, &book).is_ok());
@@ -130,8 +132,20 @@ fn gathered(alloc: Global, bump: &Bump, gathering: Gathering) -> (Vec<u8>, Resul
     let mut inputs = [Counted::new(THREE_LINES), Counted::new(MERGED_TEXT)];
     let mut out = Counted::new(Vec::new(alloc));
     let run = match gathering {
-        Gathering::Merge => merge_run(bump, MAX_INPUT, inputs.as_mut_slice(), &mut out),
-        Gathering::Show => show_run(bump, MAX_INPUT, inputs.as_mut_slice(), &mut out),
+        Gathering::Merge => merge_run(
+            bump,
+            MAX_INPUT,
+            Gap::STANDARD,
+            inputs.as_mut_slice(),
+            &mut out,
+        ),
+        Gathering::Show => show_run(
+            bump,
+            MAX_INPUT,
+            Gap::STANDARD,
+            inputs.as_mut_slice(),
+            &mut out,
+        ),
     };
     (out.into_inner(), run)
 }
@@ -188,7 +202,7 @@ fn checks_and_conversions_take_no_memory(rt: HostRuntime) -> Result<(), Fail> {
         ),
         (Form::Kiss, ONE_LINE, FRAME),
         (Form::Log, LOG, LOG),
-        (Form::Capture { receiver, moment }, FRAME, ONE_LINE),
+        (Form::Capture { receiver, moment }, FRAME, WRITTEN_LINE),
     ] {
         let mut out = Counted::new(Vec::new(alloc));
         let run = convert_run(&bump, MAX_INPUT, form, &mut Counted::new(input), &mut out);

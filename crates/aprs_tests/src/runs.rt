@@ -2,7 +2,7 @@
 ghost use Rattle.std.specs.Prelude.{◌≤◌};
 
 use crate::devices::{Failing, Full};
-use crate::vectors::{LOG, ONE_LINE};
+use crate::vectors::{LOG, ONE_LINE, WRITTEN_LINE};
 use aprs_kiss::Counted;
 use aprs_log::{LogCause, LogFault, MAX_INPUT, Moment, Receiver};
 use aprs_tool::{Form, InputFault, RunFault, check_run, convert_run, status_of};
@@ -33,7 +33,7 @@ fn fault_of(run: Result<(), RunFault>) -> Option<(u64, LogCause)> {
 }
 
 /// What a conversion writes, and its fault.
-fn converted(
+pub fn converted(
     rt: &HostRuntime,
     limit: u64,
     form: Form,
@@ -53,7 +53,7 @@ fn one_line_in_each_form(rt: HostRuntime) {
         (Form::Text, b"N0CALL-7>APRS:>Hi\n".as_slice()),
         (Form::Kind, b"status N0CALL-7>APRS:>Hi\n".as_slice()),
         (Form::Kiss, FRAME),
-        (Form::Log, ONE_LINE),
+        (Form::Log, WRITTEN_LINE),
     ] {
         let (written, fault) = converted(&rt, MAX_INPUT, form, ONE_LINE);
         assert_eq!(rt; written.as_slice(), text);
@@ -64,7 +64,7 @@ fn one_line_in_each_form(rt: HostRuntime) {
 #[test]
 fn a_limit_cuts_a_log(rt: HostRuntime) {
     let (written, fault) = converted(&rt, 70, Form::Log, ONE_LINE);
-    assert_eq!(rt; written.as_slice(), ONE_LINE);
+    assert_eq!(rt; written.as_slice(), WRITTEN_LINE);
     assert!(rt; fault.is_none());
     let (written, fault) = converted(&rt, 69, Form::Log, ONE_LINE);
     assert!(rt; written.is_empty());

@@ -3,12 +3,13 @@
 use crate::devices::{Full, Tight};
 use crate::listings::listing;
 use crate::vectors::{DIRECT_TEXT, EMPTY_TEXT, FIRST_LINE, ONE_LINE};
+use aprs_book::Gap;
 use aprs_kiss::Counted;
 use aprs_log::MAX_INPUT;
 use aprs_tool::{InputFault, RunFault, show_run, status_of};
 use std::test::Fail;
 
-const HELLO_LISTING: &[u8] = b"station N0CALL-7 1\nstatus 2024-05-01T12:00:00Z RX1 -:Hi\n";
+const HELLO_LISTING: &[u8] = b"station N0CALL-7 1\nstatus 2024-05-01T12:00:00.000Z RX1 -:Hi\n";
 
 #[test]
 fn an_empty_log_or_book_lists_nothing(rt: HostRuntime) -> Result<(), Fail> {
@@ -17,7 +18,7 @@ fn an_empty_log_or_book_lists_nothing(rt: HostRuntime) -> Result<(), Fail> {
     assert!(rt; listing(alloc, EMPTY_TEXT)?.is_empty());
     let mut none: [Counted<&[u8]>; 0] = [];
     let mut w = Counted::new(Vec::new(alloc));
-    assert!(rt; show_run(alloc, MAX_INPUT, none.as_mut_slice(), &mut w).is_ok());
+    assert!(rt; show_run(alloc, MAX_INPUT, Gap::STANDARD, none.as_mut_slice(), &mut w).is_ok());
     assert!(rt; w.into_inner().is_empty());
     Ok(())
 }
@@ -32,7 +33,16 @@ fn a_book_is_listed_as_its_log(rt: HostRuntime) -> Result<(), Fail> {
         let [first, second] = texts;
         let mut inputs = [Counted::new(first), Counted::new(second)];
         let mut w = Counted::new(Vec::new(alloc));
-        assert!(rt; show_run(alloc, MAX_INPUT, inputs.as_mut_slice(), &mut w).is_ok());
+        assert!(rt;
+            show_run(
+                alloc,
+                MAX_INPUT,
+                Gap::STANDARD,
+                inputs.as_mut_slice(),
+                &mut w
+            )
+            .is_ok()
+        );
         assert_eq!(rt; w.into_inner().as_slice(), HELLO_LISTING);
     }
     Ok(())
@@ -43,7 +53,13 @@ fn a_faulty_input_lists_nothing(rt: HostRuntime) -> Result<(), Fail> {
     let alloc = rt.alloc();
     let mut inputs = [Counted::new(ONE_LINE), Counted::new(FIRST_LINE)];
     let mut w = Counted::new(Vec::new(alloc));
-    let run = show_run(alloc, MAX_INPUT, inputs.as_mut_slice(), &mut w);
+    let run = show_run(
+        alloc,
+        MAX_INPUT,
+        Gap::STANDARD,
+        inputs.as_mut_slice(),
+        &mut w,
+    );
     let Err(RunFault::Input { index, fault }) = run else {
         return Err("a fault".into());
     };
@@ -62,7 +78,13 @@ fn a_refused_output_has_a_prefix(rt: HostRuntime) {
             bytes: Vec::new(alloc),
             room,
         });
-        let run = show_run(alloc, MAX_INPUT, inputs.as_mut_slice(), &mut w);
+        let run = show_run(
+            alloc,
+            MAX_INPUT,
+            Gap::STANDARD,
+            inputs.as_mut_slice(),
+            &mut w,
+        );
         assert!(rt; matches!(&run, Err(RunFault::Write)));
         assert!(rt; w.failures() == 1);
         assert!(rt; w.into_inner().bytes.as_slice() == &HELLO_LISTING[..room]);
@@ -71,6 +93,7 @@ fn a_refused_output_has_a_prefix(rt: HostRuntime) {
     let run = show_run(
         alloc,
         MAX_INPUT,
+        Gap::STANDARD,
         inputs.as_mut_slice(),
         &mut Counted::new(Full),
     );

@@ -51,29 +51,90 @@ fn words_that_ask_for_a_capture(rt: HostRuntime) -> Result<(), Fail> {
     Ok(())
 }
 
+/// The gap, in seconds, and the inputs of a merge that words ask for.
+fn merge_of(asked: &Job) -> Option<(u64, &[String])> {
+    match asked {
+        Job::Merge(gap, inputs) => Some((gap.seconds(), inputs.as_slice())),
+        _ => None,
+    }
+}
+
 #[test]
 fn words_that_ask_for_a_merge(rt: HostRuntime) -> Result<(), Fail> {
-    let Ok(Job::Merge(inputs)) = job(rt.alloc(), &["aprsbook", "merge"]) else {
-        return Err("a merge".into());
-    };
-    assert!(rt; inputs.is_empty());
+    let asked = job(rt.alloc(), &["aprsbook", "merge"]).ok().ok_or("a job")?;
+    let (gap, inputs) = merge_of(&asked).ok_or("a merge")?;
+    assert!(rt; gap == 30 && inputs.is_empty());
     let words = ["aprsbook", "merge", "rx1.log", "rx2.book"];
-    let Ok(Job::Merge(inputs)) = job(rt.alloc(), &words) else {
-        return Err("a merge".into());
-    };
+    let asked = job(rt.alloc(), &words).ok().ok_or("a job")?;
+    let (gap, inputs) = merge_of(&asked).ok_or("a merge")?;
+    assert_eq!(rt; gap, 30);
     assert_eq!(rt; inputs.len(), 2);
     assert!(rt; inputs[0].as_str() == "rx1.log");
     assert!(rt; inputs[1].as_str() == "rx2.book");
     Ok(())
 }
 
+/// The gap, in seconds, and the inputs of a listing that words ask for.
+fn listing_of(asked: &Job) -> Option<(u64, &[String])> {
+    match asked {
+        Job::Show(gap, inputs) => Some((gap.seconds(), inputs.as_slice())),
+        _ => None,
+    }
+}
+
 #[test]
 fn words_that_ask_for_a_listing(rt: HostRuntime) -> Result<(), Fail> {
-    let Ok(Job::Show(inputs)) = job(rt.alloc(), &["aprsbook", "show", "rx1.log"]) else {
-        return Err("a listing".into());
-    };
-    assert!(rt; is_only(inputs.as_slice(), "rx1.log"));
+    let asked = job(rt.alloc(), &["aprsbook", "show", "rx1.log"])
+        .ok()
+        .ok_or("a job")?;
+    let (gap, inputs) = listing_of(&asked).ok_or("a listing")?;
+    assert_eq!(rt; gap, 30);
+    assert!(rt; is_only(inputs, "rx1.log"));
     Ok(())
+}
+
+/// The gap, in seconds, that a job has.
+fn seconds_of(asked: &Job) -> Option<u64> {
+    match asked {
+        Job::Merge(gap, _) => Some(gap.seconds()),
+        Job::Show(gap, _) => Some(gap.seconds()),
+        Job::Widen(gap, _) => Some(gap.seconds()),
+        Job::Check(_) | Job::Convert(_, _) => None,
+    }
+}
+
+/// The gap, in seconds, that words ask for.
+fn gap_of(rt: &HostRuntime, words: &[&str]) -> Option<u64> {
+    match job(rt.alloc(), words) {
+        Ok(asked) => seconds_of(&asked),
+        Err(_) => None,
+    }
+}
+
+#[test]
+fn words_that_ask_for_a_gap(rt: HostRuntime) {
+    for (words, gap) in [
+        (["aprsbook", "merge", "--gap", "1"].as_slice(), 1),
+        (
+            ["aprsbook", "merge", "--gap=3600", "rx1.log"].as_slice(),
+            3600,
+        ),
+        (["aprsbook", "show", "--gap", "45"].as_slice(), 45),
+        (["aprsbook", "widen", "45"].as_slice(), 45),
+        (["aprsbook", "widen", "3600", "net.book"].as_slice(), 3600),
+    ] {
+        assert!(rt; gap_of(&rt, words) == Some(gap));
+    }
+    for words in [
+        ["aprsbook", "merge", "--gap", "0"].as_slice(),
+        ["aprsbook", "merge", "--gap", "3601"].as_slice(),
+        ["aprsbook", "show", "--gap", "soon"].as_slice(),
+        ["aprsbook", "widen", "0"].as_slice(),
+        ["aprsbook", "widen"].as_slice(),
+        ["aprsbook", "widen", "45", "one.book", "two.book"].as_slice(),
+    ] {
+        assert!(rt; matches!(&job(rt.alloc(), words), Err(JobFault::Clap(_))));
+    }
 }
 
 #[test]
@@ -95,7 +156,7 @@ fn words_that_ask_for_nothing(rt: HostRuntime) {
 }
 
 /// Words that ask for help or the version, and what its text has to say.
-const HELP: [(&[&str], &[&str]); 6] = [
+const HELP: [(&[&str], &[&str]); 7] = [
     (
         &["aprsbook", "--help"],
         &[
@@ -104,6 +165,7 @@ const HELP: [(&[&str], &[&str]); 6] = [
             "  convert ",
             "  merge ",
             "  show ",
+            "  widen ",
             "convert text of standard input",
             "  aprsbook check rx1.log",
             "  aprsbook convert text rx1.log",
@@ -135,11 +197,21 @@ const HELP: [(&[&str], &[&str]); 6] = [
     ),
     (
         &["aprsbook", "merge", "--help"],
-        &["Usage: aprsbook merge [INPUT]..."],
+        &[
+            "Usage: aprsbook merge [OPTIONS] [INPUT]...",
+            "--gap <SECONDS>",
+        ],
     ),
     (
         &["aprsbook", "show", "--help"],
-        &["Usage: aprsbook show [INPUT]..."],
+        &[
+            "Usage: aprsbook show [OPTIONS] [INPUT]...",
+            "--gap <SECONDS>",
+        ],
+    ),
+    (
+        &["aprsbook", "widen", "--help"],
+        &["Usage: aprsbook widen <SECONDS> [INPUT]"],
     ),
     (&["aprsbook", "--version"], &["aprsbook 0.1.0"]),
 ];

@@ -5,8 +5,11 @@ use Rattle.std.proofs.lemmas.Bool.Decides.{Decides-eqb}
 use Rattle.std.proofs.lemmas.Slice.Eq.{bytes_eq-Decides, starts_is}
 use Rattle.std.specs.Str.{bytes_eq}
 use Rattle.aprs_laws.specs.Book.{BookOf}
+use Rattle.aprs_laws.specs.BookValue.{BookValue}
+use Rattle.aprs_laws.specs.Gap.{millis_of}
 use Rattle.aprs_laws.specs.Real.{real}
 use Rattle.aprs_laws.specs.Row.{Row}
+use Rattle.aprs_laws.specs.Sound.{Sound}
 use Rattle.aprs_laws.proofs.Soundness.{realised}
 use Rattle.aprs_log.specs.LogAnswers.{Gets, ended, fault_at, log_answers, receptions_of}
 use Rattle.aprs_log.specs.declared.Ending.{Ending}
@@ -14,13 +17,16 @@ use Rattle.aprs_log.specs.declared.Ending.TheVariants as ending
 use Rattle.aprs_log.specs.declared.fault.LogCause.{LogCause}
 use Rattle.aprs_booktext.specs.FirstFault.{FirstFault, IsMemoryAt, piece_most, Reads}
 use Rattle.aprs_booktext.specs.Text.{book_text, IsBookRows}
+use Rattle.aprs_booktext.specs.Version.{gap_of, IsVersion}
+use Rattle.aprs_booktext.specs.declared.version.Version.{Version}
+use Rattle.aprs_booktext.specs.declared.version.Version.TheVariants.{One, Two, Three}
 use Rattle.aprs_booktext.specs.declared.fault.BookFault.{BookFault}
 use Rattle.aprs_booktext.proofs.Accepting.{rows_few}
 use Rattle.aprs_booktext.proofs.OneText.{cut_short}
 use Rattle.aprs_tool.specs.Head.{IsHead}
-use Rattle.aprs_tool.specs.Inputs.{AddsAll, AreMembersIn, HoldsOfGot, is_book_file, IsFaultIn, IsMemoryIn, OfGot, ReadsInput, ReadsInto, ReadsLog}
+use Rattle.aprs_tool.specs.Inputs.{AddsAll, AreMembersIn, HoldsOfGot, is_book_file, IsFaultIn, IsGapIn, IsMemoryIn, IsRefused, OfGot, ReadsInput, ReadsLog, TakesInput}
 use Rattle.aprs_tool.specs.declared.fault.InputFault.{InputFault}
-use Rattle.aprs_tool.specs.declared.fault.InputFault.TheVariants.{Log, Book, Memory}
+use Rattle.aprs_tool.specs.declared.fault.InputFault.TheVariants.{Log, Book, Memory, OtherGap, Narrower}
 
 abbrev mark : List ℕ
 mark = codes "APRSBOOK"
@@ -39,6 +45,15 @@ is_mark head b e same = (bytes_eq-Decides head mark).0 (by (bytes_eq head mark) 
     by : (b : Bool) → not b ≡ false → b ≡ true
     by true e = refl
     by false e = absurd cc
+
+-- or whether they are those
+pub is_mark_eq : (head : List ℕ) (b : Bool) → b ≡ bytes_eq head mark → b ≡ true → head ≡ mark
+is_mark_eq head b e same = (bytes_eq-Decides head mark).0 (sym e ∙ same)
+
+pub is_other_eq : (head : List ℕ) (b : Bool) → b ≡ bytes_eq head mark → b ≡ false → head ≡ mark → ⊥
+is_other_eq head b e other same =
+    let f : false ≡ true = sym other ∙ e ∙ (bytes_eq-Decides head mark).1 same in
+    absurd cc
 
 begins : (t : List ℕ) → is_book_file t ≡ true → t ≡ mark ++ drop 8 t
 begins t e = (starts_is Decides-eqb t mark (is_book_file t) refl).0 e
@@ -81,7 +96,7 @@ is_log head more t rest whole other e = by (is_book_file t) refl
     by true is = absurd (not_mark head more (drop 8 t ++ rest) whole other (e ∙ ap (λ l. l ++ rest) (begins t is) ∙ append_assoc mark (drop 8 t) rest))
 
 -- nor a shorter one
-short_is_log : (t : List ℕ) → length t < 8 → is_book_file t ≡ false
+pub short_is_log : (t : List ℕ) → length t < 8 → is_book_file t ≡ false
 short_is_log t short = by (is_book_file t) refl
   where
     by : (b : Bool) → is_book_file t ≡ b → is_book_file t ≡ false
@@ -90,132 +105,177 @@ short_is_log t short = by (is_book_file t) refl
 
 -- ---- a log
 
-faultless_log : (gap : ℕ) (b : Bool) (t : List ℕ) (c : Ending) → b ≡ false → (log_answers t c).fault ≡ None → (e : InputFault) → IsFaultIn gap b e t c → ⊥
-faultless_log gap true t c is none e h = absurd cc
-faultless_log gap false t c is none (Log f) h = absurd cc
-faultless_log gap false t c is none (Book f) h = h
-faultless_log gap false t c is none Memory h = h
+faultless_log : (b : Bool) (t : List ℕ) (c : Ending) → b ≡ false → (log_answers t c).fault ≡ None → (e : InputFault) → IsFaultIn b e t c → ⊥
+faultless_log true t c is none e h = absurd cc
+faultless_log false t c is none (Log f) h = absurd cc
+faultless_log false t c is none (Book f) h = h
+faultless_log false t c is none Memory h = h
+faultless_log false t c is none OtherGap h = h
+faultless_log false t c is none Narrower h = h
 
 members_log : (gap : ℕ) (b : Bool) (t : List ℕ) (c : Ending) → b ≡ false → AreMembersIn gap b t c (receptions_of (log_answers t c).given)
 members_log gap true t c is = absurd cc
 members_log gap false t c is = refl
 
-fault_log : (gap : ℕ) (b : Bool) (e : InputFault) (t : List ℕ) (c : Ending) → b ≡ false → IsFaultIn gap false e t c → IsFaultIn gap b e t c
-fault_log gap true e t c is h = absurd cc
-fault_log gap false e t c is h = h
+fault_log : (b : Bool) (e : InputFault) (t : List ℕ) (c : Ending) → b ≡ false → IsFaultIn false e t c → IsFaultIn b e t c
+fault_log true e t c is h = absurd cc
+fault_log false e t c is h = h
 
-memory_log : (gap : ℕ) (b : Bool) (e : InputFault) (t : List ℕ) → b ≡ false → IsMemoryIn gap false e t → IsMemoryIn gap b e t
-memory_log gap true e t is h = absurd cc
-memory_log gap false e t is h = h
+memory_log : (b : Bool) (e : InputFault) (t : List ℕ) → b ≡ false → IsMemoryIn false e t → IsMemoryIn b e t
+memory_log true e t is h = absurd cc
+memory_log false e t is h = h
 
 -- rows that nothing is added to
 pub adds_none : (gap : ℕ) (rows : List Row) → AddsAll gap [] rows rows
-adds_none gap rows S book = subst (λ T. BookOf gap T rows) (sym (append-nil S)) book
+adds_none gap rows S book = subst (λ T. BookOf (millis_of gap) T rows) (sym (append-nil S)) book
 
-reads_log : (gap : ℕ) (r : Result (Unit {0}) InputFault) (old new : List Row) (t : List ℕ) (c : Ending) → is_book_file t ≡ false → ReadsLog gap r old new t c
-    → ReadsInto gap r old new t c
-reads_log gap (Ok u) old new t c is h = (
-  faultless_log gap (is_book_file t) t c is h.0,
-  (receptions_of (log_answers t c).given, members_log gap (is_book_file t) t c is, h.1),
-)
-reads_log gap (Err e) old new t c is h = elim h [
-  | inl m ↦ inl (inl (memory_log gap (is_book_file t) e t is m))
-  | inr f ↦ inl (inr (fault_log gap (is_book_file t) e t c is f))
+pub refused_log : (gap : ℕ) (e : InputFault) (old new : List Row) (t : List ℕ) (c : Ending) → is_book_file t ≡ false → ReadsLog gap (Err e) old new t c → IsRefused e t c
+refused_log gap e old new t c is h = elim h [
+  | inl m ↦ inl (memory_log (is_book_file t) e t is m)
+  | inr f ↦ inr (fault_log (is_book_file t) e t c is f)
 ]
 
+-- what is read of a log is taken
+pub reads_log : (gap : ℕ) (r : Result (Unit {0}) InputFault) (old new : List Row) (t : List ℕ) (c : Ending) → is_book_file t ≡ false → ReadsLog gap r old new t c
+    → TakesInput gap r old new t c
+reads_log gap (Ok u) old new t c is h = (
+  faultless_log (is_book_file t) t c is h.0,
+  (receptions_of (log_answers t c).given, members_log gap (is_book_file t) t c is, h.1),
+)
+reads_log gap (Err e) old new t c is h = inl (refused_log gap e old new t c is h)
+
+gap_log : (asked : ℕ) (b : Bool) (gap : ℕ) → b ≡ false → gap ≡ asked → IsGapIn asked b gap
+gap_log asked true gap is e = absurd cc
+gap_log asked false gap is e = e
+
+-- what is read of a log into the book of no receptions is its book
+pub read_alone : (asked gap : ℕ) (b : BookValue) (old : List Row) (t : List ℕ) (c : Ending) → is_book_file t ≡ false → gap ≡ asked → b.gap ≡ gap → BookOf (millis_of gap) [] old → ReadsLog gap (Ok tt) old b.rows t c
+    → ReadsInput asked (Ok b) t c
+read_alone asked gap b old t c is its same none h =
+    let told = receptions_of (log_answers t c).given in (
+      faultless_log (is_book_file t) t c is h.0,
+      (
+        gap_log asked (is_book_file t) b.gap is (same ∙ its),
+        told,
+        members_log b.gap (is_book_file t) t c is,
+        subst (λ g. BookOf (millis_of g) told b.rows) (sym same) (h.1 [] none),
+      ),
+    )
+
 -- what was got of one is read as a log's text
-pub log_input : (gap : ℕ) (known after : Option (List ℕ)) (limit : ℕ) (head : List ℕ) (r : Result (Unit {0}) InputFault) (old new : List Row) → IsHead head → (head ≡ mark → ⊥)
-    → IfSome known (λ input. HoldsOfGot limit (head ++ input) after (ReadsLog gap r old new)) → IfSome known (λ input. HoldsOfGot limit (head ++ input) after (ReadsInto gap r old new))
-log_input gap None after limit head r old new size other h = tt
-log_input gap (Some input) after limit head r old new size other h = record {
+pub log_input : (known after : Option (List ℕ)) (limit : ℕ) (head : List ℕ) (P Q : List ℕ → Ending → Type 0) → IsHead head → (head ≡ mark → ⊥)
+    → ((t : List ℕ) (c : Ending) → is_book_file t ≡ false → P t c → Q t c)
+    → IfSome known (λ input. HoldsOfGot limit (head ++ input) after P) → IfSome known (λ input. HoldsOfGot limit (head ++ input) after Q)
+log_input None after limit head P Q size other follows h = tt
+log_input (Some input) after limit head P Q size other follows h = record {
   text = h.text;
   ending = h.ending;
   gets = h.gets;
-  holds = reads_log gap r old new h.text h.ending (is_log head input h.text h.gets.rest size other h.gets.whole) h.holds;
+  holds = follows h.text h.ending (is_log head input h.text h.gets.rest size other h.gets.whole) h.holds;
 }
 
 -- a short one has this fault, or none
-pub short_fault : (gap : ℕ) (t : List ℕ) (c : Ending) (k : LogCause) (rows : List Row) → length t < 8 → log_answers t c ≡ ended (fault_at 1 (Some k))
-    → ReadsInto gap (Err (Log (record { line = 1; cause = k }))) rows rows t c
-short_fault gap t c k rows short e =
-    reads_log gap (Err (Log (record { line = 1; cause = k }))) rows rows t c (short_is_log t short) (inr (ap (λ a. a.fault) e))
+pub short_fault : (gap : ℕ) (t : List ℕ) (c : Ending) (k : LogCause) (rows : List Row) → log_answers t c ≡ ended (fault_at 1 (Some k))
+    → ReadsLog gap (Err (Log (record { line = 1; cause = k }))) rows rows t c
+short_fault gap t c k rows e = inr (ap (λ a. a.fault) e)
 
-pub short_empty : (gap : ℕ) (t : List ℕ) (c : Ending) (rows : List Row) → length t < 8 → log_answers t c ≡ ended (fault_at 1 None)
-    → ReadsInto gap (Ok tt) rows rows t c
-short_empty gap t c rows short e =
-    reads_log gap (Ok tt) rows rows t c (short_is_log t short) (ap (λ a. a.fault) e, subst (λ a. AddsAll gap (receptions_of a.given) rows rows) (sym e) (adds_none gap rows))
+pub short_empty : (gap : ℕ) (t : List ℕ) (c : Ending) (rows : List Row) → log_answers t c ≡ ended (fault_at 1 None) → ReadsLog gap (Ok tt) rows rows t c
+short_empty gap t c rows e = (ap (λ a. a.fault) e, subst (λ a. AddsAll gap (receptions_of a.given) rows rows) (sym e) (adds_none gap rows))
 
 -- ---- a book file
 
-faultless_book : (gap : ℕ) (b : Bool) (rows : List Row) → IsBookRows gap rows → length (book_text rows) ≤ 1073741824 → b ≡ true
-    → (e : InputFault) → IsFaultIn gap b e (book_text rows) ending.End → ⊥
-faultless_book gap false rows is fits b e h = absurd cc
-faultless_book gap true rows is fits b (Book f) h =
-    (cut_short gap rows is (omega (arith, fits, rows_few rows)) [] ending.End f.cause (book_text rows) f (append-nil (book_text rows)) refl h).1 refl refl
-faultless_book gap true rows is fits b (Log f) h = h
-faultless_book gap true rows is fits b Memory h = h
+faultless_book : (v : Version) (b : Bool) (rows : List Row) → IsBookRows v rows → length (book_text v rows) ≤ 1073741824 → b ≡ true
+    → (e : InputFault) → IsFaultIn b e (book_text v rows) ending.End → ⊥
+faultless_book v false rows is fits b e h = absurd cc
+faultless_book v true rows is fits b (Book f) h =
+    (cut_short v rows is (omega (arith, fits, rows_few v rows)) [] ending.End f.cause (book_text v rows) f (append-nil (book_text v rows)) refl h).1 refl refl
+faultless_book v true rows is fits b (Log f) h = h
+faultless_book v true rows is fits b Memory h = h
+faultless_book v true rows is fits b OtherGap h = h
+faultless_book v true rows is fits b Narrower h = h
 
-members_book : (gap : ℕ) (b : Bool) (rows : List Row) → IsBookRows gap rows → b ≡ true → AreMembersIn gap b (book_text rows) ending.End (real rows)
-members_book gap false rows is b = absurd cc
-members_book gap true rows is b = record { rows = rows; is_book = is; text_is = refl; receptions_are = refl }
+members_book : (gap : ℕ) (v : Version) (b : Bool) (rows : List Row) → gap_of v ≡ gap → IsBookRows v rows → b ≡ true → AreMembersIn gap b (book_text v rows) ending.End (real rows)
+members_book gap v false rows same is b = absurd cc
+members_book gap v true rows same is b = record { version = v; gap_is = same; rows = rows; is_book = is; text_is = refl; receptions_are = refl }
 
-fault_book : (gap : ℕ) (b : Bool) (f : BookFault) (t : List ℕ) (c : Ending) → b ≡ true → FirstFault gap t c f → IsFaultIn gap b (Book f) t c
-fault_book gap false f t c is h = absurd cc
-fault_book gap true f t c is h = h
+fault_book : (b : Bool) (f : BookFault) (t : List ℕ) (c : Ending) → b ≡ true → FirstFault t c f → IsFaultIn b (Book f) t c
+fault_book false f t c is h = absurd cc
+fault_book true f t c is h = h
 
-memory_book : (gap : ℕ) (b : Bool) (f : BookFault) (t : List ℕ) → b ≡ true → IsMemoryAt gap piece_most t f → IsMemoryIn gap b (Book f) t
-memory_book gap false f t is h = absurd cc
-memory_book gap true f t is h = h
+memory_book : (b : Bool) (f : BookFault) (t : List ℕ) → b ≡ true → IsMemoryAt piece_most t f → IsMemoryIn b (Book f) t
+memory_book false f t is h = absurd cc
+memory_book true f t is h = h
 
-book_begins : (rows : List Row) → is_book_file (book_text rows) ≡ true
-book_begins rows = is_book (book_text rows) (drop 8 (book_text rows)) refl
+book_begins : (v : Version) (rows : List Row) → is_book_file (book_text v rows) ≡ true
+book_begins One rows = is_book (book_text One rows) (drop 8 (book_text One rows)) refl
+book_begins Two rows = is_book (book_text Two rows) (drop 8 (book_text Two rows)) refl
+book_begins (Three gap) rows = is_book (book_text (Three gap) rows) (drop 8 (book_text (Three gap) rows)) refl
 
-reads_book : (gap : ℕ) → 0 < gap → (rows : List Row) → IsBookRows gap rows → length (book_text rows) ≤ 1073741824 → ReadsInput gap (Ok rows) (book_text rows) ending.End
-reads_book gap pos rows is fits = (
-  faultless_book gap (is_book_file (book_text rows)) rows is fits (book_begins rows),
-  (real rows, members_book gap (is_book_file (book_text rows)) rows is (book_begins rows), realised gap rows pos is.sound),
-)
+-- the gap of a version
+gap_positive : (v : Version) → IsVersion v → 0 < gap_of v
+gap_positive One is = omega arith
+gap_positive Two is = omega arith
+gap_positive (Three gap) is = is.0
+
+gap_book : (asked : ℕ) (b : Bool) (gap : ℕ) → b ≡ true → IsGapIn asked b gap
+gap_book asked false gap is = absurd cc
+gap_book asked true gap is = tt
+
+reads_book : (asked : ℕ) (b : BookValue) (v : Version) → b.gap ≡ gap_of v → IsBookRows v b.rows → length (book_text v b.rows) ≤ 1073741824
+    → ReadsInput asked (Ok b) (book_text v b.rows) ending.End
+reads_book asked b v same is fits =
+    let begin = book_begins v b.rows in
+    let positive = gap_positive v is.version in (
+      faultless_book v (is_book_file (book_text v b.rows)) b.rows is fits begin,
+      (
+        gap_book asked (is_book_file (book_text v b.rows)) b.gap begin,
+        real b.rows,
+        members_book b.gap v (is_book_file (book_text v b.rows)) b.rows (sym same) is begin,
+        realised (millis_of b.gap) b.rows (omega (arith, positive, same)) (subst (λ g. Sound (millis_of g) b.rows) (sym same) is.sound),
+      ),
+    )
 
 -- ---- what was got of a book file
 
-module _ (gap limit : ℕ) (input : List ℕ) (after : Option (List ℕ)) (small : limit ≤ 1073741824) where
-  pub refused_book : (f : BookFault) → Reads gap limit mark input after (Err f) → HoldsOfGot limit (mark ++ input) after (ReadsInput gap (Err (Book f)))
+module _ (limit : ℕ) (input : List ℕ) (after : Option (List ℕ)) (small : limit ≤ 1073741824) where
+  pub refused_book : (f : BookFault) → Reads limit mark input after (Err f) → HoldsOfGot limit (mark ++ input) after (IsRefused (Book f))
   refused_book f h = record {
     text = mark ++ h.got;
     ending = h.ending;
     gets = h.gets;
     holds = elim h.reads [
-      | inl memory ↦ inl (memory_book gap (is_book_file (mark ++ h.got)) f (mark ++ h.got) (is_book (mark ++ h.got) h.got refl) memory)
-      | inr first ↦ inr (fault_book gap (is_book_file (mark ++ h.got)) f (mark ++ h.got) h.ending (is_book (mark ++ h.got) h.got refl) first)
+      | inl memory ↦ inl (memory_book (is_book_file (mark ++ h.got)) f (mark ++ h.got) (is_book (mark ++ h.got) h.got refl) memory)
+      | inr first ↦ inr (fault_book (is_book_file (mark ++ h.got)) f (mark ++ h.got) h.ending (is_book (mark ++ h.got) h.got refl) first)
     ];
   }
 
-  pub read_book : 0 < gap → (rows : List Row) → Reads gap limit mark input after (Ok rows) → HoldsOfGot limit (mark ++ input) after (ReadsInput gap (Ok rows))
-  read_book pos rows h =
-      let gets : Gets limit (mark ++ input) after (book_text rows) ending.End =
-      subst (λ c. Gets limit (mark ++ input) after (book_text rows) c) h.reads.2 (subst (λ t. Gets limit (mark ++ input) after t h.ending) h.reads.0 h.gets) in
+  pub read_book : (asked : ℕ) (b : BookValue) → Reads limit mark input after (Ok b) → HoldsOfGot limit (mark ++ input) after (ReadsInput asked (Ok b))
+  read_book asked b h =
+      let v = h.reads.0 in
+      let gets : Gets limit (mark ++ input) after (book_text v b.rows) ending.End =
+      subst (λ c. Gets limit (mark ++ input) after (book_text v b.rows) c) h.reads.4 (subst (λ t. Gets limit (mark ++ input) after t h.ending) h.reads.2 h.gets) in
       record {
-        text = book_text rows;
+        text = book_text v b.rows;
         ending = ending.End;
         gets = gets;
-        holds = reads_book gap pos rows h.reads.1 (omega (arith, small, gets.ends.1));
+        holds = reads_book asked b v h.reads.1 h.reads.3 (omega (arith, small, gets.ends.1));
       }
 
 -- where its bytes may not be known
-pub book_input : (gap : ℕ) → 0 < gap → (known after : Option (List ℕ)) (limit : ℕ) (head : List ℕ) (rows : List Row) → limit ≤ 1073741824 → head ≡ mark
-    → IfSome known (λ input. Reads gap limit head input after (Ok rows)) → IfSome known (λ input. HoldsOfGot limit (head ++ input) after (ReadsInput gap (Ok rows)))
-book_input gap pos None after limit head rows small is h = tt
-book_input gap pos (Some input) after limit head rows small is h = subst (λ l. HoldsOfGot limit (l ++ input) after (ReadsInput gap (Ok rows))) (sym is)
-    (read_book gap limit input after small pos rows (subst (λ l. Reads gap limit l input after (Ok rows)) is h))
+pub book_input : (asked : ℕ) (known after : Option (List ℕ)) (limit : ℕ) (head : List ℕ) (b : BookValue) → limit ≤ 1073741824
+    → head ≡ mark → IfSome known (λ input. Reads limit head input after (Ok b)) → IfSome known (λ input. HoldsOfGot limit (head ++ input) after (ReadsInput asked (Ok b)))
+book_input asked None after limit head b small is h = tt
+book_input asked (Some input) after limit head b small is h = subst (λ l. HoldsOfGot limit (l ++ input) after (ReadsInput asked (Ok b))) (sym is)
+    (read_book limit input after small asked b (subst (λ l. Reads limit l input after (Ok b)) is h))
 
-pub refused_input : (gap : ℕ) (known after : Option (List ℕ)) (limit : ℕ) (head : List ℕ) (f : BookFault) → limit ≤ 1073741824 → head ≡ mark
-    → IfSome known (λ input. Reads gap limit head input after (Err f)) → IfSome known (λ input. HoldsOfGot limit (head ++ input) after (ReadsInput gap (Err (Book f))))
-refused_input gap None after limit head f small is h = tt
-refused_input gap (Some input) after limit head f small is h = subst (λ l. HoldsOfGot limit (l ++ input) after (ReadsInput gap (Err (Book f)))) (sym is)
-    (refused_book gap limit input after small f (subst (λ l. Reads gap limit l input after (Err f)) is h))
+pub refused_input : (known after : Option (List ℕ)) (limit : ℕ) (head : List ℕ) (f : BookFault) → limit ≤ 1073741824 → head ≡ mark
+    → IfSome known (λ input. Reads limit head input after (Err f)) → IfSome known (λ input. HoldsOfGot limit (head ++ input) after (IsRefused (Book f)))
+refused_input None after limit head f small is h = tt
+refused_input (Some input) after limit head f small is h = subst (λ l. HoldsOfGot limit (l ++ input) after (IsRefused (Book f))) (sym is)
+    (refused_book limit input after small f (subst (λ l. Reads limit l input after (Err f)) is h))
 
 -- what was got is read so
-pub of_got : (gap : ℕ) (known after : Option (List ℕ)) (limit : ℕ) (t : List ℕ) (c : Ending) (r : Result (Unit {0}) InputFault) (old new : List Row) → IfSome known (λ input. Gets limit input after t c)
-    → ReadsInto gap r old new t c → OfGot limit known after (ReadsInto gap r old new)
-of_got gap None after limit t c r old new gets reads = tt
-of_got gap (Some input) after limit t c r old new gets reads = record { text = t; ending = c; gets = gets; holds = reads }
+pub of_got : (known after : Option (List ℕ)) (limit : ℕ) (t : List ℕ) (c : Ending) (P : List ℕ → Ending → Type 0) → IfSome known (λ input. Gets limit input after t c)
+    → P t c → OfGot limit known after P
+of_got None after limit t c P gets reads = tt
+of_got (Some input) after limit t c P gets reads = record { text = t; ending = c; gets = gets; holds = reads }

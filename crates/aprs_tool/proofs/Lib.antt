@@ -1,5 +1,4 @@
 pub mod Texts
-pub mod Desks
 pub mod Inputs
 pub mod Into
 pub mod Logs
@@ -12,3 +11,4 @@ pub mod ShortLogs
 pub mod Checked
 pub mod Captures
 pub mod Forms
+pub mod Widens

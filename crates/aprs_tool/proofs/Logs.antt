@@ -1,6 +1,7 @@
 -- Lemmas on the book of a log whose lines are read one by one.
 use Rattle.std.proofs.Common.{◌≡◌, ℕ, List, [], ◌∷◌, ◌++◌, Option, None, Some, Result, Ok, Err, IfSome, inl, inr, refl, ap, sym, ◌∙◌, append_assoc, append-nil, subst}
 use Rattle.aprs_laws.specs.Book.{BookOf}
+use Rattle.aprs_laws.specs.Gap.{millis_of}
 use Rattle.aprs_laws.specs.Row.{Row}
 use Rattle.aprs_log.specs.LogAnswers.{Answers, ended, log_answers, receptions_of, then_given}
 use Rattle.aprs_log.specs.Reader.{AreAnswersOf}
@@ -31,14 +32,15 @@ Took-none gap first rows = record { seen = []; has = HasSeen-none first; adds = 
 
 -- a line was taken, which the reader lent
 pub Took-line : (gap : ℕ) (first now after : Answers → Type 0) (old rows new : List Row) (x lent : Line) → lent ≡ x → Took gap first now old rows
-    → ((answers : Answers) → after answers → now (then_given x answers)) → AddsAll gap (receptions_of (lent ∷ [])) rows new → Took gap first after old new
-Took-line gap first now after old rows new x lent same h next adds = record {
+    → ((answers : Answers) → after answers → now (then_given x answers)) → (own : ℕ) → own ≡ gap
+    → AddsAll own (receptions_of (lent ∷ [])) rows new → Took gap first after old new
+Took-line gap first now after old rows new x lent same h next own is adds = record {
   seen = h.seen ++ x ∷ [];
   has = HasSeen-line first now after h.seen x h.has next;
-  adds = λ S book. subst (λ T. BookOf gap T new)
+  adds = λ S book. subst (λ T. BookOf (millis_of gap) T new)
       (append_assoc S (receptions_of h.seen) (receptions_of (lent ∷ []))
       ∙ ap (λ (y : Line). S ++ (receptions_of h.seen ++ receptions_of (y ∷ []))) same ∙ ap (λ T. S ++ T) (sym (receptions_of-append h.seen (x ∷ []))))
-      (adds (S ++ receptions_of h.seen) (h.adds S book));
+      (subst (λ g. AddsAll g (receptions_of (lent ∷ [])) rows new) is adds (S ++ receptions_of h.seen) (h.adds S book));
 }
 
 -- of a log whose answers are these

@@ -7,11 +7,14 @@ use Rattle.std.proofs.lemmas.List.{length-map, map-set, take_all}
 use Rattle.std.proofs.lemmas.Option.{slice_get-get_or, slice_get-map, slice_get_within}
 use Rattle.aprs_kiss.specs.Device.{RoseWhere}
 use Rattle.aprs_laws.specs.Book.{BookOf}
+use Rattle.aprs_laws.specs.BookValue.{BookValue}
+use Rattle.aprs_laws.specs.Gap.{millis_of}
 use Rattle.aprs_laws.specs.Row.{Row}
 use Rattle.aprs_log.specs.Reception.{Heard}
 use Rattle.aprs_log.proofs.AwaitLemmas.{gets_whole}
-use Rattle.aprs_tool.specs.Inputs.{AreMembers, HoldsOfGot, IsFaultless, IsNotTaken, OfGot, TakesInput}
-use Rattle.aprs_tool.specs.Merge.{AreFaultless, AreMembersOfAll, GetsEach, Got, HoldsOfEach, IsBookOfAll, IsFirstRefused, ReadsEach, WritesOfAll}
+use Rattle.aprs_booktext.specs.Text.{written_text}
+use Rattle.aprs_tool.specs.Inputs.{AreMembers, Fits, HoldsOfGot, IsNotTaken, OfGot, TakesInput}
+use Rattle.aprs_tool.specs.Merge.{AllFit, AreMembersOfAll, GetsEach, Got, book_with, HoldsOfEach, IsBookOfAll, IsBookTextOf, IsFirstRefused, ReadsEach, WritesOfAll}
 use Rattle.aprs_tool.specs.declared.fault.InputFault.{InputFault}
 
 abbrev pub some_each : List (List ℕ) → List (Option (List ℕ))
@@ -104,17 +107,17 @@ gots_len limit (input ∷ done) [] [] h = absurd h
 gots_len limit (input ∷ done) [] (g ∷ gots) h = absurd h
 gots_len limit (input ∷ done) (after ∷ afters) [] h = absurd h
 
-faultless_more : (gap : ℕ) (gots : List Got) (g : Got) → AreFaultless gap gots → IsFaultless gap g.text g.ending → AreFaultless gap (gots ++ g ∷ [])
-faultless_more gap [] g h k = (k, tt)
-faultless_more gap (x ∷ gots) g h k = (h.0, faultless_more gap gots g h.1 k)
+fit_more : (gap : ℕ) (gots : List Got) (g : Got) → AllFit gap gots → Fits gap g.text g.ending → AllFit gap (gots ++ g ∷ [])
+fit_more gap [] g h k = (k, tt)
+fit_more gap (x ∷ gots) g h k = (h.0, fit_more gap gots g h.1 k)
 
 members_more : (gap : ℕ) (gots : List Got) (g : Got) (S T : List Heard) → AreMembersOfAll gap gots S → AreMembers gap g.text g.ending T → AreMembersOfAll gap (gots ++ g ∷ []) (S ++ T)
 members_more gap [] g S T h k = (T, [], k, refl, ap (λ l. l ++ T) h ∙ sym (append-nil T))
 members_more gap (x ∷ gots) g S T h k =
     (h.0, h.1 ++ T, h.2, members_more gap gots g h.1 T h.3 k, ap (λ l. l ++ T) h.4 ∙ append_assoc h.0 h.1 T)
 
--- the first that is not taken stands behind faultless ones
-first_refused : (gap : ℕ) (gots : List Got) (g : Got) (more : List Got) (e : InputFault) → AreFaultless gap gots → IsNotTaken gap e g.text g.ending
+-- the first that is not taken stands after those that fit
+first_refused : (gap : ℕ) (gots : List Got) (g : Got) (more : List Got) (e : InputFault) → AllFit gap gots → IsNotTaken gap e g.text g.ending
     → IsFirstRefused gap (length gots) e (gots ++ g ∷ more)
 first_refused gap [] g more e h k = k
 first_refused gap (x ∷ gots) g more e h k = (h.0, first_refused gap gots g more e h.1 k)
@@ -143,10 +146,10 @@ pub record HasRead (gap limit : ℕ) (inputs : List (List ℕ)) (afters : List (
   pub place : length done ≡ index
   pub gots : List Got
   pub gets : GetsEach limit done (take index afters) gots
-  pub faultless : AreFaultless gap gots
+  pub fit : AllFit gap gots
   pub book : IsBookOfAll gap rows gots
 
-pub HasRead-none : (gap limit : ℕ) (inputs : List (List ℕ)) (afters : List (Option (List ℕ))) (rows : List Row) → BookOf gap [] rows → HasRead gap limit inputs afters 0 rows
+pub HasRead-none : (gap limit : ℕ) (inputs : List (List ℕ)) (afters : List (Option (List ℕ))) (rows : List Row) → BookOf (millis_of gap) [] rows → HasRead gap limit inputs afters 0 rows
 HasRead-none gap limit inputs afters rows book = record {
   done = [];
   rest = inputs;
@@ -154,7 +157,7 @@ HasRead-none gap limit inputs afters rows book = record {
   place = refl;
   gots = [];
   gets = tt;
-  faultless = tt;
+  fit = tt;
   book = ([], refl, book);
 }
 
@@ -177,13 +180,14 @@ module _ (gap limit : ℕ) (inputs : List (List ℕ)) (afters next : List (Optio
       omega (arith, within, len, h.place, length-map inputs (λ (input : List ℕ). Some input))
 
   -- it is taken
-  pub HasRead-more : (new : List Row) (most : ℕ) → most ≡ limit → OfGot most known after (TakesInput gap (Ok tt) rows new) → HasRead gap limit inputs next (index + 1) new
-  HasRead-more new most same took = go h.rest refl
+  pub HasRead-more : (new : List Row) (most : ℕ) → most ≡ limit → (own : ℕ) → own ≡ gap → OfGot most known after (TakesInput own (Ok tt) rows new)
+      → HasRead gap limit inputs next (index + 1) new
+  HasRead-more new most same own is took = go h.rest refl
     where
       go : (rest : List (List ℕ)) → h.rest ≡ rest → HasRead gap limit inputs next (index + 1) new
       go [] e = absurd (none_left e)
       go (input ∷ rest) e =
-          let got : HoldsOfGot limit input after (TakesInput gap (Ok tt) rows new) = subst (λ k. OfGot limit k after (TakesInput gap (Ok tt) rows new)) (here input rest e) (subst (λ l. OfGot l known after (TakesInput gap (Ok tt) rows new)) same took) in
+          let got : HoldsOfGot limit input after (TakesInput gap (Ok tt) rows new) = subst (λ k. OfGot limit k after (TakesInput gap (Ok tt) rows new)) (here input rest e) (subst (λ l. OfGot l known after (TakesInput gap (Ok tt) rows new)) same (subst (λ n. OfGot most known after (TakesInput n (Ok tt) rows new)) is took)) in
           let g : Got = record { text = got.text; ending = got.ending } in
           let T = got.holds.1.0 in
           record {
@@ -194,14 +198,15 @@ module _ (gap limit : ℕ) (inputs : List (List ℕ)) (afters next : List (Optio
             gots = h.gots ++ g ∷ [];
             gets = subst (λ l. GetsEach limit (h.done ++ input ∷ []) l (h.gots ++ g ∷ [])) (sym adds)
                 (gets_more limit h.done (input ∷ []) (take index afters) (after ∷ []) h.gots (g ∷ []) h.gets (got.gets, tt));
-            faultless = faultless_more gap h.gots g h.faultless got.holds.0;
+            fit = fit_more gap h.gots g h.fit (got.holds.0, (T, got.holds.1.1));
             book = (h.book.0 ++ T, members_more gap h.gots g h.book.0 T h.book.1 got.holds.1.1, got.holds.1.2 h.book.0 h.book.2);
           }
 
   -- it is not
-  pub HasRead-refused : (e : InputFault) (old new : List Row) (most : ℕ) → most ≡ limit → length next ≡ length inputs → OfGot most known after (TakesInput gap (Err e) old new)
+  pub HasRead-refused : (e : InputFault) (old new : List Row) (most : ℕ) → most ≡ limit → length next ≡ length inputs → (own : ℕ) → own ≡ gap
+      → OfGot most known after (TakesInput own (Err e) old new)
       → HoldsOfEach limit inputs next (ReadsEach gap (Err (index, e)))
-  HasRead-refused fault old new most same size took = go h.rest refl
+  HasRead-refused fault old new most same size own is took = go h.rest refl
     where
       tail : List (Option (List ℕ))
       tail = drop (index + 1) next
@@ -212,7 +217,7 @@ module _ (gap limit : ℕ) (inputs : List (List ℕ)) (afters next : List (Optio
       go : (rest : List (List ℕ)) → h.rest ≡ rest → HoldsOfEach limit inputs next (ReadsEach gap (Err (index, fault)))
       go [] e = absurd (none_left e)
       go (input ∷ rest) e =
-          let got : HoldsOfGot limit input after (TakesInput gap (Err fault) old new) = subst (λ k. OfGot limit k after (TakesInput gap (Err fault) old new)) (here input rest e) (subst (λ l. OfGot l known after (TakesInput gap (Err fault) old new)) same took) in
+          let got : HoldsOfGot limit input after (TakesInput gap (Err fault) old new) = subst (λ k. OfGot limit k after (TakesInput gap (Err fault) old new)) (here input rest e) (subst (λ l. OfGot l known after (TakesInput gap (Err fault) old new)) same (subst (λ n. OfGot most known after (TakesInput n (Err fault) old new)) is took)) in
           let g : Got = record { text = got.text; ending = got.ending } in
           let whole : length inputs ≡ length h.done + length (input ∷ rest) = ap length (h.cut ∙ ap (λ l. h.done ++ l) e) ∙ length-append h.done (input ∷ rest) in
           let few = length-drop (index + 1) next in
@@ -223,26 +228,30 @@ module _ (gap limit : ℕ) (inputs : List (List ℕ)) (afters next : List (Optio
                 (subst (λ l. GetsEach limit l (take index afters ++ after ∷ tail) (h.gots ++ g ∷ left.gots)) (sym (h.cut ∙ ap (λ l. h.done ++ l) e))
                 (gets_more limit h.done (input ∷ rest) (take index afters) (after ∷ tail) h.gots (g ∷ left.gots) h.gets (got.gets, left.gets)));
             holds = subst (λ i. IsFirstRefused gap i fault (h.gots ++ g ∷ left.gots)) (gots_len limit h.done (take index afters) h.gots h.gets ∙ h.place)
-                (first_refused gap h.gots g left.gots fault h.faultless got.holds);
+                (first_refused gap h.gots g left.gots fault h.fit got.holds);
           }
 
 -- a text that tells of whatever set the rows are the book of tells of the receptions of all
-pub written : (gap : ℕ) (Tells : List Heard → List ℕ → Type 0) (gots : List Got) (rows : List Row) (text : List ℕ) (P : List ℕ → Type 0) → ReadsEach gap (Ok rows) gots
-    → ((S : List Heard) → BookOf gap S rows → Tells S text) → P text → WritesOfAll gap Tells gots P
-written gap Tells gots rows text P read tells p = (read.0, (read.1.0, text, read.1.1, tells read.1.0 read.1.2, p))
+pub written : (gap : ℕ) (Tells : List Heard → List ℕ → Type 0) (gots : List Got) (b : BookValue) (text : List ℕ) (P : List ℕ → Type 0) → ReadsEach gap (Ok b) gots
+    → ((S : List Heard) → BookOf (millis_of gap) S b.rows → Tells S text) → P text → WritesOfAll gap Tells gots P
+written gap Tells gots b text P read tells p = (read.1, (read.2.0, text, read.2.1, tells read.2.0 read.2.2, p))
+
+-- the text of a book of this gap tells of each set whose book it is
+pub text_of_book : (gap : ℕ) (b : BookValue) → b.gap ≡ gap → (S : List Heard) → BookOf (millis_of gap) S b.rows → IsBookTextOf gap S (written_text b)
+text_of_book gap b same S book = (b.rows, book, ap (λ g. written_text (book_with g b.rows)) same)
 
 -- there are as many as their bytes
 pub same_len : {X : Type 0} (f : X → Option (List ℕ)) (xs : List X) (inputs : List (List ℕ)) → map f xs ≡ some_each inputs → length inputs ≡ length xs
 same_len f xs inputs e = sym (length-map inputs (λ input. Some input)) ∙ ap length (sym e) ∙ length-map xs f
 
 -- all are read
-pub HasRead-all : (gap limit : ℕ) (inputs : List (List ℕ)) (afters : List (Option (List ℕ))) (index : ℕ) (rows found : List Row) → found ≡ rows → HasRead gap limit inputs afters index rows
-    → length inputs ≡ index → length afters ≡ index → HoldsOfEach limit inputs afters (ReadsEach gap (Ok found))
-HasRead-all gap limit inputs afters index rows found same h all many = record {
+pub HasRead-all : (gap limit : ℕ) (inputs : List (List ℕ)) (afters : List (Option (List ℕ))) (index : ℕ) (b : BookValue) → b.gap ≡ gap → HasRead gap limit inputs afters index b.rows
+    → length inputs ≡ index → length afters ≡ index → HoldsOfEach limit inputs afters (ReadsEach gap (Ok b))
+HasRead-all gap limit inputs afters index b same h all many = record {
   gots = h.gots;
   gets = subst (λ l. GetsEach limit inputs l h.gots) (take_all index afters (omega (arith, many)))
       (subst (λ l. GetsEach limit l (take index afters) h.gots) (sym (h.cut ∙ ap (λ l. h.done ++ l) (none h.rest (let len : length inputs ≡ length h.done + length h.rest = ap length h.cut ∙ length-append h.done h.rest in omega (arith, len, all, h.place))) ∙ append-nil h.done)) h.gets);
-  holds = (h.faultless, subst (λ r. IsBookOfAll gap r h.gots) (sym same) h.book);
+  holds = (same, h.fit, h.book);
 }
   where
     none : (l : List (List ℕ)) → length l ≡ 0 → l ≡ []

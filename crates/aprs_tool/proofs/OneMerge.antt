@@ -1,71 +1,74 @@
 -- Inputs that stand for one set have one book.
-use Rattle.std.proofs.Common.{◌≡◌, ℕ, ◌<◌, Bool, true, false, List, [], ◌∷◌, ◌++◌, sym, ap, ◌∙◌, subst}
+use Rattle.std.proofs.Common.{◌≡◌, ℕ, ◌<◌, Bool, true, false, List, [], ◌∷◌, ◌++◌, sym, ap, ◌∙◌, subst, arith}
 use Rattle.aprs_log.specs.LogAnswers.{log_answers, receptions_of}
 use Rattle.aprs_log.specs.Reception.{Heard}
 use Rattle.aprs_log.specs.declared.Ending.{Ending}
 use Rattle.aprs_laws.specs.Book.{BookOf}
+use Rattle.aprs_laws.specs.Gap.{millis_of}
 use Rattle.aprs_laws.specs.JoinRow.{merge}
 use Rattle.aprs_laws.specs.Lists.{SameMembers}
 use Rattle.aprs_laws.specs.Row.{Row}
+use Rattle.aprs_laws.specs.Sound.{Sound}
 use Rattle.aprs_laws.proofs.Books.{book_carries, one_book, turn, unique}
 use Rattle.aprs_laws.proofs.Soundness.{exists, realised}
 use Rattle.aprs_laws.proofs.Unions.{merged}
-use Rattle.aprs_booktext.specs.Text.{book_text}
+use Rattle.aprs_booktext.specs.Text.{written_text}
 use Rattle.aprs_booktext.proofs.OneText.{one_text}
 use Rattle.aprs_tool.specs.Inputs.{AreMembersIn, is_book_file}
-use Rattle.aprs_tool.specs.Merge.{AreMembersOfAll, Got, IsBookOfAll}
+use Rattle.aprs_tool.specs.Merge.{AreMembersOfAll, book_with, Got, IsBookOfAll}
 use Rattle.aprs_tool.specs.StandsFor.{StandForUnion, StandsForIn}
 
 -- two sets with one book
 pub record ShareBook (gap : ℕ) (S T : List Heard) : Type 0 where
   pub rows : List Row
-  pub first : BookOf gap S rows
-  pub second : BookOf gap T rows
+  pub first : BookOf (millis_of gap) S rows
+  pub second : BookOf (millis_of gap) T rows
 
 -- what an input stands for, and what is read of it
 of_one : (gap : ℕ) → 0 < gap → (b : Bool) (t : List ℕ) (c : Ending) (S T : List Heard) → StandsForIn gap b t c S → AreMembersIn gap b t c T → ShareBook gap S T
 of_one gap pos true t c S T stands reads =
-    let same : stands.rows ≡ reads.rows = one_text gap stands.rows reads.rows stands.is_book reads.is_book (sym stands.text_is ∙ reads.text_is) in
+    let same : stands.rows ≡ reads.rows = (one_text stands.version reads.version stands.rows reads.rows stands.is_book reads.is_book (sym stands.text_is ∙ reads.text_is)).1 in
     record {
       rows = reads.rows;
-      first = subst (λ (rows : List Row). BookOf gap S rows) same stands.book_is;
-      second = subst (λ U. BookOf gap U reads.rows) (sym reads.receptions_are) (realised gap reads.rows pos reads.is_book.sound);
+      first = subst (λ (rows : List Row). BookOf (millis_of gap) S rows) same stands.book_is;
+      second = subst (λ U. BookOf (millis_of gap) U reads.rows) (sym reads.receptions_are)
+          (realised (millis_of gap) reads.rows (omega (arith, pos)) (subst (λ g. Sound (millis_of g) reads.rows) reads.gap_is reads.is_book.sound));
     }
 of_one gap pos false t c S T stands reads =
     let told = receptions_of (log_answers t c).given in
-    let p = exists gap told in
+    let p = exists (millis_of gap) told in
     record {
       rows = p.0;
-      first = book_carries gap told S p.0 (turn S told stands) p.1;
-      second = subst (λ U. BookOf gap U p.0) (sym reads) p.1;
+      first = book_carries (millis_of gap) told S p.0 (turn S told stands) p.1;
+      second = subst (λ U. BookOf (millis_of gap) U p.0) (sym reads) p.1;
     }
 
 of_all : (gap : ℕ) → 0 < gap → (gots : List Got) (S T : List Heard) → StandForUnion gap gots S → AreMembersOfAll gap gots T → ShareBook gap S T
 of_all gap pos [] S T stands reads =
-    let p = exists gap [] in
+    let p = exists (millis_of gap) [] in
     record {
       rows = p.0;
-      first = subst (λ U. BookOf gap U p.0) (sym stands) p.1;
-      second = subst (λ U. BookOf gap U p.0) (sym reads) p.1;
+      first = subst (λ U. BookOf (millis_of gap) U p.0) (sym stands) p.1;
+      second = subst (λ U. BookOf (millis_of gap) U p.0) (sym reads) p.1;
     }
 of_all gap pos (g ∷ gots) S T stands reads =
     let one = of_one gap pos (is_book_file g.text) g.text g.ending stands.0 reads.0 stands.2 reads.2 in
     let others = of_all gap pos gots stands.1 reads.1 stands.3 reads.3 in
-    let rows = merge gap one.rows others.rows in
+    let rows = merge (millis_of gap) one.rows others.rows in
     let union = stands.0 ++ stands.1 in
     record {
       rows = rows;
-      first = book_carries gap union S rows (turn S union stands.4) (merged gap stands.0 stands.1 one.rows others.rows one.first others.first);
-      second = subst (λ U. BookOf gap U rows) (sym reads.4) (merged gap reads.0 reads.1 one.rows others.rows one.second others.second);
+      first = book_carries (millis_of gap) union S rows (turn S union stands.4) (merged (millis_of gap) stands.0 stands.1 one.rows others.rows one.first others.first);
+      second = subst (λ U. BookOf (millis_of gap) U rows) (sym reads.4) (merged (millis_of gap) reads.0 reads.1 one.rows others.rows one.second others.second);
     }
 
-pub book_of_union : (gap : ℕ) → 0 < gap → (gots : List Got) (S : List Heard) (rows : List Row) → StandForUnion gap gots S → IsBookOfAll gap rows gots → BookOf gap S rows
+pub book_of_union : (gap : ℕ) → 0 < gap → (gots : List Got) (S : List Heard) (rows : List Row) → StandForUnion gap gots S → IsBookOfAll gap rows gots → BookOf (millis_of gap) S rows
 book_of_union gap pos gots S rows stands book =
     let shared = of_all gap pos gots S book.0 stands book.1 in
-    subst (λ (r : List Row). BookOf gap S r) (one_book gap book.0 shared.rows rows shared.second book.2) shared.first
+    subst (λ (r : List Row). BookOf (millis_of gap) S r) (one_book (millis_of gap) book.0 shared.rows rows shared.second book.2) shared.first
 
 pub one_merge : (gap : ℕ) → 0 < gap → (gots others : List Got) (S T : List Heard) (rows more : List Row) → StandForUnion gap gots S → StandForUnion gap others T → SameMembers S T
-    → IsBookOfAll gap rows gots → IsBookOfAll gap more others → (rows ≡ more) × (book_text rows ≡ book_text more)
+    → IsBookOfAll gap rows gots → IsBookOfAll gap more others → (rows ≡ more) × (written_text (book_with gap rows) ≡ written_text (book_with gap more))
 one_merge gap pos gots others S T rows more first second same book other =
-    let is : rows ≡ more = unique gap S T rows more same (book_of_union gap pos gots S rows first book) (book_of_union gap pos others T more second other) in
-    (is, ap (λ (r : List Row). book_text r) is)
+    let is : rows ≡ more = unique (millis_of gap) S T rows more same (book_of_union gap pos gots S rows first book) (book_of_union gap pos others T more second other) in
+    (is, ap (λ (r : List Row). written_text (book_with gap r)) is)

@@ -12,3 +12,4 @@ pub mod StandsFor
 pub mod Listing
 pub mod Lines
 pub mod Show
+pub mod Widen

@@ -7,9 +7,11 @@ use Rattle.aprs_log.specs.LogAnswers.{Gets}
 use Rattle.aprs_log.specs.Reception.{Heard}
 use Rattle.aprs_log.specs.declared.Ending.{Ending}
 use Rattle.aprs_laws.specs.Book.{BookOf}
+use Rattle.aprs_laws.specs.BookValue.{BookValue}
+use Rattle.aprs_laws.specs.Gap.{millis_of}
 use Rattle.aprs_laws.specs.Row.{Row}
-use Rattle.aprs_booktext.specs.Text.{book_text}
-use Rattle.aprs_tool.specs.Inputs.{IsFaultless, IsNotTaken, AreMembers}
+use Rattle.aprs_booktext.specs.Text.{written_text}
+use Rattle.aprs_tool.specs.Inputs.{AreMembers, Fits, IsNotTaken}
 use Rattle.aprs_tool.specs.Run.{IsReadFault}
 use Rattle.aprs_tool.specs.declared.fault.InputFault.{InputFault}
 use Rattle.aprs_tool.specs.declared.fault.RunFault.{RunFault}
@@ -29,16 +31,17 @@ GetsEach limit (input ∷ inputs) (after ∷ afters) (g ∷ gots) =
     Gets limit input after g.text g.ending × GetsEach limit inputs afters gots
 GetsEach limit _ _ _ = ⊥
 
-abbrev pub AreFaultless : ℕ → List Got → Type 0
-AreFaultless gap [] = Unit {0}
-AreFaultless gap (g ∷ gots) = IsFaultless gap g.text g.ending × AreFaultless gap gots
+-- a book of this gap, in seconds, can take them all
+abbrev pub AllFit : ℕ → List Got → Type 0
+AllFit gap [] = Unit {0}
+AllFit gap (g ∷ gots) = Fits gap g.text g.ending × AllFit gap gots
 
 -- number `index`, from 0, is the first that is not taken
 abbrev pub IsFirstRefused : ℕ → ℕ → InputFault → List Got → Type 0
 IsFirstRefused gap index e [] = ⊥
 IsFirstRefused gap zero e (g ∷ gots) = IsNotTaken gap e g.text g.ending
 IsFirstRefused gap (suc index) e (g ∷ gots) =
-    IsFaultless gap g.text g.ending × IsFirstRefused gap index e gots
+    Fits gap g.text g.ending × IsFirstRefused gap index e gots
 
 -- the receptions of all, in order
 abbrev pub AreMembersOfAll : ℕ → List Got → List Heard → Type 0
@@ -48,30 +51,35 @@ AreMembersOfAll gap (g ∷ gots) S = (T : List Heard) × (U : List Heard)
 
 -- the rows are the book of the receptions of all
 abbrev pub IsBookOfAll : ℕ → List Row → List Got → Type 0
-IsBookOfAll gap rows gots = (S : List Heard) × AreMembersOfAll gap gots S × BookOf gap S rows
+IsBookOfAll gap rows gots =
+    (S : List Heard) × AreMembersOfAll gap gots S × BookOf (millis_of gap) S rows
 
 -- ---- how they are read
 
--- the one book of faultless inputs is read; otherwise the first that is refused is told, by number
-abbrev pub ReadsEach : ℕ → Result (List Row) (ℕ × InputFault) → List Got → Type 0
-ReadsEach gap (Ok rows) gots = AreFaultless gap gots × IsBookOfAll gap rows gots
+-- the one book of inputs that fit is read; otherwise the first that is refused is told, by number
+abbrev pub ReadsEach : ℕ → Result BookValue (ℕ × InputFault) → List Got → Type 0
+ReadsEach gap (Ok b) gots = (b.gap ≡ gap) × AllFit gap gots × IsBookOfAll gap b.rows gots
 ReadsEach gap (Err p) gots = IsFirstRefused gap p.0 p.1 gots
 
 -- ---- how they are merged
 
--- all are faultless, and P holds of a text that tells of the receptions of all
+-- all fit, and P holds of a text that tells of the receptions of all
 abbrev pub WritesOfAll : ℕ → (List Heard → List ℕ → Type 0) → List Got → (List ℕ → Type 0) → Type 0
-WritesOfAll gap Tells gots P = AreFaultless gap gots × ((S : List Heard) × (text : List ℕ)
+WritesOfAll gap Tells gots P = AllFit gap gots × ((S : List Heard) × (text : List ℕ)
     × AreMembersOfAll gap gots S × Tells S text × P text)
 
--- the text is that of the book of S
+abbrev pub book_with : ℕ → List Row → BookValue
+book_with gap rows = record { gap = gap; rows = rows }
+
+-- the text is the one that is written of the book of S
 abbrev pub IsBookTextOf : ℕ → List Heard → List ℕ → Type 0
-IsBookTextOf gap S text = (rows : List Row) × BookOf gap S rows × (text ≡ book_text rows)
+IsBookTextOf gap S text = (rows : List Row) × BookOf (millis_of gap) S rows
+    × (text ≡ written_text (book_with gap rows))
 
 abbrev pub WritesBook : ℕ → List Got → (List ℕ → Type 0) → Type 0
 WritesBook gap gots P = WritesOfAll gap (IsBookTextOf gap) gots P
 
--- A refused output comes after a front of the text. Where an input is refused nothing is written.
+-- A refused output comes after a prefix of the text. Where an input is refused nothing is written.
 abbrev pub MergesEach : ℕ → Result (Unit {0}) RunFault → Option (List ℕ) → Option (List ℕ)
     → List Got → Type 0
 MergesEach gap (Ok u) old new gots = WritesBook gap gots (λ text. Appends old new text)

@@ -24,7 +24,7 @@ use Rattle.aprs_log.specs.declared.line.Line.TheVariants as line
 use Rattle.aprs_booktext.specs.declared.fault.BookCause.TheVariants as book
 use Rattle.aprs_tool.specs.Monitor.{monitor_text, kind_text}
 use Rattle.aprs_tool.specs.declared.fault.InputFault.{InputFault}
-use Rattle.aprs_tool.specs.declared.fault.InputFault.TheVariants.{Log, Book, Memory}
+use Rattle.aprs_tool.specs.declared.fault.InputFault.TheVariants.{Log, Book, Memory, OtherGap, Narrower}
 use Rattle.aprs_tool.specs.declared.fault.RunFault.{RunFault}
 use Rattle.aprs_tool.specs.declared.fault.RunFault.TheVariants.{Input, Write}
 use Rattle.aprs_tool.specs.declared.fault.RunFault.TheVariants as run
@@ -136,7 +136,7 @@ check_text t c = check_of (log_answers t c)
 
 -- ---- how a run goes
 
--- An input's fault comes after the whole text, and a refused output after a front of it. There is
+-- An input's fault comes after the whole text, and a refused output after a prefix of it. There is
 -- one input, number 0.
 abbrev pub FailsSo : RunFault → Option (List ℕ) → Option (List ℕ) → List ℕ → Option LogFault
     → Type 0
@@ -144,6 +144,8 @@ FailsSo (Input index (Log f)) old new text fault =
     (index ≡ 0) × (fault ≡ Some f) × Appends old new text
 FailsSo (Input index (Book f)) old new text fault = ⊥
 FailsSo (Input index Memory) old new text fault = ⊥
+FailsSo (Input index OtherGap) old new text fault = ⊥
+FailsSo (Input index Narrower) old new text fault = ⊥
 FailsSo Write old new text fault = AppendsFront old new text
 FailsSo run.Memory old new text fault = ⊥
 
@@ -167,6 +169,8 @@ abbrev pub IsReadFault : InputFault → Type 0
 IsReadFault (Log f) = f.cause ≡ cause.Read
 IsReadFault (Book f) = f.cause ≡ book.Read
 IsReadFault Memory = ⊥
+IsReadFault OtherGap = ⊥
+IsReadFault Narrower = ⊥
 
 -- the answer is a failed read of an input
 abbrev pub IsRead : RunFault → Type 0

@@ -9,6 +9,7 @@ use Rattle.aprs_log.specs.Reception.{Heard}
 use Rattle.aprs_laws.specs.Best.{LastKnown}
 use Rattle.aprs_laws.specs.BestLaws.{Passes}
 use Rattle.aprs_laws.specs.Book.{BookOf}
+use Rattle.aprs_laws.specs.Gap.{millis_of}
 use Rattle.aprs_laws.specs.Lists.{◌∈◌}
 use Rattle.aprs_laws.specs.Row.{Row}
 use Rattle.aprs_book.specs.Messages.{AreMessages}
@@ -19,19 +20,20 @@ use Rattle.aprs_book.specs.declared.message.MessageRow.{MessageRow}
 use Rattle.aprs_book.specs.declared.named.Named.{Named}
 use Rattle.aprs_book.specs.declared.station.Station.{Station}
 use Rattle.aprs_tool.specs.Listing.{known_line, line_of, show_text, station_lines}
-use Rattle.aprs_tool.specs.Merge.{AreFaultless, Got, IsFirstRefused, WritesOfAll}
+use Rattle.aprs_tool.specs.Merge.{AllFit, Got, IsFirstRefused, WritesOfAll}
 use Rattle.aprs_tool.specs.declared.fault.RunFault.{RunFault}
 use Rattle.aprs_tool.specs.declared.fault.RunFault.TheVariants.{Input, Write, Memory}
 
 -- ---- the listing of a set
 
--- the text is that of the stations, the objects and items, and the messages of S
+-- the text is that of the stations, the objects and items, and the messages of S, whose book has a
+-- gap of so many seconds
 pub record IsListingOf (gap : ℕ) (S : List Heard) (text : List ℕ) : Type 0 where
   pub rows : List Row
   pub stations : List Station
   pub named : List Named
   pub messages : List MessageRow
-  pub book : BookOf gap S rows
+  pub book : BookOf (millis_of gap) S rows
   pub are_stations : AreStations S rows stations
   pub are_named : AreNamed S named
   pub are_messages : AreMessages S messages
@@ -48,7 +50,7 @@ ShowsEach gap (Ok u) old new gots =
 ShowsEach gap (Err Write) old new gots =
     WritesOfAll gap (IsListingOf gap) gots (λ text. AppendsFront old new text)
 ShowsEach gap (Err (Input index e)) old new gots = IsFirstRefused gap index e gots × (new ≡ old)
-ShowsEach gap (Err Memory) old new gots = AreFaultless gap gots × (new ≡ old)
+ShowsEach gap (Err Memory) old new gots = AllFit gap gots × (new ≡ old)
 
 -- ---- what it tells
 

@@ -4,18 +4,24 @@ use Rattle.aprs_log.specs.LogAnswers.{log_answers, receptions_of}
 use Rattle.aprs_log.specs.Reception.{Heard}
 use Rattle.aprs_log.specs.declared.Ending.{Ending}
 use Rattle.aprs_laws.specs.Book.{BookOf}
+use Rattle.aprs_laws.specs.Gap.{millis_of}
 use Rattle.aprs_laws.specs.Lists.{SameMembers}
 use Rattle.aprs_laws.specs.Row.{Row}
-use Rattle.aprs_booktext.specs.Text.{book_text, IsBookRows}
+use Rattle.aprs_booktext.specs.Text.{book_text, written_text, IsBookRows}
+use Rattle.aprs_booktext.specs.Version.{gap_of}
+use Rattle.aprs_booktext.specs.declared.version.Version.{Version}
 use Rattle.aprs_tool.specs.Inputs.{is_book_file}
-use Rattle.aprs_tool.specs.Merge.{Got, IsBookOfAll}
+use Rattle.aprs_tool.specs.Merge.{book_with, Got, IsBookOfAll}
 
--- the text is that of a book, and this is a set whose book it is
+-- the text is that of a book of this gap, in seconds, in some version, and this is a set whose book
+-- it is
 pub record IsBookOfSet (gap : ℕ) (t : List ℕ) (S : List Heard) : Type 0 where
+  pub version : Version
+  pub gap_is : gap_of version ≡ gap
   pub rows : List Row
-  pub is_book : IsBookRows gap rows
-  pub text_is : t ≡ book_text rows
-  pub book_is : BookOf gap S rows
+  pub is_book : IsBookRows version rows
+  pub text_is : t ≡ book_text version rows
+  pub book_is : BookOf (millis_of gap) S rows
 
 abbrev pub StandsForIn : ℕ → Bool → List ℕ → Ending → List Heard → Type 0
 StandsForIn gap true t c S = IsBookOfSet gap t S
@@ -35,12 +41,12 @@ StandForUnion gap (g ∷ gots) S = (T : List Heard) × (U : List Heard)
 -- whatever set inputs stand for, their book is that of this set
 abbrev pub AreBooksOfUnions : ℕ → Type 0
 AreBooksOfUnions gap = (gots : List Got) (S : List Heard) (rows : List Row)
-    → StandForUnion gap gots S → IsBookOfAll gap rows gots → BookOf gap S rows
+    → StandForUnion gap gots S → IsBookOfAll gap rows gots → BookOf (millis_of gap) S rows
 
 -- inputs and others that stand for sets with the same members, in whatever order and however often,
--- have one book and one text of it
+-- have one book and one text that is written of it
 abbrev pub HaveOneMerge : ℕ → Type 0
 HaveOneMerge gap = (gots others : List Got) (S T : List Heard) (rows more : List Row)
     → StandForUnion gap gots S → StandForUnion gap others T → SameMembers S T
     → IsBookOfAll gap rows gots → IsBookOfAll gap more others
-    → (rows ≡ more) × (book_text rows ≡ book_text more)
+    → (rows ≡ more) × (written_text (book_with gap rows) ≡ written_text (book_with gap more))

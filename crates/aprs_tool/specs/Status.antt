@@ -5,7 +5,7 @@ use Rattle.aprs_log.specs.declared.fault.LogCause.TheVariants as cause
 use Rattle.aprs_booktext.specs.declared.fault.BookCause.{BookCause}
 use Rattle.aprs_booktext.specs.declared.fault.BookCause.TheVariants as book
 use Rattle.aprs_tool.specs.declared.fault.InputFault.{InputFault}
-use Rattle.aprs_tool.specs.declared.fault.InputFault.TheVariants.{Log, Book, Memory}
+use Rattle.aprs_tool.specs.declared.fault.InputFault.TheVariants.{Log, Book, Memory, OtherGap, Narrower}
 use Rattle.aprs_tool.specs.declared.fault.RunFault.{RunFault}
 use Rattle.aprs_tool.specs.declared.fault.RunFault.TheVariants.{Input, Write}
 use Rattle.aprs_tool.specs.declared.fault.RunFault.TheVariants as run
@@ -40,6 +40,8 @@ abbrev pub status_of_input : InputFault → ℕ
 status_of_input (Log fault) = status_of_cause fault.cause
 status_of_input (Book fault) = status_of_book_cause fault.cause
 status_of_input Memory = 4
+status_of_input OtherGap = 1
+status_of_input Narrower = 1
 
 abbrev pub status_of_fault : RunFault → ℕ
 status_of_fault (Input index fault) = status_of_input fault

@@ -2,15 +2,18 @@
 use Rattle.std.specs.Prelude.{◌≡◌, ℕ, List, [], ◌∷◌, map, true, Option, None, Some, Result}
 use Rattle.std.specs.Prelude.{MatchResult, codes, if◌then◌else◌, option_map, option_and_then, unwrap_or}
 use Rattle.std.specs.Str.{bytes_eq}
+use Rattle.std.specs.Str.Parse.{digits_value, without_leading_plus}
 use Rattle.std.specs.String.{string_bytes}
 use Rattle.std.specs.declared.string.String.{String}
 use Rattle.std.specs.Borrow.{Bor}
 use Rattle.clap.specs.Lexer.{usize_max}
 use Rattle.clap.specs.Words.{App, Row, Rule, Text, all_of, first_of, new_app, new_rule, subcommand_of}
 use Rattle.clap.specs.Words.{IsAmong, fault_of, kind_of, takes, with_rule, with_subcommand}
+use Rattle.clap.specs.ValueTests.{is_unsigned_in}
 use Rattle.clap.specs.declared.builder.value_parser.ValueParser.{ValueParser}
 use Rattle.clap.specs.declared.builder.value_parser.ValueParser.TheVariants as vp
 use Rattle.clap.specs.declared.builder.possible_value.PossibleValue.{PossibleValue}
+use Rattle.aprs_laws.specs.Gap.{greatest_gap, standard_gap}
 use Rattle.aprs_log.specs.Moment.{moment_of}
 use Rattle.aprs_log.specs.Receiver.{is_name}
 use Rattle.aprs_tool.specs.declared.form.Form.{Form}
@@ -48,6 +51,21 @@ option_rule name = record (new_rule name) { long = Some name; value_names = 1 }
 abbrev pub input_rule : Rule
 input_rule = record (new_rule (codes "input")) { value_names = 1 }
 
+-- a number of 1 to 3,600
+abbrev pub gap_parser : ValueParser
+gap_parser = vp.Unsigned 1 greatest_gap
+
+abbrev pub gap_rule : Rule
+gap_rule = record (option_rule (codes "gap")) { parser = Some gap_parser }
+
+abbrev pub seconds_rule : Rule
+seconds_rule =
+    record (new_rule (codes "seconds")) {
+      required = true;
+      parser = Some gap_parser;
+      value_names = 1;
+    }
+
 -- any number of inputs
 abbrev pub inputs_rule : Rule
 inputs_rule = record input_rule {
@@ -63,10 +81,13 @@ abbrev pub check_app : App
 check_app = with_rule (new_app (codes "check")) input_rule
 
 abbrev pub merge_app : App
-merge_app = with_rule (new_app (codes "merge")) inputs_rule
+merge_app = with_rule (with_rule (new_app (codes "merge")) inputs_rule) gap_rule
 
 abbrev pub show_app : App
-show_app = with_rule (new_app (codes "show")) inputs_rule
+show_app = with_rule (with_rule (new_app (codes "show")) inputs_rule) gap_rule
+
+abbrev pub widen_app : App
+widen_app = with_rule (with_rule (new_app (codes "widen")) seconds_rule) input_rule
 
 -- it has a version
 abbrev pub program_top : App
@@ -74,8 +95,9 @@ program_top = let a = new_app (codes "aprsbook") in
     record a { top = record a.top { has_version = true } }
 
 abbrev pub program_app : ValueParser → App
-program_app p = with_subcommand (with_subcommand (with_subcommand (with_subcommand program_top
-    (convert_app p).top) check_app.top) merge_app.top) show_app.top
+program_app p = with_subcommand (with_subcommand (with_subcommand (with_subcommand
+    (with_subcommand program_top (convert_app p).top) check_app.top) merge_app.top) show_app.top)
+    widen_app.top
 
 -- ---- what is read of the matches
 
@@ -105,11 +127,29 @@ abbrev pub form_of : List Row → Option Form
 form_of rows = option_and_then (λ name. named_form_of name (first_of (codes "receiver") rows)
     (first_of (codes "moment") rows)) (first_of (codes "form") rows)
 
+-- the number of seconds that a text tells, if the command takes it as a gap
+abbrev pub read_gap : Text → Option ℕ
+read_gap t = if is_unsigned_in 1 greatest_gap t
+    then Some (digits_value 10 (without_leading_plus t)) else None
+
+-- where no gap is given, the standard one
+abbrev pub given_gap : Option Text → Option ℕ
+given_gap None = Some standard_gap
+given_gap (Some t) = read_gap t
+
+abbrev pub chosen_gap : List Row → Option ℕ
+chosen_gap rows = given_gap (first_of (codes "gap") rows)
+
+abbrev pub widened_gap : List Row → Option ℕ
+widened_gap rows = option_and_then read_gap (first_of (codes "seconds") rows)
+
 abbrev pub task_named : Text → List Row → Option Task
 task_named name rows =
     if bytes_eq name (codes "convert") then option_map (λ f. task.Convert f) (form_of rows)
-    else (if bytes_eq name (codes "merge") then Some task.Merge
-    else (if bytes_eq name (codes "show") then Some task.Show else Some task.Check))
+    else (if bytes_eq name (codes "merge") then option_map (λ g. task.Merge g) (chosen_gap rows)
+    else (if bytes_eq name (codes "show") then option_map (λ g. task.Show g) (chosen_gap rows)
+    else (if bytes_eq name (codes "widen") then option_map (λ g. task.Widen g) (widened_gap rows)
+    else Some task.Check)))
 
 -- the task, or none where the options break the rule on capture; `convert text` without a command
 abbrev pub task_of : Option (Text × List Row) → Option Task
@@ -129,15 +169,17 @@ paths_of inputs = map (λ path. string_bytes path) inputs
 abbrev pub inputs_of : Job → List Text
 inputs_of (job.Check inputs) = paths_of inputs.items
 inputs_of (job.Convert f inputs) = paths_of inputs.items
-inputs_of (job.Merge inputs) = paths_of inputs.items
-inputs_of (job.Show inputs) = paths_of inputs.items
+inputs_of (job.Merge g inputs) = paths_of inputs.items
+inputs_of (job.Show g inputs) = paths_of inputs.items
+inputs_of (job.Widen g inputs) = paths_of inputs.items
 
 -- what a job asks for, apart from its inputs
 abbrev pub asked_by : Job → Task
 asked_by (job.Check inputs) = task.Check
 asked_by (job.Convert f inputs) = task.Convert f
-asked_by (job.Merge inputs) = task.Merge
-asked_by (job.Show inputs) = task.Show
+asked_by (job.Merge g inputs) = task.Merge g
+asked_by (job.Show g inputs) = task.Show g
+asked_by (job.Widen g inputs) = task.Widen g
 
 -- the job that these matches ask for, with their inputs
 pub record IsJobOf (found : Option (Text × List Row)) (j : Job) : Type 0 where

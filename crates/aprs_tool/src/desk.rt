@@ -3,7 +3,7 @@ ghost use Rattle.std.specs.Prelude.{◌≤◌};
 
 use crate::fault::InputFault;
 use crate::input::{merged, read_input};
-use aprs_book::Book;
+use aprs_book::{Book, Gap};
 use aprs_kiss::Counted;
 use std::alloc::{Allocator, Global};
 use std::io::Read;
@@ -20,34 +20,48 @@ pub struct Desk<A: Allocator = Global> {
 impl<A: Allocator + Copy> Desk<A> {
     ghost use Rattle.std.specs.Prelude.{◌≡◌, ◌≤◌, [], IfErr, IsErrAnd, OnErr};
     ghost use Rattle.aprs_kiss.specs.Device.{device_of, failures_of, answered_of, Rose, RoseWhere};
-    ghost use Rattle.aprs_laws.specs.Book.{BookOf};
-    ghost use Rattle.aprs_laws.specs.Gap.{gap_seconds};
-    ghost use Rattle.aprs_tool.specs.Desk.{limit_of, rows_of};
+    ghost use Rattle.aprs_laws.specs.BookValue.{Holds};
+    ghost use Rattle.aprs_laws.specs.Gap.{standard_gap};
+    ghost use Rattle.aprs_tool.specs.Desk.{book_of, gap_of, limit_of, rows_of};
     ghost use Rattle.aprs_tool.specs.Inputs.{OfGot, TakesInput};
     ghost use Rattle.aprs_tool.specs.Run.{IsReadFault};
 
-    /// An empty book, into which inputs are read up to `limit` bytes each. Requires that `limit` is
-    /// at most 1,073,741,824 (`MAX_INPUT`). Takes no memory.
+    /// An empty book with a gap of 30 seconds, into which inputs are read up to `limit` bytes each.
+    /// Requires that `limit` is at most 1,073,741,824 (`MAX_INPUT`). Takes no memory.
     pub fn new(alloc: A, limit: u64) -> Desk<A>
         requires { limit ≤ 1073741824 }
+        ensures gap { gap_of result ≡ standard_gap }
         ensures rows { rows_of result ≡ [] }
-        ensures book { BookOf gap_seconds [] (rows_of result) }
+        ensures book { Holds [] (book_of result) }
+        ensures limit { limit_of result ≡ limit }
+    {
+        Desk::with_gap(alloc, limit, Gap::STANDARD)
+    }
+
+    /// The same with another gap.
+    pub fn with_gap(alloc: A, limit: u64, gap: Gap) -> Desk<A>
+        requires { limit ≤ 1073741824 }
+        ensures gap { gap_of result ≡ gap }
+        ensures rows { rows_of result ≡ [] }
+        ensures book { Holds [] (book_of result) }
         ensures limit { limit_of result ≡ limit }
     {
         Desk {
             alloc,
             limit,
-            book: Book::new(alloc),
+            book: Book::with_gap(alloc, gap),
         }
     }
 
-    /// Reads an input, as `read_input` does: the book of a set becomes the book of that set and of
-    /// the input's receptions. `Memory` also comes where it was refused for the merge. After a
+    /// Reads an input, as `read_input` does with the gap of this desk's book: the book of a set
+    /// becomes the book of that set and of the input's receptions. `OtherGap` comes for a faultless
+    /// book file of another gap, and then `Memory` where it was refused for the merge. After a
     /// fault the desk is as before.
     pub fn take_input<R: Read>(&mut self, r: &mut Counted<R>) -> Result<(), InputFault>
         ensures takes { OfGot (limit_of self.old) (R.remaining (device_of r.old))
             (R.remaining (device_of r.new))
-            (TakesInput gap_seconds result (rows_of self.old) (rows_of self.new)) }
+            (TakesInput (gap_of self.old) result (rows_of self.old) (rows_of self.new)) }
+        ensures gap { gap_of self.new ≡ gap_of self.old }
         ensures limit { limit_of self.new ≡ limit_of self.old }
         ensures unchanged { OnErr result (self.new ≡ self.old) }
         ensures count { failures_of r.old ≤ failures_of r.new }
@@ -57,21 +71,21 @@ impl<A: Allocator + Copy> Desk<A> {
         ensures answered { RoseWhere (IsErrAnd result IsReadFault) (answered_of r.old)
             (answered_of r.new) }
     {
-        let input = read_input(self.alloc, self.limit, r)?;
+        let input = read_input(self.alloc, self.limit, self.book.gap(), r)?;
         self.book = merged(&self.book, input)?;
         Ok(())
     }
 
     /// The book. Takes no memory.
     pub fn book(&self) -> &Book<A>
-        ensures { result.now ≡ rows_of self.now }
+        ensures { result.now ≡ book_of self.now }
     {
         &self.book
     }
 
     /// Gives the book. Takes no memory.
     pub fn into_book(self) -> Book<A>
-        ensures { result ≡ rows_of self }
+        ensures { result ≡ book_of self }
     {
         self.book
     }

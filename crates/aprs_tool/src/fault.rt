@@ -2,7 +2,7 @@
 ghost use Rattle.std.specs.Prelude.{◌≡◌};
 ghost use Rattle.aprs_tool.specs.Status.{status_of_fault, status_of_input};
 
-use aprs_book::Memory;
+use aprs_book::{Memory, MergeFault};
 use aprs_booktext::{BookCause, BookFault};
 use aprs_kiss::WriteFault;
 use aprs_log::{LogCause, LogFault};
@@ -20,6 +20,12 @@ pub enum InputFault {
     /// Memory was refused for what the input gives.
     #[error("out of memory")]
     Memory,
+    /// A book file whose gap isn't that of the book it is taken into.
+    #[error("other gap")]
+    OtherGap,
+    /// A book file whose gap is greater than the one it is to be widened to.
+    #[error("narrower")]
+    Narrower,
 }
 
 impl From<LogFault> for InputFault {
@@ -52,6 +58,19 @@ impl From<Memory> for InputFault {
     }
 }
 
+impl From<MergeFault> for InputFault {
+    ghost use Rattle.aprs_tool.specs.Inputs.{fault_of_merge};
+
+    ghost from_gives = { λ fault made. made ≡ fault_of_merge fault };
+
+    fn from(fault: MergeFault) -> InputFault {
+        match fault {
+            MergeFault::OtherGap => InputFault::OtherGap,
+            MergeFault::Memory => InputFault::Memory,
+        }
+    }
+}
+
 /// Why a run answers before its end.
 #[derive(Debug, Drop, Error)]
 pub enum RunFault {
@@ -61,7 +80,7 @@ pub enum RunFault {
     /// The output was refused.
     #[error("cannot write")]
     Write,
-    /// Memory was refused for what the run shows.
+    /// Memory was refused for what the run shows, or for the book that it widens.
     #[error("out of memory")]
     Memory,
 }
@@ -111,5 +130,6 @@ fn status_of_input(fault: &InputFault) -> u8
         InputFault::Book(fault) if fault.cause == BookCause::Memory => 4,
         InputFault::Memory => 4,
         InputFault::Log(_) | InputFault::Book(_) => 1,
+        InputFault::OtherGap | InputFault::Narrower => 1,
     }
 }

@@ -1,4 +1,5 @@
 //! What a log or a stream is converted to, and what the program is asked to do.
+use aprs_book::Gap;
 use aprs_log::{Moment, Receiver};
 
 /// What a log is converted to, or that a KISS stream is captured as a log.
@@ -23,10 +24,12 @@ pub enum Job {
     Check(Vec<String>),
     /// Convert a log or a stream.
     Convert(Form, Vec<String>),
-    /// Merge logs and book files into one book, and write that.
-    Merge(Vec<String>),
-    /// List what logs and book files tell.
-    Show(Vec<String>),
+    /// Merge logs and book files into one book of this gap, and write that.
+    Merge(Gap, Vec<String>),
+    /// List what logs and book files of this gap tell.
+    Show(Gap, Vec<String>),
+    /// Write the book of a log or a book file under this gap.
+    Widen(Gap, Vec<String>),
 }
 
 /// Why the program's words ask for nothing.

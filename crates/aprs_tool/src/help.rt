@@ -18,10 +18,12 @@ Examples:
   aprsbook convert capture --receiver RX1 --moment 2024-05-01T12:00:00Z rx1.kiss > rx1.log
   aprsbook merge rx1.log rx2.log > net.book
   aprsbook show net.book
+  aprsbook merge --gap 60 rx1.log > slow.book
+  aprsbook widen 60 net.book > wide.book
 
 Exit status:
   0  done, or help or the version was asked for
-  1  an input can't be opened or read, or is faulty
+  1  an input can't be opened or read, is faulty or has a gap that doesn't fit
   2  the words aren't those of a command, or the options of capture are wrong
   3  the output was refused
   4  memory was refused";
@@ -33,6 +35,8 @@ pub const CONVERT: &str = "Write the frames that were heard in another form";
 pub const MERGE: &str = "Write the book of all inputs' receptions";
 
 pub const SHOW: &str = "List stations, objects, items and messages, with what is last known";
+
+pub const WIDEN: &str = "Write the book of an input under a greater gap";
 
 pub const FORM: &str = "What to write";
 
@@ -52,6 +56,14 @@ pub const CONVERTED: &str = "A log, or with capture a KISS stream; without one, 
 
 pub const GATHERED: &str = "Logs and book files; without any, standard input";
 
+pub const WIDENED: &str = "A log or a book file; without one, standard input";
+
+pub const GAP: &str =
+    "The gap of the book, 1 to 3600 seconds, as of each book file among the inputs; without it, 30";
+
+pub const SECONDS: &str = "The gap to widen to, 1 to 3600 seconds, not less than that of the input";
+
 pub const RECEIVER: &str = "With capture: the receiver's name, of 1 to 16 letters, digits, - and _";
 
-pub const MOMENT: &str = "With capture: when all was heard, in UTC, as 2024-05-01T12:00:00Z";
+pub const MOMENT: &str =
+    "With capture: when all was heard, in UTC, as 2024-05-01T12:00:00Z or 2024-05-01T12:00:00.000Z";

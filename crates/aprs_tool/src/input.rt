@@ -1,19 +1,20 @@
 //! The book of an input, which is a log or a book file.
-ghost use Rattle.std.specs.Prelude.{◌≡◌, ◌≢◌, ◌↔◌, ◌<◌, ◌≤◌, ◌∷◌, [], ◌++◌, false, length, List, None, Some, IfSome, IfOk, IfErr, IsErrAnd, OnOk, OnErr};
+ghost use Rattle.std.specs.Prelude.{◌≡◌, ◌↔◌, ◌<◌, ◌≤◌, ◌∷◌, [], ◌++◌, false, length, ℕ, List, None, Some, IfSome, IfOk, IfErr, IsErrAnd, OnOk, OnErr};
 ghost use Rattle.std.specs.List.{list_any};
 ghost use Rattle.aprs_kiss.specs.Device.{device_of, failures_of, answered_of, Rose, RoseWhere};
 ghost use Rattle.aprs_log.specs.LogAnswers.{ended, fault_at, is_lf, log_answers, receptions_of};
-ghost use Rattle.aprs_laws.specs.Gap.{gap_seconds};
+ghost use Rattle.aprs_laws.specs.BookValue.{HaveOneGap};
+ghost use Rattle.aprs_laws.specs.Gap.{millis_of};
 ghost use Rattle.aprs_laws.specs.Row.{Row};
 ghost use Rattle.aprs_book.specs.Taking.{MergesInto};
 ghost use Rattle.aprs_tool.specs.Head.{IsHead};
-ghost use Rattle.aprs_tool.specs.Inputs.{AddsAll, HoldsOfGot, OfGot, ReadsInput, ReadsInto};
-ghost use Rattle.aprs_tool.specs.Inputs.{ReadsLog};
+ghost use Rattle.aprs_tool.specs.Inputs.{AddsAll, HoldsOfGot, OfGot, ReadsInput, ReadsLog};
+ghost use Rattle.aprs_tool.specs.Inputs.{RefusesGaps, TakesInput};
 ghost use Rattle.aprs_tool.specs.Run.{IsReadFault};
 
 use crate::fault::InputFault;
 use crate::head::{ShortInput, read_head};
-use aprs_book::{Book, Memory};
+use aprs_book::{Book, Gap, Memory, MergeFault};
 use aprs_booktext::read_book;
 use aprs_kiss::Counted;
 use aprs_log::{Ending, Line, LogCause, LogFault, LogReader};
@@ -23,21 +24,22 @@ use std::io::Read;
 /// The text of a book begins so.
 const BOOK_MARK: &[u8] = b"APRSBOOK";
 
-/// Reads the book of an input: its own, where its first eight bytes are `APRSBOOK`, and else that
-/// of the receptions of a log, whose other lines are passed over. At most `limit` bytes are read,
-/// to the end. Requires that `limit` is at most 1,073,741,824 (`MAX_INPUT`). A faulty input gives
-/// its first fault. Where memory was refused before it, a log gives `Memory`, and a book file `Book`
-/// with that cause and the line that was being read. An input of which fewer than eight bytes are
-/// got is a log, and one with an LF among its first eight is judged by that line first. Holds the
-/// book and one line.
+/// Reads the book of an input: its own, where its first eight bytes are `APRSBOOK`, with its own
+/// gap, and else that of the receptions of a log, whose other lines are passed over, with the gap
+/// that is asked for. At most `limit` bytes are read, to the end. Requires that `limit` is at most
+/// 1,073,741,824 (`MAX_INPUT`). A faulty input gives its first fault. Where memory was refused
+/// before it, a log gives `Memory`, and a book file `Book` with that cause and the line that was
+/// being read. An input of which fewer than eight bytes are got is a log, and one with an LF among
+/// its first eight is judged by that line first. Holds the book and one line.
 pub fn read_input<R: Read, A: Allocator + Copy>(
     alloc: A,
     limit: u64,
+    gap: Gap,
     r: &mut Counted<R>,
 ) -> Result<Book<A>, InputFault>
     requires { limit ≤ 1073741824 }
     ensures reads { OfGot limit (R.remaining (device_of r.old))
-        (R.remaining (device_of r.new)) (ReadsInput gap_seconds result) }
+        (R.remaining (device_of r.new)) (ReadsInput gap result) }
     ensures count { failures_of r.old ≤ failures_of r.new }
     ensures read { IfErr result (λ e. IsReadFault e
         → Rose (failures_of r.old) (failures_of r.new)) }
@@ -45,14 +47,63 @@ pub fn read_input<R: Read, A: Allocator + Copy>(
     ensures answered { RoseWhere (IsErrAnd result IsReadFault) (answered_of r.old)
         (answered_of r.new) }
 {
-    let mut book = Book::new(alloc);
-    read_into(alloc, limit, &mut book, r)?;
-    Ok(book)
+    match read_head(limit, r) {
+        Ok(head) => read_own(alloc, limit, gap, head.as_slice(), r),
+        Err(short) => read_few(alloc, gap, &short),
+    }
 }
 
-/// Reads an input, as `read_input` does, into a book: that of a set becomes the book of that set and
-/// of the input's receptions. `Memory` also comes where it was refused for a merge with rows that
-/// were there. After a fault the book may have any rows.
+/// The book of an input that begins with these bytes, which tell what it is.
+fn read_own<R: Read, A: Allocator + Copy>(
+    alloc: A,
+    limit: u64,
+    gap: Gap,
+    head: &[u8],
+    r: &mut Counted<R>,
+) -> Result<Book<A>, InputFault>
+    requires limit { limit ≤ 1073741824 }
+    requires head { IsHead head.now }
+    requires few { length head.now ≤ 8 }
+    requires within { length head.now ≤ limit }
+    ensures reads { IfSome (R.remaining (device_of r.old))
+        (λ input. HoldsOfGot limit (head.now ++ input) (R.remaining (device_of r.new))
+        (ReadsInput gap result)) }
+    ensures count { failures_of r.old ≤ failures_of r.new }
+    ensures read { IfErr result (λ e. IsReadFault e
+        → Rose (failures_of r.old) (failures_of r.new)) }
+    ensures answered { RoseWhere (IsErrAnd result IsReadFault) (answered_of r.old)
+        (answered_of r.new) }
+{
+    if head == BOOK_MARK {
+        return Ok(read_book(alloc, limit, head, r)?);
+    }
+    let mut book = Book::with_gap(alloc, gap);
+    match read_log(alloc, limit, head, &mut book, r) {
+        Ok(()) => Ok(book),
+        Err(fault) => Err(fault),
+    }
+}
+
+/// The book of an input that is too short to tell what it is: that of a log.
+fn read_few<A: Allocator + Copy>(
+    alloc: A,
+    gap: Gap,
+    short: &ShortInput,
+) -> Result<Book<A>, InputFault>
+    requires few { length short.now.bytes.items < 8 }
+    requires one { list_any is_lf short.now.bytes.items ≡ false }
+    ensures reads { ReadsInput gap result short.now.bytes.items short.now.ending }
+    ensures read { IsErrAnd result IsReadFault ↔ (short.now.ending ≡ Ending.Read) }
+{
+    match read_short(short) {
+        Ok(()) => Ok(Book::with_gap(alloc, gap)),
+        Err(fault) => Err(fault),
+    }
+}
+
+/// Reads an input, as `read_input` does, into a book: that of a set becomes the book of that set
+/// and of the input's receptions. `OtherGap` comes for a faultless book file of another gap, and
+/// then `Memory` where it was refused for the merge. After a fault the book may have any rows.
 pub(crate) fn read_into<R: Read, A: Allocator + Copy>(
     alloc: A,
     limit: u64,
@@ -60,8 +111,9 @@ pub(crate) fn read_into<R: Read, A: Allocator + Copy>(
     r: &mut Counted<R>,
 ) -> Result<(), InputFault>
     requires { limit ≤ 1073741824 }
-    ensures reads { OfGot limit (R.remaining (device_of r.old))
-        (R.remaining (device_of r.new)) (ReadsInto gap_seconds result book.old book.new) }
+    ensures reads { OfGot limit (R.remaining (device_of r.old)) (R.remaining (device_of r.new))
+        (TakesInput book.old.gap result book.old.rows book.new.rows) }
+    ensures gap { book.new.gap ≡ book.old.gap }
     ensures count { failures_of r.old ≤ failures_of r.new }
     ensures read { IfErr result (λ e. IsReadFault e
         → Rose (failures_of r.old) (failures_of r.new)) }
@@ -74,7 +126,7 @@ pub(crate) fn read_into<R: Read, A: Allocator + Copy>(
     }
 }
 
-/// Reads an input that begins with these bytes, which tell what it is.
+/// Reads an input that begins with these bytes into a book.
 fn read_whole<R: Read, A: Allocator + Copy>(
     alloc: A,
     limit: u64,
@@ -88,7 +140,8 @@ fn read_whole<R: Read, A: Allocator + Copy>(
     requires within { length head.now ≤ limit }
     ensures reads { IfSome (R.remaining (device_of r.old))
         (λ input. HoldsOfGot limit (head.now ++ input) (R.remaining (device_of r.new))
-        (ReadsInto gap_seconds result book.old book.new)) }
+        (TakesInput book.old.gap result book.old.rows book.new.rows)) }
+    ensures gap { book.new.gap ≡ book.old.gap }
     ensures count { failures_of r.old ≤ failures_of r.new }
     ensures read { IfErr result (λ e. IsReadFault e
         → Rose (failures_of r.old) (failures_of r.new)) }
@@ -116,7 +169,8 @@ fn read_log<R: Read, A: Allocator + Copy>(
     requires within { length head.now ≤ limit }
     ensures reads { IfSome (R.remaining (device_of r.old))
         (λ input. HoldsOfGot limit (head.now ++ input) (R.remaining (device_of r.new))
-        (ReadsLog gap_seconds result book.old book.new)) }
+        (ReadsLog book.old.gap result book.old.rows book.new.rows)) }
+    ensures gap { book.new.gap ≡ book.old.gap }
     ensures count { failures_of r.old ≤ failures_of r.new }
     ensures read { IfErr result (λ e. IsReadFault e
         → Rose (failures_of r.old) (failures_of r.new)) }
@@ -134,7 +188,9 @@ fn read_log<R: Read, A: Allocator + Copy>(
 
 /// Takes what a line tells, if it tells a reception.
 fn take_line<A: Allocator + Copy>(book: &mut Book<A>, line: &Line) -> Result<(), Memory>
-    ensures { OnOk result (AddsAll gap_seconds (receptions_of (line.now ∷ [])) book.old book.new) }
+    ensures adds { OnOk result (AddsAll book.old.gap (receptions_of (line.now ∷ []))
+        book.old.rows book.new.rows) }
+    ensures gap { book.new.gap ≡ book.old.gap }
 {
     match line {
         Line::Heard(reception) => book.take(reception),
@@ -143,10 +199,19 @@ fn take_line<A: Allocator + Copy>(book: &mut Book<A>, line: &Line) -> Result<(),
 }
 
 /// The book of both sets together: the second itself where the first has no rows.
-pub(crate) fn merged<A: Allocator + Copy>(book: &Book<A>, input: Book<A>) -> Result<Book<A>, Memory>
-    ensures merges { IfOk result (MergesInto gap_seconds book.now input) }
-    ensures some { OnErr result (book.now ≢ []) }
+pub(crate) fn merged<A: Allocator + Copy>(
+    book: &Book<A>,
+    input: Book<A>,
+) -> Result<Book<A>, MergeFault>
+    ensures merges { IfOk result (λ both.
+        MergesInto (millis_of book.now.gap) book.now.rows input.rows both.rows) }
+    ensures gap { IfOk result (λ both. both.gap ≡ book.now.gap) }
+    ensures one { OnOk result (HaveOneGap book.now input) }
+    ensures refused { IfErr result (λ e. RefusesGaps e book.now.gap input.gap) }
 {
+    if book.gap() != input.gap() {
+        return Err(MergeFault::OtherGap);
+    }
     if book.len() == 0 {
         return Ok(input);
     }
@@ -157,8 +222,8 @@ pub(crate) fn merged<A: Allocator + Copy>(book: &Book<A>, input: Book<A>) -> Res
 fn read_short(short: &ShortInput) -> Result<(), InputFault>
     requires few { length short.now.bytes.items < 8 }
     requires one { list_any is_lf short.now.bytes.items ≡ false }
-    ensures reads { (rows : List Row) → ReadsInto gap_seconds result rows rows short.now.bytes.items
-        short.now.ending }
+    ensures reads { (gap : ℕ) (rows : List Row) → ReadsLog gap result rows rows
+        short.now.bytes.items short.now.ending }
     ensures read { IsErrAnd result IsReadFault ↔ (short.now.ending ≡ Ending.Read) }
 {
     match refuse_short(short.bytes.as_slice(), short.ending) {

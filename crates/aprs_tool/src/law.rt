@@ -1,19 +1,21 @@
 //! What a merge writes depends on the set of receptions alone, and so does what a listing tells of
 //! positions. The functions do nothing: what they ensure are the laws.
-ghost use Rattle.aprs_laws.specs.Gap.{gap_seconds};
+ghost use Rattle.std.specs.Prelude.{ℕ};
+ghost use Rattle.aprs_laws.specs.Gap.{IsGap};
 ghost use Rattle.aprs_tool.specs.Show.{ListingsTellPositions};
 ghost use Rattle.aprs_tool.specs.StandsFor.{AreBooksOfUnions, HaveOneMerge};
 
-/// Inputs that stand for sets with the same members have one book, and `merge_run` writes the same
-/// bytes of them: in any order, with repeats, and some of them through books that were written
-/// before. A log stands for its receptions, and the text of a book for each set whose book it is.
+/// Under one gap, inputs that stand for sets with the same members have one book, and `merge_run`
+/// writes the same bytes of them: in any order, with repeats, and some of them through books that
+/// were written before. A log stands for its receptions, and the text of a book for each set whose
+/// book it is.
 pub fn same_receptions_same_bytes()
-    ensures book { AreBooksOfUnions gap_seconds }
-    ensures one { HaveOneMerge gap_seconds }
+    ensures book { (gap : ℕ) → IsGap gap → AreBooksOfUnions gap }
+    ensures one { (gap : ℕ) → IsGap gap → HaveOneMerge gap }
 {}
 
-/// In the listing of any set of receptions, each station's line is followed by the position that is
-/// its greatest reception of a position report in the set, where it has one.
+/// In the listing of any set of receptions under any gap, each station's line is followed by the
+/// position that is its greatest reception of a position report in the set, where it has one.
 pub fn listings_tell_positions()
-    ensures positions { ListingsTellPositions gap_seconds }
+    ensures positions { (gap : ℕ) → ListingsTellPositions gap }
 {}

@@ -21,6 +21,7 @@ mod monitor;
 mod run;
 mod show;
 mod text;
+mod widen;
 mod words;
 
 pub use check::check_run;
@@ -32,4 +33,5 @@ pub use law::{listings_tell_positions, same_receptions_same_bytes};
 pub use merge::merge_run;
 pub use run::convert_run;
 pub use show::show_run;
+pub use widen::widen_run;
 pub use words::{command_is_simple, job};

@@ -3,7 +3,7 @@ ghost use Rattle.std.specs.Prelude.{◌≡◌, ◌≤◌, IfOk, OnOk, OnErr};
 ghost use Rattle.std.specs.List.{flat_map};
 ghost use Rattle.std.specs.Io.KnownBytes.{Appends};
 ghost use Rattle.aprs_kiss.specs.Device.{device_of, failures_of, Rose, AppendsFront};
-ghost use Rattle.aprs_laws.specs.Gap.{gap_seconds};
+ghost use Rattle.aprs_laws.specs.Gap.{millis_of};
 ghost use Rattle.aprs_book.specs.Stations.{TellsStations};
 ghost use Rattle.aprs_book.specs.Names.{TellsNamed};
 ghost use Rattle.aprs_book.specs.Messages.{TellsMessages};
@@ -30,9 +30,12 @@ pub struct Views<'a, A: Allocator = Global> {
 impl<'a, A: Allocator + Copy> Views<'a, A> {
     /// What is listed of the book.
     pub fn of(book: &'a Book<A>) -> Result<Views<'a, A>, Memory>
-        ensures stations { IfOk result (λ v. TellsStations gap_seconds book.now v.stations.items) }
-        ensures named { IfOk result (λ v. TellsNamed gap_seconds book.now v.named.items) }
-        ensures messages { IfOk result (λ v. TellsMessages gap_seconds book.now v.messages.items) }
+        ensures stations { IfOk result (λ v.
+            TellsStations (millis_of book.now.gap) book.now.rows v.stations.items) }
+        ensures named { IfOk result (λ v.
+            TellsNamed (millis_of book.now.gap) book.now.rows v.named.items) }
+        ensures messages { IfOk result (λ v.
+            TellsMessages (millis_of book.now.gap) book.now.rows v.messages.items) }
     {
         Ok(Views {
             stations: book.stations()?,

@@ -1,7 +1,6 @@
 //! The merge of several inputs.
 ghost use Rattle.std.specs.Prelude.{◌≡◌, ◌≤◌, map, IfErr, IsErrAnd};
 ghost use Rattle.aprs_kiss.specs.Device.{device_of, failures_of, Rose};
-ghost use Rattle.aprs_laws.specs.Gap.{gap_seconds};
 ghost use Rattle.aprs_tool.specs.Merge.{IsAsBefore, IsReadOf, MergesEach, OfEach, ReadsEach};
 ghost use Rattle.aprs_tool.specs.Merge.{ReadsNoFurther, RoseAt, RoseWhereEach, RoseWhereRead};
 ghost use Rattle.aprs_tool.specs.Merge.{WritesNothing};
@@ -9,27 +8,28 @@ ghost use Rattle.aprs_tool.specs.Run.{IsReadFault};
 
 use crate::fault::{InputFault, RunFault};
 use crate::input::read_into;
-use aprs_book::Book;
+use aprs_book::{Book, Gap};
 use aprs_booktext::write_book;
 use aprs_kiss::Counted;
 use std::alloc::Allocator;
 use std::io::{Read, Write};
 
-/// Writes the text of the book of all inputs' receptions, each input read as by `read_input`.
-/// Requires that `limit` is at most 1,073,741,824 (`MAX_INPUT`). All inputs are read, in order,
-/// before the first byte is written: where one is refused, its number and fault are reported, no
-/// further one is read, and nothing is written. At `Write` a prefix of the text was written. Never
-/// answers `RunFault::Memory`: want of memory is that of an input.
+/// Writes the text of the book of this gap of all inputs' receptions, each input read as by
+/// `Desk::take_input`. Requires that `limit` is at most 1,073,741,824 (`MAX_INPUT`). All inputs are
+/// read, in order, before the first byte is written: where one is refused, its number and fault are
+/// reported, no further one is read, and nothing is written. At `Write` a prefix of the text was
+/// written. Never answers `RunFault::Memory`: want of memory is that of an input.
 pub fn merge_run<R: Read, W: Write, A: Allocator + Copy>(
     alloc: A,
     limit: u64,
+    gap: Gap,
     inputs: &mut [Counted<R>],
     w: &mut Counted<W>,
 ) -> Result<(), RunFault>
     requires { limit ≤ 1073741824 }
     ensures run { OfEach limit (map (λ r. R.remaining (device_of r)) inputs.old)
         (map (λ r. R.remaining (device_of r)) inputs.new)
-        (MergesEach gap_seconds result (W.contents (device_of w.old))
+        (MergesEach gap result (W.contents (device_of w.old))
         (W.contents (device_of w.new))) }
     ensures nothing { IfErr result (λ e. WritesNothing e (W.contents (device_of w.old))
         (W.contents (device_of w.new))) }
@@ -40,28 +40,30 @@ pub fn merge_run<R: Read, W: Write, A: Allocator + Copy>(
     ensures write { IfErr result (λ e. e ≡ RunFault.Write
         → Rose (failures_of w.old) (failures_of w.new)) }
 {
-    let book = match read_all(alloc, limit, inputs) {
+    let book = match read_all(alloc, limit, gap, inputs) {
         Ok(book) => book,
         Err((index, fault)) => return Err(RunFault::Input { index, fault }),
     };
     Ok(write_book(w, &book)?)
 }
 
-/// The book of all inputs' receptions, or the first input that is refused, with its fault.
+/// The book of this gap of all inputs' receptions, or the first input that is refused, with its
+/// fault.
 pub(crate) fn read_all<R: Read, A: Allocator + Copy>(
     alloc: A,
     limit: u64,
+    gap: Gap,
     inputs: &mut [Counted<R>],
 ) -> Result<Book<A>, (usize, InputFault)>
     requires { limit ≤ 1073741824 }
     ensures reads { OfEach limit (map (λ r. R.remaining (device_of r)) inputs.old)
-        (map (λ r. R.remaining (device_of r)) inputs.new) (ReadsEach gap_seconds result) }
+        (map (λ r. R.remaining (device_of r)) inputs.new) (ReadsEach gap result) }
     ensures unread { IfErr result (λ p. IsAsBefore p.0 inputs.old inputs.new) }
     ensures read { IfErr result (λ p. IsReadFault p.1 → RoseAt p.0 inputs.old inputs.new) }
     ensures answered { RoseWhereEach (λ k. IsErrAnd result (λ p. (p.0 ≡ k) × IsReadFault p.1))
         inputs.old inputs.new }
 {
-    let mut book = Book::new(alloc);
+    let mut book = Book::with_gap(alloc, gap);
     for (index, r) in inputs.iter_mut().enumerate() {
         match read_into(alloc, limit, &mut book, r) {
             Ok(()) => {}

@@ -1,7 +1,6 @@
 //! The listing of several inputs.
 ghost use Rattle.std.specs.Prelude.{◌≡◌, ◌≤◌, map, IfErr, IsErrAnd};
 ghost use Rattle.aprs_kiss.specs.Device.{device_of, failures_of, Rose};
-ghost use Rattle.aprs_laws.specs.Gap.{gap_seconds};
 ghost use Rattle.aprs_tool.specs.Merge.{IsReadOf, OfEach, ReadsNoFurther, RoseWhereEach};
 ghost use Rattle.aprs_tool.specs.Merge.{RoseWhereRead, WritesNothing};
 ghost use Rattle.aprs_tool.specs.Show.{ShowsEach};
@@ -9,26 +8,29 @@ ghost use Rattle.aprs_tool.specs.Show.{ShowsEach};
 use crate::fault::RunFault;
 use crate::listing::Views;
 use crate::merge::read_all;
+use aprs_book::Gap;
 use aprs_kiss::Counted;
 use std::alloc::Allocator;
 use std::io::{Read, Write};
 
-/// Writes the listing of all inputs' receptions: the stations, objects, items and messages that were
-/// heard, and what is last known of them. Each input is read as by `read_input`. Requires that
-/// `limit` is at most 1,073,741,824 (`MAX_INPUT`). All inputs are read, in order, and the lists are
-/// made, before the first byte is written: where an input is refused, its number and fault are
-/// reported, no further one is read, and nothing is written; nor is anything at `Memory`, which is
-/// that of the lists. At `Write` a prefix of the listing was written.
+/// Writes the listing of all inputs' receptions: the stations, objects, items and messages that
+/// were heard, and what is last known of them, as the book of this gap tells. Each input is read as
+/// by `Desk::take_input`. Requires that `limit` is at most 1,073,741,824 (`MAX_INPUT`). All inputs
+/// are read, in order, and the lists are made, before the first byte is written: where an input is
+/// refused, its number and fault are reported, no further one is read, and nothing is written; nor
+/// is anything at `Memory`, which is that of the lists. At `Write` a prefix of the listing was
+/// written.
 pub fn show_run<R: Read, W: Write, A: Allocator + Copy>(
     alloc: A,
     limit: u64,
+    gap: Gap,
     inputs: &mut [Counted<R>],
     w: &mut Counted<W>,
 ) -> Result<(), RunFault>
     requires { limit ≤ 1073741824 }
     ensures run { OfEach limit (map (λ r. R.remaining (device_of r)) inputs.old)
         (map (λ r. R.remaining (device_of r)) inputs.new)
-        (ShowsEach gap_seconds result (W.contents (device_of w.old))
+        (ShowsEach gap result (W.contents (device_of w.old))
         (W.contents (device_of w.new))) }
     ensures nothing { IfErr result (λ e. WritesNothing e (W.contents (device_of w.old))
         (W.contents (device_of w.new))) }
@@ -39,7 +41,7 @@ pub fn show_run<R: Read, W: Write, A: Allocator + Copy>(
     ensures write { IfErr result (λ e. e ≡ RunFault.Write
         → Rose (failures_of w.old) (failures_of w.new)) }
 {
-    let book = match read_all(alloc, limit, inputs) {
+    let book = match read_all(alloc, limit, gap, inputs) {
         Ok(book) => book,
         Err((index, fault)) => return Err(RunFault::Input { index, fault }),
     };

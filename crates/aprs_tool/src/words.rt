@@ -7,6 +7,8 @@ ghost use Rattle.clap.specs.declared.builder.command.Command.TheViews.{out-Comma
 ghost use Rattle.clap.specs.declared.builder.value_parser.ValueParser.{ValueParser};
 ghost use Rattle.aprs_tool.specs.Words.{IsForms, AnswersWords, JudgesWords, asked_by, form_rule, option_rule};
 ghost use Rattle.aprs_tool.specs.Words.{check_app, convert_app, merge_app, program_app, receiver_of, show_app};
+ghost use Rattle.aprs_tool.specs.Words.{widen_app, gap_rule, seconds_rule, gap_parser, read_gap};
+ghost use Rattle.aprs_tool.specs.Words.{chosen_gap, widened_gap};
 ghost use Rattle.aprs_tool.specs.Words.{AreForms, input_rule, inputs_named, inputs_of, inputs_rule, paths_of};
 ghost use Rattle.aprs_tool.specs.Words.{plain_form_of, capture_form_of, named_form_of, form_of};
 ghost use Rattle.aprs_tool.specs.Words.{task_named, task_of};
@@ -14,26 +16,33 @@ ghost use Rattle.aprs_log.specs.Moment.{moment_of};
 
 use crate::form::{Form, Job, JobFault};
 use crate::help;
+use aprs_book::Gap;
 use aprs_log::{Moment, Receiver};
-use clap::builder::PossibleValue;
+use clap::builder::{PossibleValue, ValueParser};
 use clap::error::ErrorKind;
 use clap::{Arg, ArgMatches, Command};
 use std::alloc::{AllocError, Global};
+
+/// The greatest gap, in seconds.
+const GREATEST_GAP: u64 = 3600;
 
 /// What is asked for, without the inputs.
 #[derive(Drop)]
 enum Task {
     Check,
     Convert(Form),
-    Merge,
-    Show,
+    Merge(Gap),
+    Show(Gap),
+    Widen(Gap),
 }
 
 /// What the program's words ask for, its name being the first: a command of `check [INPUT]`,
-/// `convert FORM [INPUT]`, `merge [INPUT]...` and `show [INPUT]...`, and `convert text` where no
-/// command is given. `convert capture` needs `--receiver NAME` and `--moment MOMENT`, and the other
-/// forms refuse both. The inputs' paths are given in the order of the words. Where these ask for
-/// help or the version, its text is that of `JobFault::Clap`.
+/// `convert FORM [INPUT]`, `merge [INPUT]...`, `show [INPUT]...` and `widen SECONDS [INPUT]`, and
+/// `convert text` where no command is given. `convert capture` needs `--receiver NAME` and
+/// `--moment MOMENT`, and the other forms refuse both. `merge` and `show` have `--gap SECONDS`,
+/// which is 30 where it is not given. SECONDS is 1 to 3,600, and else a fault of `JobFault::Clap`.
+/// The inputs' paths are given in the order of the words. Where these ask for help or the version,
+/// its text is that of `JobFault::Clap`.
 pub fn job(alloc: Global, words: &[&str]) -> Result<Job, JobFault>
     ensures asked { (p : ValueParser) × IsForms p
         × AnswersWords (program_app p) (map (λ w. w.now) words.now) result }
@@ -104,6 +113,31 @@ fn option_arg<'a>(
         .help(help)
 }
 
+/// What a gap may be.
+fn gap_parser<'a>() -> ValueParser<'a>
+    ensures { result ≡ gap_parser }
+{
+    ValueParser::unsigned(1, GREATEST_GAP)
+}
+
+fn gap_arg<'a>(alloc: Global) -> Arg<'a>
+    ensures rule { rule_of result ≡ gap_rule }
+    ensures local { result.global ≡ false }
+{
+    option_arg(alloc, "gap", "SECONDS", help::GAP).value_parser(gap_parser())
+}
+
+fn seconds_arg<'a>(alloc: Global) -> Arg<'a>
+    ensures rule { rule_of result ≡ seconds_rule }
+    ensures local { result.global ≡ false }
+{
+    Arg::new(alloc, "seconds")
+        .required(true)
+        .value_name("SECONDS")
+        .help(help::SECONDS)
+        .value_parser(gap_parser())
+}
+
 /// One input, or none.
 fn input_arg<'a>(alloc: Global, help: &'static str) -> Arg<'a>
     ensures rule { rule_of result ≡ input_rule }
@@ -156,7 +190,9 @@ fn merge_command<'a>(alloc: Global) -> Result<Command<'a>, AllocError>
     ensures globals { IfOk result (λ c. (out-Command c).has_globals ≡ false) }
 {
     let inputs = inputs_arg(alloc);
-    Command::new(alloc, "merge").about(help::MERGE).arg(inputs)
+    let gap = gap_arg(alloc);
+    let with_inputs = Command::new(alloc, "merge").about(help::MERGE).arg(inputs)?;
+    with_inputs.arg(gap)
 }
 
 fn show_command<'a>(alloc: Global) -> Result<Command<'a>, AllocError>
@@ -164,7 +200,21 @@ fn show_command<'a>(alloc: Global) -> Result<Command<'a>, AllocError>
     ensures globals { IfOk result (λ c. (out-Command c).has_globals ≡ false) }
 {
     let inputs = inputs_arg(alloc);
-    Command::new(alloc, "show").about(help::SHOW).arg(inputs)
+    let gap = gap_arg(alloc);
+    let with_inputs = Command::new(alloc, "show").about(help::SHOW).arg(inputs)?;
+    with_inputs.arg(gap)
+}
+
+fn widen_command<'a>(alloc: Global) -> Result<Command<'a>, AllocError>
+    ensures app { IfOk result (λ c. app_of c ≡ widen_app) }
+    ensures globals { IfOk result (λ c. (out-Command c).has_globals ≡ false) }
+{
+    let seconds = seconds_arg(alloc);
+    let input = input_arg(alloc, help::WIDENED);
+    let with_seconds = Command::new(alloc, "widen")
+        .about(help::WIDEN)
+        .arg(seconds)?;
+    with_seconds.arg(input)
 }
 
 fn program<'a>(alloc: Global, forms: &'a [PossibleValue<'a>]) -> Result<Command<'a>, AllocError>
@@ -175,6 +225,7 @@ fn program<'a>(alloc: Global, forms: &'a [PossibleValue<'a>]) -> Result<Command<
     let check = check_command(alloc)?;
     let merge = merge_command(alloc)?;
     let show = show_command(alloc)?;
+    let widen = widen_command(alloc)?;
     let with_convert = Command::new(alloc, "aprsbook")
         .version(help::VERSION)
         .about(help::ABOUT)
@@ -183,7 +234,8 @@ fn program<'a>(alloc: Global, forms: &'a [PossibleValue<'a>]) -> Result<Command<
         .subcommand(convert)?;
     let with_check = with_convert.subcommand(check)?;
     let with_merge = with_check.subcommand(merge)?;
-    with_merge.subcommand(show)
+    let with_show = with_merge.subcommand(show)?;
+    with_show.subcommand(widen)
 }
 
 fn clap_fault(error: clap::Error) -> JobFault
@@ -218,11 +270,40 @@ fn read_named(name: &str, matches: &ArgMatches<'_>) -> Option<Task>
     if name == "convert" {
         Some(Task::Convert(read_form(matches)?))
     } else if name == "merge" {
-        Some(Task::Merge)
+        Some(Task::Merge(read_chosen_gap(matches)?))
     } else if name == "show" {
-        Some(Task::Show)
+        Some(Task::Show(read_chosen_gap(matches)?))
+    } else if name == "widen" {
+        Some(Task::Widen(read_widened_gap(matches)?))
     } else {
         Some(Task::Check)
+    }
+}
+
+/// The gap of a book that is made: the standard one where none is given.
+fn read_chosen_gap(matches: &ArgMatches<'_>) -> Option<Gap>
+    ensures { result ≡ chosen_gap (rows_of (found_of matches.now)) }
+{
+    match text_at(matches, "gap") {
+        Some(text) => read_gap(text),
+        None => Some(Gap::STANDARD),
+    }
+}
+
+/// The gap to which a book is widened.
+fn read_widened_gap(matches: &ArgMatches<'_>) -> Option<Gap>
+    ensures { result ≡ widened_gap (rows_of (found_of matches.now)) }
+{
+    read_gap(text_at(matches, "seconds")?)
+}
+
+/// The gap that a text tells. The command takes no text that tells none.
+fn read_gap(text: &str) -> Option<Gap>
+    ensures { result ≡ read_gap text.now }
+{
+    match text.parse::<u64>() {
+        Ok(seconds) => Gap::new(seconds),
+        Err(_) => None,
     }
 }
 
@@ -318,7 +399,8 @@ fn with_inputs(task: Task, inputs: Vec<String>) -> Job
     match task {
         Task::Check => Job::Check(inputs),
         Task::Convert(form) => Job::Convert(form, inputs),
-        Task::Merge => Job::Merge(inputs),
-        Task::Show => Job::Show(inputs),
+        Task::Merge(gap) => Job::Merge(gap, inputs),
+        Task::Show(gap) => Job::Show(gap, inputs),
+        Task::Widen(gap) => Job::Widen(gap, inputs),
     }
 }

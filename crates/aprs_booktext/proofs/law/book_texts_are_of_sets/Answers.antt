@@ -1,7 +1,9 @@
-use Rattle.std.proofs.Common.{refl, arith}
-use Rattle.aprs_laws.specs.Gap.{gap_seconds}
+use Rattle.std.proofs.Common.{refl}
+use Rattle.aprs_laws.specs.Gap.{millis_of}
 use Rattle.aprs_laws.specs.Real.{real}
 use Rattle.aprs_laws.proofs.Soundness.{sound, realised}
+use Rattle.aprs_booktext.specs.Version.{gap_of}
+use Rattle.aprs_booktext.proofs.Versions.{some_millis}
 use Rattle.aprs_booktext.proofs.law.book_texts_are_of_sets.Goals as goal
 
 pub returns : goal.returns
@@ -9,15 +11,18 @@ returns c = λ text. (
   λ t. (
     real t.rows,
     record {
+      version = t.version;
+      is = t.is.version;
       rows = t.rows;
-      book = realised gap_seconds t.rows (omega arith) t.is.sound;
+      holds = realised (millis_of (gap_of t.version)) t.rows (some_millis t.version t.is.version) t.is.sound;
       each = t.is.each;
       text_is = t.text_is;
     },
   ),
   λ t. record {
+    version = t.1.version;
     rows = t.1.rows;
-    is = record { sound = sound gap_seconds t.0 t.1.rows t.1.book; each = t.1.each };
+    is = record { version = t.1.is; sound = sound (millis_of (gap_of t.1.version)) t.0 t.1.rows t.1.holds; each = t.1.each };
     text_is = t.1.text_is;
     ended = refl;
   },

@@ -1,9 +1,12 @@
 use Rattle.std.proofs.Common.{refl}
-use Rattle.aprs_booktext.proofs.OneText.{one_text, cut_short}
+use Rattle.aprs_booktext.proofs.OneText.{one_book, one_text, cut_short}
 use Rattle.aprs_booktext.proofs.law.each_book_has_one_text.Goals as goal
 
 pub returns-clause-one : goal.returns-clause-one
-returns-clause-one c = one_text _
+returns-clause-one c = one_text
+
+pub returns-clause-written : goal.returns-clause-written
+returns-clause-written c = one_book
 
 pub returns-clause-cut : goal.returns-clause-cut
-returns-clause-cut c = λ rows is small text more e f whole first. cut_short _ rows is small more e f.cause text f whole refl first
+returns-clause-cut c = λ v rows is small text more e f whole first. cut_short v rows is small more e f.cause text f whole refl first

@@ -1,6 +1,5 @@
 use Rattle.std.proofs.Common.{◌≡◌, ◌+◌, ◌≤◌, length}
 use Rattle.aprs_kiss.specs.Device.{device_of, failures_of, answered_of}
-use Rattle.aprs_laws.specs.Gap.{gap_seconds}
 use Rattle.aprs_booktext.specs.Reader.{Stands}
 use Rattle.aprs_booktext.proofs.Inputs.{Got}
 use Rattle.aprs_booktext.proofs.read.read_book.Given as goal
@@ -9,8 +8,8 @@ abbrev pub invariant-loop-count : goal.invariant-loop-count
 invariant-loop-count g l =
     let remaining = g.R.Read.remaining in
     record {
-      got : Got (Stands gap_seconds l.reader) l.head (remaining (device_of l.fn.source)) (remaining (device_of l.source)) l.limit l.left;
-      few : length l.reader.book + l.left ≤ l.limit;
+      got : Got (Stands l.reader) l.head (remaining (device_of l.fn.source)) (remaining (device_of l.source)) l.limit l.left;
+      few : length l.reader.book.rows + l.left ≤ l.limit;
       count : failures_of l.fn.source ≤ failures_of l.source;
       answered : answered_of l.source ≡ answered_of l.fn.source;
     }

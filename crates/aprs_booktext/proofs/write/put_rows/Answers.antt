@@ -12,7 +12,7 @@ pub loop-row-preserved : goal.loop-row-preserved
 loop-row-preserved g c = record {
   put = PutSoFar-more line_and_lf _ _ _ _ _ _ _ _ _ c.loop-row.invariant.put c.in-Some.ensures.steps _ c.in_ok-put_row.ensures.sent;
   count = omega (arith, c.loop-row.invariant.count, c.put_row.ensures.count);
-  written = WrittenSoFar-more _ _ _ _ _ c.rows-row-items.ensures.sound c.loop-row.invariant.written c.in-Some.ensures.steps c.in_ok-put_row.ensures.spelled;
+  written = WrittenSoFar-more _ _ _ _ _ c.rows-row-items.ensures.sound.sound c.loop-row.invariant.written c.in-Some.ensures.steps c.in_ok-put_row.ensures.spelled;
 }
 
 pub returns-in_err-put_row-clause-prefix : goal.returns-in_err-put_row-clause-prefix

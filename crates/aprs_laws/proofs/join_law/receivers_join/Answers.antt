@@ -1,7 +1,7 @@
 use Rattle.aprs_log.specs.Reception.{bytes_cmp}
 use Rattle.aprs_laws.specs.Lists.{Ordered}
 use Rattle.aprs_laws.specs.Order.{IsBelow}
-use Rattle.aprs_laws.specs.Joining.{IsUnited}
+use Rattle.aprs_laws.specs.Joining.{AreAny, IsUnited}
 use Rattle.aprs_laws.proofs.Orders.{bytes_total, bytes_exact}
 use Rattle.aprs_laws.proofs.Joins.{receivers_laws}
 use Rattle.aprs_laws.proofs.Folds.{fold_same}
@@ -12,7 +12,7 @@ pub returns-clause-laws : goal.returns-clause-laws
 returns-clause-laws c = receivers_laws bytes_total bytes_exact
 
 pub returns-clause-folds : goal.returns-clause-folds
-returns-clause-folds c = fold_same (Ordered (IsBelow bytes_cmp)) (IsUnited bytes_cmp) (receivers_laws bytes_total bytes_exact)
+returns-clause-folds c = fold_same (Ordered (IsBelow bytes_cmp)) AreAny (IsUnited bytes_cmp) (receivers_laws bytes_total bytes_exact)
 
 pub returns-clause-one_pass : goal.returns-clause-one_pass
 returns-clause-one_pass c = merged_is_united bytes_total bytes_exact

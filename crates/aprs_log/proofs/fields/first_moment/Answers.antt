@@ -1,18 +1,21 @@
-use Rattle.std.proofs.Common.{arith}
-use Rattle.aprs_log.proofs.FieldLemmas.{TakesNoMoment-short, TakesNoMoment-other, takes_as_read}
+use Rattle.std.proofs.Common.{◌+◌, sym, ◌∙◌}
+use Rattle.std.proofs.lemmas.List.{take_rest}
+use Rattle.aprs_log.proofs.FieldLemmas.{EndsMoment-space, TakesMoment-at, TakesNoMoment-nowhere, TakesNoMoment-unread, none_matches}
 use Rattle.aprs_log.proofs.fields.first_moment.Goals as goal
-use Rattle.aprs_log.proofs.fields.first_moment.Goals.{then-line-le-MOMENT_LEN-via-then-line-le-MOMENT_LEN, then-line-le-MOMENT_LEN-via-else-line-le-MOMENT_LEN+then-line-ne32}
 
-pub returns-then-line-le-MOMENT_LEN : goal.returns-then-line-le-MOMENT_LEN
-returns-then-line-le-MOMENT_LEN c =
-    elim c.then-line-le-MOMENT_LEN.branch [
-      | then-line-le-MOMENT_LEN-via-then-line-le-MOMENT_LEN w ↦
-          TakesNoMoment-short c.args.line.now w.if-line-le-MOMENT_LEN.true
-      | then-line-le-MOMENT_LEN-via-else-line-le-MOMENT_LEN+then-line-ne32 w ↦
-          TakesNoMoment-other c.args.line.now w.if-line-ne32.true
-    ]
+pub returns-in_err-len : goal.returns-in_err-len
+returns-in_err-len c =
+    none_matches c.from_residual.result _ _ c.from_residual.ensures
+    (TakesNoMoment-nowhere c.args.line.now c.in_err-len.ensures)
+
+pub returns-in_err-moment : goal.returns-in_err-moment
+returns-in_err-moment c =
+    none_matches c.from_residual-in_err-moment.result _ _ c.from_residual-in_err-moment.ensures
+    (TakesNoMoment-unread c.args.line.now c.in_ok-len.len c.in_ok-len.ensures
+    (sym c.in_err-moment.was ∙ c.parse.ensures))
 
 pub returns : goal.returns
 returns c =
-    takes_as_read c.args.line.now c.parse.result (omega (arith, c.if-line-le-MOMENT_LEN.false)) c.if-line-ne32.false
-    c.parse.ensures
+    TakesMoment-at c.args.line.now c.in_ok-len.len c.in_ok-moment.moment _
+    (EndsMoment-space c.args.line.now c.in_ok-len.len c.in_ok-len.ensures)
+    (sym c.parse.ensures ∙ c.in_ok-moment.was) (take_rest c.args.line.now (c.in_ok-len.len + 1))

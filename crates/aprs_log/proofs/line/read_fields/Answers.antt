@@ -1,6 +1,4 @@
-use Rattle.std.proofs.Common.{◌∙◌, List, ℕ, subst}
-use Rattle.std.proofs.lemmas.List.{take_rest}
-use Rattle.aprs_log.specs.Fields.{TakesName, TakesNoName}
+use Rattle.std.proofs.Common.{◌∙◌}
 use Rattle.aprs_log.proofs.FieldLemmas.{digits_fit, line_of-takes, line_of-takes_no_moment, line_of-takes_no_name}
 use Rattle.aprs_log.proofs.LineLemmas.{line_of-long}
 use Rattle.aprs_log.proofs.line.read_fields.Goals as goal
@@ -14,18 +12,16 @@ returns-in_default-clause-told c = line_of-takes_no_moment c.args.line.now c.if-
 
 pub returns-in_default-take_receiver-clause-told : goal.returns-in_default-take_receiver-clause-told
 returns-in_default-take_receiver-clause-told c =
-    line_of-takes_no_name c.args.line.now c.if-line-gt-MAX_LINE.false _ _ c.in-Some.ensures.1
-    (subst (λ (l : List ℕ). TakesNoName l) (take_rest c.args.line.now 21) c.in_default-take_receiver.ensures)
+    line_of-takes_no_name c.args.line.now c.if-line-gt-MAX_LINE.false _ _ c.in-Some.ensures
+    c.in_default-take_receiver.ensures
 
 pub read_within-requires : goal.read_within-requires
 read_within-requires c =
-    digits_fit c.args.line.now c.if-line-gt-MAX_LINE.false _ _ c.in-Some.ensures.1 _ _
-    (subst (λ (l : List ℕ). TakesName l c.in-Some-take_receiver.receiver c.in-Some-take_receiver.digits.now)
-    (take_rest c.args.line.now 21) c.in-Some-take_receiver.ensures)
+    digits_fit c.args.line.now c.if-line-gt-MAX_LINE.false _ _ c.in-Some.ensures _ _
+    c.in-Some-take_receiver.ensures
 
 pub returns-clause-told : goal.returns-clause-told
 returns-clause-told c =
     c.read_within.ensures.told
-    ∙ line_of-takes c.args.line.now c.if-line-gt-MAX_LINE.false _ _ c.in-Some.ensures.1 _ _
-    (subst (λ (l : List ℕ). TakesName l c.in-Some-take_receiver.receiver c.in-Some-take_receiver.digits.now)
-    (take_rest c.args.line.now 21) c.in-Some-take_receiver.ensures)
+    ∙ line_of-takes c.args.line.now c.if-line-gt-MAX_LINE.false _ _ c.in-Some.ensures _ _
+    c.in-Some-take_receiver.ensures

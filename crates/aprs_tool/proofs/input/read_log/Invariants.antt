@@ -1,7 +1,6 @@
 use Rattle.std.proofs.Common.{◌≡◌, ◌≤◌, ◌-◌, ℕ, List, Option, None}
 use Rattle.aprs_kiss.specs.Device.{device_of, failures_of, answered_of}
 use Rattle.aprs_log.specs.Reader.{Awaits, lines_of, loan_of, source_of, stop_of}
-use Rattle.aprs_laws.specs.Gap.{gap_seconds}
 use Rattle.aprs_tool.proofs.Logs.{Took}
 use Rattle.aprs_tool.proofs.input.read_log.Given as goal
 
@@ -13,8 +12,9 @@ invariant-lines g l =
       reads : failures_of (source_of l.initial.reader) ≤ failures_of (source_of l.reader);
       going : stop_of l.reader ≡ None;
       answered : answered_of (source_of l.reader) ≡ answered_of (source_of l.initial.reader);
-      took : (end : Option (List ℕ)) → Took gap_seconds (Awaits (remaining (device_of (source_of l.initial.reader))) end l.initial.reader)
-          (Awaits (remaining (device_of (source_of l.reader))) end l.reader) l.fn.book l.book;
+      gap : l.book.gap ≡ l.fn.book.gap;
+      took : (end : Option (List ℕ)) → Took l.fn.book.gap (Awaits (remaining (device_of (source_of l.initial.reader))) end l.initial.reader)
+          (Awaits (remaining (device_of (source_of l.reader))) end l.reader) l.fn.book.rows l.book.rows;
     }
 
 abbrev pub decreases-lines : goal.decreases-lines

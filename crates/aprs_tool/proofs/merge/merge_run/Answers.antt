@@ -1,6 +1,5 @@
-use Rattle.std.proofs.Common.{refl}
 use Rattle.aprs_tool.specs.Merge.{IsBookTextOf}
-use Rattle.aprs_tool.proofs.Merges.{written}
+use Rattle.aprs_tool.proofs.Merges.{text_of_book, written}
 use Rattle.std.proofs.lemmas.Result.{err_from_is_err_and}
 use Rattle.aprs_tool.proofs.merge.merge_run.Goals as goal
 
@@ -17,5 +16,5 @@ returns-in_err-write_book-clause-run g c =
     record {
       gots = read.gots;
       gets = read.gets;
-      holds = written _ (IsBookTextOf _) read.gots _ _ _ read.holds (λ S book. (_, book, refl)) c.in_err-write_book.ensures.prefix;
+      holds = written _ (IsBookTextOf _) read.gots _ _ _ read.holds (text_of_book _ _ read.holds.0) c.in_err-write_book.ensures.prefix;
     })

@@ -1,15 +1,17 @@
-use Rattle.std.proofs.Common.{Ok, Err, get_or, set, map, refl, ◌∙◌, arith}
+use Rattle.std.proofs.Common.{[], get_or, set, map, refl, ◌∙◌, subst, arith}
 use Rattle.std.proofs.lemmas.List.{length-map, length-set}
 use Rattle.aprs_kiss.specs.Device.{answered_of, device_of}
+use Rattle.aprs_laws.specs.Book.{BookOf}
+use Rattle.aprs_laws.specs.Gap.{millis_of}
 use Rattle.aprs_tool.specs.Run.{IsReadFault}
 use Rattle.aprs_tool.proofs.Merges.{HasRead-all, HasRead-more, HasRead-none, HasRead-refused, after_more, counts_more, counts_none, element, element_of, rose_where, same_len, set_elsewhere, set_here}
-use Rattle.aprs_tool.proofs.Into.{got_so, taken}
 use Rattle.aprs_tool.proofs.merge.read_all.Goals as goal
 
 pub loop-index-init : goal.loop-index-init
 loop-index-init g c = record {
   unread = λ k h. refl;
-  read = λ inputs e. HasRead-none _ _ inputs _ _ c.new-book.ensures.book;
+  gap = c.with_gap-book.ensures.gap;
+  read = λ inputs e. HasRead-none _ _ inputs _ _ (subst (λ n. BookOf (millis_of n) [] c.with_gap-book.result.rows) c.with_gap-book.ensures.gap c.with_gap-book.ensures.book);
   answered = counts_none answered_of c.args.inputs.now;
 }
 
@@ -22,9 +24,10 @@ loop-index-preserved g c =
     (c.loop-index.invariant.unread i (omega arith)) in
     record {
       unread = λ k h. set_elsewhere now i k c.read_into.new.r (λ e. omega (arith, h, e)) ∙ c.loop-index.invariant.unread k (omega (arith, h));
-      read = λ inputs e. HasRead-more _ c.args.limit inputs (map (λ r. g.R.Read.remaining (device_of r)) now) _ i c.loop-index.book _ _ (c.loop-index.invariant.read inputs e)
-          (element_of (λ r. g.R.Read.remaining (device_of r)) c.args.inputs.now _ i r at e) (after_more (λ r. g.R.Read.remaining (device_of r)) now i c.read_into.new.r (omega (arith, c.loop-index-test.true, c.loop-index.auto.inputs))) c.read_into.new.book
-          _ refl (got_so _ _ c.args.limit (λ input. input) _ _ (λ t e. taken _ t e (Ok tt) c.loop-index.book c.read_into.new.book) c.in-Ok.ensures.reads);
+      read = λ inputs e. HasRead-more _ c.args.limit inputs (map (λ r. g.R.Read.remaining (device_of r)) now) _ i c.loop-index.book.rows _ _ (c.loop-index.invariant.read inputs e)
+          (element_of (λ r. g.R.Read.remaining (device_of r)) c.args.inputs.now _ i r at e) (after_more (λ r. g.R.Read.remaining (device_of r)) now i c.read_into.new.r (omega (arith, c.loop-index-test.true, c.loop-index.auto.inputs))) c.read_into.new.book.rows
+          _ refl c.loop-index.book.gap c.loop-index.invariant.gap c.in-Ok.ensures.reads;
+      gap = c.read_into.ensures.gap ∙ c.loop-index.invariant.gap;
       answered = counts_more answered_of c.args.inputs.now now i r c.read_into.new.r at (omega (arith, c.loop-index-test.true, c.loop-index.auto.inputs)) c.loop-index.invariant.answered
           (c.in-Ok.ensures.answered.1 (λ e. absurd e));
     }
@@ -40,11 +43,10 @@ returns-in-Err-clause-reads g c =
     let len = same_len (λ r. g.R.Read.remaining (device_of r)) c.args.inputs.now inputs e in
     let new = length-map (set now i c.read_into.new.r) (λ r. g.R.Read.remaining (device_of r)) in
     let size = length-set now i c.read_into.new.r in
-    HasRead-refused _ c.args.limit inputs (map (λ r. g.R.Read.remaining (device_of r)) now) _ i c.loop-index.book _ _ (c.loop-index.invariant.read inputs e)
+    HasRead-refused _ c.args.limit inputs (map (λ r. g.R.Read.remaining (device_of r)) now) _ i c.loop-index.book.rows _ _ (c.loop-index.invariant.read inputs e)
     (element_of (λ r. g.R.Read.remaining (device_of r)) c.args.inputs.now _ i r at e) (after_more (λ r. g.R.Read.remaining (device_of r)) now i c.read_into.new.r (omega (arith, c.loop-index-test.true, c.loop-index.auto.inputs)))
-    c.in-Err.fault c.loop-index.book c.read_into.new.book
-    _ refl (omega (arith, len, new, size, c.loop-index.auto.inputs))
-    (got_so _ _ c.args.limit (λ input. input) _ _ (λ t e. taken _ t e (Err c.in-Err.fault) c.loop-index.book c.read_into.new.book) c.in-Err.ensures.reads)
+    c.in-Err.fault c.loop-index.book.rows c.read_into.new.book.rows
+    _ refl (omega (arith, len, new, size, c.loop-index.auto.inputs)) c.loop-index.book.gap c.loop-index.invariant.gap c.in-Err.ensures.reads
 
 pub returns-in-Err-clause-unread : goal.returns-in-Err-clause-unread
 returns-in-Err-clause-unread g c = λ k h.
@@ -75,7 +77,7 @@ pub returns-clause-reads : goal.returns-clause-reads
 returns-clause-reads g c = λ inputs e.
     let len = same_len (λ r. g.R.Read.remaining (device_of r)) c.args.inputs.now inputs e in
     let new = length-map c.loop-index.inputs (λ r. g.R.Read.remaining (device_of r)) in
-    HasRead-all _ c.args.limit inputs _ c.loop-index.index c.loop-index.book c.loop-index.book refl (c.loop-index.invariant.read inputs e)
+    HasRead-all _ c.args.limit inputs _ c.loop-index.index c.loop-index.book c.loop-index.invariant.gap (c.loop-index.invariant.read inputs e)
     (omega (arith, len, c.loop-index-test.false, c.loop-index.auto.index-end)) (omega (arith, len, new, c.loop-index-test.false, c.loop-index.auto.index-end, c.loop-index.auto.inputs))
 
 pub returns-clause-answered : goal.returns-clause-answered

@@ -1,4 +1,4 @@
-use Rattle.std.proofs.Common.{ℕ, List, refl}
+use Rattle.std.proofs.Common.{◌≡◌, ℕ, List, refl, sym, subst}
 use Rattle.aprs_book.specs.Messages.{TellsMessages}
 use Rattle.aprs_book.specs.Names.{TellsNamed}
 use Rattle.aprs_book.specs.Stations.{TellsStations}
@@ -6,6 +6,7 @@ use Rattle.aprs_book.specs.declared.message.MessageRow.{MessageRow}
 use Rattle.aprs_book.specs.declared.named.Named.{Named}
 use Rattle.aprs_book.specs.declared.station.Station.{Station}
 use Rattle.aprs_laws.specs.Book.{BookOf}
+use Rattle.aprs_laws.specs.Gap.{millis_of}
 use Rattle.aprs_laws.specs.Row.{Row}
 use Rattle.aprs_log.specs.Reception.{Heard}
 use Rattle.aprs_tool.specs.Listing.{show_text}
@@ -14,19 +15,21 @@ use Rattle.aprs_tool.proofs.Merges.{written}
 use Rattle.aprs_tool.proofs.show.show_run.Goals as goal
 
 -- the listing of whatever set the rows are the book of
-listed : (gap : ℕ) (rows : List Row) (stations : List Station) (named : List Named) (messages : List MessageRow) → TellsStations gap rows stations → TellsNamed gap rows named → TellsMessages gap rows messages
-    → (S : List Heard) → BookOf gap S rows → IsListingOf gap S (show_text stations named messages)
-listed gap rows stations named messages s n m S book = record {
-  rows = rows;
-  stations = stations;
-  named = named;
-  messages = messages;
-  book = book;
-  are_stations = s S book;
-  are_named = n S book;
-  are_messages = m S book;
-  text_is = refl;
-}
+listed : (gap own : ℕ) (rows : List Row) (stations : List Station) (named : List Named) (messages : List MessageRow) → own ≡ gap → TellsStations (millis_of own) rows stations
+    → TellsNamed (millis_of own) rows named → TellsMessages (millis_of own) rows messages → (S : List Heard) → BookOf (millis_of gap) S rows → IsListingOf gap S (show_text stations named messages)
+listed gap own rows stations named messages same s n m S book =
+    let its = subst (λ n. BookOf (millis_of n) S rows) (sym same) book in
+    record {
+      rows = rows;
+      stations = stations;
+      named = named;
+      messages = messages;
+      book = book;
+      are_stations = s S its;
+      are_named = n S its;
+      are_messages = m S its;
+      text_is = refl;
+    }
 
 pub returns-in-Ok-write-clause-run : goal.returns-in-Ok-write-clause-run
 returns-in-Ok-write-clause-run g c = λ inputs e.
@@ -35,7 +38,7 @@ returns-in-Ok-write-clause-run g c = λ inputs e.
     record {
       gots = read.gots;
       gets = read.gets;
-      holds = written _ (IsListingOf _) read.gots _ _ _ read.holds (listed _ _ _ _ _ views.stations views.named views.messages) c.in-Ok-write.ensures.sent;
+      holds = written _ (IsListingOf _) read.gots _ _ _ read.holds (listed _ _ _ _ _ _ read.holds.0 views.stations views.named views.messages) c.in-Ok-write.ensures.sent;
     }
 
 pub returns-clause-run : goal.returns-clause-run
@@ -45,5 +48,5 @@ returns-clause-run g c = λ inputs e.
     record {
       gots = read.gots;
       gets = read.gets;
-      holds = written _ (IsListingOf _) read.gots _ _ _ read.holds (listed _ _ _ _ _ views.stations views.named views.messages) c.in-Err-write.ensures.prefix;
+      holds = written _ (IsListingOf _) read.gots _ _ _ read.holds (listed _ _ _ _ _ _ read.holds.0 views.stations views.named views.messages) c.in-Err-write.ensures.prefix;
     }

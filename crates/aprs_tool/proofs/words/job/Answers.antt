@@ -1,9 +1,15 @@
 use Rattle.std.proofs.Common.{◌≡◌, ℕ, List, [], None, map, true, false, refl, ap, ◌∙◌, sym, subst, inl, inr, Bor}
-use Rattle.clap.specs.Words.{App, fault_of, is_simple_and_free, takes}
+use Rattle.std.specs.Prelude.{◌⊎◌, ◌≢◌}
+use Rattle.clap.specs.Kinds.{HasKind}
+use Rattle.clap.specs.Words.{App, fault_of, is_simple_and_free, kind_of, takes}
+use Rattle.clap.specs.declared.error.Error.{Error}
+use Rattle.clap.specs.declared.error.kind.ErrorKind.TheVariants.{OutOfMemory}
 use Rattle.clap.specs.declared.builder.value_parser.ValueParser.{ValueParser}
 use Rattle.clap.specs.declared.builder.value_parser.ValueParser.TheVariants as vp
 use Rattle.clap.specs.declared.builder.possible_value.PossibleValue.{PossibleValue}
-use Rattle.aprs_tool.specs.Words.{FailsSo, form_names, program_app}
+use Rattle.aprs_tool.specs.Words.{FailsSo, form_names, program_app, RefusesSo}
+use Rattle.aprs_tool.specs.declared.form.JobFault.{JobFault}
+use Rattle.aprs_tool.specs.declared.form.JobFault.TheVariants as fault
 use Rattle.aprs_tool.proofs.words.job.Goals as goal
 
 abbrev at_zero : {A : Type 0} → A → Bor A
@@ -38,3 +44,23 @@ returns-in-Ok-read_inputs-clause-judged c =
     let words = map (λ (w : Bor (List ℕ)). w.now) c.args.words.now in
     let kinds = c.in-Ok-try_get_matches_from.ensures.kinds (ap is_simple_and_free built.2 ∙ free built.0) in
     (built.0, built.1, ap (λ (a : App). fault_of a words) (sym built.2) ∙ kinds)
+
+-- an error is refused as its kind says
+refused : (a : App) (words : List (List ℕ)) (e : Error) (f : JobFault) → HasKind (fault_of a words) e
+    → ((kind_of e ≡ OutOfMemory) × (f ≡ fault.Memory)) ⊎ ((kind_of e ≢ OutOfMemory) × (f ≡ fault.Clap e)) → RefusesSo a words f
+refused a words e f has told = elim told [
+  | inl h ↦ subst (RefusesSo a words) (sym h.1) tt
+  | inr h ↦ subst (RefusesSo a words) (sym h.1) (elim has [
+    | inl out ↦ absurd (h.0 out)
+    | inr among ↦ among
+  ])
+]
+
+pub returns-in-Err-try_get_matches_from-clause-judged : goal.returns-in-Err-try_get_matches_from-clause-judged
+returns-in-Err-try_get_matches_from-clause-judged c =
+    let built = c.in-Ok.ensures in
+    let words = map (λ (w : Bor (List ℕ)). w.now) c.args.words.now in
+    let error = c.in-Err-try_get_matches_from.error in
+    let has = c.in-Err-try_get_matches_from.ensures.kinds (ap is_simple_and_free built.2 ∙ free built.0) in
+    let kinds = subst (λ (a : App). HasKind (fault_of a words) error) built.2 has in
+    (built.0, built.1, refused (program_app built.0) words error c.clap_fault.result kinds c.clap_fault.ensures)

@@ -1,29 +1,37 @@
-use Rattle.std.proofs.Common.{◌≡◌, ◌∙◌, None, sym, ap, subst}
+use Rattle.std.proofs.Common.{◌≡◌, ◌∙◌, None, sym, ap, refl, subst}
 use Rattle.aprs_log.specs.Reception.{Heard}
-use Rattle.aprs_laws.specs.Gap.{gap_seconds}
+use Rattle.aprs_laws.specs.Gap.{millis_of}
 use Rattle.aprs_laws.specs.Row.{row_key}
 use Rattle.aprs_laws.specs.Sound.{Sound}
 use Rattle.aprs_book.specs.Refusal.{refusal}
 use Rattle.aprs_book.specs.Known.{told_in}
+use Rattle.aprs_book.proofs.Taking.{refusal_is}
 use Rattle.aprs_book.proofs.Refusals.{free_ascends, none_ends_up_to, none_exactly}
 use Rattle.aprs_book.proofs.IndexSteps.{Noted, pushes_indexes}
 use Rattle.aprs_book.proofs.book.Book.add.Goals as goal
 
 pub push-requires : goal.push-requires
 push-requires g c =
-    let none : refusal gap_seconds c.self.inside.rows c.args.parts.now ≡ None =
-    ap (λ r. refusal gap_seconds r c.args.parts.now) c.self.view_is ∙ c.requires in
+    let gap = millis_of c.self.inside.gap in
+    let none : refusal gap c.self.inside.rows c.args.parts.now ≡ None =
+    refusal_is c.self.inside.gap gap refl c.self.inside.rows c.args.self.now c.args.parts.now
+    c.self.view_is ∙ c.requires in
     record {
-      ascending = free_ascends gap_seconds c.self.inside.rows c.args.parts.now (sym none);
-      last = none_ends_up_to gap_seconds c.self.inside.rows c.args.parts.now (sym none);
+      ascending = free_ascends gap c.self.inside.rows c.args.parts.now (sym none);
+      last = none_ends_up_to gap c.self.inside.rows c.args.parts.now (sym none);
     }
 
 pub invariant_of-self-2 : goal.invariant_of-self-2
 invariant_of-self-2 g c =
-    let none : refusal gap_seconds c.self.inside.rows c.args.parts.now ≡ None =
-    ap (λ r. refusal gap_seconds r c.args.parts.now) c.self.view_is ∙ c.requires in (
-      subst (Sound gap_seconds) (sym c.in_ok-push.ensures.added)
-          ((none_exactly gap_seconds c.self.inside.rows c.args.parts.now c.self.invariant.0).0 none),
+    let gap = millis_of c.self.inside.gap in
+    let none : refusal gap c.self.inside.rows c.args.parts.now ≡ None =
+    refusal_is c.self.inside.gap gap refl c.self.inside.rows c.args.self.now c.args.parts.now
+    c.self.view_is ∙ c.requires in (
+      record {
+        range = c.self.invariant.0.range;
+        sound = subst (Sound gap) (sym c.in_ok-push.ensures.added)
+            ((none_exactly gap c.self.inside.rows c.args.parts.now c.self.invariant.0.sound).0 none);
+      },
       pushes_indexes c.of-told.result c.args.parts.now c.self.inside.rows c.push.new.self
           c.self.inside.indexes c.place.new.self c.note.new.self c.self.invariant.1
           (λ topic. c.of-told.ensures topic ∙ ap (λ r. told_in topic (row_key r)) c.parts.view_is)

@@ -1,18 +1,22 @@
-use Rattle.std.proofs.Common.{◌≡◌, Some, ◌+◌, arith, ap, sym, ◌∙◌}
+use Rattle.std.proofs.Common.{◌≡◌, Some, ◌+◌, ◌*◌, ◌++◌, arith, ap, sym, ◌∙◌}
 use Rattle.std.proofs.lemmas.Slice.Eq.{bytes_eq-Decides}
-use Rattle.aprs_log.proofs.ClockLemmas.{IfSome-moment, begins, moment_of-same_day, not_false}
-use Rattle.aprs_log.specs.Moment.{moment_of}
+use Rattle.aprs_log.proofs.ClockLemmas.{IfSome-moment, halves, moment_of-same_day, not_false}
 use Rattle.aprs_log.proofs.clock.Clock.parse_same_day.Goals as goal
 
 pub returns : goal.returns
 returns c =
+    let text = c.args.text.now in
     let date = c.args.self.now.date in
+    let cut = c.split_at.ensures in
+    let rest = c.split_at.result.1.now in
     let same = (bytes_eq-Decides c.split_at.result.0.now c.as_slice.result.now).0
     (not_false _ (sym c.ne.ensures ∙ c.if-ne.false)) ∙ c.as_slice.ensures in
-    let sum : c.args.self.now.midnight + c.in_ok-second.second ≡ c.seconds.result + c.from.result
-    = omega (arith, c.seconds.ensures.value, c.from.ensures) in
-    IfSome-moment c.args.text.now c.new.result _ _ c.new.ensures
-    (ap moment_of (begins c.args.text.now date _ _ c.split_at.ensures.front c.split_at.ensures.back same)
-    ∙ moment_of-same_day date c.split_at.result.1.now c.args.self.now.midnight c.in_ok-second.second (omega arith)
-    c.args.self.now.reads c.in_ok-second.ensures
+    let text_is = halves 11 text _ rest cut.front cut.back ∙ ap (λ l. l ++ rest) same in
+    let rest_is = halves 8 rest _ _ c.split_at-2.ensures.front c.split_at-2.ensures.back in
+    let sum : c.args.self.now.midnight + c.in_ok-second.second * 1000 + c.in_ok-milli.milli
+    ≡ c.millis.result + c.from.result * 1000 + c.from-2.result
+    = omega (arith, c.millis.ensures.value, c.from.ensures, c.from-2.ensures) in
+    IfSome-moment text c.from_millis.result _ _ c.from_millis.ensures
+    (moment_of-same_day text date rest _ _ c.args.self.now.midnight c.in_ok-second.second c.in_ok-milli.milli
+    c.requires (omega arith) text_is rest_is c.args.self.now.reads c.in_ok-second.ensures c.in_ok-milli.ensures
     ∙ ap (λ n. Some n) sum)

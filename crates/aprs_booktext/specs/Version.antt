@@ -1,0 +1,31 @@
+-- Versions of book files.
+use Rattle.std.specs.Prelude.{ℕ, List, ◌++◌, codes, decimal}
+use Rattle.aprs_log.specs.declared.moment_form.MomentForm.{MomentForm}
+use Rattle.aprs_log.specs.declared.moment_form.MomentForm.TheVariants.{Seconds, Millis}
+use Rattle.aprs_laws.specs.Gap.{IsGap, standard_gap}
+use Rattle.aprs_booktext.specs.declared.version.Version.{Version}
+use Rattle.aprs_booktext.specs.declared.version.Version.TheVariants.{One, Two, Three}
+
+-- the gap that a header tells, if it does, is one that a book can have
+abbrev pub IsVersion : Version → Type 0
+IsVersion One = Unit {0}
+IsVersion Two = Unit {0}
+IsVersion (Three gap) = IsGap gap
+
+-- the first line of a text, without its LF
+abbrev pub header_of : Version → List ℕ
+header_of One = codes "APRSBOOK 1"
+header_of Two = codes "APRSBOOK 2"
+header_of (Three gap) = codes "APRSBOOK 3 " ++ decimal gap
+
+-- how its moments are written
+abbrev pub form_of : Version → MomentForm
+form_of One = Seconds
+form_of Two = Millis
+form_of (Three gap) = Millis
+
+-- the gap of its book, in seconds
+abbrev pub gap_of : Version → ℕ
+gap_of One = standard_gap
+gap_of Two = standard_gap
+gap_of (Three gap) = gap

@@ -1,0 +1,37 @@
+use Rattle.std.proofs.Common.{◌+◌, ◌*◌, ◌<◌, ℕ, Some, ap, sym, subst, ◌∙◌}
+use Rattle.aprs_log.specs.Moment.{civil_text, moment_in, room_of, seconds_of}
+use Rattle.aprs_log.specs.Places.{near_civil}
+use Rattle.aprs_log.proofs.MomentLemmas.{moment_in-civil, moment_in-unfound, moment_in-unreal, near_millis-below, IsExactIn}
+use Rattle.aprs_log.proofs.moment.Moment.parse_in.Goals as goal
+
+pub returns-in-Some-seconds-clause-value : goal.returns-in-Some-seconds-clause-value
+returns-in-Some-seconds-clause-value c =
+    let form = c.args.form in
+    let read = c.in-Some.ensures in
+    let civil = ap (λ p. p.0) read.1 in
+    let millis = ap (λ p. p.1) read.1 in
+    let real = c.in-Some-seconds.ensures.value in
+    let below = subst (λ (n : ℕ). n < room_of form) (sym millis) (near_millis-below form c.args.text.now) in
+    ap (λ n. Some (n * 1000 + c.from.result)) real.1
+    ∙ ap (λ n. Some (seconds_of c.in-Some.read.0 * 1000 + n)) c.from.ensures
+    ∙ sym (moment_in-civil form c.in-Some.read.0 c.in-Some.read.1 real.0 below)
+    ∙ ap (moment_in form) (ap (λ d. civil_text form d c.in-Some.read.1) civil
+    ∙ ap (civil_text form (near_civil c.args.text.now)) millis ∙ read.0)
+
+pub returns-in-Some-seconds-clause-exact : goal.returns-in-Some-seconds-clause-exact
+returns-in-Some-seconds-clause-exact c =
+    IsExactIn c.args.form _ _ (returns-in-Some-seconds-clause-value c)
+
+pub returns-in-None-seconds-clause-value : goal.returns-in-None-seconds-clause-value
+returns-in-None-seconds-clause-value c =
+    let form = c.args.form in
+    let read = c.in-Some.ensures in
+    let civil = ap (λ p. p.0) read.1 in
+    let millis = ap (λ p. p.1) read.1 in
+    moment_in-unreal form c.in-Some.read.0 c.in-Some.read.1 c.in-None-seconds.ensures.value
+    ∙ ap (moment_in form) (ap (λ d. civil_text form d c.in-Some.read.1) civil
+    ∙ ap (civil_text form (near_civil c.args.text.now)) millis ∙ read.0)
+
+pub returns-in-None-clause-value : goal.returns-in-None-clause-value
+returns-in-None-clause-value c =
+    moment_in-unfound c.args.form c.args.text.now c.in-None.ensures

@@ -1,0 +1,298 @@
+//! Books of other gaps than 30 seconds.
+
+use crate::refused_calls::squeeze;
+use crate::refused_runs::arena;
+use crate::shown::shown;
+use crate::vectors::{DIRECT, REPEATED, heard};
+use aprs_book::{Book, Gap, MergeFault, WidenFault};
+use aprs_booktext::BookCause;
+use aprs_kiss::Counted;
+use aprs_log::MAX_INPUT;
+use aprs_tool::{Desk, InputFault, RunFault, merge_run, status_of, widen_run};
+use bumpalo::Bump;
+use std::alloc::{Allocator, Global};
+use std::test::Fail;
+
+/// A gap of so many seconds.
+fn gap(seconds: u64) -> Result<Gap, Fail> {
+    Ok(Gap::new(seconds).ok_or("a gap")?)
+}
+
+#[test]
+fn gaps_are_1_to_3600_seconds(rt: HostRuntime) {
+    assert!(rt; Gap::new(0).is_none() && Gap::new(3601).is_none());
+    assert!(rt; Gap::new(1).is_some() && Gap::new(3600).is_some());
+    assert_eq!(rt; Gap::STANDARD.seconds(), 30);
+}
+
+/// The book of a frame that RX1 heard, RX2 45 seconds later, and RX1 again as long after that.
+fn three_rows<A: Allocator + Copy>(alloc: A) -> Result<Book<A>, Fail> {
+    let mut book = Book::new(alloc);
+    for (second, name) in [(0, b"RX1"), (45, b"RX2"), (90, b"RX1")] {
+        let x = heard(second, name, &DIRECT)?;
+        book.take(&x).ok().ok_or("memory")?;
+    }
+    Ok(book)
+}
+
+/// The rows of that book, and its one row under a gap of 45 seconds.
+const THREE: &str = "0-0 RX1 / RX1 6f; 45-45 RX2 / RX2 6f; 90-90 RX1 / RX1 6f; ";
+
+const WIDE: &str = "0-90 RX1 RX2 / RX1 6f; ";
+
+/// The rows of a book under this gap.
+fn widened_rows(alloc: Global, book: &Book, seconds: u64) -> Result<String, Fail> {
+    let wide = book.widen(gap(seconds)?).ok().ok_or("a wide book")?;
+    shown(alloc, &wide)
+}
+
+#[test]
+fn rows_join_where_the_gap_reaches(rt: HostRuntime) -> Result<(), Fail> {
+    let alloc = rt.alloc();
+    let book = three_rows(alloc)?;
+    for (seconds, rows) in [(30, THREE), (44, THREE), (45, WIDE), (3600, WIDE)] {
+        assert_eq!(rt; widened_rows(alloc, &book, seconds)?.as_str(), rows);
+    }
+    let narrow = book.widen(gap(29)?);
+    assert!(rt; matches!(&narrow, Err(WidenFault::Narrower)));
+    assert_eq!(rt; shown(alloc, &book)?.as_str(), THREE);
+    Ok(())
+}
+
+#[test]
+fn books_of_two_gaps_are_not_merged(rt: HostRuntime) -> Result<(), Fail> {
+    let alloc = rt.alloc();
+    let book = three_rows(alloc)?;
+    let wide = book.widen(gap(45)?).ok().ok_or("a wide book")?;
+    assert!(rt; matches!(&book.merge(&wide), Err(MergeFault::OtherGap)));
+    assert!(rt; matches!(&wide.merge(&book), Err(MergeFault::OtherGap)));
+    assert!(rt; !book.same(&wide));
+    assert_eq!(rt; shown(alloc, &book)?.as_str(), THREE);
+    assert_eq!(rt; shown(alloc, &wide)?.as_str(), WIDE);
+    Ok(())
+}
+
+/// The book of another frame of the same key, which RX2 heard 130 seconds after the first, under
+/// this gap.
+fn later_row(alloc: Global, seconds: u64) -> Result<Book, Fail> {
+    let mut book = Book::with_gap(alloc, gap(seconds)?);
+    let x = heard(130, b"RX2", &REPEATED)?;
+    book.take(&x).ok().ok_or("memory")?;
+    Ok(book)
+}
+
+/// The two books merged, and then widened.
+fn merged_first(alloc: Global) -> Result<Book, Fail> {
+    let book = three_rows(alloc)?;
+    let both = book.merge(&later_row(alloc, 30)?).ok().ok_or("a merge")?;
+    Ok(both.widen(gap(45)?).ok().ok_or("a wide book")?)
+}
+
+/// The two books widened, and then merged.
+fn widened_first(alloc: Global) -> Result<Book, Fail> {
+    let wide = three_rows(alloc)?
+        .widen(gap(45)?)
+        .ok()
+        .ok_or("a wide book")?;
+    Ok(wide.merge(&later_row(alloc, 45)?).ok().ok_or("a merge")?)
+}
+
+#[test]
+fn widening_and_merging_change_places(rt: HostRuntime) -> Result<(), Fail> {
+    let alloc = rt.alloc();
+    let first = merged_first(alloc)?;
+    let second = widened_first(alloc)?;
+    assert!(rt; first.same(&second));
+    assert_eq!(rt; shown(alloc, &first)?.as_str(), "0-130 RX1 RX2 / RX2 6e; ");
+    Ok(())
+}
+
+/// The texts of the book of three rows and of its one under a gap of 45 seconds.
+const THREE_TEXT: &[u8] = b"APRSBOOK 3 30
+T 2024-05-01T12:00:00.000Z 2024-05-01T12:00:00.000Z RX1 RX1 82a0a4a64040e09c60868298986f03f03e4869
+T 2024-05-01T12:00:45.000Z 2024-05-01T12:00:45.000Z RX2 RX2 82a0a4a64040e09c60868298986f03f03e4869
+T 2024-05-01T12:01:30.000Z 2024-05-01T12:01:30.000Z RX1 RX1 82a0a4a64040e09c60868298986f03f03e4869
+END 3
+";
+
+const WIDE_TEXT: &[u8] = b"APRSBOOK 3 45
+T 2024-05-01T12:00:00.000Z 2024-05-01T12:01:30.000Z RX1,RX2 RX1 82a0a4a64040e09c60868298986f03f03e4869
+END 1
+";
+
+/// A log of the same receptions.
+const THREE_LOG: &[u8] = b"2024-05-01T12:00:00Z RX1 c00082a0a4a64040e09c60868298986f03f03e4869c0
+2024-05-01T12:00:45Z RX2 c00082a0a4a64040e09c60868298986f03f03e4869c0
+2024-05-01T12:01:30Z RX1 c00082a0a4a64040e09c60868298986f03f03e4869c0
+";
+
+/// What widening an input writes, and its answer.
+fn widened<A: Allocator + Copy>(
+    out: Global,
+    alloc: A,
+    input: &[u8],
+    gap: Gap,
+) -> (Vec<u8>, Result<(), RunFault>) {
+    let mut w = Counted::new(Vec::new(out));
+    let run = widen_run(alloc, MAX_INPUT, gap, &mut Counted::new(input), &mut w);
+    (w.into_inner(), run)
+}
+
+#[test]
+fn texts_are_widened(rt: HostRuntime) -> Result<(), Fail> {
+    let alloc = rt.alloc();
+    for (input, seconds, text) in [
+        (THREE_TEXT, 30, THREE_TEXT),
+        (THREE_TEXT, 45, WIDE_TEXT),
+        (WIDE_TEXT, 45, WIDE_TEXT),
+        (THREE_LOG, 45, WIDE_TEXT),
+        (THREE_LOG, 30, THREE_TEXT),
+    ] {
+        let (written, run) = widened(alloc, alloc, input, gap(seconds)?);
+        assert!(rt; run.is_ok());
+        assert_eq!(rt; written.as_slice(), text);
+    }
+    Ok(())
+}
+
+#[test]
+fn a_text_is_not_narrowed(rt: HostRuntime) -> Result<(), Fail> {
+    let alloc = rt.alloc();
+    let (written, run) = widened(alloc, alloc, WIDE_TEXT, gap(44)?);
+    assert!(rt; written.is_empty());
+    let Err(fault) = run else {
+        return Err("a fault".into());
+    };
+    assert!(rt;
+        matches!(
+            &fault,
+            RunFault::Input {
+                index: 0,
+                fault: InputFault::Narrower
+            }
+        )
+    );
+    assert_eq!(rt; status_of(&fault), 1);
+    Ok(())
+}
+
+#[test]
+fn a_desk_takes_no_book_of_another_gap(rt: HostRuntime) -> Result<(), Fail> {
+    let alloc = rt.alloc();
+    let mut desk = Desk::new(alloc, MAX_INPUT);
+    assert!(rt; desk.take_input(&mut Counted::new(THREE_LOG)).is_ok());
+    let taken = desk.take_input(&mut Counted::new(WIDE_TEXT));
+    assert!(rt; matches!(&taken, Err(InputFault::OtherGap)));
+    assert_eq!(rt; shown(alloc, desk.book())?.as_str(), THREE);
+    // a fault of the text itself comes first
+    let taken = desk.take_input(&mut Counted::new(&WIDE_TEXT[..20]));
+    assert!(rt; matches!(&taken, Err(InputFault::Book(fault)) if fault.cause == BookCause::Ending));
+    assert_eq!(rt; shown(alloc, desk.book())?.as_str(), THREE);
+    Ok(())
+}
+
+#[test]
+fn a_desk_has_its_gap(rt: HostRuntime) -> Result<(), Fail> {
+    let alloc = rt.alloc();
+    let mut desk = Desk::with_gap(alloc, MAX_INPUT, gap(45)?);
+    assert!(rt; desk.take_input(&mut Counted::new(THREE_LOG)).is_ok());
+    assert_eq!(rt; shown(alloc, desk.book())?.as_str(), WIDE);
+    assert!(rt; desk.take_input(&mut Counted::new(WIDE_TEXT)).is_ok());
+    assert_eq!(rt; shown(alloc, desk.book())?.as_str(), WIDE);
+    let taken = desk.take_input(&mut Counted::new(THREE_TEXT));
+    assert!(rt; matches!(&taken, Err(InputFault::OtherGap)));
+    Ok(())
+}
+
+/// The number of the input whose gap is another, for a merge under this gap that writes nothing.
+fn refused_input(alloc: Global, seconds: u64) -> Result<Option<usize>, Fail> {
+    let mut inputs = [Counted::new(THREE_TEXT), Counted::new(WIDE_TEXT)];
+    let mut w = Counted::new(Vec::new(alloc));
+    let run = merge_run(
+        alloc,
+        MAX_INPUT,
+        gap(seconds)?,
+        inputs.as_mut_slice(),
+        &mut w,
+    );
+    match run {
+        Err(
+            RunFault::Input {
+                index,
+                fault: InputFault::OtherGap,
+            },
+        ) if w.into_inner().is_empty() => Ok(Some(index)),
+        _ => Ok(None),
+    }
+}
+
+#[test]
+fn the_first_input_of_another_gap_is_told(rt: HostRuntime) -> Result<(), Fail> {
+    assert!(rt; refused_input(rt.alloc(), 30)? == Some(1));
+    assert!(rt; refused_input(rt.alloc(), 45)? == Some(0));
+    Ok(())
+}
+
+/// Whether a book is not widened with so many units of room. Then it is as before, and with room
+/// again it is widened.
+fn is_refused(alloc: Global, units: usize) -> Result<bool, Fail> {
+    let bump = Bump::try_with_capacity(alloc, 65_536)?;
+    let book = three_rows(&bump)?;
+    let _fill = squeeze(&bump, units)?;
+    if let Ok(wide) = book.widen(gap(45)?) {
+        return if shown(alloc, &wide)?.as_str() == WIDE {
+            Ok(false)
+        } else {
+            Err("other rows".into())
+        };
+    }
+    bump.set_allocation_limit(None);
+    let again = book.widen(gap(45)?).ok().ok_or("a wide book")?;
+    if shown(alloc, &book)?.as_str() != THREE || shown(alloc, &again)?.as_str() != WIDE {
+        return Err("other rows".into());
+    }
+    Ok(true)
+}
+
+#[test]
+fn widening_is_refused_for_memory(rt: HostRuntime) -> Result<(), Fail> {
+    let mut refused = 0u64;
+    let mut granted = 0u64;
+    for units in 0..64usize {
+        if is_refused(rt.alloc(), units)? {
+            refused = refused.saturating_add(1);
+        } else {
+            granted = granted.saturating_add(1);
+        }
+    }
+    assert!(rt; refused > 0 && granted > 0);
+    Ok(())
+}
+
+// The input's book is refused first, and then the wide one.
+#[test]
+fn a_widening_run_is_refused_for_memory(rt: HostRuntime) -> Result<(), Fail> {
+    let alloc = rt.alloc();
+    let mut counts = [0u64; 3];
+    for units in 0..512usize {
+        let bump = arena(alloc, units)?;
+        let (written, run) = widened(alloc, &bump, THREE_TEXT, gap(45)?);
+        let place = match &run {
+            Ok(()) => 0usize,
+            Err(RunFault::Memory) => 1,
+            Err(_) => 2,
+        };
+        counts[place] = counts[place].saturating_add(1);
+        let want = if run.is_ok() {
+            WIDE_TEXT
+        } else {
+            b"".as_slice()
+        };
+        assert_eq!(rt; written.as_slice(), want);
+        if let Err(fault) = run {
+            assert_eq!(rt; status_of(&fault), 4);
+        }
+    }
+    assert!(rt; counts[0] > 0 && counts[1] > 0 && counts[2] > 0);
+    Ok(())
+}

@@ -1,0 +1,352 @@
+//! Moments to the second and to the millisecond, in lines, words, rows and texts of books.
+
+use crate::book_faults::fault_of;
+use crate::listings::listing;
+use crate::merges::merged;
+use crate::runs::converted;
+use crate::vectors::{
+    DIRECT, DIRECT_LINE, DIRECT_TEXT, EMPTY_TEXT, MERGED_TEXT, OLD_DIRECT_TEXT, OLD_EMPTY_TEXT,
+    OLD_MERGED_TEXT, ONE_LINE, WRITTEN_LINE, receiver,
+};
+use aprs_ax25::Frame;
+use aprs_book::Book;
+use aprs_log::{Line, LineFault, LogCause, MAX_INPUT, Moment, MomentForm, Reception, read_line};
+use aprs_tool::{Form, Job, JobFault, job};
+use std::alloc::Global;
+use std::test::Fail;
+
+/// An hour's first millisecond.
+const NOON: u64 = 1_714_564_800_000;
+
+#[test]
+fn moments_at_their_limits(rt: HostRuntime) -> Result<(), Fail> {
+    for (millis, text) in [
+        (0, b"1970-01-01T00:00:00.000Z"),
+        (1, b"1970-01-01T00:00:00.001Z"),
+        (999, b"1970-01-01T00:00:00.999Z"),
+        (1000, b"1970-01-01T00:00:01.000Z"),
+        (NOON + 500, b"2024-05-01T12:00:00.500Z"),
+        (4_102_444_799_999, b"2099-12-31T23:59:59.999Z"),
+    ] {
+        let moment = Moment::from_millis(millis).ok_or("a moment")?;
+        assert_eq!(rt; moment.millis(), millis);
+        assert_eq!(rt; moment.seconds(), millis / 1000);
+        assert!(rt; moment.text() == *text);
+        assert!(rt; Moment::parse(text) == Some(moment.copy()));
+    }
+    assert!(rt; Moment::from_millis(4_102_444_800_000).is_none());
+    assert!(rt; Moment::from_millis(u64::MAX).is_none());
+    assert!(rt; Moment::new(NOON / 1000) == Moment::from_millis(NOON));
+    Ok(())
+}
+
+/// Texts that are near to a moment's, and none.
+const NO_MOMENTS: [&[u8]; 15] = [
+    b"2024-05-01T12:00:00.5Z",
+    b"2024-05-01T12:00:00.50Z",
+    b"2024-05-01T12:00:00.5000Z",
+    b"2024-05-01T12:00:60.000Z",
+    b"2024-05-01T24:00:00.000Z",
+    b"2023-02-29T00:00:00.000Z",
+    b"2100-01-01T00:00:00.000Z",
+    b"1969-12-31T23:59:59.999Z",
+    b"2024-05-01T12:00:00.Z",
+    b"2024-05-01T12:00:00.000",
+    b"2024-05-01T12:00:00.000z",
+    b"2024-05-01T12:00:00,000Z",
+    b"2024-05-01T12:00:00.0000",
+    b"2024-05-01T12:00:00.-01Z",
+    b"2024-05-01T12:00:00:000Z",
+];
+
+#[test]
+fn moments_have_two_spellings(rt: HostRuntime) -> Result<(), Fail> {
+    let (short, long) = (b"2024-05-01T12:00:00Z", b"2024-05-01T12:00:00.000Z");
+    let moment = Moment::from_millis(NOON).ok_or("a moment")?;
+    assert!(rt; Moment::parse(short) == Some(moment.copy()));
+    assert!(rt; Moment::parse(long) == Some(moment.copy()));
+    assert!(rt; Moment::parse_in(MomentForm::Seconds, short) == Some(moment.copy()));
+    assert!(rt; Moment::parse_in(MomentForm::Millis, long) == Some(moment.copy()));
+    assert!(rt; Moment::parse_in(MomentForm::Seconds, long).is_none());
+    assert!(rt; Moment::parse_in(MomentForm::Millis, short).is_none());
+    for text in NO_MOMENTS {
+        assert!(rt; Moment::parse(text).is_none());
+        assert!(rt; Moment::parse_in(MomentForm::Seconds, text).is_none());
+        assert!(rt; Moment::parse_in(MomentForm::Millis, text).is_none());
+    }
+    Ok(())
+}
+
+/// A line of this moment.
+fn line_at(alloc: Global, moment: &[u8]) -> Result<Vec<u8>, Fail> {
+    let mut line = Vec::new(alloc);
+    line.extend_from_slice(moment)?;
+    line.extend_from_slice(&DIRECT_LINE[20..])?;
+    Ok(line)
+}
+
+#[test]
+fn lines_are_read_in_both_spellings(rt: HostRuntime) -> Result<(), Fail> {
+    let alloc = rt.alloc();
+    let Ok(Line::Heard(short)) = read_line(DIRECT_LINE) else {
+        return Err("heard".into());
+    };
+    for (moment, millis) in [
+        (b"2024-05-01T12:00:00Z".as_slice(), NOON),
+        (b"2024-05-01T12:00:00.000Z".as_slice(), NOON),
+        (b"2024-05-01T12:00:00.001Z".as_slice(), NOON + 1),
+        (b"2024-05-01T12:00:00.999Z".as_slice(), NOON + 999),
+    ] {
+        let line = line_at(alloc, moment)?;
+        let Ok(Line::Heard(heard)) = read_line(line.as_slice()) else {
+            return Err("heard".into());
+        };
+        assert_eq!(rt; heard.moment().millis(), millis);
+        assert!(rt; (heard == short) == (millis == NOON));
+    }
+    for moment in NO_MOMENTS {
+        let line = line_at(alloc, moment)?;
+        assert!(rt; read_line(line.as_slice()) == Err(LineFault::Moment));
+    }
+    Ok(())
+}
+
+/// A log of that line half a second later.
+const HALF: &[u8] = b"2024-05-01T12:00:00.500Z RX1 c00082a0a4a64040e09c60868298986f03f03e4869c0\n";
+
+#[test]
+fn lines_are_written_to_the_millisecond(rt: HostRuntime) {
+    for (log, written) in [
+        (ONE_LINE, WRITTEN_LINE),
+        (WRITTEN_LINE, WRITTEN_LINE),
+        (HALF, HALF),
+    ] {
+        let (text, fault) = converted(&rt, MAX_INPUT, Form::Log, log);
+        assert_eq!(rt; text.as_slice(), written);
+        assert_eq!(rt; text.len(), 74);
+        assert!(rt; fault.is_none());
+    }
+    let faulty = b"2024-05-01T12:00:60.000Z RX1 c0\n".as_slice();
+    let (text, fault) = converted(&rt, MAX_INPUT, Form::Log, faulty);
+    assert!(rt; text.is_empty());
+    assert!(rt; fault == Some((1, LogCause::Moment)));
+}
+
+#[test]
+fn milliseconds_are_listed(rt: HostRuntime) -> Result<(), Fail> {
+    assert_eq!(rt;
+        listing(rt.alloc(), HALF)?.as_slice(),
+        b"station N0CALL-7 1\nstatus 2024-05-01T12:00:00.500Z RX1 -:Hi\n".as_slice()
+    );
+    Ok(())
+}
+
+/// What is asked for by words that capture at this moment.
+fn capture_at(rt: &HostRuntime, moment: &'static str) -> Result<Job, JobFault> {
+    let words = [
+        "aprsbook",
+        "convert",
+        "capture",
+        "--receiver",
+        "RX1",
+        "--moment",
+        moment,
+    ];
+    job(rt.alloc(), &words)
+}
+
+/// Whether words that capture at this moment ask for it.
+fn is_captured(rt: &HostRuntime, moment: &'static str, millis: u64) -> Result<bool, Fail> {
+    let form = Form::Capture {
+        receiver: receiver(b"RX1")?,
+        moment: Moment::from_millis(millis).ok_or("a moment")?,
+    };
+    Ok(matches!(&capture_at(rt, moment), Ok(Job::Convert(asked, _)) if *asked == form))
+}
+
+#[test]
+fn captures_are_of_a_moment_in_either_spelling(rt: HostRuntime) -> Result<(), Fail> {
+    assert!(rt; is_captured(&rt, "2024-05-01T12:00:00Z", NOON)?);
+    assert!(rt; is_captured(&rt, "2024-05-01T12:00:00.000Z", NOON)?);
+    assert!(rt; is_captured(&rt, "2024-05-01T12:00:00.250Z", NOON + 250)?);
+    assert!(rt; !is_captured(&rt, "2024-05-01T12:00:00.250Z", NOON)?);
+    for moment in [
+        "2024-05-01T12:00:00.5Z",
+        "2024-05-01T12:00:00.5000Z",
+        "2024-05-01T12:00:60.000Z",
+        "2024-05-01T12:00:00.000z",
+    ] {
+        assert!(rt;
+            matches!(&capture_at(&rt, moment), Err(JobFault::Options)),
+            "{moment}"
+        );
+    }
+    Ok(())
+}
+
+/// The number of rows of the frame that RX1 hears at noon and so many milliseconds later, or the
+/// other way round.
+fn rows_apart(alloc: Global, millis: u64, is_turned: bool) -> Result<usize, Fail> {
+    let mut book = Book::new(alloc);
+    let places = if is_turned { [millis, 0] } else { [0, millis] };
+    for later in places {
+        let x = Reception::new(
+            Moment::from_millis(NOON.saturating_add(later)).ok_or("moment")?,
+            receiver(b"RX1")?,
+            Frame::read(&DIRECT).ok().ok_or("frame")?,
+        );
+        book.take(&x).ok().ok_or("memory")?;
+    }
+    Ok(book.len())
+}
+
+#[test]
+fn rows_are_thirty_thousand_milliseconds_apart(rt: HostRuntime) -> Result<(), Fail> {
+    for (millis, rows) in [(0, 1), (1, 1), (29_999, 1), (30_000, 1), (30_001, 2)] {
+        assert_eq!(rt; rows_apart(rt.alloc(), millis, false)?, rows);
+        assert_eq!(rt; rows_apart(rt.alloc(), millis, true)?, rows);
+    }
+    Ok(())
+}
+
+/// Logs of the frame at noon and half a minute later, to the millisecond, and their books.
+const NEAR_LOG: &[u8] = b"2024-05-01T12:00:00Z RX1 c00082a0a4a64040e09c60868298986f03f03e4869c0
+2024-05-01T12:00:30.000Z RX1 c00082a0a4a64040e09c60868298986f03f03e4869c0
+";
+
+const NEAR_BOOK: &[u8] = b"APRSBOOK 3 30
+T 2024-05-01T12:00:00.000Z 2024-05-01T12:00:30.000Z RX1 RX1 82a0a4a64040e09c60868298986f03f03e4869
+END 1
+";
+
+const FAR_LOG: &[u8] = b"2024-05-01T12:00:00Z RX1 c00082a0a4a64040e09c60868298986f03f03e4869c0
+2024-05-01T12:00:30.001Z RX1 c00082a0a4a64040e09c60868298986f03f03e4869c0
+";
+
+const FAR_BOOK: &[u8] = b"APRSBOOK 3 30
+T 2024-05-01T12:00:00.000Z 2024-05-01T12:00:00.000Z RX1 RX1 82a0a4a64040e09c60868298986f03f03e4869
+T 2024-05-01T12:00:30.001Z 2024-05-01T12:00:30.001Z RX1 RX1 82a0a4a64040e09c60868298986f03f03e4869
+END 2
+";
+
+// Books of each version are written in version 3, and that is merged to the same bytes.
+#[test]
+fn each_version_is_merged_to_the_third(rt: HostRuntime) -> Result<(), Fail> {
+    let alloc = rt.alloc();
+    assert_eq!(rt; DIRECT_TEXT.len(), 119);
+    for (input, text) in [
+        (OLD_EMPTY_TEXT, EMPTY_TEXT),
+        (EMPTY_TEXT, EMPTY_TEXT),
+        (OLD_DIRECT_TEXT, DIRECT_TEXT),
+        (DIRECT_TEXT, DIRECT_TEXT),
+        (OLD_MERGED_TEXT, MERGED_TEXT),
+        (MERGED_TEXT, MERGED_TEXT),
+        (NEAR_LOG, NEAR_BOOK),
+        (NEAR_BOOK, NEAR_BOOK),
+        (FAR_LOG, FAR_BOOK),
+        (FAR_BOOK, FAR_BOOK),
+    ] {
+        assert_eq!(rt; merged(alloc, &[input])?.as_slice(), text);
+        assert_eq!(rt; merged(alloc, &[input, text])?.as_slice(), text);
+    }
+    Ok(())
+}
+
+// A version's rows have its moments alone.
+#[test]
+fn each_version_has_one_form_of_moments(rt: HostRuntime) {
+    for (text, fault) in [
+        (
+            b"APRSBOOK 2
+T 2024-05-01T12:00:00Z 2024-05-01T12:00:00Z RX1 RX1 82a0a4a64040e09c60868298986f03f03e4869
+END 1
+"
+                .as_slice(),
+            (2, "RowSyntax"),
+        ),
+        (
+            b"APRSBOOK 1
+T 2024-05-01T12:00:00.000Z 2024-05-01T12:00:00.000Z RX1 RX1 82a0a4a64040e09c60868298986f03f03e4869
+END 1
+",
+            (2, "RowSyntax"),
+        ),
+        (
+            b"APRSBOOK 2
+T 2024-05-01T12:00:00.000Z 2024-05-01T12:00:00Z RX1 RX1 82a0a4a64040e09c60868298986f03f03e4869
+END 1
+",
+            (2, "RowSyntax"),
+        ),
+        (
+            b"APRSBOOK 1
+T 2024-05-01T12:00:00Z 2024-05-01T12:00:00.000Z RX1 RX1 82a0a4a64040e09c60868298986f03f03e4869
+END 1
+",
+            (2, "RowSyntax"),
+        ),
+        (b"APRSBOOK 0\nEND 0\n", (1, "Header")),
+        (b"APRSBOOK 3\nEND 0\n", (1, "Header")),
+        (b"APRSBOOK 3 0\nEND 0\n", (1, "Header")),
+        (b"APRSBOOK 3 030\nEND 0\n", (1, "Header")),
+        (b"APRSBOOK 3 3601\nEND 0\n", (1, "Header")),
+        (b"APRSBOOK 02\nEND 0\n", (1, "Header")),
+        (b"APRSBOOK 2 \nEND 0\n", (1, "Header")),
+        (b"APRSBOOK 12\nEND 0\n", (1, "Header")),
+    ] {
+        assert!(rt; fault_of(rt.alloc(), text) == Some(fault));
+    }
+}
+
+/// The same two rows in version 1, half a minute apart and a second more.
+const OLD_NEAR_TEXT: &[u8] = b"APRSBOOK 1
+T 2024-05-01T12:00:00Z 2024-05-01T12:00:00Z RX1 RX1 82a0a4a64040e09c60868298986f03f03e4869
+T 2024-05-01T12:00:30Z 2024-05-01T12:00:30Z RX1 RX1 82a0a4a64040e09c60868298986f03f03e4869
+END 2
+";
+
+const OLD_FAR_TEXT: &[u8] = b"APRSBOOK 1
+T 2024-05-01T12:00:00Z 2024-05-01T12:00:00Z RX1 RX1 82a0a4a64040e09c60868298986f03f03e4869
+T 2024-05-01T12:00:31Z 2024-05-01T12:00:31Z RX1 RX1 82a0a4a64040e09c60868298986f03f03e4869
+END 2
+";
+
+const NEAR_TEXT: &[u8] = b"APRSBOOK 2
+T 2024-05-01T12:00:00.000Z 2024-05-01T12:00:00.000Z RX1 RX1 82a0a4a64040e09c60868298986f03f03e4869
+T 2024-05-01T12:00:30.000Z 2024-05-01T12:00:30.000Z RX1 RX1 82a0a4a64040e09c60868298986f03f03e4869
+END 2
+";
+
+const BACKWARD_TEXT: &[u8] = b"APRSBOOK 2
+T 2024-05-01T12:00:00.001Z 2024-05-01T12:00:00.000Z RX1 RX1 82a0a4a64040e09c60868298986f03f03e4869
+END 1
+";
+
+#[test]
+fn near_rows_are_refused_to_the_millisecond(rt: HostRuntime) {
+    for (text, fault) in [
+        (NEAR_TEXT, Some((3, "Near"))),
+        (FAR_BOOK, None),
+        (OLD_NEAR_TEXT, Some((3, "Near"))),
+        (OLD_FAR_TEXT, None),
+        (BACKWARD_TEXT, Some((2, "Span"))),
+    ] {
+        assert!(rt; fault_of(rt.alloc(), text) == fault);
+    }
+}
+
+#[test]
+fn a_text_of_version_3_is_cut_at_each_byte(rt: HostRuntime) {
+    for good in 0..119usize {
+        let line = if good <= 13 {
+            1
+        } else if good <= 112 {
+            2
+        } else {
+            3
+        };
+        let fault = fault_of(rt.alloc(), &DIRECT_TEXT[..good]);
+        assert!(rt; fault == Some((line, "Ending")), "{good}");
+    }
+    assert!(rt; fault_of(rt.alloc(), DIRECT_TEXT).is_none());
+}

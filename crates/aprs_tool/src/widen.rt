@@ -1,0 +1,64 @@
+//! The widening of an input's book.
+ghost use Rattle.std.specs.Prelude.{◌≡◌, ◌≤◌, IfErr, IsErrAnd};
+ghost use Rattle.aprs_kiss.specs.Device.{device_of, failures_of, answered_of, Rose, RoseWhere};
+ghost use Rattle.aprs_tool.specs.Inputs.{OfGot};
+ghost use Rattle.aprs_tool.specs.Merge.{WritesNothing};
+ghost use Rattle.aprs_tool.specs.Run.{IsRead};
+ghost use Rattle.aprs_tool.specs.Widen.{WidensInput};
+
+use crate::fault::{InputFault, RunFault};
+use crate::input::read_input;
+use aprs_book::{Gap, WidenFault};
+use aprs_booktext::write_book;
+use aprs_kiss::Counted;
+use std::alloc::Allocator;
+use std::io::{Read, Write};
+
+/// Writes the text of an input's book under this gap. The input is read as by `read_input` with
+/// this gap, so that `Narrower` comes for a faultless book file of a greater gap alone. Requires
+/// that `limit` is at most 1,073,741,824 (`MAX_INPUT`). The input is number 0. All of it is read,
+/// and its book widened, before the first byte is written: where the input is refused nothing is
+/// written, nor is anything at `Memory`, which is that of the widened book. At `Write` a prefix of
+/// the text was written.
+pub fn widen_run<R: Read, W: Write, A: Allocator + Copy>(
+    alloc: A,
+    limit: u64,
+    gap: Gap,
+    r: &mut Counted<R>,
+    w: &mut Counted<W>,
+) -> Result<(), RunFault>
+    requires { limit ≤ 1073741824 }
+    ensures run { OfGot limit (R.remaining (device_of r.old)) (R.remaining (device_of r.new))
+        (WidensInput gap result (W.contents (device_of w.old)) (W.contents (device_of w.new))) }
+    ensures nothing { IfErr result (λ e. WritesNothing e (W.contents (device_of w.old))
+        (W.contents (device_of w.new))) }
+    ensures read { IfErr result (λ e. IsRead e → Rose (failures_of r.old) (failures_of r.new)) }
+    // A failed read is told where a call of the reader answered one, and nowhere else.
+    ensures answered { RoseWhere (IsErrAnd result IsRead) (answered_of r.old) (answered_of r.new) }
+    ensures write { IfErr result (λ e. e ≡ RunFault.Write
+        → Rose (failures_of w.old) (failures_of w.new)) }
+{
+    let book = match read_input(alloc, limit, gap, r) {
+        Ok(book) => book,
+        Err(fault) => return Err(RunFault::Input { index: 0, fault }),
+    };
+    let wide = match book.widen(gap) {
+        Ok(wide) => wide,
+        Err(WidenFault::Narrower) => return Err(narrower()),
+        Err(WidenFault::Memory) => return Err(RunFault::Memory),
+    };
+    match write_book(w, &wide) {
+        Ok(()) => Ok(()),
+        Err(_) => Err(RunFault::Write),
+    }
+}
+
+/// The only input has a greater gap.
+fn narrower() -> RunFault
+    ensures { result ≡ RunFault.Input 0 InputFault.Narrower }
+{
+    RunFault::Input {
+        index: 0,
+        fault: InputFault::Narrower,
+    }
+}
