@@ -1,7 +1,7 @@
 //! Writes KISS frames.
 ghost use Rattle.std.specs.Prelude.{◌≡◌, ◌≤◌, length, true, OnOk, OnErr};
 ghost use Rattle.std.specs.Io.KnownBytes.{Appends};
-ghost use Rattle.aprs_io.specs.Device.{device_of, failures_of, Rose, AppendsFront};
+ghost use Rattle.aprs_io.specs.Device.{device_of, failures_of, Rose, AppendsPrefix};
 ghost use Rattle.aprs_kiss.specs.Plain.{IsPlain, is_special};
 ghost use Rattle.aprs_kiss.specs.Spelling.{kiss_text, spelling_of_byte};
 
@@ -26,7 +26,7 @@ pub fn write_kiss<W: Write>(w: &mut Counted<W>, frame: &[u8]) -> Result<(), Writ
         (Appends (W.contents (device_of w.old)) (W.contents (device_of w.new))
         (kiss_text frame.now)) }
     ensures prefix { OnErr result
-        (AppendsFront (W.contents (device_of w.old)) (W.contents (device_of w.new))
+        (AppendsPrefix (W.contents (device_of w.old)) (W.contents (device_of w.new))
         (kiss_text frame.now)) }
     ensures count { failures_of w.old ≤ failures_of w.new }
     ensures fault { OnErr result (Rose (failures_of w.old) (failures_of w.new)) }
@@ -45,7 +45,7 @@ fn write_spelled<W: Write>(w: &mut Counted<W>, frame: &[u8]) -> Result<(), Write
         (Appends (W.contents (device_of w.old)) (W.contents (device_of w.new))
         (kiss_text frame.now)) }
     ensures prefix { OnErr result
-        (AppendsFront (W.contents (device_of w.old)) (W.contents (device_of w.new))
+        (AppendsPrefix (W.contents (device_of w.old)) (W.contents (device_of w.new))
         (kiss_text frame.now)) }
     ensures count { failures_of w.old ≤ failures_of w.new }
     ensures fault { OnErr result (Rose (failures_of w.old) (failures_of w.new)) }
@@ -71,7 +71,7 @@ fn write_plain<W: Write>(w: &mut Counted<W>, frame: &[u8]) -> Result<(), WriteFa
         (Appends (W.contents (device_of w.old)) (W.contents (device_of w.new))
         (kiss_text frame.now)) }
     ensures prefix { OnErr result
-        (AppendsFront (W.contents (device_of w.old)) (W.contents (device_of w.new))
+        (AppendsPrefix (W.contents (device_of w.old)) (W.contents (device_of w.new))
         (kiss_text frame.now)) }
     ensures count { failures_of w.old ≤ failures_of w.new }
     ensures fault { OnErr result (Rose (failures_of w.old) (failures_of w.new)) }
