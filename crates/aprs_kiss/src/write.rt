@@ -17,10 +17,11 @@ const DATA: u8 = 0;
 const MAX_AT_ONCE: usize = 328;
 
 /// The most bytes that are written at once: such a frame, two frame ends and the type byte.
-const MAX_TEXT: usize = 331;
+const MAX_TEXT: usize = MAX_AT_ONCE + 3;
 
-/// Writes a frame of any length as a data frame of port 0, between two frame ends. At a fault a
-/// front of that went out, and the count of the device's failures rose. Takes no memory.
+/// Writes a frame of any length as a data frame of port 0, between two frame ends (the KISS paper).
+/// At a fault a prefix of that went out, and the count of the device's failures rose. Takes no
+/// memory.
 pub fn write_kiss<W: Write>(w: &mut Counted<W>, frame: &[u8]) -> Result<(), WriteFault>
     ensures sent { OnOk result
         (Appends (W.contents (device_of w.old)) (W.contents (device_of w.new))
@@ -65,7 +66,7 @@ fn write_spelled<W: Write>(w: &mut Counted<W>, frame: &[u8]) -> Result<(), Write
 
 /// Writes a frame whose bytes all stand for themselves, in one call of the device.
 fn write_plain<W: Write>(w: &mut Counted<W>, frame: &[u8]) -> Result<(), WriteFault>
-    requires few { length frame.now ≤ 328 }
+    requires few { length frame.now ≤ MAX_AT_ONCE }
     requires plain { IsPlain frame.now }
     ensures sent { OnOk result
         (Appends (W.contents (device_of w.old)) (W.contents (device_of w.new))

@@ -16,11 +16,13 @@ text_is g c =
 pub returns-clause-sent : goal.returns-clause-sent
 returns-clause-sent g c =
     subst (λ (l : List ℕ). OnOk c.send.result
-    (Appends (g.W.Write.contents (device_of c.args.w.now)) (g.W.Write.contents (device_of c.send.new.w)) l))
+    (Appends (g.W.Write.contents (device_of c.args.w.now))
+    (g.W.Write.contents (device_of c.send.new.w)) l))
     (text_is g c) c.send.ensures.sent
 
 pub returns-clause-prefix : goal.returns-clause-prefix
 returns-clause-prefix g c =
     subst (λ (l : List ℕ). OnErr c.send.result
-    (AppendsPrefix (g.W.Write.contents (device_of c.args.w.now)) (g.W.Write.contents (device_of c.send.new.w)) l))
+    (AppendsPrefix (g.W.Write.contents (device_of c.args.w.now))
+    (g.W.Write.contents (device_of c.send.new.w)) l))
     (text_is g c) c.send.ensures.prefix

@@ -4,7 +4,7 @@ use Rattle.aprs_io.specs.Device.{AppendsPrefix}
 use Rattle.aprs_kiss.specs.Plain.{CutsPlain}
 use Rattle.aprs_kiss.specs.Spelling.{kiss_text, spelling_of, spelling_of_byte}
 use Rattle.aprs_io.proofs.Bytes.{on_err, sent_last, prefix_of_last, AppendsAllBut-none, AppendsAllBut-sent, AppendsPrefix-after}
-use Rattle.aprs_kiss.proofs.Escapes.{spelling_of-all, spelling_of-cut, spelling_of-front}
+use Rattle.aprs_kiss.proofs.Escapes.{spelling_of-all, spelling_of-cut, spelling_of-prefix}
 use Rattle.aprs_kiss.proofs.write.write_spelled.Goals as goal
 
 -- the frame end and the type byte
@@ -17,9 +17,9 @@ returns-in_err-send-clause-prefix g c =
 -- plain bytes
 pub returns-in_err-send-2-clause-prefix : goal.returns-in_err-send-2-clause-prefix
 returns-in_err-send-2-clause-prefix g c =
-    let front =
-    spelling_of-front _ _ (0xC0 ∷ []) _ c.cut_plain.ensures.plain c.cut_plain.ensures.cut in
-    on_err _ (AppendsPrefix-after _ _ _ _ _ _ front.0 c.loop-byte.invariant.sent front.1
+    let plain =
+    spelling_of-prefix _ _ (0xC0 ∷ []) _ c.cut_plain.ensures.plain c.cut_plain.ensures.cut in
+    on_err _ (AppendsPrefix-after _ _ _ _ _ _ plain.0 c.loop-byte.invariant.sent plain.1
     c.in_err-send-2.ensures.prefix)
 
 -- the last plain bytes, and the frame end
