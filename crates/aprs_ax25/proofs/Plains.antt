@@ -173,7 +173,8 @@ inside i before octet a b d h =
 -- and at a callsign's first octet
 begins : (before octet : ℕ) → may_follow 6 before octet ≡ true → is_letter_octet octet ≡ true
 begins before octet h =
-    elim (is_letter_octet octet) as (λ t. is_letter_octet octet ≡ t → is_letter_octet octet ≡ true) [
+    elim (is_letter_octet octet)
+    as (λ t. is_letter_octet octet ≡ t → is_letter_octet octet ≡ true) [
       | true ↦ λ e. e
       | false ↦ λ e. absurd
           (let no : false ≡ true = ap (λ t. (false || (t && true)) || false) (sym e) ∙ h in cc)

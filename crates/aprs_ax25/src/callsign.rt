@@ -43,8 +43,8 @@ impl Model for Callsign {
 }
 
 impl Callsign {
-    /// The callsign that this is the text of, or the first fault in the order of the faults' numbers. Takes no
-    /// memory.
+    /// The callsign that this is the text of, or the first fault in the order of the faults'
+    /// numbers. Takes no memory.
     pub fn parse(text: &[u8]) -> Result<Callsign, CallFault>
         ensures found { IfOk result (λ c. CallText c text.now) }
         ensures only { (c : Call) → CallText c text.now → result ≡ Ok c }

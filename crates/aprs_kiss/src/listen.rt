@@ -18,7 +18,8 @@ pub trait Listener {
         ensures { FoldsTo hears self.old (judgements_in fed.entry) self.new };
 }
 
-/// Feeds all of a piece of a stream to the reader, and hands each answer to the listener. Takes no memory.
+/// Feeds all of a piece of a stream to the reader, and hands each answer to the listener. Takes no
+/// memory.
 pub fn feed_all<L: Listener>(reader: &mut KissReader, piece: &[u8], listener: &mut L)
     ensures stands { (before : List ℕ) → StandsAfter reader.old before
         → StandsAfter reader.new (rest_of (before ++ piece.now)) }
@@ -35,7 +36,8 @@ pub fn feed_all<L: Listener>(reader: &mut KissReader, piece: &[u8], listener: &m
 }
 
 /// Feeds a stream to the reader, cut into parts of these lengths and then what is left of it, and
-/// hands each answer to the listener. The answers are those of the stream, whatever the lengths. Takes no memory.
+/// hands each answer to the listener. The answers are those of the stream, whatever the lengths.
+/// Takes no memory.
 pub fn feed_in_parts<L: Listener>(
     reader: &mut KissReader,
     stream: &[u8],
