@@ -1,4 +1,5 @@
--- Lemmas on one address: its octets have its callsign and flags, and octets with a callsign spell it.
+-- Lemmas on one address: its octets have its callsign and flags, and octets with a callsign spell
+-- it.
 use Rattle.std.proofs.Common.{◌≡◌, ℕ, ◌+◌, ◌-◌, ◌*◌, ◌/◌, ◌%◌, ◌≤◌, ◌<◌, ◌==◌, suc, zero, List, [], ◌∷◌, ◌++◌, length, take, drop, map, replicate, Bool, true, false, not, cond, ◌&&◌, nat_lt, arith, sym, ap, ◌∙◌, refl, slice_index, take-append-drop, append_assoc}
 use Rattle.std.specs.List.{list_all, position_or_len}
 use Rattle.std.proofs.lemmas.List.{length-take-le, length-map, length-append, length-replicate, map-append, length-drop, take_at, drop_at, take_all, take_more, take-take, get_or_at}
@@ -58,15 +59,18 @@ letters_end [] k h = letters_before_spaces k
 letters_end (b ∷ letters) k h =
     let p = and_parts _ _ h in
     let e : (2 * b) / 2 ≡ b = omega arith in
-    ap (λ x. cond (not (not (is_callsign_byte x))) (1 + position_or_len is_no_letter (double letters ++ double (replicate k 32))) 0) e
-    ∙ ap (λ t. cond (not (not t)) (1 + position_or_len is_no_letter (double letters ++ double (replicate k 32))) 0) p.0
+    ap (λ x. cond (not (not (is_callsign_byte x)))
+    (1 + position_or_len is_no_letter (double letters ++ double (replicate k 32))) 0) e
+    ∙ ap (λ t. cond (not (not t))
+    (1 + position_or_len is_no_letter (double letters ++ double (replicate k 32))) 0) p.0
     ∙ ap (λ n. 1 + n) (letters_end letters k p.1) ∙ omega arith
 
 spaces_all : (k : ℕ) → list_all is_space_octet (double (replicate k 32)) ≡ true
 spaces_all zero = refl
 spaces_all (suc k) = spaces_all k
 
-spaces-are : (os : List ℕ) → list_all is_space_octet os ≡ true → are_even os ≡ true → os ≡ double (replicate (length os) 32)
+spaces-are : (os : List ℕ) → list_all is_space_octet os ≡ true → are_even os ≡ true → os
+    ≡ double (replicate (length os) 32)
 spaces-are [] h e = refl
 spaces-are (o ∷ os) h e =
     let p = and_parts _ _ h in
@@ -89,33 +93,37 @@ module _ (extension : ℕ) (a : Address) (h : IsAddress a) where
   abbrev octets : List ℕ
   octets = address_octets extension a
 
-  abbrev front : List ℕ
-  front = double (padded a.call.letters)
+  abbrev letter_octets : List ℕ
+  letter_octets = double (padded a.call.letters)
 
   abbrev last : ℕ
   last = 32 * a.flags + 2 * a.call.ssid + extension
 
-  six : length front ≡ 6
+  six : length letter_octets ≡ 6
   six = length-padded a.call.letters h.call.most
 
   pub length-address_octets : length (address_octets extension a) ≡ 7
-  length-address_octets = length-append front (last ∷ []) ∙ ap (λ n. n + 1) six
+  length-address_octets = length-append letter_octets (last ∷ []) ∙ ap (λ n. n + 1) six
 
-  parts_apart : front ≡ double a.call.letters ++ double (replicate (6 - length a.call.letters) 32)
+  parts_apart : letter_octets
+      ≡ double a.call.letters ++ double (replicate (6 - length a.call.letters) 32)
   parts_apart = map-append (λ b. 2 * b) a.call.letters (replicate (6 - length a.call.letters) 32)
 
   pub letters_len-address_octets : letters_len (address_octets extension a) ≡ length a.call.letters
   letters_len-address_octets =
-      ap (position_or_len is_no_letter) (take_at front (last ∷ []) 6 six ∙ parts_apart)
+      ap (position_or_len is_no_letter) (take_at letter_octets (last ∷ []) 6 six ∙ parts_apart)
       ∙ letters_end a.call.letters (6 - length a.call.letters) h.call.bytes
 
   pub has_callsign-address_octets : has_callsign (address_octets extension a) ≡ true
   has_callsign-address_octets =
       let n = length a.call.letters in
       let doubled : length (double a.call.letters) ≡ n = length-map a.call.letters (λ b. 2 * b) in
-      ap (λ k. nat_lt 0 k && list_all is_space_octet (drop k (take 6 octets))) letters_len-address_octets
-      ∙ ap (λ l. nat_lt 0 n && list_all is_space_octet (drop n l)) (take_at front (last ∷ []) 6 six ∙ parts_apart)
-      ∙ ap (λ l. nat_lt 0 n && list_all is_space_octet l) (drop_at (double a.call.letters) (double (replicate (6 - n) 32)) n doubled)
+      ap (λ k. nat_lt 0 k && list_all is_space_octet (drop k (take 6 octets)))
+      letters_len-address_octets
+      ∙ ap (λ l. nat_lt 0 n && list_all is_space_octet (drop n l))
+      (take_at letter_octets (last ∷ []) 6 six ∙ parts_apart)
+      ∙ ap (λ l. nat_lt 0 n && list_all is_space_octet l)
+      (drop_at (double a.call.letters) (double (replicate (6 - n) 32)) n doubled)
       ∙ and_from _ _ (lt-ltb 0 n h.call.some) (spaces_all (6 - n))
 
   letters-are : half (take (letters_len octets) octets) ≡ a.call.letters
@@ -123,12 +131,14 @@ module _ (extension : ℕ) (a : Address) (h : IsAddress a) where
       let spaces = double (replicate (6 - length a.call.letters) 32) in
       ap (λ k. half (take k octets)) letters_len-address_octets
       ∙ ap (λ l. half (take (length a.call.letters) (l ++ last ∷ []))) parts_apart
-      ∙ ap (λ l. half (take (length a.call.letters) l)) (append_assoc (double a.call.letters) spaces (last ∷ []))
-      ∙ ap half (take_at (double a.call.letters) (spaces ++ last ∷ []) (length a.call.letters) (length-map a.call.letters (λ b. 2 * b)))
+      ∙ ap (λ l. half (take (length a.call.letters) l))
+      (append_assoc (double a.call.letters) spaces (last ∷ []))
+      ∙ ap half (take_at (double a.call.letters) (spaces ++ last ∷ []) (length a.call.letters)
+      (length-map a.call.letters (λ b. 2 * b)))
       ∙ half-double a.call.letters
 
   last-is : slice_index octets 6 ≡ last
-  last-is = get_or_at front last [] 0 6 six
+  last-is = get_or_at letter_octets last [] 0 6 six
 
 module _ (extension : ℕ) (small : extension < 2) (a : Address) (h : IsAddress a) where
   -- reading an address's octets gives the address
@@ -137,11 +147,28 @@ module _ (extension : ℕ) (small : extension < 2) (a : Address) (h : IsAddress 
       let f = h.flags in
       let s = h.call.ssid in
       let top : (32 * a.flags + 2 * a.call.ssid + extension) / 32 ≡ a.flags = omega arith in
-      let low : ((32 * a.flags + 2 * a.call.ssid + extension) / 2) % 16 ≡ a.call.ssid = omega arith in
-      ap (λ l. record { call = record { letters = l; ssid = (slice_index (address_octets extension a) 6 / 2) % 16 }; flags = slice_index (address_octets extension a) 6 / 32 }) (letters-are extension a h)
-      ∙ ap (λ o. record { call = record { letters = a.call.letters; ssid = (o / 2) % 16 }; flags = o / 32 }) (last-is extension a h)
-      ∙ ap (λ n. record { call = record { letters = a.call.letters; ssid = n }; flags = (32 * a.flags + 2 * a.call.ssid + extension) / 32 }) low
-      ∙ ap (λ n. record { call = record { letters = a.call.letters; ssid = a.call.ssid }; flags = n }) top
+      let low : ((32 * a.flags + 2 * a.call.ssid + extension) / 2) % 16 ≡ a.call.ssid =
+      omega arith in
+      ap (λ l. record {
+        call =
+            record { letters = l; ssid = (slice_index (address_octets extension a) 6 / 2) % 16 };
+        flags = slice_index (address_octets extension a) 6 / 32;
+      }) (letters-are extension a h)
+      ∙ ap (λ o. record {
+        call = record { letters = a.call.letters; ssid = (o / 2) % 16 };
+        flags =
+            o / 32;
+      }) (last-is extension a h)
+      ∙ ap (λ n. record {
+        call = record { letters = a.call.letters; ssid = n };
+        flags =
+            (32 * a.flags + 2 * a.call.ssid + extension) / 32;
+      }) low
+      ∙ ap (λ n. record {
+        call = record { letters = a.call.letters; ssid = a.call.ssid };
+        flags =
+            n;
+      }) top
 
 -- ---- octets that are an address
 
@@ -151,7 +178,8 @@ split_last os seven = sym (take_all 7 os (omega arith)) ∙ take_more os 6 0 (om
 last_octet : (o : ℕ) → o ≡ 32 * (o / 32) + 2 * ((o / 2) % 16) + o % 2
 last_octet o = omega arith
 
-module _ (os : List ℕ) (seven : length os ≡ 7) (h : has_callsign os ≡ true) (e : are_even (take 6 os) ≡ true) where
+module _ (os : List ℕ) (seven : length os ≡ 7) (h : has_callsign os ≡ true)
+    (e : are_even (take 6 os) ≡ true) where
   abbrev len : ℕ
   len = letters_len os
 
@@ -162,13 +190,17 @@ module _ (os : List ℕ) (seven : length os ≡ 7) (h : has_callsign os ≡ true
   spaces = drop len (take 6 os)
 
   six_apart : take 6 os ≡ letters ++ spaces
-  six_apart = sym (take-append-drop len (take 6 os)) ∙ ap (λ l. l ++ spaces) (take-take len 6 os (letters_len-le os))
+  six_apart = sym (take-append-drop len (take 6 os))
+      ∙ ap (λ l. l ++ spaces) (take-take len 6 os (letters_len-le os))
 
   both_even : (are_even letters ≡ true) × (are_even spaces ≡ true)
-  both_even = and_parts _ _ (sym (list_all-append (λ o. not (ends_field o)) letters spaces) ∙ ap are_even (sym six_apart) ∙ e)
+  both_even = and_parts _ _
+      (sym (list_all-append (λ o. not (ends_field o)) letters spaces) ∙ ap are_even (sym six_apart)
+      ∙ e)
 
   len_half : length (half letters) ≡ len
-  len_half = length-map letters (λ o. o / 2) ∙ length-take-le len os (omega (arith, letters_len-le os))
+  len_half = length-map letters (λ o. o / 2)
+      ∙ length-take-le len os (omega (arith, letters_len-le os))
 
   len_spaces : length spaces ≡ 6 - len
   len_spaces = length-drop len (take 6 os) ∙ ap (λ n. n - len) (length-take-le 6 os (omega arith))
@@ -176,7 +208,8 @@ module _ (os : List ℕ) (seven : length os ≡ 7) (h : has_callsign os ≡ true
   front_is : double (padded (half letters)) ≡ take 6 os
   front_is =
       map-append (λ b. 2 * b) (half letters) (replicate (6 - length (half letters)) 32)
-      ∙ ap (λ l. l ++ double (replicate (6 - length (half letters)) 32)) (double-half letters both_even.0)
+      ∙ ap (λ l. l ++ double (replicate (6 - length (half letters)) 32))
+      (double-half letters both_even.0)
       ∙ ap (λ n. letters ++ double (replicate (6 - n) 32)) len_half
       ∙ ap (λ n. letters ++ double (replicate n 32)) (sym len_spaces)
       ∙ ap (λ l. letters ++ l) (sym (spaces-are spaces (and_parts _ _ h).1 both_even.1))
@@ -187,5 +220,7 @@ module _ (os : List ℕ) (seven : length os ≡ 7) (h : has_callsign os ≡ true
       split_last os seven ∙ ap (λ l. l ++ slice_index os 6 ∷ []) (sym front_is)
       ∙ ap (λ o. double (padded (half letters)) ++ o ∷ []) (last_octet (slice_index os 6))
 
-pub address_of-IsAddress : (os : List ℕ) → length os ≡ 7 → has_callsign os ≡ true → slice_index os 6 < 256 → IsAddress (address_of os)
-address_of-IsAddress os seven h small = record { call = call_of-IsCall os seven h; flags = omega arith }
+pub address_of-IsAddress : (os : List ℕ) → length os ≡ 7 → has_callsign os ≡ true
+    → slice_index os 6 < 256 → IsAddress (address_of os)
+address_of-IsAddress os seven h small =
+    record { call = call_of-IsCall os seven h; flags = omega arith }

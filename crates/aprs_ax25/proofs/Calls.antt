@@ -18,32 +18,46 @@ ssid_text-one n some h = rw (ne_eqb n 0 (λ e. omega arith)) (ap (λ ds. 45 ∷ 
 pub ssid_text-two : (n : ℕ) → 10 ≤ n → n < 16 → ssid_text n ≡ 45 ∷ 49 ∷ (48 + n % 10) ∷ []
 ssid_text-two n low h =
     let one : n / 10 ≡ 1 = omega arith in
-    rw (ne_eqb n 0 (λ e. omega arith)) (ap (λ ds. 45 ∷ ds) (decimal_step n low (omega arith) ∙ ap (λ k. decimal k ++ (48 + n % 10) ∷ []) one ∙ ap (λ ds. ds ++ (48 + n % 10) ∷ []) (decimal_digit 1 (omega arith))))
+    rw (ne_eqb n 0 (λ e. omega arith))
+    (ap (λ ds. 45 ∷ ds) (decimal_step n low (omega arith)
+    ∙ ap (λ k. decimal k ++ (48 + n % 10) ∷ []) one
+    ∙ ap (λ ds. ds ++ (48 + n % 10) ∷ []) (decimal_digit 1 (omega arith))))
 
 not-false : (b : Bool) → not b ≡ false → b ≡ true
 not-false true h = refl
 not-false false h = cc
 
 pub letters_len-le : (octets : List ℕ) → letters_len octets ≤ 6
-letters_len-le octets = omega (arith, prefix_len-le-length (λ o. not (is_no_letter o)) (take 6 octets), length-take 6 octets)
+letters_len-le octets =
+    omega (
+      arith,
+      prefix_len-le-length (λ o. not (is_no_letter o)) (take 6 octets),
+      length-take 6
+          octets,
+    )
 
 -- the octets before the first that is no letter are letters
-pub letters-pass : (octets : List ℕ) → list_all is_callsign_byte (map (λ o. o / 2) (take (letters_len octets) octets)) ≡ true
+pub letters-pass : (octets : List ℕ)
+    → list_all is_callsign_byte (map (λ o. o / 2) (take (letters_len octets) octets)) ≡ true
 letters-pass octets =
     let n = letters_len octets in
     let pass : All (λ o. is_callsign_byte (o / 2) ≡ true) (take n octets) = λ k d h.
     let low : k < n = omega (arith, length-take n octets) in
     let six : k < 6 = omega (arith, letters_len-le octets) in
     ap (λ o. is_callsign_byte (o / 2)) (get_or-take n octets k d low)
-    ∙ not-false _ (ap is_no_letter (sym (get_or-take 6 octets k d six)) ∙ fails_before_first is_no_letter (take 6 octets) k d low) in
-    list_all-map is_callsign_byte (λ o. o / 2) (take n octets) ∙ list_all-from_AllPass (λ o. is_callsign_byte (o / 2)) (take n octets) pass
+    ∙ not-false _ (ap is_no_letter (sym (get_or-take 6 octets k d six))
+    ∙ fails_before_first is_no_letter (take 6 octets) k d low) in
+    list_all-map is_callsign_byte (λ o. o / 2) (take n octets)
+    ∙ list_all-from_AllPass (λ o. is_callsign_byte (o / 2)) (take n octets) pass
 
-pub call_of-IsCall : (octets : List ℕ) → length octets ≡ 7 → has_callsign octets ≡ true → IsCall (call_of octets)
+pub call_of-IsCall : (octets : List ℕ) → length octets ≡ 7 → has_callsign octets ≡ true
+    → IsCall (call_of octets)
 call_of-IsCall octets seven h =
     let n = letters_len octets in
     let some : 0 < n = ltb-true 0 n (and_parts _ _ h).0 in
     let most = letters_len-le octets in
-    let len : length (map (λ o. o / 2) (take n octets)) ≡ n = length-map (take n octets) (λ o. o / 2) ∙ length-take-le n octets (omega arith) in
+    let len : length (map (λ o. o / 2) (take n octets)) ≡ n =
+    length-map (take n octets) (λ o. o / 2) ∙ length-take-le n octets (omega arith) in
     record {
       some = omega arith;
       most = omega arith;

@@ -17,61 +17,84 @@ double-spaces zero = refl
 double-spaces (suc n) = ap (λ l. 64 ∷ l) (double-spaces n)
 
 -- the letters went out, and then of six spaces those that are wanting
-pub padded-pushed : (a b c letters : List ℕ) (i : ℕ) → length letters ≤ i → b ≡ a ++ map (λ l. 2 * l) (take i letters)
+pub padded-pushed : (a b c letters : List ℕ) (i : ℕ) → length letters ≤ i → b
+    ≡ a ++ map (λ l. 2 * l) (take i letters)
     → c ≡ b ++ drop (length letters) (replicate 6 64) → c ≡ a ++ map (λ l. 2 * l) (padded letters)
 padded-pushed a b c letters i h f g =
     let n = length letters in
-    g ∙ ap (λ l. l ++ drop n (replicate 6 64)) (f ∙ ap (λ l. a ++ map (λ x. 2 * x) l) (take_all i letters h))
+    g ∙ ap (λ l. l ++ drop n (replicate 6 64))
+    (f ∙ ap (λ l. a ++ map (λ x. 2 * x) l) (take_all i letters h))
     ∙ append_assoc a (map (λ l. 2 * l) letters) (drop n (replicate 6 64))
-    ∙ ap (λ l. a ++ (map (λ x. 2 * x) letters ++ l)) (drop-replicate n 6 64 ∙ sym (double-spaces (6 - n)))
+    ∙ ap (λ l. a ++ (map (λ x. 2 * x) letters ++ l))
+    (drop-replicate n 6 64 ∙ sym (double-spaces (6 - n)))
     ∙ ap (λ l. a ++ l) (sym (map-append (λ l. 2 * l) letters (replicate (6 - n) 32)))
 
 -- an address before others, with the extension bit that they leave it
-field-cons : (x : Address) (more : List Address) (e : ℕ) → (length more ≡ 0 → e ≡ 1) → (0 < length more → e ≡ 0)
+field-cons : (x : Address) (more : List Address) (e : ℕ) → (length more ≡ 0 → e ≡ 1)
+    → (0 < length more → e ≡ 0)
     → address_field (x ∷ more) ≡ address_octets e x ++ address_field more
-field-cons x [] e last inner = ap (λ n. address_octets n x) (sym (last refl)) ∙ sym (append-nil (address_octets e x))
-field-cons x (y ∷ more) e last inner = ap (λ n. address_octets n x ++ address_field (y ∷ more)) (sym (inner (omega arith)))
+field-cons x [] e last inner = ap (λ n. address_octets n x) (sym (last refl))
+    ∙ sym (append-nil (address_octets e x))
+field-cons x (y ∷ more) e last inner =
+    ap (λ n. address_octets n x ++ address_field (y ∷ more)) (sym (inner (omega arith)))
 
 abbrev pub hops_field : List Hop → List ℕ
 hops_field hops = address_field (map hop_address hops)
 
 -- one more digipeater went out
-pub field-more : (a b : List ℕ) (hops : List Hop) (i e : ℕ) (hop : Hop) → i < length hops → hop ≡ get_or hops i hop
-    → b ≡ a ++ address_octets e (hop_address hop) → (i + 1 ≡ length hops → e ≡ 1) → (i + 1 < length hops → e ≡ 0)
+pub field-more : (a b : List ℕ) (hops : List Hop) (i e : ℕ) (hop : Hop) → i < length hops → hop
+    ≡ get_or hops i hop
+    → b ≡ a ++ address_octets e (hop_address hop) → (i + 1 ≡ length hops → e ≡ 1)
+    → (i + 1 < length hops → e ≡ 0)
     → b ++ hops_field (drop (i + 1) hops) ≡ a ++ hops_field (drop i hops)
 field-more a b hops i e hop h is out last inner =
     let more = drop (i + 1) hops in
     let len = length-map more hop_address in
     let n = length-drop (i + 1) hops in
-    ap (λ l. l ++ hops_field more) out ∙ append_assoc a (address_octets e (hop_address hop)) (hops_field more)
-    ∙ ap (λ l. a ++ l) (sym (field-cons (hop_address hop) (map hop_address more) e (λ z. last (omega arith)) (λ z. inner (omega arith))))
+    ap (λ l. l ++ hops_field more) out
+    ∙ append_assoc a (address_octets e (hop_address hop)) (hops_field more)
+    ∙ ap (λ l. a ++ l) (sym
+    (field-cons (hop_address hop) (map hop_address more) e (λ z. last (omega arith))
+    (λ z. inner (omega arith))))
     ∙ ap (λ x. a ++ hops_field (x ∷ more)) is
     ∙ ap (λ l. a ++ hops_field l) (sym (drop_more hops i hop h))
 
-pub all-more : (xs : List Address) (x : Address) → AllByRecursion IsAddress xs → IsAddress x → AllByRecursion IsAddress (xs ++ x ∷ [])
+pub all-more : (xs : List Address) (x : Address) → AllByRecursion IsAddress xs → IsAddress x
+    → AllByRecursion IsAddress (xs ++ x ∷ [])
 all-more [] x h p = (p, tt)
 all-more (y ∷ xs) x h p = (h.0, all-more xs x h.1 p)
 
-pub hops-more : (hops : List Hop) (i : ℕ) (hop : Hop) → i < length hops → hop ≡ get_or hops i hop → AllByRecursion IsAddress (map hop_address (take i hops))
+pub hops-more : (hops : List Hop) (i : ℕ) (hop : Hop) → i < length hops → hop ≡ get_or hops i hop
+    → AllByRecursion IsAddress (map hop_address (take i hops))
     → IsAddress (hop_address hop) → AllByRecursion IsAddress (map hop_address (take (i + 1) hops))
 hops-more hops i hop h is all p =
-    subst (λ l. AllByRecursion IsAddress (map hop_address l)) (sym (take_more hops i hop h ∙ ap (λ x. take i hops ++ x ∷ []) (sym is)))
-    (subst (AllByRecursion IsAddress) (sym (map-append hop_address (take i hops) (hop ∷ []))) (all-more (map hop_address (take i hops)) (hop_address hop) all p))
+    subst (λ l. AllByRecursion IsAddress (map hop_address l))
+    (sym (take_more hops i hop h ∙ ap (λ x. take i hops ++ x ∷ []) (sym is)))
+    (subst (AllByRecursion IsAddress) (sym (map-append hop_address (take i hops) (hop ∷ [])))
+    (all-more (map hop_address (take i hops)) (hop_address hop) all p))
 
 -- the field of a destination, a source and digipeaters, as their addresses go out one by one
-pub field-pushed : (destination source : Address) (others : List Address) (a b c d : List ℕ) (e : ℕ) → a ≡ [] → b ≡ a ++ address_octets 0 destination
-    → c ≡ b ++ address_octets e source → d ≡ c ++ address_field others → (length others ≡ 0 → e ≡ 1) → (0 < length others → e ≡ 0)
+pub field-pushed : (destination source : Address) (others : List Address) (a b c d : List ℕ) (e : ℕ)
+    → a ≡ [] → b ≡ a ++ address_octets 0 destination
+    → c ≡ b ++ address_octets e source → d ≡ c ++ address_field others → (length others ≡ 0 → e ≡ 1)
+    → (0 < length others → e ≡ 0)
     → d ≡ address_field (destination ∷ source ∷ others)
 field-pushed destination source others a b c d e empty p q r last inner =
-    r ∙ ap (λ l. l ++ address_field others) (q ∙ ap (λ l. l ++ address_octets e source) (p ∙ ap (λ l. l ++ address_octets 0 destination) empty))
+    r ∙ ap (λ l. l ++ address_field others)
+    (q ∙ ap (λ l. l ++ address_octets e source)
+    (p ∙ ap (λ l. l ++ address_octets 0 destination) empty))
     ∙ append_assoc (address_octets 0 destination) (address_octets e source) (address_field others)
     ∙ ap (λ l. address_octets 0 destination ++ l) (sym (field-cons source others e last inner))
 
 -- the frame that is spelled so has no fault, and is the frame of its parts
-pub made : (p : Parts) (bytes : List ℕ) → IsParts p → bytes ≡ spelling p → (frame_fault bytes ≡ None) × FrameOf (parts_of bytes) bytes
+pub made : (p : Parts) (bytes : List ℕ) → IsParts p → bytes ≡ spelling p
+    → (frame_fault bytes ≡ None) × FrameOf (parts_of bytes) bytes
 made p bytes h e =
-    let f : FrameOf p bytes = record { parts = h; spelled = e } in
-    (FrameOf-frame_fault p bytes f, subst (λ (q : Parts). FrameOf q bytes) (sym (FrameOf-parts_of p bytes f)) f)
+    let f : FrameOf p bytes = record { parts = h; spelled = e } in (
+      FrameOf-frame_fault p bytes f,
+      subst (λ (q : Parts). FrameOf q bytes)
+          (sym (FrameOf-parts_of p bytes f)) f,
+    )
 
 -- parts that are not refused are not too many
 pub record IsWithin (hops info : ℕ) : Type 0 where
@@ -88,9 +111,14 @@ make_fault-IsWithin hops info h =
     record { few = ltb-false 8 hops a.0; some = omega arith; most = ltb-false 256 info c.0 }
 
 pub made-spelled : (destination source : Call) (hops : List Hop) (info a b c d : List ℕ)
-    → a ≡ address_field (destination_address destination ∷ source_address source ∷ map hop_address hops)
-    → b ≡ a ++ 3 ∷ [] → c ≡ b ++ 240 ∷ [] → d ≡ c ++ info → d ≡ spelling (made_parts destination source hops info)
+    → a ≡ address_field (destination_address destination ∷ source_address source ∷ map hop_address
+    hops)
+    → b ≡ a ++ 3 ∷ [] → c ≡ b ++ 240 ∷ [] → d ≡ c ++ info → d
+    ≡ spelling (made_parts destination source hops info)
 made-spelled destination source hops info a b c d p q r s =
-    let field = address_field (destination_address destination ∷ source_address source ∷ map hop_address hops) in
-    s ∙ ap (λ l. l ++ info) (r ∙ ap (λ l. l ++ 240 ∷ []) (q ∙ ap (λ l. l ++ 3 ∷ []) p) ∙ append_assoc field (3 ∷ []) (240 ∷ []))
+    let field = address_field
+    (destination_address destination ∷ source_address source ∷ map hop_address hops) in
+    s ∙ ap (λ l. l ++ info)
+    (r ∙ ap (λ l. l ++ 240 ∷ []) (q ∙ ap (λ l. l ++ 3 ∷ []) p)
+    ∙ append_assoc field (3 ∷ []) (240 ∷ []))
     ∙ append_assoc field (3 ∷ 240 ∷ []) info

@@ -13,13 +13,16 @@ pub has_callsign_at : (octets : List ℕ) (n : ℕ) (b : Bool) → n ≡ letters
 has_callsign_at octets n b e lt h =
     let some : 0 < letters_len octets = omega arith in
     h ∙ ap (λ k. list_all is_space_octet (drop k (take 6 octets))) e
-    ∙ ap (λ t. t && list_all is_space_octet (drop (letters_len octets) (take 6 octets))) (sym (lt-ltb 0 (letters_len octets) some))
+    ∙ ap (λ t. t && list_all is_space_octet (drop (letters_len octets) (take 6 octets)))
+    (sym (lt-ltb 0 (letters_len octets) some))
 
 -- seven octets or more: a first piece and the pieces of the others
 pub sevens-more : (bytes : List ℕ) → 7 ≤ length bytes
-    → sevens (length bytes / 7) bytes ≡ take 7 bytes ∷ sevens (length (drop 7 bytes) / 7) (drop 7 bytes)
+    → sevens (length bytes / 7) bytes
+    ≡ take 7 bytes ∷ sevens (length (drop 7 bytes) / 7) (drop 7 bytes)
 sevens-more bytes h =
-    let e : length bytes / 7 ≡ suc (length (drop 7 bytes) / 7) = omega (arith, length-drop 7 bytes) in
+    let e : length bytes / 7 ≡ suc (length (drop 7 bytes) / 7) =
+    omega (arith, length-drop 7 bytes) in
     ap (λ n. sevens n bytes) e
 
 -- fewer: none
@@ -28,13 +31,16 @@ sevens-none bytes h =
     let e : length bytes / 7 ≡ 0 = omega arith in
     ap (λ n. sevens n bytes) e
 
-pub frame_fault-address : (bytes : List ℕ) → is_wrong Address bytes ≡ true → Some Address ≡ frame_fault bytes
+pub frame_fault-address : (bytes : List ℕ) → is_wrong Address bytes ≡ true → Some Address
+    ≡ frame_fault bytes
 frame_fault-address bytes h = rw h refl
 
-pub frame_fault-callsign : (bytes : List ℕ) → is_wrong Address bytes ≡ false → is_wrong Callsign bytes ≡ true → Some Callsign ≡ frame_fault bytes
+pub frame_fault-callsign : (bytes : List ℕ) → is_wrong Address bytes ≡ false
+    → is_wrong Callsign bytes ≡ true → Some Callsign ≡ frame_fault bytes
 frame_fault-callsign bytes h k = rw (h, k) refl
 
-pub frame_fault-after : (bytes : List ℕ) → is_wrong Address bytes ≡ false → is_wrong Callsign bytes ≡ false
+pub frame_fault-after : (bytes : List ℕ) → is_wrong Address bytes ≡ false → is_wrong Callsign bytes
+    ≡ false
     → fault_after_field (after_field bytes) ≡ frame_fault bytes
 frame_fault-after bytes h k = rw (h, k) refl
 
@@ -43,7 +49,8 @@ abbrev pub all_have : List ℕ → Bool
 all_have bytes = list_all has_callsign (sevens (length bytes / 7) bytes)
 
 -- of seven octets or more: the first address has one, and each of the others
-pub all_have-more : (bytes first after : List ℕ) (b d : Bool) → 7 ≤ length bytes → first ≡ take 7 bytes → after ≡ drop 7 bytes
+pub all_have-more : (bytes first after : List ℕ) (b d : Bool) → 7 ≤ length bytes → first
+    ≡ take 7 bytes → after ≡ drop 7 bytes
     → b ≡ has_callsign first → b ≡ d → all_have bytes ≡ d && all_have after
 all_have-more bytes first after b d h f r e k =
     ap (list_all has_callsign) (sevens-more bytes h)

@@ -12,7 +12,8 @@ use Rattle.aprs_ax25.specs.FrameFault.{ends_field, field_len, field_of, after_fi
 use Rattle.aprs_ax25.specs.declared.fault.FrameFault.TheVariants.{Address as AddressFault, Callsign, Control, Pid, NoInfo, LongInfo}
 use Rattle.aprs_ax25.proofs.Fields.{Spells, Spells-sevens, All-take}
 
-pub cond-None : {X : Type 0} (b : Bool) (x : X) (r : Option X) → cond b (Some x) r ≡ None → (b ≡ false) × (r ≡ None)
+pub cond-None : {X : Type 0} (b : Bool) (x : X) (r : Option X) → cond b (Some x) r ≡ None
+    → (b ≡ false) × (r ≡ None)
 cond-None true x r h = cc
 cond-None false x r h = (refl, h)
 
@@ -58,7 +59,8 @@ frame_fault-IsSound bytes h =
 
 pub IsSound-len : (bytes : List ℕ) → IsSound bytes → length bytes ≤ 328
 IsSound-len bytes s =
-    let len : length (after_field bytes) ≡ length bytes - field_len bytes = length-drop (field_len bytes) bytes in
+    let len : length (after_field bytes) ≡ length bytes - field_len bytes =
+    length-drop (field_len bytes) bytes in
     omega (arith, len, s.few, s.most, s.within)
 
 pub IsSound-frame_fault : (bytes : List ℕ) → IsSound bytes → frame_fault bytes ≡ None
@@ -67,7 +69,9 @@ IsSound-frame_fault bytes s =
     let after = after_field bytes in
     let address : is_wrong AddressFault bytes ≡ false =
     ap not (and_from (nat_le n (length bytes)) (is_field_len n) (le-leb n (length bytes) s.within)
-    (and_from (n % 7 == 0 && nat_le 14 n) (nat_le n 70) (and_from (n % 7 == 0) (nat_le 14 n) (ap (λ k. k == 0) s.sevenfold) (le-leb 14 n s.least)) (le-leb n 70 s.most))) in
+    (and_from (n % 7 == 0 && nat_le 14 n) (nat_le n 70)
+    (and_from (n % 7 == 0) (nat_le 14 n) (ap (λ k. k == 0) s.sevenfold) (le-leb 14 n s.least))
+    (le-leb n 70 s.most))) in
     let callsign : is_wrong Callsign bytes ≡ false = ap not s.callsigns in
     let control : is_wrong Control bytes ≡ false = ap (λ k. not (k == 3)) s.control in
     let pid : is_wrong Pid bytes ≡ false = ap (λ k. not (k == 240)) s.pid in
@@ -86,7 +90,8 @@ field_goes_on f s n seven least most even = elim (cases_lt n (field_len f)) [
       let place : position_or_len ends_field f ≡ n - 1 = omega arith in
       let ends : ends_field (get_or f (position_or_len ends_field f) 0) ≡ true
       = passes_at_first ends_field f 0 (omega arith) in
-      let odd : ends_field (slice_index f (n - 1)) ≡ true = subst (λ k. ends_field (get_or f k 0) ≡ true) place ends in
+      let odd : ends_field (slice_index f (n - 1)) ≡ true =
+      subst (λ k. ends_field (get_or f k 0) ≡ true) place ends in
       let no : true ≡ false = sym odd ∙ even in
       cc
       )
@@ -96,7 +101,8 @@ pub field_ends : (f : List ℕ) (n : ℕ) → 14 ≤ n → n ≤ field_len f
     → ends_field (slice_index f (n - 1)) ≡ true → n ≡ field_len f
 field_ends f n least most odd = elim (cases_lt n (field_len f)) [
   | inl lt ↦ absurd (
-      let even : ends_field (get_or f (n - 1) 0) ≡ false = fails_before_first ends_field f (n - 1) 0 (omega arith) in
+      let even : ends_field (get_or f (n - 1) 0) ≡ false =
+      fails_before_first ends_field f (n - 1) 0 (omega arith) in
       let no : true ≡ false = sym odd ∙ even in
       cc
       )
@@ -117,10 +123,34 @@ same_parts p q h i =
     let a : p.destination ≡ q.destination = cc in
     let b : p.source ≡ q.source = cc in
     let c : p.digipeaters ≡ q.digipeaters = cc in
-    ap (λ x. record { destination = x; source = p.source; digipeaters = p.digipeaters; info = p.info }) a
-    ∙ ap (λ x. record { destination = q.destination; source = x; digipeaters = p.digipeaters; info = p.info }) b
-    ∙ ap (λ x. record { destination = q.destination; source = q.source; digipeaters = x; info = p.info }) c
-    ∙ ap (λ x. record { destination = q.destination; source = q.source; digipeaters = q.digipeaters; info = x }) i
+    ap (λ x. record {
+      destination = x;
+      source = p.source;
+      digipeaters = p.digipeaters;
+      info =
+          p.info;
+    }) a
+    ∙ ap (λ x. record {
+      destination = q.destination;
+      source = x;
+      digipeaters = p.digipeaters;
+      info =
+          p.info;
+    }) b
+    ∙ ap (λ x. record {
+      destination = q.destination;
+      source = q.source;
+      digipeaters = x;
+      info =
+          p.info;
+    }) c
+    ∙ ap (λ x. record {
+      destination = q.destination;
+      source = q.source;
+      digipeaters =
+          q.digipeaters;
+      info = x;
+    }) i
 
 module _ (f : List ℕ) (s : IsSound f) where
   abbrev n : ℕ
@@ -136,9 +166,11 @@ module _ (f : List ℕ) (s : IsSound f) where
   length-field = length-take-le n f s.within
 
   count : length field / 7 ≡ suc (suc k)
-  count = ap (λ m. m / 7) length-field ∙ (let least = s.least in let seven = s.sevenfold in omega arith)
+  count = ap (λ m. m / 7) length-field
+      ∙ (let least = s.least in let seven = s.sevenfold in omega arith)
 
-  addresses-are : addresses f ≡ take 7 field ∷ take 7 (drop 7 field) ∷ sevens k (drop 7 (drop 7 field))
+  addresses-are : addresses f
+      ≡ take 7 field ∷ take 7 (drop 7 field) ∷ sevens k (drop 7 (drop 7 field))
   addresses-are = ap (λ m. sevens m field) count
 
   first : take 7 field ≡ take 7 f
@@ -148,14 +180,18 @@ module _ (f : List ℕ) (s : IsSound f) where
   second =
       let least = s.least in
       let e : n ≡ 7 + (n - 7) = omega arith in
-      ap (λ m. take 7 (drop 7 (take m f))) e ∙ ap (take 7) (drop-take 7 (n - 7) f) ∙ take-take 7 (n - 7) (drop 7 f) (omega arith)
+      ap (λ m. take 7 (drop 7 (take m f))) e ∙ ap (take 7) (drop-take 7 (n - 7) f)
+      ∙ take-take 7 (n - 7) (drop 7 f) (omega arith)
 
   pub all-addresses : map address_of (addresses f) ≡ all_of (parts_of f)
   all-addresses =
       ap (map address_of) addresses-are
-      ∙ ap (λ l. address_of l ∷ address_of (take 7 (drop 7 field)) ∷ map address_of (sevens k (drop 7 (drop 7 field)))) first
-      ∙ ap (λ l. address_of (take 7 f) ∷ address_of l ∷ map address_of (sevens k (drop 7 (drop 7 field)))) second
-      ∙ ap (λ l. address_of (take 7 f) ∷ address_of (take 7 (drop 7 f)) ∷ map address_of (drop 2 l)) (sym addresses-are)
+      ∙ ap (λ l. address_of l ∷ address_of (take 7 (drop 7 field)) ∷ map address_of
+      (sevens k (drop 7 (drop 7 field)))) first
+      ∙ ap (λ l. address_of (take 7 f) ∷ address_of l ∷ map address_of
+      (sevens k (drop 7 (drop 7 field)))) second
+      ∙ ap (λ l. address_of (take 7 f) ∷ address_of (take 7 (drop 7 f)) ∷ map address_of (drop 2 l))
+      (sym addresses-are)
 
   pub length-digipeaters : length (parts_of f).digipeaters + 2 ≡ n / 7
   length-digipeaters =
@@ -163,7 +199,8 @@ module _ (f : List ℕ) (s : IsSound f) where
       let seven = s.sevenfold in
       let a = length-map (addresses f) address_of in
       let b = length-sevens (length field / 7) field in
-      let c : length (map address_of (addresses f)) ≡ length (all_of (parts_of f)) = ap length all-addresses in
+      let c : length (map address_of (addresses f)) ≡ length (all_of (parts_of f)) =
+      ap length all-addresses in
       omega (arith, count)
 
   -- the first octet with bit 0 set is the field's last
@@ -171,8 +208,10 @@ module _ (f : List ℕ) (s : IsSound f) where
   end =
       let i = position_or_len ends_field f in
       ap (λ m. m + 1) (position_or_len_is ends_field field i 0 (omega (arith, length-field))
-      (λ j h. ap ends_field (get_or-take n f j 0 (omega arith)) ∙ fails_before_first ends_field f j 0 h)
-      (λ h. ap ends_field (get_or-take n f i 0 (omega arith)) ∙ passes_at_first ends_field f 0 (let w = s.within in omega arith)))
+      (λ j h. ap ends_field (get_or-take n f j 0 (omega arith))
+      ∙ fails_before_first ends_field f j 0 h)
+      (λ h. ap ends_field (get_or-take n f i 0 (omega arith))
+      ∙ passes_at_first ends_field f 0 (let w = s.within in omega arith)))
       ∙ sym length-field
 
   spells : All (λ b. b < 256) f → Spells field (addresses f)
@@ -180,7 +219,9 @@ module _ (f : List ℕ) (s : IsSound f) where
       let P : ℕ → Type 0 = λ m. Spells field (sevens m field) in
       let least = s.least in
       let seven = s.sevenfold in
-      subst P (sym count) (Spells-sevens (suc k) field (length-field ∙ omega arith) end (ap (λ m. list_all has_callsign (sevens m field)) (sym count) ∙ s.callsigns) (All-take n f bytes))
+      subst P (sym count) (Spells-sevens (suc k) field (length-field ∙ omega arith) end
+      (ap (λ m. list_all has_callsign (sevens m field)) (sym count) ∙ s.callsigns)
+      (All-take n f bytes))
 
   after-is : (l : List ℕ) → slice_index l 0 ≡ 3 → slice_index l 1 ≡ 240 → l ≡ 3 ∷ 240 ∷ drop 2 l
   after-is [] a b = absurd (omega arith)
@@ -192,7 +233,8 @@ module _ (f : List ℕ) (s : IsSound f) where
   sound-FrameOf bytes =
       let p = parts_of f in
       let held = spells bytes in
-      let each : AllByRecursion IsAddress (all_of p) = subst (AllByRecursion IsAddress) all-addresses held.each in
+      let each : AllByRecursion IsAddress (all_of p) =
+      subst (AllByRecursion IsAddress) all-addresses held.each in
       let most = s.most in
       let some = s.some in
       let few = s.few in
@@ -206,18 +248,21 @@ module _ (f : List ℕ) (s : IsSound f) where
           some = omega arith;
           most = omega arith;
         };
-        spelled = sym (take-append-drop n f) ∙ ap (λ l. field ++ l) (after-is (after_field f) s.control s.pid)
+        spelled = sym (take-append-drop n f)
+            ∙ ap (λ l. field ++ l) (after-is (after_field f) s.control s.pid)
             ∙ ap (λ l. l ++ 3 ∷ 240 ∷ p.info) (held.spelled ∙ ap address_field all-addresses);
       }
 
 -- ---- one address of bytes that have no fault
 
-sevens-at : (m i : ℕ) (bytes d : List ℕ) → i < m → get_or (sevens m bytes) i d ≡ take 7 (drop (7 * i) bytes)
+sevens-at : (m i : ℕ) (bytes d : List ℕ) → i < m → get_or (sevens m bytes) i d
+    ≡ take 7 (drop (7 * i) bytes)
 sevens-at zero i bytes d h = absurd (omega arith)
 sevens-at (suc m) zero bytes d h = refl
 sevens-at (suc m) (suc i) bytes d h =
     let e : 7 + 7 * i ≡ 7 * suc i = omega arith in
-    sevens-at m i (drop 7 bytes) d (omega arith) ∙ ap (take 7) (drop-drop (7 * i) 7 bytes) ∙ ap (λ k. take 7 (drop k bytes)) e
+    sevens-at m i (drop 7 bytes) d (omega arith) ∙ ap (take 7) (drop-drop (7 * i) 7 bytes)
+    ∙ ap (λ k. take 7 (drop k bytes)) e
 
 module _ (f : List ℕ) (s : IsSound f) (i : ℕ) (h : i < field_len f / 7) where
   pub addresses-at : (d : List ℕ) → get_or (addresses f) i d ≡ take 7 (drop (7 * i) f)
@@ -230,33 +275,40 @@ module _ (f : List ℕ) (s : IsSound f) (i : ℕ) (h : i < field_len f / 7) wher
       ∙ take-take 7 (n - 7 * i) (drop (7 * i) f) (omega arith)
 
   pub length-addresses : length (addresses f) ≡ field_len f / 7
-  length-addresses = length-sevens (length (field_of f) / 7) (field_of f) ∙ ap (λ m. m / 7) (length-field f s)
+  length-addresses = length-sevens (length (field_of f) / 7) (field_of f)
+      ∙ ap (λ m. m / 7) (length-field f s)
 
   pub callsign-at : has_callsign (take 7 (drop (7 * i) f)) ≡ true
   callsign-at =
-      let pass = AllPass-from_list_all has_callsign (addresses f) s.callsigns i [] (omega (arith, length-addresses)) in
+      let pass = AllPass-from_list_all has_callsign (addresses f) s.callsigns i []
+      (omega (arith, length-addresses)) in
       ap has_callsign (sym (addresses-at [])) ∙ pass
 
   pub room-at : 7 * i + 7 ≤ length f
   room-at = let within = s.within in omega arith
 
 module _ (f : List ℕ) (s : IsSound f) (i : ℕ) (h : i + 2 < field_len f / 7) where
-  pub digipeater-at : slice_get (parts_of f).digipeaters i ≡ Some (address_of (take 7 (drop (7 * (i + 2)) f)))
+  pub digipeater-at : slice_get (parts_of f).digipeaters i
+      ≡ Some (address_of (take 7 (drop (7 * (i + 2)) f)))
   digipeater-at =
       let len = length-addresses f s (i + 2) h in
       let two : 2 + i ≡ i + 2 = omega arith in
       let many : i < length (drop 2 (addresses f)) = omega (arith, length-drop 2 (addresses f)) in
       let e : get_or (drop 2 (addresses f)) i [] ≡ take 7 (drop (7 * (i + 2)) f) =
-      get_or-drop 2 (addresses f) i [] ∙ ap (λ k. get_or (addresses f) k []) two ∙ addresses-at f s (i + 2) h [] in
+      get_or-drop 2 (addresses f) i [] ∙ ap (λ k. get_or (addresses f) k []) two
+      ∙ addresses-at f s (i + 2) h [] in
       slice_get-map address_of (drop 2 (addresses f)) i
-      ∙ ap (option_map address_of) (slice_get-get_or (drop 2 (addresses f)) i [] many ∙ ap (λ l. Some l) e)
+      ∙ ap (option_map address_of)
+      (slice_get-get_or (drop 2 (addresses f)) i [] many ∙ ap (λ l. Some l) e)
 
--- a digipeater's number counts from behind the destination and the source
-pub within-digipeaters : (f self : List ℕ) (hops i : ℕ) → frame_fault f ≡ None → f ≡ self → hops ≡ length (parts_of self).digipeaters → i < hops
+-- a digipeater's number counts from after the destination and the source
+pub within-digipeaters : (f self : List ℕ) (hops i : ℕ) → frame_fault f ≡ None → f ≡ self → hops
+    ≡ length (parts_of self).digipeaters → i < hops
     → i + 2 < field_len f / 7
 within-digipeaters f self hops i s is e h =
     let all = length-digipeaters f (frame_fault-IsSound f s) in
-    let same : hops ≡ length (parts_of f).digipeaters = e ∙ ap (λ l. length (parts_of l).digipeaters) (sym is) in
+    let same : hops ≡ length (parts_of f).digipeaters = e
+    ∙ ap (λ l. length (parts_of l).digipeaters) (sym is) in
     omega (arith, all, same)
 
 pub digipeaters-few : (f : List ℕ) → frame_fault f ≡ None → field_len f / 7 - 2 ≤ 8

@@ -42,7 +42,8 @@ module _ (p : Parts) (h : IsParts p) where
   addresses-are : addresses f ≡ sevens (suc (length others)) field
   addresses-are =
       let e : len / 7 ≡ suc (length others) = omega arith in
-      ap (λ l. sevens (length l / 7) l) field_of-is ∙ ap (λ m. sevens (m / 7) field) length-field ∙ ap (λ m. sevens m field) e
+      ap (λ l. sevens (length l / 7) l) field_of-is ∙ ap (λ m. sevens (m / 7) field) length-field
+      ∙ ap (λ m. sevens m field) e
 
   held : Holds (p.destination ∷ others) (sevens (suc (length others)) field)
   held = sevens-address_field p.destination others each
@@ -70,7 +71,9 @@ module _ (p : Parts) (h : IsParts p) where
 
   pub parts_of-spelling : parts_of (spelling p) ≡ p
   parts_of-spelling =
-      same_parts (parts_of f) p (sym (all-addresses f sound) ∙ ap (map address_of) addresses-are ∙ held.addresses) (ap (drop 2) after_field-is)
+      same_parts (parts_of f) p
+      (sym (all-addresses f sound) ∙ ap (map address_of) addresses-are ∙ held.addresses)
+      (ap (drop 2) after_field-is)
 
 -- ---- bytes that are a frame
 

@@ -3,26 +3,28 @@ use Rattle.std.specs.Prelude.{ℕ, ◌+◌, ◌-◌, ◌*◌, ◌<◌, Bool, nat
 use Rattle.std.specs.Prelude.{replicate}
 use Rattle.aprs_ax25.specs.Callsign.{Call, IsCall}
 
--- a callsign, and the three high bits of the octet of its SSID: the C or H bit and two reserved
--- ones
+-- An address is a callsign and the three high bits of its last octet: the C or H bit, and two
+-- reserved ones.
 pub record Address : Type 0 where
   pub call : Call
   pub flags : ℕ
 
-pub record IsAddress (a : Address) : Type 0 where
-  pub call : IsCall a.call
-  pub flags : a.flags < 8
+-- It has a callsign that can be, and its flags are three bits.
+pub record IsAddress (address : Address) : Type 0 where
+  pub call : IsCall address.call
+  pub flags : address.flags < 8
 
--- padded with spaces to six bytes
+-- The letters, padded with spaces to six bytes.
 abbrev pub padded : List ℕ → List ℕ
 padded letters = letters ++ replicate (6 - length letters) 32
 
--- Six octets of the callsign, shifted left by one bit, and the octet of the flags, the SSID and the
--- extension bit.
+-- The seven octets of an address: the padded letters, shifted left by one bit, and an octet of the
+-- flags, the SSID and the extension bit.
 abbrev pub address_octets : ℕ → Address → List ℕ
-address_octets extension a =
-    map (λ b. 2 * b) (padded a.call.letters) ++ (32 * a.flags + 2 * a.call.ssid + extension) ∷ []
+address_octets extension address =
+    map (λ b. 2 * b) (padded address.call.letters)
+    ++ (32 * address.flags + 2 * address.call.ssid + extension) ∷ []
 
--- the H bit is 1: the digipeater has repeated the frame
+-- The H bit is 1: the digipeater has repeated the frame.
 abbrev pub is_repeated : Address → Bool
-is_repeated a = nat_le 4 a.flags
+is_repeated address = nat_le 4 address.flags

@@ -2,33 +2,38 @@
 use Rattle.std.specs.Prelude.{◌≡◌, ℕ, ◌<◌, ◌≤◌, List, [], ◌∷◌, ◌++◌, length}
 use Rattle.std.specs.List.{AllByRecursion}
 use Rattle.aprs_ax25.specs.Address.{Address, IsAddress, address_octets}
+use Rattle.aprs_ax25.specs.declared.scan.TheConstants.{CONTROL_UI, PID_NONE}
 
+-- The parts of a frame.
 pub record Parts : Type 0 where
   pub destination : Address
   pub source : Address
   pub digipeaters : List Address
   pub info : List ℕ
 
--- the addresses one after another, the extension bit being 1 in the last alone
+-- The octets of the addresses, one after another; the extension bit is 1 in the last alone.
 abbrev pub address_field : List Address → List ℕ
 address_field [] = []
-address_field (a ∷ []) = address_octets 1 a
-address_field (a ∷ b ∷ more) = address_octets 0 a ++ address_field (b ∷ more)
+address_field (last ∷ []) = address_octets 1 last
+address_field (first ∷ next ∷ more) = address_octets 0 first ++ address_field (next ∷ more)
 
--- the address field, control 03 (UI), PID F0 (no layer 3) and the information
+-- The bytes of a frame: the address field, control 03 (UI), PID F0 (no layer 3) and the
+-- information.
 abbrev pub spelling : Parts → List ℕ
-spelling p = address_field (p.destination ∷ p.source ∷ p.digipeaters) ++ 3 ∷ 240 ∷ p.info
+spelling parts =
+    address_field (parts.destination ∷ parts.source ∷ parts.digipeaters)
+    ++ CONTROL_UI ∷ PID_NONE ∷ parts.info
 
--- the parts that a frame may have
-pub record IsParts (p : Parts) : Type 0 where
-  pub destination : IsAddress p.destination
-  pub source : IsAddress p.source
-  pub digipeaters : AllByRecursion IsAddress p.digipeaters
-  pub few : length p.digipeaters ≤ 8
-  pub some : 0 < length p.info
-  pub most : length p.info ≤ 256
+-- A frame may have these parts: at most 8 digipeaters, and 1 to 256 bytes of information.
+pub record IsParts (parts : Parts) : Type 0 where
+  pub destination : IsAddress parts.destination
+  pub source : IsAddress parts.source
+  pub digipeaters : AllByRecursion IsAddress parts.digipeaters
+  pub few : length parts.digipeaters ≤ 8
+  pub some : 0 < length parts.info
+  pub most : length parts.info ≤ 256
 
--- the bytes are the frame of these parts
-pub record FrameOf (p : Parts) (bytes : List ℕ) : Type 0 where
-  pub parts : IsParts p
-  pub spelled : bytes ≡ spelling p
+-- The bytes are the frame of these parts.
+pub record FrameOf (made_of : Parts) (bytes : List ℕ) : Type 0 where
+  pub parts : IsParts made_of
+  pub spelled : bytes ≡ spelling made_of

@@ -6,91 +6,100 @@ use Rattle.std.specs.List.{list_all, find, position_or_len}
 use Rattle.aprs_ax25.specs.Callsign.{Call, is_callsign_byte}
 use Rattle.aprs_ax25.specs.Address.{Address}
 use Rattle.aprs_ax25.specs.Frame.{Parts}
+use Rattle.aprs_ax25.specs.declared.scan.TheConstants.{CONTROL_UI, PID_NONE}
 use Rattle.aprs_ax25.specs.declared.fault.FrameFault.{FrameFault}
 use Rattle.aprs_ax25.specs.declared.fault.FrameFault.TheVariants.{Address as AddressFault, Callsign}
 use Rattle.aprs_ax25.specs.declared.fault.FrameFault.TheVariants.{Control, Pid, NoInfo, LongInfo}
 
--- bit 0 of the octet is 1
+-- Bit 0 of the octet is 1.
 abbrev pub ends_field : ℕ → Bool
 ends_field octet = octet % 2 == 1
 
--- how many octets there are up to the first with bit 0 set, and one more than all where none has it
+-- How many octets there are up to the first with bit 0 set, or one more than all where none has it.
 abbrev pub field_len : List ℕ → ℕ
 field_len bytes = position_or_len ends_field bytes + 1
 
--- 2 to 10 addresses of seven octets each
+-- So many octets are 2 to 10 addresses of seven octets each.
 abbrev pub is_field_len : ℕ → Bool
 is_field_len n = n % 7 == 0 && nat_le 14 n && nat_le n 70
 
--- n pieces of seven octets from the front on
+-- The first n pieces of seven octets each.
 abbrev pub sevens : ℕ → List ℕ → List (List ℕ)
 sevens zero bytes = []
 sevens (suc n) bytes = take 7 bytes ∷ sevens n (drop 7 bytes)
 
--- an octet that, shifted right by one bit, is no capital or digit
+-- Shifted right by one bit, the octet is neither a capital nor a digit.
 abbrev pub is_no_letter : ℕ → Bool
 is_no_letter octet = not (is_callsign_byte (octet / 2))
 
--- how many of an address's first six octets stand before the first of these
+-- How many of an address's first six octets stand before the first such octet.
 abbrev pub letters_len : List ℕ → ℕ
 letters_len octets = position_or_len is_no_letter (take 6 octets)
 
--- an octet that, shifted right, is a space
+-- Shifted right by one bit, the octet is a space.
 abbrev pub is_space_octet : ℕ → Bool
 is_space_octet octet = octet / 2 == 32
 
--- an address's first six octets, shifted right, are 1 to 6 capitals or digits, and then spaces
--- alone
+-- The first six octets of an address, shifted right by one bit, are 1 to 6 capitals or digits, and
+-- then spaces alone.
 abbrev pub has_callsign : List ℕ → Bool
 has_callsign octets = nat_lt 0 (letters_len octets) && list_all is_space_octet
     (drop (letters_len octets) (take 6 octets))
 
--- the octets up to the one that ends the address field, and those after it
+-- The octets up to the one that ends the address field.
 abbrev pub field_of : List ℕ → List ℕ
 field_of bytes = take (field_len bytes) bytes
 
+-- The octets after the address field.
 abbrev pub after_field : List ℕ → List ℕ
 after_field bytes = drop (field_len bytes) bytes
 
--- the addresses, of seven octets each
+-- The addresses of the field, of seven octets each.
 abbrev pub addresses : List ℕ → List (List ℕ)
 addresses bytes = sevens (length (field_of bytes) / 7) (field_of bytes)
 
--- the sentence of each fault; `slice_index` is 0 past the end
+-- What each fault says of the bytes, in this order: the field isn't 2 to 10 addresses; an address
+-- has
+-- no callsign; control isn't UI; PID isn't "no layer 3"; there is no information, or more than 256
+-- bytes of it. `slice_index` is 0 past the end.
 abbrev pub is_wrong : FrameFault → List ℕ → Bool
 is_wrong AddressFault bytes =
     not (nat_le (field_len bytes) (length bytes) && is_field_len (field_len bytes))
 is_wrong Callsign bytes = not (list_all has_callsign (addresses bytes))
-is_wrong Control bytes = not (slice_index (after_field bytes) 0 == 3)
-is_wrong Pid bytes = not (slice_index (after_field bytes) 1 == 240)
+is_wrong Control bytes = not (slice_index (after_field bytes) 0 == CONTROL_UI)
+is_wrong Pid bytes = not (slice_index (after_field bytes) 1 == PID_NONE)
 is_wrong NoInfo bytes = nat_le (length (after_field bytes)) 2
 is_wrong LongInfo bytes = nat_lt 258 (length (after_field bytes))
 
--- the first fault whose sentence is true
+-- The first fault that is true of the bytes.
 abbrev pub frame_fault : List ℕ → Option FrameFault
 frame_fault bytes =
     find (λ fault. is_wrong fault bytes)
     (AddressFault ∷ Callsign ∷ Control ∷ Pid ∷ NoInfo ∷ LongInfo ∷ [])
 
--- what reading the bytes gives
+-- The bytes, unless there is a fault.
 abbrev pub unless_fault : List ℕ → Option FrameFault → Result (List ℕ) FrameFault
 unless_fault bytes None = Ok bytes
 unless_fault bytes (Some fault) = Err fault
 
+-- What reading the bytes gives: the bytes, or their first fault.
 abbrev pub frame_of : List ℕ → Result (List ℕ) FrameFault
 frame_of bytes = unless_fault bytes (frame_fault bytes)
 
 -- ---- the parts of bytes that are a frame
 
+-- The callsign that the octets of an address spell.
 abbrev pub call_of : List ℕ → Call
 call_of octets = record {
   letters = map (λ o. o / 2) (take (letters_len octets) octets);
   ssid = (slice_index octets 6 / 2) % 16;
 }
 
+-- The address that seven octets spell.
 abbrev pub address_of : List ℕ → Address
 address_of octets = record { call = call_of octets; flags = slice_index octets 6 / 32 }
 
+-- The parts that the bytes of a frame spell.
 abbrev pub parts_of : List ℕ → Parts
 parts_of bytes = record {
   destination = address_of (take 7 bytes);

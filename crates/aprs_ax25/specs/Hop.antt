@@ -2,5 +2,6 @@
 use Rattle.aprs_ax25.specs.Address.{Address, is_repeated}
 use Rattle.aprs_ax25.specs.declared.hop.Hop.{Hop}
 
+-- The digipeater of an address.
 abbrev pub hop_of : Address → Hop
-hop_of a = record { call = a.call; repeated = is_repeated a }
+hop_of address = record { call = address.call; repeated = is_repeated address }

@@ -7,7 +7,7 @@ pub mod FrameFault
 pub mod Fault
 pub mod Scan
 pub mod Plain
-pub mod Law
+pub mod Laws
 pub mod Hop
 pub mod CallText
 pub mod Making

@@ -7,17 +7,20 @@ use Rattle.aprs_ax25.specs.declared.hop.Hop.{Hop}
 use Rattle.aprs_ax25.specs.declared.fault.MakeFault.{MakeFault}
 use Rattle.aprs_ax25.specs.declared.fault.MakeFault.TheVariants.{Hops, NoInfo, LongInfo}
 
--- a digipeater's H bit, and both reserved bits 1
+-- A digipeater's address: the H bit says whether it has repeated the frame, and both reserved bits
+-- are 1.
 abbrev pub hop_address : Hop → Address
 hop_address hop = record { call = hop.call; flags = (if hop.repeated then 7 else 3) }
 
--- a command: the destination's C bit 1 and the source's 0; both reserved bits 1
+-- The destination's address in a command: its C bit and both reserved bits are 1.
 abbrev pub destination_address : Call → Address
 destination_address call = record { call = call; flags = 7 }
 
+-- The source's address in a command: its C bit is 0, and both reserved bits are 1.
 abbrev pub source_address : Call → Address
 source_address call = record { call = call; flags = 3 }
 
+-- The parts of the frame that is made of these.
 abbrev pub made_parts : Call → Call → List Hop → List ℕ → Parts
 made_parts destination source hops info = record {
   destination = destination_address destination;
@@ -26,7 +29,7 @@ made_parts destination source hops info = record {
   info = info;
 }
 
--- the first fault of so many digipeaters and bytes of information
+-- The first fault of so many digipeaters and so many bytes of information.
 abbrev pub make_fault : ℕ → ℕ → Option MakeFault
 make_fault hops info = if nat_lt 8 hops then Some Hops
     else (if info == 0 then Some NoInfo else (if nat_lt 256 info then Some LongInfo else None))

@@ -5,11 +5,11 @@ use Rattle.std.specs.List.{list_all}
 use Rattle.aprs_ax25.specs.Callsign.{is_callsign_byte}
 use Rattle.aprs_ax25.specs.FrameFault.{ends_field, has_callsign}
 
--- a capital or a digit, shifted left by one bit
+-- The octet is a capital or a digit, shifted left by one bit.
 abbrev pub is_letter_octet : ℕ → Bool
 is_letter_octet octet = is_callsign_byte (octet / 2 + 128 * (octet % 2))
 
--- letters and then spaces; or spaces alone, where what stands before is no letter
+-- After a letter the octets are letters and then spaces; otherwise they are spaces alone.
 abbrev pub letters_then_spaces : Bool → List ℕ → Bool
 letters_then_spaces after_letter [] = true
 letters_then_spaces after_letter (octet ∷ more) =
@@ -23,7 +23,7 @@ may_follow i before octet =
     ((i == 5 || nat_le 12 i) || (is_letter_octet octet && (i == 6 || is_letter_octet before)))
     || (not (i == 6) && octet == 64)
 
--- a callsign in the first six octets, none of which ends the field
+-- The first six octets are a callsign, and none of them ends the field.
 pub record IsPlainAddress (octets : List ℕ) : Type 0 where
   pub callsign : has_callsign octets ≡ true
   pub even : list_all (λ octet. not (ends_field octet)) (take 6 octets) ≡ true

@@ -1,4 +1,4 @@
--- What the steps of reading answer. No public contract cites these.
+-- What the steps of reading return. No public contract cites these.
 use Rattle.std.specs.Prelude.{◌≡◌, ℕ, ◌==◌, true, false, not, nat_le, nat_lt, if◌then◌else◌, List}
 use Rattle.std.specs.Prelude.{length, slice_index, Option, None, Some, MatchOption, Result}
 use Rattle.std.specs.Prelude.{MatchResult}
@@ -10,27 +10,31 @@ use Rattle.aprs_ax25.specs.declared.fault.CallFault.{CallFault}
 use Rattle.aprs_ax25.specs.declared.fault.CallFault.TheVariants.{Length, Character, Ssid}
 use Rattle.std.specs.Borrow.{Bor}
 use Rattle.aprs_ax25.specs.FrameFault.{field_of, after_field, is_wrong}
+use Rattle.aprs_ax25.specs.declared.scan.TheConstants.{CONTROL_UI, PID_NONE}
 use Rattle.aprs_ax25.specs.declared.fault.FrameFault.{FrameFault}
 use Rattle.aprs_ax25.specs.declared.fault.FrameFault.TheVariants.{Address, Control, Pid, NoInfo}
 use Rattle.aprs_ax25.specs.declared.fault.FrameFault.TheVariants.{LongInfo}
 
+-- The bytes are split after the address field, unless this is no field.
 abbrev pub SplitsField : Option (Bor (List ℕ) × Bor (List ℕ)) → List ℕ → Type 0
 SplitsField r bytes = MatchOption r (is_wrong Address bytes ≡ true)
     (λ p. (is_wrong Address bytes ≡ false) × (p.0.now ≡ field_of bytes)
     × (p.1.now ≡ after_field bytes))
 
+-- The fault of so many bytes of information.
 abbrev pub fault_of_info : ℕ → Option FrameFault
 fault_of_info len = if len == 0 then Some NoInfo
     else (if nat_lt 256 len then Some LongInfo else None)
 
+-- The first fault of what stands after the address field.
 abbrev pub fault_after_field : List ℕ → Option FrameFault
 fault_after_field rest =
-    if not (slice_index rest 0 == 3) then Some Control
-    else (if not (slice_index rest 1 == 240) then Some Pid
+    if not (slice_index rest 0 == CONTROL_UI) then Some Control
+    else (if not (slice_index rest 1 == PID_NONE) then Some Pid
     else (if nat_le (length rest) 2 then Some NoInfo
     else (if nat_lt 258 (length rest) then Some LongInfo else None)))
 
--- the SSID whose text it is, by its digits
+-- The SSID that a text names, by its digits.
 abbrev pub ssid_of : List ℕ → Option ℕ
 ssid_of [] = Some 0
 ssid_of (dash ∷ []) = None
@@ -38,17 +42,18 @@ ssid_of (dash ∷ d ∷ []) = if nat_le 49 d && nat_le d 57 then Some (d - 48) e
 ssid_of (dash ∷ c ∷ d ∷ []) = if c == 49 && nat_le 48 d && nat_le d 53 then Some (d - 38) else None
 ssid_of (dash ∷ b ∷ c ∷ d ∷ more) = None
 
+-- What each fault says of a callsign's text, as a test.
 abbrev pub is_wrong_call : CallFault → List ℕ → Bool
 is_wrong_call Length text =
     not (nat_le 1 (length (before_dash text)) && nat_le (length (before_dash text)) 6)
 is_wrong_call Character text = not (list_all is_callsign_byte (before_dash text))
 is_wrong_call Ssid text = is_none (ssid_of (from_dash text))
 
--- the first fault of a callsign's text
+-- The first fault of a callsign's text.
 abbrev pub call_fault : List ℕ → Option CallFault
 call_fault text = find (λ fault. is_wrong_call fault text) (Length ∷ Character ∷ Ssid ∷ [])
 
--- the letters and the SSID of a callsign's text, or its first fault
+-- The letters and the SSID of a callsign's text, or its first fault.
 abbrev pub PartsOf : List ℕ → Result (Bor (List ℕ) × ℕ) CallFault → Type 0
 PartsOf text r = MatchResult r
     (λ p. (call_fault text ≡ None) × (p.0.now ≡ before_dash text)

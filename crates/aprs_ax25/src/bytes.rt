@@ -1,8 +1,11 @@
-//! Short byte vectors, which take no memory.
+//! Short byte vectors, which take no memory, and the length of the longest frame.
 ghost use Rattle.std.specs.Prelude.{◌≡◌, ◌+◌, ◌≤◌, ◌++◌, length};
 ghost use Rattle.arrayvec.specs.ArrayVec.{array_vec_len};
 
 use arrayvec::ArrayVec;
+
+/// The most bytes of a UI frame: 10 addresses of 7 octets, control, PID and 256 of information.
+pub const MAX_UI_FRAME: usize = 328;
 
 /// The same bytes again.
 pub fn copied<const N: usize>(bytes: &ArrayVec<u8, N>) -> ArrayVec<u8, N>

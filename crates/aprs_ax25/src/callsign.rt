@@ -15,7 +15,7 @@ ghost use Rattle.std.proofs.Common.{rules};
 ghost use Rattle.std.specs.Cmp.{partial_order_from_own_ties};
 ghost use Rattle.std.specs.Cmp.Rules.{comparing};
 
-use crate::bytes::{copied, push_all};
+use crate::bytes::{MAX_UI_FRAME, copied, push_all};
 use crate::fault::CallFault;
 use crate::scan::is_callsign_byte;
 use arrayvec::ArrayVec;
@@ -43,8 +43,8 @@ impl Model for Callsign {
 }
 
 impl Callsign {
-    /// The callsign of this text, or the first fault in the order of the faults' numbers. Takes no
-    /// memory.
+    /// The callsign that this is the text of, or the first fault in the order of the faults'
+    /// numbers. Takes no memory.
     pub fn parse(text: &[u8]) -> Result<Callsign, CallFault>
         ensures found { IfOk result (λ c. CallText c text.now) }
         ensures only { (c : Call) → CallText c text.now → result ≡ Ok c }
@@ -52,7 +52,7 @@ impl Callsign {
     {
         match parts_of(text) {
             Ok((letters, ssid)) => Ok(Callsign {
-                letters: short(letters),
+                letters: up_to_six(letters),
                 ssid,
             }),
             Err(fault) => Err(fault),
@@ -89,8 +89,13 @@ impl Callsign {
     }
 
     /// Puts an address of this callsign at the end.
-    pub(crate) fn push_address(&self, out: &mut ArrayVec<u8, 328>, flags: u8, extension: u8)
-        requires room { array_vec_len out.old + 7 ≤ 328 }
+    pub(crate) fn push_address(
+        &self,
+        out: &mut ArrayVec<u8, MAX_UI_FRAME>,
+        flags: u8,
+        extension: u8,
+    )
+        requires room { array_vec_len out.old + 7 ≤ MAX_UI_FRAME }
         requires flags { flags < 8 }
         requires extension { extension < 2 }
         ensures octets { out.new.items ≡ out.old.items
@@ -101,8 +106,8 @@ impl Callsign {
         out.push(32 * flags + 2 * self.ssid + extension);
     }
 
-    /// The callsign that an address's seven octets have.
-    pub(crate) fn at(octets: &[u8]) -> Callsign
+    /// The callsign in the seven octets of an address.
+    pub(crate) fn from_octets(octets: &[u8]) -> Callsign
         requires seven { length octets.now ≡ 7 }
         requires callsign { has_callsign octets.now ≡ true }
         ensures { result ≡ call_of octets.now }
@@ -163,7 +168,7 @@ fn letters_of(octets: &[u8]) -> ArrayVec<u8, 6>
     letters
 }
 
-/// Puts them at the end.
+/// Puts these letters or digits at the end.
 fn push_letters<const N: usize>(out: &mut ArrayVec<u8, N>, octets: &[u8])
     requires six { 6 ≤ length octets.now }
     requires room { array_vec_len out.old + 6 ≤ N }
@@ -180,7 +185,7 @@ fn push_letters<const N: usize>(out: &mut ArrayVec<u8, N>, octets: &[u8])
     }
 }
 
-/// Puts at the end the text of the callsign that an address's seven octets have.
+/// Puts the text of the callsign in the seven octets of an address at the end.
 pub fn push_text_at<const N: usize>(out: &mut ArrayVec<u8, N>, octets: &[u8])
     requires room { array_vec_len out.old + 9 ≤ N }
     requires seven { length octets.now ≡ 7 }
@@ -245,8 +250,8 @@ fn ssid_of(dash: &[u8]) -> Option<u8>
     }
 }
 
-/// At most six bytes.
-fn short(bytes: &[u8]) -> ArrayVec<u8, 6>
+/// The same bytes, of which there are at most six.
+fn up_to_six(bytes: &[u8]) -> ArrayVec<u8, 6>
     requires { length bytes.now ≤ 6 }
     ensures { result.items ≡ bytes.now }
 {
@@ -259,8 +264,8 @@ fn short(bytes: &[u8]) -> ArrayVec<u8, 6>
 const SPACES: [u8; 6] = [64; 6];
 
 /// Puts letters at the end, padded with spaces to six and shifted left by one bit.
-fn push_padded(out: &mut ArrayVec<u8, 328>, letters: &[u8])
-    requires room { array_vec_len out.old + 6 ≤ 328 }
+fn push_padded(out: &mut ArrayVec<u8, MAX_UI_FRAME>, letters: &[u8])
+    requires room { array_vec_len out.old + 6 ≤ MAX_UI_FRAME }
     requires six { length letters.now ≤ 6 }
     requires bytes { list_all is_callsign_byte letters.now ≡ true }
     ensures { out.new.items ≡ out.old.items ++ map (λ b. 2 * b) (padded letters.now) }

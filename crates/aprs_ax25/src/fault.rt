@@ -1,4 +1,4 @@
-//! Why bytes are refused.
+//! Why bytes are no frame or callsign, and why parts make no frame.
 ghost use Rattle.std.specs.Prelude.{◌≡◌, codes};
 ghost use Rattle.aprs_ax25.specs.Fault.{frame_fault_number, frame_fault_name, call_fault_number};
 ghost use Rattle.aprs_ax25.specs.Fault.{call_fault_name, make_fault_number, make_fault_name};
@@ -7,8 +7,8 @@ ghost use Rattle.aprs_ax25.specs.Fault.{call_fault_name, make_fault_number, make
 /// numbers.
 #[derive(Clone, Copy, Debug, PartialEq, Eq)]
 pub enum FrameFault {
-    /// The first octet with its extension bit set doesn't end 2 to 10 addresses, or there is none
-    /// (AX.25 2.2, section 3.12).
+    /// The first octet with its extension bit set doesn't end 2 to 10 addresses, or no octet has it
+    /// set (AX.25 2.2, section 3.12).
     Address,
     /// An address's callsign isn't 1 to 6 capitals or digits, padded with spaces.
     Callsign,
@@ -56,11 +56,11 @@ impl FrameFault {
 /// numbers.
 #[derive(Clone, Copy, Debug, PartialEq, Eq)]
 pub enum CallFault {
-    /// Before the first dash don't stand 1 to 6 bytes.
+    /// The part before the first dash isn't 1 to 6 bytes long.
     Length,
-    /// One of those is no capital or digit.
+    /// A byte before the first dash is neither a capital nor a digit.
     Character,
-    /// Behind the dash stands no number of 1 to 15 without leading zero.
+    /// What follows the dash isn't a number from 1 to 15 without a leading zero.
     Ssid,
 }
 

@@ -19,7 +19,7 @@ ghost use Rattle.std.specs.Cmp.{partial_order_from_own_ties};
 ghost use Rattle.std.specs.Cmp.Rules.{comparing};
 ghost use Rattle.aprs_ax25.specs.Order.{bytes_cmp, bytes_eq};
 
-use crate::bytes::{copied, push_all};
+use crate::bytes::{MAX_UI_FRAME, copied, push_all};
 use crate::callsign::{Callsign, push_text_at};
 use crate::fault::{FrameFault, MakeFault};
 use crate::hop::Hop;
@@ -34,7 +34,7 @@ use std::marker::Model;
 /// ordered by their bytes.
 #[derive(Eq, Drop)]
 pub struct Frame {
-    bytes: ArrayVec<u8, 328>,
+    bytes: ArrayVec<u8, MAX_UI_FRAME>,
 }
 
 impl Model for Frame {
@@ -56,20 +56,20 @@ impl Frame {
     /// The frame that is all the bytes, or the first fault in the order of the faults' numbers.
     /// Takes no memory.
     pub fn read(bytes: &[u8]) -> Result<Frame, FrameFault>
-        // What is read is the bytes, or why not is the first fault of them.
+        // The result is the bytes, or the first fault of them.
         ensures exact { result ≡ frame_of bytes.now }
-        // What is read is a frame of the grammar, and each such frame is read.
+        // What is read is a frame of the grammar, and each frame of the grammar is read.
         ensures frame { IfOk result (λ frame. FrameOf (parts_of frame) frame) }
         ensures only { (parts : Parts) → FrameOf parts bytes.now → IsOk result }
     {
         match fault_in(bytes) {
             Some(fault) => Err(fault),
-            None => Ok(Frame::of(bytes)),
+            None => Ok(Frame::from_bytes(bytes)),
         }
     }
 
-    /// Reads the frame that is all the bytes in the place of this one, or answers the first fault
-    /// as `read` does. Takes no memory.
+    /// Reads the frame that is all the bytes in the place of this one, or returns the first fault
+    /// as `read` does, and then this one stays. Takes no memory.
     pub fn reread(&mut self, bytes: &[u8]) -> Result<(), FrameFault>
         ensures read { OnOk result (frame_of bytes.now ≡ Ok self.new) }
         ensures fault { IfErr result (λ fault. frame_of bytes.now ≡ Err fault) }
@@ -78,7 +78,7 @@ impl Frame {
         match fault_in(bytes) {
             Some(fault) => Err(fault),
             None => {
-                self.put(bytes);
+                self.assign(bytes);
                 Ok(())
             }
         }
@@ -86,15 +86,15 @@ impl Frame {
 
     /// The frame of these parts, as a command (AX.25 2.2, section 6.1.2): the destination's C bit
     /// is 1 and the source's 0, each H bit says whether the digipeater has repeated the frame, and
-    /// all reserved bits are 1. Refuses more than 8 digipeaters, and information that isn't 1 to
-    /// 256 bytes, in this order. Takes no memory.
+    /// all reserved bits are 1. It is a fault if there are more than 8 digipeaters, or the
+    /// information isn't 1 to 256 bytes, in this order. Takes no memory.
     pub fn make(
         destination: &Callsign,
         source: &Callsign,
         hops: &[Hop],
         info: &[u8],
     ) -> Result<Frame, MakeFault>
-        // Which fault it is, or that none is.
+        // The call fails exactly with the first fault of the parts, if they have one.
         ensures fault { result_err result ≡ make_fault (length hops.now) (length info.now) }
         // The frame is spelled from these parts, and is read as these parts.
         ensures spelled { IfOk result (λ frame. FrameOf
@@ -102,7 +102,7 @@ impl Frame {
         ensures parts { IfOk result (λ frame. parts_of frame ≡ made_parts destination.now
             source.now hops.now info.now) }
     {
-        match refused(hops.len(), info.len()) {
+        match make_fault(hops.len(), info.len()) {
             Some(fault) => Err(fault),
             None => Ok(Frame::spelled(destination, source, hops, info)),
         }
@@ -122,7 +122,7 @@ impl Frame {
     }
 
     /// The frame that is all the bytes.
-    fn of(bytes: &[u8]) -> Frame
+    fn from_bytes(bytes: &[u8]) -> Frame
         requires { frame_fault bytes.now ≡ None }
         ensures value { result ≡ bytes.now }
         ensures frame { FrameOf (parts_of bytes.now) bytes.now }
@@ -132,8 +132,8 @@ impl Frame {
         Frame { bytes: held }
     }
 
-    /// Puts the frame that is all the bytes in the place of this one.
-    fn put(&mut self, bytes: &[u8])
+    /// Makes this one the frame that is all the bytes.
+    fn assign(&mut self, bytes: &[u8])
         requires { frame_fault bytes.now ≡ None }
         ensures { self.new ≡ bytes.now }
     {
@@ -145,7 +145,7 @@ impl Frame {
     pub fn bytes(&self) -> &[u8]
         ensures value { result.now ≡ self.now }
         ensures frame { FrameOf (parts_of self.now) self.now }
-        ensures most { length result.now ≤ 328 }
+        ensures most { length result.now ≤ MAX_UI_FRAME }
     {
         self.bytes.as_slice()
     }
@@ -154,7 +154,7 @@ impl Frame {
     pub fn source(&self) -> Callsign
         ensures { result ≡ (parts_of self.now).source.call }
     {
-        Callsign::at(seven_at(&self.bytes, 7))
+        Callsign::from_octets(seven_at(&self.bytes, 7))
     }
 
     /// The destination, which APRS uses for the sender's software or equipment (APRS Protocol
@@ -162,7 +162,7 @@ impl Frame {
     pub fn destination(&self) -> Callsign
         ensures { result ≡ (parts_of self.now).destination.call }
     {
-        Callsign::at(seven_at(&self.bytes, 0))
+        Callsign::from_octets(seven_at(&self.bytes, 0))
     }
 
     /// Puts the source's text at the end, as `source` and `Callsign::text` give it: at most 9
@@ -220,7 +220,7 @@ impl Frame {
         ensures { result ≡ option_map hop_of (slice_get (parts_of self.now).digipeaters i) }
     {
         if i < self.hops() {
-            Some(Hop::at(seven_at(&self.bytes, 7 * (i + 2))))
+            Some(Hop::from_octets(seven_at(&self.bytes, 7 * (i + 2))))
         } else {
             None
         }
@@ -293,7 +293,7 @@ fn fault_in(bytes: &[u8]) -> Option<FrameFault>
 }
 
 /// The first fault of so many digipeaters and bytes of information.
-fn refused(hops: usize, info: usize) -> Option<MakeFault>
+fn make_fault(hops: usize, info: usize) -> Option<MakeFault>
     ensures { result ≡ make_fault hops info }
 {
     if hops > 8 {
@@ -308,7 +308,12 @@ fn refused(hops: usize, info: usize) -> Option<MakeFault>
 }
 
 /// Puts the address field into `out`, which is empty.
-fn push_field(out: &mut ArrayVec<u8, 328>, destination: &Callsign, source: &Callsign, hops: &[Hop])
+fn push_field(
+    out: &mut ArrayVec<u8, MAX_UI_FRAME>,
+    destination: &Callsign,
+    source: &Callsign,
+    hops: &[Hop],
+)
     requires empty { out.old.items ≡ [] }
     requires few { length hops.now ≤ 8 }
     ensures field { out.new.items ≡ address_field (destination_address destination.now
@@ -330,7 +335,7 @@ fn extension_bit(is_last: bool) -> u8
 }
 
 /// Puts the digipeaters' addresses at the end, the extension bit being 1 in the last.
-fn push_hops(out: &mut ArrayVec<u8, 328>, hops: &[Hop])
+fn push_hops(out: &mut ArrayVec<u8, MAX_UI_FRAME>, hops: &[Hop])
     requires room { array_vec_len out.old ≡ 14 }
     requires few { length hops.now ≤ 8 }
     ensures field { out.new.items ≡ out.old.items ++ address_field (map hop_address hops.now) }

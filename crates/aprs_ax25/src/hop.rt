@@ -4,12 +4,14 @@ ghost use Rattle.arrayvec.specs.ArrayVec.{array_vec_len};
 ghost use Rattle.aprs_ax25.specs.Address.{IsAddress, address_octets};
 ghost use Rattle.aprs_ax25.specs.FrameFault.{has_callsign, address_of};
 
+use crate::bytes::MAX_UI_FRAME;
 use crate::callsign::Callsign;
 use arrayvec::ArrayVec;
 
 /// A digipeater that a frame names (AX.25 2.2, section 3.12.5).
 #[derive(PartialEq, Eq, Drop)]
 pub struct Hop {
+    /// The digipeater's callsign.
     pub call: Callsign,
     /// Whether the digipeater has repeated the frame: its H bit.
     pub repeated: bool,
@@ -20,8 +22,8 @@ impl Hop {
     ghost use Rattle.aprs_ax25.specs.Making.{hop_address};
 
     /// Puts the digipeater's address at the end.
-    pub(crate) fn push(&self, out: &mut ArrayVec<u8, 328>, extension: u8)
-        requires room { array_vec_len out.old + 7 ≤ 328 }
+    pub(crate) fn push(&self, out: &mut ArrayVec<u8, MAX_UI_FRAME>, extension: u8)
+        requires room { array_vec_len out.old + 7 ≤ MAX_UI_FRAME }
         requires extension { extension < 2 }
         ensures octets { out.new.items ≡ out.old.items
             ++ address_octets extension (hop_address self.now) }
@@ -31,14 +33,14 @@ impl Hop {
         self.call.push_address(out, flags, extension);
     }
 
-    /// The digipeater that an address's seven octets have.
-    pub(crate) fn at(octets: &[u8]) -> Hop
+    /// The digipeater in the seven octets of an address.
+    pub(crate) fn from_octets(octets: &[u8]) -> Hop
         requires seven { length octets.now ≡ 7 }
         requires callsign { has_callsign octets.now ≡ true }
         ensures { result ≡ hop_of (address_of octets.now) }
     {
         Hop {
-            call: Callsign::at(octets),
+            call: Callsign::from_octets(octets),
             repeated: octets[6] >= 128,
         }
     }

@@ -6,7 +6,7 @@ mod callsign;
 mod fault;
 mod frame;
 mod hop;
-mod law;
+mod laws;
 mod plain;
 mod scan;
 
@@ -14,7 +14,7 @@ pub use callsign::Callsign;
 pub use fault::{CallFault, FrameFault, MakeFault};
 pub use frame::Frame;
 pub use hop::Hop;
-pub use law::each_is_a_frame_or_refused;
+pub use laws::each_is_a_frame_or_refused;
 
 #[cfg(test)]
 mod tests;

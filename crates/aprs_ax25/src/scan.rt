@@ -56,7 +56,7 @@ fn ends_address(frame: &[u8], end: usize) -> bool
     frame[end - 1] % 2 == 1
 }
 
-/// How many of an address's first six octets are letters or digits, from the front on.
+/// How many of an address's first six octets are letters or digits, from the first on.
 pub fn letters_len(octets: &[u8]) -> usize
     requires { 6 ≤ length octets.now }
     ensures value { result ≡ letters_len octets.now }

@@ -1,9 +1,9 @@
--- Lemmas on the bytes that a writer tells.
+-- Lemmas on the bytes that go out of a writer.
 use Rattle.std.proofs.Common.{◌≡◌, Result, Ok, Err, OnOk, OnErr, ℕ, ◌-◌, List, [], ◌++◌, refl, subst, append-nil, length, take, drop, Option, sym, ap, ◌∙◌, append_assoc, take-append-drop}
 use Rattle.std.proofs.lemmas.List.{take_rest}
 use Rattle.std.specs.Io.KnownBytes.{Appends}
 use Rattle.std.proofs.KnownBytes.{Appends-nil, Appends-trans}
-use Rattle.aprs_io.specs.Device.{AppendsAllBut, AppendsFront}
+use Rattle.aprs_io.specs.Device.{AppendsAllBut, AppendsPrefix}
 
 -- the writer took n bytes of what was left
 pub AppendsAllBut-more : (a b c : Option (List ℕ)) (bs rest : List ℕ) (n : ℕ)
@@ -33,11 +33,11 @@ AppendsAllBut-sent a b c bs rest part more p e q = (
   Appends-trans a b c p.0 part p.2 q,
 )
 
--- a front of the next part
-pub AppendsFront-after : (a b c : Option (List ℕ)) (bs rest part more : List ℕ)
+-- a prefix of the next part
+pub AppendsPrefix-after : (a b c : Option (List ℕ)) (bs rest part more : List ℕ)
     → AppendsAllBut a b bs rest → rest ≡ part ++ more
-    → AppendsFront b c part → AppendsFront a c bs
-AppendsFront-after a b c bs rest part more p e q = (
+    → AppendsPrefix b c part → AppendsPrefix a c bs
+AppendsPrefix-after a b c bs rest part more p e q = (
   q.0 ++ more,
   (
     p.0 ++ q.1.0,
@@ -52,23 +52,24 @@ pub Appends-from_all : (a b : Option (List ℕ)) (bs : List ℕ) → AppendsAllB
     → Appends a b bs
 Appends-from_all a b bs p = subst (Appends a b) (sym (p.1 ∙ append-nil p.0)) p.2
 
-pub AppendsFront-all : (a b : Option (List ℕ)) (bs : List ℕ) → Appends a b bs → AppendsFront a b bs
-AppendsFront-all a b bs p = ([], (bs, sym (append-nil bs), p))
+pub AppendsPrefix-all : (a b : Option (List ℕ)) (bs : List ℕ) → Appends a b bs
+    → AppendsPrefix a b bs
+AppendsPrefix-all a b bs p = ([], (bs, sym (append-nil bs), p))
 
 -- two texts, one after another
-pub AppendsFront-more : (a b : Option (List ℕ)) (bs more : List ℕ) → AppendsFront a b bs
-    → AppendsFront a b (bs ++ more)
-AppendsFront-more a b bs more p =
-    AppendsFront-after a a b (bs ++ more) (bs ++ more) bs more
+pub AppendsPrefix-more : (a b : Option (List ℕ)) (bs more : List ℕ) → AppendsPrefix a b bs
+    → AppendsPrefix a b (bs ++ more)
+AppendsPrefix-more a b bs more p =
+    AppendsPrefix-after a a b (bs ++ more) (bs ++ more) bs more
     (AppendsAllBut-none a (bs ++ more)) refl p
 
-pub AppendsFront-then : (a b c : Option (List ℕ)) (bs more : List ℕ) → Appends a b bs
-    → AppendsFront b c more → AppendsFront a c (bs ++ more)
-AppendsFront-then a b c bs more p q =
+pub AppendsPrefix-then : (a b c : Option (List ℕ)) (bs more : List ℕ) → Appends a b bs
+    → AppendsPrefix b c more → AppendsPrefix a c (bs ++ more)
+AppendsPrefix-then a b c bs more p q =
     let whole =
     AppendsAllBut-sent a a b (bs ++ more) (bs ++ more) bs more
     (AppendsAllBut-none a (bs ++ more)) refl p in
-    AppendsFront-after a b c (bs ++ more) more more [] whole (sym (append-nil more)) q
+    AppendsPrefix-after a b c (bs ++ more) more more [] whole (sym (append-nil more)) q
 
 -- ---- where a call's answer is known, or not
 
@@ -76,7 +77,7 @@ pub on_err : {T E P : Type 0} (r : Result T E) → P → OnErr r P
 on_err (Ok x) p = tt
 on_err (Err e) p = p
 
--- the last part of a text is sent, or a front of it
+-- the last part of a text is sent, or a prefix of it
 pub sent_last : {T E : Type 0} (r : Result T E) (a b c : Option (List ℕ)) (bs part : List ℕ)
     → AppendsAllBut a b bs part
     → OnOk r (Appends b c part) → OnOk r (Appends a c bs)
@@ -84,9 +85,9 @@ sent_last (Ok x) a b c bs part p q =
     Appends-from_all a c bs (AppendsAllBut-sent a b c bs part part [] p (sym (append-nil part)) q)
 sent_last (Err e) a b c bs part p q = tt
 
-pub front_of_last : {T E : Type 0} (r : Result T E) (a b c : Option (List ℕ)) (bs part : List ℕ)
+pub prefix_of_last : {T E : Type 0} (r : Result T E) (a b c : Option (List ℕ)) (bs part : List ℕ)
     → AppendsAllBut a b bs part
-    → OnErr r (AppendsFront b c part) → OnErr r (AppendsFront a c bs)
-front_of_last (Ok x) a b c bs part p q = tt
-front_of_last (Err e) a b c bs part p q =
-    AppendsFront-after a b c bs part part [] p (sym (append-nil part)) q
+    → OnErr r (AppendsPrefix b c part) → OnErr r (AppendsPrefix a c bs)
+prefix_of_last (Ok x) a b c bs part p q = tt
+prefix_of_last (Err e) a b c bs part p q =
+    AppendsPrefix-after a b c bs part part [] p (sym (append-nil part)) q

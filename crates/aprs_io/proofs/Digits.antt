@@ -17,7 +17,9 @@ place b = (bit_or b 32 + 159) % 256
 
 -- the test of one byte, which computes
 abbrev reads_letter : ℕ → Bool
-reads_letter b = if nat_lt (place b) 6 then unwrap_or (hex_digit_value b) 99 == place b + 10 else true
+reads_letter b =
+    if nat_lt (place b) 6 then unwrap_or (hex_digit_value b) 99 == place b + 10
+    else true
 
 -- the test of the first n bytes
 abbrev all_read : ℕ → Bool
@@ -46,7 +48,8 @@ pub letter_value : (b : ℕ) → b < 256 → place b < 6 → hex_digit_value b �
 letter_value b lt few =
     let t : nat_lt (place b) 6 ≡ true = lt-ltb _ _ few in
     let test : (unwrap_or (hex_digit_value b) 99 == place b + 10) ≡ true
-    = ap (λ t. cond t (unwrap_or (hex_digit_value b) 99 == place b + 10) true) (sym t) ∙ each_reads b lt in
+    = ap (λ t. cond t (unwrap_or (hex_digit_value b) 99 == place b + 10) true) (sym t)
+    ∙ each_reads b lt in
     some_from_unwrap (hex_digit_value b) (place b + 10) (omega arith) (eqb-true _ _ test)
 
 -- ---- pairs of digits
@@ -67,24 +70,29 @@ HoldsByte-of text out k h l hs ls eh el is =
     pair ∙ ap Ok (whole ∙ sym is)
 
 -- the same byte in another list
-pub HoldsByte-kept : (text before after : List ℕ) (k : ℕ) → slice_index after k ≡ slice_index before k
+pub HoldsByte-kept : (text before after : List ℕ) (k : ℕ) → slice_index after k
+    ≡ slice_index before k
     → HoldsByte text before k → HoldsByte text after k
 unfolding HoldsByte
 HoldsByte-kept text before after k same h = h ∙ ap Ok (sym same)
 
 -- one byte more
-next_byte : (text out : List ℕ) (i : ℕ) → 2 * i + 1 < length text → i < length out → HoldsByte text out i
+next_byte : (text out : List ℕ) (i : ℕ) → 2 * i + 1 < length text → i < length out
+    → HoldsByte text out i
     → decode_pairs 0 text ≡ prepend (take i out) (decode_pairs (2 * i) (drop (2 * i) text))
-    → decode_pairs 0 text ≡ prepend (take (i + 1) out) (decode_pairs (2 * (i + 1)) (drop (2 * (i + 1)) text))
+    → decode_pairs 0 text
+    ≡ prepend (take (i + 1) out) (decode_pairs (2 * (i + 1)) (drop (2 * (i + 1)) text))
 unfolding HoldsByte
 next_byte text out i fits room ok so_far =
     let v = slice_index out i in
     let rest : List ℕ = drop (2 * (i + 1)) text in
     let two : 2 * i + 2 ≡ 2 * (i + 1) = omega arith in
-    let pair = ap (decode_pairs (2 * i)) (drop-pair text i fits) ∙ decode_pairs-ok_pair (2 * i) _ _ v rest ok
+    let pair = ap (decode_pairs (2 * i)) (drop-pair text i fits)
+    ∙ decode_pairs-ok_pair (2 * i) _ _ v rest ok
     ∙ ap (λ (k : ℕ). cons_byte v (decode_pairs k rest)) two in
     so_far ∙ ap (prepend (take i out)) pair ∙ prepend-cons_byte (take i out) v _
-    ∙ ap (λ (f : List ℕ). prepend f (decode_pairs (2 * (i + 1)) rest)) (sym (take_more out i 0 room))
+    ∙ ap (λ (f : List ℕ). prepend f (decode_pairs (2 * (i + 1)) rest))
+    (sym (take_more out i 0 room))
 
 -- the first i bytes
 first_bytes : (text out : List ℕ) → length text ≡ 2 * length out
@@ -94,7 +102,8 @@ first_bytes : (text out : List ℕ) → length text ≡ 2 * length out
 first_bytes text out len all zero h = decode_start text out
 first_bytes text out len all (suc i) h =
     let one : suc i ≡ i + 1 = omega arith in
-    rw one (next_byte text out i (omega arith) (omega arith) (all i (omega arith)) (first_bytes text out len all i (omega arith)))
+    rw one (next_byte text out i (omega arith) (omega arith) (all i (omega arith))
+    (first_bytes text out len all i (omega arith)))
 
 -- a text is read where each pair of its digits is
 pub decode_of-bytes : (text out : List ℕ) → length text ≡ 2 * length out
@@ -102,7 +111,8 @@ pub decode_of-bytes : (text out : List ℕ) → length text ≡ 2 * length out
 decode_of-bytes text out len all =
     let n = length out in
     decode_of-even text (omega arith)
-    ∙ decode_done text out n (omega arith) (omega arith) (first_bytes text out len all n (omega arith))
+    ∙ decode_done text out n (omega arith) (omega arith)
+    (first_bytes text out len all n (omega arith))
 
 -- ---- a block
 
@@ -115,7 +125,8 @@ values_more digits values j v room small is so_far k below =
     elim (cases_lt k j) [
       | inl before ↦
           let other : k ≢ j = omega arith in
-          let same : slice_index (slice_set values j v) k ≡ slice_index values k = get_or-set_other values j k v 0 other in
+          let same : slice_index (slice_set values j v) k ≡ slice_index values k =
+          get_or-set_other values j k v 0 other in
           rw same (so_far k before)
       | inr top ↦
           let e : k ≡ j = omega arith in
@@ -133,16 +144,18 @@ digit_in text from j lt =
 byte_in : (out new : List ℕ) (at j : ℕ) → at + 16 ≤ length out → length new ≡ 16 → j < 16
     → slice_index (put_mid at (at + 16 - at) out new) (at + j) ≡ slice_index new j
 byte_in out new at j room len lt =
-    let front : length (take at out) ≡ at = length-take-le at out (omega arith) in
+    let before_len : length (take at out) ≡ at = length-take-le at out (omega arith) in
     let here : at + j - at ≡ j = omega arith in
-    get_or-append_right (take at out) (new ++ post_of at (at + 16 - at) out) at (at + j) 0 front (omega arith)
+    get_or-append_right (take at out) (new ++ post_of at (at + 16 - at) out) at (at + j) 0
+    before_len (omega arith)
     ∙ ap (λ n. slice_index (new ++ post_of at (at + 16 - at) out) n) here
     ∙ get_or_append_left new (post_of at (at + 16 - at) out) 0 j (omega arith)
 
 -- the bytes of a block
 pub block_bytes : (text out values new : List ℕ) (at : ℕ) → at + 16 ≤ length out → length new ≡ 16
     → ((j : ℕ) → j < 32 → HoldsValue (take (2 * at + 32 - 2 * at) (drop (2 * at) text)) values j)
-    → ((j : ℕ) → j < 16 → slice_index new j ≡ byte_of (slice_index values (2 * j)) (slice_index values (2 * j + 1)))
+    → ((j : ℕ) → j < 16 → slice_index new j
+    ≡ byte_of (slice_index values (2 * j)) (slice_index values (2 * j + 1)))
     → (k : ℕ) → at ≤ k → k < at + 16 → HoldsByte text (put_mid at (at + 16 - at) out new) k
 block_bytes text out values new at room len digits bytes k low high =
     let j : ℕ = k - at in
@@ -157,7 +170,8 @@ block_bytes text out values new at room len digits bytes k low high =
     let el : hex_digit_value (slice_index text (2 * k + 1)) ≡ Some (slice_index values (2 * j + 1))
     = ap (λ n. hex_digit_value (slice_index text n)) (sym odd)
     ∙ ap hex_digit_value (sym (digit_in text (2 * at) (2 * j + 1) (omega arith))) ∙ l.1 in
-    let is : slice_index (put_mid at (at + 16 - at) out new) k ≡ byte_of (slice_index values (2 * j)) (slice_index values (2 * j + 1))
+    let is : slice_index (put_mid at (at + 16 - at) out new) k
+    ≡ byte_of (slice_index values (2 * j)) (slice_index values (2 * j + 1))
     = ap (slice_index (put_mid at (at + 16 - at) out new)) here
     ∙ byte_in out new at j room len (omega arith) ∙ bytes j (omega arith) in
     HoldsByte-of text (put_mid at (at + 16 - at) out new) k _ _ h.0 l.0 eh el is
@@ -169,7 +183,8 @@ pub digits_more : (bytes digits : List ℕ) (j x y : ℕ) → 2 * j + 1 < length
     → x ≡ slice_index lower_digits (slice_index bytes j / 16)
     → y ≡ slice_index lower_digits (slice_index bytes j % 16)
     → ((k : ℕ) → k < j → HoldsDigits bytes digits k)
-    → (k : ℕ) → k < j + 1 → HoldsDigits bytes (slice_set (slice_set digits (2 * j) x) (2 * j + 1) y) k
+    → (k : ℕ) → k < j + 1
+    → HoldsDigits bytes (slice_set (slice_set digits (2 * j) x) (2 * j + 1) y) k
 digits_more bytes digits j x y room ex ey so_far k below =
     let one = slice_set digits (2 * j) x in
     let len : length one ≡ length digits = length-set digits (2 * j) x in
@@ -180,26 +195,31 @@ digits_more bytes digits j x y room ex ey so_far k below =
           let even0 : 2 * k ≢ 2 * j = omega arith in
           let odd1 : 2 * k + 1 ≢ 2 * j + 1 = omega arith in
           let odd0 : 2 * k + 1 ≢ 2 * j = omega arith in (
-            get_or-set_other one (2 * j + 1) (2 * k) y 0 even1 ∙ get_or-set_other digits (2 * j) (2 * k) x 0 even0 ∙ h.0,
-            get_or-set_other one (2 * j + 1) (2 * k + 1) y 0 odd1 ∙ get_or-set_other digits (2 * j) (2 * k + 1) x 0 odd0 ∙ h.1,
+            get_or-set_other one (2 * j + 1) (2 * k) y 0 even1
+                ∙ get_or-set_other digits (2 * j) (2 * k) x 0 even0 ∙ h.0,
+            get_or-set_other one (2 * j + 1) (2 * k + 1) y 0 odd1
+                ∙ get_or-set_other digits (2 * j) (2 * k + 1) x 0 odd0 ∙ h.1,
           )
       | inr top ↦
           let e : k ≡ j = omega arith in
           let even : 2 * j ≢ 2 * j + 1 = omega arith in
           let here : HoldsDigits bytes (slice_set one (2 * j + 1) y) j = (
-            get_or-set_other one (2 * j + 1) (2 * j) y 0 even ∙ get_or-set_same digits (2 * j) x 0 (omega arith) ∙ ex,
+            get_or-set_other one (2 * j + 1) (2 * j) y 0 even
+                ∙ get_or-set_same digits (2 * j) x 0 (omega arith) ∙ ex,
             get_or-set_same one (2 * j + 1) y 0 (omega (arith, len)) ∙ ey,
           ) in
           subst (HoldsDigits bytes (slice_set one (2 * j + 1) y)) (sym e) here
     ]
 
 -- a digit in the part that was written
-digit_out : (digits block : List ℕ) (from j : ℕ) → from + 32 ≤ length digits → length block ≡ 32 → j < 32
+digit_out : (digits block : List ℕ) (from j : ℕ) → from + 32 ≤ length digits → length block ≡ 32
+    → j < 32
     → slice_index (put_mid from (from + 32 - from) digits block) (from + j) ≡ slice_index block j
 digit_out digits block from j room len lt =
-    let front : length (take from digits) ≡ from = length-take-le from digits (omega arith) in
+    let before_len : length (take from digits) ≡ from = length-take-le from digits (omega arith) in
     let here : from + j - from ≡ j = omega arith in
-    get_or-append_right (take from digits) (block ++ post_of from (from + 32 - from) digits) from (from + j) 0 front (omega arith)
+    get_or-append_right (take from digits) (block ++ post_of from (from + 32 - from) digits) from
+    (from + j) 0 before_len (omega arith)
     ∙ ap (λ n. slice_index (block ++ post_of from (from + 32 - from) digits) n) here
     ∙ get_or_append_left block (post_of from (from + 32 - from) digits) 0 j (omega arith)
 
@@ -207,7 +227,8 @@ digit_out digits block from j room len lt =
 pub block_digits : (bytes digits block : List ℕ) (at : ℕ) → length digits ≡ 2 * length bytes
     → at + 16 ≤ length bytes → length block ≡ 32
     → ((j : ℕ) → j < 16 → HoldsDigits (take (at + 16 - at) (drop at bytes)) block j)
-    → (k : ℕ) → at ≤ k → k < at + 16 → HoldsDigits bytes (put_mid (2 * at) (2 * at + 32 - 2 * at) digits block) k
+    → (k : ℕ) → at ≤ k → k < at + 16
+    → HoldsDigits bytes (put_mid (2 * at) (2 * at + 32 - 2 * at) digits block) k
 block_digits bytes digits block at size room len holds k low high =
     let j : ℕ = k - at in
     let whole = put_mid (2 * at) (2 * at + 32 - 2 * at) digits block in
@@ -218,9 +239,11 @@ block_digits bytes digits block at size room len holds k low high =
     let byte : slice_index (take (at + 16 - at) (drop at bytes)) j ≡ slice_index bytes k
     = get_or-take (at + 16 - at) (drop at bytes) j 0 (omega arith) ∙ get_or-drop at bytes j 0
     ∙ ap (λ n. slice_index bytes n) here in (
-      ap (λ n. slice_index whole n) even ∙ digit_out digits block (2 * at) (2 * j) (omega arith) len (omega arith)
+      ap (λ n. slice_index whole n) even
+          ∙ digit_out digits block (2 * at) (2 * j) (omega arith) len (omega arith)
           ∙ h.0 ∙ ap (λ b. slice_index lower_digits (b / 16)) byte,
-      ap (λ n. slice_index whole n) odd ∙ digit_out digits block (2 * at) (2 * j + 1) (omega arith) len (omega arith)
+      ap (λ n. slice_index whole n) odd
+          ∙ digit_out digits block (2 * at) (2 * j + 1) (omega arith) len (omega arith)
           ∙ h.1 ∙ ap (λ b. slice_index lower_digits (b % 16)) byte,
     )
 
@@ -233,10 +256,13 @@ first_digits bytes digits size all zero h = refl
 first_digits bytes digits size all (suc i) h =
     let one : suc i ≡ i + 1 = omega arith in
     let d = all i (omega arith) in
-    let same : slice_set (slice_set digits (2 * i) (slice_index digits (2 * i))) (2 * i + 1) (slice_index digits (2 * i + 1)) ≡ digits
-    = ap (λ l. slice_set l (2 * i + 1) (slice_index digits (2 * i + 1))) (set-get_or digits (2 * i) 0)
+    let same : slice_set (slice_set digits (2 * i) (slice_index digits (2 * i))) (2 * i + 1)
+    (slice_index digits (2 * i + 1)) ≡ digits
+    = ap (λ l. slice_set l (2 * i + 1) (slice_index digits (2 * i + 1)))
+    (set-get_or digits (2 * i) 0)
     ∙ set-get_or digits (2 * i + 1) 0 in
-    let step = encode_step lower_digits bytes digits i (slice_index digits (2 * i)) (slice_index digits (2 * i + 1))
+    let step = encode_step lower_digits bytes digits i (slice_index digits (2 * i))
+    (slice_index digits (2 * i + 1))
     (omega arith) (omega arith) d.0 d.1 (first_digits bytes digits size all i (omega arith)) in
     rw one (ap (λ l. take (2 * (i + 1)) l ++ encode_lower (drop (i + 1) bytes)) (sym same) ∙ step)
 

@@ -3,26 +3,30 @@ use Rattle.std.specs.Prelude.{ℕ, ◌==◌, Bool, if◌then◌else◌, List, le
 use Rattle.std.specs.List.{position_or_len, before_first, after_first}
 use Rattle.std.specs.Borrow.{Bor}
 
+-- The byte is `stop`.
 abbrev pub is_byte : ℕ → ℕ → Bool
-is_byte stop b = b == stop
+is_byte stop byte = byte == stop
 
--- what stands before the first byte that is `stop`, and what stands after it
+-- The part of a text before a byte, and the part after it.
 pub record Cut : Type 0 where
   pub before : List ℕ
   pub after : List ℕ
 
+-- The text has the byte.
 abbrev pub has_byte : ℕ → List ℕ → Bool
 has_byte stop text = nat_lt (position_or_len (is_byte stop) text) (length text)
 
+-- The parts before and after the first such byte.
 abbrev pub first_cut : ℕ → List ℕ → Cut
 first_cut stop text = record {
   before = before_first (is_byte stop) text;
   after = after_first (is_byte stop) text;
 }
 
+-- The text cut at the first such byte, if it has one.
 unfoldable pub cut_at : ℕ → List ℕ → Option Cut
 cut_at stop text = if has_byte stop text then Some (first_cut stop text) else None
 
--- the two parts that a function lends
+-- The two parts that a function lends.
 abbrev pub cut_of : Bor (List ℕ) × Bor (List ℕ) → Cut
-cut_of p = record { before = p.0.now; after = p.1.now }
+cut_of parts = record { before = parts.0.now; after = parts.1.now }

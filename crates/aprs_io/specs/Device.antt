@@ -3,35 +3,36 @@ use Rattle.std.specs.Prelude.{◌≡◌, ℕ, ◌+◌, ◌-◌, ◌^◌, ◌≤�
 use Rattle.std.specs.Io.KnownBytes.{Appends}
 use Rattle.aprs_io.specs.declared.device.Counted.{Counted}
 
--- the reader or writer inside
+-- The reader or writer inside.
 abbrev pub device_of : {T : Type 0} → Counted T → T
-device_of c = c.device
+device_of counted = counted.device
 
--- how many of its calls failed
+-- How many of its calls failed.
 abbrev pub failures_of : {T : Type 0} → Counted T → ℕ
-failures_of c = c.failed
+failures_of counted = counted.failed
 
--- the count of failed calls rose, or is the greatest that there is, where it stays
+-- The count rose, or it is the greatest number of 64 bits, where it stays.
 abbrev pub Rose : ℕ → ℕ → Type 0
 Rose old new = min (old + 1) (2 ^ 64 - 1) ≤ new
 
--- how many of its answers were faults
+-- How many of its answers were faults.
 abbrev pub answered_of : {T : Type 0} → Counted T → ℕ
-answered_of c = c.answered
+answered_of counted = counted.answered
 
--- the count rose at a fault, and else it is as it was
+-- The count rose if the call returned an error, and otherwise it is as it was.
 abbrev pub RoseAtErr : {A E : Type 0} → Result A E → ℕ → ℕ → Type 0
-RoseAtErr (Ok x) old new = new ≡ old
-RoseAtErr (Err e) old new = Rose old new
+RoseAtErr (Ok value) old new = new ≡ old
+RoseAtErr (Err fault) old new = Rose old new
 
--- the count rose where P holds, and else it is as it was
+-- The count rose if P holds, and otherwise it is as it was.
 abbrev pub RoseWhere : Type 0 → ℕ → ℕ → Type 0
 RoseWhere P old new = (P → Rose old new) × ((P → ⊥) → new ≡ old)
 
--- known bytes grow by a front of bs, and rest is what didn't go out
+-- A prefix of the bytes went out, where it is known what goes out, and `rest` are the others.
 abbrev pub AppendsAllBut : Option (List ℕ) → Option (List ℕ) → List ℕ → List ℕ → Type 0
-AppendsAllBut old new bs rest = (front : List ℕ) × (bs ≡ front ++ rest) × Appends old new front
+AppendsAllBut old new bytes rest =
+    (prefix : List ℕ) × (bytes ≡ prefix ++ rest) × Appends old new prefix
 
--- known bytes grow by a front of bs
-abbrev pub AppendsFront : Option (List ℕ) → Option (List ℕ) → List ℕ → Type 0
-AppendsFront old new bs = (rest : List ℕ) × AppendsAllBut old new bs rest
+-- A prefix of the bytes went out, where it is known what goes out.
+abbrev pub AppendsPrefix : Option (List ℕ) → Option (List ℕ) → List ℕ → Type 0
+AppendsPrefix old new bytes = (rest : List ℕ) × AppendsAllBut old new bytes rest

@@ -1,24 +1,24 @@
--- Words of the private steps that read and write digits in blocks.
+-- Definitions for the private steps that read and write digits in blocks.
 use Rattle.std.specs.Prelude.{◌≡◌, ℕ, ◌+◌, ◌*◌, ◌/◌, ◌%◌, ◌<◌, List, slice_index, Ok, Some}
 use Rattle.hex.specs.Hex.{hex_digit_value, lower_digits, pair_value}
 
--- byte k of `out` is that of the text's pair k of digits
+-- Byte k of `out` is the byte that pair k of the text's digits stands for.
 unfoldable pub HoldsByte : List ℕ → List ℕ → ℕ → Type 0
 HoldsByte text out k =
     pair_value (slice_index text (2 * k)) (slice_index text (2 * k + 1)) (2 * k)
     ≡ Ok (slice_index out k)
 
--- number j of `values` is the value of digit j
+-- Number j of `values` is the value of digit j.
 abbrev pub HoldsValue : List ℕ → List ℕ → ℕ → Type 0
 HoldsValue digits values j =
     (slice_index values j < 16)
     × (hex_digit_value (slice_index digits j) ≡ Some (slice_index values j))
 
--- the byte of two digits that have these values
+-- The byte of two digits that have these values.
 abbrev pub byte_of : ℕ → ℕ → ℕ
 byte_of high low = (high * 16 % 256 + low) % 256
 
--- pair k of `digits` are those of byte k
+-- Pair k of `digits` are the digits of byte k.
 abbrev pub HoldsDigits : List ℕ → List ℕ → ℕ → Type 0
 HoldsDigits bytes digits k =
     (slice_index digits (2 * k) ≡ slice_index lower_digits (slice_index bytes k / 16))

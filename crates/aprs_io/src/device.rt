@@ -1,19 +1,20 @@
 //! A reader or a writer that counts its failed calls.
-ghost use Rattle.std.specs.Prelude.{◌≡◌, ◌+◌, ◌*◌, ◌≤◌, length, OnOk, OnErr};
+ghost use Rattle.std.specs.Prelude.{◌≡◌, ◌+◌, ◌-◌, ◌*◌, ◌<◌, ◌≤◌, length, OnOk, OnErr};
 ghost use Rattle.std.specs.Io.{ReadsAtMost};
 ghost use Rattle.std.specs.Io.KnownBytes.{Appends, ReadConsumes};
-ghost use Rattle.aprs_io.specs.Device.{device_of, failures_of, answered_of, Rose, RoseAtErr, AppendsFront};
+ghost use Rattle.aprs_io.specs.Device.{device_of, failures_of, answered_of, Rose, RoseAtErr, AppendsPrefix};
 
 use std::io::{ErrorKind, Read, Write};
 
-/// So many interrupted tries in a row end a call.
+/// How many interrupted tries in a row end a call with a fault.
 const MAX_TRIES: u32 = 1000;
 
-/// A read of the device failed.
+/// A read of the device failed: with an error that isn't an interruption, or 1,000 times in a row.
 #[derive(Clone, Copy, Debug, PartialEq, Eq)]
 pub struct DeviceFault;
 
-/// A write to the device failed.
+/// A write to the device failed: with an error that isn't an interruption, 1,000 times in a row, or
+/// since the device took no byte.
 #[derive(Clone, Copy, Debug, PartialEq, Eq)]
 pub struct WriteFault;
 
@@ -87,7 +88,7 @@ impl<T> Counted<T> {
 }
 
 impl<R: Read> Counted<R> {
-    /// Reads the device's next bytes to the front of `buf`: 0 of them at its end, or where `buf`
+    /// Reads the device's next bytes to the start of `buf`: 0 of them at its end, or where `buf`
     /// is empty. An interrupted try is a failed call and is tried again, up to 999 in a row; the
     /// 1,000th, and any other error at once, is a fault. At a fault no byte is lost and the count
     /// rises. Takes no memory.
@@ -98,9 +99,8 @@ impl<R: Read> Counted<R> {
         ensures count { failures_of self.old ≤ failures_of self.new }
         ensures fault { OnErr result (Rose (failures_of self.old) (failures_of self.new)) }
         ensures answered { RoseAtErr result (answered_of self.old) (answered_of self.new) }
-        // At most so many tries failed.
-        ensures tried { OnOk result (failures_of self.new ≤ failures_of self.old + 999) }
-        ensures given_up { failures_of self.new ≤ failures_of self.old + 1000 }
+        ensures tried { OnOk result (failures_of self.new < failures_of self.old + MAX_TRIES) }
+        ensures given_up { failures_of self.new ≤ failures_of self.old + MAX_TRIES }
     {
         let mut tries = 0;
         loop {
@@ -119,20 +119,22 @@ impl<R: Read> Counted<R> {
     }
 }
 
-/// Writes all of `bytes`, or at a fault a front of them, and then the count rises. An interrupted
+/// Writes all of `bytes`, or at a fault a prefix of them, and then the count rises. An interrupted
 /// try is a failed call and is tried again, up to 999 in a row; the 1,000th, any other error and a
 /// write that takes nothing are faults. Takes no memory.
 pub fn send<W: Write>(w: &mut Counted<W>, bytes: &[u8]) -> Result<(), WriteFault>
     ensures sent { OnOk result
         (Appends (W.contents (device_of w.old)) (W.contents (device_of w.new)) bytes.now) }
     ensures prefix { OnErr result
-        (AppendsFront (W.contents (device_of w.old)) (W.contents (device_of w.new)) bytes.now) }
+        (AppendsPrefix (W.contents (device_of w.old)) (W.contents (device_of w.new)) bytes.now) }
     ensures count { failures_of w.old ≤ failures_of w.new }
     ensures fault { OnErr result (Rose (failures_of w.old) (failures_of w.new)) }
     ensures answered { RoseAtErr result (answered_of w.old) (answered_of w.new) }
-    // At most so many tries failed: 999 for each byte, and one more at a fault.
-    ensures tried { OnOk result (failures_of w.new ≤ failures_of w.old + 999 * length bytes.now) }
-    ensures given_up { failures_of w.new ≤ failures_of w.old + 999 * length bytes.now + 1 }
+    // Fewer than `MAX_TRIES` tries failed for each byte, and one more at a fault.
+    ensures tried { OnOk result
+        (failures_of w.new ≤ failures_of w.old + (MAX_TRIES - 1) * length bytes.now) }
+    ensures given_up { failures_of w.new
+        ≤ failures_of w.old + (MAX_TRIES - 1) * length bytes.now + 1 }
 {
     let mut rest = bytes;
     let mut tries = 0;

@@ -7,7 +7,7 @@ ghost use Rattle.aprs_io.specs.Hexadecimal.{HoldsByte, HoldsDigits, HoldsValue, 
 /// How many bytes are read or written in a step.
 const BLOCK: usize = 16;
 
-/// Reads a hexadecimal text to the front of `room`, which has to have room for it, and returns how
+/// Reads a hexadecimal text to the start of `room`, which has to have room for it, and returns how
 /// many bytes it holds, where it is one: an even number of digits, `A` to `F` in either case. Takes
 /// no memory.
 pub fn decode_into(text: &[u8], room: &mut [u8]) -> Option<usize>
@@ -58,10 +58,10 @@ fn encode_few(bytes: &[u8], digits: &mut [u8])
 #[inline(always)]
 fn encode_block(bytes: &[u8], digits: &mut [u8], at: usize)
     requires len { length digits.old ≡ 2 * length bytes.now }
-    requires room { at + 16 ≤ length bytes.now }
+    requires room { at + BLOCK ≤ length bytes.now }
     ensures len { length digits.new ≡ length digits.old }
     ensures kept { (k : ℕ) → k < 2 * at → slice_index digits.new k ≡ slice_index digits.old k }
-    ensures digits { (k : ℕ) → at ≤ k → k < at + 16 → HoldsDigits bytes.now digits.new k }
+    ensures digits { (k : ℕ) → at ≤ k → k < at + BLOCK → HoldsDigits bytes.now digits.new k }
 {
     let mut block = [0; 2 * BLOCK];
     put_digits(&bytes[at..at + BLOCK], &mut block);
@@ -71,8 +71,8 @@ fn encode_block(bytes: &[u8], digits: &mut [u8], at: usize)
 /// Puts the digits of the bytes of a block.
 #[inline(always)]
 fn put_digits(bytes: &[u8], digits: &mut [u8; 32])
-    requires { length bytes.now ≡ 16 }
-    ensures { (j : ℕ) → j < 16 → HoldsDigits bytes.now digits.new j }
+    requires { length bytes.now ≡ BLOCK }
+    ensures { (j : ℕ) → j < BLOCK → HoldsDigits bytes.now digits.new j }
 {
     'bytes: for j in 0..BLOCK {
         let byte = bytes[j];
@@ -128,10 +128,10 @@ fn decode_digits(text: &[u8], out: &mut [u8]) -> bool
 #[inline(always)]
 fn decode_block(text: &[u8], out: &mut [u8], at: usize) -> bool
     requires len { length text.now ≡ 2 * length out.old }
-    requires room { at + 16 ≤ length out.old }
+    requires room { at + BLOCK ≤ length out.old }
     ensures len { length out.new ≡ length out.old }
     ensures kept { (k : ℕ) → k < at → slice_index out.new k ≡ slice_index out.old k }
-    ensures bytes { OnTrue result ((k : ℕ) → at ≤ k → k < at + 16
+    ensures bytes { OnTrue result ((k : ℕ) → at ≤ k → k < at + BLOCK
         → HoldsByte text.now out.new k) }
 {
     let mut values = [0; 2 * BLOCK];
@@ -144,8 +144,8 @@ fn decode_block(text: &[u8], out: &mut [u8], at: usize) -> bool
 /// are looked at in one step of the processor.
 #[inline(always)]
 fn put_values(digits: &[u8], values: &mut [u8; 32]) -> bool
-    requires { length digits.now ≡ 32 }
-    ensures { OnTrue result ((j : ℕ) → j < 32 → HoldsValue digits.now values.new j) }
+    requires { length digits.now ≡ 2 * BLOCK }
+    ensures { OnTrue result ((j : ℕ) → j < 2 * BLOCK → HoldsValue digits.now values.new j) }
 {
     let mut most = 0;
     'digits: for j in 0..2 * BLOCK {
@@ -159,9 +159,9 @@ fn put_values(digits: &[u8], values: &mut [u8; 32]) -> bool
 /// Puts the bytes of pairs of digits that have these values.
 #[inline(always)]
 fn put_bytes(values: &[u8; 32], out: &mut [u8])
-    requires { length out.old ≡ 16 }
-    ensures len { length out.new ≡ 16 }
-    ensures bytes { (j : ℕ) → j < 16 → slice_index out.new j
+    requires { length out.old ≡ BLOCK }
+    ensures len { length out.new ≡ BLOCK }
+    ensures bytes { (j : ℕ) → j < BLOCK → slice_index out.new j
         ≡ byte_of (slice_index values.now (2 * j)) (slice_index values.now (2 * j + 1)) }
 {
     'bytes: for j in 0..BLOCK {
@@ -177,7 +177,7 @@ fn value_of(byte: u8) -> u8
     ensures { result < 16 → hex_digit_value byte ≡ Some result }
 {
     let number = byte.wrapping_sub(b'0');
-    // Bit 5 tells a small letter from a capital one.
+    // Bit 5 is set in a small letter and clear in a capital.
     let letter = (byte | 0x20).wrapping_sub(b'a');
     if number < 10 {
         number

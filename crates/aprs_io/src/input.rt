@@ -3,25 +3,26 @@ ghost use Rattle.std.specs.Prelude.{◌≡◌, ◌+◌, ◌<◌, ◌≤◌, leng
 ghost use Rattle.std.specs.Io.KnownBytes.{Consumes};
 ghost use Rattle.aprs_io.specs.Device.{device_of, failures_of, answered_of, Rose, RoseWhere};
 ghost use Rattle.aprs_io.specs.Input.{EndsHere};
+ghost use Rattle.aprs_io.specs.declared.device.TheConstants.{MAX_TRIES};
 
 use crate::device::{Counted, DeviceFault};
 use std::io::Read;
 
-/// The most bytes of input that a reader is asked to take.
+/// The most bytes that a reader may be asked to read of an input: 1 GiB.
 pub const MAX_INPUT: u64 = 1_073_741_824;
 
-/// What came after the bytes that were got of an input.
+/// How an input ends after the bytes that were read of it.
 #[derive(Clone, Copy, Debug, PartialEq, Eq)]
 pub enum Ending {
-    /// The input ended.
+    /// The input has no further byte.
     End,
-    /// The reader failed.
+    /// The read after them failed.
     Read,
-    /// One byte more than the limit.
+    /// They are as many as the limit, and the input has a further byte.
     TooLong,
 }
 
-/// Reads once to the front of `room`, which is not empty, and returns how many bytes came: at least
+/// Reads once to the start of `room`, which is not empty, and returns how many bytes came: at least
 /// one, at most `left`. Otherwise it returns how the input ends. Where `left` is 0, the device is
 /// asked for one byte more: if it gives one, the input is too long. Takes no memory.
 pub fn read_some<R: Read>(
@@ -38,12 +39,11 @@ pub fn read_some<R: Read>(
     ensures count { failures_of source.old ≤ failures_of source.new }
     ensures read { IfErr result (λ e. e ≡ Ending.Read
         → Rose (failures_of source.old) (failures_of source.new)) }
-    // A failed read is told where the call answered one, and nowhere else.
+    // The call returns `Read` exactly if its read of the device answered a fault.
     ensures answered { RoseWhere (IsErrAnd result (λ e. e ≡ Ending.Read)) (answered_of source.old)
         (answered_of source.new) }
-    // At most so many tries failed.
-    ensures tried { OnOk result (failures_of source.new ≤ failures_of source.old + 999) }
-    ensures given_up { failures_of source.new ≤ failures_of source.old + 1000 }
+    ensures tried { OnOk result (failures_of source.new < failures_of source.old + MAX_TRIES) }
+    ensures given_up { failures_of source.new ≤ failures_of source.old + MAX_TRIES }
 {
     if left == 0 {
         return Err(ending_at_limit(source));
@@ -56,7 +56,7 @@ pub fn read_some<R: Read>(
     }
 }
 
-/// How an input ends of which as many bytes were got as may be: whether a further byte exists.
+/// How an input ends of which as many bytes were read as the limit: it has a further byte or not.
 fn ending_at_limit<R: Read>(source: &mut Counted<R>) -> Ending
     ensures end { EndsHere result 0 (R.remaining (device_of source.old))
         (R.remaining (device_of source.new)) }
@@ -64,7 +64,7 @@ fn ending_at_limit<R: Read>(source: &mut Counted<R>) -> Ending
     ensures read { result ≡ Ending.Read → Rose (failures_of source.old) (failures_of source.new) }
     ensures answered { RoseWhere (result ≡ Ending.Read) (answered_of source.old)
         (answered_of source.new) }
-    ensures given_up { failures_of source.new ≤ failures_of source.old + 1000 }
+    ensures given_up { failures_of source.new ≤ failures_of source.old + MAX_TRIES }
 {
     let mut one = [0];
     match source.read(&mut one) {

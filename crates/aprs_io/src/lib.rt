@@ -1,4 +1,4 @@
-//! Devices that count their failed calls, and what is got of an input under a limit.
+//! Devices that count their failed calls, and what is read of an input under a limit.
 #![tactic(auto)]
 
 mod byte_vectors;

@@ -289,11 +289,11 @@ spelling_of-cut rest plain after end mark p e =
     ∙ ap (λ l. plain ++ l) (spelling_of-cons mark after end)
 
 -- the plain bytes go out first, whatever follows them
-pub spelling_of-front : (rest plain end : List ℕ) (mark : Option (ℕ × Bor (List ℕ)))
+pub spelling_of-prefix : (rest plain end : List ℕ) (mark : Option (ℕ × Bor (List ℕ)))
     → IsPlain plain → CutsPlain rest plain mark
     → (more : List ℕ) × (spelling_of rest ++ end ≡ plain ++ more)
-spelling_of-front rest plain end None p e = (end, spelling_of-all rest plain end p e)
-spelling_of-front rest plain end (Some (mark, after)) p e = (
+spelling_of-prefix rest plain end None p e = (end, spelling_of-all rest plain end p e)
+spelling_of-prefix rest plain end (Some (mark, after)) p e = (
   spelling_of_byte mark ++
       (spelling_of after.now ++ end),
   spelling_of-cut rest plain after.now end mark p e.0,

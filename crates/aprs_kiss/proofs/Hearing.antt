@@ -24,7 +24,8 @@ module _ {P : Type 0} (R : P → Judgement → P → Type 0) where
   -- the reader went from old to new over these bytes, and its listener from before to after
   pub record Hears (old new : KissReader) (before after : P) (seen : List ℕ) : Type 0 where
     pub stands : (e : List ℕ) → StandsAfter old e → StandsAfter new (rest_of (e ++ seen))
-    pub told : (e : List ℕ) → StandsAfter old e → FoldsTo R before (judgements_of (e ++ seen)) after
+    pub heard : (e : List ℕ) → StandsAfter old e
+        → FoldsTo R before (judgements_of (e ++ seen)) after
 
   -- so they did over what of the piece comes before the rest
   pub record HasHeard (old new : KissReader) (before after : P) (piece rest : List ℕ) : Type 0 where
@@ -35,7 +36,7 @@ module _ {P : Type 0} (R : P → Judgement → P → Type 0) where
   Hears-none : (old : KissReader) (before : P) → Hears old old before before []
   Hears-none old before = record {
     stands = λ e s. rw (append-nil e, rest_of-none e s.whole) s;
-    told = λ e s. rw (append-nil e, judgements_of-none e s.whole) refl;
+    heard = λ e s. rw (append-nil e, judgements_of-none e s.whole) refl;
   }
 
   Hears-more : (old mid new : KissReader) (before between after : P) (seen more : List ℕ)
@@ -44,10 +45,10 @@ module _ {P : Type 0} (R : P → Judgement → P → Type 0) where
   Hears-more old mid new before between after seen more p q = record {
     stands = λ e s. rw (← append_assoc e seen more, (cuts (e ++ seen) more).rest)
         (q.stands (rest_of (e ++ seen)) (p.stands e s));
-    told = λ e s. rw (← append_assoc e seen more, judgements_of-append (e ++ seen) more)
+    heard = λ e s. rw (← append_assoc e seen more, judgements_of-append (e ++ seen) more)
         (FoldsTo-append R before between after (judgements_of (e ++ seen))
         (judgements_of (rest_of (e ++ seen) ++ more))
-        (p.told e s) (q.told (rest_of (e ++ seen)) (p.stands e s)));
+        (p.heard e s) (q.heard (rest_of (e ++ seen)) (p.stands e s)));
   }
 
   pub HasHeard-none : (old : KissReader) (before : P) (piece : List ℕ)
@@ -72,11 +73,12 @@ module _ {P : Type 0} (R : P → Judgement → P → Type 0) where
       rw (h.cut ∙ ap (λ l. h.seen ++ l) e ∙ append-nil h.seen) h.hears
 
   -- one call of the reader, whose answer is heard
-  pub Hears-call : (old new : KissReader) (before after : P) (told : List Judgement) (used : List ℕ)
+  pub Hears-call : (old new : KissReader) (before after : P) (judgements : List Judgement)
+      (used : List ℕ)
       → ((e : List ℕ) → StandsAfter old e → StandsAfter new (rest_of (e ++ used)))
-      → ((e : List ℕ) → StandsAfter old e → judgements_of (e ++ used) ≡ told)
-      → FoldsTo R before told after → Hears old new before after used
-  Hears-call old new before after told used stands judged h = record {
+      → ((e : List ℕ) → StandsAfter old e → judgements_of (e ++ used) ≡ judgements)
+      → FoldsTo R before judgements after → Hears old new before after used
+  Hears-call old new before after judgements used stands judged h = record {
     stands = stands;
-    told = λ e s. rw (judged e s) h;
+    heard = λ e s. rw (judged e s) h;
   }

@@ -15,8 +15,8 @@ use Rattle.aprs_kiss.specs.declared.fault.PassFault.TheVariants.{BadEscape, TooL
 use Rattle.aprs_kiss.proofs.Escapes.{not_end, unspelled-nil, unspelled-open, unspelled-append, unspelled-run, unspelled-twice}
 use Rattle.std.proofs.Math.Seq.{take-append_seam}
 
-pub HasNoEnd-front : (a b : List ℕ) → HasNoEnd (a ++ b) → HasNoEnd a
-HasNoEnd-front a b h =
+pub HasNoEnd-prefix : (a b : List ℕ) → HasNoEnd (a ++ b) → HasNoEnd a
+HasNoEnd-prefix a b h =
     subst HasNoEnd (take-append_seam a b)
     (All-take (λ b. is_frame_end b ≡ false) (length a) (a ++ b) h)
 
@@ -62,16 +62,16 @@ Holds-broken held bytes run h = λ more. ap unspelled (append_assoc bytes run mo
 
 -- ---- the byte after an escape
 
-module _ (held front bytes : List ℕ) (code : ℕ) (n : HasNoEnd bytes)
-    (e : bytes ≡ front ++ 0xDB ∷ []) (h : unspelled front ≡ Some held) where
+module _ (held prefix bytes : List ℕ) (code : ℕ) (n : HasNoEnd bytes)
+    (e : bytes ≡ prefix ++ 0xDB ∷ []) (h : unspelled prefix ≡ Some held) where
   after_escape : (more : List ℕ)
       → unspelled (bytes ++ code ∷ more)
       ≡ option_map (λ l. held ++ l) (unspelled (0xDB ∷ code ∷ more))
   after_escape more =
       ap (λ l. unspelled (l ++ code ∷ more)) e
-      ∙ ap unspelled (append_assoc front (0xDB ∷ []) (code ∷ more))
-      ∙ unspelled-append front held (0xDB ∷ code ∷ more)
-      (HasNoEnd-front front (0xDB ∷ []) (subst HasNoEnd e n)) h
+      ∙ ap unspelled (append_assoc prefix (0xDB ∷ []) (code ∷ more))
+      ∙ unspelled-append prefix held (0xDB ∷ code ∷ more)
+      (HasNoEnd-prefix prefix (0xDB ∷ []) (subst HasNoEnd e n)) h
 
   -- the code stands for a byte
   pub unspelled-escaped : (x : ℕ)
@@ -147,13 +147,13 @@ Holds-escape_again Broken held bytes e p l n h = Holds-broken held bytes (0xDB �
 
 -- ---- the end of a piece
 
-open_ends : (held front bytes : List ℕ) → HasNoEnd bytes → bytes ≡ front ++ 0xDB ∷ []
-    → unspelled front ≡ Some held
+open_ends : (held prefix bytes : List ℕ) → HasNoEnd bytes → bytes ≡ prefix ++ 0xDB ∷ []
+    → unspelled prefix ≡ Some held
     → unspelled bytes ≡ None
-open_ends held front bytes n e h =
+open_ends held prefix bytes n e h =
     ap unspelled e
-    ∙ unspelled-append front held (0xDB ∷ [])
-    (HasNoEnd-front front (0xDB ∷ []) (subst HasNoEnd e n)) h
+    ∙ unspelled-append prefix held (0xDB ∷ [])
+    (HasNoEnd-prefix prefix (0xDB ∷ []) (subst HasNoEnd e n)) h
     ∙ ap (option_map (λ l. held ++ l)) unspelled-open
 
 -- an escape is broken, or isn't whole

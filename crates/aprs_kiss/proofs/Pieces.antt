@@ -114,7 +114,7 @@ pub judgements_of-none : (d : List ℕ) → HasNoEnd d → judgements_of d ≡ [
 unfolding judgements_of
 judgements_of-none d h = rw (pieces_of-none d h) refl
 
--- an empty piece tells nothing
+-- an empty piece has no judgement
 pub judgements_of-empty : judgements_of (0xC0 ∷ []) ≡ []
 unfolding judgements_of pieces_of
 judgements_of-empty = refl

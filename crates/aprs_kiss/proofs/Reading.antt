@@ -9,7 +9,7 @@ use Rattle.aprs_kiss.specs.Reader.{StandsAfter}
 use Rattle.aprs_kiss.specs.declared.reader.KissReader.{KissReader}
 use Rattle.aprs_kiss.proofs.Pieces.{HasNoEnd-nil, cuts, pieces_of-none, pieces_of-end, rest_of-none, rest_of-end, judgements_of-append, judgements_of-none, judgements_of-empty, judgements_of-end}
 
--- the reader went from old to new over these bytes, and nothing is told of them
+-- the reader went from old to new over these bytes, and nothing is judgements of them
 pub record Quiet (old new : KissReader) (seen : List ℕ) : Type 0 where
   pub stands : (e : List ℕ) → StandsAfter old e → StandsAfter new (rest_of (e ++ seen))
   pub silent : (e : List ℕ) → StandsAfter old e → judgements_of (e ++ seen) ≡ []
@@ -83,17 +83,18 @@ Quiet-end old mid seen q f = record {
 }
 
 -- a frame end after a piece
-pub record Told (old new : KissReader) (seen : List ℕ) (told : List Judgement) : Type 0 where
-  pub stands : (e : List ℕ) → StandsAfter old e → StandsAfter new (rest_of (e ++ seen))
-  pub judged : (e : List ℕ) → StandsAfter old e → judgements_of (e ++ seen) ≡ told
-  pub ends : (e : List ℕ) → StandsAfter old e → EndsPiece (e ++ seen)
+pub record ReadsPiece (old new : KissReader) (seen : List ℕ) (judgements : List Judgement) : Type 0
+  where
+    pub stands : (e : List ℕ) → StandsAfter old e → StandsAfter new (rest_of (e ++ seen))
+    pub judged : (e : List ℕ) → StandsAfter old e → judgements_of (e ++ seen) ≡ judgements
+    pub ends : (e : List ℕ) → StandsAfter old e → EndsPiece (e ++ seen)
 
-pub Told-end : (old mid new : KissReader) (seen : List ℕ) (told : List Judgement)
+pub ReadsPiece-end : (old mid new : KissReader) (seen : List ℕ) (judgements : List Judgement)
     → Quiet old mid seen
     → ((d : List ℕ) → StandsAfter mid d → d ≢ []) → StandsAfter new []
-    → ((d : List ℕ) → StandsAfter mid d → 0 < length d → told ≡ judgement_of d ∷ [])
-    → Told old new (seen ++ 0xC0 ∷ []) told
-Told-end old mid new seen told q f n j = record {
+    → ((d : List ℕ) → StandsAfter mid d → 0 < length d → judgements ≡ judgement_of d ∷ [])
+    → ReadsPiece old new (seen ++ 0xC0 ∷ []) judgements
+ReadsPiece-end old mid new seen judgements q f n j = record {
   stands = λ e s.
       let t = q.stands e s in
       rw (← append_assoc e seen (0xC0 ∷ []), rest_at e s) n;
@@ -170,16 +171,18 @@ Quiet-all old new piece h =
     (sym (ap (take (length piece)) e ∙ ap (λ p. take (length p) h.seen) e
     ∙ take-length h.seen)) h.quiet
 
-pub Told-used : (old mid new : KissReader) (piece rest after : List ℕ) (told : List Judgement)
+pub ReadsPiece-used : (old mid new : KissReader) (piece rest after : List ℕ)
+    (judgements : List Judgement)
     → HasRead old piece mid rest
     → rest ≡ 0xC0 ∷ after
     → ((d : List ℕ) → StandsAfter mid d → d ≢ []) → StandsAfter new []
-    → ((d : List ℕ) → StandsAfter mid d → 0 < length d → told ≡ judgement_of d ∷ [])
-    → Told old new (take (length piece - length after) piece) told
-Told-used old mid new piece rest after told h e f n j =
+    → ((d : List ℕ) → StandsAfter mid d → 0 < length d → judgements ≡ judgement_of d ∷ [])
+    → ReadsPiece old new (take (length piece - length after) piece) judgements
+ReadsPiece-used old mid new piece rest after judgements h e f n j =
     let cut = h.cut ∙ ap (λ l. h.seen ++ l) e ∙ sym (append_assoc h.seen (0xC0 ∷ []) after) in
-    subst (λ used. Told old new used told) (sym (used_of piece (h.seen ++ 0xC0 ∷ []) after cut))
-    (Told-end old mid new h.seen told h.quiet f n j)
+    subst (λ used. ReadsPiece old new used judgements)
+    (sym (used_of piece (h.seen ++ 0xC0 ∷ []) after cut))
+    (ReadsPiece-end old mid new h.seen judgements h.quiet f n j)
 
 pub frame_end_else : (mark : ℕ) → is_special mark ≡ true → mark ≢ 0xDB → mark ≡ 0xC0
 frame_end_else mark h n = grind (arith, nat_tests)

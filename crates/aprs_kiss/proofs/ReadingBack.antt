@@ -4,7 +4,7 @@ use Rattle.std.proofs.lemmas.Bool.{lt-ltb, le-ltb}
 use Rattle.aprs_kiss.specs.Spelling.{HasNoEnd, is_frame_end, is_escape, kiss_text, spelling_of, spelling_of_byte}
 use Rattle.aprs_kiss.specs.Stream.{judgements_of, rest_of}
 use Rattle.aprs_kiss.specs.Judgement.{Judgement, judgement_of, judgement_by}
-use Rattle.aprs_kiss.specs.Laws.{BeginsEmpty, ToldInParts, LeftInParts, ReadBack, ReadBackLong, ReadWhole, EndedStream}
+use Rattle.aprs_kiss.specs.Laws.{BeginsEmpty, JudgedInParts, LeftInParts, ReadBack, ReadBackLong, ReadWhole, EndedStream}
 use Rattle.aprs_kiss.specs.declared.fault.PassFault.TheVariants.{TooLong}
 use Rattle.aprs_kiss.proofs.Escapes.{is_true_or_not, unspelled-of}
 use Rattle.aprs_kiss.proofs.Pieces.{HasNoEnd-nil, HasNoEnd-append, HasNoEnd-one, cuts, rest_of-none, rest_of-end, judgements_of-append, judgements_of-none, judgements_of-empty, judgements_of-end}
@@ -12,11 +12,11 @@ use Rattle.aprs_kiss.proofs.Pieces.{HasNoEnd-nil, HasNoEnd-append, HasNoEnd-one,
 pub begins_empty : BeginsEmpty
 begins_empty = (judgements_of-none [] HasNoEnd-nil, rest_of-none [] HasNoEnd-nil)
 
-pub told_in_parts : ToldInParts
-told_in_parts = judgements_of-append
+pub judged_in_parts : JudgedInParts
+judged_in_parts = judgements_of-append
 
 pub left_in_parts : LeftInParts
-left_in_parts front back = (cuts front back).rest
+left_in_parts prefix rest = (cuts prefix rest).rest
 
 -- ---- a spelling is a piece
 
@@ -45,7 +45,7 @@ typed : (frame : List ℕ) → spelling_of (0 ∷ frame) ≡ 0 ∷ spelling_of f
 unfolding spelling_of
 typed frame = refl
 
--- ---- what is told of a text that was written
+-- ---- the judgements of a text that was written
 
 after_end : (u : List ℕ) → judgements_of (0xC0 ∷ u) ≡ judgements_of u
 after_end u =
@@ -54,21 +54,21 @@ after_end u =
     ∙ ap (λ d. judgements_of (d ++ u))
     (rest_of-end [] [] HasNoEnd-nil ∙ rest_of-none [] HasNoEnd-nil)
 
-told_of_text : (frame : List ℕ)
+judgements_of_text : (frame : List ℕ)
     → judgements_of (kiss_text frame) ≡ judgement_of (spelling_of (0 ∷ frame)) ∷ []
-told_of_text frame =
+judgements_of_text frame =
     after_end (0 ∷ spelling_of frame ++ 0xC0 ∷ [])
     ∙ ap (λ l. judgements_of (l ++ 0xC0 ∷ [])) (sym (typed frame))
     ∙ judgements_of-end (spelling_of (0 ∷ frame)) (no_end (0 ∷ frame))
     (rw (typed frame) (omega arith))
 
-told_after : (stream frame : List ℕ) (j : Judgement) → rest_of stream ≡ []
+judgements_after : (stream frame : List ℕ) (j : Judgement) → rest_of stream ≡ []
     → judgement_of (spelling_of (0 ∷ frame)) ≡ j
     → judgements_of (stream ++ kiss_text frame) ≡ judgements_of stream ++ j ∷ []
-told_after stream frame j r e =
+judgements_after stream frame j r e =
     judgements_of-append stream (kiss_text frame)
     ∙ ap (λ d. judgements_of stream ++ judgements_of (d ++ kiss_text frame)) r
-    ∙ ap (λ l. judgements_of stream ++ l) (told_of_text frame ∙ ap (λ j. j ∷ []) e)
+    ∙ ap (λ l. judgements_of stream ++ l) (judgements_of_text frame ∙ ap (λ j. j ∷ []) e)
 
 judged_short : (frame : List ℕ) → length frame ≤ 1023
     → judgement_of (spelling_of (0 ∷ frame)) ≡ Ok (record { port = 0; bytes = frame })
@@ -85,10 +85,10 @@ judged_long frame l =
     ap judgement_by (unspelled-of (0 ∷ frame)) ∙ rw (lt-ltb 1024 (length (0 ∷ frame)) n) refl
 
 pub read_back : ReadBack
-read_back stream frame r l = told_after stream frame _ r (judged_short frame l)
+read_back stream frame r l = judgements_after stream frame _ r (judged_short frame l)
 
 pub read_back_long : ReadBackLong
-read_back_long stream frame r l = told_after stream frame _ r (judged_long frame l)
+read_back_long stream frame r l = judgements_after stream frame _ r (judged_long frame l)
 
 pub ended_stream : EndedStream
 ended_stream stream =

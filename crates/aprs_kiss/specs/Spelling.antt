@@ -3,31 +3,32 @@
 use Rattle.std.specs.Prelude.{◌≡◌, ◌==◌, ℕ, Bool, false, if◌then◌else◌, List, [], ◌∷◌, ◌++◌}
 use Rattle.std.specs.List.{All, flat_map}
 
--- FEND, which stands between frames
+-- The byte is FEND, which stands between frames.
 abbrev pub is_frame_end : ℕ → Bool
-is_frame_end b = b == 0xC0
+is_frame_end byte = byte == 0xC0
 
--- FESC, which begins an escape
+-- The byte is FESC, which begins an escape.
 abbrev pub is_escape : ℕ → Bool
-is_escape b = b == 0xDB
+is_escape byte = byte == 0xDB
 
--- no byte of it is a frame end
+-- None of the bytes is a frame end.
 abbrev pub HasNoEnd : List ℕ → Type 0
 HasNoEnd bytes = All (λ b. is_frame_end b ≡ false) bytes
 
--- FEND goes out as FESC TFEND, FESC as FESC TFESC, and any other byte as itself
+-- FEND is sent as FESC TFEND, FESC as FESC TFESC, and any other byte as itself.
 abbrev pub spelling_of_byte : ℕ → List ℕ
 spelling_of_byte b =
     if is_frame_end b then 0xDB ∷ 0xDC ∷ [] else (if is_escape b then 0xDB ∷ 0xDD ∷ [] else b ∷ [])
 
+-- What is sent for these bytes, one after another.
 unfoldable pub spelling_of : List ℕ → List ℕ
 spelling_of bytes = flat_map spelling_of_byte bytes
 
--- what goes out for these bytes is `spelled`
+-- These bytes are sent as `spelled`.
 abbrev pub Spells : List ℕ → List ℕ → Type 0
 Spells bytes spelled = spelled ≡ spelling_of bytes
 
--- what goes out for a frame: a frame end, the type byte of data on port 0, the frame's spelling,
--- and a frame end
+-- What is sent for a frame: a frame end, the type byte of data on port 0, what is sent for the
+-- frame's bytes, and a frame end.
 abbrev pub kiss_text : List ℕ → List ℕ
 kiss_text frame = 0xC0 ∷ 0 ∷ spelling_of frame ++ 0xC0 ∷ []

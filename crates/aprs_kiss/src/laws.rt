@@ -1,6 +1,6 @@
 //! What holds of KISS streams whatever calls are made. These functions do nothing: a caller that
 //! makes such a call knows what it ensures.
-ghost use Rattle.aprs_kiss.specs.Laws.{SpellsOnce, JudgedOnce, BeginsEmpty, ToldInParts, LeftInParts, ReadBack, ReadBackLong, ReadWhole, MadeOfPieces, CutAtEachEnd, OpenPiece, EndedPiece, EmptyPiece, EndedStream};
+ghost use Rattle.aprs_kiss.specs.Laws.{SpellsOnce, JudgedOnce, BeginsEmpty, JudgedInParts, LeftInParts, ReadBack, ReadBackLong, ReadWhole, MadeOfPieces, CutAtEachEnd, OpenPiece, EndedPiece, EmptyPiece, EndedStream};
 
 /// No bytes are spelled as others are, and each nonempty piece of a stream is judged in one way.
 pub fn each_piece_is_judged_once()
@@ -14,7 +14,7 @@ pub fn a_stream_is_its_pieces()
     ensures cut { CutAtEachEnd }
 {}
 
-/// A piece is told of at the frame end after it, and then nothing is left.
+/// A piece is judged at the frame end after it, and then nothing is left.
 pub fn frame_ends_end_pieces()
     ensures begun { OpenPiece }
     ensures ended { EndedPiece }
@@ -22,10 +22,10 @@ pub fn frame_ends_end_pieces()
     ensures left { EndedStream }
 {}
 
-/// Where a stream is cut changes neither what is told of it nor what is left of it.
+/// Where a stream is cut changes neither its judgements nor what is left of it.
 pub fn cuts_change_nothing()
     ensures empty { BeginsEmpty }
-    ensures told { ToldInParts }
+    ensures judged { JudgedInParts }
     ensures left { LeftInParts }
 {}
 

@@ -1,28 +1,29 @@
-//! The answers of a whole stream, however it is cut.
+//! The answers to a whole stream, however it is cut.
 ghost use Rattle.std.specs.Prelude.{◌++◌, ℕ, List};
 ghost use Rattle.std.specs.List.{FoldsTo};
 ghost use Rattle.aprs_kiss.specs.Judgement.{Judgement};
 ghost use Rattle.aprs_kiss.specs.Reader.{StandsAfter};
-ghost use Rattle.aprs_kiss.specs.Told.{told_by};
+ghost use Rattle.aprs_kiss.specs.Answer.{judgements_in};
 ghost use Rattle.aprs_kiss.specs.Stream.{judgements_of, rest_of};
 
 use crate::reader::{Fed, KissReader};
 
-/// Takes what a reader tells, one answer after another.
+/// Takes what a reader returns, one answer after another.
 pub trait Listener {
     /// What an answer makes of it: the listener before, the answer, and the listener after.
     ghost hears: { Self → Judgement → Self → Type 0 };
 
     /// Takes the next answer. By `Fed::Nothing` it stays as it is.
     fn hear(&mut self, fed: Fed<'_>)
-        ensures { FoldsTo hears self.old (told_by fed.entry) self.new };
+        ensures { FoldsTo hears self.old (judgements_in fed.entry) self.new };
 }
 
-/// Feeds all of a piece of a stream, and hands on each answer. Takes no memory.
+/// Feeds all of a piece of a stream to the reader, and hands each answer to the listener. Takes no
+/// memory.
 pub fn feed_all<L: Listener>(reader: &mut KissReader, piece: &[u8], listener: &mut L)
     ensures stands { (before : List ℕ) → StandsAfter reader.old before
         → StandsAfter reader.new (rest_of (before ++ piece.now)) }
-    ensures told { (before : List ℕ) → StandsAfter reader.old before
+    ensures heard { (before : List ℕ) → StandsAfter reader.old before
         → FoldsTo L.hears listener.old (judgements_of (before ++ piece.now)) listener.new }
 {
     let mut rest = piece;
@@ -34,8 +35,9 @@ pub fn feed_all<L: Listener>(reader: &mut KissReader, piece: &[u8], listener: &m
     }
 }
 
-/// Feeds a stream cut into parts of these lengths, and then what is left of it. The answers are
-/// those of the stream, whatever the lengths. Takes no memory.
+/// Feeds a stream to the reader, cut into parts of these lengths and then what is left of it, and
+/// hands each answer to the listener. The answers are those of the stream, whatever the lengths.
+/// Takes no memory.
 pub fn feed_in_parts<L: Listener>(
     reader: &mut KissReader,
     stream: &[u8],
@@ -44,7 +46,7 @@ pub fn feed_in_parts<L: Listener>(
 )
     ensures stands { (before : List ℕ) → StandsAfter reader.old before
         → StandsAfter reader.new (rest_of (before ++ stream.now)) }
-    ensures told { (before : List ℕ) → StandsAfter reader.old before
+    ensures heard { (before : List ℕ) → StandsAfter reader.old before
         → FoldsTo L.hears listener.old (judgements_of (before ++ stream.now)) listener.new }
 {
     let mut rest = stream;

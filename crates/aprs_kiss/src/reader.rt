@@ -6,7 +6,7 @@ ghost use Rattle.std.specs.Option.{option_map, option_and_then};
 ghost use Rattle.std.specs.Io.BufRead.{Rests};
 ghost use Rattle.aprs_kiss.specs.Judgement.{judgement_of, frame_of};
 ghost use Rattle.aprs_kiss.specs.Reader.{StandsAfter, IsOpen, IsClosed, judged_as};
-ghost use Rattle.aprs_kiss.specs.Told.{IsWithinBounds, told_by};
+ghost use Rattle.aprs_kiss.specs.Answer.{IsWithinBounds, judgements_in};
 ghost use Rattle.aprs_kiss.specs.Plain.{IsPlain, is_special};
 ghost use Rattle.aprs_kiss.specs.Spelling.{HasNoEnd};
 ghost use Rattle.aprs_kiss.specs.Unspelling.{unspelled};
@@ -20,7 +20,7 @@ use arrayvec::ArrayVec;
 /// The most bytes of a frame once its escapes are undone, the type byte among them.
 pub const MAX_FRAME: usize = 1024;
 
-/// What a reader tells of the bytes that it was fed.
+/// What a reader returns for the bytes that it was fed.
 #[derive(Clone, Copy, Debug, PartialEq, Eq)]
 pub enum Fed<'a> {
     /// No nonempty piece ended: all bytes were used.
@@ -34,7 +34,7 @@ pub enum Fed<'a> {
 /// What the buffer holds of the piece that is being read.
 #[derive(Clone, Copy, Debug, PartialEq, Eq)]
 enum State {
-    /// Nothing: no byte came since the last frame end. The frame before it may still lie there.
+    /// No byte came since the last frame end. The frame before it may still lie there.
     Ended,
     /// The bytes that the piece spells so far.
     Plain,
@@ -68,7 +68,7 @@ impl KissReader {
     }
 
     /// Takes the bytes of `piece` up to the frame end of a nonempty piece of the stream, or all of
-    /// them, and says how many they were and what they tell: a data frame of at most 1,023 bytes,
+    /// them, and returns how many they were and what they are: a data frame of at most 1,023 bytes,
     /// which lies in the reader until the next call, or why the piece is passed over. The reader
     /// then reads on. Takes no memory.
     pub fn feed(&mut self, piece: &[u8]) -> (usize, Fed<'_>)
@@ -76,13 +76,13 @@ impl KissReader {
         ensures* stands { sem 𝓛 (Rests the_row self.entry (λ new. (before : List ℕ)
             → StandsAfter self.old before
             → StandsAfter new (rest_of (before ++ take result.0 piece.now)))) }
-        // The nonempty pieces that ended are none or one, and what is told is its judgement.
+        // The nonempty pieces that ended are none or one, and its judgement is reported.
         ensures judged { (before : List ℕ) → StandsAfter self.old before
-            → judgements_of (before ++ take result.0 piece.now) ≡ told_by result.1 }
+            → judgements_of (before ++ take result.0 piece.now) ≡ judgements_in result.1 }
         ensures used { result.0 ≤ length piece.now }
-        ensures whole { told_by result.1 ≡ [] → result.0 ≡ length piece.now }
-        // The byte that was used last is the frame end of the piece that is told of.
-        ensures ends { (before : List ℕ) → StandsAfter self.old before → told_by result.1 ≢ []
+        ensures whole { judgements_in result.1 ≡ [] → result.0 ≡ length piece.now }
+        // The byte that was used last is the frame end of the piece that is reported.
+        ensures ends { (before : List ℕ) → StandsAfter self.old before → judgements_in result.1 ≢ []
             → EndsPiece (before ++ take result.0 piece.now) }
         ensures progress { 0 < length piece.now → 0 < result.0 }
         ensures bounds { IsWithinBounds result.1 }
@@ -114,7 +114,7 @@ impl KissReader {
         *state = State::Ended;
     }
 
-    /// As `feed`, with the frame left in the buffer, behind its type byte.
+    /// As `feed`, with the frame left in the buffer, after its type byte.
     fn step(&mut self, piece: &[u8]) -> (usize, Option<Result<u8, PassFault>>)
         ensures stands { (before : List ℕ) → StandsAfter self.old before
             → StandsAfter self.new (rest_of (before ++ take result.0 piece.now)) }
@@ -181,9 +181,9 @@ impl KissReader {
             State::Ended if run.is_empty() => {}
             State::Ended => {
                 self.bytes.clear();
-                self.hold(run);
+                self.append(run);
             }
-            State::Plain => self.hold(run),
+            State::Plain => self.append(run),
             _ => {}
         }
     }
@@ -199,14 +199,14 @@ impl KissReader {
         match unescape(code) {
             None => self.state = State::Broken,
             Some(byte) => match self.state {
-                State::Escape => self.hold(&[byte]),
+                State::Escape => self.append(&[byte]),
                 _ => self.state = State::Long,
             },
         }
     }
 
-    /// Adds to what is held the last bytes that a piece spells, where there is room.
-    fn hold(&mut self, bytes: &[u8])
+    /// Adds to the buffer the last bytes that a piece spells, if there is room.
+    fn append(&mut self, bytes: &[u8])
         ensures stands { (all : List ℕ) → HasNoEnd all → 0 < length all
             → unspelled all ≡ Some (self.old.bytes.items ++ bytes.now) → StandsAfter self.new all }
         ensures closed { IsClosed self.new.state }

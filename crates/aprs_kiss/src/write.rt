@@ -1,7 +1,7 @@
 //! Writes KISS frames.
 ghost use Rattle.std.specs.Prelude.{◌≡◌, ◌≤◌, length, true, OnOk, OnErr};
 ghost use Rattle.std.specs.Io.KnownBytes.{Appends};
-ghost use Rattle.aprs_io.specs.Device.{device_of, failures_of, Rose, AppendsFront};
+ghost use Rattle.aprs_io.specs.Device.{device_of, failures_of, Rose, AppendsPrefix};
 ghost use Rattle.aprs_kiss.specs.Plain.{IsPlain, is_special};
 ghost use Rattle.aprs_kiss.specs.Spelling.{kiss_text, spelling_of_byte};
 
@@ -17,16 +17,17 @@ const DATA: u8 = 0;
 const MAX_AT_ONCE: usize = 328;
 
 /// The most bytes that are written at once: such a frame, two frame ends and the type byte.
-const MAX_TEXT: usize = 331;
+const MAX_TEXT: usize = MAX_AT_ONCE + 3;
 
-/// Writes a frame of any length as a data frame of port 0, between two frame ends. At a fault a
-/// front of that went out, and the count of the device's failures rose. Takes no memory.
+/// Writes a frame of any length as a data frame of port 0, between two frame ends (the KISS paper).
+/// At a fault a prefix of that went out, and the count of the device's failures rose. Takes no
+/// memory.
 pub fn write_kiss<W: Write>(w: &mut Counted<W>, frame: &[u8]) -> Result<(), WriteFault>
     ensures sent { OnOk result
         (Appends (W.contents (device_of w.old)) (W.contents (device_of w.new))
         (kiss_text frame.now)) }
     ensures prefix { OnErr result
-        (AppendsFront (W.contents (device_of w.old)) (W.contents (device_of w.new))
+        (AppendsPrefix (W.contents (device_of w.old)) (W.contents (device_of w.new))
         (kiss_text frame.now)) }
     ensures count { failures_of w.old ≤ failures_of w.new }
     ensures fault { OnErr result (Rose (failures_of w.old) (failures_of w.new)) }
@@ -45,7 +46,7 @@ fn write_spelled<W: Write>(w: &mut Counted<W>, frame: &[u8]) -> Result<(), Write
         (Appends (W.contents (device_of w.old)) (W.contents (device_of w.new))
         (kiss_text frame.now)) }
     ensures prefix { OnErr result
-        (AppendsFront (W.contents (device_of w.old)) (W.contents (device_of w.new))
+        (AppendsPrefix (W.contents (device_of w.old)) (W.contents (device_of w.new))
         (kiss_text frame.now)) }
     ensures count { failures_of w.old ≤ failures_of w.new }
     ensures fault { OnErr result (Rose (failures_of w.old) (failures_of w.new)) }
@@ -65,13 +66,13 @@ fn write_spelled<W: Write>(w: &mut Counted<W>, frame: &[u8]) -> Result<(), Write
 
 /// Writes a frame whose bytes all stand for themselves, in one call of the device.
 fn write_plain<W: Write>(w: &mut Counted<W>, frame: &[u8]) -> Result<(), WriteFault>
-    requires few { length frame.now ≤ 328 }
+    requires few { length frame.now ≤ MAX_AT_ONCE }
     requires plain { IsPlain frame.now }
     ensures sent { OnOk result
         (Appends (W.contents (device_of w.old)) (W.contents (device_of w.new))
         (kiss_text frame.now)) }
     ensures prefix { OnErr result
-        (AppendsFront (W.contents (device_of w.old)) (W.contents (device_of w.new))
+        (AppendsPrefix (W.contents (device_of w.old)) (W.contents (device_of w.new))
         (kiss_text frame.now)) }
     ensures count { failures_of w.old ≤ failures_of w.new }
     ensures fault { OnErr result (Rose (failures_of w.old) (failures_of w.new)) }

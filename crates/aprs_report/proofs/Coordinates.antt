@@ -9,7 +9,7 @@ use Rattle.aprs_report.specs.declared.coordinate.Axis.{Axis}
 use Rattle.aprs_report.specs.declared.coordinate.Axis.TheVariants.{Latitude, Longitude}
 use Rattle.aprs_report.specs.Bytes.{is_space}
 use Rattle.aprs_report.specs.Numeral.{is_digit_of}
-use Rattle.aprs_report.specs.Ending.{ends_in, IsCut}
+use Rattle.aprs_report.specs.Trailing.{ends_in, IsTrimmed}
 use Rattle.aprs_report.specs.Coordinate.{minutes_text}
 use Rattle.aprs_report.specs.Coordinate.{degree_digits, limit, letter, IsMinutes, IsCoordinate}
 use Rattle.aprs_report.specs.Reader.{places_of, ambiguity_of, minutes_of, half_of, angle_of}
@@ -110,7 +110,7 @@ angle_found axis a degree_text text angle width six le e =
       whole = ap (λ (t : List ℕ). degree_text ++ t) whole;
     })))
 
--- the six bytes behind the degrees
+-- the six bytes after the degrees
 abbrev pub minute_text : (axis : Axis) (a : ℕ) (angle : ℤ) (text : List ℕ) →
     IsCoordinate axis a angle text → List ℕ
 minute_text axis a angle text h =
@@ -143,7 +143,7 @@ pub ambiguity_is : (a : ℕ) (angle : ℤ) (text : List ℕ) (h : IsCoordinate L
     ambiguity_of (minute_text Latitude a angle text h) ≡ a
 ambiguity_is a angle text h =
     let m = h.at_minutes in
-    let cut : IsCut is_space m.known (h.tens ∷ h.units ∷ h.tenths ∷ h.hundredths ∷ []) =
+    let cut : IsTrimmed is_space m.known (h.tens ∷ h.units ∷ h.tenths ∷ h.hundredths ∷ []) =
     record {
       ending = m.blank;
       whole = m.whole;

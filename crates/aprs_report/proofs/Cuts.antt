@@ -6,7 +6,7 @@ use Rattle.std.specs.List.{list_all}
 use Rattle.std.proofs.lemmas.Bool.{cond_both, and_from, and_parts}
 use Rattle.std.proofs.Math.Seq.{drop-cons}
 use Rattle.aprs_report.specs.Reader.{kept, cut_end}
-use Rattle.aprs_report.specs.Ending.{ends_in, IsCut}
+use Rattle.aprs_report.specs.Trailing.{ends_in, IsTrimmed}
 
 cut_push : (p : ℕ → Bool) (xs : List ℕ) (b : ℕ) → p b ≡ true →
     cut_end p (xs ++ b ∷ []) ≡ cut_end p xs
@@ -81,7 +81,7 @@ cut_parts p [] = ([], refl, refl)
 cut_parts p (b ∷ bytes) =
     let more = cut_parts p bytes in more_cut p b bytes (cut_end p bytes) more.0 more.1 more.2
 
-pub cut_found : (p : ℕ → Bool) (bytes : List ℕ) → IsCut p (cut_end p bytes) bytes
+pub cut_found : (p : ℕ → Bool) (bytes : List ℕ) → IsTrimmed p (cut_end p bytes) bytes
 cut_found p bytes =
     let parts = cut_parts p bytes in
     record { ending = parts.0; whole = parts.1; cut = parts.2; stops = cut_stops p bytes }
@@ -101,5 +101,6 @@ left_alone p (b ∷ []) ending stops cut = rw (all_cut p ending cut, stops) refl
 left_alone p (b ∷ x ∷ left) ending stops cut =
     ap (kept p b) (left_alone p (x ∷ left) ending stops cut)
 
-pub cut_takes : (p : ℕ → Bool) (left bytes : List ℕ) → IsCut p left bytes → cut_end p bytes ≡ left
+pub cut_takes : (p : ℕ → Bool) (left bytes : List ℕ) → IsTrimmed p left bytes → cut_end p bytes
+    ≡ left
 cut_takes p left bytes h = ap (cut_end p) h.whole ∙ left_alone p left h.ending h.stops h.cut

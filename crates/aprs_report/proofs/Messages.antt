@@ -22,13 +22,13 @@ use Rattle.aprs_report.proofs.Names.{name_found, name_takes}
 
 -- ---- the loop
 
-abbrev pub with_front : List ℕ → Option (List ℕ × List ℕ) → Option (List ℕ × List ℕ)
-with_front front o = o >>= λ x. Some (front ++ x.0, x.1)
+abbrev pub with_prefix : List ℕ → Option (List ℕ × List ℕ) → Option (List ℕ × List ℕ)
+with_prefix start o = o >>= λ x. Some (start ++ x.0, x.1)
 
-regroup : (front : List ℕ) (b : ℕ) (o : Option (List ℕ × List ℕ)) →
-    with_front front (o >>= λ x. Some (b ∷ x.0, x.1)) ≡ with_front (front ++ b ∷ []) o
-regroup front b (Some x) = ap (λ (t : List ℕ). Some (t, x.1)) (simp append_assoc)
-regroup front b None = refl
+regroup : (start : List ℕ) (b : ℕ) (o : Option (List ℕ × List ℕ)) →
+    with_prefix start (o >>= λ x. Some (b ∷ x.0, x.1)) ≡ with_prefix (start ++ b ∷ []) o
+regroup start b (Some x) = ap (λ (t : List ℕ). Some (t, x.1)) (simp append_assoc)
+regroup start b None = refl
 
 numbered_at_none : (b : ℕ) (bs : List ℕ) → id_at (b ∷ bs) ≡ None →
     numbered_of (b ∷ bs) ≡ (numbered_of bs >>= λ x. Some (b ∷ x.0, x.1))
@@ -45,38 +45,38 @@ to_the_end part i =
     sym (take_all (length part - i) (drop i part) (omega (arith, length-drop i part)))
 
 goes_on_suc : (part : List ℕ) (i : ℕ) (t : Option (List ℕ × List ℕ)) → i < length part →
-    id_at (drop i part) ≡ None → with_front (take i part) (numbered_of (drop i part)) ≡ t →
-    with_front (take (suc i) part) (numbered_of (drop (suc i) part)) ≡ t
+    id_at (drop i part) ≡ None → with_prefix (take i part) (numbered_of (drop i part)) ≡ t →
+    with_prefix (take (suc i) part) (numbered_of (drop (suc i) part)) ≡ t
 goes_on_suc part i t lt none h =
     let here : drop i part ≡ get_or part i 0 ∷ drop (suc i) part = drop-cons part i 0 lt in
     let step =
     numbered_at_none (get_or part i 0) (drop (suc i) part) (ap id_at (sym here) ∙ none) in
-    ap (λ (f : List ℕ). with_front f (numbered_of (drop (suc i) part))) (take-suc part i 0 lt)
+    ap (λ (f : List ℕ). with_prefix f (numbered_of (drop (suc i) part))) (take-suc part i 0 lt)
     ∙ sym (regroup (take i part) (get_or part i 0) (numbered_of (drop (suc i) part)))
-    ∙ ap (with_front (take i part)) (sym (ap numbered_of here ∙ step)) ∙ h
+    ∙ ap (with_prefix (take i part)) (sym (ap numbered_of here ∙ step)) ∙ h
 
 pub goes_on : (part : List ℕ) (i : ℕ) (t : Option (List ℕ × List ℕ)) → i < length part →
-    id_at (drop i part) ≡ None → with_front (take i part) (numbered_of (drop i part)) ≡ t →
-    with_front (take (i + 1) part) (numbered_of (drop (i + 1) part)) ≡ t
+    id_at (drop i part) ≡ None → with_prefix (take i part) (numbered_of (drop i part)) ≡ t →
+    with_prefix (take (i + 1) part) (numbered_of (drop (i + 1) part)) ≡ t
 goes_on part i t lt none h =
-    subst (λ (k : ℕ). with_front (take k part) (numbered_of (drop k part)) ≡ t) (sym (add-one i))
+    subst (λ (k : ℕ). with_prefix (take k part) (numbered_of (drop k part)) ≡ t) (sym (add-one i))
     (goes_on_suc part i t lt none h)
 
 pub stops : (part : List ℕ) (i : ℕ) (id : List ℕ) (t : Option (List ℕ × List ℕ)) →
     i < length part → id_at (drop i part) ≡ Some id →
-    with_front (take i part) (numbered_of (drop i part)) ≡ t → Some (take i part, id) ≡ t
+    with_prefix (take i part) (numbered_of (drop i part)) ≡ t → Some (take i part, id) ≡ t
 stops part i id t lt some h =
     let here : drop i part ≡ get_or part i 0 ∷ drop (suc i) part = drop-cons part i 0 lt in
     let step =
     numbered_at_some (get_or part i 0) (drop (suc i) part) id (ap id_at (sym here) ∙ some) in
     ap (λ (f : List ℕ). Some (f, id)) (sym (append-nil (take i part)))
-    ∙ ap (with_front (take i part)) (sym (ap numbered_of here ∙ step)) ∙ h
+    ∙ ap (with_prefix (take i part)) (sym (ap numbered_of here ∙ step)) ∙ h
 
 pub ends : (part : List ℕ) (i : ℕ) (t : Option (List ℕ × List ℕ)) → length part ≤ i →
-    with_front (take i part) (numbered_of (drop i part)) ≡ t → None ≡ t
+    with_prefix (take i part) (numbered_of (drop i part)) ≡ t → None ≡ t
 unfolding numbered_of
 ends part i t le h =
-    ap (λ (r : List ℕ). with_front (take i part) (numbered_of r)) (sym (drop_all i part le)) ∙ h
+    ap (λ (r : List ℕ). with_prefix (take i part) (numbered_of r)) (sym (drop_all i part le)) ∙ h
 
 -- ---- answers
 
@@ -248,18 +248,18 @@ unfolding addressed_of
 addressed_found bytes x e =
     after_some _ _ _ _ e (λ field e1 r1. after_some _ _ _ _ r1
     (λ name e2 r2. after_some _ _ _ _ r2 (λ colon e3 r3.
-    let front = chunk_found 9 bytes field e1 in
+    let start = chunk_found 9 bytes field e1 in
     let mark = byte_found is_colon field.1 colon e3 in
-    let behind : field.1 ≡ 58 ∷ colon.1 =
+    let after : field.1 ≡ 58 ∷ colon.1 =
     mark.0 ∙ ap (λ (n : ℕ). n ∷ colon.1) (eqb-true colon.0 58 mark.1) in
     subst (λ (x : List ℕ × List ℕ). IsAddressed x.0 x.1 (58 ∷ bytes))
     (some_is (name, cut_end is_line_end colon.1) x r3) (record {
       field = field.0;
       bytes = colon.1;
-      nine = front.len;
+      nine = start.len;
       named = name_found field.0 name e2;
       cut = cut_found is_line_end colon.1;
-      whole = ap (λ (t : List ℕ). 58 ∷ t) (front.parts ∙ ap (λ (t : List ℕ). field.0 ++ t) behind);
+      whole = ap (λ (t : List ℕ). 58 ∷ t) (start.parts ∙ ap (λ (t : List ℕ). field.0 ++ t) after);
     }))))
 
 addressed_takes : (addressee part info : List ℕ) (h : IsAddressed addressee part info) →
@@ -276,7 +276,7 @@ message_found bytes v e = after_some _ _ _ _ e (λ a e1 r1.
     subst (λ (v : Value). HasForm v (58 ∷ bytes)) (some_is (part_of a.0 a.1) v r1)
     (part_found a.0 a.1 (58 ∷ bytes) (addressed_found bytes a e1)))
 
--- the bytes behind the first, and what they read as
+-- the bytes after the first, and what they read as
 pub record MessageAt (v : Value) (info : List ℕ) : Type 0 where
   pub bytes : List ℕ
   pub whole : info ≡ 58 ∷ bytes

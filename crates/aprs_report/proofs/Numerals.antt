@@ -70,15 +70,15 @@ reads_suc : (base nought : ℕ) (text : List ℕ) (i n : ℕ) → base ≤ 91 �
     is_digit_of base nought (get_or text i 0) ≡ true → ReadTo base nought text i n →
     ReadTo base nought text (suc i) (n * base + (get_or text i 0 - nought))
 reads_suc base nought text i n b lt h r =
-    let front = take-suc text i 0 lt in
+    let start = take-suc text i 0 lt in
     record {
       digits =
-          ap (list_all (is_digit_of base nought)) front
+          ap (list_all (is_digit_of base nought)) start
           ∙ list_all-append (is_digit_of base nought) (take i text) (get_or text i 0 ∷ [])
           ∙ and_from _ _ r.digits (and_from _ _ h refl);
       value =
           ap (λ (n : ℕ). n * base + (get_or text i 0 - nought)) r.value
-          ∙ sym (ap (number base nought) front ∙ number_push base nought (take i text)
+          ∙ sym (ap (number base nought) start ∙ number_push base nought (take i text)
           (get_or text i 0));
       below =
           next_below base n (get_or text i 0 - nought) i b

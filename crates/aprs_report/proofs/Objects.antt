@@ -50,7 +50,7 @@ object_found bytes v e =
     after_some _ _ _ _ e (λ field e1 r1. after_some _ _ _ _ r1
     (λ name e2 r2. after_some _ _ _ _ r2 (λ st e3 r3.
     after_some _ _ _ _ r3 (λ s e4 r4. after_some _ _ _ _ r4 (λ p e5 r5.
-    let front = chunk_found 9 bytes field e1 in
+    let start = chunk_found 9 bytes field e1 in
     let stamped = stamp_found st.1 s e4 in
     let at = place_found s.1 p e5 in
     let marked = state_found 42 field.1 st e3 in
@@ -58,13 +58,13 @@ object_found bytes v e =
     (record {
       field = field.0;
       place_text = at.text;
-      nine = front.len;
+      nine = start.len;
       named = name_found field.0 name e2;
       stamped = stamped.stamp;
       at_place = at.at_place;
       whole =
           ap (λ (t : List ℕ). 59 ∷ t) (object_parts (state_mark 42 st.0) bytes field.0 field.1 st.1
-          (stamp_bytes s.0) s.1 at.text p.2 front.parts marked stamped.whole at.whole);
+          (stamp_bytes s.0) s.1 at.text p.2 start.parts marked stamped.whole at.whole);
     }))))))
 
 pub object_takes : (name : List ℕ) (live : Bool) (stamp : Stamp) (place : Place) (symbol : Symbol)
@@ -94,21 +94,21 @@ none_before p (b ∷ bytes) (suc i) le h =
     and_from _ _ (not_from_false (p b) (h 0 (omega arith)))
     (none_before p bytes i (omega arith) (λ k lt. h (suc k) (omega arith)))
 
--- the first that passes stands behind bytes none of which does
-first_behind : (p : ℕ → Bool) (field : List ℕ) (b : ℕ) (rest : List ℕ) →
+-- the first that passes stands after bytes none of which does
+first_after : (p : ℕ → Bool) (field : List ℕ) (b : ℕ) (rest : List ℕ) →
     list_all (λ b. not (p b)) field ≡ true → p b ≡ true →
     position_or_len p (field ++ b ∷ rest) ≡ length field
-first_behind p [] b rest h t = rw t refl
-first_behind p (x ∷ field) b rest h t =
+first_after p [] b rest h t = rw t refl
+first_after p (x ∷ field) b rest h t =
     let d = and_parts (not (p x)) _ h in
-    rw (not-true (p x) d.0, first_behind p field b rest d.1 t) (omega arith)
+    rw (not-true (p x) d.0, first_after p field b rest d.1 t) (omega arith)
 
-place_behind : (p : ℕ → Bool) (field : List ℕ) (b : ℕ) (rest : List ℕ) →
+place_after : (p : ℕ → Bool) (field : List ℕ) (b : ℕ) (rest : List ℕ) →
     list_all (λ b. not (p b)) field ≡ true → p b ≡ true →
     position p (field ++ b ∷ rest) ≡ Some (length field)
-place_behind p field b rest h t =
+place_after p field b rest h t =
     rw (
-      first_behind p field b rest h t,
+      first_after p field b rest h t,
       lt-ltb (length field) (length (field ++ b ∷ rest))
           (omega (arith, length-append field (b ∷ rest))),
     ) refl
@@ -145,7 +145,7 @@ field_takes : (field : List ℕ) (live : Bool) (rest : List ℕ) → 3 ≤ lengt
 unfolding item_field_of
 field_takes field live rest low high h =
     rw (
-      place_behind is_item_mark field (state_mark 33 live) rest h (is_mark_of live),
+      place_after is_item_mark field (state_mark 33 live) rest h (is_mark_of live),
       le-leb _ _ low,
       le-leb _ _ high,
       take_at field (state_mark 33 live ∷ rest) (length field) refl,
@@ -161,21 +161,21 @@ unfolding item_of
 item_found bytes v e =
     after_some _ _ _ _ e (λ field e1 r1. after_some _ _ _ _ r1
     (λ name e2 r2. after_some _ _ _ _ r2 (λ st e3 r3. after_some _ _ _ _ r3 (λ p e4 r4.
-    let front = field_found bytes field e1 in
+    let start = field_found bytes field e1 in
     let at = place_found st.1 p e4 in
     let marked = state_found 33 field.1 st e3 in
     subst (λ (v : Value). HasForm v (41 ∷ bytes)) (some_is (item name st.0 p.0 p.1 p.2) v r4)
     (record {
       field = field.0;
       place_text = at.text;
-      at_least = front.at_least;
-      at_most = front.at_most;
-      unmarked = front.unmarked;
+      at_least = start.at_least;
+      at_most = start.at_most;
+      unmarked = start.unmarked;
       named = name_found field.0 name e2;
       at_place = at.at_place;
       whole =
           ap (λ (t : List ℕ). 41 ∷ t) (item_parts (state_mark 33 st.0) bytes field.0 field.1 st.1
-          at.text p.2 front.whole marked at.whole);
+          at.text p.2 start.whole marked at.whole);
     })))))
 
 pub item_takes : (name : List ℕ) (live : Bool) (place : Place) (symbol : Symbol)

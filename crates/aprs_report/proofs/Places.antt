@@ -21,7 +21,7 @@ use Rattle.aprs_report.proofs.Numerals.{numeral_found, numeral_takes}
 use Rattle.aprs_report.proofs.Coordinates.{angle_found, angle_takes, minute_text, ambiguity_is}
 use Rattle.aprs_report.proofs.Coordinates.{ambiguity_small}
 
--- a position at the front of some bytes
+-- a position at the start of some bytes
 pub record PlaceAt (bytes : List ℕ) (p : Place) (s : Symbol) (rest : List ℕ) : Type 0 where
   pub text : List ℕ
   pub at_place : IsPlace p s text

@@ -39,7 +39,7 @@ without_stamp : (bytes : List ℕ) (o : Option (Stamp × List ℕ)) → utc_at b
 without_stamp bytes None e h = refl
 without_stamp bytes (Some x) e h = absurd (h x.0 x.1 (utc_found bytes x e))
 
--- the bytes behind the first, and what they read as
+-- the bytes after the first, and what they read as
 pub record StatusAt (v : Value) (info : List ℕ) : Type 0 where
   pub bytes : List ℕ
   pub whole : info ≡ 62 ∷ bytes

@@ -7,35 +7,38 @@ use Rattle.aprs_report.specs.declared.coordinate.Axis.{Axis}
 use Rattle.aprs_report.specs.declared.coordinate.Axis.TheVariants.{Latitude, Longitude}
 use Rattle.aprs_report.specs.Bytes.{is_digit, is_space}
 use Rattle.aprs_report.specs.Numeral.{IsNumeral}
+use Rattle.aprs_report.specs.declared.coordinate.TheConstants.{PER_DEGREE}
 
--- how many digits its degrees have
+-- How many digits the degrees of an angle have.
 abbrev pub degree_digits : Axis → ℕ
 degree_digits Latitude = 2
 degree_digits Longitude = 3
 
--- 90 and 180 degrees
+-- The greatest angle: 90 degrees of latitude, 180 of longitude.
 abbrev pub limit : Axis → ℕ
-limit Latitude = 540000
-limit Longitude = 1080000
+limit Latitude = 90 * PER_DEGREE
+limit Longitude = 180 * PER_DEGREE
 
--- the letter of its negative or its positive half: S or N, W or E
+-- The letter of the negative or the positive half: S or N, W or E.
 abbrev pub letter : Axis → Bool → ℕ
 letter Latitude true = 83
 letter Latitude false = 78
 letter Longitude true = 87
 letter Longitude false = 69
 
+-- The number, or its negative.
 abbrev pub signed : Bool → ℕ → ℤ
 signed true n = neg_ℤ (pos n)
 signed false n = pos n
 
 -- What may stand at an ambiguous place. In a longitude a digit may be left there, since the
--- latitude tells how many places are ambiguous.
+-- latitude shows how many places are ambiguous.
 abbrev pub is_blank : Axis → ℕ → Bool
 is_blank Latitude b = is_space b
 is_blank Longitude b = is_space b || is_digit b
 
--- The minutes: tens, units, tenths and hundredths, of which the last are ambiguous and read as 0.
+-- The places tens, units, tenths and hundredths are these minutes, in hundredths; the last of them
+-- are ambiguous and read as 0.
 pub record IsMinutes (axis : Axis) (ambiguity minutes : ℕ) (places : List ℕ) : Type 0 where
   pub known : List ℕ
   pub blank : List ℕ
@@ -45,13 +48,14 @@ pub record IsMinutes (axis : Axis) (ambiguity minutes : ℕ) (places : List ℕ)
   pub blanks : list_all (is_blank axis) blank ≡ true
   pub count : length blank ≡ ambiguity
   pub value : minutes ≡ number * 10 ^ ambiguity
-  pub below : minutes < 6000
+  pub below : minutes < PER_DEGREE
 
--- MM.hh and the letter of the half
+-- The text MM.hh and the letter of the half.
 abbrev pub minutes_text : (tens units tenths hundredths half : ℕ) → List ℕ
 minutes_text tens units tenths hundredths half =
     tens ∷ units ∷ 46 ∷ tenths ∷ hundredths ∷ half ∷ []
 
+-- The text is this angle: its degrees, its minutes and the letter of its half.
 pub record IsCoordinate (axis : Axis) (ambiguity : ℕ) (angle : ℤ) (text : List ℕ) : Type 0 where
   pub degree_text : List ℕ
   pub tens : ℕ
@@ -64,7 +68,7 @@ pub record IsCoordinate (axis : Axis) (ambiguity : ℕ) (angle : ℤ) (text : Li
   pub width : length degree_text ≡ degree_digits axis
   pub at_degrees : IsNumeral 10 48 degrees degree_text
   pub at_minutes : IsMinutes axis ambiguity minutes (tens ∷ units ∷ tenths ∷ hundredths ∷ [])
-  pub within : degrees * 6000 + minutes ≤ limit axis
-  pub value : angle ≡ signed is_negative (degrees * 6000 + minutes)
+  pub within : degrees * PER_DEGREE + minutes ≤ limit axis
+  pub value : angle ≡ signed is_negative (degrees * PER_DEGREE + minutes)
   pub whole : text ≡
       degree_text ++ minutes_text tens units tenths hundredths (letter axis is_negative)

@@ -7,36 +7,42 @@ use Rattle.aprs_report.specs.declared.place.Place.{Place}
 use Rattle.aprs_report.specs.declared.place.Place.TheVariants.{Plain, Base91}
 use Rattle.aprs_report.specs.Reading.{Value, position, object, item, Reads}
 
--- a field and what it reads as
+-- The field reads as this report.
 pub record Example (info : List ℕ) (v : Value) : Type 0 where
   pub reads : Reads v info
 
+-- The negative number.
 abbrev pub minus : ℕ → ℤ
 minus n = neg_ℤ (pos n)
 
+-- A fraction of this numerator and denominator.
 abbrev pub fraction : ℤ → ℕ → Fraction
 fraction n d = record { numerator = n; denominator = pos d }
 
+-- A symbol of this table and code.
 abbrev pub symbol_of : ℕ → ℕ → Symbol
 symbol_of table code = record { table = table; code = code }
 
--- a house (symbol /-), without stamp, messages or comment
+-- A house (symbol /-), without stamp, messages or comment.
 abbrev pub plain : ℤ → ℤ → ℕ → Value
 plain lat lon ambiguity = position false None (Plain lat lon ambiguity) (symbol_of 47 45) []
 
--- a car (symbol >) of a station that takes messages, with c, s and T " sT"
+-- A car (symbol >) of a station that takes messages, with c, s and T " sT".
 abbrev pub compressed : ℕ → ℕ → ℕ → Value
 compressed table y x = position true None (Base91 y x (32 ∷ 115 ∷ 84 ∷ [])) (symbol_of table 62) []
 
+-- A stamp of the digits 092345 and this mark.
 abbrev pub stamp_with : ℕ → Stamp
 stamp_with mark = record { digits = codes "092345"; mark = mark }
 
--- 49 degrees 3.50 minutes north, 72 degrees 1.75 minutes west
+-- 49 degrees 3.50 minutes north, 72 degrees 1.75 minutes west.
 abbrev pub here : Place
 here = Plain (pos 294350) (minus 432175) 0
 
+-- The object LEADER, a car that is here.
 abbrev pub leader : Bool → Value
 leader live = object (codes "LEADER") live (stamp_with 122) here (symbol_of 47 62) []
 
+-- The item LEADER, a car that is here.
 abbrev pub leader_item : Bool → Value
 leader_item live = item (codes "LEADER") live here (symbol_of 47 62) []

@@ -1,5 +1,5 @@
 pub mod Bytes
-pub mod Ending
+pub mod Trailing
 pub mod Numeral
 pub mod Stamp
 pub mod Symbol

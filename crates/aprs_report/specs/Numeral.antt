@@ -3,15 +3,16 @@ use Rattle.std.specs.Prelude.{◌≡◌, ℕ, ◌+◌, ◌*◌, ◌-◌, ◌^◌
 use Rattle.std.specs.Prelude.{[], ◌∷◌, length}
 use Rattle.std.specs.List.{list_all}
 
--- a digit of a base is one of as many bytes, from that of nought on
+-- The byte is a digit of the base: one of as many bytes, from that of nought on.
 abbrev pub is_digit_of : ℕ → ℕ → ℕ → Bool
 is_digit_of base nought b = nat_le nought b && nat_lt (b - nought) base
 
--- each digit times the power of its place
+-- The sum of each digit times the power of its place.
 abbrev pub number : ℕ → ℕ → List ℕ → ℕ
 number base nought [] = 0
 number base nought (d ∷ ds) = (d - nought) * base ^ length ds + number base nought ds
 
+-- The text is this number in digits of the base.
 pub record IsNumeral (base nought n : ℕ) (text : List ℕ) : Type 0 where
   pub digits : list_all (is_digit_of base nought) text ≡ true
   pub value : n ≡ number base nought text

@@ -7,30 +7,31 @@ use Rattle.aprs_report.specs.declared.symbol.Symbol.{Symbol}
 use Rattle.aprs_report.specs.declared.place.Place.{Place}
 use Rattle.aprs_report.specs.Stamp.{IsStamp, stamp_bytes}
 use Rattle.aprs_report.specs.Place.{IsPlace}
-use Rattle.aprs_report.specs.Name.{IsName}
+use Rattle.aprs_report.specs.Name.{IsPaddedName}
 
--- the mark of a live one, or _ for a killed one
+-- The mark of a live one, or _ for a killed one.
 abbrev pub state_mark : ℕ → Bool → ℕ
 state_mark live true = live
 state_mark live false = 95
 
--- ";", a name of nine bytes, * or _, a stamp, a position, a comment
+-- The field is ";", a name in nine bytes, * or _, a stamp, a position and a comment.
 pub record IsObject (name : List ℕ) (live : Bool) (stamp : Stamp) (place : Place) (symbol : Symbol)
     (comment : List ℕ) (info : List ℕ) : Type 0 where
   pub field : List ℕ
   pub place_text : List ℕ
   pub nine : length field ≡ 9
-  pub named : IsName name field
+  pub named : IsPaddedName name field
   pub stamped : IsStamp stamp
   pub at_place : IsPlace place symbol place_text
   pub whole : info ≡ 59 ∷ (field ++ (state_mark 42 live ∷
       (stamp_bytes stamp ++ (place_text ++ comment))))
 
--- ! or _
+-- The byte is ! or _.
 abbrev pub is_item_mark : ℕ → Bool
 is_item_mark b = b == 33 || b == 95
 
--- ")", a name of three to nine bytes none of which is a mark, ! or _, a position, a comment
+-- The field is ")", a name of three to nine bytes none of which is a mark, ! or _, a position and a
+-- comment.
 pub record IsItem (name : List ℕ) (live : Bool) (place : Place) (symbol : Symbol)
     (comment : List ℕ) (info : List ℕ) : Type 0 where
   pub field : List ℕ
@@ -38,6 +39,6 @@ pub record IsItem (name : List ℕ) (live : Bool) (place : Place) (symbol : Symb
   pub at_least : 3 ≤ length field
   pub at_most : length field ≤ 9
   pub unmarked : list_all (λ b. not (is_item_mark b)) field ≡ true
-  pub named : IsName name field
+  pub named : IsPaddedName name field
   pub at_place : IsPlace place symbol place_text
   pub whole : info ≡ 41 ∷ (field ++ (state_mark 33 live ∷ (place_text ++ comment)))

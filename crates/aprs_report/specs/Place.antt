@@ -2,6 +2,8 @@
 use Rattle.std.specs.Prelude.{◌≡◌, ℕ, ℤ, pos, ◌-ℤ◌, List, [], ◌∷◌, ◌++◌, length}
 use Rattle.aprs_report.specs.declared.symbol.Symbol.{Symbol}
 use Rattle.aprs_report.specs.declared.coordinate.Axis.TheVariants.{Latitude, Longitude}
+use Rattle.aprs_report.specs.declared.coordinate.TheConstants.{PER_DEGREE}
+use Rattle.aprs_report.specs.declared.place.TheConstants.{MIDDLE, LATITUDE_PARTS, LONGITUDE_PARTS}
 use Rattle.aprs_report.specs.declared.place.Place.{Place}
 use Rattle.aprs_report.specs.declared.place.Place.TheVariants.{Plain, Base91}
 use Rattle.aprs_report.specs.declared.place.Fraction.{Fraction}
@@ -9,7 +11,8 @@ use Rattle.aprs_report.specs.Symbol.{IsSymbol, compressed_table}
 use Rattle.aprs_report.specs.Coordinate.{IsCoordinate}
 use Rattle.aprs_report.specs.Compressed.{IsBase91}
 
--- Nineteen bytes: latitude, table, longitude, code. Both angles have the latitude's ambiguity.
+-- The text is a plain position in nineteen bytes: latitude, table, longitude and code. Both angles
+-- have the latitude's ambiguity.
 pub record IsPlain (lat lon : ℤ) (ambiguity : ℕ) (s : Symbol) (text : List ℕ) : Type 0 where
   pub lat_text : List ℕ
   pub lon_text : List ℕ
@@ -18,7 +21,8 @@ pub record IsPlain (lat lon : ℤ) (ambiguity : ℕ) (s : Symbol) (text : List �
   pub symbol : IsSymbol s
   pub whole : text ≡ lat_text ++ (s.table ∷ (lon_text ++ s.code ∷ []))
 
--- Thirteen bytes: table, YYYY, XXXX, code, and the three bytes c, s and T as they stand.
+-- The text is a compressed position in thirteen bytes: table, YYYY, XXXX, code, and the three bytes
+-- c, s and T as they stand.
 pub record IsCompressed (y x : ℕ) (cst : List ℕ) (s : Symbol) (text : List ℕ) : Type 0 where
   pub y_text : List ℕ
   pub x_text : List ℕ
@@ -28,24 +32,23 @@ pub record IsCompressed (y x : ℕ) (cst : List ℕ) (s : Symbol) (text : List �
   pub symbol : IsSymbol s
   pub whole : text ≡ compressed_table s.table ∷ (y_text ++ (x_text ++ (s.code ∷ cst)))
 
+-- The text is this position with this symbol, plain or compressed.
 abbrev pub IsPlace : Place → Symbol → List ℕ → Type 0
 IsPlace (Plain lat lon ambiguity) s text = IsPlain lat lon ambiguity s text
 IsPlace (Base91 y x cst) s text = IsCompressed y x cst s text
 
--- degrees north: hundredths of minutes are 6000 a degree, and 90 - y / 380926
+-- The degrees north: hundredths of minutes of a plain position, and 90 - y / 380926.
 abbrev pub latitude_of : Place → Fraction
-latitude_of (Plain lat lon ambiguity) = record { numerator = lat; denominator = pos 6000 }
+latitude_of (Plain lat lon ambiguity) = record { numerator = lat; denominator = pos PER_DEGREE }
 latitude_of (Base91 y x cst) = record {
-  numerator = pos 34283340 -ℤ pos y;
-  denominator =
-      pos 380926;
+  numerator = MIDDLE -ℤ pos y;
+  denominator = LATITUDE_PARTS;
 }
 
--- degrees east: the same, and -180 + x / 190463
+-- The degrees east: hundredths of minutes of a plain position, and -180 + x / 190463.
 abbrev pub longitude_of : Place → Fraction
-longitude_of (Plain lat lon ambiguity) = record { numerator = lon; denominator = pos 6000 }
+longitude_of (Plain lat lon ambiguity) = record { numerator = lon; denominator = pos PER_DEGREE }
 longitude_of (Base91 y x cst) = record {
-  numerator = pos x -ℤ pos 34283340;
-  denominator =
-      pos 190463;
+  numerator = pos x -ℤ MIDDLE;
+  denominator = LONGITUDE_PARTS;
 }

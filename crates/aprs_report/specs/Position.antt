@@ -6,7 +6,7 @@ use Rattle.aprs_report.specs.declared.place.Place.{Place}
 use Rattle.aprs_report.specs.Stamp.{IsStamp, stamp_bytes}
 use Rattle.aprs_report.specs.Place.{IsPlace}
 
--- The first byte tells whether there is a stamp and whether the station takes messages:
+-- The first byte shows whether there is a stamp and whether the station takes messages:
 -- ! without either, = with messages, / with a stamp, @ with both.
 abbrev pub position_byte : Bool → Option Stamp → ℕ
 position_byte false None = 33
@@ -14,10 +14,12 @@ position_byte true None = 61
 position_byte false (Some s) = 47
 position_byte true (Some s) = 64
 
+-- The text is the stamp, or nothing where there is none.
 abbrev pub IsOptionalStamp : Option Stamp → List ℕ → Type 0
 IsOptionalStamp None text = text ≡ []
 IsOptionalStamp (Some s) text = IsStamp s × (text ≡ stamp_bytes s)
 
+-- The field is such a byte, a stamp if there is one, a position and a comment.
 pub record IsPosition (messaging : Bool) (stamp : Option Stamp) (place : Place) (symbol : Symbol)
     (comment : List ℕ) (info : List ℕ) : Type 0 where
   pub stamp_text : List ℕ

@@ -6,6 +6,8 @@ use Rattle.std.specs.Prelude.{slice_index, Option, Some, None, unwrap_or, codes}
 use Rattle.std.specs.List.{list_all, position as first_place}
 use Rattle.aprs_report.specs.declared.stamp.Stamp.{Stamp}
 use Rattle.aprs_report.specs.declared.symbol.Symbol.{Symbol}
+use Rattle.aprs_report.specs.declared.coordinate.TheConstants.{PER_DEGREE}
+use Rattle.aprs_report.specs.declared.compressed.TheConstants.{MAX_BASE91}
 use Rattle.aprs_report.specs.declared.coordinate.Axis.{Axis}
 use Rattle.aprs_report.specs.declared.coordinate.Axis.TheVariants.{Latitude, Longitude}
 use Rattle.aprs_report.specs.declared.place.Place.{Place}
@@ -19,38 +21,43 @@ use Rattle.aprs_report.specs.Object.{is_item_mark}
 use Rattle.aprs_report.specs.Message.{is_id}
 use Rattle.aprs_report.specs.Reading.{Value, position, object, item, message, ack, rej, status, raw}
 
+-- A step, and the next one from its value, if it has one.
 infixl 10 ◌>>=◌
 abbrev pub ◌>>=◌ : {A B : Type 0} → Option A → (A → Option B) → Option B
 (Some x) >>= f = f x
 None >>= f = None
 
+-- The value, if the test passes.
 abbrev pub guarded : {A : Type 0} → Bool → A → Option A
 guarded b x = if b then Some x else None
 
--- the first bytes and the rest
+-- The first n bytes and the rest.
 abbrev pub chunk_of : ℕ → List ℕ → Option (List ℕ × List ℕ)
 chunk_of n bytes = if nat_lt (length bytes) n then None else Some (take n bytes, drop n bytes)
 
--- a byte that passes and the rest
+-- The first byte and the rest, if the byte passes the test.
 abbrev pub byte_of : (ℕ → Bool) → List ℕ → Option (ℕ × List ℕ)
 byte_of p [] = None
 byte_of p (b ∷ rest) = guarded (p b) (b, rest)
 
--- what is left when the bytes at the end that pass are cut
+-- A byte and what is left after it, or nothing where the byte passes and nothing is left after it.
 abbrev pub kept : (ℕ → Bool) → ℕ → List ℕ → List ℕ
 kept p b [] = if p b then [] else b ∷ []
 kept p b (x ∷ xs) = b ∷ x ∷ xs
 
+-- The bytes without those at the end that pass the test.
 unfoldable pub cut_end : (ℕ → Bool) → List ℕ → List ℕ
 cut_end p [] = []
 cut_end p (b ∷ bs) = kept p b (cut_end p bs)
 
+-- The number that digits of a base are.
 unfoldable pub numeral_of : ℕ → ℕ → List ℕ → Option ℕ
 numeral_of base nought text =
     guarded (list_all (is_digit_of base nought) text) (number base nought text)
 
 -- ---- stamps
 
+-- The stamp at the start of some bytes, and the rest.
 unfoldable pub stamp_at : List ℕ → Option (Stamp × List ℕ)
 stamp_at bytes = do
   digits ← chunk_of 6 bytes
@@ -59,34 +66,39 @@ stamp_at bytes = do
 
 -- ---- plain positions
 
--- the four places of MM.hhN
+-- The four places of MM.hhN.
 abbrev pub places_of : List ℕ → List ℕ
 places_of text =
     slice_index text 0 ∷ slice_index text 1 ∷ slice_index text 3 ∷ slice_index text 4 ∷ []
 
+-- How many of the four places are left out, from the right.
 abbrev pub ambiguity_of : List ℕ → ℕ
 ambiguity_of text = 4 - length (cut_end is_space (places_of text))
 
+-- The minutes of the four places, in hundredths.
 unfoldable pub minutes_of : Axis → ℕ → List ℕ → Option ℕ
 minutes_of axis ambiguity places =
     if list_all (is_blank axis) (drop (4 - ambiguity) places)
     then (do
       known ← numeral_of 10 48 (take (4 - ambiguity) places)
-      guarded (nat_lt (known * 10 ^ ambiguity) 6000) (known * 10 ^ ambiguity))
+      guarded (nat_lt (known * 10 ^ ambiguity) PER_DEGREE) (known * 10 ^ ambiguity))
     else None
 
+-- Whether a letter is that of the negative half, if it is that of a half.
 abbrev pub half_of : Axis → ℕ → Option Bool
 half_of axis b =
     if b == letter axis true then Some true else guarded (b == letter axis false) false
 
+-- The angle of its degrees and of MM.hh and the letter of its half.
 unfoldable pub angle_of : Axis → ℕ → List ℕ → List ℕ → Option ℤ
 angle_of axis ambiguity degree_text text = do
   degrees ← numeral_of 10 48 degree_text
   minutes ← minutes_of axis ambiguity (places_of text)
   is_negative ← half_of axis (slice_index text 5)
-  guarded (slice_index text 2 == 46 && nat_le (degrees * 6000 + minutes) (limit axis))
-      (signed is_negative (degrees * 6000 + minutes))
+  guarded (slice_index text 2 == 46 && nat_le (degrees * PER_DEGREE + minutes) (limit axis))
+      (signed is_negative (degrees * PER_DEGREE + minutes))
 
+-- The plain position at the start of some bytes, its symbol, and the rest.
 unfoldable pub plain_of : List ℕ → Option (Place × Symbol × List ℕ)
 plain_of bytes = do
   north ← chunk_of 2 bytes
@@ -105,23 +117,26 @@ plain_of bytes = do
 
 -- ---- compressed positions
 
--- the table that a byte stands for
+-- The table that a byte of a compressed position stands for.
 abbrev pub table_named : ℕ → Option ℕ
 table_named b =
     if nat_le 97 b && nat_le b 106 then Some (b - 49)
     else guarded (b == 47 || b == 92 || is_capital b) b
 
+-- The table of a compressed position, and the rest.
 unfoldable pub named_of : List ℕ → Option (ℕ × List ℕ)
 named_of [] = None
 named_of (b ∷ rest) = do
   table ← table_named b
   Some (table, rest)
 
+-- The number of a compressed position that four digits are.
 unfoldable pub base91_of : List ℕ → Option ℕ
 base91_of text = do
   n ← numeral_of 91 33 text
-  guarded (nat_le n 68566680) n
+  guarded (nat_le n MAX_BASE91) n
 
+-- The compressed position at the start of some bytes, its symbol, and the rest.
 unfoldable pub compressed_of : List ℕ → Option (Place × Symbol × List ℕ)
 compressed_of bytes = do
   table ← named_of bytes
@@ -133,78 +148,88 @@ compressed_of bytes = do
   x ← base91_of xs.0
   Some (Base91 y x cst.0, record { table = table.0; code = code.0 }, cst.1)
 
+-- The position at the start of some bytes, which is plain if it begins with a digit.
 unfoldable pub place_of : List ℕ → Option (Place × Symbol × List ℕ)
 place_of [] = None
 place_of (b ∷ rest) = if is_digit b then plain_of (b ∷ rest) else compressed_of (b ∷ rest)
 
 -- ---- position reports
 
+-- The position report that bytes after the stamp are.
 unfoldable pub position_of : Bool → Option Stamp → List ℕ → Option Value
 position_of messaging stamp bytes = do
-  p ← place_of bytes
-  Some (position messaging stamp p.0 p.1 p.2)
+  place ← place_of bytes
+  Some (position messaging stamp place.0 place.1 place.2)
 
+-- The position report with a stamp that bytes after the first are.
 unfoldable pub stamped_of : Bool → List ℕ → Option Value
 stamped_of messaging bytes = do
-  s ← stamp_at bytes
-  position_of messaging (Some s.0) s.1
+  stamp ← stamp_at bytes
+  position_of messaging (Some stamp.0) stamp.1
 
 -- ---- objects and items
 
+-- The name that a field has.
 abbrev pub name_of : List ℕ → Option (List ℕ)
 name_of field =
     guarded (list_all is_printable field && nat_lt 0 (length (cut_end is_space field)))
     (cut_end is_space field)
 
--- the state that a mark names, and the rest
+-- Whether the first byte is the mark of a live one or of a killed one, and the rest.
 abbrev pub state_of : ℕ → List ℕ → Option (Bool × List ℕ)
 state_of live [] = None
 state_of live (b ∷ rest) =
     if b == live then Some (true, rest) else guarded (b == 95) (false, rest)
 
+-- The object that bytes after the first are.
 unfoldable pub object_of : List ℕ → Option Value
 object_of bytes = do
   field ← chunk_of 9 bytes
   name ← name_of field.0
   state ← state_of 42 field.1
   stamp ← stamp_at state.1
-  p ← place_of stamp.1
-  Some (object name state.0 stamp.0 p.0 p.1 p.2)
+  place ← place_of stamp.1
+  Some (object name state.0 stamp.0 place.0 place.1 place.2)
 
--- the bytes before an item's mark, and the rest
+-- The bytes before an item's mark, and the rest.
 unfoldable pub item_field_of : List ℕ → Option (List ℕ × List ℕ)
 item_field_of bytes = do
   end ← first_place is_item_mark bytes
   guarded (nat_le 3 end && nat_le end 9) (take end bytes, drop end bytes)
 
+-- The item that bytes after the first are.
 unfoldable pub item_of : List ℕ → Option Value
 item_of bytes = do
   field ← item_field_of bytes
   name ← name_of field.0
   state ← state_of 33 field.1
-  p ← place_of state.1
-  Some (item name state.0 p.0 p.1 p.2)
+  place ← place_of state.1
+  Some (item name state.0 place.0 place.1 place.2)
 
 -- ---- statuses
 
+-- The stamp in UTC at the start of some bytes, and the rest.
 unfoldable pub utc_at : List ℕ → Option (Stamp × List ℕ)
 utc_at bytes = do
-  s ← stamp_at bytes
-  guarded (s.0.mark == 122) s
+  stamp ← stamp_at bytes
+  guarded (stamp.0.mark == 122) stamp
 
+-- The status of a stamp, if there is one, and a text.
 abbrev pub status_with : List ℕ → Option (Stamp × List ℕ) → Value
 status_with bytes None = status None bytes
 status_with bytes (Some s) = status (Some s.0) s.1
 
+-- The status that bytes after the first are.
 abbrev pub status_of : List ℕ → Value
 status_of bytes = status_with bytes (utc_at bytes)
 
 -- ---- messages
 
+-- The byte is a colon.
 abbrev pub is_colon : ℕ → Bool
 is_colon b = b == 58
 
--- the addressee and the part
+-- The addressee and the part.
 unfoldable pub addressed_of : List ℕ → Option (List ℕ × List ℕ)
 addressed_of bytes = do
   field ← chunk_of 9 bytes
@@ -212,7 +237,7 @@ addressed_of bytes = do
   colon ← byte_of is_colon field.1
   Some (name, cut_end is_line_end colon.1)
 
--- an id behind a word of three bytes
+-- The id after a word of three bytes.
 unfoldable pub answer_at : List ℕ → List ℕ → Option (List ℕ)
 answer_at word [] = None
 answer_at word (x ∷ []) = None
@@ -221,20 +246,23 @@ answer_at word (x ∷ y ∷ z ∷ id) =
     let begins = x == slice_index word 0 && y == slice_index word 1 && z == slice_index word 2 in
     guarded (begins && is_id id) id
 
--- an id behind a brace at the front
+-- The id after a brace, with which the bytes begin.
 abbrev pub id_at : List ℕ → Option (List ℕ)
 id_at [] = None
 id_at (b ∷ id) = guarded (b == 123 && is_id id) id
 
+-- A text that ends before this byte, if an id begins here, or later.
 abbrev pub numbered_with : ℕ → Option (List ℕ) → Option (List ℕ × List ℕ) →
     Option (List ℕ × List ℕ)
 numbered_with b (Some id) later = Some ([], id)
 numbered_with b None later = later >>= λ x. Some (b ∷ x.0, x.1)
 
+-- The text and the id of a part, if it has an id.
 unfoldable pub numbered_of : List ℕ → Option (List ℕ × List ℕ)
 numbered_of [] = None
 numbered_of (b ∷ bs) = numbered_with b (id_at (b ∷ bs)) (numbered_of bs)
 
+-- What a part says: an acknowledgement, a rejection, a text with its id, or all text.
 abbrev pub part_with : List ℕ → List ℕ → Option (List ℕ) → Option (List ℕ) →
     Option (List ℕ × List ℕ) → Value
 part_with addressee part (Some id) rejected numbered = ack addressee id
@@ -242,18 +270,21 @@ part_with addressee part None (Some id) numbered = rej addressee id
 part_with addressee part None None (Some x) = message addressee x.0 (Some x.1)
 part_with addressee part None None None = message addressee part None
 
+-- What the part after the addressee says.
 abbrev pub part_of : List ℕ → List ℕ → Value
 part_of addressee part =
     part_with addressee part (answer_at (codes "ack") part) (answer_at (codes "rej") part)
     (numbered_of part)
 
+-- The message or answer that bytes after the first are.
 unfoldable pub message_of : List ℕ → Option Value
 message_of bytes = do
-  a ← addressed_of bytes
-  Some (part_of a.0 a.1)
+  addressed ← addressed_of bytes
+  Some (part_of addressed.0 addressed.1)
 
 -- ---- by the first byte
 
+-- The report that has the form of the field, by its first byte.
 unfoldable pub form_of : List ℕ → Option Value
 form_of [] = None
 form_of (b ∷ rest) =
@@ -266,6 +297,6 @@ form_of (b ∷ rest) =
     else (if b == 62 then Some (status_of rest)
     else (if b == 58 then message_of rest else None)))))))
 
--- what a field reads as
+-- What a field reads as: a report with a form, or raw.
 abbrev pub reading_of : List ℕ → Value
 reading_of info = unwrap_or (form_of info) raw

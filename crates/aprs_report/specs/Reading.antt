@@ -12,7 +12,7 @@ use Rattle.aprs_report.specs.Object.{IsObject, IsItem}
 use Rattle.aprs_report.specs.Status.{IsStatus}
 use Rattle.aprs_report.specs.Message.{IsMessage, IsReply}
 
--- what a report says, without where its bytes lie in memory
+-- What a report says, without where its bytes lie in memory.
 pub data Value : Type 0 where
   position : (messaging : Bool) (stamp : Option Stamp) (place : Place) (symbol : Symbol)
       (comment : List ℕ) → Value
@@ -25,6 +25,7 @@ pub data Value : Type 0 where
   status : (stamp : Option Stamp) (text : List ℕ) → Value
   raw : Value
 
+-- What a report of the program says.
 abbrev pub view : Report → Value
 view (Position messaging stamp place symbol comment) =
     position messaging stamp place symbol comment.now
@@ -37,7 +38,7 @@ view (Rej addressee id) = rej addressee.now id.now
 view (Status stamp text) = status stamp text.now
 view Raw = raw
 
--- the name of a report's kind
+-- The name of a report's kind.
 abbrev pub kind_of : Value → List ℕ
 kind_of (position messaging stamp place symbol comment) = codes "position"
 kind_of (object name live stamp place symbol comment) = codes "object"
@@ -48,7 +49,7 @@ kind_of (rej addressee id) = codes "rej"
 kind_of (status stamp text) = codes "status"
 kind_of raw = codes "raw"
 
--- the reports that have a form of their own
+-- The field has the form of this report; a raw report has none.
 abbrev pub HasForm : Value → List ℕ → Type 0
 HasForm (position messaging stamp place symbol comment) info =
     IsPosition messaging stamp place symbol comment info
@@ -61,11 +62,11 @@ HasForm (rej addressee id) info = IsReply (codes "rej") addressee id info
 HasForm (status stamp text) info = IsStatus stamp text info
 HasForm raw info = ⊥
 
--- the bytes read as this report; a field is raw exactly where it has no form
+-- The field reads as this report; it reads as raw exactly where it has the form of no other.
 abbrev pub Reads : Value → List ℕ → Type 0
 Reads raw info = (v : Value) → HasForm v info → ⊥
 Reads v info = HasForm v info
 
--- each field reads as one report and no other
+-- The field reads as one report and no other.
 abbrev pub OneReading : List ℕ → Type 0
 OneReading info = (v : Value) × Reads v info × ((w : Value) → Reads w info → w ≡ v)

@@ -3,13 +3,13 @@ use Rattle.std.specs.Prelude.{◌≡◌, ℕ, List, ◌∷◌, ◌++◌, Option,
 use Rattle.aprs_report.specs.declared.stamp.Stamp.{Stamp}
 use Rattle.aprs_report.specs.Stamp.{IsStamp, stamp_bytes}
 
--- a stamp of day, hour and minute in UTC, and the rest
+-- The bytes are a stamp of day, hour and minute in UTC, and the rest.
 pub record BeginsInUtc (stamp : Stamp) (bytes rest : List ℕ) : Type 0 where
   pub stamped : IsStamp stamp
   pub utc : stamp.mark ≡ 122
   pub whole : bytes ≡ stamp_bytes stamp ++ rest
 
--- ">", such a stamp if there is one, and the text
+-- The field is ">", such a stamp if the bytes begin with one, and the text.
 abbrev pub IsStatus : Option Stamp → List ℕ → List ℕ → Type 0
 IsStatus (Some stamp) text info = (bytes : List ℕ) × BeginsInUtc stamp bytes text ×
     (info ≡ 62 ∷ bytes)

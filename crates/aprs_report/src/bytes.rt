@@ -5,24 +5,28 @@ ghost use Rattle.std.specs.Option.{option_map};
 ghost use Rattle.aprs_report.specs.Bytes.{is_digit, is_capital, is_alphanumeric, is_printable};
 ghost use Rattle.aprs_report.specs.Reader.{chunk_of, cut_end};
 
+/// Whether it is `0` to `9`.
 pub fn is_digit_byte(byte: u8) -> bool
     ensures { result ≡ is_digit byte }
 {
     byte.is_ascii_digit()
 }
 
+/// Whether it is `A` to `Z`.
 pub fn is_capital_byte(byte: u8) -> bool
     ensures { result ≡ is_capital byte }
 {
     byte.is_ascii_uppercase()
 }
 
+/// Whether it is a letter of either case or a digit.
 pub fn is_alphanumeric_byte(byte: u8) -> bool
     ensures { result ≡ is_alphanumeric byte }
 {
     byte.is_ascii_alphanumeric()
 }
 
+/// Whether it is a space to `~`.
 pub fn is_printable_byte(byte: u8) -> bool
     ensures { result ≡ is_printable byte }
 {
@@ -36,22 +40,22 @@ pub fn chunk<const N: usize>(bytes: &[u8]) -> Option<(&[u8; N], &[u8])>
     bytes.split_first_chunk::<N>()
 }
 
-/// Which bytes are cut at the end of some others.
+/// Which bytes are cut off at the end of others.
 #[derive(Clone, Copy)]
-pub enum Ending {
+pub enum Trailing {
     Spaces,
     LineEnds,
 }
 
-impl Ending {
-    ghost use Rattle.aprs_report.specs.Ending.{is_end};
+impl Trailing {
+    ghost use Rattle.aprs_report.specs.Trailing.{is_end};
 
     fn has(self, byte: u8) -> bool
         ensures { result ≡ is_end self byte }
     {
         match self {
-            Ending::Spaces => byte == b' ',
-            Ending::LineEnds => byte == b'\r' || byte == b'\n',
+            Trailing::Spaces => byte == b' ',
+            Trailing::LineEnds => byte == b'\r' || byte == b'\n',
         }
     }
 
@@ -61,11 +65,11 @@ impl Ending {
         ensures short { length result.now ≤ length bytes.now }
     {
         let mut rest = bytes;
-        while let [front @ .., last] = rest {
+        while let [shorter @ .., last] = rest {
             if !self.has(*last) {
                 return rest;
             }
-            rest = front;
+            rest = shorter;
         }
         rest
     }

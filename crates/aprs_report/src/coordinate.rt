@@ -4,8 +4,11 @@ ghost use Rattle.std.specs.Prelude.{◌≡◌, ◌<◌, ◌≤◌, ◌^◌, leng
 ghost use Rattle.std.specs.List.{list_all};
 ghost use Rattle.aprs_report.specs.Reader.{ambiguity_of, minutes_of, half_of, angle_of};
 
-use crate::bytes::{Ending, is_digit_byte};
+use crate::bytes::{Trailing, is_digit_byte};
 use crate::numeral::numeral;
+
+/// How many hundredths of minutes a degree has.
+pub const PER_DEGREE: u64 = 6_000;
 
 #[derive(Clone, Copy)]
 pub enum Axis {
@@ -16,6 +19,7 @@ pub enum Axis {
 impl Axis {
     ghost use Rattle.aprs_report.specs.Coordinate.{limit, letter, is_blank};
 
+    /// 90 or 180 degrees, in hundredths of minutes.
     fn limit(self) -> u32
         ensures { result ≡ limit self }
     {
@@ -25,6 +29,7 @@ impl Axis {
         }
     }
 
+    /// The letter of the negative or the positive half.
     fn letter(self, is_negative: bool) -> u8
         ensures { result ≡ letter self is_negative }
     {
@@ -46,6 +51,7 @@ impl Axis {
         }
     }
 
+    /// Whether each of these places may be ambiguous.
     fn all_blank(self, places: &[u8]) -> bool
         ensures { result ≡ list_all (is_blank self) places.now }
     {
@@ -73,7 +79,7 @@ pub fn ambiguity(text: &[u8; 6]) -> u8
 {
     let [tens, units, _, tenths, hundredths, _] = *text;
     let places = [tens, units, tenths, hundredths];
-    4 - Ending::Spaces.cut(&places).len() as u8
+    4 - Trailing::Spaces.cut(&places).len() as u8
 }
 
 fn power_of_ten(exponent: u8) -> u64
@@ -90,21 +96,26 @@ fn power_of_ten(exponent: u8) -> u64
     }
 }
 
+/// The minutes in hundredths, of their four digits, of which the last are ambiguous.
 #[tactic(auto, unfolding(crate::specs::Reader::minutes_of))]
 fn minutes(axis: Axis, ambiguity: u8, places: &[u8; 4]) -> Option<u64>
     requires { ambiguity ≤ 4 }
     ensures exact { result ≡ minutes_of axis ambiguity places.now }
-    ensures small { IfSome result (λ n. n < 6000) }
+    ensures small { IfSome result (λ n. n < PER_DEGREE) }
 {
     let (known, blank) = places.split_at(4 - ambiguity as usize);
     if !axis.all_blank(blank) {
         return None;
     }
     let minutes = numeral(10, b'0', known)? as u64 * power_of_ten(ambiguity);
-    if minutes < 6_000 { Some(minutes) } else { None }
+    if minutes < PER_DEGREE {
+        Some(minutes)
+    } else {
+        None
+    }
 }
 
-/// An angle, of its degrees and of `MM.hh` and its half's letter.
+/// An angle in hundredths of minutes, from its degrees and from `MM.hh` and the letter of its half.
 #[tactic(auto, unfolding(crate::specs::Reader::angle_of))]
 pub fn angle(axis: Axis, ambiguity: u8, degrees: &[u8], text: &[u8; 6]) -> Option<i32>
     requires places { ambiguity ≤ 4 }
@@ -115,7 +126,7 @@ pub fn angle(axis: Axis, ambiguity: u8, degrees: &[u8], text: &[u8; 6]) -> Optio
     let degrees = numeral(10, b'0', degrees)? as u64;
     let minutes = minutes(axis, ambiguity, &[tens, units, tenths, hundredths])?;
     let is_negative = axis.half(letter)?;
-    let angle = degrees * 6_000 + minutes;
+    let angle = degrees * PER_DEGREE + minutes;
     if point != b'.' || angle > axis.limit() as u64 {
         return None;
     }

@@ -9,24 +9,25 @@ ghost use Rattle.aprs_report.specs.Reading.{view};
 ghost use Rattle.aprs_report.specs.Reader.{addressed_of, answer_at, id_at, numbered_of};
 ghost use Rattle.aprs_report.specs.Reader.{part_of, message_of};
 
-use crate::bytes::{Ending, chunk, is_alphanumeric_byte};
+use crate::bytes::{Trailing, chunk, is_alphanumeric_byte};
 use crate::name::name_in;
 use crate::report::Report;
 
+/// Whether each is a letter or a digit.
 fn all_alphanumeric(bytes: &[u8]) -> bool
     ensures { result ≡ list_all is_alphanumeric bytes.now }
 {
     bytes.iter().all(|byte| is_alphanumeric_byte(*byte))
 }
 
-/// One to five letters or digits.
+/// Whether these are one to five letters or digits.
 fn can_be_id(bytes: &[u8]) -> bool
     ensures { result ≡ is_id bytes.now }
 {
     1 <= bytes.len() && bytes.len() <= 5 && all_alphanumeric(bytes)
 }
 
-/// The id behind a word.
+/// The id after `ack` or `rej`.
 #[tactic(auto, unfolding(crate::specs::Reader::answer_at))]
 fn answer(word: [u8; 3], part: &[u8]) -> Option<&[u8]>
     ensures { option_map (λ x. x.now) result ≡ answer_at word part.now }
@@ -38,7 +39,8 @@ fn answer(word: [u8; 3], part: &[u8]) -> Option<&[u8]>
     }
 }
 
-fn id_behind_brace(bytes: &[u8]) -> Option<&[u8]>
+/// The id after a brace.
+fn id_after_brace(bytes: &[u8]) -> Option<&[u8]>
     ensures { option_map (λ x. x.now) result ≡ id_at bytes.now }
 {
     match bytes {
@@ -52,7 +54,7 @@ fn numbered(part: &[u8]) -> Option<(&[u8], &[u8])>
     ensures { option_map (λ x. (x.0.now, x.1.now)) result ≡ numbered_of part.now }
 {
     for i in 0..part.len() {
-        match id_behind_brace(&part[i..]) {
+        match id_after_brace(&part[i..]) {
             Some(id) => return Some((&part[..i], id)),
             None => {}
         }
@@ -60,7 +62,7 @@ fn numbered(part: &[u8]) -> Option<(&[u8], &[u8])>
     None
 }
 
-/// What a part says to an addressee.
+/// What the part after the addressee says.
 fn part_to<'a>(addressee: &'a [u8], part: &'a [u8]) -> Report<'a>
     ensures { view result ≡ part_of addressee.now part.now }
 {
@@ -92,12 +94,12 @@ fn addressed(bytes: &[u8]) -> Option<(&[u8], &[u8])>
     let (field, rest) = chunk::<9>(bytes)?;
     let addressee = name_in(field)?;
     match rest {
-        [b':', part @ ..] => Some((addressee, Ending::LineEnds.cut(part))),
+        [b':', part @ ..] => Some((addressee, Trailing::LineEnds.cut(part))),
         _ => None,
     }
 }
 
-/// A message or its answer, of the bytes behind its first.
+/// A message or its answer, from the bytes after the first.
 #[tactic(auto, unfolding(crate::specs::Reader::message_of))]
 pub fn message(bytes: &[u8]) -> Option<Report<'_>>
     ensures { option_map view result ≡ message_of bytes.now }

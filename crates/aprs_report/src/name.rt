@@ -6,7 +6,7 @@ ghost use Rattle.std.specs.List.{list_all};
 ghost use Rattle.aprs_report.specs.Bytes.{is_printable};
 ghost use Rattle.aprs_report.specs.Reader.{name_of};
 
-use crate::bytes::{Ending, is_printable_byte};
+use crate::bytes::{Trailing, is_printable_byte};
 
 fn all_printable(field: &[u8]) -> bool
     ensures { result ≡ list_all is_printable field.now }
@@ -21,6 +21,6 @@ pub fn name_in(field: &[u8]) -> Option<&[u8]>
     if !all_printable(field) {
         return None;
     }
-    let name = Ending::Spaces.cut(field);
+    let name = Trailing::Spaces.cut(field);
     if name.is_empty() { None } else { Some(name) }
 }

@@ -8,12 +8,12 @@ ghost use Rattle.aprs_report.specs.Reader.{state_of, object_of, item_field_of, i
 
 use crate::bytes::chunk;
 use crate::name::name_in;
-use crate::place::place_at_front;
+use crate::place::place_at_start;
 use crate::report::Report;
-use crate::stamp::stamp_at_front;
+use crate::stamp::stamp_at_start;
 
-/// Whether the mark at the front is that of a live one or `_`, and the rest.
-fn state_at_front(live: u8, bytes: &[u8]) -> Option<(bool, &[u8])>
+/// Whether the first byte is the mark of a live one or `_`, and the rest.
+fn state_at_start(live: u8, bytes: &[u8]) -> Option<(bool, &[u8])>
     ensures { option_map (λ x. (x.0, x.1.now)) result ≡ state_of live bytes.now }
 {
     match bytes {
@@ -23,16 +23,16 @@ fn state_at_front(live: u8, bytes: &[u8]) -> Option<(bool, &[u8])>
     }
 }
 
-/// An object, of the bytes behind its first.
+/// An object, from the bytes after the first.
 #[tactic(auto, unfolding(crate::specs::Reader::object_of))]
 pub fn object(bytes: &[u8]) -> Option<Report<'_>>
     ensures { option_map view result ≡ object_of bytes.now }
 {
     let (field, rest) = chunk::<9>(bytes)?;
     let name = name_in(field)?;
-    let (live, rest) = state_at_front(b'*', rest)?;
-    let (stamp, rest) = stamp_at_front(rest)?;
-    let (place, symbol, comment) = place_at_front(rest)?;
+    let (live, rest) = state_at_start(b'*', rest)?;
+    let (stamp, rest) = stamp_at_start(rest)?;
+    let (place, symbol, comment) = place_at_start(rest)?;
     Some(Report::Object {
         name,
         live,
@@ -43,6 +43,7 @@ pub fn object(bytes: &[u8]) -> Option<Report<'_>>
     })
 }
 
+/// Where the first mark of an item stands.
 fn place_of_mark(bytes: &[u8]) -> Option<usize>
     ensures exact { result ≡ position is_item_mark bytes.now }
     ensures within { IfSome result (λ i. i < length bytes.now) }
@@ -63,15 +64,15 @@ fn item_field(bytes: &[u8]) -> Option<(&[u8], &[u8])>
     }
 }
 
-/// An item, of the bytes behind its first.
+/// An item, from the bytes after the first.
 #[tactic(auto, unfolding(crate::specs::Reader::item_of))]
 pub fn item(bytes: &[u8]) -> Option<Report<'_>>
     ensures { option_map view result ≡ item_of bytes.now }
 {
     let (field, rest) = item_field(bytes)?;
     let name = name_in(field)?;
-    let (live, rest) = state_at_front(b'!', rest)?;
-    let (place, symbol, comment) = place_at_front(rest)?;
+    let (live, rest) = state_at_start(b'!', rest)?;
+    let (place, symbol, comment) = place_at_start(rest)?;
     Some(Report::Item {
         name,
         live,

@@ -1,4 +1,4 @@
-//! Positions' places.
+//! Where a position is, and how it is written.
 
 ghost use Rattle.std.specs.Prelude.{◌≡◌};
 ghost use Rattle.std.specs.Option.{option_map};
@@ -6,13 +6,25 @@ ghost use Rattle.aprs_report.specs.Reader.{plain_of, compressed_of, place_of};
 
 use crate::bytes::{chunk, is_digit_byte};
 use crate::compressed::base91;
-use crate::coordinate::{Axis, ambiguity, angle};
-use crate::symbol::{Symbol, code_at_front, compressed_table_at_front, table_at_front};
+use crate::coordinate::{Axis, PER_DEGREE, ambiguity, angle};
+use crate::symbol::{Symbol, code_at_start, compressed_table_at_start, table_at_start};
 
-/// An exact fraction, not reduced.
+/// The number of the equator and of the meridian of Greenwich in a compressed position.
+const MIDDLE: i64 = 34_283_340;
+
+/// How many parts a degree of a compressed latitude has.
+const LATITUDE_PARTS: i64 = 380_926;
+
+/// How many parts a degree of a compressed longitude has.
+const LONGITUDE_PARTS: i64 = 190_463;
+
+/// An exact angle in degrees, as a fraction that isn't reduced: 6,000 parts a degree in a plain
+/// position, 380,926 (latitude) or 190,463 (longitude) in a compressed one.
 #[derive(Clone, Copy, Debug, PartialEq, Eq)]
 pub struct Fraction {
+    /// How many parts of a degree, negative to the south and the west.
     pub numerator: i64,
+    /// How many parts a degree has: more than 0.
     pub denominator: i64,
 }
 
@@ -49,11 +61,11 @@ impl Place {
         match *self {
             Place::Plain { lat, .. } => Fraction {
                 numerator: lat as i64,
-                denominator: 6_000,
+                denominator: PER_DEGREE as i64,
             },
             Place::Base91 { y, .. } => Fraction {
-                numerator: 34_283_340 - y as i64,
-                denominator: 380_926,
+                numerator: MIDDLE - y as i64,
+                denominator: LATITUDE_PARTS,
             },
         }
     }
@@ -65,26 +77,27 @@ impl Place {
         match *self {
             Place::Plain { lon, .. } => Fraction {
                 numerator: lon as i64,
-                denominator: 6_000,
+                denominator: PER_DEGREE as i64,
             },
             Place::Base91 { x, .. } => Fraction {
-                numerator: x as i64 - 34_283_340,
-                denominator: 190_463,
+                numerator: x as i64 - MIDDLE,
+                denominator: LONGITUDE_PARTS,
             },
         }
     }
 }
 
+/// The plain position that some bytes begin with, its symbol, and the rest.
 #[tactic(auto, unfolding(crate::specs::Reader::plain_of))]
-fn plain_at_front(bytes: &[u8]) -> Option<(Place, Symbol, &[u8])>
+fn plain_at_start(bytes: &[u8]) -> Option<(Place, Symbol, &[u8])>
     ensures { option_map (λ x. (x.0, x.1, x.2.now)) result ≡ plain_of bytes.now }
 {
     let (north, rest) = chunk::<2>(bytes)?;
     let (north_minutes, rest) = chunk::<6>(rest)?;
-    let (table, rest) = table_at_front(rest)?;
+    let (table, rest) = table_at_start(rest)?;
     let (east, rest) = chunk::<3>(rest)?;
     let (east_minutes, rest) = chunk::<6>(rest)?;
-    let (code, rest) = code_at_front(rest)?;
+    let (code, rest) = code_at_start(rest)?;
     let ambiguity = ambiguity(north_minutes);
     let lat = angle(Axis::Latitude, ambiguity, north, north_minutes)?;
     let lon = angle(Axis::Longitude, ambiguity, east, east_minutes)?;
@@ -96,14 +109,15 @@ fn plain_at_front(bytes: &[u8]) -> Option<(Place, Symbol, &[u8])>
     Some((place, Symbol { table, code }, rest))
 }
 
+/// The compressed position that some bytes begin with, its symbol, and the rest.
 #[tactic(auto, unfolding(crate::specs::Reader::compressed_of))]
-fn compressed_at_front(bytes: &[u8]) -> Option<(Place, Symbol, &[u8])>
+fn compressed_at_start(bytes: &[u8]) -> Option<(Place, Symbol, &[u8])>
     ensures { option_map (λ x. (x.0, x.1, x.2.now)) result ≡ compressed_of bytes.now }
 {
-    let (table, rest) = compressed_table_at_front(bytes)?;
+    let (table, rest) = compressed_table_at_start(bytes)?;
     let (y_text, rest) = chunk::<4>(rest)?;
     let (x_text, rest) = chunk::<4>(rest)?;
-    let (code, rest) = code_at_front(rest)?;
+    let (code, rest) = code_at_start(rest)?;
     let (cst, rest) = chunk::<3>(rest)?;
     let y = base91(y_text)?;
     let x = base91(x_text)?;
@@ -116,12 +130,12 @@ fn compressed_at_front(bytes: &[u8]) -> Option<(Place, Symbol, &[u8])>
 
 /// The position that some bytes begin with, its symbol, and the rest.
 #[tactic(auto, unfolding(crate::specs::Reader::place_of))]
-pub fn place_at_front(bytes: &[u8]) -> Option<(Place, Symbol, &[u8])>
+pub fn place_at_start(bytes: &[u8]) -> Option<(Place, Symbol, &[u8])>
     ensures { option_map (λ x. (x.0, x.1, x.2.now)) result ≡ place_of bytes.now }
 {
     match bytes {
         [] => None,
-        [first, ..] if is_digit_byte(*first) => plain_at_front(bytes),
-        _ => compressed_at_front(bytes),
+        [first, ..] if is_digit_byte(*first) => plain_at_start(bytes),
+        _ => compressed_at_start(bytes),
     }
 }

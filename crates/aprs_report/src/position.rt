@@ -5,16 +5,16 @@ ghost use Rattle.std.specs.Option.{option_map};
 ghost use Rattle.aprs_report.specs.Reading.{view};
 ghost use Rattle.aprs_report.specs.Reader.{position_of, stamped_of};
 
-use crate::place::place_at_front;
+use crate::place::place_at_start;
 use crate::report::Report;
-use crate::stamp::{Stamp, stamp_at_front};
+use crate::stamp::{Stamp, stamp_at_start};
 
-/// A position, of the bytes behind its stamp.
+/// A position report, from the bytes after its stamp.
 #[tactic(auto, unfolding(crate::specs::Reader::position_of))]
 pub fn position(messaging: bool, stamp: Option<Stamp>, bytes: &[u8]) -> Option<Report<'_>>
     ensures { option_map view result ≡ position_of messaging stamp bytes.now }
 {
-    let (place, symbol, comment) = place_at_front(bytes)?;
+    let (place, symbol, comment) = place_at_start(bytes)?;
     Some(Report::Position {
         messaging,
         stamp,
@@ -24,11 +24,11 @@ pub fn position(messaging: bool, stamp: Option<Stamp>, bytes: &[u8]) -> Option<R
     })
 }
 
-/// A position with a stamp, of the bytes behind the first.
+/// A position report with a stamp, from the bytes after the first.
 #[tactic(auto, unfolding(crate::specs::Reader::stamped_of))]
 pub fn stamped(messaging: bool, bytes: &[u8]) -> Option<Report<'_>>
     ensures { option_map view result ≡ stamped_of messaging bytes.now }
 {
-    let (stamp, rest) = stamp_at_front(bytes)?;
+    let (stamp, rest) = stamp_at_start(bytes)?;
     position(messaging, Some(stamp), rest)
 }

@@ -14,56 +14,71 @@ pub enum Report<'a> {
     Position {
         /// Whether the station can take messages.
         messaging: bool,
+        /// When the report was made, if it says so.
         stamp: Option<Stamp>,
+        /// Where the station is.
         place: Place,
+        /// What the station is shown as on a map.
         symbol: Symbol,
         /// All that follows the position.
         comment: &'a [u8],
     },
     /// The state and position of an object (chapter 11).
     Object {
-        /// Without the spaces at its end.
+        /// The object's name, without the spaces at its end.
         name: &'a [u8],
         /// Whether the object is live, or killed.
         live: bool,
+        /// When the report was made.
         stamp: Stamp,
+        /// Where the object is.
         place: Place,
+        /// What the object is shown as on a map.
         symbol: Symbol,
+        /// All that follows the position.
         comment: &'a [u8],
     },
     /// The state and position of an item (chapter 11).
     Item {
-        /// Without the spaces at its end.
+        /// The item's name, without the spaces at its end.
         name: &'a [u8],
         /// Whether the item is live, or killed.
         live: bool,
+        /// Where the item is.
         place: Place,
+        /// What the item is shown as on a map.
         symbol: Symbol,
+        /// All that follows the position.
         comment: &'a [u8],
     },
     /// A message (chapter 14).
     Message {
-        /// Without the spaces at its end.
+        /// Who the message is for, without the spaces at its end.
         addressee: &'a [u8],
-        /// Without the id, and without CR and LF at its end.
+        /// What it says, without the id, and without CR and LF at its end.
         text: &'a [u8],
-        /// One to five letters or digits.
+        /// The id by which it is acknowledged, if it has one: one to five letters or digits.
         id: Option<&'a [u8]>,
     },
-    /// That a message with this id has arrived (chapter 14).
+    /// A message with this id has arrived (chapter 14).
     Ack {
+        /// Who had sent that message, without the spaces at its end.
         addressee: &'a [u8],
+        /// The id of that message: one to five letters or digits.
         id: &'a [u8],
     },
-    /// That a message with this id was rejected (chapter 14).
+    /// A message with this id was rejected (chapter 14).
     Rej {
+        /// Who had sent that message, without the spaces at its end.
         addressee: &'a [u8],
+        /// The id of that message: one to five letters or digits.
         id: &'a [u8],
     },
     /// The status of the frame's source (chapter 16).
     Status {
-        /// Day, hour and minute in UTC: its mark is `z`.
+        /// Day, hour and minute in UTC, if the text begins with them: its mark is `z`.
         stamp: Option<Stamp>,
+        /// All that follows the stamp.
         text: &'a [u8],
     },
     /// Any other field.

@@ -25,7 +25,8 @@ fn all_digits(bytes: &[u8]) -> bool
     bytes.iter().all(|byte| is_digit_byte(*byte))
 }
 
-fn mark_at_front(bytes: &[u8]) -> Option<(u8, &[u8])>
+/// The mark of a stamp, and the rest.
+fn mark_at_start(bytes: &[u8]) -> Option<(u8, &[u8])>
     ensures { option_map (λ x. (x.0, x.1.now)) result ≡ byte_of is_mark bytes.now }
 {
     match bytes {
@@ -36,11 +37,11 @@ fn mark_at_front(bytes: &[u8]) -> Option<(u8, &[u8])>
 
 /// The stamp that some bytes begin with, and the rest.
 #[tactic(auto, unfolding(crate::specs::Reader::stamp_at))]
-pub fn stamp_at_front(bytes: &[u8]) -> Option<(Stamp, &[u8])>
+pub fn stamp_at_start(bytes: &[u8]) -> Option<(Stamp, &[u8])>
     ensures { option_map (λ x. (x.0, x.1.now)) result ≡ stamp_at bytes.now }
 {
     let (digits, rest) = chunk::<6>(bytes)?;
-    let (mark, rest) = mark_at_front(rest)?;
+    let (mark, rest) = mark_at_start(rest)?;
     if !all_digits(digits) {
         return None;
     }

@@ -6,14 +6,14 @@ ghost use Rattle.aprs_report.specs.Reading.{view};
 ghost use Rattle.aprs_report.specs.Reader.{utc_at, status_of};
 
 use crate::report::Report;
-use crate::stamp::{Stamp, stamp_at_front};
+use crate::stamp::{Stamp, stamp_at_start};
 
-/// A stamp of day, hour and minute in UTC, and the rest.
+/// The stamp of day, hour and minute in UTC that some bytes begin with, and the rest.
 #[tactic(auto, unfolding(crate::specs::Reader::utc_at))]
-fn utc_at_front(bytes: &[u8]) -> Option<(Stamp, &[u8])>
+fn utc_at_start(bytes: &[u8]) -> Option<(Stamp, &[u8])>
     ensures { option_map (λ x. (x.0, x.1.now)) result ≡ utc_at bytes.now }
 {
-    let (stamp, rest) = stamp_at_front(bytes)?;
+    let (stamp, rest) = stamp_at_start(bytes)?;
     if stamp.mark == b'z' {
         Some((stamp, rest))
     } else {
@@ -21,11 +21,11 @@ fn utc_at_front(bytes: &[u8]) -> Option<(Stamp, &[u8])>
     }
 }
 
-/// A status, of the bytes behind its first.
+/// A status, from the bytes after the first.
 pub fn status(bytes: &[u8]) -> Report<'_>
     ensures { view result ≡ status_of bytes.now }
 {
-    match utc_at_front(bytes) {
+    match utc_at_start(bytes) {
         Some((stamp, text)) => Report::Status {
             stamp: Some(stamp),
             text,

@@ -29,7 +29,7 @@ fn is_code_byte(byte: u8) -> bool
 }
 
 /// The table that a plain position names, and the rest.
-pub fn table_at_front(bytes: &[u8]) -> Option<(u8, &[u8])>
+pub fn table_at_start(bytes: &[u8]) -> Option<(u8, &[u8])>
     ensures { option_map (λ x. (x.0, x.1.now)) result ≡ byte_of is_table bytes.now }
 {
     match bytes {
@@ -38,7 +38,8 @@ pub fn table_at_front(bytes: &[u8]) -> Option<(u8, &[u8])>
     }
 }
 
-pub fn code_at_front(bytes: &[u8]) -> Option<(u8, &[u8])>
+/// The code of a symbol, and the rest.
+pub fn code_at_start(bytes: &[u8]) -> Option<(u8, &[u8])>
     ensures { option_map (λ x. (x.0, x.1.now)) result ≡ byte_of is_code bytes.now }
 {
     match bytes {
@@ -60,7 +61,7 @@ fn table_by_name(byte: u8) -> Option<u8>
 
 /// The table that a compressed position names, and the rest.
 #[tactic(auto, unfolding(crate::specs::Reader::named_of))]
-pub fn compressed_table_at_front(bytes: &[u8]) -> Option<(u8, &[u8])>
+pub fn compressed_table_at_start(bytes: &[u8]) -> Option<(u8, &[u8])>
     ensures { option_map (λ x. (x.0, x.1.now)) result ≡ named_of bytes.now }
 {
     match bytes {

@@ -82,6 +82,15 @@ fn plain_positions(rt: HostRuntime) {
         (b"!9000.01N/07201.75W-".as_slice(), Report::Raw),
         (b"!4960.00N/07201.75W-".as_slice(), Report::Raw),
         (b"!496 .  N/07201.75W-".as_slice(), Report::Raw),
+    ];
+    for (info, report) in table {
+        assert_eq!(rt; Report::read(info), report, "at {info:?}");
+    }
+}
+
+#[test]
+fn positions_with_stamps_and_comments(rt: HostRuntime) {
+    let table = [
         (
             b"!4903.50N/07201.75W-Test 001234".as_slice(),
             position(false, None, HERE, HOUSE, b"Test 001234"),
@@ -292,7 +301,7 @@ fn acks_and_rejs(rt: HostRuntime) {
 }
 
 /// Mic-E, weather, telemetry, raw GPS, queries, capabilities, user-defined, third-party, grid
-/// locators, test data, no bytes, and a position behind other text.
+/// locators, test data, no bytes, and a position after other text.
 #[test]
 fn left_raw(rt: HostRuntime) {
     let table = [

@@ -6,7 +6,7 @@ use std::io;
 use std::io::{ErrorKind, Read, Write};
 use std::test::Fail;
 
-/// A reader that tells its bytes, gives at most `most` of them a call, fails once `good` are given,
+/// A reader of known bytes that gives at most `most` of them a call, fails once `good` are given,
 /// and is interrupted `interrupts` times before each call that gives any.
 #[derive(Drop)]
 struct Rough<'a> {
@@ -34,8 +34,8 @@ impl Read for Rough<'_> {
         if n == 0 && !buf.is_empty() && !self.bytes.is_empty() {
             return Err(io::Error::from(ErrorKind::Other));
         }
-        let (front, rest) = self.bytes.split_at(n);
-        buf[..n].copy_from_slice(front);
+        let (start, rest) = self.bytes.split_at(n);
+        buf[..n].copy_from_slice(start);
         self.bytes = rest;
         self.good -= n;
         Ok(n)
@@ -43,7 +43,7 @@ impl Read for Rough<'_> {
 }
 
 /// A writer that has room for so many bytes, takes at most `most` a call, is interrupted
-/// `interrupts` times before each call that takes any, and tells nothing.
+/// `interrupts` times before each call that takes any. No clause says what it has written.
 #[derive(Drop)]
 struct Tight<'a> {
     room: &'a mut [u8],

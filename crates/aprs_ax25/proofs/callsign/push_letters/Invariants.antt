@@ -5,7 +5,8 @@ use Rattle.aprs_ax25.proofs.callsign.push_letters.Given as goal
 
 abbrev pub invariant-loop-octet : goal.invariant-loop-octet
 invariant-loop-octet g l = record {
-  letters : l.out.items ≡ l.initial.out.items ++ map (λ octet. octet / 2) (take l.octet-index (take 6 l.octets));
+  letters : l.out.items
+      ≡ l.initial.out.items ++ map (λ octet. octet / 2) (take l.octet-index (take 6 l.octets));
   before : (k : ℕ) → k < l.octet-index → is_no_letter (get_or (take 6 l.octets) k 0) ≡ false;
   most : array_vec_len l.out ≤ array_vec_len l.initial.out + l.octet-index;
 }

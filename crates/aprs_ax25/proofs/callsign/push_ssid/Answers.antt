@@ -5,7 +5,8 @@ use Rattle.aprs_ax25.proofs.callsign.push_ssid.Goals as goal
 pub returns-in-1-to-9-clause-text : goal.returns-in-1-to-9-clause-text
 returns-in-1-to-9-clause-text g c =
     let text = c.args.text.now.items in
-    c.push-in-1-to-9.ensures.items ∙ ap (λ l. l ++ (48 + c.args.ssid) ∷ []) c.push.ensures.items ∙ append_assoc text (45 ∷ []) _
+    c.push-in-1-to-9.ensures.items ∙ ap (λ l. l ++ (48 + c.args.ssid) ∷ []) c.push.ensures.items
+    ∙ append_assoc text (45 ∷ []) _
     ∙ ap (λ l. text ++ l) (sym (ssid_text-one c.args.ssid (omega arith) (omega arith)))
 
 pub returns-in_default-clause-text : goal.returns-in_default-clause-text
@@ -14,5 +15,6 @@ returns-in_default-clause-text g c =
     let last = (48 + c.args.ssid % 10) ∷ [] in
     c.push-in_default-3.ensures.items ∙ ap (λ l. l ++ last) c.push-in_default-2.ensures.items
     ∙ ap (λ l. (l ++ 49 ∷ []) ++ last) c.push-in_default.ensures.items
-    ∙ ap (λ l. l ++ last) (append_assoc text (45 ∷ []) (49 ∷ [])) ∙ append_assoc text (45 ∷ 49 ∷ []) last
+    ∙ ap (λ l. l ++ last) (append_assoc text (45 ∷ []) (49 ∷ []))
+    ∙ append_assoc text (45 ∷ 49 ∷ []) last
     ∙ ap (λ l. text ++ l) (sym (ssid_text-two c.args.ssid (omega arith) (omega arith)))

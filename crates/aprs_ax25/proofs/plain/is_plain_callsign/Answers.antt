@@ -11,4 +11,5 @@ returns c = λ fine.
     let i = c.loop-octet.octet-index in
     let none : drop i six ≡ [] = drop_all i six (omega (arith, c.loop-octet-test.false)) in
     plain-address c.args.octets.now c.requires (c.loop-octet.invariant.first fine)
-    (c.loop-octet.invariant.others fine (ap (letters_then_spaces c.loop-octet.after_letter) none ∙ refl))
+    (c.loop-octet.invariant.others fine
+    (ap (letters_then_spaces c.loop-octet.after_letter) none ∙ refl))

@@ -5,6 +5,7 @@ use Rattle.aprs_ax25.proofs.plain.is_plain_callsign.Given as goal
 abbrev pub invariant-loop-octet : goal.invariant-loop-octet
 invariant-loop-octet l = record {
   first : l.is_fine ≡ true → is_letter_octet (slice_index l.octets 0) ≡ true;
-  others : l.is_fine ≡ true → letters_then_spaces l.after_letter (drop l.octet-index (take 6 l.octets)) ≡ true
+  others : l.is_fine ≡ true
+      → letters_then_spaces l.after_letter (drop l.octet-index (take 6 l.octets)) ≡ true
       → letters_then_spaces true (take 6 l.octets) ≡ true;
 }

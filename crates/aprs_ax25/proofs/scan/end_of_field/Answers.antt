@@ -20,14 +20,16 @@ ends_address-requires c =
 pub addresses-smaller : goal.addresses-smaller
 addresses-smaller c =
     let i = c.addresses.invariant in
-    let next = field_goes_on c.args.frame.now (frame_fault-IsSound c.args.frame.now c.requires) c.addresses.end i.sevenfold i.least i.most
+    let next = field_goes_on c.args.frame.now (frame_fault-IsSound c.args.frame.now c.requires)
+    c.addresses.end i.sevenfold i.least i.most
     (sym (c.addresses-test.ensures)) in
     omega arith
 
 pub addresses-preserved : goal.addresses-preserved
 addresses-preserved c =
     let i = c.addresses.invariant in
-    let next = field_goes_on c.args.frame.now (frame_fault-IsSound c.args.frame.now c.requires) c.addresses.end i.sevenfold i.least i.most
+    let next = field_goes_on c.args.frame.now (frame_fault-IsSound c.args.frame.now c.requires)
+    c.addresses.end i.sevenfold i.least i.most
     (sym (c.addresses-test.ensures)) in
     let seven = i.sevenfold in
     let least = i.least in

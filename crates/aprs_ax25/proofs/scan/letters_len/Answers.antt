@@ -4,13 +4,16 @@ use Rattle.std.proofs.lemmas.List.{length-take-le}
 use Rattle.aprs_ax25.specs.FrameFault.{is_no_letter}
 use Rattle.aprs_ax25.proofs.scan.letters_len.Goals as goal
 
-pub returns-then-not-is_callsign_byte-clause-value : goal.returns-then-not-is_callsign_byte-clause-value
+pub returns-then-not-is_callsign_byte-clause-value :
+    goal.returns-then-not-is_callsign_byte-clause-value
 returns-then-not-is_callsign_byte-clause-value c =
-    sym (position_or_len_is is_no_letter (take 6 c.args.octets.now) c.loop-i.i 0 (omega arith) c.loop-i.invariant
+    sym (position_or_len_is is_no_letter (take 6 c.args.octets.now) c.loop-i.i 0 (omega arith)
+    c.loop-i.invariant
     (λ _. ap not (sym c.is_callsign_byte.ensures ∙ c.if-not-is_callsign_byte.true)))
 
 pub returns-clause-value : goal.returns-clause-value
 returns-clause-value c =
-    let six : length (take 6 c.args.octets.now) ≡ 6 = length-take-le 6 c.args.octets.now c.requires in
+    let six : length (take 6 c.args.octets.now) ≡ 6 =
+    length-take-le 6 c.args.octets.now c.requires in
     sym (position_or_len_is is_no_letter (take 6 c.args.octets.now) 6 0 (omega arith)
     (λ k h. c.loop-i.invariant k (omega arith)) (λ h. absurd (omega arith)))

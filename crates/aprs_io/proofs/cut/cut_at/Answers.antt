@@ -1,5 +1,5 @@
 use Rattle.std.proofs.Common.{arith}
-use Rattle.aprs_io.proofs.CutLemmas.{cut_at-found, cut_at-missing}
+use Rattle.aprs_io.proofs.Cuts.{cut_at-found, cut_at-missing}
 use Rattle.aprs_io.proofs.cut.cut_at.Goals as goal
 
 pub returns-then-len-text : goal.returns-then-len-text

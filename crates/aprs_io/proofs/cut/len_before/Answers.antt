@@ -1,5 +1,5 @@
 use Rattle.std.proofs.Common.{◌∙◌}
-use Rattle.aprs_io.proofs.CutLemmas.{first_byte-place}
+use Rattle.aprs_io.proofs.Cuts.{first_byte-place}
 use Rattle.aprs_io.proofs.cut.len_before.Goals as goal
 
 pub returns : goal.returns

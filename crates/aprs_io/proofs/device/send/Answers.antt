@@ -5,7 +5,16 @@ use Rattle.aprs_io.proofs.Bytes.{AppendsAllBut-more}
 use Rattle.aprs_io.proofs.device.send.Goals as goal
 
 pub loop-rest-init : goal.loop-rest-init
-loop-rest-init g c = record { tries = omega arith; count = omega arith; tried = omega arith; answered = refl; none = λ e. refl; sent = ([], refl, Appends-nil _) }
+loop-rest-init g c =
+    record {
+      tries = omega arith;
+      count = omega arith;
+      tried = omega arith;
+      answered = refl;
+      none =
+          λ e. refl;
+      sent = ([], refl, Appends-nil _);
+    }
 
 pub loop-rest-preserved-then-n-gt0 : goal.loop-rest-preserved-then-n-gt0
 loop-rest-preserved-then-n-gt0 g c = record {

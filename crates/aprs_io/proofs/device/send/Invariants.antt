@@ -6,7 +6,8 @@ abbrev pub invariant-loop-rest : goal.invariant-loop-rest
 invariant-loop-rest g l = record {
   tries : l.tries < 1000;
   count : l.initial.w.failed ≤ l.w.failed;
-  tried : l.w.failed + 999 * length l.rest ≤ l.initial.w.failed + 999 * length l.initial.rest + l.tries;
+  tried : l.w.failed + 999 * length l.rest ≤ l.initial.w.failed + 999 * length l.initial.rest
+      + l.tries;
   none : length l.rest ≡ 0 → l.tries ≡ 0;
   answered : l.w.answered ≡ l.initial.w.answered;
   sent : AppendsAllBut (g.W.Write.contents l.initial.w.device)

@@ -5,5 +5,7 @@ use Rattle.aprs_io.proofs.hexadecimal.decode_block.Goals as goal
 
 pub returns-clause-bytes : goal.returns-clause-bytes
 returns-clause-bytes c = OnTrue_from _ _ (λ yes.
-    block_bytes c.args.text.now c.args.out.now c.put_values-are_digits.new.values c.put_bytes.new.out c.args.at
-    (omega (arith, c.requires.room)) c.put_bytes.ensures.len (OnTrue_at yes c.put_values-are_digits.ensures) c.put_bytes.ensures.bytes)
+    block_bytes c.args.text.now c.args.out.now c.put_values-are_digits.new.values
+    c.put_bytes.new.out c.args.at
+    (omega (arith, c.requires.room)) c.put_bytes.ensures.len
+    (OnTrue_at yes c.put_values-are_digits.ensures) c.put_bytes.ensures.bytes)

@@ -6,12 +6,13 @@ use Rattle.aprs_io.proofs.hexadecimal.decode_digits.Goals as goal
 pub blocks-2-preserved : goal.blocks-2-preserved
 blocks-2-preserved c k below room =
     elim (cases_lt k c.min-at.result) [
-      | inl front ↦
+      | inl before ↦
           HoldsByte-kept c.args.text.now c.blocks-2.out c.decode_block.new.out k
-          (c.decode_block.ensures.kept k front)
-          (c.blocks-2.invariant k (omega (arith, c.min-at.ensures)) (omega (arith, c.decode_block.ensures.len)))
-      | inr behind ↦
-          OnTrue_at c.if-not-decode_block.false c.decode_block.ensures.bytes k behind
+          (c.decode_block.ensures.kept k before)
+          (c.blocks-2.invariant k (omega (arith, c.min-at.ensures))
+          (omega (arith, c.decode_block.ensures.len)))
+      | inr within ↦
+          OnTrue_at c.if-not-decode_block.false c.decode_block.ensures.bytes k within
           (omega (arith, c.min-at.ensures, c.decode_block.ensures.len))
     ]
 

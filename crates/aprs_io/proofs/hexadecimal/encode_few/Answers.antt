@@ -5,7 +5,8 @@ use Rattle.aprs_io.proofs.hexadecimal.encode_few.Goals as goal
 
 pub bytes-preserved : goal.bytes-preserved
 bytes-preserved c =
-    encode_step lower_digits c.args.bytes.now c.bytes.digits c.bytes.i _ _ (omega arith) (omega arith)
+    encode_step lower_digits c.args.bytes.now c.bytes.digits c.bytes.i _ _ (omega arith)
+    (omega arith)
     c.digit_of.ensures c.digit_of-in-bytes.ensures c.bytes.invariant
 
 pub returns : goal.returns

@@ -7,10 +7,10 @@ pub blocks-2-preserved : goal.blocks-2-preserved
 blocks-2-preserved c k below room =
     let e = c.encode_block.ensures in
     elim (cases_lt k c.min.result) [
-      | inl front ↦
+      | inl before ↦
           let h = c.blocks-2.invariant k (omega (arith, c.min.ensures)) room in
           (e.kept (2 * k) (omega arith) ∙ h.0, e.kept (2 * k + 1) (omega arith) ∙ h.1)
-      | inr behind ↦ e.digits k behind (omega (arith, c.min.ensures))
+      | inr within ↦ e.digits k within (omega (arith, c.min.ensures))
     ]
 
 pub returns : goal.returns

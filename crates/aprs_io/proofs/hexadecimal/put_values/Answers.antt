@@ -6,5 +6,6 @@ pub digits-preserved : goal.digits-preserved
 digits-preserved c small =
     let before : c.digits.most < 16 = omega (arith, small) in
     let value : c.value_of-value.result < 16 = omega (arith, small) in
-    values_more c.args.digits.now c.digits.values c.digits.j c.value_of-value.result (omega arith) value
+    values_more c.args.digits.now c.digits.values c.digits.j c.value_of-value.result (omega arith)
+    value
     (c.value_of-value.ensures value) (c.digits.invariant before)

@@ -1,7 +1,7 @@
 use Rattle.std.proofs.Common.{◌≡◌, [], ◌∷◌, List, ℕ, rules, subst, ◌∙◌}
 use Rattle.std.specs.Prelude.{OnOk, OnErr}
 use Rattle.std.specs.Io.KnownBytes.{Appends}
-use Rattle.aprs_io.specs.Device.{AppendsFront, device_of}
+use Rattle.aprs_io.specs.Device.{AppendsPrefix, device_of}
 use Rattle.aprs_kiss.specs.Spelling.{kiss_text}
 use Rattle.aprs_kiss.proofs.Escapes.{plain_text}
 use Rattle.aprs_kiss.proofs.write.write_plain.Given.{Over}
@@ -16,11 +16,13 @@ text_is g c =
 pub returns-clause-sent : goal.returns-clause-sent
 returns-clause-sent g c =
     subst (λ (l : List ℕ). OnOk c.send.result
-    (Appends (g.W.Write.contents (device_of c.args.w.now)) (g.W.Write.contents (device_of c.send.new.w)) l))
+    (Appends (g.W.Write.contents (device_of c.args.w.now))
+    (g.W.Write.contents (device_of c.send.new.w)) l))
     (text_is g c) c.send.ensures.sent
 
 pub returns-clause-prefix : goal.returns-clause-prefix
 returns-clause-prefix g c =
     subst (λ (l : List ℕ). OnErr c.send.result
-    (AppendsFront (g.W.Write.contents (device_of c.args.w.now)) (g.W.Write.contents (device_of c.send.new.w)) l))
+    (AppendsPrefix (g.W.Write.contents (device_of c.args.w.now))
+    (g.W.Write.contents (device_of c.send.new.w)) l))
     (text_is g c) c.send.ensures.prefix

@@ -5,7 +5,9 @@ use Rattle.aprs_ax25.specs.Making.{made_parts, hop_address}
 use Rattle.aprs_ax25.proofs.Making.{made, made-spelled, make_fault-IsWithin}
 use Rattle.aprs_ax25.proofs.frame.Frame.spelled.Goals as goal
 
-frame : (c : goal.After-push_all) → FrameOf (made_parts c.args.destination.now c.args.source.now c.args.hops.now c.args.info.now) c.push_all.new.out.items
+frame : (c : goal.After-push_all)
+    → FrameOf (made_parts c.args.destination.now c.args.source.now c.args.hops.now c.args.info.now)
+    c.push_all.new.out.items
 frame c =
     let within = make_fault-IsWithin (length c.args.hops.now) (length c.args.info.now) c.requires in
     let count = length-map c.args.hops.now hop_address in
@@ -18,7 +20,8 @@ frame c =
         some = within.some;
         most = within.most;
       };
-      spelled = made-spelled c.args.destination.now c.args.source.now c.args.hops.now c.args.info.now _ _ _ _
+      spelled = made-spelled c.args.destination.now c.args.source.now c.args.hops.now
+          c.args.info.now _ _ _ _
           c.push_field.ensures.field c.push.ensures.items c.push-2.ensures.items c.push_all.ensures;
     }
 

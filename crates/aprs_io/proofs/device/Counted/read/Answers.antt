@@ -3,4 +3,11 @@ use Rattle.std.proofs.KnownBytes.{Keeps-refl}
 use Rattle.aprs_io.proofs.device.Counted.read.Goals as goal
 
 pub loop-n-init : goal.loop-n-init
-loop-n-init g c = record { tries = omega arith; count = omega arith; tried = omega arith; answered = refl; kept = Keeps-refl _ }
+loop-n-init g c = record {
+  tries = omega arith;
+  count = omega arith;
+  tried = omega arith;
+  answered = refl;
+  kept =
+      Keeps-refl _;
+}

@@ -1,6 +1,6 @@
 use Rattle.std.proofs.Common.{◌∙◌, sym, subst, refl, ◌∷◌, [], append-nil, rules}
 use Rattle.aprs_kiss.specs.Plain.{CutsPlain}
-use Rattle.aprs_kiss.proofs.Reading.{Quiet-none, Quiet-all, HasRead-run, HasRead-mark, HasRead-end, begun_by_test, Told-used, frame_end_else, some_used}
+use Rattle.aprs_kiss.proofs.Reading.{Quiet-none, Quiet-all, HasRead-run, HasRead-mark, HasRead-end, begun_by_test, ReadsPiece-used, frame_end_else, some_used}
 use Rattle.aprs_kiss.proofs.reader.KissReader.step.Goals as goal
 
 pub loop-byte-init : goal.loop-byte-init
@@ -30,15 +30,15 @@ returns-then-not-finish c =
     let read =
     HasRead-mark _ _ _ _ _ _ _ _ 0xC0 c.loop-byte.invariant cut.0
     (frame_end_else _ cut.1 c.if-byte.false) c.take_plain.ensures in
-    let told = Told-used _ _ _ _ _ c.in-Some.after.now _ read refl
+    let ended = ReadsPiece-used _ _ _ _ _ c.in-Some.after.now _ read refl
     (λ d s. begun_by_test _ d c.if-not-finish.true (c.finish.ensures d s).1)
     c.end_piece.ensures.stands c.end_piece.ensures.judged in
     record {
-      stands = told.stands;
-      judged = told.judged;
+      stands = ended.stands;
+      judged = ended.judged;
       used = search rules;
       whole = search rules;
-      ends = told.ends;
+      ends = ended.ends;
       progress = some_used _ _ _ _ [] c.in-Some.after.now 0xC0 read refl;
       frame = search rules;
     }

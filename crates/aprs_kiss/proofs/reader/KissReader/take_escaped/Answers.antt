@@ -13,7 +13,7 @@ returns-in-None-clause-stands c e s = record {
 pub returns-in-Escape-clause-stands : goal.returns-in-Escape-clause-stands
 returns-in-Escape-clause-stands c e s =
     let h = Holds-in _ _ _ e c.in-Escape.is s.held in
-    c.hold.ensures.stands (e ++ c.args.code ∷ [])
+    c.append.ensures.stands (e ++ c.args.code ∷ [])
     (HasNoEnd-append e _ s.whole (HasNoEnd-one _ (not_end _ c.requires.plain)))
     (omega (arith, length-append e (c.args.code ∷ [])))
     (unspelled-escaped _ h.0 e _ s.whole h.1 h.2 _ c.in-Some.ensures)

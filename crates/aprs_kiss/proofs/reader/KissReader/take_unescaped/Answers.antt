@@ -15,7 +15,7 @@ returns-in_default c e s = record {
 pub returns-in-Plain : goal.returns-in-Plain
 returns-in-Plain c e s =
     let h = Holds-in _ _ _ e c.in-Plain.is s.held in
-    c.hold-in-Plain.ensures.stands (e ++ c.args.run.now)
+    c.append-in-Plain.ensures.stands (e ++ c.args.run.now)
     (HasNoEnd-append e _ s.whole (HasNoEnd-plain _ c.requires.plain))
     (omega (arith, h.0, length-append e c.args.run.now))
     (Holds-run _ e _ s.whole c.requires.plain h.1)
@@ -24,7 +24,7 @@ pub returns-in-Ended-2 : goal.returns-in-Ended-2
 returns-in-Ended-2 c e s =
     let empty = Holds-in _ _ _ e c.in-Ended-2.is s.held in
     let same : e ++ c.args.run.now ≡ c.args.run.now = ap (λ l. l ++ c.args.run.now) empty in
-    c.hold.ensures.stands (e ++ c.args.run.now)
+    c.append.ensures.stands (e ++ c.args.run.now)
     (HasNoEnd-append e _ s.whole (HasNoEnd-plain _ c.requires.plain))
     (rw same (nonempty_from_test c.args.run.now c.if-is_empty.ensures))
     (ap unspelled same ∙ unspelled-run-all c.args.run.now c.requires.plain

@@ -9,10 +9,11 @@ use Rattle.std.specs.Prelude.{Option, unwrap_or}
 use Rattle.std.proofs.lemmas.Bool.{false_from_ne_true}
 use Rattle.std.proofs.lemmas.List.Sums.{position_or_len_is}
 use Rattle.memchr.specs.Find.{IsFirstByte, is_byte as is_sought}
-use Rattle.aprs_io.specs.Cut.{Cut, cut_at, has_byte, is_byte}
+use Rattle.aprs_io.specs.Cut.{Cut, cut_at, first_cut, has_byte, is_byte}
 
 -- where a search finds the first such byte, or how many bytes there are
-pub first_byte-place : (stop : ℕ) (text : List ℕ) (r : Option ℕ) → IsFirstByte (is_sought stop) text r →
+pub first_byte-place : (stop : ℕ) (text : List ℕ) (r : Option ℕ)
+    → IsFirstByte (is_sought stop) text r →
     unwrap_or r (length text) ≡ position_or_len (is_byte stop) text
 first_byte-place stop text None h =
     sym (position_or_len_is (is_byte stop) text (length text) 0 (omega arith)
@@ -30,17 +31,13 @@ none_if : (b : Bool) (x : Cut) → b ≡ false → None ≡ cond b (Some x) None
 none_if true x e = absurd (let f : true ≡ false = e in cc)
 none_if false x e = refl
 
-parts_of : (stop : ℕ) (text : List ℕ) → Cut
-parts_of stop text = record
-    { before = before_first (is_byte stop) text; after = after_first (is_byte stop) text }
-
 pub cut_at-found : (stop : ℕ) (text : List ℕ) (n : ℕ) → n ≡ position_or_len (is_byte stop) text
     → n < length text
     → Some (record {
       before = take n text;
       after = take (length text - (n + 1)) (drop (n + 1) text);
     }) ≡ cut_at stop text
-unfolding cut_at parts_of
+unfolding cut_at
 cut_at-found stop text n e h =
     let has : has_byte stop text ≡ true = grind (arith, nat_tests) in
     let before : take n text ≡ before_first (is_byte stop) text = ap (λ k. take k text) e in
@@ -50,15 +47,15 @@ cut_at-found stop text n e h =
       before = take n text;
       after
           = take (length text - (n + 1)) (drop (n + 1) text);
-    }) ≡ parts_of stop text = cc in
-    ap (λ (x : Cut). Some x) same ∙ some_if (has_byte stop text) (parts_of stop text) has
+    }) ≡ first_cut stop text = cc in
+    ap (λ (x : Cut). Some x) same ∙ some_if (has_byte stop text) (first_cut stop text) has
 
 pub cut_at-missing : (stop : ℕ) (text : List ℕ) → length text ≤ position_or_len (is_byte stop) text
     → None ≡ cut_at stop text
-unfolding cut_at parts_of
+unfolding cut_at
 cut_at-missing stop text h =
     let has : has_byte stop text ≡ false = grind (arith, nat_tests) in
-    none_if (has_byte stop text) (parts_of stop text) has
+    none_if (has_byte stop text) (first_cut stop text) has
 
 -- no element is `stop`
 abbrev pub Lacks : ℕ → List ℕ → Type 0
@@ -72,29 +69,29 @@ position-next : (stop x : ℕ) (text : List ℕ) → is_byte stop x ≡ false
     → position_or_len (is_byte stop) (x ∷ text) ≡ position_or_len (is_byte stop) text + 1
 position-next stop x text h = rw h (omega arith)
 
-position-lacks : (stop : ℕ) (front rest : List ℕ) → Lacks stop front
-    → position_or_len (is_byte stop) (front ++ stop ∷ rest) ≡ length front
+position-lacks : (stop : ℕ) (prefix rest : List ℕ) → Lacks stop prefix
+    → position_or_len (is_byte stop) (prefix ++ stop ∷ rest) ≡ length prefix
 position-lacks stop [] rest h = position-here stop rest (is_byte stop stop) refl
     (eq-eqb stop stop refl)
-position-lacks stop (x ∷ front) rest h =
-    position-next stop x (front ++ stop ∷ rest) h.0
-    ∙ omega (arith, position-lacks stop front rest h.1)
+position-lacks stop (x ∷ prefix) rest h =
+    position-next stop x (prefix ++ stop ∷ rest) h.0
+    ∙ omega (arith, position-lacks stop prefix rest h.1)
 
--- a text is cut where a byte stands behind a front without it
-pub cut_at-append : (stop : ℕ) (front rest : List ℕ) → Lacks stop front
-    → cut_at stop (front ++ stop ∷ rest) ≡ Some (record { before = front; after = rest })
-unfolding cut_at parts_of
-cut_at-append stop front rest h =
-    let text = front ++ stop ∷ rest in
-    let at = position-lacks stop front rest h in
-    let len : length text ≡ length front + (length rest + 1) = simp length-append (omega arith) in
+-- a text is cut where a byte stands after a prefix without it
+pub cut_at-append : (stop : ℕ) (prefix rest : List ℕ) → Lacks stop prefix
+    → cut_at stop (prefix ++ stop ∷ rest) ≡ Some (record { before = prefix; after = rest })
+unfolding cut_at
+cut_at-append stop prefix rest h =
+    let text = prefix ++ stop ∷ rest in
+    let at = position-lacks stop prefix rest h in
+    let len : length text ≡ length prefix + (length rest + 1) = simp length-append (omega arith) in
     let has : has_byte stop text ≡ true = grind (arith, nat_tests) in
-    let before : before_first (is_byte stop) text ≡ front = ap (λ n. take n text) at
-    ∙ take-append_seam front (stop ∷ rest) in
+    let before : before_first (is_byte stop) text ≡ prefix = ap (λ n. take n text) at
+    ∙ take-append_seam prefix (stop ∷ rest) in
     let after : after_first (is_byte stop) text ≡ rest = ap (λ n. drop (n + 1) text) at
-    ∙ drop-append-add front (stop ∷ rest) 1 in
-    let same : parts_of stop text ≡ (record { before = front; after = rest }) = cc in
-    sym (some_if (has_byte stop text) (parts_of stop text) has) ∙ ap (λ (x : Cut). Some x) same
+    ∙ drop-append-add prefix (stop ∷ rest) 1 in
+    let same : first_cut stop text ≡ (record { before = prefix; after = rest }) = cc in
+    sym (some_if (has_byte stop text) (first_cut stop text) has) ∙ ap (λ (x : Cut). Some x) same
 
 -- a byte stands between the parts
 some_of_if : (b : Bool) (x y : Cut) → cond b (Some x) None ≡ Some y → (b ≡ true) × (x ≡ y)
@@ -107,9 +104,9 @@ below_len stop text h = grind (arith, nat_tests)
 
 pub cut_at-parts : (stop : ℕ) (text : List ℕ) (cut : Cut) → cut_at stop text ≡ Some cut
     → text ≡ cut.before ++ stop ∷ cut.after
-unfolding cut_at parts_of
+unfolding cut_at
 cut_at-parts stop text cut e =
-    let found = some_of_if (has_byte stop text) (parts_of stop text) cut e in
+    let found = some_of_if (has_byte stop text) (first_cut stop text) cut e in
     let h = below_len stop text found.0 in
     let x = get_or text (position_or_len (is_byte stop) text) 0 in
     let same : x ≡ stop = eqb-true x stop (passes_at_first (is_byte stop) text 0 h) in
@@ -117,20 +114,18 @@ cut_at-parts stop text cut e =
     ∙ ap (λ b. before_first (is_byte stop) text ++ b ∷ after_first (is_byte stop) text) same
     ∙ ap (λ (c : Cut). c.before ++ stop ∷ c.after) found.1
 
--- what stands after the byte is no longer than all
-pub cut_at-after : (stop : ℕ) (text : List ℕ) (cut : Cut) → Some cut ≡ cut_at stop text
-    → length cut.after ≤ length text
-cut_at-after stop text cut e =
-    let len : length (cut.before ++ stop ∷ cut.after) ≡ length cut.before + (length cut.after + 1)
-    = simp length-append (omega arith) in
-    omega (arith, len, ap length (cut_at-parts stop text cut (sym e)))
-
+-- the parts and the byte are all of the text
 cut_len : (stop : ℕ) (text : List ℕ) (cut : Cut) → cut_at stop text ≡ Some cut
     → length text ≡ length cut.before + 1 + length cut.after
 cut_len stop text cut e =
     let len : length (cut.before ++ stop ∷ cut.after) ≡ length cut.before + (length cut.after + 1)
     = simp length-append (omega arith) in
     omega (arith, len, ap length (cut_at-parts stop text cut e))
+
+-- what stands after the byte is no longer than all
+pub cut_at-after : (stop : ℕ) (text : List ℕ) (cut : Cut) → Some cut ≡ cut_at stop text
+    → length cut.after ≤ length text
+cut_at-after stop text cut e = omega (arith, cut_len stop text cut (sym e))
 
 -- what is left once the first part and the byte are gone
 pub record Taken (stop : ℕ) (text : List ℕ) (cut : Cut) : Type 0 where

@@ -3,7 +3,7 @@ use Rattle.std.proofs.lemmas.List.{get_or_default}
 use Rattle.aprs_ax25.specs.Frame.{FrameOf}
 use Rattle.aprs_ax25.specs.FrameFault.{frame_fault, parts_of}
 use Rattle.aprs_ax25.proofs.Sounds.{IsSound-len, frame_fault-IsSound, sound-FrameOf}
-use Rattle.aprs_ax25.proofs.frame.Frame.put.Goals as goal
+use Rattle.aprs_ax25.proofs.frame.Frame.assign.Goals as goal
 
 pub push_all-requires : goal.push_all-requires
 push_all-requires c =
@@ -13,6 +13,12 @@ push_all-requires c =
 pub invariant_of-self : goal.invariant_of-self
 invariant_of-self c =
     let P : List ℕ → Type 0 = λ f. (frame_fault f ≡ None) × FrameOf (parts_of f) f in
-    let e : c.push_all.new.out.items ≡ c.args.bytes.now = c.push_all.ensures ∙ ap (λ l. l ++ c.args.bytes.now) c.clear.ensures in
-    let small : All (λ b. b < 256) c.args.bytes.now = λ k d lt. omega (arith, get_or_default c.args.bytes.now k d 0 lt, c.type_inv.bytes k) in
-    subst P (sym e) (c.requires, sound-FrameOf c.args.bytes.now (frame_fault-IsSound c.args.bytes.now c.requires) small)
+    let e : c.push_all.new.out.items ≡ c.args.bytes.now = c.push_all.ensures
+    ∙ ap (λ l. l ++ c.args.bytes.now) c.clear.ensures in
+    let small : All (λ b. b < 256) c.args.bytes.now =
+    λ k d lt. omega (arith, get_or_default c.args.bytes.now k d 0 lt, c.type_inv.bytes k) in
+    subst P (sym e) (
+      c.requires,
+      sound-FrameOf c.args.bytes.now
+          (frame_fault-IsSound c.args.bytes.now c.requires) small,
+    )

@@ -1,7 +1,7 @@
 use Rattle.std.proofs.Common.{◌∙◌, sym, arith, length-take, ℕ}
-use Rattle.aprs_report.specs.Ending.{is_end}
+use Rattle.aprs_report.specs.Trailing.{is_end}
 use Rattle.aprs_report.proofs.Cuts.{cut_one, cut_none, cut_nothing}
-use Rattle.aprs_report.proofs.bytes.Ending.cut.Goals as goal
+use Rattle.aprs_report.proofs.bytes.Trailing.cut.Goals as goal
 
 pub returns-then-not-has-clause-exact : goal.returns-then-not-has-clause-exact
 returns-then-not-has-clause-exact c =

@@ -1,7 +1,7 @@
 use Rattle.std.proofs.Common.{◌≡◌, ◌≤◌, length}
-use Rattle.aprs_report.specs.Ending.{is_end}
+use Rattle.aprs_report.specs.Trailing.{is_end}
 use Rattle.aprs_report.specs.Reader.{cut_end}
-use Rattle.aprs_report.proofs.bytes.Ending.cut.Given as goal
+use Rattle.aprs_report.proofs.bytes.Trailing.cut.Given as goal
 
 abbrev pub invariant-loop-rest : goal.invariant-loop-rest
 invariant-loop-rest l = record {

@@ -1,12 +1,13 @@
 use Rattle.std.proofs.Common.{◌≡◌, ◌<◌, ◌⊎◌, ℕ, List, All, Option, None, Some, inl, inr, sym, ◌∙◌, refl}
-use Rattle.aprs_ax25.specs.Law.{IsFrame, IsRefused}
+use Rattle.aprs_ax25.specs.Laws.{IsFrame, IsRefused}
 use Rattle.aprs_ax25.specs.FrameFault.{frame_fault, parts_of}
 use Rattle.aprs_ax25.specs.declared.fault.FrameFault.{FrameFault}
 use Rattle.aprs_ax25.proofs.Sounds.{frame_fault-IsSound, sound-FrameOf}
 use Rattle.aprs_ax25.proofs.Spellings.{FrameOf-parts_of, FrameOf-frame_fault}
-use Rattle.aprs_ax25.proofs.law.each_is_a_frame_or_refused.Goals as goal
+use Rattle.aprs_ax25.proofs.laws.each_is_a_frame_or_refused.Goals as goal
 
-cases : (bytes : List ℕ) → All (λ b. b < 256) bytes → (fault : Option FrameFault) → frame_fault bytes ≡ fault → IsFrame bytes ⊎ IsRefused bytes
+cases : (bytes : List ℕ) → All (λ b. b < 256) bytes → (fault : Option FrameFault)
+    → frame_fault bytes ≡ fault → IsFrame bytes ⊎ IsRefused bytes
 cases bytes small None e = inl (record {
   parts = parts_of bytes;
   reads = sound-FrameOf bytes (frame_fault-IsSound bytes e) small;
