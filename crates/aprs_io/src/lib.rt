@@ -7,7 +7,7 @@ mod device;
 mod hexadecimal;
 mod input;
 
-pub use byte_vectors::{copied, push_all};
+pub use byte_vectors::{copied, push_all, put};
 pub use cut::cut_at;
 pub use device::{Counted, DeviceFault, WriteFault, send};
 pub use hexadecimal::{decode_into, encode_to};

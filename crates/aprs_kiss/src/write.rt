@@ -1,13 +1,12 @@
 //! Writes KISS frames.
-ghost use Rattle.std.specs.Prelude.{◌≡◌, ◌≤◌, length, true, OnOk, OnErr};
+ghost use Rattle.std.specs.Prelude.{◌≡◌, ◌≤◌, ◌+◌, length, take, true, OnOk, OnErr};
 ghost use Rattle.std.specs.Io.KnownBytes.{Appends};
 ghost use Rattle.aprs_io.specs.Device.{device_of, failures_of, Rose, AppendsPrefix};
 ghost use Rattle.aprs_kiss.specs.Plain.{IsPlain, is_special};
 ghost use Rattle.aprs_kiss.specs.Spelling.{kiss_text, spelling_of_byte};
 
 use crate::spelling::{FEND, FESC, TFEND, TFESC, cut_plain};
-use aprs_io::{Counted, WriteFault, push_all, send};
-use arrayvec::ArrayVec;
+use aprs_io::{Counted, WriteFault, put, send};
 use std::io::Write;
 
 /// The type byte of a data frame on port 0.
@@ -32,15 +31,45 @@ pub fn write_kiss<W: Write>(w: &mut Counted<W>, frame: &[u8]) -> Result<(), Writ
     ensures count { failures_of w.old ≤ failures_of w.new }
     ensures fault { OnErr result (Rose (failures_of w.old) (failures_of w.new)) }
 {
-    let (plain, mark) = cut_plain(frame);
-    if mark.is_none() && plain.len() <= MAX_AT_ONCE {
-        write_plain(w, plain)
-    } else {
-        write_spelled(w, frame)
+    KissWriter::new().write(w, frame)
+}
+
+/// Writes frames one after another. It keeps the room for a frame, which to make anew costs more
+/// than to fill it.
+#[derive(Drop)]
+pub struct KissWriter {
+    text: [u8; MAX_TEXT],
+}
+
+impl KissWriter {
+    /// A writer of frames. Takes no memory.
+    pub fn new() -> KissWriter {
+        KissWriter {
+            text: [0; MAX_TEXT],
+        }
+    }
+
+    /// Writes one frame, as `write_kiss` does. Takes no memory.
+    pub fn write<W: Write>(&mut self, w: &mut Counted<W>, frame: &[u8]) -> Result<(), WriteFault>
+        ensures sent { OnOk result
+            (Appends (W.contents (device_of w.old)) (W.contents (device_of w.new))
+            (kiss_text frame.now)) }
+        ensures prefix { OnErr result
+            (AppendsPrefix (W.contents (device_of w.old)) (W.contents (device_of w.new))
+            (kiss_text frame.now)) }
+        ensures count { failures_of w.old ≤ failures_of w.new }
+        ensures fault { OnErr result (Rose (failures_of w.old) (failures_of w.new)) }
+    {
+        let (plain, mark) = cut_plain(frame);
+        if mark.is_some() || plain.len() > MAX_AT_ONCE {
+            return write_spelled(w, frame);
+        }
+        let len = put_plain(&mut self.text, plain);
+        send(w, &self.text[..len])
     }
 }
 
-/// The same, part by part.
+/// Writes a frame part by part.
 fn write_spelled<W: Write>(w: &mut Counted<W>, frame: &[u8]) -> Result<(), WriteFault>
     ensures sent { OnOk result
         (Appends (W.contents (device_of w.old)) (W.contents (device_of w.new))
@@ -64,24 +93,19 @@ fn write_spelled<W: Write>(w: &mut Counted<W>, frame: &[u8]) -> Result<(), Write
     }
 }
 
-/// Writes a frame whose bytes all stand for themselves, in one call of the device.
-fn write_plain<W: Write>(w: &mut Counted<W>, frame: &[u8]) -> Result<(), WriteFault>
+/// Puts what goes out for a frame, whose bytes all stand for themselves, at the beginning of `out`,
+/// and returns how many bytes it is.
+fn put_plain(out: &mut [u8], frame: &[u8]) -> usize
     requires few { length frame.now ≤ MAX_AT_ONCE }
     requires plain { IsPlain frame.now }
-    ensures sent { OnOk result
-        (Appends (W.contents (device_of w.old)) (W.contents (device_of w.new))
-        (kiss_text frame.now)) }
-    ensures prefix { OnErr result
-        (AppendsPrefix (W.contents (device_of w.old)) (W.contents (device_of w.new))
-        (kiss_text frame.now)) }
-    ensures count { failures_of w.old ≤ failures_of w.new }
-    ensures fault { OnErr result (Rose (failures_of w.old) (failures_of w.new)) }
+    requires room { length out.old ≡ MAX_TEXT }
+    ensures fits { result ≤ MAX_TEXT }
+    ensures len { length out.new ≡ MAX_TEXT }
+    ensures text { take result out.new ≡ kiss_text frame.now }
 {
-    let mut text: ArrayVec<u8, MAX_TEXT> = ArrayVec::new();
-    push_all(&mut text, &[FEND, DATA]);
-    push_all(&mut text, frame);
-    push_all(&mut text, &[FEND]);
-    send(w, text.as_slice())
+    let start = put(out, 0, &[FEND, DATA]);
+    let end = put(out, start, frame);
+    put(out, end, &[FEND])
 }
 
 /// What FEND or FESC is sent as.
