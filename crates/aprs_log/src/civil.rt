@@ -8,10 +8,10 @@ use crate::calendar::{date_of, day_number};
 use std::marker::Model;
 
 /// The bytes of a date and time's text to the second.
-pub const SHORT: usize = 20;
+pub const SECONDS_LEN: usize = 20;
 
 /// The bytes of a date and time's text to the millisecond.
-pub const LONG: usize = 24;
+pub const MILLIS_LEN: usize = 24;
 
 /// A date and a time of its day, as the digits of a text say them.
 #[derive(Clone, Copy)]
@@ -67,10 +67,10 @@ impl CivilTime {
         ensures { SomeIff result (civil_text MomentForm.Seconds (near_civil text.now) 0 ≡ text.now)
             (near_civil text.now, 0) }
     {
-        if text.len() != SHORT {
+        if text.len() != SECONDS_LEN {
             return None;
         }
-        let civil = CivilTime::at(text);
+        let civil = CivilTime::from_digits(text);
         if civil.short_text().as_slice() == text {
             Some((civil, 0))
         } else {
@@ -84,10 +84,10 @@ impl CivilTime {
             (near_millis MomentForm.Millis text.now) ≡ text.now)
             (near_civil text.now, near_millis MomentForm.Millis text.now) }
     {
-        if text.len() != LONG {
+        if text.len() != MILLIS_LEN {
             return None;
         }
-        let civil = CivilTime::at(text);
+        let civil = CivilTime::from_digits(text);
         let millis = u16::from(digit_of(text[20])) * 100 + u16::from(pair_at(text, 21));
         if civil.text(millis).as_slice() == text {
             Some((civil, millis))
@@ -97,7 +97,7 @@ impl CivilTime {
     }
 
     /// The time whose digits stand at their places in a text.
-    fn at(text: &[u8]) -> CivilTime
+    fn from_digits(text: &[u8]) -> CivilTime
         requires { 20 ≤ length text.now }
         ensures { result ≡ near_civil text.now }
     {
@@ -112,7 +112,7 @@ impl CivilTime {
     }
 
     /// The date and the time of the day that are so many seconds after 1970-01-01T00:00:00Z.
-    pub fn of_seconds(seconds: u64) -> CivilTime
+    pub fn from_seconds(seconds: u64) -> CivilTime
         requires { seconds ≤ 4102444799 }
         ensures real { IsCivil result }
         ensures number { seconds_of result ≡ seconds }
@@ -158,7 +158,7 @@ impl CivilTime {
     }
 
     /// The text to the second, as `2024-05-01T12:00:00Z`.
-    fn short_text(&self) -> [u8; SHORT]
+    fn short_text(&self) -> [u8; SECONDS_LEN]
         ensures { result ≡ civil_text MomentForm.Seconds self.now 0 }
     {
         let century = (self.year / 100) as u8;
@@ -188,11 +188,11 @@ impl CivilTime {
     }
 
     /// The text to the millisecond, as `2024-05-01T12:00:00.000Z`.
-    pub fn text(&self, millis: u16) -> [u8; LONG]
+    pub fn text(&self, millis: u16) -> [u8; MILLIS_LEN]
         requires { millis < 1000 }
         ensures { result ≡ civil_text MomentForm.Millis self.now millis }
     {
-        let mut text = [b'Z'; LONG];
+        let mut text = [b'Z'; MILLIS_LEN];
         text[..19].copy_from_slice(&self.short_text()[..19]);
         text[19] = b'.';
         text[20] = b'0' + (millis / 100) as u8;

@@ -14,7 +14,7 @@ const DATE_LEN: usize = 11;
 const TIME_LEN: usize = 8;
 
 /// How many milliseconds a day has.
-const DAY: u64 = 86_400_000;
+const MILLIS_A_DAY: u64 = 86_400_000;
 
 /// A date and its first moment, since lines of a log that follow one another mostly have the same
 /// date.
@@ -69,7 +69,7 @@ impl Clock {
     {
         let moment = Moment::parse(text)?;
         let millis = moment.millis();
-        if let Some(midnight) = Moment::from_millis(millis - millis % DAY) {
+        if let Some(midnight) = Moment::from_millis(millis - millis % MILLIS_A_DAY) {
             let mut date = [0; DATE_LEN];
             date.copy_from_slice(&text[..DATE_LEN]);
             *self = Clock { date, midnight };
@@ -78,7 +78,7 @@ impl Clock {
     }
 }
 
-/// The second of the day that a text as `12:00:00` tells, where it is one.
+/// The second of the day of a text as `12:00:00`, where it is one.
 fn second_of_text(text: &[u8]) -> Option<u32>
     requires { length text.now ≡ 8 }
     ensures { IfSome result (λ n. SecondText n text.now) }
@@ -92,7 +92,7 @@ fn second_of_text(text: &[u8]) -> Option<u32>
     }
 }
 
-/// The millisecond of a second that the end of a text tells, `Z` or as `.000Z`, where it is one.
+/// The millisecond of a second of the end of a text, `Z` or as `.000Z`, where it is one.
 fn milli_of_text(text: &[u8]) -> Option<u32>
     requires { (length text.now ≡ 1) ⊎ (length text.now ≡ 5) }
     ensures { IfSome result (λ n. FractionText (form_of_end text.now) n text.now) }

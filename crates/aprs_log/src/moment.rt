@@ -7,7 +7,7 @@ ghost use Rattle.std.specs.Cmp.Rules.{comparing};
 ghost use Rattle.aprs_log.specs.Moment.{MomentText, MomentTextIn, form_of, moment_in, moment_of, moment_text};
 
 use crate::MomentForm;
-use crate::civil::{CivilTime, SHORT};
+use crate::civil::{CivilTime, SECONDS_LEN};
 use std::cmp::Ordering;
 use std::marker::Model;
 
@@ -116,7 +116,7 @@ impl Moment {
         ensures exact { (t : List ℕ) → (t ≡ result) ↔ MomentTextIn MomentForm.Millis self.now t }
         ensures reads_back { moment_of result ≡ Some self.now }
     {
-        CivilTime::of_seconds(self.millis / 1000).text((self.millis % 1000) as u16)
+        CivilTime::from_seconds(self.millis / 1000).text((self.millis % 1000) as u16)
     }
 
     /// Each moment has a text. Does nothing.
@@ -163,7 +163,7 @@ impl PartialOrd for Moment {
 fn form_of(text: &[u8]) -> MomentForm
     ensures { result ≡ form_of text.now }
 {
-    if text.len() == SHORT {
+    if text.len() == SECONDS_LEN {
         MomentForm::Seconds
     } else {
         MomentForm::Millis

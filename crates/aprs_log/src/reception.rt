@@ -30,7 +30,7 @@ impl Model for Reception {
 }
 
 impl Reception {
-    /// The reception of these three parts.
+    /// The reception of these three parts. Takes no memory.
     pub fn new(moment: Moment, receiver: Receiver, frame: Frame) -> Reception
         ensures { result ≡ record { moment = moment; receiver = receiver; frame = frame } }
     {
@@ -41,9 +41,8 @@ impl Reception {
         }
     }
 
-    /// Puts the reception of these parts in the place of this one, where the bytes are a frame.
-    /// Takes no memory.
-    pub(crate) fn rehear(
+    /// Becomes the reception of these parts, where the bytes are a frame. Takes no memory.
+    pub(crate) fn assign(
         &mut self,
         moment: Moment,
         receiver: Receiver,

@@ -1,7 +1,7 @@
 use Rattle.std.proofs.Common.{◌≡◌, ◌++◌, ◌∷◌, length, length-append, arith, ap, subst, sym}
 use Rattle.aprs_kiss.specs.Plain.{CutsPlain}
 use Rattle.aprs_kiss.specs.Spelling.{kiss_text}
-use Rattle.aprs_log.proofs.WrittenLemmas.{put_last, put_cut}
+use Rattle.aprs_log.proofs.WrittenLines.{put_last, put_cut}
 use Rattle.aprs_log.proofs.write.put_frame.Goals as goal
 
 pub returns-in_default-clause-bytes : goal.returns-in_default-clause-bytes

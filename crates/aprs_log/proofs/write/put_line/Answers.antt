@@ -5,7 +5,7 @@ use Rattle.aprs_ax25.specs.Frame.{FrameOf}
 use Rattle.aprs_ax25.specs.FrameFault.{frame_of, parts_of}
 use Rattle.aprs_log.specs.Moment.{MomentText, moment_text}
 use Rattle.aprs_log.specs.Receiver.{IsName}
-use Rattle.aprs_log.proofs.WrittenLemmas.{real, line_of-written}
+use Rattle.aprs_log.proofs.WrittenLines.{real, line_of-written}
 use Rattle.aprs_log.proofs.write.put_line.Goals as goal
 
 pub frames_are_read-requires : goal.frames_are_read-requires

@@ -1,5 +1,5 @@
 use Rattle.std.proofs.Common.{◌≡◌, Some, ◌-◌, ◌%◌, ◌++◌, ap, sym, ◌∙◌}
-use Rattle.aprs_log.proofs.ClockLemmas.{moment_of-midnight}
+use Rattle.aprs_log.proofs.Clocks.{moment_of-midnight}
 use Rattle.aprs_log.specs.declared.moment_form.MomentForm.TheVariants.{Seconds}
 use Rattle.aprs_log.specs.Clock.{midnight_text}
 use Rattle.aprs_log.specs.Moment.{moment_in}

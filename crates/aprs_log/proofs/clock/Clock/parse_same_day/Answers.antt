@@ -1,6 +1,6 @@
 use Rattle.std.proofs.Common.{◌≡◌, Some, ◌+◌, ◌*◌, ◌++◌, arith, ap, sym, ◌∙◌}
 use Rattle.std.proofs.lemmas.Slice.Eq.{bytes_eq-Decides}
-use Rattle.aprs_log.proofs.ClockLemmas.{IfSome-moment, halves, moment_of-same_day, not_false}
+use Rattle.aprs_log.proofs.Clocks.{IfSome-moment, halves, moment_of-same_day, not_false}
 use Rattle.aprs_log.proofs.clock.Clock.parse_same_day.Goals as goal
 
 pub returns : goal.returns

@@ -1,7 +1,7 @@
 use Rattle.std.proofs.Common.{◌+◌, ◌*◌, ◌<◌, ℕ, Some, ap, sym, subst, ◌∙◌}
 use Rattle.aprs_log.specs.Moment.{civil_text, moment_in, room_of, seconds_of}
 use Rattle.aprs_log.specs.Places.{near_civil}
-use Rattle.aprs_log.proofs.MomentLemmas.{moment_in-civil, moment_in-unfound, moment_in-unreal, near_millis-below, IsExactIn}
+use Rattle.aprs_log.proofs.Moments.{moment_in-civil, moment_in-unfound, moment_in-unreal, near_millis-below, IsExactIn}
 use Rattle.aprs_log.proofs.moment.Moment.parse_in.Goals as goal
 
 pub returns-in-Some-seconds-clause-value : goal.returns-in-Some-seconds-clause-value

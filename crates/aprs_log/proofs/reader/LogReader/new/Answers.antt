@@ -1,7 +1,7 @@
 use Rattle.std.proofs.Common.{◌-◌, length}
 use Rattle.aprs_log.specs.Window.{items}
 use Rattle.aprs_log.specs.declared.ending.State.TheVariants.{Reading}
-use Rattle.aprs_log.proofs.AwaitLemmas.{from_start, something}
+use Rattle.aprs_log.proofs.Awaiting.{from_start, something}
 use Rattle.aprs_log.proofs.reader.LogReader.new.Goals as goal
 
 pub returns-clause-whole : goal.returns-clause-whole

@@ -3,7 +3,7 @@ use Rattle.std.specs.Prelude.{IfSome, OnErr}
 use Rattle.std.proofs.lemmas.List.{length-take-le}
 use Rattle.aprs_io.specs.Device.{AppendsFront, device_of}
 use Rattle.aprs_log.specs.Moment.{moment_text}
-use Rattle.aprs_log.proofs.WrittenLemmas.{begins_with_moment}
+use Rattle.aprs_log.proofs.WrittenLines.{begins_with_moment}
 use Rattle.aprs_log.proofs.write.LogWriter.write.Goals as goal
 
 pub invariant_of-self : goal.invariant_of-self

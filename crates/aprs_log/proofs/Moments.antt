@@ -371,9 +371,9 @@ moment_text-is form m h below =
       whole q r s e f = omega arith
 
 -- a form's text is of a moment that the form can tell
-pub millis_told : (form : MomentForm) (m : ℕ) (t : List ℕ) → MomentTextIn form m t
+pub millis_kept : (form : MomentForm) (m : ℕ) (t : List ℕ) → MomentTextIn form m t
     → m % 1000 < room_of form
-millis_told form m t h =
+millis_kept form m t h =
     left (seconds_of h.civil) h.millis (room_of form) (room_most form h.millis h.below) h.below
     (number-back m h.civil h.millis h.real h.number) where
       left : (s n r : ℕ) → n < 1000 → n < r → m ≡ s * 1000 + n → m % 1000 < r

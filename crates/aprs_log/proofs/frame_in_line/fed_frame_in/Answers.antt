@@ -1,6 +1,6 @@
 use Rattle.std.proofs.Common.{[], Err, ap, sym, ◌∙◌}
-use Rattle.aprs_log.proofs.FrameLemmas.{frame_in-unended, once, fed_nothing, fed_passed, fed_frame, fed_two}
-use Rattle.aprs_log.proofs.line_bytes.fed_frame_in.Goals as goal
+use Rattle.aprs_log.proofs.Frames.{frame_in-unended, once, fed_nothing, fed_passed, fed_frame, fed_two}
+use Rattle.aprs_log.proofs.frame_in_line.fed_frame_in.Goals as goal
 
 pub returns-then-is_unended : goal.returns-then-is_unended
 returns-then-is_unended c = sym (frame_in-unended c.args.bytes.now (sym c.if-is_unended.ensures))

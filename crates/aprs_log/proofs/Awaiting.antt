@@ -17,7 +17,8 @@ use Rattle.aprs_log.specs.declared.ending.State.{State}
 use Rattle.aprs_log.specs.declared.ending.State.TheVariants.{Reading, Ended, Failed}
 pub use Rattle.aprs_io.proofs.Inputs.{GetsWhole, gets_whole}
 use Rattle.aprs_io.proofs.Inputs.{Gets-after}
-use Rattle.aprs_log.proofs.AnswerLemmas.{answers_from-line, answers_from-tail, answers_from-long, no_lf}
+use Rattle.aprs_log.proofs.LogAnswers.{answers_from-line, answers_from-tail, answers_from-long, no_lf}
+use Rattle.aprs_log.specs.declared.line.TheConstants.{MAX_LINE}
 
 -- an answer that doesn't depend on the bytes to come
 always : (known end : Option (List ℕ)) (left line : ℕ) (held : List ℕ) (a : Answers)
@@ -56,7 +57,7 @@ awaits_fault known end left line held cut f e g = always known end left line hel
 -- ---- no whole line
 
 pub awaits_long : (known end : Option (List ℕ)) (left line : ℕ) (held : List ℕ) → cut_at 10 held ≡ None
-    → 8192 < length held
+    → MAX_LINE < length held
     → AwaitsIn Reading known end left line held (ended (Some (fault_after line cause.LongLine)))
 awaits_long known end left line held none long = always known end left line held _
     (λ text c. sym (answers_from-long (line + 1) held text c (no_lf held none) long))
@@ -140,7 +141,7 @@ step_fault s known end left line held f cut c a going e g same is =
 
 pub step_long : (s : State) (known end : Option (List ℕ)) (left line : ℕ) (held slice : List ℕ)
     (a : Answers) → s ≡ Reading
-    → cut_at 10 held ≡ None → slice ≡ held → 8192 < length slice
+    → cut_at 10 held ≡ None → slice ≡ held → MAX_LINE < length slice
     → a ≡ ended (Some (fault_after line cause.LongLine)) → AwaitsIn s known end left line held a
 step_long s known end left line held slice a going none same long is =
     going_on s known end left line held a going

@@ -1,7 +1,7 @@
 use Rattle.std.proofs.Common.{arith, sym, ◌∙◌, eqb-true}
 use Rattle.std.proofs.lemmas.List.{take_rest}
-use Rattle.aprs_log.proofs.FrameLemmas.{frame_in-cut}
-use Rattle.aprs_log.proofs.line_bytes.plain_frame_in.Goals as goal
+use Rattle.aprs_log.proofs.Frames.{frame_in-cut}
+use Rattle.aprs_log.proofs.frame_in_line.plain_frame_in.Goals as goal
 
 pub returns-then-is_empty : goal.returns-then-is_empty
 returns-then-is_empty c =

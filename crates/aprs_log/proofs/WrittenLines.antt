@@ -10,14 +10,15 @@ use Rattle.aprs_ax25.specs.Frame.{FrameOf, Parts}
 use Rattle.aprs_ax25.specs.FrameFault.{frame_of, unless_fault}
 use Rattle.aprs_ax25.specs.Law.{IsFrame, IsRefused}
 use Rattle.hex.specs.Hex.{decode_of, encode_lower}
-use Rattle.aprs_log.specs.Bytes.{WrittenLaws}
+use Rattle.aprs_log.specs.StreamLaws.{WrittenLaws}
 use Rattle.aprs_log.specs.Moment.{MomentText, moment_text}
 use Rattle.aprs_log.specs.Receiver.{IsName}
 use Rattle.aprs_log.specs.Reception.{Heard}
 use Rattle.aprs_log.specs.Line.{heard_or_passed, line_of, written_line}
 use Rattle.aprs_log.specs.declared.line.Line.TheVariants as line
-use Rattle.aprs_log.proofs.LineLemmas.{line_of-syntax}
-use Rattle.aprs_log.proofs.FrameLemmas.{frame_in-kiss_text}
+use Rattle.aprs_log.proofs.Lines.{line_of-syntax}
+use Rattle.aprs_log.proofs.Frames.{frame_in-kiss_text}
+use Rattle.aprs_log.specs.declared.line.TheConstants.{MAX_LINE}
 
 -- ---- a frame's bytes, cut at each byte that isn't sent as itself
 
@@ -85,7 +86,7 @@ real x text e moment receiver frame few = record {
 
 pub line_of-written : WrittenLaws → (x : Heard) → IsReal x
     → decode_of (encode_lower (kiss_text x.frame)) ≡ Ok (kiss_text x.frame)
-    → length (written_line x) ≤ 8192 → line_of (written_line x) ≡ Ok (line.Heard x)
+    → length (written_line x) ≤ MAX_LINE → line_of (written_line x) ≡ Ok (line.Heard x)
 line_of-written laws x h digits short =
     line_of-syntax (written_line x) short (record {
       moment = x.moment;

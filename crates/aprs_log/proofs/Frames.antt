@@ -13,12 +13,12 @@ use Rattle.aprs_kiss.specs.declared.fault.PassFault.{PassFault}
 use Rattle.aprs_kiss.specs.declared.reader.Fed.{Fed}
 use Rattle.aprs_kiss.specs.declared.reader.Fed.TheVariants.{Nothing, Frame, Passed}
 use Rattle.aprs_ax25.specs.FrameFault.{frame_of}
-use Rattle.aprs_log.specs.Bytes.{has_other, StreamLaws, WrittenLaws}
+use Rattle.aprs_log.specs.StreamLaws.{has_other, StreamLaws, WrittenLaws}
 use Rattle.aprs_log.specs.Line.{frame_in, frame_or_reason, only_frame}
 use Rattle.aprs_log.specs.Fault.{reason_of_pass}
 use Rattle.aprs_log.specs.declared.fault.Reason.{Reason}
 use Rattle.aprs_log.specs.declared.fault.Reason.TheVariants as reason
-use Rattle.aprs_log.proofs.PieceLemmas.{ends_alone, rest_nil, tells_other}
+use Rattle.aprs_log.proofs.Pieces.{ends_alone, rest_nil, judges_other}
 
 unless_unended : (b : Bool) (x y : Result (List ℕ) Reason) → b ≡ false → cond b x y ≡ y
 unless_unended true x y e = absurd (let f : true ≡ false = e in cc)
@@ -50,7 +50,7 @@ module _ (laws : StreamLaws) (used more : List ℕ) (j : Judgement) (u : UsedTo 
     (e : is_nonempty (rest_of (used ++ more)) ≡ false) where
   told_then : judgements_of (used ++ more) ≡ j ∷ judgements_of more
   told_then =
-      laws.told used more ∙ ap (λ js. js ++ judgements_of (rest_of used ++ more)) u.told
+      laws.judged used more ∙ ap (λ js. js ++ judgements_of (rest_of used ++ more)) u.told
       ∙ ap (λ l. j ∷ judgements_of (l ++ more)) u.left
 
   frame_in-one : has_other more ≡ false → only_frame (j ∷ []) ≡ frame_in (used ++ more)
@@ -63,7 +63,7 @@ module _ (laws : StreamLaws) (used more : List ℕ) (j : Judgement) (u : UsedTo 
       let rest = rest_nil (rest_of (used ++ more)) e in
       let moved : rest_of (used ++ more) ≡ rest_of more
       = laws.left used more ∙ ap (λ l. rest_of (l ++ more)) u.left in
-      let some = tells_other laws more (sym moved ∙ rest) other in
+      let some = judges_other laws more (sym moved ∙ rest) other in
       sym (frame_in-ended (used ++ more) e ∙ ap only_frame told_then
       ∙ two_frames j (judgements_of more) some)
 

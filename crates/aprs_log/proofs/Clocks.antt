@@ -7,7 +7,7 @@ use Rattle.aprs_log.specs.declared.moment_form.MomentForm.{MomentForm}
 use Rattle.aprs_log.specs.declared.moment_form.MomentForm.TheVariants.{Seconds, Millis}
 use Rattle.aprs_log.specs.Clock.{FractionText, SecondText, clock_text, form_of_end, midnight_text}
 use Rattle.aprs_log.specs.Moment.{Civil, IsCivil, civil_text, day_after, form_of, four_digits, fraction_text, moment_in, moment_of, moment_text_in, room_of, second_of_day, seconds_of, two_digits}
-use Rattle.aprs_log.proofs.MomentLemmas.{moment_in-civil, moment_in-text, moment_text-is, room_most, text-moment_in}
+use Rattle.aprs_log.proofs.Moments.{moment_in-civil, moment_in-text, moment_text-is, room_most, text-moment_in}
 
 -- YYYY-MM-DDT
 abbrev date_text : Civil → List ℕ
@@ -99,12 +99,12 @@ cut_text : (form : MomentForm) (date time : List ℕ) (c : Civil) (n : ℕ) → 
     → date ++ time ≡ civil_text form c n
     → (date ≡ date_text c) × (time ≡ time_text form c.hour c.minute c.second n)
 cut_text form date time c n len e =
-    let front : take 11 (date ++ time) ≡ date
+    let prefix : take 11 (date ++ time) ≡ date
     = ap (λ k. take k (date ++ time)) (sym len) ∙ take-append_seam date time in
     let end : 11 ≡ length date + 0 = omega (arith, len) in
     let back : drop 11 (date ++ time) ≡ time
     = ap (λ k. drop k (date ++ time)) end ∙ drop-append-add date time 0 in
-    (sym front ∙ ap (λ l. take 11 l) e, sym back ∙ ap (λ l. drop 11 l) e)
+    (sym prefix ∙ ap (λ l. take 11 l) e, sym back ∙ ap (λ l. drop 11 l) e)
 
 -- at midnight no second of the day has gone by
 no_second : (c : Civil) (n : ℕ) → midnight_text ≡ time_text Seconds c.hour c.minute c.second n
@@ -187,9 +187,9 @@ IfSome-moment t None P m h e = tt
 IfSome-moment t (Some k) P m h e = e ∙ ap (λ n. Some n) (sym h.1)
 
 -- a list that was cut in two
-pub halves : (n : ℕ) (l front back : List ℕ) → front ≡ take n l → back ≡ drop n l → l ≡ front ++ back
-halves n l front back e f =
-    sym (take-append-drop n l) ∙ ap (λ x. x ++ drop n l) (sym e) ∙ ap (λ x. front ++ x) (sym f)
+pub halves : (n : ℕ) (l prefix rest : List ℕ) → prefix ≡ take n l → rest ≡ drop n l → l ≡ prefix ++ rest
+halves n l prefix rest e f =
+    sym (take-append-drop n l) ∙ ap (λ x. x ++ drop n l) (sym e) ∙ ap (λ x. prefix ++ x) (sym f)
 
 pub not_false : (b : Bool) → not b ≡ false → b ≡ true
 not_false true e = refl
