@@ -189,7 +189,7 @@ step_end s next known after end left line held now slice e o a going none same i
     (awaits_end known end left line held e none
     (subst (λ end. EndsHere e left known end) (sym stopped.0) ends)))
 
--- no line's fault is a want of memory
+-- no line's fault is a failed allocation
 pub faults_keep : (f : LineFault) (c : LogCause) → c ≡ log_cause_of f → KeepsMemory (Failed c)
 faults_keep fault.LongLine c e k = cc
 faults_keep fault.NoNewline c e k = cc

@@ -38,7 +38,7 @@ frame_in-unended bytes e = rw e refl
 
 -- that is the only piece so far, and its judgement is j
 record UsedTo (used : List ℕ) (j : Judgement) : Type 0 where
-  told : judgements_of used ≡ j ∷ []
+  judged : judgements_of used ≡ j ∷ []
   left : rest_of used ≡ []
 
 two_frames : (j : Judgement) (js : List Judgement) → 0 < length js
@@ -50,7 +50,7 @@ module _ (laws : StreamLaws) (used more : List ℕ) (j : Judgement) (u : UsedTo 
     (e : is_nonempty (rest_of (used ++ more)) ≡ false) where
   told_then : judgements_of (used ++ more) ≡ j ∷ judgements_of more
   told_then =
-      laws.judged used more ∙ ap (λ js. js ++ judgements_of (rest_of used ++ more)) u.told
+      laws.judged used more ∙ ap (λ js. js ++ judgements_of (rest_of used ++ more)) u.judged
       ∙ ap (λ l. j ∷ judgements_of (l ++ more)) u.left
 
   frame_in-one : has_other more ≡ false → only_frame (j ∷ []) ≡ frame_in (used ++ more)
@@ -67,17 +67,17 @@ module _ (laws : StreamLaws) (used more : List ℕ) (j : Judgement) (u : UsedTo 
       sym (frame_in-ended (used ++ more) e ∙ ap only_frame told_then
       ∙ two_frames j (judgements_of more) some)
 
--- ---- what a reader tells of a line's bytes at once
+-- ---- what a reader returns of a line's bytes at once
 
-pub record FedOnce (bytes : List ℕ) (n : ℕ) (told : List Judgement) : Type 0 where
-  pub judged : judgements_of (take n bytes) ≡ told
-  pub whole : told ≡ [] → n ≡ length bytes
-  pub ends : told ≢ [] → EndsPiece (take n bytes)
+pub record FedOnce (bytes : List ℕ) (n : ℕ) (found : List Judgement) : Type 0 where
+  pub judged : judgements_of (take n bytes) ≡ found
+  pub whole : found ≡ [] → n ≡ length bytes
+  pub ends : found ≢ [] → EndsPiece (take n bytes)
 
-pub once : (bytes : List ℕ) (n : ℕ) (told : List Judgement) → judgements_of (take n bytes) ≡ told
-    → (told ≡ [] → n ≡ length bytes) → (told ≢ [] → EndsPiece (take n bytes))
-    → FedOnce bytes n told
-once bytes n told judged whole ends = record { judged = judged; whole = whole; ends = ends }
+pub once : (bytes : List ℕ) (n : ℕ) (found : List Judgement) → judgements_of (take n bytes) ≡ found
+    → (found ≡ [] → n ≡ length bytes) → (found ≢ [] → EndsPiece (take n bytes))
+    → FedOnce bytes n found
+once bytes n found judged whole ends = record { judged = judged; whole = whole; ends = ends }
 
 after_used : List ℕ → ℕ → List ℕ
 after_used bytes n = take (length bytes - n) (drop n bytes)
@@ -89,7 +89,7 @@ again bytes n = ap (λ l. take n bytes ++ l) (take_rest bytes n) ∙ take-append
 used_to : (bytes : List ℕ) (n : ℕ) (j : Judgement) → FedOnce bytes n (j ∷ [])
     → UsedTo (take n bytes) j
 used_to bytes n j f =
-    record { told = f.judged; left = (f.ends (λ e. let h : ⊥ = absurd cc in h)).left }
+    record { judged = f.judged; left = (f.ends (λ e. let h : ⊥ = absurd cc in h)).left }
 
 module _ (laws : StreamLaws) (bytes : List ℕ) (n : ℕ) (e : false ≡ is_nonempty (rest_of bytes))
   where
@@ -165,10 +165,10 @@ frame_in-written : WrittenLaws → (frame : List ℕ) → length frame ≤ 1023
     → frame_in (kiss_text frame) ≡ frame_or_reason (frame_of frame)
 frame_in-written laws frame len =
     let data_frame = Ok (record { port = 0; bytes = frame }) in
-    let told = laws.read_back [] frame laws.begins.1 len
+    let found = laws.read_back [] frame laws.begins.1 len
     ∙ ap (λ js. js ++ data_frame ∷ []) laws.begins.0 in
     let rest = ap is_nonempty (laws.read_whole [] frame) in
-    frame_in-ended (kiss_text frame) rest ∙ ap only_frame told
+    frame_in-ended (kiss_text frame) rest ∙ ap only_frame found
 
 -- it holds that frame
 pub frame_in-kiss_text : WrittenLaws → (frame : List ℕ) → length frame ≤ 1023

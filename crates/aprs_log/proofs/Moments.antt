@@ -141,7 +141,7 @@ is_civil-IsCivil c h =
 IsCivil-is_civil : (c : Civil) → IsCivil c → is_civil c ≡ true
 IsCivil-is_civil c h = grind (arith, nat_tests)
 
--- a real time, with milliseconds that the form tells apart
+-- a real time, with milliseconds that the form can write
 record Real (form : MomentForm) (c : Civil) (n : ℕ) : Type 0 where
   civil : IsCivil c
   below : n < room_of form
@@ -358,7 +358,7 @@ after_seconds m h =
     (pos_same _ n (IsDay-number (day_after n).year (day_after n).month (day_after n).day d.date
     ∙ sym d.number)) ∙ sum
 
--- each moment that the form can tell has the text that the function gives
+-- each moment that the form can write has the text that the function gives
 pub moment_text-is : (form : MomentForm) (m : ℕ) → m ≤ 4102444799999 → m % 1000 < room_of form
     → MomentTextIn form m (moment_text_in form m)
 unfolding moment_text_in
@@ -370,7 +370,7 @@ moment_text-is form m h below =
       whole : (q r s : ℕ) → s ≡ q → q * 1000 + r ≡ m → s * 1000 + r ≡ m
       whole q r s e f = omega arith
 
--- a form's text is of a moment that the form can tell
+-- a form's text is of a moment that the form can write
 pub millis_kept : (form : MomentForm) (m : ℕ) (t : List ℕ) → MomentTextIn form m t
     → m % 1000 < room_of form
 millis_kept form m t h =

@@ -19,6 +19,7 @@ use Rattle.aprs_log.specs.declared.line.Line.TheVariants as line
 use Rattle.aprs_log.proofs.Lines.{line_of-syntax}
 use Rattle.aprs_log.proofs.Frames.{frame_in-kiss_text}
 use Rattle.aprs_log.specs.declared.line.TheConstants.{MAX_LINE}
+use Rattle.aprs_log.specs.declared.write.TheConstants.{MAX_FRAME}
 
 -- ---- a frame's bytes, cut at each byte that isn't sent as itself
 
@@ -76,7 +77,7 @@ pub record IsReal (x : Heard) : Type 0 where
   pub few : length x.frame ≤ 1023
 
 pub real : (x : Heard) (text : List ℕ) → text ≡ moment_text x.moment → MomentText x.moment text
-    → IsName x.receiver → frame_of x.frame ≡ Ok x.frame → length x.frame ≤ 328 → IsReal x
+    → IsName x.receiver → frame_of x.frame ≡ Ok x.frame → length x.frame ≤ MAX_FRAME → IsReal x
 real x text e moment receiver frame few = record {
   moment = subst (MomentText x.moment) e moment;
   receiver = receiver;

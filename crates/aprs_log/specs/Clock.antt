@@ -4,11 +4,11 @@ use Rattle.aprs_log.specs.declared.moment_form.MomentForm.{MomentForm}
 use Rattle.aprs_log.specs.declared.moment_form.MomentForm.TheVariants.{Seconds, Millis}
 use Rattle.aprs_log.specs.Moment.{two_digits, fraction_text, room_of}
 
--- HH:MM:SS
+-- the text HH:MM:SS of a time of the day
 abbrev pub clock_text : ℕ → ℕ → ℕ → List ℕ
 clock_text hour minute second = two_digits hour ++ 58 ∷ two_digits minute ++ 58 ∷ two_digits second
 
--- 00:00:00Z
+-- the end of the text of a day's first moment: 00:00:00Z
 abbrev pub midnight_text : List ℕ
 midnight_text = clock_text 0 0 0 ++ 90 ∷ []
 
@@ -28,6 +28,6 @@ pub record FractionText (form : MomentForm) (n : ℕ) (t : List ℕ) : Type 0 wh
   pub below : n < room_of form
   pub spelled : t ≡ fraction_text form n ++ 90 ∷ []
 
--- the form of a text whose seconds are followed by so many bytes
+-- the form of a text whose seconds these bytes follow: Z alone, or a fraction and Z
 abbrev pub form_of_end : List ℕ → MomentForm
 form_of_end end = if length end == 1 then Seconds else Millis

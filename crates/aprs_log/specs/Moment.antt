@@ -14,19 +14,19 @@ pub record Civil : Type 0 where
   pub minute : ℕ
   pub second : ℕ
 
--- the tens and the ones of a number below 100
+-- the two digits of a number below 100, as ASCII bytes
 abbrev pub two_digits : ℕ → List ℕ
 two_digits n = (48 + n / 10) ∷ (48 + n % 10) ∷ []
 
--- the same of a number's hundreds and of what is left
+-- the four digits of a number below 10,000
 abbrev pub four_digits : ℕ → List ℕ
 four_digits n = two_digits (n / 100) ++ two_digits (n % 100)
 
--- the hundreds, the tens and the ones of a number below 1,000
+-- the three digits of a number below 1,000
 abbrev pub three_digits : ℕ → List ℕ
 three_digits n = (48 + n / 100) ∷ two_digits (n % 100)
 
--- what stands between the seconds and the Z
+-- what stands between the seconds and the Z: nothing, or a point and the milliseconds
 abbrev pub fraction_text : MomentForm → ℕ → List ℕ
 fraction_text Seconds n = []
 fraction_text Millis n = 46 ∷ three_digits n
@@ -37,7 +37,7 @@ civil_text form c n = four_digits c.year ++ 45 ∷ two_digits c.month ++ 45 ∷ 
     ++ 84 ∷ two_digits c.hour ++ 58 ∷ two_digits c.minute ++ 58 ∷ two_digits c.second
     ++ fraction_text form n ++ 90 ∷ []
 
--- how many moments of one second a form tells apart
+-- how many moments of one second a form can write: one, or 1,000
 abbrev pub room_of : MomentForm → ℕ
 room_of Seconds = 1
 room_of Millis = 1000
@@ -46,13 +46,14 @@ room_of Millis = 1000
 abbrev pub IsDay : ℕ → ℕ → ℕ → Type 0
 IsDay y m d = (1970 ≤ y) × (y ≤ 2099) × IsDate (pos y) (pos m) (pos d)
 
--- such a date, and a second of its day
+-- such a date, and an hour, a minute and a second of its day; no second is a leap second
 pub record IsCivil (c : Civil) : Type 0 where
   pub date : IsDay c.year c.month c.day
   pub hour : c.hour < 24
   pub minute : c.minute < 60
   pub second : c.second < 60
 
+-- the seconds from the start of the day to a civil time
 abbrev pub second_of_day : Civil → ℕ
 second_of_day c = c.hour * 3600 + c.minute * 60 + c.second
 
@@ -74,6 +75,7 @@ MomentText m t = (form : MomentForm) × MomentTextIn form m t
 
 -- ---- a moment's one text in a form, as a function
 
+-- a date of the civil calendar
 pub record Day : Type 0 where
   pub year : ℕ
   pub month : ℕ
@@ -103,11 +105,11 @@ civil_after m = record {
   second = m % 86400 % 60;
 }
 
--- where the form can't tell the milliseconds, they are left out
+-- the text of a moment in a form; a form to the second leaves its milliseconds out
 unfoldable pub moment_text_in : MomentForm → ℕ → List ℕ
 moment_text_in form m = civil_text form (civil_after (m / 1000)) (m % 1000)
 
--- the text that is written
+-- the text that is written of a moment: to the millisecond
 abbrev pub moment_text : ℕ → List ℕ
 moment_text m = moment_text_in Millis m
 
@@ -132,13 +134,16 @@ civil_at t = record {
   second = pair_at t 17;
 }
 
+-- whether the calendar has this date, in one of the years 1970 to 2099
 abbrev pub is_date : Civil → Bool
 is_date c = nat_le 1970 c.year && nat_le c.year 2099 && nat_le 1 c.month && nat_le c.month 12
     && nat_le 1 c.day && nat_le c.day (days_in_month (pos c.year) c.month)
 
+-- whether a day has this hour, minute and second
 abbrev pub is_time : Civil → Bool
 is_time c = nat_lt c.hour 24 && nat_lt c.minute 60 && nat_lt c.second 60
 
+-- `IsCivil` as a test
 abbrev pub is_civil : Civil → Bool
 is_civil c = is_date c && is_time c
 
@@ -151,7 +156,7 @@ abbrev pub millis_at : MomentForm → List ℕ → ℕ
 millis_at Seconds t = 0
 millis_at Millis t = 100 * digit_of (slice_index t 20) + pair_at t 21
 
--- a civil time, and milliseconds that the form tells apart
+-- whether this is a civil time, and the form can write these milliseconds
 abbrev pub is_real : MomentForm → Civil → ℕ → Bool
 is_real form c n = is_civil c && nat_lt n (room_of form)
 

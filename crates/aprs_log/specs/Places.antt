@@ -8,6 +8,7 @@ use Rattle.aprs_log.specs.Moment.{Civil}
 abbrev pub near_digit : ℕ → ℕ
 near_digit b = min 9 (b - 48)
 
+-- the number whose two digits are nearest to the bytes at i
 abbrev pub near_pair : List ℕ → ℕ → ℕ
 near_pair t i = 10 * near_digit (slice_index t i) + near_digit (slice_index t (i + 1))
 

@@ -12,18 +12,19 @@ use Rattle.aprs_log.specs.declared.fault.LogFault.{LogFault}
 use Rattle.aprs_io.specs.declared.input.Ending.{Ending}
 use Rattle.aprs_log.specs.declared.reader.LogReader.{LogReader}
 
--- the reader that it borrows, and the name of that loan
+-- the device that it borrows
 abbrev pub source_of : {R : Type 0} → LogReader R → Counted R
 source_of r = r.source.now
 
+-- the name of that loan
 abbrev pub loan_of : {R : Type 0} → LogReader R → GName
 loan_of r = r.source.ghost_name
 
--- how many lines it has given
+-- how many lines it has returned
 abbrev pub lines_of : {R : Type 0} → LogReader R → ℕ
 lines_of r = r.line
 
--- the line that it gave last
+-- the line that it returned last
 abbrev pub current_of : {R : Type 0} → LogReader R → Line
 current_of r = r.current
 
@@ -54,7 +55,7 @@ Moves known old after new = (end : Option (List ℕ)) (a : Answers) → Awaits a
 abbrev pub ReportsRead : {A : Type 0} → Result A LogFault → Type 0
 ReportsRead r = IsErrAnd r (λ fault. fault.cause ≡ cause.Read)
 
--- the answers of a log of which at most `limit` bytes are got
+-- these are the answers of a log of which at most `limit` bytes are got
 pub record AreAnswersOf (limit : ℕ) (input : List ℕ) (after : Option (List ℕ)) (a : Answers)
     : Type 0 where
   pub text : List ℕ

@@ -41,7 +41,7 @@ pub fn read_line(line: &[u8]) -> Result<Line, LineFault>
 }
 
 impl Line {
-    /// The line that a reader has before its first: passed over, for want of a frame.
+    /// The line that a reader has before its first: passed over, with no frame in it.
     pub(crate) fn empty() -> Line
         ensures { result ≡ Line.Passed Reason.NoFrame }
     {

@@ -58,21 +58,21 @@ impl Reception {
         self.frame.reread(bytes)
     }
 
-    /// When the frame was heard.
+    /// When the frame was heard. Takes no memory.
     pub fn moment(&self) -> Moment
         ensures { result ≡ self.now.moment }
     {
         self.moment
     }
 
-    /// Who heard it.
+    /// Which receiver heard it. Takes no memory.
     pub fn receiver(&self) -> &Receiver
         ensures { result.now ≡ self.now.receiver }
     {
         &self.receiver
     }
 
-    /// What was heard.
+    /// The frame that was heard. Takes no memory.
     pub fn frame(&self) -> &Frame
         ensures { result.now ≡ self.now.frame }
     {

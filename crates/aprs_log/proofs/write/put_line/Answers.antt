@@ -5,6 +5,7 @@ use Rattle.aprs_ax25.specs.Frame.{FrameOf}
 use Rattle.aprs_ax25.specs.FrameFault.{frame_of, parts_of}
 use Rattle.aprs_log.specs.Moment.{MomentText, moment_text}
 use Rattle.aprs_log.specs.Receiver.{IsName}
+use Rattle.aprs_log.specs.declared.write.TheConstants.{MAX_FRAME}
 use Rattle.aprs_log.proofs.WrittenLines.{real, line_of-written}
 use Rattle.aprs_log.proofs.write.put_line.Goals as goal
 
@@ -18,7 +19,7 @@ returns-clause-back c short =
     let x = c.args.reception.now in
     let frame : c.bytes-frame.result.now ≡ x.frame = c.bytes-frame.ensures.value
     ∙ c.frame.ensures in
-    let few : length x.frame ≤ 328 = omega (arith, c.bytes-frame.ensures.most, ap length frame) in
+    let few : length x.frame ≤ MAX_FRAME = omega (arith, c.bytes-frame.ensures.most, ap length frame) in
     let reads = subst (λ f. frame_of f ≡ Ok f) frame c.frames_are_read.ensures in
     let is_text = subst (λ m. MomentText m (moment_text m)) c.moment.ensures c.has_a_text.ensures in
     let is = real x (moment_text x.moment) refl is_text
