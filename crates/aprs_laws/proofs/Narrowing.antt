@@ -89,7 +89,8 @@ module _ (narrow wide : ℕ) (pos : 0 < narrow) (less : narrow < wide)
   answer : narrowed (row ∷ []) ≡ row ∷ []
   answer =
       one_book narrow (witnesses (row ∷ [])) (narrowed (row ∷ [])) (row ∷ [])
-      (gives (witnesses (row ∷ [])) (row ∷ []) (witnessed wide (row ∷ []) (omega arith) (sound_under wide)))
+      (gives (witnesses (row ∷ [])) (row ∷ [])
+      (witnessed wide (row ∷ []) (omega arith) (sound_under wide)))
       (witnessed narrow (row ∷ []) pos (sound_under narrow))
 
   -- but the pair is not linked under the narrow gap

@@ -18,7 +18,8 @@ pub not_both : {X : Type 0} {R : X → X → Ordering} → IsTotalOrder R → (x
 not_both o x y h k = let a = o.antisymm x y in cc
 
 -- the three ways in which two values of an exact order lie
-pub compared : {X : Type 0} {R : X → X → Ordering} → IsTotalOrder R → CmpEqualImpliesEq R → (x y : X)
+pub compared : {X : Type 0} {R : X → X → Ordering} → IsTotalOrder R → CmpEqualImpliesEq R
+    → (x y : X)
     → MatchOrdering (R x y) (R x y ≡ Less) (x ≡ y) (R y x ≡ Less)
 compared {X} {R} o e x y = by_case (R x y) refl where
   by_case : (r : Ordering) → R x y ≡ r → MatchOrdering r (R x y ≡ Less) (x ≡ y) (R y x ≡ Less)

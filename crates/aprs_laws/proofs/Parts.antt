@@ -1,4 +1,5 @@
--- What code does with rows: it keeps what lies before, joins what is near, and keeps what lies after.
+-- What code does with rows: it keeps what lies before, joins what is near, and keeps what lies
+-- after.
 use Rattle.std.proofs.Common.{◌≡◌, ℕ, ◌+◌, ◌<◌, ◌≤◌, List, [], ◌∷◌, ◌++◌, inl, inr, sym, refl, ap, ◌∙◌, subst, arith, if◌then◌else◌, false}
 use Rattle.std.specs.Prelude.{nat_lt}
 use Rattle.std.proofs.lemmas.Bool.Decides.{nat_tests}
@@ -28,7 +29,8 @@ place_before gap x y (inl h) = at_key gap x y Less h
 place_before gap x y (inr h) =
     at_key gap x y Equal (one_key x y h.0) ∙ tests (last_of x) x.first (last_of y) y.first h.1 where
       tests : (a b c d : ℕ) → a + gap < d
-          → (if nat_lt (a + gap) d then Less else if nat_lt (c + gap) b then Greater else Equal) ≡ Less
+          → (if nat_lt (a + gap) d then Less else if nat_lt (c + gap) b then Greater else Equal)
+          ≡ Less
       tests a b c d l = grind (arith, nat_tests)
 
 pub place_near : (gap : ℕ) (x y : Row) → IsNear gap x y → place gap x y ≡ Equal
@@ -36,7 +38,8 @@ place_near gap x y n =
     at_key gap x y Equal (one_key x y n.key)
     ∙ tests (last_of x) x.first (last_of y) y.first n.after n.before where
       tests : (a b c d : ℕ) → d ≤ a + gap → b ≤ c + gap
-          → (if nat_lt (a + gap) d then Less else if nat_lt (c + gap) b then Greater else Equal) ≡ Equal
+          → (if nat_lt (a + gap) d then Less else if nat_lt (c + gap) b then Greater else Equal)
+          ≡ Equal
       tests a b c d l m = grind (arith, nat_tests)
 
 pub place_after : (gap : ℕ) (x y : Row) → x.first ≤ last_of x → y.first ≤ last_of y
@@ -141,7 +144,8 @@ before_up_to gap x l r u b =
       by_case Greater h u b = cc u
 
 -- rows that come in order join the last one, or come after it
-pub join_last : (gap : ℕ) (prefix : List Row) (l r : Row) → l.first ≤ last_of l → r.first ≤ last_of r
+pub join_last : (gap : ℕ) (prefix : List Row) (l r : Row) → l.first ≤ last_of l
+    → r.first ≤ last_of r
     → ((x : Row) → x ∈ prefix → IsBefore gap x l) → IsUpTo row_cmp l r → IsNear gap l r
     → join_row gap (prefix ++ l ∷ []) r ≡ prefix ++ combine l r ∷ []
 join_last gap prefix l r sl sr f u n =

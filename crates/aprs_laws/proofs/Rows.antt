@@ -192,7 +192,8 @@ place_means gap x y =
           (IsBefore gap y x)
       by_key Less h = inl h
       by_key Equal h =
-          by_moment h (nat_lt (last_of x + gap) y.first) (nat_lt (last_of y + gap) x.first) refl refl
+          by_moment h (nat_lt (last_of x + gap) y.first)
+          (nat_lt (last_of y + gap) x.first) refl refl
       by_key Greater h = inl h
 
 -- what is before x is before what x and y make, if it is before both

@@ -29,7 +29,8 @@ one_row_each gap S rows b =
           (omega arith) r.in_order (omega (arith, h.3, t.2.from)) (omega (arith, h.3, t.2.to)) in
           (t.0, t.1, record { key_of_row = e; first_of_row = sym ends.0; last_of_row = sym ends.1 })
 
-      only : (k : Key) (f l : ℕ) (x y : Row) → x ∈ rows → y ∈ rows → IsRowAt k f l x → IsRowAt k f l y
+      only : (k : Key) (f l : ℕ) (x y : Row) → x ∈ rows → y ∈ rows → IsRowAt k f l x
+          → IsRowAt k f l y
           → x ≡ y
       only k f l x y hx hy ix iy =
           let p = (b.exactly x).0 hx in

@@ -78,7 +78,8 @@ module _ (gap : ℕ) (x : Row) (w : IsSoundRow x) (pos : 0 < gap) where
 
   -- each witness is one of these
   from_witness : (P : Heard → Type 0) → ((m : ℕ) → x.first ≤ m → m ≤ last_of x → P (witness_at x m))
-      → ((r : List ℕ) → r ∈ x.receivers → P (witness_by x r)) → (s : Heard) → s ∈ witnesses_of_row x → P s
+      → ((r : List ℕ) → r ∈ x.receivers → P (witness_by x r)) → (s : Heard) → s ∈ witnesses_of_row x
+      → P s
   from_witness P f g s h =
       elim
       (in_either s (map (witness_at x) (moments x.first (last_of x - x.first + 1)))

@@ -13,7 +13,8 @@ module _ (gap : ℕ) (S : List Heard) (rows : List Row) (P : Key → Type 0) (b 
     -- a reception at the first moment of a row
     at_first : (x : Row) → x ∈ rows → P (row_key x)
         → (s : Heard) × (s ∈ S) × P (key_of s.frame) × (s.moment ≡ x.first)
-    at_first x h k = let t = ((b.exactly x).0 h).run.at_first in (t.0, t.1, subst P (sym t.2) k, t.3)
+    at_first x h k = let t = ((b.exactly x).0 h).run.at_first in
+        (t.0, t.1, subst P (sym t.2) k, t.3)
 
     at_last : (x : Row) → x ∈ rows → P (row_key x)
         → (s : Heard) × (s ∈ S) × P (key_of s.frame) × (s.moment ≡ last_of x)

@@ -1,4 +1,5 @@
--- Merging in one pass: rows that come by key and first moment, from any number of books, join only the last one so far.
+-- Merging in one pass: rows that come by key and first moment, from any number of books, join only
+-- the last one so far.
 use Rattle.std.proofs.Common.{◌≡◌, ℕ, ◌<◌, ◌≤◌, min, List, [], ◌∷◌, ◌++◌, ◌⊎◌, ◌↔◌, inl, inr, sym, refl, ap, ◌∙◌, subst, arith, false}
 use Rattle.std.proofs.lemmas.Bool.Decides.{nat_tests}
 use Rattle.std.specs.Ordering.{nat_cmp, ordering_then, ordering_reverse, is_gt}
@@ -106,7 +107,8 @@ ordered_coalesce gap L T l (x ∷ xs) ml m f o =
     by_choice (λ (rows : List Row). Ordered (IsBefore gap) rows) _ _ _ _ _ _ (place gap l x)
     (place_means gap l x)
     (λ b.
-    (before_coalesce gap m.0 m.1 l x xs m.3 m.4 b o.0 o.1, ordered_coalesce gap m.0 m.1 x xs m.3 m.4 o.0 o.1))
+    (before_coalesce gap m.0 m.1 l x xs m.3 m.4 b o.0 o.1,
+    ordered_coalesce gap m.0 m.1 x xs m.3 m.4 o.0 o.1))
     (λ n. ordered_coalesce gap (L ++ m.0) m.1 (combine l x) xs
     (combined gap L m.0 l x (combine l x) ml m.3 n (combines gap L m.0 l x n.key ml m.3)) m.4
     (λ y h. combined_up_to l x y n.key (f y (inr h))) o.1)
@@ -115,7 +117,8 @@ ordered_coalesce gap L T l (x ∷ xs) ml m f o =
       wrong b u =
           cc (
             ap is_gt
-                (row_total.antisymm l x ∙ ap ordering_reverse (below gap x l (span gap m.0 x m.3) b)),
+                (row_total.antisymm l x ∙ ap ordering_reverse
+                (below gap x l (span gap m.0 x m.3) b)),
             u,
           )
 
@@ -128,7 +131,8 @@ in_witnesses (x ∷ xs) s = (
     | inr k ↦ let t = (in_witnesses xs s).0 k in (t.0, inr t.1, t.2)
   ],
   λ t. elim t.1 [
-    | inl e ↦ in_left s (witnesses_of_row x) (witnesses xs) (subst (λ (z : Row). s ∈ witnesses_of_row z) (sym e) t.2)
+    | inl e ↦ in_left s (witnesses_of_row x) (witnesses xs)
+        (subst (λ (z : Row). s ∈ witnesses_of_row z) (sym e) t.2)
     | inr k ↦ in_right s (witnesses_of_row x) (witnesses xs) ((in_witnesses xs s).1 (t.0, k, t.2))
   ],
 )

@@ -38,7 +38,8 @@ around S T s = (
 
 pub commutative : (gap : ℕ) (a b c : List Row) → Joined gap a b c → Joined gap b a c
 commutative gap a b c j =
-    book_carries gap (witnesses a ++ witnesses b) (witnesses b ++ witnesses a) c (around (witnesses a) (witnesses b)) j
+    book_carries gap (witnesses a ++ witnesses b) (witnesses b ++ witnesses a) c
+    (around (witnesses a) (witnesses b)) j
 
 pub twice : (gap : ℕ) (a : List Row) → 0 < gap → Sound gap a → Joined gap a a a
 twice gap a pos w =

@@ -1,4 +1,5 @@
--- What follows of a set from its book: one more reception; the greatest reception whose key has a property.
+-- What follows of a set from its book: one more reception; the greatest reception whose key has a
+-- property.
 use Rattle.std.proofs.Common.{ℕ, ◌<◌, List, [], ◌∷◌, inl, inr, sym, subst}
 use Rattle.std.proofs.lemmas.Cmp.{upto}
 use Rattle.aprs_log.specs.Reception.{Heard, heard_cmp}

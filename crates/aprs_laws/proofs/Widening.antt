@@ -60,7 +60,8 @@ widens_witnesses g h rows pos l w = widens_book g h (witnesses rows) rows l (wit
 
 pub widened_sound : (g h : ℕ) (rows : List Row) → 0 < g → g ≤ h → Sound g rows
     → Sound h (widened h rows)
-widened_sound g h rows pos l w = sound h (witnesses rows) (widened h rows) (widens_witnesses g h rows pos l w)
+widened_sound g h rows pos l w = sound h (witnesses rows) (widened h rows)
+    (widens_witnesses g h rows pos l w)
 
 pub keeps_under_own_gap : (gap : ℕ) (rows : List Row) → 0 < gap → Sound gap rows
     → widened gap rows ≡ rows
@@ -78,6 +79,7 @@ widens_in_steps g h k rows pos l m w =
 pub widens_joined : (g h : ℕ) (a b c : List Row) → 0 < g → g ≤ h → Sound g a → Sound g b
     → Joined g a b c → Joined h (widened h a) (widened h b) (widened h c)
 widens_joined g h a b c pos l v w j =
-    (union_is_joined h (omega arith) (witnesses a) (witnesses b) (widened h a) (widened h b) (widened h c)
+    (union_is_joined h (omega arith) (witnesses a) (witnesses b) (widened h a) (widened h b)
+    (widened h c)
     (widens_witnesses g h a pos l v) (widens_witnesses g h b pos l w)).0
     (widens_book g h (witnesses a ++ witnesses b) c l j)

@@ -1,6 +1,6 @@
--- Witnesses of rows: receptions that, if heard, would give exactly these rows, if the rows are sound.
--- They are made up, one for each millisecond of a row and one for each of its receivers. What was
--- really heard may be other receptions with the same rows.
+-- Witnesses of rows: receptions that, if heard, would give exactly these rows, if the rows are
+-- sound. They are made up, one for each millisecond of a row and one for each of its receivers.
+-- What was really heard may be other receptions with the same rows.
 use Rattle.std.specs.Prelude.{ℕ, ◌+◌, ◌-◌, List, [], ◌∷◌, ◌++◌, map, zero, suc}
 use Rattle.aprs_log.specs.Reception.{Heard}
 use Rattle.aprs_laws.specs.Row.{Row, last_of}

@@ -30,7 +30,8 @@ always (Some input) end left line held a h = let g = gets_whole left input end i
 
 -- ---- a line
 
-pub awaits_line : (known end : Option (List ℕ)) (left line : ℕ) (held : List ℕ) (cut : Cut) (x : Line)
+pub awaits_line : (known end : Option (List ℕ)) (left line : ℕ) (held : List ℕ) (cut : Cut)
+    (x : Line)
     (a : Answers) → cut_at 10 held ≡ Some cut
     → Ok x ≡ line_of cut.before → AwaitsIn Reading known end left (line + 1) cut.after a
     → AwaitsIn Reading known end left line held (then_given x a)
@@ -56,7 +57,8 @@ awaits_fault known end left line held cut f e g = always known end left line hel
 
 -- ---- no whole line
 
-pub awaits_long : (known end : Option (List ℕ)) (left line : ℕ) (held : List ℕ) → cut_at 10 held ≡ None
+pub awaits_long : (known end : Option (List ℕ)) (left line : ℕ) (held : List ℕ)
+    → cut_at 10 held ≡ None
     → MAX_LINE < length held
     → AwaitsIn Reading known end left line held (ended (Some (fault_after line cause.LongLine)))
 awaits_long known end left line held none long = always known end left line held _
@@ -116,12 +118,14 @@ going_on s known end left line held a going w = subst (λ s. AwaitsIn s known en
 went_on : (s : State) (known end : Option (List ℕ)) (left line : ℕ) (held : List ℕ) (a : Answers)
     → s ≡ Reading
     → AwaitsIn s known end left line held a → AwaitsIn Reading known end left line held a
-went_on s known end left line held a going w = subst (λ s. AwaitsIn s known end left line held a) going w
+went_on s known end left line held a going w =
+    subst (λ s. AwaitsIn s known end left line held a) going w
 
 pub step_line : (s : State) (known end : Option (List ℕ)) (left line : ℕ) (held now : List ℕ)
     (x : Line) (cut : Cut) (a : Answers) → s ≡ Reading
     → cut_at 10 held ≡ Some cut → Ok x ≡ line_of cut.before → now ≡ cut.after
-    → AwaitsIn s known end left (line + 1) now a → AwaitsIn s known end left line held (then_given x a)
+    → AwaitsIn s known end left (line + 1) now a
+    → AwaitsIn s known end left line held (then_given x a)
 step_line s known end left line held now x cut a going e f rest w =
     going_on s known end left line held (then_given x a) going
     (awaits_line known end left line held cut x a e f
@@ -155,7 +159,8 @@ pub record CameMore (known after : Option (List ℕ)) (held now : List ℕ) (n :
   pub grown : now ≡ held ++ more
   pub took : Consumes known after more
 
-pub step_more : (s : State) (known after end : Option (List ℕ)) (left n line : ℕ) (held now : List ℕ)
+pub step_more : (s : State) (known after end : Option (List ℕ)) (left n line : ℕ)
+    (held now : List ℕ)
     (a : Answers) → s ≡ Reading → n ≤ left
     → CameMore known after held now n → AwaitsIn s after end (left - n) line now a
     → AwaitsIn s known end left line held a

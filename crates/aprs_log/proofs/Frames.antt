@@ -186,7 +186,8 @@ frame_in-plain laws bytes ended frame all plain is few =
     let len : length ended ≡ length frame + 1 = ap length is ∙ length-append frame (0xC0 ∷ []) in
     ap frame_in same ∙ frame_in-written laws frame (omega arith)
 
-two_bytes : (bytes : List ℕ) → 2 ≤ length bytes → slice_index bytes 0 ≡ 0xC0 → slice_index bytes 1 ≡ 0
+two_bytes : (bytes : List ℕ) → 2 ≤ length bytes → slice_index bytes 0 ≡ 0xC0
+    → slice_index bytes 1 ≡ 0
     → bytes ≡ 0xC0 ∷ 0 ∷ drop 2 bytes
 two_bytes [] len e f = absurd (omega arith)
 two_bytes (a ∷ []) len e f = absurd (omega arith)
@@ -205,6 +206,8 @@ pub frame_in-cut : WrittenLaws → (bytes ended frame : List ℕ) (cut : Option 
 frame_in-cut laws bytes ended frame cut end after two first kind is plain cuts e last none few =
     let parts = (subst (CutsPlain ended frame) e cuts).0 in
     let tail : ended ≡ frame ++ 0xC0 ∷ []
-    = parts ∙ ap (λ l. frame ++ end ∷ l) (nothing after.now none) ∙ ap (λ n. frame ++ n ∷ []) last in
-    frame_in-plain laws bytes ended frame (two_bytes bytes two first kind ∙ ap (λ l. 0xC0 ∷ 0 ∷ l) (sym is))
+    = parts ∙ ap (λ l. frame ++ end ∷ l) (nothing after.now none)
+    ∙ ap (λ n. frame ++ n ∷ []) last in
+    frame_in-plain laws bytes ended frame (two_bytes bytes two first kind
+    ∙ ap (λ l. 0xC0 ∷ 0 ∷ l) (sym is))
     plain tail few

@@ -79,7 +79,8 @@ no_lf text e = above text
     (record { before = before_first is_lf text; after = after_first is_lf text }) e)
 
 -- bytes that aren't cut at `stop` have none
-pub uncut_lacks : (stop : ℕ) (text : List ℕ) → cut_at stop text ≡ None → IsTrue (has_byte stop text) → ⊥
+pub uncut_lacks : (stop : ℕ) (text : List ℕ) → cut_at stop text ≡ None → IsTrue (has_byte stop text)
+    → ⊥
 unfolding cut_at
 uncut_lacks stop text e h =
     let lacks : has_byte stop text ≡ false = missing (has_byte stop text) (first_cut stop text) e in
@@ -94,7 +95,8 @@ answers_from-tail n t c h =
 
 -- ---- more bytes than a line may have, and no LF: the line is too long, whatever comes
 
-too_long_tail : (l : List ℕ) (c : Ending) → MAX_LINE < length l → tail_cause l c ≡ Some cause.LongLine
+too_long_tail : (l : List ℕ) (c : Ending) → MAX_LINE < length l
+    → tail_cause l c ≡ Some cause.LongLine
 too_long_tail l c h = grind (arith, nat_tests)
 
 not_below : (held more : List ℕ) → length held ≤ position_or_len is_lf held

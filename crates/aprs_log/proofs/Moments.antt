@@ -89,7 +89,8 @@ near_millis-below Millis t = omega arith
 
 near_civil-civil_text : (form : MomentForm) (c : Civil) (n : ℕ) → FitsText c
     → near_civil (civil_text form c n) ≡ c
-near_civil-civil_text form c n h = same_civil _ _ _ _ _ _ _ _ _ _ _ _ (near-four_digits c.year h.year)
+near_civil-civil_text form c n h = same_civil _ _ _ _ _ _ _ _ _ _ _ _
+    (near-four_digits c.year h.year)
     (near-two_digits c.month h.month) (near-two_digits c.day h.day) (near-two_digits c.hour h.hour)
     (near-two_digits c.minute h.minute) (near-two_digits c.second h.second)
 
@@ -223,8 +224,10 @@ moment_in-civil form c n h below =
     let e = civil_at-civil_text form c n in
     let f = millis_at-civil_text form c n below in
     let there : moment_in form t
-    ≡ (cond (is_real form c n && bytes_eq (civil_text form c n) t) (Some (seconds_of c * 1000 + n)) None)
-    = ap (λ d. cond (is_real form d (millis_at form t) && bytes_eq (civil_text form d (millis_at form t)) t)
+    ≡ (cond (is_real form c n && bytes_eq (civil_text form c n) t)
+    (Some (seconds_of c * 1000 + n)) None)
+    = ap (λ d. cond (is_real form d (millis_at form t) && bytes_eq
+    (civil_text form d (millis_at form t)) t)
     (Some (seconds_of d * 1000 + millis_at form t)) None) e
     ∙ ap (λ k. cond (is_real form c k && bytes_eq (civil_text form c k) t)
     (Some (seconds_of c * 1000 + k)) None) f in
@@ -279,7 +282,8 @@ one_text form m t u h k =
     ∙ number-back m k.civil k.millis k.real k.number in
     let parts = split (seconds_of h.civil) (seconds_of k.civil) h.millis k.millis
     (room_most form h.millis h.below) (room_most form k.millis k.below) same in
-    h.spelled ∙ ap (λ c. civil_text form c h.millis) (one_civil h.civil k.civil h.real k.real parts.0)
+    h.spelled ∙ ap (λ c. civil_text form c h.millis)
+    (one_civil h.civil k.civil h.real k.real parts.0)
     ∙ ap (civil_text form k.civil) parts.1 ∙ sym k.spelled
 
 -- ---- what the code knows of a text
@@ -304,7 +308,8 @@ pub moment_in-unfound : (form : MomentForm) (t : List ℕ)
 unfolding moment_in
 moment_in-unfound form t h = let c = civil_at t in let n = millis_at form t in
     sym (no_if (is_real form c n) (bytes_eq (civil_text form c n) t) (seconds_of c * 1000 + n)
-    (λ e same. h (found c n (is_real-Real form c n e) ((bytes_eq-Decides (civil_text form c n) t).0 same))))
+    (λ e same. h (found c n (is_real-Real form c n e)
+    ((bytes_eq-Decides (civil_text form c n) t).0 same))))
   where
     found : (c : Civil) (n : ℕ) → Real form c n → civil_text form c n ≡ t
         → civil_text form (near_civil t) (near_millis form t) ≡ t

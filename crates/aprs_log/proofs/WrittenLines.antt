@@ -58,14 +58,16 @@ begins line text more n e len =
     ∙ ap (λ k. take k (text ++ more)) (sym len) ∙ take-append_seam text more
 
 -- a line that was put together begins with its moment's text
-pub begins_with_moment : (line : List ℕ) (n : ℕ) (x : Heard) → take n line ≡ written_line x ++ 10 ∷ []
+pub begins_with_moment : (line : List ℕ) (n : ℕ) (x : Heard)
+    → take n line ≡ written_line x ++ 10 ∷ []
     → length (moment_text x.moment) ≡ 24 → take 24 line ≡ moment_text x.moment
 begins_with_moment line n x e len =
     let text = moment_text x.moment in
     let name = 32 ∷ x.receiver in
     let digits = 32 ∷ encode_lower (kiss_text x.frame) in
     begins line text (name ++ (digits ++ 10 ∷ [])) n
-    (e ∙ append_assoc (text ++ name) digits (10 ∷ []) ∙ append_assoc text name (digits ++ 10 ∷ [])) len
+    (e ∙ append_assoc (text ++ name) digits (10 ∷ [])
+    ∙ append_assoc text name (digits ++ 10 ∷ [])) len
 
 -- ---- a written line reads back
 

@@ -11,8 +11,8 @@ use Rattle.aprs_log.specs.declared.ending.State.{State}
 use Rattle.aprs_log.specs.declared.ending.State.TheVariants.{Reading, Ended, Failed}
 
 -- Answers that may still follow: some text that can be got of the input, and some way in which it
--- ends, yield them. `line` lines were given before, `held` was read of the next ones, `left` bytes may
--- be read yet, and at the last the device has `after`.
+-- ends, yield them. `line` lines were given before, `held` was read of the next ones, `left` bytes
+-- may be read yet, and at the last the device has `after`.
 pub record Awaited (left line : ℕ) (held input : List ℕ) (after : Option (List ℕ)) (a : Answers)
     : Type 0 where
   pub text : List ℕ
@@ -24,9 +24,9 @@ pub record Awaited (left line : ℕ) (held input : List ℕ) (after : Option (Li
 abbrev pub fault_after : ℕ → LogCause → LogFault
 fault_after line why = record { line = line + 1; cause = why }
 
--- These answers may follow, where the input's bytes are known and the device has `after` at the last.
--- A reader that is reading may answer what some rest of the input yields; one that has stopped reads
--- no more, and its end or its fault is all that follows.
+-- These answers may follow, where the input's bytes are known and the device has `after` at the
+-- last. A reader that is reading may answer what some rest of the input yields; one that has
+-- stopped reads no more, and its end or its fault is all that follows.
 abbrev pub AwaitsIn : State → Option (List ℕ) → Option (List ℕ) → ℕ → ℕ → List ℕ → Answers → Type 0
 AwaitsIn Reading known after left line held a =
     IfSome known (λ input. Awaited left line held input after a)

@@ -52,16 +52,16 @@ abbrev pub heard_or_passed : ℕ → List ℕ → Result (List ℕ) Reason → L
 heard_or_passed m r (Ok frame) = line.Heard (record { moment = m; receiver = r; frame = frame })
 heard_or_passed m r (Err reason) = line.Passed reason
 
--- the line of a moment and a receiver whose bytes stand in these digits: they are hexadecimal, or the
--- fault is Hex; then the frame in the bytes was heard, or the line is passed over
+-- the line of a moment and a receiver whose bytes stand in these digits: they are hexadecimal, or
+-- the fault is Hex; then the frame in the bytes was heard, or the line is passed over
 abbrev pub line_of_digits : ℕ → List ℕ → List ℕ → Result Line LineFault
 line_of_digits m r digits = do
   bytes ← result_ok (decode_of digits) otherwise fault.Hex
   Ok (heard_or_passed m r (frame_in bytes))
 
--- What a line without its LF reports, or its first fault. It has at most 8,192 bytes, or the fault is
--- LongLine; its first space ends the text of a moment, or the fault is Moment; the next space ends
--- the name of a receiver, or the fault is Receiver; and what follows is read as digits.
+-- What a line without its LF reports, or its first fault. It has at most 8,192 bytes, or the fault
+-- is LongLine; its first space ends the text of a moment, or the fault is Moment; the next space
+-- ends the name of a receiver, or the fault is Receiver; and what follows is read as digits.
 unfoldable pub line_of : List ℕ → Result Line LineFault
 line_of l = do
   short ← guard (nat_le (length l) MAX_LINE) otherwise fault.LongLine

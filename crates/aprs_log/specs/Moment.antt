@@ -160,8 +160,8 @@ millis_at Millis t = 100 * digit_of (slice_index t 20) + pair_at t 21
 abbrev pub is_real : MomentForm → Civil → ℕ → Bool
 is_real form c n = is_civil c && nat_lt n (room_of form)
 
--- the moment of a text in a form: that of the civil time and the milliseconds at their places, where
--- these are real and have this text
+-- the moment of a text in a form: that of the civil time and the milliseconds at their places,
+-- where these are real and have this text
 unfoldable pub moment_in : MomentForm → List ℕ → Option ℕ
 moment_in form t = if is_real form (civil_at t) (millis_at form t)
     && bytes_eq (civil_text form (civil_at t) (millis_at form t)) t

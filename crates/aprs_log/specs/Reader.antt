@@ -42,10 +42,12 @@ stop_of r = stop_in r.state r.line
 
 -- these answers may follow, where the bytes that are left of the input are known, and the device at
 -- the last has `end`: some rest of the input yields them
-abbrev pub Awaits : {R : Type 0} → Option (List ℕ) → Option (List ℕ) → LogReader R → Answers → Type 0
+abbrev pub Awaits : {R : Type 0} → Option (List ℕ) → Option (List ℕ) → LogReader R → Answers
+    → Type 0
 Awaits known end r a = AwaitsIn r.state known end r.left r.line (items r.window) a
 
--- a reader that moves without an answer: what may follow now, could have followed where it was `old`
+-- a reader that moves without an answer: what may follow now, could have followed where it was
+-- `old`
 abbrev pub Moves : {R : Type 0} → Option (List ℕ) → LogReader R → Option (List ℕ) → LogReader R
     → Type 0
 Moves known old after new = (end : Option (List ℕ)) (a : Answers) → Awaits after end new a
@@ -83,11 +85,11 @@ answer_with (Ok true) x = Ok (Some x)
 answer_with (Ok false) x = Ok None
 answer_with (Err fault) x = Err fault
 
--- The answer is right. Before it the reader and what its device had left were `old` and `known`, now
--- they are `new` and `after`. Many answers may still follow, one list for each rest of the input. So
--- to answer a line is right if that line, put before any answers that may follow now, gives answers
--- that could have followed before; and the end or a fault is right if it, and nothing after it,
--- could have followed before.
+-- The answer is right. Before it the reader and what its device had left were `old` and `known`,
+-- now they are `new` and `after`. Many answers may still follow, one list for each rest of the
+-- input. So to answer a line is right if that line, put before any answers that may follow now,
+-- gives answers that could have followed before; and the end or a fault is right if it, and nothing
+-- after it, could have followed before.
 abbrev pub GivesNext : {R : Type 0} → Result (Option Line) LogFault → Option (List ℕ) → LogReader R
     → Option (List ℕ) → LogReader R → Type 0
 GivesNext (Ok (Some x)) known old after new =

@@ -24,10 +24,10 @@ pub enum Line {
 }
 
 /// Reads one line of a log, without its LF: a moment, a space, a receiver's name, a space, and the
-/// bytes that the receiver gave, in hexadecimal of either case. A line of more than `MAX_LINE` bytes
-/// or of another form is refused with the first fault of `LongLine`, `Moment`, `Receiver` and `Hex`.
-/// Bytes that aren't one KISS frame with an AX.25 UI frame in it are no fault: such a line is
-/// passed over. Takes no memory.
+/// bytes that the receiver gave, in hexadecimal of either case. A line of more than `MAX_LINE`
+/// bytes or of another form is refused with the first fault of `LongLine`, `Moment`, `Receiver` and
+/// `Hex`. Bytes that aren't one KISS frame with an AX.25 UI frame in it are no fault: such a line
+/// is passed over. Takes no memory.
 pub fn read_line(line: &[u8]) -> Result<Line, LineFault>
     ensures line { result ≡ line_of line.now }
     // Whatever the bytes are, a line of this syntax is not refused.
@@ -73,8 +73,8 @@ impl Line {
         }
     }
 
-    /// Becomes the same line, where none was heard before. Apart from `assign`, which so has no room
-    /// for a line to clear.
+    /// Becomes the same line, where none was heard before. Apart from `assign`, which so has no
+    /// room for a line to clear.
     #[cold]
     #[inline(never)]
     fn assign_anew(&mut self, moment: Moment, receiver: Receiver, bytes: &[u8])

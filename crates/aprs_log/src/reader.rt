@@ -14,8 +14,8 @@ use aprs_io::Counted;
 use std::alloc::Allocator;
 use std::io::Read;
 
-/// Returns the lines of a log in order, up to the first fault. It has a buffer of its own, and keeps
-/// the line that it returned last.
+/// Returns the lines of a log in order, up to the first fault. It has a buffer of its own, and
+/// keeps the line that it returned last.
 #[derive(Drop)]
 pub struct LogReader<'a, R> {
     source: &'a mut Counted<R>,

@@ -4,10 +4,12 @@ use Rattle.aprs_log.proofs.Lines.{line_of-long}
 use Rattle.aprs_log.proofs.line.read_fields.Goals as goal
 
 pub returns-then-line-gt-MAX_LINE-clause-line : goal.returns-then-line-gt-MAX_LINE-clause-line
-returns-then-line-gt-MAX_LINE-clause-line c = line_of-long c.args.line.now c.if-line-gt-MAX_LINE.true
+returns-then-line-gt-MAX_LINE-clause-line c =
+    line_of-long c.args.line.now c.if-line-gt-MAX_LINE.true
 
 pub returns-in_default-clause-line : goal.returns-in_default-clause-line
-returns-in_default-clause-line c = line_of-takes_no_moment c.args.line.now c.if-line-gt-MAX_LINE.false
+returns-in_default-clause-line c =
+    line_of-takes_no_moment c.args.line.now c.if-line-gt-MAX_LINE.false
     c.in_default.ensures
 
 pub returns-in_default-take_receiver-clause-line : goal.returns-in_default-take_receiver-clause-line

@@ -17,6 +17,8 @@ returns c =
     ≡ c.millis.result + c.from.result * 1000 + c.from-2.result
     = omega (arith, c.millis.ensures.value, c.from.ensures, c.from-2.ensures) in
     IfSome-moment text c.from_millis.result _ _ c.from_millis.ensures
-    (moment_of-same_day text date rest _ _ c.args.self.now.midnight c.in_ok-second.second c.in_ok-milli.milli
-    c.requires (omega arith) text_is rest_is c.args.self.now.reads c.in_ok-second.ensures c.in_ok-milli.ensures
+    (moment_of-same_day text date rest _ _ c.args.self.now.midnight c.in_ok-second.second
+    c.in_ok-milli.milli
+    c.requires
+    (omega arith) text_is rest_is c.args.self.now.reads c.in_ok-second.ensures c.in_ok-milli.ensures
     ∙ ap (λ n. Some n) sum)

@@ -5,7 +5,8 @@ use Rattle.aprs_log.proofs.Awaiting.{from_start, something}
 use Rattle.aprs_log.proofs.reader.LogReader.new.Goals as goal
 
 pub returns-clause-whole : goal.returns-clause-whole
-returns-clause-whole g c end a w = from_start _ end c.args.limit c.args.head.now _ a c.requires.within
+returns-clause-whole g c end a w =
+    from_start _ end c.args.limit c.args.head.now _ a c.requires.within
     c.new.ensures w
 
 pub returns-clause-awaits : goal.returns-clause-awaits
