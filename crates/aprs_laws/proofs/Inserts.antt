@@ -233,8 +233,13 @@ fits_by_test gap s (r ∷ rows) w f =
           (subst (λ (z : Row). IsNear gap z (single s)) (sym e) f.near) h)
       by_case Less ih h (inr k) =
           ih
-          (record { row = f.row; member = k; near = f.near; listed = f.listed;
-          only = λ x m. f.only x (inr m) })
+          (record {
+            row = f.row;
+            member = k;
+            near = f.near;
+            listed = f.listed;
+            only = λ x m. f.only x (inr m);
+          })
       by_case Equal ih h k =
           let e : r ≡ f.row = f.only r (inl refl) h in
           both (is_listed s.receiver r.receivers) (is_near_first gap s rows)

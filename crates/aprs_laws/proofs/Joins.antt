@@ -208,13 +208,19 @@ greatest_laws = record {
   only = λ a b c d j k. same c d (least a b c d j k.left k.right) (least a b d c k j.left j.right);
   stays = λ a b c j. tt;
   commutative =
-      λ a b c j. record { one = elim j.one [ inl e ↦ inr e | inr e ↦ inl e ]; left = j.right;
-      right = j.left };
+      λ a b c j. record {
+        one = elim j.one [ inl e ↦ inr e | inr e ↦ inl e ];
+        left = j.right;
+        right = j.left;
+      };
   idempotent = λ a x v. (
     λ j. elim j.one [ inl e ↦ e | inr e ↦ e ],
     λ e. subst (λ (c : Heard). IsGreaterOf a a c) (sym e)
-        (record { one = inl refl; left = up_to_itself heard_total a;
-        right = up_to_itself heard_total a }),
+        (record {
+          one = inl refl;
+          left = up_to_itself heard_total a;
+          right = up_to_itself heard_total a;
+        }),
   );
   associative = λ a b c x y p q j k l m.
       same p q
@@ -228,8 +234,11 @@ greatest_laws = record {
 pub second_is_greater : (a b : Heard) → is_lt (heard_cmp a b) ≡ true → IsGreaterOf a b b
 second_is_greater a b h = by_case (heard_cmp a b) refl h where
   by_case : (o : Ordering) → heard_cmp a b ≡ o → is_lt o ≡ true → IsGreaterOf a b b
-  by_case Less e h = record { one = inr refl; left = ap is_gt e;
-      right = up_to_itself heard_total b }
+  by_case Less e h = record {
+    one = inr refl;
+    left = ap is_gt e;
+    right = up_to_itself heard_total b;
+  }
   by_case Equal e h = let n : false ≡ true = h in cc
   by_case Greater e h = let n : false ≡ true = h in cc
 
@@ -237,10 +246,16 @@ pub first_is_greater : (a b : Heard) → is_lt (heard_cmp a b) ≡ false → IsG
 first_is_greater a b h = by_case (heard_cmp a b) refl h where
   by_case : (o : Ordering) → heard_cmp a b ≡ o → is_lt o ≡ false → IsGreaterOf a b a
   by_case Less e h = let n : true ≡ false = h in cc
-  by_case Equal e h = record { one = inl refl; left = up_to_itself heard_total a;
-      right = ap is_gt (tied_back heard_total a b e) }
-  by_case Greater e h = record { one = inl refl; left = up_to_itself heard_total a;
-      right = ap is_gt (heard_total.antisymm b a ∙ ap ordering_reverse e) }
+  by_case Equal e h = record {
+    one = inl refl;
+    left = up_to_itself heard_total a;
+    right = ap is_gt (tied_back heard_total a b e);
+  }
+  by_case Greater e h = record {
+    one = inl refl;
+    left = up_to_itself heard_total a;
+    right = ap is_gt (heard_total.antisymm b a ∙ ap ordering_reverse e);
+  }
 
 -- the joined value is the greater one
 pub is_the_greater : (a b c : Heard) → IsGreaterOf a b c → c ≡ greater a b

@@ -23,10 +23,10 @@ use Rattle.aprs_laws.proofs.Soundness.{exists}
 scaled_cmp : (a b k : ℕ) → 0 < k → nat_cmp (a * k) (b * k) ≡ nat_cmp a b
 scaled_cmp a b k pos = nat_cmp_is a b (nat_cmp (a * k) (b * k))
     (by_case (nat_cmp (a * k) (b * k)) refl) where
-  by_case : (o : Ordering) → nat_cmp (a * k) (b * k) ≡ o → MatchOrdering o (a < b) (a ≡ b) (b < a)
-  by_case Less h = lt_of_mul-lt-mul_right k (grind (arith, nat_tests))
-  by_case Equal h = eq_of_mul-eq-mul_right k pos a b (exact_unsigned (a * k) (b * k) h)
-  by_case Greater h = lt_of_mul-lt-mul_right k (grind (arith, nat_tests))
+      by_case : (o : Ordering) → nat_cmp (a * k) (b * k) ≡ o → MatchOrdering o (a < b) (a ≡ b) (b < a)
+      by_case Less h = lt_of_mul-lt-mul_right k (grind (arith, nat_tests))
+      by_case Equal h = eq_of_mul-eq-mul_right k pos a b (exact_unsigned (a * k) (b * k) h)
+      by_case Greater h = lt_of_mul-lt-mul_right k (grind (arith, nat_tests))
 
 scaled_heard_cmp : (k : ℕ) (s t : Heard) → 0 < k
     → heard_cmp (scaled_heard k s) (scaled_heard k t) ≡ heard_cmp s t
@@ -88,7 +88,7 @@ module _ (k gap : ℕ) (pos : 0 < k) where
     ascending = m.ascending;
     receivers = λ r. (
       λ h. let t = (m.receivers r).0 h in
-      (scaled_heard k t.0, in_map (scaled_heard k) t.0 X t.1, t.2),
+          (scaled_heard k t.0, in_map (scaled_heard k) t.0 X t.1, t.2),
       λ t. let u = from_map (scaled_heard k) t.0 X t.1 in
           (m.receivers r).1 (u.0, u.1, ap (λ (s : Heard). s.receiver) u.2 ∙ t.2),
     );

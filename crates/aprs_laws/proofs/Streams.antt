@@ -106,9 +106,10 @@ ordered_coalesce gap L T l [] ml m f o = (λ y h. absurd h, tt)
 ordered_coalesce gap L T l (x ∷ xs) ml m f o =
     by_choice (λ (rows : List Row). Ordered (IsBefore gap) rows) _ _ _ _ _ _ (place gap l x)
     (place_means gap l x)
-    (λ b.
-    (before_coalesce gap m.0 m.1 l x xs m.3 m.4 b o.0 o.1,
-    ordered_coalesce gap m.0 m.1 x xs m.3 m.4 o.0 o.1))
+    (λ b. (
+      before_coalesce gap m.0 m.1 l x xs m.3 m.4 b o.0 o.1,
+      ordered_coalesce gap m.0 m.1 x xs m.3 m.4 o.0 o.1,
+    ))
     (λ n. ordered_coalesce gap (L ++ m.0) m.1 (combine l x) xs
     (combined gap L m.0 l x (combine l x) ml m.3 n (combines gap L m.0 l x n.key ml m.3)) m.4
     (λ y h. combined_up_to l x y n.key (f y (inr h))) o.1)

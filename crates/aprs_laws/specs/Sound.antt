@@ -1,7 +1,7 @@
 -- Rows that some set of receptions has, judged from the rows alone.
-use Rattle.std.specs.Prelude.{◌≡◌, ℕ, ◌+◌, ◌<◌, ◌≤◌, List, [], ◌∷◌, ◌++◌}
+use Rattle.std.specs.Prelude.{◌≡◌, ℕ, ◌+◌, ◌<◌, ◌≤◌, List}
 use Rattle.aprs_log.specs.Reception.{bytes_cmp}
-use Rattle.aprs_laws.specs.Lists.{◌∈◌, Ordered}
+use Rattle.aprs_laws.specs.Lists.{◌∈◌, IfLast, Ordered}
 use Rattle.aprs_laws.specs.Order.{IsBelow, IsUpTo}
 use Rattle.aprs_laws.specs.Row.{Row, row_key, last_of, row_cmp}
 
@@ -26,5 +26,4 @@ pub record Sound (gap : ℕ) (rows : List Row) : Type 0 where
 -- x may follow the rows: it is sound by itself, and comes after the last of them, far from it
 pub record IsNext (gap : ℕ) (rows : List Row) (x : Row) : Type 0 where
   pub own : IsSoundRow x
-  pub after : (prefix : List Row) (last : Row) → rows ≡ prefix ++ last ∷ []
-      → IsBelow row_cmp last x × IsFar gap last x
+  pub after : IfLast rows (λ last. IsBelow row_cmp last x × IsFar gap last x)

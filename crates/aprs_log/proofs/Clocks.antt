@@ -159,8 +159,14 @@ moment_of-same_day text date rest time end midnight second n either len is then 
     let whole = is ∙ ap (λ l. date ++ l) then in
     let eight : length time ≡ 8 = ap length t.spelled in
     let size : length text ≡ 19 + length end
-    = omega (arith, ap length whole, length-append date (time ++ end), length-append time end, len,
-    eight) in
+    = omega (
+      arith,
+      ap length whole,
+      length-append date (time ++ end),
+      length-append time end,
+      len,
+      eight,
+    ) in
     let form = form_of_end end in
     ap (λ g. moment_in g text) (same_form text end either size) ∙ ap (moment_in form) whole
     ∙ moment_in-same_day form date time end midnight second n len e t f

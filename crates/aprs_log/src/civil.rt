@@ -89,7 +89,7 @@ impl CivilTime {
             return None;
         }
         let civil = CivilTime::from_digits(text);
-        let millis = u16::from(digit_of(text[20])) * 100 + u16::from(pair_at(text, 21));
+        let millis = u16::from(near_digit(text[20])) * 100 + u16::from(near_pair(text, 21));
         if civil.text(millis).as_slice() == text {
             Some((civil, millis))
         } else {
@@ -103,12 +103,12 @@ impl CivilTime {
         ensures { result ≡ near_civil text.now }
     {
         CivilTime {
-            year: u16::from(pair_at(text, 0)) * 100 + u16::from(pair_at(text, 2)),
-            month: pair_at(text, 5),
-            day: pair_at(text, 8),
-            hour: pair_at(text, 11),
-            minute: pair_at(text, 14),
-            second: pair_at(text, 17),
+            year: u16::from(near_pair(text, 0)) * 100 + u16::from(near_pair(text, 2)),
+            month: near_pair(text, 5),
+            day: near_pair(text, 8),
+            hour: near_pair(text, 11),
+            minute: near_pair(text, 14),
+            second: near_pair(text, 17),
         }
     }
 
@@ -204,7 +204,7 @@ impl CivilTime {
 }
 
 /// The value of a digit, and of another byte that of the digit next to it.
-fn digit_of(byte: u8) -> u8
+fn near_digit(byte: u8) -> u8
     ensures value { result ≡ near_digit byte }
     ensures bound { result ≤ 9 }
 {
@@ -212,12 +212,12 @@ fn digit_of(byte: u8) -> u8
 }
 
 /// The number whose two digits stand at `i`.
-fn pair_at(text: &[u8], i: usize) -> u8
+fn near_pair(text: &[u8], i: usize) -> u8
     requires { i + 1 < length text.now }
     ensures value { result ≡ near_pair text.now i }
     ensures bound { result < 100 }
 {
-    digit_of(text[i]) * 10 + digit_of(text[i + 1])
+    near_digit(text[i]) * 10 + near_digit(text[i + 1])
 }
 
 fn tens(n: u8) -> u8

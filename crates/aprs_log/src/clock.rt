@@ -83,7 +83,7 @@ fn second_of_text(text: &[u8]) -> Option<u32>
     requires { length text.now ≡ 8 }
     ensures { IfSome result (λ n. SecondText n text.now) }
 {
-    let (hour, minute, second) = (pair_at(text, 0), pair_at(text, 3), pair_at(text, 6));
+    let (hour, minute, second) = (digits_at(text, 0), digits_at(text, 3), digits_at(text, 6));
     let is_marked = text[2] == b':' && text[5] == b':';
     if hour < 24 && minute < 60 && second < 60 && is_marked {
         Some(u32::from(hour) * 3600 + u32::from(minute) * 60 + u32::from(second))
@@ -101,7 +101,7 @@ fn milli_of_text(text: &[u8]) -> Option<u32>
         return if text[0] == b'Z' { Some(0) } else { None };
     }
     let hundreds = text[1].wrapping_sub(b'0');
-    let rest = pair_at(text, 2);
+    let rest = digits_at(text, 2);
     if text[0] == b'.' && hundreds < 10 && rest < 100 && text[4] == b'Z' {
         Some(u32::from(hundreds) * 100 + u32::from(rest))
     } else {
@@ -110,7 +110,7 @@ fn milli_of_text(text: &[u8]) -> Option<u32>
 }
 
 /// The number whose two digits stand at `i`, and 255 where none do.
-fn pair_at(text: &[u8], i: usize) -> u8
+fn digits_at(text: &[u8], i: usize) -> u8
     requires { i + 1 < length text.now }
     ensures { result < 100
         → two_digits result ≡ slice_index text.now i ∷ slice_index text.now (i + 1) ∷ [] }

@@ -16,6 +16,10 @@ returns-clause-misses_greatest c = λ r. let g =
 
 pub returns-clause-misses_receiver : goal.returns-clause-misses_receiver
 returns-clause-misses_receiver c = λ r. let h =
-    (r.receivers rx1).1 (heard 0 rx1 direct, inl refl,
-    record { key = sym same_key; from = omega arith; to = omega arith }, refl) in
+    (r.receivers rx1).1 (
+      heard 0 rx1 direct,
+      inl refl,
+      record { key = sym same_key; from = omega arith; to = omega arith },
+      refl,
+    ) in
     elim h [ inl e ↦ other_receiver e | inr k ↦ k ]

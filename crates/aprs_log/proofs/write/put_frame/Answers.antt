@@ -21,8 +21,18 @@ cuts-preserved c =
       sent = put_cut (kiss_text c.args.frame.now) _ _ _ _ _ _ c.in-Some.byte
           c.cut_plain.ensures.plain cut.0 c.cuts.invariant.sent
           c.put-end-in-cuts.ensures.bytes c.put_spelled-end.ensures.bytes;
-      len = omega (arith, len, parts, c.cuts.invariant.len, c.put-end-in-cuts.ensures.end,
-          c.put_spelled-end.ensures.end);
-      room = omega (arith, c.cuts.invariant.room, c.put-end-in-cuts.ensures.len,
-          c.put_spelled-end.ensures.len);
+      len = omega (
+        arith,
+        len,
+        parts,
+        c.cuts.invariant.len,
+        c.put-end-in-cuts.ensures.end,
+        c.put_spelled-end.ensures.end,
+      );
+      room = omega (
+        arith,
+        c.cuts.invariant.room,
+        c.put-end-in-cuts.ensures.len,
+        c.put_spelled-end.ensures.len,
+      );
     }
