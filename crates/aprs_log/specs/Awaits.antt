@@ -13,12 +13,13 @@ use Rattle.aprs_log.specs.declared.ending.State.TheVariants.{Reading, Ended, Fai
 -- Answers that may still follow: some text that can be got of the input, and some way in which it
 -- ends, yield them. `line` lines were given before, `held` was read of the next ones, `left` bytes
 -- may be read yet, and at the last the device has `after`.
-pub record Awaited (left line : ℕ) (held input : List ℕ) (after : Option (List ℕ)) (a : Answers)
+pub record Awaited (left line : ℕ) (held input : List ℕ) (after : Option (List ℕ))
+    (answers : Answers)
     : Type 0 where
   pub text : List ℕ
   pub ending : Ending
   pub gets : Gets left input after text ending
-  pub is : a ≡ answers_from (line + 1) (held ++ text) ending
+  pub is : answers ≡ answers_from (line + 1) (held ++ text) ending
 
 -- the fault with this cause in the line that follows
 abbrev pub fault_after : ℕ → LogCause → LogFault
@@ -28,11 +29,11 @@ fault_after line why = record { line = line + 1; cause = why }
 -- last. A reader that is reading may answer what some rest of the input yields; one that has
 -- stopped reads no more, and its end or its fault is all that follows.
 abbrev pub AwaitsIn : State → Option (List ℕ) → Option (List ℕ) → ℕ → ℕ → List ℕ → Answers → Type 0
-AwaitsIn Reading known after left line held a =
-    IfSome known (λ input. Awaited left line held input after a)
-AwaitsIn Ended known after left line held a = (after ≡ known) × (a ≡ ended None)
-AwaitsIn (Failed cause) known after left line held a =
-    (after ≡ known) × (a ≡ ended (Some (fault_after line cause)))
+AwaitsIn Reading known after left line held answers =
+    IfSome known (λ input. Awaited left line held input after answers)
+AwaitsIn Ended known after left line held answers = (after ≡ known) × (answers ≡ ended None)
+AwaitsIn (Failed cause) known after left line held answers =
+    (after ≡ known) × (answers ≡ ended (Some (fault_after line cause)))
 
 -- the fault or the end that is answered from now on, if the reader has stopped
 abbrev pub stop_in : State → ℕ → Option (Option LogFault)

@@ -48,7 +48,7 @@ ended fault = record { given = []; fault = fault }
 
 -- this line, and then these answers
 abbrev pub then_given : Line → Answers → Answers
-then_given x a = record { given = x ∷ a.given; fault = a.fault }
+then_given x answers = record { given = x ∷ answers.given; fault = answers.fault }
 
 -- what line n gives, and then the rest, which a fault cuts off
 abbrev pub then_answers : ℕ → Result Line LineFault → Answers → Answers

@@ -44,26 +44,27 @@ stop_of r = stop_in r.state r.line
 -- the last has `end`: some rest of the input yields them
 abbrev pub Awaits : {R : Type 0} → Option (List ℕ) → Option (List ℕ) → LogReader R → Answers
     → Type 0
-Awaits known end r a = AwaitsIn r.state known end r.left r.line (items r.window) a
+Awaits known end r answers =
+    AwaitsIn r.state known end r.left r.line (items r.window) answers
 
 -- a reader that moves without an answer: what may follow now, could have followed where it was
 -- `old`
 abbrev pub Moves : {R : Type 0} → Option (List ℕ) → LogReader R → Option (List ℕ) → LogReader R
     → Type 0
-Moves known old after new = (end : Option (List ℕ)) (a : Answers) → Awaits after end new a
-    → Awaits known end old a
+Moves known old after new = (end : Option (List ℕ)) (answers : Answers)
+    → Awaits after end new answers → Awaits known end old answers
 
 -- the answer reports a failed read
 abbrev pub ReportsRead : {A : Type 0} → Result A LogFault → Type 0
 ReportsRead r = IsErrAnd r (λ fault. fault.cause ≡ cause.Read)
 
 -- these are the answers of a log of which at most `limit` bytes are got
-pub record AreAnswersOf (limit : ℕ) (input : List ℕ) (after : Option (List ℕ)) (a : Answers)
+pub record AreAnswersOf (limit : ℕ) (input : List ℕ) (after : Option (List ℕ)) (answers : Answers)
     : Type 0 where
   pub text : List ℕ
   pub ending : Ending
   pub gets : Gets limit input after text ending
-  pub is : a ≡ log_answers text ending
+  pub is : answers ≡ log_answers text ending
 
 -- how much it may read yet, where it has not stopped
 abbrev pub work_of : {R : Type 0} → LogReader R → ℕ
@@ -94,8 +95,8 @@ abbrev pub GivesNext : {R : Type 0} → Result (Option Line) LogFault → Option
     → Option (List ℕ) → LogReader R → Type 0
 GivesNext (Ok (Some x)) known old after new =
     (lines_of new ≡ lines_of old + 1) × (stop_of new ≡ None)
-    × ((end : Option (List ℕ)) (a : Answers) → Awaits after end new a
-    → Awaits known end old (then_given x a))
+    × ((end : Option (List ℕ)) (answers : Answers) → Awaits after end new answers
+    → Awaits known end old (then_given x answers))
 GivesNext (Ok None) known old after new =
     (lines_of new ≡ lines_of old) × (stop_of new ≡ Some None) × Awaits known after old (ended None)
 GivesNext (Err fault) known old after new =

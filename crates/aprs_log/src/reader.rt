@@ -58,13 +58,13 @@ impl<'a, R: Read> LogReader<'a, R> {
         ensures held { held_of result ≡ head.now }
         ensures going { stop_of result ≡ None }
         // What may come are the answers of the whole log.
-        ensures whole { (end : Option (List ℕ)) (a : Answers)
-            → Awaits (R.remaining (device_of (source_of result))) end result a
+        ensures whole { (end : Option (List ℕ)) (answers : Answers)
+            → Awaits (R.remaining (device_of (source_of result))) end result answers
             → IfSome (R.remaining (device_of source.old))
-            (λ input. AreAnswersOf limit (head.now ++ input) end a) }
+            (λ input. AreAnswersOf limit (head.now ++ input) end answers) }
         // Some answers may always come.
-        ensures awaits { (a : Answers) × Awaits (R.remaining (device_of (source_of result)))
-            (R.remaining (device_of (source_of result))) result a }
+        ensures awaits { (answers : Answers) × Awaits (R.remaining (device_of (source_of result)))
+            (R.remaining (device_of (source_of result))) result answers }
     {
         LogReader {
             source,
@@ -107,16 +107,16 @@ impl<'a, R: Read> LogReader<'a, R> {
             → result ≡ answer_at stop }
         ensures stays { (stop : Option LogFault) → stop_of self.old ≡ Some stop
             → (stop_of self.new ≡ Some stop) × (source_of self.new ≡ source_of self.old) }
-        ensures number { IfErr result (λ f. f.line ≡ lines_of self.new + 1) }
+        ensures number { IfErr result (λ fault. fault.line ≡ lines_of self.new + 1) }
         // Some answers may always come.
-        ensures awaits { (a : Answers) × Awaits (R.remaining (device_of (source_of self.new)))
-            (R.remaining (device_of (source_of self.new))) self.new a }
-        ensures read { IfErr result (λ f. f.cause ≡ LogCause.Read → stop_of self.old ≡ None
+        ensures awaits { (answers : Answers) × Awaits (R.remaining (device_of (source_of self.new)))
+            (R.remaining (device_of (source_of self.new))) self.new answers }
+        ensures read { IfErr result (λ fault. fault.cause ≡ LogCause.Read → stop_of self.old ≡ None
             → Rose (failures_of (source_of self.old)) (failures_of (source_of self.new))) }
         // It reports a failed read where a call of the device answered one, and nowhere else.
         ensures answered { stop_of self.old ≡ None → RoseWhere (ReportsRead result)
             (answered_of (source_of self.old)) (answered_of (source_of self.new)) }
-        ensures memory { IfErr result (λ f. f.cause ≢ LogCause.Memory) }
+        ensures memory { IfErr result (λ fault. fault.cause ≢ LogCause.Memory) }
     {
         match self.advance() {
             Ok(true) => Ok(Some(self.current.copy())),
@@ -143,16 +143,16 @@ impl<'a, R: Read> LogReader<'a, R> {
             → answer_with result (current_of self.new) ≡ answer_at stop }
         ensures stays { (stop : Option LogFault) → stop_of self.old ≡ Some stop
             → (stop_of self.new ≡ Some stop) × (source_of self.new ≡ source_of self.old) }
-        ensures number { IfErr result (λ f. f.line ≡ lines_of self.new + 1) }
+        ensures number { IfErr result (λ fault. fault.line ≡ lines_of self.new + 1) }
         // Some answers may always come.
-        ensures awaits { (a : Answers) × Awaits (R.remaining (device_of (source_of self.new)))
-            (R.remaining (device_of (source_of self.new))) self.new a }
-        ensures read { IfErr result (λ f. f.cause ≡ LogCause.Read → stop_of self.old ≡ None
+        ensures awaits { (answers : Answers) × Awaits (R.remaining (device_of (source_of self.new)))
+            (R.remaining (device_of (source_of self.new))) self.new answers }
+        ensures read { IfErr result (λ fault. fault.cause ≡ LogCause.Read → stop_of self.old ≡ None
             → Rose (failures_of (source_of self.old)) (failures_of (source_of self.new))) }
         // It reports a failed read where a call of the device answered one, and nowhere else.
         ensures answered { stop_of self.old ≡ None → RoseWhere (ReportsRead result)
             (answered_of (source_of self.old)) (answered_of (source_of self.new)) }
-        ensures memory { IfErr result (λ f. f.cause ≢ LogCause.Memory) }
+        ensures memory { IfErr result (λ fault. fault.cause ≢ LogCause.Memory) }
     {
         loop {
             match self.state {
@@ -189,10 +189,10 @@ impl<'a, R: Read> LogReader<'a, R> {
         ensures same_reference { loan_of self.new ≡ loan_of self.old }
         ensures count { failures_of (source_of self.old) ≤ failures_of (source_of self.new) }
         ensures given { OnTrue result ((lines_of self.new ≡ lines_of self.old + 1)
-            × ((end : Option (List ℕ)) (a : Answers)
-            → Awaits (R.remaining (device_of (source_of self.new))) end self.new a
+            × ((end : Option (List ℕ)) (answers : Answers)
+            → Awaits (R.remaining (device_of (source_of self.new))) end self.new answers
             → Awaits (R.remaining (device_of (source_of self.old))) end self.old
-            (then_given (current_of self.new) a))) }
+            (then_given (current_of self.new) answers))) }
         ensures none { OnFalse result ((lines_of self.new ≡ lines_of self.old)
             × (current_of self.new ≡ current_of self.old)
             × Moves (R.remaining (device_of (source_of self.old))) self.old

@@ -65,13 +65,13 @@ impl Window {
             × (items self.new ≡ items self.old ++ more)
             × Consumes (R.remaining (device_of source.old)) (R.remaining (device_of source.new))
             more) }
-        ensures end { IfErr result (λ e. (items self.new ≡ items self.old)
-            × EndsHere e left (R.remaining (device_of source.old))
+        ensures end { IfErr result (λ ending. (items self.new ≡ items self.old)
+            × EndsHere ending left (R.remaining (device_of source.old))
             (R.remaining (device_of source.new))) }
         ensures count { failures_of source.old ≤ failures_of source.new }
-        ensures read { IfErr result (λ e. e ≡ Ending.Read
+        ensures read { IfErr result (λ ending. ending ≡ Ending.Read
             → Rose (failures_of source.old) (failures_of source.new)) }
-        ensures answered { RoseWhere (IsErrAnd result (λ e. e ≡ Ending.Read))
+        ensures answered { RoseWhere (IsErrAnd result (λ ending. ending ≡ Ending.Read))
             (answered_of source.old) (answered_of source.new) }
     {
         self.move_to_front();
