@@ -10,7 +10,7 @@ use Rattle.aprs_laws.specs.Order.{IsBelow}
 use Rattle.aprs_laws.specs.JoinRow.{choose, add, union}
 use Rattle.aprs_laws.specs.Joining.{IsUnited}
 use Rattle.aprs_laws.proofs.Lists.{ordered_same}
-use Rattle.aprs_laws.proofs.Orders.{tells, not_both}
+use Rattle.aprs_laws.proofs.Orders.{compared, not_both}
 
 pub by_choice : {A : Type 0} (G : A → Type 0) (a b c : A) (P Q R : Type 0) (o : Ordering)
     → MatchOrdering o P Q R → (P → G a) → (Q → G b) → (R → G c) → G (choose o a b c)
@@ -23,7 +23,7 @@ module _ {X : Type 0} {R : X → X → Ordering} (o : IsTotalOrder R) (e : CmpEq
   in_add x [] z = (λ h. h, λ h. h)
   in_add x (y ∷ ys) z =
       by_choice (λ (zs : List X). z ∈ zs ↔ ((x ≡ z) ⊎ (z ∈ (y ∷ ys)))) _ _ _ _ _ _ (R x y)
-      (tells o e x y)
+      (compared o e x y)
       (λ _. (λ h. h, λ h. h))
       (λ d. (λ h. inr h, λ h. elim h [ inl k ↦ inl (sym d ∙ k) | inr k ↦ k ]))
       (λ _. let i = in_add x ys z in (
@@ -43,7 +43,7 @@ module _ {X : Type 0} {R : X → X → Ordering} (o : IsTotalOrder R) (e : CmpEq
       → Ordered (IsBelow R) (add R x ys)
   add_ordered x [] p = (λ z h. absurd h, tt)
   add_ordered x (y ∷ ys) p =
-      by_choice (λ (zs : List X). Ordered (IsBelow R) zs) _ _ _ _ _ _ (R x y) (tells o e x y)
+      by_choice (λ (zs : List X). Ordered (IsBelow R) zs) _ _ _ _ _ _ (R x y) (compared o e x y)
       (λ l. (
         λ z h. elim h [
           | inl k ↦ subst (λ (w : X). R x w ≡ Less) k l

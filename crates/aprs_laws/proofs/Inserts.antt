@@ -9,15 +9,15 @@ use Rattle.aprs_laws.specs.Order.{IsBelow}
 use Rattle.aprs_laws.specs.Row.{Row, last_of}
 use Rattle.aprs_laws.specs.Book.{BookOf}
 use Rattle.aprs_laws.specs.Sound.{IsSoundRow, Sound}
-use Rattle.aprs_laws.specs.Real.{real}
+use Rattle.aprs_laws.specs.Witnesses.{witnesses}
 use Rattle.aprs_laws.specs.JoinRow.{choose, greater, single, IsNear, combine, place, join_row}
 use Rattle.aprs_laws.specs.Inserted.{grown, bridged, inserted, FitsInPlace, is_listed, is_near_first, fits_in_place}
-use Rattle.aprs_laws.proofs.Orders.{bytes_total, bytes_exact, heard_total, heard_exact, same_greatest, tells, not_both}
+use Rattle.aprs_laws.proofs.Orders.{bytes_total, bytes_exact, heard_total, heard_exact, same_greatest, compared, not_both}
 use Rattle.aprs_laws.proofs.Choices.{union_one, union_flip, union_ordered}
-use Rattle.aprs_laws.proofs.Rows.{IsBefore, the_greater, place_tells, before_trans, combined_last}
+use Rattle.aprs_laws.proofs.Rows.{IsBefore, the_greater, place_means, before_trans, combined_last}
 use Rattle.aprs_laws.proofs.Books.{same_row}
-use Rattle.aprs_laws.proofs.Soundness.{sound, realised}
-use Rattle.aprs_laws.proofs.Parts.{near_combined, combined_before, join_front, join_near}
+use Rattle.aprs_laws.proofs.Soundness.{sound, witnessed}
+use Rattle.aprs_laws.proofs.Parts.{near_combined, combined_before, join_first, join_near}
 use Rattle.aprs_laws.proofs.Pushes.{IsSound, one_relation}
 use Rattle.aprs_laws.proofs.NearRows.{far_of_before, not_three}
 use Rattle.aprs_laws.proofs.TakenSteps.{taken_last}
@@ -76,7 +76,7 @@ pub after_two : (gap : ℕ) (s : Heard) (r x y : Row) → IsNear gap r (single s
     → IsBefore gap x y → IsBefore gap (single s) y
 after_two gap s r x y n m lx ly b c =
     third (place gap y (single s)) (IsBefore gap y (single s)) (IsNear gap y (single s))
-    (IsBefore gap (single s) y) (place_tells gap y (single s))
+    (IsBefore gap (single s) y) (place_means gap y (single s))
     (λ h. not_before_s gap s x y m c ly h)
     (λ h. not_three gap s r x y lx b c n m h)
 
@@ -86,7 +86,7 @@ bridged_is_joined : (gap : ℕ) (s : Heard) (r : Row) (rows : List Row) → IsNe
     → bridged gap s (combine r (single s)) rows ≡ join_row gap rows (combine r (single s))
 bridged_is_joined gap s r [] n w v o = refl
 bridged_is_joined gap s r (x ∷ xs) n w v o =
-    told (place gap x (single s)) (place_tells gap x (single s)) where
+    by_case (place gap x (single s)) (place_means gap x (single s)) where
       spans : (combine r (single s)).first ≤ last_of (combine r (single s))
       spans = omega (arith, w.in_order, combined_last r (single s))
 
@@ -115,7 +115,7 @@ bridged_is_joined gap s r (x ∷ xs) n w v o =
       after : IsBefore gap (single s) x
           → join_row gap (x ∷ xs) (combine r (single s)) ≡ (combine r (single s)) ∷ x ∷ xs
       after b =
-          join_front gap (x ∷ xs) (combine r (single s)) spans each
+          join_first gap (x ∷ xs) (combine r (single s)) spans each
           (λ y h. combined_before gap r (single s) y n.key (o.0 y h)
           (elim h [
             | inl e ↦ subst
@@ -124,36 +124,36 @@ bridged_is_joined gap s r (x ∷ xs) n w v o =
                 (each x (inl refl)) b (o.1.0 y k)
           ]))
 
-      told : (q : Ordering)
+      by_case : (q : Ordering)
           → MatchOrdering q (IsBefore gap x (single s)) (IsNear gap x (single s))
           (IsBefore gap (single s) x)
           → choose q (combine r (single s) ∷ x ∷ xs) (combine (combine r (single s)) x ∷ xs)
           (combine r (single s) ∷ x ∷ xs) ≡ join_row gap (x ∷ xs) (combine r (single s))
-      told Less h = absurd (not_before_s gap s r x n (o.0 x (inl refl)) (each x (inl refl)) h)
-      told Equal h = sym (near h)
-      told Greater h = sym (after h)
+      by_case Less h = absurd (not_before_s gap s r x n (o.0 x (inl refl)) (each x (inl refl)) h)
+      by_case Equal h = sym (near h)
+      by_case Greater h = sym (after h)
 
 pub inserted_is_joined : (gap : ℕ) (s : Heard) (rows : List Row) → IsSound gap rows
     → inserted gap s rows ≡ join_row gap rows (single s)
 inserted_is_joined gap s [] w = refl
 inserted_is_joined gap s (r ∷ rows) w =
-    told (place gap r (single s)) (place_tells gap r (single s))
+    by_case (place gap r (single s)) (place_means gap r (single s))
     (inserted_is_joined gap s rows
     (record { ordered = w.ordered.1; each = λ x h. w.each x (inr h) })) where
       own : IsSoundRow r
       own = w.each r (inl refl)
 
-      told : (q : Ordering)
+      by_case : (q : Ordering)
           → MatchOrdering q (IsBefore gap r (single s)) (IsNear gap r (single s))
           (IsBefore gap (single s) r) → inserted gap s rows ≡ join_row gap rows (single s)
           → choose q (r ∷ inserted gap s rows) (bridged gap s (grown r s) rows)
           (single s ∷ r ∷ rows) ≡ choose q (r ∷ join_row gap rows (single s))
           (join_row gap rows (combine r (single s))) (single s ∷ r ∷ rows)
-      told Less h e = ap (λ (xs : List Row). r ∷ xs) e
-      told Equal h e =
+      by_case Less h e = ap (λ (xs : List Row). r ∷ xs) e
+      by_case Equal h e =
           ap (λ (x : Row). bridged gap s x rows) (grown_is_combined r s own.ascending)
           ∙ bridged_is_joined gap s r rows h own (λ x k. w.each x (inr k)) w.ordered
-      told Greater h e = refl
+      by_case Greater h e = refl
 
 -- so it turns the book of S into that of S and s
 pub inserted_is_book : (gap : ℕ) (S : List Heard) (s : Heard) (rows : List Row) → BookOf gap S rows
@@ -166,8 +166,8 @@ inserted_is_book gap S s rows b =
 pub inserted_is_sound : (gap : ℕ) → 0 < gap → (s : Heard) (rows : List Row) → Sound gap rows
     → Sound gap (inserted gap s rows)
 inserted_is_sound gap pos s rows w =
-    sound gap (real rows ++ s ∷ []) (inserted gap s rows)
-    (inserted_is_book gap (real rows) s rows (realised gap rows pos w))
+    sound gap (witnesses rows ++ s ∷ []) (inserted gap s rows)
+    (inserted_is_book gap (witnesses rows) s rows (witnessed gap rows pos w))
 
 -- ---- what changes in place
 
@@ -175,36 +175,36 @@ listed : (r : List ℕ) (xs : List (List ℕ)) → Ordered (IsBelow bytes_cmp) x
     → is_listed r xs ≡ true
 listed r [] o h = absurd h
 listed r (x ∷ xs) o h =
-    told (bytes_cmp r x) (λ k. listed r xs o.1 k) (tells bytes_total bytes_exact r x) h where
-      told : (q : Ordering) → (r ∈ xs → is_listed r xs ≡ true)
+    by_case (bytes_cmp r x) (λ k. listed r xs o.1 k) (compared bytes_total bytes_exact r x) h where
+      by_case : (q : Ordering) → (r ∈ xs → is_listed r xs ≡ true)
           → MatchOrdering q (bytes_cmp r x ≡ Less) (r ≡ x) (bytes_cmp x r ≡ Less) → r ∈ (x ∷ xs)
           → choose q false true (is_listed r xs) ≡ true
-      told Less f b (inl e) =
+      by_case Less f b (inl e) =
           let c =
           subst (λ (y : List ℕ). bytes_cmp r y ≡ Less) e b in absurd (not_both bytes_total r r c c)
-      told Less f b (inr k) = absurd (not_both bytes_total r x b (o.0 r k))
-      told Equal f b h = refl
-      told Greater f b (inl e) =
+      by_case Less f b (inr k) = absurd (not_both bytes_total r x b (o.0 r k))
+      by_case Equal f b h = refl
+      by_case Greater f b (inl e) =
           let c =
           subst (λ (y : List ℕ). bytes_cmp y r ≡ Less) e b in absurd (not_both bytes_total r r c c)
-      told Greater f b (inr k) = f k
+      by_case Greater f b (inr k) = f k
 
 -- of sound rows, the test says what it should
 pub fits_by_test : (gap : ℕ) (s : Heard) (rows : List Row) → IsSound gap rows
     → FitsInPlace gap rows s → fits_in_place gap s rows ≡ true
 fits_by_test gap s [] w f = absurd f.member
 fits_by_test gap s (r ∷ rows) w f =
-    told (place gap r (single s))
+    by_case (place gap r (single s))
     (λ g. fits_by_test gap s rows
     (record { ordered = w.ordered.1; each = λ x m. w.each x (inr m) }) g)
-    (place_tells gap r (single s)) f.member where
+    (place_means gap r (single s)) f.member where
       span : (x : Row) → x ∈ (r ∷ rows) → x.first ≤ last_of x
       span x h = (w.each x h).in_order
 
       none_near : (rows : List Row) → ((x : Row) → x ∈ rows → IsNear gap x (single s) → ⊥)
           → is_near_first gap s rows ≡ false
       none_near [] g = refl
-      none_near (x ∷ xs) g = first (place gap x (single s)) (place_tells gap x (single s)) where
+      none_near (x ∷ xs) g = first (place gap x (single s)) (place_means gap x (single s)) where
         first : (q : Ordering)
             → MatchOrdering q (IsBefore gap x (single s)) (IsNear gap x (single s))
             (IsBefore gap (single s) x) → choose q false true false ≡ false
@@ -222,29 +222,35 @@ fits_by_test gap s (r ∷ rows) w f =
       both : (p q : Bool) → p ≡ true → q ≡ false → p && not q ≡ true
       both p q g h = rw (g, h) refl
 
-      told : (q : Ordering) → (FitsInPlace gap rows s → fits_in_place gap s rows ≡ true)
+      by_case : (q : Ordering) → (FitsInPlace gap rows s → fits_in_place gap s rows ≡ true)
           → MatchOrdering q (IsBefore gap r (single s)) (IsNear gap r (single s))
           (IsBefore gap (single s) r) → f.row ∈ (r ∷ rows)
           → choose q (fits_in_place gap s rows)
           (is_listed s.receiver r.receivers && not (is_near_first gap s rows)) false ≡ true
-      told Less ih h (inl e) =
+      by_case Less ih h (inl e) =
           absurd
           (near_not_before gap r (single s)
           (subst (λ (z : Row). IsNear gap z (single s)) (sym e) f.near) h)
-      told Less ih h (inr k) =
+      by_case Less ih h (inr k) =
           ih
-          (record { row = f.row; member = k; near = f.near; listed = f.listed; only = λ x m. f.only x (inr m) })
-      told Equal ih h k =
+          (record {
+            row = f.row;
+            member = k;
+            near = f.near;
+            listed = f.listed;
+            only = λ x m. f.only x (inr m);
+          })
+      by_case Equal ih h k =
           let e : r ≡ f.row = f.only r (inl refl) h in
           both (is_listed s.receiver r.receivers) (is_near_first gap s rows)
           (listed s.receiver r.receivers (w.each r (inl refl)).ascending
           (subst (λ (z : Row). s.receiver ∈ z.receivers) (sym e) f.listed))
           (none_near rows (alone e))
-      told Greater ih h (inl e) =
+      by_case Greater ih h (inl e) =
           absurd
           (near_not_after gap r (single s)
           (subst (λ (z : Row). IsNear gap z (single s)) (sym e) f.near) h)
-      told Greater ih h (inr k) =
+      by_case Greater ih h (inr k) =
           absurd
           (near_not_after gap f.row (single s) f.near
           (before_trans gap (single s) r f.row (span r (inl refl)) h (w.ordered.0 f.row k)))

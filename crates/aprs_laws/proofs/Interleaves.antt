@@ -8,25 +8,25 @@ use Rattle.aprs_laws.specs.Lists.{◌∈◌, Ordered}
 use Rattle.aprs_laws.specs.Order.{IsBelow, IsUpTo}
 use Rattle.aprs_laws.specs.Row.{Row, row_cmp}
 use Rattle.aprs_laws.specs.Sound.{Sound}
-use Rattle.aprs_laws.specs.Real.{real}
+use Rattle.aprs_laws.specs.Witnesses.{witnesses}
 use Rattle.aprs_laws.specs.Joining.{Joined}
 use Rattle.aprs_laws.specs.JoinRow.{merge, interleave_from, interleave, coalesced}
 use Rattle.aprs_laws.proofs.Lists.{ordered_weaker}
 use Rattle.aprs_laws.proofs.Choices.{by_choice}
 use Rattle.aprs_laws.proofs.Books.{row_total, one_book}
-use Rattle.aprs_laws.proofs.Soundness.{realised}
+use Rattle.aprs_laws.proofs.Soundness.{witnessed}
 use Rattle.aprs_laws.proofs.Views.{joined_by_merge}
 use Rattle.aprs_laws.proofs.Streams.{streamed}
 
 -- the two ways in which rows lie
-row_tells : (y x : Row)
+row_compared : (y x : Row)
     → MatchOrdering (row_cmp y x) (IsUpTo row_cmp y x) (IsUpTo row_cmp x y) (IsUpTo row_cmp x y)
-row_tells y x = told (row_cmp y x) refl where
-  told : (o : Ordering) → row_cmp y x ≡ o
+row_compared y x = by_case (row_cmp y x) refl where
+  by_case : (o : Ordering) → row_cmp y x ≡ o
       → MatchOrdering o (IsUpTo row_cmp y x) (IsUpTo row_cmp x y) (IsUpTo row_cmp x y)
-  told Less h = ap is_gt h
-  told Equal h = ap is_gt (tied_back row_total y x h)
-  told Greater h = ap is_gt (row_total.antisymm x y ∙ ap ordering_reverse h)
+  by_case Less h = ap is_gt h
+  by_case Equal h = ap is_gt (tied_back row_total y x h)
+  by_case Greater h = ap is_gt (row_total.antisymm x y ∙ ap ordering_reverse h)
 
 from_members : (x : Row) (xs : List Row) (rest : List Row → List Row)
     → ((ys : List Row) (z : Row) → (z ∈ rest ys) ↔ ((z ∈ xs) ⊎ (z ∈ ys)))
@@ -34,7 +34,7 @@ from_members : (x : Row) (xs : List Row) (rest : List Row → List Row)
 from_members x xs rest f [] z = (λ h. inl h, λ h. elim h [ inl k ↦ k | inr k ↦ absurd k ])
 from_members x xs rest f (y ∷ ys) z =
     by_choice (λ (zs : List Row). (z ∈ zs) ↔ ((z ∈ (x ∷ xs)) ⊎ (z ∈ (y ∷ ys)))) _ _ _ _ _ _
-    (row_cmp y x) (row_tells y x)
+    (row_cmp y x) (row_compared y x)
     (λ _. let i = from_members x xs rest f ys z in (
       λ h. elim h [
         | inl e ↦ inr (inl e)
@@ -76,7 +76,7 @@ from_ordered : (x : Row) (xs ys : List Row) → Ordered (IsUpTo row_cmp) (x ∷ 
 from_ordered x xs [] o p f = o
 from_ordered x xs (y ∷ ys) o p f =
     by_choice (λ (zs : List Row). Ordered (IsUpTo row_cmp) zs) _ _ _ _ _ _ (row_cmp y x)
-    (row_tells y x)
+    (row_compared y x)
     (λ l. (
       λ z h. elim ((interleave_members (x ∷ xs) ys z).0 h) [
         | inl k ↦ elim k [
@@ -121,7 +121,7 @@ one_pass gap pos a b v w =
     (interleave_members a b) where
       empty : (a b : List Row) → ((x : Row) → (x ∈ []) ↔ ((x ∈ a) ⊎ (x ∈ b))) → Sound gap a
           → Sound gap b → Joined gap a b []
-      empty [] [] e v w = realised gap [] pos v
+      empty [] [] e v w = witnessed gap [] pos v
       empty (x ∷ xs) b e v w = absurd ((e x).1 (inl (inl refl)))
       empty [] (y ∷ ys) e v w = absurd ((e y).1 (inr (inl refl)))
 
@@ -134,7 +134,7 @@ one_pass gap pos a b v w =
 pub joined_is_merge : (gap : ℕ) → 0 < gap → (a b c : List Row) → Sound gap a → Sound gap b
     → Joined gap a b c → c ≡ merge gap a b
 joined_is_merge gap pos a b c v w j =
-    one_book gap (real a ++ real b) c (merge gap a b) j (joined_by_merge gap pos a b v w)
+    one_book gap (witnesses a ++ witnesses b) c (merge gap a b) j (joined_by_merge gap pos a b v w)
 
 pub one_pass_is_merge : (gap : ℕ) → 0 < gap → (a b : List Row) → Sound gap a → Sound gap b
     → coalesced gap (interleave a b) ≡ merge gap a b

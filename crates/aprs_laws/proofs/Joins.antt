@@ -12,7 +12,7 @@ use Rattle.aprs_laws.specs.Order.{IsBelow, IsUpTo}
 use Rattle.aprs_laws.specs.Gap.{IsGap, millis_of}
 use Rattle.aprs_laws.specs.Row.{Row}
 use Rattle.aprs_laws.specs.Sound.{Sound}
-use Rattle.aprs_laws.specs.Real.{real}
+use Rattle.aprs_laws.specs.Witnesses.{witnesses}
 use Rattle.aprs_laws.specs.Joining.{JoinLaws, AreAny, IsGreaterOf, IsAny, IsUnited, Joined}
 use Rattle.aprs_laws.specs.BookValue.{BookValue, IsSoundBook, HaveOneGap, AreJoined}
 use Rattle.aprs_laws.specs.JoinRow.{union, greater}
@@ -30,9 +30,9 @@ book_laws gap pos = record {
   symmetric = λ a b h. tt;
   transitive = λ a b c h k. tt;
   both = λ a b c j. (tt, tt);
-  some = λ a b v w _. exists gap (real a ++ real b);
-  only = λ a b c d j k. one_book gap (real a ++ real b) c d j k;
-  stays = λ a b c j. sound gap (real a ++ real b) c j;
+  some = λ a b v w _. exists gap (witnesses a ++ witnesses b);
+  only = λ a b c d j k. one_book gap (witnesses a ++ witnesses b) c d j k;
+  stays = λ a b c j. sound gap (witnesses a ++ witnesses b) c j;
   commutative = unions.commutative gap;
   idempotent = λ a x v. unions.idempotent gap a x pos v;
   associative = λ a b c x y p q j k l m. unions.associative gap a b c x y p q pos j k l m;
@@ -57,16 +57,17 @@ gap_laws = record {
   symmetric = λ a b h. sym h;
   transitive = λ a b c h k. h ∙ k;
   both = λ a b c j. (j.left, j.right);
-  some = λ a b v w e. let t = exists (millis_of a.gap) (real a.rows ++ real b.rows) in (
+  some = λ a b v w e. let t = exists (millis_of a.gap) (witnesses a.rows ++ witnesses b.rows) in (
     record { gap = a.gap; rows = t.0 },
     record { left = refl; right = sym e; range = v.range; rows = t.1 },
   );
   only = λ a b c d j k. let e : c.gap ≡ d.gap = sym j.left ∙ k.left in
-      one_value c d e (one_book (millis_of d.gap) (real a.rows ++ real b.rows) c.rows d.rows
+      one_value c d e (one_book (millis_of d.gap)
+      (witnesses a.rows ++ witnesses b.rows) c.rows d.rows
       (under c.gap d.gap a.rows b.rows c.rows e j.rows) k.rows);
   stays = λ a b c j. record {
     range = j.range;
-    sound = sound (millis_of c.gap) (real a.rows ++ real b.rows) c.rows j.rows;
+    sound = sound (millis_of c.gap) (witnesses a.rows ++ witnesses b.rows) c.rows j.rows;
   };
   commutative = λ a b c j. record {
     left = j.right;
@@ -82,7 +83,8 @@ gap_laws = record {
       left = refl;
       right = refl;
       range = v.range;
-      rows = (unions.idempotent (millis_of a.gap) a.rows a.rows (some_millis a.gap v.range) v.sound).1
+      rows = (unions.idempotent (millis_of a.gap) a.rows a.rows
+          (some_millis a.gap v.range) v.sound).1
           refl;
     }),
   );
@@ -90,8 +92,10 @@ gap_laws = record {
       let x_p : x.gap ≡ p.gap = k.left in
       let y_p : y.gap ≡ p.gap = sym l.right ∙ k.right in
       let q_p : q.gap ≡ p.gap = sym m.right ∙ y_p in
-      sym (one_value q p q_p (sym (unions.associative (millis_of p.gap) a.rows b.rows c.rows x.rows y.rows
-      p.rows q.rows (some_millis p.gap k.range) (under x.gap p.gap a.rows b.rows x.rows x_p j.rows) k.rows
+      sym (one_value q p q_p (sym (unions.associative
+      (millis_of p.gap) a.rows b.rows c.rows x.rows y.rows
+      p.rows q.rows (some_millis p.gap k.range)
+      (under x.gap p.gap a.rows b.rows x.rows x_p j.rows) k.rows
       (under y.gap p.gap b.rows c.rows y.rows y_p l.rows)
       (under q.gap p.gap a.rows y.rows q.rows q_p m.rows))));
 }
@@ -204,11 +208,19 @@ greatest_laws = record {
   only = λ a b c d j k. same c d (least a b c d j k.left k.right) (least a b d c k j.left j.right);
   stays = λ a b c j. tt;
   commutative =
-      λ a b c j. record { one = elim j.one [ inl e ↦ inr e | inr e ↦ inl e ]; left = j.right; right = j.left };
+      λ a b c j. record {
+        one = elim j.one [ inl e ↦ inr e | inr e ↦ inl e ];
+        left = j.right;
+        right = j.left;
+      };
   idempotent = λ a x v. (
     λ j. elim j.one [ inl e ↦ e | inr e ↦ e ],
     λ e. subst (λ (c : Heard). IsGreaterOf a a c) (sym e)
-        (record { one = inl refl; left = up_to_itself heard_total a; right = up_to_itself heard_total a }),
+        (record {
+          one = inl refl;
+          left = up_to_itself heard_total a;
+          right = up_to_itself heard_total a;
+        }),
   );
   associative = λ a b c x y p q j k l m.
       same p q
@@ -220,18 +232,30 @@ greatest_laws = record {
 
 -- by a test for Less
 pub second_is_greater : (a b : Heard) → is_lt (heard_cmp a b) ≡ true → IsGreaterOf a b b
-second_is_greater a b h = told (heard_cmp a b) refl h where
-  told : (o : Ordering) → heard_cmp a b ≡ o → is_lt o ≡ true → IsGreaterOf a b b
-  told Less e h = record { one = inr refl; left = ap is_gt e; right = up_to_itself heard_total b }
-  told Equal e h = let n : false ≡ true = h in cc
-  told Greater e h = let n : false ≡ true = h in cc
+second_is_greater a b h = by_case (heard_cmp a b) refl h where
+  by_case : (o : Ordering) → heard_cmp a b ≡ o → is_lt o ≡ true → IsGreaterOf a b b
+  by_case Less e h = record {
+    one = inr refl;
+    left = ap is_gt e;
+    right = up_to_itself heard_total b;
+  }
+  by_case Equal e h = let n : false ≡ true = h in cc
+  by_case Greater e h = let n : false ≡ true = h in cc
 
 pub first_is_greater : (a b : Heard) → is_lt (heard_cmp a b) ≡ false → IsGreaterOf a b a
-first_is_greater a b h = told (heard_cmp a b) refl h where
-  told : (o : Ordering) → heard_cmp a b ≡ o → is_lt o ≡ false → IsGreaterOf a b a
-  told Less e h = let n : true ≡ false = h in cc
-  told Equal e h = record { one = inl refl; left = up_to_itself heard_total a; right = ap is_gt (tied_back heard_total a b e) }
-  told Greater e h = record { one = inl refl; left = up_to_itself heard_total a; right = ap is_gt (heard_total.antisymm b a ∙ ap ordering_reverse e) }
+first_is_greater a b h = by_case (heard_cmp a b) refl h where
+  by_case : (o : Ordering) → heard_cmp a b ≡ o → is_lt o ≡ false → IsGreaterOf a b a
+  by_case Less e h = let n : true ≡ false = h in cc
+  by_case Equal e h = record {
+    one = inl refl;
+    left = up_to_itself heard_total a;
+    right = ap is_gt (tied_back heard_total a b e);
+  }
+  by_case Greater e h = record {
+    one = inl refl;
+    left = up_to_itself heard_total a;
+    right = ap is_gt (heard_total.antisymm b a ∙ ap ordering_reverse e);
+  }
 
 -- the joined value is the greater one
 pub is_the_greater : (a b c : Heard) → IsGreaterOf a b c → c ≡ greater a b

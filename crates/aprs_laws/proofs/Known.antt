@@ -1,4 +1,4 @@
--- What is last known of a set, and that its book tells it.
+-- What is last known of a set, and that its book decides it.
 use Rattle.std.proofs.Common.{◌≡◌, ℕ, Bool, true, false, List, [], ◌∷◌, ◌++◌, if◌then◌else◌, inl, inr, sym, refl, ◌∙◌, ap, subst, map, Option, None, Some}
 use Rattle.std.proofs.lemmas.Cmp.{upto}
 use Rattle.aprs_log.specs.Reception.{Heard, heard_cmp}
@@ -125,11 +125,11 @@ pub known_last : (test : Key → Bool) (s : Heard) (S : List Heard) (known : Opt
     (known_after test known s)
 known_last test s S known h =
     known_carries (s ∷ S) (S ++ s ∷ []) (Passes test) (known_after test known s) (around (s ∷ []) S)
-    (told (test (key_of s.frame)) refl) where
-      told : (b : Bool) → test (key_of s.frame) ≡ b
+    (by_case (test (key_of s.frame)) refl) where
+      by_case : (b : Bool) → test (key_of s.frame) ≡ b
           → LastKnown (s ∷ S) (Passes test) (if b then Some (greater_known known s) else known)
-      told true e = known_greater (Passes test) s S known e h
-      told false e =
+      by_case true e = known_greater (Passes test) s S known e h
+      by_case false e =
           known_passed (Passes test) s S known (λ q. let n : true ≡ false = sym q ∙ e in cc) h
 
 -- what was known of the receptions so far, and those that are left
@@ -170,7 +170,7 @@ pub some_known : (test : Key → Bool) (S : List Heard)
     → (known : Option Heard) × LastKnown S (Passes test) known
 some_known test S = (known_of test None S, plain_known test S)
 
--- the rows of the book of S tell what is last known of S
+-- the rows of the book of S decide what is last known of S
 pub book_knows : (gap : ℕ) (test : Key → Bool) (S : List Heard) (rows : List Row)
     → BookOf gap S rows → LastKnown S (Passes test) (known_of test None (map greatest_of rows))
 book_knows gap test S rows b =

@@ -12,7 +12,7 @@ use Rattle.aprs_laws.specs.JoinRow.{single, combine, place, join_row, merge, pla
 use Rattle.aprs_laws.proofs.Lists.{in_left, in_right, in_either}
 use Rattle.aprs_laws.proofs.Orders.{not_both, key_total, heard_total}
 use Rattle.aprs_laws.proofs.Choices.{by_choice}
-use Rattle.aprs_laws.proofs.Rows.{Makes, IsBefore, combined, combines, place_tells, before_combined, before_trans}
+use Rattle.aprs_laws.proofs.Rows.{Makes, IsBefore, combined, combines, place_means, before_combined, before_trans}
 
 -- S has the members of X and of Y, and no others
 abbrev pub IsUnion : List Heard → List Heard → List Heard → Type 0
@@ -75,7 +75,7 @@ made_join gap U S T [] r u m t = (
 )
 made_join gap U S T (x ∷ xs) r u m t =
     by_choice (λ (rows : List Row). Made gap U rows) _ _ _ _ _ _ (place gap x r)
-    (place_tells gap x r)
+    (place_means gap x r)
     (λ _. (
       m.0,
       m.1 ++ T,
@@ -96,7 +96,7 @@ before_join gap S T w [] r m t f h =
     λ y i. elim i [ inl e ↦ subst (λ (z : Row). IsBefore gap w z) e h | inr k ↦ absurd k ]
 before_join gap S T w (x ∷ xs) r m t f h =
     by_choice (λ (rows : List Row). (y : Row) → y ∈ rows → IsBefore gap w y) _ _ _ _ _ _
-    (place gap x r) (place_tells gap x r)
+    (place gap x r) (place_means gap x r)
     (λ _. λ y i. elim i [
       | inl e ↦ f y (inl e)
       | inr k ↦ before_join gap m.1 T w xs r m.4 t
@@ -118,7 +118,7 @@ pub join_ordered : (gap : ℕ) (S T : List Heard) (rows : List Row) (r : Row) �
 join_ordered gap S T [] r m t o = (λ y h. absurd h, tt)
 join_ordered gap S T (x ∷ xs) r m t o =
     by_choice (λ (rows : List Row). Ordered (IsBefore gap) rows) _ _ _ _ _ _ (place gap x r)
-    (place_tells gap x r)
+    (place_means gap x r)
     (λ h. (before_join gap m.1 T x xs r m.4 t o.0 h, join_ordered gap m.1 T xs r m.4 t o.1))
     (λ n. join_ordered gap m.1 (m.0 ++ T) xs (combine x r) m.4
     (combined gap m.0 T x r (combine x r) m.3 t n (combines gap m.0 T x r n.key m.3 t)) o.1)

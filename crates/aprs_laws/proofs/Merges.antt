@@ -9,7 +9,7 @@ use Rattle.aprs_laws.specs.Order.{IsBelow}
 use Rattle.aprs_laws.specs.Joining.{IsUnited}
 use Rattle.aprs_laws.specs.JoinRow.{union}
 use Rattle.aprs_laws.specs.Merged.{merged_from, merged}
-use Rattle.aprs_laws.proofs.Orders.{tells}
+use Rattle.aprs_laws.proofs.Orders.{compared}
 use Rattle.aprs_laws.proofs.Choices.{by_choice, united_is_union}
 
 module _ {X : Type 0} {R : X → X → Ordering} (o : IsTotalOrder R) (e : CmpEqualImpliesEq R) where
@@ -19,7 +19,7 @@ module _ {X : Type 0} {R : X → X → Ordering} (o : IsTotalOrder R) (e : CmpEq
   from_members x xs rest f [] z = (λ h. inl h, λ h. elim h [ inl k ↦ k | inr k ↦ absurd k ])
   from_members x xs rest f (y ∷ ys) z =
       by_choice (λ (zs : List X). (z ∈ zs) ↔ ((z ∈ (x ∷ xs)) ⊎ (z ∈ (y ∷ ys)))) _ _ _ _ _ _ (R x y)
-      (tells o e x y)
+      (compared o e x y)
       (λ _. let i = f (y ∷ ys) z in (
         λ h. elim h [
           | inl d ↦ inl (inl d)
@@ -65,7 +65,7 @@ module _ {X : Type 0} {R : X → X → Ordering} (o : IsTotalOrder R) (e : CmpEq
       → Ordered (IsBelow R) (merged R (x ∷ xs) ys)
   from_ordered x xs [] p q f = p
   from_ordered x xs (y ∷ ys) p q f =
-      by_choice (λ (zs : List X). Ordered (IsBelow R) zs) _ _ _ _ _ _ (R x y) (tells o e x y)
+      by_choice (λ (zs : List X). Ordered (IsBelow R) zs) _ _ _ _ _ _ (R x y) (compared o e x y)
       (λ l. (
         λ z h. elim ((merged_members xs (y ∷ ys) z).0 h) [
           | inl k ↦ p.0 z k

@@ -1,20 +1,20 @@
--- Under a lesser gap the rows don't tell the book.
+-- Under a lesser gap the rows don't decide the book.
 use Rattle.std.proofs.Common.{◌≡◌, ℕ, ◌<◌, List, [], ◌∷◌, inl, inr, refl, ap, ◌∙◌, subst, arith}
 use Rattle.aprs_log.specs.Reception.{Heard, heard_cmp}
 use Rattle.aprs_laws.specs.Order.{IsUpTo}
 use Rattle.aprs_laws.specs.Row.{Row, IsOf}
 use Rattle.aprs_laws.specs.Book.{BookOf}
 use Rattle.aprs_laws.specs.Sound.{IsSoundRow, Sound}
-use Rattle.aprs_laws.specs.Real.{real}
+use Rattle.aprs_laws.specs.Witnesses.{witnesses}
 use Rattle.aprs_laws.proofs.Orders.{up_to_itself, heard_total, up_to_moment}
 use Rattle.aprs_laws.proofs.Rows.{Makes}
 use Rattle.aprs_laws.proofs.Books.{book_of_keeps, one_book}
-use Rattle.aprs_laws.proofs.Soundness.{realised}
+use Rattle.aprs_laws.proofs.Soundness.{witnessed}
 use Rattle.aprs_laws.proofs.Pushes.{push_first}
 
 module _ (narrow wide : ℕ) (pos : 0 < narrow) (less : narrow < wide)
     (narrowed : List Row → List Row)
-    (tells : (S : List Heard) (rows : List Row) → BookOf wide S rows
+    (gives : (S : List Heard) (rows : List Row) → BookOf wide S rows
     → BookOf narrow S (narrowed rows)) where
   -- two receptions as far apart as the wide gap allows, and their row
   abbrev at : ℕ → Heard
@@ -85,18 +85,19 @@ module _ (narrow wide : ℕ) (pos : 0 < narrow) (less : narrow < wide)
   sound_under : (gap : ℕ) → Sound gap (row ∷ [])
   sound_under gap = push_first gap row own_row
 
-  -- the same rows are those of a set that is heard at each moment, and that set tells the answer
+  -- the same rows are those of a set that is heard at each moment, and that set gives the answer
   answer : narrowed (row ∷ []) ≡ row ∷ []
   answer =
-      one_book narrow (real (row ∷ [])) (narrowed (row ∷ [])) (row ∷ [])
-      (tells (real (row ∷ [])) (row ∷ []) (realised wide (row ∷ []) (omega arith) (sound_under wide)))
-      (realised narrow (row ∷ []) pos (sound_under narrow))
+      one_book narrow (witnesses (row ∷ [])) (narrowed (row ∷ [])) (row ∷ [])
+      (gives (witnesses (row ∷ [])) (row ∷ [])
+      (witnessed wide (row ∷ []) (omega arith) (sound_under wide)))
+      (witnessed narrow (row ∷ []) pos (sound_under narrow))
 
   -- but the pair is not linked under the narrow gap
   pub not_narrowed : ⊥
   not_narrowed =
       let b : BookOf narrow pair (row ∷ []) =
-      subst (λ (p : List Row). BookOf narrow pair p) answer (tells pair (row ∷ []) book_of_pair) in
+      subst (λ (p : List Row). BookOf narrow pair p) answer (gives pair (row ∷ []) book_of_pair) in
       let r = ((b.exactly row).0 (inl refl)).run in
       let t = r.linked 0 r.at_first (omega arith) (omega arith) in
       elim t.3.1 [
@@ -112,4 +113,4 @@ module _ (narrow wide : ℕ) (pos : 0 < narrow) (less : narrow < wide)
 pub narrows_not : (narrow wide : ℕ) (narrowed : List Row → List Row) → 0 < narrow → narrow < wide
     → ((S : List Heard) (rows : List Row) → BookOf wide S rows → BookOf narrow S (narrowed rows))
     → ⊥
-narrows_not narrow wide narrowed pos less tells = not_narrowed narrow wide pos less narrowed tells
+narrows_not narrow wide narrowed pos less gives = not_narrowed narrow wide pos less narrowed gives

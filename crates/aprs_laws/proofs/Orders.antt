@@ -18,24 +18,25 @@ pub not_both : {X : Type 0} {R : X → X → Ordering} → IsTotalOrder R → (x
 not_both o x y h k = let a = o.antisymm x y in cc
 
 -- the three ways in which two values of an exact order lie
-pub tells : {X : Type 0} {R : X → X → Ordering} → IsTotalOrder R → CmpEqualImpliesEq R → (x y : X)
+pub compared : {X : Type 0} {R : X → X → Ordering} → IsTotalOrder R → CmpEqualImpliesEq R
+    → (x y : X)
     → MatchOrdering (R x y) (R x y ≡ Less) (x ≡ y) (R y x ≡ Less)
-tells {X} {R} o e x y = told (R x y) refl where
-  told : (r : Ordering) → R x y ≡ r → MatchOrdering r (R x y ≡ Less) (x ≡ y) (R y x ≡ Less)
-  told Less h = h
-  told Equal h = e x y h
-  told Greater h = let a = o.antisymm y x in a ∙ ap ordering_reverse h
+compared {X} {R} o e x y = by_case (R x y) refl where
+  by_case : (r : Ordering) → R x y ≡ r → MatchOrdering r (R x y ≡ Less) (x ≡ y) (R y x ≡ Less)
+  by_case Less h = h
+  by_case Equal h = e x y h
+  by_case Greater h = let a = o.antisymm y x in a ∙ ap ordering_reverse h
 
 -- two values, neither after the other
 pub same_greatest : {X : Type 0} {R : X → X → Ordering} → IsTotalOrder R → CmpEqualImpliesEq R
     → (x y : X) → IsUpTo R x y → IsUpTo R y x → x ≡ y
-same_greatest {X} {R} o e x y h k = told (R x y) refl where
-  told : (r : Ordering) → R x y ≡ r → x ≡ y
-  told Less g =
+same_greatest {X} {R} o e x y h k = by_case (R x y) refl where
+  by_case : (r : Ordering) → R x y ≡ r → x ≡ y
+  by_case Less g =
       let a =
       o.antisymm y x in let b : R y x ≡ Greater = a ∙ ap ordering_reverse g in cc (ap is_gt b)
-  told Equal g = e x y g
-  told Greater g = cc (ap is_gt g)
+  by_case Equal g = e x y g
+  by_case Greater g = cc (ap is_gt g)
 
 -- a value is not after itself
 pub up_to_itself : {X : Type 0} {R : X → X → Ordering} → IsTotalOrder R → (x : X) → IsUpTo R x x
@@ -88,43 +89,43 @@ heard_exact a b h =
 
 -- a reception is not after one of a greater or equal moment
 pub moment_up_to : (s t : Heard) → IsUpTo heard_cmp s t → s.moment ≤ t.moment
-moment_up_to s t h = told (bytes_cmp s.receiver t.receiver) h where
-  told : (r : Ordering)
+moment_up_to s t h = by_case (bytes_cmp s.receiver t.receiver) h where
+  by_case : (r : Ordering)
       → is_gt
       (ordering_then (nat_cmp s.moment t.moment) (ordering_then r (bytes_cmp s.frame t.frame)))
       ≡ false → s.moment ≤ t.moment
-  told r h = grind (arith, nat_tests)
+  by_case r h = grind (arith, nat_tests)
 
 -- a reception of a smaller moment is not after
 pub up_to_moment : (s t : Heard) → s.moment < t.moment → IsUpTo heard_cmp s t
 up_to_moment s t l =
-    told (ordering_then (bytes_cmp s.receiver t.receiver) (bytes_cmp s.frame t.frame)) where
-      told : (o : Ordering) → is_gt (ordering_then (nat_cmp s.moment t.moment) o) ≡ false
-      told o = grind (arith, nat_tests)
+    by_case (ordering_then (bytes_cmp s.receiver t.receiver) (bytes_cmp s.frame t.frame)) where
+      by_case : (o : Ordering) → is_gt (ordering_then (nat_cmp s.moment t.moment) o) ≡ false
+      by_case o = grind (arith, nat_tests)
 
 -- one by a receiver that is not after, of the same moment and frame, is not after
 pub up_to_receiver : (s t : Heard) → s.moment ≡ t.moment → IsUpTo bytes_cmp s.receiver t.receiver
     → s.frame ≡ t.frame → IsUpTo heard_cmp s t
 up_to_receiver s t e h f =
-    told (bytes_cmp s.receiver t.receiver) (bytes_cmp s.frame t.frame) h
+    by_case (bytes_cmp s.receiver t.receiver) (bytes_cmp s.frame t.frame) h
     (subst (λ (q : List ℕ). bytes_cmp s.frame q ≡ Equal) f (tied_itself bytes_total s.frame)) where
-      told : (o p : Ordering) → is_gt o ≡ false → p ≡ Equal
+      by_case : (o p : Ordering) → is_gt o ≡ false → p ≡ Equal
           → is_gt (ordering_then (nat_cmp s.moment t.moment) (ordering_then o p)) ≡ false
-      told Less p h k = grind (arith, nat_tests)
-      told Equal p h k = rw k (grind (arith, nat_tests))
-      told Greater p h k = absurd (cc h)
+      by_case Less p h k = grind (arith, nat_tests)
+      by_case Equal p h k = rw k (grind (arith, nat_tests))
+      by_case Greater p h k = absurd (cc h)
 
 -- receptions of one moment are in the order of their receivers
 pub receiver_up_to : (s t : Heard) → s.moment ≡ t.moment → IsUpTo heard_cmp s t
     → IsUpTo bytes_cmp s.receiver t.receiver
-receiver_up_to s t e h = told (bytes_cmp s.receiver t.receiver) h where
-  told : (o : Ordering)
+receiver_up_to s t e h = by_case (bytes_cmp s.receiver t.receiver) h where
+  by_case : (o : Ordering)
       → is_gt
       (ordering_then (nat_cmp s.moment t.moment) (ordering_then o (bytes_cmp s.frame t.frame)))
       ≡ false → is_gt o ≡ false
-  told Less h = refl
-  told Equal h = refl
-  told Greater h = grind (arith, nat_tests)
+  by_case Less h = refl
+  by_case Equal h = refl
+  by_case Greater h = grind (arith, nat_tests)
 
 -- the order of two frames' keys, by their parts
 pub key_cmp_of_parts : (f g : List ℕ)

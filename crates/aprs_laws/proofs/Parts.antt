@@ -1,4 +1,5 @@
--- What code does with rows: it keeps what lies before, joins what is near, and keeps what lies after.
+-- What code does with rows: it keeps what lies before, joins what is near, and keeps what lies
+-- after.
 use Rattle.std.proofs.Common.{◌≡◌, ℕ, ◌+◌, ◌<◌, ◌≤◌, List, [], ◌∷◌, ◌++◌, inl, inr, sym, refl, ap, ◌∙◌, subst, arith, if◌then◌else◌, false}
 use Rattle.std.specs.Prelude.{nat_lt}
 use Rattle.std.proofs.lemmas.Bool.Decides.{nat_tests}
@@ -12,7 +13,7 @@ use Rattle.aprs_laws.specs.Key.{Key, key_cmp}
 use Rattle.aprs_laws.specs.Row.{Row, row_key, last_of, row_cmp}
 use Rattle.aprs_laws.specs.JoinRow.{choose, IsNear, combine, by_moments, place, join_row}
 use Rattle.aprs_laws.proofs.Lists.{in_right}
-use Rattle.aprs_laws.proofs.Orders.{tells, key_total, key_exact}
+use Rattle.aprs_laws.proofs.Orders.{compared, key_total, key_exact}
 use Rattle.aprs_laws.proofs.Rows.{IsBefore, combined_key, combined_last}
 
 one_key : (x y : Row) → row_key x ≡ row_key y → key_cmp (row_key x) (row_key y) ≡ Equal
@@ -28,7 +29,8 @@ place_before gap x y (inl h) = at_key gap x y Less h
 place_before gap x y (inr h) =
     at_key gap x y Equal (one_key x y h.0) ∙ tests (last_of x) x.first (last_of y) y.first h.1 where
       tests : (a b c d : ℕ) → a + gap < d
-          → (if nat_lt (a + gap) d then Less else if nat_lt (c + gap) b then Greater else Equal) ≡ Less
+          → (if nat_lt (a + gap) d then Less else if nat_lt (c + gap) b then Greater else Equal)
+          ≡ Less
       tests a b c d l = grind (arith, nat_tests)
 
 pub place_near : (gap : ℕ) (x y : Row) → IsNear gap x y → place gap x y ≡ Equal
@@ -36,7 +38,8 @@ place_near gap x y n =
     at_key gap x y Equal (one_key x y n.key)
     ∙ tests (last_of x) x.first (last_of y) y.first n.after n.before where
       tests : (a b c d : ℕ) → d ≤ a + gap → b ≤ c + gap
-          → (if nat_lt (a + gap) d then Less else if nat_lt (c + gap) b then Greater else Equal) ≡ Equal
+          → (if nat_lt (a + gap) d then Less else if nat_lt (c + gap) b then Greater else Equal)
+          ≡ Equal
       tests a b c d l m = grind (arith, nat_tests)
 
 pub place_after : (gap : ℕ) (x y : Row) → x.first ≤ last_of x → y.first ≤ last_of y
@@ -73,11 +76,11 @@ join_past gap (x ∷ a) b r f =
     ∙ ap (λ (ys : List Row). x ∷ ys) (join_past gap a b r (λ y h. f y (inr h)))
 
 -- rows that lie after r stay
-pub join_front : (gap : ℕ) (c : List Row) (r : Row) → r.first ≤ last_of r
+pub join_first : (gap : ℕ) (c : List Row) (r : Row) → r.first ≤ last_of r
     → ((x : Row) → x ∈ c → x.first ≤ last_of x) → ((x : Row) → x ∈ c → IsBefore gap r x)
     → join_row gap c r ≡ r ∷ c
-join_front gap [] r l s f = refl
-join_front gap (x ∷ c) r l s f =
+join_first gap [] r l s f = refl
+join_first gap (x ∷ c) r l s f =
     chosen gap x c r Greater (place_after gap x r (s x (inl refl)) l (f x (inl refl)))
 
 pub near_combined : (gap : ℕ) (x r y : Row) → row_key x ≡ row_key r → IsNear gap y r
@@ -105,7 +108,7 @@ pub join_near : (gap : ℕ) (n c : List Row) (r : Row) → r.first ≤ last_of r
     → ((x : Row) → x ∈ (n ++ c) → x.first ≤ last_of x) → Ordered (IsBefore gap) (n ++ c)
     → ((x : Row) → x ∈ n → IsNear gap x r) → ((x : Row) → x ∈ c → IsBefore gap r x)
     → join_row gap (n ++ c) r ≡ gather n r ∷ c
-join_near gap [] c r l s o f g = join_front gap c r l s g
+join_near gap [] c r l s o f g = join_first gap c r l s g
 join_near gap (x ∷ n) c r l s o f g =
     let e = f x (inl refl) in
     chosen gap x (n ++ c) r Equal (place_near gap x r e)
@@ -127,25 +130,26 @@ join_parts gap a n c r l s o f g h =
 pub before_up_to : (gap : ℕ) (x l r : Row) → IsUpTo row_cmp l r → IsBefore gap x l
     → IsBefore gap x r
 before_up_to gap x l r u b =
-    told (key_cmp (row_key l) (row_key r))
-    (tells key_total key_exact (row_key l) (row_key r)) u b where
-      told : (o : Ordering)
+    by_case (key_cmp (row_key l) (row_key r))
+    (compared key_total key_exact (row_key l) (row_key r)) u b where
+      by_case : (o : Ordering)
           → MatchOrdering o (key_cmp (row_key l) (row_key r) ≡ Less) (row_key l ≡ row_key r)
           (key_cmp (row_key r) (row_key l) ≡ Less)
           → is_gt (ordering_then o (nat_cmp l.first r.first)) ≡ false → IsBefore gap x l
           → IsBefore gap x r
-      told Less h u (inl k) = inl (key_total.trans (row_key x) (row_key l) (row_key r) k h)
-      told Less h u (inr k) = inl (subst (λ (q : Key). key_cmp q (row_key r) ≡ Less) (sym k.0) h)
-      told Equal h u (inl k) = inl (subst (λ (q : Key). key_cmp (row_key x) q ≡ Less) h k)
-      told Equal h u (inr k) = inr (k.0 ∙ h, grind (arith, nat_tests, k.1))
-      told Greater h u b = cc u
+      by_case Less h u (inl k) = inl (key_total.trans (row_key x) (row_key l) (row_key r) k h)
+      by_case Less h u (inr k) = inl (subst (λ (q : Key). key_cmp q (row_key r) ≡ Less) (sym k.0) h)
+      by_case Equal h u (inl k) = inl (subst (λ (q : Key). key_cmp (row_key x) q ≡ Less) h k)
+      by_case Equal h u (inr k) = inr (k.0 ∙ h, grind (arith, nat_tests, k.1))
+      by_case Greater h u b = cc u
 
--- rows that come in order join the last one, or go behind it
-pub join_last : (gap : ℕ) (front : List Row) (l r : Row) → l.first ≤ last_of l → r.first ≤ last_of r
-    → ((x : Row) → x ∈ front → IsBefore gap x l) → IsUpTo row_cmp l r → IsNear gap l r
-    → join_row gap (front ++ l ∷ []) r ≡ front ++ combine l r ∷ []
-join_last gap front l r sl sr f u n =
-    join_parts gap front (l ∷ []) [] r sr
+-- rows that come in order join the last one, or come after it
+pub join_last : (gap : ℕ) (prefix : List Row) (l r : Row) → l.first ≤ last_of l
+    → r.first ≤ last_of r
+    → ((x : Row) → x ∈ prefix → IsBefore gap x l) → IsUpTo row_cmp l r → IsNear gap l r
+    → join_row gap (prefix ++ l ∷ []) r ≡ prefix ++ combine l r ∷ []
+join_last gap prefix l r sl sr f u n =
+    join_parts gap prefix (l ∷ []) [] r sr
     (λ x h. elim h [ inl e ↦ subst (λ (z : Row). z.first ≤ last_of z) e sl | inr k ↦ absurd k ])
     (λ y h. absurd h, tt)
     (λ x h. before_up_to gap x l r u (f x h))

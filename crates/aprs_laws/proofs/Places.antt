@@ -64,7 +64,7 @@ ordered_drop R zero xs o = o
 ordered_drop R (suc i) [] o = tt
 ordered_drop R (suc i) (x ∷ xs) o = ordered_drop R i xs o.1
 
--- a member is in the front or in the rest
+-- a member is in the prefix or in the rest
 pub in_cut : {X : Type 0} (i : ℕ) (xs : List X) (z : X)
     → (z ∈ xs) ↔ ((z ∈ take i xs) ⊎ (z ∈ drop i xs))
 in_cut zero xs z = (λ h. inr h, λ h. elim h [ inl k ↦ absurd k | inr k ↦ k ])

@@ -43,15 +43,15 @@ two_relations gap rows s = record {
   far x y (inr h) e = h.1
 
 -- what is before all of some rows is known by the last of them
-pub before_last : (gap : ℕ) (front : List Row) (l x : Row)
-    → Ordered (IsBefore gap) (front ++ l ∷ []) → l.first ≤ last_of l → IsBefore gap l x → (y : Row)
-    → y ∈ (front ++ l ∷ []) → IsBefore gap y x
+pub before_last : (gap : ℕ) (prefix : List Row) (l x : Row)
+    → Ordered (IsBefore gap) (prefix ++ l ∷ []) → l.first ≤ last_of l → IsBefore gap l x → (y : Row)
+    → y ∈ (prefix ++ l ∷ []) → IsBefore gap y x
 before_last gap [] l x o s b y h =
     elim h [ inl e ↦ subst (λ (z : Row). IsBefore gap z x) e b | inr k ↦ absurd k ]
-before_last gap (w ∷ front) l x o s b y h = elim h [
+before_last gap (w ∷ prefix) l x o s b y h = elim h [
   | inl e ↦ subst (λ (z : Row). IsBefore gap z x) e
-      (before_trans gap w l x s (o.0 l (in_right l front (l ∷ []) (inl refl))) b)
-  | inr k ↦ before_last gap front l x o.1 s b y k
+      (before_trans gap w l x s (o.0 l (in_right l prefix (l ∷ []) (inl refl))) b)
+  | inr k ↦ before_last gap prefix l x o.1 s b y k
 ]
 
 pub push_first : (gap : ℕ) (x : Row) → IsSoundRow x → Sound gap (x ∷ [])
@@ -64,23 +64,23 @@ push_first gap x w =
           λ y h. elim h [ inl e ↦ subst (λ (z : Row). IsSoundRow z) e w | inr k ↦ absurd k ];
     })
 
-pub push_sound : (gap : ℕ) (front : List Row) (l x : Row) → Sound gap (front ++ l ∷ [])
-    → IsBelow row_cmp l x → IsFar gap l x → IsSoundRow x → Sound gap ((front ++ l ∷ []) ++ x ∷ [])
-push_sound gap front l x s b f w =
-    let i = one_relation gap (front ++ l ∷ []) s in
-    let span : l.first ≤ last_of l = (s.each l (in_right l front (l ∷ []) (inl refl))).in_order in
-    two_relations gap ((front ++ l ∷ []) ++ x ∷ []) (record {
+pub push_sound : (gap : ℕ) (prefix : List Row) (l x : Row) → Sound gap (prefix ++ l ∷ [])
+    → IsBelow row_cmp l x → IsFar gap l x → IsSoundRow x → Sound gap ((prefix ++ l ∷ []) ++ x ∷ [])
+push_sound gap prefix l x s b f w =
+    let i = one_relation gap (prefix ++ l ∷ []) s in
+    let span : l.first ≤ last_of l = (s.each l (in_right l prefix (l ∷ []) (inl refl))).in_order in
+    two_relations gap ((prefix ++ l ∷ []) ++ x ∷ []) (record {
       ordered =
-          ordered_append (IsBefore gap) (front ++ l ∷ []) (x ∷ []) i.ordered (λ y h. absurd h, tt)
+          ordered_append (IsBefore gap) (prefix ++ l ∷ []) (x ∷ []) i.ordered (λ y h. absurd h, tt)
           (λ y z h k. elim k [
             | inl e ↦ subst (λ (q : Row). IsBefore gap y q) e
-                (before_last gap front l x i.ordered span
+                (before_last gap prefix l x i.ordered span
                 (before_of_sound gap l x b f) y h)
             | inr j ↦ absurd j
           ]);
       each =
           λ y h. elim
-          (in_either y (front ++ l ∷ [])
+          (in_either y (prefix ++ l ∷ [])
           (x ∷ []) h) [
             | inl k ↦ s.each y k
             | inr k ↦ elim k [
@@ -91,32 +91,32 @@ push_sound gap front l x s b f w =
           ];
     })
 
--- ---- the other way round: what rows with one more row tell of it
+-- ---- the other way round: what follows of a row after sound rows
 
-front_ordered : {X : Type 0} (R : X → X → Type 0) (xs ys : List X) → Ordered R (xs ++ ys)
+prefix_ordered : {X : Type 0} (R : X → X → Type 0) (xs ys : List X) → Ordered R (xs ++ ys)
     → (x y : X) → x ∈ xs → y ∈ ys → R x y
-front_ordered R [] ys o x y h k = absurd h
-front_ordered {X} R (z ∷ xs) ys o x y (inl e) k =
+prefix_ordered R [] ys o x y h k = absurd h
+prefix_ordered {X} R (z ∷ xs) ys o x y (inl e) k =
     subst (λ (w : X). R w y) e (o.0 y (in_right y xs ys k))
-front_ordered R (z ∷ xs) ys o x y (inr h) k = front_ordered R xs ys o.1 x y h k
+prefix_ordered R (z ∷ xs) ys o x y (inr h) k = prefix_ordered R xs ys o.1 x y h k
 
 pub next_of_sound : (gap : ℕ) (rows : List Row) (x : Row) → Sound gap (rows ++ x ∷ [])
     → IsNext gap rows x
 next_of_sound gap rows x s = record {
   own = s.each x (in_right x rows (x ∷ []) (inl refl));
   after =
-      λ front l e.
-      (lies (IsBelow row_cmp) s.ascending front l e, lies (IsFar gap) s.apart front l e);
+      λ prefix l e.
+      (lies (IsBelow row_cmp) s.ascending prefix l e, lies (IsFar gap) s.apart prefix l e);
 } where
-  lies : (R : Row → Row → Type 0) → Ordered R (rows ++ x ∷ []) → (front : List Row) (l : Row)
-      → rows ≡ front ++ l ∷ [] → R l x
-  lies R o front l e =
-      front_ordered R rows (x ∷ []) o l x
-      (subst (λ (xs : List Row). l ∈ xs) (sym e) (in_right l front (l ∷ []) (inl refl))) (inl refl)
+  lies : (R : Row → Row → Type 0) → Ordered R (rows ++ x ∷ []) → (prefix : List Row) (l : Row)
+      → rows ≡ prefix ++ l ∷ [] → R l x
+  lies R o prefix l e =
+      prefix_ordered R rows (x ∷ []) o l x
+      (subst (λ (xs : List Row). l ∈ xs) (sym e) (in_right l prefix (l ∷ []) (inl refl))) (inl refl)
 
 -- rows are none, or have a last one
 pub empty_or_last : {X : Type 0} (xs : List X)
-    → (xs ≡ []) ⊎ ((front : List X) × (l : X) × (xs ≡ front ++ l ∷ []))
+    → (xs ≡ []) ⊎ ((prefix : List X) × (l : X) × (xs ≡ prefix ++ l ∷ []))
 empty_or_last [] = inl refl
 empty_or_last (x ∷ xs) = elim (empty_or_last xs) [
   | inl e ↦ inr ([], x, ap (λ ys. x ∷ ys) e)
@@ -136,13 +136,13 @@ pub push_exactly : (gap : ℕ) (rows : List Row) (x : Row) → Sound gap rows
     → Sound gap (rows ++ x ∷ []) ↔ IsNext gap rows x
 push_exactly gap rows x s = (next_of_sound gap rows x, sound_of_next gap rows x s)
 
--- a front of sound rows is sound
-pub sound_front : (gap : ℕ) (rows more : List Row) → Sound gap (rows ++ more) → Sound gap rows
-sound_front gap rows more s = record {
-  ascending = front (IsBelow row_cmp) rows s.ascending;
-  apart = front (IsFar gap) rows s.apart;
+-- a prefix of sound rows is sound
+pub sound_prefix : (gap : ℕ) (rows more : List Row) → Sound gap (rows ++ more) → Sound gap rows
+sound_prefix gap rows more s = record {
+  ascending = kept (IsBelow row_cmp) rows s.ascending;
+  apart = kept (IsFar gap) rows s.apart;
   each = λ x h. s.each x (in_left x rows more h);
 } where
-  front : (R : Row → Row → Type 0) (xs : List Row) → Ordered R (xs ++ more) → Ordered R xs
-  front R [] o = tt
-  front R (x ∷ xs) o = (λ y h. o.0 y (in_left y xs more h), front R xs o.1)
+  kept : (R : Row → Row → Type 0) (xs : List Row) → Ordered R (xs ++ more) → Ordered R xs
+  kept R [] o = tt
+  kept R (x ∷ xs) o = (λ y h. o.0 y (in_left y xs more h), kept R xs o.1)

@@ -14,7 +14,7 @@ use Rattle.aprs_laws.specs.Key.{Key, key_of, key_cmp}
 use Rattle.aprs_laws.specs.Row.{Row, row_key, last_of, IsOf}
 use Rattle.aprs_laws.specs.JoinRow.{choose, greater, IsNear, combine, by_moments, place}
 use Rattle.aprs_laws.proofs.Lists.{in_left, in_right, in_either}
-use Rattle.aprs_laws.proofs.Orders.{tells, key_total, key_exact, bytes_total, bytes_exact, heard_total, moment_up_to}
+use Rattle.aprs_laws.proofs.Orders.{compared, key_total, key_exact, bytes_total, bytes_exact, heard_total, moment_up_to}
 use Rattle.aprs_laws.proofs.Choices.{in_union, union_ordered}
 
 -- X is one transmission, and x its row
@@ -134,13 +134,13 @@ module _ (gap : ℕ) (X Y : List Heard) (x y z : Row) (mx : Makes gap X x) (my :
 -- the greater of two receptions, and that it is
 pub the_greater : (a b : Heard)
     → ((greater a b ≡ a) × IsUpTo heard_cmp b a) ⊎ ((greater a b ≡ b) × IsUpTo heard_cmp a b)
-the_greater a b = told (heard_cmp a b) refl where
-  told : (o : Ordering) → heard_cmp a b ≡ o
+the_greater a b = by_case (heard_cmp a b) refl where
+  by_case : (o : Ordering) → heard_cmp a b ≡ o
       → ((choose o b a a ≡ a) × IsUpTo heard_cmp b a) ⊎
       ((choose o b a a ≡ b) × IsUpTo heard_cmp a b)
-  told Less h = inr (refl, ap is_gt h)
-  told Equal h = inl (refl, ap is_gt (tied_back heard_total a b h))
-  told Greater h = inl (refl, ap is_gt (heard_total.antisymm b a ∙ ap ordering_reverse h))
+  by_case Less h = inr (refl, ap is_gt h)
+  by_case Equal h = inl (refl, ap is_gt (tied_back heard_total a b h))
+  by_case Greater h = inl (refl, ap is_gt (heard_total.antisymm b a ∙ ap ordering_reverse h))
 
 -- of two rows of one key
 pub combined_key : (x y : Row) → row_key x ≡ row_key y → row_key (combine x y) ≡ row_key x
@@ -171,11 +171,11 @@ combines gap X Y x y e mx my = record {
   greatest = the_greater x.greatest y.greatest;
 }
 
-pub place_tells : (gap : ℕ) (x y : Row)
+pub place_means : (gap : ℕ) (x y : Row)
     → MatchOrdering (place gap x y) (IsBefore gap x y) (IsNear gap x y) (IsBefore gap y x)
-place_tells gap x y =
+place_means gap x y =
     by_key (key_cmp (row_key x) (row_key y))
-    (tells key_total key_exact (row_key x) (row_key y)) where
+    (compared key_total key_exact (row_key x) (row_key y)) where
       by_moment : (e : row_key x ≡ row_key y) (p q : Bool) → nat_lt (last_of x + gap) y.first ≡ p
           → nat_lt (last_of y + gap) x.first ≡ q
           → MatchOrdering (if p then Less else if q then Greater else Equal) (IsBefore gap x y)
@@ -192,7 +192,8 @@ place_tells gap x y =
           (IsBefore gap y x)
       by_key Less h = inl h
       by_key Equal h =
-          by_moment h (nat_lt (last_of x + gap) y.first) (nat_lt (last_of y + gap) x.first) refl refl
+          by_moment h (nat_lt (last_of x + gap) y.first)
+          (nat_lt (last_of y + gap) x.first) refl refl
       by_key Greater h = inl h
 
 -- what is before x is before what x and y make, if it is before both

@@ -7,10 +7,10 @@ use Rattle.aprs_laws.specs.Run.{Run}
 use Rattle.aprs_laws.specs.Row.{Row, row_key, last_of}
 use Rattle.aprs_laws.specs.Book.{BookOf}
 use Rattle.aprs_laws.specs.Sound.{Sound}
-use Rattle.aprs_laws.specs.Real.{real}
+use Rattle.aprs_laws.specs.Witnesses.{witnesses}
 use Rattle.aprs_laws.specs.BookLaws.{IsRowAt, HasOneRowEach}
 use Rattle.aprs_laws.proofs.Books.{runs_same, rows_same, book_of_keeps, book_carries}
-use Rattle.aprs_laws.proofs.Soundness.{sound, realised}
+use Rattle.aprs_laws.proofs.Soundness.{sound, witnessed}
 use Rattle.aprs_laws.proofs.Unions.{around, congruence}
 use Rattle.aprs_laws.proofs.Views.{a_row}
 
@@ -29,7 +29,8 @@ one_row_each gap S rows b =
           (omega arith) r.in_order (omega (arith, h.3, t.2.from)) (omega (arith, h.3, t.2.to)) in
           (t.0, t.1, record { key_of_row = e; first_of_row = sym ends.0; last_of_row = sym ends.1 })
 
-      only : (k : Key) (f l : ℕ) (x y : Row) → x ∈ rows → y ∈ rows → IsRowAt k f l x → IsRowAt k f l y
+      only : (k : Key) (f l : ℕ) (x y : Row) → x ∈ rows → y ∈ rows → IsRowAt k f l x
+          → IsRowAt k f l y
           → x ≡ y
       only k f l x y hx hy ix iy =
           let p = (b.exactly x).0 hx in
@@ -57,7 +58,7 @@ empty_book gap S = (
 
 pub sound_exactly : (gap : ℕ) → 0 < gap → (p : List Row)
     → Sound gap p ↔ ((S : List Heard) × BookOf gap S p)
-sound_exactly gap pos p = (λ s. (real p, realised gap p pos s), λ t. sound gap t.0 p t.1)
+sound_exactly gap pos p = (λ s. (witnesses p, witnessed gap p pos s), λ t. sound gap t.0 p t.1)
 
 -- the book of a union depends on the books alone
 pub books_decide_union : (gap : ℕ) (S S' T T' : List Heard) (p q c : List Row) → BookOf gap S p
@@ -70,10 +71,10 @@ books_decide_union gap S S' T T' p q c bs bs' bt bt' b =
 
 -- and is the joined value of the books
 pub union_is_joined : (gap : ℕ) → 0 < gap → (S T : List Heard) (a b c : List Row) → BookOf gap S a
-    → BookOf gap T b → BookOf gap (S ++ T) c ↔ BookOf gap (real a ++ real b) c
+    → BookOf gap T b → BookOf gap (S ++ T) c ↔ BookOf gap (witnesses a ++ witnesses b) c
 union_is_joined gap pos S T a b c p q =
-    let ra = realised gap a pos (sound gap S a p) in
-    let rb = realised gap b pos (sound gap T b q) in (
-      λ h. books_decide_union gap S (real a) T (real b) a b c p ra q rb h,
-      λ h. books_decide_union gap (real a) S (real b) T a b c ra p rb q h,
+    let ra = witnessed gap a pos (sound gap S a p) in
+    let rb = witnessed gap b pos (sound gap T b q) in (
+      λ h. books_decide_union gap S (witnesses a) T (witnesses b) a b c p ra q rb h,
+      λ h. books_decide_union gap (witnesses a) S (witnesses b) T a b c ra p rb q h,
     )

@@ -21,11 +21,12 @@ use Rattle.aprs_laws.proofs.Soundness.{exists}
 
 -- moments in two units lie alike
 scaled_cmp : (a b k : ℕ) → 0 < k → nat_cmp (a * k) (b * k) ≡ nat_cmp a b
-scaled_cmp a b k pos = nat_cmp_is a b (nat_cmp (a * k) (b * k)) (told (nat_cmp (a * k) (b * k)) refl) where
-  told : (o : Ordering) → nat_cmp (a * k) (b * k) ≡ o → MatchOrdering o (a < b) (a ≡ b) (b < a)
-  told Less h = lt_of_mul-lt-mul_right k (grind (arith, nat_tests))
-  told Equal h = eq_of_mul-eq-mul_right k pos a b (exact_unsigned (a * k) (b * k) h)
-  told Greater h = lt_of_mul-lt-mul_right k (grind (arith, nat_tests))
+scaled_cmp a b k pos = nat_cmp_is a b (nat_cmp (a * k) (b * k))
+    (by_case (nat_cmp (a * k) (b * k)) refl) where
+      by_case : (o : Ordering) → nat_cmp (a * k) (b * k) ≡ o → MatchOrdering o (a < b) (a ≡ b) (b < a)
+      by_case Less h = lt_of_mul-lt-mul_right k (grind (arith, nat_tests))
+      by_case Equal h = eq_of_mul-eq-mul_right k pos a b (exact_unsigned (a * k) (b * k) h)
+      by_case Greater h = lt_of_mul-lt-mul_right k (grind (arith, nat_tests))
 
 scaled_heard_cmp : (k : ℕ) (s t : Heard) → 0 < k
     → heard_cmp (scaled_heard k s) (scaled_heard k t) ≡ heard_cmp s t
@@ -86,7 +87,8 @@ module _ (k gap : ℕ) (pos : 0 < k) where
     linked = scaled_linked X x m;
     ascending = m.ascending;
     receivers = λ r. (
-      λ h. let t = (m.receivers r).0 h in (scaled_heard k t.0, in_map (scaled_heard k) t.0 X t.1, t.2),
+      λ h. let t = (m.receivers r).0 h in
+          (scaled_heard k t.0, in_map (scaled_heard k) t.0 X t.1, t.2),
       λ t. let u = from_map (scaled_heard k) t.0 X t.1 in
           (m.receivers r).1 (u.0, u.1, ap (λ (s : Heard). s.receiver) u.2 ∙ t.2),
     );

@@ -12,7 +12,7 @@ use Rattle.aprs_laws.specs.Key.{Key, key_cmp}
 use Rattle.aprs_laws.specs.Row.{Row, row_key, last_of, IsOf, row_cmp}
 use Rattle.aprs_laws.specs.Book.{BookOf}
 use Rattle.aprs_laws.specs.Sound.{IsSoundRow, IsFar, Sound}
-use Rattle.aprs_laws.specs.Real.{moments, at_moment, by_receiver, real_row, real}
+use Rattle.aprs_laws.specs.Witnesses.{moments, witness_at, witness_by, witnesses_of_row, witnesses}
 use Rattle.aprs_laws.specs.JoinRow.{plain_book}
 use Rattle.aprs_laws.proofs.Lists.{in_left, in_right, in_either, in_map, from_map, ordered_weaker}
 use Rattle.aprs_laws.proofs.Orders.{not_both, key_total, key_exact, bytes_total, up_to_moment, up_to_receiver, receiver_up_to}
@@ -64,98 +64,99 @@ from_moments m a (suc n) (inr h) =
     let k = from_moments m (a + 1) n h in (omega (arith, k), omega (arith, k))
 
 module _ (gap : ℕ) (x : Row) (w : IsSoundRow x) (pos : 0 < gap) where
-  real_at : (m : ℕ) → x.first ≤ m → m ≤ last_of x → at_moment x m ∈ real_row x
-  real_at m l u =
-      in_left (at_moment x m) (map (at_moment x) (moments x.first (last_of x - x.first + 1)))
-      (map (by_receiver x) x.receivers)
-      (in_map (at_moment x) m (moments x.first (last_of x - x.first + 1))
+  has_witness_at : (m : ℕ) → x.first ≤ m → m ≤ last_of x → witness_at x m ∈ witnesses_of_row x
+  has_witness_at m l u =
+      in_left (witness_at x m) (map (witness_at x) (moments x.first (last_of x - x.first + 1)))
+      (map (witness_by x) x.receivers)
+      (in_map (witness_at x) m (moments x.first (last_of x - x.first + 1))
       (in_moments m x.first (last_of x - x.first + 1) l (omega arith)))
 
-  real_by : (r : List ℕ) → r ∈ x.receivers → by_receiver x r ∈ real_row x
-  real_by r h =
-      in_right (by_receiver x r) (map (at_moment x) (moments x.first (last_of x - x.first + 1)))
-      (map (by_receiver x) x.receivers) (in_map (by_receiver x) r x.receivers h)
+  has_witness_by : (r : List ℕ) → r ∈ x.receivers → witness_by x r ∈ witnesses_of_row x
+  has_witness_by r h =
+      in_right (witness_by x r) (map (witness_at x) (moments x.first (last_of x - x.first + 1)))
+      (map (witness_by x) x.receivers) (in_map (witness_by x) r x.receivers h)
 
-  -- each real reception is one of these
-  real_from : (P : Heard → Type 0) → ((m : ℕ) → x.first ≤ m → m ≤ last_of x → P (at_moment x m))
-      → ((r : List ℕ) → r ∈ x.receivers → P (by_receiver x r)) → (s : Heard) → s ∈ real_row x → P s
-  real_from P f g s h =
+  -- each witness is one of these
+  from_witness : (P : Heard → Type 0) → ((m : ℕ) → x.first ≤ m → m ≤ last_of x → P (witness_at x m))
+      → ((r : List ℕ) → r ∈ x.receivers → P (witness_by x r)) → (s : Heard) → s ∈ witnesses_of_row x
+      → P s
+  from_witness P f g s h =
       elim
-      (in_either s (map (at_moment x) (moments x.first (last_of x - x.first + 1)))
-      (map (by_receiver x) x.receivers) h) [
-        | inl k ↦ let t = from_map (at_moment x) s (moments x.first (last_of x - x.first + 1)) k in
+      (in_either s (map (witness_at x) (moments x.first (last_of x - x.first + 1)))
+      (map (witness_by x) x.receivers) h) [
+        | inl k ↦ let t = from_map (witness_at x) s (moments x.first (last_of x - x.first + 1)) k in
             let u = from_moments t.0 x.first (last_of x - x.first + 1) t.1 in
             subst P t.2 (f t.0 u.0 (omega (arith, u, w.in_order)))
-        | inr k ↦ let t = from_map (by_receiver x) s x.receivers k in subst P t.2 (g t.0 t.1)
+        | inr k ↦ let t = from_map (witness_by x) s x.receivers k in subst P t.2 (g t.0 t.1)
       ]
 
-  real_greatest : (s : Heard) → s ∈ real_row x → IsUpTo heard_cmp s x.greatest
-  real_greatest = real_from (λ s. IsUpTo heard_cmp s x.greatest)
+  greatest_witness : (s : Heard) → s ∈ witnesses_of_row x → IsUpTo heard_cmp s x.greatest
+  greatest_witness = from_witness (λ s. IsUpTo heard_cmp s x.greatest)
       (λ m l u. elim (cases_lt m (last_of x)) [
-        | inl c ↦ up_to_moment (at_moment x m) x.greatest (omega arith)
-        | inr c ↦ up_to_receiver (at_moment x m) x.greatest (omega arith)
+        | inl c ↦ up_to_moment (witness_at x m) x.greatest (omega arith)
+        | inr c ↦ up_to_receiver (witness_at x m) x.greatest (omega arith)
             (ap is_gt (tied_itself bytes_total x.greatest.receiver)) refl
       ])
       (λ r h. elim (cases_lt x.first (last_of x)) [
-        | inl c ↦ up_to_moment (by_receiver x r) x.greatest (omega arith)
+        | inl c ↦ up_to_moment (witness_by x r) x.greatest (omega arith)
         | inr c ↦ let e : x.first ≡ last_of x =
             omega (arith, w.in_order) in
-            up_to_receiver (by_receiver x r) x.greatest (omega arith) (w.single e r h) refl
+            up_to_receiver (witness_by x r) x.greatest (omega arith) (w.single e r h) refl
       ])
 
-  pub makes_real : Makes gap (real_row x) x
-  makes_real = record {
-    own = real_from (λ s. IsOf x s)
+  pub witnesses_make : Makes gap (witnesses_of_row x) x
+  witnesses_make = record {
+    own = from_witness (λ s. IsOf x s)
         (λ m l u. record { key = refl; from = l; to = u })
         (λ r h. record { key = refl; from = omega arith; to = w.in_order });
-    at_first = (at_moment x x.first, real_at x.first (omega arith) w.in_order, refl);
+    at_first = (witness_at x x.first, has_witness_at x.first (omega arith) w.in_order, refl);
     linked =
         λ m l u. (
-          at_moment x (m + 1),
-          real_at (m + 1) (omega arith)
+          witness_at x (m + 1),
+          has_witness_at (m + 1) (omega arith)
               (omega arith),
           omega arith,
           omega arith,
         );
     ascending = w.ascending;
     receivers = λ r. (
-      λ h. (by_receiver x r, real_by r h, refl),
+      λ h. (witness_by x r, has_witness_by r h, refl),
       λ t. subst (λ (q : List ℕ). q ∈ x.receivers) t.2
-          (real_from (λ s. s.receiver ∈ x.receivers) (λ m l u. w.receiver) (λ q h. h) t.0 t.1),
+          (from_witness (λ s. s.receiver ∈ x.receivers) (λ m l u. w.receiver) (λ q h. h) t.0 t.1),
     );
-    member = real_at (last_of x) w.in_order (omega arith);
-    greatest = real_greatest;
+    member = has_witness_at (last_of x) w.in_order (omega arith);
+    greatest = greatest_witness;
   }
 
-pub made_real : (gap : ℕ) → 0 < gap → (rows : List Row) → ((x : Row) → x ∈ rows → IsSoundRow x)
-    → Made gap (real rows) rows
-made_real gap pos [] w = λ s h. h
-made_real gap pos (x ∷ xs) w = (
-  real_row x,
-  real xs,
-  appended (real_row x) (real xs),
-  makes_real gap x
+pub witnesses_made : (gap : ℕ) → 0 < gap → (rows : List Row) → ((x : Row) → x ∈ rows → IsSoundRow x)
+    → Made gap (witnesses rows) rows
+witnesses_made gap pos [] w = λ s h. h
+witnesses_made gap pos (x ∷ xs) w = (
+  witnesses_of_row x,
+  witnesses xs,
+  appended (witnesses_of_row x) (witnesses xs),
+  witnesses_make gap x
       (w x (inl refl)) pos,
-  made_real gap pos xs (λ y h. w y (inr h)),
+  witnesses_made gap pos xs (λ y h. w y (inr h)),
 )
 
 pub before_of_sound : (gap : ℕ) (x y : Row) → IsBelow row_cmp x y → IsFar gap x y → IsBefore gap x y
-before_of_sound gap x y b f = told (key_cmp (row_key x) (row_key y)) refl b where
-  told : (o : Ordering) → key_cmp (row_key x) (row_key y) ≡ o
+before_of_sound gap x y b f = by_case (key_cmp (row_key x) (row_key y)) refl b where
+  by_case : (o : Ordering) → key_cmp (row_key x) (row_key y) ≡ o
       → ordering_then o (nat_cmp x.first y.first) ≡ Less → IsBefore gap x y
-  told Less h k = inl h
-  told Equal h k = let e = key_exact (row_key x) (row_key y) h in inr (e, f e)
-  told Greater h k = cc k
+  by_case Less h k = inl h
+  by_case Equal h k = let e = key_exact (row_key x) (row_key y) h in inr (e, f e)
+  by_case Greater h k = cc k
 
 pub both : (R Q : Row → Row → Type 0) (xs : List Row) → Ordered R xs → Ordered Q xs
     → Ordered (λ x y. R x y × Q x y) xs
 both R Q [] o p = tt
 both R Q (x ∷ xs) o p = (λ y h. (o.0 y h, p.0 y h), both R Q xs o.1 p.1)
 
-pub keeps_real : (gap : ℕ) → 0 < gap → (rows : List Row) → Sound gap rows
-    → Keeps gap (real rows) rows
-keeps_real gap pos rows w = record {
-  made = made_real gap pos rows w.each;
+pub witnesses_keep : (gap : ℕ) → 0 < gap → (rows : List Row) → Sound gap rows
+    → Keeps gap (witnesses rows) rows
+witnesses_keep gap pos rows w = record {
+  made = witnesses_made gap pos rows w.each;
   ordered =
       ordered_weaker (λ x y. IsBelow row_cmp x y × IsFar gap x y) (IsBefore gap) rows
       (λ x y hx hy h. before_of_sound gap x y h.0 h.1)
@@ -165,8 +166,8 @@ keeps_real gap pos rows w = record {
 pub sound : (gap : ℕ) (S : List Heard) (p : List Row) → BookOf gap S p → Sound gap p
 sound gap S p b = sound_of_keeps gap S p (keeps_of_book gap S p b)
 
-pub realised : (gap : ℕ) (p : List Row) → 0 < gap → Sound gap p → BookOf gap (real p) p
-realised gap p pos w = book_of_keeps gap (real p) p (keeps_real gap pos p w)
+pub witnessed : (gap : ℕ) (p : List Row) → 0 < gap → Sound gap p → BookOf gap (witnesses p) p
+witnessed gap p pos w = book_of_keeps gap (witnesses p) p (witnesses_keep gap pos p w)
 
 pub exists : (gap : ℕ) (S : List Heard) → (p : List Row) × BookOf gap S p
 exists gap S = (plain_book gap S, book_of_keeps gap S (plain_book gap S) (keeps_book gap S))

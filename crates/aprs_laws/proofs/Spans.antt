@@ -1,4 +1,4 @@
--- The rows of a book tell from when to when something was heard.
+-- From when to when something was heard, by the rows of a book.
 use Rattle.std.proofs.Common.{◌≡◌, ℕ, List, ◌↔◌, sym, subst, arith}
 use Rattle.aprs_log.specs.Reception.{Heard}
 use Rattle.aprs_laws.specs.Lists.{◌∈◌}
@@ -13,14 +13,15 @@ module _ (gap : ℕ) (S : List Heard) (rows : List Row) (P : Key → Type 0) (b 
     -- a reception at the first moment of a row
     at_first : (x : Row) → x ∈ rows → P (row_key x)
         → (s : Heard) × (s ∈ S) × P (key_of s.frame) × (s.moment ≡ x.first)
-    at_first x h k = let t = ((b.exactly x).0 h).run.at_first in (t.0, t.1, subst P (sym t.2) k, t.3)
+    at_first x h k = let t = ((b.exactly x).0 h).run.at_first in
+        (t.0, t.1, subst P (sym t.2) k, t.3)
 
     at_last : (x : Row) → x ∈ rows → P (row_key x)
         → (s : Heard) × (s ∈ S) × P (key_of s.frame) × (s.moment ≡ last_of x)
     at_last x h k = let t = ((b.exactly x).0 h).run.at_last in (t.0, t.1, subst P (sym t.2) k, t.3)
 
-    first_told : (m : ℕ) → IsFirstMoment S P m → IsLeastFirst rows P m
-    first_told m f =
+    first_shown : (m : ℕ) → IsFirstMoment S P m → IsLeastFirst rows P m
+    first_shown m f =
         let s = f.heard in
         let t = a_row gap S rows b s.0 s.1 in
         let k = subst P t.2.key s.2 in
@@ -42,8 +43,8 @@ module _ (gap : ℕ) (S : List Heard) (rows : List Row) (P : Key → Type 0) (b 
               omega (arith, f.least u.0 u.1 (subst P u.2.key q), u.2.from);
         }
 
-    last_told : (m : ℕ) → IsLastMoment S P m → IsGreatestLast rows P m
-    last_told m f =
+    last_shown : (m : ℕ) → IsLastMoment S P m → IsGreatestLast rows P m
+    last_shown m f =
         let s = f.heard in
         let t = a_row gap S rows b s.0 s.1 in
         let k = subst P t.2.key s.2 in
@@ -66,7 +67,7 @@ module _ (gap : ℕ) (S : List Heard) (rows : List Row) (P : Key → Type 0) (b 
         }
 
     pub first_moment : (m : ℕ) → IsFirstMoment S P m ↔ IsLeastFirst rows P m
-    first_moment m = (first_told m, first_known m)
+    first_moment m = (first_shown m, first_known m)
 
     pub last_moment : (m : ℕ) → IsLastMoment S P m ↔ IsGreatestLast rows P m
-    last_moment m = (last_told m, last_known m)
+    last_moment m = (last_shown m, last_known m)

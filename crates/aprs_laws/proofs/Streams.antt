@@ -1,4 +1,5 @@
--- Merging in one pass: rows that come by key and first moment, from any number of books, join only the last one so far.
+-- Merging in one pass: rows that come by key and first moment, from any number of books, join only
+-- the last one so far.
 use Rattle.std.proofs.Common.{◌≡◌, ℕ, ◌<◌, ◌≤◌, min, List, [], ◌∷◌, ◌++◌, ◌⊎◌, ◌↔◌, inl, inr, sym, refl, ap, ◌∙◌, subst, arith, false}
 use Rattle.std.proofs.lemmas.Bool.Decides.{nat_tests}
 use Rattle.std.specs.Ordering.{nat_cmp, ordering_then, ordering_reverse, is_gt}
@@ -10,15 +11,15 @@ use Rattle.aprs_laws.specs.Order.{IsUpTo}
 use Rattle.aprs_laws.specs.Key.{Key, key_cmp}
 use Rattle.aprs_laws.specs.Row.{Row, row_key, row_cmp}
 use Rattle.aprs_laws.specs.Sound.{IsSoundRow, Sound}
-use Rattle.aprs_laws.specs.Real.{real_row, real}
+use Rattle.aprs_laws.specs.Witnesses.{witnesses_of_row, witnesses}
 use Rattle.aprs_laws.specs.Joining.{Joined}
 use Rattle.aprs_laws.specs.JoinRow.{combine, place, coalesce}
 use Rattle.aprs_laws.proofs.Lists.{in_left, in_right, in_either}
 use Rattle.aprs_laws.proofs.Choices.{by_choice}
-use Rattle.aprs_laws.proofs.Rows.{Makes, IsBefore, combined, combined_key, combines, place_tells, before_combined}
+use Rattle.aprs_laws.proofs.Rows.{Makes, IsBefore, combined, combined_key, combines, place_means, before_combined}
 use Rattle.aprs_laws.proofs.Made.{IsUnion, Made, span}
 use Rattle.aprs_laws.proofs.Books.{below, row_total, book_of_keeps, book_carries}
-use Rattle.aprs_laws.proofs.Soundness.{made_real}
+use Rattle.aprs_laws.proofs.Soundness.{witnesses_made}
 use Rattle.aprs_laws.proofs.Parts.{before_up_to}
 
 -- U = L + (X + T) is (L + X) + T
@@ -46,7 +47,7 @@ pub made_coalesce : (gap : ℕ) (U L T : List Heard) (l : Row) (xs : List Row) �
 made_coalesce gap U L T l [] u ml m = (L, T, u, ml, m)
 made_coalesce gap U L T l (x ∷ xs) u ml m =
     by_choice (λ (rows : List Row). Made gap U rows) _ _ _ _ _ _ (place gap l x)
-    (place_tells gap l x)
+    (place_means gap l x)
     (λ _. (L, T, u, ml, made_coalesce gap T m.0 m.1 x xs m.2 m.3 m.4))
     (λ n. made_coalesce gap U (L ++ m.0) m.1 (combine l x) xs (joined_left U L m.0 m.1 T u m.2)
     (combined gap L m.0 l x (combine l x) ml m.3 n (combines gap L m.0 l x n.key ml m.3)) m.4)
@@ -65,12 +66,12 @@ combined_up_to l x y e u =
     (λ (k : Key). is_gt
     (ordering_then (key_cmp k (row_key y)) (nat_cmp (min l.first x.first) y.first)) ≡ false)
     (sym (combined_key l x e))
-    (told (key_cmp (row_key l) (row_key y)) l.first x.first y.first u) where
-      told : (o : Ordering) (a b c : ℕ) → is_gt (ordering_then o (nat_cmp a c)) ≡ false
+    (by_case (key_cmp (row_key l) (row_key y)) l.first x.first y.first u) where
+      by_case : (o : Ordering) (a b c : ℕ) → is_gt (ordering_then o (nat_cmp a c)) ≡ false
           → is_gt (ordering_then o (nat_cmp (min a b) c)) ≡ false
-      told Less a b c u = refl
-      told Equal a b c u = up (min a b) c (let n = down a c u in omega arith)
-      told Greater a b c u = u
+      by_case Less a b c u = refl
+      by_case Equal a b c u = up (min a b) c (let n = down a c u in omega arith)
+      by_case Greater a b c u = u
 
 pub before_coalesce : (gap : ℕ) (L T : List Heard) (w l : Row) (xs : List Row) → Makes gap L l
     → Made gap T xs → IsBefore gap w l → ((y : Row) → y ∈ xs → IsUpTo row_cmp l y)
@@ -79,7 +80,7 @@ before_coalesce gap L T w l [] ml m b f o =
     λ y i. elim i [ inl e ↦ subst (λ (z : Row). IsBefore gap w z) e b | inr k ↦ absurd k ]
 before_coalesce gap L T w l (x ∷ xs) ml m b f o =
     by_choice (λ (rows : List Row). (y : Row) → y ∈ rows → IsBefore gap w y) _ _ _ _ _ _
-    (place gap l x) (place_tells gap l x)
+    (place gap l x) (place_means gap l x)
     (λ _. λ y i. elim i [
       | inl e ↦ subst
           (λ (z : Row). IsBefore gap w z) e b
@@ -104,9 +105,11 @@ pub ordered_coalesce : (gap : ℕ) (L T : List Heard) (l : Row) (xs : List Row) 
 ordered_coalesce gap L T l [] ml m f o = (λ y h. absurd h, tt)
 ordered_coalesce gap L T l (x ∷ xs) ml m f o =
     by_choice (λ (rows : List Row). Ordered (IsBefore gap) rows) _ _ _ _ _ _ (place gap l x)
-    (place_tells gap l x)
-    (λ b.
-    (before_coalesce gap m.0 m.1 l x xs m.3 m.4 b o.0 o.1, ordered_coalesce gap m.0 m.1 x xs m.3 m.4 o.0 o.1))
+    (place_means gap l x)
+    (λ b. (
+      before_coalesce gap m.0 m.1 l x xs m.3 m.4 b o.0 o.1,
+      ordered_coalesce gap m.0 m.1 x xs m.3 m.4 o.0 o.1,
+    ))
     (λ n. ordered_coalesce gap (L ++ m.0) m.1 (combine l x) xs
     (combined gap L m.0 l x (combine l x) ml m.3 n (combines gap L m.0 l x n.key ml m.3)) m.4
     (λ y h. combined_up_to l x y n.key (f y (inr h))) o.1)
@@ -115,21 +118,23 @@ ordered_coalesce gap L T l (x ∷ xs) ml m f o =
       wrong b u =
           cc (
             ap is_gt
-                (row_total.antisymm l x ∙ ap ordering_reverse (below gap x l (span gap m.0 x m.3) b)),
+                (row_total.antisymm l x ∙ ap ordering_reverse
+                (below gap x l (span gap m.0 x m.3) b)),
             u,
           )
 
-pub in_real : (rows : List Row) (s : Heard)
-    → (s ∈ real rows) ↔ ((x : Row) × (x ∈ rows) × (s ∈ real_row x))
-in_real [] s = (λ h. absurd h, λ t. t.1)
-in_real (x ∷ xs) s = (
-  λ h. elim (in_either s (real_row x) (real xs) h) [
+pub in_witnesses : (rows : List Row) (s : Heard)
+    → (s ∈ witnesses rows) ↔ ((x : Row) × (x ∈ rows) × (s ∈ witnesses_of_row x))
+in_witnesses [] s = (λ h. absurd h, λ t. t.1)
+in_witnesses (x ∷ xs) s = (
+  λ h. elim (in_either s (witnesses_of_row x) (witnesses xs) h) [
     | inl k ↦ (x, inl refl, k)
-    | inr k ↦ let t = (in_real xs s).0 k in (t.0, inr t.1, t.2)
+    | inr k ↦ let t = (in_witnesses xs s).0 k in (t.0, inr t.1, t.2)
   ],
   λ t. elim t.1 [
-    | inl e ↦ in_left s (real_row x) (real xs) (subst (λ (z : Row). s ∈ real_row z) (sym e) t.2)
-    | inr k ↦ in_right s (real_row x) (real xs) ((in_real xs s).1 (t.0, k, t.2))
+    | inl e ↦ in_left s (witnesses_of_row x) (witnesses xs)
+        (subst (λ (z : Row). s ∈ witnesses_of_row z) (sym e) t.2)
+    | inr k ↦ in_right s (witnesses_of_row x) (witnesses xs) ((in_witnesses xs s).1 (t.0, k, t.2))
   ],
 )
 
@@ -138,27 +143,27 @@ pub streamed : (gap : ℕ) → 0 < gap → (a b : List Row) (l : Row) (xs : List
     → Sound gap b → Ordered (IsUpTo row_cmp) (l ∷ xs)
     → ((x : Row) → (x ∈ (l ∷ xs)) ↔ ((x ∈ a) ⊎ (x ∈ b))) → Joined gap a b (coalesce gap l xs)
 streamed gap pos a b l xs v w o e =
-    book_carries gap (real (l ∷ xs)) (real a ++ real b) (coalesce gap l xs) same
-    (book_of_keeps gap (real (l ∷ xs)) (coalesce gap l xs) (record {
-      made = made_coalesce gap (real (l ∷ xs)) m.0 m.1 l xs m.2 m.3 m.4;
+    book_carries gap (witnesses (l ∷ xs)) (witnesses a ++ witnesses b) (coalesce gap l xs) same
+    (book_of_keeps gap (witnesses (l ∷ xs)) (coalesce gap l xs) (record {
+      made = made_coalesce gap (witnesses (l ∷ xs)) m.0 m.1 l xs m.2 m.3 m.4;
       ordered = ordered_coalesce gap m.0 m.1 l xs m.3 m.4 o.0 o.1;
     })) where
       each : (x : Row) → x ∈ (l ∷ xs) → IsSoundRow x
       each x h = elim ((e x).0 h) [ inl k ↦ v.each x k | inr k ↦ w.each x k ]
 
-      m : Made gap (real (l ∷ xs)) (l ∷ xs)
-      m = made_real gap pos (l ∷ xs) each
+      m : Made gap (witnesses (l ∷ xs)) (l ∷ xs)
+      m = witnesses_made gap pos (l ∷ xs) each
 
-      same : (s : Heard) → (s ∈ real (l ∷ xs)) ↔ (s ∈ (real a ++ real b))
+      same : (s : Heard) → (s ∈ witnesses (l ∷ xs)) ↔ (s ∈ (witnesses a ++ witnesses b))
       same s = (
-        λ h. let t = (in_real (l ∷ xs) s).0 h in elim ((e t.0).0 t.1) [
-          | inl k ↦ in_left s (real a) (real b) ((in_real a s).1 (t.0, k, t.2))
-          | inr k ↦ in_right s (real a) (real b) ((in_real b s).1 (t.0, k, t.2))
+        λ h. let t = (in_witnesses (l ∷ xs) s).0 h in elim ((e t.0).0 t.1) [
+          | inl k ↦ in_left s (witnesses a) (witnesses b) ((in_witnesses a s).1 (t.0, k, t.2))
+          | inr k ↦ in_right s (witnesses a) (witnesses b) ((in_witnesses b s).1 (t.0, k, t.2))
         ],
-        λ h. elim (in_either s (real a) (real b) h) [
+        λ h. elim (in_either s (witnesses a) (witnesses b) h) [
           | inl k ↦ let t =
-              (in_real a s).0 k in (in_real (l ∷ xs) s).1 (t.0, (e t.0).1 (inl t.1), t.2)
+              (in_witnesses a s).0 k in (in_witnesses (l ∷ xs) s).1 (t.0, (e t.0).1 (inl t.1), t.2)
           | inr k ↦ let t =
-              (in_real b s).0 k in (in_real (l ∷ xs) s).1 (t.0, (e t.0).1 (inr t.1), t.2)
+              (in_witnesses b s).0 k in (in_witnesses (l ∷ xs) s).1 (t.0, (e t.0).1 (inr t.1), t.2)
         ],
       )

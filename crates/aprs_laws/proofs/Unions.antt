@@ -5,12 +5,12 @@ use Rattle.aprs_laws.specs.Lists.{◌∈◌}
 use Rattle.aprs_laws.specs.Row.{Row}
 use Rattle.aprs_laws.specs.Book.{BookOf}
 use Rattle.aprs_laws.specs.Sound.{Sound}
-use Rattle.aprs_laws.specs.Real.{real}
+use Rattle.aprs_laws.specs.Witnesses.{witnesses}
 use Rattle.aprs_laws.specs.Joining.{Joined}
 use Rattle.aprs_laws.specs.JoinRow.{merge}
 use Rattle.aprs_laws.proofs.Lists.{in_left, in_right, in_either}
 use Rattle.aprs_laws.proofs.Made.{appended, keeps_merge}
-use Rattle.aprs_laws.proofs.Soundness.{realised, sound, exists}
+use Rattle.aprs_laws.proofs.Soundness.{witnessed, sound, exists}
 use Rattle.aprs_laws.proofs.Books.{book_of_keeps, book_carries, one_book, unique, keeps_of_book}
 
 -- the book of S and the book of T merge to that of both
@@ -38,32 +38,33 @@ around S T s = (
 
 pub commutative : (gap : ℕ) (a b c : List Row) → Joined gap a b c → Joined gap b a c
 commutative gap a b c j =
-    book_carries gap (real a ++ real b) (real b ++ real a) c (around (real a) (real b)) j
+    book_carries gap (witnesses a ++ witnesses b) (witnesses b ++ witnesses a) c
+    (around (witnesses a) (witnesses b)) j
 
 pub twice : (gap : ℕ) (a : List Row) → 0 < gap → Sound gap a → Joined gap a a a
 twice gap a pos w =
-    book_carries gap (real a) (real a ++ real a) a
+    book_carries gap (witnesses a) (witnesses a ++ witnesses a) a
     (λ s. (
-      in_left s (real a) (real a),
+      in_left s (witnesses a) (witnesses a),
       λ h. elim
-          (in_either s (real a) (real a) h) [ inl k ↦ k | inr k ↦ k ],
-    )) (realised gap a pos w)
+          (in_either s (witnesses a) (witnesses a) h) [ inl k ↦ k | inr k ↦ k ],
+    )) (witnessed gap a pos w)
 
 pub idempotent : (gap : ℕ) (a x : List Row) → 0 < gap → Sound gap a → (Joined gap a a x ↔ (x ≡ a))
 idempotent gap a x pos w = (
-  λ j. one_book gap (real a ++ real a) x a j (twice gap a pos w),
+  λ j. one_book gap (witnesses a ++ witnesses a) x a j (twice gap a pos w),
   λ e. subst (λ (y : List Row). Joined gap a a y) (sym e) (twice gap a pos w),
 )
 
 pub associative : (gap : ℕ) (a b c x y p q : List Row) → 0 < gap → Joined gap a b x
     → Joined gap x c p → Joined gap b c y → Joined gap a y q → p ≡ q
 associative gap a b c x y p q pos abx xcp bcy ayq =
-    let A = real a in let B = real b in let C = real c in
+    let A = witnesses a in let B = witnesses b in let C = witnesses c in
     let f : BookOf gap ((A ++ B) ++ C) p =
-    congruence gap (real x) (A ++ B) C x p
-    (realised gap x pos (sound gap (A ++ B) x abx)) abx xcp in
+    congruence gap (witnesses x) (A ++ B) C x p
+    (witnessed gap x pos (sound gap (A ++ B) x abx)) abx xcp in
     let g : BookOf gap ((B ++ C) ++ A) q =
-    congruence gap (real y) (B ++ C) A y q (realised gap y pos (sound gap (B ++ C) y bcy)) bcy
+    congruence gap (witnesses y) (B ++ C) A y q (witnessed gap y pos (sound gap (B ++ C) y bcy)) bcy
     (commutative gap a y q ayq) in
     unique gap ((A ++ B) ++ C) ((B ++ C) ++ A) p q (λ s. cycle A B C s) f g where
       cycle : (A B C : List Heard) (s : Heard) → (s ∈ ((A ++ B) ++ C)) ↔ (s ∈ ((B ++ C) ++ A))

@@ -1,4 +1,5 @@
--- What the book tells of its set: one more reception; the greatest reception whose key has a property.
+-- What follows of a set from its book: one more reception; the greatest reception whose key has a
+-- property.
 use Rattle.std.proofs.Common.{ℕ, ◌<◌, List, [], ◌∷◌, inl, inr, sym, subst}
 use Rattle.std.proofs.lemmas.Cmp.{upto}
 use Rattle.aprs_log.specs.Reception.{Heard, heard_cmp}
@@ -8,14 +9,14 @@ use Rattle.aprs_laws.specs.Key.{Key, key_of}
 use Rattle.aprs_laws.specs.Row.{Row, row_key, IsOf, RowOf}
 use Rattle.aprs_laws.specs.Book.{BookOf}
 use Rattle.aprs_laws.specs.Sound.{Sound}
-use Rattle.aprs_laws.specs.Real.{real}
+use Rattle.aprs_laws.specs.Witnesses.{witnesses}
 use Rattle.aprs_laws.specs.Joining.{Joined}
 use Rattle.aprs_laws.specs.Best.{IsBest}
 use Rattle.aprs_laws.specs.JoinRow.{single, join_row, merge}
 use Rattle.aprs_laws.proofs.Orders.{heard_total}
 use Rattle.aprs_laws.proofs.Made.{makes_single, keeps_join, row_of}
 use Rattle.aprs_laws.proofs.Books.{own_of, book_of_keeps, keeps_of_book}
-use Rattle.aprs_laws.proofs.Soundness.{realised}
+use Rattle.aprs_laws.proofs.Soundness.{witnessed}
 use Rattle.aprs_laws.proofs.Unions.{merged}
 
 -- one more reception
@@ -61,4 +62,4 @@ none_of_rows gap S p P b f s m k = let t = a_row gap S p b s m in f t.0 t.1 (sub
 pub joined_by_merge : (gap : ℕ) → 0 < gap → (a b : List Row) → Sound gap a → Sound gap b
     → Joined gap a b (merge gap a b)
 joined_by_merge gap pos a b v w =
-    merged gap (real a) (real b) a b (realised gap a pos v) (realised gap b pos w)
+    merged gap (witnesses a) (witnesses b) a b (witnessed gap a pos v) (witnessed gap b pos w)

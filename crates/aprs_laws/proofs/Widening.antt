@@ -7,7 +7,7 @@ use Rattle.aprs_laws.specs.Order.{IsBelow, IsUpTo}
 use Rattle.aprs_laws.specs.Row.{Row, row_cmp}
 use Rattle.aprs_laws.specs.Book.{BookOf}
 use Rattle.aprs_laws.specs.Sound.{Sound}
-use Rattle.aprs_laws.specs.Real.{real}
+use Rattle.aprs_laws.specs.Witnesses.{witnesses}
 use Rattle.aprs_laws.specs.Joining.{Joined}
 use Rattle.aprs_laws.specs.JoinRow.{coalesced}
 use Rattle.aprs_laws.specs.Widening.{widened}
@@ -15,7 +15,7 @@ use Rattle.aprs_laws.proofs.Lists.{ordered_weaker}
 use Rattle.aprs_laws.proofs.Rows.{Makes}
 use Rattle.aprs_laws.proofs.Made.{Made, Keeps}
 use Rattle.aprs_laws.proofs.Books.{book_of_keeps, keeps_of_book, one_book}
-use Rattle.aprs_laws.proofs.Soundness.{sound, realised}
+use Rattle.aprs_laws.proofs.Soundness.{sound, witnessed}
 use Rattle.aprs_laws.proofs.Streams.{made_coalesce, ordered_coalesce}
 use Rattle.aprs_laws.proofs.RunRows.{union_is_joined}
 
@@ -53,31 +53,33 @@ widens_book g h S rows l b =
     (ordered_weaker (IsBelow row_cmp) (IsUpTo row_cmp) rows (λ x y hx hy e. ap is_gt e)
     b.ascending))
 
--- sound rows are the book of their real receptions
-pub widens_real : (g h : ℕ) (rows : List Row) → 0 < g → g ≤ h → Sound g rows
-    → BookOf h (real rows) (widened h rows)
-widens_real g h rows pos l w = widens_book g h (real rows) rows l (realised g rows pos w)
+-- sound rows are the book of their witnesses
+pub widens_witnesses : (g h : ℕ) (rows : List Row) → 0 < g → g ≤ h → Sound g rows
+    → BookOf h (witnesses rows) (widened h rows)
+widens_witnesses g h rows pos l w = widens_book g h (witnesses rows) rows l (witnessed g rows pos w)
 
 pub widened_sound : (g h : ℕ) (rows : List Row) → 0 < g → g ≤ h → Sound g rows
     → Sound h (widened h rows)
-widened_sound g h rows pos l w = sound h (real rows) (widened h rows) (widens_real g h rows pos l w)
+widened_sound g h rows pos l w = sound h (witnesses rows) (widened h rows)
+    (widens_witnesses g h rows pos l w)
 
 pub keeps_under_own_gap : (gap : ℕ) (rows : List Row) → 0 < gap → Sound gap rows
     → widened gap rows ≡ rows
 keeps_under_own_gap gap rows pos w =
-    one_book gap (real rows) (widened gap rows) rows
-    (widens_real gap gap rows pos (omega arith) w) (realised gap rows pos w)
+    one_book gap (witnesses rows) (widened gap rows) rows
+    (widens_witnesses gap gap rows pos (omega arith) w) (witnessed gap rows pos w)
 
 pub widens_in_steps : (g h k : ℕ) (rows : List Row) → 0 < g → g ≤ h → h ≤ k → Sound g rows
     → widened k (widened h rows) ≡ widened k rows
 widens_in_steps g h k rows pos l m w =
-    one_book k (real rows) (widened k (widened h rows)) (widened k rows)
-    (widens_book h k (real rows) (widened h rows) m (widens_real g h rows pos l w))
-    (widens_real g k rows pos (omega arith) w)
+    one_book k (witnesses rows) (widened k (widened h rows)) (widened k rows)
+    (widens_book h k (witnesses rows) (widened h rows) m (widens_witnesses g h rows pos l w))
+    (widens_witnesses g k rows pos (omega arith) w)
 
 pub widens_joined : (g h : ℕ) (a b c : List Row) → 0 < g → g ≤ h → Sound g a → Sound g b
     → Joined g a b c → Joined h (widened h a) (widened h b) (widened h c)
 widens_joined g h a b c pos l v w j =
-    (union_is_joined h (omega arith) (real a) (real b) (widened h a) (widened h b) (widened h c)
-    (widens_real g h a pos l v) (widens_real g h b pos l w)).0
-    (widens_book g h (real a ++ real b) c l j)
+    (union_is_joined h (omega arith) (witnesses a) (witnesses b) (widened h a) (widened h b)
+    (widened h c)
+    (widens_witnesses g h a pos l v) (widens_witnesses g h b pos l w)).0
+    (widens_book g h (witnesses a ++ witnesses b) c l j)

@@ -60,7 +60,8 @@ single_sound s = sound 30000 (s ∷ []) (single s ∷ []) (plain_is_book 30000 (
 gap_is_some : 0 < 30000
 gap_is_some = omega arith
 
-joined_singles : (s t : Heard) (rows : List Row) → merge 30000 (single s ∷ []) (single t ∷ []) ≡ rows
+joined_singles : (s t : Heard) (rows : List Row)
+    → merge 30000 (single s ∷ []) (single t ∷ []) ≡ rows
     → Joined 30000 (single s ∷ []) (single t ∷ []) rows
 joined_singles s t rows e =
     subst (λ (p : List Row). Joined 30000 (single s ∷ []) (single t ∷ []) p) e

@@ -11,15 +11,17 @@ use Rattle.aprs_laws.specs.Best.{LastKnown, known_of}
 abbrev pub Passes : (Key → Bool) → Key → Type 0
 Passes test key = IsTrue (test key)
 
+-- something is last known, or nothing: one of the two always holds
 abbrev pub SomeIsLastKnown : Type 0
 SomeIsLastKnown =
     (test : Key → Bool) (S : List Heard) → (known : Option Heard) × LastKnown S (Passes test) known
 
--- one reception after another
+-- looking at one reception after another finds what is last known
 abbrev pub PlainIsLastKnown : Type 0
 PlainIsLastKnown =
     (test : Key → Bool) (S : List Heard) → LastKnown S (Passes test) (known_of test None S)
 
+-- sets with the same members have one last known reception
 abbrev pub MembersDecideLastKnown : Type 0
 MembersDecideLastKnown =
     (test : Key → Bool) (S T : List Heard) (x y : Option Heard) → SameMembers S T

@@ -17,10 +17,12 @@ pub record BookValue : Type 0 where
 abbrev pub Holds : List Heard → BookValue → Type 0
 Holds S b = BookOf (millis_of b.gap) S b.rows
 
+-- a book that some set has: its gap is one that books have, and its rows are sound under it
 pub record IsSoundBook (b : BookValue) : Type 0 where
   pub range : IsGap b.gap
   pub sound : Sound (millis_of b.gap) b.rows
 
+-- both books have the same gap
 abbrev pub HaveOneGap : BookValue → BookValue → Type 0
 HaveOneGap a b = a.gap ≡ b.gap
 

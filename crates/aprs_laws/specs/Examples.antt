@@ -47,15 +47,19 @@ n0call ssid = record { letters = codes "N0CALL"; ssid = ssid }
 abbrev pub any_key : Key → Bool
 any_key key = true
 
+-- a receiver
 abbrev pub rx1 : List ℕ
 rx1 = codes "RX1"
 
+-- another receiver, after the first
 abbrev pub rx2 : List ℕ
 rx2 = codes "RX2"
 
+-- a reception of these parts
 abbrev pub heard : ℕ → List ℕ → List ℕ → Heard
 heard moment receiver frame = record { moment = moment; receiver = receiver; frame = frame }
 
+-- a row of these parts
 abbrev pub row_of : ℕ → List (List ℕ) → Heard → Row
 row_of first receivers greatest =
     record { first = first; receivers = receivers; greatest = greatest }
@@ -72,20 +76,23 @@ early = heard 0 rx2 repeated
 abbrev pub half_minute : ℕ
 half_minute = 30000
 
--- two receptions 30 seconds apart, and their row
+-- two receptions 30 seconds apart
 abbrev pub near_pair : List Heard
 near_pair = by_rx1 30000 ∷ early ∷ []
 
+-- their row
 abbrev pub near_row : Row
 near_row = row_of 0 (rx1 ∷ rx2 ∷ []) (by_rx1 30000)
 
--- two receptions 30,001 milliseconds apart, and their rows
+-- two receptions 30,001 milliseconds apart
 abbrev pub far_pair : List Heard
 far_pair = by_rx1 30001 ∷ early ∷ []
 
+-- the row of the earlier one
 abbrev pub early_row : Row
 early_row = row_of 0 (rx2 ∷ []) early
 
+-- the row of the later one
 abbrev pub late_row : Row
 late_row = row_of 30001 (rx1 ∷ []) (by_rx1 30001)
 
@@ -93,10 +100,11 @@ late_row = row_of 30001 (rx1 ∷ []) (by_rx1 30001)
 abbrev pub book_under : ℕ → BookValue
 book_under gap = record { gap = gap; rows = early_row ∷ late_row ∷ [] }
 
--- two receptions at one moment, and their row
+-- two receptions at one moment
 abbrev pub tied_pair : List Heard
 tied_pair = by_rx1 0 ∷ early ∷ []
 
+-- their row
 abbrev pub tied_row : Row
 tied_row = row_of 0 (rx1 ∷ rx2 ∷ []) early
 
@@ -108,10 +116,11 @@ short_row = row_of 0 (rx1 ∷ rx2 ∷ []) (by_rx1 1)
 abbrev pub close_row : Row
 close_row = row_of 30000 (rx1 ∷ []) (by_rx1 30000)
 
--- by one receiver at one moment, or from one moment to another
+-- a row of one receiver at one moment
 abbrev pub row_at : ℕ → Row
 row_at moment = row_of moment (rx1 ∷ []) (by_rx1 moment)
 
+-- a row of one receiver from one moment to another
 abbrev pub row_to : ℕ → ℕ → Row
 row_to first last = row_of first (rx1 ∷ []) (by_rx1 last)
 

@@ -1,15 +1,15 @@
 -- The gap inside a transmission, in seconds. Moments are in milliseconds.
 use Rattle.std.specs.Prelude.{ℕ, ◌*◌, ◌<◌, ◌≤◌}
 
--- of a book that no other was chosen for
+-- the gap of a book for which no other was chosen: 30 seconds
 abbrev pub standard_gap : ℕ
 standard_gap = 30
 
--- an hour
+-- the greatest gap that a book can have: an hour
 abbrev pub greatest_gap : ℕ
 greatest_gap = 3600
 
--- a gap that a book can have
+-- a gap that a book can have: 1 second to an hour
 abbrev pub IsGap : ℕ → Type 0
 IsGap gap = (0 < gap) × (gap ≤ greatest_gap)
 

@@ -23,6 +23,7 @@ abbrev pub bridged : ℕ → Heard → Row → List Row → List Row
 bridged gap s r [] = r ∷ []
 bridged gap s r (x ∷ xs) = choose (side gap x s) (r ∷ x ∷ xs) (combine r x ∷ xs) (r ∷ x ∷ xs)
 
+-- the rows with one more reception, in its place among them
 abbrev pub inserted : ℕ → Heard → List Row → List Row
 inserted gap s [] = single s ∷ []
 inserted gap s (r ∷ rows) =

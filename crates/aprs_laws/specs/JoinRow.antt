@@ -73,6 +73,7 @@ coalesce gap l (x ∷ xs) =
     choose (place gap l x) (l ∷ coalesce gap x xs) (coalesce gap (combine l x) xs)
     (l ∷ coalesce gap x xs)
 
+-- rows in order, where each joins the one before it that it is near to
 abbrev pub coalesced : ℕ → List Row → List Row
 coalesced gap [] = []
 coalesced gap (l ∷ xs) = coalesce gap l xs

@@ -6,7 +6,7 @@ use Rattle.aprs_laws.specs.Lists.{◌∈◌, SameMembers, Ordered}
 use Rattle.aprs_laws.specs.Order.{IsBelow, IsUpTo}
 use Rattle.aprs_laws.specs.Row.{Row}
 use Rattle.aprs_laws.specs.Book.{BookOf}
-use Rattle.aprs_laws.specs.Real.{real}
+use Rattle.aprs_laws.specs.Witnesses.{witnesses}
 
 -- Which values are alike is an equivalence. Valid values that are alike have exactly one joined
 -- value, which is valid and alike to both; others have none. Neither order nor grouping changes it,
@@ -48,9 +48,9 @@ pub record IsUnited {X : Type 0} (cmp : X → X → Ordering) (a b c : List X) :
   pub ascending : Ordered (IsBelow cmp) c
   pub members : (x : X) → (x ∈ c) ↔ ((x ∈ a) ⊎ (x ∈ b))
 
--- c is the book of the real receptions of a and b
+-- c is the book of the witnesses of a and b
 abbrev pub Joined : ℕ → List Row → List Row → List Row → Type 0
-Joined gap a b c = BookOf gap (real a ++ real b) c
+Joined gap a b c = BookOf gap (witnesses a ++ witnesses b) c
 
 -- the items joined to `start` one after another
 abbrev pub FoldsTo : {X : Type 0} → (X → X → X → Type 0) → X → List X → X → Type 0

@@ -14,14 +14,15 @@ pub record Key : Type 0 where
   pub destination : Call
   pub info : List ℕ
 
+-- the key of a frame's parts
 abbrev pub key_of_parts : Parts → Key
 key_of_parts p = record { source = p.source.call; destination = p.destination.call; info = p.info }
 
--- of a frame's bytes
+-- the key of a frame's bytes
 unfoldable pub key_of : List ℕ → Key
 key_of frame = key_of_parts (parts_of frame)
 
--- by source, then destination, then the bytes of the information
+-- keys are ordered by source, then destination, then the bytes of the information
 unfoldable pub key_cmp : Key → Key → Ordering
 key_cmp = then_cmp (on (λ k. k.source) call_cmp)
     (then_cmp (on (λ k. k.destination) call_cmp) (on (λ k. k.info) bytes_cmp))

@@ -7,7 +7,7 @@ pub mod Run
 pub mod Row
 pub mod Book
 pub mod Sound
-pub mod Real
+pub mod Witnesses
 pub mod Joining
 pub mod Taken
 pub mod JoinRow

@@ -1,5 +1,5 @@
 -- Lists as sets, and lists in order.
-use Rattle.std.specs.Prelude.{◌≡◌, List, [], ◌∷◌, ◌⊎◌, ◌↔◌}
+use Rattle.std.specs.Prelude.{◌≡◌, List, [], ◌∷◌, ◌++◌, ◌⊎◌, ◌↔◌}
 
 -- x is a member of the list
 infix 50 ◌∈◌
@@ -15,3 +15,7 @@ SameMembers {X} xs ys = (x : X) → (x ∈ xs) ↔ (x ∈ ys)
 abbrev pub Ordered : {X : Type 0} → (X → X → Type 0) → List X → Type 0
 Ordered R [] = Unit {0}
 Ordered {X} R (x ∷ xs) = ((y : X) → y ∈ xs → R x y) × Ordered R xs
+
+-- the last member of the list has this property, if the list has members
+abbrev pub IfLast : {X : Type 0} → List X → (X → Type 0) → Type 0
+IfLast {X} xs P = (prefix : List X) (last : X) → xs ≡ prefix ++ last ∷ [] → P last

@@ -1,4 +1,4 @@
--- What an order tells of two values.
+-- Two values in an order.
 use Rattle.std.specs.Prelude.{◌≡◌, false}
 use Rattle.std.specs.Ordering.{is_gt}
 use Rattle.std.specs.declared.cmp.Ordering.{Ordering}

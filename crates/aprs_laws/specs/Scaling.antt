@@ -9,6 +9,7 @@ abbrev pub scaled_heard : ℕ → Heard → Heard
 scaled_heard factor s =
     record { moment = s.moment * factor; receiver = s.receiver; frame = s.frame }
 
+-- the same row in the other unit
 abbrev pub scaled_row : ℕ → Row → Row
 scaled_row factor x = record {
   first = x.first * factor;
@@ -16,6 +17,7 @@ scaled_row factor x = record {
   greatest = scaled_heard factor x.greatest;
 }
 
+-- the same rows in the other unit
 abbrev pub scaled : ℕ → List Row → List Row
 scaled factor rows = map (scaled_row factor) rows
 

@@ -1,7 +1,7 @@
--- Rows that some set of receptions has, told from the rows alone.
-use Rattle.std.specs.Prelude.{◌≡◌, ℕ, ◌+◌, ◌<◌, ◌≤◌, List, [], ◌∷◌, ◌++◌}
+-- Rows that some set of receptions has, judged from the rows alone.
+use Rattle.std.specs.Prelude.{◌≡◌, ℕ, ◌+◌, ◌<◌, ◌≤◌, List}
 use Rattle.aprs_log.specs.Reception.{bytes_cmp}
-use Rattle.aprs_laws.specs.Lists.{◌∈◌, Ordered}
+use Rattle.aprs_laws.specs.Lists.{◌∈◌, IfLast, Ordered}
 use Rattle.aprs_laws.specs.Order.{IsBelow, IsUpTo}
 use Rattle.aprs_laws.specs.Row.{Row, row_key, last_of, row_cmp}
 
@@ -17,13 +17,13 @@ pub record IsSoundRow (x : Row) : Type 0 where
 abbrev pub IsFar : ℕ → Row → Row → Type 0
 IsFar gap x y = row_key x ≡ row_key y → last_of x + gap < y.first
 
+-- the rows ascend, neighbours of one key are far from each other, and each is sound by itself
 pub record Sound (gap : ℕ) (rows : List Row) : Type 0 where
   pub ascending : Ordered (IsBelow row_cmp) rows
   pub apart : Ordered (IsFar gap) rows
   pub each : (x : Row) → x ∈ rows → IsSoundRow x
 
--- x can follow sound rows: it is sound by itself, and comes after their last row, far from it
+-- x may follow the rows: it is sound by itself, and comes after the last of them, far from it
 pub record IsNext (gap : ℕ) (rows : List Row) (x : Row) : Type 0 where
   pub own : IsSoundRow x
-  pub after : (front : List Row) (l : Row) → rows ≡ front ++ l ∷ []
-      → IsBelow row_cmp l x × IsFar gap l x
+  pub after : IfLast rows (λ last. IsBelow row_cmp last x × IsFar gap last x)

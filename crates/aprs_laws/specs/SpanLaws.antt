@@ -1,4 +1,4 @@
--- What a book tells of the moments at which something was heard. A property of keys is a test.
+-- The moments at which something was heard, by the rows of a book. A property of keys is a test.
 use Rattle.std.specs.Prelude.{ℕ, Bool, List, ◌↔◌}
 use Rattle.aprs_log.specs.Reception.{Heard}
 use Rattle.aprs_laws.specs.Key.{Key}

@@ -10,36 +10,38 @@ use Rattle.aprs_laws.specs.Taken.{Step, Take, Merge, taken}
 use Rattle.aprs_laws.specs.Inserted.{inserted, FitsInPlace, fits_in_place}
 use Rattle.aprs_laws.specs.JoinRow.{single, IsNear, join_row, merge, interleave, coalesced, plain_book}
 
+-- the plain way gives the book
 abbrev pub PlainBookIsBook : ℕ → Type 0
 PlainBookIsBook gap = (S : List Heard) → BookOf gap S (plain_book gap S)
 
--- one more reception
+-- one more reception joins the rows as a row of its own does
 abbrev pub TakesReception : ℕ → Type 0
 TakesReception gap =
     (S : List Heard) (s : Heard) (p : List Row) → BookOf gap S p
     → BookOf gap (S ++ s ∷ []) (join_row gap p (single s))
 
--- as code does it
+-- one more reception is inserted as code does it
 abbrev pub InsertsReception : ℕ → Type 0
 InsertsReception gap =
     (S : List Heard) (s : Heard) (p : List Row) → BookOf gap S p
     → BookOf gap (S ++ s ∷ []) (inserted gap s p)
 
+-- what fits in place passes the test of that
 abbrev pub FitsByTest : ℕ → Type 0
 FitsByTest gap =
     (s : Heard) (p : List Row) → Sound gap p → FitsInPlace gap p s → fits_in_place gap s p ≡ true
 
--- sound rows stay sound with exactly such rows behind them
+-- sound rows stay sound with exactly those rows after them that may follow
 abbrev pub OnlyNextFollows : ℕ → Type 0
 OnlyNextFollows gap =
     (p : List Row) (x : Row) → Sound gap p → Sound gap (p ++ x ∷ []) ↔ IsNext gap p x
 
--- one more sound row
+-- one more sound row gives the joined rows
 abbrev pub TakesRow : ℕ → Type 0
 TakesRow gap =
     (p : List Row) (r : Row) → Sound gap p → IsSoundRow r → Joined gap p (r ∷ []) (join_row gap p r)
 
--- the rows of another book, one after another
+-- the rows of another book, taken one after another, give the book of the union
 abbrev pub TakesRows : ℕ → Type 0
 TakesRows gap =
     (S T : List Heard) (p q : List Row) → BookOf gap S p → BookOf gap T q
@@ -62,6 +64,7 @@ abbrev pub rows_after_step : ℕ → Step → (ℕ → List Row) → ℕ → Lis
 rows_after_step gap (Take i x) rows k = if k == i then join_row gap (rows k) (single x) else rows k
 rows_after_step gap (Merge i j) rows k = if k == i then merge gap (rows k) (rows j) else rows k
 
+-- the rows at all places after these steps
 abbrev pub rows_after_steps : ℕ → List Step → (ℕ → List Row) → ℕ → List Row
 rows_after_steps gap [] rows = rows
 rows_after_steps gap (step ∷ steps) rows =

@@ -13,11 +13,12 @@ abbrev pub after_step : Step → (ℕ → List Heard) → ℕ → List Heard
 after_step (Take i x) sets k = if k == i then sets k ++ x ∷ [] else sets k
 after_step (Merge i j) sets k = if k == i then sets k ++ sets j else sets k
 
+-- the sets at all places after these steps
 abbrev pub after_steps : List Step → (ℕ → List Heard) → ℕ → List Heard
 after_steps [] sets = sets
 after_steps (step ∷ steps) sets = after_steps steps (after_step step sets)
 
--- from empty sets at all places
+-- the sets at all places after these steps, from empty sets at all places
 abbrev pub taken : List Step → ℕ → List Heard
 taken steps = after_steps steps (λ k. [])
 
@@ -26,5 +27,6 @@ abbrev pub StepFits : ℕ → Step → Type 0
 StepFits n (Take i x) = i < n
 StepFits n (Merge i j) = (i < n) × (j < n)
 
+-- every place of every step is below n
 abbrev pub StepsFit : ℕ → List Step → Type 0
 StepsFit n steps = (step : Step) → step ∈ steps → StepFits n step

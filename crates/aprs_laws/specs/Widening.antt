@@ -17,6 +17,7 @@ WidensBook =
     (narrow wide : ℕ) (S : List Heard) (rows : List Row) → narrow ≤ wide → BookOf narrow S rows
     → BookOf wide S (widened wide rows)
 
+-- sound rows are sound under the other gap too, once they are widened
 abbrev pub WidenedIsSound : Type 0
 WidenedIsSound =
     (narrow wide : ℕ) (rows : List Row) → 0 < narrow → narrow ≤ wide → Sound narrow rows
@@ -39,7 +40,7 @@ WidensJoined =
     → Sound narrow b → Joined narrow a b c
     → Joined wide (widened wide a) (widened wide b) (widened wide c)
 
--- under a lesser gap, rows do not tell the book: no function of rows gives it for each set
+-- under a lesser gap, rows do not decide the book: no function of rows gives it for each set
 abbrev pub NarrowsNot : Type 0
 NarrowsNot =
     (narrow wide : ℕ) (narrowed : List Row → List Row) → 0 < narrow → narrow < wide

@@ -1,6 +1,6 @@
 //! Laws of the book of a set.
 ghost use Rattle.std.specs.Prelude.{ℕ, ◌<◌};
-ghost use Rattle.aprs_laws.specs.BookLaws.{BooksAreSound, RunsHaveOneRowEach, EachSetHasBook, MembersDecideBook, EmptyBookIsOfNothing, SoundRowsAreBooks, RealReceptionsHaveBook, BooksDecideUnion, UnionIsJoined};
+ghost use Rattle.aprs_laws.specs.BookLaws.{BooksAreSound, RunsHaveOneRowEach, EachSetHasBook, MembersDecideBook, EmptyBookIsOfNothing, SoundRowsAreBooks, WitnessesHaveBook, BooksDecideUnion, UnionIsJoined};
 
 /// Each set has exactly one book, and only the empty set has one without rows.
 pub fn sets_have_one_book()
@@ -9,11 +9,12 @@ pub fn sets_have_one_book()
     ensures empty { (gap : ℕ) → EmptyBookIsOfNothing gap }
 {}
 
-/// Sound rows are exactly the books, and each is the book of its real receptions.
+/// Sound rows are exactly the books, and each is the book of its witnesses: of receptions that, if
+/// heard, would give exactly these rows.
 pub fn sound_rows_are_books()
     ensures sound { (gap : ℕ) → BooksAreSound gap }
     ensures exactly { (gap : ℕ) → 0 < gap → SoundRowsAreBooks gap }
-    ensures real { (gap : ℕ) → 0 < gap → RealReceptionsHaveBook gap }
+    ensures witnesses { (gap : ℕ) → 0 < gap → WitnessesHaveBook gap }
 {}
 
 /// The book of a union depends on the books of both sets alone: it is their joined value.
@@ -22,7 +23,7 @@ pub fn books_decide_unions()
     ensures joined { (gap : ℕ) → 0 < gap → UnionIsJoined gap }
 {}
 
-/// A book has exactly one row for each maximal run of its set.
+/// A book has exactly one row for each transmission in its set.
 pub fn runs_have_one_row_each()
     ensures { (gap : ℕ) → RunsHaveOneRowEach gap }
 {}

@@ -11,7 +11,7 @@ ghost use Rattle.aprs_laws.specs.Run.{HeardAt, Run};
 ghost use Rattle.aprs_laws.specs.Row.{IsOf, RowOf};
 ghost use Rattle.aprs_laws.specs.Book.{BookOf};
 ghost use Rattle.aprs_laws.specs.Sound.{Sound, IsNext};
-ghost use Rattle.aprs_laws.specs.Real.{real};
+ghost use Rattle.aprs_laws.specs.Witnesses.{witnesses};
 ghost use Rattle.aprs_laws.specs.Joining.{JoinLaws, AreAny, IsGreaterOf, IsAny, IsUnited, Joined, FoldsTo};
 ghost use Rattle.aprs_laws.specs.BookValue.{Holds, IsSoundBook, HaveOneGap, AreJoined, widened_to};
 ghost use Rattle.aprs_laws.specs.Taken.{taken, StepsFit};
@@ -134,7 +134,7 @@ pub fn receivers_ascend()
         ≡ row_of 0 (rx1 ∷ rx2 ∷ []) (heard 10 rx2 direct) ∷ [] }
 {}
 
-/// A part of a run is none, nor are two runs one.
+/// A part of a transmission is none, nor are two transmissions one.
 pub fn runs_are_maximal()
     ensures heard { HeardAt far_pair hi_key 30001 }
     ensures misses_moment { HeardAt far_pair hi_key 30000 → ⊥ }
@@ -143,7 +143,7 @@ pub fn runs_are_maximal()
     ensures misses_both { Run half_minute far_pair hi_key 0 30001 → ⊥ }
 {}
 
-/// A row has its run's greatest reception, and all of its receivers.
+/// A row has its transmission's greatest reception, and all of its receivers.
 pub fn rows_are_whole()
     ensures is_of { IsOf near_row early }
     ensures misses_later { IsOf early_row (by_rx1 30001) → ⊥ }
@@ -170,14 +170,14 @@ pub fn soundness_is_seen_in_rows()
     ensures misses_near_next { IsNext half_minute (early_row ∷ []) close_row → ⊥ }
 {}
 
-/// Real receptions are as few as make the rows: what else was heard is not among them.
+/// Witnesses are as few as make the rows: what else was heard is not among them.
 pub fn real_receptions_are_few()
-    ensures real { real (short_row ∷ [])
+    ensures witnesses { witnesses (short_row ∷ [])
         ≡ by_rx1 0 ∷ by_rx1 1 ∷ by_rx1 0 ∷ heard 0 rx2 direct ∷ [] }
-    ensures misses_other { heard 1 rx2 direct ∈ real (short_row ∷ []) → ⊥ }
+    ensures misses_other { heard 1 rx2 direct ∈ witnesses (short_row ∷ []) → ⊥ }
 {}
 
-/// The greater of two receptions, and the receivers of both. To answer the first value is no join.
+/// The greater of two receptions, and the receivers of both. To return the first value is no join.
 pub fn joins_take_both()
     ensures greater { IsGreaterOf early (by_rx1 30001) (by_rx1 30001) }
     ensures misses_lesser { IsGreaterOf early (by_rx1 30001) early → ⊥ }

@@ -20,7 +20,7 @@ pub fn books_can_be_widened()
     ensures joined { WidensJoinedBooks }
 {}
 
-/// Under a lesser gap the rows don't tell the book: no function of rows alone gives it.
+/// Under a lesser gap the rows don't decide the book: no function of rows alone gives it.
 pub fn gaps_cannot_be_narrowed()
     ensures { NarrowsNot }
 {}

@@ -21,7 +21,7 @@ pub fn receivers_join()
     ensures one_pass { MergesInOnePass bytes_cmp }
 {}
 
-/// Sound books of one gap join to the book of the real receptions of both, under that gap. It holds
+/// Sound books of one gap join to the book of the witnesses of both, under that gap. It holds
 /// the union of what the two hold.
 pub fn books_join()
     ensures laws { JoinLaws IsSoundBook HaveOneGap AreJoined }

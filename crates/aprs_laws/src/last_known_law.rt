@@ -3,7 +3,7 @@ ghost use Rattle.aprs_laws.specs.BestLaws.{SomeIsLastKnown, PlainIsLastKnown, Me
 ghost use Rattle.aprs_laws.specs.SpanLaws.{RowsTellFirstMoment, RowsTellLastMoment};
 
 /// What is last known of a set, by any property of keys, is one value that depends on membership
-/// alone. The greatest receptions of the rows of its book tell it.
+/// alone. It is what is last known of the greatest receptions of the rows of its book.
 pub fn books_tell_last_known()
     ensures some { SomeIsLastKnown }
     ensures plain { PlainIsLastKnown }

@@ -1,4 +1,5 @@
--- What a reader of a log may still answer, by what it holds.
+-- What a reader of a log may still answer, by what it holds. Nobody knows yet what the device will
+-- give, so many answers may follow: those do that some rest of the input yields.
 use Rattle.std.specs.Prelude.{◌≡◌, ◌≢◌, ℕ, ◌+◌, List, ◌++◌, Option, None, Some, IfSome}
 use Rattle.aprs_log.specs.LogAnswers.{Answers, answers_from, ended, Gets}
 use Rattle.aprs_log.specs.declared.fault.LogCause.{LogCause}
@@ -9,44 +10,48 @@ pub use Rattle.aprs_io.specs.Input.{EndsHere}
 use Rattle.aprs_log.specs.declared.ending.State.{State}
 use Rattle.aprs_log.specs.declared.ending.State.TheVariants.{Reading, Ended, Failed}
 
--- after `line` lines, `left` bytes may be read yet of the input, and `held` were read before them;
--- at the last the device has `after`
-pub record Awaited (left line : ℕ) (held input : List ℕ) (after : Option (List ℕ)) (a : Answers)
+-- Answers that may still follow: some text that can be got of the input, and some way in which it
+-- ends, yield them. `line` lines were given before, `held` was read of the next ones, `left` bytes
+-- may be read yet, and at the last the device has `after`.
+pub record Awaited (left line : ℕ) (held input : List ℕ) (after : Option (List ℕ))
+    (answers : Answers)
     : Type 0 where
   pub text : List ℕ
   pub ending : Ending
   pub gets : Gets left input after text ending
-  pub is : a ≡ answers_from (line + 1) (held ++ text) ending
+  pub is : answers ≡ answers_from (line + 1) (held ++ text) ending
 
 -- the fault with this cause in the line that follows
 abbrev pub fault_after : ℕ → LogCause → LogFault
-fault_after line c = record { line = line + 1; cause = c }
+fault_after line why = record { line = line + 1; cause = why }
 
--- these answers may come, where the input's bytes are known and the device has `after` at the last;
--- a reader that has stopped reads no more
+-- These answers may follow, where the input's bytes are known and the device has `after` at the
+-- last. A reader that is reading may answer what some rest of the input yields; one that has
+-- stopped reads no more, and its end or its fault is all that follows.
 abbrev pub AwaitsIn : State → Option (List ℕ) → Option (List ℕ) → ℕ → ℕ → List ℕ → Answers → Type 0
-AwaitsIn Reading known after left line held a =
-    IfSome known (λ input. Awaited left line held input after a)
-AwaitsIn Ended known after left line held a = (after ≡ known) × (a ≡ ended None)
-AwaitsIn (Failed c) known after left line held a =
-    (after ≡ known) × (a ≡ ended (Some (fault_after line c)))
+AwaitsIn Reading known after left line held answers =
+    IfSome known (λ input. Awaited left line held input after answers)
+AwaitsIn Ended known after left line held answers = (after ≡ known) × (answers ≡ ended None)
+AwaitsIn (Failed cause) known after left line held answers =
+    (after ≡ known) × (answers ≡ ended (Some (fault_after line cause)))
 
 -- the fault or the end that is answered from now on, if the reader has stopped
 abbrev pub stop_in : State → ℕ → Option (Option LogFault)
 stop_in Reading line = None
 stop_in Ended line = Some None
-stop_in (Failed c) line = Some (Some (fault_after line c))
+stop_in (Failed cause) line = Some (Some (fault_after line cause))
 
--- what a reader does after the tail
+-- what a reader does after the tail: it stops well, or with this cause
 abbrev pub state_after : Option LogCause → State
 state_after None = Ended
-state_after (Some c) = Failed c
+state_after (Some cause) = Failed cause
 
+-- how many steps a reader may take yet: one for each byte that it may read, and one to stop
 abbrev pub work_in : State → ℕ → ℕ
 work_in Reading left = left + 1
 work_in Ended left = 0
-work_in (Failed c) left = 0
+work_in (Failed cause) left = 0
 
--- it hasn't failed for want of memory
+-- no failed allocation stopped it
 abbrev pub KeepsMemory : State → Type 0
 KeepsMemory state = state ≢ Failed cause.Memory

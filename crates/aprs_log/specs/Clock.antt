@@ -4,16 +4,16 @@ use Rattle.aprs_log.specs.declared.moment_form.MomentForm.{MomentForm}
 use Rattle.aprs_log.specs.declared.moment_form.MomentForm.TheVariants.{Seconds, Millis}
 use Rattle.aprs_log.specs.Moment.{two_digits, fraction_text, room_of}
 
--- HH:MM:SS
+-- the text HH:MM:SS of a time of the day
 abbrev pub clock_text : ℕ → ℕ → ℕ → List ℕ
 clock_text hour minute second = two_digits hour ++ 58 ∷ two_digits minute ++ 58 ∷ two_digits second
 
--- 00:00:00Z
+-- the end of the text of a day's first moment: 00:00:00Z
 abbrev pub midnight_text : List ℕ
 midnight_text = clock_text 0 0 0 ++ 90 ∷ []
 
--- t is the text of second n of a day
-pub record SecondText (n : ℕ) (t : List ℕ) : Type 0 where
+-- `text` is the text of second n of a day
+pub record SecondText (n : ℕ) (text : List ℕ) : Type 0 where
   pub hour : ℕ
   pub minute : ℕ
   pub second : ℕ
@@ -21,13 +21,13 @@ pub record SecondText (n : ℕ) (t : List ℕ) : Type 0 where
   pub is_minute : minute < 60
   pub is_second : second < 60
   pub number : n ≡ hour * 3600 + minute * 60 + second
-  pub spelled : t ≡ clock_text hour minute second
+  pub spelled : text ≡ clock_text hour minute second
 
--- t is what follows the seconds, in this form, at millisecond n of a second
-pub record FractionText (form : MomentForm) (n : ℕ) (t : List ℕ) : Type 0 where
+-- `text` is what follows the seconds, in this form, at millisecond n of a second
+pub record FractionText (form : MomentForm) (n : ℕ) (text : List ℕ) : Type 0 where
   pub below : n < room_of form
-  pub spelled : t ≡ fraction_text form n ++ 90 ∷ []
+  pub spelled : text ≡ fraction_text form n ++ 90 ∷ []
 
--- the form of a text whose seconds are followed by so many bytes
+-- the form of a text whose seconds these bytes follow: Z alone, or a fraction and Z
 abbrev pub form_of_end : List ℕ → MomentForm
 form_of_end end = if length end == 1 then Seconds else Millis

@@ -13,7 +13,7 @@ abbrev pub EndsMoment : List ℕ → ℕ → Type 0
 EndsMoment text n = ((n ≡ 20) × HasSpace text 20)
     ⊎ ((n ≡ 24) × HasSpace text 24 × ¬ HasSpace text 20)
 
--- neither has one
+-- no space stands where it could end a moment
 abbrev pub EndsNoMoment : List ℕ → Type 0
 EndsNoMoment text = ¬ HasSpace text 20 × ¬ HasSpace text 24
 
@@ -24,7 +24,7 @@ pub record TakesMoment (text : List ℕ) (m : ℕ) (rest : List ℕ) : Type 0 wh
   pub moment : Some m ≡ moment_of cut.before
   pub rest_is : rest ≡ cut.after
 
--- it is none
+-- the text's first field is no moment, or no space ends it
 abbrev pub TakesNoMoment : List ℕ → Type 0
 TakesNoMoment text = (cut : Cut) → Some cut ≡ cut_at 32 text → None ≡ moment_of cut.before
 
@@ -36,10 +36,10 @@ pub record TakesName (text r rest : List ℕ) : Type 0 where
   pub name_is : r ≡ cut.before
   pub rest_is : rest ≡ cut.after
 
--- it is none
+-- the text's first field is no receiver's name, or no space ends it
 abbrev pub TakesNoName : List ℕ → Type 0
 TakesNoName text = (cut : Cut) → Some cut ≡ cut_at 32 text → ¬ IsName cut.before
 
--- a byte that no name has
+-- whether no name has this byte
 abbrev pub ends_name : ℕ → Bool
 ends_name b = not (is_name_byte b)

@@ -3,7 +3,6 @@ pub use Rattle.aprs_io.specs.Cut
 pub use Rattle.aprs_io.specs.Device
 pub use Rattle.aprs_io.specs.Input
 pub mod Awaits
-pub mod Bytes
 pub mod Clock
 pub mod Fault
 pub mod Fields
@@ -14,5 +13,6 @@ pub mod Places
 pub mod Reader
 pub mod Receiver
 pub mod Reception
-pub mod Slot
+pub mod Steps
+pub mod StreamLaws
 pub mod Window

@@ -1,72 +1,84 @@
 -- A line of a log: a moment's text, a space, a receiver's name, a space, and the bytes that the
 -- receiver gave in hexadecimal.
-use Rattle.std.specs.Prelude.{◌≡◌, ℕ, if◌then◌else◌, List, [], ◌∷◌, ◌++◌, length, Option, None, Some, Result, Ok, Err, nat_lt}
+use Rattle.std.specs.Prelude.{◌≡◌, ℕ, if◌then◌else◌, List, [], ◌∷◌, ◌++◌, length, Result, Ok, Err, nat_le}
+use Rattle.std.specs.Result.{result_ok}
 use Rattle.hex.specs.Hex.{decode_of, encode_lower}
-use Rattle.hex.specs.declared.error.FromHexError.{FromHexError}
 use Rattle.aprs_kiss.specs.Spelling.{kiss_text}
 use Rattle.aprs_kiss.specs.Stream.{rest_of, is_nonempty, judgements_of}
 use Rattle.aprs_kiss.specs.Judgement.{Judgement}
 use Rattle.aprs_ax25.specs.FrameFault.{frame_of}
 use Rattle.aprs_ax25.specs.declared.fault.FrameFault.{FrameFault}
-use Rattle.aprs_io.specs.Cut.{Cut, cut_at}
+use Rattle.aprs_io.specs.Cut.{cut_at}
 use Rattle.aprs_log.specs.Fault.{reason_of_pass, reason_of_frame}
 use Rattle.aprs_log.specs.Moment.{MomentText, moment_of, moment_text}
 use Rattle.aprs_log.specs.Receiver.{IsName, is_name}
 use Rattle.aprs_log.specs.Reception.{Heard}
+use Rattle.aprs_log.specs.Steps.{◌>>=◌, ◌otherwise◌, guard}
 use Rattle.aprs_log.specs.declared.fault.LineFault.{LineFault}
 use Rattle.aprs_log.specs.declared.fault.LineFault.TheVariants as fault
 use Rattle.aprs_log.specs.declared.fault.Reason.{Reason}
 use Rattle.aprs_log.specs.declared.fault.Reason.TheVariants as reason
+use Rattle.aprs_log.specs.declared.line.TheConstants.{MAX_LINE}
 use Rattle.aprs_log.specs.declared.line.Line.{Line}
 use Rattle.aprs_log.specs.declared.line.Line.TheVariants as line
 
 -- ---- the frame in a line's bytes, or the first reason why there is none
 
+-- the frame that the bytes of a data frame are, or the reason why they are none
 abbrev pub frame_or_reason : Result (List ℕ) FrameFault → Result (List ℕ) Reason
 frame_or_reason (Ok frame) = Ok frame
 frame_or_reason (Err fault) = Err (reason_of_frame fault)
 
+-- the frame in one piece of a KISS stream, by its judgement
 abbrev pub frame_in_piece : Judgement → Result (List ℕ) Reason
 frame_in_piece (Ok data_frame) = frame_or_reason (frame_of data_frame.bytes)
 frame_in_piece (Err fault) = Err (reason_of_pass fault)
 
--- of the judgements of the nonempty pieces
+-- the frame in the one nonempty piece, by the judgements of all nonempty pieces
 abbrev pub only_frame : List Judgement → Result (List ℕ) Reason
 only_frame [] = Err reason.NoFrame
 only_frame (piece ∷ []) = frame_in_piece piece
 only_frame (piece ∷ next ∷ more) = Err reason.TwoFrames
 
+-- the one frame in a line's bytes, none of which follow the last frame end
 unfoldable pub frame_in : List ℕ → Result (List ℕ) Reason
 frame_in bytes =
     if is_nonempty (rest_of bytes) then Err reason.Unended else only_frame (judgements_of bytes)
 
 -- ---- a line's fields, from the left
 
+-- a frame was heard, or the line is passed over for this reason
 abbrev pub heard_or_passed : ℕ → List ℕ → Result (List ℕ) Reason → Line
 heard_or_passed m r (Ok frame) = line.Heard (record { moment = m; receiver = r; frame = frame })
 heard_or_passed m r (Err reason) = line.Passed reason
 
-abbrev pub line_of_bytes : ℕ → List ℕ → Result (List ℕ) FromHexError → Result Line LineFault
-line_of_bytes m r (Ok bytes) = Ok (heard_or_passed m r (frame_in bytes))
-line_of_bytes m r (Err e) = Err fault.Hex
+-- the line of a moment and a receiver whose bytes stand in these digits: they are hexadecimal, or
+-- the fault is Hex; then the frame in the bytes was heard, or the line is passed over
+abbrev pub line_of_digits : ℕ → List ℕ → List ℕ → Result Line LineFault
+line_of_digits m r digits = do
+  bytes ← result_ok (decode_of digits) otherwise fault.Hex
+  Ok (heard_or_passed m r (frame_in bytes))
 
-abbrev pub line_after_moment : Option ℕ → Option Cut → Result Line LineFault
-line_after_moment None next = Err fault.Moment
-line_after_moment (Some m) None = Err fault.Receiver
-line_after_moment (Some m) (Some next) =
-    if is_name next.before then line_of_bytes m next.before (decode_of next.after)
-    else Err fault.Receiver
-
-abbrev pub line_of_cut : Option Cut → Result Line LineFault
-line_of_cut None = Err fault.Moment
-line_of_cut (Some first) = line_after_moment (moment_of first.before) (cut_at 32 first.after)
-
--- what a line without its LF tells, or its first fault
+-- What a line without its LF reports, or its first fault. It has at most 8,192 bytes, or the fault
+-- is LongLine; its first space ends the text of a moment, or the fault is Moment; the next space
+-- ends the name of a receiver, or the fault is Receiver; and what follows is read as digits.
 unfoldable pub line_of : List ℕ → Result Line LineFault
-line_of l = if nat_lt 8192 (length l) then Err fault.LongLine else line_of_cut (cut_at 32 l)
+line_of l = do
+  short ← guard (nat_le (length l) MAX_LINE) otherwise fault.LongLine
+  first ← cut_at 32 l otherwise fault.Moment
+  moment ← moment_of first.before otherwise fault.Moment
+  second ← cut_at 32 first.after otherwise fault.Receiver
+  named ← guard (is_name second.before) otherwise fault.Receiver
+  line_of_digits moment second.before second.after
+
+-- the line that now lies in a place, or its fault
+abbrev pub line_in : Result (Unit {0}) LineFault → Line → Result Line LineFault
+line_in (Ok u) found = Ok found
+line_in (Err fault) found = Err fault
 
 -- ---- the same rule without an order: what the bytes of a frame may be is no part of it
 
+-- l is the text of a moment, a space, a receiver's name, a space, and bytes in hexadecimal
 pub record LineSyntax (l : List ℕ) : Type 0 where
   pub moment : ℕ
   pub text : List ℕ

@@ -14,30 +14,31 @@ pub record Civil : Type 0 where
   pub minute : ℕ
   pub second : ℕ
 
--- the tens and the ones of a number below 100
+-- the two digits of a number below 100, as ASCII bytes
 abbrev pub two_digits : ℕ → List ℕ
 two_digits n = (48 + n / 10) ∷ (48 + n % 10) ∷ []
 
--- the same of a number's hundreds and of what is left
+-- the four digits of a number below 10,000
 abbrev pub four_digits : ℕ → List ℕ
 four_digits n = two_digits (n / 100) ++ two_digits (n % 100)
 
--- the hundreds, the tens and the ones of a number below 1,000
+-- the three digits of a number below 1,000
 abbrev pub three_digits : ℕ → List ℕ
 three_digits n = (48 + n / 100) ∷ two_digits (n % 100)
 
--- what stands between the seconds and the Z
+-- what stands between the seconds and the Z: nothing, or a point and the milliseconds
 abbrev pub fraction_text : MomentForm → ℕ → List ℕ
 fraction_text Seconds n = []
 fraction_text Millis n = 46 ∷ three_digits n
 
 -- YYYY-MM-DDTHH:MM:SSZ, or with .mmm before the Z
 abbrev pub civil_text : MomentForm → Civil → ℕ → List ℕ
-civil_text form c n = four_digits c.year ++ 45 ∷ two_digits c.month ++ 45 ∷ two_digits c.day
-    ++ 84 ∷ two_digits c.hour ++ 58 ∷ two_digits c.minute ++ 58 ∷ two_digits c.second
+civil_text form civil n =
+    four_digits civil.year ++ 45 ∷ two_digits civil.month ++ 45 ∷ two_digits civil.day
+    ++ 84 ∷ two_digits civil.hour ++ 58 ∷ two_digits civil.minute ++ 58 ∷ two_digits civil.second
     ++ fraction_text form n ++ 90 ∷ []
 
--- how many moments of one second a form tells apart
+-- how many moments of one second a form can write: one, or 1,000
 abbrev pub room_of : MomentForm → ℕ
 room_of Seconds = 1
 room_of Millis = 1000
@@ -46,34 +47,36 @@ room_of Millis = 1000
 abbrev pub IsDay : ℕ → ℕ → ℕ → Type 0
 IsDay y m d = (1970 ≤ y) × (y ≤ 2099) × IsDate (pos y) (pos m) (pos d)
 
--- such a date, and a second of its day
-pub record IsCivil (c : Civil) : Type 0 where
-  pub date : IsDay c.year c.month c.day
-  pub hour : c.hour < 24
-  pub minute : c.minute < 60
-  pub second : c.second < 60
+-- such a date, and an hour, a minute and a second of its day; no second is a leap second
+pub record IsCivil (civil : Civil) : Type 0 where
+  pub date : IsDay civil.year civil.month civil.day
+  pub hour : civil.hour < 24
+  pub minute : civil.minute < 60
+  pub second : civil.second < 60
 
+-- the seconds from the start of the day to a civil time
 abbrev pub second_of_day : Civil → ℕ
-second_of_day c = c.hour * 3600 + c.minute * 60 + c.second
+second_of_day civil = civil.hour * 3600 + civil.minute * 60 + civil.second
 
--- In this form t is the text of the moment m, which is 1,000 times the seconds and the milliseconds
--- of the second; the seconds are 86,400 times the day number of the civil date (0 for 1970-01-01)
--- and the seconds of the day.
-pub record MomentTextIn (form : MomentForm) (m : ℕ) (t : List ℕ) : Type 0 where
+-- In this form `text` is the text of the moment m, which is 1,000 times the seconds and the
+-- milliseconds of the second; the seconds are 86,400 times the day number of the civil date (0 for
+-- 1970-01-01) and the seconds of the day.
+pub record MomentTextIn (form : MomentForm) (m : ℕ) (text : List ℕ) : Type 0 where
   pub civil : Civil
   pub millis : ℕ
   pub real : IsCivil civil
   pub below : millis < room_of form
   pub number : pos m ≡ (((days_from_civil (pos civil.year) civil.month civil.day *ℤ pos 86400)
       +ℤ pos (second_of_day civil)) *ℤ pos 1000) +ℤ pos millis
-  pub spelled : t ≡ civil_text form civil millis
+  pub spelled : text ≡ civil_text form civil millis
 
--- t is a text of the moment m, in either form
+-- `text` is a text of the moment m, in either form
 abbrev pub MomentText : ℕ → List ℕ → Type 0
-MomentText m t = (form : MomentForm) × MomentTextIn form m t
+MomentText m text = (form : MomentForm) × MomentTextIn form m text
 
 -- ---- a moment's one text in a form, as a function
 
+-- a date of the civil calendar
 pub record Day : Type 0 where
   pub year : ℕ
   pub month : ℕ
@@ -103,11 +106,11 @@ civil_after m = record {
   second = m % 86400 % 60;
 }
 
--- where the form can't tell the milliseconds, they are left out
+-- the text of a moment in a form; a form to the second leaves its milliseconds out
 unfoldable pub moment_text_in : MomentForm → ℕ → List ℕ
 moment_text_in form m = civil_text form (civil_after (m / 1000)) (m % 1000)
 
--- the text that is written
+-- the text that is written of a moment: to the millisecond
 abbrev pub moment_text : ℕ → List ℕ
 moment_text m = moment_text_in Millis m
 
@@ -119,53 +122,60 @@ digit_of b = b - 48
 
 -- the number whose two digits stand at i
 abbrev pub pair_at : List ℕ → ℕ → ℕ
-pair_at t i = 10 * digit_of (slice_index t i) + digit_of (slice_index t (i + 1))
+pair_at text i = 10 * digit_of (slice_index text i) + digit_of (slice_index text (i + 1))
 
 -- the civil time whose digits stand at their places in a text
 abbrev pub civil_at : List ℕ → Civil
-civil_at t = record {
-  year = 100 * pair_at t 0 + pair_at t 2;
-  month = pair_at t 5;
-  day = pair_at t 8;
-  hour = pair_at t 11;
-  minute = pair_at t 14;
-  second = pair_at t 17;
+civil_at text = record {
+  year = 100 * pair_at text 0 + pair_at text 2;
+  month = pair_at text 5;
+  day = pair_at text 8;
+  hour = pair_at text 11;
+  minute = pair_at text 14;
+  second = pair_at text 17;
 }
 
+-- whether the calendar has this date, in one of the years 1970 to 2099
 abbrev pub is_date : Civil → Bool
-is_date c = nat_le 1970 c.year && nat_le c.year 2099 && nat_le 1 c.month && nat_le c.month 12
-    && nat_le 1 c.day && nat_le c.day (days_in_month (pos c.year) c.month)
+is_date civil =
+    nat_le 1970 civil.year && nat_le civil.year 2099
+    && nat_le 1 civil.month && nat_le civil.month 12
+    && nat_le 1 civil.day && nat_le civil.day (days_in_month (pos civil.year) civil.month)
 
+-- whether a day has this hour, minute and second
 abbrev pub is_time : Civil → Bool
-is_time c = nat_lt c.hour 24 && nat_lt c.minute 60 && nat_lt c.second 60
+is_time civil = nat_lt civil.hour 24 && nat_lt civil.minute 60 && nat_lt civil.second 60
 
+-- `IsCivil` as a test
 abbrev pub is_civil : Civil → Bool
-is_civil c = is_date c && is_time c
+is_civil civil = is_date civil && is_time civil
 
 -- the seconds from 1970-01-01T00:00:00Z to a civil time from then on
 abbrev pub seconds_of : Civil → ℕ
-seconds_of c = 86400 * unsigned_abs (days_from_civil (pos c.year) c.month c.day) + second_of_day c
+seconds_of civil =
+    86400 * unsigned_abs (days_from_civil (pos civil.year) civil.month civil.day)
+    + second_of_day civil
 
 -- the milliseconds whose digits stand at their places in a text
 abbrev pub millis_at : MomentForm → List ℕ → ℕ
-millis_at Seconds t = 0
-millis_at Millis t = 100 * digit_of (slice_index t 20) + pair_at t 21
+millis_at Seconds text = 0
+millis_at Millis text = 100 * digit_of (slice_index text 20) + pair_at text 21
 
--- a civil time, and milliseconds that the form tells apart
+-- whether this is a civil time, and the form can write these milliseconds
 abbrev pub is_real : MomentForm → Civil → ℕ → Bool
-is_real form c n = is_civil c && nat_lt n (room_of form)
+is_real form civil n = is_civil civil && nat_lt n (room_of form)
 
--- the moment of a text in a form: that of the civil time and the milliseconds at their places, where
--- these are real and have this text
+-- the moment of a text in a form: that of the civil time and the milliseconds at their places,
+-- where these are real and have this text
 unfoldable pub moment_in : MomentForm → List ℕ → Option ℕ
-moment_in form t = if is_real form (civil_at t) (millis_at form t)
-    && bytes_eq (civil_text form (civil_at t) (millis_at form t)) t
-    then Some (seconds_of (civil_at t) * 1000 + millis_at form t) else None
+moment_in form text = if is_real form (civil_at text) (millis_at form text)
+    && bytes_eq (civil_text form (civil_at text) (millis_at form text)) text
+    then Some (seconds_of (civil_at text) * 1000 + millis_at form text) else None
 
 -- the one form that a text can be in, by its length
 abbrev pub form_of : List ℕ → MomentForm
-form_of t = if length t == 20 then Seconds else Millis
+form_of text = if length text == 20 then Seconds else Millis
 
 -- the moment of a text in either form
 abbrev pub moment_of : List ℕ → Option ℕ
-moment_of t = moment_in (form_of t) t
+moment_of text = moment_in (form_of text) text

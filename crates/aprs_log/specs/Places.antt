@@ -8,21 +8,22 @@ use Rattle.aprs_log.specs.Moment.{Civil}
 abbrev pub near_digit : ℕ → ℕ
 near_digit b = min 9 (b - 48)
 
+-- the number whose two digits are nearest to the bytes at i
 abbrev pub near_pair : List ℕ → ℕ → ℕ
-near_pair t i = 10 * near_digit (slice_index t i) + near_digit (slice_index t (i + 1))
+near_pair text i = 10 * near_digit (slice_index text i) + near_digit (slice_index text (i + 1))
 
 -- the civil time whose digits are nearest to the bytes at their places in a text
 abbrev pub near_civil : List ℕ → Civil
-near_civil t = record {
-  year = 100 * near_pair t 0 + near_pair t 2;
-  month = near_pair t 5;
-  day = near_pair t 8;
-  hour = near_pair t 11;
-  minute = near_pair t 14;
-  second = near_pair t 17;
+near_civil text = record {
+  year = 100 * near_pair text 0 + near_pair text 2;
+  month = near_pair text 5;
+  day = near_pair text 8;
+  hour = near_pair text 11;
+  minute = near_pair text 14;
+  second = near_pair text 17;
 }
 
 -- the milliseconds whose digits are nearest to the bytes at their places
 abbrev pub near_millis : MomentForm → List ℕ → ℕ
-near_millis Seconds t = 0
-near_millis Millis t = 100 * near_digit (slice_index t 20) + near_pair t 21
+near_millis Seconds text = 0
+near_millis Millis text = 100 * near_digit (slice_index text 20) + near_pair text 21

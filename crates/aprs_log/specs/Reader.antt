@@ -12,18 +12,19 @@ use Rattle.aprs_log.specs.declared.fault.LogFault.{LogFault}
 use Rattle.aprs_io.specs.declared.input.Ending.{Ending}
 use Rattle.aprs_log.specs.declared.reader.LogReader.{LogReader}
 
--- the reader that it borrows, and the name of that loan
+-- the device that it borrows
 abbrev pub source_of : {R : Type 0} → LogReader R → Counted R
 source_of r = r.source.now
 
+-- the name of that loan
 abbrev pub loan_of : {R : Type 0} → LogReader R → GName
 loan_of r = r.source.ghost_name
 
--- how many lines it has given
+-- how many lines it has returned
 abbrev pub lines_of : {R : Type 0} → LogReader R → ℕ
 lines_of r = r.line
 
--- the line that it gave last
+-- the line that it returned last
 abbrev pub current_of : {R : Type 0} → LogReader R → Line
 current_of r = r.current
 
@@ -39,28 +40,31 @@ HasLine bytes = IsTrue (has_byte 10 bytes)
 abbrev pub stop_of : {R : Type 0} → LogReader R → Option (Option LogFault)
 stop_of r = stop_in r.state r.line
 
--- these answers may come from now on, where the bytes that are left of the input are known, and the
--- device at the last has `end`
-abbrev pub Awaits : {R : Type 0} → Option (List ℕ) → Option (List ℕ) → LogReader R → Answers → Type 0
-Awaits known end r a = AwaitsIn r.state known end r.left r.line (items r.window) a
+-- these answers may follow, where the bytes that are left of the input are known, and the device at
+-- the last has `end`: some rest of the input yields them
+abbrev pub Awaits : {R : Type 0} → Option (List ℕ) → Option (List ℕ) → LogReader R → Answers
+    → Type 0
+Awaits known end r answers =
+    AwaitsIn r.state known end r.left r.line (items r.window) answers
 
--- what may come from now on, behind nothing more, may come where the reader was `old`
+-- a reader that moves without an answer: what may follow now, could have followed where it was
+-- `old`
 abbrev pub Moves : {R : Type 0} → Option (List ℕ) → LogReader R → Option (List ℕ) → LogReader R
     → Type 0
-Moves known old after new = (end : Option (List ℕ)) (a : Answers) → Awaits after end new a
-    → Awaits known end old a
+Moves known old after new = (end : Option (List ℕ)) (answers : Answers)
+    → Awaits after end new answers → Awaits known end old answers
 
--- a failed read is told
-abbrev pub TellsRead : {A : Type 0} → Result A LogFault → Type 0
-TellsRead r = IsErrAnd r (λ f. f.cause ≡ cause.Read)
+-- the answer reports a failed read
+abbrev pub ReportsRead : {A : Type 0} → Result A LogFault → Type 0
+ReportsRead r = IsErrAnd r (λ fault. fault.cause ≡ cause.Read)
 
--- the answers of a log of which at most `limit` bytes are got
-pub record AreAnswersOf (limit : ℕ) (input : List ℕ) (after : Option (List ℕ)) (a : Answers)
+-- these are the answers of a log of which at most `limit` bytes are got
+pub record AreAnswersOf (limit : ℕ) (input : List ℕ) (after : Option (List ℕ)) (answers : Answers)
     : Type 0 where
   pub text : List ℕ
   pub ending : Ending
   pub gets : Gets limit input after text ending
-  pub is : a ≡ log_answers text ending
+  pub is : answers ≡ log_answers text ending
 
 -- how much it may read yet, where it has not stopped
 abbrev pub work_of : {R : Type 0} → LogReader R → ℕ
@@ -69,29 +73,32 @@ work_of r = work_in r.state r.left
 -- what it answers where it has come to a fault or to the end
 abbrev pub answer_at : Option LogFault → Result (Option Line) LogFault
 answer_at None = Ok None
-answer_at (Some f) = Err f
+answer_at (Some fault) = Err fault
 
--- whether a line is told
-abbrev pub tells_line : Result Bool LogFault → Bool
-tells_line (Ok b) = b
-tells_line (Err f) = false
+-- whether a line is returned
+abbrev pub returns_line : Result Bool LogFault → Bool
+returns_line (Ok is_line) = is_line
+returns_line (Err fault) = false
 
--- what is told, where the line lies in the reader
-abbrev pub answer_told : Result Bool LogFault → Line → Result (Option Line) LogFault
-answer_told (Ok true) x = Ok (Some x)
-answer_told (Ok false) x = Ok None
-answer_told (Err f) x = Err f
+-- what is answered, where the line lies in the reader
+abbrev pub answer_with : Result Bool LogFault → Line → Result (Option Line) LogFault
+answer_with (Ok true) x = Ok (Some x)
+answer_with (Ok false) x = Ok None
+answer_with (Err fault) x = Err fault
 
--- the answer is the next of those that may come, where the reader and what its device has left
--- were `old` and `known`, and now are `new` and `after`
+-- The answer is right. Before it the reader and what its device had left were `old` and `known`,
+-- now they are `new` and `after`. Many answers may still follow, one list for each rest of the
+-- input. So to answer a line is right if that line, put before any answers that may follow now,
+-- gives answers that could have followed before; and the end or a fault is right if it, and nothing
+-- after it, could have followed before.
 abbrev pub GivesNext : {R : Type 0} → Result (Option Line) LogFault → Option (List ℕ) → LogReader R
     → Option (List ℕ) → LogReader R → Type 0
 GivesNext (Ok (Some x)) known old after new =
     (lines_of new ≡ lines_of old + 1) × (stop_of new ≡ None)
-    × ((end : Option (List ℕ)) (a : Answers) → Awaits after end new a
-    → Awaits known end old (then_given x a))
+    × ((end : Option (List ℕ)) (answers : Answers) → Awaits after end new answers
+    → Awaits known end old (then_given x answers))
 GivesNext (Ok None) known old after new =
     (lines_of new ≡ lines_of old) × (stop_of new ≡ Some None) × Awaits known after old (ended None)
-GivesNext (Err f) known old after new =
-    (lines_of new ≡ lines_of old) × (stop_of new ≡ Some (Some f))
-    × Awaits known after old (ended (Some f))
+GivesNext (Err fault) known old after new =
+    (lines_of new ≡ lines_of old) × (stop_of new ≡ Some (Some fault))
+    × Awaits known after old (ended (Some fault))

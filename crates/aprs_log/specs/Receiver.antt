@@ -3,13 +3,14 @@ use Rattle.std.specs.Prelude.{ℕ, ◌==◌, ◌||◌, ◌&&◌, Bool, List, len
 use Rattle.std.specs.Char.{is_ascii_alphanumeric}
 use Rattle.std.specs.List.{list_all}
 
--- a letter, a digit, `-` or `_`
+-- whether a byte is an ASCII letter, a digit, `-` or `_`
 abbrev pub is_name_byte : ℕ → Bool
 is_name_byte b = is_ascii_alphanumeric b || (b == 45) || (b == 95)
 
--- 1 to 16 such bytes
+-- whether bytes are a receiver's name: 1 to 16 such bytes
 abbrev pub is_name : List ℕ → Bool
 is_name bytes = nat_le 1 (length bytes) && nat_le (length bytes) 16 && list_all is_name_byte bytes
 
+-- the bytes are a receiver's name
 abbrev pub IsName : List ℕ → Type 0
 IsName bytes = IsTrue (is_name bytes)

@@ -10,7 +10,7 @@ pub record Heard : Type 0 where
   pub receiver : List ℕ
   pub frame : List ℕ
 
--- the order of byte lists: by the first byte that differs, a proper front before the whole
+-- the order of byte lists: by the first byte that differs, a proper prefix before the whole
 abbrev pub bytes_cmp : List ℕ → List ℕ → Ordering
 bytes_cmp = slice_cmp nat_cmp
 

@@ -6,9 +6,10 @@ ghost use Rattle.aprs_log.specs.Moment.{IsDay};
 use jiff::civil::Date;
 
 /// The days from -9999-01-01, at which the calendar's own count begins, to 1970-01-01.
-const FIRST_DAY: u32 = 4_371_587;
+const DAYS_BEFORE_1970: u32 = 4_371_587;
 
-/// The days from 1970-01-01 to a date, where the calendar has it.
+/// The days from 1970-01-01 to a date, where the calendar has it: fewer than the 47,482 to
+/// 2100-01-01.
 pub fn day_number(year: u16, month: u8, day: u8) -> Option<u32>
     requires low { 1970 ≤ year }
     requires high { year ≤ 2099 }
@@ -18,7 +19,7 @@ pub fn day_number(year: u16, month: u8, day: u8) -> Option<u32>
         (λ n. IsDay year month day × (pos n ≡ days_from_civil (pos year) month day) × (n < 47482)) }
 {
     match Date::new(year as i16, month as i8, day as i8) {
-        Ok(date) => Some(date.to_plain().days_since_min() - FIRST_DAY),
+        Ok(date) => Some(date.to_plain().days_since_min() - DAYS_BEFORE_1970),
         Err(_) => None,
     }
 }
@@ -29,6 +30,6 @@ pub fn date_of(day: u32) -> (u16, u8, u8)
     ensures date { IsDay result.0 result.1 result.2 }
     ensures number { days_from_civil (pos result.0) result.1 result.2 ≡ pos day }
 {
-    let date = jiff_core::civil::Date::from_days_since_min(FIRST_DAY + day);
+    let date = jiff_core::civil::Date::from_days_since_min(DAYS_BEFORE_1970 + day);
     (date.year.unsigned_abs(), date.month, date.day)
 }

@@ -1,6 +1,7 @@
 //! Dates of the civil calendar with a time of the day.
 ghost use Rattle.std.specs.Prelude.{◌≡◌, ◌≤◌, ◌<◌, ◌+◌, ◌*◌, ◌/◌, ◌%◌, ◌∷◌, ◌++◌, [], length, pos, SomeIff, IfSome};
 ghost use Rattle.aprs_log.specs.Moment.{Civil, civil_text, is_time, second_of_day, seconds_of, IsCivil};
+ghost use Rattle.aprs_log.specs.declared.moment.TheConstants.{LAST_SECOND};
 ghost use Rattle.aprs_log.specs.Places.{near_civil, near_digit, near_millis, near_pair};
 
 use crate::MomentForm;
@@ -8,10 +9,10 @@ use crate::calendar::{date_of, day_number};
 use std::marker::Model;
 
 /// The bytes of a date and time's text to the second.
-pub const SHORT: usize = 20;
+pub const SECONDS_LEN: usize = 20;
 
 /// The bytes of a date and time's text to the millisecond.
-pub const LONG: usize = 24;
+pub const MILLIS_LEN: usize = 24;
 
 /// A date and a time of its day, as the digits of a text say them.
 #[derive(Clone, Copy)]
@@ -67,10 +68,10 @@ impl CivilTime {
         ensures { SomeIff result (civil_text MomentForm.Seconds (near_civil text.now) 0 ≡ text.now)
             (near_civil text.now, 0) }
     {
-        if text.len() != SHORT {
+        if text.len() != SECONDS_LEN {
             return None;
         }
-        let civil = CivilTime::at(text);
+        let civil = CivilTime::from_digits(text);
         if civil.short_text().as_slice() == text {
             Some((civil, 0))
         } else {
@@ -84,11 +85,11 @@ impl CivilTime {
             (near_millis MomentForm.Millis text.now) ≡ text.now)
             (near_civil text.now, near_millis MomentForm.Millis text.now) }
     {
-        if text.len() != LONG {
+        if text.len() != MILLIS_LEN {
             return None;
         }
-        let civil = CivilTime::at(text);
-        let millis = u16::from(digit_of(text[20])) * 100 + u16::from(pair_at(text, 21));
+        let civil = CivilTime::from_digits(text);
+        let millis = u16::from(near_digit(text[20])) * 100 + u16::from(near_pair(text, 21));
         if civil.text(millis).as_slice() == text {
             Some((civil, millis))
         } else {
@@ -97,23 +98,23 @@ impl CivilTime {
     }
 
     /// The time whose digits stand at their places in a text.
-    fn at(text: &[u8]) -> CivilTime
+    fn from_digits(text: &[u8]) -> CivilTime
         requires { 20 ≤ length text.now }
         ensures { result ≡ near_civil text.now }
     {
         CivilTime {
-            year: u16::from(pair_at(text, 0)) * 100 + u16::from(pair_at(text, 2)),
-            month: pair_at(text, 5),
-            day: pair_at(text, 8),
-            hour: pair_at(text, 11),
-            minute: pair_at(text, 14),
-            second: pair_at(text, 17),
+            year: u16::from(near_pair(text, 0)) * 100 + u16::from(near_pair(text, 2)),
+            month: near_pair(text, 5),
+            day: near_pair(text, 8),
+            hour: near_pair(text, 11),
+            minute: near_pair(text, 14),
+            second: near_pair(text, 17),
         }
     }
 
     /// The date and the time of the day that are so many seconds after 1970-01-01T00:00:00Z.
-    pub fn of_seconds(seconds: u64) -> CivilTime
-        requires { seconds ≤ 4102444799 }
+    pub fn from_seconds(seconds: u64) -> CivilTime
+        requires { seconds ≤ LAST_SECOND }
         ensures real { IsCivil result }
         ensures number { seconds_of result ≡ seconds }
     {
@@ -132,7 +133,7 @@ impl CivilTime {
     /// The seconds from 1970-01-01T00:00:00Z to this time, where the calendar and the day have it.
     pub fn seconds(&self) -> Option<u64>
         ensures value { SomeIff result (IsCivil self.now) (seconds_of self.now) }
-        ensures bound { IfSome result (λ n. n ≤ 4102444799) }
+        ensures bound { IfSome result (λ n. n ≤ LAST_SECOND) }
     {
         if self.year < 1970 || self.year > 2099 || !self.is_time() {
             return None;
@@ -158,7 +159,7 @@ impl CivilTime {
     }
 
     /// The text to the second, as `2024-05-01T12:00:00Z`.
-    fn short_text(&self) -> [u8; SHORT]
+    fn short_text(&self) -> [u8; SECONDS_LEN]
         ensures { result ≡ civil_text MomentForm.Seconds self.now 0 }
     {
         let century = (self.year / 100) as u8;
@@ -188,11 +189,11 @@ impl CivilTime {
     }
 
     /// The text to the millisecond, as `2024-05-01T12:00:00.000Z`.
-    pub fn text(&self, millis: u16) -> [u8; LONG]
+    pub fn text(&self, millis: u16) -> [u8; MILLIS_LEN]
         requires { millis < 1000 }
         ensures { result ≡ civil_text MomentForm.Millis self.now millis }
     {
-        let mut text = [b'Z'; LONG];
+        let mut text = [b'Z'; MILLIS_LEN];
         text[..19].copy_from_slice(&self.short_text()[..19]);
         text[19] = b'.';
         text[20] = b'0' + (millis / 100) as u8;
@@ -203,7 +204,7 @@ impl CivilTime {
 }
 
 /// The value of a digit, and of another byte that of the digit next to it.
-fn digit_of(byte: u8) -> u8
+fn near_digit(byte: u8) -> u8
     ensures value { result ≡ near_digit byte }
     ensures bound { result ≤ 9 }
 {
@@ -211,12 +212,12 @@ fn digit_of(byte: u8) -> u8
 }
 
 /// The number whose two digits stand at `i`.
-fn pair_at(text: &[u8], i: usize) -> u8
+fn near_pair(text: &[u8], i: usize) -> u8
     requires { i + 1 < length text.now }
     ensures value { result ≡ near_pair text.now i }
     ensures bound { result < 100 }
 {
-    digit_of(text[i]) * 10 + digit_of(text[i + 1])
+    near_digit(text[i]) * 10 + near_digit(text[i + 1])
 }
 
 fn tens(n: u8) -> u8

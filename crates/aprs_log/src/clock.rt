@@ -14,7 +14,7 @@ const DATE_LEN: usize = 11;
 const TIME_LEN: usize = 8;
 
 /// How many milliseconds a day has.
-const DAY: u64 = 86_400_000;
+const MILLIS_A_DAY: u64 = 86_400_000;
 
 /// A date and its first moment, since lines of a log that follow one another mostly have the same
 /// date.
@@ -69,7 +69,7 @@ impl Clock {
     {
         let moment = Moment::parse(text)?;
         let millis = moment.millis();
-        if let Some(midnight) = Moment::from_millis(millis - millis % DAY) {
+        if let Some(midnight) = Moment::from_millis(millis - millis % MILLIS_A_DAY) {
             let mut date = [0; DATE_LEN];
             date.copy_from_slice(&text[..DATE_LEN]);
             *self = Clock { date, midnight };
@@ -78,12 +78,12 @@ impl Clock {
     }
 }
 
-/// The second of the day that a text as `12:00:00` tells, where it is one.
+/// The second of the day of a text as `12:00:00`, where it is one.
 fn second_of_text(text: &[u8]) -> Option<u32>
     requires { length text.now ≡ 8 }
     ensures { IfSome result (λ n. SecondText n text.now) }
 {
-    let (hour, minute, second) = (pair_at(text, 0), pair_at(text, 3), pair_at(text, 6));
+    let (hour, minute, second) = (digits_at(text, 0), digits_at(text, 3), digits_at(text, 6));
     let is_marked = text[2] == b':' && text[5] == b':';
     if hour < 24 && minute < 60 && second < 60 && is_marked {
         Some(u32::from(hour) * 3600 + u32::from(minute) * 60 + u32::from(second))
@@ -92,7 +92,7 @@ fn second_of_text(text: &[u8]) -> Option<u32>
     }
 }
 
-/// The millisecond of a second that the end of a text tells, `Z` or as `.000Z`, where it is one.
+/// The millisecond of a second of the end of a text, `Z` or as `.000Z`, where it is one.
 fn milli_of_text(text: &[u8]) -> Option<u32>
     requires { (length text.now ≡ 1) ⊎ (length text.now ≡ 5) }
     ensures { IfSome result (λ n. FractionText (form_of_end text.now) n text.now) }
@@ -101,7 +101,7 @@ fn milli_of_text(text: &[u8]) -> Option<u32>
         return if text[0] == b'Z' { Some(0) } else { None };
     }
     let hundreds = text[1].wrapping_sub(b'0');
-    let rest = pair_at(text, 2);
+    let rest = digits_at(text, 2);
     if text[0] == b'.' && hundreds < 10 && rest < 100 && text[4] == b'Z' {
         Some(u32::from(hundreds) * 100 + u32::from(rest))
     } else {
@@ -110,7 +110,7 @@ fn milli_of_text(text: &[u8]) -> Option<u32>
 }
 
 /// The number whose two digits stand at `i`, and 255 where none do.
-fn pair_at(text: &[u8], i: usize) -> u8
+fn digits_at(text: &[u8], i: usize) -> u8
     requires { i + 1 < length text.now }
     ensures { result < 100
         → two_digits result ≡ slice_index text.now i ∷ slice_index text.now (i + 1) ∷ [] }

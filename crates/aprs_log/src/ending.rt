@@ -9,15 +9,15 @@ use aprs_io::Ending;
 /// What a reader of a log does next.
 #[derive(Clone, Copy, Debug, PartialEq, Eq)]
 pub enum State {
-    /// It gives lines.
+    /// It returns lines.
     Reading,
-    /// It tells the end.
+    /// It reports the end.
     Ended,
-    /// It tells a fault.
+    /// It reports a fault.
     Failed(LogCause),
 }
 
-/// Why a log ends at `tail`, which stands after its last LF, unless it ends well.
+/// Why a log ends at `tail`, the bytes after its last LF, unless it ends well.
 pub fn refuse_tail(tail: &[u8], ending: Ending) -> Option<LogCause>
     ensures { result ≡ tail_cause tail.now ending }
 {

@@ -15,7 +15,8 @@ ghost use Rattle.aprs_log.specs.Fault.{
 use aprs_ax25::FrameFault;
 use aprs_kiss::PassFault;
 
-/// What is wrong with a line of a log, in the order in which a line is judged.
+/// What is wrong with a line of a log, in the order in which a line is read: the first fault is
+/// returned.
 #[derive(Clone, Copy, Debug, PartialEq, Eq)]
 pub enum LineFault {
     /// The line has more than 8,192 bytes.
@@ -26,7 +27,7 @@ pub enum LineFault {
     Moment,
     /// No receiver's name stands between the first two spaces.
     Receiver,
-    /// What stands after the second space are no bytes in hexadecimal.
+    /// What stands after the second space isn't an even number of hexadecimal digits.
     Hex,
 }
 
@@ -69,13 +70,13 @@ pub enum LogCause {
     Moment,
     /// No receiver's name stands between a line's first two spaces.
     Receiver,
-    /// What stands after a line's second space are no bytes in hexadecimal.
+    /// What stands after a line's second space isn't an even number of hexadecimal digits.
     Hex,
-    /// The reader failed.
+    /// A read of the device failed.
     Read,
     /// The input has more bytes than the limit.
     TooLong,
-    /// Memory was refused.
+    /// An allocation failed. No call of this crate returns it.
     Memory,
 }
 
@@ -127,29 +128,32 @@ impl From<LineFault> for LogCause {
     }
 }
 
-/// The line, counted from 1, at which a log is read no further, and why.
+/// Where a log is read no further, and why.
 #[derive(Clone, Copy, Debug, PartialEq, Eq)]
 pub struct LogFault {
-    /// The number of the line.
+    /// The number of the line, counted from 1, that was not returned: one more than the lines that
+    /// were. Of a failed read, of a log without its last LF and of one over the limit, it is the
+    /// line whose end was not reached, of which no byte need have come.
     pub line: u64,
-    /// Why.
+    /// Why that line was not returned.
     pub cause: LogCause,
 }
 
-/// Why a sound line holds no frame, in the order in which its bytes are judged.
+/// Why a sound line holds no frame, in the order in which its bytes are judged: by KISS first, then
+/// by section 3 of AX.25 2.2.
 #[derive(Clone, Copy, Debug, PartialEq, Eq)]
 pub enum Reason {
-    /// Bytes follow the last frame end.
+    /// Bytes follow the last frame end (FEND, C0).
     Unended,
-    /// No byte stands before a frame end.
+    /// No byte stands between frame ends.
     NoFrame,
     /// Two frames or more.
     TwoFrames,
-    /// An escape that nothing fitting follows.
+    /// An escape (FESC, DB) that neither DC nor DD follows.
     BadEscape,
     /// A frame of more than 1,024 bytes.
     TooLong,
-    /// A command other than data.
+    /// A KISS command other than data.
     NotData,
     /// The address field doesn't end after 2 to 10 addresses.
     Address,
@@ -157,7 +161,7 @@ pub enum Reason {
     Callsign,
     /// The control octet isn't that of a UI frame.
     Control,
-    /// The protocol isn't that of no layer 3.
+    /// The protocol identifier isn't F0, no layer 3.
     Pid,
     /// No information follows.
     NoInfo,

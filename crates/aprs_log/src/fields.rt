@@ -4,7 +4,7 @@ ghost use Rattle.std.specs.Prelude.{◌≡◌, ◌↔◌, IsTrue, MatchOption};
 ghost use Rattle.std.specs.List.{position};
 ghost use Rattle.aprs_log.specs.Fields.{EndsMoment, EndsNoMoment, HasSpace, TakesMoment, TakesName, TakesNoMoment, TakesNoName, ends_name};
 
-use crate::civil::{LONG, SHORT};
+use crate::civil::{MILLIS_LEN, SECONDS_LEN};
 use crate::clock::Clock;
 use crate::receiver::is_name_byte;
 use crate::{Moment, Receiver};
@@ -26,10 +26,10 @@ pub fn first_moment<'a>(clock: &mut Clock, line: &'a [u8]) -> Option<(Moment, &'
 fn moment_len(line: &[u8]) -> Option<usize>
     ensures { MatchOption result (EndsNoMoment line.now) (EndsMoment line.now) }
 {
-    if has_space(line, SHORT) {
-        Some(SHORT)
-    } else if has_space(line, LONG) {
-        Some(LONG)
+    if has_space(line, SECONDS_LEN) {
+        Some(SECONDS_LEN)
+    } else if has_space(line, MILLIS_LEN) {
+        Some(MILLIS_LEN)
     } else {
         None
     }

@@ -7,15 +7,16 @@ mod clock;
 mod ending;
 mod fault;
 mod fields;
+mod frame_in_line;
+mod laws;
 mod line;
-mod line_bytes;
 mod moment;
 mod moment_form;
+mod next_line;
 mod reader;
 mod receiver;
 mod reception;
 mod scratch;
-mod take;
 mod window;
 mod write;
 

@@ -1,48 +1,47 @@
 //! Lines of a log.
 ghost use Rattle.std.specs.Prelude.{◌≡◌, ◌≤◌, ◌*◌, ◌↔◌, length, IsOk, OnErr};
-ghost use Rattle.hex.specs.Hex.{decode_of};
 ghost use Rattle.aprs_ax25.specs.FrameFault.{frame_of};
-ghost use Rattle.aprs_log.specs.Line.{frame_or_reason, heard_or_passed, line_of, line_of_bytes, LineSyntax};
-ghost use Rattle.aprs_log.specs.Slot.{told_in};
+ghost use Rattle.aprs_log.specs.Line.{frame_or_reason, heard_or_passed, line_in, line_of, line_of_digits, LineSyntax};
 
 use crate::fault::{LineFault, Reason};
 use crate::fields::{first_moment, take_receiver};
-use crate::line_bytes::data_in;
+use crate::frame_in_line::data_in;
 use crate::scratch::Scratch;
 use crate::{Moment, Receiver, Reception};
 use aprs_ax25::Frame;
 use aprs_io::decode_into;
 
-/// The most bytes of a line, without its LF.
+/// The most bytes of a line of a log, without its LF.
 pub const MAX_LINE: usize = 8192;
 
-/// What a sound line of a log tells.
+/// What a sound line of a log reports.
 #[derive(PartialEq, Eq, Drop)]
 pub enum Line {
-    /// A frame was heard.
+    /// A frame was heard, by whom and when.
     Heard(Reception),
-    /// The line's bytes hold no frame, and why.
+    /// The line's bytes hold no frame, and the first reason why.
     Passed(Reason),
 }
 
-/// What a line tells, without its LF: a moment, a space, a receiver's name, a space, and the bytes
-/// that the receiver gave, in hexadecimal. Or the first fault of `LongLine`, `Moment`, `Receiver`
-/// and `Hex`. Bytes that aren't one KISS frame with an AX.25 frame in it are no fault: such a line
+/// Reads one line of a log, without its LF: a moment, a space, a receiver's name, a space, and the
+/// bytes that the receiver gave, in hexadecimal of either case. A line of more than `MAX_LINE`
+/// bytes or of another form is refused with the first fault of `LongLine`, `Moment`, `Receiver` and
+/// `Hex`. Bytes that aren't one KISS frame with an AX.25 UI frame in it are no fault: such a line
 /// is passed over. Takes no memory.
 pub fn read_line(line: &[u8]) -> Result<Line, LineFault>
     ensures line { result ≡ line_of line.now }
     // Whatever the bytes are, a line of this syntax is not refused.
-    ensures sound { IsOk result ↔ ((length line.now ≤ 8192) × LineSyntax line.now) }
+    ensures sound { IsOk result ↔ ((length line.now ≤ MAX_LINE) × LineSyntax line.now) }
 {
-    let mut told = Line::empty();
-    match read_fields(line, &mut Scratch::new(), &mut told) {
-        Ok(()) => Ok(told),
+    let mut found = Line::empty();
+    match read_fields(line, &mut Scratch::new(), &mut found) {
+        Ok(()) => Ok(found),
         Err(fault) => Err(fault),
     }
 }
 
 impl Line {
-    /// The line of no bytes.
+    /// The line that a reader has before its first: passed over, with no frame in it.
     pub(crate) fn empty() -> Line
         ensures { result ≡ Line.Passed Reason.NoFrame }
     {
@@ -61,24 +60,24 @@ impl Line {
 
     /// Becomes the line of a frame that was heard, where the bytes are one, or of the reason why
     /// they are none.
-    fn hear(&mut self, moment: Moment, receiver: Receiver, bytes: &[u8])
+    fn assign(&mut self, moment: Moment, receiver: Receiver, bytes: &[u8])
         ensures { self.new
             ≡ heard_or_passed moment receiver (frame_or_reason (frame_of bytes.now)) }
     {
         let Line::Heard(reception) = self else {
-            self.hear_anew(moment, receiver, bytes);
+            self.assign_anew(moment, receiver, bytes);
             return;
         };
-        if let Err(fault) = reception.rehear(moment, receiver, bytes) {
+        if let Err(fault) = reception.assign(moment, receiver, bytes) {
             self.pass(Reason::from(fault));
         }
     }
 
-    /// Becomes the same line, where none was heard before. Apart from `hear`, which so has no room
-    /// for a line to clear.
+    /// Becomes the same line, where none was heard before. Apart from `assign`, which so has no
+    /// room for a line to clear.
     #[cold]
     #[inline(never)]
-    fn hear_anew(&mut self, moment: Moment, receiver: Receiver, bytes: &[u8])
+    fn assign_anew(&mut self, moment: Moment, receiver: Receiver, bytes: &[u8])
         ensures { self.new
             ≡ heard_or_passed moment receiver (frame_or_reason (frame_of bytes.now)) }
     {
@@ -98,14 +97,14 @@ impl Line {
     }
 }
 
-/// Reads the same, field by field, into `told`, which a fault leaves as it was.
+/// Reads a line as `read_line` does, field by field, into `found`, which a fault leaves as it was.
 pub(crate) fn read_fields(
     line: &[u8],
     scratch: &mut Scratch,
-    told: &mut Line,
+    found: &mut Line,
 ) -> Result<(), LineFault>
-    ensures told { told_in result told.new ≡ line_of line.now }
-    ensures unchanged { OnErr result (told.new ≡ told.old) }
+    ensures line { line_in result found.new ≡ line_of line.now }
+    ensures unchanged { OnErr result (found.new ≡ found.old) }
 {
     if line.len() > MAX_LINE {
         return Err(LineFault::LongLine);
@@ -117,27 +116,27 @@ pub(crate) fn read_fields(
     let Some((receiver, digits)) = take_receiver(rest) else {
         return Err(LineFault::Receiver);
     };
-    read_within(moment, receiver, digits, scratch, told)
+    read_within(moment, receiver, digits, scratch, found)
 }
 
-/// Reads the line of a moment, a receiver and the bytes that the receiver gave.
+/// Reads the line of a moment, a receiver and the digits of the bytes that the receiver gave.
 fn read_within(
     moment: Moment,
     receiver: Receiver,
     digits: &[u8],
     scratch: &mut Scratch,
-    told: &mut Line,
+    found: &mut Line,
 ) -> Result<(), LineFault>
-    requires { length digits.now ≤ 8192 }
-    ensures told { told_in result told.new ≡ line_of_bytes moment receiver (decode_of digits.now) }
-    ensures unchanged { OnErr result (told.new ≡ told.old) }
+    requires { length digits.now ≤ MAX_LINE }
+    ensures line { line_in result found.new ≡ line_of_digits moment receiver digits.now }
+    ensures unchanged { OnErr result (found.new ≡ found.old) }
 {
-    let Some(len) = decode_into(digits, &mut scratch.room) else {
+    let Some(len) = decode_into(digits, &mut scratch.bytes) else {
         return Err(LineFault::Hex);
     };
-    match data_in(&mut scratch.kiss, &scratch.room[..len]) {
-        Ok(data) => told.hear(moment, receiver, data),
-        Err(reason) => told.pass(reason),
+    match data_in(&mut scratch.kiss, &scratch.bytes[..len]) {
+        Ok(data) => found.assign(moment, receiver, data),
+        Err(reason) => found.pass(reason),
     }
     Ok(())
 }

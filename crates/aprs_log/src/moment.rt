@@ -4,17 +4,18 @@ ghost use Rattle.std.specs.Ordering.{nat_cmp, as_partial_cmp};
 ghost use Rattle.std.proofs.Common.{rules};
 ghost use Rattle.std.specs.Cmp.{partial_order_from_own_ties};
 ghost use Rattle.std.specs.Cmp.Rules.{comparing};
+ghost use Rattle.aprs_log.specs.declared.moment.TheConstants.{LAST_MILLI};
 ghost use Rattle.aprs_log.specs.Moment.{MomentText, MomentTextIn, form_of, moment_in, moment_of, moment_text};
 
 use crate::MomentForm;
-use crate::civil::{CivilTime, SHORT};
+use crate::civil::{CivilTime, SECONDS_LEN};
 use std::cmp::Ordering;
 use std::marker::Model;
 
-/// The last second of the year 2099.
-const LAST_SECOND: u64 = 4_102_444_799;
+/// The last second of the year 2099, in seconds since 1970-01-01T00:00:00Z.
+pub(crate) const LAST_SECOND: u64 = 4_102_444_799;
 
-/// The last millisecond of the year 2099.
+/// The last millisecond of the year 2099, in milliseconds since 1970-01-01T00:00:00Z.
 const LAST_MILLI: u64 = 4_102_444_799_999;
 
 /// A whole millisecond from 1970-01-01T00:00:00.000Z to 2099-12-31T23:59:59.999Z. No second is a
@@ -29,7 +30,7 @@ impl Model for Moment {
 
     ghost view = { λ m. m.millis };
 
-    ghost invariant = { λ m. m.millis ≤ 4102444799999 };
+    ghost invariant = { λ m. m.millis ≤ LAST_MILLI };
 
     ghost inverse = { λ n. record { millis = n } };
 }
@@ -38,7 +39,7 @@ impl Moment {
     /// The moment so many seconds after 1970-01-01T00:00:00Z, where these are 0 to 4,102,444,799.
     /// Takes no memory.
     pub fn new(seconds: u64) -> Option<Moment>
-        ensures { SomeIff result (seconds ≤ 4102444799) (seconds * 1000) }
+        ensures { SomeIff result (seconds ≤ LAST_SECOND) (seconds * 1000) }
     {
         if seconds <= LAST_SECOND {
             Some(Moment {
@@ -52,7 +53,7 @@ impl Moment {
     /// The moment so many milliseconds after 1970-01-01T00:00:00Z, where these are 0 to
     /// 4,102,444,799,999. Takes no memory.
     pub fn from_millis(millis: u64) -> Option<Moment>
-        ensures { SomeIff result (millis ≤ 4102444799999) millis }
+        ensures { SomeIff result (millis ≤ LAST_MILLI) millis }
     {
         if millis <= LAST_MILLI {
             Some(Moment { millis })
@@ -71,7 +72,7 @@ impl Moment {
     /// The milliseconds since 1970-01-01T00:00:00Z. Takes no memory.
     pub fn millis(&self) -> u64
         ensures value { result ≡ self.now }
-        ensures in_range { result ≤ 4102444799999 }
+        ensures in_range { result ≤ LAST_MILLI }
     {
         self.millis
     }
@@ -79,7 +80,7 @@ impl Moment {
     /// The whole seconds since 1970-01-01T00:00:00Z, rounded down. Takes no memory.
     pub fn seconds(&self) -> u64
         ensures value { result ≡ self.now / 1000 }
-        ensures in_range { result ≤ 4102444799 }
+        ensures in_range { result ≤ LAST_SECOND }
     {
         self.millis / 1000
     }
@@ -116,7 +117,7 @@ impl Moment {
         ensures exact { (t : List ℕ) → (t ≡ result) ↔ MomentTextIn MomentForm.Millis self.now t }
         ensures reads_back { moment_of result ≡ Some self.now }
     {
-        CivilTime::of_seconds(self.millis / 1000).text((self.millis % 1000) as u16)
+        CivilTime::from_seconds(self.millis / 1000).text((self.millis % 1000) as u16)
     }
 
     /// Each moment has a text. Does nothing.
@@ -126,7 +127,7 @@ impl Moment {
         let _in_range = self.millis();
     }
 
-    /// The same moment.
+    /// The same moment. Takes no memory.
     pub fn copy(&self) -> Moment
         ensures { result ≡ self.now }
     {
@@ -163,7 +164,7 @@ impl PartialOrd for Moment {
 fn form_of(text: &[u8]) -> MomentForm
     ensures { result ≡ form_of text.now }
 {
-    if text.len() == SHORT {
+    if text.len() == SECONDS_LEN {
         MomentForm::Seconds
     } else {
         MomentForm::Millis

@@ -1,20 +1,21 @@
 //! A reader of a log's lines.
 ghost use Rattle.std.specs.Prelude.{◌≡◌, ◌≢◌, ◌+◌, ◌≤◌, length};
+ghost use Rattle.aprs_io.specs.declared.input.TheConstants.{MAX_INPUT};
 ghost use Rattle.aprs_log.specs.Awaits.{KeepsMemory};
 ghost use Rattle.aprs_log.specs.Window.{items};
 
 use crate::ending::{State, refuse_tail};
 use crate::fault::{LogCause, LogFault, Reason};
 use crate::line::{Line, MAX_LINE};
+use crate::next_line::take_line;
 use crate::scratch::Scratch;
-use crate::take::take_line;
 use crate::window::Window;
 use aprs_io::Counted;
 use std::alloc::Allocator;
 use std::io::Read;
 
-/// Gives the lines of a log in order, up to the first fault. It has a buffer of its own, and keeps
-/// the line that it gave last.
+/// Returns the lines of a log in order, up to the first fault. It has a buffer of its own, and
+/// keeps the line that it returned last.
 #[derive(Drop)]
 pub struct LogReader<'a, R> {
     source: &'a mut Counted<R>,
@@ -24,7 +25,7 @@ pub struct LogReader<'a, R> {
     left: u64,
     line: u64,
     state: State,
-    ghost few: { line + length (items window) + left ≤ 1073741824 },
+    ghost few: { line + length (items window) + left ≤ MAX_INPUT },
     ghost no_memory: { KeepsMemory state },
 }
 
@@ -35,19 +36,19 @@ impl<'a, R: Read> LogReader<'a, R> {
     ghost use Rattle.aprs_io.specs.Cut.{cut_at};
     ghost use Rattle.aprs_log.specs.LogAnswers.{Answers, then_given};
     ghost use Rattle.aprs_log.specs.Window.{items};
-    ghost use Rattle.aprs_log.specs.Reader.{answer_at, answer_told, Awaits, AreAnswersOf, GivesNext, HasLine, current_of, held_of, lines_of, loan_of, source_of, stop_of, tells_line, work_of, Moves, TellsRead};
+    ghost use Rattle.aprs_log.specs.Reader.{answer_at, answer_with, Awaits, AreAnswersOf, GivesNext, HasLine, current_of, held_of, lines_of, loan_of, source_of, stop_of, returns_line, work_of, Moves, ReportsRead};
 
     /// A reader of the log that begins with `head` and goes on with the bytes of `source`. It takes
     /// at most `limit` bytes, the head among them. Requires that `limit` is at most `MAX_INPUT`,
-    /// 1,073,741,824, that the head has at most 8 bytes, and that it has no more than `limit`. It
-    /// reads nothing yet, refuses nothing, and takes no memory: it asks nothing of the allocator.
+    /// that the head has at most 8 bytes, and that it has no more than `limit`. It reads nothing
+    /// yet, cannot fail, and takes no memory: it asks nothing of the allocator.
     pub fn new<A: Allocator + Copy>(
         _alloc: A,
         limit: u64,
         head: &[u8],
         source: &'a mut Counted<R>,
     ) -> LogReader<'a, R>
-        requires limit { limit ≤ 1073741824 }
+        requires limit { limit ≤ MAX_INPUT }
         requires head { length head.now ≤ 8 }
         requires within { length head.now ≤ limit }
         ensures same_reference { loan_of result ≡ source.entry.ghost_name }
@@ -57,13 +58,13 @@ impl<'a, R: Read> LogReader<'a, R> {
         ensures held { held_of result ≡ head.now }
         ensures going { stop_of result ≡ None }
         // What may come are the answers of the whole log.
-        ensures whole { (end : Option (List ℕ)) (a : Answers)
-            → Awaits (R.remaining (device_of (source_of result))) end result a
+        ensures whole { (end : Option (List ℕ)) (answers : Answers)
+            → Awaits (R.remaining (device_of (source_of result))) end result answers
             → IfSome (R.remaining (device_of source.old))
-            (λ input. AreAnswersOf limit (head.now ++ input) end a) }
+            (λ input. AreAnswersOf limit (head.now ++ input) end answers) }
         // Some answers may always come.
-        ensures awaits { (a : Answers) × Awaits (R.remaining (device_of (source_of result)))
-            (R.remaining (device_of (source_of result))) result a }
+        ensures awaits { (answers : Answers) × Awaits (R.remaining (device_of (source_of result)))
+            (R.remaining (device_of (source_of result))) result answers }
     {
         LogReader {
             source,
@@ -76,14 +77,14 @@ impl<'a, R: Read> LogReader<'a, R> {
         }
     }
 
-    /// The number of the last line that was given, from 1, or 0 before any.
+    /// The number of the last line that it returned, from 1, or 0 before any. Takes no memory.
     pub fn line(&self) -> u64
         ensures { result ≡ lines_of self.now }
     {
         self.line
     }
 
-    /// How many calls of the reader that it borrows failed.
+    /// How many calls of the device that it reads from failed. Takes no memory.
     pub fn failures(&self) -> u64
         ensures { result ≡ failures_of (source_of self.now) }
     {
@@ -106,16 +107,16 @@ impl<'a, R: Read> LogReader<'a, R> {
             → result ≡ answer_at stop }
         ensures stays { (stop : Option LogFault) → stop_of self.old ≡ Some stop
             → (stop_of self.new ≡ Some stop) × (source_of self.new ≡ source_of self.old) }
-        ensures number { IfErr result (λ f. f.line ≡ lines_of self.new + 1) }
+        ensures number { IfErr result (λ fault. fault.line ≡ lines_of self.new + 1) }
         // Some answers may always come.
-        ensures awaits { (a : Answers) × Awaits (R.remaining (device_of (source_of self.new)))
-            (R.remaining (device_of (source_of self.new))) self.new a }
-        ensures read { IfErr result (λ f. f.cause ≡ LogCause.Read → stop_of self.old ≡ None
+        ensures awaits { (answers : Answers) × Awaits (R.remaining (device_of (source_of self.new)))
+            (R.remaining (device_of (source_of self.new))) self.new answers }
+        ensures read { IfErr result (λ fault. fault.cause ≡ LogCause.Read → stop_of self.old ≡ None
             → Rose (failures_of (source_of self.old)) (failures_of (source_of self.new))) }
-        // A failed read is told where a call of the reader answered one, and nowhere else.
-        ensures answered { stop_of self.old ≡ None → RoseWhere (TellsRead result)
+        // It reports a failed read where a call of the device answered one, and nowhere else.
+        ensures answered { stop_of self.old ≡ None → RoseWhere (ReportsRead result)
             (answered_of (source_of self.old)) (answered_of (source_of self.new)) }
-        ensures memory { IfErr result (λ f. f.cause ≢ LogCause.Memory) }
+        ensures memory { IfErr result (λ fault. fault.cause ≢ LogCause.Memory) }
     {
         match self.advance() {
             Ok(true) => Ok(Some(self.current.copy())),
@@ -129,29 +130,29 @@ impl<'a, R: Read> LogReader<'a, R> {
     pub fn advance(&mut self) -> Result<bool, LogFault>
         ensures same_reference { loan_of self.new ≡ loan_of self.old }
         ensures count { failures_of (source_of self.old) ≤ failures_of (source_of self.new) }
-        ensures gives { GivesNext (answer_told result (current_of self.new))
+        ensures gives { GivesNext (answer_with result (current_of self.new))
             (R.remaining (device_of (source_of self.old))) self.old
             (R.remaining (device_of (source_of self.new))) self.new }
         // A line that it holds whole is answered without a read.
         ensures unread { stop_of self.old ≡ None → HasLine (held_of self.old)
             → source_of self.new ≡ source_of self.old }
         // Where no line comes, the last one stays.
-        ensures keeps { tells_line result ≡ false → current_of self.new ≡ current_of self.old }
+        ensures keeps { returns_line result ≡ false → current_of self.new ≡ current_of self.old }
         // What it came to stays, and it reads no more.
         ensures repeats { (stop : Option LogFault) → stop_of self.old ≡ Some stop
-            → answer_told result (current_of self.new) ≡ answer_at stop }
+            → answer_with result (current_of self.new) ≡ answer_at stop }
         ensures stays { (stop : Option LogFault) → stop_of self.old ≡ Some stop
             → (stop_of self.new ≡ Some stop) × (source_of self.new ≡ source_of self.old) }
-        ensures number { IfErr result (λ f. f.line ≡ lines_of self.new + 1) }
+        ensures number { IfErr result (λ fault. fault.line ≡ lines_of self.new + 1) }
         // Some answers may always come.
-        ensures awaits { (a : Answers) × Awaits (R.remaining (device_of (source_of self.new)))
-            (R.remaining (device_of (source_of self.new))) self.new a }
-        ensures read { IfErr result (λ f. f.cause ≡ LogCause.Read → stop_of self.old ≡ None
+        ensures awaits { (answers : Answers) × Awaits (R.remaining (device_of (source_of self.new)))
+            (R.remaining (device_of (source_of self.new))) self.new answers }
+        ensures read { IfErr result (λ fault. fault.cause ≡ LogCause.Read → stop_of self.old ≡ None
             → Rose (failures_of (source_of self.old)) (failures_of (source_of self.new))) }
-        // A failed read is told where a call of the reader answered one, and nowhere else.
-        ensures answered { stop_of self.old ≡ None → RoseWhere (TellsRead result)
+        // It reports a failed read where a call of the device answered one, and nowhere else.
+        ensures answered { stop_of self.old ≡ None → RoseWhere (ReportsRead result)
             (answered_of (source_of self.old)) (answered_of (source_of self.new)) }
-        ensures memory { IfErr result (λ f. f.cause ≢ LogCause.Memory) }
+        ensures memory { IfErr result (λ fault. fault.cause ≢ LogCause.Memory) }
     {
         loop {
             match self.state {
@@ -188,10 +189,10 @@ impl<'a, R: Read> LogReader<'a, R> {
         ensures same_reference { loan_of self.new ≡ loan_of self.old }
         ensures count { failures_of (source_of self.old) ≤ failures_of (source_of self.new) }
         ensures given { OnTrue result ((lines_of self.new ≡ lines_of self.old + 1)
-            × ((end : Option (List ℕ)) (a : Answers)
-            → Awaits (R.remaining (device_of (source_of self.new))) end self.new a
+            × ((end : Option (List ℕ)) (answers : Answers)
+            → Awaits (R.remaining (device_of (source_of self.new))) end self.new answers
             → Awaits (R.remaining (device_of (source_of self.old))) end self.old
-            (then_given (current_of self.new) a))) }
+            (then_given (current_of self.new) answers))) }
         ensures none { OnFalse result ((lines_of self.new ≡ lines_of self.old)
             × (current_of self.new ≡ current_of self.old)
             × Moves (R.remaining (device_of (source_of self.old))) self.old

@@ -30,7 +30,8 @@ impl Model for Receiver {
 }
 
 impl Receiver {
-    /// The receiver of this name, where the bytes are one. Takes no memory.
+    /// The receiver of this name, where the bytes are 1 to 16 ASCII letters, digits, `-` and `_`.
+    /// Takes no memory.
     pub fn parse(bytes: &[u8]) -> Option<Receiver>
         ensures { SomeIff result (IsName bytes.now) bytes.now }
     {
@@ -52,7 +53,7 @@ impl Receiver {
         }
     }
 
-    /// The bytes of the name.
+    /// The bytes of the name, 1 to 16 of ASCII. Takes no memory.
     pub fn as_bytes(&self) -> &[u8]
         ensures value { result.now ≡ self.now }
         ensures name { IsName self.now }

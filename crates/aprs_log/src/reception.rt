@@ -30,7 +30,7 @@ impl Model for Reception {
 }
 
 impl Reception {
-    /// The reception of these three parts.
+    /// The reception of these three parts. Takes no memory.
     pub fn new(moment: Moment, receiver: Receiver, frame: Frame) -> Reception
         ensures { result ≡ record { moment = moment; receiver = receiver; frame = frame } }
     {
@@ -41,9 +41,8 @@ impl Reception {
         }
     }
 
-    /// Puts the reception of these parts in the place of this one, where the bytes are a frame.
-    /// Takes no memory.
-    pub(crate) fn rehear(
+    /// Becomes the reception of these parts, where the bytes are a frame. Takes no memory.
+    pub(crate) fn assign(
         &mut self,
         moment: Moment,
         receiver: Receiver,
@@ -59,21 +58,21 @@ impl Reception {
         self.frame.reread(bytes)
     }
 
-    /// When the frame was heard.
+    /// When the frame was heard. Takes no memory.
     pub fn moment(&self) -> Moment
         ensures { result ≡ self.now.moment }
     {
         self.moment
     }
 
-    /// Who heard it.
+    /// Which receiver heard it. Takes no memory.
     pub fn receiver(&self) -> &Receiver
         ensures { result.now ≡ self.now.receiver }
     {
         &self.receiver
     }
 
-    /// What was heard.
+    /// The frame that was heard. Takes no memory.
     pub fn frame(&self) -> &Frame
         ensures { result.now ≡ self.now.frame }
     {

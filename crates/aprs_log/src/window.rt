@@ -1,19 +1,22 @@
 //! Bytes that were read and are not yet taken.
 ghost use Rattle.std.specs.Prelude.{◌≤◌};
+ghost use Rattle.aprs_log.specs.declared.line.TheConstants.{MAX_LINE};
+ghost use Rattle.aprs_log.specs.declared.window.TheConstants.{WINDOW_SIZE};
 
 use aprs_io::{Counted, Ending, read_some};
 use std::io::Read;
 
-const SIZE: usize = 16_384;
+/// The bytes of room that a window has: two lines of the greatest length.
+const WINDOW_SIZE: usize = 16_384;
 
 /// The bytes from `start` to `end`, and room after them.
 #[derive(Drop)]
 pub struct Window {
-    bytes: [u8; SIZE],
+    bytes: [u8; WINDOW_SIZE],
     start: usize,
     end: usize,
     ghost ordered: { start ≤ end },
-    ghost within: { end ≤ 16384 },
+    ghost within: { end ≤ WINDOW_SIZE },
 }
 
 impl Window {
@@ -28,7 +31,7 @@ impl Window {
         requires { length head.now ≤ 8 }
         ensures { items result ≡ head.now }
     {
-        let mut bytes = [0; SIZE];
+        let mut bytes = [0; WINDOW_SIZE];
         bytes[..head.len()].copy_from_slice(head);
         Window {
             bytes,
@@ -40,12 +43,12 @@ impl Window {
     /// The bytes that it holds.
     pub fn as_slice(&self) -> &[u8]
         ensures value { result.now ≡ items self.now }
-        ensures fits { length result.now ≤ 16384 }
+        ensures fits { length result.now ≤ WINDOW_SIZE }
     {
         &self.bytes[self.start..self.end]
     }
 
-    /// Lets go of bytes from the front.
+    /// Lets go of its first bytes.
     pub fn consume(&mut self, count: usize)
         requires { count ≤ length (items self.old) }
         ensures { items self.new ≡ drop count (items self.old) }
@@ -53,22 +56,22 @@ impl Window {
         self.start += count;
     }
 
-    /// Reads once behind the bytes that it holds, at most `left` bytes, and returns how many came;
+    /// Reads once after the bytes that it holds, at most `left` bytes, and returns how many came;
     /// or returns how the input ends.
     pub fn read_more<R: Read>(&mut self, source: &mut Counted<R>, left: u64) -> Result<u64, Ending>
-        requires { length (items self.old) ≤ 8192 }
+        requires { length (items self.old) ≤ MAX_LINE }
         ensures some { IfOk result (λ n. (0 < n) × (n ≤ left)) }
         ensures more { IfOk result (λ n. (more : List ℕ) × (length more ≡ n)
             × (items self.new ≡ items self.old ++ more)
             × Consumes (R.remaining (device_of source.old)) (R.remaining (device_of source.new))
             more) }
-        ensures end { IfErr result (λ e. (items self.new ≡ items self.old)
-            × EndsHere e left (R.remaining (device_of source.old))
+        ensures end { IfErr result (λ ending. (items self.new ≡ items self.old)
+            × EndsHere ending left (R.remaining (device_of source.old))
             (R.remaining (device_of source.new))) }
         ensures count { failures_of source.old ≤ failures_of source.new }
-        ensures read { IfErr result (λ e. e ≡ Ending.Read
+        ensures read { IfErr result (λ ending. ending ≡ Ending.Read
             → Rose (failures_of source.old) (failures_of source.new)) }
-        ensures answered { RoseWhere (IsErrAnd result (λ e. e ≡ Ending.Read))
+        ensures answered { RoseWhere (IsErrAnd result (λ ending. ending ≡ Ending.Read))
             (answered_of source.old) (answered_of source.new) }
     {
         self.move_to_front();
@@ -78,7 +81,7 @@ impl Window {
         Ok(count as u64)
     }
 
-    /// Makes all the room that there is.
+    /// Moves the bytes that it holds to the start, which makes all the room that there is.
     fn move_to_front(&mut self)
         ensures items { items self.new ≡ items self.old }
         ensures room { self.new.end ≡ length (items self.old) }

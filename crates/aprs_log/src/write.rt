@@ -5,29 +5,30 @@ ghost use Rattle.std.proofs.Props.{props};
 ghost use Rattle.hex.specs.Hex.{decode_of, encode_lower};
 ghost use Rattle.aprs_io.specs.Device.{device_of, failures_of, Rose, AppendsFront};
 ghost use Rattle.aprs_kiss.specs.Spelling.{kiss_text, spelling_of_byte};
-ghost use Rattle.aprs_ax25.specs.Frame.{FrameOf};
-ghost use Rattle.aprs_ax25.specs.FrameFault.{frame_of, parts_of};
-ghost use Rattle.aprs_log.specs.Bytes.{WrittenLaws};
 ghost use Rattle.aprs_log.specs.Line.{line_of, written_line};
 ghost use Rattle.aprs_log.specs.Moment.{moment_text};
+ghost use Rattle.aprs_log.specs.declared.line.TheConstants.{MAX_LINE};
 
-use crate::civil::LONG;
+use crate::civil::MILLIS_LEN;
+use crate::laws::{frames_are_read, written_laws};
 use crate::line::Line;
 use crate::moment::Moment;
 use crate::reception::Reception;
-use aprs_ax25::each_is_a_frame_or_refused;
 use aprs_io::{Counted, WriteFault, encode_to, send};
-use aprs_kiss::{cut_plain, cuts_change_nothing, written_frames_are_read_back};
+use aprs_kiss::cut_plain;
 use std::io::Write;
 
-/// The most bytes that a frame of 328 bytes is sent as: each byte as two, and three around them.
-const MAX_SPELLED: usize = 659;
+/// The most bytes of a frame.
+const MAX_FRAME: usize = 328;
+
+/// The most bytes that a frame is sent as: each byte as two, and three around them.
+const MAX_SPELLED: usize = 2 * MAX_FRAME + 3;
 
 /// The most bytes of a line that is written: a moment, a name, two spaces, the digits and the LF.
-const MAX_WRITTEN: usize = 1361;
+const MAX_WRITTEN: usize = 24 + 16 + 2 + 2 * MAX_SPELLED + 1;
 
 /// Writes a reception as a line of a log: its moment, its receiver and its frame between two frame
-/// ends, as lower case hexadecimal. At a fault a front of the line went out, and the count of the
+/// ends, as lower case hexadecimal. At a fault a prefix of the line went out, and the count of the
 /// device's failures rose. Takes no memory.
 pub fn write_line<W: Write>(w: &mut Counted<W>, reception: &Reception) -> Result<(), WriteFault>
     ensures sent { OnOk result (Appends (W.contents (device_of w.old))
@@ -99,21 +100,21 @@ impl LogWriter {
     }
 }
 
-/// Puts the line and its LF at the front of `line`, which begins with the text of its moment, and
+/// Puts the line and its LF at the start of `line`, which begins with the text of its moment, and
 /// returns how many bytes they are. `spelled` is room for the frame.
 fn put_line(line: &mut [u8], spelled: &mut [u8], reception: &Reception) -> usize
-    requires line { length line.old ≡ 1361 }
-    requires spelled { length spelled.old ≡ 659 }
+    requires line { length line.old ≡ MAX_WRITTEN }
+    requires spelled { length spelled.old ≡ MAX_SPELLED }
     requires begins { take 24 line.old ≡ moment_text reception.now.moment }
-    ensures fits { result ≤ 1361 }
-    ensures len { length line.new ≡ 1361 }
+    ensures fits { result ≤ MAX_WRITTEN }
+    ensures len { length line.new ≡ MAX_WRITTEN }
     ensures line { take result line.new ≡ written_line reception.now ++ 10 ∷ [] }
-    ensures back { length (written_line reception.now) ≤ 8192
+    ensures back { length (written_line reception.now) ≤ MAX_LINE
         → line_of (written_line reception.now) ≡ Ok (Line.Heard reception.now) }
 {
     written_laws();
     reception.moment().has_a_text();
-    let space = put(line, LONG, b" ");
+    let space = put(line, MILLIS_LEN, b" ");
     let receiver = put(line, space, reception.receiver().as_bytes());
     let place = put(line, receiver, b" ");
     let frame = reception.frame().bytes();
@@ -121,22 +122,6 @@ fn put_line(line: &mut [u8], spelled: &mut [u8], reception: &Reception) -> usize
     let spelled_len = put_frame(spelled, frame);
     let digits = put_hex(line, place, &spelled[..spelled_len]);
     put(line, digits, b"\n")
-}
-
-/// What holds of every written frame. Does nothing.
-pub(crate) fn written_laws()
-    ensures { WrittenLaws }
-{
-    cuts_change_nothing();
-    written_frames_are_read_back();
-}
-
-/// The bytes of a frame are read as that frame. Does nothing.
-fn frames_are_read(frame: &[u8])
-    requires { FrameOf (parts_of frame.now) frame.now }
-    ensures { frame_of frame.now ≡ Ok frame.now }
-{
-    each_is_a_frame_or_refused();
 }
 
 /// Puts bytes at a place, and returns the place after them.
@@ -164,12 +149,12 @@ fn put_hex(out: &mut [u8], at: usize, bytes: &[u8]) -> usize
     end
 }
 
-/// Puts what goes out for a frame at the front of `out`, and returns how many bytes it is.
+/// Puts what goes out for a frame at the start of `out`, and returns how many bytes it is.
 fn put_frame(out: &mut [u8], frame: &[u8]) -> usize
-    requires few { length frame.now ≤ 328 }
-    requires room { length out.old ≡ 659 }
-    ensures fits { result ≤ 659 }
-    ensures len { length out.new ≡ 659 }
+    requires few { length frame.now ≤ MAX_FRAME }
+    requires room { length out.old ≡ MAX_SPELLED }
+    ensures fits { result ≤ MAX_SPELLED }
+    ensures len { length out.new ≡ MAX_SPELLED }
     ensures bytes { take result out.new ≡ kiss_text frame.now }
 {
     let mut end = put(out, 0, &[0xC0, 0]);

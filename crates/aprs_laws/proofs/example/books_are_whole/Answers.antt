@@ -10,7 +10,10 @@ pub returns-clause-book : goal.returns-clause-book
 returns-clause-book c = far_book
 
 pub returns-clause-misses_row : goal.returns-clause-misses_row
-returns-clause-misses_row c = λ b. let n : 1 ≡ 2 = ap (λ (rows : List Row). length rows) (one_book 30000 far_pair (early_row ∷ []) (early_row ∷ late_row ∷ []) b far_book) in omega (arith, n)
+returns-clause-misses_row c = λ b. let n : 1 ≡ 2 =
+    ap (λ (rows : List Row). length rows)
+    (one_book 30000 far_pair (early_row ∷ []) (early_row ∷ late_row ∷ []) b far_book) in
+    omega (arith, n)
 
 pub returns-clause-misses_order : goal.returns-clause-misses_order
 unfolding key_of key_cmp

@@ -14,4 +14,5 @@ returns-clause-answered c = key_answered
 
 pub returns-clause-misses_other_ssid : goal.returns-clause-misses_other_ssid
 unfolding key_of
-returns-clause-misses_other_ssid c = λ e. let n : 8 ≡ 7 = ap (λ (k : Key). k.source.ssid) e in omega (arith, n)
+returns-clause-misses_other_ssid c = λ e. let n : 8 ≡ 7 = ap (λ (k : Key). k.source.ssid) e in
+    omega (arith, n)

@@ -7,4 +7,7 @@ pub returns-clause-misses_repeat : goal.returns-clause-misses_repeat
 returns-clause-misses_repeat c = λ u. let h = u.ascending.0 rx1 (inl refl) in cc h
 
 pub returns-clause-misses_first : goal.returns-clause-misses_first
-returns-clause-misses_first c = λ laws. let e = laws.commutative (heard 30001 rx1 direct) (heard 0 rx2 repeated) (heard 30001 rx1 direct) refl in let n : 30001 ≡ 0 = ap (λ (s : Heard). s.moment) e in omega (arith, n)
+returns-clause-misses_first c = λ laws. let e =
+    laws.commutative (heard 30001 rx1 direct) (heard 0 rx2 repeated)
+    (heard 30001 rx1 direct) refl in let n : 30001 ≡ 0 = ap (λ (s : Heard). s.moment) e in
+    omega (arith, n)

@@ -10,7 +10,16 @@ pub returns-clause-row : goal.returns-clause-row
 returns-clause-row c = (tied_book.exactly tied_row).0 (inl refl)
 
 pub returns-clause-misses_greatest : goal.returns-clause-misses_greatest
-returns-clause-misses_greatest c = λ r. let g = r.greatest (heard 0 rx2 repeated) (inr (inl refl)) (record { key = same_key; from = omega arith; to = omega arith }) in cc g
+returns-clause-misses_greatest c = λ r. let g =
+    r.greatest (heard 0 rx2 repeated) (inr (inl refl))
+    (record { key = same_key; from = omega arith; to = omega arith }) in cc g
 
 pub returns-clause-misses_receiver : goal.returns-clause-misses_receiver
-returns-clause-misses_receiver c = λ r. let h = (r.receivers rx1).1 (heard 0 rx1 direct, inl refl, record { key = sym same_key; from = omega arith; to = omega arith }, refl) in elim h [ inl e ↦ other_receiver e | inr k ↦ k ]
+returns-clause-misses_receiver c = λ r. let h =
+    (r.receivers rx1).1 (
+      heard 0 rx1 direct,
+      inl refl,
+      record { key = sym same_key; from = omega arith; to = omega arith },
+      refl,
+    ) in
+    elim h [ inl e ↦ other_receiver e | inr k ↦ k ]

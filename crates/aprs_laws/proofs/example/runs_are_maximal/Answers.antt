@@ -10,7 +10,9 @@ pub returns-clause-heard : goal.returns-clause-heard
 returns-clause-heard c = (heard 30001 rx1 direct, inl refl, key_direct, refl)
 
 pub returns-clause-run : goal.returns-clause-run
-returns-clause-run c = subst (λ (k : Key). Run 30000 near_pair k 0 30000) key_direct ((one_row_each 30000 near_pair (near_row ∷ []) near_book).run near_row (inl refl))
+returns-clause-run c = subst (λ (k : Key). Run 30000 near_pair k 0 30000) key_direct
+    ((one_row_each 30000 near_pair (near_row ∷ []) near_book).run near_row (inl refl))
 
 pub returns-clause-misses_part : goal.returns-clause-misses_part
-returns-clause-misses_part c = λ r. r.none_after 30000 (omega arith) (omega arith) (heard 30000 rx1 direct, inl refl, key_direct, refl)
+returns-clause-misses_part c = λ r. r.none_after 30000 (omega arith) (omega arith)
+    (heard 30000 rx1 direct, inl refl, key_direct, refl)

@@ -4,7 +4,8 @@ use Rattle.aprs_laws.proofs.Worked.{other_receiver}
 use Rattle.aprs_laws.proofs.example.sets_and_orders.Goals as goal
 
 pub returns-clause-misses_member : goal.returns-clause-misses_member
-returns-clause-misses_member c = λ e. elim ((e rx2).1 (inr (inl refl))) [ inl d ↦ other_receiver (sym d) | inr k ↦ k ]
+returns-clause-misses_member c = λ e. elim
+    ((e rx2).1 (inr (inl refl))) [ inl d ↦ other_receiver (sym d) | inr k ↦ k ]
 
 pub returns-clause-misses_repeat : goal.returns-clause-misses_repeat
 returns-clause-misses_repeat c = λ o. let h = o.0 rx1 (inl refl) in cc h

@@ -12,7 +12,8 @@ pub returns-clause-laws : goal.returns-clause-laws
 returns-clause-laws c = receivers_laws bytes_total bytes_exact
 
 pub returns-clause-folds : goal.returns-clause-folds
-returns-clause-folds c = fold_same (Ordered (IsBelow bytes_cmp)) AreAny (IsUnited bytes_cmp) (receivers_laws bytes_total bytes_exact)
+returns-clause-folds c = fold_same (Ordered (IsBelow bytes_cmp)) AreAny (IsUnited bytes_cmp)
+    (receivers_laws bytes_total bytes_exact)
 
 pub returns-clause-one_pass : goal.returns-clause-one_pass
 returns-clause-one_pass c = merged_is_united bytes_total bytes_exact

@@ -9,7 +9,10 @@ pub returns-clause-only : goal.returns-clause-only
 returns-clause-only c = λ test S T x y. known_once S T (Passes test) x y
 
 pub returns-clause-rows : goal.returns-clause-rows
-returns-clause-rows c = λ gap test S rows known b. (rows_know gap S rows (Passes test) known b, set_knows gap S rows (Passes test) known b)
+returns-clause-rows c = λ gap test S rows known b. (
+  rows_know gap S rows (Passes test) known b,
+  set_knows gap S rows (Passes test) known b,
+)
 
 pub returns-clause-plain : goal.returns-clause-plain
 returns-clause-plain c = plain_known

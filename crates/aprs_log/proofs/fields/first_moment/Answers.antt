@@ -1,6 +1,6 @@
 use Rattle.std.proofs.Common.{◌+◌, sym, ◌∙◌}
 use Rattle.std.proofs.lemmas.List.{take_rest}
-use Rattle.aprs_log.proofs.FieldLemmas.{EndsMoment-space, TakesMoment-at, TakesNoMoment-nowhere, TakesNoMoment-unread, none_matches}
+use Rattle.aprs_log.proofs.FirstFields.{EndsMoment-space, TakesMoment-at, TakesNoMoment-nowhere, TakesNoMoment-unread, none_matches}
 use Rattle.aprs_log.proofs.fields.first_moment.Goals as goal
 
 pub returns-in_err-len : goal.returns-in_err-len

@@ -1,6 +1,6 @@
 use Rattle.std.proofs.Common.{◌+◌, arith, sym, ◌∙◌}
 use Rattle.std.proofs.lemmas.List.{take_rest}
-use Rattle.aprs_log.proofs.FieldLemmas.{IsName-there, TakesName-at, TakesNoName-if, TakesNoName-no_end, none_matches}
+use Rattle.aprs_log.proofs.FirstFields.{IsName-there, TakesName-at, TakesNoName-if, TakesNoName-no_end, none_matches}
 use Rattle.aprs_log.proofs.fields.take_receiver.Goals as goal
 use Rattle.aprs_log.proofs.fields.take_receiver.Goals.{then-len-eq0-via-then-len-eq0, then-len-eq0-via-else-len-eq0+then-len-gt-MAX_NAME, then-len-eq0-via-else-len-eq0+else-len-gt-MAX_NAME+then-text-len-ne32}
 
@@ -16,14 +16,18 @@ returns-then-len-eq0 c =
     elim c.then-len-eq0.branch [
       | then-len-eq0-via-then-len-eq0 w ↦ omega (arith, low)
       | then-len-eq0-via-else-len-eq0+then-len-gt-MAX_NAME w ↦ omega (arith, high)
-      | then-len-eq0-via-else-len-eq0+else-len-gt-MAX_NAME+then-text-len-ne32 w ↦ w.if-text-len-ne32.true space
+      | then-len-eq0-via-else-len-eq0+else-len-gt-MAX_NAME+then-text-len-ne32 w ↦
+          w.if-text-len-ne32.true space
     ])
 
 pub named-requires : goal.named-requires
 named-requires c =
-    IsName-there c.args.text.now c.in_ok-len.len (sym c.in_ok-len.was ∙ c.name_end.ensures) (omega arith) (omega arith)
+    IsName-there c.args.text.now c.in_ok-len.len (sym c.in_ok-len.was ∙ c.name_end.ensures)
+    (omega arith) (omega arith)
 
 pub returns : goal.returns
 returns c =
-    TakesName-at c.args.text.now c.in_ok-len.len c.named.result _ (sym c.in_ok-len.was ∙ c.name_end.ensures)
-    (omega arith) (omega arith) c.if-text-len-ne32.false c.named.ensures (take_rest c.args.text.now (c.in_ok-len.len + 1))
+    TakesName-at c.args.text.now c.in_ok-len.len c.named.result _ (sym c.in_ok-len.was
+    ∙ c.name_end.ensures)
+    (omega arith) (omega arith) c.if-text-len-ne32.false c.named.ensures
+    (take_rest c.args.text.now (c.in_ok-len.len + 1))

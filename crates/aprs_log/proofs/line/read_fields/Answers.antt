@@ -1,17 +1,19 @@
 use Rattle.std.proofs.Common.{◌∙◌}
-use Rattle.aprs_log.proofs.FieldLemmas.{digits_fit, line_of-takes, line_of-takes_no_moment, line_of-takes_no_name}
-use Rattle.aprs_log.proofs.LineLemmas.{line_of-long}
+use Rattle.aprs_log.proofs.FirstFields.{digits_fit, line_of-takes, line_of-takes_no_moment, line_of-takes_no_name}
+use Rattle.aprs_log.proofs.Lines.{line_of-long}
 use Rattle.aprs_log.proofs.line.read_fields.Goals as goal
 
-pub returns-then-line-gt-MAX_LINE-clause-told : goal.returns-then-line-gt-MAX_LINE-clause-told
-returns-then-line-gt-MAX_LINE-clause-told c = line_of-long c.args.line.now c.if-line-gt-MAX_LINE.true
+pub returns-then-line-gt-MAX_LINE-clause-line : goal.returns-then-line-gt-MAX_LINE-clause-line
+returns-then-line-gt-MAX_LINE-clause-line c =
+    line_of-long c.args.line.now c.if-line-gt-MAX_LINE.true
 
-pub returns-in_default-clause-told : goal.returns-in_default-clause-told
-returns-in_default-clause-told c = line_of-takes_no_moment c.args.line.now c.if-line-gt-MAX_LINE.false
+pub returns-in_default-clause-line : goal.returns-in_default-clause-line
+returns-in_default-clause-line c =
+    line_of-takes_no_moment c.args.line.now c.if-line-gt-MAX_LINE.false
     c.in_default.ensures
 
-pub returns-in_default-take_receiver-clause-told : goal.returns-in_default-take_receiver-clause-told
-returns-in_default-take_receiver-clause-told c =
+pub returns-in_default-take_receiver-clause-line : goal.returns-in_default-take_receiver-clause-line
+returns-in_default-take_receiver-clause-line c =
     line_of-takes_no_name c.args.line.now c.if-line-gt-MAX_LINE.false _ _ c.in-Some.ensures
     c.in_default-take_receiver.ensures
 
@@ -20,8 +22,8 @@ read_within-requires c =
     digits_fit c.args.line.now c.if-line-gt-MAX_LINE.false _ _ c.in-Some.ensures _ _
     c.in-Some-take_receiver.ensures
 
-pub returns-clause-told : goal.returns-clause-told
-returns-clause-told c =
-    c.read_within.ensures.told
+pub returns-clause-line : goal.returns-clause-line
+returns-clause-line c =
+    c.read_within.ensures.line
     ∙ line_of-takes c.args.line.now c.if-line-gt-MAX_LINE.false _ _ c.in-Some.ensures _ _
     c.in-Some-take_receiver.ensures

@@ -10,11 +10,12 @@ returns-then-eq c =
     let text = c.args.text.now in
     let same = (bytes_eq-Decides c.as_slice.result.now text).0 (sym c.eq.ensures ∙ c.if-eq.true) in
     let millis : c.from.result * 100 + c.from-2.result ≡ near_millis Millis text
-    = omega (arith, c.digit_of.ensures, c.from.ensures, c.pair_at.ensures, c.from-2.ensures) in
-    let spelled = ap (λ d. civil_text Millis d (near_millis Millis text)) (sym c.at-civil.ensures)
-    ∙ ap (civil_text Millis c.at-civil.result) (sym millis) ∙ sym c.text.ensures
+    = omega (arith, c.near_digit.ensures, c.from.ensures, c.near_pair.ensures, c.from-2.ensures) in
+    let spelled = ap (λ d. civil_text Millis d (near_millis Millis text))
+    (sym c.from_digits-civil.ensures)
+    ∙ ap (civil_text Millis c.from_digits-civil.result) (sym millis) ∙ sym c.text.ensures
     ∙ sym c.as_slice.ensures ∙ same in (
       spelled,
-      ap (λ d. (d, c.from.result * 100 + c.from-2.result)) c.at-civil.ensures
+      ap (λ d. (d, c.from.result * 100 + c.from-2.result)) c.from_digits-civil.ensures
           ∙ ap (λ n. (near_civil text, n)) millis,
     )

@@ -1,5 +1,5 @@
 use Rattle.std.proofs.Common.{Some, ap, sym, ◌∙◌}
-use Rattle.aprs_log.proofs.ClockLemmas.{first_day}
+use Rattle.aprs_log.proofs.Clocks.{first_day}
 use Rattle.aprs_log.proofs.clock.Clock.new.Goals as goal
 
 pub invariant_of-result : goal.invariant_of-result

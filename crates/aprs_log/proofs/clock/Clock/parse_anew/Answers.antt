@@ -1,5 +1,5 @@
 use Rattle.std.proofs.Common.{◌≡◌, Some, ◌-◌, ◌%◌, ◌++◌, ap, sym, ◌∙◌}
-use Rattle.aprs_log.proofs.ClockLemmas.{moment_of-midnight}
+use Rattle.aprs_log.proofs.Clocks.{moment_of-midnight}
 use Rattle.aprs_log.specs.declared.moment_form.MomentForm.TheVariants.{Seconds}
 use Rattle.aprs_log.specs.Clock.{midnight_text}
 use Rattle.aprs_log.specs.Moment.{moment_in}
@@ -12,6 +12,7 @@ invariant_of-self c =
     = ap (λ n. n - n % 86400000) (sym millis) ∙ sym c.in-Some.ensures.1 in
     record {
       reads = ap (λ l. moment_in Seconds (l ++ midnight_text)) c.copy_from_slice.ensures.after
-          ∙ moment_of-midnight c.args.text.now c.in_ok-moment.moment (sym c.in_ok-moment.ensures.value)
+          ∙ moment_of-midnight c.args.text.now c.in_ok-moment.moment
+          (sym c.in_ok-moment.ensures.value)
           ∙ ap (λ n. Some n) start;
     }

@@ -1,6 +1,6 @@
 use Rattle.std.proofs.Common.{◌≡◌, Some, ◌+◌, ◌*◌, ◌++◌, arith, ap, sym, ◌∙◌}
 use Rattle.std.proofs.lemmas.Slice.Eq.{bytes_eq-Decides}
-use Rattle.aprs_log.proofs.ClockLemmas.{IfSome-moment, halves, moment_of-same_day, not_false}
+use Rattle.aprs_log.proofs.Clocks.{IfSome-moment, halves, moment_of-same_day, not_false}
 use Rattle.aprs_log.proofs.clock.Clock.parse_same_day.Goals as goal
 
 pub returns : goal.returns
@@ -17,6 +17,8 @@ returns c =
     ≡ c.millis.result + c.from.result * 1000 + c.from-2.result
     = omega (arith, c.millis.ensures.value, c.from.ensures, c.from-2.ensures) in
     IfSome-moment text c.from_millis.result _ _ c.from_millis.ensures
-    (moment_of-same_day text date rest _ _ c.args.self.now.midnight c.in_ok-second.second c.in_ok-milli.milli
-    c.requires (omega arith) text_is rest_is c.args.self.now.reads c.in_ok-second.ensures c.in_ok-milli.ensures
+    (moment_of-same_day text date rest _ _ c.args.self.now.midnight c.in_ok-second.second
+    c.in_ok-milli.milli
+    c.requires
+    (omega arith) text_is rest_is c.args.self.now.reads c.in_ok-second.ensures c.in_ok-milli.ensures
     ∙ ap (λ n. Some n) sum)

@@ -1,6 +1,6 @@
 use Rattle.std.proofs.Common.{arith}
 use Rattle.aprs_log.specs.declared.moment_form.MomentForm.TheVariants.{Millis}
-use Rattle.aprs_log.proofs.MomentLemmas.{moment_text-is}
+use Rattle.aprs_log.proofs.Moments.{moment_text-is}
 use Rattle.aprs_log.proofs.moment.Moment.has_a_text.Goals as goal
 
 pub returns : goal.returns

@@ -1,6 +1,6 @@
 use Rattle.std.proofs.Common.{ap, ◌∙◌}
 use Rattle.aprs_log.specs.Moment.{moment_in}
-use Rattle.aprs_log.proofs.MomentLemmas.{IsExact}
+use Rattle.aprs_log.proofs.Moments.{IsExact}
 use Rattle.aprs_log.proofs.moment.Moment.parse.Goals as goal
 
 pub returns-clause-value : goal.returns-clause-value

@@ -1,7 +1,7 @@
 use Rattle.std.proofs.Common.{◌+◌, ◌*◌, ◌<◌, ℕ, Some, ap, sym, subst, ◌∙◌}
 use Rattle.aprs_log.specs.Moment.{civil_text, moment_in, room_of, seconds_of}
 use Rattle.aprs_log.specs.Places.{near_civil}
-use Rattle.aprs_log.proofs.MomentLemmas.{moment_in-civil, moment_in-unfound, moment_in-unreal, near_millis-below, IsExactIn}
+use Rattle.aprs_log.proofs.Moments.{moment_in-civil, moment_in-unfound, moment_in-unreal, near_millis-below, IsExactIn}
 use Rattle.aprs_log.proofs.moment.Moment.parse_in.Goals as goal
 
 pub returns-in-Some-seconds-clause-value : goal.returns-in-Some-seconds-clause-value
@@ -11,7 +11,8 @@ returns-in-Some-seconds-clause-value c =
     let civil = ap (λ p. p.0) read.1 in
     let millis = ap (λ p. p.1) read.1 in
     let real = c.in-Some-seconds.ensures.value in
-    let below = subst (λ (n : ℕ). n < room_of form) (sym millis) (near_millis-below form c.args.text.now) in
+    let below = subst (λ (n : ℕ). n < room_of form) (sym millis)
+    (near_millis-below form c.args.text.now) in
     ap (λ n. Some (n * 1000 + c.from.result)) real.1
     ∙ ap (λ n. Some (seconds_of c.in-Some.read.0 * 1000 + n)) c.from.ensures
     ∙ sym (moment_in-civil form c.in-Some.read.0 c.in-Some.read.1 real.0 below)

@@ -1,13 +1,13 @@
 use Rattle.std.proofs.Common.{sym, subst, arith}
 use Rattle.aprs_log.specs.declared.moment_form.MomentForm.TheVariants.{Millis}
 use Rattle.aprs_log.specs.Moment.{MomentTextIn}
-use Rattle.aprs_log.proofs.MomentLemmas.{civil_text-moment, moment_text-is, one_text, text-moment_of}
+use Rattle.aprs_log.proofs.Moments.{civil_text-moment, moment_text-is, one_text, text-moment_of}
 use Rattle.aprs_log.proofs.moment.Moment.text.Goals as goal
 
 spells : (c : goal.After-text) → MomentTextIn Millis c.args.self.now c.text.result
 spells c = subst (MomentTextIn Millis c.args.self.now) (sym c.text.ensures)
-    (civil_text-moment Millis c.of_seconds.result _ c.args.self.now c.of_seconds.ensures.real
-    (omega arith) (omega (arith, c.of_seconds.ensures.number, c.self.view_is)))
+    (civil_text-moment Millis c.from_seconds.result _ c.args.self.now c.from_seconds.ensures.real
+    (omega arith) (omega (arith, c.from_seconds.ensures.number, c.self.view_is)))
 
 pub returns-clause-value : goal.returns-clause-value
 returns-clause-value c = one_text Millis c.args.self.now c.text.result _ (spells c)

@@ -1,4 +1,4 @@
-use Rattle.aprs_log.proofs.AwaitLemmas.{something}
+use Rattle.aprs_log.proofs.Awaiting.{something}
 use Rattle.aprs_log.proofs.reader.LogReader.advance.Goals as goal
 
 pub returns-in-Ended-clause-awaits : goal.returns-in-Ended-clause-awaits

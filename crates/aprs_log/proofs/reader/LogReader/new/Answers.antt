@@ -1,11 +1,12 @@
 use Rattle.std.proofs.Common.{◌-◌, length}
 use Rattle.aprs_log.specs.Window.{items}
 use Rattle.aprs_log.specs.declared.ending.State.TheVariants.{Reading}
-use Rattle.aprs_log.proofs.AwaitLemmas.{from_start, something}
+use Rattle.aprs_log.proofs.Awaiting.{from_start, something}
 use Rattle.aprs_log.proofs.reader.LogReader.new.Goals as goal
 
 pub returns-clause-whole : goal.returns-clause-whole
-returns-clause-whole g c end a w = from_start _ end c.args.limit c.args.head.now _ a c.requires.within
+returns-clause-whole g c end a w =
+    from_start _ end c.args.limit c.args.head.now _ a c.requires.within
     c.new.ensures w
 
 pub returns-clause-awaits : goal.returns-clause-awaits

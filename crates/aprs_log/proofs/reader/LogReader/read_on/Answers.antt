@@ -1,5 +1,5 @@
 use Rattle.std.proofs.Common.{None, Some}
-use Rattle.aprs_log.proofs.AwaitLemmas.{step_long, step_more, step_end}
+use Rattle.aprs_log.proofs.Awaiting.{step_long, step_more, step_end}
 use Rattle.aprs_log.proofs.reader.LogReader.read_on.Goals as goal
 use Rattle.aprs_log.proofs.reader.LogReader.read_on.Goals.{in-Some, in-None}
 

@@ -1,7 +1,7 @@
 use Rattle.std.proofs.Common.{◌∙◌, ap, sym, refl, rules}
-use Rattle.aprs_log.specs.Slot.{told_in}
-use Rattle.aprs_log.proofs.AnswerLemmas.{uncut_lacks}
-use Rattle.aprs_log.proofs.AwaitLemmas.{step_line, step_fault, faults_keep}
+use Rattle.aprs_log.specs.Line.{line_in}
+use Rattle.aprs_log.proofs.LogAnswers.{uncut_lacks}
+use Rattle.aprs_log.proofs.Awaiting.{step_line, step_fault, faults_keep}
 use Rattle.aprs_log.proofs.reader.LogReader.step.Goals as goal
 
 pub invariant_of-self-in-Some-Err-clause-no_memory
@@ -12,20 +12,20 @@ invariant_of-self-in-Some-Err-clause-no_memory g c = faults_keep c.in-Some-Err.f
 pub returns-in-Some-Ok-clause-given : goal.returns-in-Some-Ok-clause-given
 returns-in-Some-Ok-clause-given g c =
     let t = c.in-Some-Ok.ensures.some in
-    let told = c.take_line.new.told in (
+    let found = c.take_line.new.found in (
       refl,
-      λ end a. step_line _ _ end _ _ _ _ told t.0 a c.requires t.1
-          (ap (λ r. told_in r told) (sym c.in-Some-Ok.field-0-is) ∙ t.2) t.3,
+      λ end a. step_line _ _ end _ _ _ _ found t.0 a c.requires t.1
+          (ap (λ r. line_in r found) (sym c.in-Some-Ok.field-0-is) ∙ t.2) t.3,
     )
 
 pub returns-in-Some-Err-clause-none : goal.returns-in-Some-Err-clause-none
 returns-in-Some-Err-clause-none g c =
     let t = c.in-Some-Err.ensures.some in
-    let told = c.take_line.new.told in (
+    let found = c.take_line.new.found in (
       refl,
       search rules,
       λ end a w. step_fault _ _ end _ _ _ c.in-Some-Err.fault t.0 c.from.result a c.requires t.1
-          (ap (λ r. told_in r told) (sym c.in-Some-Err.field-0-is) ∙ t.2) c.from.ensures w.1,
+          (ap (λ r. line_in r found) (sym c.in-Some-Err.field-0-is) ∙ t.2) c.from.ensures w.1,
     )
 
 pub returns-in-None-clause-unread : goal.returns-in-None-clause-unread

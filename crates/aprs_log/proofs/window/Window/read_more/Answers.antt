@@ -1,6 +1,6 @@
 use Rattle.std.proofs.Common.{◌≤◌, ◌++◌, ◌∙◌, ap, length, take, arith}
 use Rattle.std.proofs.lemmas.List.{length-take-le}
-use Rattle.aprs_log.proofs.WindowLemmas.{grown}
+use Rattle.aprs_log.proofs.Windows.{grown}
 use Rattle.aprs_log.proofs.window.Window.read_more.Goals as goal
 
 pub returns-clause-more : goal.returns-clause-more

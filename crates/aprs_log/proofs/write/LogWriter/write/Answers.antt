@@ -3,24 +3,30 @@ use Rattle.std.specs.Prelude.{IfSome, OnErr}
 use Rattle.std.proofs.lemmas.List.{length-take-le}
 use Rattle.aprs_io.specs.Device.{AppendsFront, device_of}
 use Rattle.aprs_log.specs.Moment.{moment_text}
-use Rattle.aprs_log.proofs.WrittenLemmas.{begins_with_moment}
+use Rattle.aprs_log.proofs.WrittenLines.{begins_with_moment}
 use Rattle.aprs_log.proofs.write.LogWriter.write.Goals as goal
 
 pub invariant_of-self : goal.invariant_of-self
 invariant_of-self g c =
     let line = c.begin.new.self.line in
     let x = c.args.reception.now in
-    let text : take 24 line ≡ moment_text x.moment = c.begin.ensures.line ∙ ap moment_text c.moment.ensures in
-    let len : length (moment_text x.moment) ≡ 24 = sym (ap length text) ∙ length-take-le 24 line (omega arith) in
-    let after = begins_with_moment c.put_line-len.new.line c.put_line-len.result x c.put_line-len.ensures.line len
+    let text : take 24 line ≡ moment_text x.moment = c.begin.ensures.line
+    ∙ ap moment_text c.moment.ensures in
+    let len : length (moment_text x.moment) ≡ 24 = sym (ap length text)
+    ∙ length-take-le 24 line (omega arith) in
+    let after =
+    begins_with_moment c.put_line-len.new.line c.put_line-len.result x c.put_line-len.ensures.line
+    len
     ∙ ap moment_text (sym c.moment.ensures) in
     record {
-      begins = subst (λ (o : Option ℕ). IfSome o (λ m. take 24 c.put_line-len.new.line ≡ moment_text m))
+      begins = subst (λ (o : Option ℕ). IfSome o
+          (λ m. take 24 c.put_line-len.new.line ≡ moment_text m))
           (sym c.begin.ensures.moment) after;
     }
 
 pub returns-clause-prefix : goal.returns-clause-prefix
 returns-clause-prefix g c =
     subst (λ (l : List ℕ). OnErr c.send.result
-    (AppendsFront (g.W.Write.contents (device_of c.args.w.now)) (g.W.Write.contents (device_of c.send.new.w)) l))
+    (AppendsFront (g.W.Write.contents (device_of c.args.w.now))
+    (g.W.Write.contents (device_of c.send.new.w)) l))
     c.put_line-len.ensures.line c.send.ensures.prefix

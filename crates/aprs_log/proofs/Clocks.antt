@@ -7,7 +7,7 @@ use Rattle.aprs_log.specs.declared.moment_form.MomentForm.{MomentForm}
 use Rattle.aprs_log.specs.declared.moment_form.MomentForm.TheVariants.{Seconds, Millis}
 use Rattle.aprs_log.specs.Clock.{FractionText, SecondText, clock_text, form_of_end, midnight_text}
 use Rattle.aprs_log.specs.Moment.{Civil, IsCivil, civil_text, day_after, form_of, four_digits, fraction_text, moment_in, moment_of, moment_text_in, room_of, second_of_day, seconds_of, two_digits}
-use Rattle.aprs_log.proofs.MomentLemmas.{moment_in-civil, moment_in-text, moment_text-is, room_most, text-moment_in}
+use Rattle.aprs_log.proofs.Moments.{moment_in-civil, moment_in-text, moment_text-is, room_most, text-moment_in}
 
 -- YYYY-MM-DDT
 abbrev date_text : Civil → List ℕ
@@ -49,7 +49,8 @@ unfolding days_of
 found form t m e =
     let h = moment_in-text form t m e in
     let same : Some m ≡ Some (seconds_of h.civil * 1000 + h.millis)
-    = sym e ∙ ap (moment_in form) h.spelled ∙ moment_in-civil form h.civil h.millis h.real h.below in
+    = sym e ∙ ap (moment_in form) h.spelled
+    ∙ moment_in-civil form h.civil h.millis h.real h.below in
     record {
       civil = h.civil;
       millis = h.millis;
@@ -99,12 +100,12 @@ cut_text : (form : MomentForm) (date time : List ℕ) (c : Civil) (n : ℕ) → 
     → date ++ time ≡ civil_text form c n
     → (date ≡ date_text c) × (time ≡ time_text form c.hour c.minute c.second n)
 cut_text form date time c n len e =
-    let front : take 11 (date ++ time) ≡ date
+    let prefix : take 11 (date ++ time) ≡ date
     = ap (λ k. take k (date ++ time)) (sym len) ∙ take-append_seam date time in
     let end : 11 ≡ length date + 0 = omega (arith, len) in
     let back : drop 11 (date ++ time) ≡ time
     = ap (λ k. drop k (date ++ time)) end ∙ drop-append-add date time 0 in
-    (sym front ∙ ap (λ l. take 11 l) e, sym back ∙ ap (λ l. drop 11 l) e)
+    (sym prefix ∙ ap (λ l. take 11 l) e, sym back ∙ ap (λ l. drop 11 l) e)
 
 -- at midnight no second of the day has gone by
 no_second : (c : Civil) (n : ℕ) → midnight_text ≡ time_text Seconds c.hour c.minute c.second n
@@ -133,8 +134,10 @@ moment_in-same_day form date time end midnight second n len e t f =
     = omega (arith, day.number, none, zero, t.number) in
     ap (λ l. moment_in form (l ++ (time ++ end))) parts.0
     ∙ ap (λ l. moment_in form (date_text day.civil ++ (l ++ end))) t.spelled
-    ∙ ap (λ l. moment_in form (date_text day.civil ++ (clock_text t.hour t.minute t.second ++ l))) f.spelled
-    ∙ moment_at form day.civil day.real t.hour t.minute t.second n t.is_hour t.is_minute t.is_second f.below
+    ∙ ap (λ l. moment_in form (date_text day.civil
+    ++ (clock_text t.hour t.minute t.second ++ l))) f.spelled
+    ∙ moment_at form day.civil day.real t.hour t.minute t.second n t.is_hour t.is_minute t.is_second
+    f.below
     ∙ ap (λ k. Some k) sum
 
 -- what follows the seconds says the form
@@ -156,7 +159,14 @@ moment_of-same_day text date rest time end midnight second n either len is then 
     let whole = is ∙ ap (λ l. date ++ l) then in
     let eight : length time ≡ 8 = ap length t.spelled in
     let size : length text ≡ 19 + length end
-    = omega (arith, ap length whole, length-append date (time ++ end), length-append time end, len, eight) in
+    = omega (
+      arith,
+      ap length whole,
+      length-append date (time ++ end),
+      length-append time end,
+      len,
+      eight,
+    ) in
     let form = form_of_end end in
     ap (λ g. moment_in g text) (same_form text end either size) ∙ ap (moment_in form) whole
     ∙ moment_in-same_day form date time end midnight second n len e t f
@@ -168,17 +178,21 @@ moment_of-midnight t m e =
     let form = form_of t in
     let f = found form t m e in
     let most = room_most form f.millis f.below in
-    let second : second_of_day f.civil < 86400 = omega (arith, f.real.hour, f.real.minute, f.real.second) in
+    let second : second_of_day f.civil < 86400 =
+    omega (arith, f.real.hour, f.real.minute, f.real.second) in
     let start : (86400 * days_of f.civil + (0 * 3600 + 0 * 60 + 0)) * 1000 + 0 ≡ m - m % 86400000
     = omega (arith, f.number, second, most) in
     ap (λ l. moment_in Seconds (take 11 l ++ midnight_text)) f.spelled
-    ∙ moment_at Seconds f.civil f.real 0 0 0 0 (omega arith) (omega arith) (omega arith) (omega arith)
+    ∙ moment_at Seconds f.civil f.real 0 0 0 0 (omega arith) (omega arith) (omega arith)
+    (omega arith)
     ∙ ap (λ k. Some k) start
 
 -- the first moment's day
-pub first_day : moment_in Seconds (49 ∷ 57 ∷ 55 ∷ 48 ∷ 45 ∷ 48 ∷ 49 ∷ 45 ∷ 48 ∷ 49 ∷ 84 ∷ midnight_text) ≡ Some 0
+pub first_day : moment_in Seconds
+    (49 ∷ 57 ∷ 55 ∷ 48 ∷ 45 ∷ 48 ∷ 49 ∷ 45 ∷ 48 ∷ 49 ∷ 84 ∷ midnight_text) ≡ Some 0
 unfolding moment_text_in day_after
-first_day = text-moment_in Seconds (moment_text_in Seconds 0) 0 (moment_text-is Seconds 0 (omega arith) (omega arith))
+first_day = text-moment_in Seconds (moment_text_in Seconds 0) 0
+    (moment_text-is Seconds 0 (omega arith) (omega arith))
 
 -- a moment that is made where the number is in range
 pub IfSome-moment : (t : List ℕ) (r : Option ℕ) (P : Type 0) (m : ℕ) → SomeIff r P m
@@ -187,9 +201,10 @@ IfSome-moment t None P m h e = tt
 IfSome-moment t (Some k) P m h e = e ∙ ap (λ n. Some n) (sym h.1)
 
 -- a list that was cut in two
-pub halves : (n : ℕ) (l front back : List ℕ) → front ≡ take n l → back ≡ drop n l → l ≡ front ++ back
-halves n l front back e f =
-    sym (take-append-drop n l) ∙ ap (λ x. x ++ drop n l) (sym e) ∙ ap (λ x. front ++ x) (sym f)
+pub halves : (n : ℕ) (l prefix rest : List ℕ) → prefix ≡ take n l → rest ≡ drop n l
+    → l ≡ prefix ++ rest
+halves n l prefix rest e f =
+    sym (take-append-drop n l) ∙ ap (λ x. x ++ drop n l) (sym e) ∙ ap (λ x. prefix ++ x) (sym f)
 
 pub not_false : (b : Bool) → not b ≡ false → b ≡ true
 not_false true e = refl

@@ -5,7 +5,7 @@ use Rattle.std.proofs.Math.Seq.{drop-cons, drop-length}
 use Rattle.aprs_kiss.specs.Spelling.{HasNoEnd, is_frame_end}
 use Rattle.aprs_kiss.specs.Stream.{rest_of, is_nonempty, judgements_of}
 use Rattle.aprs_kiss.specs.Judgement.{judgement_of}
-use Rattle.aprs_log.specs.Bytes.{has_other, StreamLaws}
+use Rattle.aprs_log.specs.StreamLaws.{has_other, StreamLaws}
 
 no_end-nil : HasNoEnd []
 no_end-nil = All-nil (λ b. is_frame_end b ≡ false)
@@ -35,13 +35,13 @@ front_and_last xs h =
     = drop-cons xs n 0 low ∙ ap (λ l. get_or xs n 0 ∷ l) past in
     ap (λ l. take n xs ++ l) (sym last) ∙ take-append-drop n xs
 
--- a stream that ends at a frame end, and in which a byte from `more` on is none, tells something
-abbrev Tells : List ℕ → List ℕ → Type 0
-Tells d more = HasNoEnd d → rest_of (d ++ more) ≡ [] → (0 < length d) ⊎ (has_other more ≡ true)
+-- a stream that ends at a frame end, and in which a byte from `more` on is none, has a judgement
+abbrev Judges : List ℕ → List ℕ → Type 0
+Judges d more = HasNoEnd d → rest_of (d ++ more) ≡ [] → (0 < length d) ⊎ (has_other more ≡ true)
     → 0 < length (judgements_of (d ++ more))
 
 module _ (laws : StreamLaws) where
-  -- ---- the last byte tells whether bytes follow the last frame end
+  -- ---- the last byte shows whether bytes follow the last frame end
 
   rest_of-last : (ys : List ℕ) (b : ℕ) → is_frame_end b ≡ false
       → rest_of (ys ++ b ∷ []) ≡ rest_of ys ++ b ∷ []
@@ -71,7 +71,7 @@ module _ (laws : StreamLaws) where
 
   after_end : (more : List ℕ) → judgements_of (0xC0 ∷ more) ≡ judgements_of more
   after_end more =
-      laws.told (0xC0 ∷ []) more
+      laws.judged (0xC0 ∷ []) more
       ∙ ap (λ js. js ++ judgements_of (rest_of (0xC0 ∷ []) ++ more)) laws.empty
       ∙ ap (λ l. judgements_of (l ++ more)) (laws.at_end [])
 
@@ -82,50 +82,50 @@ module _ (laws : StreamLaws) where
       ap (λ b. judgements_of (b ∷ more)) (eqb-true x 0xC0 e) ∙ after_end more ∙ rest f
   ends_from x more rest false e f = absurd (let g : true ≡ false = f in cc)
 
-  -- frame ends alone tell nothing
+  -- frame ends alone have no judgement
   pub ends_alone : (more : List ℕ) → has_other more ≡ false → judgements_of more ≡ []
   ends_alone [] h = laws.begins.0
   ends_alone (x ∷ more) h = ends_from x more (ends_alone more) (is_frame_end x) refl h
 
-  -- a piece that ended tells something
-  told_first : (d more : List ℕ) → HasNoEnd d → 0 < length d
+  -- a piece that ended has a judgement
+  judged_first : (d more : List ℕ) → HasNoEnd d → 0 < length d
       → 0 < length (judgements_of (d ++ 0xC0 ∷ more))
-  told_first d more h some =
+  judged_first d more h some =
       let ended = d ++ 0xC0 ∷ [] in
       let regroup : ended ++ more ≡ d ++ 0xC0 ∷ more = append_assoc d (0xC0 ∷ []) more in
       let rest = judgements_of (rest_of ended ++ more) in
-      let told : judgements_of (ended ++ more) ≡ judgement_of d ∷ rest
-      = laws.told ended more ∙ ap (λ js. js ++ rest) (laws.ended d h some) in
-      omega (arith, ap length (ap judgements_of (sym regroup) ∙ told))
+      let first : judgements_of (ended ++ more) ≡ judgement_of d ∷ rest
+      = laws.judged ended more ∙ ap (λ js. js ++ rest) (laws.ended d h some) in
+      omega (arith, ap length (ap judgements_of (sym regroup) ∙ first))
 
-  tells_end : (d more : List ℕ) → Tells [] more → Tells d (0xC0 ∷ more)
-  tells_end [] more rest p w (inl s) = absurd (omega (arith, s))
-  tells_end [] more rest p w (inr s) =
+  judges_end : (d more : List ℕ) → Judges [] more → Judges d (0xC0 ∷ more)
+  judges_end [] more rest p w (inl s) = absurd (omega (arith, s))
+  judges_end [] more rest p w (inr s) =
       let left : rest_of (0xC0 ∷ more) ≡ rest_of more
       = laws.left (0xC0 ∷ []) more ∙ ap (λ l. rest_of (l ++ more)) (laws.at_end []) in
       rw (after_end more) (rest no_end-nil (sym left ∙ w) (inr s))
-  tells_end (y ∷ d) more rest p w s = told_first (y ∷ d) more p (omega arith)
+  judges_end (y ∷ d) more rest p w s = judged_first (y ∷ d) more p (omega arith)
 
-  tells_from : (d : List ℕ) (x : ℕ) (more : List ℕ) → ((k : List ℕ) → Tells k more)
-      → (t : Bool) → is_frame_end x ≡ t → Tells d (x ∷ more)
-  tells_from d x more rest true e h whole some =
-      let P : ℕ → Type 0 = λ b. Tells d (b ∷ more) in
-      (subst P (sym (eqb-true x 0xC0 e)) (tells_end d more (rest []))) h whole some
-  tells_from d x more rest false e h whole some =
+  judges_from : (d : List ℕ) (x : ℕ) (more : List ℕ) → ((k : List ℕ) → Judges k more)
+      → (t : Bool) → is_frame_end x ≡ t → Judges d (x ∷ more)
+  judges_from d x more rest true e h whole some =
+      let P : ℕ → Type 0 = λ b. Judges d (b ∷ more) in
+      (subst P (sym (eqb-true x 0xC0 e)) (judges_end d more (rest []))) h whole some
+  judges_from d x more rest false e h whole some =
       let longer = d ++ x ∷ [] in
       let regroup : longer ++ more ≡ d ++ x ∷ more = append_assoc d (x ∷ []) more in
       let len : 0 < length longer = simp length-append (omega arith) in
       let none = no_end-append d (x ∷ []) h (no_end-one x e) in
       rw (← regroup) (rest longer none (ap rest_of regroup ∙ whole) (inl len))
 
-  tells : (more d : List ℕ) → Tells d more
-  tells [] d h whole (inl some) =
+  judges : (more d : List ℕ) → Judges d more
+  judges [] d h whole (inl some) =
       let e : d ≡ [] = sym (laws.going d h).1 ∙ ap rest_of (sym (append-nil d)) ∙ whole in
       absurd (omega (arith, ap length e))
-  tells [] d h whole (inr other) = absurd (let f : false ≡ true = other in cc)
-  tells (x ∷ more) d h whole some =
-      tells_from d x more (tells more) (is_frame_end x) refl h whole some
+  judges [] d h whole (inr other) = absurd (let f : false ≡ true = other in cc)
+  judges (x ∷ more) d h whole some =
+      judges_from d x more (judges more) (is_frame_end x) refl h whole some
 
-  pub tells_other : (more : List ℕ) → rest_of more ≡ [] → has_other more ≡ true
+  pub judges_other : (more : List ℕ) → rest_of more ≡ [] → has_other more ≡ true
       → 0 < length (judgements_of more)
-  tells_other more whole other = tells more [] no_end-nil whole (inr other)
+  judges_other more whole other = judges more [] no_end-nil whole (inr other)

@@ -10,14 +10,16 @@ use Rattle.aprs_ax25.specs.Frame.{FrameOf, Parts}
 use Rattle.aprs_ax25.specs.FrameFault.{frame_of, unless_fault}
 use Rattle.aprs_ax25.specs.Law.{IsFrame, IsRefused}
 use Rattle.hex.specs.Hex.{decode_of, encode_lower}
-use Rattle.aprs_log.specs.Bytes.{WrittenLaws}
+use Rattle.aprs_log.specs.StreamLaws.{WrittenLaws}
 use Rattle.aprs_log.specs.Moment.{MomentText, moment_text}
 use Rattle.aprs_log.specs.Receiver.{IsName}
 use Rattle.aprs_log.specs.Reception.{Heard}
 use Rattle.aprs_log.specs.Line.{heard_or_passed, line_of, written_line}
 use Rattle.aprs_log.specs.declared.line.Line.TheVariants as line
-use Rattle.aprs_log.proofs.LineLemmas.{line_of-syntax}
-use Rattle.aprs_log.proofs.FrameLemmas.{frame_in-kiss_text}
+use Rattle.aprs_log.proofs.Lines.{line_of-syntax}
+use Rattle.aprs_log.proofs.Frames.{frame_in-kiss_text}
+use Rattle.aprs_log.specs.declared.line.TheConstants.{MAX_LINE}
+use Rattle.aprs_log.specs.declared.write.TheConstants.{MAX_FRAME}
 
 -- ---- a frame's bytes, cut at each byte that isn't sent as itself
 
@@ -56,14 +58,16 @@ begins line text more n e len =
     ∙ ap (λ k. take k (text ++ more)) (sym len) ∙ take-append_seam text more
 
 -- a line that was put together begins with its moment's text
-pub begins_with_moment : (line : List ℕ) (n : ℕ) (x : Heard) → take n line ≡ written_line x ++ 10 ∷ []
+pub begins_with_moment : (line : List ℕ) (n : ℕ) (x : Heard)
+    → take n line ≡ written_line x ++ 10 ∷ []
     → length (moment_text x.moment) ≡ 24 → take 24 line ≡ moment_text x.moment
 begins_with_moment line n x e len =
     let text = moment_text x.moment in
     let name = 32 ∷ x.receiver in
     let digits = 32 ∷ encode_lower (kiss_text x.frame) in
     begins line text (name ++ (digits ++ 10 ∷ [])) n
-    (e ∙ append_assoc (text ++ name) digits (10 ∷ []) ∙ append_assoc text name (digits ++ 10 ∷ [])) len
+    (e ∙ append_assoc (text ++ name) digits (10 ∷ [])
+    ∙ append_assoc text name (digits ++ 10 ∷ [])) len
 
 -- ---- a written line reads back
 
@@ -75,7 +79,7 @@ pub record IsReal (x : Heard) : Type 0 where
   pub few : length x.frame ≤ 1023
 
 pub real : (x : Heard) (text : List ℕ) → text ≡ moment_text x.moment → MomentText x.moment text
-    → IsName x.receiver → frame_of x.frame ≡ Ok x.frame → length x.frame ≤ 328 → IsReal x
+    → IsName x.receiver → frame_of x.frame ≡ Ok x.frame → length x.frame ≤ MAX_FRAME → IsReal x
 real x text e moment receiver frame few = record {
   moment = subst (MomentText x.moment) e moment;
   receiver = receiver;
@@ -85,7 +89,7 @@ real x text e moment receiver frame few = record {
 
 pub line_of-written : WrittenLaws → (x : Heard) → IsReal x
     → decode_of (encode_lower (kiss_text x.frame)) ≡ Ok (kiss_text x.frame)
-    → length (written_line x) ≤ 8192 → line_of (written_line x) ≡ Ok (line.Heard x)
+    → length (written_line x) ≤ MAX_LINE → line_of (written_line x) ≡ Ok (line.Heard x)
 line_of-written laws x h digits short =
     line_of-syntax (written_line x) short (record {
       moment = x.moment;

@@ -1,6 +1,6 @@
 use Rattle.std.proofs.Common.{◌∙◌, ap, length, arith}
 use Rattle.aprs_io.proofs.CutLemmas.{taken}
-use Rattle.aprs_log.proofs.take.take_line.Goals as goal
+use Rattle.aprs_log.proofs.next_line.take_line.Goals as goal
 
 pub consume-requires : goal.consume-requires
 consume-requires c = (taken 10 _ _ _ c.in-Some.ensures c.as_slice.ensures.value).used
@@ -8,7 +8,7 @@ consume-requires c = (taken 10 _ _ _ c.in-Some.ensures c.as_slice.ensures.value)
 pub returns-clause-some : goal.returns-clause-some
 returns-clause-some c =
     let t = taken 10 _ _ _ c.in-Some.ensures c.as_slice.ensures.value in
-    (_, t.is, c.read_fields-answer.ensures.told, c.consume.ensures ∙ t.left)
+    (_, t.is, c.read_fields-answer.ensures.line, c.consume.ensures ∙ t.left)
 
 pub returns-clause-shorter : goal.returns-clause-shorter
 returns-clause-shorter c =

@@ -89,7 +89,8 @@ near_millis-below Millis t = omega arith
 
 near_civil-civil_text : (form : MomentForm) (c : Civil) (n : ℕ) → FitsText c
     → near_civil (civil_text form c n) ≡ c
-near_civil-civil_text form c n h = same_civil _ _ _ _ _ _ _ _ _ _ _ _ (near-four_digits c.year h.year)
+near_civil-civil_text form c n h = same_civil _ _ _ _ _ _ _ _ _ _ _ _
+    (near-four_digits c.year h.year)
     (near-two_digits c.month h.month) (near-two_digits c.day h.day) (near-two_digits c.hour h.hour)
     (near-two_digits c.minute h.minute) (near-two_digits c.second h.second)
 
@@ -141,7 +142,7 @@ is_civil-IsCivil c h =
 IsCivil-is_civil : (c : Civil) → IsCivil c → is_civil c ≡ true
 IsCivil-is_civil c h = grind (arith, nat_tests)
 
--- a real time, with milliseconds that the form tells apart
+-- a real time, with milliseconds that the form can write
 record Real (form : MomentForm) (c : Civil) (n : ℕ) : Type 0 where
   civil : IsCivil c
   below : n < room_of form
@@ -223,8 +224,10 @@ moment_in-civil form c n h below =
     let e = civil_at-civil_text form c n in
     let f = millis_at-civil_text form c n below in
     let there : moment_in form t
-    ≡ (cond (is_real form c n && bytes_eq (civil_text form c n) t) (Some (seconds_of c * 1000 + n)) None)
-    = ap (λ d. cond (is_real form d (millis_at form t) && bytes_eq (civil_text form d (millis_at form t)) t)
+    ≡ (cond (is_real form c n && bytes_eq (civil_text form c n) t)
+    (Some (seconds_of c * 1000 + n)) None)
+    = ap (λ d. cond (is_real form d (millis_at form t) && bytes_eq
+    (civil_text form d (millis_at form t)) t)
     (Some (seconds_of d * 1000 + millis_at form t)) None) e
     ∙ ap (λ k. cond (is_real form c k && bytes_eq (civil_text form c k) t)
     (Some (seconds_of c * 1000 + k)) None) f in
@@ -279,7 +282,8 @@ one_text form m t u h k =
     ∙ number-back m k.civil k.millis k.real k.number in
     let parts = split (seconds_of h.civil) (seconds_of k.civil) h.millis k.millis
     (room_most form h.millis h.below) (room_most form k.millis k.below) same in
-    h.spelled ∙ ap (λ c. civil_text form c h.millis) (one_civil h.civil k.civil h.real k.real parts.0)
+    h.spelled ∙ ap (λ c. civil_text form c h.millis)
+    (one_civil h.civil k.civil h.real k.real parts.0)
     ∙ ap (civil_text form k.civil) parts.1 ∙ sym k.spelled
 
 -- ---- what the code knows of a text
@@ -304,7 +308,8 @@ pub moment_in-unfound : (form : MomentForm) (t : List ℕ)
 unfolding moment_in
 moment_in-unfound form t h = let c = civil_at t in let n = millis_at form t in
     sym (no_if (is_real form c n) (bytes_eq (civil_text form c n) t) (seconds_of c * 1000 + n)
-    (λ e same. h (found c n (is_real-Real form c n e) ((bytes_eq-Decides (civil_text form c n) t).0 same))))
+    (λ e same. h (found c n (is_real-Real form c n e)
+    ((bytes_eq-Decides (civil_text form c n) t).0 same))))
   where
     found : (c : Civil) (n : ℕ) → Real form c n → civil_text form c n ≡ t
         → civil_text form (near_civil t) (near_millis form t) ≡ t
@@ -358,7 +363,7 @@ after_seconds m h =
     (pos_same _ n (IsDay-number (day_after n).year (day_after n).month (day_after n).day d.date
     ∙ sym d.number)) ∙ sum
 
--- each moment that the form can tell has the text that the function gives
+-- each moment that the form can write has the text that the function gives
 pub moment_text-is : (form : MomentForm) (m : ℕ) → m ≤ 4102444799999 → m % 1000 < room_of form
     → MomentTextIn form m (moment_text_in form m)
 unfolding moment_text_in
@@ -370,10 +375,10 @@ moment_text-is form m h below =
       whole : (q r s : ℕ) → s ≡ q → q * 1000 + r ≡ m → s * 1000 + r ≡ m
       whole q r s e f = omega arith
 
--- a form's text is of a moment that the form can tell
-pub millis_told : (form : MomentForm) (m : ℕ) (t : List ℕ) → MomentTextIn form m t
+-- a form's text is of a moment that the form can write
+pub millis_kept : (form : MomentForm) (m : ℕ) (t : List ℕ) → MomentTextIn form m t
     → m % 1000 < room_of form
-millis_told form m t h =
+millis_kept form m t h =
     left (seconds_of h.civil) h.millis (room_of form) (room_most form h.millis h.below) h.below
     (number-back m h.civil h.millis h.real h.number) where
       left : (s n r : ℕ) → n < 1000 → n < r → m ≡ s * 1000 + n → m % 1000 < r

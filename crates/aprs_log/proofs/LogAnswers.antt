@@ -1,5 +1,5 @@
 -- Lemmas on the answers of a log, of which only the first bytes may be known.
-use Rattle.std.proofs.Common.{◌≡◌, ℕ, ◌+◌, ◌≤◌, ◌<◌, List, [], ◌∷◌, ◌++◌, Bool, true, false, length, get_or, None, Some, Err, inl, inr, cond, refl, arith, sym, ap, ◌∙◌, append_assoc, append-nil, length-append, length-take, nat_lt, IsTrue}
+use Rattle.std.proofs.Common.{◌≡◌, ℕ, ◌+◌, ◌≤◌, ◌<◌, List, [], ◌∷◌, ◌++◌, Bool, true, false, length, get_or, None, Some, inl, inr, cond, refl, arith, sym, ap, ◌∙◌, append_assoc, append-nil, length-append, length-take, IsTrue}
 use Rattle.std.specs.List.{slice_split, position_or_len, before_first, after_first, All}
 use Rattle.std.proofs.lemmas.List.Splits.{slice_split_at, slice_split_none, length-slice_split}
 use Rattle.std.proofs.lemmas.List.Sums.{fails_before_first, passes_at_first, split_at_first}
@@ -8,11 +8,12 @@ use Rattle.std.proofs.Math.ListN.{get_or-append}
 use Rattle.std.proofs.lemmas.Bool.Decides.{nat_tests}
 use Rattle.std.proofs.lemmas.Bool.{cases_lt}
 use Rattle.aprs_io.specs.Cut.{Cut, cut_at, first_cut, has_byte}
-use Rattle.aprs_log.specs.Line.{line_of, line_of_cut}
+use Rattle.aprs_log.specs.Line.{line_of}
+use Rattle.aprs_log.proofs.Lines.{line_of-long}
 use Rattle.aprs_log.specs.LogAnswers.{is_lf, tail_cause, fault_at, ended, then_answers, answers_of, answers_from}
 use Rattle.aprs_io.specs.declared.input.Ending.{Ending}
-use Rattle.aprs_log.specs.declared.fault.LineFault.TheVariants as fault
 use Rattle.aprs_log.specs.declared.fault.LogCause.TheVariants as cause
+use Rattle.aprs_log.specs.declared.line.TheConstants.{MAX_LINE}
 
 answers_of-more : (n : ℕ) (l : List ℕ) (more : List (List ℕ)) (c : Ending) → 0 < length more
     → answers_of n (l ∷ more) c ≡ then_answers n (line_of l) (answers_of (n + 1) more c)
@@ -42,19 +43,19 @@ from_first : (n : ℕ) (held more : List ℕ) (c : Ending) → position_or_len i
     (answers_from (n + 1) (after_first is_lf held ++ more) c)
 from_first n held more c h =
     let i = position_or_len is_lf held in
-    let front = before_first is_lf held in
+    let prefix = before_first is_lf held in
     let after = after_first is_lf held in
     let lf = get_or held i 0 in
-    let none : All (λ x. is_lf x ≡ false) front = λ k d lt. let low : k < i
+    let none : All (λ x. is_lf x ≡ false) prefix = λ k d lt. let low : k < i
     = omega (arith, simp length-take at lt) in
     ap is_lf (get_or-take i held k d low) ∙ fails_before_first is_lf held k d low in
-    let cut : held ++ more ≡ front ++ lf ∷ (after ++ more)
+    let cut : held ++ more ≡ prefix ++ lf ∷ (after ++ more)
     = ap (λ l. l ++ more) (split_at_first is_lf held 0 h)
-    ∙ append_assoc front (lf ∷ after) more in
+    ∙ append_assoc prefix (lf ∷ after) more in
     ap (λ l. answers_of n (slice_split is_lf l) c) cut
     ∙ ap (λ parts. answers_of n parts c)
-    (slice_split_at is_lf front lf (after ++ more) none (passes_at_first is_lf held 0 h))
-    ∙ answers_of-more n front (slice_split is_lf (after ++ more)) c
+    (slice_split_at is_lf prefix lf (after ++ more) none (passes_at_first is_lf held 0 h))
+    ∙ answers_of-more n prefix (slice_split is_lf (after ++ more)) c
     (omega (arith, length-slice_split is_lf (after ++ more)))
 
 pub answers_from-line : (n : ℕ) (held more : List ℕ) (c : Ending) (cut : Cut)
@@ -78,7 +79,8 @@ no_lf text e = above text
     (record { before = before_first is_lf text; after = after_first is_lf text }) e)
 
 -- bytes that aren't cut at `stop` have none
-pub uncut_lacks : (stop : ℕ) (text : List ℕ) → cut_at stop text ≡ None → IsTrue (has_byte stop text) → ⊥
+pub uncut_lacks : (stop : ℕ) (text : List ℕ) → cut_at stop text ≡ None → IsTrue (has_byte stop text)
+    → ⊥
 unfolding cut_at
 uncut_lacks stop text e h =
     let lacks : has_byte stop text ≡ false = missing (has_byte stop text) (first_cut stop text) e in
@@ -93,16 +95,8 @@ answers_from-tail n t c h =
 
 -- ---- more bytes than a line may have, and no LF: the line is too long, whatever comes
 
-too_long_line : (l : List ℕ) → 8192 < length l → line_of l ≡ Err fault.LongLine
-unfolding line_of
-too_long_line l h = by (nat_lt 8192 (length l)) refl
-  where
-    by : (b : Bool) → b ≡ nat_lt 8192 (length l)
-        → cond b (Err fault.LongLine) (line_of_cut (cut_at 32 l)) ≡ Err fault.LongLine
-    by true e = refl
-    by false e = absurd (grind (arith, nat_tests))
-
-too_long_tail : (l : List ℕ) (c : Ending) → 8192 < length l → tail_cause l c ≡ Some cause.LongLine
+too_long_tail : (l : List ℕ) (c : Ending) → MAX_LINE < length l
+    → tail_cause l c ≡ Some cause.LongLine
 too_long_tail l c h = grind (arith, nat_tests)
 
 not_below : (held more : List ℕ) → length held ≤ position_or_len is_lf held
@@ -119,7 +113,7 @@ past : (held more : List ℕ) → length held ≤ position_or_len is_lf held
 past held more h = omega (arith, not_below held more h)
 
 pub answers_from-long : (n : ℕ) (held more : List ℕ) (c : Ending)
-    → length held ≤ position_or_len is_lf held → 8192 < length held
+    → length held ≤ position_or_len is_lf held → MAX_LINE < length held
     → answers_from n (held ++ more) c ≡ ended (fault_at n (Some cause.LongLine))
 answers_from-long n held more c none long =
     let all = held ++ more in
@@ -127,7 +121,7 @@ answers_from-long n held more c none long =
     elim (cases_lt (position_or_len is_lf all) (length all)) [
       | inl lt ↦ ap (λ l. answers_from n l c) (sym (append-nil all)) ∙ from_first n all [] c lt
           ∙ ap (λ r. then_answers n r (answers_from (n + 1) (after_first is_lf all ++ []) c))
-          (too_long_line (before_first is_lf all) (simp length-take (omega arith)))
+          (sym (line_of-long (before_first is_lf all) (simp length-take (omega arith))))
       | inr ge ↦ answers_from-tail n all c ge
           ∙ ap (λ o. ended (fault_at n o)) (too_long_tail all c (simp length-append (omega arith)))
     ]

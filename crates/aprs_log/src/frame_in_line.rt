@@ -2,14 +2,12 @@
 ghost use Rattle.std.specs.Prelude.{◌≡◌, Err, IfSome, MatchResult};
 ghost use Rattle.aprs_kiss.specs.Stream.{is_nonempty, rest_of};
 ghost use Rattle.aprs_ax25.specs.FrameFault.{frame_of};
-ghost use Rattle.aprs_log.specs.Bytes.{has_other, StreamLaws};
+ghost use Rattle.aprs_log.specs.StreamLaws.{has_other};
 ghost use Rattle.aprs_log.specs.Line.{frame_in, frame_or_reason};
 
 use crate::fault::Reason;
-use crate::write::written_laws;
-use aprs_kiss::{
-    Fed, KissReader, a_stream_is_its_pieces, cut_plain, cuts_change_nothing, frame_ends_end_pieces,
-};
+use crate::laws::{stream_laws, written_laws};
+use aprs_kiss::{Fed, KissReader, cut_plain};
 
 /// Stands before and after a frame.
 const FEND: u8 = 0xC0;
@@ -92,13 +90,4 @@ fn has_other(bytes: &[u8]) -> bool
     ensures { result ≡ has_other bytes.now }
 {
     bytes.iter().any(|b| *b != FEND)
-}
-
-/// What holds of every KISS stream. Does nothing.
-fn stream_laws()
-    ensures { StreamLaws }
-{
-    cuts_change_nothing();
-    a_stream_is_its_pieces();
-    frame_ends_end_pieces();
 }

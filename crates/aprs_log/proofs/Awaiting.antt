@@ -17,7 +17,8 @@ use Rattle.aprs_log.specs.declared.ending.State.{State}
 use Rattle.aprs_log.specs.declared.ending.State.TheVariants.{Reading, Ended, Failed}
 pub use Rattle.aprs_io.proofs.Inputs.{GetsWhole, gets_whole}
 use Rattle.aprs_io.proofs.Inputs.{Gets-after}
-use Rattle.aprs_log.proofs.AnswerLemmas.{answers_from-line, answers_from-tail, answers_from-long, no_lf}
+use Rattle.aprs_log.proofs.LogAnswers.{answers_from-line, answers_from-tail, answers_from-long, no_lf}
+use Rattle.aprs_log.specs.declared.line.TheConstants.{MAX_LINE}
 
 -- an answer that doesn't depend on the bytes to come
 always : (known end : Option (List ℕ)) (left line : ℕ) (held : List ℕ) (a : Answers)
@@ -29,7 +30,8 @@ always (Some input) end left line held a h = let g = gets_whole left input end i
 
 -- ---- a line
 
-pub awaits_line : (known end : Option (List ℕ)) (left line : ℕ) (held : List ℕ) (cut : Cut) (x : Line)
+pub awaits_line : (known end : Option (List ℕ)) (left line : ℕ) (held : List ℕ) (cut : Cut)
+    (x : Line)
     (a : Answers) → cut_at 10 held ≡ Some cut
     → Ok x ≡ line_of cut.before → AwaitsIn Reading known end left (line + 1) cut.after a
     → AwaitsIn Reading known end left line held (then_given x a)
@@ -55,8 +57,9 @@ awaits_fault known end left line held cut f e g = always known end left line hel
 
 -- ---- no whole line
 
-pub awaits_long : (known end : Option (List ℕ)) (left line : ℕ) (held : List ℕ) → cut_at 10 held ≡ None
-    → 8192 < length held
+pub awaits_long : (known end : Option (List ℕ)) (left line : ℕ) (held : List ℕ)
+    → cut_at 10 held ≡ None
+    → MAX_LINE < length held
     → AwaitsIn Reading known end left line held (ended (Some (fault_after line cause.LongLine)))
 awaits_long known end left line held none long = always known end left line held _
     (λ text c. sym (answers_from-long (line + 1) held text c (no_lf held none) long))
@@ -115,12 +118,14 @@ going_on s known end left line held a going w = subst (λ s. AwaitsIn s known en
 went_on : (s : State) (known end : Option (List ℕ)) (left line : ℕ) (held : List ℕ) (a : Answers)
     → s ≡ Reading
     → AwaitsIn s known end left line held a → AwaitsIn Reading known end left line held a
-went_on s known end left line held a going w = subst (λ s. AwaitsIn s known end left line held a) going w
+went_on s known end left line held a going w =
+    subst (λ s. AwaitsIn s known end left line held a) going w
 
 pub step_line : (s : State) (known end : Option (List ℕ)) (left line : ℕ) (held now : List ℕ)
     (x : Line) (cut : Cut) (a : Answers) → s ≡ Reading
     → cut_at 10 held ≡ Some cut → Ok x ≡ line_of cut.before → now ≡ cut.after
-    → AwaitsIn s known end left (line + 1) now a → AwaitsIn s known end left line held (then_given x a)
+    → AwaitsIn s known end left (line + 1) now a
+    → AwaitsIn s known end left line held (then_given x a)
 step_line s known end left line held now x cut a going e f rest w =
     going_on s known end left line held (then_given x a) going
     (awaits_line known end left line held cut x a e f
@@ -140,7 +145,7 @@ step_fault s known end left line held f cut c a going e g same is =
 
 pub step_long : (s : State) (known end : Option (List ℕ)) (left line : ℕ) (held slice : List ℕ)
     (a : Answers) → s ≡ Reading
-    → cut_at 10 held ≡ None → slice ≡ held → 8192 < length slice
+    → cut_at 10 held ≡ None → slice ≡ held → MAX_LINE < length slice
     → a ≡ ended (Some (fault_after line cause.LongLine)) → AwaitsIn s known end left line held a
 step_long s known end left line held slice a going none same long is =
     going_on s known end left line held a going
@@ -154,7 +159,8 @@ pub record CameMore (known after : Option (List ℕ)) (held now : List ℕ) (n :
   pub grown : now ≡ held ++ more
   pub took : Consumes known after more
 
-pub step_more : (s : State) (known after end : Option (List ℕ)) (left n line : ℕ) (held now : List ℕ)
+pub step_more : (s : State) (known after end : Option (List ℕ)) (left n line : ℕ)
+    (held now : List ℕ)
     (a : Answers) → s ≡ Reading → n ≤ left
     → CameMore known after held now n → AwaitsIn s after end (left - n) line now a
     → AwaitsIn s known end left line held a
@@ -188,7 +194,7 @@ step_end s next known after end left line held now slice e o a going none same i
     (awaits_end known end left line held e none
     (subst (λ end. EndsHere e left known end) (sym stopped.0) ends)))
 
--- no line's fault is a want of memory
+-- no line's fault is a failed allocation
 pub faults_keep : (f : LineFault) (c : LogCause) → c ≡ log_cause_of f → KeepsMemory (Failed c)
 faults_keep fault.LongLine c e k = cc
 faults_keep fault.NoNewline c e k = cc

@@ -13,12 +13,12 @@ use Rattle.aprs_kiss.specs.declared.fault.PassFault.{PassFault}
 use Rattle.aprs_kiss.specs.declared.reader.Fed.{Fed}
 use Rattle.aprs_kiss.specs.declared.reader.Fed.TheVariants.{Nothing, Frame, Passed}
 use Rattle.aprs_ax25.specs.FrameFault.{frame_of}
-use Rattle.aprs_log.specs.Bytes.{has_other, StreamLaws, WrittenLaws}
+use Rattle.aprs_log.specs.StreamLaws.{has_other, StreamLaws, WrittenLaws}
 use Rattle.aprs_log.specs.Line.{frame_in, frame_or_reason, only_frame}
 use Rattle.aprs_log.specs.Fault.{reason_of_pass}
 use Rattle.aprs_log.specs.declared.fault.Reason.{Reason}
 use Rattle.aprs_log.specs.declared.fault.Reason.TheVariants as reason
-use Rattle.aprs_log.proofs.PieceLemmas.{ends_alone, rest_nil, tells_other}
+use Rattle.aprs_log.proofs.Pieces.{ends_alone, rest_nil, judges_other}
 
 unless_unended : (b : Bool) (x y : Result (List ℕ) Reason) → b ≡ false → cond b x y ≡ y
 unless_unended true x y e = absurd (let f : true ≡ false = e in cc)
@@ -38,7 +38,7 @@ frame_in-unended bytes e = rw e refl
 
 -- that is the only piece so far, and its judgement is j
 record UsedTo (used : List ℕ) (j : Judgement) : Type 0 where
-  told : judgements_of used ≡ j ∷ []
+  judged : judgements_of used ≡ j ∷ []
   left : rest_of used ≡ []
 
 two_frames : (j : Judgement) (js : List Judgement) → 0 < length js
@@ -50,7 +50,7 @@ module _ (laws : StreamLaws) (used more : List ℕ) (j : Judgement) (u : UsedTo 
     (e : is_nonempty (rest_of (used ++ more)) ≡ false) where
   told_then : judgements_of (used ++ more) ≡ j ∷ judgements_of more
   told_then =
-      laws.told used more ∙ ap (λ js. js ++ judgements_of (rest_of used ++ more)) u.told
+      laws.judged used more ∙ ap (λ js. js ++ judgements_of (rest_of used ++ more)) u.judged
       ∙ ap (λ l. j ∷ judgements_of (l ++ more)) u.left
 
   frame_in-one : has_other more ≡ false → only_frame (j ∷ []) ≡ frame_in (used ++ more)
@@ -63,21 +63,21 @@ module _ (laws : StreamLaws) (used more : List ℕ) (j : Judgement) (u : UsedTo 
       let rest = rest_nil (rest_of (used ++ more)) e in
       let moved : rest_of (used ++ more) ≡ rest_of more
       = laws.left used more ∙ ap (λ l. rest_of (l ++ more)) u.left in
-      let some = tells_other laws more (sym moved ∙ rest) other in
+      let some = judges_other laws more (sym moved ∙ rest) other in
       sym (frame_in-ended (used ++ more) e ∙ ap only_frame told_then
       ∙ two_frames j (judgements_of more) some)
 
--- ---- what a reader tells of a line's bytes at once
+-- ---- what a reader returns of a line's bytes at once
 
-pub record FedOnce (bytes : List ℕ) (n : ℕ) (told : List Judgement) : Type 0 where
-  pub judged : judgements_of (take n bytes) ≡ told
-  pub whole : told ≡ [] → n ≡ length bytes
-  pub ends : told ≢ [] → EndsPiece (take n bytes)
+pub record FedOnce (bytes : List ℕ) (n : ℕ) (found : List Judgement) : Type 0 where
+  pub judged : judgements_of (take n bytes) ≡ found
+  pub whole : found ≡ [] → n ≡ length bytes
+  pub ends : found ≢ [] → EndsPiece (take n bytes)
 
-pub once : (bytes : List ℕ) (n : ℕ) (told : List Judgement) → judgements_of (take n bytes) ≡ told
-    → (told ≡ [] → n ≡ length bytes) → (told ≢ [] → EndsPiece (take n bytes))
-    → FedOnce bytes n told
-once bytes n told judged whole ends = record { judged = judged; whole = whole; ends = ends }
+pub once : (bytes : List ℕ) (n : ℕ) (found : List Judgement) → judgements_of (take n bytes) ≡ found
+    → (found ≡ [] → n ≡ length bytes) → (found ≢ [] → EndsPiece (take n bytes))
+    → FedOnce bytes n found
+once bytes n found judged whole ends = record { judged = judged; whole = whole; ends = ends }
 
 after_used : List ℕ → ℕ → List ℕ
 after_used bytes n = take (length bytes - n) (drop n bytes)
@@ -89,7 +89,7 @@ again bytes n = ap (λ l. take n bytes ++ l) (take_rest bytes n) ∙ take-append
 used_to : (bytes : List ℕ) (n : ℕ) (j : Judgement) → FedOnce bytes n (j ∷ [])
     → UsedTo (take n bytes) j
 used_to bytes n j f =
-    record { told = f.judged; left = (f.ends (λ e. let h : ⊥ = absurd cc in h)).left }
+    record { judged = f.judged; left = (f.ends (λ e. let h : ⊥ = absurd cc in h)).left }
 
 module _ (laws : StreamLaws) (bytes : List ℕ) (n : ℕ) (e : false ≡ is_nonempty (rest_of bytes))
   where
@@ -165,10 +165,10 @@ frame_in-written : WrittenLaws → (frame : List ℕ) → length frame ≤ 1023
     → frame_in (kiss_text frame) ≡ frame_or_reason (frame_of frame)
 frame_in-written laws frame len =
     let data_frame = Ok (record { port = 0; bytes = frame }) in
-    let told = laws.read_back [] frame laws.begins.1 len
+    let found = laws.read_back [] frame laws.begins.1 len
     ∙ ap (λ js. js ++ data_frame ∷ []) laws.begins.0 in
     let rest = ap is_nonempty (laws.read_whole [] frame) in
-    frame_in-ended (kiss_text frame) rest ∙ ap only_frame told
+    frame_in-ended (kiss_text frame) rest ∙ ap only_frame found
 
 -- it holds that frame
 pub frame_in-kiss_text : WrittenLaws → (frame : List ℕ) → length frame ≤ 1023
@@ -186,7 +186,8 @@ frame_in-plain laws bytes ended frame all plain is few =
     let len : length ended ≡ length frame + 1 = ap length is ∙ length-append frame (0xC0 ∷ []) in
     ap frame_in same ∙ frame_in-written laws frame (omega arith)
 
-two_bytes : (bytes : List ℕ) → 2 ≤ length bytes → slice_index bytes 0 ≡ 0xC0 → slice_index bytes 1 ≡ 0
+two_bytes : (bytes : List ℕ) → 2 ≤ length bytes → slice_index bytes 0 ≡ 0xC0
+    → slice_index bytes 1 ≡ 0
     → bytes ≡ 0xC0 ∷ 0 ∷ drop 2 bytes
 two_bytes [] len e f = absurd (omega arith)
 two_bytes (a ∷ []) len e f = absurd (omega arith)
@@ -205,6 +206,8 @@ pub frame_in-cut : WrittenLaws → (bytes ended frame : List ℕ) (cut : Option 
 frame_in-cut laws bytes ended frame cut end after two first kind is plain cuts e last none few =
     let parts = (subst (CutsPlain ended frame) e cuts).0 in
     let tail : ended ≡ frame ++ 0xC0 ∷ []
-    = parts ∙ ap (λ l. frame ++ end ∷ l) (nothing after.now none) ∙ ap (λ n. frame ++ n ∷ []) last in
-    frame_in-plain laws bytes ended frame (two_bytes bytes two first kind ∙ ap (λ l. 0xC0 ∷ 0 ∷ l) (sym is))
+    = parts ∙ ap (λ l. frame ++ end ∷ l) (nothing after.now none)
+    ∙ ap (λ n. frame ++ n ∷ []) last in
+    frame_in-plain laws bytes ended frame (two_bytes bytes two first kind
+    ∙ ap (λ l. 0xC0 ∷ 0 ∷ l) (sym is))
     plain tail few

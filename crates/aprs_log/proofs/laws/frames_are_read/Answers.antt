@@ -1,6 +1,6 @@
 use Rattle.std.proofs.Common.{arith}
-use Rattle.aprs_log.proofs.WrittenLemmas.{frame_of-is}
-use Rattle.aprs_log.proofs.write.frames_are_read.Goals as goal
+use Rattle.aprs_log.proofs.WrittenLines.{frame_of-is}
+use Rattle.aprs_log.proofs.laws.frames_are_read.Goals as goal
 
 pub returns : goal.returns
 returns c =

@@ -7,7 +7,7 @@ use lib.Seq.{take-add}
 pub grown : (xs ys : List ℕ) (start end k n : ℕ) → start ≤ end → end ≤ length xs → n ≤ length ys
     → slice_range (put_mid end k xs ys) start (end + n) ≡ slice_range xs start end ++ take n ys
 grown xs ys start end k n ordered within fits =
-    let front = length-take-le end xs within in
+    let prefix = length-take-le end xs within in
     let held = drop start (take end xs) in
     let len : length held ≡ end - start = omega (arith, length-drop start (take end xs)) in
     let sum : end + n - start ≡ (end - start) + n = omega arith in

@@ -1,5 +1,5 @@
-use Rattle.aprs_log.proofs.PieceLemmas.{is_unended-last, is_unended-nil}
-use Rattle.aprs_log.proofs.line_bytes.is_unended.Goals as goal
+use Rattle.aprs_log.proofs.Pieces.{is_unended-last, is_unended-nil}
+use Rattle.aprs_log.proofs.frame_in_line.is_unended.Goals as goal
 
 pub returns-in-empty : goal.returns-in-empty
 returns-in-empty c = is_unended-nil c.stream_laws.ensures c.args.bytes.now c.in-empty.len_below

@@ -1,0 +1,191 @@
+-- Lemmas on the lines of a log.
+use Rattle.std.proofs.Common.{◌≡◌, ◌↔◌, ℕ, ◌/◌, ◌%◌, ◌<◌, ◌≤◌, ◌&&◌, Bool, true, false, List, [], ◌∷◌, ◌++◌, length, Option, None, Some, Result, Ok, Err, IsOk, nat_le, unwrap_or, refl, arith, sym, ap, ◌∙◌, subst, append_assoc}
+use Rattle.std.specs.List.{list_all}
+use Rattle.std.proofs.lemmas.Bool.{le-leb, leb-true}
+use Rattle.std.proofs.lemmas.Bool.Decides.{nat_tests}
+use Rattle.std.specs.Result.{result_ok}
+use Rattle.hex.specs.Hex.{decode_of}
+use Rattle.aprs_io.specs.Cut.{Cut, cut_at, is_byte}
+use Rattle.aprs_log.specs.declared.moment_form.MomentForm.{MomentForm}
+use Rattle.aprs_log.specs.declared.moment_form.MomentForm.TheVariants.{Seconds, Millis}
+use Rattle.aprs_log.specs.Moment.{Civil, two_digits, fraction_text, civil_text, MomentText, moment_of}
+use Rattle.aprs_log.specs.Receiver.{IsName, is_name, is_name_byte}
+use Rattle.aprs_log.specs.Line.{LineSyntax, frame_in, heard_or_passed, line_of, line_of_digits}
+use Rattle.aprs_log.specs.Steps.{◌>>=◌, ◌otherwise◌, guard}
+use Rattle.aprs_log.specs.declared.line.TheConstants.{MAX_LINE}
+use Rattle.aprs_log.specs.declared.fault.LineFault.{LineFault}
+use Rattle.aprs_log.specs.declared.fault.LineFault.TheVariants as fault
+use Rattle.aprs_log.specs.declared.line.Line.{Line}
+use Rattle.aprs_io.proofs.CutLemmas.{Lacks, cut_at-append, cut_at-parts}
+use Rattle.aprs_log.proofs.Moments.{moment_of-text, text-moment_of}
+
+-- ---- a line's first two fields have no space
+
+not_space : (b : ℕ) → 32 < b → is_byte 32 b ≡ false
+not_space b h = grind (arith, nat_tests)
+
+pub name_byte : (b : ℕ) → is_name_byte b ≡ true → 32 < b
+name_byte b h = grind (arith, nat_tests)
+
+pub both : (a b : Bool) → a && b ≡ true → (a ≡ true) × (b ≡ true)
+both true b h = (refl, h)
+both false b h = absurd (let e : false ≡ true = h in cc)
+
+names_lack : (r : List ℕ) → list_all is_name_byte r ≡ true → Lacks 32 r
+names_lack [] h = tt
+names_lack (b ∷ r) h =
+    let parts = both (is_name_byte b) (list_all is_name_byte r) h in
+    (not_space b (name_byte b parts.0), names_lack r parts.1)
+
+pub IsName-lacks : (r : List ℕ) → IsName r → Lacks 32 r
+IsName-lacks r h = names_lack r (both _ (list_all is_name_byte r) h).1
+
+-- a text lacks spaces if its parts do
+lacks_pair : (n : ℕ) (xs : List ℕ) → Lacks 32 xs → Lacks 32 (two_digits n ++ xs)
+lacks_pair n xs k = (not_space _ (omega arith), (not_space _ (omega arith), k))
+
+lacks_end : (form : MomentForm) (n : ℕ) → Lacks 32 (fraction_text form n ++ 90 ∷ [])
+lacks_end Seconds n = (refl, tt)
+lacks_end Millis n =
+    (refl, (not_space _ (omega arith), lacks_pair (n % 100) (90 ∷ []) (refl, tt)))
+
+civil_text-lacks : (form : MomentForm) (c : Civil) (n : ℕ) → Lacks 32 (civil_text form c n)
+civil_text-lacks form c n =
+    let end = fraction_text form n ++ 90 ∷ [] in
+    let second = 58 ∷ two_digits c.second ++ end in
+    let minute = 58 ∷ two_digits c.minute ++ second in
+    let hour = 84 ∷ two_digits c.hour ++ minute in
+    let day = 45 ∷ two_digits c.day ++ hour in
+    let month = 45 ∷ two_digits c.month ++ day in
+    let s : Lacks 32 second = (refl, lacks_pair c.second end (lacks_end form n)) in
+    let m : Lacks 32 minute = (refl, lacks_pair c.minute second s) in
+    let h : Lacks 32 hour = (refl, lacks_pair c.hour minute m) in
+    let d : Lacks 32 day = (refl, lacks_pair c.day hour h) in
+    let o : Lacks 32 month = (refl, lacks_pair c.month day d) in
+    lacks_pair (c.year / 100) (two_digits (c.year % 100) ++ month)
+    (lacks_pair (c.year % 100) month o)
+
+pub MomentText-lacks : (m : ℕ) (t : List ℕ) → MomentText m t → Lacks 32 t
+MomentText-lacks m t h = subst (Lacks 32) (sym h.1.spelled)
+    (civil_text-lacks h.0 h.1.civil h.1.millis)
+
+-- ---- the steps of a reading
+
+-- a reading that ends well found something at its first step
+found_if : {A B : Type 0} (o : Option A) (why : LineFault) (next : A → Result B LineFault)
+    → IsOk ((o otherwise why) >>= next) → (x : A) × (o ≡ Some x) × IsOk (next x)
+found_if None why next h = absurd cc
+found_if (Some x) why next h = (x, refl, h)
+
+guard_if : (b : Bool) (u : Unit {0}) → guard b ≡ Some u → b ≡ true
+guard_if true u e = refl
+guard_if false u e = absurd cc
+
+value_if : {E : Type 0} (r : Result (List ℕ) E) (x : List ℕ) → result_ok r ≡ Some x → r ≡ Ok x
+value_if (Ok y) x e = ap (λ o. Ok (unwrap_or o [])) e
+value_if (Err error) x e = absurd cc
+
+-- ---- a line's fields and its answer
+
+is_short : (l : List ℕ) → length l ≤ MAX_LINE → nat_le (length l) MAX_LINE ≡ true
+is_short l h = le-leb _ _ h
+
+is_false : (b : Bool) → ¬ (b ≡ true) → b ≡ false
+is_false true h = absurd (h refl)
+is_false false h = refl
+
+-- a line of this syntax is sound, whatever its bytes are
+pub line_of-syntax : (l : List ℕ) → length l ≤ MAX_LINE → (s : LineSyntax l)
+    → line_of l ≡ Ok (heard_or_passed s.moment s.receiver (frame_in s.bytes))
+unfolding line_of
+line_of-syntax l h s =
+    let rest = s.receiver ++ 32 ∷ s.digits in
+    let whole : l ≡ s.text ++ 32 ∷ rest = s.spelled
+    ∙ append_assoc s.text (32 ∷ s.receiver) (32 ∷ s.digits) in
+    let first : cut_at 32 l ≡ Some (record { before = s.text; after = rest })
+    = ap (cut_at 32) whole
+    ∙ cut_at-append 32 s.text rest (MomentText-lacks s.moment s.text s.is_moment) in
+    let second : cut_at 32 rest ≡ Some (record { before = s.receiver; after = s.digits })
+    = cut_at-append 32 s.receiver s.digits (IsName-lacks s.receiver s.is_receiver) in
+    let moment : moment_of s.text ≡ Some s.moment = text-moment_of s.text s.moment s.is_moment in
+    let named : is_name s.receiver ≡ true = s.is_receiver in
+    rw (is_short l h, first, moment, second, named, s.is_hex)
+
+-- a sound line has this syntax
+pub line_of-sound : (l : List ℕ) → IsOk (line_of l) → (length l ≤ MAX_LINE) × LineSyntax l
+unfolding line_of
+line_of-sound l h =
+    let short = found_if (guard (nat_le (length l) MAX_LINE)) fault.LongLine _ h in
+    let first = found_if (cut_at 32 l) fault.Moment _ short.2 in
+    let moment = found_if (moment_of first.0.before) fault.Moment _ first.2 in
+    let second = found_if (cut_at 32 first.0.after) fault.Receiver _ moment.2 in
+    let named = found_if (guard (is_name second.0.before)) fault.Receiver _ second.2 in
+    let bytes = found_if (result_ok (decode_of second.0.after)) fault.Hex _ named.2 in (
+      leb-true _ _ (guard_if _ short.0 short.1),
+      record {
+        moment = moment.0;
+        text = first.0.before;
+        receiver = second.0.before;
+        digits = second.0.after;
+        bytes = bytes.0;
+        is_moment = moment_of-text first.0.before moment.0 moment.1;
+        is_receiver = guard_if (is_name second.0.before) named.0 named.1;
+        is_hex = value_if (decode_of second.0.after) bytes.0 bytes.1;
+        spelled = cut_at-parts 32 l first.0 first.1
+            ∙ ap (λ t. first.0.before ++ 32 ∷ t)
+            (cut_at-parts 32 first.0.after second.0 second.1)
+            ∙ sym (append_assoc first.0.before (32 ∷ second.0.before) (32 ∷ second.0.after));
+      },
+    )
+
+-- ---- the answer, field by field
+
+pub line_of-long : (l : List ℕ) → MAX_LINE < length l → Err fault.LongLine ≡ line_of l
+unfolding line_of
+line_of-long l h =
+    let long : nat_le (length l) MAX_LINE ≡ false = grind (arith, nat_tests) in rw long
+
+module _ (l : List ℕ) (short : length l ≤ MAX_LINE) where
+  pub line_of-uncut : None ≡ cut_at 32 l → Err fault.Moment ≡ line_of l
+  unfolding line_of
+  line_of-uncut e = rw (is_short l short, ← e)
+
+  pub line_of-no_moment : (first : Cut) → Some first ≡ cut_at 32 l → None ≡ moment_of first.before
+      → Err fault.Moment ≡ line_of l
+  unfolding line_of
+  line_of-no_moment first e none = rw (is_short l short, ← e, ← none)
+
+  pub line_of-one_cut : (first : Cut) (m : ℕ) → Some first ≡ cut_at 32 l
+      → Some m ≡ moment_of first.before → None ≡ cut_at 32 first.after
+      → Err fault.Receiver ≡ line_of l
+  unfolding line_of
+  line_of-one_cut first m e read none = rw (is_short l short, ← e, ← read, ← none)
+
+  pub line_of-no_name : (first next : Cut) (m : ℕ) → Some first ≡ cut_at 32 l
+      → Some m ≡ moment_of first.before → Some next ≡ cut_at 32 first.after
+      → ¬ IsName next.before → Err fault.Receiver ≡ line_of l
+  unfolding line_of
+  line_of-no_name first next m e read second none =
+      rw (is_short l short, ← e, ← read, ← second, is_false (is_name next.before) none)
+
+  pub line_of-fields : (first next : Cut) (m : ℕ) (r : List ℕ) → Some first ≡ cut_at 32 l
+      → Some m ≡ moment_of first.before
+      → Some next ≡ cut_at 32 first.after → IsName next.before → r ≡ next.before
+      → line_of_digits m r next.after ≡ line_of l
+  unfolding line_of
+  line_of-fields first next m r e read second name is =
+      let named : is_name next.before ≡ true = name in
+      ap (λ r. line_of_digits m r next.after) is
+      ∙ rw (is_short l short, ← e, ← read, ← second, named)
+
+ok_is : (m : ℕ) (r : List ℕ) (bytes : List ℕ) (x : Result Line LineFault)
+    → x ≡ Ok (heard_or_passed m r (frame_in bytes)) → IsOk x
+ok_is m r bytes x e = subst (λ y. IsOk y) (sym e) refl
+
+-- sound exactly where it has the syntax
+pub IsOk-line_of : (l : List ℕ) (x : Result Line LineFault) → x ≡ line_of l
+    → IsOk x ↔ ((length l ≤ MAX_LINE) × LineSyntax l)
+IsOk-line_of l x e = (
+  λ h. line_of-sound l (subst (λ y. IsOk y) e h),
+  λ h. ok_is h.1.moment h.1.receiver h.1.bytes x (e ∙ line_of-syntax l h.0 h.1),
+)
