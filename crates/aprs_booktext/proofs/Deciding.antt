@@ -294,18 +294,18 @@ after_last : (v : Version) (rows : List Row) (rest t : List ℕ) (e : Ending) �
 after_last v rows rest t e some s = record {
   fault = record { line = length (lines_of v rows) + 1; cause = cause.After };
   first = record {
-    front = lines_of v rows;
+    lines = lines_of v rows;
     rest = rest;
     whole = ap (λ l. l ++ rest) (s.text_is ∙ append-nil (book_text v rows));
     line = refl;
-    fault = inr (v, rows, s.holds.0, inr (refl, inl (some, refl)));
+    fault = inr (inr (record { version = v; rows = rows; sound = s.holds.0; read = refl; fault = inl (some, refl) }));
   };
 }
 
 abbrev FoundAfter : Ending → List ℕ → Type 0
 FoundAfter e rest = (stage : Stage) (rows : List Row) (t : List ℕ) → StandsAfter stage rows [] t → Found (t ++ rest) e
 
--- one line more, and then what is found behind it
+-- one line more, and then what is found after it
 step : (e : Ending) (rest : List ℕ) (stage : Stage) (rows : List Row) (t : List ℕ) → (is_done stage ≡ true → ⊥) → StandsAfter stage rows [] t
     → ((more : List ℕ) → length more < length rest → FoundAfter e more) → Found (t ++ rest) e
 step e rest stage rows t going s next = elim (cut_text rest) [

@@ -20,7 +20,7 @@ use std::alloc::Allocator;
 use std::io::Read;
 
 /// How many bytes are asked of the reader at once.
-const ROOM: usize = 16_384;
+const CHUNK: usize = 16_384;
 
 /// Reads a book from its text, which begins with `head` and goes on with the bytes of `source`, to
 /// the end. The first line is `APRSBOOK 1`, and moments are told to the second (20 bytes each), or
@@ -64,7 +64,7 @@ pub fn read_book<R: Read, A: Allocator + Copy>(
 {
     let mut reader = BookReader::new(alloc);
     reader.feed(head)?;
-    let mut room = [0; ROOM];
+    let mut room = [0; CHUNK];
     let mut left = limit - head.len() as u64;
     loop {
         match read_some(source, &mut room, left) {

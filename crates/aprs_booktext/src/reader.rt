@@ -1,7 +1,7 @@
 //! A book, while its text is read.
 ghost use Rattle.std.specs.Prelude.{◌≡◌, ◌≢◌, ◌+◌, ◌≤◌, ◌++◌, ◌∷◌, ℕ, [], true, List, length, IsErrAnd, OnOk, OnErr, MatchResult, IfOk, IfErr};
 ghost use Rattle.aprs_laws.specs.Gap.{millis_of};
-ghost use Rattle.aprs_booktext.specs.FirstFault.{missing, ReadsSo};
+ghost use Rattle.aprs_booktext.specs.FirstFault.{ending_cause, ReadsSo};
 ghost use Rattle.aprs_booktext.specs.Lines.{Lacks};
 ghost use Rattle.aprs_booktext.specs.Text.{end_line};
 ghost use Rattle.aprs_booktext.specs.Version.{gap_of};
@@ -78,7 +78,7 @@ impl<A: Allocator + Copy> BookReader<A> {
         if may_end(self.stage, ending) {
             return Ok(self.book);
         }
-        Err(self.fault(missing(ending)))
+        Err(self.fault(ending_cause(ending)))
     }
 
     /// Puts bytes behind those of the line.
@@ -246,9 +246,9 @@ fn judge_end(line: &[u8], version: Version, rows: usize) -> Result<Stage, BookCa
     }
 }
 
-/// Why a byte is missing that had to come.
-fn missing(ending: Ending) -> BookCause
-    ensures { result ≡ missing ending }
+/// The cause of a fault where a byte had to come and the input ended so.
+fn ending_cause(ending: Ending) -> BookCause
+    ensures { result ≡ ending_cause ending }
 {
     match ending {
         Ending::End => BookCause::Ending,
