@@ -30,11 +30,12 @@ use Rattle.aprs_booktext.specs.Law.{IsBookText}
 use Rattle.aprs_booktext.specs.Lines.{is_byte, Lacks, pieces}
 use Rattle.aprs_booktext.specs.Reader.{HoldsIn, IsJudgedIn, StandsAfter, is_done, line_number, may_end}
 use Rattle.aprs_booktext.specs.RowFields.{SpellsBytes, SpellsNames}
-use Rattle.aprs_booktext.specs.Text.{row_line, end_line, lines_of, book_text, IsSpelled, IsBookRow, IsTold}
+use Rattle.aprs_booktext.specs.Text.{row_line, end_line, lines_of, book_text, IsSpelled, IsBookRow, IsWritable}
 use Rattle.aprs_booktext.specs.Version.{form_of, gap_of, header_of}
 use Rattle.aprs_booktext.specs.declared.fault.BookCause.{BookCause}
 use Rattle.aprs_booktext.specs.declared.fault.BookCause.TheVariants as cause
 use Rattle.aprs_booktext.specs.declared.fault.BookFault.{BookFault}
+use Rattle.aprs_booktext.specs.declared.hexadecimal.TheConstants.{MAX_FRAME}
 use Rattle.aprs_booktext.specs.declared.reader.Stage.{Stage}
 use Rattle.aprs_booktext.specs.declared.reader.Stage.TheVariants.{Header, Rows, Done}
 use Rattle.aprs_booktext.specs.declared.version.Version.{Version}
@@ -56,11 +57,11 @@ one_or_other a b = by (bytes_eq a b) refl where
 -- ---- fields
 
 abbrev IsMoment : MomentForm → List ℕ → ℕ → Type 0
-IsMoment form t m = IsTold form m × (t ≡ moment_text_in form m)
+IsMoment form t m = IsWritable form m × (t ≡ moment_text_in form m)
 
-moment_or_none : (form : MomentForm) (t : List ℕ) → ((m : ℕ) × IsMoment form t m) ⊎ ((m : ℕ) → IsTold form m → t ≢ moment_text_in form m)
+moment_or_none : (form : MomentForm) (t : List ℕ) → ((m : ℕ) × IsMoment form t m) ⊎ ((m : ℕ) → IsWritable form m → t ≢ moment_text_in form m)
 moment_or_none form t = by (moment_in form t) refl where
-  by : (o : Option ℕ) → moment_in form t ≡ o → ((m : ℕ) × IsMoment form t m) ⊎ ((m : ℕ) → IsTold form m → t ≢ moment_text_in form m)
+  by : (o : Option ℕ) → moment_in form t ≡ o → ((m : ℕ) × IsMoment form t m) ⊎ ((m : ℕ) → IsWritable form m → t ≢ moment_text_in form m)
   by None e = inr (moment_missed form t e)
   by (Some m) e = elim (cases_lt 4102444799999 m) [
     | inl late ↦ inr (λ k h same.
@@ -99,7 +100,7 @@ bytes_or_none d = by (decode_of d) refl where
     | inr other ↦ inr (λ bytes h. let f : Ok b ≡ Ok bytes = sym is ∙ read bytes h in let same : b ≡ bytes = cc in other (h.digits_are ∙ ap encode_lower (sym same)))
     | inl digits ↦ elim (cases_lt 0 (length b)) [
       | inr none ↦ inr (λ bytes h. let f : Ok b ≡ Ok bytes = sym is ∙ read bytes h in let same : b ≡ bytes = cc in let few = h.few.0 in omega (arith, none, few, ap length same))
-      | inl some ↦ elim (cases_lt 328 (length b)) [
+      | inl some ↦ elim (cases_lt MAX_FRAME (length b)) [
         | inl many ↦ inr (λ bytes h. let f : Ok b ≡ Ok bytes = sym is ∙ read bytes h in let same : b ≡ bytes = cc in let few = h.few.1 in omega (arith, many, few, ap length same))
         | inr few ↦ inl (b, record { digits_are = digits; bytes_are = (decode_of-ok d b is).3; few = (some, few) })
       ]
@@ -174,7 +175,7 @@ unfolding refusal
 never_memory gap rows x is = five (is_refused gap rows x row.Order) (is_refused gap rows x row.Span) (is_refused gap rows x row.Near)
     (is_refused gap rows x row.Receivers) (is_refused gap rows x row.NotGreatest) is
 
--- a line tells a gap up to n, or none
+-- a line names a gap up to n, or none
 gap_or_none : (line : List ℕ) (n : ℕ) → n ≤ greatest_gap → ((g : ℕ) × IsGap g × (line ≡ header_of (Three g))) ⊎ ((g : ℕ) → 0 < g → g ≤ n → line ≢ header_of (Three g))
 gap_or_none line zero h = inr (λ g some few e. absurd (omega (arith, some, few)))
 gap_or_none line (suc n) h = elim (gap_or_none line n (omega (arith, h))) [

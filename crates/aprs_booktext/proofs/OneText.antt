@@ -24,7 +24,7 @@ use Rattle.aprs_book.specs.declared.row_cause.RowCause.{RowCause}
 use Rattle.aprs_book.proofs.Refusals.{none_exactly}
 use Rattle.aprs_booktext.specs.FirstFault.{EndFault, FaultAfter, FirstFault, HasLine, HeaderFault, IsCut, IsRefused, IsWrong, LineFault, ending_cause}
 use Rattle.aprs_booktext.specs.Lines.{Lacks, pieces}
-use Rattle.aprs_booktext.specs.Text.{fields_of, row_line, end_line, text_of_lines, ended_by_lf, book_text, IsSpelled, IsBookRow, IsBookRows, IsTold, written_text, written_version}
+use Rattle.aprs_booktext.specs.Text.{fields_of, row_line, end_line, text_of_lines, ended_by_lf, book_text, IsSpelled, IsBookRow, IsBookRows, IsWritable, written_text, written_version}
 use Rattle.aprs_booktext.specs.Version.{form_of, gap_of, header_of, IsVersion}
 use Rattle.aprs_booktext.specs.declared.fault.BookCause.{BookCause}
 use Rattle.aprs_booktext.specs.declared.fault.BookCause.TheVariants as cause
@@ -71,7 +71,7 @@ row_lacks form x h = lacks_joined 10 32 (fields_of form x) refl (row_fields_lack
 
 -- ---- a line is that of one row
 
-same_moment : (form : MomentForm) (m n : ℕ) → IsTold form m → IsTold form n → moment_text_in form m ≡ moment_text_in form n → m ≡ n
+same_moment : (form : MomentForm) (m n : ℕ) → IsWritable form m → IsWritable form n → moment_text_in form m ≡ moment_text_in form n → m ≡ n
 same_moment form m n h k e =
     let some : Some m ≡ Some n = sym (moment_read form m h) ∙ ap (moment_in form) e ∙ moment_read form n k in
     cc

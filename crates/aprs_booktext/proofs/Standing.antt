@@ -171,7 +171,7 @@ ended_fault (Done v) old new line t more c j s =
       }));
     })
 
--- memory is refused in the line that is read
+-- an allocation fails in the line that is read
 pub held_fault : (stage : Stage) (rows : List Row) (line t bytes more : List ℕ) → is_done stage ≡ false → StandsAfter stage rows line t
     → IsFault (length bytes + length more) (record { line = line_number stage rows; cause = cause.Memory }) ((t ++ bytes) ++ more)
 held_fault Header rows line t bytes more going s = inl (record {

@@ -14,7 +14,7 @@ use Rattle.aprs_book.specs.Refusal.{refusal}
 use Rattle.aprs_book.specs.declared.row_cause.RowCause.{RowCause}
 use Rattle.aprs_book.specs.declared.row_cause.RowCause.TheVariants as row
 use Rattle.aprs_booktext.specs.Lines.{Lacks}
-use Rattle.aprs_booktext.specs.Text.{row_line, end_line, lines_of, text_of_lines, book_text, IsSpelled, IsBookRow, IsBookRows}
+use Rattle.aprs_booktext.specs.Text.{row_line, end_line, lines_of, text_of_lines, book_of, book_text, IsSpelled, IsBookRow, IsBookRows}
 use Rattle.aprs_booktext.specs.Version.{form_of, gap_of, header_of, IsVersion}
 use Rattle.aprs_booktext.specs.declared.fault.BookCause.{BookCause}
 use Rattle.aprs_booktext.specs.declared.fault.BookCause.TheVariants as why
@@ -191,3 +191,9 @@ pub record Reads (limit : ℕ) (head input : List ℕ) (after : Option (List ℕ
 abbrev pub IsBookOrMemory : Result BookValue BookFault → BookValue → Type 0
 IsBookOrMemory (Ok found) book = found ≡ book
 IsBookOrMemory (Err fault) book = fault.cause ≡ why.Memory
+
+-- The text of a book in any version is read, where it is short enough and no read failed.
+abbrev pub AcceptsBook : ℕ → List ℕ → Result BookValue BookFault → Type 0 → Type 0
+AcceptsBook limit text answer Failed = (version : Version) (rows : List Row)
+    → IsBookRows version rows → text ≡ book_text version rows → length text ≤ limit
+    → (Failed → ⊥) → IsBookOrMemory answer (book_of version rows)

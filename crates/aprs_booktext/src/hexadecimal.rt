@@ -5,12 +5,13 @@ ghost use Rattle.aprs_booktext.specs.RowFields.{SpellsBytes};
 
 use aprs_io::encode_to;
 
-/// The most bytes of a frame, and their digits.
+/// The most bytes of a frame.
 pub const MAX_FRAME: usize = 328;
 
-pub const MAX_DIGITS: usize = 656;
+/// The most digits of a frame.
+pub const MAX_DIGITS: usize = 2 * MAX_FRAME;
 
-/// The bytes whose digits these are, put into `room`: 1 to 328 of them.
+/// The bytes whose digits these are, put into `room`: 1 to `MAX_FRAME` of them.
 pub fn decode_into<'r>(digits: &[u8], room: &'r mut [u8; MAX_FRAME]) -> Option<&'r [u8]>
     ensures some { IfSome result (λ bytes. SpellsBytes digits.now bytes.now) }
     ensures none { IfNone result ((bytes : List ℕ) → SpellsBytes digits.now bytes → ⊥) }
@@ -39,7 +40,7 @@ fn decode_to(digits: &[u8], bytes: &mut [u8]) -> bool
 
 /// Whether these are the digits that the bytes are written with.
 fn are_digits_of(digits: &[u8], bytes: &[u8]) -> bool
-    requires { length bytes.now ≤ 328 }
+    requires { length bytes.now ≤ MAX_FRAME }
     ensures { IsTrue result ↔ (digits.now ≡ encode_lower bytes.now) }
 {
     let mut room = [0; MAX_DIGITS];
