@@ -9,7 +9,7 @@ use Rattle.std.proofs.lemmas.Slice.Eq.{bytes_eq-Decides}
 use Rattle.std.proofs.lemmas.List.Elements.{All-from_recursion, recursion_from_All}
 use Rattle.hex.specs.Hex.{encode_lower, decode_of}
 use Rattle.hex.specs.declared.error.FromHexError.{FromHexError}
-use Rattle.hex.proofs.HexLemmas.{decode_of-encode_lower, decode_of-ok}
+use Rattle.hex.proofs.HexLemmas.{decode_of-ok}
 use Rattle.aprs_ax25.specs.FrameFault.{frame_of}
 use Rattle.aprs_ax25.specs.declared.fault.FrameFault.{FrameFault}
 use Rattle.aprs_log.specs.Moment.{moment_in, moment_text_in}
@@ -41,6 +41,7 @@ use Rattle.aprs_booktext.specs.declared.reader.Stage.TheVariants.{Header, Rows, 
 use Rattle.aprs_booktext.specs.declared.version.Version.{Version}
 use Rattle.aprs_booktext.specs.declared.version.Version.TheVariants.{One, Two, Three}
 use Rattle.aprs_booktext.proofs.Cuts.{joined_pieces, pieces_some}
+use Rattle.aprs_booktext.proofs.Digits.{decode_of-spelled}
 use Rattle.aprs_booktext.proofs.RowReading.{IsNoRow}
 use Rattle.aprs_booktext.proofs.Spellings.{frame_is, moment_found, moment_missed, moment_read, names_pieces, same_fields, six_pieces, spelled_by}
 use Rattle.aprs_booktext.proofs.Standing.{cut_fault, ended_fault, ended_stands, ended_whole, held_stands}
@@ -91,17 +92,14 @@ names_or_none n = elim (all_names (pieces 44 n)) [
 
 bytes_or_none : (d : List ℕ) → ((bytes : List ℕ) × SpellsBytes d bytes) ⊎ ((bytes : List ℕ) → SpellsBytes d bytes → ⊥)
 bytes_or_none d = by (decode_of d) refl where
-  read : (bytes : List ℕ) → SpellsBytes d bytes → decode_of d ≡ Ok bytes
-  read bytes h = ap decode_of h.digits_are ∙ decode_of-encode_lower bytes h.bytes_are
-
   by : (r : Result (List ℕ) FromHexError) → decode_of d ≡ r → ((bytes : List ℕ) × SpellsBytes d bytes) ⊎ ((bytes : List ℕ) → SpellsBytes d bytes → ⊥)
-  by (Err e) is = inr (λ bytes h. let f : Err e ≡ Ok bytes = sym is ∙ read bytes h in absurd cc)
+  by (Err e) is = inr (λ bytes h. let f : Err e ≡ Ok bytes = sym is ∙ decode_of-spelled d bytes h in absurd cc)
   by (Ok b) is = elim (one_or_other d (encode_lower b)) [
-    | inr other ↦ inr (λ bytes h. let f : Ok b ≡ Ok bytes = sym is ∙ read bytes h in let same : b ≡ bytes = cc in other (h.digits_are ∙ ap encode_lower (sym same)))
+    | inr other ↦ inr (λ bytes h. let f : Ok b ≡ Ok bytes = sym is ∙ decode_of-spelled d bytes h in let same : b ≡ bytes = cc in other (h.digits_are ∙ ap encode_lower (sym same)))
     | inl digits ↦ elim (cases_lt 0 (length b)) [
-      | inr none ↦ inr (λ bytes h. let f : Ok b ≡ Ok bytes = sym is ∙ read bytes h in let same : b ≡ bytes = cc in let few = h.few.0 in omega (arith, none, few, ap length same))
+      | inr none ↦ inr (λ bytes h. let f : Ok b ≡ Ok bytes = sym is ∙ decode_of-spelled d bytes h in let same : b ≡ bytes = cc in let few = h.few.0 in omega (arith, none, few, ap length same))
       | inl some ↦ elim (cases_lt MAX_FRAME (length b)) [
-        | inl many ↦ inr (λ bytes h. let f : Ok b ≡ Ok bytes = sym is ∙ read bytes h in let same : b ≡ bytes = cc in let few = h.few.1 in omega (arith, many, few, ap length same))
+        | inl many ↦ inr (λ bytes h. let f : Ok b ≡ Ok bytes = sym is ∙ decode_of-spelled d bytes h in let same : b ≡ bytes = cc in let few = h.few.1 in omega (arith, many, few, ap length same))
         | inr few ↦ inl (b, record { digits_are = digits; bytes_are = (decode_of-ok d b is).3; few = (some, few) })
       ]
     ]

@@ -43,8 +43,8 @@ pub record HasNoFrame (form : MomentForm) (line : List ℕ) : Type 0 where
   pub spelled : line ≡ row_line form row
   pub refused : IsErr (frame_of row.greatest.frame)
 
--- After these rows the line is wrong for this cause: it begins as the last line and isn't that of so
--- many rows, or it spells no row, or one whose frame is none, or one that can't be added.
+-- After these rows the line is wrong for this cause: it begins as the last line and isn't that of
+-- so many rows, or it spells no row, or one whose frame is none, or one that can't be added.
 abbrev pub IsWrong : ℕ → MomentForm → List Row → List ℕ → BookCause → Type 0
 IsWrong gap form rows line why.Ending = (is_end line ≡ true) × (line ≢ end_line (length rows))
 IsWrong gap form rows line why.RowSyntax =

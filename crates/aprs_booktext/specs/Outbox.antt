@@ -9,8 +9,8 @@ use Rattle.aprs_laws.specs.Row.{Row}
 use Rattle.aprs_booktext.specs.Text.{ended_by_lf, row_line}
 use Rattle.aprs_booktext.specs.declared.hexadecimal.TheConstants.{MAX_FRAME}
 
--- Of what was held and the bytes put after it, a prefix went out, by which known bytes grew, and the
--- rest is left.
+-- Of what was held and the bytes put after it, a prefix went out, by which known bytes grew, and
+-- the rest is left.
 pub record Puts (old new : Option (List ℕ)) (held left bytes : List ℕ) : Type 0 where
   pub gone : List ℕ
   pub parts : held ++ bytes ≡ gone ++ left

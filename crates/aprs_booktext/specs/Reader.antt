@@ -61,8 +61,8 @@ may_end (Done v) how.TooLong = false
 may_end Header ending = false
 may_end (Rows v) ending = false
 
--- After the lines of the old rows of this version a line is judged so: it is a row's, which is added
--- to them, or the last line, or an allocation failed, or the line is wrong.
+-- After the lines of the old rows of this version a line is judged so: it is a row's, which is
+-- added to them, or the last line, or an allocation failed, or the line is wrong.
 abbrev pub IsJudged : ℕ → Version → Result Stage BookCause → List Row → List ℕ → List Row → Type 0
 IsJudged gap v (Ok Header) old line new = ⊥
 IsJudged gap v (Ok (Rows w)) old line new = (w ≡ v) × (x : Row) × IsBookRow (form_of v) x

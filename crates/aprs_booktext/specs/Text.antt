@@ -70,8 +70,8 @@ pub record IsWritable (form : MomentForm) (m : ℕ) : Type 0 where
   pub in_range : m ≤ 4102444799999
   pub whole : m % 1000 < room_of form
 
--- The fields of a line can spell the row: its moments, its receivers, at least one, and its greatest
--- reception, whose frame has at least one byte and at most those of a frame.
+-- The fields of a line can spell the row: its moments, its receivers, at least one, and its
+-- greatest reception, whose frame has at least one byte and at most `MAX_FRAME`.
 pub record IsSpelled (form : MomentForm) (x : Row) : Type 0 where
   pub first : IsWritable form x.first
   pub last : IsWritable form (last_of x)

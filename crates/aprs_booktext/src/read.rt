@@ -20,11 +20,10 @@ const CHUNK: usize = 16_384;
 /// the end. The first line is `APRSBOOK 1`, and moments are written to the second (20 bytes each),
 /// or `APRSBOOK 2` or `APRSBOOK 3 G`, and they are written to the millisecond (24 bytes each). The
 /// book's gap is G seconds, 1 to 3,600 in decimal with no zero before it; in versions 1 and 2 it is
-/// 30 seconds. Reading takes at most `limit` bytes, the head among them. Requires that `limit` is at
-/// most `MAX_INPUT` (1,073,741,824), that the head has at most 8 bytes, and that it has at most
-/// `limit`. A fault is the text's first, with the number of its line; `Memory` comes instead where
-/// an allocation failed before that fault, with the number of the line that was being read. Holds
-/// the book and one line.
+/// 30 seconds. Reading takes at most `limit` bytes, the head among them. Requires a limit of at
+/// most `MAX_INPUT` (1,073,741,824) and a head of at most 8 bytes and at most `limit`. A fault is
+/// the text's first, with the number of its line; `Memory` comes instead where an allocation failed
+/// before that fault, with the number of the line that was being read. Holds the book and one line.
 pub fn read_book<R: Read, A: Allocator + Copy>(
     alloc: A,
     limit: u64,

@@ -73,8 +73,10 @@ impl<A: Allocator + Copy> BookReader<A> {
     pub fn finish(self, ending: Ending) -> Result<Book<A>, BookFault>
         requires { length self.book.rows ≤ MAX_INPUT }
         ensures reads { (t : List ℕ) → Stands self t → ReadsSo result t ending }
-        ensures cause { IfErr result (λ fault. fault.cause ≡ BookCause.Read → ending ≡ Ending.Read) }
-        ensures read { ending ≡ Ending.Read → IsErrAnd result (λ fault. fault.cause ≡ BookCause.Read) }
+        ensures cause { IfErr result
+            (λ fault. fault.cause ≡ BookCause.Read → ending ≡ Ending.Read) }
+        ensures read { ending ≡ Ending.Read
+            → IsErrAnd result (λ fault. fault.cause ≡ BookCause.Read) }
     {
         if may_end(self.stage, ending) {
             return Ok(self.book);
