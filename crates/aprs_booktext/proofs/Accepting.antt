@@ -1,8 +1,9 @@
--- The text of a book is read, unless memory is refused or the reader fails.
+-- The text of a book is read, unless an allocation or a read fails.
 use Rattle.std.proofs.Common.{◌≡◌, ℕ, ◌+◌, ◌*◌, ◌/◌, ◌%◌, ◌^◌, ◌<◌, ◌≤◌, List, [], ◌∷◌, ◌++◌, length, map, Option, None, Some, IfSome, IfOk, IfErr, Result, Ok, Err, inl, inr, refl, sym, ap, ◌∙◌, subst, append-nil, length-append, arith}
 use Rattle.std.proofs.lemmas.List.{length-map}
 use Rattle.std.proofs.lemmas.List.Elements.{All-weaker}
 use Rattle.std.proofs.lemmas.Result.{IfErr-weaker}
+use Rattle.aprs_io.specs.declared.input.TheConstants.{MAX_INPUT}
 use Rattle.aprs_log.specs.LogAnswers.{Gets}
 use Rattle.aprs_log.specs.Moment.{civil_after, civil_text, moment_text_in}
 use Rattle.aprs_log.specs.Reception.{Heard}
@@ -19,8 +20,8 @@ use Rattle.aprs_laws.proofs.Scaling.{scaled_book}
 use Rattle.aprs_laws.proofs.Soundness.{sound}
 use Rattle.aprs_booktext.specs.FirstFault.{FirstFault, IsBookOrMemory, Reads}
 use Rattle.aprs_booktext.specs.Law.{IsWrittenBack}
-use Rattle.aprs_booktext.specs.Seconds.{AreToldToTheSecond, IsTextInSeconds}
-use Rattle.aprs_booktext.specs.Text.{row_line, lines_of, text_of_lines, ended_by_lf, book_of, book_text, IsBookRow, IsBookRows, IsTold, written_version}
+use Rattle.aprs_booktext.specs.Seconds.{AreWrittenToTheSecond, IsTextInSeconds}
+use Rattle.aprs_booktext.specs.Text.{row_line, lines_of, text_of_lines, ended_by_lf, book_of, book_text, IsBookRow, IsBookRows, IsWritable, written_version}
 use Rattle.aprs_booktext.specs.Version.{form_of, gap_of}
 use Rattle.aprs_booktext.specs.declared.fault.BookCause.TheVariants as cause
 use Rattle.aprs_booktext.specs.declared.fault.BookFault.{BookFault}
@@ -59,7 +60,7 @@ text_of_read limit head input after book h =
       is = h.reads.3;
     }
 
-module _ (limit : ℕ) (head rest : List ℕ) (after : Option (List ℕ)) (v : Version) (rows : List Row) (small : limit ≤ 1073741824) (is : IsBookRows v rows) (text_is : head ++ rest ≡ book_text v rows) where
+module _ (limit : ℕ) (head rest : List ℕ) (after : Option (List ℕ)) (v : Version) (rows : List Row) (small : limit ≤ MAX_INPUT) (is : IsBookRows v rows) (text_is : head ++ rest ≡ book_text v rows) where
   -- what was read is the book of the rows
   pub same_read : (found : BookValue) → Reads limit head rest after (Ok found) → found ≡ book_of v rows
   same_read found h =
@@ -84,7 +85,7 @@ module _ (limit : ℕ) (head rest : List ℕ) (after : Option (List ℕ)) (v : V
     ]
 
 -- the same, where the input's bytes may not be known, and a failed read has Q
-pub accepts : (known after : Option (List ℕ)) (limit : ℕ) (head : List ℕ) (r : Result BookValue BookFault) (Q : Type 0) → limit ≤ 1073741824 → IfSome known (λ input. Reads limit head input after r)
+pub accepts : (known after : Option (List ℕ)) (limit : ℕ) (head : List ℕ) (r : Result BookValue BookFault) (Q : Type 0) → limit ≤ MAX_INPUT → IfSome known (λ input. Reads limit head input after r)
     → IfErr r (λ f. f.cause ≡ cause.Read → Q)
     → IfSome known (λ input. (v : Version) (rows : List Row) → IsBookRows v rows → head ++ input ≡ book_text v rows → length (head ++ input) ≤ limit → (Q → ⊥) → IsBookOrMemory r (book_of v rows))
 accepts None after limit head r Q small h read = tt
@@ -93,7 +94,7 @@ accepts (Some input) after limit head r Q small h read =
 
 -- ---- texts of version 1
 
-module _ (limit : ℕ) (head : List ℕ) (after : Option (List ℕ)) (small : limit ≤ 1073741824) where
+module _ (limit : ℕ) (head : List ℕ) (after : Option (List ℕ)) (small : limit ≤ MAX_INPUT) where
   in_seconds : (input : List ℕ) (S : List Heard) → IsTextInSeconds S (head ++ input) → (r : Result BookValue BookFault) → Reads limit head input after r
       → IfOk r (λ book. (book.gap ≡ standard_gap) × Holds (map (scaled_heard 1000) S) book)
   in_seconds input S t (Err f) h = tt
@@ -109,10 +110,10 @@ module _ (limit : ℕ) (head : List ℕ) (after : Option (List ℕ)) (small : li
   reads_seconds None r h = tt
   reads_seconds (Some input) r h = λ S t. in_seconds input S t r h
 
--- a moment of whole seconds is told by its date and its time of the day
-pub told_to_the_second : AreToldToTheSecond
+-- a moment of whole seconds is written as its date and its time of the day
+pub written_to_the_second : AreWrittenToTheSecond
 unfolding moment_text_in
-told_to_the_second = λ s h.
+written_to_the_second = λ s h.
     let q : s * 1000 / 1000 ≡ s = omega arith in
     let r : s * 1000 % 1000 ≡ 0 = omega arith in
     ap (λ n. civil_text Seconds (civil_after n) (s * 1000 % 1000)) q
@@ -120,14 +121,14 @@ told_to_the_second = λ s h.
 
 -- ---- what was read is written in version 3
 
-told_more : (form : MomentForm) (m : ℕ) → IsTold form m → IsTold Millis m
-told_more form m h = record { in_range = h.in_range; whole = omega arith }
+writable_more : (form : MomentForm) (m : ℕ) → IsWritable form m → IsWritable Millis m
+writable_more form m h = record { in_range = h.in_range; whole = omega arith }
 
 row_more : (form : MomentForm) (x : Row) → IsBookRow form x → IsBookRow Millis x
 row_more form x h = record {
   spelled = record {
-    first = told_more form x.first h.spelled.first;
-    last = told_more form (last_of x) h.spelled.last;
+    first = writable_more form x.first h.spelled.first;
+    last = writable_more form (last_of x) h.spelled.last;
     some = h.spelled.some;
     receivers = h.spelled.receivers;
     receiver = h.spelled.receiver;

@@ -9,7 +9,7 @@ use Rattle.std.proofs.lemmas.Slice.Eq.{bytes_eq-Decides}
 use Rattle.std.proofs.lemmas.List.Elements.{All-from_recursion, recursion_from_All}
 use Rattle.hex.specs.Hex.{encode_lower, decode_of}
 use Rattle.hex.specs.declared.error.FromHexError.{FromHexError}
-use Rattle.hex.proofs.HexLemmas.{decode_of-encode_lower, decode_of-ok}
+use Rattle.hex.proofs.HexLemmas.{decode_of-ok}
 use Rattle.aprs_ax25.specs.FrameFault.{frame_of}
 use Rattle.aprs_ax25.specs.declared.fault.FrameFault.{FrameFault}
 use Rattle.aprs_log.specs.Moment.{moment_in, moment_text_in}
@@ -30,16 +30,18 @@ use Rattle.aprs_booktext.specs.Law.{IsBookText}
 use Rattle.aprs_booktext.specs.Lines.{is_byte, Lacks, pieces}
 use Rattle.aprs_booktext.specs.Reader.{HoldsIn, IsJudgedIn, StandsAfter, is_done, line_number, may_end}
 use Rattle.aprs_booktext.specs.RowFields.{SpellsBytes, SpellsNames}
-use Rattle.aprs_booktext.specs.Text.{row_line, end_line, lines_of, book_text, IsSpelled, IsBookRow, IsTold}
+use Rattle.aprs_booktext.specs.Text.{row_line, end_line, lines_of, book_text, IsSpelled, IsBookRow, IsWritable}
 use Rattle.aprs_booktext.specs.Version.{form_of, gap_of, header_of}
 use Rattle.aprs_booktext.specs.declared.fault.BookCause.{BookCause}
 use Rattle.aprs_booktext.specs.declared.fault.BookCause.TheVariants as cause
 use Rattle.aprs_booktext.specs.declared.fault.BookFault.{BookFault}
+use Rattle.aprs_booktext.specs.declared.hexadecimal.TheConstants.{MAX_FRAME}
 use Rattle.aprs_booktext.specs.declared.reader.Stage.{Stage}
 use Rattle.aprs_booktext.specs.declared.reader.Stage.TheVariants.{Header, Rows, Done}
 use Rattle.aprs_booktext.specs.declared.version.Version.{Version}
 use Rattle.aprs_booktext.specs.declared.version.Version.TheVariants.{One, Two, Three}
 use Rattle.aprs_booktext.proofs.Cuts.{joined_pieces, pieces_some}
+use Rattle.aprs_booktext.proofs.Digits.{decode_of-spelled}
 use Rattle.aprs_booktext.proofs.RowReading.{IsNoRow}
 use Rattle.aprs_booktext.proofs.Spellings.{frame_is, moment_found, moment_missed, moment_read, names_pieces, same_fields, six_pieces, spelled_by}
 use Rattle.aprs_booktext.proofs.Standing.{cut_fault, ended_fault, ended_stands, ended_whole, held_stands}
@@ -56,11 +58,11 @@ one_or_other a b = by (bytes_eq a b) refl where
 -- ---- fields
 
 abbrev IsMoment : MomentForm → List ℕ → ℕ → Type 0
-IsMoment form t m = IsTold form m × (t ≡ moment_text_in form m)
+IsMoment form t m = IsWritable form m × (t ≡ moment_text_in form m)
 
-moment_or_none : (form : MomentForm) (t : List ℕ) → ((m : ℕ) × IsMoment form t m) ⊎ ((m : ℕ) → IsTold form m → t ≢ moment_text_in form m)
+moment_or_none : (form : MomentForm) (t : List ℕ) → ((m : ℕ) × IsMoment form t m) ⊎ ((m : ℕ) → IsWritable form m → t ≢ moment_text_in form m)
 moment_or_none form t = by (moment_in form t) refl where
-  by : (o : Option ℕ) → moment_in form t ≡ o → ((m : ℕ) × IsMoment form t m) ⊎ ((m : ℕ) → IsTold form m → t ≢ moment_text_in form m)
+  by : (o : Option ℕ) → moment_in form t ≡ o → ((m : ℕ) × IsMoment form t m) ⊎ ((m : ℕ) → IsWritable form m → t ≢ moment_text_in form m)
   by None e = inr (moment_missed form t e)
   by (Some m) e = elim (cases_lt 4102444799999 m) [
     | inl late ↦ inr (λ k h same.
@@ -90,17 +92,14 @@ names_or_none n = elim (all_names (pieces 44 n)) [
 
 bytes_or_none : (d : List ℕ) → ((bytes : List ℕ) × SpellsBytes d bytes) ⊎ ((bytes : List ℕ) → SpellsBytes d bytes → ⊥)
 bytes_or_none d = by (decode_of d) refl where
-  read : (bytes : List ℕ) → SpellsBytes d bytes → decode_of d ≡ Ok bytes
-  read bytes h = ap decode_of h.digits_are ∙ decode_of-encode_lower bytes h.bytes_are
-
   by : (r : Result (List ℕ) FromHexError) → decode_of d ≡ r → ((bytes : List ℕ) × SpellsBytes d bytes) ⊎ ((bytes : List ℕ) → SpellsBytes d bytes → ⊥)
-  by (Err e) is = inr (λ bytes h. let f : Err e ≡ Ok bytes = sym is ∙ read bytes h in absurd cc)
+  by (Err e) is = inr (λ bytes h. let f : Err e ≡ Ok bytes = sym is ∙ decode_of-spelled d bytes h in absurd cc)
   by (Ok b) is = elim (one_or_other d (encode_lower b)) [
-    | inr other ↦ inr (λ bytes h. let f : Ok b ≡ Ok bytes = sym is ∙ read bytes h in let same : b ≡ bytes = cc in other (h.digits_are ∙ ap encode_lower (sym same)))
+    | inr other ↦ inr (λ bytes h. let f : Ok b ≡ Ok bytes = sym is ∙ decode_of-spelled d bytes h in let same : b ≡ bytes = cc in other (h.digits_are ∙ ap encode_lower (sym same)))
     | inl digits ↦ elim (cases_lt 0 (length b)) [
-      | inr none ↦ inr (λ bytes h. let f : Ok b ≡ Ok bytes = sym is ∙ read bytes h in let same : b ≡ bytes = cc in let few = h.few.0 in omega (arith, none, few, ap length same))
-      | inl some ↦ elim (cases_lt 328 (length b)) [
-        | inl many ↦ inr (λ bytes h. let f : Ok b ≡ Ok bytes = sym is ∙ read bytes h in let same : b ≡ bytes = cc in let few = h.few.1 in omega (arith, many, few, ap length same))
+      | inr none ↦ inr (λ bytes h. let f : Ok b ≡ Ok bytes = sym is ∙ decode_of-spelled d bytes h in let same : b ≡ bytes = cc in let few = h.few.0 in omega (arith, none, few, ap length same))
+      | inl some ↦ elim (cases_lt MAX_FRAME (length b)) [
+        | inl many ↦ inr (λ bytes h. let f : Ok b ≡ Ok bytes = sym is ∙ decode_of-spelled d bytes h in let same : b ≡ bytes = cc in let few = h.few.1 in omega (arith, many, few, ap length same))
         | inr few ↦ inl (b, record { digits_are = digits; bytes_are = (decode_of-ok d b is).3; few = (some, few) })
       ]
     ]
@@ -174,7 +173,7 @@ unfolding refusal
 never_memory gap rows x is = five (is_refused gap rows x row.Order) (is_refused gap rows x row.Span) (is_refused gap rows x row.Near)
     (is_refused gap rows x row.Receivers) (is_refused gap rows x row.NotGreatest) is
 
--- a line tells a gap up to n, or none
+-- a line names a gap up to n, or none
 gap_or_none : (line : List ℕ) (n : ℕ) → n ≤ greatest_gap → ((g : ℕ) × IsGap g × (line ≡ header_of (Three g))) ⊎ ((g : ℕ) → 0 < g → g ≤ n → line ≢ header_of (Three g))
 gap_or_none line zero h = inr (λ g some few e. absurd (omega (arith, some, few)))
 gap_or_none line (suc n) h = elim (gap_or_none line n (omega (arith, h))) [
@@ -294,18 +293,18 @@ after_last : (v : Version) (rows : List Row) (rest t : List ℕ) (e : Ending) �
 after_last v rows rest t e some s = record {
   fault = record { line = length (lines_of v rows) + 1; cause = cause.After };
   first = record {
-    front = lines_of v rows;
+    lines = lines_of v rows;
     rest = rest;
     whole = ap (λ l. l ++ rest) (s.text_is ∙ append-nil (book_text v rows));
     line = refl;
-    fault = inr (v, rows, s.holds.0, inr (refl, inl (some, refl)));
+    fault = inr (inr (record { version = v; rows = rows; sound = s.holds.0; read = refl; fault = inl (some, refl) }));
   };
 }
 
 abbrev FoundAfter : Ending → List ℕ → Type 0
 FoundAfter e rest = (stage : Stage) (rows : List Row) (t : List ℕ) → StandsAfter stage rows [] t → Found (t ++ rest) e
 
--- one line more, and then what is found behind it
+-- one line more, and then what is found after it
 step : (e : Ending) (rest : List ℕ) (stage : Stage) (rows : List Row) (t : List ℕ) → (is_done stage ≡ true → ⊥) → StandsAfter stage rows [] t
     → ((more : List ℕ) → length more < length rest → FoundAfter e more) → Found (t ++ rest) e
 step e rest stage rows t going s next = elim (cut_text rest) [

@@ -10,7 +10,7 @@ use Rattle.aprs_booktext.specs.FirstFault.{Reads, ReadsSo, piece_most}
 use Rattle.aprs_booktext.specs.Reader.{IsFault}
 use Rattle.aprs_booktext.specs.declared.fault.BookFault.{BookFault}
 
--- what was got behind the head is gone from the input, and that much less may be got
+-- what was got after the head is gone from the input, and that much less may be got
 pub record Got (P : List ℕ → Type 0) (head : List ℕ) (old now : Option (List ℕ)) (limit left : ℕ) : Type 0 where
   pub got : List ℕ
   pub stands : P (head ++ got)

@@ -14,7 +14,7 @@ use Rattle.aprs_laws.specs.Sound.{Sound}
 use Rattle.aprs_book.specs.Refusal.{refusal}
 use Rattle.aprs_book.specs.declared.row_cause.RowCause.{RowCause}
 use Rattle.aprs_book.specs.declared.row_cause.RowCause.TheVariants as row
-use Rattle.aprs_booktext.specs.FirstFault.{FaultAfterRows, FaultAtEnd, FaultAtStart, FaultBehind, FaultBehindLines, FirstFault, HasNoFrame, IsCut, IsRefused, IsWrong, is_end}
+use Rattle.aprs_booktext.specs.FirstFault.{AmongRows, AtHeader, EndFault, FaultAfter, FirstFault, HasNoFrame, HeaderFault, IsCut, IsRefused, IsWrong, LineFault, PastEnd, is_end}
 use Rattle.aprs_booktext.specs.Fault.{book_cause_of}
 use Rattle.aprs_booktext.specs.Lines.{Lacks}
 use Rattle.aprs_booktext.specs.Text.{row_line, end_line, lines_of, text_of_lines, IsSpelled, IsBookRow, IsBookRows}
@@ -127,9 +127,9 @@ fault_is f g line why =
     let first : f ≡ record { line = g.line; cause = f.cause } = ap (λ n. record { line = n; cause = f.cause }) line in
     first ∙ ap (λ c. record { line = g.line; cause = c }) why
 
--- ---- two fronts of one text
+-- ---- two prefixes of one text
 
--- the second goes on with a line, which stands in the text behind the first
+-- the second goes on with a line, which stands in the text after the first
 record GoesOn (a b : List (List ℕ)) (rest : List ℕ) : Type 0 where
   line : List ℕ
   more : List (List ℕ)
@@ -138,14 +138,14 @@ record GoesOn (a b : List (List ℕ)) (rest : List ℕ) : Type 0 where
   one : Lacks 10 line
   text_is : rest ≡ line ++ 10 ∷ tail
 
-two_fronts : (a b : List (List ℕ)) (r s : List ℕ) → AllByRecursion (Lacks 10) a → AllByRecursion (Lacks 10) b → text_of_lines a ++ r ≡ text_of_lines b ++ s
+two_prefixes : (a b : List (List ℕ)) (r s : List ℕ) → AllByRecursion (Lacks 10) a → AllByRecursion (Lacks 10) b → text_of_lines a ++ r ≡ text_of_lines b ++ s
     → ((a ≡ b) × (r ≡ s)) ⊎ (GoesOn a b r ⊎ GoesOn b a s)
-two_fronts [] [] r s h k e = inl (refl, e)
-two_fronts [] (y ∷ b) r s h k e = inr (inl (record { line = y; more = b; tail = text_of_lines b ++ s; is = refl; one = k.0; text_is = e ∙ line_first y b s }))
-two_fronts (x ∷ a) [] r s h k e = inr (inr (record { line = x; more = a; tail = text_of_lines a ++ r; is = refl; one = h.0; text_is = sym e ∙ line_first x a r }))
-two_fronts (x ∷ a) (y ∷ b) r s h k e =
+two_prefixes [] [] r s h k e = inl (refl, e)
+two_prefixes [] (y ∷ b) r s h k e = inr (inl (record { line = y; more = b; tail = text_of_lines b ++ s; is = refl; one = k.0; text_is = e ∙ line_first y b s }))
+two_prefixes (x ∷ a) [] r s h k e = inr (inr (record { line = x; more = a; tail = text_of_lines a ++ r; is = refl; one = h.0; text_is = sym e ∙ line_first x a r }))
+two_prefixes (x ∷ a) (y ∷ b) r s h k e =
     let t = same_line 10 x (text_of_lines a ++ r) y (text_of_lines b ++ s) h.0 k.0 (sym (line_first x a r) ∙ e ∙ line_first y b s) in
-    elim (two_fronts a b r s h.1 k.1 t.1) [
+    elim (two_prefixes a b r s h.1 k.1 t.1) [
       | inl same ↦ inl (ap (λ z. z ∷ a) t.0 ∙ ap (λ l. y ∷ l) same.0, same.1)
       | inr on ↦ elim on [
         | inl f ↦ inr (inl (record { line = f.line; more = f.more; tail = f.tail; is = ap (λ l. y ∷ l) f.is ∙ ap (λ z. z ∷ (a ++ f.line ∷ f.more)) (sym t.0); one = f.one; text_is = f.text_is }))
@@ -207,140 +207,225 @@ same_rows form (x ∷ a) (y ∷ b) h k e =
 no_last : (form : MomentForm) (a b : List Row) (n : ℕ) (more : List (List ℕ)) → All (IsBookRow form) a → All (IsBookRow form) b → map (row_line form) b ≡ map (row_line form) a ++ end_line n ∷ more → ⊥
 no_last form a b n more h k e = let r = rows_on form a b (end_line n) more h k e in end_is_row form n r.row_is r.line_is
 
--- ---- each front lacks an LF in its lines
+-- ---- no line that was read has an LF
 
 abbrev lines_in : Version → List Row → List (List ℕ)
 lines_in v rows = map (row_line (form_of v)) rows
 
-front_lacks : (front : List (List ℕ)) (rest text : List ℕ) (e : Ending) (c : BookCause) → length text < 2 ^ 64 → text ≡ text_of_lines front ++ rest → FaultBehind front rest e c
-    → AllByRecursion (Lacks 10) front
-front_lacks front rest text e c small whole h = elim h [
-  | inl start ↦ subst (AllByRecursion (Lacks 10)) (sym start.0) tt
-  | inr behind ↦ by behind.0 behind.1 behind.2 behind.3
-] where
-  by : (v : Version) (rows : List Row) → IsBookRows v rows → FaultBehindLines v rows front rest e c → AllByRecursion (Lacks 10) front
-  by v rows is k = elim k [
-    | inl lines ↦ subst (AllByRecursion (Lacks 10)) (sym lines.0)
-        (header_lacks v is.version, subst (AllByRecursion (Lacks 10)) (append-nil (lines_in v rows)) (rows_lack (form_of v) rows [] is.each tt))
-    | inr end ↦
-        let lines : length (lines_of v rows) ≡ length (lines_in v rows) + 2 = simp length-append (omega arith) in
-        let few : length front ≤ length (text_of_lines front) = lines_few front in
-        let size : length text ≡ length (text_of_lines front) + length rest = ap length whole ∙ length-append (text_of_lines front) rest in
-        let count : length front ≡ length (lines_of v rows) = ap length end.0 in
-        let n : length rows < 2 ^ 64 = omega (arith, lines, few, size, count, small, length-map rows (row_line (form_of v))) in
-        subst (AllByRecursion (Lacks 10)) (sym end.0) (header_lacks v is.version, rows_lack (form_of v) rows (end_line (length rows) ∷ []) is.each (end_lacks (length rows) n, tt))
+lines_lack : (lines : List (List ℕ)) (rest text : List ℕ) (e : Ending) (c : BookCause)
+    → length text < 2 ^ 64 → text ≡ text_of_lines lines ++ rest → FaultAfter lines rest e c
+    → AllByRecursion (Lacks 10) lines
+lines_lack lines rest text e c small whole h = elim h [
+  | inl start ↦ subst (AllByRecursion (Lacks 10)) (sym start.none_read) tt
+  | inr k ↦ elim k [
+    | inl among ↦ in_rows among
+    | inr past ↦ in_book past
   ]
+] where
+  in_rows : AmongRows lines rest e c → AllByRecursion (Lacks 10) lines
+  in_rows h =
+      let v = h.version in
+      let all = rows_lack (form_of v) h.rows [] h.sound.each tt in
+      subst (AllByRecursion (Lacks 10)) (sym h.read)
+      (header_lacks v h.sound.version, subst (AllByRecursion (Lacks 10)) (append-nil (lines_in v h.rows)) all)
 
--- ---- no front goes on behind a fault
+  in_book : PastEnd lines rest e c → AllByRecursion (Lacks 10) lines
+  in_book h =
+      let v = h.version in
+      let rows = h.rows in
+      let all : length (lines_of v rows) ≡ length (lines_in v rows) + 2 = simp length-append (omega arith) in
+      let few : length lines ≤ length (text_of_lines lines) = lines_few lines in
+      let size : length text ≡ length (text_of_lines lines) + length rest
+      = ap length whole ∙ length-append (text_of_lines lines) rest in
+      let count : length lines ≡ length (lines_of v rows) = ap length h.read in
+      let n : length rows < 2 ^ 64
+      = omega (arith, all, few, size, count, small, length-map rows (row_line (form_of v))) in
+      subst (AllByRecursion (Lacks 10)) (sym h.read) (
+        header_lacks v h.sound.version,
+        rows_lack (form_of v) rows (end_line (length rows) ∷ []) h.sound.each (end_lacks (length rows) n, tt),
+      )
 
-not_cut : (rest line tail : List ℕ) (e : Ending) (c : BookCause) → rest ≡ line ++ 10 ∷ tail → IsCut rest e c → ⊥
+-- ---- no prefix goes on after a fault
+
+not_cut : (rest line tail : List ℕ) (e : Ending) (c : BookCause) → rest ≡ line ++ 10 ∷ tail
+    → IsCut rest e c → ⊥
 not_cut rest line tail e c is h = has_line 10 line tail (subst (Lacks 10) is h.0)
 
-wrong_on : (v : Version) (a b : List Row) (line rest tail : List ℕ) (e : Ending) (c : BookCause) → IsBookRows v b → RowsGoOn (form_of v) a b line → rest ≡ line ++ 10 ∷ tail → Lacks 10 line → FaultAfterRows v a rest e c → ⊥
+wrong_on : (v : Version) (a b : List Row) (line rest tail : List ℕ) (e : Ending) (c : BookCause)
+    → IsBookRows v b → RowsGoOn (form_of v) a b line → rest ≡ line ++ 10 ∷ tail → Lacks 10 line
+    → LineFault v a rest e c → ⊥
 wrong_on v a b line rest tail e c is on text one h = elim h [
   | inl cut ↦ not_cut rest line tail e c text cut
   | inr w ↦
-      let same : w.line ≡ row_line (form_of v) on.row_is = (same_line 10 w.line w.more line tail w.one one (sym w.is ∙ text)).0 ∙ on.line_is in
-      wrong_row (millis_of (gap_of v)) (form_of v) a on.more on.row_is c (All-middle (IsBookRow (form_of v)) a on.row_is on.more (subst (All (IsBookRow (form_of v))) on.is is.each))
-      (subst (Sound (millis_of (gap_of v))) on.is is.sound) (subst (λ l. IsWrong (millis_of (gap_of v)) (form_of v) a l c) same w.holds)
+      let gap = millis_of (gap_of v) in
+      let form = form_of v in
+      let same : w.line ≡ row_line form on.row_is
+      = (same_line 10 w.line w.more line tail w.one one (sym w.is ∙ text)).0 ∙ on.line_is in
+      wrong_row gap form a on.more on.row_is c
+      (All-middle (IsBookRow form) a on.row_is on.more (subst (All (IsBookRow form)) on.is is.each))
+      (subst (Sound gap) on.is is.sound) (subst (λ l. IsWrong gap form a l c) same w.holds)
 ]
 
-wrong_at_end : (v : Version) (a b : List Row) (line rest tail : List ℕ) (e : Ending) (c : BookCause) → a ≡ b → line ≡ end_line (length b) → rest ≡ line ++ 10 ∷ tail → Lacks 10 line → FaultAfterRows v a rest e c → ⊥
+wrong_at_end : (v : Version) (a b : List Row) (line rest tail : List ℕ) (e : Ending) (c : BookCause)
+    → a ≡ b → line ≡ end_line (length b) → rest ≡ line ++ 10 ∷ tail → Lacks 10 line
+    → LineFault v a rest e c → ⊥
 wrong_at_end v a b line rest tail e c same is text one h = elim h [
   | inl cut ↦ not_cut rest line tail e c text cut
   | inr w ↦
-      let line_is : w.line ≡ end_line (length b) = (same_line 10 w.line w.more line tail w.one one (sym w.is ∙ text)).0 ∙ is in
-      wrong_end (millis_of (gap_of v)) (form_of v) b c
-      (subst (λ (r : List Row). IsWrong (millis_of (gap_of v)) (form_of v) r (end_line (length b)) c) same (subst (λ l. IsWrong (millis_of (gap_of v)) (form_of v) a l c) line_is w.holds))
+      let gap = millis_of (gap_of v) in
+      let form = form_of v in
+      let line_is : w.line ≡ end_line (length b)
+      = (same_line 10 w.line w.more line tail w.one one (sym w.is ∙ text)).0 ∙ is in
+      wrong_end gap form b c
+      (subst (λ (r : List Row). IsWrong gap form r (end_line (length b)) c) same
+      (subst (λ l. IsWrong gap form a l c) line_is w.holds))
 ]
 
--- the first line of a front is a header, which tells the version
-first_line : (front : List (List ℕ)) (rest line : List ℕ) (more : List (List ℕ)) (e : Ending) (c : BookCause) → FaultBehind front rest e c → front ≡ line ∷ more → (v : Version) × IsVersion v × (line ≡ header_of v)
-first_line front rest line more e c h is = elim h [
-  | inl start ↦ absurd (let l = ap length (sym start.0 ∙ is) in omega (arith, l))
-  | inr behind ↦ elim behind.3 [
-    | inl lines ↦ (behind.0, behind.2.version, cons_first line more (header_of behind.0) (lines_in behind.0 behind.1) (sym is ∙ lines.0))
-    | inr end ↦ (behind.0, behind.2.version, cons_first line more (header_of behind.0) (lines_in behind.0 behind.1 ++ end_line (length behind.1) ∷ []) (sym is ∙ end.0))
+-- these lines begin with the header of a version
+record HaveHeader (lines : List (List ℕ)) : Type 0 where
+  version : Version
+  is : IsVersion version
+  more : List (List ℕ)
+  lines_are : lines ≡ header_of version ∷ more
+
+abbrev row_header : (lines : List (List ℕ)) (rest : List ℕ) (e : Ending) (c : BookCause)
+    → AmongRows lines rest e c → HaveHeader lines
+row_header lines rest e c h = record {
+  version = h.version;
+  is = h.sound.version;
+  more = lines_in h.version h.rows;
+  lines_are = h.read;
+}
+
+abbrev end_header : (lines : List (List ℕ)) (rest : List ℕ) (e : Ending) (c : BookCause)
+    → PastEnd lines rest e c → HaveHeader lines
+end_header lines rest e c h = record {
+  version = h.version;
+  is = h.sound.version;
+  more = lines_in h.version h.rows ++ end_line (length h.rows) ∷ [];
+  lines_are = h.read;
+}
+
+-- the lines before a fault, if any, begin with a header
+some_header : (lines : List (List ℕ)) (rest line : List ℕ) (more : List (List ℕ)) (e : Ending)
+    (c : BookCause) → FaultAfter lines rest e c → lines ≡ line ∷ more → HaveHeader lines
+some_header lines rest line more e c h is = elim h [
+  | inl start ↦ absurd (let l = ap length (sym start.none_read ∙ is) in omega (arith, l))
+  | inr k ↦ elim k [
+    | inl among ↦ row_header lines rest e c among
+    | inr past ↦ end_header lines rest e c past
   ]
 ]
 
-same_version : (v w : Version) (rows : List Row) (front more : List (List ℕ)) (rest : List ℕ) (e : Ending) (c : BookCause) → IsVersion v → IsVersion w → FaultBehindLines w rows front rest e c → front ≡ header_of v ∷ more → w ≡ v
-same_version v w rows front more rest e c own other h is = elim h [
-  | inl lines ↦ headers_differ w v other own (cons_first (header_of w) (lines_in w rows) (header_of v) more (sym lines.0 ∙ is))
-  | inr end ↦ headers_differ w v other own (cons_first (header_of w) (lines_in w rows ++ end_line (length rows) ∷ []) (header_of v) more (sym end.0 ∙ is))
-]
+no_lines : (lines : List (List ℕ)) → lines ≡ [] → HaveHeader lines → ⊥
+no_lines lines none h = let l = ap length (sym none ∙ h.lines_are) in omega (arith, l)
 
-module _ (front b : List (List ℕ)) (rest other : List ℕ) (e : Ending) (c d : BookCause) (k : FaultBehind b other e d) (on : GoesOn front b rest) where
-  after_start : front ≡ [] → FaultAtStart rest e c → ⊥
+-- a header is of one version
+same_version : (lines : List (List ℕ)) (v : Version) (more : List (List ℕ)) (h : HaveHeader lines)
+    → IsVersion v → lines ≡ header_of v ∷ more → h.version ≡ v
+same_version lines v more h is e =
+    headers_differ h.version v h.is is
+    (cons_first (header_of h.version) h.more (header_of v) more (sym h.lines_are ∙ e))
+
+module _ (lines b : List (List ℕ)) (rest other : List ℕ) (e : Ending) (c d : BookCause) (k : FaultAfter b other e d) (on : GoesOn lines b rest) where
+  after_start : lines ≡ [] → HeaderFault rest e c → ⊥
   after_start none h = elim h [
     | inl cut ↦ not_cut rest on.line on.tail e c on.text_is cut
     | inr w ↦
-        let first = first_line b other on.line on.more e d k (on.is ∙ ap (λ l. l ++ on.line ∷ on.more) none) in
-        w.holds.0 first.0 first.1 ((same_line 10 w.line w.more on.line on.tail w.one on.one (sym w.is ∙ on.text_is)).0 ∙ first.2)
+        let whole : b ≡ on.line ∷ on.more = on.is ∙ ap (λ l. l ++ on.line ∷ on.more) none in
+        let first = some_header b other on.line on.more e d k whole in
+        let header : on.line ≡ header_of first.version
+        = cons_first on.line on.more (header_of first.version) first.more (sym whole ∙ first.lines_are) in
+        let same = same_line 10 w.line w.more on.line on.tail w.one on.one (sym w.is ∙ on.text_is) in
+        w.holds.0 first.version first.is (same.0 ∙ header)
   ]
 
-  after_rows : (v : Version) (rows : List Row) → IsBookRows v rows → front ≡ header_of v ∷ lines_in v rows → FaultAfterRows v rows rest e c → ⊥
-  after_rows v rows is lines h = elim k [
-    | inl start ↦ let l = ap length (sym start.0 ∙ whole) in omega (arith, l)
-    | inr behind ↦
-        let same : behind.0 ≡ v = same_version v behind.0 behind.1 b (lines_in v rows ++ on.line ∷ on.more) other e d is.version behind.2.version behind.3 whole in
-        by behind.1 (subst (λ (u : Version). IsBookRows u behind.1) same behind.2) (subst (λ (u : Version). FaultBehindLines u behind.1 b other e d) same behind.3)
-  ] where
-    whole : b ≡ header_of v ∷ (lines_in v rows ++ on.line ∷ on.more)
-    whole = on.is ∙ ap (λ l. l ++ on.line ∷ on.more) lines
+  -- after the lines of rows
+  module _ (v : Version) (rows : List Row) (is : IsBookRows v rows) where
+    -- in the other prefix, these lines come after the header
+    module _ (more : List (List ℕ)) (whole : b ≡ header_of v ∷ (lines_in v rows ++ more)) where
+      in_rows : AmongRows b other e d → (others : List Row) × IsBookRows v others
+          × (lines_in v others ≡ lines_in v rows ++ more)
+      in_rows h =
+          let same = same_version b v (lines_in v rows ++ more) (row_header b other e d h) is.version whole in
+          let read = subst (λ (u : Version). b ≡ header_of u ∷ lines_in u h.rows) same h.read in (
+            h.rows,
+            subst (λ (u : Version). IsBookRows u h.rows) same h.sound,
+            cons_others (header_of v) (lines_in v h.rows) (header_of v) (lines_in v rows ++ more) (sym read ∙ whole),
+          )
 
-    by : (others : List Row) → IsBookRows v others → FaultBehindLines v others b other e d → ⊥
-    by others book h2 = elim h2 [
-      | inl more ↦ wrong_on v rows others on.line rest on.tail e c book
-          (rows_on (form_of v) rows others on.line on.more is.each book.each (cons_others (header_of v) (lines_in v others) (header_of v) (lines_in v rows ++ on.line ∷ on.more) (sym more.0 ∙ whole)))
-          on.text_is on.one h
-      | inr end ↦ elim (end_on (form_of v) rows others (length others) on.line on.more is.each book.each
-          (cons_others (header_of v) (lines_in v others ++ end_line (length others) ∷ []) (header_of v) (lines_in v rows ++ on.line ∷ on.more) (sym end.0 ∙ whole))) [
-            | inl r ↦ wrong_on v rows others on.line rest on.tail e c book r on.text_is on.one h
-            | inr last ↦ wrong_at_end v rows others on.line rest on.tail e c last.0 last.1 on.text_is on.one h
-          ]
-    ]
+      in_book : PastEnd b other e d → (others : List Row) × IsBookRows v others
+          × (lines_in v others ++ end_line (length others) ∷ [] ≡ lines_in v rows ++ more)
+      in_book h =
+          let same = same_version b v (lines_in v rows ++ more) (end_header b other e d h) is.version whole in
+          let read = subst (λ (u : Version). b ≡ lines_of u h.rows) same h.read in
+          let last = end_line (length h.rows) ∷ [] in (
+            h.rows,
+            subst (λ (u : Version). IsBookRows u h.rows) same h.sound,
+            cons_others (header_of v) (lines_in v h.rows ++ last) (header_of v) (lines_in v rows ++ more) (sym read ∙ whole),
+          )
 
-  after_end : (v : Version) (rows : List Row) → IsBookRows v rows → front ≡ lines_of v rows → ⊥
-  after_end v rows is lines = elim k [
-    | inl start ↦ let l = ap length (sym start.0 ∙ whole) in omega (arith, l)
-    | inr behind ↦
-        let same : behind.0 ≡ v = same_version v behind.0 behind.1 b (lines_in v rows ++ end_line (length rows) ∷ on.line ∷ on.more) other e d is.version behind.2.version behind.3 whole in
-        by behind.1 (subst (λ (u : Version). IsBookRows u behind.1) same behind.2) (subst (λ (u : Version). FaultBehindLines u behind.1 b other e d) same behind.3)
-  ] where
-    whole : b ≡ header_of v ∷ (lines_in v rows ++ end_line (length rows) ∷ on.line ∷ on.more)
-    whole = on.is ∙ ap (λ l. l ++ on.line ∷ on.more) lines ∙ ap (λ l. header_of v ∷ l) (append_assoc (lines_in v rows) (end_line (length rows) ∷ []) (on.line ∷ on.more))
+    after_rows : lines ≡ header_of v ∷ lines_in v rows → LineFault v rows rest e c → ⊥
+    after_rows read h = elim k [
+      | inl start ↦ let l = ap length (sym start.none_read ∙ whole) in omega (arith, l)
+      | inr k ↦ elim k [
+        | inl among ↦
+            let r = in_rows (on.line ∷ on.more) whole among in
+            further r.0 r.1 (rows_on (form_of v) rows r.0 on.line on.more is.each r.1.each r.2)
+        | inr past ↦
+            let r = in_book (on.line ∷ on.more) whole past in
+            elim (end_on (form_of v) rows r.0 (length r.0) on.line on.more is.each r.1.each r.2) [
+              | inl more ↦ further r.0 r.1 more
+              | inr last ↦ wrong_at_end v rows r.0 on.line rest on.tail e c last.0 last.1 on.text_is on.one h
+            ]
+      ]
+    ] where
+      whole : b ≡ header_of v ∷ (lines_in v rows ++ on.line ∷ on.more)
+      whole = on.is ∙ ap (λ l. l ++ on.line ∷ on.more) read
 
-    by : (others : List Row) → IsBookRows v others → FaultBehindLines v others b other e d → ⊥
-    by others book h2 = elim h2 [
-      | inl more ↦ no_last (form_of v) rows others (length rows) (on.line ∷ on.more) is.each book.each
-          (cons_others (header_of v) (lines_in v others) (header_of v) (lines_in v rows ++ end_line (length rows) ∷ on.line ∷ on.more) (sym more.0 ∙ whole))
-      | inr end ↦
-          let tails : lines_in v others ++ end_line (length others) ∷ [] ≡ lines_in v rows ++ end_line (length rows) ∷ on.line ∷ on.more
-          = cons_others (header_of v) (lines_in v others ++ end_line (length others) ∷ []) (header_of v) (lines_in v rows ++ end_line (length rows) ∷ on.line ∷ on.more) (sym end.0 ∙ whole) in
+      further : (others : List Row) → IsBookRows v others → RowsGoOn (form_of v) rows others on.line → ⊥
+      further others book more = wrong_on v rows others on.line rest on.tail e c book more on.text_is on.one h
+
+    after_end : lines ≡ lines_of v rows → ⊥
+    after_end read = elim k [
+      | inl start ↦ let l = ap length (sym start.none_read ∙ whole) in omega (arith, l)
+      | inr k ↦ elim k [
+        | inl among ↦
+            let r = in_rows (end_line (length rows) ∷ on.line ∷ on.more) whole among in
+            no_last (form_of v) rows r.0 (length rows) (on.line ∷ on.more) is.each r.1.each r.2
+        | inr past ↦ let r = in_book (end_line (length rows) ∷ on.line ∷ on.more) whole past in ends_twice r.0 r.1 r.2
+      ]
+    ] where
+      whole : b ≡ header_of v ∷ (lines_in v rows ++ end_line (length rows) ∷ on.line ∷ on.more)
+      whole = on.is ∙ ap (λ l. l ++ on.line ∷ on.more) read
+          ∙ ap (λ l. header_of v ∷ l) (append_assoc (lines_in v rows) (end_line (length rows) ∷ []) (on.line ∷ on.more))
+
+      ends_twice : (others : List Row) → IsBookRows v others
+          → lines_in v others ++ end_line (length others) ∷ [] ≡ lines_in v rows ++ end_line (length rows) ∷ on.line ∷ on.more → ⊥
+      ends_twice others book tails =
           elim (end_on (form_of v) rows others (length others) (end_line (length rows)) (on.line ∷ on.more) is.each book.each tails) [
             | inl r ↦ end_is_row (form_of v) (length rows) r.row_is r.line_is
             | inr last ↦
                 let l = ap length tails in
                 let left = length-append (lines_in v others) (end_line (length others) ∷ []) in
                 let right = length-append (lines_in v rows) (end_line (length rows) ∷ on.line ∷ on.more) in
-                omega (arith, l, left, right, length-map rows (row_line (form_of v)), length-map others (row_line (form_of v)), ap length last.0)
+                let count = length-map rows (row_line (form_of v)) in
+                omega (arith, l, left, right, count, length-map others (row_line (form_of v)), ap length last.0)
           ]
-    ]
 
-  no_further : FaultBehind front rest e c → ⊥
+  no_further : FaultAfter lines rest e c → ⊥
   no_further h = elim h [
-    | inl start ↦ after_start start.0 start.1
-    | inr behind ↦ elim behind.3 [
-      | inl lines ↦ after_rows behind.0 behind.1 behind.2 lines.0 lines.1
-      | inr end ↦ after_end behind.0 behind.1 behind.2 end.0
+    | inl start ↦ after_start start.none_read start.fault
+    | inr k ↦ elim k [
+      | inl among ↦ after_rows among.version among.rows among.sound among.read among.fault
+      | inr past ↦ after_end past.version past.rows past.sound past.read
     ]
   ]
 
--- ---- behind one front the cause is one
+-- ---- after the same lines the cause is one
 
 module _ (rest : List ℕ) (e : Ending) (c d : BookCause) where
-  start_once : FaultAtStart rest e c → FaultAtStart rest e d → c ≡ d
+  start_once : HeaderFault rest e c → HeaderFault rest e d → c ≡ d
   start_once h k = elim h [
     | inl cut ↦ elim k [
       | inl too ↦ cut.1 ∙ sym too.1
@@ -352,7 +437,8 @@ module _ (rest : List ℕ) (e : Ending) (c d : BookCause) where
     ]
   ]
 
-  rows_once : (v : Version) (rows : List Row) → FaultAfterRows v rows rest e c → FaultAfterRows v rows rest e d → c ≡ d
+  rows_once : (v : Version) (rows : List Row) → LineFault v rows rest e c → LineFault v rows rest e d
+      → c ≡ d
   rows_once v rows h k = elim h [
     | inl cut ↦ elim k [
       | inl too ↦ cut.1 ∙ sym too.1
@@ -361,13 +447,15 @@ module _ (rest : List ℕ) (e : Ending) (c d : BookCause) where
     | inr w ↦ elim k [
       | inl cut ↦ absurd (not_cut rest w.line w.more e d w.is cut)
       | inr z ↦
+          let gap = millis_of (gap_of v) in
+          let form = form_of v in
           let line : z.line ≡ w.line = (same_line 10 z.line z.more w.line w.more z.one w.one (sym z.is ∙ w.is)).0 in
-          spelled_twice (millis_of (gap_of v)) (form_of v) rows w.line c d (wrong (millis_of (gap_of v)) (form_of v) rows w.line c w.holds)
-          (wrong (millis_of (gap_of v)) (form_of v) rows w.line d (subst (λ l. IsWrong (millis_of (gap_of v)) (form_of v) rows l d) line z.holds))
+          spelled_twice gap form rows w.line c d (wrong gap form rows w.line c w.holds)
+          (wrong gap form rows w.line d (subst (λ l. IsWrong gap form rows l d) line z.holds))
     ]
   ]
 
-  end_once : FaultAtEnd rest e c → FaultAtEnd rest e d → c ≡ d
+  end_once : EndFault rest e c → EndFault rest e d → c ≡ d
   end_once h k = elim h [
     | inl after ↦ elim k [
       | inl too ↦ after.1 ∙ sym too.1
@@ -379,59 +467,76 @@ module _ (rest : List ℕ) (e : Ending) (c d : BookCause) where
     ]
   ]
 
-  -- the same version, and maybe other rows
-  lines_once : (v : Version) (rows others : List Row) (front : List (List ℕ)) → IsBookRows v rows → IsBookRows v others → FaultBehindLines v rows front rest e c → FaultBehindLines v others front rest e d → c ≡ d
-  lines_once v rows others front is book h k = elim h [
-    | inl lines ↦ elim k [
-      | inl too ↦
-          let same : others ≡ rows = same_rows (form_of v) others rows book.each is.each (cons_others (header_of v) (lines_in v others) (header_of v) (lines_in v rows) (sym too.0 ∙ lines.0)) in
-          rows_once v rows lines.1 (subst (λ (r : List Row). FaultAfterRows v r rest e d) same too.1)
-      | inr end ↦ absurd (no_last (form_of v) others rows (length others) [] book.each is.each
-          (cons_others (header_of v) (lines_in v rows) (header_of v) (lines_in v others ++ end_line (length others) ∷ []) (sym lines.0 ∙ end.0)))
-    ]
-    | inr end ↦ elim k [
-      | inl lines ↦ absurd (no_last (form_of v) rows others (length rows) [] is.each book.each
-          (cons_others (header_of v) (lines_in v others) (header_of v) (lines_in v rows ++ end_line (length rows) ∷ []) (sym lines.0 ∙ end.0)))
-      | inr too ↦ end_once end.1 too.1
-    ]
-  ]
+  module _ (lines : List (List ℕ)) where
+    -- the same version, and maybe other rows
+    among_once : AmongRows lines rest e c → AmongRows lines rest e d → c ≡ d
+    among_once h k =
+        let v = h.version in
+        let same = same_version lines v (lines_in v h.rows) (row_header lines rest e d k) h.sound.version h.read in
+        let sound = subst (λ (u : Version). IsBookRows u k.rows) same k.sound in
+        let read = subst (λ (u : Version). lines ≡ header_of u ∷ lines_in u k.rows) same k.read in
+        let fault = subst (λ (u : Version). LineFault u k.rows rest e d) same k.fault in
+        let rows : k.rows ≡ h.rows
+        = same_rows (form_of v) k.rows h.rows sound.each h.sound.each
+        (cons_others (header_of v) (lines_in v k.rows) (header_of v) (lines_in v h.rows) (sym read ∙ h.read)) in
+        rows_once v h.rows h.fault (subst (λ (r : List Row). LineFault v r rest e d) rows fault)
 
-  -- a front with lines has a header
-  with_header : (v : Version) (rows : List Row) (front : List (List ℕ)) (a : BookCause) → FaultBehindLines v rows front rest e a → (more : List (List ℕ)) × (front ≡ header_of v ∷ more)
-  with_header v rows front a h = elim h [
-    | inl lines ↦ (lines_in v rows, lines.0)
-    | inr end ↦ (lines_in v rows ++ end_line (length rows) ∷ [], end.0)
-  ]
+    -- lines that end with a row's are not a book's
+    not_both : (a b : BookCause) → AmongRows lines rest e a → PastEnd lines rest e b → ⊥
+    not_both a b h k =
+        let v = h.version in
+        let same = same_version lines v (lines_in v h.rows) (end_header lines rest e b k) h.sound.version h.read in
+        let sound = subst (λ (u : Version). IsBookRows u k.rows) same k.sound in
+        let read = subst (λ (u : Version). lines ≡ lines_of u k.rows) same k.read in
+        let last = end_line (length k.rows) ∷ [] in
+        no_last (form_of v) k.rows h.rows (length k.rows) [] sound.each h.sound.each
+        (cons_others (header_of v) (lines_in v h.rows) (header_of v) (lines_in v k.rows ++ last) (sym h.read ∙ read))
 
-  not_none : (v : Version) (rows : List Row) (front : List (List ℕ)) (a : BookCause) → front ≡ [] → FaultBehindLines v rows front rest e a → ⊥
-  not_none v rows front a none h = let l = ap length (sym none ∙ (with_header v rows front a h).1) in omega (arith, l)
-
-  one_cause : (front : List (List ℕ)) → FaultBehind front rest e c → FaultBehind front rest e d → c ≡ d
-  one_cause front h k = elim h [
-    | inl start ↦ elim k [
-      | inl too ↦ start_once start.1 too.1
-      | inr behind ↦ absurd (not_none behind.0 behind.1 front d start.0 behind.3)
+    one_cause : FaultAfter lines rest e c → FaultAfter lines rest e d → c ≡ d
+    one_cause h k = elim h [
+      | inl start ↦ elim k [
+        | inl too ↦ start_once start.fault too.fault
+        | inr k ↦ elim k [
+          | inl among ↦ absurd (no_lines lines start.none_read (row_header lines rest e d among))
+          | inr past ↦ absurd (no_lines lines start.none_read (end_header lines rest e d past))
+        ]
+      ]
+      | inr h ↦ elim h [
+        | inl among ↦ elim k [
+          | inl start ↦ absurd (no_lines lines start.none_read (row_header lines rest e c among))
+          | inr k ↦ elim k [
+            | inl too ↦ among_once among too
+            | inr past ↦ absurd (not_both c d among past)
+          ]
+        ]
+        | inr past ↦ elim k [
+          | inl start ↦ absurd (no_lines lines start.none_read (end_header lines rest e c past))
+          | inr k ↦ elim k [
+            | inl among ↦ absurd (not_both d c among past)
+            | inr too ↦ end_once past.fault too.fault
+          ]
+        ]
+      ]
     ]
-    | inr behind ↦ elim k [
-      | inl start ↦ absurd (not_none behind.0 behind.1 front c start.0 behind.3)
-      | inr other ↦
-          let top = with_header behind.0 behind.1 front c behind.3 in
-          let same : other.0 ≡ behind.0 = same_version behind.0 other.0 other.1 front top.0 rest e d behind.2.version other.2.version other.3 top.1 in
-          lines_once behind.0 behind.1 other.1 front behind.2 (subst (λ (u : Version). IsBookRows u other.1) same other.2) behind.3
-          (subst (λ (u : Version). FaultBehindLines u other.1 front rest e d) same other.3)
-    ]
-  ]
 
-pub one_fault : (text : List ℕ) (e : Ending) (f g : BookFault) → length text < 2 ^ 64 → FirstFault text e f → FirstFault text e g → f ≡ g
+pub one_fault : (text : List ℕ) (e : Ending) (f g : BookFault) → length text < 2 ^ 64
+    → FirstFault text e f → FirstFault text e g → f ≡ g
 one_fault text e f g small h k =
-    elim (two_fronts h.front k.front h.rest k.rest (front_lacks h.front h.rest text e f.cause small h.whole h.fault) (front_lacks k.front k.rest text e g.cause small k.whole k.fault) (sym h.whole ∙ k.whole)) [
+    elim (two_prefixes h.lines k.lines h.rest k.rest first second (sym h.whole ∙ k.whole)) [
       | inl same ↦
-          let line : f.line ≡ g.line = h.line ∙ ap (λ (l : List (List ℕ)). length l + 1) same.0 ∙ sym k.line in
-          let other : FaultBehind h.front h.rest e g.cause = subst (λ r. FaultBehind h.front r e g.cause) (sym same.1) (subst (λ l. FaultBehind l k.rest e g.cause) (sym same.0) k.fault) in
-          let cause : f.cause ≡ g.cause = one_cause h.rest e f.cause g.cause h.front h.fault other in
-          fault_is f g line cause
+          let line : f.line ≡ g.line
+          = h.line ∙ ap (λ (l : List (List ℕ)). length l + 1) same.0 ∙ sym k.line in
+          let other : FaultAfter h.lines h.rest e g.cause
+          = subst (λ r. FaultAfter h.lines r e g.cause) (sym same.1)
+          (subst (λ l. FaultAfter l k.rest e g.cause) (sym same.0) k.fault) in
+          fault_is f g line (one_cause h.rest e f.cause g.cause h.lines h.fault other)
       | inr on ↦ absurd (elim on [
-        | inl further ↦ no_further h.front k.front h.rest k.rest e f.cause g.cause k.fault further h.fault
-        | inr further ↦ no_further k.front h.front k.rest h.rest e g.cause f.cause h.fault further k.fault
+        | inl further ↦ no_further h.lines k.lines h.rest k.rest e f.cause g.cause k.fault further h.fault
+        | inr further ↦ no_further k.lines h.lines k.rest h.rest e g.cause f.cause h.fault further k.fault
       ])
-    ]
+    ] where
+      first : AllByRecursion (Lacks 10) h.lines
+      first = lines_lack h.lines h.rest text e f.cause small h.whole h.fault
+
+      second : AllByRecursion (Lacks 10) k.lines
+      second = lines_lack k.lines k.rest text e g.cause small k.whole k.fault

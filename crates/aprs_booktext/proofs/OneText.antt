@@ -22,9 +22,9 @@ use Rattle.aprs_book.specs.Refusal.{refusal}
 use Rattle.aprs_book.specs.Shown.{row_of}
 use Rattle.aprs_book.specs.declared.row_cause.RowCause.{RowCause}
 use Rattle.aprs_book.proofs.Refusals.{none_exactly}
-use Rattle.aprs_booktext.specs.FirstFault.{FirstFault, FaultBehind, FaultAtStart, FaultAfterRows, FaultAtEnd, HasLine, IsCut, IsRefused, IsWrong, missing}
+use Rattle.aprs_booktext.specs.FirstFault.{EndFault, FaultAfter, FirstFault, HasLine, HeaderFault, IsCut, IsRefused, IsWrong, LineFault, ending_cause}
 use Rattle.aprs_booktext.specs.Lines.{Lacks, pieces}
-use Rattle.aprs_booktext.specs.Text.{fields_of, row_line, end_line, text_of_lines, ended_by_lf, book_text, IsSpelled, IsBookRow, IsBookRows, IsTold, written_text, written_version}
+use Rattle.aprs_booktext.specs.Text.{fields_of, row_line, end_line, text_of_lines, ended_by_lf, book_text, IsSpelled, IsBookRow, IsBookRows, IsWritable, written_text, written_version}
 use Rattle.aprs_booktext.specs.Version.{form_of, gap_of, header_of, IsVersion}
 use Rattle.aprs_booktext.specs.declared.fault.BookCause.{BookCause}
 use Rattle.aprs_booktext.specs.declared.fault.BookCause.TheVariants as cause
@@ -71,7 +71,7 @@ row_lacks form x h = lacks_joined 10 32 (fields_of form x) refl (row_fields_lack
 
 -- ---- a line is that of one row
 
-same_moment : (form : MomentForm) (m n : ℕ) → IsTold form m → IsTold form n → moment_text_in form m ≡ moment_text_in form n → m ≡ n
+same_moment : (form : MomentForm) (m n : ℕ) → IsWritable form m → IsWritable form n → moment_text_in form m ≡ moment_text_in form n → m ≡ n
 same_moment form m n h k e =
     let some : Some m ≡ Some n = sym (moment_read form m h) ∙ ap (moment_in form) e ∙ moment_read form n k in
     cc
@@ -143,7 +143,7 @@ peel form (x ∷ a) (y ∷ b) n rest h k e =
 book_first : (v : Version) (rows : List Row) → book_text v rows ≡ header_of v ++ 10 ∷ row_lines (form_of v) rows (length rows)
 book_first v rows = append_assoc (header_of v) (10 ∷ []) (row_lines (form_of v) rows (length rows))
 
--- behind the header and some rows' lines
+-- after the header and some rows' lines
 begun : (v w : Version) (a b : List Row) (rest : List ℕ) → IsBookRows v a → IsBookRows w b → book_text v a ≡ text_of_lines (header_of w ∷ map (row_line (form_of w)) b) ++ rest
     → (w ≡ v) × Begins (form_of v) a b (length a) rest
 begun v w a b rest h k e =
@@ -156,22 +156,22 @@ begun v w a b rest h k e =
           (s.1 ∙ ap (λ (u : Version). text_of_lines (map (row_line (form_of u)) b) ++ rest) same),
     )
 
--- what is the same of two texts, behind one of which this stands
+-- what is the same of two texts, after one of which this stands
 pub record IsEnded (v w : Version) (a b : List Row) (rest : List ℕ) : Type 0 where
   pub version : w ≡ v
   pub rows : a ≡ b
   pub none : rest ≡ []
 
--- behind the last line of as many rows nothing is left
+-- after the last line of as many rows nothing is left
 ended : (v w : Version) (a b : List Row) (rest : List ℕ) → IsBookRows v a → IsBookRows w b → book_text v a ≡ book_text w b ++ rest → IsEnded v w a b rest
 ended v w a b rest h k e = last p.1.more p.1.rows p.1.text where
-  front : List ℕ
-  front = text_of_lines (header_of w ∷ map (row_line (form_of w)) b)
+  prefix : List ℕ
+  prefix = text_of_lines (header_of w ∷ map (row_line (form_of w)) b)
 
-  lines : book_text w b ++ rest ≡ front ++ (end_line (length b) ++ 10 ∷ rest)
+  lines : book_text w b ++ rest ≡ prefix ++ (end_line (length b) ++ 10 ∷ rest)
   lines = ap (λ l. l ++ rest) (flat_map-append ended_by_lf (header_of w ∷ map (row_line (form_of w)) b) (end_line (length b) ∷ []))
-      ∙ append_assoc front (text_of_lines (end_line (length b) ∷ [])) rest
-      ∙ ap (λ l. front ++ l) (ap (λ l. l ++ rest) (append-nil (ended_by_lf (end_line (length b)))) ∙ append_assoc (end_line (length b)) (10 ∷ []) rest)
+      ∙ append_assoc prefix (text_of_lines (end_line (length b) ∷ [])) rest
+      ∙ ap (λ l. prefix ++ l) (ap (λ l. l ++ rest) (append-nil (ended_by_lf (end_line (length b)))) ∙ append_assoc (end_line (length b)) (10 ∷ []) rest)
 
   p : (w ≡ v) × Begins (form_of v) a b (length a) (end_line (length b) ++ 10 ∷ rest)
   p = begun v w a b (end_line (length b) ++ 10 ∷ rest) h k (e ∙ lines)
@@ -211,7 +211,7 @@ pub All-middle : (P : Row → Type 0) (a : List Row) (x : Row) (b : List Row) �
 All-middle P [] x b h = All-head P x b h
 All-middle P (y ∷ a) x b h = All-middle P a x b (All-tail P y (a ++ x ∷ b) h)
 
--- no cause refuses a row behind those that it follows
+-- no cause refuses a row after those that it follows
 refused : (gap : ℕ) (form : MomentForm) (rows more : List Row) (x : Row) (why : RowCause) → IsBookRow form x → Sound gap (rows ++ x ∷ more) → IsRefused gap form rows (row_line form x) why → ⊥
 refused gap form rows more x why h s w =
     let same = same_row form x w.row h.spelled w.is.spelled w.spelled in
@@ -252,66 +252,69 @@ wrong_end gap form rows cause.Read w = w
 wrong_end gap form rows cause.TooLong w = w
 wrong_end gap form rows cause.Memory w = w
 
--- ---- the fault of a front of a book's text is that it is cut there
+-- ---- the fault of a prefix of a book's text is that it is cut there
 
 -- the byte that is missing, if it is a byte
 abbrev pub IsCutShort : Ending → List ℕ → BookCause → Type 0
-IsCutShort e more c = (c ≡ missing e) × (e ≡ ending.End → more ≢ [])
+IsCutShort e more c = (c ≡ ending_cause e) × (e ≡ ending.End → more ≢ [])
 
 cut_at_line : (rest more line tail : List ℕ) (e : Ending) (c : BookCause) → rest ++ more ≡ line ++ 10 ∷ tail → IsCut rest e c → IsCutShort e more c
 cut_at_line rest more line tail e c is h = (h.1, λ end none. has_line 10 line tail (subst (Lacks 10) (sym (append-nil rest) ∙ ap (λ l. rest ++ l) (sym none) ∙ is) h.0))
 
 module _ (v : Version) (rows : List Row) (is : IsBookRows v rows) (small : length rows < 2 ^ 64) (more : List ℕ) (e : Ending) (c : BookCause) where
-  at_start : (rest : List ℕ) → rest ++ more ≡ book_text v rows → FaultAtStart rest e c → IsCutShort e more c
+  at_start : (rest : List ℕ) → rest ++ more ≡ book_text v rows → HeaderFault rest e c → IsCutShort e more c
   at_start rest whole h = elim h [
     | inl cut ↦ cut_at_line rest more (header_of v) (row_lines (form_of v) rows (length rows)) e c (whole ∙ book_first v rows) cut
     | inr w ↦ absurd (w.holds.0 v is.version (same_line 10 w.line (w.more ++ more) (header_of v) (row_lines (form_of v) rows (length rows)) w.one (header_lacks v is.version)
         (sym (append_assoc w.line (10 ∷ w.more) more) ∙ ap (λ l. l ++ more) (sym w.is) ∙ whole ∙ book_first v rows)).0)
   ]
 
-  after_rows : (front : List Row) (rest : List ℕ) → Begins (form_of v) rows front (length rows) (rest ++ more) → FaultAfterRows v front rest e c → IsCutShort e more c
-  after_rows front rest b h = go b.more b.rows b.text where
-    wrong : (x : Row) (tail : List Row) → rows ≡ front ++ x ∷ tail → rest ++ more ≡ row_lines (form_of v) (x ∷ tail) (length rows) → HasLine rest (λ line. IsWrong (millis_of (gap_of v)) (form_of v) front line c) → ⊥
+  after_rows : (prefix : List Row) (rest : List ℕ) → Begins (form_of v) rows prefix (length rows) (rest ++ more) → LineFault v prefix rest e c → IsCutShort e more c
+  after_rows prefix rest b h = go b.more b.rows b.text where
+    wrong : (x : Row) (tail : List Row) → rows ≡ prefix ++ x ∷ tail → rest ++ more ≡ row_lines (form_of v) (x ∷ tail) (length rows) → HasLine rest (λ line. IsWrong (millis_of (gap_of v)) (form_of v) prefix line c) → ⊥
     wrong x tail r t w =
-        let book : IsBookRow (form_of v) x = All-middle (IsBookRow (form_of v)) front x tail (subst (All (IsBookRow (form_of v))) r is.each) in
+        let book : IsBookRow (form_of v) x = All-middle (IsBookRow (form_of v)) prefix x tail (subst (All (IsBookRow (form_of v))) r is.each) in
         let line : w.line ≡ row_line (form_of v) x = (same_line 10 w.line (w.more ++ more) (row_line (form_of v) x) (row_lines (form_of v) tail (length rows)) w.one (row_lacks (form_of v) x book.spelled)
         (sym (append_assoc w.line (10 ∷ w.more) more) ∙ ap (λ l. l ++ more) (sym w.is) ∙ t ∙ row_lines_cons (form_of v) x tail (length rows))).0 in
-        wrong_row (millis_of (gap_of v)) (form_of v) front tail x c book (subst (Sound (millis_of (gap_of v))) r is.sound) (subst (λ l. IsWrong (millis_of (gap_of v)) (form_of v) front l c) line w.holds)
+        wrong_row (millis_of (gap_of v)) (form_of v) prefix tail x c book (subst (Sound (millis_of (gap_of v))) r is.sound) (subst (λ l. IsWrong (millis_of (gap_of v)) (form_of v) prefix l c) line w.holds)
 
-    wrong_last : rows ≡ front → rest ++ more ≡ row_lines (form_of v) [] (length rows) → HasLine rest (λ line. IsWrong (millis_of (gap_of v)) (form_of v) front line c) → ⊥
+    wrong_last : rows ≡ prefix → rest ++ more ≡ row_lines (form_of v) [] (length rows) → HasLine rest (λ line. IsWrong (millis_of (gap_of v)) (form_of v) prefix line c) → ⊥
     wrong_last r t w =
         let line : w.line ≡ end_line (length rows) = (same_line 10 w.line (w.more ++ more) (end_line (length rows)) [] w.one (end_lacks (length rows) small)
         (sym (append_assoc w.line (10 ∷ w.more) more) ∙ ap (λ l. l ++ more) (sym w.is) ∙ t ∙ row_lines_nil (form_of v) (length rows))).0 in
-        wrong_end (millis_of (gap_of v)) (form_of v) front c (subst (λ l. IsWrong (millis_of (gap_of v)) (form_of v) front l c) (line ∙ ap (λ (l : List Row). end_line (length l)) r) w.holds)
+        wrong_end (millis_of (gap_of v)) (form_of v) prefix c (subst (λ l. IsWrong (millis_of (gap_of v)) (form_of v) prefix l c) (line ∙ ap (λ (l : List Row). end_line (length l)) r) w.holds)
 
-    go : (tail : List Row) → rows ≡ front ++ tail → rest ++ more ≡ row_lines (form_of v) tail (length rows) → IsCutShort e more c
+    go : (tail : List Row) → rows ≡ prefix ++ tail → rest ++ more ≡ row_lines (form_of v) tail (length rows) → IsCutShort e more c
     go [] r t = elim h [
       | inl cut ↦ cut_at_line rest more (end_line (length rows)) [] e c (t ∙ row_lines_nil (form_of v) (length rows)) cut
-      | inr w ↦ absurd (wrong_last (r ∙ append-nil front) t w)
+      | inr w ↦ absurd (wrong_last (r ∙ append-nil prefix) t w)
     ]
     go (x ∷ tail) r t = elim h [
       | inl cut ↦ cut_at_line rest more (row_line (form_of v) x) (row_lines (form_of v) tail (length rows)) e c (t ∙ row_lines_cons (form_of v) x tail (length rows)) cut
       | inr w ↦ absurd (wrong x tail r t w)
     ]
 
-  at_end : (rest : List ℕ) → rest ++ more ≡ [] → FaultAtEnd rest e c → IsCutShort e more c
+  at_end : (rest : List ℕ) → rest ++ more ≡ [] → EndFault rest e c → IsCutShort e more c
   at_end rest none h = elim h [
     | inl after ↦ absurd (let l : length (rest ++ more) ≡ length rest + length more = length-append rest more in omega (arith, l, ap length none, after.0))
     | inr end ↦ (end.2, λ is n. end.1 is)
   ]
 
   pub cut_short : (text : List ℕ) (f : BookFault) → text ++ more ≡ book_text v rows → f.cause ≡ c → FirstFault text e f → IsCutShort e more c
-  cut_short text f whole cause_is first = go (subst (FaultBehind first.front first.rest e) cause_is first.fault) where
-    all : (front : List (List ℕ)) → first.front ≡ front → text_of_lines front ++ (first.rest ++ more) ≡ book_text v rows
-    all front same = ap (λ ls. text_of_lines ls ++ (first.rest ++ more)) (sym same) ∙ sym (append_assoc (text_of_lines first.front) first.rest more) ∙ ap (λ l. l ++ more) (sym first.whole) ∙ whole
+  cut_short text f whole cause_is first = go (subst (FaultAfter first.lines first.rest e) cause_is first.fault) where
+    all : (lines : List (List ℕ)) → first.lines ≡ lines → text_of_lines lines ++ (first.rest ++ more) ≡ book_text v rows
+    all lines same =
+        ap (λ ls. text_of_lines ls ++ (first.rest ++ more)) (sym same)
+        ∙ sym (append_assoc (text_of_lines first.lines) first.rest more)
+        ∙ ap (λ l. l ++ more) (sym first.whole) ∙ whole
 
-    go : FaultBehind first.front first.rest e c → IsCutShort e more c
+    go : FaultAfter first.lines first.rest e c → IsCutShort e more c
     go h = elim h [
-      | inl start ↦ at_start first.rest (all [] start.0) start.1
-      | inr behind ↦ elim behind.3 [
-        | inl lines ↦
-            let b = begun v behind.0 rows behind.1 (first.rest ++ more) is behind.2 (sym (all _ lines.0)) in
-            after_rows behind.1 first.rest b.1 (subst (λ (u : Version). FaultAfterRows u behind.1 first.rest e c) b.0 lines.1)
-        | inr end ↦ at_end first.rest (ended v behind.0 rows behind.1 (first.rest ++ more) is behind.2 (sym (all _ end.0))).none end.1
+      | inl start ↦ at_start first.rest (all [] start.none_read) start.fault
+      | inr k ↦ elim k [
+        | inl among ↦
+            let b = begun v among.version rows among.rows (first.rest ++ more) is among.sound (sym (all _ among.read)) in
+            after_rows among.rows first.rest b.1 (subst (λ (u : Version). LineFault u among.rows first.rest e c) b.0 among.fault)
+        | inr past ↦ at_end first.rest (ended v past.version rows past.rows (first.rest ++ more) is past.sound (sym (all _ past.read))).none past.fault
       ]
     ]

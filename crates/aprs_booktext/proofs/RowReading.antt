@@ -10,7 +10,7 @@ use Rattle.aprs_book.specs.Shown.{row_of}
 use Rattle.aprs_booktext.specs.Lines.{pieces}
 use Rattle.aprs_booktext.specs.FirstFault.{HasNoFrame}
 use Rattle.aprs_booktext.specs.RowFields.{SpellsNames, SpellsBytes, SpellsFrame, IsWrongNames, IsWrongFrame, IsWrongRow}
-use Rattle.aprs_booktext.specs.Text.{row_line, IsSpelled, IsBookRow, IsTold}
+use Rattle.aprs_booktext.specs.Text.{row_line, IsSpelled, IsBookRow, IsWritable}
 use Rattle.aprs_booktext.specs.declared.fault.BookCause.{BookCause}
 use Rattle.aprs_booktext.specs.declared.fault.BookCause.TheVariants as cause
 use Rattle.aprs_booktext.proofs.Spellings.{SameFields, same_fields, spelled_by, six_pieces}
@@ -32,10 +32,10 @@ module _ (form : MomentForm) (line t f l n w d : List ℕ) (is : pieces 32 line 
   pub wrong_tag : ¬ (t ≡ codes "T") → IsWrongRow form line cause.RowSyntax
   wrong_tag none = no_row form line (λ x h e. none (same x h e).tag)
 
-  pub wrong_first : ((m : ℕ) → IsTold form m → f ≢ moment_text_in form m) → IsWrongRow form line cause.RowSyntax
+  pub wrong_first : ((m : ℕ) → IsWritable form m → f ≢ moment_text_in form m) → IsWrongRow form line cause.RowSyntax
   wrong_first none = no_row form line (λ x h e. none x.first h.first (same x h e).first)
 
-  pub wrong_last : ((m : ℕ) → IsTold form m → l ≢ moment_text_in form m) → IsWrongRow form line cause.RowSyntax
+  pub wrong_last : ((m : ℕ) → IsWritable form m → l ≢ moment_text_in form m) → IsWrongRow form line cause.RowSyntax
   wrong_last none = no_row form line (λ x h e. none (last_of x) h.last (same x h e).last)
 
   pub wrong_receiver : ¬ IsName w → IsWrongRow form line cause.RowSyntax
@@ -48,8 +48,8 @@ module _ (form : MomentForm) (line t f l n w d : List ℕ) (is : pieces 32 line 
   ]
 
   -- the row of these fields
-  module _ (first last : ℕ) (names : List (List ℕ)) (frame : List ℕ) (tag_is : t ≡ codes "T") (first_is : IsTold form first × (f ≡ moment_text_in form first))
-      (last_is : IsTold form last × (l ≡ moment_text_in form last)) (names_are : SpellsNames n names) (name : IsName w) where
+  module _ (first last : ℕ) (names : List (List ℕ)) (frame : List ℕ) (tag_is : t ≡ codes "T") (first_is : IsWritable form first × (f ≡ moment_text_in form first))
+      (last_is : IsWritable form last × (l ≡ moment_text_in form last)) (names_are : SpellsNames n names) (name : IsName w) where
     row : Row
     row = row_of first last names w frame
 
@@ -66,7 +66,7 @@ module _ (form : MomentForm) (line t f l n w d : List ℕ) (is : pieces 32 line 
     pub no_frame : SpellsBytes d frame → IsErr (frame_of frame) → HasNoFrame form line
     no_frame h err = record { row = row_of first last names w frame; is = spelled h; spelled = lined h; refused = err }
 
-  pub wrong_frame : (first last : ℕ) (names : List (List ℕ)) → t ≡ codes "T" → IsTold form first × (f ≡ moment_text_in form first) → IsTold form last × (l ≡ moment_text_in form last)
+  pub wrong_frame : (first last : ℕ) (names : List (List ℕ)) → t ≡ codes "T" → IsWritable form first × (f ≡ moment_text_in form first) → IsWritable form last × (l ≡ moment_text_in form last)
       → SpellsNames n names → IsName w → (c : BookCause) → IsWrongFrame d c → IsWrongRow form line c
   wrong_frame first last names tag_is first_is last_is names_are name c h = elim h [
     | inl r ↦ inr (inl (r.0, λ x s e. r.1 x.greatest.frame (record { digits_are = (same x s e).frame; bytes_are = s.bytes; few = s.few })))

@@ -36,12 +36,12 @@ Puts-then {a} {b} {c} {h} {i} {j} {x} {y} p q = record {
 }
 
 -- the first of two failed
-pub front_of_first : (a b : Option (List ℕ)) (h x y : List ℕ) → AppendsFront a b (h ++ x) → AppendsFront a b (h ++ (x ++ y))
-front_of_first a b h x y p = subst (AppendsFront a b) (append_assoc h x y) (AppendsFront-more a b (h ++ x) y p)
+pub prefix_of_first : (a b : Option (List ℕ)) (h x y : List ℕ) → AppendsFront a b (h ++ x) → AppendsFront a b (h ++ (x ++ y))
+prefix_of_first a b h x y p = subst (AppendsFront a b) (append_assoc h x y) (AppendsFront-more a b (h ++ x) y p)
 
 -- the second of two failed
-pub front_of_second : (a b c : Option (List ℕ)) (h i x y : List ℕ) → Puts a b h i x → AppendsFront b c (i ++ y) → AppendsFront a c (h ++ (x ++ y))
-front_of_second a b c h i x y p q =
+pub prefix_of_second : (a b c : Option (List ℕ)) (h i x y : List ℕ) → Puts a b h i x → AppendsFront b c (i ++ y) → AppendsFront a c (h ++ (x ++ y))
+prefix_of_second a b c h i x y p q =
     subst (AppendsFront a c) (sym (sym (append_assoc h x y) ∙ ap (λ l. l ++ y) p.parts ∙ append_assoc p.gone i y)) (AppendsFront-then a b c p.gone (i ++ y) p.sent q)
 
 -- ---- pieces one after another
@@ -60,37 +60,37 @@ module _ {X : Type 0} (f : X → List ℕ) (xs : List X) (i : ℕ) (x : X) (lt :
       (Puts-then p (subst (Puts b c k j) piece_is q))
 
   -- a piece failed
-  pub front_of_piece : AppendsFront b c (k ++ piece) → AppendsFront a c (h ++ flat_map f xs)
-  front_of_piece q =
+  pub prefix_of_piece : AppendsFront b c (k ++ piece) → AppendsFront a c (h ++ flat_map f xs)
+  prefix_of_piece q =
       let whole : flat_map f xs ≡ flat_map f (take i xs) ++ (f x ++ flat_map f (drop (i + 1) xs)) = ap (flat_map f) at_piece ∙ flat_map-append f (take i xs) (x ∷ drop (i + 1) xs) in
-      let front = subst (λ t. AppendsFront b c (k ++ t)) piece_is q in
+      let prefix = subst (λ t. AppendsFront b c (k ++ t)) piece_is q in
       subst (λ t. AppendsFront a c (h ++ t)) (sym whole)
-      (front_of_second a b c h k (flat_map f (take i xs)) (f x ++ flat_map f (drop (i + 1) xs)) p (front_of_first b c k (f x) (flat_map f (drop (i + 1) xs)) front))
+      (prefix_of_second a b c h k (flat_map f (take i xs)) (f x ++ flat_map f (drop (i + 1) xs)) p (prefix_of_first b c k (f x) (flat_map f (drop (i + 1) xs)) prefix))
 
--- the pieces of a front of all went out
+-- the pieces of a prefix of all went out
 pub record PutSoFar {X : Type 0} (f : X → List ℕ) (old new : Option (List ℕ)) (held left : List ℕ) (all rest : List X) : Type 0 where
-  pub front : List X
-  pub whole : all ≡ front ++ rest
-  pub put : Puts old new held left (flat_map f front)
+  pub prefix : List X
+  pub whole : all ≡ prefix ++ rest
+  pub put : Puts old new held left (flat_map f prefix)
 
 module _ {X : Type 0} (f : X → List ℕ) (a b c : Option (List ℕ)) (h k : List ℕ) (all rest more : List X) (x : X) (p : PutSoFar f a b h k all rest) (next : rest ≡ x ∷ more) where
   pub PutSoFar-more : (j : List ℕ) → Puts b c k j (f x) → PutSoFar f a c h j all more
   PutSoFar-more j q = record {
-    front = p.front ++ x ∷ [];
-    whole = p.whole ∙ ap (λ r. p.front ++ r) next ∙ sym (append_assoc p.front (x ∷ []) more);
-    put = subst (Puts a c h j) (flat_map_more f [] p.front x) (Puts-then p.put q);
+    prefix = p.prefix ++ x ∷ [];
+    whole = p.whole ∙ ap (λ r. p.prefix ++ r) next ∙ sym (append_assoc p.prefix (x ∷ []) more);
+    put = subst (Puts a c h j) (flat_map_more f [] p.prefix x) (Puts-then p.put q);
   }
 
-  pub front_of_more : AppendsFront b c (k ++ f x) → AppendsFront a c (h ++ flat_map f all)
-  front_of_more q =
-      let whole : flat_map f all ≡ flat_map f p.front ++ (f x ++ flat_map f more) = ap (flat_map f) (p.whole ∙ ap (λ r. p.front ++ r) next) ∙ flat_map-append f p.front (x ∷ more) in
-      subst (λ t. AppendsFront a c (h ++ t)) (sym whole) (front_of_second a b c h k (flat_map f p.front) (f x ++ flat_map f more) p.put (front_of_first b c k (f x) (flat_map f more) q))
+  pub prefix_of_more : AppendsFront b c (k ++ f x) → AppendsFront a c (h ++ flat_map f all)
+  prefix_of_more q =
+      let whole : flat_map f all ≡ flat_map f p.prefix ++ (f x ++ flat_map f more) = ap (flat_map f) (p.whole ∙ ap (λ r. p.prefix ++ r) next) ∙ flat_map-append f p.prefix (x ∷ more) in
+      subst (λ t. AppendsFront a c (h ++ t)) (sym whole) (prefix_of_second a b c h k (flat_map f p.prefix) (f x ++ flat_map f more) p.put (prefix_of_first b c k (f x) (flat_map f more) q))
 
 pub PutSoFar-none : {X : Type 0} (f : X → List ℕ) (a : Option (List ℕ)) (h : List ℕ) (all : List X) → PutSoFar f a a h h all all
-PutSoFar-none f a h all = record { front = []; whole = refl; put = Puts-nil a h }
+PutSoFar-none f a h all = record { prefix = []; whole = refl; put = Puts-nil a h }
 
 pub PutSoFar-all : {X : Type 0} (f : X → List ℕ) (a b : Option (List ℕ)) (h k : List ℕ) (all rest : List X) → PutSoFar f a b h k all rest → rest ≡ [] → Puts a b h k (flat_map f all)
-PutSoFar-all f a b h k all rest p e = subst (λ t. Puts a b h k (flat_map f t)) (sym (p.whole ∙ ap (λ r. p.front ++ r) e ∙ append-nil p.front)) p.put
+PutSoFar-all f a b h k all rest p e = subst (λ t. Puts a b h k (flat_map f t)) (sym (p.whole ∙ ap (λ r. p.prefix ++ r) e ∙ append-nil p.prefix)) p.put
 
 -- names with commas between are one, and then each after a comma
 joined_names : (x : List ℕ) (xs : List (List ℕ)) → join_with_byte 44 (x ∷ xs) ≡ x ++ flat_map (λ n. 44 ∷ n) xs
@@ -103,8 +103,8 @@ joined_first names x bytes xs e is = ap (join_with_byte 44) e ∙ joined_names x
 -- ---- a text of parts, where a call sends the last
 
 -- a part failed that a text begins with
-pub front_of_part : (a b : Option (List ℕ)) (h whole x y : List ℕ) → whole ≡ x ++ y → AppendsFront a b (h ++ x) → AppendsFront a b (h ++ whole)
-front_of_part a b h whole x y e p = subst (λ t. AppendsFront a b (h ++ t)) (sym e) (front_of_first a b h x y p)
+pub prefix_of_part : (a b : Option (List ℕ)) (h whole x y : List ℕ) → whole ≡ x ++ y → AppendsFront a b (h ++ x) → AppendsFront a b (h ++ whole)
+prefix_of_part a b h whole x y e p = subst (λ t. AppendsFront a b (h ++ t)) (sym e) (prefix_of_first a b h x y p)
 
 module _ {R E : Type 0} (r : Result R E) (a b c : Option (List ℕ)) (h i whole x y : List ℕ) (p : Puts a b h i x) (e : whole ≡ x ++ y) where
   pub Puts-last : (j : List ℕ) → OnOk r (Puts b c i j y) → OnOk r (Puts a c h j whole)
@@ -113,20 +113,20 @@ module _ {R E : Type 0} (r : Result R E) (a b c : Option (List ℕ)) (h i whole 
     last (Ok v) q = subst (Puts a c h j) (sym e) (Puts-then p q)
     last (Err v) q = tt
 
-  pub front_of_last : OnErr r (AppendsFront b c (i ++ y)) → OnErr r (AppendsFront a c (h ++ whole))
-  front_of_last q = last r q where
+  pub prefix_of_last : OnErr r (AppendsFront b c (i ++ y)) → OnErr r (AppendsFront a c (h ++ whole))
+  prefix_of_last q = last r q where
     last : (r : Result R E) → OnErr r (AppendsFront b c (i ++ y)) → OnErr r (AppendsFront a c (h ++ whole))
     last (Ok v) q = tt
-    last (Err v) q = subst (λ t. AppendsFront a c (h ++ t)) (sym e) (front_of_second a b c h i x y p q)
+    last (Err v) q = subst (λ t. AppendsFront a c (h ++ t)) (sym e) (prefix_of_second a b c h i x y p q)
 
 -- all that was held went out
 pub Appends-last : {R E : Type 0} (r : Result R E) (a b c : Option (List ℕ)) (i x : List ℕ) → Puts a b [] i x → OnOk r (Appends b c i) → OnOk r (Appends a c x)
 Appends-last (Ok v) a b c i x p q = subst (Appends a c) (sym p.parts) (Appends-trans a b c p.gone i p.sent q)
 Appends-last (Err v) a b c i x p q = tt
 
-pub front_of_held : {R E : Type 0} (r : Result R E) (a b c : Option (List ℕ)) (i x : List ℕ) → Puts a b [] i x → OnErr r (AppendsFront b c i) → OnErr r (AppendsFront a c x)
-front_of_held (Ok v) a b c i x p q = tt
-front_of_held (Err v) a b c i x p q = subst (AppendsFront a c) (sym p.parts) (AppendsFront-then a b c p.gone i p.sent q)
+pub prefix_of_held : {R E : Type 0} (r : Result R E) (a b c : Option (List ℕ)) (i x : List ℕ) → Puts a b [] i x → OnErr r (AppendsFront b c i) → OnErr r (AppendsFront a c x)
+prefix_of_held (Ok v) a b c i x p q = tt
+prefix_of_held (Err v) a b c i x p q = subst (AppendsFront a c) (sym p.parts) (AppendsFront-then a b c p.gone i p.sent q)
 
 -- ---- the parts of a line
 

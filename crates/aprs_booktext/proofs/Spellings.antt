@@ -18,22 +18,22 @@ use Rattle.aprs_ax25.specs.declared.fault.FrameFault.{FrameFault}
 use Rattle.aprs_booktext.specs.RowFields.{SpellsNames, IsWrongNames}
 use Rattle.aprs_booktext.specs.declared.fault.BookCause.{BookCause}
 use Rattle.aprs_booktext.specs.declared.fault.BookCause.TheVariants as cause
-use Rattle.aprs_booktext.specs.Text.{fields_of, row_line, IsSpelled, IsTold}
+use Rattle.aprs_booktext.specs.Text.{fields_of, row_line, IsSpelled, IsWritable}
 use Rattle.aprs_booktext.proofs.Cuts.{lacks_joined, pieces_joined, joined_pieces}
 
 -- ---- moments
 
 pub moment_found : (form : MomentForm) (t : List ℕ) (m : ℕ) → m ≤ 4102444799999 → MomentTextIn form m t
-    → IsTold form m × (t ≡ moment_text_in form m)
+    → IsWritable form m × (t ≡ moment_text_in form m)
 moment_found form t m h is =
     let whole = millis_told form m t is in
     (record { in_range = h; whole = whole }, one_text form m t (moment_text_in form m) is (moment_text-is form m h whole))
 
--- what is read of the text of a moment that can be told
-pub moment_read : (form : MomentForm) (m : ℕ) → IsTold form m → moment_in form (moment_text_in form m) ≡ Some m
+-- what is read of the text of a moment that can be written
+pub moment_read : (form : MomentForm) (m : ℕ) → IsWritable form m → moment_in form (moment_text_in form m) ≡ Some m
 moment_read form m h = text-moment_in form (moment_text_in form m) m (moment_text-is form m h.in_range h.whole)
 
-pub moment_missed : (form : MomentForm) (t : List ℕ) → moment_in form t ≡ None → (m : ℕ) → IsTold form m → t ≡ moment_text_in form m → ⊥
+pub moment_missed : (form : MomentForm) (t : List ℕ) → moment_in form t ≡ None → (m : ℕ) → IsWritable form m → t ≡ moment_text_in form m → ⊥
 moment_missed form t none m h e =
     let f : None ≡ Some m = sym none ∙ ap (moment_in form) e ∙ moment_read form m h in
     cc

@@ -18,7 +18,7 @@ use Rattle.aprs_book.specs.Refusal.{refusal}
 use Rattle.aprs_book.specs.declared.row_cause.RowCause.{RowCause}
 use Rattle.aprs_book.specs.declared.row_cause.RowCause.TheVariants as row
 use Rattle.aprs_booktext.specs.Fault.{book_cause_of}
-use Rattle.aprs_booktext.specs.FirstFault.{FirstFault, IsWrong, missing, ReadsSo}
+use Rattle.aprs_booktext.specs.FirstFault.{FirstFault, IsWrong, ending_cause, ReadsSo}
 use Rattle.aprs_booktext.specs.Reader.{HasItsGap, HoldsIn, StandsAfter, IsFault, IsJudged, IsJudgedIn, is_done, line_number, lines_read, may_end}
 use Rattle.aprs_booktext.specs.Text.{row_line, end_line, lines_of, text_of_lines, ended_by_lf, book_text, IsBookRow, IsBookRows}
 use Rattle.aprs_booktext.specs.Version.{form_of, gap_of, header_of, IsVersion}
@@ -114,57 +114,72 @@ number_is (Done v) rows =
     let e : length (lines_of v rows) ≡ length (map (row_line (form_of v)) rows) + 2 = simp length-append (omega arith) in
     omega (arith, length-map rows (row_line (form_of v)), e)
 
-behind : (stage : Stage) (rows : List Row) (line t more : List ℕ) → StandsAfter stage rows line t → t ++ more ≡ text_of_lines (lines_read stage rows) ++ (line ++ more)
-behind stage rows line t more s = ap (λ l. l ++ more) s.text_is ∙ append_assoc (text_of_lines (lines_read stage rows)) line more
+and_more : (stage : Stage) (rows : List Row) (line t more : List ℕ) → StandsAfter stage rows line t → t ++ more ≡ text_of_lines (lines_read stage rows) ++ (line ++ more)
+and_more stage rows line t more s = ap (λ l. l ++ more) s.text_is ∙ append_assoc (text_of_lines (lines_read stage rows)) line more
 
 pub ended_fault : (stage : Stage) (old new : List Row) (line t more : List ℕ) (c : BookCause) → IsJudgedIn stage (Err c) old line new → StandsAfter stage old line t
     → IsFault (length more + 1) (record { line = line_number stage new; cause = c }) (t ++ 10 ∷ more)
 ended_fault Header old new line t more c j s = inr (λ e. record {
-  front = [];
+  lines = [];
   rest = line ++ 10 ∷ more;
-  whole = behind Header old line t (10 ∷ more) s;
+  whole = and_more Header old line t (10 ∷ more) s;
   line = refl;
-  fault = inl (refl, inr (record { line = line; more = more; is = refl; one = s.one; holds = j }));
+  fault = inl (record {
+    none_read = refl;
+    fault = inr (record { line = line; more = more; is = refl; one = s.one; holds = j });
+  });
 })
 ended_fault (Rows v) old new line t more c j s = elim j.0 [
   | inl m ↦ inl (record {
     refused = m;
-    front = header_of v ∷ map (row_line (form_of v)) old;
+    lines = header_of v ∷ map (row_line (form_of v)) old;
     line = line;
     more = 10 ∷ more;
-    whole = behind (Rows v) old line t (10 ∷ more) s;
+    whole = and_more (Rows v) old line t (10 ∷ more) s;
     one = s.one;
     near = omega arith;
     begins = inr (v, old, s.holds, refl);
     number = ap (λ (rows : List Row). length rows + 2) j.1 ∙ number_is (Rows v) old;
   })
   | inr w ↦ inr (λ e. record {
-    front = header_of v ∷ map (row_line (form_of v)) old;
+    lines = header_of v ∷ map (row_line (form_of v)) old;
     rest = line ++ 10 ∷ more;
-    whole = behind (Rows v) old line t (10 ∷ more) s;
+    whole = and_more (Rows v) old line t (10 ∷ more) s;
     line = ap (λ (rows : List Row). length rows + 2) j.1 ∙ number_is (Rows v) old;
-    fault = inr (v, old, s.holds, inl (refl, inr (record { line = line; more = more; is = refl; one = s.one; holds = w })));
+    fault = inr (inl (record {
+      version = v;
+      rows = old;
+      sound = s.holds;
+      read = refl;
+      fault = inr (record { line = line; more = more; is = refl; one = s.one; holds = w });
+    }));
   })
 ]
 ended_fault (Done v) old new line t more c j s =
     let is : c ≡ cause.After = (let e : Err c ≡ Err cause.After = j.0 in cc) in
     inr (λ e. record {
-      front = lines_of v old;
+      lines = lines_of v old;
       rest = line ++ 10 ∷ more;
-      whole = behind (Done v) old line t (10 ∷ more) s;
+      whole = and_more (Done v) old line t (10 ∷ more) s;
       line = ap (λ (rows : List Row). length rows + 3) j.1 ∙ number_is (Done v) old;
-      fault = inr (v, old, s.holds.0, inr (refl, inl (simp length-append (omega arith), is)));
+      fault = inr (inr (record {
+        version = v;
+        rows = old;
+        sound = s.holds.0;
+        read = refl;
+        fault = inl (simp length-append (omega arith), is);
+      }));
     })
 
--- memory is refused in the line that is read
+-- an allocation fails in the line that is read
 pub held_fault : (stage : Stage) (rows : List Row) (line t bytes more : List ℕ) → is_done stage ≡ false → StandsAfter stage rows line t
     → IsFault (length bytes + length more) (record { line = line_number stage rows; cause = cause.Memory }) ((t ++ bytes) ++ more)
 held_fault Header rows line t bytes more going s = inl (record {
   refused = refl;
-  front = [];
+  lines = [];
   line = line;
   more = bytes ++ more;
-  whole = append_assoc t bytes more ∙ behind Header rows line t (bytes ++ more) s;
+  whole = append_assoc t bytes more ∙ and_more Header rows line t (bytes ++ more) s;
   one = s.one;
   near = omega (arith, length-append bytes more);
   begins = inl refl;
@@ -172,10 +187,10 @@ held_fault Header rows line t bytes more going s = inl (record {
 })
 held_fault (Rows v) rows line t bytes more going s = inl (record {
   refused = refl;
-  front = header_of v ∷ map (row_line (form_of v)) rows;
+  lines = header_of v ∷ map (row_line (form_of v)) rows;
   line = line;
   more = bytes ++ more;
-  whole = append_assoc t bytes more ∙ behind (Rows v) rows line t (bytes ++ more) s;
+  whole = append_assoc t bytes more ∙ and_more (Rows v) rows line t (bytes ++ more) s;
   one = s.one;
   near = omega (arith, length-append bytes more);
   begins = inr (v, rows, s.holds, refl);
@@ -183,7 +198,7 @@ held_fault (Rows v) rows line t bytes more going s = inl (record {
 })
 held_fault (Done v) rows line t bytes more going s = absurd (let f : true ≡ false = going in cc)
 
--- bytes that are held behind those of the line
+-- bytes that are held after those of the line
 pub held_stands : (stage : Stage) (rows : List Row) (line t bytes : List ℕ) → is_done stage ≡ false → Lacks 10 bytes → StandsAfter stage rows line t → StandsAfter stage rows (line ++ bytes) (t ++ bytes)
 held_stands stage rows line t bytes going lacks s = record {
   text_is = ap (λ l. l ++ bytes) s.text_is ∙ append_assoc (text_of_lines (lines_read stage rows)) line bytes;
@@ -195,24 +210,30 @@ held_stands stage rows line t bytes going lacks s = record {
   holds (Rows v) going h = h
   holds (Done v) going h = absurd (let f : true ≡ false = going in cc)
 
--- none may be held behind the last line
+-- none may be held after the last line
 pub after_fault : (stage : Stage) (rows : List Row) (line t bytes more : List ℕ) → is_done stage ≡ true → 0 < length bytes → StandsAfter stage rows line t
     → IsFault (length bytes + length more) (record { line = line_number stage rows; cause = cause.After }) ((t ++ bytes) ++ more)
 after_fault Header rows line t bytes more done some s = absurd (let f : false ≡ true = done in cc)
 after_fault (Rows v) rows line t bytes more done some s = absurd (let f : false ≡ true = done in cc)
 after_fault (Done v) rows line t bytes more done some s = inr (λ e. record {
-  front = lines_of v rows;
+  lines = lines_of v rows;
   rest = line ++ (bytes ++ more);
-  whole = append_assoc t bytes more ∙ behind (Done v) rows line t (bytes ++ more) s;
+  whole = append_assoc t bytes more ∙ and_more (Done v) rows line t (bytes ++ more) s;
   line = number_is (Done v) rows;
-  fault = inr (v, rows, s.holds.0, inr (refl, inl (simp (length-append, length-append) (omega (arith, some)), refl)));
+  fault = inr (inr (record {
+    version = v;
+    rows = rows;
+    sound = s.holds.0;
+    read = refl;
+    fault = inl (simp (length-append, length-append) (omega (arith, some)), refl);
+  }));
 })
 
 pub fault_near : (few most : ℕ) (f : BookFault) (t : List ℕ) → few ≤ most → IsFault few f t → IsFault most f t
 fault_near few most f t less h = elim h [
   | inl m ↦ inl (record {
     refused = m.refused;
-    front = m.front;
+    lines = m.lines;
     line = m.line;
     more = m.more;
     whole = m.whole;
@@ -227,21 +248,33 @@ fault_near few most f t less h = elim h [
 -- ---- the end
 
 pub cut_fault : (stage : Stage) (rows : List Row) (line t : List ℕ) (e : Ending) → may_end stage e ≡ false → StandsAfter stage rows line t
-    → FirstFault t e (record { line = line_number stage rows; cause = missing e })
-cut_fault Header rows line t e may s = record { front = []; rest = line; whole = s.text_is; line = refl; fault = inl (refl, inl (s.one, refl)) }
+    → FirstFault t e (record { line = line_number stage rows; cause = ending_cause e })
+cut_fault Header rows line t e may s = record { lines = []; rest = line; whole = s.text_is; line = refl; fault = inl (record { none_read = refl; fault = inl (s.one, refl) }) }
 cut_fault (Rows v) rows line t e may s = record {
-  front = header_of v ∷ map (row_line (form_of v)) rows;
+  lines = header_of v ∷ map (row_line (form_of v)) rows;
   rest = line;
   whole = s.text_is;
   line = number_is (Rows v) rows;
-  fault = inr (v, rows, s.holds, inl (refl, inl (s.one, refl)));
+  fault = inr (inl (record {
+    version = v;
+    rows = rows;
+    sound = s.holds;
+    read = refl;
+    fault = inl (s.one, refl);
+  }));
 }
 cut_fault (Done v) rows line t e may s = record {
-  front = lines_of v rows;
+  lines = lines_of v rows;
   rest = line;
   whole = s.text_is;
   line = number_is (Done v) rows;
-  fault = inr (v, rows, s.holds.0, inr (refl, inr (s.holds.1, not_end e may, refl)));
+  fault = inr (inr (record {
+    version = v;
+    rows = rows;
+    sound = s.holds.0;
+    read = refl;
+    fault = inr (s.holds.1, not_end e may, refl);
+  }));
 } where
   not_end : (e : Ending) → may_end (Done v) e ≡ false → e ≢ ending.End
   not_end ending.End may = λ x. (let f : true ≡ false = may in cc)
@@ -292,35 +325,35 @@ keeps_gap v millis gap next (Err c) old line new j same own = tt
 
 -- ---- a piece, line by line
 
--- a front of the piece was read: what stood after t stands after t and that front
+-- a prefix of the piece was read: what stood after t stands after t and that prefix
 pub record Fed (P Q : List ℕ → Type 0) (piece rest : List ℕ) : Type 0 where
-  pub front : List ℕ
-  pub whole : piece ≡ front ++ rest
-  pub fed : (t : List ℕ) → P t → Q (t ++ front)
+  pub prefix : List ℕ
+  pub whole : piece ≡ prefix ++ rest
+  pub fed : (t : List ℕ) → P t → Q (t ++ prefix)
 
 pub Fed-none : (P : List ℕ → Type 0) (piece : List ℕ) → Fed P P piece piece
-Fed-none P piece = record { front = []; whole = refl; fed = λ t p. subst P (sym (append-nil t)) p }
+Fed-none P piece = record { prefix = []; whole = refl; fed = λ t p. subst P (sym (append-nil t)) p }
 
 module _ (P Q : List ℕ → Type 0) (piece rest part after : List ℕ) (p : Fed P Q piece rest) (cuts : rest ≡ part ++ 10 ∷ after) where
   pub Fed-line : (R : List ℕ → Type 0) → ((t : List ℕ) → Q t → R ((t ++ part) ++ 10 ∷ [])) → Fed P R piece after
   Fed-line R step = record {
-    front = p.front ++ (part ++ 10 ∷ []);
-    whole = p.whole ∙ ap (λ r. p.front ++ r) (cuts ∙ sym (append_assoc part (10 ∷ []) after)) ∙ sym (append_assoc p.front (part ++ 10 ∷ []) after);
-    fed = λ t h. subst R (append_assoc (t ++ p.front) part (10 ∷ []) ∙ append_assoc t p.front (part ++ 10 ∷ [])) (step (t ++ p.front) (p.fed t h));
+    prefix = p.prefix ++ (part ++ 10 ∷ []);
+    whole = p.whole ∙ ap (λ r. p.prefix ++ r) (cuts ∙ sym (append_assoc part (10 ∷ []) after)) ∙ sym (append_assoc p.prefix (part ++ 10 ∷ []) after);
+    fed = λ t h. subst R (append_assoc (t ++ p.prefix) part (10 ∷ []) ∙ append_assoc t p.prefix (part ++ 10 ∷ [])) (step (t ++ p.prefix) (p.fed t h));
   }
 
   -- a fault in the part, or at its end
   pub Fed-fault : (F : List ℕ → Type 0) → ((t : List ℕ) → Q t → F ((t ++ part) ++ 10 ∷ after)) → (t : List ℕ) → P t → F (t ++ piece)
   Fed-fault F fault t h =
-      subst F (append_assoc (t ++ p.front) part (10 ∷ after) ∙ append_assoc t p.front (part ++ 10 ∷ after) ∙ ap (λ l. t ++ l) (ap (λ r. p.front ++ r) (sym cuts) ∙ sym p.whole))
-      (fault (t ++ p.front) (p.fed t h))
+      subst F (append_assoc (t ++ p.prefix) part (10 ∷ after) ∙ append_assoc t p.prefix (part ++ 10 ∷ after) ∙ ap (λ l. t ++ l) (ap (λ r. p.prefix ++ r) (sym cuts) ∙ sym p.whole))
+      (fault (t ++ p.prefix) (p.fed t h))
 
 pub Fed-all : (P Q : List ℕ → Type 0) (piece rest : List ℕ) → Fed P Q piece rest → (R : List ℕ → Type 0) → ((t : List ℕ) → Q t → R (t ++ rest)) → (t : List ℕ) → P t → R (t ++ piece)
-Fed-all P Q piece rest p R last t h = subst R (append_assoc t p.front rest ∙ ap (λ l. t ++ l) (sym p.whole)) (last (t ++ p.front) (p.fed t h))
+Fed-all P Q piece rest p R last t h = subst R (append_assoc t p.prefix rest ∙ ap (λ l. t ++ l) (sym p.whole)) (last (t ++ p.prefix) (p.fed t h))
 
 -- what is left of the piece is no longer than it
 pub Fed-len : (P Q : List ℕ → Type 0) (piece rest : List ℕ) → Fed P Q piece rest → length rest ≤ length piece
-Fed-len P Q piece rest p = let l = length-append p.front rest in omega (arith, l, ap length p.whole)
+Fed-len P Q piece rest p = let l = length-append p.prefix rest in omega (arith, l, ap length p.whole)
 
 pub Fed-rest : (P Q : List ℕ → Type 0) (piece rest part after : List ℕ) → Fed P Q piece rest → rest ≡ part ++ 10 ∷ after → length part + (length after + 1) ≤ length piece
 Fed-rest P Q piece rest part after p cuts =

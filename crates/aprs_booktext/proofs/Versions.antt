@@ -34,7 +34,7 @@ header_lacks (Three g) h = (refl, (refl, (refl, (refl, (refl, (refl, (refl, (ref
 mark : (v w : Version) → header_of v ≡ header_of w → get_or (header_of v) 9 0 ≡ get_or (header_of w) 9 0
 mark v w e = ap (λ l. get_or l 9 0) e
 
--- tells the version, and what stands behind it the gap
+-- says which version it is, and what follows it the gap
 pub headers_differ : (v w : Version) → IsVersion v → IsVersion w → header_of v ≡ header_of w → v ≡ w
 headers_differ One One h k e = refl
 headers_differ One Two h k e = let n : 49 ≡ 50 = mark One Two e in absurd (omega (arith, n))

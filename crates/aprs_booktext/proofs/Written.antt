@@ -12,7 +12,7 @@ use Rattle.aprs_laws.specs.Sound.{Sound}
 use Rattle.aprs_laws.proofs.Lists.{in_right}
 use Rattle.aprs_book.specs.Shown.{row_of}
 use Rattle.aprs_booktext.specs.Outbox.{AreSpelled}
-use Rattle.aprs_booktext.specs.Text.{IsBookRow, IsBookRows, IsTold, written_version}
+use Rattle.aprs_booktext.specs.Text.{IsBookRow, IsBookRows, IsWritable, written_version}
 
 pub on_ok : {T E P : Type 0} (r : Result T E) → P → OnOk r P
 on_ok (Ok x) p = p
@@ -20,7 +20,7 @@ on_ok (Err e) p = tt
 
 -- the row of what its parts spell
 pub row_written : (first last : ℕ) (names : List (List ℕ)) (who bytes : List ℕ) (row : Row) → row_of first last names who bytes ≡ row
-    → IsTold Millis first × IsTold Millis last → All IsName names → AreSpelled who bytes → 0 < length row.receivers → IsBookRow Millis row
+    → IsWritable Millis first × IsWritable Millis last → All IsName names → AreSpelled who bytes → 0 < length row.receivers → IsBookRow Millis row
 row_written first last names who bytes row e moments names_are s some =
     let here : 0 < length names = subst (λ (x : Row). 0 < length x.receivers) (sym e) some in
     let is : IsBookRow Millis (row_of first last names who bytes) = record {
@@ -41,27 +41,27 @@ some_of x (y ∷ ys) h = omega arith
 
 -- those that were written so far are rows of books
 pub record WrittenSoFar (all rest : List Row) : Type 0 where
-  pub front : List Row
-  pub whole : all ≡ front ++ rest
-  pub each : All (IsBookRow Millis) front
+  pub prefix : List Row
+  pub whole : all ≡ prefix ++ rest
+  pub each : All (IsBookRow Millis) prefix
 
 pub WrittenSoFar-none : (all : List Row) → WrittenSoFar all all
-WrittenSoFar-none all = record { front = []; whole = refl; each = All-nil (IsBookRow Millis) }
+WrittenSoFar-none all = record { prefix = []; whole = refl; each = All-nil (IsBookRow Millis) }
 
 pub WrittenSoFar-more : (gap : ℕ) (all rest more : List Row) (x : Row) → Sound gap all → WrittenSoFar all rest → rest ≡ x ∷ more → (0 < length x.receivers → IsBookRow Millis x)
     → WrittenSoFar all more
 WrittenSoFar-more gap all rest more x sound p next is =
-    let cut : all ≡ p.front ++ x ∷ more = p.whole ∙ ap (λ r. p.front ++ r) next in
-    let own = sound.each x (subst (λ l. x ∈ l) (sym cut) (in_right x p.front (x ∷ more) (inl refl))) in
+    let cut : all ≡ p.prefix ++ x ∷ more = p.whole ∙ ap (λ r. p.prefix ++ r) next in
+    let own = sound.each x (subst (λ l. x ∈ l) (sym cut) (in_right x p.prefix (x ∷ more) (inl refl))) in
     record {
-      front = p.front ++ x ∷ [];
-      whole = cut ∙ sym (append_assoc p.front (x ∷ []) more);
-      each = All-push (IsBookRow Millis) p.front x p.each (is (some_of x.greatest.receiver x.receivers own.receiver));
+      prefix = p.prefix ++ x ∷ [];
+      whole = cut ∙ sym (append_assoc p.prefix (x ∷ []) more);
+      each = All-push (IsBookRow Millis) p.prefix x p.each (is (some_of x.greatest.receiver x.receivers own.receiver));
     }
 
 pub WrittenSoFar-all : (book : BookValue) (rest : List Row) → IsSoundBook book → WrittenSoFar book.rows rest → rest ≡ [] → IsBookRows (written_version book) book.rows
 WrittenSoFar-all book rest h p e = record {
   version = h.range;
   sound = h.sound;
-  each = subst (All (IsBookRow Millis)) (sym (p.whole ∙ ap (λ r. p.front ++ r) e ∙ append-nil p.front)) p.each;
+  each = subst (All (IsBookRow Millis)) (sym (p.whole ∙ ap (λ r. p.prefix ++ r) e ∙ append-nil p.prefix)) p.each;
 }

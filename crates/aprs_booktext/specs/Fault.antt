@@ -5,6 +5,7 @@ use Rattle.aprs_book.specs.declared.row_cause.RowCause.TheVariants as row
 use Rattle.aprs_booktext.specs.declared.fault.BookCause.{BookCause}
 use Rattle.aprs_booktext.specs.declared.fault.BookCause.TheVariants as cause
 
+-- its number, in the order in which the causes are declared
 abbrev pub book_cause_number : BookCause → ℕ
 book_cause_number cause.Header = 1
 book_cause_number cause.RowSyntax = 2
@@ -20,6 +21,7 @@ book_cause_number cause.Read = 11
 book_cause_number cause.TooLong = 12
 book_cause_number cause.Memory = 13
 
+-- its name, that of the variant
 abbrev pub book_cause_name : BookCause → List ℕ
 book_cause_name cause.Header = codes "Header"
 book_cause_name cause.RowSyntax = codes "RowSyntax"
@@ -35,7 +37,7 @@ book_cause_name cause.Read = codes "Read"
 book_cause_name cause.TooLong = codes "TooLong"
 book_cause_name cause.Memory = codes "Memory"
 
--- why a row is refused, as a text's cause
+-- why a row is refused, as the cause of a text's fault
 abbrev pub book_cause_of : RowCause → BookCause
 book_cause_of row.Order = cause.Order
 book_cause_of row.Span = cause.Span

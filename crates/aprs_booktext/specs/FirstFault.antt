@@ -1,11 +1,11 @@
--- The first fault of a text that isn't that of a book. It lies right behind the longest front of
+-- The first fault of a text that isn't that of a book. It lies right after the longest prefix of
 -- lines that a book's text may begin with, in some version.
 use Rattle.std.specs.Prelude.{◌≡◌, ◌≢◌, ℕ, ◌+◌, ◌<◌, ◌≤◌, ◌==◌, ◌⊎◌, Bool, false, true, List, [], ◌∷◌, ◌++◌, length, map, codes, Option, Some, Result, Ok, Err, IsErr}
 use Rattle.std.specs.List.{starts_with}
 use Rattle.aprs_ax25.specs.FrameFault.{frame_of}
 use Rattle.aprs_log.specs.LogAnswers.{Gets}
 use Rattle.aprs_log.specs.declared.Ending.{Ending}
-use Rattle.aprs_log.specs.declared.Ending.TheVariants as ending
+use Rattle.aprs_log.specs.declared.Ending.TheVariants as how
 use Rattle.aprs_log.specs.declared.moment_form.MomentForm.{MomentForm}
 use Rattle.aprs_laws.specs.BookValue.{BookValue}
 use Rattle.aprs_laws.specs.Gap.{millis_of}
@@ -14,62 +14,71 @@ use Rattle.aprs_book.specs.Refusal.{refusal}
 use Rattle.aprs_book.specs.declared.row_cause.RowCause.{RowCause}
 use Rattle.aprs_book.specs.declared.row_cause.RowCause.TheVariants as row
 use Rattle.aprs_booktext.specs.Lines.{Lacks}
-use Rattle.aprs_booktext.specs.Text.{row_line, end_line, lines_of, text_of_lines, book_text, IsSpelled, IsBookRow, IsBookRows}
+use Rattle.aprs_booktext.specs.Text.{row_line, end_line, lines_of, text_of_lines, book_of, book_text, IsSpelled, IsBookRow, IsBookRows}
 use Rattle.aprs_booktext.specs.Version.{form_of, gap_of, header_of, IsVersion}
 use Rattle.aprs_booktext.specs.declared.fault.BookCause.{BookCause}
-use Rattle.aprs_booktext.specs.declared.fault.BookCause.TheVariants as cause
+use Rattle.aprs_booktext.specs.declared.fault.BookCause.TheVariants as why
 use Rattle.aprs_booktext.specs.declared.fault.BookFault.{BookFault}
+use Rattle.aprs_booktext.specs.declared.read.TheConstants.{CHUNK}
 use Rattle.aprs_booktext.specs.declared.version.Version.{Version}
 
--- ---- what is wrong with a line behind the lines of some rows
+-- ---- what is wrong with a line after the lines of some rows
 
+-- the line begins as a book's last line does
 abbrev pub is_end : List ℕ → Bool
 is_end line = starts_with ◌==◌ line (codes "END")
 
--- the line spells a row that can't be added to these, and why
+-- The line spells a row that can't be added to these rows, for this reason.
 pub record IsRefused (gap : ℕ) (form : MomentForm) (rows : List Row) (line : List ℕ)
-    (why : RowCause) : Type 0 where
+    (reason : RowCause) : Type 0 where
   pub row : Row
   pub is : IsBookRow form row
   pub spelled : line ≡ row_line form row
-  pub refused : refusal gap rows row ≡ Some why
+  pub refused : refusal gap rows row ≡ Some reason
 
--- the line spells a row but for its frame, which is none
+-- The line spells a row but for its frame, whose bytes aren't a UI frame.
 pub record HasNoFrame (form : MomentForm) (line : List ℕ) : Type 0 where
   pub row : Row
   pub is : IsSpelled form row
   pub spelled : line ≡ row_line form row
   pub refused : IsErr (frame_of row.greatest.frame)
 
+-- After these rows the line is wrong for this cause: it begins as the last line and isn't that of
+-- so many rows, or it spells no row, or one whose frame is none, or one that can't be added.
 abbrev pub IsWrong : ℕ → MomentForm → List Row → List ℕ → BookCause → Type 0
-IsWrong gap form rows line cause.Ending = (is_end line ≡ true) × (line ≢ end_line (length rows))
-IsWrong gap form rows line cause.RowSyntax =
+IsWrong gap form rows line why.Ending = (is_end line ≡ true) × (line ≢ end_line (length rows))
+IsWrong gap form rows line why.RowSyntax =
     (is_end line ≡ false) × ((x : Row) → IsSpelled form x → line ≢ row_line form x)
-IsWrong gap form rows line cause.Frame = HasNoFrame form line
-IsWrong gap form rows line cause.Order = IsRefused gap form rows line row.Order
-IsWrong gap form rows line cause.Span = IsRefused gap form rows line row.Span
-IsWrong gap form rows line cause.Near = IsRefused gap form rows line row.Near
-IsWrong gap form rows line cause.Receivers = IsRefused gap form rows line row.Receivers
-IsWrong gap form rows line cause.NotGreatest = IsRefused gap form rows line row.NotGreatest
-IsWrong gap form rows line cause.Header = ⊥
-IsWrong gap form rows line cause.After = ⊥
-IsWrong gap form rows line cause.Read = ⊥
-IsWrong gap form rows line cause.TooLong = ⊥
-IsWrong gap form rows line cause.Memory = ⊥
+IsWrong gap form rows line why.Frame = HasNoFrame form line
+IsWrong gap form rows line why.Order = IsRefused gap form rows line row.Order
+IsWrong gap form rows line why.Span = IsRefused gap form rows line row.Span
+IsWrong gap form rows line why.Near = IsRefused gap form rows line row.Near
+IsWrong gap form rows line why.Receivers = IsRefused gap form rows line row.Receivers
+IsWrong gap form rows line why.NotGreatest = IsRefused gap form rows line row.NotGreatest
+IsWrong gap form rows line why.Header = ⊥
+IsWrong gap form rows line why.After = ⊥
+IsWrong gap form rows line why.Read = ⊥
+IsWrong gap form rows line why.TooLong = ⊥
+IsWrong gap form rows line why.Memory = ⊥
 
--- ---- what follows some sound lines
+-- The line is the header of no version.
+abbrev pub IsNoHeader : List ℕ → BookCause → Type 0
+IsNoHeader line cause =
+    ((version : Version) → IsVersion version → line ≢ header_of version) × (cause ≡ why.Header)
 
--- why a byte is missing that had to come
-abbrev pub missing : Ending → BookCause
-missing ending.End = cause.Ending
-missing ending.Read = cause.Read
-missing ending.TooLong = cause.TooLong
+-- ---- what is wrong with the rest of a text, after whole lines
 
--- a line that isn't finished
+-- the cause of a fault where a byte had to come and the input ended so
+abbrev pub ending_cause : Ending → BookCause
+ending_cause how.End = why.Ending
+ending_cause how.Read = why.Read
+ending_cause how.TooLong = why.TooLong
+
+-- The rest is a line that isn't finished: it has no LF, and the cause says how the input ended.
 abbrev pub IsCut : List ℕ → Ending → BookCause → Type 0
-IsCut rest e c = Lacks 10 rest × (c ≡ missing e)
+IsCut rest ending cause = Lacks 10 rest × (cause ≡ ending_cause ending)
 
--- a whole line of which P holds
+-- The rest begins with a whole line, of which P holds.
 pub record HasLine (rest : List ℕ) (P : List ℕ → Type 0) : Type 0 where
   pub line : List ℕ
   pub more : List ℕ
@@ -77,85 +86,114 @@ pub record HasLine (rest : List ℕ) (P : List ℕ → Type 0) : Type 0 where
   pub one : Lacks 10 line
   pub holds : P line
 
-abbrev pub FaultAtStart : List ℕ → Ending → BookCause → Type 0
-FaultAtStart rest e c =
-    IsCut rest e c
-    ⊎ HasLine rest (λ line. ((v : Version) → IsVersion v → line ≢ header_of v)
-    × (c ≡ cause.Header))
+-- The first line isn't finished, or it is no header.
+abbrev pub HeaderFault : List ℕ → Ending → BookCause → Type 0
+HeaderFault rest ending cause =
+    IsCut rest ending cause ⊎ HasLine rest (λ line. IsNoHeader line cause)
 
-abbrev pub FaultAfterRows : Version → List Row → List ℕ → Ending → BookCause → Type 0
-FaultAfterRows v rows rest e c = IsCut rest e c
-    ⊎ HasLine rest (λ line. IsWrong (millis_of (gap_of v)) (form_of v) rows line c)
+-- The line after these rows isn't finished, or it is wrong.
+abbrev pub LineFault : Version → List Row → List ℕ → Ending → BookCause → Type 0
+LineFault version rows rest ending cause = IsCut rest ending cause
+    ⊎ HasLine rest
+    (λ line. IsWrong (millis_of (gap_of version)) (form_of version) rows line cause)
 
--- nothing may follow the last line, and that has to be seen
-abbrev pub FaultAtEnd : List ℕ → Ending → BookCause → Type 0
-FaultAtEnd rest e c = ((0 < length rest) × (c ≡ cause.After))
-    ⊎ ((rest ≡ []) × (e ≢ ending.End) × (c ≡ missing e))
+-- Something follows the last line, or it wasn't seen that nothing does.
+abbrev pub EndFault : List ℕ → Ending → BookCause → Type 0
+EndFault rest ending cause = ((0 < length rest) × (cause ≡ why.After))
+    ⊎ ((rest ≡ []) × (ending ≢ how.End) × (cause ≡ ending_cause ending))
 
--- ---- the fault of a text behind which `e` came
+-- ---- the three places of a fault
 
--- the lines in front are the header and those of rows, and then the last one or not
-abbrev pub FaultBehindLines : Version → List Row → List (List ℕ) → List ℕ → Ending → BookCause
-    → Type 0
-FaultBehindLines v rows front rest e c =
-    ((front ≡ header_of v ∷ map (row_line (form_of v)) rows) × FaultAfterRows v rows rest e c)
-    ⊎ ((front ≡ lines_of v rows) × FaultAtEnd rest e c)
+-- A fault at the header: no line was read before it.
+pub record AtHeader (lines : List (List ℕ)) (rest : List ℕ) (ending : Ending) (cause : BookCause)
+    : Type 0 where
+  pub none_read : lines ≡ []
+  pub fault : HeaderFault rest ending cause
 
-abbrev pub FaultBehind : List (List ℕ) → List ℕ → Ending → BookCause → Type 0
-FaultBehind front rest e c = ((front ≡ []) × FaultAtStart rest e c)
-    ⊎ ((v : Version) × (rows : List Row) × IsBookRows v rows
-    × FaultBehindLines v rows front rest e c)
+-- A fault among the rows: a version's header and the lines of sound rows were read before it, and
+-- the next line is at fault.
+pub record AmongRows (lines : List (List ℕ)) (rest : List ℕ) (ending : Ending) (cause : BookCause)
+    : Type 0 where
+  pub version : Version
+  pub rows : List Row
+  pub sound : IsBookRows version rows
+  pub read : lines ≡ header_of version ∷ map (row_line (form_of version)) rows
+  pub fault : LineFault version rows rest ending cause
 
-pub record FirstFault (text : List ℕ) (e : Ending) (f : BookFault) : Type 0 where
-  pub front : List (List ℕ)
+-- A fault past the end: all lines of a book were read before it, and something follows the last, or
+-- the input's end wasn't seen.
+pub record PastEnd (lines : List (List ℕ)) (rest : List ℕ) (ending : Ending) (cause : BookCause)
+    : Type 0 where
+  pub version : Version
+  pub rows : List Row
+  pub sound : IsBookRows version rows
+  pub read : lines ≡ lines_of version rows
+  pub fault : EndFault rest ending cause
+
+-- After these lines, the rest is at fault: at the header, among the rows or past the end.
+abbrev pub FaultAfter : List (List ℕ) → List ℕ → Ending → BookCause → Type 0
+FaultAfter lines rest ending cause = AtHeader lines rest ending cause
+    ⊎ (AmongRows lines rest ending cause ⊎ PastEnd lines rest ending cause)
+
+-- The first fault of a text after which this ending came: the text is some lines and a rest that is
+-- at fault after them, and the fault's line is the one after those.
+pub record FirstFault (text : List ℕ) (ending : Ending) (found : BookFault) : Type 0 where
+  pub lines : List (List ℕ)
   pub rest : List ℕ
-  pub whole : text ≡ text_of_lines front ++ rest
-  pub line : f.line ≡ length front + 1
-  pub fault : FaultBehind front rest e f.cause
+  pub whole : text ≡ text_of_lines lines ++ rest
+  pub line : found.line ≡ length lines + 1
+  pub fault : FaultAfter lines rest ending found.cause
 
--- ---- where memory was refused
+-- ---- where an allocation failed
 
--- a book's text may begin with these lines, none of which is its last
+-- A book's text may begin with these lines, none of which is its last.
 abbrev pub BeginsBook : List (List ℕ) → Type 0
-BeginsBook front = (front ≡ [])
-    ⊎ ((v : Version) × (rows : List Row) × IsBookRows v rows
-    × (front ≡ header_of v ∷ map (row_line (form_of v)) rows))
+BeginsBook lines = (lines ≡ [])
+    ⊎ ((version : Version) × (rows : List Row) × IsBookRows version rows
+    × (lines ≡ header_of version ∷ map (row_line (form_of version)) rows))
 
--- memory was refused in the line after those in front, where `line` was read of it, and of the
--- text at most `most` bytes more
-pub record IsMemoryAt (most : ℕ) (text : List ℕ) (f : BookFault) : Type 0 where
-  pub refused : f.cause ≡ cause.Memory
-  pub front : List (List ℕ)
+-- An allocation failed in the line after these lines, when its prefix `line` was read and at most
+-- `most` bytes more of the text.
+pub record IsMemoryAt (most : ℕ) (text : List ℕ) (fault : BookFault) : Type 0 where
+  pub refused : fault.cause ≡ why.Memory
+  pub lines : List (List ℕ)
   pub line : List ℕ
   pub more : List ℕ
-  pub whole : text ≡ text_of_lines front ++ (line ++ more)
+  pub whole : text ≡ text_of_lines lines ++ (line ++ more)
   pub one : Lacks 10 line
   pub near : length more ≤ most
-  pub begins : BeginsBook front
-  pub number : f.line ≡ length front + 1
+  pub begins : BeginsBook lines
+  pub number : fault.line ≡ length lines + 1
 
 -- ---- how a text is read
 
 -- how many bytes are asked of a device at once, at most
 abbrev pub piece_most : ℕ
-piece_most = 16384
+piece_most = CHUNK
 
--- a book is read of the text of its rows in some version of its gap alone, and nothing but that; a
--- fault is the first, unless memory was refused before, in the line that was being read
+-- A book is read where the text is that of its rows in some version of its gap, and the end came
+-- after it. A fault is the text's first, or an allocation failed before it.
 abbrev pub ReadsSo : Result BookValue BookFault → List ℕ → Ending → Type 0
-ReadsSo (Ok book) text e = (v : Version) × (book.gap ≡ gap_of v) × (text ≡ book_text v book.rows)
-    × IsBookRows v book.rows × (e ≡ ending.End)
-ReadsSo (Err f) text e = IsMemoryAt piece_most text f ⊎ FirstFault text e f
+ReadsSo (Ok book) text ending = (version : Version) × (book.gap ≡ gap_of version)
+    × (text ≡ book_text version book.rows) × IsBookRows version book.rows × (ending ≡ how.End)
+ReadsSo (Err fault) text ending = IsMemoryAt piece_most text fault ⊎ FirstFault text ending fault
 
--- some bytes were got of the input, behind its head, at most `limit`, and they are read so
+-- Of the input some bytes were got after its head, at most `limit` with it, and head and bytes are
+-- read so.
 pub record Reads (limit : ℕ) (head input : List ℕ) (after : Option (List ℕ))
-    (r : Result BookValue BookFault) : Type 0 where
+    (answer : Result BookValue BookFault) : Type 0 where
   pub got : List ℕ
   pub ending : Ending
   pub gets : Gets limit (head ++ input) after (head ++ got) ending
-  pub reads : ReadsSo r (head ++ got) ending
+  pub reads : ReadsSo answer (head ++ got) ending
 
--- this book, or memory was refused
+-- The answer is this book, or an allocation failed.
 abbrev pub IsBookOrMemory : Result BookValue BookFault → BookValue → Type 0
 IsBookOrMemory (Ok found) book = found ≡ book
-IsBookOrMemory (Err f) book = f.cause ≡ cause.Memory
+IsBookOrMemory (Err fault) book = fault.cause ≡ why.Memory
+
+-- The text of a book in any version is read, where it is short enough and no read failed.
+abbrev pub AcceptsBook : ℕ → List ℕ → Result BookValue BookFault → Type 0 → Type 0
+AcceptsBook limit text answer Failed = (version : Version) (rows : List Row)
+    → IsBookRows version rows → text ≡ book_text version rows → length text ≤ limit
+    → (Failed → ⊥) → IsBookOrMemory answer (book_of version rows)

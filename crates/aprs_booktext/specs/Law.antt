@@ -1,68 +1,70 @@
 -- What holds of all texts of books.
 use Rattle.std.specs.Prelude.{◌≡◌, ◌≢◌, ℕ, ◌^◌, ◌<◌, ◌≤◌, ◌⊎◌, ◌↔◌, List, [], ◌++◌, length, All, Option, Result, Ok, IfErr}
+use Rattle.aprs_io.specs.declared.input.TheConstants.{MAX_INPUT}
 use Rattle.aprs_log.specs.declared.Ending.{Ending}
-use Rattle.aprs_log.specs.declared.Ending.TheVariants as ending
+use Rattle.aprs_log.specs.declared.Ending.TheVariants as how
 use Rattle.aprs_log.specs.Reception.{Heard}
 use Rattle.aprs_laws.specs.BookValue.{BookValue, Holds}
 use Rattle.aprs_laws.specs.Row.{Row}
-use Rattle.aprs_booktext.specs.FirstFault.{FirstFault, IsBookOrMemory, missing, Reads}
+use Rattle.aprs_booktext.specs.FirstFault.{FirstFault, IsBookOrMemory, ending_cause, Reads}
 use Rattle.aprs_booktext.specs.Text.{book_of, book_text, IsBookRow, IsBookRows, written_text, written_version}
 use Rattle.aprs_booktext.specs.Version.{form_of, gap_of, IsVersion}
-use Rattle.aprs_booktext.specs.declared.fault.BookCause.TheVariants as cause
+use Rattle.aprs_booktext.specs.declared.fault.BookCause.TheVariants as why
 use Rattle.aprs_booktext.specs.declared.fault.BookFault.{BookFault}
 use Rattle.aprs_booktext.specs.declared.version.Version.{Version}
 
--- equal texts are of one version and of equal rows
+-- Equal texts are of one version and of equal rows.
 abbrev pub HaveOneText : Type 0
 HaveOneText = (v w : Version) (a b : List Row) → IsBookRows v a → IsBookRows w b
     → book_text v a ≡ book_text w b → (v ≡ w) × (a ≡ b)
 
--- books that are written as equal texts are equal
+-- Books that are written as equal texts are equal.
 abbrev pub TellBooksApart : Type 0
 TellBooksApart = (a b : BookValue) → IsBookRows (written_version a) a.rows
     → IsBookRows (written_version b) b.rows → written_text a ≡ written_text b → a ≡ b
 
--- a fault in the front of a book's text is that a byte is missing behind it, as one is unless
--- that front is the whole text
+-- A fault in a prefix of a book's text is that a byte had to come after it; and where the input
+-- ended there, the prefix isn't the whole text.
 abbrev pub AreCutShort : Type 0
 AreCutShort = (v : Version) (rows : List Row) → IsBookRows v rows → length rows < 2 ^ 64
-    → (text more : List ℕ) (e : Ending) (f : BookFault) → text ++ more ≡ book_text v rows
-    → FirstFault text e f → (f.cause ≡ missing e) × (e ≡ ending.End → more ≢ [])
+    → (text more : List ℕ) (ending : Ending) (fault : BookFault) → text ++ more ≡ book_text v rows
+    → FirstFault text ending fault
+    → (fault.cause ≡ ending_cause ending) × (ending ≡ how.End → more ≢ [])
 
--- an input that is the text of a book gives that book, unless it is longer than the limit, a read
--- failed or memory was refused
+-- An input that is the text of a book gives that book, unless it is longer than the limit, a read
+-- failed or an allocation failed.
 abbrev pub AreReadBack : Type 0
 AreReadBack = (v : Version) (rows : List Row) → IsBookRows v rows
-    → (limit : ℕ) → limit ≤ 1073741824
+    → (limit : ℕ) → limit ≤ MAX_INPUT
     → length (book_text v rows) ≤ limit → (after : Option (List ℕ))
-    → (r : Result BookValue BookFault) → Reads limit [] (book_text v rows) after r
-    → IfErr r (λ f. f.cause ≢ cause.Read) → IsBookOrMemory r (book_of v rows)
+    → (answer : Result BookValue BookFault) → Reads limit [] (book_text v rows) after answer
+    → IfErr answer (λ fault. fault.cause ≢ why.Read) → IsBookOrMemory answer (book_of v rows)
 
--- a text has at most one first fault, for each way of ending
+-- A text has at most one first fault, for each way of ending.
 abbrev pub HaveOneFaultAtMost : Type 0
-HaveOneFaultAtMost = (text : List ℕ) (e : Ending) (f g : BookFault) → length text < 2 ^ 64
-    → FirstFault text e f → FirstFault text e g → f ≡ g
+HaveOneFaultAtMost = (text : List ℕ) (ending : Ending) (f g : BookFault) → length text < 2 ^ 64
+    → FirstFault text ending f → FirstFault text ending g → f ≡ g
 
--- the text is that of a book in some version, and the end came after it
-pub record IsBookText (text : List ℕ) (e : Ending) : Type 0 where
+-- The text is that of a book in some version, and the end came after it.
+pub record IsBookText (text : List ℕ) (ending : Ending) : Type 0 where
   pub version : Version
   pub rows : List Row
   pub is : IsBookRows version rows
   pub text_is : text ≡ book_text version rows
-  pub ended : e ≡ ending.End
+  pub ended : ending ≡ how.End
 
--- a text that isn't the whole text of a book has a first fault
+-- A text that isn't the whole text of a book has a first fault.
 abbrev pub HaveFaultOrBook : Type 0
-HaveFaultOrBook = (text : List ℕ) (e : Ending)
-    → IsBookText text e ⊎ ((f : BookFault) × FirstFault text e f)
+HaveFaultOrBook = (text : List ℕ) (ending : Ending)
+    → IsBookText text ending ⊎ ((fault : BookFault) × FirstFault text ending fault)
 
--- and one that is has none
+-- A text that is the whole text of a book has no fault.
 abbrev pub BooksAreFaultless : Type 0
-BooksAreFaultless = (text : List ℕ) (e : Ending) (f : BookFault) → length text < 2 ^ 64
-    → IsBookText text e → FirstFault text e f → ⊥
+BooksAreFaultless = (text : List ℕ) (ending : Ending) (fault : BookFault) → length text < 2 ^ 64
+    → IsBookText text ending → FirstFault text ending fault → ⊥
 
--- the text is that of the book of these receptions in some version, under its gap, and each row
--- can be spelled in it
+-- The text is that of the book of these receptions in some version, under its gap, and each row
+-- can be spelled in it.
 pub record IsTextOfSet (S : List Heard) (text : List ℕ) : Type 0 where
   pub version : Version
   pub is : IsVersion version
@@ -71,13 +73,13 @@ pub record IsTextOfSet (S : List Heard) (text : List ℕ) : Type 0 where
   pub each : All (IsBookRow (form_of version)) rows
   pub text_is : text ≡ book_text version rows
 
--- the whole texts of books are exactly the texts of sets' books
+-- The whole texts of books are exactly the texts of sets' books.
 abbrev pub AreOfSets : Type 0
 AreOfSets = (text : List ℕ)
-    → IsBookText text ending.End ↔ ((S : List Heard) × IsTextOfSet S text)
+    → IsBookText text how.End ↔ ((S : List Heard) × IsTextOfSet S text)
 
--- the text is that of the book's rows in some version of its gap, the book can be written too, and
--- that gives the same text exactly if it is of the version that is written
+-- The text is that of the book's rows in some version of its gap, the book can be written too, and
+-- that gives the same text exactly if it is of the version that is written.
 pub record IsWrittenBack (book : BookValue) (text : List ℕ) : Type 0 where
   pub version : Version
   pub gap_is : book.gap ≡ gap_of version
@@ -85,7 +87,7 @@ pub record IsWrittenBack (book : BookValue) (text : List ℕ) : Type 0 where
   pub written : IsBookRows (written_version book) book.rows
   pub same : (written_text book ≡ text) ↔ (version ≡ written_version book)
 
--- so it is with all of an input, with its head, that a book was read of
+-- A book that was read of an input, with its head, is written back so.
 abbrev pub AreWrittenBack : Type 0
 AreWrittenBack = (limit : ℕ) (head input : List ℕ) (after : Option (List ℕ)) (book : BookValue)
     → Reads limit head input after (Ok book) → IsWrittenBack book (head ++ input)

@@ -2,13 +2,14 @@
 use Rattle.std.specs.Prelude.{◌≡◌, ℕ, ◌==◌, Bool, false, List}
 use Rattle.std.specs.List.{AllByRecursion, slice_split}
 
+-- whether the byte is `stop`
 abbrev pub is_byte : ℕ → ℕ → Bool
 is_byte stop b = b == stop
 
--- no byte of the text is `stop`
+-- No byte of the text is `stop`.
 abbrev pub Lacks : ℕ → List ℕ → Type 0
 Lacks stop text = AllByRecursion (λ b. is_byte stop b ≡ false) text
 
--- what stands before, between and after the bytes that are `stop`
+-- the parts of the text before, between and after the bytes that are `stop`
 abbrev pub pieces : ℕ → List ℕ → List (List ℕ)
 pieces stop text = slice_split (is_byte stop) text

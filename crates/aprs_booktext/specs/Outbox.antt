@@ -7,19 +7,20 @@ use Rattle.aprs_log.specs.Receiver.{IsName}
 use Rattle.aprs_log.specs.declared.moment_form.MomentForm.TheVariants.{Millis}
 use Rattle.aprs_laws.specs.Row.{Row}
 use Rattle.aprs_booktext.specs.Text.{ended_by_lf, row_line}
+use Rattle.aprs_booktext.specs.declared.hexadecimal.TheConstants.{MAX_FRAME}
 
--- Of what was held and the bytes put behind it, some went out, by which known bytes grew, and the
--- rest is left.
+-- Of what was held and the bytes put after it, a prefix went out, by which known bytes grew, and
+-- the rest is left.
 pub record Puts (old new : Option (List ℕ)) (held left bytes : List ℕ) : Type 0 where
   pub gone : List ℕ
   pub parts : held ++ bytes ≡ gone ++ left
   pub sent : Appends old new gone
 
--- a receiver and a frame that a row's line can spell
+-- A row's line can spell this receiver and this frame.
 pub record AreSpelled (who bytes : List ℕ) : Type 0 where
   pub name_is : IsName who
   pub bytes_are : IsBytes bytes
-  pub few : (0 < length bytes) × (length bytes ≤ 328)
+  pub few : (0 < length bytes) × (length bytes ≤ MAX_FRAME)
   pub frame_is : frame_of bytes ≡ Ok bytes
 
 -- a row's line as it is written, with its LF

@@ -1,16 +1,16 @@
 -- What a reader of a book holds. No public clause cites this module.
 use Rattle.std.specs.Prelude.{◌≡◌, ◌≢◌, ℕ, ◌+◌, ◌⊎◌, Bool, true, false, List, [], ◌∷◌, ◌++◌, length, map, Result, Ok, Err}
 use Rattle.aprs_log.specs.declared.Ending.{Ending}
-use Rattle.aprs_log.specs.declared.Ending.TheVariants as ending
+use Rattle.aprs_log.specs.declared.Ending.TheVariants as how
 use Rattle.aprs_laws.specs.Gap.{millis_of}
 use Rattle.aprs_laws.specs.Row.{Row}
 use Rattle.aprs_laws.specs.Sound.{Sound}
-use Rattle.aprs_booktext.specs.FirstFault.{FirstFault, IsMemoryAt, IsWrong}
+use Rattle.aprs_booktext.specs.FirstFault.{FirstFault, IsMemoryAt, IsNoHeader, IsWrong}
 use Rattle.aprs_booktext.specs.Lines.{Lacks}
 use Rattle.aprs_booktext.specs.Text.{row_line, end_line, lines_of, text_of_lines, IsBookRow, IsBookRows}
 use Rattle.aprs_booktext.specs.Version.{form_of, gap_of, header_of, IsVersion}
 use Rattle.aprs_booktext.specs.declared.fault.BookCause.{BookCause}
-use Rattle.aprs_booktext.specs.declared.fault.BookCause.TheVariants as cause
+use Rattle.aprs_booktext.specs.declared.fault.BookCause.TheVariants as why
 use Rattle.aprs_booktext.specs.declared.fault.BookFault.{BookFault}
 use Rattle.aprs_booktext.specs.declared.reader.BookReader.{BookReader}
 use Rattle.aprs_booktext.specs.declared.reader.Stage.{Stage}
@@ -23,22 +23,23 @@ lines_read Header rows = []
 lines_read (Rows v) rows = header_of v ∷ map (row_line (form_of v)) rows
 lines_read (Done v) rows = lines_of v rows
 
--- what rows there may be, and whether there is a front of a line
+-- what rows there may be, and whether there may be a prefix of a line
 abbrev pub HoldsIn : Stage → List Row → List ℕ → Type 0
 HoldsIn Header rows line = rows ≡ []
 HoldsIn (Rows v) rows line = IsBookRows v rows
 HoldsIn (Done v) rows line = IsBookRows v rows × (line ≡ [])
 
--- the reader has read this text: whole lines, and the front of a line
+-- The reader has read this text: whole lines, and a prefix of a line.
 pub record StandsAfter (stage : Stage) (rows : List Row) (line text : List ℕ) : Type 0 where
   pub text_is : text ≡ text_of_lines (lines_read stage rows) ++ line
   pub one : Lacks 10 line
   pub holds : HoldsIn stage rows line
 
--- a fault of a text, whatever follows it; where memory was refused, at most `most` bytes of the
--- text were not looked at
+-- The fault is that of this text, whatever follows it; where an allocation failed, at most `most`
+-- bytes of the text were not looked at.
 abbrev pub IsFault : ℕ → BookFault → List ℕ → Type 0
-IsFault most f text = IsMemoryAt most text f ⊎ ((e : Ending) → FirstFault text e f)
+IsFault most fault text =
+    IsMemoryAt most text fault ⊎ ((ending : Ending) → FirstFault text ending fault)
 
 -- the number of the line that is read
 abbrev pub line_number : Stage → List Row → ℕ
@@ -54,40 +55,44 @@ is_done (Done v) = true
 
 -- whether a text may end there
 abbrev pub may_end : Stage → Ending → Bool
-may_end (Done v) ending.End = true
-may_end (Done v) ending.Read = false
-may_end (Done v) ending.TooLong = false
-may_end Header e = false
-may_end (Rows v) e = false
+may_end (Done v) how.End = true
+may_end (Done v) how.Read = false
+may_end (Done v) how.TooLong = false
+may_end Header ending = false
+may_end (Rows v) ending = false
 
--- what a line is judged to be behind the lines of rows of this version
+-- After the lines of the old rows of this version a line is judged so: it is a row's, which is
+-- added to them, or the last line, or an allocation failed, or the line is wrong.
 abbrev pub IsJudged : ℕ → Version → Result Stage BookCause → List Row → List ℕ → List Row → Type 0
 IsJudged gap v (Ok Header) old line new = ⊥
 IsJudged gap v (Ok (Rows w)) old line new = (w ≡ v) × (x : Row) × IsBookRow (form_of v) x
     × (line ≡ row_line (form_of v) x) × (new ≡ old ++ x ∷ []) × Sound gap new
 IsJudged gap v (Ok (Done w)) old line new =
     (w ≡ v) × (line ≡ end_line (length old)) × (new ≡ old)
-IsJudged gap v (Err c) old line new =
-    ((c ≡ cause.Memory) ⊎ IsWrong gap (form_of v) old line c) × (new ≡ old)
+IsJudged gap v (Err cause) old line new =
+    ((cause ≡ why.Memory) ⊎ IsWrong gap (form_of v) old line cause) × (new ≡ old)
 
--- and as the first line
+-- The first line is judged so: it is a version's header, after which there are no rows, or none.
 abbrev pub IsJudgedFirst : Result Stage BookCause → List ℕ → List Row → Type 0
 IsJudgedFirst (Ok Header) line new = ⊥
 IsJudgedFirst (Ok (Rows v)) line new = IsVersion v × (line ≡ header_of v) × (new ≡ [])
 IsJudgedFirst (Ok (Done v)) line new = ⊥
-IsJudgedFirst (Err c) line new =
-    ((v : Version) → IsVersion v → line ≢ header_of v) × (c ≡ cause.Header)
+IsJudgedFirst (Err cause) line new = IsNoHeader line cause
 
+-- At this stage a line is judged so; after the last line there may be none.
 abbrev pub IsJudgedIn : Stage → Result Stage BookCause → List Row → List ℕ → List Row → Type 0
-IsJudgedIn Header r old line new = IsJudgedFirst r line new
-IsJudgedIn (Rows v) r old line new = IsJudged (millis_of (gap_of v)) v r old line new
-IsJudgedIn (Done v) r old line new = (r ≡ Err cause.After) × (new ≡ old)
+IsJudgedIn Header answer old line new = IsJudgedFirst answer line new
+IsJudgedIn (Rows v) answer old line new =
+    IsJudged (millis_of (gap_of v)) v answer old line new
+IsJudgedIn (Done v) answer old line new = (answer ≡ Err why.After) × (new ≡ old)
 
--- the reader's book has the gap of the header that was read
+-- The reader's book has the gap of the header that was read.
 abbrev pub HasItsGap : Stage → ℕ → Type 0
 HasItsGap Header gap = Unit {0}
 HasItsGap (Rows v) gap = gap ≡ gap_of v
 HasItsGap (Done v) gap = gap ≡ gap_of v
 
+-- The reader has read this text, and its book has the gap of the text's header.
 abbrev pub Stands : {A : Type 0} → BookReader A → List ℕ → Type 0
-Stands r text = StandsAfter r.stage r.book.rows r.line.items text × HasItsGap r.stage r.book.gap
+Stands reader text = StandsAfter reader.stage reader.book.rows reader.line.items text
+    × HasItsGap reader.stage reader.book.gap

@@ -9,41 +9,46 @@ use Rattle.aprs_laws.specs.Row.{Row}
 use Rattle.aprs_booktext.specs.FirstFault.{HasNoFrame}
 use Rattle.aprs_booktext.specs.Text.{row_line, IsSpelled}
 use Rattle.aprs_booktext.specs.declared.fault.BookCause.{BookCause}
-use Rattle.aprs_booktext.specs.declared.fault.BookCause.TheVariants as cause
+use Rattle.aprs_booktext.specs.declared.fault.BookCause.TheVariants as why
+use Rattle.aprs_booktext.specs.declared.hexadecimal.TheConstants.{MAX_FRAME}
 use Rattle.aprs_booktext.specs.declared.fields.FieldTexts.{FieldTexts}
 
+-- the six fields in order
 abbrev pub list_of : FieldTexts → List (List ℕ)
 list_of f = f.tag.now ∷ f.first.now ∷ f.last.now ∷ f.receivers.now ∷ f.receiver.now
     ∷ f.frame.now ∷ []
 
--- the digits spell these bytes, 1 to 328 of them
+-- The digits spell these bytes, at least one and at most those of a frame.
 pub record SpellsBytes (digits bytes : List ℕ) : Type 0 where
   pub digits_are : digits ≡ encode_lower bytes
   pub bytes_are : IsBytes bytes
-  pub few : (0 < length bytes) × (length bytes ≤ 328)
+  pub few : (0 < length bytes) × (length bytes ≤ MAX_FRAME)
 
--- the field spells these names
+-- The field spells these names, at least one, with commas between.
 pub record SpellsNames (field : List ℕ) (names : List (List ℕ)) : Type 0 where
   pub field_is : field ≡ join_with_byte 44 names
   pub names_are : All IsName names
   pub some : 0 < length names
 
+-- An allocation failed, or the field spells no names.
 abbrev pub IsWrongNames : List ℕ → BookCause → Type 0
-IsWrongNames field c = (c ≡ cause.Memory)
-    ⊎ ((c ≡ cause.RowSyntax) × ((names : List (List ℕ)) → SpellsNames field names → ⊥))
+IsWrongNames field cause = (cause ≡ why.Memory)
+    ⊎ ((cause ≡ why.RowSyntax) × ((names : List (List ℕ)) → SpellsNames field names → ⊥))
 
--- the digits spell a frame
+-- The digits spell the bytes of this frame.
 pub record SpellsFrame (digits frame : List ℕ) : Type 0 where
   pub spelled : SpellsBytes digits frame
   pub is : frame_of frame ≡ Ok frame
 
+-- The digits spell no bytes, or bytes that aren't a UI frame.
 abbrev pub IsWrongFrame : List ℕ → BookCause → Type 0
-IsWrongFrame digits c =
-    ((c ≡ cause.RowSyntax) × ((bytes : List ℕ) → SpellsBytes digits bytes → ⊥))
-    ⊎ ((c ≡ cause.Frame) × ((bytes : List ℕ) × SpellsBytes digits bytes × IsErr (frame_of bytes)))
+IsWrongFrame digits cause =
+    ((cause ≡ why.RowSyntax) × ((bytes : List ℕ) → SpellsBytes digits bytes → ⊥))
+    ⊎ ((cause ≡ why.Frame)
+    × ((bytes : List ℕ) × SpellsBytes digits bytes × IsErr (frame_of bytes)))
 
--- a line spells no row, or one whose frame is none
+-- An allocation failed, or the line spells no row, or one whose frame is none.
 abbrev pub IsWrongRow : MomentForm → List ℕ → BookCause → Type 0
-IsWrongRow form line c = (c ≡ cause.Memory)
-    ⊎ (((c ≡ cause.RowSyntax) × ((x : Row) → IsSpelled form x → line ≢ row_line form x))
-    ⊎ ((c ≡ cause.Frame) × HasNoFrame form line))
+IsWrongRow form line cause = (cause ≡ why.Memory)
+    ⊎ (((cause ≡ why.RowSyntax) × ((x : Row) → IsSpelled form x → line ≢ row_line form x))
+    ⊎ ((cause ≡ why.Frame) × HasNoFrame form line))

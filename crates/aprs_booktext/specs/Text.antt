@@ -11,6 +11,7 @@ use Rattle.aprs_laws.specs.Gap.{millis_of}
 use Rattle.aprs_laws.specs.Row.{Row, last_of}
 use Rattle.aprs_laws.specs.Sound.{Sound}
 use Rattle.aprs_booktext.specs.Version.{form_of, gap_of, header_of, IsVersion}
+use Rattle.aprs_booktext.specs.declared.hexadecimal.TheConstants.{MAX_FRAME}
 use Rattle.aprs_booktext.specs.declared.version.Version.{Version}
 use Rattle.aprs_booktext.specs.declared.version.Version.TheVariants.{Three}
 
@@ -21,24 +22,29 @@ abbrev pub fields_of : MomentForm → Row → List (List ℕ)
 fields_of form x = codes "T" ∷ moment_text_in form x.first ∷ moment_text_in form (last_of x)
     ∷ join_with_byte 44 x.receivers ∷ x.greatest.receiver ∷ encode_lower x.greatest.frame ∷ []
 
+-- the line of a row: those fields with a space between
 abbrev pub row_line : MomentForm → Row → List ℕ
 row_line form x = join_with_byte 32 (fields_of form x)
 
--- how many rows there were
+-- the last line of a text: END and how many rows there are
 abbrev pub end_line : ℕ → List ℕ
 end_line n = codes "END " ++ decimal n
 
+-- the lines of a text: the header, one for each row, and the last
 abbrev pub lines_of : Version → List Row → List (List ℕ)
 lines_of v rows = header_of v ∷ map (row_line (form_of v)) rows ++ end_line (length rows) ∷ []
 
 -- ---- the text
 
+-- the line with its LF
 abbrev pub ended_by_lf : List ℕ → List ℕ
 ended_by_lf line = line ++ 10 ∷ []
 
+-- all lines, each with its LF
 abbrev pub text_of_lines : List (List ℕ) → List ℕ
 text_of_lines lines = flat_map ended_by_lf lines
 
+-- the text of rows in a version
 abbrev pub book_text : Version → List Row → List ℕ
 book_text v rows = text_of_lines (lines_of v rows)
 
@@ -48,35 +54,39 @@ book_of v rows = record { gap = gap_of v; rows = rows }
 
 -- ---- the text that a book is written as
 
+-- version 3, with the gap of the book
 abbrev pub written_version : BookValue → Version
 written_version book = Three book.gap
 
+-- the text of its rows in that version
 abbrev pub written_text : BookValue → List ℕ
 written_text book = book_text (written_version book) book.rows
 
 -- ---- whose text it is
 
--- a moment that can be written in this form: to the second, those of whole seconds
-pub record IsTold (form : MomentForm) (m : ℕ) : Type 0 where
+-- The moment is before the year 2100 and can be written in this form: to the second, one of a whole
+-- second.
+pub record IsWritable (form : MomentForm) (m : ℕ) : Type 0 where
   pub in_range : m ≤ 4102444799999
   pub whole : m % 1000 < room_of form
 
--- what the fields of a line can spell: moments, at least one name, a name, and 1 to 328 bytes
+-- The fields of a line can spell the row: its moments, its receivers, at least one, and its
+-- greatest reception, whose frame has at least one byte and at most `MAX_FRAME`.
 pub record IsSpelled (form : MomentForm) (x : Row) : Type 0 where
-  pub first : IsTold form x.first
-  pub last : IsTold form (last_of x)
+  pub first : IsWritable form x.first
+  pub last : IsWritable form (last_of x)
   pub some : 0 < length x.receivers
   pub receivers : All IsName x.receivers
   pub receiver : IsName x.greatest.receiver
   pub bytes : IsBytes x.greatest.frame
-  pub few : (0 < length x.greatest.frame) × (length x.greatest.frame ≤ 328)
+  pub few : (0 < length x.greatest.frame) × (length x.greatest.frame ≤ MAX_FRAME)
 
--- and these bytes are a UI frame
+-- The fields of a line can spell the row, and the bytes of its frame are a UI frame.
 pub record IsBookRow (form : MomentForm) (x : Row) : Type 0 where
   pub spelled : IsSpelled form x
   pub frame : frame_of x.greatest.frame ≡ Ok x.greatest.frame
 
--- sound rows under the version's gap, each of which can be spelled in its form
+-- The rows are sound under the version's gap, and each can be spelled in its form.
 pub record IsBookRows (v : Version) (rows : List Row) : Type 0 where
   pub version : IsVersion v
   pub sound : Sound (millis_of (gap_of v)) rows

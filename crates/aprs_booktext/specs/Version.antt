@@ -6,13 +6,13 @@ use Rattle.aprs_laws.specs.Gap.{IsGap, standard_gap}
 use Rattle.aprs_booktext.specs.declared.version.Version.{Version}
 use Rattle.aprs_booktext.specs.declared.version.Version.TheVariants.{One, Two, Three}
 
--- the gap that a header tells, if it does, is one that a book can have
+-- The gap that a header names, if it does, is one that a book can have.
 abbrev pub IsVersion : Version → Type 0
 IsVersion One = Unit {0}
 IsVersion Two = Unit {0}
 IsVersion (Three gap) = IsGap gap
 
--- the first line of a text, without its LF
+-- the first line of a text of this version, without its LF
 abbrev pub header_of : Version → List ℕ
 header_of One = codes "APRSBOOK 1"
 header_of Two = codes "APRSBOOK 2"

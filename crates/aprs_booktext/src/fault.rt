@@ -23,20 +23,20 @@ pub enum BookCause {
     Receivers,
     /// A row of one moment, whose greatest reception isn't by the last receiver.
     NotGreatest,
-    /// The last line is missing, unfinished, or tells another number of rows.
+    /// The last line is missing or unfinished, or has another number of rows.
     Ending,
     /// Something follows the last line.
     After,
-    /// The reader failed.
+    /// A read failed.
     Read,
-    /// The input has more bytes than the limit.
+    /// The input has more bytes than the limit allows.
     TooLong,
-    /// Memory was refused.
+    /// An allocation failed.
     Memory,
 }
 
 impl BookCause {
-    /// Its number, from 1.
+    /// Its number, 1 to 13, in the order in which the causes stand here.
     pub fn number(&self) -> u8
         ensures { result ≡ book_cause_number self.now }
     {
@@ -57,7 +57,7 @@ impl BookCause {
         }
     }
 
-    /// Its name.
+    /// Its name, as programs report it: that of its variant.
     pub fn name(&self) -> &'static str
         ensures { result.now ≡ book_cause_name self.now }
     {
@@ -94,11 +94,11 @@ impl From<RowCause> for BookCause {
     }
 }
 
-/// The line, counted from 1, at which the text of a book is read no further, and why.
+/// At which line the text of a book is read no further, and why.
 #[derive(Clone, Copy, Debug, PartialEq, Eq)]
 pub struct BookFault {
-    /// The number of the line.
+    /// The number of the line, from 1.
     pub line: u64,
-    /// Why.
+    /// Why the text is read no further there.
     pub cause: BookCause,
 }

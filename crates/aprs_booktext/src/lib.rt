@@ -2,11 +2,11 @@
 #![tactic(auto)]
 
 mod cut;
+mod end_line;
 mod fault;
 mod fields;
 mod hexadecimal;
-mod last_line;
-mod law;
+mod laws;
 mod outbox;
 mod read;
 mod reader;
@@ -15,7 +15,7 @@ mod version;
 mod write;
 
 pub use fault::{BookCause, BookFault};
-pub use law::{
+pub use laws::{
     book_texts_are_of_sets, each_book_has_one_text, each_text_has_one_fault_or_none,
     old_moments_are_told_to_the_second, read_books_are_written_back, written_books_are_read,
 };

@@ -11,10 +11,10 @@ use arrayvec::ArrayVec;
 use std::io::Write;
 
 /// The most bytes that are held back.
-const ROOM: usize = 4096;
+const MAX_HELD: usize = 4096;
 
 /// Bytes that have not gone out yet.
-pub type Outbox = ArrayVec<u8, ROOM>;
+pub type Outbox = ArrayVec<u8, MAX_HELD>;
 
 /// Puts bytes after those that are held, which go out first where there is no room. At a fault a
 /// prefix of both went out. Takes no memory.
@@ -26,9 +26,9 @@ pub fn put<W: Write>(w: &mut Counted<W>, held: &mut Outbox, bytes: &[u8]) -> Res
     ensures count { failures_of w.old ≤ failures_of w.new }
     ensures fault { OnErr result (Rose (failures_of w.old) (failures_of w.new)) }
 {
-    if held.len() + bytes.len() > ROOM {
+    if held.len() + bytes.len() > MAX_HELD {
         flush(w, held)?;
-        if bytes.len() > ROOM {
+        if bytes.len() > MAX_HELD {
             return send(w, bytes);
         }
     }

@@ -1,15 +1,16 @@
 //! A book, while its text is read.
 ghost use Rattle.std.specs.Prelude.{◌≡◌, ◌≢◌, ◌+◌, ◌≤◌, ◌++◌, ◌∷◌, ℕ, [], true, List, length, IsErrAnd, OnOk, OnErr, MatchResult, IfOk, IfErr};
+ghost use Rattle.aprs_io.specs.declared.input.TheConstants.{MAX_INPUT};
 ghost use Rattle.aprs_laws.specs.Gap.{millis_of};
-ghost use Rattle.aprs_booktext.specs.FirstFault.{missing, ReadsSo};
+ghost use Rattle.aprs_booktext.specs.FirstFault.{ending_cause, ReadsSo};
 ghost use Rattle.aprs_booktext.specs.Lines.{Lacks};
 ghost use Rattle.aprs_booktext.specs.Text.{end_line};
 ghost use Rattle.aprs_booktext.specs.Version.{gap_of};
 ghost use Rattle.aprs_booktext.specs.Reader.{HasItsGap, IsFault, IsJudged, IsJudgedFirst, IsJudgedIn, is_done, line_number, may_end, Stands};
 
 use crate::cut::cut;
+use crate::end_line::end_line;
 use crate::fault::{BookCause, BookFault};
-use crate::last_line::last_line;
 use crate::row_line::read_row;
 use crate::version::Version;
 use aprs_book::Book;
@@ -27,7 +28,7 @@ pub enum Stage {
     Done(Version),
 }
 
-/// What was read of a book's text: whole lines, and the front of a line.
+/// What was read of a book's text: whole lines, and a prefix of a line.
 #[derive(Drop)]
 pub struct BookReader<A: Allocator> {
     book: Book<A>,
@@ -50,49 +51,51 @@ impl<A: Allocator + Copy> BookReader<A> {
 
     /// Reads on.
     pub fn feed(&mut self, piece: &[u8]) -> Result<(), BookFault>
-        requires { length self.old.book.rows + length piece.now ≤ 1073741824 }
+        requires { length self.old.book.rows + length piece.now ≤ MAX_INPUT }
         ensures stands { OnOk result ((t : List ℕ) → Stands self.old t
             → Stands self.new (t ++ piece.now)) }
         ensures more { OnOk result
             (length self.new.book.rows ≤ length self.old.book.rows + length piece.now) }
-        ensures fault { IfErr result (λ f. (t : List ℕ) → Stands self.old t
-            → IsFault (length piece.now) f (t ++ piece.now)) }
-        ensures cause { IfErr result (λ f. f.cause ≢ BookCause.Read) }
+        ensures fault { IfErr result (λ fault. (t : List ℕ) → Stands self.old t
+            → IsFault (length piece.now) fault (t ++ piece.now)) }
+        ensures cause { IfErr result (λ fault. fault.cause ≢ BookCause.Read) }
     {
         let mut rest = piece;
         while let Some((part, after)) = cut(rest, b'\n') {
-            self.hold(part)?;
+            self.append(part)?;
             self.end_line()?;
             rest = after;
         }
-        self.hold(rest)
+        self.append(rest)
     }
 
-    /// The book of the text behind which `ending` came.
+    /// The book of the text after which `ending` came.
     pub fn finish(self, ending: Ending) -> Result<Book<A>, BookFault>
-        requires { length self.book.rows ≤ 1073741824 }
+        requires { length self.book.rows ≤ MAX_INPUT }
         ensures reads { (t : List ℕ) → Stands self t → ReadsSo result t ending }
-        ensures cause { IfErr result (λ f. f.cause ≡ BookCause.Read → ending ≡ Ending.Read) }
-        ensures read { ending ≡ Ending.Read → IsErrAnd result (λ f. f.cause ≡ BookCause.Read) }
+        ensures cause { IfErr result
+            (λ fault. fault.cause ≡ BookCause.Read → ending ≡ Ending.Read) }
+        ensures read { ending ≡ Ending.Read
+            → IsErrAnd result (λ fault. fault.cause ≡ BookCause.Read) }
     {
         if may_end(self.stage, ending) {
             return Ok(self.book);
         }
-        Err(self.fault(missing(ending)))
+        Err(self.fault(ending_cause(ending)))
     }
 
-    /// Puts bytes behind those of the line.
-    fn hold(&mut self, bytes: &[u8]) -> Result<(), BookFault>
-        requires { length self.old.book.rows ≤ 1073741824 }
+    /// Puts bytes after those of the line.
+    fn append(&mut self, bytes: &[u8]) -> Result<(), BookFault>
+        requires { length self.old.book.rows ≤ MAX_INPUT }
         ensures stands { OnOk result ((t : List ℕ) → Stands self.old t
             → Lacks 10 bytes.now → Stands self.new (t ++ bytes.now)) }
         ensures same { OnOk result (self.new.book ≡ self.old.book) }
-        ensures fault { IfErr result (λ f. (t more : List ℕ) → Stands self.old t
-            → IsFault (length bytes.now + length more) f ((t ++ bytes.now) ++ more)) }
-        ensures cause { IfErr result (λ f. f.cause ≢ BookCause.Read) }
+        ensures fault { IfErr result (λ fault. (t more : List ℕ) → Stands self.old t
+            → IsFault (length bytes.now + length more) fault ((t ++ bytes.now) ++ more)) }
+        ensures cause { IfErr result (λ fault. fault.cause ≢ BookCause.Read) }
     {
         if is_done(self.stage) {
-            return self.hold_nothing(bytes);
+            return self.append_nothing(bytes);
         }
         match self.line.extend_from_slice(bytes) {
             Ok(()) => Ok(()),
@@ -100,14 +103,14 @@ impl<A: Allocator + Copy> BookReader<A> {
         }
     }
 
-    /// Sees that no bytes come behind the last line.
-    fn hold_nothing(&self, bytes: &[u8]) -> Result<(), BookFault>
-        requires few { length self.now.book.rows ≤ 1073741824 }
+    /// Sees that no bytes come after the last line.
+    fn append_nothing(&self, bytes: &[u8]) -> Result<(), BookFault>
+        requires few { length self.now.book.rows ≤ MAX_INPUT }
         requires done { is_done self.now.stage ≡ true }
         ensures ok { OnOk result (bytes.now ≡ []) }
-        ensures fault { IfErr result (λ f. (t more : List ℕ) → Stands self.now t
-            → IsFault (length bytes.now + length more) f ((t ++ bytes.now) ++ more)) }
-        ensures cause { IfErr result (λ f. f.cause ≢ BookCause.Read) }
+        ensures fault { IfErr result (λ fault. (t more : List ℕ) → Stands self.now t
+            → IsFault (length bytes.now + length more) fault ((t ++ bytes.now) ++ more)) }
+        ensures cause { IfErr result (λ fault. fault.cause ≢ BookCause.Read) }
     {
         if bytes.is_empty() {
             return Ok(());
@@ -117,13 +120,13 @@ impl<A: Allocator + Copy> BookReader<A> {
 
     /// Judges the line, which is whole.
     fn end_line(&mut self) -> Result<(), BookFault>
-        requires { length self.old.book.rows ≤ 1073741824 }
+        requires { length self.old.book.rows ≤ MAX_INPUT }
         ensures stands { OnOk result ((t : List ℕ) → Stands self.old t
             → Stands self.new (t ++ 10 ∷ [])) }
         ensures more { OnOk result (length self.new.book.rows ≤ length self.old.book.rows + 1) }
-        ensures fault { IfErr result (λ f. (t more : List ℕ) → Stands self.old t
-            → IsFault (length more + 1) f (t ++ 10 ∷ more)) }
-        ensures cause { IfErr result (λ f. f.cause ≢ BookCause.Read) }
+        ensures fault { IfErr result (λ fault. (t more : List ℕ) → Stands self.old t
+            → IsFault (length more + 1) fault (t ++ 10 ∷ more)) }
+        ensures cause { IfErr result (λ fault. fault.cause ≢ BookCause.Read) }
     {
         match self.judge() {
             Ok(stage) => {
@@ -145,7 +148,7 @@ impl<A: Allocator + Copy> BookReader<A> {
         ensures more { OnOk result
             (length self.new.book.rows ≤ length self.old.book.rows + 1) }
         ensures unchanged { OnErr result (self.new.book ≡ self.old.book) }
-        ensures cause { IfErr result (λ c. c ≢ BookCause.Read) }
+        ensures cause { IfErr result (λ cause. cause ≢ BookCause.Read) }
         ensures line { self.new.line.items ≡ self.old.line.items }
         ensures stage { self.new.stage ≡ self.old.stage }
     {
@@ -161,7 +164,7 @@ impl<A: Allocator + Copy> BookReader<A> {
 
     /// A fault of this cause in the line that is read.
     fn fault(&self, cause: BookCause) -> BookFault
-        requires { length self.now.book.rows ≤ 1073741824 }
+        requires { length self.now.book.rows ≤ MAX_INPUT }
         ensures { result
             ≡ record { line = line_number self.now.stage self.now.book.rows; cause = cause } }
     {
@@ -237,18 +240,18 @@ fn judge_line<A: Allocator + Copy>(
 fn judge_end(line: &[u8], version: Version, rows: usize) -> Result<Stage, BookCause>
     ensures { MatchResult result
         (λ stage. (stage ≡ Stage.Done version) × (line.now ≡ end_line rows))
-        (λ c. (c ≡ BookCause.Ending) × (line.now ≢ end_line rows)) }
+        (λ cause. (cause ≡ BookCause.Ending) × (line.now ≢ end_line rows)) }
 {
-    if line == last_line(rows).as_slice() {
+    if line == end_line(rows).as_slice() {
         Ok(Stage::Done(version))
     } else {
         Err(BookCause::Ending)
     }
 }
 
-/// Why a byte is missing that had to come.
-fn missing(ending: Ending) -> BookCause
-    ensures { result ≡ missing ending }
+/// The cause of a fault where a byte had to come and the input ended so.
+fn ending_cause(ending: Ending) -> BookCause
+    ensures { result ≡ ending_cause ending }
 {
     match ending {
         Ending::End => BookCause::Ending,

@@ -4,7 +4,7 @@ ghost use Rattle.aprs_log.specs.Receiver.{IsName};
 ghost use Rattle.aprs_log.specs.Moment.{moment_text_in};
 ghost use Rattle.aprs_booktext.specs.Lines.{pieces};
 ghost use Rattle.aprs_booktext.specs.RowFields.{IsWrongFrame, IsWrongNames, IsWrongRow, list_of, SpellsFrame, SpellsNames};
-ghost use Rattle.aprs_booktext.specs.Text.{row_line, IsBookRow, IsTold};
+ghost use Rattle.aprs_booktext.specs.Text.{row_line, IsBookRow, IsWritable};
 
 use crate::cut::cut;
 use crate::fault::BookCause;
@@ -22,7 +22,7 @@ pub fn read_row<A: Allocator + Copy>(
     line: &[u8],
 ) -> Result<RowParts<A>, BookCause>
     ensures ok { IfOk result (λ x. IsBookRow form x × (line.now ≡ row_line form x)) }
-    ensures err { IfErr result (λ c. IsWrongRow form line.now c) }
+    ensures err { IfErr result (λ cause. IsWrongRow form line.now cause) }
 {
     let Some(fields) = cut_fields(line) else {
         return Err(BookCause::RowSyntax);
@@ -50,7 +50,7 @@ pub fn read_row<A: Allocator + Copy>(
     })
 }
 
-/// Whether the field tells that the line is a row's.
+/// Whether the field says that the line is a row's.
 fn is_tag(field: &[u8]) -> bool
     ensures { IsTrue result ↔ (field.now ≡ codes "T") }
 {
@@ -59,8 +59,8 @@ fn is_tag(field: &[u8]) -> bool
 
 /// The moment that a field spells in this form.
 fn read_moment(form: MomentForm, field: &[u8]) -> Option<Moment>
-    ensures some { IfSome result (λ m. IsTold form m × (field.now ≡ moment_text_in form m)) }
-    ensures none { IfNone result ((m : ℕ) → IsTold form m → field.now ≢ moment_text_in form m) }
+    ensures some { IfSome result (λ m. IsWritable form m × (field.now ≡ moment_text_in form m)) }
+    ensures none { IfNone result ((m : ℕ) → IsWritable form m → field.now ≢ moment_text_in form m) }
 {
     match Moment::parse_in(form, field) {
         Some(moment) => {
@@ -74,7 +74,7 @@ fn read_moment(form: MomentForm, field: &[u8]) -> Option<Moment>
 /// The names of a field, with commas between.
 fn read_names<A: Allocator>(alloc: A, field: &[u8]) -> Result<Vec<Receiver, A>, BookCause>
     ensures ok { IfOk result (λ names. SpellsNames field.now names.items) }
-    ensures err { IfErr result (λ c. IsWrongNames field.now c) }
+    ensures err { IfErr result (λ cause. IsWrongNames field.now cause) }
 {
     let mut names = Vec::new(alloc);
     let mut rest = field;
@@ -89,7 +89,7 @@ fn read_names<A: Allocator>(alloc: A, field: &[u8]) -> Result<Vec<Receiver, A>, 
 /// The frame of a field in lower case hexadecimal.
 fn read_frame(field: &[u8]) -> Result<Frame, BookCause>
     ensures ok { IfOk result (λ frame. SpellsFrame field.now frame) }
-    ensures err { IfErr result (λ c. IsWrongFrame field.now c) }
+    ensures err { IfErr result (λ cause. IsWrongFrame field.now cause) }
 {
     let mut room = [0; MAX_FRAME];
     let Some(bytes) = decode_into(field, &mut room) else {
@@ -101,12 +101,13 @@ fn read_frame(field: &[u8]) -> Result<Frame, BookCause>
     }
 }
 
-/// Puts the name that a piece spells behind those that are there.
+/// Puts the name that a piece spells after those that are there.
 fn push_name<A: Allocator>(names: &mut Vec<Receiver, A>, piece: &[u8]) -> Result<(), BookCause>
     ensures ok { OnOk result
         (IsName piece.now × (names.new.items ≡ names.old.items ++ piece.now ∷ [])) }
     ensures err { IfErr result
-        (λ c. (c ≡ BookCause.Memory) ⊎ ((c ≡ BookCause.RowSyntax) × ¬ IsName piece.now)) }
+        (λ cause. (cause ≡ BookCause.Memory)
+        ⊎ ((cause ≡ BookCause.RowSyntax) × ¬ IsName piece.now)) }
 {
     let Some(name) = Receiver::parse(piece) else {
         return Err(BookCause::RowSyntax);

@@ -11,9 +11,9 @@ use arrayvec::ArrayVec;
 use itoa::Buffer;
 
 /// The most bytes of a header, with its LF.
-pub const HEADER: usize = 16;
+pub const MAX_HEADER: usize = 16;
 
-/// What the first line of a book file tells: how its moments are written, and the gap of its book.
+/// What the first line of a book file says: how its moments are written, and its gap in seconds.
 #[derive(Clone, Copy, Debug, PartialEq, Eq)]
 pub enum Version {
     /// Moments to the second, and a gap of 30 seconds.
@@ -25,7 +25,7 @@ pub enum Version {
 }
 
 impl Version {
-    /// The version whose first line this is, without its LF.
+    /// The version whose first line this is, without its LF, if it is that of one.
     pub fn of_header(line: &[u8]) -> Option<Version>
         ensures some { IfSome result (λ v. IsVersion v × (line.now ≡ header_of v)) }
         ensures none { IfNone result ((v : Version) → IsVersion v → line.now ≢ header_of v) }
@@ -46,8 +46,8 @@ impl Version {
         }
     }
 
-    /// Its first line, without the LF.
-    pub fn header(&self) -> ArrayVec<u8, HEADER>
+    /// Its first line, without the LF: at most 15 bytes.
+    pub fn header(&self) -> ArrayVec<u8, MAX_HEADER>
         ensures text { result.items ≡ header_of self.now }
         ensures short { array_vec_len result ≤ 15 }
     {
@@ -73,7 +73,7 @@ impl Version {
         }
     }
 
-    /// The gap of its book.
+    /// The gap of its book: 30 seconds in versions 1 and 2.
     pub fn gap(&self) -> Gap
         ensures { result ≡ gap_of self.now }
     {
@@ -84,7 +84,7 @@ impl Version {
     }
 }
 
-/// The gap that a first line of version 3 may tell.
+/// The gap that a first line of version 3 may name.
 fn gap_in(line: &[u8]) -> Option<Gap>
     ensures some { IfSome result IsGap }
     ensures only { (gap : ℕ) → IsGap gap → line.now ≡ header_of (Version.Three gap)

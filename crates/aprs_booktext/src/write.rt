@@ -9,14 +9,14 @@ ghost use Rattle.aprs_log.specs.Receiver.{IsName};
 ghost use Rattle.aprs_log.specs.declared.moment_form.MomentForm.TheVariants.{Millis};
 ghost use Rattle.aprs_kiss.specs.Device.{device_of, failures_of, Rose, AppendsFront};
 ghost use Rattle.aprs_booktext.specs.Outbox.{AreSpelled, Puts, line_and_lf};
-ghost use Rattle.aprs_booktext.specs.Text.{row_line, end_line, ended_by_lf, IsBookRow, IsBookRows, IsTold, written_text, written_version};
+ghost use Rattle.aprs_booktext.specs.Text.{row_line, end_line, ended_by_lf, IsBookRow, IsBookRows, IsWritable, written_text, written_version};
 ghost use Rattle.aprs_booktext.specs.Version.{header_of};
 ghost use Rattle.aprs_booktext.specs.declared.version.Version.TheVariants.{Three};
 
-use crate::hexadecimal::MAX_DIGITS;
-use crate::last_line::{LAST, last_line};
+use crate::end_line::{END_LINE, end_line};
+use crate::hexadecimal::{MAX_DIGITS, MAX_FRAME};
 use crate::outbox::{Outbox, flush, put};
-use crate::version::{HEADER, Version};
+use crate::version::{MAX_HEADER, Version};
 use aprs_ax25::Frame;
 use aprs_book::{Book, Gap, Row};
 use aprs_io::{encode_to, push_all};
@@ -26,17 +26,19 @@ use arrayvec::ArrayVec;
 use std::alloc::Allocator;
 use std::io::Write;
 
-/// The most bytes of a line before its receivers, of a further receiver, and after them.
-const HEAD: usize = 52;
+/// The most bytes of a row's line before its receivers.
+const ROW_HEAD: usize = 52;
 
-const FURTHER: usize = 17;
+/// The most bytes of a further receiver in a row's line, with the comma before it.
+const MAX_FURTHER: usize = 17;
 
-const TAIL: usize = 675;
+/// The most bytes of a row's line after its receivers, with the LF.
+const ROW_TAIL: usize = 675;
 
 /// Writes a book as its text of version 3: a header with the book's gap in seconds, a line for each
 /// row, with its moments to the millisecond, and a last line with their number.
-/// What it wrote whole is a text that `read_book` reads. At a fault a prefix of the text went out,
-/// and the count of the device's failures rose. Takes no memory.
+/// A text that it wrote to its end is one that `read_book` reads. At a fault a prefix of the text
+/// went out, and the count of the device's failures rose. Takes no memory.
 pub fn write_book<W: Write, A: Allocator + Copy>(
     w: &mut Counted<W>,
     book: &Book<A>,
@@ -71,7 +73,7 @@ fn put_book<W: Write, A: Allocator + Copy>(
 {
     put(w, held, header_line(book.gap()).as_slice())?;
     put_rows(w, held, book)?;
-    put(w, held, end_line(book.len()).as_slice())
+    put(w, held, end_line_and_lf(book.len()).as_slice())
 }
 
 /// Puts the lines of a book's rows.
@@ -109,11 +111,11 @@ fn put_row<W: Write>(w: &mut Counted<W>, held: &mut Outbox, row: &Row<'_>) -> Re
     put(w, held, row_tail(row.receiver, row.frame).as_slice())
 }
 
-/// What stands before the receivers in a row's line.
-fn row_head(first: Moment, last: Moment) -> ArrayVec<u8, HEAD>
+/// The part before the receivers in a row's line.
+fn row_head(first: Moment, last: Moment) -> ArrayVec<u8, ROW_HEAD>
     ensures text { result.items
         ≡ codes "T " ++ moment_text first ++ 32 ∷ moment_text last ++ 32 ∷ [] }
-    ensures moments { IsTold Millis first × IsTold Millis last }
+    ensures moments { IsWritable Millis first × IsWritable Millis last }
 {
     let mut text = ArrayVec::new();
     push_all(&mut text, b"T ");
@@ -124,8 +126,8 @@ fn row_head(first: Moment, last: Moment) -> ArrayVec<u8, HEAD>
     text
 }
 
-/// What stands after the receivers in a row's line, with the LF.
-fn row_tail(receiver: &Receiver, frame: &Frame) -> ArrayVec<u8, TAIL>
+/// The part after the receivers in a row's line, with the LF.
+fn row_tail(receiver: &Receiver, frame: &Frame) -> ArrayVec<u8, ROW_TAIL>
     ensures text { result.items
         ≡ 32 ∷ receiver.now ++ 32 ∷ encode_lower frame.now ++ 10 ∷ [] }
     ensures spelled { AreSpelled receiver.now frame.now }
@@ -182,7 +184,7 @@ fn put_further_names<W: Write>(
 }
 
 /// A comma and the name.
-fn after_comma(name: &Receiver) -> ArrayVec<u8, FURTHER>
+fn after_comma(name: &Receiver) -> ArrayVec<u8, MAX_FURTHER>
     ensures text { result.items ≡ 44 ∷ name.now }
     ensures name { IsName name.now }
 {
@@ -193,7 +195,7 @@ fn after_comma(name: &Receiver) -> ArrayVec<u8, FURTHER>
 }
 
 /// The first line of a book with this gap, with its LF.
-fn header_line(gap: Gap) -> ArrayVec<u8, HEADER>
+fn header_line(gap: Gap) -> ArrayVec<u8, MAX_HEADER>
     ensures { result.items ≡ ended_by_lf (header_of (Three gap)) }
 {
     let mut text = Version::Three(gap).header();
@@ -202,17 +204,17 @@ fn header_line(gap: Gap) -> ArrayVec<u8, HEADER>
 }
 
 /// The last line of a book of so many rows, with its LF.
-fn end_line(rows: usize) -> ArrayVec<u8, LAST>
+fn end_line_and_lf(rows: usize) -> ArrayVec<u8, END_LINE>
     ensures { result.items ≡ ended_by_lf (end_line rows) }
 {
-    let mut text = last_line(rows);
+    let mut text = end_line(rows);
     push_all(&mut text, b"\n");
     text
 }
 
-/// Puts the digits of a frame's bytes behind what is there.
-fn push_hex(out: &mut ArrayVec<u8, TAIL>, bytes: &[u8])
-    requires few { length bytes.now ≤ 328 }
+/// Puts the digits of a frame's bytes after what is there.
+fn push_hex(out: &mut ArrayVec<u8, ROW_TAIL>, bytes: &[u8])
+    requires few { length bytes.now ≤ MAX_FRAME }
     requires room { array_vec_len out.old ≤ 18 }
     ensures items { out.new.items ≡ out.old.items ++ encode_lower bytes.now }
     ensures bytes { IsBytes bytes.now }

@@ -1,11 +1,11 @@
 use Rattle.aprs_kiss.proofs.Bytes.{on_err}
-use Rattle.aprs_booktext.proofs.Sending.{front_of_part, Puts-last, front_of_last, joined_first}
+use Rattle.aprs_booktext.proofs.Sending.{prefix_of_part, Puts-last, prefix_of_last, joined_first}
 use Rattle.aprs_booktext.proofs.write.put_names.Goals as goal
 
 pub returns-in_err-put-clause-prefix : goal.returns-in_err-put-clause-prefix
 returns-in_err-put-clause-prefix g c =
     let whole = joined_first _ _ _ _ c.in-Some.ensures.cases.0 c.as_bytes.ensures.value in
-    on_err c.from_residual.result (front_of_part _ _ _ _ _ _ whole c.in_err-put.ensures.prefix)
+    on_err c.from_residual.result (prefix_of_part _ _ _ _ _ _ whole c.in_err-put.ensures.prefix)
 
 pub returns-clause-sent : goal.returns-clause-sent
 returns-clause-sent g c =
@@ -15,4 +15,4 @@ returns-clause-sent g c =
 pub returns-clause-prefix : goal.returns-clause-prefix
 returns-clause-prefix g c =
     let whole = joined_first _ _ _ _ c.in-Some.ensures.cases.0 c.as_bytes.ensures.value in
-    front_of_last c.put_further_names.result _ _ _ _ _ _ _ _ c.in_ok-put.ensures.sent whole c.put_further_names.ensures.prefix
+    prefix_of_last c.put_further_names.result _ _ _ _ _ _ _ _ c.in_ok-put.ensures.sent whole c.put_further_names.ensures.prefix

@@ -1,7 +1,7 @@
 use Rattle.std.proofs.Common.{arith}
 use Rattle.aprs_kiss.proofs.Bytes.{on_err}
 use Rattle.aprs_booktext.specs.Outbox.{line_and_lf}
-use Rattle.aprs_booktext.proofs.Sending.{PutSoFar-none, PutSoFar-more, front_of_more}
+use Rattle.aprs_booktext.proofs.Sending.{PutSoFar-none, PutSoFar-more, prefix_of_more}
 use Rattle.aprs_booktext.proofs.Written.{WrittenSoFar-none, WrittenSoFar-more}
 use Rattle.aprs_booktext.proofs.write.put_rows.Goals as goal
 
@@ -17,4 +17,4 @@ loop-row-preserved g c = record {
 
 pub returns-in_err-put_row-clause-prefix : goal.returns-in_err-put_row-clause-prefix
 returns-in_err-put_row-clause-prefix g c =
-    on_err c.from_residual.result (front_of_more line_and_lf _ _ _ _ _ _ _ _ _ c.loop-row.invariant.put c.in-Some.ensures.steps c.in_err-put_row.ensures.prefix)
+    on_err c.from_residual.result (prefix_of_more line_and_lf _ _ _ _ _ _ _ _ _ c.loop-row.invariant.put c.in-Some.ensures.steps c.in_err-put_row.ensures.prefix)

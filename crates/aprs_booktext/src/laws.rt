@@ -1,6 +1,6 @@
 //! Laws over all rows. Their functions do nothing: what they ensure is the law.
 ghost use Rattle.aprs_booktext.specs.Law.{AreCutShort, AreOfSets, AreReadBack, AreWrittenBack, BooksAreFaultless, HaveFaultOrBook, HaveOneFaultAtMost, HaveOneText, TellBooksApart};
-ghost use Rattle.aprs_booktext.specs.Seconds.{AreToldToTheSecond};
+ghost use Rattle.aprs_booktext.specs.Seconds.{AreWrittenToTheSecond};
 
 /// The text of a book's rows in a version, with its gap, is that of no other version, gap or rows,
 /// so different books are written as different texts. What begins such a text, whole or not, has no
@@ -12,7 +12,7 @@ pub fn each_book_has_one_text()
 {}
 
 /// The rows and the gap of a whole text of any version are read back, where the text is within the
-/// limit, no read fails and memory isn't refused.
+/// limit, no read fails and no allocation fails.
 pub fn written_books_are_read()
     ensures { AreReadBack }
 {}
@@ -37,7 +37,7 @@ pub fn read_books_are_written_back()
     ensures { AreWrittenBack }
 {}
 
-/// In a text of version 1 the moment of a whole second is told by its date and its time of the day.
+/// In a text of version 1 the moment of a whole second is written as its date and time of day.
 pub fn old_moments_are_told_to_the_second()
-    ensures { AreToldToTheSecond }
+    ensures { AreWrittenToTheSecond }
 {}

@@ -4,7 +4,7 @@ use Rattle.aprs_laws.specs.Real.{real}
 use Rattle.aprs_laws.proofs.Soundness.{sound, realised}
 use Rattle.aprs_booktext.specs.Version.{gap_of}
 use Rattle.aprs_booktext.proofs.Versions.{some_millis}
-use Rattle.aprs_booktext.proofs.law.book_texts_are_of_sets.Goals as goal
+use Rattle.aprs_booktext.proofs.laws.book_texts_are_of_sets.Goals as goal
 
 pub returns : goal.returns
 returns c = λ text. (

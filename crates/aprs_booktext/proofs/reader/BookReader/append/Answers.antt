@@ -1,6 +1,6 @@
 use Rattle.std.proofs.Common.{◌∙◌, sym}
 use Rattle.aprs_booktext.proofs.Standing.{held_fault, held_stands}
-use Rattle.aprs_booktext.proofs.reader.BookReader.hold.Goals as goal
+use Rattle.aprs_booktext.proofs.reader.BookReader.append.Goals as goal
 
 pub returns-in-Ok-clause-stands : goal.returns-in-Ok-clause-stands
 returns-in-Ok-clause-stands g c = λ t s lacks. rw c.in-Ok.ensures.items (held_stands _ _ _ t c.args.bytes.now (sym c.is_done.ensures ∙ c.if-is_done.false) lacks s.0, s.1)

@@ -7,11 +7,11 @@ use aprs_io::push_all;
 use arrayvec::ArrayVec;
 use itoa::Buffer;
 
-/// More bytes than such a line has.
-pub const LAST: usize = 64;
+/// At least the bytes of such a line with its LF.
+pub const END_LINE: usize = 64;
 
 /// The last line of a book of so many rows, without its LF.
-pub fn last_line(rows: usize) -> ArrayVec<u8, LAST>
+pub fn end_line(rows: usize) -> ArrayVec<u8, END_LINE>
     ensures text { result.items ≡ end_line rows }
     ensures short { array_vec_len result ≤ 60 }
 {

@@ -3,7 +3,7 @@ use Rattle.aprs_booktext.proofs.Accepting.{rows_few}
 use Rattle.aprs_booktext.proofs.Deciding.{book_or_fault}
 use Rattle.aprs_booktext.proofs.OneFault.{one_fault}
 use Rattle.aprs_booktext.proofs.OneText.{cut_short}
-use Rattle.aprs_booktext.proofs.law.each_text_has_one_fault_or_none.Goals as goal
+use Rattle.aprs_booktext.proofs.laws.each_text_has_one_fault_or_none.Goals as goal
 
 pub returns-clause-some : goal.returns-clause-some
 returns-clause-some c = book_or_fault

@@ -1,6 +1,6 @@
 use Rattle.std.proofs.Common.{refl}
 use Rattle.aprs_booktext.proofs.OneText.{one_book, one_text, cut_short}
-use Rattle.aprs_booktext.proofs.law.each_book_has_one_text.Goals as goal
+use Rattle.aprs_booktext.proofs.laws.each_book_has_one_text.Goals as goal
 
 pub returns-clause-one : goal.returns-clause-one
 returns-clause-one c = one_text
