@@ -18,7 +18,7 @@ use crate::fault::RunFault;
 use aprs_ax25::Frame;
 use aprs_io::read_some;
 use aprs_kiss::{Counted, Fed, KissReader, WriteFault};
-use aprs_log::{Ending, LogCause, LogFault, Moment, Receiver, Reception, write_line};
+use aprs_log::{Ending, LogCause, LogFault, LogWriter, Moment, Receiver, Reception};
 use std::io::{Read, Write};
 
 /// How many bytes of the stream are read at once, at most.
@@ -43,13 +43,14 @@ pub fn capture<R: Read, W: Write>(
         → Rose (failures_of w.old) (failures_of w.new)) }
 {
     let mut reader = KissReader::new();
+    let mut log = LogWriter::new();
     let mut buffer = [0; CHUNK];
     let mut left = limit;
     loop {
         match read_some(r, &mut buffer, left) {
             Ok(count) => {
                 let (chunk, _) = buffer.split_at(count);
-                capture_chunk(&mut reader, chunk, receiver, moment, w)?;
+                capture_chunk(&mut reader, &mut log, chunk, receiver, moment, w)?;
                 left -= count as u64;
             }
             Err(ending) => return stream_end(ending),
@@ -78,6 +79,7 @@ fn fault_of_stream(cause: LogCause) -> RunFault
 /// Writes the log lines of the frames that end in a chunk of the stream.
 fn capture_chunk<W: Write>(
     reader: &mut KissReader,
+    log: &mut LogWriter,
     chunk: &[u8],
     receiver: &Receiver,
     moment: &Moment,
@@ -97,7 +99,7 @@ fn capture_chunk<W: Write>(
     let mut rest = chunk;
     while !rest.is_empty() {
         let (used, fed) = reader.feed(rest);
-        write_fed(w, receiver, moment, fed)?;
+        write_fed(w, log, receiver, moment, fed)?;
         let (_, after) = rest.split_at(used);
         rest = after;
     }
@@ -107,6 +109,7 @@ fn capture_chunk<W: Write>(
 /// Writes the log line of what the reader tells, where it is a frame.
 fn write_fed<W: Write>(
     w: &mut Counted<W>,
+    log: &mut LogWriter,
     receiver: &Receiver,
     moment: &Moment,
     fed: Fed<'_>,
@@ -121,7 +124,7 @@ fn write_fed<W: Write>(
     ensures fault { OnErr result (Rose (failures_of w.old) (failures_of w.new)) }
 {
     match fed {
-        Fed::Frame { frame, .. } => write_frame(w, receiver, moment, frame),
+        Fed::Frame { frame, .. } => write_frame(w, log, receiver, moment, frame),
         Fed::Nothing | Fed::Passed(_) => Ok(()),
     }
 }
@@ -129,6 +132,7 @@ fn write_fed<W: Write>(
 /// Writes the log line of a data frame's bytes, where they are a UI frame.
 fn write_frame<W: Write>(
     w: &mut Counted<W>,
+    log: &mut LogWriter,
     receiver: &Receiver,
     moment: &Moment,
     bytes: &[u8],
@@ -141,7 +145,7 @@ fn write_frame<W: Write>(
     ensures fault { OnErr result (Rose (failures_of w.old) (failures_of w.new)) }
 {
     match Frame::read(bytes) {
-        Ok(frame) => write_line(w, &Reception::new(moment.copy(), receiver.copy(), frame)),
+        Ok(frame) => log.write(w, &Reception::new(moment.copy(), receiver.copy(), frame)),
         Err(_) => Ok(()),
     }
 }

@@ -1,5 +1,5 @@
 //! Frames as a monitor prints them.
-ghost use Rattle.std.specs.Prelude.{◌≡◌, ◌+◌, ◌*◌, ◌≤◌, ◌++◌, length, map};
+ghost use Rattle.std.specs.Prelude.{◌≡◌, ◌+◌, ◌*◌, ◌≤◌, ◌++◌, length, map, IfSome, slice_get};
 ghost use Rattle.std.specs.List.{flat_map};
 ghost use Rattle.arrayvec.specs.ArrayVec.{array_vec_len};
 ghost use Rattle.aprs_ax25.specs.Callsign.{Call, call_text};
@@ -8,8 +8,7 @@ ghost use Rattle.aprs_ax25.specs.Hop.{hop_of};
 ghost use Rattle.aprs_tool.specs.Monitor.{hop_text, monitor_text};
 
 use crate::text::{Text, push_shown};
-use aprs_ax25::{Callsign, Frame, Hop};
-use aprs_io::push_all;
+use aprs_ax25::Frame;
 
 /// Puts the frame's text at the end: source, destination, digipeaters and information.
 pub fn push_monitor_text(out: &mut Text, frame: &Frame)
@@ -17,21 +16,12 @@ pub fn push_monitor_text(out: &mut Text, frame: &Frame)
     ensures text { out.new.items ≡ out.old.items ++ monitor_text (parts_of frame.now) }
     ensures most { array_vec_len out.new ≤ 1152 }
 {
-    push_callsign(out, &frame.source());
+    frame.push_source_text(out);
     out.push(b'>');
-    push_callsign(out, &frame.destination());
+    frame.push_destination_text(out);
     push_hops(out, frame);
     out.push(b':');
     push_shown(out, frame.info());
-}
-
-/// Puts the callsign's text at the end.
-fn push_callsign(out: &mut Text, call: &Callsign)
-    requires { array_vec_len out.old + 9 ≤ 1200 }
-    ensures text { out.new.items ≡ out.old.items ++ call_text call.now }
-    ensures most { array_vec_len out.new ≤ array_vec_len out.old + 9 }
-{
-    push_all(out, call.text().as_slice());
 }
 
 /// Puts the texts of the frame's digipeaters at the end.
@@ -42,22 +32,19 @@ fn push_hops(out: &mut Text, frame: &Frame)
     ensures most { array_vec_len out.new ≤ array_vec_len out.old + 88 }
 {
     for i in 0..frame.hops() {
-        match frame.hop(i) {
-            Some(hop) => push_hop(out, &hop),
-            None => unreachable!(),
-        }
+        push_hop(out, frame, i);
     }
 }
 
-/// Puts the digipeater's text at the end.
-fn push_hop(out: &mut Text, hop: &Hop)
+/// Puts the text of digipeater number i, counted from 0, at the end.
+fn push_hop(out: &mut Text, frame: &Frame, i: usize)
     requires { array_vec_len out.old + 11 ≤ 1200 }
-    ensures text { out.new.items ≡ out.old.items ++ hop_text hop.now }
+    ensures text { IfSome (slice_get (parts_of frame.now).digipeaters i) (λ a.
+        out.new.items ≡ out.old.items ++ hop_text (hop_of a)) }
     ensures most { array_vec_len out.new ≤ array_vec_len out.old + 11 }
 {
     out.push(b',');
-    push_callsign(out, &hop.call);
-    if hop.repeated {
+    if let Some(true) = frame.push_hop_text(i, out) {
         out.push(b'*');
     }
 }
