@@ -13,14 +13,14 @@ use Rattle.aprs_laws.specs.Row.{Row, row_key}
 use Rattle.aprs_laws.specs.JoinRow.{greater}
 use Rattle.aprs_laws.specs.Inserted.{inserted, FitsInPlace}
 use Rattle.aprs_laws.specs.Sound.{Sound}
-use Rattle.aprs_laws.specs.Real.{real}
+use Rattle.aprs_laws.specs.Witnesses.{witnesses}
 use Rattle.aprs_laws.specs.Joining.{Joined}
 use Rattle.aprs_laws.specs.Widening.{widened}
 use Rattle.aprs_laws.proofs.Widening.{widens_book}
 use Rattle.aprs_laws.specs.Best.{LastKnown, greater_known, known_after}
 use Rattle.aprs_laws.specs.BestLaws.{Passes}
 use Rattle.aprs_laws.proofs.Lists.{in_left, in_right, in_either}
-use Rattle.aprs_laws.proofs.Soundness.{realised}
+use Rattle.aprs_laws.proofs.Soundness.{witnessed}
 use Rattle.aprs_laws.proofs.Inserts.{inserted_is_book}
 use Rattle.aprs_laws.proofs.Joins.{is_greater_of}
 use Rattle.aprs_laws.proofs.Orders.{heard_total}
@@ -38,10 +38,10 @@ pub takes_note : (gap : ℕ) → 0 < gap → (x : Heard) (old : List Row) (test 
     → LastKnown (map greatest_of (inserted gap x old)) (Passes test)
     (known_after test known x)
 takes_note gap pos x old test known w h =
-    let b = realised gap old pos w in
-    rows_know gap (real old ++ x ∷ []) (inserted gap x old) (Passes test)
-    (known_after test known x) (inserted_is_book gap (real old) x old b)
-    (known_last test x (real old) known (set_knows gap (real old) old (Passes test) known b h))
+    let b = witnessed gap old pos w in
+    rows_know gap (witnesses old ++ x ∷ []) (inserted gap x old) (Passes test)
+    (known_after test known x) (inserted_is_book gap (witnesses old) x old b)
+    (known_last test x (witnesses old) known (set_knows gap (witnesses old) old (Passes test) known b h))
 
 -- what the views look up
 pub entry_tells : (gap : ℕ) (rows : List Row) (test : Key → Bool) (known : Option Heard)
@@ -90,10 +90,10 @@ pub merges_notes : (gap : ℕ) → 0 < gap → (a b c : List Row) (test : Key �
     → LastKnown (map greatest_of b) (Passes test) g
     → LastKnown (map greatest_of c) (Passes test) (known_both f g)
 merges_notes gap pos a b c test f g v w j h k =
-    rows_know gap (real a ++ real b) c (Passes test) (known_both f g) j
-    (sets_know (real a) (real b) (Passes test) f g
-    (set_knows gap (real a) a (Passes test) f (realised gap a pos v) h)
-    (set_knows gap (real b) b (Passes test) g (realised gap b pos w) k))
+    rows_know gap (witnesses a ++ witnesses b) c (Passes test) (known_both f g) j
+    (sets_know (witnesses a) (witnesses b) (Passes test) f g
+    (set_knows gap (witnesses a) a (Passes test) f (witnessed gap a pos v) h)
+    (set_knows gap (witnesses b) b (Passes test) g (witnessed gap b pos w) k))
 
 -- a row behind the others
 pub pushes_note : (old : List Row) (r : Row) (test : Key → Bool) (known : Option Heard)
@@ -171,9 +171,9 @@ pub widens_note : (g h : ℕ) → 0 < g → g ≤ h → (old : List Row) (test :
     (known : Option Heard) → Sound g old → LastKnown (map greatest_of old) (Passes test) known
     → LastKnown (map greatest_of (widened h old)) (Passes test) known
 widens_note g h pos l old test known w k =
-    let b = realised g old pos w in
-    rows_know h (real old) (widened h old) (Passes test) known (widens_book g h (real old) old l b)
-    (set_knows g (real old) old (Passes test) known b k)
+    let b = witnessed g old pos w in
+    rows_know h (witnesses old) (widened h old) (Passes test) known (widens_book g h (witnesses old) old l b)
+    (set_knows g (witnesses old) old (Passes test) known b k)
 
 pub widens_indexes : (g h : ℕ) → 0 < g → g ≤ h → (rows new : List Row) (i none k : FourIndexes)
     → Sound g rows → AreIndexesOf rows i → ((topic : Topic) → index_of topic none ≡ [])

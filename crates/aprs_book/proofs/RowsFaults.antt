@@ -6,7 +6,7 @@ use Rattle.std.proofs.lemmas.List.{take_more}
 use Rattle.std.proofs.lemmas.Option.{slice_get_cases, slice_get_read, slice_get_within, get_or_from_slice_get}
 use Rattle.aprs_laws.specs.Row.{Row}
 use Rattle.aprs_laws.specs.Sound.{Sound}
-use Rattle.aprs_laws.proofs.Pushes.{sound_front}
+use Rattle.aprs_laws.proofs.Pushes.{sound_prefix}
 use Rattle.aprs_laws.proofs.Soundness.{sound}
 use Rattle.aprs_laws.proofs.RunRows.{book_of_nothing}
 use Rattle.aprs_book.specs.declared.row_cause.RowCause.{RowCause}
@@ -26,7 +26,7 @@ one_more xs i x at =
 
 front_of_all : (gap : ℕ) (rows : List Row) (n : ℕ) → Sound gap rows → Sound gap (take n rows)
 front_of_all gap rows n s =
-    sound_front gap (take n rows) (drop n rows)
+    sound_prefix gap (take n rows) (drop n rows)
     (subst (Sound gap) (sym (take-append-drop n rows)) s)
 
 front_of_front : (gap : ℕ) (rows : List Row) (m n : ℕ) → m ≤ n → Sound gap (take n rows)

@@ -21,7 +21,7 @@ use Rattle.aprs_laws.specs.Inserted.{side, grown, inserted, fits_in_place}
 use Rattle.aprs_laws.specs.Sound.{IsFar, Sound}
 use Rattle.aprs_laws.proofs.Lists.{in_right}
 use Rattle.aprs_laws.proofs.Orders.{bytes_total}
-use Rattle.aprs_laws.proofs.Pushes.{sound_front}
+use Rattle.aprs_laws.proofs.Pushes.{sound_prefix}
 use Rattle.std.proofs.lemmas.Cmp.{tied_itself}
 use Rattle.aprs_book.proofs.Places.{by_order, here, two_at, one_at, alone_end, alone_next}
 use Rattle.aprs_book.proofs.KeyBytes.{key_bytes_cmp}
@@ -240,5 +240,5 @@ module _ {K V : Type 0} (bytes : K → List ℕ) (rows : V → List Row) where
       (λ o.
       let f : Some e.1 ≡ Some old = rw o at found in
       let r : e.1 ≡ old = cc in
-      subst (λ (v : V). Sound gap (rows v)) r (sound_front gap (rows e.1) (rows_of bytes rows es) s))
+      subst (λ (v : V). Sound gap (rows v)) r (sound_prefix gap (rows e.1) (rows_of bytes rows es) s))
       (λ o. found_sound gap k es old others (rw o at found))

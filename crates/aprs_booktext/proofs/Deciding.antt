@@ -15,7 +15,7 @@ use Rattle.aprs_ax25.specs.declared.fault.FrameFault.{FrameFault}
 use Rattle.aprs_log.specs.Moment.{moment_in, moment_text_in}
 use Rattle.aprs_log.specs.Receiver.{IsName, is_name}
 use Rattle.aprs_log.specs.declared.moment_form.MomentForm.{MomentForm}
-use Rattle.aprs_log.proofs.MomentLemmas.{moment_in-text}
+use Rattle.aprs_log.proofs.Moments.{moment_in-text}
 use Rattle.aprs_log.specs.declared.Ending.{Ending}
 use Rattle.aprs_laws.specs.Gap.{greatest_gap, IsGap, millis_of}
 use Rattle.aprs_laws.specs.Row.{Row, last_of}

@@ -17,7 +17,7 @@ use Rattle.aprs_laws.specs.BookValue.{BookValue}
 use Rattle.aprs_laws.specs.Gap.{millis_of}
 use Rattle.aprs_laws.specs.Row.{Row, last_of}
 use Rattle.aprs_laws.specs.Sound.{Sound}
-use Rattle.aprs_laws.proofs.Pushes.{sound_front}
+use Rattle.aprs_laws.proofs.Pushes.{sound_prefix}
 use Rattle.aprs_book.specs.Refusal.{refusal}
 use Rattle.aprs_book.specs.Shown.{row_of}
 use Rattle.aprs_book.specs.declared.row_cause.RowCause.{RowCause}
@@ -215,8 +215,8 @@ All-middle P (y ∷ a) x b h = All-middle P a x b (All-tail P y (a ++ x ∷ b) h
 refused : (gap : ℕ) (form : MomentForm) (rows more : List Row) (x : Row) (why : RowCause) → IsBookRow form x → Sound gap (rows ++ x ∷ more) → IsRefused gap form rows (row_line form x) why → ⊥
 refused gap form rows more x why h s w =
     let same = same_row form x w.row h.spelled w.is.spelled w.spelled in
-    let first : Sound gap (rows ++ x ∷ []) = sound_front gap (rows ++ x ∷ []) more (subst (Sound gap) (sym (append_assoc rows (x ∷ []) more)) s) in
-    let none : refusal gap rows x ≡ None = (none_exactly gap rows x (sound_front gap rows (x ∷ []) first)).1 first in
+    let first : Sound gap (rows ++ x ∷ []) = sound_prefix gap (rows ++ x ∷ []) more (subst (Sound gap) (sym (append_assoc rows (x ∷ []) more)) s) in
+    let none : refusal gap rows x ≡ None = (none_exactly gap rows x (sound_prefix gap rows (x ∷ []) first)).1 first in
     let f : None ≡ Some why = sym none ∙ ap (λ (r : Row). refusal gap rows r) same ∙ w.refused in
     absurd cc
 

@@ -6,8 +6,8 @@ use Rattle.std.proofs.lemmas.List.Concat.{flat_map-append}
 use Rattle.std.specs.List.{flat_map, join_with_byte}
 use Rattle.std.specs.Io.KnownBytes.{Appends}
 use Rattle.std.proofs.KnownBytes.{Appends-nil, Appends-trans}
-use Rattle.aprs_kiss.specs.Device.{AppendsFront}
-use Rattle.aprs_kiss.proofs.Bytes.{AppendsFront-more, AppendsFront-then}
+use Rattle.aprs_kiss.specs.Device.{AppendsPrefix}
+use Rattle.aprs_kiss.proofs.Bytes.{AppendsPrefix-more, AppendsPrefix-then}
 use Rattle.std.specs.Prelude.{codes}
 use Rattle.hex.specs.Hex.{encode_lower}
 use Rattle.aprs_log.specs.Moment.{moment_text}
@@ -36,13 +36,13 @@ Puts-then {a} {b} {c} {h} {i} {j} {x} {y} p q = record {
 }
 
 -- the first of two failed
-pub prefix_of_first : (a b : Option (List ℕ)) (h x y : List ℕ) → AppendsFront a b (h ++ x) → AppendsFront a b (h ++ (x ++ y))
-prefix_of_first a b h x y p = subst (AppendsFront a b) (append_assoc h x y) (AppendsFront-more a b (h ++ x) y p)
+pub prefix_of_first : (a b : Option (List ℕ)) (h x y : List ℕ) → AppendsPrefix a b (h ++ x) → AppendsPrefix a b (h ++ (x ++ y))
+prefix_of_first a b h x y p = subst (AppendsPrefix a b) (append_assoc h x y) (AppendsPrefix-more a b (h ++ x) y p)
 
 -- the second of two failed
-pub prefix_of_second : (a b c : Option (List ℕ)) (h i x y : List ℕ) → Puts a b h i x → AppendsFront b c (i ++ y) → AppendsFront a c (h ++ (x ++ y))
+pub prefix_of_second : (a b c : Option (List ℕ)) (h i x y : List ℕ) → Puts a b h i x → AppendsPrefix b c (i ++ y) → AppendsPrefix a c (h ++ (x ++ y))
 prefix_of_second a b c h i x y p q =
-    subst (AppendsFront a c) (sym (sym (append_assoc h x y) ∙ ap (λ l. l ++ y) p.parts ∙ append_assoc p.gone i y)) (AppendsFront-then a b c p.gone (i ++ y) p.sent q)
+    subst (AppendsPrefix a c) (sym (sym (append_assoc h x y) ∙ ap (λ l. l ++ y) p.parts ∙ append_assoc p.gone i y)) (AppendsPrefix-then a b c p.gone (i ++ y) p.sent q)
 
 -- ---- pieces one after another
 
@@ -60,11 +60,11 @@ module _ {X : Type 0} (f : X → List ℕ) (xs : List X) (i : ℕ) (x : X) (lt :
       (Puts-then p (subst (Puts b c k j) piece_is q))
 
   -- a piece failed
-  pub prefix_of_piece : AppendsFront b c (k ++ piece) → AppendsFront a c (h ++ flat_map f xs)
+  pub prefix_of_piece : AppendsPrefix b c (k ++ piece) → AppendsPrefix a c (h ++ flat_map f xs)
   prefix_of_piece q =
       let whole : flat_map f xs ≡ flat_map f (take i xs) ++ (f x ++ flat_map f (drop (i + 1) xs)) = ap (flat_map f) at_piece ∙ flat_map-append f (take i xs) (x ∷ drop (i + 1) xs) in
-      let prefix = subst (λ t. AppendsFront b c (k ++ t)) piece_is q in
-      subst (λ t. AppendsFront a c (h ++ t)) (sym whole)
+      let prefix = subst (λ t. AppendsPrefix b c (k ++ t)) piece_is q in
+      subst (λ t. AppendsPrefix a c (h ++ t)) (sym whole)
       (prefix_of_second a b c h k (flat_map f (take i xs)) (f x ++ flat_map f (drop (i + 1) xs)) p (prefix_of_first b c k (f x) (flat_map f (drop (i + 1) xs)) prefix))
 
 -- the pieces of a prefix of all went out
@@ -81,10 +81,10 @@ module _ {X : Type 0} (f : X → List ℕ) (a b c : Option (List ℕ)) (h k : Li
     put = subst (Puts a c h j) (flat_map_more f [] p.prefix x) (Puts-then p.put q);
   }
 
-  pub prefix_of_more : AppendsFront b c (k ++ f x) → AppendsFront a c (h ++ flat_map f all)
+  pub prefix_of_more : AppendsPrefix b c (k ++ f x) → AppendsPrefix a c (h ++ flat_map f all)
   prefix_of_more q =
       let whole : flat_map f all ≡ flat_map f p.prefix ++ (f x ++ flat_map f more) = ap (flat_map f) (p.whole ∙ ap (λ r. p.prefix ++ r) next) ∙ flat_map-append f p.prefix (x ∷ more) in
-      subst (λ t. AppendsFront a c (h ++ t)) (sym whole) (prefix_of_second a b c h k (flat_map f p.prefix) (f x ++ flat_map f more) p.put (prefix_of_first b c k (f x) (flat_map f more) q))
+      subst (λ t. AppendsPrefix a c (h ++ t)) (sym whole) (prefix_of_second a b c h k (flat_map f p.prefix) (f x ++ flat_map f more) p.put (prefix_of_first b c k (f x) (flat_map f more) q))
 
 pub PutSoFar-none : {X : Type 0} (f : X → List ℕ) (a : Option (List ℕ)) (h : List ℕ) (all : List X) → PutSoFar f a a h h all all
 PutSoFar-none f a h all = record { prefix = []; whole = refl; put = Puts-nil a h }
@@ -103,8 +103,8 @@ joined_first names x bytes xs e is = ap (join_with_byte 44) e ∙ joined_names x
 -- ---- a text of parts, where a call sends the last
 
 -- a part failed that a text begins with
-pub prefix_of_part : (a b : Option (List ℕ)) (h whole x y : List ℕ) → whole ≡ x ++ y → AppendsFront a b (h ++ x) → AppendsFront a b (h ++ whole)
-prefix_of_part a b h whole x y e p = subst (λ t. AppendsFront a b (h ++ t)) (sym e) (prefix_of_first a b h x y p)
+pub prefix_of_part : (a b : Option (List ℕ)) (h whole x y : List ℕ) → whole ≡ x ++ y → AppendsPrefix a b (h ++ x) → AppendsPrefix a b (h ++ whole)
+prefix_of_part a b h whole x y e p = subst (λ t. AppendsPrefix a b (h ++ t)) (sym e) (prefix_of_first a b h x y p)
 
 module _ {R E : Type 0} (r : Result R E) (a b c : Option (List ℕ)) (h i whole x y : List ℕ) (p : Puts a b h i x) (e : whole ≡ x ++ y) where
   pub Puts-last : (j : List ℕ) → OnOk r (Puts b c i j y) → OnOk r (Puts a c h j whole)
@@ -113,20 +113,20 @@ module _ {R E : Type 0} (r : Result R E) (a b c : Option (List ℕ)) (h i whole 
     last (Ok v) q = subst (Puts a c h j) (sym e) (Puts-then p q)
     last (Err v) q = tt
 
-  pub prefix_of_last : OnErr r (AppendsFront b c (i ++ y)) → OnErr r (AppendsFront a c (h ++ whole))
+  pub prefix_of_last : OnErr r (AppendsPrefix b c (i ++ y)) → OnErr r (AppendsPrefix a c (h ++ whole))
   prefix_of_last q = last r q where
-    last : (r : Result R E) → OnErr r (AppendsFront b c (i ++ y)) → OnErr r (AppendsFront a c (h ++ whole))
+    last : (r : Result R E) → OnErr r (AppendsPrefix b c (i ++ y)) → OnErr r (AppendsPrefix a c (h ++ whole))
     last (Ok v) q = tt
-    last (Err v) q = subst (λ t. AppendsFront a c (h ++ t)) (sym e) (prefix_of_second a b c h i x y p q)
+    last (Err v) q = subst (λ t. AppendsPrefix a c (h ++ t)) (sym e) (prefix_of_second a b c h i x y p q)
 
 -- all that was held went out
 pub Appends-last : {R E : Type 0} (r : Result R E) (a b c : Option (List ℕ)) (i x : List ℕ) → Puts a b [] i x → OnOk r (Appends b c i) → OnOk r (Appends a c x)
 Appends-last (Ok v) a b c i x p q = subst (Appends a c) (sym p.parts) (Appends-trans a b c p.gone i p.sent q)
 Appends-last (Err v) a b c i x p q = tt
 
-pub prefix_of_held : {R E : Type 0} (r : Result R E) (a b c : Option (List ℕ)) (i x : List ℕ) → Puts a b [] i x → OnErr r (AppendsFront b c i) → OnErr r (AppendsFront a c x)
+pub prefix_of_held : {R E : Type 0} (r : Result R E) (a b c : Option (List ℕ)) (i x : List ℕ) → Puts a b [] i x → OnErr r (AppendsPrefix b c i) → OnErr r (AppendsPrefix a c x)
 prefix_of_held (Ok v) a b c i x p q = tt
-prefix_of_held (Err v) a b c i x p q = subst (AppendsFront a c) (sym p.parts) (AppendsFront-then a b c p.gone i p.sent q)
+prefix_of_held (Err v) a b c i x p q = subst (AppendsPrefix a c) (sym p.parts) (AppendsPrefix-then a b c p.gone i p.sent q)
 
 -- ---- the parts of a line
 

@@ -10,7 +10,7 @@ use Rattle.aprs_log.specs.Moment.{moment_in, moment_text_in, MomentTextIn, civil
 use Rattle.aprs_log.specs.declared.moment_form.MomentForm.{MomentForm}
 use Rattle.aprs_log.specs.declared.moment_form.MomentForm.TheVariants.{Seconds, Millis}
 use Rattle.aprs_log.specs.Receiver.{IsName, is_name_byte}
-use Rattle.aprs_log.proofs.MomentLemmas.{text-moment_in, one_text, moment_text-is, millis_told}
+use Rattle.aprs_log.proofs.Moments.{text-moment_in, one_text, moment_text-is, millis_kept}
 use Rattle.aprs_laws.specs.Row.{Row, last_of}
 use Rattle.aprs_booktext.specs.Lines.{Lacks, pieces}
 use Rattle.aprs_ax25.specs.FrameFault.{frame_of, frame_fault, unless_fault}
@@ -26,7 +26,7 @@ use Rattle.aprs_booktext.proofs.Cuts.{lacks_joined, pieces_joined, joined_pieces
 pub moment_found : (form : MomentForm) (t : List ℕ) (m : ℕ) → m ≤ 4102444799999 → MomentTextIn form m t
     → IsWritable form m × (t ≡ moment_text_in form m)
 moment_found form t m h is =
-    let whole = millis_told form m t is in
+    let whole = millis_kept form m t is in
     (record { in_range = h; whole = whole }, one_text form m t (moment_text_in form m) is (moment_text-is form m h whole))
 
 -- what is read of the text of a moment that can be written

@@ -7,7 +7,7 @@ ghost use Rattle.arrayvec.specs.ArrayVec.{array_vec_len};
 ghost use Rattle.aprs_log.specs.Moment.{moment_text};
 ghost use Rattle.aprs_log.specs.Receiver.{IsName};
 ghost use Rattle.aprs_log.specs.declared.moment_form.MomentForm.TheVariants.{Millis};
-ghost use Rattle.aprs_kiss.specs.Device.{device_of, failures_of, Rose, AppendsFront};
+ghost use Rattle.aprs_kiss.specs.Device.{device_of, failures_of, Rose, AppendsPrefix};
 ghost use Rattle.aprs_booktext.specs.Outbox.{AreSpelled, Puts, line_and_lf};
 ghost use Rattle.aprs_booktext.specs.Text.{row_line, end_line, ended_by_lf, IsBookRow, IsBookRows, IsWritable, written_text, written_version};
 ghost use Rattle.aprs_booktext.specs.Version.{header_of};
@@ -45,7 +45,7 @@ pub fn write_book<W: Write, A: Allocator + Copy>(
 ) -> Result<(), WriteFault>
     ensures sent { OnOk result (Appends (W.contents (device_of w.old))
         (W.contents (device_of w.new)) (written_text book.now)) }
-    ensures prefix { OnErr result (AppendsFront (W.contents (device_of w.old))
+    ensures prefix { OnErr result (AppendsPrefix (W.contents (device_of w.old))
         (W.contents (device_of w.new)) (written_text book.now)) }
     ensures count { failures_of w.old ≤ failures_of w.new }
     ensures fault { OnErr result (Rose (failures_of w.old) (failures_of w.new)) }
@@ -65,7 +65,7 @@ fn put_book<W: Write, A: Allocator + Copy>(
 ) -> Result<(), WriteFault>
     ensures sent { OnOk result (Puts (W.contents (device_of w.old)) (W.contents (device_of w.new))
         held.old.items held.new.items (written_text book.now)) }
-    ensures prefix { OnErr result (AppendsFront (W.contents (device_of w.old))
+    ensures prefix { OnErr result (AppendsPrefix (W.contents (device_of w.old))
         (W.contents (device_of w.new)) (held.old.items ++ written_text book.now)) }
     ensures count { failures_of w.old ≤ failures_of w.new }
     ensures fault { OnErr result (Rose (failures_of w.old) (failures_of w.new)) }
@@ -84,7 +84,7 @@ fn put_rows<W: Write, A: Allocator + Copy>(
 ) -> Result<(), WriteFault>
     ensures sent { OnOk result (Puts (W.contents (device_of w.old)) (W.contents (device_of w.new))
         held.old.items held.new.items (flat_map line_and_lf book.now.rows)) }
-    ensures prefix { OnErr result (AppendsFront (W.contents (device_of w.old))
+    ensures prefix { OnErr result (AppendsPrefix (W.contents (device_of w.old))
         (W.contents (device_of w.new)) (held.old.items ++ flat_map line_and_lf book.now.rows)) }
     ensures count { failures_of w.old ≤ failures_of w.new }
     ensures fault { OnErr result (Rose (failures_of w.old) (failures_of w.new)) }
@@ -100,7 +100,7 @@ fn put_rows<W: Write, A: Allocator + Copy>(
 fn put_row<W: Write>(w: &mut Counted<W>, held: &mut Outbox, row: &Row<'_>) -> Result<(), WriteFault>
     ensures sent { OnOk result (Puts (W.contents (device_of w.old)) (W.contents (device_of w.new))
         held.old.items held.new.items (ended_by_lf (row_line Millis row.now))) }
-    ensures prefix { OnErr result (AppendsFront (W.contents (device_of w.old))
+    ensures prefix { OnErr result (AppendsPrefix (W.contents (device_of w.old))
         (W.contents (device_of w.new)) (held.old.items ++ ended_by_lf (row_line Millis row.now))) }
     ensures count { failures_of w.old ≤ failures_of w.new }
     ensures fault { OnErr result (Rose (failures_of w.old) (failures_of w.new)) }
@@ -149,7 +149,7 @@ fn put_names<W: Write>(
 ) -> Result<(), WriteFault>
     ensures sent { OnOk result (Puts (W.contents (device_of w.old)) (W.contents (device_of w.new))
         held.old.items held.new.items (join_with_byte 44 names.now)) }
-    ensures prefix { OnErr result (AppendsFront (W.contents (device_of w.old))
+    ensures prefix { OnErr result (AppendsPrefix (W.contents (device_of w.old))
         (W.contents (device_of w.new)) (held.old.items ++ join_with_byte 44 names.now)) }
     ensures count { failures_of w.old ≤ failures_of w.new }
     ensures fault { OnErr result (Rose (failures_of w.old) (failures_of w.new)) }
@@ -170,7 +170,7 @@ fn put_further_names<W: Write>(
 ) -> Result<(), WriteFault>
     ensures sent { OnOk result (Puts (W.contents (device_of w.old)) (W.contents (device_of w.new))
         held.old.items held.new.items (flat_map (λ name. 44 ∷ name) names.now)) }
-    ensures prefix { OnErr result (AppendsFront (W.contents (device_of w.old))
+    ensures prefix { OnErr result (AppendsPrefix (W.contents (device_of w.old))
         (W.contents (device_of w.new))
         (held.old.items ++ flat_map (λ name. 44 ∷ name) names.now)) }
     ensures count { failures_of w.old ≤ failures_of w.new }

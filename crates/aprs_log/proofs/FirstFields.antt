@@ -7,7 +7,7 @@ use Rattle.std.proofs.lemmas.Bool.{and_from, le-leb, leb-true, ltb-true}
 use Rattle.std.proofs.lemmas.Bool.Decides.{nat_tests}
 use Rattle.std.proofs.lemmas.List.{drop_more, get_or-append-add, get_or-take, length-append, length-take-le}
 use Rattle.aprs_io.specs.Cut.{Cut, cut_at}
-use Rattle.aprs_io.proofs.CutLemmas.{Lacks, cut_at-after, cut_at-append, cut_at-parts}
+use Rattle.aprs_io.proofs.Cuts.{Lacks, cut_at-after, cut_at-append, cut_at-parts}
 use Rattle.aprs_log.specs.Fields.{EndsMoment, EndsNoMoment, HasSpace, TakesMoment, TakesName, TakesNoMoment, TakesNoName, ends_name}
 use Rattle.aprs_log.specs.Line.{line_of, line_of_digits}
 use Rattle.aprs_log.specs.declared.fault.LineFault.TheVariants as fault

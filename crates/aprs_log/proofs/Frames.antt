@@ -7,7 +7,7 @@ use Rattle.aprs_kiss.specs.Spelling.{kiss_text, spelling_of}
 use Rattle.aprs_kiss.proofs.Escapes.{spelling_of-all}
 use Rattle.aprs_kiss.specs.Stream.{rest_of, is_nonempty, judgements_of, EndsPiece}
 use Rattle.aprs_kiss.specs.Judgement.{Judgement}
-use Rattle.aprs_kiss.specs.Told.{told_by}
+use Rattle.aprs_kiss.specs.Answer.{told_by}
 use Rattle.std.specs.Borrow.{Bor}
 use Rattle.aprs_kiss.specs.declared.fault.PassFault.{PassFault}
 use Rattle.aprs_kiss.specs.declared.reader.Fed.{Fed}

@@ -16,7 +16,7 @@ use Rattle.aprs_log.specs.declared.line.TheConstants.{MAX_LINE}
 use Rattle.aprs_log.specs.declared.fault.LineFault.{LineFault}
 use Rattle.aprs_log.specs.declared.fault.LineFault.TheVariants as fault
 use Rattle.aprs_log.specs.declared.line.Line.{Line}
-use Rattle.aprs_io.proofs.CutLemmas.{Lacks, cut_at-append, cut_at-parts}
+use Rattle.aprs_io.proofs.Cuts.{Lacks, cut_at-append, cut_at-parts}
 use Rattle.aprs_log.proofs.Moments.{moment_of-text, text-moment_of}
 
 -- ---- a line's first two fields have no space

@@ -8,7 +8,7 @@ use Rattle.aprs_kiss.specs.Spelling.{spelling_of, spelling_of_byte, kiss_text}
 use Rattle.aprs_kiss.proofs.Escapes.{spelling_of-all, spelling_of-cut}
 use Rattle.aprs_ax25.specs.Frame.{FrameOf, Parts}
 use Rattle.aprs_ax25.specs.FrameFault.{frame_of, unless_fault}
-use Rattle.aprs_ax25.specs.Law.{IsFrame, IsRefused}
+use Rattle.aprs_ax25.specs.Laws.{IsFrame, IsRefused}
 use Rattle.hex.specs.Hex.{decode_of, encode_lower}
 use Rattle.aprs_log.specs.StreamLaws.{WrittenLaws}
 use Rattle.aprs_log.specs.Moment.{MomentText, moment_text}

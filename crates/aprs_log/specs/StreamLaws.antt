@@ -2,7 +2,7 @@
 use Rattle.std.specs.Prelude.{ℕ, Bool, not, List}
 use Rattle.std.specs.List.{list_any}
 use Rattle.aprs_kiss.specs.Spelling.{is_frame_end}
-use Rattle.aprs_kiss.specs.Laws.{BeginsEmpty, CutAtEachEnd, EmptyPiece, EndedPiece, EndedStream, LeftInParts, OpenPiece, ReadBack, ReadWhole, ToldInParts}
+use Rattle.aprs_kiss.specs.Laws.{BeginsEmpty, CutAtEachEnd, EmptyPiece, EndedPiece, EndedStream, LeftInParts, OpenPiece, ReadBack, ReadWhole, JudgedInParts}
 
 -- whether a byte is no frame end
 abbrev pub has_other : List ℕ → Bool
@@ -11,7 +11,7 @@ has_other bytes = list_any (λ b. not (is_frame_end b)) bytes
 -- what holds of every stream
 pub record StreamLaws : Type 0 where
   pub begins : BeginsEmpty
-  pub judged : ToldInParts
+  pub judged : JudgedInParts
   pub left : LeftInParts
   pub going : OpenPiece
   pub ended : EndedPiece

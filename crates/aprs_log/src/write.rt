@@ -3,7 +3,7 @@ ghost use Rattle.std.specs.Prelude.{◌≡◌, ◌≤◌, ◌+◌, ◌*◌, [], 
 ghost use Rattle.std.specs.Io.KnownBytes.{Appends};
 ghost use Rattle.std.proofs.Props.{props};
 ghost use Rattle.hex.specs.Hex.{decode_of, encode_lower};
-ghost use Rattle.aprs_io.specs.Device.{device_of, failures_of, Rose, AppendsFront};
+ghost use Rattle.aprs_io.specs.Device.{device_of, failures_of, Rose, AppendsPrefix};
 ghost use Rattle.aprs_kiss.specs.Spelling.{kiss_text, spelling_of_byte};
 ghost use Rattle.aprs_log.specs.Line.{line_of, written_line};
 ghost use Rattle.aprs_log.specs.Moment.{moment_text};
@@ -33,7 +33,7 @@ const MAX_WRITTEN: usize = 24 + 16 + 2 + 2 * MAX_SPELLED + 1;
 pub fn write_line<W: Write>(w: &mut Counted<W>, reception: &Reception) -> Result<(), WriteFault>
     ensures sent { OnOk result (Appends (W.contents (device_of w.old))
         (W.contents (device_of w.new)) (written_line reception.now ++ 10 ∷ [])) }
-    ensures prefix { OnErr result (AppendsFront (W.contents (device_of w.old))
+    ensures prefix { OnErr result (AppendsPrefix (W.contents (device_of w.old))
         (W.contents (device_of w.new)) (written_line reception.now ++ 10 ∷ [])) }
     ensures count { failures_of w.old ≤ failures_of w.new }
     ensures fault { OnErr result (Rose (failures_of w.old) (failures_of w.new)) }
@@ -72,7 +72,7 @@ impl LogWriter {
     ) -> Result<(), WriteFault>
         ensures sent { OnOk result (Appends (W.contents (device_of w.old))
             (W.contents (device_of w.new)) (written_line reception.now ++ 10 ∷ [])) }
-        ensures prefix { OnErr result (AppendsFront (W.contents (device_of w.old))
+        ensures prefix { OnErr result (AppendsPrefix (W.contents (device_of w.old))
             (W.contents (device_of w.new)) (written_line reception.now ++ 10 ∷ [])) }
         ensures count { failures_of w.old ≤ failures_of w.new }
         ensures fault { OnErr result (Rose (failures_of w.old) (failures_of w.new)) }

@@ -3,8 +3,8 @@ use Rattle.std.proofs.Common.{◌≡◌, ◌≤◌, ℕ, ◌+◌, ◌∙◌, sym
 use Rattle.std.specs.List.{flat_map}
 use Rattle.std.specs.Io.KnownBytes.{Appends, Consumes}
 use Rattle.std.proofs.KnownBytes.{Appends-nil, Appends-trans, Consumes-nil, Consumes-trans}
-use Rattle.aprs_kiss.specs.Device.{AppendsFront}
-use Rattle.aprs_kiss.proofs.Bytes.{AppendsFront-more, AppendsFront-then}
+use Rattle.aprs_kiss.specs.Device.{AppendsPrefix}
+use Rattle.aprs_kiss.proofs.Bytes.{AppendsPrefix-more, AppendsPrefix-then}
 use Rattle.aprs_kiss.specs.Stream.{rest_of, judgements_of}
 use Rattle.aprs_kiss.specs.Judgement.{Judgement}
 use Rattle.aprs_kiss.specs.Reader.{StandsAfter}
@@ -85,8 +85,8 @@ module _ (text : Judgement → List ℕ) where
   pub HasCaptured-refused : (old mid : KissReader) (before between after : Option (List ℕ)) (chunk rest part left : List ℕ) (told : List Judgement)
       → HasCaptured old mid before between chunk rest → rest ≡ part ++ left
       → ((e : List ℕ) → StandsAfter mid e → judgements_of (e ++ part) ≡ told)
-      → AppendsFront between after (flat_map text told)
-      → (e : List ℕ) → StandsAfter old e → AppendsFront before after (text_of (e ++ chunk))
+      → AppendsPrefix between after (flat_map text told)
+      → (e : List ℕ) → StandsAfter old e → AppendsPrefix before after (text_of (e ++ chunk))
   HasCaptured-refused old mid before between after chunk rest part left told h e judged front f s =
       let seen = f ++ h.seen in
       let stands = h.captures.stands f s in
@@ -95,8 +95,8 @@ module _ (text : Judgement → List ℕ) where
       let written : text_of (f ++ chunk) ≡ (text_of seen ++ flat_map text told) ++ text_of (rest_of (seen ++ part) ++ left) =
       ap text_of whole ∙ text-append (seen ++ part) left
       ∙ ap (λ l. l ++ text_of (rest_of (seen ++ part) ++ left)) (text-append seen part ∙ ap (λ j. text_of seen ++ flat_map text j) (judged (rest_of seen) stands)) in
-      subst (AppendsFront before after) (sym written) (AppendsFront-more before after (text_of seen ++ flat_map text told) (text_of (rest_of (seen ++ part) ++ left))
-      (AppendsFront-then before between after (text_of seen) (flat_map text told) (h.captures.sent f s) front))
+      subst (AppendsPrefix before after) (sym written) (AppendsPrefix-more before after (text_of seen ++ flat_map text told) (text_of (rest_of (seen ++ part) ++ left))
+      (AppendsPrefix-then before between after (text_of seen) (flat_map text told) (h.captures.sent f s) front))
 
 -- ---- the stream as far as it was read
 
@@ -144,18 +144,18 @@ gets_front (Some x) (Some y) t limit p h = record { rest = y; whole = p; ends = 
 -- the output was refused while a chunk was written
 pub HasGot-refused : (r : List ℕ) (m limit left : ℕ) (reader : KissReader) (first now then_ old mid new : Option (List ℕ)) (chunk : List ℕ)
     → HasGot (capture_text r m) limit left reader first now old mid → Consumes now then_ chunk → length chunk ≤ left
-    → ((e : List ℕ) → StandsAfter reader e → AppendsFront mid new (text_of (capture_text r m) (e ++ chunk)))
+    → ((e : List ℕ) → StandsAfter reader e → AppendsPrefix mid new (text_of (capture_text r m) (e ++ chunk)))
     → RunsOver (stream_text r m) stream_fault limit first then_ (Err Write) old new
 HasGot-refused r m limit left reader first now then_ old mid new chunk h consumed less front =
     let text = capture_text r m in
     let bytes = h.bytes ++ chunk in
     let count = h.count in
     let got = gets_front first then_ bytes limit (Consumes-trans first now then_ h.bytes chunk h.consumed consumed) (omega (arith, length-append h.bytes chunk)) in
-    let out : AppendsFront old new (text_of text bytes) = subst (AppendsFront old new) (sym (text-append text h.bytes chunk))
-    (AppendsFront-then old mid new (text_of text h.bytes) (text_of text (rest_of h.bytes ++ chunk)) h.sent (front (rest_of h.bytes) h.stands)) in
+    let out : AppendsPrefix old new (text_of text bytes) = subst (AppendsPrefix old new) (sym (text-append text h.bytes chunk))
+    (AppendsPrefix-then old mid new (text_of text h.bytes) (text_of text (rest_of h.bytes ++ chunk)) h.sent (front (rest_of h.bytes) h.stands)) in
     runs first bytes got out
   where
-    runs : (first : Option (List ℕ)) (bytes : List ℕ) → IfSome first (λ input. Gets limit input then_ bytes ending.Read) → AppendsFront old new (text_of (capture_text r m) bytes)
+    runs : (first : Option (List ℕ)) (bytes : List ℕ) → IfSome first (λ input. Gets limit input then_ bytes ending.Read) → AppendsPrefix old new (text_of (capture_text r m) bytes)
         → RunsOver (stream_text r m) stream_fault limit first then_ (Err Write) old new
     runs None bytes g out = tt
     runs (Some x) bytes g out = (bytes, ending.Read, g, out)

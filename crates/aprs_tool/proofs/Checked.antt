@@ -3,8 +3,8 @@ use Rattle.std.proofs.Common.{◌≡◌, ℕ, ◌+◌, List, [], ◌∷◌, ◌+
 use Rattle.std.specs.Io.KnownBytes.{Appends}
 use Rattle.std.proofs.KnownBytes.{Appends-nil, Appends-trans}
 use Rattle.std.proofs.lemmas.List.{length-append}
-use Rattle.aprs_kiss.specs.Device.{AppendsFront}
-use Rattle.aprs_kiss.proofs.Bytes.{AppendsFront-more, AppendsFront-then}
+use Rattle.aprs_kiss.specs.Device.{AppendsPrefix}
+use Rattle.aprs_kiss.proofs.Bytes.{AppendsPrefix-more, AppendsPrefix-then}
 use Rattle.aprs_log.specs.LogAnswers.{Answers, ended, then_given}
 use Rattle.aprs_log.specs.declared.fault.LogFault.{LogFault}
 use Rattle.aprs_log.specs.declared.fault.Reason.{Reason}
@@ -117,7 +117,7 @@ module _ (first now after : Answers → Type 0) (a b : Option (List ℕ)) (heard
   -- what is told of such a line is refused
   pub Checked-refused : (limit : ℕ) (known end c : Option (List ℕ)) (number : ℕ) (line : Line) (reason : Reason) → number ≡ count → line ≡ Passed reason
       → ((answers : Answers) → after answers → now (then_given line answers))
-      → (answers : Answers) → after answers → AppendsFront b c (passed_line number reason) → IsWhole first limit known end
+      → (answers : Answers) → after answers → AppendsPrefix b c (passed_line number reason) → IsWhole first limit known end
       → RunsOver check_text lines_fault limit known end (Err Write) a c
   Checked-refused limit known end c number line reason same is given answers may front whole =
       let next = given_as after now line (Passed reason) is given in
@@ -133,8 +133,8 @@ module _ (first now after : Answers → Type 0) (a b : Option (List ℕ)) (heard
       ∙ sym (append_assoc (check_lines 1 h.seen) line (check_lines (1 + length h.seen + 1) answers.given)))
       ∙ append_assoc (check_lines 1 h.seen ++ line) (check_lines (1 + length h.seen + 1) answers.given) (totals answers.fault all.given) in
       over check_of limit known end (Err Write) a c all (whole all (h.has.complete (then_given (Passed reason) answers) (next answers may)))
-      (subst (AppendsFront a c) (sym text) (AppendsFront-more a c (check_lines 1 h.seen ++ line) more
-      (AppendsFront-then a b c (check_lines 1 h.seen) line h.out front)))
+      (subst (AppendsPrefix a c) (sym text) (AppendsPrefix-more a c (check_lines 1 h.seen ++ line) more
+      (AppendsPrefix-then a b c (check_lines 1 h.seen) line h.out front)))
 
 module _ (first now : Answers → Type 0) (a b : Option (List ℕ)) (heard passed lines : ℕ) (h : Checked first now a b heard passed lines) (limit : ℕ) (known end : Option (List ℕ)) (whole : IsWhole first limit known end) where
   seen_whole : (fault : Option LogFault) → check_of (prepended h.seen (ended fault)) ≡ check_lines 1 h.seen ++ totals fault h.seen
@@ -152,11 +152,11 @@ module _ (first now : Answers → Type 0) (a b : Option (List ℕ)) (heard passe
       (refl, subst (Appends a c) (sym told) (Appends-trans a b c (check_lines 1 h.seen) (totals_line heard passed) h.out out))
 
   -- the totals are refused
-  pub Checked-totals_refused : (c : Option (List ℕ)) → now (ended None) → AppendsFront b c (totals_line heard passed)
+  pub Checked-totals_refused : (c : Option (List ℕ)) → now (ended None) → AppendsPrefix b c (totals_line heard passed)
       → RunsOver check_text lines_fault limit known end (Err Write) a c
   Checked-totals_refused c may front =
       over check_of limit known end (Err Write) a c (prepended h.seen (ended None)) (whole _ (h.has.complete (ended None) may))
-      (subst (AppendsFront a c) (sym told) (AppendsFront-then a b c (check_lines 1 h.seen) (totals_line heard passed) h.out front))
+      (subst (AppendsPrefix a c) (sym told) (AppendsPrefix-then a b c (check_lines 1 h.seen) (totals_line heard passed) h.out front))
 
   -- the log has a fault
   pub Checked-fault : (fault : LogFault) (told : RunFault) → told ≡ Input 0 (Log fault) → now (ended (Some fault))

@@ -7,10 +7,10 @@ use Rattle.std.specs.Str.{bytes_eq}
 use Rattle.aprs_laws.specs.Book.{BookOf}
 use Rattle.aprs_laws.specs.BookValue.{BookValue}
 use Rattle.aprs_laws.specs.Gap.{millis_of}
-use Rattle.aprs_laws.specs.Real.{real}
+use Rattle.aprs_laws.specs.Witnesses.{witnesses}
 use Rattle.aprs_laws.specs.Row.{Row}
 use Rattle.aprs_laws.specs.Sound.{Sound}
-use Rattle.aprs_laws.proofs.Soundness.{realised}
+use Rattle.aprs_laws.proofs.Soundness.{witnessed}
 use Rattle.aprs_log.specs.LogAnswers.{Gets, ended, fault_at, log_answers, receptions_of}
 use Rattle.aprs_log.specs.declared.Ending.{Ending}
 use Rattle.aprs_log.specs.declared.Ending.TheVariants as ending
@@ -194,7 +194,7 @@ faultless_book v true rows is fits b Memory h = h
 faultless_book v true rows is fits b OtherGap h = h
 faultless_book v true rows is fits b Narrower h = h
 
-members_book : (gap : ℕ) (v : Version) (b : Bool) (rows : List Row) → gap_of v ≡ gap → IsBookRows v rows → b ≡ true → AreMembersIn gap b (book_text v rows) ending.End (real rows)
+members_book : (gap : ℕ) (v : Version) (b : Bool) (rows : List Row) → gap_of v ≡ gap → IsBookRows v rows → b ≡ true → AreMembersIn gap b (book_text v rows) ending.End (witnesses rows)
 members_book gap v false rows same is b = absurd cc
 members_book gap v true rows same is b = record { version = v; gap_is = same; rows = rows; is_book = is; text_is = refl; receptions_are = refl }
 
@@ -229,9 +229,9 @@ reads_book asked b v same is fits =
       faultless_book v (is_book_file (book_text v b.rows)) b.rows is fits begin,
       (
         gap_book asked (is_book_file (book_text v b.rows)) b.gap begin,
-        real b.rows,
+        witnesses b.rows,
         members_book b.gap v (is_book_file (book_text v b.rows)) b.rows (sym same) is begin,
-        realised (millis_of b.gap) b.rows (omega (arith, positive, same)) (subst (λ g. Sound (millis_of g) b.rows) (sym same) is.sound),
+        witnessed (millis_of b.gap) b.rows (omega (arith, positive, same)) (subst (λ g. Sound (millis_of g) b.rows) (sym same) is.sound),
       ),
     )
 

@@ -9,7 +9,7 @@ use Rattle.aprs_log.specs.declared.Ending.{Ending}
 use Rattle.aprs_log.specs.declared.fault.LogFault.{LogFault}
 use Rattle.aprs_log.specs.declared.line.Line.{Line}
 use Rattle.aprs_log.specs.declared.line.Line.TheVariants.{Heard, Passed}
-use Rattle.aprs_log.proofs.AwaitLemmas.{gets_whole}
+use Rattle.aprs_log.proofs.Awaiting.{gets_whole}
 use Rattle.aprs_tool.specs.Inputs.{AddsAll, HoldsOfGot, ReadsLog}
 use Rattle.aprs_tool.specs.declared.fault.InputFault.{InputFault}
 use Rattle.aprs_tool.specs.declared.fault.InputFault.TheVariants.{Log, Memory}

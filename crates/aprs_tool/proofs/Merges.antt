@@ -11,7 +11,7 @@ use Rattle.aprs_laws.specs.BookValue.{BookValue}
 use Rattle.aprs_laws.specs.Gap.{millis_of}
 use Rattle.aprs_laws.specs.Row.{Row}
 use Rattle.aprs_log.specs.Reception.{Heard}
-use Rattle.aprs_log.proofs.AwaitLemmas.{gets_whole}
+use Rattle.aprs_log.proofs.Awaiting.{gets_whole}
 use Rattle.aprs_booktext.specs.Text.{written_text}
 use Rattle.aprs_tool.specs.Inputs.{AreMembers, Fits, HoldsOfGot, IsNotTaken, OfGot, TakesInput}
 use Rattle.aprs_tool.specs.Merge.{AllFit, AreMembersOfAll, GetsEach, Got, book_with, HoldsOfEach, IsBookOfAll, IsBookTextOf, IsFirstRefused, ReadsEach, WritesOfAll}

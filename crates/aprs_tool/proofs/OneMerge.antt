@@ -10,7 +10,7 @@ use Rattle.aprs_laws.specs.Lists.{SameMembers}
 use Rattle.aprs_laws.specs.Row.{Row}
 use Rattle.aprs_laws.specs.Sound.{Sound}
 use Rattle.aprs_laws.proofs.Books.{book_carries, one_book, turn, unique}
-use Rattle.aprs_laws.proofs.Soundness.{exists, realised}
+use Rattle.aprs_laws.proofs.Soundness.{exists, witnessed}
 use Rattle.aprs_laws.proofs.Unions.{merged}
 use Rattle.aprs_booktext.specs.Text.{written_text}
 use Rattle.aprs_booktext.proofs.OneText.{one_text}
@@ -32,7 +32,7 @@ of_one gap pos true t c S T stands reads =
       rows = reads.rows;
       first = subst (λ (rows : List Row). BookOf (millis_of gap) S rows) same stands.book_is;
       second = subst (λ U. BookOf (millis_of gap) U reads.rows) (sym reads.receptions_are)
-          (realised (millis_of gap) reads.rows (omega (arith, pos)) (subst (λ g. Sound (millis_of g) reads.rows) reads.gap_is reads.is_book.sound));
+          (witnessed (millis_of gap) reads.rows (omega (arith, pos)) (subst (λ g. Sound (millis_of g) reads.rows) reads.gap_is reads.is_book.sound));
     }
 of_one gap pos false t c S T stands reads =
     let told = receptions_of (log_answers t c).given in

@@ -4,8 +4,8 @@ use Rattle.std.specs.List.{flat_map}
 use Rattle.std.specs.Io.KnownBytes.{Appends}
 use Rattle.std.proofs.KnownBytes.{Appends-nil, Appends-trans}
 use Rattle.std.proofs.lemmas.List.{flat_map_more}
-use Rattle.aprs_kiss.specs.Device.{AppendsFront}
-use Rattle.aprs_kiss.proofs.Bytes.{AppendsFront-more, AppendsFront-then}
+use Rattle.aprs_kiss.specs.Device.{AppendsPrefix}
+use Rattle.aprs_kiss.proofs.Bytes.{AppendsPrefix-more, AppendsPrefix-then}
 use Rattle.aprs_log.specs.LogAnswers.{Answers, ended, log_answers, then_given}
 use Rattle.aprs_log.specs.Reader.{AreAnswersOf}
 use Rattle.aprs_log.specs.declared.line.Line.{Line}
@@ -79,7 +79,7 @@ lines_of form a = flat_map (line_text form) a.given
 -- the output was refused
 pub Ran-refused : (form : Form) (first now after : Answers → Type 0) (limit : ℕ) (known end a b c : Option (List ℕ)) (x lent : Line) → lent ≡ x
     → Ran (flat_map (line_text form)) first now a b → ((answers : Answers) → after answers → now (then_given x answers))
-    → (answers : Answers) → after answers → AppendsFront b c (line_text form lent) → IsWhole first limit known end
+    → (answers : Answers) → after answers → AppendsPrefix b c (line_text form lent) → IsWhole first limit known end
     → RunsOver (lines_text form) lines_fault limit known end (Err Write) a c
 Ran-refused form first now after limit known end a b c x lent same h next answers may front whole =
     let f = line_text form in
@@ -87,8 +87,8 @@ Ran-refused form first now after limit known end a b c x lent same h next answer
     let text : flat_map f all.given ≡ (flat_map f h.seen ++ f x) ++ flat_map f answers.given =
     flat_map-append f h.seen (x ∷ answers.given) ∙ sym (append_assoc (flat_map f h.seen) (f x) (flat_map f answers.given)) in
     over (lines_of form) limit known end (Err Write) a c all (whole all (h.has.complete (then_given x answers) (next answers may)))
-    (subst (AppendsFront a c) (sym text) (AppendsFront-more a c (flat_map f h.seen ++ f x) (flat_map f answers.given)
-    (AppendsFront-then a b c (flat_map f h.seen) (f x) h.out (subst (λ (y : Line). AppendsFront b c (f y)) same front))))
+    (subst (AppendsPrefix a c) (sym text) (AppendsPrefix-more a c (flat_map f h.seen ++ f x) (flat_map f answers.given)
+    (AppendsPrefix-then a b c (flat_map f h.seen) (f x) h.out (subst (λ (y : Line). AppendsPrefix b c (f y)) same front))))
 
 -- what was written is the text of all answers, where none is left
 whole_text : (f : Line → List ℕ) (seen : List Line) (a b : Option (List ℕ)) → Appends a b (flat_map f seen) → Appends a b (flat_map f (seen ++ []))

@@ -7,7 +7,7 @@ use Rattle.aprs_log.specs.declared.Ending.{Ending}
 use Rattle.aprs_log.specs.declared.Ending.TheVariants as ending
 use Rattle.aprs_log.specs.declared.fault.LogCause.{LogCause}
 use Rattle.aprs_log.specs.declared.fault.LogCause.TheVariants as cause
-use Rattle.aprs_log.proofs.AnswerLemmas.{answers_from-tail}
+use Rattle.aprs_log.proofs.LogAnswers.{answers_from-tail}
 
 -- one without an LF is a tail
 tail_step : (b any : Bool) (n k : ℕ) → (b || any) ≡ false → (any ≡ false → n ≤ k) → n + 1 ≤ cond (not b) (1 + k) 0

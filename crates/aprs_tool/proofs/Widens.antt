@@ -3,7 +3,7 @@ use Rattle.std.proofs.Common.{◌≡◌, ◌<◌, ◌≤◌, ℕ, List, Option, 
 use Rattle.std.specs.Prelude.{◌↔◌}
 use Rattle.std.specs.Io.KnownBytes.{Appends}
 use Rattle.std.proofs.lemmas.Bool.{cases_lt}
-use Rattle.aprs_kiss.specs.Device.{AppendsFront}
+use Rattle.aprs_kiss.specs.Device.{AppendsPrefix}
 use Rattle.aprs_laws.specs.BookValue.{BookValue, widened_to}
 use Rattle.aprs_book.specs.declared.widen_fault.WidenFault.{WidenFault}
 use Rattle.aprs_book.specs.declared.widen_fault.WidenFault.TheVariants as fault
@@ -46,6 +46,6 @@ module _ (known after : Option (List ℕ)) (limit gap : ℕ) (old new : Option (
     sent w enough is text =
         got_so known after limit (λ input. input) _ _ (λ t c h. (h.0, (b, h.1, (enough, subst (λ (w : BookValue). Appends old new (written_text w)) is text)))) read
 
-    pub cut_short : (w : BookValue) → b.gap ≤ gap → w ≡ widened_to gap b → AppendsFront old new (written_text w) → OfGot limit known after (WidensInput gap (Err Write) old new)
+    pub cut_short : (w : BookValue) → b.gap ≤ gap → w ≡ widened_to gap b → AppendsPrefix old new (written_text w) → OfGot limit known after (WidensInput gap (Err Write) old new)
     cut_short w enough is text =
-        got_so known after limit (λ input. input) _ _ (λ t c h. (h.0, (b, h.1, (enough, subst (λ (w : BookValue). AppendsFront old new (written_text w)) is text)))) read
+        got_so known after limit (λ input. input) _ _ (λ t c h. (h.0, (b, h.1, (enough, subst (λ (w : BookValue). AppendsPrefix old new (written_text w)) is text)))) read

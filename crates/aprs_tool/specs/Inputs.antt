@@ -10,7 +10,7 @@ use Rattle.aprs_log.specs.declared.Ending.{Ending}
 use Rattle.aprs_laws.specs.Book.{BookOf}
 use Rattle.aprs_laws.specs.BookValue.{BookValue, Holds}
 use Rattle.aprs_laws.specs.Gap.{millis_of}
-use Rattle.aprs_laws.specs.Real.{real}
+use Rattle.aprs_laws.specs.Witnesses.{witnesses}
 use Rattle.aprs_laws.specs.Row.{Row}
 use Rattle.aprs_booktext.specs.FirstFault.{FirstFault, IsMemoryAt, piece_most}
 use Rattle.aprs_booktext.specs.Text.{book_text, IsBookRows}
@@ -46,7 +46,7 @@ IsFaultless t c = (e : InputFault) → IsFaultOf e t c → ⊥
 
 -- ---- its receptions
 
--- the text is that of a book of this gap in some version, and these are the real receptions of its
+-- the text is that of a book of this gap in some version, and these are the witnesses of its
 -- rows
 pub record AreInBook (gap : ℕ) (t : List ℕ) (S : List Heard) : Type 0 where
   pub version : Version
@@ -54,7 +54,7 @@ pub record AreInBook (gap : ℕ) (t : List ℕ) (S : List Heard) : Type 0 where
   pub rows : List Row
   pub is_book : IsBookRows version rows
   pub text_is : t ≡ book_text version rows
-  pub receptions_are : S ≡ real rows
+  pub receptions_are : S ≡ witnesses rows
 
 abbrev pub AreMembersIn : ℕ → Bool → List ℕ → Ending → List Heard → Type 0
 AreMembersIn gap true t c S = AreInBook gap t S

@@ -2,7 +2,7 @@
 use Rattle.std.specs.Prelude.{ℕ, ◌≤◌, List, ◌∷◌, ◌++◌, Option, Result, OnOk, OnErr}
 use Rattle.std.specs.Fmt.{decimal}
 use Rattle.aprs_ax25.specs.Callsign.{call_text}
-use Rattle.aprs_kiss.specs.Device.{AppendsFront, Rose}
+use Rattle.aprs_kiss.specs.Device.{AppendsPrefix, Rose}
 use Rattle.aprs_kiss.specs.declared.WriteFault.{WriteFault}
 use Rattle.aprs_log.specs.Moment.{moment_text}
 use Rattle.aprs_booktext.specs.Outbox.{Puts}
@@ -15,7 +15,7 @@ use Rattle.aprs_tool.specs.declared.field.Field.TheVariants as field
 pub record PutsText (r : Result (Unit {0}) WriteFault) (old new : Option (List ℕ))
     (before after : ℕ) (held left text : List ℕ) : Type 0 where
   pub sent : OnOk r (Puts old new held left text)
-  pub prefix : OnErr r (AppendsFront old new (held ++ text))
+  pub prefix : OnErr r (AppendsPrefix old new (held ++ text))
   pub count : before ≤ after
   pub fault : OnErr r (Rose before after)
 

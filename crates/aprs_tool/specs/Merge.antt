@@ -1,7 +1,7 @@
 -- What a merge of several inputs writes and answers.
 use Rattle.std.specs.Prelude.{◌≡◌, ◌<◌, ℕ, zero, suc, List, [], ◌∷◌, ◌++◌, Option, Some, Result, Ok, Err, map, slice_get}
 use Rattle.std.specs.Io.KnownBytes.{Appends}
-use Rattle.aprs_kiss.specs.Device.{AppendsFront, answered_of, failures_of, Rose, RoseWhere}
+use Rattle.aprs_kiss.specs.Device.{AppendsPrefix, answered_of, failures_of, Rose, RoseWhere}
 use Rattle.aprs_kiss.specs.declared.Counted.{Counted}
 use Rattle.aprs_log.specs.LogAnswers.{Gets}
 use Rattle.aprs_log.specs.Reception.{Heard}
@@ -83,7 +83,7 @@ WritesBook gap gots P = WritesOfAll gap (IsBookTextOf gap) gots P
 abbrev pub MergesEach : ℕ → Result (Unit {0}) RunFault → Option (List ℕ) → Option (List ℕ)
     → List Got → Type 0
 MergesEach gap (Ok u) old new gots = WritesBook gap gots (λ text. Appends old new text)
-MergesEach gap (Err Write) old new gots = WritesBook gap gots (λ text. AppendsFront old new text)
+MergesEach gap (Err Write) old new gots = WritesBook gap gots (λ text. AppendsPrefix old new text)
 MergesEach gap (Err (Input index e)) old new gots = IsFirstRefused gap index e gots × (new ≡ old)
 MergesEach gap (Err Memory) old new gots = ⊥
 

@@ -4,7 +4,7 @@ use Rattle.std.specs.Prelude.{Err, MatchResult, IfSome, codes}
 use Rattle.std.specs.List.{flat_map}
 use Rattle.std.specs.Fmt.{decimal}
 use Rattle.std.specs.Io.KnownBytes.{Appends}
-use Rattle.aprs_kiss.specs.Device.{AppendsFront}
+use Rattle.aprs_kiss.specs.Device.{AppendsPrefix}
 use Rattle.aprs_kiss.specs.Judgement.{Judgement}
 use Rattle.aprs_kiss.specs.Spelling.{kiss_text}
 use Rattle.aprs_kiss.specs.Stream.{judgements_of}
@@ -146,7 +146,7 @@ FailsSo (Input index (Book f)) old new text fault = ⊥
 FailsSo (Input index Memory) old new text fault = ⊥
 FailsSo (Input index OtherGap) old new text fault = ⊥
 FailsSo (Input index Narrower) old new text fault = ⊥
-FailsSo Write old new text fault = AppendsFront old new text
+FailsSo Write old new text fault = AppendsPrefix old new text
 FailsSo run.Memory old new text fault = ⊥
 
 -- the run of a text and a fault writes and answers so

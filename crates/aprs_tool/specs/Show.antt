@@ -3,7 +3,7 @@ use Rattle.std.specs.Prelude.{◌≡◌, ◌≢◌, ℕ, List, [], ◌∷◌, �
 use Rattle.std.specs.List.{flat_map}
 use Rattle.std.specs.Fmt.{decimal}
 use Rattle.std.specs.Io.KnownBytes.{Appends}
-use Rattle.aprs_kiss.specs.Device.{AppendsFront}
+use Rattle.aprs_kiss.specs.Device.{AppendsPrefix}
 use Rattle.aprs_ax25.specs.Callsign.{Call, call_text}
 use Rattle.aprs_log.specs.Reception.{Heard}
 use Rattle.aprs_laws.specs.Best.{LastKnown}
@@ -48,7 +48,7 @@ abbrev pub ShowsEach : ℕ → Result (Unit {0}) RunFault → Option (List ℕ) 
 ShowsEach gap (Ok u) old new gots =
     WritesOfAll gap (IsListingOf gap) gots (λ text. Appends old new text)
 ShowsEach gap (Err Write) old new gots =
-    WritesOfAll gap (IsListingOf gap) gots (λ text. AppendsFront old new text)
+    WritesOfAll gap (IsListingOf gap) gots (λ text. AppendsPrefix old new text)
 ShowsEach gap (Err (Input index e)) old new gots = IsFirstRefused gap index e gots × (new ≡ old)
 ShowsEach gap (Err Memory) old new gots = AllFit gap gots × (new ≡ old)
 

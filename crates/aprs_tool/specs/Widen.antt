@@ -1,7 +1,7 @@
 -- What widening an input writes and answers.
 use Rattle.std.specs.Prelude.{◌≡◌, ◌<◌, ◌≤◌, ◌⊎◌, ℕ, List, Option, Result, Ok, Err}
 use Rattle.std.specs.Io.KnownBytes.{Appends}
-use Rattle.aprs_kiss.specs.Device.{AppendsFront}
+use Rattle.aprs_kiss.specs.Device.{AppendsPrefix}
 use Rattle.aprs_log.specs.declared.Ending.{Ending}
 use Rattle.aprs_laws.specs.BookValue.{BookValue, widened_to}
 use Rattle.aprs_booktext.specs.Text.{written_text}
@@ -28,7 +28,7 @@ WritesWide gap t c P = OfInput gap t c (λ b. (b.gap ≤ gap) × P (written_text
 abbrev pub WidensInput : ℕ → Result (Unit {0}) RunFault → Option (List ℕ) → Option (List ℕ)
     → List ℕ → Ending → Type 0
 WidensInput gap (Ok u) old new t c = WritesWide gap t c (λ text. Appends old new text)
-WidensInput gap (Err Write) old new t c = WritesWide gap t c (λ text. AppendsFront old new text)
+WidensInput gap (Err Write) old new t c = WritesWide gap t c (λ text. AppendsPrefix old new text)
 WidensInput gap (Err (Input index e)) old new t c =
     (index ≡ 0) × IsNotWidened gap e t c × (new ≡ old)
 WidensInput gap (Err Memory) old new t c = OfInput gap t c (λ b. b.gap ≤ gap) × (new ≡ old)

@@ -2,7 +2,7 @@
 ghost use Rattle.std.specs.Prelude.{◌≡◌, ◌≤◌, ◌++◌, ◌∷◌, [], OnOk, OnErr};
 ghost use Rattle.std.specs.Io.KnownBytes.{Appends};
 ghost use Rattle.aprs_ax25.specs.FrameFault.{parts_of};
-ghost use Rattle.aprs_kiss.specs.Device.{device_of, failures_of, Rose, AppendsFront};
+ghost use Rattle.aprs_kiss.specs.Device.{device_of, failures_of, Rose, AppendsPrefix};
 ghost use Rattle.aprs_report.specs.Reader.{reading_of};
 ghost use Rattle.aprs_report.specs.Reading.{kind_of};
 ghost use Rattle.arrayvec.specs.ArrayVec.{array_vec_len};
@@ -45,7 +45,7 @@ pub fn write_answer<W: Write>(
 ) -> Result<(), WriteFault>
     ensures sent { OnOk result (Appends (W.contents (device_of w.old))
         (W.contents (device_of w.new)) (line_text form.now line.now)) }
-    ensures prefix { OnErr result (AppendsFront (W.contents (device_of w.old))
+    ensures prefix { OnErr result (AppendsPrefix (W.contents (device_of w.old))
         (W.contents (device_of w.new)) (line_text form.now line.now)) }
     ensures count { failures_of w.old ≤ failures_of w.new }
     ensures fault { OnErr result (Rose (failures_of w.old) (failures_of w.new)) }
@@ -65,7 +65,7 @@ fn write_reception<W: Write>(
 ) -> Result<(), WriteFault>
     ensures sent { OnOk result (Appends (W.contents (device_of w.old))
         (W.contents (device_of w.new)) (reception_text form.now reception.now)) }
-    ensures prefix { OnErr result (AppendsFront (W.contents (device_of w.old))
+    ensures prefix { OnErr result (AppendsPrefix (W.contents (device_of w.old))
         (W.contents (device_of w.new)) (reception_text form.now reception.now)) }
     ensures count { failures_of w.old ≤ failures_of w.new }
     ensures fault { OnErr result (Rose (failures_of w.old) (failures_of w.new)) }
@@ -87,7 +87,7 @@ fn write_monitor_line<W: Write>(
 ) -> Result<(), WriteFault>
     ensures sent { OnOk result (Appends (W.contents (device_of w.old))
         (W.contents (device_of w.new)) (ended_by_lf (monitor_text (parts_of frame.now)))) }
-    ensures prefix { OnErr result (AppendsFront (W.contents (device_of w.old))
+    ensures prefix { OnErr result (AppendsPrefix (W.contents (device_of w.old))
         (W.contents (device_of w.new)) (ended_by_lf (monitor_text (parts_of frame.now)))) }
     ensures count { failures_of w.old ≤ failures_of w.new }
     ensures fault { OnErr result (Rose (failures_of w.old) (failures_of w.new)) }
@@ -105,7 +105,7 @@ fn write_kind_line<W: Write>(
 ) -> Result<(), WriteFault>
     ensures sent { OnOk result (Appends (W.contents (device_of w.old))
         (W.contents (device_of w.new)) (ended_by_lf (kind_text (parts_of frame.now)))) }
-    ensures prefix { OnErr result (AppendsFront (W.contents (device_of w.old))
+    ensures prefix { OnErr result (AppendsPrefix (W.contents (device_of w.old))
         (W.contents (device_of w.new)) (ended_by_lf (kind_text (parts_of frame.now)))) }
     ensures count { failures_of w.old ≤ failures_of w.new }
     ensures fault { OnErr result (Rose (failures_of w.old) (failures_of w.new)) }

@@ -4,9 +4,9 @@ ghost use Rattle.std.specs.Prelude.{OnErr};
 ghost use Rattle.std.specs.List.{flat_map};
 ghost use Rattle.std.specs.Io.KnownBytes.{Appends, Consumes};
 ghost use Rattle.aprs_ax25.specs.FrameFault.{frame_of};
-ghost use Rattle.aprs_kiss.specs.Device.{device_of, failures_of, answered_of, Rose, RoseWhere, AppendsFront};
+ghost use Rattle.aprs_kiss.specs.Device.{device_of, failures_of, answered_of, Rose, RoseWhere, AppendsPrefix};
 ghost use Rattle.aprs_kiss.specs.Reader.{StandsAfter};
-ghost use Rattle.aprs_kiss.specs.Told.{told_by};
+ghost use Rattle.aprs_kiss.specs.Answer.{told_by};
 ghost use Rattle.aprs_kiss.specs.Stream.{judgements_of, rest_of};
 ghost use Rattle.aprs_log.specs.Awaits.{EndsHere};
 ghost use Rattle.aprs_log.specs.declared.Ending.TheVariants.{Read as ReadFailed};
@@ -91,7 +91,7 @@ fn capture_chunk<W: Write>(
         → Appends (W.contents (device_of w.old)) (W.contents (device_of w.new))
         (flat_map (capture_text receiver.now moment.now) (judgements_of (e ++ chunk.now)))) }
     ensures prefix { OnErr result ((e : List ℕ) → StandsAfter reader.old e
-        → AppendsFront (W.contents (device_of w.old)) (W.contents (device_of w.new))
+        → AppendsPrefix (W.contents (device_of w.old)) (W.contents (device_of w.new))
         (flat_map (capture_text receiver.now moment.now) (judgements_of (e ++ chunk.now)))) }
     ensures count { failures_of w.old ≤ failures_of w.new }
     ensures fault { OnErr result (Rose (failures_of w.old) (failures_of w.new)) }
@@ -117,7 +117,7 @@ fn write_fed<W: Write>(
     ensures sent { OnOk result (Appends (W.contents (device_of w.old))
         (W.contents (device_of w.new)) (flat_map (capture_text receiver.now moment.now)
         (told_by fed.entry))) }
-    ensures prefix { OnErr result (AppendsFront (W.contents (device_of w.old))
+    ensures prefix { OnErr result (AppendsPrefix (W.contents (device_of w.old))
         (W.contents (device_of w.new)) (flat_map (capture_text receiver.now moment.now)
         (told_by fed.entry))) }
     ensures count { failures_of w.old ≤ failures_of w.new }
@@ -139,7 +139,7 @@ fn write_frame<W: Write>(
 ) -> Result<(), WriteFault>
     ensures sent { OnOk result (Appends (W.contents (device_of w.old))
         (W.contents (device_of w.new)) (captured receiver.now moment.now (frame_of bytes.now))) }
-    ensures prefix { OnErr result (AppendsFront (W.contents (device_of w.old))
+    ensures prefix { OnErr result (AppendsPrefix (W.contents (device_of w.old))
         (W.contents (device_of w.new)) (captured receiver.now moment.now (frame_of bytes.now))) }
     ensures count { failures_of w.old ≤ failures_of w.new }
     ensures fault { OnErr result (Rose (failures_of w.old) (failures_of w.new)) }

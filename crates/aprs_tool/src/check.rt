@@ -3,7 +3,7 @@ ghost use Rattle.std.specs.Prelude.{◌≡◌, ◌≤◌, ◌++◌, codes, OnOk,
 ghost use Rattle.std.specs.Fmt.{decimal};
 ghost use Rattle.std.specs.Io.KnownBytes.{Appends};
 ghost use Rattle.arrayvec.specs.ArrayVec.{array_vec_len};
-ghost use Rattle.aprs_kiss.specs.Device.{device_of, failures_of, answered_of, Rose, RoseWhere, AppendsFront};
+ghost use Rattle.aprs_kiss.specs.Device.{device_of, failures_of, answered_of, Rose, RoseWhere, AppendsPrefix};
 ghost use Rattle.aprs_log.specs.Fault.{reason_name};
 ghost use Rattle.aprs_tool.specs.Run.{RunsOver, IsRead, check_text, lines_fault, ended_by_lf};
 ghost use Rattle.aprs_tool.specs.Run.{passed_line, totals_line};
@@ -57,7 +57,7 @@ pub fn check_run<R: Read, W: Write, A: Allocator + Copy>(
 fn write_passed<W: Write>(w: &mut Counted<W>, line: u64, reason: Reason) -> Result<(), WriteFault>
     ensures sent { OnOk result (Appends (W.contents (device_of w.old))
         (W.contents (device_of w.new)) (passed_line line reason)) }
-    ensures prefix { OnErr result (AppendsFront (W.contents (device_of w.old))
+    ensures prefix { OnErr result (AppendsPrefix (W.contents (device_of w.old))
         (W.contents (device_of w.new)) (passed_line line reason)) }
     ensures count { failures_of w.old ≤ failures_of w.new }
     ensures fault { OnErr result (Rose (failures_of w.old) (failures_of w.new)) }
@@ -70,7 +70,7 @@ fn write_passed<W: Write>(w: &mut Counted<W>, line: u64, reason: Reason) -> Resu
 fn write_totals<W: Write>(w: &mut Counted<W>, heard: u64, passed: u64) -> Result<(), WriteFault>
     ensures sent { OnOk result (Appends (W.contents (device_of w.old))
         (W.contents (device_of w.new)) (totals_line heard passed)) }
-    ensures prefix { OnErr result (AppendsFront (W.contents (device_of w.old))
+    ensures prefix { OnErr result (AppendsPrefix (W.contents (device_of w.old))
         (W.contents (device_of w.new)) (totals_line heard passed)) }
     ensures count { failures_of w.old ≤ failures_of w.new }
     ensures fault { OnErr result (Rose (failures_of w.old) (failures_of w.new)) }

@@ -2,7 +2,7 @@
 ghost use Rattle.std.specs.Prelude.{◌≡◌, ◌≤◌, IfOk, OnOk, OnErr};
 ghost use Rattle.std.specs.List.{flat_map};
 ghost use Rattle.std.specs.Io.KnownBytes.{Appends};
-ghost use Rattle.aprs_kiss.specs.Device.{device_of, failures_of, Rose, AppendsFront};
+ghost use Rattle.aprs_kiss.specs.Device.{device_of, failures_of, Rose, AppendsPrefix};
 ghost use Rattle.aprs_laws.specs.Gap.{millis_of};
 ghost use Rattle.aprs_book.specs.Stations.{TellsStations};
 ghost use Rattle.aprs_book.specs.Names.{TellsNamed};
@@ -49,7 +49,7 @@ impl<'a, A: Allocator + Copy> Views<'a, A> {
         ensures sent { OnOk result (Appends (W.contents (device_of w.old))
             (W.contents (device_of w.new))
             (show_text self.now.stations.items self.now.named.items self.now.messages.items)) }
-        ensures prefix { OnErr result (AppendsFront (W.contents (device_of w.old))
+        ensures prefix { OnErr result (AppendsPrefix (W.contents (device_of w.old))
             (W.contents (device_of w.new))
             (show_text self.now.stations.items self.now.named.items self.now.messages.items)) }
         ensures count { failures_of w.old ≤ failures_of w.new }

@@ -1,7 +1,7 @@
 use Rattle.std.proofs.Common.{refl}
 use Rattle.aprs_laws.specs.Gap.{millis_of}
-use Rattle.aprs_laws.specs.Real.{real}
-use Rattle.aprs_laws.proofs.Soundness.{sound, realised}
+use Rattle.aprs_laws.specs.Witnesses.{witnesses}
+use Rattle.aprs_laws.proofs.Soundness.{sound, witnessed}
 use Rattle.aprs_booktext.specs.Version.{gap_of}
 use Rattle.aprs_booktext.proofs.Versions.{some_millis}
 use Rattle.aprs_booktext.proofs.laws.book_texts_are_of_sets.Goals as goal
@@ -9,12 +9,12 @@ use Rattle.aprs_booktext.proofs.laws.book_texts_are_of_sets.Goals as goal
 pub returns : goal.returns
 returns c = λ text. (
   λ t. (
-    real t.rows,
+    witnesses t.rows,
     record {
       version = t.version;
       is = t.is.version;
       rows = t.rows;
-      holds = realised (millis_of (gap_of t.version)) t.rows (some_millis t.version t.is.version) t.is.sound;
+      holds = witnessed (millis_of (gap_of t.version)) t.rows (some_millis t.version t.is.version) t.is.sound;
       each = t.is.each;
       text_is = t.text_is;
     },

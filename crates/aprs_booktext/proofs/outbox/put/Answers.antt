@@ -1,11 +1,11 @@
 use Rattle.std.proofs.Common.{[], refl, sym, append-nil}
 use Rattle.std.proofs.lemmas.Result.{on_ok_weaker}
-use Rattle.aprs_kiss.proofs.Bytes.{AppendsFront-more, on_err}
+use Rattle.aprs_kiss.proofs.Bytes.{AppendsPrefix-more, on_err}
 use Rattle.aprs_booktext.proofs.Sending.{Puts-last, Puts-sent, prefix_of_last}
 use Rattle.aprs_booktext.proofs.outbox.put.Goals as goal
 
 pub returns-in_err-flush-clause-prefix : goal.returns-in_err-flush-clause-prefix
-returns-in_err-flush-clause-prefix g c = on_err c.from_residual.result (AppendsFront-more _ _ _ c.args.bytes.now c.in_err-flush.ensures.prefix)
+returns-in_err-flush-clause-prefix g c = on_err c.from_residual.result (AppendsPrefix-more _ _ _ c.args.bytes.now c.in_err-flush.ensures.prefix)
 
 pub returns-then-bytes-gt-MAX_HELD-clause-sent : goal.returns-then-bytes-gt-MAX_HELD-clause-sent
 returns-then-bytes-gt-MAX_HELD-clause-sent g c =

@@ -1,5 +1,5 @@
 use Rattle.std.proofs.Common.{◌∙◌, ap, length, arith}
-use Rattle.aprs_io.proofs.CutLemmas.{taken}
+use Rattle.aprs_io.proofs.Cuts.{taken}
 use Rattle.aprs_log.proofs.next_line.take_line.Goals as goal
 
 pub consume-requires : goal.consume-requires
