@@ -14,7 +14,7 @@ use crate::laws::{frames_are_read, written_laws};
 use crate::line::Line;
 use crate::moment::Moment;
 use crate::reception::Reception;
-use aprs_io::{Counted, WriteFault, encode_to, send};
+use aprs_io::{Counted, WriteFault, encode_to, put, send};
 use aprs_kiss::cut_plain;
 use std::io::Write;
 
@@ -122,18 +122,6 @@ fn put_line(line: &mut [u8], spelled: &mut [u8], reception: &Reception) -> usize
     let spelled_len = put_frame(spelled, frame);
     let digits = put_hex(line, place, &spelled[..spelled_len]);
     put(line, digits, b"\n")
-}
-
-/// Puts bytes at a place, and returns the place after them.
-fn put(out: &mut [u8], at: usize, bytes: &[u8]) -> usize
-    requires { at + length bytes.now ≤ length out.old }
-    ensures end { result ≡ at + length bytes.now }
-    ensures len { length out.new ≡ length out.old }
-    ensures bytes { take result out.new ≡ take at out.old ++ bytes.now }
-{
-    let end = at + bytes.len();
-    out[at..end].copy_from_slice(bytes);
-    end
 }
 
 /// Puts the digits of bytes at a place, and returns the place after them.
