@@ -39,8 +39,7 @@ pub record IsData (piece : List ℕ) (frame : DataFrame) : Type 0 where
   pub port : frame.port ≡ head / 16
 
 -- A nonempty piece is judged by the one of these that is so: it spells no bytes, it is too long,
--- its
--- command is another than data, or it is a data frame.
+-- its command is another than data, or it is a data frame.
 abbrev pub Judged : List ℕ → Judgement → Type 0
 Judged piece (Err BadEscape) = (bytes : List ℕ) → ¬ Spells bytes piece
 Judged piece (Err TooLong) = IsLong piece

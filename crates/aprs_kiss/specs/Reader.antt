@@ -35,8 +35,7 @@ pub record HoldsLongEscape (bytes : List ℕ) : Type 0 where
   pub long : MAX_FRAME < length all
 
 -- What the reader holds after these bytes of a piece, by its state; in the state `Broken` they
--- spell
--- nothing, whatever follows them.
+-- spell nothing, whatever follows them.
 abbrev pub Holds : State → List ℕ → List ℕ → Type 0
 Holds Ended held bytes = bytes ≡ []
 Holds Plain held bytes = HoldsPlain held bytes
