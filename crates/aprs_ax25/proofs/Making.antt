@@ -96,7 +96,7 @@ made p bytes h e =
           (sym (FrameOf-parts_of p bytes f)) f,
     )
 
--- parts that are not refused are not too many
+-- parts without a fault are not too many
 pub record IsWithin (hops info : ℕ) : Type 0 where
   pub few : hops ≤ 8
   pub some : 0 < info

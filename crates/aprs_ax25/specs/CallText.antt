@@ -24,15 +24,13 @@ abbrev pub from_dash : List ℕ → List ℕ
 from_dash text = drop (length (before_dash text)) text
 
 -- The text names this SSID: no text names 0, and a dash and a number from 1 to 15, without a
--- leading
--- zero, that number.
+-- leading zero, that number.
 pub record SsidText (ssid : ℕ) (text : List ℕ) : Type 0 where
   pub range : ssid < 16
   pub spelled : text ≡ ssid_text ssid
 
 -- What each fault says of a text: the part before the first dash isn't 1 to 6 bytes long; not all
--- of
--- it are capitals and digits; the part from the dash on names no SSID.
+-- of it are capitals and digits; the part from the dash on names no SSID.
 abbrev pub IsWrongCall : CallFault → List ℕ → Type 0
 IsWrongCall Length text = (length (before_dash text) ≡ 0) ⊎ (6 < length (before_dash text))
 IsWrongCall Character text = list_all is_callsign_byte (before_dash text) ≡ false

@@ -59,9 +59,8 @@ abbrev pub addresses : List ℕ → List (List ℕ)
 addresses bytes = sevens (length (field_of bytes) / 7) (field_of bytes)
 
 -- What each fault says of the bytes, in this order: the field isn't 2 to 10 addresses; an address
--- has
--- no callsign; control isn't UI; PID isn't "no layer 3"; there is no information, or more than 256
--- bytes of it. `slice_index` is 0 past the end.
+-- has no callsign; control isn't UI; PID isn't "no layer 3"; there is no information, or more than
+-- 256 bytes of it. `slice_index` is 0 past the end.
 abbrev pub is_wrong : FrameFault → List ℕ → Bool
 is_wrong AddressFault bytes =
     not (nat_le (field_len bytes) (length bytes) && is_field_len (field_len bytes))

@@ -15,9 +15,9 @@ ghost use Rattle.std.proofs.Common.{rules};
 ghost use Rattle.std.specs.Cmp.{partial_order_from_own_ties};
 ghost use Rattle.std.specs.Cmp.Rules.{comparing};
 
-use crate::bytes::{MAX_UI_FRAME, copied, push_all};
 use crate::fault::CallFault;
-use crate::scan::is_callsign_byte;
+use crate::scan::{MAX_UI_FRAME, is_callsign_byte};
+use aprs_io::{copied, push_all};
 use arrayvec::ArrayVec;
 use std::cmp::Ordering;
 use std::marker::Model;

@@ -19,12 +19,12 @@ ghost use Rattle.std.specs.Cmp.{partial_order_from_own_ties};
 ghost use Rattle.std.specs.Cmp.Rules.{comparing};
 ghost use Rattle.aprs_ax25.specs.Order.{bytes_cmp, bytes_eq};
 
-use crate::bytes::{MAX_UI_FRAME, copied, push_all};
 use crate::callsign::{Callsign, push_text_at};
 use crate::fault::{FrameFault, MakeFault};
 use crate::hop::Hop;
 use crate::plain::plain_field_len;
-use crate::scan::{CONTROL_UI, PID_NONE, end_of_field, fault_of, seven_at};
+use crate::scan::{CONTROL_UI, MAX_UI_FRAME, PID_NONE, end_of_field, fault_of, seven_at};
+use aprs_io::{copied, push_all};
 use arrayvec::ArrayVec;
 use std::cmp::Ordering;
 use std::marker::Model;

@@ -4,8 +4,8 @@ ghost use Rattle.arrayvec.specs.ArrayVec.{array_vec_len};
 ghost use Rattle.aprs_ax25.specs.Address.{IsAddress, address_octets};
 ghost use Rattle.aprs_ax25.specs.FrameFault.{has_callsign, address_of};
 
-use crate::bytes::MAX_UI_FRAME;
 use crate::callsign::Callsign;
+use crate::scan::MAX_UI_FRAME;
 use arrayvec::ArrayVec;
 
 /// A digipeater that a frame names (AX.25 2.2, section 3.12.5).

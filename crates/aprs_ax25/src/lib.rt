@@ -1,7 +1,6 @@
 //! Callsigns and UI frames of AX.25, as APRS uses them.
 #![tactic(auto)]
 
-mod bytes;
 mod callsign;
 mod fault;
 mod frame;

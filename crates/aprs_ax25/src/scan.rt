@@ -15,6 +15,9 @@ pub const CONTROL_UI: u8 = 0x03;
 /// The PID octet of no layer 3 protocol (AX.25 2.2, section 3.4).
 pub const PID_NONE: u8 = 0xf0;
 
+/// The most bytes of a UI frame: 10 addresses of 7 octets, control, PID and 256 of information.
+pub const MAX_UI_FRAME: usize = 328;
+
 /// Whether it is a capital or a digit.
 pub fn is_callsign_byte(b: u8) -> bool
     ensures { result ≡ is_callsign_byte b }

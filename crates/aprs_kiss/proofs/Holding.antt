@@ -31,17 +31,18 @@ Holds-in s t held bytes e h = subst (λ s. Holds s held bytes) e h
 -- a piece has begun in every state but one
 pub Holds-begun : (s : State) (held bytes : List ℕ) → s ≢ Ended → Holds s held bytes → bytes ≢ []
 Holds-begun Ended held bytes n h = λ _. n refl
-Holds-begun Plain held bytes n h = λ e. let z : length bytes ≡ 0 = ap length e in omega (arith, h.0)
+Holds-begun Plain held bytes n h = λ e.
+    let z : length bytes ≡ 0 = ap length e in omega (arith, h.nonempty)
 Holds-begun Escape held bytes n h =
     λ e. let z : length bytes ≡ 0 =
-    ap length e in omega (arith, ap length h.1, length-append h.0 (0xDB ∷ []))
+    ap length e in omega (arith, ap length h.escape, length-append h.prefix (0xDB ∷ []))
 Holds-begun Long held bytes n h = λ e.
-    let r : Some [] ≡ Some h.0 = sym unspelled-nil ∙ ap unspelled (sym e) ∙ h.1 in
-    let z : [] ≡ h.0 = cc in
-    omega (arith, h.2, ap length z)
+    let r : Some [] ≡ Some h.all = sym unspelled-nil ∙ ap unspelled (sym e) ∙ h.spelled in
+    let z : [] ≡ h.all = cc in
+    omega (arith, h.long, ap length z)
 Holds-begun LongEscape held bytes n h =
     λ e. let z : length bytes ≡ 0 =
-    ap length e in omega (arith, ap length h.2, length-append h.0 (0xDB ∷ []))
+    ap length e in omega (arith, ap length h.escape, length-append h.prefix (0xDB ∷ []))
 Holds-begun Broken held bytes n h = λ e.
     let none : Option (List ℕ) = None in
     let r : Some [] ≡ none = sym unspelled-nil ∙ ap (λ l. unspelled (l ++ [])) (sym e) ∙ h [] in
@@ -93,9 +94,10 @@ module _ (held prefix bytes : List ℕ) (code : ℕ) (n : HasNoEnd bytes)
 pub Holds-unescaped : (s : State) (held bytes : List ℕ) (code : ℕ) → IsOpen s → HasNoEnd bytes
     → ((more : List ℕ) → unspelled (0xDB ∷ code ∷ more) ≡ None) → Holds s held bytes
     → Holds Broken held (bytes ++ code ∷ [])
-Holds-unescaped Escape held bytes code o n k h = unspelled-unescaped held h.0 bytes code n h.1 h.2 k
+Holds-unescaped Escape held bytes code o n k h =
+    unspelled-unescaped held h.prefix bytes code n h.escape h.spelled k
 Holds-unescaped LongEscape held bytes code o n k h =
-    unspelled-unescaped h.1 h.0 bytes code n h.2 h.3 k
+    unspelled-unescaped h.all h.prefix bytes code n h.escape h.spelled k
 Holds-unescaped Ended held bytes code o n k h = absurd o
 Holds-unescaped Plain held bytes code o n k h = absurd o
 Holds-unescaped Long held bytes code o n k h = absurd o
@@ -107,12 +109,11 @@ pub Holds-escaped_long : (s : State) (held bytes : List ℕ) (code x : ℕ) → 
     → ((more : List ℕ) → unspelled (0xDB ∷ code ∷ more) ≡ option_map (λ l. x ∷ l) (unspelled more))
     → Holds s held bytes → Holds Long held (bytes ++ code ∷ [])
 Holds-escaped_long Escape held bytes code x o e n k h = absurd (e refl)
-Holds-escaped_long LongEscape held bytes code x o e n k h = (
-  h.1 ++ x ∷ [],
-  unspelled-escaped h.1 h.0 bytes code n h.2 h.3 x k,
-  omega
-      (arith, h.4, length-append h.1 (x ∷ [])),
-)
+Holds-escaped_long LongEscape held bytes code x o e n k h = record {
+  all = h.all ++ x ∷ [];
+  spelled = unspelled-escaped h.all h.prefix bytes code n h.escape h.spelled x k;
+  long = omega (arith, h.long, length-append h.all (x ∷ []));
+}
 Holds-escaped_long Ended held bytes code x o e n k h = absurd o
 Holds-escaped_long Plain held bytes code x o e n k h = absurd o
 Holds-escaped_long Long held bytes code x o e n k h = absurd o
@@ -128,7 +129,11 @@ Holds-more Ended held bytes run e p k n q h = absurd (e refl)
 Holds-more Plain held bytes run e p k n q h = absurd (p refl)
 Holds-more Escape held bytes run e p k n q h = absurd k
 Holds-more Long held bytes run e p k n q h =
-    (h.0 ++ run, Holds-run h.0 bytes run n q h.1, omega (arith, h.2, length-append h.0 run))
+    record {
+      all = h.all ++ run;
+      spelled = Holds-run h.all bytes run n q h.spelled;
+      long = omega (arith, h.long, length-append h.all run);
+    }
 Holds-more LongEscape held bytes run e p k n q h = absurd k
 Holds-more Broken held bytes run e p k n q h = Holds-broken held bytes run h
 
@@ -139,10 +144,10 @@ pub Holds-escape_again : (s : State) (held bytes : List ℕ) → s ≢ Ended →
 Holds-escape_again Ended held bytes e p l n h = absurd (e refl)
 Holds-escape_again Plain held bytes e p l n h = absurd (p refl)
 Holds-escape_again Escape held bytes e p l n h =
-    unspelled-unescaped held h.0 bytes 0xDB n h.1 h.2 unspelled-twice
+    unspelled-unescaped held h.prefix bytes 0xDB n h.escape h.spelled unspelled-twice
 Holds-escape_again Long held bytes e p l n h = absurd (l refl)
 Holds-escape_again LongEscape held bytes e p l n h =
-    unspelled-unescaped h.1 h.0 bytes 0xDB n h.2 h.3 unspelled-twice
+    unspelled-unescaped h.all h.prefix bytes 0xDB n h.escape h.spelled unspelled-twice
 Holds-escape_again Broken held bytes e p l n h = Holds-broken held bytes (0xDB ∷ []) h
 
 -- ---- the end of a piece
@@ -166,16 +171,17 @@ judgement_of-broken Ended held bytes p l z n h =
 judgement_of-broken Plain held bytes p l z n h = absurd (p refl)
 judgement_of-broken Long held bytes p l z n h = absurd (l refl)
 judgement_of-broken Escape held bytes p l z n h =
-    ap judgement_by (open_ends held h.0 bytes n h.1 h.2)
+    ap judgement_by (open_ends held h.prefix bytes n h.escape h.spelled)
 judgement_of-broken LongEscape held bytes p l z n h =
-    ap judgement_by (open_ends h.1 h.0 bytes n h.2 h.3)
+    ap judgement_by (open_ends h.all h.prefix bytes n h.escape h.spelled)
 judgement_of-broken Broken held bytes p l z n h =
     ap judgement_by (ap unspelled (sym (append-nil bytes)) ∙ h [])
 
 pub judgement_of-long : (bytes held : List ℕ) → Holds Long held bytes
     → judgement_of bytes ≡ Err TooLong
 unfolding judgement_of
-judgement_of-long bytes held h = ap judgement_by h.1 ∙ rw (lt-ltb 1024 (length h.0) h.2) refl
+judgement_of-long bytes held h =
+    ap judgement_by h.spelled ∙ rw (lt-ltb 1024 (length h.all) h.long) refl
 
 pub judgement_of-plain : (bytes held : List ℕ) → unspelled bytes ≡ Some held → length held ≤ 1024
     → judgement_of bytes ≡ frame_of held

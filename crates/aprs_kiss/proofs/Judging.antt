@@ -54,12 +54,14 @@ only_broken piece n h =
 judged_only : (piece : List ℕ) → HasNoEnd piece → (j : Judgement) → Judged piece j
     → j ≡ judgement_of piece
 judged_only piece n (Err BadEscape) h = sym (only_broken piece n h)
-judged_only piece n (Err TooLong) h = sym (only_long piece h.0 h.1 h.2)
+judged_only piece n (Err TooLong) h = sym (only_long piece h.bytes h.spelled h.long)
 judged_only piece n (Err NotData) h =
-    sym (only_short piece (h.0 ∷ h.1) h.2 h.3 ∙ command_other h.0 h.1 h.4)
+    sym (only_short piece (h.head ∷ h.bytes) h.spelled h.fits
+    ∙ command_other h.head h.bytes h.command)
 judged_only piece n (Ok frame) h =
-    ap (λ p. Ok (record { port = p; bytes = frame.bytes })) h.4
-    ∙ sym (only_short piece (h.0 ∷ frame.bytes) h.1 h.2 ∙ command_data h.0 frame.bytes h.3)
+    ap (λ p. Ok (record { port = p; bytes = frame.bytes })) h.port
+    ∙ sym (only_short piece (h.head ∷ frame.bytes) h.spelled h.fits
+    ∙ command_data h.head frame.bytes h.command)
 
 -- ---- and the one that it gives is one
 
@@ -68,8 +70,10 @@ judged_data : (piece bytes : List ℕ) → 0 < length bytes → Spells bytes pie
 judged_data piece [] z s l = absurd (omega (arith, z))
 judged_data piece (head ∷ bytes) z s l =
     elim (eqb_tells (head % 16) 0) as (λ _. Judged piece (frame_of (head ∷ bytes))) [
-      | inl e ↦ rw e.0 (head, s, l, e.1, refl)
-      | inr e ↦ rw e.0 (head, bytes, s, l, e.1)
+      | inl e ↦ rw e.0
+          (record { head = head; spelled = s; fits = l; command = e.1; port = refl })
+      | inr e ↦ rw e.0
+          (record { head = head; bytes = bytes; spelled = s; fits = l; command = e.1 })
     ]
 
 long_or_not : (n : ℕ) → (1024 < n) ⊎ (n ≤ 1024)
@@ -85,7 +89,7 @@ judged_bytes : (piece bytes : List ℕ) → 0 < length piece → Spells bytes pi
     → Judged piece (judgement_by (Some bytes))
 judged_bytes piece bytes z s =
     elim (long_or_not (length bytes)) as (λ _. Judged piece (judgement_by (Some bytes))) [
-      | inl l ↦ rw (lt-ltb 1024 (length bytes) l) (bytes, s, l)
+      | inl l ↦ rw (lt-ltb 1024 (length bytes) l) (record { bytes = bytes; spelled = s; long = l })
       | inr l ↦ rw (le-ltb 1024 (length bytes) l)
           (judged_data piece bytes (spelled_some bytes piece s z) s l)
     ]

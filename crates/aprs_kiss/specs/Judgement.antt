@@ -15,17 +15,36 @@ pub record DataFrame : Type 0 where
 abbrev pub Judgement : Type 0
 Judgement = Result DataFrame PassFault
 
--- A nonempty piece is judged by the first of these that is so: it spells no bytes; it spells more
--- bytes than a frame may have; the command in their type byte isn't 0; they are a data frame.
+-- The piece spells more bytes than a frame may have.
+pub record IsLong (piece : List ℕ) : Type 0 where
+  pub bytes : List ℕ
+  pub spelled : Spells bytes piece
+  pub long : MAX_FRAME < length bytes
+
+-- The piece spells a type byte and other bytes that fit, and the command in the type byte isn't 0.
+pub record IsOtherCommand (piece : List ℕ) : Type 0 where
+  pub head : ℕ
+  pub bytes : List ℕ
+  pub spelled : Spells (head ∷ bytes) piece
+  pub fits : length (head ∷ bytes) ≤ MAX_FRAME
+  pub command : head % 16 ≢ 0
+
+-- The piece spells a type byte and the frame's bytes, which fit; the command in the type byte is 0,
+-- and its port is the frame's.
+pub record IsData (piece : List ℕ) (frame : DataFrame) : Type 0 where
+  pub head : ℕ
+  pub spelled : Spells (head ∷ frame.bytes) piece
+  pub fits : length (head ∷ frame.bytes) ≤ MAX_FRAME
+  pub command : head % 16 ≡ 0
+  pub port : frame.port ≡ head / 16
+
+-- A nonempty piece is judged by the one of these that is so: it spells no bytes, it is too long,
+-- its command is another than data, or it is a data frame.
 abbrev pub Judged : List ℕ → Judgement → Type 0
 Judged piece (Err BadEscape) = (bytes : List ℕ) → ¬ Spells bytes piece
-Judged piece (Err TooLong) = (bytes : List ℕ) × Spells bytes piece × (MAX_FRAME < length bytes)
-Judged piece (Err NotData) =
-    (head : ℕ) × (bytes : List ℕ) × Spells (head ∷ bytes) piece
-    × (length (head ∷ bytes) ≤ MAX_FRAME) × (head % 16 ≢ 0)
-Judged piece (Ok frame) =
-    (head : ℕ) × Spells (head ∷ frame.bytes) piece × (length (head ∷ frame.bytes) ≤ MAX_FRAME)
-    × (head % 16 ≡ 0) × (frame.port ≡ head / 16)
+Judged piece (Err TooLong) = IsLong piece
+Judged piece (Err NotData) = IsOtherCommand piece
+Judged piece (Ok frame) = IsData piece frame
 
 -- Bytes are a data frame if the low four bits of the first, the type byte, are 0, the command of
 -- data; its high four bits are the port.

@@ -18,8 +18,7 @@ JudgedOnce = (piece : List ℕ) → 0 < length piece → HasNoEnd piece → (jud
     × (judgement ≡ judgement_of piece → Judged piece judgement)
 
 -- The judgements of a stream that goes on are those it had, and then those of its rest and the
--- bytes
--- after it.
+-- bytes after it.
 abbrev pub JudgedInParts : Type 0
 JudgedInParts = (prefix more : List ℕ)
     → judgements_of (prefix ++ more)
@@ -30,8 +29,7 @@ abbrev pub LeftInParts : Type 0
 LeftInParts = (prefix more : List ℕ) → rest_of (prefix ++ more) ≡ rest_of (rest_of prefix ++ more)
 
 -- A written frame that fits, at the beginning of a stream or after a frame end, is read as a frame
--- of
--- port 0 with the same bytes.
+-- of port 0 with the same bytes.
 abbrev pub ReadBack : Type 0
 ReadBack = (stream frame : List ℕ) → rest_of stream ≡ [] → length frame ≤ MAX_FRAME - 1
     → judgements_of (stream ++ kiss_text frame)

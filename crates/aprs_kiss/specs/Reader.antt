@@ -9,20 +9,39 @@ use Rattle.aprs_kiss.specs.declared.reader.KissReader.{KissReader}
 use Rattle.aprs_kiss.specs.declared.reader.State.{State}
 use Rattle.aprs_kiss.specs.declared.reader.State.TheVariants.{Ended, Plain, Escape, Long, LongEscape, Broken}
 
--- What the buffer holds after these bytes of a piece, by the reader's state. Ended: none have come.
--- Plain: the bytes that they spell. Escape: what those before an open escape spell. Long: they
--- spell
--- more bytes than fit. LongEscape: those before an open escape do. Broken: they spell nothing,
--- whatever follows them.
+-- The bytes are some, and they spell what is held.
+pub record HoldsPlain (held bytes : List ℕ) : Type 0 where
+  pub nonempty : 0 < length bytes
+  pub spelled : unspelled bytes ≡ Some held
+
+-- The bytes end in an open escape, and those before it spell what is held.
+pub record HoldsEscape (held bytes : List ℕ) : Type 0 where
+  pub prefix : List ℕ
+  pub escape : bytes ≡ prefix ++ 0xDB ∷ []
+  pub spelled : unspelled prefix ≡ Some held
+
+-- The bytes spell more than a frame may have.
+pub record HoldsLong (bytes : List ℕ) : Type 0 where
+  pub all : List ℕ
+  pub spelled : unspelled bytes ≡ Some all
+  pub long : MAX_FRAME < length all
+
+-- The bytes end in an open escape, and those before it spell more than a frame may have.
+pub record HoldsLongEscape (bytes : List ℕ) : Type 0 where
+  pub prefix : List ℕ
+  pub all : List ℕ
+  pub escape : bytes ≡ prefix ++ 0xDB ∷ []
+  pub spelled : unspelled prefix ≡ Some all
+  pub long : MAX_FRAME < length all
+
+-- What the reader holds after these bytes of a piece, by its state; in the state `Broken` they
+-- spell nothing, whatever follows them.
 abbrev pub Holds : State → List ℕ → List ℕ → Type 0
 Holds Ended held bytes = bytes ≡ []
-Holds Plain held bytes = (0 < length bytes) × (unspelled bytes ≡ Some held)
-Holds Escape held bytes =
-    (prefix : List ℕ) × (bytes ≡ prefix ++ 0xDB ∷ []) × (unspelled prefix ≡ Some held)
-Holds Long held bytes = (all : List ℕ) × (unspelled bytes ≡ Some all) × (MAX_FRAME < length all)
-Holds LongEscape held bytes =
-    (prefix : List ℕ) × (all : List ℕ) × (bytes ≡ prefix ++ 0xDB ∷ [])
-    × (unspelled prefix ≡ Some all) × (MAX_FRAME < length all)
+Holds Plain held bytes = HoldsPlain held bytes
+Holds Escape held bytes = HoldsEscape held bytes
+Holds Long held bytes = HoldsLong bytes
+Holds LongEscape held bytes = HoldsLongEscape bytes
 Holds Broken held bytes = (more : List ℕ) → unspelled (bytes ++ more) ≡ None
 
 -- Since the last frame end the reader was fed these bytes.

@@ -4,8 +4,7 @@ use Rattle.aprs_report.specs.declared.symbol.Symbol.{Symbol}
 use Rattle.aprs_report.specs.Bytes.{is_digit, is_capital}
 
 -- The byte is the primary table /, the alternate table \, or the alternate with a digit or a
--- capital
--- on it.
+-- capital on it.
 abbrev pub is_table : ℕ → Bool
 is_table b = b == 47 || b == 92 || is_digit b || is_capital b
 

@@ -43,13 +43,16 @@ pub fn chunk<const N: usize>(bytes: &[u8]) -> Option<(&[u8; N], &[u8])>
 /// Which bytes are cut off at the end of others.
 #[derive(Clone, Copy)]
 pub enum Trailing {
+    /// Spaces.
     Spaces,
+    /// CR and LF.
     LineEnds,
 }
 
 impl Trailing {
     ghost use Rattle.aprs_report.specs.Trailing.{is_end};
 
+    /// Whether the byte is one of these.
     fn has(self, byte: u8) -> bool
         ensures { result ≡ is_end self byte }
     {

@@ -10,6 +10,7 @@ use crate::numeral::numeral;
 /// How many hundredths of minutes a degree has.
 pub const PER_DEGREE: u64 = 6_000;
 
+/// Which of the two angles of a position.
 #[derive(Clone, Copy)]
 pub enum Axis {
     Latitude,
@@ -82,6 +83,7 @@ pub fn ambiguity(text: &[u8; 6]) -> u8
     4 - Trailing::Spaces.cut(&places).len() as u8
 }
 
+/// 1 to 10,000.
 fn power_of_ten(exponent: u8) -> u64
     requires { exponent ≤ 4 }
     ensures exact { result ≡ 10 ^ exponent }

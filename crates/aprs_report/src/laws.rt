@@ -1,4 +1,4 @@
-//! What holds of all information fields.
+//! What holds of all information fields. This function does nothing: what it ensures is the law.
 
 ghost use Rattle.std.specs.Prelude.{◌≡◌, ◌↔◌, ℕ, List};
 ghost use Rattle.aprs_report.specs.Reading.{Value, Reads, OneReading};

@@ -8,6 +8,7 @@ ghost use Rattle.aprs_report.specs.Reader.{name_of};
 
 use crate::bytes::{Trailing, is_printable_byte};
 
+/// Whether each is a space to `~`.
 fn all_printable(field: &[u8]) -> bool
     ensures { result ≡ list_all is_printable field.now }
 {

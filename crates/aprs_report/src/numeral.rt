@@ -4,6 +4,7 @@ ghost use Rattle.std.specs.Prelude.{◌≡◌, ◌<◌, ◌≤◌, length, IfSom
 ghost use Rattle.aprs_report.specs.Numeral.{is_digit_of};
 ghost use Rattle.aprs_report.specs.Reader.{numeral_of};
 
+/// Whether the byte is a digit of the base, of which `nought` is the digit 0.
 fn is_digit_in(base: u32, nought: u8, byte: u8) -> bool
     ensures { result ≡ is_digit_of base nought byte }
 {

@@ -16,12 +16,14 @@ pub struct Symbol {
     pub code: u8,
 }
 
+/// Whether the byte names a table of symbols in a plain position.
 fn is_table_byte(byte: u8) -> bool
     ensures { result ≡ is_table byte }
 {
     byte == b'/' || byte == b'\\' || is_digit_byte(byte) || is_capital_byte(byte)
 }
 
+/// Whether the byte is the code of a symbol.
 fn is_code_byte(byte: u8) -> bool
     ensures { result ≡ is_code byte }
 {

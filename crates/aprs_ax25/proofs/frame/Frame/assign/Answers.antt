@@ -13,7 +13,7 @@ push_all-requires c =
 pub invariant_of-self : goal.invariant_of-self
 invariant_of-self c =
     let P : List ℕ → Type 0 = λ f. (frame_fault f ≡ None) × FrameOf (parts_of f) f in
-    let e : c.push_all.new.out.items ≡ c.args.bytes.now = c.push_all.ensures
+    let e : c.push_all.new.out.items ≡ c.args.bytes.now = c.push_all.ensures.items
     ∙ ap (λ l. l ++ c.args.bytes.now) c.clear.ensures in
     let small : All (λ b. b < 256) c.args.bytes.now =
     λ k d lt. omega (arith, get_or_default c.args.bytes.now k d 0 lt, c.type_inv.bytes k) in

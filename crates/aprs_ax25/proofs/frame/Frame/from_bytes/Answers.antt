@@ -11,7 +11,7 @@ small c = λ k d lt. omega (arith, get_or_default c.args.bytes.now k d 0 lt, c.t
 pub invariant_of-result : goal.invariant_of-result
 invariant_of-result c =
     let P : List ℕ → Type 0 = λ f. (frame_fault f ≡ None) × FrameOf (parts_of f) f in
-    let e : c.push_all.new.out.items ≡ c.args.bytes.now = c.push_all.ensures
+    let e : c.push_all.new.out.items ≡ c.args.bytes.now = c.push_all.ensures.items
     ∙ ap (λ l. l ++ c.args.bytes.now) c.new-held.ensures in
     subst P (sym e) (
       c.requires,

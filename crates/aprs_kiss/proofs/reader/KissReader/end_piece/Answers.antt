@@ -13,7 +13,8 @@ returns-in-Plain-clause-judged c e s l =
     subst (λ bytes. judged_as (Some c.port_of.result) bytes
     ≡ frame_of bytes ∷ []) c.as_slice.ensures.value c.port_of.ensures.judged
     ∙ alone _ _
-    (judgement_of-plain e c.args.self.now.bytes.items (Holds-in _ _ _ e c.in-Plain.is s.held).1
+    (judgement_of-plain e c.args.self.now.bytes.items
+    (Holds-in _ _ _ e c.in-Plain.is s.held).spelled
     (omega (arith, c.as_slice.ensures.fits, ap length c.as_slice.ensures.value)))
 
 pub returns-in-Long-clause-judged : goal.returns-in-Long-clause-judged

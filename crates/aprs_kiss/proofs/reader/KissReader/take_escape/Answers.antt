@@ -10,13 +10,21 @@ returns-in-Ended c e s =
     let empty = Holds-in _ _ _ e c.in-Ended.is s.held in
     record {
       whole = HasNoEnd-append e _ s.whole (HasNoEnd-one 0xDB refl);
-      held = (e, refl, ap unspelled empty ∙ unspelled-nil ∙ ap Some (sym c.clear.ensures));
+      held = record {
+        prefix = e;
+        escape = refl;
+        spelled = ap unspelled empty ∙ unspelled-nil ∙ ap Some (sym c.clear.ensures);
+      };
     }
 
 pub returns-in-Plain : goal.returns-in-Plain
 returns-in-Plain c e s = record {
   whole = HasNoEnd-append e _ s.whole (HasNoEnd-one 0xDB refl);
-  held = (e, refl, (Holds-in _ _ _ e c.in-Plain.is s.held).1);
+  held = record {
+    prefix = e;
+    escape = refl;
+    spelled = (Holds-in _ _ _ e c.in-Plain.is s.held).spelled;
+  };
 }
 
 pub returns-in-Long : goal.returns-in-Long
@@ -24,7 +32,13 @@ returns-in-Long c e s =
     let h = Holds-in _ _ _ e c.in-Long.is s.held in
     record {
       whole = HasNoEnd-append e _ s.whole (HasNoEnd-one 0xDB refl);
-      held = (e, h.0, refl, h.1, h.2);
+      held = record {
+        prefix = e;
+        all = h.all;
+        escape = refl;
+        spelled = h.spelled;
+        long = h.long;
+      };
     }
 
 pub returns-in_default : goal.returns-in_default

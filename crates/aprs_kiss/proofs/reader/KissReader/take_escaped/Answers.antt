@@ -16,7 +16,7 @@ returns-in-Escape-clause-stands c e s =
     c.append.ensures.stands (e ++ c.args.code ∷ [])
     (HasNoEnd-append e _ s.whole (HasNoEnd-one _ (not_end _ c.requires.plain)))
     (omega (arith, length-append e (c.args.code ∷ [])))
-    (unspelled-escaped _ h.0 e _ s.whole h.1 h.2 _ c.in-Some.ensures)
+    (unspelled-escaped _ h.prefix e _ s.whole h.escape h.spelled _ c.in-Some.ensures)
 
 pub returns-in_default : goal.returns-in_default
 returns-in_default c = record {

@@ -17,8 +17,8 @@ returns-in-Plain c e s =
     let h = Holds-in _ _ _ e c.in-Plain.is s.held in
     c.append-in-Plain.ensures.stands (e ++ c.args.run.now)
     (HasNoEnd-append e _ s.whole (HasNoEnd-plain _ c.requires.plain))
-    (omega (arith, h.0, length-append e c.args.run.now))
-    (Holds-run _ e _ s.whole c.requires.plain h.1)
+    (omega (arith, h.nonempty, length-append e c.args.run.now))
+    (Holds-run _ e _ s.whole c.requires.plain h.spelled)
 
 pub returns-in-Ended-2 : goal.returns-in-Ended-2
 returns-in-Ended-2 c e s =
