@@ -37,7 +37,7 @@ module _ (gap : ℕ) (S : List Heard) (x : Row) (p : IsPart gap S x) where
     in_order = l;
     at_first = let t = p.makes.at_first in (t.0, p.within t.0 t.1, (p.makes.own t.0 t.1).key, t.2);
     at_last = (x.greatest, p.within x.greatest p.makes.member, refl, refl);
-    none_before = λ m a b h. elim (p.others h.0 h.1) [
+    none_before = λ m b a h. elim (p.others h.0 h.1) [
       | inl k ↦ let i = p.makes.own h.0 k in omega (arith, i.from, h.3)
       | inr f ↦ elim (f h.2) [ inl k ↦ omega (arith, k, h.3) | inr k ↦ omega (arith, k, h.3) ]
     ];
@@ -86,8 +86,8 @@ module _ (gap : ℕ) (S : List Heard) (k : Key) (a b c d m : ℕ) (r : Run gap S
   not_before l = elim (cases_lt (c + gap) a) [
     | inl f ↦ let t =
         dense gap S k c d q (a - (gap + 1)) (omega arith) (omega arith) in
-        r.none_before t.0 (omega (arith, t.1)) (omega (arith, t.2)) t.3
-    | inr f ↦ r.none_before c f l q.at_first
+        r.none_before t.0 (omega (arith, t.2)) (omega (arith, t.1)) t.3
+    | inr f ↦ r.none_before c l f q.at_first
   ]
 
   pub not_beyond : b < d → ⊥

@@ -156,9 +156,9 @@ join_last gap prefix l r sl sr f u n =
     (λ x h. elim h [ inl e ↦ subst (λ (z : Row). IsNear gap z r) e n | inr k ↦ absurd k ])
     (λ x h. absurd h)
 
-pub join_behind : (gap : ℕ) (out : List Row) (r : Row) → ((x : Row) → x ∈ out → IsBefore gap x r)
+pub join_after : (gap : ℕ) (out : List Row) (r : Row) → ((x : Row) → x ∈ out → IsBefore gap x r)
     → join_row gap out r ≡ out ++ r ∷ []
-join_behind gap [] r f = refl
-join_behind gap (x ∷ xs) r f =
+join_after gap [] r f = refl
+join_after gap (x ∷ xs) r f =
     chosen gap x xs r Less (place_before gap x r (f x (inl refl)))
-    ∙ ap (λ (ys : List Row). x ∷ ys) (join_behind gap xs r (λ y h. f y (inr h)))
+    ∙ ap (λ (ys : List Row). x ∷ ys) (join_after gap xs r (λ y h. f y (inr h)))

@@ -23,7 +23,8 @@ use Rattle.aprs_laws.proofs.Soundness.{exists}
 scaled_cmp : (a b k : ℕ) → 0 < k → nat_cmp (a * k) (b * k) ≡ nat_cmp a b
 scaled_cmp a b k pos = nat_cmp_is a b (nat_cmp (a * k) (b * k))
     (by_case (nat_cmp (a * k) (b * k)) refl) where
-      by_case : (o : Ordering) → nat_cmp (a * k) (b * k) ≡ o → MatchOrdering o (a < b) (a ≡ b) (b < a)
+      by_case : (o : Ordering) → nat_cmp (a * k) (b * k) ≡ o
+          → MatchOrdering o (a < b) (a ≡ b) (b < a)
       by_case Less h = lt_of_mul-lt-mul_right k (grind (arith, nat_tests))
       by_case Equal h = eq_of_mul-eq-mul_right k pos a b (exact_unsigned (a * k) (b * k) h)
       by_case Greater h = lt_of_mul-lt-mul_right k (grind (arith, nat_tests))

@@ -16,7 +16,7 @@ pub record Run (gap : ℕ) (S : List Heard) (key : Key) (first last : ℕ) : Typ
   pub in_order : first ≤ last
   pub at_first : HeardAt S key first
   pub at_last : HeardAt S key last
-  pub none_before : (m : ℕ) → first ≤ m + gap → m < first → HeardAt S key m → ⊥
+  pub none_before : (m : ℕ) → m < first → first ≤ m + gap → HeardAt S key m → ⊥
   pub none_after : (m : ℕ) → last < m → m ≤ last + gap → HeardAt S key m → ⊥
   pub linked : (m : ℕ) → HeardAt S key m → first ≤ m → m < last
       → (n : ℕ) × (m < n) × (n ≤ m + gap) × HeardAt S key n

@@ -23,7 +23,11 @@ pub record Sound (gap : ℕ) (rows : List Row) : Type 0 where
   pub apart : Ordered (IsFar gap) rows
   pub each : (x : Row) → x ∈ rows → IsSoundRow x
 
+-- x comes after the row `last` in the order of rows, and far from it
+abbrev pub ComesAfter : ℕ → Row → Row → Type 0
+ComesAfter gap x last = IsBelow row_cmp last x × IsFar gap last x
+
 -- x may follow the rows: it is sound by itself, and comes after the last of them, far from it
 pub record IsNext (gap : ℕ) (rows : List Row) (x : Row) : Type 0 where
   pub own : IsSoundRow x
-  pub after : IfLast rows (λ last. IsBelow row_cmp last x × IsFar gap last x)
+  pub after : IfLast rows (ComesAfter gap x)

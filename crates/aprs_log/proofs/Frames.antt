@@ -48,15 +48,15 @@ two_frames j (k ∷ js) h = refl
 
 module _ (laws : StreamLaws) (used more : List ℕ) (j : Judgement) (u : UsedTo used j)
     (e : is_nonempty (rest_of (used ++ more)) ≡ false) where
-  told_then : judgements_of (used ++ more) ≡ j ∷ judgements_of more
-  told_then =
+  judged_then : judgements_of (used ++ more) ≡ j ∷ judgements_of more
+  judged_then =
       laws.judged used more ∙ ap (λ js. js ++ judgements_of (rest_of used ++ more)) u.judged
       ∙ ap (λ l. j ∷ judgements_of (l ++ more)) u.left
 
   frame_in-one : has_other more ≡ false → only_frame (j ∷ []) ≡ frame_in (used ++ more)
   frame_in-one alone =
       let none = ap (λ js. j ∷ js) (ends_alone laws more alone) in
-      sym (frame_in-ended (used ++ more) e ∙ ap only_frame (told_then ∙ none))
+      sym (frame_in-ended (used ++ more) e ∙ ap only_frame (judged_then ∙ none))
 
   frame_in-two : has_other more ≡ true → Err reason.TwoFrames ≡ frame_in (used ++ more)
   frame_in-two other =
@@ -64,7 +64,7 @@ module _ (laws : StreamLaws) (used more : List ℕ) (j : Judgement) (u : UsedTo 
       let moved : rest_of (used ++ more) ≡ rest_of more
       = laws.left used more ∙ ap (λ l. rest_of (l ++ more)) u.left in
       let some = judges_other laws more (sym moved ∙ rest) other in
-      sym (frame_in-ended (used ++ more) e ∙ ap only_frame told_then
+      sym (frame_in-ended (used ++ more) e ∙ ap only_frame judged_then
       ∙ two_frames j (judgements_of more) some)
 
 -- ---- what a reader returns of a line's bytes at once
@@ -93,8 +93,8 @@ used_to bytes n j f =
 
 module _ (laws : StreamLaws) (bytes : List ℕ) (n : ℕ) (e : false ≡ is_nonempty (rest_of bytes))
   where
-    told_nothing : FedOnce bytes n [] → Err reason.NoFrame ≡ frame_in bytes
-    told_nothing f =
+    judged_nothing : FedOnce bytes n [] → Err reason.NoFrame ≡ frame_in bytes
+    judged_nothing f =
         let all : take n bytes ≡ bytes = ap (λ k. take k bytes) (f.whole refl)
         ∙ take-length bytes in
         let none = ap judgements_of (sym all) ∙ f.judged in
@@ -103,20 +103,20 @@ module _ (laws : StreamLaws) (bytes : List ℕ) (n : ℕ) (e : false ≡ is_none
     ended : is_nonempty (rest_of (take n bytes ++ after_used bytes n)) ≡ false
     ended = ap (λ l. is_nonempty (rest_of l)) (again bytes n) ∙ sym e
 
-    told_one : (j : Judgement) → FedOnce bytes n (j ∷ [])
+    judged_one : (j : Judgement) → FedOnce bytes n (j ∷ [])
         → false ≡ has_other (take (length bytes - n) (drop n bytes))
         → only_frame (j ∷ []) ≡ frame_in bytes
     unfolding after_used
-    told_one j f alone =
+    judged_one j f alone =
         frame_in-one laws (take n bytes) (after_used bytes n) j (used_to bytes n j f) ended
         (sym alone)
         ∙ ap frame_in (again bytes n)
 
-    told_two : (j : Judgement) → FedOnce bytes n (j ∷ [])
+    judged_two : (j : Judgement) → FedOnce bytes n (j ∷ [])
         → true ≡ has_other (take (length bytes - n) (drop n bytes))
         → Err reason.TwoFrames ≡ frame_in bytes
     unfolding after_used
-    told_two j f other =
+    judged_two j f other =
         frame_in-two laws (take n bytes) (after_used bytes n) j (used_to bytes n j f) ended
         (sym other)
         ∙ ap frame_in (again bytes n)
@@ -132,15 +132,15 @@ module _ (laws : StreamLaws) (bytes : List ℕ) (n : ℕ) (e : false ≡ is_none
         → Err reason.TwoFrames ≡ frame_in bytes
     fed_two Nothing f other =
         absurd (let no : true ≡ false = other ∙ used_up (f.whole refl) in cc)
-    fed_two (Frame port frame) f other = told_two _ f other
-    fed_two (Passed fault) f other = told_two _ f other
+    fed_two (Frame port frame) f other = judged_two _ f other
+    fed_two (Passed fault) f other = judged_two _ f other
 
     fed_one : (fed : Fed) → FedOnce bytes n (told_by fed)
         → false ≡ has_other (take (length bytes - n) (drop n bytes))
         → frame_in bytes ≡ only_frame (told_by fed)
-    fed_one Nothing f alone = sym (told_nothing f)
-    fed_one (Frame port frame) f alone = sym (told_one _ f alone)
-    fed_one (Passed fault) f alone = sym (told_one _ f alone)
+    fed_one Nothing f alone = sym (judged_nothing f)
+    fed_one (Frame port frame) f alone = sym (judged_one _ f alone)
+    fed_one (Passed fault) f alone = sym (judged_one _ f alone)
 
     pub fed_nothing : (fed : Fed) → FedOnce bytes n (told_by fed)
         → false ≡ has_other (take (length bytes - n) (drop n bytes)) → fed ≡ Nothing

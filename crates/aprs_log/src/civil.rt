@@ -99,7 +99,7 @@ impl CivilTime {
 
     /// The time whose digits stand at their places in a text.
     fn from_digits(text: &[u8]) -> CivilTime
-        requires { 20 ≤ length text.now }
+        requires { SECONDS_LEN ≤ length text.now }
         ensures { result ≡ near_civil text.now }
     {
         CivilTime {

@@ -2,6 +2,7 @@
 ghost use Rattle.std.specs.Prelude.{◌≡◌, ◌⊎◌, ◌<◌, ◌+◌, ◌∷◌, ◌++◌, [], length, slice_index, Some, IfSome};
 ghost use Rattle.aprs_log.specs.declared.moment_form.MomentForm.{MomentForm};
 ghost use Rattle.aprs_log.specs.Clock.{FractionText, form_of_end, SecondText, midnight_text};
+ghost use Rattle.aprs_log.specs.declared.civil.TheConstants.{MILLIS_LEN, SECONDS_LEN};
 ghost use Rattle.aprs_log.specs.Moment.{moment_in, moment_of, two_digits};
 
 use crate::MomentForm;
@@ -36,7 +37,7 @@ impl Clock {
 
     /// The moment of a text, as `Moment::parse`. Keeps its date.
     pub fn parse(&mut self, text: &[u8]) -> Option<Moment>
-        requires { (length text.now ≡ 20) ⊎ (length text.now ≡ 24) }
+        requires { (length text.now ≡ SECONDS_LEN) ⊎ (length text.now ≡ MILLIS_LEN) }
         ensures { result ≡ moment_of text.now }
     {
         match self.parse_same_day(text) {
@@ -47,7 +48,7 @@ impl Clock {
 
     /// The same, where the text has the date that is kept.
     fn parse_same_day(&self, text: &[u8]) -> Option<Moment>
-        requires { (length text.now ≡ 20) ⊎ (length text.now ≡ 24) }
+        requires { (length text.now ≡ SECONDS_LEN) ⊎ (length text.now ≡ MILLIS_LEN) }
         ensures { IfSome result (λ m. moment_of text.now ≡ Some m) }
     {
         let (date, rest) = text.split_at(DATE_LEN);
@@ -64,7 +65,7 @@ impl Clock {
     #[cold]
     #[inline(never)]
     fn parse_anew(&mut self, text: &[u8]) -> Option<Moment>
-        requires { (length text.now ≡ 20) ⊎ (length text.now ≡ 24) }
+        requires { (length text.now ≡ SECONDS_LEN) ⊎ (length text.now ≡ MILLIS_LEN) }
         ensures { result ≡ moment_of text.now }
     {
         let moment = Moment::parse(text)?;
@@ -80,7 +81,7 @@ impl Clock {
 
 /// The second of the day of a text as `12:00:00`, where it is one.
 fn second_of_text(text: &[u8]) -> Option<u32>
-    requires { length text.now ≡ 8 }
+    requires { length text.now ≡ TIME_LEN }
     ensures { IfSome result (λ n. SecondText n text.now) }
 {
     let (hour, minute, second) = (digits_at(text, 0), digits_at(text, 3), digits_at(text, 6));

@@ -6,11 +6,8 @@ ghost use Rattle.aprs_log.specs.Fields.{EndsMoment, EndsNoMoment, HasSpace, Take
 
 use crate::civil::{MILLIS_LEN, SECONDS_LEN};
 use crate::clock::Clock;
-use crate::receiver::is_name_byte;
+use crate::receiver::{MAX_NAME, is_name_byte};
 use crate::{Moment, Receiver};
-
-/// The most bytes of a name.
-const MAX_NAME: usize = 16;
 
 /// The moment that a line begins with, and what stands after it and a space.
 pub fn first_moment<'a>(clock: &mut Clock, line: &'a [u8]) -> Option<(Moment, &'a [u8])>

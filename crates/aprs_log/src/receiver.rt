@@ -13,10 +13,13 @@ use arrayvec::ArrayVec;
 use std::cmp::Ordering;
 use std::marker::Model;
 
+/// The most bytes of a receiver's name.
+pub(crate) const MAX_NAME: usize = 16;
+
 /// The name of a receiver: 1 to 16 letters, digits, `-` and `_`. Names are ordered by their bytes.
 #[derive(Debug, PartialEq, Eq, Drop)]
 pub struct Receiver {
-    bytes: ArrayVec<u8, 16>,
+    bytes: ArrayVec<u8, MAX_NAME>,
 }
 
 impl Model for Receiver {
@@ -99,7 +102,7 @@ impl PartialOrd for Receiver {
 fn is_name(bytes: &[u8]) -> bool
     ensures { result ≡ is_name bytes.now }
 {
-    matches!(bytes.len(), 1..=16) && has_name_bytes(bytes)
+    matches!(bytes.len(), 1..=MAX_NAME) && has_name_bytes(bytes)
 }
 
 fn has_name_bytes(bytes: &[u8]) -> bool
