@@ -11,7 +11,7 @@ use Rattle.aprs_kiss.specs.Reader.{StandsAfter}
 use Rattle.aprs_kiss.specs.declared.reader.KissReader.{KissReader}
 use Rattle.aprs_log.specs.LogAnswers.{Gets}
 use Rattle.aprs_log.specs.declared.Ending.TheVariants as ending
-use Rattle.aprs_tool.specs.Run.{RunsOver, capture_text, stream_fault, stream_text}
+use Rattle.aprs_tool.specs.Run.{RunsOver, capture_text, stream_plan}
 use Rattle.aprs_tool.specs.declared.fault.RunFault.TheVariants.{Write}
 use Rattle.aprs_kiss.proofs.Pieces.{cuts, rest_of-none, judgements_of-append, judgements_of-none}
 
@@ -145,7 +145,7 @@ gets_front (Some x) (Some y) t limit p h = record { rest = y; whole = p; ends = 
 pub HasGot-refused : (r : List ℕ) (m limit left : ℕ) (reader : KissReader) (first now then_ old mid new : Option (List ℕ)) (chunk : List ℕ)
     → HasGot (capture_text r m) limit left reader first now old mid → Consumes now then_ chunk → length chunk ≤ left
     → ((e : List ℕ) → StandsAfter reader e → AppendsFront mid new (text_of (capture_text r m) (e ++ chunk)))
-    → RunsOver (stream_text r m) stream_fault limit first then_ (Err Write) old new
+    → RunsOver (stream_plan r m) limit first then_ (Err Write) old new
 HasGot-refused r m limit left reader first now then_ old mid new chunk h consumed less front =
     let text = capture_text r m in
     let bytes = h.bytes ++ chunk in
@@ -156,6 +156,6 @@ HasGot-refused r m limit left reader first now then_ old mid new chunk h consume
     runs first bytes got out
   where
     runs : (first : Option (List ℕ)) (bytes : List ℕ) → IfSome first (λ input. Gets limit input then_ bytes ending.Read) → AppendsFront old new (text_of (capture_text r m) bytes)
-        → RunsOver (stream_text r m) stream_fault limit first then_ (Err Write) old new
+        → RunsOver (stream_plan r m) limit first then_ (Err Write) old new
     runs None bytes g out = tt
-    runs (Some x) bytes g out = (bytes, ending.Read, g, out)
+    runs (Some x) bytes g out = record { text = bytes; ending = ending.Read; gets = g; holds = out }

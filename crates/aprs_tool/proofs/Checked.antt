@@ -11,7 +11,7 @@ use Rattle.aprs_log.specs.declared.fault.Reason.{Reason}
 use Rattle.aprs_log.specs.declared.line.Line.{Line}
 use Rattle.aprs_log.specs.declared.line.Line.TheVariants.{Heard, Passed}
 use Rattle.aprs_log.specs.Reception.{Heard as Reception}
-use Rattle.aprs_tool.specs.Run.{RunsOver, check_lines, check_of, check_text, count_heard, count_passed, lines_fault, passed_line, totals_line, totals}
+use Rattle.aprs_tool.specs.Run.{RunsOver, check_lines, check_of, check_plan, count_heard, count_passed, passed_line, totals_line, totals}
 use Rattle.aprs_tool.specs.declared.fault.InputFault.TheVariants.{Log}
 use Rattle.aprs_tool.specs.declared.fault.RunFault.{RunFault}
 use Rattle.aprs_tool.specs.declared.fault.RunFault.TheVariants.{Input, Write}
@@ -118,7 +118,7 @@ module _ (first now after : Answers → Type 0) (a b : Option (List ℕ)) (heard
   pub Checked-refused : (limit : ℕ) (known end c : Option (List ℕ)) (number : ℕ) (line : Line) (reason : Reason) → number ≡ count → line ≡ Passed reason
       → ((answers : Answers) → after answers → now (then_given line answers))
       → (answers : Answers) → after answers → AppendsFront b c (passed_line number reason) → IsWhole first limit known end
-      → RunsOver check_text lines_fault limit known end (Err Write) a c
+      → RunsOver check_plan limit known end (Err Write) a c
   Checked-refused limit known end c number line reason same is given answers may front whole =
       let next = given_as after now line (Passed reason) is given in
       let n = h.lines_are in
@@ -146,22 +146,22 @@ module _ (first now : Answers → Type 0) (a b : Option (List ℕ)) (heard passe
 
   -- the log ended
   pub Checked-ended : (c : Option (List ℕ)) → now (ended None) → Appends b c (totals_line heard passed)
-      → RunsOver check_text lines_fault limit known end (Ok tt) a c
+      → RunsOver check_plan limit known end (Ok tt) a c
   Checked-ended c may out =
       over check_of limit known end (Ok tt) a c (prepended h.seen (ended None)) (whole _ (h.has.complete (ended None) may))
       (refl, subst (Appends a c) (sym told) (Appends-trans a b c (check_lines 1 h.seen) (totals_line heard passed) h.out out))
 
   -- the totals are refused
   pub Checked-totals_refused : (c : Option (List ℕ)) → now (ended None) → AppendsFront b c (totals_line heard passed)
-      → RunsOver check_text lines_fault limit known end (Err Write) a c
+      → RunsOver check_plan limit known end (Err Write) a c
   Checked-totals_refused c may front =
       over check_of limit known end (Err Write) a c (prepended h.seen (ended None)) (whole _ (h.has.complete (ended None) may))
       (subst (AppendsFront a c) (sym told) (AppendsFront-then a b c (check_lines 1 h.seen) (totals_line heard passed) h.out front))
 
   -- the log has a fault
   pub Checked-fault : (fault : LogFault) (told : RunFault) → told ≡ Input 0 (Log fault) → now (ended (Some fault))
-      → RunsOver check_text lines_fault limit known end (Err told) a b
+      → RunsOver check_plan limit known end (Err told) a b
   Checked-fault fault answer same may =
-      subst (λ (t : RunFault). RunsOver check_text lines_fault limit known end (Err t) a b) (sym same)
+      subst (λ (t : RunFault). RunsOver check_plan limit known end (Err t) a b) (sym same)
       (over check_of limit known end (Err (Input 0 (Log fault))) a b (prepended h.seen (ended (Some fault))) (whole _ (h.has.complete (ended (Some fault)) may))
       (refl, refl, subst (Appends a b) (sym (seen_whole (Some fault) ∙ append-nil (check_lines 1 h.seen))) h.out))

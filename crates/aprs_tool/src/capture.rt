@@ -3,6 +3,7 @@ ghost use Rattle.std.specs.Prelude.{◌≡◌, ◌≤◌, ◌<◌, ◌++◌, ℕ
 ghost use Rattle.std.specs.Prelude.{OnErr};
 ghost use Rattle.std.specs.List.{flat_map};
 ghost use Rattle.std.specs.Io.KnownBytes.{Appends, Consumes};
+ghost use Rattle.aprs_io.specs.declared.input.TheConstants.{MAX_INPUT};
 ghost use Rattle.aprs_ax25.specs.FrameFault.{frame_of};
 ghost use Rattle.aprs_kiss.specs.Device.{device_of, failures_of, answered_of, Rose, RoseWhere, AppendsFront};
 ghost use Rattle.aprs_kiss.specs.Reader.{StandsAfter};
@@ -11,7 +12,7 @@ ghost use Rattle.aprs_kiss.specs.Stream.{judgements_of, rest_of};
 ghost use Rattle.aprs_log.specs.Awaits.{EndsHere};
 ghost use Rattle.aprs_log.specs.declared.Ending.TheVariants.{Read as ReadFailed};
 ghost use Rattle.aprs_tool.specs.declared.fault.InputFault.TheVariants.{Log};
-ghost use Rattle.aprs_tool.specs.Run.{RunsOver, IsRead, stream_text, stream_fault, capture_text};
+ghost use Rattle.aprs_tool.specs.Run.{RunsOver, IsRead, stream_plan, capture_text};
 ghost use Rattle.aprs_tool.specs.Run.{captured, EndsStream};
 
 use crate::fault::RunFault;
@@ -33,8 +34,8 @@ pub fn capture<R: Read, W: Write>(
     r: &mut Counted<R>,
     w: &mut Counted<W>,
 ) -> Result<(), RunFault>
-    requires { limit ≤ 1073741824 }
-    ensures run { RunsOver (stream_text receiver.now moment.now) stream_fault limit
+    requires { limit ≤ MAX_INPUT }
+    ensures run { RunsOver (stream_plan receiver.now moment.now) limit
         (R.remaining (device_of r.old)) (R.remaining (device_of r.new)) result
         (W.contents (device_of w.old)) (W.contents (device_of w.new)) }
     ensures read { IfErr result (λ e. IsRead e → Rose (failures_of r.old) (failures_of r.new)) }

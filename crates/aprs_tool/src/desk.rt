@@ -1,5 +1,6 @@
 //! A book that inputs are merged into.
 ghost use Rattle.std.specs.Prelude.{◌≤◌};
+ghost use Rattle.aprs_io.specs.declared.input.TheConstants.{MAX_INPUT};
 
 use crate::fault::InputFault;
 use crate::input::{merged, read_input};
@@ -14,11 +15,12 @@ pub struct Desk<A: Allocator = Global> {
     alloc: A,
     limit: u64,
     book: Book<A>,
-    ghost few: { limit ≤ 1073741824 },
+    ghost few: { limit ≤ MAX_INPUT },
 }
 
 impl<A: Allocator + Copy> Desk<A> {
     ghost use Rattle.std.specs.Prelude.{◌≡◌, ◌≤◌, [], IfErr, IsErrAnd, OnErr};
+    ghost use Rattle.aprs_io.specs.declared.input.TheConstants.{MAX_INPUT};
     ghost use Rattle.aprs_kiss.specs.Device.{device_of, failures_of, answered_of, Rose, RoseWhere};
     ghost use Rattle.aprs_laws.specs.BookValue.{Holds};
     ghost use Rattle.aprs_laws.specs.Gap.{standard_gap};
@@ -27,9 +29,9 @@ impl<A: Allocator + Copy> Desk<A> {
     ghost use Rattle.aprs_tool.specs.Run.{IsReadFault};
 
     /// An empty book with a gap of 30 seconds, into which inputs are read up to `limit` bytes each.
-    /// Requires that `limit` is at most 1,073,741,824 (`MAX_INPUT`). Takes no memory.
+    /// Requires that `limit` is at most `MAX_INPUT` (1,073,741,824). Takes no memory.
     pub fn new(alloc: A, limit: u64) -> Desk<A>
-        requires { limit ≤ 1073741824 }
+        requires { limit ≤ MAX_INPUT }
         ensures gap { gap_of result ≡ standard_gap }
         ensures rows { rows_of result ≡ [] }
         ensures book { Holds [] (book_of result) }
@@ -40,7 +42,7 @@ impl<A: Allocator + Copy> Desk<A> {
 
     /// The same with another gap.
     pub fn with_gap(alloc: A, limit: u64, gap: Gap) -> Desk<A>
-        requires { limit ≤ 1073741824 }
+        requires { limit ≤ MAX_INPUT }
         ensures gap { gap_of result ≡ gap }
         ensures rows { rows_of result ≡ [] }
         ensures book { Holds [] (book_of result) }

@@ -1,6 +1,7 @@
 //! The book of an input, which is a log or a book file.
 ghost use Rattle.std.specs.Prelude.{◌≡◌, ◌↔◌, ◌<◌, ◌≤◌, ◌∷◌, [], ◌++◌, false, length, ℕ, List, None, Some, IfSome, IfOk, IfErr, IsErrAnd, OnOk, OnErr};
 ghost use Rattle.std.specs.List.{list_any};
+ghost use Rattle.aprs_io.specs.declared.input.TheConstants.{MAX_INPUT};
 ghost use Rattle.aprs_kiss.specs.Device.{device_of, failures_of, answered_of, Rose, RoseWhere};
 ghost use Rattle.aprs_log.specs.LogAnswers.{ended, fault_at, is_lf, log_answers, receptions_of};
 ghost use Rattle.aprs_laws.specs.BookValue.{HaveOneGap};
@@ -27,7 +28,7 @@ const BOOK_MARK: &[u8] = b"APRSBOOK";
 /// Reads the book of an input: its own, where its first eight bytes are `APRSBOOK`, with its own
 /// gap, and else that of the receptions of a log, whose other lines are passed over, with the gap
 /// that is asked for. At most `limit` bytes are read, to the end. Requires that `limit` is at most
-/// 1,073,741,824 (`MAX_INPUT`). A faulty input gives its first fault. Where memory was refused
+/// `MAX_INPUT` (1,073,741,824). A faulty input gives its first fault. Where memory was refused
 /// before it, a log gives `Memory`, and a book file `Book` with that cause and the line that was
 /// being read. An input of which fewer than eight bytes are got is a log, and one with an LF among
 /// its first eight is judged by that line first. Holds the book and one line.
@@ -37,7 +38,7 @@ pub fn read_input<R: Read, A: Allocator + Copy>(
     gap: Gap,
     r: &mut Counted<R>,
 ) -> Result<Book<A>, InputFault>
-    requires { limit ≤ 1073741824 }
+    requires { limit ≤ MAX_INPUT }
     ensures reads { OfGot limit (R.remaining (device_of r.old))
         (R.remaining (device_of r.new)) (ReadsInput gap result) }
     ensures count { failures_of r.old ≤ failures_of r.new }
@@ -61,7 +62,7 @@ fn read_own<R: Read, A: Allocator + Copy>(
     head: &[u8],
     r: &mut Counted<R>,
 ) -> Result<Book<A>, InputFault>
-    requires limit { limit ≤ 1073741824 }
+    requires limit { limit ≤ MAX_INPUT }
     requires head { IsHead head.now }
     requires few { length head.now ≤ 8 }
     requires within { length head.now ≤ limit }
@@ -110,7 +111,7 @@ pub(crate) fn read_into<R: Read, A: Allocator + Copy>(
     book: &mut Book<A>,
     r: &mut Counted<R>,
 ) -> Result<(), InputFault>
-    requires { limit ≤ 1073741824 }
+    requires { limit ≤ MAX_INPUT }
     ensures reads { OfGot limit (R.remaining (device_of r.old)) (R.remaining (device_of r.new))
         (TakesInput book.old.gap result book.old.rows book.new.rows) }
     ensures gap { book.new.gap ≡ book.old.gap }
@@ -134,7 +135,7 @@ fn read_whole<R: Read, A: Allocator + Copy>(
     book: &mut Book<A>,
     r: &mut Counted<R>,
 ) -> Result<(), InputFault>
-    requires limit { limit ≤ 1073741824 }
+    requires limit { limit ≤ MAX_INPUT }
     requires head { IsHead head.now }
     requires few { length head.now ≤ 8 }
     requires within { length head.now ≤ limit }
@@ -164,7 +165,7 @@ fn read_log<R: Read, A: Allocator + Copy>(
     book: &mut Book<A>,
     r: &mut Counted<R>,
 ) -> Result<(), InputFault>
-    requires limit { limit ≤ 1073741824 }
+    requires limit { limit ≤ MAX_INPUT }
     requires head { length head.now ≤ 8 }
     requires within { length head.now ≤ limit }
     ensures reads { IfSome (R.remaining (device_of r.old))

@@ -1,5 +1,6 @@
 //! The merge of several inputs.
 ghost use Rattle.std.specs.Prelude.{◌≡◌, ◌≤◌, map, IfErr, IsErrAnd};
+ghost use Rattle.aprs_io.specs.declared.input.TheConstants.{MAX_INPUT};
 ghost use Rattle.aprs_kiss.specs.Device.{device_of, failures_of, Rose};
 ghost use Rattle.aprs_tool.specs.Merge.{IsAsBefore, IsReadOf, MergesEach, OfEach, ReadsEach};
 ghost use Rattle.aprs_tool.specs.Merge.{ReadsNoFurther, RoseAt, RoseWhereEach, RoseWhereRead};
@@ -15,7 +16,7 @@ use std::alloc::Allocator;
 use std::io::{Read, Write};
 
 /// Writes the text of the book of this gap of all inputs' receptions, each input read as by
-/// `Desk::take_input`. Requires that `limit` is at most 1,073,741,824 (`MAX_INPUT`). All inputs are
+/// `Desk::take_input`. Requires that `limit` is at most `MAX_INPUT` (1,073,741,824). All inputs are
 /// read, in order, before the first byte is written: where one is refused, its number and fault are
 /// reported, no further one is read, and nothing is written. At `Write` a prefix of the text was
 /// written. Never answers `RunFault::Memory`: want of memory is that of an input.
@@ -26,7 +27,7 @@ pub fn merge_run<R: Read, W: Write, A: Allocator + Copy>(
     inputs: &mut [Counted<R>],
     w: &mut Counted<W>,
 ) -> Result<(), RunFault>
-    requires { limit ≤ 1073741824 }
+    requires { limit ≤ MAX_INPUT }
     ensures run { OfEach limit (map (λ r. R.remaining (device_of r)) inputs.old)
         (map (λ r. R.remaining (device_of r)) inputs.new)
         (MergesEach gap result (W.contents (device_of w.old))
@@ -55,7 +56,7 @@ pub(crate) fn read_all<R: Read, A: Allocator + Copy>(
     gap: Gap,
     inputs: &mut [Counted<R>],
 ) -> Result<Book<A>, (usize, InputFault)>
-    requires { limit ≤ 1073741824 }
+    requires { limit ≤ MAX_INPUT }
     ensures reads { OfEach limit (map (λ r. R.remaining (device_of r)) inputs.old)
         (map (λ r. R.remaining (device_of r)) inputs.new) (ReadsEach gap result) }
     ensures unread { IfErr result (λ p. IsAsBefore p.0 inputs.old inputs.new) }

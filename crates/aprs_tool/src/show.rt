@@ -1,5 +1,6 @@
 //! The listing of several inputs.
 ghost use Rattle.std.specs.Prelude.{◌≡◌, ◌≤◌, map, IfErr, IsErrAnd};
+ghost use Rattle.aprs_io.specs.declared.input.TheConstants.{MAX_INPUT};
 ghost use Rattle.aprs_kiss.specs.Device.{device_of, failures_of, Rose};
 ghost use Rattle.aprs_tool.specs.Merge.{IsReadOf, OfEach, ReadsNoFurther, RoseWhereEach};
 ghost use Rattle.aprs_tool.specs.Merge.{RoseWhereRead, WritesNothing};
@@ -15,7 +16,7 @@ use std::io::{Read, Write};
 
 /// Writes the listing of all inputs' receptions: the stations, objects, items and messages that
 /// were heard, and what is last known of them, as the book of this gap tells. Each input is read as
-/// by `Desk::take_input`. Requires that `limit` is at most 1,073,741,824 (`MAX_INPUT`). All inputs
+/// by `Desk::take_input`. Requires that `limit` is at most `MAX_INPUT` (1,073,741,824). All inputs
 /// are read, in order, and the lists are made, before the first byte is written: where an input is
 /// refused, its number and fault are reported, no further one is read, and nothing is written; nor
 /// is anything at `Memory`, which is that of the lists. At `Write` a prefix of the listing was
@@ -27,7 +28,7 @@ pub fn show_run<R: Read, W: Write, A: Allocator + Copy>(
     inputs: &mut [Counted<R>],
     w: &mut Counted<W>,
 ) -> Result<(), RunFault>
-    requires { limit ≤ 1073741824 }
+    requires { limit ≤ MAX_INPUT }
     ensures run { OfEach limit (map (λ r. R.remaining (device_of r)) inputs.old)
         (map (λ r. R.remaining (device_of r)) inputs.new)
         (ShowsEach gap result (W.contents (device_of w.old))

@@ -1,5 +1,6 @@
 //! The widening of an input's book.
 ghost use Rattle.std.specs.Prelude.{◌≡◌, ◌≤◌, IfErr, IsErrAnd};
+ghost use Rattle.aprs_io.specs.declared.input.TheConstants.{MAX_INPUT};
 ghost use Rattle.aprs_kiss.specs.Device.{device_of, failures_of, answered_of, Rose, RoseWhere};
 ghost use Rattle.aprs_tool.specs.Inputs.{OfGot};
 ghost use Rattle.aprs_tool.specs.Merge.{WritesNothing};
@@ -16,7 +17,7 @@ use std::io::{Read, Write};
 
 /// Writes the text of an input's book under this gap. The input is read as by `read_input` with
 /// this gap, so that `Narrower` comes for a faultless book file of a greater gap alone. Requires
-/// that `limit` is at most 1,073,741,824 (`MAX_INPUT`). The input is number 0. All of it is read,
+/// that `limit` is at most `MAX_INPUT` (1,073,741,824). The input is number 0. All of it is read,
 /// and its book widened, before the first byte is written: where the input is refused nothing is
 /// written, nor is anything at `Memory`, which is that of the widened book. At `Write` a prefix of
 /// the text was written.
@@ -27,7 +28,7 @@ pub fn widen_run<R: Read, W: Write, A: Allocator + Copy>(
     r: &mut Counted<R>,
     w: &mut Counted<W>,
 ) -> Result<(), RunFault>
-    requires { limit ≤ 1073741824 }
+    requires { limit ≤ MAX_INPUT }
     ensures run { OfGot limit (R.remaining (device_of r.old)) (R.remaining (device_of r.new))
         (WidensInput gap result (W.contents (device_of w.old)) (W.contents (device_of w.new))) }
     ensures nothing { IfErr result (λ e. WritesNothing e (W.contents (device_of w.old))
