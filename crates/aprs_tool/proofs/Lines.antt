@@ -40,7 +40,7 @@ PutsText-then {r} {a} {b} {c} {m} {n} {o} {h} {i} {j} {x} {y} p q = record {
     later (Ok v) rose = tt
     later (Err e) rose = let first = p.count in omega (arith, first, rose)
 
--- what was held after a fault is not told
+-- what was held after a fault is not said
 pub PutsText-err : {e : WriteFault} {a b : Option (List ℕ)} {m n : ℕ} {h i j x : List ℕ} (r : Answer) → IsErr r → PutsText (Err e) a b m n h i x → PutsText r a b m n h j x
 PutsText-err (Ok v) is p = absurd cc
 PutsText-err (Err f) is p = record { sent = tt; prefix = p.prefix; count = p.count; fault = p.fault }

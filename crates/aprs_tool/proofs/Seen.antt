@@ -85,14 +85,14 @@ pub Ran-refused : (form : Form) (first now after : Answers → Type 0) (limit : 
     → Ran (flat_map (line_text form)) first now a b → ((answers : Answers) → after answers → now (then_given x answers))
     → (answers : Answers) → after answers → AppendsFront b c (line_text form lent) → IsWhole first limit known end
     → RunsOver (lines_plan form) limit known end (Err Write) a c
-Ran-refused form first now after limit known end a b c x lent same h next answers may front whole =
+Ran-refused form first now after limit known end a b c x lent same h next answers may prefix whole =
     let f = line_text form in
     let all = prepended h.seen (then_given x answers) in
     let text : flat_map f all.given ≡ (flat_map f h.seen ++ f x) ++ flat_map f answers.given =
     flat_map-append f h.seen (x ∷ answers.given) ∙ sym (append_assoc (flat_map f h.seen) (f x) (flat_map f answers.given)) in
     over (lines_of form) limit known end (Err Write) a c all (whole all (h.has.complete (then_given x answers) (next answers may)))
     (subst (AppendsFront a c) (sym text) (AppendsFront-more a c (flat_map f h.seen ++ f x) (flat_map f answers.given)
-    (AppendsFront-then a b c (flat_map f h.seen) (f x) h.out (subst (λ (y : Line). AppendsFront b c (f y)) same front))))
+    (AppendsFront-then a b c (flat_map f h.seen) (f x) h.out (subst (λ (y : Line). AppendsFront b c (f y)) same prefix))))
 
 -- what was written is the text of all answers, where none is left
 whole_text : (f : Line → List ℕ) (seen : List Line) (a b : Option (List ℕ)) → Appends a b (flat_map f seen) → Appends a b (flat_map f (seen ++ []))
@@ -107,11 +107,11 @@ Ran-ended form first now limit known end a b h may whole =
     (refl, whole_text (line_text form) h.seen a b h.out)
 
 -- the log has a fault
-pub Ran-fault : (form : Form) (first now : Answers → Type 0) (limit : ℕ) (known end a b : Option (List ℕ)) (fault : LogFault) (told : RunFault)
-    → told ≡ Input 0 (Log fault)
+pub Ran-fault : (form : Form) (first now : Answers → Type 0) (limit : ℕ) (known end a b : Option (List ℕ)) (fault : LogFault) (answer : RunFault)
+    → answer ≡ Input 0 (Log fault)
     → Ran (flat_map (line_text form)) first now a b → now (ended (Some fault)) → IsWhole first limit known end
-    → RunsOver (lines_plan form) limit known end (Err told) a b
-Ran-fault form first now limit known end a b fault told same h may whole =
+    → RunsOver (lines_plan form) limit known end (Err answer) a b
+Ran-fault form first now limit known end a b fault answer same h may whole =
     subst (λ (t : RunFault). RunsOver (lines_plan form) limit known end (Err t) a b) (sym same)
     (over (lines_of form) limit known end (Err (Input 0 (Log fault))) a b (prepended h.seen (ended (Some fault))) (whole _ (h.has.complete (ended (Some fault)) may))
     (refl, refl, whole_text (line_text form) h.seen a b h.out))

@@ -38,9 +38,9 @@ pub fn capture<R: Read, W: Write>(
     ensures run { RunsOver (stream_plan receiver.now moment.now) limit
         (R.remaining (device_of r.old)) (R.remaining (device_of r.new)) result
         (W.contents (device_of w.old)) (W.contents (device_of w.new)) }
-    ensures read { IfErr result (λ e. IsRead e → Rose (failures_of r.old) (failures_of r.new)) }
+    ensures read { IfErr result (λ fault. IsRead fault → Rose (failures_of r.old) (failures_of r.new)) }
     ensures answered { RoseWhere (IsErrAnd result IsRead) (answered_of r.old) (answered_of r.new) }
-    ensures write { IfErr result (λ e. e ≡ RunFault.Write
+    ensures write { IfErr result (λ fault. fault ≡ RunFault.Write
         → Rose (failures_of w.old) (failures_of w.new)) }
 {
     let mut reader = KissReader::new();
@@ -58,7 +58,7 @@ pub fn capture<R: Read, W: Write>(
     }
 }
 
-/// What a run over a stream answers that ends so.
+/// The answer of a run over a stream that ends so.
 fn stream_end(ending: Ending) -> Result<(), RunFault>
     ensures { EndsStream result ending }
 {
@@ -105,7 +105,7 @@ fn capture_chunk<W: Write>(
     Ok(())
 }
 
-/// Writes the log line of what the reader tells, where it is a frame.
+/// Writes the log line of what the reader returns, where it is a frame.
 fn write_fed<W: Write>(
     w: &mut Counted<W>,
     receiver: &Receiver,

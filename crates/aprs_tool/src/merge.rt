@@ -19,7 +19,7 @@ use std::io::{Read, Write};
 /// `Desk::take_input`. Requires that `limit` is at most `MAX_INPUT` (1,073,741,824). All inputs are
 /// read, in order, before the first byte is written: where one is refused, its number and fault are
 /// reported, no further one is read, and nothing is written. At `Write` a prefix of the text was
-/// written. Never answers `RunFault::Memory`: want of memory is that of an input.
+/// written. Never returns `RunFault::Memory`: an allocation that failed is a fault of an input.
 pub fn merge_run<R: Read, W: Write, A: Allocator + Copy>(
     alloc: A,
     limit: u64,
@@ -32,13 +32,13 @@ pub fn merge_run<R: Read, W: Write, A: Allocator + Copy>(
         (map (λ r. R.remaining (device_of r)) inputs.new)
         (MergesEach gap result (W.contents (device_of w.old))
         (W.contents (device_of w.new))) }
-    ensures nothing { IfErr result (λ e. WritesNothing e (W.contents (device_of w.old))
+    ensures nothing { IfErr result (λ fault. WritesNothing fault (W.contents (device_of w.old))
         (W.contents (device_of w.new))) }
-    ensures unread { IfErr result (λ e. ReadsNoFurther e inputs.old inputs.new) }
-    ensures read { IfErr result (λ e. RoseWhereRead e inputs.old inputs.new) }
-    // A failed read is told of an input where a call of its reader answered one, and nowhere else.
+    ensures unread { IfErr result (λ fault. ReadsNoFurther fault inputs.old inputs.new) }
+    ensures read { IfErr result (λ fault. RoseWhereRead fault inputs.old inputs.new) }
+    // A failed read is reported where a call of that reader returned one, and nowhere else.
     ensures answered { RoseWhereEach (λ k. IsErrAnd result (IsReadOf k)) inputs.old inputs.new }
-    ensures write { IfErr result (λ e. e ≡ RunFault.Write
+    ensures write { IfErr result (λ fault. fault ≡ RunFault.Write
         → Rose (failures_of w.old) (failures_of w.new)) }
 {
     let book = match read_all(alloc, limit, gap, inputs) {

@@ -5,6 +5,7 @@ ghost use Rattle.arrayvec.specs.ArrayVec.{array_vec_len};
 ghost use Rattle.aprs_ax25.specs.Callsign.{Call, call_text};
 ghost use Rattle.aprs_ax25.specs.FrameFault.{parts_of};
 ghost use Rattle.aprs_ax25.specs.Hop.{hop_of};
+ghost use Rattle.aprs_tool.specs.declared.text.TheConstants.{MAX_TEXT};
 ghost use Rattle.aprs_tool.specs.Monitor.{hop_text, monitor_text};
 
 use crate::text::{Text, push_shown};
@@ -27,7 +28,7 @@ pub fn push_monitor_text(out: &mut Text, frame: &Frame)
 
 /// Puts the callsign's text at the end.
 fn push_callsign(out: &mut Text, call: &Callsign)
-    requires { array_vec_len out.old + 9 ≤ 1200 }
+    requires { array_vec_len out.old + 9 ≤ MAX_TEXT }
     ensures text { out.new.items ≡ out.old.items ++ call_text call.now }
     ensures most { array_vec_len out.new ≤ array_vec_len out.old + 9 }
 {
@@ -51,7 +52,7 @@ fn push_hops(out: &mut Text, frame: &Frame)
 
 /// Puts the digipeater's text at the end.
 fn push_hop(out: &mut Text, hop: &Hop)
-    requires { array_vec_len out.old + 11 ≤ 1200 }
+    requires { array_vec_len out.old + 11 ≤ MAX_TEXT }
     ensures text { out.new.items ≡ out.old.items ++ hop_text hop.now }
     ensures most { array_vec_len out.new ≤ array_vec_len out.old + 11 }
 {

@@ -31,12 +31,12 @@ pub fn widen_run<R: Read, W: Write, A: Allocator + Copy>(
     requires { limit ≤ MAX_INPUT }
     ensures run { OfGot limit (R.remaining (device_of r.old)) (R.remaining (device_of r.new))
         (WidensInput gap result (W.contents (device_of w.old)) (W.contents (device_of w.new))) }
-    ensures nothing { IfErr result (λ e. WritesNothing e (W.contents (device_of w.old))
+    ensures nothing { IfErr result (λ fault. WritesNothing fault (W.contents (device_of w.old))
         (W.contents (device_of w.new))) }
-    ensures read { IfErr result (λ e. IsRead e → Rose (failures_of r.old) (failures_of r.new)) }
-    // A failed read is told where a call of the reader answered one, and nowhere else.
+    ensures read { IfErr result (λ fault. IsRead fault → Rose (failures_of r.old) (failures_of r.new)) }
+    // A failed read is reported where a call of the reader returned one, and nowhere else.
     ensures answered { RoseWhere (IsErrAnd result IsRead) (answered_of r.old) (answered_of r.new) }
-    ensures write { IfErr result (λ e. e ≡ RunFault.Write
+    ensures write { IfErr result (λ fault. fault ≡ RunFault.Write
         → Rose (failures_of w.old) (failures_of w.new)) }
 {
     let book = match read_input(alloc, limit, gap, r) {

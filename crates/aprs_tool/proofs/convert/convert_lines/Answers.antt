@@ -24,22 +24,22 @@ lines-preserved g c =
     record {
       same_reference = cc;
       reads = omega (arith, c.in_ok-advance.ensures.count, c.lines.invariant.reads);
-      writes = omega (arith, c.in_ok-write_answer.ensures.count, c.lines.invariant.writes);
+      writes = omega (arith, c.in_ok-write_line_as.ensures.count, c.lines.invariant.writes);
       going = gives.1;
       answered = (c.in_ok-advance.ensures.answered c.lines.invariant.going).1 (λ e. absurd e) ∙ c.lines.invariant.answered;
       ran = λ end. Ran-line (line_text c.args.form.now) _ _ _ _ _ _ (current_of c.advance.new.self) _ c.current.ensures (c.lines.invariant.ran end)
-          (gives.2 end) c.in_ok-write_answer.ensures.sent;
+          (gives.2 end) c.in_ok-write_line_as.ensures.sent;
     }
 
-pub returns-in_err-write_answer-clause-run : goal.returns-in_err-write_answer-clause-run
-returns-in_err-write_answer-clause-run g c =
-    let p = err_from_is_err_and c.from_residual-in_err-write_answer.result c.from_residual-in_err-write_answer.ensures.1 in
+pub returns-in_err-write_line_as-clause-run : goal.returns-in_err-write_line_as-clause-run
+returns-in_err-write_line_as-clause-run g c =
+    let p = err_from_is_err_and c.from_residual-in_err-write_line_as.result c.from_residual-in_err-write_line_as.ensures.1 in
     let gives = rw c.if-not-branch.false at c.in_ok-advance.ensures.gives in
     rw (p.1, p.2)
     (subst (λ k. RunsOver (lines_plan c.args.form.now) c.args.limit (g.R.Read.remaining (device_of c.args.r.now)) k
-    (Err Write) (g.W.Write.contents (device_of c.args.w.now)) (g.W.Write.contents (device_of c.write_answer.new.w))) (search rules)
+    (Err Write) (g.W.Write.contents (device_of c.args.w.now)) (g.W.Write.contents (device_of c.write_line_as.new.w))) (search rules)
     (Ran-refused c.args.form.now _ _ _ c.args.limit _ _ _ _ _ (current_of c.advance.new.self) _ c.current.ensures (c.lines.invariant.ran _)
-    (gives.2 _) c.in_ok-advance.ensures.awaits.0 c.in_ok-advance.ensures.awaits.1 c.in_err-write_answer.ensures.prefix (c.new-reader.ensures.whole _)))
+    (gives.2 _) c.in_ok-advance.ensures.awaits.0 c.in_ok-advance.ensures.awaits.1 c.in_err-write_line_as.ensures.prefix (c.new-reader.ensures.whole _)))
 
 pub returns-in_err-advance-clause-run : goal.returns-in_err-advance-clause-run
 returns-in_err-advance-clause-run g c =
