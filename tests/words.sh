@@ -28,7 +28,7 @@ arms() {
 }
 cd crates
 # clap adds help to the commands, and help and the version to the options
-words=aprs_tool/src/words.rt
+words=aprs_tool/src/arguments.rt
 {
     sed -n 's/.*Command::new(alloc, "\([a-z]*\)").*/\1/p' $words | sed '/^aprsbook$/d'
     echo help
@@ -47,13 +47,13 @@ sed -n 's/.*if live { b"\([a-z]*\)" } else { b"\([a-z]*\)" }.*/\1 \2/p' \
     aprs_tool/src/heard_line.rt | tr ' ' '\n' > "$scratch/program/object_states"
 arms aprs_tool/src/listing.rt 'fn state_text' > "$scratch/program/message_states"
 arms aprs_log/src/fault.rt 'impl Reason {' > "$scratch/program/reasons"
-# want of memory is told by a message of its own
+# a failed allocation is reported by a message of its own
 arms aprs_log/src/fault.rt 'impl LogCause {' | sed '/^Memory$/d' > "$scratch/program/log_causes"
 arms aprs_booktext/src/fault.rt 'impl BookCause {' | sed '/^Memory$/d' \
     > "$scratch/program/book_causes"
 {
     echo 0
-    sed -n 's/^const [A-Z]*: u8 = \([0-9]*\);/\1/p' aprsbook/src/main.rt
+    sed -n 's/^const [A-Z_]*: u8 = \([0-9]*\);/\1/p' aprsbook/src/main.rt
 } > "$scratch/program/statuses"
 sed -n 's/.*eprintln!(rt; "\(aprsbook: .*\)").*/\1/p' aprsbook/src/main.rt |
     sed 's/{p[a-z]*}/PLACE/; s/{line}/N/; s/{cause}/CAUSE/' > "$scratch/program/messages"

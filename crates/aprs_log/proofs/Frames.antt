@@ -7,7 +7,7 @@ use Rattle.aprs_kiss.specs.Spelling.{kiss_text, spelling_of}
 use Rattle.aprs_kiss.proofs.Escapes.{spelling_of-all}
 use Rattle.aprs_kiss.specs.Stream.{rest_of, is_nonempty, judgements_of, EndsPiece}
 use Rattle.aprs_kiss.specs.Judgement.{Judgement}
-use Rattle.aprs_kiss.specs.Answer.{told_by}
+use Rattle.aprs_kiss.specs.Answer.{judgements_in}
 use Rattle.std.specs.Borrow.{Bor}
 use Rattle.aprs_kiss.specs.declared.fault.PassFault.{PassFault}
 use Rattle.aprs_kiss.specs.declared.reader.Fed.{Fed}
@@ -127,7 +127,7 @@ module _ (laws : StreamLaws) (bytes : List ℕ) (n : ℕ) (e : false ≡ is_none
         let none : length bytes - n ≡ 0 = omega (arith, all) in
         ap (λ k. has_other (take k (drop n bytes))) none
 
-    pub fed_two : (fed : Fed) → FedOnce bytes n (told_by fed)
+    pub fed_two : (fed : Fed) → FedOnce bytes n (judgements_in fed)
         → true ≡ has_other (take (length bytes - n) (drop n bytes))
         → Err reason.TwoFrames ≡ frame_in bytes
     fed_two Nothing f other =
@@ -135,28 +135,28 @@ module _ (laws : StreamLaws) (bytes : List ℕ) (n : ℕ) (e : false ≡ is_none
     fed_two (Frame port frame) f other = judged_two _ f other
     fed_two (Passed fault) f other = judged_two _ f other
 
-    fed_one : (fed : Fed) → FedOnce bytes n (told_by fed)
+    fed_one : (fed : Fed) → FedOnce bytes n (judgements_in fed)
         → false ≡ has_other (take (length bytes - n) (drop n bytes))
-        → frame_in bytes ≡ only_frame (told_by fed)
+        → frame_in bytes ≡ only_frame (judgements_in fed)
     fed_one Nothing f alone = sym (judged_nothing f)
     fed_one (Frame port frame) f alone = sym (judged_one _ f alone)
     fed_one (Passed fault) f alone = sym (judged_one _ f alone)
 
-    pub fed_nothing : (fed : Fed) → FedOnce bytes n (told_by fed)
+    pub fed_nothing : (fed : Fed) → FedOnce bytes n (judgements_in fed)
         → false ≡ has_other (take (length bytes - n) (drop n bytes)) → fed ≡ Nothing
         → frame_in bytes ≡ Err reason.NoFrame
-    fed_nothing fed f alone is = fed_one fed f alone ∙ ap (λ x. only_frame (told_by x)) is
+    fed_nothing fed f alone is = fed_one fed f alone ∙ ap (λ x. only_frame (judgements_in x)) is
 
-    pub fed_passed : (fed : Fed) → FedOnce bytes n (told_by fed)
+    pub fed_passed : (fed : Fed) → FedOnce bytes n (judgements_in fed)
         → false ≡ has_other (take (length bytes - n) (drop n bytes))
         → (fault : PassFault) → fed ≡ Passed fault → frame_in bytes ≡ Err (reason_of_pass fault)
-    fed_passed fed f alone fault is = fed_one fed f alone ∙ ap (λ x. only_frame (told_by x)) is
+    fed_passed fed f alone fault is = fed_one fed f alone ∙ ap (λ x. only_frame (judgements_in x)) is
 
-    pub fed_frame : (fed : Fed) → FedOnce bytes n (told_by fed)
+    pub fed_frame : (fed : Fed) → FedOnce bytes n (judgements_in fed)
         → false ≡ has_other (take (length bytes - n) (drop n bytes))
         → (port : ℕ) (frame : Bor (List ℕ)) → fed ≡ Frame port frame
         → frame_in bytes ≡ frame_or_reason (frame_of frame.now)
-    fed_frame fed f alone port frame is = fed_one fed f alone ∙ ap (λ x. only_frame (told_by x)) is
+    fed_frame fed f alone port frame is = fed_one fed f alone ∙ ap (λ x. only_frame (judgements_in x)) is
 
 -- ---- what is written for a frame
 

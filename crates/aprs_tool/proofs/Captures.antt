@@ -11,7 +11,7 @@ use Rattle.aprs_kiss.specs.Reader.{StandsAfter}
 use Rattle.aprs_kiss.specs.declared.reader.KissReader.{KissReader}
 use Rattle.aprs_log.specs.LogAnswers.{Gets}
 use Rattle.aprs_log.specs.declared.Ending.TheVariants as ending
-use Rattle.aprs_tool.specs.Run.{RunsOver, capture_text, stream_fault, stream_text}
+use Rattle.aprs_tool.specs.Run.{RunsOver, capture_text, stream_plan}
 use Rattle.aprs_tool.specs.declared.fault.RunFault.TheVariants.{Write}
 use Rattle.aprs_kiss.proofs.Pieces.{cuts, rest_of-none, judgements_of-append, judgements_of-none}
 
@@ -24,8 +24,8 @@ module _ (text : Judgement → List ℕ) where
   text_of t = flat_map text (judgements_of t)
 
   -- the text of a stream that goes on
-  text-append : (front back : List ℕ) → text_of (front ++ back) ≡ text_of front ++ text_of (rest_of front ++ back)
-  text-append front back = ap (flat_map text) (judgements_of-append front back) ∙ flat_map-append text (judgements_of front) (judgements_of (rest_of front ++ back))
+  text-append : (prefix back : List ℕ) → text_of (prefix ++ back) ≡ text_of prefix ++ text_of (rest_of prefix ++ back)
+  text-append prefix back = ap (flat_map text) (judgements_of-append prefix back) ∙ flat_map-append text (judgements_of prefix) (judgements_of (rest_of prefix ++ back))
 
   -- the reader went from old to new over these bytes, and the writer's bytes from before to after
   pub record Captures (old new : KissReader) (before after : Option (List ℕ)) (seen : List ℕ) : Type 0 where
@@ -56,12 +56,12 @@ module _ (text : Judgement → List ℕ) where
   HasCaptured-none old before chunk = record { seen = []; cut = refl; captures = Captures-none old before }
 
   -- one call of the reader, whose answer is written
-  pub HasCaptured-more : (old mid new : KissReader) (before between after : Option (List ℕ)) (chunk rest part left : List ℕ) (told : List Judgement)
+  pub HasCaptured-more : (old mid new : KissReader) (before between after : Option (List ℕ)) (chunk rest part left : List ℕ) (judgements : List Judgement)
       → HasCaptured old mid before between chunk rest → rest ≡ part ++ left
       → ((e : List ℕ) → StandsAfter mid e → StandsAfter new (rest_of (e ++ part)))
-      → ((e : List ℕ) → StandsAfter mid e → judgements_of (e ++ part) ≡ told)
-      → Appends between after (flat_map text told) → HasCaptured old new before after chunk left
-  HasCaptured-more old mid new before between after chunk rest part left told h e stands judged out = record {
+      → ((e : List ℕ) → StandsAfter mid e → judgements_of (e ++ part) ≡ judgements)
+      → Appends between after (flat_map text judgements) → HasCaptured old new before after chunk left
+  HasCaptured-more old mid new before between after chunk rest part left judgements h e stands judged out = record {
     seen = h.seen ++ part;
     cut = h.cut ∙ ap (λ l. h.seen ++ l) e ∙ sym (append_assoc h.seen part left);
     captures = Captures-more old mid new before between after h.seen part h.captures (record {
@@ -82,21 +82,21 @@ module _ (text : Judgement → List ℕ) where
       nil (x ∷ l) z = absurd (omega (arith, z))
 
   -- an answer is refused
-  pub HasCaptured-refused : (old mid : KissReader) (before between after : Option (List ℕ)) (chunk rest part left : List ℕ) (told : List Judgement)
+  pub HasCaptured-refused : (old mid : KissReader) (before between after : Option (List ℕ)) (chunk rest part left : List ℕ) (judgements : List Judgement)
       → HasCaptured old mid before between chunk rest → rest ≡ part ++ left
-      → ((e : List ℕ) → StandsAfter mid e → judgements_of (e ++ part) ≡ told)
-      → AppendsPrefix between after (flat_map text told)
+      → ((e : List ℕ) → StandsAfter mid e → judgements_of (e ++ part) ≡ judgements)
+      → AppendsPrefix between after (flat_map text judgements)
       → (e : List ℕ) → StandsAfter old e → AppendsPrefix before after (text_of (e ++ chunk))
-  HasCaptured-refused old mid before between after chunk rest part left told h e judged front f s =
+  HasCaptured-refused old mid before between after chunk rest part left judgements h e judged prefix f s =
       let seen = f ++ h.seen in
       let stands = h.captures.stands f s in
       let whole : f ++ chunk ≡ (seen ++ part) ++ left =
       ap (λ l. f ++ l) (h.cut ∙ ap (λ l. h.seen ++ l) e) ∙ sym (append_assoc f h.seen (part ++ left)) ∙ sym (append_assoc seen part left) in
-      let written : text_of (f ++ chunk) ≡ (text_of seen ++ flat_map text told) ++ text_of (rest_of (seen ++ part) ++ left) =
+      let written : text_of (f ++ chunk) ≡ (text_of seen ++ flat_map text judgements) ++ text_of (rest_of (seen ++ part) ++ left) =
       ap text_of whole ∙ text-append (seen ++ part) left
       ∙ ap (λ l. l ++ text_of (rest_of (seen ++ part) ++ left)) (text-append seen part ∙ ap (λ j. text_of seen ++ flat_map text j) (judged (rest_of seen) stands)) in
-      subst (AppendsPrefix before after) (sym written) (AppendsPrefix-more before after (text_of seen ++ flat_map text told) (text_of (rest_of (seen ++ part) ++ left))
-      (AppendsPrefix-then before between after (text_of seen) (flat_map text told) (h.captures.sent f s) front))
+      subst (AppendsPrefix before after) (sym written) (AppendsPrefix-more before after (text_of seen ++ flat_map text judgements) (text_of (rest_of (seen ++ part) ++ left))
+      (AppendsPrefix-then before between after (text_of seen) (flat_map text judgements) (h.captures.sent f s) prefix))
 
 -- ---- the stream as far as it was read
 
@@ -135,27 +135,27 @@ module _ (text : Judgement → List ℕ) where
       }
 
 -- of an input that is left so, these bytes were got, and no further byte is spoken of
-gets_front : (first now : Option (List ℕ)) (t : List ℕ) (limit : ℕ) → Consumes first now t → length t ≤ limit
+gets_prefix : (first now : Option (List ℕ)) (t : List ℕ) (limit : ℕ) → Consumes first now t → length t ≤ limit
     → IfSome first (λ input. Gets limit input now t ending.Read)
-gets_front None now t limit p h = tt
-gets_front (Some x) None t limit p h = absurd p
-gets_front (Some x) (Some y) t limit p h = record { rest = y; whole = p; ends = (refl, h) }
+gets_prefix None now t limit p h = tt
+gets_prefix (Some x) None t limit p h = absurd p
+gets_prefix (Some x) (Some y) t limit p h = record { rest = y; whole = p; ends = (refl, h) }
 
 -- the output was refused while a chunk was written
 pub HasGot-refused : (r : List ℕ) (m limit left : ℕ) (reader : KissReader) (first now then_ old mid new : Option (List ℕ)) (chunk : List ℕ)
     → HasGot (capture_text r m) limit left reader first now old mid → Consumes now then_ chunk → length chunk ≤ left
     → ((e : List ℕ) → StandsAfter reader e → AppendsPrefix mid new (text_of (capture_text r m) (e ++ chunk)))
-    → RunsOver (stream_text r m) stream_fault limit first then_ (Err Write) old new
-HasGot-refused r m limit left reader first now then_ old mid new chunk h consumed less front =
+    → RunsOver (stream_plan r m) limit first then_ (Err Write) old new
+HasGot-refused r m limit left reader first now then_ old mid new chunk h consumed less prefix =
     let text = capture_text r m in
     let bytes = h.bytes ++ chunk in
     let count = h.count in
-    let got = gets_front first then_ bytes limit (Consumes-trans first now then_ h.bytes chunk h.consumed consumed) (omega (arith, length-append h.bytes chunk)) in
+    let got = gets_prefix first then_ bytes limit (Consumes-trans first now then_ h.bytes chunk h.consumed consumed) (omega (arith, length-append h.bytes chunk)) in
     let out : AppendsPrefix old new (text_of text bytes) = subst (AppendsPrefix old new) (sym (text-append text h.bytes chunk))
-    (AppendsPrefix-then old mid new (text_of text h.bytes) (text_of text (rest_of h.bytes ++ chunk)) h.sent (front (rest_of h.bytes) h.stands)) in
+    (AppendsPrefix-then old mid new (text_of text h.bytes) (text_of text (rest_of h.bytes ++ chunk)) h.sent (prefix (rest_of h.bytes) h.stands)) in
     runs first bytes got out
   where
     runs : (first : Option (List ℕ)) (bytes : List ℕ) → IfSome first (λ input. Gets limit input then_ bytes ending.Read) → AppendsPrefix old new (text_of (capture_text r m) bytes)
-        → RunsOver (stream_text r m) stream_fault limit first then_ (Err Write) old new
+        → RunsOver (stream_plan r m) limit first then_ (Err Write) old new
     runs None bytes g out = tt
-    runs (Some x) bytes g out = (bytes, ending.Read, g, out)
+    runs (Some x) bytes g out = record { text = bytes; ending = ending.Read; gets = g; holds = out }

@@ -11,7 +11,7 @@ use Rattle.aprs_log.specs.declared.fault.Reason.{Reason}
 use Rattle.aprs_log.specs.declared.line.Line.{Line}
 use Rattle.aprs_log.specs.declared.line.Line.TheVariants.{Heard, Passed}
 use Rattle.aprs_log.specs.Reception.{Heard as Reception}
-use Rattle.aprs_tool.specs.Run.{RunsOver, check_lines, check_of, check_text, count_heard, count_passed, lines_fault, passed_line, totals_line, totals}
+use Rattle.aprs_tool.specs.Run.{RunsOver, check_lines, check_of, check_plan, count_heard, count_passed, passed_line, totals_line, totals}
 use Rattle.aprs_tool.specs.declared.fault.InputFault.TheVariants.{Log}
 use Rattle.aprs_tool.specs.declared.fault.RunFault.{RunFault}
 use Rattle.aprs_tool.specs.declared.fault.RunFault.TheVariants.{Input, Write}
@@ -89,7 +89,7 @@ module _ (first now after : Answers → Type 0) (a b : Option (List ℕ)) (heard
         lines_are = omega arith;
       }
 
-  -- a line is passed over, which is told
+  -- a line is passed over, which is reported
   pub Checked-passed : (c : Option (List ℕ)) (number : ℕ) (line : Line) (reason : Reason) → number ≡ count → line ≡ Passed reason
       → ((answers : Answers) → after answers → now (then_given line answers))
       → Appends b c (passed_line number reason) → Checked first after a c heard (passed + 1) count
@@ -114,12 +114,12 @@ module _ (first now after : Answers → Type 0) (a b : Option (List ℕ)) (heard
         lines_are = omega arith;
       }
 
-  -- what is told of such a line is refused
+  -- the report of such a line is refused
   pub Checked-refused : (limit : ℕ) (known end c : Option (List ℕ)) (number : ℕ) (line : Line) (reason : Reason) → number ≡ count → line ≡ Passed reason
       → ((answers : Answers) → after answers → now (then_given line answers))
       → (answers : Answers) → after answers → AppendsPrefix b c (passed_line number reason) → IsWhole first limit known end
-      → RunsOver check_text lines_fault limit known end (Err Write) a c
-  Checked-refused limit known end c number line reason same is given answers may front whole =
+      → RunsOver check_plan limit known end (Err Write) a c
+  Checked-refused limit known end c number line reason same is given answers may prefix whole =
       let next = given_as after now line (Passed reason) is given in
       let n = h.lines_are in
       let at : number ≡ 1 + length h.seen = omega arith in
@@ -134,34 +134,34 @@ module _ (first now after : Answers → Type 0) (a b : Option (List ℕ)) (heard
       ∙ append_assoc (check_lines 1 h.seen ++ line) (check_lines (1 + length h.seen + 1) answers.given) (totals answers.fault all.given) in
       over check_of limit known end (Err Write) a c all (whole all (h.has.complete (then_given (Passed reason) answers) (next answers may)))
       (subst (AppendsPrefix a c) (sym text) (AppendsPrefix-more a c (check_lines 1 h.seen ++ line) more
-      (AppendsPrefix-then a b c (check_lines 1 h.seen) line h.out front)))
+      (AppendsPrefix-then a b c (check_lines 1 h.seen) line h.out prefix)))
 
 module _ (first now : Answers → Type 0) (a b : Option (List ℕ)) (heard passed lines : ℕ) (h : Checked first now a b heard passed lines) (limit : ℕ) (known end : Option (List ℕ)) (whole : IsWhole first limit known end) where
   seen_whole : (fault : Option LogFault) → check_of (prepended h.seen (ended fault)) ≡ check_lines 1 h.seen ++ totals fault h.seen
   seen_whole fault = ap (λ (lines : List Line). check_lines 1 lines ++ totals fault lines) (append-nil h.seen)
 
-  told : check_of (prepended h.seen (ended None)) ≡ check_lines 1 h.seen ++ totals_line heard passed
-  told = seen_whole None ∙ ap (λ k. check_lines 1 h.seen ++ totals_line k (count_passed h.seen)) (sym h.heard_is)
+  text_is : check_of (prepended h.seen (ended None)) ≡ check_lines 1 h.seen ++ totals_line heard passed
+  text_is = seen_whole None ∙ ap (λ k. check_lines 1 h.seen ++ totals_line k (count_passed h.seen)) (sym h.heard_is)
       ∙ ap (λ k. check_lines 1 h.seen ++ totals_line heard k) (sym h.passed_is)
 
   -- the log ended
   pub Checked-ended : (c : Option (List ℕ)) → now (ended None) → Appends b c (totals_line heard passed)
-      → RunsOver check_text lines_fault limit known end (Ok tt) a c
+      → RunsOver check_plan limit known end (Ok tt) a c
   Checked-ended c may out =
       over check_of limit known end (Ok tt) a c (prepended h.seen (ended None)) (whole _ (h.has.complete (ended None) may))
-      (refl, subst (Appends a c) (sym told) (Appends-trans a b c (check_lines 1 h.seen) (totals_line heard passed) h.out out))
+      (refl, subst (Appends a c) (sym text_is) (Appends-trans a b c (check_lines 1 h.seen) (totals_line heard passed) h.out out))
 
   -- the totals are refused
   pub Checked-totals_refused : (c : Option (List ℕ)) → now (ended None) → AppendsPrefix b c (totals_line heard passed)
-      → RunsOver check_text lines_fault limit known end (Err Write) a c
-  Checked-totals_refused c may front =
+      → RunsOver check_plan limit known end (Err Write) a c
+  Checked-totals_refused c may prefix =
       over check_of limit known end (Err Write) a c (prepended h.seen (ended None)) (whole _ (h.has.complete (ended None) may))
-      (subst (AppendsPrefix a c) (sym told) (AppendsPrefix-then a b c (check_lines 1 h.seen) (totals_line heard passed) h.out front))
+      (subst (AppendsPrefix a c) (sym text_is) (AppendsPrefix-then a b c (check_lines 1 h.seen) (totals_line heard passed) h.out prefix))
 
   -- the log has a fault
-  pub Checked-fault : (fault : LogFault) (told : RunFault) → told ≡ Input 0 (Log fault) → now (ended (Some fault))
-      → RunsOver check_text lines_fault limit known end (Err told) a b
+  pub Checked-fault : (fault : LogFault) (answer : RunFault) → answer ≡ Input 0 (Log fault) → now (ended (Some fault))
+      → RunsOver check_plan limit known end (Err answer) a b
   Checked-fault fault answer same may =
-      subst (λ (t : RunFault). RunsOver check_text lines_fault limit known end (Err t) a b) (sym same)
+      subst (λ (t : RunFault). RunsOver check_plan limit known end (Err t) a b) (sym same)
       (over check_of limit known end (Err (Input 0 (Log fault))) a b (prepended h.seen (ended (Some fault))) (whole _ (h.has.complete (ended (Some fault)) may))
       (refl, refl, subst (Appends a b) (sym (seen_whole (Some fault) ∙ append-nil (check_lines 1 h.seen))) h.out))

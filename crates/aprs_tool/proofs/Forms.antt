@@ -1,14 +1,13 @@
 -- Lemmas on forms.
-use Rattle.std.proofs.Common.{◌≡◌, ◌⊎◌, inl, inr, ℕ, List, Option}
+use Rattle.std.proofs.Common.{◌≡◌, ◌⊎◌, inl, inr, ℕ, List, subst, sym}
 use Rattle.aprs_log.specs.declared.Ending.{Ending}
-use Rattle.aprs_log.specs.declared.fault.LogFault.{LogFault}
-use Rattle.aprs_tool.specs.Run.{convert_fault, convert_text, lines_fault, lines_text}
+use Rattle.aprs_tool.specs.Run.{Plan, convert_plan, lines_plan, stream_plan}
 use Rattle.aprs_tool.specs.declared.form.Form.{Form}
 use Rattle.aprs_tool.specs.declared.form.Form.TheVariants.{Text, Kind, Kiss, Log, Capture}
 
 -- each form but a capture goes by the lines
-pub by_lines : (P : (List ℕ → Ending → List ℕ) → (List ℕ → Ending → Option LogFault) → Type 0) (f : Form)
-    → (f ≡ Text) ⊎ ((f ≡ Kind) ⊎ ((f ≡ Kiss) ⊎ (f ≡ Log))) → P (lines_text f) lines_fault → P (convert_text f) (convert_fault f)
+pub by_lines : (P : (List ℕ → Ending → Plan) → Type 0) (f : Form)
+    → (f ≡ Text) ⊎ ((f ≡ Kind) ⊎ ((f ≡ Kiss) ⊎ (f ≡ Log))) → P (lines_plan f) → P (convert_plan f)
 by_lines P Text e h = h
 by_lines P Kind e h = h
 by_lines P Kiss e h = h
@@ -17,3 +16,8 @@ by_lines P (Capture r m) (inl e) h = cc
 by_lines P (Capture r m) (inr (inl e)) h = cc
 by_lines P (Capture r m) (inr (inr (inl e))) h = cc
 by_lines P (Capture r m) (inr (inr (inr e))) h = cc
+
+-- and a capture by the stream
+pub by_stream : (P : (List ℕ → Ending → Plan) → Type 0) (f : Form) (r : List ℕ) (m : ℕ) → f ≡ Capture r m
+    → P (stream_plan r m) → P (convert_plan f)
+by_stream P f r m e h = subst (λ (x : Form). P (convert_plan x)) (sym e) h

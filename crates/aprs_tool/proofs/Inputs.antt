@@ -1,8 +1,9 @@
 -- Lemmas on inputs, of which the first bytes are known.
-use Rattle.std.proofs.Common.{◌≡◌, ℕ, zero, suc, get_or, ◌<◌, ◌≤◌, Bool, true, false, not, List, [], ◌∷◌, ◌++◌, length, take, drop, codes, Option, None, Some, Result, Ok, Err, IfSome, inl, inr, refl, ap, sym, ◌∙◌, append_assoc, append-nil, length-append, subst, arith}
+use Rattle.std.proofs.Common.{◌≡◌, ℕ, zero, suc, get_or, ◌^◌, ◌<◌, ◌≤◌, Bool, true, false, not, List, [], ◌∷◌, ◌++◌, length, take, drop, codes, Option, None, Some, Result, Ok, Err, IfSome, inl, inr, refl, ap, sym, ◌∙◌, append_assoc, append-nil, length-append, subst, arith}
 use Rattle.std.proofs.Math.Seq.{take-append_seam}
 use Rattle.std.proofs.lemmas.Bool.Decides.{Decides-eqb}
 use Rattle.std.proofs.lemmas.Slice.Eq.{bytes_eq-Decides, starts_is}
+use Rattle.std.specs.Io.KnownBytes.{Consumes}
 use Rattle.std.specs.Str.{bytes_eq}
 use Rattle.aprs_laws.specs.Book.{BookOf}
 use Rattle.aprs_laws.specs.BookValue.{BookValue}
@@ -11,11 +12,12 @@ use Rattle.aprs_laws.specs.Witnesses.{witnesses}
 use Rattle.aprs_laws.specs.Row.{Row}
 use Rattle.aprs_laws.specs.Sound.{Sound}
 use Rattle.aprs_laws.proofs.Soundness.{witnessed}
+use Rattle.aprs_io.specs.declared.input.TheConstants.{MAX_INPUT}
 use Rattle.aprs_log.specs.LogAnswers.{Gets, ended, fault_at, log_answers, receptions_of}
 use Rattle.aprs_log.specs.declared.Ending.{Ending}
 use Rattle.aprs_log.specs.declared.Ending.TheVariants as ending
 use Rattle.aprs_log.specs.declared.fault.LogCause.{LogCause}
-use Rattle.aprs_booktext.specs.FirstFault.{FirstFault, IsMemoryAt, piece_most, Reads}
+use Rattle.aprs_booktext.specs.FirstFault.{Reads}
 use Rattle.aprs_booktext.specs.Text.{book_text, IsBookRows}
 use Rattle.aprs_booktext.specs.Version.{gap_of, IsVersion}
 use Rattle.aprs_booktext.specs.declared.version.Version.{Version}
@@ -24,7 +26,7 @@ use Rattle.aprs_booktext.specs.declared.fault.BookFault.{BookFault}
 use Rattle.aprs_booktext.proofs.Accepting.{rows_few}
 use Rattle.aprs_booktext.proofs.OneText.{cut_short}
 use Rattle.aprs_tool.specs.Head.{IsHead}
-use Rattle.aprs_tool.specs.Inputs.{AddsAll, AreMembersIn, HoldsOfGot, is_book_file, IsFaultIn, IsGapIn, IsMemoryIn, IsRefused, OfGot, ReadsInput, ReadsLog, TakesInput}
+use Rattle.aprs_tool.specs.Inputs.{AddsAll, AreMembers, HoldsOfGot, is_book_file, IsFaultOf, IsRefused, OfGot, ReadsInput, ReadsLog, TakesInput}
 use Rattle.aprs_tool.specs.declared.fault.InputFault.{InputFault}
 use Rattle.aprs_tool.specs.declared.fault.InputFault.TheVariants.{Log, Book, Memory, OtherGap, Narrower}
 
@@ -61,8 +63,8 @@ begins t e = (starts_is Decides-eqb t mark (is_book_file t) refl).0 e
 is_book : (t rest : List ℕ) → t ≡ mark ++ rest → is_book_file t ≡ true
 is_book t rest e = (starts_is Decides-eqb t mark (is_book_file t) refl).1 rest e
 
-same_front : (a b x y : List ℕ) → length a ≡ length b → a ++ x ≡ b ++ y → a ≡ b
-same_front a b x y size e =
+same_prefix : (a b x y : List ℕ) → length a ≡ length b → a ++ x ≡ b ++ y → a ≡ b
+same_prefix a b x y size e =
     sym (take-append_seam a x) ∙ ap (λ l. take (length a) l) e ∙ ap (λ n. take n (b ++ y)) size ∙ take-append_seam b y
 
 -- an LF after fewer than eight bytes
@@ -83,7 +85,7 @@ mark_has_none (suc (suc (suc (suc (suc (suc (suc (suc i)))))))) rest h e = omega
 
 not_mark : (head more rest : List ℕ) → IsHead head → (head ≡ mark → ⊥) → head ++ more ≡ mark ++ rest → ⊥
 not_mark head more rest is other e = elim is [
-  | inl size ↦ other (same_front head mark more rest size e)
+  | inl size ↦ other (same_prefix head mark more rest size e)
   | inr lf ↦ mark_has_none (length lf.0) rest lf.1 (ap (λ l. get_or l (length lf.0) 0) (sym e ∙ ap (λ l. l ++ more) lf.2) ∙ lf_at lf.0 more)
 ]
 
@@ -105,60 +107,50 @@ short_is_log t short = by (is_book_file t) refl
 
 -- ---- a log
 
-faultless_log : (b : Bool) (t : List ℕ) (c : Ending) → b ≡ false → (log_answers t c).fault ≡ None → (e : InputFault) → IsFaultIn b e t c → ⊥
-faultless_log true t c is none e h = absurd cc
-faultless_log false t c is none (Log f) h = absurd cc
-faultless_log false t c is none (Book f) h = h
-faultless_log false t c is none Memory h = h
-faultless_log false t c is none OtherGap h = h
-faultless_log false t c is none Narrower h = h
+faultless_log : (t : List ℕ) (c : Ending) → is_book_file t ≡ false → (log_answers t c).fault ≡ None
+    → (e : InputFault) → IsFaultOf e t c → ⊥
+faultless_log t c is none (Log f) h = let x : None ≡ Some f = sym none ∙ h.1 in cc
+faultless_log t c is none (Book f) h = let x : false ≡ true = sym is ∙ h.0 in cc
+faultless_log t c is none Memory h = h
+faultless_log t c is none OtherGap h = h
+faultless_log t c is none Narrower h = h
 
-members_log : (gap : ℕ) (b : Bool) (t : List ℕ) (c : Ending) → b ≡ false → AreMembersIn gap b t c (receptions_of (log_answers t c).given)
-members_log gap true t c is = absurd cc
-members_log gap false t c is = refl
-
-fault_log : (b : Bool) (e : InputFault) (t : List ℕ) (c : Ending) → b ≡ false → IsFaultIn false e t c → IsFaultIn b e t c
-fault_log true e t c is h = absurd cc
-fault_log false e t c is h = h
-
-memory_log : (b : Bool) (e : InputFault) (t : List ℕ) → b ≡ false → IsMemoryIn false e t → IsMemoryIn b e t
-memory_log true e t is h = absurd cc
-memory_log false e t is h = h
+members_log : (gap : ℕ) (t : List ℕ) (c : Ending) → is_book_file t ≡ false
+    → AreMembers gap t c (receptions_of (log_answers t c).given)
+members_log gap t c is = inr (is, refl)
 
 -- rows that nothing is added to
 pub adds_none : (gap : ℕ) (rows : List Row) → AddsAll gap [] rows rows
 adds_none gap rows S book = subst (λ T. BookOf (millis_of gap) T rows) (sym (append-nil S)) book
 
-pub refused_log : (gap : ℕ) (e : InputFault) (old new : List Row) (t : List ℕ) (c : Ending) → is_book_file t ≡ false → ReadsLog gap (Err e) old new t c → IsRefused e t c
-refused_log gap e old new t c is h = elim h [
-  | inl m ↦ inl (memory_log (is_book_file t) e t is m)
-  | inr f ↦ inr (fault_log (is_book_file t) e t c is f)
-]
+pub refused_log : (gap : ℕ) (e : InputFault) (old new : List Row) (t : List ℕ) (c : Ending)
+    → is_book_file t ≡ false → ReadsLog gap (Err e) old new t c → IsRefused e t c
+refused_log gap (Log f) old new t c is h = inr (is, h)
+refused_log gap Memory old new t c is h = inl is
+refused_log gap (Book f) old new t c is h = absurd h
+refused_log gap OtherGap old new t c is h = absurd h
+refused_log gap Narrower old new t c is h = absurd h
 
 -- what is read of a log is taken
 pub reads_log : (gap : ℕ) (r : Result (Unit {0}) InputFault) (old new : List Row) (t : List ℕ) (c : Ending) → is_book_file t ≡ false → ReadsLog gap r old new t c
     → TakesInput gap r old new t c
 reads_log gap (Ok u) old new t c is h = (
-  faultless_log (is_book_file t) t c is h.0,
-  (receptions_of (log_answers t c).given, members_log gap (is_book_file t) t c is, h.1),
+  faultless_log t c is h.0,
+  (receptions_of (log_answers t c).given, members_log gap t c is, h.1),
 )
 reads_log gap (Err e) old new t c is h = inl (refused_log gap e old new t c is h)
-
-gap_log : (asked : ℕ) (b : Bool) (gap : ℕ) → b ≡ false → gap ≡ asked → IsGapIn asked b gap
-gap_log asked true gap is e = absurd cc
-gap_log asked false gap is e = e
 
 -- what is read of a log into the book of no receptions is its book
 pub read_alone : (asked gap : ℕ) (b : BookValue) (old : List Row) (t : List ℕ) (c : Ending) → is_book_file t ≡ false → gap ≡ asked → b.gap ≡ gap → BookOf (millis_of gap) [] old → ReadsLog gap (Ok tt) old b.rows t c
     → ReadsInput asked (Ok b) t c
 read_alone asked gap b old t c is its same none h =
-    let told = receptions_of (log_answers t c).given in (
-      faultless_log (is_book_file t) t c is h.0,
+    let heard = receptions_of (log_answers t c).given in (
+      faultless_log t c is h.0,
       (
-        gap_log asked (is_book_file t) b.gap is (same ∙ its),
-        told,
-        members_log b.gap (is_book_file t) t c is,
-        subst (λ g. BookOf (millis_of g) told b.rows) (sym same) (h.1 [] none),
+        λ log. same ∙ its,
+        heard,
+        members_log b.gap t c is,
+        subst (λ g. BookOf (millis_of g) heard b.rows) (sym same) (h.1 [] none),
       ),
     )
 
@@ -177,34 +169,28 @@ log_input (Some input) after limit head P Q size other follows h = record {
 -- a short one has this fault, or none
 pub short_fault : (gap : ℕ) (t : List ℕ) (c : Ending) (k : LogCause) (rows : List Row) → log_answers t c ≡ ended (fault_at 1 (Some k))
     → ReadsLog gap (Err (Log (record { line = 1; cause = k }))) rows rows t c
-short_fault gap t c k rows e = inr (ap (λ a. a.fault) e)
+short_fault gap t c k rows e = ap (λ a. a.fault) e
 
 pub short_empty : (gap : ℕ) (t : List ℕ) (c : Ending) (rows : List Row) → log_answers t c ≡ ended (fault_at 1 None) → ReadsLog gap (Ok tt) rows rows t c
 short_empty gap t c rows e = (ap (λ a. a.fault) e, subst (λ a. AddsAll gap (receptions_of a.given) rows rows) (sym e) (adds_none gap rows))
 
 -- ---- a book file
 
-faultless_book : (v : Version) (b : Bool) (rows : List Row) → IsBookRows v rows → length (book_text v rows) ≤ 1073741824 → b ≡ true
-    → (e : InputFault) → IsFaultIn b e (book_text v rows) ending.End → ⊥
-faultless_book v false rows is fits b e h = absurd cc
-faultless_book v true rows is fits b (Book f) h =
-    (cut_short v rows is (omega (arith, fits, rows_few v rows)) [] ending.End f.cause (book_text v rows) f (append-nil (book_text v rows)) refl h).1 refl refl
-faultless_book v true rows is fits b (Log f) h = h
-faultless_book v true rows is fits b Memory h = h
-faultless_book v true rows is fits b OtherGap h = h
-faultless_book v true rows is fits b Narrower h = h
+faultless_book : (v : Version) (rows : List Row) → IsBookRows v rows → length (book_text v rows) ≤ MAX_INPUT
+    → is_book_file (book_text v rows) ≡ true → (e : InputFault) → IsFaultOf e (book_text v rows) ending.End → ⊥
+faultless_book v rows is fits b (Book f) h =
+    let text = book_text v rows in
+    let small : length rows < 2 ^ 64 = omega (arith, fits, rows_few v rows) in
+    (cut_short v rows is small [] ending.End f.cause text f (append-nil text) refl h.1).1 refl refl
+faultless_book v rows is fits b (Log f) h = let x : true ≡ false = sym b ∙ h.0 in cc
+faultless_book v rows is fits b Memory h = h
+faultless_book v rows is fits b OtherGap h = h
+faultless_book v rows is fits b Narrower h = h
 
-members_book : (gap : ℕ) (v : Version) (b : Bool) (rows : List Row) → gap_of v ≡ gap → IsBookRows v rows → b ≡ true → AreMembersIn gap b (book_text v rows) ending.End (witnesses rows)
-members_book gap v false rows same is b = absurd cc
-members_book gap v true rows same is b = record { version = v; gap_is = same; rows = rows; is_book = is; text_is = refl; receptions_are = refl }
-
-fault_book : (b : Bool) (f : BookFault) (t : List ℕ) (c : Ending) → b ≡ true → FirstFault t c f → IsFaultIn b (Book f) t c
-fault_book false f t c is h = absurd cc
-fault_book true f t c is h = h
-
-memory_book : (b : Bool) (f : BookFault) (t : List ℕ) → b ≡ true → IsMemoryAt piece_most t f → IsMemoryIn b (Book f) t
-memory_book false f t is h = absurd cc
-memory_book true f t is h = h
+members_book : (gap : ℕ) (v : Version) (rows : List Row) → gap_of v ≡ gap → IsBookRows v rows
+    → is_book_file (book_text v rows) ≡ true → AreMembers gap (book_text v rows) ending.End (witnesses rows)
+members_book gap v rows same is b =
+    inl (b, record { version = v; gap_is = same; rows = rows; is_book = is; text_is = refl; receptions_are = refl })
 
 book_begins : (v : Version) (rows : List Row) → is_book_file (book_text v rows) ≡ true
 book_begins One rows = is_book (book_text One rows) (drop 8 (book_text One rows)) refl
@@ -217,37 +203,36 @@ gap_positive One is = omega arith
 gap_positive Two is = omega arith
 gap_positive (Three gap) is = is.0
 
-gap_book : (asked : ℕ) (b : Bool) (gap : ℕ) → b ≡ true → IsGapIn asked b gap
-gap_book asked false gap is = absurd cc
-gap_book asked true gap is = tt
-
-reads_book : (asked : ℕ) (b : BookValue) (v : Version) → b.gap ≡ gap_of v → IsBookRows v b.rows → length (book_text v b.rows) ≤ 1073741824
+reads_book : (asked : ℕ) (b : BookValue) (v : Version) → b.gap ≡ gap_of v → IsBookRows v b.rows → length (book_text v b.rows) ≤ MAX_INPUT
     → ReadsInput asked (Ok b) (book_text v b.rows) ending.End
 reads_book asked b v same is fits =
     let begin = book_begins v b.rows in
     let positive = gap_positive v is.version in (
-      faultless_book v (is_book_file (book_text v b.rows)) b.rows is fits begin,
+      faultless_book v b.rows is fits begin,
       (
-        gap_book asked (is_book_file (book_text v b.rows)) b.gap begin,
+        λ log. let x : true ≡ false = sym begin ∙ log in cc,
         witnesses b.rows,
-        members_book b.gap v (is_book_file (book_text v b.rows)) b.rows (sym same) is begin,
+        members_book b.gap v b.rows (sym same) is begin,
         witnessed (millis_of b.gap) b.rows (omega (arith, positive, same)) (subst (λ g. Sound (millis_of g) b.rows) (sym same) is.sound),
       ),
     )
 
 -- ---- what was got of a book file
 
-module _ (limit : ℕ) (input : List ℕ) (after : Option (List ℕ)) (small : limit ≤ 1073741824) where
-  pub refused_book : (f : BookFault) → Reads limit mark input after (Err f) → HoldsOfGot limit (mark ++ input) after (IsRefused (Book f))
-  refused_book f h = record {
-    text = mark ++ h.got;
-    ending = h.ending;
-    gets = h.gets;
-    holds = elim h.reads [
-      | inl memory ↦ inl (memory_book (is_book_file (mark ++ h.got)) f (mark ++ h.got) (is_book (mark ++ h.got) h.got refl) memory)
-      | inr first ↦ inr (fault_book (is_book_file (mark ++ h.got)) f (mark ++ h.got) h.ending (is_book (mark ++ h.got) h.got refl) first)
-    ];
-  }
+module _ (limit : ℕ) (input : List ℕ) (after : Option (List ℕ)) (small : limit ≤ MAX_INPUT) where
+  pub refused_book : (f : BookFault) → Reads limit mark input after (Err f)
+      → HoldsOfGot limit (mark ++ input) after (IsRefused (Book f))
+  refused_book f h =
+      let is = is_book (mark ++ h.got) h.got refl in
+      record {
+        text = mark ++ h.got;
+        ending = h.ending;
+        gets = h.gets;
+        holds = elim h.reads [
+          | inl memory ↦ inl (is, memory)
+          | inr first ↦ inr (is, first)
+        ];
+      }
 
   pub read_book : (asked : ℕ) (b : BookValue) → Reads limit mark input after (Ok b) → HoldsOfGot limit (mark ++ input) after (ReadsInput asked (Ok b))
   read_book asked b h =
@@ -262,13 +247,13 @@ module _ (limit : ℕ) (input : List ℕ) (after : Option (List ℕ)) (small : l
       }
 
 -- where its bytes may not be known
-pub book_input : (asked : ℕ) (known after : Option (List ℕ)) (limit : ℕ) (head : List ℕ) (b : BookValue) → limit ≤ 1073741824
+pub book_input : (asked : ℕ) (known after : Option (List ℕ)) (limit : ℕ) (head : List ℕ) (b : BookValue) → limit ≤ MAX_INPUT
     → head ≡ mark → IfSome known (λ input. Reads limit head input after (Ok b)) → IfSome known (λ input. HoldsOfGot limit (head ++ input) after (ReadsInput asked (Ok b)))
 book_input asked None after limit head b small is h = tt
 book_input asked (Some input) after limit head b small is h = subst (λ l. HoldsOfGot limit (l ++ input) after (ReadsInput asked (Ok b))) (sym is)
     (read_book limit input after small asked b (subst (λ l. Reads limit l input after (Ok b)) is h))
 
-pub refused_input : (known after : Option (List ℕ)) (limit : ℕ) (head : List ℕ) (f : BookFault) → limit ≤ 1073741824 → head ≡ mark
+pub refused_input : (known after : Option (List ℕ)) (limit : ℕ) (head : List ℕ) (f : BookFault) → limit ≤ MAX_INPUT → head ≡ mark
     → IfSome known (λ input. Reads limit head input after (Err f)) → IfSome known (λ input. HoldsOfGot limit (head ++ input) after (IsRefused (Book f)))
 refused_input None after limit head f small is h = tt
 refused_input (Some input) after limit head f small is h = subst (λ l. HoldsOfGot limit (l ++ input) after (IsRefused (Book f))) (sym is)
@@ -279,3 +264,12 @@ pub of_got : (known after : Option (List ℕ)) (limit : ℕ) (t : List ℕ) (c :
     → P t c → OfGot limit known after P
 of_got None after limit t c P gets reads = tt
 of_got (Some input) after limit t c P gets reads = record { text = t; ending = c; gets = gets; holds = reads }
+
+-- and so is what was got after a head
+pub of_head : (known mid after : Option (List ℕ)) (limit : ℕ) (head : List ℕ)
+    (P : List ℕ → Ending → Type 0) → Consumes known mid head
+    → IfSome mid (λ input. HoldsOfGot limit (head ++ input) after P) → OfGot limit known after P
+of_head None mid after limit head P took h = tt
+of_head (Some input) None after limit head P took h = absurd took
+of_head (Some input) (Some rest) after limit head P took h =
+    subst (λ l. HoldsOfGot limit l after P) (sym took) h

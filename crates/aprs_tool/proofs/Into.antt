@@ -11,7 +11,7 @@ use Rattle.aprs_book.specs.declared.merge_fault.MergeFault.{MergeFault}
 use Rattle.aprs_book.specs.declared.merge_fault.MergeFault.TheVariants as fault
 use Rattle.aprs_log.specs.Reception.{Heard}
 use Rattle.aprs_log.specs.declared.Ending.{Ending}
-use Rattle.aprs_tool.specs.Inputs.{AreMembers, AreMembersIn, fault_of_merge, HoldsOfGot, is_book_file, IsGapIn, IsOtherIn, ReadsInput, RefusesGaps, TakesInput}
+use Rattle.aprs_tool.specs.Inputs.{AreMembers, fault_of_merge, HasOtherGap, HoldsOfGot, IsFaultless, IsGapOf, ReadsInput, RefusesGaps, TakesInput}
 use Rattle.aprs_tool.specs.declared.fault.InputFault.{InputFault}
 
 -- the book of no receptions becomes the other
@@ -31,9 +31,12 @@ got_so (Some input) after limit whole P Q follows h =
 -- ---- an input's book that is merged
 
 -- a log is read with the asked gap, so that only a book file has another
-other_in : (gap : ℕ) (b : Bool) (t : List ℕ) (c : Ending) (other : ℕ) (S : List Heard) → (gap ≡ other → ⊥) → IsGapIn gap b other → AreMembersIn other b t c S → IsOtherIn gap b t
-other_in gap true t c other S differs is members = (other, S, λ e. differs (sym e), members)
-other_in gap false t c other S differs is members = absurd (differs (sym is))
+other_of : (gap : ℕ) (t : List ℕ) (c : Ending) (other : ℕ) (S : List Heard) → (gap ≡ other → ⊥)
+    → IsFaultless t c → IsGapOf gap t other → AreMembers other t c S → HasOtherGap gap t c
+other_of gap t c other S differs faultless is members = elim members [
+  | inl book ↦ (faultless, book.0, (other, S, λ e. differs (sym e), book.1))
+  | inr log ↦ absurd (differs (sym (is log.0)))
+]
 
 module _ (gap : ℕ) (t : List ℕ) (c : Ending) (b : BookValue) (h : ReadsInput gap (Ok b) t c) where
   -- it was merged into the rows
@@ -50,7 +53,7 @@ module _ (gap : ℕ) (t : List ℕ) (c : Ending) (b : BookValue) (h : ReadsInput
 
   -- or that was refused
   pub not_merged_in : (e : MergeFault) (old new : List Row) → RefusesGaps e gap b.gap → TakesInput gap (Err (fault_of_merge e)) old new t c
-  not_merged_in fault.OtherGap old new differs = inr (h.0, other_in gap (is_book_file t) t c b.gap h.1.1 differs h.1.0 h.1.2)
+  not_merged_in fault.OtherGap old new differs = inr (other_of gap t c b.gap h.1.1 differs h.0 h.1.0 h.1.2)
   not_merged_in fault.Memory old new same = inr (h.0, (h.1.1, subst (λ g. AreMembers g t c h.1.1) (sym same) h.1.2))
 
 -- an input that isn't read is not taken

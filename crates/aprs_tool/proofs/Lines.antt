@@ -5,7 +5,7 @@ use Rattle.std.proofs.lemmas.List.Concat.{flat_map-append}
 use Rattle.std.specs.Result.{IsErr}
 use Rattle.aprs_kiss.specs.Device.{Rose}
 use Rattle.aprs_kiss.specs.declared.WriteFault.{WriteFault}
-use Rattle.aprs_booktext.proofs.Sending.{Puts-last, Puts-more, Puts-nil, front_of_first, front_of_last, front_of_piece}
+use Rattle.aprs_booktext.proofs.Sending.{Puts-last, Puts-more, Puts-nil, prefix_of_first, prefix_of_last, prefix_of_piece}
 use Rattle.aprs_ax25.specs.Callsign.{Call, call_text}
 use Rattle.aprs_laws.specs.Key.{key_of}
 use Rattle.aprs_log.specs.Moment.{moment_text}
@@ -31,7 +31,7 @@ pub PutsText-then : {r : Answer} {a b c : Option (List ℕ)} {m n o : ℕ} {h i 
     → PutsText r a c m o h j (x ++ y)
 PutsText-then {r} {a} {b} {c} {m} {n} {o} {h} {i} {j} {x} {y} p q = record {
   sent = Puts-last r a b c h i (x ++ y) x y p.sent refl j q.sent;
-  prefix = front_of_last r a b c h i (x ++ y) x y p.sent refl q.prefix;
+  prefix = prefix_of_last r a b c h i (x ++ y) x y p.sent refl q.prefix;
   count = let first = p.count in let second = q.count in omega (arith, first, second);
   fault = later r q.fault;
 }
@@ -40,7 +40,7 @@ PutsText-then {r} {a} {b} {c} {m} {n} {o} {h} {i} {j} {x} {y} p q = record {
     later (Ok v) rose = tt
     later (Err e) rose = let first = p.count in omega (arith, first, rose)
 
--- what was held after a fault is not told
+-- what was held after a fault is not said
 pub PutsText-err : {e : WriteFault} {a b : Option (List ℕ)} {m n : ℕ} {h i j x : List ℕ} (r : Answer) → IsErr r → PutsText (Err e) a b m n h i x → PutsText r a b m n h j x
 PutsText-err (Ok v) is p = absurd cc
 PutsText-err (Err f) is p = record { sent = tt; prefix = p.prefix; count = p.count; fault = p.fault }
@@ -49,7 +49,7 @@ PutsText-err (Err f) is p = record { sent = tt; prefix = p.prefix; count = p.cou
 pub PutsText-fails : {e : WriteFault} {a b : Option (List ℕ)} {m n : ℕ} {h i j x : List ℕ} (r : Answer) → IsErr r → PutsText (Err e) a b m n h i x
     → (y : List ℕ) → PutsText r a b m n h j (x ++ y)
 PutsText-fails {e} {a} {b} {m} {n} {h} {i} {j} {x} r is p y =
-    let whole : PutsText (Err e) a b m n h i (x ++ y) = record { sent = tt; prefix = front_of_first a b h x y p.prefix; count = p.count; fault = p.fault } in
+    let whole : PutsText (Err e) a b m n h i (x ++ y) = record { sent = tt; prefix = prefix_of_first a b h x y p.prefix; count = p.count; fault = p.fault } in
     PutsText-err r is whole
 
 -- ---- pieces one after another
@@ -70,7 +70,7 @@ module _ {X : Type 0} (f : X → List ℕ) (xs : List X) (i : ℕ) (x : X) (lt :
   PutsText-broken {e} l r is_err q =
       let whole : PutsText (Err e) a c m o h k (flat_map f xs) = record {
         sent = tt;
-        prefix = front_of_piece f xs i x lt is a b c h j p.sent (f x) refl q.prefix;
+        prefix = prefix_of_piece f xs i x lt is a b c h j p.sent (f x) refl q.prefix;
         count = let first = p.count in let second = q.count in omega (arith, first, second);
         fault = let first = p.count in let second = q.fault in omega (arith, first, second);
       } in

@@ -70,11 +70,11 @@ pub Took-fault : (gap : ℕ) (first now : Answers → Type 0) (old rows : List R
 Took-fault gap first now old rows known end limit head fault h may whole =
     let all = prepended h.seen (ended (Some fault)) in
     over_log gap known end limit head all (Err (Log fault)) old rows (whole all (h.has.complete (ended (Some fault)) may))
-    (λ t c e. inr (ap (λ (a : Answers). a.fault) (sym e)))
+    (λ t c e. ap (λ (a : Answers). a.fault) (sym e))
 
--- memory was refused
+-- an allocation failed
 pub Took-refused : (gap : ℕ) (known end : Option (List ℕ)) (limit : ℕ) (head : List ℕ) (old new : List Row)
     → IfSome known (λ input. HoldsOfGot limit (head ++ input) end (ReadsLog gap (Err Memory) old new))
 Took-refused gap None end limit head old new = tt
 Took-refused gap (Some input) end limit head old new =
-    let g = gets_whole limit (head ++ input) end in record { text = g.text; ending = g.ending; gets = g.gets; holds = inl tt }
+    let g = gets_whole limit (head ++ input) end in record { text = g.text; ending = g.ending; gets = g.gets; holds = tt }

@@ -10,7 +10,7 @@ use Rattle.aprs_log.specs.LogAnswers.{Answers, ended, log_answers, then_given}
 use Rattle.aprs_log.specs.Reader.{AreAnswersOf}
 use Rattle.aprs_log.specs.declared.line.Line.{Line}
 use Rattle.aprs_log.specs.declared.fault.LogFault.{LogFault}
-use Rattle.aprs_tool.specs.Run.{line_text, lines_text, lines_fault, RunsSo, RunsOver}
+use Rattle.aprs_tool.specs.Run.{line_text, lines_plan, lines_fault, Ends, RunsOver}
 use Rattle.aprs_tool.specs.declared.fault.InputFault.TheVariants.{Log}
 use Rattle.aprs_tool.specs.declared.fault.RunFault.{RunFault}
 use Rattle.aprs_tool.specs.declared.fault.RunFault.TheVariants.{Input, Write}
@@ -67,11 +67,15 @@ IsWhole first limit known end = (a : Answers) → first a → IfSome known (λ i
 
 -- it runs so where all its answers are these
 pub over : (whole : Answers → List ℕ) (limit : ℕ) (known end : Option (List ℕ)) (r : Result (Unit {0}) RunFault) (old new : Option (List ℕ)) (a : Answers)
-    → IfSome known (λ input. AreAnswersOf limit input end a) → RunsSo r old new (whole a) a.fault
-    → RunsOver (λ t c. whole (log_answers t c)) lines_fault limit known end r old new
+    → IfSome known (λ input. AreAnswersOf limit input end a) → Ends r old new (record { text = whole a; fault = a.fault })
+    → RunsOver (λ t c. record { text = whole (log_answers t c); fault = lines_fault t c }) limit known end r old new
 over whole limit None end r old new a h runs = tt
-over whole limit (Some input) end r old new a h runs =
-    (h.text, h.ending, h.gets, subst (λ (x : Answers). RunsSo r old new (whole x) x.fault) h.is runs)
+over whole limit (Some input) end r old new a h runs = record {
+  text = h.text;
+  ending = h.ending;
+  gets = h.gets;
+  holds = subst (λ (x : Answers). Ends r old new (record { text = whole x; fault = x.fault })) h.is runs;
+}
 
 abbrev lines_of : Form → Answers → List ℕ
 lines_of form a = flat_map (line_text form) a.given
@@ -80,15 +84,15 @@ lines_of form a = flat_map (line_text form) a.given
 pub Ran-refused : (form : Form) (first now after : Answers → Type 0) (limit : ℕ) (known end a b c : Option (List ℕ)) (x lent : Line) → lent ≡ x
     → Ran (flat_map (line_text form)) first now a b → ((answers : Answers) → after answers → now (then_given x answers))
     → (answers : Answers) → after answers → AppendsPrefix b c (line_text form lent) → IsWhole first limit known end
-    → RunsOver (lines_text form) lines_fault limit known end (Err Write) a c
-Ran-refused form first now after limit known end a b c x lent same h next answers may front whole =
+    → RunsOver (lines_plan form) limit known end (Err Write) a c
+Ran-refused form first now after limit known end a b c x lent same h next answers may prefix whole =
     let f = line_text form in
     let all = prepended h.seen (then_given x answers) in
     let text : flat_map f all.given ≡ (flat_map f h.seen ++ f x) ++ flat_map f answers.given =
     flat_map-append f h.seen (x ∷ answers.given) ∙ sym (append_assoc (flat_map f h.seen) (f x) (flat_map f answers.given)) in
     over (lines_of form) limit known end (Err Write) a c all (whole all (h.has.complete (then_given x answers) (next answers may)))
     (subst (AppendsPrefix a c) (sym text) (AppendsPrefix-more a c (flat_map f h.seen ++ f x) (flat_map f answers.given)
-    (AppendsPrefix-then a b c (flat_map f h.seen) (f x) h.out (subst (λ (y : Line). AppendsPrefix b c (f y)) same front))))
+    (AppendsPrefix-then a b c (flat_map f h.seen) (f x) h.out (subst (λ (y : Line). AppendsPrefix b c (f y)) same prefix))))
 
 -- what was written is the text of all answers, where none is left
 whole_text : (f : Line → List ℕ) (seen : List Line) (a b : Option (List ℕ)) → Appends a b (flat_map f seen) → Appends a b (flat_map f (seen ++ []))
@@ -97,17 +101,17 @@ whole_text f seen a b out = subst (λ (lines : List Line). Appends a b (flat_map
 -- the log ended
 pub Ran-ended : (form : Form) (first now : Answers → Type 0) (limit : ℕ) (known end a b : Option (List ℕ))
     → Ran (flat_map (line_text form)) first now a b → now (ended None) → IsWhole first limit known end
-    → RunsOver (lines_text form) lines_fault limit known end (Ok tt) a b
+    → RunsOver (lines_plan form) limit known end (Ok tt) a b
 Ran-ended form first now limit known end a b h may whole =
     over (lines_of form) limit known end (Ok tt) a b (prepended h.seen (ended None)) (whole _ (h.has.complete (ended None) may))
     (refl, whole_text (line_text form) h.seen a b h.out)
 
 -- the log has a fault
-pub Ran-fault : (form : Form) (first now : Answers → Type 0) (limit : ℕ) (known end a b : Option (List ℕ)) (fault : LogFault) (told : RunFault)
-    → told ≡ Input 0 (Log fault)
+pub Ran-fault : (form : Form) (first now : Answers → Type 0) (limit : ℕ) (known end a b : Option (List ℕ)) (fault : LogFault) (answer : RunFault)
+    → answer ≡ Input 0 (Log fault)
     → Ran (flat_map (line_text form)) first now a b → now (ended (Some fault)) → IsWhole first limit known end
-    → RunsOver (lines_text form) lines_fault limit known end (Err told) a b
-Ran-fault form first now limit known end a b fault told same h may whole =
-    subst (λ (t : RunFault). RunsOver (lines_text form) lines_fault limit known end (Err t) a b) (sym same)
+    → RunsOver (lines_plan form) limit known end (Err answer) a b
+Ran-fault form first now limit known end a b fault answer same h may whole =
+    subst (λ (t : RunFault). RunsOver (lines_plan form) limit known end (Err t) a b) (sym same)
     (over (lines_of form) limit known end (Err (Input 0 (Log fault))) a b (prepended h.seen (ended (Some fault))) (whole _ (h.has.complete (ended (Some fault)) may))
     (refl, refl, whole_text (line_text form) h.seen a b h.out))

@@ -15,7 +15,7 @@ use Rattle.aprs_tool.specs.declared.fault.InputFault.TheVariants.{Narrower}
 use Rattle.aprs_tool.specs.declared.fault.RunFault.TheVariants.{Input, Write, Memory}
 use Rattle.aprs_tool.proofs.Into.{got_so}
 
--- a gap that isn't told as narrower is wide enough
+-- a gap that isn't refused as narrower is wide enough
 wide_enough : (gap own : ℕ) → (gap < own → ⊥) → own ≤ gap
 wide_enough gap own none = elim (cases_lt gap own) [
   | inl less ↦ absurd (none less)
@@ -23,13 +23,13 @@ wide_enough gap own none = elim (cases_lt gap own) [
 ]
 
 pub wide_ok : (gap own : ℕ) (r : Result BookValue WidenFault) (w : BookValue) → r ≡ Ok w → (r ≡ Err fault.Narrower) ↔ (gap < own) → own ≤ gap
-wide_ok gap own r w is told = wide_enough gap own (λ less. let bad : Ok w ≡ Err fault.Narrower = sym is ∙ told.1 less in absurd cc)
+wide_ok gap own r w is known = wide_enough gap own (λ less. let bad : Ok w ≡ Err fault.Narrower = sym is ∙ known.1 less in absurd cc)
 
 two_faults : (r : Result BookValue WidenFault) → r ≡ Err fault.Memory → r ≡ Err fault.Narrower → ⊥
 two_faults r memory narrower = absurd cc
 
 pub wide_refused : (gap own : ℕ) (r : Result BookValue WidenFault) → r ≡ Err fault.Memory → (r ≡ Err fault.Narrower) ↔ (gap < own) → own ≤ gap
-wide_refused gap own r is told = wide_enough gap own (λ less. two_faults r is (told.1 less))
+wide_refused gap own r is known = wide_enough gap own (λ less. two_faults r is (known.1 less))
 
 module _ (known after : Option (List ℕ)) (limit gap : ℕ) (old new : Option (List ℕ)) where
   pub not_read : (e : InputFault) → OfGot limit known after (ReadsInput gap (Err e)) → OfGot limit known after (WidensInput gap (Err (Input 0 e)) old old)

@@ -2,7 +2,7 @@
 pub mod Shown
 pub mod Monitor
 pub mod Status
-pub mod Words
+pub mod Arguments
 pub mod Run
 pub mod Head
 pub mod Inputs

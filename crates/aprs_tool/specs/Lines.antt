@@ -10,7 +10,7 @@ use Rattle.aprs_tool.specs.Listing.{word, stamp_text, fraction_text, ambiguity_t
 use Rattle.aprs_tool.specs.declared.field.Field.{Field}
 use Rattle.aprs_tool.specs.declared.field.Field.TheVariants as field
 
--- At Ok the text stands behind what was held, of which some went out; at a fault a prefix of both
+-- At Ok the text stands after what was held, of which a prefix went out; at a fault a prefix of both
 -- went out, and the count of failed calls rose.
 pub record PutsText (r : Result (Unit {0}) WriteFault) (old new : Option (List ℕ))
     (before after : ℕ) (held left text : List ℕ) : Type 0 where
@@ -19,6 +19,7 @@ pub record PutsText (r : Result (Unit {0}) WriteFault) (old new : Option (List �
   pub count : before ≤ after
   pub fault : OnErr r (Rose before after)
 
+-- the text of a field
 abbrev pub field_text : Field → List ℕ
 field_text (field.Plain bytes) = bytes.now
 field_text (field.Word bytes) = word bytes.now
@@ -30,5 +31,6 @@ field_text (field.Degrees fraction) = fraction_text fraction
 field_text (field.Ambiguity place) = ambiguity_text place
 field_text (field.Symbol symbol) = symbol_text symbol
 
+-- a space and the text of a field
 abbrev pub spaced_field : Field → List ℕ
 spaced_field x = 32 ∷ field_text x

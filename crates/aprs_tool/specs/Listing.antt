@@ -1,5 +1,5 @@
--- The text of the listing, as a function of what a book tells: its stations, its objects and items,
--- and its messages.
+-- The text of the listing, as a function of what is listed of a book: its stations, its objects and
+-- items, and its messages.
 use Rattle.std.specs.Prelude.{ℕ, ◌==◌, Bool, true, false, if◌then◌else◌, List, [], ◌∷◌, ◌++◌, Option, None, Some, codes}
 use Rattle.std.specs.List.{flat_map}
 use Rattle.std.specs.Fmt.{decimal, signed_decimal}
@@ -52,6 +52,7 @@ ambiguity_text (Base91 y x cst) = codes "c"
 abbrev pub symbol_text : Symbol → List ℕ
 symbol_text s = shown (s.table ∷ s.code ∷ [])
 
+-- whether an object or an item is live or killed
 abbrev pub live_text : Bool → List ℕ
 live_text true = codes "live"
 live_text false = codes "killed"
@@ -61,6 +62,7 @@ abbrev pub id_text : Option (Bor (List ℕ)) → List ℕ
 id_text None = codes "-"
 id_text (Some id) = id.now
 
+-- what came of a message
 abbrev pub state_text : MessageState → List ℕ
 state_text Unnumbered = codes "unnumbered"
 state_text Unanswered = codes "unanswered"
@@ -83,10 +85,11 @@ place_fields stamp place symbol = stamp_text stamp ∷ fraction_text (latitude_o
 
 -- ---- lines
 
+-- a field after a space
 abbrev pub after_space : List ℕ → List ℕ
 after_space field = 32 ∷ field
 
--- what a line tells of, and each field after a space
+-- the kind of a line, and each field after a space
 abbrev pub line_of : List ℕ → List (List ℕ) → List ℕ
 line_of kind fields = kind ++ (flat_map after_space fields ++ 10 ∷ [])
 
@@ -111,6 +114,7 @@ report_line x (ack addressee id) = []
 report_line x (rej addressee id) = []
 report_line x raw = []
 
+-- the line of a reception
 abbrev pub heard_line : Heard → List ℕ
 heard_line x = report_line x (report_of (key_of x.frame))
 
@@ -127,6 +131,7 @@ station_line x = line_of (codes "station") (call_text x.call ∷ decimal x.trans
 abbrev pub station_lines : Station → List ℕ
 station_lines x = station_line x ++ (known_line x.position ++ known_line x.status)
 
+-- the line of an object or an item
 abbrev pub named_line : Named → List ℕ
 named_line x = heard_line x.heard
 
@@ -135,6 +140,7 @@ abbrev pub message_fields : MessageRow → List (List ℕ)
 message_fields x = call_text x.source ∷ word x.addressee.now ∷ id_text x.id ∷ state_text x.state
     ∷ moment_text x.first ∷ moment_text x.last ∷ []
 
+-- the line of a message
 abbrev pub message_line : MessageRow → List ℕ
 message_line x = text_line_of (codes "message") (message_fields x) x.text.now
 

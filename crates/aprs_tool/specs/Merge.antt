@@ -19,83 +19,89 @@ use Rattle.aprs_tool.specs.declared.fault.RunFault.TheVariants.{Input, Write, Me
 
 -- ---- what was got of several inputs
 
--- of one: a text, and what came after it
+-- what was got of one input: a text, and what came after it
 pub record Got : Type 0 where
   pub text : List ℕ
   pub ending : Ending
 
--- of each, at most `limit` bytes; their devices then have `afters`
+-- Of each input this was got, at most `limit` bytes; their devices then have `afters`.
 abbrev pub GetsEach : ℕ → List (List ℕ) → List (Option (List ℕ)) → List Got → Type 0
 GetsEach limit [] [] [] = Unit {0}
 GetsEach limit (input ∷ inputs) (after ∷ afters) (g ∷ gots) =
     Gets limit input after g.text g.ending × GetsEach limit inputs afters gots
 GetsEach limit _ _ _ = ⊥
 
--- a book of this gap, in seconds, can take them all
+-- A book of this gap, in seconds, can take them all.
 abbrev pub AllFit : ℕ → List Got → Type 0
 AllFit gap [] = Unit {0}
 AllFit gap (g ∷ gots) = Fits gap g.text g.ending × AllFit gap gots
 
--- number `index`, from 0, is the first that is not taken
+-- Input number `index`, from 0, is the first that is not taken, for this fault.
 abbrev pub IsFirstRefused : ℕ → ℕ → InputFault → List Got → Type 0
-IsFirstRefused gap index e [] = ⊥
-IsFirstRefused gap zero e (g ∷ gots) = IsNotTaken gap e g.text g.ending
-IsFirstRefused gap (suc index) e (g ∷ gots) =
-    Fits gap g.text g.ending × IsFirstRefused gap index e gots
+IsFirstRefused gap index fault [] = ⊥
+IsFirstRefused gap zero fault (g ∷ gots) = IsNotTaken gap fault g.text g.ending
+IsFirstRefused gap (suc index) fault (g ∷ gots) =
+    Fits gap g.text g.ending × IsFirstRefused gap index fault gots
 
--- the receptions of all, in order
+-- These are the receptions of all, in order.
 abbrev pub AreMembersOfAll : ℕ → List Got → List Heard → Type 0
 AreMembersOfAll gap [] S = S ≡ []
 AreMembersOfAll gap (g ∷ gots) S = (T : List Heard) × (U : List Heard)
     × AreMembers gap g.text g.ending T × AreMembersOfAll gap gots U × (S ≡ T ++ U)
 
--- the rows are the book of the receptions of all
+-- The rows are the book of the receptions of all.
 abbrev pub IsBookOfAll : ℕ → List Row → List Got → Type 0
 IsBookOfAll gap rows gots =
     (S : List Heard) × AreMembersOfAll gap gots S × BookOf (millis_of gap) S rows
 
 -- ---- how they are read
 
--- the one book of inputs that fit is read; otherwise the first that is refused is told, by number
+-- The one book of inputs that fit is read; otherwise the first that is refused is reported, by
+-- number.
 abbrev pub ReadsEach : ℕ → Result BookValue (ℕ × InputFault) → List Got → Type 0
-ReadsEach gap (Ok b) gots = (b.gap ≡ gap) × AllFit gap gots × IsBookOfAll gap b.rows gots
+ReadsEach gap (Ok book) gots =
+    (book.gap ≡ gap) × AllFit gap gots × IsBookOfAll gap book.rows gots
 ReadsEach gap (Err p) gots = IsFirstRefused gap p.0 p.1 gots
 
 -- ---- how they are merged
 
--- all fit, and P holds of a text that tells of the receptions of all
+-- All fit, and P holds of a text that `Tells` says is that of the receptions of all.
 abbrev pub WritesOfAll : ℕ → (List Heard → List ℕ → Type 0) → List Got → (List ℕ → Type 0) → Type 0
 WritesOfAll gap Tells gots P = AllFit gap gots × ((S : List Heard) × (text : List ℕ)
     × AreMembersOfAll gap gots S × Tells S text × P text)
 
+-- the book of this gap and these rows
 abbrev pub book_with : ℕ → List Row → BookValue
 book_with gap rows = record { gap = gap; rows = rows }
 
--- the text is the one that is written of the book of S
+-- The text is the one that is written of the book of S.
 abbrev pub IsBookTextOf : ℕ → List Heard → List ℕ → Type 0
 IsBookTextOf gap S text = (rows : List Row) × BookOf (millis_of gap) S rows
     × (text ≡ written_text (book_with gap rows))
 
+-- All fit, and P holds of the text of their book.
 abbrev pub WritesBook : ℕ → List Got → (List ℕ → Type 0) → Type 0
 WritesBook gap gots P = WritesOfAll gap (IsBookTextOf gap) gots P
 
--- A refused output comes after a prefix of the text. Where an input is refused nothing is written.
+-- The text of their book is written, or a prefix of it where the output was refused. Where an input
+-- is refused, nothing is written.
 abbrev pub MergesEach : ℕ → Result (Unit {0}) RunFault → Option (List ℕ) → Option (List ℕ)
     → List Got → Type 0
 MergesEach gap (Ok u) old new gots = WritesBook gap gots (λ text. Appends old new text)
 MergesEach gap (Err Write) old new gots = WritesBook gap gots (λ text. AppendsPrefix old new text)
-MergesEach gap (Err (Input index e)) old new gots = IsFirstRefused gap index e gots × (new ≡ old)
+MergesEach gap (Err (Input index fault)) old new gots =
+    IsFirstRefused gap index fault gots × (new ≡ old)
 MergesEach gap (Err Memory) old new gots = ⊥
 
--- of each input at most `limit` bytes are got, and P holds of what was got; the devices then have
--- `afters`
+-- Of each input at most `limit` bytes were got, and P holds of what was got; the devices then have
+-- `afters`.
 pub record HoldsOfEach (limit : ℕ) (inputs : List (List ℕ)) (afters : List (Option (List ℕ)))
     (P : List Got → Type 0) : Type 0 where
   pub gots : List Got
   pub gets : GetsEach limit inputs afters gots
   pub holds : P gots
 
--- where the bytes of all inputs are known
+-- The same, where the bytes of all inputs are known.
 abbrev pub OfEach : ℕ → List (Option (List ℕ)) → List (Option (List ℕ)) → (List Got → Type 0)
     → Type 0
 OfEach limit knowns afters P =
@@ -104,7 +110,7 @@ OfEach limit knowns afters P =
 
 -- ---- failed reads
 
--- the count of this reader's failed calls rose
+-- The count of this reader's failed calls rose.
 pub record RoseAt {R : Type 0} (index : ℕ) (old new : List (Counted R)) : Type 0 where
   pub before : Counted R
   pub after : Counted R
@@ -112,37 +118,37 @@ pub record RoseAt {R : Type 0} (index : ℕ) (old new : List (Counted R)) : Type
   pub is : slice_get new index ≡ Some after
   pub rose : Rose (failures_of before) (failures_of after)
 
--- a failed read is told of an input only where its reader's count rose
+-- A failed read of an input is reported only where its reader's count rose.
 abbrev pub RoseWhereRead : {R : Type 0} → RunFault → List (Counted R) → List (Counted R) → Type 0
-RoseWhereRead (Input index e) old new = IsReadFault e → RoseAt index old new
+RoseWhereRead (Input index fault) old new = IsReadFault fault → RoseAt index old new
 RoseWhereRead Write old new = Unit {0}
 RoseWhereRead Memory old new = Unit {0}
 
--- the answer is a failed read of input number `k`
+-- The fault is a failed read of input number `k`.
 abbrev pub IsReadOf : ℕ → RunFault → Type 0
-IsReadOf k (Input index e) = (index ≡ k) × IsReadFault e
+IsReadOf k (Input index fault) = (index ≡ k) × IsReadFault fault
 IsReadOf k Write = ⊥
 IsReadOf k Memory = ⊥
 
--- of each reader, the count of answered faults rose where P holds of its number, and else is as it
--- was
+-- Of each reader, the count of faults that it returned rose where P holds of its number, and else is
+-- as it was.
 abbrev pub RoseWhereEach : {R : Type 0} → (ℕ → Type 0) → List (Counted R) → List (Counted R)
     → Type 0
 RoseWhereEach {R} P old new = (k : ℕ) (before after : Counted R) → slice_get old k ≡ Some before
     → slice_get new k ≡ Some after → RoseWhere (P k) (answered_of before) (answered_of after)
 
--- the readers after number `index` are as they were
+-- The readers after number `index` are as they were.
 abbrev pub IsAsBefore : {R : Type 0} → ℕ → List (Counted R) → List (Counted R) → Type 0
 IsAsBefore index old new = (k : ℕ) → index < k → slice_get new k ≡ slice_get old k
 
--- no input was read after one that is refused
+-- No input was read after one that is refused.
 abbrev pub ReadsNoFurther : {R : Type 0} → RunFault → List (Counted R) → List (Counted R) → Type 0
-ReadsNoFurther (Input index e) old new = IsAsBefore index old new
+ReadsNoFurther (Input index fault) old new = IsAsBefore index old new
 ReadsNoFurther Write old new = Unit {0}
 ReadsNoFurther Memory old new = Unit {0}
 
--- where an input is refused, or memory for a listing, nothing is written
+-- Where an input is refused, or an allocation failed for a listing, nothing is written.
 abbrev pub WritesNothing : RunFault → Option (List ℕ) → Option (List ℕ) → Type 0
-WritesNothing (Input index e) old new = new ≡ old
+WritesNothing (Input index fault) old new = new ≡ old
 WritesNothing Write old new = Unit {0}
 WritesNothing Memory old new = new ≡ old

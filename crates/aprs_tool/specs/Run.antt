@@ -1,6 +1,6 @@
 -- What a run writes and answers, as a function of what was got of its input.
 use Rattle.std.specs.Prelude.{◌≡◌, ℕ, ◌+◌, List, [], ◌∷◌, ◌++◌, Option, None, Some, Result, Ok}
-use Rattle.std.specs.Prelude.{Err, MatchResult, IfSome, codes}
+use Rattle.std.specs.Prelude.{Err, codes}
 use Rattle.std.specs.List.{flat_map}
 use Rattle.std.specs.Fmt.{decimal}
 use Rattle.std.specs.Io.KnownBytes.{Appends}
@@ -12,16 +12,17 @@ use Rattle.aprs_ax25.specs.FrameFault.{frame_of, parts_of}
 use Rattle.aprs_ax25.specs.declared.fault.FrameFault.{FrameFault}
 use Rattle.aprs_log.specs.Fault.{reason_name}
 use Rattle.aprs_log.specs.Line.{written_line}
-use Rattle.aprs_log.specs.LogAnswers.{Answers, log_answers, Gets}
+use Rattle.aprs_log.specs.LogAnswers.{Answers, log_answers}
 use Rattle.aprs_log.specs.Reception.{Heard}
 use Rattle.aprs_log.specs.declared.Ending.{Ending}
-use Rattle.aprs_log.specs.declared.Ending.TheVariants as ending
-use Rattle.aprs_log.specs.declared.fault.LogCause.TheVariants as cause
+use Rattle.aprs_log.specs.declared.Ending.TheVariants as how
+use Rattle.aprs_log.specs.declared.fault.LogCause.TheVariants as why
 use Rattle.aprs_log.specs.declared.fault.LogFault.{LogFault}
 use Rattle.aprs_log.specs.declared.fault.Reason.{Reason}
 use Rattle.aprs_log.specs.declared.line.Line.{Line}
 use Rattle.aprs_log.specs.declared.line.Line.TheVariants as line
 use Rattle.aprs_booktext.specs.declared.fault.BookCause.TheVariants as book
+use Rattle.aprs_tool.specs.Inputs.{OfGot}
 use Rattle.aprs_tool.specs.Monitor.{monitor_text, kind_text}
 use Rattle.aprs_tool.specs.declared.fault.InputFault.{InputFault}
 use Rattle.aprs_tool.specs.declared.fault.InputFault.TheVariants.{Log, Book, Memory, OtherGap, Narrower}
@@ -31,8 +32,14 @@ use Rattle.aprs_tool.specs.declared.fault.RunFault.TheVariants as run
 use Rattle.aprs_tool.specs.declared.form.Form.{Form}
 use Rattle.aprs_tool.specs.declared.form.Form.TheVariants as form
 
+-- the text and an LF
 abbrev pub ended_by_lf : List ℕ → List ℕ
 ended_by_lf text = text ++ 10 ∷ []
+
+-- What a run over an input writes, and the fault that it ends with, if it has one.
+pub record Plan : Type 0 where
+  pub text : List ℕ
+  pub fault : Option LogFault
 
 -- ---- the lines of a conversion
 
@@ -42,81 +49,90 @@ reception_text form.Text x = ended_by_lf (monitor_text (parts_of x.frame))
 reception_text form.Kind x = ended_by_lf (kind_text (parts_of x.frame))
 reception_text form.Kiss x = kiss_text x.frame
 reception_text form.Log x = ended_by_lf (written_line x)
-reception_text (form.Capture r m) x = []
+reception_text (form.Capture receiver moment) x = []
 
--- a line that is passed over gives nothing
+-- what is written for a line; one that is passed over gives nothing
 abbrev pub line_text : Form → Line → List ℕ
 line_text f (line.Heard x) = reception_text f x
 line_text f (line.Passed reason) = []
 
 -- ---- the lines of a capture
 
+-- the log line of a UI frame, as this receiver heard it at this moment; another frame gives nothing
 abbrev pub captured : List ℕ → ℕ → Result (List ℕ) FrameFault → List ℕ
-captured r m (Ok frame) =
-    ended_by_lf (written_line (record { moment = m; receiver = r; frame = frame }))
-captured r m (Err fault) = []
+captured receiver moment (Ok frame) =
+    ended_by_lf (written_line (record { moment = moment; receiver = receiver; frame = frame }))
+captured receiver moment (Err fault) = []
 
 -- the log line of a data frame that is a UI frame; anything else gives nothing
 abbrev pub capture_text : List ℕ → ℕ → Judgement → List ℕ
-capture_text r m (Ok data_frame) = captured r m (frame_of data_frame.bytes)
-capture_text r m (Err fault) = []
+capture_text receiver moment (Ok data_frame) =
+    captured receiver moment (frame_of data_frame.bytes)
+capture_text receiver moment (Err fault) = []
 
+-- the fault of a stream that ends so
 abbrev pub cut_short : Ending → Option LogFault
-cut_short ending.End = None
-cut_short ending.Read = Some (record { line = 0; cause = cause.Read })
-cut_short ending.TooLong = Some (record { line = 0; cause = cause.TooLong })
+cut_short how.End = None
+cut_short how.Read = Some (record { line = 0; cause = why.Read })
+cut_short how.TooLong = Some (record { line = 0; cause = why.TooLong })
 
 -- ---- a conversion
 
--- of a log's lines
+-- the texts of all lines of a log
 abbrev pub lines_text : Form → List ℕ → Ending → List ℕ
-lines_text f t c = flat_map (line_text f) (log_answers t c).given
+lines_text f text ending = flat_map (line_text f) (log_answers text ending).given
 
+-- the fault after the lines of a log
 abbrev pub lines_fault : List ℕ → Ending → Option LogFault
-lines_fault t c = (log_answers t c).fault
+lines_fault text ending = (log_answers text ending).fault
 
--- of a stream's pieces
-abbrev pub stream_text : List ℕ → ℕ → List ℕ → Ending → List ℕ
-stream_text r m t c = flat_map (capture_text r m) (judgements_of t)
+-- the log lines of a stream's frames
+abbrev pub stream_text : List ℕ → ℕ → List ℕ → List ℕ
+stream_text receiver moment text = flat_map (capture_text receiver moment) (judgements_of text)
 
-abbrev pub stream_fault : List ℕ → Ending → Option LogFault
-stream_fault t c = cut_short c
+-- what a conversion of a log does
+abbrev pub lines_plan : Form → List ℕ → Ending → Plan
+lines_plan f text ending =
+    record { text = lines_text f text ending; fault = lines_fault text ending }
 
-abbrev pub convert_text : Form → List ℕ → Ending → List ℕ
-convert_text form.Text t c = lines_text form.Text t c
-convert_text form.Kind t c = lines_text form.Kind t c
-convert_text form.Kiss t c = lines_text form.Kiss t c
-convert_text form.Log t c = lines_text form.Log t c
-convert_text (form.Capture r m) t c = stream_text r m t c
+-- what a capture of a stream does
+abbrev pub stream_plan : List ℕ → ℕ → List ℕ → Ending → Plan
+stream_plan receiver moment text ending =
+    record { text = stream_text receiver moment text; fault = cut_short ending }
 
-abbrev pub convert_fault : Form → List ℕ → Ending → Option LogFault
-convert_fault form.Text t c = lines_fault t c
-convert_fault form.Kind t c = lines_fault t c
-convert_fault form.Kiss t c = lines_fault t c
-convert_fault form.Log t c = lines_fault t c
-convert_fault (form.Capture r m) t c = stream_fault t c
+-- what a conversion does: a capture reads a stream, and any other form a log
+abbrev pub convert_plan : Form → List ℕ → Ending → Plan
+convert_plan form.Text text ending = lines_plan form.Text text ending
+convert_plan form.Kind text ending = lines_plan form.Kind text ending
+convert_plan form.Kiss text ending = lines_plan form.Kiss text ending
+convert_plan form.Log text ending = lines_plan form.Log text ending
+convert_plan (form.Capture receiver moment) text ending = stream_plan receiver moment text ending
 
--- ---- what a check tells
+-- ---- a check
 
+-- the report of line number n, which is passed over
 abbrev pub passed_line : ℕ → Reason → List ℕ
 passed_line n reason =
     ended_by_lf (codes "line " ++ decimal n ++ codes " passed " ++ reason_name reason)
 
+-- the report of how many lines are heard and how many passed over
 abbrev pub totals_line : ℕ → ℕ → List ℕ
 totals_line heard passed =
     ended_by_lf (codes "heard " ++ decimal heard ++ codes " passed " ++ decimal passed)
 
--- of each line from number n on that is passed over
+-- the reports of lines that are passed over, of which the first line has number n
 abbrev pub check_lines : ℕ → List Line → List ℕ
 check_lines n [] = []
 check_lines n (line.Heard x ∷ lines) = check_lines (n + 1) lines
 check_lines n (line.Passed reason ∷ lines) = passed_line n reason ++ check_lines (n + 1) lines
 
+-- how many lines are heard
 abbrev pub count_heard : List Line → ℕ
 count_heard [] = 0
 count_heard (line.Heard x ∷ lines) = count_heard lines + 1
 count_heard (line.Passed reason ∷ lines) = count_heard lines
 
+-- how many lines are passed over
 abbrev pub count_passed : List Line → ℕ
 count_passed [] = 0
 count_passed (line.Heard x ∷ lines) = count_passed lines
@@ -127,59 +143,51 @@ abbrev pub totals : Option LogFault → List Line → List ℕ
 totals None lines = totals_line (count_heard lines) (count_passed lines)
 totals (Some fault) lines = []
 
--- of a log's answers
+-- the reports of a log with these answers
 abbrev pub check_of : Answers → List ℕ
-check_of a = check_lines 1 a.given ++ totals a.fault a.given
+check_of answers = check_lines 1 answers.given ++ totals answers.fault answers.given
 
-abbrev pub check_text : List ℕ → Ending → List ℕ
-check_text t c = check_of (log_answers t c)
+-- what a check of a log does
+abbrev pub check_plan : List ℕ → Ending → Plan
+check_plan text ending =
+    record { text = check_of (log_answers text ending); fault = lines_fault text ending }
 
 -- ---- how a run goes
 
--- An input's fault comes after the whole text, and a refused output after a prefix of it. There is
--- one input, number 0.
-abbrev pub FailsSo : RunFault → Option (List ℕ) → Option (List ℕ) → List ℕ → Option LogFault
-    → Type 0
-FailsSo (Input index (Log f)) old new text fault =
-    (index ≡ 0) × (fault ≡ Some f) × Appends old new text
-FailsSo (Input index (Book f)) old new text fault = ⊥
-FailsSo (Input index Memory) old new text fault = ⊥
-FailsSo (Input index OtherGap) old new text fault = ⊥
-FailsSo (Input index Narrower) old new text fault = ⊥
-FailsSo Write old new text fault = AppendsPrefix old new text
-FailsSo run.Memory old new text fault = ⊥
+-- A run with this answer did as planned: without a fault it wrote the whole text, an input's fault
+-- comes after the whole text, and a refused output after a prefix of it; no other fault comes. There
+-- is one input, number 0. What the output had before is `old`, and then it has `new`.
+abbrev pub Ends : Result (Unit {0}) RunFault → Option (List ℕ) → Option (List ℕ) → Plan → Type 0
+Ends (Ok u) old new plan = (plan.fault ≡ None) × Appends old new plan.text
+Ends (Err (Input index (Log fault))) old new plan =
+    (index ≡ 0) × (plan.fault ≡ Some fault) × Appends old new plan.text
+Ends (Err Write) old new plan = AppendsPrefix old new plan.text
+Ends (Err fault) old new plan = ⊥
 
--- the run of a text and a fault writes and answers so
-abbrev pub RunsSo : Result (Unit {0}) RunFault → Option (List ℕ) → Option (List ℕ) → List ℕ
-    → Option LogFault → Type 0
-RunsSo r old new text fault = MatchResult r (λ _. (fault ≡ None) × Appends old new text)
-    (λ e. FailsSo e old new text fault)
+-- Of the input some bytes were got, at most `limit`, and the run did as planned for these bytes and
+-- their ending; the device then has `after`.
+abbrev pub RunsOver : (List ℕ → Ending → Plan) → ℕ → Option (List ℕ) → Option (List ℕ)
+    → Result (Unit {0}) RunFault → Option (List ℕ) → Option (List ℕ) → Type 0
+RunsOver plan_of limit known after answer old new =
+    OfGot limit known after (λ text ending. Ends answer old new (plan_of text ending))
 
--- some bytes were got of the input, at most `limit`, and the run is that of their text and fault;
--- the device then has `after`
-abbrev pub RunsOver : (List ℕ → Ending → List ℕ) → (List ℕ → Ending → Option LogFault) → ℕ
-    → Option (List ℕ) → Option (List ℕ) → Result (Unit {0}) RunFault → Option (List ℕ)
-    → Option (List ℕ) → Type 0
-RunsOver text fault limit known after r old new = IfSome known
-    (λ input. (t : List ℕ) × (c : Ending) × Gets limit input after t c
-    × RunsSo r old new (text t c) (fault t c))
-
--- a read of the input failed
+-- The fault is a failed read of the input.
 abbrev pub IsReadFault : InputFault → Type 0
-IsReadFault (Log f) = f.cause ≡ cause.Read
-IsReadFault (Book f) = f.cause ≡ book.Read
+IsReadFault (Log fault) = fault.cause ≡ why.Read
+IsReadFault (Book fault) = fault.cause ≡ book.Read
 IsReadFault Memory = ⊥
 IsReadFault OtherGap = ⊥
 IsReadFault Narrower = ⊥
 
--- the answer is a failed read of an input
+-- The fault is a failed read of an input.
 abbrev pub IsRead : RunFault → Type 0
 IsRead (Input index fault) = IsReadFault fault
 IsRead Write = ⊥
 IsRead run.Memory = ⊥
 
--- what a run over a stream answers that ends so
+-- A run over a stream that ends so has this answer.
 abbrev pub EndsStream : Result (Unit {0}) RunFault → Ending → Type 0
-EndsStream r ending.End = r ≡ Ok tt
-EndsStream r ending.Read = r ≡ Err (Input 0 (Log (record { line = 0; cause = cause.Read })))
-EndsStream r ending.TooLong = r ≡ Err (Input 0 (Log (record { line = 0; cause = cause.TooLong })))
+EndsStream answer how.End = answer ≡ Ok tt
+EndsStream answer how.Read = answer ≡ Err (Input 0 (Log (record { line = 0; cause = why.Read })))
+EndsStream answer how.TooLong =
+    answer ≡ Err (Input 0 (Log (record { line = 0; cause = why.TooLong })))

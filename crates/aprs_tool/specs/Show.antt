@@ -26,8 +26,8 @@ use Rattle.aprs_tool.specs.declared.fault.RunFault.TheVariants.{Input, Write, Me
 
 -- ---- the listing of a set
 
--- the text is that of the stations, the objects and items, and the messages of S, whose book has a
--- gap of so many seconds
+-- The text is that of the stations, the objects and items, and the messages of S, whose book has a
+-- gap of so many seconds.
 pub record IsListingOf (gap : ℕ) (S : List Heard) (text : List ℕ) : Type 0 where
   pub rows : List Row
   pub stations : List Station
@@ -42,17 +42,18 @@ pub record IsListingOf (gap : ℕ) (S : List Heard) (text : List ℕ) : Type 0 w
 -- ---- how it is written
 
 -- A refused output comes after a prefix of the listing of the receptions of all. Where an input is
--- refused, or memory for the listing, nothing is written.
+-- refused, or an allocation failed for the listing, nothing is written.
 abbrev pub ShowsEach : ℕ → Result (Unit {0}) RunFault → Option (List ℕ) → Option (List ℕ)
     → List Got → Type 0
 ShowsEach gap (Ok u) old new gots =
     WritesOfAll gap (IsListingOf gap) gots (λ text. Appends old new text)
 ShowsEach gap (Err Write) old new gots =
     WritesOfAll gap (IsListingOf gap) gots (λ text. AppendsPrefix old new text)
-ShowsEach gap (Err (Input index e)) old new gots = IsFirstRefused gap index e gots × (new ≡ old)
+ShowsEach gap (Err (Input index fault)) old new gots =
+    IsFirstRefused gap index fault gots × (new ≡ old)
 ShowsEach gap (Err Memory) old new gots = AllFit gap gots × (new ≡ old)
 
--- ---- what it tells
+-- ---- the positions in it
 
 -- The text has a line of this station, and right after it the position line of `known`, if that is a
 -- reception. Only lines of other stations stand before.
@@ -65,7 +66,7 @@ pub record TellsPosition (text : List ℕ) (call : Call) (known : Option Heard) 
       ++ (line_of (codes "station") (call_text call ∷ decimal transmissions ∷ [])
       ++ (known_line known ++ after))
 
--- The listing of any set tells, of each source in the set, the position that is the set's greatest
+-- The listing of any set has, for each source in the set, the position that is the set's greatest
 -- reception of a position report from it.
 abbrev pub ListingsTellPositions : ℕ → Type 0
 ListingsTellPositions gap = (S : List Heard) (text : List ℕ) (call : Call) (known : Option Heard)

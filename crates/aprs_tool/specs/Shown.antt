@@ -11,5 +11,6 @@ is_shown b = nat_le 32 b && nat_le b 126 && not (b == 92)
 abbrev pub shown_byte : ℕ → List ℕ
 shown_byte b = if is_shown b then b ∷ [] else 92 ∷ 120 ∷ encode_lower (b ∷ [])
 
+-- the bytes as they are shown
 abbrev pub shown : List ℕ → List ℕ
 shown bytes = flat_map shown_byte bytes

@@ -10,32 +10,17 @@ use Rattle.aprs_tool.specs.declared.fault.RunFault.{RunFault}
 use Rattle.aprs_tool.specs.declared.fault.RunFault.TheVariants.{Input, Write}
 use Rattle.aprs_tool.specs.declared.fault.RunFault.TheVariants as run
 
--- 4 where memory was refused, 1 for every other cause
+-- the status for a log's cause: 4 where an allocation failed, 1 for every other cause
 abbrev pub status_of_cause : LogCause → ℕ
 status_of_cause cause.Memory = 4
-status_of_cause cause.LongLine = 1
-status_of_cause cause.NoNewline = 1
-status_of_cause cause.Moment = 1
-status_of_cause cause.Receiver = 1
-status_of_cause cause.Hex = 1
-status_of_cause cause.Read = 1
-status_of_cause cause.TooLong = 1
+status_of_cause other = 1
 
+-- the same for a book file's cause
 abbrev pub status_of_book_cause : BookCause → ℕ
 status_of_book_cause book.Memory = 4
-status_of_book_cause book.Header = 1
-status_of_book_cause book.RowSyntax = 1
-status_of_book_cause book.Frame = 1
-status_of_book_cause book.Order = 1
-status_of_book_cause book.Span = 1
-status_of_book_cause book.Near = 1
-status_of_book_cause book.Receivers = 1
-status_of_book_cause book.NotGreatest = 1
-status_of_book_cause book.Ending = 1
-status_of_book_cause book.After = 1
-status_of_book_cause book.Read = 1
-status_of_book_cause book.TooLong = 1
+status_of_book_cause other = 1
 
+-- the status for an input's fault
 abbrev pub status_of_input : InputFault → ℕ
 status_of_input (Log fault) = status_of_cause fault.cause
 status_of_input (Book fault) = status_of_book_cause fault.cause
@@ -43,6 +28,7 @@ status_of_input Memory = 4
 status_of_input OtherGap = 1
 status_of_input Narrower = 1
 
+-- the status for a run's fault: 3 where the output was refused
 abbrev pub status_of_fault : RunFault → ℕ
 status_of_fault (Input index fault) = status_of_input fault
 status_of_fault Write = 3

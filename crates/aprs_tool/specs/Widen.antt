@@ -11,24 +11,31 @@ use Rattle.aprs_tool.specs.declared.fault.InputFault.TheVariants.{Narrower}
 use Rattle.aprs_tool.specs.declared.fault.RunFault.{RunFault}
 use Rattle.aprs_tool.specs.declared.fault.RunFault.TheVariants.{Input, Write, Memory}
 
--- the input is faultless, and P holds of its book; that of a log has the asked gap, in seconds
+-- The input is faultless, and P holds of its book; that of a log has the gap that was asked for, in
+-- seconds.
 abbrev pub OfInput : ℕ → List ℕ → Ending → (BookValue → Type 0) → Type 0
-OfInput gap t c P = IsFaultless t c × ((b : BookValue) × IsBookOfInput gap b t c × P b)
+OfInput gap text ending P = IsFaultless text ending
+    × ((book : BookValue) × IsBookOfInput gap book text ending × P book)
 
--- the input is refused, or it is faultless and its book has a greater gap
+-- The input is refused, or it is faultless and its book has a greater gap.
 abbrev pub IsNotWidened : ℕ → InputFault → List ℕ → Ending → Type 0
-IsNotWidened gap e t c = IsRefused e t c ⊎ ((e ≡ Narrower) × OfInput gap t c (λ b. gap < b.gap))
+IsNotWidened gap fault text ending = IsRefused fault text ending
+    ⊎ ((fault ≡ Narrower) × OfInput gap text ending (λ book. gap < book.gap))
 
--- the gap of the input's book is not greater, and P holds of the text of that book under this gap
+-- The gap of the input's book is not greater, and P holds of the text of that book under this gap.
 abbrev pub WritesWide : ℕ → List ℕ → Ending → (List ℕ → Type 0) → Type 0
-WritesWide gap t c P = OfInput gap t c (λ b. (b.gap ≤ gap) × P (written_text (widened_to gap b)))
+WritesWide gap text ending P = OfInput gap text ending
+    (λ book. (book.gap ≤ gap) × P (written_text (widened_to gap book)))
 
--- A refused output comes after a prefix of the text. Where the input is refused, or narrower, or
--- memory is refused for the book, nothing is written.
+-- The text of the widened book is written, or a prefix of it where the output was refused. Where the
+-- input is refused, or its gap is greater, or an allocation failed for the book, nothing is written.
 abbrev pub WidensInput : ℕ → Result (Unit {0}) RunFault → Option (List ℕ) → Option (List ℕ)
     → List ℕ → Ending → Type 0
-WidensInput gap (Ok u) old new t c = WritesWide gap t c (λ text. Appends old new text)
-WidensInput gap (Err Write) old new t c = WritesWide gap t c (λ text. AppendsPrefix old new text)
-WidensInput gap (Err (Input index e)) old new t c =
-    (index ≡ 0) × IsNotWidened gap e t c × (new ≡ old)
-WidensInput gap (Err Memory) old new t c = OfInput gap t c (λ b. b.gap ≤ gap) × (new ≡ old)
+WidensInput gap (Ok u) old new text ending =
+    WritesWide gap text ending (λ written. Appends old new written)
+WidensInput gap (Err Write) old new text ending =
+    WritesWide gap text ending (λ written. AppendsPrefix old new written)
+WidensInput gap (Err (Input index fault)) old new text ending =
+    (index ≡ 0) × IsNotWidened gap fault text ending × (new ≡ old)
+WidensInput gap (Err Memory) old new text ending =
+    OfInput gap text ending (λ book. book.gap ≤ gap) × (new ≡ old)

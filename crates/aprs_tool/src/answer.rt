@@ -19,17 +19,17 @@ use aprs_log::{Line, LogWriter, Reception};
 use aprs_report::Report;
 use std::io::Write;
 
-/// Room for what is written for a line, kept from line to line.
+/// Scratch for what is written for a line, kept from line to line.
 #[derive(Drop)]
-pub struct Room {
+pub struct Scratch {
     text: Text,
     log: LogWriter,
 }
 
-impl Room {
-    /// Room for the first line.
-    pub fn new() -> Room {
-        Room {
+impl Scratch {
+    /// The same before the first line.
+    pub fn new() -> Scratch {
+        Scratch {
             text: Text::new(),
             log: LogWriter::new(),
         }
@@ -37,11 +37,11 @@ impl Room {
 }
 
 /// Writes what a form gives for a line.
-pub fn write_answer<W: Write>(
+pub fn write_line_as<W: Write>(
     form: &Form,
     w: &mut Counted<W>,
     line: &Line,
-    room: &mut Room,
+    scratch: &mut Scratch,
 ) -> Result<(), WriteFault>
     ensures sent { OnOk result (Appends (W.contents (device_of w.old))
         (W.contents (device_of w.new)) (line_text form.now line.now)) }
@@ -51,7 +51,7 @@ pub fn write_answer<W: Write>(
     ensures fault { OnErr result (Rose (failures_of w.old) (failures_of w.new)) }
 {
     match line {
-        Line::Heard(reception) => write_reception(form, w, reception, room),
+        Line::Heard(reception) => write_reception(form, w, reception, scratch),
         Line::Passed(_) => Ok(()),
     }
 }
@@ -61,7 +61,7 @@ fn write_reception<W: Write>(
     form: &Form,
     w: &mut Counted<W>,
     reception: &Reception,
-    room: &mut Room,
+    scratch: &mut Scratch,
 ) -> Result<(), WriteFault>
     ensures sent { OnOk result (Appends (W.contents (device_of w.old))
         (W.contents (device_of w.new)) (reception_text form.now reception.now)) }
@@ -71,10 +71,10 @@ fn write_reception<W: Write>(
     ensures fault { OnErr result (Rose (failures_of w.old) (failures_of w.new)) }
 {
     match form {
-        Form::Text => write_monitor_line(w, reception.frame(), &mut room.text),
-        Form::Kind => write_kind_line(w, reception.frame(), &mut room.text),
+        Form::Text => write_monitor_line(w, reception.frame(), &mut scratch.text),
+        Form::Kind => write_kind_line(w, reception.frame(), &mut scratch.text),
         Form::Kiss => write_kiss(w, reception.frame().bytes()),
-        Form::Log => room.log.write(w, reception),
+        Form::Log => scratch.log.write(w, reception),
         Form::Capture { .. } => Ok(()),
     }
 }

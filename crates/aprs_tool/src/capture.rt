@@ -3,15 +3,16 @@ ghost use Rattle.std.specs.Prelude.{◌≡◌, ◌≤◌, ◌<◌, ◌++◌, ℕ
 ghost use Rattle.std.specs.Prelude.{OnErr};
 ghost use Rattle.std.specs.List.{flat_map};
 ghost use Rattle.std.specs.Io.KnownBytes.{Appends, Consumes};
+ghost use Rattle.aprs_io.specs.declared.input.TheConstants.{MAX_INPUT};
 ghost use Rattle.aprs_ax25.specs.FrameFault.{frame_of};
 ghost use Rattle.aprs_kiss.specs.Device.{device_of, failures_of, answered_of, Rose, RoseWhere, AppendsPrefix};
 ghost use Rattle.aprs_kiss.specs.Reader.{StandsAfter};
-ghost use Rattle.aprs_kiss.specs.Answer.{told_by};
+ghost use Rattle.aprs_kiss.specs.Answer.{judgements_in};
 ghost use Rattle.aprs_kiss.specs.Stream.{judgements_of, rest_of};
 ghost use Rattle.aprs_log.specs.Awaits.{EndsHere};
 ghost use Rattle.aprs_log.specs.declared.Ending.TheVariants.{Read as ReadFailed};
 ghost use Rattle.aprs_tool.specs.declared.fault.InputFault.TheVariants.{Log};
-ghost use Rattle.aprs_tool.specs.Run.{RunsOver, IsRead, stream_text, stream_fault, capture_text};
+ghost use Rattle.aprs_tool.specs.Run.{RunsOver, IsRead, stream_plan, capture_text};
 ghost use Rattle.aprs_tool.specs.Run.{captured, EndsStream};
 
 use crate::fault::RunFault;
@@ -33,13 +34,13 @@ pub fn capture<R: Read, W: Write>(
     r: &mut Counted<R>,
     w: &mut Counted<W>,
 ) -> Result<(), RunFault>
-    requires { limit ≤ 1073741824 }
-    ensures run { RunsOver (stream_text receiver.now moment.now) stream_fault limit
+    requires { limit ≤ MAX_INPUT }
+    ensures run { RunsOver (stream_plan receiver.now moment.now) limit
         (R.remaining (device_of r.old)) (R.remaining (device_of r.new)) result
         (W.contents (device_of w.old)) (W.contents (device_of w.new)) }
-    ensures read { IfErr result (λ e. IsRead e → Rose (failures_of r.old) (failures_of r.new)) }
+    ensures read { IfErr result (λ fault. IsRead fault → Rose (failures_of r.old) (failures_of r.new)) }
     ensures answered { RoseWhere (IsErrAnd result IsRead) (answered_of r.old) (answered_of r.new) }
-    ensures write { IfErr result (λ e. e ≡ RunFault.Write
+    ensures write { IfErr result (λ fault. fault ≡ RunFault.Write
         → Rose (failures_of w.old) (failures_of w.new)) }
 {
     let mut reader = KissReader::new();
@@ -58,7 +59,7 @@ pub fn capture<R: Read, W: Write>(
     }
 }
 
-/// What a run over a stream answers that ends so.
+/// The answer of a run over a stream that ends so.
 fn stream_end(ending: Ending) -> Result<(), RunFault>
     ensures { EndsStream result ending }
 {
@@ -106,7 +107,7 @@ fn capture_chunk<W: Write>(
     Ok(())
 }
 
-/// Writes the log line of what the reader tells, where it is a frame.
+/// Writes the log line of what the reader returns, where it is a frame.
 fn write_fed<W: Write>(
     w: &mut Counted<W>,
     log: &mut LogWriter,
@@ -116,10 +117,10 @@ fn write_fed<W: Write>(
 ) -> Result<(), WriteFault>
     ensures sent { OnOk result (Appends (W.contents (device_of w.old))
         (W.contents (device_of w.new)) (flat_map (capture_text receiver.now moment.now)
-        (told_by fed.entry))) }
+        (judgements_in fed.entry))) }
     ensures prefix { OnErr result (AppendsPrefix (W.contents (device_of w.old))
         (W.contents (device_of w.new)) (flat_map (capture_text receiver.now moment.now)
-        (told_by fed.entry))) }
+        (judgements_in fed.entry))) }
     ensures count { failures_of w.old ≤ failures_of w.new }
     ensures fault { OnErr result (Rose (failures_of w.old) (failures_of w.new)) }
 {

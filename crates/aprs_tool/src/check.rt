@@ -1,11 +1,12 @@
-//! What a check tells of a log.
+//! What a check reports of a log.
 ghost use Rattle.std.specs.Prelude.{◌≡◌, ◌≤◌, ◌++◌, codes, OnOk, OnErr, IfErr, IsErrAnd};
 ghost use Rattle.std.specs.Fmt.{decimal};
 ghost use Rattle.std.specs.Io.KnownBytes.{Appends};
 ghost use Rattle.arrayvec.specs.ArrayVec.{array_vec_len};
+ghost use Rattle.aprs_io.specs.declared.input.TheConstants.{MAX_INPUT};
 ghost use Rattle.aprs_kiss.specs.Device.{device_of, failures_of, answered_of, Rose, RoseWhere, AppendsPrefix};
 ghost use Rattle.aprs_log.specs.Fault.{reason_name};
-ghost use Rattle.aprs_tool.specs.Run.{RunsOver, IsRead, check_text, lines_fault, ended_by_lf};
+ghost use Rattle.aprs_tool.specs.Run.{RunsOver, IsRead, check_plan, ended_by_lf};
 ghost use Rattle.aprs_tool.specs.Run.{passed_line, totals_line};
 
 use crate::fault::RunFault;
@@ -17,8 +18,8 @@ use std::alloc::Allocator;
 use std::io::{Read, Write};
 
 /// Writes a line for each line of a log that holds no frame, with the reason, and last how many
-/// lines are heard and how many passed over. Requires that `limit` is at most 1,073,741,824
-/// (`MAX_INPUT`). At a fault all lines before it have been reported, and there are no totals; at
+/// lines are heard and how many passed over. Requires that `limit` is at most `MAX_INPUT`
+/// (1,073,741,824). At a fault all lines before it have been reported, and there are no totals; at
 /// `Write` a prefix of the text was written. Takes no memory.
 pub fn check_run<R: Read, W: Write, A: Allocator + Copy>(
     alloc: A,
@@ -26,13 +27,13 @@ pub fn check_run<R: Read, W: Write, A: Allocator + Copy>(
     r: &mut Counted<R>,
     w: &mut Counted<W>,
 ) -> Result<(), RunFault>
-    requires { limit ≤ 1073741824 }
-    ensures run { RunsOver check_text lines_fault limit (R.remaining (device_of r.old))
+    requires { limit ≤ MAX_INPUT }
+    ensures run { RunsOver check_plan limit (R.remaining (device_of r.old))
         (R.remaining (device_of r.new)) result
         (W.contents (device_of w.old)) (W.contents (device_of w.new)) }
-    ensures read { IfErr result (λ e. IsRead e → Rose (failures_of r.old) (failures_of r.new)) }
+    ensures read { IfErr result (λ fault. IsRead fault → Rose (failures_of r.old) (failures_of r.new)) }
     ensures answered { RoseWhere (IsErrAnd result IsRead) (answered_of r.old) (answered_of r.new) }
-    ensures write { IfErr result (λ e. e ≡ RunFault.Write
+    ensures write { IfErr result (λ fault. fault ≡ RunFault.Write
         → Rose (failures_of w.old) (failures_of w.new)) }
 {
     let mut reader = LogReader::new(alloc, limit, &[], r);

@@ -1,9 +1,10 @@
 //! A log's lines, converted as they are read.
 ghost use Rattle.std.specs.Prelude.{◌≡◌, ◌≤◌, IfErr, IsErrAnd};
+ghost use Rattle.aprs_io.specs.declared.input.TheConstants.{MAX_INPUT};
 ghost use Rattle.aprs_kiss.specs.Device.{device_of, failures_of, answered_of, Rose, RoseWhere};
-ghost use Rattle.aprs_tool.specs.Run.{RunsOver, IsRead, lines_text, lines_fault};
+ghost use Rattle.aprs_tool.specs.Run.{RunsOver, IsRead, lines_plan};
 
-use crate::answer::{Room, write_answer};
+use crate::answer::{Scratch, write_line_as};
 use crate::fault::RunFault;
 use crate::form::Form;
 use aprs_kiss::Counted;
@@ -19,21 +20,21 @@ pub fn convert_lines<R: Read, W: Write, A: Allocator + Copy>(
     r: &mut Counted<R>,
     w: &mut Counted<W>,
 ) -> Result<(), RunFault>
-    requires { limit ≤ 1073741824 }
-    ensures run { RunsOver (lines_text form.now) lines_fault limit (R.remaining (device_of r.old))
+    requires { limit ≤ MAX_INPUT }
+    ensures run { RunsOver (lines_plan form.now) limit (R.remaining (device_of r.old))
         (R.remaining (device_of r.new)) result
         (W.contents (device_of w.old)) (W.contents (device_of w.new)) }
-    ensures read { IfErr result (λ e. IsRead e → Rose (failures_of r.old) (failures_of r.new)) }
+    ensures read { IfErr result (λ fault. IsRead fault → Rose (failures_of r.old) (failures_of r.new)) }
     ensures answered { RoseWhere (IsErrAnd result IsRead) (answered_of r.old) (answered_of r.new) }
-    ensures write { IfErr result (λ e. e ≡ RunFault.Write
+    ensures write { IfErr result (λ fault. fault ≡ RunFault.Write
         → Rose (failures_of w.old) (failures_of w.new)) }
 {
     let mut reader = LogReader::new(alloc, limit, &[], r);
-    let mut room = Room::new();
+    let mut scratch = Scratch::new();
     'lines: loop {
         if !reader.advance()? {
             return Ok(());
         }
-        write_answer(form, w, reader.current(), &mut room)?;
+        write_line_as(form, w, reader.current(), &mut scratch)?;
     }
 }

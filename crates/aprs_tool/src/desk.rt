@@ -1,5 +1,6 @@
 //! A book that inputs are merged into.
 ghost use Rattle.std.specs.Prelude.{◌≤◌};
+ghost use Rattle.aprs_io.specs.declared.input.TheConstants.{MAX_INPUT};
 
 use crate::fault::InputFault;
 use crate::input::{merged, read_input};
@@ -14,11 +15,12 @@ pub struct Desk<A: Allocator = Global> {
     alloc: A,
     limit: u64,
     book: Book<A>,
-    ghost few: { limit ≤ 1073741824 },
+    ghost few: { limit ≤ MAX_INPUT },
 }
 
 impl<A: Allocator + Copy> Desk<A> {
     ghost use Rattle.std.specs.Prelude.{◌≡◌, ◌≤◌, [], IfErr, IsErrAnd, OnErr};
+    ghost use Rattle.aprs_io.specs.declared.input.TheConstants.{MAX_INPUT};
     ghost use Rattle.aprs_kiss.specs.Device.{device_of, failures_of, answered_of, Rose, RoseWhere};
     ghost use Rattle.aprs_laws.specs.BookValue.{Holds};
     ghost use Rattle.aprs_laws.specs.Gap.{standard_gap};
@@ -27,9 +29,9 @@ impl<A: Allocator + Copy> Desk<A> {
     ghost use Rattle.aprs_tool.specs.Run.{IsReadFault};
 
     /// An empty book with a gap of 30 seconds, into which inputs are read up to `limit` bytes each.
-    /// Requires that `limit` is at most 1,073,741,824 (`MAX_INPUT`). Takes no memory.
+    /// Requires that `limit` is at most `MAX_INPUT` (1,073,741,824). Takes no memory.
     pub fn new(alloc: A, limit: u64) -> Desk<A>
-        requires { limit ≤ 1073741824 }
+        requires { limit ≤ MAX_INPUT }
         ensures gap { gap_of result ≡ standard_gap }
         ensures rows { rows_of result ≡ [] }
         ensures book { Holds [] (book_of result) }
@@ -38,9 +40,9 @@ impl<A: Allocator + Copy> Desk<A> {
         Desk::with_gap(alloc, limit, Gap::STANDARD)
     }
 
-    /// The same with another gap.
+    /// The same with this gap. Requires that `limit` is at most `MAX_INPUT`. Takes no memory.
     pub fn with_gap(alloc: A, limit: u64, gap: Gap) -> Desk<A>
-        requires { limit ≤ 1073741824 }
+        requires { limit ≤ MAX_INPUT }
         ensures gap { gap_of result ≡ gap }
         ensures rows { rows_of result ≡ [] }
         ensures book { Holds [] (book_of result) }
@@ -55,8 +57,8 @@ impl<A: Allocator + Copy> Desk<A> {
 
     /// Reads an input, as `read_input` does with the gap of this desk's book: the book of a set
     /// becomes the book of that set and of the input's receptions. `OtherGap` comes for a faultless
-    /// book file of another gap, and then `Memory` where it was refused for the merge. After a
-    /// fault the desk is as before.
+    /// book file of another gap, and then `Memory` where an allocation failed for the merge.
+    /// After a fault the desk is as before.
     pub fn take_input<R: Read>(&mut self, r: &mut Counted<R>) -> Result<(), InputFault>
         ensures takes { OfGot (limit_of self.old) (R.remaining (device_of r.old))
             (R.remaining (device_of r.new))
@@ -65,9 +67,9 @@ impl<A: Allocator + Copy> Desk<A> {
         ensures limit { limit_of self.new ≡ limit_of self.old }
         ensures unchanged { OnErr result (self.new ≡ self.old) }
         ensures count { failures_of r.old ≤ failures_of r.new }
-        ensures read { IfErr result (λ e. IsReadFault e
+        ensures read { IfErr result (λ fault. IsReadFault fault
             → Rose (failures_of r.old) (failures_of r.new)) }
-        // A failed read is told where a call of the reader answered one, and nowhere else.
+        // A failed read is reported where a call of the reader returned one, and nowhere else.
         ensures answered { RoseWhere (IsErrAnd result IsReadFault) (answered_of r.old)
             (answered_of r.new) }
     {
@@ -83,7 +85,7 @@ impl<A: Allocator + Copy> Desk<A> {
         &self.book
     }
 
-    /// Gives the book. Takes no memory.
+    /// Returns the book. Takes no memory.
     pub fn into_book(self) -> Book<A>
         ensures { result ≡ book_of self }
     {

@@ -11,13 +11,13 @@ use thiserror::Error;
 /// What is wrong with an input.
 #[derive(Debug, Drop, Error)]
 pub enum InputFault {
-    /// A log, or a KISS stream at line 0.
+    /// The fault of a log, or of a KISS stream at line 0.
     #[error("line {}: {}", .0.line, .0.cause.name())]
     Log(LogFault),
-    /// A book file.
+    /// The fault of a book file.
     #[error("line {}: {}", .0.line, .0.cause.name())]
     Book(BookFault),
-    /// Memory was refused for what the input gives.
+    /// An allocation failed for what the input gives.
     #[error("out of memory")]
     Memory,
     /// A book file whose gap isn't that of the book it is taken into.
@@ -71,7 +71,7 @@ impl From<MergeFault> for InputFault {
     }
 }
 
-/// Why a run answers before its end.
+/// The fault that a run ends with.
 #[derive(Debug, Drop, Error)]
 pub enum RunFault {
     /// An input's fault. Inputs are counted from 0.
@@ -80,7 +80,7 @@ pub enum RunFault {
     /// The output was refused.
     #[error("cannot write")]
     Write,
-    /// Memory was refused for what the run shows, or for the book that it widens.
+    /// An allocation failed for what the run shows, or for the book that it widens.
     #[error("out of memory")]
     Memory,
 }
@@ -110,8 +110,8 @@ impl From<WriteFault> for RunFault {
     }
 }
 
-/// The program's exit status for a run's fault: 4 where memory was refused, 3 where the output was,
-/// and 1 for an input's own fault. Takes no memory.
+/// The program's exit status for a run's fault: 4 where an allocation failed, 3 where the output was
+/// refused, and 1 for an input's own fault. Takes no memory.
 pub fn status_of(fault: &RunFault) -> u8
     ensures { result ≡ status_of_fault fault.now }
 {

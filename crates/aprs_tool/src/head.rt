@@ -1,4 +1,4 @@
-//! The first bytes of an input, by which a book file is told from a log.
+//! The first bytes of an input, by which a book file is known from a log.
 ghost use Rattle.std.specs.Prelude.{◌≡◌, ◌<◌, ◌≤◌, [], ◌∷◌, false, length, IfSome, IfOk, IfErr, IsErrAnd, OnOk};
 ghost use Rattle.std.specs.List.{list_any};
 ghost use Rattle.std.specs.Io.KnownBytes.{Consumes};
@@ -13,8 +13,8 @@ use aprs_log::Ending;
 use arrayvec::ArrayVec;
 use std::io::Read;
 
-/// So many bytes tell a book file from a log.
-const HEAD: usize = 8;
+/// By so many bytes a book file is known from a log.
+const HEAD_LEN: usize = 8;
 
 /// What ends a line.
 const LF: u8 = b'\n';
@@ -22,29 +22,29 @@ const LF: u8 = b'\n';
 /// All of an input of which fewer bytes were got, none of them an LF, and what came after them.
 #[derive(Drop)]
 pub struct ShortInput {
-    pub bytes: ArrayVec<u8, HEAD>,
+    pub bytes: ArrayVec<u8, HEAD_LEN>,
     pub ending: Ending,
 }
 
 /// Reads the first eight bytes of an input, or fewer where an LF is the last of them, or all where
 /// neither is got.
-pub fn read_head<R: Read>(limit: u64, r: &mut Counted<R>) -> Result<ArrayVec<u8, HEAD>, ShortInput>
+pub fn read_head<R: Read>(limit: u64, r: &mut Counted<R>) -> Result<ArrayVec<u8, HEAD_LEN>, ShortInput>
     ensures whole { IfOk result (λ head. IsHead head.items × (length head.items ≤ limit)) }
-    ensures few { IfOk result (λ head. length head.items ≤ 8) }
+    ensures few { IfOk result (λ head. length head.items ≤ HEAD_LEN) }
     ensures bytes { IfOk result (λ head. Consumes (R.remaining (device_of r.old))
         (R.remaining (device_of r.new)) head.items) }
-    ensures short { IfErr result (λ s. length s.bytes.items < 8) }
-    ensures one { IfErr result (λ s. list_any is_lf s.bytes.items ≡ false) }
-    ensures end { IfErr result (λ s. IfSome (R.remaining (device_of r.old))
-        (λ input. Gets limit input (R.remaining (device_of r.new)) s.bytes.items s.ending)) }
+    ensures short { IfErr result (λ short. length short.bytes.items < HEAD_LEN) }
+    ensures one { IfErr result (λ short. list_any is_lf short.bytes.items ≡ false) }
+    ensures end { IfErr result (λ short. IfSome (R.remaining (device_of r.old))
+        (λ input. Gets limit input (R.remaining (device_of r.new)) short.bytes.items short.ending)) }
     ensures count { failures_of r.old ≤ failures_of r.new }
-    ensures read { IfErr result (λ s. s.ending ≡ Ending.Read
+    ensures read { IfErr result (λ short. short.ending ≡ Ending.Read
         → Rose (failures_of r.old) (failures_of r.new)) }
-    ensures answered { RoseWhere (IsErrAnd result (λ s. s.ending ≡ Ending.Read)) (answered_of r.old)
+    ensures answered { RoseWhere (IsErrAnd result (λ short. short.ending ≡ Ending.Read)) (answered_of r.old)
         (answered_of r.new) }
 {
     let mut bytes = ArrayVec::new();
-    while bytes.len() < HEAD {
+    while bytes.len() < HEAD_LEN {
         match read_byte(r, limit - bytes.len() as u64) {
             Ok(LF) => {
                 bytes.push(LF);
@@ -62,12 +62,12 @@ fn read_byte<R: Read>(r: &mut Counted<R>, left: u64) -> Result<u8, Ending>
     ensures some { OnOk result (0 < left) }
     ensures byte { IfOk result (λ byte. Consumes (R.remaining (device_of r.old))
         (R.remaining (device_of r.new)) (byte ∷ [])) }
-    ensures end { IfErr result (λ e. EndsHere e left (R.remaining (device_of r.old))
+    ensures end { IfErr result (λ ending. EndsHere ending left (R.remaining (device_of r.old))
         (R.remaining (device_of r.new))) }
     ensures count { failures_of r.old ≤ failures_of r.new }
-    ensures read { IfErr result (λ e. e ≡ Ending.Read
+    ensures read { IfErr result (λ ending. ending ≡ Ending.Read
         → Rose (failures_of r.old) (failures_of r.new)) }
-    ensures answered { RoseWhere (IsErrAnd result (λ e. e ≡ Ending.Read)) (answered_of r.old)
+    ensures answered { RoseWhere (IsErrAnd result (λ ending. ending ≡ Ending.Read)) (answered_of r.old)
         (answered_of r.new) }
 {
     let mut one = [0];

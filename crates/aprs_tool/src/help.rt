@@ -1,4 +1,4 @@
-//! What the program's help says, beside the words that it takes.
+//! What the program's help says, beside the arguments that it takes.
 
 /// The program's version.
 pub const VERSION: &str = "0.1.0";

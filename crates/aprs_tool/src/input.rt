@@ -1,12 +1,14 @@
 //! The book of an input, which is a log or a book file.
 ghost use Rattle.std.specs.Prelude.{◌≡◌, ◌↔◌, ◌<◌, ◌≤◌, ◌∷◌, [], ◌++◌, false, length, ℕ, List, None, Some, IfSome, IfOk, IfErr, IsErrAnd, OnOk, OnErr};
 ghost use Rattle.std.specs.List.{list_any};
+ghost use Rattle.aprs_io.specs.declared.input.TheConstants.{MAX_INPUT};
 ghost use Rattle.aprs_kiss.specs.Device.{device_of, failures_of, answered_of, Rose, RoseWhere};
 ghost use Rattle.aprs_log.specs.LogAnswers.{ended, fault_at, is_lf, log_answers, receptions_of};
 ghost use Rattle.aprs_laws.specs.BookValue.{HaveOneGap};
 ghost use Rattle.aprs_laws.specs.Gap.{millis_of};
 ghost use Rattle.aprs_laws.specs.Row.{Row};
 ghost use Rattle.aprs_book.specs.Taking.{MergesInto};
+ghost use Rattle.aprs_tool.specs.declared.head.TheConstants.{HEAD_LEN};
 ghost use Rattle.aprs_tool.specs.Head.{IsHead};
 ghost use Rattle.aprs_tool.specs.Inputs.{AddsAll, HoldsOfGot, OfGot, ReadsInput, ReadsLog};
 ghost use Rattle.aprs_tool.specs.Inputs.{RefusesGaps, TakesInput};
@@ -27,9 +29,9 @@ const BOOK_MARK: &[u8] = b"APRSBOOK";
 /// Reads the book of an input: its own, where its first eight bytes are `APRSBOOK`, with its own
 /// gap, and else that of the receptions of a log, whose other lines are passed over, with the gap
 /// that is asked for. At most `limit` bytes are read, to the end. Requires that `limit` is at most
-/// 1,073,741,824 (`MAX_INPUT`). A faulty input gives its first fault. Where memory was refused
-/// before it, a log gives `Memory`, and a book file `Book` with that cause and the line that was
-/// being read. An input of which fewer than eight bytes are got is a log, and one with an LF among
+/// `MAX_INPUT` (1,073,741,824). A faulty input gives its first fault. Where an
+/// allocation failed before it, a log gives `Memory`, and a book file `Book` with that cause and the
+/// line that was being read. An input of which fewer than eight bytes are got is a log, and one with an LF among
 /// its first eight is judged by that line first. Holds the book and one line.
 pub fn read_input<R: Read, A: Allocator + Copy>(
     alloc: A,
@@ -37,13 +39,13 @@ pub fn read_input<R: Read, A: Allocator + Copy>(
     gap: Gap,
     r: &mut Counted<R>,
 ) -> Result<Book<A>, InputFault>
-    requires { limit ≤ 1073741824 }
+    requires { limit ≤ MAX_INPUT }
     ensures reads { OfGot limit (R.remaining (device_of r.old))
         (R.remaining (device_of r.new)) (ReadsInput gap result) }
     ensures count { failures_of r.old ≤ failures_of r.new }
-    ensures read { IfErr result (λ e. IsReadFault e
+    ensures read { IfErr result (λ fault. IsReadFault fault
         → Rose (failures_of r.old) (failures_of r.new)) }
-    // A failed read is told where a call of the reader answered one, and nowhere else.
+    // A failed read is reported where a call of the reader returned one, and nowhere else.
     ensures answered { RoseWhere (IsErrAnd result IsReadFault) (answered_of r.old)
         (answered_of r.new) }
 {
@@ -53,7 +55,7 @@ pub fn read_input<R: Read, A: Allocator + Copy>(
     }
 }
 
-/// The book of an input that begins with these bytes, which tell what it is.
+/// The book of an input that begins with these bytes, by which it is known what it is.
 fn read_own<R: Read, A: Allocator + Copy>(
     alloc: A,
     limit: u64,
@@ -61,15 +63,15 @@ fn read_own<R: Read, A: Allocator + Copy>(
     head: &[u8],
     r: &mut Counted<R>,
 ) -> Result<Book<A>, InputFault>
-    requires limit { limit ≤ 1073741824 }
+    requires limit { limit ≤ MAX_INPUT }
     requires head { IsHead head.now }
-    requires few { length head.now ≤ 8 }
+    requires few { length head.now ≤ HEAD_LEN }
     requires within { length head.now ≤ limit }
     ensures reads { IfSome (R.remaining (device_of r.old))
         (λ input. HoldsOfGot limit (head.now ++ input) (R.remaining (device_of r.new))
         (ReadsInput gap result)) }
     ensures count { failures_of r.old ≤ failures_of r.new }
-    ensures read { IfErr result (λ e. IsReadFault e
+    ensures read { IfErr result (λ fault. IsReadFault fault
         → Rose (failures_of r.old) (failures_of r.new)) }
     ensures answered { RoseWhere (IsErrAnd result IsReadFault) (answered_of r.old)
         (answered_of r.new) }
@@ -84,13 +86,13 @@ fn read_own<R: Read, A: Allocator + Copy>(
     }
 }
 
-/// The book of an input that is too short to tell what it is: that of a log.
+/// The book of an input that is too short for a book file: that of a log.
 fn read_few<A: Allocator + Copy>(
     alloc: A,
     gap: Gap,
     short: &ShortInput,
 ) -> Result<Book<A>, InputFault>
-    requires few { length short.now.bytes.items < 8 }
+    requires few { length short.now.bytes.items < HEAD_LEN }
     requires one { list_any is_lf short.now.bytes.items ≡ false }
     ensures reads { ReadsInput gap result short.now.bytes.items short.now.ending }
     ensures read { IsErrAnd result IsReadFault ↔ (short.now.ending ≡ Ending.Read) }
@@ -103,19 +105,19 @@ fn read_few<A: Allocator + Copy>(
 
 /// Reads an input, as `read_input` does, into a book: that of a set becomes the book of that set
 /// and of the input's receptions. `OtherGap` comes for a faultless book file of another gap, and
-/// then `Memory` where it was refused for the merge. After a fault the book may have any rows.
+/// then `Memory` where an allocation failed for the merge. After a fault the book may have any rows.
 pub(crate) fn read_into<R: Read, A: Allocator + Copy>(
     alloc: A,
     limit: u64,
     book: &mut Book<A>,
     r: &mut Counted<R>,
 ) -> Result<(), InputFault>
-    requires { limit ≤ 1073741824 }
+    requires { limit ≤ MAX_INPUT }
     ensures reads { OfGot limit (R.remaining (device_of r.old)) (R.remaining (device_of r.new))
         (TakesInput book.old.gap result book.old.rows book.new.rows) }
     ensures gap { book.new.gap ≡ book.old.gap }
     ensures count { failures_of r.old ≤ failures_of r.new }
-    ensures read { IfErr result (λ e. IsReadFault e
+    ensures read { IfErr result (λ fault. IsReadFault fault
         → Rose (failures_of r.old) (failures_of r.new)) }
     ensures answered { RoseWhere (IsErrAnd result IsReadFault) (answered_of r.old)
         (answered_of r.new) }
@@ -134,16 +136,16 @@ fn read_whole<R: Read, A: Allocator + Copy>(
     book: &mut Book<A>,
     r: &mut Counted<R>,
 ) -> Result<(), InputFault>
-    requires limit { limit ≤ 1073741824 }
+    requires limit { limit ≤ MAX_INPUT }
     requires head { IsHead head.now }
-    requires few { length head.now ≤ 8 }
+    requires few { length head.now ≤ HEAD_LEN }
     requires within { length head.now ≤ limit }
     ensures reads { IfSome (R.remaining (device_of r.old))
         (λ input. HoldsOfGot limit (head.now ++ input) (R.remaining (device_of r.new))
         (TakesInput book.old.gap result book.old.rows book.new.rows)) }
     ensures gap { book.new.gap ≡ book.old.gap }
     ensures count { failures_of r.old ≤ failures_of r.new }
-    ensures read { IfErr result (λ e. IsReadFault e
+    ensures read { IfErr result (λ fault. IsReadFault fault
         → Rose (failures_of r.old) (failures_of r.new)) }
     ensures answered { RoseWhere (IsErrAnd result IsReadFault) (answered_of r.old)
         (answered_of r.new) }
@@ -164,15 +166,15 @@ fn read_log<R: Read, A: Allocator + Copy>(
     book: &mut Book<A>,
     r: &mut Counted<R>,
 ) -> Result<(), InputFault>
-    requires limit { limit ≤ 1073741824 }
-    requires head { length head.now ≤ 8 }
+    requires limit { limit ≤ MAX_INPUT }
+    requires head { length head.now ≤ HEAD_LEN }
     requires within { length head.now ≤ limit }
     ensures reads { IfSome (R.remaining (device_of r.old))
         (λ input. HoldsOfGot limit (head.now ++ input) (R.remaining (device_of r.new))
         (ReadsLog book.old.gap result book.old.rows book.new.rows)) }
     ensures gap { book.new.gap ≡ book.old.gap }
     ensures count { failures_of r.old ≤ failures_of r.new }
-    ensures read { IfErr result (λ e. IsReadFault e
+    ensures read { IfErr result (λ fault. IsReadFault fault
         → Rose (failures_of r.old) (failures_of r.new)) }
     ensures answered { RoseWhere (IsErrAnd result IsReadFault) (answered_of r.old)
         (answered_of r.new) }
@@ -186,7 +188,7 @@ fn read_log<R: Read, A: Allocator + Copy>(
     }
 }
 
-/// Takes what a line tells, if it tells a reception.
+/// Takes the reception of a line, if it has one.
 fn take_line<A: Allocator + Copy>(book: &mut Book<A>, line: &Line) -> Result<(), Memory>
     ensures adds { OnOk result (AddsAll book.old.gap (receptions_of (line.now ∷ []))
         book.old.rows book.new.rows) }
@@ -207,7 +209,7 @@ pub(crate) fn merged<A: Allocator + Copy>(
         MergesInto (millis_of book.now.gap) book.now.rows input.rows both.rows) }
     ensures gap { IfOk result (λ both. both.gap ≡ book.now.gap) }
     ensures one { OnOk result (HaveOneGap book.now input) }
-    ensures refused { IfErr result (λ e. RefusesGaps e book.now.gap input.gap) }
+    ensures refused { IfErr result (λ fault. RefusesGaps fault book.now.gap input.gap) }
 {
     if book.gap() != input.gap() {
         return Err(MergeFault::OtherGap);
@@ -218,9 +220,9 @@ pub(crate) fn merged<A: Allocator + Copy>(
     book.merge(&input)
 }
 
-/// The answer for an input that is too short to tell what it is: that of a log.
+/// The answer for an input that is too short for a book file: that of a log.
 fn read_short(short: &ShortInput) -> Result<(), InputFault>
-    requires few { length short.now.bytes.items < 8 }
+    requires few { length short.now.bytes.items < HEAD_LEN }
     requires one { list_any is_lf short.now.bytes.items ≡ false }
     ensures reads { (gap : ℕ) (rows : List Row) → ReadsLog gap result rows rows
         short.now.bytes.items short.now.ending }
@@ -234,7 +236,7 @@ fn read_short(short: &ShortInput) -> Result<(), InputFault>
 
 /// Why a log of so few bytes without an LF is refused, if it is.
 fn refuse_short(text: &[u8], ending: Ending) -> Option<LogCause>
-    requires few { length text.now < 8 }
+    requires few { length text.now < HEAD_LEN }
     requires one { list_any is_lf text.now ≡ false }
     ensures answers { log_answers text.now ending ≡ ended (fault_at 1 result) }
     ensures read { (result ≡ Some LogCause.Read) ↔ (ending ≡ Ending.Read) }

@@ -1,7 +1,8 @@
-//! Runs over logs, streams and book files, and the words of the command line.
+//! Runs over logs, streams and book files, and the arguments of the command line.
 #![tactic(auto)]
 
 mod answer;
+mod arguments;
 mod capture;
 mod check;
 mod convert;
@@ -13,7 +14,7 @@ mod head;
 mod heard_line;
 mod help;
 mod input;
-mod law;
+mod laws;
 mod line;
 mod listing;
 mod merge;
@@ -22,16 +23,15 @@ mod run;
 mod show;
 mod text;
 mod widen;
-mod words;
 
+pub use arguments::{command_is_simple, job};
 pub use check::check_run;
 pub use desk::Desk;
 pub use fault::{InputFault, RunFault, status_of};
 pub use form::{Form, Job, JobFault};
 pub use input::read_input;
-pub use law::{listings_tell_positions, same_receptions_same_bytes};
+pub use laws::{listings_tell_positions, same_receptions_same_bytes};
 pub use merge::merge_run;
 pub use run::convert_run;
 pub use show::show_run;
 pub use widen::widen_run;
-pub use words::{command_is_simple, job};

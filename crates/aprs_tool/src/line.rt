@@ -10,7 +10,7 @@ use aprs_booktext::{Outbox, put};
 use aprs_kiss::{Counted, WriteFault};
 use std::io::Write;
 
-/// Puts a line: what it tells of, and each field after a space.
+/// Puts a line: its kind, and each field after a space.
 pub fn put_line<W: Write>(
     w: &mut Counted<W>,
     held: &mut Outbox,

@@ -1,5 +1,6 @@
 //! The merge of several inputs.
 ghost use Rattle.std.specs.Prelude.{◌≡◌, ◌≤◌, map, IfErr, IsErrAnd};
+ghost use Rattle.aprs_io.specs.declared.input.TheConstants.{MAX_INPUT};
 ghost use Rattle.aprs_kiss.specs.Device.{device_of, failures_of, Rose};
 ghost use Rattle.aprs_tool.specs.Merge.{IsAsBefore, IsReadOf, MergesEach, OfEach, ReadsEach};
 ghost use Rattle.aprs_tool.specs.Merge.{ReadsNoFurther, RoseAt, RoseWhereEach, RoseWhereRead};
@@ -15,10 +16,10 @@ use std::alloc::Allocator;
 use std::io::{Read, Write};
 
 /// Writes the text of the book of this gap of all inputs' receptions, each input read as by
-/// `Desk::take_input`. Requires that `limit` is at most 1,073,741,824 (`MAX_INPUT`). All inputs are
+/// `Desk::take_input`. Requires that `limit` is at most `MAX_INPUT` (1,073,741,824). All inputs are
 /// read, in order, before the first byte is written: where one is refused, its number and fault are
 /// reported, no further one is read, and nothing is written. At `Write` a prefix of the text was
-/// written. Never answers `RunFault::Memory`: want of memory is that of an input.
+/// written. Never returns `RunFault::Memory`: an allocation that failed is a fault of an input.
 pub fn merge_run<R: Read, W: Write, A: Allocator + Copy>(
     alloc: A,
     limit: u64,
@@ -26,18 +27,18 @@ pub fn merge_run<R: Read, W: Write, A: Allocator + Copy>(
     inputs: &mut [Counted<R>],
     w: &mut Counted<W>,
 ) -> Result<(), RunFault>
-    requires { limit ≤ 1073741824 }
+    requires { limit ≤ MAX_INPUT }
     ensures run { OfEach limit (map (λ r. R.remaining (device_of r)) inputs.old)
         (map (λ r. R.remaining (device_of r)) inputs.new)
         (MergesEach gap result (W.contents (device_of w.old))
         (W.contents (device_of w.new))) }
-    ensures nothing { IfErr result (λ e. WritesNothing e (W.contents (device_of w.old))
+    ensures nothing { IfErr result (λ fault. WritesNothing fault (W.contents (device_of w.old))
         (W.contents (device_of w.new))) }
-    ensures unread { IfErr result (λ e. ReadsNoFurther e inputs.old inputs.new) }
-    ensures read { IfErr result (λ e. RoseWhereRead e inputs.old inputs.new) }
-    // A failed read is told of an input where a call of its reader answered one, and nowhere else.
+    ensures unread { IfErr result (λ fault. ReadsNoFurther fault inputs.old inputs.new) }
+    ensures read { IfErr result (λ fault. RoseWhereRead fault inputs.old inputs.new) }
+    // A failed read is reported where a call of that reader returned one, and nowhere else.
     ensures answered { RoseWhereEach (λ k. IsErrAnd result (IsReadOf k)) inputs.old inputs.new }
-    ensures write { IfErr result (λ e. e ≡ RunFault.Write
+    ensures write { IfErr result (λ fault. fault ≡ RunFault.Write
         → Rose (failures_of w.old) (failures_of w.new)) }
 {
     let book = match read_all(alloc, limit, gap, inputs) {
@@ -55,7 +56,7 @@ pub(crate) fn read_all<R: Read, A: Allocator + Copy>(
     gap: Gap,
     inputs: &mut [Counted<R>],
 ) -> Result<Book<A>, (usize, InputFault)>
-    requires { limit ≤ 1073741824 }
+    requires { limit ≤ MAX_INPUT }
     ensures reads { OfEach limit (map (λ r. R.remaining (device_of r)) inputs.old)
         (map (λ r. R.remaining (device_of r)) inputs.new) (ReadsEach gap result) }
     ensures unread { IfErr result (λ p. IsAsBefore p.0 inputs.old inputs.new) }

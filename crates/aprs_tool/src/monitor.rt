@@ -2,9 +2,9 @@
 ghost use Rattle.std.specs.Prelude.{◌≡◌, ◌+◌, ◌*◌, ◌≤◌, ◌++◌, length, map, IfSome, slice_get};
 ghost use Rattle.std.specs.List.{flat_map};
 ghost use Rattle.arrayvec.specs.ArrayVec.{array_vec_len};
-ghost use Rattle.aprs_ax25.specs.Callsign.{Call, call_text};
 ghost use Rattle.aprs_ax25.specs.FrameFault.{parts_of};
 ghost use Rattle.aprs_ax25.specs.Hop.{hop_of};
+ghost use Rattle.aprs_tool.specs.declared.text.TheConstants.{MAX_TEXT};
 ghost use Rattle.aprs_tool.specs.Monitor.{hop_text, monitor_text};
 
 use crate::text::{Text, push_shown};
@@ -38,7 +38,7 @@ fn push_hops(out: &mut Text, frame: &Frame)
 
 /// Puts the text of digipeater number i, counted from 0, at the end.
 fn push_hop(out: &mut Text, frame: &Frame, i: usize)
-    requires { array_vec_len out.old + 11 ≤ 1200 }
+    requires { array_vec_len out.old + 11 ≤ MAX_TEXT }
     ensures text { IfSome (slice_get (parts_of frame.now).digipeaters i) (λ a.
         out.new.items ≡ out.old.items ++ hop_text (hop_of a)) }
     ensures most { array_vec_len out.new ≤ array_vec_len out.old + 11 }

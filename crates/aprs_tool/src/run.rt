@@ -1,7 +1,8 @@
 //! Runs over one input.
 ghost use Rattle.std.specs.Prelude.{◌≡◌, ◌≤◌, IfErr, IsErrAnd};
+ghost use Rattle.aprs_io.specs.declared.input.TheConstants.{MAX_INPUT};
 ghost use Rattle.aprs_kiss.specs.Device.{device_of, failures_of, answered_of, Rose, RoseWhere};
-ghost use Rattle.aprs_tool.specs.Run.{RunsOver, IsRead, convert_text, convert_fault};
+ghost use Rattle.aprs_tool.specs.Run.{RunsOver, IsRead, convert_plan};
 
 use crate::capture::capture;
 use crate::convert::convert_lines;
@@ -12,7 +13,7 @@ use std::alloc::Allocator;
 use std::io::{Read, Write};
 
 /// Writes what a form gives for each line of a log, or for each frame of a KISS stream where the
-/// form is a capture. Requires that `limit` is at most 1,073,741,824 (`MAX_INPUT`). At a fault the
+/// form is a capture. Requires that `limit` is at most `MAX_INPUT` (1,073,741,824). At a fault the
 /// text of all before it has been written; at `Write` a prefix of the text. A stream's faults have
 /// line 0. Takes no memory.
 pub fn convert_run<R: Read, W: Write, A: Allocator + Copy>(
@@ -22,13 +23,13 @@ pub fn convert_run<R: Read, W: Write, A: Allocator + Copy>(
     r: &mut Counted<R>,
     w: &mut Counted<W>,
 ) -> Result<(), RunFault>
-    requires { limit ≤ 1073741824 }
-    ensures run { RunsOver (convert_text form) (convert_fault form) limit
+    requires { limit ≤ MAX_INPUT }
+    ensures run { RunsOver (convert_plan form) limit
         (R.remaining (device_of r.old)) (R.remaining (device_of r.new)) result
         (W.contents (device_of w.old)) (W.contents (device_of w.new)) }
-    ensures read { IfErr result (λ e. IsRead e → Rose (failures_of r.old) (failures_of r.new)) }
+    ensures read { IfErr result (λ fault. IsRead fault → Rose (failures_of r.old) (failures_of r.new)) }
     ensures answered { RoseWhere (IsErrAnd result IsRead) (answered_of r.old) (answered_of r.new) }
-    ensures write { IfErr result (λ e. e ≡ RunFault.Write
+    ensures write { IfErr result (λ fault. fault ≡ RunFault.Write
         → Rose (failures_of w.old) (failures_of w.new)) }
 {
     match &form {

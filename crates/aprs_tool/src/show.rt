@@ -1,5 +1,6 @@
 //! The listing of several inputs.
 ghost use Rattle.std.specs.Prelude.{◌≡◌, ◌≤◌, map, IfErr, IsErrAnd};
+ghost use Rattle.aprs_io.specs.declared.input.TheConstants.{MAX_INPUT};
 ghost use Rattle.aprs_kiss.specs.Device.{device_of, failures_of, Rose};
 ghost use Rattle.aprs_tool.specs.Merge.{IsReadOf, OfEach, ReadsNoFurther, RoseWhereEach};
 ghost use Rattle.aprs_tool.specs.Merge.{RoseWhereRead, WritesNothing};
@@ -14,8 +15,8 @@ use std::alloc::Allocator;
 use std::io::{Read, Write};
 
 /// Writes the listing of all inputs' receptions: the stations, objects, items and messages that
-/// were heard, and what is last known of them, as the book of this gap tells. Each input is read as
-/// by `Desk::take_input`. Requires that `limit` is at most 1,073,741,824 (`MAX_INPUT`). All inputs
+/// were heard, and what is last known of them, in the book of this gap. Each input is read as
+/// by `Desk::take_input`. Requires that `limit` is at most `MAX_INPUT` (1,073,741,824). All inputs
 /// are read, in order, and the lists are made, before the first byte is written: where an input is
 /// refused, its number and fault are reported, no further one is read, and nothing is written; nor
 /// is anything at `Memory`, which is that of the lists. At `Write` a prefix of the listing was
@@ -27,18 +28,18 @@ pub fn show_run<R: Read, W: Write, A: Allocator + Copy>(
     inputs: &mut [Counted<R>],
     w: &mut Counted<W>,
 ) -> Result<(), RunFault>
-    requires { limit ≤ 1073741824 }
+    requires { limit ≤ MAX_INPUT }
     ensures run { OfEach limit (map (λ r. R.remaining (device_of r)) inputs.old)
         (map (λ r. R.remaining (device_of r)) inputs.new)
         (ShowsEach gap result (W.contents (device_of w.old))
         (W.contents (device_of w.new))) }
-    ensures nothing { IfErr result (λ e. WritesNothing e (W.contents (device_of w.old))
+    ensures nothing { IfErr result (λ fault. WritesNothing fault (W.contents (device_of w.old))
         (W.contents (device_of w.new))) }
-    ensures unread { IfErr result (λ e. ReadsNoFurther e inputs.old inputs.new) }
-    ensures read { IfErr result (λ e. RoseWhereRead e inputs.old inputs.new) }
-    // A failed read is told of an input where a call of its reader answered one, and nowhere else.
+    ensures unread { IfErr result (λ fault. ReadsNoFurther fault inputs.old inputs.new) }
+    ensures read { IfErr result (λ fault. RoseWhereRead fault inputs.old inputs.new) }
+    // A failed read is reported where a call of that reader returned one, and nowhere else.
     ensures answered { RoseWhereEach (λ k. IsErrAnd result (IsReadOf k)) inputs.old inputs.new }
-    ensures write { IfErr result (λ e. e ≡ RunFault.Write
+    ensures write { IfErr result (λ fault. fault ≡ RunFault.Write
         → Rose (failures_of w.old) (failures_of w.new)) }
 {
     let book = match read_all(alloc, limit, gap, inputs) {

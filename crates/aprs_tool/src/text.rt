@@ -10,10 +10,10 @@ use aprs_io::push_all;
 use arrayvec::ArrayVec;
 
 /// The most bytes of a line that is put together before it is written.
-pub const ROOM: usize = 1200;
+pub const MAX_TEXT: usize = 1200;
 
 /// Such a line. It takes no memory.
-pub type Text = ArrayVec<u8, ROOM>;
+pub type Text = ArrayVec<u8, MAX_TEXT>;
 
 /// Whether the byte is shown as itself.
 fn is_shown(b: u8) -> bool
@@ -64,7 +64,7 @@ fn push_hex<const N: usize>(out: &mut ArrayVec<u8, N>, b: u8)
 
 /// Puts at the end what the bytes are shown as.
 pub fn push_shown(out: &mut Text, bytes: &[u8])
-    requires { array_vec_len out.old + 4 * length bytes.now ≤ 1200 }
+    requires { array_vec_len out.old + 4 * length bytes.now ≤ MAX_TEXT }
     ensures shown { out.new.items ≡ out.old.items ++ shown bytes.now }
     ensures most { array_vec_len out.new ≤ array_vec_len out.old + 4 * length bytes.now }
 {
@@ -77,7 +77,7 @@ pub fn push_shown(out: &mut Text, bytes: &[u8])
 
 /// The same, byte by byte.
 fn push_escaped(out: &mut Text, bytes: &[u8])
-    requires { array_vec_len out.old + 4 * length bytes.now ≤ 1200 }
+    requires { array_vec_len out.old + 4 * length bytes.now ≤ MAX_TEXT }
     ensures shown { out.new.items ≡ out.old.items ++ shown bytes.now }
     ensures most { array_vec_len out.new ≤ array_vec_len out.old + 4 * length bytes.now }
 {
@@ -88,7 +88,7 @@ fn push_escaped(out: &mut Text, bytes: &[u8])
 
 /// Puts the number at the end, in decimal: at most 20 digits.
 pub fn push_decimal(out: &mut Text, n: u64)
-    requires { array_vec_len out.old + 20 ≤ 1200 }
+    requires { array_vec_len out.old + 20 ≤ MAX_TEXT }
     ensures decimal { out.new.items ≡ out.old.items ++ decimal n }
     ensures most { array_vec_len out.new ≤ array_vec_len out.old + 20 }
 {
@@ -97,7 +97,7 @@ pub fn push_decimal(out: &mut Text, n: u64)
 
 /// Puts the number's digits at the end.
 fn push_digits(out: &mut Text, n: u64)
-    requires { array_vec_len out.old + length (decimal n) ≤ 1200 }
+    requires { array_vec_len out.old + length (decimal n) ≤ MAX_TEXT }
     ensures decimal { out.new.items ≡ out.old.items ++ decimal n }
     ensures len { array_vec_len out.new ≡ array_vec_len out.old + length (decimal n) }
 {

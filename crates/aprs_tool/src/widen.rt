@@ -1,5 +1,6 @@
 //! The widening of an input's book.
 ghost use Rattle.std.specs.Prelude.{◌≡◌, ◌≤◌, IfErr, IsErrAnd};
+ghost use Rattle.aprs_io.specs.declared.input.TheConstants.{MAX_INPUT};
 ghost use Rattle.aprs_kiss.specs.Device.{device_of, failures_of, answered_of, Rose, RoseWhere};
 ghost use Rattle.aprs_tool.specs.Inputs.{OfGot};
 ghost use Rattle.aprs_tool.specs.Merge.{WritesNothing};
@@ -16,7 +17,7 @@ use std::io::{Read, Write};
 
 /// Writes the text of an input's book under this gap. The input is read as by `read_input` with
 /// this gap, so that `Narrower` comes for a faultless book file of a greater gap alone. Requires
-/// that `limit` is at most 1,073,741,824 (`MAX_INPUT`). The input is number 0. All of it is read,
+/// that `limit` is at most `MAX_INPUT` (1,073,741,824). The input is number 0. All of it is read,
 /// and its book widened, before the first byte is written: where the input is refused nothing is
 /// written, nor is anything at `Memory`, which is that of the widened book. At `Write` a prefix of
 /// the text was written.
@@ -27,15 +28,15 @@ pub fn widen_run<R: Read, W: Write, A: Allocator + Copy>(
     r: &mut Counted<R>,
     w: &mut Counted<W>,
 ) -> Result<(), RunFault>
-    requires { limit ≤ 1073741824 }
+    requires { limit ≤ MAX_INPUT }
     ensures run { OfGot limit (R.remaining (device_of r.old)) (R.remaining (device_of r.new))
         (WidensInput gap result (W.contents (device_of w.old)) (W.contents (device_of w.new))) }
-    ensures nothing { IfErr result (λ e. WritesNothing e (W.contents (device_of w.old))
+    ensures nothing { IfErr result (λ fault. WritesNothing fault (W.contents (device_of w.old))
         (W.contents (device_of w.new))) }
-    ensures read { IfErr result (λ e. IsRead e → Rose (failures_of r.old) (failures_of r.new)) }
-    // A failed read is told where a call of the reader answered one, and nowhere else.
+    ensures read { IfErr result (λ fault. IsRead fault → Rose (failures_of r.old) (failures_of r.new)) }
+    // A failed read is reported where a call of the reader returned one, and nowhere else.
     ensures answered { RoseWhere (IsErrAnd result IsRead) (answered_of r.old) (answered_of r.new) }
-    ensures write { IfErr result (λ e. e ≡ RunFault.Write
+    ensures write { IfErr result (λ fault. fault ≡ RunFault.Write
         → Rose (failures_of w.old) (failures_of w.new)) }
 {
     let book = match read_input(alloc, limit, gap, r) {

@@ -1,7 +1,7 @@
 use Rattle.std.proofs.Common.{arith, refl, sym, ◌∙◌, None, Ok, Err, subst, rules}
 use Rattle.std.proofs.lemmas.Result.{err_from_is_err_and}
 use Rattle.aprs_kiss.specs.Device.{device_of}
-use Rattle.aprs_tool.specs.Run.{RunsOver, check_text, lines_fault}
+use Rattle.aprs_tool.specs.Run.{RunsOver, check_plan}
 use Rattle.aprs_tool.specs.declared.fault.InputFault.TheVariants.{Log}
 use Rattle.aprs_tool.specs.declared.fault.RunFault.TheVariants.{Input, Write}
 use Rattle.aprs_log.specs.Reader.{current_of}
@@ -61,7 +61,7 @@ returns-in_err-write_passed-in-Passed-clause-run g c =
     let p = err_from_is_err_and c.from_residual-in_err-write_passed-in-Passed.result c.from_residual-in_err-write_passed-in-Passed.ensures.1 in
     let gives = rw c.if-not-branch.false at c.in_ok-advance.ensures.gives in
     rw (p.1, p.2)
-    (subst (λ k. RunsOver check_text lines_fault c.args.limit (g.R.Read.remaining (device_of c.args.r.now)) k
+    (subst (λ k. RunsOver check_plan c.args.limit (g.R.Read.remaining (device_of c.args.r.now)) k
     (Err Write) (g.W.Write.contents (device_of c.args.w.now)) (g.W.Write.contents (device_of c.write_passed.new.w))) (search rules)
     (Checked-refused _ _ _ _ _ _ _ _ (c.lines.invariant.checked _) _ gives.0 c.args.limit _ _ _ _ (current_of c.advance.new.self) _
     c.line.ensures (sym c.current.ensures ∙ c.in-Passed.is) (gives.2 _) c.in_ok-advance.ensures.awaits.0 c.in_ok-advance.ensures.awaits.1
@@ -70,7 +70,7 @@ returns-in_err-write_passed-in-Passed-clause-run g c =
 pub returns-then-not-branch-clause-run : goal.returns-then-not-branch-clause-run
 returns-then-not-branch-clause-run g c =
     let gives = rw c.if-not-branch.true at c.in_ok-advance.ensures.gives in
-    subst (λ k. RunsOver check_text lines_fault c.args.limit (g.R.Read.remaining (device_of c.args.r.now)) k
+    subst (λ k. RunsOver check_plan c.args.limit (g.R.Read.remaining (device_of c.args.r.now)) k
     (Ok tt) (g.W.Write.contents (device_of c.args.w.now)) (g.W.Write.contents (device_of c.write_totals.new.w))) (search rules)
     (Checked-ended _ _ _ _ _ _ _ (c.lines.invariant.checked _) c.args.limit _ _ (c.new-reader.ensures.whole _) _ gives.2 c.in_ok-write_totals.ensures.sent)
 
@@ -79,7 +79,7 @@ returns-in_err-write_totals-clause-run g c =
     let p = err_from_is_err_and c.from_residual-in_err-write_totals.result c.from_residual-in_err-write_totals.ensures.1 in
     let gives = rw c.if-not-branch.true at c.in_ok-advance.ensures.gives in
     rw (p.1, p.2)
-    (subst (λ k. RunsOver check_text lines_fault c.args.limit (g.R.Read.remaining (device_of c.args.r.now)) k
+    (subst (λ k. RunsOver check_plan c.args.limit (g.R.Read.remaining (device_of c.args.r.now)) k
     (Err Write) (g.W.Write.contents (device_of c.args.w.now)) (g.W.Write.contents (device_of c.write_totals.new.w))) (search rules)
     (Checked-totals_refused _ _ _ _ _ _ _ (c.lines.invariant.checked _) c.args.limit _ _ (c.new-reader.ensures.whole _) _ gives.2 c.in_err-write_totals.ensures.prefix))
 
@@ -88,7 +88,7 @@ returns-in_err-advance-clause-run g c =
     let p = err_from_is_err_and c.from_residual.result c.from_residual.ensures.1 in
     let fault = c.in_err-advance.field-0.0 in
     rw (p.1, p.2)
-    (subst (λ k. RunsOver check_text lines_fault c.args.limit (g.R.Read.remaining (device_of c.args.r.now)) k
+    (subst (λ k. RunsOver check_plan c.args.limit (g.R.Read.remaining (device_of c.args.r.now)) k
     (Err (Input 0 (Log fault))) (g.W.Write.contents (device_of c.args.w.now)) (g.W.Write.contents (device_of c.lines.w))) (search rules)
     (Checked-fault _ _ _ _ _ _ _ (c.lines.invariant.checked _) c.args.limit _ _ (c.new-reader.ensures.whole _) fault _ refl
     c.in_err-advance.ensures.gives.2))

@@ -1,5 +1,6 @@
 use Rattle.std.proofs.Common.{◌≡◌, ◌≤◌, ◌-◌, ℕ, List, Option, None}
 use Rattle.std.specs.List.{flat_map}
+use Rattle.aprs_io.specs.declared.input.TheConstants.{MAX_INPUT}
 use Rattle.aprs_kiss.specs.Device.{device_of, failures_of, answered_of}
 use Rattle.aprs_log.specs.Reader.{Awaits, lines_of, loan_of, source_of, stop_of}
 use Rattle.aprs_tool.specs.Run.{line_text}
@@ -21,4 +22,4 @@ invariant-lines g l =
     }
 
 abbrev pub decreases-lines : goal.decreases-lines
-decreases-lines g l = 1073741824 - lines_of l.reader
+decreases-lines g l = MAX_INPUT - lines_of l.reader

@@ -1,8 +1,8 @@
 use Rattle.std.proofs.Common.{◌≡◌, rules, ap, ap₂, ◌∙◌}
 use Rattle.std.proofs.lemmas.Result.{IfOk-weaker}
 use Rattle.clap.specs.Words.{App, app_of, with_subcommand}
-use Rattle.aprs_tool.specs.Words.{program_top}
-use Rattle.aprs_tool.proofs.words.program.Goals as goal
+use Rattle.aprs_tool.specs.Arguments.{program_top}
+use Rattle.aprs_tool.proofs.arguments.program.Goals as goal
 
 pub returns : goal.returns
 returns c =

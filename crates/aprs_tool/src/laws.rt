@@ -1,5 +1,5 @@
-//! What a merge writes depends on the set of receptions alone, and so does what a listing tells of
-//! positions. The functions do nothing: what they ensure are the laws.
+//! What a merge writes depends on the set of receptions alone, and so do the positions in a
+//! listing. The functions do nothing: what they ensure are the laws.
 ghost use Rattle.std.specs.Prelude.{ℕ};
 ghost use Rattle.aprs_laws.specs.Gap.{IsGap};
 ghost use Rattle.aprs_tool.specs.Show.{ListingsTellPositions};

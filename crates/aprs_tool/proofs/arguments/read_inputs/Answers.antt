@@ -2,8 +2,8 @@ use Rattle.std.proofs.Common.{◌≡◌, List, [], Option, Some, None, option_ma
 use Rattle.std.proofs.lemmas.Result.{IfOk-weaker}
 use Rattle.clap.specs.Words.{Row, Text, all_of, found_of, rows_of, subcommand_rows_of}
 use Rattle.clap.proofs.WalkLemmas.{raw_values-rows}
-use Rattle.aprs_tool.specs.Words.{inputs_named}
-use Rattle.aprs_tool.proofs.words.read_inputs.Goals as goal
+use Rattle.aprs_tool.specs.Arguments.{inputs_named}
+use Rattle.aprs_tool.proofs.arguments.read_inputs.Goals as goal
 
 named_in : (found : Option (Text × List Row)) (rows : List Row) → Some rows ≡ option_map (λ p. p.1) found → inputs_named found ≡ unwrap_or (all_of (codes "input") rows) []
 named_in None rows e = absurd cc

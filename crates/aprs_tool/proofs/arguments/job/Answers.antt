@@ -7,10 +7,10 @@ use Rattle.clap.specs.declared.error.kind.ErrorKind.TheVariants.{OutOfMemory}
 use Rattle.clap.specs.declared.builder.value_parser.ValueParser.{ValueParser}
 use Rattle.clap.specs.declared.builder.value_parser.ValueParser.TheVariants as vp
 use Rattle.clap.specs.declared.builder.possible_value.PossibleValue.{PossibleValue}
-use Rattle.aprs_tool.specs.Words.{FailsSo, form_names, program_app, RefusesSo}
+use Rattle.aprs_tool.specs.Arguments.{FailsSo, form_names, program_app, RefusesSo}
 use Rattle.aprs_tool.specs.declared.form.JobFault.{JobFault}
 use Rattle.aprs_tool.specs.declared.form.JobFault.TheVariants as fault
-use Rattle.aprs_tool.proofs.words.job.Goals as goal
+use Rattle.aprs_tool.proofs.arguments.job.Goals as goal
 
 abbrev at_zero : {A : Type 0} → A → Bor A
 at_zero x = record { ref_ptr = (0, 0); now = x }
@@ -24,11 +24,11 @@ returns-in-Err-clause-asked c = let values = at_zero (map value_named form_names
 pub returns-in-Err-try_get_matches_from-clause-asked : goal.returns-in-Err-try_get_matches_from-clause-asked
 returns-in-Err-try_get_matches_from-clause-asked c =
     let built = c.in-Ok.ensures in
-    let words = map (λ (w : Bor (List ℕ)). w.now) c.args.words.now in
-    let fails : FailsSo (program_app built.0) words c.clap_fault.result = elim c.clap_fault.ensures [
-      | inl h ↦ subst (FailsSo (program_app built.0) words) (sym h.1) tt
-      | inr h ↦ subst (FailsSo (program_app built.0) words) (sym h.1)
-          (λ t. h.0 (c.in-Err-try_get_matches_from.ensures.passes (ap (λ (a : App). takes a words) built.2 ∙ t)))
+    let arguments = map (λ (w : Bor (List ℕ)). w.now) c.args.arguments.now in
+    let fails : FailsSo (program_app built.0) arguments c.clap_fault.result = elim c.clap_fault.ensures [
+      | inl h ↦ subst (FailsSo (program_app built.0) arguments) (sym h.1) tt
+      | inr h ↦ subst (FailsSo (program_app built.0) arguments) (sym h.1)
+          (λ t. h.0 (c.in-Err-try_get_matches_from.ensures.passes (ap (λ (a : App). takes a arguments) built.2 ∙ t)))
     ] in
     (built.0, built.1, fails)
 
@@ -41,16 +41,16 @@ free p = refl
 pub returns-in-Ok-read_inputs-clause-judged : goal.returns-in-Ok-read_inputs-clause-judged
 returns-in-Ok-read_inputs-clause-judged c =
     let built = c.in-Ok.ensures in
-    let words = map (λ (w : Bor (List ℕ)). w.now) c.args.words.now in
+    let arguments = map (λ (w : Bor (List ℕ)). w.now) c.args.arguments.now in
     let kinds = c.in-Ok-try_get_matches_from.ensures.kinds (ap is_simple_and_free built.2 ∙ free built.0) in
-    (built.0, built.1, ap (λ (a : App). fault_of a words) (sym built.2) ∙ kinds)
+    (built.0, built.1, ap (λ (a : App). fault_of a arguments) (sym built.2) ∙ kinds)
 
 -- an error is refused as its kind says
-refused : (a : App) (words : List (List ℕ)) (e : Error) (f : JobFault) → HasKind (fault_of a words) e
-    → ((kind_of e ≡ OutOfMemory) × (f ≡ fault.Memory)) ⊎ ((kind_of e ≢ OutOfMemory) × (f ≡ fault.Clap e)) → RefusesSo a words f
-refused a words e f has told = elim told [
-  | inl h ↦ subst (RefusesSo a words) (sym h.1) tt
-  | inr h ↦ subst (RefusesSo a words) (sym h.1) (elim has [
+refused : (a : App) (arguments : List (List ℕ)) (e : Error) (f : JobFault) → HasKind (fault_of a arguments) e
+    → ((kind_of e ≡ OutOfMemory) × (f ≡ fault.Memory)) ⊎ ((kind_of e ≢ OutOfMemory) × (f ≡ fault.Clap e)) → RefusesSo a arguments f
+refused a arguments e f has known = elim known [
+  | inl h ↦ subst (RefusesSo a arguments) (sym h.1) tt
+  | inr h ↦ subst (RefusesSo a arguments) (sym h.1) (elim has [
     | inl out ↦ absurd (h.0 out)
     | inr among ↦ among
   ])
@@ -59,8 +59,8 @@ refused a words e f has told = elim told [
 pub returns-in-Err-try_get_matches_from-clause-judged : goal.returns-in-Err-try_get_matches_from-clause-judged
 returns-in-Err-try_get_matches_from-clause-judged c =
     let built = c.in-Ok.ensures in
-    let words = map (λ (w : Bor (List ℕ)). w.now) c.args.words.now in
+    let arguments = map (λ (w : Bor (List ℕ)). w.now) c.args.arguments.now in
     let error = c.in-Err-try_get_matches_from.error in
     let has = c.in-Err-try_get_matches_from.ensures.kinds (ap is_simple_and_free built.2 ∙ free built.0) in
-    let kinds = subst (λ (a : App). HasKind (fault_of a words) error) built.2 has in
-    (built.0, built.1, refused (program_app built.0) words error c.clap_fault.result kinds c.clap_fault.ensures)
+    let kinds = subst (λ (a : App). HasKind (fault_of a arguments) error) built.2 has in
+    (built.0, built.1, refused (program_app built.0) arguments error c.clap_fault.result kinds c.clap_fault.ensures)

@@ -1,17 +1,17 @@
-//! The words of the command line.
+//! The arguments of the command line.
 ghost use Rattle.std.specs.Prelude.{◌≡◌, ◌≢◌, ◌⊎◌, option_map, IfOk, map, true, false};
 ghost use Rattle.clap.specs.Words.{app_of, first_of, found_of, is_simple, is_simple_and_free, kind_of, rows_of};
 ghost use Rattle.clap.specs.Words.{rule_of, subcommand_rows_of};
 ghost use Rattle.clap.specs.declared.error.kind.ErrorKind.TheVariants.{OutOfMemory};
 ghost use Rattle.clap.specs.declared.builder.command.Command.TheViews.{out-Command};
 ghost use Rattle.clap.specs.declared.builder.value_parser.ValueParser.{ValueParser};
-ghost use Rattle.aprs_tool.specs.Words.{IsForms, AnswersWords, JudgesWords, asked_by, form_rule, option_rule};
-ghost use Rattle.aprs_tool.specs.Words.{check_app, convert_app, merge_app, program_app, receiver_of, show_app};
-ghost use Rattle.aprs_tool.specs.Words.{widen_app, gap_rule, seconds_rule, gap_parser, read_gap};
-ghost use Rattle.aprs_tool.specs.Words.{chosen_gap, widened_gap};
-ghost use Rattle.aprs_tool.specs.Words.{AreForms, input_rule, inputs_named, inputs_of, inputs_rule, paths_of};
-ghost use Rattle.aprs_tool.specs.Words.{plain_form_of, capture_form_of, named_form_of, form_of};
-ghost use Rattle.aprs_tool.specs.Words.{task_named, task_of};
+ghost use Rattle.aprs_tool.specs.Arguments.{IsForms, AnswersArguments, JudgesArguments, asked_by, form_rule, option_rule};
+ghost use Rattle.aprs_tool.specs.Arguments.{check_app, convert_app, merge_app, program_app, receiver_of, show_app};
+ghost use Rattle.aprs_tool.specs.Arguments.{widen_app, gap_rule, seconds_rule, gap_parser, read_gap};
+ghost use Rattle.aprs_tool.specs.Arguments.{chosen_gap, widened_gap};
+ghost use Rattle.aprs_tool.specs.Arguments.{AreForms, input_rule, inputs_named, inputs_of, inputs_rule, paths_of};
+ghost use Rattle.aprs_tool.specs.Arguments.{plain_form_of, capture_form_of, named_form_of, form_of};
+ghost use Rattle.aprs_tool.specs.Arguments.{task_named, task_of};
 ghost use Rattle.aprs_log.specs.Moment.{moment_of};
 
 use crate::form::{Form, Job, JobFault};
@@ -36,25 +36,25 @@ enum Task {
     Widen(Gap),
 }
 
-/// What the program's words ask for, its name being the first: a command of `check [INPUT]`,
+/// What the program's arguments ask for, its name being the first: a command of `check [INPUT]`,
 /// `convert FORM [INPUT]`, `merge [INPUT]...`, `show [INPUT]...` and `widen SECONDS [INPUT]`, and
 /// `convert text` where no command is given. `convert capture` needs `--receiver NAME` and
 /// `--moment MOMENT`, and the other forms refuse both. `merge` and `show` have `--gap SECONDS`,
 /// which is 30 where it is not given. SECONDS is 1 to 3,600, and else a fault of `JobFault::Clap`.
-/// The inputs' paths are given in the order of the words. Where these ask for help or the version,
+/// The inputs' paths are given in the order of the arguments. Where these ask for help or the version,
 /// its text is that of `JobFault::Clap`.
-pub fn job(alloc: Global, words: &[&str]) -> Result<Job, JobFault>
+pub fn job(alloc: Global, arguments: &[&str]) -> Result<Job, JobFault>
     ensures asked { (p : ValueParser) × IsForms p
-        × AnswersWords (program_app p) (map (λ w. w.now) words.now) result }
+        × AnswersArguments (program_app p) (map (λ a. a.now) arguments.now) result }
     ensures judged { (p : ValueParser) × IsForms p
-        × JudgesWords (program_app p) (map (λ w. w.now) words.now) result }
+        × JudgesArguments (program_app p) (map (λ a. a.now) arguments.now) result }
 {
     let forms = form_values();
     let command = match program(alloc, forms.as_slice()) {
         Ok(command) => command,
         Err(_) => return Err(JobFault::Memory),
     };
-    let matches = match command.try_get_matches_from(words) {
+    let matches = match command.try_get_matches_from(arguments) {
         Ok(matches) => matches,
         Err(error) => return Err(clap_fault(error)),
     };

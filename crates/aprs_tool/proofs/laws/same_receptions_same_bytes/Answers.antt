@@ -1,5 +1,5 @@
 use Rattle.aprs_tool.proofs.OneMerge.{book_of_union, one_merge}
-use Rattle.aprs_tool.proofs.law.same_receptions_same_bytes.Goals as goal
+use Rattle.aprs_tool.proofs.laws.same_receptions_same_bytes.Goals as goal
 
 pub returns-clause-book : goal.returns-clause-book
 returns-clause-book c = λ gap is. book_of_union gap is.0
