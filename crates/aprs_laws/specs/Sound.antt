@@ -17,7 +17,7 @@ pub record IsSoundRow (x : Row) : Type 0 where
 abbrev pub IsFar : ℕ → Row → Row → Type 0
 IsFar gap x y = row_key x ≡ row_key y → last_of x + gap < y.first
 
--- the rows ascend, neighbours of one key are far from each other, and each is sound by itself
+-- the rows ascend, rows of one key are far from each other, and each is sound by itself
 pub record Sound (gap : ℕ) (rows : List Row) : Type 0 where
   pub ascending : Ordered (IsBelow row_cmp) rows
   pub apart : Ordered (IsFar gap) rows

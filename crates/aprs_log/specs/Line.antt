@@ -40,7 +40,8 @@ only_frame [] = Err reason.NoFrame
 only_frame (piece ∷ []) = frame_in_piece piece
 only_frame (piece ∷ next ∷ more) = Err reason.TwoFrames
 
--- the one frame in a line's bytes, none of which follow the last frame end
+-- the one frame in a line's bytes, or the first reason why there is none: if bytes follow the last
+-- frame end, it is Unended, and otherwise the pieces between frame ends decide
 unfoldable pub frame_in : List ℕ → Result (List ℕ) Reason
 frame_in bytes =
     if is_nonempty (rest_of bytes) then Err reason.Unended else only_frame (judgements_of bytes)
