@@ -10,7 +10,10 @@ pub loop-i-preserved : goal.loop-i-preserved
 loop-i-preserved c =
     let digipeaters = (parts_of c.args.frame.now).digipeaters in
     record {
-      text = shown-more hop_text c.loop-i.out.items c.push_hop.new.out.items (map hop_of digipeaters) c.loop-i.i c.in-Some.hop
-          (slice_get-map hop_of digipeaters c.loop-i.i ∙ sym c.in-Some.ensures) c.push_hop.ensures.text c.args.out.now.items c.loop-i.invariant.text;
+      text = shown-more hop_text c.loop-i.out.items c.push_hop.new.out.items
+          (map hop_of digipeaters) c.loop-i.i c.in-Some.hop
+          (slice_get-map hop_of digipeaters c.loop-i.i
+          ∙ sym c.in-Some.ensures) c.push_hop.ensures.text c.args.out.now.items
+          c.loop-i.invariant.text;
       most = omega (arith, c.push_hop.ensures.most, c.loop-i.invariant.most);
     }
