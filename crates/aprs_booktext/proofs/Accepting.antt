@@ -34,12 +34,15 @@ use Rattle.aprs_booktext.proofs.Versions.{range}
 pub lines_few : (ls : List (List ℕ)) → length ls ≤ length (text_of_lines ls)
 lines_few [] = omega arith
 lines_few (l ∷ ls) =
-    let whole : length (ended_by_lf l ++ text_of_lines ls) ≡ length l + 1 + length (text_of_lines ls) = simp (length-append, length-append) (omega arith) in
+    let whole : length (ended_by_lf l ++ text_of_lines ls)
+    ≡ length l + 1 + length (text_of_lines ls) =
+    simp (length-append, length-append) (omega arith) in
     omega (arith, lines_few ls, whole)
 
 pub rows_few : (v : Version) (rows : List Row) → length rows ≤ length (book_text v rows)
 rows_few v rows =
-    let lines : length (lines_of v rows) ≡ length (map (row_line (form_of v)) rows) + 2 = simp length-append (omega arith) in
+    let lines : length (lines_of v rows) ≡ length (map (row_line (form_of v)) rows) + 2 =
+    simp length-append (omega arith) in
     omega (arith, lines_few (lines_of v rows), lines, length-map rows (row_line (form_of v)))
 
 -- where rows were read, all of the input was got, and is their text in some version
@@ -56,13 +59,17 @@ text_of_read limit head input after book h =
     record {
       version = h.reads.0;
       gap_is = h.reads.1;
-      text_is = sym h.reads.2 ∙ sym (gets.whole ∙ ap (λ l. (head ++ h.got) ++ l) gets.ends.0 ∙ append-nil (head ++ h.got));
+      text_is = sym h.reads.2 ∙ sym (gets.whole ∙ ap (λ l. (head ++ h.got) ++ l) gets.ends.0
+          ∙ append-nil (head ++ h.got));
       is = h.reads.3;
     }
 
-module _ (limit : ℕ) (head rest : List ℕ) (after : Option (List ℕ)) (v : Version) (rows : List Row) (small : limit ≤ MAX_INPUT) (is : IsBookRows v rows) (text_is : head ++ rest ≡ book_text v rows) where
+module _ (limit : ℕ) (head rest : List ℕ) (after : Option (List ℕ)) (v : Version) (rows : List Row)
+    (small : limit ≤ MAX_INPUT) (is : IsBookRows v rows)
+    (text_is : head ++ rest ≡ book_text v rows) where
   -- what was read is the book of the rows
-  pub same_read : (found : BookValue) → Reads limit head rest after (Ok found) → found ≡ book_of v rows
+  pub same_read : (found : BookValue) → Reads limit head rest after (Ok found)
+      → found ≡ book_of v rows
   same_read found h =
       let t = text_of_read limit head rest after found h in
       let one = one_text t.version v found.rows rows t.is is (t.text_is ∙ text_is) in
@@ -72,12 +79,20 @@ module _ (limit : ℕ) (head rest : List ℕ) (after : Option (List ℕ)) (v : V
     few : length rows < 2 ^ 64
     few = omega (arith, rows_few v rows, ap length text_is, small, fits)
 
-    faultless : (e : Ending) (text : List ℕ) (f : BookFault) → Gets limit (head ++ rest) after text e → (f.cause ≡ cause.Read → ⊥) → FirstFault text e f → ⊥
-    faultless ending.End text f gets read first = (cut_short v rows is few gets.rest ending.End f.cause text f (sym gets.whole ∙ text_is) refl first).1 refl gets.ends.0
-    faultless ending.Read text f gets read first = read (cut_short v rows is few gets.rest ending.Read f.cause text f (sym gets.whole ∙ text_is) refl first).0
-    faultless ending.TooLong text f gets read first = omega (arith, ap length gets.whole, length-append text gets.rest, gets.ends, fits)
+    faultless : (e : Ending) (text : List ℕ) (f : BookFault)
+        → Gets limit (head ++ rest) after text e → (f.cause ≡ cause.Read → ⊥) → FirstFault text e f
+        → ⊥
+    faultless ending.End text f gets read first =
+        (cut_short v rows is few gets.rest ending.End f.cause text f (sym gets.whole
+        ∙ text_is) refl first).1 refl gets.ends.0
+    faultless ending.Read text f gets read first =
+        read (cut_short v rows is few gets.rest ending.Read f.cause text f (sym gets.whole
+        ∙ text_is) refl first).0
+    faultless ending.TooLong text f gets read first =
+        omega (arith, ap length gets.whole, length-append text gets.rest, gets.ends, fits)
 
-    pub accepted : (r : Result BookValue BookFault) → Reads limit head rest after r → IfErr r (λ f. f.cause ≡ cause.Read → ⊥) → IsBookOrMemory r (book_of v rows)
+    pub accepted : (r : Result BookValue BookFault) → Reads limit head rest after r
+        → IfErr r (λ f. f.cause ≡ cause.Read → ⊥) → IsBookOrMemory r (book_of v rows)
     accepted (Ok found) h read = same_read found h
     accepted (Err f) h read = elim h.reads [
       | inl m ↦ m.refused
@@ -85,28 +100,45 @@ module _ (limit : ℕ) (head rest : List ℕ) (after : Option (List ℕ)) (v : V
     ]
 
 -- the same, where the input's bytes may not be known, and a failed read has Q
-pub accepts : (known after : Option (List ℕ)) (limit : ℕ) (head : List ℕ) (r : Result BookValue BookFault) (Q : Type 0) → limit ≤ MAX_INPUT → IfSome known (λ input. Reads limit head input after r)
+pub accepts : (known after : Option (List ℕ)) (limit : ℕ) (head : List ℕ)
+    (r : Result BookValue BookFault) (Q : Type 0) → limit ≤ MAX_INPUT
+    → IfSome known (λ input. Reads limit head input after r)
     → IfErr r (λ f. f.cause ≡ cause.Read → Q)
-    → IfSome known (λ input. (v : Version) (rows : List Row) → IsBookRows v rows → head ++ input ≡ book_text v rows → length (head ++ input) ≤ limit → (Q → ⊥) → IsBookOrMemory r (book_of v rows))
+    → IfSome known (λ input. (v : Version) (rows : List Row) → IsBookRows v rows
+    → head ++ input ≡ book_text v rows → length (head ++ input) ≤ limit → (Q → ⊥)
+    → IsBookOrMemory r (book_of v rows))
 accepts None after limit head r Q small h read = tt
 accepts (Some input) after limit head r Q small h read =
-    λ v rows is text_is fits good. accepted limit head input after v rows small is text_is fits r h (IfErr-weaker r _ _ (λ f q e. good (q e)) read)
+    λ v rows is text_is fits good. accepted limit head input after v rows small is text_is fits r h
+    (IfErr-weaker r _ _ (λ f q e. good (q e)) read)
 
 -- ---- texts of version 1
 
 module _ (limit : ℕ) (head : List ℕ) (after : Option (List ℕ)) (small : limit ≤ MAX_INPUT) where
-  in_seconds : (input : List ℕ) (S : List Heard) → IsTextInSeconds S (head ++ input) → (r : Result BookValue BookFault) → Reads limit head input after r
+  in_seconds : (input : List ℕ) (S : List Heard) → IsTextInSeconds S (head ++ input)
+      → (r : Result BookValue BookFault) → Reads limit head input after r
       → IfOk r (λ book. (book.gap ≡ standard_gap) × Holds (map (scaled_heard 1000) S) book)
   in_seconds input S t (Err f) h = tt
   in_seconds input S t (Ok found) h =
       let rows = scaled 1000 t.rows in
-      let book : Holds (map (scaled_heard 1000) S) (book_of One rows) = scaled_book 1000 standard_gap (omega arith) S t.rows t.book in
-      let is : IsBookRows One rows = record { version = tt; sound = sound (millis_of standard_gap) (map (scaled_heard 1000) S) rows book; each = t.each } in
-      let same = same_read limit head input after One rows small is t.text_is found h in
-      (ap (λ (b : BookValue). b.gap) same, subst (Holds (map (scaled_heard 1000) S)) (sym same) book)
+      let book : Holds (map (scaled_heard 1000) S) (book_of One rows) =
+      scaled_book 1000 standard_gap (omega arith) S t.rows t.book in
+      let is : IsBookRows One rows = record {
+        version = tt;
+        sound =
+            sound (millis_of standard_gap) (map (scaled_heard 1000) S) rows book;
+        each = t.each;
+      } in
+      let same = same_read limit head input after One rows small is t.text_is found h in (
+        ap (λ (b : BookValue). b.gap) same,
+        subst (Holds (map (scaled_heard 1000) S))
+            (sym same) book,
+      )
 
-  pub reads_seconds : (known : Option (List ℕ)) (r : Result BookValue BookFault) → IfSome known (λ input. Reads limit head input after r)
-      → IfSome known (λ input. (S : List Heard) → IsTextInSeconds S (head ++ input) → IfOk r (λ book. (book.gap ≡ standard_gap) × Holds (map (scaled_heard 1000) S) book))
+  pub reads_seconds : (known : Option (List ℕ)) (r : Result BookValue BookFault)
+      → IfSome known (λ input. Reads limit head input after r)
+      → IfSome known (λ input. (S : List Heard) → IsTextInSeconds S (head ++ input)
+      → IfOk r (λ book. (book.gap ≡ standard_gap) × Holds (map (scaled_heard 1000) S) book))
   reads_seconds None r h = tt
   reads_seconds (Some input) r h = λ S t. in_seconds input S t r h
 
@@ -138,14 +170,16 @@ row_more form x h = record {
   frame = h.frame;
 }
 
-rows_more : (v : Version) (gap : ℕ) (rows : List Row) → gap ≡ gap_of v → IsBookRows v rows → IsBookRows (Three gap) rows
+rows_more : (v : Version) (gap : ℕ) (rows : List Row) → gap ≡ gap_of v → IsBookRows v rows
+    → IsBookRows (Three gap) rows
 rows_more v gap rows e h = record {
   version = subst IsGap (sym e) (range v h.version);
   sound = subst (λ g. Sound (millis_of g) rows) (sym e) h.sound;
   each = All-weaker (IsBookRow (form_of v)) (IsBookRow Millis) (row_more (form_of v)) rows h.each;
 }
 
-pub written_back : (limit : ℕ) (head input : List ℕ) (after : Option (List ℕ)) (book : BookValue) → Reads limit head input after (Ok book) → IsWrittenBack book (head ++ input)
+pub written_back : (limit : ℕ) (head input : List ℕ) (after : Option (List ℕ)) (book : BookValue)
+    → Reads limit head input after (Ok book) → IsWrittenBack book (head ++ input)
 written_back limit head input after book h =
     let t = text_of_read limit head input after book h in
     let more = rows_more t.version book.gap book.rows t.gap_is t.is in
@@ -155,7 +189,8 @@ written_back limit head input after book h =
       text_is = sym t.text_is;
       written = more;
       same = (
-        λ e. sym (one_version (written_version book) t.version book.rows book.rows more.version t.is.version (e ∙ sym t.text_is)),
+        λ e. sym (one_version (written_version book) t.version book.rows book.rows more.version
+            t.is.version (e ∙ sym t.text_is)),
         λ e. ap (λ (v : Version). book_text v book.rows) (sym e) ∙ t.text_is,
       );
     }

@@ -53,16 +53,19 @@ one_or_other : (a b : List ℕ) → (a ≡ b) ⊎ (a ≢ b)
 one_or_other a b = by (bytes_eq a b) refl where
   by : (t : Bool) → bytes_eq a b ≡ t → (a ≡ b) ⊎ (a ≢ b)
   by true e = inl ((bytes_eq-Decides a b).0 e)
-  by false e = inr (λ same. let yes = (bytes_eq-Decides a b).1 same in let f : false ≡ true = sym e ∙ yes in absurd cc)
+  by false e = inr (λ same. let yes = (bytes_eq-Decides a b).1 same in let f : false ≡ true = sym e
+      ∙ yes in absurd cc)
 
 -- ---- fields
 
 abbrev IsMoment : MomentForm → List ℕ → ℕ → Type 0
 IsMoment form t m = IsWritable form m × (t ≡ moment_text_in form m)
 
-moment_or_none : (form : MomentForm) (t : List ℕ) → ((m : ℕ) × IsMoment form t m) ⊎ ((m : ℕ) → IsWritable form m → t ≢ moment_text_in form m)
+moment_or_none : (form : MomentForm) (t : List ℕ)
+    → ((m : ℕ) × IsMoment form t m) ⊎ ((m : ℕ) → IsWritable form m → t ≢ moment_text_in form m)
 moment_or_none form t = by (moment_in form t) refl where
-  by : (o : Option ℕ) → moment_in form t ≡ o → ((m : ℕ) × IsMoment form t m) ⊎ ((m : ℕ) → IsWritable form m → t ≢ moment_text_in form m)
+  by : (o : Option ℕ) → moment_in form t ≡ o → ((m : ℕ) × IsMoment form t m) ⊎ ((m : ℕ)
+      → IsWritable form m → t ≢ moment_text_in form m)
   by None e = inr (moment_missed form t e)
   by (Some m) e = elim (cases_lt 4102444799999 m) [
     | inl late ↦ inr (λ k h same.
@@ -75,32 +78,59 @@ moment_or_none form t = by (moment_in form t) refl where
 all_names : (ps : List (List ℕ)) → AllByRecursion IsName ps ⊎ (AllByRecursion IsName ps → ⊥)
 all_names [] = inl tt
 all_names (p ∷ ps) = by (all_names ps) (is_name p) refl where
-  by : AllByRecursion IsName ps ⊎ (AllByRecursion IsName ps → ⊥) → (b : Bool) → is_name p ≡ b → AllByRecursion IsName (p ∷ ps) ⊎ (AllByRecursion IsName (p ∷ ps) → ⊥)
+  by : AllByRecursion IsName ps ⊎ (AllByRecursion IsName ps → ⊥) → (b : Bool) → is_name p ≡ b
+      → AllByRecursion IsName (p ∷ ps) ⊎ (AllByRecursion IsName (p ∷ ps) → ⊥)
   by others false e = inr (λ h. let f : false ≡ true = sym e ∙ h.0 in absurd cc)
   by others true e = elim others [
     | inl all ↦ inl (e, all)
     | inr none ↦ inr (λ h. none h.1)
   ]
 
-names_or_none : (n : List ℕ) → ((names : List (List ℕ)) × SpellsNames n names) ⊎ ((names : List (List ℕ)) → SpellsNames n names → ⊥)
+names_or_none : (n : List ℕ) → ((names : List (List ℕ)) × SpellsNames n names)
+    ⊎ ((names : List (List ℕ)) → SpellsNames n names → ⊥)
 names_or_none n = elim (all_names (pieces 44 n)) [
-  | inl all ↦ inl (pieces 44 n, record { field_is = joined_pieces 44 n (pieces 44 n) refl; names_are = All-from_recursion IsName (pieces 44 n) all; some = pieces_some 44 n })
+  | inl all ↦ inl (
+    pieces 44 n,
+    record {
+      field_is = joined_pieces 44 n (pieces 44 n) refl;
+      names_are = All-from_recursion IsName (pieces 44 n) all;
+      some = pieces_some 44 n;
+    },
+  )
   | inr none ↦ inr (λ names h.
-      let same : names ≡ pieces 44 n = sym (names_pieces names h.some h.names_are) ∙ ap (pieces 44) (sym h.field_is) in
+      let same : names ≡ pieces 44 n = sym (names_pieces names h.some h.names_are)
+      ∙ ap (pieces 44) (sym h.field_is) in
       none (subst (AllByRecursion IsName) same (recursion_from_All IsName names h.names_are)))
 ]
 
-bytes_or_none : (d : List ℕ) → ((bytes : List ℕ) × SpellsBytes d bytes) ⊎ ((bytes : List ℕ) → SpellsBytes d bytes → ⊥)
+bytes_or_none : (d : List ℕ) → ((bytes : List ℕ) × SpellsBytes d bytes) ⊎ ((bytes : List ℕ)
+    → SpellsBytes d bytes → ⊥)
 bytes_or_none d = by (decode_of d) refl where
-  by : (r : Result (List ℕ) FromHexError) → decode_of d ≡ r → ((bytes : List ℕ) × SpellsBytes d bytes) ⊎ ((bytes : List ℕ) → SpellsBytes d bytes → ⊥)
-  by (Err e) is = inr (λ bytes h. let f : Err e ≡ Ok bytes = sym is ∙ decode_of-spelled d bytes h in absurd cc)
+  by : (r : Result (List ℕ) FromHexError) → decode_of d ≡ r
+      → ((bytes : List ℕ) × SpellsBytes d bytes) ⊎ ((bytes : List ℕ) → SpellsBytes d bytes → ⊥)
+  by (Err e) is = inr (λ bytes h. let f : Err e ≡ Ok bytes = sym is
+      ∙ decode_of-spelled d bytes h in absurd cc)
   by (Ok b) is = elim (one_or_other d (encode_lower b)) [
-    | inr other ↦ inr (λ bytes h. let f : Ok b ≡ Ok bytes = sym is ∙ decode_of-spelled d bytes h in let same : b ≡ bytes = cc in other (h.digits_are ∙ ap encode_lower (sym same)))
+    | inr other ↦ inr (λ bytes h. let f : Ok b ≡ Ok bytes = sym is
+        ∙ decode_of-spelled d bytes h in let same : b ≡ bytes = cc in
+        other (h.digits_are ∙ ap encode_lower (sym same)))
     | inl digits ↦ elim (cases_lt 0 (length b)) [
-      | inr none ↦ inr (λ bytes h. let f : Ok b ≡ Ok bytes = sym is ∙ decode_of-spelled d bytes h in let same : b ≡ bytes = cc in let few = h.few.0 in omega (arith, none, few, ap length same))
+      | inr none ↦ inr (λ bytes h. let f : Ok b ≡ Ok bytes = sym is
+          ∙ decode_of-spelled d bytes h in let same : b ≡ bytes = cc in let few = h.few.0 in
+          omega (arith, none, few, ap length same))
       | inl some ↦ elim (cases_lt MAX_FRAME (length b)) [
-        | inl many ↦ inr (λ bytes h. let f : Ok b ≡ Ok bytes = sym is ∙ decode_of-spelled d bytes h in let same : b ≡ bytes = cc in let few = h.few.1 in omega (arith, many, few, ap length same))
-        | inr few ↦ inl (b, record { digits_are = digits; bytes_are = (decode_of-ok d b is).3; few = (some, few) })
+        | inl many ↦ inr (λ bytes h. let f : Ok b ≡ Ok bytes = sym is
+            ∙ decode_of-spelled d bytes h in let same : b ≡ bytes = cc in let few = h.few.1 in
+            omega (arith, many, few, ap length same))
+        | inr few ↦ inl (
+          b,
+          record {
+            digits_are = digits;
+            bytes_are = (decode_of-ok d b is).3;
+            few =
+                (some, few);
+          },
+        )
       ]
     ]
   ]
@@ -112,25 +142,61 @@ pub record SpelledRow (form : MomentForm) (line : List ℕ) : Type 0 where
   pub is : IsSpelled form row
   pub line_is : line ≡ row_line form row
 
-module _ (form : MomentForm) (line t f l n w d : List ℕ) (is : pieces 32 line ≡ t ∷ f ∷ l ∷ n ∷ w ∷ d ∷ []) where
+module _ (form : MomentForm) (line t f l n w d : List ℕ)
+    (is : pieces 32 line ≡ t ∷ f ∷ l ∷ n ∷ w ∷ d ∷ []) where
   row_or_none : SpelledRow form line ⊎ IsNoRow form line
   row_or_none = elim (one_or_other t (codes "T")) [
     | inr other ↦ inr (λ x h e. other (same_fields form line t f l n w d is x h e).tag)
     | inl tag ↦ elim (moment_or_none form f) [
-      | inr none ↦ inr (λ x h e. none x.first h.first (same_fields form line t f l n w d is x h e).first)
+      | inr none ↦ inr (λ x h e. none x.first h.first
+          (same_fields form line t f l n w d is x h e).first)
       | inl first ↦ elim (moment_or_none form l) [
-        | inr none ↦ inr (λ x h e. none (last_of x) h.last (same_fields form line t f l n w d is x h e).last)
+        | inr none ↦ inr (λ x h e. none (last_of x) h.last
+            (same_fields form line t f l n w d is x h e).last)
         | inl last ↦ elim (names_or_none n) [
-          | inr none ↦ inr (λ x h e. none x.receivers (record { field_is = (same_fields form line t f l n w d is x h e).receivers; names_are = h.receivers; some = h.some }))
+          | inr none ↦ inr (λ x h e. none x.receivers
+              (record {
+                field_is = (same_fields form line t f l n w d is x h e).receivers;
+                names_are = h.receivers;
+                some = h.some;
+              }))
           | inl names ↦ elim (all_names (w ∷ [])) [
-            | inr none ↦ inr (λ x h e. none (subst IsName (sym (same_fields form line t f l n w d is x h e).receiver) h.receiver, tt))
+            | inr none ↦ inr (λ x h e. none (
+              subst IsName
+                  (sym (same_fields form line t f l n w d is x h e).receiver) h.receiver,
+              tt,
+            ))
             | inl name ↦ elim (bytes_or_none d) [
-              | inr none ↦ inr (λ x h e. none x.greatest.frame (record { digits_are = (same_fields form line t f l n w d is x h e).frame; bytes_are = h.bytes; few = h.few }))
+              | inr none ↦ inr (λ x h e. none x.greatest.frame
+                  (record {
+                    digits_are = (same_fields form line t f l n w d is x h e).frame;
+                    bytes_are = h.bytes;
+                    few = h.few;
+                  }))
               | inl bytes ↦ inl (record {
                 row = row_of first.0 last.0 names.0 w bytes.0;
-                is = record { first = first.1.0; last = last.1.0; some = names.1.some; receivers = names.1.names_are; receiver = name.0; bytes = bytes.1.bytes_are; few = bytes.1.few };
-                line_is = spelled_by form line t f l n w d is (row_of first.0 last.0 names.0 w bytes.0)
-                    (record { tag = tag; first = first.1.1; last = last.1.1; receivers = names.1.field_is; receiver = refl; frame = bytes.1.digits_are });
+                is = record {
+                  first = first.1.0;
+                  last = last.1.0;
+                  some = names.1.some;
+                  receivers =
+                      names.1.names_are;
+                  receiver = name.0;
+                  bytes = bytes.1.bytes_are;
+                  few =
+                      bytes.1.few;
+                };
+                line_is = spelled_by form line t f l n w d is
+                    (row_of first.0 last.0 names.0 w bytes.0)
+                    (record {
+                      tag = tag;
+                      first = first.1.1;
+                      last = last.1.1;
+                      receivers =
+                          names.1.field_is;
+                      receiver = refl;
+                      frame = bytes.1.digits_are;
+                    });
               })
             ]
           ]
@@ -139,18 +205,24 @@ module _ (form : MomentForm) (line t f l n w d : List ℕ) (is : pieces 32 line 
     ]
   ]
 
-not_six : (form : MomentForm) (line : List ℕ) → ¬ (length (pieces 32 line) ≡ 6) → SpelledRow form line ⊎ IsNoRow form line
+not_six : (form : MomentForm) (line : List ℕ) → ¬ (length (pieces 32 line) ≡ 6)
+    → SpelledRow form line ⊎ IsNoRow form line
 not_six form line other = inr (λ x h e. six_pieces form x line h other e)
 
-by_fields : (form : MomentForm) (line : List ℕ) (ps : List (List ℕ)) → pieces 32 line ≡ ps → SpelledRow form line ⊎ IsNoRow form line
+by_fields : (form : MomentForm) (line : List ℕ) (ps : List (List ℕ)) → pieces 32 line ≡ ps
+    → SpelledRow form line ⊎ IsNoRow form line
 by_fields form line [] is = not_six form line (λ six. omega (arith, ap length is, six))
 by_fields form line (a ∷ []) is = not_six form line (λ six. omega (arith, ap length is, six))
 by_fields form line (a ∷ b ∷ []) is = not_six form line (λ six. omega (arith, ap length is, six))
-by_fields form line (a ∷ b ∷ c ∷ []) is = not_six form line (λ six. omega (arith, ap length is, six))
-by_fields form line (a ∷ b ∷ c ∷ d ∷ []) is = not_six form line (λ six. omega (arith, ap length is, six))
-by_fields form line (a ∷ b ∷ c ∷ d ∷ e ∷ []) is = not_six form line (λ six. omega (arith, ap length is, six))
+by_fields form line (a ∷ b ∷ c ∷ []) is = not_six form line
+    (λ six. omega (arith, ap length is, six))
+by_fields form line (a ∷ b ∷ c ∷ d ∷ []) is =
+    not_six form line (λ six. omega (arith, ap length is, six))
+by_fields form line (a ∷ b ∷ c ∷ d ∷ e ∷ []) is =
+    not_six form line (λ six. omega (arith, ap length is, six))
 by_fields form line (t ∷ f ∷ l ∷ n ∷ w ∷ d ∷ []) is = row_or_none form line t f l n w d is
-by_fields form line (a ∷ b ∷ c ∷ d ∷ e ∷ f ∷ g ∷ ps) is = not_six form line (λ six. omega (arith, ap length is, six))
+by_fields form line (a ∷ b ∷ c ∷ d ∷ e ∷ f ∷ g ∷ ps) is =
+    not_six form line (λ six. omega (arith, ap length is, six))
 
 -- ---- what a line is judged to be
 
@@ -160,7 +232,9 @@ pub record Judged (stage : Stage) (rows : List Row) (line : List ℕ) : Type 0 w
   pub judged : IsJudgedIn stage result rows line new
   pub known : result ≢ Err cause.Memory
 
-five : (a b c d e : Bool) → cond a (Some row.Order) (cond b (Some row.Span) (cond c (Some row.Near) (cond d (Some row.Receivers) (cond e (Some row.NotGreatest) None)))) ≡ Some row.Memory → ⊥
+five : (a b c d e : Bool) → cond a (Some row.Order)
+    (cond b (Some row.Span) (cond c (Some row.Near)
+    (cond d (Some row.Receivers) (cond e (Some row.NotGreatest) None)))) ≡ Some row.Memory → ⊥
 five true b c d e is = absurd cc
 five false true c d e is = absurd cc
 five false false true d e is = absurd cc
@@ -170,18 +244,22 @@ five false false false false false is = absurd cc
 
 never_memory : (gap : ℕ) (rows : List Row) (x : Row) → refusal gap rows x ≡ Some row.Memory → ⊥
 unfolding refusal
-never_memory gap rows x is = five (is_refused gap rows x row.Order) (is_refused gap rows x row.Span) (is_refused gap rows x row.Near)
+never_memory gap rows x is = five (is_refused gap rows x row.Order) (is_refused gap rows x row.Span)
+    (is_refused gap rows x row.Near)
     (is_refused gap rows x row.Receivers) (is_refused gap rows x row.NotGreatest) is
 
 -- a line names a gap up to n, or none
-gap_or_none : (line : List ℕ) (n : ℕ) → n ≤ greatest_gap → ((g : ℕ) × IsGap g × (line ≡ header_of (Three g))) ⊎ ((g : ℕ) → 0 < g → g ≤ n → line ≢ header_of (Three g))
+gap_or_none : (line : List ℕ) (n : ℕ) → n ≤ greatest_gap
+    → ((g : ℕ) × IsGap g × (line ≡ header_of (Three g))) ⊎ ((g : ℕ) → 0 < g → g ≤ n
+    → line ≢ header_of (Three g))
 gap_or_none line zero h = inr (λ g some few e. absurd (omega (arith, some, few)))
 gap_or_none line (suc n) h = elim (gap_or_none line n (omega (arith, h))) [
   | inl found ↦ inl found
   | inr none ↦ elim (one_or_other line (header_of (Three (suc n)))) [
     | inl same ↦ inl (suc n, (omega arith, h), same)
     | inr other ↦ inr (λ g some few e. elim (cases_lt n g) [
-      | inl more ↦ let is : g ≡ suc n = omega (arith, more, few) in other (e ∙ ap (λ k. header_of (Three k)) is)
+      | inl more ↦ let is : g ≡ suc n = omega (arith, more, few) in
+          other (e ∙ ap (λ k. header_of (Three k)) is)
       | inr less ↦ none g some (omega (arith, less)) e
     ])
   ]
@@ -189,11 +267,29 @@ gap_or_none line (suc n) h = elim (gap_or_none line n (omega (arith, h))) [
 
 judge_header : (rows : List Row) (line : List ℕ) → Judged Header rows line
 judge_header rows line = elim (one_or_other line (header_of One)) [
-  | inl same ↦ record { result = Ok (Rows One); new = []; judged = (tt, same, refl); known = λ e. absurd cc }
+  | inl same ↦ record {
+    result = Ok (Rows One);
+    new = [];
+    judged = (tt, same, refl);
+    known =
+        λ e. absurd cc;
+  }
   | inr first ↦ elim (one_or_other line (header_of Two)) [
-    | inl same ↦ record { result = Ok (Rows Two); new = []; judged = (tt, same, refl); known = λ e. absurd cc }
+    | inl same ↦ record {
+      result = Ok (Rows Two);
+      new = [];
+      judged = (tt, same, refl);
+      known =
+          λ e. absurd cc;
+    }
     | inr second ↦ elim (gap_or_none line greatest_gap (omega arith)) [
-      | inl third ↦ record { result = Ok (Rows (Three third.0)); new = []; judged = (third.1, third.2, refl); known = λ e. absurd cc }
+      | inl third ↦ record {
+        result = Ok (Rows (Three third.0));
+        new = [];
+        judged =
+            (third.1, third.2, refl);
+        known = λ e. absurd cc;
+      }
       | inr none ↦ record {
         result = Err cause.Header;
         new = rows;
@@ -205,49 +301,133 @@ judge_header rows line = elim (one_or_other line (header_of One)) [
 ]
 
 module _ (v : Version) (rows : List Row) (line : List ℕ) (s : SpelledRow (form_of v) line) where
-  judge_why : (why : RowCause) → refusal (millis_of (gap_of v)) rows s.row ≡ Some why → IsBookRow (form_of v) s.row → Judged (Rows v) rows line
-  judge_why row.Order e is = record { result = Err cause.Order; new = rows; judged = (inr (record { row = s.row; is = is; spelled = s.line_is; refused = e }), refl); known = λ f. absurd cc }
-  judge_why row.Span e is = record { result = Err cause.Span; new = rows; judged = (inr (record { row = s.row; is = is; spelled = s.line_is; refused = e }), refl); known = λ f. absurd cc }
-  judge_why row.Near e is = record { result = Err cause.Near; new = rows; judged = (inr (record { row = s.row; is = is; spelled = s.line_is; refused = e }), refl); known = λ f. absurd cc }
-  judge_why row.Receivers e is = record { result = Err cause.Receivers; new = rows; judged = (inr (record { row = s.row; is = is; spelled = s.line_is; refused = e }), refl); known = λ f. absurd cc }
-  judge_why row.NotGreatest e is = record { result = Err cause.NotGreatest; new = rows; judged = (inr (record { row = s.row; is = is; spelled = s.line_is; refused = e }), refl); known = λ f. absurd cc }
+  judge_why : (why : RowCause) → refusal (millis_of (gap_of v)) rows s.row ≡ Some why
+      → IsBookRow (form_of v) s.row → Judged (Rows v) rows line
+  judge_why row.Order e is = record {
+    result = Err cause.Order;
+    new = rows;
+    judged =
+        (inr (record { row = s.row; is = is; spelled = s.line_is; refused = e }), refl);
+    known =
+        λ f. absurd cc;
+  }
+  judge_why row.Span e is = record {
+    result = Err cause.Span;
+    new = rows;
+    judged =
+        (inr (record { row = s.row; is = is; spelled = s.line_is; refused = e }), refl);
+    known =
+        λ f. absurd cc;
+  }
+  judge_why row.Near e is = record {
+    result = Err cause.Near;
+    new = rows;
+    judged =
+        (inr (record { row = s.row; is = is; spelled = s.line_is; refused = e }), refl);
+    known =
+        λ f. absurd cc;
+  }
+  judge_why row.Receivers e is = record {
+    result = Err cause.Receivers;
+    new = rows;
+    judged =
+        (inr (record { row = s.row; is = is; spelled = s.line_is; refused = e }), refl);
+    known =
+        λ f. absurd cc;
+  }
+  judge_why row.NotGreatest e is = record {
+    result = Err cause.NotGreatest;
+    new = rows;
+    judged =
+        (inr (record { row = s.row; is = is; spelled = s.line_is; refused = e }), refl);
+    known =
+        λ f. absurd cc;
+  }
   judge_why row.Memory e is = absurd (never_memory (millis_of (gap_of v)) rows s.row e)
 
-  judge_row : Sound (millis_of (gap_of v)) rows → (o : Option RowCause) → refusal (millis_of (gap_of v)) rows s.row ≡ o → IsBookRow (form_of v) s.row → Judged (Rows v) rows line
+  judge_row : Sound (millis_of (gap_of v)) rows → (o : Option RowCause)
+      → refusal (millis_of (gap_of v)) rows s.row ≡ o → IsBookRow (form_of v) s.row
+      → Judged (Rows v) rows line
   judge_row sound None e is = record {
     result = Ok (Rows v);
     new = rows ++ s.row ∷ [];
-    judged = (refl, s.row, is, s.line_is, refl, (none_exactly (millis_of (gap_of v)) rows s.row sound).0 e);
+    judged = (
+      refl,
+      s.row,
+      is,
+      s.line_is,
+      refl,
+      (none_exactly (millis_of (gap_of v)) rows s.row sound).0 e,
+    );
     known = λ f. absurd cc;
   }
   judge_row sound (Some why) e is = judge_why why e is
 
-  judge_frame : Sound (millis_of (gap_of v)) rows → (r : Result (List ℕ) FrameFault) → frame_of s.row.greatest.frame ≡ r → Judged (Rows v) rows line
+  judge_frame : Sound (millis_of (gap_of v)) rows → (r : Result (List ℕ) FrameFault)
+      → frame_of s.row.greatest.frame ≡ r → Judged (Rows v) rows line
   judge_frame sound (Err fault) e = record {
     result = Err cause.Frame;
     new = rows;
-    judged = (inr (record { row = s.row; is = s.is; spelled = s.line_is; refused = subst IsErr (sym e) refl }), refl);
+    judged = (
+      inr (record {
+        row = s.row;
+        is = s.is;
+        spelled = s.line_is;
+        refused =
+            subst IsErr (sym e) refl;
+      }),
+      refl,
+    );
     known = λ f. absurd cc;
   }
   judge_frame sound (Ok b) e =
-      judge_row sound (refusal (millis_of (gap_of v)) rows s.row) refl (record { spelled = s.is; frame = e ∙ ap (λ (l : List ℕ). Ok l) (frame_is s.row.greatest.frame b e) })
+      judge_row sound (refusal (millis_of (gap_of v)) rows s.row) refl
+      (record {
+        spelled = s.is;
+        frame = e
+            ∙ ap (λ (l : List ℕ). Ok l) (frame_is s.row.greatest.frame b e);
+      })
 
-judge_line : (v : Version) (rows : List Row) (line : List ℕ) → Sound (millis_of (gap_of v)) rows → Judged (Rows v) rows line
+judge_line : (v : Version) (rows : List Row) (line : List ℕ) → Sound (millis_of (gap_of v)) rows
+    → Judged (Rows v) rows line
 judge_line v rows line sound = by (is_end line) refl where
   by : (b : Bool) → is_end line ≡ b → Judged (Rows v) rows line
   by true e = elim (one_or_other line (end_line (length rows))) [
-    | inl same ↦ record { result = Ok (Done v); new = rows; judged = (refl, same, refl); known = λ f. absurd cc }
-    | inr other ↦ record { result = Err cause.Ending; new = rows; judged = (inr (e, other), refl); known = λ f. absurd cc }
+    | inl same ↦ record {
+      result = Ok (Done v);
+      new = rows;
+      judged = (refl, same, refl);
+      known =
+          λ f. absurd cc;
+    }
+    | inr other ↦ record {
+      result = Err cause.Ending;
+      new = rows;
+      judged = (inr (e, other), refl);
+      known = λ f. absurd cc;
+    }
   ]
   by false e = elim (by_fields (form_of v) line (pieces 32 line) refl) [
     | inl s ↦ judge_frame v rows line s sound (frame_of s.row.greatest.frame) refl
-    | inr none ↦ record { result = Err cause.RowSyntax; new = rows; judged = (inr (e, none), refl); known = λ f. absurd cc }
+    | inr none ↦ record {
+      result = Err cause.RowSyntax;
+      new = rows;
+      judged = (inr (e, none), refl);
+      known = λ f. absurd cc;
+    }
   ]
 
-judge : (stage : Stage) (rows : List Row) (line held : List ℕ) → HoldsIn stage rows held → Judged stage rows line
+judge : (stage : Stage) (rows : List Row) (line held : List ℕ) → HoldsIn stage rows held
+    → Judged stage rows line
 judge Header rows line held h = judge_header rows line
 judge (Rows v) rows line held h = judge_line v rows line h.sound
-judge (Done v) rows line held h = record { result = Err cause.After; new = rows; judged = (refl, refl); known = λ f. absurd cc }
+judge (Done v) rows line held h = record {
+  result = Err cause.After;
+  new = rows;
+  judged =
+      (refl, refl);
+  known = λ f. absurd cc;
+}
 
 -- ---- a text, line by line
 
@@ -260,11 +440,24 @@ record CutsLine (text : List ℕ) : Type 0 where
 cut_text : (text : List ℕ) → Lacks 10 text ⊎ CutsLine text
 cut_text [] = inl tt
 cut_text (b ∷ text) = by (cut_text text) (is_byte 10 b) refl where
-  by : Lacks 10 text ⊎ CutsLine text → (t : Bool) → is_byte 10 b ≡ t → Lacks 10 (b ∷ text) ⊎ CutsLine (b ∷ text)
-  by others true e = inr (record { line = []; more = text; is = ap (λ n. n ∷ text) (grind (arith, e)); one = tt })
+  by : Lacks 10 text ⊎ CutsLine text → (t : Bool) → is_byte 10 b ≡ t
+      → Lacks 10 (b ∷ text) ⊎ CutsLine (b ∷ text)
+  by others true e = inr (record {
+    line = [];
+    more = text;
+    is =
+        ap (λ n. n ∷ text) (grind (arith, e));
+    one = tt;
+  })
   by others false e = elim others [
     | inl lacks ↦ inl (e, lacks)
-    | inr c ↦ inr (record { line = b ∷ c.line; more = c.more; is = ap (λ l. b ∷ l) c.is; one = (e, c.one) })
+    | inr c ↦ inr (record {
+      line = b ∷ c.line;
+      more = c.more;
+      is = ap (λ l. b ∷ l) c.is;
+      one =
+          (e, c.one);
+    })
   ]
 
 -- it is a book's, or has a first fault
@@ -276,20 +469,32 @@ abbrev pub Found : List ℕ → Ending → Type 0
 Found text e = IsBookText text e ⊎ HasFault text e
 
 -- the text ends in this line
-at_end : (stage : Stage) (rows : List Row) (line t : List ℕ) (e : Ending) → StandsAfter stage rows line t → Found t e
+at_end : (stage : Stage) (rows : List Row) (line t : List ℕ) (e : Ending)
+    → StandsAfter stage rows line t → Found t e
 at_end stage rows line t e s = by (may_end stage e) refl where
   by : (b : Bool) → may_end stage e ≡ b → Found t e
-  by true may = let r = ended_whole stage rows line t e may s in inl (record { version = r.version; rows = rows; is = r.is; text_is = r.text_is; ended = r.ended })
+  by true may = let r = ended_whole stage rows line t e may s in
+      inl (record {
+        version = r.version;
+        rows = rows;
+        is = r.is;
+        text_is = r.text_is;
+        ended =
+            r.ended;
+      })
   by false may = inr (record { fault = _; first = cut_fault stage rows line t e may s })
 
 -- of a line that goes on
-goes_on : (stage : Stage) (rows : List Row) (line t : List ℕ) → (is_done stage ≡ true → ⊥) → Lacks 10 line → StandsAfter stage rows [] t → StandsAfter stage rows line (t ++ line)
-goes_on stage rows line t going one s = held_stands stage rows [] t line (undone (is_done stage) going) one s where
-  undone : (b : Bool) → (b ≡ true → ⊥) → b ≡ false
-  undone true h = absurd (h refl)
-  undone false h = refl
+goes_on : (stage : Stage) (rows : List Row) (line t : List ℕ) → (is_done stage ≡ true → ⊥)
+    → Lacks 10 line → StandsAfter stage rows [] t → StandsAfter stage rows line (t ++ line)
+goes_on stage rows line t going one s = held_stands stage rows [] t line
+    (undone (is_done stage) going) one s where
+      undone : (b : Bool) → (b ≡ true → ⊥) → b ≡ false
+      undone true h = absurd (h refl)
+      undone false h = refl
 
-after_last : (v : Version) (rows : List Row) (rest t : List ℕ) (e : Ending) → 0 < length rest → StandsAfter (Done v) rows [] t → HasFault (t ++ rest) e
+after_last : (v : Version) (rows : List Row) (rest t : List ℕ) (e : Ending) → 0 < length rest
+    → StandsAfter (Done v) rows [] t → HasFault (t ++ rest) e
 after_last v rows rest t e some s = record {
   fault = record { line = length (lines_of v rows) + 1; cause = cause.After };
   first = record {
@@ -297,15 +502,24 @@ after_last v rows rest t e some s = record {
     rest = rest;
     whole = ap (λ l. l ++ rest) (s.text_is ∙ append-nil (book_text v rows));
     line = refl;
-    fault = inr (inr (record { version = v; rows = rows; sound = s.holds.0; read = refl; fault = inl (some, refl) }));
+    fault = inr (inr (record {
+      version = v;
+      rows = rows;
+      sound = s.holds.0;
+      read = refl;
+      fault =
+          inl (some, refl);
+    }));
   };
 }
 
 abbrev FoundAfter : Ending → List ℕ → Type 0
-FoundAfter e rest = (stage : Stage) (rows : List Row) (t : List ℕ) → StandsAfter stage rows [] t → Found (t ++ rest) e
+FoundAfter e rest = (stage : Stage) (rows : List Row) (t : List ℕ) → StandsAfter stage rows [] t
+    → Found (t ++ rest) e
 
 -- one line more, and then what is found after it
-step : (e : Ending) (rest : List ℕ) (stage : Stage) (rows : List Row) (t : List ℕ) → (is_done stage ≡ true → ⊥) → StandsAfter stage rows [] t
+step : (e : Ending) (rest : List ℕ) (stage : Stage) (rows : List Row) (t : List ℕ)
+    → (is_done stage ≡ true → ⊥) → StandsAfter stage rows [] t
     → ((more : List ℕ) → length more < length rest → FoundAfter e more) → Found (t ++ rest) e
 step e rest stage rows t going s next = elim (cut_text rest) [
   | inl lacks ↦ at_end stage rows rest (t ++ rest) e (goes_on stage rows rest t going lacks s)
@@ -317,35 +531,53 @@ step e rest stage rows t going s next = elim (cut_text rest) [
   shorter : (c : CutsLine rest) → length c.more < length rest
   shorter c = let l = length-append c.line (10 ∷ c.more) in omega (arith, l, ap length c.is)
 
-  whole : (c : CutsLine rest) (r : Result Stage BookCause) (new : List Row) → StandsAfter stage rows c.line (t ++ c.line) → IsJudgedIn stage r rows c.line new → r ≢ Err cause.Memory → Found (t ++ rest) e
+  whole : (c : CutsLine rest) (r : Result Stage BookCause) (new : List Row)
+      → StandsAfter stage rows c.line (t ++ c.line) → IsJudgedIn stage r rows c.line new
+      → r ≢ Err cause.Memory → Found (t ++ rest) e
   whole c (Ok after) new stands judged known =
       subst (λ l. Found l e) (append_assoc (t ++ c.line) (10 ∷ []) c.more ∙ text_is c)
-      (next c.more (shorter c) after new ((t ++ c.line) ++ 10 ∷ []) (ended_stands stage after rows new c.line (t ++ c.line) judged stands))
-  whole c (Err k) new stands judged known = elim (ended_fault stage rows new c.line (t ++ c.line) c.more k judged stands) [
-    | inl m ↦ absurd (known (ap (λ (x : BookCause). Err x) m.refused))
-    | inr first ↦ inr (record {
-      fault = record { line = line_number stage new; cause = k };
-      first = subst (λ l. FirstFault l e (record { line = line_number stage new; cause = k })) (text_is c) (first e);
-    })
-  ]
+      (next c.more (shorter c) after new ((t ++ c.line) ++ 10 ∷ [])
+      (ended_stands stage after rows new c.line (t ++ c.line) judged stands))
+  whole c (Err k) new stands judged known = elim
+      (ended_fault stage rows new c.line (t ++ c.line) c.more k judged stands) [
+        | inl m ↦ absurd (known (ap (λ (x : BookCause). Err x) m.refused))
+        | inr first ↦ inr (record {
+          fault = record { line = line_number stage new; cause = k };
+          first = subst (λ l. FirstFault l e (record { line = line_number stage new; cause = k }))
+              (text_is c) (first e);
+        })
+      ]
 
-  by : (c : CutsLine rest) → StandsAfter stage rows c.line (t ++ c.line) → Judged stage rows c.line → Found (t ++ rest) e
+  by : (c : CutsLine rest) → StandsAfter stage rows c.line (t ++ c.line) → Judged stage rows c.line
+      → Found (t ++ rest) e
   by c stands j = whole c j.result j.new stands j.judged j.known
 
 run : (n : ℕ) (e : Ending) (rest : List ℕ) → length rest ≤ n → FoundAfter e rest
 run n e rest fits (Done v) rows t s = elim (cases_lt 0 (length rest)) [
   | inl some ↦ inr (after_last v rows rest t e some s)
-  | inr none ↦ subst (λ l. Found (t ++ l) e) (sym (nil_from_length rest (omega (arith, none)))) (at_end (Done v) rows [] (t ++ []) e (subst (λ l. StandsAfter (Done v) rows [] l) (sym (append-nil t)) s))
+  | inr none ↦ subst (λ l. Found (t ++ l) e) (sym (nil_from_length rest (omega (arith, none))))
+      (at_end (Done v) rows [] (t ++ []) e (subst (λ l. StandsAfter (Done v) rows [] l)
+      (sym (append-nil t)) s))
 ]
-run zero e rest fits Header rows t s = step e rest Header rows t (λ done. absurd (let f : false ≡ true = done in cc)) s (λ more less. absurd (omega (arith, less, fits)))
-run zero e rest fits (Rows v) rows t s = step e rest (Rows v) rows t (λ done. absurd (let f : false ≡ true = done in cc)) s (λ more less. absurd (omega (arith, less, fits)))
-run (suc n) e rest fits Header rows t s = step e rest Header rows t (λ done. absurd (let f : false ≡ true = done in cc)) s (λ more less. run n e more (omega (arith, less, fits)))
-run (suc n) e rest fits (Rows v) rows t s = step e rest (Rows v) rows t (λ done. absurd (let f : false ≡ true = done in cc)) s (λ more less. run n e more (omega (arith, less, fits)))
+run zero e rest fits Header rows t s = step e rest Header rows t
+    (λ done. absurd (let f : false ≡ true = done in cc)) s
+    (λ more less. absurd (omega (arith, less, fits)))
+run zero e rest fits (Rows v) rows t s = step e rest (Rows v) rows t
+    (λ done. absurd (let f : false ≡ true = done in cc)) s
+    (λ more less. absurd (omega (arith, less, fits)))
+run (suc n) e rest fits Header rows t s = step e rest Header rows t
+    (λ done. absurd (let f : false ≡ true = done in cc)) s
+    (λ more less. run n e more (omega (arith, less, fits)))
+run (suc n) e rest fits (Rows v) rows t s = step e rest (Rows v) rows t
+    (λ done. absurd (let f : false ≡ true = done in cc)) s
+    (λ more less. run n e more (omega (arith, less, fits)))
 
 found : (text : List ℕ) (e : Ending) → Found text e
-found text e = run (length text) e text (omega arith) Header [] [] (record { text_is = refl; one = tt; holds = refl })
+found text e = run (length text) e text (omega arith) Header [] []
+    (record { text_is = refl; one = tt; holds = refl })
 
-pub book_or_fault : (text : List ℕ) (e : Ending) → IsBookText text e ⊎ ((f : BookFault) × FirstFault text e f)
+pub book_or_fault : (text : List ℕ) (e : Ending)
+    → IsBookText text e ⊎ ((f : BookFault) × FirstFault text e f)
 book_or_fault text e = elim (found text e) [
   | inl whole ↦ inl whole
   | inr has ↦ inr (has.fault, has.first)

@@ -10,4 +10,5 @@ length-spelled digits bytes h = ap length h.digits_are ∙ length-encode_with lo
 
 pub decode_of-spelled : (digits bytes : List ℕ) → SpellsBytes digits bytes
     → decode_of digits ≡ Ok bytes
-decode_of-spelled digits bytes h = ap decode_of h.digits_are ∙ decode_of-encode_lower bytes h.bytes_are
+decode_of-spelled digits bytes h = ap decode_of h.digits_are
+    ∙ decode_of-encode_lower bytes h.bytes_are

@@ -11,13 +11,15 @@ use Rattle.aprs_booktext.specs.Reader.{IsFault}
 use Rattle.aprs_booktext.specs.declared.fault.BookFault.{BookFault}
 
 -- what was got after the head is gone from the input, and that much less may be got
-pub record Got (P : List ℕ → Type 0) (head : List ℕ) (old now : Option (List ℕ)) (limit left : ℕ) : Type 0 where
+pub record Got (P : List ℕ → Type 0) (head : List ℕ) (old now : Option (List ℕ))
+    (limit left : ℕ) : Type 0 where
   pub got : List ℕ
   pub stands : P (head ++ got)
   pub took : Consumes old now got
   pub size : length (head ++ got) + left ≡ limit
 
-pub Got-none : (P : List ℕ → Type 0) (head : List ℕ) (old : Option (List ℕ)) (limit left : ℕ) → P head → length head + left ≡ limit → Got P head old old limit left
+pub Got-none : (P : List ℕ → Type 0) (head : List ℕ) (old : Option (List ℕ)) (limit left : ℕ)
+    → P head → length head + left ≡ limit → Got P head old old limit left
 Got-none P head old limit left p size = record {
   got = [];
   stands = subst P (sym (append-nil head)) p;
@@ -25,31 +27,41 @@ Got-none P head old limit left p size = record {
   size = ap (λ l. length l + left) (append-nil head) ∙ size;
 }
 
-module _ (P : List ℕ → Type 0) (head : List ℕ) (old now : Option (List ℕ)) (limit left : ℕ) (p : Got P head old now limit left) where
+module _ (P : List ℕ → Type 0) (head : List ℕ) (old now : Option (List ℕ)) (limit left : ℕ)
+    (p : Got P head old now limit left) where
   -- one piece more
-  pub Got-more : (Q : List ℕ → Type 0) (next : Option (List ℕ)) (piece : List ℕ) (less : ℕ) → ((t : List ℕ) → P t → Q (t ++ piece)) → Consumes now next piece
+  pub Got-more : (Q : List ℕ → Type 0) (next : Option (List ℕ)) (piece : List ℕ) (less : ℕ)
+      → ((t : List ℕ) → P t → Q (t ++ piece)) → Consumes now next piece
       → less + length piece ≡ left → Got Q head old next limit less
   Got-more Q next piece less step took e = record {
     got = p.got ++ piece;
     stands = subst Q (append_assoc head p.got piece) (step (head ++ p.got) p.stands);
     took = Consumes-trans old now next p.got piece p.took took;
-    size = let len : length (head ++ (p.got ++ piece)) ≡ length (head ++ p.got) + length piece = ap length (sym (append_assoc head p.got piece)) ∙ length-append (head ++ p.got) piece in omega (arith, len, p.size, e);
+    size = let len : length (head ++ (p.got ++ piece)) ≡ length (head ++ p.got) + length piece =
+        ap length (sym (append_assoc head p.got piece))
+        ∙ length-append (head ++ p.got) piece in omega (arith, len, p.size, e);
   }
 
-  ends_so : (e : Ending) (rest : List ℕ) (after : Option (List ℕ)) → EndsSo e left [] rest after → EndsSo e limit (head ++ p.got) rest after
+  ends_so : (e : Ending) (rest : List ℕ) (after : Option (List ℕ)) → EndsSo e left [] rest after
+      → EndsSo e limit (head ++ p.got) rest after
   ends_so ending.End rest after h = (h.0, omega (arith, p.size))
   ends_so ending.Read rest after h = (h.0, omega (arith, p.size))
   ends_so ending.TooLong rest after h = (h.0, omega (arith, p.size, h.1))
 
   -- nothing more is got, since the input ends so
-  pub Gets-here : (e : Ending) (after : Option (List ℕ)) → IfSome now (λ rest. Gets left rest after [] e) → IfSome old (λ input. Gets limit (head ++ input) after (head ++ p.got) e)
+  pub Gets-here : (e : Ending) (after : Option (List ℕ))
+      → IfSome now (λ rest. Gets left rest after [] e)
+      → IfSome old (λ input. Gets limit (head ++ input) after (head ++ p.got) e)
   Gets-here e after h = here old now p.took h where
-    here : (old now : Option (List ℕ)) → Consumes old now p.got → IfSome now (λ rest. Gets left rest after [] e) → IfSome old (λ input. Gets limit (head ++ input) after (head ++ p.got) e)
+    here : (old now : Option (List ℕ)) → Consumes old now p.got
+        → IfSome now (λ rest. Gets left rest after [] e)
+        → IfSome old (λ input. Gets limit (head ++ input) after (head ++ p.got) e)
     here None now took h = tt
     here (Some input) None took h = absurd took
     here (Some input) (Some y) took h = record {
       rest = h.rest;
-      whole = ap (λ l. head ++ l) (took ∙ ap (λ l. p.got ++ l) h.whole) ∙ sym (append_assoc head p.got h.rest);
+      whole = ap (λ l. head ++ l) (took ∙ ap (λ l. p.got ++ l) h.whole)
+          ∙ sym (append_assoc head p.got h.rest);
       ends = ends_so e h.rest after h.ends;
     }
 
@@ -61,19 +73,26 @@ module _ (P : List ℕ → Type 0) (head : List ℕ) (old now : Option (List ℕ
     may (Some y) = record { rest = y; whole = refl; ends = (refl, omega arith) }
 
 -- what was got is read so
-pub Reads-got : (old after : Option (List ℕ)) (limit : ℕ) (head got : List ℕ) (e : Ending) (r : Result BookValue BookFault) → IfSome old (λ input. Gets limit (head ++ input) after (head ++ got) e)
+pub Reads-got : (old after : Option (List ℕ)) (limit : ℕ) (head got : List ℕ) (e : Ending)
+    (r : Result BookValue BookFault) → IfSome old
+    (λ input. Gets limit (head ++ input) after (head ++ got) e)
     → ReadsSo r (head ++ got) e → IfSome old (λ input. Reads limit head input after r)
 Reads-got None after limit head got e r gets reads = tt
-Reads-got (Some input) after limit head got e r gets reads = record { got = got; ending = e; gets = gets; reads = reads }
+Reads-got (Some input) after limit head got e r gets reads =
+    record { got = got; ending = e; gets = gets; reads = reads }
 
-pub fault_reads : (f : BookFault) (t : List ℕ) (e : Ending) → IsFault piece_most f t → ReadsSo (Err f) t e
+pub fault_reads : (f : BookFault) (t : List ℕ) (e : Ending) → IsFault piece_most f t
+    → ReadsSo (Err f) t e
 fault_reads f t e h = elim h [
   | inl m ↦ inl m
   | inr first ↦ inr (first e)
 ]
 
 -- a fault in what was got
-pub Reads-fault : (f : BookFault) (head : List ℕ) (old now : Option (List ℕ)) (limit left : ℕ) → Got (IsFault piece_most f) head old now limit left
+pub Reads-fault : (f : BookFault) (head : List ℕ) (old now : Option (List ℕ)) (limit left : ℕ)
+    → Got (IsFault piece_most f) head old now limit left
     → IfSome old (λ input. Reads limit head input now (Err f))
 Reads-fault f head old now limit left p =
-    Reads-got old now limit head p.got ending.Read (Err f) (Gets-read (IsFault piece_most f) head old now limit left p) (fault_reads f (head ++ p.got) ending.Read p.stands)
+    Reads-got old now limit head p.got ending.Read (Err f)
+    (Gets-read (IsFault piece_most f) head old now limit left p)
+    (fault_reads f (head ++ p.got) ending.Read p.stands)

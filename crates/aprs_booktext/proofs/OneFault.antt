@@ -30,27 +30,35 @@ use Rattle.aprs_booktext.proofs.Versions.{header_lacks, headers_differ}
 -- ---- a line is wrong in one way
 
 -- a row can't be refused in two ways
-same_why : (gap : ℕ) (form : MomentForm) (rows : List Row) (line : List ℕ) (a b : RowCause) → IsRefused gap form rows line a → IsRefused gap form rows line b → a ≡ b
+same_why : (gap : ℕ) (form : MomentForm) (rows : List Row) (line : List ℕ) (a b : RowCause)
+    → IsRefused gap form rows line a → IsRefused gap form rows line b → a ≡ b
 same_why gap form rows line a b h k =
     let same = same_row form h.row k.row h.is.spelled k.is.spelled (sym h.spelled ∙ k.spelled) in
-    let some : Some a ≡ Some b = sym h.refused ∙ ap (λ (r : Row). refusal gap rows r) same ∙ k.refused in
+    let some : Some a ≡ Some b = sym h.refused ∙ ap (λ (r : Row). refusal gap rows r) same
+    ∙ k.refused in
     cc
 
-no_frame : (gap : ℕ) (form : MomentForm) (rows : List Row) (line : List ℕ) (why : RowCause) → HasNoFrame form line → IsRefused gap form rows line why → ⊥
+no_frame : (gap : ℕ) (form : MomentForm) (rows : List Row) (line : List ℕ) (why : RowCause)
+    → HasNoFrame form line → IsRefused gap form rows line why → ⊥
 no_frame gap form rows line why h k =
     let same = same_row form h.row k.row h.is k.is.spelled (sym h.spelled ∙ k.spelled) in
-    false≢true (subst IsErr (ap (λ (r : Row). frame_of r.greatest.frame) same ∙ k.is.frame) h.refused)
+    false≢true (subst IsErr (ap (λ (r : Row). frame_of r.greatest.frame) same
+    ∙ k.is.frame) h.refused)
 
-no_end : (form : MomentForm) (line : List ℕ) (x : Row) → is_end line ≡ true → line ≡ row_line form x → ⊥
+no_end : (form : MomentForm) (line : List ℕ) (x : Row) → is_end line ≡ true → line ≡ row_line form x
+    → ⊥
 no_end form line x e is = let f : false ≡ true = sym (ap is_end is) ∙ e in absurd cc
 
 -- what each cause says, in one sum
 abbrev Wrong : ℕ → MomentForm → List Row → List ℕ → BookCause → Type 0
 Wrong gap form rows line c = ((c ≡ cause.Ending) × (is_end line ≡ true))
-    ⊎ (((c ≡ cause.RowSyntax) × (is_end line ≡ false) × ((x : Row) → IsSpelled form x → line ≢ row_line form x))
-    ⊎ (((c ≡ cause.Frame) × HasNoFrame form line) ⊎ ((why : RowCause) × (c ≡ book_cause_of why) × IsRefused gap form rows line why)))
+    ⊎ (((c ≡ cause.RowSyntax) × (is_end line ≡ false) × ((x : Row) → IsSpelled form x
+    → line ≢ row_line form x))
+    ⊎ (((c ≡ cause.Frame) × HasNoFrame form line)
+    ⊎ ((why : RowCause) × (c ≡ book_cause_of why) × IsRefused gap form rows line why)))
 
-wrong : (gap : ℕ) (form : MomentForm) (rows : List Row) (line : List ℕ) (c : BookCause) → IsWrong gap form rows line c → Wrong gap form rows line c
+wrong : (gap : ℕ) (form : MomentForm) (rows : List Row) (line : List ℕ) (c : BookCause)
+    → IsWrong gap form rows line c → Wrong gap form rows line c
 wrong gap form rows line cause.Ending w = inl (refl, w.0)
 wrong gap form rows line cause.RowSyntax w = inr (inl (refl, w.0, w.1))
 wrong gap form rows line cause.Frame w = inr (inr (inl (refl, w)))
@@ -106,7 +114,8 @@ module _ (gap : ℕ) (form : MomentForm) (rows : List Row) (line : List ℕ) (a 
             | inl t ↦ absurd (t.2 r.2.row r.2.is.spelled r.2.spelled)
             | inr k ↦ elim k [
               | inl g ↦ absurd (no_frame gap form rows line r.0 g.1 r.2)
-              | inr q ↦ r.1 ∙ ap book_cause_of (same_why gap form rows line r.0 q.0 r.2 q.2) ∙ sym q.1
+              | inr q ↦ r.1 ∙ ap book_cause_of (same_why gap form rows line r.0 q.0 r.2 q.2)
+                  ∙ sym q.1
             ]
           ]
         ]
@@ -116,15 +125,18 @@ module _ (gap : ℕ) (form : MomentForm) (rows : List Row) (line : List ℕ) (a 
 
 -- ---- equal lists and faults by their parts
 
-cons_first : (x : List ℕ) (xs : List (List ℕ)) (y : List ℕ) (ys : List (List ℕ)) → x ∷ xs ≡ y ∷ ys → x ≡ y
+cons_first : (x : List ℕ) (xs : List (List ℕ)) (y : List ℕ) (ys : List (List ℕ)) → x ∷ xs ≡ y ∷ ys
+    → x ≡ y
 cons_first x xs y ys e = cc
 
-cons_others : (x : List ℕ) (xs : List (List ℕ)) (y : List ℕ) (ys : List (List ℕ)) → x ∷ xs ≡ y ∷ ys → xs ≡ ys
+cons_others : (x : List ℕ) (xs : List (List ℕ)) (y : List ℕ) (ys : List (List ℕ)) → x ∷ xs ≡ y ∷ ys
+    → xs ≡ ys
 cons_others x xs y ys e = cc
 
 fault_is : (f g : BookFault) → f.line ≡ g.line → f.cause ≡ g.cause → f ≡ g
 fault_is f g line why =
-    let first : f ≡ record { line = g.line; cause = f.cause } = ap (λ n. record { line = n; cause = f.cause }) line in
+    let first : f ≡ record { line = g.line; cause = f.cause } =
+    ap (λ n. record { line = n; cause = f.cause }) line in
     first ∙ ap (λ c. record { line = g.line; cause = c }) why
 
 -- ---- two prefixes of one text
@@ -138,26 +150,65 @@ record GoesOn (a b : List (List ℕ)) (rest : List ℕ) : Type 0 where
   one : Lacks 10 line
   text_is : rest ≡ line ++ 10 ∷ tail
 
-two_prefixes : (a b : List (List ℕ)) (r s : List ℕ) → AllByRecursion (Lacks 10) a → AllByRecursion (Lacks 10) b → text_of_lines a ++ r ≡ text_of_lines b ++ s
+two_prefixes : (a b : List (List ℕ)) (r s : List ℕ) → AllByRecursion (Lacks 10) a
+    → AllByRecursion (Lacks 10) b → text_of_lines a ++ r ≡ text_of_lines b ++ s
     → ((a ≡ b) × (r ≡ s)) ⊎ (GoesOn a b r ⊎ GoesOn b a s)
 two_prefixes [] [] r s h k e = inl (refl, e)
-two_prefixes [] (y ∷ b) r s h k e = inr (inl (record { line = y; more = b; tail = text_of_lines b ++ s; is = refl; one = k.0; text_is = e ∙ line_first y b s }))
-two_prefixes (x ∷ a) [] r s h k e = inr (inr (record { line = x; more = a; tail = text_of_lines a ++ r; is = refl; one = h.0; text_is = sym e ∙ line_first x a r }))
+two_prefixes [] (y ∷ b) r s h k e = inr (inl (record {
+  line = y;
+  more = b;
+  tail =
+      text_of_lines b ++ s;
+  is = refl;
+  one = k.0;
+  text_is = e ∙ line_first y b s;
+}))
+two_prefixes (x ∷ a) [] r s h k e = inr (inr (record {
+  line = x;
+  more = a;
+  tail =
+      text_of_lines a ++ r;
+  is = refl;
+  one = h.0;
+  text_is = sym e ∙ line_first x a r;
+}))
 two_prefixes (x ∷ a) (y ∷ b) r s h k e =
-    let t = same_line 10 x (text_of_lines a ++ r) y (text_of_lines b ++ s) h.0 k.0 (sym (line_first x a r) ∙ e ∙ line_first y b s) in
+    let t = same_line 10 x (text_of_lines a ++ r) y (text_of_lines b ++ s) h.0 k.0
+    (sym (line_first x a r) ∙ e ∙ line_first y b s) in
     elim (two_prefixes a b r s h.1 k.1 t.1) [
       | inl same ↦ inl (ap (λ z. z ∷ a) t.0 ∙ ap (λ l. y ∷ l) same.0, same.1)
       | inr on ↦ elim on [
-        | inl f ↦ inr (inl (record { line = f.line; more = f.more; tail = f.tail; is = ap (λ l. y ∷ l) f.is ∙ ap (λ z. z ∷ (a ++ f.line ∷ f.more)) (sym t.0); one = f.one; text_is = f.text_is }))
-        | inr g ↦ inr (inr (record { line = g.line; more = g.more; tail = g.tail; is = ap (λ l. x ∷ l) g.is ∙ ap (λ z. z ∷ (b ++ g.line ∷ g.more)) t.0; one = g.one; text_is = g.text_is }))
+        | inl f ↦ inr (inl (record {
+          line = f.line;
+          more = f.more;
+          tail = f.tail;
+          is =
+              ap (λ l. y ∷ l) f.is ∙ ap (λ z. z ∷ (a ++ f.line ∷ f.more)) (sym t.0);
+          one = f.one;
+          text_is = f.text_is;
+        }))
+        | inr g ↦ inr (inr (record {
+          line = g.line;
+          more = g.more;
+          tail = g.tail;
+          is =
+              ap (λ l. x ∷ l) g.is ∙ ap (λ z. z ∷ (b ++ g.line ∷ g.more)) t.0;
+          one = g.one;
+          text_is =
+              g.text_is;
+        }))
       ]
     ]
 
 -- ---- the lines of rows
 
-rows_lack : (form : MomentForm) (rows : List Row) (last : List (List ℕ)) → All (IsBookRow form) rows → AllByRecursion (Lacks 10) last → AllByRecursion (Lacks 10) (map (row_line form) rows ++ last)
+rows_lack : (form : MomentForm) (rows : List Row) (last : List (List ℕ)) → All (IsBookRow form) rows
+    → AllByRecursion (Lacks 10) last → AllByRecursion (Lacks 10) (map (row_line form) rows ++ last)
 rows_lack form [] last h k = k
-rows_lack form (x ∷ rows) last h k = (row_lacks form x (All-head (IsBookRow form) x rows h).spelled, rows_lack form rows last (All-tail (IsBookRow form) x rows h) k)
+rows_lack form (x ∷ rows) last h k = (
+  row_lacks form x (All-head (IsBookRow form) x rows h).spelled,
+  rows_lack form rows last (All-tail (IsBookRow form) x rows h) k,
+)
 
 -- rows that go on with a row
 record RowsGoOn (form : MomentForm) (a b : List Row) (line : List ℕ) : Type 0 where
@@ -167,45 +218,86 @@ record RowsGoOn (form : MomentForm) (a b : List Row) (line : List ℕ) : Type 0 
   line_is : line ≡ row_line form row_is
 
 -- the lines of some rows, then this line, are those of others
-rows_on : (form : MomentForm) (a b : List Row) (line : List ℕ) (more : List (List ℕ)) → All (IsBookRow form) a → All (IsBookRow form) b → map (row_line form) b ≡ map (row_line form) a ++ line ∷ more → RowsGoOn form a b line
+rows_on : (form : MomentForm) (a b : List Row) (line : List ℕ) (more : List (List ℕ))
+    → All (IsBookRow form) a → All (IsBookRow form) b
+    → map (row_line form) b ≡ map (row_line form) a ++ line ∷ more → RowsGoOn form a b line
 rows_on form [] [] line more h k e = absurd (let l = ap length e in omega (arith, l))
-rows_on form [] (y ∷ b) line more h k e = record { row_is = y; more = b; is = refl; line_is = (let f : row_line form y ≡ line = cc in sym f) }
+rows_on form [] (y ∷ b) line more h k e = record {
+  row_is = y;
+  more = b;
+  is = refl;
+  line_is =
+      (let f : row_line form y ≡ line = cc in sym f);
+}
 rows_on form (x ∷ a) [] line more h k e = absurd (let l = ap length e in omega (arith, l))
 rows_on form (x ∷ a) (y ∷ b) line more h k e =
     let first : row_line form y ≡ row_line form x = cc in
     let others : map (row_line form) b ≡ map (row_line form) a ++ line ∷ more = cc in
-    let same : y ≡ x = same_row form y x (All-head (IsBookRow form) y b k).spelled (All-head (IsBookRow form) x a h).spelled first in
-    let r = rows_on form a b line more (All-tail (IsBookRow form) x a h) (All-tail (IsBookRow form) y b k) others in
-    record { row_is = r.row_is; more = r.more; is = ap (λ l. y ∷ l) r.is ∙ ap (λ z. z ∷ (a ++ r.row_is ∷ r.more)) same; line_is = r.line_is }
+    let same : y ≡ x = same_row form y x (All-head (IsBookRow form) y b k).spelled
+    (All-head (IsBookRow form) x a h).spelled first in
+    let r = rows_on form a b line more (All-tail (IsBookRow form) x a h)
+    (All-tail (IsBookRow form) y b k) others in
+    record {
+      row_is = r.row_is;
+      more = r.more;
+      is = ap (λ l. y ∷ l) r.is
+          ∙ ap (λ z. z ∷ (a ++ r.row_is ∷ r.more)) same;
+      line_is = r.line_is;
+    }
 
 -- the same with a last line
-end_on : (form : MomentForm) (a b : List Row) (n : ℕ) (line : List ℕ) (more : List (List ℕ)) → All (IsBookRow form) a → All (IsBookRow form) b → map (row_line form) b ++ end_line n ∷ [] ≡ map (row_line form) a ++ line ∷ more
+end_on : (form : MomentForm) (a b : List Row) (n : ℕ) (line : List ℕ) (more : List (List ℕ))
+    → All (IsBookRow form) a → All (IsBookRow form) b
+    → map (row_line form) b ++ end_line n ∷ [] ≡ map (row_line form) a ++ line ∷ more
     → RowsGoOn form a b line ⊎ ((a ≡ b) × (line ≡ end_line n))
 end_on form [] [] n line more h k e = inr (refl, (let f : end_line n ≡ line = cc in sym f))
-end_on form [] (y ∷ b) n line more h k e = inl (record { row_is = y; more = b; is = refl; line_is = (let f : row_line form y ≡ line = cc in sym f) })
-end_on form (x ∷ a) [] n line more h k e = absurd (let f : end_line n ≡ row_line form x = cc in end_is_row form n x f)
+end_on form [] (y ∷ b) n line more h k e = inl
+    (record {
+      row_is = y;
+      more = b;
+      is = refl;
+      line_is =
+          (let f : row_line form y ≡ line = cc in sym f);
+    })
+end_on form (x ∷ a) [] n line more h k e = absurd (let f : end_line n ≡ row_line form x = cc in
+    end_is_row form n x f)
 end_on form (x ∷ a) (y ∷ b) n line more h k e =
     let first : row_line form y ≡ row_line form x = cc in
-    let others : map (row_line form) b ++ end_line n ∷ [] ≡ map (row_line form) a ++ line ∷ more = cc in
-    let same : y ≡ x = same_row form y x (All-head (IsBookRow form) y b k).spelled (All-head (IsBookRow form) x a h).spelled first in
-    elim (end_on form a b n line more (All-tail (IsBookRow form) x a h) (All-tail (IsBookRow form) y b k) others) [
-      | inl r ↦ inl (record { row_is = r.row_is; more = r.more; is = ap (λ l. y ∷ l) r.is ∙ ap (λ z. z ∷ (a ++ r.row_is ∷ r.more)) same; line_is = r.line_is })
+    let others : map (row_line form) b ++ end_line n ∷ [] ≡ map (row_line form) a ++ line ∷ more =
+    cc in
+    let same : y ≡ x = same_row form y x (All-head (IsBookRow form) y b k).spelled
+    (All-head (IsBookRow form) x a h).spelled first in
+    elim (end_on form a b n line more (All-tail (IsBookRow form) x a h)
+    (All-tail (IsBookRow form) y b k) others) [
+      | inl r ↦ inl (record {
+        row_is = r.row_is;
+        more = r.more;
+        is = ap (λ l. y ∷ l) r.is
+            ∙ ap (λ z. z ∷ (a ++ r.row_is ∷ r.more)) same;
+        line_is = r.line_is;
+      })
       | inr last ↦ inr (ap (λ l. x ∷ l) last.0 ∙ ap (λ z. z ∷ b) (sym same), last.1)
     ]
 
-same_rows : (form : MomentForm) (a b : List Row) → All (IsBookRow form) a → All (IsBookRow form) b → map (row_line form) a ≡ map (row_line form) b → a ≡ b
+same_rows : (form : MomentForm) (a b : List Row) → All (IsBookRow form) a → All (IsBookRow form) b
+    → map (row_line form) a ≡ map (row_line form) b → a ≡ b
 same_rows form [] [] h k e = refl
 same_rows form [] (y ∷ b) h k e = absurd (let l = ap length e in omega (arith, l))
 same_rows form (x ∷ a) [] h k e = absurd (let l = ap length e in omega (arith, l))
 same_rows form (x ∷ a) (y ∷ b) h k e =
     let first : row_line form x ≡ row_line form y = cc in
     let others : map (row_line form) a ≡ map (row_line form) b = cc in
-    let same = same_row form x y (All-head (IsBookRow form) x a h).spelled (All-head (IsBookRow form) y b k).spelled first in
-    ap (λ z. z ∷ a) same ∙ ap (λ l. y ∷ l) (same_rows form a b (All-tail (IsBookRow form) x a h) (All-tail (IsBookRow form) y b k) others)
+    let same = same_row form x y (All-head (IsBookRow form) x a h).spelled
+    (All-head (IsBookRow form) y b k).spelled first in
+    ap (λ z. z ∷ a) same ∙ ap (λ l. y ∷ l) (same_rows form a b (All-tail (IsBookRow form) x a h)
+    (All-tail (IsBookRow form) y b k) others)
 
 -- a last line is none of the rows'
-no_last : (form : MomentForm) (a b : List Row) (n : ℕ) (more : List (List ℕ)) → All (IsBookRow form) a → All (IsBookRow form) b → map (row_line form) b ≡ map (row_line form) a ++ end_line n ∷ more → ⊥
-no_last form a b n more h k e = let r = rows_on form a b (end_line n) more h k e in end_is_row form n r.row_is r.line_is
+no_last : (form : MomentForm) (a b : List Row) (n : ℕ) (more : List (List ℕ))
+    → All (IsBookRow form) a → All (IsBookRow form) b
+    → map (row_line form) b ≡ map (row_line form) a ++ end_line n ∷ more → ⊥
+no_last form a b n more h k e = let r = rows_on form a b (end_line n) more h k e in
+    end_is_row form n r.row_is r.line_is
 
 -- ---- no line that was read has an LF
 
@@ -226,14 +318,18 @@ lines_lack lines rest text e c small whole h = elim h [
   in_rows h =
       let v = h.version in
       let all = rows_lack (form_of v) h.rows [] h.sound.each tt in
-      subst (AllByRecursion (Lacks 10)) (sym h.read)
-      (header_lacks v h.sound.version, subst (AllByRecursion (Lacks 10)) (append-nil (lines_in v h.rows)) all)
+      subst (AllByRecursion (Lacks 10)) (sym h.read) (
+        header_lacks v h.sound.version,
+        subst (AllByRecursion (Lacks 10))
+            (append-nil (lines_in v h.rows)) all,
+      )
 
   in_book : PastEnd lines rest e c → AllByRecursion (Lacks 10) lines
   in_book h =
       let v = h.version in
       let rows = h.rows in
-      let all : length (lines_of v rows) ≡ length (lines_in v rows) + 2 = simp length-append (omega arith) in
+      let all : length (lines_of v rows) ≡ length (lines_in v rows) + 2 =
+      simp length-append (omega arith) in
       let few : length lines ≤ length (text_of_lines lines) = lines_few lines in
       let size : length text ≡ length (text_of_lines lines) + length rest
       = ap length whole ∙ length-append (text_of_lines lines) rest in
@@ -242,7 +338,8 @@ lines_lack lines rest text e c small whole h = elim h [
       = omega (arith, all, few, size, count, small, length-map rows (row_line (form_of v))) in
       subst (AllByRecursion (Lacks 10)) (sym h.read) (
         header_lacks v h.sound.version,
-        rows_lack (form_of v) rows (end_line (length rows) ∷ []) h.sound.each (end_lacks (length rows) n, tt),
+        rows_lack (form_of v) rows (end_line (length rows) ∷ []) h.sound.each
+            (end_lacks (length rows) n, tt),
       )
 
 -- ---- no prefix goes on after a fault
@@ -327,7 +424,8 @@ same_version lines v more h is e =
     headers_differ h.version v h.is is
     (cons_first (header_of h.version) h.more (header_of v) more (sym h.lines_are ∙ e))
 
-module _ (lines b : List (List ℕ)) (rest other : List ℕ) (e : Ending) (c d : BookCause) (k : FaultAfter b other e d) (on : GoesOn lines b rest) where
+module _ (lines b : List (List ℕ)) (rest other : List ℕ) (e : Ending) (c d : BookCause)
+    (k : FaultAfter b other e d) (on : GoesOn lines b rest) where
   after_start : lines ≡ [] → HeaderFault rest e c → ⊥
   after_start none h = elim h [
     | inl cut ↦ not_cut rest on.line on.tail e c on.text_is cut
@@ -335,8 +433,10 @@ module _ (lines b : List (List ℕ)) (rest other : List ℕ) (e : Ending) (c d :
         let whole : b ≡ on.line ∷ on.more = on.is ∙ ap (λ l. l ++ on.line ∷ on.more) none in
         let first = some_header b other on.line on.more e d k whole in
         let header : on.line ≡ header_of first.version
-        = cons_first on.line on.more (header_of first.version) first.more (sym whole ∙ first.lines_are) in
-        let same = same_line 10 w.line w.more on.line on.tail w.one on.one (sym w.is ∙ on.text_is) in
+        = cons_first on.line on.more (header_of first.version) first.more (sym whole
+        ∙ first.lines_are) in
+        let same = same_line 10 w.line w.more on.line on.tail w.one on.one (sym w.is
+        ∙ on.text_is) in
         w.holds.0 first.version first.is (same.0 ∙ header)
   ]
 
@@ -347,22 +447,26 @@ module _ (lines b : List (List ℕ)) (rest other : List ℕ) (e : Ending) (c d :
       in_rows : AmongRows b other e d → (others : List Row) × IsBookRows v others
           × (lines_in v others ≡ lines_in v rows ++ more)
       in_rows h =
-          let same = same_version b v (lines_in v rows ++ more) (row_header b other e d h) is.version whole in
+          let same = same_version b v (lines_in v rows ++ more)
+          (row_header b other e d h) is.version whole in
           let read = subst (λ (u : Version). b ≡ header_of u ∷ lines_in u h.rows) same h.read in (
             h.rows,
             subst (λ (u : Version). IsBookRows u h.rows) same h.sound,
-            cons_others (header_of v) (lines_in v h.rows) (header_of v) (lines_in v rows ++ more) (sym read ∙ whole),
+            cons_others (header_of v) (lines_in v h.rows) (header_of v) (lines_in v rows ++ more)
+                (sym read ∙ whole),
           )
 
       in_book : PastEnd b other e d → (others : List Row) × IsBookRows v others
           × (lines_in v others ++ end_line (length others) ∷ [] ≡ lines_in v rows ++ more)
       in_book h =
-          let same = same_version b v (lines_in v rows ++ more) (end_header b other e d h) is.version whole in
+          let same = same_version b v (lines_in v rows ++ more)
+          (end_header b other e d h) is.version whole in
           let read = subst (λ (u : Version). b ≡ lines_of u h.rows) same h.read in
           let last = end_line (length h.rows) ∷ [] in (
             h.rows,
             subst (λ (u : Version). IsBookRows u h.rows) same h.sound,
-            cons_others (header_of v) (lines_in v h.rows ++ last) (header_of v) (lines_in v rows ++ more) (sym read ∙ whole),
+            cons_others (header_of v) (lines_in v h.rows ++ last) (header_of v)
+                (lines_in v rows ++ more) (sym read ∙ whole),
           )
 
     after_rows : lines ≡ header_of v ∷ lines_in v rows → LineFault v rows rest e c → ⊥
@@ -376,15 +480,18 @@ module _ (lines b : List (List ℕ)) (rest other : List ℕ) (e : Ending) (c d :
             let r = in_book (on.line ∷ on.more) whole past in
             elim (end_on (form_of v) rows r.0 (length r.0) on.line on.more is.each r.1.each r.2) [
               | inl more ↦ further r.0 r.1 more
-              | inr last ↦ wrong_at_end v rows r.0 on.line rest on.tail e c last.0 last.1 on.text_is on.one h
+              | inr last ↦ wrong_at_end v rows r.0 on.line rest on.tail e c last.0 last.1 on.text_is
+                  on.one h
             ]
       ]
     ] where
       whole : b ≡ header_of v ∷ (lines_in v rows ++ on.line ∷ on.more)
       whole = on.is ∙ ap (λ l. l ++ on.line ∷ on.more) read
 
-      further : (others : List Row) → IsBookRows v others → RowsGoOn (form_of v) rows others on.line → ⊥
-      further others book more = wrong_on v rows others on.line rest on.tail e c book more on.text_is on.one h
+      further : (others : List Row) → IsBookRows v others → RowsGoOn (form_of v) rows others on.line
+          → ⊥
+      further others book more = wrong_on v rows others on.line rest on.tail e c book more
+          on.text_is on.one h
 
     after_end : lines ≡ lines_of v rows → ⊥
     after_end read = elim k [
@@ -393,24 +500,37 @@ module _ (lines b : List (List ℕ)) (rest other : List ℕ) (e : Ending) (c d :
         | inl among ↦
             let r = in_rows (end_line (length rows) ∷ on.line ∷ on.more) whole among in
             no_last (form_of v) rows r.0 (length rows) (on.line ∷ on.more) is.each r.1.each r.2
-        | inr past ↦ let r = in_book (end_line (length rows) ∷ on.line ∷ on.more) whole past in ends_twice r.0 r.1 r.2
+        | inr past ↦ let r = in_book (end_line (length rows) ∷ on.line ∷ on.more) whole past in
+            ends_twice r.0 r.1 r.2
       ]
     ] where
       whole : b ≡ header_of v ∷ (lines_in v rows ++ end_line (length rows) ∷ on.line ∷ on.more)
       whole = on.is ∙ ap (λ l. l ++ on.line ∷ on.more) read
-          ∙ ap (λ l. header_of v ∷ l) (append_assoc (lines_in v rows) (end_line (length rows) ∷ []) (on.line ∷ on.more))
+          ∙ ap (λ l. header_of v ∷ l) (append_assoc (lines_in v rows) (end_line (length rows) ∷ [])
+          (on.line ∷ on.more))
 
       ends_twice : (others : List Row) → IsBookRows v others
-          → lines_in v others ++ end_line (length others) ∷ [] ≡ lines_in v rows ++ end_line (length rows) ∷ on.line ∷ on.more → ⊥
+          → lines_in v others ++ end_line (length others) ∷ [] ≡ lines_in v rows
+          ++ end_line (length rows) ∷ on.line ∷ on.more → ⊥
       ends_twice others book tails =
-          elim (end_on (form_of v) rows others (length others) (end_line (length rows)) (on.line ∷ on.more) is.each book.each tails) [
+          elim (end_on (form_of v) rows others (length others) (end_line (length rows))
+          (on.line ∷ on.more) is.each book.each tails) [
             | inl r ↦ end_is_row (form_of v) (length rows) r.row_is r.line_is
             | inr last ↦
                 let l = ap length tails in
                 let left = length-append (lines_in v others) (end_line (length others) ∷ []) in
-                let right = length-append (lines_in v rows) (end_line (length rows) ∷ on.line ∷ on.more) in
+                let right = length-append (lines_in v rows)
+                (end_line (length rows) ∷ on.line ∷ on.more) in
                 let count = length-map rows (row_line (form_of v)) in
-                omega (arith, l, left, right, count, length-map others (row_line (form_of v)), ap length last.0)
+                omega (
+                  arith,
+                  l,
+                  left,
+                  right,
+                  count,
+                  length-map others (row_line (form_of v)),
+                  ap length last.0,
+                )
           ]
 
   no_further : FaultAfter lines rest e c → ⊥
@@ -437,7 +557,8 @@ module _ (rest : List ℕ) (e : Ending) (c d : BookCause) where
     ]
   ]
 
-  rows_once : (v : Version) (rows : List Row) → LineFault v rows rest e c → LineFault v rows rest e d
+  rows_once : (v : Version) (rows : List Row) → LineFault v rows rest e c
+      → LineFault v rows rest e d
       → c ≡ d
   rows_once v rows h k = elim h [
     | inl cut ↦ elim k [
@@ -449,7 +570,8 @@ module _ (rest : List ℕ) (e : Ending) (c d : BookCause) where
       | inr z ↦
           let gap = millis_of (gap_of v) in
           let form = form_of v in
-          let line : z.line ≡ w.line = (same_line 10 z.line z.more w.line w.more z.one w.one (sym z.is ∙ w.is)).0 in
+          let line : z.line ≡ w.line = (same_line 10 z.line z.more w.line w.more z.one w.one
+          (sym z.is ∙ w.is)).0 in
           spelled_twice gap form rows w.line c d (wrong gap form rows w.line c w.holds)
           (wrong gap form rows w.line d (subst (λ l. IsWrong gap form rows l d) line z.holds))
     ]
@@ -472,25 +594,29 @@ module _ (rest : List ℕ) (e : Ending) (c d : BookCause) where
     among_once : AmongRows lines rest e c → AmongRows lines rest e d → c ≡ d
     among_once h k =
         let v = h.version in
-        let same = same_version lines v (lines_in v h.rows) (row_header lines rest e d k) h.sound.version h.read in
+        let same = same_version lines v (lines_in v h.rows)
+        (row_header lines rest e d k) h.sound.version h.read in
         let sound = subst (λ (u : Version). IsBookRows u k.rows) same k.sound in
         let read = subst (λ (u : Version). lines ≡ header_of u ∷ lines_in u k.rows) same k.read in
         let fault = subst (λ (u : Version). LineFault u k.rows rest e d) same k.fault in
         let rows : k.rows ≡ h.rows
         = same_rows (form_of v) k.rows h.rows sound.each h.sound.each
-        (cons_others (header_of v) (lines_in v k.rows) (header_of v) (lines_in v h.rows) (sym read ∙ h.read)) in
+        (cons_others (header_of v) (lines_in v k.rows) (header_of v) (lines_in v h.rows) (sym read
+        ∙ h.read)) in
         rows_once v h.rows h.fault (subst (λ (r : List Row). LineFault v r rest e d) rows fault)
 
     -- lines that end with a row's are not a book's
     not_both : (a b : BookCause) → AmongRows lines rest e a → PastEnd lines rest e b → ⊥
     not_both a b h k =
         let v = h.version in
-        let same = same_version lines v (lines_in v h.rows) (end_header lines rest e b k) h.sound.version h.read in
+        let same = same_version lines v (lines_in v h.rows)
+        (end_header lines rest e b k) h.sound.version h.read in
         let sound = subst (λ (u : Version). IsBookRows u k.rows) same k.sound in
         let read = subst (λ (u : Version). lines ≡ lines_of u k.rows) same k.read in
         let last = end_line (length k.rows) ∷ [] in
         no_last (form_of v) k.rows h.rows (length k.rows) [] sound.each h.sound.each
-        (cons_others (header_of v) (lines_in v h.rows) (header_of v) (lines_in v k.rows ++ last) (sym h.read ∙ read))
+        (cons_others (header_of v) (lines_in v h.rows) (header_of v) (lines_in v k.rows ++ last)
+        (sym h.read ∙ read))
 
     one_cause : FaultAfter lines rest e c → FaultAfter lines rest e d → c ≡ d
     one_cause h k = elim h [
@@ -531,8 +657,10 @@ one_fault text e f g small h k =
           (subst (λ l. FaultAfter l k.rest e g.cause) (sym same.0) k.fault) in
           fault_is f g line (one_cause h.rest e f.cause g.cause h.lines h.fault other)
       | inr on ↦ absurd (elim on [
-        | inl further ↦ no_further h.lines k.lines h.rest k.rest e f.cause g.cause k.fault further h.fault
-        | inr further ↦ no_further k.lines h.lines k.rest h.rest e g.cause f.cause h.fault further k.fault
+        | inl further ↦ no_further h.lines k.lines h.rest k.rest e f.cause g.cause k.fault further
+            h.fault
+        | inr further ↦ no_further k.lines h.lines k.rest h.rest e g.cause f.cause h.fault further
+            k.fault
       ])
     ] where
       first : AllByRecursion (Lacks 10) h.lines

@@ -28,52 +28,67 @@ pub Puts-sent : {a b : Option (List ℕ)} {h i : List ℕ} → Appends a b h →
 Puts-sent {a} {b} {h} {i} p e = record { gone = h; parts = ap (λ l. h ++ l) (sym e); sent = p }
 
 -- two texts, one after another
-pub Puts-then : {a b c : Option (List ℕ)} {h i j x y : List ℕ} → Puts a b h i x → Puts b c i j y → Puts a c h j (x ++ y)
+pub Puts-then : {a b c : Option (List ℕ)} {h i j x y : List ℕ} → Puts a b h i x → Puts b c i j y
+    → Puts a c h j (x ++ y)
 Puts-then {a} {b} {c} {h} {i} {j} {x} {y} p q = record {
   gone = p.gone ++ q.gone;
-  parts = sym (append_assoc h x y) ∙ ap (λ l. l ++ y) p.parts ∙ append_assoc p.gone i y ∙ ap (λ l. p.gone ++ l) q.parts ∙ sym (append_assoc p.gone q.gone j);
+  parts = sym (append_assoc h x y) ∙ ap (λ l. l ++ y) p.parts ∙ append_assoc p.gone i y
+      ∙ ap (λ l. p.gone ++ l) q.parts ∙ sym (append_assoc p.gone q.gone j);
   sent = Appends-trans a b c p.gone q.gone p.sent q.sent;
 }
 
 -- the first of two failed
-pub prefix_of_first : (a b : Option (List ℕ)) (h x y : List ℕ) → AppendsPrefix a b (h ++ x) → AppendsPrefix a b (h ++ (x ++ y))
-prefix_of_first a b h x y p = subst (AppendsPrefix a b) (append_assoc h x y) (AppendsPrefix-more a b (h ++ x) y p)
+pub prefix_of_first : (a b : Option (List ℕ)) (h x y : List ℕ) → AppendsPrefix a b (h ++ x)
+    → AppendsPrefix a b (h ++ (x ++ y))
+prefix_of_first a b h x y p = subst (AppendsPrefix a b) (append_assoc h x y)
+    (AppendsPrefix-more a b (h ++ x) y p)
 
 -- the second of two failed
-pub prefix_of_second : (a b c : Option (List ℕ)) (h i x y : List ℕ) → Puts a b h i x → AppendsPrefix b c (i ++ y) → AppendsPrefix a c (h ++ (x ++ y))
+pub prefix_of_second : (a b c : Option (List ℕ)) (h i x y : List ℕ) → Puts a b h i x
+    → AppendsPrefix b c (i ++ y) → AppendsPrefix a c (h ++ (x ++ y))
 prefix_of_second a b c h i x y p q =
-    subst (AppendsPrefix a c) (sym (sym (append_assoc h x y) ∙ ap (λ l. l ++ y) p.parts ∙ append_assoc p.gone i y)) (AppendsPrefix-then a b c p.gone (i ++ y) p.sent q)
+    subst (AppendsPrefix a c) (sym (sym (append_assoc h x y) ∙ ap (λ l. l ++ y) p.parts
+    ∙ append_assoc p.gone i y)) (AppendsPrefix-then a b c p.gone (i ++ y) p.sent q)
 
 -- ---- pieces one after another
 
-module _ {X : Type 0} (f : X → List ℕ) (xs : List X) (i : ℕ) (x : X) (lt : i < length xs) (is : x ≡ get_or xs i x)
-    (a b c : Option (List ℕ)) (h k : List ℕ) (p : Puts a b h k (flat_map f (take i xs))) (piece : List ℕ) (piece_is : piece ≡ f x) where
+module _ {X : Type 0} (f : X → List ℕ) (xs : List X) (i : ℕ) (x : X) (lt : i < length xs)
+    (is : x ≡ get_or xs i x)
+    (a b c : Option (List ℕ)) (h k : List ℕ) (p : Puts a b h k (flat_map f (take i xs)))
+    (piece : List ℕ) (piece_is : piece ≡ f x) where
   at_piece : xs ≡ take i xs ++ x ∷ drop (i + 1) xs
   at_piece =
-      let rest : drop i xs ≡ x ∷ drop (i + 1) xs = rw (add-one, drop-cons xs i x) (ap (λ y. y ∷ drop (suc i) xs) (sym is)) in
+      let rest : drop i xs ≡ x ∷ drop (i + 1) xs =
+      rw (add-one, drop-cons xs i x) (ap (λ y. y ∷ drop (suc i) xs) (sym is)) in
       sym (take-append-drop i xs) ∙ ap (λ ys. take i xs ++ ys) rest
 
   -- one piece more
   pub Puts-more : (j : List ℕ) → Puts b c k j piece → Puts a c h j (flat_map f (take (i + 1) xs))
   Puts-more j q =
-      subst (Puts a c h j) (flat_map_more f [] (take i xs) x ∙ ap (flat_map f) (ap (λ y. take i xs ++ y ∷ []) is ∙ sym (take_more xs i x lt)))
+      subst (Puts a c h j) (flat_map_more f [] (take i xs) x
+      ∙ ap (flat_map f) (ap (λ y. take i xs ++ y ∷ []) is ∙ sym (take_more xs i x lt)))
       (Puts-then p (subst (Puts b c k j) piece_is q))
 
   -- a piece failed
   pub prefix_of_piece : AppendsPrefix b c (k ++ piece) → AppendsPrefix a c (h ++ flat_map f xs)
   prefix_of_piece q =
-      let whole : flat_map f xs ≡ flat_map f (take i xs) ++ (f x ++ flat_map f (drop (i + 1) xs)) = ap (flat_map f) at_piece ∙ flat_map-append f (take i xs) (x ∷ drop (i + 1) xs) in
+      let whole : flat_map f xs ≡ flat_map f (take i xs) ++ (f x ++ flat_map f (drop (i + 1) xs)) =
+      ap (flat_map f) at_piece ∙ flat_map-append f (take i xs) (x ∷ drop (i + 1) xs) in
       let prefix = subst (λ t. AppendsPrefix b c (k ++ t)) piece_is q in
       subst (λ t. AppendsPrefix a c (h ++ t)) (sym whole)
-      (prefix_of_second a b c h k (flat_map f (take i xs)) (f x ++ flat_map f (drop (i + 1) xs)) p (prefix_of_first b c k (f x) (flat_map f (drop (i + 1) xs)) prefix))
+      (prefix_of_second a b c h k (flat_map f (take i xs)) (f x ++ flat_map f (drop (i + 1) xs)) p
+      (prefix_of_first b c k (f x) (flat_map f (drop (i + 1) xs)) prefix))
 
 -- the pieces of a prefix of all went out
-pub record PutSoFar {X : Type 0} (f : X → List ℕ) (old new : Option (List ℕ)) (held left : List ℕ) (all rest : List X) : Type 0 where
+pub record PutSoFar {X : Type 0} (f : X → List ℕ) (old new : Option (List ℕ)) (held left : List ℕ)
+    (all rest : List X) : Type 0 where
   pub prefix : List X
   pub whole : all ≡ prefix ++ rest
   pub put : Puts old new held left (flat_map f prefix)
 
-module _ {X : Type 0} (f : X → List ℕ) (a b c : Option (List ℕ)) (h k : List ℕ) (all rest more : List X) (x : X) (p : PutSoFar f a b h k all rest) (next : rest ≡ x ∷ more) where
+module _ {X : Type 0} (f : X → List ℕ) (a b c : Option (List ℕ)) (h k : List ℕ)
+    (all rest more : List X) (x : X) (p : PutSoFar f a b h k all rest)
+    (next : rest ≡ x ∷ more) where
   pub PutSoFar-more : (j : List ℕ) → Puts b c k j (f x) → PutSoFar f a c h j all more
   PutSoFar-more j q = record {
     prefix = p.prefix ++ x ∷ [];
@@ -83,30 +98,43 @@ module _ {X : Type 0} (f : X → List ℕ) (a b c : Option (List ℕ)) (h k : Li
 
   pub prefix_of_more : AppendsPrefix b c (k ++ f x) → AppendsPrefix a c (h ++ flat_map f all)
   prefix_of_more q =
-      let whole : flat_map f all ≡ flat_map f p.prefix ++ (f x ++ flat_map f more) = ap (flat_map f) (p.whole ∙ ap (λ r. p.prefix ++ r) next) ∙ flat_map-append f p.prefix (x ∷ more) in
-      subst (λ t. AppendsPrefix a c (h ++ t)) (sym whole) (prefix_of_second a b c h k (flat_map f p.prefix) (f x ++ flat_map f more) p.put (prefix_of_first b c k (f x) (flat_map f more) q))
+      let whole : flat_map f all ≡ flat_map f p.prefix ++ (f x ++ flat_map f more) =
+      ap (flat_map f) (p.whole ∙ ap (λ r. p.prefix ++ r) next)
+      ∙ flat_map-append f p.prefix (x ∷ more) in
+      subst (λ t. AppendsPrefix a c (h ++ t)) (sym whole)
+      (prefix_of_second a b c h k (flat_map f p.prefix) (f x ++ flat_map f more) p.put
+      (prefix_of_first b c k (f x) (flat_map f more) q))
 
-pub PutSoFar-none : {X : Type 0} (f : X → List ℕ) (a : Option (List ℕ)) (h : List ℕ) (all : List X) → PutSoFar f a a h h all all
+pub PutSoFar-none : {X : Type 0} (f : X → List ℕ) (a : Option (List ℕ)) (h : List ℕ) (all : List X)
+    → PutSoFar f a a h h all all
 PutSoFar-none f a h all = record { prefix = []; whole = refl; put = Puts-nil a h }
 
-pub PutSoFar-all : {X : Type 0} (f : X → List ℕ) (a b : Option (List ℕ)) (h k : List ℕ) (all rest : List X) → PutSoFar f a b h k all rest → rest ≡ [] → Puts a b h k (flat_map f all)
-PutSoFar-all f a b h k all rest p e = subst (λ t. Puts a b h k (flat_map f t)) (sym (p.whole ∙ ap (λ r. p.prefix ++ r) e ∙ append-nil p.prefix)) p.put
+pub PutSoFar-all : {X : Type 0} (f : X → List ℕ) (a b : Option (List ℕ)) (h k : List ℕ)
+    (all rest : List X) → PutSoFar f a b h k all rest → rest ≡ [] → Puts a b h k (flat_map f all)
+PutSoFar-all f a b h k all rest p e = subst (λ t. Puts a b h k (flat_map f t))
+    (sym (p.whole ∙ ap (λ r. p.prefix ++ r) e ∙ append-nil p.prefix)) p.put
 
 -- names with commas between are one, and then each after a comma
-joined_names : (x : List ℕ) (xs : List (List ℕ)) → join_with_byte 44 (x ∷ xs) ≡ x ++ flat_map (λ n. 44 ∷ n) xs
+joined_names : (x : List ℕ) (xs : List (List ℕ))
+    → join_with_byte 44 (x ∷ xs) ≡ x ++ flat_map (λ n. 44 ∷ n) xs
 joined_names x [] = sym (append-nil x)
 joined_names x (y ∷ ys) = ap (λ l. x ++ 44 ∷ l) (joined_names y ys)
 
-pub joined_first : (names : List (List ℕ)) (x bytes : List ℕ) (xs : List (List ℕ)) → names ≡ x ∷ xs → bytes ≡ x → join_with_byte 44 names ≡ bytes ++ flat_map (λ n. 44 ∷ n) xs
-joined_first names x bytes xs e is = ap (join_with_byte 44) e ∙ joined_names x xs ∙ ap (λ l. l ++ flat_map (λ n. 44 ∷ n) xs) (sym is)
+pub joined_first : (names : List (List ℕ)) (x bytes : List ℕ) (xs : List (List ℕ)) → names ≡ x ∷ xs
+    → bytes ≡ x → join_with_byte 44 names ≡ bytes ++ flat_map (λ n. 44 ∷ n) xs
+joined_first names x bytes xs e is = ap (join_with_byte 44) e ∙ joined_names x xs
+    ∙ ap (λ l. l ++ flat_map (λ n. 44 ∷ n) xs) (sym is)
 
 -- ---- a text of parts, where a call sends the last
 
 -- a part failed that a text begins with
-pub prefix_of_part : (a b : Option (List ℕ)) (h whole x y : List ℕ) → whole ≡ x ++ y → AppendsPrefix a b (h ++ x) → AppendsPrefix a b (h ++ whole)
-prefix_of_part a b h whole x y e p = subst (λ t. AppendsPrefix a b (h ++ t)) (sym e) (prefix_of_first a b h x y p)
+pub prefix_of_part : (a b : Option (List ℕ)) (h whole x y : List ℕ) → whole ≡ x ++ y
+    → AppendsPrefix a b (h ++ x) → AppendsPrefix a b (h ++ whole)
+prefix_of_part a b h whole x y e p = subst (λ t. AppendsPrefix a b (h ++ t)) (sym e)
+    (prefix_of_first a b h x y p)
 
-module _ {R E : Type 0} (r : Result R E) (a b c : Option (List ℕ)) (h i whole x y : List ℕ) (p : Puts a b h i x) (e : whole ≡ x ++ y) where
+module _ {R E : Type 0} (r : Result R E) (a b c : Option (List ℕ)) (h i whole x y : List ℕ)
+    (p : Puts a b h i x) (e : whole ≡ x ++ y) where
   pub Puts-last : (j : List ℕ) → OnOk r (Puts b c i j y) → OnOk r (Puts a c h j whole)
   Puts-last j q = last r q where
     last : (r : Result R E) → OnOk r (Puts b c i j y) → OnOk r (Puts a c h j whole)
@@ -115,25 +143,32 @@ module _ {R E : Type 0} (r : Result R E) (a b c : Option (List ℕ)) (h i whole 
 
   pub prefix_of_last : OnErr r (AppendsPrefix b c (i ++ y)) → OnErr r (AppendsPrefix a c (h ++ whole))
   prefix_of_last q = last r q where
-    last : (r : Result R E) → OnErr r (AppendsPrefix b c (i ++ y)) → OnErr r (AppendsPrefix a c (h ++ whole))
+    last : (r : Result R E) → OnErr r (AppendsPrefix b c (i ++ y))
+        → OnErr r (AppendsPrefix a c (h ++ whole))
     last (Ok v) q = tt
-    last (Err v) q = subst (λ t. AppendsPrefix a c (h ++ t)) (sym e) (prefix_of_second a b c h i x y p q)
+    last (Err v) q = subst (λ t. AppendsPrefix a c (h ++ t)) (sym e)
+        (prefix_of_second a b c h i x y p q)
 
 -- all that was held went out
-pub Appends-last : {R E : Type 0} (r : Result R E) (a b c : Option (List ℕ)) (i x : List ℕ) → Puts a b [] i x → OnOk r (Appends b c i) → OnOk r (Appends a c x)
-Appends-last (Ok v) a b c i x p q = subst (Appends a c) (sym p.parts) (Appends-trans a b c p.gone i p.sent q)
+pub Appends-last : {R E : Type 0} (r : Result R E) (a b c : Option (List ℕ)) (i x : List ℕ)
+    → Puts a b [] i x → OnOk r (Appends b c i) → OnOk r (Appends a c x)
+Appends-last (Ok v) a b c i x p q = subst (Appends a c) (sym p.parts)
+    (Appends-trans a b c p.gone i p.sent q)
 Appends-last (Err v) a b c i x p q = tt
 
-pub prefix_of_held : {R E : Type 0} (r : Result R E) (a b c : Option (List ℕ)) (i x : List ℕ) → Puts a b [] i x → OnErr r (AppendsPrefix b c i) → OnErr r (AppendsPrefix a c x)
+pub prefix_of_held : {R E : Type 0} (r : Result R E) (a b c : Option (List ℕ)) (i x : List ℕ)
+    → Puts a b [] i x → OnErr r (AppendsPrefix b c i) → OnErr r (AppendsPrefix a c x)
 prefix_of_held (Ok v) a b c i x p q = tt
-prefix_of_held (Err v) a b c i x p q = subst (AppendsPrefix a c) (sym p.parts) (AppendsPrefix-then a b c p.gone i p.sent q)
+prefix_of_held (Err v) a b c i x p q = subst (AppendsPrefix a c) (sym p.parts)
+    (AppendsPrefix-then a b c p.gone i p.sent q)
 
 -- ---- the parts of a line
 
 space_between : (a b c : List ℕ) → (a ++ 32 ∷ b) ++ c ≡ a ++ 32 ∷ (b ++ c)
 space_between a b c = append_assoc a (32 ∷ b) c
 
-line_parts : (a b names who digits : List ℕ) → ended_by_lf (84 ∷ 32 ∷ (a ++ 32 ∷ (b ++ 32 ∷ (names ++ 32 ∷ (who ++ 32 ∷ digits)))))
+line_parts : (a b names who digits : List ℕ) → ended_by_lf
+    (84 ∷ 32 ∷ (a ++ 32 ∷ (b ++ 32 ∷ (names ++ 32 ∷ (who ++ 32 ∷ digits)))))
     ≡ (84 ∷ 32 ∷ (a ++ 32 ∷ (b ++ 32 ∷ []))) ++ (names ++ 32 ∷ (who ++ 32 ∷ (digits ++ 10 ∷ [])))
 line_parts a b names who digits =
     let last = 10 ∷ [] in
@@ -141,37 +176,53 @@ line_parts a b names who digits =
     ap (λ t. 84 ∷ 32 ∷ t) (
     space_between a (b ++ 32 ∷ (names ++ 32 ∷ (who ++ 32 ∷ digits))) last ∙ ap (λ t. a ++ 32 ∷ t) (
     space_between b (names ++ 32 ∷ (who ++ 32 ∷ digits)) last ∙ ap (λ t. b ++ 32 ∷ t) (
-    space_between names (who ++ 32 ∷ digits) last ∙ ap (λ t. names ++ 32 ∷ t) (space_between who digits last)
+    space_between names (who ++ 32 ∷ digits) last
+    ∙ ap (λ t. names ++ 32 ∷ t) (space_between who digits last)
     )
     )
     ∙ sym (space_between a (b ++ 32 ∷ []) tail ∙ ap (λ t. a ++ 32 ∷ t) (space_between b [] tail))
     )
 
-pub row_parts : (first last : ℕ) (names : List (List ℕ)) (who bytes : List ℕ) (row : Row) → row_of first last names who bytes ≡ row → (head tail : List ℕ)
-    → head ≡ codes "T " ++ moment_text first ++ 32 ∷ moment_text last ++ 32 ∷ [] → tail ≡ 32 ∷ who ++ 32 ∷ encode_lower bytes ++ 10 ∷ []
+pub row_parts : (first last : ℕ) (names : List (List ℕ)) (who bytes : List ℕ) (row : Row)
+    → row_of first last names who bytes ≡ row → (head tail : List ℕ)
+    → head ≡ codes "T " ++ moment_text first ++ 32 ∷ moment_text last ++ 32 ∷ []
+    → tail ≡ 32 ∷ who ++ 32 ∷ encode_lower bytes ++ 10 ∷ []
     → ended_by_lf (row_line Millis row) ≡ head ++ (join_with_byte 44 names ++ tail)
 row_parts first last names who bytes row e head tail h t =
     ap (λ x. ended_by_lf (row_line Millis x)) (sym e)
-    ∙ line_parts (moment_text first) (moment_text last) (join_with_byte 44 names) who (encode_lower bytes)
-    ∙ ap (λ l. l ++ (join_with_byte 44 names ++ 32 ∷ (who ++ 32 ∷ (encode_lower bytes ++ 10 ∷ [])))) (sym (h ∙ append_assoc (84 ∷ 32 ∷ moment_text first) (32 ∷ moment_text last) (32 ∷ [])))
-    ∙ ap (λ l. head ++ (join_with_byte 44 names ++ l)) (sym (t ∙ append_assoc (32 ∷ who) (32 ∷ encode_lower bytes) (10 ∷ [])))
+    ∙ line_parts (moment_text first) (moment_text last) (join_with_byte 44 names) who
+    (encode_lower bytes)
+    ∙ ap (λ l. l ++ (join_with_byte 44 names ++ 32 ∷ (who ++ 32 ∷ (encode_lower bytes ++ 10 ∷ []))))
+    (sym (h ∙ append_assoc (84 ∷ 32 ∷ moment_text first) (32 ∷ moment_text last) (32 ∷ [])))
+    ∙ ap (λ l. head ++ (join_with_byte 44 names ++ l))
+    (sym (t ∙ append_assoc (32 ∷ who) (32 ∷ encode_lower bytes) (10 ∷ [])))
 
 -- ---- the parts of a text
 
-row_lines : (rows : List Row) → flat_map ended_by_lf (map (row_line Millis) rows) ≡ flat_map line_and_lf rows
+row_lines : (rows : List Row) → flat_map ended_by_lf (map (row_line Millis) rows)
+    ≡ flat_map line_and_lf rows
 row_lines [] = refl
 row_lines (x ∷ rows) = ap (λ l. line_and_lf x ++ l) (row_lines rows)
 
-pub text_parts : (book : BookValue) (gap : ℕ) (head : List ℕ) → gap ≡ book.gap → head ≡ ended_by_lf (header_of (Three gap))
-    → written_text book ≡ head ++ (flat_map line_and_lf book.rows ++ ended_by_lf (end_line (length book.rows)))
+pub text_parts : (book : BookValue) (gap : ℕ) (head : List ℕ) → gap ≡ book.gap
+    → head ≡ ended_by_lf (header_of (Three gap))
+    → written_text book ≡ head ++ (flat_map line_and_lf book.rows
+    ++ ended_by_lf (end_line (length book.rows)))
 text_parts book gap head g is = ap (λ l. ended_by_lf (header_of (Three book.gap)) ++ l) (
     flat_map-append ended_by_lf (map (row_line Millis) book.rows) (end_line (length book.rows) ∷ [])
     ∙ ap (λ l. l ++ flat_map ended_by_lf (end_line (length book.rows) ∷ [])) (row_lines book.rows)
-    ∙ ap (λ l. flat_map line_and_lf book.rows ++ l) (append-nil (ended_by_lf (end_line (length book.rows))))
+    ∙ ap (λ l. flat_map line_and_lf book.rows ++ l)
+    (append-nil (ended_by_lf (end_line (length book.rows))))
     )
-    ∙ ap (λ l. l ++ (flat_map line_and_lf book.rows ++ ended_by_lf (end_line (length book.rows)))) (sym (is ∙ ap (λ n. ended_by_lf (header_of (Three n))) g))
+    ∙ ap (λ l. l ++ (flat_map line_and_lf book.rows ++ ended_by_lf (end_line (length book.rows))))
+    (sym (is ∙ ap (λ n. ended_by_lf (header_of (Three n))) g))
 
-pub text_end : (book : BookValue) (gap : ℕ) (head : List ℕ) → gap ≡ book.gap → head ≡ ended_by_lf (header_of (Three gap)) → (n : ℕ) (last : List ℕ) → n ≡ length book.rows → last ≡ ended_by_lf (end_line n)
+pub text_end : (book : BookValue) (gap : ℕ) (head : List ℕ) → gap ≡ book.gap
+    → head ≡ ended_by_lf (header_of (Three gap)) → (n : ℕ) (last : List ℕ) → n ≡ length book.rows
+    → last ≡ ended_by_lf (end_line n)
     → written_text book ≡ (head ++ flat_map line_and_lf book.rows) ++ last
-text_end book gap head g h n last e is = text_parts book gap head g h ∙ sym (append_assoc head (flat_map line_and_lf book.rows) (ended_by_lf (end_line (length book.rows))))
-    ∙ ap (λ l. (head ++ flat_map line_and_lf book.rows) ++ l) (ap (λ k. ended_by_lf (end_line k)) (sym e) ∙ sym is)
+text_end book gap head g h n last e is = text_parts book gap head g h
+    ∙ sym (append_assoc head (flat_map line_and_lf book.rows)
+    (ended_by_lf (end_line (length book.rows))))
+    ∙ ap (λ l. (head ++ flat_map line_and_lf book.rows) ++ l)
+    (ap (λ k. ended_by_lf (end_line k)) (sym e) ∙ sym is)

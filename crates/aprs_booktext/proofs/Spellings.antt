@@ -23,17 +23,24 @@ use Rattle.aprs_booktext.proofs.Cuts.{lacks_joined, pieces_joined, joined_pieces
 
 -- ---- moments
 
-pub moment_found : (form : MomentForm) (t : List ℕ) (m : ℕ) → m ≤ 4102444799999 → MomentTextIn form m t
+pub moment_found : (form : MomentForm) (t : List ℕ) (m : ℕ) → m ≤ 4102444799999
+    → MomentTextIn form m t
     → IsWritable form m × (t ≡ moment_text_in form m)
 moment_found form t m h is =
-    let whole = millis_kept form m t is in
-    (record { in_range = h; whole = whole }, one_text form m t (moment_text_in form m) is (moment_text-is form m h whole))
+    let whole = millis_kept form m t is in (
+      record { in_range = h; whole = whole },
+      one_text form m t (moment_text_in form m) is
+          (moment_text-is form m h whole),
+    )
 
 -- what is read of the text of a moment that can be written
-pub moment_read : (form : MomentForm) (m : ℕ) → IsWritable form m → moment_in form (moment_text_in form m) ≡ Some m
-moment_read form m h = text-moment_in form (moment_text_in form m) m (moment_text-is form m h.in_range h.whole)
+pub moment_read : (form : MomentForm) (m : ℕ) → IsWritable form m
+    → moment_in form (moment_text_in form m) ≡ Some m
+moment_read form m h = text-moment_in form (moment_text_in form m) m
+    (moment_text-is form m h.in_range h.whole)
 
-pub moment_missed : (form : MomentForm) (t : List ℕ) → moment_in form t ≡ None → (m : ℕ) → IsWritable form m → t ≡ moment_text_in form m → ⊥
+pub moment_missed : (form : MomentForm) (t : List ℕ) → moment_in form t ≡ None → (m : ℕ)
+    → IsWritable form m → t ≡ moment_text_in form m → ⊥
 moment_missed form t none m h e =
     let f : None ≡ Some m = sym none ∙ ap (moment_in form) e ∙ moment_read form m h in
     cc
@@ -45,7 +52,8 @@ High text = AllByRecursion (λ b. 45 ≤ b) text
 
 pub high_lacks : (c : ℕ) (text : List ℕ) → c < 45 → High text → Lacks c text
 high_lacks c [] h high = tt
-high_lacks c (b ∷ text) h high = let low = high.0 in (grind (arith, nat_tests), high_lacks c text h high.1)
+high_lacks c (b ∷ text) h high = let low = high.0 in
+    (grind (arith, nat_tests), high_lacks c text h high.1)
 
 high_append : (a b : List ℕ) → High a → High b → High (a ++ b)
 high_append [] b h k = k
@@ -115,23 +123,29 @@ high_names : (names : List (List ℕ)) → AllByRecursion IsName names → AllBy
 high_names [] h = tt
 high_names (r ∷ names) h = (high_name r h.0, high_names names h.1)
 
-lack_all : (c : ℕ) → c < 45 → (names : List (List ℕ)) → AllByRecursion High names → AllByRecursion (Lacks c) names
+lack_all : (c : ℕ) → c < 45 → (names : List (List ℕ)) → AllByRecursion High names
+    → AllByRecursion (Lacks c) names
 lack_all c low [] h = tt
 lack_all c low (r ∷ names) h = (high_lacks c r low h.0, lack_all c low names h.1)
 
 all_names : (names : List (List ℕ)) → All IsName names → AllByRecursion High names
 all_names names h = high_names names (recursion_from_All IsName names h)
 
-pub names_pieces : (names : List (List ℕ)) → 0 < length names → All IsName names → pieces 44 (join_with_byte 44 names) ≡ names
-names_pieces names some h = pieces_joined 44 names some (lack_all 44 (omega arith) names (all_names names h))
+pub names_pieces : (names : List (List ℕ)) → 0 < length names → All IsName names
+    → pieces 44 (join_with_byte 44 names) ≡ names
+names_pieces names some h = pieces_joined 44 names some
+    (lack_all 44 (omega arith) names (all_names names h))
 
 -- a byte below the comma
-pub lacks_names : (c : ℕ) (names : List (List ℕ)) → c < 44 → All IsName names → Lacks c (join_with_byte 44 names)
-lacks_names c names low h = lacks_joined c 44 names (grind (arith, nat_tests)) (lack_all c (omega arith) names (all_names names h))
+pub lacks_names : (c : ℕ) (names : List (List ℕ)) → c < 44 → All IsName names
+    → Lacks c (join_with_byte 44 names)
+lacks_names c names low h = lacks_joined c 44 names (grind (arith, nat_tests))
+    (lack_all c (omega arith) names (all_names names h))
 
 -- ---- a row's line
 
-pub row_fields_lack : (form : MomentForm) (c : ℕ) (x : Row) → c < 44 → IsSpelled form x → AllByRecursion (Lacks c) (fields_of form x)
+pub row_fields_lack : (form : MomentForm) (c : ℕ) (x : Row) → c < 44 → IsSpelled form x
+    → AllByRecursion (Lacks c) (fields_of form x)
 row_fields_lack form c x low h =
     let below : c < 45 = omega arith in (
       high_lacks c (codes "T") below (search rules),
@@ -143,15 +157,21 @@ row_fields_lack form c x low h =
             lacks_names c x.receivers low h.receivers,
             (
               high_lacks c x.greatest.receiver below (high_name x.greatest.receiver h.receiver),
-              (high_lacks c (encode_lower x.greatest.frame) below (high_digits x.greatest.frame h.bytes), tt),
+              (
+                high_lacks c (encode_lower x.greatest.frame) below
+                    (high_digits x.greatest.frame h.bytes),
+                tt,
+              ),
             ),
           ),
         ),
       ),
     )
 
-pub row_pieces : (form : MomentForm) (x : Row) → IsSpelled form x → pieces 32 (row_line form x) ≡ fields_of form x
-row_pieces form x h = pieces_joined 32 (fields_of form x) (omega arith) (row_fields_lack form 32 x (omega arith) h)
+pub row_pieces : (form : MomentForm) (x : Row) → IsSpelled form x
+    → pieces 32 (row_line form x) ≡ fields_of form x
+row_pieces form x h = pieces_joined 32 (fields_of form x) (omega arith)
+    (row_fields_lack form 32 x (omega arith) h)
 
 -- what the fields of a line are that spells a row
 pub record SameFields (form : MomentForm) (x : Row) (t f l n w d : List ℕ) : Type 0 where
@@ -162,36 +182,49 @@ pub record SameFields (form : MomentForm) (x : Row) (t f l n w d : List ℕ) : T
   pub receiver : w ≡ x.greatest.receiver
   pub frame : d ≡ encode_lower x.greatest.frame
 
-module _ (form : MomentForm) (line t f l n w d : List ℕ) (is : pieces 32 line ≡ t ∷ f ∷ l ∷ n ∷ w ∷ d ∷ []) where
-  pub same_fields : (x : Row) → IsSpelled form x → line ≡ row_line form x → SameFields form x t f l n w d
+module _ (form : MomentForm) (line t f l n w d : List ℕ)
+    (is : pieces 32 line ≡ t ∷ f ∷ l ∷ n ∷ w ∷ d ∷ []) where
+  pub same_fields : (x : Row) → IsSpelled form x → line ≡ row_line form x
+      → SameFields form x t f l n w d
   same_fields x h e =
-      let same : t ∷ f ∷ l ∷ n ∷ w ∷ d ∷ [] ≡ fields_of form x = sym is ∙ ap (pieces 32) e ∙ row_pieces form x h in
-      let lists : t ∷ f ∷ l ∷ n ∷ w ∷ d ∷ [] ≡ codes "T" ∷ moment_text_in form x.first ∷ moment_text_in form (last_of x) ∷ join_with_byte 44 x.receivers ∷ x.greatest.receiver ∷ encode_lower x.greatest.frame ∷ [] = same in
+      let same : t ∷ f ∷ l ∷ n ∷ w ∷ d ∷ [] ≡ fields_of form x = sym is ∙ ap (pieces 32) e
+      ∙ row_pieces form x h in
+      let lists : t ∷ f ∷ l ∷ n ∷ w ∷ d ∷ [] ≡ codes "T" ∷ moment_text_in form x.first
+      ∷ moment_text_in form (last_of x) ∷ join_with_byte 44 x.receivers ∷ x.greatest.receiver
+      ∷ encode_lower x.greatest.frame ∷ [] = same in
       record { tag = cc; first = cc; last = cc; receivers = cc; receiver = cc; frame = cc }
 
   pub spelled_by : (x : Row) → SameFields form x t f l n w d → line ≡ row_line form x
   spelled_by x s =
-      let fields : t ∷ f ∷ l ∷ n ∷ w ∷ d ∷ [] ≡ fields_of form x = cc (s.tag, s.first, s.last, s.receivers, s.receiver, s.frame) in
+      let fields : t ∷ f ∷ l ∷ n ∷ w ∷ d ∷ [] ≡ fields_of form x =
+      cc (s.tag, s.first, s.last, s.receivers, s.receiver, s.frame) in
       joined_pieces 32 line (t ∷ f ∷ l ∷ n ∷ w ∷ d ∷ []) is ∙ ap (join_with_byte 32) fields
 
 -- a row's line has six pieces
-pub six_pieces : (form : MomentForm) (x : Row) (line : List ℕ) → IsSpelled form x → ¬ (length (pieces 32 line) ≡ 6) → line ≡ row_line form x → ⊥
-six_pieces form x line h other e = other (ap (λ l. length (pieces 32 l)) e ∙ ap length (row_pieces form x h))
+pub six_pieces : (form : MomentForm) (x : Row) (line : List ℕ) → IsSpelled form x
+    → ¬ (length (pieces 32 line) ≡ 6) → line ≡ row_line form x → ⊥
+six_pieces form x line h other e = other (ap (λ l. length (pieces 32 l)) e
+    ∙ ap length (row_pieces form x h))
 
 -- ---- names read one by one
 
-at_middle : {X : Type 0} (P : X → Type 0) (a : List X) (x : X) (b : List X) → AllByRecursion P (a ++ x ∷ b) → P x
+at_middle : {X : Type 0} (P : X → Type 0) (a : List X) (x : X) (b : List X)
+    → AllByRecursion P (a ++ x ∷ b) → P x
 at_middle P [] x b h = h.0
 at_middle P (y ∷ a) x b h = at_middle P a x b h.1
 
-spells_none : (field : List ℕ) (names : List (List ℕ)) (piece : List ℕ) (more : List (List ℕ)) → pieces 44 field ≡ names ++ piece ∷ more → ¬ IsName piece
+spells_none : (field : List ℕ) (names : List (List ℕ)) (piece : List ℕ) (more : List (List ℕ))
+    → pieces 44 field ≡ names ++ piece ∷ more → ¬ IsName piece
     → (all : List (List ℕ)) → SpellsNames field all → ⊥
 spells_none field names piece more is other all h =
-    let same : all ≡ names ++ piece ∷ more = sym (names_pieces all h.some h.names_are) ∙ ap (pieces 44) (sym h.field_is) ∙ is in
-    other (at_middle IsName names piece more (subst (AllByRecursion IsName) same (recursion_from_All IsName all h.names_are)))
+    let same : all ≡ names ++ piece ∷ more = sym (names_pieces all h.some h.names_are)
+    ∙ ap (pieces 44) (sym h.field_is) ∙ is in
+    other (at_middle IsName names piece more (subst (AllByRecursion IsName) same
+    (recursion_from_All IsName all h.names_are)))
 
 -- a piece that is no name
-pub names_wrong : (field : List ℕ) (names : List (List ℕ)) (piece : List ℕ) (more : List (List ℕ)) (c : BookCause) → pieces 44 field ≡ names ++ piece ∷ more
+pub names_wrong : (field : List ℕ) (names : List (List ℕ)) (piece : List ℕ) (more : List (List ℕ))
+    (c : BookCause) → pieces 44 field ≡ names ++ piece ∷ more
     → (c ≡ cause.Memory) ⊎ ((c ≡ cause.RowSyntax) × ¬ IsName piece) → IsWrongNames field c
 names_wrong field names piece more c is h = elim h [
   | inl m ↦ inl m
@@ -199,7 +232,9 @@ names_wrong field names piece more c is h = elim h [
 ]
 
 -- the last piece is a name
-pub names_spelled : (field : List ℕ) (names : List (List ℕ)) (last : List ℕ) → pieces 44 field ≡ names ++ last ∷ [] → All IsName (names ++ last ∷ []) → SpellsNames field (names ++ last ∷ [])
+pub names_spelled : (field : List ℕ) (names : List (List ℕ)) (last : List ℕ)
+    → pieces 44 field ≡ names ++ last ∷ [] → All IsName (names ++ last ∷ [])
+    → SpellsNames field (names ++ last ∷ [])
 names_spelled field names last is h = record {
   field_is = joined_pieces 44 field (names ++ last ∷ []) is;
   names_are = h;

@@ -31,7 +31,8 @@ use Rattle.aprs_booktext.specs.declared.version.Version.{Version}
 
 -- ---- one more line
 
-one_more : (ls : List (List ℕ)) (line t : List ℕ) → t ≡ text_of_lines ls ++ line → t ++ 10 ∷ [] ≡ text_of_lines (ls ++ line ∷ []) ++ []
+one_more : (ls : List (List ℕ)) (line t : List ℕ) → t ≡ text_of_lines ls ++ line
+    → t ++ 10 ∷ [] ≡ text_of_lines (ls ++ line ∷ []) ++ []
 one_more ls line t e =
     ap (λ l. l ++ 10 ∷ []) e ∙ append_assoc (text_of_lines ls) line (10 ∷ [])
     ∙ ap (λ l. text_of_lines ls ++ l) (sym (append-nil (ended_by_lf line)))
@@ -40,9 +41,11 @@ one_more ls line t e =
 
 -- ---- a row that can't be added
 
-module _ (gap : ℕ) (form : MomentForm) (old new : List Row) (x : Row) (line : List ℕ) (is : IsBookRow form x) (spelled : line ≡ row_line form x) (same : new ≡ old) where
+module _ (gap : ℕ) (form : MomentForm) (old new : List Row) (x : Row) (line : List ℕ)
+    (is : IsBookRow form x) (spelled : line ≡ row_line form x) (same : new ≡ old) where
   abbrev IsWrongNow : RowCause → Type 0
-  IsWrongNow why = (book_cause_of why ≡ cause.Memory) ⊎ IsWrong gap form old line (book_cause_of why)
+  IsWrongNow why = (book_cause_of why ≡ cause.Memory)
+      ⊎ IsWrong gap form old line (book_cause_of why)
 
   for_cause : (why : RowCause) → refusal gap old x ≡ Some why → IsWrongNow why
   for_cause row.Order e = inr (record { row = x; is = is; spelled = spelled; refused = e })
@@ -52,73 +55,115 @@ module _ (gap : ℕ) (form : MomentForm) (old new : List Row) (x : Row) (line : 
   for_cause row.NotGreatest e = inr (record { row = x; is = is; spelled = spelled; refused = e })
   for_cause row.Memory e = inl refl
 
-  pub refused_line : {T : Type 0} (r : Result T RowCause) (why : RowCause) → Err why ≡ r → MatchOption (refusal gap old x) (IsOkUnless r row.Memory) (λ c. r ≡ Err c)
+  pub refused_line : {T : Type 0} (r : Result T RowCause) (why : RowCause) → Err why ≡ r
+      → MatchOption (refusal gap old x) (IsOkUnless r row.Memory) (λ c. r ≡ Err c)
       → IsWrongNow why × (new ≡ old)
   refused_line {T} r why was h = (by (refusal gap old x) refl h, same) where
-    by : (o : Option RowCause) → refusal gap old x ≡ o → MatchOption o (IsOkUnless r row.Memory) (λ c. r ≡ Err c) → IsWrongNow why
-    by None e m = let k : why ≡ row.Memory = subst (λ (q : Result T RowCause). IsOkUnless q row.Memory) (sym was) m in inl (ap book_cause_of k)
-    by (Some c) e m = let f : Err why ≡ Err c = was ∙ m in let k : c ≡ why = cc in for_cause why (e ∙ ap (λ (w : RowCause). Some w) k)
+    by : (o : Option RowCause) → refusal gap old x ≡ o
+        → MatchOption o (IsOkUnless r row.Memory) (λ c. r ≡ Err c) → IsWrongNow why
+    by None e m = let k : why ≡ row.Memory = subst
+        (λ (q : Result T RowCause). IsOkUnless q row.Memory) (sym was) m in inl (ap book_cause_of k)
+    by (Some c) e m = let f : Err why ≡ Err c = was
+        ∙ m in let k : c ≡ why = cc in for_cause why (e ∙ ap (λ (w : RowCause). Some w) k)
 
 -- no rows are a book's
 pub no_rows : (v : Version) → IsVersion v → IsBookRows v []
-no_rows v h = record { version = h; sound = record { ascending = tt; apart = tt; each = λ x h. absurd h }; each = All-nil (IsBookRow (form_of v)) }
+no_rows v h = record {
+  version = h;
+  sound = record {
+    ascending = tt;
+    apart = tt;
+    each =
+        λ x h. absurd h;
+  };
+  each = All-nil (IsBookRow (form_of v));
+}
 
-ended_header : (v : Version) (old new : List Row) (line t : List ℕ) → IsVersion v → line ≡ header_of v → new ≡ [] → StandsAfter Header old line t → StandsAfter (Rows v) new [] (t ++ 10 ∷ [])
+ended_header : (v : Version) (old new : List Row) (line t : List ℕ) → IsVersion v
+    → line ≡ header_of v → new ≡ [] → StandsAfter Header old line t
+    → StandsAfter (Rows v) new [] (t ++ 10 ∷ [])
 ended_header v old new line t h is none s =
     let lines : line ∷ [] ≡ header_of v ∷ map (row_line (form_of v)) new
-    = ap (λ l. l ∷ []) is ∙ ap (λ (rows : List Row). header_of v ∷ map (row_line (form_of v)) rows) (sym none) in
+    = ap (λ l. l ∷ []) is ∙ ap (λ (rows : List Row). header_of v ∷ map (row_line (form_of v)) rows)
+    (sym none) in
     record {
-      text_is = one_more [] line t s.text_is ∙ ap (λ (ls : List (List ℕ)). text_of_lines ls ++ []) lines;
+      text_is = one_more [] line t s.text_is ∙ ap
+          (λ (ls : List (List ℕ)). text_of_lines ls ++ []) lines;
       one = tt;
       holds = subst (IsBookRows v) (sym none) (no_rows v h);
     }
 
-ended_row : (v : Version) (old new : List Row) (x : Row) (line t : List ℕ) → IsBookRow (form_of v) x → line ≡ row_line (form_of v) x → new ≡ old ++ x ∷ [] → Sound (millis_of (gap_of v)) new
+ended_row : (v : Version) (old new : List Row) (x : Row) (line t : List ℕ) → IsBookRow (form_of v) x
+    → line ≡ row_line (form_of v) x → new ≡ old ++ x ∷ [] → Sound (millis_of (gap_of v)) new
     → StandsAfter (Rows v) old line t → StandsAfter (Rows v) new [] (t ++ 10 ∷ [])
 ended_row v old new x line t is line_is grown sound s =
-    let lines : header_of v ∷ map (row_line (form_of v)) old ++ line ∷ [] ≡ header_of v ∷ map (row_line (form_of v)) new
-    = ap (λ l. header_of v ∷ map (row_line (form_of v)) old ++ l ∷ []) line_is ∙ ap (λ ls. header_of v ∷ ls) (sym (map_push (row_line (form_of v)) old x))
+    let lines : header_of v ∷ map (row_line (form_of v)) old ++ line ∷ [] ≡ header_of v
+    ∷ map (row_line (form_of v)) new
+    = ap (λ l. header_of v ∷ map (row_line (form_of v)) old ++ l ∷ []) line_is
+    ∙ ap (λ ls. header_of v ∷ ls) (sym (map_push (row_line (form_of v)) old x))
     ∙ ap (λ (rows : List Row). header_of v ∷ map (row_line (form_of v)) rows) (sym grown) in
     record {
-      text_is = one_more (header_of v ∷ map (row_line (form_of v)) old) line t s.text_is ∙ ap (λ (ls : List (List ℕ)). text_of_lines ls ++ []) lines;
+      text_is = one_more (header_of v ∷ map (row_line (form_of v)) old) line t s.text_is
+          ∙ ap (λ (ls : List (List ℕ)). text_of_lines ls ++ []) lines;
       one = tt;
-      holds = record { version = s.holds.version; sound = sound; each = subst (All (IsBookRow (form_of v))) (sym grown) (All-push (IsBookRow (form_of v)) old x s.holds.each is) };
+      holds = record {
+        version = s.holds.version;
+        sound = sound;
+        each =
+            subst (All (IsBookRow (form_of v))) (sym grown)
+            (All-push (IsBookRow (form_of v)) old x s.holds.each is);
+      };
     }
 
-ended_last : (v : Version) (old new : List Row) (line t : List ℕ) → line ≡ end_line (length old) → new ≡ old → StandsAfter (Rows v) old line t → StandsAfter (Done v) new [] (t ++ 10 ∷ [])
+ended_last : (v : Version) (old new : List Row) (line t : List ℕ) → line ≡ end_line (length old)
+    → new ≡ old → StandsAfter (Rows v) old line t → StandsAfter (Done v) new [] (t ++ 10 ∷ [])
 ended_last v old new line t is same s =
     let lines : header_of v ∷ map (row_line (form_of v)) old ++ line ∷ [] ≡ lines_of v new
-    = ap (λ l. header_of v ∷ map (row_line (form_of v)) old ++ l ∷ []) is ∙ ap (lines_of v) (sym same) in
+    = ap (λ l. header_of v ∷ map (row_line (form_of v)) old ++ l ∷ []) is
+    ∙ ap (lines_of v) (sym same) in
     record {
-      text_is = one_more (header_of v ∷ map (row_line (form_of v)) old) line t s.text_is ∙ ap (λ (ls : List (List ℕ)). text_of_lines ls ++ []) lines;
+      text_is = one_more (header_of v ∷ map (row_line (form_of v)) old) line t s.text_is
+          ∙ ap (λ (ls : List (List ℕ)). text_of_lines ls ++ []) lines;
       one = tt;
       holds = (subst (IsBookRows v) (sym same) s.holds, refl);
     }
 
-pub ended_stands : (stage next : Stage) (old new : List Row) (line t : List ℕ) → IsJudgedIn stage (Ok next) old line new → StandsAfter stage old line t → StandsAfter next new [] (t ++ 10 ∷ [])
+pub ended_stands : (stage next : Stage) (old new : List Row) (line t : List ℕ)
+    → IsJudgedIn stage (Ok next) old line new → StandsAfter stage old line t
+    → StandsAfter next new [] (t ++ 10 ∷ [])
 ended_stands Header Header old new line t j s = absurd j
 ended_stands Header (Rows v) old new line t j s = ended_header v old new line t j.0 j.1 j.2 s
 ended_stands Header (Done v) old new line t j s = absurd j
 ended_stands (Rows v) Header old new line t j s = absurd j
 ended_stands (Rows v) (Rows w) old new line t j s =
-    subst (λ (u : Version). StandsAfter (Rows u) new [] (t ++ 10 ∷ [])) (sym j.0) (ended_row v old new j.1 line t j.2 j.3 j.4 j.5 s)
-ended_stands (Rows v) (Done w) old new line t j s = subst (λ (u : Version). StandsAfter (Done u) new [] (t ++ 10 ∷ [])) (sym j.0) (ended_last v old new line t j.1 j.2 s)
-ended_stands (Done v) next old new line t j s = absurd (let e : Ok next ≡ Err cause.After = j.0 in cc)
+    subst (λ (u : Version). StandsAfter (Rows u) new [] (t ++ 10 ∷ [])) (sym j.0)
+    (ended_row v old new j.1 line t j.2 j.3 j.4 j.5 s)
+ended_stands (Rows v) (Done w) old new line t j s =
+    subst (λ (u : Version). StandsAfter (Done u) new [] (t ++ 10 ∷ [])) (sym j.0)
+    (ended_last v old new line t j.1 j.2 s)
+ended_stands (Done v) next old new line t j s =
+    absurd (let e : Ok next ≡ Err cause.After = j.0 in cc)
 
 -- ---- faults
 
-number_is : (stage : Stage) (rows : List Row) → line_number stage rows ≡ length (lines_read stage rows) + 1
+number_is : (stage : Stage) (rows : List Row)
+    → line_number stage rows ≡ length (lines_read stage rows) + 1
 number_is Header rows = refl
 number_is (Rows v) rows = omega (arith, length-map rows (row_line (form_of v)))
 number_is (Done v) rows =
-    let e : length (lines_of v rows) ≡ length (map (row_line (form_of v)) rows) + 2 = simp length-append (omega arith) in
+    let e : length (lines_of v rows) ≡ length (map (row_line (form_of v)) rows) + 2 =
+    simp length-append (omega arith) in
     omega (arith, length-map rows (row_line (form_of v)), e)
 
-and_more : (stage : Stage) (rows : List Row) (line t more : List ℕ) → StandsAfter stage rows line t → t ++ more ≡ text_of_lines (lines_read stage rows) ++ (line ++ more)
-and_more stage rows line t more s = ap (λ l. l ++ more) s.text_is ∙ append_assoc (text_of_lines (lines_read stage rows)) line more
+and_more : (stage : Stage) (rows : List Row) (line t more : List ℕ) → StandsAfter stage rows line t
+    → t ++ more ≡ text_of_lines (lines_read stage rows) ++ (line ++ more)
+and_more stage rows line t more s = ap (λ l. l ++ more) s.text_is
+    ∙ append_assoc (text_of_lines (lines_read stage rows)) line more
 
-pub ended_fault : (stage : Stage) (old new : List Row) (line t more : List ℕ) (c : BookCause) → IsJudgedIn stage (Err c) old line new → StandsAfter stage old line t
-    → IsFault (length more + 1) (record { line = line_number stage new; cause = c }) (t ++ 10 ∷ more)
+pub ended_fault : (stage : Stage) (old new : List Row) (line t more : List ℕ) (c : BookCause)
+    → IsJudgedIn stage (Err c) old line new → StandsAfter stage old line t
+    → IsFault (length more + 1) (record { line = line_number stage new; cause = c })
+    (t ++ 10 ∷ more)
 ended_fault Header old new line t more c j s = inr (λ e. record {
   lines = [];
   rest = line ++ 10 ∷ more;
@@ -172,8 +217,13 @@ ended_fault (Done v) old new line t more c j s =
     })
 
 -- an allocation fails in the line that is read
-pub held_fault : (stage : Stage) (rows : List Row) (line t bytes more : List ℕ) → is_done stage ≡ false → StandsAfter stage rows line t
-    → IsFault (length bytes + length more) (record { line = line_number stage rows; cause = cause.Memory }) ((t ++ bytes) ++ more)
+pub held_fault : (stage : Stage) (rows : List Row) (line t bytes more : List ℕ)
+    → is_done stage ≡ false → StandsAfter stage rows line t
+    → IsFault (length bytes + length more) (record {
+      line = line_number stage rows;
+      cause =
+          cause.Memory;
+    }) ((t ++ bytes) ++ more)
 held_fault Header rows line t bytes more going s = inl (record {
   refused = refl;
   lines = [];
@@ -199,20 +249,29 @@ held_fault (Rows v) rows line t bytes more going s = inl (record {
 held_fault (Done v) rows line t bytes more going s = absurd (let f : true ≡ false = going in cc)
 
 -- bytes that are held after those of the line
-pub held_stands : (stage : Stage) (rows : List Row) (line t bytes : List ℕ) → is_done stage ≡ false → Lacks 10 bytes → StandsAfter stage rows line t → StandsAfter stage rows (line ++ bytes) (t ++ bytes)
+pub held_stands : (stage : Stage) (rows : List Row) (line t bytes : List ℕ) → is_done stage ≡ false
+    → Lacks 10 bytes → StandsAfter stage rows line t
+    → StandsAfter stage rows (line ++ bytes) (t ++ bytes)
 held_stands stage rows line t bytes going lacks s = record {
-  text_is = ap (λ l. l ++ bytes) s.text_is ∙ append_assoc (text_of_lines (lines_read stage rows)) line bytes;
+  text_is = ap (λ l. l ++ bytes) s.text_is ∙ append_assoc
+      (text_of_lines (lines_read stage rows)) line bytes;
   one = lacks_append 10 line bytes s.one lacks;
   holds = holds stage going s.holds;
 } where
-  holds : (stage : Stage) → is_done stage ≡ false → HoldsIn stage rows line → HoldsIn stage rows (line ++ bytes)
+  holds : (stage : Stage) → is_done stage ≡ false → HoldsIn stage rows line
+      → HoldsIn stage rows (line ++ bytes)
   holds Header going h = h
   holds (Rows v) going h = h
   holds (Done v) going h = absurd (let f : true ≡ false = going in cc)
 
 -- none may be held after the last line
-pub after_fault : (stage : Stage) (rows : List Row) (line t bytes more : List ℕ) → is_done stage ≡ true → 0 < length bytes → StandsAfter stage rows line t
-    → IsFault (length bytes + length more) (record { line = line_number stage rows; cause = cause.After }) ((t ++ bytes) ++ more)
+pub after_fault : (stage : Stage) (rows : List Row) (line t bytes more : List ℕ)
+    → is_done stage ≡ true → 0 < length bytes → StandsAfter stage rows line t
+    → IsFault (length bytes + length more) (record {
+      line = line_number stage rows;
+      cause =
+          cause.After;
+    }) ((t ++ bytes) ++ more)
 after_fault Header rows line t bytes more done some s = absurd (let f : false ≡ true = done in cc)
 after_fault (Rows v) rows line t bytes more done some s = absurd (let f : false ≡ true = done in cc)
 after_fault (Done v) rows line t bytes more done some s = inr (λ e. record {
@@ -229,7 +288,8 @@ after_fault (Done v) rows line t bytes more done some s = inr (λ e. record {
   }));
 })
 
-pub fault_near : (few most : ℕ) (f : BookFault) (t : List ℕ) → few ≤ most → IsFault few f t → IsFault most f t
+pub fault_near : (few most : ℕ) (f : BookFault) (t : List ℕ) → few ≤ most → IsFault few f t
+    → IsFault most f t
 fault_near few most f t less h = elim h [
   | inl m ↦ inl (record {
     refused = m.refused;
@@ -247,9 +307,17 @@ fault_near few most f t less h = elim h [
 
 -- ---- the end
 
-pub cut_fault : (stage : Stage) (rows : List Row) (line t : List ℕ) (e : Ending) → may_end stage e ≡ false → StandsAfter stage rows line t
+pub cut_fault : (stage : Stage) (rows : List Row) (line t : List ℕ) (e : Ending)
+    → may_end stage e ≡ false → StandsAfter stage rows line t
     → FirstFault t e (record { line = line_number stage rows; cause = ending_cause e })
-cut_fault Header rows line t e may s = record { lines = []; rest = line; whole = s.text_is; line = refl; fault = inl (record { none_read = refl; fault = inl (s.one, refl) }) }
+cut_fault Header rows line t e may s = record {
+  lines = [];
+  rest = line;
+  whole = s.text_is;
+  line =
+      refl;
+  fault = inl (record { none_read = refl; fault = inl (s.one, refl) });
+}
 cut_fault (Rows v) rows line t e may s = record {
   lines = header_of v ∷ map (row_line (form_of v)) rows;
   rest = line;
@@ -289,7 +357,8 @@ pub record IsWhole (stage : Stage) (rows : List Row) (t : List ℕ) (e : Ending)
   pub is : IsBookRows version rows
   pub ended : e ≡ ending.End
 
-pub ended_whole : (stage : Stage) (rows : List Row) (line t : List ℕ) (e : Ending) → may_end stage e ≡ true → StandsAfter stage rows line t → IsWhole stage rows t e
+pub ended_whole : (stage : Stage) (rows : List Row) (line t : List ℕ) (e : Ending)
+    → may_end stage e ≡ true → StandsAfter stage rows line t → IsWhole stage rows t e
 ended_whole Header rows line t e may s = absurd (let f : false ≡ true = may in cc)
 ended_whole (Rows v) rows line t e may s = absurd (let f : false ≡ true = may in cc)
 ended_whole (Done v) rows line t e may s = record {
@@ -304,19 +373,28 @@ ended_whole (Done v) rows line t e may s = record {
   is_end ending.Read may = absurd (let f : false ≡ true = may in cc)
   is_end ending.TooLong may = absurd (let f : false ≡ true = may in cc)
 
-pub ended_read : (stage : Stage) (book : BookValue) (line t : List ℕ) (e : Ending) → may_end stage e ≡ true → StandsAfter stage book.rows line t → HasItsGap stage book.gap
+pub ended_read : (stage : Stage) (book : BookValue) (line t : List ℕ) (e : Ending)
+    → may_end stage e ≡ true → StandsAfter stage book.rows line t → HasItsGap stage book.gap
     → ReadsSo (Ok book) t e
 ended_read stage book line t e may s own =
-    let w = ended_whole stage book.rows line t e may s in
-    (w.version, subst (λ (g : Stage). HasItsGap g book.gap) w.stage_is own, w.text_is, w.is, w.ended)
+    let w = ended_whole stage book.rows line t e may s in (
+      w.version,
+      subst (λ (g : Stage). HasItsGap g book.gap) w.stage_is own,
+      w.text_is,
+      w.is,
+      w.ended,
+    )
 
 -- ---- rows are judged by the gap of the header
 
-pub judged_so : (v : Version) (gap : ℕ) (r : Result Stage BookCause) (old : List Row) (line : List ℕ) (new : List Row) → IsJudged (millis_of gap) v r old line new → gap ≡ gap_of v
+pub judged_so : (v : Version) (gap : ℕ) (r : Result Stage BookCause) (old : List Row)
+    (line : List ℕ) (new : List Row) → IsJudged (millis_of gap) v r old line new → gap ≡ gap_of v
     → IsJudgedIn (Rows v) r old line new
 judged_so v gap r old line new j e = subst (λ (g : ℕ). IsJudged (millis_of g) v r old line new) e j
 
-pub keeps_gap : (v : Version) (millis gap next : ℕ) (r : Result Stage BookCause) (old : List Row) (line : List ℕ) (new : List Row) → IsJudged millis v r old line new → next ≡ gap → gap ≡ gap_of v
+pub keeps_gap : (v : Version) (millis gap next : ℕ) (r : Result Stage BookCause) (old : List Row)
+    (line : List ℕ) (new : List Row) → IsJudged millis v r old line new → next ≡ gap
+    → gap ≡ gap_of v
     → IfOk r (λ stage. HasItsGap stage next)
 keeps_gap v millis gap next (Ok Header) old line new j same own = absurd j
 keeps_gap v millis gap next (Ok (Rows w)) old line new j same own = same ∙ own ∙ ap gap_of (sym j.0)
@@ -334,28 +412,41 @@ pub record Fed (P Q : List ℕ → Type 0) (piece rest : List ℕ) : Type 0 wher
 pub Fed-none : (P : List ℕ → Type 0) (piece : List ℕ) → Fed P P piece piece
 Fed-none P piece = record { prefix = []; whole = refl; fed = λ t p. subst P (sym (append-nil t)) p }
 
-module _ (P Q : List ℕ → Type 0) (piece rest part after : List ℕ) (p : Fed P Q piece rest) (cuts : rest ≡ part ++ 10 ∷ after) where
-  pub Fed-line : (R : List ℕ → Type 0) → ((t : List ℕ) → Q t → R ((t ++ part) ++ 10 ∷ [])) → Fed P R piece after
+module _ (P Q : List ℕ → Type 0) (piece rest part after : List ℕ) (p : Fed P Q piece rest)
+    (cuts : rest ≡ part ++ 10 ∷ after) where
+  pub Fed-line : (R : List ℕ → Type 0) → ((t : List ℕ) → Q t → R ((t ++ part) ++ 10 ∷ []))
+      → Fed P R piece after
   Fed-line R step = record {
     prefix = p.prefix ++ (part ++ 10 ∷ []);
-    whole = p.whole ∙ ap (λ r. p.prefix ++ r) (cuts ∙ sym (append_assoc part (10 ∷ []) after)) ∙ sym (append_assoc p.prefix (part ++ 10 ∷ []) after);
-    fed = λ t h. subst R (append_assoc (t ++ p.prefix) part (10 ∷ []) ∙ append_assoc t p.prefix (part ++ 10 ∷ [])) (step (t ++ p.prefix) (p.fed t h));
+    whole = p.whole ∙ ap (λ r. p.prefix ++ r) (cuts ∙ sym (append_assoc part (10 ∷ []) after))
+        ∙ sym (append_assoc p.prefix (part ++ 10 ∷ []) after);
+    fed = λ t h. subst R (append_assoc (t ++ p.prefix) part (10 ∷ [])
+        ∙ append_assoc t p.prefix (part ++ 10 ∷ [])) (step (t ++ p.prefix) (p.fed t h));
   }
 
   -- a fault in the part, or at its end
-  pub Fed-fault : (F : List ℕ → Type 0) → ((t : List ℕ) → Q t → F ((t ++ part) ++ 10 ∷ after)) → (t : List ℕ) → P t → F (t ++ piece)
+  pub Fed-fault : (F : List ℕ → Type 0) → ((t : List ℕ) → Q t → F ((t ++ part) ++ 10 ∷ after))
+      → (t : List ℕ) → P t → F (t ++ piece)
   Fed-fault F fault t h =
-      subst F (append_assoc (t ++ p.prefix) part (10 ∷ after) ∙ append_assoc t p.prefix (part ++ 10 ∷ after) ∙ ap (λ l. t ++ l) (ap (λ r. p.prefix ++ r) (sym cuts) ∙ sym p.whole))
+      subst F (append_assoc (t ++ p.prefix) part (10 ∷ after)
+      ∙ append_assoc t p.prefix (part ++ 10 ∷ after)
+      ∙ ap (λ l. t ++ l) (ap (λ r. p.prefix ++ r) (sym cuts) ∙ sym p.whole))
       (fault (t ++ p.prefix) (p.fed t h))
 
-pub Fed-all : (P Q : List ℕ → Type 0) (piece rest : List ℕ) → Fed P Q piece rest → (R : List ℕ → Type 0) → ((t : List ℕ) → Q t → R (t ++ rest)) → (t : List ℕ) → P t → R (t ++ piece)
-Fed-all P Q piece rest p R last t h = subst R (append_assoc t p.prefix rest ∙ ap (λ l. t ++ l) (sym p.whole)) (last (t ++ p.prefix) (p.fed t h))
+pub Fed-all : (P Q : List ℕ → Type 0) (piece rest : List ℕ) → Fed P Q piece rest
+    → (R : List ℕ → Type 0) → ((t : List ℕ) → Q t → R (t ++ rest)) → (t : List ℕ) → P t
+    → R (t ++ piece)
+Fed-all P Q piece rest p R last t h = subst R (append_assoc t p.prefix rest
+    ∙ ap (λ l. t ++ l) (sym p.whole)) (last (t ++ p.prefix) (p.fed t h))
 
 -- what is left of the piece is no longer than it
-pub Fed-len : (P Q : List ℕ → Type 0) (piece rest : List ℕ) → Fed P Q piece rest → length rest ≤ length piece
-Fed-len P Q piece rest p = let l = length-append p.prefix rest in omega (arith, l, ap length p.whole)
+pub Fed-len : (P Q : List ℕ → Type 0) (piece rest : List ℕ) → Fed P Q piece rest
+    → length rest ≤ length piece
+Fed-len P Q piece rest p = let l = length-append p.prefix rest in
+    omega (arith, l, ap length p.whole)
 
-pub Fed-rest : (P Q : List ℕ → Type 0) (piece rest part after : List ℕ) → Fed P Q piece rest → rest ≡ part ++ 10 ∷ after → length part + (length after + 1) ≤ length piece
+pub Fed-rest : (P Q : List ℕ → Type 0) (piece rest part after : List ℕ) → Fed P Q piece rest
+    → rest ≡ part ++ 10 ∷ after → length part + (length after + 1) ≤ length piece
 Fed-rest P Q piece rest part after p cuts =
     let l = Fed-len P Q piece rest p in
     let k = length-append part (10 ∷ after) in

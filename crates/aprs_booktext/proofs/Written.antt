@@ -19,21 +19,33 @@ on_ok (Ok x) p = p
 on_ok (Err e) p = tt
 
 -- the row of what its parts spell
-pub row_written : (first last : ℕ) (names : List (List ℕ)) (who bytes : List ℕ) (row : Row) → row_of first last names who bytes ≡ row
-    → IsWritable Millis first × IsWritable Millis last → All IsName names → AreSpelled who bytes → 0 < length row.receivers → IsBookRow Millis row
+pub row_written : (first last : ℕ) (names : List (List ℕ)) (who bytes : List ℕ) (row : Row)
+    → row_of first last names who bytes ≡ row
+    → IsWritable Millis first × IsWritable Millis last → All IsName names → AreSpelled who bytes
+    → 0 < length row.receivers → IsBookRow Millis row
 row_written first last names who bytes row e moments names_are s some =
     let here : 0 < length names = subst (λ (x : Row). 0 < length x.receivers) (sym e) some in
     let is : IsBookRow Millis (row_of first last names who bytes) = record {
-      spelled = record { first = moments.0; last = moments.1; some = here; receivers = names_are; receiver = s.name_is; bytes = s.bytes_are; few = s.few };
+      spelled = record {
+        first = moments.0;
+        last = moments.1;
+        some = here;
+        receivers = names_are;
+        receiver = s.name_is;
+        bytes = s.bytes_are;
+        few = s.few;
+      };
       frame = s.frame_is;
     } in
     subst (IsBookRow Millis) e is
 
 -- one name more
-pub names_more : (names : List (List ℕ)) (i : ℕ) (name : List ℕ) → i < length names → name ≡ get_or names i name → All IsName (take i names) → IsName name
+pub names_more : (names : List (List ℕ)) (i : ℕ) (name : List ℕ) → i < length names
+    → name ≡ get_or names i name → All IsName (take i names) → IsName name
     → All IsName (take (i + 1) names)
 names_more names i name lt is h n =
-    subst (All IsName) (ap (λ (y : List ℕ). take i names ++ y ∷ []) is ∙ sym (take_more names i name lt)) (All-push IsName (take i names) name h n)
+    subst (All IsName) (ap (λ (y : List ℕ). take i names ++ y ∷ []) is
+    ∙ sym (take_more names i name lt)) (All-push IsName (take i names) name h n)
 
 some_of : (x : List ℕ) (xs : List (List ℕ)) → x ∈ xs → 0 < length xs
 some_of x [] h = absurd h
@@ -48,20 +60,25 @@ pub record WrittenSoFar (all rest : List Row) : Type 0 where
 pub WrittenSoFar-none : (all : List Row) → WrittenSoFar all all
 WrittenSoFar-none all = record { prefix = []; whole = refl; each = All-nil (IsBookRow Millis) }
 
-pub WrittenSoFar-more : (gap : ℕ) (all rest more : List Row) (x : Row) → Sound gap all → WrittenSoFar all rest → rest ≡ x ∷ more → (0 < length x.receivers → IsBookRow Millis x)
+pub WrittenSoFar-more : (gap : ℕ) (all rest more : List Row) (x : Row) → Sound gap all
+    → WrittenSoFar all rest → rest ≡ x ∷ more → (0 < length x.receivers → IsBookRow Millis x)
     → WrittenSoFar all more
 WrittenSoFar-more gap all rest more x sound p next is =
     let cut : all ≡ p.prefix ++ x ∷ more = p.whole ∙ ap (λ r. p.prefix ++ r) next in
-    let own = sound.each x (subst (λ l. x ∈ l) (sym cut) (in_right x p.prefix (x ∷ more) (inl refl))) in
+    let own = sound.each x (subst (λ l. x ∈ l) (sym cut)
+    (in_right x p.prefix (x ∷ more) (inl refl))) in
     record {
       prefix = p.prefix ++ x ∷ [];
       whole = cut ∙ sym (append_assoc p.prefix (x ∷ []) more);
-      each = All-push (IsBookRow Millis) p.prefix x p.each (is (some_of x.greatest.receiver x.receivers own.receiver));
+      each = All-push (IsBookRow Millis) p.prefix x p.each
+          (is (some_of x.greatest.receiver x.receivers own.receiver));
     }
 
-pub WrittenSoFar-all : (book : BookValue) (rest : List Row) → IsSoundBook book → WrittenSoFar book.rows rest → rest ≡ [] → IsBookRows (written_version book) book.rows
+pub WrittenSoFar-all : (book : BookValue) (rest : List Row) → IsSoundBook book
+    → WrittenSoFar book.rows rest → rest ≡ [] → IsBookRows (written_version book) book.rows
 WrittenSoFar-all book rest h p e = record {
   version = h.range;
   sound = h.sound;
-  each = subst (All (IsBookRow Millis)) (sym (p.whole ∙ ap (λ r. p.prefix ++ r) e ∙ append-nil p.prefix)) p.each;
+  each = subst (All (IsBookRow Millis)) (sym (p.whole ∙ ap (λ r. p.prefix ++ r) e
+      ∙ append-nil p.prefix)) p.each;
 }

@@ -18,6 +18,7 @@ by_lines P (Capture r m) (inr (inr (inl e))) h = cc
 by_lines P (Capture r m) (inr (inr (inr e))) h = cc
 
 -- and a capture by the stream
-pub by_stream : (P : (List ℕ → Ending → Plan) → Type 0) (f : Form) (r : List ℕ) (m : ℕ) → f ≡ Capture r m
+pub by_stream : (P : (List ℕ → Ending → Plan) → Type 0) (f : Form) (r : List ℕ) (m : ℕ)
+    → f ≡ Capture r m
     → P (stream_plan r m) → P (convert_plan f)
 by_stream P f r m e h = subst (λ (x : Form). P (convert_plan x)) (sym e) h

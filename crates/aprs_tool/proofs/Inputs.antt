@@ -36,7 +36,8 @@ mark = codes "APRSBOOK"
 -- ---- which of both it is
 
 -- the test of the code, which asks whether the bytes are others
-pub is_other : (head : List ℕ) (b : Bool) → b ≡ not (bytes_eq head mark) → b ≡ true → head ≡ mark → ⊥
+pub is_other : (head : List ℕ) (b : Bool) → b ≡ not (bytes_eq head mark) → b ≡ true → head ≡ mark
+    → ⊥
 is_other head b e other same =
     let f : false ≡ true = sym (ap not ((bytes_eq-Decides head mark).1 same)) ∙ sym e ∙ other in
     absurd cc
@@ -65,7 +66,8 @@ is_book t rest e = (starts_is Decides-eqb t mark (is_book_file t) refl).1 rest e
 
 same_prefix : (a b x y : List ℕ) → length a ≡ length b → a ++ x ≡ b ++ y → a ≡ b
 same_prefix a b x y size e =
-    sym (take-append_seam a x) ∙ ap (λ l. take (length a) l) e ∙ ap (λ n. take n (b ++ y)) size ∙ take-append_seam b y
+    sym (take-append_seam a x) ∙ ap (λ l. take (length a) l) e ∙ ap (λ n. take n (b ++ y)) size
+    ∙ take-append_seam b y
 
 -- an LF after fewer than eight bytes
 lf_at : (line more : List ℕ) → get_or ((line ++ 10 ∷ []) ++ more) (length line) 0 ≡ 10
@@ -83,19 +85,23 @@ mark_has_none (suc (suc (suc (suc (suc (suc zero)))))) rest h e = omega (arith, 
 mark_has_none (suc (suc (suc (suc (suc (suc (suc zero))))))) rest h e = omega (arith, e)
 mark_has_none (suc (suc (suc (suc (suc (suc (suc (suc i)))))))) rest h e = omega (arith, h)
 
-not_mark : (head more rest : List ℕ) → IsHead head → (head ≡ mark → ⊥) → head ++ more ≡ mark ++ rest → ⊥
+not_mark : (head more rest : List ℕ) → IsHead head → (head ≡ mark → ⊥) → head ++ more ≡ mark ++ rest
+    → ⊥
 not_mark head more rest is other e = elim is [
   | inl size ↦ other (same_prefix head mark more rest size e)
-  | inr lf ↦ mark_has_none (length lf.0) rest lf.1 (ap (λ l. get_or l (length lf.0) 0) (sym e ∙ ap (λ l. l ++ more) lf.2) ∙ lf_at lf.0 more)
+  | inr lf ↦ mark_has_none (length lf.0) rest lf.1
+      (ap (λ l. get_or l (length lf.0) 0) (sym e ∙ ap (λ l. l ++ more) lf.2) ∙ lf_at lf.0 more)
 ]
 
 -- no text of an input that begins otherwise
-is_log : (head more t rest : List ℕ) → IsHead head → (head ≡ mark → ⊥) → head ++ more ≡ t ++ rest → is_book_file t ≡ false
+is_log : (head more t rest : List ℕ) → IsHead head → (head ≡ mark → ⊥) → head ++ more ≡ t ++ rest
+    → is_book_file t ≡ false
 is_log head more t rest whole other e = by (is_book_file t) refl
   where
     by : (b : Bool) → is_book_file t ≡ b → is_book_file t ≡ false
     by false is = is
-    by true is = absurd (not_mark head more (drop 8 t ++ rest) whole other (e ∙ ap (λ l. l ++ rest) (begins t is) ∙ append_assoc mark (drop 8 t) rest))
+    by true is = absurd (not_mark head more (drop 8 t ++ rest) whole other (e
+        ∙ ap (λ l. l ++ rest) (begins t is) ∙ append_assoc mark (drop 8 t) rest))
 
 -- nor a shorter one
 pub short_is_log : (t : List ℕ) → length t < 8 → is_book_file t ≡ false
@@ -103,7 +109,12 @@ short_is_log t short = by (is_book_file t) refl
   where
     by : (b : Bool) → is_book_file t ≡ b → is_book_file t ≡ false
     by false is = is
-    by true is = absurd (omega (arith, short, ap length (begins t is), length-append mark (drop 8 t)))
+    by true is = absurd (omega (
+      arith,
+      short,
+      ap length (begins t is),
+      length-append mark (drop 8 t),
+    ))
 
 -- ---- a log
 
@@ -132,7 +143,8 @@ refused_log gap OtherGap old new t c is h = absurd h
 refused_log gap Narrower old new t c is h = absurd h
 
 -- what is read of a log is taken
-pub reads_log : (gap : ℕ) (r : Result (Unit {0}) InputFault) (old new : List Row) (t : List ℕ) (c : Ending) → is_book_file t ≡ false → ReadsLog gap r old new t c
+pub reads_log : (gap : ℕ) (r : Result (Unit {0}) InputFault) (old new : List Row) (t : List ℕ)
+    (c : Ending) → is_book_file t ≡ false → ReadsLog gap r old new t c
     → TakesInput gap r old new t c
 reads_log gap (Ok u) old new t c is h = (
   faultless_log t c is h.0,
@@ -141,7 +153,9 @@ reads_log gap (Ok u) old new t c is h = (
 reads_log gap (Err e) old new t c is h = inl (refused_log gap e old new t c is h)
 
 -- what is read of a log into the book of no receptions is its book
-pub read_alone : (asked gap : ℕ) (b : BookValue) (old : List Row) (t : List ℕ) (c : Ending) → is_book_file t ≡ false → gap ≡ asked → b.gap ≡ gap → BookOf (millis_of gap) [] old → ReadsLog gap (Ok tt) old b.rows t c
+pub read_alone : (asked gap : ℕ) (b : BookValue) (old : List Row) (t : List ℕ) (c : Ending)
+    → is_book_file t ≡ false → gap ≡ asked → b.gap ≡ gap → BookOf (millis_of gap) [] old
+    → ReadsLog gap (Ok tt) old b.rows t c
     → ReadsInput asked (Ok b) t c
 read_alone asked gap b old t c is its same none h =
     let heard = receptions_of (log_answers t c).given in (
@@ -155,29 +169,39 @@ read_alone asked gap b old t c is its same none h =
     )
 
 -- what was got of one is read as a log's text
-pub log_input : (known after : Option (List ℕ)) (limit : ℕ) (head : List ℕ) (P Q : List ℕ → Ending → Type 0) → IsHead head → (head ≡ mark → ⊥)
+pub log_input : (known after : Option (List ℕ)) (limit : ℕ) (head : List ℕ) (P Q : List ℕ → Ending
+    → Type 0) → IsHead head → (head ≡ mark → ⊥)
     → ((t : List ℕ) (c : Ending) → is_book_file t ≡ false → P t c → Q t c)
-    → IfSome known (λ input. HoldsOfGot limit (head ++ input) after P) → IfSome known (λ input. HoldsOfGot limit (head ++ input) after Q)
+    → IfSome known (λ input. HoldsOfGot limit (head ++ input) after P)
+    → IfSome known (λ input. HoldsOfGot limit (head ++ input) after Q)
 log_input None after limit head P Q size other follows h = tt
 log_input (Some input) after limit head P Q size other follows h = record {
   text = h.text;
   ending = h.ending;
   gets = h.gets;
-  holds = follows h.text h.ending (is_log head input h.text h.gets.rest size other h.gets.whole) h.holds;
+  holds = follows h.text h.ending (is_log head input h.text h.gets.rest size other h.gets.whole)
+      h.holds;
 }
 
 -- a short one has this fault, or none
-pub short_fault : (gap : ℕ) (t : List ℕ) (c : Ending) (k : LogCause) (rows : List Row) → log_answers t c ≡ ended (fault_at 1 (Some k))
+pub short_fault : (gap : ℕ) (t : List ℕ) (c : Ending) (k : LogCause) (rows : List Row)
+    → log_answers t c ≡ ended (fault_at 1 (Some k))
     → ReadsLog gap (Err (Log (record { line = 1; cause = k }))) rows rows t c
 short_fault gap t c k rows e = ap (λ a. a.fault) e
 
-pub short_empty : (gap : ℕ) (t : List ℕ) (c : Ending) (rows : List Row) → log_answers t c ≡ ended (fault_at 1 None) → ReadsLog gap (Ok tt) rows rows t c
-short_empty gap t c rows e = (ap (λ a. a.fault) e, subst (λ a. AddsAll gap (receptions_of a.given) rows rows) (sym e) (adds_none gap rows))
+pub short_empty : (gap : ℕ) (t : List ℕ) (c : Ending) (rows : List Row)
+    → log_answers t c ≡ ended (fault_at 1 None) → ReadsLog gap (Ok tt) rows rows t c
+short_empty gap t c rows e = (
+  ap (λ a. a.fault) e,
+  subst (λ a. AddsAll gap (receptions_of a.given) rows rows) (sym e) (adds_none gap rows),
+)
 
 -- ---- a book file
 
-faultless_book : (v : Version) (rows : List Row) → IsBookRows v rows → length (book_text v rows) ≤ MAX_INPUT
-    → is_book_file (book_text v rows) ≡ true → (e : InputFault) → IsFaultOf e (book_text v rows) ending.End → ⊥
+faultless_book : (v : Version) (rows : List Row) → IsBookRows v rows
+    → length (book_text v rows) ≤ MAX_INPUT
+    → is_book_file (book_text v rows) ≡ true → (e : InputFault)
+    → IsFaultOf e (book_text v rows) ending.End → ⊥
 faultless_book v rows is fits b (Book f) h =
     let text = book_text v rows in
     let small : length rows < 2 ^ 64 = omega (arith, fits, rows_few v rows) in
@@ -188,14 +212,26 @@ faultless_book v rows is fits b OtherGap h = h
 faultless_book v rows is fits b Narrower h = h
 
 members_book : (gap : ℕ) (v : Version) (rows : List Row) → gap_of v ≡ gap → IsBookRows v rows
-    → is_book_file (book_text v rows) ≡ true → AreMembers gap (book_text v rows) ending.End (witnesses rows)
+    → is_book_file (book_text v rows) ≡ true → AreMembers gap (book_text v rows) ending.End
+    (witnesses rows)
 members_book gap v rows same is b =
-    inl (b, record { version = v; gap_is = same; rows = rows; is_book = is; text_is = refl; receptions_are = refl })
+    inl (
+      b,
+      record {
+        version = v;
+        gap_is = same;
+        rows = rows;
+        is_book = is;
+        text_is = refl;
+        receptions_are = refl;
+      },
+    )
 
 book_begins : (v : Version) (rows : List Row) → is_book_file (book_text v rows) ≡ true
 book_begins One rows = is_book (book_text One rows) (drop 8 (book_text One rows)) refl
 book_begins Two rows = is_book (book_text Two rows) (drop 8 (book_text Two rows)) refl
-book_begins (Three gap) rows = is_book (book_text (Three gap) rows) (drop 8 (book_text (Three gap) rows)) refl
+book_begins (Three gap) rows = is_book (book_text (Three gap) rows)
+    (drop 8 (book_text (Three gap) rows)) refl
 
 -- the gap of a version
 gap_positive : (v : Version) → IsVersion v → 0 < gap_of v
@@ -203,7 +239,8 @@ gap_positive One is = omega arith
 gap_positive Two is = omega arith
 gap_positive (Three gap) is = is.0
 
-reads_book : (asked : ℕ) (b : BookValue) (v : Version) → b.gap ≡ gap_of v → IsBookRows v b.rows → length (book_text v b.rows) ≤ MAX_INPUT
+reads_book : (asked : ℕ) (b : BookValue) (v : Version) → b.gap ≡ gap_of v → IsBookRows v b.rows
+    → length (book_text v b.rows) ≤ MAX_INPUT
     → ReadsInput asked (Ok b) (book_text v b.rows) ending.End
 reads_book asked b v same is fits =
     let begin = book_begins v b.rows in
@@ -213,7 +250,8 @@ reads_book asked b v same is fits =
         λ log. let x : true ≡ false = sym begin ∙ log in cc,
         witnesses b.rows,
         members_book b.gap v b.rows (sym same) is begin,
-        witnessed (millis_of b.gap) b.rows (omega (arith, positive, same)) (subst (λ g. Sound (millis_of g) b.rows) (sym same) is.sound),
+        witnessed (millis_of b.gap) b.rows (omega (arith, positive, same))
+            (subst (λ g. Sound (millis_of g) b.rows) (sym same) is.sound),
       ),
     )
 
@@ -234,11 +272,13 @@ module _ (limit : ℕ) (input : List ℕ) (after : Option (List ℕ)) (small : l
         ];
       }
 
-  pub read_book : (asked : ℕ) (b : BookValue) → Reads limit mark input after (Ok b) → HoldsOfGot limit (mark ++ input) after (ReadsInput asked (Ok b))
+  pub read_book : (asked : ℕ) (b : BookValue) → Reads limit mark input after (Ok b)
+      → HoldsOfGot limit (mark ++ input) after (ReadsInput asked (Ok b))
   read_book asked b h =
       let v = h.reads.0 in
       let gets : Gets limit (mark ++ input) after (book_text v b.rows) ending.End =
-      subst (λ c. Gets limit (mark ++ input) after (book_text v b.rows) c) h.reads.4 (subst (λ t. Gets limit (mark ++ input) after t h.ending) h.reads.2 h.gets) in
+      subst (λ c. Gets limit (mark ++ input) after (book_text v b.rows) c) h.reads.4
+      (subst (λ t. Gets limit (mark ++ input) after t h.ending) h.reads.2 h.gets) in
       record {
         text = book_text v b.rows;
         ending = ending.End;
@@ -247,23 +287,31 @@ module _ (limit : ℕ) (input : List ℕ) (after : Option (List ℕ)) (small : l
       }
 
 -- where its bytes may not be known
-pub book_input : (asked : ℕ) (known after : Option (List ℕ)) (limit : ℕ) (head : List ℕ) (b : BookValue) → limit ≤ MAX_INPUT
-    → head ≡ mark → IfSome known (λ input. Reads limit head input after (Ok b)) → IfSome known (λ input. HoldsOfGot limit (head ++ input) after (ReadsInput asked (Ok b)))
+pub book_input : (asked : ℕ) (known after : Option (List ℕ)) (limit : ℕ) (head : List ℕ)
+    (b : BookValue) → limit ≤ MAX_INPUT
+    → head ≡ mark → IfSome known (λ input. Reads limit head input after (Ok b))
+    → IfSome known (λ input. HoldsOfGot limit (head ++ input) after (ReadsInput asked (Ok b)))
 book_input asked None after limit head b small is h = tt
-book_input asked (Some input) after limit head b small is h = subst (λ l. HoldsOfGot limit (l ++ input) after (ReadsInput asked (Ok b))) (sym is)
+book_input asked (Some input) after limit head b small is h =
+    subst (λ l. HoldsOfGot limit (l ++ input) after (ReadsInput asked (Ok b))) (sym is)
     (read_book limit input after small asked b (subst (λ l. Reads limit l input after (Ok b)) is h))
 
-pub refused_input : (known after : Option (List ℕ)) (limit : ℕ) (head : List ℕ) (f : BookFault) → limit ≤ MAX_INPUT → head ≡ mark
-    → IfSome known (λ input. Reads limit head input after (Err f)) → IfSome known (λ input. HoldsOfGot limit (head ++ input) after (IsRefused (Book f)))
+pub refused_input : (known after : Option (List ℕ)) (limit : ℕ) (head : List ℕ) (f : BookFault)
+    → limit ≤ MAX_INPUT → head ≡ mark
+    → IfSome known (λ input. Reads limit head input after (Err f))
+    → IfSome known (λ input. HoldsOfGot limit (head ++ input) after (IsRefused (Book f)))
 refused_input None after limit head f small is h = tt
-refused_input (Some input) after limit head f small is h = subst (λ l. HoldsOfGot limit (l ++ input) after (IsRefused (Book f))) (sym is)
+refused_input (Some input) after limit head f small is h =
+    subst (λ l. HoldsOfGot limit (l ++ input) after (IsRefused (Book f))) (sym is)
     (refused_book limit input after small f (subst (λ l. Reads limit l input after (Err f)) is h))
 
 -- what was got is read so
-pub of_got : (known after : Option (List ℕ)) (limit : ℕ) (t : List ℕ) (c : Ending) (P : List ℕ → Ending → Type 0) → IfSome known (λ input. Gets limit input after t c)
+pub of_got : (known after : Option (List ℕ)) (limit : ℕ) (t : List ℕ) (c : Ending) (P : List ℕ
+    → Ending → Type 0) → IfSome known (λ input. Gets limit input after t c)
     → P t c → OfGot limit known after P
 of_got None after limit t c P gets reads = tt
-of_got (Some input) after limit t c P gets reads = record { text = t; ending = c; gets = gets; holds = reads }
+of_got (Some input) after limit t c P gets reads =
+    record { text = t; ending = c; gets = gets; holds = reads }
 
 -- and so is what was got after a head
 pub of_head : (known mid after : Option (List ℕ)) (limit : ℕ) (head : List ℕ)

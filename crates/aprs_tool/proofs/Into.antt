@@ -16,17 +16,26 @@ use Rattle.aprs_tool.specs.declared.fault.InputFault.{InputFault}
 
 -- the book of no receptions becomes the other
 pub merges_empty : (gap : ℕ) (old rows : List Row) → length old ≡ 0 → MergesInto gap old rows rows
-merges_empty gap [] rows e = λ S T none book. book_carries gap (T ++ S) (S ++ T) rows (around T S) (merged gap T S rows [] book none)
+merges_empty gap [] rows e = λ S T none book. book_carries gap (T ++ S) (S ++ T) rows (around T S)
+    (merged gap T S rows [] book none)
 merges_empty gap (x ∷ old) rows e = absurd (omega (arith, e))
 
 -- ---- of whatever was got
 
 -- what follows of each text follows of what was got
-pub got_so : (known after : Option (List ℕ)) (limit : ℕ) (whole : List ℕ → List ℕ) (P Q : List ℕ → Ending → Type 0) → ((t : List ℕ) (c : Ending) → P t c → Q t c)
-    → IfSome known (λ input. HoldsOfGot limit (whole input) after P) → IfSome known (λ input. HoldsOfGot limit (whole input) after Q)
+pub got_so : (known after : Option (List ℕ)) (limit : ℕ) (whole : List ℕ → List ℕ) (P Q : List ℕ
+    → Ending → Type 0) → ((t : List ℕ) (c : Ending) → P t c → Q t c)
+    → IfSome known (λ input. HoldsOfGot limit (whole input) after P)
+    → IfSome known (λ input. HoldsOfGot limit (whole input) after Q)
 got_so None after limit whole P Q follows h = tt
 got_so (Some input) after limit whole P Q follows h =
-    record { text = h.text; ending = h.ending; gets = h.gets; holds = follows h.text h.ending h.holds }
+    record {
+      text = h.text;
+      ending = h.ending;
+      gets = h.gets;
+      holds =
+          follows h.text h.ending h.holds;
+    }
 
 -- ---- an input's book that is merged
 
@@ -40,7 +49,8 @@ other_of gap t c other S differs faultless is members = elim members [
 
 module _ (gap : ℕ) (t : List ℕ) (c : Ending) (b : BookValue) (h : ReadsInput gap (Ok b) t c) where
   -- it was merged into the rows
-  pub merged_in : (old new : List Row) → gap ≡ b.gap → MergesInto (millis_of gap) old b.rows new → TakesInput gap (Ok tt) old new t c
+  pub merged_in : (old new : List Row) → gap ≡ b.gap → MergesInto (millis_of gap) old b.rows new
+      → TakesInput gap (Ok tt) old new t c
   merged_in old new same merges =
       let S = h.1.1 in (
         h.0,
@@ -52,10 +62,14 @@ module _ (gap : ℕ) (t : List ℕ) (c : Ending) (b : BookValue) (h : ReadsInput
       )
 
   -- or that was refused
-  pub not_merged_in : (e : MergeFault) (old new : List Row) → RefusesGaps e gap b.gap → TakesInput gap (Err (fault_of_merge e)) old new t c
-  not_merged_in fault.OtherGap old new differs = inr (other_of gap t c b.gap h.1.1 differs h.0 h.1.0 h.1.2)
-  not_merged_in fault.Memory old new same = inr (h.0, (h.1.1, subst (λ g. AreMembers g t c h.1.1) (sym same) h.1.2))
+  pub not_merged_in : (e : MergeFault) (old new : List Row) → RefusesGaps e gap b.gap
+      → TakesInput gap (Err (fault_of_merge e)) old new t c
+  not_merged_in fault.OtherGap old new differs =
+      inr (other_of gap t c b.gap h.1.1 differs h.0 h.1.0 h.1.2)
+  not_merged_in fault.Memory old new same = inr
+      (h.0, (h.1.1, subst (λ g. AreMembers g t c h.1.1) (sym same) h.1.2))
 
 -- an input that isn't read is not taken
-pub not_read : (gap : ℕ) (t : List ℕ) (c : Ending) (e : InputFault) (old new : List Row) → ReadsInput gap (Err e) t c → TakesInput gap (Err e) old new t c
+pub not_read : (gap : ℕ) (t : List ℕ) (c : Ending) (e : InputFault) (old new : List Row)
+    → ReadsInput gap (Err e) t c → TakesInput gap (Err e) old new t c
 not_read gap t c e old new h = inl h

@@ -16,7 +16,8 @@ use Rattle.aprs_tool.specs.declared.fault.InputFault.TheVariants.{Log, Memory}
 use Rattle.aprs_tool.proofs.Inputs.{adds_none}
 use Rattle.aprs_tool.proofs.Seen.{HasSeen, HasSeen-none, HasSeen-line, prepended}
 
-receptions_of-append : (xs ys : List Line) → receptions_of (xs ++ ys) ≡ receptions_of xs ++ receptions_of ys
+receptions_of-append : (xs ys : List Line) → receptions_of (xs ++ ys) ≡ receptions_of xs
+    ++ receptions_of ys
 receptions_of-append [] ys = refl
 receptions_of-append (Heard x ∷ xs) ys = ap (λ l. x ∷ l) (receptions_of-append xs ys)
 receptions_of-append (Passed reason ∷ xs) ys = receptions_of-append xs ys
@@ -27,11 +28,13 @@ pub record Took (gap : ℕ) (first now : Answers → Type 0) (old rows : List Ro
   pub has : HasSeen first now seen
   pub adds : AddsAll gap (receptions_of seen) old rows
 
-pub Took-none : (gap : ℕ) (first : Answers → Type 0) (rows : List Row) → Took gap first first rows rows
+pub Took-none : (gap : ℕ) (first : Answers → Type 0) (rows : List Row)
+    → Took gap first first rows rows
 Took-none gap first rows = record { seen = []; has = HasSeen-none first; adds = adds_none gap rows }
 
 -- a line was taken, which the reader lent
-pub Took-line : (gap : ℕ) (first now after : Answers → Type 0) (old rows new : List Row) (x lent : Line) → lent ≡ x → Took gap first now old rows
+pub Took-line : (gap : ℕ) (first now after : Answers
+    → Type 0) (old rows new : List Row) (x lent : Line) → lent ≡ x → Took gap first now old rows
     → ((answers : Answers) → after answers → now (then_given x answers)) → (own : ℕ) → own ≡ gap
     → AddsAll own (receptions_of (lent ∷ [])) rows new → Took gap first after old new
 Took-line gap first now after old rows new x lent same h next own is adds = record {
@@ -39,42 +42,60 @@ Took-line gap first now after old rows new x lent same h next own is adds = reco
   has = HasSeen-line first now after h.seen x h.has next;
   adds = λ S book. subst (λ T. BookOf (millis_of gap) T new)
       (append_assoc S (receptions_of h.seen) (receptions_of (lent ∷ []))
-      ∙ ap (λ (y : Line). S ++ (receptions_of h.seen ++ receptions_of (y ∷ []))) same ∙ ap (λ T. S ++ T) (sym (receptions_of-append h.seen (x ∷ []))))
-      (subst (λ g. AddsAll g (receptions_of (lent ∷ [])) rows new) is adds (S ++ receptions_of h.seen) (h.adds S book));
+      ∙ ap (λ (y : Line). S ++ (receptions_of h.seen ++ receptions_of (y ∷ []))) same
+      ∙ ap (λ T. S ++ T) (sym (receptions_of-append h.seen (x ∷ []))))
+      (subst (λ g. AddsAll g (receptions_of (lent ∷ [])) rows new) is adds
+      (S ++ receptions_of h.seen) (h.adds S book));
 }
 
 -- of a log whose answers are these
-over_log : (gap : ℕ) (known end : Option (List ℕ)) (limit : ℕ) (head : List ℕ) (a : Answers) (r : Result (Unit {0}) InputFault) (old new : List Row)
-    → IfSome known (λ input. AreAnswersOf limit (head ++ input) end a) → ((t : List ℕ) (c : Ending) → a ≡ log_answers t c → ReadsLog gap r old new t c)
+over_log : (gap : ℕ) (known end : Option (List ℕ)) (limit : ℕ) (head : List ℕ) (a : Answers)
+    (r : Result (Unit {0}) InputFault) (old new : List Row)
+    → IfSome known (λ input. AreAnswersOf limit (head ++ input) end a)
+    → ((t : List ℕ) (c : Ending) → a ≡ log_answers t c → ReadsLog gap r old new t c)
     → IfSome known (λ input. HoldsOfGot limit (head ++ input) end (ReadsLog gap r old new))
 over_log gap None end limit head a r old new h reads = tt
-over_log gap (Some input) end limit head a r old new h reads = record { text = h.text; ending = h.ending; gets = h.gets; holds = reads h.text h.ending h.is }
+over_log gap (Some input) end limit head a r old new h reads =
+    record { text = h.text; ending = h.ending; gets = h.gets; holds = reads h.text h.ending h.is }
 
 -- the log ended
-pub Took-ended : (gap : ℕ) (first now : Answers → Type 0) (old rows : List Row) (known end : Option (List ℕ)) (limit : ℕ) (head : List ℕ) → Took gap first now old rows
-    → now (ended None) → ((a : Answers) → first a → IfSome known (λ input. AreAnswersOf limit (head ++ input) end a))
+pub Took-ended : (gap : ℕ) (first now : Answers
+    → Type 0) (old rows : List Row) (known end : Option (List ℕ)) (limit : ℕ) (head : List ℕ)
+    → Took gap first now old rows
+    → now (ended None) → ((a : Answers) → first a
+    → IfSome known (λ input. AreAnswersOf limit (head ++ input) end a))
     → IfSome known (λ input. HoldsOfGot limit (head ++ input) end (ReadsLog gap (Ok tt) old rows))
 Took-ended gap first now old rows known end limit head h may whole =
     let all = prepended h.seen (ended None) in
-    over_log gap known end limit head all (Ok tt) old rows (whole all (h.has.complete (ended None) may))
+    over_log gap known end limit head all (Ok tt) old rows
+    (whole all (h.has.complete (ended None) may))
     (λ t c e. (
       ap (λ (a : Answers). a.fault) (sym e),
       subst (λ (a : Answers). AddsAll gap (receptions_of a.given) old rows) e
-          (subst (λ lines. AddsAll gap (receptions_of lines) old rows) (sym (append-nil h.seen)) h.adds),
+          (subst (λ lines. AddsAll gap (receptions_of lines) old rows)
+          (sym (append-nil h.seen)) h.adds),
     ))
 
 -- the log has a fault
-pub Took-fault : (gap : ℕ) (first now : Answers → Type 0) (old rows : List Row) (known end : Option (List ℕ)) (limit : ℕ) (head : List ℕ) (fault : LogFault) → Took gap first now old rows
-    → now (ended (Some fault)) → ((a : Answers) → first a → IfSome known (λ input. AreAnswersOf limit (head ++ input) end a))
-    → IfSome known (λ input. HoldsOfGot limit (head ++ input) end (ReadsLog gap (Err (Log fault)) old rows))
+pub Took-fault : (gap : ℕ) (first now : Answers
+    → Type 0) (old rows : List Row) (known end : Option (List ℕ)) (limit : ℕ) (head : List ℕ)
+    (fault : LogFault) → Took gap first now old rows
+    → now (ended (Some fault)) → ((a : Answers) → first a
+    → IfSome known (λ input. AreAnswersOf limit (head ++ input) end a))
+    → IfSome known (λ input. HoldsOfGot limit (head ++ input) end
+    (ReadsLog gap (Err (Log fault)) old rows))
 Took-fault gap first now old rows known end limit head fault h may whole =
     let all = prepended h.seen (ended (Some fault)) in
-    over_log gap known end limit head all (Err (Log fault)) old rows (whole all (h.has.complete (ended (Some fault)) may))
+    over_log gap known end limit head all (Err (Log fault)) old rows
+    (whole all (h.has.complete (ended (Some fault)) may))
     (λ t c e. ap (λ (a : Answers). a.fault) (sym e))
 
 -- an allocation failed
-pub Took-refused : (gap : ℕ) (known end : Option (List ℕ)) (limit : ℕ) (head : List ℕ) (old new : List Row)
-    → IfSome known (λ input. HoldsOfGot limit (head ++ input) end (ReadsLog gap (Err Memory) old new))
+pub Took-refused : (gap : ℕ) (known end : Option (List ℕ)) (limit : ℕ) (head : List ℕ)
+    (old new : List Row)
+    → IfSome known (λ input. HoldsOfGot limit (head ++ input) end
+    (ReadsLog gap (Err Memory) old new))
 Took-refused gap None end limit head old new = tt
 Took-refused gap (Some input) end limit head old new =
-    let g = gets_whole limit (head ++ input) end in record { text = g.text; ending = g.ending; gets = g.gets; holds = tt }
+    let g = gets_whole limit (head ++ input) end in
+    record { text = g.text; ending = g.ending; gets = g.gets; holds = tt }

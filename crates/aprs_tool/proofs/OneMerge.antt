@@ -25,15 +25,18 @@ pub record ShareBook (gap : ℕ) (S T : List Heard) : Type 0 where
   pub second : BookOf (millis_of gap) T rows
 
 -- what an input stands for, and what is read of it
-of_book : (gap : ℕ) → 0 < gap → (t : List ℕ) (S T : List Heard) → IsBookOfSet gap t S → AreInBook gap t T
+of_book : (gap : ℕ) → 0 < gap → (t : List ℕ) (S T : List Heard) → IsBookOfSet gap t S
+    → AreInBook gap t T
     → ShareBook gap S T
 of_book gap pos t S T stands reads =
-    let same : stands.rows ≡ reads.rows = (one_text stands.version reads.version stands.rows reads.rows stands.is_book reads.is_book (sym stands.text_is ∙ reads.text_is)).1 in
+    let same : stands.rows ≡ reads.rows = (one_text stands.version reads.version stands.rows
+    reads.rows stands.is_book reads.is_book (sym stands.text_is ∙ reads.text_is)).1 in
     record {
       rows = reads.rows;
       first = subst (λ (rows : List Row). BookOf (millis_of gap) S rows) same stands.book_is;
       second = subst (λ U. BookOf (millis_of gap) U reads.rows) (sym reads.receptions_are)
-          (witnessed (millis_of gap) reads.rows (omega (arith, pos)) (subst (λ g. Sound (millis_of g) reads.rows) reads.gap_is reads.is_book.sound));
+          (witnessed (millis_of gap) reads.rows (omega (arith, pos))
+          (subst (λ g. Sound (millis_of g) reads.rows) reads.gap_is reads.is_book.sound));
     }
 
 of_log : (gap : ℕ) (S T heard : List Heard) → SameMembers S heard → T ≡ heard → ShareBook gap S T
@@ -58,7 +61,8 @@ of_one gap pos t c S T stands reads = elim stands [
   ]
 ]
 
-of_all : (gap : ℕ) → 0 < gap → (gots : List Got) (S T : List Heard) → StandForUnion gap gots S → AreMembersOfAll gap gots T → ShareBook gap S T
+of_all : (gap : ℕ) → 0 < gap → (gots : List Got) (S T : List Heard) → StandForUnion gap gots S
+    → AreMembersOfAll gap gots T → ShareBook gap S T
 of_all gap pos [] S T stands reads =
     let p = exists (millis_of gap) [] in
     record {
@@ -73,17 +77,25 @@ of_all gap pos (g ∷ gots) S T stands reads =
     let union = stands.0 ++ stands.1 in
     record {
       rows = rows;
-      first = book_carries (millis_of gap) union S rows (turn S union stands.4) (merged (millis_of gap) stands.0 stands.1 one.rows others.rows one.first others.first);
-      second = subst (λ U. BookOf (millis_of gap) U rows) (sym reads.4) (merged (millis_of gap) reads.0 reads.1 one.rows others.rows one.second others.second);
+      first = book_carries (millis_of gap) union S rows (turn S union stands.4)
+          (merged (millis_of gap) stands.0 stands.1 one.rows others.rows one.first others.first);
+      second = subst (λ U. BookOf (millis_of gap) U rows) (sym reads.4)
+          (merged (millis_of gap) reads.0 reads.1 one.rows others.rows one.second others.second);
     }
 
-pub book_of_union : (gap : ℕ) → 0 < gap → (gots : List Got) (S : List Heard) (rows : List Row) → StandForUnion gap gots S → IsBookOfAll gap rows gots → BookOf (millis_of gap) S rows
+pub book_of_union : (gap : ℕ) → 0 < gap → (gots : List Got) (S : List Heard) (rows : List Row)
+    → StandForUnion gap gots S → IsBookOfAll gap rows gots → BookOf (millis_of gap) S rows
 book_of_union gap pos gots S rows stands book =
     let shared = of_all gap pos gots S book.0 stands book.1 in
-    subst (λ (r : List Row). BookOf (millis_of gap) S r) (one_book (millis_of gap) book.0 shared.rows rows shared.second book.2) shared.first
+    subst (λ (r : List Row). BookOf (millis_of gap) S r)
+    (one_book (millis_of gap) book.0 shared.rows rows shared.second book.2) shared.first
 
-pub one_merge : (gap : ℕ) → 0 < gap → (gots others : List Got) (S T : List Heard) (rows more : List Row) → StandForUnion gap gots S → StandForUnion gap others T → SameMembers S T
-    → IsBookOfAll gap rows gots → IsBookOfAll gap more others → (rows ≡ more) × (written_text (book_with gap rows) ≡ written_text (book_with gap more))
+pub one_merge : (gap : ℕ) → 0 < gap → (gots others : List Got) (S T : List Heard)
+    (rows more : List Row) → StandForUnion gap gots S → StandForUnion gap others T → SameMembers S T
+    → IsBookOfAll gap rows gots → IsBookOfAll gap more others
+    → (rows ≡ more) × (written_text (book_with gap rows) ≡ written_text (book_with gap more))
 one_merge gap pos gots others S T rows more first second same book other =
-    let is : rows ≡ more = unique (millis_of gap) S T rows more same (book_of_union gap pos gots S rows first book) (book_of_union gap pos others T more second other) in
+    let is : rows ≡ more = unique (millis_of gap) S T rows more same
+    (book_of_union gap pos gots S rows first book)
+    (book_of_union gap pos others T more second other) in
     (is, ap (λ (r : List Row). written_text (book_with gap r)) is)

@@ -10,17 +10,21 @@ use Rattle.aprs_log.specs.declared.fault.LogCause.TheVariants as cause
 use Rattle.aprs_log.proofs.LogAnswers.{answers_from-tail}
 
 -- one without an LF is a tail
-tail_step : (b any : Bool) (n k : ℕ) → (b || any) ≡ false → (any ≡ false → n ≤ k) → n + 1 ≤ cond (not b) (1 + k) 0
+tail_step : (b any : Bool) (n k : ℕ) → (b || any) ≡ false → (any ≡ false → n ≤ k)
+    → n + 1 ≤ cond (not b) (1 + k) 0
 tail_step true any n k e h = absurd cc
 tail_step false any n k e h = omega (arith, h e)
 
 no_line : (t : List ℕ) → list_any is_lf t ≡ false → length t ≤ position_or_len is_lf t
 no_line [] e = omega arith
-no_line (x ∷ t) e = let less = tail_step (is_lf x) (list_any is_lf t) (length t) (position_or_len is_lf t) e (no_line t) in omega (arith, less)
+no_line (x ∷ t) e = let less = tail_step (is_lf x) (list_any is_lf t) (length t)
+    (position_or_len is_lf t) e (no_line t) in omega (arith, less)
 
-pub short_tail : (t : List ℕ) (c : Ending) → length t < 8 → list_any is_lf t ≡ false → log_answers t c ≡ ended (fault_at 1 (ending_cause c t))
+pub short_tail : (t : List ℕ) (c : Ending) → length t < 8 → list_any is_lf t ≡ false
+    → log_answers t c ≡ ended (fault_at 1 (ending_cause c t))
 short_tail t c h none =
-    answers_from-tail 1 t c (no_line t none) ∙ ap (λ (k : Option LogCause). ended (fault_at 1 k)) fits
+    answers_from-tail 1 t c (no_line t none) ∙ ap
+    (λ (k : Option LogCause). ended (fault_at 1 k)) fits
   where
     fits : tail_cause t c ≡ ending_cause c t
     fits = grind (arith, nat_tests)

@@ -30,13 +30,24 @@ record Cut (xs : List Station) (call : Call) : Type 0 where
   others : (x : Station) → x ∈ before → x.call ≢ call
   whole : xs ≡ before ++ found ∷ after
 
-cut_at : (xs : List Station) (call : Call) (x : Station) → Ordered ComesBefore xs → x ∈ xs → x.call ≡ call → Cut xs call
+cut_at : (xs : List Station) (call : Call) (x : Station) → Ordered ComesBefore xs → x ∈ xs
+    → x.call ≡ call → Cut xs call
 cut_at [] call x o m e = absurd m
 cut_at (y ∷ ys) call x o (inl s) e =
-    record { before = []; found = y; after = ys; is = ap (λ (x : Station). x.call) s ∙ e; member = inl refl; others = λ z m. absurd m; whole = refl }
+    record {
+      before = [];
+      found = y;
+      after = ys;
+      is = ap (λ (x : Station). x.call) s
+          ∙ e;
+      member = inl refl;
+      others = λ z m. absurd m;
+      whole = refl;
+    }
 cut_at (y ∷ ys) call x o (inr m) e =
     let rest = cut_at ys call x o.1 m e in
-    let first : y.call ≢ call = λ same. below_itself y.call (subst (λ c. call_cmp y.call c ≡ Less) (e ∙ sym same) (o.0 x m)) in
+    let first : y.call ≢ call = λ same. below_itself y.call
+    (subst (λ c. call_cmp y.call c ≡ Less) (e ∙ sym same) (o.0 x m)) in
     record {
       before = y ∷ rest.before;
       found = rest.found;
@@ -50,13 +61,18 @@ cut_at (y ∷ ys) call x o (inr m) e =
       whole = ap (λ l. y ∷ l) rest.whole;
     }
 
-parts : (before after : List Station) (x : Station) (line position status rest : List ℕ) → station_lines x ≡ line ++ (position ++ status)
-    → flat_map station_lines (before ++ x ∷ after) ++ rest ≡ flat_map station_lines before ++ (line ++ (position ++ (status ++ (flat_map station_lines after ++ rest))))
+parts : (before after : List Station) (x : Station) (line position status rest : List ℕ)
+    → station_lines x ≡ line ++ (position ++ status)
+    → flat_map station_lines (before ++ x ∷ after) ++ rest ≡ flat_map station_lines before
+    ++ (line ++ (position ++ (status ++ (flat_map station_lines after ++ rest))))
 parts before after x line position status rest e =
-    ap (λ l. l ++ rest) (flat_map-append station_lines before (x ∷ after) ∙ ap (λ l. flat_map station_lines before ++ (l ++ flat_map station_lines after)) e)
+    ap (λ l. l ++ rest) (flat_map-append station_lines before (x ∷ after)
+    ∙ ap (λ l. flat_map station_lines before ++ (l ++ flat_map station_lines after)) e)
     ∙ simp append_assoc
 
-pub tells_position_of : (gap : ℕ) (S : List Heard) (text : List ℕ) (call : Call) (known : Option Heard) → IsListingOf gap S text → IsSource S call → LastKnown S (Passes (tells_position call)) known
+pub tells_position_of : (gap : ℕ) (S : List Heard) (text : List ℕ) (call : Call)
+    (known : Option Heard) → IsListingOf gap S text → IsSource S call
+    → LastKnown S (Passes (tells_position call)) known
     → TellsPosition text call known
 tells_position_of gap S text call known l source best =
     let found = (l.are_stations.sources call).1 source in
@@ -64,13 +80,19 @@ tells_position_of gap S text call known l source best =
     let x = cut.found in
     let rest = flat_map named_line l.named ++ flat_map message_line l.messages in
     let its = (l.are_stations.each x cut.member).position in
-    let same : x.position ≡ known = known_once S S (Passes (tells_position call)) x.position known (λ s. (λ h. h, λ h. h)) (subst (λ c. LastKnown S (Passes (tells_position c)) x.position) cut.is its) best in
+    let same : x.position ≡ known = known_once S S (Passes (tells_position call)) x.position known
+    (λ s. (λ h. h, λ h. h)) (subst (λ c. LastKnown S (Passes (tells_position c)) x.position)
+    cut.is its) best in
     record {
       before = cut.before;
       transmissions = x.transmissions;
       after = known_line x.status ++ (flat_map station_lines cut.after ++ rest);
       others = cut.others;
       text_is = l.text_is ∙ ap (λ l. flat_map station_lines l ++ rest) cut.whole
-          ∙ parts cut.before cut.after x (line_of (codes "station") (call_text call ∷ decimal x.transmissions ∷ [])) (known_line known) (known_line x.status) rest
-          (ap₂ (λ (c : Call) (p : Option Heard). line_of (codes "station") (call_text c ∷ decimal x.transmissions ∷ []) ++ (known_line p ++ known_line x.status)) cut.is same);
+          ∙ parts cut.before cut.after x (line_of (codes "station")
+          (call_text call ∷ decimal x.transmissions ∷ [])) (known_line known)
+          (known_line x.status) rest
+          (ap₂ (λ (c : Call) (p : Option Heard). line_of (codes "station")
+          (call_text c ∷ decimal x.transmissions ∷ [])
+          ++ (known_line p ++ known_line x.status)) cut.is same);
     }

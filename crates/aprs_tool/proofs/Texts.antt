@@ -15,11 +15,15 @@ use Rattle.aprs_log.specs.declared.fault.Reason.{Reason}
 use Rattle.aprs_log.specs.declared.fault.Reason.TheVariants as reason
 
 -- one more element was shown
-pub shown-more : {X : Type 0} (f : X → List ℕ) (a b : List ℕ) (xs : List X) (i : ℕ) (x : X) → slice_get xs i ≡ Some x → b ≡ a ++ f x
-    → (start : List ℕ) → a ≡ start ++ flat_map f (take i xs) → b ≡ start ++ flat_map f (take (i + 1) xs)
+pub shown-more : {X : Type 0} (f : X → List ℕ) (a b : List ℕ) (xs : List X) (i : ℕ) (x : X)
+    → slice_get xs i ≡ Some x → b ≡ a ++ f x
+    → (start : List ℕ) → a ≡ start ++ flat_map f (take i xs)
+    → b ≡ start ++ flat_map f (take (i + 1) xs)
 shown-more f a b xs i x is out start done =
     out ∙ ap (λ l. l ++ f x) done ∙ flat_map_more f start (take i xs) x
-    ∙ ap (λ l. start ++ flat_map f l) (ap (λ y. take i xs ++ y ∷ []) (sym (get_or_from_slice_get xs i x x is)) ∙ sym (take_more xs i x (slice_get_within xs i x is)))
+    ∙ ap (λ l. start ++ flat_map f l) (ap (λ y. take i xs ++ y ∷ [])
+    (sym (get_or_from_slice_get xs i x x is))
+    ∙ sym (take_more xs i x (slice_get_within xs i x is)))
 
 -- the same of elements that are made of others
 pub shown-each : {X Y : Type 0} (f : Y → List ℕ) (g : X → Y) (a b : List ℕ) (xs : List X) (i : ℕ) → i < length xs
@@ -37,7 +41,8 @@ shown-each {X} f g a b xs i within out start done = by (slice_get xs i) refl out
     by (Some x) is out = shown-more f a b (map g xs) i (g x) (slice_get-map g xs i ∙ ap (option_map g) is) out start done
 
 -- a byte that is shown as itself
-shown_byte-plain : (b : ℕ) (rest : List ℕ) (t : Bool) → is_shown b ≡ t → t ≡ true → b ∷ rest ≡ (cond t (b ∷ []) (92 ∷ 120 ∷ encode_lower (b ∷ []))) ++ rest
+shown_byte-plain : (b : ℕ) (rest : List ℕ) (t : Bool) → is_shown b ≡ t → t ≡ true
+    → b ∷ rest ≡ (cond t (b ∷ []) (92 ∷ 120 ∷ encode_lower (b ∷ []))) ++ rest
 shown_byte-plain b rest true is e = refl
 shown_byte-plain b rest false is e = absurd cc
 
@@ -48,8 +53,10 @@ shown-plain (b ∷ bytes) e =
     let p = and_parts _ _ e in
     ap (λ l. b ∷ l) (shown-plain bytes p.1) ∙ shown_byte-plain b (shown bytes) (is_shown b) refl p.0
 
-pub length-decimal-step : (n : ℕ) → 10 ≤ n → n < 2 ^ 64 → length (decimal n) ≡ length (decimal (n / 10)) + 1
-length-decimal-step n low h = ap length (decimal_step n low h) ∙ length-append (decimal (n / 10)) ((48 + n % 10) ∷ [])
+pub length-decimal-step : (n : ℕ) → 10 ≤ n → n < 2 ^ 64
+    → length (decimal n) ≡ length (decimal (n / 10)) + 1
+length-decimal-step n low h = ap length (decimal_step n low h)
+    ∙ length-append (decimal (n / 10)) ((48 + n % 10) ∷ [])
 
 pub length-reason_name : (r : Reason) → length (reason_name r) ≤ 10
 length-reason_name reason.Unended = omega arith

@@ -22,30 +22,63 @@ wide_enough gap own none = elim (cases_lt gap own) [
   | inr more ↦ more
 ]
 
-pub wide_ok : (gap own : ℕ) (r : Result BookValue WidenFault) (w : BookValue) → r ≡ Ok w → (r ≡ Err fault.Narrower) ↔ (gap < own) → own ≤ gap
-wide_ok gap own r w is known = wide_enough gap own (λ less. let bad : Ok w ≡ Err fault.Narrower = sym is ∙ known.1 less in absurd cc)
+pub wide_ok : (gap own : ℕ) (r : Result BookValue WidenFault) (w : BookValue) → r ≡ Ok w
+    → (r ≡ Err fault.Narrower) ↔ (gap < own) → own ≤ gap
+wide_ok gap own r w is known = wide_enough gap own (λ less. let bad : Ok w ≡ Err fault.Narrower =
+    sym is ∙ known.1 less in absurd cc)
 
 two_faults : (r : Result BookValue WidenFault) → r ≡ Err fault.Memory → r ≡ Err fault.Narrower → ⊥
 two_faults r memory narrower = absurd cc
 
-pub wide_refused : (gap own : ℕ) (r : Result BookValue WidenFault) → r ≡ Err fault.Memory → (r ≡ Err fault.Narrower) ↔ (gap < own) → own ≤ gap
+pub wide_refused : (gap own : ℕ) (r : Result BookValue WidenFault) → r ≡ Err fault.Memory
+    → (r ≡ Err fault.Narrower) ↔ (gap < own) → own ≤ gap
 wide_refused gap own r is known = wide_enough gap own (λ less. two_faults r is (known.1 less))
 
 module _ (known after : Option (List ℕ)) (limit gap : ℕ) (old new : Option (List ℕ)) where
-  pub not_read : (e : InputFault) → OfGot limit known after (ReadsInput gap (Err e)) → OfGot limit known after (WidensInput gap (Err (Input 0 e)) old old)
+  pub not_read : (e : InputFault) → OfGot limit known after (ReadsInput gap (Err e))
+      → OfGot limit known after (WidensInput gap (Err (Input 0 e)) old old)
   not_read e = got_so known after limit (λ input. input) _ _ (λ t c h. (refl, inl h, refl))
 
   module _ (b : BookValue) (read : OfGot limit known after (ReadsInput gap (Ok b))) where
-    pub not_wide : gap < b.gap → OfGot limit known after (WidensInput gap (Err (Input 0 Narrower)) old old)
-    not_wide less = got_so known after limit (λ input. input) _ _ (λ t c h. (refl, inr (refl, (h.0, (b, h.1, less))), refl)) read
+    pub not_wide : gap < b.gap → OfGot limit known after
+        (WidensInput gap (Err (Input 0 Narrower)) old old)
+    not_wide less = got_so known after limit (λ input. input) _ _
+        (λ t c h. (refl, inr (refl, (h.0, (b, h.1, less))), refl)) read
 
     pub no_memory : b.gap ≤ gap → OfGot limit known after (WidensInput gap (Err Memory) old old)
-    no_memory enough = got_so known after limit (λ input. input) _ _ (λ t c h. ((h.0, (b, h.1, enough)), refl)) read
+    no_memory enough = got_so known after limit (λ input. input) _ _
+        (λ t c h. ((h.0, (b, h.1, enough)), refl)) read
 
-    pub sent : (w : BookValue) → b.gap ≤ gap → w ≡ widened_to gap b → Appends old new (written_text w) → OfGot limit known after (WidensInput gap (Ok tt) old new)
+    pub sent : (w : BookValue) → b.gap ≤ gap → w ≡ widened_to gap b
+        → Appends old new (written_text w) → OfGot limit known after
+        (WidensInput gap (Ok tt) old new)
     sent w enough is text =
-        got_so known after limit (λ input. input) _ _ (λ t c h. (h.0, (b, h.1, (enough, subst (λ (w : BookValue). Appends old new (written_text w)) is text)))) read
+        got_so known after limit (λ input. input) _ _
+        (λ t c h. (
+          h.0,
+          (
+            b,
+            h.1,
+            (
+              enough,
+              subst (λ (w : BookValue). Appends old new (written_text w)) is text,
+            ),
+          ),
+        )) read
 
-    pub cut_short : (w : BookValue) → b.gap ≤ gap → w ≡ widened_to gap b → AppendsPrefix old new (written_text w) → OfGot limit known after (WidensInput gap (Err Write) old new)
+    pub cut_short : (w : BookValue) → b.gap ≤ gap → w ≡ widened_to gap b
+        → AppendsPrefix old new (written_text w)
+        → OfGot limit known after (WidensInput gap (Err Write) old new)
     cut_short w enough is text =
-        got_so known after limit (λ input. input) _ _ (λ t c h. (h.0, (b, h.1, (enough, subst (λ (w : BookValue). AppendsPrefix old new (written_text w)) is text)))) read
+        got_so known after limit (λ input. input) _ _
+        (λ t c h. (
+          h.0,
+          (
+            b,
+            h.1,
+            (
+              enough,
+              subst (λ (w : BookValue). AppendsPrefix old new (written_text w)) is text,
+            ),
+          ),
+        )) read

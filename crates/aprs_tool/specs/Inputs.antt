@@ -39,8 +39,8 @@ IsFaultless text ending = (fault : InputFault) → IsFaultOf fault text ending �
 
 -- ---- its receptions
 
--- The text is that of a book of this gap in some version, and these are receptions that, heard, give
--- exactly its rows.
+-- The text is that of a book of this gap in some version, and these are receptions that, heard,
+-- give exactly its rows.
 pub record AreInBook (gap : ℕ) (text : List ℕ) (S : List Heard) : Type 0 where
   pub version : Version
   pub gap_is : gap_of version ≡ gap
@@ -88,7 +88,8 @@ abbrev pub fault_of_merge : MergeFault → InputFault
 fault_of_merge merge.OtherGap = OtherGap
 fault_of_merge merge.Memory = Memory
 
--- A merge is refused where the gaps differ, and for an allocation that failed only where they don't.
+-- A merge is refused where the gaps differ, and for an allocation that failed only where they
+-- don't.
 abbrev pub RefusesGaps : MergeFault → ℕ → ℕ → Type 0
 RefusesGaps merge.OtherGap gap other = gap ≢ other
 RefusesGaps merge.Memory gap other = gap ≡ other

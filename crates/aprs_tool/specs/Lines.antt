@@ -10,8 +10,8 @@ use Rattle.aprs_tool.specs.Listing.{word, stamp_text, fraction_text, ambiguity_t
 use Rattle.aprs_tool.specs.declared.field.Field.{Field}
 use Rattle.aprs_tool.specs.declared.field.Field.TheVariants as field
 
--- At Ok the text stands after what was held, of which a prefix went out; at a fault a prefix of both
--- went out, and the count of failed calls rose.
+-- At Ok the text stands after what was held, of which a prefix went out; at a fault a prefix of
+-- both went out, and the count of failed calls rose.
 pub record PutsText (r : Result (Unit {0}) WriteFault) (old new : Option (List ℕ))
     (before after : ℕ) (held left text : List ℕ) : Type 0 where
   pub sent : OnOk r (Puts old new held left text)

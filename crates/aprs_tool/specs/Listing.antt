@@ -105,8 +105,8 @@ report_line x (position messaging stamp place symbol comment) =
 report_line x (status stamp text) =
     text_line_of (codes "status") (heard_fields x ++ stamp_text stamp ∷ []) text
 report_line x (object name live stamp place symbol comment) =
-    text_line_of (codes "object") (name_fields name live x ++ place_fields (Some stamp) place symbol)
-    comment
+    text_line_of (codes "object")
+    (name_fields name live x ++ place_fields (Some stamp) place symbol) comment
 report_line x (item name live place symbol comment) =
     text_line_of (codes "item") (name_fields name live x ++ place_fields None place symbol) comment
 report_line x (message addressee text id) = []

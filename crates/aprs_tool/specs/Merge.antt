@@ -130,8 +130,8 @@ IsReadOf k (Input index fault) = (index ≡ k) × IsReadFault fault
 IsReadOf k Write = ⊥
 IsReadOf k Memory = ⊥
 
--- Of each reader, the count of faults that it returned rose where P holds of its number, and else is
--- as it was.
+-- Of each reader, the count of faults that it returned rose where P holds of its number, and else
+-- is as it was.
 abbrev pub RoseWhereEach : {R : Type 0} → (ℕ → Type 0) → List (Counted R) → List (Counted R)
     → Type 0
 RoseWhereEach {R} P old new = (k : ℕ) (before after : Counted R) → slice_get old k ≡ Some before

@@ -155,8 +155,8 @@ check_plan text ending =
 -- ---- how a run goes
 
 -- A run with this answer did as planned: without a fault it wrote the whole text, an input's fault
--- comes after the whole text, and a refused output after a prefix of it; no other fault comes. There
--- is one input, number 0. What the output had before is `old`, and then it has `new`.
+-- comes after the whole text, and a refused output after a prefix of it; no other fault comes.
+-- There is one input, number 0. The output had `old` before, and then it has `new`.
 abbrev pub Ends : Result (Unit {0}) RunFault → Option (List ℕ) → Option (List ℕ) → Plan → Type 0
 Ends (Ok u) old new plan = (plan.fault ≡ None) × Appends old new plan.text
 Ends (Err (Input index (Log fault))) old new plan =

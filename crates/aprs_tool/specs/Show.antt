@@ -55,8 +55,8 @@ ShowsEach gap (Err Memory) old new gots = AllFit gap gots × (new ≡ old)
 
 -- ---- the positions in it
 
--- The text has a line of this station, and right after it the position line of `known`, if that is a
--- reception. Only lines of other stations stand before.
+-- The text has a line of this station, and right after it the position line of `known`, if that is
+-- a reception. Only lines of other stations stand before.
 pub record TellsPosition (text : List ℕ) (call : Call) (known : Option Heard) : Type 0 where
   pub before : List Station
   pub transmissions : ℕ

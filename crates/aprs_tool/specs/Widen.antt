@@ -27,8 +27,9 @@ abbrev pub WritesWide : ℕ → List ℕ → Ending → (List ℕ → Type 0) �
 WritesWide gap text ending P = OfInput gap text ending
     (λ book. (book.gap ≤ gap) × P (written_text (widened_to gap book)))
 
--- The text of the widened book is written, or a prefix of it where the output was refused. Where the
--- input is refused, or its gap is greater, or an allocation failed for the book, nothing is written.
+-- The text of the widened book is written, or a prefix of it where the output was refused. Where
+-- the input is refused, or its gap is greater, or an allocation failed for the book, nothing is
+-- written.
 abbrev pub WidensInput : ℕ → Result (Unit {0}) RunFault → Option (List ℕ) → Option (List ℕ)
     → List ℕ → Ending → Type 0
 WidensInput gap (Ok u) old new text ending =

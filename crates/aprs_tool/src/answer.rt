@@ -14,7 +14,7 @@ use crate::monitor::push_monitor_text;
 use crate::text::Text;
 use aprs_ax25::Frame;
 use aprs_io::push_all;
-use aprs_kiss::{Counted, WriteFault, send, write_kiss};
+use aprs_kiss::{Counted, KissWriter, WriteFault, send};
 use aprs_log::{Line, LogWriter, Reception};
 use aprs_report::Report;
 use std::io::Write;
@@ -23,6 +23,7 @@ use std::io::Write;
 #[derive(Drop)]
 pub struct Scratch {
     text: Text,
+    kiss: KissWriter,
     log: LogWriter,
 }
 
@@ -31,6 +32,7 @@ impl Scratch {
     pub fn new() -> Scratch {
         Scratch {
             text: Text::new(),
+            kiss: KissWriter::new(),
             log: LogWriter::new(),
         }
     }
@@ -73,7 +75,7 @@ fn write_reception<W: Write>(
     match form {
         Form::Text => write_monitor_line(w, reception.frame(), &mut scratch.text),
         Form::Kind => write_kind_line(w, reception.frame(), &mut scratch.text),
-        Form::Kiss => write_kiss(w, reception.frame().bytes()),
+        Form::Kiss => scratch.kiss.write(w, reception.frame().bytes()),
         Form::Log => scratch.log.write(w, reception),
         Form::Capture { .. } => Ok(()),
     }

@@ -41,8 +41,8 @@ enum Task {
 /// `convert text` where no command is given. `convert capture` needs `--receiver NAME` and
 /// `--moment MOMENT`, and the other forms refuse both. `merge` and `show` have `--gap SECONDS`,
 /// which is 30 where it is not given. SECONDS is 1 to 3,600, and else a fault of `JobFault::Clap`.
-/// The inputs' paths are given in the order of the arguments. Where these ask for help or the version,
-/// its text is that of `JobFault::Clap`.
+/// The inputs' paths are given in the order of the arguments. Where these ask for help or the
+/// version, its text is that of `JobFault::Clap`.
 pub fn job(alloc: Global, arguments: &[&str]) -> Result<Job, JobFault>
     ensures asked { (p : ValueParser) × IsForms p
         × AnswersArguments (program_app p) (map (λ a. a.now) arguments.now) result }

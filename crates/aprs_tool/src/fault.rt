@@ -110,8 +110,8 @@ impl From<WriteFault> for RunFault {
     }
 }
 
-/// The program's exit status for a run's fault: 4 where an allocation failed, 3 where the output was
-/// refused, and 1 for an input's own fault. Takes no memory.
+/// The program's exit status for a run's fault: 4 where an allocation failed, 3 where the output
+/// was refused, and 1 for an input's own fault. Takes no memory.
 pub fn status_of(fault: &RunFault) -> u8
     ensures { result ≡ status_of_fault fault.now }
 {

@@ -41,7 +41,8 @@ pub fn put_field<W: Write>(
     field: &Field<'_>,
 ) -> Result<(), WriteFault>
     ensures { PutsText result (W.contents (device_of w.old)) (W.contents (device_of w.new))
-        (failures_of w.old) (failures_of w.new) held.old.items held.new.items (field_text field.now) }
+        (failures_of w.old) (failures_of w.new) held.old.items held.new.items
+        (field_text field.now) }
 {
     match field {
         Field::Plain(bytes) => put(w, held, bytes),

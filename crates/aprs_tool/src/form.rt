@@ -36,7 +36,8 @@ pub enum Job {
 /// Why the program's arguments ask for no job.
 #[derive(Drop)]
 pub enum JobFault {
-    /// The arguments are not those of the command, or ask for help or the version: its text says so.
+    /// The arguments are not those of the command, or ask for help or the version: its text says
+    /// which.
     Clap(clap::Error),
     /// The options of `capture` are missing, unreadable or given to another form.
     Options,

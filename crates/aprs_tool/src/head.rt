@@ -28,7 +28,10 @@ pub struct ShortInput {
 
 /// Reads the first eight bytes of an input, or fewer where an LF is the last of them, or all where
 /// neither is got.
-pub fn read_head<R: Read>(limit: u64, r: &mut Counted<R>) -> Result<ArrayVec<u8, HEAD_LEN>, ShortInput>
+pub fn read_head<R: Read>(
+    limit: u64,
+    r: &mut Counted<R>,
+) -> Result<ArrayVec<u8, HEAD_LEN>, ShortInput>
     ensures whole { IfOk result (λ head. IsHead head.items × (length head.items ≤ limit)) }
     ensures few { IfOk result (λ head. length head.items ≤ HEAD_LEN) }
     ensures bytes { IfOk result (λ head. Consumes (R.remaining (device_of r.old))
@@ -36,12 +39,13 @@ pub fn read_head<R: Read>(limit: u64, r: &mut Counted<R>) -> Result<ArrayVec<u8,
     ensures short { IfErr result (λ short. length short.bytes.items < HEAD_LEN) }
     ensures one { IfErr result (λ short. list_any is_lf short.bytes.items ≡ false) }
     ensures end { IfErr result (λ short. IfSome (R.remaining (device_of r.old))
-        (λ input. Gets limit input (R.remaining (device_of r.new)) short.bytes.items short.ending)) }
+        (λ input. Gets limit input (R.remaining (device_of r.new)) short.bytes.items
+        short.ending)) }
     ensures count { failures_of r.old ≤ failures_of r.new }
     ensures read { IfErr result (λ short. short.ending ≡ Ending.Read
         → Rose (failures_of r.old) (failures_of r.new)) }
-    ensures answered { RoseWhere (IsErrAnd result (λ short. short.ending ≡ Ending.Read)) (answered_of r.old)
-        (answered_of r.new) }
+    ensures answered { RoseWhere (IsErrAnd result (λ short. short.ending ≡ Ending.Read))
+        (answered_of r.old) (answered_of r.new) }
 {
     let mut bytes = ArrayVec::new();
     while bytes.len() < HEAD_LEN {
@@ -67,8 +71,8 @@ fn read_byte<R: Read>(r: &mut Counted<R>, left: u64) -> Result<u8, Ending>
     ensures count { failures_of r.old ≤ failures_of r.new }
     ensures read { IfErr result (λ ending. ending ≡ Ending.Read
         → Rose (failures_of r.old) (failures_of r.new)) }
-    ensures answered { RoseWhere (IsErrAnd result (λ ending. ending ≡ Ending.Read)) (answered_of r.old)
-        (answered_of r.new) }
+    ensures answered { RoseWhere (IsErrAnd result (λ ending. ending ≡ Ending.Read))
+        (answered_of r.old) (answered_of r.new) }
 {
     let mut one = [0];
     match read_some(r, &mut one, left) {

@@ -29,9 +29,9 @@ const BOOK_MARK: &[u8] = b"APRSBOOK";
 /// Reads the book of an input: its own, where its first eight bytes are `APRSBOOK`, with its own
 /// gap, and else that of the receptions of a log, whose other lines are passed over, with the gap
 /// that is asked for. At most `limit` bytes are read, to the end. Requires that `limit` is at most
-/// `MAX_INPUT` (1,073,741,824). A faulty input gives its first fault. Where an
-/// allocation failed before it, a log gives `Memory`, and a book file `Book` with that cause and the
-/// line that was being read. An input of which fewer than eight bytes are got is a log, and one with an LF among
+/// `MAX_INPUT` (1,073,741,824). A faulty input gives its first fault. Where an allocation failed
+/// before it, a log gives `Memory`, and a book file `Book` with that cause and the line that was
+/// being read. An input of which fewer than eight bytes are got is a log, and one with an LF among
 /// its first eight is judged by that line first. Holds the book and one line.
 pub fn read_input<R: Read, A: Allocator + Copy>(
     alloc: A,
@@ -105,7 +105,8 @@ fn read_few<A: Allocator + Copy>(
 
 /// Reads an input, as `read_input` does, into a book: that of a set becomes the book of that set
 /// and of the input's receptions. `OtherGap` comes for a faultless book file of another gap, and
-/// then `Memory` where an allocation failed for the merge. After a fault the book may have any rows.
+/// then `Memory` where an allocation failed for the merge. After a fault the book may have any
+/// rows.
 pub(crate) fn read_into<R: Read, A: Allocator + Copy>(
     alloc: A,
     limit: u64,

@@ -27,7 +27,8 @@ pub fn convert_run<R: Read, W: Write, A: Allocator + Copy>(
     ensures run { RunsOver (convert_plan form) limit
         (R.remaining (device_of r.old)) (R.remaining (device_of r.new)) result
         (W.contents (device_of w.old)) (W.contents (device_of w.new)) }
-    ensures read { IfErr result (λ fault. IsRead fault → Rose (failures_of r.old) (failures_of r.new)) }
+    ensures read { IfErr result (λ fault. IsRead fault
+        → Rose (failures_of r.old) (failures_of r.new)) }
     ensures answered { RoseWhere (IsErrAnd result IsRead) (answered_of r.old) (answered_of r.new) }
     ensures write { IfErr result (λ fault. fault ≡ RunFault.Write
         → Rose (failures_of w.old) (failures_of w.new)) }

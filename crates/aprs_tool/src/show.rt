@@ -49,8 +49,5 @@ pub fn show_run<R: Read, W: Write, A: Allocator + Copy>(
     let Ok(views) = Views::of(&book) else {
         return Err(RunFault::Memory);
     };
-    match views.write(w) {
-        Ok(()) => Ok(()),
-        Err(_) => Err(RunFault::Write),
-    }
+    Ok(views.write(w)?)
 }

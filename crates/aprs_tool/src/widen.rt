@@ -33,7 +33,8 @@ pub fn widen_run<R: Read, W: Write, A: Allocator + Copy>(
         (WidensInput gap result (W.contents (device_of w.old)) (W.contents (device_of w.new))) }
     ensures nothing { IfErr result (λ fault. WritesNothing fault (W.contents (device_of w.old))
         (W.contents (device_of w.new))) }
-    ensures read { IfErr result (λ fault. IsRead fault → Rose (failures_of r.old) (failures_of r.new)) }
+    ensures read { IfErr result (λ fault. IsRead fault
+        → Rose (failures_of r.old) (failures_of r.new)) }
     // A failed read is reported where a call of the reader returned one, and nowhere else.
     ensures answered { RoseWhere (IsErrAnd result IsRead) (answered_of r.old) (answered_of r.new) }
     ensures write { IfErr result (λ fault. fault ≡ RunFault.Write
@@ -48,10 +49,7 @@ pub fn widen_run<R: Read, W: Write, A: Allocator + Copy>(
         Err(WidenFault::Narrower) => return Err(narrower()),
         Err(WidenFault::Memory) => return Err(RunFault::Memory),
     };
-    match write_book(w, &wide) {
-        Ok(()) => Ok(()),
-        Err(_) => Err(RunFault::Write),
-    }
+    Ok(write_book(w, &wide)?)
 }
 
 /// The only input has a greater gap.

@@ -8,6 +8,10 @@ returns-in-Some-clause-none c =
     let b = c.in_ok-first.first.now in
     let d = c.in_ok-last.last.now in
     let e = c.in_ok-receivers.receivers.now in
-    let is = c.in_ok-tag.ensures.pieces ∙ ap (λ (t : List (List ℕ)). a ∷ t) (c.in_ok-first.ensures.pieces ∙ ap (λ (t : List (List ℕ)). b ∷ t) (c.in_ok-last.ensures.pieces
-    ∙ ap (λ (t : List (List ℕ)). d ∷ t) (c.in_ok-receivers.ensures.pieces ∙ ap (λ (t : List (List ℕ)). e ∷ t) c.in_ok-receiver.ensures.pieces))) in
-    seven_pieces 32 a b d e _ _ c.in-Some.field-0.1.now c.args.line.now _ is c.in-Some.ensures.pieces
+    let is = c.in_ok-tag.ensures.pieces ∙ ap (λ (t : List (List ℕ)). a ∷ t)
+    (c.in_ok-first.ensures.pieces ∙ ap (λ (t : List (List ℕ)). b ∷ t)
+    (c.in_ok-last.ensures.pieces
+    ∙ ap (λ (t : List (List ℕ)). d ∷ t) (c.in_ok-receivers.ensures.pieces
+    ∙ ap (λ (t : List (List ℕ)). e ∷ t) c.in_ok-receiver.ensures.pieces))) in
+    seven_pieces 32 a b d e _ _ c.in-Some.field-0.1.now c.args.line.now _ is
+    c.in-Some.ensures.pieces

@@ -14,7 +14,8 @@ returns c = λ text. (
       version = t.version;
       is = t.is.version;
       rows = t.rows;
-      holds = witnessed (millis_of (gap_of t.version)) t.rows (some_millis t.version t.is.version) t.is.sound;
+      holds = witnessed (millis_of (gap_of t.version)) t.rows
+          (some_millis t.version t.is.version) t.is.sound;
       each = t.is.each;
       text_is = t.text_is;
     },
@@ -22,7 +23,12 @@ returns c = λ text. (
   λ t. record {
     version = t.1.version;
     rows = t.1.rows;
-    is = record { version = t.1.is; sound = sound (millis_of (gap_of t.1.version)) t.0 t.1.rows t.1.holds; each = t.1.each };
+    is = record {
+      version = t.1.is;
+      sound = sound
+          (millis_of (gap_of t.1.version)) t.0 t.1.rows t.1.holds;
+      each = t.1.each;
+    };
     text_is = t.1.text_is;
     ended = refl;
   },

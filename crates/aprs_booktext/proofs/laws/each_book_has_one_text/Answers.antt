@@ -9,4 +9,5 @@ pub returns-clause-written : goal.returns-clause-written
 returns-clause-written c = one_book
 
 pub returns-clause-cut : goal.returns-clause-cut
-returns-clause-cut c = λ v rows is small text more e f whole first. cut_short v rows is small more e f.cause text f whole refl first
+returns-clause-cut c = λ v rows is small text more e f whole first. cut_short v rows is small more e
+    f.cause text f whole refl first

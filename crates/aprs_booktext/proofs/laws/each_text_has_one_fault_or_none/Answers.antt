@@ -13,4 +13,6 @@ returns-clause-one c = one_fault
 
 pub returns-clause-none : goal.returns-clause-none
 returns-clause-none c = λ text e f small book first.
-    (cut_short book.version book.rows book.is (let few = rows_few book.version book.rows in omega (arith, few, small, ap length book.text_is)) [] e f.cause text f (append-nil text ∙ book.text_is) refl first).1 book.ended refl
+    (cut_short book.version book.rows book.is (let few = rows_few book.version book.rows in
+    omega (arith, few, small, ap length book.text_is)) [] e f.cause text f (append-nil text
+    ∙ book.text_is) refl first).1 book.ended refl

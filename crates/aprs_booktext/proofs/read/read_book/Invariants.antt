@@ -8,7 +8,8 @@ abbrev pub invariant-loop-count : goal.invariant-loop-count
 invariant-loop-count g l =
     let remaining = g.R.Read.remaining in
     record {
-      got : Got (Stands l.reader) l.head (remaining (device_of l.fn.source)) (remaining (device_of l.source)) l.limit l.left;
+      got : Got (Stands l.reader) l.head (remaining (device_of l.fn.source))
+          (remaining (device_of l.source)) l.limit l.left;
       few : length l.reader.book.rows + l.left ≤ l.limit;
       count : failures_of l.fn.source ≤ failures_of l.source;
       answered : answered_of l.source ≡ answered_of l.fn.source;

@@ -9,4 +9,5 @@ returns-in-Some-clause-some c =
     ((c.in-Some.ensures.exact c.in-Some.moment).0 refl)
 
 pub returns-in-None-clause-none : goal.returns-in-None-clause-none
-returns-in-None-clause-none c = moment_missed c.args.form c.args.field.now (sym c.in-None.ensures.value)
+returns-in-None-clause-none c = moment_missed c.args.form c.args.field.now
+    (sym c.in-None.ensures.value)

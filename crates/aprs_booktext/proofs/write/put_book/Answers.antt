@@ -6,17 +6,26 @@ use Rattle.aprs_booktext.proofs.write.put_book.Goals as goal
 
 pub returns-in_err-put-clause-prefix : goal.returns-in_err-put-clause-prefix
 returns-in_err-put-clause-prefix g c =
-    on_err c.from_residual.result (prefix_of_part _ _ _ _ _ _ (text_parts c.args.book.now _ _ c.gap.ensures (cc)) c.in_err-put.ensures.prefix)
+    on_err c.from_residual.result (prefix_of_part _ _ _ _ _ _
+    (text_parts c.args.book.now _ _ c.gap.ensures (cc)) c.in_err-put.ensures.prefix)
 
 pub returns-in_err-put_rows-clause-prefix : goal.returns-in_err-put_rows-clause-prefix
 returns-in_err-put_rows-clause-prefix g c =
-    prefix_of_last c.from_residual-in_err-put_rows.result _ _ _ _ _ _ _ _ c.in_ok-put.ensures.sent (text_parts c.args.book.now _ _ c.gap.ensures (cc))
-    (on_err c.from_residual-in_err-put_rows.result (prefix_of_first _ _ c.put.new.held.items (flat_map line_and_lf c.args.book.now.rows) _ c.in_err-put_rows.ensures.prefix))
+    prefix_of_last c.from_residual-in_err-put_rows.result _ _ _ _ _ _ _ _ c.in_ok-put.ensures.sent
+    (text_parts c.args.book.now _ _ c.gap.ensures (cc))
+    (on_err c.from_residual-in_err-put_rows.result
+    (prefix_of_first _ _ c.put.new.held.items
+    (flat_map line_and_lf c.args.book.now.rows) _ c.in_err-put_rows.ensures.prefix))
 
 pub returns-clause-sent : goal.returns-clause-sent
 returns-clause-sent g c =
-    Puts-last c.put-2.result _ _ _ _ _ _ _ _ (Puts-then c.in_ok-put.ensures.sent c.in_ok-put_rows.ensures.sent) (text_end c.args.book.now _ _ c.gap.ensures (cc) _ _ c.len.ensures (cc)) _ c.put-2.ensures.sent
+    Puts-last c.put-2.result _ _ _ _ _ _ _ _ (Puts-then c.in_ok-put.ensures.sent
+    c.in_ok-put_rows.ensures.sent) (text_end c.args.book.now _ _ c.gap.ensures
+    (cc) _ _ c.len.ensures (cc)) _ c.put-2.ensures.sent
 
 pub returns-clause-prefix : goal.returns-clause-prefix
 returns-clause-prefix g c =
-    prefix_of_last c.put-2.result _ _ _ _ _ _ _ _ (Puts-then c.in_ok-put.ensures.sent c.in_ok-put_rows.ensures.sent) (text_end c.args.book.now _ _ c.gap.ensures (cc) _ _ c.len.ensures (cc)) c.put-2.ensures.prefix
+    prefix_of_last c.put-2.result _ _ _ _ _ _ _ _
+    (Puts-then c.in_ok-put.ensures.sent c.in_ok-put_rows.ensures.sent)
+    (text_end c.args.book.now _ _ c.gap.ensures (cc) _ _ c.len.ensures (cc))
+    c.put-2.ensures.prefix

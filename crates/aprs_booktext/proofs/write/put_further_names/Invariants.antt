@@ -10,7 +10,8 @@ abbrev pub invariant-loop-name : goal.invariant-loop-name
 invariant-loop-name g l =
     let contents = g.W.Write.contents in
     record {
-      put : Puts (contents (device_of l.initial.w)) (contents (device_of l.w)) l.initial.held.items l.held.items
+      put : Puts (contents (device_of l.initial.w))
+          (contents (device_of l.w)) l.initial.held.items l.held.items
           (flat_map (λ name. 44 ∷ name) (take l.name-index l.names));
       count : failures_of l.initial.w ≤ failures_of l.w;
       names : All IsName (take l.name-index l.names);

@@ -10,9 +10,11 @@ returns-in_err-put-clause-prefix g c =
 pub returns-clause-sent : goal.returns-clause-sent
 returns-clause-sent g c =
     let whole = joined_first _ _ _ _ c.in-Some.ensures.cases.0 c.as_bytes.ensures.value in
-    Puts-last c.put_further_names.result _ _ _ _ _ _ _ _ c.in_ok-put.ensures.sent whole _ c.put_further_names.ensures.sent
+    Puts-last c.put_further_names.result _ _ _ _ _ _ _ _ c.in_ok-put.ensures.sent whole _
+    c.put_further_names.ensures.sent
 
 pub returns-clause-prefix : goal.returns-clause-prefix
 returns-clause-prefix g c =
     let whole = joined_first _ _ _ _ c.in-Some.ensures.cases.0 c.as_bytes.ensures.value in
-    prefix_of_last c.put_further_names.result _ _ _ _ _ _ _ _ c.in_ok-put.ensures.sent whole c.put_further_names.ensures.prefix
+    prefix_of_last c.put_further_names.result _ _ _ _ _ _ _ _ c.in_ok-put.ensures.sent whole
+    c.put_further_names.ensures.prefix

@@ -6,15 +6,27 @@ use Rattle.aprs_booktext.proofs.Written.{WrittenSoFar-none, WrittenSoFar-more}
 use Rattle.aprs_booktext.proofs.write.put_rows.Goals as goal
 
 pub loop-row-init : goal.loop-row-init
-loop-row-init g c = record { put = rw (c.into_iter-row-iterator.ensures.into_iter_gives, c.rows-row-items.ensures.rows) (PutSoFar-none line_and_lf _ _ _); count = omega arith; written = rw (c.into_iter-row-iterator.ensures.into_iter_gives, c.rows-row-items.ensures.rows) (WrittenSoFar-none _) }
+loop-row-init g c = record {
+  put = rw (
+    c.into_iter-row-iterator.ensures.into_iter_gives,
+    c.rows-row-items.ensures.rows,
+  ) (PutSoFar-none line_and_lf _ _ _);
+  count = omega arith;
+  written =
+      rw (c.into_iter-row-iterator.ensures.into_iter_gives, c.rows-row-items.ensures.rows)
+      (WrittenSoFar-none _);
+}
 
 pub loop-row-preserved : goal.loop-row-preserved
 loop-row-preserved g c = record {
-  put = PutSoFar-more line_and_lf _ _ _ _ _ _ _ _ _ c.loop-row.invariant.put c.in-Some.ensures.steps _ c.in_ok-put_row.ensures.sent;
+  put = PutSoFar-more line_and_lf _ _ _ _ _ _ _ _ _ c.loop-row.invariant.put c.in-Some.ensures.steps
+      _ c.in_ok-put_row.ensures.sent;
   count = omega (arith, c.loop-row.invariant.count, c.put_row.ensures.count);
-  written = WrittenSoFar-more _ _ _ _ _ c.rows-row-items.ensures.sound.sound c.loop-row.invariant.written c.in-Some.ensures.steps c.in_ok-put_row.ensures.spelled;
+  written = WrittenSoFar-more _ _ _ _ _ c.rows-row-items.ensures.sound.sound
+      c.loop-row.invariant.written c.in-Some.ensures.steps c.in_ok-put_row.ensures.spelled;
 }
 
 pub returns-in_err-put_row-clause-prefix : goal.returns-in_err-put_row-clause-prefix
 returns-in_err-put_row-clause-prefix g c =
-    on_err c.from_residual.result (prefix_of_more line_and_lf _ _ _ _ _ _ _ _ _ c.loop-row.invariant.put c.in-Some.ensures.steps c.in_err-put_row.ensures.prefix)
+    on_err c.from_residual.result (prefix_of_more line_and_lf _ _ _ _ _ _ _ _ _
+    c.loop-row.invariant.put c.in-Some.ensures.steps c.in_err-put_row.ensures.prefix)

@@ -9,7 +9,9 @@ abbrev pub invariant-loop-row : goal.invariant-loop-row
 invariant-loop-row g l =
     let contents = g.W.Write.contents in
     record {
-      put : PutSoFar line_and_lf (contents (device_of l.initial.w)) (contents (device_of l.w)) l.initial.held.items l.held.items l.fn.book.rows l.row-iterator;
+      put : PutSoFar line_and_lf (contents (device_of l.initial.w))
+          (contents (device_of l.w)) l.initial.held.items l.held.items l.fn.book.rows
+          l.row-iterator;
       count : failures_of l.initial.w ≤ failures_of l.w;
       written : WrittenSoFar l.fn.book.rows l.row-iterator;
     }

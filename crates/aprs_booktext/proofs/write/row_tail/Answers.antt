@@ -12,5 +12,6 @@ returns-clause-spelled c =
       name_is = c.as_bytes.ensures.name;
       bytes_are = subst IsBytes (c.bytes.ensures.value) c.push_hex.ensures.bytes;
       few = (omega (arith, sound.within, sound.least), IsSound-len c.args.frame.now sound);
-      frame_is = ap (unless_fault c.args.frame.now) (FrameOf-frame_fault _ c.args.frame.now c.bytes.ensures.frame);
+      frame_is = ap (unless_fault c.args.frame.now)
+          (FrameOf-frame_fault _ c.args.frame.now c.bytes.ensures.frame);
     }

@@ -10,20 +10,29 @@ use Rattle.aprs_tool.proofs.answer.write_reception.Goals as goal
 pub returns-in-Text-clause-prefix : goal.returns-in-Text-clause-prefix
 returns-in-Text-clause-prefix g c =
     let x = c.args.reception.now in
-    let P : List ℕ → Type 0 = λ text. OnErr c.write_monitor_line.result (AppendsPrefix (g.W.Write.contents (device_of c.args.w.now)) (g.W.Write.contents (device_of c.write_monitor_line.new.w)) text) in
-    subst P (ap (λ frame. ended_by_lf (monitor_text (parts_of frame))) c.frame.ensures ∙ sym (ap (λ (f : Form). reception_text f x) c.in-Text.is))
+    let P : List ℕ → Type 0 = λ text. OnErr c.write_monitor_line.result
+    (AppendsPrefix (g.W.Write.contents (device_of c.args.w.now))
+    (g.W.Write.contents (device_of c.write_monitor_line.new.w)) text) in
+    subst P (ap (λ frame. ended_by_lf (monitor_text (parts_of frame))) c.frame.ensures
+    ∙ sym (ap (λ (f : Form). reception_text f x) c.in-Text.is))
     c.write_monitor_line.ensures.prefix
 
 pub returns-in-Kind-clause-prefix : goal.returns-in-Kind-clause-prefix
 returns-in-Kind-clause-prefix g c =
     let x = c.args.reception.now in
-    let P : List ℕ → Type 0 = λ text. OnErr c.write_kind_line.result (AppendsPrefix (g.W.Write.contents (device_of c.args.w.now)) (g.W.Write.contents (device_of c.write_kind_line.new.w)) text) in
-    subst P (ap (λ frame. ended_by_lf (kind_text (parts_of frame))) c.frame-in-Kind.ensures ∙ sym (ap (λ (f : Form). reception_text f x) c.in-Kind.is))
+    let P : List ℕ → Type 0 = λ text. OnErr c.write_kind_line.result
+    (AppendsPrefix (g.W.Write.contents (device_of c.args.w.now))
+    (g.W.Write.contents (device_of c.write_kind_line.new.w)) text) in
+    subst P (ap (λ frame. ended_by_lf (kind_text (parts_of frame))) c.frame-in-Kind.ensures
+    ∙ sym (ap (λ (f : Form). reception_text f x) c.in-Kind.is))
     c.write_kind_line.ensures.prefix
 
 pub returns-in-Kiss-clause-prefix : goal.returns-in-Kiss-clause-prefix
 returns-in-Kiss-clause-prefix g c =
     let x = c.args.reception.now in
-    let P : List ℕ → Type 0 = λ text. OnErr c.write_kiss.result (AppendsPrefix (g.W.Write.contents (device_of c.args.w.now)) (g.W.Write.contents (device_of c.write_kiss.new.w)) text) in
-    subst P (ap kiss_text (c.bytes.ensures.value ∙ c.frame-in-Kiss.ensures) ∙ sym (ap (λ (f : Form). reception_text f x) c.in-Kiss.is))
+    let P : List ℕ → Type 0 = λ text. OnErr c.write_kiss.result
+    (AppendsPrefix (g.W.Write.contents (device_of c.args.w.now))
+    (g.W.Write.contents (device_of c.write_kiss.new.w)) text) in
+    subst P (ap kiss_text (c.bytes.ensures.value ∙ c.frame-in-Kiss.ensures)
+    ∙ sym (ap (λ (f : Form). reception_text f x) c.in-Kiss.is))
     c.write_kiss.ensures.prefix

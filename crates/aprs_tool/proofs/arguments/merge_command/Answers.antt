@@ -6,5 +6,7 @@ use Rattle.aprs_tool.proofs.arguments.merge_command.Goals as goal
 pub returns-clause-app : goal.returns-clause-app
 returns-clause-app c =
     let named : app_of c.about.result ≡ new_app (codes "merge") = search rules in
-    let with_inputs = c.in_ok-with_inputs.ensures.shape c.inputs_arg-inputs.ensures.local ∙ ap₂ with_rule named c.inputs_arg-inputs.ensures.rule in
-    IfOk-weaker c.arg-2.result _ _ (λ m h. h.shape c.gap_arg-gap.ensures.local ∙ ap₂ with_rule with_inputs c.gap_arg-gap.ensures.rule) c.arg-2.ensures
+    let with_inputs = c.in_ok-with_inputs.ensures.shape c.inputs_arg-inputs.ensures.local
+    ∙ ap₂ with_rule named c.inputs_arg-inputs.ensures.rule in
+    IfOk-weaker c.arg-2.result _ _ (λ m h. h.shape c.gap_arg-gap.ensures.local
+    ∙ ap₂ with_rule with_inputs c.gap_arg-gap.ensures.rule) c.arg-2.ensures

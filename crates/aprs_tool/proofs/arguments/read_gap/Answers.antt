@@ -9,8 +9,10 @@ use Rattle.aprs_laws.specs.Gap.{IsGap}
 use Rattle.aprs_tool.specs.Arguments.{read_gap}
 use Rattle.aprs_tool.proofs.arguments.read_gap.Goals as goal
 
-read : (t : List ℕ) → IsUnsignedIn 1 3600 t → read_gap t ≡ Some (digits_value 10 (without_leading_plus t))
-read t h = let is : is_unsigned_in 1 3600 t ≡ true = Accepts-accepts false (vp.Unsigned 1 3600) t h in rw is refl
+read : (t : List ℕ) → IsUnsignedIn 1 3600 t → read_gap t
+    ≡ Some (digits_value 10 (without_leading_plus t))
+read t h = let is : is_unsigned_in 1 3600 t ≡ true =
+    Accepts-accepts false (vp.Unsigned 1 3600) t h in rw is refl
 
 not_read : (t : List ℕ) → (IsUnsignedIn 1 3600 t → ⊥) → read_gap t ≡ None
 not_read t none = by (is_unsigned_in 1 3600 t) refl
@@ -20,11 +22,13 @@ not_read t none = by (is_unsigned_in 1 3600 t) refl
     by false e = rw e refl
 
 -- the number of a text, as a gap
-of_number : (t : List ℕ) (n : ℕ) (r : Option ℕ) → IsNumeral 10 (without_leading_plus t) → digits_value 10 (without_leading_plus t) < 2 ^ 64
+of_number : (t : List ℕ) (n : ℕ) (r : Option ℕ) → IsNumeral 10 (without_leading_plus t)
+    → digits_value 10 (without_leading_plus t) < 2 ^ 64
     → n ≡ digits_value 10 (without_leading_plus t) → SomeIff r (IsGap n) n → r ≡ read_gap t
 of_number t n (Some g) is few e h =
     rw (h.1, e) (sym (read t (is, few, omega (arith, h.0.0, e), omega (arith, h.0.1, e))))
-of_number t n None is few e h = sym (not_read t (λ p. h (omega (arith, p.2, e), omega (arith, p.3, e))))
+of_number t n None is few e h = sym (not_read t
+    (λ p. h (omega (arith, p.2, e), omega (arith, p.3, e))))
 
 pub returns-in-Ok : goal.returns-in-Ok
 returns-in-Ok c =

@@ -8,7 +8,8 @@ abbrev pub invariant-loop-rest : goal.invariant-loop-rest
 invariant-loop-rest g l = record {
   count : failures_of l.initial.w ≤ failures_of l.w;
   captured : HasCaptured (capture_text l.receiver l.moment) l.initial.reader l.reader
-      (g.W.Write.contents (device_of l.initial.w)) (g.W.Write.contents (device_of l.w)) l.chunk l.rest;
+      (g.W.Write.contents (device_of l.initial.w))
+      (g.W.Write.contents (device_of l.w)) l.chunk l.rest;
 }
 
 abbrev pub decreases-loop-rest : goal.decreases-loop-rest

@@ -10,7 +10,11 @@ pub returns-in-Ok-clause-prefix : goal.returns-in-Ok-clause-prefix
 returns-in-Ok-clause-prefix g c =
     let r = c.args.receiver.now in
     let m = c.args.moment.now in
-    let P : List ℕ → Type 0 = λ text. OnErr c.write.result (AppendsPrefix (g.W.Write.contents (device_of c.args.w.now)) (g.W.Write.contents (device_of c.write.new.w)) text) in
+    let P : List ℕ → Type 0 = λ text. OnErr c.write.result
+    (AppendsPrefix (g.W.Write.contents (device_of c.args.w.now))
+    (g.W.Write.contents (device_of c.write.new.w)) text) in
     subst P (ap (λ (x : Heard). ended_by_lf (written_line x)) c.new.ensures
-    ∙ ap (λ k. captured c.copy-in-Ok.result k (Ok c.in-Ok.frame)) c.copy.ensures ∙ ap (λ k. captured k m (Ok c.in-Ok.frame)) c.copy-in-Ok.ensures
-    ∙ ap (λ (f : Result (List ℕ) FrameFault). captured r m f) c.in-Ok.ensures.exact) c.write.ensures.prefix
+    ∙ ap (λ k. captured c.copy-in-Ok.result k (Ok c.in-Ok.frame)) c.copy.ensures
+    ∙ ap (λ k. captured k m (Ok c.in-Ok.frame)) c.copy-in-Ok.ensures
+    ∙ ap (λ (f : Result (List ℕ) FrameFault). captured r m f) c.in-Ok.ensures.exact)
+    c.write.ensures.prefix

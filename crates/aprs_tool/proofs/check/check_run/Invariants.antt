@@ -15,8 +15,10 @@ invariant-lines g l =
       writes : failures_of l.initial.w ≤ failures_of l.w;
       going : stop_of l.reader ≡ None;
       answered : answered_of (source_of l.reader) ≡ answered_of (source_of l.initial.reader);
-      checked : (end : Option (List ℕ)) → Checked (Awaits (remaining (device_of (source_of l.initial.reader))) end l.initial.reader)
-          (Awaits (remaining (device_of (source_of l.reader))) end l.reader) (contents (device_of l.initial.w)) (contents (device_of l.w))
+      checked : (end : Option (List ℕ)) → Checked
+          (Awaits (remaining (device_of (source_of l.initial.reader))) end l.initial.reader)
+          (Awaits (remaining (device_of (source_of l.reader))) end l.reader)
+          (contents (device_of l.initial.w)) (contents (device_of l.w))
           l.heard l.passed (lines_of l.reader);
     }
 

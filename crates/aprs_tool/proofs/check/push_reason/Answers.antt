@@ -5,5 +5,6 @@ use Rattle.aprs_tool.proofs.check.push_reason.Goals as goal
 
 pub push_all-requires : goal.push_all-requires
 push_all-requires c =
-    let e : length c.as_bytes.result.now ≡ length (reason_name c.args.reason) = ap length (c.as_bytes.ensures.value ∙ c.name.ensures) in
+    let e : length c.as_bytes.result.now ≡ length (reason_name c.args.reason) =
+    ap length (c.as_bytes.ensures.value ∙ c.name.ensures) in
     omega (arith, e, length-reason_name c.args.reason)

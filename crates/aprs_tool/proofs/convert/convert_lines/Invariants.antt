@@ -17,8 +17,10 @@ invariant-lines g l =
       writes : failures_of l.initial.w ≤ failures_of l.w;
       going : stop_of l.reader ≡ None;
       answered : answered_of (source_of l.reader) ≡ answered_of (source_of l.initial.reader);
-      ran : (end : Option (List ℕ)) → Ran (flat_map (line_text l.form)) (Awaits (remaining (device_of (source_of l.initial.reader))) end l.initial.reader)
-          (Awaits (remaining (device_of (source_of l.reader))) end l.reader) (contents (device_of l.initial.w)) (contents (device_of l.w));
+      ran : (end : Option (List ℕ)) → Ran (flat_map (line_text l.form))
+          (Awaits (remaining (device_of (source_of l.initial.reader))) end l.initial.reader)
+          (Awaits (remaining (device_of (source_of l.reader))) end l.reader)
+          (contents (device_of l.initial.w)) (contents (device_of l.w));
     }
 
 abbrev pub decreases-lines : goal.decreases-lines

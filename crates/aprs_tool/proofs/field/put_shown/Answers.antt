@@ -7,7 +7,8 @@ use Rattle.aprs_tool.proofs.field.put_shown.Goals as goal
 
 pub returns-then-are_shown : goal.returns-then-are_shown
 returns-then-are_shown g c = let p = c.put.ensures in
-    PutsText-is (record { sent = p.sent; prefix = p.prefix; count = p.count; fault = p.fault }) (shown-plain c.args.bytes.now (sym c.if-are_shown.ensures))
+    PutsText-is (record { sent = p.sent; prefix = p.prefix; count = p.count; fault = p.fault })
+    (shown-plain c.args.bytes.now (sym c.if-are_shown.ensures))
 
 pub loop-b-init : goal.loop-b-init
 loop-b-init g c = PutsText-none _ _ _
@@ -17,7 +18,8 @@ loop-b-preserved g c =
     let p = c.in_ok-put.ensures in
     let bytes = c.args.bytes.now in
     let i = c.loop-b.b-index in
-    PutsText-more shown_byte bytes i (get_or bytes i 0) (omega arith) (get_or_default bytes i 0 _ (omega arith)) c.loop-b.invariant
+    PutsText-more shown_byte bytes i (get_or bytes i 0) (omega arith)
+    (get_or_default bytes i 0 _ (omega arith)) c.loop-b.invariant
     (PutsText-is (record { sent = p.sent; prefix = tt; count = p.count; fault = tt }) (cc))
 
 pub returns-in_err-put : goal.returns-in_err-put
@@ -25,5 +27,8 @@ returns-in_err-put g c =
     let p = c.in_err-put.ensures in
     let bytes = c.args.bytes.now in
     let i = c.loop-b.b-index in
-    PutsText-broken shown_byte bytes i (get_or bytes i 0) (omega arith) (get_or_default bytes i 0 _ (omega arith)) c.loop-b.invariant _ c.from_residual.result c.from_residual.ensures.0
-    (PutsText-is {r = Err c.in_err-put.field-0.0} {i = c.put-in-loop-b.new.held.items} (record { sent = tt; prefix = p.prefix; count = p.count; fault = p.fault }) (cc))
+    PutsText-broken shown_byte bytes i (get_or bytes i 0) (omega arith)
+    (get_or_default bytes i 0 _ (omega arith)) c.loop-b.invariant _ c.from_residual.result
+    c.from_residual.ensures.0
+    (PutsText-is {r = Err c.in_err-put.field-0.0} {i = c.put-in-loop-b.new.held.items}
+    (record { sent = tt; prefix = p.prefix; count = p.count; fault = p.fault }) (cc))

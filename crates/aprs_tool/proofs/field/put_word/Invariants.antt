@@ -8,5 +8,6 @@ use Rattle.aprs_tool.proofs.field.put_word.Given as goal
 abbrev pub invariant-loop-b : goal.invariant-loop-b
 invariant-loop-b g l =
     let contents = g.W.Write.contents in
-    PutsText (Ok tt) (contents (device_of l.initial.w)) (contents (device_of l.w)) (failures_of l.initial.w) (failures_of l.w) l.initial.held.items l.held.items
+    PutsText (Ok tt) (contents (device_of l.initial.w)) (contents (device_of l.w))
+    (failures_of l.initial.w) (failures_of l.w) l.initial.held.items l.held.items
     (flat_map word_byte (take l.b-index l.bytes))

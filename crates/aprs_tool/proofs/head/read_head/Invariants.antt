@@ -7,7 +7,8 @@ use Rattle.aprs_tool.proofs.head.read_head.Given as goal
 
 abbrev pub invariant-loop-r : goal.invariant-loop-r
 invariant-loop-r g l = record {
-  took : Consumes (g.R.Read.remaining (device_of l.initial.r)) (g.R.Read.remaining (device_of l.r)) l.bytes.items;
+  took : Consumes (g.R.Read.remaining (device_of l.initial.r))
+      (g.R.Read.remaining (device_of l.r)) l.bytes.items;
   few : length l.bytes.items ≤ l.limit;
   most : length l.bytes.items ≤ 8;
   one : list_any is_lf l.bytes.items ≡ false;

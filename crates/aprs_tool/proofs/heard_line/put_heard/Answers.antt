@@ -9,25 +9,30 @@ use Rattle.aprs_tool.proofs.Lines.{PutsText-is}
 use Rattle.aprs_tool.proofs.heard_line.put_heard.Goals as goal
 
 -- the report of a reception as it is lent tells its line
-line_by : (x : Heard) (lent r : Report) → view lent ≡ report_of (key_of x.frame) → lent ≡ r → report_line x (view r) ≡ heard_line x
+line_by : (x : Heard) (lent r : Report) → view lent ≡ report_of (key_of x.frame) → lent ≡ r
+    → report_line x (view r) ≡ heard_line x
 line_by x lent r e is = ap (λ (r : Report). report_line x (view r)) (sym is) ∙ ap (report_line x) e
 
 pub returns-in-Position : goal.returns-in-Position
 returns-in-Position g c =
     PutsText-is c.put_position.ensures
-    (line_by c.args.heard.now c.heard.inside.report _ (c.heard.invariant ∙ ap (λ (h : Heard). report_of (key_of h.frame)) c.heard.view_is) c.in-Position.is)
+    (line_by c.args.heard.now c.heard.inside.report _ (c.heard.invariant
+    ∙ ap (λ (h : Heard). report_of (key_of h.frame)) c.heard.view_is) c.in-Position.is)
 
 pub returns-in-Object : goal.returns-in-Object
 returns-in-Object g c =
     PutsText-is c.put_name.ensures
-    (line_by c.args.heard.now c.heard.inside.report _ (c.heard.invariant ∙ ap (λ (h : Heard). report_of (key_of h.frame)) c.heard.view_is) c.in-Object.is)
+    (line_by c.args.heard.now c.heard.inside.report _ (c.heard.invariant
+    ∙ ap (λ (h : Heard). report_of (key_of h.frame)) c.heard.view_is) c.in-Object.is)
 
 pub returns-in-Item : goal.returns-in-Item
 returns-in-Item g c =
     PutsText-is c.put_name-in-Item.ensures
-    (line_by c.args.heard.now c.heard.inside.report _ (c.heard.invariant ∙ ap (λ (h : Heard). report_of (key_of h.frame)) c.heard.view_is) c.in-Item.is)
+    (line_by c.args.heard.now c.heard.inside.report _ (c.heard.invariant
+    ∙ ap (λ (h : Heard). report_of (key_of h.frame)) c.heard.view_is) c.in-Item.is)
 
 pub returns-in-Status : goal.returns-in-Status
 returns-in-Status g c =
     PutsText-is c.put_status.ensures
-    (line_by c.args.heard.now c.heard.inside.report _ (c.heard.invariant ∙ ap (λ (h : Heard). report_of (key_of h.frame)) c.heard.view_is) c.in-Status.is)
+    (line_by c.args.heard.now c.heard.inside.report _ (c.heard.invariant
+    ∙ ap (λ (h : Heard). report_of (key_of h.frame)) c.heard.view_is) c.in-Status.is)

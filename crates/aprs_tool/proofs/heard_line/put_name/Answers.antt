@@ -7,6 +7,8 @@ unfolding key_of
 returns g c =
     PutsText-is c.put_text_line.ensures
     (placed c.args.kind.now c.args.at.now.comment.now _ _ _ c.place_fields.result
-    (name_fields_of c.args.name.now c.live_text.result.now c.as_bytes.result.now c.args.live _ c.args.heard.now c.source.result c.heard.view_is c.live_text.ensures c.as_bytes.ensures.value
+    (name_fields_of c.args.name.now c.live_text.result.now c.as_bytes.result.now c.args.live _
+    c.args.heard.now c.source.result c.heard.view_is c.live_text.ensures
+    c.as_bytes.ensures.value
     c.source.ensures)
     c.place_fields.ensures)

@@ -5,5 +5,7 @@ use Rattle.aprs_tool.proofs.heard_line.put_position.Goals as goal
 pub returns : goal.returns
 returns g c =
     PutsText-is c.put_text_line.ensures
-    (placed (codes "position") c.args.at.now.comment.now _ _ _ c.place_fields.result (heard_fields_of _ c.args.heard.now c.as_bytes.result.now c.heard.view_is c.as_bytes.ensures.value)
+    (placed (codes "position") c.args.at.now.comment.now _ _ _ c.place_fields.result
+    (heard_fields_of _ c.args.heard.now c.as_bytes.result.now c.heard.view_is
+    c.as_bytes.ensures.value)
     c.place_fields.ensures)

@@ -6,4 +6,8 @@ use Rattle.aprs_tool.proofs.heard_line.put_status.Goals as goal
 pub returns : goal.returns
 returns g c =
     PutsText-is c.put_text_line.ensures
-    (cc (c.as_bytes.ensures.value, ap (λ (h : Heard). h.moment) c.heard.view_is, ap (λ (h : Heard). h.receiver) c.heard.view_is))
+    (cc (
+      c.as_bytes.ensures.value,
+      ap (λ (h : Heard). h.moment) c.heard.view_is,
+      ap (λ (h : Heard). h.receiver) c.heard.view_is,
+    ))

@@ -6,5 +6,8 @@ pub returns-in-Err-clause-reads : goal.returns-in-Err-clause-reads
 returns-in-Err-clause-reads g c =
     let book = c.args.book.now in
     let short = c.in-Err.short in
-    of_got _ _ c.args.limit _ _ (TakesInput book.gap c.read_short.result book.rows book.rows) c.in-Err.ensures.end
-    (reads_log book.gap c.read_short.result book.rows book.rows short.bytes.items short.ending (short_is_log short.bytes.items c.in-Err.ensures.short) (c.read_short.ensures.reads book.gap book.rows))
+    of_got _ _ c.args.limit _ _ (TakesInput book.gap c.read_short.result book.rows book.rows)
+    c.in-Err.ensures.end
+    (reads_log book.gap c.read_short.result book.rows book.rows short.bytes.items short.ending
+    (short_is_log short.bytes.items c.in-Err.ensures.short)
+    (c.read_short.ensures.reads book.gap book.rows))

@@ -24,34 +24,48 @@ lines-preserved g c =
       same_reference = cc;
       reads = omega (arith, c.in_ok-advance.ensures.count, c.lines.invariant.reads);
       going = gives.1;
-      answered = (c.in_ok-advance.ensures.answered c.lines.invariant.going).1 (λ e. absurd e) ∙ c.lines.invariant.answered;
+      answered = (c.in_ok-advance.ensures.answered c.lines.invariant.going).1 (λ e. absurd e)
+          ∙ c.lines.invariant.answered;
       gap = c.in_ok-take_line.ensures.gap ∙ c.lines.invariant.gap;
-      took = λ end. Took-line _ _ _ _ _ _ _ (current_of c.advance.new.self) _ c.current.ensures (c.lines.invariant.took end) (gives.2 end)
+      took = λ end. Took-line _ _ _ _ _ _ _ (current_of c.advance.new.self) _ c.current.ensures
+          (c.lines.invariant.took end) (gives.2 end)
           c.lines.book.gap c.lines.invariant.gap c.in_ok-take_line.ensures.adds;
     }
 
 pub returns-then-not-branch-clause-reads : goal.returns-then-not-branch-clause-reads
 returns-then-not-branch-clause-reads g c =
     let gives = rw c.if-not-branch.true at c.in_ok-advance.ensures.gives in
-    let loan = c.in_ok-advance.ensures.same_reference ∙ c.lines.invariant.same_reference ∙ c.new-reader.ensures.same_reference in
+    let loan = c.in_ok-advance.ensures.same_reference ∙ c.lines.invariant.same_reference
+    ∙ c.new-reader.ensures.same_reference in
     let back = c.r-then-not-branch-1.given.1 (sym loan) in
-    subst (λ k. IfSome (g.R.Read.remaining (device_of c.args.r.now)) (λ input. HoldsOfGot c.args.limit (c.args.head.now ++ input) k (ReadsLog c.args.book.now.gap (Ok tt) c.args.book.now.rows c.lines.book.rows))) (ap (λ k. g.R.Read.remaining (device_of k)) (sym back))
-    (Took-ended _ _ _ _ _ _ _ c.args.limit c.args.head.now (c.lines.invariant.took _) gives.2 (c.new-reader.ensures.whole _))
+    subst (λ k. IfSome (g.R.Read.remaining (device_of c.args.r.now))
+    (λ input. HoldsOfGot c.args.limit (c.args.head.now ++ input) k
+    (ReadsLog c.args.book.now.gap (Ok tt) c.args.book.now.rows c.lines.book.rows)))
+    (ap (λ k. g.R.Read.remaining (device_of k)) (sym back))
+    (Took-ended _ _ _ _ _ _ _ c.args.limit c.args.head.now (c.lines.invariant.took _) gives.2
+    (c.new-reader.ensures.whole _))
 
 pub returns-in_err-advance-clause-reads : goal.returns-in_err-advance-clause-reads
 returns-in_err-advance-clause-reads g c =
     let p = err_from_is_err_and c.from_residual.result c.from_residual.ensures.1 in
-    let loan = c.in_err-advance.ensures.same_reference ∙ c.lines.invariant.same_reference ∙ c.new-reader.ensures.same_reference in
+    let loan = c.in_err-advance.ensures.same_reference ∙ c.lines.invariant.same_reference
+    ∙ c.new-reader.ensures.same_reference in
     let back = c.in_err-advance.r-1-own.given.1 (sym loan) in
     let fault = c.in_err-advance.field-0.0 in
     rw (p.1, p.2)
-    (subst (λ k. IfSome (g.R.Read.remaining (device_of c.args.r.now)) (λ input. HoldsOfGot c.args.limit (c.args.head.now ++ input) k (ReadsLog c.args.book.now.gap (Err (Log fault)) c.args.book.now.rows c.lines.book.rows))) (ap (λ k. g.R.Read.remaining (device_of k)) (sym back))
-    (Took-fault _ _ _ _ _ _ _ c.args.limit c.args.head.now fault (c.lines.invariant.took _) c.in_err-advance.ensures.gives.2 (c.new-reader.ensures.whole _)))
+    (subst (λ k. IfSome (g.R.Read.remaining (device_of c.args.r.now))
+    (λ input. HoldsOfGot c.args.limit (c.args.head.now ++ input) k
+    (ReadsLog c.args.book.now.gap (Err (Log fault)) c.args.book.now.rows c.lines.book.rows)))
+    (ap (λ k. g.R.Read.remaining (device_of k)) (sym back))
+    (Took-fault _ _ _ _ _ _ _ c.args.limit c.args.head.now fault
+    (c.lines.invariant.took _) c.in_err-advance.ensures.gives.2 (c.new-reader.ensures.whole _)))
 
 pub returns-in_err-take_line-clause-reads : goal.returns-in_err-take_line-clause-reads
 returns-in_err-take_line-clause-reads g c =
-    let p = err_from_is_err_and c.from_residual-in_err-take_line.result c.from_residual-in_err-take_line.ensures.1 in
-    rw (p.1, p.2) (Took-refused c.args.book.now.gap _ _ c.args.limit c.args.head.now c.args.book.now.rows c.take_line.new.book.rows)
+    let p = err_from_is_err_and c.from_residual-in_err-take_line.result
+    c.from_residual-in_err-take_line.ensures.1 in
+    rw (p.1, p.2) (Took-refused c.args.book.now.gap _ _ c.args.limit c.args.head.now
+    c.args.book.now.rows c.take_line.new.book.rows)
 
 pub returns-in_err-take_line-clause-gap : goal.returns-in_err-take_line-clause-gap
 returns-in_err-take_line-clause-gap g c = c.take_line.ensures.gap ∙ c.lines.invariant.gap

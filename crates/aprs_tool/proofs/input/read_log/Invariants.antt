@@ -14,8 +14,10 @@ invariant-lines g l =
       going : stop_of l.reader ≡ None;
       answered : answered_of (source_of l.reader) ≡ answered_of (source_of l.initial.reader);
       gap : l.book.gap ≡ l.fn.book.gap;
-      took : (end : Option (List ℕ)) → Took l.fn.book.gap (Awaits (remaining (device_of (source_of l.initial.reader))) end l.initial.reader)
-          (Awaits (remaining (device_of (source_of l.reader))) end l.reader) l.fn.book.rows l.book.rows;
+      took : (end : Option (List ℕ)) → Took l.fn.book.gap
+          (Awaits (remaining (device_of (source_of l.initial.reader))) end l.initial.reader)
+          (Awaits (remaining (device_of (source_of l.reader))) end l.reader) l.fn.book.rows
+          l.book.rows;
     }
 
 abbrev pub decreases-lines : goal.decreases-lines

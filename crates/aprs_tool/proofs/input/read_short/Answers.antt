@@ -6,11 +6,14 @@ use Rattle.aprs_tool.proofs.input.read_short.Goals as goal
 pub returns-in-Some-clause-reads : goal.returns-in-Some-clause-reads
 returns-in-Some-clause-reads c =
     let short = c.args.short.now in
-    let answers = ap (λ t. log_answers t short.ending) (sym c.as_slice.ensures.value) ∙ c.in-Some.ensures.answers in
-    rw c.from.ensures (λ gap rows. short_fault gap short.bytes.items short.ending c.in-Some.cause rows answers)
+    let answers = ap (λ t. log_answers t short.ending) (sym c.as_slice.ensures.value)
+    ∙ c.in-Some.ensures.answers in
+    rw c.from.ensures (λ gap rows. short_fault gap short.bytes.items short.ending c.in-Some.cause
+    rows answers)
 
 pub returns-in-None-clause-reads : goal.returns-in-None-clause-reads
 returns-in-None-clause-reads c =
     let short = c.args.short.now in
     λ gap rows. short_empty gap short.bytes.items short.ending rows
-    (ap (λ t. log_answers t short.ending) (sym c.as_slice.ensures.value) ∙ c.in-None.ensures.answers)
+    (ap (λ t. log_answers t short.ending) (sym c.as_slice.ensures.value)
+    ∙ c.in-None.ensures.answers)

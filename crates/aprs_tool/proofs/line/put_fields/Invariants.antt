@@ -7,5 +7,6 @@ use Rattle.aprs_tool.proofs.line.put_fields.Given as goal
 abbrev pub invariant-loop-field : goal.invariant-loop-field
 invariant-loop-field g l =
     let contents = g.W.Write.contents in
-    PutsText (Ok tt) (contents (device_of l.initial.w)) (contents (device_of l.w)) (failures_of l.initial.w) (failures_of l.w) l.initial.held.items l.held.items
+    PutsText (Ok tt) (contents (device_of l.initial.w)) (contents (device_of l.w))
+    (failures_of l.initial.w) (failures_of l.w) l.initial.held.items l.held.items
     (flat_map spaced_field (take l.field-index l.fields))

@@ -8,9 +8,12 @@ loop-named-init g c = PutsText-none _ _ _
 
 pub loop-named-preserved : goal.loop-named-preserved
 loop-named-preserved g c =
-    PutsText-more named_line c.args.all.now c.loop-named.named-index _ (omega arith) c.named-item.is c.loop-named.invariant c.in_ok-put_heard.ensures
+    PutsText-more named_line c.args.all.now c.loop-named.named-index _
+    (omega arith) c.named-item.is c.loop-named.invariant c.in_ok-put_heard.ensures
 
 pub returns-in_err-put_heard : goal.returns-in_err-put_heard
 returns-in_err-put_heard g c =
-    PutsText-broken named_line c.args.all.now c.loop-named.named-index _ (omega arith) c.named-item.is c.loop-named.invariant _ c.from_residual.result c.from_residual.ensures.0
+    PutsText-broken named_line c.args.all.now c.loop-named.named-index _
+    (omega arith) c.named-item.is c.loop-named.invariant _ c.from_residual.result
+    c.from_residual.ensures.0
     c.in_err-put_heard.ensures

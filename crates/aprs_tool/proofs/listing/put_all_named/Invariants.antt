@@ -8,5 +8,6 @@ use Rattle.aprs_tool.proofs.listing.put_all_named.Given as goal
 abbrev pub invariant-loop-named : goal.invariant-loop-named
 invariant-loop-named g l =
     let contents = g.W.Write.contents in
-    PutsText (Ok tt) (contents (device_of l.initial.w)) (contents (device_of l.w)) (failures_of l.initial.w) (failures_of l.w) l.initial.held.items l.held.items
+    PutsText (Ok tt) (contents (device_of l.initial.w)) (contents (device_of l.w))
+    (failures_of l.initial.w) (failures_of l.w) l.initial.held.items l.held.items
     (flat_map named_line (take l.named-index l.all))

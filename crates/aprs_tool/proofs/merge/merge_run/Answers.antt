@@ -6,7 +6,10 @@ use Rattle.aprs_tool.proofs.merge.merge_run.Goals as goal
 pub returns-in_err-write_book-clause-answered : goal.returns-in_err-write_book-clause-answered
 returns-in_err-write_book-clause-answered g c =
     let p = err_from_is_err_and c.from_residual.result c.from_residual.ensures.1 in
-    rw (p.1, p.2) (λ k before after was is. (λ e. absurd e, λ h. (c.in-Ok.ensures.answered k before after was is).1 (λ e. absurd e)))
+    rw (p.1, p.2) (λ k before after was is. (
+      λ e. absurd e,
+      λ h. (c.in-Ok.ensures.answered k before after was is).1 (λ e. absurd e),
+    ))
 
 pub returns-in_err-write_book-clause-run : goal.returns-in_err-write_book-clause-run
 returns-in_err-write_book-clause-run g c =
@@ -16,5 +19,6 @@ returns-in_err-write_book-clause-run g c =
     record {
       gots = read.gots;
       gets = read.gets;
-      holds = written _ (IsBookTextOf _) read.gots _ _ _ read.holds (text_of_book _ _ read.holds.0) c.in_err-write_book.ensures.prefix;
+      holds = written _ (IsBookTextOf _) read.gots _ _ _ read.holds
+          (text_of_book _ _ read.holds.0) c.in_err-write_book.ensures.prefix;
     })

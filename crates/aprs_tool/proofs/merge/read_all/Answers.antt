@@ -11,7 +11,9 @@ pub loop-index-init : goal.loop-index-init
 loop-index-init g c = record {
   unread = λ k h. refl;
   gap = c.with_gap-book.ensures.gap;
-  read = λ inputs e. HasRead-none _ _ inputs _ _ (subst (λ n. BookOf (millis_of n) [] c.with_gap-book.result.rows) c.with_gap-book.ensures.gap c.with_gap-book.ensures.book);
+  read = λ inputs e. HasRead-none _ _ inputs _ _
+      (subst (λ n. BookOf (millis_of n) [] c.with_gap-book.result.rows) c.with_gap-book.ensures.gap
+      c.with_gap-book.ensures.book);
   answered = counts_none answered_of c.args.inputs.now;
 }
 
@@ -20,15 +22,24 @@ loop-index-preserved g c =
     let i = c.loop-index.index in
     let now = c.loop-index.inputs in
     let r = get_or now i c.index-inputs-index.result in
-    let at = element now c.args.inputs.now i c.index-inputs-index.result (omega (arith, c.loop-index-test.true, c.loop-index.auto.inputs))
+    let at = element now c.args.inputs.now i c.index-inputs-index.result
+    (omega (arith, c.loop-index-test.true, c.loop-index.auto.inputs))
     (c.loop-index.invariant.unread i (omega arith)) in
     record {
-      unread = λ k h. set_elsewhere now i k c.read_into.new.r (λ e. omega (arith, h, e)) ∙ c.loop-index.invariant.unread k (omega (arith, h));
-      read = λ inputs e. HasRead-more _ c.args.limit inputs (map (λ r. g.R.Read.remaining (device_of r)) now) _ i c.loop-index.book.rows _ _ (c.loop-index.invariant.read inputs e)
-          (element_of (λ r. g.R.Read.remaining (device_of r)) c.args.inputs.now _ i r at e) (after_more (λ r. g.R.Read.remaining (device_of r)) now i c.read_into.new.r (omega (arith, c.loop-index-test.true, c.loop-index.auto.inputs))) c.read_into.new.book.rows
+      unread = λ k h. set_elsewhere now i k c.read_into.new.r (λ e. omega (arith, h, e))
+          ∙ c.loop-index.invariant.unread k (omega (arith, h));
+      read = λ inputs e. HasRead-more _ c.args.limit inputs
+          (map (λ r. g.R.Read.remaining (device_of r)) now) _ i c.loop-index.book.rows _ _
+          (c.loop-index.invariant.read inputs e)
+          (element_of (λ r. g.R.Read.remaining (device_of r)) c.args.inputs.now _ i r at e)
+          (after_more (λ r. g.R.Read.remaining (device_of r)) now i c.read_into.new.r
+          (omega (arith, c.loop-index-test.true, c.loop-index.auto.inputs)))
+          c.read_into.new.book.rows
           _ refl c.loop-index.book.gap c.loop-index.invariant.gap c.in-Ok.ensures.reads;
       gap = c.read_into.ensures.gap ∙ c.loop-index.invariant.gap;
-      answered = counts_more answered_of c.args.inputs.now now i r c.read_into.new.r at (omega (arith, c.loop-index-test.true, c.loop-index.auto.inputs)) c.loop-index.invariant.answered
+      answered = counts_more answered_of c.args.inputs.now now i r c.read_into.new.r at
+          (omega (arith, c.loop-index-test.true, c.loop-index.auto.inputs))
+          c.loop-index.invariant.answered
           (c.in-Ok.ensures.answered.1 (λ e. absurd e));
     }
 
@@ -37,20 +48,26 @@ returns-in-Err-clause-reads g c =
     let i = c.loop-index.index in
     let now = c.loop-index.inputs in
     let r = get_or now i c.index-inputs-index.result in
-    let at = element now c.args.inputs.now i c.index-inputs-index.result (omega (arith, c.loop-index-test.true, c.loop-index.auto.inputs))
+    let at = element now c.args.inputs.now i c.index-inputs-index.result
+    (omega (arith, c.loop-index-test.true, c.loop-index.auto.inputs))
     (c.loop-index.invariant.unread i (omega arith)) in
     λ inputs e.
     let len = same_len (λ r. g.R.Read.remaining (device_of r)) c.args.inputs.now inputs e in
     let new = length-map (set now i c.read_into.new.r) (λ r. g.R.Read.remaining (device_of r)) in
     let size = length-set now i c.read_into.new.r in
-    HasRead-refused _ c.args.limit inputs (map (λ r. g.R.Read.remaining (device_of r)) now) _ i c.loop-index.book.rows _ _ (c.loop-index.invariant.read inputs e)
-    (element_of (λ r. g.R.Read.remaining (device_of r)) c.args.inputs.now _ i r at e) (after_more (λ r. g.R.Read.remaining (device_of r)) now i c.read_into.new.r (omega (arith, c.loop-index-test.true, c.loop-index.auto.inputs)))
+    HasRead-refused _ c.args.limit inputs (map (λ r. g.R.Read.remaining (device_of r)) now) _ i
+    c.loop-index.book.rows _ _ (c.loop-index.invariant.read inputs e)
+    (element_of (λ r. g.R.Read.remaining (device_of r)) c.args.inputs.now _ i r at e)
+    (after_more (λ r. g.R.Read.remaining (device_of r)) now i c.read_into.new.r
+    (omega (arith, c.loop-index-test.true, c.loop-index.auto.inputs)))
     c.in-Err.fault c.loop-index.book.rows c.read_into.new.book.rows
-    _ refl (omega (arith, len, new, size, c.loop-index.auto.inputs)) c.loop-index.book.gap c.loop-index.invariant.gap c.in-Err.ensures.reads
+    _ refl (omega (arith, len, new, size, c.loop-index.auto.inputs)) c.loop-index.book.gap
+    c.loop-index.invariant.gap c.in-Err.ensures.reads
 
 pub returns-in-Err-clause-unread : goal.returns-in-Err-clause-unread
 returns-in-Err-clause-unread g c = λ k h.
-    set_elsewhere c.loop-index.inputs c.loop-index.index k c.read_into.new.r (λ e. omega (arith, h, e)) ∙ c.loop-index.invariant.unread k (omega (arith, h))
+    set_elsewhere c.loop-index.inputs c.loop-index.index k c.read_into.new.r
+    (λ e. omega (arith, h, e)) ∙ c.loop-index.invariant.unread k (omega (arith, h))
 
 pub returns-in-Err-clause-read : goal.returns-in-Err-clause-read
 returns-in-Err-clause-read g c =
@@ -58,9 +75,11 @@ returns-in-Err-clause-read g c =
     λ is_read. record {
       before = get_or c.loop-index.inputs i c.index-inputs-index.result;
       after = c.read_into.new.r;
-      was = element c.loop-index.inputs c.args.inputs.now i c.index-inputs-index.result (omega (arith, c.loop-index-test.true, c.loop-index.auto.inputs))
+      was = element c.loop-index.inputs c.args.inputs.now i c.index-inputs-index.result
+          (omega (arith, c.loop-index-test.true, c.loop-index.auto.inputs))
           (c.loop-index.invariant.unread i (omega arith));
-      is = set_here c.loop-index.inputs i c.read_into.new.r (omega (arith, c.loop-index-test.true, c.loop-index.auto.inputs));
+      is = set_here c.loop-index.inputs i c.read_into.new.r
+          (omega (arith, c.loop-index-test.true, c.loop-index.auto.inputs));
       rose = c.in-Err.ensures.read is_read;
     }
 
@@ -68,17 +87,32 @@ pub returns-in-Err-clause-answered : goal.returns-in-Err-clause-answered
 returns-in-Err-clause-answered g c =
     let i = c.loop-index.index in
     let now = c.loop-index.inputs in
-    let at = element now c.args.inputs.now i c.index-inputs-index.result (omega (arith, c.loop-index-test.true, c.loop-index.auto.inputs))
+    let at = element now c.args.inputs.now i c.index-inputs-index.result
+    (omega (arith, c.loop-index-test.true, c.loop-index.auto.inputs))
     (c.loop-index.invariant.unread i (omega arith)) in
-    rose_where answered_of c.args.inputs.now now i (get_or now i c.index-inputs-index.result) c.read_into.new.r at (omega (arith, c.loop-index-test.true, c.loop-index.auto.inputs))
+    rose_where answered_of c.args.inputs.now now i
+    (get_or now i c.index-inputs-index.result) c.read_into.new.r at
+    (omega (arith, c.loop-index-test.true, c.loop-index.auto.inputs))
     c.loop-index.invariant.answered (IsReadFault c.in-Err.fault) c.in-Err.ensures.answered
 
 pub returns-clause-reads : goal.returns-clause-reads
 returns-clause-reads g c = λ inputs e.
     let len = same_len (λ r. g.R.Read.remaining (device_of r)) c.args.inputs.now inputs e in
     let new = length-map c.loop-index.inputs (λ r. g.R.Read.remaining (device_of r)) in
-    HasRead-all _ c.args.limit inputs _ c.loop-index.index c.loop-index.book c.loop-index.invariant.gap (c.loop-index.invariant.read inputs e)
-    (omega (arith, len, c.loop-index-test.false, c.loop-index.auto.index-end)) (omega (arith, len, new, c.loop-index-test.false, c.loop-index.auto.index-end, c.loop-index.auto.inputs))
+    HasRead-all _ c.args.limit inputs _ c.loop-index.index c.loop-index.book
+    c.loop-index.invariant.gap (c.loop-index.invariant.read inputs e)
+    (omega (arith, len, c.loop-index-test.false, c.loop-index.auto.index-end))
+    (omega (
+      arith,
+      len,
+      new,
+      c.loop-index-test.false,
+      c.loop-index.auto.index-end,
+      c.loop-index.auto.inputs,
+    ))
 
 pub returns-clause-answered : goal.returns-clause-answered
-returns-clause-answered g c = λ k before after was is. (λ e. absurd e, λ h. c.loop-index.invariant.answered k before after was is)
+returns-clause-answered g c = λ k before after was is. (
+  λ e. absurd e,
+  λ h. c.loop-index.invariant.answered k before after was is,
+)

@@ -7,6 +7,7 @@ use Rattle.aprs_tool.proofs.monitor.push_hops.Given as goal
 
 abbrev pub invariant-loop-i : goal.invariant-loop-i
 invariant-loop-i l = record {
-  text : l.out.items ≡ l.initial.out.items ++ flat_map hop_text (take l.i (map hop_of (parts_of l.frame).digipeaters));
+  text : l.out.items ≡ l.initial.out.items ++ flat_map hop_text
+      (take l.i (map hop_of (parts_of l.frame).digipeaters));
   most : length l.out.items ≤ length l.initial.out.items + 11 * l.i;
 }

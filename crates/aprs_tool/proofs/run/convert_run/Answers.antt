@@ -5,10 +5,15 @@ use Rattle.aprs_tool.proofs.run.convert_run.Goals as goal
 
 pub returns-in-Text-clause-run : goal.returns-in-Text-clause-run
 returns-in-Text-clause-run g c =
-    by_lines (λ plan. RunsOver plan c.args.limit (g.R.Read.remaining (device_of c.args.r.now)) (g.R.Read.remaining (device_of c.convert_lines.new.r)) c.convert_lines.result
-    (g.W.Write.contents (device_of c.args.w.now)) (g.W.Write.contents (device_of c.convert_lines.new.w))) c.args.form c.in-Text.is c.convert_lines.ensures.run
+    by_lines (λ plan. RunsOver plan c.args.limit (g.R.Read.remaining (device_of c.args.r.now))
+    (g.R.Read.remaining (device_of c.convert_lines.new.r)) c.convert_lines.result
+    (g.W.Write.contents (device_of c.args.w.now))
+    (g.W.Write.contents (device_of c.convert_lines.new.w))) c.args.form c.in-Text.is
+    c.convert_lines.ensures.run
 
 pub returns-in-Capture-clause-run : goal.returns-in-Capture-clause-run
 returns-in-Capture-clause-run g c =
-    by_stream (λ plan. RunsOver plan c.args.limit (g.R.Read.remaining (device_of c.args.r.now)) (g.R.Read.remaining (device_of c.capture.new.r)) c.capture.result
-    (g.W.Write.contents (device_of c.args.w.now)) (g.W.Write.contents (device_of c.capture.new.w))) c.args.form c.in-Capture.receiver c.in-Capture.moment c.in-Capture.is c.capture.ensures.run
+    by_stream (λ plan. RunsOver plan c.args.limit (g.R.Read.remaining (device_of c.args.r.now))
+    (g.R.Read.remaining (device_of c.capture.new.r)) c.capture.result
+    (g.W.Write.contents (device_of c.args.w.now)) (g.W.Write.contents (device_of c.capture.new.w)))
+    c.args.form c.in-Capture.receiver c.in-Capture.moment c.in-Capture.is c.capture.ensures.run

@@ -16,7 +16,8 @@ push-requires t c =
 
 pub returns-then-n-lt10-clause-decimal : goal.returns-then-n-lt10-clause-decimal
 returns-then-n-lt10-clause-decimal t c =
-    c.push.ensures.items ∙ ap (λ l. c.args.out.now.items ++ l) (sym (decimal_digit c.args.n c.if-n-lt10.true))
+    c.push.ensures.items ∙ ap (λ l. c.args.out.now.items ++ l)
+    (sym (decimal_digit c.args.n c.if-n-lt10.true))
 
 pub returns-then-n-lt10-clause-len : goal.returns-then-n-lt10-clause-len
 returns-then-n-lt10-clause-len t c =
@@ -32,7 +33,8 @@ pub returns-clause-decimal : goal.returns-clause-decimal
 returns-clause-decimal t c =
     c.push-2.ensures.items ∙ ap (λ l. l ++ (48 + c.args.n % 10) ∷ []) c.push_digits.ensures.decimal
     ∙ append_assoc c.args.out.now.items (decimal (c.args.n / 10)) ((48 + c.args.n % 10) ∷ [])
-    ∙ ap (λ l. c.args.out.now.items ++ l) (sym (decimal_step c.args.n c.if-n-lt10.false (omega arith)))
+    ∙ ap (λ l. c.args.out.now.items ++ l) (sym
+    (decimal_step c.args.n c.if-n-lt10.false (omega arith)))
 
 pub returns-clause-len : goal.returns-clause-len
 returns-clause-len t c =

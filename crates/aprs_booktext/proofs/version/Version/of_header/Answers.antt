@@ -7,15 +7,19 @@ use Rattle.aprs_booktext.proofs.version.Version.of_header.Goals as goal
 pub returns-in_default-clause-none : goal.returns-in_default-clause-none
 returns-in_default-clause-none c =
     no_header c.args.line.now
-    (λ e. other_text c.eq.result c.args.line.now _ c.if-eq.false c.eq.ensures (e ∙ sym c.as_slice.ensures))
-    (λ e. other_text c.eq-2.result c.args.line.now _ c.if-eq-2.false c.eq-2.ensures (e ∙ sym c.as_slice-2.ensures))
+    (λ e. other_text c.eq.result c.args.line.now _ c.if-eq.false c.eq.ensures (e
+    ∙ sym c.as_slice.ensures))
+    (λ e. other_text c.eq-2.result c.args.line.now _ c.if-eq-2.false c.eq-2.ensures (e
+    ∙ sym c.as_slice-2.ensures))
     (λ g h e. found_other c.gap_in.result g c.in_default.is (c.gap_in.ensures.only g h e))
 
 pub returns-else-eq-3-clause-none : goal.returns-else-eq-3-clause-none
 returns-else-eq-3-clause-none c =
     no_header c.args.line.now
-    (λ e. other_text c.eq.result c.args.line.now _ c.if-eq.false c.eq.ensures (e ∙ sym c.as_slice.ensures))
-    (λ e. other_text c.eq-2.result c.args.line.now _ c.if-eq-2.false c.eq-2.ensures (e ∙ sym c.as_slice-2.ensures))
+    (λ e. other_text c.eq.result c.args.line.now _ c.if-eq.false c.eq.ensures (e
+    ∙ sym c.as_slice.ensures))
+    (λ e. other_text c.eq-2.result c.args.line.now _ c.if-eq-2.false c.eq-2.ensures (e
+    ∙ sym c.as_slice-2.ensures))
     (λ g h e. other_text c.eq-3.result c.args.line.now _ c.if-eq-3.false c.eq-3.ensures
     (e ∙ ap (λ n. header_of (Three n))
     (found_same c.gap_in.result g c.in-Some.gap (c.gap_in.ensures.only g h e) c.in-Some.is)

@@ -6,11 +6,14 @@ pub returns-clause-takes : goal.returns-clause-takes
 returns-clause-takes g c =
     let book = c.args.self.now.book in
     got_so _ _ c.args.self.now.limit (λ input. input) _ _
-    (λ t e h. merged_in book.gap t e c.in_ok-input.input h book.rows _ c.in_ok-self.ensures.one c.in_ok-self.ensures.merges) (rw c.gap.ensures at c.in_ok-input.ensures.reads)
+    (λ t e h. merged_in book.gap t e c.in_ok-input.input h book.rows _ c.in_ok-self.ensures.one
+    c.in_ok-self.ensures.merges) (rw c.gap.ensures at c.in_ok-input.ensures.reads)
 
 pub returns-in_err-self-clause-takes : goal.returns-in_err-self-clause-takes
 returns-in_err-self-clause-takes g c =
     let book = c.args.self.now.book in
-    let p = err_from_is_err_and c.from_residual-in_err-self.result c.from_residual-in_err-self.ensures.1 in
+    let p = err_from_is_err_and c.from_residual-in_err-self.result
+    c.from_residual-in_err-self.ensures.1 in
     rw (p.1, p.2) (got_so _ _ c.args.self.now.limit (λ input. input) _ _
-    (λ t e h. not_merged_in book.gap t e c.in_ok-input.input h c.in_err-self.field-0.0 book.rows book.rows c.in_err-self.ensures.refused) (rw c.gap.ensures at c.in_ok-input.ensures.reads))
+    (λ t e h. not_merged_in book.gap t e c.in_ok-input.input h c.in_err-self.field-0.0 book.rows
+    book.rows c.in_err-self.ensures.refused) (rw c.gap.ensures at c.in_ok-input.ensures.reads))
