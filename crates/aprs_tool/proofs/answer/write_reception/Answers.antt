@@ -30,9 +30,9 @@ returns-in-Kind-clause-prefix g c =
 pub returns-in-Kiss-clause-prefix : goal.returns-in-Kiss-clause-prefix
 returns-in-Kiss-clause-prefix g c =
     let x = c.args.reception.now in
-    let P : List ℕ → Type 0 = λ text. OnErr c.write_kiss.result
+    let P : List ℕ → Type 0 = λ text. OnErr c.write.result
     (AppendsPrefix (g.W.Write.contents (device_of c.args.w.now))
-    (g.W.Write.contents (device_of c.write_kiss.new.w)) text) in
+    (g.W.Write.contents (device_of c.write.new.w)) text) in
     subst P (ap kiss_text (c.bytes.ensures.value ∙ c.frame-in-Kiss.ensures)
     ∙ sym (ap (λ (f : Form). reception_text f x) c.in-Kiss.is))
-    c.write_kiss.ensures.prefix
+    c.write.ensures.prefix
