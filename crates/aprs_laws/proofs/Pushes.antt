@@ -1,11 +1,12 @@
 -- One more row at the end of sound rows: only the last row has to be looked at.
-use Rattle.std.proofs.Common.{◌≡◌, ℕ, ◌≤◌, List, [], ◌∷◌, ◌++◌, ◌⊎◌, ◌↔◌, inl, inr, refl, sym, ap, subst}
+use Rattle.std.proofs.Common.{◌≡◌, ℕ, ◌≤◌, List, [], ◌∷◌, ◌++◌, ◌⊎◌, ◌↔◌, inl, inr, refl, sym, ap, ◌∙◌, subst, Option, None, Some, IfSome}
 use Rattle.std.specs.declared.cmp.Ordering.TheVariants.{Less}
-use Rattle.aprs_laws.specs.Lists.{◌∈◌, Ordered}
+use Rattle.std.specs.List.{last_or}
+use Rattle.aprs_laws.specs.Lists.{◌∈◌, IfLast, Ordered}
 use Rattle.aprs_laws.specs.Order.{IsBelow}
 use Rattle.aprs_laws.specs.Key.{Key, key_cmp}
 use Rattle.aprs_laws.specs.Row.{Row, row_key, last_of, row_cmp}
-use Rattle.aprs_laws.specs.Sound.{IsSoundRow, IsFar, Sound, IsNext}
+use Rattle.aprs_laws.specs.Sound.{ComesAfter, IsSoundRow, IsFar, Sound, IsNext}
 use Rattle.aprs_laws.proofs.Lists.{in_left, in_right, in_either, ordered_weaker}
 use Rattle.aprs_laws.proofs.Places.{ordered_append}
 use Rattle.aprs_laws.proofs.Orders.{not_both, key_total}
@@ -100,20 +101,6 @@ prefix_ordered {X} R (z ∷ xs) ys o x y (inl e) k =
     subst (λ (w : X). R w y) e (o.0 y (in_right y xs ys k))
 prefix_ordered R (z ∷ xs) ys o x y (inr h) k = prefix_ordered R xs ys o.1 x y h k
 
-pub next_of_sound : (gap : ℕ) (rows : List Row) (x : Row) → Sound gap (rows ++ x ∷ [])
-    → IsNext gap rows x
-next_of_sound gap rows x s = record {
-  own = s.each x (in_right x rows (x ∷ []) (inl refl));
-  after =
-      λ prefix l e.
-      (lies (IsBelow row_cmp) s.ascending prefix l e, lies (IsFar gap) s.apart prefix l e);
-} where
-  lies : (R : Row → Row → Type 0) → Ordered R (rows ++ x ∷ []) → (prefix : List Row) (l : Row)
-      → rows ≡ prefix ++ l ∷ [] → R l x
-  lies R o prefix l e =
-      prefix_ordered R rows (x ∷ []) o l x
-      (subst (λ (xs : List Row). l ∈ xs) (sym e) (in_right l prefix (l ∷ []) (inl refl))) (inl refl)
-
 -- rows are none, or have a last one
 pub empty_or_last : {X : Type 0} (xs : List X)
     → (xs ≡ []) ⊎ ((prefix : List X) × (l : X) × (xs ≡ prefix ++ l ∷ []))
@@ -123,11 +110,44 @@ empty_or_last (x ∷ xs) = elim (empty_or_last xs) [
   | inr t ↦ inr (x ∷ t.0, t.1, ap (λ ys. x ∷ ys) t.2)
 ]
 
+-- the last of a list that is put after others
+last_is : {X : Type 0} (o : Option X) (prefix : List X) (l : X)
+    → last_or o (prefix ++ l ∷ []) ≡ Some l
+last_is o [] l = refl
+last_is o (x ∷ prefix) l = last_is (Some x) prefix l
+
+-- `IfLast` by the ways to split a list before its last member
+pub if_last : {X : Type 0} (xs : List X) (P : X → Type 0) → IfLast xs P → (prefix : List X) (l : X)
+    → xs ≡ prefix ++ l ∷ [] → P l
+if_last {X} xs P h prefix l e =
+    subst (λ (o : Option X). IfSome o P) (ap (last_or None) e ∙ last_is None prefix l) h
+
+pub last_if : {X : Type 0} (xs : List X) (P : X → Type 0)
+    → ((prefix : List X) (l : X) → xs ≡ prefix ++ l ∷ [] → P l) → IfLast xs P
+last_if {X} xs P h = elim (empty_or_last xs) [
+  | inl e ↦ subst (λ (o : Option X). IfSome o P) (sym (ap (last_or None) e)) tt
+  | inr t ↦ subst (λ (o : Option X). IfSome o P)
+      (sym (ap (last_or None) t.2 ∙ last_is None t.0 t.1)) (h t.0 t.1 t.2)
+]
+
+pub next_of_sound : (gap : ℕ) (rows : List Row) (x : Row) → Sound gap (rows ++ x ∷ [])
+    → IsNext gap rows x
+next_of_sound gap rows x s = record {
+  own = s.each x (in_right x rows (x ∷ []) (inl refl));
+  after = last_if rows (ComesAfter gap x) (λ prefix l e.
+      (lies (IsBelow row_cmp) s.ascending prefix l e, lies (IsFar gap) s.apart prefix l e));
+} where
+  lies : (R : Row → Row → Type 0) → Ordered R (rows ++ x ∷ []) → (prefix : List Row) (l : Row)
+      → rows ≡ prefix ++ l ∷ [] → R l x
+  lies R o prefix l e =
+      prefix_ordered R rows (x ∷ []) o l x
+      (subst (λ (xs : List Row). l ∈ xs) (sym e) (in_right l prefix (l ∷ []) (inl refl))) (inl refl)
+
 pub sound_of_next : (gap : ℕ) (rows : List Row) (x : Row) → Sound gap rows → IsNext gap rows x
     → Sound gap (rows ++ x ∷ [])
 sound_of_next gap rows x s n = elim (empty_or_last rows) [
   | inl e ↦ subst (λ (xs : List Row). Sound gap (xs ++ x ∷ [])) (sym e) (push_first gap x n.own)
-  | inr t ↦ let a = n.after t.0 t.1 t.2 in
+  | inr t ↦ let a = if_last rows (ComesAfter gap x) n.after t.0 t.1 t.2 in
       subst (λ (xs : List Row). Sound gap (xs ++ x ∷ [])) (sym t.2)
       (push_sound gap t.0 t.1 x (subst (λ (xs : List Row). Sound gap xs) t.2 s) a.0 a.1 n.own)
 ]

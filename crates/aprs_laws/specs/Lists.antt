@@ -1,5 +1,6 @@
 -- Lists as sets, and lists in order.
-use Rattle.std.specs.Prelude.{◌≡◌, List, [], ◌∷◌, ◌++◌, ◌⊎◌, ◌↔◌}
+use Rattle.std.specs.Prelude.{◌≡◌, List, [], ◌∷◌, ◌⊎◌, ◌↔◌, None, IfSome}
+use Rattle.std.specs.List.{last_or}
 
 -- x is a member of the list
 infix 50 ◌∈◌
@@ -18,4 +19,4 @@ Ordered {X} R (x ∷ xs) = ((y : X) → y ∈ xs → R x y) × Ordered R xs
 
 -- the last member of the list has this property, if the list has members
 abbrev pub IfLast : {X : Type 0} → List X → (X → Type 0) → Type 0
-IfLast {X} xs P = (prefix : List X) (last : X) → xs ≡ prefix ++ last ∷ [] → P last
+IfLast xs P = IfSome (last_or None xs) P

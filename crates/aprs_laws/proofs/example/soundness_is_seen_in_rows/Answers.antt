@@ -24,5 +24,5 @@ returns-clause-next c = next_of_sound 30000 (early_row ∷ []) late_row
     (sound 30000 far_pair (early_row ∷ late_row ∷ []) far_book)
 
 pub returns-clause-misses_near_next : goal.returns-clause-misses_near_next
-returns-clause-misses_near_next c = λ n. let h = (n.after [] early_row refl).1 same_key in
+returns-clause-misses_near_next c = λ n. let h = n.after.1 same_key in
     omega (arith, h)
