@@ -14,7 +14,7 @@ use Rattle.aprs_laws.specs.Sound.{Sound}
 use Rattle.aprs_book.specs.Refusal.{refusal}
 use Rattle.aprs_book.specs.declared.row_cause.RowCause.{RowCause}
 use Rattle.aprs_book.specs.declared.row_cause.RowCause.TheVariants as row
-use Rattle.aprs_booktext.specs.FirstFault.{AmongRows, AtHeader, EndFault, FaultAfter, FirstFault, HasNoFrame, HeaderFault, IsCut, IsRefused, IsWrong, LineFault, PastEnd, is_end}
+use Rattle.aprs_booktext.specs.FirstFault.{AmongRows, EndFault, FaultAfter, FirstFault, HasNoFrame, HeaderFault, IsCut, IsRefused, IsWrong, LineFault, PastEnd, is_end}
 use Rattle.aprs_booktext.specs.Fault.{book_cause_of}
 use Rattle.aprs_booktext.specs.Lines.{Lacks}
 use Rattle.aprs_booktext.specs.Text.{row_line, end_line, lines_of, text_of_lines, IsSpelled, IsBookRow, IsBookRows}

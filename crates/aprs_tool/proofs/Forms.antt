@@ -1,7 +1,7 @@
 -- Lemmas on forms.
-use Rattle.std.proofs.Common.{◌≡◌, ◌⊎◌, inl, inr, ℕ, List, subst, sym}
+use Rattle.std.proofs.Common.{◌≡◌, ◌⊎◌, inl, inr, ℕ, List}
 use Rattle.aprs_log.specs.declared.Ending.{Ending}
-use Rattle.aprs_tool.specs.Run.{Plan, convert_plan, lines_plan, stream_plan}
+use Rattle.aprs_tool.specs.Run.{Plan, convert_plan, lines_plan}
 use Rattle.aprs_tool.specs.declared.form.Form.{Form}
 use Rattle.aprs_tool.specs.declared.form.Form.TheVariants.{Text, Kind, Kiss, Log, Capture}
 
@@ -16,9 +16,3 @@ by_lines P (Capture r m) (inl e) h = cc
 by_lines P (Capture r m) (inr (inl e)) h = cc
 by_lines P (Capture r m) (inr (inr (inl e))) h = cc
 by_lines P (Capture r m) (inr (inr (inr e))) h = cc
-
--- and a capture by the stream
-pub by_stream : (P : (List ℕ → Ending → Plan) → Type 0) (f : Form) (r : List ℕ) (m : ℕ)
-    → f ≡ Capture r m
-    → P (stream_plan r m) → P (convert_plan f)
-by_stream P f r m e h = subst (λ (x : Form). P (convert_plan x)) (sym e) h

@@ -1,5 +1,5 @@
 -- Lemmas on the book of a log whose lines are read one by one.
-use Rattle.std.proofs.Common.{◌≡◌, ℕ, List, [], ◌∷◌, ◌++◌, Option, None, Some, Result, Ok, Err, IfSome, inl, inr, refl, ap, sym, ◌∙◌, append_assoc, append-nil, subst}
+use Rattle.std.proofs.Common.{◌≡◌, ℕ, List, [], ◌∷◌, ◌++◌, Option, None, Some, Result, Ok, Err, IfSome, refl, ap, sym, ◌∙◌, append_assoc, append-nil, subst}
 use Rattle.aprs_laws.specs.Book.{BookOf}
 use Rattle.aprs_laws.specs.Gap.{millis_of}
 use Rattle.aprs_laws.specs.Row.{Row}

@@ -297,7 +297,7 @@ fn read_widened_gap(matches: &ArgMatches<'_>) -> Option<Gap>
     read_gap(text_at(matches, "seconds")?)
 }
 
-/// The gap that a text tells. The command takes no text that tells none.
+/// The gap in a text. The command takes no text that has none.
 fn read_gap(text: &str) -> Option<Gap>
     ensures { result ≡ read_gap text.now }
 {

@@ -1,4 +1,4 @@
-use Rattle.std.proofs.Common.{◌≡◌, ◌∙◌, arith, take, length, length-take, Ok, List, ℕ, sym, ap, subst, false, true, refl}
+use Rattle.std.proofs.Common.{◌≡◌, ◌∙◌, arith, take, length, length-take, Ok, sym, ap, subst, false, true, refl}
 use Rattle.std.specs.Prelude.{IsOk}
 use Rattle.hex.specs.Hex.{encode_lower}
 use Rattle.hex.proofs.HexLemmas.{decode_of-ok}

@@ -1,6 +1,7 @@
+use Rattle.std.proofs.Common.{rules}
 use Rattle.aprs_kiss.specs.Device.{device_of}
 use Rattle.aprs_tool.specs.Run.{RunsOver}
-use Rattle.aprs_tool.proofs.Forms.{by_lines, by_stream}
+use Rattle.aprs_tool.proofs.Forms.{by_lines}
 use Rattle.aprs_tool.proofs.run.convert_run.Goals as goal
 
 pub returns-in-Text-clause-run : goal.returns-in-Text-clause-run
@@ -12,8 +13,4 @@ returns-in-Text-clause-run g c =
     c.convert_lines.ensures.run
 
 pub returns-in-Capture-clause-run : goal.returns-in-Capture-clause-run
-returns-in-Capture-clause-run g c =
-    by_stream (λ plan. RunsOver plan c.args.limit (g.R.Read.remaining (device_of c.args.r.now))
-    (g.R.Read.remaining (device_of c.capture.new.r)) c.capture.result
-    (g.W.Write.contents (device_of c.args.w.now)) (g.W.Write.contents (device_of c.capture.new.w)))
-    c.args.form c.in-Capture.receiver c.in-Capture.moment c.in-Capture.is c.capture.ensures.run
+returns-in-Capture-clause-run g c = rw c.in-Capture.is (search rules)
