@@ -2,6 +2,8 @@
 mod Letters
 mod KnownSteps
 mod KeyBytes
+mod KeyOrder
+mod KeyRoom
 mod IndexSteps
 mod MergedKeys
 mod Entries

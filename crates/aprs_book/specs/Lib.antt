@@ -1,4 +1,5 @@
 -- Definitions that contracts of the book cite.
+pub mod BookKey
 pub mod Keyed
 pub mod KeptNames
 pub mod Known
