@@ -1,4 +1,4 @@
--- Entries of a map that are collected from rows: one for each thing that some row tells of.
+-- Entries of a map that are collected from rows: one for each thing that some row reports on.
 use Rattle.std.proofs.Common.{◌≡◌, ◌∙◌, List, [], ◌∷◌, ◌++◌, append_assoc, append-nil, ◌⊎◌, Some, None, cond, sym, ap, refl, subst, inl, inr}
 use Rattle.std.specs.List.{AllByRecursion}
 use Rattle.std.specs.Map.{lookup, keys_of}
@@ -69,33 +69,33 @@ module _ {K M : Type 0} (shown : K → M) (C : M → M → Ordering) where
     pub found : (q : K) (v : V) (es : List (K × V)) → lookup (is_at (cmp_of q)) es ≡ Some v
         → IsFound q v es
     found q v [] h = absurd (cc)
-    found q v (e ∷ es) h = told (C (shown q) (shown e.0)) refl h (λ g. found q v es g) where
-      told : (o : Ordering) → C (shown q) (shown e.0) ≡ o
+    found q v (e ∷ es) h = reported (C (shown q) (shown e.0)) refl h (λ g. found q v es g) where
+      reported : (o : Ordering) → C (shown q) (shown e.0) ≡ o
           → cond (is_eq o) (Some e.1) (lookup (is_at (cmp_of q)) es) ≡ Some v
           → (lookup (is_at (cmp_of q)) es ≡ Some v → IsFound q v es) → IsFound q v (e ∷ es)
-      told Less d g r = let f = r g in (f.0, inr f.1, f.2, f.3)
-      told Equal d g r = (e, inl refl, exact (shown q) (shown e.0) d, cc)
-      told Greater d g r = let f = r g in (f.0, inr f.1, f.2, f.3)
+      reported Less d g r = let f = r g in (f.0, inr f.1, f.2, f.3)
+      reported Equal d g r = (e, inl refl, exact (shown q) (shown e.0) d, cc)
+      reported Greater d g r = let f = r g in (f.0, inr f.1, f.2, f.3)
 
     pub absent : (q : K) (es : List (K × V)) → lookup (is_at (cmp_of q)) es ≡ None → (e : K × V)
         → e ∈ es → shown q ≡ shown e.0 → ⊥
     absent q [] h e m d = m
-    absent q (f ∷ es) h e (inl s) d = told (C (shown q) (shown f.0)) tie h where
+    absent q (f ∷ es) h e (inl s) d = reported (C (shown q) (shown f.0)) tie h where
       tie : C (shown q) (shown f.0) ≡ Equal
       tie =
           ap (C (shown q)) (ap (λ (t : K × V). shown t.0) s ∙ sym d) ∙ tied_itself total (shown q)
 
-      told : (o : Ordering) → o ≡ Equal
+      reported : (o : Ordering) → o ≡ Equal
           → cond (is_eq o) (Some f.1) (lookup (is_at (cmp_of q)) es) ≡ None → ⊥
-      told Less t g = absurd (cc)
-      told Equal t g = absurd (cc)
-      told Greater t g = absurd (cc)
-    absent q (f ∷ es) h e (inr j) d = absent q es (told (C (shown q) (shown f.0)) h) e j d where
-      told : (o : Ordering) → cond (is_eq o) (Some f.1) (lookup (is_at (cmp_of q)) es) ≡ None
+      reported Less t g = absurd (cc)
+      reported Equal t g = absurd (cc)
+      reported Greater t g = absurd (cc)
+    absent q (f ∷ es) h e (inr j) d = absent q es (reported (C (shown q) (shown f.0)) h) e j d where
+      reported : (o : Ordering) → cond (is_eq o) (Some f.1) (lookup (is_at (cmp_of q)) es) ≡ None
           → lookup (is_at (cmp_of q)) es ≡ None
-      told Less g = g
-      told Equal g = absurd (cc)
-      told Greater g = g
+      reported Less g = g
+      reported Equal g = absurd (cc)
+      reported Greater g = g
 
     -- ---- one entry put
 
@@ -104,20 +104,20 @@ module _ {K M : Type 0} (shown : K → M) (C : M → M → Ordering) where
     from_insert k v [] e (inl s) = inl (ap (λ (t : K × V). shown t.0) (sym s))
     from_insert k v [] e (inr j) = absurd j
     from_insert k v (f ∷ es) e h =
-        told (C (shown k) (shown f.0)) refl h (λ j. from_insert k v es e j) where
-          told : (o : Ordering) → C (shown k) (shown f.0) ≡ o
+        reported (C (shown k) (shown f.0)) refl h (λ j. from_insert k v es e j) where
+          reported : (o : Ordering) → C (shown k) (shown f.0) ≡ o
               → e ∈ match_ordering o ((k, v) ∷ f ∷ es) ((f.0, v) ∷ es)
               (f ∷ insert_entry cmp_of es k v)
               → (e ∈ insert_entry cmp_of es k v → (shown e.0 ≡ shown k) ⊎ (e ∈ es))
               → (shown e.0 ≡ shown k) ⊎ (e ∈ (f ∷ es))
-          told Less d (inl s) r = inl (ap (λ (t : K × V). shown t.0) (sym s))
-          told Less d (inr j) r = inr j
-          told Equal d (inl s) r =
+          reported Less d (inl s) r = inl (ap (λ (t : K × V). shown t.0) (sym s))
+          reported Less d (inr j) r = inr j
+          reported Equal d (inl s) r =
               inl
               (ap (λ (t : K × V). shown t.0) (sym s) ∙ sym (exact (shown k) (shown f.0) d))
-          told Equal d (inr j) r = inr (inr j)
-          told Greater d (inl s) r = inr (inl s)
-          told Greater d (inr j) r = elim (r j) [ inl s ↦ inl s | inr m ↦ inr (inr m) ]
+          reported Equal d (inr j) r = inr (inr j)
+          reported Greater d (inl s) r = inr (inl s)
+          reported Greater d (inr j) r = elim (r j) [ inl s ↦ inl s | inr m ↦ inr (inr m) ]
 
     abbrev pub IsThere : K → V → List (K × V) → Type 0
     IsThere k v es = (e : K × V) × (e ∈ es) × (shown e.0 ≡ shown k) × (e.1 ≡ v)
@@ -126,14 +126,14 @@ module _ {K M : Type 0} (shown : K → M) (C : M → M → Ordering) where
         → IsThere k v (insert_entry cmp_of es k v)
     inserted_there k v [] = ((k, v), inl refl, refl, refl)
     inserted_there k v (f ∷ es) =
-        told (C (shown k) (shown f.0)) refl (inserted_there k v es) where
-          told : (o : Ordering) → C (shown k) (shown f.0) ≡ o
+        reported (C (shown k) (shown f.0)) refl (inserted_there k v es) where
+          reported : (o : Ordering) → C (shown k) (shown f.0) ≡ o
               → IsThere k v (insert_entry cmp_of es k v)
               → IsThere k v
               (match_ordering o ((k, v) ∷ f ∷ es) ((f.0, v) ∷ es) (f ∷ insert_entry cmp_of es k v))
-          told Less d t = ((k, v), inl refl, refl, refl)
-          told Equal d t = ((f.0, v), inl refl, sym (exact (shown k) (shown f.0) d), refl)
-          told Greater d t = (t.0, inr t.1, t.2, t.3)
+          reported Less d t = ((k, v), inl refl, refl, refl)
+          reported Equal d t = ((f.0, v), inl refl, sym (exact (shown k) (shown f.0) d), refl)
+          reported Greater d t = (t.0, inr t.1, t.2, t.3)
 
     abbrev pub Stays : K × V → List (K × V) → Type 0
     Stays e es = (f : K × V) × (f ∈ es) × (shown f.0 ≡ shown e.0)
@@ -142,16 +142,16 @@ module _ {K M : Type 0} (shown : K → M) (C : M → M → Ordering) where
         → Stays e (insert_entry cmp_of es k v)
     stays_there k v [] e h = absurd h
     stays_there k v (f ∷ es) e h =
-        told (C (shown k) (shown f.0)) h (λ j. stays_there k v es e j) where
-          told : (o : Ordering) → e ∈ (f ∷ es)
+        reported (C (shown k) (shown f.0)) h (λ j. stays_there k v es e j) where
+          reported : (o : Ordering) → e ∈ (f ∷ es)
               → (e ∈ es → Stays e (insert_entry cmp_of es k v))
               → Stays e
               (match_ordering o ((k, v) ∷ f ∷ es) ((f.0, v) ∷ es) (f ∷ insert_entry cmp_of es k v))
-          told Less m r = (e, inr m, refl)
-          told Equal (inl s) r = ((f.0, v), inl refl, ap (λ (t : K × V). shown t.0) s)
-          told Equal (inr j) r = (e, inr j, refl)
-          told Greater (inl s) r = (f, inl refl, ap (λ (t : K × V). shown t.0) s)
-          told Greater (inr j) r = let t = r j in (t.0, inr t.1, t.2)
+          reported Less m r = (e, inr m, refl)
+          reported Equal (inl s) r = ((f.0, v), inl refl, ap (λ (t : K × V). shown t.0) s)
+          reported Equal (inr j) r = (e, inr j, refl)
+          reported Greater (inl s) r = (f, inl refl, ap (λ (t : K × V). shown t.0) s)
+          reported Greater (inr j) r = let t = r j in (t.0, inr t.1, t.2)
 
 -- ---- one row more
 
@@ -166,7 +166,7 @@ module _ {K V M : Type 0} (shown : K → M) (C : M → M → Ordering) (total : 
     (rows more : List Row) (x : Row) (adds : Adds rows x more)
     (other : (m : M) (v : V) → (P m (row_key x) → ⊥) → T rows m v → T more m v) (es : List (K × V))
     (c : IsCollected shown P T rows es) where
-  -- a row that tells of nothing
+  -- a row that reports on nothing
   pub passed : ((m : M) → P m (row_key x) → ⊥) → IsCollected shown P T more es
   passed n = record {
     each = λ e h. other (shown e.0) e.1 (n (shown e.0)) (c.each e h);
@@ -176,12 +176,12 @@ module _ {K V M : Type 0} (shown : K → M) (C : M → M → Ordering) (total : 
     ];
   }
 
-  -- a row that tells of what k shows
+  -- a row that reports on what k shows
   pub put : (k : K) (v : V) → IsStrictlySortedBy (cmp_of shown C) (keys_of (insert_entry (cmp_of shown C) es k v))
       → ((m : M) → P m (row_key x) → shown k ≡ m) → T more (shown k) v
       → IsCollected shown P T more (insert_entry (cmp_of shown C) es k v)
   put k v sorted only t = record {
-    each = λ e h. told e h (C (shown e.0) (shown k)) refl;
+    each = λ e h. reported e h (C (shown e.0) (shown k)) refl;
     every = λ y h m p. elim (adds.to y h) [
       | inl j ↦ let f = c.every y j m p in
           let g = stays_there shown C total exact k v es f.0 f.1 in
@@ -200,11 +200,11 @@ module _ {K V M : Type 0} (shown : K → M) (C : M → M → Ordering) (total : 
     unequal : (a b : M) → a ≡ b → (C a b ≡ Equal → ⊥) → ⊥
     unequal a b s n = n (ap (C a) (sym s) ∙ tied_itself total a)
 
-    told : (e : K × V) → e ∈ insert_entry (cmp_of shown C) es k v → (o : Ordering)
+    reported : (e : K × V) → e ∈ insert_entry (cmp_of shown C) es k v → (o : Ordering)
         → C (shown e.0) (shown k) ≡ o → T more (shown e.0) e.1
-    told e h Less d = apart e h (λ s. unequal _ _ s (λ q. let t : Less ≡ Equal = sym d ∙ q in absurd (cc)))
-    told e h Greater d = apart e h (λ s. unequal _ _ s (λ q. let t : Greater ≡ Equal = sym d ∙ q in absurd (cc)))
-    told e h Equal d =
+    reported e h Less d = apart e h (λ s. unequal _ _ s (λ q. let t : Less ≡ Equal = sym d ∙ q in absurd (cc)))
+    reported e h Greater d = apart e h (λ s. unequal _ _ s (λ q. let t : Greater ≡ Equal = sym d ∙ q in absurd (cc)))
+    reported e h Equal d =
         let i = inserted_there shown C total exact k v es in
         let s = exact (shown e.0) (shown k) d in
         let one = one_entry shown C total exact (insert_entry (cmp_of shown C) es k v)
@@ -232,7 +232,7 @@ same_lookup {K} shown C R same k es =
     let p : R ≡ cmp_of shown C = λ j a b. same a b j in
     ap (λ (Q : K → K → Ordering). lookup (is_at (Q k)) es) p
 
--- of no rows nothing is told
+-- of no rows nothing is reported
 pub collected_first : {K V M : Type 0} (shown : K → M) (P : M → Key → Type 0)
     (T : List Row → M → V → Type 0) (es : List (K × V)) → es ≡ [] → IsCollected shown P T [] es
 collected_first {K} {V} shown P T es e =

@@ -1,4 +1,4 @@
--- Entries that all have rows, and rows behind those of all entries.
+-- Entries that all have rows, and rows after those of all entries.
 use Rattle.std.proofs.Common.{◌≡◌, ◌∙◌, ℕ, ◌<◌, ◌≤◌, ◌+◌, ◌-◌, suc, List, [], ◌∷◌, ◌++◌, Some, None, Result, Ok, Err, OnOk, OnErr, inl, inr, true, false, length, length-append, refl, sym, ap, subst, arith, append_assoc, append-nil}
 use Rattle.std.specs.List.{slice_get, flat_map, AllByRecursion}
 use Rattle.std.specs.List.Sorted.{IsStrictlySortedBy}
@@ -76,15 +76,15 @@ module _ {K V : Type 0} (bytes : K → List ℕ) (rows : V → List Row) where
   set_length k [] old new found = absurd (cc)
   set_length k (e ∷ es) old new found =
       let whole = length-append (rows e.1) (rows_of bytes rows es) in
-      let behind =
+      let after =
       length-append (rows e.1) (rows_of bytes rows (set_value (test bytes rows k) es new)) in
       by_order (bytes_cmp k (bytes e.0))
-      (λ o. rw o (omega (arith, whole, behind, set_length k es old new (rw o at found))))
+      (λ o. rw o (omega (arith, whole, after, set_length k es old new (rw o at found))))
       (λ o.
       let f : Some old ≡ Some e.1 = rw o at found in
       let same : old ≡ e.1 = cc in
       rw (o, same) (omega (arith, whole, length-append (rows new) (rows_of bytes rows es))))
-      (λ o. rw o (omega (arith, whole, behind, set_length k es old new (rw o at found))))
+      (λ o. rw o (omega (arith, whole, after, set_length k es old new (rw o at found))))
 
   -- where a new key gets rows
   pub insert_length : (k : K) (es : List (K × V)) (new : V)
@@ -159,10 +159,10 @@ module _ {K V : Type 0} (bytes : K → List ℕ) (rows : V → List Row) where
       rw w.written (filled_set k es new h
       (subst (λ (t : List Row). 0 < length t) (sym f) (filled_found k es old h (sym w.found))))
 
-have_last : (k : List ℕ) (front : List Row) (l : Row) → HaveKey k (front ++ l ∷ [])
+have_last : (k : List ℕ) (prefix : List Row) (l : Row) → HaveKey k (prefix ++ l ∷ [])
     → key_bytes (row_key l) ≡ k
 have_last k [] l h = h.0
-have_last k (r ∷ front) l h = have_last k front l h.1
+have_last k (r ∷ prefix) l h = have_last k prefix l h.1
 
 have_append : (k : List ℕ) (rows : List Row) (x : Row) → HaveKey k rows
     → key_bytes (row_key x) ≡ k → HaveKey k (rows ++ x ∷ [])
@@ -197,8 +197,8 @@ module _ {K V : Type 0} (bytes : K → List ℕ) (rows : V → List Row) where
   )
   none_above x (e ∷ f ∷ es) s g h u =
       let rest = none_above x (f ∷ es) (sorted_tail (order bytes rows) e.0 (keys_of (f ∷ es)) s) g.1 h.1
-      (λ front l p. u (rows e.1 ++ front) l
-      (ap (λ t. rows e.1 ++ t) p ∙ sym (append_assoc (rows e.1) front (l ∷ [])))) in (
+      (λ prefix l p. u (rows e.1 ++ prefix) l
+      (ap (λ t. rows e.1 ++ t) p ∙ sym (append_assoc (rows e.1) prefix (l ∷ [])))) in (
         λ below. rest.0 (bytes_total.trans (key_bytes (row_key x)) (bytes e.0) (bytes f.0) below
             (sorted_head (order bytes rows) e.0 (keys_of (f ∷ es)) s).0),
         rest,
@@ -241,60 +241,60 @@ module _ {K V : Type 0} (bytes : K → List ℕ) (rows : V → List Row) where
       (λ o. rw o (ap (λ t. rows e.1 ++ t) (push_absent key es new x n.1 (rw o at found) made)
       ∙ sym (append_assoc (rows e.1) (rows_of bytes rows es) (x ∷ []))))
 
-  -- ---- what the code does: x goes behind all rows, and k is the bytes of its key
+  -- ---- what the code does: x goes after all rows, and k is the bytes of its key
 
-  pub record IsBehind (x : Row) (k : List ℕ) (es : List (K × V)) : Type 0 where
+  pub record IsAfter (x : Row) (k : List ℕ) (es : List (K × V)) : Type 0 where
     pub key : k ≡ key_bytes (row_key x)
     pub sorted : IsStrictlySortedBy (order bytes rows) (keys_of es)
     pub kept : AreKept bytes rows es
     pub ends : EndsUpTo x (rows_of bytes rows es)
 
-  above_of : (x : Row) (k : List ℕ) (es : List (K × V)) → IsBehind x k es → NoneAbove k es
+  above_of : (x : Row) (k : List ℕ) (es : List (K × V)) → IsAfter x k es → NoneAbove k es
   above_of x k es b =
       subst (λ (t : List ℕ). NoneAbove t es) (sym b.key)
       (none_above x es b.sorted b.kept.0 b.kept.1 b.ends)
 
-  pub behind_ok : {A E : Type 0} (x : Row) (k : List ℕ) (es es' : List (K × V)) (old new : V)
-      (r : Result A E) → IsBehind x k es → Some old ≡ lookup (test bytes rows k) es
+  pub after_ok : {A E : Type 0} (x : Row) (k : List ℕ) (es es' : List (K × V)) (old new : V)
+      (r : Result A E) → IsAfter x k es → Some old ≡ lookup (test bytes rows k) es
       → es' ≡ set_value (test bytes rows k) es new → OnOk r (rows new ≡ rows old ++ x ∷ [])
       → OnOk r (rows_of bytes rows es' ≡ rows_of bytes rows es ++ x ∷ [])
-  behind_ok x k es es' old new (Ok _) b found w e =
+  after_ok x k es es' old new (Ok _) b found w e =
       rw w (push_found k es old new x b.sorted (above_of x k es b) (sym found) e)
-  behind_ok x k es es' old new (Err _) b found w e = tt
+  after_ok x k es es' old new (Err _) b found w e = tt
 
-  pub behind_err : {A E : Type 0} (x : Row) (k : List ℕ) (es es' : List (K × V)) (old new : V)
+  pub after_err : {A E : Type 0} (x : Row) (k : List ℕ) (es es' : List (K × V)) (old new : V)
       (r : Result A E) → Some old ≡ lookup (test bytes rows k) es
       → es' ≡ set_value (test bytes rows k) es new → OnErr r (rows new ≡ rows old)
       → OnErr r (rows_of bytes rows es' ≡ rows_of bytes rows es)
-  behind_err x k es es' old new (Ok _) found w e = tt
-  behind_err x k es es' old new (Err _) found w e =
+  after_err x k es es' old new (Ok _) found w e = tt
+  after_err x k es es' old new (Err _) found w e =
       rw w (set_same bytes rows k es old new (sym found) e)
 
-  behind_put : (k : List ℕ) (es : List (K × V)) (new : V) → AreKept bytes rows es
+  after_put : (k : List ℕ) (es : List (K × V)) (new : V) → AreKept bytes rows es
       → HaveKey k (rows new) → 0 < length (rows new)
       → AreKept bytes rows (set_value (test bytes rows k) es new)
-  behind_put k es new t h s =
+  after_put k es new t h s =
       (AreKeyed-set_value bytes rows k es new t.0 h, filled_set bytes rows k es new t.1 s)
 
-  pub behind_kept : {A E : Type 0} (x : Row) (k : List ℕ) (es es' : List (K × V)) (old new : V)
-      (r : Result A E) → IsBehind x k es → Some old ≡ lookup (test bytes rows k) es
+  pub after_kept : {A E : Type 0} (x : Row) (k : List ℕ) (es es' : List (K × V)) (old new : V)
+      (r : Result A E) → IsAfter x k es → Some old ≡ lookup (test bytes rows k) es
       → es' ≡ set_value (test bytes rows k) es new → OnOk r (rows new ≡ rows old ++ x ∷ [])
       → OnErr r (rows new ≡ rows old) → AreKept bytes rows es'
-  behind_kept x k es es' old new (Ok _) b found w e f =
+  after_kept x k es es' old new (Ok _) b found w e f =
       let have = found_key bytes rows k es old b.kept.0 (sym found) in
-      rw w (behind_put k es new b.kept
+      rw w (after_put k es new b.kept
       (subst (HaveKey k) (sym e) (have_append k (rows old) x have (sym b.key)))
       (omega (arith, ap length e, length-append (rows old) (x ∷ []))))
-  behind_kept x k es es' old new (Err _) b found w e f =
-      rw w (behind_put k es new b.kept
+  after_kept x k es es' old new (Err _) b found w e f =
+      rw w (after_put k es new b.kept
       (subst (HaveKey k) (sym f) (found_key bytes rows k es old b.kept.0 (sym found)))
       (subst (λ (t : List Row). 0 < length t) (sym f) (filled_found bytes rows k es old b.kept.1 (sym found))))
 
-  pub behind_new : (x : Row) (k : List ℕ) (es es' : List (K × V)) (key : K) (new : V)
-      → IsBehind x k es → None ≡ lookup (test bytes rows k) es → bytes key ≡ k
+  pub after_new : (x : Row) (k : List ℕ) (es es' : List (K × V)) (key : K) (new : V)
+      → IsAfter x k es → None ≡ lookup (test bytes rows k) es → bytes key ≡ k
       → rows new ≡ x ∷ [] → es' ≡ insert_entry (order bytes rows) es key new
       → (rows_of bytes rows es' ≡ rows_of bytes rows es ++ x ∷ []) × AreKept bytes rows es'
-  behind_new x k es es' key new b absent i made w =
+  after_new x k es es' key new b absent i made w =
       rw w (
         push_absent key es new x (subst (λ (t : List ℕ). NoneAbove t es) (sym i) (above_of x k es b))
             (subst (λ (t : List ℕ). lookup (test bytes rows t) es ≡ None) (sym i) (sym absent)) made,
@@ -316,7 +316,7 @@ module _ {K V : Type 0} (bytes : K → List ℕ) (rows : V → List Row) where
   end_of_entries (d ∷ []) e h f =
       let same : d ≡ e = cc in
       record {
-        front = [];
+        prefix = [];
         split = append-nil (rows d.1) ∙ ap (λ (t : K × V). rows t.1) same;
         none = λ n. absurd (omega (arith, h.0, ap length (ap (λ (t : K × V). rows t.1) same ∙ n)));
       }
@@ -324,7 +324,7 @@ module _ {K V : Type 0} (bytes : K → List ℕ) (rows : V → List Row) where
       let r = end_of_entries (q ∷ es) e h.1
       (sym (ap (slice_get (d ∷ q ∷ es)) (less_more d q es)) ∙ f) in
       record {
-        front = rows d.1 ++ r.front;
-        split = ap (λ t. rows d.1 ++ t) r.split ∙ sym (append_assoc (rows d.1) r.front (rows e.1));
+        prefix = rows d.1 ++ r.prefix;
+        split = ap (λ t. rows d.1 ++ t) r.split ∙ sym (append_assoc (rows d.1) r.prefix (rows e.1));
         none = λ n. absurd (omega (arith, h.1.0, length-append (rows q.1) (rows_of bytes rows es), ap length (r.none n)));
       }

@@ -25,10 +25,10 @@ use Rattle.aprs_laws.proofs.Inserts.{inserted_is_book}
 use Rattle.aprs_laws.proofs.Joins.{is_greater_of}
 use Rattle.aprs_laws.proofs.Orders.{heard_total}
 use Rattle.aprs_laws.proofs.Known.{rows_know, set_knows, known_last}
-use Rattle.aprs_book.specs.declared.told.Told.{Told}
-use Rattle.aprs_book.specs.Reports.{report_of, is_position, is_status, is_object, is_item, is_from, tells_position, tells_status, tells_object, tells_item, without_spaces}
+use Rattle.aprs_book.specs.declared.reported.Reported.{Reported}
+use Rattle.aprs_book.specs.Reports.{report_of, is_position, is_status, is_object, is_item, is_from, reports_position, reports_status, reports_object, reports_item, without_spaces}
 use Rattle.aprs_book.specs.LastKnown.{IsLastKnown, greatest_of}
-use Rattle.aprs_book.specs.Known.{FourIndexes, Topic, positions, statuses, objects, items, index_of, known_at, known_both, is_told, tells_at, told_by, told_in, told_at, call_bytes, AreIndexesOf, SameKnown, HaveEntries}
+use Rattle.aprs_book.specs.Known.{FourIndexes, Topic, positions, statuses, objects, items, index_of, known_at, known_both, is_reported, reports_at, reported_by, reported_in, reported_at, call_bytes, AreIndexesOf, SameKnown, HaveEntries}
 use Rattle.aprs_book.proofs.KeyBytes.{call_bytes_cmp}
 use Rattle.aprs_book.proofs.KnownSteps.{entry_there, same_as_itself}
 
@@ -44,9 +44,9 @@ takes_note gap pos x old test known w h =
     (known_last test x (witnesses old) known (set_knows gap (witnesses old) old (Passes test) known b h))
 
 -- what the views look up
-pub entry_tells : (gap : ℕ) (rows : List Row) (test : Key → Bool) (known : Option Heard)
+pub entry_reports : (gap : ℕ) (rows : List Row) (test : Key → Bool) (known : Option Heard)
     → LastKnown (map greatest_of rows) (Passes test) known → IsLastKnown gap rows test known
-entry_tells gap rows test known h = λ S b. set_knows gap S rows (Passes test) known b h
+entry_reports gap rows test known h = λ S b. set_knows gap S rows (Passes test) known b h
 
 sets_know : (S T : List Heard) (P : Key → Type 0) (f g : Option Heard) → LastKnown S P f
     → LastKnown T P g → LastKnown (S ++ T) P (known_both f g)
@@ -95,7 +95,7 @@ merges_notes gap pos a b c test f g v w j h k =
     (set_knows gap (witnesses a) a (Passes test) f (witnessed gap a pos v) h)
     (set_knows gap (witnesses b) b (Passes test) g (witnessed gap b pos w) k))
 
--- a row behind the others
+-- a row after the others
 pub pushes_note : (old : List Row) (r : Row) (test : Key → Bool) (known : Option Heard)
     → LastKnown (map greatest_of old) (Passes test) known
     → LastKnown (map greatest_of (old ++ r ∷ [])) (Passes test)
@@ -110,48 +110,48 @@ pushes_note old r test known h =
 pub same_indexes : (rows : List Row) (old new : FourIndexes) → AreIndexesOf rows old → SameKnown old new
     → AreIndexesOf rows new
 same_indexes rows old new h same = λ topic bytes.
-    subst (LastKnown (map greatest_of rows) (Passes (tells_at (told_in topic) bytes)))
+    subst (LastKnown (map greatest_of rows) (Passes (reports_at (reported_in topic) bytes)))
     (sym (same topic bytes)) (h topic bytes)
 
--- what a reception tells of is noted
-abbrev pub Noted : Told → Heard → FourIndexes → FourIndexes → Type 0
+-- what a reception reports on is noted
+abbrev pub Noted : Reported → Heard → FourIndexes → FourIndexes → Type 0
 Noted t x old new = (topic : Topic) (bytes : List ℕ)
-    → known_at bytes (index_of topic new) ≡ (if is_told bytes (told_at topic t)
+    → known_at bytes (index_of topic new) ≡ (if is_reported bytes (reported_at topic t)
     then Some (greater_known (known_at bytes (index_of topic old)) x)
     else known_at bytes (index_of topic old))
 
-abbrev pub IsTold : Told → Key → Type 0
-IsTold t k = (topic : Topic) → told_at topic t ≡ told_in topic k
+abbrev pub IsReported : Reported → Key → Type 0
+IsReported t k = (topic : Topic) → reported_at topic t ≡ reported_in topic k
 
-noted_known : (t : Told) (x : Heard) (i j k : FourIndexes) → IsTold t (key_of x.frame) → SameKnown i j
+noted_known : (t : Reported) (x : Heard) (i j k : FourIndexes) → IsReported t (key_of x.frame) → SameKnown i j
     → Noted t x j k → (topic : Topic) (bytes : List ℕ)
-    → known_after (tells_at (told_in topic) bytes) (known_at bytes (index_of topic i)) x
+    → known_after (reports_at (reported_in topic) bytes) (known_at bytes (index_of topic i)) x
     ≡ known_at bytes (index_of topic k)
-noted_known t x i j k told same noted topic bytes =
+noted_known t x i j k reported same noted topic bytes =
     sym (noted topic bytes
-    ∙ ap (λ o. if is_told bytes o then Some (greater_known (known_at bytes (index_of topic j)) x) else known_at bytes (index_of topic j)) (told topic)
-    ∙ ap (λ n. if is_told bytes (told_in topic (key_of x.frame)) then Some (greater_known n x) else n) (same topic bytes))
+    ∙ ap (λ o. if is_reported bytes o then Some (greater_known (known_at bytes (index_of topic j)) x) else known_at bytes (index_of topic j)) (reported topic)
+    ∙ ap (λ n. if is_reported bytes (reported_in topic (key_of x.frame)) then Some (greater_known n x) else n) (same topic bytes))
 
-pub takes_indexes : (gap : ℕ) → 0 < gap → (t : Told) (x : Heard) (rows new : List Row)
-    (i j k : FourIndexes) → Sound gap rows → AreIndexesOf rows i → IsTold t (key_of x.frame)
+pub takes_indexes : (gap : ℕ) → 0 < gap → (t : Reported) (x : Heard) (rows new : List Row)
+    (i j k : FourIndexes) → Sound gap rows → AreIndexesOf rows i → IsReported t (key_of x.frame)
     → SameKnown i j → Noted t x j k → new ≡ inserted gap x rows → AreIndexesOf new k
-takes_indexes gap pos t x rows new i j k w h told same noted made = λ topic bytes.
-    subst (λ (r : List Row). LastKnown (map greatest_of r) (Passes (tells_at (told_in topic) bytes)) (known_at bytes (index_of topic k)))
+takes_indexes gap pos t x rows new i j k w h reported same noted made = λ topic bytes.
+    subst (λ (r : List Row). LastKnown (map greatest_of r) (Passes (reports_at (reported_in topic) bytes)) (known_at bytes (index_of topic k)))
     (sym made)
-    (subst (LastKnown (map greatest_of (inserted gap x rows)) (Passes (tells_at (told_in topic) bytes)))
-    (noted_known t x i j k told same noted topic bytes)
-    (takes_note gap pos x rows (tells_at (told_in topic) bytes) (known_at bytes (index_of topic i)) w
+    (subst (LastKnown (map greatest_of (inserted gap x rows)) (Passes (reports_at (reported_in topic) bytes)))
+    (noted_known t x i j k reported same noted topic bytes)
+    (takes_note gap pos x rows (reports_at (reported_in topic) bytes) (known_at bytes (index_of topic i)) w
     (h topic bytes)))
 
-pub pushes_indexes : (t : Told) (r : Row) (rows new : List Row) (i j k : FourIndexes)
-    → AreIndexesOf rows i → IsTold t (row_key r) → SameKnown i j → Noted t r.greatest j k
+pub pushes_indexes : (t : Reported) (r : Row) (rows new : List Row) (i j k : FourIndexes)
+    → AreIndexesOf rows i → IsReported t (row_key r) → SameKnown i j → Noted t r.greatest j k
     → new ≡ rows ++ r ∷ [] → AreIndexesOf new k
-pushes_indexes t r rows new i j k h told same noted made = λ topic bytes.
-    subst (λ (q : List Row). LastKnown (map greatest_of q) (Passes (tells_at (told_in topic) bytes)) (known_at bytes (index_of topic k)))
+pushes_indexes t r rows new i j k h reported same noted made = λ topic bytes.
+    subst (λ (q : List Row). LastKnown (map greatest_of q) (Passes (reports_at (reported_in topic) bytes)) (known_at bytes (index_of topic k)))
     (sym made)
-    (subst (LastKnown (map greatest_of (rows ++ r ∷ [])) (Passes (tells_at (told_in topic) bytes)))
-    (noted_known t r.greatest i j k told same noted topic bytes)
-    (pushes_note rows r (tells_at (told_in topic) bytes) (known_at bytes (index_of topic i))
+    (subst (LastKnown (map greatest_of (rows ++ r ∷ [])) (Passes (reports_at (reported_in topic) bytes)))
+    (noted_known t r.greatest i j k reported same noted topic bytes)
+    (pushes_note rows r (reports_at (reported_in topic) bytes) (known_at bytes (index_of topic i))
     (h topic bytes)))
 
 pub merges_indexes : (gap : ℕ) → 0 < gap → (a b c : List Row) (i j k : FourIndexes) → Sound gap a
@@ -160,12 +160,12 @@ pub merges_indexes : (gap : ℕ) → 0 < gap → (a b c : List Row) (i j k : Fou
     ≡ known_both (known_at bytes (index_of topic i)) (known_at bytes (index_of topic j)))
     → AreIndexesOf c k
 merges_indexes gap pos a b c i j k v w joined h g both = λ topic bytes.
-    subst (LastKnown (map greatest_of c) (Passes (tells_at (told_in topic) bytes)))
+    subst (LastKnown (map greatest_of c) (Passes (reports_at (reported_in topic) bytes)))
     (sym (both topic bytes))
-    (merges_notes gap pos a b c (tells_at (told_in topic) bytes) (known_at bytes (index_of topic i))
+    (merges_notes gap pos a b c (reports_at (reported_in topic) bytes) (known_at bytes (index_of topic i))
     (known_at bytes (index_of topic j)) v w joined (h topic bytes) (g topic bytes))
 
--- what fits in place has its entries: a row that is near tells of the same
+-- what fits in place has its entries: a row that is near reports on the same
 -- a wider gap joins rows, and their greatest receptions know what they knew
 pub widens_note : (g h : ℕ) → 0 < g → g ≤ h → (old : List Row) (test : Key → Bool)
     (known : Option Heard) → Sound g old → LastKnown (map greatest_of old) (Passes test) known
@@ -182,75 +182,75 @@ pub widens_indexes : (g h : ℕ) → 0 < g → g ≤ h → (rows new : List Row)
     → new ≡ widened h rows → AreIndexesOf new k
 widens_indexes g h pos l rows new i none k w held empty both made = λ topic bytes.
     let known = known_at bytes (index_of topic i) in
-    subst (λ (r : List Row). LastKnown (map greatest_of r) (Passes (tells_at (told_in topic) bytes)) (known_at bytes (index_of topic k)))
+    subst (λ (r : List Row). LastKnown (map greatest_of r) (Passes (reports_at (reported_in topic) bytes)) (known_at bytes (index_of topic k)))
     (sym made)
-    (subst (LastKnown (map greatest_of (widened h rows)) (Passes (tells_at (told_in topic) bytes)))
+    (subst (LastKnown (map greatest_of (widened h rows)) (Passes (reports_at (reported_in topic) bytes)))
     (sym (both topic bytes ∙ ap (λ t. known_both known (known_at bytes t)) (empty topic)))
-    (widens_note g h pos l rows (tells_at (told_in topic) bytes) known w (held topic bytes)))
+    (widens_note g h pos l rows (reports_at (reported_in topic) bytes) known w (held topic bytes)))
 
-pub near_entries : (gap : ℕ) (t : Told) (x : Heard) (rows : List Row) (i : FourIndexes)
-    → AreIndexesOf rows i → IsTold t (key_of x.frame) → FitsInPlace gap rows x → HaveEntries t i
-near_entries gap t x rows i h told f = λ topic bytes e.
-    entry_there (told_in topic) rows (index_of topic i) bytes f.row (h topic) f.member
-    (ap (λ k. is_told bytes (told_in topic k)) f.near.key
-    ∙ ap (is_told bytes) (sym (told topic) ∙ e) ∙ same_as_itself bytes)
+pub near_entries : (gap : ℕ) (t : Reported) (x : Heard) (rows : List Row) (i : FourIndexes)
+    → AreIndexesOf rows i → IsReported t (key_of x.frame) → FitsInPlace gap rows x → HaveEntries t i
+near_entries gap t x rows i h reported f = λ topic bytes e.
+    entry_there (reported_in topic) rows (index_of topic i) bytes f.row (h topic) f.member
+    (ap (λ k. is_reported bytes (reported_in topic k)) f.near.key
+    ∙ ap (is_reported bytes) (sym (reported topic) ∙ e) ∙ same_as_itself bytes)
 
--- ---- what reports tell of
+-- ---- what reports are about
 
-told_position : (call : Call) (v : Value)
-    → told_by positions call v ≡ (if is_position v then Some (call_bytes call) else None)
-told_position call (position messaging stamp place symbol comment) = refl
-told_position call (object name live stamp place symbol comment) = refl
-told_position call (item name live place symbol comment) = refl
-told_position call (message addressee text id) = refl
-told_position call (ack addressee id) = refl
-told_position call (rej addressee id) = refl
-told_position call (status stamp text) = refl
-told_position call raw = refl
+reported_position : (call : Call) (v : Value)
+    → reported_by positions call v ≡ (if is_position v then Some (call_bytes call) else None)
+reported_position call (position messaging stamp place symbol comment) = refl
+reported_position call (object name live stamp place symbol comment) = refl
+reported_position call (item name live place symbol comment) = refl
+reported_position call (message addressee text id) = refl
+reported_position call (ack addressee id) = refl
+reported_position call (rej addressee id) = refl
+reported_position call (status stamp text) = refl
+reported_position call raw = refl
 
-told_status : (call : Call) (v : Value)
-    → told_by statuses call v ≡ (if is_status v then Some (call_bytes call) else None)
-told_status call (position messaging stamp place symbol comment) = refl
-told_status call (object name live stamp place symbol comment) = refl
-told_status call (item name live place symbol comment) = refl
-told_status call (message addressee text id) = refl
-told_status call (ack addressee id) = refl
-told_status call (rej addressee id) = refl
-told_status call (status stamp text) = refl
-told_status call raw = refl
+reported_status : (call : Call) (v : Value)
+    → reported_by statuses call v ≡ (if is_status v then Some (call_bytes call) else None)
+reported_status call (position messaging stamp place symbol comment) = refl
+reported_status call (object name live stamp place symbol comment) = refl
+reported_status call (item name live place symbol comment) = refl
+reported_status call (message addressee text id) = refl
+reported_status call (ack addressee id) = refl
+reported_status call (rej addressee id) = refl
+reported_status call (status stamp text) = refl
+reported_status call raw = refl
 
-told_object : (wanted : List ℕ) (call : Call) (v : Value)
-    → is_told wanted (told_by objects call v) ≡ is_object wanted v
-told_object wanted call (position messaging stamp place symbol comment) = refl
-told_object wanted call (object name live stamp place symbol comment) = refl
-told_object wanted call (item name live place symbol comment) = refl
-told_object wanted call (message addressee text id) = refl
-told_object wanted call (ack addressee id) = refl
-told_object wanted call (rej addressee id) = refl
-told_object wanted call (status stamp text) = refl
-told_object wanted call raw = refl
+reported_object : (wanted : List ℕ) (call : Call) (v : Value)
+    → is_reported wanted (reported_by objects call v) ≡ is_object wanted v
+reported_object wanted call (position messaging stamp place symbol comment) = refl
+reported_object wanted call (object name live stamp place symbol comment) = refl
+reported_object wanted call (item name live place symbol comment) = refl
+reported_object wanted call (message addressee text id) = refl
+reported_object wanted call (ack addressee id) = refl
+reported_object wanted call (rej addressee id) = refl
+reported_object wanted call (status stamp text) = refl
+reported_object wanted call raw = refl
 
-told_item : (wanted : List ℕ) (call : Call) (v : Value)
-    → is_told wanted (told_by items call v) ≡ is_item wanted v
-told_item wanted call (position messaging stamp place symbol comment) = refl
-told_item wanted call (object name live stamp place symbol comment) = refl
-told_item wanted call (item name live place symbol comment) = refl
-told_item wanted call (message addressee text id) = refl
-told_item wanted call (ack addressee id) = refl
-told_item wanted call (rej addressee id) = refl
-told_item wanted call (status stamp text) = refl
-told_item wanted call raw = refl
+reported_item : (wanted : List ℕ) (call : Call) (v : Value)
+    → is_reported wanted (reported_by items call v) ≡ is_item wanted v
+reported_item wanted call (position messaging stamp place symbol comment) = refl
+reported_item wanted call (object name live stamp place symbol comment) = refl
+reported_item wanted call (item name live place symbol comment) = refl
+reported_item wanted call (message addressee text id) = refl
+reported_item wanted call (ack addressee id) = refl
+reported_item wanted call (rej addressee id) = refl
+reported_item wanted call (status stamp text) = refl
+reported_item wanted call raw = refl
 
 -- ---- what is looked up
 
--- an index by bytes tells what a test of keys tells
+-- an index by bytes knows what a test of keys finds
 pub by_bytes : (gap : ℕ) (rows : List Row) (test : Key → Bool) (topic : Topic) (bytes : List ℕ)
     (i : FourIndexes) (known : Option Heard) → AreIndexesOf rows i
-    → ((k : Key) → tells_at (told_in topic) bytes k ≡ test k) → known ≡ known_at bytes (index_of topic i)
+    → ((k : Key) → reports_at (reported_in topic) bytes k ≡ test k) → known ≡ known_at bytes (index_of topic i)
     → IsLastKnown gap rows test known
 by_bytes gap rows test topic bytes i known h same is =
-    let alike : tells_at (told_in topic) bytes ≡ test = λ j k. same k j in
-    entry_tells gap rows test known
+    let alike : reports_at (reported_in topic) bytes ≡ test = λ j k. same k j in
+    entry_reports gap rows test known
     (subst (LastKnown (map greatest_of rows) (Passes test)) (sym is)
     (subst (λ (p : Key → Bool). LastKnown (map greatest_of rows) (Passes p) (known_at bytes (index_of topic i))) alike
     (h topic bytes)))
@@ -259,27 +259,27 @@ call_same : (a b : Call) → is_eq (bytes_cmp (call_bytes a) (call_bytes b)) ≡
 call_same a b = ap is_eq (call_bytes_cmp a b)
 
 of_call : (own : Bool) (call : Call) (k : Key)
-    → is_told (call_bytes call) (if own then Some (call_bytes k.source) else None)
+    → is_reported (call_bytes call) (if own then Some (call_bytes k.source) else None)
     ≡ is_from call k && own
 of_call true call k = call_same k.source call ∙ sym (and-true (is_from call k))
 of_call false call k = sym (and-false (is_from call k))
 
-pub tells_of_position : (call : Call) (k : Key)
-    → tells_at (told_in positions) (call_bytes call) k ≡ tells_position call k
-tells_of_position call k =
-    ap (is_told (call_bytes call)) (told_position k.source (report_of k))
+pub reports_of_position : (call : Call) (k : Key)
+    → reports_at (reported_in positions) (call_bytes call) k ≡ reports_position call k
+reports_of_position call k =
+    ap (is_reported (call_bytes call)) (reported_position k.source (report_of k))
     ∙ of_call (is_position (report_of k)) call k
 
-pub tells_of_status : (call : Call) (k : Key)
-    → tells_at (told_in statuses) (call_bytes call) k ≡ tells_status call k
-tells_of_status call k =
-    ap (is_told (call_bytes call)) (told_status k.source (report_of k))
+pub reports_of_status : (call : Call) (k : Key)
+    → reports_at (reported_in statuses) (call_bytes call) k ≡ reports_status call k
+reports_of_status call k =
+    ap (is_reported (call_bytes call)) (reported_status k.source (report_of k))
     ∙ of_call (is_status (report_of k)) call k
 
-pub tells_of_object : (name : List ℕ) (k : Key)
-    → tells_at (told_in objects) (without_spaces name) k ≡ tells_object name k
-tells_of_object name k = told_object (without_spaces name) k.source (report_of k)
+pub reports_of_object : (name : List ℕ) (k : Key)
+    → reports_at (reported_in objects) (without_spaces name) k ≡ reports_object name k
+reports_of_object name k = reported_object (without_spaces name) k.source (report_of k)
 
-pub tells_of_item : (name : List ℕ) (k : Key)
-    → tells_at (told_in items) (without_spaces name) k ≡ tells_item name k
-tells_of_item name k = told_item (without_spaces name) k.source (report_of k)
+pub reports_of_item : (name : List ℕ) (k : Key)
+    → reports_at (reported_in items) (without_spaces name) k ≡ reports_item name k
+reports_of_item name k = reported_item (without_spaces name) k.source (report_of k)

@@ -157,13 +157,13 @@ module _ {K V : Type 0} (bytes : K → List ℕ) (rows : V → List Row) where
   flip : (a b : List ℕ) → bytes_cmp a b ≡ Less → bytes_cmp b a ≡ Greater
   flip a b e = bytes_total.antisymm b a ∙ ap ordering_reverse e
 
-  put_behind : (done : List (K × V)) (key : K) (v : V) → Below done (bytes key)
+  put_after : (done : List (K × V)) (key : K) (v : V) → Below done (bytes key)
       → rows_of bytes rows (insert_entry (order bytes rows) done key v)
       ≡ rows_of bytes rows done ++ rows v
-  put_behind [] key v h = append-nil (rows v)
-  put_behind (d ∷ done) key v h =
+  put_after [] key v h = append-nil (rows v)
+  put_after (d ∷ done) key v h =
       rw (flip (bytes d.0) (bytes key) h.0)
-      (ap (λ t. rows d.1 ++ t) (put_behind done key v h.1)
+      (ap (λ t. rows d.1 ++ t) (put_after done key v h.1)
       ∙ sym (append_assoc (rows d.1) (rows_of bytes rows done) (rows v)))
 
   below_put : (done : List (K × V)) (key : K) (v : V) (l : List ℕ) → Below done (bytes key)
@@ -187,7 +187,7 @@ module _ {K V : Type 0} (bytes : K → List ℕ) (rows : V → List Row) where
     pub below_ours : HeadBelow done ours
     pub below_theirs : HeadBelow done theirs
 
-  -- one key's rows of both are put behind what is merged
+  -- one key's rows of both are put after what is merged
   step : (gap : ℕ) (all : List Row) (done ours theirs ours' theirs' : List (K × V)) (x y : List Row)
       (key : K) (v : V) → IsMerging gap all done ours theirs → IsCut (bytes key) ours x ours'
       → IsCut (bytes key) theirs y theirs' → Below done (bytes key)
@@ -209,7 +209,7 @@ module _ {K V : Type 0} (bytes : K → List ℕ) (rows : V → List Row) where
         ∙ sym (append_assoc (rows_of bytes rows done) (rows v)
         (coalesced gap (interleave (rows_of bytes rows ours') (rows_of bytes rows theirs'))))
         ∙ ap (λ t. t ++ coalesced gap (interleave (rows_of bytes rows ours') (rows_of bytes rows theirs')))
-        (sym (put_behind done key v b));
+        (sym (put_after done key v b));
     kept = (
       AreKeyed-insert_entry bytes rows key done v m.kept.0
           (subst (HaveKey (bytes key)) (sym made)

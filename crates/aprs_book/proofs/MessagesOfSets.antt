@@ -1,4 +1,4 @@
--- What rows tell of messages is what their set has.
+-- What rows report of messages is what their set has.
 use Rattle.std.proofs.Common.{◌≡◌, ◌∙◌, ℕ, List, [], ◌∷◌, Option, Some, None, Result, Ok, Err, IfOk, sym, refl, subst, Bor}
 use Rattle.aprs_ax25.specs.Callsign.{Call}
 use Rattle.aprs_ax25.specs.CallText.{CallText}
@@ -17,8 +17,8 @@ use Rattle.aprs_book.specs.declared.message.MessageState.{MessageState}
 use Rattle.aprs_book.specs.declared.message_key.MessageKey.{MessageKey}
 use Rattle.aprs_book.specs.declared.message_key.Span.{Span}
 use Rattle.aprs_book.specs.declared.message_key.Asked.{Asked}
-use Rattle.aprs_book.specs.Messages.{Message, message_cmp, ReportsIt, AnswersIt, StandsBy, shown_message, IsMessageRow, AreMessages, IsListedBefore, TellsMessages}
-use Rattle.aprs_book.specs.MessageRows.{message_of, Answer, answer_of, IsReply, AreSpans, AreReplies, IsFor, TellsAnswer, StateFrom, IsListed, Zipped, IsKeyBefore}
+use Rattle.aprs_book.specs.Messages.{Message, message_cmp, ReportsIt, AnswersIt, StandsBy, shown_message, IsMessageRow, AreMessages, IsListedBefore, ReportsMessages}
+use Rattle.aprs_book.specs.MessageRows.{message_of, Answer, answer_of, IsReply, AreSpans, AreReplies, IsFor, ReportsAnswer, StateFrom, IsListed, Zipped, IsKeyBefore}
 use Rattle.aprs_book.proofs.Listings.{in_zip_right, in_zip_left}
 
 -- what a key answers
@@ -41,7 +41,7 @@ answers_by m a k id f r =
 
 module _ (gap : ℕ) (S : List Heard) (rows : List Row) (b : BookOf gap S rows) where
   module _ (es : List (Asked × Bor Heard)) (c : AreReplies rows es) (m : Message) (id : List ℕ) where
-    pub answer_known : (answer : Option Heard) → TellsAnswer es m id answer
+    pub answer_known : (answer : Option Heard) → ReportsAnswer es m id answer
         → LastKnown S (AnswersIt m id) answer
     answer_known None t =
         none_of_rows gap S rows (AnswersIt m id) b
@@ -127,7 +127,7 @@ module _ (gap : ℕ) (S : List Heard) (rows : List Row) (b : BookOf gap S rows) 
 pub messages_of_book : {E : Type 0} (gap : ℕ) (A : Type 0) (items : A → List MessageRow) (r : Result A E)
     (kept again rows : List Row) (es : List (MessageKey × Span)) (rs : List (Asked × Bor Heard))
     → kept ≡ rows → again ≡ rows → AreSpans kept es → AreReplies again rs → Ordered IsKeyBefore es
-    → IfOk r (λ v. Zipped (IsListed rs) es (items v)) → IfOk r (λ v. TellsMessages gap rows (items v))
+    → IfOk r (λ v. Zipped (IsListed rs) es (items v)) → IfOk r (λ v. ReportsMessages gap rows (items v))
 messages_of_book gap A items (Ok v) kept again rows es rs e f cs cr o z = λ S b.
     messages_of_set gap S rows b es rs (items v)
     (subst (λ (t : List Row). AreSpans t es) e cs) (subst (λ (t : List Row). AreReplies t rs) f cr) o z

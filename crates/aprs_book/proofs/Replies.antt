@@ -19,7 +19,7 @@ use Rattle.aprs_laws.specs.JoinRow.{greater}
 use Rattle.aprs_laws.proofs.Joins.{is_greater_of}
 use Rattle.aprs_laws.proofs.Orders.{call_total, call_exact, bytes_total, bytes_exact, heard_total, up_to_itself}
 use Rattle.aprs_book.specs.declared.message_key.Asked.{Asked}
-use Rattle.aprs_book.specs.MessageRows.{Answer, answer_of, answer_cmp, IsReply, IsGreatestReply, IsGreatestEntry, AreReplies, IsFor, TellsAnswer}
+use Rattle.aprs_book.specs.MessageRows.{Answer, answer_of, answer_cmp, IsReply, IsGreatestReply, IsGreatestEntry, AreReplies, IsFor, ReportsAnswer}
 use Rattle.aprs_book.specs.Messages.{Message}
 use Rattle.aprs_book.proofs.Collected.{cmp_of, found, absent, Adds, passed, put_by, same_lookup}
 
@@ -139,22 +139,22 @@ kept_greater r o m x y e f h =
 
 module _ (es : List (Asked × Bor Heard)) (k : Asked) (m : Message) (id : List ℕ)
     (f : IsFor m id (answer_of k)) (u : (a : Answer) → IsFor m id a → a ≡ answer_of k) where
-  told_by : (known : Option (Bor Heard)) → lookup (is_at (asked_cmp k)) es ≡ known
-      → TellsAnswer es m id (option_copied known)
-  told_by None h = λ e j g.
+  reported_by : (known : Option (Bor Heard)) → lookup (is_at (asked_cmp k)) es ≡ known
+      → ReportsAnswer es m id (option_copied known)
+  reported_by None h = λ e j g.
       absent answer_of answer_cmp answer_total answer_exact k es h e j (sym (u (answer_of e.0) g))
-  told_by (Some v) h =
+  reported_by (Some v) h =
       let t = found answer_of answer_cmp answer_total answer_exact k v es h in
       (t.0, t.1, subst (IsFor m id) t.2 f, λ a g. u a g ∙ t.2, ap (λ (b : Bor Heard). b.now) t.3)
 
-  pub answer_told_by : (R : Asked → Asked → Ordering) → ((a b : Asked) → R a b ≡ asked_cmp a b)
+  pub answer_reported_by : (R : Asked → Asked → Ordering) → ((a b : Asked) → R a b ≡ asked_cmp a b)
       → (o : Option (Bor Heard)) → o ≡ lookup (is_at (R k)) es
-      → TellsAnswer es m id (option_copied o)
-  answer_told_by R same o e =
-      subst (λ t. TellsAnswer es m id (option_copied t))
+      → ReportsAnswer es m id (option_copied o)
+  answer_reported_by R same o e =
+      subst (λ t. ReportsAnswer es m id (option_copied t))
       (sym (e ∙ same_lookup answer_of answer_cmp R same k es))
-      (told_by (lookup (is_at (asked_cmp k)) es) refl)
+      (reported_by (lookup (is_at (asked_cmp k)) es) refl)
 
--- an answer is told by its parts
+-- an answer is known by its parts
 pub same_answer : (a b : Answer) → a.source ≡ b.source → a.addressee ≡ b.addressee → a.id ≡ b.id → a ≡ b
 same_answer a b s t d = λ i. record { source = s i; addressee = t i; id = d i }

@@ -16,7 +16,7 @@ use Rattle.aprs_book.specs.Refusal.{refusal}
 use Rattle.aprs_book.specs.RowsFault.{IsRowsFault, AreSoundOrFaulty, SoundRowsAreFaultless, HaveOneFaultAtMost}
 use Rattle.aprs_book.proofs.Refusals.{Answers, none_exactly, never_memory}
 
--- ---- fronts of rows
+-- ---- prefixes of rows
 
 one_more : {X : Type 0} (xs : List X) (i : ℕ) (x : X) → slice_get xs i ≡ Some x
     → take (i + 1) xs ≡ take i xs ++ x ∷ []
@@ -24,15 +24,15 @@ one_more xs i x at =
     take_more xs i x (slice_get_within xs i x at)
     ∙ ap (λ y. take i xs ++ y ∷ []) (get_or_from_slice_get xs i x x at)
 
-front_of_all : (gap : ℕ) (rows : List Row) (n : ℕ) → Sound gap rows → Sound gap (take n rows)
-front_of_all gap rows n s =
+prefix_of_all : (gap : ℕ) (rows : List Row) (n : ℕ) → Sound gap rows → Sound gap (take n rows)
+prefix_of_all gap rows n s =
     sound_prefix gap (take n rows) (drop n rows)
     (subst (Sound gap) (sym (take-append-drop n rows)) s)
 
-front_of_front : (gap : ℕ) (rows : List Row) (m n : ℕ) → m ≤ n → Sound gap (take n rows)
+prefix_of_prefix : (gap : ℕ) (rows : List Row) (m n : ℕ) → m ≤ n → Sound gap (take n rows)
     → Sound gap (take m rows)
-front_of_front gap rows m n le s =
-    subst (Sound gap) (take-take m n rows le) (front_of_all gap (take n rows) m s)
+prefix_of_prefix gap rows m n le s =
+    subst (Sound gap) (take-take m n rows le) (prefix_of_all gap (take n rows) m s)
 
 -- the rows up to one that nothing refuses are sound
 sound_with : (gap : ℕ) (rows : List Row) (n : ℕ) (x : Row) → slice_get rows n ≡ Some x
@@ -49,7 +49,7 @@ up_to_fault : (gap : ℕ) (rows : List Row) (f : RowsFault) (fault : IsRowsFault
 up_to_fault gap rows f fault refused n s = elim (cases_lt f.place n) [
   | inl lt ↦
       let with = subst (Sound gap) (one_more rows f.place fault.row fault.at_place)
-      (front_of_front gap rows (f.place + 1) n (omega arith) s) in
+      (prefix_of_prefix gap rows (f.place + 1) n (omega arith) s) in
       let free = (none_exactly gap (take f.place rows) fault.row fault.sound).1 with in
       absurd (cc)
   | inr le ↦ le
@@ -59,7 +59,7 @@ pub faultless : (gap : ℕ) → SoundRowsAreFaultless gap
 faultless gap rows f s fault = elim fault.refused [
   | inl e ↦
       let le = up_to_fault gap rows f fault e (f.place + 1)
-      (front_of_all gap rows (f.place + 1) s) in
+      (prefix_of_all gap rows (f.place + 1) s) in
       absurd (omega arith)
   | inr m ↦ m.0
 ]
@@ -142,15 +142,15 @@ for_a_cause : (first : Option RowCause) (cause : RowCause)
 for_a_cause None cause h = inr (h, refl)
 for_a_cause (Some other) cause h = inl (cc)
 
--- what wasn't pushed behind the rows before it
+-- what wasn't pushed after the rows before it
 pub fault_of_push : (gap : ℕ) (rows book : List Row) (n : ℕ) (x : Row) (cause : RowCause)
     → n < length rows → x ≡ get_or rows n x → book ≡ take n rows → Sound gap (take n rows)
     → Answers {U = Unit {0}} (refusal gap book x) (Err cause)
     → IsRowsFault gap rows (record { place = n; cause = cause })
-fault_of_push gap rows book n x cause lt is front s answer = record {
+fault_of_push gap rows book n x cause lt is prefix s answer = record {
   row = x;
   at_place = slice_get_read rows (length rows) n x refl lt is;
   sound = s;
   refused = for_a_cause (refusal gap (take n rows) x) cause
-      (subst (λ (b : List Row). Answers {U = Unit {0}} (refusal gap b x) (Err cause)) front answer);
+      (subst (λ (b : List Row). Answers {U = Unit {0}} (refusal gap b x) (Err cause)) prefix answer);
 }

@@ -19,11 +19,11 @@ use Rattle.aprs_laws.proofs.Lists.{in_left, in_right, in_either, in_map, from_ma
 use Rattle.aprs_laws.proofs.Orders.{bytes_total, bytes_exact}
 use Rattle.aprs_book.specs.declared.named.Named.{Named}
 use Rattle.aprs_book.specs.Reports.{report_of}
-use Rattle.aprs_book.specs.Names.{Thing, thing_told, thing_cmp, TellsOf, shown_thing, IsNamedBefore, AreNamed, TellsNamed}
+use Rattle.aprs_book.specs.Names.{Thing, thing_reported, thing_cmp, ReportsOf, shown_thing, IsNamedBefore, AreNamed, ReportsNamed}
 use Rattle.aprs_book.specs.NamedRows.{shown_report, report_in, reports_in}
-use Rattle.aprs_book.specs.Known.{Entries, FourIndexes, Topic, objects, items, index_of, entry_at, entry_known, known_at, is_told, tells_at, told_by, told_in, IsEntryBefore, AreIndexesOf}
+use Rattle.aprs_book.specs.Known.{Entries, FourIndexes, Topic, objects, items, index_of, entry_at, entry_known, known_at, is_reported, reports_at, reported_by, reported_in, IsEntryBefore, AreIndexesOf}
 use Rattle.aprs_book.proofs.Collected.{found, absent, one_entry}
-use Rattle.aprs_book.proofs.IndexSteps.{entry_tells}
+use Rattle.aprs_book.proofs.IndexSteps.{entry_reports}
 use Rattle.aprs_book.proofs.Places.{by_order}
 
 thing_total : IsTotalOrder thing_cmp
@@ -43,7 +43,7 @@ thing_exact a b h =
     (exact_pairs bool_cmp bytes_cmp bool_exact bytes_exact (a.is_item, a.name)
     (b.is_item, b.name) h)
 
--- ---- what tells of a thing
+-- ---- what reports on a thing
 
 abbrev topic_of : Bool → Topic
 topic_of false = objects
@@ -67,38 +67,38 @@ that_one t (Some u) h =
 is_itself : (t : Thing) (o : Option Thing) → o ≡ Some t → is_that t o ≡ true
 is_itself t o e = ap (is_that t) e ∙ ap is_eq (tied_itself thing_total t)
 
-told_alike : (is_item : Bool) (name : List ℕ) (call : Call) (v : Value)
-    → is_told name (told_by (topic_of is_item) call v) ≡ is_that (thing is_item name) (thing_told v)
-told_alike false name call (position messaging stamp place symbol comment) = refl
-told_alike false name call (object other live stamp place symbol comment) = refl
-told_alike false name call (item other live place symbol comment) = refl
-told_alike false name call (message addressee text id) = refl
-told_alike false name call (ack addressee id) = refl
-told_alike false name call (rej addressee id) = refl
-told_alike false name call (status stamp text) = refl
-told_alike false name call raw = refl
-told_alike true name call (position messaging stamp place symbol comment) = refl
-told_alike true name call (object other live stamp place symbol comment) = refl
-told_alike true name call (item other live place symbol comment) = refl
-told_alike true name call (message addressee text id) = refl
-told_alike true name call (ack addressee id) = refl
-told_alike true name call (rej addressee id) = refl
-told_alike true name call (status stamp text) = refl
-told_alike true name call raw = refl
+reported_alike : (is_item : Bool) (name : List ℕ) (call : Call) (v : Value)
+    → is_reported name (reported_by (topic_of is_item) call v) ≡ is_that (thing is_item name) (thing_reported v)
+reported_alike false name call (position messaging stamp place symbol comment) = refl
+reported_alike false name call (object other live stamp place symbol comment) = refl
+reported_alike false name call (item other live place symbol comment) = refl
+reported_alike false name call (message addressee text id) = refl
+reported_alike false name call (ack addressee id) = refl
+reported_alike false name call (rej addressee id) = refl
+reported_alike false name call (status stamp text) = refl
+reported_alike false name call raw = refl
+reported_alike true name call (position messaging stamp place symbol comment) = refl
+reported_alike true name call (object other live stamp place symbol comment) = refl
+reported_alike true name call (item other live place symbol comment) = refl
+reported_alike true name call (message addressee text id) = refl
+reported_alike true name call (ack addressee id) = refl
+reported_alike true name call (rej addressee id) = refl
+reported_alike true name call (status stamp text) = refl
+reported_alike true name call raw = refl
 
--- what the index of objects or of items tells by
-abbrev tells_thing : Thing → Key → Bool
-tells_thing t = tells_at (told_in (topic_of t.is_item)) t.name
+-- what the index of objects or of items goes by
+abbrev reports_thing : Thing → Key → Bool
+reports_thing t = reports_at (reported_in (topic_of t.is_item)) t.name
 
-tells_of : (t : Thing) (k : Key) → IsTrue (tells_thing t k) → TellsOf t k
-tells_of t k h =
-    that_one t (thing_told (report_of k))
-    (sym (told_alike t.is_item t.name k.source (report_of k)) ∙ h)
+reports_of : (t : Thing) (k : Key) → IsTrue (reports_thing t k) → ReportsOf t k
+reports_of t k h =
+    that_one t (thing_reported (report_of k))
+    (sym (reported_alike t.is_item t.name k.source (report_of k)) ∙ h)
 
-tells_by : (t : Thing) (k : Key) → TellsOf t k → IsTrue (tells_thing t k)
-tells_by t k e =
-    told_alike t.is_item t.name k.source (report_of k)
-    ∙ is_itself t (thing_told (report_of k)) e
+reports_by : (t : Thing) (k : Key) → ReportsOf t k → IsTrue (reports_thing t k)
+reports_by t k e =
+    reported_alike t.is_item t.name k.source (report_of k)
+    ∙ is_itself t (thing_reported (report_of k)) e
 
 -- ---- entries
 
@@ -257,38 +257,38 @@ module _ (i : FourIndexes) (o : Ordered IsEntryBefore i.objects)
 
   module _ (gap : ℕ) (S : List Heard) (rows : List Row) (b : BookOf gap S rows)
       (h : AreIndexesOf rows i) (xs : List Named) (e : map shown_report xs ≡ all_reports i) where
-    last_known : (t : Thing) → LastKnown S (Passes (tells_thing t)) (known_of i t)
+    last_known : (t : Thing) → LastKnown S (Passes (reports_thing t)) (known_of i t)
     last_known t =
-        entry_tells gap rows (tells_thing t) (known_of i t) (h (topic_of t.is_item) t.name) S b
+        entry_reports gap rows (reports_thing t) (known_of i t) (h (topic_of t.is_item) t.name) S b
 
-    best : (x : Named) → x ∈ xs → IsBest S (TellsOf (shown_thing x)) x.heard
+    best : (x : Named) → x ∈ xs → IsBest S (ReportsOf (shown_thing x)) x.heard
     best x m =
         let t = shown_thing x in
         let known =
         report_known t x.heard
         (subst (λ (l : List (Thing × Heard)). shown_report x ∈ l) e (in_map shown_report x xs m)) in
-        let g : IsBest S (Passes (tells_thing t)) x.heard =
-        subst (LastKnown S (Passes (tells_thing t))) known (last_known t) in
+        let g : IsBest S (Passes (reports_thing t)) x.heard =
+        subst (LastKnown S (Passes (reports_thing t))) known (last_known t) in
         record {
           member = g.member;
-          property = tells_of t (key_of x.heard.frame) g.property;
-          greatest = λ s n q. g.greatest s n (tells_by t (key_of s.frame) q);
+          property = reports_of t (key_of x.heard.frame) g.property;
+          greatest = λ s n q. g.greatest s n (reports_by t (key_of s.frame) q);
         }
 
-    told_of : (t : Thing) → (x : Named) × (x ∈ xs) × (shown_thing x ≡ t)
-        → (s : Heard) × (s ∈ S) × TellsOf t (key_of s.frame)
-    told_of t n =
+    reported_of : (t : Thing) → (x : Named) × (x ∈ xs) × (shown_thing x ≡ t)
+        → (s : Heard) × (s ∈ S) × ReportsOf t (key_of s.frame)
+    reported_of t n =
         let k = best n.0 n.1 in
-        let told = subst (λ (u : Thing). TellsOf u (key_of n.0.heard.frame)) n.2 k.property in
-        (n.0.heard, k.member, told)
+        let reported = subst (λ (u : Thing). ReportsOf u (key_of n.0.heard.frame)) n.2 k.property in
+        (n.0.heard, k.member, reported)
 
-    listed_of : (t : Thing) → (s : Heard) × (s ∈ S) × TellsOf t (key_of s.frame)
+    listed_of : (t : Thing) → (s : Heard) × (s ∈ S) × ReportsOf t (key_of s.frame)
         → (x : Named) × (x ∈ xs) × (shown_thing x ≡ t)
     listed_of t n = there (known_of i t) refl (last_known t) where
       there : (known : Option Heard) → known_of i t ≡ known
-          → LastKnown S (Passes (tells_thing t)) known
+          → LastKnown S (Passes (reports_thing t)) known
           → (x : Named) × (x ∈ xs) × (shown_thing x ≡ t)
-      there None k none = absurd (none n.0 n.1 (tells_by t (key_of n.0.frame) n.2))
+      there None k none = absurd (none n.0 n.1 (reports_by t (key_of n.0.frame) n.2))
       there (Some g) k h =
           let m =
           subst (λ (l : List (Thing × Heard)). (t, g) ∈ l) (sym e)
@@ -299,7 +299,7 @@ module _ (i : FourIndexes) (o : Ordered IsEntryBefore i.objects)
     named_of_set : AreNamed S xs
     named_of_set = record {
       ascending = named_ascend xs (subst (Ordered IsReportBefore) (sym e) all_ascend);
-      things = λ t. (told_of t, listed_of t);
+      things = λ t. (reported_of t, listed_of t);
       each = best;
     }
 
@@ -309,7 +309,7 @@ pub named_of_indexes : (gap : ℕ) (rows : List Row) (i : FourIndexes) (first se
     → none ≡ []
     → map shown_report some ≡ map shown_report none ++ reports_in false first
     → map shown_report all ≡ map shown_report some ++ reports_in true second
-    → TellsNamed gap rows all
+    → ReportsNamed gap rows all
 named_of_indexes gap rows i first second none some all h e f o p n s t = λ S b.
     named_of_set i (subst (Ordered IsEntryBefore) e o) (subst (Ordered IsEntryBefore) f p) gap S
     rows b h all

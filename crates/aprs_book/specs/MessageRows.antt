@@ -1,4 +1,4 @@
--- What rows tell of messages and their answers.
+-- What rows report of messages and their answers.
 use Rattle.std.specs.Prelude.{◌≡◌, ◌⊎◌, ℕ, min, max, List, [], ◌∷◌, Option, Some, None}
 use Rattle.std.specs.Option.{option_map}
 use Rattle.std.specs.Ordering.{on, then_cmp}
@@ -47,10 +47,10 @@ pub record IsSpan (rows : List Row) (m : Message) (s : Span) : Type 0 where
 -- ---- answers
 
 -- the addressee and the id of an answer
-abbrev pub answer_told : Value → Option (List ℕ × List ℕ)
-answer_told (ack addressee id) = Some (addressee, id)
-answer_told (rej addressee id) = Some (addressee, id)
-answer_told v = None
+abbrev pub answer_reported : Value → Option (List ℕ × List ℕ)
+answer_reported (ack addressee id) = Some (addressee, id)
+answer_reported (rej addressee id) = Some (addressee, id)
+answer_reported v = None
 
 -- whose message is answered, who answers, and the id
 pub record Answer : Type 0 where
@@ -103,17 +103,17 @@ pub record IsFor (m : Message) (id : List ℕ) (a : Answer) : Type 0 where
   pub same_id : a.id ≡ id
 
 -- the greatest answer among the entries, or none
-abbrev pub TellsAnswer : List (Asked × Bor Heard) → Message → List ℕ → Option Heard → Type 0
-TellsAnswer entries m id None =
+abbrev pub ReportsAnswer : List (Asked × Bor Heard) → Message → List ℕ → Option Heard → Type 0
+ReportsAnswer entries m id None =
     (e : Asked × Bor Heard) → e ∈ entries → IsFor m id (answer_of e.0) → ⊥
-TellsAnswer entries m id (Some g) =
+ReportsAnswer entries m id (Some g) =
     (e : Asked × Bor Heard) × (e ∈ entries) × IsFor m id (answer_of e.0)
     × ((a : Answer) → IsFor m id a → a ≡ answer_of e.0) × (e.1.now ≡ g)
 
 abbrev pub StateFrom : List (Asked × Bor Heard) → Message → ℕ → Option (List ℕ) → MessageState → Type 0
 StateFrom entries m first None state = state ≡ Unnumbered
 StateFrom entries m first (Some id) state =
-    (answer : Option Heard) × TellsAnswer entries m id answer × (state ≡ state_by first answer)
+    (answer : Option Heard) × ReportsAnswer entries m id answer × (state ≡ state_by first answer)
 
 -- the row of a message and its span
 pub record IsListed (entries : List (Asked × Bor Heard)) (e : MessageKey × Span) (x : MessageRow) :

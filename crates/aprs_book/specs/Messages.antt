@@ -27,14 +27,14 @@ pub record Message : Type 0 where
   pub text : List ℕ
   pub id : Option (List ℕ)
 
-abbrev pub message_told : Call → Value → Option Message
-message_told from (message addressee text id) =
+abbrev pub message_reported : Call → Value → Option Message
+message_reported from (message addressee text id) =
     Some (record { source = from; addressee = addressee; text = text; id = id })
-message_told from v = None
+message_reported from v = None
 
 -- the message that a key reports, or none
 abbrev pub message_in : Key → Option Message
-message_in k = message_told k.source (report_of k)
+message_in k = message_reported k.source (report_of k)
 
 abbrev pub ReportsIt : Message → Key → Type 0
 ReportsIt m k = message_in k ≡ Some m
@@ -55,15 +55,15 @@ pub record AnswersIt (m : Message) (id : List ℕ) (k : Key) : Type 0 where
   pub to : CallText m.source addressee
   pub answer : (report_of k ≡ ack addressee id) ⊎ (report_of k ≡ rej addressee id)
 
-abbrev pub state_told : Value → MessageState
-state_told (rej addressee id) = Rejected
-state_told v = Acknowledged
+abbrev pub state_reported : Value → MessageState
+state_reported (rej addressee id) = Rejected
+state_reported v = Acknowledged
 
 -- by the greatest answer, which counts from the message's first moment on
 abbrev pub state_by : ℕ → Option Heard → MessageState
 state_by first None = Unanswered
 state_by first (Some a) =
-    if nat_lt a.moment first then Unanswered else state_told (report_of (key_of a.frame))
+    if nat_lt a.moment first then Unanswered else state_reported (report_of (key_of a.frame))
 
 -- a message of no id can't be answered
 abbrev pub StandsBy : List Heard → Message → ℕ → Option (List ℕ) → MessageState → Type 0
@@ -102,5 +102,5 @@ pub record AreMessages (S : List Heard) (xs : List MessageRow) : Type 0 where
   pub each : (x : MessageRow) → x ∈ xs → IsMessageRow S x
 
 -- whatever set the rows are the book of, these are its messages
-abbrev pub TellsMessages : ℕ → List Row → List MessageRow → Type 0
-TellsMessages gap rows xs = (S : List Heard) → BookOf gap S rows → AreMessages S xs
+abbrev pub ReportsMessages : ℕ → List Row → List MessageRow → Type 0
+ReportsMessages gap rows xs = (S : List Heard) → BookOf gap S rows → AreMessages S xs

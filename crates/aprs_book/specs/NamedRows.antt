@@ -1,4 +1,4 @@
--- What the indexes tell of objects and items.
+-- What the indexes know of objects and items.
 use Rattle.std.specs.Prelude.{Bool, ℕ, List, [], ◌∷◌, ◌++◌, Option, Some, None}
 use Rattle.aprs_log.specs.Reception.{Heard}
 use Rattle.aprs_book.specs.declared.named.Named.{Named}

@@ -18,15 +18,15 @@ pub record Thing : Type 0 where
   pub is_item : Bool
   pub name : List ℕ
 
-abbrev pub thing_told : Value → Option Thing
-thing_told (object name live stamp place symbol comment) =
+abbrev pub thing_reported : Value → Option Thing
+thing_reported (object name live stamp place symbol comment) =
     Some (record { is_item = false; name = name })
-thing_told (item name live place symbol comment) = Some (record { is_item = true; name = name })
-thing_told v = None
+thing_reported (item name live place symbol comment) = Some (record { is_item = true; name = name })
+thing_reported v = None
 
 -- a key that reports this thing, live or killed, from any station
-abbrev pub TellsOf : Thing → Key → Type 0
-TellsOf t k = thing_told (report_of k) ≡ Some t
+abbrev pub ReportsOf : Thing → Key → Type 0
+ReportsOf t k = thing_reported (report_of k) ≡ Some t
 
 -- objects by name, then items by name
 abbrev pub thing_cmp : Thing → Thing → Ordering
@@ -42,9 +42,9 @@ IsNamedBefore x y = IsBelow thing_cmp (shown_thing x) (shown_thing y)
 pub record AreNamed (S : List Heard) (xs : List Named) : Type 0 where
   pub ascending : Ordered IsNamedBefore xs
   pub things : (t : Thing) → ((x : Named) × (x ∈ xs) × (shown_thing x ≡ t))
-      ↔ ((s : Heard) × (s ∈ S) × TellsOf t (key_of s.frame))
-  pub each : (x : Named) → x ∈ xs → IsBest S (TellsOf (shown_thing x)) x.heard
+      ↔ ((s : Heard) × (s ∈ S) × ReportsOf t (key_of s.frame))
+  pub each : (x : Named) → x ∈ xs → IsBest S (ReportsOf (shown_thing x)) x.heard
 
 -- whatever set the rows are the book of, these are its objects and items
-abbrev pub TellsNamed : ℕ → List Row → List Named → Type 0
-TellsNamed gap rows xs = (S : List Heard) → BookOf gap S rows → AreNamed S xs
+abbrev pub ReportsNamed : ℕ → List Row → List Named → Type 0
+ReportsNamed gap rows xs = (S : List Heard) → BookOf gap S rows → AreNamed S xs

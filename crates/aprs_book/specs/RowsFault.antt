@@ -7,12 +7,12 @@ use Rattle.aprs_book.specs.declared.row_cause.RowCause.{RowCause}
 use Rattle.aprs_book.specs.declared.row_cause.RowCause.TheVariants.{Memory}
 use Rattle.aprs_book.specs.declared.from_parts.RowsFault.{RowsFault}
 
--- x isn't added behind the rows: the cause refuses it, or nothing does and memory was refused
+-- x isn't added after the rows: the cause refuses it, or nothing does and an allocation failed
 abbrev pub IsRefusedFor : ℕ → List Row → Row → RowCause → Type 0
 IsRefusedFor gap rows x cause =
     (refusal gap rows x ≡ Some cause) ⊎ ((cause ≡ Memory) × (refusal gap rows x ≡ None))
 
--- the place is that of a row, the rows before it are sound, and it isn't added behind them
+-- the place is that of a row, the rows before it are sound, and it isn't added after them
 pub record IsRowsFault (gap : ℕ) (rows : List Row) (fault : RowsFault) : Type 0 where
   pub row : Row
   pub at_place : slice_get rows fault.place ≡ Some row

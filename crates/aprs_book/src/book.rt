@@ -11,7 +11,7 @@ ghost use Rattle.aprs_book.specs.Known.{AreIndexesOf};
 
 use crate::indexes::Indexes;
 use crate::keyed::KeyedRows;
-use crate::told::Told;
+use crate::reported::Reported;
 use crate::walk::Walk;
 use crate::{Gap, Join, Memory, MergeFault, RowCause, RowParts, Rows, WidenFault};
 use aprs_log::Reception;
@@ -96,14 +96,14 @@ impl<A: Allocator + Copy> Book<A> {
         ensures unchanged { OnErr result (self.new ≡ self.old) }
         ensures in_place { FitsInPlace (millis_of self.old.gap) self.old.rows x.now → IsOk result }
     {
-        let told = Told::of(x.frame());
-        self.indexes.place(&told)?;
+        let reported = Reported::of(x.frame());
+        self.indexes.place(&reported)?;
         self.rows.take(self.gap.millis(), x)?;
-        self.indexes.note(&told, x);
+        self.indexes.note(&reported, x);
         Ok(())
     }
 
-    /// Adds a row behind all others, unless a cause refuses it: it is added, or memory was refused,
+    /// Adds a row after all others, unless a cause refuses it: it is added, or an allocation failed,
     /// exactly if the rows with it are sound. Looks at the last row alone. After an error the book
     /// is as before.
     pub fn push_row(&mut self, parts: &RowParts<A>) -> Result<(), RowCause>
@@ -131,10 +131,10 @@ impl<A: Allocator + Copy> Book<A> {
         ensures gap { self.new.gap ≡ self.old.gap }
         ensures unchanged { OnErr result (self.new ≡ self.old) }
     {
-        let told = Told::of(&parts.frame);
-        self.indexes.place(&told)?;
+        let reported = Reported::of(&parts.frame);
+        self.indexes.place(&reported)?;
         self.rows.push(parts)?;
-        self.indexes.note(&told, &parts.greatest());
+        self.indexes.note(&reported, &parts.greatest());
         Ok(())
     }
 
@@ -178,7 +178,7 @@ impl<A: Allocator + Copy> Book<A> {
     }
 
     /// The book of the same set under a gap that is not less, in one pass over the rows. `Narrower`
-    /// comes exactly where the gap is less, since rows don't tell what lies between their moments,
+    /// comes exactly where the gap is less, since rows don't say what lies between their moments,
     /// and before any memory is taken. This book stays as it is.
     pub fn widen(&self, gap: Gap) -> Result<Book<A>, WidenFault>
         ensures wide { IfOk result (λ wide. wide ≡ widened_to gap self.now) }

@@ -12,7 +12,7 @@ use std::alloc::Allocator;
 pub struct RowsFault {
     /// The place of the row, from 0.
     pub place: usize,
-    /// Why it isn't added behind the rows before it.
+    /// Why it isn't added after the rows before it.
     pub cause: RowCause,
 }
 

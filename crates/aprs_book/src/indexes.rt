@@ -2,12 +2,12 @@
 ghost use Rattle.std.specs.Prelude.{◌≡◌, ℕ, List, [], Some, IsOk, IfOk, OnOk, if◌then◌else◌};
 ghost use Rattle.std.specs.Option.{option_copied};
 ghost use Rattle.aprs_laws.specs.Best.{greater_known};
-ghost use Rattle.aprs_book.specs.Known.{Topic, FourIndexes, index_of, known_at, known_both, call_bytes, is_told, told_at, SameKnown, HaveEntries, positions, statuses, objects, items};
+ghost use Rattle.aprs_book.specs.Known.{Topic, FourIndexes, index_of, known_at, known_both, call_bytes, is_reported, reported_at, SameKnown, HaveEntries, positions, statuses, objects, items};
 
 use crate::Memory;
 use crate::key_bytes::call_bytes;
 use crate::known::Known;
-use crate::told::Told;
+use crate::reported::Reported;
 use aprs_ax25::Callsign;
 use aprs_log::Reception;
 use std::alloc::{Allocator, Global};
@@ -92,36 +92,36 @@ impl<A: Allocator + Copy> Indexes<A> {
         &self.items
     }
 
-    /// Makes an entry for what is told of, which is empty, unless there is one.
-    pub(crate) fn place(&mut self, told: &Told<'_>) -> Result<(), Memory>
+    /// Makes an entry for what is reported on, which is empty, unless there is one.
+    pub(crate) fn place(&mut self, reported: &Reported<'_>) -> Result<(), Memory>
         ensures same { SameKnown self.old self.new }
-        ensures made { OnOk result (HaveEntries told.now self.new) }
-        ensures there { HaveEntries told.now self.old → IsOk result }
+        ensures made { OnOk result (HaveEntries reported.now self.new) }
+        ensures there { HaveEntries reported.now self.old → IsOk result }
     {
-        match told {
-            Told::Position(call) => self.positions.place(call.as_slice()),
-            Told::Status(call) => self.statuses.place(call.as_slice()),
-            Told::Object(name) => self.objects.place(name),
-            Told::Item(name) => self.items.place(name),
-            Told::Nothing => Ok(()),
+        match reported {
+            Reported::Position(call) => self.positions.place(call.as_slice()),
+            Reported::Status(call) => self.statuses.place(call.as_slice()),
+            Reported::Object(name) => self.objects.place(name),
+            Reported::Item(name) => self.items.place(name),
+            Reported::Nothing => Ok(()),
         }
     }
 
-    /// Keeps the reception in the entry for what is told of, if it is greater than what is known.
+    /// Keeps the reception in the entry for what is reported on, if it is greater than what is known.
     /// Takes no memory.
-    pub(crate) fn note(&mut self, told: &Told<'_>, x: &Reception)
-        requires { HaveEntries told.now self.old }
+    pub(crate) fn note(&mut self, reported: &Reported<'_>, x: &Reception)
+        requires { HaveEntries reported.now self.old }
         ensures { (topic : Topic) (bytes : List ℕ) → known_at bytes (index_of topic self.new)
-            ≡ (if is_told bytes (told_at topic told.now)
+            ≡ (if is_reported bytes (reported_at topic reported.now)
             then Some (greater_known (known_at bytes (index_of topic self.old)) x.now)
             else known_at bytes (index_of topic self.old)) }
     {
-        match told {
-            Told::Position(call) => self.positions.note(call.as_slice(), x),
-            Told::Status(call) => self.statuses.note(call.as_slice(), x),
-            Told::Object(name) => self.objects.note(name, x),
-            Told::Item(name) => self.items.note(name, x),
-            Told::Nothing => {}
+        match reported {
+            Reported::Position(call) => self.positions.note(call.as_slice(), x),
+            Reported::Status(call) => self.statuses.note(call.as_slice(), x),
+            Reported::Object(name) => self.objects.note(name, x),
+            Reported::Item(name) => self.items.note(name, x),
+            Reported::Nothing => {}
         }
     }
 

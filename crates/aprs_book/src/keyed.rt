@@ -145,7 +145,7 @@ impl<A: Allocator + Copy> KeyedRows<A> {
         }
     }
 
-    /// Puts a row behind all others. What needs memory is made before the first change.
+    /// Puts a row after all others. What needs memory is made before the first change.
     fn append(&mut self, row: KeptRow<A>) -> Result<(), Memory>
         requires { EndsUpTo row self.old }
         ensures added { OnOk result (self.new ≡ self.old ++ row ∷ []) }

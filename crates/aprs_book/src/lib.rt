@@ -34,7 +34,7 @@ mod row_parts;
 mod station;
 mod steps;
 mod tally;
-mod told;
+mod reported;
 mod walk;
 mod widen_fault;
 

@@ -5,8 +5,8 @@ ghost use Rattle.aprs_laws.specs.Lists.{Ordered};
 ghost use Rattle.aprs_laws.specs.Key.{key_of};
 ghost use Rattle.aprs_laws.specs.Gap.{millis_of};
 ghost use Rattle.aprs_book.specs.Reports.{report_of};
-ghost use Rattle.aprs_book.specs.Messages.{state_by, state_told, TellsMessages};
-ghost use Rattle.aprs_book.specs.MessageRows.{AreSpans, AreReplies, message_of, IsListed, TellsAnswer, Zipped, IsKeyBefore};
+ghost use Rattle.aprs_book.specs.Messages.{state_by, state_reported, ReportsMessages};
+ghost use Rattle.aprs_book.specs.MessageRows.{AreSpans, AreReplies, message_of, IsListed, ReportsAnswer, Zipped, IsKeyBefore};
 
 use crate::last_known::greater;
 use crate::message_key::{Asked, MessageKey, Span, message_in, reply_in, span_with};
@@ -55,7 +55,7 @@ impl<A: Allocator + Copy> Book<A> {
     /// first.
     pub fn messages(&self) -> Result<Vec<MessageRow<'_>, A>, Memory>
         ensures { IfOk result (λ messages.
-            TellsMessages (millis_of self.now.gap) self.now.rows messages.items) }
+            ReportsMessages (millis_of self.now.gap) self.now.rows messages.items) }
     {
         let spans = message_spans(self.allocator(), self.walk())?;
         let answers = greatest_answers(self.allocator(), self.walk())?;
@@ -149,7 +149,7 @@ fn greatest_answer<'a, A: Allocator + Copy>(
     id: &'a [u8],
     answers: &BTreeMap<Asked<'a>, &'a Reception, A>,
 ) -> Option<&'a Reception>
-    ensures { TellsAnswer answers.now.entries (message_of message.now) id.now
+    ensures { ReportsAnswer answers.now.entries (message_of message.now) id.now
         (option_copied result) }
 {
     match Callsign::parse(message.addressee) {
@@ -170,15 +170,15 @@ fn state_by(first: Moment, answer: Option<&Reception>) -> MessageState
     ensures { result ≡ state_by first (option_copied answer.entry) }
 {
     match answer {
-        Some(x) if x.moment() >= first => state_told(x.frame()),
+        Some(x) if x.moment() >= first => state_reported(x.frame()),
         _ => MessageState::Unanswered,
     }
 }
 
 /// What an answer says.
 #[tactic(auto, unfolding(aprs_laws::specs::Key::key_of))]
-fn state_told(answer: &Frame) -> MessageState
-    ensures { result ≡ state_told (report_of (key_of answer.now)) }
+fn state_reported(answer: &Frame) -> MessageState
+    ensures { result ≡ state_reported (report_of (key_of answer.now)) }
 {
     match Report::read(answer.info()) {
         Report::Rej { .. } => MessageState::Rejected,

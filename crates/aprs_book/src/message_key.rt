@@ -5,7 +5,7 @@ ghost use Rattle.aprs_laws.specs.Row.{row_key};
 ghost use Rattle.aprs_laws.specs.Key.{key_of};
 ghost use Rattle.aprs_book.specs.Reports.{report_of};
 ghost use Rattle.aprs_book.specs.Messages.{message_in};
-ghost use Rattle.aprs_book.specs.MessageRows.{message_of, span_with, Answer, answer_of, answer_told, IsReply};
+ghost use Rattle.aprs_book.specs.MessageRows.{message_of, span_with, Answer, answer_of, answer_reported, IsReply};
 
 use crate::kept_row::KeptRow;
 use aprs_ax25::{Callsign, Frame};
@@ -94,7 +94,7 @@ pub(crate) fn reply_in<'a, A: Allocator + Copy>(row: &'a KeptRow<A>) -> Option<A
 #[tactic(auto, unfolding(aprs_laws::specs::Key::key_of))]
 fn answer_in(frame: &Frame) -> Option<(&[u8], &[u8])>
     ensures { option_map (λ x. (x.0.now, x.1.now)) result
-        ≡ answer_told (report_of (key_of frame.now)) }
+        ≡ answer_reported (report_of (key_of frame.now)) }
 {
     match Report::read(frame.info()) {
         Report::Ack { addressee, id } => Some((addressee, id)),

@@ -3,7 +3,7 @@ ghost use Rattle.std.specs.Prelude.{◌≡◌, ◌++◌, map, IfOk, OnOk};
 ghost use Rattle.aprs_laws.specs.Gap.{millis_of};
 ghost use Rattle.aprs_laws.specs.Lists.{Ordered};
 ghost use Rattle.aprs_book.specs.Known.{IsEntryBefore};
-ghost use Rattle.aprs_book.specs.Names.{TellsNamed};
+ghost use Rattle.aprs_book.specs.Names.{ReportsNamed};
 ghost use Rattle.aprs_book.specs.NamedRows.{shown_report, reports_in};
 
 use crate::known::Known;
@@ -25,7 +25,7 @@ impl<A: Allocator + Copy> Book<A> {
     /// The last report of each object, by name, and then of each item, by name.
     pub fn objects(&self) -> Result<Vec<Named<'_>, A>, Memory>
         ensures { IfOk result (λ named.
-            TellsNamed (millis_of self.now.gap) self.now.rows named.items) }
+            ReportsNamed (millis_of self.now.gap) self.now.rows named.items) }
     {
         let indexes = self.indexes();
         let mut list = Vec::new(self.allocator());

@@ -4,9 +4,9 @@ ghost use Rattle.std.specs.List.{flat_map};
 ghost use Rattle.std.specs.Io.KnownBytes.{Appends};
 ghost use Rattle.aprs_kiss.specs.Device.{device_of, failures_of, Rose, AppendsPrefix};
 ghost use Rattle.aprs_laws.specs.Gap.{millis_of};
-ghost use Rattle.aprs_book.specs.Stations.{TellsStations};
-ghost use Rattle.aprs_book.specs.Names.{TellsNamed};
-ghost use Rattle.aprs_book.specs.Messages.{TellsMessages};
+ghost use Rattle.aprs_book.specs.Stations.{ReportsStations};
+ghost use Rattle.aprs_book.specs.Names.{ReportsNamed};
+ghost use Rattle.aprs_book.specs.Messages.{ReportsMessages};
 ghost use Rattle.aprs_tool.specs.Lines.{PutsText};
 ghost use Rattle.aprs_tool.specs.Listing.{id_text, known_line, message_line, named_line, show_text, state_text, station_lines};
 
@@ -31,11 +31,11 @@ impl<'a, A: Allocator + Copy> Views<'a, A> {
     /// What is listed of the book.
     pub fn of(book: &'a Book<A>) -> Result<Views<'a, A>, Memory>
         ensures stations { IfOk result (λ v.
-            TellsStations (millis_of book.now.gap) book.now.rows v.stations.items) }
+            ReportsStations (millis_of book.now.gap) book.now.rows v.stations.items) }
         ensures named { IfOk result (λ v.
-            TellsNamed (millis_of book.now.gap) book.now.rows v.named.items) }
+            ReportsNamed (millis_of book.now.gap) book.now.rows v.named.items) }
         ensures messages { IfOk result (λ v.
-            TellsMessages (millis_of book.now.gap) book.now.rows v.messages.items) }
+            ReportsMessages (millis_of book.now.gap) book.now.rows v.messages.items) }
     {
         Ok(Views {
             stations: book.stations()?,

@@ -1,11 +1,11 @@
 use Rattle.std.proofs.Common.{◌≡◌, ◌∙◌, sym, refl, Ok}
 use Rattle.aprs_book.specs.MessageRows.{message_of}
-use Rattle.aprs_book.proofs.Replies.{asked_alike, answer_told_by, same_answer}
+use Rattle.aprs_book.proofs.Replies.{asked_alike, answer_reported_by, same_answer}
 use Rattle.aprs_book.proofs.message.greatest_answer.Goals as goal
 
 pub returns-in-Ok : goal.returns-in-Ok
 returns-in-Ok g c =
-    answer_told_by c.args.answers.now.entries
+    answer_reported_by c.args.answers.now.entries
     (record { source = c.copy.result; addressee = c.in-Ok.addressee; id = c.args.id })
     (message_of c.args.message.now) c.args.id.now
     (record { source = c.copy.ensures; addressee = c.in-Ok.ensures.found; same_id = refl })

@@ -1,8 +1,8 @@
 use Rattle.std.proofs.Common.{◌≡◌, ℕ, List, refl, sym, subst}
 use Rattle.std.proofs.lemmas.Result.{err_from_is_err_and}
-use Rattle.aprs_book.specs.Messages.{TellsMessages}
-use Rattle.aprs_book.specs.Names.{TellsNamed}
-use Rattle.aprs_book.specs.Stations.{TellsStations}
+use Rattle.aprs_book.specs.Messages.{ReportsMessages}
+use Rattle.aprs_book.specs.Names.{ReportsNamed}
+use Rattle.aprs_book.specs.Stations.{ReportsStations}
 use Rattle.aprs_book.specs.declared.message.MessageRow.{MessageRow}
 use Rattle.aprs_book.specs.declared.named.Named.{Named}
 use Rattle.aprs_book.specs.declared.station.Station.{Station}
@@ -17,8 +17,8 @@ use Rattle.aprs_tool.proofs.show.show_run.Goals as goal
 
 -- the listing of whatever set the rows are the book of
 listed : (gap own : ℕ) (rows : List Row) (stations : List Station) (named : List Named)
-    (messages : List MessageRow) → own ≡ gap → TellsStations (millis_of own) rows stations
-    → TellsNamed (millis_of own) rows named → TellsMessages (millis_of own) rows messages
+    (messages : List MessageRow) → own ≡ gap → ReportsStations (millis_of own) rows stations
+    → ReportsNamed (millis_of own) rows named → ReportsMessages (millis_of own) rows messages
     → (S : List Heard) → BookOf (millis_of gap) S rows
     → IsListingOf gap S (show_text stations named messages)
 listed gap own rows stations named messages same s n m S book =

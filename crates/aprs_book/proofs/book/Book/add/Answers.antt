@@ -4,7 +4,7 @@ use Rattle.aprs_laws.specs.Gap.{millis_of}
 use Rattle.aprs_laws.specs.Row.{row_key}
 use Rattle.aprs_laws.specs.Sound.{Sound}
 use Rattle.aprs_book.specs.Refusal.{refusal}
-use Rattle.aprs_book.specs.Known.{told_in}
+use Rattle.aprs_book.specs.Known.{reported_in}
 use Rattle.aprs_book.proofs.Taking.{refusal_is}
 use Rattle.aprs_book.proofs.Refusals.{free_ascends, none_ends_up_to, none_exactly}
 use Rattle.aprs_book.proofs.IndexSteps.{Noted, pushes_indexes}
@@ -32,11 +32,11 @@ invariant_of-self-2 g c =
         sound = subst (Sound gap) (sym c.in_ok-push.ensures.added)
             ((none_exactly gap c.self.inside.rows c.args.parts.now c.self.invariant.0.sound).0 none);
       },
-      pushes_indexes c.of-told.result c.args.parts.now c.self.inside.rows c.push.new.self
+      pushes_indexes c.of-reported.result c.args.parts.now c.self.inside.rows c.push.new.self
           c.self.inside.indexes c.place.new.self c.note.new.self c.self.invariant.1
-          (λ topic. c.of-told.ensures topic ∙ ap (λ r. told_in topic (row_key r)) c.parts.view_is)
+          (λ topic. c.of-reported.ensures topic ∙ ap (λ r. reported_in topic (row_key r)) c.parts.view_is)
           c.in_ok-place.ensures.same
-          (subst (λ (x : Heard). Noted c.of-told.result x c.place.new.self c.note.new.self)
+          (subst (λ (x : Heard). Noted c.of-reported.result x c.place.new.self c.note.new.self)
           c.greatest.ensures c.note.ensures)
           c.in_ok-push.ensures.added,
     )

@@ -5,7 +5,7 @@ use Rattle.aprs_laws.specs.Key.{key_of}
 use Rattle.aprs_book.specs.Keyed.{key_bytes, EndsUpTo}
 use Rattle.aprs_book.proofs.Entries.{on_not_err, on_err}
 use Rattle.aprs_book.proofs.KeyRoom.{room_made, room_stays}
-use Rattle.aprs_book.proofs.EntryEnds.{stays, err_stays, count_set, count_insert, IsBehind, behind_ok, behind_err, behind_kept, behind_new}
+use Rattle.aprs_book.proofs.EntryEnds.{stays, err_stays, count_set, count_insert, IsAfter, after_ok, after_err, after_kept, after_new}
 use Rattle.aprs_book.proofs.keyed.KeyedRows.append.Goals as goal
 
 pub invariant_of-self : goal.invariant_of-self
@@ -29,14 +29,14 @@ pub invariant_of-self-in-Some : goal.invariant_of-self-in-Some
 invariant_of-self-in-Some g c =
     let x = c.args.row in
     let es = c.self.inside.map.entries in
-    let b : IsBehind (λ k. k.items) (λ v. v.items) x c.assign.new.self.items es =
+    let b : IsAfter (λ k. k.items) (λ v. v.items) x c.assign.new.self.items es =
     record {
       key = c.in_ok-assign.ensures.items ∙ c.as_slice.ensures.value ∙ c.key_bytes-bytes.ensures ∙ ap (λ t. key_bytes (key_of t)) (c.frame.ensures ∙ ap (λ (t : Heard). t.frame) c.greatest.ensures);
       sorted = c.in-Some.ensures.ordered;
       kept = c.self.invariant.0;
       ends = subst (EndsUpTo x) (sym c.self.view_is) c.requires;
     } in (
-      behind_kept (λ k. k.items) (λ v. v.items) x _ es _ _ _ c.push_one-pushed.result b c.in-Some.ensures.value (c.get_mut.follows.holds c.push_one-pushed.new.rows).0 c.push_one-pushed.ensures.added c.push_one-pushed.ensures.unchanged,
+      after_kept (λ k. k.items) (λ v. v.items) x _ es _ _ _ c.push_one-pushed.result b c.in-Some.ensures.value (c.get_mut.follows.holds c.push_one-pushed.new.rows).0 c.push_one-pushed.ensures.added c.push_one-pushed.ensures.unchanged,
       count_set (λ k. k.items) (λ v. v.items) c.assign.new.self.items es _ c.in-Some.rows.now c.push_one-pushed.new.rows
           c.self.inside.count c.push_one-pushed.new.count c.in-Some.ensures.value (c.get_mut.follows.holds c.push_one-pushed.new.rows).0 c.self.invariant.1 c.push_one-pushed.ensures.counted,
       room_made (c.get_mut.follows.lender c.push_one-pushed.new.rows).entries _ c.in_ok-assign.ensures.room,
@@ -46,18 +46,18 @@ pub returns-in-Some-clause-added : goal.returns-in-Some-clause-added
 returns-in-Some-clause-added g c =
     let x = c.args.row in
     let es = c.self.inside.map.entries in
-    let b : IsBehind (λ k. k.items) (λ v. v.items) x c.assign.new.self.items es =
+    let b : IsAfter (λ k. k.items) (λ v. v.items) x c.assign.new.self.items es =
     record {
       key = c.in_ok-assign.ensures.items ∙ c.as_slice.ensures.value ∙ c.key_bytes-bytes.ensures ∙ ap (λ t. key_bytes (key_of t)) (c.frame.ensures ∙ ap (λ (t : Heard). t.frame) c.greatest.ensures);
       sorted = c.in-Some.ensures.ordered;
       kept = c.self.invariant.0;
       ends = subst (EndsUpTo x) (sym c.self.view_is) c.requires;
     } in
-    rw (← c.self.view_is) (behind_ok (λ k. k.items) (λ v. v.items) x _ es _ _ _ c.push_one-pushed.result b c.in-Some.ensures.value (c.get_mut.follows.holds c.push_one-pushed.new.rows).0 c.push_one-pushed.ensures.added)
+    rw (← c.self.view_is) (after_ok (λ k. k.items) (λ v. v.items) x _ es _ _ _ c.push_one-pushed.result b c.in-Some.ensures.value (c.get_mut.follows.holds c.push_one-pushed.new.rows).0 c.push_one-pushed.ensures.added)
 
 pub returns-in-Some-clause-unchanged : goal.returns-in-Some-clause-unchanged
 returns-in-Some-clause-unchanged g c =
-    rw (← c.self.view_is) (behind_err (λ k. k.items) (λ v. v.items) c.args.row _ c.self.inside.map.entries _ _ _ c.push_one-pushed.result c.in-Some.ensures.value (c.get_mut.follows.holds c.push_one-pushed.new.rows).0 c.push_one-pushed.ensures.unchanged)
+    rw (← c.self.view_is) (after_err (λ k. k.items) (λ v. v.items) c.args.row _ c.self.inside.map.entries _ _ _ c.push_one-pushed.result c.in-Some.ensures.value (c.get_mut.follows.holds c.push_one-pushed.new.rows).0 c.push_one-pushed.ensures.unchanged)
 
 pub invariant_of-self-then-is_err : goal.invariant_of-self-then-is_err
 invariant_of-self-then-is_err g c =
@@ -70,7 +70,7 @@ pub invariant_of-self-2 : goal.invariant_of-self-2
 invariant_of-self-2 g c =
     let x = c.args.row in
     let es = c.self.inside.map.entries in
-    let b : IsBehind (λ k. k.items) (λ v. v.items) x c.assign.new.self.items es =
+    let b : IsAfter (λ k. k.items) (λ v. v.items) x c.assign.new.self.items es =
     record {
       key = c.in_ok-assign.ensures.items ∙ c.as_slice.ensures.value ∙ c.key_bytes-bytes.ensures ∙ ap (λ t. key_bytes (key_of t)) (c.frame.ensures ∙ ap (λ (t : Heard). t.frame) c.greatest.ensures);
       sorted = c.in_default.ensures.ordered;
@@ -79,7 +79,7 @@ invariant_of-self-2 g c =
     } in
     let put = on_not_err c.insert.result _ c.insert.ensures.entries c.if-is_err.ensures.value in
     let same = ap (λ m. m.entries) c.get_mut.follows.holds-at-none in (
-      (behind_new (λ k. k.items) (λ v. v.items) x _ es _ c.in_ok-key.key c.push_one.new.rows b c.in_default.ensures.value (c.in_ok-key.ensures) (c.in_ok-push_one.ensures.added ∙ ap (λ t. t ++ x ∷ []) c.new-rows.ensures.items) (put ∙ ap (λ t. insert_entry (λ p q. bytes_cmp p.items q.items) t c.in_ok-key.key c.push_one.new.rows) same)).1,
+      (after_new (λ k. k.items) (λ v. v.items) x _ es _ c.in_ok-key.key c.push_one.new.rows b c.in_default.ensures.value (c.in_ok-key.ensures) (c.in_ok-push_one.ensures.added ∙ ap (λ t. t ++ x ∷ []) c.new-rows.ensures.items) (put ∙ ap (λ t. insert_entry (λ p q. bytes_cmp p.items q.items) t c.in_ok-key.key c.push_one.new.rows) same)).1,
       count_insert (λ k. k.items) (λ v. v.items) c.assign.new.self.items es c.insert.new.self.entries c.in_ok-key.key c.push_one.new.rows c.new-rows.result.items c.self.inside.count c.push_one.new.count c.in_default.ensures.value (c.in_ok-key.ensures) c.new-rows.ensures.items (put ∙ ap (λ t. insert_entry (λ p q. bytes_cmp p.items q.items) t c.in_ok-key.key c.push_one.new.rows) same) c.self.invariant.1 c.in_ok-push_one.ensures.counted,
       room_made c.insert.new.self.entries _ c.in_ok-assign.ensures.room,
     )
@@ -88,7 +88,7 @@ pub returns-clause-added : goal.returns-clause-added
 returns-clause-added g c =
     let x = c.args.row in
     let es = c.self.inside.map.entries in
-    let b : IsBehind (λ k. k.items) (λ v. v.items) x c.assign.new.self.items es =
+    let b : IsAfter (λ k. k.items) (λ v. v.items) x c.assign.new.self.items es =
     record {
       key = c.in_ok-assign.ensures.items ∙ c.as_slice.ensures.value ∙ c.key_bytes-bytes.ensures ∙ ap (λ t. key_bytes (key_of t)) (c.frame.ensures ∙ ap (λ (t : Heard). t.frame) c.greatest.ensures);
       sorted = c.in_default.ensures.ordered;
@@ -97,7 +97,7 @@ returns-clause-added g c =
     } in
     let put = on_not_err c.insert.result _ c.insert.ensures.entries c.if-is_err.ensures.value in
     let same = ap (λ m. m.entries) c.get_mut.follows.holds-at-none in
-    rw (← c.self.view_is) (behind_new (λ k. k.items) (λ v. v.items) x _ es _ c.in_ok-key.key c.push_one.new.rows b c.in_default.ensures.value (c.in_ok-key.ensures) (c.in_ok-push_one.ensures.added ∙ ap (λ t. t ++ x ∷ []) c.new-rows.ensures.items) (put ∙ ap (λ t. insert_entry (λ p q. bytes_cmp p.items q.items) t c.in_ok-key.key c.push_one.new.rows) same)).0
+    rw (← c.self.view_is) (after_new (λ k. k.items) (λ v. v.items) x _ es _ c.in_ok-key.key c.push_one.new.rows b c.in_default.ensures.value (c.in_ok-key.ensures) (c.in_ok-push_one.ensures.added ∙ ap (λ t. t ++ x ∷ []) c.new-rows.ensures.items) (put ∙ ap (λ t. insert_entry (λ p q. bytes_cmp p.items q.items) t c.in_ok-key.key c.push_one.new.rows) same)).0
 
 pub returns-in_err-push_one-clause-unchanged : goal.returns-in_err-push_one-clause-unchanged
 returns-in_err-push_one-clause-unchanged g c =

@@ -1,0 +1,40 @@
+//! What a frame reports on.
+ghost use Rattle.std.specs.Prelude.{◌≡◌};
+ghost use Rattle.aprs_laws.specs.Key.{key_of};
+ghost use Rattle.aprs_book.specs.Known.{Topic, call_bytes, reported_at, reported_in};
+
+use crate::key_bytes::call_bytes;
+use aprs_ax25::Frame;
+use aprs_report::Report;
+use arrayvec::ArrayVec;
+
+/// What a frame reports on, by the bytes that an index has.
+#[derive(Drop)]
+pub(crate) enum Reported<'a> {
+    /// Where this station is.
+    Position(ArrayVec<u8, 8>),
+    /// The status of this station.
+    Status(ArrayVec<u8, 8>),
+    /// The object of this name.
+    Object(&'a [u8]),
+    /// The item of this name.
+    Item(&'a [u8]),
+    /// Nothing that an index has.
+    Nothing,
+}
+
+impl<'a> Reported<'a> {
+    /// What this frame reports on.
+    #[tactic(auto, unfolding(aprs_laws::specs::Key::key_of))]
+    pub(crate) fn of(frame: &'a Frame) -> Reported<'a>
+        ensures { (topic : Topic) → reported_at topic result ≡ reported_in topic (key_of frame.now) }
+    {
+        match Report::read(frame.info()) {
+            Report::Position { .. } => Reported::Position(call_bytes(&frame.source())),
+            Report::Status { .. } => Reported::Status(call_bytes(&frame.source())),
+            Report::Object { name, .. } => Reported::Object(name),
+            Report::Item { name, .. } => Reported::Item(name),
+            _ => Reported::Nothing,
+        }
+    }
+}
