@@ -14,7 +14,7 @@ work=$(mktemp -d)
 trap 'rm -rf "$work"' EXIT
 cd "$work"
 
-tell_load 'before'
+show_load 'before'
 echo
 printf '%-26s %9s %14s %16s\n' 'merge of three logs' seconds 'us a line' 'to the first'
 first=

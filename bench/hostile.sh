@@ -11,8 +11,8 @@ trap 'rm -rf "$work"' EXIT
 "${CC:-cc}" -O2 -Wall -Wextra -o "$work/peak" "$here/plain/peak.c"
 cd "$work"
 
-# tell WHAT BYTES COMMAND..: runs it, and prints its time and its peak memory
-tell() {
+# show WHAT BYTES COMMAND..: runs it, and prints its time and its peak memory
+show() {
     local what=$1 bytes=$2 began=${EPOCHREALTIME/./} peak
     shift 2
     peak=$(./peak "$@")
@@ -25,15 +25,15 @@ tell() {
 accepted() {
     "$here/make_hostile.py" "$2" "$3" > "$2.book"
     "$program" merge "$2.book" | cmp - "$2.book"
-    tell "$1" "$(wc -c < "$2.book")" "$program" merge "$2.book"
+    show "$1" "$(wc -c < "$2.book")" "$program" merge "$2.book"
 }
 
-# refused WHAT FAULT KIND NUMBER: the program exits with 1 and tells this fault
+# refused WHAT FAULT KIND NUMBER: the program exits with 1 and names this fault
 refused() {
     local fault
     fault=$("$here/make_hostile.py" "$3" "$4" | "$program" merge 2>&1 > /dev/null) && exit 1
     [ "$fault" = "aprsbook: standard input: $2" ] || { echo "hostile.sh: $fault" >&2; exit 1; }
-    tell "$1: $2" "$4" sh -c '"$1" "$2" "$3" | { "$4" merge 2> /dev/null; [ $? = 1 ]; }' sh \
+    show "$1: $2" "$4" sh -c '"$1" "$2" "$3" | { "$4" merge 2> /dev/null; [ $? = 1 ]; }' sh \
         "$here/make_hostile.py" "$3" "$4" "$program"
 }
 

@@ -3,7 +3,7 @@
 
 usage: make_hostile.py rows N        N rows of one key, 31 seconds apart
        make_hostile.py receivers N   one row with N receivers
-       make_hostile.py line N        N bytes without an LF, behind a header
+       make_hostile.py line N        N bytes without an LF, after a header
 """
 import sys
 from datetime import datetime, timedelta

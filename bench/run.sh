@@ -23,7 +23,7 @@ python3 "$here/make_log.py" "${MERGE_RECEPTIONS:-200000}" three
 cut -d ' ' -f 3 heard.log > hexadecimal
 xxd -r -p hexadecimal > heard.kiss
 
-tell_load 'before'
+show_load 'before'
 take_least wc -l heard.log
 wc_time=$least
 take_least xxd -r -p hexadecimal
@@ -32,7 +32,7 @@ echo
 awk -v l="$lines" -v w="$wc_time" -v x="$xxd_time" \
     'BEGIN { printf "%d lines; wc -l %.3f s, xxd -r -p %.3f s\n", l, w / 1e6, x / 1e6 }'
 printf '%-16s %8s %8s %8s %13s\n' run seconds to-wc to-xxd peak-memory
-tell() {
+show() {
     local name=$1 peak
     shift
     take_least "$program" "$@"
@@ -40,14 +40,14 @@ tell() {
     awk -v n="$name" -v t="$least" -v w="$wc_time" -v x="$xxd_time" -v p="$peak" \
         'BEGIN { printf "%-16s %8.3f %8.2f %8.2f %9d KiB\n", n, t / 1e6, t / w, t / x, p }'
 }
-tell check check heard.log
-tell 'convert text' convert text heard.log
-tell 'convert kind' convert kind heard.log
-tell 'convert kiss' convert kiss heard.log
-tell 'convert log' convert log heard.log
-tell 'convert capture' convert capture --receiver RX1 --moment 2024-05-01T12:00:00Z heard.kiss
+show check check heard.log
+show 'convert text' convert text heard.log
+show 'convert kind' convert kind heard.log
+show 'convert kiss' convert kiss heard.log
+show 'convert log' convert log heard.log
+show 'convert capture' convert capture --receiver RX1 --moment 2024-05-01T12:00:00Z heard.kiss
 
 echo
 "$here/compare.sh" "$program"
 echo
-tell_load 'after'
+show_load 'after'

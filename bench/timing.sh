@@ -33,6 +33,6 @@ take_both() {
 }
 
 # The cores, and how many processes wanted one in the last 1, 5 and 15 minutes.
-tell_load() {
+show_load() {
     echo "$(nproc) cores, load $(cut -d ' ' -f 1-3 /proc/loadavg) ($1)"
 }

@@ -160,9 +160,9 @@ module _ (gap : ℕ) (x : Heard) where
   is_near rows i j r f l w e a =
       let n = not_before rows i j r f l w e in near_side r n.0 n.1 a
 
-  is_after : (rows : List Row) (i j : ℕ) (r : Row) → IsFound rows i → i ≤ j → j < length rows
+  lies_after : (rows : List Row) (i j : ℕ) (r : Row) → IsFound rows i → i ≤ j → j < length rows
       → r ≡ get_or rows j r → is_after r ≡ true → side gap r x ≡ Greater
-  is_after rows i j r f l w e a =
+  lies_after rows i j r f l w e a =
       let n = not_before rows i j r f l w e in after_side r n.0 n.1 a
 
   -- ---- what the code does
@@ -184,7 +184,7 @@ module _ (gap : ℕ) (x : Heard) where
   new_before rows i r f w e a =
       let s = split rows i f in
       let at = here rows i r w e in
-      let far = is_after rows i i r f (omega arith) w e a in record {
+      let far = lies_after rows i i r f (omega arith) w e a in record {
         within = f.within;
         inserts =
             s.0 ∙ ap (λ t. take i rows ++ inserted gap x t) at
@@ -208,7 +208,7 @@ module _ (gap : ℕ) (x : Heard) where
   grows_before rows i r n f w e a e' a' =
       let s = split rows i f in
       let within : i < length rows = omega (arith, w) in
-      let far = is_after rows i (suc i) n f (omega arith) w e' a' in
+      let far = lies_after rows i (suc i) n f (omega arith) w e' a' in
       let alone =
       alone_next gap x (grown r x) n _ _ (here rows (suc i) n w e')
       (λ o. absurd (let no : Greater ≡ Equal = sym far ∙ o in cc)) in

@@ -12,7 +12,7 @@ use aprs_log::{Line, MAX_INPUT, read_line};
 use std::alloc::Global;
 use std::test::Fail;
 
-/// The book of what these lines of a log tell.
+/// The book of what these lines of a log report.
 fn book_of(alloc: Global, lines: &[&[u8]]) -> Result<Book, Fail> {
     let mut book = Book::new(alloc);
     for line in lines {

@@ -99,10 +99,15 @@ fn same_rows(frames: &[Frame], book: &Book, plain: &PlainBook) -> bool {
             .all(|(row, want)| plain_row(frames, &row) == Some(*want))
 }
 
-/// Whether what is told is the greatest reception of these keys.
-fn tells(frames: &[Frame], told: Option<Heard<'_>>, plain_book: &PlainBook, keys: &[u8]) -> bool {
-    let told = told.and_then(|x| plain(frames, x.moment, x.receiver, x.frame));
-    told == plain_book.greatest(keys)
+/// Whether what is known is the greatest reception of these keys.
+fn is_greatest(
+    frames: &[Frame],
+    known: Option<Heard<'_>>,
+    plain_book: &PlainBook,
+    keys: &[u8],
+) -> bool {
+    let known = known.and_then(|x| plain(frames, x.moment, x.receiver, x.frame));
+    known == plain_book.greatest(keys)
 }
 
 /// Whether the same is last known to both.
@@ -110,11 +115,11 @@ fn same_known(frames: &[Frame], book: &Book, plain: &PlainBook) -> Result<bool, 
     let seven = callsign(b"N0CALL-7")?;
     let eight = callsign(b"N0CALL-8")?;
     Ok(
-        tells(frames, book.position(&seven), plain, &[0])
-            && tells(frames, book.status(&seven), plain, &[2])
-            && tells(frames, book.position(&eight), plain, &[])
-            && tells(frames, book.object(b"LEADER"), plain, &[1, 4])
-            && tells(frames, book.item(b"LEADER  "), plain, &[3]),
+        is_greatest(frames, book.position(&seven), plain, &[0])
+            && is_greatest(frames, book.status(&seven), plain, &[2])
+            && is_greatest(frames, book.position(&eight), plain, &[])
+            && is_greatest(frames, book.object(b"LEADER"), plain, &[1, 4])
+            && is_greatest(frames, book.item(b"LEADER  "), plain, &[3]),
     )
 }
 
@@ -159,7 +164,7 @@ impl Both {
         self.plain.merge(alloc, &other.plain)
     }
 
-    /// Whether both tell the same.
+    /// Whether both know the same.
     fn agree(&self, frames: &[Frame]) -> Result<bool, Fail> {
         Ok(
             same_rows(frames, &self.book, &self.plain)

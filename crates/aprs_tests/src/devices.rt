@@ -3,7 +3,7 @@ ghost use Rattle.std.specs.Prelude.{Some};
 
 use std::io::{self, ErrorKind, Read, Write};
 
-/// A reader that tells its bytes, gives at most `most` of them a call, and fails once `good` are
+/// A reader that knows its bytes, gives at most `most` of them a call, and fails once `good` are
 /// given.
 #[derive(Drop)]
 pub struct Failing<'a> {
@@ -25,8 +25,8 @@ impl Read for Failing<'_> {
         if stuck || self.good == 0 {
             return Err(io::Error::from(ErrorKind::Other));
         }
-        let (front, rest) = self.bytes.split_at(n);
-        buf[..n].copy_from_slice(front);
+        let (given, rest) = self.bytes.split_at(n);
+        buf[..n].copy_from_slice(given);
         self.bytes = rest;
         self.good -= n;
         Ok(n)
@@ -52,8 +52,8 @@ impl Read for Stuttering<'_> {
             return Err(io::Error::from(ErrorKind::Interrupted));
         }
         let n = buf.len().min(self.bytes.len()).min(1);
-        let (front, rest) = self.bytes.split_at(n);
-        buf[..n].copy_from_slice(front);
+        let (given, rest) = self.bytes.split_at(n);
+        buf[..n].copy_from_slice(given);
         self.bytes = rest;
         self.left = if rest.len() == self.stuck {
             1000

@@ -227,7 +227,7 @@ fn refused_input(alloc: Global, seconds: u64) -> Result<Option<usize>, Fail> {
 }
 
 #[test]
-fn the_first_input_of_another_gap_is_told(rt: HostRuntime) -> Result<(), Fail> {
+fn the_first_input_of_another_gap_is_reported(rt: HostRuntime) -> Result<(), Fail> {
     assert!(rt; refused_input(rt.alloc(), 30)? == Some(1));
     assert!(rt; refused_input(rt.alloc(), 45)? == Some(0));
     Ok(())

@@ -58,9 +58,9 @@ fn counts(station: &Station<'_>, text: &[u8], transmissions: u64) -> bool {
     station.call.text().as_slice() == text && station.transmissions == transmissions
 }
 
-/// Whether this reception is told, with this report.
-fn tells(told: &Option<Heard<'_>>, x: &Reception, report: &Report<'_>) -> bool {
-    match told {
+/// Whether this is what is last known, with this report.
+fn is_known(known: &Option<Heard<'_>>, x: &Reception, report: &Report<'_>) -> bool {
+    match known {
         Some(heard) => {
             heard.moment == x.moment()
                 && heard.receiver == x.receiver()
@@ -71,7 +71,7 @@ fn tells(told: &Option<Heard<'_>>, x: &Reception, report: &Report<'_>) -> bool {
     }
 }
 
-/// Whether a book of two receptions from N0CALL-7 tells the later one's report as its position.
+/// Whether a book of two receptions from N0CALL-7 has the later one's report as its position.
 fn knows_the_later(book: &Book, late: &Reception, report: &Report<'_>) -> Result<bool, Fail> {
     let station = callsign(b"N0CALL-7")?;
     let stations = book.stations().ok().ok_or("memory")?;
@@ -80,11 +80,11 @@ fn knows_the_later(book: &Book, late: &Reception, report: &Report<'_>) -> Result
     };
     Ok(
         book.len() == 2
-            && tells(&book.position(&station), late, report)
+            && is_known(&book.position(&station), late, report)
             && book.status(&station).is_none()
             && book.position(&callsign(b"N0CALL-8")?).is_none()
             && counts(listed, b"N0CALL-7", 2)
-            && tells(&listed.position, late, report)
+            && is_known(&listed.position, late, report)
             && listed.status.is_none(),
     )
 }
@@ -120,7 +120,7 @@ fn statuses_are_no_positions(rt: HostRuntime) -> Result<(), Fail> {
         stamp: None,
         text: b"Hi",
     };
-    assert!(rt; tells(&book.status(&station), &status, &hi));
+    assert!(rt; is_known(&book.status(&station), &status, &hi));
     assert!(rt; book.position(&station).is_some());
     assert!(rt; Book::new(alloc).status(&station).is_none());
     Ok(())
@@ -153,8 +153,8 @@ fn objects_and_items_go_by_name(rt: HostRuntime) -> Result<(), Fail> {
         comment: b"",
     };
     for name in [b"LEADER".as_slice(), b"LEADER   ".as_slice()] {
-        assert!(rt; tells(&book.object(name), &killed, &object_report));
-        assert!(rt; tells(&book.item(name), &item, &item_report));
+        assert!(rt; is_known(&book.object(name), &killed, &object_report));
+        assert!(rt; is_known(&book.item(name), &item, &item_report));
     }
     for name in [b"".as_slice(), b" LEADER".as_slice(), b"LEAD".as_slice()] {
         assert!(rt; book.object(name).is_none());

@@ -100,8 +100,8 @@ fn a_line_of_another_port_is_written_as_of_port_0(rt: HostRuntime) -> Result<(),
     Ok(())
 }
 
-/// What is told of a line whose hexadecimal text has these bytes.
-fn told(alloc: Global, bytes: &[u8]) -> Result<Line, Fail> {
+/// What is read of a line whose hexadecimal text has these bytes.
+fn line_of(alloc: Global, bytes: &[u8]) -> Result<Line, Fail> {
     let mut line = String::new(alloc);
     line.push_str("2024-05-01T12:00:00Z RX1 ")?;
     for byte in bytes {
@@ -110,7 +110,7 @@ fn told(alloc: Global, bytes: &[u8]) -> Result<Line, Fail> {
     Ok(read_line(line.as_bytes()).ok().ok_or("a line")?)
 }
 
-/// The bytes between two frame ends, behind a type byte.
+/// The bytes between two frame ends, after a type byte.
 fn kiss(rt: &HostRuntime, kind: u8, bytes: &[u8]) -> Result<Vec<u8>, Fail> {
     let mut sent = Vec::new(rt.alloc());
     sent.push(0xC0)?;
@@ -133,7 +133,7 @@ fn each_reason(rt: HostRuntime) -> Result<(), Fail> {
         (b"\xc0\x00A\xc0".as_slice(), Reason::Address),
     ] {
         assert!(rt;
-            told(rt.alloc(), bytes)? == Line::Passed(reason),
+            line_of(rt.alloc(), bytes)? == Line::Passed(reason),
             "{reason:?}"
         );
     }
@@ -147,7 +147,7 @@ fn each_reason(rt: HostRuntime) -> Result<(), Fail> {
         frame.extend_from_slice(&DIRECT)?;
         frame[at] = byte;
         let sent = kiss(&rt, 0, frame.as_slice())?;
-        let line = told(rt.alloc(), sent.as_slice())?;
+        let line = line_of(rt.alloc(), sent.as_slice())?;
         assert!(rt; line == Line::Passed(reason), "{reason:?}");
     }
     assert_eq!(rt; Reason::LongInfo.name(), "LongInfo");
@@ -155,20 +155,20 @@ fn each_reason(rt: HostRuntime) -> Result<(), Fail> {
     Ok(())
 }
 
-/// What is told of a frame of the direct one's header and so many more bytes, to any port.
-fn told_of_size(rt: &HostRuntime, kind: u8, more: usize) -> Result<Line, Fail> {
+/// What is read of a frame of the direct one's header and so many more bytes, to any port.
+fn line_of_size(rt: &HostRuntime, kind: u8, more: usize) -> Result<Line, Fail> {
     let mut frame = Vec::new(rt.alloc());
     frame.extend_from_slice(&DIRECT[..16])?;
     frame.resize(frame.len().saturating_add(more), b'A')?;
-    told(rt.alloc(), kiss(rt, kind, frame.as_slice())?.as_slice())
+    line_of(rt.alloc(), kiss(rt, kind, frame.as_slice())?.as_slice())
 }
 
 #[test]
 fn sizes_of_frames(rt: HostRuntime) -> Result<(), Fail> {
     for (more, reason) in [(0, Reason::NoInfo), (257, Reason::LongInfo)] {
-        assert!(rt; told_of_size(&rt, 0, more)? == Line::Passed(reason));
+        assert!(rt; line_of_size(&rt, 0, more)? == Line::Passed(reason));
     }
-    let Line::Heard(heard) = told_of_size(&rt, 0x50, 256)? else {
+    let Line::Heard(heard) = line_of_size(&rt, 0x50, 256)? else {
         return Err("heard".into());
     };
     assert!(rt; heard.frame().bytes().starts_with(&DIRECT[..16]));
@@ -181,7 +181,7 @@ fn sizes_of_pieces(rt: HostRuntime) -> Result<(), Fail> {
     let most = [b'A'; 1024];
     for (size, reason) in [(1023, Reason::Address), (1024, Reason::TooLong)] {
         let sent = kiss(&rt, 0, &most[..size])?;
-        assert!(rt; told(rt.alloc(), sent.as_slice())? == Line::Passed(reason));
+        assert!(rt; line_of(rt.alloc(), sent.as_slice())? == Line::Passed(reason));
     }
     Ok(())
 }

@@ -1,7 +1,7 @@
 //! Merges, and the inputs of one.
 
 use crate::vectors::{DIRECT_TEXT, EMPTY_TEXT, MERGED_TEXT, ONE_LINE};
-use aprs_book::Gap;
+use aprs_book::{Book, Gap};
 use aprs_booktext::{BookCause, BookFault, write_book};
 use aprs_kiss::Counted;
 use aprs_log::{LogCause, LogFault, MAX_INPUT};
@@ -70,7 +70,7 @@ fn books_are_written(rt: HostRuntime) -> Result<(), Fail> {
 }
 
 /// The line and the name of the cause of an input's fault.
-fn told(fault: &InputFault) -> Option<(u64, &'static str)> {
+fn line_and_name(fault: &InputFault) -> Option<(u64, &'static str)> {
     match fault {
         InputFault::Log(fault) => Some((fault.line, fault.cause.name())),
         InputFault::Book(fault) => Some((fault.line, fault.cause.name())),
@@ -98,53 +98,33 @@ fn a_faulty_input_writes_nothing(rt: HostRuntime) -> Result<(), Fail> {
         return Err("a fault".into());
     };
     assert!(rt; index == 1);
-    assert!(rt; told(&fault) == Some((3, "Hex")));
+    assert!(rt; line_and_name(&fault) == Some((3, "Hex")));
     assert_eq!(rt; status_of(&RunFault::Input { index, fault }), 1);
     assert!(rt; w.into_inner().is_empty());
     Ok(())
 }
 
+/// What an input of these bytes is read as under a limit.
+fn read_bytes(alloc: Global, limit: u64, bytes: &[u8]) -> Result<Book, InputFault> {
+    read_input(alloc, limit, Gap::STANDARD, &mut Counted::new(bytes))
+}
+
 #[test]
 fn short_inputs_are_logs(rt: HostRuntime) -> Result<(), Fail> {
     let alloc = rt.alloc();
-    let Ok(book) = read_input(
-        alloc,
-        MAX_INPUT,
-        Gap::STANDARD,
-        &mut Counted::new(&DIRECT_TEXT[..0]),
-    ) else {
+    let Ok(book) = read_bytes(alloc, MAX_INPUT, b"") else {
         return Err("an empty log".into());
     };
     assert_eq!(rt; book.len(), 0);
     for size in 1..8usize {
-        let read = read_input(
-            alloc,
-            MAX_INPUT,
-            Gap::STANDARD,
-            &mut Counted::new(&DIRECT_TEXT[..size]),
-        );
-        assert!(rt; matches!(&read, Err(fault) if told(fault) == Some((1, "NoNewline"))));
-        let read = read_input(
-            alloc,
-            size as u64,
-            Gap::STANDARD,
-            &mut Counted::new(DIRECT_TEXT),
-        );
-        assert!(rt; matches!(&read, Err(fault) if told(fault) == Some((1, "TooLong"))));
+        let read = read_bytes(alloc, MAX_INPUT, &DIRECT_TEXT[..size]);
+        assert!(rt; matches!(&read, Err(fault) if line_and_name(fault) == Some((1, "NoNewline"))));
+        let read = read_bytes(alloc, size as u64, DIRECT_TEXT);
+        assert!(rt; matches!(&read, Err(fault) if line_and_name(fault) == Some((1, "TooLong"))));
     }
-    let read = read_input(
-        alloc,
-        MAX_INPUT,
-        Gap::STANDARD,
-        &mut Counted::new(b"APRS\nBO".as_slice()),
-    );
-    assert!(rt; matches!(&read, Err(fault) if told(fault) == Some((1, "Moment"))));
-    let read = read_input(
-        alloc,
-        MAX_INPUT,
-        Gap::STANDARD,
-        &mut Counted::new(&DIRECT_TEXT[..8]),
-    );
+    let read = read_bytes(alloc, MAX_INPUT, b"APRS\nBO");
+    assert!(rt; matches!(&read, Err(fault) if line_and_name(fault) == Some((1, "Moment"))));
+    let read = read_bytes(alloc, MAX_INPUT, &DIRECT_TEXT[..8]);
     assert!(rt; matches!(&read, Err(InputFault::Book(fault)) if fault.cause == BookCause::Ending));
     Ok(())
 }
@@ -163,8 +143,8 @@ impl Read for FailingOnce<'_> {
             self.failed = true;
             return Err(io::Error::from(io::ErrorKind::Other));
         }
-        let (front, rest) = self.bytes.split_at(n);
-        buf[..n].copy_from_slice(front);
+        let (given, rest) = self.bytes.split_at(n);
+        buf[..n].copy_from_slice(given);
         self.bytes = rest;
         Ok(n)
     }

@@ -285,16 +285,24 @@ END 1
 ",
             (2, "RowSyntax"),
         ),
-        (b"APRSBOOK 0\nEND 0\n", (1, "Header")),
-        (b"APRSBOOK 3\nEND 0\n", (1, "Header")),
-        (b"APRSBOOK 3 0\nEND 0\n", (1, "Header")),
-        (b"APRSBOOK 3 030\nEND 0\n", (1, "Header")),
-        (b"APRSBOOK 3 3601\nEND 0\n", (1, "Header")),
-        (b"APRSBOOK 02\nEND 0\n", (1, "Header")),
-        (b"APRSBOOK 2 \nEND 0\n", (1, "Header")),
-        (b"APRSBOOK 12\nEND 0\n", (1, "Header")),
     ] {
         assert!(rt; fault_of(rt.alloc(), text) == Some(fault));
+    }
+}
+
+#[test]
+fn any_other_header_is_refused(rt: HostRuntime) {
+    for text in [
+        b"APRSBOOK 0\nEND 0\n".as_slice(),
+        b"APRSBOOK 3\nEND 0\n",
+        b"APRSBOOK 3 0\nEND 0\n",
+        b"APRSBOOK 3 030\nEND 0\n",
+        b"APRSBOOK 3 3601\nEND 0\n",
+        b"APRSBOOK 02\nEND 0\n",
+        b"APRSBOOK 2 \nEND 0\n",
+        b"APRSBOOK 12\nEND 0\n",
+    ] {
+        assert!(rt; fault_of(rt.alloc(), text) == Some((1, "Header")));
     }
 }
 

@@ -121,7 +121,7 @@ fn a_thousand_interrupted_reads_fail(rt: HostRuntime) {
     assert_eq!(rt; w.into_inner().as_slice(), &TEXT[..18]);
 }
 
-/// Whether a failed read was told of this line.
+/// Whether a failed read was reported of this line.
 fn is_read_fault(run: &Result<(), RunFault>, line: u64) -> bool {
     let fault = LogFault {
         line,
@@ -131,9 +131,9 @@ fn is_read_fault(run: &Result<(), RunFault>, line: u64) -> bool {
         Err(
             RunFault::Input {
                 index: 0,
-                fault: InputFault::Log(told),
+                fault: InputFault::Log(found),
             },
-        ) => *told == fault,
+        ) => *found == fault,
         _ => false,
     }
 }
@@ -166,7 +166,7 @@ fn a_thousand_interrupted_writes_fail(rt: HostRuntime) {
     }
 }
 
-// What is written before is the front of what would be.
+// What is written before is a prefix of what would be.
 #[test]
 fn readers_fail_at_each_byte(rt: HostRuntime) -> Result<(), Fail> {
     for (run, input, text) in RUNS {

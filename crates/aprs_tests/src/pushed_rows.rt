@@ -1,4 +1,4 @@
-//! Rows that are pushed behind the last, and rows that are refused.
+//! Rows that are pushed after the last, and rows that are refused.
 
 use crate::shown::shown;
 use crate::vectors::{DIRECT, NOON, heard, receiver};
@@ -69,7 +69,7 @@ fn two_rows(alloc: Global) -> Result<Book, Fail> {
 }
 
 #[test]
-fn rows_are_pushed_behind_the_last(rt: HostRuntime) -> Result<(), Fail> {
+fn rows_are_pushed_after_the_last(rt: HostRuntime) -> Result<(), Fail> {
     let alloc = rt.alloc();
     let book = two_rows(alloc)?;
     let text = shown(alloc, &book)?;
@@ -112,7 +112,7 @@ fn rows_of(alloc: Global, spans: &[(u64, u64)]) -> Result<Vec<RowParts>, Fail> {
     Ok(rows)
 }
 
-// The first row that is refused is told by its place, from 0.
+// The first row that is refused is named by its place, from 0.
 #[test]
 fn books_are_made_of_rows(rt: HostRuntime) -> Result<(), Fail> {
     let alloc = rt.alloc();

@@ -149,7 +149,7 @@ fn refused_calls_change_nothing(rt: HostRuntime) -> Result<(), Fail> {
     Ok(())
 }
 
-/// Adds names to receivers that have room for so many units, and tells whether one was refused.
+/// Adds names to receivers that have room for so many units, and returns whether one was refused.
 fn is_name_refused(alloc: Global, units: usize) -> Result<bool, Fail> {
     let bump = Bump::try_with_capacity(alloc, 65_536)?;
     let _fill = squeeze(&bump, units)?;

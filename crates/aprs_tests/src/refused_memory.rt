@@ -16,7 +16,7 @@ fn shows<A: Allocator + Copy>(alloc: Global, book: &Book<A>, text: &str) -> Resu
     Ok(shown(alloc, book)?.as_str() == text)
 }
 
-/// Takes a reception, and tells whether memory was refused. Then the rows have to be as before.
+/// Takes a reception, and returns whether an allocation failed. Then the rows have to be as before.
 fn is_untaken<'a>(
     alloc: Global,
     book: &mut Book<&'a LocalHeap>,
@@ -75,7 +75,7 @@ fn three_rows<'a>(heap: &'a LocalHeap) -> Result<[RowParts<&'a LocalHeap>; 3], F
     ])
 }
 
-/// Pushes a row, and tells whether memory was refused. Then the rows have to be as before.
+/// Pushes a row, and returns whether an allocation failed. Then the rows have to be as before.
 fn is_refused<'a>(
     alloc: Global,
     book: &mut Book<&'a LocalHeap>,

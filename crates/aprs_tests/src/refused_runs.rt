@@ -114,7 +114,7 @@ enum Stage {
     End,
 }
 
-/// Where memory was refused, if no other fault is told.
+/// Where an allocation failed, if no other fault is reported.
 fn stage_of(run: &Result<(), RunFault>) -> Option<Stage> {
     match run {
         Ok(()) => Some(Stage::End),
