@@ -1,11 +1,10 @@
 //! The key of a book's rows.
-ghost use Rattle.std.specs.Prelude.{◌≡◌, ◌-◌, ◌≤◌, ◌++◌, [], length, IsOk, IfOk, OnOk, vec_capacity};
+ghost use Rattle.std.specs.Prelude.{◌≡◌, ◌-◌, ◌≤◌, ◌++◌, [], length, IsOk, IfOk, OnOk};
 ghost use Rattle.std.specs.Ordering.{as_partial_cmp, is_eq};
 ghost use Rattle.std.proofs.Common.{rules};
 ghost use Rattle.std.specs.Cmp.{partial_order_from_own_ties};
 ghost use Rattle.std.specs.Cmp.Rules.{comparing};
-ghost use Rattle.aprs_log.specs.Reception.{bytes_cmp};
-ghost use Rattle.aprs_book.specs.BookKey.{KeyValue, book_key_cmp, IsSplit};
+ghost use Rattle.aprs_book.specs.BookKey.{book_key_cmp, IsSplit};
 
 use crate::Memory;
 use crate::key_order::order;
