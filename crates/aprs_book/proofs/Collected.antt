@@ -177,7 +177,8 @@ module _ {K V M : Type 0} (shown : K → M) (C : M → M → Ordering) (total : 
   }
 
   -- a row that reports on what k shows
-  pub put : (k : K) (v : V) → IsStrictlySortedBy (cmp_of shown C) (keys_of (insert_entry (cmp_of shown C) es k v))
+  pub put : (k : K) (v : V) → IsStrictlySortedBy (cmp_of shown C)
+      (keys_of (insert_entry (cmp_of shown C) es k v))
       → ((m : M) → P m (row_key x) → shown k ≡ m) → T more (shown k) v
       → IsCollected shown P T more (insert_entry (cmp_of shown C) es k v)
   put k v sorted only t = record {
@@ -202,13 +203,16 @@ module _ {K V M : Type 0} (shown : K → M) (C : M → M → Ordering) (total : 
 
     reported : (e : K × V) → e ∈ insert_entry (cmp_of shown C) es k v → (o : Ordering)
         → C (shown e.0) (shown k) ≡ o → T more (shown e.0) e.1
-    reported e h Less d = apart e h (λ s. unequal _ _ s (λ q. let t : Less ≡ Equal = sym d ∙ q in absurd (cc)))
-    reported e h Greater d = apart e h (λ s. unequal _ _ s (λ q. let t : Greater ≡ Equal = sym d ∙ q in absurd (cc)))
+    reported e h Less d = apart e h (λ s. unequal _ _ s
+        (λ q. let t : Less ≡ Equal = sym d ∙ q in absurd (cc)))
+    reported e h Greater d = apart e h (λ s. unequal _ _ s
+        (λ q. let t : Greater ≡ Equal = sym d ∙ q in absurd (cc)))
     reported e h Equal d =
         let i = inserted_there shown C total exact k v es in
         let s = exact (shown e.0) (shown k) d in
         let one = one_entry shown C total exact (insert_entry (cmp_of shown C) es k v)
-        (in_order shown C (insert_entry (cmp_of shown C) es k v) sorted) e i.0 h i.1 (s ∙ sym i.2) in
+        (in_order shown C (insert_entry (cmp_of shown C) es k v) sorted) e i.0 h i.1
+            (s ∙ sym i.2) in
         subst (λ (m : M). T more m e.1) (sym s)
         (subst (T more (shown k)) (sym (ap (λ (f : K × V). f.1) one ∙ i.3)) t)
 
@@ -236,7 +240,8 @@ same_lookup {K} shown C R same k es =
 pub collected_first : {K V M : Type 0} (shown : K → M) (P : M → Key → Type 0)
     (T : List Row → M → V → Type 0) (es : List (K × V)) → es ≡ [] → IsCollected shown P T [] es
 collected_first {K} {V} shown P T es e =
-    record { each = λ x h. absurd (subst (λ (t : List (K × V)). x ∈ t) e h); every = λ x h. absurd h }
+    record { each = λ x h. absurd (subst (λ (t : List (K × V)). x ∈ t) e h); every =
+        λ x h. absurd h }
 
 -- ---- a walk over all rows, of which P holds as far as it has come
 

@@ -11,7 +11,8 @@ use Rattle.aprs_book.specs.MessageRows.{message_of, Zipped, IsKeyBefore}
 use Rattle.aprs_book.proofs.Collected.{in_order}
 use Rattle.aprs_book.proofs.Messages.{keys_cmp}
 
-pub ascending_keys : (R : MessageKey → MessageKey → Ordering) → ((a b : MessageKey) → R a b ≡ keys_cmp a b)
+pub ascending_keys : (R : MessageKey → MessageKey → Ordering)
+    → ((a b : MessageKey) → R a b ≡ keys_cmp a b)
     → (es : List (MessageKey × Span)) → IsStrictlySortedBy R (keys_of es) → Ordered IsKeyBefore es
 ascending_keys R same es s =
     let p : R ≡ keys_cmp = λ j a b. same a b j in
@@ -20,7 +21,8 @@ ascending_keys R same es s =
 
 -- ---- the list so far
 
-pub record Listing {X Y : Type 0} (R : X → Y → Type 0) (all rest : List X) (ys : List Y) : Type 0 where
+pub record Listing {X Y : Type 0} (R : X → Y → Type 0) (all rest : List X)
+    (ys : List Y) : Type 0 where
   pub done : List X
   pub whole : done ++ rest ≡ all
   pub zipped : Zipped R done ys
@@ -37,7 +39,8 @@ zip_more R [] (b ∷ ys) x y z r = absurd z
 zip_more R (a ∷ xs) [] x y z r = absurd z
 zip_more R (a ∷ xs) (b ∷ ys) x y z r = (z.0, zip_more R xs ys x y z.1 r)
 
-pub lists_next : {X Y : Type 0} (R : X → Y → Type 0) (all rest later : List X) (ys more : List Y) (x : X)
+pub lists_next : {X Y : Type 0} (R : X → Y → Type 0) (all rest later : List X) (ys more : List Y)
+    (x : X)
     (y : Y) → rest ≡ x ∷ later → more ≡ ys ++ y ∷ [] → R x y → Listing R all rest ys
     → Listing R all later more
 lists_next R all rest later ys more x y e n r l = record {

@@ -68,7 +68,8 @@ some_interleave [] b (inl h) = absurd (omega (arith, h))
 some_interleave [] b (inr h) = h
 some_interleave (r ∷ a) [] h = omega arith
 some_interleave (r ∷ a) (s ∷ b) h =
-    by_order (row_cmp s r) (λ o. rw o (omega arith)) (λ o. rw o (omega arith)) (λ o. rw o (omega arith))
+    by_order (row_cmp s r) (λ o. rw o (omega arith)) (λ o. rw o (omega arith))
+        (λ o. rw o (omega arith))
 
 below_row : (k : List ℕ) (r : Row) (rows : List Row) (l : List ℕ) → key_bytes (row_key r) ≡ k
     → HaveKey l rows → bytes_cmp k l ≡ Less → IsBelowAll r rows
@@ -88,7 +89,8 @@ module _ {K V : Type 0} (bytes : K → List ℕ) (rows : V → List Row) where
       → AreKeyed bytes rows es → Above bytes rows k es → IsBelowAll r (rows_of bytes rows es)
   below_entries k r [] e g a = tt
   below_entries k r (d ∷ es) e g a =
-      below_append r (rows d.1) (rows_of bytes rows es) (below_row k r (rows d.1) (bytes d.0) e g.0 a.0)
+      below_append r (rows d.1) (rows_of bytes rows es)
+          (below_row k r (rows d.1) (bytes d.0) e g.0 a.0)
       (below_entries k r es e g.1 a.1)
 
   are_below : (k : List ℕ) (x : List Row) (es : List (K × V)) → HaveKey k x
@@ -103,7 +105,8 @@ module _ {K V : Type 0} (bytes : K → List ℕ) (rows : V → List Row) where
     pub kept : AreKept bytes rows es
 
   -- the rows x of the key k, which lies below all keys of the others
-  record IsCut (k : List ℕ) (es : List (K × V)) (x : List Row) (others : List (K × V)) : Type 0 where
+  record IsCut (k : List ℕ) (es : List (K × V)) (x : List Row)
+      (others : List (K × V)) : Type 0 where
     split : rows_of bytes rows es ≡ x ++ rows_of bytes rows others
     have : HaveKey k x
     above : Above bytes rows k others
@@ -134,7 +137,8 @@ module _ {K V : Type 0} (bytes : K → List ℕ) (rows : V → List Row) where
     have = tt;
     above = (
       a,
-      below_all bytes rows k e.0 (keys_of es) a (sorted_head (order bytes rows) e.0 (keys_of es) r.sorted),
+      below_all bytes rows k e.0 (keys_of es) a
+          (sorted_head (order bytes rows) e.0 (keys_of es) r.sorted),
     );
     rest = r;
   }
@@ -204,16 +208,19 @@ module _ {K V : Type 0} (bytes : K → List ℕ) (rows : V → List Row) where
         (are_below (bytes key) x theirs' c.have d.rest.kept.0 d.above)
         (are_below (bytes key) y ours' d.have c.rest.kept.0 c.above)
         (are_below (bytes key) y theirs' d.have d.rest.kept.0 d.above)
-        ∙ ap (λ t. t ++ coalesced gap (interleave (rows_of bytes rows ours') (rows_of bytes rows theirs')))
+        ∙ ap (λ t. t ++ coalesced gap (interleave (rows_of bytes rows ours')
+            (rows_of bytes rows theirs')))
         (sym made))
         ∙ sym (append_assoc (rows_of bytes rows done) (rows v)
         (coalesced gap (interleave (rows_of bytes rows ours') (rows_of bytes rows theirs'))))
-        ∙ ap (λ t. t ++ coalesced gap (interleave (rows_of bytes rows ours') (rows_of bytes rows theirs')))
+        ∙ ap (λ t. t ++ coalesced gap (interleave (rows_of bytes rows ours')
+            (rows_of bytes rows theirs')))
         (sym (put_after done key v b));
     kept = (
       AreKeyed-insert_entry bytes rows key done v m.kept.0
           (subst (HaveKey (bytes key)) (sym made)
-          (have_coalesced gap (bytes key) (interleave x y) (have_interleave (bytes key) x y c.have d.have))),
+          (have_coalesced gap (bytes key) (interleave x y)
+              (have_interleave (bytes key) x y c.have d.have))),
       filled_insert bytes rows key done v m.kept.1
           (subst (λ (t : List Row). 0 < length t) (sym made)
           (some_coalesced gap (interleave x y) (some_interleave x y some))),
@@ -259,7 +266,8 @@ module _ {K V : Type 0} (bytes : K → List ℕ) (rows : V → List Row) where
       (subst (Below done) (sym i) m.below_ours) (inl m.ours_left.kept.1.0) made
 
   pub merging_starts : (gap : ℕ) (ours theirs : List (K × V)) → IsRest ours → IsRest theirs
-      → IsMerging gap (coalesced gap (interleave (rows_of bytes rows ours) (rows_of bytes rows theirs)))
+      → IsMerging gap (coalesced gap (interleave (rows_of bytes rows ours)
+          (rows_of bytes rows theirs)))
       [] ours theirs
   merging_starts gap ours theirs r s = record {
     sum = refl;
@@ -303,19 +311,23 @@ module _ {K V : Type 0} (bytes : K → List ℕ) (rows : V → List Row) (gap : 
       → IsMerging bytes rows gap all done' E (held r es')
   takes_theirs p E es es' r m put above t =
       subst (λ (F : List (K × V)). IsMerging bytes rows gap all done' E F) (held_is r es es' t)
-      (rw put.4 (step_theirs bytes rows gap all done E es (p.0.now, p.1.now) put.0 put.1 m put.2 above put.3))
+      (rw put.4 (step_theirs bytes rows gap all done E es
+          (p.0.now, p.1.now) put.0 put.1 m put.2 above put.3))
 
   pub takes_both : (p q : Bor K × Bor V) (es es' fs fs' : List (K × V))
       (r s : Option (Bor K × Bor V))
       → IsMerging bytes rows gap all done ((p.0.now, p.1.now) ∷ es) ((q.0.now, q.1.now) ∷ fs)
       → PutsRows bytes rows done done' (bytes p.0.now)
       (coalesced gap (interleave (rows p.1.now) (rows q.1.now)))
-      → bytes p.0.now ≡ bytes q.0.now → TakesFirst deref_pair es r es' → TakesFirst deref_pair fs s fs'
+      → bytes p.0.now ≡ bytes q.0.now → TakesFirst deref_pair es r es'
+          → TakesFirst deref_pair fs s fs'
       → IsMerging bytes rows gap all done' (held r es') (held s fs')
   takes_both p q es es' fs fs' r s m put same t u =
-      subst (λ (E : List (K × V)). IsMerging bytes rows gap all done' E (held s fs')) (held_is r es es' t)
+      subst (λ (E : List (K × V)). IsMerging bytes rows gap all done' E (held s fs'))
+          (held_is r es es' t)
       (subst (λ (F : List (K × V)). IsMerging bytes rows gap all done' es F) (held_is s fs fs' u)
-      (rw put.4 (step_both bytes rows gap all done es fs (p.0.now, p.1.now) (q.0.now, q.1.now) put.0 put.1 m put.2 same put.3)))
+      (rw put.4 (step_both bytes rows gap all done es fs (p.0.now, p.1.now)
+          (q.0.now, q.1.now) put.0 put.1 m put.2 same put.3)))
 
   module _ (p : Bor K × Bor V) (es es' fs : List (K × V)) (o s r : Option (Bor K × Bor V))
       (k : List ℕ) (x : List Row) (key : k ≡ bytes p.0.now) (of_key : x ≡ rows p.1.now)
@@ -331,7 +343,8 @@ module _ {K V : Type 0} (bytes : K → List ℕ) (rows : V → List Row) (gap : 
         → IsMerging bytes rows gap all done' (held r es') (held s fs)
     first_goes is m above t =
         takes_ours p es es' (held s fs) r
-        (subst (λ (q : Option (Bor K × Bor V)). IsMerging bytes rows gap all done (held q es) (held s fs)) is m)
+        (subst (λ (q : Option (Bor K × Bor V)). IsMerging bytes rows gap all done (held q es)
+            (held s fs)) is m)
         putting above t
 
     pub second_goes : o ≡ Some p → IsMerging bytes rows gap all done (held s fs) (held o es)
@@ -339,10 +352,12 @@ module _ {K V : Type 0} (bytes : K → List ℕ) (rows : V → List Row) (gap : 
         → IsMerging bytes rows gap all done' (held s fs) (held r es')
     second_goes is m above t =
         takes_theirs p (held s fs) es es' r
-        (subst (λ (q : Option (Bor K × Bor V)). IsMerging bytes rows gap all done (held s fs) (held q es)) is m)
+        (subst (λ (q : Option (Bor K × Bor V)). IsMerging bytes rows gap all done (held s fs)
+            (held q es)) is m)
         putting above t
 
-  pub both_go : (p q : Bor K × Bor V) (es es' fs fs' : List (K × V)) (o s r u : Option (Bor K × Bor V))
+  pub both_go : (p q : Bor K × Bor V) (es es' fs fs' : List (K × V))
+      (o s r u : Option (Bor K × Bor V))
       (k : List ℕ) (x y : List Row) → k ≡ bytes p.0.now → x ≡ rows p.1.now → y ≡ rows q.1.now
       → PutsRows bytes rows done done' k (coalesced gap (interleave x y)) → o ≡ Some p → s ≡ Some q
       → IsMerging bytes rows gap all done (held o es) (held s fs) → bytes p.0.now ≡ bytes q.0.now
@@ -350,17 +365,23 @@ module _ {K V : Type 0} (bytes : K → List ℕ) (rows : V → List Row) (gap : 
       → IsMerging bytes rows gap all done' (held r es') (held u fs')
   both_go p q es es' fs fs' o s r u k x y key ox oy put io is m same t v =
       takes_both p q es es' fs fs' r u
-      (subst (λ (d : Option (Bor K × Bor V)). IsMerging bytes rows gap all done (held d es) (held (Some q) fs)) io
-      (subst (λ (d : Option (Bor K × Bor V)). IsMerging bytes rows gap all done (held o es) (held d fs)) is m))
-      (subst (λ (d : List ℕ). PutsRows bytes rows done done' d (coalesced gap (interleave (rows p.1.now) (rows q.1.now)))) key
-      (subst (λ (d : List Row). PutsRows bytes rows done done' k (coalesced gap (interleave d (rows q.1.now)))) ox
-      (subst (λ (d : List Row). PutsRows bytes rows done done' k (coalesced gap (interleave x d))) oy put)))
+      (subst (λ (d : Option (Bor K × Bor V)). IsMerging bytes rows gap all done (held d es)
+          (held (Some q) fs)) io
+      (subst (λ (d : Option (Bor K × Bor V)). IsMerging bytes rows gap all done (held o es)
+          (held d fs)) is m))
+      (subst (λ (d : List ℕ). PutsRows bytes rows done done' d
+          (coalesced gap (interleave (rows p.1.now) (rows q.1.now)))) key
+      (subst (λ (d : List Row). PutsRows bytes rows done done' k
+          (coalesced gap (interleave d (rows q.1.now)))) ox
+      (subst (λ (d : List Row). PutsRows bytes rows done done' k (coalesced gap (interleave x d)))
+          oy put)))
       same t v
 
 module _ {K V : Type 0} (bytes : K → List ℕ) (rows : V → List Row) where
   pub above_none : (k : List ℕ) (s : Option (Bor K × Bor V)) (fs : List (K × V)) → s ≡ None
       → HeadAbove bytes rows k (held s fs)
-  above_none k s fs e = subst (λ (t : Option (Bor K × Bor V)). HeadAbove bytes rows k (held t fs)) (sym e) tt
+  above_none k s fs e = subst (λ (t : Option (Bor K × Bor V)). HeadAbove bytes rows k (held t fs))
+      (sym e) tt
 
   pub above_some : (a b k : List ℕ) (q : Bor K × Bor V) (s : Option (Bor K × Bor V))
       (fs : List (K × V)) → s ≡ Some q → a ≡ k → b ≡ bytes q.0.now → bytes_cmp a b ≡ Less
@@ -387,7 +408,8 @@ pub ends : {K V : Type 0} (bytes : K → List ℕ) (rows : V → List Row) (gap 
 ends {K} {V} bytes rows gap all done es fs o s e f m =
     merging_ends bytes rows gap all done
     (subst (λ (t : Option (Bor K × Bor V)). IsMerging bytes rows gap all done (held t es) []) e
-    (subst (λ (t : Option (Bor K × Bor V)). IsMerging bytes rows gap all done (held o es) (held t fs)) f m))
+    (subst (λ (t : Option (Bor K × Bor V)). IsMerging bytes rows gap all done (held o es)
+        (held t fs)) f m))
 
 pub starts : {K V : Type 0} (bytes : K → List ℕ) (rows : V → List Row) (gap : ℕ) (a b : List Row)
     (E F iE iF es fs done : List (K × V)) (r s : Option (Bor K × Bor V)) → rows_of bytes rows E ≡ a
@@ -396,6 +418,10 @@ pub starts : {K V : Type 0} (bytes : K → List ℕ) (rows : V → List Row) (ga
     → IsMerging bytes rows gap (coalesced gap (interleave a b)) done (held r es) (held s fs)
 starts {K} {V} bytes rows gap a b E F iE iF es fs done r s ea eb p q n i j t u =
     rw (← ea, ← eb, n)
-    (subst (λ (X : List (K × V)). IsMerging bytes rows gap (coalesced gap (interleave (rows_of bytes rows E) (rows_of bytes rows F))) [] X (held s fs)) (sym i ∙ held_is r iE es t)
-    (subst (λ (Y : List (K × V)). IsMerging bytes rows gap (coalesced gap (interleave (rows_of bytes rows E) (rows_of bytes rows F))) [] E Y) (sym j ∙ held_is s iF fs u)
+    (subst (λ (X : List (K × V)). IsMerging bytes rows gap
+        (coalesced gap (interleave (rows_of bytes rows E) (rows_of bytes rows F))) [] X (held s fs))
+        (sym i ∙ held_is r iE es t)
+    (subst (λ (Y : List (K × V)). IsMerging bytes rows gap
+        (coalesced gap (interleave (rows_of bytes rows E) (rows_of bytes rows F))) [] E Y)
+        (sym j ∙ held_is s iF fs u)
     (merging_starts bytes rows gap E F p q)))

@@ -39,11 +39,14 @@ ids_exact (Some x) (Some y) h = ap Some (bytes_exact x y h)
 
 pub message_exact : CmpEqualImpliesEq message_cmp
 message_exact a b h =
-    ap (λ (p : Call × (List ℕ × (List ℕ × Option (List ℕ)))). record { source = p.0; addressee = p.1.0; text = p.1.1.0; id = p.1.1.1 })
+    ap (λ (p : Call × (List ℕ × (List ℕ × Option (List ℕ)))). record
+        { source = p.0; addressee = p.1.0; text = p.1.1.0; id = p.1.1.1 })
     (exact_pairs call_cmp
-    (λ (x y : List ℕ × (List ℕ × Option (List ℕ))). ordering_then (bytes_cmp x.0 y.0) (ordering_then (bytes_cmp x.1.0 y.1.0) (option_cmp bytes_cmp x.1.1 y.1.1))) call_exact
+    (λ (x y : List ℕ × (List ℕ × Option (List ℕ))). ordering_then (bytes_cmp x.0 y.0)
+        (ordering_then (bytes_cmp x.1.0 y.1.0) (option_cmp bytes_cmp x.1.1 y.1.1))) call_exact
     (exact_pairs bytes_cmp
-    (λ (x y : List ℕ × Option (List ℕ)). ordering_then (bytes_cmp x.0 y.0) (option_cmp bytes_cmp x.1 y.1)) bytes_exact
+    (λ (x y : List ℕ × Option (List ℕ)). ordering_then (bytes_cmp x.0 y.0)
+        (option_cmp bytes_cmp x.1 y.1)) bytes_exact
     (exact_pairs bytes_cmp (option_cmp bytes_cmp) bytes_exact ids_exact))
     (a.source, (a.addressee, (a.text, a.id))) (b.source, (b.addressee, (b.text, b.id))) h)
 
@@ -102,7 +105,8 @@ module _ (rows more : List Row) (x : Row) (adds : Adds rows x more) (m : Message
       | inr l ↦ let r = t.last.row in (r.0, adds.old r.0 r.1, r.2, omega (arith, r.3, l))
     ]
 
-    pub span_grows : IsSpan more m (record { first = min s.first x.first; last = max s.last (last_of x) })
+    pub span_grows : IsSpan more m (record { first = min s.first x.first; last =
+        max s.last (last_of x) })
     span_grows = record {
       first = record {
         row = least_row;
@@ -183,7 +187,8 @@ module _ (rows more : List Row) (x : Row) (adds : Adds rows x more)
         unwrapped a b h = cc
 
   -- the same, by an order that is that of the messages
-  pub spans_put_by : (R : MessageKey → MessageKey → Ordering) → ((a b : MessageKey) → R a b ≡ keys_cmp a b)
+  pub spans_put_by : (R : MessageKey → MessageKey → Ordering)
+      → ((a b : MessageKey) → R a b ≡ keys_cmp a b)
       → (k : MessageKey) (s : Span) (new : List (MessageKey × Span))
       → message_in (row_key x) ≡ Some (message_of k) → s ≡ span_with (lookup (is_at (R k)) es) x
       → new ≡ insert_entry R es k s → IsStrictlySortedBy R (keys_of new)

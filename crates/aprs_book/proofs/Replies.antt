@@ -105,10 +105,12 @@ module _ (rows more : List Row) (x : Row) (adds : Adds rows x more)
       (subst (λ (v : Bor Heard). IsGreatestReply rows (answer_of k) v.now) f.3
       (subst (λ (t : Answer). IsGreatestReply rows t f.0.1.now) (sym f.2) (c.each f.0 f.1)))
 
-  pub replies_put : (R : Asked → Asked → Ordering) → ((a b : Asked) → R a b ≡ asked_cmp a b) → (k : Asked)
+  pub replies_put : (R : Asked → Asked → Ordering) → ((a b : Asked) → R a b ≡ asked_cmp a b)
+      → (k : Asked)
       (v : Bor Heard) (new : List (Asked × Bor Heard))
       → ((a : Answer) → IsReply a (row_key x) ↔ (Some (answer_of k) ≡ Some a))
-      → v.now ≡ greater_known (option_map (λ (b : Bor Heard). b.now) (lookup (is_at (R k)) es)) x.greatest
+      → v.now ≡ greater_known (option_map (λ (b : Bor Heard). b.now) (lookup (is_at (R k)) es))
+          x.greatest
       → new ≡ insert_entry R es k v → IsStrictlySortedBy R (keys_of new)
       → AreReplies more new
   replies_put R same k v new q e n sorted =
@@ -124,7 +126,8 @@ module _ (rows more : List Row) (x : Row) (adds : Adds rows x more)
         unwrapped : (a b : Answer) → Some a ≡ Some b → a ≡ b
         unwrapped a b h = cc
 
-pub copied_alike : {X : Type 0} (o : Option (Bor X)) → option_copied o ≡ option_map (λ (b : Bor X). b.now) o
+pub copied_alike : {X : Type 0} (o : Option (Bor X))
+    → option_copied o ≡ option_map (λ (b : Bor X). b.now) o
 copied_alike None = refl
 copied_alike (Some b) = refl
 
@@ -156,5 +159,6 @@ module _ (es : List (Asked × Bor Heard)) (k : Asked) (m : Message) (id : List �
       (reported_by (lookup (is_at (asked_cmp k)) es) refl)
 
 -- an answer is known by its parts
-pub same_answer : (a b : Answer) → a.source ≡ b.source → a.addressee ≡ b.addressee → a.id ≡ b.id → a ≡ b
+pub same_answer : (a b : Answer) → a.source ≡ b.source → a.addressee ≡ b.addressee → a.id ≡ b.id
+    → a ≡ b
 same_answer a b s t d = λ i. record { source = s i; addressee = t i; id = d i }

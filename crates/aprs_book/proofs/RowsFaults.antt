@@ -138,7 +138,8 @@ sound_or_faulty gap rows = elim (judged gap rows (length rows) (omega arith)) [
 -- ---- what `from_rows` answers
 
 for_a_cause : (first : Option RowCause) (cause : RowCause)
-    → Answers {U = Unit {0}} first (Err cause) → (first ≡ Some cause) ⊎ ((cause ≡ Memory) × (first ≡ None))
+    → Answers {U = Unit {0}} first (Err cause) → (first ≡ Some cause)
+        ⊎ ((cause ≡ Memory) × (first ≡ None))
 for_a_cause None cause h = inr (h, refl)
 for_a_cause (Some other) cause h = inl (cc)
 
@@ -152,5 +153,6 @@ fault_of_push gap rows book n x cause lt is prefix s answer = record {
   at_place = slice_get_read rows (length rows) n x refl lt is;
   sound = s;
   refused = for_a_cause (refusal gap (take n rows) x) cause
-      (subst (λ (b : List Row). Answers {U = Unit {0}} (refusal gap b x) (Err cause)) prefix answer);
+      (subst (λ (b : List Row). Answers {U = Unit {0}} (refusal gap b x) (Err cause)) prefix
+          answer);
 }

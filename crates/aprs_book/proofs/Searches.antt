@@ -68,7 +68,8 @@ ends_rise gap k (r ∷ rows) zero (suc j) d h s l w =
     let within : j < length rows = omega (arith, w) in
     let y = get_or rows j d in
     let member = in_get rows j d within in
-    let same = same_bytes_key (row_key r) (row_key y) (h.0 ∙ sym (have_get k rows j d h.1 within)) in
+    let same = same_bytes_key (row_key r) (row_key y)
+        (h.0 ∙ sym (have_get k rows j d h.1 within)) in
     omega (arith, s.apart.0 y member same, (s.each y (inr member)).in_order)
 ends_rise gap k (r ∷ rows) (suc i) zero d h s l w = absurd (omega (arith, l))
 ends_rise gap k (r ∷ rows) (suc i) (suc j) d h s l w =
@@ -88,12 +89,14 @@ module _ (gap : ℕ) (x : Heard) where
   ends_partitioned rows h s i j d l w e =
       let rise = ends_rise gap (bytes_of x) rows i j d h s l w in
       tests (last_of (get_or rows i d)) (last_of (get_or rows j d)) rise e where
-        tests : (a b : ℕ) → a ≤ b → nat_lt (b + gap) x.moment ≡ true → nat_lt (a + gap) x.moment ≡ true
+        tests : (a b : ℕ) → a ≤ b → nat_lt (b + gap) x.moment ≡ true
+            → nat_lt (a + gap) x.moment ≡ true
         tests a b l e = grind (arith, nat_tests)
 
   -- ---- where a row of x's key lies, by moments alone
 
-  by_key : (r : Row) → key_bytes (row_key r) ≡ bytes_of x → side gap r x ≡ by_moments gap r (single x)
+  by_key : (r : Row) → key_bytes (row_key r) ≡ bytes_of x
+      → side gap r x ≡ by_moments gap r (single x)
   by_key r h =
       ap (λ (o : Ordering). ordering_then o (by_moments gap r (single x)))
       (sym (key_bytes_cmp (row_key r) (key_of x.frame))
@@ -118,7 +121,8 @@ module _ (gap : ℕ) (x : Heard) where
     pub point : IsPartitionPoint (λ r. is_before r ≡ true) (λ r. is_before r ≡ false) rows i
 
   -- from the clause `partitioned` of `partition_point`
-  pub found_here : {F : Type 0} {g : Mut F (Bor Row × Unit {0}) Bool} {f : F} (rows : List Row) (i : ℕ)
+  pub found_here : {F : Type 0} {g : Mut F (Bor Row × Unit {0}) Bool} {f : F} (rows : List Row)
+      (i : ℕ)
       → HaveKey (bytes_of x) rows → Sound gap rows → i ≤ length rows
       → ((q : Row → Bool) → ComputesKey g q f → IsPartitionedBy q rows
       → IsPartitionPoint (λ r. q r ≡ true) (λ r. q r ≡ false) rows i)
@@ -240,5 +244,6 @@ module _ {K V : Type 0} (bytes : K → List ℕ) (rows : V → List Row) where
       (λ o.
       let f : Some e.1 ≡ Some old = rw o at found in
       let r : e.1 ≡ old = cc in
-      subst (λ (v : V). Sound gap (rows v)) r (sound_prefix gap (rows e.1) (rows_of bytes rows es) s))
+      subst (λ (v : V). Sound gap (rows v)) r (sound_prefix gap (rows e.1)
+          (rows_of bytes rows es) s))
       (λ o. found_sound gap k es old others (rw o at found))

@@ -110,7 +110,8 @@ ReportsAnswer entries m id (Some g) =
     (e : Asked × Bor Heard) × (e ∈ entries) × IsFor m id (answer_of e.0)
     × ((a : Answer) → IsFor m id a → a ≡ answer_of e.0) × (e.1.now ≡ g)
 
-abbrev pub StateFrom : List (Asked × Bor Heard) → Message → ℕ → Option (List ℕ) → MessageState → Type 0
+abbrev pub StateFrom : List (Asked × Bor Heard) → Message → ℕ → Option (List ℕ) → MessageState
+    → Type 0
 StateFrom entries m first None state = state ≡ Unnumbered
 StateFrom entries m first (Some id) state =
     (answer : Option Heard) × ReportsAnswer entries m id answer × (state ≡ state_by first answer)

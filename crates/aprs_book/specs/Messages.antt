@@ -47,7 +47,8 @@ message_cmp = then_cmp (on (λ m. m.source) call_cmp)
 
 -- ---- what answers a message
 
--- A key that acknowledges or rejects this id of a message: its sender is the message's addressee, and
+-- A key that acknowledges or rejects this id of a message: its sender is the message's addressee,
+-- and
 -- it is addressed to the message's sender.
 pub record AnswersIt (m : Message) (id : List ℕ) (k : Key) : Type 0 where
   pub addressee : List ℕ

@@ -141,7 +141,8 @@ module _ {R E : Type 0} (r : Result R E) (a b c : Option (List ℕ)) (h i whole 
     last (Ok v) q = subst (Puts a c h j) (sym e) (Puts-then p q)
     last (Err v) q = tt
 
-  pub prefix_of_last : OnErr r (AppendsPrefix b c (i ++ y)) → OnErr r (AppendsPrefix a c (h ++ whole))
+  pub prefix_of_last : OnErr r (AppendsPrefix b c (i ++ y))
+      → OnErr r (AppendsPrefix a c (h ++ whole))
   prefix_of_last q = last r q where
     last : (r : Result R E) → OnErr r (AppendsPrefix b c (i ++ y))
         → OnErr r (AppendsPrefix a c (h ++ whole))

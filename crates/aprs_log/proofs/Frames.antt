@@ -150,13 +150,15 @@ module _ (laws : StreamLaws) (bytes : List ℕ) (n : ℕ) (e : false ≡ is_none
     pub fed_passed : (fed : Fed) → FedOnce bytes n (judgements_in fed)
         → false ≡ has_other (take (length bytes - n) (drop n bytes))
         → (fault : PassFault) → fed ≡ Passed fault → frame_in bytes ≡ Err (reason_of_pass fault)
-    fed_passed fed f alone fault is = fed_one fed f alone ∙ ap (λ x. only_frame (judgements_in x)) is
+    fed_passed fed f alone fault is = fed_one fed f alone
+        ∙ ap (λ x. only_frame (judgements_in x)) is
 
     pub fed_frame : (fed : Fed) → FedOnce bytes n (judgements_in fed)
         → false ≡ has_other (take (length bytes - n) (drop n bytes))
         → (port : ℕ) (frame : Bor (List ℕ)) → fed ≡ Frame port frame
         → frame_in bytes ≡ frame_or_reason (frame_of frame.now)
-    fed_frame fed f alone port frame is = fed_one fed f alone ∙ ap (λ x. only_frame (judgements_in x)) is
+    fed_frame fed f alone port frame is = fed_one fed f alone
+        ∙ ap (λ x. only_frame (judgements_in x)) is
 
 -- ---- what is written for a frame
 

@@ -10,7 +10,8 @@ is_name_byte b = is_ascii_alphanumeric b || (b == 45) || (b == 95)
 
 -- whether bytes are a receiver's name: 1 to 16 such bytes
 abbrev pub is_name : List ℕ → Bool
-is_name bytes = nat_le 1 (length bytes) && nat_le (length bytes) MAX_NAME && list_all is_name_byte bytes
+is_name bytes = nat_le 1 (length bytes) && nat_le
+    (length bytes) MAX_NAME && list_all is_name_byte bytes
 
 -- the bytes are a receiver's name
 abbrev pub IsName : List ℕ → Type 0

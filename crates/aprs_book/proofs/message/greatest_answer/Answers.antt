@@ -10,6 +10,7 @@ returns-in-Ok g c =
     (message_of c.args.message.now) c.args.id.now
     (record { source = c.copy.ensures; addressee = c.in-Ok.ensures.found; same_id = refl })
     (λ a f. same_answer a _ (f.source ∙ sym c.copy.ensures)
-    (let t : Ok c.in-Ok.addressee ≡ Ok a.addressee = c.in-Ok.ensures.only a.addressee f.addressee in cc)
+    (let t : Ok c.in-Ok.addressee ≡ Ok a.addressee = c.in-Ok.ensures.only a.addressee f.addressee in
+        cc)
     f.same_id)
     _ asked_alike c.copied.result (c.copied.ensures ∙ c.get.ensures.value)

@@ -13,7 +13,8 @@ invariant_of-result g c =
       widened_sound_book c.args.self.now gap c.args.gap c.millis.result rows c.new.result
           c.in_ok-rows.rows c.millis.ensures.value c.self.view_is c.self.invariant.0 c.new.ensures
           c.in_ok-rows.ensures c.millis.ensures.range.1 c.requires,
-      widens_indexes (millis_of gap) (millis_of c.args.gap) (some_millis gap c.self.invariant.0.range)
+      widens_indexes (millis_of gap) (millis_of c.args.gap)
+          (some_millis gap c.self.invariant.0.range)
           (omega (arith, ap (λ (v : BookValue). v.gap) c.self.view_is, c.requires)) rows
           c.in_ok-rows.rows c.self.inside.indexes c.new-2.result c.in_ok-indexes.indexes
           c.self.invariant.0.sound c.self.invariant.1 c.new-2.ensures c.in_ok-indexes.ensures

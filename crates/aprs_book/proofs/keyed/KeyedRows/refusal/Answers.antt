@@ -5,4 +5,5 @@ use Rattle.aprs_book.proofs.keyed.KeyedRows.refusal.Goals as goal
 pub returns : goal.returns
 returns g c =
     c.first_cause.ensures
-    ∙ refused_at_end c.args.gap c.last_rows.result.now c.args.self.now c.args.parts.now c.last_rows.ensures
+    ∙ refused_at_end c.args.gap c.last_rows.result.now c.args.self.now c.args.parts.now
+        c.last_rows.ensures
