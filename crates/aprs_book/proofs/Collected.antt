@@ -212,7 +212,7 @@ module _ {K V M : Type 0} (shown : K → M) (C : M → M → Ordering) (total : 
         let s = exact (shown e.0) (shown k) d in
         let one = one_entry shown C total exact (insert_entry (cmp_of shown C) es k v)
         (in_order shown C (insert_entry (cmp_of shown C) es k v) sorted) e i.0 h i.1
-            (s ∙ sym i.2) in
+        (s ∙ sym i.2) in
         subst (λ (m : M). T more m e.1) (sym s)
         (subst (T more (shown k)) (sym (ap (λ (f : K × V). f.1) one ∙ i.3)) t)
 
@@ -240,8 +240,11 @@ same_lookup {K} shown C R same k es =
 pub collected_first : {K V M : Type 0} (shown : K → M) (P : M → Key → Type 0)
     (T : List Row → M → V → Type 0) (es : List (K × V)) → es ≡ [] → IsCollected shown P T [] es
 collected_first {K} {V} shown P T es e =
-    record { each = λ x h. absurd (subst (λ (t : List (K × V)). x ∈ t) e h); every =
-        λ x h. absurd h }
+    record {
+      each = λ x h. absurd (subst (λ (t : List (K × V)). x ∈ t) e h);
+      every =
+          λ x h. absurd h;
+    }
 
 -- ---- a walk over all rows, of which P holds as far as it has come
 

@@ -108,7 +108,7 @@ module _ {K V : Type 0} (bytes : K → List ℕ) (rows : V → List Row) where
 
   pub found_length : (k : List ℕ) (es : List (K × V)) (old : V)
       → Some old ≡ lookup (test bytes rows k) es
-          → length (rows old) ≤ length (rows_of bytes rows es)
+      → length (rows old) ≤ length (rows_of bytes rows es)
   found_length k [] old found = absurd (cc)
   found_length k (e ∷ es) old found =
       let whole = length-append (rows e.1) (rows_of bytes rows es) in
@@ -175,7 +175,7 @@ not_above : (x l : Row) → IsUpTo key_cmp (row_key l) (row_key x)
     → bytes_cmp (key_bytes (row_key x)) (key_bytes (row_key l)) ≡ Less → ⊥
 not_above x l u e =
     let f : key_cmp (row_key x) (row_key l) ≡ Less = sym (key_bytes_cmp (row_key x) (row_key l))
-        ∙ e in
+    ∙ e in
     let g : key_cmp (row_key l) (row_key x) ≡ Greater =
     key_total.antisymm (row_key l) (row_key x) ∙ ap ordering_reverse f in
     let h : true ≡ false = sym (ap is_gt g) ∙ u in absurd (cc)
@@ -200,7 +200,7 @@ module _ {K V : Type 0} (bytes : K → List ℕ) (rows : V → List Row) where
   )
   none_above x (e ∷ f ∷ es) s g h u =
       let rest = none_above x (f ∷ es) (sorted_tail (order bytes rows) e.0 (keys_of (f ∷ es)) s) g.1
-          h.1
+      h.1
       (λ prefix l p. u (rows e.1 ++ prefix) l
       (ap (λ t. rows e.1 ++ t) p ∙ sym (append_assoc (rows e.1) prefix (l ∷ [])))) in (
         λ below. rest.0 (bytes_total.trans (key_bytes (row_key x)) (bytes e.0) (bytes f.0) below
@@ -293,7 +293,7 @@ module _ {K V : Type 0} (bytes : K → List ℕ) (rows : V → List Row) where
       rw w (after_put k es new b.kept
       (subst (HaveKey k) (sym f) (found_key bytes rows k es old b.kept.0 (sym found)))
       (subst (λ (t : List Row). 0 < length t) (sym f)
-          (filled_found bytes rows k es old b.kept.1 (sym found))))
+      (filled_found bytes rows k es old b.kept.1 (sym found))))
 
   pub after_new : (x : Row) (k : List ℕ) (es es' : List (K × V)) (key : K) (new : V)
       → IsAfter x k es → None ≡ lookup (test bytes rows k) es → bytes key ≡ k
@@ -304,7 +304,7 @@ module _ {K V : Type 0} (bytes : K → List ℕ) (rows : V → List Row) where
         push_absent key es new x (subst (λ (t : List ℕ). NoneAbove t es) (sym i)
             (above_of x k es b))
             (subst (λ (t : List ℕ). lookup (test bytes rows t) es ≡ None) (sym i) (sym absent))
-                made,
+            made,
         (
           AreKeyed-insert_entry bytes rows key es new b.kept.0
               (subst (HaveKey (bytes key)) (sym made) (sym b.key ∙ sym i, tt)),
@@ -333,6 +333,11 @@ module _ {K V : Type 0} (bytes : K → List ℕ) (rows : V → List Row) where
       record {
         prefix = rows d.1 ++ r.prefix;
         split = ap (λ t. rows d.1 ++ t) r.split ∙ sym (append_assoc (rows d.1) r.prefix (rows e.1));
-        none = λ n. absurd (omega (arith, h.1.0, length-append (rows q.1)
-            (rows_of bytes rows es), ap length (r.none n)));
+        none = λ n. absurd (omega (
+          arith,
+          h.1.0,
+          length-append (rows q.1)
+              (rows_of bytes rows es),
+          ap length (r.none n),
+        ));
       }

@@ -43,7 +43,7 @@ takes_note gap pos x old test known w h =
     rows_know gap (witnesses old ++ x ∷ []) (inserted gap x old) (Passes test)
     (known_after test known x) (inserted_is_book gap (witnesses old) x old b)
     (known_last test x (witnesses old) known (set_knows gap (witnesses old) old
-        (Passes test) known b h))
+    (Passes test) known b h))
 
 -- what the views look up
 pub entry_reports : (gap : ℕ) (rows : List Row) (test : Key → Bool) (known : Option Heard)
@@ -134,23 +134,23 @@ noted_known : (t : Reported) (x : Heard) (i j k : FourIndexes) → IsReported t 
 noted_known t x i j k reported same noted topic bytes =
     sym (noted topic bytes
     ∙ ap (λ o. if is_reported bytes o then Some
-        (greater_known (known_at bytes (index_of topic j)) x) else known_at bytes
-        (index_of topic j)) (reported topic)
+    (greater_known (known_at bytes (index_of topic j)) x) else known_at bytes
+    (index_of topic j)) (reported topic)
     ∙ ap (λ n. if is_reported bytes (reported_in topic (key_of x.frame)) then Some
-        (greater_known n x) else n) (same topic bytes))
+    (greater_known n x) else n) (same topic bytes))
 
 pub takes_indexes : (gap : ℕ) → 0 < gap → (t : Reported) (x : Heard) (rows new : List Row)
     (i j k : FourIndexes) → Sound gap rows → AreIndexesOf rows i → IsReported t (key_of x.frame)
     → SameKnown i j → Noted t x j k → new ≡ inserted gap x rows → AreIndexesOf new k
 takes_indexes gap pos t x rows new i j k w h reported same noted made = λ topic bytes.
     subst (λ (r : List Row). LastKnown (map greatest_of r)
-        (Passes (reports_at (reported_in topic) bytes)) (known_at bytes (index_of topic k)))
+    (Passes (reports_at (reported_in topic) bytes)) (known_at bytes (index_of topic k)))
     (sym made)
     (subst (LastKnown (map greatest_of (inserted gap x rows))
-        (Passes (reports_at (reported_in topic) bytes)))
+    (Passes (reports_at (reported_in topic) bytes)))
     (noted_known t x i j k reported same noted topic bytes)
     (takes_note gap pos x rows (reports_at (reported_in topic) bytes)
-        (known_at bytes (index_of topic i)) w
+    (known_at bytes (index_of topic i)) w
     (h topic bytes)))
 
 pub pushes_indexes : (t : Reported) (r : Row) (rows new : List Row) (i j k : FourIndexes)
@@ -158,10 +158,10 @@ pub pushes_indexes : (t : Reported) (r : Row) (rows new : List Row) (i j k : Fou
     → new ≡ rows ++ r ∷ [] → AreIndexesOf new k
 pushes_indexes t r rows new i j k h reported same noted made = λ topic bytes.
     subst (λ (q : List Row). LastKnown (map greatest_of q)
-        (Passes (reports_at (reported_in topic) bytes)) (known_at bytes (index_of topic k)))
+    (Passes (reports_at (reported_in topic) bytes)) (known_at bytes (index_of topic k)))
     (sym made)
     (subst (LastKnown (map greatest_of (rows ++ r ∷ []))
-        (Passes (reports_at (reported_in topic) bytes)))
+    (Passes (reports_at (reported_in topic) bytes)))
     (noted_known t r.greatest i j k reported same noted topic bytes)
     (pushes_note rows r (reports_at (reported_in topic) bytes) (known_at bytes (index_of topic i))
     (h topic bytes)))
@@ -175,7 +175,7 @@ merges_indexes gap pos a b c i j k v w joined h g both = λ topic bytes.
     subst (LastKnown (map greatest_of c) (Passes (reports_at (reported_in topic) bytes)))
     (sym (both topic bytes))
     (merges_notes gap pos a b c (reports_at (reported_in topic) bytes)
-        (known_at bytes (index_of topic i))
+    (known_at bytes (index_of topic i))
     (known_at bytes (index_of topic j)) v w joined (h topic bytes) (g topic bytes))
 
 -- what fits in place has its entries: a row that is near reports on the same
@@ -186,7 +186,7 @@ pub widens_note : (g h : ℕ) → 0 < g → g ≤ h → (old : List Row) (test :
 widens_note g h pos l old test known w k =
     let b = witnessed g old pos w in
     rows_know h (witnesses old) (widened h old) (Passes test) known
-        (widens_book g h (witnesses old) old l b)
+    (widens_book g h (witnesses old) old l b)
     (set_knows g (witnesses old) old (Passes test) known b k)
 
 pub widens_indexes : (g h : ℕ) → 0 < g → g ≤ h → (rows new : List Row) (i none k : FourIndexes)
@@ -197,10 +197,10 @@ pub widens_indexes : (g h : ℕ) → 0 < g → g ≤ h → (rows new : List Row)
 widens_indexes g h pos l rows new i none k w held empty both made = λ topic bytes.
     let known = known_at bytes (index_of topic i) in
     subst (λ (r : List Row). LastKnown (map greatest_of r)
-        (Passes (reports_at (reported_in topic) bytes)) (known_at bytes (index_of topic k)))
+    (Passes (reports_at (reported_in topic) bytes)) (known_at bytes (index_of topic k)))
     (sym made)
     (subst (LastKnown (map greatest_of (widened h rows))
-        (Passes (reports_at (reported_in topic) bytes)))
+    (Passes (reports_at (reported_in topic) bytes)))
     (sym (both topic bytes ∙ ap (λ t. known_both known (known_at bytes t)) (empty topic)))
     (widens_note g h pos l rows (reports_at (reported_in topic) bytes) known w (held topic bytes)))
 
@@ -263,14 +263,14 @@ reported_item wanted call raw = refl
 pub by_bytes : (gap : ℕ) (rows : List Row) (test : Key → Bool) (topic : Topic) (bytes : List ℕ)
     (i : FourIndexes) (known : Option Heard) → AreIndexesOf rows i
     → ((k : Key) → reports_at (reported_in topic) bytes k ≡ test k)
-        → known ≡ known_at bytes (index_of topic i)
+    → known ≡ known_at bytes (index_of topic i)
     → IsLastKnown gap rows test known
 by_bytes gap rows test topic bytes i known h same is =
     let alike : reports_at (reported_in topic) bytes ≡ test = λ j k. same k j in
     entry_reports gap rows test known
     (subst (LastKnown (map greatest_of rows) (Passes test)) (sym is)
     (subst (λ (p : Key → Bool). LastKnown (map greatest_of rows) (Passes p)
-        (known_at bytes (index_of topic i))) alike
+    (known_at bytes (index_of topic i))) alike
     (h topic bytes)))
 
 call_same : (a b : Call) → is_eq (bytes_cmp (call_bytes a) (call_bytes b)) ≡ is_eq (call_cmp a b)

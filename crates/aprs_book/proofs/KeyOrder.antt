@@ -88,7 +88,7 @@ words_agree a b x y h g p q e f n =
     (ap (λ o. ordering_then o (bytes_cmp (drop 8 a) (drop 8 b)))
     (sym (tied_itself nat_cmp_total (number 0 (take 8 b))))
     ∙ ap (λ t. ordering_then (nat_cmp t (number 0 (take 8 b))) (bytes_cmp (drop 8 a) (drop 8 b)))
-        (sym same)
+    (sym same)
     ∙ sym (eight_cmp a b h g p q))
 
 pub fewer : (a : List ℕ) → 8 ≤ length a → length (take (length a - 8) (drop 8 a)) < length a

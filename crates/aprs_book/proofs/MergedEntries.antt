@@ -69,7 +69,7 @@ some_interleave [] b (inr h) = h
 some_interleave (r ∷ a) [] h = omega arith
 some_interleave (r ∷ a) (s ∷ b) h =
     by_order (row_cmp s r) (λ o. rw o (omega arith)) (λ o. rw o (omega arith))
-        (λ o. rw o (omega arith))
+    (λ o. rw o (omega arith))
 
 below_row : (k : List ℕ) (r : Row) (rows : List Row) (l : List ℕ) → key_bytes (row_key r) ≡ k
     → HaveKey l rows → bytes_cmp k l ≡ Less → IsBelowAll r rows
@@ -90,7 +90,7 @@ module _ {K V : Type 0} (bytes : K → List ℕ) (rows : V → List Row) where
   below_entries k r [] e g a = tt
   below_entries k r (d ∷ es) e g a =
       below_append r (rows d.1) (rows_of bytes rows es)
-          (below_row k r (rows d.1) (bytes d.0) e g.0 a.0)
+      (below_row k r (rows d.1) (bytes d.0) e g.0 a.0)
       (below_entries k r es e g.1 a.1)
 
   are_below : (k : List ℕ) (x : List Row) (es : List (K × V)) → HaveKey k x
@@ -209,18 +209,18 @@ module _ {K V : Type 0} (bytes : K → List ℕ) (rows : V → List Row) where
         (are_below (bytes key) y ours' d.have c.rest.kept.0 c.above)
         (are_below (bytes key) y theirs' d.have d.rest.kept.0 d.above)
         ∙ ap (λ t. t ++ coalesced gap (interleave (rows_of bytes rows ours')
-            (rows_of bytes rows theirs')))
+        (rows_of bytes rows theirs')))
         (sym made))
         ∙ sym (append_assoc (rows_of bytes rows done) (rows v)
         (coalesced gap (interleave (rows_of bytes rows ours') (rows_of bytes rows theirs'))))
         ∙ ap (λ t. t ++ coalesced gap (interleave (rows_of bytes rows ours')
-            (rows_of bytes rows theirs')))
+        (rows_of bytes rows theirs')))
         (sym (put_after done key v b));
     kept = (
       AreKeyed-insert_entry bytes rows key done v m.kept.0
           (subst (HaveKey (bytes key)) (sym made)
           (have_coalesced gap (bytes key) (interleave x y)
-              (have_interleave (bytes key) x y c.have d.have))),
+          (have_interleave (bytes key) x y c.have d.have))),
       filled_insert bytes rows key done v m.kept.1
           (subst (λ (t : List Row). 0 < length t) (sym made)
           (some_coalesced gap (interleave x y) (some_interleave x y some))),
@@ -267,7 +267,7 @@ module _ {K V : Type 0} (bytes : K → List ℕ) (rows : V → List Row) where
 
   pub merging_starts : (gap : ℕ) (ours theirs : List (K × V)) → IsRest ours → IsRest theirs
       → IsMerging gap (coalesced gap (interleave (rows_of bytes rows ours)
-          (rows_of bytes rows theirs)))
+      (rows_of bytes rows theirs)))
       [] ours theirs
   merging_starts gap ours theirs r s = record {
     sum = refl;
@@ -312,7 +312,7 @@ module _ {K V : Type 0} (bytes : K → List ℕ) (rows : V → List Row) (gap : 
   takes_theirs p E es es' r m put above t =
       subst (λ (F : List (K × V)). IsMerging bytes rows gap all done' E F) (held_is r es es' t)
       (rw put.4 (step_theirs bytes rows gap all done E es
-          (p.0.now, p.1.now) put.0 put.1 m put.2 above put.3))
+      (p.0.now, p.1.now) put.0 put.1 m put.2 above put.3))
 
   pub takes_both : (p q : Bor K × Bor V) (es es' fs fs' : List (K × V))
       (r s : Option (Bor K × Bor V))
@@ -320,14 +320,14 @@ module _ {K V : Type 0} (bytes : K → List ℕ) (rows : V → List Row) (gap : 
       → PutsRows bytes rows done done' (bytes p.0.now)
       (coalesced gap (interleave (rows p.1.now) (rows q.1.now)))
       → bytes p.0.now ≡ bytes q.0.now → TakesFirst deref_pair es r es'
-          → TakesFirst deref_pair fs s fs'
+      → TakesFirst deref_pair fs s fs'
       → IsMerging bytes rows gap all done' (held r es') (held s fs')
   takes_both p q es es' fs fs' r s m put same t u =
       subst (λ (E : List (K × V)). IsMerging bytes rows gap all done' E (held s fs'))
-          (held_is r es es' t)
+      (held_is r es es' t)
       (subst (λ (F : List (K × V)). IsMerging bytes rows gap all done' es F) (held_is s fs fs' u)
       (rw put.4 (step_both bytes rows gap all done es fs (p.0.now, p.1.now)
-          (q.0.now, q.1.now) put.0 put.1 m put.2 same put.3)))
+      (q.0.now, q.1.now) put.0 put.1 m put.2 same put.3)))
 
   module _ (p : Bor K × Bor V) (es es' fs : List (K × V)) (o s r : Option (Bor K × Bor V))
       (k : List ℕ) (x : List Row) (key : k ≡ bytes p.0.now) (of_key : x ≡ rows p.1.now)
@@ -344,7 +344,7 @@ module _ {K V : Type 0} (bytes : K → List ℕ) (rows : V → List Row) (gap : 
     first_goes is m above t =
         takes_ours p es es' (held s fs) r
         (subst (λ (q : Option (Bor K × Bor V)). IsMerging bytes rows gap all done (held q es)
-            (held s fs)) is m)
+        (held s fs)) is m)
         putting above t
 
     pub second_goes : o ≡ Some p → IsMerging bytes rows gap all done (held s fs) (held o es)
@@ -353,7 +353,7 @@ module _ {K V : Type 0} (bytes : K → List ℕ) (rows : V → List Row) (gap : 
     second_goes is m above t =
         takes_theirs p (held s fs) es es' r
         (subst (λ (q : Option (Bor K × Bor V)). IsMerging bytes rows gap all done (held s fs)
-            (held q es)) is m)
+        (held q es)) is m)
         putting above t
 
   pub both_go : (p q : Bor K × Bor V) (es es' fs fs' : List (K × V))
@@ -366,15 +366,15 @@ module _ {K V : Type 0} (bytes : K → List ℕ) (rows : V → List Row) (gap : 
   both_go p q es es' fs fs' o s r u k x y key ox oy put io is m same t v =
       takes_both p q es es' fs fs' r u
       (subst (λ (d : Option (Bor K × Bor V)). IsMerging bytes rows gap all done (held d es)
-          (held (Some q) fs)) io
+      (held (Some q) fs)) io
       (subst (λ (d : Option (Bor K × Bor V)). IsMerging bytes rows gap all done (held o es)
-          (held d fs)) is m))
+      (held d fs)) is m))
       (subst (λ (d : List ℕ). PutsRows bytes rows done done' d
-          (coalesced gap (interleave (rows p.1.now) (rows q.1.now)))) key
+      (coalesced gap (interleave (rows p.1.now) (rows q.1.now)))) key
       (subst (λ (d : List Row). PutsRows bytes rows done done' k
-          (coalesced gap (interleave d (rows q.1.now)))) ox
+      (coalesced gap (interleave d (rows q.1.now)))) ox
       (subst (λ (d : List Row). PutsRows bytes rows done done' k (coalesced gap (interleave x d)))
-          oy put)))
+      oy put)))
       same t v
 
 module _ {K V : Type 0} (bytes : K → List ℕ) (rows : V → List Row) where
@@ -409,7 +409,7 @@ ends {K} {V} bytes rows gap all done es fs o s e f m =
     merging_ends bytes rows gap all done
     (subst (λ (t : Option (Bor K × Bor V)). IsMerging bytes rows gap all done (held t es) []) e
     (subst (λ (t : Option (Bor K × Bor V)). IsMerging bytes rows gap all done (held o es)
-        (held t fs)) f m))
+    (held t fs)) f m))
 
 pub starts : {K V : Type 0} (bytes : K → List ℕ) (rows : V → List Row) (gap : ℕ) (a b : List Row)
     (E F iE iF es fs done : List (K × V)) (r s : Option (Bor K × Bor V)) → rows_of bytes rows E ≡ a
@@ -419,9 +419,9 @@ pub starts : {K V : Type 0} (bytes : K → List ℕ) (rows : V → List Row) (ga
 starts {K} {V} bytes rows gap a b E F iE iF es fs done r s ea eb p q n i j t u =
     rw (← ea, ← eb, n)
     (subst (λ (X : List (K × V)). IsMerging bytes rows gap
-        (coalesced gap (interleave (rows_of bytes rows E) (rows_of bytes rows F))) [] X (held s fs))
-        (sym i ∙ held_is r iE es t)
+    (coalesced gap (interleave (rows_of bytes rows E) (rows_of bytes rows F))) [] X (held s fs))
+    (sym i ∙ held_is r iE es t)
     (subst (λ (Y : List (K × V)). IsMerging bytes rows gap
-        (coalesced gap (interleave (rows_of bytes rows E) (rows_of bytes rows F))) [] E Y)
-        (sym j ∙ held_is s iF fs u)
+    (coalesced gap (interleave (rows_of bytes rows E) (rows_of bytes rows F))) [] E Y)
+    (sym j ∙ held_is s iF fs u)
     (merging_starts bytes rows gap E F p q)))

@@ -40,13 +40,13 @@ ids_exact (Some x) (Some y) h = ap Some (bytes_exact x y h)
 pub message_exact : CmpEqualImpliesEq message_cmp
 message_exact a b h =
     ap (λ (p : Call × (List ℕ × (List ℕ × Option (List ℕ)))). record
-        { source = p.0; addressee = p.1.0; text = p.1.1.0; id = p.1.1.1 })
+    { source = p.0; addressee = p.1.0; text = p.1.1.0; id = p.1.1.1 })
     (exact_pairs call_cmp
     (λ (x y : List ℕ × (List ℕ × Option (List ℕ))). ordering_then (bytes_cmp x.0 y.0)
-        (ordering_then (bytes_cmp x.1.0 y.1.0) (option_cmp bytes_cmp x.1.1 y.1.1))) call_exact
+    (ordering_then (bytes_cmp x.1.0 y.1.0) (option_cmp bytes_cmp x.1.1 y.1.1))) call_exact
     (exact_pairs bytes_cmp
     (λ (x y : List ℕ × Option (List ℕ)). ordering_then (bytes_cmp x.0 y.0)
-        (option_cmp bytes_cmp x.1 y.1)) bytes_exact
+    (option_cmp bytes_cmp x.1 y.1)) bytes_exact
     (exact_pairs bytes_cmp (option_cmp bytes_cmp) bytes_exact ids_exact))
     (a.source, (a.addressee, (a.text, a.id))) (b.source, (b.addressee, (b.text, b.id))) h)
 
@@ -105,8 +105,11 @@ module _ (rows more : List Row) (x : Row) (adds : Adds rows x more) (m : Message
       | inr l ↦ let r = t.last.row in (r.0, adds.old r.0 r.1, r.2, omega (arith, r.3, l))
     ]
 
-    pub span_grows : IsSpan more m (record { first = min s.first x.first; last =
-        max s.last (last_of x) })
+    pub span_grows : IsSpan more m (record {
+      first = min s.first x.first;
+      last =
+          max s.last (last_of x);
+    })
     span_grows = record {
       first = record {
         row = least_row;

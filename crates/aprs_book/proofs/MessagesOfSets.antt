@@ -49,7 +49,7 @@ module _ (gap : ℕ) (S : List Heard) (rows : List Row) (b : BookOf gap S rows) 
         none_of_rows gap S rows (AnswersIt m id) b
         (λ y h k. let a = answer_at m id (row_key y) k in
         let e = c.every y h (record { source = m.source; addressee = (row_key y).source; id = id })
-            a.0 in
+        a.0 in
         t e.0 e.1 (subst (IsFor m id) (sym e.2) a.1))
     answer_known (Some g) t =
         let r = c.each t.0 t.1 in
@@ -88,9 +88,9 @@ module _ (gap : ℕ) (S : List Heard) (rows : List Row) (b : BookOf gap S rows) 
           state =
               subst (λ (m : Message). StandsBy S m x.first m.id x.state) (sym e.2.message)
               (subst (λ (n : ℕ). StandsBy S (message_of e.0.0) n (message_of e.0.0).id x.state)
-                  (sym e.2.first)
+              (sym e.2.first)
               (stands rs ca (message_of e.0.0) e.0.1.first
-                  (message_of e.0.0).id x.state e.2.state));
+              (message_of e.0.0).id x.state e.2.state));
         }
 
     sent : (m : Message) → (x : MessageRow) × (x ∈ xs) × (shown_message x ≡ m)
@@ -126,7 +126,7 @@ module _ (gap : ℕ) (S : List Heard) (rows : List Row) (b : BookOf gap S rows) 
         λ y h. (let f = in_zip_right (IsListed rs) es xs y z.1 h in
             subst (λ (m : Message). IsBelow message_cmp m (shown_message y)) (sym z.0.message)
             (subst (λ (m : Message). IsBelow message_cmp (message_of e.0) m) (sym f.2.message)
-                (o.0 f.0 f.1))),
+            (o.0 f.0 f.1))),
         in_order es xs z.1 o.1,
       )
 
@@ -135,9 +135,9 @@ pub messages_of_book : {E : Type 0} (gap : ℕ) (A : Type 0) (items : A → List
     (kept again rows : List Row) (es : List (MessageKey × Span)) (rs : List (Asked × Bor Heard))
     → kept ≡ rows → again ≡ rows → AreSpans kept es → AreReplies again rs → Ordered IsKeyBefore es
     → IfOk r (λ v. Zipped (IsListed rs) es (items v))
-        → IfOk r (λ v. ReportsMessages gap rows (items v))
+    → IfOk r (λ v. ReportsMessages gap rows (items v))
 messages_of_book gap A items (Ok v) kept again rows es rs e f cs cr o z = λ S b.
     messages_of_set gap S rows b es rs (items v)
     (subst (λ (t : List Row). AreSpans t es) e cs)
-        (subst (λ (t : List Row). AreReplies t rs) f cr) o z
+    (subst (λ (t : List Row). AreReplies t rs) f cr) o z
 messages_of_book gap A items (Err q) kept again rows es rs e f cs cr o z = tt

@@ -110,7 +110,7 @@ module _ (rows more : List Row) (x : Row) (adds : Adds rows x more)
       (v : Bor Heard) (new : List (Asked × Bor Heard))
       → ((a : Answer) → IsReply a (row_key x) ↔ (Some (answer_of k) ≡ Some a))
       → v.now ≡ greater_known (option_map (λ (b : Bor Heard). b.now) (lookup (is_at (R k)) es))
-          x.greatest
+      x.greatest
       → new ≡ insert_entry R es k v → IsStrictlySortedBy R (keys_of new)
       → AreReplies more new
   replies_put R same k v new q e n sorted =

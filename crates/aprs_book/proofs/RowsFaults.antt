@@ -139,7 +139,7 @@ sound_or_faulty gap rows = elim (judged gap rows (length rows) (omega arith)) [
 
 for_a_cause : (first : Option RowCause) (cause : RowCause)
     → Answers {U = Unit {0}} first (Err cause) → (first ≡ Some cause)
-        ⊎ ((cause ≡ Memory) × (first ≡ None))
+    ⊎ ((cause ≡ Memory) × (first ≡ None))
 for_a_cause None cause h = inr (h, refl)
 for_a_cause (Some other) cause h = inl (cc)
 
@@ -154,5 +154,5 @@ fault_of_push gap rows book n x cause lt is prefix s answer = record {
   sound = s;
   refused = for_a_cause (refusal gap (take n rows) x) cause
       (subst (λ (b : List Row). Answers {U = Unit {0}} (refusal gap b x) (Err cause)) prefix
-          answer);
+      answer);
 }

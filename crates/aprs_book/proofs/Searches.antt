@@ -69,7 +69,7 @@ ends_rise gap k (r ∷ rows) zero (suc j) d h s l w =
     let y = get_or rows j d in
     let member = in_get rows j d within in
     let same = same_bytes_key (row_key r) (row_key y)
-        (h.0 ∙ sym (have_get k rows j d h.1 within)) in
+    (h.0 ∙ sym (have_get k rows j d h.1 within)) in
     omega (arith, s.apart.0 y member same, (s.each y (inr member)).in_order)
 ends_rise gap k (r ∷ rows) (suc i) zero d h s l w = absurd (omega (arith, l))
 ends_rise gap k (r ∷ rows) (suc i) (suc j) d h s l w =
@@ -245,5 +245,5 @@ module _ {K V : Type 0} (bytes : K → List ℕ) (rows : V → List Row) where
       let f : Some e.1 ≡ Some old = rw o at found in
       let r : e.1 ≡ old = cc in
       subst (λ (v : V). Sound gap (rows v)) r (sound_prefix gap (rows e.1)
-          (rows_of bytes rows es) s))
+      (rows_of bytes rows es) s))
       (λ o. found_sound gap k es old others (rw o at found))

@@ -69,7 +69,7 @@ is_itself t o e = ap (is_that t) e ∙ ap is_eq (tied_itself thing_total t)
 
 reported_alike : (is_item : Bool) (name : List ℕ) (call : Call) (v : Value)
     → is_reported name (reported_by (topic_of is_item) call v) ≡ is_that (thing is_item name)
-        (thing_reported v)
+    (thing_reported v)
 reported_alike false name call (position messaging stamp place symbol comment) = refl
 reported_alike false name call (object other live stamp place symbol comment) = refl
 reported_alike false name call (item other live place symbol comment) = refl

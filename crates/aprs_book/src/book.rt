@@ -103,9 +103,9 @@ impl<A: Allocator + Copy> Book<A> {
         Ok(())
     }
 
-    /// Adds a row after all others, unless a cause refuses it: it is added, or an allocation failed,
-    /// exactly if the rows with it are sound. Looks at the last row alone. After an error the book
-    /// is as before.
+    /// Adds a row after all others, unless a cause refuses it: it is added, or an allocation
+    /// failed, exactly if the rows with it are sound. Looks at the last row alone. After an error
+    /// the book is as before.
     pub fn push_row(&mut self, parts: &RowParts<A>) -> Result<(), RowCause>
         ensures sound { IsOkUnless result RowCause.Memory
             ↔ Sound (millis_of self.old.gap) (self.old.rows ++ parts.now ∷ []) }

@@ -107,8 +107,8 @@ impl<A: Allocator + Copy> Indexes<A> {
         }
     }
 
-    /// Keeps the reception in the entry for what is reported on, if it is greater than what is known.
-    /// Takes no memory.
+    /// Keeps the reception in the entry for what is reported on, if it is greater than what is
+    /// known. Takes no memory.
     pub(crate) fn note(&mut self, reported: &Reported<'_>, x: &Reception)
         requires { HaveEntries reported.now self.old }
         ensures { (topic : Topic) (bytes : List ℕ) → known_at bytes (index_of topic self.new)

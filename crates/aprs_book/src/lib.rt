@@ -27,6 +27,7 @@ mod place;
 mod push;
 mod receiver_list;
 mod receivers;
+mod reported;
 mod room;
 mod row;
 mod row_cause;
@@ -34,7 +35,6 @@ mod row_parts;
 mod station;
 mod steps;
 mod tally;
-mod reported;
 mod walk;
 mod widen_fault;
 

@@ -27,7 +27,8 @@ impl<'a> Reported<'a> {
     /// What this frame reports on.
     #[tactic(auto, unfolding(aprs_laws::specs::Key::key_of))]
     pub(crate) fn of(frame: &'a Frame) -> Reported<'a>
-        ensures { (topic : Topic) → reported_at topic result ≡ reported_in topic (key_of frame.now) }
+        ensures { (topic : Topic)
+            → reported_at topic result ≡ reported_in topic (key_of frame.now) }
     {
         match Report::read(frame.info()) {
             Report::Position { .. } => Reported::Position(call_bytes(&frame.source())),

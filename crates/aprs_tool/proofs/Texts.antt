@@ -26,19 +26,24 @@ shown-more f a b xs i x is out start done =
     ∙ sym (take_more xs i x (slice_get_within xs i x is)))
 
 -- the same of elements that are made of others
-pub shown-each : {X Y : Type 0} (f : Y → List ℕ) (g : X → Y) (a b : List ℕ) (xs : List X) (i : ℕ) → i < length xs
+pub shown-each : {X Y : Type 0} (f : Y → List ℕ) (g : X → Y) (a b : List ℕ) (xs : List X) (i : ℕ)
+    → i < length xs
     → IfSome (slice_get xs i) (λ x. b ≡ a ++ f (g x))
-    → (start : List ℕ) → a ≡ start ++ flat_map f (take i (map g xs)) → b ≡ start ++ flat_map f (take (i + 1) (map g xs))
+    → (start : List ℕ) → a ≡ start ++ flat_map f (take i (map g xs)) → b ≡ start
+    ++ flat_map f (take (i + 1) (map g xs))
 shown-each {X} f g a b xs i within out start done = by (slice_get xs i) refl out
   where
-    by : (x : Option X) → slice_get xs i ≡ x → IfSome x (λ x. b ≡ a ++ f (g x)) → b ≡ start ++ flat_map f (take (i + 1) (map g xs))
+    by : (x : Option X) → slice_get xs i ≡ x → IfSome x (λ x. b ≡ a ++ f (g x)) → b ≡ start
+        ++ flat_map f (take (i + 1) (map g xs))
     by None none out = absurd (there ((slice_get_cases xs i).1) none)
       where
-        there : ((x : X) × (i < length xs) × (slice_get xs i ≡ Some x) × (get_or xs i x ≡ x)) ⊎ ((length xs ≤ i) × (slice_get xs i ≡ None))
+        there : ((x : X) × (i < length xs) × (slice_get xs i ≡ Some x) × (get_or xs i x ≡ x))
+            ⊎ ((length xs ≤ i) × (slice_get xs i ≡ None))
             → slice_get xs i ≡ None → ⊥
         there (inl x) none = absurd cc (sym x.2 ∙ none)
         there (inr past) none = omega (arith, within, past.0)
-    by (Some x) is out = shown-more f a b (map g xs) i (g x) (slice_get-map g xs i ∙ ap (option_map g) is) out start done
+    by (Some x) is out = shown-more f a b (map g xs) i (g x)
+        (slice_get-map g xs i ∙ ap (option_map g) is) out start done
 
 -- a byte that is shown as itself
 shown_byte-plain : (b : ℕ) (rest : List ℕ) (t : Bool) → is_shown b ≡ t → t ≡ true

@@ -5,7 +5,7 @@ pub returns : goal.returns
 returns g c =
     both_at_end _ _ c.loop-row.row-iterator c.loop-row.theirs c.next-2.new.self c.next-2.result
     c.is_none.result c.loop-row.invariant c.in-None.ensures.steps.0 c.next-2.ensures.steps
-        c.is_none.ensures
+    c.is_none.ensures
 
 pub loop-row-preserved : goal.loop-row-preserved
 loop-row-preserved g c =

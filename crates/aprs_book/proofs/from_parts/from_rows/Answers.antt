@@ -11,7 +11,7 @@ returns-in-Err-clause-fault g c =
     c.index-rows-place.result c.in-Err.cause c.loop-place-test.true c.index-rows-place.is
     c.loop-place.invariant.1 c.loop-place.invariant.2
     (subst (λ k. Answers {U = Unit {0}} (refusal
-        (millis_of k) c.loop-place.book.rows c.index-rows-place.result) (Err c.in-Err.cause))
+    (millis_of k) c.loop-place.book.rows c.index-rows-place.result) (Err c.in-Err.cause))
     c.loop-place.invariant.0 c.in-Err.ensures.cause)
 
 pub returns-in-Err-clause-memory : goal.returns-in-Err-clause-memory

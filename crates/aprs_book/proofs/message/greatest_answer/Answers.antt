@@ -11,6 +11,6 @@ returns-in-Ok g c =
     (record { source = c.copy.ensures; addressee = c.in-Ok.ensures.found; same_id = refl })
     (λ a f. same_answer a _ (f.source ∙ sym c.copy.ensures)
     (let t : Ok c.in-Ok.addressee ≡ Ok a.addressee = c.in-Ok.ensures.only a.addressee f.addressee in
-        cc)
+    cc)
     f.same_id)
     _ asked_alike c.copied.result (c.copied.ensures ∙ c.get.ensures.value)

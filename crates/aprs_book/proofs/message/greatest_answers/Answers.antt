@@ -16,25 +16,25 @@ pub loop-row-preserved-else-is_err : goal.loop-row-preserved-else-is_err
 loop-row-preserved-else-is_err g c =
     walk_goes _ _ _ _ _ c.in-Some.row.now c.in-Some.ensures.steps
     (λ done more adds held. replies_put done more c.in-Some.row.now adds c.loop-row.answers.entries
-        held
+    held
     _ asked_alike c.in-Some-reply_in.asked c.greater-answer.result c.insert.new.self.entries
     (λ a. subst (λ t. IsReply a (row_key c.in-Some.row.now) ↔ (option_map answer_of t ≡ Some a))
-        c.in-Some-reply_in.is (c.reply_in.ensures a))
+    c.in-Some-reply_in.is (c.reply_in.ensures a))
     (kept_greater c.greater-answer.result.now c.copied.result _ c.greatest.result.now
     c.in-Some.row.now.greatest c.greater-answer.ensures (c.copied.ensures ∙ c.get.ensures.value)
     c.greatest.ensures)
     (where_ok c.insert.result (c.is_err.ensures.negation ∙ ap not c.if-is_err.false)
-        c.insert.ensures.entries)
+    c.insert.ensures.entries)
     c.insert.ensures.ordered) c.loop-row.invariant
 
 pub loop-row-preserved : goal.loop-row-preserved
 loop-row-preserved g c =
     walk_goes _ _ _ _ _ c.in-Some.row.now c.in-Some.ensures.steps
     (λ done more adds held. replies_passed done more c.in-Some.row.now adds
-        c.loop-row.answers.entries
+    c.loop-row.answers.entries
     held
     (λ a p. let t : None ≡ Some a = ap (option_map answer_of) (sym c.in_default.is)
-        ∙ (c.reply_in.ensures a).0 p in absurd (cc)))
+    ∙ (c.reply_in.ensures a).0 p in absurd (cc)))
     c.loop-row.invariant
 
 pub returns : goal.returns

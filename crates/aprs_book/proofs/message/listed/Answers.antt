@@ -16,7 +16,7 @@ pub loop-message-preserved : goal.loop-message-preserved
 loop-message-preserved g c =
     lists_next (IsListed c.args.answers.now.entries) c.args.spans.now.entries
     c.loop-message.message-iterator _ _ _ (c.in-Some.message.now, c.in-Some.span.now)
-        c.row_of.result
+    c.row_of.result
     (rest_more deref_pair c.loop-message.message-iterator c.next.new.self c.next.result
     (c.in-Some.message, c.in-Some.span) c.in-Some.is c.next.ensures.steps)
     (pushed _ _ _ _ (c.is_err.ensures.negation ∙ ap not c.if-is_err.false) c.push.ensures.items)

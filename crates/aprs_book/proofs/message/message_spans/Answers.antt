@@ -14,12 +14,12 @@ pub loop-row-preserved-else-is_err : goal.loop-row-preserved-else-is_err
 loop-row-preserved-else-is_err g c =
     walk_goes _ _ _ _ _ c.in-Some.row.now c.in-Some.ensures.steps
     (λ done more adds held. spans_put_by done more c.in-Some.row.now adds c.loop-row.spans.entries
-        held
+    held
     _ keys_alike c.in-Some-message_in.message c.span_with-span.result c.insert.new.self.entries
     (sym c.message_in.ensures ∙ ap (option_map message_of) c.in-Some-message_in.is)
     (c.span_with-span.ensures ∙ ap (λ t. span_with t c.in-Some.row.now) c.get.ensures.value)
     (where_ok c.insert.result (c.is_err.ensures.negation ∙ ap not c.if-is_err.false)
-        c.insert.ensures.entries)
+    c.insert.ensures.entries)
     c.insert.ensures.ordered) c.loop-row.invariant
 
 pub loop-row-preserved : goal.loop-row-preserved

@@ -21,11 +21,11 @@ loop-row-preserved g c =
     walk_goes _ _ _ _ _ c.in-Some.row.now c.in-Some.ensures.steps
     (λ done more adds held. tallies_put done c.loop-row.tallies.entries held more
     c.in-Some.row.now adds c.source_of-station.result c.one_more-tally.result
-        c.insert.new.self.entries
+    c.insert.new.self.entries
     c.source_of-station.ensures
     (c.one_more-tally.ensures ∙ ap (λ k. counted k + 1) c.get.ensures.value)
     (where_ok c.insert.result (c.is_err.ensures.negation ∙ ap not c.if-is_err.false)
-        c.insert.ensures.entries)
+    c.insert.ensures.entries)
     c.insert.ensures.ordered) c.loop-row.invariant
 
 pub returns : goal.returns

@@ -23,7 +23,7 @@ frame c =
       spelled = made-spelled c.args.destination.now c.args.source.now c.args.hops.now
           c.args.info.now _ _ _ _
           c.push_field.ensures.field c.push.ensures.items c.push-2.ensures.items
-              c.push_all.ensures.items;
+          c.push_all.ensures.items;
     }
 
 pub invariant_of-result : goal.invariant_of-result

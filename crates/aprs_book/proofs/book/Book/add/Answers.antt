@@ -31,12 +31,12 @@ invariant_of-self-2 g c =
         range = c.self.invariant.0.range;
         sound = subst (Sound gap) (sym c.in_ok-push.ensures.added)
             ((none_exactly gap c.self.inside.rows c.args.parts.now c.self.invariant.0.sound).0
-                none);
+            none);
       },
       pushes_indexes c.of-reported.result c.args.parts.now c.self.inside.rows c.push.new.self
           c.self.inside.indexes c.place.new.self c.note.new.self c.self.invariant.1
           (λ topic. c.of-reported.ensures topic
-              ∙ ap (λ r. reported_in topic (row_key r)) c.parts.view_is)
+          ∙ ap (λ r. reported_in topic (row_key r)) c.parts.view_is)
           c.in_ok-place.ensures.same
           (subst (λ (x : Heard). Noted c.of-reported.result x c.place.new.self c.note.new.self)
           c.greatest.ensures c.note.ensures)

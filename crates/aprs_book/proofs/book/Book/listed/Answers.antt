@@ -10,16 +10,16 @@ use Rattle.aprs_book.proofs.book.Book.listed.Goals as goal
 pub loop-call-init : goal.loop-call-init
 loop-call-init g c =
     lists_first (IsStationRow (millis_of c.args.self.now.gap) c.args.self.now.rows)
-        c.args.tallies.now.entries _ _
+    c.args.tallies.now.entries _ _
     (c.into_iter-call-iterator.ensures.into_iter_gives ∙ c.iter-call-items.ensures.rest)
     c.new-list.ensures.items
 
 pub loop-call-preserved : goal.loop-call-preserved
 loop-call-preserved g c =
     lists_next (IsStationRow (millis_of c.args.self.now.gap) c.args.self.now.rows)
-        c.args.tallies.now.entries
+    c.args.tallies.now.entries
     c.loop-call.call-iterator _ _ _ (c.in-Some.call.now, c.in-Some.transmissions.now)
-        c.station.result
+    c.station.result
     (rest_more deref_pair c.loop-call.call-iterator c.next.new.self c.next.result
     (c.in-Some.call, c.in-Some.transmissions) c.in-Some.is c.next.ensures.steps)
     (pushed _ _ _ _ (c.is_err.ensures.negation ∙ ap not c.if-is_err.false) c.push.ensures.items)
@@ -36,7 +36,7 @@ returns-clause-ascending g c =
 pub returns-clause-rows : goal.returns-clause-rows
 returns-clause-rows g c =
     lists_last (IsStationRow (millis_of c.args.self.now.gap) c.args.self.now.rows)
-        c.args.tallies.now.entries
+    c.args.tallies.now.entries
     c.loop-call.call-iterator _
     (rest_all deref_pair c.loop-call.call-iterator c.next.new.self c.next.result c.in-None.is
     c.next.ensures.steps) c.loop-call.invariant

@@ -18,15 +18,21 @@ invariant_of-self g c = (
 
 pub invariant_of-self-in_err-key : goal.invariant_of-self-in_err-key
 invariant_of-self-in_err-key g c =
-    rw (ap (λ m. m.entries) c.get_mut.follows.holds-at-none)
-    (c.self.invariant.0, c.self.invariant.1, room_made c.self.inside.map.entries _
-        c.in_ok-assign.ensures.room)
+    rw (ap (λ m. m.entries) c.get_mut.follows.holds-at-none) (
+      c.self.invariant.0,
+      c.self.invariant.1,
+      room_made c.self.inside.map.entries _
+          c.in_ok-assign.ensures.room,
+    )
 
 pub invariant_of-self-in_err-push_one : goal.invariant_of-self-in_err-push_one
 invariant_of-self-in_err-push_one g c =
-    rw (ap (λ m. m.entries) c.get_mut.follows.holds-at-none)
-    (c.self.invariant.0, c.self.invariant.1, room_made c.self.inside.map.entries _
-        c.in_ok-assign.ensures.room)
+    rw (ap (λ m. m.entries) c.get_mut.follows.holds-at-none) (
+      c.self.invariant.0,
+      c.self.invariant.1,
+      room_made c.self.inside.map.entries _
+          c.in_ok-assign.ensures.room,
+    )
 
 pub invariant_of-self-in-Some : goal.invariant_of-self-in-Some
 invariant_of-self-in-Some g c =
@@ -47,8 +53,8 @@ invariant_of-self-in-Some g c =
       count_set (λ k. k.items) (λ v. v.items) c.assign.new.self.items es _ c.in-Some.rows.now
           c.push_one-pushed.new.rows
           c.self.inside.count c.push_one-pushed.new.count c.in-Some.ensures.value
-              (c.get_mut.follows.holds c.push_one-pushed.new.rows).0 c.self.invariant.1
-              c.push_one-pushed.ensures.counted,
+          (c.get_mut.follows.holds c.push_one-pushed.new.rows).0 c.self.invariant.1
+          c.push_one-pushed.ensures.counted,
       room_made (c.get_mut.follows.lender c.push_one-pushed.new.rows).entries _
           c.in_ok-assign.ensures.room,
     )
@@ -67,23 +73,27 @@ returns-in-Some-clause-added g c =
       ends = subst (EndsUpTo x) (sym c.self.view_is) c.requires;
     } in
     rw (← c.self.view_is) (after_ok (λ k. k.items)
-        (λ v. v.items) x _ es _ _ _ c.push_one-pushed.result b c.in-Some.ensures.value
-        (c.get_mut.follows.holds c.push_one-pushed.new.rows).0 c.push_one-pushed.ensures.added)
+    (λ v. v.items) x _ es _ _ _ c.push_one-pushed.result b c.in-Some.ensures.value
+    (c.get_mut.follows.holds c.push_one-pushed.new.rows).0 c.push_one-pushed.ensures.added)
 
 pub returns-in-Some-clause-unchanged : goal.returns-in-Some-clause-unchanged
 returns-in-Some-clause-unchanged g c =
     rw (← c.self.view_is) (after_err (λ k. k.items)
-        (λ v. v.items) c.args.row _ c.self.inside.map.entries _ _ _ c.push_one-pushed.result
-        c.in-Some.ensures.value (c.get_mut.follows.holds c.push_one-pushed.new.rows).0
-        c.push_one-pushed.ensures.unchanged)
+    (λ v. v.items) c.args.row _ c.self.inside.map.entries _ _ _ c.push_one-pushed.result
+    c.in-Some.ensures.value (c.get_mut.follows.holds c.push_one-pushed.new.rows).0
+    c.push_one-pushed.ensures.unchanged)
 
 pub invariant_of-self-then-is_err : goal.invariant_of-self-then-is_err
 invariant_of-self-then-is_err g c =
     let same =
     on_err c.insert.result _ c.insert.ensures.err (sym c.if-is_err.true ∙ c.is_err.ensures.value)
     ∙ ap (λ m. m.entries) c.get_mut.follows.holds-at-none in
-    rw same (c.self.invariant.0, c.self.invariant.1, room_made c.self.inside.map.entries _
-        c.in_ok-assign.ensures.room)
+    rw same (
+      c.self.invariant.0,
+      c.self.invariant.1,
+      room_made c.self.inside.map.entries _
+          c.in_ok-assign.ensures.room,
+    )
 
 pub invariant_of-self-2 : goal.invariant_of-self-2
 invariant_of-self-2 g c =
@@ -130,17 +140,17 @@ returns-clause-added g c =
     let put = on_not_err c.insert.result _ c.insert.ensures.entries c.if-is_err.ensures.value in
     let same = ap (λ m. m.entries) c.get_mut.follows.holds-at-none in
     rw (← c.self.view_is) (after_new (λ k. k.items)
-        (λ v. v.items) x _ es _ c.in_ok-key.key c.push_one.new.rows b c.in_default.ensures.value
-        (c.in_ok-key.ensures) (c.in_ok-push_one.ensures.added
-        ∙ ap (λ t. t ++ x ∷ []) c.new-rows.ensures.items)
-        (put ∙ ap (λ t. insert_entry (λ p q. bytes_cmp p.items q.items) t c.in_ok-key.key
-        c.push_one.new.rows) same)).0
+    (λ v. v.items) x _ es _ c.in_ok-key.key c.push_one.new.rows b c.in_default.ensures.value
+    (c.in_ok-key.ensures) (c.in_ok-push_one.ensures.added
+    ∙ ap (λ t. t ++ x ∷ []) c.new-rows.ensures.items)
+    (put ∙ ap (λ t. insert_entry (λ p q. bytes_cmp p.items q.items) t c.in_ok-key.key
+    c.push_one.new.rows) same)).0
 
 pub returns-in_err-push_one-clause-unchanged : goal.returns-in_err-push_one-clause-unchanged
 returns-in_err-push_one-clause-unchanged g c =
     err_stays (λ k. k.items) (λ v. v.items) c.from_residual-in_err-push_one.result
     c.self.inside.map.entries _ _ (ap (λ m. m.entries) c.get_mut.follows.holds-at-none)
-        c.self.view_is
+    c.self.view_is
 
 pub returns-then-is_err-clause-unchanged : goal.returns-then-is_err-clause-unchanged
 returns-then-is_err-clause-unchanged g c =

@@ -7,7 +7,7 @@ use Rattle.aprs_book.proofs.keyed.KeyedRows.merged.Goals as goal
 pub loop-our-init : goal.loop-our-init
 loop-our-init g c =
     starts (λ k. k.items) (λ v. v.items) c.args.gap c.args.self.now c.args.other.now
-        c.self.inside.map.entries
+    c.self.inside.map.entries
     c.other.inside.map.entries _ _ _ _ _ _ _ c.self.view_is c.other.view_is
     (record { sorted = c.iter-ours.ensures.ordered; kept = c.self.invariant.0 })
     (record { sorted = c.iter-theirs.ensures.ordered; kept = c.other.invariant.0 })
@@ -17,11 +17,11 @@ loop-our-init g c =
 pub loop-our-preserved-in-Some-None : goal.loop-our-preserved-in-Some-None
 loop-our-preserved-in-Some-None g c =
     first_goes (λ k. k.items) (λ v. v.items) c.args.gap _ c.loop-our.map.entries
-        c.put_joined-in-Some-None.new.map.entries
+    c.put_joined-in-Some-None.new.map.entries
     (c.in-Some-None.key, c.in-Some-None.x) c.loop-our.ours c.next-our-in-Some-None.new.self
-        c.loop-our.theirs c.loop-our.our c.loop-our.their c.next-our-in-Some-None.result
+    c.loop-our.theirs c.loop-our.our c.loop-our.their c.next-our-in-Some-None.result
     c.in-Some-None.key.now.items c.as_slice-in-Some-None.result.now refl
-        c.as_slice-in-Some-None.ensures.value c.in_ok-put_joined-in-Some-None.ensures
+    c.as_slice-in-Some-None.ensures.value c.in_ok-put_joined-in-Some-None.ensures
     c.in-Some-None.is-0 c.loop-our.invariant
     (above_none (λ k. k.items) (λ v. v.items) _ _ _ c.in-Some-None.is-1)
     c.next-our-in-Some-None.ensures.steps
@@ -29,11 +29,11 @@ loop-our-preserved-in-Some-None g c =
 pub loop-our-preserved-in-None-Some : goal.loop-our-preserved-in-None-Some
 loop-our-preserved-in-None-Some g c =
     second_goes (λ k. k.items) (λ v. v.items) c.args.gap _ c.loop-our.map.entries
-        c.put_joined.new.map.entries
+    c.put_joined.new.map.entries
     (c.in-None-Some.key, c.in-None-Some.y) c.loop-our.theirs c.next-their-in-None-Some.new.self
-        c.loop-our.ours c.loop-our.their c.loop-our.our c.next-their-in-None-Some.result
+    c.loop-our.ours c.loop-our.their c.loop-our.our c.next-their-in-None-Some.result
     c.in-None-Some.key.now.items c.as_slice.result.now refl c.as_slice.ensures.value
-        c.in_ok-put_joined-in-None-Some.ensures
+    c.in_ok-put_joined-in-None-Some.ensures
     c.in-None-Some.is-1 c.loop-our.invariant
     (above_none (λ k. k.items) (λ v. v.items) _ _ _ c.in-None-Some.is-0)
     c.next-their-in-None-Some.ensures.steps
@@ -41,36 +41,36 @@ loop-our-preserved-in-None-Some g c =
 pub loop-our-preserved-in-Less : goal.loop-our-preserved-in-Less
 loop-our-preserved-in-Less g c =
     first_goes (λ k. k.items) (λ v. v.items) c.args.gap _ c.loop-our.map.entries
-        c.put_joined-in-Less.new.map.entries
+    c.put_joined-in-Less.new.map.entries
     (c.in-Some-Some.key, c.in-Some-Some.x) c.loop-our.ours c.next-our-in-Less.new.self
-        c.loop-our.theirs c.loop-our.our c.loop-our.their c.next-our-in-Less.result
+    c.loop-our.theirs c.loop-our.our c.loop-our.their c.next-our-in-Less.result
     c.in-Some-Some.key.now.items c.as_slice-in-Less.result.now refl c.as_slice-in-Less.ensures.value
-        c.in_ok-put_joined-in-Less.ensures
+    c.in_ok-put_joined-in-Less.ensures
     c.in-Some-Some.is-0 c.loop-our.invariant
     (above_some (λ k. k.items) (λ v. v.items) _ _ _
-        (c.in-Some-Some.other_key, c.in-Some-Some.y) _ _ c.in-Some-Some.is-1 refl refl
-        (sym c.cmp.ensures ∙ c.in-Less.is))
+    (c.in-Some-Some.other_key, c.in-Some-Some.y) _ _ c.in-Some-Some.is-1 refl refl
+    (sym c.cmp.ensures ∙ c.in-Less.is))
     c.next-our-in-Less.ensures.steps
 
 pub loop-our-preserved : goal.loop-our-preserved
 loop-our-preserved g c =
     second_goes (λ k. k.items) (λ v. v.items) c.args.gap _ c.loop-our.map.entries
-        c.put_joined-in-Greater.new.map.entries
+    c.put_joined-in-Greater.new.map.entries
     (c.in-Some-Some.other_key, c.in-Some-Some.y) c.loop-our.theirs c.next-their-in-Greater.new.self
-        c.loop-our.ours c.loop-our.their c.loop-our.our c.next-their-in-Greater.result
+    c.loop-our.ours c.loop-our.their c.loop-our.our c.next-their-in-Greater.result
     c.in-Some-Some.other_key.now.items c.as_slice-in-Greater.result.now refl
-        c.as_slice-in-Greater.ensures.value c.in_ok-put_joined-in-Greater.ensures
+    c.as_slice-in-Greater.ensures.value c.in_ok-put_joined-in-Greater.ensures
     c.in-Some-Some.is-1 c.loop-our.invariant
     (above_some (λ k. k.items) (λ v. v.items) _ _ _
-        (c.in-Some-Some.key, c.in-Some-Some.x) _ _ c.in-Some-Some.is-0 refl refl
-        (turned c.in-Some-Some.key.now.items c.in-Some-Some.other_key.now.items
-        (sym c.cmp.ensures ∙ c.in-Greater.is)))
+    (c.in-Some-Some.key, c.in-Some-Some.x) _ _ c.in-Some-Some.is-0 refl refl
+    (turned c.in-Some-Some.key.now.items c.in-Some-Some.other_key.now.items
+    (sym c.cmp.ensures ∙ c.in-Greater.is)))
     c.next-their-in-Greater.ensures.steps
 
 pub loop-our-preserved-in-Equal : goal.loop-our-preserved-in-Equal
 loop-our-preserved-in-Equal g c =
     both_go (λ k. k.items) (λ v. v.items) c.args.gap _ c.loop-our.map.entries
-        c.put_merged.new.map.entries
+    c.put_merged.new.map.entries
     (c.in-Some-Some.key, c.in-Some-Some.x) (c.in-Some-Some.other_key, c.in-Some-Some.y)
     c.loop-our.ours c.next-our-in-Equal.new.self c.loop-our.theirs c.next-their-in-Equal.new.self
     c.loop-our.our c.loop-our.their c.next-our-in-Equal.result c.next-their-in-Equal.result
@@ -79,7 +79,7 @@ loop-our-preserved-in-Equal g c =
     c.in_ok-put_merged-in-Equal.ensures c.in-Some-Some.is-0 c.in-Some-Some.is-1
     c.loop-our.invariant
     (same_bytes c.in-Some-Some.key.now.items c.in-Some-Some.other_key.now.items
-        (sym c.cmp.ensures ∙ c.in-Equal.is))
+    (sym c.cmp.ensures ∙ c.in-Equal.is))
     c.next-our-in-Equal.ensures.steps c.next-their-in-Equal.ensures.steps
 
 pub loop-our-smaller-in-Some-None : goal.loop-our-smaller-in-Some-None
@@ -139,5 +139,5 @@ loop-our-smaller-in-Equal g c =
 pub returns : goal.returns
 returns g c =
     ends (λ k. k.items) (λ v. v.items) c.args.gap _ c.loop-our.map.entries _ _ _ _
-        c.in-None-None.is-0 c.in-None-None.is-1
+    c.in-None-None.is-0 c.in-None-None.is-1
     c.loop-our.invariant

@@ -6,4 +6,4 @@ pub returns : goal.returns
 returns g c =
     c.first_cause.ensures
     ∙ refused_at_end c.args.gap c.last_rows.result.now c.args.self.now c.args.parts.now
-        c.last_rows.ensures
+    c.last_rows.ensures

@@ -15,14 +15,14 @@ pub put-taken-requires-clause-keyed : goal.put-taken-requires-clause-keyed
 put-taken-requires-clause-keyed g c =
     subst (λ (k : List ℕ). HaveKey k c.in-Some.rows.now.items)
     (c.in_ok-assign.ensures.items ∙ c.as_slice.ensures.value ∙ c.key_bytes-bytes.ensures
-        ∙ ap (λ t. key_bytes (key_of t)) c.frame.ensures)
+    ∙ ap (λ t. key_bytes (key_of t)) c.frame.ensures)
     (found_key (λ k. k.items) (λ v. v.items) c.assign.new.self.items c.self.inside.map.entries
     c.in-Some.rows.now c.self.invariant.0.0 (sym c.in-Some.ensures.value))
 
 pub put-taken-requires-clause-sound : goal.put-taken-requires-clause-sound
 put-taken-requires-clause-sound g c =
     found_sound (λ k. k.items) (λ v. v.items) c.args.gap c.assign.new.self.items
-        c.self.inside.map.entries
+    c.self.inside.map.entries
     c.in-Some.rows.now (subst (Sound c.args.gap) (sym c.self.view_is) c.requires)
     (sym c.in-Some.ensures.value)
 
@@ -51,27 +51,39 @@ invariant_of-self g c = (
 
 pub invariant_of-self-in_err-key : goal.invariant_of-self-in_err-key
 invariant_of-self-in_err-key g c =
-    rw (ap (λ m. m.entries) c.get_mut.follows.holds-at-none)
-    (c.self.invariant.0, c.self.invariant.1, room_made c.self.inside.map.entries _
-        c.in_ok-assign.ensures.room)
+    rw (ap (λ m. m.entries) c.get_mut.follows.holds-at-none) (
+      c.self.invariant.0,
+      c.self.invariant.1,
+      room_made c.self.inside.map.entries _
+          c.in_ok-assign.ensures.room,
+    )
 
 pub invariant_of-self-in_err-put : goal.invariant_of-self-in_err-put
 invariant_of-self-in_err-put g c =
-    rw (ap (λ m. m.entries) c.get_mut.follows.holds-at-none)
-    (c.self.invariant.0, c.self.invariant.1, room_made c.self.inside.map.entries _
-        c.in_ok-assign.ensures.room)
+    rw (ap (λ m. m.entries) c.get_mut.follows.holds-at-none) (
+      c.self.invariant.0,
+      c.self.invariant.1,
+      room_made c.self.inside.map.entries _
+          c.in_ok-assign.ensures.room,
+    )
 
 pub invariant_of-self-in-Some : goal.invariant_of-self-in-Some
 invariant_of-self-in-Some g c =
     let x = c.args.x.now in
     let es = c.self.inside.map.entries in
     let w : IsWritten (λ k. k.items) (λ v. v.items) x c.assign.new.self.items es
-        (c.get_mut.follows.lender c.put-taken.new.rows).entries c.in-Some.rows.now
-        c.put-taken.new.rows =
-    record { key = c.in_ok-assign.ensures.items ∙ c.as_slice.ensures.value
-        ∙ c.key_bytes-bytes.ensures ∙ ap (λ t. key_bytes (key_of t)) c.frame.ensures; sorted =
-        c.in-Some.ensures.ordered; keyed = c.self.invariant.0.0; found =
-        c.in-Some.ensures.value; written = (c.get_mut.follows.holds c.put-taken.new.rows).0 } in (
+    (c.get_mut.follows.lender c.put-taken.new.rows).entries c.in-Some.rows.now
+    c.put-taken.new.rows =
+    record {
+      key = c.in_ok-assign.ensures.items ∙ c.as_slice.ensures.value
+          ∙ c.key_bytes-bytes.ensures ∙ ap (λ t. key_bytes (key_of t)) c.frame.ensures;
+      sorted =
+          c.in-Some.ensures.ordered;
+      keyed = c.self.invariant.0.0;
+      found =
+          c.in-Some.ensures.value;
+      written = (c.get_mut.follows.holds c.put-taken.new.rows).0;
+    } in (
       (
         written_keyed (λ k. k.items) (λ v. v.items) c.args.gap x _ es _ _ _ c.put-taken.result w
             c.put-taken.ensures.inserted c.put-taken.ensures.unchanged,
@@ -81,8 +93,8 @@ invariant_of-self-in-Some g c =
       count_set (λ k. k.items) (λ v. v.items) c.assign.new.self.items es _ c.in-Some.rows.now
           c.put-taken.new.rows
           c.self.inside.count c.put-taken.new.count c.in-Some.ensures.value
-              (c.get_mut.follows.holds c.put-taken.new.rows).0 c.self.invariant.1
-              c.put-taken.ensures.counted,
+          (c.get_mut.follows.holds c.put-taken.new.rows).0 c.self.invariant.1
+          c.put-taken.ensures.counted,
       room_made (c.get_mut.follows.lender c.put-taken.new.rows).entries _
           c.in_ok-assign.ensures.room,
     )
@@ -92,55 +104,78 @@ returns-in-Some-clause-inserted g c =
     let x = c.args.x.now in
     let es = c.self.inside.map.entries in
     let w : IsWritten (λ k. k.items) (λ v. v.items) x c.assign.new.self.items es
-        (c.get_mut.follows.lender c.put-taken.new.rows).entries c.in-Some.rows.now
-        c.put-taken.new.rows =
-    record { key = c.in_ok-assign.ensures.items ∙ c.as_slice.ensures.value
-        ∙ c.key_bytes-bytes.ensures ∙ ap (λ t. key_bytes (key_of t)) c.frame.ensures; sorted =
-        c.in-Some.ensures.ordered; keyed = c.self.invariant.0.0; found =
-        c.in-Some.ensures.value; written = (c.get_mut.follows.holds c.put-taken.new.rows).0 } in
+    (c.get_mut.follows.lender c.put-taken.new.rows).entries c.in-Some.rows.now
+    c.put-taken.new.rows =
+    record {
+      key = c.in_ok-assign.ensures.items ∙ c.as_slice.ensures.value
+          ∙ c.key_bytes-bytes.ensures ∙ ap (λ t. key_bytes (key_of t)) c.frame.ensures;
+      sorted =
+          c.in-Some.ensures.ordered;
+      keyed = c.self.invariant.0.0;
+      found =
+          c.in-Some.ensures.value;
+      written = (c.get_mut.follows.holds c.put-taken.new.rows).0;
+    } in
     rw (← c.self.view_is) (written_ok (λ k. k.items)
-        (λ v. v.items) c.args.gap x _ es _ _ _ c.put-taken.result w c.put-taken.ensures.inserted)
+    (λ v. v.items) c.args.gap x _ es _ _ _ c.put-taken.result w c.put-taken.ensures.inserted)
 
 pub returns-in-Some-clause-unchanged : goal.returns-in-Some-clause-unchanged
 returns-in-Some-clause-unchanged g c =
     let x = c.args.x.now in
     let es = c.self.inside.map.entries in
     let w : IsWritten (λ k. k.items) (λ v. v.items) x c.assign.new.self.items es
-        (c.get_mut.follows.lender c.put-taken.new.rows).entries c.in-Some.rows.now
-        c.put-taken.new.rows =
-    record { key = c.in_ok-assign.ensures.items ∙ c.as_slice.ensures.value
-        ∙ c.key_bytes-bytes.ensures ∙ ap (λ t. key_bytes (key_of t)) c.frame.ensures; sorted =
-        c.in-Some.ensures.ordered; keyed = c.self.invariant.0.0; found =
-        c.in-Some.ensures.value; written = (c.get_mut.follows.holds c.put-taken.new.rows).0 } in
+    (c.get_mut.follows.lender c.put-taken.new.rows).entries c.in-Some.rows.now
+    c.put-taken.new.rows =
+    record {
+      key = c.in_ok-assign.ensures.items ∙ c.as_slice.ensures.value
+          ∙ c.key_bytes-bytes.ensures ∙ ap (λ t. key_bytes (key_of t)) c.frame.ensures;
+      sorted =
+          c.in-Some.ensures.ordered;
+      keyed = c.self.invariant.0.0;
+      found =
+          c.in-Some.ensures.value;
+      written = (c.get_mut.follows.holds c.put-taken.new.rows).0;
+    } in
     rw (← c.self.view_is) (written_err (λ k. k.items)
-        (λ v. v.items) x _ es _ _ _ c.put-taken.result w c.put-taken.ensures.unchanged)
+    (λ v. v.items) x _ es _ _ _ c.put-taken.result w c.put-taken.ensures.unchanged)
 
 pub returns-in-Some-clause-in_place : goal.returns-in-Some-clause-in_place
 returns-in-Some-clause-in_place g c = λ p.
     let x = c.args.x.now in
     let es = c.self.inside.map.entries in
     let w : IsWritten (λ k. k.items) (λ v. v.items) x c.assign.new.self.items es
-        (c.get_mut.follows.lender c.put-taken.new.rows).entries c.in-Some.rows.now
-        c.put-taken.new.rows =
-    record { key = c.in_ok-assign.ensures.items ∙ c.as_slice.ensures.value
-        ∙ c.key_bytes-bytes.ensures ∙ ap (λ t. key_bytes (key_of t)) c.frame.ensures; sorted =
-        c.in-Some.ensures.ordered; keyed = c.self.invariant.0.0; found =
-        c.in-Some.ensures.value; written = (c.get_mut.follows.holds c.put-taken.new.rows).0 } in
+    (c.get_mut.follows.lender c.put-taken.new.rows).entries c.in-Some.rows.now
+    c.put-taken.new.rows =
+    record {
+      key = c.in_ok-assign.ensures.items ∙ c.as_slice.ensures.value
+          ∙ c.key_bytes-bytes.ensures ∙ ap (λ t. key_bytes (key_of t)) c.frame.ensures;
+      sorted =
+          c.in-Some.ensures.ordered;
+      keyed = c.self.invariant.0.0;
+      found =
+          c.in-Some.ensures.value;
+      written = (c.get_mut.follows.holds c.put-taken.new.rows).0;
+    } in
     c.put-taken.ensures.in_place (sym (written_in_place (λ k. k.items)
-        (λ v. v.items) c.args.gap x _ es _ _ _ w)
-        ∙ ap (λ t. fits_in_place c.args.gap x t) c.self.view_is ∙ p)
+    (λ v. v.items) c.args.gap x _ es _ _ _ w)
+    ∙ ap (λ t. fits_in_place c.args.gap x t) c.self.view_is ∙ p)
 
 pub returns-in_err-key-clause-in_place : goal.returns-in_err-key-clause-in_place
 returns-in_err-key-clause-in_place g c = λ p.
     let x = c.args.x.now in
     let es = c.self.inside.map.entries in
     let a : IsAbsent (λ k. k.items) (λ v. v.items) x c.assign.new.self.items es =
-    record { key = c.in_ok-assign.ensures.items ∙ c.as_slice.ensures.value
-        ∙ c.key_bytes-bytes.ensures ∙ ap (λ t. key_bytes (key_of t)) c.frame.ensures; sorted =
-        c.in_default.ensures.ordered; keyed = c.self.invariant.0.0; absent =
-        c.in_default.ensures.value } in
+    record {
+      key = c.in_ok-assign.ensures.items ∙ c.as_slice.ensures.value
+          ∙ c.key_bytes-bytes.ensures ∙ ap (λ t. key_bytes (key_of t)) c.frame.ensures;
+      sorted =
+          c.in_default.ensures.ordered;
+      keyed = c.self.invariant.0.0;
+      absent =
+          c.in_default.ensures.value;
+    } in
     let no : false ≡ true = sym (absent_in_place (λ k. k.items) (λ v. v.items) c.args.gap x _ es a)
-        ∙ ap (λ t. fits_in_place c.args.gap x t) c.self.view_is ∙ p in
+    ∙ ap (λ t. fits_in_place c.args.gap x t) c.self.view_is ∙ p in
     absurd (cc)
 
 pub returns-in_err-put-clause-in_place : goal.returns-in_err-put-clause-in_place
@@ -148,12 +183,17 @@ returns-in_err-put-clause-in_place g c = λ p.
     let x = c.args.x.now in
     let es = c.self.inside.map.entries in
     let a : IsAbsent (λ k. k.items) (λ v. v.items) x c.assign.new.self.items es =
-    record { key = c.in_ok-assign.ensures.items ∙ c.as_slice.ensures.value
-        ∙ c.key_bytes-bytes.ensures ∙ ap (λ t. key_bytes (key_of t)) c.frame.ensures; sorted =
-        c.in_default.ensures.ordered; keyed = c.self.invariant.0.0; absent =
-        c.in_default.ensures.value } in
+    record {
+      key = c.in_ok-assign.ensures.items ∙ c.as_slice.ensures.value
+          ∙ c.key_bytes-bytes.ensures ∙ ap (λ t. key_bytes (key_of t)) c.frame.ensures;
+      sorted =
+          c.in_default.ensures.ordered;
+      keyed = c.self.invariant.0.0;
+      absent =
+          c.in_default.ensures.value;
+    } in
     let no : false ≡ true = sym (absent_in_place (λ k. k.items) (λ v. v.items) c.args.gap x _ es a)
-        ∙ ap (λ t. fits_in_place c.args.gap x t) c.self.view_is ∙ p in
+    ∙ ap (λ t. fits_in_place c.args.gap x t) c.self.view_is ∙ p in
     absurd (cc)
 
 pub returns-then-is_err-clause-in_place : goal.returns-then-is_err-clause-in_place
@@ -161,72 +201,97 @@ returns-then-is_err-clause-in_place g c = λ p.
     let x = c.args.x.now in
     let es = c.self.inside.map.entries in
     let a : IsAbsent (λ k. k.items) (λ v. v.items) x c.assign.new.self.items es =
-    record { key = c.in_ok-assign.ensures.items ∙ c.as_slice.ensures.value
-        ∙ c.key_bytes-bytes.ensures ∙ ap (λ t. key_bytes (key_of t)) c.frame.ensures; sorted =
-        c.in_default.ensures.ordered; keyed = c.self.invariant.0.0; absent =
-        c.in_default.ensures.value } in
+    record {
+      key = c.in_ok-assign.ensures.items ∙ c.as_slice.ensures.value
+          ∙ c.key_bytes-bytes.ensures ∙ ap (λ t. key_bytes (key_of t)) c.frame.ensures;
+      sorted =
+          c.in_default.ensures.ordered;
+      keyed = c.self.invariant.0.0;
+      absent =
+          c.in_default.ensures.value;
+    } in
     sym (absent_in_place (λ k. k.items) (λ v. v.items) c.args.gap x _ es a)
-        ∙ ap (λ t. fits_in_place c.args.gap x t) c.self.view_is ∙ p
+    ∙ ap (λ t. fits_in_place c.args.gap x t) c.self.view_is ∙ p
 
 pub invariant_of-self-then-is_err : goal.invariant_of-self-then-is_err
 invariant_of-self-then-is_err g c =
     let same =
     on_err c.insert.result _ c.insert.ensures.err (sym c.if-is_err.true ∙ c.is_err.ensures.value)
     ∙ ap (λ m. m.entries) c.get_mut.follows.holds-at-none in
-    rw same (c.self.invariant.0, c.self.invariant.1, room_made c.self.inside.map.entries _
-        c.in_ok-assign.ensures.room)
+    rw same (
+      c.self.invariant.0,
+      c.self.invariant.1,
+      room_made c.self.inside.map.entries _
+          c.in_ok-assign.ensures.room,
+    )
 
 pub invariant_of-self-2 : goal.invariant_of-self-2
 invariant_of-self-2 g c =
     let x = c.args.x.now in
     let es = c.self.inside.map.entries in
     let a : IsAbsent (λ k. k.items) (λ v. v.items) x c.assign.new.self.items es =
-    record { key = c.in_ok-assign.ensures.items ∙ c.as_slice.ensures.value
-        ∙ c.key_bytes-bytes.ensures ∙ ap (λ t. key_bytes (key_of t)) c.frame.ensures; sorted =
-        c.in_default.ensures.ordered; keyed = c.self.invariant.0.0; absent =
-        c.in_default.ensures.value } in
+    record {
+      key = c.in_ok-assign.ensures.items ∙ c.as_slice.ensures.value
+          ∙ c.key_bytes-bytes.ensures ∙ ap (λ t. key_bytes (key_of t)) c.frame.ensures;
+      sorted =
+          c.in_default.ensures.ordered;
+      keyed = c.self.invariant.0.0;
+      absent =
+          c.in_default.ensures.value;
+    } in
     let put = on_not_err c.insert.result _ c.insert.ensures.entries c.if-is_err.ensures.value in
     let same = ap (λ m. m.entries) c.get_mut.follows.holds-at-none in
     let made = c.in_ok-put.ensures.inserted ∙ ap
-        (λ t. inserted c.args.gap x t) c.new-rows.ensures.items in
+    (λ t. inserted c.args.gap x t) c.new-rows.ensures.items in
     let done = absent_done (λ k. k.items) (λ v. v.items) c.args.gap x c.assign.new.self.items es
-        c.insert.new.self.entries c.in_ok-key.key c.put.new.rows a (c.in_ok-key.ensures) made
-        (put ∙ ap (λ t. insert_entry (λ p q. bytes_cmp p.items q.items) t c.in_ok-key.key
-        c.put.new.rows) same) in
-    ((done.1, rw (put ∙ ap (λ t. insert_entry (λ p q. bytes_cmp p.items q.items) t c.in_ok-key.key
-        c.put.new.rows) same) (filled_insert (λ k. k.items)
-        (λ v. v.items) c.in_ok-key.key es c.put.new.rows c.self.invariant.0.1
-        (rw made (inserted_some c.args.gap x [])))), count_insert (λ k. k.items)
-        (λ v. v.items) c.assign.new.self.items es c.insert.new.self.entries c.in_ok-key.key
-        c.put.new.rows c.new-rows.result.items c.self.inside.count c.put.new.count
-        c.in_default.ensures.value (c.in_ok-key.ensures) c.new-rows.ensures.items
-        (put ∙ ap (λ t. insert_entry (λ p q. bytes_cmp p.items q.items) t c.in_ok-key.key
-        c.put.new.rows) same) c.self.invariant.1 c.in_ok-put.ensures.counted, room_made
-        c.insert.new.self.entries _ c.in_ok-assign.ensures.room)
+    c.insert.new.self.entries c.in_ok-key.key c.put.new.rows a (c.in_ok-key.ensures) made
+    (put ∙ ap (λ t. insert_entry (λ p q. bytes_cmp p.items q.items) t c.in_ok-key.key
+    c.put.new.rows) same) in (
+      (
+        done.1,
+        rw (put ∙ ap (λ t. insert_entry (λ p q. bytes_cmp p.items q.items) t c.in_ok-key.key
+            c.put.new.rows) same) (filled_insert (λ k. k.items)
+            (λ v. v.items) c.in_ok-key.key es c.put.new.rows c.self.invariant.0.1
+            (rw made (inserted_some c.args.gap x []))),
+      ),
+      count_insert (λ k. k.items)
+          (λ v. v.items) c.assign.new.self.items es c.insert.new.self.entries c.in_ok-key.key
+          c.put.new.rows c.new-rows.result.items c.self.inside.count c.put.new.count
+          c.in_default.ensures.value (c.in_ok-key.ensures) c.new-rows.ensures.items
+          (put ∙ ap (λ t. insert_entry (λ p q. bytes_cmp p.items q.items) t c.in_ok-key.key
+          c.put.new.rows) same) c.self.invariant.1 c.in_ok-put.ensures.counted,
+      room_made
+          c.insert.new.self.entries _ c.in_ok-assign.ensures.room,
+    )
 
 pub returns-clause-inserted : goal.returns-clause-inserted
 returns-clause-inserted g c =
     let x = c.args.x.now in
     let es = c.self.inside.map.entries in
     let a : IsAbsent (λ k. k.items) (λ v. v.items) x c.assign.new.self.items es =
-    record { key = c.in_ok-assign.ensures.items ∙ c.as_slice.ensures.value
-        ∙ c.key_bytes-bytes.ensures ∙ ap (λ t. key_bytes (key_of t)) c.frame.ensures; sorted =
-        c.in_default.ensures.ordered; keyed = c.self.invariant.0.0; absent =
-        c.in_default.ensures.value } in
+    record {
+      key = c.in_ok-assign.ensures.items ∙ c.as_slice.ensures.value
+          ∙ c.key_bytes-bytes.ensures ∙ ap (λ t. key_bytes (key_of t)) c.frame.ensures;
+      sorted =
+          c.in_default.ensures.ordered;
+      keyed = c.self.invariant.0.0;
+      absent =
+          c.in_default.ensures.value;
+    } in
     let put = on_not_err c.insert.result _ c.insert.ensures.entries c.if-is_err.ensures.value in
     let same = ap (λ m. m.entries) c.get_mut.follows.holds-at-none in
     let made = c.in_ok-put.ensures.inserted ∙ ap
-        (λ t. inserted c.args.gap x t) c.new-rows.ensures.items in
+    (λ t. inserted c.args.gap x t) c.new-rows.ensures.items in
     (absent_done (λ k. k.items) (λ v. v.items) c.args.gap x c.assign.new.self.items es
-        c.insert.new.self.entries c.in_ok-key.key c.put.new.rows a (c.in_ok-key.ensures) made
-        (put ∙ ap (λ t. insert_entry (λ p q. bytes_cmp p.items q.items) t c.in_ok-key.key
-        c.put.new.rows) same)).0 ∙ ap (λ t. inserted c.args.gap x t) c.self.view_is
+    c.insert.new.self.entries c.in_ok-key.key c.put.new.rows a (c.in_ok-key.ensures) made
+    (put ∙ ap (λ t. insert_entry (λ p q. bytes_cmp p.items q.items) t c.in_ok-key.key
+    c.put.new.rows) same)).0 ∙ ap (λ t. inserted c.args.gap x t) c.self.view_is
 
 pub returns-in_err-put-clause-unchanged : goal.returns-in_err-put-clause-unchanged
 returns-in_err-put-clause-unchanged g c =
     err_stays (λ k. k.items) (λ v. v.items) c.from_residual-in_err-put.result
     c.self.inside.map.entries _ _ (ap (λ m. m.entries) c.get_mut.follows.holds-at-none)
-        c.self.view_is
+    c.self.view_is
 
 pub returns-then-is_err-clause-unchanged : goal.returns-then-is_err-clause-unchanged
 returns-then-is_err-clause-unchanged g c =

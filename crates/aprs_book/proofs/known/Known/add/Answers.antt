@@ -17,14 +17,14 @@ loop-bytes-preserved-in-Some-known g c =
           (known_at q c.loop-bytes.self) (known_at q c.note.new.self) c.in-Some-known.is
           (c.note.ensures q
           ∙ ap (λ b. cond (is_eq (bytes_cmp b q))
-              (Some (greater_known (known_at q c.place.new.self) c.in-Some-known.x))
-              (known_at q c.place.new.self))
+          (Some (greater_known (known_at q c.place.new.self) c.in-Some-known.x))
+          (known_at q c.place.new.self))
           c.as_slice-in-Some-known.ensures.value
           ∙ ap (λ k. cond (is_eq (bytes_cmp c.in-Some.bytes.now.items q))
-              (Some (greater_known k c.in-Some-known.x)) k)
+          (Some (greater_known k c.in-Some-known.x)) k)
           (c.in_ok-place.ensures.same q))
           ∙ ap (λ t. known_both (known_at q c.loop-bytes.self)
-              (known_at q (plain (λ k. k.items) t))) (sym steps)
+          (known_at q (plain (λ k. k.items) t))) (sym steps)
           ∙ c.loop-bytes.invariant.1 q,
     )
 

@@ -7,5 +7,5 @@ abbrev pub invariant-loop-bytes : goal.invariant-loop-bytes
 invariant-loop-bytes g l =
     Ascend (λ k. k.items) l.bytes-iterator
     × ((q : List ℕ) → known_both (known_at q l.self)
-        (known_at q (plain (λ k. k.items) l.bytes-iterator))
+    (known_at q (plain (λ k. k.items) l.bytes-iterator))
     ≡ known_both (known_at q l.initial.self) (known_at q l.other))
