@@ -258,7 +258,7 @@ fn is_refused(alloc: Global, units: usize) -> Result<bool, Fail> {
 fn widening_is_refused_for_memory(rt: HostRuntime) -> Result<(), Fail> {
     let mut refused = 0u64;
     let mut granted = 0u64;
-    for units in 0..64usize {
+    for units in 0..256usize {
         if is_refused(rt.alloc(), units)? {
             refused = refused.saturating_add(1);
         } else {
