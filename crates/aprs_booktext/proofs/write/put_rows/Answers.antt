@@ -2,7 +2,7 @@ use Rattle.std.proofs.Common.{arith}
 use Rattle.aprs_kiss.proofs.Bytes.{on_err}
 use Rattle.aprs_booktext.specs.Outbox.{line_and_lf}
 use Rattle.aprs_booktext.proofs.Sending.{PutSoFar-none, PutSoFar-more, prefix_of_more}
-use Rattle.aprs_booktext.proofs.Written.{WrittenSoFar-none, WrittenSoFar-more}
+use Rattle.aprs_booktext.proofs.Written.{WrittenSoFar-none, WrittenSoFar-more, WrittenSoFar-all}
 use Rattle.aprs_booktext.proofs.write.put_rows.Goals as goal
 
 pub loop-row-init : goal.loop-row-init
@@ -30,3 +30,8 @@ pub returns-in_err-put_row-clause-prefix : goal.returns-in_err-put_row-clause-pr
 returns-in_err-put_row-clause-prefix g c =
     on_err c.from_residual.result (prefix_of_more line_and_lf _ _ _ _ _ _ _ _ _
     c.loop-row.invariant.put c.in-Some.ensures.steps c.in_err-put_row.ensures.prefix)
+
+pub returns-clause-spelled : goal.returns-clause-spelled
+returns-clause-spelled g c =
+    WrittenSoFar-all c.args.book.now c.loop-row.row-iterator c.rows-row-items.ensures.sound
+    c.loop-row.invariant.written c.in-None.ensures.steps.0
