@@ -11,7 +11,7 @@ use Rattle.aprs_laws.specs.Best.{LastKnown}
 use Rattle.aprs_laws.specs.BestLaws.{Passes}
 use Rattle.aprs_laws.specs.Lists.{◌∈◌, Ordered}
 use Rattle.aprs_log.specs.Reception.{Heard}
-use Rattle.aprs_book.specs.Reports.{tells_position}
+use Rattle.aprs_book.specs.Reports.{reports_position}
 use Rattle.aprs_book.specs.Stations.{ComesBefore, IsSource}
 use Rattle.aprs_book.specs.declared.station.Station.{Station}
 use Rattle.aprs_tool.specs.Listing.{known_line, line_of, message_line, named_line, station_lines}
@@ -72,7 +72,7 @@ parts before after x line position status rest e =
 
 pub tells_position_of : (gap : ℕ) (S : List Heard) (text : List ℕ) (call : Call)
     (known : Option Heard) → IsListingOf gap S text → IsSource S call
-    → LastKnown S (Passes (tells_position call)) known
+    → LastKnown S (Passes (reports_position call)) known
     → TellsPosition text call known
 tells_position_of gap S text call known l source best =
     let found = (l.are_stations.sources call).1 source in
@@ -80,8 +80,8 @@ tells_position_of gap S text call known l source best =
     let x = cut.found in
     let rest = flat_map named_line l.named ++ flat_map message_line l.messages in
     let its = (l.are_stations.each x cut.member).position in
-    let same : x.position ≡ known = known_once S S (Passes (tells_position call)) x.position known
-    (λ s. (λ h. h, λ h. h)) (subst (λ c. LastKnown S (Passes (tells_position c)) x.position)
+    let same : x.position ≡ known = known_once S S (Passes (reports_position call)) x.position known
+    (λ s. (λ h. h, λ h. h)) (subst (λ c. LastKnown S (Passes (reports_position c)) x.position)
     cut.is its) best in
     record {
       before = cut.before;

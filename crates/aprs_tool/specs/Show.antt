@@ -14,7 +14,7 @@ use Rattle.aprs_laws.specs.Lists.{◌∈◌}
 use Rattle.aprs_laws.specs.Row.{Row}
 use Rattle.aprs_book.specs.Messages.{AreMessages}
 use Rattle.aprs_book.specs.Names.{AreNamed}
-use Rattle.aprs_book.specs.Reports.{tells_position}
+use Rattle.aprs_book.specs.Reports.{reports_position}
 use Rattle.aprs_book.specs.Stations.{AreStations, IsSource}
 use Rattle.aprs_book.specs.declared.message.MessageRow.{MessageRow}
 use Rattle.aprs_book.specs.declared.named.Named.{Named}
@@ -70,5 +70,5 @@ pub record TellsPosition (text : List ℕ) (call : Call) (known : Option Heard) 
 -- reception of a position report from it.
 abbrev pub ListingsTellPositions : ℕ → Type 0
 ListingsTellPositions gap = (S : List Heard) (text : List ℕ) (call : Call) (known : Option Heard)
-    → IsListingOf gap S text → IsSource S call → LastKnown S (Passes (tells_position call)) known
+    → IsListingOf gap S text → IsSource S call → LastKnown S (Passes (reports_position call)) known
     → TellsPosition text call known

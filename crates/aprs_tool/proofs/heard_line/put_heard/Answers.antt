@@ -8,7 +8,7 @@ use Rattle.aprs_tool.specs.Listing.{heard_line, report_line}
 use Rattle.aprs_tool.proofs.Lines.{PutsText-is}
 use Rattle.aprs_tool.proofs.heard_line.put_heard.Goals as goal
 
--- the report of a reception as it is lent tells its line
+-- the report of a reception as it is lent gives its line
 line_by : (x : Heard) (lent r : Report) → view lent ≡ report_of (key_of x.frame) → lent ≡ r
     → report_line x (view r) ≡ heard_line x
 line_by x lent r e is = ap (λ (r : Report). report_line x (view r)) (sym is) ∙ ap (report_line x) e
