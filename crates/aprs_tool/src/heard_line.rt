@@ -22,6 +22,25 @@ struct Whereabouts<'a> {
     comment: &'a [u8],
 }
 
+impl<'a> Whereabouts<'a> {
+    /// These parts of a report.
+    fn new(stamp: Option<Stamp>, place: Place, symbol: Symbol, comment: &'a [u8]) -> Whereabouts<'a>
+        ensures { result ≡ record {
+          stamp = stamp;
+          place = place;
+          symbol = symbol;
+          comment = comment.entry;
+        } }
+    {
+        Whereabouts {
+            stamp,
+            place,
+            symbol,
+            comment,
+        }
+    }
+}
+
 /// Puts the line of a position, a status, an object or an item. Other reports have none.
 pub fn put_heard<W: Write>(
     w: &mut Counted<W>,
@@ -40,12 +59,7 @@ pub fn put_heard<W: Write>(
             comment,
             ..
         } => {
-            let at = Whereabouts {
-                stamp,
-                place,
-                symbol,
-                comment,
-            };
+            let at = Whereabouts::new(stamp, place, symbol, comment);
             put_position(w, held, heard, &at)
         }
         Report::Object {
@@ -56,12 +70,7 @@ pub fn put_heard<W: Write>(
             symbol,
             comment,
         } => {
-            let at = Whereabouts {
-                stamp: Some(stamp),
-                place,
-                symbol,
-                comment,
-            };
+            let at = Whereabouts::new(Some(stamp), place, symbol, comment);
             put_name(w, held, b"object", name, live, heard, &at)
         }
         Report::Item {
@@ -71,12 +80,7 @@ pub fn put_heard<W: Write>(
             symbol,
             comment,
         } => {
-            let at = Whereabouts {
-                stamp: None,
-                place,
-                symbol,
-                comment,
-            };
+            let at = Whereabouts::new(None, place, symbol, comment);
             put_name(w, held, b"item", name, live, heard, &at)
         }
         Report::Status { stamp, text } => put_status(w, held, heard, stamp, text),
