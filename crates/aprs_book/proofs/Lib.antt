@@ -2,8 +2,6 @@
 mod Letters
 mod KnownSteps
 mod KeyBytes
-mod KeyOrder
-mod KeyRoom
 mod IndexSteps
 mod MergedKeys
 mod Entries

@@ -1,5 +1,4 @@
 -- Definitions that contracts of the book cite.
-pub mod BookKey
 pub mod Keyed
 pub mod KeptNames
 pub mod Known

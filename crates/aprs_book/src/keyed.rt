@@ -9,7 +9,6 @@ ghost use Rattle.aprs_laws.specs.Order.{IsBelow};
 ghost use Rattle.aprs_laws.specs.Inserted.{inserted, fits_in_place};
 ghost use Rattle.aprs_laws.specs.Sound.{Sound};
 
-use crate::book_key::BookKey;
 use crate::gap::Millis;
 use crate::kept_row::KeptRow;
 use crate::key_bytes::key_bytes;
@@ -28,11 +27,9 @@ use std::marker::Model;
 /// The rows of each key, by the bytes of the keys. No key is without rows.
 #[derive(Drop)]
 pub(crate) struct KeyedRows<A: Allocator = Global> {
-    map: BTreeMap<BookKey<A>, Vec<KeptRow<A>, A>, A>,
+    map: BTreeMap<Vec<u8, A>, Vec<KeptRow<A>, A>, A>,
     /// The number of the rows of all keys.
     count: usize,
-    /// The key that is looked up. Where there are rows, it has room for each key.
-    sought: BookKey<A>,
     alloc: A,
 }
 
@@ -40,15 +37,13 @@ impl<A: Allocator> Model for KeyedRows<A> {
     ghost use Rattle.std.specs.Prelude.{◌≡◌, List, length};
     ghost use Rattle.aprs_laws.specs.Row.{Row as RowValue};
     ghost use Rattle.aprs_book.specs.Keyed.{rows_of, AreKept};
-    ghost use Rattle.aprs_book.specs.BookKey.{HasRoom};
 
     ghost Value = { List RowValue };
 
     ghost view = { λ b. rows_of (λ k. k.items) (λ v. v.items) b.map.entries };
 
     ghost invariant = { λ b. AreKept (λ k. k.items) (λ v. v.items) b.map.entries
-        × (b.count ≡ length (rows_of (λ k. k.items) (λ v. v.items) b.map.entries))
-        × HasRoom b.map.entries b.sought.room };
+        × (b.count ≡ length (rows_of (λ k. k.items) (λ v. v.items) b.map.entries)) };
 }
 
 impl<A: Allocator + Copy> KeyedRows<A> {
@@ -59,7 +54,6 @@ impl<A: Allocator + Copy> KeyedRows<A> {
         KeyedRows {
             map: BTreeMap::new(alloc),
             count: 0,
-            sought: BookKey::new(alloc),
             alloc,
         }
     }
@@ -88,8 +82,6 @@ impl<A: Allocator + Copy> KeyedRows<A> {
         ensures { IfOk result (λ both. both ≡ coalesced gap (interleave self.now other.now)) }
     {
         let alloc = self.alloc;
-        let mut sought = BookKey::new(alloc);
-        sought.assign(&[])?;
         let mut map = BTreeMap::new(alloc);
         let mut ours = self.map.iter();
         let mut theirs = other.map.iter();
@@ -99,27 +91,27 @@ impl<A: Allocator + Copy> KeyedRows<A> {
             match (our, their) {
                 (None, None) => break,
                 (Some((key, x)), None) => {
-                    put_joined(alloc, gap, &mut map, key, x.as_slice())?;
+                    put_joined(alloc, gap, &mut map, key.as_slice(), x.as_slice())?;
                     our = ours.next();
                 }
                 (None, Some((key, y))) => {
-                    put_joined(alloc, gap, &mut map, key, y.as_slice())?;
+                    put_joined(alloc, gap, &mut map, key.as_slice(), y.as_slice())?;
                     their = theirs.next();
                 }
                 (Some((key, x)), Some((other_key, y))) => {
-                    match key.cmp(other_key) {
+                    match key.as_slice().cmp(other_key.as_slice()) {
                         Ordering::Less => {
-                            put_joined(alloc, gap, &mut map, key, x.as_slice())?;
+                            put_joined(alloc, gap, &mut map, key.as_slice(), x.as_slice())?;
                             our = ours.next();
                         }
                         Ordering::Equal => {
-                            let (x, y) = (x.as_slice(), y.as_slice());
-                            put_merged(alloc, gap, &mut map, key, x, y)?;
+                            let (k, x, y) = (key.as_slice(), x.as_slice(), y.as_slice());
+                            put_merged(alloc, gap, &mut map, k, x, y)?;
                             our = ours.next();
                             their = theirs.next();
                         }
                         Ordering::Greater => {
-                            put_joined(alloc, gap, &mut map, other_key, y.as_slice())?;
+                            put_joined(alloc, gap, &mut map, other_key.as_slice(), y.as_slice())?;
                             their = theirs.next();
                         }
                     }
@@ -127,12 +119,7 @@ impl<A: Allocator + Copy> KeyedRows<A> {
             }
         }
         let count = number_of_rows(&map)?;
-        Ok(KeyedRows {
-            map,
-            count,
-            sought,
-            alloc,
-        })
+        Ok(KeyedRows { map, count, alloc })
     }
 
     /// The last key's rows.
@@ -152,14 +139,13 @@ impl<A: Allocator + Copy> KeyedRows<A> {
         ensures unchanged { OnErr result (self.new ≡ self.old) }
     {
         let bytes = key_bytes(row.greatest().frame());
-        self.sought.assign(bytes.as_slice())?;
         let mut count = self.count;
-        if let Some(rows) = self.map.get_mut(&self.sought) {
+        if let Some(rows) = self.map.get_mut(bytes.as_slice()) {
             let pushed = push_one(rows, &mut count, row);
             self.count = count;
             return pushed;
         }
-        let key = self.sought.duplicate()?;
+        let key = owned(self.alloc, bytes.as_slice())?;
         let mut rows = Vec::new(self.alloc);
         push_one(&mut rows, &mut count, row)?;
         if self.map.insert(key, rows).is_err() {
@@ -197,14 +183,13 @@ impl<A: Allocator + Copy> KeyedRows<A> {
         ensures in_place { fits_in_place gap x.now self.old ≡ true → IsOk result }
     {
         let bytes = key_bytes(x.frame());
-        self.sought.assign(bytes.as_slice())?;
         let mut count = self.count;
-        if let Some(rows) = self.map.get_mut(&self.sought) {
+        if let Some(rows) = self.map.get_mut(bytes.as_slice()) {
             let taken = put(gap, rows, &mut count, x);
             self.count = count;
             return taken;
         }
-        let key = self.sought.duplicate()?;
+        let key = owned(self.alloc, bytes.as_slice())?;
         let mut rows = Vec::new(self.alloc);
         put(gap, &mut rows, &mut count, x)?;
         if self.map.insert(key, rows).is_err() {
@@ -239,7 +224,7 @@ fn push_one<A: Allocator + Copy>(
 
 /// The number of the rows of all keys.
 fn number_of_rows<A: Allocator + Copy>(
-    map: &BTreeMap<BookKey<A>, Vec<KeptRow<A>, A>, A>,
+    map: &BTreeMap<Vec<u8, A>, Vec<KeptRow<A>, A>, A>,
 ) -> Result<usize, Memory>
     ensures { IfOk result (λ n.
         n ≡ length (rows_of (λ k. k.items) (λ v. v.items) map.now.entries)) }

@@ -2,7 +2,6 @@
 #![tactic(auto)]
 
 mod book;
-mod book_key;
 mod from_parts;
 mod gap;
 mod greatest;
@@ -12,7 +11,6 @@ mod join;
 mod kept_names;
 mod kept_row;
 mod key_bytes;
-mod key_order;
 mod keyed;
 mod known;
 mod last_known;

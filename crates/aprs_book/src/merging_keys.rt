@@ -4,9 +4,9 @@ ghost use Rattle.aprs_laws.specs.JoinRow.{interleave, coalesced};
 ghost use Rattle.aprs_book.specs.Keyed.{PutsRows};
 
 use crate::Memory;
-use crate::book_key::BookKey;
 use crate::gap::Millis;
 use crate::kept_row::KeptRow;
+use crate::keyed::owned;
 use crate::merging::{joined_rows, merged_rows};
 use std::alloc::Allocator;
 use std::collections::BTreeMap;
@@ -15,15 +15,15 @@ use std::collections::BTreeMap;
 pub(crate) fn put_merged<A: Allocator + Copy>(
     alloc: A,
     gap: Millis,
-    map: &mut BTreeMap<BookKey<A>, Vec<KeptRow<A>, A>, A>,
-    key: &BookKey<A>,
+    map: &mut BTreeMap<Vec<u8, A>, Vec<KeptRow<A>, A>, A>,
+    key: &[u8],
     ours: &[KeptRow<A>],
     theirs: &[KeptRow<A>],
 ) -> Result<(), Memory>
     ensures { OnOk result (PutsRows (λ k. k.items) (λ v. v.items) map.old.entries map.new.entries
-        key.now.items (coalesced gap (interleave ours.now theirs.now))) }
+        key.now (coalesced gap (interleave ours.now theirs.now))) }
 {
-    let key = key.duplicate()?;
+    let key = owned(alloc, key)?;
     let rows = merged_rows(alloc, gap, ours, theirs)?;
     if map.insert(key, rows).is_err() {
         return Err(Memory);
@@ -35,14 +35,14 @@ pub(crate) fn put_merged<A: Allocator + Copy>(
 pub(crate) fn put_joined<A: Allocator + Copy>(
     alloc: A,
     gap: Millis,
-    map: &mut BTreeMap<BookKey<A>, Vec<KeptRow<A>, A>, A>,
-    key: &BookKey<A>,
+    map: &mut BTreeMap<Vec<u8, A>, Vec<KeptRow<A>, A>, A>,
+    key: &[u8],
     rows: &[KeptRow<A>],
 ) -> Result<(), Memory>
     ensures { OnOk result (PutsRows (λ k. k.items) (λ v. v.items) map.old.entries map.new.entries
-        key.now.items (coalesced gap rows.now)) }
+        key.now (coalesced gap rows.now)) }
 {
-    let key = key.duplicate()?;
+    let key = owned(alloc, key)?;
     let rows = joined_rows(alloc, gap, rows)?;
     if map.insert(key, rows).is_err() {
         return Err(Memory);

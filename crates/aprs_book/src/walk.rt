@@ -3,7 +3,6 @@ ghost use Rattle.std.specs.Prelude.{◌≡◌, ◌++◌, List};
 ghost use Rattle.std.specs.List.{flat_map};
 ghost use Rattle.std.specs.Iterator.{YieldsFirstRef, item_count};
 
-use crate::book_key::BookKey;
 use crate::kept_row::KeptRow;
 use std::alloc::{Allocator, Global};
 use std::collections::btree_map::Values;
@@ -13,7 +12,7 @@ use std::marker::Model;
 #[derive(Drop)]
 pub(crate) struct Walk<'a, A: Allocator = Global> {
     rows: &'a [KeptRow<A>],
-    others: Values<'a, BookKey<A>, Vec<KeptRow<A>, A>>,
+    others: Values<'a, Vec<u8, A>, Vec<KeptRow<A>, A>>,
 }
 
 impl<'a, A: Allocator> Model for Walk<'a, A> {
@@ -28,7 +27,7 @@ impl<'a, A: Allocator> Model for Walk<'a, A> {
 
 impl<'a, A: Allocator> Walk<'a, A> {
     /// These rows of all keys.
-    pub(crate) fn of(others: Values<'a, BookKey<A>, Vec<KeptRow<A>, A>>) -> Walk<'a, A>
+    pub(crate) fn of(others: Values<'a, Vec<u8, A>, Vec<KeptRow<A>, A>>) -> Walk<'a, A>
         ensures { result ≡ flat_map (λ v. v.items) others.entry }
     {
         Walk { rows: &[], others }

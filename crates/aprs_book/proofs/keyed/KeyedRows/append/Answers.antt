@@ -4,43 +4,16 @@ use Rattle.aprs_log.specs.Reception.{Heard, bytes_cmp}
 use Rattle.aprs_laws.specs.Key.{key_of}
 use Rattle.aprs_book.specs.Keyed.{key_bytes, EndsUpTo}
 use Rattle.aprs_book.proofs.Entries.{on_not_err, on_err}
-use Rattle.aprs_book.proofs.KeyRoom.{room_made, room_stays}
 use Rattle.aprs_book.proofs.EntryEnds.{stays, err_stays, count_set, count_insert, IsAfter, after_ok, after_err, after_kept, after_new}
 use Rattle.aprs_book.proofs.keyed.KeyedRows.append.Goals as goal
 
 pub invariant_of-self : goal.invariant_of-self
-invariant_of-self g c = (
-  c.self.invariant.0,
-  c.self.invariant.1,
-  room_stays c.self.inside.map.entries c.self.inside.sought.room c.assign.new.self.room
-      c.self.invariant.2 c.assign.ensures.stays,
-)
-
-pub invariant_of-self-in_err-key : goal.invariant_of-self-in_err-key
-invariant_of-self-in_err-key g c =
-    rw (ap (λ m. m.entries) c.get_mut.follows.holds-at-none) (
-      c.self.invariant.0,
-      c.self.invariant.1,
-      room_made c.self.inside.map.entries _
-          c.in_ok-assign.ensures.room,
-    )
-
-pub invariant_of-self-in_err-push_one : goal.invariant_of-self-in_err-push_one
-invariant_of-self-in_err-push_one g c =
-    rw (ap (λ m. m.entries) c.get_mut.follows.holds-at-none) (
-      c.self.invariant.0,
-      c.self.invariant.1,
-      room_made c.self.inside.map.entries _
-          c.in_ok-assign.ensures.room,
-    )
-
-pub invariant_of-self-in-Some : goal.invariant_of-self-in-Some
-invariant_of-self-in-Some g c =
+invariant_of-self g c =
     let x = c.args.row in
     let es = c.self.inside.map.entries in
-    let b : IsAfter (λ k. k.items) (λ v. v.items) x c.assign.new.self.items es =
+    let b : IsAfter (λ k. k.items) (λ v. v.items) x c.as_slice.result.now es =
     record {
-      key = c.in_ok-assign.ensures.items ∙ c.as_slice.ensures.value ∙ c.key_bytes-bytes.ensures
+      key = c.as_slice.ensures.value ∙ c.key_bytes-bytes.ensures
           ∙ ap (λ t. key_bytes (key_of t)) (c.frame.ensures
           ∙ ap (λ (t : Heard). t.frame) c.greatest.ensures);
       sorted = c.in-Some.ensures.ordered;
@@ -50,22 +23,20 @@ invariant_of-self-in-Some g c =
       after_kept (λ k. k.items) (λ v. v.items) x _ es _ _ _ c.push_one-pushed.result b
           c.in-Some.ensures.value (c.get_mut.follows.holds c.push_one-pushed.new.rows).0
           c.push_one-pushed.ensures.added c.push_one-pushed.ensures.unchanged,
-      count_set (λ k. k.items) (λ v. v.items) c.assign.new.self.items es _ c.in-Some.rows.now
+      count_set (λ k. k.items) (λ v. v.items) c.as_slice.result.now es _ c.in-Some.rows.now
           c.push_one-pushed.new.rows
           c.self.inside.count c.push_one-pushed.new.count c.in-Some.ensures.value
           (c.get_mut.follows.holds c.push_one-pushed.new.rows).0 c.self.invariant.1
           c.push_one-pushed.ensures.counted,
-      room_made (c.get_mut.follows.lender c.push_one-pushed.new.rows).entries _
-          c.in_ok-assign.ensures.room,
     )
 
 pub returns-in-Some-clause-added : goal.returns-in-Some-clause-added
 returns-in-Some-clause-added g c =
     let x = c.args.row in
     let es = c.self.inside.map.entries in
-    let b : IsAfter (λ k. k.items) (λ v. v.items) x c.assign.new.self.items es =
+    let b : IsAfter (λ k. k.items) (λ v. v.items) x c.as_slice.result.now es =
     record {
-      key = c.in_ok-assign.ensures.items ∙ c.as_slice.ensures.value ∙ c.key_bytes-bytes.ensures
+      key = c.as_slice.ensures.value ∙ c.key_bytes-bytes.ensures
           ∙ ap (λ t. key_bytes (key_of t)) (c.frame.ensures
           ∙ ap (λ (t : Heard). t.frame) c.greatest.ensures);
       sorted = c.in-Some.ensures.ordered;
@@ -88,20 +59,15 @@ invariant_of-self-then-is_err g c =
     let same =
     on_err c.insert.result _ c.insert.ensures.err (sym c.if-is_err.true ∙ c.is_err.ensures.value)
     ∙ ap (λ m. m.entries) c.get_mut.follows.holds-at-none in
-    rw same (
-      c.self.invariant.0,
-      c.self.invariant.1,
-      room_made c.self.inside.map.entries _
-          c.in_ok-assign.ensures.room,
-    )
+    rw same c.self.invariant
 
 pub invariant_of-self-2 : goal.invariant_of-self-2
 invariant_of-self-2 g c =
     let x = c.args.row in
     let es = c.self.inside.map.entries in
-    let b : IsAfter (λ k. k.items) (λ v. v.items) x c.assign.new.self.items es =
+    let b : IsAfter (λ k. k.items) (λ v. v.items) x c.as_slice.result.now es =
     record {
-      key = c.in_ok-assign.ensures.items ∙ c.as_slice.ensures.value ∙ c.key_bytes-bytes.ensures
+      key = c.as_slice.ensures.value ∙ c.key_bytes-bytes.ensures
           ∙ ap (λ t. key_bytes (key_of t)) (c.frame.ensures
           ∙ ap (λ (t : Heard). t.frame) c.greatest.ensures);
       sorted = c.in_default.ensures.ordered;
@@ -111,26 +77,27 @@ invariant_of-self-2 g c =
     let put = on_not_err c.insert.result _ c.insert.ensures.entries c.if-is_err.ensures.value in
     let same = ap (λ m. m.entries) c.get_mut.follows.holds-at-none in (
       (after_new (λ k. k.items) (λ v. v.items) x _ es _ c.in_ok-key.key c.push_one.new.rows b
-          c.in_default.ensures.value (c.in_ok-key.ensures)
-          (c.in_ok-push_one.ensures.added ∙ ap (λ t. t ++ x ∷ []) c.new-rows.ensures.items)
+          c.in_default.ensures.value (c.in_ok-key.ensures ∙ c.as_slice-2.ensures.value
+          ∙ sym c.as_slice.ensures.value) (c.in_ok-push_one.ensures.added
+          ∙ ap (λ t. t ++ x ∷ []) c.new-rows.ensures.items)
           (put ∙ ap (λ t. insert_entry (λ p q. bytes_cmp p.items q.items) t c.in_ok-key.key
           c.push_one.new.rows) same)).1,
-      count_insert (λ k. k.items) (λ v. v.items) c.assign.new.self.items es
-          c.insert.new.self.entries c.in_ok-key.key c.push_one.new.rows c.new-rows.result.items
-          c.self.inside.count c.push_one.new.count c.in_default.ensures.value
-          (c.in_ok-key.ensures) c.new-rows.ensures.items
-          (put ∙ ap (λ t. insert_entry (λ p q. bytes_cmp p.items q.items) t c.in_ok-key.key
-          c.push_one.new.rows) same) c.self.invariant.1 c.in_ok-push_one.ensures.counted,
-      room_made c.insert.new.self.entries _ c.in_ok-assign.ensures.room,
+      count_insert (λ k. k.items) (λ v. v.items) c.as_slice.result.now es c.insert.new.self.entries
+          c.in_ok-key.key c.push_one.new.rows c.new-rows.result.items c.self.inside.count
+          c.push_one.new.count c.in_default.ensures.value
+          (c.in_ok-key.ensures ∙ c.as_slice-2.ensures.value ∙ sym c.as_slice.ensures.value)
+          c.new-rows.ensures.items (put ∙ ap (λ t. insert_entry
+          (λ p q. bytes_cmp p.items q.items) t c.in_ok-key.key c.push_one.new.rows) same)
+          c.self.invariant.1 c.in_ok-push_one.ensures.counted,
     )
 
 pub returns-clause-added : goal.returns-clause-added
 returns-clause-added g c =
     let x = c.args.row in
     let es = c.self.inside.map.entries in
-    let b : IsAfter (λ k. k.items) (λ v. v.items) x c.assign.new.self.items es =
+    let b : IsAfter (λ k. k.items) (λ v. v.items) x c.as_slice.result.now es =
     record {
-      key = c.in_ok-assign.ensures.items ∙ c.as_slice.ensures.value ∙ c.key_bytes-bytes.ensures
+      key = c.as_slice.ensures.value ∙ c.key_bytes-bytes.ensures
           ∙ ap (λ t. key_bytes (key_of t)) (c.frame.ensures
           ∙ ap (λ (t : Heard). t.frame) c.greatest.ensures);
       sorted = c.in_default.ensures.ordered;
@@ -141,8 +108,8 @@ returns-clause-added g c =
     let same = ap (λ m. m.entries) c.get_mut.follows.holds-at-none in
     rw (← c.self.view_is) (after_new (λ k. k.items)
     (λ v. v.items) x _ es _ c.in_ok-key.key c.push_one.new.rows b c.in_default.ensures.value
-    (c.in_ok-key.ensures) (c.in_ok-push_one.ensures.added
-    ∙ ap (λ t. t ++ x ∷ []) c.new-rows.ensures.items)
+    (c.in_ok-key.ensures ∙ c.as_slice-2.ensures.value ∙ sym c.as_slice.ensures.value)
+    (c.in_ok-push_one.ensures.added ∙ ap (λ t. t ++ x ∷ []) c.new-rows.ensures.items)
     (put ∙ ap (λ t. insert_entry (λ p q. bytes_cmp p.items q.items) t c.in_ok-key.key
     c.push_one.new.rows) same)).0
 

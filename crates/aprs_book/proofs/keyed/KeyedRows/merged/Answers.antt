@@ -1,4 +1,4 @@
-use Rattle.std.proofs.Common.{◌∙◌, refl, arith}
+use Rattle.std.proofs.Common.{◌∙◌, arith}
 use Rattle.aprs_book.proofs.Names.{same_bytes}
 use Rattle.aprs_book.proofs.MergedEntries.{first_goes, second_goes, both_go, above_none, above_some, turned, held_length, held_some, ends, starts}
 use Rattle.std.proofs.Common.{sym}
@@ -20,8 +20,9 @@ loop-our-preserved-in-Some-None g c =
     c.put_joined-in-Some-None.new.map.entries
     (c.in-Some-None.key, c.in-Some-None.x) c.loop-our.ours c.next-our-in-Some-None.new.self
     c.loop-our.theirs c.loop-our.our c.loop-our.their c.next-our-in-Some-None.result
-    c.in-Some-None.key.now.items c.as_slice-in-Some-None.result.now refl
-    c.as_slice-in-Some-None.ensures.value c.in_ok-put_joined-in-Some-None.ensures
+    c.as_slice-in-Some-None.result.now c.as_slice-in-Some-None-2.result.now
+    c.as_slice-in-Some-None.ensures.value c.as_slice-in-Some-None-2.ensures.value
+    c.in_ok-put_joined-in-Some-None.ensures
     c.in-Some-None.is-0 c.loop-our.invariant
     (above_none (λ k. k.items) (λ v. v.items) _ _ _ c.in-Some-None.is-1)
     c.next-our-in-Some-None.ensures.steps
@@ -32,8 +33,8 @@ loop-our-preserved-in-None-Some g c =
     c.put_joined.new.map.entries
     (c.in-None-Some.key, c.in-None-Some.y) c.loop-our.theirs c.next-their-in-None-Some.new.self
     c.loop-our.ours c.loop-our.their c.loop-our.our c.next-their-in-None-Some.result
-    c.in-None-Some.key.now.items c.as_slice.result.now refl c.as_slice.ensures.value
-    c.in_ok-put_joined-in-None-Some.ensures
+    c.as_slice.result.now c.as_slice-in-None-Some.result.now c.as_slice.ensures.value
+    c.as_slice-in-None-Some.ensures.value c.in_ok-put_joined-in-None-Some.ensures
     c.in-None-Some.is-1 c.loop-our.invariant
     (above_none (λ k. k.items) (λ v. v.items) _ _ _ c.in-None-Some.is-0)
     c.next-their-in-None-Some.ensures.steps
@@ -44,11 +45,12 @@ loop-our-preserved-in-Less g c =
     c.put_joined-in-Less.new.map.entries
     (c.in-Some-Some.key, c.in-Some-Some.x) c.loop-our.ours c.next-our-in-Less.new.self
     c.loop-our.theirs c.loop-our.our c.loop-our.their c.next-our-in-Less.result
-    c.in-Some-Some.key.now.items c.as_slice-in-Less.result.now refl c.as_slice-in-Less.ensures.value
-    c.in_ok-put_joined-in-Less.ensures
+    c.as_slice-in-Less.result.now c.as_slice-in-Less-2.result.now c.as_slice-in-Less.ensures.value
+    c.as_slice-in-Less-2.ensures.value c.in_ok-put_joined-in-Less.ensures
     c.in-Some-Some.is-0 c.loop-our.invariant
     (above_some (λ k. k.items) (λ v. v.items) _ _ _
-    (c.in-Some-Some.other_key, c.in-Some-Some.y) _ _ c.in-Some-Some.is-1 refl refl
+    (c.in-Some-Some.other_key, c.in-Some-Some.y) _ _ c.in-Some-Some.is-1
+    c.as_slice-in-Some-Some.ensures.value c.as_slice-in-Some-Some-2.ensures.value
     (sym c.cmp.ensures ∙ c.in-Less.is))
     c.next-our-in-Less.ensures.steps
 
@@ -58,12 +60,14 @@ loop-our-preserved g c =
     c.put_joined-in-Greater.new.map.entries
     (c.in-Some-Some.other_key, c.in-Some-Some.y) c.loop-our.theirs c.next-their-in-Greater.new.self
     c.loop-our.ours c.loop-our.their c.loop-our.our c.next-their-in-Greater.result
-    c.in-Some-Some.other_key.now.items c.as_slice-in-Greater.result.now refl
-    c.as_slice-in-Greater.ensures.value c.in_ok-put_joined-in-Greater.ensures
+    c.as_slice-in-Greater.result.now c.as_slice-in-Greater-2.result.now
+    c.as_slice-in-Greater.ensures.value c.as_slice-in-Greater-2.ensures.value
+    c.in_ok-put_joined-in-Greater.ensures
     c.in-Some-Some.is-1 c.loop-our.invariant
     (above_some (λ k. k.items) (λ v. v.items) _ _ _
-    (c.in-Some-Some.key, c.in-Some-Some.x) _ _ c.in-Some-Some.is-0 refl refl
-    (turned c.in-Some-Some.key.now.items c.in-Some-Some.other_key.now.items
+    (c.in-Some-Some.key, c.in-Some-Some.x) _ _ c.in-Some-Some.is-0
+    c.as_slice-in-Some-Some-2.ensures.value c.as_slice-in-Some-Some.ensures.value
+    (turned c.as_slice-in-Some-Some.result.now c.as_slice-in-Some-Some-2.result.now
     (sym c.cmp.ensures ∙ c.in-Greater.is)))
     c.next-their-in-Greater.ensures.steps
 
@@ -74,33 +78,14 @@ loop-our-preserved-in-Equal g c =
     (c.in-Some-Some.key, c.in-Some-Some.x) (c.in-Some-Some.other_key, c.in-Some-Some.y)
     c.loop-our.ours c.next-our-in-Equal.new.self c.loop-our.theirs c.next-their-in-Equal.new.self
     c.loop-our.our c.loop-our.their c.next-our-in-Equal.result c.next-their-in-Equal.result
-    c.in-Some-Some.key.now.items c.as_slice-x.result.now c.as_slice-y.result.now
-    refl c.as_slice-x.ensures.value c.as_slice-y.ensures.value
+    c.as_slice-k.result.now c.as_slice-x.result.now c.as_slice-y.result.now
+    c.as_slice-k.ensures.value c.as_slice-x.ensures.value c.as_slice-y.ensures.value
     c.in_ok-put_merged-in-Equal.ensures c.in-Some-Some.is-0 c.in-Some-Some.is-1
     c.loop-our.invariant
-    (same_bytes c.in-Some-Some.key.now.items c.in-Some-Some.other_key.now.items
-    (sym c.cmp.ensures ∙ c.in-Equal.is))
+    (sym c.as_slice-in-Some-Some.ensures.value
+    ∙ same_bytes c.as_slice-in-Some-Some.result.now c.as_slice-in-Some-Some-2.result.now
+    (sym c.cmp.ensures ∙ c.in-Equal.is) ∙ c.as_slice-in-Some-Some-2.ensures.value)
     c.next-our-in-Equal.ensures.steps c.next-their-in-Equal.ensures.steps
-
-pub loop-our-smaller-in-Some-None : goal.loop-our-smaller-in-Some-None
-loop-our-smaller-in-Some-None g c =
-    omega (
-      arith,
-      held_length c.next-our-in-Some-None.result c.loop-our.ours c.next-our-in-Some-None.new.self
-          c.next-our-in-Some-None.ensures.steps,
-      held_some c.loop-our.our (c.in-Some-None.key, c.in-Some-None.x) c.loop-our.ours
-          c.in-Some-None.is-0,
-    )
-
-pub loop-our-smaller-in-None-Some : goal.loop-our-smaller-in-None-Some
-loop-our-smaller-in-None-Some g c =
-    omega (
-      arith,
-      held_length c.next-their-in-None-Some.result c.loop-our.theirs
-          c.next-their-in-None-Some.new.self c.next-their-in-None-Some.ensures.steps,
-      held_some c.loop-our.their (c.in-None-Some.key, c.in-None-Some.y) c.loop-our.theirs
-          c.in-None-Some.is-1,
-    )
 
 pub loop-our-smaller-in-Less : goal.loop-our-smaller-in-Less
 loop-our-smaller-in-Less g c =

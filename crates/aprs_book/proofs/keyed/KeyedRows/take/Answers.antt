@@ -7,21 +7,20 @@ use Rattle.aprs_laws.specs.Inserted.{inserted, fits_in_place}
 use Rattle.aprs_book.specs.Keyed.{key_bytes, HaveKey}
 use Rattle.aprs_book.proofs.Searches.{none_sound, found_sound}
 use Rattle.aprs_book.proofs.Entries.{found_key, IsWritten, written_ok, written_err, written_keyed, written_in_place, IsAbsent, absent_in_place, absent_done, on_not_err, on_err}
-use Rattle.aprs_book.proofs.KeyRoom.{room_made, room_stays}
-use Rattle.aprs_book.proofs.EntryEnds.{stays, err_stays, found_length, count_set, count_insert, inserted_some, filled_insert, written_filled}
+use Rattle.aprs_book.proofs.EntryEnds.{found_length, count_set, count_insert, inserted_some, filled_insert, written_filled}
 use Rattle.aprs_book.proofs.keyed.KeyedRows.take.Goals as goal
 
 pub put-taken-requires-clause-keyed : goal.put-taken-requires-clause-keyed
 put-taken-requires-clause-keyed g c =
     subst (λ (k : List ℕ). HaveKey k c.in-Some.rows.now.items)
-    (c.in_ok-assign.ensures.items ∙ c.as_slice.ensures.value ∙ c.key_bytes-bytes.ensures
+    (c.as_slice.ensures.value ∙ c.key_bytes-bytes.ensures
     ∙ ap (λ t. key_bytes (key_of t)) c.frame.ensures)
-    (found_key (λ k. k.items) (λ v. v.items) c.assign.new.self.items c.self.inside.map.entries
+    (found_key (λ k. k.items) (λ v. v.items) c.as_slice.result.now c.self.inside.map.entries
     c.in-Some.rows.now c.self.invariant.0.0 (sym c.in-Some.ensures.value))
 
 pub put-taken-requires-clause-sound : goal.put-taken-requires-clause-sound
 put-taken-requires-clause-sound g c =
-    found_sound (λ k. k.items) (λ v. v.items) c.args.gap c.assign.new.self.items
+    found_sound (λ k. k.items) (λ v. v.items) c.args.gap c.as_slice.result.now
     c.self.inside.map.entries
     c.in-Some.rows.now (subst (Sound c.args.gap) (sym c.self.view_is) c.requires)
     (sym c.in-Some.ensures.value)
@@ -30,7 +29,7 @@ pub put-taken-requires-clause-fewer : goal.put-taken-requires-clause-fewer
 put-taken-requires-clause-fewer g c =
     omega (
       arith,
-      found_length (λ k. k.items) (λ v. v.items) c.assign.new.self.items c.self.inside.map.entries
+      found_length (λ k. k.items) (λ v. v.items) c.as_slice.result.now c.self.inside.map.entries
           c.in-Some.rows.now c.in-Some.ensures.value,
       c.self.invariant.1,
     )
@@ -42,41 +41,15 @@ pub put-requires-clause-sound : goal.put-requires-clause-sound
 put-requires-clause-sound g c = none_sound c.args.gap _ c.new-rows.ensures.items
 
 pub invariant_of-self : goal.invariant_of-self
-invariant_of-self g c = (
-  c.self.invariant.0,
-  c.self.invariant.1,
-  room_stays c.self.inside.map.entries c.self.inside.sought.room c.assign.new.self.room
-      c.self.invariant.2 c.assign.ensures.stays,
-)
-
-pub invariant_of-self-in_err-key : goal.invariant_of-self-in_err-key
-invariant_of-self-in_err-key g c =
-    rw (ap (λ m. m.entries) c.get_mut.follows.holds-at-none) (
-      c.self.invariant.0,
-      c.self.invariant.1,
-      room_made c.self.inside.map.entries _
-          c.in_ok-assign.ensures.room,
-    )
-
-pub invariant_of-self-in_err-put : goal.invariant_of-self-in_err-put
-invariant_of-self-in_err-put g c =
-    rw (ap (λ m. m.entries) c.get_mut.follows.holds-at-none) (
-      c.self.invariant.0,
-      c.self.invariant.1,
-      room_made c.self.inside.map.entries _
-          c.in_ok-assign.ensures.room,
-    )
-
-pub invariant_of-self-in-Some : goal.invariant_of-self-in-Some
-invariant_of-self-in-Some g c =
+invariant_of-self g c =
     let x = c.args.x.now in
     let es = c.self.inside.map.entries in
-    let w : IsWritten (λ k. k.items) (λ v. v.items) x c.assign.new.self.items es
+    let w : IsWritten (λ k. k.items) (λ v. v.items) x c.as_slice.result.now es
     (c.get_mut.follows.lender c.put-taken.new.rows).entries c.in-Some.rows.now
     c.put-taken.new.rows =
     record {
-      key = c.in_ok-assign.ensures.items ∙ c.as_slice.ensures.value
-          ∙ c.key_bytes-bytes.ensures ∙ ap (λ t. key_bytes (key_of t)) c.frame.ensures;
+      key = c.as_slice.ensures.value ∙ c.key_bytes-bytes.ensures
+          ∙ ap (λ t. key_bytes (key_of t)) c.frame.ensures;
       sorted =
           c.in-Some.ensures.ordered;
       keyed = c.self.invariant.0.0;
@@ -90,25 +63,23 @@ invariant_of-self-in-Some g c =
         written_filled (λ k. k.items) (λ v. v.items) c.args.gap x _ es _ _ _ c.put-taken.result w
             c.self.invariant.0.1 c.put-taken.ensures.inserted c.put-taken.ensures.unchanged,
       ),
-      count_set (λ k. k.items) (λ v. v.items) c.assign.new.self.items es _ c.in-Some.rows.now
+      count_set (λ k. k.items) (λ v. v.items) c.as_slice.result.now es _ c.in-Some.rows.now
           c.put-taken.new.rows
           c.self.inside.count c.put-taken.new.count c.in-Some.ensures.value
           (c.get_mut.follows.holds c.put-taken.new.rows).0 c.self.invariant.1
           c.put-taken.ensures.counted,
-      room_made (c.get_mut.follows.lender c.put-taken.new.rows).entries _
-          c.in_ok-assign.ensures.room,
     )
 
 pub returns-in-Some-clause-inserted : goal.returns-in-Some-clause-inserted
 returns-in-Some-clause-inserted g c =
     let x = c.args.x.now in
     let es = c.self.inside.map.entries in
-    let w : IsWritten (λ k. k.items) (λ v. v.items) x c.assign.new.self.items es
+    let w : IsWritten (λ k. k.items) (λ v. v.items) x c.as_slice.result.now es
     (c.get_mut.follows.lender c.put-taken.new.rows).entries c.in-Some.rows.now
     c.put-taken.new.rows =
     record {
-      key = c.in_ok-assign.ensures.items ∙ c.as_slice.ensures.value
-          ∙ c.key_bytes-bytes.ensures ∙ ap (λ t. key_bytes (key_of t)) c.frame.ensures;
+      key = c.as_slice.ensures.value ∙ c.key_bytes-bytes.ensures
+          ∙ ap (λ t. key_bytes (key_of t)) c.frame.ensures;
       sorted =
           c.in-Some.ensures.ordered;
       keyed = c.self.invariant.0.0;
@@ -123,12 +94,12 @@ pub returns-in-Some-clause-unchanged : goal.returns-in-Some-clause-unchanged
 returns-in-Some-clause-unchanged g c =
     let x = c.args.x.now in
     let es = c.self.inside.map.entries in
-    let w : IsWritten (λ k. k.items) (λ v. v.items) x c.assign.new.self.items es
+    let w : IsWritten (λ k. k.items) (λ v. v.items) x c.as_slice.result.now es
     (c.get_mut.follows.lender c.put-taken.new.rows).entries c.in-Some.rows.now
     c.put-taken.new.rows =
     record {
-      key = c.in_ok-assign.ensures.items ∙ c.as_slice.ensures.value
-          ∙ c.key_bytes-bytes.ensures ∙ ap (λ t. key_bytes (key_of t)) c.frame.ensures;
+      key = c.as_slice.ensures.value ∙ c.key_bytes-bytes.ensures
+          ∙ ap (λ t. key_bytes (key_of t)) c.frame.ensures;
       sorted =
           c.in-Some.ensures.ordered;
       keyed = c.self.invariant.0.0;
@@ -143,12 +114,12 @@ pub returns-in-Some-clause-in_place : goal.returns-in-Some-clause-in_place
 returns-in-Some-clause-in_place g c = λ p.
     let x = c.args.x.now in
     let es = c.self.inside.map.entries in
-    let w : IsWritten (λ k. k.items) (λ v. v.items) x c.assign.new.self.items es
+    let w : IsWritten (λ k. k.items) (λ v. v.items) x c.as_slice.result.now es
     (c.get_mut.follows.lender c.put-taken.new.rows).entries c.in-Some.rows.now
     c.put-taken.new.rows =
     record {
-      key = c.in_ok-assign.ensures.items ∙ c.as_slice.ensures.value
-          ∙ c.key_bytes-bytes.ensures ∙ ap (λ t. key_bytes (key_of t)) c.frame.ensures;
+      key = c.as_slice.ensures.value ∙ c.key_bytes-bytes.ensures
+          ∙ ap (λ t. key_bytes (key_of t)) c.frame.ensures;
       sorted =
           c.in-Some.ensures.ordered;
       keyed = c.self.invariant.0.0;
@@ -164,10 +135,10 @@ pub returns-in_err-key-clause-in_place : goal.returns-in_err-key-clause-in_place
 returns-in_err-key-clause-in_place g c = λ p.
     let x = c.args.x.now in
     let es = c.self.inside.map.entries in
-    let a : IsAbsent (λ k. k.items) (λ v. v.items) x c.assign.new.self.items es =
+    let a : IsAbsent (λ k. k.items) (λ v. v.items) x c.as_slice.result.now es =
     record {
-      key = c.in_ok-assign.ensures.items ∙ c.as_slice.ensures.value
-          ∙ c.key_bytes-bytes.ensures ∙ ap (λ t. key_bytes (key_of t)) c.frame.ensures;
+      key = c.as_slice.ensures.value ∙ c.key_bytes-bytes.ensures
+          ∙ ap (λ t. key_bytes (key_of t)) c.frame.ensures;
       sorted =
           c.in_default.ensures.ordered;
       keyed = c.self.invariant.0.0;
@@ -182,10 +153,10 @@ pub returns-in_err-put-clause-in_place : goal.returns-in_err-put-clause-in_place
 returns-in_err-put-clause-in_place g c = λ p.
     let x = c.args.x.now in
     let es = c.self.inside.map.entries in
-    let a : IsAbsent (λ k. k.items) (λ v. v.items) x c.assign.new.self.items es =
+    let a : IsAbsent (λ k. k.items) (λ v. v.items) x c.as_slice.result.now es =
     record {
-      key = c.in_ok-assign.ensures.items ∙ c.as_slice.ensures.value
-          ∙ c.key_bytes-bytes.ensures ∙ ap (λ t. key_bytes (key_of t)) c.frame.ensures;
+      key = c.as_slice.ensures.value ∙ c.key_bytes-bytes.ensures
+          ∙ ap (λ t. key_bytes (key_of t)) c.frame.ensures;
       sorted =
           c.in_default.ensures.ordered;
       keyed = c.self.invariant.0.0;
@@ -200,10 +171,10 @@ pub returns-then-is_err-clause-in_place : goal.returns-then-is_err-clause-in_pla
 returns-then-is_err-clause-in_place g c = λ p.
     let x = c.args.x.now in
     let es = c.self.inside.map.entries in
-    let a : IsAbsent (λ k. k.items) (λ v. v.items) x c.assign.new.self.items es =
+    let a : IsAbsent (λ k. k.items) (λ v. v.items) x c.as_slice.result.now es =
     record {
-      key = c.in_ok-assign.ensures.items ∙ c.as_slice.ensures.value
-          ∙ c.key_bytes-bytes.ensures ∙ ap (λ t. key_bytes (key_of t)) c.frame.ensures;
+      key = c.as_slice.ensures.value ∙ c.key_bytes-bytes.ensures
+          ∙ ap (λ t. key_bytes (key_of t)) c.frame.ensures;
       sorted =
           c.in_default.ensures.ordered;
       keyed = c.self.invariant.0.0;
@@ -218,21 +189,16 @@ invariant_of-self-then-is_err g c =
     let same =
     on_err c.insert.result _ c.insert.ensures.err (sym c.if-is_err.true ∙ c.is_err.ensures.value)
     ∙ ap (λ m. m.entries) c.get_mut.follows.holds-at-none in
-    rw same (
-      c.self.invariant.0,
-      c.self.invariant.1,
-      room_made c.self.inside.map.entries _
-          c.in_ok-assign.ensures.room,
-    )
+    rw same c.self.invariant
 
 pub invariant_of-self-2 : goal.invariant_of-self-2
 invariant_of-self-2 g c =
     let x = c.args.x.now in
     let es = c.self.inside.map.entries in
-    let a : IsAbsent (λ k. k.items) (λ v. v.items) x c.assign.new.self.items es =
+    let a : IsAbsent (λ k. k.items) (λ v. v.items) x c.as_slice.result.now es =
     record {
-      key = c.in_ok-assign.ensures.items ∙ c.as_slice.ensures.value
-          ∙ c.key_bytes-bytes.ensures ∙ ap (λ t. key_bytes (key_of t)) c.frame.ensures;
+      key = c.as_slice.ensures.value ∙ c.key_bytes-bytes.ensures
+          ∙ ap (λ t. key_bytes (key_of t)) c.frame.ensures;
       sorted =
           c.in_default.ensures.ordered;
       keyed = c.self.invariant.0.0;
@@ -243,8 +209,9 @@ invariant_of-self-2 g c =
     let same = ap (λ m. m.entries) c.get_mut.follows.holds-at-none in
     let made = c.in_ok-put.ensures.inserted ∙ ap
     (λ t. inserted c.args.gap x t) c.new-rows.ensures.items in
-    let done = absent_done (λ k. k.items) (λ v. v.items) c.args.gap x c.assign.new.self.items es
-    c.insert.new.self.entries c.in_ok-key.key c.put.new.rows a (c.in_ok-key.ensures) made
+    let done = absent_done (λ k. k.items) (λ v. v.items) c.args.gap x c.as_slice.result.now es
+    c.insert.new.self.entries c.in_ok-key.key c.put.new.rows a
+    (c.in_ok-key.ensures ∙ c.as_slice-2.ensures.value ∙ sym c.as_slice.ensures.value) made
     (put ∙ ap (λ t. insert_entry (λ p q. bytes_cmp p.items q.items) t c.in_ok-key.key
     c.put.new.rows) same) in (
       (
@@ -255,23 +222,22 @@ invariant_of-self-2 g c =
             (rw made (inserted_some c.args.gap x []))),
       ),
       count_insert (λ k. k.items)
-          (λ v. v.items) c.assign.new.self.items es c.insert.new.self.entries c.in_ok-key.key
+          (λ v. v.items) c.as_slice.result.now es c.insert.new.self.entries c.in_ok-key.key
           c.put.new.rows c.new-rows.result.items c.self.inside.count c.put.new.count
-          c.in_default.ensures.value (c.in_ok-key.ensures) c.new-rows.ensures.items
+          c.in_default.ensures.value (c.in_ok-key.ensures ∙ c.as_slice-2.ensures.value
+          ∙ sym c.as_slice.ensures.value) c.new-rows.ensures.items
           (put ∙ ap (λ t. insert_entry (λ p q. bytes_cmp p.items q.items) t c.in_ok-key.key
           c.put.new.rows) same) c.self.invariant.1 c.in_ok-put.ensures.counted,
-      room_made
-          c.insert.new.self.entries _ c.in_ok-assign.ensures.room,
     )
 
 pub returns-clause-inserted : goal.returns-clause-inserted
 returns-clause-inserted g c =
     let x = c.args.x.now in
     let es = c.self.inside.map.entries in
-    let a : IsAbsent (λ k. k.items) (λ v. v.items) x c.assign.new.self.items es =
+    let a : IsAbsent (λ k. k.items) (λ v. v.items) x c.as_slice.result.now es =
     record {
-      key = c.in_ok-assign.ensures.items ∙ c.as_slice.ensures.value
-          ∙ c.key_bytes-bytes.ensures ∙ ap (λ t. key_bytes (key_of t)) c.frame.ensures;
+      key = c.as_slice.ensures.value ∙ c.key_bytes-bytes.ensures
+          ∙ ap (λ t. key_bytes (key_of t)) c.frame.ensures;
       sorted =
           c.in_default.ensures.ordered;
       keyed = c.self.invariant.0.0;
@@ -282,20 +248,8 @@ returns-clause-inserted g c =
     let same = ap (λ m. m.entries) c.get_mut.follows.holds-at-none in
     let made = c.in_ok-put.ensures.inserted ∙ ap
     (λ t. inserted c.args.gap x t) c.new-rows.ensures.items in
-    (absent_done (λ k. k.items) (λ v. v.items) c.args.gap x c.assign.new.self.items es
-    c.insert.new.self.entries c.in_ok-key.key c.put.new.rows a (c.in_ok-key.ensures) made
+    (absent_done (λ k. k.items) (λ v. v.items) c.args.gap x c.as_slice.result.now es
+    c.insert.new.self.entries c.in_ok-key.key c.put.new.rows a
+    (c.in_ok-key.ensures ∙ c.as_slice-2.ensures.value ∙ sym c.as_slice.ensures.value) made
     (put ∙ ap (λ t. insert_entry (λ p q. bytes_cmp p.items q.items) t c.in_ok-key.key
     c.put.new.rows) same)).0 ∙ ap (λ t. inserted c.args.gap x t) c.self.view_is
-
-pub returns-in_err-put-clause-unchanged : goal.returns-in_err-put-clause-unchanged
-returns-in_err-put-clause-unchanged g c =
-    err_stays (λ k. k.items) (λ v. v.items) c.from_residual-in_err-put.result
-    c.self.inside.map.entries _ _ (ap (λ m. m.entries) c.get_mut.follows.holds-at-none)
-    c.self.view_is
-
-pub returns-then-is_err-clause-unchanged : goal.returns-then-is_err-clause-unchanged
-returns-then-is_err-clause-unchanged g c =
-    let same =
-    on_err c.insert.result _ c.insert.ensures.err (sym c.if-is_err.true ∙ c.is_err.ensures.value)
-    ∙ ap (λ m. m.entries) c.get_mut.follows.holds-at-none in
-    stays (λ k. k.items) (λ v. v.items) c.self.inside.map.entries _ _ same c.self.view_is
