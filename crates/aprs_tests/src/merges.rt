@@ -1,7 +1,7 @@
 //! Merges, and the inputs of one.
 
 use crate::vectors::{DIRECT_TEXT, EMPTY_TEXT, MERGED_TEXT, ONE_LINE};
-use aprs_book::{Book, Gap};
+use aprs_book::Gap;
 use aprs_booktext::{BookCause, BookFault, write_book};
 use aprs_kiss::Counted;
 use aprs_log::{LogCause, LogFault, MAX_INPUT};
@@ -104,27 +104,47 @@ fn a_faulty_input_writes_nothing(rt: HostRuntime) -> Result<(), Fail> {
     Ok(())
 }
 
-/// What an input of these bytes is read as under a limit.
-fn read_bytes(alloc: Global, limit: u64, bytes: &[u8]) -> Result<Book, InputFault> {
-    read_input(alloc, limit, Gap::STANDARD, &mut Counted::new(bytes))
-}
-
 #[test]
 fn short_inputs_are_logs(rt: HostRuntime) -> Result<(), Fail> {
     let alloc = rt.alloc();
-    let Ok(book) = read_bytes(alloc, MAX_INPUT, b"") else {
+    let Ok(book) = read_input(
+        alloc,
+        MAX_INPUT,
+        Gap::STANDARD,
+        &mut Counted::new(&DIRECT_TEXT[..0]),
+    ) else {
         return Err("an empty log".into());
     };
     assert_eq!(rt; book.len(), 0);
     for size in 1..8usize {
-        let read = read_bytes(alloc, MAX_INPUT, &DIRECT_TEXT[..size]);
+        let read = read_input(
+            alloc,
+            MAX_INPUT,
+            Gap::STANDARD,
+            &mut Counted::new(&DIRECT_TEXT[..size]),
+        );
         assert!(rt; matches!(&read, Err(fault) if line_and_name(fault) == Some((1, "NoNewline"))));
-        let read = read_bytes(alloc, size as u64, DIRECT_TEXT);
+        let read = read_input(
+            alloc,
+            size as u64,
+            Gap::STANDARD,
+            &mut Counted::new(DIRECT_TEXT),
+        );
         assert!(rt; matches!(&read, Err(fault) if line_and_name(fault) == Some((1, "TooLong"))));
     }
-    let read = read_bytes(alloc, MAX_INPUT, b"APRS\nBO");
+    let read = read_input(
+        alloc,
+        MAX_INPUT,
+        Gap::STANDARD,
+        &mut Counted::new(b"APRS\nBO".as_slice()),
+    );
     assert!(rt; matches!(&read, Err(fault) if line_and_name(fault) == Some((1, "Moment"))));
-    let read = read_bytes(alloc, MAX_INPUT, &DIRECT_TEXT[..8]);
+    let read = read_input(
+        alloc,
+        MAX_INPUT,
+        Gap::STANDARD,
+        &mut Counted::new(&DIRECT_TEXT[..8]),
+    );
     assert!(rt; matches!(&read, Err(InputFault::Book(fault)) if fault.cause == BookCause::Ending));
     Ok(())
 }
