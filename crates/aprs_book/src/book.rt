@@ -21,11 +21,22 @@ use std::marker::Model;
 /// The book of a set of receptions: one row for each transmission, ascending by key (source,
 /// destination, information), then first moment. Receptions of one key whose neighbours are at most
 /// the book's gap apart are one transmission.
-#[derive(Drop)]
 pub struct Book<A: Allocator = Global> {
     gap: Gap,
     rows: KeyedRows<A>,
     indexes: Indexes<A>,
+}
+
+impl<A: Allocator> Drop for Book<A> {
+    fn drop(self) {
+        let Book {
+            gap: _,
+            rows,
+            indexes,
+        } = self;
+        drop(rows);
+        drop(indexes);
+    }
 }
 
 impl<A: Allocator> Model for Book<A> {

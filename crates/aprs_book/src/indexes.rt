@@ -14,12 +14,26 @@ use std::alloc::{Allocator, Global};
 use std::marker::Model;
 
 /// The last position and status by callsign, and the last report of an object and an item by name.
-#[derive(Drop)]
 pub(crate) struct Indexes<A: Allocator = Global> {
     positions: Known<A>,
     statuses: Known<A>,
     objects: Known<A>,
     items: Known<A>,
+}
+
+impl<A: Allocator> Drop for Indexes<A> {
+    fn drop(self) {
+        let Indexes {
+            positions,
+            statuses,
+            objects,
+            items,
+        } = self;
+        drop(positions);
+        drop(statuses);
+        drop(objects);
+        drop(items);
+    }
 }
 
 impl<A: Allocator> Model for Indexes<A> {

@@ -25,12 +25,22 @@ use std::collections::BTreeMap;
 use std::marker::Model;
 
 /// The rows of each key, by the bytes of the keys. No key is without rows.
-#[derive(Drop)]
 pub(crate) struct KeyedRows<A: Allocator = Global> {
     map: BTreeMap<Vec<u8, A>, Vec<KeptRow<A>, A>, A>,
     /// The number of the rows of all keys.
     count: usize,
     alloc: A,
+}
+
+impl<A: Allocator> Drop for KeyedRows<A> {
+    fn drop(self) {
+        let KeyedRows {
+            map,
+            count: _,
+            alloc: _,
+        } = self;
+        drop(map);
+    }
 }
 
 impl<A: Allocator> Model for KeyedRows<A> {
