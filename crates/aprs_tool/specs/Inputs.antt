@@ -1,6 +1,6 @@
 -- What an input gives and how it is refused, by the text that was got of it and by what came after
 -- that.
-use Rattle.std.specs.Prelude.{◌≡◌, ◌≢◌, ◌==◌, ◌⊎◌, ℕ, Bool, true, false, List, ◌++◌, codes, Option, None, Some, Result, Ok, Err}
+use Rattle.std.specs.Prelude.{◌≡◌, ◌≢◌, ◌==◌, ◌⊎◌, ℕ, Bool, true, false, List, ◌++◌, codes, None, Some, Result, Ok, Err}
 use Rattle.std.specs.List.{starts_with}
 use Rattle.aprs_book.specs.declared.merge_fault.MergeFault.{MergeFault}
 use Rattle.aprs_book.specs.declared.merge_fault.MergeFault.TheVariants as merge
