@@ -5,10 +5,13 @@ SHARE = $(DESTDIR)$(PREFIX)/share
 
 .PHONY: build run try test words recipes cookbook bench hostile install
 
-# the program alone, each call of it proved: first the crates that don't stand on each other, side by
-# side, then those above them
+# the program alone, each call of it proved: crates that don't stand on each other side by side, and
+# then those above them
 build:
-	@for crate in aprs_ax25 aprs_report aprs_kiss; do (cd crates/$$crate && rt lib) & done; wait
+	@for crates in 'aprs_ax25 aprs_report aprs_kiss' aprs_log 'aprs_convert aprs_book' \
+	    'aprs_command aprs_booktext'; do \
+	    for crate in $$crates; do (cd crates/$$crate && rt lib) & done; wait; \
+	done
 	cd crates/aprsbook && rt run -- check ../../examples/sample.log > /dev/null
 
 # the sample log as a monitor prints it

@@ -28,7 +28,7 @@ arms() {
 }
 cd crates
 # clap adds help to the commands, and help and the version to the options
-words=aprs_tool/src/arguments.rt
+words=aprs_command/src/arguments.rt
 {
     sed -n 's/.*Command::new(alloc, "\([a-z]*\)").*/\1/p' $words | sed '/^aprsbook$/d'
     echo help

@@ -26,7 +26,8 @@ use Rattle.aprs_booktext.specs.declared.fault.BookFault.{BookFault}
 use Rattle.aprs_booktext.proofs.Accepting.{rows_few}
 use Rattle.aprs_booktext.proofs.OneText.{cut_short}
 use Rattle.aprs_tool.specs.Head.{IsHead}
-use Rattle.aprs_tool.specs.Inputs.{AddsAll, AreMembers, HoldsOfGot, is_book_file, IsFaultOf, IsRefused, OfGot, ReadsInput, ReadsLog, TakesInput}
+use Rattle.aprs_convert.specs.Got.{HoldsOfGot, OfGot}
+use Rattle.aprs_tool.specs.Inputs.{AddsAll, AreMembers, is_book_file, IsFaultOf, IsRefused, ReadsInput, ReadsLog, TakesInput}
 use Rattle.aprs_tool.specs.declared.fault.InputFault.{InputFault}
 use Rattle.aprs_tool.specs.declared.fault.InputFault.TheVariants.{Log, Book, Memory, OtherGap, Narrower}
 

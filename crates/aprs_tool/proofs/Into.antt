@@ -11,7 +11,8 @@ use Rattle.aprs_book.specs.declared.merge_fault.MergeFault.{MergeFault}
 use Rattle.aprs_book.specs.declared.merge_fault.MergeFault.TheVariants as fault
 use Rattle.aprs_log.specs.Reception.{Heard}
 use Rattle.aprs_log.specs.declared.Ending.{Ending}
-use Rattle.aprs_tool.specs.Inputs.{AreMembers, fault_of_merge, HasOtherGap, HoldsOfGot, IsFaultless, IsGapOf, ReadsInput, RefusesGaps, TakesInput}
+use Rattle.aprs_convert.specs.Got.{HoldsOfGot}
+use Rattle.aprs_tool.specs.Inputs.{AreMembers, fault_of_merge, HasOtherGap, IsFaultless, IsGapOf, ReadsInput, RefusesGaps, TakesInput}
 use Rattle.aprs_tool.specs.declared.fault.InputFault.{InputFault}
 
 -- the book of no receptions becomes the other

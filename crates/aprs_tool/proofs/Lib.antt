@@ -1,4 +1,3 @@
-pub mod Texts
 pub mod Inputs
 pub mod Into
 pub mod Logs
@@ -6,9 +5,6 @@ pub mod Lines
 pub mod Shows
 pub mod Merges
 pub mod OneMerge
-pub mod Seen
 pub mod ShortLogs
-pub mod Checked
-pub mod Captures
-pub mod Forms
+pub mod Runs
 pub mod Widens

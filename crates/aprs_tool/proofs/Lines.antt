@@ -12,7 +12,7 @@ use Rattle.aprs_log.specs.Moment.{moment_text}
 use Rattle.aprs_log.specs.Reception.{Heard}
 use Rattle.aprs_tool.specs.Lines.{PutsText, field_text, spaced_field}
 use Rattle.aprs_tool.specs.Listing.{after_space, heard_fields, live_text, name_fields, text_line_of, word}
-use Rattle.aprs_tool.specs.Shown.{shown}
+use Rattle.aprs_convert.specs.Shown.{shown}
 use Rattle.aprs_tool.specs.declared.field.Field.{Field}
 
 abbrev Answer : Type 0

@@ -10,11 +10,12 @@ use Rattle.aprs_log.specs.declared.fault.LogFault.{LogFault}
 use Rattle.aprs_log.specs.declared.line.Line.{Line}
 use Rattle.aprs_log.specs.declared.line.Line.TheVariants.{Heard, Passed}
 use Rattle.aprs_log.proofs.Awaiting.{gets_whole}
-use Rattle.aprs_tool.specs.Inputs.{AddsAll, HoldsOfGot, ReadsLog}
+use Rattle.aprs_convert.specs.Got.{HoldsOfGot}
+use Rattle.aprs_tool.specs.Inputs.{AddsAll, ReadsLog}
 use Rattle.aprs_tool.specs.declared.fault.InputFault.{InputFault}
 use Rattle.aprs_tool.specs.declared.fault.InputFault.TheVariants.{Log, Memory}
 use Rattle.aprs_tool.proofs.Inputs.{adds_none}
-use Rattle.aprs_tool.proofs.Seen.{HasSeen, HasSeen-none, HasSeen-line, prepended}
+use Rattle.aprs_convert.proofs.Seen.{HasSeen, HasSeen-none, HasSeen-line, prepended}
 
 receptions_of-append : (xs ys : List Line) → receptions_of (xs ++ ys) ≡ receptions_of xs
     ++ receptions_of ys

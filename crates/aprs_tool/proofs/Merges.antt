@@ -13,7 +13,8 @@ use Rattle.aprs_laws.specs.Row.{Row}
 use Rattle.aprs_log.specs.Reception.{Heard}
 use Rattle.aprs_log.proofs.Awaiting.{gets_whole}
 use Rattle.aprs_booktext.specs.Text.{written_text}
-use Rattle.aprs_tool.specs.Inputs.{AreMembers, Fits, HoldsOfGot, IsNotTaken, OfGot, TakesInput}
+use Rattle.aprs_convert.specs.Got.{HoldsOfGot, OfGot}
+use Rattle.aprs_tool.specs.Inputs.{AreMembers, Fits, IsNotTaken, TakesInput}
 use Rattle.aprs_tool.specs.Merge.{AllFit, AreMembersOfAll, GetsEach, Got, book_with, HoldsOfEach, IsBookOfAll, IsBookTextOf, IsFirstRefused, ReadsEach, WritesOfAll}
 use Rattle.aprs_tool.specs.declared.fault.InputFault.{InputFault}
 

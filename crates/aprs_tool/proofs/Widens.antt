@@ -8,7 +8,8 @@ use Rattle.aprs_laws.specs.BookValue.{BookValue, widened_to}
 use Rattle.aprs_book.specs.declared.widen_fault.WidenFault.{WidenFault}
 use Rattle.aprs_book.specs.declared.widen_fault.WidenFault.TheVariants as fault
 use Rattle.aprs_booktext.specs.Text.{written_text}
-use Rattle.aprs_tool.specs.Inputs.{OfGot, ReadsInput}
+use Rattle.aprs_convert.specs.Got.{OfGot}
+use Rattle.aprs_tool.specs.Inputs.{ReadsInput}
 use Rattle.aprs_tool.specs.Widen.{WidensInput}
 use Rattle.aprs_tool.specs.declared.fault.InputFault.{InputFault}
 use Rattle.aprs_tool.specs.declared.fault.InputFault.TheVariants.{Narrower}

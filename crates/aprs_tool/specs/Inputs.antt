@@ -1,10 +1,10 @@
 -- What an input gives and how it is refused, by the text that was got of it and by what came after
 -- that.
-use Rattle.std.specs.Prelude.{◌≡◌, ◌≢◌, ◌==◌, ◌⊎◌, ℕ, Bool, true, false, List, ◌++◌, codes, Option, None, Some, Result, Ok, Err, IfSome}
+use Rattle.std.specs.Prelude.{◌≡◌, ◌≢◌, ◌==◌, ◌⊎◌, ℕ, Bool, true, false, List, ◌++◌, codes, None, Some, Result, Ok, Err}
 use Rattle.std.specs.List.{starts_with}
 use Rattle.aprs_book.specs.declared.merge_fault.MergeFault.{MergeFault}
 use Rattle.aprs_book.specs.declared.merge_fault.MergeFault.TheVariants as merge
-use Rattle.aprs_log.specs.LogAnswers.{log_answers, receptions_of, Gets}
+use Rattle.aprs_log.specs.LogAnswers.{log_answers, receptions_of}
 use Rattle.aprs_log.specs.Reception.{Heard}
 use Rattle.aprs_log.specs.declared.Ending.{Ending}
 use Rattle.aprs_laws.specs.Book.{BookOf}
@@ -140,18 +140,3 @@ abbrev pub ReadsLog : ℕ → Result (Unit {0}) InputFault → List Row → List
 ReadsLog gap (Ok u) old new text ending = ((log_answers text ending).fault ≡ None)
     × AddsAll gap (receptions_of (log_answers text ending).given) old new
 ReadsLog gap (Err fault) old new text ending = IsLogRefused fault text ending
-
--- ---- what is got of it
-
--- At most `limit` bytes were got, and P holds of them and of what came after them; the device then
--- has `after`.
-pub record HoldsOfGot (limit : ℕ) (input : List ℕ) (after : Option (List ℕ))
-    (P : List ℕ → Ending → Type 0) : Type 0 where
-  pub text : List ℕ
-  pub ending : Ending
-  pub gets : Gets limit input after text ending
-  pub holds : P text ending
-
--- The same, where the input's bytes are known.
-abbrev pub OfGot : ℕ → Option (List ℕ) → Option (List ℕ) → (List ℕ → Ending → Type 0) → Type 0
-OfGot limit known after P = IfSome known (λ input. HoldsOfGot limit input after P)

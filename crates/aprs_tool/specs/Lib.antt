@@ -1,8 +1,5 @@
 -- Definitions that contracts of runs cite.
-pub mod Shown
-pub mod Monitor
 pub mod Status
-pub mod Arguments
 pub mod Run
 pub mod Head
 pub mod Inputs
@@ -13,3 +10,10 @@ pub mod Listing
 pub mod Lines
 pub mod Show
 pub mod Widen
+-- what public clauses cite of lower crates
+pub use Rattle.aprs_convert.specs.Shown
+pub use Rattle.aprs_convert.specs.Monitor
+pub use Rattle.aprs_convert.specs.Plan
+pub use Rattle.aprs_convert.specs.Got
+pub use Rattle.aprs_convert.specs.Ends
+pub use Rattle.aprs_command.specs.Arguments

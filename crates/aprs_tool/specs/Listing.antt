@@ -22,7 +22,7 @@ use Rattle.aprs_book.specs.declared.message.MessageState.{MessageState}
 use Rattle.aprs_book.specs.declared.message.MessageState.TheVariants.{Unnumbered, Unanswered, Acknowledged, Rejected}
 use Rattle.aprs_book.specs.declared.named.Named.{Named}
 use Rattle.aprs_book.specs.declared.station.Station.{Station}
-use Rattle.aprs_tool.specs.Shown.{shown, shown_byte}
+use Rattle.aprs_convert.specs.Shown.{shown, shown_byte}
 
 -- ---- fields
 

@@ -25,7 +25,8 @@ impl<A: Allocator + Copy> Desk<A> {
     ghost use Rattle.aprs_laws.specs.BookValue.{Holds};
     ghost use Rattle.aprs_laws.specs.Gap.{standard_gap};
     ghost use Rattle.aprs_tool.specs.Desk.{book_of, gap_of, limit_of, rows_of};
-    ghost use Rattle.aprs_tool.specs.Inputs.{OfGot, TakesInput};
+    ghost use Rattle.aprs_convert.specs.Got.{OfGot};
+    ghost use Rattle.aprs_tool.specs.Inputs.{TakesInput};
     ghost use Rattle.aprs_tool.specs.Run.{IsReadFault};
 
     /// An empty book with a gap of 30 seconds, into which inputs are read up to `limit` bytes each.

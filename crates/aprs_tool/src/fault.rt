@@ -4,6 +4,7 @@ ghost use Rattle.aprs_tool.specs.Status.{status_of_fault, status_of_input};
 
 use aprs_book::{Memory, MergeFault};
 use aprs_booktext::{BookCause, BookFault};
+use aprs_convert::ConvertFault;
 use aprs_kiss::WriteFault;
 use aprs_log::{LogCause, LogFault};
 use thiserror::Error;
@@ -96,6 +97,20 @@ impl From<LogFault> for RunFault {
         RunFault::Input {
             index: 0,
             fault: InputFault::Log(fault),
+        }
+    }
+}
+
+/// The input of a conversion or a check is number 0.
+impl From<ConvertFault> for RunFault {
+    ghost use Rattle.aprs_tool.specs.Run.{run_fault};
+
+    ghost from_gives = { λ fault made. made ≡ run_fault fault };
+
+    fn from(fault: ConvertFault) -> RunFault {
+        match fault {
+            ConvertFault::Log(fault) => RunFault::from(fault),
+            ConvertFault::Write => RunFault::Write,
         }
     }
 }

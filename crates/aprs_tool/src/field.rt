@@ -3,11 +3,11 @@ ghost use Rattle.std.specs.Prelude.{◌≡◌};
 ghost use Rattle.aprs_kiss.specs.Device.{device_of, failures_of};
 ghost use Rattle.aprs_tool.specs.Lines.{PutsText, field_text};
 ghost use Rattle.aprs_tool.specs.Listing.{ambiguity_text, fraction_text, stamp_text, word, word_byte};
-ghost use Rattle.aprs_tool.specs.Shown.{shown, shown_byte};
+ghost use Rattle.aprs_convert.specs.Shown.{shown};
 
-use crate::text::{are_shown, push_shown_byte};
 use aprs_ax25::Callsign;
 use aprs_booktext::{Outbox, put};
+use aprs_convert::{are_shown, shown_byte};
 use aprs_io::push_all;
 use aprs_kiss::{Counted, WriteFault};
 use aprs_log::Moment;
@@ -132,24 +132,15 @@ fn put_word<W: Write>(w: &mut Counted<W>, held: &mut Outbox, bytes: &[u8]) -> Re
     Ok(())
 }
 
-/// What the byte is shown as.
-fn shown_byte(b: u8) -> ArrayVec<u8, 4>
-    ensures { result.items ≡ shown_byte b }
-{
-    let mut text = ArrayVec::new();
-    push_shown_byte(&mut text, b);
-    text
-}
-
 /// What a byte of a name is shown as.
 fn word_byte(b: u8) -> ArrayVec<u8, 4>
     ensures { result.items ≡ word_byte b }
 {
-    let mut text = ArrayVec::new();
     if b == b' ' {
+        let mut text = ArrayVec::new();
         push_all(&mut text, b"\\x20");
+        text
     } else {
-        push_shown_byte(&mut text, b);
+        shown_byte(b)
     }
-    text
 }

@@ -10,7 +10,8 @@ ghost use Rattle.aprs_laws.specs.Row.{Row};
 ghost use Rattle.aprs_book.specs.Taking.{MergesInto};
 ghost use Rattle.aprs_tool.specs.declared.head.TheConstants.{HEAD_LEN};
 ghost use Rattle.aprs_tool.specs.Head.{IsHead};
-ghost use Rattle.aprs_tool.specs.Inputs.{AddsAll, HoldsOfGot, OfGot, ReadsInput, ReadsLog};
+ghost use Rattle.aprs_convert.specs.Got.{HoldsOfGot, OfGot};
+ghost use Rattle.aprs_tool.specs.Inputs.{AddsAll, ReadsInput, ReadsLog};
 ghost use Rattle.aprs_tool.specs.Inputs.{RefusesGaps, TakesInput};
 ghost use Rattle.aprs_tool.specs.Run.{IsReadFault};
 

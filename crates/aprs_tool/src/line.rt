@@ -3,7 +3,7 @@ ghost use Rattle.std.specs.Prelude.{[], ◌∷◌, ◌++◌};
 ghost use Rattle.std.specs.List.{flat_map};
 ghost use Rattle.aprs_kiss.specs.Device.{device_of, failures_of};
 ghost use Rattle.aprs_tool.specs.Lines.{PutsText, spaced_field};
-ghost use Rattle.aprs_tool.specs.Shown.{shown};
+ghost use Rattle.aprs_convert.specs.Shown.{shown};
 
 use crate::field::{Field, put_field, put_shown};
 use aprs_booktext::{Outbox, put};

@@ -1,13 +1,12 @@
-//! Runs over one input.
+//! Conversions and checks as runs over one input.
 ghost use Rattle.std.specs.Prelude.{◌≡◌, ◌≤◌, IfErr, IsErrAnd};
 ghost use Rattle.aprs_io.specs.declared.input.TheConstants.{MAX_INPUT};
 ghost use Rattle.aprs_kiss.specs.Device.{device_of, failures_of, answered_of, Rose, RoseWhere};
-ghost use Rattle.aprs_tool.specs.Run.{RunsOver, IsRead, convert_plan};
+ghost use Rattle.aprs_convert.specs.Plan.{check_plan, convert_plan};
+ghost use Rattle.aprs_tool.specs.Run.{RunsOver, IsRead};
 
-use crate::capture::capture;
-use crate::convert::convert_lines;
 use crate::fault::RunFault;
-use crate::form::Form;
+use aprs_convert::{Form, check_log, convert_input};
 use aprs_kiss::Counted;
 use std::alloc::Allocator;
 use std::io::{Read, Write};
@@ -33,10 +32,28 @@ pub fn convert_run<R: Read, W: Write, A: Allocator + Copy>(
     ensures write { IfErr result (λ fault. fault ≡ RunFault.Write
         → Rose (failures_of w.old) (failures_of w.new)) }
 {
-    match &form {
-        Form::Capture { receiver, moment } => capture(limit, receiver, moment, r, w),
-        Form::Text | Form::Kind | Form::Kiss | Form::Log => convert_lines(
-            alloc, limit, &form, r, w,
-        ),
-    }
+    Ok(convert_input(alloc, limit, form, r, w)?)
+}
+
+/// Writes a line for each line of a log that holds no frame, with the reason, and last how many
+/// lines are heard and how many passed over. Requires that `limit` is at most `MAX_INPUT`
+/// (1,073,741,824). At a fault all lines before it have been reported, and there are no totals; at
+/// `Write` a prefix of the text was written. Takes no memory.
+pub fn check_run<R: Read, W: Write, A: Allocator + Copy>(
+    alloc: A,
+    limit: u64,
+    r: &mut Counted<R>,
+    w: &mut Counted<W>,
+) -> Result<(), RunFault>
+    requires { limit ≤ MAX_INPUT }
+    ensures run { RunsOver check_plan limit (R.remaining (device_of r.old))
+        (R.remaining (device_of r.new)) result
+        (W.contents (device_of w.old)) (W.contents (device_of w.new)) }
+    ensures read { IfErr result (λ fault. IsRead fault
+        → Rose (failures_of r.old) (failures_of r.new)) }
+    ensures answered { RoseWhere (IsErrAnd result IsRead) (answered_of r.old) (answered_of r.new) }
+    ensures write { IfErr result (λ fault. fault ≡ RunFault.Write
+        → Rose (failures_of w.old) (failures_of w.new)) }
+{
+    Ok(check_log(alloc, limit, r, w)?)
 }

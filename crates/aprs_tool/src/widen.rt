@@ -2,7 +2,7 @@
 ghost use Rattle.std.specs.Prelude.{◌≡◌, ◌≤◌, IfErr, IsErrAnd};
 ghost use Rattle.aprs_io.specs.declared.input.TheConstants.{MAX_INPUT};
 ghost use Rattle.aprs_kiss.specs.Device.{device_of, failures_of, answered_of, Rose, RoseWhere};
-ghost use Rattle.aprs_tool.specs.Inputs.{OfGot};
+ghost use Rattle.aprs_convert.specs.Got.{OfGot};
 ghost use Rattle.aprs_tool.specs.Merge.{WritesNothing};
 ghost use Rattle.aprs_tool.specs.Run.{IsRead};
 ghost use Rattle.aprs_tool.specs.Widen.{WidensInput};

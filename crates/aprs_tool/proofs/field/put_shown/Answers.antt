@@ -1,8 +1,8 @@
 use Rattle.std.proofs.Common.{Err, get_or, sym, arith}
 use Rattle.std.proofs.lemmas.List.{get_or_default}
-use Rattle.aprs_tool.specs.Shown.{shown_byte}
+use Rattle.aprs_convert.specs.Shown.{shown_byte}
 use Rattle.aprs_tool.proofs.Lines.{PutsText-broken, PutsText-is, PutsText-more, PutsText-none}
-use Rattle.aprs_tool.proofs.Texts.{shown-plain}
+use Rattle.aprs_convert.proofs.Texts.{shown-plain}
 use Rattle.aprs_tool.proofs.field.put_shown.Goals as goal
 
 pub returns-then-are_shown : goal.returns-then-are_shown

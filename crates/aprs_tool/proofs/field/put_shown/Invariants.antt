@@ -2,7 +2,7 @@ use Rattle.std.proofs.Common.{Ok, take}
 use Rattle.std.specs.List.{flat_map}
 use Rattle.aprs_kiss.specs.Device.{device_of, failures_of}
 use Rattle.aprs_tool.specs.Lines.{PutsText}
-use Rattle.aprs_tool.specs.Shown.{shown_byte}
+use Rattle.aprs_convert.specs.Shown.{shown_byte}
 use Rattle.aprs_tool.proofs.field.put_shown.Given as goal
 
 abbrev pub invariant-loop-b : goal.invariant-loop-b

@@ -1,7 +1,8 @@
 use Rattle.std.proofs.Common.{arith, ap, refl, sym, ◌∙◌, ◌++◌, subst, IfSome, Ok, Err}
 use Rattle.std.proofs.lemmas.Result.{err_from_is_err_and}
 use Rattle.aprs_kiss.specs.Device.{device_of}
-use Rattle.aprs_tool.specs.Inputs.{HoldsOfGot, ReadsLog}
+use Rattle.aprs_convert.specs.Got.{HoldsOfGot}
+use Rattle.aprs_tool.specs.Inputs.{ReadsLog}
 use Rattle.aprs_tool.specs.declared.fault.InputFault.TheVariants.{Log}
 use Rattle.aprs_log.specs.Reader.{current_of}
 use Rattle.aprs_tool.proofs.Logs.{Took-none, Took-line, Took-ended, Took-fault, Took-refused}

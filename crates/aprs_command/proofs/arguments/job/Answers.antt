@@ -1,0 +1,80 @@
+use Rattle.std.proofs.Common.{◌≡◌, ℕ, List, [], None, map, true, false, refl, ap, ◌∙◌, sym, subst, inl, inr, Bor}
+use Rattle.std.specs.Prelude.{◌⊎◌, ◌≢◌}
+use Rattle.clap.specs.Kinds.{HasKind}
+use Rattle.clap.specs.Words.{App, fault_of, is_simple_and_free, kind_of, takes}
+use Rattle.clap.specs.declared.error.Error.{Error}
+use Rattle.clap.specs.declared.error.kind.ErrorKind.TheVariants.{OutOfMemory}
+use Rattle.clap.specs.declared.builder.value_parser.ValueParser.{ValueParser}
+use Rattle.clap.specs.declared.builder.value_parser.ValueParser.TheVariants as vp
+use Rattle.clap.specs.declared.builder.possible_value.PossibleValue.{PossibleValue}
+use Rattle.aprs_command.specs.Arguments.{FailsSo, form_names, program_app, RefusesSo}
+use Rattle.aprs_command.specs.declared.jobs.JobFault.{JobFault}
+use Rattle.aprs_command.specs.declared.jobs.JobFault.TheVariants as fault
+use Rattle.aprs_command.proofs.arguments.job.Goals as goal
+
+abbrev at_zero : {A : Type 0} → A → Bor A
+at_zero x = record { ref_ptr = (0, 0); now = x }
+
+abbrev value_named : List ℕ → PossibleValue
+value_named t = record { name = at_zero t; help = None; aliases = at_zero []; hide = false }
+
+pub returns-in-Err-clause-asked : goal.returns-in-Err-clause-asked
+returns-in-Err-clause-asked c = let values = at_zero (map value_named form_names) in
+    (vp.Values values, (values, refl, refl), tt)
+
+pub returns-in-Err-try_get_matches_from-clause-asked :
+    goal.returns-in-Err-try_get_matches_from-clause-asked
+returns-in-Err-try_get_matches_from-clause-asked c =
+    let built = c.in-Ok.ensures in
+    let arguments = map (λ (w : Bor (List ℕ)). w.now) c.args.arguments.now in
+    let fails : FailsSo (program_app built.0) arguments c.clap_fault.result =
+    elim c.clap_fault.ensures [
+      | inl h ↦ subst (FailsSo (program_app built.0) arguments) (sym h.1) tt
+      | inr h ↦ subst (FailsSo (program_app built.0) arguments) (sym h.1)
+          (λ t. h.0 (c.in-Err-try_get_matches_from.ensures.passes
+          (ap (λ (a : App). takes a arguments) built.2 ∙ t)))
+    ] in
+    (built.0, built.1, fails)
+
+pub returns-in-Err-clause-judged : goal.returns-in-Err-clause-judged
+returns-in-Err-clause-judged c = let values = at_zero (map value_named form_names) in
+    (vp.Values values, (values, refl, refl), tt)
+
+free : (p : ValueParser) → is_simple_and_free (program_app p) ≡ true
+free p = refl
+
+pub returns-in-Ok-read_inputs-clause-judged : goal.returns-in-Ok-read_inputs-clause-judged
+returns-in-Ok-read_inputs-clause-judged c =
+    let built = c.in-Ok.ensures in
+    let arguments = map (λ (w : Bor (List ℕ)). w.now) c.args.arguments.now in
+    let kinds = c.in-Ok-try_get_matches_from.ensures.kinds (ap is_simple_and_free built.2
+    ∙ free built.0) in
+    (built.0, built.1, ap (λ (a : App). fault_of a arguments) (sym built.2) ∙ kinds)
+
+-- an error is refused as its kind says
+refused : (a : App) (arguments : List (List ℕ)) (e : Error) (f : JobFault)
+    → HasKind (fault_of a arguments) e
+    → ((kind_of e ≡ OutOfMemory) × (f ≡ fault.Memory))
+    ⊎ ((kind_of e ≢ OutOfMemory) × (f ≡ fault.Clap e)) → RefusesSo a arguments f
+refused a arguments e f has known = elim known [
+  | inl h ↦ subst (RefusesSo a arguments) (sym h.1) tt
+  | inr h ↦ subst (RefusesSo a arguments) (sym h.1) (elim has [
+    | inl out ↦ absurd (h.0 out)
+    | inr among ↦ among
+  ])
+]
+
+pub returns-in-Err-try_get_matches_from-clause-judged :
+    goal.returns-in-Err-try_get_matches_from-clause-judged
+returns-in-Err-try_get_matches_from-clause-judged c =
+    let built = c.in-Ok.ensures in
+    let arguments = map (λ (w : Bor (List ℕ)). w.now) c.args.arguments.now in
+    let error = c.in-Err-try_get_matches_from.error in
+    let has = c.in-Err-try_get_matches_from.ensures.kinds (ap is_simple_and_free built.2
+    ∙ free built.0) in
+    let kinds = subst (λ (a : App). HasKind (fault_of a arguments) error) built.2 has in (
+      built.0,
+      built.1,
+      refused (program_app built.0) arguments error c.clap_fault.result kinds
+          c.clap_fault.ensures,
+    )

@@ -1,0 +1,231 @@
+-- The program's arguments, as the definition of its command reads them.
+use Rattle.std.specs.Prelude.{◌≡◌, ℕ, List, [], ◌∷◌, map, true, Option, None, Some, Result}
+use Rattle.std.specs.Prelude.{MatchResult, codes, if◌then◌else◌, option_map, option_and_then, unwrap_or}
+use Rattle.std.specs.Str.{bytes_eq}
+use Rattle.std.specs.Str.Parse.{digits_value, without_leading_plus}
+use Rattle.std.specs.String.{string_bytes}
+use Rattle.std.specs.declared.string.String.{String}
+use Rattle.std.specs.Borrow.{Bor}
+use Rattle.clap.specs.Lexer.{usize_max}
+use Rattle.clap.specs.Words.{App, Row, Rule, Text, all_of, first_of, new_app, new_rule, subcommand_of}
+use Rattle.clap.specs.Words.{IsAmong, fault_of, kind_of, takes, with_rule, with_subcommand}
+use Rattle.clap.specs.ValueTests.{is_unsigned_in}
+use Rattle.clap.specs.declared.builder.value_parser.ValueParser.{ValueParser}
+use Rattle.clap.specs.declared.builder.value_parser.ValueParser.TheVariants as vp
+use Rattle.clap.specs.declared.builder.possible_value.PossibleValue.{PossibleValue}
+use Rattle.aprs_laws.specs.Gap.{greatest_gap, standard_gap}
+use Rattle.aprs_log.specs.Moment.{moment_of}
+use Rattle.aprs_log.specs.Receiver.{is_name}
+use Rattle.aprs_convert.specs.declared.form.Form.{Form}
+use Rattle.aprs_convert.specs.declared.form.Form.TheVariants as form
+use Rattle.aprs_command.specs.declared.jobs.Job.{Job}
+use Rattle.aprs_command.specs.declared.jobs.Job.TheVariants as job
+use Rattle.aprs_command.specs.declared.jobs.JobFault.{JobFault}
+use Rattle.aprs_command.specs.declared.jobs.JobFault.TheVariants as fault
+use Rattle.aprs_command.specs.declared.arguments.Task.{Task}
+use Rattle.aprs_command.specs.declared.arguments.Task.TheVariants as task
+
+-- ---- the command
+
+-- the names of the forms
+abbrev pub form_names : List Text
+form_names = codes "text" ∷ codes "kind" ∷ codes "kiss" ∷ codes "log" ∷ codes "capture" ∷ []
+
+-- the name of a value and its aliases
+abbrev pub words_for : PossibleValue → List Text
+words_for v = v.name.now ∷ map (λ s. s.now) v.aliases.now
+
+-- Each value has the name of a form and no alias.
+abbrev pub AreForms : List PossibleValue → Type 0
+AreForms values = map words_for values ≡ map (λ name. name ∷ []) form_names
+
+-- The parser takes the names of the forms and nothing else.
+abbrev pub IsForms : ValueParser → Type 0
+IsForms p = (values : Bor (List PossibleValue)) × (p ≡ vp.Values values) × AreForms values.now
+
+-- the argument FORM
+abbrev pub form_rule : ValueParser → Rule
+form_rule p = record (new_rule (codes "form")) { required = true; parser = Some p; value_names = 1 }
+
+-- an option of this name, with one value
+abbrev pub option_rule : Text → Rule
+option_rule name = record (new_rule name) { long = Some name; value_names = 1 }
+
+-- the argument INPUT
+abbrev pub input_rule : Rule
+input_rule = record (new_rule (codes "input")) { value_names = 1 }
+
+-- a number of 1 to 3,600
+abbrev pub gap_parser : ValueParser
+gap_parser = vp.Unsigned 1 greatest_gap
+
+-- the option --gap
+abbrev pub gap_rule : Rule
+gap_rule = record (option_rule (codes "gap")) { parser = Some gap_parser }
+
+-- the argument SECONDS
+abbrev pub seconds_rule : Rule
+seconds_rule =
+    record (new_rule (codes "seconds")) {
+      required = true;
+      parser = Some gap_parser;
+      value_names = 1;
+    }
+
+-- any number of inputs
+abbrev pub inputs_rule : Rule
+inputs_rule = record input_rule {
+  range = Some (record { start_inclusive = 1; end_inclusive = usize_max });
+}
+
+-- the five commands and their arguments
+abbrev pub convert_app : ValueParser → App
+convert_app p =
+    with_rule (with_rule (with_rule (with_rule (new_app (codes "convert")) (form_rule p))
+    input_rule) (option_rule (codes "receiver"))) (option_rule (codes "moment"))
+
+abbrev pub check_app : App
+check_app = with_rule (new_app (codes "check")) input_rule
+
+abbrev pub merge_app : App
+merge_app = with_rule (with_rule (new_app (codes "merge")) inputs_rule) gap_rule
+
+abbrev pub show_app : App
+show_app = with_rule (with_rule (new_app (codes "show")) inputs_rule) gap_rule
+
+abbrev pub widen_app : App
+widen_app = with_rule (with_rule (new_app (codes "widen")) seconds_rule) input_rule
+
+-- the program, which has a version
+abbrev pub program_top : App
+program_top = let a = new_app (codes "aprsbook") in
+    record a { top = record a.top { has_version = true } }
+
+-- the program with its commands
+abbrev pub program_app : ValueParser → App
+program_app p = with_subcommand (with_subcommand (with_subcommand (with_subcommand
+    (with_subcommand program_top (convert_app p).top) check_app.top) merge_app.top) show_app.top)
+    widen_app.top
+
+-- ---- what is read of the matches
+
+-- the text as the name of a receiver, if it is one
+abbrev pub receiver_of : Text → Option (List ℕ)
+receiver_of t = if is_name t then Some t else None
+
+-- a form but capture, which has neither option
+abbrev pub plain_form_of : Form → Option Text → Option Text → Option Form
+plain_form_of f None None = Some f
+plain_form_of f _ _ = None
+
+-- a capture of this receiver at this moment, if both are given
+abbrev pub capture_of : Option (List ℕ) → Option ℕ → Option Form
+capture_of (Some r) (Some m) = Some (form.Capture r m)
+capture_of _ _ = None
+
+-- a capture of the receiver and the moment that these texts name
+abbrev pub capture_form_of : Option Text → Option Text → Option Form
+capture_form_of r m = capture_of (option_and_then receiver_of r) (option_and_then moment_of m)
+
+-- the form of this name: `capture` with both options, another without them, and else none
+abbrev pub named_form_of : Text → Option Text → Option Text → Option Form
+named_form_of name r m = if bytes_eq name (codes "text") then plain_form_of form.Text r m
+    else (if bytes_eq name (codes "kind") then plain_form_of form.Kind r m
+    else (if bytes_eq name (codes "kiss") then plain_form_of form.Kiss r m
+    else (if bytes_eq name (codes "log") then plain_form_of form.Log r m
+    else capture_form_of r m)))
+
+-- the form that the matches name
+abbrev pub form_of : List Row → Option Form
+form_of rows = option_and_then (λ name. named_form_of name (first_of (codes "receiver") rows)
+    (first_of (codes "moment") rows)) (first_of (codes "form") rows)
+
+-- the number of seconds in a text, if the command takes it as a gap
+abbrev pub read_gap : Text → Option ℕ
+read_gap t = if is_unsigned_in 1 greatest_gap t
+    then Some (digits_value 10 (without_leading_plus t)) else None
+
+-- the gap in a text, or the standard one without a text
+abbrev pub given_gap : Option Text → Option ℕ
+given_gap None = Some standard_gap
+given_gap (Some t) = read_gap t
+
+-- the gap of a merge or a listing
+abbrev pub chosen_gap : List Row → Option ℕ
+chosen_gap rows = given_gap (first_of (codes "gap") rows)
+
+-- the gap to widen to
+abbrev pub widened_gap : List Row → Option ℕ
+widened_gap rows = option_and_then read_gap (first_of (codes "seconds") rows)
+
+-- the task of the command of this name, if its options are right
+abbrev pub task_named : Text → List Row → Option Task
+task_named name rows =
+    if bytes_eq name (codes "convert") then option_map (λ f. task.Convert f) (form_of rows)
+    else (if bytes_eq name (codes "merge") then option_map (λ g. task.Merge g) (chosen_gap rows)
+    else (if bytes_eq name (codes "show") then option_map (λ g. task.Show g) (chosen_gap rows)
+    else (if bytes_eq name (codes "widen") then option_map (λ g. task.Widen g) (widened_gap rows)
+    else Some task.Check)))
+
+-- the task, or none where the options break the rule on capture; `convert text` without a command
+abbrev pub task_of : Option (Text × List Row) → Option Task
+task_of None = Some (task.Convert form.Text)
+task_of (Some p) = task_named p.0 p.1
+
+-- the paths of the inputs, in the order of the arguments; none without a command
+abbrev pub inputs_named : Option (Text × List Row) → List Text
+inputs_named None = []
+inputs_named (Some p) = unwrap_or (all_of (codes "input") p.1) []
+
+-- ---- the answer
+
+-- the bytes of paths
+abbrev pub paths_of : {Z : Type 0} → List (String Z) → List Text
+paths_of inputs = map (λ path. string_bytes path) inputs
+
+-- the paths of a job's inputs
+abbrev pub inputs_of : Job → List Text
+inputs_of (job.Check inputs) = paths_of inputs.items
+inputs_of (job.Convert f inputs) = paths_of inputs.items
+inputs_of (job.Merge g inputs) = paths_of inputs.items
+inputs_of (job.Show g inputs) = paths_of inputs.items
+inputs_of (job.Widen g inputs) = paths_of inputs.items
+
+-- what a job asks for, apart from its inputs
+abbrev pub asked_by : Job → Task
+asked_by (job.Check inputs) = task.Check
+asked_by (job.Convert f inputs) = task.Convert f
+asked_by (job.Merge g inputs) = task.Merge g
+asked_by (job.Show g inputs) = task.Show g
+asked_by (job.Widen g inputs) = task.Widen g
+
+-- The job is the one that these matches ask for, with their inputs.
+pub record IsJobOf (found : Option (Text × List Row)) (j : Job) : Type 0 where
+  pub task : task_of found ≡ Some (asked_by j)
+  pub inputs : inputs_of j ≡ inputs_named found
+
+-- The arguments are refused only where the command doesn't take them, and the options of capture
+-- only where they break the rule on them.
+abbrev pub FailsSo : App → List Text → JobFault → Type 0
+FailsSo a arguments fault.Memory = Unit {0}
+FailsSo a arguments fault.Options = task_of (subcommand_of a arguments) ≡ None
+FailsSo a arguments (fault.Clap error) = takes a arguments ≡ true → ⊥
+
+-- The answer is the job that the matches ask for, or the arguments are refused so.
+abbrev pub AnswersArguments : App → List Text → Result Job JobFault → Type 0
+AnswersArguments a arguments answer =
+    MatchResult answer (IsJobOf (subcommand_of a arguments)) (FailsSo a arguments)
+
+-- Where arguments are refused for `Options`, the command's definition finds no fault in them; a
+-- refusal of clap has one of the kinds that it finds.
+abbrev pub RefusesSo : App → List Text → JobFault → Type 0
+RefusesSo a arguments fault.Memory = Unit {0}
+RefusesSo a arguments fault.Options = fault_of a arguments ≡ []
+RefusesSo a arguments (fault.Clap error) =
+    IsAmong (kind_of error) (fault_of a arguments)
+
+-- A job is returned only where the command's definition finds no fault in the arguments, and a
+-- refusal is as above.
+abbrev pub JudgesArguments : App → List Text → Result Job JobFault → Type 0
+JudgesArguments a arguments answer =
+    MatchResult answer (λ j. fault_of a arguments ≡ []) (RefusesSo a arguments)

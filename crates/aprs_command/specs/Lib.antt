@@ -1,0 +1,2 @@
+-- Definitions that contracts of the command line cite.
+pub mod Arguments

@@ -1,0 +1,407 @@
+//! The arguments of the command line.
+ghost use Rattle.std.specs.Prelude.{◌≡◌, ◌≢◌, ◌⊎◌, option_map, IfOk, map, true, false};
+ghost use Rattle.clap.specs.Words.{app_of, first_of, found_of, is_simple, is_simple_and_free, kind_of, rows_of};
+ghost use Rattle.clap.specs.Words.{rule_of, subcommand_rows_of};
+ghost use Rattle.clap.specs.declared.error.kind.ErrorKind.TheVariants.{OutOfMemory};
+ghost use Rattle.clap.specs.declared.builder.command.Command.TheViews.{out-Command};
+ghost use Rattle.clap.specs.declared.builder.value_parser.ValueParser.{ValueParser};
+ghost use Rattle.aprs_command.specs.Arguments.{IsForms, AnswersArguments, JudgesArguments, asked_by, form_rule, option_rule};
+ghost use Rattle.aprs_command.specs.Arguments.{check_app, convert_app, merge_app, program_app, receiver_of, show_app};
+ghost use Rattle.aprs_command.specs.Arguments.{widen_app, gap_rule, seconds_rule, gap_parser, read_gap};
+ghost use Rattle.aprs_command.specs.Arguments.{chosen_gap, widened_gap};
+ghost use Rattle.aprs_command.specs.Arguments.{AreForms, input_rule, inputs_named, inputs_of, inputs_rule, paths_of};
+ghost use Rattle.aprs_command.specs.Arguments.{plain_form_of, capture_form_of, named_form_of, form_of};
+ghost use Rattle.aprs_command.specs.Arguments.{task_named, task_of};
+ghost use Rattle.aprs_log.specs.Moment.{moment_of};
+
+use crate::help;
+use crate::jobs::{Job, JobFault};
+use aprs_book::Gap;
+use aprs_convert::Form;
+use aprs_log::{Moment, Receiver};
+use clap::builder::{PossibleValue, ValueParser};
+use clap::error::ErrorKind;
+use clap::{Arg, ArgMatches, Command};
+use std::alloc::{AllocError, Global};
+
+/// The greatest gap, in seconds.
+const GREATEST_GAP: u64 = 3600;
+
+/// What is asked for, without the inputs.
+#[derive(Drop)]
+enum Task {
+    Check,
+    Convert(Form),
+    Merge(Gap),
+    Show(Gap),
+    Widen(Gap),
+}
+
+/// What the program's arguments ask for, its name being the first: a command of `check [INPUT]`,
+/// `convert FORM [INPUT]`, `merge [INPUT]...`, `show [INPUT]...` and `widen SECONDS [INPUT]`, and
+/// `convert text` where no command is given. `convert capture` needs `--receiver NAME` and
+/// `--moment MOMENT`, and the other forms refuse both. `merge` and `show` have `--gap SECONDS`,
+/// which is 30 where it is not given. SECONDS is 1 to 3,600, and else a fault of `JobFault::Clap`.
+/// The inputs' paths are given in the order of the arguments. Where these ask for help or the
+/// version, its text is that of `JobFault::Clap`.
+pub fn job(alloc: Global, arguments: &[&str]) -> Result<Job, JobFault>
+    ensures asked { (p : ValueParser) × IsForms p
+        × AnswersArguments (program_app p) (map (λ a. a.now) arguments.now) result }
+    ensures judged { (p : ValueParser) × IsForms p
+        × JudgesArguments (program_app p) (map (λ a. a.now) arguments.now) result }
+{
+    let forms = form_values();
+    let command = match program(alloc, forms.as_slice()) {
+        Ok(command) => command,
+        Err(_) => return Err(JobFault::Memory),
+    };
+    let matches = match command.try_get_matches_from(arguments) {
+        Ok(matches) => matches,
+        Err(error) => return Err(clap_fault(error)),
+    };
+    let Some(task) = read_task(&matches) else {
+        return Err(JobFault::Options);
+    };
+    match read_inputs(alloc, &matches) {
+        Ok(inputs) => Ok(with_inputs(task, inputs)),
+        Err(_) => Err(JobFault::Memory),
+    }
+}
+
+/// The program's command is simple, whatever memory its forms stand in.
+pub fn command_is_simple()
+    ensures simple { (p : ValueParser) → is_simple (program_app p) ≡ true }
+    ensures free { (p : ValueParser) → IsForms p → is_simple_and_free (program_app p) ≡ true }
+{}
+
+/// The forms, as help describes them.
+fn form_values<'a>() -> [PossibleValue<'a>; 5]
+    ensures { AreForms result }
+{
+    [
+        PossibleValue::new("text").help(help::TEXT),
+        PossibleValue::new("kind").help(help::KIND),
+        PossibleValue::new("kiss").help(help::KISS),
+        PossibleValue::new("log").help(help::LOG),
+        PossibleValue::new("capture").help(help::CAPTURE),
+    ]
+}
+
+fn form_arg<'a>(alloc: Global, forms: &'a [PossibleValue<'a>]) -> Arg<'a>
+    requires { AreForms forms.now }
+    ensures rule { (p : ValueParser) × IsForms p × (rule_of result ≡ form_rule p) }
+    ensures local { result.global ≡ false }
+{
+    Arg::new(alloc, "form")
+        .required(true)
+        .value_name("FORM")
+        .help(help::FORM)
+        .value_parser(forms)
+}
+
+fn option_arg<'a>(
+    alloc: Global,
+    name: &'static str,
+    value_name: &'static str,
+    help: &'static str,
+) -> Arg<'a>
+    ensures rule { rule_of result ≡ option_rule name.entry.now }
+    ensures local { result.global ≡ false }
+{
+    Arg::new(alloc, name)
+        .long(name)
+        .value_name(value_name)
+        .help(help)
+}
+
+/// What a gap may be.
+fn gap_parser<'a>() -> ValueParser<'a>
+    ensures { result ≡ gap_parser }
+{
+    ValueParser::unsigned(1, GREATEST_GAP)
+}
+
+fn gap_arg<'a>(alloc: Global) -> Arg<'a>
+    ensures rule { rule_of result ≡ gap_rule }
+    ensures local { result.global ≡ false }
+{
+    option_arg(alloc, "gap", "SECONDS", help::GAP).value_parser(gap_parser())
+}
+
+fn seconds_arg<'a>(alloc: Global) -> Arg<'a>
+    ensures rule { rule_of result ≡ seconds_rule }
+    ensures local { result.global ≡ false }
+{
+    Arg::new(alloc, "seconds")
+        .required(true)
+        .value_name("SECONDS")
+        .help(help::SECONDS)
+        .value_parser(gap_parser())
+}
+
+/// One input, or none.
+fn input_arg<'a>(alloc: Global, help: &'static str) -> Arg<'a>
+    ensures rule { rule_of result ≡ input_rule }
+    ensures local { result.global ≡ false }
+{
+    Arg::new(alloc, "input").value_name("INPUT").help(help)
+}
+
+/// Any number of inputs, also none.
+fn inputs_arg<'a>(alloc: Global) -> Arg<'a>
+    ensures rule { rule_of result ≡ inputs_rule }
+    ensures local { result.global ≡ false }
+{
+    Arg::new(alloc, "input")
+        .num_args(1..)
+        .value_name("INPUT")
+        .help(help::GATHERED)
+}
+
+fn convert_command<'a>(
+    alloc: Global,
+    forms: &'a [PossibleValue<'a>],
+) -> Result<Command<'a>, AllocError>
+    requires { AreForms forms.now }
+    ensures app { IfOk result (λ c. (p : ValueParser) × IsForms p × (app_of c ≡ convert_app p)) }
+    ensures globals { IfOk result (λ c. (out-Command c).has_globals ≡ false) }
+{
+    let form = form_arg(alloc, forms);
+    let input = input_arg(alloc, help::CONVERTED);
+    let receiver = option_arg(alloc, "receiver", "NAME", help::RECEIVER);
+    let moment = option_arg(alloc, "moment", "MOMENT", help::MOMENT);
+    let with_form = Command::new(alloc, "convert")
+        .about(help::CONVERT)
+        .arg(form)?;
+    let with_input = with_form.arg(input)?;
+    let with_receiver = with_input.arg(receiver)?;
+    with_receiver.arg(moment)
+}
+
+fn check_command<'a>(alloc: Global) -> Result<Command<'a>, AllocError>
+    ensures app { IfOk result (λ c. app_of c ≡ check_app) }
+    ensures globals { IfOk result (λ c. (out-Command c).has_globals ≡ false) }
+{
+    let input = input_arg(alloc, help::CHECKED);
+    Command::new(alloc, "check").about(help::CHECK).arg(input)
+}
+
+fn merge_command<'a>(alloc: Global) -> Result<Command<'a>, AllocError>
+    ensures app { IfOk result (λ c. app_of c ≡ merge_app) }
+    ensures globals { IfOk result (λ c. (out-Command c).has_globals ≡ false) }
+{
+    let inputs = inputs_arg(alloc);
+    let gap = gap_arg(alloc);
+    let with_inputs = Command::new(alloc, "merge").about(help::MERGE).arg(inputs)?;
+    with_inputs.arg(gap)
+}
+
+fn show_command<'a>(alloc: Global) -> Result<Command<'a>, AllocError>
+    ensures app { IfOk result (λ c. app_of c ≡ show_app) }
+    ensures globals { IfOk result (λ c. (out-Command c).has_globals ≡ false) }
+{
+    let inputs = inputs_arg(alloc);
+    let gap = gap_arg(alloc);
+    let with_inputs = Command::new(alloc, "show").about(help::SHOW).arg(inputs)?;
+    with_inputs.arg(gap)
+}
+
+fn widen_command<'a>(alloc: Global) -> Result<Command<'a>, AllocError>
+    ensures app { IfOk result (λ c. app_of c ≡ widen_app) }
+    ensures globals { IfOk result (λ c. (out-Command c).has_globals ≡ false) }
+{
+    let seconds = seconds_arg(alloc);
+    let input = input_arg(alloc, help::WIDENED);
+    let with_seconds = Command::new(alloc, "widen")
+        .about(help::WIDEN)
+        .arg(seconds)?;
+    with_seconds.arg(input)
+}
+
+fn program<'a>(alloc: Global, forms: &'a [PossibleValue<'a>]) -> Result<Command<'a>, AllocError>
+    requires { AreForms forms.now }
+    ensures { IfOk result (λ c. (p : ValueParser) × IsForms p × (app_of c ≡ program_app p)) }
+{
+    let convert = convert_command(alloc, forms)?;
+    let check = check_command(alloc)?;
+    let merge = merge_command(alloc)?;
+    let show = show_command(alloc)?;
+    let widen = widen_command(alloc)?;
+    let with_convert = Command::new(alloc, "aprsbook")
+        .version(help::VERSION)
+        .about(help::ABOUT)
+        .after_help(help::NO_COMMAND)
+        .after_long_help(help::EXAMPLES)
+        .subcommand(convert)?;
+    let with_check = with_convert.subcommand(check)?;
+    let with_merge = with_check.subcommand(merge)?;
+    let with_show = with_merge.subcommand(show)?;
+    with_show.subcommand(widen)
+}
+
+fn clap_fault(error: clap::Error) -> JobFault
+    ensures { ((kind_of error ≡ OutOfMemory) × (result ≡ JobFault.Memory))
+        ⊎ ((kind_of error ≢ OutOfMemory) × (result ≡ JobFault.Clap error)) }
+{
+    match error.kind() {
+        ErrorKind::OutOfMemory => JobFault::Memory,
+        _ => JobFault::Clap(error),
+    }
+}
+
+/// The first value of the argument.
+fn text_at<'a>(matches: &ArgMatches<'a>, id: &str) -> Option<&'a str>
+    ensures { option_map (λ s. s.now) result ≡ first_of id.now (rows_of (found_of matches.now)) }
+{
+    matches.get_str(id)
+}
+
+fn read_task(matches: &ArgMatches<'_>) -> Option<Task>
+    ensures { result ≡ task_of (subcommand_rows_of matches.now) }
+{
+    match matches.subcommand() {
+        None => Some(Task::Convert(Form::Text)),
+        Some((name, inner)) => read_named(name, inner),
+    }
+}
+
+fn read_named(name: &str, matches: &ArgMatches<'_>) -> Option<Task>
+    ensures { result ≡ task_named name.now (rows_of (found_of matches.now)) }
+{
+    if name == "convert" {
+        Some(Task::Convert(read_form(matches)?))
+    } else if name == "merge" {
+        Some(Task::Merge(read_chosen_gap(matches)?))
+    } else if name == "show" {
+        Some(Task::Show(read_chosen_gap(matches)?))
+    } else if name == "widen" {
+        Some(Task::Widen(read_widened_gap(matches)?))
+    } else {
+        Some(Task::Check)
+    }
+}
+
+/// The gap of a book that is made: the standard one where none is given.
+fn read_chosen_gap(matches: &ArgMatches<'_>) -> Option<Gap>
+    ensures { result ≡ chosen_gap (rows_of (found_of matches.now)) }
+{
+    match text_at(matches, "gap") {
+        Some(text) => read_gap(text),
+        None => Some(Gap::STANDARD),
+    }
+}
+
+/// The gap to which a book is widened.
+fn read_widened_gap(matches: &ArgMatches<'_>) -> Option<Gap>
+    ensures { result ≡ widened_gap (rows_of (found_of matches.now)) }
+{
+    read_gap(text_at(matches, "seconds")?)
+}
+
+/// The gap in a text. The command takes no text that has none.
+fn read_gap(text: &str) -> Option<Gap>
+    ensures { result ≡ read_gap text.now }
+{
+    match text.parse::<u64>() {
+        Ok(seconds) => Gap::new(seconds),
+        Err(_) => None,
+    }
+}
+
+fn read_form(matches: &ArgMatches<'_>) -> Option<Form>
+    ensures { result ≡ form_of (rows_of (found_of matches.now)) }
+{
+    let name = text_at(matches, "form")?;
+    named_form(
+        name,
+        text_at(matches, "receiver"),
+        text_at(matches, "moment"),
+    )
+}
+
+fn named_form(name: &str, receiver: Option<&str>, moment: Option<&str>) -> Option<Form>
+    ensures { result ≡ named_form_of name.now (option_map (λ s. s.now) receiver.entry)
+        (option_map (λ s. s.now) moment.entry) }
+{
+    if name == "text" {
+        plain_form(Form::Text, receiver, moment)
+    } else if name == "kind" {
+        plain_form(Form::Kind, receiver, moment)
+    } else if name == "kiss" {
+        plain_form(Form::Kiss, receiver, moment)
+    } else if name == "log" {
+        plain_form(Form::Log, receiver, moment)
+    } else {
+        capture_form(receiver, moment)
+    }
+}
+
+/// A form that refuses both options.
+fn plain_form(form: Form, receiver: Option<&str>, moment: Option<&str>) -> Option<Form>
+    ensures { result ≡ plain_form_of form (option_map (λ s. s.now) receiver.entry)
+        (option_map (λ s. s.now) moment.entry) }
+{
+    match (receiver, moment) {
+        (None, None) => Some(form),
+        _ => None,
+    }
+}
+
+/// The form that needs both options.
+fn capture_form(receiver: Option<&str>, moment: Option<&str>) -> Option<Form>
+    ensures { result ≡ capture_form_of (option_map (λ s. s.now) receiver.entry)
+        (option_map (λ s. s.now) moment.entry) }
+{
+    let receiver = read_receiver(receiver?)?;
+    let moment = read_moment(moment?)?;
+    Some(Form::Capture { receiver, moment })
+}
+
+fn read_receiver(text: &str) -> Option<Receiver>
+    ensures { result ≡ receiver_of text.now }
+{
+    Receiver::parse(text.as_bytes())
+}
+
+fn read_moment(text: &str) -> Option<Moment>
+    ensures { result ≡ moment_of text.now }
+{
+    Moment::parse(text.as_bytes())
+}
+
+/// The paths of the inputs, in order.
+fn read_inputs(alloc: Global, matches: &ArgMatches<'_>) -> Result<Vec<String>, AllocError>
+    ensures { IfOk result (λ v. paths_of v.items ≡ inputs_named (subcommand_rows_of matches.now)) }
+{
+    let Some((_, inner)) = matches.subcommand() else {
+        return Ok(Vec::new(alloc));
+    };
+    match inner.get_strs("input") {
+        Some(paths) => copied(alloc, paths),
+        None => Ok(Vec::new(alloc)),
+    }
+}
+
+/// The texts as they are, in memory of their own.
+fn copied(alloc: Global, paths: &[&str]) -> Result<Vec<String>, AllocError>
+    ensures { IfOk result (λ v. paths_of v.items ≡ map (λ path. path.now) paths.now) }
+{
+    let mut inputs = Vec::new(alloc);
+    for path in paths {
+        inputs.push(String::from_str(alloc, path)?)?;
+    }
+    Ok(inputs)
+}
+
+fn with_inputs(task: Task, inputs: Vec<String>) -> Job
+    ensures task { asked_by result ≡ task }
+    ensures inputs { inputs_of result ≡ paths_of inputs.items }
+{
+    match task {
+        Task::Check => Job::Check(inputs),
+        Task::Convert(form) => Job::Convert(form, inputs),
+        Task::Merge(gap) => Job::Merge(gap, inputs),
+        Task::Show(gap) => Job::Show(gap, inputs),
+        Task::Widen(gap) => Job::Widen(gap, inputs),
+    }
+}

@@ -1,0 +1,31 @@
+//! What the program is asked to do.
+use aprs_book::Gap;
+use aprs_convert::Form;
+
+/// What the program's arguments ask for, with the paths of its inputs; without any, standard input
+/// is read.
+#[derive(Drop)]
+pub enum Job {
+    /// Report each line that holds no frame, and how many do.
+    Check(Vec<String>),
+    /// Convert a log or a stream.
+    Convert(Form, Vec<String>),
+    /// Merge logs and book files into one book of this gap, and write that.
+    Merge(Gap, Vec<String>),
+    /// List what is known from logs and book files of this gap.
+    Show(Gap, Vec<String>),
+    /// Write the book of a log or a book file under this gap.
+    Widen(Gap, Vec<String>),
+}
+
+/// Why the program's arguments ask for no job.
+#[derive(Drop)]
+pub enum JobFault {
+    /// The arguments are not those of the command, or ask for help or the version: its text says
+    /// which.
+    Clap(clap::Error),
+    /// The options of `capture` are missing, unreadable or given to another form.
+    Options,
+    /// An allocation failed.
+    Memory,
+}

@@ -1,0 +1,5 @@
+pub mod Texts
+pub mod Seen
+pub mod Checked
+pub mod Captures
+pub mod Forms

@@ -1,0 +1,27 @@
+use Rattle.std.proofs.Common.{◌≡◌, ◌≤◌, ◌-◌, ℕ, List, Option, None}
+use Rattle.std.specs.List.{flat_map}
+use Rattle.aprs_io.specs.declared.input.TheConstants.{MAX_INPUT}
+use Rattle.aprs_kiss.specs.Device.{device_of, failures_of, answered_of}
+use Rattle.aprs_log.specs.Reader.{Awaits, lines_of, loan_of, source_of, stop_of}
+use Rattle.aprs_convert.specs.Plan.{line_text}
+use Rattle.aprs_convert.proofs.Seen.{Ran}
+use Rattle.aprs_convert.proofs.convert.convert_lines.Given as goal
+
+abbrev pub invariant-lines : goal.invariant-lines
+invariant-lines g l =
+    let remaining = g.R.Read.remaining in
+    let contents = g.W.Write.contents in
+    record {
+      same_reference : loan_of l.reader ≡ loan_of l.initial.reader;
+      reads : failures_of (source_of l.initial.reader) ≤ failures_of (source_of l.reader);
+      writes : failures_of l.initial.w ≤ failures_of l.w;
+      going : stop_of l.reader ≡ None;
+      answered : answered_of (source_of l.reader) ≡ answered_of (source_of l.initial.reader);
+      ran : (end : Option (List ℕ)) → Ran (flat_map (line_text l.form))
+          (Awaits (remaining (device_of (source_of l.initial.reader))) end l.initial.reader)
+          (Awaits (remaining (device_of (source_of l.reader))) end l.reader)
+          (contents (device_of l.initial.w)) (contents (device_of l.w));
+    }
+
+abbrev pub decreases-lines : goal.decreases-lines
+decreases-lines g l = MAX_INPUT - lines_of l.reader

@@ -1,0 +1,23 @@
+-- A frame as a monitor prints it.
+use Rattle.std.specs.Prelude.{ℕ, if◌then◌else◌, List, [], ◌∷◌, ◌++◌, map}
+use Rattle.std.specs.List.{flat_map}
+use Rattle.aprs_ax25.specs.Callsign.{call_text}
+use Rattle.aprs_ax25.specs.Hop.{hop_of}
+use Rattle.aprs_ax25.specs.declared.hop.Hop.{Hop}
+use Rattle.aprs_ax25.specs.Frame.{Parts}
+use Rattle.aprs_report.specs.Reading.{kind_of}
+use Rattle.aprs_report.specs.Reader.{reading_of}
+use Rattle.aprs_convert.specs.Shown.{shown}
+
+-- a comma, the digipeater, and a star where it has repeated the frame
+abbrev pub hop_text : Hop → List ℕ
+hop_text hop = 44 ∷ call_text hop.call ++ (if hop.repeated then 42 ∷ [] else [])
+
+-- SOURCE>DESTINATION,DIGIPEATER*,..:INFORMATION
+abbrev pub monitor_text : Parts → List ℕ
+monitor_text p = call_text p.source.call ++ 62 ∷ call_text p.destination.call
+    ++ flat_map hop_text (map hop_of p.digipeaters) ++ 58 ∷ shown p.info
+
+-- the same, after the kind of report that the information is
+abbrev pub kind_text : Parts → List ℕ
+kind_text p = kind_of (reading_of p.info) ++ 32 ∷ monitor_text p

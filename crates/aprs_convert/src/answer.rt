@@ -1,0 +1,148 @@
+//! What a run writes for a line of a log.
+ghost use Rattle.std.specs.Prelude.{◌≡◌, ◌≤◌, ◌++◌, ◌∷◌, [], OnOk, OnErr};
+ghost use Rattle.std.specs.Io.KnownBytes.{Appends};
+ghost use Rattle.aprs_ax25.specs.FrameFault.{parts_of};
+ghost use Rattle.aprs_kiss.specs.Device.{device_of, failures_of, Rose, AppendsPrefix};
+ghost use Rattle.aprs_report.specs.Reader.{reading_of};
+ghost use Rattle.aprs_report.specs.Reading.{kind_of};
+ghost use Rattle.arrayvec.specs.ArrayVec.{array_vec_len};
+ghost use Rattle.aprs_convert.specs.Monitor.{monitor_text, kind_text};
+ghost use Rattle.aprs_convert.specs.Plan.{line_text, reception_text, ended_by_lf};
+
+use crate::form::Form;
+use crate::monitor::push_monitor_text;
+use crate::text::Text;
+use aprs_ax25::Frame;
+use aprs_io::push_all;
+use aprs_kiss::{Counted, KissWriter, WriteFault, send};
+use aprs_log::{Line, LogWriter, Reception};
+use aprs_report::Report;
+use std::io::Write;
+
+/// Scratch for what is written for a line, kept from line to line.
+#[derive(Drop)]
+pub struct Scratch {
+    text: Text,
+    kiss: KissWriter,
+    log: LogWriter,
+}
+
+impl Scratch {
+    /// The same before the first line.
+    pub fn new() -> Scratch {
+        Scratch {
+            text: Text::new(),
+            kiss: KissWriter::new(),
+            log: LogWriter::new(),
+        }
+    }
+}
+
+/// Writes what a form gives for a line.
+pub fn write_line_as<W: Write>(
+    form: &Form,
+    w: &mut Counted<W>,
+    line: &Line,
+    scratch: &mut Scratch,
+) -> Result<(), WriteFault>
+    ensures sent { OnOk result (Appends (W.contents (device_of w.old))
+        (W.contents (device_of w.new)) (line_text form.now line.now)) }
+    ensures prefix { OnErr result (AppendsPrefix (W.contents (device_of w.old))
+        (W.contents (device_of w.new)) (line_text form.now line.now)) }
+    ensures count { failures_of w.old ≤ failures_of w.new }
+    ensures fault { OnErr result (Rose (failures_of w.old) (failures_of w.new)) }
+{
+    match line {
+        Line::Heard(reception) => write_reception(form, w, reception, scratch),
+        Line::Passed(_) => Ok(()),
+    }
+}
+
+/// Writes what a form gives for a reception.
+fn write_reception<W: Write>(
+    form: &Form,
+    w: &mut Counted<W>,
+    reception: &Reception,
+    scratch: &mut Scratch,
+) -> Result<(), WriteFault>
+    ensures sent { OnOk result (Appends (W.contents (device_of w.old))
+        (W.contents (device_of w.new)) (reception_text form.now reception.now)) }
+    ensures prefix { OnErr result (AppendsPrefix (W.contents (device_of w.old))
+        (W.contents (device_of w.new)) (reception_text form.now reception.now)) }
+    ensures count { failures_of w.old ≤ failures_of w.new }
+    ensures fault { OnErr result (Rose (failures_of w.old) (failures_of w.new)) }
+{
+    match form {
+        Form::Text => write_monitor_line(w, reception.frame(), &mut scratch.text),
+        Form::Kind => write_kind_line(w, reception.frame(), &mut scratch.text),
+        Form::Kiss => scratch.kiss.write(w, reception.frame().bytes()),
+        Form::Log => scratch.log.write(w, reception),
+        Form::Capture { .. } => Ok(()),
+    }
+}
+
+/// Writes the frame as a monitor prints it, and an LF.
+fn write_monitor_line<W: Write>(
+    w: &mut Counted<W>,
+    frame: &Frame,
+    text: &mut Text,
+) -> Result<(), WriteFault>
+    ensures sent { OnOk result (Appends (W.contents (device_of w.old))
+        (W.contents (device_of w.new)) (ended_by_lf (monitor_text (parts_of frame.now)))) }
+    ensures prefix { OnErr result (AppendsPrefix (W.contents (device_of w.old))
+        (W.contents (device_of w.new)) (ended_by_lf (monitor_text (parts_of frame.now)))) }
+    ensures count { failures_of w.old ≤ failures_of w.new }
+    ensures fault { OnErr result (Rose (failures_of w.old) (failures_of w.new)) }
+{
+    text.clear();
+    push_monitor_line(text, frame);
+    send(w, text.as_slice())
+}
+
+/// Writes the kind of report, a space, the frame as a monitor prints it, and an LF.
+fn write_kind_line<W: Write>(
+    w: &mut Counted<W>,
+    frame: &Frame,
+    text: &mut Text,
+) -> Result<(), WriteFault>
+    ensures sent { OnOk result (Appends (W.contents (device_of w.old))
+        (W.contents (device_of w.new)) (ended_by_lf (kind_text (parts_of frame.now)))) }
+    ensures prefix { OnErr result (AppendsPrefix (W.contents (device_of w.old))
+        (W.contents (device_of w.new)) (ended_by_lf (kind_text (parts_of frame.now)))) }
+    ensures count { failures_of w.old ≤ failures_of w.new }
+    ensures fault { OnErr result (Rose (failures_of w.old) (failures_of w.new)) }
+{
+    text.clear();
+    push_kind_line(text, frame);
+    send(w, text.as_slice())
+}
+
+/// Puts the kind of report, a space, the frame as a monitor prints it, and an LF into the text.
+fn push_kind_line(text: &mut Text, frame: &Frame)
+    requires { text.old.items ≡ [] }
+    ensures { text.new.items ≡ ended_by_lf (kind_text (parts_of frame.now)) }
+{
+    push_kind(text, frame.info());
+    text.push(b' ');
+    push_monitor_text(text, frame);
+    text.push(b'\n');
+}
+
+/// Puts the name of the report's kind at the end.
+fn push_kind(out: &mut Text, info: &[u8])
+    requires { array_vec_len out.old ≡ 0 }
+    ensures name { out.new.items ≡ out.old.items ++ kind_of (reading_of info.now) }
+    ensures most { array_vec_len out.new ≤ 8 }
+{
+    let kind = Report::read(info).kind();
+    push_all(out, kind.as_bytes());
+}
+
+/// Puts the frame as a monitor prints it, and an LF into the text.
+fn push_monitor_line(text: &mut Text, frame: &Frame)
+    requires { text.old.items ≡ [] }
+    ensures { text.new.items ≡ ended_by_lf (monitor_text (parts_of frame.now)) }
+{
+    push_monitor_text(text, frame);
+    text.push(b'\n');
+}

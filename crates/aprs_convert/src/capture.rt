@@ -1,0 +1,152 @@
+//! A KISS stream, captured as a log.
+ghost use Rattle.std.specs.Prelude.{◌≡◌, ◌≤◌, ◌<◌, ◌++◌, ℕ, List, length, take, IfOk, IfErr, IsErrAnd, OnOk};
+ghost use Rattle.std.specs.Prelude.{OnErr};
+ghost use Rattle.std.specs.List.{flat_map};
+ghost use Rattle.std.specs.Io.KnownBytes.{Appends, Consumes};
+ghost use Rattle.aprs_io.specs.declared.input.TheConstants.{MAX_INPUT};
+ghost use Rattle.aprs_ax25.specs.FrameFault.{frame_of};
+ghost use Rattle.aprs_kiss.specs.Device.{device_of, failures_of, answered_of, Rose, RoseWhere, AppendsPrefix};
+ghost use Rattle.aprs_kiss.specs.Reader.{StandsAfter};
+ghost use Rattle.aprs_kiss.specs.Answer.{judgements_in};
+ghost use Rattle.aprs_kiss.specs.Stream.{judgements_of, rest_of};
+ghost use Rattle.aprs_log.specs.Awaits.{EndsHere};
+ghost use Rattle.aprs_log.specs.declared.Ending.TheVariants.{Read as ReadFailed};
+ghost use Rattle.aprs_convert.specs.Ends.{RunsOver, IsRead, EndsStream};
+ghost use Rattle.aprs_convert.specs.Plan.{stream_plan, capture_text, captured};
+
+use crate::fault::ConvertFault;
+use aprs_ax25::Frame;
+use aprs_io::read_some;
+use aprs_kiss::{Counted, Fed, KissReader, WriteFault};
+use aprs_log::{Ending, LogCause, LogFault, LogWriter, Moment, Receiver, Reception};
+use std::io::{Read, Write};
+
+/// How many bytes of the stream are read at once, at most.
+const CHUNK: usize = 16_384;
+
+/// Writes a log line for each frame of a KISS stream, as if one receiver had heard all at one
+/// moment.
+pub fn capture<R: Read, W: Write>(
+    limit: u64,
+    receiver: &Receiver,
+    moment: &Moment,
+    r: &mut Counted<R>,
+    w: &mut Counted<W>,
+) -> Result<(), ConvertFault>
+    requires { limit ≤ MAX_INPUT }
+    ensures run { RunsOver (stream_plan receiver.now moment.now) limit
+        (R.remaining (device_of r.old)) (R.remaining (device_of r.new)) result
+        (W.contents (device_of w.old)) (W.contents (device_of w.new)) }
+    ensures read { IfErr result (λ fault. IsRead fault
+        → Rose (failures_of r.old) (failures_of r.new)) }
+    ensures answered { RoseWhere (IsErrAnd result IsRead) (answered_of r.old) (answered_of r.new) }
+    ensures write { IfErr result (λ fault. fault ≡ ConvertFault.Write
+        → Rose (failures_of w.old) (failures_of w.new)) }
+{
+    let mut reader = KissReader::new();
+    let mut log = LogWriter::new();
+    let mut buffer = [0; CHUNK];
+    let mut left = limit;
+    loop {
+        match read_some(r, &mut buffer, left) {
+            Ok(count) => {
+                let (chunk, _) = buffer.split_at(count);
+                capture_chunk(&mut reader, &mut log, chunk, receiver, moment, w)?;
+                left -= count as u64;
+            }
+            Err(ending) => return stream_end(ending),
+        }
+    }
+}
+
+/// The answer of a run over a stream that ends so.
+fn stream_end(ending: Ending) -> Result<(), ConvertFault>
+    ensures { EndsStream result ending }
+{
+    match ending {
+        Ending::End => Ok(()),
+        Ending::Read => Err(fault_of_stream(LogCause::Read)),
+        Ending::TooLong => Err(fault_of_stream(LogCause::TooLong)),
+    }
+}
+
+/// A stream has no lines: its faults stand in line 0.
+fn fault_of_stream(cause: LogCause) -> ConvertFault
+    ensures { result ≡ ConvertFault.Log (record { line = 0; cause = cause }) }
+{
+    ConvertFault::from(LogFault { line: 0, cause })
+}
+
+/// Writes the log lines of the frames that end in a chunk of the stream.
+fn capture_chunk<W: Write>(
+    reader: &mut KissReader,
+    log: &mut LogWriter,
+    chunk: &[u8],
+    receiver: &Receiver,
+    moment: &Moment,
+    w: &mut Counted<W>,
+) -> Result<(), WriteFault>
+    ensures stands { OnOk result ((e : List ℕ) → StandsAfter reader.old e
+        → StandsAfter reader.new (rest_of (e ++ chunk.now))) }
+    ensures sent { OnOk result ((e : List ℕ) → StandsAfter reader.old e
+        → Appends (W.contents (device_of w.old)) (W.contents (device_of w.new))
+        (flat_map (capture_text receiver.now moment.now) (judgements_of (e ++ chunk.now)))) }
+    ensures prefix { OnErr result ((e : List ℕ) → StandsAfter reader.old e
+        → AppendsPrefix (W.contents (device_of w.old)) (W.contents (device_of w.new))
+        (flat_map (capture_text receiver.now moment.now) (judgements_of (e ++ chunk.now)))) }
+    ensures count { failures_of w.old ≤ failures_of w.new }
+    ensures fault { OnErr result (Rose (failures_of w.old) (failures_of w.new)) }
+{
+    let mut rest = chunk;
+    while !rest.is_empty() {
+        let (used, fed) = reader.feed(rest);
+        write_fed(w, log, receiver, moment, fed)?;
+        let (_, after) = rest.split_at(used);
+        rest = after;
+    }
+    Ok(())
+}
+
+/// Writes the log line of what the reader returns, where it is a frame.
+fn write_fed<W: Write>(
+    w: &mut Counted<W>,
+    log: &mut LogWriter,
+    receiver: &Receiver,
+    moment: &Moment,
+    fed: Fed<'_>,
+) -> Result<(), WriteFault>
+    ensures sent { OnOk result (Appends (W.contents (device_of w.old))
+        (W.contents (device_of w.new)) (flat_map (capture_text receiver.now moment.now)
+        (judgements_in fed.entry))) }
+    ensures prefix { OnErr result (AppendsPrefix (W.contents (device_of w.old))
+        (W.contents (device_of w.new)) (flat_map (capture_text receiver.now moment.now)
+        (judgements_in fed.entry))) }
+    ensures count { failures_of w.old ≤ failures_of w.new }
+    ensures fault { OnErr result (Rose (failures_of w.old) (failures_of w.new)) }
+{
+    match fed {
+        Fed::Frame { frame, .. } => write_frame(w, log, receiver, moment, frame),
+        Fed::Nothing | Fed::Passed(_) => Ok(()),
+    }
+}
+
+/// Writes the log line of a data frame's bytes, where they are a UI frame.
+fn write_frame<W: Write>(
+    w: &mut Counted<W>,
+    log: &mut LogWriter,
+    receiver: &Receiver,
+    moment: &Moment,
+    bytes: &[u8],
+) -> Result<(), WriteFault>
+    ensures sent { OnOk result (Appends (W.contents (device_of w.old))
+        (W.contents (device_of w.new)) (captured receiver.now moment.now (frame_of bytes.now))) }
+    ensures prefix { OnErr result (AppendsPrefix (W.contents (device_of w.old))
+        (W.contents (device_of w.new)) (captured receiver.now moment.now (frame_of bytes.now))) }
+    ensures count { failures_of w.old ≤ failures_of w.new }
+    ensures fault { OnErr result (Rose (failures_of w.old) (failures_of w.new)) }
+{
+    match Frame::read(bytes) {
+        Ok(frame) => log.write(w, &Reception::new(moment.copy(), receiver.copy(), frame)),
+        Err(_) => Ok(()),
+    }
+}

@@ -1,0 +1,115 @@
+//! What a check reports of a log.
+ghost use Rattle.std.specs.Prelude.{◌≡◌, ◌≤◌, ◌++◌, codes, OnOk, OnErr, IfErr, IsErrAnd};
+ghost use Rattle.std.specs.Fmt.{decimal};
+ghost use Rattle.std.specs.Io.KnownBytes.{Appends};
+ghost use Rattle.arrayvec.specs.ArrayVec.{array_vec_len};
+ghost use Rattle.aprs_io.specs.declared.input.TheConstants.{MAX_INPUT};
+ghost use Rattle.aprs_kiss.specs.Device.{device_of, failures_of, answered_of, Rose, RoseWhere, AppendsPrefix};
+ghost use Rattle.aprs_log.specs.Fault.{reason_name};
+ghost use Rattle.aprs_convert.specs.Ends.{RunsOver, IsRead};
+ghost use Rattle.aprs_convert.specs.Plan.{check_plan, ended_by_lf, passed_line, totals_line};
+
+use crate::fault::ConvertFault;
+use crate::text::{Text, push_decimal};
+use aprs_io::push_all;
+use aprs_kiss::{Counted, WriteFault, send};
+use aprs_log::{Line, LogReader, Reason};
+use std::alloc::Allocator;
+use std::io::{Read, Write};
+
+/// Writes a line for each line of a log that holds no frame, with the reason, and last how many
+/// lines are heard and how many passed over. Requires that `limit` is at most `MAX_INPUT`
+/// (1,073,741,824). At a fault all lines before it have been reported, and there are no totals; at
+/// `Write` a prefix of the text was written. Takes no memory.
+pub fn check_log<R: Read, W: Write, A: Allocator + Copy>(
+    alloc: A,
+    limit: u64,
+    r: &mut Counted<R>,
+    w: &mut Counted<W>,
+) -> Result<(), ConvertFault>
+    requires { limit ≤ MAX_INPUT }
+    ensures run { RunsOver check_plan limit (R.remaining (device_of r.old))
+        (R.remaining (device_of r.new)) result
+        (W.contents (device_of w.old)) (W.contents (device_of w.new)) }
+    ensures read { IfErr result (λ fault. IsRead fault
+        → Rose (failures_of r.old) (failures_of r.new)) }
+    ensures answered { RoseWhere (IsErrAnd result IsRead) (answered_of r.old) (answered_of r.new) }
+    ensures write { IfErr result (λ fault. fault ≡ ConvertFault.Write
+        → Rose (failures_of w.old) (failures_of w.new)) }
+{
+    let mut reader = LogReader::new(alloc, limit, &[], r);
+    let mut heard = 0;
+    let mut passed = 0;
+    'lines: loop {
+        if !reader.advance()? {
+            write_totals(w, heard, passed)?;
+            return Ok(());
+        }
+        match reader.current() {
+            Line::Heard(_) => heard += 1,
+            Line::Passed(reason) => {
+                write_passed(w, reader.line(), *reason)?;
+                passed += 1;
+            }
+        }
+    }
+}
+
+/// Writes that a line is passed over, and why.
+fn write_passed<W: Write>(w: &mut Counted<W>, line: u64, reason: Reason) -> Result<(), WriteFault>
+    ensures sent { OnOk result (Appends (W.contents (device_of w.old))
+        (W.contents (device_of w.new)) (passed_line line reason)) }
+    ensures prefix { OnErr result (AppendsPrefix (W.contents (device_of w.old))
+        (W.contents (device_of w.new)) (passed_line line reason)) }
+    ensures count { failures_of w.old ≤ failures_of w.new }
+    ensures fault { OnErr result (Rose (failures_of w.old) (failures_of w.new)) }
+{
+    let text = passed_line(line, reason);
+    send(w, text.as_slice())
+}
+
+/// Writes how many lines are heard and how many passed over.
+fn write_totals<W: Write>(w: &mut Counted<W>, heard: u64, passed: u64) -> Result<(), WriteFault>
+    ensures sent { OnOk result (Appends (W.contents (device_of w.old))
+        (W.contents (device_of w.new)) (totals_line heard passed)) }
+    ensures prefix { OnErr result (AppendsPrefix (W.contents (device_of w.old))
+        (W.contents (device_of w.new)) (totals_line heard passed)) }
+    ensures count { failures_of w.old ≤ failures_of w.new }
+    ensures fault { OnErr result (Rose (failures_of w.old) (failures_of w.new)) }
+{
+    let text = totals_line(heard, passed);
+    send(w, text.as_slice())
+}
+
+fn passed_line(line: u64, reason: Reason) -> Text
+    ensures { result.items ≡ passed_line line reason }
+{
+    let mut text = Text::new();
+    push_all(&mut text, b"line ");
+    push_decimal(&mut text, line);
+    push_all(&mut text, b" passed ");
+    push_reason(&mut text, reason);
+    text.push(b'\n');
+    text
+}
+
+fn totals_line(heard: u64, passed: u64) -> Text
+    ensures { result.items ≡ totals_line heard passed }
+{
+    let mut text = Text::new();
+    push_all(&mut text, b"heard ");
+    push_decimal(&mut text, heard);
+    push_all(&mut text, b" passed ");
+    push_decimal(&mut text, passed);
+    text.push(b'\n');
+    text
+}
+
+/// Puts the reason's name at the end.
+fn push_reason(out: &mut Text, reason: Reason)
+    requires { array_vec_len out.old ≤ 1000 }
+    ensures name { out.new.items ≡ out.old.items ++ reason_name reason }
+    ensures most { array_vec_len out.new ≤ 1100 }
+{
+    push_all(out, reason.name().as_bytes());
+}

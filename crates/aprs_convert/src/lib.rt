@@ -1,0 +1,18 @@
+//! Logs and KISS streams, converted and checked as they are read.
+#![tactic(auto)]
+
+mod answer;
+mod capture;
+mod check;
+mod convert;
+mod fault;
+mod form;
+mod monitor;
+mod run;
+mod text;
+
+pub use check::check_log;
+pub use fault::ConvertFault;
+pub use form::Form;
+pub use run::convert_input;
+pub use text::{are_shown, shown_byte};

@@ -1,0 +1,50 @@
+//! Frames as a monitor prints them.
+ghost use Rattle.std.specs.Prelude.{◌≡◌, ◌+◌, ◌*◌, ◌≤◌, ◌++◌, length, map, IfSome, slice_get};
+ghost use Rattle.std.specs.List.{flat_map};
+ghost use Rattle.arrayvec.specs.ArrayVec.{array_vec_len};
+ghost use Rattle.aprs_ax25.specs.FrameFault.{parts_of};
+ghost use Rattle.aprs_ax25.specs.Hop.{hop_of};
+ghost use Rattle.aprs_convert.specs.declared.text.TheConstants.{MAX_TEXT};
+ghost use Rattle.aprs_convert.specs.Monitor.{hop_text, monitor_text};
+
+use crate::text::{Text, push_shown};
+use aprs_ax25::Frame;
+
+/// Puts the frame's text at the end: source, destination, digipeaters and information.
+pub fn push_monitor_text(out: &mut Text, frame: &Frame)
+    requires { array_vec_len out.old ≤ 10 }
+    ensures text { out.new.items ≡ out.old.items ++ monitor_text (parts_of frame.now) }
+    ensures most { array_vec_len out.new ≤ 1152 }
+{
+    frame.push_source_text(out);
+    out.push(b'>');
+    frame.push_destination_text(out);
+    push_hops(out, frame);
+    out.push(b':');
+    push_shown(out, frame.info());
+}
+
+/// Puts the texts of the frame's digipeaters at the end.
+fn push_hops(out: &mut Text, frame: &Frame)
+    requires { array_vec_len out.old ≤ 29 }
+    ensures text { out.new.items ≡ out.old.items
+        ++ flat_map hop_text (map hop_of (parts_of frame.now).digipeaters) }
+    ensures most { array_vec_len out.new ≤ array_vec_len out.old + 88 }
+{
+    for i in 0..frame.hops() {
+        push_hop(out, frame, i);
+    }
+}
+
+/// Puts the text of digipeater number i, counted from 0, at the end.
+fn push_hop(out: &mut Text, frame: &Frame, i: usize)
+    requires { array_vec_len out.old + 11 ≤ MAX_TEXT }
+    ensures text { IfSome (slice_get (parts_of frame.now).digipeaters i) (λ a.
+        out.new.items ≡ out.old.items ++ hop_text (hop_of a)) }
+    ensures most { array_vec_len out.new ≤ array_vec_len out.old + 11 }
+{
+    out.push(b',');
+    if let Some(true) = frame.push_hop_text(i, out) {
+        out.push(b'*');
+    }
+}

@@ -1,9 +1,0 @@
-use Rattle.std.proofs.Common.{◌≡◌, ◌+◌, ◌*◌, ◌≤◌, ◌++◌, length, take}
-use Rattle.aprs_tool.specs.Shown.{shown}
-use Rattle.aprs_tool.proofs.text.push_escaped.Given as goal
-
-abbrev pub invariant-loop-b : goal.invariant-loop-b
-invariant-loop-b l = record {
-  shown : l.out.items ≡ l.initial.out.items ++ shown (take l.b-index l.bytes);
-  most : length l.out.items ≤ length l.initial.out.items + 4 * l.b-index;
-}
