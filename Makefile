@@ -8,8 +8,7 @@ SHARE = $(DESTDIR)$(PREFIX)/share
 # the program alone, each call of it proved: crates that don't stand on each other side by side, and
 # then those above them
 build:
-	@for crates in 'aprs_ax25 aprs_report aprs_kiss' aprs_log 'aprs_convert aprs_book' \
-	    'aprs_command aprs_booktext'; do \
+	@for crates in 'aprs_ax25 aprs_report aprs_kiss' aprs_log aprs_laws 'aprs_command aprs_booktext'; do \
 	    for crate in $$crates; do (cd crates/$$crate && rt lib) & done; wait; \
 	done
 	cd crates/aprsbook && rt run -- check ../../examples/sample.log > /dev/null

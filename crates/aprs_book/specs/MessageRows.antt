@@ -24,6 +24,7 @@ use Rattle.aprs_book.specs.Messages.{Message, ReportsIt, message_cmp, shown_mess
 
 -- ---- spans
 
+-- the message that a key of the code stands for
 abbrev pub message_of : MessageKey → Message
 message_of x = record {
   source = x.source;
@@ -32,9 +33,11 @@ message_of x = record {
   id = option_map (λ y. y.now) x.id;
 }
 
+-- from the first to the last moment of a row
 abbrev pub span_of : Row → Span
 span_of x = record { first = x.first; last = last_of x }
 
+-- a span, if there is one, with that of one more row
 abbrev pub span_with : Option Span → Row → Span
 span_with None x = span_of x
 span_with (Some s) x = record { first = min s.first x.first; last = max s.last (last_of x) }
@@ -58,9 +61,12 @@ pub record Answer : Type 0 where
   pub addressee : Call
   pub id : List ℕ
 
+-- the answer that a question of the code asks for
 abbrev pub answer_of : Asked → Answer
 answer_of x = record { source = x.source; addressee = x.addressee; id = x.id.now }
 
+-- a key that answers so: who answers sent it to the station whose message it is, and it
+-- acknowledges or rejects the id
 pub record IsReply (a : Answer) (k : Key) : Type 0 where
   pub addressee : List ℕ
   pub sender : k.source ≡ a.addressee
@@ -77,20 +83,25 @@ abbrev pub answer_cmp : Answer → Answer → Ordering
 answer_cmp = then_cmp (on (λ a. a.source) call_cmp)
     (then_cmp (on (λ a. a.addressee) call_cmp) (on (λ a. a.id) bytes_cmp))
 
+-- a kept reception is the greatest that answers so
 abbrev pub IsGreatestEntry : List Row → Answer → Bor Heard → Type 0
 IsGreatestEntry rows a g = IsGreatestReply rows a g.now
 
 -- ---- entries, one for each message or answer of the rows
 
+-- Entries of the rows: of what each shows and has, T holds, and each thing that a row's key is of
+-- by P has one.
 pub record IsCollected {K V M : Type 0} (shown : K → M) (P : M → Key → Type 0)
     (T : List Row → M → V → Type 0) (rows : List Row) (entries : List (K × V)) : Type 0 where
   pub each : (e : K × V) → e ∈ entries → T rows (shown e.0) e.1
   pub every : (x : Row) → x ∈ rows → (m : M) → P m (row_key x)
       → (e : K × V) × (e ∈ entries) × (shown e.0 ≡ m)
 
+-- one span for each message of the rows
 abbrev pub AreSpans : List Row → List (MessageKey × Span) → Type 0
 AreSpans rows entries = IsCollected message_of ReportsIt IsSpan rows entries
 
+-- one greatest reception for each answer of the rows
 abbrev pub AreReplies : List Row → List (Asked × Bor Heard) → Type 0
 AreReplies rows entries = IsCollected answer_of IsReply IsGreatestEntry rows entries
 
@@ -110,6 +121,7 @@ ReportsAnswer entries m id (Some g) =
     (e : Asked × Bor Heard) × (e ∈ entries) × IsFor m id (answer_of e.0)
     × ((a : Answer) → IsFor m id a → a ≡ answer_of e.0) × (e.1.now ≡ g)
 
+-- the state of a message of this first moment and id, by the greatest answer among the entries
 abbrev pub StateFrom : List (Asked × Bor Heard) → Message → ℕ → Option (List ℕ) → MessageState
     → Type 0
 StateFrom entries m first None state = state ≡ Unnumbered
@@ -131,5 +143,6 @@ Zipped R [] (y ∷ ys) = ⊥
 Zipped R (x ∷ xs) [] = ⊥
 Zipped R (x ∷ xs) (y ∷ ys) = R x y × Zipped R xs ys
 
+-- the one's message is below the other's
 abbrev pub IsKeyBefore : MessageKey × Span → MessageKey × Span → Type 0
 IsKeyBefore a b = IsBelow message_cmp (message_of a.0) (message_of b.0)

@@ -27,6 +27,7 @@ pub record Message : Type 0 where
   pub text : List ℕ
   pub id : Option (List ℕ)
 
+-- the message that a station sends by a report, if it is one
 abbrev pub message_reported : Call → Value → Option Message
 message_reported from (message addressee text id) =
     Some (record { source = from; addressee = addressee; text = text; id = id })
@@ -36,6 +37,7 @@ message_reported from v = None
 abbrev pub message_in : Key → Option Message
 message_in k = message_reported k.source (report_of k)
 
+-- a key that reports this message
 abbrev pub ReportsIt : Message → Key → Type 0
 ReportsIt m k = message_in k ≡ Some m
 
@@ -56,6 +58,7 @@ pub record AnswersIt (m : Message) (id : List ℕ) (k : Key) : Type 0 where
   pub to : CallText m.source addressee
   pub answer : (report_of k ≡ ack addressee id) ⊎ (report_of k ≡ rej addressee id)
 
+-- a rejection rejects, and an acknowledgement acknowledges
 abbrev pub state_reported : Value → MessageState
 state_reported (rej addressee id) = Rejected
 state_reported v = Acknowledged
@@ -74,6 +77,7 @@ StandsBy S m first (Some id) state =
 
 -- ---- all messages
 
+-- the message of a row of the list
 abbrev pub shown_message : MessageRow → Message
 shown_message x = record {
   source = x.source;
@@ -86,6 +90,7 @@ shown_message x = record {
 abbrev pub IsSent : List Heard → Message → Type 0
 IsSent S m = (s : Heard) × (s ∈ S) × ReportsIt m (key_of s.frame)
 
+-- the one's message is below the other's
 abbrev pub IsListedBefore : MessageRow → MessageRow → Type 0
 IsListedBefore x y = IsBelow message_cmp (shown_message x) (shown_message y)
 

@@ -9,6 +9,7 @@ use Rattle.aprs_book.specs.Known.{Entries}
 abbrev pub shown_report : Named → Thing × Heard
 shown_report x = (shown_thing x, x.heard)
 
+-- what an entry of this name knows, if anything
 abbrev pub report_in : Bool → List ℕ → Option Heard → List (Thing × Heard)
 report_in is_item name None = []
 report_in is_item name (Some g) = (record { is_item = is_item; name = name }, g) ∷ []

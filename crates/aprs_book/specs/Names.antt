@@ -18,6 +18,7 @@ pub record Thing : Type 0 where
   pub is_item : Bool
   pub name : List ℕ
 
+-- the object or item that a report is of, if it is of one
 abbrev pub thing_reported : Value → Option Thing
 thing_reported (object name live stamp place symbol comment) =
     Some (record { is_item = false; name = name })
@@ -32,9 +33,11 @@ ReportsOf t k = thing_reported (report_of k) ≡ Some t
 abbrev pub thing_cmp : Thing → Thing → Ordering
 thing_cmp = then_cmp (on (λ t. t.is_item) bool_cmp) (on (λ t. t.name) bytes_cmp)
 
+-- the object or item of a row of the list
 abbrev pub shown_thing : Named → Thing
 shown_thing x = record { is_item = x.is_item; name = x.name.now }
 
+-- the one's object or item is below the other's
 abbrev pub IsNamedBefore : Named → Named → Type 0
 IsNamedBefore x y = IsBelow thing_cmp (shown_thing x) (shown_thing y)
 

@@ -11,6 +11,7 @@ ghost use Rattle.aprs_book.specs.Known.{AreIndexesOf};
 
 use crate::indexes::Indexes;
 use crate::keyed::KeyedRows;
+use crate::millis::Millis;
 use crate::reported::Reported;
 use crate::walk::Walk;
 use crate::{Gap, Join, Memory, MergeFault, RowCause, RowParts, Rows, WidenFault};
@@ -109,7 +110,7 @@ impl<A: Allocator + Copy> Book<A> {
     {
         let reported = Reported::of(x.frame());
         self.indexes.place(&reported)?;
-        self.rows.take(self.gap.millis(), x)?;
+        self.rows.take(Millis::of(self.gap), x)?;
         self.indexes.note(&reported, x);
         Ok(())
     }
@@ -126,7 +127,7 @@ impl<A: Allocator + Copy> Book<A> {
         ensures gap { self.new.gap ≡ self.old.gap }
         ensures unchanged { OnErr result (self.new ≡ self.old) }
     {
-        if let Some(cause) = self.rows.refusal(self.gap.millis(), parts) {
+        if let Some(cause) = self.rows.refusal(Millis::of(self.gap), parts) {
             return Err(cause);
         }
         if self.add(parts).is_err() {
@@ -179,7 +180,7 @@ impl<A: Allocator + Copy> Book<A> {
         ensures sound_other { IsSoundBook other.now }
         ensures sound_result { IfOk result IsSoundBook }
     {
-        let rows = self.rows.merged(self.gap.millis(), &other.rows)?;
+        let rows = self.rows.merged(Millis::of(self.gap), &other.rows)?;
         let indexes = self.indexes.merged(&other.indexes)?;
         Ok(Book {
             gap: self.gap,
@@ -214,7 +215,7 @@ impl<A: Allocator + Copy> Book<A> {
         ensures sound { IsSoundBook self.now }
     {
         let alloc = self.rows.allocator();
-        let rows = self.rows.merged(gap.millis(), &KeyedRows::new(alloc))?;
+        let rows = self.rows.merged(Millis::of(gap), &KeyedRows::new(alloc))?;
         let indexes = self.indexes.merged(&Indexes::new(alloc))?;
         Ok(Book { gap, rows, indexes })
     }

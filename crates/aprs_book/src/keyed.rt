@@ -9,10 +9,10 @@ ghost use Rattle.aprs_laws.specs.Order.{IsBelow};
 ghost use Rattle.aprs_laws.specs.Inserted.{inserted, fits_in_place};
 ghost use Rattle.aprs_laws.specs.Sound.{Sound};
 
-use crate::gap::Millis;
 use crate::kept_row::KeptRow;
 use crate::key_bytes::key_bytes;
 use crate::merging_keys::{put_joined, put_merged};
+use crate::millis::Millis;
 use crate::place::put;
 use crate::push::first_cause;
 use crate::room::make_room;

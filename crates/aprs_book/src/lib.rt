@@ -3,7 +3,6 @@
 
 mod book;
 mod from_parts;
-mod gap;
 mod greatest;
 mod heard;
 mod indexes;
@@ -20,6 +19,7 @@ mod merging;
 mod merging_keys;
 mod message;
 mod message_key;
+mod millis;
 mod named;
 mod place;
 mod push;
@@ -36,9 +36,9 @@ mod tally;
 mod walk;
 mod widen_fault;
 
+pub use aprs_laws::Gap;
 pub use book::Book;
 pub use from_parts::{RowsFault, from_rows, rows_are_sound_or_have_one_fault};
-pub use gap::Gap;
 pub use greatest::Greatest;
 pub use heard::Heard;
 pub use join::{Join, all_fit, join_all};

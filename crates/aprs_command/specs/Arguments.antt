@@ -78,21 +78,25 @@ inputs_rule = record input_rule {
   range = Some (record { start_inclusive = 1; end_inclusive = usize_max });
 }
 
--- the five commands and their arguments
+-- `convert FORM [INPUT] [--receiver NAME] [--moment MOMENT]`
 abbrev pub convert_app : ValueParser → App
 convert_app p =
     with_rule (with_rule (with_rule (with_rule (new_app (codes "convert")) (form_rule p))
     input_rule) (option_rule (codes "receiver"))) (option_rule (codes "moment"))
 
+-- `check [INPUT]`
 abbrev pub check_app : App
 check_app = with_rule (new_app (codes "check")) input_rule
 
+-- `merge [--gap SECONDS] [INPUT]...`
 abbrev pub merge_app : App
 merge_app = with_rule (with_rule (new_app (codes "merge")) inputs_rule) gap_rule
 
+-- `show [--gap SECONDS] [INPUT]...`
 abbrev pub show_app : App
 show_app = with_rule (with_rule (new_app (codes "show")) inputs_rule) gap_rule
 
+-- `widen SECONDS [INPUT]`
 abbrev pub widen_app : App
 widen_app = with_rule (with_rule (new_app (codes "widen")) seconds_rule) input_rule
 

@@ -1,5 +1,5 @@
 //! What the program is asked to do.
-use aprs_book::Gap;
+use aprs_laws::Gap;
 use aprs_convert::Form;
 
 /// What the program's arguments ask for, with the paths of its inputs; without any, standard input

@@ -1,9 +1,11 @@
-//! What the book of a set of receptions is, and the laws of books. There is no code here: each
-//! function does nothing, and what it ensures is a law over the definitions in `specs/`.
+//! What the book of a set of receptions is, and the laws of books. There is no code here but that
+//! of the gap: each other function does nothing, and what it ensures is a law over the definitions
+//! in `specs/`.
 #![tactic(auto)]
 
 mod book_law;
 mod example;
+mod gap;
 mod gap_law;
 mod join_law;
 mod key_law;
@@ -23,6 +25,7 @@ pub use example::{
     soundness_is_seen_in_rows, sources_are_ordered_first, ties_go_by_receiver_then_frame,
     units_scale_gaps_too, wider_gaps_join_rows,
 };
+pub use gap::Gap;
 pub use gap_law::{books_can_be_widened, gaps_can_be_widened, gaps_cannot_be_narrowed};
 pub use join_law::{books_join, receivers_join, receptions_join};
 pub use key_law::keys_are_of_parts;

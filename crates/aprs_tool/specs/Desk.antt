@@ -4,6 +4,7 @@ use Rattle.aprs_laws.specs.BookValue.{BookValue}
 use Rattle.aprs_laws.specs.Row.{Row}
 use Rattle.aprs_tool.specs.declared.desk.Desk.{Desk}
 
+-- its book
 abbrev pub book_of : {A : Type 0} → Desk A → BookValue
 book_of desk = desk.book
 

@@ -10,12 +10,18 @@ use std::alloc::{Allocator, Global};
 use std::io::Read;
 
 /// A book, and what is needed to read further inputs into it.
-#[derive(Drop)]
 pub struct Desk<A: Allocator = Global> {
     alloc: A,
     limit: u64,
     book: Book<A>,
     ghost few: { limit ≤ MAX_INPUT },
+}
+
+impl<A: Allocator> Drop for Desk<A> {
+    fn drop(self) {
+        let Desk { alloc: _, limit: _, book } = self;
+        drop(book);
+    }
 }
 
 impl<A: Allocator + Copy> Desk<A> {

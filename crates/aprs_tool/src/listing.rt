@@ -20,11 +20,19 @@ use std::alloc::{Allocator, Global};
 use std::io::Write;
 
 /// What is listed of a book.
-#[derive(Drop)]
 pub struct Views<'a, A: Allocator = Global> {
     stations: Vec<Station<'a>, A>,
     named: Vec<Named<'a>, A>,
     messages: Vec<MessageRow<'a>, A>,
+}
+
+impl<'a, A: Allocator> Drop for Views<'a, A> {
+    fn drop(self) {
+        let Views { stations, named, messages } = self;
+        drop(stations);
+        drop(named);
+        drop(messages);
+    }
 }
 
 impl<'a, A: Allocator + Copy> Views<'a, A> {

@@ -1,6 +1,6 @@
 //! The gap inside a transmission.
 ghost use Rattle.std.specs.Prelude.{◌≡◌, ◌≤◌, SomeIff};
-ghost use Rattle.aprs_laws.specs.Gap.{IsGap, millis_of};
+ghost use Rattle.aprs_laws.specs.Gap.{IsGap};
 
 use std::marker::Model;
 
@@ -47,43 +47,5 @@ impl Gap {
         ensures range { IsGap result }
     {
         self.seconds
-    }
-
-    /// The gap as moments count.
-    pub(crate) fn millis(&self) -> Millis
-        ensures value { result ≡ millis_of self.now }
-        ensures range { IsGap self.now }
-    {
-        Millis {
-            millis: self.seconds * 1000,
-        }
-    }
-}
-
-/// A gap in milliseconds, the unit of moments: at most an hour.
-#[derive(Clone, Copy)]
-pub(crate) struct Millis {
-    millis: u64,
-}
-
-impl Model for Millis {
-    ghost use Rattle.std.specs.Prelude.{◌≤◌, ℕ};
-
-    ghost Value = { ℕ };
-
-    ghost view = { λ g. g.millis };
-
-    ghost invariant = { λ g. g.millis ≤ 3600000 };
-
-    ghost inverse = { λ n. record { millis = n } };
-}
-
-impl Millis {
-    /// The number, at most 3,600,000.
-    pub(crate) fn get(&self) -> u64
-        ensures value { result ≡ self.now }
-        ensures bound { result ≤ 3600000 }
-    {
-        self.millis
     }
 }
