@@ -29,18 +29,11 @@ pub enum Stage {
 }
 
 /// What was read of a book's text: whole lines, and a prefix of a line.
+#[derive(Drop)]
 pub struct BookReader<A: Allocator> {
     book: Book<A>,
     line: Vec<u8, A>,
     stage: Stage,
-}
-
-impl<A: Allocator> Drop for BookReader<A> {
-    fn drop(self) {
-        let BookReader { book, line, stage: _ } = self;
-        drop(book);
-        drop(line);
-    }
 }
 
 impl<A: Allocator + Copy> BookReader<A> {
