@@ -19,7 +19,11 @@ pub struct Desk<A: Allocator = Global> {
 
 impl<A: Allocator> Drop for Desk<A> {
     fn drop(self) {
-        let Desk { alloc: _, limit: _, book } = self;
+        let Desk {
+            alloc: _,
+            limit: _,
+            book,
+        } = self;
         drop(book);
     }
 }
@@ -96,6 +100,11 @@ impl<A: Allocator + Copy> Desk<A> {
     pub fn into_book(self) -> Book<A>
         ensures { result ≡ book_of self }
     {
-        self.book
+        let Desk {
+            alloc: _,
+            limit: _,
+            book,
+        } = self;
+        book
     }
 }

@@ -28,7 +28,11 @@ pub struct Views<'a, A: Allocator = Global> {
 
 impl<'a, A: Allocator> Drop for Views<'a, A> {
     fn drop(self) {
-        let Views { stations, named, messages } = self;
+        let Views {
+            stations,
+            named,
+            messages,
+        } = self;
         drop(stations);
         drop(named);
         drop(messages);
