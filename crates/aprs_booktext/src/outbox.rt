@@ -10,8 +10,9 @@ use aprs_kiss::{Counted, WriteFault, send};
 use arrayvec::ArrayVec;
 use std::io::Write;
 
-/// The most bytes that are held back.
-const MAX_HELD: usize = 4096;
+/// The most bytes that are held back: twice those of a `BufWriter`, so that they aren't buffered
+/// there again.
+const MAX_HELD: usize = 16_384;
 
 /// Bytes that have not gone out yet.
 pub type Outbox = ArrayVec<u8, MAX_HELD>;

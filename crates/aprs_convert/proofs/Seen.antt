@@ -134,8 +134,8 @@ Ran-ended form first now limit known end a b h may whole =
 
 -- the log has a fault
 pub Ran-fault : (form : Form) (first now : Answers
-    → Type 0) (limit : ℕ) (known end a b : Option (List ℕ)) (fault : LogFault) (answer : ConvertFault)
-    → answer ≡ Log fault
+    → Type 0) (limit : ℕ) (known end a b : Option (List ℕ)) (fault : LogFault)
+    (answer : ConvertFault) → answer ≡ Log fault
     → Ran (flat_map (line_text form)) first now a b → now (ended (Some fault))
     → IsWhole first limit known end
     → RunsOver (lines_plan form) limit known end (Err answer) a b

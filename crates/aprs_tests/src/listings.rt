@@ -188,8 +188,8 @@ message N0CALL-7 WU2Z 003 unanswered 2024-05-01T12:00:00.000Z 2024-05-01T12:00:0
     Ok(())
 }
 
-// A stamp, a compressed place, a place of four digits less, south and east, a symbol whose code is a
-// colon, and one of the alternate table.
+// A stamp, a compressed place, a place of four digits less, south and east, a symbol whose code is
+// a colon, and one of the alternate table.
 #[test]
 fn places_are_listed(rt: HostRuntime) -> Result<(), Fail> {
     let cases: [(&[Sent], &str); 5] = [

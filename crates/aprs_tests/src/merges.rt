@@ -10,8 +10,8 @@ use std::alloc::Global;
 use std::io::{self, Read};
 use std::test::Fail;
 
-/// A log of one line: a frame at the first moment, the same at the last, and half a minute after the
-/// first one that came over a digipeater.
+/// A log of one line: a frame at the first moment, the same at the last, and half a minute after
+/// the first one that came over a digipeater.
 const FIRST: &[u8] = b"1970-01-01T00:00:00Z RX1 c00082a0a4a64040e09c60868298986f03f03e4869c0\n";
 
 const LAST: &[u8] = b"2099-12-31T23:59:59Z RX2 c00082a0a4a64040e09c60868298986f03f03e4869c0\n";
@@ -132,6 +132,12 @@ fn short_inputs_are_logs(rt: HostRuntime) -> Result<(), Fail> {
         );
         assert!(rt; matches!(&read, Err(fault) if line_and_name(fault) == Some((1, "TooLong"))));
     }
+    Ok(())
+}
+
+#[test]
+fn eight_bytes_say_what_an_input_is(rt: HostRuntime) -> Result<(), Fail> {
+    let alloc = rt.alloc();
     let read = read_input(
         alloc,
         MAX_INPUT,

@@ -1,5 +1,5 @@
-//! Runs over readers that give few bytes a call, over devices that are interrupted, and over devices
-//! that fail at each byte.
+//! Runs over readers that give few bytes a call, over devices that are interrupted, and over
+//! devices that fail at each byte.
 
 use crate::devices::{Failing, Halting, Stuttering, Tight};
 use crate::runs::FRAME;

@@ -8,8 +8,8 @@ use aprs_log::Moment;
 use std::alloc::{Allocator, Global};
 use std::test::Fail;
 
-/// What makes a row of the direct frame: its first and last second, its receivers, and who heard the
-/// greatest reception.
+/// What makes a row of the direct frame: its first and last second, its receivers, and who heard
+/// the greatest reception.
 pub fn parts<A: Allocator + Copy>(
     alloc: A,
     first: u64,

@@ -58,8 +58,8 @@ pub const LOG: &[u8] = b"2024-05-01T12:00:00.000Z RX1 c00082a0a4a64040e09c608682
 2024-05-01T12:00:00.000Z RX1 c00082a0a4a64040e09c60868298986f03f03e4869c0
 ";
 
-/// A log of a frame at the first moment, the same at the last, and half a minute after the first one
-/// that came over a digipeater: its book is `MERGED_TEXT`.
+/// A log of a frame at the first moment, the same at the last, and half a minute after the first
+/// one that came over a digipeater: its book is `MERGED_TEXT`.
 pub const THREE_LINES: &[u8] =
     b"1970-01-01T00:00:00Z RX1 c00082a0a4a64040e09c60868298986f03f03e4869c0
 2099-12-31T23:59:59Z RX2 c00082a0a4a64040e09c60868298986f03f03e4869c0

@@ -22,4 +22,5 @@ returns-in_err-check_log-clause-answered g c =
 pub returns-in_err-check_log-clause-write : goal.returns-in_err-check_log-clause-write
 returns-in_err-check_log-clause-write g c =
     let p = err_from_is_err_and c.from_residual.result c.from_residual.ensures.1 in
-    rw (p.1, p.2) (λ e. c.in_err-check_log.ensures.write (write_as_run c.in_err-check_log.field-0.0 e))
+    rw (p.1, p.2) (λ e. c.in_err-check_log.ensures.write
+    (write_as_run c.in_err-check_log.field-0.0 e))
