@@ -16,8 +16,8 @@ ghost use Rattle.aprs_log.specs.Moment.{moment_of};
 
 use crate::help;
 use crate::jobs::{Job, JobFault};
-use aprs_laws::Gap;
 use aprs_convert::Form;
+use aprs_laws::Gap;
 use aprs_log::{Moment, Receiver};
 use clap::builder::{PossibleValue, ValueParser};
 use clap::error::ErrorKind;

@@ -1,6 +1,6 @@
 //! What the program is asked to do.
-use aprs_laws::Gap;
 use aprs_convert::Form;
+use aprs_laws::Gap;
 
 /// What the program's arguments ask for, with the paths of its inputs; without any, standard input
 /// is read.
