@@ -7,7 +7,7 @@ ghost use Rattle.aprs_io.specs.Device.{device_of, failures_of, Rose, AppendsPref
 ghost use Rattle.aprs_kiss.specs.Spelling.{kiss_text, spelling_of_byte};
 ghost use Rattle.aprs_log.specs.Line.{line_of, written_line};
 ghost use Rattle.aprs_log.specs.Moment.{moment_text};
-ghost use Rattle.aprs_log.specs.declared.civil.TheConstants.{MILLIS_LEN};
+ghost use Rattle.aprs_log.specs.declared.civil.TheConstants.{MILLIS_LEN as LEN};
 ghost use Rattle.aprs_log.specs.declared.line.TheConstants.{MAX_LINE};
 
 use crate::civil::MILLIS_LEN;
@@ -52,7 +52,7 @@ pub struct LogWriter {
     spelled: [u8; MAX_SPELLED],
     /// The moment whose text the line begins with.
     moment: Option<Moment>,
-    ghost begins: { IfSome moment (λ m. take MILLIS_LEN line ≡ moment_text m) } by { Prim.hlevel props },
+    ghost begins: { IfSome moment (λ m. take LEN line ≡ moment_text m) } by { Prim.hlevel props },
 }
 
 impl LogWriter {
@@ -87,7 +87,7 @@ impl LogWriter {
 
     /// Has the line begin with the text of a moment, as it may from the line before.
     fn begin(&mut self, moment: Moment)
-        ensures line { take MILLIS_LEN self.new.line ≡ moment_text moment }
+        ensures line { take LEN self.new.line ≡ moment_text moment }
         ensures moment { self.new.moment ≡ Some moment }
     {
         let is_there = match &self.moment {
@@ -106,7 +106,7 @@ impl LogWriter {
 fn put_line(line: &mut [u8], spelled: &mut [u8], reception: &Reception) -> usize
     requires line { length line.old ≡ MAX_WRITTEN }
     requires spelled { length spelled.old ≡ MAX_SPELLED }
-    requires begins { take MILLIS_LEN line.old ≡ moment_text reception.now.moment }
+    requires begins { take LEN line.old ≡ moment_text reception.now.moment }
     ensures fits { result ≤ MAX_WRITTEN }
     ensures len { length line.new ≡ MAX_WRITTEN }
     ensures line { take result line.new ≡ written_line reception.now ++ 10 ∷ [] }
