@@ -17,8 +17,8 @@ use Rattle.aprs_laws.proofs.Pushes.{empty_or_last}
 use Rattle.aprs_book.proofs.Places.{by_order}
 use Rattle.aprs_book.proofs.Names.{same_bytes}
 use Rattle.aprs_book.proofs.Entries.{order, test, IsWritten, set_same, found_key, AreKeyed-set_value, AreKeyed-insert_entry}
-use Rattle.aprs_book.proofs.KeyBytes.{key_bytes_cmp}
-use Rattle.aprs_book.specs.Keyed.{key_bytes, HaveKey, rows_of, AreKeyed, AreFilled, AreKept, EndsUpTo, IsEndOf}
+use Rattle.aprs_book.proofs.Heads.{head_less}
+use Rattle.aprs_book.specs.Keyed.{head_bytes, HaveHead, rows_of, AreKeyed, AreFilled, AreKept, EndsUpTo, IsEndOf}
 
 bridged_some : (gap : ℕ) (x : Heard) (j : Row) (rows : List Row) → 0 < length (bridged gap x j rows)
 bridged_some gap x j [] = omega arith
@@ -161,21 +161,20 @@ module _ {K V : Type 0} (bytes : K → List ℕ) (rows : V → List Row) where
       rw w.written (filled_set k es new h
       (subst (λ (t : List Row). 0 < length t) (sym f) (filled_found k es old h (sym w.found))))
 
-have_last : (k : List ℕ) (prefix : List Row) (l : Row) → HaveKey k (prefix ++ l ∷ [])
-    → key_bytes (row_key l) ≡ k
+have_last : (k : List ℕ) (prefix : List Row) (l : Row) → HaveHead k (prefix ++ l ∷ [])
+    → head_bytes (row_key l) ≡ k
 have_last k [] l h = h.0
 have_last k (r ∷ prefix) l h = have_last k prefix l h.1
 
-have_append : (k : List ℕ) (rows : List Row) (x : Row) → HaveKey k rows
-    → key_bytes (row_key x) ≡ k → HaveKey k (rows ++ x ∷ [])
+have_append : (k : List ℕ) (rows : List Row) (x : Row) → HaveHead k rows
+    → head_bytes (row_key x) ≡ k → HaveHead k (rows ++ x ∷ [])
 have_append k [] x h e = (e, tt)
 have_append k (r ∷ rows) x h e = (h.0, have_append k rows x h.1 e)
 
 not_above : (x l : Row) → IsUpTo key_cmp (row_key l) (row_key x)
-    → bytes_cmp (key_bytes (row_key x)) (key_bytes (row_key l)) ≡ Less → ⊥
+    → bytes_cmp (head_bytes (row_key x)) (head_bytes (row_key l)) ≡ Less → ⊥
 not_above x l u e =
-    let f : key_cmp (row_key x) (row_key l) ≡ Less = sym (key_bytes_cmp (row_key x) (row_key l))
-    ∙ e in
+    let f = head_less (row_key x) (row_key l) e in
     let g : key_cmp (row_key l) (row_key x) ≡ Greater =
     key_total.antisymm (row_key l) (row_key x) ∙ ap ordering_reverse f in
     let h : true ≡ false = sym (ap is_gt g) ∙ u in absurd (cc)
@@ -187,14 +186,14 @@ module _ {K V : Type 0} (bytes : K → List ℕ) (rows : V → List Row) where
   none_above : (x : Row) (es : List (K × V))
       → IsStrictlySortedBy (order bytes rows) (keys_of es) → AreKeyed bytes rows es
       → AreFilled bytes rows es → EndsUpTo x (rows_of bytes rows es)
-      → NoneAbove (key_bytes (row_key x)) es
+      → NoneAbove (head_bytes (row_key x)) es
   none_above x [] s g h u = tt
   none_above x (e ∷ []) s g h u = (
     λ below. elim (empty_or_last (rows e.1)) [
       | inl n ↦ absurd (omega (arith, h.0, ap length n))
       | inr t ↦ not_above x t.1 (u t.0 t.1 (append-nil (rows e.1) ∙ t.2))
-          (ap (bytes_cmp (key_bytes (row_key x)))
-          (have_last (bytes e.0) t.0 t.1 (subst (HaveKey (bytes e.0)) t.2 g.0)) ∙ below)
+          (ap (bytes_cmp (head_bytes (row_key x)))
+          (have_last (bytes e.0) t.0 t.1 (subst (HaveHead (bytes e.0)) t.2 g.0)) ∙ below)
     ],
     tt,
   )
@@ -203,7 +202,7 @@ module _ {K V : Type 0} (bytes : K → List ℕ) (rows : V → List Row) where
       h.1
       (λ prefix l p. u (rows e.1 ++ prefix) l
       (ap (λ t. rows e.1 ++ t) p ∙ sym (append_assoc (rows e.1) prefix (l ∷ [])))) in (
-        λ below. rest.0 (bytes_total.trans (key_bytes (row_key x)) (bytes e.0) (bytes f.0) below
+        λ below. rest.0 (bytes_total.trans (head_bytes (row_key x)) (bytes e.0) (bytes f.0) below
             (sorted_head (order bytes rows) e.0 (keys_of (f ∷ es)) s).0),
         rest,
       )
@@ -245,10 +244,10 @@ module _ {K V : Type 0} (bytes : K → List ℕ) (rows : V → List Row) where
       (λ o. rw o (ap (λ t. rows e.1 ++ t) (push_absent key es new x n.1 (rw o at found) made)
       ∙ sym (append_assoc (rows e.1) (rows_of bytes rows es) (x ∷ []))))
 
-  -- ---- what the code does: x goes after all rows, and k is the bytes of its key
+  -- ---- what the code does: x goes after all rows, and k is the head of its key
 
   pub record IsAfter (x : Row) (k : List ℕ) (es : List (K × V)) : Type 0 where
-    pub key : k ≡ key_bytes (row_key x)
+    pub key : k ≡ head_bytes (row_key x)
     pub sorted : IsStrictlySortedBy (order bytes rows) (keys_of es)
     pub kept : AreKept bytes rows es
     pub ends : EndsUpTo x (rows_of bytes rows es)
@@ -275,7 +274,7 @@ module _ {K V : Type 0} (bytes : K → List ℕ) (rows : V → List Row) where
       rw w (set_same bytes rows k es old new (sym found) e)
 
   after_put : (k : List ℕ) (es : List (K × V)) (new : V) → AreKept bytes rows es
-      → HaveKey k (rows new) → 0 < length (rows new)
+      → HaveHead k (rows new) → 0 < length (rows new)
       → AreKept bytes rows (set_value (test bytes rows k) es new)
   after_put k es new t h s =
       (AreKeyed-set_value bytes rows k es new t.0 h, filled_set bytes rows k es new t.1 s)
@@ -287,11 +286,11 @@ module _ {K V : Type 0} (bytes : K → List ℕ) (rows : V → List Row) where
   after_kept x k es es' old new (Ok _) b found w e f =
       let have = found_key bytes rows k es old b.kept.0 (sym found) in
       rw w (after_put k es new b.kept
-      (subst (HaveKey k) (sym e) (have_append k (rows old) x have (sym b.key)))
+      (subst (HaveHead k) (sym e) (have_append k (rows old) x have (sym b.key)))
       (omega (arith, ap length e, length-append (rows old) (x ∷ []))))
   after_kept x k es es' old new (Err _) b found w e f =
       rw w (after_put k es new b.kept
-      (subst (HaveKey k) (sym f) (found_key bytes rows k es old b.kept.0 (sym found)))
+      (subst (HaveHead k) (sym f) (found_key bytes rows k es old b.kept.0 (sym found)))
       (subst (λ (t : List Row). 0 < length t) (sym f)
       (filled_found bytes rows k es old b.kept.1 (sym found))))
 
@@ -307,7 +306,7 @@ module _ {K V : Type 0} (bytes : K → List ℕ) (rows : V → List Row) where
             made,
         (
           AreKeyed-insert_entry bytes rows key es new b.kept.0
-              (subst (HaveKey (bytes key)) (sym made) (sym b.key ∙ sym i, tt)),
+              (subst (HaveHead (bytes key)) (sym made) (sym b.key ∙ sym i, tt)),
           filled_insert bytes rows key es new b.kept.1 (rw made (omega arith)),
         ),
       )

@@ -2,6 +2,8 @@
 mod Letters
 mod KnownSteps
 mod KeyBytes
+mod Heads
+mod SameCalls
 mod IndexSteps
 mod MergedKeys
 mod Entries

@@ -13,16 +13,16 @@ use Rattle.aprs_laws.specs.Row.{Row, row_key, row_cmp}
 use Rattle.aprs_laws.specs.JoinRow.{combine, place, coalesce, coalesced, interleave}
 use Rattle.aprs_laws.proofs.Orders.{bytes_total}
 use Rattle.aprs_book.proofs.Places.{by_order}
-use Rattle.aprs_book.proofs.KeyBytes.{key_bytes_cmp}
+use Rattle.aprs_book.proofs.Heads.{head_less}
 use Rattle.aprs_book.proofs.Entries.{order, Above, below_all, combined, AreKeyed-insert_entry}
 use Rattle.aprs_book.proofs.EntryEnds.{filled_insert}
 use Rattle.aprs_book.proofs.MergedKeys.{interleave-nil, IsBelowAll, AreBelow, merged_keys}
-use Rattle.aprs_book.specs.Keyed.{key_bytes, HaveKey, rows_of, AreKeyed, AreKept, PutsRows, held}
+use Rattle.aprs_book.specs.Keyed.{head_bytes, HaveHead, rows_of, AreKeyed, AreKept, PutsRows, held}
 
 -- ---- the rows of one key
 
-have_coalesce : (gap : ℕ) (k : List ℕ) (l : Row) (rows : List Row) → key_bytes (row_key l) ≡ k
-    → HaveKey k rows → HaveKey k (coalesce gap l rows)
+have_coalesce : (gap : ℕ) (k : List ℕ) (l : Row) (rows : List Row) → head_bytes (row_key l) ≡ k
+    → HaveHead k rows → HaveHead k (coalesce gap l rows)
 have_coalesce gap k l [] e h = (e, tt)
 have_coalesce gap k l (x ∷ rows) e h =
     by_order (place gap l x)
@@ -30,14 +30,14 @@ have_coalesce gap k l (x ∷ rows) e h =
     (λ o. rw o (have_coalesce gap k (combine l x) rows (combined l x k e h.0) h.1))
     (λ o. rw o (e, have_coalesce gap k x rows h.0 h.1))
 
-have_coalesced : (gap : ℕ) (k : List ℕ) (rows : List Row) → HaveKey k rows
-    → HaveKey k (coalesced gap rows)
+have_coalesced : (gap : ℕ) (k : List ℕ) (rows : List Row) → HaveHead k rows
+    → HaveHead k (coalesced gap rows)
 have_coalesced gap k [] h = tt
 have_coalesced gap k (l ∷ rows) h = have_coalesce gap k l rows h.0 h.1
 
 have_from : (k : List ℕ) (r : Row) (a b : List Row)
-    → ((b : List Row) → HaveKey k b → HaveKey k (interleave a b))
-    → key_bytes (row_key r) ≡ k → HaveKey k a → HaveKey k b → HaveKey k (interleave (r ∷ a) b)
+    → ((b : List Row) → HaveHead k b → HaveHead k (interleave a b))
+    → head_bytes (row_key r) ≡ k → HaveHead k a → HaveHead k b → HaveHead k (interleave (r ∷ a) b)
 have_from k r a [] rest e h g = (e, h)
 have_from k r a (s ∷ b) rest e h g =
     by_order (row_cmp s r)
@@ -45,8 +45,8 @@ have_from k r a (s ∷ b) rest e h g =
     (λ o. rw o (e, rest (s ∷ b) g))
     (λ o. rw o (e, rest (s ∷ b) g))
 
-have_interleave : (k : List ℕ) (a b : List Row) → HaveKey k a → HaveKey k b
-    → HaveKey k (interleave a b)
+have_interleave : (k : List ℕ) (a b : List Row) → HaveHead k a → HaveHead k b
+    → HaveHead k (interleave a b)
 have_interleave k [] b h g = g
 have_interleave k (r ∷ a) b h g =
     have_from k r a b (λ c q. have_interleave k a c h.1 q) h.0 h.1 g
@@ -71,12 +71,12 @@ some_interleave (r ∷ a) (s ∷ b) h =
     by_order (row_cmp s r) (λ o. rw o (omega arith)) (λ o. rw o (omega arith))
     (λ o. rw o (omega arith))
 
-below_row : (k : List ℕ) (r : Row) (rows : List Row) (l : List ℕ) → key_bytes (row_key r) ≡ k
-    → HaveKey l rows → bytes_cmp k l ≡ Less → IsBelowAll r rows
+below_row : (k : List ℕ) (r : Row) (rows : List Row) (l : List ℕ) → head_bytes (row_key r) ≡ k
+    → HaveHead l rows → bytes_cmp k l ≡ Less → IsBelowAll r rows
 below_row k r [] l e h b = tt
 below_row k r (s ∷ rows) l e h b = (
-  sym (key_bytes_cmp (row_key r) (row_key s))
-      ∙ ap (λ t. bytes_cmp t (key_bytes (row_key s))) e ∙ ap (bytes_cmp k) h.0 ∙ b,
+  head_less (row_key r) (row_key s)
+      (ap (λ t. bytes_cmp t (head_bytes (row_key s))) e ∙ ap (bytes_cmp k) h.0 ∙ b),
   below_row k r rows l e h.1 b,
 )
 
@@ -85,7 +85,7 @@ below_append r [] b h g = g
 below_append r (s ∷ a) b h g = (h.0, below_append r a b h.1 g)
 
 module _ {K V : Type 0} (bytes : K → List ℕ) (rows : V → List Row) where
-  below_entries : (k : List ℕ) (r : Row) (es : List (K × V)) → key_bytes (row_key r) ≡ k
+  below_entries : (k : List ℕ) (r : Row) (es : List (K × V)) → head_bytes (row_key r) ≡ k
       → AreKeyed bytes rows es → Above bytes rows k es → IsBelowAll r (rows_of bytes rows es)
   below_entries k r [] e g a = tt
   below_entries k r (d ∷ es) e g a =
@@ -93,7 +93,7 @@ module _ {K V : Type 0} (bytes : K → List ℕ) (rows : V → List Row) where
       (below_row k r (rows d.1) (bytes d.0) e g.0 a.0)
       (below_entries k r es e g.1 a.1)
 
-  are_below : (k : List ℕ) (x : List Row) (es : List (K × V)) → HaveKey k x
+  are_below : (k : List ℕ) (x : List Row) (es : List (K × V)) → HaveHead k x
       → AreKeyed bytes rows es → Above bytes rows k es → AreBelow x (rows_of bytes rows es)
   are_below k [] es h g a = tt
   are_below k (r ∷ x) es h g a = (below_entries k r es h.0 g a, are_below k x es h.1 g a)
@@ -108,7 +108,7 @@ module _ {K V : Type 0} (bytes : K → List ℕ) (rows : V → List Row) where
   record IsCut (k : List ℕ) (es : List (K × V)) (x : List Row)
       (others : List (K × V)) : Type 0 where
     split : rows_of bytes rows es ≡ x ++ rows_of bytes rows others
-    have : HaveKey k x
+    have : HaveHead k x
     above : Above bytes rows k others
     rest : IsRest others
 
@@ -116,7 +116,7 @@ module _ {K V : Type 0} (bytes : K → List ℕ) (rows : V → List Row) where
       → IsCut k (e ∷ es) (rows e.1) es
   cut_head k e es r i = record {
     split = refl;
-    have = subst (λ (t : List ℕ). HaveKey t (rows e.1)) i r.kept.0.0;
+    have = subst (λ (t : List ℕ). HaveHead t (rows e.1)) i r.kept.0.0;
     above = subst (λ (t : List ℕ). Above bytes rows t es) i
         (sorted_head (order bytes rows) e.0 (keys_of es) r.sorted);
     rest = record {
@@ -218,7 +218,7 @@ module _ {K V : Type 0} (bytes : K → List ℕ) (rows : V → List Row) where
         (sym (put_after done key v b));
     kept = (
       AreKeyed-insert_entry bytes rows key done v m.kept.0
-          (subst (HaveKey (bytes key)) (sym made)
+          (subst (HaveHead (bytes key)) (sym made)
           (have_coalesced gap (bytes key) (interleave x y)
           (have_interleave (bytes key) x y c.have d.have))),
       filled_insert bytes rows key done v m.kept.1

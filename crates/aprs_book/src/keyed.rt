@@ -1,4 +1,4 @@
-//! The rows of a book by their keys.
+//! The rows of a book by the heads of their keys.
 ghost use Rattle.std.specs.Prelude.{◌≡◌, ◌+◌, [], ◌∷◌, ◌++◌, length, true, IsOk, IfOk, OnOk, OnErr};
 ghost use Rattle.aprs_book.specs.Keyed.{EndsUpTo, IsEndOf, rows_of};
 ghost use Rattle.aprs_book.specs.Refusal.{refusal};
@@ -10,7 +10,7 @@ ghost use Rattle.aprs_laws.specs.Inserted.{inserted, fits_in_place};
 ghost use Rattle.aprs_laws.specs.Sound.{Sound};
 
 use crate::kept_row::KeptRow;
-use crate::key_bytes::key_bytes;
+use crate::key_bytes::{HEAD, head_bytes};
 use crate::merging_keys::{put_joined, put_merged};
 use crate::millis::Millis;
 use crate::place::put;
@@ -24,9 +24,10 @@ use std::cmp::Ordering;
 use std::collections::BTreeMap;
 use std::marker::Model;
 
-/// The rows of each key, by the bytes of the keys. No key is without rows.
+/// The rows of the keys with one head, in their order, by that head. No head is without rows. Most
+/// heads are of one key, so that a key is found by comparing heads, which lie in the map itself.
 pub(crate) struct KeyedRows<A: Allocator = Global> {
-    map: BTreeMap<Vec<u8, A>, Vec<KeptRow<A>, A>, A>,
+    map: BTreeMap<[u8; HEAD], Vec<KeptRow<A>, A>, A>,
     /// The number of the rows of all keys.
     count: usize,
     alloc: A,
@@ -50,10 +51,10 @@ impl<A: Allocator> Model for KeyedRows<A> {
 
     ghost Value = { List RowValue };
 
-    ghost view = { λ b. rows_of (λ k. k.items) (λ v. v.items) b.map.entries };
+    ghost view = { λ b. rows_of (λ k. k) (λ v. v.items) b.map.entries };
 
-    ghost invariant = { λ b. AreKept (λ k. k.items) (λ v. v.items) b.map.entries
-        × (b.count ≡ length (rows_of (λ k. k.items) (λ v. v.items) b.map.entries)) };
+    ghost invariant = { λ b. AreKept (λ k. k) (λ v. v.items) b.map.entries
+        × (b.count ≡ length (rows_of (λ k. k) (λ v. v.items) b.map.entries)) };
 }
 
 impl<A: Allocator + Copy> KeyedRows<A> {
@@ -87,7 +88,7 @@ impl<A: Allocator + Copy> KeyedRows<A> {
         Walk::of(self.map.values())
     }
 
-    /// The rows of both, key by key, in one pass over the keys of both.
+    /// The rows of both, head by head, in one pass over the heads of both.
     pub(crate) fn merged(&self, gap: Millis, other: &KeyedRows<A>) -> Result<KeyedRows<A>, Memory>
         ensures { IfOk result (λ both. both ≡ coalesced gap (interleave self.now other.now)) }
     {
@@ -100,28 +101,28 @@ impl<A: Allocator + Copy> KeyedRows<A> {
         loop {
             match (our, their) {
                 (None, None) => break,
-                (Some((key, x)), None) => {
-                    put_joined(alloc, gap, &mut map, key.as_slice(), x.as_slice())?;
+                (Some((head, x)), None) => {
+                    put_joined(alloc, gap, &mut map, head, x.as_slice())?;
                     our = ours.next();
                 }
-                (None, Some((key, y))) => {
-                    put_joined(alloc, gap, &mut map, key.as_slice(), y.as_slice())?;
+                (None, Some((head, y))) => {
+                    put_joined(alloc, gap, &mut map, head, y.as_slice())?;
                     their = theirs.next();
                 }
-                (Some((key, x)), Some((other_key, y))) => {
-                    match key.as_slice().cmp(other_key.as_slice()) {
+                (Some((head, x)), Some((other_head, y))) => {
+                    match head.cmp(other_head) {
                         Ordering::Less => {
-                            put_joined(alloc, gap, &mut map, key.as_slice(), x.as_slice())?;
+                            put_joined(alloc, gap, &mut map, head, x.as_slice())?;
                             our = ours.next();
                         }
                         Ordering::Equal => {
-                            let (k, x, y) = (key.as_slice(), x.as_slice(), y.as_slice());
-                            put_merged(alloc, gap, &mut map, k, x, y)?;
+                            let (x, y) = (x.as_slice(), y.as_slice());
+                            put_merged(alloc, gap, &mut map, head, x, y)?;
                             our = ours.next();
                             their = theirs.next();
                         }
                         Ordering::Greater => {
-                            put_joined(alloc, gap, &mut map, other_key.as_slice(), y.as_slice())?;
+                            put_joined(alloc, gap, &mut map, other_head, y.as_slice())?;
                             their = theirs.next();
                         }
                     }
@@ -132,7 +133,7 @@ impl<A: Allocator + Copy> KeyedRows<A> {
         Ok(KeyedRows { map, count, alloc })
     }
 
-    /// The last key's rows.
+    /// The last head's rows.
     fn last_rows(&self) -> &[KeptRow<A>]
         ensures { IsEndOf result.now self.now }
     {
@@ -148,17 +149,16 @@ impl<A: Allocator + Copy> KeyedRows<A> {
         ensures added { OnOk result (self.new ≡ self.old ++ row ∷ []) }
         ensures unchanged { OnErr result (self.new ≡ self.old) }
     {
-        let bytes = key_bytes(row.greatest().frame());
+        let head = head_bytes(row.greatest().frame());
         let mut count = self.count;
-        if let Some(rows) = self.map.get_mut(bytes.as_slice()) {
+        if let Some(rows) = self.map.get_mut(&head) {
             let pushed = push_one(rows, &mut count, row);
             self.count = count;
             return pushed;
         }
-        let key = owned(self.alloc, bytes.as_slice())?;
         let mut rows = Vec::new(self.alloc);
         push_one(&mut rows, &mut count, row)?;
-        if self.map.insert(key, rows).is_err() {
+        if self.map.insert(head, rows).is_err() {
             return Err(Memory);
         }
         self.count = count;
@@ -192,17 +192,16 @@ impl<A: Allocator + Copy> KeyedRows<A> {
         ensures unchanged { OnErr result (self.new ≡ self.old) }
         ensures in_place { fits_in_place gap x.now self.old ≡ true → IsOk result }
     {
-        let bytes = key_bytes(x.frame());
+        let head = head_bytes(x.frame());
         let mut count = self.count;
-        if let Some(rows) = self.map.get_mut(bytes.as_slice()) {
+        if let Some(rows) = self.map.get_mut(&head) {
             let taken = put(gap, rows, &mut count, x);
             self.count = count;
             return taken;
         }
-        let key = owned(self.alloc, bytes.as_slice())?;
         let mut rows = Vec::new(self.alloc);
         put(gap, &mut rows, &mut count, x)?;
-        if self.map.insert(key, rows).is_err() {
+        if self.map.insert(head, rows).is_err() {
             return Err(Memory);
         }
         self.count = count;
@@ -210,7 +209,7 @@ impl<A: Allocator + Copy> KeyedRows<A> {
     }
 }
 
-/// Puts a row after the others of its key. `count` is the number of the rows of all keys, and goes
+/// Puts a row after the others of its head. `count` is the number of the rows of all keys, and goes
 /// with them.
 fn push_one<A: Allocator + Copy>(
     rows: &mut Vec<KeptRow<A>, A>,
@@ -234,10 +233,10 @@ fn push_one<A: Allocator + Copy>(
 
 /// The number of the rows of all keys.
 fn number_of_rows<A: Allocator + Copy>(
-    map: &BTreeMap<Vec<u8, A>, Vec<KeptRow<A>, A>, A>,
+    map: &BTreeMap<[u8; HEAD], Vec<KeptRow<A>, A>, A>,
 ) -> Result<usize, Memory>
     ensures { IfOk result (λ n.
-        n ≡ length (rows_of (λ k. k.items) (λ v. v.items) map.now.entries)) }
+        n ≡ length (rows_of (λ k. k) (λ v. v.items) map.now.entries)) }
 {
     let mut count: usize = 0;
     for rows in map.values() {

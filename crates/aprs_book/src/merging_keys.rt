@@ -1,50 +1,48 @@
-//! The rows of two books in one, key by key.
+//! The rows of two books in one, head by head.
 ghost use Rattle.std.specs.Prelude.{◌≡◌, IfOk, OnOk};
 ghost use Rattle.aprs_laws.specs.JoinRow.{interleave, coalesced};
 ghost use Rattle.aprs_book.specs.Keyed.{PutsRows};
 
 use crate::Memory;
 use crate::kept_row::KeptRow;
-use crate::keyed::owned;
+use crate::key_bytes::HEAD;
 use crate::merging::{joined_rows, merged_rows};
 use crate::millis::Millis;
 use std::alloc::Allocator;
 use std::collections::BTreeMap;
 
-/// Puts one key's rows of both at the end.
+/// Puts one head's rows of both at the end.
 pub(crate) fn put_merged<A: Allocator + Copy>(
     alloc: A,
     gap: Millis,
-    map: &mut BTreeMap<Vec<u8, A>, Vec<KeptRow<A>, A>, A>,
-    key: &[u8],
+    map: &mut BTreeMap<[u8; HEAD], Vec<KeptRow<A>, A>, A>,
+    head: &[u8; HEAD],
     ours: &[KeptRow<A>],
     theirs: &[KeptRow<A>],
 ) -> Result<(), Memory>
-    ensures { OnOk result (PutsRows (λ k. k.items) (λ v. v.items) map.old.entries map.new.entries
-        key.now (coalesced gap (interleave ours.now theirs.now))) }
+    ensures { OnOk result (PutsRows (λ k. k) (λ v. v.items) map.old.entries map.new.entries
+        head.now (coalesced gap (interleave ours.now theirs.now))) }
 {
-    let key = owned(alloc, key)?;
     let rows = merged_rows(alloc, gap, ours, theirs)?;
-    if map.insert(key, rows).is_err() {
+    if map.insert(*head, rows).is_err() {
         return Err(Memory);
     }
     Ok(())
 }
 
-/// Puts one key's rows of either at the end.
+/// Puts one head's rows of either at the end.
 pub(crate) fn put_joined<A: Allocator + Copy>(
     alloc: A,
     gap: Millis,
-    map: &mut BTreeMap<Vec<u8, A>, Vec<KeptRow<A>, A>, A>,
-    key: &[u8],
+    map: &mut BTreeMap<[u8; HEAD], Vec<KeptRow<A>, A>, A>,
+    head: &[u8; HEAD],
     rows: &[KeptRow<A>],
 ) -> Result<(), Memory>
-    ensures { OnOk result (PutsRows (λ k. k.items) (λ v. v.items) map.old.entries map.new.entries
-        key.now (coalesced gap rows.now)) }
+    ensures { OnOk result (PutsRows (λ k. k) (λ v. v.items) map.old.entries map.new.entries
+        head.now (coalesced gap rows.now)) }
 {
-    let key = owned(alloc, key)?;
     let rows = joined_rows(alloc, gap, rows)?;
-    if map.insert(key, rows).is_err() {
+    if map.insert(*head, rows).is_err() {
         return Err(Memory);
     }
     Ok(())

@@ -1,18 +1,19 @@
-//! The walk over the rows of a book, key by key.
+//! The walk over the rows of a book, head by head.
 ghost use Rattle.std.specs.Prelude.{◌≡◌, ◌++◌, List};
 ghost use Rattle.std.specs.List.{flat_map};
 ghost use Rattle.std.specs.Iterator.{YieldsFirstRef, item_count};
 
 use crate::kept_row::KeptRow;
+use crate::key_bytes::HEAD;
 use std::alloc::{Allocator, Global};
 use std::collections::btree_map::Values;
 use std::marker::Model;
 
-/// The rows as they are kept that are still to come, in order: those of one key, then all others.
+/// The rows as they are kept that are still to come, in order: those of one head, then all others.
 #[derive(Drop)]
 pub(crate) struct Walk<'a, A: Allocator = Global> {
     rows: &'a [KeptRow<A>],
-    others: Values<'a, Vec<u8, A>, Vec<KeptRow<A>, A>>,
+    others: Values<'a, [u8; HEAD], Vec<KeptRow<A>, A>>,
 }
 
 impl<'a, A: Allocator> Model for Walk<'a, A> {
@@ -26,8 +27,8 @@ impl<'a, A: Allocator> Model for Walk<'a, A> {
 }
 
 impl<'a, A: Allocator> Walk<'a, A> {
-    /// These rows of all keys.
-    pub(crate) fn of(others: Values<'a, Vec<u8, A>, Vec<KeptRow<A>, A>>) -> Walk<'a, A>
+    /// These rows of all heads.
+    pub(crate) fn of(others: Values<'a, [u8; HEAD], Vec<KeptRow<A>, A>>) -> Walk<'a, A>
         ensures { result ≡ flat_map (λ v. v.items) others.entry }
     {
         Walk { rows: &[], others }

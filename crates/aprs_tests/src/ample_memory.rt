@@ -130,7 +130,8 @@ fn a_hundred_lines_are_read(rt: HostRuntime) -> Result<(), Fail> {
 
 /// What is written of the nine inputs' one row, and what is listed of it.
 const ONE_ROW: &[u8] = b"APRSBOOK 3 30
-T 2024-05-01T12:00:00.000Z 2024-05-01T13:39:30.000Z RX1,RX2 RX2 82a0a4a64040e09c60868298986f03f03e4869
+T 2024-05-01T12:00:00.000Z 2024-05-01T13:39:30.000Z RX1,RX2 RX2 \
+    82a0a4a64040e09c60868298986f03f03e4869
 END 1
 ";
 

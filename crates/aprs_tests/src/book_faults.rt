@@ -27,37 +27,46 @@ fn text_of(alloc: Global, lines: &[&[u8]], last: &[u8]) -> Result<Vec<u8>, Fail>
     Ok(text)
 }
 
+/// Lines in the place of the one row, each with the fault of its text, if there is one.
+const JUDGED_LINES: [(&[u8], Option<(u64, &str)>); 8] = [
+    (
+        b"T 2024-05-01T12:00:00.000Z 2024-05-01T12:00:00.000Z RX1,RX2 RX1 \
+        82a0a4a64040e09c60868298986f03f03e4869",
+        Some((2, "NotGreatest")),
+    ),
+    (
+        b"T 2024-05-01T11:59:59.000Z 2024-05-01T12:00:00.000Z RX1,RX2 RX1 \
+        82a0a4a64040e09c60868298986f03f03e4869",
+        None,
+    ),
+    (
+        b"T 2024-05-01T12:00:00.000Z 2024-05-01T12:00:00.000Z RX2,RX1 RX1 \
+        82a0a4a64040e09c60868298986f03f03e4869",
+        Some((2, "Receivers")),
+    ),
+    (
+        b"T 2024-05-01T12:00:00.000Z 2024-05-01T12:00:00.000Z RX1 RX1 \
+        82A0a4a64040e09c60868298986f03f03e4869",
+        Some((2, "RowSyntax")),
+    ),
+    (
+        b"T 2024-05-01T12:00:00.000Z 2024-05-01T12:00:00.000Z RX1 RX1 \
+        82a0a4a64040e09c60868298986f13f03e4869",
+        Some((2, "Frame")),
+    ),
+    (
+        b"T 2024-05-01T12:00:01.000Z 2024-05-01T12:00:00.000Z RX1 RX1 \
+        82a0a4a64040e09c60868298986f03f03e4869",
+        Some((2, "Span")),
+    ),
+    (b"END 2", Some((2, "Ending"))),
+    (b"", Some((2, "RowSyntax"))),
+];
+
 #[test]
 fn each_fault_of_a_line(rt: HostRuntime) -> Result<(), Fail> {
     let alloc = rt.alloc();
-    for (line, fault) in [
-        (
-            b"T 2024-05-01T12:00:00.000Z 2024-05-01T12:00:00.000Z RX1,RX2 RX1 82a0a4a64040e09c60868298986f03f03e4869".as_slice(),
-            Some((2, "NotGreatest")),
-        ),
-        (
-            b"T 2024-05-01T11:59:59.000Z 2024-05-01T12:00:00.000Z RX1,RX2 RX1 82a0a4a64040e09c60868298986f03f03e4869".as_slice(),
-            None,
-        ),
-        (
-            b"T 2024-05-01T12:00:00.000Z 2024-05-01T12:00:00.000Z RX2,RX1 RX1 82a0a4a64040e09c60868298986f03f03e4869".as_slice(),
-            Some((2, "Receivers")),
-        ),
-        (
-            b"T 2024-05-01T12:00:00.000Z 2024-05-01T12:00:00.000Z RX1 RX1 82A0a4a64040e09c60868298986f03f03e4869".as_slice(),
-            Some((2, "RowSyntax")),
-        ),
-        (
-            b"T 2024-05-01T12:00:00.000Z 2024-05-01T12:00:00.000Z RX1 RX1 82a0a4a64040e09c60868298986f13f03e4869".as_slice(),
-            Some((2, "Frame")),
-        ),
-        (
-            b"T 2024-05-01T12:00:01.000Z 2024-05-01T12:00:00.000Z RX1 RX1 82a0a4a64040e09c60868298986f03f03e4869".as_slice(),
-            Some((2, "Span")),
-        ),
-        (b"END 2".as_slice(), Some((2, "Ending"))),
-        (b"".as_slice(), Some((2, "RowSyntax"))),
-    ] {
+    for (line, fault) in JUDGED_LINES {
         let text = text_of(alloc, &[line], b"END 1\n")?;
         assert!(rt; fault_of(alloc, text.as_slice()) == fault);
     }
@@ -66,8 +75,8 @@ fn each_fault_of_a_line(rt: HostRuntime) -> Result<(), Fail> {
 }
 
 /// A row of RX1 alone.
-const ROW: &[u8] =
-    b"T 2024-05-01T12:00:00.000Z 2024-05-01T12:00:00.000Z RX1 RX1 82a0a4a64040e09c60868298986f03f03e4869";
+const ROW: &[u8] = b"T 2024-05-01T12:00:00.000Z 2024-05-01T12:00:00.000Z RX1 RX1 \
+    82a0a4a64040e09c60868298986f03f03e4869";
 
 // What begins with END is a last line, if a wrong one; whatever else differs is no row.
 #[test]
@@ -94,40 +103,50 @@ fn last_lines_have_one_spelling(rt: HostRuntime) -> Result<(), Fail> {
     Ok(())
 }
 
+/// Lines that are almost a row, each with the cause of its fault.
+const MISSPELLED_LINES: [(&[u8], &str); 7] = [
+    (
+        b"t 2024-05-01T12:00:00.000Z 2024-05-01T12:00:00.000Z RX1 RX1 \
+        82a0a4a64040e09c60868298986f03f03e4869",
+        "RowSyntax",
+    ),
+    (
+        b"T 2024-05-01t12:00:00.000Z 2024-05-01T12:00:00.000Z RX1 RX1 \
+        82a0a4a64040e09c60868298986f03f03e4869",
+        "RowSyntax",
+    ),
+    (
+        b"T 2024-05-01T12:00:00.000Z 2024-05-01T12:00:00.000z RX1 RX1 \
+        82a0a4a64040e09c60868298986f03f03e4869",
+        "RowSyntax",
+    ),
+    (
+        b"T 2024-05-01T12:00:00.000Z 2024-05-01T12:00:00.000Z rx1 RX1 \
+        82a0a4a64040e09c60868298986f03f03e4869",
+        "Receivers",
+    ),
+    (
+        b"T 2024-05-01T12:00:00.000Z 2024-05-01T12:00:00.000Z RX1,RX1 RX1 \
+        82a0a4a64040e09c60868298986f03f03e4869",
+        "Receivers",
+    ),
+    (
+        b"T 2024-05-01T12:00:00.000Z 2024-05-01T12:00:00.000Z RX1 RX1 \
+        82A0A4A64040E09C60868298986F03F03E4869",
+        "RowSyntax",
+    ),
+    (
+        b"T 2024-05-01T12:00:00.000Z 2024-05-01T12:00:00.000Z RX1 RX1 \
+        82a0a4a64040e09c60868298986f03f03e4869 ",
+        "RowSyntax",
+    ),
+];
+
 // Lower case and upper case don't stand for each other, and names ascend, each once.
 #[test]
 fn fields_have_one_spelling(rt: HostRuntime) -> Result<(), Fail> {
     let alloc = rt.alloc();
-    for (line, cause) in [
-        (
-            b"t 2024-05-01T12:00:00.000Z 2024-05-01T12:00:00.000Z RX1 RX1 82a0a4a64040e09c60868298986f03f03e4869".as_slice(),
-            "RowSyntax",
-        ),
-        (
-            b"T 2024-05-01t12:00:00.000Z 2024-05-01T12:00:00.000Z RX1 RX1 82a0a4a64040e09c60868298986f03f03e4869".as_slice(),
-            "RowSyntax",
-        ),
-        (
-            b"T 2024-05-01T12:00:00.000Z 2024-05-01T12:00:00.000z RX1 RX1 82a0a4a64040e09c60868298986f03f03e4869".as_slice(),
-            "RowSyntax",
-        ),
-        (
-            b"T 2024-05-01T12:00:00.000Z 2024-05-01T12:00:00.000Z rx1 RX1 82a0a4a64040e09c60868298986f03f03e4869".as_slice(),
-            "Receivers",
-        ),
-        (
-            b"T 2024-05-01T12:00:00.000Z 2024-05-01T12:00:00.000Z RX1,RX1 RX1 82a0a4a64040e09c60868298986f03f03e4869".as_slice(),
-            "Receivers",
-        ),
-        (
-            b"T 2024-05-01T12:00:00.000Z 2024-05-01T12:00:00.000Z RX1 RX1 82A0A4A64040E09C60868298986F03F03E4869".as_slice(),
-            "RowSyntax",
-        ),
-        (
-            b"T 2024-05-01T12:00:00.000Z 2024-05-01T12:00:00.000Z RX1 RX1 82a0a4a64040e09c60868298986f03f03e4869 ".as_slice(),
-            "RowSyntax",
-        ),
-    ] {
+    for (line, cause) in MISSPELLED_LINES {
         let text = text_of(alloc, &[line], b"END 1\n")?;
         assert!(rt; fault_of(alloc, text.as_slice()) == Some((2, cause)));
     }
@@ -136,12 +155,18 @@ fn fields_have_one_spelling(rt: HostRuntime) -> Result<(), Fail> {
 
 /// Rows of three keys, by the SSID of the source, each two 30 seconds apart.
 const NEAR_PAIRS: [&[u8]; 6] = [
-    b"T 2024-05-01T12:00:00.000Z 2024-05-01T12:00:00.000Z RX1 RX1 82a0a4a64040e09c60868298986103f03e4869",
-    b"T 2024-05-01T12:00:30.000Z 2024-05-01T12:00:30.000Z RX1 RX1 82a0a4a64040e09c60868298986103f03e4869",
-    b"T 2024-05-01T12:00:00.000Z 2024-05-01T12:00:00.000Z RX1 RX1 82a0a4a64040e09c60868298986303f03e4869",
-    b"T 2024-05-01T12:00:30.000Z 2024-05-01T12:00:30.000Z RX1 RX1 82a0a4a64040e09c60868298986303f03e4869",
-    b"T 2024-05-01T12:00:00.000Z 2024-05-01T12:00:00.000Z RX1 RX1 82a0a4a64040e09c60868298986f03f03e4869",
-    b"T 2024-05-01T12:00:30.000Z 2024-05-01T12:00:30.000Z RX1 RX1 82a0a4a64040e09c60868298986f03f03e4869",
+    b"T 2024-05-01T12:00:00.000Z 2024-05-01T12:00:00.000Z RX1 RX1 \
+    82a0a4a64040e09c60868298986103f03e4869",
+    b"T 2024-05-01T12:00:30.000Z 2024-05-01T12:00:30.000Z RX1 RX1 \
+    82a0a4a64040e09c60868298986103f03e4869",
+    b"T 2024-05-01T12:00:00.000Z 2024-05-01T12:00:00.000Z RX1 RX1 \
+    82a0a4a64040e09c60868298986303f03e4869",
+    b"T 2024-05-01T12:00:30.000Z 2024-05-01T12:00:30.000Z RX1 RX1 \
+    82a0a4a64040e09c60868298986303f03e4869",
+    b"T 2024-05-01T12:00:00.000Z 2024-05-01T12:00:00.000Z RX1 RX1 \
+    82a0a4a64040e09c60868298986f03f03e4869",
+    b"T 2024-05-01T12:00:30.000Z 2024-05-01T12:00:30.000Z RX1 RX1 \
+    82a0a4a64040e09c60868298986f03f03e4869",
 ];
 
 // The first of each two alone are a book; with a second one, the line of that is at fault.
@@ -170,12 +195,15 @@ fn rows_of_three_keys_are_near_in_pairs(rt: HostRuntime) -> Result<(), Fail> {
 #[test]
 fn a_second_row(rt: HostRuntime) -> Result<(), Fail> {
     let alloc = rt.alloc();
-    let first =
-        b"T 2024-05-01T12:00:00.000Z 2024-05-01T12:00:00.000Z RX1 RX1 82a0a4a64040e09c60868298986f03f03e4869".as_slice();
-    let near =
-        b"T 2024-05-01T12:00:30.000Z 2024-05-01T12:00:30.000Z RX1 RX1 82a0a4a64040e09c60868298986f03f03e4869".as_slice();
-    let far =
-        b"T 2024-05-01T12:00:31.000Z 2024-05-01T12:00:31.000Z RX1 RX1 82a0a4a64040e09c60868298986f03f03e4869".as_slice();
+    let first = b"T 2024-05-01T12:00:00.000Z 2024-05-01T12:00:00.000Z RX1 RX1 \
+        82a0a4a64040e09c60868298986f03f03e4869"
+        .as_slice();
+    let near = b"T 2024-05-01T12:00:30.000Z 2024-05-01T12:00:30.000Z RX1 RX1 \
+        82a0a4a64040e09c60868298986f03f03e4869"
+        .as_slice();
+    let far = b"T 2024-05-01T12:00:31.000Z 2024-05-01T12:00:31.000Z RX1 RX1 \
+        82a0a4a64040e09c60868298986f03f03e4869"
+        .as_slice();
     for (second, fault) in [
         (near, Some((3, "Near"))),
         (far, None),

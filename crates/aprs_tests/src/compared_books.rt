@@ -14,16 +14,16 @@ use std::test::Fail;
 const NOON: u64 = 1_714_564_800_000;
 
 /// The keys of the table's frames, by their place among keys.
-const KEYS: [u8; 6] = [2, 0, 1, 2, 3, 4];
+const KEYS: [u8; 7] = [2, 0, 1, 2, 3, 4, 5];
 
 /// The keys from N0CALL-7: a position, an object and a status.
 const SEVEN: &[u8] = &[0, 1, 2];
 
-/// The keys from N0CALL-8: an item and an object.
-const EIGHT: &[u8] = &[3, 4];
+/// The keys from N0CALL-8: an item, and an object without and with a comment.
+const EIGHT: &[u8] = &[3, 4, 5];
 
-/// Six frames, ascending: of a status the repeated one and the direct one, a position, two of an
-/// object, and one of an item.
+/// Seven frames, ascending: of a status the repeated one and the direct one, a position, one of an
+/// object, one of an item, and two of an object whose keys differ only at their ends.
 fn table(alloc: Global) -> Result<Vec<Frame>, Fail> {
     let mut frames = Vec::new(alloc);
     frames.push(Frame::read(&REPEATED).ok().ok_or("frame")?)?;
@@ -33,6 +33,7 @@ fn table(alloc: Global) -> Result<Vec<Frame>, Fail> {
         (b"N0CALL-7", b">Hi"),
         (b"N0CALL-8", b")LEADER!4903.50N/07201.75W>"),
         (b"N0CALL-8", b";LEADER   _092345z4903.50N/07201.75W>"),
+        (b"N0CALL-8", b";LEADER   _092345z4903.50N/07201.75W>home"),
     ] {
         frames.push(frame_of(source, info)?)?;
     }
@@ -118,7 +119,7 @@ fn same_known(frames: &[Frame], book: &Book, plain: &PlainBook) -> Result<bool, 
         is_greatest(frames, book.position(&seven), plain, &[0])
             && is_greatest(frames, book.status(&seven), plain, &[2])
             && is_greatest(frames, book.position(&eight), plain, &[])
-            && is_greatest(frames, book.object(b"LEADER"), plain, &[1, 4])
+            && is_greatest(frames, book.object(b"LEADER"), plain, &[1, 4, 5])
             && is_greatest(frames, book.item(b"LEADER  "), plain, &[3]),
     )
 }
@@ -265,7 +266,7 @@ impl Numbers {
                 1 => 2,
                 _ => 4,
             },
-            frame: u8::try_from(self.below(6)).unwrap_or(0),
+            frame: u8::try_from(self.below(7)).unwrap_or(0),
         }
     }
 }

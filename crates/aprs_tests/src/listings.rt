@@ -246,19 +246,22 @@ status 2024-05-01T12:00:00.000Z RX1 092345z:Net \\x5c\\x7f
         (
             &[(NOON, FROM, b";MY \\CAR  *092345z4903.50N/07201.75W>\\\x80")],
             "station N0CALL-7 1
-object MY\\x20\\x5cCAR live 2024-05-01T12:00:00.000Z RX1 N0CALL-7 092345z 294350/6000 -432175/6000 0 />:\\x5c\\x80
+object MY\\x20\\x5cCAR live 2024-05-01T12:00:00.000Z RX1 N0CALL-7 092345z \
+    294350/6000 -432175/6000 0 />:\\x5c\\x80
 ",
         ),
         (
             &[(NOON, FROM, b")A \\B_4903.50N/07201.75W>\\\x00")],
             "station N0CALL-7 1
-item A\\x20\\x5cB killed 2024-05-01T12:00:00.000Z RX1 N0CALL-7 - 294350/6000 -432175/6000 0 />:\\x5c\\x00
+item A\\x20\\x5cB killed 2024-05-01T12:00:00.000Z RX1 N0CALL-7 - \
+    294350/6000 -432175/6000 0 />:\\x5c\\x00
 ",
         ),
         (
             &[(NOON, FROM, b":A \\B     :It is \\\xfe{1")],
             "station N0CALL-7 1
-message N0CALL-7 A\\x20\\x5cB 1 unanswered 2024-05-01T12:00:00.000Z 2024-05-01T12:00:00.000Z:It is \\x5c\\xfe
+message N0CALL-7 A\\x20\\x5cB 1 unanswered \
+    2024-05-01T12:00:00.000Z 2024-05-01T12:00:00.000Z:It is \\x5c\\xfe
 ",
         ),
     ];

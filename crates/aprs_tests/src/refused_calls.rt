@@ -130,8 +130,8 @@ fn is_refused(alloc: Global, call: Call, want: usize, units: usize) -> Result<bo
 }
 
 /// The rows of the first book.
-const ROWS: &str =
-    "0-0 RX1 / RX1 6f; 10-10 RX1 / RX1 6f; 40-40 RX1 / RX1 71; 30-30 RX1 / RX1 71; 20-20 RX1 / RX1 61; ";
+const ROWS: &str = "0-0 RX1 / RX1 6f; 10-10 RX1 / RX1 6f; 40-40 RX1 / RX1 71; \
+    30-30 RX1 / RX1 71; 20-20 RX1 / RX1 61; ";
 
 // Room for more and more units, until nothing is refused.
 #[test]

@@ -1,11 +1,12 @@
+use Rattle.std.proofs.Common.{refl}
 use Rattle.aprs_book.proofs.Entries.{on_not_err}
 use Rattle.aprs_book.proofs.merging_keys.put_joined.Goals as goal
 
 pub returns : goal.returns
 returns g c = (
-  c.in_ok-key.key,
+  c.args.head.now,
   c.in_ok-rows.rows,
-  c.in_ok-key.ensures,
+  refl,
   c.in_ok-rows.ensures,
   on_not_err c.insert.result _ c.insert.ensures.entries c.if-is_err.ensures.value,
 )

@@ -1,8 +1,8 @@
-use Rattle.std.proofs.Common.{[], ◌∷◌, ◌++◌, ◌∙◌, sym, ap, subst}
+use Rattle.std.proofs.Common.{[], refl, ◌∷◌, ◌++◌, ◌∙◌, sym, ap, subst}
 use Rattle.std.specs.BTreeMap.{insert_entry}
 use Rattle.aprs_log.specs.Reception.{Heard, bytes_cmp}
 use Rattle.aprs_laws.specs.Key.{key_of}
-use Rattle.aprs_book.specs.Keyed.{key_bytes, EndsUpTo}
+use Rattle.aprs_book.specs.Keyed.{head_bytes, EndsUpTo}
 use Rattle.aprs_book.proofs.Entries.{on_not_err, on_err}
 use Rattle.aprs_book.proofs.EntryEnds.{stays, err_stays, count_set, count_insert, IsAfter, after_ok, after_err, after_kept, after_new}
 use Rattle.aprs_book.proofs.keyed.KeyedRows.append.Goals as goal
@@ -11,19 +11,19 @@ pub invariant_of-self : goal.invariant_of-self
 invariant_of-self g c =
     let x = c.args.row in
     let es = c.self.inside.map.entries in
-    let b : IsAfter (λ k. k.items) (λ v. v.items) x c.as_slice.result.now es =
+    let b : IsAfter (λ k. k) (λ v. v.items) x c.head_bytes-head.result es =
     record {
-      key = c.as_slice.ensures.value ∙ c.key_bytes-bytes.ensures
-          ∙ ap (λ t. key_bytes (key_of t)) (c.frame.ensures
+      key = c.head_bytes-head.ensures
+          ∙ ap (λ t. head_bytes (key_of t)) (c.frame.ensures
           ∙ ap (λ (t : Heard). t.frame) c.greatest.ensures);
       sorted = c.in-Some.ensures.ordered;
       kept = c.self.invariant.0;
       ends = subst (EndsUpTo x) (sym c.self.view_is) c.requires;
     } in (
-      after_kept (λ k. k.items) (λ v. v.items) x _ es _ _ _ c.push_one-pushed.result b
+      after_kept (λ k. k) (λ v. v.items) x _ es _ _ _ c.push_one-pushed.result b
           c.in-Some.ensures.value (c.get_mut.follows.holds c.push_one-pushed.new.rows).0
           c.push_one-pushed.ensures.added c.push_one-pushed.ensures.unchanged,
-      count_set (λ k. k.items) (λ v. v.items) c.as_slice.result.now es _ c.in-Some.rows.now
+      count_set (λ k. k) (λ v. v.items) c.head_bytes-head.result es _ c.in-Some.rows.now
           c.push_one-pushed.new.rows
           c.self.inside.count c.push_one-pushed.new.count c.in-Some.ensures.value
           (c.get_mut.follows.holds c.push_one-pushed.new.rows).0 c.self.invariant.1
@@ -34,22 +34,22 @@ pub returns-in-Some-clause-added : goal.returns-in-Some-clause-added
 returns-in-Some-clause-added g c =
     let x = c.args.row in
     let es = c.self.inside.map.entries in
-    let b : IsAfter (λ k. k.items) (λ v. v.items) x c.as_slice.result.now es =
+    let b : IsAfter (λ k. k) (λ v. v.items) x c.head_bytes-head.result es =
     record {
-      key = c.as_slice.ensures.value ∙ c.key_bytes-bytes.ensures
-          ∙ ap (λ t. key_bytes (key_of t)) (c.frame.ensures
+      key = c.head_bytes-head.ensures
+          ∙ ap (λ t. head_bytes (key_of t)) (c.frame.ensures
           ∙ ap (λ (t : Heard). t.frame) c.greatest.ensures);
       sorted = c.in-Some.ensures.ordered;
       kept = c.self.invariant.0;
       ends = subst (EndsUpTo x) (sym c.self.view_is) c.requires;
     } in
-    rw (← c.self.view_is) (after_ok (λ k. k.items)
+    rw (← c.self.view_is) (after_ok (λ k. k)
     (λ v. v.items) x _ es _ _ _ c.push_one-pushed.result b c.in-Some.ensures.value
     (c.get_mut.follows.holds c.push_one-pushed.new.rows).0 c.push_one-pushed.ensures.added)
 
 pub returns-in-Some-clause-unchanged : goal.returns-in-Some-clause-unchanged
 returns-in-Some-clause-unchanged g c =
-    rw (← c.self.view_is) (after_err (λ k. k.items)
+    rw (← c.self.view_is) (after_err (λ k. k)
     (λ v. v.items) c.args.row _ c.self.inside.map.entries _ _ _ c.push_one-pushed.result
     c.in-Some.ensures.value (c.get_mut.follows.holds c.push_one-pushed.new.rows).0
     c.push_one-pushed.ensures.unchanged)
@@ -65,10 +65,10 @@ pub invariant_of-self-2 : goal.invariant_of-self-2
 invariant_of-self-2 g c =
     let x = c.args.row in
     let es = c.self.inside.map.entries in
-    let b : IsAfter (λ k. k.items) (λ v. v.items) x c.as_slice.result.now es =
+    let b : IsAfter (λ k. k) (λ v. v.items) x c.head_bytes-head.result es =
     record {
-      key = c.as_slice.ensures.value ∙ c.key_bytes-bytes.ensures
-          ∙ ap (λ t. key_bytes (key_of t)) (c.frame.ensures
+      key = c.head_bytes-head.ensures
+          ∙ ap (λ t. head_bytes (key_of t)) (c.frame.ensures
           ∙ ap (λ (t : Heard). t.frame) c.greatest.ensures);
       sorted = c.in_default.ensures.ordered;
       kept = c.self.invariant.0;
@@ -76,18 +76,17 @@ invariant_of-self-2 g c =
     } in
     let put = on_not_err c.insert.result _ c.insert.ensures.entries c.if-is_err.ensures.value in
     let same = ap (λ m. m.entries) c.get_mut.follows.holds-at-none in (
-      (after_new (λ k. k.items) (λ v. v.items) x _ es _ c.in_ok-key.key c.push_one.new.rows b
-          c.in_default.ensures.value (c.in_ok-key.ensures ∙ c.as_slice-2.ensures.value
-          ∙ sym c.as_slice.ensures.value) (c.in_ok-push_one.ensures.added
+      (after_new (λ k. k) (λ v. v.items) x _ es _ c.head_bytes-head.result c.push_one.new.rows b
+          c.in_default.ensures.value refl (c.in_ok-push_one.ensures.added
           ∙ ap (λ t. t ++ x ∷ []) c.new-rows.ensures.items)
-          (put ∙ ap (λ t. insert_entry (λ p q. bytes_cmp p.items q.items) t c.in_ok-key.key
+          (put ∙ ap (λ t. insert_entry (bytes_cmp) t c.head_bytes-head.result
           c.push_one.new.rows) same)).1,
-      count_insert (λ k. k.items) (λ v. v.items) c.as_slice.result.now es c.insert.new.self.entries
-          c.in_ok-key.key c.push_one.new.rows c.new-rows.result.items c.self.inside.count
+      count_insert (λ k. k) (λ v. v.items) c.head_bytes-head.result es c.insert.new.self.entries
+          c.head_bytes-head.result c.push_one.new.rows c.new-rows.result.items c.self.inside.count
           c.push_one.new.count c.in_default.ensures.value
-          (c.in_ok-key.ensures ∙ c.as_slice-2.ensures.value ∙ sym c.as_slice.ensures.value)
+          refl
           c.new-rows.ensures.items (put ∙ ap (λ t. insert_entry
-          (λ p q. bytes_cmp p.items q.items) t c.in_ok-key.key c.push_one.new.rows) same)
+          (bytes_cmp) t c.head_bytes-head.result c.push_one.new.rows) same)
           c.self.invariant.1 c.in_ok-push_one.ensures.counted,
     )
 
@@ -95,10 +94,10 @@ pub returns-clause-added : goal.returns-clause-added
 returns-clause-added g c =
     let x = c.args.row in
     let es = c.self.inside.map.entries in
-    let b : IsAfter (λ k. k.items) (λ v. v.items) x c.as_slice.result.now es =
+    let b : IsAfter (λ k. k) (λ v. v.items) x c.head_bytes-head.result es =
     record {
-      key = c.as_slice.ensures.value ∙ c.key_bytes-bytes.ensures
-          ∙ ap (λ t. key_bytes (key_of t)) (c.frame.ensures
+      key = c.head_bytes-head.ensures
+          ∙ ap (λ t. head_bytes (key_of t)) (c.frame.ensures
           ∙ ap (λ (t : Heard). t.frame) c.greatest.ensures);
       sorted = c.in_default.ensures.ordered;
       kept = c.self.invariant.0;
@@ -106,16 +105,16 @@ returns-clause-added g c =
     } in
     let put = on_not_err c.insert.result _ c.insert.ensures.entries c.if-is_err.ensures.value in
     let same = ap (λ m. m.entries) c.get_mut.follows.holds-at-none in
-    rw (← c.self.view_is) (after_new (λ k. k.items)
-    (λ v. v.items) x _ es _ c.in_ok-key.key c.push_one.new.rows b c.in_default.ensures.value
-    (c.in_ok-key.ensures ∙ c.as_slice-2.ensures.value ∙ sym c.as_slice.ensures.value)
+    rw (← c.self.view_is) (after_new (λ k. k)
+    (λ v. v.items) x _ es _ c.head_bytes-head.result c.push_one.new.rows b c.in_default.ensures.value
+    refl
     (c.in_ok-push_one.ensures.added ∙ ap (λ t. t ++ x ∷ []) c.new-rows.ensures.items)
-    (put ∙ ap (λ t. insert_entry (λ p q. bytes_cmp p.items q.items) t c.in_ok-key.key
+    (put ∙ ap (λ t. insert_entry (bytes_cmp) t c.head_bytes-head.result
     c.push_one.new.rows) same)).0
 
 pub returns-in_err-push_one-clause-unchanged : goal.returns-in_err-push_one-clause-unchanged
 returns-in_err-push_one-clause-unchanged g c =
-    err_stays (λ k. k.items) (λ v. v.items) c.from_residual-in_err-push_one.result
+    err_stays (λ k. k) (λ v. v.items) c.from_residual.result
     c.self.inside.map.entries _ _ (ap (λ m. m.entries) c.get_mut.follows.holds-at-none)
     c.self.view_is
 
@@ -124,4 +123,4 @@ returns-then-is_err-clause-unchanged g c =
     let same =
     on_err c.insert.result _ c.insert.ensures.err (sym c.if-is_err.true ∙ c.is_err.ensures.value)
     ∙ ap (λ m. m.entries) c.get_mut.follows.holds-at-none in
-    stays (λ k. k.items) (λ v. v.items) c.self.inside.map.entries _ _ same c.self.view_is
+    stays (λ k. k) (λ v. v.items) c.self.inside.map.entries _ _ same c.self.view_is
