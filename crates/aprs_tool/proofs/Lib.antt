@@ -1,3 +1,4 @@
+pub mod Batches
 pub mod Inputs
 pub mod Into
 pub mod Logs

@@ -120,6 +120,11 @@ abbrev pub AddsAll : ℕ → List Heard → List Row → List Row → Type 0
 AddsAll gap T old new =
     (S : List Heard) → BookOf (millis_of gap) S old → BookOf (millis_of gap) (S ++ T) new
 
+-- Of the receptions that wait and those that come, the first are taken, and the others wait.
+abbrev pub AddsSome : ℕ → List Heard → List Heard → List Heard → List Row → List Row → Type 0
+AddsSome gap T waited waits old new =
+    (taken : List Heard) × (waited ++ T ≡ taken ++ waits) × AddsAll gap taken old new
+
 -- The receptions of a faultless input are taken into rows of a book of this gap, and any other
 -- input is refused, or its merge is.
 abbrev pub TakesInput : ℕ → Result (Unit {0}) InputFault → List Row → List Row → List ℕ → Ending

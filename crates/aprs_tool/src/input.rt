@@ -15,12 +15,13 @@ ghost use Rattle.aprs_tool.specs.Inputs.{AddsAll, ReadsInput, ReadsLog};
 ghost use Rattle.aprs_tool.specs.Inputs.{RefusesGaps, TakesInput};
 ghost use Rattle.aprs_tool.specs.Run.{IsReadFault};
 
+use crate::batch::{take_all, take_line};
 use crate::fault::InputFault;
 use crate::head::{ShortInput, read_head};
-use aprs_book::{Book, Gap, Memory, MergeFault};
+use aprs_book::{Book, Gap, MergeFault};
 use aprs_booktext::read_book;
 use aprs_kiss::Counted;
-use aprs_log::{Ending, Line, LogCause, LogFault, LogReader};
+use aprs_log::{Ending, LogCause, LogFault, LogReader};
 use std::alloc::Allocator;
 use std::io::Read;
 
@@ -182,23 +183,13 @@ fn read_log<R: Read, A: Allocator + Copy>(
         (answered_of r.new) }
 {
     let mut reader = LogReader::new(alloc, limit, head, r);
+    let mut waiting = Vec::new(alloc);
     'lines: loop {
         if !reader.advance()? {
+            take_all(alloc, book, waiting.as_slice())?;
             return Ok(());
         }
-        take_line(book, reader.current())?;
-    }
-}
-
-/// Takes the reception of a line, if it has one.
-fn take_line<A: Allocator + Copy>(book: &mut Book<A>, line: &Line) -> Result<(), Memory>
-    ensures adds { OnOk result (AddsAll book.old.gap (receptions_of (line.now ∷ []))
-        book.old.rows book.new.rows) }
-    ensures gap { book.new.gap ≡ book.old.gap }
-{
-    match line {
-        Line::Heard(reception) => book.take(reception),
-        Line::Passed(_) => Ok(()),
+        take_line(alloc, book, &mut waiting, reader.current())?;
     }
 }
 

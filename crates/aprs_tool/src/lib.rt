@@ -1,6 +1,7 @@
 //! Runs over logs, streams and book files.
 #![tactic(auto)]
 
+mod batch;
 mod desk;
 mod fault;
 mod field;

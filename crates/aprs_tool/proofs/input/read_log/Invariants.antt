@@ -17,7 +17,7 @@ invariant-lines g l =
       took : (end : Option (List ℕ)) → Took l.fn.book.gap
           (Awaits (remaining (device_of (source_of l.initial.reader))) end l.initial.reader)
           (Awaits (remaining (device_of (source_of l.reader))) end l.reader) l.fn.book.rows
-          l.book.rows;
+          l.book.rows l.waiting.items;
     }
 
 abbrev pub decreases-lines : goal.decreases-lines
