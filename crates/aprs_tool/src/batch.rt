@@ -9,10 +9,10 @@ use aprs_log::{Line, Reception};
 use std::alloc::Allocator;
 
 /// So many receptions wait for each other at least.
-const LEAST: usize = 256;
+const LEAST: usize = 64;
 /// And one more for so many rows of the book: the more rows there are, the further apart lie those
 /// of receptions that were heard one after another.
-const ROWS_FOR_ONE: usize = 128;
+const ROWS_FOR_ONE: usize = 192;
 
 /// Takes the reception of a line, if it has one, or lets it wait with others.
 pub(crate) fn take_line<A: Allocator + Copy>(

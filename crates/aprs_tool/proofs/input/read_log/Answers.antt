@@ -43,10 +43,10 @@ returns-then-not-branch-clause-reads g c =
     (λ input. HoldsOfGot c.args.limit (c.args.head.now ++ input) k
     (ReadsLog c.args.book.now.gap (Ok tt) c.args.book.now.rows c.take_all.new.book.rows)))
     (ap (λ k. g.R.Read.remaining (device_of k)) (sym back))
-    (Took-ended _ _ _ _ _ _ _ c.args.limit c.args.head.now (Took-taken _ _ _ _ _ _ _ _
-    c.as_slice.ensures.value (c.lines.invariant.took _) c.lines.book.gap c.lines.invariant.gap c.in_ok-take_all.ensures.adds)
-    gives.2
-    (c.new-reader.ensures.whole _))
+    (Took-ended _ _ _ _ _ _ _ c.args.limit c.args.head.now
+    (Took-taken _ _ _ _ _ _ _ _ c.as_slice.ensures.value (c.lines.invariant.took _)
+    c.lines.book.gap c.lines.invariant.gap c.in_ok-take_all.ensures.adds)
+    gives.2 (c.new-reader.ensures.whole _))
 
 pub returns-in_err-advance-clause-reads : goal.returns-in_err-advance-clause-reads
 returns-in_err-advance-clause-reads g c =

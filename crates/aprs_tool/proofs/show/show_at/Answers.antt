@@ -1,4 +1,4 @@
-use Rattle.std.proofs.Common.{◌≡◌, ℕ, List, refl, sym, subst}
+use Rattle.std.proofs.Common.{◌≡◌, ◌∙◌, ℕ, List, ap, refl, sym, subst}
 use Rattle.std.proofs.lemmas.Result.{err_from_is_err_and}
 use Rattle.aprs_book.specs.Messages.{ReportsMessages}
 use Rattle.aprs_book.specs.Names.{ReportsNamed}
@@ -7,31 +7,35 @@ use Rattle.aprs_book.specs.declared.message.MessageRow.{MessageRow}
 use Rattle.aprs_book.specs.declared.named.Named.{Named}
 use Rattle.aprs_book.specs.declared.station.Station.{Station}
 use Rattle.aprs_laws.specs.Book.{BookOf}
+use Rattle.aprs_laws.specs.BookValue.{BookValue}
 use Rattle.aprs_laws.specs.Gap.{millis_of}
-use Rattle.aprs_laws.specs.Row.{Row}
 use Rattle.aprs_log.specs.Reception.{Heard}
 use Rattle.aprs_tool.specs.Listing.{show_text}
 use Rattle.aprs_tool.specs.Show.{IsListingOf}
 use Rattle.aprs_tool.proofs.Merges.{written}
-use Rattle.aprs_tool.proofs.show.show_run.Goals as goal
+use Rattle.aprs_tool.proofs.show.show_at.Goals as goal
 
--- the listing of whatever set the rows are the book of
-listed : (gap own : ℕ) (rows : List Row) (stations : List Station) (named : List Named)
-    (messages : List MessageRow) → own ≡ gap → ReportsStations (millis_of own) rows stations
-    → ReportsNamed (millis_of own) rows named → ReportsMessages (millis_of own) rows messages
-    → (S : List Heard) → BookOf (millis_of gap) S rows
+-- the listing of whatever set the rows of a book, which is lent, are the book of
+listed : (gap : ℕ) (its lent : BookValue) (stations : List Station) (named : List Named)
+    (messages : List MessageRow) → lent ≡ its → its.gap ≡ gap
+    → ReportsStations (millis_of lent.gap) lent.rows stations
+    → ReportsNamed (millis_of lent.gap) lent.rows named
+    → ReportsMessages (millis_of lent.gap) lent.rows messages
+    → (S : List Heard) → BookOf (millis_of gap) S its.rows
     → IsListingOf gap S (show_text stations named messages)
-listed gap own rows stations named messages same s n m S book =
-    let its = subst (λ n. BookOf (millis_of n) S rows) (sym same) book in
+listed gap its lent stations named messages same is s n m S book =
+    let rows = subst (λ (b : BookValue). BookOf (millis_of gap) S b.rows) (sym same) book in
+    let lents = subst (λ g. BookOf (millis_of g) S lent.rows)
+    (sym (ap (λ (b : BookValue). b.gap) same ∙ is)) rows in
     record {
-      rows = rows;
+      rows = lent.rows;
       stations = stations;
       named = named;
       messages = messages;
-      book = book;
-      are_stations = s S its;
-      are_named = n S its;
-      are_messages = m S its;
+      book = rows;
+      are_stations = s S lents;
+      are_named = n S lents;
+      are_messages = m S lents;
       text_is = refl;
     }
 
@@ -43,7 +47,7 @@ returns-clause-run g c = λ inputs e.
       gots = read.gots;
       gets = read.gets;
       holds = written _ (IsListingOf _) read.gots _ _ _ read.holds
-          (listed _ _ _ _ _ _ read.holds.0 views.stations views.named views.messages)
+          (listed _ _ _ _ _ _ c.book.ensures read.holds.0 views.stations views.named views.messages)
           c.in_ok-write.ensures.sent;
     }
 
@@ -57,7 +61,7 @@ returns-in_err-write-clause-run g c =
       gots = read.gots;
       gets = read.gets;
       holds = written _ (IsListingOf _) read.gots _ _ _ read.holds
-          (listed _ _ _ _ _ _ read.holds.0 views.stations views.named views.messages)
+          (listed _ _ _ _ _ _ c.book.ensures read.holds.0 views.stations views.named views.messages)
           c.in_err-write.ensures.prefix;
     })
 
@@ -68,3 +72,15 @@ returns-in_err-write-clause-answered g c =
       λ e. absurd e,
       λ h. (c.in-Ok.ensures.answered k before after was is).1 (λ e. absurd e),
     ))
+
+pub returns-clause-answered : goal.returns-clause-answered
+returns-clause-answered g c k before after was is = (
+  λ e. absurd e,
+  λ h. (c.in-Ok.ensures.answered k before after was is).1 (λ e. absurd e),
+)
+
+pub returns-in_default-clause-answered : goal.returns-in_default-clause-answered
+returns-in_default-clause-answered g c k before after was is = (
+  λ e. absurd e,
+  λ h. (c.in-Ok.ensures.answered k before after was is).1 (λ e. absurd e),
+)
