@@ -34,7 +34,8 @@ const BOOK_MARK: &[u8] = b"APRSBOOK";
 /// `MAX_INPUT` (1,073,741,824). A faulty input gives its first fault. Where an allocation failed
 /// before it, a log gives `Memory`, and a book file `Book` with that cause and the line that was
 /// being read. An input of which fewer than eight bytes are got is a log, and one with an LF among
-/// its first eight is judged by that line first. Holds the book and one line.
+/// its first eight is judged by that line first. Holds the book, one line, and receptions of a log
+/// that wait to be taken, at most 64 and one for each 192 rows.
 pub fn read_input<R: Read, A: Allocator + Copy>(
     alloc: A,
     limit: u64,

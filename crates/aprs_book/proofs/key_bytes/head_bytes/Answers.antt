@@ -23,6 +23,11 @@ returns c =
     ∙ ap (padded 32) (on_not_err c.try_extend_from_slice.result _ c.try_extend_from_slice.ensures.ok
     c.if-is_err.ensures.value)
     ∙ padded_cut 32 c.min-len.result calls info
-    (omega (arith, c.push_call.ensures.most, c.push_call-2.ensures.most, ap length c.new-bytes.ensures))
+    (omega (
+      arith,
+      c.push_call.ensures.most,
+      c.push_call-2.ensures.most,
+      ap length c.new-bytes.ensures,
+    ))
     (c.min-len.ensures ∙ ap (λ t. min (length info) (32 - t)) c.len.ensures.value)
     ∙ ap (padded 32) all

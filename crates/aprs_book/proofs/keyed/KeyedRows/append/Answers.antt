@@ -106,7 +106,8 @@ returns-clause-added g c =
     let put = on_not_err c.insert.result _ c.insert.ensures.entries c.if-is_err.ensures.value in
     let same = ap (λ m. m.entries) c.get_mut.follows.holds-at-none in
     rw (← c.self.view_is) (after_new (λ k. k)
-    (λ v. v.items) x _ es _ c.head_bytes-head.result c.push_one.new.rows b c.in_default.ensures.value
+    (λ v. v.items) x _ es _ c.head_bytes-head.result c.push_one.new.rows b
+    c.in_default.ensures.value
     refl
     (c.in_ok-push_one.ensures.added ∙ ap (λ t. t ++ x ∷ []) c.new-rows.ensures.items)
     (put ∙ ap (λ t. insert_entry (bytes_cmp) t c.head_bytes-head.result

@@ -186,7 +186,8 @@ invariant_of-self-2 g c =
             (rw made (inserted_some c.args.gap x []))),
       ),
       count_insert (λ k. k)
-          (λ v. v.items) c.head_bytes-head.result es c.insert.new.self.entries c.head_bytes-head.result
+          (λ v. v.items) c.head_bytes-head.result es c.insert.new.self.entries
+          c.head_bytes-head.result
           c.put.new.rows c.new-rows.result.items c.self.inside.count c.put.new.count
           c.in_default.ensures.value refl c.new-rows.ensures.items
           (put ∙ ap (λ t. insert_entry bytes_cmp t c.head_bytes-head.result
