@@ -1,0 +1,2 @@
+-- Lemmas of the pile.
+pub mod Sweeps

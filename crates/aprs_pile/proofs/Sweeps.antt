@@ -1,0 +1,1 @@
+-- The rows of receptions in order are their book.
