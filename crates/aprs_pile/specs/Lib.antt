@@ -1,5 +1,7 @@
 -- Definitions that contracts of the pile cite.
-pub mod Order
+pub mod Head
+pub mod Laid
+pub mod PileOrder
 pub mod Sweep
 -- what public clauses cite of lower crates
 pub use Rattle.aprs_log.specs.Reception

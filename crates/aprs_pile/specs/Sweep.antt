@@ -7,7 +7,7 @@ use Rattle.aprs_laws.specs.Row.{Row}
 use Rattle.aprs_laws.specs.Book.{BookOf}
 use Rattle.aprs_laws.specs.JoinRow.{choose, single}
 use Rattle.aprs_laws.specs.Inserted.{side, grown}
-use Rattle.aprs_pile.specs.Order.{pile_cmp}
+use Rattle.aprs_pile.specs.PileOrder.{pile_cmp}
 
 -- the rows with one more reception: in the last of them, where that is near to it, or after them
 abbrev pub appended : ℕ → Heard → List Row → List Row
