@@ -1,7 +1,8 @@
 -- Where the information of a frame begins.
-use Rattle.std.proofs.Common.{◌≡◌, ◌∙◌, ℕ, zero, suc, ◌-◌, ◌≤◌, List, [], ◌∷◌, length, take, drop, ◌+◌, refl, sym, ap, arith}
+use Rattle.std.proofs.Common.{◌≡◌, ◌∙◌, ℕ, zero, suc, ◌-◌, ◌≤◌, List, [], ◌∷◌, length, take, drop, ◌+◌, Option, None, Some, Result, Ok, Err, refl, sym, ap, arith}
 use Rattle.std.proofs.lemmas.List.{length-drop, take_all, drop-drop}
-use Rattle.aprs_ax25.specs.FrameFault.{field_len, parts_of}
+use Rattle.aprs_ax25.specs.FrameFault.{field_len, parts_of, frame_of, frame_fault, unless_fault}
+use Rattle.aprs_ax25.specs.declared.fault.FrameFault.{FrameFault}
 
 -- so many from the end as stand after the first n
 pub drop_to_end : (n : ℕ) (xs : List ℕ) → drop (length xs - length (drop n xs)) xs ≡ drop n xs
@@ -30,3 +31,13 @@ info_at f n e =
     where
       two : drop 2 (drop (field_len f) f) ≡ drop (field_len f + 2) f
       two = drop-drop 2 (field_len f) f
+
+-- the frame that is read of bytes is those bytes
+pub frame_is : (x bytes : List ℕ) → Ok x ≡ frame_of bytes → x ≡ bytes
+frame_is x bytes = by_case (frame_fault bytes) where
+  by_case : (o : Option FrameFault) → Ok x ≡ unless_fault bytes o → x ≡ bytes
+  by_case None e = ap (λ r. got r) e where
+    got : Result (List ℕ) FrameFault → List ℕ
+    got (Ok y) = y
+    got (Err f) = x
+  by_case (Some f) e = absurd (cc)

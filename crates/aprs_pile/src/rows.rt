@@ -64,12 +64,20 @@ impl<'a, A: Allocator + Copy> PiledRows<'a, A> {
         let mut book = Book::with_gap(alloc, self.gap);
         for row in self.rows.iter() {
             let parts = row.parts(alloc)?;
-            match book.push_row(&parts) {
-                Ok(()) => {}
-                Err(RowCause::Memory) => return Err(Memory),
-                Err(_) => unreachable!(),
+            if let Err(cause) = book.push_row(&parts) {
+                return Err(refused(cause));
             }
         }
         Ok(book)
+    }
+}
+
+/// Why a row that may be pushed is refused: an allocation failed.
+fn refused(cause: RowCause) -> Memory
+    requires { cause ≡ RowCause.Memory }
+{
+    match cause {
+        RowCause::Memory => Memory,
+        _ => unreachable!(),
     }
 }
