@@ -28,9 +28,9 @@ pub info_at : (f : List ℕ) (n : ℕ) → n ≡ length (parts_of f).info
     → drop (length f - n) f ≡ (parts_of f).info
 info_at f n e =
     ap (λ m. drop (length f - m) f) (e ∙ ap length two) ∙ drop_to_end (field_len f + 2) f ∙ sym two
-    where
-      two : drop 2 (drop (field_len f) f) ≡ drop (field_len f + 2) f
-      two = drop-drop 2 (field_len f) f
+  where
+    two : drop 2 (drop (field_len f) f) ≡ drop (field_len f + 2) f
+    two = drop-drop 2 (field_len f) f
 
 -- the frame that is read of bytes is those bytes
 pub frame_is : (x bytes : List ℕ) → Ok x ≡ frame_of bytes → x ≡ bytes

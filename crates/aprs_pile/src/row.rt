@@ -61,13 +61,7 @@ impl<'a, A: Allocator + Copy> PiledRow<'a, A> {
     pub fn view(&self) -> RowView<'_>
         ensures { result ≡ self.now }
     {
-        RowView {
-            first: self.first,
-            last: self.greatest.moment(),
-            receivers: self.receivers.as_slice(),
-            receiver: self.greatest.receiver_bytes(),
-            frame: self.greatest.frame(),
-        }
+        RowView::laid(self.first, self.receivers.as_slice(), self.greatest)
     }
 
     /// What makes the row, in memory of its own.

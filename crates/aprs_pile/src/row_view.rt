@@ -1,6 +1,11 @@
 //! What a line of a book file shows of a row.
 ghost use Rattle.std.specs.Prelude.{◌≡◌};
+ghost use Rattle.aprs_ax25.specs.Frame.{FrameOf};
+ghost use Rattle.aprs_ax25.specs.FrameFault.{parts_of};
+ghost use Rattle.aprs_log.specs.Receiver.{IsName};
+ghost use Rattle.aprs_laws.specs.Row.{last_of};
 
+use crate::laid::Laid;
 use aprs_book::Row;
 use aprs_log::{Moment, Receiver};
 use std::marker::Model;
@@ -8,16 +13,11 @@ use std::marker::Model;
 /// A row, and the bytes of its greatest reception.
 #[derive(Drop)]
 pub struct RowView<'a> {
-    /// The first moment at which the transmission was heard.
-    pub first: Moment,
-    /// The last moment, which is that of the greatest reception.
-    pub last: Moment,
-    /// Who heard it, in ascending order.
-    pub receivers: &'a [Receiver],
-    /// Who heard the greatest reception.
-    pub receiver: &'a [u8],
-    /// The frame of the greatest reception.
-    pub frame: &'a [u8],
+    first: Moment,
+    last: Moment,
+    receivers: &'a [Receiver],
+    receiver: &'a [u8],
+    frame: &'a [u8],
 }
 
 impl<'a> Model for RowView<'a> {
@@ -33,6 +33,24 @@ impl<'a> Model for RowView<'a> {
 }
 
 impl<'a> RowView<'a> {
+    /// The view of a row whose greatest reception lies on a pile.
+    pub(crate) fn laid(
+        first: Moment,
+        receivers: &'a [Receiver],
+        greatest: &'a Laid<'a>,
+    ) -> RowView<'a>
+        ensures { result
+            ≡ record { first = first; receivers = receivers.now; greatest = greatest.now } }
+    {
+        RowView {
+            first,
+            last: greatest.moment(),
+            receivers,
+            receiver: greatest.receiver_bytes(),
+            frame: greatest.frame(),
+        }
+    }
+
     /// The view of a book's row. Takes no memory.
     pub fn of(row: &Row<'a>) -> RowView<'a>
         ensures { result ≡ row.now }
@@ -44,5 +62,42 @@ impl<'a> RowView<'a> {
             receiver: row.receiver.as_bytes(),
             frame: row.frame.bytes(),
         }
+    }
+
+    /// The first moment at which the transmission was heard. Takes no memory.
+    pub fn first(&self) -> Moment
+        ensures { result ≡ self.now.first }
+    {
+        self.first
+    }
+
+    /// The last moment, which is that of the greatest reception. Takes no memory.
+    pub fn last(&self) -> Moment
+        ensures { result ≡ last_of self.now }
+    {
+        self.last
+    }
+
+    /// Who heard it, in ascending order. Takes no memory.
+    pub fn receivers(&self) -> &'a [Receiver]
+        ensures { result.now ≡ self.now.receivers }
+    {
+        self.receivers
+    }
+
+    /// The name of the receiver of the greatest reception. Takes no memory.
+    pub fn receiver(&self) -> &'a [u8]
+        ensures value { result.now ≡ self.now.greatest.receiver }
+        ensures name { IsName self.now.greatest.receiver }
+    {
+        self.receiver
+    }
+
+    /// The frame of the greatest reception. Takes no memory.
+    pub fn frame(&self) -> &'a [u8]
+        ensures value { result.now ≡ self.now.greatest.frame }
+        ensures frame { FrameOf (parts_of self.now.greatest.frame) self.now.greatest.frame }
+    {
+        self.frame
     }
 }

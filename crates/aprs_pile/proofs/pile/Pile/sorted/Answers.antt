@@ -13,9 +13,9 @@ next g c =
     (omega (arith, c.loop-entry-test.true))
     ∙ (λ t. sym c.entry-item.is t
     ∷ drop (one_more c.loop-entry.entry-index t) c.deref-entry-items.result.now)
-    where
-      one_more : (n : ℕ) → suc n ≡ n + 1
-      one_more n = omega arith
+  where
+    one_more : (n : ℕ) → suc n ≡ n + 1
+    one_more n = omega arith
 
 -- the bytes after those of the first
 rest : (g : _) (c : goal.After-push_reserved g)
@@ -49,7 +49,10 @@ loop-entry-preserved g c =
           ∙ c.loop-entry.invariant.items;
       lays = subst (λ bs. Lays more bs (heards more bs)) (sym (rest g c)) (first g c).others;
       room = omega (
-        arith, c.push_reserved.ensures.len, c.push_reserved.ensures.capacity,
-        c.loop-entry.invariant.room, c.loop-entry-test.true
+        arith,
+        c.push_reserved.ensures.len,
+        c.push_reserved.ensures.capacity,
+        c.loop-entry.invariant.room,
+        c.loop-entry-test.true,
       );
     }
