@@ -5,8 +5,7 @@ use Rattle.std.proofs.lemmas.Bool.Decides.{Decides-eqb}
 use Rattle.std.proofs.lemmas.Slice.Eq.{bytes_eq-Decides, starts_is}
 use Rattle.std.specs.Io.KnownBytes.{Consumes}
 use Rattle.std.specs.Str.{bytes_eq}
-use Rattle.aprs_laws.specs.Book.{BookOf}
-use Rattle.aprs_laws.specs.BookValue.{BookValue}
+use Rattle.aprs_laws.specs.BookValue.{BookValue, Holds}
 use Rattle.aprs_laws.specs.Gap.{millis_of}
 use Rattle.aprs_laws.specs.Witnesses.{witnesses}
 use Rattle.aprs_laws.specs.Row.{Row}
@@ -25,9 +24,12 @@ use Rattle.aprs_booktext.specs.declared.version.Version.TheVariants.{One, Two, T
 use Rattle.aprs_booktext.specs.declared.fault.BookFault.{BookFault}
 use Rattle.aprs_booktext.proofs.Accepting.{rows_few}
 use Rattle.aprs_booktext.proofs.OneText.{cut_short}
+use Rattle.aprs_log.specs.Reception.{Heard}
+use Rattle.aprs_tool.proofs.RowsWith.{gathers_more}
+use Rattle.aprs_tool.specs.Gathered.{rows_with}
 use Rattle.aprs_tool.specs.Head.{IsHead}
 use Rattle.aprs_convert.specs.Got.{HoldsOfGot, OfGot}
-use Rattle.aprs_tool.specs.Inputs.{AddsAll, AreMembers, is_book_file, IsFaultOf, IsRefused, ReadsInput, ReadsLog, TakesInput}
+use Rattle.aprs_tool.specs.Inputs.{AreMembers, is_book_file, IsFaultOf, IsRefused, ReadsInput, ReadsLog, TakesInput}
 use Rattle.aprs_tool.specs.declared.fault.InputFault.{InputFault}
 use Rattle.aprs_tool.specs.declared.fault.InputFault.TheVariants.{Log, Book, Memory, OtherGap, Narrower}
 
@@ -131,41 +133,41 @@ members_log : (gap : ℕ) (t : List ℕ) (c : Ending) → is_book_file t ≡ fal
     → AreMembers gap t c (receptions_of (log_answers t c).given)
 members_log gap t c is = inr (is, refl)
 
--- rows that nothing is added to
-pub adds_none : (gap : ℕ) (rows : List Row) → AddsAll gap [] rows rows
-adds_none gap rows S book = subst (λ T. BookOf (millis_of gap) T rows) (sym (append-nil S)) book
+pub refused_log : (e : InputFault) (old new : List Heard) (t : List ℕ) (c : Ending)
+    → is_book_file t ≡ false → ReadsLog (Err e) old new t c → IsRefused e t c
+refused_log (Log f) old new t c is h = inr (is, h)
+refused_log Memory old new t c is h = inl is
+refused_log (Book f) old new t c is h = absurd h
+refused_log OtherGap old new t c is h = absurd h
+refused_log Narrower old new t c is h = absurd h
 
-pub refused_log : (gap : ℕ) (e : InputFault) (old new : List Row) (t : List ℕ) (c : Ending)
-    → is_book_file t ≡ false → ReadsLog gap (Err e) old new t c → IsRefused e t c
-refused_log gap (Log f) old new t c is h = inr (is, h)
-refused_log gap Memory old new t c is h = inl is
-refused_log gap (Book f) old new t c is h = absurd h
-refused_log gap OtherGap old new t c is h = absurd h
-refused_log gap Narrower old new t c is h = absurd h
-
--- what is read of a log is taken
-pub reads_log : (gap : ℕ) (r : Result (Unit {0}) InputFault) (old new : List Row) (t : List ℕ)
-    (c : Ending) → is_book_file t ≡ false → ReadsLog gap r old new t c
-    → TakesInput gap r old new t c
-reads_log gap (Ok u) old new t c is h = (
+-- what is read of a log is gathered
+pub reads_log : (gap : ℕ) (rows : List Row) (r : Result (Unit {0}) InputFault)
+    (old new : List Heard) (t : List ℕ) (c : Ending) → is_book_file t ≡ false
+    → ReadsLog r old new t c
+    → TakesInput gap r (rows_with (millis_of gap) rows old) (rows_with (millis_of gap) rows new) t c
+reads_log gap rows (Ok u) old new t c is h = (
   faultless_log t c is h.0,
-  (receptions_of (log_answers t c).given, members_log gap t c is, h.1),
+  (
+    receptions_of (log_answers t c).given,
+    members_log gap t c is,
+    gathers_more gap rows old (receptions_of (log_answers t c).given) new h.1,
+  ),
 )
-reads_log gap (Err e) old new t c is h = inl (refused_log gap e old new t c is h)
+reads_log gap rows (Err e) old new t c is h = inl (refused_log e old new t c is h)
 
--- what is read of a log into the book of no receptions is its book
-pub read_alone : (asked gap : ℕ) (b : BookValue) (old : List Row) (t : List ℕ) (c : Ending)
-    → is_book_file t ≡ false → gap ≡ asked → b.gap ≡ gap → BookOf (millis_of gap) [] old
-    → ReadsLog gap (Ok tt) old b.rows t c
-    → ReadsInput asked (Ok b) t c
-read_alone asked gap b old t c is its same none h =
+-- the book of what is read of a log is its book
+pub read_alone : (asked : ℕ) (b : BookValue) (old pile : List Heard) (t : List ℕ) (c : Ending)
+    → is_book_file t ≡ false → b.gap ≡ asked → old ≡ [] → Holds pile b
+    → ReadsLog (Ok tt) old pile t c → ReadsInput asked (Ok b) t c
+read_alone asked b old pile t c is its none holds h =
     let heard = receptions_of (log_answers t c).given in (
       faultless_log t c is h.0,
       (
-        λ log. same ∙ its,
+        λ log. its,
         heard,
         members_log b.gap t c is,
-        subst (λ g. BookOf (millis_of g) heard b.rows) (sym same) (h.1 [] none),
+        subst (λ S. Holds S b) (h.1 ∙ ap (λ T. T ++ heard) none) holds,
       ),
     )
 
@@ -185,16 +187,16 @@ log_input (Some input) after limit head P Q size other follows h = record {
 }
 
 -- a short one has this fault, or none
-pub short_fault : (gap : ℕ) (t : List ℕ) (c : Ending) (k : LogCause) (rows : List Row)
+pub short_fault : (t : List ℕ) (c : Ending) (k : LogCause) (pile : List Heard)
     → log_answers t c ≡ ended (fault_at 1 (Some k))
-    → ReadsLog gap (Err (Log (record { line = 1; cause = k }))) rows rows t c
-short_fault gap t c k rows e = ap (λ a. a.fault) e
+    → ReadsLog (Err (Log (record { line = 1; cause = k }))) pile pile t c
+short_fault t c k pile e = ap (λ a. a.fault) e
 
-pub short_empty : (gap : ℕ) (t : List ℕ) (c : Ending) (rows : List Row)
-    → log_answers t c ≡ ended (fault_at 1 None) → ReadsLog gap (Ok tt) rows rows t c
-short_empty gap t c rows e = (
+pub short_empty : (t : List ℕ) (c : Ending) (pile : List Heard)
+    → log_answers t c ≡ ended (fault_at 1 None) → ReadsLog (Ok tt) pile pile t c
+short_empty t c pile e = (
   ap (λ a. a.fault) e,
-  subst (λ a. AddsAll gap (receptions_of a.given) rows rows) (sym e) (adds_none gap rows),
+  sym (append-nil pile) ∙ ap (λ a. pile ++ receptions_of a.given) (sym e),
 )
 
 -- ---- a book file

@@ -1,4 +1,4 @@
-pub mod Batches
+pub mod RowsWith
 pub mod Inputs
 pub mod Into
 pub mod Logs

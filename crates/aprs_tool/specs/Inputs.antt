@@ -120,11 +120,6 @@ abbrev pub AddsAll : ℕ → List Heard → List Row → List Row → Type 0
 AddsAll gap T old new =
     (S : List Heard) → BookOf (millis_of gap) S old → BookOf (millis_of gap) (S ++ T) new
 
--- Of the receptions that wait and those that come, the first are taken, and the others wait.
-abbrev pub AddsSome : ℕ → List Heard → List Heard → List Heard → List Row → List Row → Type 0
-AddsSome gap T waited waits old new =
-    (taken : List Heard) × (waited ++ T ≡ taken ++ waits) × AddsAll gap taken old new
-
 -- The receptions of a faultless input are taken into rows of a book of this gap, and any other
 -- input is refused, or its merge is.
 abbrev pub TakesInput : ℕ → Result (Unit {0}) InputFault → List Row → List Row → List ℕ → Ending
@@ -139,9 +134,9 @@ IsLogRefused (Log fault) text ending = (log_answers text ending).fault ≡ Some 
 IsLogRefused Memory text ending = Unit {0}
 IsLogRefused fault text ending = ⊥
 
--- The receptions of a faultless log are taken into such rows, and any other log is refused.
-abbrev pub ReadsLog : ℕ → Result (Unit {0}) InputFault → List Row → List Row → List ℕ → Ending
+-- The receptions of a faultless log come after those that were there, and any other log is refused.
+abbrev pub ReadsLog : Result (Unit {0}) InputFault → List Heard → List Heard → List ℕ → Ending
     → Type 0
-ReadsLog gap (Ok u) old new text ending = ((log_answers text ending).fault ≡ None)
-    × AddsAll gap (receptions_of (log_answers text ending).given) old new
-ReadsLog gap (Err fault) old new text ending = IsLogRefused fault text ending
+ReadsLog (Ok u) old new text ending = ((log_answers text ending).fault ≡ None)
+    × (new ≡ old ++ receptions_of (log_answers text ending).given)
+ReadsLog (Err fault) old new text ending = IsLogRefused fault text ending

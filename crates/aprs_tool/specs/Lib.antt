@@ -4,6 +4,7 @@ pub mod Run
 pub mod Head
 pub mod Inputs
 pub mod Desk
+pub mod Gathered
 pub mod Merge
 pub mod StandsFor
 pub mod Listing

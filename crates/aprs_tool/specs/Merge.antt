@@ -63,11 +63,6 @@ ReadsEach gap (Ok book) gots =
     (book.gap ≡ gap) × AllFit gap gots × IsBookOfAll gap book.rows gots
 ReadsEach gap (Err p) gots = IsFirstRefused gap p.0 p.1 gots
 
--- The book that is read is this one, where one is read.
-abbrev pub ReadsInto : ℕ → Result (Unit {0}) (ℕ × InputFault) → BookValue → List Got → Type 0
-ReadsInto gap (Ok u) book gots = ReadsEach gap (Ok book) gots
-ReadsInto gap (Err p) book gots = ReadsEach gap (Err p) gots
-
 -- ---- how they are merged
 
 -- All fit, and P holds of a text that `Tells` says is that of the receptions of all.
@@ -157,12 +152,3 @@ abbrev pub WritesNothing : RunFault → Option (List ℕ) → Option (List ℕ) 
 WritesNothing (Input index fault) old new = new ≡ old
 WritesNothing Write old new = Unit {0}
 WritesNothing Memory old new = new ≡ old
-
--- ---- at a desk
-
--- The desk's rows are then those of the book of all, and as they were where an input is refused.
-abbrev pub LeavesBook : ℕ → Result (Unit {0}) RunFault → List Row → List Row → List Got → Type 0
-LeavesBook gap (Ok u) old new gots = IsBookOfAll gap new gots
-LeavesBook gap (Err Write) old new gots = IsBookOfAll gap new gots
-LeavesBook gap (Err Memory) old new gots = IsBookOfAll gap new gots
-LeavesBook gap (Err (Input index fault)) old new gots = new ≡ old

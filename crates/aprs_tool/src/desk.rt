@@ -4,7 +4,6 @@ ghost use Rattle.aprs_io.specs.declared.input.TheConstants.{MAX_INPUT};
 
 use crate::fault::InputFault;
 use crate::input::{merged, read_input};
-use crate::merge::read_all;
 use aprs_book::{Book, Gap};
 use aprs_kiss::Counted;
 use std::alloc::{Allocator, Global};
@@ -30,7 +29,7 @@ impl<A: Allocator> Drop for Desk<A> {
 }
 
 impl<A: Allocator + Copy> Desk<A> {
-    ghost use Rattle.std.specs.Prelude.{◌≡◌, ◌≤◌, [], map, IfErr, IsErrAnd, OnErr};
+    ghost use Rattle.std.specs.Prelude.{◌≡◌, ◌≤◌, [], IfErr, IsErrAnd, OnErr};
     ghost use Rattle.aprs_io.specs.declared.input.TheConstants.{MAX_INPUT};
     ghost use Rattle.aprs_kiss.specs.Device.{device_of, failures_of, answered_of, Rose, RoseWhere};
     ghost use Rattle.aprs_laws.specs.BookValue.{Holds};
@@ -38,7 +37,6 @@ impl<A: Allocator + Copy> Desk<A> {
     ghost use Rattle.aprs_tool.specs.Desk.{book_of, gap_of, limit_of, rows_of};
     ghost use Rattle.aprs_convert.specs.Got.{OfGot};
     ghost use Rattle.aprs_tool.specs.Inputs.{TakesInput};
-    ghost use Rattle.aprs_tool.specs.Merge.{IsAsBefore, OfEach, ReadsInto, RoseAt, RoseWhereEach};
     ghost use Rattle.aprs_tool.specs.Run.{IsReadFault};
 
     /// An empty book with a gap of 30 seconds, into which inputs are read up to `limit` bytes each.
@@ -89,33 +87,6 @@ impl<A: Allocator + Copy> Desk<A> {
         let input = read_input(self.alloc, self.limit, self.book.gap(), r)?;
         self.book = merged(&self.book, input)?;
         Ok(())
-    }
-
-    /// Reads these inputs in order into a book of their own, which becomes the desk's, or reports
-    /// the first that is refused, with its fault. After a fault the desk is as before.
-    pub(crate) fn read_all<R: Read>(
-        &mut self,
-        inputs: &mut [Counted<R>],
-    ) -> Result<(), (usize, InputFault)>
-        ensures reads { OfEach (limit_of self.old)
-            (map (λ r. R.remaining (device_of r)) inputs.old)
-            (map (λ r. R.remaining (device_of r)) inputs.new)
-            (ReadsInto (gap_of self.old) result (book_of self.new)) }
-        ensures unread { IfErr result (λ p. IsAsBefore p.0 inputs.old inputs.new) }
-        ensures read { IfErr result (λ p. IsReadFault p.1 → RoseAt p.0 inputs.old inputs.new) }
-        ensures answered { RoseWhereEach (λ k. IsErrAnd result (λ p. (p.0 ≡ k)
-            × IsReadFault p.1)) inputs.old inputs.new }
-        ensures gap { gap_of self.new ≡ gap_of self.old }
-        ensures limit { limit_of self.new ≡ limit_of self.old }
-        ensures unchanged { OnErr result (self.new ≡ self.old) }
-    {
-        match read_all(self.alloc, self.limit, self.book.gap(), inputs) {
-            Ok(book) => {
-                self.book = book;
-                Ok(())
-            }
-            Err(refused) => Err(refused),
-        }
     }
 
     /// The book. Takes no memory.

@@ -1,12 +1,13 @@
 //! The book of an input, which is a log or a book file.
-ghost use Rattle.std.specs.Prelude.{◌≡◌, ◌↔◌, ◌<◌, ◌≤◌, ◌++◌, false, length, ℕ, List, None, Some, IfSome, IfOk, IfErr, IsErrAnd, OnOk, OnErr};
+ghost use Rattle.std.specs.Prelude.{◌≡◌, ◌↔◌, ◌<◌, ◌≤◌, [], ◌∷◌, ◌++◌, false, length, ℕ, List, None, Some, IfSome, IfOk, IfErr, IsErrAnd, OnOk, OnErr};
 ghost use Rattle.std.specs.List.{list_any};
 ghost use Rattle.aprs_io.specs.declared.input.TheConstants.{MAX_INPUT};
 ghost use Rattle.aprs_kiss.specs.Device.{device_of, failures_of, answered_of, Rose, RoseWhere};
-ghost use Rattle.aprs_log.specs.LogAnswers.{ended, fault_at, is_lf, log_answers};
+ghost use Rattle.aprs_log.specs.LogAnswers.{ended, fault_at, is_lf, log_answers, receptions_of};
 ghost use Rattle.aprs_laws.specs.BookValue.{HaveOneGap};
 ghost use Rattle.aprs_laws.specs.Gap.{millis_of};
-ghost use Rattle.aprs_laws.specs.Row.{Row};
+ghost use Rattle.aprs_laws.specs.Sound.{Sound};
+ghost use Rattle.aprs_log.specs.Reception.{Heard};
 ghost use Rattle.aprs_book.specs.Taking.{MergesInto};
 ghost use Rattle.aprs_tool.specs.declared.head.TheConstants.{HEAD_LEN};
 ghost use Rattle.aprs_tool.specs.Head.{IsHead};
@@ -15,13 +16,14 @@ ghost use Rattle.aprs_tool.specs.Inputs.{ReadsInput, ReadsLog};
 ghost use Rattle.aprs_tool.specs.Inputs.{RefusesGaps, TakesInput};
 ghost use Rattle.aprs_tool.specs.Run.{IsReadFault};
 
-use crate::batch::{take_all, take_line};
 use crate::fault::InputFault;
+use crate::gathered::{Gathered, book_of};
 use crate::head::{ShortInput, read_head};
-use aprs_book::{Book, Gap, MergeFault};
+use aprs_book::{Book, Gap, Memory, MergeFault};
 use aprs_booktext::read_book;
 use aprs_kiss::Counted;
-use aprs_log::{Ending, LogCause, LogFault, LogReader};
+use aprs_log::{Ending, Line, LogCause, LogFault, LogReader};
+use aprs_pile::Pile;
 use std::alloc::Allocator;
 use std::io::Read;
 
@@ -34,8 +36,8 @@ const BOOK_MARK: &[u8] = b"APRSBOOK";
 /// `MAX_INPUT` (1,073,741,824). A faulty input gives its first fault. Where an allocation failed
 /// before it, a log gives `Memory`, and a book file `Book` with that cause and the line that was
 /// being read. An input of which fewer than eight bytes are got is a log, and one with an LF among
-/// its first eight is judged by that line first. Holds the book, one line, and receptions of a log
-/// that wait to be taken, at most 64 and one for each 192 rows.
+/// its first eight is judged by that line first. Holds the book, one line, and a log's receptions,
+/// each in the bytes that it has.
 pub fn read_input<R: Read, A: Allocator + Copy>(
     alloc: A,
     limit: u64,
@@ -82,11 +84,9 @@ fn read_own<R: Read, A: Allocator + Copy>(
     if head == BOOK_MARK {
         return Ok(read_book(alloc, limit, head, r)?);
     }
-    let mut book = Book::with_gap(alloc, gap);
-    match read_log(alloc, limit, head, &mut book, r) {
-        Ok(()) => Ok(book),
-        Err(fault) => Err(fault),
-    }
+    let mut pile = Pile::new(alloc);
+    read_log(alloc, limit, head, &mut pile, r)?;
+    Ok(book_of(alloc, gap, &pile)?)
 }
 
 /// The book of an input that is too short for a book file: that of a log.
@@ -106,20 +106,20 @@ fn read_few<A: Allocator + Copy>(
     }
 }
 
-/// Reads an input, as `read_input` does, into a book: that of a set becomes the book of that set
-/// and of the input's receptions. `OtherGap` comes for a faultless book file of another gap, and
-/// then `Memory` where an allocation failed for the merge. After a fault the book may have any
-/// rows.
+/// Reads an input, as `read_input` does, to what was gathered: its book, that of a set, becomes the
+/// book of that set and of the input's receptions. `OtherGap` comes for a faultless book file of
+/// another gap, and then `Memory` where an allocation failed for the merge. After a fault anything
+/// may be gathered.
 pub(crate) fn read_into<R: Read, A: Allocator + Copy>(
     alloc: A,
     limit: u64,
-    book: &mut Book<A>,
+    gathered: &mut Gathered<A>,
     r: &mut Counted<R>,
 ) -> Result<(), InputFault>
     requires { limit ≤ MAX_INPUT }
     ensures reads { OfGot limit (R.remaining (device_of r.old)) (R.remaining (device_of r.new))
-        (TakesInput book.old.gap result book.old.rows book.new.rows) }
-    ensures gap { book.new.gap ≡ book.old.gap }
+        (TakesInput gathered.old.gap result gathered.old.rows gathered.new.rows) }
+    ensures gap { gathered.new.gap ≡ gathered.old.gap }
     ensures count { failures_of r.old ≤ failures_of r.new }
     ensures read { IfErr result (λ fault. IsReadFault fault
         → Rose (failures_of r.old) (failures_of r.new)) }
@@ -127,17 +127,17 @@ pub(crate) fn read_into<R: Read, A: Allocator + Copy>(
         (answered_of r.new) }
 {
     match read_head(limit, r) {
-        Ok(head) => read_whole(alloc, limit, head.as_slice(), book, r),
+        Ok(head) => read_whole(alloc, limit, head.as_slice(), gathered, r),
         Err(short) => read_short(&short),
     }
 }
 
-/// Reads an input that begins with these bytes into a book.
+/// Reads an input that begins with these bytes to what was gathered.
 fn read_whole<R: Read, A: Allocator + Copy>(
     alloc: A,
     limit: u64,
     head: &[u8],
-    book: &mut Book<A>,
+    gathered: &mut Gathered<A>,
     r: &mut Counted<R>,
 ) -> Result<(), InputFault>
     requires limit { limit ≤ MAX_INPUT }
@@ -146,8 +146,8 @@ fn read_whole<R: Read, A: Allocator + Copy>(
     requires within { length head.now ≤ limit }
     ensures reads { IfSome (R.remaining (device_of r.old))
         (λ input. HoldsOfGot limit (head.now ++ input) (R.remaining (device_of r.new))
-        (TakesInput book.old.gap result book.old.rows book.new.rows)) }
-    ensures gap { book.new.gap ≡ book.old.gap }
+        (TakesInput gathered.old.gap result gathered.old.rows gathered.new.rows)) }
+    ensures gap { gathered.new.gap ≡ gathered.old.gap }
     ensures count { failures_of r.old ≤ failures_of r.new }
     ensures read { IfErr result (λ fault. IsReadFault fault
         → Rose (failures_of r.old) (failures_of r.new)) }
@@ -155,19 +155,19 @@ fn read_whole<R: Read, A: Allocator + Copy>(
         (answered_of r.new) }
 {
     if head != BOOK_MARK {
-        return read_log(alloc, limit, head, book, r);
+        return read_log(alloc, limit, head, &mut gathered.pile, r);
     }
     let input = read_book(alloc, limit, head, r)?;
-    *book = merged(book, input)?;
+    gathered.book = merged(&gathered.book, input)?;
     Ok(())
 }
 
-/// Takes the receptions of a log that begins with `head`.
+/// Lays the receptions of a log that begins with `head` on a pile.
 fn read_log<R: Read, A: Allocator + Copy>(
     alloc: A,
     limit: u64,
     head: &[u8],
-    book: &mut Book<A>,
+    pile: &mut Pile<A>,
     r: &mut Counted<R>,
 ) -> Result<(), InputFault>
     requires limit { limit ≤ MAX_INPUT }
@@ -175,8 +175,7 @@ fn read_log<R: Read, A: Allocator + Copy>(
     requires within { length head.now ≤ limit }
     ensures reads { IfSome (R.remaining (device_of r.old))
         (λ input. HoldsOfGot limit (head.now ++ input) (R.remaining (device_of r.new))
-        (ReadsLog book.old.gap result book.old.rows book.new.rows)) }
-    ensures gap { book.new.gap ≡ book.old.gap }
+        (ReadsLog result pile.old pile.new)) }
     ensures count { failures_of r.old ≤ failures_of r.new }
     ensures read { IfErr result (λ fault. IsReadFault fault
         → Rose (failures_of r.old) (failures_of r.new)) }
@@ -184,13 +183,21 @@ fn read_log<R: Read, A: Allocator + Copy>(
         (answered_of r.new) }
 {
     let mut reader = LogReader::new(alloc, limit, head, r);
-    let mut waiting = Vec::new(alloc);
     'lines: loop {
         if !reader.advance()? {
-            take_all(alloc, book, waiting.as_slice())?;
             return Ok(());
         }
-        take_line(alloc, book, &mut waiting, reader.current())?;
+        lay(pile, reader.current())?;
+    }
+}
+
+/// Lays the reception of a line on a pile, if it has one.
+fn lay<A: Allocator + Copy>(pile: &mut Pile<A>, line: &Line) -> Result<(), Memory>
+    ensures { OnOk result (pile.new ≡ pile.old ++ receptions_of (line.now ∷ [])) }
+{
+    match line {
+        Line::Heard(x) => pile.push(x),
+        Line::Passed(_) => Ok(()),
     }
 }
 
@@ -203,6 +210,7 @@ pub(crate) fn merged<A: Allocator + Copy>(
         MergesInto (millis_of book.now.gap) book.now.rows input.rows both.rows) }
     ensures gap { IfOk result (λ both. both.gap ≡ book.now.gap) }
     ensures one { OnOk result (HaveOneGap book.now input) }
+    ensures sound { OnOk result (Sound (millis_of book.now.gap) book.now.rows) }
     ensures refused { IfErr result (λ fault. RefusesGaps fault book.now.gap input.gap) }
 {
     if book.gap() != input.gap() {
@@ -218,7 +226,7 @@ pub(crate) fn merged<A: Allocator + Copy>(
 fn read_short(short: &ShortInput) -> Result<(), InputFault>
     requires few { length short.now.bytes.items < HEAD_LEN }
     requires one { list_any is_lf short.now.bytes.items ≡ false }
-    ensures reads { (gap : ℕ) (rows : List Row) → ReadsLog gap result rows rows
+    ensures reads { (pile : List Heard) → ReadsLog result pile pile
         short.now.bytes.items short.now.ending }
     ensures read { IsErrAnd result IsReadFault ↔ (short.now.ending ≡ Ending.Read) }
 {

@@ -1,10 +1,10 @@
 //! Runs over logs, streams and book files.
 #![tactic(auto)]
 
-mod batch;
 mod desk;
 mod fault;
 mod field;
+mod gathered;
 mod head;
 mod heard_line;
 mod input;
@@ -22,7 +22,7 @@ pub use desk::Desk;
 pub use fault::{InputFault, RunFault, status_of};
 pub use input::read_input;
 pub use laws::{listings_tell_positions, same_receptions_same_bytes};
-pub use merge::{merge_at, merge_run};
+pub use merge::merge_run;
 pub use run::{check_run, convert_run};
-pub use show::{show_at, show_run};
+pub use show::show_run;
 pub use widen::widen_run;

@@ -1,18 +1,16 @@
 //! The merge of several inputs.
-ghost use Rattle.std.specs.Prelude.{◌≡◌, ◌≤◌, map, IfOk, IfErr, IsErrAnd};
+ghost use Rattle.std.specs.Prelude.{◌≡◌, ◌≤◌, ◌-◌, length, map, IfOk, IfErr, IsErrAnd};
 ghost use Rattle.aprs_io.specs.declared.input.TheConstants.{MAX_INPUT};
 ghost use Rattle.aprs_kiss.specs.Device.{device_of, failures_of, Rose};
-ghost use Rattle.aprs_tool.specs.Desk.{gap_of, limit_of, rows_of};
-ghost use Rattle.aprs_tool.specs.Merge.{IsAsBefore, IsReadOf, LeavesBook, MergesEach, OfEach, ReadsEach};
+ghost use Rattle.aprs_tool.specs.Merge.{IsAsBefore, IsReadOf, MergesEach, OfEach, ReadsEach};
 ghost use Rattle.aprs_tool.specs.Merge.{ReadsNoFurther, RoseAt, RoseWhereEach, RoseWhereRead};
 ghost use Rattle.aprs_tool.specs.Merge.{WritesNothing};
 ghost use Rattle.aprs_tool.specs.Run.{IsReadFault};
 
-use crate::desk::Desk;
 use crate::fault::{InputFault, RunFault};
+use crate::gathered::{Gathered, Unwritten};
 use crate::input::read_into;
-use aprs_book::{Book, Gap};
-use aprs_booktext::write_book;
+use aprs_book::Gap;
 use aprs_kiss::Counted;
 use std::alloc::Allocator;
 use std::io::{Read, Write};
@@ -43,50 +41,36 @@ pub fn merge_run<R: Read, W: Write, A: Allocator + Copy>(
     ensures write { IfErr result (λ fault. fault ≡ RunFault.Write
         → Rose (failures_of w.old) (failures_of w.new)) }
 {
-    let mut desk = Desk::with_gap(alloc, limit, gap);
-    merge_at(&mut desk, inputs, w)
-}
-
-/// As `merge_run`, with the limit and the gap of a desk, whose book becomes that of the inputs
-/// unless one is refused: so the caller says when the memory of its many rows is given back.
-pub fn merge_at<R: Read, W: Write, A: Allocator + Copy>(
-    desk: &mut Desk<A>,
-    inputs: &mut [Counted<R>],
-    w: &mut Counted<W>,
-) -> Result<(), RunFault>
-    ensures run { OfEach (limit_of desk.old) (map (λ r. R.remaining (device_of r)) inputs.old)
-        (map (λ r. R.remaining (device_of r)) inputs.new)
-        (MergesEach (gap_of desk.old) result (W.contents (device_of w.old))
-        (W.contents (device_of w.new))) }
-    ensures nothing { IfErr result (λ fault. WritesNothing fault (W.contents (device_of w.old))
-        (W.contents (device_of w.new))) }
-    ensures unread { IfErr result (λ fault. ReadsNoFurther fault inputs.old inputs.new) }
-    ensures read { IfErr result (λ fault. RoseWhereRead fault inputs.old inputs.new) }
-    // A failed read is reported where a call of that reader returned one, and nowhere else.
-    ensures answered { RoseWhereEach (λ k. IsErrAnd result (IsReadOf k)) inputs.old inputs.new }
-    ensures write { IfErr result (λ fault. fault ≡ RunFault.Write
-        → Rose (failures_of w.old) (failures_of w.new)) }
-    ensures book { OfEach (limit_of desk.old) (map (λ r. R.remaining (device_of r)) inputs.old)
-        (map (λ r. R.remaining (device_of r)) inputs.new)
-        (LeavesBook (gap_of desk.old) result (rows_of desk.old) (rows_of desk.new)) }
-    ensures gap { gap_of desk.new ≡ gap_of desk.old }
-    ensures limit { limit_of desk.new ≡ limit_of desk.old }
-{
-    match desk.read_all(inputs) {
-        Ok(()) => {}
+    let gathered = match read_all(alloc, limit, gap, inputs) {
+        Ok(gathered) => gathered,
         Err((index, fault)) => return Err(RunFault::Input { index, fault }),
+    };
+    match gathered.write(w) {
+        Ok(()) => Ok(()),
+        Err(Unwritten::Write) => Err(RunFault::Write),
+        Err(Unwritten::Memory) => Err(refused_last(inputs.len())),
     }
-    Ok(write_book(w, desk.book())?)
 }
 
-/// The book of this gap of all inputs' receptions, or the first input that is refused, with its
-/// fault.
+/// An allocation failed for the book of so many inputs, all of which were read: a fault of the
+/// last.
+pub(crate) fn refused_last(inputs: usize) -> RunFault
+    ensures { result ≡ RunFault.Input (inputs - 1) InputFault.Memory }
+{
+    RunFault::Input {
+        index: inputs.saturating_sub(1),
+        fault: InputFault::Memory,
+    }
+}
+
+/// Gathers all inputs' receptions for a book of this gap, or reports the first input that is
+/// refused, with its fault.
 pub(crate) fn read_all<R: Read, A: Allocator + Copy>(
     alloc: A,
     limit: u64,
     gap: Gap,
     inputs: &mut [Counted<R>],
-) -> Result<Book<A>, (usize, InputFault)>
+) -> Result<Gathered<A>, (usize, InputFault)>
     requires { limit ≤ MAX_INPUT }
     ensures reads { OfEach limit (map (λ r. R.remaining (device_of r)) inputs.old)
         (map (λ r. R.remaining (device_of r)) inputs.new) (ReadsEach gap result) }
@@ -94,14 +78,15 @@ pub(crate) fn read_all<R: Read, A: Allocator + Copy>(
     ensures read { IfErr result (λ p. IsReadFault p.1 → RoseAt p.0 inputs.old inputs.new) }
     ensures answered { RoseWhereEach (λ k. IsErrAnd result (λ p. (p.0 ≡ k) × IsReadFault p.1))
         inputs.old inputs.new }
-    ensures gap { IfOk result (λ book. book.gap ≡ gap) }
+    ensures gap { IfOk result (λ gathered. gathered.gap ≡ gap) }
+    ensures len { length inputs.new ≡ length inputs.old }
 {
-    let mut book = Book::with_gap(alloc, gap);
+    let mut gathered = Gathered::new(alloc, gap);
     for (index, r) in inputs.iter_mut().enumerate() {
-        match read_into(alloc, limit, &mut book, r) {
+        match read_into(alloc, limit, &mut gathered, r) {
             Ok(()) => {}
             Err(fault) => return Err((index, fault)),
         }
     }
-    Ok(book)
+    Ok(gathered)
 }

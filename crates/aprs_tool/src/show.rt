@@ -2,14 +2,13 @@
 ghost use Rattle.std.specs.Prelude.{◌≡◌, ◌≤◌, map, IfErr, IsErrAnd};
 ghost use Rattle.aprs_io.specs.declared.input.TheConstants.{MAX_INPUT};
 ghost use Rattle.aprs_kiss.specs.Device.{device_of, failures_of, Rose};
-ghost use Rattle.aprs_tool.specs.Desk.{gap_of, limit_of, rows_of};
-ghost use Rattle.aprs_tool.specs.Merge.{IsReadOf, LeavesBook, OfEach, ReadsNoFurther, RoseWhereEach};
+ghost use Rattle.aprs_tool.specs.Merge.{IsReadOf, OfEach, ReadsNoFurther, RoseWhereEach};
 ghost use Rattle.aprs_tool.specs.Merge.{RoseWhereRead, WritesNothing};
 ghost use Rattle.aprs_tool.specs.Show.{ShowsEach};
 
-use crate::desk::Desk;
 use crate::fault::RunFault;
 use crate::listing::Views;
+use crate::merge::{read_all, refused_last};
 use aprs_book::Gap;
 use aprs_kiss::Counted;
 use std::alloc::Allocator;
@@ -43,40 +42,14 @@ pub fn show_run<R: Read, W: Write, A: Allocator + Copy>(
     ensures write { IfErr result (λ fault. fault ≡ RunFault.Write
         → Rose (failures_of w.old) (failures_of w.new)) }
 {
-    let mut desk = Desk::with_gap(alloc, limit, gap);
-    show_at(&mut desk, inputs, w)
-}
-
-/// As `show_run`, with the limit and the gap of a desk, whose book becomes that of the inputs
-/// unless one is refused: so the caller says when the memory of its many rows is given back.
-pub fn show_at<R: Read, W: Write, A: Allocator + Copy>(
-    desk: &mut Desk<A>,
-    inputs: &mut [Counted<R>],
-    w: &mut Counted<W>,
-) -> Result<(), RunFault>
-    ensures run { OfEach (limit_of desk.old) (map (λ r. R.remaining (device_of r)) inputs.old)
-        (map (λ r. R.remaining (device_of r)) inputs.new)
-        (ShowsEach (gap_of desk.old) result (W.contents (device_of w.old))
-        (W.contents (device_of w.new))) }
-    ensures nothing { IfErr result (λ fault. WritesNothing fault (W.contents (device_of w.old))
-        (W.contents (device_of w.new))) }
-    ensures unread { IfErr result (λ fault. ReadsNoFurther fault inputs.old inputs.new) }
-    ensures read { IfErr result (λ fault. RoseWhereRead fault inputs.old inputs.new) }
-    // A failed read is reported where a call of that reader returned one, and nowhere else.
-    ensures answered { RoseWhereEach (λ k. IsErrAnd result (IsReadOf k)) inputs.old inputs.new }
-    ensures write { IfErr result (λ fault. fault ≡ RunFault.Write
-        → Rose (failures_of w.old) (failures_of w.new)) }
-    ensures book { OfEach (limit_of desk.old) (map (λ r. R.remaining (device_of r)) inputs.old)
-        (map (λ r. R.remaining (device_of r)) inputs.new)
-        (LeavesBook (gap_of desk.old) result (rows_of desk.old) (rows_of desk.new)) }
-    ensures gap { gap_of desk.new ≡ gap_of desk.old }
-    ensures limit { limit_of desk.new ≡ limit_of desk.old }
-{
-    match desk.read_all(inputs) {
-        Ok(()) => {}
+    let gathered = match read_all(alloc, limit, gap, inputs) {
+        Ok(gathered) => gathered,
         Err((index, fault)) => return Err(RunFault::Input { index, fault }),
-    }
-    let Ok(views) = Views::of(desk.book()) else {
+    };
+    let Ok(book) = gathered.into_book() else {
+        return Err(refused_last(inputs.len()));
+    };
+    let Ok(views) = Views::of(&book) else {
         return Err(RunFault::Memory);
     };
     Ok(views.write(w)?)

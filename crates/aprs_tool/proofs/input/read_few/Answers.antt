@@ -6,13 +6,12 @@ pub returns-in-Ok-clause-reads : goal.returns-in-Ok-clause-reads
 returns-in-Ok-clause-reads g c =
     let short = c.args.short.now in
     let made = c.with_gap in
-    read_alone c.args.gap made.result.gap made.result made.result.rows short.bytes.items
-    short.ending (short_is_log short.bytes.items c.requires.few) made.ensures.gap refl
-    made.ensures.book
-    (c.in-Ok.ensures.reads made.result.gap made.result.rows)
+    read_alone c.args.gap made.result [] [] short.bytes.items short.ending
+    (short_is_log short.bytes.items c.requires.few) made.ensures.gap refl made.ensures.book
+    (c.in-Ok.ensures.reads [])
 
 pub returns-in-Err-clause-reads : goal.returns-in-Err-clause-reads
 returns-in-Err-clause-reads g c =
     let short = c.args.short.now in
-    refused_log c.args.gap c.in-Err.fault [] [] short.bytes.items short.ending
-    (short_is_log short.bytes.items c.requires.few) (c.in-Err.ensures.reads c.args.gap [])
+    refused_log c.in-Err.fault [] [] short.bytes.items short.ending
+    (short_is_log short.bytes.items c.requires.few) (c.in-Err.ensures.reads [])

@@ -5,7 +5,7 @@ use Rattle.aprs_convert.specs.Got.{HoldsOfGot}
 use Rattle.aprs_tool.specs.Inputs.{ReadsLog}
 use Rattle.aprs_tool.specs.declared.fault.InputFault.TheVariants.{Log}
 use Rattle.aprs_log.specs.Reader.{current_of}
-use Rattle.aprs_tool.proofs.Logs.{Took-none, Took-waiting, Took-line, Took-taken, Took-ended, Took-fault, Took-refused}
+use Rattle.aprs_tool.proofs.Logs.{Took-none, Took-line, Took-ended, Took-fault, Took-refused}
 use Rattle.aprs_tool.proofs.input.read_log.Goals as goal
 
 pub lines-init : goal.lines-init
@@ -14,8 +14,7 @@ lines-init g c = record {
   reads = omega arith;
   going = c.new-reader.ensures.going;
   answered = refl;
-  gap = refl;
-  took = λ end. Took-waiting _ _ _ _ _ _ _ (sym c.new-waiting.ensures.items) (Took-none _ _ _);
+  took = λ end. Took-none _ _;
 }
 
 pub lines-preserved : goal.lines-preserved
@@ -27,10 +26,8 @@ lines-preserved g c =
       going = gives.1;
       answered = (c.in_ok-advance.ensures.answered c.lines.invariant.going).1 (λ e. absurd e)
           ∙ c.lines.invariant.answered;
-      gap = c.in_ok-take_line.ensures.gap ∙ c.lines.invariant.gap;
-      took = λ end. Took-line _ _ _ _ _ _ _ _ _ (current_of c.advance.new.self) _ c.current.ensures
-          (c.lines.invariant.took end) (gives.2 end)
-          c.lines.book.gap c.lines.invariant.gap c.in_ok-take_line.ensures.adds;
+      took = λ end. Took-line _ _ _ _ _ _ _ (current_of c.advance.new.self) c.current.ensures
+          (c.lines.invariant.took end) (gives.2 end) c.in_ok-lay.ensures;
     }
 
 pub returns-then-not-branch-clause-reads : goal.returns-then-not-branch-clause-reads
@@ -41,11 +38,9 @@ returns-then-not-branch-clause-reads g c =
     let back = c.r-then-not-branch-1.given.1 (sym loan) in
     subst (λ k. IfSome (g.R.Read.remaining (device_of c.args.r.now))
     (λ input. HoldsOfGot c.args.limit (c.args.head.now ++ input) k
-    (ReadsLog c.args.book.now.gap (Ok tt) c.args.book.now.rows c.take_all.new.book.rows)))
+    (ReadsLog (Ok tt) c.args.pile.now c.lines.pile)))
     (ap (λ k. g.R.Read.remaining (device_of k)) (sym back))
-    (Took-ended _ _ _ _ _ _ _ c.args.limit c.args.head.now
-    (Took-taken _ _ _ _ _ _ _ _ c.as_slice.ensures.value (c.lines.invariant.took _)
-    c.lines.book.gap c.lines.invariant.gap c.in_ok-take_all.ensures.adds)
+    (Took-ended _ _ _ _ _ _ c.args.limit c.args.head.now (c.lines.invariant.took _)
     gives.2 (c.new-reader.ensures.whole _))
 
 pub returns-in_err-advance-clause-reads : goal.returns-in_err-advance-clause-reads
@@ -58,24 +53,13 @@ returns-in_err-advance-clause-reads g c =
     rw (p.1, p.2)
     (subst (λ k. IfSome (g.R.Read.remaining (device_of c.args.r.now))
     (λ input. HoldsOfGot c.args.limit (c.args.head.now ++ input) k
-    (ReadsLog c.args.book.now.gap (Err (Log fault)) c.args.book.now.rows c.lines.book.rows)))
+    (ReadsLog (Err (Log fault)) c.args.pile.now c.lines.pile)))
     (ap (λ k. g.R.Read.remaining (device_of k)) (sym back))
-    (Took-fault _ _ _ _ _ _ _ c.args.limit c.args.head.now fault _
+    (Took-fault _ _ _ _ _ _ c.args.limit c.args.head.now fault
     (c.lines.invariant.took _) c.in_err-advance.ensures.gives.2 (c.new-reader.ensures.whole _)))
 
-pub returns-in_err-take_line-clause-reads : goal.returns-in_err-take_line-clause-reads
-returns-in_err-take_line-clause-reads g c =
-    let p = err_from_is_err_and c.from_residual-in_err-take_line.result
-    c.from_residual-in_err-take_line.ensures.1 in
-    rw (p.1, p.2) (Took-refused c.args.book.now.gap _ _ c.args.limit c.args.head.now
-    c.args.book.now.rows c.take_line.new.book.rows)
-
-pub returns-in_err-take_line-clause-gap : goal.returns-in_err-take_line-clause-gap
-returns-in_err-take_line-clause-gap g c = c.take_line.ensures.gap ∙ c.lines.invariant.gap
-
-pub returns-in_err-take_all-clause-reads : goal.returns-in_err-take_all-clause-reads
-returns-in_err-take_all-clause-reads g c =
-    let p = err_from_is_err_and c.from_residual-in_err-take_all.result
-    c.from_residual-in_err-take_all.ensures.1 in
-    rw (p.1, p.2) (Took-refused c.args.book.now.gap _ _ c.args.limit c.args.head.now
-    c.args.book.now.rows c.take_all.new.book.rows)
+pub returns-in_err-lay-clause-reads : goal.returns-in_err-lay-clause-reads
+returns-in_err-lay-clause-reads g c =
+    let p = err_from_is_err_and c.from_residual-in_err-lay.result
+    c.from_residual-in_err-lay.ensures.1 in
+    rw (p.1, p.2) (Took-refused _ _ c.args.limit c.args.head.now c.args.pile.now c.lay.new.pile)

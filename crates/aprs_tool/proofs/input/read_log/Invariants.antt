@@ -13,11 +13,9 @@ invariant-lines g l =
       reads : failures_of (source_of l.initial.reader) ≤ failures_of (source_of l.reader);
       going : stop_of l.reader ≡ None;
       answered : answered_of (source_of l.reader) ≡ answered_of (source_of l.initial.reader);
-      gap : l.book.gap ≡ l.fn.book.gap;
-      took : (end : Option (List ℕ)) → Took l.fn.book.gap
+      took : (end : Option (List ℕ)) → Took
           (Awaits (remaining (device_of (source_of l.initial.reader))) end l.initial.reader)
-          (Awaits (remaining (device_of (source_of l.reader))) end l.reader) l.fn.book.rows
-          l.book.rows l.waiting.items;
+          (Awaits (remaining (device_of (source_of l.reader))) end l.reader) l.fn.pile l.pile;
     }
 
 abbrev pub decreases-lines : goal.decreases-lines

@@ -8,12 +8,12 @@ returns-in-Some-clause-reads c =
     let short = c.args.short.now in
     let answers = ap (λ t. log_answers t short.ending) (sym c.as_slice.ensures.value)
     ∙ c.in-Some.ensures.answers in
-    rw c.from.ensures (λ gap rows. short_fault gap short.bytes.items short.ending c.in-Some.cause
-    rows answers)
+    rw c.from.ensures (λ pile. short_fault short.bytes.items short.ending c.in-Some.cause pile
+    answers)
 
 pub returns-in-None-clause-reads : goal.returns-in-None-clause-reads
 returns-in-None-clause-reads c =
     let short = c.args.short.now in
-    λ gap rows. short_empty gap short.bytes.items short.ending rows
+    λ pile. short_empty short.bytes.items short.ending pile
     (ap (λ t. log_answers t short.ending) (sym c.as_slice.ensures.value)
     ∙ c.in-None.ensures.answers)
