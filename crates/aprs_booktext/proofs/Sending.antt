@@ -1,7 +1,6 @@
 -- Lemmas on bytes that go out through a buffer.
-use Rattle.std.proofs.Common.{◌≡◌, ℕ, suc, ◌+◌, ◌<◌, List, [], ◌∷◌, ◌++◌, length, get_or, take, drop, map, Option, Result, Ok, Err, OnOk, OnErr, refl, sym, ap, ◌∙◌, subst, append_assoc, append-nil, add-one, take-append-drop}
-use Rattle.std.proofs.Math.Seq.{drop-cons}
-use Rattle.std.proofs.lemmas.List.{take_more, flat_map_more}
+use Rattle.std.proofs.Common.{◌≡◌, ℕ, ◌+◌, ◌<◌, List, [], ◌∷◌, ◌++◌, length, get_or, take, drop, map, Option, Result, Ok, Err, OnOk, OnErr, refl, sym, ap, ◌∙◌, subst, append_assoc, append-nil, take-append-drop}
+use Rattle.std.proofs.lemmas.List.{take_more, drop_more, flat_map_more}
 use Rattle.std.proofs.lemmas.List.Concat.{flat_map-append}
 use Rattle.std.specs.List.{flat_map, join_with_byte}
 use Rattle.std.specs.Io.KnownBytes.{Appends}
@@ -13,8 +12,7 @@ use Rattle.hex.specs.Hex.{encode_lower}
 use Rattle.aprs_log.specs.Moment.{moment_text}
 use Rattle.aprs_log.specs.declared.moment_form.MomentForm.TheVariants.{Millis}
 use Rattle.aprs_laws.specs.BookValue.{BookValue}
-use Rattle.aprs_laws.specs.Row.{Row}
-use Rattle.aprs_book.specs.Shown.{row_of}
+use Rattle.aprs_laws.specs.Row.{Row, last_of}
 use Rattle.aprs_booktext.specs.Outbox.{Puts, line_and_lf}
 use Rattle.aprs_booktext.specs.Text.{row_line, end_line, ended_by_lf, written_text}
 use Rattle.aprs_booktext.specs.Version.{header_of}
@@ -52,15 +50,17 @@ prefix_of_second a b c h i x y p q =
 
 -- ---- pieces one after another
 
+-- the rest of a list begins with the item at its place
+pub rest_next : {X : Type 0} (xs : List X) (i : ℕ) (x : X) → i < length xs → x ≡ get_or xs i x
+    → drop i xs ≡ x ∷ drop (i + 1) xs
+rest_next xs i x lt is = drop_more xs i x lt ∙ ap (λ y. y ∷ drop (i + 1) xs) (sym is)
+
 module _ {X : Type 0} (f : X → List ℕ) (xs : List X) (i : ℕ) (x : X) (lt : i < length xs)
     (is : x ≡ get_or xs i x)
     (a b c : Option (List ℕ)) (h k : List ℕ) (p : Puts a b h k (flat_map f (take i xs)))
     (piece : List ℕ) (piece_is : piece ≡ f x) where
   at_piece : xs ≡ take i xs ++ x ∷ drop (i + 1) xs
-  at_piece =
-      let rest : drop i xs ≡ x ∷ drop (i + 1) xs =
-      rw (add-one, drop-cons xs i x) (ap (λ y. y ∷ drop (suc i) xs) (sym is)) in
-      sym (take-append-drop i xs) ∙ ap (λ ys. take i xs ++ ys) rest
+  at_piece = sym (take-append-drop i xs) ∙ ap (λ ys. take i xs ++ ys) (rest_next xs i x lt is)
 
   -- one piece more
   pub Puts-more : (j : List ℕ) → Puts b c k j piece → Puts a c h j (flat_map f (take (i + 1) xs))
@@ -184,19 +184,20 @@ line_parts a b names who digits =
     ∙ sym (space_between a (b ++ 32 ∷ []) tail ∙ ap (λ t. a ++ 32 ∷ t) (space_between b [] tail))
     )
 
-pub row_parts : (first last : ℕ) (names : List (List ℕ)) (who bytes : List ℕ) (row : Row)
-    → row_of first last names who bytes ≡ row → (head tail : List ℕ)
-    → head ≡ codes "T " ++ moment_text first ++ 32 ∷ moment_text last ++ 32 ∷ []
-    → tail ≡ 32 ∷ who ++ 32 ∷ encode_lower bytes ++ 10 ∷ []
-    → ended_by_lf (row_line Millis row) ≡ head ++ (join_with_byte 44 names ++ tail)
-row_parts first last names who bytes row e head tail h t =
-    ap (λ x. ended_by_lf (row_line Millis x)) (sym e)
-    ∙ line_parts (moment_text first) (moment_text last) (join_with_byte 44 names) who
-    (encode_lower bytes)
-    ∙ ap (λ l. l ++ (join_with_byte 44 names ++ 32 ∷ (who ++ 32 ∷ (encode_lower bytes ++ 10 ∷ []))))
-    (sym (h ∙ append_assoc (84 ∷ 32 ∷ moment_text first) (32 ∷ moment_text last) (32 ∷ [])))
-    ∙ ap (λ l. head ++ (join_with_byte 44 names ++ l))
-    (sym (t ∙ append_assoc (32 ∷ who) (32 ∷ encode_lower bytes) (10 ∷ [])))
+pub row_parts : (row : Row) (head tail : List ℕ)
+    → head ≡ codes "T " ++ moment_text row.first ++ 32 ∷ moment_text (last_of row) ++ 32 ∷ []
+    → tail ≡ 32 ∷ row.greatest.receiver ++ 32 ∷ encode_lower row.greatest.frame ++ 10 ∷ []
+    → ended_by_lf (row_line Millis row) ≡ head ++ (join_with_byte 44 row.receivers ++ tail)
+row_parts row head tail h t =
+    let first = moment_text row.first in
+    let last = moment_text (last_of row) in
+    let names = join_with_byte 44 row.receivers in
+    let who = row.greatest.receiver in
+    let digits = encode_lower row.greatest.frame in
+    line_parts first last names who digits
+    ∙ ap (λ l. l ++ (names ++ 32 ∷ (who ++ 32 ∷ (digits ++ 10 ∷ []))))
+    (sym (h ∙ append_assoc (84 ∷ 32 ∷ first) (32 ∷ last) (32 ∷ [])))
+    ∙ ap (λ l. head ++ (names ++ l)) (sym (t ∙ append_assoc (32 ∷ who) (32 ∷ digits) (10 ∷ [])))
 
 -- ---- the parts of a text
 

@@ -92,6 +92,9 @@ high_bytes : (r : List ℕ) → list_all is_name_byte r ≡ true → High r
 high_bytes [] h = tt
 high_bytes (b ∷ r) h = let p = and_parts _ _ h in (name_byte b p.0, high_bytes r p.1)
 
+pub name_len : (r : List ℕ) → IsName r → length r ≤ 16
+name_len r h = grind (arith, nat_tests)
+
 pub high_name : (r : List ℕ) → IsName r → High r
 high_name r h = high_bytes r (and_parts _ _ h).1
 

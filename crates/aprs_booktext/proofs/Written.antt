@@ -1,5 +1,5 @@
 -- Rows that were written can be read.
-use Rattle.std.proofs.Common.{◌≡◌, ℕ, ◌+◌, ◌<◌, List, [], ◌∷◌, ◌++◌, length, get_or, take, OnOk, Result, Ok, Err, inl, refl, sym, ap, ◌∙◌, subst, append_assoc, append-nil, arith}
+use Rattle.std.proofs.Common.{◌≡◌, ℕ, ◌+◌, ◌<◌, List, [], ◌∷◌, ◌++◌, length, get_or, take, inl, refl, sym, ap, ◌∙◌, subst, append_assoc, append-nil, arith}
 use Rattle.std.specs.Prelude.{All}
 use Rattle.std.proofs.lemmas.List.{take_more}
 use Rattle.std.proofs.lemmas.List.Elements.{All-nil, All-push}
@@ -10,34 +10,7 @@ use Rattle.aprs_laws.specs.Lists.{◌∈◌}
 use Rattle.aprs_laws.specs.Row.{Row}
 use Rattle.aprs_laws.specs.Sound.{Sound}
 use Rattle.aprs_laws.proofs.Lists.{in_right}
-use Rattle.aprs_book.specs.Shown.{row_of}
-use Rattle.aprs_booktext.specs.Outbox.{AreSpelled}
-use Rattle.aprs_booktext.specs.Text.{IsBookRow, IsBookRows, IsWritable, written_version}
-
-pub on_ok : {T E P : Type 0} (r : Result T E) → P → OnOk r P
-on_ok (Ok x) p = p
-on_ok (Err e) p = tt
-
--- the row of what its parts spell
-pub row_written : (first last : ℕ) (names : List (List ℕ)) (who bytes : List ℕ) (row : Row)
-    → row_of first last names who bytes ≡ row
-    → IsWritable Millis first × IsWritable Millis last → All IsName names → AreSpelled who bytes
-    → 0 < length row.receivers → IsBookRow Millis row
-row_written first last names who bytes row e moments names_are s some =
-    let here : 0 < length names = subst (λ (x : Row). 0 < length x.receivers) (sym e) some in
-    let is : IsBookRow Millis (row_of first last names who bytes) = record {
-      spelled = record {
-        first = moments.0;
-        last = moments.1;
-        some = here;
-        receivers = names_are;
-        receiver = s.name_is;
-        bytes = s.bytes_are;
-        few = s.few;
-      };
-      frame = s.frame_is;
-    } in
-    subst (IsBookRow Millis) e is
+use Rattle.aprs_booktext.specs.Text.{IsBookRow, IsBookRows, written_version}
 
 -- one name more
 pub names_more : (names : List (List ℕ)) (i : ℕ) (name : List ℕ) → i < length names

@@ -13,6 +13,7 @@ mod reader;
 mod row_line;
 mod version;
 mod write;
+mod write_pile;
 
 pub use fault::{BookCause, BookFault};
 pub use laws::{
@@ -23,3 +24,4 @@ pub use outbox::{Outbox, flush, put};
 pub use read::read_book;
 pub use version::Version;
 pub use write::write_book;
+pub use write_pile::write_rows;

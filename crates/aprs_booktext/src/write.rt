@@ -4,6 +4,8 @@ ghost use Rattle.std.specs.List.{join_with_byte};
 ghost use Rattle.std.specs.Io.KnownBytes.{Appends};
 ghost use Rattle.hex.specs.Hex.{encode_lower, IsBytes};
 ghost use Rattle.arrayvec.specs.ArrayVec.{array_vec_len};
+ghost use Rattle.aprs_ax25.specs.Frame.{FrameOf};
+ghost use Rattle.aprs_ax25.specs.FrameFault.{parts_of};
 ghost use Rattle.aprs_log.specs.Moment.{moment_text};
 ghost use Rattle.aprs_log.specs.Receiver.{IsName};
 ghost use Rattle.aprs_log.specs.declared.moment_form.MomentForm.TheVariants.{Millis};
@@ -17,11 +19,11 @@ use crate::end_line::{END_LINE, end_line};
 use crate::hexadecimal::{MAX_DIGITS, MAX_FRAME};
 use crate::outbox::{Outbox, flush, put};
 use crate::version::{MAX_HEADER, Version};
-use aprs_ax25::Frame;
-use aprs_book::{Book, Gap, Row};
+use aprs_book::{Book, Gap};
 use aprs_io::{encode_to, push_all};
 use aprs_kiss::{Counted, WriteFault};
 use aprs_log::{Moment, Receiver};
+use aprs_pile::RowView;
 use arrayvec::ArrayVec;
 use std::alloc::Allocator;
 use std::io::Write;
@@ -91,13 +93,17 @@ fn put_rows<W: Write, A: Allocator + Copy>(
     ensures spelled { OnOk result (IsBookRows (written_version book.now) book.now.rows) }
 {
     for row in book.rows() {
-        put_row(w, held, &row)?;
+        put_row(w, held, &RowView::of(&row))?;
     }
     Ok(())
 }
 
 /// Puts the row's line.
-fn put_row<W: Write>(w: &mut Counted<W>, held: &mut Outbox, row: &Row<'_>) -> Result<(), WriteFault>
+pub(crate) fn put_row<W: Write>(
+    w: &mut Counted<W>,
+    held: &mut Outbox,
+    row: &RowView<'_>,
+) -> Result<(), WriteFault>
     ensures sent { OnOk result (Puts (W.contents (device_of w.old)) (W.contents (device_of w.new))
         held.old.items held.new.items (ended_by_lf (row_line Millis row.now))) }
     ensures prefix { OnErr result (AppendsPrefix (W.contents (device_of w.old))
@@ -106,9 +112,9 @@ fn put_row<W: Write>(w: &mut Counted<W>, held: &mut Outbox, row: &Row<'_>) -> Re
     ensures fault { OnErr result (Rose (failures_of w.old) (failures_of w.new)) }
     ensures spelled { OnOk result (0 < length row.now.receivers → IsBookRow Millis row.now) }
 {
-    put(w, held, row_head(row.first, row.last).as_slice())?;
-    put_names(w, held, row.receivers)?;
-    put(w, held, row_tail(row.receiver, row.frame).as_slice())
+    put(w, held, row_head(row.first(), row.last()).as_slice())?;
+    put_names(w, held, row.receivers())?;
+    put(w, held, row_tail(row.receiver(), row.frame()).as_slice())
 }
 
 /// The part before the receivers in a row's line.
@@ -127,16 +133,18 @@ fn row_head(first: Moment, last: Moment) -> ArrayVec<u8, ROW_HEAD>
 }
 
 /// The part after the receivers in a row's line, with the LF.
-fn row_tail(receiver: &Receiver, frame: &Frame) -> ArrayVec<u8, ROW_TAIL>
+fn row_tail(receiver: &[u8], frame: &[u8]) -> ArrayVec<u8, ROW_TAIL>
+    requires name { IsName receiver.now }
+    requires frame { FrameOf (parts_of frame.now) frame.now }
     ensures text { result.items
         ≡ 32 ∷ receiver.now ++ 32 ∷ encode_lower frame.now ++ 10 ∷ [] }
     ensures spelled { AreSpelled receiver.now frame.now }
 {
     let mut text = ArrayVec::new();
     push_all(&mut text, b" ");
-    push_all(&mut text, receiver.as_bytes());
+    push_all(&mut text, receiver);
     push_all(&mut text, b" ");
-    push_hex(&mut text, frame.bytes());
+    push_hex(&mut text, frame);
     push_all(&mut text, b"\n");
     text
 }
@@ -195,7 +203,7 @@ fn after_comma(name: &Receiver) -> ArrayVec<u8, MAX_FURTHER>
 }
 
 /// The first line of a book with this gap, with its LF.
-fn header_line(gap: Gap) -> ArrayVec<u8, MAX_HEADER>
+pub(crate) fn header_line(gap: Gap) -> ArrayVec<u8, MAX_HEADER>
     ensures { result.items ≡ ended_by_lf (header_of (Three gap)) }
 {
     let mut text = Version::Three(gap).header();
@@ -204,7 +212,7 @@ fn header_line(gap: Gap) -> ArrayVec<u8, MAX_HEADER>
 }
 
 /// The last line of a book of so many rows, with its LF.
-fn end_line_and_lf(rows: usize) -> ArrayVec<u8, END_LINE>
+pub(crate) fn end_line_and_lf(rows: usize) -> ArrayVec<u8, END_LINE>
     ensures { result.items ≡ ended_by_lf (end_line rows) }
 {
     let mut text = end_line(rows);

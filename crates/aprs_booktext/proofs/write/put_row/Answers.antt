@@ -6,38 +6,34 @@ use Rattle.aprs_booktext.proofs.write.put_row.Goals as goal
 
 pub returns-in_err-put-clause-prefix : goal.returns-in_err-put-clause-prefix
 returns-in_err-put-clause-prefix g c =
-    let r = c.row.inside in
-    let whole = row_parts r.first r.last r.receivers.now r.receiver.now r.frame.now c.args.row.now
-    c.row.view_is c.as_slice.result.now _ (cc) refl in
+    let whole = row_parts c.args.row.now c.as_slice.result.now _ (cc) refl in
     on_err c.from_residual.result (prefix_of_part _ _ _ _ _ _ whole c.in_err-put.ensures.prefix)
 
 pub returns-in_err-put_names-clause-prefix : goal.returns-in_err-put_names-clause-prefix
 returns-in_err-put_names-clause-prefix g c =
-    let r = c.row.inside in
-    let whole = row_parts r.first r.last r.receivers.now r.receiver.now r.frame.now c.args.row.now
-    c.row.view_is c.as_slice.result.now _ (cc) refl in
+    let whole = row_parts c.args.row.now c.as_slice.result.now _ (cc) refl in
     prefix_of_last c.from_residual-in_err-put_names.result _ _ _ _ _ _ _ _ c.in_ok-put.ensures.sent
     whole
     (on_err c.from_residual-in_err-put_names.result
     (prefix_of_first _ _ c.put.new.held.items
-    (join_with_byte 44 r.receivers.now) _ c.in_err-put_names.ensures.prefix))
+    (join_with_byte 44 c.args.row.now.receivers) _
+    (rw c.receivers.ensures at c.in_err-put_names.ensures.prefix)))
 
 pub returns-clause-sent : goal.returns-clause-sent
 returns-clause-sent g c =
-    let r = c.row.inside in
-    let whole = row_parts r.first r.last r.receivers.now r.receiver.now r.frame.now c.args.row.now
-    c.row.view_is c.as_slice.result.now c.as_slice-2.result.now (cc) (cc) in
+    let row = c.args.row.now in
+    let whole = row_parts row c.as_slice.result.now c.as_slice-2.result.now (cc) (cc) in
     Puts-last c.put-2.result _ _ _ _ _ _ _ _ (Puts-then c.in_ok-put.ensures.sent
-    c.in_ok-put_names.ensures.sent) (whole
+    (rw c.receivers.ensures at c.in_ok-put_names.ensures.sent)) (whole
     ∙ sym (append_assoc c.as_slice.result.now
-    (join_with_byte 44 r.receivers.now) c.as_slice-2.result.now)) _ c.put-2.ensures.sent
+    (join_with_byte 44 row.receivers) c.as_slice-2.result.now)) _ c.put-2.ensures.sent
 
 pub returns-clause-prefix : goal.returns-clause-prefix
 returns-clause-prefix g c =
-    let r = c.row.inside in
-    let whole = row_parts r.first r.last r.receivers.now r.receiver.now r.frame.now c.args.row.now
-    c.row.view_is c.as_slice.result.now c.as_slice-2.result.now (cc) (cc) in
+    let row = c.args.row.now in
+    let whole = row_parts row c.as_slice.result.now c.as_slice-2.result.now (cc) (cc) in
     prefix_of_last c.put-2.result _ _ _ _ _ _ _ _
-    (Puts-then c.in_ok-put.ensures.sent c.in_ok-put_names.ensures.sent) (whole
+    (Puts-then c.in_ok-put.ensures.sent
+    (rw c.receivers.ensures at c.in_ok-put_names.ensures.sent)) (whole
     ∙ sym (append_assoc c.as_slice.result.now
-    (join_with_byte 44 r.receivers.now) c.as_slice-2.result.now)) c.put-2.ensures.prefix
+    (join_with_byte 44 row.receivers) c.as_slice-2.result.now)) c.put-2.ensures.prefix

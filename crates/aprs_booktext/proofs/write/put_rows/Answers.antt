@@ -20,16 +20,18 @@ loop-row-init g c = record {
 pub loop-row-preserved : goal.loop-row-preserved
 loop-row-preserved g c = record {
   put = PutSoFar-more line_and_lf _ _ _ _ _ _ _ _ _ c.loop-row.invariant.put c.in-Some.ensures.steps
-      _ c.in_ok-put_row.ensures.sent;
+      _ (rw c.of.ensures at c.in_ok-put_row.ensures.sent);
   count = omega (arith, c.loop-row.invariant.count, c.put_row.ensures.count);
   written = WrittenSoFar-more _ _ _ _ _ c.rows-row-items.ensures.sound.sound
-      c.loop-row.invariant.written c.in-Some.ensures.steps c.in_ok-put_row.ensures.spelled;
+      c.loop-row.invariant.written c.in-Some.ensures.steps
+      (rw c.of.ensures at c.in_ok-put_row.ensures.spelled);
 }
 
 pub returns-in_err-put_row-clause-prefix : goal.returns-in_err-put_row-clause-prefix
 returns-in_err-put_row-clause-prefix g c =
     on_err c.from_residual.result (prefix_of_more line_and_lf _ _ _ _ _ _ _ _ _
-    c.loop-row.invariant.put c.in-Some.ensures.steps c.in_err-put_row.ensures.prefix)
+    c.loop-row.invariant.put c.in-Some.ensures.steps
+    (rw c.of.ensures at c.in_err-put_row.ensures.prefix))
 
 pub returns-clause-spelled : goal.returns-clause-spelled
 returns-clause-spelled g c =
