@@ -1,10 +1,9 @@
 -- Lemmas on an input that is read into a book.
-use Rattle.std.proofs.Common.{◌≡◌, ◌<◌, ℕ, List, [], ◌∷◌, ◌++◌, length, Option, None, Some, Ok, Err, IfSome, inl, inr, sym, subst, arith}
+use Rattle.std.proofs.Common.{◌≡◌, ℕ, List, [], ◌∷◌, ◌++◌, length, Option, None, Some, Ok, Err, IfSome, inl, inr, sym, subst, arith}
 use Rattle.aprs_laws.specs.Book.{BookOf}
 use Rattle.aprs_laws.specs.BookValue.{BookValue}
 use Rattle.aprs_laws.specs.Gap.{millis_of}
 use Rattle.aprs_laws.specs.Row.{Row}
-use Rattle.aprs_laws.specs.Sound.{Sound}
 use Rattle.aprs_tool.specs.Gathered.{rows_with}
 use Rattle.aprs_tool.proofs.RowsWith.{gathers_book}
 use Rattle.aprs_laws.proofs.Books.{book_carries}
@@ -66,17 +65,17 @@ module _ (gap : ℕ) (t : List ℕ) (c : Ending) (b : BookValue) (h : ReadsInput
       )
 
   -- it was merged beside receptions that were gathered
-  pub gathered_in : (old new : List Row) (pile : List Heard) → gap ≡ b.gap → 0 < millis_of gap
-      → Sound (millis_of gap) old → MergesInto (millis_of gap) old b.rows new
+  pub gathered_in : (W pile : List Heard) (old new : List Row) → gap ≡ b.gap
+      → BookOf (millis_of gap) W old → MergesInto (millis_of gap) old b.rows new
       → TakesInput gap (Ok tt) (rows_with (millis_of gap) old pile)
       (rows_with (millis_of gap) new pile) t c
-  gathered_in old new pile same some sound merges =
+  gathered_in W pile old new same known merges =
       let S = h.1.1 in (
         h.0,
         (
           S,
           subst (λ g. AreMembers g t c S) (sym same) h.1.2,
-          gathers_book gap old b.rows new pile S some sound
+          gathers_book gap W pile S old b.rows new known
               (subst (λ g. BookOf (millis_of g) S b.rows) (sym same) h.1.3) merges,
         ),
       )

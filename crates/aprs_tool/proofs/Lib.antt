@@ -9,3 +9,4 @@ pub mod OneMerge
 pub mod ShortLogs
 pub mod Runs
 pub mod Widens
+pub mod LastRefused

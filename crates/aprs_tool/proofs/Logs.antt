@@ -1,8 +1,5 @@
 -- Lemmas on the receptions of a log whose lines are read one by one.
-use Rattle.std.proofs.Common.{◌≡◌, ℕ, List, [], ◌∷◌, ◌++◌, Option, None, Some, Result, Ok, Err, IfSome, refl, ap, sym, ◌∙◌, append_assoc, append-nil, subst}
-use Rattle.aprs_laws.specs.Book.{BookOf}
-use Rattle.aprs_laws.specs.Gap.{millis_of}
-use Rattle.aprs_laws.specs.Row.{Row}
+use Rattle.std.proofs.Common.{◌≡◌, ℕ, List, [], ◌∷◌, ◌++◌, Option, None, Some, Result, Ok, Err, IfSome, refl, ap, sym, ◌∙◌, append_assoc, append-nil}
 use Rattle.aprs_log.specs.LogAnswers.{Answers, ended, log_answers, receptions_of, then_given}
 use Rattle.aprs_log.specs.Reader.{AreAnswersOf}
 use Rattle.aprs_log.specs.Reception.{Heard as Reception}
@@ -69,8 +66,8 @@ Took-ended first now old pile known end limit head h may whole =
     (λ t c e. (
       ap (λ (a : Answers). a.fault) (sym e),
       h.are
-      ∙ ap (λ (lines : List Line). old ++ receptions_of lines) (sym (append-nil h.seen))
-      ∙ ap (λ (a : Answers). old ++ receptions_of a.given) e,
+          ∙ ap (λ (lines : List Line). old ++ receptions_of lines) (sym (append-nil h.seen))
+          ∙ ap (λ (a : Answers). old ++ receptions_of a.given) e,
     ))
 
 -- the log has a fault

@@ -119,7 +119,7 @@ gets_more limit (input ∷ done) more [] next [] others h k = absurd h
 gets_more limit (input ∷ done) more [] next (g ∷ gots) others h k = absurd h
 gets_more limit (input ∷ done) more (after ∷ afters) next [] others h k = absurd h
 
-gots_len : (limit : ℕ) (done : List (List ℕ)) (afters : List (Option (List ℕ))) (gots : List Got)
+pub gots_len : (limit : ℕ) (done : List (List ℕ)) (afters : List (Option (List ℕ))) (gots : List Got)
     → GetsEach limit done afters gots → length gots ≡ length done
 gots_len limit [] [] [] h = refl
 gots_len limit (input ∷ done) (after ∷ afters) (g ∷ gots) h = let e =

@@ -1,10 +1,15 @@
 -- What was gathered of inputs: a book, and receptions that are not in it yet.
-use Rattle.std.specs.Prelude.{ℕ, List, [], ◌∷◌}
+use Rattle.std.specs.Prelude.{◌≡◌, ◌≢◌, ℕ, List, [], ◌∷◌, Option, Result, Ok, Err}
+use Rattle.std.specs.Io.KnownBytes.{Appends}
+use Rattle.aprs_kiss.specs.Device.{AppendsPrefix}
 use Rattle.aprs_log.specs.Reception.{Heard}
 use Rattle.aprs_laws.specs.BookValue.{BookValue}
 use Rattle.aprs_laws.specs.Gap.{millis_of}
 use Rattle.aprs_laws.specs.Inserted.{inserted}
 use Rattle.aprs_laws.specs.Row.{Row}
+use Rattle.aprs_booktext.specs.Text.{written_text}
+use Rattle.aprs_tool.specs.declared.gathered.Unwritten.{Unwritten}
+use Rattle.aprs_tool.specs.declared.gathered.Unwritten.TheVariants.{Memory, Write}
 
 -- rows with receptions in their places among them, one after another
 abbrev pub rows_with : ℕ → List Row → List Heard → List Row
@@ -15,3 +20,11 @@ rows_with gap rows (x ∷ xs) = rows_with gap (inserted gap x rows) xs
 abbrev pub book_with_all : BookValue → List Heard → BookValue
 book_with_all book xs =
     record { gap = book.gap; rows = rows_with (millis_of book.gap) book.rows xs }
+
+-- The text of the book is written, or a prefix of it where the output was refused. Where an
+-- allocation failed, nothing is, and the book has rows.
+unfoldable pub WritesText : Result (Unit {0}) Unwritten → BookValue → Option (List ℕ)
+    → Option (List ℕ) → Type 0
+WritesText (Ok u) book old new = Appends old new (written_text book)
+WritesText (Err Write) book old new = AppendsPrefix old new (written_text book)
+WritesText (Err Memory) book old new = (new ≡ old) × (book.rows ≢ [])

@@ -1,13 +1,12 @@
 //! What is gathered of inputs before their book is made.
 ghost use Rattle.std.specs.Prelude.{◌≡◌, ◌≢◌, [], Err, IfOk, OnOk, OnErr};
-ghost use Rattle.std.specs.Io.KnownBytes.{Appends};
-ghost use Rattle.aprs_kiss.specs.Device.{device_of, failures_of, AppendsPrefix, Rose};
-ghost use Rattle.aprs_laws.specs.BookValue.{Holds};
-ghost use Rattle.aprs_booktext.specs.Text.{written_text};
+ghost use Rattle.aprs_kiss.specs.Device.{device_of, failures_of, Rose};
+ghost use Rattle.aprs_laws.specs.BookValue.{BookValue, Holds};
+ghost use Rattle.aprs_tool.specs.Gathered.{WritesText};
 
 use crate::input::merged;
 use aprs_book::{Book, Gap, Memory};
-use aprs_booktext::write_book;
+use aprs_booktext::{write_book, write_rows};
 use aprs_kiss::{Counted, WriteFault};
 use aprs_pile::Pile;
 use std::alloc::{Allocator, Global};
@@ -91,18 +90,32 @@ impl<A: Allocator + Copy> Gathered<A> {
     /// Writes the text of the book of all that was gathered. Where logs alone were gathered, its
     /// rows are written from the pile.
     pub(crate) fn write<W: Write>(self, w: &mut Counted<W>) -> Result<(), Unwritten>
-        ensures sent { OnOk result (Appends (W.contents (device_of w.old))
-            (W.contents (device_of w.new)) (written_text self)) }
-        ensures prefix { result ≡ Err Unwritten.Write → AppendsPrefix (W.contents (device_of w.old))
-            (W.contents (device_of w.new)) (written_text self) }
+        ensures text { WritesText result self (W.contents (device_of w.old))
+            (W.contents (device_of w.new)) }
         ensures fault { result ≡ Err Unwritten.Write → Rose (failures_of w.old) (failures_of w.new) }
-        ensures nothing { result ≡ Err Unwritten.Memory
-            → W.contents (device_of w.new) ≡ W.contents (device_of w.old) }
-        ensures some { result ≡ Err Unwritten.Memory → self.rows ≢ [] }
     {
-        let book = self.into_book()?;
-        Ok(write_book(w, &book)?)
+        if self.book.len() > 0 || self.pile.is_empty() {
+            let book = self.into_book()?;
+            return Ok(write_book(w, &book)?);
+        }
+        write_pile(w, self.book.gap(), &self.pile)
     }
+}
+
+/// Writes the text of the book of the receptions on a pile, of which there are some.
+fn write_pile<W: Write, A: Allocator + Copy>(
+    w: &mut Counted<W>,
+    gap: Gap,
+    pile: &Pile<A>,
+) -> Result<(), Unwritten>
+    requires { pile.now ≢ [] }
+    ensures text { (book : BookValue) → book.gap ≡ gap → Holds pile.now book → WritesText result book
+        (W.contents (device_of w.old)) (W.contents (device_of w.new)) }
+    ensures fault { result ≡ Err Unwritten.Write → Rose (failures_of w.old) (failures_of w.new) }
+{
+    let sorted = pile.sorted()?;
+    let rows = sorted.rows(gap)?;
+    Ok(write_rows(w, &rows)?)
 }
 
 /// The book of the receptions on a pile.
@@ -115,5 +128,7 @@ pub(crate) fn book_of<A: Allocator + Copy>(
     ensures gap { IfOk result (λ book. book.gap ≡ gap) }
 {
     let sorted = pile.sorted()?;
-    sorted.rows(gap)?.book(alloc)
+    let rows = sorted.rows(gap)?;
+    let book = rows.book(alloc)?;
+    Ok(book)
 }

@@ -6,7 +6,7 @@ ghost use Rattle.aprs_kiss.specs.Device.{device_of, failures_of, answered_of, Ro
 ghost use Rattle.aprs_log.specs.LogAnswers.{ended, fault_at, is_lf, log_answers, receptions_of};
 ghost use Rattle.aprs_laws.specs.BookValue.{HaveOneGap};
 ghost use Rattle.aprs_laws.specs.Gap.{millis_of};
-ghost use Rattle.aprs_laws.specs.Sound.{Sound};
+ghost use Rattle.aprs_laws.specs.Book.{BookOf};
 ghost use Rattle.aprs_log.specs.Reception.{Heard};
 ghost use Rattle.aprs_book.specs.Taking.{MergesInto};
 ghost use Rattle.aprs_tool.specs.declared.head.TheConstants.{HEAD_LEN};
@@ -210,7 +210,8 @@ pub(crate) fn merged<A: Allocator + Copy>(
         MergesInto (millis_of book.now.gap) book.now.rows input.rows both.rows) }
     ensures gap { IfOk result (λ both. both.gap ≡ book.now.gap) }
     ensures one { OnOk result (HaveOneGap book.now input) }
-    ensures sound { OnOk result (Sound (millis_of book.now.gap) book.now.rows) }
+    ensures known { OnOk result ((S : List Heard)
+        × BookOf (millis_of book.now.gap) S book.now.rows) }
     ensures refused { IfErr result (λ fault. RefusesGaps fault book.now.gap input.gap) }
 {
     if book.gap() != input.gap() {

@@ -1,20 +1,13 @@
-use Rattle.std.proofs.Common.{rules, ◌≡◌, ◌↔◌, ◌<◌, ◌≤◌, [], ◌∷◌, ◌++◌, false, length, ℕ, List, None, Some, IfSome, IfOk, IfErr, IsErrAnd, OnOk, OnErr, ◌+◌, ◌-◌, ◌*◌, ◌/◌, ◌%◌, Bool, true, nat_eq, nat_lt, slice_index_or, slice_set, bit_and, bit_or, Fits, w8, w32, w64, Bor, MutBor}
-use Rattle.std.specs.List.{list_any}
-use Rattle.aprs_io.specs.declared.input.TheConstants.{MAX_INPUT}
-use Rattle.aprs_kiss.specs.Device.{device_of, failures_of, answered_of, Rose, RoseWhere}
-use Rattle.aprs_log.specs.LogAnswers.{ended, fault_at, is_lf, log_answers, receptions_of}
-use Rattle.aprs_laws.specs.BookValue.{HaveOneGap}
-use Rattle.aprs_laws.specs.Gap.{millis_of}
-use Rattle.aprs_laws.specs.Sound.{Sound}
-use Rattle.aprs_log.specs.Reception.{Heard}
-use Rattle.aprs_book.specs.Taking.{MergesInto}
-use Rattle.aprs_tool.specs.declared.head.TheConstants.{HEAD_LEN}
-use Rattle.aprs_tool.specs.Head.{IsHead}
-use Rattle.aprs_convert.specs.Got.{HoldsOfGot, OfGot}
-use Rattle.aprs_tool.specs.Inputs.{ReadsInput, ReadsLog, RefusesGaps, TakesInput}
-use Rattle.aprs_tool.specs.Run.{IsReadFault}
+use Rattle.std.proofs.Common.{[]}
+use Rattle.aprs_tool.proofs.Inputs.{of_got, reads_log, short_is_log}
+use Rattle.aprs_tool.specs.Inputs.{TakesInput}
 use Rattle.aprs_tool.proofs.input.read_into.Goals as goal
 
--- src/input.rt:113:1
 pub returns-in-Err-clause-reads : goal.returns-in-Err-clause-reads
-returns-in-Err-clause-reads g c = ?
+returns-in-Err-clause-reads g c =
+    let book = c.args.gathered.now in
+    let short = c.in-Err.short in
+    of_got _ _ c.args.limit _ _ (TakesInput book.gap c.read_short.result book.rows book.rows)
+    c.in-Err.ensures.end
+    (reads_log book.gap book.rows c.read_short.result [] [] short.bytes.items short.ending
+    (short_is_log short.bytes.items c.in-Err.ensures.short) (c.read_short.ensures.reads []))

@@ -1,10 +1,12 @@
-use Rattle.std.proofs.Common.{arith, ap, refl, sym, ◌∙◌, ◌++◌, subst, IfSome, Ok, Err}
+use Rattle.std.proofs.Common.{arith, ap, refl, sym, ◌∙◌, ◌++◌, ◌∷◌, [], subst, IfSome, Ok, Err}
 use Rattle.std.proofs.lemmas.Result.{err_from_is_err_and}
 use Rattle.aprs_kiss.specs.Device.{device_of}
 use Rattle.aprs_convert.specs.Got.{HoldsOfGot}
 use Rattle.aprs_tool.specs.Inputs.{ReadsLog}
 use Rattle.aprs_tool.specs.declared.fault.InputFault.TheVariants.{Log}
+use Rattle.aprs_log.specs.LogAnswers.{receptions_of}
 use Rattle.aprs_log.specs.Reader.{current_of}
+use Rattle.aprs_log.specs.declared.line.Line.{Line}
 use Rattle.aprs_tool.proofs.Logs.{Took-none, Took-line, Took-ended, Took-fault, Took-refused}
 use Rattle.aprs_tool.proofs.input.read_log.Goals as goal
 
@@ -26,8 +28,10 @@ lines-preserved g c =
       going = gives.1;
       answered = (c.in_ok-advance.ensures.answered c.lines.invariant.going).1 (λ e. absurd e)
           ∙ c.lines.invariant.answered;
-      took = λ end. Took-line _ _ _ _ _ _ _ (current_of c.advance.new.self) c.current.ensures
-          (c.lines.invariant.took end) (gives.2 end) c.in_ok-lay.ensures;
+      took = λ end. Took-line _ _ _ _ _ _ _ (current_of c.advance.new.self) refl
+          (c.lines.invariant.took end) (gives.2 end)
+          (c.in_ok-lay.ensures ∙ ap (λ (y : Line). c.lines.pile ++ receptions_of (y ∷ []))
+          c.current.ensures);
     }
 
 pub returns-then-not-branch-clause-reads : goal.returns-then-not-branch-clause-reads

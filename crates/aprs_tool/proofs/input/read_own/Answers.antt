@@ -1,32 +1,35 @@
-use Rattle.std.proofs.Common.{rules, ◌≡◌, ◌↔◌, ◌<◌, ◌≤◌, [], ◌∷◌, ◌++◌, false, length, ℕ, List, None, Some, IfSome, IfOk, IfErr, IsErrAnd, OnOk, OnErr, ◌+◌, ◌-◌, ◌*◌, ◌/◌, ◌%◌, Bool, true, nat_eq, nat_lt, slice_index_or, slice_set, bit_and, bit_or, Fits, w8, w32, w64, Bor, MutBor}
-use Rattle.std.specs.List.{list_any}
-use Rattle.aprs_io.specs.declared.input.TheConstants.{MAX_INPUT}
-use Rattle.aprs_kiss.specs.Device.{device_of, failures_of, answered_of, Rose, RoseWhere}
-use Rattle.aprs_log.specs.LogAnswers.{ended, fault_at, is_lf, log_answers, receptions_of}
-use Rattle.aprs_laws.specs.BookValue.{HaveOneGap}
-use Rattle.aprs_laws.specs.Gap.{millis_of}
-use Rattle.aprs_laws.specs.Sound.{Sound}
-use Rattle.aprs_log.specs.Reception.{Heard}
-use Rattle.aprs_book.specs.Taking.{MergesInto}
-use Rattle.aprs_tool.specs.declared.head.TheConstants.{HEAD_LEN}
-use Rattle.aprs_tool.specs.Head.{IsHead}
-use Rattle.aprs_convert.specs.Got.{HoldsOfGot, OfGot}
-use Rattle.aprs_tool.specs.Inputs.{ReadsInput, ReadsLog, RefusesGaps, TakesInput}
-use Rattle.aprs_tool.specs.Run.{IsReadFault}
+use Rattle.std.proofs.Common.{inl}
+use Rattle.std.proofs.lemmas.Result.{err_from_is_err_and}
+use Rattle.aprs_tool.proofs.Inputs.{book_input, is_mark_eq, is_other_eq, log_input, read_alone, refused_log}
 use Rattle.aprs_tool.proofs.input.read_own.Goals as goal
 
--- src/input.rt:85:9
 pub returns-then-eq-clause-reads : goal.returns-then-eq-clause-reads
-returns-then-eq-clause-reads g c = ?
+returns-then-eq-clause-reads g c =
+    let mark = is_mark_eq c.args.head.now c.eq.result c.eq.ensures c.if-eq.true in
+    book_input c.args.gap _ _ c.args.limit c.args.head.now c.in_ok-read_book.field-0
+    c.requires.limit mark c.in_ok-read_book.ensures.reads
 
--- src/input.rt:88:5
 pub returns-in_err-read_log-clause-reads : goal.returns-in_err-read_log-clause-reads
-returns-in_err-read_log-clause-reads g c = ?
+returns-in_err-read_log-clause-reads g c =
+    let p = err_from_is_err_and c.from_residual-in_err-read_log.result
+    c.from_residual-in_err-read_log.ensures.1 in
+    rw (p.1, p.2) (log_input _ _ c.args.limit c.args.head.now _ _ c.requires.head
+    (is_other_eq c.args.head.now c.eq.result c.eq.ensures c.if-eq.false)
+    (refused_log c.in_err-read_log.field-0.0 c.new-pile.result c.read_log.new.pile)
+    c.in_err-read_log.ensures.reads)
 
--- src/input.rt:89:8
 pub returns-in_err-book_of-clause-reads : goal.returns-in_err-book_of-clause-reads
-returns-in_err-book_of-clause-reads g c = ?
+returns-in_err-book_of-clause-reads g c =
+    let p = err_from_is_err_and c.from_residual-in_err-book_of.result
+    c.from_residual-in_err-book_of.ensures.1 in
+    rw (p.1, p.2) (log_input _ _ c.args.limit c.args.head.now _ _ c.requires.head
+    (is_other_eq c.args.head.now c.eq.result c.eq.ensures c.if-eq.false)
+    (λ t e is h. inl is) c.in_ok-read_log.ensures.reads)
 
--- src/input.rt:64:1
 pub returns-clause-reads : goal.returns-clause-reads
-returns-clause-reads g c = ?
+returns-clause-reads g c =
+    log_input _ _ c.args.limit c.args.head.now _ _ c.requires.head
+    (is_other_eq c.args.head.now c.eq.result c.eq.ensures c.if-eq.false)
+    (λ t e is. read_alone c.args.gap c.in_ok-book_of.field-0 c.new-pile.result c.read_log.new.pile
+    t e is c.in_ok-book_of.ensures.gap c.new-pile.ensures c.in_ok-book_of.ensures.book)
+    c.in_ok-read_log.ensures.reads

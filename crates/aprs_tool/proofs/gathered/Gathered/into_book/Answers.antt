@@ -1,18 +1,29 @@
-use Rattle.std.proofs.Common.{rules, ◌≡◌, ◌≢◌, [], Err, IfOk, OnOk, OnErr, ℕ, ◌+◌, ◌-◌, ◌*◌, ◌<◌, ◌≤◌, length, ◌/◌, ◌%◌, Bool, true, false, nat_eq, nat_lt, List, ◌∷◌, ◌++◌, slice_index_or, slice_set, bit_and, bit_or, Fits, w8, w32, w64, Bor, MutBor}
-use Rattle.std.specs.Io.KnownBytes.{Appends}
-use Rattle.aprs_kiss.specs.Device.{device_of, failures_of, AppendsPrefix, Rose}
-use Rattle.aprs_laws.specs.BookValue.{Holds}
-use Rattle.aprs_booktext.specs.Text.{written_text}
+use Rattle.std.proofs.Common.{◌∙◌, ap}
+use Rattle.aprs_kiss.proofs.Bytes.{on_err}
+use Rattle.aprs_laws.specs.BookValue.{BookValue}
+use Rattle.aprs_laws.specs.Gap.{millis_of}
+use Rattle.aprs_tool.proofs.RowsWith.{pile_some, not_so, merged_book}
 use Rattle.aprs_tool.proofs.gathered.Gathered.into_book.Goals as goal
 
--- src/gathered.rt:84:21
 pub returns-in_err-piled-clause-some : goal.returns-in_err-piled-clause-some
-returns-in_err-piled-clause-some g c = ?
+returns-in_err-piled-clause-some g c =
+    let was = c.self.inside in
+    on_err c.from_residual.result
+    (λ e. pile_some (millis_of was.book.gap) was.book.rows was.pile
+    (not_so c.is_empty.result c.is_empty.ensures c.if-is_empty.false)
+    (ap (λ (b : BookValue). b.rows) c.self.view_is ∙ e))
 
--- src/gathered.rt:79:5
 pub returns-in-Ok-clause-book : goal.returns-in-Ok-clause-book
-returns-in-Ok-clause-book g c = ?
+returns-in-Ok-clause-book g c =
+    let was = c.self.inside in
+    let known = c.in-Ok.ensures.known in
+    merged_book was.book c.in_ok-piled.piled c.in-Ok.both known.0 was.pile known.1
+    c.in-Ok.ensures.one c.in_ok-piled.ensures.book c.in-Ok.ensures.merges c.in-Ok.ensures.gap
+    ∙ c.self.view_is
 
--- src/gathered.rt:76:5
 pub returns-clause-some : goal.returns-clause-some
-returns-clause-some g c = ?
+returns-clause-some g c =
+    let was = c.self.inside in
+    λ e. pile_some (millis_of was.book.gap) was.book.rows was.pile
+    (not_so c.is_empty.result c.is_empty.ensures c.if-is_empty.false)
+    (ap (λ (b : BookValue). b.rows) c.self.view_is ∙ e)
