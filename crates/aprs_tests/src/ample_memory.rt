@@ -13,7 +13,7 @@ use std::alloc::Global;
 use std::test::Fail;
 
 /// A hundred receptions of one frame, a minute apart, from a second of the hour on.
-fn hundred(alloc: Global, first: u64, name: &[u8]) -> Result<Book, Fail> {
+pub fn hundred(alloc: Global, first: u64, name: &[u8]) -> Result<Book, Fail> {
     let mut book = Book::new(alloc);
     for minute in 0..100u64 {
         let x = heard(first.saturating_add(minute * 60), name, &DIRECT)?;

@@ -34,6 +34,8 @@ mod millis;
 #[cfg(test)]
 mod pieces;
 #[cfg(test)]
+mod piles;
+#[cfg(test)]
 mod plain_book;
 #[cfg(test)]
 mod pushed_rows;

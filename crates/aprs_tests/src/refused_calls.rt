@@ -9,7 +9,7 @@ use std::alloc::Global;
 use std::test::Fail;
 
 /// What each station sent, and when.
-const SENT: [(u64, &[u8], &[u8]); 5] = [
+pub const SENT: [(u64, &[u8], &[u8]); 5] = [
     (0, b"N0CALL-7", b"!4903.50N/07201.75W-"),
     (10, b"N0CALL-7", b":WU2Z     :Testing{003"),
     (20, b"WU2Z", b":N0CALL-7 :ack003"),
@@ -130,7 +130,7 @@ fn is_refused(alloc: Global, call: Call, want: usize, units: usize) -> Result<bo
 }
 
 /// The rows of the first book.
-const ROWS: &str = "0-0 RX1 / RX1 6f; 10-10 RX1 / RX1 6f; 40-40 RX1 / RX1 71; \
+pub const ROWS: &str = "0-0 RX1 / RX1 6f; 10-10 RX1 / RX1 6f; 40-40 RX1 / RX1 71; \
     30-30 RX1 / RX1 71; 20-20 RX1 / RX1 61; ";
 
 // Room for more and more units, until nothing is refused.

@@ -1,0 +1,100 @@
+//! Receptions on a pile, with ample memory and with each growth refused.
+
+use crate::ample_memory::hundred;
+use crate::last_known::sent;
+use crate::refused_calls::{ROWS, SENT, squeeze};
+use crate::shown::shown;
+use crate::vectors::{DIRECT, heard};
+use aprs_book::{Book, Gap, Memory};
+use aprs_pile::Pile;
+use bumpalo::Bump;
+use std::alloc::{Allocator, Global};
+use std::test::Fail;
+
+/// The book of a pile's receptions.
+fn book_of<A: Allocator + Copy>(alloc: A, pile: &Pile<A>) -> Result<Book<A>, Memory> {
+    let sorted = pile.sorted()?;
+    let rows = sorted.rows(Gap::STANDARD)?;
+    rows.book(alloc)
+}
+
+/// The pile of a hundred minutes by RX2 from this second on, the last first, and by RX1.
+fn two_hundred(alloc: Global, first: u64) -> Result<Pile, Fail> {
+    let mut pile = Pile::new(alloc);
+    for minute in 0..100u64 {
+        let second = first.saturating_add(99u64.saturating_sub(minute) * 60);
+        let x = heard(second, b"RX2", &DIRECT)?;
+        pile.push(&x).ok().ok_or("memory")?;
+    }
+    for minute in 0..100u64 {
+        let x = heard(minute * 60, b"RX1", &DIRECT)?;
+        pile.push(&x).ok().ok_or("memory")?;
+    }
+    Ok(pile)
+}
+
+/// The book of a hundred minutes by RX1, and by RX2 from this second on.
+fn taken(alloc: Global, first: u64) -> Result<Book, Fail> {
+    let book = hundred(alloc, 0, b"RX1")?;
+    let other = hundred(alloc, first, b"RX2")?;
+    Ok(book.merge(&other).ok().ok_or("memory")?)
+}
+
+#[test]
+fn two_hundred_receptions_are_sorted(rt: HostRuntime) -> Result<(), Fail> {
+    let alloc = rt.alloc();
+    for (first, rows) in [(0, 100), (30, 1), (6031, 200)] {
+        let pile = two_hundred(alloc, first)?;
+        let book = book_of(alloc, &pile).ok().ok_or("memory")?;
+        assert_eq!(rt; book.len(), rows);
+        assert!(rt; book.same(&taken(alloc, first)?));
+    }
+    Ok(())
+}
+
+/// Lays what was sent on a pile, each again where memory was refused, and returns how often it was.
+fn lay<'a>(bump: &'a Bump, pile: &mut Pile<&'a Bump>) -> Result<u64, Fail> {
+    let mut refused = 0u64;
+    for (second, source, info) in SENT {
+        let x = sent(second, source, info)?;
+        if pile.push(&x).is_err() {
+            refused = refused.saturating_add(1);
+            bump.set_allocation_limit(None);
+            pile.push(&x).ok().ok_or("memory")?;
+        }
+    }
+    Ok(refused)
+}
+
+/// What was refused with so many units of room: whether a reception, and whether the book.
+fn refusals(alloc: Global, units: usize) -> Result<(bool, bool), Fail> {
+    let bump = Bump::try_with_capacity(alloc, 65_536)?;
+    let _fill = squeeze(&bump, units)?;
+    let mut pile = Pile::new(&bump);
+    let refused = lay(&bump, &mut pile)?;
+    let answer = book_of(&bump, &pile);
+    bump.set_allocation_limit(None);
+    let book = book_of(&bump, &pile).ok().ok_or("memory")?;
+    match shown(alloc, &book)?.as_str() {
+        ROWS => Ok((refused > 0, answer.is_err())),
+        _ => Err("other rows".into()),
+    }
+}
+
+// Room for more and more units: first a reception is refused, then the order, the rows or the book,
+// and at last nothing.
+#[test]
+fn refused_piles_are_as_before(rt: HostRuntime) -> Result<(), Fail> {
+    let mut receptions = 0u64;
+    let mut books = 0u64;
+    let mut granted = 0u64;
+    for units in 0..256usize {
+        match refusals(rt.alloc(), units)? {
+            (true, _) => receptions = receptions.saturating_add(1),
+            (false, true) => books = books.saturating_add(1),
+            (false, false) => granted = granted.saturating_add(1),
+        }
+    }
+    assert!(rt; receptions > 0 && books > 0 && granted > 0);
+    Ok(())
+}
