@@ -10,7 +10,8 @@ ghost use Rattle.aprs_laws.specs.Inserted.{inserted, fits_in_place};
 ghost use Rattle.aprs_laws.specs.Sound.{Sound};
 
 use crate::kept_row::KeptRow;
-use crate::key_bytes::{HEAD, head_bytes};
+use crate::head::Head;
+use crate::key_bytes::head_bytes;
 use crate::merging_keys::{put_joined, put_merged};
 use crate::millis::Millis;
 use crate::place::put;
@@ -27,7 +28,7 @@ use std::marker::Model;
 /// The rows of the keys with one head, in their order, by that head. No head is without rows. Most
 /// heads are of one key, so that a key is found by comparing heads, which lie in the map itself.
 pub(crate) struct KeyedRows<A: Allocator = Global> {
-    map: BTreeMap<[u8; HEAD], Vec<KeptRow<A>, A>, A>,
+    map: BTreeMap<Head, Vec<KeptRow<A>, A>, A>,
     /// The number of the rows of all keys.
     count: usize,
     alloc: A,
@@ -233,7 +234,7 @@ fn push_one<A: Allocator + Copy>(
 
 /// The number of the rows of all keys.
 fn number_of_rows<A: Allocator + Copy>(
-    map: &BTreeMap<[u8; HEAD], Vec<KeptRow<A>, A>, A>,
+    map: &BTreeMap<Head, Vec<KeptRow<A>, A>, A>,
 ) -> Result<usize, Memory>
     ensures { IfOk result (λ n.
         n ≡ length (rows_of (λ k. k) (λ v. v.items) map.now.entries)) }

@@ -4,6 +4,7 @@
 mod book;
 mod from_parts;
 mod greatest;
+mod head;
 mod heard;
 mod indexes;
 mod join;

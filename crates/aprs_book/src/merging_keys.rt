@@ -5,7 +5,7 @@ ghost use Rattle.aprs_book.specs.Keyed.{PutsRows};
 
 use crate::Memory;
 use crate::kept_row::KeptRow;
-use crate::key_bytes::HEAD;
+use crate::head::Head;
 use crate::merging::{joined_rows, merged_rows};
 use crate::millis::Millis;
 use std::alloc::Allocator;
@@ -15,8 +15,8 @@ use std::collections::BTreeMap;
 pub(crate) fn put_merged<A: Allocator + Copy>(
     alloc: A,
     gap: Millis,
-    map: &mut BTreeMap<[u8; HEAD], Vec<KeptRow<A>, A>, A>,
-    head: &[u8; HEAD],
+    map: &mut BTreeMap<Head, Vec<KeptRow<A>, A>, A>,
+    head: &Head,
     ours: &[KeptRow<A>],
     theirs: &[KeptRow<A>],
 ) -> Result<(), Memory>
@@ -34,8 +34,8 @@ pub(crate) fn put_merged<A: Allocator + Copy>(
 pub(crate) fn put_joined<A: Allocator + Copy>(
     alloc: A,
     gap: Millis,
-    map: &mut BTreeMap<[u8; HEAD], Vec<KeptRow<A>, A>, A>,
-    head: &[u8; HEAD],
+    map: &mut BTreeMap<Head, Vec<KeptRow<A>, A>, A>,
+    head: &Head,
     rows: &[KeptRow<A>],
 ) -> Result<(), Memory>
     ensures { OnOk result (PutsRows (λ k. k) (λ v. v.items) map.old.entries map.new.entries
