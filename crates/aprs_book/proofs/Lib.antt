@@ -3,6 +3,8 @@ mod Letters
 mod KnownSteps
 mod KeyBytes
 mod Heads
+mod HeadOrder
+pub mod Digits
 mod SameCalls
 mod IndexSteps
 mod MergedKeys
@@ -18,6 +20,7 @@ pub mod Replays
 pub mod Refusals
 pub mod RowsFaults
 pub mod Views
+mod Inserts
 pub mod Stations
 pub mod Collected
 pub mod Messages

@@ -1,5 +1,6 @@
 -- Definitions that contracts of the book cite.
 pub mod Keyed
+pub mod Head
 pub mod KeptNames
 pub mod Known
 pub mod Shown

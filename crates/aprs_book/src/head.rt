@@ -1,5 +1,5 @@
 //! Heads of keys, by which rows are found.
-ghost use Rattle.std.specs.Prelude.{◌≡◌, ◌+◌, ◌≤◌};
+ghost use Rattle.std.specs.Prelude.{◌≡◌, ◌+◌, ◌≤◌, ◌<◌, ℕ, length, slice_index};
 ghost use Rattle.std.specs.Ordering.{as_partial_cmp};
 ghost use Rattle.std.proofs.Common.{rules};
 ghost use Rattle.std.specs.Cmp.{partial_order_from_own_ties};
@@ -21,11 +21,15 @@ pub(crate) struct Head {
 }
 
 impl Model for Head {
-    ghost use Rattle.std.specs.Prelude.{ℕ, List};
+    ghost use Rattle.std.specs.Prelude.{◌<◌, ℕ, List, slice_index};
 
     ghost Value = { List ℕ };
 
     ghost view = { λ h. h.bytes };
+
+    ghost invariant = { λ h. (i : ℕ) → slice_index h.bytes i < 256 };
+
+    ghost inverse = { λ bytes. record { bytes = bytes } };
 }
 
 impl Head {
@@ -38,7 +42,10 @@ impl Head {
 
     /// The bytes as numbers.
     fn words(&self) -> Words
-        ensures { result ≡ words_of self.now }
+        ensures value { result ≡ words_of self.now }
+        // Needed where heads are compared: these are so many digits.
+        ensures len { length self.now ≡ 32 }
+        ensures bytes { (i : ℕ) → slice_index self.now i < 256 }
     {
         Words {
             first: word_at(&self.bytes, 0),

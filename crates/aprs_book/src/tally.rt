@@ -1,14 +1,103 @@
 //! How many rows each station has.
-ghost use Rattle.std.specs.Prelude.{◌≡◌, ◌+◌, ◌<◌, IfOk, length};
+ghost use Rattle.std.specs.Prelude.{◌≡◌, ◌+◌, ◌<◌, [], IfOk, OnOk, length};
 ghost use Rattle.std.specs.Option.{option_copied};
-ghost use Rattle.aprs_book.specs.StationRows.{AreTallies, counted, source_of};
+ghost use Rattle.aprs_book.specs.StationRows.{AreTallies, counted, source_of, tally_of, with_last, with_one_more};
 
 use crate::Memory;
 use crate::kept_row::KeptRow;
 use crate::walk::Walk;
 use aprs_ax25::Callsign;
-use std::alloc::Allocator;
+use std::alloc::{Allocator, Global};
 use std::collections::BTreeMap;
+use std::marker::Model;
+
+/// A station, and how many rows it has.
+#[derive(Drop)]
+pub(crate) struct Tally {
+    station: Callsign,
+    rows: u64,
+}
+
+/// How many rows each station has. The station that was counted last is put into the map where
+/// another follows it, since most rows follow one of their own station.
+struct Counting<A: Allocator = Global> {
+    map: BTreeMap<Callsign, u64, A>,
+    last: Option<Tally>,
+}
+
+impl<A: Allocator> Drop for Counting<A> {
+    fn drop(self) {
+        let Counting { map, last: _ } = self;
+        drop(map);
+    }
+}
+
+impl<A: Allocator> Model for Counting<A> {
+    ghost use Rattle.std.specs.Prelude.{ℕ, List};
+    ghost use Rattle.aprs_ax25.specs.Callsign.{Call};
+    ghost use Rattle.aprs_book.specs.StationRows.{with_last};
+
+    ghost Value = { List (Call × ℕ) };
+
+    ghost view = { λ t. with_last t.last t.map.entries };
+}
+
+impl<A: Allocator + Copy> Counting<A> {
+    /// No stations.
+    fn new(alloc: A) -> Counting<A>
+        ensures { result ≡ [] }
+    {
+        Counting {
+            map: BTreeMap::new(alloc),
+            last: None,
+        }
+    }
+
+    /// Counts one more row of this station.
+    fn add(&mut self, station: Callsign) -> Result<(), Memory>
+        requires { tally_of station self.old < 18446744073709551615 }
+        ensures { OnOk result (self.new ≡ with_one_more station self.old) }
+    {
+        let last = match self.last.take() {
+            Some(last) if last.station.cmp(&station).is_eq() => {
+                self.last = Some(Tally {
+                    station,
+                    rows: last.rows + 1,
+                });
+                return Ok(());
+            }
+            last => last,
+        };
+        put(&mut self.map, last)?;
+        let rows = one_more(self.map.get(&station));
+        self.last = Some(Tally { station, rows });
+        Ok(())
+    }
+
+    /// The stations with their rows, in order.
+    fn into_map(self) -> Result<BTreeMap<Callsign, u64, A>, Memory>
+        ensures { IfOk result (λ map. map.entries ≡ self) }
+    {
+        let Counting { mut map, last } = self;
+        put(&mut map, last)?;
+        Ok(map)
+    }
+}
+
+/// Puts a station's rows into the map, where there is one.
+fn put<A: Allocator + Copy>(
+    map: &mut BTreeMap<Callsign, u64, A>,
+    last: Option<Tally>,
+) -> Result<(), Memory>
+    ensures { OnOk result (map.new.entries ≡ with_last last map.old.entries) }
+{
+    if let Some(Tally { station, rows }) = last {
+        if map.insert(station, rows).is_err() {
+            return Err(Memory);
+        }
+    }
+    Ok(())
+}
 
 /// How many of the rows, of which there are `len`, each station has.
 pub(crate) fn tallies<A: Allocator + Copy>(
@@ -19,15 +108,11 @@ pub(crate) fn tallies<A: Allocator + Copy>(
     requires { length rows ≡ len }
     ensures { IfOk result (λ tallies. AreTallies rows.entry tallies.entries) }
 {
-    let mut tallies = BTreeMap::new(alloc);
+    let mut tallies = Counting::new(alloc);
     for row in rows {
-        let station = source_of(row);
-        let tally = one_more(tallies.get(&station));
-        if tallies.insert(station, tally).is_err() {
-            return Err(Memory);
-        }
+        tallies.add(source_of(row))?;
     }
-    Ok(tallies)
+    tallies.into_map()
 }
 
 /// The station whose transmission this row is.

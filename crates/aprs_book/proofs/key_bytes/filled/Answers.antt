@@ -10,6 +10,6 @@ loop-bytes-preserved c =
 
 pub returns : goal.returns
 returns c =
-    c.in-Ok.ensures.ok
+    c.new.ensures ∙ c.in-Ok.ensures.ok
     ∙ sym (padded_all 32 c.loop-bytes.bytes.items (c.in-Ok.ensures.variant.0 refl))
     ∙ sym c.loop-bytes.invariant
