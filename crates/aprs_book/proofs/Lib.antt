@@ -21,6 +21,7 @@ pub mod Refusals
 pub mod RowsFaults
 pub mod Views
 mod Inserts
+mod Addressed
 pub mod Stations
 pub mod Collected
 pub mod Messages

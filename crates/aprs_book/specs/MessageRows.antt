@@ -1,5 +1,5 @@
 -- What rows report of messages and their answers.
-use Rattle.std.specs.Prelude.{◌≡◌, ◌⊎◌, ℕ, min, max, List, [], ◌∷◌, Option, Some, None}
+use Rattle.std.specs.Prelude.{◌≡◌, ◌==◌, ◌⊎◌, ℕ, Bool, false, min, max, List, [], ◌∷◌, Option, Some, None}
 use Rattle.std.specs.Option.{option_map}
 use Rattle.std.specs.Ordering.{on, then_cmp}
 use Rattle.std.specs.declared.cmp.Ordering.{Ordering}
@@ -21,6 +21,11 @@ use Rattle.aprs_book.specs.declared.message.MessageRow.{MessageRow}
 use Rattle.aprs_book.specs.declared.message.MessageState.{MessageState}
 use Rattle.aprs_book.specs.declared.message.MessageState.TheVariants.{Unnumbered}
 use Rattle.aprs_book.specs.Messages.{Message, ReportsIt, message_cmp, shown_message, state_by}
+
+-- whether information begins with a colon, as that of messages and their answers does
+abbrev pub is_addressed : List ℕ → Bool
+is_addressed [] = false
+is_addressed (b ∷ bytes) = b == 58
 
 -- ---- spans
 

@@ -5,7 +5,7 @@ ghost use Rattle.aprs_laws.specs.Row.{row_key};
 ghost use Rattle.aprs_laws.specs.Key.{key_of};
 ghost use Rattle.aprs_book.specs.Reports.{report_of};
 ghost use Rattle.aprs_book.specs.Messages.{message_in};
-ghost use Rattle.aprs_book.specs.MessageRows.{message_of, span_with, Answer, answer_of, answer_reported, IsReply};
+ghost use Rattle.aprs_book.specs.MessageRows.{message_of, is_addressed, span_with, Answer, answer_of, answer_reported, IsReply};
 
 use crate::kept_row::KeptRow;
 use aprs_ax25::{Callsign, Frame};
@@ -43,6 +43,9 @@ pub(crate) fn message_in<'a, A: Allocator + Copy>(row: &'a KeptRow<A>) -> Option
     ensures { option_map message_of result ≡ message_in (row_key row.now) }
 {
     let frame = row.greatest().frame();
+    if !is_addressed(frame.info()) {
+        return None;
+    }
     match Report::read(frame.info()) {
         Report::Message {
             addressee,
@@ -96,9 +99,20 @@ fn answer_in(frame: &Frame) -> Option<(&[u8], &[u8])>
     ensures { option_map (λ x. (x.0.now, x.1.now)) result
         ≡ answer_reported (report_of (key_of frame.now)) }
 {
+    if !is_addressed(frame.info()) {
+        return None;
+    }
     match Report::read(frame.info()) {
         Report::Ack { addressee, id } => Some((addressee, id)),
         Report::Rej { addressee, id } => Some((addressee, id)),
         _ => None,
     }
+}
+
+/// Whether information begins with the data type of messages and their answers (APRS Protocol
+/// Reference 1.0.1, chapter 14). Most doesn't, and needn't be read.
+fn is_addressed(info: &[u8]) -> bool
+    ensures { result ≡ is_addressed info.now }
+{
+    matches!(info, [b':', ..])
 }

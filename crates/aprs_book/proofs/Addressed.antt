@@ -1,0 +1,40 @@
+-- What begins with no colon is neither a message nor an answer.
+use Rattle.std.proofs.Common.{◌≡◌, ◌∙◌, ℕ, true, false, List, None, refl, sym, ap}
+use Rattle.aprs_ax25.specs.Callsign.{Call}
+use Rattle.aprs_report.specs.Reading.{Value, position, object, item, message, ack, rej, status, raw, Reads}
+use Rattle.aprs_report.proofs.Readings.{reads_as}
+use Rattle.aprs_laws.specs.Key.{Key}
+use Rattle.aprs_book.specs.Reports.{report_of}
+use Rattle.aprs_book.specs.Messages.{message_in, message_reported}
+use Rattle.aprs_book.specs.MessageRows.{answer_reported, is_addressed}
+
+no_message : (call : Call) (v : Value) (info : List ℕ) → Reads v info → is_addressed info ≡ false
+    → message_reported call v ≡ None
+no_message call (message addressee text id) info r n =
+    let t : true ≡ false = sym (ap is_addressed r.addressed.whole) ∙ n in absurd (cc)
+no_message call (position m s p y c) info r n = refl
+no_message call (object name live s p y c) info r n = refl
+no_message call (item name live p y c) info r n = refl
+no_message call (ack addressee id) info r n = refl
+no_message call (rej addressee id) info r n = refl
+no_message call (status s text) info r n = refl
+no_message call raw info r n = refl
+
+no_answer : (v : Value) (info : List ℕ) → Reads v info → is_addressed info ≡ false
+    → answer_reported v ≡ None
+no_answer (ack addressee id) info r n =
+    let t : true ≡ false = sym (ap is_addressed r.addressed.whole) ∙ n in absurd (cc)
+no_answer (rej addressee id) info r n =
+    let t : true ≡ false = sym (ap is_addressed r.addressed.whole) ∙ n in absurd (cc)
+no_answer (message addressee text id) info r n = refl
+no_answer (position m s p y c) info r n = refl
+no_answer (object name live s p y c) info r n = refl
+no_answer (item name live p y c) info r n = refl
+no_answer (status s text) info r n = refl
+no_answer raw info r n = refl
+
+pub no_message_in : (k : Key) → is_addressed k.info ≡ false → message_in k ≡ None
+no_message_in k n = no_message k.source (report_of k) k.info (reads_as k.info) n
+
+pub no_answer_in : (k : Key) → is_addressed k.info ≡ false → answer_reported (report_of k) ≡ None
+no_answer_in k n = no_answer (report_of k) k.info (reads_as k.info) n
