@@ -86,7 +86,7 @@ impl<A: Allocator + Copy> KeyedRows<A> {
     pub(crate) fn walk(&self) -> Walk<'_, A>
         ensures { result ≡ self.now }
     {
-        Walk::of(self.map.values())
+        Walk::of(&[], self.map.values())
     }
 
     /// The rows of both, head by head, in one pass over the heads of both.

@@ -1,5 +1,5 @@
 //! The messages of a book.
-ghost use Rattle.std.specs.Prelude.{◌≡◌, IfOk};
+ghost use Rattle.std.specs.Prelude.{◌≡◌, ℕ, IfOk};
 ghost use Rattle.std.specs.Option.{option_copied};
 ghost use Rattle.aprs_laws.specs.Lists.{Ordered};
 ghost use Rattle.aprs_laws.specs.Key.{key_of};
@@ -57,10 +57,22 @@ impl<A: Allocator + Copy> Book<A> {
         ensures { IfOk result (λ messages.
             ReportsMessages (millis_of self.now.gap) self.now.rows messages.items) }
     {
-        let spans = message_spans(self.allocator(), self.walk())?;
-        let answers = greatest_answers(self.allocator(), self.walk())?;
-        listed(self.allocator(), &spans, &answers)
+        messages_of(self.allocator(), self.walk(), self.walk())
     }
+}
+
+/// The messages of rows, which are walked twice.
+pub(crate) fn messages_of<'a, A: Allocator + Copy>(
+    alloc: A,
+    rows: Walk<'a, A>,
+    again: Walk<'a, A>,
+) -> Result<Vec<MessageRow<'a>, A>, Memory>
+    requires { again ≡ rows }
+    ensures { (gap : ℕ) → IfOk result (λ messages. ReportsMessages gap rows.entry messages.items) }
+{
+    let spans = message_spans(alloc, rows)?;
+    let answers = greatest_answers(alloc, again)?;
+    listed(alloc, &spans, &answers)
 }
 
 /// Each message of the rows, with its moments.

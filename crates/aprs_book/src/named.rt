@@ -1,11 +1,13 @@
 //! The objects and items of a book.
-ghost use Rattle.std.specs.Prelude.{◌≡◌, ◌++◌, map, IfOk, OnOk};
+ghost use Rattle.std.specs.Prelude.{◌≡◌, ◌++◌, ℕ, List, map, IfOk, OnOk};
 ghost use Rattle.aprs_laws.specs.Gap.{millis_of};
 ghost use Rattle.aprs_laws.specs.Lists.{Ordered};
-ghost use Rattle.aprs_book.specs.Known.{IsEntryBefore};
+ghost use Rattle.aprs_book.specs.Known.{AreIndexesOf, IsEntryBefore};
+ghost use Rattle.aprs_laws.specs.Row.{Row};
 ghost use Rattle.aprs_book.specs.Names.{ReportsNamed};
 ghost use Rattle.aprs_book.specs.NamedRows.{shown_report, reports_in};
 
+use crate::indexes::Indexes;
 use crate::known::Known;
 use crate::{Book, Heard, Memory};
 use std::alloc::Allocator;
@@ -27,12 +29,22 @@ impl<A: Allocator + Copy> Book<A> {
         ensures { IfOk result (λ named.
             ReportsNamed (millis_of self.now.gap) self.now.rows named.items) }
     {
-        let indexes = self.indexes();
-        let mut list = Vec::new(self.allocator());
-        push_reports(&mut list, false, indexes.objects())?;
-        push_reports(&mut list, true, indexes.items())?;
-        Ok(list)
+        objects_of(self.allocator(), self.indexes())
     }
+}
+
+/// The objects and items that are known of.
+pub(crate) fn objects_of<'a, A: Allocator + Copy>(
+    alloc: A,
+    indexes: &'a Indexes<A>,
+) -> Result<Vec<Named<'a>, A>, Memory>
+    ensures { (gap : ℕ) (rows : List Row) → AreIndexesOf rows indexes.now
+        → IfOk result (λ named. ReportsNamed gap rows named.items) }
+{
+    let mut list = Vec::new(alloc);
+    push_reports(&mut list, false, indexes.objects())?;
+    push_reports(&mut list, true, indexes.items())?;
+    Ok(list)
 }
 
 /// Adds what an index knows of objects or of items, in order.

@@ -27,11 +27,14 @@ impl<'a, A: Allocator> Model for Walk<'a, A> {
 }
 
 impl<'a, A: Allocator> Walk<'a, A> {
-    /// These rows of all heads.
-    pub(crate) fn of(others: Values<'a, Head, Vec<KeptRow<A>, A>>) -> Walk<'a, A>
-        ensures { result ≡ flat_map (λ v. v.items) others.entry }
+    /// These rows, and then those of all these heads.
+    pub(crate) fn of(
+        rows: &'a [KeptRow<A>],
+        others: Values<'a, Head, Vec<KeptRow<A>, A>>,
+    ) -> Walk<'a, A>
+        ensures { result ≡ rows.now ++ flat_map (λ v. v.items) others.entry }
     {
-        Walk { rows: &[], others }
+        Walk { rows, others }
     }
 }
 

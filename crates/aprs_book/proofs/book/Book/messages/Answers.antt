@@ -1,10 +1,10 @@
-use Rattle.aprs_book.proofs.MessagesOfSets.{messages_of_book}
+use Rattle.std.proofs.Common.{IfOk, subst}
+use Rattle.aprs_laws.specs.Gap.{millis_of}
+use Rattle.aprs_book.specs.Messages.{ReportsMessages}
 use Rattle.aprs_book.proofs.book.Book.messages.Goals as goal
 
 pub returns : goal.returns
 returns g c =
-    messages_of_book _ _ (λ v. v.items) c.listed.result c.walk.result c.walk-2.result
-    c.args.self.now.rows c.in_ok-spans.spans.entries c.in_ok-answers.answers.entries
-    c.walk.ensures.rows
-    c.walk-2.ensures.rows c.in_ok-spans.ensures c.in_ok-answers.ensures c.listed.ensures.ascending
-    c.listed.ensures.rows
+    let gap = millis_of c.args.self.now.gap in
+    subst (λ rows. IfOk c.messages_of.result (λ v. ReportsMessages gap rows v.items))
+    c.walk.ensures.rows (c.messages_of.ensures gap)

@@ -1,29 +1,28 @@
 use Rattle.std.proofs.Common.{◌∙◌, ap, not}
 use Rattle.std.proofs.lemmas.Map.Iter.{rest_more, rest_all}
 use Rattle.std.specs.Map.Iter.{deref_pair}
-use Rattle.aprs_laws.specs.Gap.{millis_of}
-use Rattle.aprs_book.specs.StationRows.{IsStationRow}
+use Rattle.aprs_book.specs.StationRows.{IsStationIn}
 use Rattle.aprs_book.proofs.Stations.{stations_ascend}
 use Rattle.aprs_book.proofs.Listings.{lists_first, lists_next, lists_last, pushed}
-use Rattle.aprs_book.proofs.book.Book.listed.Goals as goal
+use Rattle.aprs_book.proofs.station.listed.Goals as goal
 
 pub loop-call-init : goal.loop-call-init
 loop-call-init g c =
-    lists_first (IsStationRow (millis_of c.args.self.now.gap) c.args.self.now.rows)
+    lists_first (IsStationIn c.args.indexes.now)
     c.args.tallies.now.entries _ _
     (c.into_iter-call-iterator.ensures.into_iter_gives ∙ c.iter-call-items.ensures.rest)
     c.new-list.ensures.items
 
 pub loop-call-preserved : goal.loop-call-preserved
 loop-call-preserved g c =
-    lists_next (IsStationRow (millis_of c.args.self.now.gap) c.args.self.now.rows)
+    lists_next (IsStationIn c.args.indexes.now)
     c.args.tallies.now.entries
     c.loop-call.call-iterator _ _ _ (c.in-Some.call.now, c.in-Some.transmissions.now)
-    c.station.result
+    c.shown_station.result
     (rest_more deref_pair c.loop-call.call-iterator c.next.new.self c.next.result
     (c.in-Some.call, c.in-Some.transmissions) c.in-Some.is c.next.ensures.steps)
     (pushed _ _ _ _ (c.is_err.ensures.negation ∙ ap not c.if-is_err.false) c.push.ensures.items)
-    c.station.ensures c.loop-call.invariant
+    c.shown_station.ensures c.loop-call.invariant
 
 pub returns-then-is_err-clause-ascending : goal.returns-then-is_err-clause-ascending
 returns-then-is_err-clause-ascending g c =
@@ -35,7 +34,7 @@ returns-clause-ascending g c =
 
 pub returns-clause-rows : goal.returns-clause-rows
 returns-clause-rows g c =
-    lists_last (IsStationRow (millis_of c.args.self.now.gap) c.args.self.now.rows)
+    lists_last (IsStationIn c.args.indexes.now)
     c.args.tallies.now.entries
     c.loop-call.call-iterator _
     (rest_all deref_pair c.loop-call.call-iterator c.next.new.self c.next.result c.in-None.is
