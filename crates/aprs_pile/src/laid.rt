@@ -11,7 +11,7 @@ ghost use Rattle.aprs_pile.specs.PileOrder.{pile_cmp};
 use crate::entry::Entry;
 use crate::head::Head;
 use aprs_ax25::Frame;
-use aprs_log::{Moment, Receiver};
+use aprs_log::{Moment, Receiver, Reception};
 use std::cmp::Ordering;
 use std::marker::Model;
 
@@ -134,6 +134,13 @@ impl<'a> Laid<'a> {
             Ok(frame) => frame,
             Err(_) => unreachable!(),
         }
+    }
+
+    /// The reception in a place of its own.
+    pub(crate) fn read(&self) -> Reception
+        ensures { result ≡ self.now }
+    {
+        Reception::new(self.moment, self.receiver(), self.frame_read())
     }
 
     /// The head of the key, and what makes heads be in order as keys are.

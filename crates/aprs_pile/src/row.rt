@@ -1,5 +1,5 @@
 //! A row whose greatest reception lies on a pile.
-ghost use Rattle.std.specs.Prelude.{◌≡◌, ◌+◌, min, if◌then◌else◌, nat_lt, IfOk, OnOk};
+ghost use Rattle.std.specs.Prelude.{◌≡◌, ◌+◌, [], ◌∷◌, ◌++◌, min, if◌then◌else◌, nat_lt, IfOk, OnOk};
 ghost use Rattle.std.specs.declared.cmp.Ordering.TheVariants.{Less, Equal, Greater};
 ghost use Rattle.aprs_laws.specs.Gap.{millis_of};
 ghost use Rattle.aprs_laws.specs.JoinRow.{single};
@@ -7,7 +7,7 @@ ghost use Rattle.aprs_laws.specs.Inserted.{side, grown};
 
 use crate::laid::Laid;
 use crate::row_view::RowView;
-use aprs_book::{Gap, Memory, ReceiverList, Receivers, RowParts};
+use aprs_book::{Gap, Memory, ReceiverList, Receivers, RowList, RowParts};
 use aprs_log::{Moment, Receiver};
 use std::alloc::{Allocator, Global};
 use std::cmp::Ordering;
@@ -62,6 +62,14 @@ impl<'a, A: Allocator + Copy> PiledRow<'a, A> {
         ensures { result ≡ self.now }
     {
         RowView::laid(self.first, self.receivers.as_slice(), self.greatest)
+    }
+
+    /// Puts the row after those of a list.
+    pub(crate) fn put(&self, list: &mut RowList<A>) -> Result<(), Memory>
+        ensures added { OnOk result (list.new.rows ≡ list.old.rows ++ self.now ∷ []) }
+        ensures gap { list.new.gap ≡ list.old.gap }
+    {
+        list.push(self.first, &self.receivers, &self.greatest.read())
     }
 
     /// What makes the row, in memory of its own.

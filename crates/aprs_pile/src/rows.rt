@@ -5,7 +5,7 @@ ghost use Rattle.aprs_laws.specs.Gap.{millis_of};
 ghost use Rattle.aprs_laws.specs.Sound.{Sound};
 
 use crate::row::PiledRow;
-use aprs_book::{Book, Gap, Memory, RowCause};
+use aprs_book::{Book, Gap, Memory, RowCause, RowList};
 use std::alloc::{Allocator, Global};
 use std::marker::Model;
 
@@ -55,6 +55,17 @@ impl<'a, A: Allocator + Copy> PiledRows<'a, A> {
         ensures sound { IsSoundBook self.now }
     {
         self.rows.as_slice()
+    }
+
+    /// The same rows in a list, in memory of its own.
+    pub fn list(&self, alloc: A) -> Result<RowList<A>, Memory>
+        ensures { IfOk result (λ list. list ≡ self.now) }
+    {
+        let mut list = RowList::new(alloc, self.gap);
+        for row in self.rows.iter() {
+            row.put(&mut list)?;
+        }
+        Ok(list)
     }
 
     /// The book of these rows, in memory of its own.
