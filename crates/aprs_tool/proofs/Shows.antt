@@ -1,5 +1,5 @@
 -- Lemmas on the text of a listing.
-use Rattle.std.proofs.Common.{◌≡◌, ◌≢◌, ℕ, List, [], ◌∷◌, ◌++◌, Option, inl, inr, refl, ap, ap₂, sym, ◌∙◌, append_assoc, subst, codes}
+use Rattle.std.proofs.Common.{◌≡◌, ◌≢◌, ℕ, List, [], ◌∷◌, ◌++◌, Option, Ok, Err, inl, inr, refl, ap, ap₂, sym, ◌∙◌, append_assoc, subst, codes}
 use Rattle.std.specs.List.{flat_map}
 use Rattle.std.proofs.lemmas.List.Concat.{flat_map-append}
 use Rattle.std.specs.Fmt.{decimal}
@@ -7,15 +7,27 @@ use Rattle.std.specs.declared.cmp.Ordering.TheVariants.{Less}
 use Rattle.aprs_ax25.specs.Callsign.{Call, call_cmp, call_text}
 use Rattle.aprs_laws.proofs.Orders.{call_total, not_both}
 use Rattle.aprs_laws.proofs.Known.{known_once}
+use Rattle.std.specs.Io.KnownBytes.{Appends}
+use Rattle.aprs_kiss.specs.Device.{AppendsPrefix}
+use Rattle.aprs_laws.specs.Book.{BookOf}
+use Rattle.aprs_laws.specs.BookValue.{BookValue}
+use Rattle.aprs_laws.specs.Gap.{millis_of}
 use Rattle.aprs_laws.specs.Best.{LastKnown}
 use Rattle.aprs_laws.specs.BestLaws.{Passes}
 use Rattle.aprs_laws.specs.Lists.{◌∈◌, Ordered}
 use Rattle.aprs_log.specs.Reception.{Heard}
 use Rattle.aprs_book.specs.Reports.{reports_position}
-use Rattle.aprs_book.specs.Stations.{ComesBefore, IsSource}
+use Rattle.aprs_book.specs.Messages.{ReportsMessages}
+use Rattle.aprs_book.specs.Names.{ReportsNamed}
+use Rattle.aprs_book.specs.Stations.{ComesBefore, IsSource, ReportsStations}
+use Rattle.aprs_book.specs.declared.message.MessageRow.{MessageRow}
+use Rattle.aprs_book.specs.declared.named.Named.{Named}
 use Rattle.aprs_book.specs.declared.station.Station.{Station}
-use Rattle.aprs_tool.specs.Listing.{known_line, line_of, message_line, named_line, station_lines}
+use Rattle.aprs_tool.specs.Listing.{known_line, line_of, message_line, named_line, show_text, station_lines}
 use Rattle.aprs_tool.specs.Show.{IsListingOf, TellsPosition}
+use Rattle.aprs_tool.specs.ShownBook.{IsShown, ShowsBook}
+use Rattle.aprs_tool.specs.declared.gathered.Unwritten.{Unwritten}
+use Rattle.aprs_tool.specs.declared.gathered.Unwritten.TheVariants as unwritten
 
 below_itself : (c : Call) → call_cmp c c ≡ Less → ⊥
 below_itself c h = not_both call_total c c h h
@@ -95,4 +107,52 @@ tells_position_of gap S text call known l source best =
           (ap₂ (λ (c : Call) (p : Option Heard). line_of (codes "station")
           (call_text c ∷ decimal x.transmissions ∷ [])
           ++ (known_line p ++ known_line x.status)) cut.is same);
+    }
+
+-- ---- what is written
+
+pub shown_text : (b : BookValue) (stations : List Station) (named : List Named)
+    (messages : List MessageRow) → ReportsStations (millis_of b.gap) b.rows stations
+    → ReportsNamed (millis_of b.gap) b.rows named → ReportsMessages (millis_of b.gap) b.rows messages
+    → IsShown b (show_text stations named messages)
+shown_text b stations named messages s n m = record {
+  stations = stations;
+  named = named;
+  messages = messages;
+  are_stations = s;
+  are_named = n;
+  are_messages = m;
+  text_is = refl;
+}
+
+pub shown_sent : (b : BookValue) (old new : Option (List ℕ)) → ShowsBook (Ok tt) b old new
+    → (text : List ℕ) × IsShown b text × Appends old new text
+unfolding ShowsBook
+shown_sent b old new h = h
+
+pub shown_cut : (u : Unwritten) (b : BookValue) (old new : Option (List ℕ)) → u ≡ unwritten.Write
+    → ShowsBook (Err u) b old new → (text : List ℕ) × IsShown b text × AppendsPrefix old new text
+unfolding ShowsBook
+shown_cut u b old new e h = subst (λ v. ShowsBook (Err v) b old new) e h
+
+pub shown_none : (u : Unwritten) (b : BookValue) (old new : Option (List ℕ)) → u ≡ unwritten.Memory
+    → ShowsBook (Err u) b old new → new ≡ old
+unfolding ShowsBook
+shown_none u b old new e h = subst (λ v. ShowsBook (Err v) b old new) e h
+
+-- the listing of whatever set the rows are the book of
+pub listing_of_shown : (gap : ℕ) (b : BookValue) (text : List ℕ) → b.gap ≡ gap → IsShown b text
+    → (S : List Heard) → BookOf (millis_of gap) S b.rows → IsListingOf gap S text
+listing_of_shown gap b text is s S book =
+    let own = subst (λ g. BookOf (millis_of g) S b.rows) (sym is) book in
+    record {
+      rows = b.rows;
+      stations = s.stations;
+      named = s.named;
+      messages = s.messages;
+      book = book;
+      are_stations = s.are_stations S own;
+      are_named = s.are_named S own;
+      are_messages = s.are_messages S own;
+      text_is = s.text_is;
     }

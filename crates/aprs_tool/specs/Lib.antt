@@ -10,6 +10,7 @@ pub mod StandsFor
 pub mod Listing
 pub mod Lines
 pub mod Show
+pub mod ShownBook
 pub mod Widen
 -- what public clauses cite of lower crates
 pub use Rattle.aprs_convert.specs.Shown

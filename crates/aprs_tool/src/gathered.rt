@@ -16,7 +16,7 @@ use std::marker::Model;
 /// The receptions of logs, on a pile, and the book of the book files.
 #[derive(Drop)]
 pub(crate) struct Gathered<A: Allocator = Global> {
-    alloc: A,
+    pub(crate) alloc: A,
     pub(crate) pile: Pile<A>,
     pub(crate) book: Book<A>,
 }

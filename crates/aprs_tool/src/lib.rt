@@ -14,6 +14,7 @@ mod listing;
 mod merge;
 mod run;
 mod show;
+mod shown;
 mod widen;
 
 pub use aprs_command::{Job, JobFault, command_is_simple, job};

@@ -13,7 +13,7 @@ ghost use Rattle.aprs_tool.specs.Listing.{id_text, known_line, message_line, nam
 use crate::field::Field;
 use crate::heard_line::put_heard;
 use crate::line::{put_line, put_text_line};
-use aprs_book::{Book, Heard, Memory, MessageRow, MessageState, Named, Station};
+use aprs_book::{Book, Heard, Memory, MessageRow, MessageState, Named, RowList, Station};
 use aprs_booktext::{Outbox, flush};
 use aprs_kiss::{Counted, WriteFault};
 use std::alloc::{Allocator, Global};
@@ -53,6 +53,22 @@ impl<'a, A: Allocator + Copy> Views<'a, A> {
             stations: book.stations()?,
             named: book.objects()?,
             messages: book.messages()?,
+        })
+    }
+
+    /// What is listed of the rows of a list.
+    pub fn of_list(list: &'a RowList<A>) -> Result<Views<'a, A>, Memory>
+        ensures stations { IfOk result (λ v.
+            ReportsStations (millis_of list.now.gap) list.now.rows v.stations.items) }
+        ensures named { IfOk result (λ v.
+            ReportsNamed (millis_of list.now.gap) list.now.rows v.named.items) }
+        ensures messages { IfOk result (λ v.
+            ReportsMessages (millis_of list.now.gap) list.now.rows v.messages.items) }
+    {
+        Ok(Views {
+            stations: list.stations()?,
+            named: list.objects()?,
+            messages: list.messages()?,
         })
     }
 

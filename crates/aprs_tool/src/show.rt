@@ -7,8 +7,8 @@ ghost use Rattle.aprs_tool.specs.Merge.{RoseWhereRead, WritesNothing};
 ghost use Rattle.aprs_tool.specs.Show.{ShowsEach};
 
 use crate::fault::RunFault;
-use crate::listing::Views;
-use crate::merge::{read_all, refused_last};
+use crate::gathered::Unwritten;
+use crate::merge::read_all;
 use aprs_book::Gap;
 use aprs_kiss::Counted;
 use std::alloc::Allocator;
@@ -46,11 +46,9 @@ pub fn show_run<R: Read, W: Write, A: Allocator + Copy>(
         Ok(gathered) => gathered,
         Err((index, fault)) => return Err(RunFault::Input { index, fault }),
     };
-    let Ok(book) = gathered.into_book() else {
-        return Err(refused_last(inputs.len()));
-    };
-    let Ok(views) = Views::of(&book) else {
-        return Err(RunFault::Memory);
-    };
-    Ok(views.write(w)?)
+    match gathered.show(w) {
+        Ok(()) => Ok(()),
+        Err(Unwritten::Memory) => Err(RunFault::Memory),
+        Err(Unwritten::Write) => Err(RunFault::Write),
+    }
 }

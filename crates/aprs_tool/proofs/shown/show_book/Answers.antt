@@ -1,0 +1,30 @@
+use Rattle.std.proofs.Common.{refl}
+use Rattle.std.proofs.lemmas.Result.{err_from_is_err_and}
+use Rattle.aprs_tool.specs.Listing.{show_text}
+use Rattle.aprs_tool.specs.ShownBook.{IsShown, ShowsBook}
+use Rattle.aprs_tool.proofs.Shows.{shown_text}
+use Rattle.aprs_tool.proofs.shown.show_book.Goals as goal
+
+pub returns-in_err-views-clause-listing : goal.returns-in_err-views-clause-listing
+unfolding ShowsBook
+returns-in_err-views-clause-listing g c =
+    let p = err_from_is_err_and c.from_residual.result c.from_residual.ensures.1 in
+    rw (p.1, p.2) refl
+
+pub returns-in_err-write-clause-listing : goal.returns-in_err-write-clause-listing
+unfolding ShowsBook
+returns-in_err-write-clause-listing g c =
+    let p = err_from_is_err_and c.from_residual-in_err-write.result
+    c.from_residual-in_err-write.ensures.1 in
+    let views = c.in_ok-views.ensures in
+    rw (p.1, p.2) (
+      _,
+      shown_text _ _ _ _ views.stations views.named views.messages,
+      c.in_err-write.ensures.prefix,
+    )
+
+pub returns-clause-listing : goal.returns-clause-listing
+unfolding ShowsBook
+returns-clause-listing g c =
+    let views = c.in_ok-views.ensures in
+    (_, shown_text _ _ _ _ views.stations views.named views.messages, c.in_ok-write.ensures.sent)

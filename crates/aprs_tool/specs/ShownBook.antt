@@ -1,0 +1,33 @@
+-- What is written of the listing of a book.
+use Rattle.std.specs.Prelude.{◌≡◌, ℕ, List, Option, Result, Ok, Err}
+use Rattle.std.specs.Io.KnownBytes.{Appends}
+use Rattle.aprs_kiss.specs.Device.{AppendsPrefix}
+use Rattle.aprs_laws.specs.BookValue.{BookValue}
+use Rattle.aprs_laws.specs.Gap.{millis_of}
+use Rattle.aprs_book.specs.Messages.{ReportsMessages}
+use Rattle.aprs_book.specs.Names.{ReportsNamed}
+use Rattle.aprs_book.specs.Stations.{ReportsStations}
+use Rattle.aprs_book.specs.declared.message.MessageRow.{MessageRow}
+use Rattle.aprs_book.specs.declared.named.Named.{Named}
+use Rattle.aprs_book.specs.declared.station.Station.{Station}
+use Rattle.aprs_tool.specs.Listing.{show_text}
+use Rattle.aprs_tool.specs.declared.gathered.Unwritten.{Unwritten}
+use Rattle.aprs_tool.specs.declared.gathered.Unwritten.TheVariants.{Memory, Write}
+
+-- The text is that of what the book's rows report, whatever set they are the book of.
+pub record IsShown (book : BookValue) (text : List ℕ) : Type 0 where
+  pub stations : List Station
+  pub named : List Named
+  pub messages : List MessageRow
+  pub are_stations : ReportsStations (millis_of book.gap) book.rows stations
+  pub are_named : ReportsNamed (millis_of book.gap) book.rows named
+  pub are_messages : ReportsMessages (millis_of book.gap) book.rows messages
+  pub text_is : text ≡ show_text stations named messages
+
+-- The listing of the book is written, or a prefix of it where the output was refused. Where an
+-- allocation failed, nothing is.
+unfoldable pub ShowsBook : Result (Unit {0}) Unwritten → BookValue → Option (List ℕ)
+    → Option (List ℕ) → Type 0
+ShowsBook (Ok u) book old new = (text : List ℕ) × IsShown book text × Appends old new text
+ShowsBook (Err Write) book old new = (text : List ℕ) × IsShown book text × AppendsPrefix old new text
+ShowsBook (Err Memory) book old new = new ≡ old
