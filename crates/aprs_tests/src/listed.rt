@@ -1,15 +1,41 @@
 //! Objects and messages of a larger book, as values.
 
 use crate::last_known::sent;
-use aprs_book::{Book, MessageState};
+use aprs_book::{Book, Gap, MessageRow, MessageState, Named};
+use aprs_pile::Pile;
 use std::test::Fail;
 
-// With ample memory no list is refused. Each of 50 messages has an id of its own, and each of 50
-// items a name of its own.
+/// Whether these are fifty messages with an id of their own, and fifty items with a name of their
+/// own, in order.
+fn are_fifty(messages: &[MessageRow<'_>], named: &[Named<'_>]) -> bool {
+    if messages.len() != 50 || named.len() != 50 {
+        return false;
+    }
+    for i in 0..50usize {
+        let digits = [b'0' + (i / 10) as u8, b'0' + (i % 10) as u8];
+        let message = &messages[i];
+        let name = [b'N', b'R', digits[0], digits[1]];
+        if message.id != Some(digits.as_slice())
+            || message.text != b"Hi".as_slice()
+            || message.addressee != b"WU2Z".as_slice()
+            || message.state != MessageState::Unanswered
+            || message.first != message.last
+            || !named[i].is_item
+            || named[i].name != name.as_slice()
+        {
+            return false;
+        }
+    }
+    true
+}
+
+// With ample memory no list is refused, whether the receptions are taken into a book or laid on a
+// pile. Each of 50 messages has an id of its own, and each of 50 items a name of its own.
 #[test]
 fn many_rows_are_listed(rt: HostRuntime) -> Result<(), Fail> {
     let alloc = rt.alloc();
     let mut book = Book::new(alloc);
+    let mut pile = Pile::new(alloc);
     for i in 0..50u64 {
         let tens = b'0' + (i / 10) as u8;
         let ones = b'0' + (i % 10) as u8;
@@ -28,22 +54,24 @@ fn many_rows_are_listed(rt: HostRuntime) -> Result<(), Fail> {
             sent(second, b"N0CALL-8", item.as_slice())?,
         ] {
             book.take(&x).ok().ok_or("memory")?;
+            pile.push(&x).ok().ok_or("memory")?;
         }
     }
     assert_eq!(rt; book.len(), 100);
     let messages = book.messages().ok().ok_or("memory")?;
     let named = book.objects().ok().ok_or("memory")?;
-    assert_eq!(rt; messages.len(), 50);
-    assert_eq!(rt; named.len(), 50);
-    for i in 0..50usize {
-        let digits = [b'0' + (i / 10) as u8, b'0' + (i % 10) as u8];
-        let message = &messages[i];
-        assert!(rt; message.id == Some(digits.as_slice()));
-        assert!(rt; message.text == b"Hi".as_slice() && message.addressee == b"WU2Z".as_slice());
-        assert!(rt; message.state == MessageState::Unanswered);
-        assert!(rt; message.first == message.last);
-        let name = [b'N', b'R', digits[0], digits[1]];
-        assert!(rt; named[i].is_item && named[i].name == name.as_slice());
+    assert!(rt; are_fifty(messages.as_slice(), named.as_slice()));
+
+    let sorted = pile.sorted().ok().ok_or("memory")?;
+    let rows = sorted.rows(Gap::STANDARD).ok().ok_or("memory")?;
+    let list = rows.list(alloc).ok().ok_or("memory")?;
+    let messages = list.messages().ok().ok_or("memory")?;
+    let named = list.objects().ok().ok_or("memory")?;
+    assert!(rt; are_fifty(messages.as_slice(), named.as_slice()));
+    let stations = list.stations().ok().ok_or("memory")?;
+    assert_eq!(rt; stations.len(), 2);
+    for station in stations.iter() {
+        assert_eq!(rt; station.transmissions, 50);
     }
     Ok(())
 }

@@ -5,7 +5,7 @@ use crate::last_known::sent;
 use crate::refused_calls::{ROWS, SENT, squeeze};
 use crate::shown::shown;
 use crate::vectors::{DIRECT, heard};
-use aprs_book::{Book, Gap, Memory};
+use aprs_book::{Book, Gap, Memory, RowList};
 use aprs_pile::Pile;
 use bumpalo::Bump;
 use std::alloc::{Allocator, Global};
@@ -96,5 +96,54 @@ fn refused_piles_are_as_before(rt: HostRuntime) -> Result<(), Fail> {
         }
     }
     assert!(rt; receptions > 0 && books > 0 && granted > 0);
+    Ok(())
+}
+
+/// The rows of a pile's receptions in a list.
+fn list_of<A: Allocator + Copy>(alloc: A, pile: &Pile<A>) -> Result<RowList<A>, Memory> {
+    let sorted = pile.sorted()?;
+    let rows = sorted.rows(Gap::STANDARD)?;
+    rows.list(alloc)
+}
+
+/// How many stations, objects and items, and messages the list has.
+fn counts<A: Allocator + Copy>(list: &RowList<A>) -> Result<(usize, usize, usize), Memory> {
+    let stations = list.stations()?;
+    let named = list.objects()?;
+    let messages = list.messages()?;
+    Ok((stations.len(), named.len(), messages.len()))
+}
+
+/// Whether the list of what was sent, or what it lists, is refused with so many units of room.
+fn is_list_refused(alloc: Global, units: usize) -> Result<bool, Fail> {
+    let bump = Bump::try_with_capacity(alloc, 65_536)?;
+    let mut pile = Pile::new(&bump);
+    lay(&bump, &mut pile)?;
+    let _fill = squeeze(&bump, units)?;
+    let is_refused = match list_of(&bump, &pile) {
+        Ok(list) => counts(&list).is_err(),
+        Err(_) => true,
+    };
+    bump.set_allocation_limit(None);
+    let list = list_of(&bump, &pile).ok().ok_or("memory")?;
+    match counts(&list) {
+        Ok((3, 2, 1)) => Ok(is_refused),
+        _ => Err("another list".into()),
+    }
+}
+
+// Room for more and more units: at first something is refused, and at last nothing.
+#[test]
+fn refused_lists_are_made_again(rt: HostRuntime) -> Result<(), Fail> {
+    let mut refused = 0u64;
+    let mut granted = 0u64;
+    for units in 0..256usize {
+        if is_list_refused(rt.alloc(), units)? {
+            refused = refused.saturating_add(1);
+        } else {
+            granted = granted.saturating_add(1);
+        }
+    }
+    assert!(rt; refused > 0 && granted > 0);
     Ok(())
 }
