@@ -1,5 +1,5 @@
 //! What is last known of each station, object and item.
-ghost use Rattle.std.specs.Prelude.{◌≡◌, ℕ, List, [], Some, IsOk, IfOk, OnOk, if◌then◌else◌};
+ghost use Rattle.std.specs.Prelude.{◌≡◌, ℕ, List, [], Some, IsOk, IfOk, OnOk, OnErr, if◌then◌else◌};
 ghost use Rattle.std.specs.Option.{option_copied};
 ghost use Rattle.aprs_laws.specs.Best.{greater_known};
 ghost use Rattle.aprs_book.specs.Known.{Topic, FourIndexes, index_of, known_at, known_both, call_bytes, is_reported, reported_at, SameKnown, HaveEntries, positions, statuses, objects, items};
@@ -136,6 +136,25 @@ impl<A: Allocator + Copy> Indexes<A> {
             Reported::Object(name) => self.objects.note(name, x),
             Reported::Item(name) => self.items.note(name, x),
             Reported::Nothing => {}
+        }
+    }
+
+    /// Keeps the reception for what is reported on, if it is greater than what is known. After
+    /// `Memory` the same is known as before.
+    pub(crate) fn take(&mut self, reported: &Reported<'_>, x: &Reception) -> Result<(), Memory>
+        ensures taken { OnOk result ((topic : Topic) (bytes : List ℕ)
+            → known_at bytes (index_of topic self.new)
+            ≡ (if is_reported bytes (reported_at topic reported.now)
+            then Some (greater_known (known_at bytes (index_of topic self.old)) x.now)
+            else known_at bytes (index_of topic self.old))) }
+        ensures same { OnErr result (SameKnown self.old self.new) }
+    {
+        match reported {
+            Reported::Position(call) => self.positions.take(call.as_slice(), x),
+            Reported::Status(call) => self.statuses.take(call.as_slice(), x),
+            Reported::Object(name) => self.objects.take(name, x),
+            Reported::Item(name) => self.items.take(name, x),
+            Reported::Nothing => Ok(()),
         }
     }
 

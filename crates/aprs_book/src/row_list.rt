@@ -63,23 +63,22 @@ impl<A: Allocator + Copy> RowList<A> {
     pub fn push(
         &mut self,
         first: Moment,
-        receivers: &Receivers<A>,
-        greatest: &Reception,
+        receivers: Receivers<A>,
+        greatest: Reception,
     ) -> Result<(), Memory>
         ensures added { OnOk result (self.new.rows ≡ self.old.rows ++ (record {
           first = first;
-          receivers = receivers.now;
-          greatest = greatest.now;
+          receivers = receivers;
+          greatest = greatest;
         }) ∷ []) }
         ensures gap { self.new.gap ≡ self.old.gap }
         ensures unchanged { OnErr result (self.new ≡ self.old) }
     {
-        let row = KeptRow::with(self.alloc, first, receivers, greatest)?;
+        let row = KeptRow::made(self.alloc, first, receivers, greatest)?;
         make_room(&mut self.rows)?;
-        let reported = Reported::of(greatest.frame());
-        self.indexes.place(&reported)?;
+        let heard = row.greatest();
+        self.indexes.take(&Reported::of(heard.frame()), heard)?;
         self.rows.push_reserved(row);
-        self.indexes.note(&reported, greatest);
         Ok(())
     }
 

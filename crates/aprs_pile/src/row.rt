@@ -65,11 +65,11 @@ impl<'a, A: Allocator + Copy> PiledRow<'a, A> {
     }
 
     /// Puts the row after those of a list.
-    pub(crate) fn put(&self, list: &mut RowList<A>) -> Result<(), Memory>
-        ensures added { OnOk result (list.new.rows ≡ list.old.rows ++ self.now ∷ []) }
+    pub(crate) fn put(self, list: &mut RowList<A>) -> Result<(), Memory>
+        ensures added { OnOk result (list.new.rows ≡ list.old.rows ++ self.entry ∷ []) }
         ensures gap { list.new.gap ≡ list.old.gap }
     {
-        list.push(self.first, &self.receivers, &self.greatest.read())
+        list.push(self.first, self.receivers, self.greatest.read())
     }
 
     /// What makes the row, in memory of its own.

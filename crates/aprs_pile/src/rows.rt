@@ -57,12 +57,12 @@ impl<'a, A: Allocator + Copy> PiledRows<'a, A> {
         self.rows.as_slice()
     }
 
-    /// The same rows in a list, in memory of its own.
-    pub fn list(&self, alloc: A) -> Result<RowList<A>, Memory>
-        ensures { IfOk result (λ list. list ≡ self.now) }
+    /// The same rows in a list, which takes their receivers over; the rest is in memory of its own.
+    pub fn into_list(self, alloc: A) -> Result<RowList<A>, Memory>
+        ensures { IfOk result (λ list. list ≡ self.entry) }
     {
         let mut list = RowList::new(alloc, self.gap);
-        for row in self.rows.iter() {
+        for row in self.rows {
             row.put(&mut list)?;
         }
         Ok(list)

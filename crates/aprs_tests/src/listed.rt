@@ -64,7 +64,7 @@ fn many_rows_are_listed(rt: HostRuntime) -> Result<(), Fail> {
 
     let sorted = pile.sorted().ok().ok_or("memory")?;
     let rows = sorted.rows(Gap::STANDARD).ok().ok_or("memory")?;
-    let list = rows.list(alloc).ok().ok_or("memory")?;
+    let list = rows.into_list(alloc).ok().ok_or("memory")?;
     let messages = list.messages().ok().ok_or("memory")?;
     let named = list.objects().ok().ok_or("memory")?;
     assert!(rt; are_fifty(messages.as_slice(), named.as_slice()));

@@ -103,7 +103,7 @@ fn refused_piles_are_as_before(rt: HostRuntime) -> Result<(), Fail> {
 fn list_of<A: Allocator + Copy>(alloc: A, pile: &Pile<A>) -> Result<RowList<A>, Memory> {
     let sorted = pile.sorted()?;
     let rows = sorted.rows(Gap::STANDARD)?;
-    rows.list(alloc)
+    rows.into_list(alloc)
 }
 
 /// How many stations, objects and items, and messages the list has.

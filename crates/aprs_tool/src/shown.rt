@@ -66,6 +66,6 @@ fn list_of<A: Allocator + Copy>(
 {
     let sorted = pile.sorted()?;
     let rows = sorted.rows(gap)?;
-    let list = rows.list(alloc)?;
+    let list = rows.into_list(alloc)?;
     Ok(list)
 }
