@@ -9,8 +9,8 @@ ghost use Rattle.aprs_laws.specs.Order.{IsBelow};
 ghost use Rattle.aprs_laws.specs.Inserted.{inserted, fits_in_place};
 ghost use Rattle.aprs_laws.specs.Sound.{Sound};
 
-use crate::kept_row::KeptRow;
 use crate::head::Head;
+use crate::kept_row::KeptRow;
 use crate::key_bytes::head_bytes;
 use crate::merging_keys::{put_joined, put_merged};
 use crate::millis::Millis;

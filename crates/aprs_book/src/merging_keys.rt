@@ -4,8 +4,8 @@ ghost use Rattle.aprs_laws.specs.JoinRow.{interleave, coalesced};
 ghost use Rattle.aprs_book.specs.Keyed.{PutsRows};
 
 use crate::Memory;
-use crate::kept_row::KeptRow;
 use crate::head::Head;
+use crate::kept_row::KeptRow;
 use crate::merging::{joined_rows, merged_rows};
 use crate::millis::Millis;
 use std::alloc::Allocator;

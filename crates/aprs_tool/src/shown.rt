@@ -56,11 +56,7 @@ fn show_list<W: Write, A: Allocator + Copy>(
 }
 
 /// The rows of the book of the receptions on a pile.
-fn list_of<A: Allocator + Copy>(
-    alloc: A,
-    gap: Gap,
-    pile: &Pile<A>,
-) -> Result<RowList<A>, Memory>
+fn list_of<A: Allocator + Copy>(alloc: A, gap: Gap, pile: &Pile<A>) -> Result<RowList<A>, Memory>
     ensures { (book : BookValue) → book.gap ≡ gap → Holds pile.now book
         → IfOk result (λ list. list ≡ book) }
 {
