@@ -1,8 +1,3 @@
-use Rattle.std.proofs.Common.{◌∙◌, Some, ap, cond}
-use Rattle.std.specs.Ordering.{is_eq}
-use Rattle.aprs_log.specs.Reception.{bytes_cmp}
-use Rattle.aprs_laws.specs.Best.{greater_known}
-use Rattle.aprs_book.specs.Known.{known_at, plain}
 use Rattle.aprs_book.proofs.KnownSteps.{noted_at}
 use Rattle.aprs_book.proofs.known.Known.take.Goals as goal
 
