@@ -3,15 +3,19 @@ PREFIX ?= /usr/local
 PROGRAM = crates/aprsbook/out/aprsbook
 SHARE = $(DESTDIR)$(PREFIX)/share
 
-.PHONY: build run try test words recipes cookbook bench hostile install
+.PHONY: build libraries run try test words recipes cookbook bench hostile install
 
-# the program alone, each call of it proved: crates that don't stand on each other side by side, and
-# then those above them
+# the program alone, each call of it proved: crates that don't stand on each other side by side
 build:
-	@for crates in 'aprs_ax25 aprs_report aprs_kiss' aprs_log aprs_laws 'aprs_command aprs_booktext'; do \
-	    for crate in $$crates; do (cd crates/$$crate && rt lib) & done; wait; \
-	done
+	@$(MAKE) --no-print-directory -j 3 libraries
 	cd crates/aprsbook && rt run -- check ../../examples/sample.log > /dev/null
+
+LIBRARIES := $(shell sed -n '/^aprs_tests/d; s/^\(aprs_[a-z0-9]*\):.*/\1/p' crates.txt)
+$(foreach it,$(LIBRARIES),$(eval $(it): $(filter $(LIBRARIES),$(shell sed -n 's/^$(it)://p' crates.txt))))
+.PHONY: $(LIBRARIES)
+libraries: $(LIBRARIES)
+$(LIBRARIES):
+	@build/prove.sh $@
 
 # the sample log as a monitor prints it
 run: build

@@ -1,0 +1,42 @@
+#!/usr/bin/env bash
+# build/prove.sh CRATE: proves a library, once those below it are proved, beside others that don't stand
+# on it.
+#
+# `rt` holds the folder of the crate that it proves and those of all crates below, so that two crates over
+# a third would wait for each other. So each is proved in a view of its own under out/: folders with links
+# to the files of the crate and of those below, and to what was proved of these. Folders are held as `rt`
+# holds them, those below together with whoever only reads them.
+set -euo pipefail
+cd "$(dirname "$0")/.."
+crate=$1
+view=out/$crate
+
+# the crates of this repository below it; crates.txt has lower ones first
+lower=$(tac crates.txt | awk -F '[: ]+' -v crate="$crate" '
+    $1 == crate || $1 in wanted { for (i = 2; i <= NF; i++) wanted[$i] }
+    $1 != crate && $1 in wanted { print $1 }')
+for it in $(printf '%s\n' $lower "$crate" | sort); do
+    exec {held}< "crates/$it"
+    if [ "$it" = "$crate" ]; then flock "$held"; else flock -s "$held"; fi
+done
+
+rm -rf "$view"
+put_back() {
+    if [ -d "$view/crates/$crate/out" ]; then mv "$view/crates/$crate/out" "crates/$crate/out"; fi
+    rm -rf "$view"
+    rmdir out 2> /dev/null || true
+}
+trap put_back EXIT
+for it in $lower "$crate"; do
+    mkdir -p "$view/crates/$it"
+    for part in src specs proofs; do
+        if [ -d "crates/$it/$part" ]; then cp -rl "crates/$it/$part" "$view/crates/$it/"; fi
+    done
+    grep "^$it:" crates.txt >> "$view/crates.txt"
+done
+for it in $lower; do
+    mkdir "$view/crates/$it/out"
+    cp -rl "crates/$it/out/rlib" "$view/crates/$it/out/"
+done
+if [ -d "crates/$crate/out" ]; then mv "crates/$crate/out" "$view/crates/$crate/"; fi
+(cd "$view/crates/$crate" && rt lib) 2>&1 | sed -u "s/^/$crate: /"
