@@ -1,7 +1,8 @@
 //! Objects and messages of a larger book, as values.
 
 use crate::last_known::sent;
-use aprs_book::{Book, Gap, MessageRow, MessageState, Named};
+use crate::piles::list_of;
+use aprs_book::{Book, MessageRow, MessageState, Named, RowList};
 use aprs_pile::Pile;
 use std::test::Fail;
 
@@ -29,13 +30,8 @@ fn are_fifty(messages: &[MessageRow<'_>], named: &[Named<'_>]) -> bool {
     true
 }
 
-// With ample memory no list is refused, whether the receptions are taken into a book or laid on a
-// pile. Each of 50 messages has an id of its own, and each of 50 items a name of its own.
-#[test]
-fn many_rows_are_listed(rt: HostRuntime) -> Result<(), Fail> {
-    let alloc = rt.alloc();
-    let mut book = Book::new(alloc);
-    let mut pile = Pile::new(alloc);
+/// Takes a message and an item fifty times, the later ones first, into a book and onto a pile.
+fn fill(book: &mut Book, pile: &mut Pile) -> Result<(), Fail> {
     for i in 0..50u64 {
         let tens = b'0' + (i / 10) as u8;
         let ones = b'0' + (i % 10) as u8;
@@ -47,7 +43,6 @@ fn many_rows_are_listed(rt: HostRuntime) -> Result<(), Fail> {
             b')', b'N', b'R', tens, ones, b'!', b'4', b'9', b'0', b'3', b'.', b'5', b'0', b'N',
             b'/', b'0', b'7', b'2', b'0', b'1', b'.', b'7', b'5', b'W', b'>',
         ];
-        // Later ones first.
         let second = (50 - i) * 60;
         for x in [
             sent(second, b"N0CALL-7", message.as_slice())?,
@@ -57,21 +52,40 @@ fn many_rows_are_listed(rt: HostRuntime) -> Result<(), Fail> {
             pile.push(&x).ok().ok_or("memory")?;
         }
     }
-    assert_eq!(rt; book.len(), 100);
+    Ok(())
+}
+
+/// Whether the book lists the fifty messages and the fifty items.
+fn book_has_fifty(book: &Book) -> Result<bool, Fail> {
     let messages = book.messages().ok().ok_or("memory")?;
     let named = book.objects().ok().ok_or("memory")?;
-    assert!(rt; are_fifty(messages.as_slice(), named.as_slice()));
+    Ok(are_fifty(messages.as_slice(), named.as_slice()))
+}
 
-    let sorted = pile.sorted().ok().ok_or("memory")?;
-    let rows = sorted.rows(Gap::STANDARD).ok().ok_or("memory")?;
-    let list = rows.into_list(alloc).ok().ok_or("memory")?;
+/// Whether the list has the fifty messages and the fifty items.
+fn list_has_fifty(list: &RowList) -> Result<bool, Fail> {
     let messages = list.messages().ok().ok_or("memory")?;
     let named = list.objects().ok().ok_or("memory")?;
-    assert!(rt; are_fifty(messages.as_slice(), named.as_slice()));
+    Ok(are_fifty(messages.as_slice(), named.as_slice()))
+}
+
+/// Whether the list has two stations of fifty transmissions each.
+fn list_has_two(list: &RowList) -> Result<bool, Fail> {
     let stations = list.stations().ok().ok_or("memory")?;
-    assert_eq!(rt; stations.len(), 2);
-    for station in stations.iter() {
-        assert_eq!(rt; station.transmissions, 50);
-    }
+    Ok(stations.len() == 2 && stations.iter().all(|station| station.transmissions == 50))
+}
+
+// With ample memory no list is refused, whether the receptions are taken into a book or laid on a
+// pile. Each of 50 messages has an id of its own, and each of 50 items a name of its own.
+#[test]
+fn many_rows_are_listed(rt: HostRuntime) -> Result<(), Fail> {
+    let alloc = rt.alloc();
+    let mut book = Book::new(alloc);
+    let mut pile = Pile::new(alloc);
+    fill(&mut book, &mut pile)?;
+    assert_eq!(rt; book.len(), 100);
+    assert!(rt; book_has_fifty(&book)?);
+    let list = list_of(alloc, &pile).ok().ok_or("memory")?;
+    assert!(rt; list_has_fifty(&list)? && list_has_two(&list)?);
     Ok(())
 }

@@ -100,7 +100,7 @@ fn refused_piles_are_as_before(rt: HostRuntime) -> Result<(), Fail> {
 }
 
 /// The rows of a pile's receptions in a list.
-fn list_of<A: Allocator + Copy>(alloc: A, pile: &Pile<A>) -> Result<RowList<A>, Memory> {
+pub fn list_of<A: Allocator + Copy>(alloc: A, pile: &Pile<A>) -> Result<RowList<A>, Memory> {
     let sorted = pile.sorted()?;
     let rows = sorted.rows(Gap::STANDARD)?;
     rows.into_list(alloc)
