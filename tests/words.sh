@@ -30,7 +30,7 @@ cd crates
 # clap adds help to the commands, and help and the version to the options
 words=aprs_command/src/arguments.rt
 {
-    sed -n 's/.*Command::new(alloc, "\([a-z]*\)").*/\1/p' $words | sed '/^aprsbook$/d'
+    sed -n 's/.*[cC]ommand\(::new\)*(alloc, "\([a-z]*\)".*/\2/p' $words | sed '/^aprsbook$/d'
     echo help
 } > "$scratch/program/commands"
 sed -n 's/.*PossibleValue::new("\([a-z]*\)").*/\1/p' $words > "$scratch/program/forms"

@@ -43,9 +43,13 @@ AreForms values = map words_for values ≡ map (λ name. name ∷ []) form_names
 abbrev pub IsForms : ValueParser → Type 0
 IsForms p = (values : Bor (List PossibleValue)) × (p ≡ vp.Values values) × AreForms values.now
 
+-- an argument of this name that has to be given
+abbrev pub required_rule : Text → Rule
+required_rule name = record (new_rule name) { required = true; value_names = 1 }
+
 -- the argument FORM
 abbrev pub form_rule : ValueParser → Rule
-form_rule p = record (new_rule (codes "form")) { required = true; parser = Some p; value_names = 1 }
+form_rule p = record (required_rule (codes "form")) { parser = Some p }
 
 -- an option of this name, with one value
 abbrev pub option_rule : Text → Rule
@@ -66,10 +70,8 @@ gap_rule = record (option_rule (codes "gap")) { parser = Some gap_parser }
 -- the argument SECONDS
 abbrev pub seconds_rule : Rule
 seconds_rule =
-    record (new_rule (codes "seconds")) {
-      required = true;
+    record (required_rule (codes "seconds")) {
       parser = Some gap_parser;
-      value_names = 1;
     }
 
 -- any number of inputs
@@ -88,13 +90,17 @@ convert_app p =
 abbrev pub check_app : App
 check_app = with_rule (new_app (codes "check")) input_rule
 
+-- a command of this name with `[--gap SECONDS] [INPUT]...`
+abbrev pub gathering_app : Text → App
+gathering_app name = with_rule (with_rule (new_app name) inputs_rule) gap_rule
+
 -- `merge [--gap SECONDS] [INPUT]...`
 abbrev pub merge_app : App
-merge_app = with_rule (with_rule (new_app (codes "merge")) inputs_rule) gap_rule
+merge_app = gathering_app (codes "merge")
 
 -- `show [--gap SECONDS] [INPUT]...`
 abbrev pub show_app : App
-show_app = with_rule (with_rule (new_app (codes "show")) inputs_rule) gap_rule
+show_app = gathering_app (codes "show")
 
 -- `widen SECONDS [INPUT]`
 abbrev pub widen_app : App

@@ -5,8 +5,8 @@ ghost use Rattle.clap.specs.Words.{rule_of, subcommand_rows_of};
 ghost use Rattle.clap.specs.declared.error.kind.ErrorKind.TheVariants.{OutOfMemory};
 ghost use Rattle.clap.specs.declared.builder.command.Command.TheViews.{out-Command};
 ghost use Rattle.clap.specs.declared.builder.value_parser.ValueParser.{ValueParser};
-ghost use Rattle.aprs_command.specs.Arguments.{IsForms, AnswersArguments, JudgesArguments, asked_by, form_rule, option_rule};
-ghost use Rattle.aprs_command.specs.Arguments.{check_app, convert_app, merge_app, program_app, receiver_of, show_app};
+ghost use Rattle.aprs_command.specs.Arguments.{IsForms, AnswersArguments, JudgesArguments, asked_by, form_rule, option_rule, required_rule};
+ghost use Rattle.aprs_command.specs.Arguments.{check_app, convert_app, gathering_app, program_app, program_top, receiver_of};
 ghost use Rattle.aprs_command.specs.Arguments.{widen_app, gap_rule, seconds_rule, gap_parser, read_gap};
 ghost use Rattle.aprs_command.specs.Arguments.{chosen_gap, widened_gap};
 ghost use Rattle.aprs_command.specs.Arguments.{AreForms, input_rule, inputs_named, inputs_of, inputs_rule, paths_of};
@@ -92,11 +92,22 @@ fn form_arg<'a>(alloc: Global, forms: &'a [PossibleValue<'a>]) -> Arg<'a>
     ensures rule { (p : ValueParser) × IsForms p × (rule_of result ≡ form_rule p) }
     ensures local { result.global ≡ false }
 {
-    Arg::new(alloc, "form")
+    required_arg(alloc, "form", "FORM", help::FORM).value_parser(forms)
+}
+
+fn required_arg<'a>(
+    alloc: Global,
+    name: &'static str,
+    value_name: &'static str,
+    help: &'static str,
+) -> Arg<'a>
+    ensures rule { rule_of result ≡ required_rule name.entry.now }
+    ensures local { result.global ≡ false }
+{
+    Arg::new(alloc, name)
         .required(true)
-        .value_name("FORM")
-        .help(help::FORM)
-        .value_parser(forms)
+        .value_name(value_name)
+        .help(help)
 }
 
 fn option_arg<'a>(
@@ -132,11 +143,7 @@ fn seconds_arg<'a>(alloc: Global) -> Arg<'a>
     ensures rule { rule_of result ≡ seconds_rule }
     ensures local { result.global ≡ false }
 {
-    Arg::new(alloc, "seconds")
-        .required(true)
-        .value_name("SECONDS")
-        .help(help::SECONDS)
-        .value_parser(gap_parser())
+    required_arg(alloc, "seconds", "SECONDS", help::SECONDS).value_parser(gap_parser())
 }
 
 /// One input, or none.
@@ -167,14 +174,14 @@ fn convert_command<'a>(
     ensures globals { IfOk result (λ c. (out-Command c).has_globals ≡ false) }
 {
     let form = form_arg(alloc, forms);
-    let input = input_arg(alloc, help::CONVERTED);
-    let receiver = option_arg(alloc, "receiver", "NAME", help::RECEIVER);
-    let moment = option_arg(alloc, "moment", "MOMENT", help::MOMENT);
     let with_form = Command::new(alloc, "convert")
         .about(help::CONVERT)
         .arg(form)?;
+    let input = input_arg(alloc, help::CONVERTED);
     let with_input = with_form.arg(input)?;
+    let receiver = option_arg(alloc, "receiver", "NAME", help::RECEIVER);
     let with_receiver = with_input.arg(receiver)?;
+    let moment = option_arg(alloc, "moment", "MOMENT", help::MOMENT);
     with_receiver.arg(moment)
 }
 
@@ -186,23 +193,18 @@ fn check_command<'a>(alloc: Global) -> Result<Command<'a>, AllocError>
     Command::new(alloc, "check").about(help::CHECK).arg(input)
 }
 
-fn merge_command<'a>(alloc: Global) -> Result<Command<'a>, AllocError>
-    ensures app { IfOk result (λ c. app_of c ≡ merge_app) }
+/// A command that gathers inputs under a gap: `merge` or `show`.
+fn gathering_command<'a>(
+    alloc: Global,
+    name: &'static str,
+    about: &'static str,
+) -> Result<Command<'a>, AllocError>
+    ensures app { IfOk result (λ c. app_of c ≡ gathering_app name.entry.now) }
     ensures globals { IfOk result (λ c. (out-Command c).has_globals ≡ false) }
 {
     let inputs = inputs_arg(alloc);
+    let with_inputs = Command::new(alloc, name).about(about).arg(inputs)?;
     let gap = gap_arg(alloc);
-    let with_inputs = Command::new(alloc, "merge").about(help::MERGE).arg(inputs)?;
-    with_inputs.arg(gap)
-}
-
-fn show_command<'a>(alloc: Global) -> Result<Command<'a>, AllocError>
-    ensures app { IfOk result (λ c. app_of c ≡ show_app) }
-    ensures globals { IfOk result (λ c. (out-Command c).has_globals ≡ false) }
-{
-    let inputs = inputs_arg(alloc);
-    let gap = gap_arg(alloc);
-    let with_inputs = Command::new(alloc, "show").about(help::SHOW).arg(inputs)?;
     with_inputs.arg(gap)
 }
 
@@ -211,31 +213,39 @@ fn widen_command<'a>(alloc: Global) -> Result<Command<'a>, AllocError>
     ensures globals { IfOk result (λ c. (out-Command c).has_globals ≡ false) }
 {
     let seconds = seconds_arg(alloc);
-    let input = input_arg(alloc, help::WIDENED);
     let with_seconds = Command::new(alloc, "widen")
         .about(help::WIDEN)
         .arg(seconds)?;
+    let input = input_arg(alloc, help::WIDENED);
     with_seconds.arg(input)
 }
 
+/// The program's command without its commands.
+fn top_command<'a>(alloc: Global) -> Command<'a>
+    ensures { app_of result ≡ program_top }
+{
+    Command::new(alloc, "aprsbook")
+        .version(help::VERSION)
+        .about(help::ABOUT)
+        .after_help(help::NO_COMMAND)
+        .after_long_help(help::EXAMPLES)
+}
+
+/// The program's command. Of its commands no two are held at a time, since each that is held would
+/// be given back where memory is refused.
 fn program<'a>(alloc: Global, forms: &'a [PossibleValue<'a>]) -> Result<Command<'a>, AllocError>
     requires { AreForms forms.now }
     ensures { IfOk result (λ c. (p : ValueParser) × IsForms p × (app_of c ≡ program_app p)) }
 {
     let convert = convert_command(alloc, forms)?;
+    let with_convert = top_command(alloc).subcommand(convert)?;
     let check = check_command(alloc)?;
-    let merge = merge_command(alloc)?;
-    let show = show_command(alloc)?;
-    let widen = widen_command(alloc)?;
-    let with_convert = Command::new(alloc, "aprsbook")
-        .version(help::VERSION)
-        .about(help::ABOUT)
-        .after_help(help::NO_COMMAND)
-        .after_long_help(help::EXAMPLES)
-        .subcommand(convert)?;
     let with_check = with_convert.subcommand(check)?;
+    let merge = gathering_command(alloc, "merge", help::MERGE)?;
     let with_merge = with_check.subcommand(merge)?;
+    let show = gathering_command(alloc, "show", help::SHOW)?;
     let with_show = with_merge.subcommand(show)?;
+    let widen = widen_command(alloc)?;
     with_show.subcommand(widen)
 }
 

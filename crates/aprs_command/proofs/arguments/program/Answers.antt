@@ -1,15 +1,13 @@
-use Rattle.std.proofs.Common.{◌≡◌, rules, ap, ap₂, ◌∙◌}
+use Rattle.std.proofs.Common.{ap, ap₂, ◌∙◌}
 use Rattle.std.proofs.lemmas.Result.{IfOk-weaker}
-use Rattle.clap.specs.Words.{App, app_of, with_subcommand}
-use Rattle.aprs_command.specs.Arguments.{program_top}
+use Rattle.clap.specs.Words.{App, with_subcommand}
 use Rattle.aprs_command.proofs.arguments.program.Goals as goal
 
 pub returns : goal.returns
 returns c =
     let convert = c.in_ok-convert.ensures.app in
-    let named : app_of c.after_long_help.result ≡ program_top = search rules in
     let with_convert = c.in_ok-with_convert.ensures.shape c.in_ok-convert.ensures.globals
-    ∙ ap₂ with_subcommand named (ap (λ (a : App). a.top) convert.2) in
+    ∙ ap₂ with_subcommand c.top_command.ensures (ap (λ (a : App). a.top) convert.2) in
     let with_check = c.in_ok-with_check.ensures.shape c.in_ok-check.ensures.globals
     ∙ ap₂ with_subcommand with_convert (ap (λ (a : App). a.top) c.in_ok-check.ensures.app) in
     let with_merge = c.in_ok-with_merge.ensures.shape c.in_ok-merge.ensures.globals

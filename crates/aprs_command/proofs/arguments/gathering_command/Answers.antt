@@ -1,11 +1,11 @@
 use Rattle.std.proofs.Common.{◌≡◌, rules, ap₂, codes, ◌∙◌}
 use Rattle.std.proofs.lemmas.Result.{IfOk-weaker}
 use Rattle.clap.specs.Words.{app_of, new_app, with_rule}
-use Rattle.aprs_command.proofs.arguments.show_command.Goals as goal
+use Rattle.aprs_command.proofs.arguments.gathering_command.Goals as goal
 
 pub returns-clause-app : goal.returns-clause-app
 returns-clause-app c =
-    let named : app_of c.about.result ≡ new_app (codes "show") = search rules in
+    let named : app_of c.about.result ≡ new_app c.args.name.now = search rules in
     let with_inputs = c.in_ok-with_inputs.ensures.shape c.inputs_arg-inputs.ensures.local
     ∙ ap₂ with_rule named c.inputs_arg-inputs.ensures.rule in
     IfOk-weaker c.arg-2.result _ _ (λ m h. h.shape c.gap_arg-gap.ensures.local
