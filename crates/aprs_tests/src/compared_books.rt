@@ -271,19 +271,30 @@ impl Numbers {
     }
 }
 
+/// Takes or merges as the next number says, and returns whether both books agree.
+fn agrees_after_a_step(
+    alloc: Global,
+    frames: &[Frame],
+    numbers: &mut Numbers,
+    ours: &mut Both,
+    theirs: &mut Both,
+) -> Result<bool, Fail> {
+    match numbers.below(8) {
+        0 => ours.merge(alloc, theirs)?,
+        1 => theirs.merge(alloc, ours)?,
+        2..5 => theirs.take(alloc, frames, numbers.reception())?,
+        _ => ours.take(alloc, frames, numbers.reception())?,
+    }
+    Ok(ours.agree(frames)? && theirs.agree(frames)?)
+}
+
 /// Takes and merges in the order of this number, and looks at both books after each step.
 fn agrees_in_steps(alloc: Global, frames: &[Frame], number: u64) -> Result<bool, Fail> {
     let mut numbers = Numbers { state: number };
     let mut ours = Both::new(alloc);
     let mut theirs = Both::new(alloc);
     for _ in 0..24u64 {
-        match numbers.below(8) {
-            0 => ours.merge(alloc, &theirs)?,
-            1 => theirs.merge(alloc, &ours)?,
-            2..5 => theirs.take(alloc, frames, numbers.reception())?,
-            _ => ours.take(alloc, frames, numbers.reception())?,
-        }
-        if !ours.agree(frames)? || !theirs.agree(frames)? {
+        if !agrees_after_a_step(alloc, frames, &mut numbers, &mut ours, &mut theirs)? {
             return Ok(false);
         }
     }

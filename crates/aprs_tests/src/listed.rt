@@ -3,7 +3,9 @@
 use crate::last_known::sent;
 use crate::piles::list_of;
 use aprs_book::{Book, MessageRow, MessageState, Named, RowList};
+use aprs_log::Reception;
 use aprs_pile::Pile;
+use std::alloc::Global;
 use std::test::Fail;
 
 /// Whether these are fifty messages with an id of their own, and fifty items with a name of their
@@ -30,29 +32,46 @@ fn are_fifty(messages: &[MessageRow<'_>], named: &[Named<'_>]) -> bool {
     true
 }
 
-/// Takes a message and an item fifty times, the later ones first, into a book and onto a pile.
-fn fill(book: &mut Book, pile: &mut Pile) -> Result<(), Fail> {
+/// The message and the item of this number, below fifty; later ones have earlier moments.
+fn both(number: u64) -> Result<[Reception; 2], Fail> {
+    let i = number % 50;
+    let tens = b'0' + (i / 10) as u8;
+    let ones = b'0' + (i % 10) as u8;
+    let message = [
+        b':', b'W', b'U', b'2', b'Z', b' ', b' ', b' ', b' ', b' ', b':', b'H', b'i', b'{', tens,
+        ones,
+    ];
+    let item = [
+        b')', b'N', b'R', tens, ones, b'!', b'4', b'9', b'0', b'3', b'.', b'5', b'0', b'N', b'/',
+        b'0', b'7', b'2', b'0', b'1', b'.', b'7', b'5', b'W', b'>',
+    ];
+    let second = (50 - i) * 60;
+    Ok([
+        sent(second, b"N0CALL-7", message.as_slice())?,
+        sent(second, b"N0CALL-8", item.as_slice())?,
+    ])
+}
+
+/// The book that takes fifty of both.
+fn fifty_taken(alloc: Global) -> Result<Book, Fail> {
+    let mut book = Book::new(alloc);
     for i in 0..50u64 {
-        let tens = b'0' + (i / 10) as u8;
-        let ones = b'0' + (i % 10) as u8;
-        let message = [
-            b':', b'W', b'U', b'2', b'Z', b' ', b' ', b' ', b' ', b' ', b':', b'H', b'i', b'{',
-            tens, ones,
-        ];
-        let item = [
-            b')', b'N', b'R', tens, ones, b'!', b'4', b'9', b'0', b'3', b'.', b'5', b'0', b'N',
-            b'/', b'0', b'7', b'2', b'0', b'1', b'.', b'7', b'5', b'W', b'>',
-        ];
-        let second = (50 - i) * 60;
-        for x in [
-            sent(second, b"N0CALL-7", message.as_slice())?,
-            sent(second, b"N0CALL-8", item.as_slice())?,
-        ] {
+        for x in both(i)? {
             book.take(&x).ok().ok_or("memory")?;
+        }
+    }
+    Ok(book)
+}
+
+/// The list of the pile on which fifty of both are laid.
+fn fifty_listed(alloc: Global) -> Result<RowList, Fail> {
+    let mut pile = Pile::new(alloc);
+    for i in 0..50u64 {
+        for x in both(i)? {
             pile.push(&x).ok().ok_or("memory")?;
         }
     }
-    Ok(())
+    Ok(list_of(alloc, &pile).ok().ok_or("memory")?)
 }
 
 /// Whether the book lists the fifty messages and the fifty items.
@@ -75,17 +94,20 @@ fn list_has_two(list: &RowList) -> Result<bool, Fail> {
     Ok(stations.len() == 2 && stations.iter().all(|station| station.transmissions == 50))
 }
 
-// With ample memory no list is refused, whether the receptions are taken into a book or laid on a
-// pile. Each of 50 messages has an id of its own, and each of 50 items a name of its own.
+// With ample memory no list is refused. Each of 50 messages has an id of its own, and each of 50
+// items a name of its own.
 #[test]
-fn many_rows_are_listed(rt: HostRuntime) -> Result<(), Fail> {
-    let alloc = rt.alloc();
-    let mut book = Book::new(alloc);
-    let mut pile = Pile::new(alloc);
-    fill(&mut book, &mut pile)?;
+fn many_rows_of_a_book_are_listed(rt: HostRuntime) -> Result<(), Fail> {
+    let book = fifty_taken(rt.alloc())?;
     assert_eq!(rt; book.len(), 100);
     assert!(rt; book_has_fifty(&book)?);
-    let list = list_of(alloc, &pile).ok().ok_or("memory")?;
-    assert!(rt; list_has_fifty(&list)? && list_has_two(&list)?);
+    Ok(())
+}
+
+#[test]
+fn many_rows_of_a_pile_are_listed(rt: HostRuntime) -> Result<(), Fail> {
+    let list = fifty_listed(rt.alloc())?;
+    assert!(rt; list_has_fifty(&list)?);
+    assert!(rt; list_has_two(&list)?);
     Ok(())
 }

@@ -4,9 +4,18 @@ use crate::shown::shown;
 use crate::vectors::{DIRECT, NOON, heard, receiver};
 use aprs_ax25::Frame;
 use aprs_book::{Book, Gap, ReceiverList, RowCause, RowParts, RowsFault, from_rows};
-use aprs_log::Moment;
+use aprs_log::{Moment, Receiver};
 use std::alloc::{Allocator, Global};
 use std::test::Fail;
+
+/// The receivers of these names.
+fn receivers_of<A: Allocator + Copy>(alloc: A, names: &[&[u8]]) -> Result<Vec<Receiver, A>, Fail> {
+    let mut list = Vec::new(alloc);
+    for name in names {
+        list.push(receiver(name)?)?;
+    }
+    Ok(list)
+}
 
 /// What makes a row of the direct frame: its first and last second, its receivers, and who heard
 /// the greatest reception.
@@ -17,16 +26,17 @@ pub fn parts<A: Allocator + Copy>(
     names: &[&[u8]],
     name: &[u8],
 ) -> Result<RowParts<A>, Fail> {
-    let mut list = Vec::new(alloc);
-    for name in names {
-        list.push(receiver(name)?)?;
-    }
+    let first = Moment::new(first).ok_or("moment")?;
+    let last = Moment::new(last).ok_or("moment")?;
+    let receiver = receiver(name)?;
+    let frame = Frame::read(&DIRECT).ok().ok_or("frame")?;
+    let receivers = ReceiverList::new(receivers_of(alloc, names)?);
     Ok(RowParts {
-        first: Moment::new(first).ok_or("moment")?,
-        last: Moment::new(last).ok_or("moment")?,
-        receivers: ReceiverList::new(list),
-        receiver: receiver(name)?,
-        frame: Frame::read(&DIRECT).ok().ok_or("frame")?,
+        first,
+        last,
+        receivers,
+        receiver,
+        frame,
     })
 }
 
@@ -68,20 +78,23 @@ fn two_rows(alloc: Global) -> Result<Book, Fail> {
     Ok(book)
 }
 
+/// The book that takes what they stand for, the later first.
+fn two_taken(alloc: Global) -> Result<Book, Fail> {
+    let mut book = Book::new(alloc);
+    for second in [31, 0] {
+        let x = heard(second, b"RX1", &DIRECT)?;
+        book.take(&x).ok().ok_or("memory")?;
+    }
+    Ok(book)
+}
+
 #[test]
 fn rows_are_pushed_after_the_last(rt: HostRuntime) -> Result<(), Fail> {
     let alloc = rt.alloc();
     let book = two_rows(alloc)?;
     let text = shown(alloc, &book)?;
     assert_eq!(rt; text.as_str(), "0-0 RX1 / RX1 6f; 31-31 RX1 / RX1 6f; ");
-    let mut taken = Book::new(alloc);
-    for second in [31, 0] {
-        taken
-            .take(&heard(second, b"RX1", &DIRECT)?)
-            .ok()
-            .ok_or("memory")?;
-    }
-    assert!(rt; book.same(&taken));
+    assert!(rt; book.same(&two_taken(alloc)?));
     Ok(())
 }
 

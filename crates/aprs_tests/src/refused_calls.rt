@@ -78,13 +78,13 @@ fn called<'a>(
         return None;
     }
     match call {
-        Call::Merge => Some(first.merge(second).ok()?.len()),
-        Call::Join => Some(first.join(second).ok()?.len()),
-        Call::JoinAll => Some(join_all(first, books).ok()?.len()),
-        Call::Replay => Some(replayed(bump, steps)?),
-        Call::Stations => Some(first.stations().ok()?.len()),
-        Call::Objects => Some(first.objects().ok()?.len()),
-        Call::Messages => Some(first.messages().ok()?.len()),
+        Call::Merge => first.merge(second).ok().map(|book| book.len()),
+        Call::Join => first.join(second).ok().map(|book| book.len()),
+        Call::JoinAll => join_all(first, books).ok().map(|book| book.len()),
+        Call::Replay => replayed(bump, steps),
+        Call::Stations => first.stations().ok().map(|list| list.len()),
+        Call::Objects => first.objects().ok().map(|list| list.len()),
+        Call::Messages => first.messages().ok().map(|list| list.len()),
     }
 }
 
@@ -112,21 +112,34 @@ fn is_refused(alloc: Global, call: Call, want: usize, units: usize) -> Result<bo
     let bump = Bump::try_with_capacity(alloc, 524_288)?;
     let books = two_books(&bump, alloc)?;
     let steps = steps(alloc)?;
-    let _fill = squeeze(&bump, units)?;
-    let answer = called(&bump, call, books.as_slice(), steps.as_slice());
+    let answer = squeezed(&bump, call, units, books.as_slice(), steps.as_slice())?;
     if answer == Some(want) {
         return Ok(false);
     }
     bump.set_allocation_limit(None);
     let again = called(&bump, call, books.as_slice(), steps.as_slice());
-    if answer.is_some() || again != Some(want) {
+    if answer.is_some() || again != Some(want) || !has_rows(alloc, books.as_slice())? {
         return Err("another answer".into());
     }
+    Ok(true)
+}
+
+/// Whether the first book has the rows of what was sent.
+fn has_rows(alloc: Global, books: &[Book<&Bump>]) -> Result<bool, Fail> {
     let first = books.first().ok_or("a book")?;
-    match shown(alloc, first)?.as_str() {
-        ROWS => Ok(true),
-        _ => Err("other rows".into()),
-    }
+    Ok(shown(alloc, first)?.as_str() == ROWS)
+}
+
+/// What the call gives with so many units of room.
+fn squeezed<'a>(
+    bump: &'a Bump,
+    call: Call,
+    units: usize,
+    books: &[Book<&'a Bump>],
+    steps: &[Step],
+) -> Result<Option<usize>, Fail> {
+    let _fill = squeeze(bump, units)?;
+    Ok(called(bump, call, books, steps))
 }
 
 /// The rows of the first book.

@@ -18,10 +18,28 @@ fn words_that_ask_for_a_conversion(rt: HostRuntime) {
     assert!(rt; asks_for(&rt, &Form::Text, &["aprsbook"]));
 }
 
-fn is_only(inputs: &[String], path: &str) -> bool {
-    match inputs.first() {
-        Some(input) => inputs.len() == 1 && input.as_str() == path,
-        None => false,
+/// Whether these are the inputs.
+fn are_inputs(inputs: &[String], paths: &[&str]) -> bool {
+    inputs.len() == paths.len()
+        && inputs
+            .iter()
+            .zip(paths)
+            .all(|(input, path)| input.as_str() == *path)
+}
+
+/// Whether the words ask for a capture of this input to this form.
+fn asks_for_a_capture(rt: &HostRuntime, words: &[&str], asked: &Form, input: &str) -> bool {
+    match job(rt.alloc(), words) {
+        Ok(Job::Convert(form, inputs)) => form == *asked && are_inputs(inputs.as_slice(), &[input]),
+        _ => false,
+    }
+}
+
+/// Whether the words ask for a check of this input.
+fn asks_for_a_check(rt: &HostRuntime, words: &[&str], input: &str) -> bool {
+    match job(rt.alloc(), words) {
+        Ok(Job::Check(inputs)) => are_inputs(inputs.as_slice(), &[input]),
+        _ => false,
     }
 }
 
@@ -37,21 +55,15 @@ fn words_that_ask_for_a_capture(rt: HostRuntime) -> Result<(), Fail> {
         "2024-05-01T12:00:00Z",
         "heard.kiss",
     ];
-    let Ok(Job::Convert(form, inputs)) = job(rt.alloc(), &words) else {
-        return Err("a capture".into());
-    };
     let receiver = Receiver::parse(b"RX1").ok_or("a name")?;
     let moment = Moment::new(1_714_564_800).ok_or("a moment")?;
-    assert!(rt; form == Form::Capture { receiver, moment });
-    assert!(rt; is_only(inputs.as_slice(), "heard.kiss"));
-    let Ok(Job::Check(inputs)) = job(rt.alloc(), &["aprsbook", "check", "rx1.log"]) else {
-        return Err("a check".into());
-    };
-    assert!(rt; is_only(inputs.as_slice(), "rx1.log"));
+    let form = Form::Capture { receiver, moment };
+    assert!(rt; asks_for_a_capture(&rt, &words, &form, "heard.kiss"));
+    assert!(rt; asks_for_a_check(&rt, &["aprsbook", "check", "rx1.log"], "rx1.log"));
     Ok(())
 }
 
-/// The gap, in seconds, and the inputs of a merge that words ask for.
+/// The gap, in seconds, and the inputs of a merge.
 fn merge_of(asked: &Job) -> Option<(u64, &[String])> {
     match asked {
         Job::Merge(gap, inputs) => Some((gap.seconds(), inputs.as_slice())),
@@ -59,22 +71,7 @@ fn merge_of(asked: &Job) -> Option<(u64, &[String])> {
     }
 }
 
-#[test]
-fn words_that_ask_for_a_merge(rt: HostRuntime) -> Result<(), Fail> {
-    let asked = job(rt.alloc(), &["aprsbook", "merge"]).ok().ok_or("a job")?;
-    let (gap, inputs) = merge_of(&asked).ok_or("a merge")?;
-    assert!(rt; gap == 30 && inputs.is_empty());
-    let words = ["aprsbook", "merge", "rx1.log", "rx2.book"];
-    let asked = job(rt.alloc(), &words).ok().ok_or("a job")?;
-    let (gap, inputs) = merge_of(&asked).ok_or("a merge")?;
-    assert_eq!(rt; gap, 30);
-    assert_eq!(rt; inputs.len(), 2);
-    assert!(rt; inputs[0].as_str() == "rx1.log");
-    assert!(rt; inputs[1].as_str() == "rx2.book");
-    Ok(())
-}
-
-/// The gap, in seconds, and the inputs of a listing that words ask for.
+/// The gap, in seconds, and the inputs of a listing.
 fn listing_of(asked: &Job) -> Option<(u64, &[String])> {
     match asked {
         Job::Show(gap, inputs) => Some((gap.seconds(), inputs.as_slice())),
@@ -82,15 +79,37 @@ fn listing_of(asked: &Job) -> Option<(u64, &[String])> {
     }
 }
 
+/// Whether this is of these under a gap of 30 seconds.
+fn is_of(asked: Option<(u64, &[String])>, paths: &[&str]) -> bool {
+    match asked {
+        Some((gap, inputs)) => gap == 30 && are_inputs(inputs, paths),
+        None => false,
+    }
+}
+
+/// Whether the words ask for a merge of these under a gap of 30 seconds.
+fn asks_for_a_merge(rt: &HostRuntime, words: &[&str], paths: &[&str]) -> bool {
+    match job(rt.alloc(), words) {
+        Ok(asked) => is_of(merge_of(&asked), paths),
+        Err(_) => false,
+    }
+}
+
+/// Whether the words ask for a listing of these under a gap of 30 seconds.
+fn asks_for_a_listing(rt: &HostRuntime, words: &[&str], paths: &[&str]) -> bool {
+    match job(rt.alloc(), words) {
+        Ok(asked) => is_of(listing_of(&asked), paths),
+        Err(_) => false,
+    }
+}
+
 #[test]
-fn words_that_ask_for_a_listing(rt: HostRuntime) -> Result<(), Fail> {
-    let asked = job(rt.alloc(), &["aprsbook", "show", "rx1.log"])
-        .ok()
-        .ok_or("a job")?;
-    let (gap, inputs) = listing_of(&asked).ok_or("a listing")?;
-    assert_eq!(rt; gap, 30);
-    assert!(rt; is_only(inputs, "rx1.log"));
-    Ok(())
+fn words_that_ask_for_a_merge_or_a_listing(rt: HostRuntime) {
+    let paths = ["rx1.log", "rx2.book"];
+    let words = ["aprsbook", "merge", "rx1.log", "rx2.book"];
+    assert!(rt; asks_for_a_merge(&rt, &["aprsbook", "merge"], &[]));
+    assert!(rt; asks_for_a_merge(&rt, &words, &paths));
+    assert!(rt; asks_for_a_listing(&rt, &["aprsbook", "show", "rx1.log"], &["rx1.log"]));
 }
 
 /// The gap, in seconds, that a job has.
