@@ -23,7 +23,6 @@ use std::marker::Model;
 
 /// The rows of a book one after another, and what is last known: what a listing shows. A row isn't
 /// found by its key in it, so that it takes rows faster than a book does.
-#[derive(Drop)]
 pub struct RowList<A: Allocator = Global> {
     gap: Gap,
     rows: Vec<KeptRow<A>, A>,
@@ -31,6 +30,21 @@ pub struct RowList<A: Allocator = Global> {
     heads: BTreeMap<Head, Vec<KeptRow<A>, A>, A>,
     indexes: Indexes<A>,
     alloc: A,
+}
+
+impl<A: Allocator> Drop for RowList<A> {
+    fn drop(self) {
+        let RowList {
+            gap: _,
+            rows,
+            heads,
+            indexes,
+            alloc: _,
+        } = self;
+        drop(rows);
+        drop(heads);
+        drop(indexes);
+    }
 }
 
 impl<A: Allocator> Model for RowList<A> {

@@ -12,11 +12,22 @@ use std::marker::Model;
 
 /// Receptions in the order in which they came, in as few bytes as they have: the names of their
 /// receivers and their frames lie one after another.
-#[derive(Drop)]
 pub struct Pile<A: Allocator = Global> {
     alloc: A,
     entries: Vec<Entry, A>,
     bytes: Vec<u8, A>,
+}
+
+impl<A: Allocator> Drop for Pile<A> {
+    fn drop(self) {
+        let Pile {
+            alloc: _,
+            entries,
+            bytes,
+        } = self;
+        drop(entries);
+        drop(bytes);
+    }
 }
 
 impl<A: Allocator> Model for Pile<A> {

@@ -10,10 +10,16 @@ use std::alloc::{Allocator, Global};
 use std::marker::Model;
 
 /// The rows of the book of a pile's receptions, whose bytes stay on the pile.
-#[derive(Drop)]
 pub struct PiledRows<'a, A: Allocator = Global> {
     gap: Gap,
     rows: Vec<PiledRow<'a, A>, A>,
+}
+
+impl<'a, A: Allocator> Drop for PiledRows<'a, A> {
+    fn drop(self) {
+        let PiledRows { gap: _, rows } = self;
+        drop(rows);
+    }
 }
 
 impl<'a, A: Allocator> Model for PiledRows<'a, A> {
@@ -61,8 +67,9 @@ impl<'a, A: Allocator + Copy> PiledRows<'a, A> {
     pub fn into_list(self, alloc: A) -> Result<RowList<A>, Memory>
         ensures { IfOk result (λ list. list ≡ self.entry) }
     {
-        let mut list = RowList::new(alloc, self.gap);
-        for row in self.rows {
+        let PiledRows { gap, rows } = self;
+        let mut list = RowList::new(alloc, gap);
+        for row in rows {
             row.put(&mut list)?;
         }
         Ok(list)

@@ -14,10 +14,16 @@ use std::alloc::{Allocator, Global};
 use std::marker::Model;
 
 /// The receptions of a pile by key, and those of one key by moment.
-#[derive(Drop)]
 pub struct Sorted<'a, A: Allocator = Global> {
     alloc: A,
     laid: Vec<Laid<'a>, A>,
+}
+
+impl<'a, A: Allocator> Drop for Sorted<'a, A> {
+    fn drop(self) {
+        let Sorted { alloc: _, laid } = self;
+        drop(laid);
+    }
 }
 
 impl<'a, A: Allocator> Model for Sorted<'a, A> {

@@ -1,7 +1,6 @@
 //! With memory there no call refuses it: books of a hundred rows, and nine inputs.
 
 use crate::pushed_rows::parts;
-use crate::shown::shown;
 use crate::vectors::{DIRECT, NOON, heard};
 use aprs_book::{Book, Gap, Join, all_fit, join_all};
 use aprs_booktext::{read_book, write_book};
@@ -9,7 +8,7 @@ use aprs_kiss::Counted;
 use aprs_log::{MAX_INPUT, write_line};
 use aprs_tool::{merge_run, read_input, show_run};
 use linked_list_allocator::LocalHeap;
-use std::alloc::Global;
+use std::alloc::{Allocator, Global};
 use std::test::Fail;
 
 /// A hundred receptions of one frame, a minute apart, from a second of the hour on.
@@ -196,19 +195,24 @@ fn nine_inputs_are_merged_and_listed(rt: HostRuntime) -> Result<(), Fail> {
     Ok(())
 }
 
+/// Takes what RX1 hears at these seconds of the hour.
+fn take_direct<A: Allocator + Copy>(book: &mut Book<A>, seconds: &[u64]) -> Result<(), Fail> {
+    for second in seconds {
+        let x = heard(*second, b"RX1", &DIRECT)?;
+        book.take(&x).ok().ok_or("memory")?;
+    }
+    Ok(())
+}
+
 // A reception that fits into a row that lists its receiver leaves the heap as it was.
 #[test]
 fn a_listed_receiver_takes_no_room(rt: HostRuntime) -> Result<(), Fail> {
     let heap = LocalHeap::new(rt.alloc(), 65_536)?;
     let mut book = Book::new(&heap);
-    for second in [0, 61, 122, 20] {
-        let x = heard(second, b"RX1", &DIRECT)?;
-        book.take(&x).ok().ok_or("memory")?;
-    }
+    take_direct(&mut book, &[0, 61, 122, 20])?;
     let used = heap.used();
     for second in [0, 10, 20, 61, 70, 91, 122, 152] {
-        let x = heard(second, b"RX1", &DIRECT)?;
-        book.take(&x).ok().ok_or("memory")?;
+        take_direct(&mut book, &[second])?;
         assert_eq!(rt; heap.used(), used);
     }
     assert_eq!(rt; book.len(), 3);

@@ -1,38 +1,42 @@
 //! Books that take receptions, merge and replay.
 
 use crate::ample_memory::joined_all;
-use crate::shown::{name_text, shown};
+use crate::shown::{is_shown, name_text};
 use crate::vectors::{ANSWERED, DIRECT, REPEATED, heard, receiver};
 use aprs_book::{Book, Gap, Greatest, Join, Receivers, Step, join_all, replay, steps_fit};
 use std::alloc::Global;
 use std::test::Fail;
 
+/// Takes what a receiver hears at a second of the hour.
+fn take(book: &mut Book, second: u64, name: &[u8], frame: &[u8]) -> Result<(), Fail> {
+    let x = heard(second, name, frame)?;
+    Ok(book.take(&x).ok().ok_or("memory")?)
+}
+
 #[test]
 fn rows_join_within_thirty_seconds(rt: HostRuntime) -> Result<(), Fail> {
     let alloc = rt.alloc();
     let mut book = Book::new(alloc);
-    for (second, want) in [
+    for (second, rows) in [
         (0, "0-0 RX1 / RX1 6f; "),
         (61, "0-0 RX1 / RX1 6f; 61-61 RX1 / RX1 6f; "),
         (31, "0-0 RX1 / RX1 6f; 31-61 RX1 / RX1 6f; "),
         (30, "0-61 RX1 / RX1 6f; "),
         (40, "0-61 RX1 / RX1 6f; "),
     ] {
-        let x = heard(second, b"RX1", &DIRECT)?;
-        book.take(&x).ok().ok_or("memory")?;
-        let text = shown(alloc, &book)?;
-        assert_eq!(rt; text.as_str(), want);
+        take(&mut book, second, b"RX1", &DIRECT)?;
+        assert!(rt; is_shown(alloc, &book, rows), "{second}");
     }
     Ok(())
 }
 
-/// The rows of a book that takes these, all of which are heard at once.
-fn heard_at_once(alloc: Global, all: &[(&[u8], &[u8])]) -> Result<String, Fail> {
+/// The book that takes these, all of which are heard at once.
+fn heard_at_once(alloc: Global, all: &[(&[u8], &[u8])]) -> Result<Book, Fail> {
     let mut book = Book::new(alloc);
     for (name, frame) in all {
-        book.take(&heard(0, name, frame)?).ok().ok_or("memory")?;
+        take(&mut book, 0, name, frame)?;
     }
-    shown(alloc, &book)
+    Ok(book)
 }
 
 #[test]
@@ -40,7 +44,7 @@ fn ties_go_by_receiver_then_frame(rt: HostRuntime) -> Result<(), Fail> {
     let direct = (b"RX1".as_slice(), DIRECT.as_slice());
     let repeated = (b"RX1".as_slice(), REPEATED.as_slice());
     let other = (b"RX2".as_slice(), REPEATED.as_slice());
-    for (all, want) in [
+    for (all, rows) in [
         ([repeated, direct].as_slice(), "0-0 RX1 / RX1 6f; "),
         ([direct, repeated].as_slice(), "0-0 RX1 / RX1 6f; "),
         (
@@ -48,7 +52,8 @@ fn ties_go_by_receiver_then_frame(rt: HostRuntime) -> Result<(), Fail> {
             "0-0 RX1 RX2 / RX2 6e; ",
         ),
     ] {
-        assert_eq!(rt; heard_at_once(rt.alloc(), all)?.as_str(), want);
+        let book = heard_at_once(rt.alloc(), all)?;
+        assert!(rt; is_shown(rt.alloc(), &book, rows), "{rows}");
     }
     Ok(())
 }
@@ -57,12 +62,9 @@ fn ties_go_by_receiver_then_frame(rt: HostRuntime) -> Result<(), Fail> {
 fn other_digipeaters_are_no_other_row(rt: HostRuntime) -> Result<(), Fail> {
     let alloc = rt.alloc();
     let mut book = Book::new(alloc);
-    let direct = heard(0, b"RX1", &DIRECT)?;
-    let answered = heard(5, b"RX2", &ANSWERED)?;
-    book.take(&direct).ok().ok_or("memory")?;
-    book.take(&answered).ok().ok_or("memory")?;
-    let text = shown(alloc, &book)?;
-    assert_eq!(rt; text.as_str(), "0-5 RX1 RX2 / RX2 ee; ");
+    take(&mut book, 0, b"RX1", &DIRECT)?;
+    take(&mut book, 5, b"RX2", &ANSWERED)?;
+    assert!(rt; is_shown(alloc, &book, "0-5 RX1 RX2 / RX2 ee; "));
     Ok(())
 }
 
@@ -76,7 +78,7 @@ fn receivers_stand_once(rt: HostRuntime) -> Result<(), Fail> {
     }
     let mut text = String::new(alloc);
     for name in names.as_slice() {
-        name_text(&mut text, name)?;
+        name_text(&mut text, name).ok_or("memory")?;
     }
     assert_eq!(rt; text.as_str(), "RX1 RX2 ");
     Ok(())
@@ -86,16 +88,14 @@ fn receivers_stand_once(rt: HostRuntime) -> Result<(), Fail> {
 fn book_by(alloc: Global, name: &[u8], seconds: &[u64]) -> Result<Book, Fail> {
     let mut book = Book::new(alloc);
     for second in seconds {
-        let x = heard(*second, name, &DIRECT)?;
-        book.take(&x).ok().ok_or("memory")?;
+        take(&mut book, *second, name, &DIRECT)?;
     }
     Ok(book)
 }
 
-/// The rows of both together.
-fn merged_text(alloc: Global, ours: &Book, theirs: &Book) -> Result<String, Fail> {
-    let both = ours.merge(theirs).ok().ok_or("memory")?;
-    shown(alloc, &both)
+/// Whether these are the rows of both together.
+fn is_merged_to(alloc: Global, ours: &Book, theirs: &Book, rows: &str) -> bool {
+    matches!(&ours.merge(theirs), Ok(both) if is_shown(alloc, both, rows))
 }
 
 #[test]
@@ -104,8 +104,7 @@ fn two_rows_bridge_three(rt: HostRuntime) -> Result<(), Fail> {
     let three = book_by(alloc, b"RX1", &[0, 60, 120])?;
     let two = book_by(alloc, b"RX2", &[30, 90])?;
     for (ours, theirs) in [(&three, &two), (&two, &three)] {
-        let text = merged_text(alloc, ours, theirs)?;
-        assert_eq!(rt; text.as_str(), "0-120 RX1 RX2 / RX1 6f; ");
+        assert!(rt; is_merged_to(alloc, ours, theirs, "0-120 RX1 RX2 / RX1 6f; "));
     }
     assert_eq!(rt; three.len(), 3);
     assert_eq!(rt; two.len(), 2);
@@ -138,8 +137,7 @@ fn replays_end_in_equal_books(rt: HostRuntime) -> Result<(), Fail> {
     let books = two_books(alloc)?;
     assert_eq!(rt; books.len(), 2);
     assert!(rt; books[0].same(&books[1]));
-    let text = shown(alloc, &books[0])?;
-    assert_eq!(rt; text.as_str(), "0-20 RX1 RX2 / RX2 6f; ");
+    assert!(rt; is_shown(alloc, &books[0], "0-20 RX1 RX2 / RX2 6f; "));
     for items in [books.as_slice(), &[]] {
         let all = joined_all(&books[0], items).ok_or("a joined book")?;
         assert!(rt; all.same(&books[0]));
@@ -156,8 +154,7 @@ fn logged(alloc: Global, seconds: &[u64]) -> Result<Book, Fail> {
             30 => (b"RX2", &REPEATED),
             _ => (b"RX2", &DIRECT),
         };
-        let x = heard(*second, name, frame)?;
-        book.take(&x).ok().ok_or("memory")?;
+        take(&mut book, *second, name, frame)?;
     }
     Ok(book)
 }
@@ -182,8 +179,7 @@ fn orders_repeats_and_merges_do_not_matter(rt: HostRuntime) -> Result<(), Fail> 
     ] {
         let taken = logged(alloc, &[a, b, c, a])?;
         assert!(rt; merged(alloc, &[a, b], &[c, a])?.same(&taken));
-        let text = shown(alloc, &taken)?;
-        assert_eq!(rt; text.as_str(), "0-30 RX1 RX2 / RX2 6e; 0-0 RX2 / RX2 6f; ");
+        assert!(rt; is_shown(alloc, &taken, "0-30 RX1 RX2 / RX2 6e; 0-0 RX2 / RX2 6f; "));
     }
     Ok(())
 }
@@ -195,6 +191,11 @@ fn greatest_receptions_join(rt: HostRuntime) -> Result<(), Fail> {
     let third = Greatest::new(&heard(0, b"RX1", &REPEATED)?);
     let all = join_all(&first, &[second, third]).ok().ok_or("memory")?;
     assert!(rt; *all.get() == heard(0, b"RX2", &REPEATED)?);
+    Ok(())
+}
+
+#[test]
+fn receivers_join_with_themselves(rt: HostRuntime) -> Result<(), Fail> {
     let mut names = Receivers::new(rt.alloc());
     let name = receiver(b"RX1")?;
     names.add(&name).ok().ok_or("memory")?;

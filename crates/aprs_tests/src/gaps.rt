@@ -2,7 +2,7 @@
 
 use crate::refused_calls::squeeze;
 use crate::refused_runs::arena;
-use crate::shown::shown;
+use crate::shown::is_shown;
 use crate::vectors::{DIRECT, REPEATED, heard};
 use aprs_book::{Book, Gap, MergeFault, WidenFault};
 use aprs_booktext::BookCause;
@@ -40,10 +40,20 @@ const THREE: &str = "0-0 RX1 / RX1 6f; 45-45 RX2 / RX2 6f; 90-90 RX1 / RX1 6f; "
 
 const WIDE: &str = "0-90 RX1 RX2 / RX1 6f; ";
 
-/// The rows of a book under this gap.
-fn widened_rows(alloc: Global, book: &Book, seconds: u64) -> Result<String, Fail> {
-    let wide = book.widen(gap(seconds)?).ok().ok_or("a wide book")?;
-    shown(alloc, &wide)
+/// Whether these are the rows of a book under this gap.
+fn is_widened_to(alloc: Global, book: &Book, seconds: u64, rows: &str) -> bool {
+    match Gap::new(seconds) {
+        Some(gap) => matches!(&book.widen(gap), Ok(wide) if is_shown(alloc, wide, rows)),
+        None => false,
+    }
+}
+
+/// Whether a book has a wider gap than this one.
+fn is_narrower(book: &Book, seconds: u64) -> bool {
+    match Gap::new(seconds) {
+        Some(gap) => matches!(&book.widen(gap), Err(WidenFault::Narrower)),
+        None => false,
+    }
 }
 
 #[test]
@@ -51,12 +61,16 @@ fn rows_join_where_the_gap_reaches(rt: HostRuntime) -> Result<(), Fail> {
     let alloc = rt.alloc();
     let book = three_rows(alloc)?;
     for (seconds, rows) in [(30, THREE), (44, THREE), (45, WIDE), (3600, WIDE)] {
-        assert_eq!(rt; widened_rows(alloc, &book, seconds)?.as_str(), rows);
+        assert!(rt; is_widened_to(alloc, &book, seconds, rows), "{seconds}");
     }
-    let narrow = book.widen(gap(29)?);
-    assert!(rt; matches!(&narrow, Err(WidenFault::Narrower)));
-    assert_eq!(rt; shown(alloc, &book)?.as_str(), THREE);
+    assert!(rt; is_narrower(&book, 29));
+    assert!(rt; is_shown(alloc, &book, THREE));
     Ok(())
+}
+
+/// Whether the books are not merged since each has a gap of its own.
+fn have_two_gaps(ours: &Book, theirs: &Book) -> bool {
+    matches!(&ours.merge(theirs), Err(MergeFault::OtherGap))
 }
 
 #[test]
@@ -64,11 +78,10 @@ fn books_of_two_gaps_are_not_merged(rt: HostRuntime) -> Result<(), Fail> {
     let alloc = rt.alloc();
     let book = three_rows(alloc)?;
     let wide = book.widen(gap(45)?).ok().ok_or("a wide book")?;
-    assert!(rt; matches!(&book.merge(&wide), Err(MergeFault::OtherGap)));
-    assert!(rt; matches!(&wide.merge(&book), Err(MergeFault::OtherGap)));
+    assert!(rt; have_two_gaps(&book, &wide) && have_two_gaps(&wide, &book));
     assert!(rt; !book.same(&wide));
-    assert_eq!(rt; shown(alloc, &book)?.as_str(), THREE);
-    assert_eq!(rt; shown(alloc, &wide)?.as_str(), WIDE);
+    assert!(rt; is_shown(alloc, &book, THREE));
+    assert!(rt; is_shown(alloc, &wide, WIDE));
     Ok(())
 }
 
@@ -103,7 +116,7 @@ fn widening_and_merging_change_places(rt: HostRuntime) -> Result<(), Fail> {
     let first = merged_first(alloc)?;
     let second = widened_first(alloc)?;
     assert!(rt; first.same(&second));
-    assert_eq!(rt; shown(alloc, &first)?.as_str(), "0-130 RX1 RX2 / RX2 6e; ");
+    assert!(rt; is_shown(alloc, &first, "0-130 RX1 RX2 / RX2 6e; "));
     Ok(())
 }
 
@@ -177,31 +190,36 @@ fn a_text_is_not_narrowed(rt: HostRuntime) -> Result<(), Fail> {
     Ok(())
 }
 
+/// Whether the desk does not take this input since its gap is another.
+fn is_of_another_gap(desk: &mut Desk, input: &[u8]) -> bool {
+    matches!(
+        &desk.take_input(&mut Counted::new(input)),
+        Err(InputFault::OtherGap)
+    )
+}
+
 #[test]
-fn a_desk_takes_no_book_of_another_gap(rt: HostRuntime) -> Result<(), Fail> {
+fn a_desk_takes_no_book_of_another_gap(rt: HostRuntime) {
     let alloc = rt.alloc();
     let mut desk = Desk::new(alloc, MAX_INPUT);
     assert!(rt; desk.take_input(&mut Counted::new(THREE_LOG)).is_ok());
-    let taken = desk.take_input(&mut Counted::new(WIDE_TEXT));
-    assert!(rt; matches!(&taken, Err(InputFault::OtherGap)));
-    assert_eq!(rt; shown(alloc, desk.book())?.as_str(), THREE);
+    assert!(rt; is_of_another_gap(&mut desk, WIDE_TEXT));
+    assert!(rt; is_shown(alloc, desk.book(), THREE));
     // a fault of the text itself comes first
     let taken = desk.take_input(&mut Counted::new(&WIDE_TEXT[..20]));
     assert!(rt; matches!(&taken, Err(InputFault::Book(fault)) if fault.cause == BookCause::Ending));
-    assert_eq!(rt; shown(alloc, desk.book())?.as_str(), THREE);
-    Ok(())
+    assert!(rt; is_shown(alloc, desk.book(), THREE));
 }
 
 #[test]
 fn a_desk_has_its_gap(rt: HostRuntime) -> Result<(), Fail> {
     let alloc = rt.alloc();
     let mut desk = Desk::with_gap(alloc, MAX_INPUT, gap(45)?);
-    assert!(rt; desk.take_input(&mut Counted::new(THREE_LOG)).is_ok());
-    assert_eq!(rt; shown(alloc, desk.book())?.as_str(), WIDE);
-    assert!(rt; desk.take_input(&mut Counted::new(WIDE_TEXT)).is_ok());
-    assert_eq!(rt; shown(alloc, desk.book())?.as_str(), WIDE);
-    let taken = desk.take_input(&mut Counted::new(THREE_TEXT));
-    assert!(rt; matches!(&taken, Err(InputFault::OtherGap)));
+    for input in [THREE_LOG, WIDE_TEXT] {
+        assert!(rt; desk.take_input(&mut Counted::new(input)).is_ok());
+        assert!(rt; is_shown(alloc, desk.book(), WIDE));
+    }
+    assert!(rt; is_of_another_gap(&mut desk, THREE_TEXT));
     Ok(())
 }
 
@@ -234,25 +252,26 @@ fn the_first_input_of_another_gap_is_reported(rt: HostRuntime) -> Result<(), Fai
     Ok(())
 }
 
+/// Whether the book under this gap has one row, or nothing where it is not widened.
+fn is_wide(alloc: Global, book: &Book<&Bump>, gap: Gap) -> Option<bool> {
+    let wide = book.widen(gap).ok()?;
+    Some(is_shown(alloc, &wide, WIDE))
+}
+
 /// Whether a book is not widened with so many units of room. Then it is as before, and with room
 /// again it is widened.
 fn is_refused(alloc: Global, units: usize) -> Result<bool, Fail> {
     let bump = Bump::try_with_capacity(alloc, 65_536)?;
     let book = three_rows(&bump)?;
+    let gap = gap(45)?;
     let _fill = squeeze(&bump, units)?;
-    if let Ok(wide) = book.widen(gap(45)?) {
-        return if shown(alloc, &wide)?.as_str() == WIDE {
-            Ok(false)
-        } else {
-            Err("other rows".into())
-        };
-    }
+    let answer = is_wide(alloc, &book, gap);
     bump.set_allocation_limit(None);
-    let again = book.widen(gap(45)?).ok().ok_or("a wide book")?;
-    if shown(alloc, &book)?.as_str() != THREE || shown(alloc, &again)?.as_str() != WIDE {
-        return Err("other rows".into());
+    match (answer, is_wide(alloc, &book, gap)) {
+        (Some(true), Some(true)) => Ok(false),
+        (None, Some(true)) if is_shown(alloc, &book, THREE) => Ok(true),
+        _ => Err("other rows".into()),
     }
-    Ok(true)
 }
 
 #[test]

@@ -3,7 +3,7 @@
 use crate::ample_memory::hundred;
 use crate::last_known::sent;
 use crate::refused_calls::{ROWS, SENT, squeeze};
-use crate::shown::shown;
+use crate::shown::is_shown;
 use crate::vectors::{DIRECT, heard};
 use aprs_book::{Book, Gap, Memory, RowList};
 use aprs_pile::Pile;
@@ -75,10 +75,10 @@ fn refusals(alloc: Global, units: usize) -> Result<(bool, bool), Fail> {
     let answer = book_of(&bump, &pile);
     bump.set_allocation_limit(None);
     let book = book_of(&bump, &pile).ok().ok_or("memory")?;
-    match shown(alloc, &book)?.as_str() {
-        ROWS => Ok((refused > 0, answer.is_err())),
-        _ => Err("other rows".into()),
+    if !is_shown(alloc, &book, ROWS) {
+        return Err("other rows".into());
     }
+    Ok((refused > 0, answer.is_err()))
 }
 
 // Room for more and more units: first a reception is refused, then the order, the rows or the book,

@@ -1,6 +1,6 @@
 //! Rows that are pushed after the last, and rows that are refused.
 
-use crate::shown::shown;
+use crate::shown::is_shown;
 use crate::vectors::{DIRECT, NOON, heard, receiver};
 use aprs_ax25::Frame;
 use aprs_book::{Book, Gap, ReceiverList, RowCause, RowParts, RowsFault, from_rows};
@@ -40,6 +40,17 @@ pub fn parts<A: Allocator + Copy>(
     })
 }
 
+/// Pushes a row from this second to noon, by these receivers, whose greatest reception RX1 heard.
+fn pushed(
+    alloc: Global,
+    book: &mut Book,
+    first: u64,
+    names: &[&[u8]],
+) -> Result<Result<(), RowCause>, Fail> {
+    let row = parts(alloc, first, NOON, names, b"RX1")?;
+    Ok(book.push_row(&row))
+}
+
 // At one moment the greatest reception is by the last receiver.
 #[test]
 fn rows_without_their_greatest_are_refused(rt: HostRuntime) -> Result<(), Fail> {
@@ -53,11 +64,9 @@ fn rows_without_their_greatest_are_refused(rt: HostRuntime) -> Result<(), Fail> 
         (NOON - 1, [one, two].as_slice(), Ok(())),
     ] {
         assert_eq!(rt; book.len(), 0);
-        let row = parts(alloc, first, NOON, names, one)?;
-        assert!(rt; book.push_row(&row) == want);
+        assert!(rt; pushed(alloc, &mut book, first, names)? == want);
     }
-    let text = shown(alloc, &book)?;
-    assert_eq!(rt; text.as_str(), "3599-0 RX1 RX2 / RX1 6f; ");
+    assert!(rt; is_shown(alloc, &book, "3599-0 RX1 RX2 / RX1 6f; "));
     Ok(())
 }
 
@@ -92,8 +101,7 @@ fn two_taken(alloc: Global) -> Result<Book, Fail> {
 fn rows_are_pushed_after_the_last(rt: HostRuntime) -> Result<(), Fail> {
     let alloc = rt.alloc();
     let book = two_rows(alloc)?;
-    let text = shown(alloc, &book)?;
-    assert_eq!(rt; text.as_str(), "0-0 RX1 / RX1 6f; 31-31 RX1 / RX1 6f; ");
+    assert!(rt; is_shown(alloc, &book, "0-0 RX1 / RX1 6f; 31-31 RX1 / RX1 6f; "));
     assert!(rt; book.same(&two_taken(alloc)?));
     Ok(())
 }

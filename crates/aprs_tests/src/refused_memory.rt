@@ -1,20 +1,15 @@
 //! Memory that is refused in the midst of a call.
 
 use crate::pushed_rows::parts;
-use crate::shown::shown;
+use crate::shown::{is_shown, shown};
 use crate::vectors::{DIRECT, MERGED_TEXT, NOON, heard};
 use aprs_book::{Book, Gap, RowCause, RowParts, RowsFault, from_rows};
 use aprs_booktext::{BookCause, BookFault, read_book, write_book};
 use aprs_kiss::Counted;
 use aprs_log::{MAX_INPUT, Reception};
 use linked_list_allocator::LocalHeap;
-use std::alloc::{Allocator, Global};
+use std::alloc::Global;
 use std::test::Fail;
-
-/// Whether the book shows these rows.
-fn shows<A: Allocator + Copy>(alloc: Global, book: &Book<A>, text: &str) -> Result<bool, Fail> {
-    Ok(shown(alloc, book)?.as_str() == text)
-}
 
 /// Takes a reception, and returns whether an allocation failed. Then the rows have to be as before.
 fn is_untaken<'a>(
@@ -22,11 +17,11 @@ fn is_untaken<'a>(
     book: &mut Book<&'a LocalHeap>,
     x: &Reception,
 ) -> Result<bool, Fail> {
-    let before = shown(alloc, book)?;
+    let before = shown(alloc, book).ok_or("memory")?;
     if book.take(x).is_ok() {
         return Ok(false);
     }
-    if shows(alloc, book, before.as_str())? {
+    if is_shown(alloc, book, before.as_str()) {
         return Ok(true);
     }
     Err("other rows".into())
@@ -59,7 +54,7 @@ fn refused_growths_change_nothing(rt: HostRuntime) -> Result<(), Fail> {
                 fill = Vec::new(&heap);
                 assert!(rt; book.take(&x).is_ok());
             }
-            assert!(rt; shows(alloc, &book, rows)?);
+            assert!(rt; is_shown(alloc, &book, rows));
         }
     }
     assert!(rt; refused > 4);
@@ -81,10 +76,10 @@ fn is_refused<'a>(
     book: &mut Book<&'a LocalHeap>,
     row: &RowParts<&'a LocalHeap>,
 ) -> Result<bool, Fail> {
-    let before = shown(alloc, book)?;
+    let before = shown(alloc, book).ok_or("memory")?;
     match book.push_row(row) {
         Ok(()) => Ok(false),
-        Err(RowCause::Memory) if shows(alloc, book, before.as_str())? => Ok(true),
+        Err(RowCause::Memory) if is_shown(alloc, book, before.as_str()) => Ok(true),
         Err(_) => Err("another answer".into()),
     }
 }
@@ -109,7 +104,7 @@ fn refused_rows_change_nothing(rt: HostRuntime) -> Result<(), Fail> {
             }
         }
         let want = "0-0 RX1 RX2 / RX2 6f; 60-70 RX1 RX2 / RX1 6f; 200-200 RX1 / RX1 6f; ";
-        assert!(rt; shows(alloc, &book, want)?);
+        assert!(rt; is_shown(alloc, &book, want));
     }
     // the first row needs both growths, the later ones that of their receivers alone
     assert!(rt; refused[0] > 0 && refused[1] > 0);

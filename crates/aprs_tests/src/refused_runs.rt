@@ -1,7 +1,7 @@
 //! Memory that is refused in the midst of a run.
 
 use crate::runs::FRAME;
-use crate::shown::shown;
+use crate::shown::{is_shown, shown};
 use crate::vectors::{LOG, MERGED_TEXT, ONE_LINE, THREE_LINES, WRITTEN_LINE};
 use aprs_book::Gap;
 use aprs_booktext::{BookCause, write_book};
@@ -77,9 +77,9 @@ fn a_desk_is_as_before_where_memory_is_refused(rt: HostRuntime) -> Result<(), Fa
         let bump = arena(alloc, units)?;
         let mut desk = Desk::new(&bump, MAX_INPUT);
         for (i, text) in [THREE_LINES, MERGED_TEXT].iter().enumerate() {
-            let before = shown(alloc, desk.book())?;
+            let before = shown(alloc, desk.book()).ok_or("memory")?;
             if let Err(fault) = desk.take_input(&mut Counted::new(*text)) {
-                assert_eq!(rt; shown(alloc, desk.book())?.as_str(), before.as_str());
+                assert!(rt; is_shown(alloc, desk.book(), before.as_str()));
                 if i == 1 && matches!(&fault, InputFault::Memory) {
                     merges = merges.saturating_add(1);
                 } else {
@@ -184,6 +184,20 @@ fn runs_write_nothing_where_memory_is_refused(rt: HostRuntime) -> Result<(), Fai
     Ok(())
 }
 
+/// Whether a conversion goes well and writes this text.
+fn is_converted_to(alloc: Global, bump: &Bump, form: Form, input: &[u8], text: &[u8]) -> bool {
+    let mut out = Counted::new(Vec::new(alloc));
+    let run = convert_run(bump, MAX_INPUT, form, &mut Counted::new(input), &mut out);
+    run.is_ok() && out.into_inner().as_slice() == text
+}
+
+/// Whether a check goes well and writes this text.
+fn is_checked_to(alloc: Global, bump: &Bump, input: &[u8], text: &[u8]) -> bool {
+    let mut out = Counted::new(Vec::new(alloc));
+    let run = check_run(bump, MAX_INPUT, &mut Counted::new(input), &mut out);
+    run.is_ok() && out.into_inner().as_slice() == text
+}
+
 // The allocator refuses everything.
 #[test]
 fn checks_and_conversions_take_no_memory(rt: HostRuntime) -> Result<(), Fail> {
@@ -204,17 +218,8 @@ fn checks_and_conversions_take_no_memory(rt: HostRuntime) -> Result<(), Fail> {
         (Form::Log, LOG, LOG),
         (Form::Capture { receiver, moment }, FRAME, WRITTEN_LINE),
     ] {
-        let mut out = Counted::new(Vec::new(alloc));
-        let run = convert_run(&bump, MAX_INPUT, form, &mut Counted::new(input), &mut out);
-        assert!(rt; run.is_ok());
-        assert_eq!(rt; out.into_inner().as_slice(), text);
+        assert!(rt; is_converted_to(alloc, &bump, form, input, text));
     }
-    let mut out = Counted::new(Vec::new(alloc));
-    let run = check_run(&bump, MAX_INPUT, &mut Counted::new(LOG), &mut out);
-    assert!(rt; run.is_ok());
-    assert_eq!(rt;
-        out.into_inner().as_slice(),
-        b"heard 2 passed 0\n".as_slice()
-    );
+    assert!(rt; is_checked_to(alloc, &bump, LOG, b"heard 2 passed 0\n"));
     Ok(())
 }

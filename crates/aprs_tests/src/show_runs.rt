@@ -7,6 +7,7 @@ use aprs_book::Gap;
 use aprs_kiss::Counted;
 use aprs_log::MAX_INPUT;
 use aprs_tool::{InputFault, RunFault, show_run, status_of};
+use std::alloc::Global;
 use std::test::Fail;
 
 const HELLO_LISTING: &[u8] = b"station N0CALL-7 1\nstatus 2024-05-01T12:00:00.000Z RX1 -:Hi\n";
@@ -23,27 +24,32 @@ fn an_empty_log_or_book_lists_nothing(rt: HostRuntime) -> Result<(), Fail> {
     Ok(())
 }
 
+/// What is listed of two inputs, if it goes well.
+fn listing_of_two(alloc: Global, first: &[u8], second: &[u8]) -> Result<Vec<u8>, Fail> {
+    let mut inputs = [Counted::new(first), Counted::new(second)];
+    let mut w = Counted::new(Vec::new(alloc));
+    match show_run(
+        alloc,
+        MAX_INPUT,
+        Gap::STANDARD,
+        inputs.as_mut_slice(),
+        &mut w,
+    ) {
+        Ok(()) => Ok(w.into_inner()),
+        Err(_) => Err("a fault".into()),
+    }
+}
+
 // A log and the book of it have one listing, also together.
 #[test]
 fn a_book_is_listed_as_its_log(rt: HostRuntime) -> Result<(), Fail> {
-    let alloc = rt.alloc();
-    assert_eq!(rt; listing(alloc, ONE_LINE)?.as_slice(), HELLO_LISTING);
-    assert_eq!(rt; listing(alloc, DIRECT_TEXT)?.as_slice(), HELLO_LISTING);
-    for texts in [[ONE_LINE, DIRECT_TEXT], [DIRECT_TEXT, ONE_LINE]] {
-        let [first, second] = texts;
-        let mut inputs = [Counted::new(first), Counted::new(second)];
-        let mut w = Counted::new(Vec::new(alloc));
-        assert!(rt;
-            show_run(
-                alloc,
-                MAX_INPUT,
-                Gap::STANDARD,
-                inputs.as_mut_slice(),
-                &mut w
-            )
-            .is_ok()
-        );
-        assert_eq!(rt; w.into_inner().as_slice(), HELLO_LISTING);
+    for text in [ONE_LINE, DIRECT_TEXT] {
+        let written = listing(rt.alloc(), text)?;
+        assert_eq!(rt; written.as_slice(), HELLO_LISTING);
+    }
+    for (first, second) in [(ONE_LINE, DIRECT_TEXT), (DIRECT_TEXT, ONE_LINE)] {
+        let written = listing_of_two(rt.alloc(), first, second)?;
+        assert_eq!(rt; written.as_slice(), HELLO_LISTING);
     }
     Ok(())
 }

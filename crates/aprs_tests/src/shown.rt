@@ -4,38 +4,40 @@ use aprs_book::{Book, Row};
 use aprs_log::Receiver;
 use std::alloc::{Allocator, Global};
 use std::fmt::Write;
-use std::test::Fail;
 
 /// Puts a name and a space.
-pub fn name_text(text: &mut String, name: &Receiver) -> Result<(), Fail> {
+pub fn name_text(text: &mut String, name: &Receiver) -> Option<()> {
     for byte in name.as_bytes() {
-        text.push(char::from(*byte))?;
+        text.push(char::from(*byte)).ok()?;
     }
-    text.push(' ')?;
-    Ok(())
+    text.push(' ').ok()
 }
 
 /// Puts a row's first and last second in its hour, its receivers, the greatest reception's receiver
 /// and the last octet of its frame's source.
-fn row_text(text: &mut String, row: &Row<'_>) -> Result<(), Fail> {
+fn row_text(text: &mut String, row: &Row<'_>) -> Option<()> {
     let first = row.first.seconds() % 3600;
     let last = row.last.seconds() % 3600;
-    write!(text, "{first}-{last} ")?;
+    write!(text, "{first}-{last} ").ok()?;
     for name in row.receivers {
         name_text(text, name)?;
     }
-    text.push_str("/ ")?;
+    text.push_str("/ ").ok()?;
     name_text(text, row.receiver)?;
     let octet = row.frame.bytes().get(13).copied().unwrap_or(0);
-    write!(text, "{octet:02x}; ")?;
-    Ok(())
+    write!(text, "{octet:02x}; ").ok()
 }
 
-/// All rows so.
-pub fn shown<A: Allocator + Copy>(alloc: Global, book: &Book<A>) -> Result<String, Fail> {
+/// All rows so, or nothing where memory is refused.
+pub fn shown<A: Allocator + Copy>(alloc: Global, book: &Book<A>) -> Option<String> {
     let mut text = String::new(alloc);
     for row in book.rows() {
         row_text(&mut text, &row)?;
     }
-    Ok(text)
+    Some(text)
+}
+
+/// Whether these are a book's rows.
+pub fn is_shown<A: Allocator + Copy>(alloc: Global, book: &Book<A>, rows: &str) -> bool {
+    matches!(&shown(alloc, book), Some(text) if text.as_str() == rows)
 }

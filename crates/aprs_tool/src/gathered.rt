@@ -14,11 +14,22 @@ use std::io::Write;
 use std::marker::Model;
 
 /// The receptions of logs, on a pile, and the book of the book files.
-#[derive(Drop)]
 pub(crate) struct Gathered<A: Allocator = Global> {
     pub(crate) alloc: A,
     pub(crate) pile: Pile<A>,
     pub(crate) book: Book<A>,
+}
+
+impl<A: Allocator> Drop for Gathered<A> {
+    fn drop(self) {
+        let Gathered {
+            alloc: _,
+            pile,
+            book,
+        } = self;
+        drop(pile);
+        drop(book);
+    }
 }
 
 impl<A: Allocator> Model for Gathered<A> {
