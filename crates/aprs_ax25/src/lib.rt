@@ -14,6 +14,3 @@ pub use fault::{CallFault, FrameFault, MakeFault};
 pub use frame::Frame;
 pub use hop::Hop;
 pub use laws::each_is_a_frame_or_refused;
-
-#[cfg(test)]
-mod tests;

@@ -12,6 +12,3 @@ pub use cut::cut_at;
 pub use device::{Counted, DeviceFault, WriteFault, send};
 pub use hexadecimal::{decode_into, encode_to};
 pub use input::{Ending, MAX_INPUT, read_some};
-
-#[cfg(test)]
-mod tests;

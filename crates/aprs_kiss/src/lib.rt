@@ -18,6 +18,3 @@ pub use listen::{Listener, feed_all, feed_in_parts};
 pub use reader::{Fed, KissReader, MAX_FRAME};
 pub use spelling::cut_plain;
 pub use write::{KissWriter, write_kiss};
-
-#[cfg(test)]
-mod tests;

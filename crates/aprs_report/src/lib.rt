@@ -23,6 +23,3 @@ pub use place::{Fraction, Place};
 pub use report::Report;
 pub use stamp::Stamp;
 pub use symbol::Symbol;
-
-#[cfg(test)]
-mod tests;

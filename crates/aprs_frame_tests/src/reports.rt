@@ -1,4 +1,6 @@
-use super::*;
+//! Reports of the APRS Protocol Reference, field by field.
+
+use aprs_report::{Place, Report, Stamp, Symbol};
 
 const HOUSE: Symbol = Symbol {
     table: b'/',
@@ -55,6 +57,26 @@ fn car(table: u8, y: u32, x: u32) -> Report<'static> {
     position(true, None, place, symbol, b"")
 }
 
+/// The first field that is read as another report than the one beside it.
+fn misread<'a>(table: &[(&'a [u8], Report<'a>)]) -> Option<&'a [u8]> {
+    for (info, report) in table {
+        if Report::read(info) != *report {
+            return Some(info);
+        }
+    }
+    None
+}
+
+/// Whether all these reports are of this kind.
+fn are_kind(table: &[(&[u8], Report<'_>)], kind: &str) -> bool {
+    for (_, report) in table {
+        if report.kind() != kind {
+            return false;
+        }
+    }
+    true
+}
+
 #[test]
 fn plain_positions(rt: HostRuntime) {
     let table = [
@@ -83,9 +105,7 @@ fn plain_positions(rt: HostRuntime) {
         (b"!4960.00N/07201.75W-".as_slice(), Report::Raw),
         (b"!496 .  N/07201.75W-".as_slice(), Report::Raw),
     ];
-    for (info, report) in table {
-        assert_eq!(rt; Report::read(info), report, "at {info:?}");
-    }
+    assert_eq!(rt; misread(&table), None);
 }
 
 #[test]
@@ -104,9 +124,7 @@ fn positions_with_stamps_and_comments(rt: HostRuntime) {
             position(true, stamp(b'/'), HERE, CAR, b"Test1234"),
         ),
     ];
-    for (info, report) in table {
-        assert_eq!(rt; Report::read(info), report, "at {info:?}");
-    }
+    assert_eq!(rt; misread(&table), None);
 }
 
 #[test]
@@ -116,6 +134,13 @@ fn fractions_of_a_degree(rt: HostRuntime) {
     assert_eq!(rt; (lon.numerator, lon.denominator), (-432175, 6000));
 }
 
+/// 49.5 degrees north, and 72.75 west to one part in 190463.
+const COMPRESSED: Place = Place::Base91 {
+    y: 15427503,
+    x: 20427156,
+    cst: *b" sT",
+};
+
 #[test]
 fn compressed_positions(rt: HostRuntime) {
     let table = [
@@ -124,27 +149,29 @@ fn compressed_positions(rt: HostRuntime) {
         (b"=/{{!\"<*e7> sT".as_slice(), Report::Raw),
         (b"=/5L!!{{!!> sT".as_slice(), car(b'/', 15427503, 68566680)),
         (b"=c5L!!<*e7> sT".as_slice(), car(b'2', 15427503, 20427156)),
+        (
+            b"=/5L!!<*e7> sTComment".as_slice(),
+            position(true, None, COMPRESSED, CAR, b"Comment"),
+        ),
     ];
-    for (info, report) in table {
-        assert_eq!(rt; Report::read(info), report, "at {info:?}");
-    }
-    let place = Place::Base91 {
-        y: 15427503,
-        x: 20427156,
-        cst: *b" sT",
-    };
-    assert_eq!(rt;
-        Report::read(b"=/5L!!<*e7> sTComment"),
-        position(true, None, place, CAR, b"Comment")
-    );
-    // 49.5 degrees north, and 72.75 west to one part in 190463.
-    let (lat, lon) = (place.lat(), place.lon());
+    assert_eq!(rt; misread(&table), None);
+}
+
+#[test]
+fn compressed_fractions_of_a_degree(rt: HostRuntime) {
+    let (lat, lon) = (COMPRESSED.lat(), COMPRESSED.lon());
     assert_eq!(rt; (lat.numerator, lat.denominator), (18855837, 380926));
-    assert_eq!(rt; lat.numerator * 2, lat.denominator * 99);
+    assert!(rt; lat.numerator * 2 == lat.denominator * 99);
     assert_eq!(rt; (lon.numerator, lon.denominator), (-13856184, 190463));
-    assert_eq!(rt; (lon.numerator * 4 + lon.denominator * 291) / 4, 0);
-    assert_eq!(rt; Report::read(b"=/5L!!<*e7> sT").kind(), "position");
-    assert_eq!(rt; Report::read(b"").kind(), "raw");
+    assert!(rt; (lon.numerator * 4 + lon.denominator * 291) / 4 == 0);
+}
+
+#[test]
+fn kinds(rt: HostRuntime) {
+    assert!(rt; Report::read(b"=/5L!!<*e7> sT").kind() == "position");
+    assert!(rt; Report::read(b"").kind() == "raw");
+    assert!(rt; object(true, b"").kind() == "object");
+    assert!(rt; item(LEADER, b'>').kind() == "item");
 }
 
 const LEADER: &[u8] = b"LEADER";
@@ -203,11 +230,7 @@ fn objects_and_items(rt: HostRuntime) {
         (b")AI!4903.50N/07201.75WA".as_slice(), Report::Raw),
         (b")AID NUMBER!4903.50N/07201.75WA".as_slice(), Report::Raw),
     ];
-    for (info, report) in table {
-        assert_eq!(rt; Report::read(info), report, "at {info:?}");
-    }
-    assert_eq!(rt; object(true, b"").kind(), "object");
-    assert_eq!(rt; item(LEADER, b'>').kind(), "item");
+    assert_eq!(rt; misread(&table), None);
 }
 
 fn status(stamp: Option<Stamp>, text: &[u8]) -> Report<'_> {
@@ -235,10 +258,8 @@ fn statuses(rt: HostRuntime) {
         ),
         (b">092345/Net".as_slice(), status(None, b"092345/Net")),
     ];
-    for (info, report) in table {
-        assert_eq!(rt; Report::read(info), report, "at {info:?}");
-        assert_eq!(rt; report.kind(), "status", "at {info:?}");
-    }
+    assert_eq!(rt; misread(&table), None);
+    assert!(rt; are_kind(&table, "status"));
 }
 
 #[test]
@@ -259,45 +280,33 @@ fn messages(rt: HostRuntime) {
         ),
         (b":WU2Z     :ack".as_slice(), message(b"ack", None)),
     ];
-    for (info, report) in table {
-        assert_eq!(rt; Report::read(info), report, "at {info:?}");
-        assert_eq!(rt; report.kind(), "message", "at {info:?}");
-    }
+    assert_eq!(rt; misread(&table), None);
+    assert!(rt; are_kind(&table, "message"));
 }
 
 #[test]
 fn acks_and_rejs(rt: HostRuntime) {
     let id = b"003".as_slice();
-    let table = [
-        (
-            b":N0CALL-7 :ack003".as_slice(),
-            Report::Ack {
-                addressee: b"N0CALL-7",
-                id,
-            },
-            "ack",
-        ),
-        (
-            b":N0CALL-7 :rej003".as_slice(),
-            Report::Rej {
-                addressee: b"N0CALL-7",
-                id,
-            },
-            "rej",
-        ),
-        (
-            b":KB2ICI-14:ack003".as_slice(),
-            Report::Ack {
-                addressee: b"KB2ICI-14",
-                id,
-            },
-            "ack",
-        ),
+    let ack = Report::Ack {
+        addressee: b"N0CALL-7",
+        id,
+    };
+    let rej = Report::Rej {
+        addressee: b"N0CALL-7",
+        id,
+    };
+    let longest = Report::Ack {
+        addressee: b"KB2ICI-14",
+        id,
+    };
+    let acks = [
+        (b":N0CALL-7 :ack003".as_slice(), ack),
+        (b":KB2ICI-14:ack003".as_slice(), longest),
     ];
-    for (info, report, kind) in table {
-        assert_eq!(rt; Report::read(info), report, "at {info:?}");
-        assert_eq!(rt; report.kind(), kind, "at {info:?}");
-    }
+    let rejs = [(b":N0CALL-7 :rej003".as_slice(), rej)];
+    assert_eq!(rt; misread(&acks), None);
+    assert_eq!(rt; misread(&rejs), None);
+    assert!(rt; are_kind(&acks, "ack") && are_kind(&rejs, "rej"));
 }
 
 /// Mic-E, weather, telemetry, raw GPS, queries, capabilities, user-defined, third-party, grid

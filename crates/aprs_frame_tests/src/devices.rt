@@ -1,10 +1,9 @@
 //! Devices that fail in mid-stream.
 ghost use Rattle.std.specs.Prelude.{Some};
 
-use crate::{Counted, DeviceFault, WriteFault, send};
+use aprs_io::{Counted, DeviceFault, WriteFault, send};
 use std::io;
 use std::io::{ErrorKind, Read, Write};
-use std::test::Fail;
 
 /// A reader of known bytes that gives at most `most` of them a call, fails once `good` are given,
 /// and is interrupted `interrupts` times before each call that gives any.
@@ -107,7 +106,7 @@ fn a_read_fails_in_mid_stream(rt: HostRuntime) {
 }
 
 #[test]
-fn a_write_fails_in_mid_stream(rt: HostRuntime) -> Result<(), Fail> {
+fn a_write_fails_in_mid_stream(rt: HostRuntime) {
     let mut room = [0u8; 4];
     let mut writer = Counted::new(Tight {
         room: &mut room,
@@ -120,10 +119,13 @@ fn a_write_fails_in_mid_stream(rt: HostRuntime) -> Result<(), Fail> {
     assert_eq!(rt; writer.failures(), 1);
     assert_eq!(rt; writer.into_inner().used, 4);
     assert!(rt; room[..] == b"abcd"[..]);
+}
+
+#[test]
+fn a_vector_takes_all(rt: HostRuntime) {
     let mut writer = Counted::new(Vec::new(rt.alloc()));
-    send(&mut writer, b"abc").ok().ok_or("sent")?;
+    assert!(rt; send(&mut writer, b"abc") == Ok(()));
     assert_eq!(rt; writer.into_inner().as_slice(), b"abc".as_slice());
-    Ok(())
 }
 
 #[test]

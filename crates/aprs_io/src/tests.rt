@@ -1,2 +1,0 @@
-//! Examples of devices.
-mod devices;

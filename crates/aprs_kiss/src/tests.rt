@@ -1,2 +1,0 @@
-//! Examples of streams.
-mod streams;
