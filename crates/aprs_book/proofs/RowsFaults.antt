@@ -9,8 +9,8 @@ use Rattle.aprs_laws.specs.Sound.{Sound}
 use Rattle.aprs_laws.proofs.Pushes.{sound_prefix}
 use Rattle.aprs_laws.proofs.Soundness.{sound}
 use Rattle.aprs_laws.proofs.RunRows.{book_of_nothing}
-use Rattle.aprs_book.specs.declared.row_cause.RowCause.{RowCause}
-use Rattle.aprs_book.specs.declared.row_cause.RowCause.TheVariants.{Memory}
+use Rattle.aprs_laws.specs.declared.row_cause.RowCause.{RowCause}
+use Rattle.aprs_laws.specs.declared.row_cause.RowCause.TheVariants.{Memory}
 use Rattle.aprs_book.specs.declared.from_parts.RowsFault.{RowsFault}
 use Rattle.aprs_book.specs.Refusal.{refusal}
 use Rattle.aprs_book.specs.RowsFault.{IsRowsFault, AreSoundOrFaulty, SoundRowsAreFaultless, HaveOneFaultAtMost}

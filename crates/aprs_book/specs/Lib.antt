@@ -8,8 +8,6 @@ pub mod Places
 pub mod Taking
 pub mod Pushed
 pub mod Replay
-pub mod RowCause
-pub mod BookFaults
 pub mod Refusal
 pub mod RowsFault
 pub mod Reports
@@ -25,6 +23,8 @@ pub use Rattle.aprs_log.specs.Reception
 pub use Rattle.aprs_laws.specs.Lists
 pub use Rattle.aprs_laws.specs.Order
 pub use Rattle.aprs_laws.specs.Gap
+pub use Rattle.aprs_laws.specs.RowCause
+pub use Rattle.aprs_laws.specs.BookFaults
 pub use Rattle.aprs_laws.specs.Key
 pub use Rattle.aprs_laws.specs.Row
 pub use Rattle.aprs_laws.specs.Book

@@ -3,8 +3,8 @@ use Rattle.std.specs.Prelude.{◌≡◌, ◌≢◌, ℕ, ◌<◌, ◌⊎◌, Lis
 use Rattle.aprs_laws.specs.Row.{Row}
 use Rattle.aprs_laws.specs.Sound.{Sound}
 use Rattle.aprs_book.specs.Refusal.{refusal}
-use Rattle.aprs_book.specs.declared.row_cause.RowCause.{RowCause}
-use Rattle.aprs_book.specs.declared.row_cause.RowCause.TheVariants.{Memory}
+use Rattle.aprs_laws.specs.declared.row_cause.RowCause.{RowCause}
+use Rattle.aprs_laws.specs.declared.row_cause.RowCause.TheVariants.{Memory}
 use Rattle.aprs_book.specs.declared.from_parts.RowsFault.{RowsFault}
 
 -- x isn't added after the rows: the cause refuses it, or nothing does and an allocation failed

@@ -12,8 +12,8 @@ use Rattle.aprs_laws.specs.Gap.{millis_of}
 use Rattle.aprs_laws.specs.Row.{Row}
 use Rattle.aprs_laws.specs.Sound.{Sound}
 use Rattle.aprs_book.specs.Refusal.{refusal}
-use Rattle.aprs_book.specs.declared.row_cause.RowCause.{RowCause}
-use Rattle.aprs_book.specs.declared.row_cause.RowCause.TheVariants as row
+use Rattle.aprs_laws.specs.declared.row_cause.RowCause.{RowCause}
+use Rattle.aprs_laws.specs.declared.row_cause.RowCause.TheVariants as row
 use Rattle.aprs_booktext.specs.FirstFault.{AmongRows, EndFault, FaultAfter, FirstFault, HasNoFrame, HeaderFault, IsCut, IsRefused, IsWrong, LineFault, PastEnd, is_end}
 use Rattle.aprs_booktext.specs.Fault.{book_cause_of}
 use Rattle.aprs_booktext.specs.Lines.{Lacks}

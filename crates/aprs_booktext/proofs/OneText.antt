@@ -20,7 +20,7 @@ use Rattle.aprs_laws.specs.Sound.{Sound}
 use Rattle.aprs_laws.proofs.Pushes.{sound_prefix}
 use Rattle.aprs_book.specs.Refusal.{refusal}
 use Rattle.aprs_book.specs.Shown.{row_of}
-use Rattle.aprs_book.specs.declared.row_cause.RowCause.{RowCause}
+use Rattle.aprs_laws.specs.declared.row_cause.RowCause.{RowCause}
 use Rattle.aprs_book.proofs.Refusals.{none_exactly}
 use Rattle.aprs_booktext.specs.FirstFault.{EndFault, FaultAfter, FirstFault, HasLine, HeaderFault, IsCut, IsRefused, IsWrong, LineFault, ending_cause}
 use Rattle.aprs_booktext.specs.Lines.{Lacks, pieces}

@@ -15,8 +15,8 @@ use Rattle.aprs_booktext.specs.Lines.{Lacks}
 use Rattle.aprs_booktext.proofs.Cuts.{lacks_append}
 use Rattle.aprs_log.specs.declared.moment_form.MomentForm.{MomentForm}
 use Rattle.aprs_book.specs.Refusal.{refusal}
-use Rattle.aprs_book.specs.declared.row_cause.RowCause.{RowCause}
-use Rattle.aprs_book.specs.declared.row_cause.RowCause.TheVariants as row
+use Rattle.aprs_laws.specs.declared.row_cause.RowCause.{RowCause}
+use Rattle.aprs_laws.specs.declared.row_cause.RowCause.TheVariants as row
 use Rattle.aprs_booktext.specs.Fault.{book_cause_of}
 use Rattle.aprs_booktext.specs.FirstFault.{FirstFault, IsWrong, ending_cause, ReadsSo}
 use Rattle.aprs_booktext.specs.Reader.{HasItsGap, HoldsIn, StandsAfter, IsFault, IsJudged, IsJudgedIn, is_done, line_number, lines_read, may_end}

@@ -1,7 +1,7 @@
 -- Numbers and names of causes.
 use Rattle.std.specs.Prelude.{ℕ, List, codes}
-use Rattle.aprs_book.specs.declared.row_cause.RowCause.{RowCause}
-use Rattle.aprs_book.specs.declared.row_cause.RowCause.TheVariants as row
+use Rattle.aprs_laws.specs.declared.row_cause.RowCause.{RowCause}
+use Rattle.aprs_laws.specs.declared.row_cause.RowCause.TheVariants as row
 use Rattle.aprs_booktext.specs.declared.fault.BookCause.{BookCause}
 use Rattle.aprs_booktext.specs.declared.fault.BookCause.TheVariants as cause
 

@@ -11,8 +11,8 @@ use Rattle.aprs_laws.specs.BookValue.{BookValue}
 use Rattle.aprs_laws.specs.Gap.{millis_of}
 use Rattle.aprs_laws.specs.Row.{Row}
 use Rattle.aprs_book.specs.Refusal.{refusal}
-use Rattle.aprs_book.specs.declared.row_cause.RowCause.{RowCause}
-use Rattle.aprs_book.specs.declared.row_cause.RowCause.TheVariants as row
+use Rattle.aprs_laws.specs.declared.row_cause.RowCause.{RowCause}
+use Rattle.aprs_laws.specs.declared.row_cause.RowCause.TheVariants as row
 use Rattle.aprs_booktext.specs.Lines.{Lacks}
 use Rattle.aprs_booktext.specs.Text.{row_line, end_line, lines_of, text_of_lines, book_of, book_text, IsSpelled, IsBookRow, IsBookRows}
 use Rattle.aprs_booktext.specs.Version.{form_of, gap_of, header_of, IsVersion}

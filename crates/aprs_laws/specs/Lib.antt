@@ -3,6 +3,8 @@ pub mod Lists
 pub mod Order
 pub mod Key
 pub mod Gap
+pub mod RowCause
+pub mod BookFaults
 pub mod Run
 pub mod Row
 pub mod Book

@@ -1,6 +1,6 @@
 //! What the book of a set of receptions is, and the laws of books. There is no code here but that
-//! of the gap: each other function does nothing, and what it ensures is a law over the definitions
-//! in `specs/`.
+//! of the gap, and of the numbers and names of faults: each other function does nothing, and what it
+//! ensures is a law over the definitions in `specs/`.
 #![tactic(auto)]
 
 mod book_law;
@@ -10,9 +10,12 @@ mod gap_law;
 mod join_law;
 mod key_law;
 mod last_known_law;
+mod merge_fault;
 mod order_law;
+mod row_cause;
 mod step_law;
 mod unit_law;
+mod widen_fault;
 
 pub use book_law::{
     books_decide_unions, runs_have_one_row_each, sets_have_one_book, sound_rows_are_books,
@@ -30,9 +33,12 @@ pub use gap_law::{books_can_be_widened, gaps_can_be_widened, gaps_cannot_be_narr
 pub use join_law::{books_join, receivers_join, receptions_join};
 pub use key_law::keys_are_of_parts;
 pub use last_known_law::{books_tell_last_known, books_tell_spans};
+pub use merge_fault::MergeFault;
 pub use order_law::{equals_are_identical, orders_are_total};
+pub use row_cause::RowCause;
 pub use step_law::{
     last_row_decides, one_more_joins, one_pass_joins, reception_is_inserted, steps_give_books,
     two_rows_are_near_at_most,
 };
 pub use unit_law::units_can_change;
+pub use widen_fault::WidenFault;

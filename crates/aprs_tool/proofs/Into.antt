@@ -9,8 +9,8 @@ use Rattle.aprs_tool.proofs.RowsWith.{gathers_book}
 use Rattle.aprs_laws.proofs.Books.{book_carries}
 use Rattle.aprs_laws.proofs.Unions.{around, merged}
 use Rattle.aprs_book.specs.Taking.{MergesInto}
-use Rattle.aprs_book.specs.declared.merge_fault.MergeFault.{MergeFault}
-use Rattle.aprs_book.specs.declared.merge_fault.MergeFault.TheVariants as fault
+use Rattle.aprs_laws.specs.declared.merge_fault.MergeFault.{MergeFault}
+use Rattle.aprs_laws.specs.declared.merge_fault.MergeFault.TheVariants as fault
 use Rattle.aprs_log.specs.Reception.{Heard}
 use Rattle.aprs_log.specs.declared.Ending.{Ending}
 use Rattle.aprs_convert.specs.Got.{HoldsOfGot}

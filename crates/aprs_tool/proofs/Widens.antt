@@ -5,8 +5,8 @@ use Rattle.std.specs.Io.KnownBytes.{Appends}
 use Rattle.std.proofs.lemmas.Bool.{cases_lt}
 use Rattle.aprs_kiss.specs.Device.{AppendsPrefix}
 use Rattle.aprs_laws.specs.BookValue.{BookValue, widened_to}
-use Rattle.aprs_book.specs.declared.widen_fault.WidenFault.{WidenFault}
-use Rattle.aprs_book.specs.declared.widen_fault.WidenFault.TheVariants as fault
+use Rattle.aprs_laws.specs.declared.widen_fault.WidenFault.{WidenFault}
+use Rattle.aprs_laws.specs.declared.widen_fault.WidenFault.TheVariants as fault
 use Rattle.aprs_booktext.specs.Text.{written_text}
 use Rattle.aprs_convert.specs.Got.{OfGot}
 use Rattle.aprs_tool.specs.Inputs.{ReadsInput}

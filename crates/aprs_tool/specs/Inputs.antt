@@ -2,8 +2,8 @@
 -- that.
 use Rattle.std.specs.Prelude.{◌≡◌, ◌≢◌, ◌==◌, ◌⊎◌, ℕ, Bool, true, false, List, ◌++◌, codes, None, Some, Result, Ok, Err}
 use Rattle.std.specs.List.{starts_with}
-use Rattle.aprs_book.specs.declared.merge_fault.MergeFault.{MergeFault}
-use Rattle.aprs_book.specs.declared.merge_fault.MergeFault.TheVariants as merge
+use Rattle.aprs_laws.specs.declared.merge_fault.MergeFault.{MergeFault}
+use Rattle.aprs_laws.specs.declared.merge_fault.MergeFault.TheVariants as merge
 use Rattle.aprs_log.specs.LogAnswers.{log_answers, receptions_of}
 use Rattle.aprs_log.specs.Reception.{Heard}
 use Rattle.aprs_log.specs.declared.Ending.{Ending}

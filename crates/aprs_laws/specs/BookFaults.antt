@@ -1,9 +1,9 @@
 -- Numbers and names of the faults of merging and of widening.
 use Rattle.std.specs.Prelude.{ℕ, List, codes}
-use Rattle.aprs_book.specs.declared.merge_fault.MergeFault.{MergeFault}
-use Rattle.aprs_book.specs.declared.merge_fault.MergeFault.TheVariants as merge_fault
-use Rattle.aprs_book.specs.declared.widen_fault.WidenFault.{WidenFault}
-use Rattle.aprs_book.specs.declared.widen_fault.WidenFault.TheVariants as widen_fault
+use Rattle.aprs_laws.specs.declared.merge_fault.MergeFault.{MergeFault}
+use Rattle.aprs_laws.specs.declared.merge_fault.MergeFault.TheVariants as merge_fault
+use Rattle.aprs_laws.specs.declared.widen_fault.WidenFault.{WidenFault}
+use Rattle.aprs_laws.specs.declared.widen_fault.WidenFault.TheVariants as widen_fault
 
 -- the number of each fault of a merge
 abbrev pub merge_fault_number : MergeFault → ℕ
