@@ -162,6 +162,22 @@ fn nine_of<'a>(alloc: Global, three: &'a [Vec<u8>]) -> Result<Vec<Counted<&'a [u
     Ok(inputs)
 }
 
+/// What is written of these inputs, or listed of them.
+fn gathered(
+    alloc: Global,
+    heap: &LocalHeap,
+    inputs: &mut [Counted<&[u8]>],
+    is_listing: bool,
+) -> Option<Vec<u8>> {
+    let mut out = Counted::new(Vec::new(alloc));
+    let run = if is_listing {
+        show_run(heap, MAX_INPUT, Gap::STANDARD, inputs, &mut out)
+    } else {
+        merge_run(heap, MAX_INPUT, Gap::STANDARD, inputs, &mut out)
+    };
+    run.is_ok().then_some(out.into_inner())
+}
+
 // Two of the nine are heard between the others' receptions, and five were merged before.
 #[test]
 fn nine_inputs_are_merged_and_listed(rt: HostRuntime) -> Result<(), Fail> {
@@ -170,26 +186,8 @@ fn nine_inputs_are_merged_and_listed(rt: HostRuntime) -> Result<(), Fail> {
     let heap = LocalHeap::new(alloc, 1_048_576)?;
     for (is_listing, want) in [(false, ONE_ROW), (true, ONE_STATION)] {
         let mut inputs = nine_of(alloc, three.as_slice())?;
-        let mut out = Counted::new(Vec::new(alloc));
-        let run = if is_listing {
-            show_run(
-                &heap,
-                MAX_INPUT,
-                Gap::STANDARD,
-                inputs.as_mut_slice(),
-                &mut out,
-            )
-        } else {
-            merge_run(
-                &heap,
-                MAX_INPUT,
-                Gap::STANDARD,
-                inputs.as_mut_slice(),
-                &mut out,
-            )
-        };
-        assert!(rt; run.is_ok());
-        assert_eq!(rt; out.into_inner().as_slice(), want);
+        let written = gathered(alloc, &heap, inputs.as_mut_slice(), is_listing);
+        assert!(rt; matches!(&written, Some(text) if text.as_slice() == want));
         assert_eq!(rt; heap.used(), 0);
     }
     Ok(())

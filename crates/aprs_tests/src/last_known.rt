@@ -126,14 +126,8 @@ fn statuses_are_no_positions(rt: HostRuntime) -> Result<(), Fail> {
     Ok(())
 }
 
-// An object belongs to no station, and an item of its name is something else.
-#[test]
-fn objects_and_items_go_by_name(rt: HostRuntime) -> Result<(), Fail> {
-    let alloc = rt.alloc();
-    let live = sent(0, b"N0CALL-7", b";LEADER   *092345z4903.50N/07201.75W>")?;
-    let killed = sent(60, b"N0CALL-8", b";LEADER   _092345z4903.50N/07201.75W>")?;
-    let item = sent(120, b"N0CALL-7", b")LEADER!4903.50N/07201.75W>")?;
-    let book = book_of(alloc, &[&live, &killed, &item])?;
+/// Whether the book knows the killed object and the item by this name.
+fn knows_leader(book: &Book, name: &[u8], killed: &Reception, item: &Reception) -> bool {
     let object_report = Report::Object {
         name: b"LEADER",
         live: false,
@@ -152,18 +146,32 @@ fn objects_and_items_go_by_name(rt: HostRuntime) -> Result<(), Fail> {
         symbol: CAR,
         comment: b"",
     };
+    is_known(&book.object(name), killed, &object_report)
+        && is_known(&book.item(name), item, &item_report)
+}
+
+/// Whether two transmissions of N0CALL-7 and one of N0CALL-8, which has no position, are listed.
+fn lists_three(book: &Book) -> Result<bool, Fail> {
+    let stations = book.stations().ok().ok_or("memory")?;
+    let [first, second] = stations.as_slice() else {
+        return Ok(false);
+    };
+    Ok(counts(first, b"N0CALL-7", 2) && counts(second, b"N0CALL-8", 1) && second.position.is_none())
+}
+
+// An object belongs to no station, and an item of its name is something else.
+#[test]
+fn objects_and_items_go_by_name(rt: HostRuntime) -> Result<(), Fail> {
+    let live = sent(0, b"N0CALL-7", b";LEADER   *092345z4903.50N/07201.75W>")?;
+    let killed = sent(60, b"N0CALL-8", b";LEADER   _092345z4903.50N/07201.75W>")?;
+    let item = sent(120, b"N0CALL-7", b")LEADER!4903.50N/07201.75W>")?;
+    let book = book_of(rt.alloc(), &[&live, &killed, &item])?;
     for name in [b"LEADER".as_slice(), b"LEADER   ".as_slice()] {
-        assert!(rt; is_known(&book.object(name), &killed, &object_report));
-        assert!(rt; is_known(&book.item(name), &item, &item_report));
+        assert!(rt; knows_leader(&book, name, &killed, &item));
     }
     for name in [b"".as_slice(), b" LEADER".as_slice(), b"LEAD".as_slice()] {
-        assert!(rt; book.object(name).is_none());
-        assert!(rt; book.item(name).is_none());
+        assert!(rt; book.object(name).is_none() && book.item(name).is_none());
     }
-    let stations = book.stations().ok().ok_or("memory")?;
-    assert_eq!(rt; stations.len(), 2);
-    assert!(rt; counts(&stations[0], b"N0CALL-7", 2));
-    assert!(rt; counts(&stations[1], b"N0CALL-8", 1));
-    assert!(rt; stations[1].position.is_none());
+    assert!(rt; lists_three(&book)?);
     Ok(())
 }

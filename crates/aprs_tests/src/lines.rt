@@ -50,12 +50,18 @@ fn a_line_is_heard(rt: HostRuntime) -> Result<(), Fail> {
     assert_eq!(rt; heard.moment().seconds(), 1_714_564_800);
     assert!(rt; heard.receiver().as_bytes() == b"RX1".as_slice());
     assert!(rt; heard.frame().bytes() == DIRECT.as_slice());
-    let mut later = Vec::new(rt.alloc());
+    Ok(())
+}
+
+#[test]
+fn a_later_reception_is_greater(rt: HostRuntime) -> Result<(), Fail> {
+    let Ok(Line::Heard(heard)) = read_line(DIRECT_LINE) else {
+        return Err("heard".into());
+    };
     let receiver = Receiver::parse(b"RX0").ok_or("a name")?;
     let moment = Moment::new(1_714_564_801).ok_or("a moment")?;
-    later.push(Reception::new(moment, receiver, heard.frame().copy()))?;
-    assert!(rt; heard.copy() == heard);
-    assert!(rt; later.iter().all(|x| heard < *x));
+    let later = Reception::new(moment, receiver, heard.frame().copy());
+    assert!(rt; heard.copy() == heard && heard < later);
     Ok(())
 }
 
@@ -74,17 +80,19 @@ fn each_fault_of_a_line(rt: HostRuntime) -> Result<(), Fail> {
     ] {
         assert!(rt; read_line(line) == Err(fault), "{fault:?}");
     }
+    assert!(rt; LogCause::from(LineFault::Hex).number() == LineFault::Hex.number());
+    assert!(rt; LogCause::Memory.name() == "Memory");
+    Ok(())
+}
+
+#[test]
+fn lines_have_at_most_8192_digits(rt: HostRuntime) -> Result<(), Fail> {
     let mut longest = Vec::new(rt.alloc());
     longest.extend_from_slice(b"2024-05-01T12:00:00Z RX ")?;
     longest.resize(8192, b'0')?;
     assert!(rt; read_line(longest.as_slice()) == Ok(Line::Passed(Reason::Unended)));
     longest.push(b'0')?;
     assert!(rt; read_line(longest.as_slice()) == Err(LineFault::LongLine));
-    assert_eq!(rt;
-        LogCause::from(LineFault::Hex).number(),
-        LineFault::Hex.number()
-    );
-    assert_eq!(rt; LogCause::Memory.name(), "Memory");
     Ok(())
 }
 
@@ -137,21 +145,30 @@ fn each_reason(rt: HostRuntime) -> Result<(), Fail> {
             "{reason:?}"
         );
     }
-    for (at, byte, reason) in [
+    assert!(rt; Reason::LongInfo.name() == "LongInfo" && Reason::LongInfo.number() == 12);
+    Ok(())
+}
+
+/// What is read of the direct frame with another octet in this place.
+fn line_with(rt: &HostRuntime, place: usize, octet: u8) -> Result<Line, Fail> {
+    let mut frame = DIRECT;
+    *frame.get_mut(place).ok_or("a place")? = octet;
+    line_of(rt.alloc(), kiss(rt, 0, &frame)?.as_slice())
+}
+
+#[test]
+fn each_reason_of_a_frame(rt: HostRuntime) -> Result<(), Fail> {
+    for (place, octet, reason) in [
         (6, 0xe1, Reason::Address),
         (7, 0x40, Reason::Callsign),
         (14, 0x13, Reason::Control),
         (15, 0xcf, Reason::Pid),
     ] {
-        let mut frame = Vec::new(rt.alloc());
-        frame.extend_from_slice(&DIRECT)?;
-        frame[at] = byte;
-        let sent = kiss(&rt, 0, frame.as_slice())?;
-        let line = line_of(rt.alloc(), sent.as_slice())?;
-        assert!(rt; line == Line::Passed(reason), "{reason:?}");
+        assert!(rt;
+            line_with(&rt, place, octet)? == Line::Passed(reason),
+            "{reason:?}"
+        );
     }
-    assert_eq!(rt; Reason::LongInfo.name(), "LongInfo");
-    assert_eq!(rt; Reason::LongInfo.number(), 12);
     Ok(())
 }
 

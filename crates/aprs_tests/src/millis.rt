@@ -29,10 +29,8 @@ fn moments_at_their_limits(rt: HostRuntime) -> Result<(), Fail> {
         (4_102_444_799_999, b"2099-12-31T23:59:59.999Z"),
     ] {
         let moment = Moment::from_millis(millis).ok_or("a moment")?;
-        assert_eq!(rt; moment.millis(), millis);
-        assert_eq!(rt; moment.seconds(), millis / 1000);
-        assert!(rt; moment.text() == *text);
-        assert!(rt; Moment::parse(text) == Some(moment.copy()));
+        assert!(rt; moment.millis() == millis && moment.seconds() == millis / 1000);
+        assert!(rt; moment.text() == *text && Moment::parse(text) == Some(moment));
     }
     assert!(rt; Moment::from_millis(4_102_444_800_000).is_none());
     assert!(rt; Moment::from_millis(u64::MAX).is_none());
@@ -59,20 +57,29 @@ const NO_MOMENTS: [&[u8]; 15] = [
     b"2024-05-01T12:00:00:000Z",
 ];
 
+/// Whether this text is a moment's, in this form alone.
+fn is_in_form(text: &[u8], form: MomentForm, other: MomentForm, moment: &Moment) -> bool {
+    Moment::parse(text) == Some(moment.copy())
+        && Moment::parse_in(form, text) == Some(moment.copy())
+        && Moment::parse_in(other, text).is_none()
+}
+
+/// Whether this text is no moment's.
+fn is_none(text: &[u8]) -> bool {
+    Moment::parse(text).is_none()
+        && Moment::parse_in(MomentForm::Seconds, text).is_none()
+        && Moment::parse_in(MomentForm::Millis, text).is_none()
+}
+
 #[test]
 fn moments_have_two_spellings(rt: HostRuntime) -> Result<(), Fail> {
     let (short, long) = (b"2024-05-01T12:00:00Z", b"2024-05-01T12:00:00.000Z");
+    let (seconds, millis) = (MomentForm::Seconds, MomentForm::Millis);
     let moment = Moment::from_millis(NOON).ok_or("a moment")?;
-    assert!(rt; Moment::parse(short) == Some(moment.copy()));
-    assert!(rt; Moment::parse(long) == Some(moment.copy()));
-    assert!(rt; Moment::parse_in(MomentForm::Seconds, short) == Some(moment.copy()));
-    assert!(rt; Moment::parse_in(MomentForm::Millis, long) == Some(moment.copy()));
-    assert!(rt; Moment::parse_in(MomentForm::Seconds, long).is_none());
-    assert!(rt; Moment::parse_in(MomentForm::Millis, short).is_none());
+    assert!(rt; is_in_form(short, seconds, millis, &moment));
+    assert!(rt; is_in_form(long, millis, seconds, &moment));
     for text in NO_MOMENTS {
-        assert!(rt; Moment::parse(text).is_none());
-        assert!(rt; Moment::parse_in(MomentForm::Seconds, text).is_none());
-        assert!(rt; Moment::parse_in(MomentForm::Millis, text).is_none());
+        assert!(rt; is_none(text));
     }
     Ok(())
 }

@@ -71,6 +71,13 @@ fn gone<R: Read, W: Write>(
     }
 }
 
+/// Whether a run goes well, and writes this text in one try a call.
+fn writes<R: Read>(alloc: Global, run: Run, r: &mut Counted<R>, text: &[u8]) -> bool {
+    let mut w = Counted::new(Vec::new(alloc));
+    let is_ok = gone(alloc, run, r, &mut w).is_ok();
+    is_ok && w.failures() == 0 && w.into_inner().as_slice() == text
+}
+
 // Neither device fails.
 #[test]
 fn readers_give_few_bytes(rt: HostRuntime) {
@@ -81,11 +88,8 @@ fn readers_give_few_bytes(rt: HostRuntime) {
                 most,
                 good: usize::MAX,
             });
-            let mut w = Counted::new(Vec::new(rt.alloc()));
-            assert!(rt; gone(rt.alloc(), run, &mut r, &mut w).is_ok(), "{most}");
+            assert!(rt; writes(rt.alloc(), run, &mut r, text), "{most}");
             assert_eq!(rt; r.failures(), 0);
-            assert_eq!(rt; w.failures(), 0);
-            assert_eq!(rt; w.into_inner().as_slice(), text, "{most}");
         }
     }
 }
@@ -100,9 +104,7 @@ fn interrupted_reads_are_tried_again(rt: HostRuntime) {
             left: 999,
             stuck: usize::MAX,
         });
-        let mut w = Counted::new(Vec::new(rt.alloc()));
-        assert!(rt; gone(rt.alloc(), run, &mut r, &mut w).is_ok());
-        assert_eq!(rt; w.into_inner().as_slice(), text);
+        assert!(rt; writes(rt.alloc(), run, &mut r, text));
     }
 }
 
@@ -167,45 +169,62 @@ fn a_thousand_interrupted_writes_fail(rt: HostRuntime) {
     }
 }
 
-// What is written before is a prefix of what would be.
+/// The answer of a run over a reader that fails after so many bytes, once, where what is written is
+/// a prefix of what would be.
+fn failed_read(
+    alloc: Global,
+    run: Run,
+    input: &[u8],
+    good: usize,
+    text: &[u8],
+) -> Option<RunFault> {
+    let mut r = Counted::new(Failing {
+        bytes: input,
+        most: 64,
+        good,
+    });
+    let mut w = Counted::new(Vec::new(alloc));
+    let fault = gone(alloc, run, &mut r, &mut w).err()?;
+    let is_prefix = text.starts_with(w.into_inner().as_slice());
+    (r.failures() == 1 && is_prefix).then_some(fault)
+}
+
 #[test]
 fn readers_fail_at_each_byte(rt: HostRuntime) -> Result<(), Fail> {
     for (run, input, text) in RUNS {
         for good in 0..input.len() {
-            let mut r = Counted::new(Failing {
-                bytes: input,
-                most: 64,
-                good,
-            });
-            let mut w = Counted::new(Vec::new(rt.alloc()));
-            let Err(fault) = gone(rt.alloc(), run, &mut r, &mut w) else {
-                return Err("a fault".into());
-            };
+            let fault = failed_read(rt.alloc(), run, input, good, text).ok_or("a fault")?;
             assert_eq!(rt; status_of(&fault), 1);
             let line = match run {
                 Run::Capture => 0,
                 _ => line_after(input, good),
             };
             assert!(rt; is_read_fault(&Err(fault), line), "{good}");
-            assert_eq!(rt; r.failures(), 1);
-            assert!(rt; text.starts_with(w.into_inner().as_slice()));
         }
     }
     Ok(())
+}
+
+/// Whether a run over a writer that has room for so many bytes fails once, after these are written.
+fn is_cut(alloc: Global, run: Run, input: &[u8], room: usize, text: &[u8]) -> bool {
+    let mut w = Counted::new(Tight {
+        bytes: Vec::new(alloc),
+        room,
+    });
+    let run = gone(alloc, run, &mut Counted::new(input), &mut w);
+    matches!(&run, Err(RunFault::Write))
+        && w.failures() == 1
+        && w.into_inner().bytes.as_slice() == text
 }
 
 #[test]
 fn writers_fail_at_each_byte(rt: HostRuntime) {
     for (run, input, text) in RUNS {
         for room in 0..text.len() {
-            let mut w = Counted::new(Tight {
-                bytes: Vec::new(rt.alloc()),
-                room,
-            });
-            let run = gone(rt.alloc(), run, &mut Counted::new(input), &mut w);
-            assert!(rt; matches!(&run, Err(RunFault::Write)));
-            assert_eq!(rt; w.failures(), 1);
-            assert_eq!(rt; w.into_inner().bytes.as_slice(), &text[..room]);
+            assert!(rt;
+                is_cut(rt.alloc(), run, input, room, &text[..room]),
+                "{room}"
+            );
         }
     }
 }

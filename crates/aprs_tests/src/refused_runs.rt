@@ -1,10 +1,10 @@
 //! Memory that is refused in the midst of a run.
 
 use crate::runs::FRAME;
-use crate::shown::{is_shown, shown};
+use crate::shown::{is_shown, is_written_as, shown};
 use crate::vectors::{LOG, MERGED_TEXT, ONE_LINE, THREE_LINES, WRITTEN_LINE};
 use aprs_book::Gap;
-use aprs_booktext::{BookCause, write_book};
+use aprs_booktext::BookCause;
 use aprs_kiss::Counted;
 use aprs_log::{MAX_INPUT, Moment, Receiver};
 use aprs_tool::{
@@ -41,60 +41,103 @@ fn is_memory(fault: &InputFault, is_book: bool) -> bool {
     }
 }
 
+/// Whether an input is refused for memory with so many units of room. Else its book is written as
+/// `MERGED_TEXT`.
+fn is_input_refused(
+    alloc: Global,
+    units: usize,
+    input: &[u8],
+    is_book: bool,
+) -> Result<bool, Fail> {
+    let bump = arena(alloc, units)?;
+    match read_input(&bump, MAX_INPUT, Gap::STANDARD, &mut Counted::new(input)) {
+        Ok(book) if is_written_as(alloc, &book, MERGED_TEXT) => Ok(false),
+        Ok(_) => Err("another book".into()),
+        Err(fault) if is_memory(&fault, is_book) => Ok(true),
+        Err(_) => Err("another fault".into()),
+    }
+}
+
 #[test]
 fn inputs_are_refused_for_memory(rt: HostRuntime) -> Result<(), Fail> {
-    let alloc = rt.alloc();
-    for (text, is_book) in [(THREE_LINES, false), (MERGED_TEXT, true)] {
-        let mut refused = 0u64;
-        let mut granted = 0u64;
+    for (input, is_book) in [(THREE_LINES, false), (MERGED_TEXT, true)] {
+        let mut refused = 0usize;
         for units in 0..1024usize {
-            let bump = arena(alloc, units)?;
-            match read_input(&bump, MAX_INPUT, Gap::STANDARD, &mut Counted::new(text)) {
-                Ok(book) => {
-                    let mut out = Counted::new(Vec::new(alloc));
-                    assert!(rt; write_book(&mut out, &book).is_ok());
-                    assert_eq!(rt; out.into_inner().as_slice(), MERGED_TEXT);
-                    granted = granted.saturating_add(1);
-                }
-                Err(fault) => {
-                    assert!(rt; is_memory(&fault, is_book));
-                    refused = refused.saturating_add(1);
-                }
+            if is_input_refused(rt.alloc(), units, input, is_book)? {
+                refused = refused.saturating_add(1);
             }
         }
-        assert!(rt; refused > 0 && granted > 0);
+        assert!(rt; refused > 0 && refused < 1024);
     }
     Ok(())
+}
+
+/// What an input of a desk was refused memory for.
+#[derive(Clone, Copy, PartialEq, Eq)]
+enum Refused {
+    Nothing,
+    Input,
+    Merge,
+}
+
+/// What memory was refused for, where nothing else is wrong.
+fn refused_for(taken: &Result<(), InputFault>, is_book: bool) -> Result<Refused, Fail> {
+    match taken {
+        Ok(()) => Ok(Refused::Nothing),
+        Err(InputFault::Memory) if is_book => Ok(Refused::Merge),
+        Err(fault) if is_memory(fault, is_book) => Ok(Refused::Input),
+        Err(_) => Err("another fault".into()),
+    }
+}
+
+/// Takes an input, and where memory is refused takes it again with room. Before that the book has
+/// to be as it was.
+fn take_again<'a>(
+    alloc: Global,
+    bump: &'a Bump,
+    desk: &mut Desk<&'a Bump>,
+    input: &[u8],
+    is_book: bool,
+) -> Result<Refused, Fail> {
+    let before = shown(alloc, desk.book()).ok_or("memory")?;
+    let taken = desk.take_input(&mut Counted::new(input));
+    let refused = refused_for(&taken, is_book)?;
+    if refused == Refused::Nothing {
+        return Ok(refused);
+    }
+    if !is_shown(alloc, desk.book(), before.as_str()) {
+        return Err("other rows".into());
+    }
+    bump.set_allocation_limit(None);
+    match desk.take_input(&mut Counted::new(input)) {
+        Ok(()) => Ok(refused),
+        Err(_) => Err("a fault".into()),
+    }
+}
+
+/// What is refused of a log and of its book, which a desk takes with so many units of room.
+fn refused_at_desk(alloc: Global, units: usize) -> Result<[Refused; 2], Fail> {
+    let bump = arena(alloc, units)?;
+    let mut desk = Desk::new(&bump, MAX_INPUT);
+    let log = take_again(alloc, &bump, &mut desk, THREE_LINES, false)?;
+    let book = take_again(alloc, &bump, &mut desk, MERGED_TEXT, true)?;
+    if !is_written_as(alloc, &desk.into_book(), MERGED_TEXT) {
+        return Err("another book".into());
+    }
+    Ok([log, book])
 }
 
 // With room again the input is taken.
 #[test]
 fn a_desk_is_as_before_where_memory_is_refused(rt: HostRuntime) -> Result<(), Fail> {
-    let alloc = rt.alloc();
-    let mut refused = [0u64; 2];
-    let mut merges = 0u64;
+    let (mut logs, mut books, mut merges) = (false, false, false);
     for units in 0..1024usize {
-        let bump = arena(alloc, units)?;
-        let mut desk = Desk::new(&bump, MAX_INPUT);
-        for (i, text) in [THREE_LINES, MERGED_TEXT].iter().enumerate() {
-            let before = shown(alloc, desk.book()).ok_or("memory")?;
-            if let Err(fault) = desk.take_input(&mut Counted::new(*text)) {
-                assert!(rt; is_shown(alloc, desk.book(), before.as_str()));
-                if i == 1 && matches!(&fault, InputFault::Memory) {
-                    merges = merges.saturating_add(1);
-                } else {
-                    assert!(rt; is_memory(&fault, i == 1));
-                    refused[i] = refused[i].saturating_add(1);
-                }
-                bump.set_allocation_limit(None);
-                assert!(rt; desk.take_input(&mut Counted::new(*text)).is_ok());
-            }
-        }
-        let mut out = Counted::new(Vec::new(alloc));
-        assert!(rt; write_book(&mut out, &desk.into_book()).is_ok());
-        assert_eq!(rt; out.into_inner().as_slice(), MERGED_TEXT);
+        let [log, book] = refused_at_desk(rt.alloc(), units)?;
+        logs |= log == Refused::Input;
+        books |= book == Refused::Input;
+        merges |= book == Refused::Merge;
     }
-    assert!(rt; refused[0] > 0 && refused[1] > 0 && merges > 0);
+    assert!(rt; logs && books && merges);
     Ok(())
 }
 
@@ -150,6 +193,27 @@ fn gathered(alloc: Global, bump: &Bump, gathering: Gathering) -> (Vec<u8>, Resul
     (out.into_inner(), run)
 }
 
+/// How far a run comes with so many units of room. It writes all only where it comes to its end, and
+/// else ends with the status of want of memory.
+fn stage_with(
+    alloc: Global,
+    units: usize,
+    gathering: Gathering,
+    whole: &[u8],
+) -> Result<Stage, Fail> {
+    let bump = arena(alloc, units)?;
+    let (written, run) = gathered(alloc, &bump, gathering);
+    let stage = stage_of(&run).ok_or("another fault")?;
+    let is_right = match run {
+        Ok(()) => written.as_slice() == whole,
+        Err(fault) => written.is_empty() && status_of(&fault) == 4,
+    };
+    if !is_right {
+        return Err("another output or status".into());
+    }
+    Ok(stage)
+}
+
 #[test]
 fn runs_write_nothing_where_memory_is_refused(rt: HostRuntime) -> Result<(), Fail> {
     let alloc = rt.alloc();
@@ -167,16 +231,9 @@ fn runs_write_nothing_where_memory_is_refused(rt: HostRuntime) -> Result<(), Fai
     ] {
         let mut seen = Vec::new(alloc);
         for units in 0..1024usize {
-            let bump = arena(alloc, units)?;
-            let (written, run) = gathered(alloc, &bump, gathering);
-            let stage = stage_of(&run).ok_or("another fault")?;
+            let stage = stage_with(alloc, units, gathering, whole)?;
             if seen.last() != Some(&stage) {
                 seen.push(stage)?;
-            }
-            let want = if run.is_ok() { whole } else { b"".as_slice() };
-            assert_eq!(rt; written.as_slice(), want);
-            if let Err(fault) = run {
-                assert_eq!(rt; status_of(&fault), 4);
             }
         }
         assert!(rt; seen.as_slice() == stages);

@@ -1,6 +1,8 @@
-//! A book as a line of text.
+//! A book as a line of text, and as its text.
 
 use aprs_book::{Book, Row};
+use aprs_booktext::write_book;
+use aprs_kiss::Counted;
 use aprs_log::Receiver;
 use std::alloc::{Allocator, Global};
 use std::fmt::Write;
@@ -40,4 +42,10 @@ pub fn shown<A: Allocator + Copy>(alloc: Global, book: &Book<A>) -> Option<Strin
 /// Whether these are a book's rows.
 pub fn is_shown<A: Allocator + Copy>(alloc: Global, book: &Book<A>, rows: &str) -> bool {
     matches!(&shown(alloc, book), Some(text) if text.as_str() == rows)
+}
+
+/// Whether a book is written as this text.
+pub fn is_written_as<A: Allocator + Copy>(alloc: Global, book: &Book<A>, text: &[u8]) -> bool {
+    let mut out = Counted::new(Vec::new(alloc));
+    write_book(&mut out, book).is_ok() && out.into_inner().as_slice() == text
 }
