@@ -5,17 +5,21 @@ SHARE = $(DESTDIR)$(PREFIX)/share
 
 .PHONY: build libraries run try test words recipes cookbook bench hostile install
 
+# how many jobs a proof has: as many as there are processors, at most four, each with 3 GB of free memory
+JOBS ?= $(shell awk -v n=$$(nproc) '/MemAvailable/ { most = int($$2 / 3000000) } \
+    END { if (n > 4) n = 4; if (n > most) n = most; print (n < 1 ? 1 : n) }' /proc/meminfo)
+
 # the program alone, each call of it proved: crates that don't stand on each other side by side
 build:
-	@$(MAKE) --no-print-directory -j 3 libraries
-	cd crates/aprsbook && rt run -- check ../../examples/sample.log > /dev/null
+	@$(MAKE) --no-print-directory -j 3 libraries JOBS=$(JOBS)
+	cd crates/aprsbook && rt run --jobs $(JOBS) -- check ../../examples/sample.log > /dev/null
 
 LIBRARIES := $(shell sed -n '/_tests:/d; s/^\(aprs_[a-z0-9]*\):.*/\1/p' crates.txt)
 $(foreach it,$(LIBRARIES),$(eval $(it): $(filter $(LIBRARIES),$(shell sed -n 's/^$(it)://p' crates.txt))))
 .PHONY: $(LIBRARIES)
 libraries: $(LIBRARIES)
 $(LIBRARIES):
-	@build/prove.sh $@
+	@build/prove.sh $@ $(JOBS)
 
 # the sample log as a monitor prints it
 run: build

@@ -1,6 +1,6 @@
 #!/usr/bin/env bash
-# build/prove.sh CRATE: proves a library, once those below it are proved, beside others that don't stand
-# on it.
+# build/prove.sh CRATE JOBS: proves a library, once those below it are proved, beside others that don't
+# stand on it, with so many jobs.
 #
 # `rt` holds the folder of the crate that it proves and those of all crates below, so that two crates over
 # a third would wait for each other. So each is proved in a view of its own under out/: folders with links
@@ -9,6 +9,7 @@
 set -euo pipefail
 cd "$(dirname "$0")/.."
 crate=$1
+jobs=$2
 view=out/$crate
 
 # the crates of this repository below it; crates.txt has lower ones first
@@ -39,4 +40,4 @@ for it in $lower; do
     cp -rl "crates/$it/out/rlib" "$view/crates/$it/out/"
 done
 if [ -d "crates/$crate/out" ]; then mv "crates/$crate/out" "$view/crates/$crate/"; fi
-(cd "$view/crates/$crate" && rt lib) 2>&1 | sed -u "s/^/$crate: /"
+(cd "$view/crates/$crate" && rt lib --jobs "$jobs") 2>&1 | sed -u "s/^/$crate: /"
