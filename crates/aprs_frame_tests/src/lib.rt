@@ -1,4 +1,5 @@
-//! Worked examples of the crates below a book: devices, streams, frames and reports. Each is a test.
+//! Worked examples of the crates below a book: devices, streams, frames and reports. Each is a
+//! test.
 #![tactic(auto)]
 
 #[cfg(test)]

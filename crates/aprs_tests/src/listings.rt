@@ -28,20 +28,19 @@ fn log_of(alloc: Global, all: &[Sent]) -> Result<Vec<u8>, Fail> {
     Ok(w.into_inner())
 }
 
-/// What is listed of an input, if it goes well.
-pub fn listing(alloc: Global, input: &[u8]) -> Result<Vec<u8>, Fail> {
-    let mut inputs = [Counted::new(input)];
+/// What is listed of these inputs, if it goes well.
+pub fn listing_of(alloc: Global, inputs: &mut [Counted<&[u8]>]) -> Result<Vec<u8>, Fail> {
     let mut w = Counted::new(Vec::new(alloc));
-    match show_run(
-        alloc,
-        MAX_INPUT,
-        Gap::STANDARD,
-        inputs.as_mut_slice(),
-        &mut w,
-    ) {
+    match show_run(alloc, MAX_INPUT, Gap::STANDARD, inputs, &mut w) {
         Ok(()) => Ok(w.into_inner()),
         Err(_) => Err("a fault".into()),
     }
+}
+
+/// What is listed of an input, if it goes well.
+pub fn listing(alloc: Global, input: &[u8]) -> Result<Vec<u8>, Fail> {
+    let mut inputs = [Counted::new(input)];
+    listing_of(alloc, inputs.as_mut_slice())
 }
 
 /// Whether each log has the listing beside it.

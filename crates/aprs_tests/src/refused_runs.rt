@@ -193,8 +193,8 @@ fn gathered(alloc: Global, bump: &Bump, gathering: Gathering) -> (Vec<u8>, Resul
     (out.into_inner(), run)
 }
 
-/// How far a run comes with so many units of room. It writes all only where it comes to its end, and
-/// else ends with the status of want of memory.
+/// How far a run comes with so many units of room. It writes all only where it comes to its end,
+/// and else ends with the status of want of memory.
 fn stage_with(
     alloc: Global,
     units: usize,

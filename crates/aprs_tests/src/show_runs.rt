@@ -1,13 +1,12 @@
 //! Listings of several inputs, and their faults.
 
 use crate::devices::{Full, Tight};
-use crate::listings::listing;
+use crate::listings::{listing, listing_of};
 use crate::vectors::{DIRECT_TEXT, EMPTY_TEXT, FIRST_LINE, ONE_LINE};
 use aprs_book::Gap;
 use aprs_kiss::Counted;
 use aprs_log::MAX_INPUT;
 use aprs_tool::{InputFault, RunFault, show_run, status_of};
-use std::alloc::Global;
 use std::test::Fail;
 
 const HELLO_LISTING: &[u8] = b"station N0CALL-7 1\nstatus 2024-05-01T12:00:00.000Z RX1 -:Hi\n";
@@ -24,22 +23,6 @@ fn an_empty_log_or_book_lists_nothing(rt: HostRuntime) -> Result<(), Fail> {
     Ok(())
 }
 
-/// What is listed of two inputs, if it goes well.
-fn listing_of_two(alloc: Global, first: &[u8], second: &[u8]) -> Result<Vec<u8>, Fail> {
-    let mut inputs = [Counted::new(first), Counted::new(second)];
-    let mut w = Counted::new(Vec::new(alloc));
-    match show_run(
-        alloc,
-        MAX_INPUT,
-        Gap::STANDARD,
-        inputs.as_mut_slice(),
-        &mut w,
-    ) {
-        Ok(()) => Ok(w.into_inner()),
-        Err(_) => Err("a fault".into()),
-    }
-}
-
 // A log and the book of it have one listing, also together.
 #[test]
 fn a_book_is_listed_as_its_log(rt: HostRuntime) -> Result<(), Fail> {
@@ -48,7 +31,8 @@ fn a_book_is_listed_as_its_log(rt: HostRuntime) -> Result<(), Fail> {
         assert_eq!(rt; written.as_slice(), HELLO_LISTING);
     }
     for (first, second) in [(ONE_LINE, DIRECT_TEXT), (DIRECT_TEXT, ONE_LINE)] {
-        let written = listing_of_two(rt.alloc(), first, second)?;
+        let mut inputs = [Counted::new(first), Counted::new(second)];
+        let written = listing_of(rt.alloc(), inputs.as_mut_slice())?;
         assert_eq!(rt; written.as_slice(), HELLO_LISTING);
     }
     Ok(())

@@ -103,7 +103,8 @@ impl<A: Allocator + Copy> Gathered<A> {
     pub(crate) fn write<W: Write>(self, w: &mut Counted<W>) -> Result<(), Unwritten>
         ensures text { WritesText result self (W.contents (device_of w.old))
             (W.contents (device_of w.new)) }
-        ensures fault { result ≡ Err Unwritten.Write → Rose (failures_of w.old) (failures_of w.new) }
+        ensures fault { result ≡ Err Unwritten.Write
+            → Rose (failures_of w.old) (failures_of w.new) }
     {
         if self.book.len() > 0 || self.pile.is_empty() {
             let book = self.into_book()?;
@@ -120,8 +121,8 @@ fn write_pile<W: Write, A: Allocator + Copy>(
     pile: &Pile<A>,
 ) -> Result<(), Unwritten>
     requires { pile.now ≢ [] }
-    ensures text { (book : BookValue) → book.gap ≡ gap → Holds pile.now book → WritesText result book
-        (W.contents (device_of w.old)) (W.contents (device_of w.new)) }
+    ensures text { (book : BookValue) → book.gap ≡ gap → Holds pile.now book
+        → WritesText result book (W.contents (device_of w.old)) (W.contents (device_of w.new)) }
     ensures fault { result ≡ Err Unwritten.Write → Rose (failures_of w.old) (failures_of w.new) }
 {
     let sorted = pile.sorted()?;

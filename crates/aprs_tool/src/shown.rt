@@ -18,7 +18,8 @@ impl<A: Allocator + Copy> Gathered<A> {
     pub(crate) fn show<W: Write>(self, w: &mut Counted<W>) -> Result<(), Unwritten>
         ensures listing { ShowsBook result self (W.contents (device_of w.old))
             (W.contents (device_of w.new)) }
-        ensures fault { result ≡ Err Unwritten.Write → Rose (failures_of w.old) (failures_of w.new) }
+        ensures fault { result ≡ Err Unwritten.Write
+            → Rose (failures_of w.old) (failures_of w.new) }
     {
         if self.book.len() > 0 || self.pile.is_empty() {
             let book = self.into_book()?;
