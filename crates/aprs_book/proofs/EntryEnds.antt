@@ -11,14 +11,14 @@ use Rattle.aprs_log.specs.Reception.{Heard, bytes_cmp}
 use Rattle.aprs_laws.specs.Order.{IsUpTo}
 use Rattle.aprs_laws.specs.Key.{key_cmp}
 use Rattle.aprs_laws.specs.Row.{Row, row_key}
-use Rattle.aprs_laws.proofs.Orders.{bytes_total, key_total}
+use Rattle.aprs_laws.proofs.Orders.{bytes_total, key_total, bytes_exact}
 use Rattle.aprs_laws.specs.Inserted.{side, grown, bridged, inserted}
 use Rattle.aprs_laws.proofs.Pushes.{empty_or_last}
-use Rattle.aprs_book.proofs.Places.{by_order}
-use Rattle.aprs_book.proofs.Names.{same_bytes}
+use Rattle.aprs_keys.proofs.Cases.{by_order}
 use Rattle.aprs_book.proofs.Entries.{order, test, IsWritten, set_same, found_key, AreKeyed-set_value, AreKeyed-insert_entry}
-use Rattle.aprs_book.proofs.Heads.{head_less}
-use Rattle.aprs_book.specs.Keyed.{head_bytes, HaveHead, rows_of, AreKeyed, AreFilled, AreKept, EndsUpTo, IsEndOf}
+use Rattle.aprs_keys.proofs.Heads.{head_less}
+use Rattle.aprs_book.specs.Keyed.{HaveHead, rows_of, AreKeyed, AreFilled, AreKept, EndsUpTo, IsEndOf}
+use Rattle.aprs_keys.specs.KeyBytes.{head_bytes}
 
 bridged_some : (gap : ℕ) (x : Heard) (j : Row) (rows : List Row) → 0 < length (bridged gap x j rows)
 bridged_some gap x j [] = omega arith
@@ -225,7 +225,7 @@ module _ {K V : Type 0} (bytes : K → List ℕ) (rows : V → List Row) where
       by_order (bytes_cmp k (bytes e.0))
       (λ o. absurd (n.0 o))
       (λ o. absurd (n.1.0 (subst (λ (t : List ℕ). bytes_cmp t (bytes f.0) ≡ Less)
-      (sym (same_bytes k (bytes e.0) o))
+      (sym (bytes_exact k (bytes e.0) o))
       (sorted_head (order bytes rows) e.0 (keys_of (f ∷ es)) s).0)))
       (λ o. rw o (ap (λ t. rows e.1 ++ t)
       (push_found k (f ∷ es) old new x (sorted_tail (order bytes rows) e.0 (keys_of (f ∷ es)) s) n.1

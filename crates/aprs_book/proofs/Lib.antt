@@ -1,10 +1,5 @@
 -- Lemmas of the book.
-mod Letters
 mod KnownSteps
-mod KeyBytes
-mod Heads
-mod HeadOrder
-pub mod Digits
 mod SameCalls
 mod IndexSteps
 mod MergedKeys
@@ -12,7 +7,6 @@ mod Entries
 mod Searches
 mod EntryEnds
 mod MergedEntries
-pub mod Names
 pub mod Places
 pub mod Taking
 pub mod Pushes

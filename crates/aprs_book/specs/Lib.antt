@@ -1,7 +1,5 @@
 -- Definitions that contracts of the book cite.
 pub mod Keyed
-pub mod Head
-pub mod KeptNames
 pub mod Known
 pub mod Shown
 pub mod Places
@@ -38,6 +36,7 @@ pub use Rattle.aprs_laws.specs.Taken
 pub use Rattle.aprs_laws.specs.Best
 pub use Rattle.aprs_laws.specs.BestLaws
 pub use Rattle.aprs_laws.specs.Spans
+pub use Rattle.aprs_keys.specs.KeyBytes
 pub use Rattle.aprs_ax25.specs.CallText
 pub use Rattle.aprs_report.specs.Reading
 pub use Rattle.aprs_report.specs.Reader

@@ -2,13 +2,14 @@
 ghost use Rattle.std.specs.Prelude.{◌≡◌, ℕ, List, [], Some, IsOk, IfOk, OnOk, OnErr, if◌then◌else◌};
 ghost use Rattle.std.specs.Option.{option_copied};
 ghost use Rattle.aprs_laws.specs.Best.{greater_known};
-ghost use Rattle.aprs_book.specs.Known.{Topic, FourIndexes, index_of, known_at, known_both, call_bytes, is_reported, reported_at, SameKnown, HaveEntries, positions, statuses, objects, items};
+ghost use Rattle.aprs_book.specs.Known.{Topic, FourIndexes, index_of, known_at, known_both, is_reported, reported_at, SameKnown, HaveEntries, positions, statuses, objects, items};
+ghost use Rattle.aprs_keys.specs.KeyBytes.{call_bytes};
 
 use crate::Memory;
-use crate::key_bytes::call_bytes;
 use crate::known::Known;
 use crate::reported::Reported;
 use aprs_ax25::Callsign;
+use aprs_keys::call_bytes;
 use aprs_log::Reception;
 use std::alloc::{Allocator, Global};
 use std::marker::Model;

@@ -9,16 +9,15 @@ ghost use Rattle.aprs_laws.specs.Order.{IsBelow};
 ghost use Rattle.aprs_laws.specs.Inserted.{inserted, fits_in_place};
 ghost use Rattle.aprs_laws.specs.Sound.{Sound};
 
-use crate::head::Head;
 use crate::kept_row::KeptRow;
-use crate::key_bytes::head_bytes;
 use crate::merging_keys::{put_joined, put_merged};
 use crate::millis::Millis;
 use crate::place::put;
 use crate::push::first_cause;
-use crate::room::make_room;
 use crate::walk::Walk;
 use crate::{Memory, RowCause, RowParts};
+use aprs_joins::make_room;
+use aprs_keys::{Head, head_bytes};
 use aprs_log::Reception;
 use std::alloc::{Allocator, Global};
 use std::cmp::Ordering;

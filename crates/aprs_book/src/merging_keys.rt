@@ -4,10 +4,10 @@ ghost use Rattle.aprs_laws.specs.JoinRow.{interleave, coalesced};
 ghost use Rattle.aprs_book.specs.Keyed.{PutsRows};
 
 use crate::Memory;
-use crate::head::Head;
 use crate::kept_row::KeptRow;
 use crate::merging::{joined_rows, merged_rows};
 use crate::millis::Millis;
+use aprs_keys::Head;
 use std::alloc::Allocator;
 use std::collections::BTreeMap;
 

@@ -1,10 +1,11 @@
 //! What a frame reports on.
 ghost use Rattle.std.specs.Prelude.{◌≡◌};
 ghost use Rattle.aprs_laws.specs.Key.{key_of};
-ghost use Rattle.aprs_book.specs.Known.{Topic, call_bytes, reported_at, reported_in};
+ghost use Rattle.aprs_book.specs.Known.{Topic, reported_at, reported_in};
+ghost use Rattle.aprs_keys.specs.KeyBytes.{call_bytes};
 
-use crate::key_bytes::call_bytes;
 use aprs_ax25::Frame;
+use aprs_keys::call_bytes;
 use aprs_report::Report;
 use arrayvec::ArrayVec;
 

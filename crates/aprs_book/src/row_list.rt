@@ -6,16 +6,16 @@ ghost use Rattle.aprs_book.specs.Messages.{ReportsMessages};
 ghost use Rattle.aprs_book.specs.Names.{ReportsNamed};
 ghost use Rattle.aprs_book.specs.Stations.{ReportsStations};
 
-use crate::head::Head;
 use crate::indexes::Indexes;
 use crate::kept_row::KeptRow;
 use crate::message::messages_of;
 use crate::named::objects_of;
 use crate::reported::Reported;
-use crate::room::make_room;
 use crate::station::stations_of;
 use crate::walk::Walk;
 use crate::{Gap, Memory, MessageRow, Named, Receivers, Station};
+use aprs_joins::make_room;
+use aprs_keys::Head;
 use aprs_log::{Moment, Reception};
 use std::alloc::{Allocator, Global};
 use std::collections::BTreeMap;

@@ -3,8 +3,8 @@ ghost use Rattle.std.specs.Prelude.{◌≡◌, ◌++◌, List};
 ghost use Rattle.std.specs.List.{flat_map};
 ghost use Rattle.std.specs.Iterator.{YieldsFirstRef, item_count};
 
-use crate::head::Head;
 use crate::kept_row::KeptRow;
+use aprs_keys::Head;
 use std::alloc::{Allocator, Global};
 use std::collections::btree_map::Values;
 use std::marker::Model;

@@ -1,8 +1,8 @@
 use Rattle.std.proofs.Common.{◌∙◌, refl, arith}
-use Rattle.aprs_book.proofs.Names.{same_bytes}
 use Rattle.aprs_book.proofs.MergedEntries.{first_goes, second_goes, both_go, above_none, above_some, turned, held_length, held_some, ends, starts}
 use Rattle.std.proofs.Common.{sym}
 use Rattle.aprs_book.proofs.keyed.KeyedRows.merged.Goals as goal
+use Rattle.aprs_laws.proofs.Orders.{bytes_exact}
 
 pub loop-our-init : goal.loop-our-init
 loop-our-init g c =
@@ -80,7 +80,7 @@ loop-our-preserved-in-Equal g c =
     refl c.as_slice-x.ensures.value c.as_slice-y.ensures.value
     c.in_ok-put_merged-in-Equal.ensures c.in-Some-Some.is-0 c.in-Some-Some.is-1
     c.loop-our.invariant
-    (same_bytes c.in-Some-Some.head.now c.in-Some-Some.other_head.now
+    (bytes_exact c.in-Some-Some.head.now c.in-Some-Some.other_head.now
     (sym c.cmp.ensures ∙ c.in-Equal.is))
     c.next-our-in-Equal.ensures.steps c.next-their-in-Equal.ensures.steps
 

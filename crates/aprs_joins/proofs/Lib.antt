@@ -1,0 +1,2 @@
+-- Lemmas of joining.
+mod Names

@@ -1,0 +1,84 @@
+//! The greatest reception.
+ghost use Rattle.std.specs.Prelude.{◌≡◌, IsOk, IfOk};
+ghost use Rattle.aprs_laws.specs.JoinRow.{greater};
+ghost use Rattle.aprs_laws.specs.Joining.{AreAny, IsAny, IsGreaterOf};
+ghost use Rattle.aprs_laws.proofs.Joins.{greatest_laws};
+
+use crate::{Join, Memory};
+use aprs_log::Reception;
+use std::marker::Model;
+
+/// The greatest of some receptions: the last, of several at one moment that of the greatest
+/// receiver, and of several of that receiver's the one with the greatest frame.
+#[derive(Drop)]
+pub struct Greatest {
+    heard: Reception,
+}
+
+impl Model for Greatest {
+    ghost use Rattle.aprs_log.specs.Reception.{Heard};
+
+    ghost Value = { Heard };
+
+    ghost view = { λ g. g.heard };
+}
+
+impl Greatest {
+    /// The greatest of one reception. Takes no memory.
+    pub fn new(x: &Reception) -> Greatest
+        ensures { result ≡ x.now }
+    {
+        Greatest { heard: copied(x) }
+    }
+
+    /// The reception. Takes no memory.
+    pub fn get(&self) -> &Reception
+        ensures { result.now ≡ self.now }
+    {
+        &self.heard
+    }
+}
+
+impl Join for Greatest {
+    ghost valid = { IsAny };
+
+    ghost alike = { AreAny };
+
+    ghost joined = { IsGreaterOf };
+
+    ghost laws = { greatest_laws };
+
+    fn fits(&self, _other: &Greatest) -> bool {
+        true
+    }
+
+    /// The greater of both. Takes no memory.
+    fn join(&self, other: &Greatest) -> Result<Greatest, Memory>
+        ensures valid_self { IsAny self.now }
+        ensures valid_other { IsAny other.now }
+        ensures joined { IfOk result (IsGreaterOf self.now other.now) }
+        ensures valid_result { IfOk result IsAny }
+        ensures always { IsOk result }
+    {
+        let mut heard = copied(&self.heard);
+        keep_greater(&mut heard, &other.heard);
+        Ok(Greatest { heard })
+    }
+}
+
+/// The same reception again. Takes no memory.
+pub fn copied(x: &Reception) -> Reception
+    ensures { result ≡ x.now }
+{
+    Reception::new(x.moment(), x.receiver().copy(), x.frame().copy())
+}
+
+/// Makes it the greater of both, as [`Greatest`] orders them. Takes no memory.
+pub fn keep_greater(greatest: &mut Reception, x: &Reception)
+    ensures { greatest.new ≡ greater greatest.old x.now }
+{
+    let current: &Reception = greatest;
+    if current.cmp(x).is_lt() {
+        *greatest = copied(x);
+    }
+}
