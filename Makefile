@@ -9,6 +9,9 @@ SHARE = $(DESTDIR)$(PREFIX)/share
 JOBS ?= $(shell awk -v n=$$(nproc) '/MemAvailable/ { most = int($$2 / 3000000) } \
     END { if (n > 4) n = 4; if (n > most) n = most; print (n < 1 ? 1 : n) }' /proc/meminfo)
 
+# what is proved beside the book and what leads to it, which take longer: one job each
+BESIDE = aprs_report aprs_convert aprs_command
+
 # the program alone, each call of it proved: crates that don't stand on each other side by side
 build:
 	@$(MAKE) --no-print-directory -j 3 libraries JOBS=$(JOBS)
@@ -19,7 +22,7 @@ $(foreach it,$(LIBRARIES),$(eval $(it): $(filter $(LIBRARIES),$(shell sed -n 's/
 .PHONY: $(LIBRARIES)
 libraries: $(LIBRARIES)
 $(LIBRARIES):
-	@build/prove.sh $@ $(JOBS)
+	@build/prove.sh $@ $(if $(filter $@,$(BESIDE)),1,$(JOBS))
 
 # the sample log as a monitor prints it
 run: build
