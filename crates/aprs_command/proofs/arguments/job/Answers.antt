@@ -78,3 +78,9 @@ returns-in-Err-try_get_matches_from-clause-judged c =
       refused (program_app built.0) arguments error c.clap_fault.result kinds
           c.clap_fault.ensures,
     )
+
+pub returns-clause-asked : goal.returns-clause-asked
+returns-clause-asked c = (c.in-Ok.ensures.0, c.in-Ok.ensures.1, tt)
+
+pub returns-clause-judged : goal.returns-clause-judged
+returns-clause-judged c = (c.in-Ok.ensures.0, c.in-Ok.ensures.1, tt)
