@@ -1,4 +1,5 @@
-//! What joins: the greatest of some receptions, the names of some receivers, and the law of joining.
+//! What joins: the greatest of some receptions, names of receivers, and the law of joining. With
+//! them the one refusal of memory, and room for one more in a vector.
 #![tactic(auto)]
 
 mod greatest;
