@@ -41,11 +41,11 @@ sed -n 's/.*PossibleValue::new("\([a-z]*\)").*/\1/p' $words > "$scratch/program/
 } > "$scratch/program/options"
 sed '/^-.$/d' "$scratch/program/options" > "$scratch/program/long_options"
 arms aprs_report/src/report.rt 'impl<' > "$scratch/program/kinds"
-sed -n 's/.*put_[a-z_]*(w, held, b"\([a-z]*\)".*/\1/p' aprs_tool/src/listing.rt \
-    aprs_tool/src/heard_line.rt > "$scratch/program/listed"
+sed -n 's/.*put_[a-z_]*(w, held, b"\([a-z]*\)".*/\1/p' aprs_listing/src/views.rt \
+    aprs_listing/src/heard_line.rt > "$scratch/program/listed"
 sed -n 's/.*if live { b"\([a-z]*\)" } else { b"\([a-z]*\)" }.*/\1 \2/p' \
-    aprs_tool/src/heard_line.rt | tr ' ' '\n' > "$scratch/program/object_states"
-arms aprs_tool/src/listing.rt 'fn state_text' > "$scratch/program/message_states"
+    aprs_listing/src/heard_line.rt | tr ' ' '\n' > "$scratch/program/object_states"
+arms aprs_listing/src/views.rt 'fn state_text' > "$scratch/program/message_states"
 arms aprs_log/src/fault.rt 'impl Reason {' > "$scratch/program/reasons"
 # a failed allocation is reported by a message of its own
 arms aprs_log/src/fault.rt 'impl LogCause {' | sed '/^Memory$/d' > "$scratch/program/log_causes"

@@ -8,6 +8,6 @@ pub mod Inputs
 pub mod OneFault
 pub mod OneText
 pub mod RowReading
-pub mod Sending
+pub mod TextParts
 pub mod Written
 pub mod Versions

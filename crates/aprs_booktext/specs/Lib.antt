@@ -2,7 +2,7 @@ pub mod Fault
 pub mod FirstFault
 pub mod Law
 pub mod Lines
-pub mod Outbox
+pub mod RowLines
 pub mod Reader
 pub mod RowFields
 pub mod Seconds

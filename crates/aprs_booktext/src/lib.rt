@@ -7,7 +7,6 @@ mod fault;
 mod fields;
 mod hexadecimal;
 mod laws;
-mod outbox;
 mod read;
 mod reader;
 mod row_line;
@@ -20,7 +19,6 @@ pub use laws::{
     book_texts_are_of_sets, each_book_has_one_text, each_text_has_one_fault_or_none,
     old_moments_are_told_to_the_second, read_books_are_written_back, written_books_are_read,
 };
-pub use outbox::{Outbox, flush, put};
 pub use read::read_book;
 pub use version::Version;
 pub use write::write_book;

@@ -10,14 +10,15 @@ ghost use Rattle.aprs_log.specs.Moment.{moment_text};
 ghost use Rattle.aprs_log.specs.Receiver.{IsName};
 ghost use Rattle.aprs_log.specs.declared.moment_form.MomentForm.TheVariants.{Millis};
 ghost use Rattle.aprs_kiss.specs.Device.{device_of, failures_of, Rose, AppendsPrefix};
-ghost use Rattle.aprs_booktext.specs.Outbox.{AreSpelled, Puts, line_and_lf};
+ghost use Rattle.aprs_outbox.specs.Outbox.{Puts};
+ghost use Rattle.aprs_booktext.specs.RowLines.{AreSpelled, line_and_lf};
 ghost use Rattle.aprs_booktext.specs.Text.{row_line, end_line, ended_by_lf, IsBookRow, IsBookRows, IsWritable, written_text, written_version};
 ghost use Rattle.aprs_booktext.specs.Version.{header_of};
 ghost use Rattle.aprs_booktext.specs.declared.version.Version.TheVariants.{Three};
 
 use crate::end_line::{END_LINE, end_line};
 use crate::hexadecimal::{MAX_DIGITS, MAX_FRAME};
-use crate::outbox::{Outbox, flush, put};
+use aprs_outbox::{Outbox, flush, put};
 use crate::version::{MAX_HEADER, Version};
 use aprs_book::{Book, Gap};
 use aprs_io::{encode_to, push_all};

@@ -2,10 +2,11 @@
 ghost use Rattle.std.specs.Prelude.{◌≤◌, ◌++◌, flat_map, OnOk, OnErr};
 ghost use Rattle.std.specs.Io.KnownBytes.{Appends};
 ghost use Rattle.aprs_kiss.specs.Device.{device_of, failures_of, Rose, AppendsPrefix};
-ghost use Rattle.aprs_booktext.specs.Outbox.{Puts, line_and_lf};
+ghost use Rattle.aprs_outbox.specs.Outbox.{Puts};
+ghost use Rattle.aprs_booktext.specs.RowLines.{line_and_lf};
 ghost use Rattle.aprs_booktext.specs.Text.{IsBookRows, written_text, written_version};
 
-use crate::outbox::{Outbox, flush, put};
+use aprs_outbox::{Outbox, flush, put};
 use crate::write::{end_line_and_lf, header_line, put_row};
 use aprs_kiss::{Counted, WriteFault};
 use aprs_pile::PiledRows;

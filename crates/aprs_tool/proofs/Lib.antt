@@ -2,7 +2,6 @@ pub mod RowsWith
 pub mod Inputs
 pub mod Into
 pub mod Logs
-pub mod Lines
 pub mod Shows
 pub mod Merges
 pub mod OneMerge

@@ -7,12 +7,11 @@ pub mod Desk
 pub mod Gathered
 pub mod Merge
 pub mod StandsFor
-pub mod Listing
-pub mod Lines
 pub mod Show
 pub mod ShownBook
 pub mod Widen
 -- what public clauses cite of lower crates
+pub use Rattle.aprs_listing.specs.Listing
 pub use Rattle.aprs_convert.specs.Shown
 pub use Rattle.aprs_convert.specs.Monitor
 pub use Rattle.aprs_convert.specs.Plan

@@ -3,14 +3,10 @@
 
 mod desk;
 mod fault;
-mod field;
 mod gathered;
 mod head;
-mod heard_line;
 mod input;
 mod laws;
-mod line;
-mod listing;
 mod merge;
 mod run;
 mod show;

@@ -5,9 +5,9 @@ ghost use Rattle.aprs_laws.specs.BookValue.{BookValue, Holds};
 ghost use Rattle.aprs_tool.specs.ShownBook.{ShowsBook};
 
 use crate::gathered::{Gathered, Unwritten};
-use crate::listing::Views;
 use aprs_book::{Book, Gap, Memory, RowList};
 use aprs_kiss::Counted;
+use aprs_listing::Views;
 use aprs_pile::Pile;
 use std::alloc::Allocator;
 use std::io::Write;

@@ -1,7 +1,8 @@
 use Rattle.std.specs.List.{flat_map}
 use Rattle.aprs_kiss.proofs.Bytes.{on_err}
-use Rattle.aprs_booktext.specs.Outbox.{line_and_lf}
-use Rattle.aprs_booktext.proofs.Sending.{Puts-then, prefix_of_first, prefix_of_part, Puts-last, prefix_of_last, text_parts, text_end}
+use Rattle.aprs_booktext.specs.RowLines.{line_and_lf}
+use Rattle.aprs_outbox.proofs.Sending.{Puts-then, prefix_of_first, prefix_of_part, Puts-last, prefix_of_last}
+use Rattle.aprs_booktext.proofs.TextParts.{text_parts, text_end}
 use Rattle.aprs_booktext.proofs.write.put_book.Goals as goal
 
 pub returns-in_err-put-clause-prefix : goal.returns-in_err-put-clause-prefix

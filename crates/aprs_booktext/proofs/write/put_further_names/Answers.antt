@@ -1,6 +1,6 @@
 use Rattle.std.proofs.Common.{◌∷◌, arith}
 use Rattle.aprs_kiss.proofs.Bytes.{on_err}
-use Rattle.aprs_booktext.proofs.Sending.{Puts-more, prefix_of_piece}
+use Rattle.aprs_outbox.proofs.Sending.{Puts-more, prefix_of_piece}
 use Rattle.aprs_booktext.proofs.Written.{names_more}
 use Rattle.aprs_booktext.proofs.write.put_further_names.Goals as goal
 

@@ -3,7 +3,7 @@ use Rattle.std.specs.Prelude.{All}
 use Rattle.std.specs.List.{flat_map}
 use Rattle.aprs_kiss.specs.Device.{device_of, failures_of}
 use Rattle.aprs_log.specs.Receiver.{IsName}
-use Rattle.aprs_booktext.specs.Outbox.{Puts}
+use Rattle.aprs_outbox.specs.Outbox.{Puts}
 use Rattle.aprs_booktext.proofs.write.put_further_names.Given as goal
 
 abbrev pub invariant-loop-name : goal.invariant-loop-name

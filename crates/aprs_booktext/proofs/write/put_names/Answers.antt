@@ -1,5 +1,6 @@
 use Rattle.aprs_kiss.proofs.Bytes.{on_err}
-use Rattle.aprs_booktext.proofs.Sending.{prefix_of_part, Puts-last, prefix_of_last, joined_first}
+use Rattle.aprs_outbox.proofs.Sending.{prefix_of_part, Puts-last, prefix_of_last}
+use Rattle.aprs_booktext.proofs.TextParts.{joined_first}
 use Rattle.aprs_booktext.proofs.write.put_names.Goals as goal
 
 pub returns-in_err-put-clause-prefix : goal.returns-in_err-put-clause-prefix

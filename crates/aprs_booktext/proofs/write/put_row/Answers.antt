@@ -1,7 +1,8 @@
 use Rattle.std.proofs.Common.{◌∙◌, refl, sym, append_assoc}
 use Rattle.std.specs.List.{join_with_byte}
 use Rattle.aprs_kiss.proofs.Bytes.{on_err}
-use Rattle.aprs_booktext.proofs.Sending.{Puts-then, prefix_of_first, prefix_of_part, Puts-last, prefix_of_last, row_parts}
+use Rattle.aprs_outbox.proofs.Sending.{Puts-then, prefix_of_first, prefix_of_part, Puts-last, prefix_of_last}
+use Rattle.aprs_booktext.proofs.TextParts.{row_parts}
 use Rattle.aprs_booktext.proofs.write.put_row.Goals as goal
 
 pub returns-in_err-put-clause-prefix : goal.returns-in_err-put-clause-prefix

@@ -1,7 +1,7 @@
 use Rattle.std.proofs.Common.{arith}
 use Rattle.aprs_kiss.proofs.Bytes.{on_err}
-use Rattle.aprs_booktext.specs.Outbox.{line_and_lf}
-use Rattle.aprs_booktext.proofs.Sending.{PutSoFar-none, PutSoFar-more, prefix_of_more}
+use Rattle.aprs_booktext.specs.RowLines.{line_and_lf}
+use Rattle.aprs_outbox.proofs.Sending.{PutSoFar-none, PutSoFar-more, prefix_of_more}
 use Rattle.aprs_booktext.proofs.Written.{WrittenSoFar-none, WrittenSoFar-more, WrittenSoFar-all}
 use Rattle.aprs_booktext.proofs.write.put_rows.Goals as goal
 

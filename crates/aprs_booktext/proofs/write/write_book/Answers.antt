@@ -1,5 +1,5 @@
 use Rattle.aprs_kiss.proofs.Bytes.{on_err}
-use Rattle.aprs_booktext.proofs.Sending.{Appends-last, prefix_of_held}
+use Rattle.aprs_outbox.proofs.Sending.{Appends-last, prefix_of_held}
 use Rattle.aprs_booktext.proofs.write.write_book.Goals as goal
 
 pub returns-in_err-put_book-clause-prefix : goal.returns-in_err-put_book-clause-prefix

@@ -1,8 +1,8 @@
 use Rattle.std.proofs.Common.{arith}
 use Rattle.std.proofs.lemmas.List.{drop_all}
 use Rattle.aprs_kiss.proofs.Bytes.{on_err}
-use Rattle.aprs_booktext.specs.Outbox.{line_and_lf}
-use Rattle.aprs_booktext.proofs.Sending.{rest_next, PutSoFar-none, PutSoFar-more, prefix_of_more, PutSoFar-all}
+use Rattle.aprs_booktext.specs.RowLines.{line_and_lf}
+use Rattle.aprs_outbox.proofs.Sending.{rest_next, PutSoFar-none, PutSoFar-more, prefix_of_more, PutSoFar-all}
 use Rattle.aprs_booktext.proofs.Written.{WrittenSoFar-none, WrittenSoFar-more, WrittenSoFar-all}
 use Rattle.aprs_booktext.proofs.write_pile.put_lines.Goals as goal
 

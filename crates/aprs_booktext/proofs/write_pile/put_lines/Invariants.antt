@@ -1,7 +1,7 @@
 use Rattle.std.proofs.Common.{◌≤◌, drop}
 use Rattle.aprs_kiss.specs.Device.{device_of, failures_of}
-use Rattle.aprs_booktext.specs.Outbox.{line_and_lf}
-use Rattle.aprs_booktext.proofs.Sending.{PutSoFar}
+use Rattle.aprs_booktext.specs.RowLines.{line_and_lf}
+use Rattle.aprs_outbox.proofs.Sending.{PutSoFar}
 use Rattle.aprs_booktext.proofs.Written.{WrittenSoFar}
 use Rattle.aprs_booktext.proofs.write_pile.put_lines.Given as goal
 

@@ -1,7 +1,6 @@
 use Rattle.std.proofs.Common.{refl}
 use Rattle.std.proofs.lemmas.Result.{err_from_is_err_and}
-use Rattle.aprs_tool.specs.Listing.{show_text}
-use Rattle.aprs_tool.specs.ShownBook.{IsShown, ShowsBook}
+use Rattle.aprs_tool.specs.ShownBook.{ShowsBook}
 use Rattle.aprs_tool.proofs.Shows.{shown_text}
 use Rattle.aprs_tool.proofs.shown.show_list.Goals as goal
 

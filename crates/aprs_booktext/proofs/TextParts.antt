@@ -1,0 +1,91 @@
+-- Lemmas on the parts of a book's text.
+use Rattle.std.proofs.Common.{◌≡◌, ℕ, List, [], ◌∷◌, ◌++◌, length, map, refl, sym, ap, ◌∙◌, append_assoc, append-nil}
+use Rattle.std.proofs.lemmas.List.Concat.{flat_map-append}
+use Rattle.std.specs.List.{flat_map, join_with_byte}
+use Rattle.std.specs.Prelude.{codes}
+use Rattle.hex.specs.Hex.{encode_lower}
+use Rattle.aprs_log.specs.Moment.{moment_text}
+use Rattle.aprs_log.specs.declared.moment_form.MomentForm.TheVariants.{Millis}
+use Rattle.aprs_laws.specs.BookValue.{BookValue}
+use Rattle.aprs_laws.specs.Row.{Row, last_of}
+use Rattle.aprs_booktext.specs.RowLines.{line_and_lf}
+use Rattle.aprs_booktext.specs.Text.{row_line, end_line, ended_by_lf, written_text}
+use Rattle.aprs_booktext.specs.Version.{header_of}
+use Rattle.aprs_booktext.specs.declared.version.Version.TheVariants.{Three}
+
+-- names with commas between are one, and then each after a comma
+joined_names : (x : List ℕ) (xs : List (List ℕ))
+    → join_with_byte 44 (x ∷ xs) ≡ x ++ flat_map (λ n. 44 ∷ n) xs
+joined_names x [] = sym (append-nil x)
+joined_names x (y ∷ ys) = ap (λ l. x ++ 44 ∷ l) (joined_names y ys)
+
+pub joined_first : (names : List (List ℕ)) (x bytes : List ℕ) (xs : List (List ℕ)) → names ≡ x ∷ xs
+    → bytes ≡ x → join_with_byte 44 names ≡ bytes ++ flat_map (λ n. 44 ∷ n) xs
+joined_first names x bytes xs e is = ap (join_with_byte 44) e ∙ joined_names x xs
+    ∙ ap (λ l. l ++ flat_map (λ n. 44 ∷ n) xs) (sym is)
+
+-- ---- the parts of a line
+
+space_between : (a b c : List ℕ) → (a ++ 32 ∷ b) ++ c ≡ a ++ 32 ∷ (b ++ c)
+space_between a b c = append_assoc a (32 ∷ b) c
+
+line_parts : (a b names who digits : List ℕ) → ended_by_lf
+    (84 ∷ 32 ∷ (a ++ 32 ∷ (b ++ 32 ∷ (names ++ 32 ∷ (who ++ 32 ∷ digits)))))
+    ≡ (84 ∷ 32 ∷ (a ++ 32 ∷ (b ++ 32 ∷ []))) ++ (names ++ 32 ∷ (who ++ 32 ∷ (digits ++ 10 ∷ [])))
+line_parts a b names who digits =
+    let last = 10 ∷ [] in
+    let tail = names ++ 32 ∷ (who ++ 32 ∷ (digits ++ last)) in
+    ap (λ t. 84 ∷ 32 ∷ t) (
+    space_between a (b ++ 32 ∷ (names ++ 32 ∷ (who ++ 32 ∷ digits))) last ∙ ap (λ t. a ++ 32 ∷ t) (
+    space_between b (names ++ 32 ∷ (who ++ 32 ∷ digits)) last ∙ ap (λ t. b ++ 32 ∷ t) (
+    space_between names (who ++ 32 ∷ digits) last
+    ∙ ap (λ t. names ++ 32 ∷ t) (space_between who digits last)
+    )
+    )
+    ∙ sym (space_between a (b ++ 32 ∷ []) tail ∙ ap (λ t. a ++ 32 ∷ t) (space_between b [] tail))
+    )
+
+pub row_parts : (row : Row) (head tail : List ℕ)
+    → head ≡ codes "T " ++ moment_text row.first ++ 32 ∷ moment_text (last_of row) ++ 32 ∷ []
+    → tail ≡ 32 ∷ row.greatest.receiver ++ 32 ∷ encode_lower row.greatest.frame ++ 10 ∷ []
+    → ended_by_lf (row_line Millis row) ≡ head ++ (join_with_byte 44 row.receivers ++ tail)
+row_parts row head tail h t =
+    let first = moment_text row.first in
+    let last = moment_text (last_of row) in
+    let names = join_with_byte 44 row.receivers in
+    let who = row.greatest.receiver in
+    let digits = encode_lower row.greatest.frame in
+    line_parts first last names who digits
+    ∙ ap (λ l. l ++ (names ++ 32 ∷ (who ++ 32 ∷ (digits ++ 10 ∷ []))))
+    (sym (h ∙ append_assoc (84 ∷ 32 ∷ first) (32 ∷ last) (32 ∷ [])))
+    ∙ ap (λ l. head ++ (names ++ l)) (sym (t ∙ append_assoc (32 ∷ who) (32 ∷ digits) (10 ∷ [])))
+
+-- ---- the parts of a text
+
+row_lines : (rows : List Row) → flat_map ended_by_lf (map (row_line Millis) rows)
+    ≡ flat_map line_and_lf rows
+row_lines [] = refl
+row_lines (x ∷ rows) = ap (λ l. line_and_lf x ++ l) (row_lines rows)
+
+pub text_parts : (book : BookValue) (gap : ℕ) (head : List ℕ) → gap ≡ book.gap
+    → head ≡ ended_by_lf (header_of (Three gap))
+    → written_text book ≡ head ++ (flat_map line_and_lf book.rows
+    ++ ended_by_lf (end_line (length book.rows)))
+text_parts book gap head g is = ap (λ l. ended_by_lf (header_of (Three book.gap)) ++ l) (
+    flat_map-append ended_by_lf (map (row_line Millis) book.rows) (end_line (length book.rows) ∷ [])
+    ∙ ap (λ l. l ++ flat_map ended_by_lf (end_line (length book.rows) ∷ [])) (row_lines book.rows)
+    ∙ ap (λ l. flat_map line_and_lf book.rows ++ l)
+    (append-nil (ended_by_lf (end_line (length book.rows))))
+    )
+    ∙ ap (λ l. l ++ (flat_map line_and_lf book.rows ++ ended_by_lf (end_line (length book.rows))))
+    (sym (is ∙ ap (λ n. ended_by_lf (header_of (Three n))) g))
+
+pub text_end : (book : BookValue) (gap : ℕ) (head : List ℕ) → gap ≡ book.gap
+    → head ≡ ended_by_lf (header_of (Three gap)) → (n : ℕ) (last : List ℕ) → n ≡ length book.rows
+    → last ≡ ended_by_lf (end_line n)
+    → written_text book ≡ (head ++ flat_map line_and_lf book.rows) ++ last
+text_end book gap head g h n last e is = text_parts book gap head g h
+    ∙ sym (append_assoc head (flat_map line_and_lf book.rows)
+    (ended_by_lf (end_line (length book.rows))))
+    ∙ ap (λ l. (head ++ flat_map line_and_lf book.rows) ++ l)
+    (ap (λ k. ended_by_lf (end_line k)) (sym e) ∙ sym is)

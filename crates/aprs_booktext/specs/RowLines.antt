@@ -1,0 +1,20 @@
+-- The lines of rows as they are written.
+use Rattle.std.specs.Prelude.{◌≡◌, ◌<◌, ◌≤◌, ℕ, List, Ok, length}
+use Rattle.hex.specs.Hex.{IsBytes}
+use Rattle.aprs_ax25.specs.FrameFault.{frame_of}
+use Rattle.aprs_log.specs.Receiver.{IsName}
+use Rattle.aprs_log.specs.declared.moment_form.MomentForm.TheVariants.{Millis}
+use Rattle.aprs_laws.specs.Row.{Row}
+use Rattle.aprs_booktext.specs.Text.{ended_by_lf, row_line}
+use Rattle.aprs_booktext.specs.declared.hexadecimal.TheConstants.{MAX_FRAME}
+
+-- A row's line can spell this receiver and this frame.
+pub record AreSpelled (who bytes : List ℕ) : Type 0 where
+  pub name_is : IsName who
+  pub bytes_are : IsBytes bytes
+  pub few : (0 < length bytes) × (length bytes ≤ MAX_FRAME)
+  pub frame_is : frame_of bytes ≡ Ok bytes
+
+-- a row's line as it is written, with its LF
+abbrev pub line_and_lf : Row → List ℕ
+line_and_lf x = ended_by_lf (row_line Millis x)

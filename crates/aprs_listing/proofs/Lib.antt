@@ -1,0 +1,2 @@
+-- Lemmas of what is put out line by line.
+mod Lines

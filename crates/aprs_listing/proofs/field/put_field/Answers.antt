@@ -1,0 +1,25 @@
+use Rattle.std.proofs.Common.{ap, sym, ◌∙◌}
+use Rattle.aprs_listing.specs.Lines.{field_text}
+use Rattle.aprs_listing.specs.declared.field.Field.{Field}
+use Rattle.aprs_listing.proofs.Lines.{PutsText-is}
+use Rattle.aprs_listing.proofs.field.put_field.Goals as goal
+
+pub returns-in-Call : goal.returns-in-Call
+returns-in-Call g c =
+    let p = c.put-in-Call.ensures in
+    PutsText-is {r = c.put-in-Call.result} {i = c.put-in-Call.new.held.items}
+    (record { sent = p.sent; prefix = p.prefix; count = p.count; fault = p.fault })
+    (c.as_slice.ensures.value ∙ c.text.ensures.text
+    ∙ sym (ap (λ (x : Field). field_text x) c.in-Call.is))
+
+pub returns-in-Degrees : goal.returns-in-Degrees
+returns-in-Degrees g c =
+    let p = c.put-in-Degrees.ensures in
+    PutsText-is {r = c.put-in-Degrees.result} {i = c.put-in-Degrees.new.held.items}
+    (record { sent = p.sent; prefix = p.prefix; count = p.count; fault = p.fault })
+    (c.as_slice-in-Degrees.ensures.value ∙ c.fraction_text.ensures
+    ∙ sym (ap (λ (x : Field). field_text x) c.in-Degrees.is))
+
+pub returns-in-Symbol : goal.returns-in-Symbol
+returns-in-Symbol g c = PutsText-is c.put_shown.ensures
+    (sym (ap (λ (x : Field). field_text x) c.in-Symbol.is))

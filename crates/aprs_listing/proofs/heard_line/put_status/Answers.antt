@@ -1,0 +1,13 @@
+use Rattle.std.proofs.Common.{ap}
+use Rattle.aprs_log.specs.Reception.{Heard}
+use Rattle.aprs_listing.proofs.Lines.{PutsText-is}
+use Rattle.aprs_listing.proofs.heard_line.put_status.Goals as goal
+
+pub returns : goal.returns
+returns g c =
+    PutsText-is c.put_text_line.ensures
+    (cc (
+      c.as_bytes.ensures.value,
+      ap (λ (h : Heard). h.moment) c.heard.view_is,
+      ap (λ (h : Heard). h.receiver) c.heard.view_is,
+    ))

@@ -1,0 +1,3 @@
+-- Definitions that contracts of the listing cite.
+pub mod Listing
+pub mod Lines

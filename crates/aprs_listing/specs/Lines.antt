@@ -1,0 +1,36 @@
+-- How lines of the listing go out. No public clause cites this module.
+use Rattle.std.specs.Prelude.{ℕ, ◌≤◌, List, ◌∷◌, ◌++◌, Option, Result, OnOk, OnErr}
+use Rattle.std.specs.Fmt.{decimal}
+use Rattle.aprs_ax25.specs.Callsign.{call_text}
+use Rattle.aprs_kiss.specs.Device.{AppendsPrefix, Rose}
+use Rattle.aprs_kiss.specs.declared.WriteFault.{WriteFault}
+use Rattle.aprs_log.specs.Moment.{moment_text}
+use Rattle.aprs_outbox.specs.Outbox.{Puts}
+use Rattle.aprs_listing.specs.Listing.{word, stamp_text, fraction_text, ambiguity_text, symbol_text}
+use Rattle.aprs_listing.specs.declared.field.Field.{Field}
+use Rattle.aprs_listing.specs.declared.field.Field.TheVariants as field
+
+-- At Ok the text stands after what was held, of which a prefix went out; at a fault a prefix of
+-- both went out, and the count of failed calls rose.
+pub record PutsText (r : Result (Unit {0}) WriteFault) (old new : Option (List ℕ))
+    (before after : ℕ) (held left text : List ℕ) : Type 0 where
+  pub sent : OnOk r (Puts old new held left text)
+  pub prefix : OnErr r (AppendsPrefix old new (held ++ text))
+  pub count : before ≤ after
+  pub fault : OnErr r (Rose before after)
+
+-- the text of a field
+abbrev pub field_text : Field → List ℕ
+field_text (field.Plain bytes) = bytes.now
+field_text (field.Word bytes) = word bytes.now
+field_text (field.Call call) = call_text call
+field_text (field.Count n) = decimal n
+field_text (field.Moment moment) = moment_text moment
+field_text (field.Stamp stamp) = stamp_text stamp
+field_text (field.Degrees fraction) = fraction_text fraction
+field_text (field.Ambiguity place) = ambiguity_text place
+field_text (field.Symbol symbol) = symbol_text symbol
+
+-- a space and the text of a field
+abbrev pub spaced_field : Field → List ℕ
+spaced_field x = 32 ∷ field_text x

@@ -1,0 +1,146 @@
+//! The fields of the listing's lines.
+ghost use Rattle.std.specs.Prelude.{◌≡◌};
+ghost use Rattle.aprs_kiss.specs.Device.{device_of, failures_of};
+ghost use Rattle.aprs_listing.specs.Lines.{PutsText, field_text};
+ghost use Rattle.aprs_listing.specs.Listing.{ambiguity_text, fraction_text, stamp_text, word, word_byte};
+ghost use Rattle.aprs_convert.specs.Shown.{shown};
+
+use aprs_ax25::Callsign;
+use aprs_outbox::{Outbox, put};
+use aprs_convert::{are_shown, shown_byte};
+use aprs_io::push_all;
+use aprs_kiss::{Counted, WriteFault};
+use aprs_log::Moment;
+use aprs_report::{Fraction, Place, Stamp, Symbol};
+use arrayvec::ArrayVec;
+use itoa::Buffer;
+use std::io::Write;
+
+/// What stands between two spaces of a line.
+#[derive(Drop)]
+pub enum Field<'a> {
+    /// Bytes that are put as they are.
+    Plain(&'a [u8]),
+    /// A name, in which a space is shown too.
+    Word(&'a [u8]),
+    Call(Callsign),
+    Count(u64),
+    Moment(Moment),
+    /// A time stamp, or `-` without one.
+    Stamp(Option<Stamp>),
+    Degrees(Fraction),
+    /// How many digits of a place are left out, or `c` for a compressed one.
+    Ambiguity(Place),
+    Symbol(Symbol),
+}
+
+/// Puts the field's text.
+pub fn put_field<W: Write>(
+    w: &mut Counted<W>,
+    held: &mut Outbox,
+    field: &Field<'_>,
+) -> Result<(), WriteFault>
+    ensures { PutsText result (W.contents (device_of w.old)) (W.contents (device_of w.new))
+        (failures_of w.old) (failures_of w.new) held.old.items held.new.items
+        (field_text field.now) }
+{
+    match field {
+        Field::Plain(bytes) => put(w, held, bytes),
+        Field::Word(bytes) => put_word(w, held, bytes),
+        Field::Call(call) => put(w, held, call.text().as_slice()),
+        Field::Count(n) => put(w, held, Buffer::new().format(*n).as_bytes()),
+        Field::Moment(moment) => put(w, held, &moment.text()),
+        Field::Stamp(stamp) => put(w, held, stamp_text(stamp).as_slice()),
+        Field::Degrees(fraction) => put(w, held, fraction_text(fraction).as_slice()),
+        Field::Ambiguity(place) => put(w, held, ambiguity_text(place).as_slice()),
+        Field::Symbol(symbol) => put_shown(w, held, &[symbol.table, symbol.code]),
+    }
+}
+
+/// The stamp's seven bytes, or `-`.
+fn stamp_text(stamp: &Option<Stamp>) -> ArrayVec<u8, 7>
+    ensures { result.items ≡ stamp_text stamp.now }
+{
+    let mut text = ArrayVec::new();
+    match stamp {
+        Some(stamp) => {
+            push_all(&mut text, &stamp.digits);
+            text.push(stamp.mark);
+        }
+        None => text.push(b'-'),
+    }
+    text
+}
+
+/// Numerator and denominator.
+fn fraction_text(fraction: &Fraction) -> ArrayVec<u8, 81>
+    ensures { result.items ≡ fraction_text fraction.now }
+{
+    let mut text = ArrayVec::new();
+    push_all(
+        &mut text,
+        Buffer::new().format(fraction.numerator).as_bytes(),
+    );
+    push_all(&mut text, b"/");
+    push_all(
+        &mut text,
+        Buffer::new().format(fraction.denominator).as_bytes(),
+    );
+    text
+}
+
+/// The number of digits that are left out, or `c`.
+fn ambiguity_text(place: &Place) -> ArrayVec<u8, 40>
+    ensures { result.items ≡ ambiguity_text place.now }
+{
+    let mut text = ArrayVec::new();
+    match place {
+        Place::Plain { ambiguity, .. } => {
+            push_all(&mut text, Buffer::new().format(*ambiguity).as_bytes());
+        }
+        Place::Base91 { .. } => text.push(b'c'),
+    }
+    text
+}
+
+/// Puts what the bytes are shown as.
+pub fn put_shown<W: Write>(
+    w: &mut Counted<W>,
+    held: &mut Outbox,
+    bytes: &[u8],
+) -> Result<(), WriteFault>
+    ensures { PutsText result (W.contents (device_of w.old)) (W.contents (device_of w.new))
+        (failures_of w.old) (failures_of w.new) held.old.items held.new.items (shown bytes.now) }
+{
+    if are_shown(bytes) {
+        return put(w, held, bytes);
+    }
+    for b in bytes {
+        put(w, held, shown_byte(*b).as_slice())?;
+    }
+    Ok(())
+}
+
+/// Puts a name, in which a space is shown too.
+fn put_word<W: Write>(w: &mut Counted<W>, held: &mut Outbox, bytes: &[u8]) -> Result<(), WriteFault>
+    ensures { PutsText result (W.contents (device_of w.old)) (W.contents (device_of w.new))
+        (failures_of w.old) (failures_of w.new) held.old.items held.new.items (word bytes.now) }
+{
+    for b in bytes {
+        put(w, held, word_byte(*b).as_slice())?;
+    }
+    Ok(())
+}
+
+/// What a byte of a name is shown as.
+fn word_byte(b: u8) -> ArrayVec<u8, 4>
+    ensures { result.items ≡ word_byte b }
+{
+    if b == b' ' {
+        let mut text = ArrayVec::new();
+        push_all(&mut text, b"\\x20");
+        text
+    } else {
+        shown_byte(b)
+    }
+}

@@ -1,0 +1,173 @@
+//! The line of what was heard last of something.
+ghost use Rattle.std.specs.Prelude.{◌≡◌, ◌++◌, ◌∷◌, [], codes, map};
+ghost use Rattle.aprs_kiss.specs.Device.{device_of, failures_of};
+ghost use Rattle.aprs_listing.specs.Lines.{PutsText, field_text};
+ghost use Rattle.aprs_listing.specs.Listing.{heard_fields, heard_line, live_text, name_fields, place_fields};
+ghost use Rattle.aprs_listing.specs.Listing.{stamp_text, text_line_of};
+
+use crate::field::Field;
+use crate::line::put_text_line;
+use aprs_book::Heard;
+use aprs_outbox::Outbox;
+use aprs_kiss::{Counted, WriteFault};
+use aprs_report::{Place, Report, Stamp, Symbol};
+use std::io::Write;
+
+/// Where a report says that something is.
+#[derive(Clone, Copy)]
+struct Whereabouts<'a> {
+    stamp: Option<Stamp>,
+    place: Place,
+    symbol: Symbol,
+    comment: &'a [u8],
+}
+
+impl<'a> Whereabouts<'a> {
+    /// These parts of a report.
+    fn new(stamp: Option<Stamp>, place: Place, symbol: Symbol, comment: &'a [u8]) -> Whereabouts<'a>
+        ensures { result ≡ record {
+          stamp = stamp;
+          place = place;
+          symbol = symbol;
+          comment = comment.entry;
+        } }
+    {
+        Whereabouts {
+            stamp,
+            place,
+            symbol,
+            comment,
+        }
+    }
+}
+
+/// Puts the line of a position, a status, an object or an item. Other reports have none.
+pub fn put_heard<W: Write>(
+    w: &mut Counted<W>,
+    held: &mut Outbox,
+    heard: &Heard<'_>,
+) -> Result<(), WriteFault>
+    ensures { PutsText result (W.contents (device_of w.old)) (W.contents (device_of w.new))
+        (failures_of w.old) (failures_of w.new) held.old.items held.new.items
+        (heard_line heard.now) }
+{
+    match heard.report {
+        Report::Position {
+            stamp,
+            place,
+            symbol,
+            comment,
+            ..
+        } => {
+            let at = Whereabouts::new(stamp, place, symbol, comment);
+            put_position(w, held, heard, &at)
+        }
+        Report::Object {
+            name,
+            live,
+            stamp,
+            place,
+            symbol,
+            comment,
+        } => {
+            let at = Whereabouts::new(Some(stamp), place, symbol, comment);
+            put_name(w, held, b"object", name, live, heard, &at)
+        }
+        Report::Item {
+            name,
+            live,
+            place,
+            symbol,
+            comment,
+        } => {
+            let at = Whereabouts::new(None, place, symbol, comment);
+            put_name(w, held, b"item", name, live, heard, &at)
+        }
+        Report::Status { stamp, text } => put_status(w, held, heard, stamp, text),
+        Report::Message { .. } | Report::Ack { .. } | Report::Rej { .. } | Report::Raw => Ok(()),
+    }
+}
+
+/// Puts the line of a position.
+fn put_position<W: Write>(
+    w: &mut Counted<W>,
+    held: &mut Outbox,
+    heard: &Heard<'_>,
+    at: &Whereabouts<'_>,
+) -> Result<(), WriteFault>
+    ensures { PutsText result (W.contents (device_of w.old)) (W.contents (device_of w.new))
+        (failures_of w.old) (failures_of w.new) held.old.items held.new.items
+        (text_line_of (codes "position") (heard_fields heard.now
+        ++ place_fields at.now.stamp at.now.place at.now.symbol) at.now.comment.now) }
+{
+    let fields = [
+        Field::Moment(heard.moment),
+        Field::Plain(heard.receiver.as_bytes()),
+    ];
+    put_text_line(w, held, b"position", &fields, &place_fields(at), at.comment)
+}
+
+/// Puts the line of an object or an item of this name, which is live or killed.
+fn put_name<'a, W: Write>(
+    w: &mut Counted<W>,
+    held: &mut Outbox,
+    kind: &[u8],
+    name: &'a [u8],
+    live: bool,
+    heard: &Heard<'a>,
+    at: &Whereabouts<'_>,
+) -> Result<(), WriteFault>
+    ensures { PutsText result (W.contents (device_of w.old)) (W.contents (device_of w.new))
+        (failures_of w.old) (failures_of w.new) held.old.items held.new.items
+        (text_line_of kind.now (name_fields name.now live heard.now
+        ++ place_fields at.now.stamp at.now.place at.now.symbol) at.now.comment.now) }
+{
+    let fields = [
+        Field::Word(name),
+        Field::Plain(live_text(live)),
+        Field::Moment(heard.moment),
+        Field::Plain(heard.receiver.as_bytes()),
+        Field::Call(heard.frame.source()),
+    ];
+    put_text_line(w, held, kind, &fields, &place_fields(at), at.comment)
+}
+
+/// Puts the line of a status.
+fn put_status<W: Write>(
+    w: &mut Counted<W>,
+    held: &mut Outbox,
+    heard: &Heard<'_>,
+    stamp: Option<Stamp>,
+    text: &[u8],
+) -> Result<(), WriteFault>
+    ensures { PutsText result (W.contents (device_of w.old)) (W.contents (device_of w.new))
+        (failures_of w.old) (failures_of w.new) held.old.items held.new.items
+        (text_line_of (codes "status") (heard_fields heard.now ++ stamp_text stamp ∷ []) text.now) }
+{
+    let fields = [
+        Field::Moment(heard.moment),
+        Field::Plain(heard.receiver.as_bytes()),
+        Field::Stamp(stamp),
+    ];
+    put_text_line(w, held, b"status", &fields, &[], text)
+}
+
+/// Where something is.
+fn place_fields(at: &Whereabouts<'_>) -> [Field<'static>; 5]
+    ensures { map field_text result ≡ place_fields at.now.stamp at.now.place at.now.symbol }
+{
+    [
+        Field::Stamp(at.stamp),
+        Field::Degrees(at.place.lat()),
+        Field::Degrees(at.place.lon()),
+        Field::Ambiguity(at.place),
+        Field::Symbol(at.symbol),
+    ]
+}
+
+/// Whether it is there.
+fn live_text(live: bool) -> &'static [u8]
+    ensures { result.now ≡ live_text live }
+{
+    if live { b"live" } else { b"killed" }
+}

@@ -1,0 +1,231 @@
+//! The listing of a book: its stations, objects, items and messages.
+ghost use Rattle.std.specs.Prelude.{◌≡◌, ◌≤◌, IfOk, OnOk, OnErr};
+ghost use Rattle.std.specs.List.{flat_map};
+ghost use Rattle.std.specs.Io.KnownBytes.{Appends};
+ghost use Rattle.aprs_kiss.specs.Device.{device_of, failures_of, Rose, AppendsPrefix};
+ghost use Rattle.aprs_laws.specs.Gap.{millis_of};
+ghost use Rattle.aprs_book.specs.Stations.{ReportsStations};
+ghost use Rattle.aprs_book.specs.Names.{ReportsNamed};
+ghost use Rattle.aprs_book.specs.Messages.{ReportsMessages};
+ghost use Rattle.aprs_listing.specs.Lines.{PutsText};
+ghost use Rattle.aprs_listing.specs.Listing.{id_text, known_line, message_line, named_line, show_text, state_text, station_lines};
+
+use crate::field::Field;
+use crate::heard_line::put_heard;
+use crate::line::{put_line, put_text_line};
+use aprs_book::{Book, Heard, Memory, MessageRow, MessageState, Named, RowList, Station};
+use aprs_outbox::{Outbox, flush};
+use aprs_kiss::{Counted, WriteFault};
+use std::alloc::{Allocator, Global};
+use std::io::Write;
+
+/// What is listed of a book.
+pub struct Views<'a, A: Allocator = Global> {
+    pub stations: Vec<Station<'a>, A>,
+    pub named: Vec<Named<'a>, A>,
+    pub messages: Vec<MessageRow<'a>, A>,
+}
+
+impl<'a, A: Allocator> Drop for Views<'a, A> {
+    fn drop(self) {
+        let Views {
+            stations,
+            named,
+            messages,
+        } = self;
+        drop(stations);
+        drop(named);
+        drop(messages);
+    }
+}
+
+impl<'a, A: Allocator + Copy> Views<'a, A> {
+    /// What is listed of the book.
+    pub fn of(book: &'a Book<A>) -> Result<Views<'a, A>, Memory>
+        ensures stations { IfOk result (λ v.
+            ReportsStations (millis_of book.now.gap) book.now.rows v.stations.items) }
+        ensures named { IfOk result (λ v.
+            ReportsNamed (millis_of book.now.gap) book.now.rows v.named.items) }
+        ensures messages { IfOk result (λ v.
+            ReportsMessages (millis_of book.now.gap) book.now.rows v.messages.items) }
+    {
+        Ok(Views {
+            stations: book.stations()?,
+            named: book.objects()?,
+            messages: book.messages()?,
+        })
+    }
+
+    /// What is listed of the rows of a list.
+    pub fn of_list(list: &'a RowList<A>) -> Result<Views<'a, A>, Memory>
+        ensures stations { IfOk result (λ v.
+            ReportsStations (millis_of list.now.gap) list.now.rows v.stations.items) }
+        ensures named { IfOk result (λ v.
+            ReportsNamed (millis_of list.now.gap) list.now.rows v.named.items) }
+        ensures messages { IfOk result (λ v.
+            ReportsMessages (millis_of list.now.gap) list.now.rows v.messages.items) }
+    {
+        Ok(Views {
+            stations: list.stations()?,
+            named: list.objects()?,
+            messages: list.messages()?,
+        })
+    }
+
+    /// Writes the listing. Takes no memory.
+    pub fn write<W: Write>(&self, w: &mut Counted<W>) -> Result<(), WriteFault>
+        ensures sent { OnOk result (Appends (W.contents (device_of w.old))
+            (W.contents (device_of w.new))
+            (show_text self.now.stations.items self.now.named.items self.now.messages.items)) }
+        ensures prefix { OnErr result (AppendsPrefix (W.contents (device_of w.old))
+            (W.contents (device_of w.new))
+            (show_text self.now.stations.items self.now.named.items self.now.messages.items)) }
+        ensures count { failures_of w.old ≤ failures_of w.new }
+        ensures fault { OnErr result (Rose (failures_of w.old) (failures_of w.new)) }
+    {
+        let mut held = Outbox::new();
+        put_views(w, &mut held, self)?;
+        flush(w, &mut held)
+    }
+}
+
+/// Puts the lines of all.
+fn put_views<W: Write, A: Allocator + Copy>(
+    w: &mut Counted<W>,
+    held: &mut Outbox,
+    views: &Views<'_, A>,
+) -> Result<(), WriteFault>
+    ensures { PutsText result (W.contents (device_of w.old)) (W.contents (device_of w.new))
+        (failures_of w.old) (failures_of w.new) held.old.items held.new.items
+        (show_text views.now.stations.items views.now.named.items views.now.messages.items) }
+{
+    put_stations(w, held, &views.stations)?;
+    put_all_named(w, held, &views.named)?;
+    put_messages(w, held, &views.messages)
+}
+
+/// Puts the lines of stations.
+fn put_stations<W: Write>(
+    w: &mut Counted<W>,
+    held: &mut Outbox,
+    stations: &[Station<'_>],
+) -> Result<(), WriteFault>
+    ensures { PutsText result (W.contents (device_of w.old)) (W.contents (device_of w.new))
+        (failures_of w.old) (failures_of w.new) held.old.items held.new.items
+        (flat_map station_lines stations.now) }
+{
+    for station in stations {
+        put_station(w, held, station)?;
+    }
+    Ok(())
+}
+
+/// Puts the lines of objects and items.
+fn put_all_named<W: Write>(
+    w: &mut Counted<W>,
+    held: &mut Outbox,
+    all: &[Named<'_>],
+) -> Result<(), WriteFault>
+    ensures { PutsText result (W.contents (device_of w.old)) (W.contents (device_of w.new))
+        (failures_of w.old) (failures_of w.new) held.old.items held.new.items
+        (flat_map named_line all.now) }
+{
+    for named in all {
+        put_heard(w, held, &named.heard)?;
+    }
+    Ok(())
+}
+
+/// Puts the lines of messages.
+fn put_messages<W: Write>(
+    w: &mut Counted<W>,
+    held: &mut Outbox,
+    messages: &[MessageRow<'_>],
+) -> Result<(), WriteFault>
+    ensures { PutsText result (W.contents (device_of w.old)) (W.contents (device_of w.new))
+        (failures_of w.old) (failures_of w.new) held.old.items held.new.items
+        (flat_map message_line messages.now) }
+{
+    for message in messages {
+        put_message(w, held, message)?;
+    }
+    Ok(())
+}
+
+/// Puts the line of a station, and those of its last known position and status.
+fn put_station<W: Write>(
+    w: &mut Counted<W>,
+    held: &mut Outbox,
+    station: &Station<'_>,
+) -> Result<(), WriteFault>
+    ensures { PutsText result (W.contents (device_of w.old)) (W.contents (device_of w.new))
+        (failures_of w.old) (failures_of w.new) held.old.items held.new.items
+        (station_lines station.now) }
+{
+    let fields = [
+        Field::Call(station.call.copy()),
+        Field::Count(station.transmissions),
+    ];
+    put_line(w, held, b"station", &fields)?;
+    put_known(w, held, &station.position)?;
+    put_known(w, held, &station.status)
+}
+
+/// Puts the line of what is last known, if there is any.
+fn put_known<W: Write>(
+    w: &mut Counted<W>,
+    held: &mut Outbox,
+    known: &Option<Heard<'_>>,
+) -> Result<(), WriteFault>
+    ensures { PutsText result (W.contents (device_of w.old)) (W.contents (device_of w.new))
+        (failures_of w.old) (failures_of w.new) held.old.items held.new.items
+        (known_line known.now) }
+{
+    match known {
+        Some(heard) => put_heard(w, held, heard),
+        None => Ok(()),
+    }
+}
+
+/// Puts the line of a message.
+fn put_message<W: Write>(
+    w: &mut Counted<W>,
+    held: &mut Outbox,
+    message: &MessageRow<'_>,
+) -> Result<(), WriteFault>
+    ensures { PutsText result (W.contents (device_of w.old)) (W.contents (device_of w.new))
+        (failures_of w.old) (failures_of w.new) held.old.items held.new.items
+        (message_line message.now) }
+{
+    let fields = [
+        Field::Call(message.source.copy()),
+        Field::Word(message.addressee),
+        Field::Plain(id_text(message.id)),
+        Field::Plain(state_text(message.state)),
+        Field::Moment(message.first),
+        Field::Moment(message.last),
+    ];
+    put_text_line(w, held, b"message", &fields, &[], message.text)
+}
+
+/// The id, or `-` without one.
+fn id_text<'a>(id: Option<&'a [u8]>) -> &'a [u8]
+    ensures { result.now ≡ id_text id.entry }
+{
+    match id {
+        Some(id) => id,
+        None => b"-",
+    }
+}
+
+/// What came of a message.
+fn state_text(state: MessageState) -> &'static [u8]
+    ensures { result.now ≡ state_text state }
+{
+    match state {
+        MessageState::Unnumbered => b"unnumbered",
+        MessageState::Unanswered => b"unanswered",
+        MessageState::Acknowledged => b"acknowledged",
+        MessageState::Rejected => b"rejected",
+    }
+}
