@@ -27,6 +27,17 @@ fn text_of(alloc: Global, lines: &[&[u8]], last: &[u8]) -> Result<Vec<u8>, Fail>
     Ok(text)
 }
 
+/// Whether the text of these lines has this fault.
+fn has_fault(
+    alloc: Global,
+    lines: &[&[u8]],
+    last: &[u8],
+    fault: Option<(u64, &str)>,
+) -> Result<bool, Fail> {
+    let text = text_of(alloc, lines, last)?;
+    Ok(fault_of(alloc, text.as_slice()) == fault)
+}
+
 /// Lines in the place of the one row, each with the fault of its text, if there is one.
 const JUDGED_LINES: [(&[u8], Option<(u64, &str)>); 8] = [
     (
@@ -67,8 +78,7 @@ const JUDGED_LINES: [(&[u8], Option<(u64, &str)>); 8] = [
 fn each_fault_of_a_line(rt: HostRuntime) -> Result<(), Fail> {
     let alloc = rt.alloc();
     for (line, fault) in JUDGED_LINES {
-        let text = text_of(alloc, &[line], b"END 1\n")?;
-        assert!(rt; fault_of(alloc, text.as_slice()) == fault);
+        assert!(rt; has_fault(alloc, &[line], b"END 1\n", fault)?);
     }
     assert!(rt; fault_of(alloc, b"APRSBOOK 9\nEND 0\n") == Some((1, "Header")));
     Ok(())
@@ -78,27 +88,28 @@ fn each_fault_of_a_line(rt: HostRuntime) -> Result<(), Fail> {
 const ROW: &[u8] = b"T 2024-05-01T12:00:00.000Z 2024-05-01T12:00:00.000Z RX1 RX1 \
     82a0a4a64040e09c60868298986f03f03e4869";
 
+/// Last lines after one row, each with its fault.
+const LAST_LINES: [(&[u8], Option<(u64, &str)>); 13] = [
+    (b"END 1\n", None),
+    (b"END +1\n", Some((3, "Ending"))),
+    (b"END 01\n", Some((3, "Ending"))),
+    (b"END 2\n", Some((3, "Ending"))),
+    (b"END 1 \n", Some((3, "Ending"))),
+    (b"END 1\r\n", Some((3, "Ending"))),
+    (b"END \r1\n", Some((3, "Ending"))),
+    (b"END\r1\n", Some((3, "Ending"))),
+    (b"END\n", Some((3, "Ending"))),
+    (b"EN\rD 1\n", Some((3, "RowSyntax"))),
+    (b"\rEND 1\n", Some((3, "RowSyntax"))),
+    (b"end 1\n", Some((3, "RowSyntax"))),
+    (b"END 1\n\n", Some((4, "After"))),
+];
+
 // What begins with END is a last line, if a wrong one; whatever else differs is no row.
 #[test]
 fn last_lines_have_one_spelling(rt: HostRuntime) -> Result<(), Fail> {
-    let alloc = rt.alloc();
-    for (last, fault) in [
-        (b"END 1\n".as_slice(), None),
-        (b"END +1\n".as_slice(), Some((3, "Ending"))),
-        (b"END 01\n".as_slice(), Some((3, "Ending"))),
-        (b"END 2\n".as_slice(), Some((3, "Ending"))),
-        (b"END 1 \n".as_slice(), Some((3, "Ending"))),
-        (b"END 1\r\n".as_slice(), Some((3, "Ending"))),
-        (b"END \r1\n".as_slice(), Some((3, "Ending"))),
-        (b"END\r1\n".as_slice(), Some((3, "Ending"))),
-        (b"END\n".as_slice(), Some((3, "Ending"))),
-        (b"EN\rD 1\n".as_slice(), Some((3, "RowSyntax"))),
-        (b"\rEND 1\n".as_slice(), Some((3, "RowSyntax"))),
-        (b"end 1\n".as_slice(), Some((3, "RowSyntax"))),
-        (b"END 1\n\n".as_slice(), Some((4, "After"))),
-    ] {
-        let text = text_of(alloc, &[ROW], last)?;
-        assert!(rt; fault_of(alloc, text.as_slice()) == fault);
+    for (last, fault) in LAST_LINES {
+        assert!(rt; has_fault(rt.alloc(), &[ROW], last, fault)?);
     }
     Ok(())
 }
@@ -147,8 +158,7 @@ const MISSPELLED_LINES: [(&[u8], &str); 7] = [
 fn fields_have_one_spelling(rt: HostRuntime) -> Result<(), Fail> {
     let alloc = rt.alloc();
     for (line, cause) in MISSPELLED_LINES {
-        let text = text_of(alloc, &[line], b"END 1\n")?;
-        assert!(rt; fault_of(alloc, text.as_slice()) == Some((2, cause)));
+        assert!(rt; has_fault(alloc, &[line], b"END 1\n", Some((2, cause)))?);
     }
     Ok(())
 }
@@ -186,8 +196,7 @@ fn rows_of_three_keys_are_near_in_pairs(rt: HostRuntime) -> Result<(), Fail> {
         } else {
             b"END 4\n"
         };
-        let text = text_of(alloc, rows, last)?;
-        assert!(rt; fault_of(alloc, text.as_slice()) == fault);
+        assert!(rt; has_fault(alloc, rows, last, fault)?);
     }
     Ok(())
 }
@@ -209,11 +218,9 @@ fn a_second_row(rt: HostRuntime) -> Result<(), Fail> {
         (far, None),
         (first, Some((3, "Order"))),
     ] {
-        let text = text_of(alloc, &[first, second], b"END 2\n")?;
-        assert!(rt; fault_of(alloc, text.as_slice()) == fault);
+        assert!(rt; has_fault(alloc, &[first, second], b"END 2\n", fault)?);
     }
-    let text = text_of(alloc, &[far, first], b"END 2\n")?;
-    assert!(rt; fault_of(alloc, text.as_slice()) == Some((3, "Order")));
+    assert!(rt; has_fault(alloc, &[far, first], b"END 2\n", Some((3, "Order")))?);
     Ok(())
 }
 

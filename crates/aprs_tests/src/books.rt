@@ -131,17 +131,23 @@ fn two_books(alloc: Global) -> Result<Vec<Book>, Fail> {
     )
 }
 
+/// Whether the book stays the same where these are joined to it.
+fn stays_joined(book: &Book, items: &[Book]) -> bool {
+    match joined_all(book, items) {
+        Some(all) => all.same(book),
+        None => false,
+    }
+}
+
 #[test]
 fn replays_end_in_equal_books(rt: HostRuntime) -> Result<(), Fail> {
-    let alloc = rt.alloc();
-    let books = two_books(alloc)?;
-    assert_eq!(rt; books.len(), 2);
-    assert!(rt; books[0].same(&books[1]));
-    assert!(rt; is_shown(alloc, &books[0], "0-20 RX1 RX2 / RX2 6f; "));
-    for items in [books.as_slice(), &[]] {
-        let all = joined_all(&books[0], items).ok_or("a joined book")?;
-        assert!(rt; all.same(&books[0]));
-    }
+    let books = two_books(rt.alloc())?;
+    let [first, second] = books.as_slice() else {
+        return Err("two books".into());
+    };
+    assert!(rt; first.same(second));
+    assert!(rt; is_shown(rt.alloc(), first, "0-20 RX1 RX2 / RX2 6f; "));
+    assert!(rt; stays_joined(first, books.as_slice()) && stays_joined(first, &[]));
     Ok(())
 }
 

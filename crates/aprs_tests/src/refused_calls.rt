@@ -5,7 +5,7 @@ use crate::shown::is_shown;
 use crate::vectors::receiver;
 use aprs_book::{Book, Gap, Join, Receivers, Step, all_fit, join_all, replay};
 use bumpalo::Bump;
-use std::alloc::Global;
+use std::alloc::{Allocator, Global};
 use std::test::Fail;
 
 /// What each station sent, and when.
@@ -17,17 +17,21 @@ pub const SENT: [(u64, &[u8], &[u8]); 5] = [
     (40, b"N0CALL-8", b")LEADER!4903.50N/07201.75W>"),
 ];
 
+/// A book of them, so many seconds later.
+fn book_of_sent(bump: &Bump, later: u64) -> Result<Book<&Bump>, Fail> {
+    let mut book = Book::new(bump);
+    for (second, source, info) in SENT {
+        let x = sent(later.saturating_add(second), source, info)?;
+        book.take(&x).ok().ok_or("memory")?;
+    }
+    Ok(book)
+}
+
 /// Two books of them, the second a minute later.
 fn two_books<'a>(bump: &'a Bump, alloc: Global) -> Result<Vec<Book<&'a Bump>>, Fail> {
     let mut books = Vec::new(alloc);
-    for later in [0u64, 60] {
-        let mut book = Book::new(bump);
-        for (second, source, info) in SENT {
-            let x = sent(later.saturating_add(second), source, info)?;
-            book.take(&x).ok().ok_or("memory")?;
-        }
-        books.push(book)?;
-    }
+    books.push(book_of_sent(bump, 0)?)?;
+    books.push(book_of_sent(bump, 60)?)?;
     Ok(books)
 }
 
@@ -64,6 +68,16 @@ const CALLS: [(Call, usize); 7] = [
     (Call::Messages, 1),
 ];
 
+/// How many rows the book has, if there is one.
+fn rows_of<E: Drop>(book: Result<Book<&Bump>, E>) -> Option<usize> {
+    Some(book.ok()?.len())
+}
+
+/// How many entries the list has, if there is one.
+fn entries_of<T: Drop, A: Allocator, E: Drop>(list: Result<Vec<T, A>, E>) -> Option<usize> {
+    Some(list.ok()?.len())
+}
+
 /// How many rows or entries the call gives, or nothing where memory was refused.
 fn called<'a>(
     bump: &'a Bump,
@@ -78,13 +92,13 @@ fn called<'a>(
         return None;
     }
     match call {
-        Call::Merge => first.merge(second).ok().map(|book| book.len()),
-        Call::Join => first.join(second).ok().map(|book| book.len()),
-        Call::JoinAll => join_all(first, books).ok().map(|book| book.len()),
+        Call::Merge => rows_of(first.merge(second)),
+        Call::Join => rows_of(first.join(second)),
+        Call::JoinAll => rows_of(join_all(first, books)),
         Call::Replay => replayed(bump, steps),
-        Call::Stations => first.stations().ok().map(|list| list.len()),
-        Call::Objects => first.objects().ok().map(|list| list.len()),
-        Call::Messages => first.messages().ok().map(|list| list.len()),
+        Call::Stations => entries_of(first.stations()),
+        Call::Objects => entries_of(first.objects()),
+        Call::Messages => entries_of(first.messages()),
     }
 }
 
@@ -163,6 +177,23 @@ fn refused_calls_change_nothing(rt: HostRuntime) -> Result<(), Fail> {
     Ok(())
 }
 
+/// Adds the name, where memory is refused once there is room again, and returns whether it was.
+fn is_refused_at_first<'a>(
+    bump: &'a Bump,
+    names: &mut Receivers<&'a Bump>,
+    name: &[u8],
+) -> Result<bool, Fail> {
+    let name = receiver(name)?;
+    let before = names.as_slice().len();
+    if names.add(&name).is_ok() {
+        return Ok(false);
+    }
+    assert_same(names.as_slice().len(), before)?;
+    bump.set_allocation_limit(None);
+    names.add(&name).ok().ok_or("memory")?;
+    Ok(true)
+}
+
 /// Adds names to receivers that have room for so many units, and returns whether one was refused.
 fn is_name_refused(alloc: Global, units: usize) -> Result<bool, Fail> {
     let bump = Bump::try_with_capacity(alloc, 65_536)?;
@@ -170,13 +201,8 @@ fn is_name_refused(alloc: Global, units: usize) -> Result<bool, Fail> {
     let mut names = Receivers::new(&bump);
     let mut is_refused = false;
     for (i, name) in [b"RX2", b"RX1", b"RX3", b"RX1"].iter().enumerate() {
-        let name = receiver(*name)?;
-        let before = names.as_slice().len();
-        if names.add(&name).is_err() {
+        if is_refused_at_first(&bump, &mut names, *name)? {
             is_refused = true;
-            assert_same(names.as_slice().len(), before)?;
-            bump.set_allocation_limit(None);
-            names.add(&name).ok().ok_or("memory")?;
         }
         assert_same(names.as_slice().len(), (i + 1).min(3))?;
     }
@@ -218,16 +244,25 @@ fn joined<'a>(ours: &Receivers<&'a Bump>, theirs: &Receivers<&'a Bump>) -> Optio
     Some(both.as_slice().len())
 }
 
+/// How many names both have without room, and then with room again.
+fn joined_twice<'a>(
+    bump: &'a Bump,
+    ours: &Receivers<&'a Bump>,
+    theirs: &Receivers<&'a Bump>,
+) -> Result<(Option<usize>, Option<usize>), Fail> {
+    let _fill = squeeze(bump, 0)?;
+    let without_room = joined(ours, theirs);
+    bump.set_allocation_limit(None);
+    Ok((without_room, joined(ours, theirs)))
+}
+
 // With room again the join gives each name once.
 #[test]
 fn refused_names_are_not_joined(rt: HostRuntime) -> Result<(), Fail> {
     let bump = Bump::try_with_capacity(rt.alloc(), 4096)?;
     let ours = receivers(&bump, &[b"RX1", b"RX2"])?;
     let theirs = receivers(&bump, &[b"RX2", b"RX3"])?;
-    let _fill = squeeze(&bump, 0)?;
-    assert!(rt; joined(&ours, &theirs).is_none());
+    assert!(rt; joined_twice(&bump, &ours, &theirs)? == (None, Some(3)));
     assert!(rt; ours.as_slice().len() == 2 && theirs.as_slice().len() == 2);
-    bump.set_allocation_limit(None);
-    assert!(rt; joined(&ours, &theirs) == Some(3));
     Ok(())
 }
