@@ -9,7 +9,8 @@ ghost use Rattle.aprs_ax25.specs.FrameFault.{parts_of};
 ghost use Rattle.aprs_log.specs.Moment.{moment_text};
 ghost use Rattle.aprs_log.specs.Receiver.{IsName};
 ghost use Rattle.aprs_log.specs.declared.moment_form.MomentForm.TheVariants.{Millis};
-ghost use Rattle.aprs_kiss.specs.Device.{device_of, failures_of, Rose, AppendsPrefix};
+ghost use Rattle.aprs_kiss.specs.Device.{answered_of, device_of, failures_of, Rose, RoseAtErr};
+ghost use Rattle.aprs_kiss.specs.Device.{AppendsPrefix};
 ghost use Rattle.aprs_outbox.specs.Outbox.{Puts};
 ghost use Rattle.aprs_booktext.specs.RowLines.{AreSpelled, line_and_lf};
 ghost use Rattle.aprs_booktext.specs.Text.{row_line, end_line, ended_by_lf, IsBookRow, IsBookRows, IsWritable, written_text, written_version};
@@ -18,12 +19,12 @@ ghost use Rattle.aprs_booktext.specs.declared.version.Version.TheVariants.{Three
 
 use crate::end_line::{END_LINE, end_line};
 use crate::hexadecimal::{MAX_DIGITS, MAX_FRAME};
-use aprs_outbox::{Outbox, flush, put};
 use crate::version::{MAX_HEADER, Version};
 use aprs_book::{Book, Gap};
 use aprs_io::{encode_to, push_all};
 use aprs_kiss::{Counted, WriteFault};
 use aprs_log::{Moment, Receiver};
+use aprs_outbox::{Outbox, flush, put};
 use aprs_pile::RowView;
 use arrayvec::ArrayVec;
 use std::alloc::Allocator;
@@ -52,6 +53,7 @@ pub fn write_book<W: Write, A: Allocator + Copy>(
         (W.contents (device_of w.new)) (written_text book.now)) }
     ensures count { failures_of w.old ≤ failures_of w.new }
     ensures fault { OnErr result (Rose (failures_of w.old) (failures_of w.new)) }
+    ensures answered { RoseAtErr result (answered_of w.old) (answered_of w.new) }
     // Such rows are read back of their text.
     ensures spelled { OnOk result (IsBookRows (written_version book.now) book.now.rows) }
 {
@@ -72,6 +74,7 @@ fn put_book<W: Write, A: Allocator + Copy>(
         (W.contents (device_of w.new)) (held.old.items ++ written_text book.now)) }
     ensures count { failures_of w.old ≤ failures_of w.new }
     ensures fault { OnErr result (Rose (failures_of w.old) (failures_of w.new)) }
+    ensures answered { RoseAtErr result (answered_of w.old) (answered_of w.new) }
     ensures spelled { OnOk result (IsBookRows (written_version book.now) book.now.rows) }
 {
     put(w, held, header_line(book.gap()).as_slice())?;
@@ -91,6 +94,7 @@ fn put_rows<W: Write, A: Allocator + Copy>(
         (W.contents (device_of w.new)) (held.old.items ++ flat_map line_and_lf book.now.rows)) }
     ensures count { failures_of w.old ≤ failures_of w.new }
     ensures fault { OnErr result (Rose (failures_of w.old) (failures_of w.new)) }
+    ensures answered { RoseAtErr result (answered_of w.old) (answered_of w.new) }
     ensures spelled { OnOk result (IsBookRows (written_version book.now) book.now.rows) }
 {
     for row in book.rows() {
@@ -111,6 +115,7 @@ pub(crate) fn put_row<W: Write>(
         (W.contents (device_of w.new)) (held.old.items ++ ended_by_lf (row_line Millis row.now))) }
     ensures count { failures_of w.old ≤ failures_of w.new }
     ensures fault { OnErr result (Rose (failures_of w.old) (failures_of w.new)) }
+    ensures answered { RoseAtErr result (answered_of w.old) (answered_of w.new) }
     ensures spelled { OnOk result (0 < length row.now.receivers → IsBookRow Millis row.now) }
 {
     put(w, held, row_head(row.first(), row.last()).as_slice())?;
@@ -162,6 +167,7 @@ fn put_names<W: Write>(
         (W.contents (device_of w.new)) (held.old.items ++ join_with_byte 44 names.now)) }
     ensures count { failures_of w.old ≤ failures_of w.new }
     ensures fault { OnErr result (Rose (failures_of w.old) (failures_of w.new)) }
+    ensures answered { RoseAtErr result (answered_of w.old) (answered_of w.new) }
     ensures names { OnOk result (All IsName names.now) }
 {
     let Some((first, others)) = names.split_first() else {
@@ -184,6 +190,7 @@ fn put_further_names<W: Write>(
         (held.old.items ++ flat_map (λ name. 44 ∷ name) names.now)) }
     ensures count { failures_of w.old ≤ failures_of w.new }
     ensures fault { OnErr result (Rose (failures_of w.old) (failures_of w.new)) }
+    ensures answered { RoseAtErr result (answered_of w.old) (answered_of w.new) }
     ensures names { OnOk result (All IsName names.now) }
 {
     for name in names {

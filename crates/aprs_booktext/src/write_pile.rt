@@ -1,14 +1,15 @@
 //! Writing the rows of a pile.
 ghost use Rattle.std.specs.Prelude.{◌≤◌, ◌++◌, flat_map, OnOk, OnErr};
 ghost use Rattle.std.specs.Io.KnownBytes.{Appends};
-ghost use Rattle.aprs_kiss.specs.Device.{device_of, failures_of, Rose, AppendsPrefix};
+ghost use Rattle.aprs_kiss.specs.Device.{answered_of, device_of, failures_of, Rose, RoseAtErr};
+ghost use Rattle.aprs_kiss.specs.Device.{AppendsPrefix};
 ghost use Rattle.aprs_outbox.specs.Outbox.{Puts};
 ghost use Rattle.aprs_booktext.specs.RowLines.{line_and_lf};
 ghost use Rattle.aprs_booktext.specs.Text.{IsBookRows, written_text, written_version};
 
-use aprs_outbox::{Outbox, flush, put};
 use crate::write::{end_line_and_lf, header_line, put_row};
 use aprs_kiss::{Counted, WriteFault};
+use aprs_outbox::{Outbox, flush, put};
 use aprs_pile::PiledRows;
 use std::alloc::Allocator;
 use std::io::Write;
@@ -25,6 +26,7 @@ pub fn write_rows<W: Write, A: Allocator + Copy>(
         (W.contents (device_of w.new)) (written_text rows.now)) }
     ensures count { failures_of w.old ≤ failures_of w.new }
     ensures fault { OnErr result (Rose (failures_of w.old) (failures_of w.new)) }
+    ensures answered { RoseAtErr result (answered_of w.old) (answered_of w.new) }
     // Such rows are read back of their text.
     ensures spelled { OnOk result (IsBookRows (written_version rows.now) rows.now.rows) }
 {
@@ -45,6 +47,7 @@ fn put_text<W: Write, A: Allocator + Copy>(
         (W.contents (device_of w.new)) (held.old.items ++ written_text rows.now)) }
     ensures count { failures_of w.old ≤ failures_of w.new }
     ensures fault { OnErr result (Rose (failures_of w.old) (failures_of w.new)) }
+    ensures answered { RoseAtErr result (answered_of w.old) (answered_of w.new) }
     ensures spelled { OnOk result (IsBookRows (written_version rows.now) rows.now.rows) }
 {
     put(w, held, header_line(rows.gap()).as_slice())?;
@@ -64,6 +67,7 @@ fn put_lines<W: Write, A: Allocator + Copy>(
         (W.contents (device_of w.new)) (held.old.items ++ flat_map line_and_lf rows.now.rows)) }
     ensures count { failures_of w.old ≤ failures_of w.new }
     ensures fault { OnErr result (Rose (failures_of w.old) (failures_of w.new)) }
+    ensures answered { RoseAtErr result (answered_of w.old) (answered_of w.new) }
     ensures spelled { OnOk result (IsBookRows (written_version rows.now) rows.now.rows) }
 {
     for row in rows.rows() {

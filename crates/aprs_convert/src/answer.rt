@@ -2,7 +2,8 @@
 ghost use Rattle.std.specs.Prelude.{◌≡◌, ◌≤◌, ◌++◌, ◌∷◌, [], OnOk, OnErr};
 ghost use Rattle.std.specs.Io.KnownBytes.{Appends};
 ghost use Rattle.aprs_ax25.specs.FrameFault.{parts_of};
-ghost use Rattle.aprs_kiss.specs.Device.{device_of, failures_of, Rose, AppendsPrefix};
+ghost use Rattle.aprs_kiss.specs.Device.{answered_of, device_of, failures_of, Rose, RoseAtErr};
+ghost use Rattle.aprs_kiss.specs.Device.{AppendsPrefix};
 ghost use Rattle.aprs_report.specs.Reader.{reading_of};
 ghost use Rattle.aprs_report.specs.Reading.{kind_of};
 ghost use Rattle.arrayvec.specs.ArrayVec.{array_vec_len};
@@ -51,6 +52,7 @@ pub fn write_line_as<W: Write>(
         (W.contents (device_of w.new)) (line_text form.now line.now)) }
     ensures count { failures_of w.old ≤ failures_of w.new }
     ensures fault { OnErr result (Rose (failures_of w.old) (failures_of w.new)) }
+    ensures answered { RoseAtErr result (answered_of w.old) (answered_of w.new) }
 {
     match line {
         Line::Heard(reception) => write_reception(form, w, reception, scratch),
@@ -71,6 +73,7 @@ fn write_reception<W: Write>(
         (W.contents (device_of w.new)) (reception_text form.now reception.now)) }
     ensures count { failures_of w.old ≤ failures_of w.new }
     ensures fault { OnErr result (Rose (failures_of w.old) (failures_of w.new)) }
+    ensures answered { RoseAtErr result (answered_of w.old) (answered_of w.new) }
 {
     match form {
         Form::Text => write_monitor_line(w, reception.frame(), &mut scratch.text),
@@ -93,6 +96,7 @@ fn write_monitor_line<W: Write>(
         (W.contents (device_of w.new)) (ended_by_lf (monitor_text (parts_of frame.now)))) }
     ensures count { failures_of w.old ≤ failures_of w.new }
     ensures fault { OnErr result (Rose (failures_of w.old) (failures_of w.new)) }
+    ensures answered { RoseAtErr result (answered_of w.old) (answered_of w.new) }
 {
     text.clear();
     push_monitor_line(text, frame);
@@ -111,6 +115,7 @@ fn write_kind_line<W: Write>(
         (W.contents (device_of w.new)) (ended_by_lf (kind_text (parts_of frame.now)))) }
     ensures count { failures_of w.old ≤ failures_of w.new }
     ensures fault { OnErr result (Rose (failures_of w.old) (failures_of w.new)) }
+    ensures answered { RoseAtErr result (answered_of w.old) (answered_of w.new) }
 {
     text.clear();
     push_kind_line(text, frame);

@@ -1,11 +1,12 @@
 //! A KISS stream, captured as a log.
-ghost use Rattle.std.specs.Prelude.{◌≡◌, ◌≤◌, ◌<◌, ◌++◌, ℕ, List, length, take, IfOk, IfErr, IsErrAnd, OnOk};
+ghost use Rattle.std.specs.Prelude.{◌≡◌, ◌≤◌, ◌<◌, ◌++◌, ℕ, List, length, take, IfOk, IfErr, IsErrAnd, OnOk, Err};
 ghost use Rattle.std.specs.Prelude.{OnErr};
 ghost use Rattle.std.specs.List.{flat_map};
 ghost use Rattle.std.specs.Io.KnownBytes.{Appends, Consumes};
 ghost use Rattle.aprs_io.specs.declared.input.TheConstants.{MAX_INPUT};
 ghost use Rattle.aprs_ax25.specs.FrameFault.{frame_of};
-ghost use Rattle.aprs_kiss.specs.Device.{device_of, failures_of, answered_of, Rose, RoseWhere, AppendsPrefix};
+ghost use Rattle.aprs_kiss.specs.Device.{answered_of, device_of, failures_of, Rose, RoseAtErr};
+ghost use Rattle.aprs_kiss.specs.Device.{RoseWhere, AppendsPrefix};
 ghost use Rattle.aprs_kiss.specs.Reader.{StandsAfter};
 ghost use Rattle.aprs_kiss.specs.Answer.{judgements_in};
 ghost use Rattle.aprs_kiss.specs.Stream.{judgements_of, rest_of};
@@ -42,6 +43,9 @@ pub fn capture<R: Read, W: Write>(
     ensures answered { RoseWhere (IsErrAnd result IsRead) (answered_of r.old) (answered_of r.new) }
     ensures write { IfErr result (λ fault. fault ≡ ConvertFault.Write
         → Rose (failures_of w.old) (failures_of w.new)) }
+    // `Write` is returned where a call of the output returned a fault, and nowhere else.
+    ensures refused { RoseWhere (result ≡ Err ConvertFault.Write) (answered_of w.old)
+        (answered_of w.new) }
 {
     let mut reader = KissReader::new();
     let mut log = LogWriter::new();
@@ -96,6 +100,7 @@ fn capture_chunk<W: Write>(
         (flat_map (capture_text receiver.now moment.now) (judgements_of (e ++ chunk.now)))) }
     ensures count { failures_of w.old ≤ failures_of w.new }
     ensures fault { OnErr result (Rose (failures_of w.old) (failures_of w.new)) }
+    ensures answered { RoseAtErr result (answered_of w.old) (answered_of w.new) }
 {
     let mut rest = chunk;
     while !rest.is_empty() {
@@ -123,6 +128,7 @@ fn write_fed<W: Write>(
         (judgements_in fed.entry))) }
     ensures count { failures_of w.old ≤ failures_of w.new }
     ensures fault { OnErr result (Rose (failures_of w.old) (failures_of w.new)) }
+    ensures answered { RoseAtErr result (answered_of w.old) (answered_of w.new) }
 {
     match fed {
         Fed::Frame { frame, .. } => write_frame(w, log, receiver, moment, frame),
@@ -144,6 +150,7 @@ fn write_frame<W: Write>(
         (W.contents (device_of w.new)) (captured receiver.now moment.now (frame_of bytes.now))) }
     ensures count { failures_of w.old ≤ failures_of w.new }
     ensures fault { OnErr result (Rose (failures_of w.old) (failures_of w.new)) }
+    ensures answered { RoseAtErr result (answered_of w.old) (answered_of w.new) }
 {
     match Frame::read(bytes) {
         Ok(frame) => log.write(w, &Reception::new(moment.copy(), receiver.copy(), frame)),

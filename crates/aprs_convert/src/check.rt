@@ -1,10 +1,11 @@
 //! What a check reports of a log.
-ghost use Rattle.std.specs.Prelude.{◌≡◌, ◌≤◌, ◌++◌, codes, OnOk, OnErr, IfErr, IsErrAnd};
+ghost use Rattle.std.specs.Prelude.{◌≡◌, ◌≤◌, ◌++◌, codes, OnOk, OnErr, IfErr, IsErrAnd, Err};
 ghost use Rattle.std.specs.Fmt.{decimal};
 ghost use Rattle.std.specs.Io.KnownBytes.{Appends};
 ghost use Rattle.arrayvec.specs.ArrayVec.{array_vec_len};
 ghost use Rattle.aprs_io.specs.declared.input.TheConstants.{MAX_INPUT};
-ghost use Rattle.aprs_kiss.specs.Device.{device_of, failures_of, answered_of, Rose, RoseWhere, AppendsPrefix};
+ghost use Rattle.aprs_kiss.specs.Device.{answered_of, device_of, failures_of, Rose, RoseAtErr};
+ghost use Rattle.aprs_kiss.specs.Device.{RoseWhere, AppendsPrefix};
 ghost use Rattle.aprs_log.specs.Fault.{reason_name};
 ghost use Rattle.aprs_convert.specs.Ends.{RunsOver, IsRead};
 ghost use Rattle.aprs_convert.specs.Plan.{check_plan, ended_by_lf, passed_line, totals_line};
@@ -36,6 +37,9 @@ pub fn check_log<R: Read, W: Write, A: Allocator + Copy>(
     ensures answered { RoseWhere (IsErrAnd result IsRead) (answered_of r.old) (answered_of r.new) }
     ensures write { IfErr result (λ fault. fault ≡ ConvertFault.Write
         → Rose (failures_of w.old) (failures_of w.new)) }
+    // `Write` is returned where a call of the output returned a fault, and nowhere else.
+    ensures refused { RoseWhere (result ≡ Err ConvertFault.Write) (answered_of w.old)
+        (answered_of w.new) }
 {
     let mut reader = LogReader::new(alloc, limit, &[], r);
     let mut heard = 0;
@@ -63,6 +67,7 @@ fn write_passed<W: Write>(w: &mut Counted<W>, line: u64, reason: Reason) -> Resu
         (W.contents (device_of w.new)) (passed_line line reason)) }
     ensures count { failures_of w.old ≤ failures_of w.new }
     ensures fault { OnErr result (Rose (failures_of w.old) (failures_of w.new)) }
+    ensures answered { RoseAtErr result (answered_of w.old) (answered_of w.new) }
 {
     let text = passed_line(line, reason);
     send(w, text.as_slice())
@@ -76,6 +81,7 @@ fn write_totals<W: Write>(w: &mut Counted<W>, heard: u64, passed: u64) -> Result
         (W.contents (device_of w.new)) (totals_line heard passed)) }
     ensures count { failures_of w.old ≤ failures_of w.new }
     ensures fault { OnErr result (Rose (failures_of w.old) (failures_of w.new)) }
+    ensures answered { RoseAtErr result (answered_of w.old) (answered_of w.new) }
 {
     let text = totals_line(heard, passed);
     send(w, text.as_slice())

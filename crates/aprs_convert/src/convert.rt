@@ -1,5 +1,5 @@
 //! A log's lines, converted as they are read.
-ghost use Rattle.std.specs.Prelude.{◌≡◌, ◌≤◌, IfErr, IsErrAnd};
+ghost use Rattle.std.specs.Prelude.{◌≡◌, ◌≤◌, IfErr, IsErrAnd, Err};
 ghost use Rattle.aprs_io.specs.declared.input.TheConstants.{MAX_INPUT};
 ghost use Rattle.aprs_kiss.specs.Device.{device_of, failures_of, answered_of, Rose, RoseWhere};
 ghost use Rattle.aprs_convert.specs.Ends.{RunsOver, IsRead};
@@ -30,6 +30,9 @@ pub fn convert_lines<R: Read, W: Write, A: Allocator + Copy>(
     ensures answered { RoseWhere (IsErrAnd result IsRead) (answered_of r.old) (answered_of r.new) }
     ensures write { IfErr result (λ fault. fault ≡ ConvertFault.Write
         → Rose (failures_of w.old) (failures_of w.new)) }
+    // `Write` is returned where a call of the output returned a fault, and nowhere else.
+    ensures refused { RoseWhere (result ≡ Err ConvertFault.Write) (answered_of w.old)
+        (answered_of w.new) }
 {
     let mut reader = LogReader::new(alloc, limit, &[], r);
     let mut scratch = Scratch::new();

@@ -1,7 +1,8 @@
 //! Writes KISS frames.
 ghost use Rattle.std.specs.Prelude.{◌≡◌, ◌≤◌, ◌+◌, length, take, true, OnOk, OnErr};
 ghost use Rattle.std.specs.Io.KnownBytes.{Appends};
-ghost use Rattle.aprs_io.specs.Device.{device_of, failures_of, Rose, AppendsPrefix};
+ghost use Rattle.aprs_io.specs.Device.{answered_of, device_of, failures_of, Rose, RoseAtErr};
+ghost use Rattle.aprs_io.specs.Device.{AppendsPrefix};
 ghost use Rattle.aprs_kiss.specs.Plain.{IsPlain, is_special};
 ghost use Rattle.aprs_kiss.specs.Spelling.{kiss_text, spelling_of_byte};
 
@@ -30,6 +31,7 @@ pub fn write_kiss<W: Write>(w: &mut Counted<W>, frame: &[u8]) -> Result<(), Writ
         (kiss_text frame.now)) }
     ensures count { failures_of w.old ≤ failures_of w.new }
     ensures fault { OnErr result (Rose (failures_of w.old) (failures_of w.new)) }
+    ensures answered { RoseAtErr result (answered_of w.old) (answered_of w.new) }
 {
     KissWriter::new().write(w, frame)
 }
@@ -59,6 +61,7 @@ impl KissWriter {
             (kiss_text frame.now)) }
         ensures count { failures_of w.old ≤ failures_of w.new }
         ensures fault { OnErr result (Rose (failures_of w.old) (failures_of w.new)) }
+        ensures answered { RoseAtErr result (answered_of w.old) (answered_of w.new) }
     {
         let (plain, mark) = cut_plain(frame);
         if mark.is_some() || plain.len() > MAX_AT_ONCE {
@@ -79,6 +82,7 @@ fn write_spelled<W: Write>(w: &mut Counted<W>, frame: &[u8]) -> Result<(), Write
         (kiss_text frame.now)) }
     ensures count { failures_of w.old ≤ failures_of w.new }
     ensures fault { OnErr result (Rose (failures_of w.old) (failures_of w.new)) }
+    ensures answered { RoseAtErr result (answered_of w.old) (answered_of w.new) }
 {
     send(w, &[FEND, DATA])?;
     let mut rest = frame;

@@ -3,7 +3,7 @@ use Rattle.std.proofs.Common.{Bool, ◌∷◌, ap, ap₂, sym, ◌∙◌, append
 use Rattle.std.specs.List.{flat_map}
 use Rattle.std.proofs.lemmas.List.Concat.{flat_map-append}
 use Rattle.std.specs.Result.{IsErr}
-use Rattle.aprs_kiss.specs.Device.{Rose}
+use Rattle.aprs_kiss.specs.Device.{Rose, RoseAtErr}
 use Rattle.aprs_kiss.specs.declared.WriteFault.{WriteFault}
 use Rattle.aprs_outbox.proofs.Sending.{Puts-last, Puts-more, Puts-nil, prefix_of_first, prefix_of_last, prefix_of_piece}
 use Rattle.aprs_ax25.specs.Callsign.{Call, call_text}
@@ -19,23 +19,32 @@ abbrev Answer : Type 0
 Answer = Result (Unit {0}) WriteFault
 
 -- nothing is put
-pub PutsText-none : (a : Option (List ℕ)) (m : ℕ) (h : List ℕ) → PutsText (Ok tt) a a m m h h []
-PutsText-none a m h = record { sent = Puts-nil a h; prefix = tt; count = omega arith; fault = tt }
+pub PutsText-none : (a : Option (List ℕ)) (m u : ℕ) (h : List ℕ)
+    → PutsText (Ok tt) a a m m u u h h []
+PutsText-none a m u h = record {
+  sent = Puts-nil a h;
+  prefix = tt;
+  count = omega arith;
+  fault = tt;
+  answered = refl;
+}
 
 -- a text by another name
-pub PutsText-is : {r : Answer} {a b : Option (List ℕ)} {m n : ℕ} {h i x y : List ℕ}
-    → PutsText r a b m n h i x → x ≡ y → PutsText r a b m n h i y
-PutsText-is {r} {a} {b} {m} {n} {h} {i} {x} {y} p e = subst (PutsText r a b m n h i) e p
+pub PutsText-is : {r : Answer} {a b : Option (List ℕ)} {m n u v : ℕ} {h i x y : List ℕ}
+    → PutsText r a b m n u v h i x → x ≡ y → PutsText r a b m n u v h i y
+PutsText-is {r} {a} {b} {m} {n} {u} {v} {h} {i} {x} {y} p e =
+    subst (PutsText r a b m n u v h i) e p
 
 -- one text, and then another
-pub PutsText-then : {r : Answer} {a b c : Option (List ℕ)} {m n o : ℕ} {h i j x y : List ℕ}
-    → PutsText (Ok tt) a b m n h i x → PutsText r b c n o i j y
-    → PutsText r a c m o h j (x ++ y)
-PutsText-then {r} {a} {b} {c} {m} {n} {o} {h} {i} {j} {x} {y} p q = record {
+pub PutsText-then : {r : Answer} {a b c : Option (List ℕ)} {m n o u v w : ℕ} {h i j x y : List ℕ}
+    → PutsText (Ok tt) a b m n u v h i x → PutsText r b c n o v w i j y
+    → PutsText r a c m o u w h j (x ++ y)
+PutsText-then {r} {a} {b} {c} {m} {n} {o} {u} {v} {w} {h} {i} {j} {x} {y} p q = record {
   sent = Puts-last r a b c h i (x ++ y) x y p.sent refl j q.sent;
   prefix = prefix_of_last r a b c h i (x ++ y) x y p.sent refl q.prefix;
   count = let first = p.count in let second = q.count in omega (arith, first, second);
   fault = later r q.fault;
+  answered = subst (λ t. RoseAtErr r t w) p.answered q.answered;
 }
   where
     later : (r : Answer) → OnErr r (Rose n o) → OnErr r (Rose m o)
@@ -43,29 +52,29 @@ PutsText-then {r} {a} {b} {c} {m} {n} {o} {h} {i} {j} {x} {y} p q = record {
     later (Err e) rose = let first = p.count in omega (arith, first, rose)
 
 -- what was held after a fault is not said
-pub PutsText-err : {e : WriteFault} {a b : Option (List ℕ)} {m n : ℕ} {h i j x : List ℕ}
-    (r : Answer) → IsErr r → PutsText (Err e) a b m n h i x → PutsText r a b m n h j x
+pub PutsText-err : {e : WriteFault} {a b : Option (List ℕ)} {m n u v : ℕ} {h i j x : List ℕ}
+    (r : Answer) → IsErr r → PutsText (Err e) a b m n u v h i x → PutsText r a b m n u v h j x
 PutsText-err (Ok v) is p = absurd cc
 PutsText-err (Err f) is p = record {
   sent = tt;
   prefix = p.prefix;
   count = p.count;
-  fault =
-      p.fault;
+  fault = p.fault;
+  answered = p.answered;
 }
 
 -- the first of two texts failed
-pub PutsText-fails : {e : WriteFault} {a b : Option (List ℕ)} {m n : ℕ} {h i j x : List ℕ}
-    (r : Answer) → IsErr r → PutsText (Err e) a b m n h i x
-    → (y : List ℕ) → PutsText r a b m n h j (x ++ y)
-PutsText-fails {e} {a} {b} {m} {n} {h} {i} {j} {x} r is p y =
-    let whole : PutsText (Err e) a b m n h i (x ++ y) =
+pub PutsText-fails : {e : WriteFault} {a b : Option (List ℕ)} {m n u v : ℕ} {h i j x : List ℕ}
+    (r : Answer) → IsErr r → PutsText (Err e) a b m n u v h i x
+    → (y : List ℕ) → PutsText r a b m n u v h j (x ++ y)
+PutsText-fails {e} {a} {b} {m} {n} {u} {v} {h} {i} {j} {x} r is p y =
+    let whole : PutsText (Err e) a b m n u v h i (x ++ y) =
     record {
       sent = tt;
       prefix = prefix_of_first a b h x y p.prefix;
       count = p.count;
-      fault =
-          p.fault;
+      fault = p.fault;
+      answered = p.answered;
     } in
     PutsText-err r is whole
 
@@ -73,27 +82,29 @@ PutsText-fails {e} {a} {b} {m} {n} {h} {i} {j} {x} r is p y =
 
 module _ {X : Type 0} (f : X → List ℕ) (xs : List X) (i : ℕ) (x : X) (lt : i < length xs)
     (is : x ≡ get_or xs i x)
-    {a b c : Option (List ℕ)} {m n o : ℕ} {h j k : List ℕ}
-    (p : PutsText (Ok tt) a b m n h j (flat_map f (take i xs))) where
+    {a b c : Option (List ℕ)} {m n o u v w : ℕ} {h j k : List ℕ}
+    (p : PutsText (Ok tt) a b m n u v h j (flat_map f (take i xs))) where
   -- one piece more
-  pub PutsText-more : PutsText (Ok tt) b c n o j k (f x)
-      → PutsText (Ok tt) a c m o h k (flat_map f (take (i + 1) xs))
+  pub PutsText-more : PutsText (Ok tt) b c n o v w j k (f x)
+      → PutsText (Ok tt) a c m o u w h k (flat_map f (take (i + 1) xs))
   PutsText-more q = record {
     sent = Puts-more f xs i x lt is a b c h j p.sent (f x) refl k q.sent;
     prefix = tt;
     count = let first = p.count in let second = q.count in omega (arith, first, second);
     fault = tt;
+    answered = q.answered ∙ p.answered;
   }
 
   -- a piece failed
   pub PutsText-broken : {e : WriteFault} (l : List ℕ) (r : Answer) → IsErr r
-      → PutsText (Err e) b c n o j k (f x) → PutsText r a c m o h l (flat_map f xs)
+      → PutsText (Err e) b c n o v w j k (f x) → PutsText r a c m o u w h l (flat_map f xs)
   PutsText-broken {e} l r is_err q =
-      let whole : PutsText (Err e) a c m o h k (flat_map f xs) = record {
+      let whole : PutsText (Err e) a c m o u w h k (flat_map f xs) = record {
         sent = tt;
         prefix = prefix_of_piece f xs i x lt is a b c h j p.sent (f x) refl q.prefix;
         count = let first = p.count in let second = q.count in omega (arith, first, second);
         fault = let first = p.count in let second = q.fault in omega (arith, first, second);
+        answered = subst (λ t. Rose t w) p.answered q.answered;
       } in
       PutsText-err r is_err whole
 

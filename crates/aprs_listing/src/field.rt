@@ -1,6 +1,6 @@
 //! The fields of the listing's lines.
 ghost use Rattle.std.specs.Prelude.{◌≡◌};
-ghost use Rattle.aprs_kiss.specs.Device.{device_of, failures_of};
+ghost use Rattle.aprs_kiss.specs.Device.{answered_of, device_of, failures_of};
 ghost use Rattle.aprs_listing.specs.Lines.{PutsText, field_text};
 ghost use Rattle.aprs_listing.specs.Listing.{ambiguity_text, fraction_text, stamp_text, word, word_byte};
 ghost use Rattle.aprs_convert.specs.Shown.{shown};
@@ -41,7 +41,8 @@ pub fn put_field<W: Write>(
     field: &Field<'_>,
 ) -> Result<(), WriteFault>
     ensures { PutsText result (W.contents (device_of w.old)) (W.contents (device_of w.new))
-        (failures_of w.old) (failures_of w.new) held.old.items held.new.items
+        (failures_of w.old) (failures_of w.new) (answered_of w.old) (answered_of w.new)
+        held.old.items held.new.items
         (field_text field.now) }
 {
     match field {
@@ -110,7 +111,8 @@ pub fn put_shown<W: Write>(
     bytes: &[u8],
 ) -> Result<(), WriteFault>
     ensures { PutsText result (W.contents (device_of w.old)) (W.contents (device_of w.new))
-        (failures_of w.old) (failures_of w.new) held.old.items held.new.items (shown bytes.now) }
+        (failures_of w.old) (failures_of w.new) (answered_of w.old) (answered_of w.new)
+        held.old.items held.new.items (shown bytes.now) }
 {
     if are_shown(bytes) {
         return put(w, held, bytes);
@@ -124,7 +126,8 @@ pub fn put_shown<W: Write>(
 /// Puts a name, in which a space is shown too.
 fn put_word<W: Write>(w: &mut Counted<W>, held: &mut Outbox, bytes: &[u8]) -> Result<(), WriteFault>
     ensures { PutsText result (W.contents (device_of w.old)) (W.contents (device_of w.new))
-        (failures_of w.old) (failures_of w.new) held.old.items held.new.items (word bytes.now) }
+        (failures_of w.old) (failures_of w.new) (answered_of w.old) (answered_of w.new)
+        held.old.items held.new.items (word bytes.now) }
 {
     for b in bytes {
         put(w, held, word_byte(*b).as_slice())?;

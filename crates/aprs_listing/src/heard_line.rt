@@ -1,6 +1,6 @@
 //! The line of what was heard last of something.
 ghost use Rattle.std.specs.Prelude.{◌≡◌, ◌++◌, ◌∷◌, [], codes, map};
-ghost use Rattle.aprs_kiss.specs.Device.{device_of, failures_of};
+ghost use Rattle.aprs_kiss.specs.Device.{answered_of, device_of, failures_of};
 ghost use Rattle.aprs_listing.specs.Lines.{PutsText, field_text};
 ghost use Rattle.aprs_listing.specs.Listing.{heard_fields, heard_line, live_text, name_fields, place_fields};
 ghost use Rattle.aprs_listing.specs.Listing.{stamp_text, text_line_of};
@@ -48,7 +48,8 @@ pub fn put_heard<W: Write>(
     heard: &Heard<'_>,
 ) -> Result<(), WriteFault>
     ensures { PutsText result (W.contents (device_of w.old)) (W.contents (device_of w.new))
-        (failures_of w.old) (failures_of w.new) held.old.items held.new.items
+        (failures_of w.old) (failures_of w.new) (answered_of w.old) (answered_of w.new)
+        held.old.items held.new.items
         (heard_line heard.now) }
 {
     match heard.report {
@@ -96,7 +97,8 @@ fn put_position<W: Write>(
     at: &Whereabouts<'_>,
 ) -> Result<(), WriteFault>
     ensures { PutsText result (W.contents (device_of w.old)) (W.contents (device_of w.new))
-        (failures_of w.old) (failures_of w.new) held.old.items held.new.items
+        (failures_of w.old) (failures_of w.new) (answered_of w.old) (answered_of w.new)
+        held.old.items held.new.items
         (text_line_of (codes "position") (heard_fields heard.now
         ++ place_fields at.now.stamp at.now.place at.now.symbol) at.now.comment.now) }
 {
@@ -118,7 +120,8 @@ fn put_name<'a, W: Write>(
     at: &Whereabouts<'_>,
 ) -> Result<(), WriteFault>
     ensures { PutsText result (W.contents (device_of w.old)) (W.contents (device_of w.new))
-        (failures_of w.old) (failures_of w.new) held.old.items held.new.items
+        (failures_of w.old) (failures_of w.new) (answered_of w.old) (answered_of w.new)
+        held.old.items held.new.items
         (text_line_of kind.now (name_fields name.now live heard.now
         ++ place_fields at.now.stamp at.now.place at.now.symbol) at.now.comment.now) }
 {
@@ -141,7 +144,8 @@ fn put_status<W: Write>(
     text: &[u8],
 ) -> Result<(), WriteFault>
     ensures { PutsText result (W.contents (device_of w.old)) (W.contents (device_of w.new))
-        (failures_of w.old) (failures_of w.new) held.old.items held.new.items
+        (failures_of w.old) (failures_of w.new) (answered_of w.old) (answered_of w.new)
+        held.old.items held.new.items
         (text_line_of (codes "status") (heard_fields heard.now ++ stamp_text stamp ∷ []) text.now) }
 {
     let fields = [

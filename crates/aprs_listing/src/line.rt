@@ -1,7 +1,7 @@
 //! The listing's lines on their way out.
 ghost use Rattle.std.specs.Prelude.{[], ◌∷◌, ◌++◌};
 ghost use Rattle.std.specs.List.{flat_map};
-ghost use Rattle.aprs_kiss.specs.Device.{device_of, failures_of};
+ghost use Rattle.aprs_kiss.specs.Device.{answered_of, device_of, failures_of};
 ghost use Rattle.aprs_listing.specs.Lines.{PutsText, spaced_field};
 ghost use Rattle.aprs_convert.specs.Shown.{shown};
 
@@ -18,7 +18,8 @@ pub fn put_line<W: Write>(
     fields: &[Field<'_>],
 ) -> Result<(), WriteFault>
     ensures { PutsText result (W.contents (device_of w.old)) (W.contents (device_of w.new))
-        (failures_of w.old) (failures_of w.new) held.old.items held.new.items
+        (failures_of w.old) (failures_of w.new) (answered_of w.old) (answered_of w.new)
+        held.old.items held.new.items
         (kind.now ++ (flat_map spaced_field fields.now ++ 10 ∷ [])) }
 {
     put(w, held, kind)?;
@@ -36,7 +37,8 @@ pub fn put_text_line<W: Write>(
     text: &[u8],
 ) -> Result<(), WriteFault>
     ensures { PutsText result (W.contents (device_of w.old)) (W.contents (device_of w.new))
-        (failures_of w.old) (failures_of w.new) held.old.items held.new.items
+        (failures_of w.old) (failures_of w.new) (answered_of w.old) (answered_of w.new)
+        held.old.items held.new.items
         (kind.now ++ (flat_map spaced_field fields.now
         ++ (flat_map spaced_field others.now ++ (58 ∷ shown text.now ++ 10 ∷ [])))) }
 {
@@ -53,7 +55,8 @@ fn put_fields<W: Write>(
     fields: &[Field<'_>],
 ) -> Result<(), WriteFault>
     ensures { PutsText result (W.contents (device_of w.old)) (W.contents (device_of w.new))
-        (failures_of w.old) (failures_of w.new) held.old.items held.new.items
+        (failures_of w.old) (failures_of w.new) (answered_of w.old) (answered_of w.new)
+        held.old.items held.new.items
         (flat_map spaced_field fields.now) }
 {
     for field in fields {
@@ -69,7 +72,8 @@ fn put_spaced<W: Write>(
     field: &Field<'_>,
 ) -> Result<(), WriteFault>
     ensures { PutsText result (W.contents (device_of w.old)) (W.contents (device_of w.new))
-        (failures_of w.old) (failures_of w.new) held.old.items held.new.items
+        (failures_of w.old) (failures_of w.new) (answered_of w.old) (answered_of w.new)
+        held.old.items held.new.items
         (spaced_field field.now) }
 {
     put(w, held, b" ")?;
@@ -79,7 +83,8 @@ fn put_spaced<W: Write>(
 /// Puts a colon, the text as it is shown, and an LF.
 fn put_text<W: Write>(w: &mut Counted<W>, held: &mut Outbox, text: &[u8]) -> Result<(), WriteFault>
     ensures { PutsText result (W.contents (device_of w.old)) (W.contents (device_of w.new))
-        (failures_of w.old) (failures_of w.new) held.old.items held.new.items
+        (failures_of w.old) (failures_of w.new) (answered_of w.old) (answered_of w.new)
+        held.old.items held.new.items
         (58 ∷ shown text.now ++ 10 ∷ []) }
 {
     put(w, held, b":")?;

@@ -2,7 +2,8 @@
 ghost use Rattle.std.specs.Prelude.{◌≡◌, ◌≤◌, IfOk, OnOk, OnErr};
 ghost use Rattle.std.specs.List.{flat_map};
 ghost use Rattle.std.specs.Io.KnownBytes.{Appends};
-ghost use Rattle.aprs_kiss.specs.Device.{device_of, failures_of, Rose, AppendsPrefix};
+ghost use Rattle.aprs_kiss.specs.Device.{answered_of, device_of, failures_of, Rose, RoseAtErr};
+ghost use Rattle.aprs_kiss.specs.Device.{AppendsPrefix};
 ghost use Rattle.aprs_laws.specs.Gap.{millis_of};
 ghost use Rattle.aprs_book.specs.Stations.{ReportsStations};
 ghost use Rattle.aprs_book.specs.Names.{ReportsNamed};
@@ -82,6 +83,7 @@ impl<'a, A: Allocator + Copy> Views<'a, A> {
             (show_text self.now.stations.items self.now.named.items self.now.messages.items)) }
         ensures count { failures_of w.old ≤ failures_of w.new }
         ensures fault { OnErr result (Rose (failures_of w.old) (failures_of w.new)) }
+        ensures answered { RoseAtErr result (answered_of w.old) (answered_of w.new) }
     {
         let mut held = Outbox::new();
         put_views(w, &mut held, self)?;
@@ -96,7 +98,8 @@ fn put_views<W: Write, A: Allocator + Copy>(
     views: &Views<'_, A>,
 ) -> Result<(), WriteFault>
     ensures { PutsText result (W.contents (device_of w.old)) (W.contents (device_of w.new))
-        (failures_of w.old) (failures_of w.new) held.old.items held.new.items
+        (failures_of w.old) (failures_of w.new) (answered_of w.old) (answered_of w.new)
+        held.old.items held.new.items
         (show_text views.now.stations.items views.now.named.items views.now.messages.items) }
 {
     put_stations(w, held, &views.stations)?;
@@ -111,7 +114,8 @@ fn put_stations<W: Write>(
     stations: &[Station<'_>],
 ) -> Result<(), WriteFault>
     ensures { PutsText result (W.contents (device_of w.old)) (W.contents (device_of w.new))
-        (failures_of w.old) (failures_of w.new) held.old.items held.new.items
+        (failures_of w.old) (failures_of w.new) (answered_of w.old) (answered_of w.new)
+        held.old.items held.new.items
         (flat_map station_lines stations.now) }
 {
     for station in stations {
@@ -127,7 +131,8 @@ fn put_all_named<W: Write>(
     all: &[Named<'_>],
 ) -> Result<(), WriteFault>
     ensures { PutsText result (W.contents (device_of w.old)) (W.contents (device_of w.new))
-        (failures_of w.old) (failures_of w.new) held.old.items held.new.items
+        (failures_of w.old) (failures_of w.new) (answered_of w.old) (answered_of w.new)
+        held.old.items held.new.items
         (flat_map named_line all.now) }
 {
     for named in all {
@@ -143,7 +148,8 @@ fn put_messages<W: Write>(
     messages: &[MessageRow<'_>],
 ) -> Result<(), WriteFault>
     ensures { PutsText result (W.contents (device_of w.old)) (W.contents (device_of w.new))
-        (failures_of w.old) (failures_of w.new) held.old.items held.new.items
+        (failures_of w.old) (failures_of w.new) (answered_of w.old) (answered_of w.new)
+        held.old.items held.new.items
         (flat_map message_line messages.now) }
 {
     for message in messages {
@@ -159,7 +165,8 @@ fn put_station<W: Write>(
     station: &Station<'_>,
 ) -> Result<(), WriteFault>
     ensures { PutsText result (W.contents (device_of w.old)) (W.contents (device_of w.new))
-        (failures_of w.old) (failures_of w.new) held.old.items held.new.items
+        (failures_of w.old) (failures_of w.new) (answered_of w.old) (answered_of w.new)
+        held.old.items held.new.items
         (station_lines station.now) }
 {
     let fields = [
@@ -178,7 +185,8 @@ fn put_known<W: Write>(
     known: &Option<Heard<'_>>,
 ) -> Result<(), WriteFault>
     ensures { PutsText result (W.contents (device_of w.old)) (W.contents (device_of w.new))
-        (failures_of w.old) (failures_of w.new) held.old.items held.new.items
+        (failures_of w.old) (failures_of w.new) (answered_of w.old) (answered_of w.new)
+        held.old.items held.new.items
         (known_line known.now) }
 {
     match known {
@@ -194,7 +202,8 @@ fn put_message<W: Write>(
     message: &MessageRow<'_>,
 ) -> Result<(), WriteFault>
     ensures { PutsText result (W.contents (device_of w.old)) (W.contents (device_of w.new))
-        (failures_of w.old) (failures_of w.new) held.old.items held.new.items
+        (failures_of w.old) (failures_of w.new) (answered_of w.old) (answered_of w.new)
+        held.old.items held.new.items
         (message_line message.now) }
 {
     let fields = [

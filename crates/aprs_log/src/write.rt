@@ -3,7 +3,8 @@ ghost use Rattle.std.specs.Prelude.{◌≡◌, ◌≤◌, ◌+◌, ◌*◌, [], 
 ghost use Rattle.std.specs.Io.KnownBytes.{Appends};
 ghost use Rattle.std.proofs.Props.{props};
 ghost use Rattle.hex.specs.Hex.{decode_of, encode_lower};
-ghost use Rattle.aprs_io.specs.Device.{device_of, failures_of, Rose, AppendsPrefix};
+ghost use Rattle.aprs_io.specs.Device.{answered_of, device_of, failures_of, Rose, RoseAtErr};
+ghost use Rattle.aprs_io.specs.Device.{AppendsPrefix};
 ghost use Rattle.aprs_kiss.specs.Spelling.{kiss_text, spelling_of_byte};
 ghost use Rattle.aprs_log.specs.Line.{line_of, written_line};
 ghost use Rattle.aprs_log.specs.Moment.{moment_text};
@@ -38,6 +39,7 @@ pub fn write_line<W: Write>(w: &mut Counted<W>, reception: &Reception) -> Result
         (W.contents (device_of w.new)) (written_line reception.now ++ 10 ∷ [])) }
     ensures count { failures_of w.old ≤ failures_of w.new }
     ensures fault { OnErr result (Rose (failures_of w.old) (failures_of w.new)) }
+    ensures answered { RoseAtErr result (answered_of w.old) (answered_of w.new) }
     // The line reads back as the reception.
     ensures reads_back { line_of (written_line reception.now) ≡ Ok (Line.Heard reception.now) }
 {
@@ -77,6 +79,7 @@ impl LogWriter {
             (W.contents (device_of w.new)) (written_line reception.now ++ 10 ∷ [])) }
         ensures count { failures_of w.old ≤ failures_of w.new }
         ensures fault { OnErr result (Rose (failures_of w.old) (failures_of w.new)) }
+        ensures answered { RoseAtErr result (answered_of w.old) (answered_of w.new) }
         // The line reads back as the reception.
         ensures reads_back { line_of (written_line reception.now) ≡ Ok (Line.Heard reception.now) }
     {

@@ -2,7 +2,8 @@
 ghost use Rattle.std.specs.Prelude.{◌≡◌, ◌≤◌, ◌+◌, [], ◌++◌, length, OnOk, OnErr};
 ghost use Rattle.std.specs.Io.KnownBytes.{Appends};
 ghost use Rattle.arrayvec.specs.ArrayVec.{array_vec_len};
-ghost use Rattle.aprs_io.specs.Device.{device_of, failures_of, Rose, AppendsPrefix};
+ghost use Rattle.aprs_io.specs.Device.{answered_of, device_of, failures_of, Rose, RoseAtErr};
+ghost use Rattle.aprs_io.specs.Device.{AppendsPrefix};
 ghost use Rattle.aprs_outbox.specs.Outbox.{Puts};
 
 use aprs_io::{Counted, WriteFault, push_all, send};
@@ -25,6 +26,7 @@ pub fn put<W: Write>(w: &mut Counted<W>, held: &mut Outbox, bytes: &[u8]) -> Res
         (W.contents (device_of w.new)) (held.old.items ++ bytes.now)) }
     ensures count { failures_of w.old ≤ failures_of w.new }
     ensures fault { OnErr result (Rose (failures_of w.old) (failures_of w.new)) }
+    ensures answered { RoseAtErr result (answered_of w.old) (answered_of w.new) }
 {
     if held.len() + bytes.len() > MAX_HELD {
         flush(w, held)?;
@@ -45,6 +47,7 @@ pub fn flush<W: Write>(w: &mut Counted<W>, held: &mut Outbox) -> Result<(), Writ
         (W.contents (device_of w.new)) held.old.items) }
     ensures count { failures_of w.old ≤ failures_of w.new }
     ensures fault { OnErr result (Rose (failures_of w.old) (failures_of w.new)) }
+    ensures answered { RoseAtErr result (answered_of w.old) (answered_of w.new) }
 {
     send(w, held.as_slice())?;
     held.clear();

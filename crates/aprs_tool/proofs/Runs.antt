@@ -1,5 +1,5 @@
 -- Lemmas on conversions and checks as runs.
-use Rattle.std.proofs.Common.{◌≡◌, ℕ, List, Option, Err, refl}
+use Rattle.std.proofs.Common.{◌≡◌, ℕ, List, Option, Result, Err, refl}
 use Rattle.aprs_kiss.specs.Device.{Rose, RoseWhere}
 use Rattle.aprs_log.specs.declared.Ending.{Ending}
 use Rattle.aprs_convert.specs.Ends.{IsRead as IsReadOf, RunsOver as Converts}
@@ -7,6 +7,7 @@ use Rattle.aprs_convert.specs.Plan.{Plan}
 use Rattle.aprs_convert.specs.declared.fault.ConvertFault.{ConvertFault}
 use Rattle.aprs_convert.specs.declared.fault.ConvertFault.TheVariants.{Log, Write}
 use Rattle.aprs_tool.specs.Run.{IsRead, RunsOver, run_fault}
+use Rattle.aprs_tool.specs.declared.fault.RunFault.{RunFault}
 use Rattle.aprs_tool.specs.declared.fault.RunFault.TheVariants as run
 use Rattle.aprs_tool.proofs.Into.{got_so}
 
@@ -33,3 +34,15 @@ rose_as_run Write m n h = h
 pub write_as_run : (fault : ConvertFault) → run_fault fault ≡ run.Write → fault ≡ Write
 write_as_run (Log fault) e = absurd cc
 write_as_run Write e = refl
+
+-- a conversion, or a run, whose output was refused
+abbrev IsRefused : Result (Unit {0}) ConvertFault → Type 0
+IsRefused r = r ≡ Err Write
+
+abbrev IsRunRefused : Result (Unit {0}) RunFault → Type 0
+IsRunRefused r = r ≡ Err run.Write
+
+pub refused_as_run : (fault : ConvertFault) (m n : ℕ) → RoseWhere (IsRefused (Err fault)) m n
+    → RoseWhere (IsRunRefused (Err (run_fault fault))) m n
+refused_as_run (Log fault) m n h = (λ e. absurd cc, λ no. h.1 (λ e. absurd cc))
+refused_as_run Write m n h = (λ e. h.0 refl, λ no. absurd (no refl))

@@ -1,6 +1,6 @@
 //! What is gathered of inputs before their book is made.
 ghost use Rattle.std.specs.Prelude.{◌≡◌, ◌≢◌, [], Err, IfOk, OnOk, OnErr};
-ghost use Rattle.aprs_kiss.specs.Device.{device_of, failures_of, Rose};
+ghost use Rattle.aprs_kiss.specs.Device.{answered_of, device_of, failures_of, Rose, RoseWhere};
 ghost use Rattle.aprs_laws.specs.BookValue.{BookValue, Holds};
 ghost use Rattle.aprs_tool.specs.Gathered.{WritesText};
 
@@ -105,6 +105,8 @@ impl<A: Allocator + Copy> Gathered<A> {
             (W.contents (device_of w.new)) }
         ensures fault { result ≡ Err Unwritten.Write
             → Rose (failures_of w.old) (failures_of w.new) }
+        ensures refused { RoseWhere (result ≡ Err Unwritten.Write) (answered_of w.old)
+            (answered_of w.new) }
     {
         if self.book.len() > 0 || self.pile.is_empty() {
             let book = self.into_book()?;
@@ -124,6 +126,8 @@ fn write_pile<W: Write, A: Allocator + Copy>(
     ensures text { (book : BookValue) → book.gap ≡ gap → Holds pile.now book
         → WritesText result book (W.contents (device_of w.old)) (W.contents (device_of w.new)) }
     ensures fault { result ≡ Err Unwritten.Write → Rose (failures_of w.old) (failures_of w.new) }
+    ensures refused { RoseWhere (result ≡ Err Unwritten.Write) (answered_of w.old)
+        (answered_of w.new) }
 {
     let sorted = pile.sorted()?;
     let rows = sorted.rows(gap)?;

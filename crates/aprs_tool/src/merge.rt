@@ -1,7 +1,7 @@
 //! The merge of several inputs.
-ghost use Rattle.std.specs.Prelude.{◌≡◌, ◌≤◌, ◌-◌, length, map, IfOk, IfErr, IsErrAnd};
+ghost use Rattle.std.specs.Prelude.{◌≡◌, ◌≤◌, ◌-◌, length, map, IfOk, IfErr, IsErrAnd, Err};
 ghost use Rattle.aprs_io.specs.declared.input.TheConstants.{MAX_INPUT};
-ghost use Rattle.aprs_kiss.specs.Device.{device_of, failures_of, Rose};
+ghost use Rattle.aprs_kiss.specs.Device.{answered_of, device_of, failures_of, Rose, RoseWhere};
 ghost use Rattle.aprs_tool.specs.Merge.{IsAsBefore, IsReadOf, MergesEach, OfEach, ReadsEach};
 ghost use Rattle.aprs_tool.specs.Merge.{ReadsNoFurther, RoseAt, RoseWhereEach, RoseWhereRead};
 ghost use Rattle.aprs_tool.specs.Merge.{WritesNothing};
@@ -40,6 +40,9 @@ pub fn merge_run<R: Read, W: Write, A: Allocator + Copy>(
     ensures answered { RoseWhereEach (λ k. IsErrAnd result (IsReadOf k)) inputs.old inputs.new }
     ensures write { IfErr result (λ fault. fault ≡ RunFault.Write
         → Rose (failures_of w.old) (failures_of w.new)) }
+    // `Write` is returned where a call of the output returned a fault, and nowhere else.
+    ensures refused { RoseWhere (result ≡ Err RunFault.Write) (answered_of w.old)
+        (answered_of w.new) }
 {
     let gathered = match read_all(alloc, limit, gap, inputs) {
         Ok(gathered) => gathered,

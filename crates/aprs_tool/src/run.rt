@@ -1,5 +1,5 @@
 //! Conversions and checks as runs over one input.
-ghost use Rattle.std.specs.Prelude.{◌≡◌, ◌≤◌, IfErr, IsErrAnd};
+ghost use Rattle.std.specs.Prelude.{◌≡◌, ◌≤◌, IfErr, IsErrAnd, Err};
 ghost use Rattle.aprs_io.specs.declared.input.TheConstants.{MAX_INPUT};
 ghost use Rattle.aprs_kiss.specs.Device.{device_of, failures_of, answered_of, Rose, RoseWhere};
 ghost use Rattle.aprs_convert.specs.Plan.{check_plan, convert_plan};
@@ -31,6 +31,9 @@ pub fn convert_run<R: Read, W: Write, A: Allocator + Copy>(
     ensures answered { RoseWhere (IsErrAnd result IsRead) (answered_of r.old) (answered_of r.new) }
     ensures write { IfErr result (λ fault. fault ≡ RunFault.Write
         → Rose (failures_of w.old) (failures_of w.new)) }
+    // `Write` is returned where a call of the output returned a fault, and nowhere else.
+    ensures refused { RoseWhere (result ≡ Err RunFault.Write) (answered_of w.old)
+        (answered_of w.new) }
 {
     Ok(convert_input(alloc, limit, form, r, w)?)
 }
@@ -54,6 +57,9 @@ pub fn check_run<R: Read, W: Write, A: Allocator + Copy>(
     ensures answered { RoseWhere (IsErrAnd result IsRead) (answered_of r.old) (answered_of r.new) }
     ensures write { IfErr result (λ fault. fault ≡ RunFault.Write
         → Rose (failures_of w.old) (failures_of w.new)) }
+    // `Write` is returned where a call of the output returned a fault, and nowhere else.
+    ensures refused { RoseWhere (result ≡ Err RunFault.Write) (answered_of w.old)
+        (answered_of w.new) }
 {
     Ok(check_log(alloc, limit, r, w)?)
 }

@@ -1,6 +1,6 @@
 //! The listing of what was gathered.
 ghost use Rattle.std.specs.Prelude.{◌≡◌, Err, IfOk};
-ghost use Rattle.aprs_kiss.specs.Device.{device_of, failures_of, Rose};
+ghost use Rattle.aprs_kiss.specs.Device.{answered_of, device_of, failures_of, Rose, RoseWhere};
 ghost use Rattle.aprs_laws.specs.BookValue.{BookValue, Holds};
 ghost use Rattle.aprs_tool.specs.ShownBook.{ShowsBook};
 
@@ -20,6 +20,8 @@ impl<A: Allocator + Copy> Gathered<A> {
             (W.contents (device_of w.new)) }
         ensures fault { result ≡ Err Unwritten.Write
             → Rose (failures_of w.old) (failures_of w.new) }
+        ensures refused { RoseWhere (result ≡ Err Unwritten.Write) (answered_of w.old)
+            (answered_of w.new) }
     {
         if self.book.len() > 0 || self.pile.is_empty() {
             let book = self.into_book()?;
@@ -38,6 +40,8 @@ fn show_book<W: Write, A: Allocator + Copy>(
     ensures listing { ShowsBook result book.now (W.contents (device_of w.old))
         (W.contents (device_of w.new)) }
     ensures fault { result ≡ Err Unwritten.Write → Rose (failures_of w.old) (failures_of w.new) }
+    ensures refused { RoseWhere (result ≡ Err Unwritten.Write) (answered_of w.old)
+        (answered_of w.new) }
 {
     let views = Views::of(book)?;
     Ok(views.write(w)?)
@@ -51,6 +55,8 @@ fn show_list<W: Write, A: Allocator + Copy>(
     ensures listing { ShowsBook result list.now (W.contents (device_of w.old))
         (W.contents (device_of w.new)) }
     ensures fault { result ≡ Err Unwritten.Write → Rose (failures_of w.old) (failures_of w.new) }
+    ensures refused { RoseWhere (result ≡ Err Unwritten.Write) (answered_of w.old)
+        (answered_of w.new) }
 {
     let views = Views::of_list(list)?;
     Ok(views.write(w)?)

@@ -1,4 +1,4 @@
-use Rattle.std.proofs.Common.{◌∷◌, arith}
+use Rattle.std.proofs.Common.{◌∙◌, ◌∷◌, arith}
 use Rattle.aprs_kiss.proofs.Bytes.{on_err}
 use Rattle.aprs_outbox.proofs.Sending.{Puts-more, prefix_of_piece}
 use Rattle.aprs_booktext.proofs.Written.{names_more}
@@ -17,6 +17,7 @@ loop-name-preserved g c = record {
       (omega arith) c.name-item.is _ _ _ _ _ c.loop-name.invariant.put _
       (cc) _ c.in_ok-put.ensures.sent;
   count = omega (arith, c.loop-name.invariant.count, c.put.ensures.count);
+  answered = c.in_ok-put.ensures.answered ∙ c.loop-name.invariant.answered;
   names = names_more c.args.names.now c.loop-name.name-index _
       (omega arith) c.name-item.is c.loop-name.invariant.names c.after_comma.ensures.name;
 }

@@ -1,4 +1,4 @@
-use Rattle.std.proofs.Common.{arith}
+use Rattle.std.proofs.Common.{◌∙◌, refl, arith}
 use Rattle.aprs_kiss.proofs.Bytes.{on_err}
 use Rattle.aprs_booktext.specs.RowLines.{line_and_lf}
 use Rattle.aprs_outbox.proofs.Sending.{PutSoFar-none, PutSoFar-more, prefix_of_more}
@@ -12,6 +12,7 @@ loop-row-init g c = record {
     c.rows-row-items.ensures.rows,
   ) (PutSoFar-none line_and_lf _ _ _);
   count = omega arith;
+  answered = refl;
   written =
       rw (c.into_iter-row-iterator.ensures.into_iter_gives, c.rows-row-items.ensures.rows)
       (WrittenSoFar-none _);
@@ -22,6 +23,7 @@ loop-row-preserved g c = record {
   put = PutSoFar-more line_and_lf _ _ _ _ _ _ _ _ _ c.loop-row.invariant.put c.in-Some.ensures.steps
       _ (rw c.of.ensures at c.in_ok-put_row.ensures.sent);
   count = omega (arith, c.loop-row.invariant.count, c.put_row.ensures.count);
+  answered = c.in_ok-put_row.ensures.answered ∙ c.loop-row.invariant.answered;
   written = WrittenSoFar-more _ _ _ _ _ c.rows-row-items.ensures.sound.sound
       c.loop-row.invariant.written c.in-Some.ensures.steps
       (rw c.of.ensures at c.in_ok-put_row.ensures.spelled);

@@ -1,4 +1,4 @@
-use Rattle.std.proofs.Common.{arith}
+use Rattle.std.proofs.Common.{◌∙◌, refl, arith}
 use Rattle.std.proofs.lemmas.List.{drop_all}
 use Rattle.aprs_kiss.proofs.Bytes.{on_err}
 use Rattle.aprs_booktext.specs.RowLines.{line_and_lf}
@@ -10,6 +10,7 @@ pub loop-row-init : goal.loop-row-init
 loop-row-init g c = record {
   put = PutSoFar-none line_and_lf _ _ _;
   count = omega arith;
+  answered = refl;
   written = WrittenSoFar-none _;
 }
 
@@ -28,6 +29,7 @@ loop-row-preserved g c =
       put = PutSoFar-more line_and_lf _ _ _ _ _ _ _ _ _ c.loop-row.invariant.put next
           _ (rw c.view.ensures at c.in_ok-put_row.ensures.sent);
       count = omega (arith, c.loop-row.invariant.count, c.put_row.ensures.count);
+      answered = c.in_ok-put_row.ensures.answered ∙ c.loop-row.invariant.answered;
       written = WrittenSoFar-more _ _ _ _ _ c.rows-row-items.ensures.sound.sound
           c.loop-row.invariant.written next (rw c.view.ensures at c.in_ok-put_row.ensures.spelled);
     }

@@ -1,5 +1,5 @@
-use Rattle.std.proofs.Common.{◌≤◌, drop}
-use Rattle.aprs_kiss.specs.Device.{device_of, failures_of}
+use Rattle.std.proofs.Common.{◌≡◌, ◌≤◌, drop}
+use Rattle.aprs_kiss.specs.Device.{answered_of, device_of, failures_of}
 use Rattle.aprs_booktext.specs.RowLines.{line_and_lf}
 use Rattle.aprs_outbox.proofs.Sending.{PutSoFar}
 use Rattle.aprs_booktext.proofs.Written.{WrittenSoFar}
@@ -13,5 +13,6 @@ invariant-loop-row g l =
       put : PutSoFar line_and_lf (contents (device_of l.initial.w))
           (contents (device_of l.w)) l.initial.held.items l.held.items l.fn.rows.rows rest;
       count : failures_of l.initial.w ≤ failures_of l.w;
+      answered : answered_of l.w ≡ answered_of l.initial.w;
       written : WrittenSoFar l.fn.rows.rows rest;
     }

@@ -11,6 +11,7 @@ loop-count-init g c = record {
   writes = omega arith;
   most = omega arith;
   answered = refl;
+  written = refl;
   got = HasGot-none (capture_text c.args.receiver.now c.args.moment.now) c.args.limit _ _ _
       c.new-reader.ensures;
 }
@@ -21,6 +22,7 @@ loop-count-preserved g c = record {
   writes = omega (arith, c.in_ok-capture_chunk-in-Ok.ensures.count, c.loop-count.invariant.writes);
   most = omega (arith, c.loop-count.invariant.most);
   answered = c.in-Ok.ensures.answered.1 (λ e. absurd e) ∙ c.loop-count.invariant.answered;
+  written = c.in_ok-capture_chunk-in-Ok.ensures.answered ∙ c.loop-count.invariant.written;
   got = HasGot-more (capture_text c.args.receiver.now c.args.moment.now) c.args.limit
       c.loop-count.left _ _ _ _ _ _ _ _ _ c.split_at.result.0.now
       c.loop-count.invariant.got (subst (Consumes _ _)

@@ -10,6 +10,7 @@ invariant-loop-count g l = record {
   writes : failures_of l.initial.w ≤ failures_of l.w;
   most : l.left ≤ l.limit;
   answered : answered_of l.r ≡ answered_of l.initial.r;
+  written : answered_of l.w ≡ answered_of l.initial.w;
   got : HasGot (capture_text l.receiver l.moment) l.limit l.left l.reader
       (g.R.Read.remaining (device_of l.initial.r)) (g.R.Read.remaining (device_of l.r))
       (g.W.Write.contents (device_of l.initial.w)) (g.W.Write.contents (device_of l.w));

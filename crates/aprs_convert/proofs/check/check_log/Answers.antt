@@ -15,6 +15,7 @@ lines-init g c = record {
   writes = omega arith;
   going = c.new-reader.ensures.going;
   answered = refl;
+  written = refl;
   checked = λ end. Checked-none _ _ _ c.new-reader.ensures.first;
 }
 
@@ -34,6 +35,7 @@ lines-preserved-in-Heard g c =
       going = gives.1;
       answered = (c.in_ok-advance.ensures.answered c.lines.invariant.going).1 (λ e. absurd e)
           ∙ c.lines.invariant.answered;
+      written = c.lines.invariant.written;
       checked = λ end. Checked-heard _ _ _ _ _ _ _ _ (c.lines.invariant.checked end) _ gives.0
           (current_of c.advance.new.self) _
           (sym c.current.ensures ∙ c.in-Heard.is) (gives.2 end);
@@ -59,6 +61,7 @@ lines-preserved g c =
       going = gives.1;
       answered = (c.in_ok-advance.ensures.answered c.lines.invariant.going).1 (λ e. absurd e)
           ∙ c.lines.invariant.answered;
+      written = c.in_ok-write_passed-in-Passed.ensures.answered ∙ c.lines.invariant.written;
       checked = λ end. Checked-passed _ _ _ _ _ _ _ _ (c.lines.invariant.checked end) _ gives.0 _ _
           (current_of c.advance.new.self) _
           c.line.ensures (sym c.current.ensures

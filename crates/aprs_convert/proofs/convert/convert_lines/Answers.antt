@@ -15,6 +15,7 @@ lines-init g c = record {
   writes = omega arith;
   going = c.new-reader.ensures.going;
   answered = refl;
+  written = refl;
   ran = λ end. Ran-none _ _ _;
 }
 
@@ -28,6 +29,7 @@ lines-preserved g c =
       going = gives.1;
       answered = (c.in_ok-advance.ensures.answered c.lines.invariant.going).1 (λ e. absurd e)
           ∙ c.lines.invariant.answered;
+      written = c.in_ok-write_line_as.ensures.answered ∙ c.lines.invariant.written;
       ran = λ end. Ran-line (line_text c.args.form.now) _ _ _ _ _ _
           (current_of c.advance.new.self) _ c.current.ensures (c.lines.invariant.ran end)
           (gives.2 end) c.in_ok-write_line_as.ensures.sent;

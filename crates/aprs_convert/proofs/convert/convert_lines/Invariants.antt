@@ -17,6 +17,7 @@ invariant-lines g l =
       writes : failures_of l.initial.w ≤ failures_of l.w;
       going : stop_of l.reader ≡ None;
       answered : answered_of (source_of l.reader) ≡ answered_of (source_of l.initial.reader);
+      written : answered_of l.w ≡ answered_of l.initial.w;
       ran : (end : Option (List ℕ)) → Ran (flat_map (line_text l.form))
           (Awaits (remaining (device_of (source_of l.initial.reader))) end l.initial.reader)
           (Awaits (remaining (device_of (source_of l.reader))) end l.reader)

@@ -1,4 +1,4 @@
-use Rattle.std.proofs.Common.{refl, subst, [], ◌∷◌, ◌++◌, arith}
+use Rattle.std.proofs.Common.{refl, subst, [], ◌∷◌, ◌++◌, ◌∙◌, arith}
 use Rattle.std.specs.Io.KnownBytes.{Appends}
 use Rattle.aprs_io.specs.Device.{AppendsPrefix}
 use Rattle.aprs_kiss.specs.Plain.{CutsPlain}
@@ -56,6 +56,8 @@ loop-byte-preserved g c =
     let e = spelling_of-cut _ _ _ (0xC0 ∷ []) _ c.cut_plain.ensures.plain cut.0 in
     record {
       count = omega arith;
+      answered = c.in_ok-send-3.ensures.answered ∙ c.in_ok-send-2.ensures.answered
+          ∙ c.loop-byte.invariant.answered;
       sent = AppendsAllBut-sent _ _ _ _ _ (spelling_of_byte c.in-Some.byte) _
           (AppendsAllBut-sent _ _ _ _ _ _ _ c.loop-byte.invariant.sent e
           c.in_ok-send-2.ensures.sent) refl

@@ -7,11 +7,17 @@ use Rattle.aprs_listing.proofs.field.put_shown.Goals as goal
 
 pub returns-then-are_shown : goal.returns-then-are_shown
 returns-then-are_shown g c = let p = c.put.ensures in
-    PutsText-is (record { sent = p.sent; prefix = p.prefix; count = p.count; fault = p.fault })
+    PutsText-is (record {
+      sent = p.sent;
+      prefix = p.prefix;
+      count = p.count;
+      fault = p.fault;
+      answered = p.answered;
+    })
     (shown-plain c.args.bytes.now (sym c.if-are_shown.ensures))
 
 pub loop-b-init : goal.loop-b-init
-loop-b-init g c = PutsText-none _ _ _
+loop-b-init g c = PutsText-none _ _ _ _
 
 pub loop-b-preserved : goal.loop-b-preserved
 loop-b-preserved g c =
@@ -20,7 +26,13 @@ loop-b-preserved g c =
     let i = c.loop-b.b-index in
     PutsText-more shown_byte bytes i (get_or bytes i 0) (omega arith)
     (get_or_default bytes i 0 _ (omega arith)) c.loop-b.invariant
-    (PutsText-is (record { sent = p.sent; prefix = tt; count = p.count; fault = tt }) (cc))
+    (PutsText-is (record {
+      sent = p.sent;
+      prefix = tt;
+      count = p.count;
+      fault = tt;
+      answered = p.answered;
+    }) (cc))
 
 pub returns-in_err-put : goal.returns-in_err-put
 returns-in_err-put g c =
@@ -31,4 +43,10 @@ returns-in_err-put g c =
     (get_or_default bytes i 0 _ (omega arith)) c.loop-b.invariant _ c.from_residual.result
     c.from_residual.ensures.0
     (PutsText-is {r = Err c.in_err-put.field-0.0} {i = c.put-in-loop-b.new.held.items}
-    (record { sent = tt; prefix = p.prefix; count = p.count; fault = p.fault }) (cc))
+    (record {
+      sent = tt;
+      prefix = p.prefix;
+      count = p.count;
+      fault = p.fault;
+      answered = p.answered;
+    }) (cc))

@@ -5,7 +5,7 @@ use Rattle.aprs_listing.proofs.Lines.{PutsText-broken, PutsText-is, PutsText-mor
 use Rattle.aprs_listing.proofs.field.put_word.Goals as goal
 
 pub loop-b-init : goal.loop-b-init
-loop-b-init g c = PutsText-none _ _ _
+loop-b-init g c = PutsText-none _ _ _ _
 
 pub loop-b-preserved : goal.loop-b-preserved
 loop-b-preserved g c =
@@ -14,7 +14,13 @@ loop-b-preserved g c =
     let i = c.loop-b.b-index in
     PutsText-more word_byte bytes i (get_or bytes i 0) (omega arith)
     (get_or_default bytes i 0 _ (omega arith)) c.loop-b.invariant
-    (PutsText-is (record { sent = p.sent; prefix = tt; count = p.count; fault = tt }) (cc))
+    (PutsText-is (record {
+      sent = p.sent;
+      prefix = tt;
+      count = p.count;
+      fault = tt;
+      answered = p.answered;
+    }) (cc))
 
 pub returns-in_err-put : goal.returns-in_err-put
 returns-in_err-put g c =
@@ -25,4 +31,10 @@ returns-in_err-put g c =
     (get_or_default bytes i 0 _ (omega arith)) c.loop-b.invariant _ c.from_residual.result
     c.from_residual.ensures.0
     (PutsText-is {r = Err c.in_err-put.field-0.0} {i = c.put.new.held.items}
-    (record { sent = tt; prefix = p.prefix; count = p.count; fault = p.fault }) (cc))
+    (record {
+      sent = tt;
+      prefix = p.prefix;
+      count = p.count;
+      fault = p.fault;
+      answered = p.answered;
+    }) (cc))

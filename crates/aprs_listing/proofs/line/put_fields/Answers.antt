@@ -4,7 +4,7 @@ use Rattle.aprs_listing.proofs.Lines.{PutsText-broken, PutsText-more, PutsText-n
 use Rattle.aprs_listing.proofs.line.put_fields.Goals as goal
 
 pub loop-field-init : goal.loop-field-init
-loop-field-init g c = PutsText-none _ _ _
+loop-field-init g c = PutsText-none _ _ _ _
 
 pub loop-field-preserved : goal.loop-field-preserved
 loop-field-preserved g c =

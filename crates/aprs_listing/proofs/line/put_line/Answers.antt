@@ -6,7 +6,13 @@ returns-in_err-put g c =
     let p = c.in_err-put.ensures in
     PutsText-fails {e = c.in_err-put.field-0.0} {i = c.put.new.held.items} {x =
     c.args.kind.now} c.from_residual.result c.from_residual.ensures.0
-    (record { sent = tt; prefix = p.prefix; count = p.count; fault = p.fault }) _
+    (record {
+      sent = tt;
+      prefix = p.prefix;
+      count = p.count;
+      fault = p.fault;
+      answered = p.answered;
+    }) _
 
 pub returns-in_err-put_fields : goal.returns-in_err-put_fields
 returns-in_err-put_fields g c =
@@ -16,6 +22,7 @@ returns-in_err-put_fields g c =
       prefix = tt;
       count = p.count;
       fault = tt;
+      answered = p.answered;
     }) (PutsText-fails c.from_residual-in_err-put_fields.result
     c.from_residual-in_err-put_fields.ensures.0 c.in_err-put_fields.ensures _)
 
@@ -28,5 +35,12 @@ returns g c =
       prefix = tt;
       count = p.count;
       fault = tt;
+      answered = p.answered;
     }) (PutsText-then c.in_ok-put_fields.ensures
-    (record { sent = q.sent; prefix = q.prefix; count = q.count; fault = q.fault }))
+    (record {
+      sent = q.sent;
+      prefix = q.prefix;
+      count = q.count;
+      fault = q.fault;
+      answered = q.answered;
+    }))

@@ -7,8 +7,20 @@ returns-in_err-put g c =
     let p = c.in_err-put.ensures in
     PutsText-fails {e = c.in_err-put.field-0.0} {i = c.put.new.held.items} {x =
     32 ∷ []} c.from_residual.result c.from_residual.ensures.0
-    (record { sent = tt; prefix = p.prefix; count = p.count; fault = p.fault }) _
+    (record {
+      sent = tt;
+      prefix = p.prefix;
+      count = p.count;
+      fault = p.fault;
+      answered = p.answered;
+    }) _
 
 pub returns : goal.returns
 returns g c = let p = c.in_ok-put.ensures in PutsText-then {x = 32 ∷ []}
-    (record { sent = p.sent; prefix = tt; count = p.count; fault = tt }) c.put_field.ensures
+    (record {
+      sent = p.sent;
+      prefix = tt;
+      count = p.count;
+      fault = tt;
+      answered = p.answered;
+    }) c.put_field.ensures

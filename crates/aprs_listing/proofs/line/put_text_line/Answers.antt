@@ -6,7 +6,13 @@ returns-in_err-put g c =
     let p = c.in_err-put.ensures in
     PutsText-fails {e = c.in_err-put.field-0.0} {i = c.put.new.held.items} {x =
     c.args.kind.now} c.from_residual.result c.from_residual.ensures.0
-    (record { sent = tt; prefix = p.prefix; count = p.count; fault = p.fault }) _
+    (record {
+      sent = tt;
+      prefix = p.prefix;
+      count = p.count;
+      fault = p.fault;
+      answered = p.answered;
+    }) _
 
 pub returns-in_err-put_fields : goal.returns-in_err-put_fields
 returns-in_err-put_fields g c =
@@ -16,6 +22,7 @@ returns-in_err-put_fields g c =
       prefix = tt;
       count = p.count;
       fault = tt;
+      answered = p.answered;
     }) (PutsText-fails c.from_residual-in_err-put_fields.result
     c.from_residual-in_err-put_fields.ensures.0 c.in_err-put_fields.ensures _)
 
@@ -27,6 +34,7 @@ returns-in_err-put_fields-2 g c =
       prefix = tt;
       count = p.count;
       fault = tt;
+      answered = p.answered;
     })
     (PutsText-then c.in_ok-put_fields.ensures
     (PutsText-fails c.from_residual-in_err-put_fields-2.result
@@ -40,5 +48,6 @@ returns g c =
       prefix = tt;
       count = p.count;
       fault = tt;
+      answered = p.answered;
     }) (PutsText-then c.in_ok-put_fields.ensures
     (PutsText-then c.in_ok-put_fields-2.ensures c.put_text.ensures))

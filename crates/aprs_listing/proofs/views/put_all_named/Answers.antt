@@ -4,7 +4,7 @@ use Rattle.aprs_listing.proofs.Lines.{PutsText-broken, PutsText-more, PutsText-n
 use Rattle.aprs_listing.proofs.views.put_all_named.Goals as goal
 
 pub loop-named-init : goal.loop-named-init
-loop-named-init g c = PutsText-none _ _ _
+loop-named-init g c = PutsText-none _ _ _ _
 
 pub loop-named-preserved : goal.loop-named-preserved
 loop-named-preserved g c =

@@ -4,7 +4,7 @@ use Rattle.aprs_listing.proofs.Lines.{PutsText-broken, PutsText-more, PutsText-n
 use Rattle.aprs_listing.proofs.views.put_messages.Goals as goal
 
 pub loop-message-init : goal.loop-message-init
-loop-message-init g c = PutsText-none _ _ _
+loop-message-init g c = PutsText-none _ _ _ _
 
 pub loop-message-preserved : goal.loop-message-preserved
 loop-message-preserved g c =

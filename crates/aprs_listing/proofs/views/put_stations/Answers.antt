@@ -4,7 +4,7 @@ use Rattle.aprs_listing.proofs.Lines.{PutsText-broken, PutsText-more, PutsText-n
 use Rattle.aprs_listing.proofs.views.put_stations.Goals as goal
 
 pub loop-station-init : goal.loop-station-init
-loop-station-init g c = PutsText-none _ _ _
+loop-station-init g c = PutsText-none _ _ _ _
 
 pub loop-station-preserved : goal.loop-station-preserved
 loop-station-preserved g c =

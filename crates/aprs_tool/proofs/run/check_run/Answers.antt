@@ -1,6 +1,6 @@
 use Rattle.std.proofs.lemmas.Result.{err_from_is_err_and}
 use Rattle.aprs_convert.specs.Plan.{check_plan}
-use Rattle.aprs_tool.proofs.Runs.{ends_as_run, read_as_run, rose_as_run, write_as_run}
+use Rattle.aprs_tool.proofs.Runs.{ends_as_run, read_as_run, refused_as_run, rose_as_run, write_as_run}
 use Rattle.aprs_tool.proofs.run.check_run.Goals as goal
 
 pub returns-in_err-check_log-clause-run : goal.returns-in_err-check_log-clause-run
@@ -24,3 +24,9 @@ returns-in_err-check_log-clause-write g c =
     let p = err_from_is_err_and c.from_residual.result c.from_residual.ensures.1 in
     rw (p.1, p.2) (λ e. c.in_err-check_log.ensures.write
     (write_as_run c.in_err-check_log.field-0.0 e))
+
+pub returns-in_err-check_log-clause-refused : goal.returns-in_err-check_log-clause-refused
+returns-in_err-check_log-clause-refused g c =
+    let p = err_from_is_err_and c.from_residual.result c.from_residual.ensures.1 in
+    rw (p.1, p.2)
+    (refused_as_run c.in_err-check_log.field-0.0 _ _ c.in_err-check_log.ensures.refused)

@@ -1,6 +1,6 @@
 use Rattle.std.proofs.lemmas.Result.{err_from_is_err_and}
 use Rattle.aprs_convert.specs.Plan.{convert_plan}
-use Rattle.aprs_tool.proofs.Runs.{ends_as_run, read_as_run, rose_as_run, write_as_run}
+use Rattle.aprs_tool.proofs.Runs.{ends_as_run, read_as_run, refused_as_run, rose_as_run, write_as_run}
 use Rattle.aprs_tool.proofs.run.convert_run.Goals as goal
 
 pub returns-in_err-convert_input-clause-run : goal.returns-in_err-convert_input-clause-run
@@ -26,3 +26,9 @@ returns-in_err-convert_input-clause-write g c =
     let p = err_from_is_err_and c.from_residual.result c.from_residual.ensures.1 in
     rw (p.1, p.2) (λ e. c.in_err-convert_input.ensures.write
     (write_as_run c.in_err-convert_input.field-0.0 e))
+
+pub returns-in_err-convert_input-clause-refused : goal.returns-in_err-convert_input-clause-refused
+returns-in_err-convert_input-clause-refused g c =
+    let p = err_from_is_err_and c.from_residual.result c.from_residual.ensures.1 in
+    rw (p.1, p.2)
+    (refused_as_run c.in_err-convert_input.field-0.0 _ _ c.in_err-convert_input.ensures.refused)
