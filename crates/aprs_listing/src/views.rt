@@ -22,8 +22,11 @@ use std::io::Write;
 
 /// What is listed of a book.
 pub struct Views<'a, A: Allocator = Global> {
+    /// The stations, ascending by callsign.
     pub stations: Vec<Station<'a>, A>,
+    /// The objects by name, and then the items by name.
     pub named: Vec<Named<'a>, A>,
+    /// The messages, ascending by source, addressee, text and id.
     pub messages: Vec<MessageRow<'a>, A>,
 }
 
@@ -41,7 +44,7 @@ impl<'a, A: Allocator> Drop for Views<'a, A> {
 }
 
 impl<'a, A: Allocator + Copy> Views<'a, A> {
-    /// What is listed of the book.
+    /// What is listed of the book. `Memory` where an allocation failed for what is listed.
     pub fn of(book: &'a Book<A>) -> Result<Views<'a, A>, Memory>
         ensures stations { IfOk result (λ v.
             ReportsStations (millis_of book.now.gap) book.now.rows v.stations.items) }
@@ -57,7 +60,7 @@ impl<'a, A: Allocator + Copy> Views<'a, A> {
         })
     }
 
-    /// What is listed of the rows of a list.
+    /// What is listed of the rows of a list. `Memory` where an allocation failed for what is listed.
     pub fn of_list(list: &'a RowList<A>) -> Result<Views<'a, A>, Memory>
         ensures stations { IfOk result (λ v.
             ReportsStations (millis_of list.now.gap) list.now.rows v.stations.items) }
@@ -73,7 +76,8 @@ impl<'a, A: Allocator + Copy> Views<'a, A> {
         })
     }
 
-    /// Writes the listing. Takes no memory.
+    /// Writes the listing, a line for each station, what is last known of it, each object, item and
+    /// message. At a fault a prefix of that went out. Takes no memory.
     pub fn write<W: Write>(&self, w: &mut Counted<W>) -> Result<(), WriteFault>
         ensures sent { OnOk result (Appends (W.contents (device_of w.old))
             (W.contents (device_of w.new))
