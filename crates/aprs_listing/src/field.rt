@@ -2,7 +2,8 @@
 ghost use Rattle.std.specs.Prelude.{◌≡◌};
 ghost use Rattle.aprs_kiss.specs.Device.{answered_of, device_of, failures_of};
 ghost use Rattle.aprs_listing.specs.Lines.{PutsText, field_text};
-ghost use Rattle.aprs_listing.specs.Listing.{ambiguity_text, fraction_text, stamp_text, word, word_byte};
+ghost use Rattle.aprs_listing.specs.Listing.{ambiguity_text, fraction_text, stamp_text};
+ghost use Rattle.aprs_listing.specs.Listing.{word, word_byte};
 ghost use Rattle.aprs_convert.specs.Shown.{shown};
 
 use aprs_ax25::Callsign;

@@ -2,8 +2,8 @@
 ghost use Rattle.std.specs.Prelude.{◌≡◌, ◌++◌, ◌∷◌, [], codes, map};
 ghost use Rattle.aprs_kiss.specs.Device.{answered_of, device_of, failures_of};
 ghost use Rattle.aprs_listing.specs.Lines.{PutsText, field_text};
-ghost use Rattle.aprs_listing.specs.Listing.{heard_fields, heard_line, live_text, name_fields, place_fields};
-ghost use Rattle.aprs_listing.specs.Listing.{stamp_text, text_line_of};
+ghost use Rattle.aprs_listing.specs.Listing.{heard_fields, heard_line, live_text, name_fields};
+ghost use Rattle.aprs_listing.specs.Listing.{place_fields, stamp_text, text_line_of};
 
 use crate::field::Field;
 use crate::line::put_text_line;

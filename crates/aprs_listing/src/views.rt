@@ -9,7 +9,8 @@ ghost use Rattle.aprs_book.specs.Stations.{ReportsStations};
 ghost use Rattle.aprs_book.specs.Names.{ReportsNamed};
 ghost use Rattle.aprs_book.specs.Messages.{ReportsMessages};
 ghost use Rattle.aprs_listing.specs.Lines.{PutsText};
-ghost use Rattle.aprs_listing.specs.Listing.{id_text, known_line, message_line, named_line, show_text, state_text, station_lines};
+ghost use Rattle.aprs_listing.specs.Listing.{id_text, known_line, message_line, named_line, show_text};
+ghost use Rattle.aprs_listing.specs.Listing.{state_text, station_lines};
 
 use crate::field::Field;
 use crate::heard_line::put_heard;
@@ -44,7 +45,7 @@ impl<'a, A: Allocator> Drop for Views<'a, A> {
 }
 
 impl<'a, A: Allocator + Copy> Views<'a, A> {
-    /// What is listed of the book. `Memory` where an allocation failed for what is listed.
+    /// What is listed of the book. `Memory` where an allocation failed for it.
     pub fn of(book: &'a Book<A>) -> Result<Views<'a, A>, Memory>
         ensures stations { IfOk result (λ v.
             ReportsStations (millis_of book.now.gap) book.now.rows v.stations.items) }
@@ -60,7 +61,7 @@ impl<'a, A: Allocator + Copy> Views<'a, A> {
         })
     }
 
-    /// What is listed of the rows of a list. `Memory` where an allocation failed for what is listed.
+    /// What is listed of the rows of a list. `Memory` where an allocation failed for it.
     pub fn of_list(list: &'a RowList<A>) -> Result<Views<'a, A>, Memory>
         ensures stations { IfOk result (λ v.
             ReportsStations (millis_of list.now.gap) list.now.rows v.stations.items) }
