@@ -7,11 +7,11 @@ ghost use Rattle.aprs_listing.specs.Listing.{word, word_byte};
 ghost use Rattle.aprs_convert.specs.Shown.{shown};
 
 use aprs_ax25::Callsign;
-use aprs_outbox::{Outbox, put};
 use aprs_convert::{are_shown, shown_byte};
 use aprs_io::push_all;
 use aprs_kiss::{Counted, WriteFault};
 use aprs_log::Moment;
+use aprs_outbox::{Outbox, put};
 use aprs_report::{Fraction, Place, Stamp, Symbol};
 use arrayvec::ArrayVec;
 use itoa::Buffer;

@@ -8,8 +8,8 @@ ghost use Rattle.aprs_listing.specs.Listing.{place_fields, stamp_text, text_line
 use crate::field::Field;
 use crate::line::put_text_line;
 use aprs_book::Heard;
-use aprs_outbox::Outbox;
 use aprs_kiss::{Counted, WriteFault};
+use aprs_outbox::Outbox;
 use aprs_report::{Place, Report, Stamp, Symbol};
 use std::io::Write;
 

@@ -6,8 +6,8 @@ ghost use Rattle.aprs_listing.specs.Lines.{PutsText, spaced_field};
 ghost use Rattle.aprs_convert.specs.Shown.{shown};
 
 use crate::field::{Field, put_field, put_shown};
-use aprs_outbox::{Outbox, put};
 use aprs_kiss::{Counted, WriteFault};
+use aprs_outbox::{Outbox, put};
 use std::io::Write;
 
 /// Puts a line: its kind, and each field after a space.

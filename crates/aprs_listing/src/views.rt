@@ -9,15 +9,15 @@ ghost use Rattle.aprs_book.specs.Stations.{ReportsStations};
 ghost use Rattle.aprs_book.specs.Names.{ReportsNamed};
 ghost use Rattle.aprs_book.specs.Messages.{ReportsMessages};
 ghost use Rattle.aprs_listing.specs.Lines.{PutsText};
-ghost use Rattle.aprs_listing.specs.Listing.{id_text, known_line, message_line, named_line, show_text};
-ghost use Rattle.aprs_listing.specs.Listing.{state_text, station_lines};
+ghost use Rattle.aprs_listing.specs.Listing.{id_text, known_line, message_line, named_line};
+ghost use Rattle.aprs_listing.specs.Listing.{show_text, state_text, station_lines};
 
 use crate::field::Field;
 use crate::heard_line::put_heard;
 use crate::line::{put_line, put_text_line};
 use aprs_book::{Book, Heard, Memory, MessageRow, MessageState, Named, RowList, Station};
-use aprs_outbox::{Outbox, flush};
 use aprs_kiss::{Counted, WriteFault};
+use aprs_outbox::{Outbox, flush};
 use std::alloc::{Allocator, Global};
 use std::io::Write;
 
