@@ -12,7 +12,8 @@ JOBS ?= $(shell awk -v n=$$(nproc) '/MemAvailable/ { most = int($$2 / 3000000) }
 # what is proved beside the book and what leads to it, which take longer: one job each
 BESIDE = aprs_outbox aprs_report aprs_convert aprs_command aprs_listing
 
-# the program alone, each call of it proved: crates that don't stand on each other side by side
+# the program alone, each call of it proved: crates that don't stand on each other side by side, and last
+# the program with one job, which is quicker than with more
 build:
 	@$(MAKE) --no-print-directory -j 3 libraries JOBS=$(JOBS)
 	cd crates/aprsbook && rt run --jobs 1 -- check ../../examples/sample.log > /dev/null
