@@ -1,10 +1,10 @@
 -- A message that is read is spelled so, and what is spelled so is read.
 use Rattle.std.proofs.Common.{◌≡◌, ℕ, suc, ◌+◌, ◌-◌, ◌<◌, ◌≤◌, Bool, true, false, ◌&&◌, List, []}
 use Rattle.std.proofs.Common.{◌∷◌, ◌++◌, length, take, drop, get_or, Option, Some, None, refl, sym}
-use Rattle.std.proofs.Common.{ap, subst, ◌∙◌, arith, append_assoc, add-one, eqb}
+use Rattle.std.proofs.Common.{zero, ap, subst, ◌∙◌, arith, append_assoc, add-one, eqb, leb}
 use Rattle.std.specs.Prelude.{codes}
 use Rattle.std.specs.List.{list_all}
-use Rattle.std.proofs.lemmas.Bool.{eqb-true, eq-eqb, and_parts, and_right}
+use Rattle.std.proofs.lemmas.Bool.{eqb-true, eq-eqb, and_parts, and_left, and_right, lt-leb}
 use Rattle.std.proofs.lemmas.Option.{none-some}
 use Rattle.std.proofs.Math.Seq.{drop-cons, take-suc}
 use Rattle.std.proofs.lemmas.List.{append-nil, drop_all, take_all, length-drop}
@@ -77,6 +77,32 @@ pub ends : (part : List ℕ) (i : ℕ) (t : Option (List ℕ × List ℕ)) → l
 unfolding numbered_of
 ends part i t le h =
     ap (λ (r : List ℕ). with_prefix (take i part) (numbered_of r)) (sym (drop_all i part le)) ∙ h
+
+-- ---- what comes before the last six bytes
+
+no_prefix : (o : Option (List ℕ × List ℕ)) → with_prefix [] o ≡ o
+no_prefix (Some x) = refl
+no_prefix None = refl
+
+too_long : (bytes : List ℕ) → 6 < length bytes → id_at bytes ≡ None
+too_long [] h = absurd (omega arith)
+too_long (b ∷ id) h =
+    let short : leb (length id) 5 ≡ false = lt-leb (length id) 5 (omega arith) in
+    let no : is_id id ≡ false = and_left _ (list_all is_alphanumeric id) (and_right _ _ short) in
+    ap (λ (p : Bool). guarded p id) (and_right (eqb b 123) _ no)
+
+skipped : (part : List ℕ) (i : ℕ) → i ≤ length part - 6 →
+    with_prefix (take i part) (numbered_of (drop i part)) ≡ numbered_of part
+skipped part zero h = no_prefix (numbered_of part)
+skipped part (suc i) h =
+    goes_on_suc part i (numbered_of part) (omega arith)
+    (too_long (drop i part) (omega (arith, length-drop i part))) (skipped part i (omega arith))
+
+-- an id can begin at one of the last six bytes alone
+pub starts : (part : List ℕ) →
+    with_prefix (take (length part - 6) part) (numbered_of (drop (length part - 6) part))
+    ≡ numbered_of part
+starts part = skipped part (length part - 6) (omega arith)
 
 -- ---- answers
 

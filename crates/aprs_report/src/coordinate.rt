@@ -1,8 +1,8 @@
 //! Latitudes and longitudes of plain positions, in hundredths of minutes.
 
-ghost use Rattle.std.specs.Prelude.{◌≡◌, ◌<◌, ◌≤◌, ◌^◌, length, IfSome};
+ghost use Rattle.std.specs.Prelude.{◌≡◌, ◌<◌, ◌≤◌, ◌^◌, length, nat_lt, IfSome};
 ghost use Rattle.std.specs.List.{list_all};
-ghost use Rattle.aprs_report.specs.Reader.{ambiguity_of, minutes_of, half_of, angle_of};
+ghost use Rattle.aprs_report.specs.Reader.{guarded, ambiguity_of, minutes_of, half_of, angle_of};
 
 use crate::bytes::{Trailing, is_digit_byte};
 use crate::numeral::numeral;
@@ -98,18 +98,11 @@ fn power_of_ten(exponent: u8) -> u64
     }
 }
 
-/// The minutes in hundredths, of their four digits, of which the last are ambiguous.
-#[tactic(auto, unfolding(crate::specs::Reader::minutes_of))]
-fn minutes(axis: Axis, ambiguity: u8, places: &[u8; 4]) -> Option<u64>
-    requires { ambiguity ≤ 4 }
-    ensures exact { result ≡ minutes_of axis ambiguity places.now }
+/// The minutes, where they are less than a degree.
+fn within_degree(minutes: u64) -> Option<u64>
+    ensures exact { result ≡ guarded (nat_lt minutes PER_DEGREE) minutes }
     ensures small { IfSome result (λ n. n < PER_DEGREE) }
 {
-    let (known, blank) = places.split_at(4 - ambiguity as usize);
-    if !axis.all_blank(blank) {
-        return None;
-    }
-    let minutes = numeral(10, b'0', known)? as u64 * power_of_ten(ambiguity);
     if minutes < PER_DEGREE {
         Some(minutes)
     } else {
@@ -117,7 +110,27 @@ fn minutes(axis: Axis, ambiguity: u8, places: &[u8; 4]) -> Option<u64>
     }
 }
 
+/// The minutes in hundredths, of their four digits, of which the last are ambiguous.
+#[inline(always)]
+#[tactic(auto, unfolding(crate::specs::Reader::minutes_of))]
+fn minutes(axis: Axis, ambiguity: u8, places: &[u8; 4]) -> Option<u64>
+    requires { ambiguity ≤ 4 }
+    ensures exact { result ≡ minutes_of axis ambiguity places.now }
+    ensures small { IfSome result (λ n. n < PER_DEGREE) }
+{
+    if ambiguity == 0 {
+        // As nearly everywhere. That there are four digits is known here before the program runs.
+        return within_degree(numeral(10, b'0', places)? as u64);
+    }
+    let (known, blank) = places.split_at(4 - ambiguity as usize);
+    if !axis.all_blank(blank) {
+        return None;
+    }
+    within_degree(numeral(10, b'0', known)? as u64 * power_of_ten(ambiguity))
+}
+
 /// An angle in hundredths of minutes, from its degrees and from `MM.hh` and the letter of its half.
+#[inline(always)]
 #[tactic(auto, unfolding(crate::specs::Reader::angle_of))]
 pub fn angle(axis: Axis, ambiguity: u8, degrees: &[u8], text: &[u8; 6]) -> Option<i32>
     requires places { ambiguity ≤ 4 }

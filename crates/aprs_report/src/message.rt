@@ -49,11 +49,12 @@ fn id_after_brace(bytes: &[u8]) -> Option<&[u8]>
     }
 }
 
-/// The text before a brace and an id, and the id. No id has a brace, so this one is the last.
+/// The text before a brace and an id, and the id. No id has a brace, so this one is the last, and
+/// one of the last six bytes, since an id has at most five.
 fn numbered(part: &[u8]) -> Option<(&[u8], &[u8])>
     ensures { option_map (λ x. (x.0.now, x.1.now)) result ≡ numbered_of part.now }
 {
-    for i in 0..part.len() {
+    for i in part.len().saturating_sub(6)..part.len() {
         match id_after_brace(&part[i..]) {
             Some(id) => return Some((&part[..i], id)),
             None => {}

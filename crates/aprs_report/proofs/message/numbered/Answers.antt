@@ -1,7 +1,10 @@
 use Rattle.std.proofs.Common.{sym, ap, ◌∙◌}
 use Rattle.aprs_report.specs.Reader.{id_at, numbered_of}
-use Rattle.aprs_report.proofs.Messages.{to_the_end, goes_on, stops, ends}
+use Rattle.aprs_report.proofs.Messages.{to_the_end, starts, goes_on, stops, ends}
 use Rattle.aprs_report.proofs.message.numbered.Goals as goal
+
+pub loop-i-init : goal.loop-i-init
+loop-i-init c = rw c.saturating_sub-i.ensures (starts c.args.part.now)
 
 pub returns-in-Some : goal.returns-in-Some
 returns-in-Some c =
