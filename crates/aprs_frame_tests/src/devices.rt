@@ -97,12 +97,12 @@ fn a_read_fails_in_mid_stream(rt: HostRuntime) {
         pauses: 0,
     });
     let mut buf = [0u8; 4];
-    assert_eq!(rt; reader.read(&mut buf), Ok(2));
-    assert_eq!(rt; reader.read(&mut buf), Ok(1));
-    assert_eq!(rt; reader.failures(), 0);
-    assert_eq!(rt; reader.read(&mut buf), Err(DeviceFault));
-    assert_eq!(rt; reader.failures(), 1);
-    assert_eq!(rt; reader.into_inner().bytes, b"def".as_slice());
+    assert!(rt; reader.read(&mut buf) == Ok(2));
+    assert!(rt; reader.read(&mut buf) == Ok(1));
+    assert!(rt; reader.failures() == 0);
+    assert!(rt; reader.read(&mut buf) == Err(DeviceFault));
+    assert!(rt; reader.failures() == 1);
+    assert!(rt; reader.into_inner().bytes == b"def".as_slice());
 }
 
 #[test]
@@ -115,9 +115,9 @@ fn a_write_fails_in_mid_stream(rt: HostRuntime) {
         interrupts: 0,
         pauses: 0,
     });
-    assert_eq!(rt; send(&mut writer, b"abcdef"), Err(WriteFault));
-    assert_eq!(rt; writer.failures(), 1);
-    assert_eq!(rt; writer.into_inner().used, 4);
+    assert!(rt; send(&mut writer, b"abcdef") == Err(WriteFault));
+    assert!(rt; writer.failures() == 1);
+    assert!(rt; writer.into_inner().used == 4);
     assert!(rt; room[..] == b"abcd"[..]);
 }
 
@@ -125,15 +125,15 @@ fn a_write_fails_in_mid_stream(rt: HostRuntime) {
 fn a_vector_takes_all(rt: HostRuntime) {
     let mut writer = Counted::new(Vec::new(rt.alloc()));
     assert!(rt; send(&mut writer, b"abc") == Ok(()));
-    assert_eq!(rt; writer.into_inner().as_slice(), b"abc".as_slice());
+    assert!(rt; writer.into_inner().as_slice() == b"abc".as_slice());
 }
 
 #[test]
 fn a_refused_write_is_not_tried_again(rt: HostRuntime) {
     let mut writer = Counted::new(Shut);
-    assert_eq!(rt; send(&mut writer, b"ab"), Err(WriteFault));
-    assert_eq!(rt; writer.failures(), 1);
-    assert_eq!(rt; writer.answered(), 1);
+    assert!(rt; send(&mut writer, b"ab") == Err(WriteFault));
+    assert!(rt; writer.failures() == 1);
+    assert!(rt; writer.answered() == 1);
 }
 
 #[test]
@@ -147,9 +147,9 @@ fn interrupted_reads_are_tried_again(rt: HostRuntime) {
             pauses: 0,
         });
         let mut buf = [0u8; 4];
-        assert_eq!(rt; reader.read(&mut buf), first, "after {interrupts}");
-        assert_eq!(rt; reader.failures(), u64::from(interrupts));
-        assert_eq!(rt; reader.answered(), u64::from(first.is_err()));
+        assert!(rt; reader.read(&mut buf) == first, "after {interrupts}");
+        assert!(rt; reader.failures() == u64::from(interrupts));
+        assert!(rt; reader.answered() == u64::from(first.is_err()));
     }
 }
 
@@ -168,8 +168,8 @@ fn interrupted_writes_are_tried_again(rt: HostRuntime) {
             interrupts,
             pauses: 0,
         });
-        assert_eq!(rt; send(&mut writer, b"ab"), sent, "after {interrupts}");
-        assert_eq!(rt; writer.failures(), failures, "after {interrupts}");
-        assert_eq!(rt; writer.into_inner().used, used, "after {interrupts}");
+        assert!(rt; send(&mut writer, b"ab") == sent, "after {interrupts}");
+        assert!(rt; writer.failures() == failures, "after {interrupts}");
+        assert!(rt; writer.into_inner().used == used, "after {interrupts}");
     }
 }

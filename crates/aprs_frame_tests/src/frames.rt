@@ -178,6 +178,6 @@ fn puts_texts_of_callsigns(rt: HostRuntime) -> Result<(), Fail> {
     frame.push_source_text(&mut text);
     frame.push_destination_text(&mut text);
     assert!(rt; frame.push_hop_text(0, &mut text) == Some(true));
-    assert_eq!(rt; text.as_slice(), b"N0CALL-7APRSWIDE1-1".as_slice());
+    assert!(rt; text.as_slice() == b"N0CALL-7APRSWIDE1-1".as_slice());
     Ok(())
 }

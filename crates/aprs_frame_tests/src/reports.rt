@@ -105,7 +105,7 @@ fn plain_positions(rt: HostRuntime) {
         (b"!4960.00N/07201.75W-".as_slice(), Report::Raw),
         (b"!496 .  N/07201.75W-".as_slice(), Report::Raw),
     ];
-    assert_eq!(rt; misread(&table), None);
+    assert!(rt; misread(&table) == None);
 }
 
 #[test]
@@ -124,14 +124,14 @@ fn positions_with_stamps_and_comments(rt: HostRuntime) {
             position(true, stamp(b'/'), HERE, CAR, b"Test1234"),
         ),
     ];
-    assert_eq!(rt; misread(&table), None);
+    assert!(rt; misread(&table) == None);
 }
 
 #[test]
 fn fractions_of_a_degree(rt: HostRuntime) {
     let (lat, lon) = (HERE.lat(), HERE.lon());
-    assert_eq!(rt; (lat.numerator, lat.denominator), (294350, 6000));
-    assert_eq!(rt; (lon.numerator, lon.denominator), (-432175, 6000));
+    assert!(rt; (lat.numerator, lat.denominator) == (294350, 6000));
+    assert!(rt; (lon.numerator, lon.denominator) == (-432175, 6000));
 }
 
 /// 49.5 degrees north, and 72.75 west to one part in 190463.
@@ -154,15 +154,15 @@ fn compressed_positions(rt: HostRuntime) {
             position(true, None, COMPRESSED, CAR, b"Comment"),
         ),
     ];
-    assert_eq!(rt; misread(&table), None);
+    assert!(rt; misread(&table) == None);
 }
 
 #[test]
 fn compressed_fractions_of_a_degree(rt: HostRuntime) {
     let (lat, lon) = (COMPRESSED.lat(), COMPRESSED.lon());
-    assert_eq!(rt; (lat.numerator, lat.denominator), (18855837, 380926));
+    assert!(rt; (lat.numerator, lat.denominator) == (18855837, 380926));
     assert!(rt; lat.numerator * 2 == lat.denominator * 99);
-    assert_eq!(rt; (lon.numerator, lon.denominator), (-13856184, 190463));
+    assert!(rt; (lon.numerator, lon.denominator) == (-13856184, 190463));
     assert!(rt; (lon.numerator * 4 + lon.denominator * 291) / 4 == 0);
 }
 
@@ -230,7 +230,7 @@ fn objects_and_items(rt: HostRuntime) {
         (b")AI!4903.50N/07201.75WA".as_slice(), Report::Raw),
         (b")AID NUMBER!4903.50N/07201.75WA".as_slice(), Report::Raw),
     ];
-    assert_eq!(rt; misread(&table), None);
+    assert!(rt; misread(&table) == None);
 }
 
 fn status(stamp: Option<Stamp>, text: &[u8]) -> Report<'_> {
@@ -258,7 +258,7 @@ fn statuses(rt: HostRuntime) {
         ),
         (b">092345/Net".as_slice(), status(None, b"092345/Net")),
     ];
-    assert_eq!(rt; misread(&table), None);
+    assert!(rt; misread(&table) == None);
     assert!(rt; are_kind(&table, "status"));
 }
 
@@ -280,7 +280,7 @@ fn messages(rt: HostRuntime) {
         ),
         (b":WU2Z     :ack".as_slice(), message(b"ack", None)),
     ];
-    assert_eq!(rt; misread(&table), None);
+    assert!(rt; misread(&table) == None);
     assert!(rt; are_kind(&table, "message"));
 }
 
@@ -304,8 +304,8 @@ fn acks_and_rejs(rt: HostRuntime) {
         (b":KB2ICI-14:ack003".as_slice(), longest),
     ];
     let rejs = [(b":N0CALL-7 :rej003".as_slice(), rej)];
-    assert_eq!(rt; misread(&acks), None);
-    assert_eq!(rt; misread(&rejs), None);
+    assert!(rt; misread(&acks) == None);
+    assert!(rt; misread(&rejs) == None);
     assert!(rt; are_kind(&acks, "ack") && are_kind(&rejs, "rej"));
 }
 
@@ -329,6 +329,6 @@ fn left_raw(rt: HostRuntime) {
         b"xx!4903.50N/07201.75W-".as_slice(),
     ];
     for info in table {
-        assert_eq!(rt; Report::read(info), Report::Raw, "at {info:?}");
+        assert!(rt; Report::read(info) == Report::Raw, "at {info:?}");
     }
 }

@@ -63,29 +63,27 @@ impl Listener for Log {
 fn ports_and_commands_fed_whole(rt: HostRuntime) {
     let mut reader = KissReader::new();
     let (used, fed) = reader.feed(&STREAM);
-    assert_eq!(rt;
-        fed,
-        Fed::Frame {
+    assert!(rt;
+        fed == Fed::Frame {
             port: 0,
             frame: &FRAME
         }
     );
     let rest = &STREAM[used..];
     let (used, fed) = reader.feed(rest);
-    assert_eq!(rt;
-        fed,
-        Fed::Frame {
+    assert!(rt;
+        fed == Fed::Frame {
             port: 5,
             frame: &FRAME
         }
     );
     let rest = &rest[used..];
     let (used, fed) = reader.feed(rest);
-    assert_eq!(rt; fed, Fed::Passed(PassFault::NotData));
+    assert!(rt; fed == Fed::Passed(PassFault::NotData));
     let rest = &rest[used..];
     let (used, fed) = reader.feed(rest);
-    assert_eq!(rt; fed, Fed::Nothing);
-    assert_eq!(rt; used, 2);
+    assert!(rt; fed == Fed::Nothing);
+    assert!(rt; used == 2);
     assert!(rt; !reader.finish());
 }
 
@@ -101,7 +99,7 @@ fn ports_and_commands_fed_byte_by_byte(rt: HostRuntime) {
         Heard::Known(5),
         Heard::Passed(PassFault::NotData),
     ];
-    assert_eq!(rt; log.answers.as_slice(), answers.as_slice());
+    assert!(rt; log.answers.as_slice() == answers.as_slice());
     assert!(rt; !reader.finish());
 }
 
@@ -110,21 +108,19 @@ fn escapes_are_undone_across_a_cut(rt: HostRuntime) {
     let mut reader = KissReader::new();
     assert!(rt; reader.finish());
     let (_, fed) = reader.feed(b"\xc0\x00\x3e\xdb");
-    assert_eq!(rt; fed, Fed::Nothing);
+    assert!(rt; fed == Fed::Nothing);
     let (used, fed) = reader.feed(b"\xdc\xdb\xdd\xc0\xc0");
-    assert_eq!(rt;
-        fed,
-        Fed::Frame {
+    assert!(rt;
+        fed == Fed::Frame {
             port: 0,
             frame: b"\x3e\xc0\xdb"
         }
     );
-    assert_eq!(rt; used, 4);
+    assert!(rt; used == 4);
     // The type byte may come escaped: port 12, command 0.
     let (_, fed) = reader.feed(b"\xc0\xdb\xdc\x41\xc0");
-    assert_eq!(rt;
-        fed,
-        Fed::Frame {
+    assert!(rt;
+        fed == Fed::Frame {
             port: 12,
             frame: b"\x41"
         }
@@ -148,7 +144,7 @@ fn each_fault_and_then_a_frame(rt: HostRuntime) {
         Heard::Passed(PassFault::NotData),
         Heard::Other(0),
     ];
-    assert_eq!(rt; log.answers.as_slice(), answers.as_slice());
+    assert!(rt; log.answers.as_slice() == answers.as_slice());
 }
 
 #[test]
@@ -171,7 +167,7 @@ fn the_longest_frame_and_a_longer_one(rt: HostRuntime) {
         Heard::Passed(PassFault::BadEscape),
         Heard::Other(1),
     ];
-    assert_eq!(rt; log.answers.as_slice(), answers.as_slice());
+    assert!(rt; log.answers.as_slice() == answers.as_slice());
 }
 
 /// Whether a frame is written as this text, where there is room.
@@ -190,14 +186,14 @@ fn frames_are_written(rt: HostRuntime) {
 fn a_device_without_room_fails_once(rt: HostRuntime) {
     let mut writer = Counted::new(ArrayVec::<u8, 4>::new());
     assert!(rt; write_kiss(&mut writer, b"\x3e\xc0").is_err());
-    assert_eq!(rt; writer.failures(), 1);
+    assert!(rt; writer.failures() == 1);
     assert!(rt; writer.into_inner().as_slice() == b"\xc0\x00\x3e\xdb".as_slice());
 }
 
 #[test]
 fn faults_have_numbers_and_names(rt: HostRuntime) {
-    assert_eq!(rt; PassFault::BadEscape.number(), 1);
-    assert_eq!(rt; PassFault::TooLong.number(), 2);
-    assert_eq!(rt; PassFault::NotData.number(), 3);
-    assert_eq!(rt; PassFault::TooLong.name(), "TooLong");
+    assert!(rt; PassFault::BadEscape.number() == 1);
+    assert!(rt; PassFault::TooLong.number() == 2);
+    assert!(rt; PassFault::NotData.number() == 3);
+    assert!(rt; PassFault::TooLong.name() == "TooLong");
 }

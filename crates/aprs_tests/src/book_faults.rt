@@ -39,7 +39,7 @@ fn has_fault(
 }
 
 /// Lines in the place of the one row, each with the fault of its text, if there is one.
-const JUDGED_LINES: [(&[u8], Option<(u64, &str)>); 8] = [
+const JUDGED_LINES: &[(&[u8], Option<(u64, &str)>)] = &[
     (
         b"T 2024-05-01T12:00:00.000Z 2024-05-01T12:00:00.000Z RX1,RX2 RX1 \
         82a0a4a64040e09c60868298986f03f03e4869",
@@ -77,7 +77,7 @@ const JUDGED_LINES: [(&[u8], Option<(u64, &str)>); 8] = [
 #[test]
 fn each_fault_of_a_line(rt: HostRuntime) -> Result<(), Fail> {
     let alloc = rt.alloc();
-    for (line, fault) in JUDGED_LINES {
+    for &(line, fault) in JUDGED_LINES {
         assert!(rt; has_fault(alloc, &[line], b"END 1\n", fault)?);
     }
     assert!(rt; fault_of(alloc, b"APRSBOOK 9\nEND 0\n") == Some((1, "Header")));
@@ -89,7 +89,7 @@ const ROW: &[u8] = b"T 2024-05-01T12:00:00.000Z 2024-05-01T12:00:00.000Z RX1 RX1
     82a0a4a64040e09c60868298986f03f03e4869";
 
 /// Last lines after one row, each with its fault.
-const LAST_LINES: [(&[u8], Option<(u64, &str)>); 13] = [
+const LAST_LINES: &[(&[u8], Option<(u64, &str)>)] = &[
     (b"END 1\n", None),
     (b"END +1\n", Some((3, "Ending"))),
     (b"END 01\n", Some((3, "Ending"))),
@@ -108,14 +108,14 @@ const LAST_LINES: [(&[u8], Option<(u64, &str)>); 13] = [
 // What begins with END is a last line, if a wrong one; whatever else differs is no row.
 #[test]
 fn last_lines_have_one_spelling(rt: HostRuntime) -> Result<(), Fail> {
-    for (last, fault) in LAST_LINES {
+    for &(last, fault) in LAST_LINES {
         assert!(rt; has_fault(rt.alloc(), &[ROW], last, fault)?);
     }
     Ok(())
 }
 
 /// Lines that are almost a row, each with the cause of its fault.
-const MISSPELLED_LINES: [(&[u8], &str); 7] = [
+const MISSPELLED_LINES: &[(&[u8], &str)] = &[
     (
         b"t 2024-05-01T12:00:00.000Z 2024-05-01T12:00:00.000Z RX1 RX1 \
         82a0a4a64040e09c60868298986f03f03e4869",
@@ -157,7 +157,7 @@ const MISSPELLED_LINES: [(&[u8], &str); 7] = [
 #[test]
 fn fields_have_one_spelling(rt: HostRuntime) -> Result<(), Fail> {
     let alloc = rt.alloc();
-    for (line, cause) in MISSPELLED_LINES {
+    for &(line, cause) in MISSPELLED_LINES {
         assert!(rt; has_fault(alloc, &[line], b"END 1\n", Some((2, cause)))?);
     }
     Ok(())
@@ -323,7 +323,7 @@ fn each_other_byte_in_the_second_row_of_two(rt: HostRuntime) -> Result<(), Fail>
 
 #[test]
 fn causes_have_names(rt: HostRuntime) {
-    assert_eq!(rt; BookCause::Header.number(), 1);
-    assert_eq!(rt; BookCause::Memory.number(), 13);
-    assert_eq!(rt; BookCause::NotGreatest.name(), "NotGreatest");
+    assert!(rt; BookCause::Header.number() == 1);
+    assert!(rt; BookCause::Memory.number() == 13);
+    assert!(rt; BookCause::NotGreatest.name() == "NotGreatest");
 }

@@ -89,7 +89,7 @@ fn texts_are_read_byte_by_byte(rt: HostRuntime) {
         });
         let read = read_book(alloc, MAX_INPUT, b"", &mut source);
         assert!(rt; matches!(&read, Ok(book) if is_written_as(alloc, book, text)));
-        assert_eq!(rt; source.failures(), 0);
+        assert!(rt; source.failures() == 0);
     }
 }
 
@@ -116,7 +116,7 @@ fn a_reader_fails_at_each_byte(rt: HostRuntime) {
         assert!(rt;
             matches!(&read, Err(fault) if fault.line == line && fault.cause == BookCause::Read)
         );
-        assert_eq!(rt; source.failures(), 1);
+        assert!(rt; source.failures() == 1);
     }
 }
 
@@ -163,7 +163,7 @@ fn what_is_known_of_a_read_row(rt: HostRuntime) -> Result<(), Fail> {
     let station = callsign(b"N0CALL-7")?;
     assert!(rt; book.position(&station).is_none());
     let status = book.status(&station).ok_or("a status")?;
-    assert_eq!(rt; status.moment.seconds(), NOON);
+    assert!(rt; status.moment.seconds() == NOON);
     assert!(rt; status.receiver.as_bytes() == b"RX1".as_slice());
     Ok(())
 }

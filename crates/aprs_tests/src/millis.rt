@@ -39,7 +39,7 @@ fn moments_at_their_limits(rt: HostRuntime) -> Result<(), Fail> {
 }
 
 /// Texts that are near to a moment's, and none.
-const NO_MOMENTS: [&[u8]; 15] = [
+const NO_MOMENTS: &[&[u8]] = &[
     b"2024-05-01T12:00:00.5Z",
     b"2024-05-01T12:00:00.50Z",
     b"2024-05-01T12:00:00.5000Z",
@@ -78,7 +78,7 @@ fn moments_have_two_spellings(rt: HostRuntime) -> Result<(), Fail> {
     let moment = Moment::from_millis(NOON).ok_or("a moment")?;
     assert!(rt; is_in_form(short, seconds, millis, &moment));
     assert!(rt; is_in_form(long, millis, seconds, &moment));
-    for text in NO_MOMENTS {
+    for &text in NO_MOMENTS {
         assert!(rt; is_none(text));
     }
     Ok(())
@@ -111,10 +111,10 @@ fn lines_are_read_in_both_spellings(rt: HostRuntime) -> Result<(), Fail> {
         (b"2024-05-01T12:00:00.999Z".as_slice(), NOON + 999),
     ] {
         let heard = heard_at(alloc, moment)?;
-        assert_eq!(rt; heard.moment().millis(), millis);
+        assert!(rt; heard.moment().millis() == millis);
         assert!(rt; (heard == short) == (millis == NOON));
     }
-    for moment in NO_MOMENTS {
+    for &moment in NO_MOMENTS {
         assert!(rt; read_at(alloc, moment)? == Err(LineFault::Moment));
     }
     Ok(())
@@ -131,8 +131,8 @@ fn lines_are_written_to_the_millisecond(rt: HostRuntime) {
         (HALF, HALF),
     ] {
         let (text, fault) = converted(&rt, MAX_INPUT, Form::Log, log);
-        assert_eq!(rt; text.as_slice(), written);
-        assert_eq!(rt; text.len(), 74);
+        assert!(rt; text.as_slice() == written);
+        assert!(rt; text.len() == 74);
         assert!(rt; fault.is_none());
     }
     let faulty = b"2024-05-01T12:00:60.000Z RX1 c0\n".as_slice();
@@ -143,9 +143,9 @@ fn lines_are_written_to_the_millisecond(rt: HostRuntime) {
 
 #[test]
 fn milliseconds_are_listed(rt: HostRuntime) -> Result<(), Fail> {
-    assert_eq!(rt;
-        listing(rt.alloc(), HALF)?.as_slice(),
-        b"station N0CALL-7 1\nstatus 2024-05-01T12:00:00.500Z RX1 -:Hi\n".as_slice()
+    assert!(rt;
+        listing(rt.alloc(), HALF)?.as_slice()
+            == b"station N0CALL-7 1\nstatus 2024-05-01T12:00:00.500Z RX1 -:Hi\n".as_slice()
     );
     Ok(())
 }
@@ -186,7 +186,7 @@ fn captures_are_of_a_moment_in_either_spelling(rt: HostRuntime) -> Result<(), Fa
         ("2024-05-01T12:00:00.250Z", NOON + 250, true),
         ("2024-05-01T12:00:00.250Z", NOON, false),
     ] {
-        assert_eq!(rt; is_captured(&rt, moment, millis)?, is);
+        assert!(rt; is_captured(&rt, moment, millis)? == is);
     }
     for moment in [
         "2024-05-01T12:00:00.5Z",
@@ -218,8 +218,8 @@ fn rows_apart(alloc: Global, millis: u64, is_turned: bool) -> Result<usize, Fail
 #[test]
 fn rows_are_thirty_thousand_milliseconds_apart(rt: HostRuntime) -> Result<(), Fail> {
     for (millis, rows) in [(0, 1), (1, 1), (29_999, 1), (30_000, 1), (30_001, 2)] {
-        assert_eq!(rt; rows_apart(rt.alloc(), millis, false)?, rows);
-        assert_eq!(rt; rows_apart(rt.alloc(), millis, true)?, rows);
+        assert!(rt; rows_apart(rt.alloc(), millis, false)? == rows);
+        assert!(rt; rows_apart(rt.alloc(), millis, true)? == rows);
     }
     Ok(())
 }
@@ -248,8 +248,8 @@ END 2
 #[test]
 fn each_version_is_merged_to_the_third(rt: HostRuntime) {
     let alloc = rt.alloc();
-    assert_eq!(rt; DIRECT_TEXT.len(), 119);
-    for (input, text) in [
+    assert!(rt; DIRECT_TEXT.len() == 119);
+    const CASES: &[(&[u8], &[u8])] = &[
         (OLD_EMPTY_TEXT, EMPTY_TEXT),
         (EMPTY_TEXT, EMPTY_TEXT),
         (OLD_DIRECT_TEXT, DIRECT_TEXT),
@@ -260,7 +260,8 @@ fn each_version_is_merged_to_the_third(rt: HostRuntime) {
         (NEAR_BOOK, NEAR_BOOK),
         (FAR_LOG, FAR_BOOK),
         (FAR_BOOK, FAR_BOOK),
-    ] {
+    ];
+    for &(input, text) in CASES {
         assert!(rt; is_merged_to(alloc, &[input], text));
         assert!(rt; is_merged_to(alloc, &[input, text], text));
     }
@@ -269,13 +270,12 @@ fn each_version_is_merged_to_the_third(rt: HostRuntime) {
 // A version's rows have its moments alone.
 #[test]
 fn each_version_has_one_form_of_moments(rt: HostRuntime) {
-    for (text, fault) in [
+    const CASES: &[(&[u8], (u64, &str))] = &[
         (
             b"APRSBOOK 2
 T 2024-05-01T12:00:00Z 2024-05-01T12:00:00Z RX1 RX1 82a0a4a64040e09c60868298986f03f03e4869
 END 1
-"
-                .as_slice(),
+",
             (2, "RowSyntax"),
         ),
         (
@@ -299,15 +299,16 @@ END 1
 ",
             (2, "RowSyntax"),
         ),
-    ] {
+    ];
+    for &(text, fault) in CASES {
         assert!(rt; fault_of(rt.alloc(), text) == Some(fault));
     }
 }
 
 #[test]
 fn any_other_header_is_refused(rt: HostRuntime) {
-    for text in [
-        b"APRSBOOK 0\nEND 0\n".as_slice(),
+    const CASES: &[&[u8]] = &[
+        b"APRSBOOK 0\nEND 0\n",
         b"APRSBOOK 3\nEND 0\n",
         b"APRSBOOK 3 0\nEND 0\n",
         b"APRSBOOK 3 030\nEND 0\n",
@@ -315,7 +316,8 @@ fn any_other_header_is_refused(rt: HostRuntime) {
         b"APRSBOOK 02\nEND 0\n",
         b"APRSBOOK 2 \nEND 0\n",
         b"APRSBOOK 12\nEND 0\n",
-    ] {
+    ];
+    for &text in CASES {
         assert!(rt; fault_of(rt.alloc(), text) == Some((1, "Header")));
     }
 }
@@ -346,13 +348,14 @@ END 1
 
 #[test]
 fn near_rows_are_refused_to_the_millisecond(rt: HostRuntime) {
-    for (text, fault) in [
+    const CASES: &[(&[u8], Option<(u64, &str)>)] = &[
         (NEAR_TEXT, Some((3, "Near"))),
         (FAR_BOOK, None),
         (OLD_NEAR_TEXT, Some((3, "Near"))),
         (OLD_FAR_TEXT, None),
         (BACKWARD_TEXT, Some((2, "Span"))),
-    ] {
+    ];
+    for &(text, fault) in CASES {
         assert!(rt; fault_of(rt.alloc(), text) == fault);
     }
 }

@@ -30,7 +30,7 @@ const FRAMES: &[u8] =
     \xc0\x00\x82\xa0\xa4\xa6\x40\x40\xe0\x9c\x60\x86\x82\x98\x98\x6f\x03\xf0>Hi\xc0";
 
 /// Each run, an input of two frames, and what the run writes.
-const RUNS: [(Run, &[u8], &[u8]); 7] = [
+const RUNS: &[(Run, &[u8], &[u8])] = &[
     (Run::Check, LOG, b"heard 2 passed 0\n"),
     (Run::Text, LOG, TEXT),
     (
@@ -82,14 +82,14 @@ fn writes<R: Read>(alloc: Global, run: Run, r: &mut Counted<R>, text: &[u8]) -> 
 #[test]
 fn readers_give_few_bytes(rt: HostRuntime) {
     for most in 1..=148usize {
-        for (run, input, text) in RUNS {
+        for &(run, input, text) in RUNS {
             let mut r = Counted::new(Failing {
                 bytes: input,
                 most,
                 good: usize::MAX,
             });
             assert!(rt; writes(rt.alloc(), run, &mut r, text), "{most}");
-            assert_eq!(rt; r.failures(), 0);
+            assert!(rt; r.failures() == 0);
         }
     }
 }
@@ -97,7 +97,7 @@ fn readers_give_few_bytes(rt: HostRuntime) {
 // 999 tries before each byte are repeated.
 #[test]
 fn interrupted_reads_are_tried_again(rt: HostRuntime) {
-    for (run, input, text) in RUNS {
+    for &(run, input, text) in RUNS {
         let mut r = Counted::new(Stuttering {
             bytes: input,
             tries: 999,
@@ -120,8 +120,8 @@ fn a_thousand_interrupted_reads_fail(rt: HostRuntime) {
     let mut w = Counted::new(Vec::new(rt.alloc()));
     let run = gone(rt.alloc(), Run::Text, &mut r, &mut w);
     assert!(rt; is_read_fault(&run, 2));
-    assert_eq!(rt; r.failures(), 1000);
-    assert_eq!(rt; w.into_inner().as_slice(), &TEXT[..18]);
+    assert!(rt; r.failures() == 1000);
+    assert!(rt; w.into_inner().as_slice() == &TEXT[..18]);
 }
 
 /// Whether a failed read was reported of this line.
@@ -143,20 +143,20 @@ fn is_read_fault(run: &Result<(), RunFault>, line: u64) -> bool {
 
 #[test]
 fn interrupted_writes_are_tried_again(rt: HostRuntime) {
-    for (run, input, text) in RUNS {
+    for &(run, input, text) in RUNS {
         let mut w = Counted::new(Halting {
             bytes: Vec::new(rt.alloc()),
             tries: 999,
             left: 999,
         });
         assert!(rt; gone(rt.alloc(), run, &mut Counted::new(input), &mut w).is_ok());
-        assert_eq!(rt; w.into_inner().bytes.as_slice(), text);
+        assert!(rt; w.into_inner().bytes.as_slice() == text);
     }
 }
 
 #[test]
 fn a_thousand_interrupted_writes_fail(rt: HostRuntime) {
-    for (run, input, _) in RUNS {
+    for &(run, input, _) in RUNS {
         let mut w = Counted::new(Halting {
             bytes: Vec::new(rt.alloc()),
             tries: 1000,
@@ -164,7 +164,7 @@ fn a_thousand_interrupted_writes_fail(rt: HostRuntime) {
         });
         let run = gone(rt.alloc(), run, &mut Counted::new(input), &mut w);
         assert!(rt; matches!(&run, Err(RunFault::Write)));
-        assert_eq!(rt; w.failures(), 1000);
+        assert!(rt; w.failures() == 1000);
         assert!(rt; w.into_inner().bytes.is_empty());
     }
 }
@@ -191,10 +191,10 @@ fn failed_read(
 
 #[test]
 fn readers_fail_at_each_byte(rt: HostRuntime) -> Result<(), Fail> {
-    for (run, input, text) in RUNS {
+    for &(run, input, text) in RUNS {
         for good in 0..input.len() {
             let fault = failed_read(rt.alloc(), run, input, good, text).ok_or("a fault")?;
-            assert_eq!(rt; status_of(&fault), 1);
+            assert!(rt; status_of(&fault) == 1);
             let line = match run {
                 Run::Capture => 0,
                 _ => line_after(input, good),
@@ -219,7 +219,7 @@ fn is_cut(alloc: Global, run: Run, input: &[u8], room: usize, text: &[u8]) -> bo
 
 #[test]
 fn writers_fail_at_each_byte(rt: HostRuntime) {
-    for (run, input, text) in RUNS {
+    for &(run, input, text) in RUNS {
         for room in 0..text.len() {
             assert!(rt;
                 is_cut(rt.alloc(), run, input, room, &text[..room]),
@@ -235,5 +235,5 @@ fn a_stream_of_one_frame(rt: HostRuntime) {
     let mut w = Counted::new(Vec::new(rt.alloc()));
     let run = gone(rt.alloc(), Run::Capture, &mut Counted::new(FRAME), &mut w);
     assert!(rt; run.is_ok());
-    assert_eq!(rt; w.into_inner().as_slice(), &LOG[..74]);
+    assert!(rt; w.into_inner().as_slice() == &LOG[..74]);
 }

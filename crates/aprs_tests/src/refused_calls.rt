@@ -9,7 +9,7 @@ use std::alloc::{Allocator, Global};
 use std::test::Fail;
 
 /// What each station sent, and when.
-pub const SENT: [(u64, &[u8], &[u8]); 5] = [
+pub const SENT: &[(u64, &[u8], &[u8])] = &[
     (0, b"N0CALL-7", b"!4903.50N/07201.75W-"),
     (10, b"N0CALL-7", b":WU2Z     :Testing{003"),
     (20, b"WU2Z", b":N0CALL-7 :ack003"),
@@ -20,7 +20,7 @@ pub const SENT: [(u64, &[u8], &[u8]); 5] = [
 /// A book of them, so many seconds later.
 fn book_of_sent(bump: &Bump, later: u64) -> Result<Book<&Bump>, Fail> {
     let mut book = Book::new(bump);
-    for (second, source, info) in SENT {
+    for &(second, source, info) in SENT {
         let x = sent(later.saturating_add(second), source, info)?;
         book.take(&x).ok().ok_or("memory")?;
     }
@@ -38,7 +38,7 @@ fn two_books<'a>(bump: &'a Bump, alloc: Global) -> Result<Vec<Book<&'a Bump>>, F
 /// The same as steps of two books, which then merge.
 fn steps(alloc: Global) -> Result<Vec<Step>, Fail> {
     let mut steps = Vec::new(alloc);
-    for (second, source, info) in SENT {
+    for &(second, source, info) in SENT {
         steps.push(Step::Take(0, sent(second, source, info)?))?;
         steps.push(Step::Take(1, sent(second.saturating_add(60), source, info)?))?;
     }
@@ -58,7 +58,7 @@ enum Call {
     Messages,
 }
 
-const CALLS: [(Call, usize); 7] = [
+const CALLS: &[(Call, usize)] = &[
     (Call::Merge, 10),
     (Call::Join, 10),
     (Call::JoinAll, 10),
@@ -164,7 +164,7 @@ pub const ROWS: &str = "0-0 RX1 / RX1 6f; 10-10 RX1 / RX1 6f; 40-40 RX1 / RX1 71
 // Room for more and more units, until nothing is refused.
 #[test]
 fn refused_calls_change_nothing(rt: HostRuntime) -> Result<(), Fail> {
-    for (call, want) in CALLS {
+    for &(call, want) in CALLS {
         let mut granted = None;
         for units in 0..2048usize {
             if !is_refused(rt.alloc(), call, want, units)? {

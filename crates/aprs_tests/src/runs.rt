@@ -56,7 +56,7 @@ fn one_line_in_each_form(rt: HostRuntime) {
         (Form::Log, WRITTEN_LINE),
     ] {
         let (written, fault) = converted(&rt, MAX_INPUT, form, ONE_LINE);
-        assert_eq!(rt; written.as_slice(), text);
+        assert!(rt; written.as_slice() == text);
         assert!(rt; fault.is_none());
     }
 }
@@ -64,7 +64,7 @@ fn one_line_in_each_form(rt: HostRuntime) {
 #[test]
 fn a_limit_cuts_a_log(rt: HostRuntime) {
     let (written, fault) = converted(&rt, 70, Form::Log, ONE_LINE);
-    assert_eq!(rt; written.as_slice(), WRITTEN_LINE);
+    assert!(rt; written.as_slice() == WRITTEN_LINE);
     assert!(rt; fault.is_none());
     let (written, fault) = converted(&rt, 69, Form::Log, ONE_LINE);
     assert!(rt; written.is_empty());
@@ -74,24 +74,21 @@ fn a_limit_cuts_a_log(rt: HostRuntime) {
 #[test]
 fn lines_that_hold_no_frame(rt: HostRuntime) {
     let (written, fault) = converted(&rt, MAX_INPUT, Form::Text, ESCAPED);
-    assert_eq!(rt;
-        written.as_slice(),
-        b"N0CALL-7>APRS:>\\xc0\\xdb\n".as_slice()
-    );
+    assert!(rt; written.as_slice() == b"N0CALL-7>APRS:>\\xc0\\xdb\n".as_slice());
     assert!(rt; fault.is_none());
     let mut r = Counted::new(ESCAPED);
     let mut w = Counted::new(Vec::new(rt.alloc()));
     let run = check_run(rt.alloc(), MAX_INPUT, &mut r, &mut w);
     assert!(rt; run.is_ok());
-    assert_eq!(rt;
-        w.into_inner().as_slice(),
-        b"line 2 passed BadEscape\nline 3 passed BadEscape\nheard 1 passed 2\n".as_slice()
+    assert!(rt;
+        w.into_inner().as_slice()
+            == b"line 2 passed BadEscape\nline 3 passed BadEscape\nheard 1 passed 2\n".as_slice()
     );
 }
 
 /// A stream of the frame to port 0, the same to port 5, a frame of another command, and the begin
 /// of a third.
-const STREAM: [&[u8]; 5] = [
+const STREAM: &[&[u8]] = &[
     FRAME,
     b"\xc0\x50",
     b"\x82\xa0\xa4\xa6\x40\x40\xe0\x9c\x60\x86\x82\x98\x98\x6f\x03\xf0>Hi\xc0",
@@ -104,13 +101,13 @@ fn a_stream_is_captured(rt: HostRuntime) -> Result<(), Fail> {
     let receiver = Receiver::parse(b"RX1").ok_or("a name")?;
     let moment = Moment::parse(b"2024-05-01T12:00:00Z").ok_or("a moment")?;
     let mut stream = Vec::new(rt.alloc());
-    for piece in STREAM {
+    for &piece in STREAM {
         stream.extend_from_slice(piece)?;
     }
     let form = Form::Capture { receiver, moment };
     let (written, fault) = converted(&rt, MAX_INPUT, form, stream.as_slice());
     assert!(rt; fault.is_none());
-    assert_eq!(rt; written.as_slice(), LOG);
+    assert!(rt; written.as_slice() == LOG);
     Ok(())
 }
 
@@ -124,11 +121,8 @@ fn devices_that_fail(rt: HostRuntime) {
     let mut w = Counted::new(Vec::new(rt.alloc()));
     let run = convert_run(rt.alloc(), MAX_INPUT, Form::Text, &mut r, &mut w);
     assert!(rt; fault_of(run) == Some((2, LogCause::Read)));
-    assert_eq!(rt; r.failures(), 1);
-    assert_eq!(rt;
-        w.into_inner().as_slice(),
-        b"N0CALL-7>APRS:>Hi\n".as_slice()
-    );
+    assert!(rt; r.failures() == 1);
+    assert!(rt; w.into_inner().as_slice() == b"N0CALL-7>APRS:>Hi\n".as_slice());
     let mut w = Counted::new(Full);
     let run = convert_run(
         rt.alloc(),
@@ -138,22 +132,23 @@ fn devices_that_fail(rt: HostRuntime) {
         &mut w,
     );
     assert!(rt; matches!(&run, Err(RunFault::Write)));
-    assert_eq!(rt; w.failures(), 1);
+    assert!(rt; w.failures() == 1);
 }
 
 #[test]
 fn statuses(rt: HostRuntime) {
-    for (cause, status) in [
+    const CASES: &[(LogCause, u8)] = &[
         (LogCause::Moment, 1),
         (LogCause::Read, 1),
         (LogCause::TooLong, 1),
         (LogCause::Memory, 4),
-    ] {
+    ];
+    for &(cause, status) in CASES {
         let fault = RunFault::Input {
             index: 0,
             fault: InputFault::Log(LogFault { line: 1, cause }),
         };
-        assert_eq!(rt; status_of(&fault), status);
+        assert!(rt; status_of(&fault) == status);
     }
-    assert_eq!(rt; status_of(&RunFault::Write), 3);
+    assert!(rt; status_of(&RunFault::Write) == 3);
 }

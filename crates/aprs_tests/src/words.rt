@@ -132,50 +132,51 @@ fn gap_of(rt: &HostRuntime, words: &[&str]) -> Option<u64> {
 
 #[test]
 fn words_that_ask_for_a_gap(rt: HostRuntime) {
-    for (words, gap) in [
-        (["aprsbook", "merge", "--gap", "1"].as_slice(), 1),
-        (
-            ["aprsbook", "merge", "--gap=3600", "rx1.log"].as_slice(),
-            3600,
-        ),
-        (["aprsbook", "show", "--gap", "45"].as_slice(), 45),
-        (["aprsbook", "widen", "45"].as_slice(), 45),
-        (["aprsbook", "widen", "3600", "net.book"].as_slice(), 3600),
-    ] {
+    const ASKED: &[(&[&str], u64)] = &[
+        (&["aprsbook", "merge", "--gap", "1"], 1),
+        (&["aprsbook", "merge", "--gap=3600", "rx1.log"], 3600),
+        (&["aprsbook", "show", "--gap", "45"], 45),
+        (&["aprsbook", "widen", "45"], 45),
+        (&["aprsbook", "widen", "3600", "net.book"], 3600),
+    ];
+    for &(words, gap) in ASKED {
         assert!(rt; gap_of(&rt, words) == Some(gap));
     }
-    for words in [
-        ["aprsbook", "merge", "--gap", "0"].as_slice(),
-        ["aprsbook", "merge", "--gap", "3601"].as_slice(),
-        ["aprsbook", "show", "--gap", "soon"].as_slice(),
-        ["aprsbook", "widen", "0"].as_slice(),
-        ["aprsbook", "widen"].as_slice(),
-        ["aprsbook", "widen", "45", "one.book", "two.book"].as_slice(),
-    ] {
+    const REFUSED: &[&[&str]] = &[
+        &["aprsbook", "merge", "--gap", "0"],
+        &["aprsbook", "merge", "--gap", "3601"],
+        &["aprsbook", "show", "--gap", "soon"],
+        &["aprsbook", "widen", "0"],
+        &["aprsbook", "widen"],
+        &["aprsbook", "widen", "45", "one.book", "two.book"],
+    ];
+    for &words in REFUSED {
         assert!(rt; matches!(&job(rt.alloc(), words), Err(JobFault::Clap(_))));
     }
 }
 
 #[test]
 fn words_that_ask_for_nothing(rt: HostRuntime) {
-    for words in [
-        ["aprsbook", "convert", "capture"].as_slice(),
-        ["aprsbook", "convert", "text", "--receiver", "RX1"].as_slice(),
-    ] {
+    const SHORT: &[&[&str]] = &[
+        &["aprsbook", "convert", "capture"],
+        &["aprsbook", "convert", "text", "--receiver", "RX1"],
+    ];
+    for &words in SHORT {
         assert!(rt; matches!(&job(rt.alloc(), words), Err(JobFault::Options)));
     }
-    for words in [
-        ["aprsbook", "convert", "nope"].as_slice(),
-        ["aprsbook", "convert"].as_slice(),
-        ["aprsbook", "unknown"].as_slice(),
-        ["aprsbook", "check", "one.log", "two.log"].as_slice(),
-    ] {
+    const WRONG: &[&[&str]] = &[
+        &["aprsbook", "convert", "nope"],
+        &["aprsbook", "convert"],
+        &["aprsbook", "unknown"],
+        &["aprsbook", "check", "one.log", "two.log"],
+    ];
+    for &words in WRONG {
         assert!(rt; matches!(&job(rt.alloc(), words), Err(JobFault::Clap(_))));
     }
 }
 
 /// Words that ask for help or the version, and what its text has to say.
-const HELP: [(&[&str], &[&str]); 7] = [
+const HELP: &[(&[&str], &[&str])] = &[
     (
         &["aprsbook", "--help"],
         &[
@@ -239,7 +240,7 @@ const HELP: [(&[&str], &[&str]); 7] = [
 #[test]
 fn words_that_ask_for_help(rt: HostRuntime) -> Result<(), Fail> {
     let alloc = rt.alloc();
-    for (words, parts) in HELP {
+    for &(words, parts) in HELP {
         let Err(JobFault::Clap(error)) = job(alloc, words) else {
             return Err("help".into());
         };
