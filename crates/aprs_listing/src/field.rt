@@ -6,12 +6,13 @@ ghost use Rattle.aprs_listing.specs.Listing.{ambiguity_text, fraction_text, stam
 ghost use Rattle.aprs_listing.specs.Listing.{word, word_byte};
 ghost use Rattle.aprs_convert.specs.Shown.{shown};
 
+use crate::bytes::put_bytes;
 use aprs_ax25::Callsign;
 use aprs_convert::{are_shown, shown_byte};
 use aprs_io::push_all;
 use aprs_kiss::{Counted, WriteFault};
 use aprs_log::Moment;
-use aprs_outbox::{Outbox, put};
+use aprs_outbox::Outbox;
 use aprs_report::{Fraction, Place, Stamp, Symbol};
 use arrayvec::ArrayVec;
 use itoa::Buffer;
@@ -47,14 +48,14 @@ pub fn put_field<W: Write>(
         (field_text field.now) }
 {
     match field {
-        Field::Plain(bytes) => put(w, held, bytes),
+        Field::Plain(bytes) => put_bytes(w, held, bytes),
         Field::Word(bytes) => put_word(w, held, bytes),
-        Field::Call(call) => put(w, held, call.text().as_slice()),
-        Field::Count(n) => put(w, held, Buffer::new().format(*n).as_bytes()),
-        Field::Moment(moment) => put(w, held, &moment.text()),
-        Field::Stamp(stamp) => put(w, held, stamp_text(stamp).as_slice()),
-        Field::Degrees(fraction) => put(w, held, fraction_text(fraction).as_slice()),
-        Field::Ambiguity(place) => put(w, held, ambiguity_text(place).as_slice()),
+        Field::Call(call) => put_bytes(w, held, call.text().as_slice()),
+        Field::Count(n) => put_bytes(w, held, Buffer::new().format(*n).as_bytes()),
+        Field::Moment(moment) => put_bytes(w, held, &moment.text()),
+        Field::Stamp(stamp) => put_bytes(w, held, stamp_text(stamp).as_slice()),
+        Field::Degrees(fraction) => put_bytes(w, held, fraction_text(fraction).as_slice()),
+        Field::Ambiguity(place) => put_bytes(w, held, ambiguity_text(place).as_slice()),
         Field::Symbol(symbol) => put_shown(w, held, &[symbol.table, symbol.code]),
     }
 }
@@ -116,10 +117,10 @@ pub fn put_shown<W: Write>(
         held.old.items held.new.items (shown bytes.now) }
 {
     if are_shown(bytes) {
-        return put(w, held, bytes);
+        return put_bytes(w, held, bytes);
     }
     for b in bytes {
-        put(w, held, shown_byte(*b).as_slice())?;
+        put_bytes(w, held, shown_byte(*b).as_slice())?;
     }
     Ok(())
 }
@@ -131,7 +132,7 @@ fn put_word<W: Write>(w: &mut Counted<W>, held: &mut Outbox, bytes: &[u8]) -> Re
         held.old.items held.new.items (word bytes.now) }
 {
     for b in bytes {
-        put(w, held, word_byte(*b).as_slice())?;
+        put_bytes(w, held, word_byte(*b).as_slice())?;
     }
     Ok(())
 }

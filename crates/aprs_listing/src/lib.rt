@@ -2,6 +2,7 @@
 //! item and message.
 #![tactic(auto)]
 
+mod bytes;
 mod field;
 mod heard_line;
 mod line;

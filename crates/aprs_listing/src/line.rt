@@ -5,9 +5,10 @@ ghost use Rattle.aprs_kiss.specs.Device.{answered_of, device_of, failures_of};
 ghost use Rattle.aprs_listing.specs.Lines.{PutsText, spaced_field};
 ghost use Rattle.aprs_convert.specs.Shown.{shown};
 
+use crate::bytes::put_bytes;
 use crate::field::{Field, put_field, put_shown};
 use aprs_kiss::{Counted, WriteFault};
-use aprs_outbox::{Outbox, put};
+use aprs_outbox::Outbox;
 use std::io::Write;
 
 /// Puts a line: its kind, and each field after a space.
@@ -22,9 +23,9 @@ pub fn put_line<W: Write>(
         held.old.items held.new.items
         (kind.now ++ (flat_map spaced_field fields.now ++ 10 ∷ [])) }
 {
-    put(w, held, kind)?;
+    put_bytes(w, held, kind)?;
     put_fields(w, held, fields)?;
-    put(w, held, b"\n")
+    put_bytes(w, held, b"\n")
 }
 
 /// Puts a line of the one fields and then the others, with a text at its end, after a colon.
@@ -42,7 +43,7 @@ pub fn put_text_line<W: Write>(
         (kind.now ++ (flat_map spaced_field fields.now
         ++ (flat_map spaced_field others.now ++ (58 ∷ shown text.now ++ 10 ∷ [])))) }
 {
-    put(w, held, kind)?;
+    put_bytes(w, held, kind)?;
     put_fields(w, held, fields)?;
     put_fields(w, held, others)?;
     put_text(w, held, text)
@@ -76,7 +77,7 @@ fn put_spaced<W: Write>(
         held.old.items held.new.items
         (spaced_field field.now) }
 {
-    put(w, held, b" ")?;
+    put_bytes(w, held, b" ")?;
     put_field(w, held, field)
 }
 
@@ -87,7 +88,7 @@ fn put_text<W: Write>(w: &mut Counted<W>, held: &mut Outbox, text: &[u8]) -> Res
         held.old.items held.new.items
         (58 ∷ shown text.now ++ 10 ∷ []) }
 {
-    put(w, held, b":")?;
+    put_bytes(w, held, b":")?;
     put_shown(w, held, text)?;
-    put(w, held, b"\n")
+    put_bytes(w, held, b"\n")
 }

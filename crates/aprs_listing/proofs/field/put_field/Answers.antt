@@ -5,30 +5,12 @@ use Rattle.aprs_listing.proofs.Lines.{PutsText-is}
 use Rattle.aprs_listing.proofs.field.put_field.Goals as goal
 
 pub returns-in-Call : goal.returns-in-Call
-returns-in-Call g c =
-    let p = c.put-in-Call.ensures in
-    PutsText-is {r = c.put-in-Call.result} {i = c.put-in-Call.new.held.items}
-    (record {
-      sent = p.sent;
-      prefix = p.prefix;
-      count = p.count;
-      fault = p.fault;
-      answered = p.answered;
-    })
+returns-in-Call g c = PutsText-is c.put_bytes-in-Call.ensures
     (c.as_slice.ensures.value ∙ c.text.ensures.text
     ∙ sym (ap (λ (x : Field). field_text x) c.in-Call.is))
 
 pub returns-in-Degrees : goal.returns-in-Degrees
-returns-in-Degrees g c =
-    let p = c.put-in-Degrees.ensures in
-    PutsText-is {r = c.put-in-Degrees.result} {i = c.put-in-Degrees.new.held.items}
-    (record {
-      sent = p.sent;
-      prefix = p.prefix;
-      count = p.count;
-      fault = p.fault;
-      answered = p.answered;
-    })
+returns-in-Degrees g c = PutsText-is c.put_bytes-in-Degrees.ensures
     (c.as_slice-in-Degrees.ensures.value ∙ c.fraction_text.ensures
     ∙ sym (ap (λ (x : Field). field_text x) c.in-Degrees.is))
 
