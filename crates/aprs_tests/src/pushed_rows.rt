@@ -56,13 +56,13 @@ fn pushed(
 fn rows_without_their_greatest_are_refused(rt: HostRuntime) -> Result<(), Fail> {
     let alloc = rt.alloc();
     let mut book = Book::new(alloc);
-    let (one, two) = (b"RX1".as_slice(), b"RX2".as_slice());
-    for (first, names, want) in [
-        (NOON, [one, two].as_slice(), Err(RowCause::NotGreatest)),
-        (NOON, [two, one].as_slice(), Err(RowCause::Receivers)),
-        (NOON, [].as_slice(), Err(RowCause::Receivers)),
-        (NOON - 1, [one, two].as_slice(), Ok(())),
-    ] {
+    const CASES: &[(u64, &[&[u8]], Result<(), RowCause>)] = &[
+        (NOON, &[b"RX1", b"RX2"], Err(RowCause::NotGreatest)),
+        (NOON, &[b"RX2", b"RX1"], Err(RowCause::Receivers)),
+        (NOON, &[], Err(RowCause::Receivers)),
+        (NOON - 1, &[b"RX1", b"RX2"], Ok(())),
+    ];
+    for &(first, names, want) in CASES {
         assert!(rt; book.len() == 0);
         assert!(rt; pushed(alloc, &mut book, first, names)? == want);
     }
