@@ -12,6 +12,7 @@ use crate::report::Report;
 use crate::status::status;
 
 /// The report of a field, if its bytes have a form.
+#[inline(always)]
 #[tactic(auto, unfolding(crate::specs::Reader::form_of))]
 pub fn form(info: &[u8]) -> Option<Report<'_>>
     ensures { option_map view result ≡ form_of info.now }

@@ -91,6 +91,7 @@ impl<'a> Report<'a> {
 
     /// What an information field says. Every field is some report; what has no other form is raw.
     /// Takes no memory.
+    #[inline(always)]
     pub fn read(info: &'a [u8]) -> Report<'a>
         ensures reads { Reads (view result) info.now }
         ensures value { view result ≡ reading_of info.now }
