@@ -7,7 +7,7 @@ use borrow.Rule.Slice.PartMut.{post_of, put_mid}
 use Rattle.hex.specs.Hex.{decode_of, decode_pairs, encode_lower, hex_digit_value, lower_digits, digit_or_error, value_at, pair_value}
 use Rattle.hex.proofs.Pairs.{cons_byte, decode_done, decode_pairs-ok_pair, decode_start, drop-pair, encode_done, encode_step, prepend, prepend-cons_byte}
 use Rattle.hex.proofs.HexLemmas.{decode_of-even}
-use Rattle.aprs_io.specs.Hexadecimal.{HoldsByte, HoldsDigits, HoldsValue, byte_of}
+use Rattle.aprs_io.specs.Hexadecimal.{HoldsByte, HoldsDigit, HoldsDigits, HoldsTwice, HoldsValue, byte_of}
 
 -- ---- the value of a letter, by a test of each byte
 
@@ -178,16 +178,15 @@ block_bytes text out values new at room len digits bytes k low high =
 
 -- ---- the digits of bytes
 
--- one byte's digits more
-pub digits_more : (bytes digits : List ℕ) (j x y : ℕ) → 2 * j + 1 < length digits
-    → x ≡ slice_index lower_digits (slice_index bytes j / 16)
-    → y ≡ slice_index lower_digits (slice_index bytes j % 16)
-    → ((k : ℕ) → k < j → HoldsDigits bytes digits k)
+-- one byte more that is put twice
+pub twice_more : (bytes twice : List ℕ) (j x : ℕ) → 2 * j + 1 < length twice
+    → x ≡ slice_index bytes j
+    → ((k : ℕ) → k < j → HoldsTwice bytes twice k)
     → (k : ℕ) → k < j + 1
-    → HoldsDigits bytes (slice_set (slice_set digits (2 * j) x) (2 * j + 1) y) k
-digits_more bytes digits j x y room ex ey so_far k below =
-    let one = slice_set digits (2 * j) x in
-    let len : length one ≡ length digits = length-set digits (2 * j) x in
+    → HoldsTwice bytes (slice_set (slice_set twice (2 * j) x) (2 * j + 1) x) k
+twice_more bytes twice j x room is so_far k below =
+    let one = slice_set twice (2 * j) x in
+    let len : length one ≡ length twice = length-set twice (2 * j) x in
     elim (cases_lt k j) [
       | inl before ↦
           let h = so_far k before in
@@ -195,21 +194,57 @@ digits_more bytes digits j x y room ex ey so_far k below =
           let even0 : 2 * k ≢ 2 * j = omega arith in
           let odd1 : 2 * k + 1 ≢ 2 * j + 1 = omega arith in
           let odd0 : 2 * k + 1 ≢ 2 * j = omega arith in (
-            get_or-set_other one (2 * j + 1) (2 * k) y 0 even1
-                ∙ get_or-set_other digits (2 * j) (2 * k) x 0 even0 ∙ h.0,
-            get_or-set_other one (2 * j + 1) (2 * k + 1) y 0 odd1
-                ∙ get_or-set_other digits (2 * j) (2 * k + 1) x 0 odd0 ∙ h.1,
+            get_or-set_other one (2 * j + 1) (2 * k) x 0 even1
+                ∙ get_or-set_other twice (2 * j) (2 * k) x 0 even0 ∙ h.0,
+            get_or-set_other one (2 * j + 1) (2 * k + 1) x 0 odd1
+                ∙ get_or-set_other twice (2 * j) (2 * k + 1) x 0 odd0 ∙ h.1,
           )
       | inr top ↦
           let e : k ≡ j = omega arith in
           let even : 2 * j ≢ 2 * j + 1 = omega arith in
-          let here : HoldsDigits bytes (slice_set one (2 * j + 1) y) j = (
-            get_or-set_other one (2 * j + 1) (2 * j) y 0 even
-                ∙ get_or-set_same digits (2 * j) x 0 (omega arith) ∙ ex,
-            get_or-set_same one (2 * j + 1) y 0 (omega (arith, len)) ∙ ey,
+          let here : HoldsTwice bytes (slice_set one (2 * j + 1) x) j = (
+            get_or-set_other one (2 * j + 1) (2 * j) x 0 even
+                ∙ get_or-set_same twice (2 * j) x 0 (omega arith) ∙ is,
+            get_or-set_same one (2 * j + 1) x 0 (omega (arith, len)) ∙ is,
           ) in
-          subst (HoldsDigits bytes (slice_set one (2 * j + 1) y)) (sym e) here
+          subst (HoldsTwice bytes (slice_set one (2 * j + 1) x)) (sym e) here
     ]
+
+-- one digit more, of a half of a byte
+pub digit_more : (bytes digits : List ℕ) (j x half : ℕ) → j < length digits
+    → x ≡ slice_index lower_digits half
+    → (j % 2 ≡ 0 → half ≡ slice_index bytes j / 16)
+    → (j % 2 ≡ 1 → half ≡ slice_index bytes j % 16)
+    → ((k : ℕ) → k < j → HoldsDigit bytes digits k)
+    → (k : ℕ) → k < j + 1 → HoldsDigit bytes (slice_set digits j x) k
+digit_more bytes digits j x half room is even odd so_far k below =
+    elim (cases_lt k j) [
+      | inl before ↦
+          let other : k ≢ j = omega arith in
+          let same : slice_index (slice_set digits j x) k ≡ slice_index digits k =
+          get_or-set_other digits j k x 0 other in
+          rw same (so_far k before)
+      | inr top ↦
+          let e : k ≡ j = omega arith in
+          let here = get_or-set_same digits j x 0 room ∙ is in
+          subst (HoldsDigit bytes (slice_set digits j x)) (sym e) (
+            λ h. here ∙ ap (λ n. slice_index lower_digits n) (even h),
+            λ h. here ∙ ap (λ n. slice_index lower_digits n) (odd h),
+          )
+    ]
+
+-- of bytes that are put twice, the digits of all halves are those of the bytes
+pub digits_of_twice : (bytes twice digits : List ℕ) (n : ℕ)
+    → ((j : ℕ) → j < n → HoldsTwice bytes twice j)
+    → ((k : ℕ) → k < 2 * n → HoldsDigit twice digits k)
+    → (j : ℕ) → j < n → HoldsDigits bytes digits j
+digits_of_twice bytes twice digits n are all j below =
+    let is = are j below in (
+      (all (2 * j) (omega arith)).0 (omega arith)
+          ∙ ap (λ b. slice_index lower_digits (b / 16)) is.0,
+      (all (2 * j + 1) (omega arith)).1 (omega arith)
+          ∙ ap (λ b. slice_index lower_digits (b % 16)) is.1,
+    )
 
 -- a digit in the part that was written
 digit_out : (digits block : List ℕ) (from j : ℕ) → from + 32 ≤ length digits → length block ≡ 32

@@ -23,3 +23,15 @@ abbrev pub HoldsDigits : List ℕ → List ℕ → ℕ → Type 0
 HoldsDigits bytes digits k =
     (slice_index digits (2 * k) ≡ slice_index lower_digits (slice_index bytes k / 16))
     × (slice_index digits (2 * k + 1) ≡ slice_index lower_digits (slice_index bytes k % 16))
+
+-- Pair k of `twice` is byte k, twice.
+abbrev pub HoldsTwice : List ℕ → List ℕ → ℕ → Type 0
+HoldsTwice bytes twice k =
+    (slice_index twice (2 * k) ≡ slice_index bytes k)
+    × (slice_index twice (2 * k + 1) ≡ slice_index bytes k)
+
+-- Digit k is that of the high half of the byte at its place if k is even, or else of the low half.
+abbrev pub HoldsDigit : List ℕ → List ℕ → ℕ → Type 0
+HoldsDigit bytes digits k =
+    (k % 2 ≡ 0 → slice_index digits k ≡ slice_index lower_digits (slice_index bytes k / 16))
+    × (k % 2 ≡ 1 → slice_index digits k ≡ slice_index lower_digits (slice_index bytes k % 16))

@@ -1,5 +1,5 @@
 //! Bytes in hexadecimal.
-ghost use Rattle.std.specs.Prelude.{◌≡◌, ◌≤◌, ◌<◌, ◌+◌, ◌*◌, ℕ, take, length, slice_index, true, false, Ok, Some, MatchOption, MatchResult, IsOk};
+ghost use Rattle.std.specs.Prelude.{◌≡◌, ◌≤◌, ◌<◌, ◌+◌, ◌*◌, ◌/◌, ◌%◌, ℕ, take, length, slice_index, true, false, Ok, Some, MatchOption, MatchResult, IsOk};
 ghost use Rattle.std.specs.Bool.{OnTrue};
 ghost use Rattle.hex.specs.Hex.{decode_of, encode_lower, hex_digit_value, lower_digits};
 ghost use Rattle.aprs_io.specs.Hexadecimal.{HoldsByte, HoldsDigits, HoldsValue, byte_of};
@@ -68,16 +68,34 @@ fn encode_block(bytes: &[u8], digits: &mut [u8], at: usize)
     digits[2 * at..2 * at + 2 * BLOCK].copy_from_slice(&block);
 }
 
-/// Puts the digits of the bytes of a block.
+/// Puts the digits of the bytes of a block. Each byte is put twice first, so that all digits are made
+/// alike, which the compiler does in fewer steps.
 #[inline(always)]
 fn put_digits(bytes: &[u8], digits: &mut [u8; 32])
     requires { length bytes.now ≡ BLOCK }
     ensures { (j : ℕ) → j < BLOCK → HoldsDigits bytes.now digits.new j }
 {
+    let mut twice = [0; 2 * BLOCK];
     'bytes: for j in 0..BLOCK {
-        let byte = bytes[j];
-        digits[2 * j] = digit_of(byte / 16);
-        digits[2 * j + 1] = digit_of(byte % 16);
+        twice[2 * j] = bytes[j];
+        twice[2 * j + 1] = bytes[j];
+    }
+    'digits: for k in 0..2 * BLOCK {
+        digits[k] = digit_of(half_of(twice[k], k));
+    }
+}
+
+/// The half of a byte that digit `k` stands for: the high one at an even place.
+#[inline(always)]
+fn half_of(byte: u8, k: usize) -> u8
+    ensures small { result < 16 }
+    ensures even { k % 2 ≡ 0 → result ≡ byte / 16 }
+    ensures odd { k % 2 ≡ 1 → result ≡ byte % 16 }
+{
+    if k.is_multiple_of(2) {
+        byte / 16
+    } else {
+        byte % 16
     }
 }
 

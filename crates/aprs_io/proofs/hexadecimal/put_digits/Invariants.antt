@@ -1,7 +1,14 @@
-use Rattle.std.proofs.Common.{◌<◌, ℕ}
-use Rattle.aprs_io.specs.Hexadecimal.{HoldsDigits}
+use Rattle.std.proofs.Common.{◌≡◌, ◌<◌, ℕ, length}
+use Rattle.aprs_io.specs.Hexadecimal.{HoldsDigit, HoldsTwice}
 use Rattle.aprs_io.proofs.hexadecimal.put_digits.Given as goal
 
--- the digits so far
+-- the bytes so far, each twice
 abbrev pub invariant-bytes : goal.invariant-bytes
-invariant-bytes l = (k : ℕ) → k < l.j → HoldsDigits l.bytes l.digits k
+invariant-bytes l = record {
+  len : length l.twice ≡ 32;
+  twice : (k : ℕ) → k < l.j → HoldsTwice l.bytes l.twice k;
+}
+
+-- the digits so far
+abbrev pub invariant-digits : goal.invariant-digits
+invariant-digits l = (m : ℕ) → m < l.k → HoldsDigit l.twice l.digits m
