@@ -1,15 +1,17 @@
 -- Lemmas on the line that is written for a reception.
-use Rattle.std.proofs.Common.{◌≡◌, ℕ, zero, suc, ◌⊎◌, inl, inr, ◌+◌, ◌<◌, ◌≤◌, List, [], ◌∷◌, ◌++◌, length, get_or, append_assoc, take, length-append, length-take, Ok, refl, arith, sym, ap, ◌∙◌, subst}
+use Rattle.std.proofs.Common.{◌≡◌, ℕ, zero, suc, ◌⊎◌, inl, inr, ◌+◌, ◌/◌, ◌%◌, ◌<◌, ◌≤◌, ◌≢◌, Bool, true, false, if◌then◌else◌, List, [], ◌∷◌, ◌++◌, length, get_or, slice_index, append_assoc, take, length-append, length-take, Ok, refl, arith, sym, ap, ◌∙◌, subst}
 use Rattle.std.specs.List.{All}
 use Rattle.std.proofs.lemmas.List.{take-take}
 use Rattle.std.proofs.Math.Seq.{take-append_seam}
-use Rattle.aprs_kiss.specs.Plain.{IsPlain}
-use Rattle.aprs_kiss.specs.Spelling.{spelling_of, spelling_of_byte, kiss_text}
+use Rattle.aprs_kiss.specs.Plain.{IsPlain, is_special}
+use Rattle.aprs_kiss.specs.Spelling.{is_escape, is_frame_end, spelling_of, spelling_of_byte, kiss_text}
 use Rattle.aprs_kiss.proofs.Escapes.{spelling_of-all, spelling_of-cut}
 use Rattle.aprs_ax25.specs.Frame.{FrameOf, Parts}
 use Rattle.aprs_ax25.specs.FrameFault.{frame_of, unless_fault}
 use Rattle.aprs_ax25.specs.Laws.{IsFrame, IsRefused}
-use Rattle.hex.specs.Hex.{decode_of, encode_lower}
+use Rattle.hex.specs.Hex.{IsBytes, decode_of, encode_lower, encode_with, lower_digits}
+use Rattle.hex.proofs.HexLemmas.{decode_of-encode_lower}
+use Rattle.std.proofs.lemmas.Bool.Decides.{nat_tests}
 use Rattle.aprs_log.specs.StreamLaws.{WrittenLaws}
 use Rattle.aprs_log.specs.Moment.{MomentText, moment_text}
 use Rattle.aprs_log.specs.Receiver.{IsName}
@@ -21,30 +23,106 @@ use Rattle.aprs_log.proofs.Frames.{frame_in-kiss_text}
 use Rattle.aprs_log.specs.declared.line.TheConstants.{MAX_LINE}
 use Rattle.aprs_log.specs.declared.write.TheConstants.{MAX_FRAME}
 
--- ---- a frame's bytes, cut at each byte that isn't sent as itself
+-- ---- the digits of a frame's bytes, cut at each byte that isn't sent as itself
 
--- what is to be put yet is `more`, after what was put
-put_more : (all rest more before now put : List ℕ) → rest ≡ put ++ more → before ++ rest ≡ all
-    → now ≡ before ++ put → now ++ more ≡ all
-put_more all rest more before now put cut was is =
-    ap (λ l. l ++ more) is ∙ append_assoc before put more ∙ ap (λ l. before ++ l) (sym cut) ∙ was
+-- the digits of bytes and of more of them
+digits-append : (xs ys : List ℕ) → encode_lower (xs ++ ys) ≡ encode_lower xs ++ encode_lower ys
+unfolding encode_with
+digits-append [] ys = refl
+digits-append (x ∷ xs) ys =
+    ap (λ l. slice_index lower_digits (x / 16) ∷ slice_index lower_digits (x % 16) ∷ l)
+    (digits-append xs ys)
 
+-- where the digits of `put` were put after those before, those of `more` are to be put yet
+put_more : (all before now rest put more : List ℕ) → rest ≡ put ++ more
+    → before ++ encode_lower rest ≡ all → now ≡ before ++ encode_lower put
+    → now ++ encode_lower more ≡ all
+put_more all before now rest put more cut was is =
+    ap (λ l. l ++ encode_lower more) is ∙ append_assoc before (encode_lower put) (encode_lower more)
+    ∙ ap (λ l. before ++ l) (sym (digits-append put more))
+    ∙ ap (λ l. before ++ encode_lower l) (sym cut) ∙ was
+
+-- the frame end and the type byte
+pub put_first : (frame begun now : List ℕ) → now ≡ begun ++ 99 ∷ 48 ∷ 48 ∷ 48 ∷ []
+    → now ++ encode_lower (spelling_of frame ++ 0xC0 ∷ []) ≡ begun ++ encode_lower (kiss_text frame)
+unfolding encode_with
+put_first frame begun now is =
+    put_more (begun ++ encode_lower (kiss_text frame)) begun now (kiss_text frame) (0xC0 ∷ 0 ∷ [])
+    (spelling_of frame ++ 0xC0 ∷ []) refl refl is
+
+-- the bytes before the first one that isn't sent as itself, and what is sent for that
+pub put_cut : (all rest plain after before now next : List ℕ) (mark : ℕ) → IsPlain plain
+    → rest ≡ plain ++ mark ∷ after → before ++ encode_lower (spelling_of rest ++ 0xC0 ∷ []) ≡ all
+    → now ≡ before ++ encode_lower plain → next ≡ now ++ encode_lower (spelling_of_byte mark)
+    → next ++ encode_lower (spelling_of after ++ 0xC0 ∷ []) ≡ all
+put_cut all rest plain after before now next mark free cut was is next_is =
+    let left = spelling_of after ++ 0xC0 ∷ [] in
+    put_more all now next (spelling_of_byte mark ++ left) (spelling_of_byte mark) left refl
+    (put_more all before now (spelling_of rest ++ 0xC0 ∷ []) plain (spelling_of_byte mark ++ left)
+    (spelling_of-cut rest plain after (0xC0 ∷ []) mark free cut) was is) next_is
+
+-- the bytes after the last one that isn't sent as itself, and the frame end
 pub put_last : (all rest plain before now last : List ℕ) → IsPlain plain → rest ≡ plain
-    → before ++ (spelling_of rest ++ 0xC0 ∷ []) ≡ all → now ≡ before ++ plain
-    → last ≡ now ++ 0xC0 ∷ [] → last ≡ all
-put_last all rest plain before now last free cut was is then =
-    then ∙ put_more all (spelling_of rest ++ 0xC0 ∷ []) (0xC0 ∷ []) before now plain
+    → before ++ encode_lower (spelling_of rest ++ 0xC0 ∷ []) ≡ all
+    → now ≡ before ++ encode_lower plain → last ≡ now ++ 99 ∷ 48 ∷ [] → last ≡ all
+unfolding encode_with
+put_last all rest plain before now last free cut was is last_is =
+    last_is ∙ put_more all before now (spelling_of rest ++ 0xC0 ∷ []) plain (0xC0 ∷ [])
     (spelling_of-all rest plain (0xC0 ∷ []) free cut) was is
 
-pub put_cut : (all rest plain after before now next : List ℕ) (mark : ℕ) → IsPlain plain
-    → rest ≡ plain ++ mark ∷ after → before ++ (spelling_of rest ++ 0xC0 ∷ []) ≡ all
-    → now ≡ before ++ plain → next ≡ now ++ spelling_of_byte mark
-    → next ++ (spelling_of after ++ 0xC0 ∷ []) ≡ all
-put_cut all rest plain after before now next mark free cut was is then =
-    let left = spelling_of after ++ 0xC0 ∷ [] in
-    put_more all (spelling_of_byte mark ++ left) left now next (spelling_of_byte mark) refl
-    (put_more all (spelling_of rest ++ 0xC0 ∷ []) (spelling_of_byte mark ++ left) before now plain
-    (spelling_of-cut rest plain after (0xC0 ∷ []) mark free cut) was is) then
+-- what FEND and FESC are sent as
+pub escape-end : (now before : List ℕ) (byte : ℕ) → byte ≡ 0xC0
+    → now ≡ before ++ 100 ∷ 98 ∷ 100 ∷ 99 ∷ []
+    → now ≡ before ++ encode_lower (spelling_of_byte byte)
+unfolding encode_with
+escape-end now before byte e is = rw e is
+
+pub escape-escape : (now before : List ℕ) (byte : ℕ) → byte ≢ 0xC0 → is_special byte ≡ true
+    → now ≡ before ++ 100 ∷ 98 ∷ 100 ∷ 100 ∷ []
+    → now ≡ before ++ encode_lower (spelling_of_byte byte)
+unfolding encode_with
+escape-escape now before byte other special is =
+    let e : byte ≡ 0xDB = grind (arith, nat_tests, special) in
+    rw e is
+
+-- ---- what is sent for bytes are bytes
+
+bytes-append : (xs ys : List ℕ) → IsBytes xs → IsBytes ys → IsBytes (xs ++ ys)
+bytes-append [] ys are more i = more i
+bytes-append (x ∷ xs) ys are more zero = are zero
+bytes-append (x ∷ xs) ys are more (suc i) = bytes-append xs ys (λ k. are (suc k)) more i
+
+two_bytes : (x y : ℕ) → x < 256 → y < 256 → IsBytes (x ∷ y ∷ [])
+two_bytes x y p q zero = p
+two_bytes x y p q (suc zero) = q
+two_bytes x y p q (suc (suc i)) = omega arith
+
+one_byte : (x : ℕ) → x < 256 → IsBytes (x ∷ [])
+one_byte x p zero = p
+one_byte x p (suc i) = omega arith
+
+bytes-if : (c : Bool) (xs ys : List ℕ) → IsBytes xs → IsBytes ys → IsBytes (if c then xs else ys)
+bytes-if true xs ys are others = are
+bytes-if false xs ys are others = others
+
+bytes-spelling : (xs : List ℕ) → IsBytes xs → IsBytes (spelling_of xs)
+unfolding spelling_of
+bytes-spelling [] are = λ i. omega arith
+bytes-spelling (x ∷ xs) are =
+    bytes-append (spelling_of_byte x) (spelling_of xs)
+    (bytes-if (is_frame_end x) _ _ (two_bytes 0xDB 0xDC (omega arith) (omega arith))
+    (bytes-if (is_escape x) _ _ (two_bytes 0xDB 0xDD (omega arith) (omega arith))
+    (one_byte x (are zero))))
+    (bytes-spelling xs (λ k. are (suc k)))
+
+pub reads_back : (frame : List ℕ) → IsBytes frame
+    → decode_of (encode_lower (kiss_text frame)) ≡ Ok (kiss_text frame)
+reads_back frame are =
+    decode_of-encode_lower (kiss_text frame)
+    (bytes-append (0xC0 ∷ 0 ∷ []) (spelling_of frame ++ 0xC0 ∷ [])
+    (two_bytes 0xC0 0 (omega arith) (omega arith))
+    (bytes-append (spelling_of frame) (0xC0 ∷ []) (bytes-spelling frame are)
+    (one_byte 0xC0 (omega arith))))
 
 -- ---- a line's moment
 

@@ -1,10 +1,11 @@
 //! Lines of a log as they are written.
-ghost use Rattle.std.specs.Prelude.{◌≡◌, ◌≤◌, ◌+◌, ◌*◌, [], ◌∷◌, ◌++◌, length, take, Ok, Some, IfSome, OnOk, OnErr};
+ghost use Rattle.std.specs.Prelude.{◌≡◌, ◌≤◌, ◌+◌, ◌*◌, [], ◌∷◌, ◌++◌, length, take, true, Ok, Some, IfSome, OnOk, OnErr};
 ghost use Rattle.std.specs.Io.KnownBytes.{Appends};
 ghost use Rattle.std.proofs.Props.{props};
 ghost use Rattle.hex.specs.Hex.{decode_of, encode_lower};
 ghost use Rattle.aprs_io.specs.Device.{answered_of, device_of, failures_of, Rose, RoseAtErr};
 ghost use Rattle.aprs_io.specs.Device.{AppendsPrefix};
+ghost use Rattle.aprs_kiss.specs.Plain.{is_special};
 ghost use Rattle.aprs_kiss.specs.Spelling.{kiss_text, spelling_of_byte};
 ghost use Rattle.aprs_log.specs.Line.{line_of, written_line};
 ghost use Rattle.aprs_log.specs.Moment.{moment_text};
@@ -51,7 +52,6 @@ pub fn write_line<W: Write>(w: &mut Counted<W>, reception: &Reception) -> Result
 #[derive(Drop)]
 pub struct LogWriter {
     line: [u8; MAX_WRITTEN],
-    spelled: [u8; MAX_SPELLED],
     /// The moment whose text the line begins with.
     moment: Option<Moment>,
     ghost begins: { IfSome moment (λ m. take LEN line ≡ moment_text m) } by { Prim.hlevel props },
@@ -62,7 +62,6 @@ impl LogWriter {
     pub fn new() -> LogWriter {
         LogWriter {
             line: [0; MAX_WRITTEN],
-            spelled: [0; MAX_SPELLED],
             moment: None,
         }
     }
@@ -84,7 +83,7 @@ impl LogWriter {
         ensures reads_back { line_of (written_line reception.now) ≡ Ok (Line.Heard reception.now) }
     {
         self.begin(reception.moment());
-        let len = put_line(&mut self.line, &mut self.spelled, reception);
+        let len = put_line(&mut self.line, reception);
         send(w, &self.line[..len])
     }
 
@@ -105,10 +104,9 @@ impl LogWriter {
 }
 
 /// Puts the line and its LF at the start of `line`, which begins with the text of its moment, and
-/// returns how many bytes they are. `spelled` is room for the frame.
-fn put_line(line: &mut [u8], spelled: &mut [u8], reception: &Reception) -> usize
+/// returns how many bytes they are.
+fn put_line(line: &mut [u8], reception: &Reception) -> usize
     requires line { length line.old ≡ MAX_WRITTEN }
-    requires spelled { length spelled.old ≡ MAX_SPELLED }
     requires begins { take LEN line.old ≡ moment_text reception.now.moment }
     ensures fits { result ≤ MAX_WRITTEN }
     ensures len { length line.new ≡ MAX_WRITTEN }
@@ -123,9 +121,30 @@ fn put_line(line: &mut [u8], spelled: &mut [u8], reception: &Reception) -> usize
     let place = put(line, receiver, b" ");
     let frame = reception.frame().bytes();
     frames_are_read(frame);
-    let spelled_len = put_frame(spelled, frame);
-    let digits = put_hex(line, place, &spelled[..spelled_len]);
+    let digits = put_frame(line, place, frame);
     put(line, digits, b"\n")
+}
+
+/// Puts the digits of what goes out for a frame at a place, and returns the place after them.
+fn put_frame(out: &mut [u8], at: usize, frame: &[u8]) -> usize
+    requires few { length frame.now ≤ MAX_FRAME }
+    requires room { at + 2 * MAX_SPELLED ≤ length out.old }
+    ensures end { result ≤ at + 2 * MAX_SPELLED }
+    ensures len { length out.new ≡ length out.old }
+    ensures digits { take result out.new ≡ take at out.old ++ encode_lower (kiss_text frame.now) }
+    ensures back { decode_of (encode_lower (kiss_text frame.now)) ≡ Ok (kiss_text frame.now) }
+{
+    let mut end = put(out, at, b"c000");
+    let mut rest = frame;
+    'cuts: loop {
+        let (plain, mark) = cut_plain(rest);
+        end = put_hex(out, end, plain);
+        let Some((byte, after)) = mark else {
+            return put(out, end, b"c0");
+        };
+        end = put_escape(out, end, byte);
+        rest = after;
+    }
 }
 
 /// Puts the digits of bytes at a place, and returns the place after them.
@@ -134,44 +153,23 @@ fn put_hex(out: &mut [u8], at: usize, bytes: &[u8]) -> usize
     ensures end { result ≡ at + 2 * length bytes.now }
     ensures len { length out.new ≡ length out.old }
     ensures digits { take result out.new ≡ take at out.old ++ encode_lower bytes.now }
-    ensures back { decode_of (encode_lower bytes.now) ≡ Ok bytes.now }
 {
     let end = at + 2 * bytes.len();
     encode_to(bytes, &mut out[at..end]);
     end
 }
 
-/// Puts what goes out for a frame at the start of `out`, and returns how many bytes it is.
-fn put_frame(out: &mut [u8], frame: &[u8]) -> usize
-    requires few { length frame.now ≤ MAX_FRAME }
-    requires room { length out.old ≡ MAX_SPELLED }
-    ensures fits { result ≤ MAX_SPELLED }
-    ensures len { length out.new ≡ MAX_SPELLED }
-    ensures bytes { take result out.new ≡ kiss_text frame.now }
-{
-    let mut end = put(out, 0, &[0xC0, 0]);
-    let mut rest = frame;
-    'cuts: loop {
-        let (plain, mark) = cut_plain(rest);
-        end = put(out, end, plain);
-        let Some((byte, after)) = mark else {
-            return put(out, end, &[0xC0]);
-        };
-        end = put_spelled(out, end, byte);
-        rest = after;
-    }
-}
-
-/// Puts what goes out for a byte at a place, and returns the place after it.
-fn put_spelled(out: &mut [u8], at: usize, byte: u8) -> usize
-    requires { at + 2 ≤ length out.old }
-    ensures end { result ≤ at + 2 }
+/// Puts the digits of what FEND or FESC is sent as at a place, and returns the place after them.
+fn put_escape(out: &mut [u8], at: usize, byte: u8) -> usize
+    requires special { is_special byte ≡ true }
+    requires room { at + 4 ≤ length out.old }
+    ensures end { result ≡ at + 4 }
     ensures len { length out.new ≡ length out.old }
-    ensures bytes { take result out.new ≡ take at out.old ++ spelling_of_byte byte }
+    ensures digits { take result out.new ≡ take at out.old ++ encode_lower (spelling_of_byte byte) }
 {
-    match byte {
-        0xC0 => put(out, at, &[0xDB, 0xDC]),
-        0xDB => put(out, at, &[0xDB, 0xDD]),
-        _ => put(out, at, &[byte]),
+    if byte == 0xC0 {
+        put(out, at, b"dbdc")
+    } else {
+        put(out, at, b"dbdd")
     }
 }

@@ -1,14 +1,25 @@
-use Rattle.std.proofs.Common.{◌≡◌, ◌++◌, ◌∷◌, length, length-append, arith, ap, subst, sym}
+use Rattle.std.proofs.Common.{◌≡◌, ◌++◌, ◌∷◌, length, length-append, arith, ap, refl, subst, sym, ◌∙◌}
 use Rattle.aprs_kiss.specs.Plain.{CutsPlain}
-use Rattle.aprs_kiss.specs.Spelling.{kiss_text}
-use Rattle.aprs_log.proofs.WrittenLines.{put_last, put_cut}
+use Rattle.aprs_log.proofs.WrittenLines.{put_first, put_last, put_cut, reads_back}
 use Rattle.aprs_log.proofs.write.put_frame.Goals as goal
 
-pub returns-in_default-clause-bytes : goal.returns-in_default-clause-bytes
-returns-in_default-clause-bytes c =
+pub returns-in_default-clause-digits : goal.returns-in_default-clause-digits
+returns-in_default-clause-digits c =
     let cut = subst (CutsPlain _ _) c.in_default.is c.cut_plain.ensures.cut in
-    put_last (kiss_text c.args.frame.now) _ _ _ _ _ c.cut_plain.ensures.plain cut
-    c.cuts.invariant.sent c.put-end-in-cuts.ensures.bytes c.put.ensures.bytes
+    put_last _ _ _ _ _ _ c.cut_plain.ensures.plain cut
+    c.cuts.invariant.digits c.put_hex-end.ensures.digits c.put.ensures.bytes
+    ∙ put_first c.args.frame.now _ _ c.put-end.ensures.bytes
+
+pub returns-in_default-clause-back : goal.returns-in_default-clause-back
+returns-in_default-clause-back c =
+    reads_back c.args.frame.now (λ i. let fits = c.type_inv.frame i in omega arith)
+
+pub cuts-init : goal.cuts-init
+cuts-init c = record {
+  digits = refl;
+  end = omega (arith, c.put-end.ensures.end, c.requires.few);
+  room = refl;
+}
 
 pub cuts-preserved : goal.cuts-preserved
 cuts-preserved c =
@@ -18,21 +29,21 @@ cuts-preserved c =
     = ap length (sym cut.0) in
     let parts = length-append plain (c.in-Some.byte ∷ c.in-Some.after.now) in
     record {
-      sent = put_cut (kiss_text c.args.frame.now) _ _ _ _ _ _ c.in-Some.byte
-          c.cut_plain.ensures.plain cut.0 c.cuts.invariant.sent
-          c.put-end-in-cuts.ensures.bytes c.put_spelled-end.ensures.bytes;
-      len = omega (
+      digits = put_cut _ _ _ _ _ _ _ c.in-Some.byte
+          c.cut_plain.ensures.plain cut.0 c.cuts.invariant.digits
+          c.put_hex-end.ensures.digits c.put_escape-end.ensures.digits;
+      end = omega (
         arith,
         len,
         parts,
-        c.cuts.invariant.len,
-        c.put-end-in-cuts.ensures.end,
-        c.put_spelled-end.ensures.end,
+        c.cuts.invariant.end,
+        c.put_hex-end.ensures.end,
+        c.put_escape-end.ensures.end,
       );
       room = omega (
         arith,
         c.cuts.invariant.room,
-        c.put-end-in-cuts.ensures.len,
-        c.put_spelled-end.ensures.len,
+        c.put_hex-end.ensures.len,
+        c.put_escape-end.ensures.len,
       );
     }

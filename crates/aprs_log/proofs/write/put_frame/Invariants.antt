@@ -1,13 +1,14 @@
 use Rattle.std.proofs.Common.{◌≡◌, ◌≤◌, ◌+◌, ◌*◌, ◌++◌, ◌∷◌, [], length, take}
-use Rattle.aprs_kiss.specs.Spelling.{kiss_text, spelling_of}
+use Rattle.hex.specs.Hex.{encode_lower}
+use Rattle.aprs_kiss.specs.Spelling.{spelling_of}
 use Rattle.aprs_log.proofs.write.put_frame.Given as goal
-use Rattle.aprs_log.specs.declared.write.TheConstants.{MAX_SPELLED}
 
 abbrev pub invariant-cuts : goal.invariant-cuts
 invariant-cuts l = record {
-  sent : take l.end l.out ++ (spelling_of l.rest ++ 0xC0 ∷ []) ≡ kiss_text l.frame;
-  len : l.end + 2 * length l.rest ≤ 658;
-  room : length l.out ≡ MAX_SPELLED;
+  digits : take l.end l.out ++ encode_lower (spelling_of l.rest ++ 0xC0 ∷ [])
+      ≡ take l.initial.end l.initial.out ++ encode_lower (spelling_of l.frame ++ 0xC0 ∷ []);
+  end : l.end + 4 * length l.rest ≤ l.at + 1316;
+  room : length l.out ≡ length l.initial.out;
 }
 
 abbrev pub decreases-cuts : goal.decreases-cuts

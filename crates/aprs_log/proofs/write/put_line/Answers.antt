@@ -25,7 +25,6 @@ returns-clause-back c short =
     let is_text = subst (λ m. MomentText m (moment_text m)) c.moment.ensures c.has_a_text.ensures in
     let is = real x (moment_text x.moment) refl is_text
     (subst IsName c.receiver.ensures c.as_bytes.ensures.name) reads few in
-    let sent = c.put_frame-spelled_len.ensures.bytes ∙ ap kiss_text frame in
-    let digits = subst (λ l. decode_of (encode_lower l)
-    ≡ Ok l) sent c.put_hex-digits.ensures.back in
+    let digits = subst (λ l. decode_of (encode_lower (kiss_text l)) ≡ Ok (kiss_text l)) frame
+    c.put_frame-digits.ensures.back in
     line_of-written c.written_laws.ensures x is digits short
