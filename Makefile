@@ -9,7 +9,7 @@ SHARE = $(DESTDIR)$(PREFIX)/share
 JOBS ?= $(shell awk -v n=$$(nproc) '/MemAvailable/ { most = int($$2 / 3000000) } \
     END { if (n > 4) n = 4; if (n > most) n = most; print (n < 1 ? 1 : n) }' /proc/meminfo)
 
-# what is proved beside the book and what leads to it, which take longer: one job each
+# what is proved beside the book and what leads to it, which take longer: one job each, and after these
 BESIDE = aprs_outbox aprs_report aprs_convert aprs_command aprs_listing
 
 # the program alone, each call of it proved: crates that don't stand on each other side by side, and last
@@ -23,7 +23,7 @@ $(foreach it,$(LIBRARIES),$(eval $(it): $(filter $(LIBRARIES),$(shell sed -n 's/
 .PHONY: $(LIBRARIES)
 libraries: $(LIBRARIES)
 $(LIBRARIES):
-	@build/prove.sh $@ $(if $(filter $@,$(BESIDE)),1,$(JOBS))
+	@$(if $(filter $@,$(BESIDE)),nice) build/prove.sh $@ $(if $(filter $@,$(BESIDE)),1,$(JOBS))
 
 # the sample log as a monitor prints it
 run: build

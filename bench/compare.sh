@@ -29,7 +29,7 @@ has() { "$program" "$1" < /dev/null > /dev/null 2>&1; }
 
 # same WHAT A B: the outputs of two commands are the same bytes, and there are some
 same() {
-    if [ -z "$("$2" | head -c 1)" ] || ! cmp -s <("$2") <("$3"); then
+    if [ -z "$("$2" 2> /dev/null | head -c 1)" ] || ! cmp -s <("$2") <("$3"); then
         echo "compare.sh: the outputs differ, or there are none: $1" >&2
         exit 1
     fi
