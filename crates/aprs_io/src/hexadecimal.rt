@@ -68,8 +68,8 @@ fn encode_block(bytes: &[u8], digits: &mut [u8], at: usize)
     digits[2 * at..2 * at + 2 * BLOCK].copy_from_slice(&block);
 }
 
-/// Puts the digits of the bytes of a block. Each byte is put twice first, so that all digits are made
-/// alike, which the compiler does in fewer steps.
+/// Puts the digits of the bytes of a block. Each byte is put twice first, so that all digits are
+/// made alike, which the compiler does in fewer steps.
 #[inline(always)]
 fn put_digits(bytes: &[u8], digits: &mut [u8; 32])
     requires { length bytes.now ≡ BLOCK }
