@@ -116,23 +116,29 @@ decode_of-bytes text out len all =
 
 -- ---- a block
 
+-- what holds of each number so far holds of one more that is put
+one_more : (Holds : ℕ → ℕ → Type 0) (xs : List ℕ) (j x : ℕ) → j < length xs → Holds j x
+    → ((k : ℕ) → k < j → Holds k (slice_index xs k))
+    → (k : ℕ) → k < j + 1 → Holds k (slice_index (slice_set xs j x) k)
+one_more Holds xs j x room is so_far k below =
+    elim (cases_lt k j) [
+      | inl before ↦
+          let other : k ≢ j = omega arith in
+          subst (Holds k) (sym (get_or-set_other xs j k x 0 other)) (so_far k before)
+      | inr top ↦
+          let e : k ≡ j = omega arith in
+          let here = subst (Holds j) (sym (get_or-set_same xs j x 0 room)) is in
+          subst (λ n. Holds n (slice_index (slice_set xs j x) n)) (sym e) here
+    ]
+
 -- one value more
 pub values_more : (digits values : List ℕ) (j v : ℕ) → j < length values → v < 16
     → hex_digit_value (slice_index digits j) ≡ Some v
     → ((k : ℕ) → k < j → HoldsValue digits values k)
     → (k : ℕ) → k < j + 1 → HoldsValue digits (slice_set values j v) k
-values_more digits values j v room small is so_far k below =
-    elim (cases_lt k j) [
-      | inl before ↦
-          let other : k ≢ j = omega arith in
-          let same : slice_index (slice_set values j v) k ≡ slice_index values k =
-          get_or-set_other values j k v 0 other in
-          rw same (so_far k before)
-      | inr top ↦
-          let e : k ≡ j = omega arith in
-          let same : slice_index (slice_set values j v) j ≡ v = get_or-set_same values j v 0 room in
-          rw (e, same) (small, is)
-    ]
+values_more digits values j v room small is so_far =
+    one_more (λ k v. (v < 16) × (hex_digit_value (slice_index digits k) ≡ Some v)) values j v room
+    (small, is) so_far
 
 -- a digit of a part of the text
 digit_in : (text : List ℕ) (from j : ℕ) → j < 32
@@ -217,21 +223,15 @@ pub digit_more : (bytes digits : List ℕ) (j x half : ℕ) → j < length digit
     → (j % 2 ≡ 1 → half ≡ slice_index bytes j % 16)
     → ((k : ℕ) → k < j → HoldsDigit bytes digits k)
     → (k : ℕ) → k < j + 1 → HoldsDigit bytes (slice_set digits j x) k
-digit_more bytes digits j x half room is even odd so_far k below =
-    elim (cases_lt k j) [
-      | inl before ↦
-          let other : k ≢ j = omega arith in
-          let same : slice_index (slice_set digits j x) k ≡ slice_index digits k =
-          get_or-set_other digits j k x 0 other in
-          rw same (so_far k before)
-      | inr top ↦
-          let e : k ≡ j = omega arith in
-          let here = get_or-set_same digits j x 0 room ∙ is in
-          subst (HoldsDigit bytes (slice_set digits j x)) (sym e) (
-            λ h. here ∙ ap (λ n. slice_index lower_digits n) (even h),
-            λ h. here ∙ ap (λ n. slice_index lower_digits n) (odd h),
-          )
-    ]
+digit_more bytes digits j x half room is even odd so_far =
+    one_more
+    (λ k x. (k % 2 ≡ 0 → x ≡ slice_index lower_digits (slice_index bytes k / 16))
+    × (k % 2 ≡ 1 → x ≡ slice_index lower_digits (slice_index bytes k % 16)))
+    digits j x room (
+      λ h. is ∙ ap (λ n. slice_index lower_digits n) (even h),
+      λ h. is ∙ ap (λ n. slice_index lower_digits n) (odd h),
+    )
+    so_far
 
 -- of bytes that are put twice, the digits of all halves are those of the bytes
 pub digits_of_twice : (bytes twice digits : List ℕ) (n : ℕ)
