@@ -1,5 +1,5 @@
--- What a device that counts its failed calls does in one call.
-use Rattle.std.specs.Prelude.{◌≡◌, ℕ, ◌+◌, ◌-◌, ◌^◌, ◌≤◌, min, List, ◌++◌, Option, Result, Ok, Err}
+-- What a function did to a device that counts its failed calls.
+use Rattle.std.specs.Prelude.{◌≡◌, ℕ, ◌+◌, ◌-◌, ◌*◌, ◌^◌, ◌≤◌, min, List, ◌++◌, length, Option, Result, Ok, Err, OnOk, OnErr}
 use Rattle.std.specs.Io.KnownBytes.{Appends}
 use Rattle.aprs_io.specs.declared.device.Counted.{Counted}
 
@@ -11,13 +11,53 @@ device_of counted = counted.device
 abbrev pub failures_of : {T : Type 0} → Counted T → ℕ
 failures_of counted = counted.failed
 
--- The count rose, or it is the greatest number of 64 bits, where it stays.
-abbrev pub Rose : ℕ → ℕ → Type 0
-Rose old new = min (old + 1) (2 ^ 64 - 1) ≤ new
-
 -- How many of its answers were faults.
 abbrev pub answered_of : {T : Type 0} → Counted T → ℕ
 answered_of counted = counted.answered
+
+-- How many of its answers were the end of the input.
+abbrev pub ends_of : {T : Type 0} → Counted T → ℕ
+ends_of counted = counted.ended
+
+-- One more, up to the greatest number of 64 bits.
+abbrev pub one_more : ℕ → ℕ
+one_more n = min (n + 1) (2 ^ 64 - 1)
+
+-- The count rose, or it is the greatest number of 64 bits, where it stays.
+abbrev pub Rose : ℕ → ℕ → Type 0
+Rose old new = one_more old ≤ new
+
+-- What the last call of a function's device answered: a fault, the end of the input, or neither,
+-- and the function may go on.
+pub data Last : Type 0 where
+  Going : Last
+  Fault : Last
+  End : Last
+
+-- A count of faults, after this answer.
+abbrev pub faults_after : Last → ℕ → ℕ
+faults_after Going n = n
+faults_after Fault n = one_more n
+faults_after End n = n
+
+-- A count of ends, after this answer.
+abbrev pub ends_after : Last → ℕ → ℕ
+ends_after Going n = n
+ends_after Fault n = n
+ends_after End n = one_more n
+
+-- The last call answered so, and no call before it answered a fault or the end: the count of failed
+-- calls fell nowhere and rose at a fault, and those of answers are exactly so many.
+pub record Calls {T : Type 0} (last : Last) (old new : Counted T) : Type 0 where
+  pub count : old.failed ≤ new.failed
+  pub fault : faults_after last old.failed ≤ new.failed
+  pub answered : new.answered ≡ faults_after last old.answered
+  pub ended : new.ended ≡ ends_after last old.ended
+
+-- A call that returns an error had a fault answered.
+abbrev pub last_at : {A E : Type 0} → Result A E → Last
+last_at (Ok value) = Going
+last_at (Err fault) = Fault
 
 -- The count rose if the call returned an error, and otherwise it is as it was.
 abbrev pub RoseAtErr : {A E : Type 0} → Result A E → ℕ → ℕ → Type 0
@@ -36,3 +76,25 @@ AppendsAllBut old new bytes rest =
 -- A prefix of the bytes went out, where it is known what goes out.
 abbrev pub AppendsPrefix : Option (List ℕ) → Option (List ℕ) → List ℕ → Type 0
 AppendsPrefix old new bytes = (rest : List ℕ) × AppendsAllBut old new bytes rest
+
+-- How many tries may fail while a text goes out: 999 for each byte, and one more at a fault.
+abbrev pub most_failures : Last → List ℕ → ℕ
+most_failures Going text = 999 * length text
+most_failures Fault text = 999 * length text + 1
+most_failures End text = 999 * length text
+
+-- At Ok the text went out. At an error a prefix of it did, and the last call of the device answered
+-- a fault, which no call before it did.
+pub record Sends {W E : Type 0} (contents : W → Option (List ℕ)) (r : Result (Unit {0}) E)
+    (old new : Counted W) (text : List ℕ) : Type 0 where
+  pub sent : OnOk r (Appends (contents old.device) (contents new.device) text)
+  pub prefix : OnErr r (AppendsPrefix (contents old.device) (contents new.device) text)
+  pub calls : Calls (last_at r) old new
+  pub tries : new.failed ≤ old.failed + most_failures (last_at r) text
+
+-- A first part of the text went out, and `rest` is left.
+pub record SendsAllBut {W : Type 0} (contents : W → Option (List ℕ)) (old new : Counted W)
+    (text rest : List ℕ) : Type 0 where
+  pub gone : List ℕ
+  pub whole : text ≡ gone ++ rest
+  pub sends : Sends {E = Unit {0}} contents (Ok tt) old new gone

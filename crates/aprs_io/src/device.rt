@@ -1,8 +1,9 @@
 //! A reader or a writer that counts its failed calls.
-ghost use Rattle.std.specs.Prelude.{◌≡◌, ◌+◌, ◌-◌, ◌*◌, ◌<◌, ◌≤◌, length, OnOk, OnErr};
+ghost use Rattle.std.specs.Prelude.{◌≡◌, ◌+◌, ◌<◌, ◌≤◌, length, OnOk};
 ghost use Rattle.std.specs.Io.{ReadsAtMost};
-ghost use Rattle.std.specs.Io.KnownBytes.{Appends, ReadConsumes};
-ghost use Rattle.aprs_io.specs.Device.{device_of, failures_of, answered_of, Rose, RoseAtErr, AppendsPrefix};
+ghost use Rattle.std.specs.Io.KnownBytes.{ReadConsumes};
+ghost use Rattle.aprs_io.specs.Device.{device_of, failures_of, answered_of, ends_of, one_more, Rose, Calls, Sends};
+ghost use Rattle.aprs_io.specs.Input.{last_read};
 
 use std::io::{ErrorKind, Read, Write};
 
@@ -18,13 +19,14 @@ pub struct DeviceFault;
 #[derive(Clone, Copy, Debug, PartialEq, Eq)]
 pub struct WriteFault;
 
-/// A reader or a writer, how many of its calls failed, and how many calls of `read` and `send`
-/// answered a fault. Each count stays at `u64::MAX`.
+/// A reader or a writer, how many of its calls failed, how many calls of `read` and `send` answered
+/// a fault, and how many calls of `read` the end. Each count stays at `u64::MAX`.
 #[derive(Drop)]
 pub struct Counted<T> {
     device: T,
     failed: u64,
     answered: u64,
+    ended: u64,
 }
 
 impl<T> Counted<T> {
@@ -33,11 +35,13 @@ impl<T> Counted<T> {
         ensures device { device_of result ≡ device }
         ensures failures { failures_of result ≡ 0 }
         ensures answered { answered_of result ≡ 0 }
+        ensures ended { ends_of result ≡ 0 }
     {
         Counted {
             device,
             failed: 0,
             answered: 0,
+            ended: 0,
         }
     }
 
@@ -68,6 +72,7 @@ impl<T> Counted<T> {
     fn note_failure(&mut self)
         ensures device { self.new.device ≡ self.old.device }
         ensures answered { self.new.answered ≡ self.old.answered }
+        ensures ended { self.new.ended ≡ self.old.ended }
         ensures count { self.old.failed ≤ self.new.failed }
         ensures rose { Rose self.old.failed self.new.failed }
         ensures once { self.new.failed ≤ self.old.failed + 1 }
@@ -80,9 +85,18 @@ impl<T> Counted<T> {
     fn note_answer(&mut self)
         ensures device { self.new.device ≡ self.old.device }
         ensures failed { self.new.failed ≡ self.old.failed }
-        ensures rose { Rose self.old.answered self.new.answered }
+        ensures ended { self.new.ended ≡ self.old.ended }
+        ensures once { self.new.answered ≡ one_more self.old.answered }
     {
         let count = &mut self.answered;
+        *count = count.saturating_add(1);
+    }
+
+    /// Counts an end that is answered.
+    fn note_end(&mut self)
+        ensures { self.new ≡ record self.old { ended = one_more self.old.ended } }
+    {
+        let count = &mut self.ended;
         *count = count.saturating_add(1);
     }
 }
@@ -96,16 +110,19 @@ impl<R: Read> Counted<R> {
         ensures bound { ReadsAtMost result buf.new }
         ensures bytes { ReadConsumes (R.remaining (device_of self.old))
             (R.remaining (device_of self.new)) result buf.new }
-        ensures count { failures_of self.old ≤ failures_of self.new }
-        ensures fault { OnErr result (Rose (failures_of self.old) (failures_of self.new)) }
-        ensures answered { RoseAtErr result (answered_of self.old) (answered_of self.new) }
+        ensures calls { Calls (last_read result (length buf.new)) self.old self.new }
         ensures tried { OnOk result (failures_of self.new < failures_of self.old + MAX_TRIES) }
         ensures given_up { failures_of self.new ≤ failures_of self.old + MAX_TRIES }
     {
         let mut tries = 0;
         loop {
             match self.device.read(buf) {
-                Ok(n) => return Ok(n),
+                Ok(n) => {
+                    if n == 0 && !buf.is_empty() {
+                        self.note_end();
+                    }
+                    return Ok(n);
+                }
                 Err(error) => {
                     self.note_failure();
                     tries += 1;
@@ -123,18 +140,7 @@ impl<R: Read> Counted<R> {
 /// try is a failed call and is tried again, up to 999 in a row; the 1,000th, any other error and a
 /// write that takes nothing are faults. Takes no memory.
 pub fn send<W: Write>(w: &mut Counted<W>, bytes: &[u8]) -> Result<(), WriteFault>
-    ensures sent { OnOk result
-        (Appends (W.contents (device_of w.old)) (W.contents (device_of w.new)) bytes.now) }
-    ensures prefix { OnErr result
-        (AppendsPrefix (W.contents (device_of w.old)) (W.contents (device_of w.new)) bytes.now) }
-    ensures count { failures_of w.old ≤ failures_of w.new }
-    ensures fault { OnErr result (Rose (failures_of w.old) (failures_of w.new)) }
-    ensures answered { RoseAtErr result (answered_of w.old) (answered_of w.new) }
-    // Fewer than `MAX_TRIES` tries failed for each byte, and one more at a fault.
-    ensures tried { OnOk result
-        (failures_of w.new ≤ failures_of w.old + (MAX_TRIES - 1) * length bytes.now) }
-    ensures given_up { failures_of w.new
-        ≤ failures_of w.old + (MAX_TRIES - 1) * length bytes.now + 1 }
+    ensures { Sends W.contents result w.old w.new bytes.now }
 {
     let mut rest = bytes;
     let mut tries = 0;

@@ -1,8 +1,7 @@
 //! Inputs that are read under a limit.
-ghost use Rattle.std.specs.Prelude.{◌≡◌, ◌+◌, ◌<◌, ◌≤◌, length, take, IsErrAnd, IfOk, IfErr, OnOk};
-ghost use Rattle.std.specs.Io.KnownBytes.{Consumes};
-ghost use Rattle.aprs_io.specs.Device.{device_of, failures_of, answered_of, Rose, RoseWhere};
-ghost use Rattle.aprs_io.specs.Input.{EndsHere};
+ghost use Rattle.std.specs.Prelude.{◌+◌, ◌<◌, ◌≤◌, length, OnOk};
+ghost use Rattle.aprs_io.specs.Device.{device_of, failures_of, Calls};
+ghost use Rattle.aprs_io.specs.Input.{EndsHere, GetsSome, last_of};
 ghost use Rattle.aprs_io.specs.declared.device.TheConstants.{MAX_TRIES};
 
 use crate::device::{Counted, DeviceFault};
@@ -31,17 +30,7 @@ pub fn read_some<R: Read>(
     left: u64,
 ) -> Result<usize, Ending>
     requires { 0 < length room.old }
-    ensures some { IfOk result (λ n. (0 < n) × (n ≤ left) × (n ≤ length room.new)) }
-    ensures bytes { IfOk result (λ n. Consumes (R.remaining (device_of source.old))
-        (R.remaining (device_of source.new)) (take n room.new)) }
-    ensures end { IfErr result (λ e. EndsHere e left (R.remaining (device_of source.old))
-        (R.remaining (device_of source.new))) }
-    ensures count { failures_of source.old ≤ failures_of source.new }
-    ensures read { IfErr result (λ e. e ≡ Ending.Read
-        → Rose (failures_of source.old) (failures_of source.new)) }
-    // The call returns `Read` exactly if its read of the device answered a fault.
-    ensures answered { RoseWhere (IsErrAnd result (λ e. e ≡ Ending.Read)) (answered_of source.old)
-        (answered_of source.new) }
+    ensures gets { GetsSome R.remaining result left source.old source.new room.new }
     ensures tried { OnOk result (failures_of source.new < failures_of source.old + MAX_TRIES) }
     ensures given_up { failures_of source.new ≤ failures_of source.old + MAX_TRIES }
 {
@@ -60,10 +49,7 @@ pub fn read_some<R: Read>(
 fn ending_at_limit<R: Read>(source: &mut Counted<R>) -> Ending
     ensures end { EndsHere result 0 (R.remaining (device_of source.old))
         (R.remaining (device_of source.new)) }
-    ensures count { failures_of source.old ≤ failures_of source.new }
-    ensures read { result ≡ Ending.Read → Rose (failures_of source.old) (failures_of source.new) }
-    ensures answered { RoseWhere (result ≡ Ending.Read) (answered_of source.old)
-        (answered_of source.new) }
+    ensures calls { Calls (last_of result) source.old source.new }
     ensures given_up { failures_of source.new ≤ failures_of source.old + MAX_TRIES }
 {
     let mut one = [0];

@@ -11,6 +11,7 @@ loop-rest-init g c =
       count = omega arith;
       tried = omega arith;
       answered = refl;
+      ended = refl;
       none =
           λ e. refl;
       sent = ([], refl, Appends-nil _);
@@ -23,5 +24,6 @@ loop-rest-preserved-then-n-gt0 g c = record {
   tried = omega (arith, length-drop {A = ℕ}, c.in-Ok.ensures.bound);
   none = λ e. refl;
   answered = c.loop-rest.invariant.answered;
+  ended = c.loop-rest.invariant.ended;
   sent = AppendsAllBut-more _ _ _ _ _ _ c.loop-rest.invariant.sent c.in-Ok.ensures.bytes;
 }

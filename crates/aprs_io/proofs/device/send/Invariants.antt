@@ -10,6 +10,7 @@ invariant-loop-rest g l = record {
       + l.tries;
   none : length l.rest ≡ 0 → l.tries ≡ 0;
   answered : l.w.answered ≡ l.initial.w.answered;
+  ended : l.w.ended ≡ l.initial.w.ended;
   sent : AppendsAllBut (g.W.Write.contents l.initial.w.device)
       (g.W.Write.contents l.w.device) l.initial.rest l.rest;
 }

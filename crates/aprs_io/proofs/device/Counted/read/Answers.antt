@@ -8,6 +8,7 @@ loop-n-init g c = record {
   count = omega arith;
   tried = omega arith;
   answered = refl;
+  ended = refl;
   kept =
       Keeps-refl _;
 }

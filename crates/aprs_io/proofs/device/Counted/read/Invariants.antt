@@ -8,6 +8,7 @@ invariant-loop-n g l = record {
   count : l.initial.self.failed ≤ l.self.failed;
   tried : l.self.failed ≤ l.initial.self.failed + l.tries;
   answered : l.self.answered ≡ l.initial.self.answered;
+  ended : l.self.ended ≡ l.initial.self.ended;
   kept : Keeps (g.R.Read.remaining l.initial.self.device) (g.R.Read.remaining l.self.device);
 }
 
