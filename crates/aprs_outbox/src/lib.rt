@@ -2,5 +2,7 @@
 #![tactic(auto)]
 
 mod outbox;
+mod outlet;
 
 pub use outbox::{Outbox, flush, put};
+pub use outlet::{Outlet, send_both};

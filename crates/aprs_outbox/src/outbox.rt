@@ -12,7 +12,7 @@ use std::io::Write;
 
 /// The most bytes that are held back: twice those of a `BufWriter`, so that they aren't buffered
 /// there again.
-const MAX_HELD: usize = 16_384;
+pub const MAX_HELD: usize = 16_384;
 
 /// Bytes that have not gone out yet.
 pub type Outbox = ArrayVec<u8, MAX_HELD>;

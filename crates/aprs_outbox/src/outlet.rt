@@ -1,0 +1,66 @@
+//! A writer with bytes on their way to it.
+ghost use Rattle.std.specs.Prelude.{◌≡◌, [], ◌++◌, OnOk};
+ghost use Rattle.aprs_io.specs.Device.{Sends};
+
+use crate::outbox::MAX_HELD;
+use aprs_io::{Counted, WriteFault, push_all, send};
+use arrayvec::ArrayVec;
+use std::io::Write;
+
+/// Has a writer on loan, and holds bytes back that it sends a buffer full at a time.
+#[derive(Drop)]
+pub struct Outlet<'a, W> {
+    w: &'a mut Counted<W>,
+    held: ArrayVec<u8, MAX_HELD>,
+}
+
+impl<'a, W: Write> Outlet<'a, W> {
+    ghost use Rattle.aprs_outbox.specs.Outlet.{HasTaken, Puts, loan_of, writer_of, held_of};
+
+    /// Holds nothing yet. Takes no memory.
+    pub fn new(w: &'a mut Counted<W>) -> Outlet<'a, W>
+        ensures same_reference { loan_of result ≡ w.entry.ghost_name }
+        ensures nothing { HasTaken W.contents w.old result [] }
+    {
+        Outlet {
+            w,
+            held: ArrayVec::new(),
+        }
+    }
+
+    /// Puts bytes after those that it took before. Takes no memory.
+    pub fn put(&mut self, bytes: &[u8]) -> Result<(), WriteFault>
+        ensures { Puts W.contents result self.old self.new bytes.now }
+    {
+        if self.held.len() + bytes.len() > MAX_HELD {
+            self.flush()?;
+            if bytes.len() > MAX_HELD {
+                return send(self.w, bytes);
+            }
+        }
+        push_all(&mut self.held, bytes);
+        Ok(())
+    }
+
+    /// Sends what it holds, and lets go of it at a fault too. Takes no memory.
+    pub fn flush(&mut self) -> Result<(), WriteFault>
+        ensures same_reference { loan_of self.new ≡ loan_of self.old }
+        ensures sent { Sends W.contents result (writer_of self.old) (writer_of self.new)
+            (held_of self.old) }
+        ensures empty { held_of self.new ≡ [] }
+    {
+        let sent = send(self.w, self.held.as_slice());
+        self.held.clear();
+        sent
+    }
+}
+
+/// Sends two texts.
+pub fn send_both<W: Write>(w: &mut Counted<W>, a: &[u8], b: &[u8]) -> Result<(), WriteFault>
+    ensures { Sends W.contents result w.old w.new (a.now ++ b.now) }
+{
+    let mut out = Outlet::new(w);
+    out.put(a)?;
+    out.put(b)?;
+    out.flush()
+}
