@@ -1,8 +1,6 @@
 //! Writes KISS frames.
-ghost use Rattle.std.specs.Prelude.{◌≡◌, ◌≤◌, ◌+◌, length, take, true, OnOk, OnErr};
-ghost use Rattle.std.specs.Io.KnownBytes.{Appends};
-ghost use Rattle.aprs_io.specs.Device.{answered_of, device_of, failures_of, Rose, RoseAtErr};
-ghost use Rattle.aprs_io.specs.Device.{AppendsPrefix};
+ghost use Rattle.std.specs.Prelude.{◌≡◌, ◌≤◌, length, take, true};
+ghost use Rattle.aprs_io.specs.Device.{Sends};
 ghost use Rattle.aprs_kiss.specs.Plain.{IsPlain, is_special};
 ghost use Rattle.aprs_kiss.specs.Spelling.{kiss_text, spelling_of_byte};
 
@@ -23,15 +21,7 @@ const MAX_TEXT: usize = MAX_AT_ONCE + 3;
 /// At a fault a prefix of that went out, and the count of the device's failures rose. Takes no
 /// memory.
 pub fn write_kiss<W: Write>(w: &mut Counted<W>, frame: &[u8]) -> Result<(), WriteFault>
-    ensures sent { OnOk result
-        (Appends (W.contents (device_of w.old)) (W.contents (device_of w.new))
-        (kiss_text frame.now)) }
-    ensures prefix { OnErr result
-        (AppendsPrefix (W.contents (device_of w.old)) (W.contents (device_of w.new))
-        (kiss_text frame.now)) }
-    ensures count { failures_of w.old ≤ failures_of w.new }
-    ensures fault { OnErr result (Rose (failures_of w.old) (failures_of w.new)) }
-    ensures answered { RoseAtErr result (answered_of w.old) (answered_of w.new) }
+    ensures { Sends W.contents result w.old w.new (kiss_text frame.now) }
 {
     KissWriter::new().write(w, frame)
 }
@@ -53,15 +43,7 @@ impl KissWriter {
 
     /// Writes one frame, as `write_kiss` does. Takes no memory.
     pub fn write<W: Write>(&mut self, w: &mut Counted<W>, frame: &[u8]) -> Result<(), WriteFault>
-        ensures sent { OnOk result
-            (Appends (W.contents (device_of w.old)) (W.contents (device_of w.new))
-            (kiss_text frame.now)) }
-        ensures prefix { OnErr result
-            (AppendsPrefix (W.contents (device_of w.old)) (W.contents (device_of w.new))
-            (kiss_text frame.now)) }
-        ensures count { failures_of w.old ≤ failures_of w.new }
-        ensures fault { OnErr result (Rose (failures_of w.old) (failures_of w.new)) }
-        ensures answered { RoseAtErr result (answered_of w.old) (answered_of w.new) }
+        ensures { Sends W.contents result w.old w.new (kiss_text frame.now) }
     {
         let (plain, mark) = cut_plain(frame);
         if mark.is_some() || plain.len() > MAX_AT_ONCE {
@@ -74,15 +56,7 @@ impl KissWriter {
 
 /// Writes a frame part by part.
 fn write_spelled<W: Write>(w: &mut Counted<W>, frame: &[u8]) -> Result<(), WriteFault>
-    ensures sent { OnOk result
-        (Appends (W.contents (device_of w.old)) (W.contents (device_of w.new))
-        (kiss_text frame.now)) }
-    ensures prefix { OnErr result
-        (AppendsPrefix (W.contents (device_of w.old)) (W.contents (device_of w.new))
-        (kiss_text frame.now)) }
-    ensures count { failures_of w.old ≤ failures_of w.new }
-    ensures fault { OnErr result (Rose (failures_of w.old) (failures_of w.new)) }
-    ensures answered { RoseAtErr result (answered_of w.old) (answered_of w.new) }
+    ensures { Sends W.contents result w.old w.new (kiss_text frame.now) }
 {
     send(w, &[FEND, DATA])?;
     let mut rest = frame;
