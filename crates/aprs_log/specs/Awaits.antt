@@ -7,6 +7,7 @@ use Rattle.aprs_log.specs.declared.fault.LogCause.TheVariants as cause
 use Rattle.aprs_log.specs.declared.fault.LogFault.{LogFault}
 use Rattle.aprs_io.specs.declared.input.Ending.{Ending}
 pub use Rattle.aprs_io.specs.Input.{EndsHere}
+use Rattle.aprs_io.specs.Device.{Last, Going, Fault, End}
 use Rattle.aprs_log.specs.declared.ending.State.{State}
 use Rattle.aprs_log.specs.declared.ending.State.TheVariants.{Reading, Ended, Failed}
 
@@ -55,3 +56,20 @@ work_in (Failed cause) left = 0
 -- no failed allocation stopped it
 abbrev pub KeepsMemory : State → Type 0
 KeepsMemory state = state ≢ Failed cause.Memory
+
+-- what the device answered last where a log is read no further for this cause
+abbrev pub last_of_cause : LogCause → Last
+last_of_cause cause.LongLine = Going
+last_of_cause cause.NoNewline = End
+last_of_cause cause.Moment = Going
+last_of_cause cause.Receiver = Going
+last_of_cause cause.Hex = Going
+last_of_cause cause.Read = Fault
+last_of_cause cause.TooLong = Going
+last_of_cause cause.Memory = Going
+
+-- what it answered last, by the state of the reader
+abbrev pub last_in : State → Last
+last_in Reading = Going
+last_in Ended = End
+last_in (Failed cause) = last_of_cause cause

@@ -1,13 +1,13 @@
 -- What contracts see of a reader of a log.
-use Rattle.std.specs.Prelude.{◌≡◌, ℕ, ◌+◌, Bool, true, false, List, Option, None, Some, Result, Ok, Err, IsErrAnd, IsTrue}
+use Rattle.std.specs.Prelude.{◌≡◌, ℕ, ◌+◌, Bool, true, false, List, Option, None, Some, Result, Ok, Err, IsTrue}
 use Rattle.std.specs.Borrow.{GName}
 use Rattle.aprs_io.specs.declared.device.Counted.{Counted}
-use Rattle.aprs_log.specs.Awaits.{AwaitsIn, stop_in, work_in}
+use Rattle.aprs_log.specs.Awaits.{AwaitsIn, last_of_cause, stop_in, work_in}
 use Rattle.aprs_io.specs.Cut.{has_byte}
+use Rattle.aprs_io.specs.Device.{Last, Going, End}
 use Rattle.aprs_log.specs.LogAnswers.{Answers, Gets, ended, log_answers, then_given}
 use Rattle.aprs_log.specs.Window.{items}
 use Rattle.aprs_log.specs.declared.line.Line.{Line}
-use Rattle.aprs_log.specs.declared.fault.LogCause.TheVariants as cause
 use Rattle.aprs_log.specs.declared.fault.LogFault.{LogFault}
 use Rattle.aprs_io.specs.declared.input.Ending.{Ending}
 use Rattle.aprs_log.specs.declared.reader.LogReader.{LogReader}
@@ -54,9 +54,11 @@ abbrev pub Moves : {R : Type 0} → Option (List ℕ) → LogReader R → Option
 Moves known old after new = (end : Option (List ℕ)) (answers : Answers)
     → Awaits after end new answers → Awaits known end old answers
 
--- the answer reports a failed read
-abbrev pub ReportsRead : {A : Type 0} → Result A LogFault → Type 0
-ReportsRead r = IsErrAnd r (λ fault. fault.cause ≡ cause.Read)
+-- what the device answered last, by what the reader answers
+abbrev pub last_told : Result (Option Line) LogFault → Last
+last_told (Ok (Some x)) = Going
+last_told (Ok None) = End
+last_told (Err fault) = last_of_cause fault.cause
 
 -- these are the answers of a log of which at most `limit` bytes are got
 pub record AreAnswersOf (limit : ℕ) (input : List ℕ) (after : Option (List ℕ)) (answers : Answers)

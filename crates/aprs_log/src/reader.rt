@@ -32,11 +32,12 @@ pub struct LogReader<'a, R> {
 impl<'a, R: Read> LogReader<'a, R> {
     ghost use Rattle.std.specs.Prelude.{◌≡◌, ◌≢◌, ◌+◌, ◌≤◌, ◌<◌, ◌++◌, ℕ, List, length, Option, None, Some, IfSome, IfErr, OnErr, false};
     ghost use Rattle.std.specs.Bool.{OnTrue, OnFalse};
-    ghost use Rattle.aprs_io.specs.Device.{device_of, failures_of, answered_of, Rose, RoseWhere};
+    ghost use Rattle.aprs_io.specs.Device.{Calls, device_of, failures_of};
     ghost use Rattle.aprs_io.specs.Cut.{cut_at};
     ghost use Rattle.aprs_log.specs.LogAnswers.{Answers, then_given};
     ghost use Rattle.aprs_log.specs.Window.{items};
-    ghost use Rattle.aprs_log.specs.Reader.{answer_at, answer_with, Awaits, AreAnswersOf, GivesNext, HasLine, current_of, held_of, lines_of, loan_of, source_of, stop_of, returns_line, work_of, Moves, ReportsRead};
+    ghost use Rattle.aprs_log.specs.Reader.{answer_at, answer_with, Awaits, AreAnswersOf, GivesNext, HasLine, current_of, held_of, lines_of, loan_of, source_of, stop_of, returns_line, work_of, Moves, last_told};
+    ghost use Rattle.aprs_log.specs.Awaits.{last_in};
 
     /// A reader of the log that begins with `head` and goes on with the bytes of `source`. It takes
     /// at most `limit` bytes, the head among them. Requires that `limit` is at most `MAX_INPUT`,
@@ -96,7 +97,6 @@ impl<'a, R: Read> LogReader<'a, R> {
     /// `None`, and reads no more. All lines before a fault are given first. Takes no memory.
     pub fn next(&mut self) -> Result<Option<Line>, LogFault>
         ensures same_reference { loan_of self.new ≡ loan_of self.old }
-        ensures count { failures_of (source_of self.old) ≤ failures_of (source_of self.new) }
         ensures gives { GivesNext result (R.remaining (device_of (source_of self.old))) self.old
             (R.remaining (device_of (source_of self.new))) self.new }
         // A line that it holds whole is answered without a read.
@@ -111,11 +111,10 @@ impl<'a, R: Read> LogReader<'a, R> {
         // Some answers may always come.
         ensures awaits { (answers : Answers) × Awaits (R.remaining (device_of (source_of self.new)))
             (R.remaining (device_of (source_of self.new))) self.new answers }
-        ensures read { IfErr result (λ fault. fault.cause ≡ LogCause.Read → stop_of self.old ≡ None
-            → Rose (failures_of (source_of self.old)) (failures_of (source_of self.new))) }
-        // It reports a failed read where a call of the device answered one, and nowhere else.
-        ensures answered { stop_of self.old ≡ None → RoseWhere (ReportsRead result)
-            (answered_of (source_of self.old)) (answered_of (source_of self.new)) }
+        // What it answers tells what the device answered last: a fault at `Read`, the end where the
+        // input ended, and nothing else, so that it never asks again.
+        ensures calls { stop_of self.old ≡ None
+            → Calls (last_told result) (source_of self.old) (source_of self.new) }
         ensures memory { IfErr result (λ fault. fault.cause ≢ LogCause.Memory) }
     {
         match self.advance() {
@@ -129,7 +128,6 @@ impl<'a, R: Read> LogReader<'a, R> {
     /// without a copy of the line. Takes no memory.
     pub fn advance(&mut self) -> Result<bool, LogFault>
         ensures same_reference { loan_of self.new ≡ loan_of self.old }
-        ensures count { failures_of (source_of self.old) ≤ failures_of (source_of self.new) }
         ensures gives { GivesNext (answer_with result (current_of self.new))
             (R.remaining (device_of (source_of self.old))) self.old
             (R.remaining (device_of (source_of self.new))) self.new }
@@ -147,11 +145,10 @@ impl<'a, R: Read> LogReader<'a, R> {
         // Some answers may always come.
         ensures awaits { (answers : Answers) × Awaits (R.remaining (device_of (source_of self.new)))
             (R.remaining (device_of (source_of self.new))) self.new answers }
-        ensures read { IfErr result (λ fault. fault.cause ≡ LogCause.Read → stop_of self.old ≡ None
-            → Rose (failures_of (source_of self.old)) (failures_of (source_of self.new))) }
-        // It reports a failed read where a call of the device answered one, and nowhere else.
-        ensures answered { stop_of self.old ≡ None → RoseWhere (ReportsRead result)
-            (answered_of (source_of self.old)) (answered_of (source_of self.new)) }
+        // What it answers tells what the device answered last: a fault at `Read`, the end where the
+        // input ended, and nothing else, so that it never asks again.
+        ensures calls { stop_of self.old ≡ None
+            → Calls (last_told (answer_with result (current_of self.new))) (source_of self.old) (source_of self.new) }
         ensures memory { IfErr result (λ fault. fault.cause ≢ LogCause.Memory) }
     {
         loop {
@@ -187,7 +184,6 @@ impl<'a, R: Read> LogReader<'a, R> {
     fn step(&mut self) -> bool
         requires { self.old.state ≡ State.Reading }
         ensures same_reference { loan_of self.new ≡ loan_of self.old }
-        ensures count { failures_of (source_of self.old) ≤ failures_of (source_of self.new) }
         ensures given { OnTrue result ((lines_of self.new ≡ lines_of self.old + 1)
             × ((end : Option (List ℕ)) (answers : Answers)
             → Awaits (R.remaining (device_of (source_of self.new))) end self.new answers
@@ -201,10 +197,8 @@ impl<'a, R: Read> LogReader<'a, R> {
         ensures less { OnFalse result (work_of self.new < work_of self.old) }
         ensures unread { HasLine (held_of self.old) → (source_of self.new ≡ source_of self.old)
             × OnFalse result (stop_of self.new ≢ None) }
-        ensures read { OnFalse result (self.new.state ≡ State.Failed LogCause.Read
-            → Rose (failures_of (source_of self.old)) (failures_of (source_of self.new))) }
-        ensures answered { RoseWhere (self.new.state ≡ State.Failed LogCause.Read)
-            (answered_of (source_of self.old)) (answered_of (source_of self.new)) }
+        ensures calls { Calls (last_in self.new.state) (source_of self.old)
+            (source_of self.new) }
     {
         match take_line(&mut self.window, &mut self.scratch, &mut self.current) {
             Some(Ok(())) => {
@@ -227,16 +221,13 @@ impl<'a, R: Read> LogReader<'a, R> {
         requires going { self.old.state ≡ State.Reading }
         requires none { cut_at 10 (items self.old.window) ≡ None }
         ensures same_reference { loan_of self.new ≡ loan_of self.old }
-        ensures count { failures_of (source_of self.old) ≤ failures_of (source_of self.new) }
         ensures lines { lines_of self.new ≡ lines_of self.old }
         ensures current { current_of self.new ≡ current_of self.old }
         ensures moves { Moves (R.remaining (device_of (source_of self.old))) self.old
             (R.remaining (device_of (source_of self.new))) self.new }
         ensures less { work_of self.new < work_of self.old }
-        ensures read { self.new.state ≡ State.Failed LogCause.Read
-            → Rose (failures_of (source_of self.old)) (failures_of (source_of self.new)) }
-        ensures answered { RoseWhere (self.new.state ≡ State.Failed LogCause.Read)
-            (answered_of (source_of self.old)) (answered_of (source_of self.new)) }
+        ensures calls { Calls (last_in self.new.state) (source_of self.old)
+            (source_of self.new) }
     {
         if self.window.as_slice().len() > MAX_LINE {
             self.state = State::Failed(LogCause::LongLine);

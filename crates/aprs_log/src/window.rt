@@ -20,10 +20,10 @@ pub struct Window {
 }
 
 impl Window {
-    ghost use Rattle.std.specs.Prelude.{◌≡◌, ◌<◌, ◌≤◌, ℕ, List, ◌++◌, length, drop, IfOk, IfErr, IsErrAnd};
+    ghost use Rattle.std.specs.Prelude.{◌≡◌, ◌<◌, ◌≤◌, ℕ, List, ◌++◌, length, drop, IfOk, IfErr};
     ghost use Rattle.std.specs.Io.KnownBytes.{Consumes};
-    ghost use Rattle.aprs_io.specs.Device.{device_of, failures_of, answered_of, Rose, RoseWhere};
-    ghost use Rattle.aprs_io.specs.Input.{EndsHere};
+    ghost use Rattle.aprs_io.specs.Device.{Calls, device_of};
+    ghost use Rattle.aprs_io.specs.Input.{EndsHere, last_got};
     ghost use Rattle.aprs_log.specs.Window.{items};
 
     /// A window that holds a few bytes.
@@ -68,11 +68,7 @@ impl Window {
         ensures end { IfErr result (λ ending. (items self.new ≡ items self.old)
             × EndsHere ending left (R.remaining (device_of source.old))
             (R.remaining (device_of source.new))) }
-        ensures count { failures_of source.old ≤ failures_of source.new }
-        ensures read { IfErr result (λ ending. ending ≡ Ending.Read
-            → Rose (failures_of source.old) (failures_of source.new)) }
-        ensures answered { RoseWhere (IsErrAnd result (λ ending. ending ≡ Ending.Read))
-            (answered_of source.old) (answered_of source.new) }
+        ensures calls { Calls (last_got result) source.old source.new }
     {
         self.move_to_front();
         let end = self.end;

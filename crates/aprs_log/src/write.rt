@@ -1,10 +1,8 @@
 //! Lines of a log as they are written.
-ghost use Rattle.std.specs.Prelude.{◌≡◌, ◌≤◌, ◌+◌, ◌*◌, [], ◌∷◌, ◌++◌, length, take, true, Ok, Some, IfSome, OnOk, OnErr};
-ghost use Rattle.std.specs.Io.KnownBytes.{Appends};
+ghost use Rattle.std.specs.Prelude.{◌≡◌, ◌≤◌, ◌+◌, ◌*◌, [], ◌∷◌, ◌++◌, length, take, true, Ok, Some, IfSome};
 ghost use Rattle.std.proofs.Props.{props};
 ghost use Rattle.hex.specs.Hex.{decode_of, encode_lower};
-ghost use Rattle.aprs_io.specs.Device.{answered_of, device_of, failures_of, Rose, RoseAtErr};
-ghost use Rattle.aprs_io.specs.Device.{AppendsPrefix};
+ghost use Rattle.aprs_io.specs.Device.{Sends};
 ghost use Rattle.aprs_kiss.specs.Plain.{is_special};
 ghost use Rattle.aprs_kiss.specs.Spelling.{kiss_text, spelling_of_byte};
 ghost use Rattle.aprs_log.specs.Line.{line_of, written_line};
@@ -34,13 +32,7 @@ const MAX_WRITTEN: usize = 24 + 16 + 2 + 2 * MAX_SPELLED + 1;
 /// ends, as lower case hexadecimal. At a fault a prefix of the line went out, and the count of the
 /// device's failures rose. Takes no memory.
 pub fn write_line<W: Write>(w: &mut Counted<W>, reception: &Reception) -> Result<(), WriteFault>
-    ensures sent { OnOk result (Appends (W.contents (device_of w.old))
-        (W.contents (device_of w.new)) (written_line reception.now ++ 10 ∷ [])) }
-    ensures prefix { OnErr result (AppendsPrefix (W.contents (device_of w.old))
-        (W.contents (device_of w.new)) (written_line reception.now ++ 10 ∷ [])) }
-    ensures count { failures_of w.old ≤ failures_of w.new }
-    ensures fault { OnErr result (Rose (failures_of w.old) (failures_of w.new)) }
-    ensures answered { RoseAtErr result (answered_of w.old) (answered_of w.new) }
+    ensures sends { Sends W.contents result w.old w.new (written_line reception.now ++ 10 ∷ []) }
     // The line reads back as the reception.
     ensures reads_back { line_of (written_line reception.now) ≡ Ok (Line.Heard reception.now) }
 {
@@ -72,13 +64,8 @@ impl LogWriter {
         w: &mut Counted<W>,
         reception: &Reception,
     ) -> Result<(), WriteFault>
-        ensures sent { OnOk result (Appends (W.contents (device_of w.old))
-            (W.contents (device_of w.new)) (written_line reception.now ++ 10 ∷ [])) }
-        ensures prefix { OnErr result (AppendsPrefix (W.contents (device_of w.old))
-            (W.contents (device_of w.new)) (written_line reception.now ++ 10 ∷ [])) }
-        ensures count { failures_of w.old ≤ failures_of w.new }
-        ensures fault { OnErr result (Rose (failures_of w.old) (failures_of w.new)) }
-        ensures answered { RoseAtErr result (answered_of w.old) (answered_of w.new) }
+        ensures sends { Sends W.contents result w.old w.new
+            (written_line reception.now ++ 10 ∷ []) }
         // The line reads back as the reception.
         ensures reads_back { line_of (written_line reception.now) ≡ Ok (Line.Heard reception.now) }
     {

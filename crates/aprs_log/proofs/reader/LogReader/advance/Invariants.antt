@@ -1,15 +1,13 @@
-use Rattle.std.proofs.Common.{◌≡◌, ◌≤◌, Option, None, Some}
-use Rattle.aprs_io.specs.Device.{device_of, failures_of, answered_of, Rose, RoseWhere}
+use Rattle.std.proofs.Common.{◌≡◌, Option, None, Some}
+use Rattle.aprs_io.specs.Device.{Calls, device_of}
+use Rattle.aprs_log.specs.Awaits.{last_in}
 use Rattle.aprs_log.specs.Reader.{HasLine, Moves, current_of, held_of, lines_of, loan_of, source_of, stop_of, work_of}
-use Rattle.aprs_log.specs.declared.ending.State.TheVariants.{Failed}
-use Rattle.aprs_log.specs.declared.fault.LogCause.TheVariants as cause
 use Rattle.aprs_log.specs.declared.fault.LogFault.{LogFault}
 use Rattle.aprs_log.proofs.reader.LogReader.advance.Given as goal
 
 abbrev pub invariant-loop-self : goal.invariant-loop-self
 invariant-loop-self g l = record {
   same_reference : loan_of l.self ≡ loan_of l.initial.self;
-  count : failures_of (source_of l.initial.self) ≤ failures_of (source_of l.self);
   lines : lines_of l.self ≡ lines_of l.initial.self;
   current : current_of l.self ≡ current_of l.initial.self;
   moves : Moves (g.R.Read.remaining (device_of (source_of l.initial.self))) l.initial.self
@@ -19,10 +17,8 @@ invariant-loop-self g l = record {
       × (stop_of l.self ≡ None → HasLine (held_of l.self));
   stays : (stop : Option LogFault) → stop_of l.initial.self ≡ Some stop
       → (stop_of l.self ≡ Some stop) × (source_of l.self ≡ source_of l.initial.self);
-  read : l.self.state ≡ Failed cause.Read → stop_of l.initial.self ≡ None
-      → Rose (failures_of (source_of l.initial.self)) (failures_of (source_of l.self));
-  answered : stop_of l.initial.self ≡ None → RoseWhere (l.self.state ≡ Failed cause.Read)
-      (answered_of (source_of l.initial.self)) (answered_of (source_of l.self));
+  calls : stop_of l.initial.self ≡ None
+      → Calls (last_in l.self.state) (source_of l.initial.self) (source_of l.self);
 }
 
 abbrev pub decreases-loop-self : goal.decreases-loop-self

@@ -1,5 +1,7 @@
-use Rattle.std.proofs.Common.{None, Some}
+use Rattle.std.proofs.Common.{◌≤◌, None, Some, ap, arith, length}
 use Rattle.aprs_log.proofs.Awaiting.{step_long, step_more, step_end}
+use Rattle.aprs_log.specs.declared.line.TheConstants.{MAX_LINE}
+use Rattle.aprs_log.proofs.Lasts.{stops_as_told}
 use Rattle.aprs_log.proofs.reader.LogReader.read_on.Goals as goal
 use Rattle.aprs_log.proofs.reader.LogReader.read_on.Goals.{in-Some, in-None}
 
@@ -24,4 +26,16 @@ returns-after-refuse_tail-clause-moves g c end a =
           w.in-Some.ensures w.self-is
       | in-None w ↦ step_end _ _ _ _ end _ _ _ _ _ c.in-Err.ending None a c.requires.going
           c.requires.none e.0 c.as_slice-in-Err.ensures.value e.1 w.in-None.ensures w.self-is
+    ]
+
+pub returns-after-refuse_tail-clause-calls : goal.returns-after-refuse_tail-clause-calls
+returns-after-refuse_tail-clause-calls g c =
+    let short : length c.as_slice-in-Err.result.now ≤ MAX_LINE =
+    omega (arith, ap length c.as_slice-in-Err.ensures.value, ap length c.in-Err.ensures.end.0,
+    ap length c.as_slice.ensures.value, c.if-as_slice-gt-MAX_LINE.false) in
+    elim c.match-refuse_tail.branch [
+      | in-Some w ↦ stops_as_told {o = Some w.in-Some.cause} _ c.in-Err.ending short
+          w.in-Some.ensures w.self-is c.in-Err.ensures.calls
+      | in-None w ↦ stops_as_told {o = None} _ c.in-Err.ending short w.in-None.ensures
+          w.self-is c.in-Err.ensures.calls
     ]

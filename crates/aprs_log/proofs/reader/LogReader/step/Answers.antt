@@ -2,6 +2,7 @@ use Rattle.std.proofs.Common.{◌∙◌, ap, sym, refl, rules}
 use Rattle.aprs_log.specs.Line.{line_in}
 use Rattle.aprs_log.proofs.LogAnswers.{uncut_lacks}
 use Rattle.aprs_log.proofs.Awaiting.{step_line, step_fault, faults_keep}
+use Rattle.aprs_log.proofs.Lasts.{fault_asks_nothing}
 use Rattle.aprs_log.proofs.reader.LogReader.step.Goals as goal
 
 pub invariant_of-self-in-Some-Err-clause-no_memory
@@ -30,3 +31,10 @@ returns-in-Some-Err-clause-none g c =
 
 pub returns-in-None-clause-unread : goal.returns-in-None-clause-unread
 returns-in-None-clause-unread g c line = absurd (uncut_lacks 10 _ c.in-None.ensures.none.0 line)
+
+pub returns-in-Some-Err-clause-calls : goal.returns-in-Some-Err-clause-calls
+returns-in-Some-Err-clause-calls g c =
+    let t = c.in-Some-Err.ensures.some in
+    fault_asks_nothing _ _ c.in-Some-Err.fault c.from.result
+    (ap (λ r. line_in r c.take_line.new.found) (sym c.in-Some-Err.field-0-is) ∙ t.2)
+    c.from.ensures

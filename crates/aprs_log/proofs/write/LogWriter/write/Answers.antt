@@ -1,7 +1,7 @@
 use Rattle.std.proofs.Common.{◌≡◌, List, ℕ, Option, length, take, ap, sym, ◌∙◌, arith, subst}
-use Rattle.std.specs.Prelude.{IfSome, OnErr}
+use Rattle.std.specs.Prelude.{IfSome}
 use Rattle.std.proofs.lemmas.List.{length-take-le}
-use Rattle.aprs_io.specs.Device.{AppendsPrefix, device_of}
+use Rattle.aprs_io.proofs.Sends.{Sends-is}
 use Rattle.aprs_log.specs.Moment.{moment_text}
 use Rattle.aprs_log.proofs.WrittenLines.{begins_with_moment}
 use Rattle.aprs_log.proofs.write.LogWriter.write.Goals as goal
@@ -24,9 +24,5 @@ invariant_of-self g c =
           (sym c.begin.ensures.moment) after;
     }
 
-pub returns-clause-prefix : goal.returns-clause-prefix
-returns-clause-prefix g c =
-    subst (λ (l : List ℕ). OnErr c.send.result
-    (AppendsPrefix (g.W.Write.contents (device_of c.args.w.now))
-    (g.W.Write.contents (device_of c.send.new.w)) l))
-    c.put_line-len.ensures.line c.send.ensures.prefix
+pub returns-clause-sends : goal.returns-clause-sends
+returns-clause-sends g c = Sends-is c.send.ensures c.put_line-len.ensures.line
