@@ -1,7 +1,9 @@
 -- How a run over an input ends.
-use Rattle.std.specs.Prelude.{◌≡◌, ℕ, List, Option, None, Some, Result, Ok, Err}
+use Rattle.std.specs.Prelude.{◌≡◌, ◌⊎◌, ℕ, List, Option, None, Some, Result, Ok, Err}
 use Rattle.std.specs.Io.KnownBytes.{Appends}
-use Rattle.aprs_kiss.specs.Device.{AppendsPrefix}
+use Rattle.aprs_io.specs.declared.device.Counted.{Counted}
+use Rattle.aprs_kiss.specs.Device.{AppendsPrefix, Calls, Last, Going, Fault, End}
+use Rattle.aprs_log.specs.Awaits.{last_of_cause}
 use Rattle.aprs_log.specs.declared.Ending.{Ending}
 use Rattle.aprs_log.specs.declared.Ending.TheVariants as how
 use Rattle.aprs_log.specs.declared.fault.LogCause.TheVariants as why
@@ -26,10 +28,29 @@ abbrev pub RunsOver : (List ℕ → Ending → Plan) → ℕ → Option (List �
 RunsOver plan_of limit known after answer old new =
     OfGot limit known after (λ text ending. Ends answer old new (plan_of text ending))
 
--- The fault is a failed read of the input.
-abbrev pub IsRead : ConvertFault → Type 0
-IsRead (Log fault) = fault.cause ≡ why.Read
-IsRead Write = ⊥
+-- What the input answered last, by the run's answer: where the output was refused, it may have
+-- come to the end before or not.
+abbrev pub Asks : {R : Type 0} → Result (Unit {0}) ConvertFault → Counted R → Counted R → Type 0
+Asks (Ok u) old new = Calls End old new
+Asks (Err (Log fault)) old new = Calls (last_of_cause fault.cause) old new
+Asks (Err Write) old new = Calls Going old new ⊎ Calls End old new
+
+-- What the output answered last, by the run's answer.
+abbrev pub last_written : Result (Unit {0}) ConvertFault → Last
+last_written (Ok u) = Going
+last_written (Err (Log fault)) = Going
+last_written (Err Write) = Fault
+
+-- The run did as planned for what it got of its input. It asked the input no more after its end or
+-- a fault, and the output no more after a fault: it answers that, and the counts show it.
+pub record Runs {R W : Type 0} (plan_of : List ℕ → Ending → Plan) (limit : ℕ)
+    (remaining : R → Option (List ℕ)) (contents : W → Option (List ℕ))
+    (answer : Result (Unit {0}) ConvertFault) (read_from now_read : Counted R)
+    (written_to now_written : Counted W) : Type 0 where
+  pub run : RunsOver plan_of limit (remaining read_from.device) (remaining now_read.device) answer
+      (contents written_to.device) (contents now_written.device)
+  pub reads : Asks answer read_from now_read
+  pub writes : Calls (last_written answer) written_to now_written
 
 -- A run over a stream that ends so has this answer.
 abbrev pub EndsStream : Result (Unit {0}) ConvertFault → Ending → Type 0

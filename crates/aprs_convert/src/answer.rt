@@ -1,9 +1,7 @@
 //! What a run writes for a line of a log.
-ghost use Rattle.std.specs.Prelude.{◌≡◌, ◌≤◌, ◌++◌, ◌∷◌, [], OnOk, OnErr};
-ghost use Rattle.std.specs.Io.KnownBytes.{Appends};
+ghost use Rattle.std.specs.Prelude.{◌≡◌, ◌≤◌, ◌++◌, ◌∷◌, []};
 ghost use Rattle.aprs_ax25.specs.FrameFault.{parts_of};
-ghost use Rattle.aprs_kiss.specs.Device.{answered_of, device_of, failures_of, Rose, RoseAtErr};
-ghost use Rattle.aprs_kiss.specs.Device.{AppendsPrefix};
+ghost use Rattle.aprs_kiss.specs.Device.{Sends};
 ghost use Rattle.aprs_report.specs.Reader.{reading_of};
 ghost use Rattle.aprs_report.specs.Reading.{kind_of};
 ghost use Rattle.arrayvec.specs.ArrayVec.{array_vec_len};
@@ -46,13 +44,7 @@ pub fn write_line_as<W: Write>(
     line: &Line,
     scratch: &mut Scratch,
 ) -> Result<(), WriteFault>
-    ensures sent { OnOk result (Appends (W.contents (device_of w.old))
-        (W.contents (device_of w.new)) (line_text form.now line.now)) }
-    ensures prefix { OnErr result (AppendsPrefix (W.contents (device_of w.old))
-        (W.contents (device_of w.new)) (line_text form.now line.now)) }
-    ensures count { failures_of w.old ≤ failures_of w.new }
-    ensures fault { OnErr result (Rose (failures_of w.old) (failures_of w.new)) }
-    ensures answered { RoseAtErr result (answered_of w.old) (answered_of w.new) }
+    ensures { Sends W.contents result w.old w.new (line_text form.now line.now) }
 {
     match line {
         Line::Heard(reception) => write_reception(form, w, reception, scratch),
@@ -67,13 +59,7 @@ fn write_reception<W: Write>(
     reception: &Reception,
     scratch: &mut Scratch,
 ) -> Result<(), WriteFault>
-    ensures sent { OnOk result (Appends (W.contents (device_of w.old))
-        (W.contents (device_of w.new)) (reception_text form.now reception.now)) }
-    ensures prefix { OnErr result (AppendsPrefix (W.contents (device_of w.old))
-        (W.contents (device_of w.new)) (reception_text form.now reception.now)) }
-    ensures count { failures_of w.old ≤ failures_of w.new }
-    ensures fault { OnErr result (Rose (failures_of w.old) (failures_of w.new)) }
-    ensures answered { RoseAtErr result (answered_of w.old) (answered_of w.new) }
+    ensures { Sends W.contents result w.old w.new (reception_text form.now reception.now) }
 {
     match form {
         Form::Text => write_monitor_line(w, reception.frame(), &mut scratch.text),
@@ -90,13 +76,8 @@ fn write_monitor_line<W: Write>(
     frame: &Frame,
     text: &mut Text,
 ) -> Result<(), WriteFault>
-    ensures sent { OnOk result (Appends (W.contents (device_of w.old))
-        (W.contents (device_of w.new)) (ended_by_lf (monitor_text (parts_of frame.now)))) }
-    ensures prefix { OnErr result (AppendsPrefix (W.contents (device_of w.old))
-        (W.contents (device_of w.new)) (ended_by_lf (monitor_text (parts_of frame.now)))) }
-    ensures count { failures_of w.old ≤ failures_of w.new }
-    ensures fault { OnErr result (Rose (failures_of w.old) (failures_of w.new)) }
-    ensures answered { RoseAtErr result (answered_of w.old) (answered_of w.new) }
+    ensures { Sends W.contents result w.old w.new
+        (ended_by_lf (monitor_text (parts_of frame.now))) }
 {
     text.clear();
     push_monitor_line(text, frame);
@@ -109,13 +90,7 @@ fn write_kind_line<W: Write>(
     frame: &Frame,
     text: &mut Text,
 ) -> Result<(), WriteFault>
-    ensures sent { OnOk result (Appends (W.contents (device_of w.old))
-        (W.contents (device_of w.new)) (ended_by_lf (kind_text (parts_of frame.now)))) }
-    ensures prefix { OnErr result (AppendsPrefix (W.contents (device_of w.old))
-        (W.contents (device_of w.new)) (ended_by_lf (kind_text (parts_of frame.now)))) }
-    ensures count { failures_of w.old ≤ failures_of w.new }
-    ensures fault { OnErr result (Rose (failures_of w.old) (failures_of w.new)) }
-    ensures answered { RoseAtErr result (answered_of w.old) (answered_of w.new) }
+    ensures { Sends W.contents result w.old w.new (ended_by_lf (kind_text (parts_of frame.now))) }
 {
     text.clear();
     push_kind_line(text, frame);

@@ -5,14 +5,14 @@ ghost use Rattle.std.specs.List.{flat_map};
 ghost use Rattle.std.specs.Io.KnownBytes.{Appends, Consumes};
 ghost use Rattle.aprs_io.specs.declared.input.TheConstants.{MAX_INPUT};
 ghost use Rattle.aprs_ax25.specs.FrameFault.{frame_of};
-ghost use Rattle.aprs_kiss.specs.Device.{answered_of, device_of, failures_of, Rose, RoseAtErr};
-ghost use Rattle.aprs_kiss.specs.Device.{RoseWhere, AppendsPrefix};
+ghost use Rattle.aprs_kiss.specs.Device.{device_of};
+ghost use Rattle.aprs_kiss.specs.Device.{AppendsPrefix, Calls, Sends, last_at};
 ghost use Rattle.aprs_kiss.specs.Reader.{StandsAfter};
 ghost use Rattle.aprs_kiss.specs.Answer.{judgements_in};
 ghost use Rattle.aprs_kiss.specs.Stream.{judgements_of, rest_of};
 ghost use Rattle.aprs_log.specs.Awaits.{EndsHere};
 ghost use Rattle.aprs_log.specs.declared.Ending.TheVariants.{Read as ReadFailed};
-ghost use Rattle.aprs_convert.specs.Ends.{RunsOver, IsRead, EndsStream};
+ghost use Rattle.aprs_convert.specs.Ends.{Runs, EndsStream};
 ghost use Rattle.aprs_convert.specs.Plan.{stream_plan, capture_text, captured};
 
 use crate::fault::ConvertFault;
@@ -35,17 +35,8 @@ pub fn capture<R: Read, W: Write>(
     w: &mut Counted<W>,
 ) -> Result<(), ConvertFault>
     requires { limit ≤ MAX_INPUT }
-    ensures run { RunsOver (stream_plan receiver.now moment.now) limit
-        (R.remaining (device_of r.old)) (R.remaining (device_of r.new)) result
-        (W.contents (device_of w.old)) (W.contents (device_of w.new)) }
-    ensures read { IfErr result (λ fault. IsRead fault
-        → Rose (failures_of r.old) (failures_of r.new)) }
-    ensures answered { RoseWhere (IsErrAnd result IsRead) (answered_of r.old) (answered_of r.new) }
-    ensures write { IfErr result (λ fault. fault ≡ ConvertFault.Write
-        → Rose (failures_of w.old) (failures_of w.new)) }
-    // `Write` is returned where a call of the output returned a fault, and nowhere else.
-    ensures refused { RoseWhere (result ≡ Err ConvertFault.Write) (answered_of w.old)
-        (answered_of w.new) }
+    ensures { Runs (stream_plan receiver.now moment.now) limit R.remaining W.contents result r.old r.new
+        w.old w.new }
 {
     let mut reader = KissReader::new();
     let mut log = LogWriter::new();
@@ -98,9 +89,7 @@ fn capture_chunk<W: Write>(
     ensures prefix { OnErr result ((e : List ℕ) → StandsAfter reader.old e
         → AppendsPrefix (W.contents (device_of w.old)) (W.contents (device_of w.new))
         (flat_map (capture_text receiver.now moment.now) (judgements_of (e ++ chunk.now)))) }
-    ensures count { failures_of w.old ≤ failures_of w.new }
-    ensures fault { OnErr result (Rose (failures_of w.old) (failures_of w.new)) }
-    ensures answered { RoseAtErr result (answered_of w.old) (answered_of w.new) }
+    ensures calls { Calls (last_at result) w.old w.new }
 {
     let mut rest = chunk;
     while !rest.is_empty() {
@@ -120,15 +109,8 @@ fn write_fed<W: Write>(
     moment: &Moment,
     fed: Fed<'_>,
 ) -> Result<(), WriteFault>
-    ensures sent { OnOk result (Appends (W.contents (device_of w.old))
-        (W.contents (device_of w.new)) (flat_map (capture_text receiver.now moment.now)
-        (judgements_in fed.entry))) }
-    ensures prefix { OnErr result (AppendsPrefix (W.contents (device_of w.old))
-        (W.contents (device_of w.new)) (flat_map (capture_text receiver.now moment.now)
-        (judgements_in fed.entry))) }
-    ensures count { failures_of w.old ≤ failures_of w.new }
-    ensures fault { OnErr result (Rose (failures_of w.old) (failures_of w.new)) }
-    ensures answered { RoseAtErr result (answered_of w.old) (answered_of w.new) }
+    ensures { Sends W.contents result w.old w.new
+        (flat_map (capture_text receiver.now moment.now) (judgements_in fed.entry)) }
 {
     match fed {
         Fed::Frame { frame, .. } => write_frame(w, log, receiver, moment, frame),
@@ -144,13 +126,8 @@ fn write_frame<W: Write>(
     moment: &Moment,
     bytes: &[u8],
 ) -> Result<(), WriteFault>
-    ensures sent { OnOk result (Appends (W.contents (device_of w.old))
-        (W.contents (device_of w.new)) (captured receiver.now moment.now (frame_of bytes.now))) }
-    ensures prefix { OnErr result (AppendsPrefix (W.contents (device_of w.old))
-        (W.contents (device_of w.new)) (captured receiver.now moment.now (frame_of bytes.now))) }
-    ensures count { failures_of w.old ≤ failures_of w.new }
-    ensures fault { OnErr result (Rose (failures_of w.old) (failures_of w.new)) }
-    ensures answered { RoseAtErr result (answered_of w.old) (answered_of w.new) }
+    ensures { Sends W.contents result w.old w.new
+        (captured receiver.now moment.now (frame_of bytes.now)) }
 {
     match Frame::read(bytes) {
         Ok(frame) => log.write(w, &Reception::new(moment.copy(), receiver.copy(), frame)),

@@ -1,13 +1,11 @@
 //! What a check reports of a log.
-ghost use Rattle.std.specs.Prelude.{◌≡◌, ◌≤◌, ◌++◌, codes, OnOk, OnErr, IfErr, IsErrAnd, Err};
+ghost use Rattle.std.specs.Prelude.{◌≡◌, ◌≤◌, ◌++◌, codes};
 ghost use Rattle.std.specs.Fmt.{decimal};
-ghost use Rattle.std.specs.Io.KnownBytes.{Appends};
 ghost use Rattle.arrayvec.specs.ArrayVec.{array_vec_len};
 ghost use Rattle.aprs_io.specs.declared.input.TheConstants.{MAX_INPUT};
-ghost use Rattle.aprs_kiss.specs.Device.{answered_of, device_of, failures_of, Rose, RoseAtErr};
-ghost use Rattle.aprs_kiss.specs.Device.{RoseWhere, AppendsPrefix};
+ghost use Rattle.aprs_kiss.specs.Device.{Sends};
 ghost use Rattle.aprs_log.specs.Fault.{reason_name};
-ghost use Rattle.aprs_convert.specs.Ends.{RunsOver, IsRead};
+ghost use Rattle.aprs_convert.specs.Ends.{Runs};
 ghost use Rattle.aprs_convert.specs.Plan.{check_plan, ended_by_lf, passed_line, totals_line};
 
 use crate::fault::ConvertFault;
@@ -29,17 +27,8 @@ pub fn check_log<R: Read, W: Write, A: Allocator + Copy>(
     w: &mut Counted<W>,
 ) -> Result<(), ConvertFault>
     requires { limit ≤ MAX_INPUT }
-    ensures run { RunsOver check_plan limit (R.remaining (device_of r.old))
-        (R.remaining (device_of r.new)) result
-        (W.contents (device_of w.old)) (W.contents (device_of w.new)) }
-    ensures read { IfErr result (λ fault. IsRead fault
-        → Rose (failures_of r.old) (failures_of r.new)) }
-    ensures answered { RoseWhere (IsErrAnd result IsRead) (answered_of r.old) (answered_of r.new) }
-    ensures write { IfErr result (λ fault. fault ≡ ConvertFault.Write
-        → Rose (failures_of w.old) (failures_of w.new)) }
-    // `Write` is returned where a call of the output returned a fault, and nowhere else.
-    ensures refused { RoseWhere (result ≡ Err ConvertFault.Write) (answered_of w.old)
-        (answered_of w.new) }
+    ensures { Runs check_plan limit R.remaining W.contents result r.old r.new
+        w.old w.new }
 {
     let mut reader = LogReader::new(alloc, limit, &[], r);
     let mut heard = 0;
@@ -61,13 +50,7 @@ pub fn check_log<R: Read, W: Write, A: Allocator + Copy>(
 
 /// Writes that a line is passed over, and why.
 fn write_passed<W: Write>(w: &mut Counted<W>, line: u64, reason: Reason) -> Result<(), WriteFault>
-    ensures sent { OnOk result (Appends (W.contents (device_of w.old))
-        (W.contents (device_of w.new)) (passed_line line reason)) }
-    ensures prefix { OnErr result (AppendsPrefix (W.contents (device_of w.old))
-        (W.contents (device_of w.new)) (passed_line line reason)) }
-    ensures count { failures_of w.old ≤ failures_of w.new }
-    ensures fault { OnErr result (Rose (failures_of w.old) (failures_of w.new)) }
-    ensures answered { RoseAtErr result (answered_of w.old) (answered_of w.new) }
+    ensures { Sends W.contents result w.old w.new (passed_line line reason) }
 {
     let text = passed_line(line, reason);
     send(w, text.as_slice())
@@ -75,13 +58,7 @@ fn write_passed<W: Write>(w: &mut Counted<W>, line: u64, reason: Reason) -> Resu
 
 /// Writes how many lines are heard and how many passed over.
 fn write_totals<W: Write>(w: &mut Counted<W>, heard: u64, passed: u64) -> Result<(), WriteFault>
-    ensures sent { OnOk result (Appends (W.contents (device_of w.old))
-        (W.contents (device_of w.new)) (totals_line heard passed)) }
-    ensures prefix { OnErr result (AppendsPrefix (W.contents (device_of w.old))
-        (W.contents (device_of w.new)) (totals_line heard passed)) }
-    ensures count { failures_of w.old ≤ failures_of w.new }
-    ensures fault { OnErr result (Rose (failures_of w.old) (failures_of w.new)) }
-    ensures answered { RoseAtErr result (answered_of w.old) (answered_of w.new) }
+    ensures { Sends W.contents result w.old w.new (totals_line heard passed) }
 {
     let text = totals_line(heard, passed);
     send(w, text.as_slice())

@@ -1,4 +1,5 @@
-use Rattle.std.proofs.Common.{refl, ◌∙◌, arith}
+use Rattle.std.proofs.Common.{refl}
+use Rattle.aprs_io.proofs.Sends.{Calls-none, Calls-then}
 use Rattle.aprs_kiss.proofs.Bytes.{on_err}
 use Rattle.aprs_kiss.proofs.Hearing.{parts_of}
 use Rattle.aprs_convert.specs.Plan.{capture_text}
@@ -7,8 +8,7 @@ use Rattle.aprs_convert.proofs.capture.capture_chunk.Goals as goal
 
 pub loop-rest-init : goal.loop-rest-init
 loop-rest-init g c = record {
-  count = omega arith;
-  answered = refl;
+  calls = Calls-none _;
   captured =
       HasCaptured-none (capture_text c.args.receiver.now c.args.moment.now) _ _ _;
 }
@@ -22,8 +22,7 @@ returns-in_err-write_fed-clause-prefix g c = on_err c.from_residual.result
 
 pub loop-rest-preserved : goal.loop-rest-preserved
 loop-rest-preserved g c = record {
-  count = omega (arith, c.in_ok-write_fed.ensures.count, c.loop-rest.invariant.count);
-  answered = c.in_ok-write_fed.ensures.answered ∙ c.loop-rest.invariant.answered;
+  calls = Calls-then c.loop-rest.invariant.calls c.in_ok-write_fed.ensures.calls;
   captured = HasCaptured-more (capture_text c.args.receiver.now c.args.moment.now) _ _ _ _ _ _ _ _ _
       _ _ c.loop-rest.invariant.captured
       (parts_of _ _ _ c.feed.result.0 refl c.split_at.ensures.back) c.feed.follows.holds-at-none

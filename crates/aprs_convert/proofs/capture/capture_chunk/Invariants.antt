@@ -1,13 +1,12 @@
-use Rattle.std.proofs.Common.{◌≡◌, ◌≤◌, length}
-use Rattle.aprs_kiss.specs.Device.{answered_of, device_of, failures_of}
+use Rattle.std.proofs.Common.{length}
+use Rattle.aprs_kiss.specs.Device.{Calls, Going, device_of}
 use Rattle.aprs_convert.specs.Plan.{capture_text}
 use Rattle.aprs_convert.proofs.Captures.{HasCaptured}
 use Rattle.aprs_convert.proofs.capture.capture_chunk.Given as goal
 
 abbrev pub invariant-loop-rest : goal.invariant-loop-rest
 invariant-loop-rest g l = record {
-  count : failures_of l.initial.w ≤ failures_of l.w;
-  answered : answered_of l.w ≡ answered_of l.initial.w;
+  calls : Calls Going l.initial.w l.w;
   captured : HasCaptured (capture_text l.receiver l.moment) l.initial.reader l.reader
       (g.W.Write.contents (device_of l.initial.w))
       (g.W.Write.contents (device_of l.w)) l.chunk l.rest;

@@ -1,20 +1,17 @@
-use Rattle.std.proofs.Common.{ℕ, List, Result, Ok, OnErr, subst, ap, ◌∙◌}
+use Rattle.std.proofs.Common.{ℕ, List, Result, Ok, ap, ◌∙◌}
+use Rattle.aprs_io.proofs.Sends.{Sends-is}
 use Rattle.aprs_ax25.specs.declared.fault.FrameFault.{FrameFault}
-use Rattle.aprs_kiss.specs.Device.{device_of, AppendsPrefix}
 use Rattle.aprs_log.specs.Line.{written_line}
 use Rattle.aprs_log.specs.Reception.{Heard}
 use Rattle.aprs_convert.specs.Plan.{captured, ended_by_lf}
 use Rattle.aprs_convert.proofs.capture.write_frame.Goals as goal
 
-pub returns-in-Ok-clause-prefix : goal.returns-in-Ok-clause-prefix
-returns-in-Ok-clause-prefix g c =
+pub returns-in-Ok : goal.returns-in-Ok
+returns-in-Ok g c =
     let r = c.args.receiver.now in
     let m = c.args.moment.now in
-    let P : List ℕ → Type 0 = λ text. OnErr c.write.result
-    (AppendsPrefix (g.W.Write.contents (device_of c.args.w.now))
-    (g.W.Write.contents (device_of c.write.new.w)) text) in
-    subst P (ap (λ (x : Heard). ended_by_lf (written_line x)) c.new.ensures
+    Sends-is c.write.ensures.sends
+    (ap (λ (x : Heard). ended_by_lf (written_line x)) c.new.ensures
     ∙ ap (λ k. captured c.copy-in-Ok.result k (Ok c.in-Ok.frame)) c.copy.ensures
     ∙ ap (λ k. captured k m (Ok c.in-Ok.frame)) c.copy-in-Ok.ensures
     ∙ ap (λ (f : Result (List ℕ) FrameFault). captured r m f) c.in-Ok.ensures.exact)
-    c.write.ensures.prefix

@@ -1,7 +1,7 @@
-use Rattle.std.proofs.Common.{◌≡◌, ◌≤◌, ◌-◌, ℕ, List, Option, None}
+use Rattle.std.proofs.Common.{◌≡◌, ◌-◌, ℕ, List, Option, None}
 use Rattle.std.specs.List.{flat_map}
 use Rattle.aprs_io.specs.declared.input.TheConstants.{MAX_INPUT}
-use Rattle.aprs_kiss.specs.Device.{device_of, failures_of, answered_of}
+use Rattle.aprs_kiss.specs.Device.{Calls, Going, device_of}
 use Rattle.aprs_log.specs.Reader.{Awaits, lines_of, loan_of, source_of, stop_of}
 use Rattle.aprs_convert.specs.Plan.{line_text}
 use Rattle.aprs_convert.proofs.Seen.{Ran}
@@ -13,11 +13,9 @@ invariant-lines g l =
     let contents = g.W.Write.contents in
     record {
       same_reference : loan_of l.reader ≡ loan_of l.initial.reader;
-      reads : failures_of (source_of l.initial.reader) ≤ failures_of (source_of l.reader);
-      writes : failures_of l.initial.w ≤ failures_of l.w;
+      reads : Calls Going l.fn.r (source_of l.reader);
+      writes : Calls Going l.initial.w l.w;
       going : stop_of l.reader ≡ None;
-      answered : answered_of (source_of l.reader) ≡ answered_of (source_of l.initial.reader);
-      written : answered_of l.w ≡ answered_of l.initial.w;
       ran : (end : Option (List ℕ)) → Ran (flat_map (line_text l.form))
           (Awaits (remaining (device_of (source_of l.initial.reader))) end l.initial.reader)
           (Awaits (remaining (device_of (source_of l.reader))) end l.reader)
