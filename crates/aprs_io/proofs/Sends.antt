@@ -1,9 +1,8 @@
 -- Laws of what a function did to its device.
-use Rattle.std.proofs.Common.{◌≡◌, ◌≤◌, ℕ, ◌+◌, List, [], ◌++◌, length, Option, Result, Ok, Err, refl, sym, ap, ◌∙◌, subst, append_assoc, append-nil, length-append, arith}
+use Rattle.std.proofs.Common.{◌≡◌, ◌≤◌, ℕ, List, [], ◌++◌, Option, Result, Ok, Err, refl, sym, ap, ◌∙◌, subst, append_assoc, length-append, arith}
 use Rattle.std.specs.Result.{IsErr}
-use Rattle.std.specs.Io.KnownBytes.{Appends}
 use Rattle.std.proofs.KnownBytes.{Appends-nil, Appends-trans}
-use Rattle.aprs_io.specs.Device.{AppendsPrefix, Calls, Last, Going, Fault, End, Sends, SendsAllBut, faults_after, ends_after, last_at}
+use Rattle.aprs_io.specs.Device.{Calls, Last, Going, Fault, End, Sends, SendsAllBut, faults_after, ends_after}
 use Rattle.aprs_io.specs.declared.device.Counted.{Counted}
 use Rattle.aprs_io.proofs.Bytes.{AppendsPrefix-more, AppendsPrefix-then}
 
@@ -93,27 +92,27 @@ module _ {W : Type 0} {contents : W → Option (List ℕ)} where
   left_all a text = record { gone = []; whole = refl; sends = Sends-none a }
 
   module _ {a b c : Counted W} {text rest part : List ℕ} (p : SendsAllBut contents a b text rest)
-      where
-    -- one part more
-    pub left_after : {E : Type 0} (more : List ℕ) → rest ≡ part ++ more
-        → Sends {E = E} contents (Ok tt) b c part → SendsAllBut contents a c text more
-    left_after more e q = record {
-      gone = p.gone ++ part;
-      whole = p.whole ∙ ap (λ l. p.gone ++ l) e ∙ sym (append_assoc p.gone part more);
-      sends = Sends-then p.sends (Sends-ok q);
-    }
+    where
+      -- one part more
+      pub left_after : {E : Type 0} (more : List ℕ) → rest ≡ part ++ more
+          → Sends {E = E} contents (Ok tt) b c part → SendsAllBut contents a c text more
+      left_after more e q = record {
+        gone = p.gone ++ part;
+        whole = p.whole ∙ ap (λ l. p.gone ++ l) e ∙ sym (append_assoc p.gone part more);
+        sends = Sends-then p.sends (Sends-ok q);
+      }
 
-    -- the last part is sent, or a prefix of it
-    pub Sends-last : {E : Type 0} {r : Result (Unit {0}) E} → rest ≡ part
-        → Sends contents r b c part → Sends contents r a c text
-    Sends-last e q = Sends-is (Sends-then p.sends q)
-        (ap (λ l. p.gone ++ l) (sym e) ∙ sym p.whole)
+      -- the last part is sent, or a prefix of it
+      pub Sends-last : {E : Type 0} {r : Result (Unit {0}) E} → rest ≡ part
+          → Sends contents r b c part → Sends contents r a c text
+      Sends-last e q = Sends-is (Sends-then p.sends q)
+          (ap (λ l. p.gone ++ l) (sym e) ∙ sym p.whole)
 
-    -- a part failed
-    pub Sends-broken : {E F : Type 0} {e : E} (r : Result (Unit {0}) F) → IsErr r → (more : List ℕ)
-        → rest ≡ part ++ more → Sends contents (Err e) b c part → Sends contents r a c text
-    Sends-broken {E} {F} r is more s q = Sends-is (Sends-then p.sends (Sends-fails r is q more))
-        (ap (λ l. p.gone ++ l) (sym s) ∙ sym p.whole)
+      -- a part failed
+      pub Sends-broken : {E F : Type 0} {e : E} (r : Result (Unit {0}) F) → IsErr r → (more : List ℕ)
+          → rest ≡ part ++ more → Sends contents (Err e) b c part → Sends contents r a c text
+      Sends-broken {E} {F} r is more s q = Sends-is (Sends-then p.sends (Sends-fails r is q more))
+          (ap (λ l. p.gone ++ l) (sym s) ∙ sym p.whole)
 
   module _ {a b : Counted W} {text rest : List ℕ} (p : SendsAllBut contents a b text rest) where
     -- what is left of one text, and another after it

@@ -1,8 +1,7 @@
 -- What is read of an input under a limit.
-use Rattle.std.specs.Prelude.{◌≡◌, ℕ, zero, suc, ◌+◌, ◌≤◌, ◌<◌, List, [], ◌++◌, length, take, Option, Some, IfSome, Result, Ok, Err, IfOk, IfErr}
-use Rattle.std.specs.Io.KnownBytes.{Consumes, ReadConsumes}
-use Rattle.std.specs.Io.{ReadsAtMost}
-use Rattle.aprs_io.specs.Device.{Calls, Last, Going, Fault, End, last_at}
+use Rattle.std.specs.Prelude.{◌≡◌, ℕ, zero, suc, ◌≤◌, ◌<◌, List, [], ◌++◌, length, take, Option, Some, IfSome, Result, Ok, Err, IfOk, IfErr}
+use Rattle.std.specs.Io.KnownBytes.{Consumes}
+use Rattle.aprs_io.specs.Device.{Calls, Last, Going, Fault, End}
 use Rattle.aprs_io.specs.declared.device.Counted.{Counted}
 use Rattle.aprs_io.specs.declared.input.Ending.{Ending}
 use Rattle.aprs_io.specs.declared.input.Ending.TheVariants as ending

@@ -1,9 +1,9 @@
 -- Lemmas on what the device answered last where a log is read no further.
-use Rattle.std.proofs.Common.{◌≡◌, ◌≢◌, ◌≤◌, ℕ, Bool, true, false, if◌then◌else◌, List, [], ◌∷◌, length, Option, None, Some, Result, Ok, Err, refl, sym, ap, ◌∙◌, subst, arith}
+use Rattle.std.proofs.Common.{◌≡◌, ◌≤◌, ℕ, List, [], ◌∷◌, length, Option, None, Some, Result, Ok, Err, refl, sym, ap, ◌∙◌, subst, arith}
 use Rattle.std.specs.Result.{result_ok}
 use Rattle.hex.specs.Hex.{decode_of}
 use Rattle.std.proofs.lemmas.Bool.Decides.{nat_tests}
-use Rattle.aprs_io.specs.Cut.{Cut, cut_at}
+use Rattle.aprs_io.specs.Cut.{cut_at}
 use Rattle.aprs_io.specs.Device.{Calls, Going, Last}
 use Rattle.aprs_io.specs.Input.{last_of}
 use Rattle.aprs_io.specs.declared.device.Counted.{Counted}
@@ -22,7 +22,6 @@ use Rattle.aprs_log.specs.declared.fault.LineFault.{LineFault}
 use Rattle.aprs_log.specs.declared.fault.LineFault.TheVariants as fault
 use Rattle.aprs_log.specs.declared.fault.LogCause.{LogCause}
 use Rattle.aprs_log.specs.declared.ending.State.{State}
-use Rattle.aprs_log.specs.declared.line.Line.{Line}
 use Rattle.aprs_log.specs.declared.line.TheConstants.{MAX_LINE}
 
 -- ---- a whole line's fault is no end of the input

@@ -1,10 +1,8 @@
 -- Lemmas on a writer with bytes on their way to it.
-use Rattle.std.proofs.Common.{◌≡◌, ℕ, List, [], ◌++◌, Option, Result, Ok, Err, refl, sym, append-nil, subst}
-use Rattle.std.specs.Result.{IsErr}
+use Rattle.std.proofs.Common.{◌≡◌, ℕ, List, [], ◌++◌, Option, Result, Ok, Err, sym, append-nil, subst}
 use Rattle.aprs_io.specs.Device.{Sends, SendsAllBut}
-use Rattle.aprs_io.specs.declared.device.Counted.{Counted}
-use Rattle.aprs_io.proofs.Sends.{Sends-ok, left_all}
-use Rattle.aprs_outbox.specs.Outlet.{HasTaken, Puts, held_of, loan_of, writer_of}
+use Rattle.aprs_io.proofs.Sends.{Sends-ok}
+use Rattle.aprs_outbox.specs.Outlet.{Puts, held_of, loan_of, writer_of}
 use Rattle.aprs_outbox.specs.declared.outlet.Outlet.{Outlet}
 
 module _ {W : Type 0} {contents : W → Option (List ℕ)} {old new : Outlet W} {text : List ℕ}

@@ -89,7 +89,7 @@ returns-in_err-write_passed-in-Passed g c =
 pub returns-then-not-branch : goal.returns-then-not-branch
 returns-then-not-branch g c =
     let gives = rw c.if-not-branch.true at c.in_ok-advance.ensures.gives in
-        let it : Runs check_plan c.args.limit g.R.Read.remaining
+    let it : Runs check_plan c.args.limit g.R.Read.remaining
     g.W.Write.contents (Ok tt)
     c.args.r.now (source_of c.advance.new.self) c.args.w.now c.write_totals.new.w =
     record {

@@ -1,4 +1,4 @@
-use Rattle.std.proofs.Common.{inl, sym, arith, refl, ◌∙◌, subst, Ok, Err, rules}
+use Rattle.std.proofs.Common.{inl, sym, refl, subst, Ok, Err, rules}
 use Rattle.std.proofs.lemmas.Result.{err_from_is_err_and}
 use Rattle.aprs_kiss.specs.Device.{Calls, Going}
 use Rattle.aprs_io.proofs.Sends.{Calls-none, Calls-then}

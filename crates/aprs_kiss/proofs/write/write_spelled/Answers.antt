@@ -1,7 +1,7 @@
 use Rattle.std.proofs.Common.{refl, subst, [], ◌∷◌, ◌++◌}
 use Rattle.aprs_io.proofs.Sends.{Sends-broken, Sends-fails, Sends-is, Sends-last, left_after, left_all}
 use Rattle.aprs_kiss.specs.Plain.{CutsPlain}
-use Rattle.aprs_kiss.specs.Spelling.{kiss_text, spelling_of, spelling_of_byte}
+use Rattle.aprs_kiss.specs.Spelling.{kiss_text, spelling_of}
 use Rattle.aprs_kiss.proofs.Escapes.{spelling_of-all, spelling_of-cut, spelling_of-prefix}
 use Rattle.aprs_kiss.proofs.write.write_spelled.Goals as goal
 

@@ -1,4 +1,4 @@
-use Rattle.std.proofs.Common.{refl, subst, rules, [], ◌++◌}
+use Rattle.std.proofs.Common.{refl, subst, rules, ◌++◌}
 use Rattle.aprs_io.specs.Device.{Sends}
 use Rattle.aprs_io.proofs.Sends.{Sends-err, Sends-fails, Sends-last, fails_of_both, left_of_both}
 use Rattle.aprs_outbox.proofs.outlet.send_both.Goals as goal

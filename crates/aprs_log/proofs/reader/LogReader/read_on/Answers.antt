@@ -31,8 +31,13 @@ returns-after-refuse_tail-clause-moves g c end a =
 pub returns-after-refuse_tail-clause-calls : goal.returns-after-refuse_tail-clause-calls
 returns-after-refuse_tail-clause-calls g c =
     let short : length c.as_slice-in-Err.result.now ≤ MAX_LINE =
-    omega (arith, ap length c.as_slice-in-Err.ensures.value, ap length c.in-Err.ensures.end.0,
-    ap length c.as_slice.ensures.value, c.if-as_slice-gt-MAX_LINE.false) in
+    omega (
+      arith,
+      ap length c.as_slice-in-Err.ensures.value,
+      ap length c.in-Err.ensures.end.0,
+      ap length c.as_slice.ensures.value,
+      c.if-as_slice-gt-MAX_LINE.false,
+    ) in
     elim c.match-refuse_tail.branch [
       | in-Some w ↦ stops_as_told {o = Some w.in-Some.cause} _ c.in-Err.ending short
           w.in-Some.ensures w.self-is c.in-Err.ensures.calls
