@@ -59,15 +59,6 @@ abbrev pub last_at : {A E : Type 0} → Result A E → Last
 last_at (Ok value) = Going
 last_at (Err fault) = Fault
 
--- The count rose if the call returned an error, and otherwise it is as it was.
-abbrev pub RoseAtErr : {A E : Type 0} → Result A E → ℕ → ℕ → Type 0
-RoseAtErr (Ok value) old new = new ≡ old
-RoseAtErr (Err fault) old new = Rose old new
-
--- The count rose if P holds, and otherwise it is as it was.
-abbrev pub RoseWhere : Type 0 → ℕ → ℕ → Type 0
-RoseWhere P old new = (P → Rose old new) × ((P → ⊥) → new ≡ old)
-
 -- A prefix of the bytes went out, where it is known what goes out, and `rest` are the others.
 abbrev pub AppendsAllBut : Option (List ℕ) → Option (List ℕ) → List ℕ → List ℕ → Type 0
 AppendsAllBut old new bytes rest =
@@ -77,20 +68,20 @@ AppendsAllBut old new bytes rest =
 abbrev pub AppendsPrefix : Option (List ℕ) → Option (List ℕ) → List ℕ → Type 0
 AppendsPrefix old new bytes = (rest : List ℕ) × AppendsAllBut old new bytes rest
 
--- How many tries may fail while a text goes out: 999 for each byte, and one more at a fault.
-abbrev pub most_failures : Last → List ℕ → ℕ
-most_failures Going text = 999 * length text
-most_failures Fault text = 999 * length text + 1
-most_failures End text = 999 * length text
+-- How many tries may fail in so many calls of a device: 999 in each, and one more at a fault.
+abbrev pub most_failures : Last → ℕ → ℕ
+most_failures Going calls = 999 * calls
+most_failures Fault calls = 999 * calls + 1
+most_failures End calls = 999 * calls
 
 -- At Ok the text went out. At an error a prefix of it did, and the last call of the device answered
--- a fault, which no call before it did.
+-- a fault, which no call before it did. There is at most one call for each byte.
 pub record Sends {W E : Type 0} (contents : W → Option (List ℕ)) (r : Result (Unit {0}) E)
     (old new : Counted W) (text : List ℕ) : Type 0 where
   pub sent : OnOk r (Appends (contents old.device) (contents new.device) text)
   pub prefix : OnErr r (AppendsPrefix (contents old.device) (contents new.device) text)
   pub calls : Calls (last_at r) old new
-  pub tries : new.failed ≤ old.failed + most_failures (last_at r) text
+  pub tries : new.failed ≤ old.failed + most_failures (last_at r) (length text)
 
 -- A first part of the text went out, and `rest` is left.
 pub record SendsAllBut {W : Type 0} (contents : W → Option (List ℕ)) (old new : Counted W)

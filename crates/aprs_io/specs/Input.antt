@@ -1,10 +1,15 @@
 -- What is read of an input under a limit.
-use Rattle.std.specs.Prelude.{◌≡◌, ℕ, zero, suc, ◌≤◌, ◌<◌, List, [], ◌++◌, length, take, Option, Some, IfSome, Result, Ok, Err, IfOk, IfErr}
-use Rattle.std.specs.Io.KnownBytes.{Consumes}
-use Rattle.aprs_io.specs.Device.{Calls, Last, Going, Fault, End}
+use Rattle.std.specs.Prelude.{◌≡◌, ℕ, zero, suc, ◌+◌, ◌*◌, ◌≤◌, ◌<◌, List, [], ◌++◌, length, take, drop, Option, Some, IfSome, Result, Ok, Err, IfOk, IfErr}
+use Rattle.std.specs.Io.{ReadsAtMost}
+use Rattle.std.specs.Io.KnownBytes.{Consumes, ReadConsumes}
+use Rattle.aprs_io.specs.Device.{Calls, Last, Going, Fault, End, most_failures}
 use Rattle.aprs_io.specs.declared.device.Counted.{Counted}
 use Rattle.aprs_io.specs.declared.input.Ending.{Ending}
 use Rattle.aprs_io.specs.declared.input.Ending.TheVariants as ending
+
+-- The most bytes that any input may have: 1 GiB.
+abbrev pub most_input : ℕ
+most_input = 1073741824
 
 -- After `text` was read of an input, `rest` is left of it, and `after` is what the device still
 -- has: at the input's end nothing is left, after a failed read the device still has just the rest,
@@ -37,14 +42,31 @@ abbrev pub last_got : {A : Type 0} → Result A Ending → Last
 last_got (Ok value) = Going
 last_got (Err way) = last_of way
 
--- Some bytes came, as many as are answered, or the input ends in the way that is answered. Whoever
--- asks again after the end, or after a fault, has the counts of answers show it.
+-- A byte was taken of the device and is not kept.
+abbrev pub TakesOne : Option (List ℕ) → Option (List ℕ) → Type 0
+TakesOne known after = IfSome known (λ input. after ≡ Some (drop 1 input))
+
+-- The input ends in this way, under a limit of so many bytes more. Where it is too long, one byte
+-- more was taken of the device. Whoever asks again after the end, or after a fault, has the counts
+-- of answers show it.
+pub record EndsInput {R : Type 0} (remaining : R → Option (List ℕ)) (way : Ending) (left : ℕ)
+    (old new : Counted R) : Type 0 where
+  pub end : EndsHere way left (remaining old.device) (remaining new.device)
+  pub over : way ≡ ending.TooLong → TakesOne (remaining old.device) (remaining new.device)
+  pub calls : Calls (last_of way) old new
+  pub tries : new.failed ≤ old.failed + most_failures (last_of way) 1
+
+-- Some bytes came, as many as are answered, and no more were taken of the device; or the input ends
+-- in the way that is answered.
 pub record GetsSome {R : Type 0} (remaining : R → Option (List ℕ)) (r : Result ℕ Ending) (left : ℕ)
     (old new : Counted R) (room : List ℕ) : Type 0 where
   pub some : IfOk r (λ n. (0 < n) × (n ≤ left) × (n ≤ length room))
   pub bytes : IfOk r (λ n. Consumes (remaining old.device) (remaining new.device) (take n room))
   pub end : IfErr r (λ e. EndsHere e left (remaining old.device) (remaining new.device))
+  pub over : IfErr r (λ e. e ≡ ending.TooLong
+      → TakesOne (remaining old.device) (remaining new.device))
   pub calls : Calls (last_got r) old new
+  pub tries : new.failed ≤ old.failed + most_failures (last_got r) 1
 
 -- The answer of one read with room for as many bytes.
 abbrev pub last_read : {E : Type 0} → Result ℕ E → ℕ → Last
@@ -52,3 +74,13 @@ last_read (Ok zero) zero = Going
 last_read (Ok zero) (suc room) = End
 last_read (Ok (suc n)) room = Going
 last_read (Err fault) room = Fault
+
+-- One read: the bytes that came stand first in the room, and at a fault none is lost. Without any
+-- room the device is not asked.
+pub record ReadsOnce {R E : Type 0} (remaining : R → Option (List ℕ)) (r : Result ℕ E)
+    (old new : Counted R) (room : List ℕ) : Type 0 where
+  pub bound : ReadsAtMost r room
+  pub bytes : ReadConsumes (remaining old.device) (remaining new.device) r room
+  pub calls : Calls (last_read r (length room)) old new
+  pub tries : new.failed ≤ old.failed + most_failures (last_read r (length room)) 1
+  pub unasked : length room ≡ 0 → (r ≡ Ok 0) × (new ≡ old)

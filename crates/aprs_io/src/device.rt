@@ -1,9 +1,7 @@
 //! A reader or a writer that counts its failed calls.
-ghost use Rattle.std.specs.Prelude.{◌≡◌, ◌+◌, ◌<◌, ◌≤◌, length, OnOk};
-ghost use Rattle.std.specs.Io.{ReadsAtMost};
-ghost use Rattle.std.specs.Io.KnownBytes.{ReadConsumes};
-ghost use Rattle.aprs_io.specs.Device.{device_of, failures_of, answered_of, ends_of, one_more, Rose, Calls, Sends};
-ghost use Rattle.aprs_io.specs.Input.{last_read};
+ghost use Rattle.std.specs.Prelude.{◌≡◌, ◌+◌, ◌≤◌};
+ghost use Rattle.aprs_io.specs.Device.{device_of, failures_of, answered_of, ends_of, one_more, Rose, Sends};
+ghost use Rattle.aprs_io.specs.Input.{ReadsOnce};
 
 use std::io::{ErrorKind, Read, Write};
 
@@ -105,20 +103,18 @@ impl<R: Read> Counted<R> {
     /// Reads the device's next bytes to the start of `buf`: 0 of them at its end, or where `buf`
     /// is empty. An interrupted try is a failed call and is tried again, up to 999 in a row; the
     /// 1,000th, and any other error at once, is a fault. At a fault no byte is lost and the count
-    /// rises. Takes no memory.
+    /// rises. A device isn't asked where `buf` is empty. Takes no memory.
     pub fn read(&mut self, buf: &mut [u8]) -> Result<usize, DeviceFault>
-        ensures bound { ReadsAtMost result buf.new }
-        ensures bytes { ReadConsumes (R.remaining (device_of self.old))
-            (R.remaining (device_of self.new)) result buf.new }
-        ensures calls { Calls (last_read result (length buf.new)) self.old self.new }
-        ensures tried { OnOk result (failures_of self.new < failures_of self.old + MAX_TRIES) }
-        ensures given_up { failures_of self.new ≤ failures_of self.old + MAX_TRIES }
+        ensures { ReadsOnce R.remaining result self.old self.new buf.new }
     {
+        if buf.is_empty() {
+            return Ok(0);
+        }
         let mut tries = 0;
         loop {
             match self.device.read(buf) {
                 Ok(n) => {
-                    if n == 0 && !buf.is_empty() {
+                    if n == 0 {
                         self.note_end();
                     }
                     return Ok(n);

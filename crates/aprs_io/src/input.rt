@@ -1,8 +1,6 @@
 //! Inputs that are read under a limit.
-ghost use Rattle.std.specs.Prelude.{◌+◌, ◌<◌, ◌≤◌, length, OnOk};
-ghost use Rattle.aprs_io.specs.Device.{device_of, failures_of, Calls};
-ghost use Rattle.aprs_io.specs.Input.{EndsHere, GetsSome, last_of};
-ghost use Rattle.aprs_io.specs.declared.device.TheConstants.{MAX_TRIES};
+ghost use Rattle.std.specs.Prelude.{◌<◌, length};
+ghost use Rattle.aprs_io.specs.Input.{EndsInput, GetsSome};
 
 use crate::device::{Counted, DeviceFault};
 use std::io::Read;
@@ -30,9 +28,7 @@ pub fn read_some<R: Read>(
     left: u64,
 ) -> Result<usize, Ending>
     requires { 0 < length room.old }
-    ensures gets { GetsSome R.remaining result left source.old source.new room.new }
-    ensures tried { OnOk result (failures_of source.new < failures_of source.old + MAX_TRIES) }
-    ensures given_up { failures_of source.new ≤ failures_of source.old + MAX_TRIES }
+    ensures { GetsSome R.remaining result left source.old source.new room.new }
 {
     if left == 0 {
         return Err(ending_at_limit(source));
@@ -47,10 +43,7 @@ pub fn read_some<R: Read>(
 
 /// How an input ends of which as many bytes were read as the limit: it has a further byte or not.
 fn ending_at_limit<R: Read>(source: &mut Counted<R>) -> Ending
-    ensures end { EndsHere result 0 (R.remaining (device_of source.old))
-        (R.remaining (device_of source.new)) }
-    ensures calls { Calls (last_of result) source.old source.new }
-    ensures given_up { failures_of source.new ≤ failures_of source.old + MAX_TRIES }
+    ensures { EndsInput R.remaining result 0 source.old source.new }
 {
     let mut one = [0];
     match source.read(&mut one) {

@@ -1,3 +1,2 @@
--- Lemmas that proofs of what goes out cite, here and in crates above.
-pub mod Sending
+-- Lemmas on bytes on their way out.
 pub mod Outlets

@@ -1,5 +1,4 @@
 -- Definitions that contracts of what goes out cite.
-pub mod Outbox
 pub mod Outlet
 -- what public clauses cite of lower crates
 pub use Rattle.aprs_io.specs.Device

@@ -2,10 +2,13 @@
 ghost use Rattle.std.specs.Prelude.{◌≡◌, [], ◌++◌, OnOk};
 ghost use Rattle.aprs_io.specs.Device.{Sends};
 
-use crate::outbox::MAX_HELD;
 use aprs_io::{Counted, WriteFault, push_all, send};
 use arrayvec::ArrayVec;
 use std::io::Write;
+
+/// The most bytes that are held back: twice those of a `BufWriter`, so that they aren't buffered
+/// there again.
+pub const MAX_HELD: usize = 16_384;
 
 /// Has a writer on loan, and holds bytes back that it sends a buffer full at a time.
 #[derive(Drop)]
@@ -53,14 +56,4 @@ impl<'a, W: Write> Outlet<'a, W> {
         self.held.clear();
         sent
     }
-}
-
-/// Sends two texts.
-pub fn send_both<W: Write>(w: &mut Counted<W>, a: &[u8], b: &[u8]) -> Result<(), WriteFault>
-    ensures { Sends W.contents result w.old w.new (a.now ++ b.now) }
-{
-    let mut out = Outlet::new(w);
-    out.put(a)?;
-    out.put(b)?;
-    out.flush()
 }

@@ -17,14 +17,14 @@ loop-count-init g c = record {
 
 pub loop-count-preserved : goal.loop-count-preserved
 loop-count-preserved g c = record {
-  reads = Calls-then c.loop-count.invariant.reads c.in-Ok.ensures.gets.calls;
+  reads = Calls-then c.loop-count.invariant.reads c.in-Ok.ensures.calls;
   writes = Calls-then c.loop-count.invariant.writes c.in_ok-capture_chunk-in-Ok.ensures.calls;
   most = omega (arith, c.loop-count.invariant.most);
   got = HasGot-more (capture_text c.args.receiver.now c.args.moment.now) c.args.limit
       c.loop-count.left _ _ _ _ _ _ _ _ _ c.split_at.result.0.now
       c.loop-count.invariant.got (subst (Consumes _ _)
-      (sym c.split_at.ensures.front) c.in-Ok.ensures.gets.bytes)
-      (omega (arith, c.split_at.ensures.front_len, c.in-Ok.ensures.gets.some))
+      (sym c.split_at.ensures.front) c.in-Ok.ensures.bytes)
+      (omega (arith, c.split_at.ensures.front_len, c.in-Ok.ensures.some))
       c.in_ok-capture_chunk-in-Ok.ensures.stands c.in_ok-capture_chunk-in-Ok.ensures.sent;
 }
 
@@ -36,9 +36,9 @@ returns-in_err-capture_chunk-in-Ok g c =
       run = HasGot-refused c.args.receiver.now c.args.moment.now c.args.limit c.loop-count.left _ _ _
           _ _ _ _ c.split_at.result.0.now
           c.loop-count.invariant.got (subst (Consumes _ _)
-          (sym c.split_at.ensures.front) c.in-Ok.ensures.gets.bytes)
-          (omega (arith, c.split_at.ensures.front_len, c.in-Ok.ensures.gets.some))
+          (sym c.split_at.ensures.front) c.in-Ok.ensures.bytes)
+          (omega (arith, c.split_at.ensures.front_len, c.in-Ok.ensures.some))
           c.in_err-capture_chunk-in-Ok.ensures.prefix;
-      reads = inl (Calls-then c.loop-count.invariant.reads c.in-Ok.ensures.gets.calls);
+      reads = inl (Calls-then c.loop-count.invariant.reads c.in-Ok.ensures.calls);
       writes = Calls-then c.loop-count.invariant.writes c.in_err-capture_chunk-in-Ok.ensures.calls;
     })

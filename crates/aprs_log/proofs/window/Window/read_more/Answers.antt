@@ -9,10 +9,10 @@ returns-clause-more g c =
     let within : w.end ≤ length w.bytes = omega arith in
     let n = c.in_ok-count.count in
     let more = take n c.read_some.new.room in
-    let few = c.in_ok-count.ensures.gets.some.2 in (
+    let few = c.in_ok-count.ensures.some.2 in (
       more,
       length-take-le n c.read_some.new.room few,
       grown w.bytes c.read_some.new.room w.start w.end _ n w.ordered within few
           ∙ ap (λ l. l ++ more) c.move_to_front.ensures.items,
-      c.in_ok-count.ensures.gets.bytes,
+      c.in_ok-count.ensures.bytes,
     )
