@@ -3,7 +3,7 @@ ghost use Rattle.std.specs.Prelude.{◌≡◌, ◌≤◌, ◌<◌, ◌++◌, ℕ
 ghost use Rattle.std.specs.Prelude.{OnErr};
 ghost use Rattle.std.specs.List.{flat_map};
 ghost use Rattle.std.specs.Io.KnownBytes.{Appends, Consumes};
-ghost use Rattle.aprs_io.specs.declared.input.TheConstants.{MAX_INPUT};
+ghost use Rattle.aprs_io.specs.Input.{most_input};
 ghost use Rattle.aprs_ax25.specs.FrameFault.{frame_of};
 ghost use Rattle.aprs_kiss.specs.Device.{device_of};
 ghost use Rattle.aprs_kiss.specs.Device.{AppendsPrefix, Calls, Sends, last_at};
@@ -34,7 +34,7 @@ pub fn capture<R: Read, W: Write>(
     r: &mut Counted<R>,
     w: &mut Counted<W>,
 ) -> Result<(), ConvertFault>
-    requires { limit ≤ MAX_INPUT }
+    requires { limit ≤ most_input }
     ensures { Runs (stream_plan receiver.now moment.now) limit R.remaining W.contents result r.old r.new
         w.old w.new }
 {

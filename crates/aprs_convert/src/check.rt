@@ -2,7 +2,7 @@
 ghost use Rattle.std.specs.Prelude.{◌≡◌, ◌≤◌, ◌++◌, codes};
 ghost use Rattle.std.specs.Fmt.{decimal};
 ghost use Rattle.arrayvec.specs.ArrayVec.{array_vec_len};
-ghost use Rattle.aprs_io.specs.declared.input.TheConstants.{MAX_INPUT};
+ghost use Rattle.aprs_io.specs.Input.{most_input};
 ghost use Rattle.aprs_kiss.specs.Device.{Sends};
 ghost use Rattle.aprs_log.specs.Fault.{reason_name};
 ghost use Rattle.aprs_convert.specs.Ends.{Runs};
@@ -26,7 +26,7 @@ pub fn check_log<R: Read, W: Write, A: Allocator + Copy>(
     r: &mut Counted<R>,
     w: &mut Counted<W>,
 ) -> Result<(), ConvertFault>
-    requires { limit ≤ MAX_INPUT }
+    requires { limit ≤ most_input }
     ensures { Runs check_plan limit R.remaining W.contents result r.old r.new
         w.old w.new }
 {

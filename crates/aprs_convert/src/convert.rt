@@ -1,6 +1,6 @@
 //! A log's lines, converted as they are read.
 ghost use Rattle.std.specs.Prelude.{◌≤◌};
-ghost use Rattle.aprs_io.specs.declared.input.TheConstants.{MAX_INPUT};
+ghost use Rattle.aprs_io.specs.Input.{most_input};
 ghost use Rattle.aprs_convert.specs.Ends.{Runs};
 ghost use Rattle.aprs_convert.specs.Plan.{lines_plan};
 
@@ -20,7 +20,7 @@ pub fn convert_lines<R: Read, W: Write, A: Allocator + Copy>(
     r: &mut Counted<R>,
     w: &mut Counted<W>,
 ) -> Result<(), ConvertFault>
-    requires { limit ≤ MAX_INPUT }
+    requires { limit ≤ most_input }
     ensures { Runs (lines_plan form.now) limit R.remaining W.contents result r.old r.new
         w.old w.new }
 {

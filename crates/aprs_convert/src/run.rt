@@ -1,6 +1,6 @@
 //! Runs over one input.
 ghost use Rattle.std.specs.Prelude.{◌≤◌};
-ghost use Rattle.aprs_io.specs.declared.input.TheConstants.{MAX_INPUT};
+ghost use Rattle.aprs_io.specs.Input.{most_input};
 ghost use Rattle.aprs_convert.specs.Ends.{Runs};
 ghost use Rattle.aprs_convert.specs.Plan.{convert_plan};
 
@@ -23,7 +23,7 @@ pub fn convert_input<R: Read, W: Write, A: Allocator + Copy>(
     r: &mut Counted<R>,
     w: &mut Counted<W>,
 ) -> Result<(), ConvertFault>
-    requires { limit ≤ MAX_INPUT }
+    requires { limit ≤ most_input }
     ensures { Runs (convert_plan form) limit R.remaining W.contents result r.old r.new
         w.old w.new }
 {

@@ -1,7 +1,7 @@
 -- What the answer of a KISS reader reports of the stream.
 use Rattle.std.specs.Prelude.{◌-◌, ◌≤◌, ◌<◌, List, [], ◌∷◌, length, Ok, Err}
 use Rattle.aprs_kiss.specs.Judgement.{Judgement}
-use Rattle.aprs_kiss.specs.declared.reader.TheConstants.{MAX_FRAME}
+use Rattle.aprs_kiss.specs.Sizes.{most_bytes}
 use Rattle.aprs_kiss.specs.declared.reader.Fed.{Fed}
 use Rattle.aprs_kiss.specs.declared.reader.Fed.TheVariants.{Nothing, Frame, Passed}
 
@@ -14,5 +14,5 @@ judgements_in (Passed fault) = Err fault ∷ []
 -- A frame's port is a number of four bits, and its bytes fit in the buffer after a type byte.
 abbrev pub IsWithinBounds : Fed → Type 0
 IsWithinBounds Nothing = Unit {0}
-IsWithinBounds (Frame port frame) = (port < 16) × (length frame.now ≤ MAX_FRAME - 1)
+IsWithinBounds (Frame port frame) = (port < 16) × (length frame.now ≤ most_bytes - 1)
 IsWithinBounds (Passed fault) = Unit {0}

@@ -2,7 +2,7 @@
 use Rattle.std.specs.Prelude.{◌≡◌, ◌≢◌, ◌==◌, ◌≤◌, ◌<◌, ◌/◌, ◌%◌, ℕ, if◌then◌else◌, nat_lt, List, [], ◌∷◌, length, Option, None, Some, Result, Ok, Err}
 use Rattle.aprs_kiss.specs.Spelling.{Spells}
 use Rattle.aprs_kiss.specs.Unspelling.{unspelled}
-use Rattle.aprs_kiss.specs.declared.reader.TheConstants.{MAX_FRAME}
+use Rattle.aprs_kiss.specs.Sizes.{most_bytes}
 use Rattle.aprs_kiss.specs.declared.fault.PassFault.{PassFault}
 use Rattle.aprs_kiss.specs.declared.fault.PassFault.TheVariants.{BadEscape, TooLong, NotData}
 
@@ -19,14 +19,14 @@ Judgement = Result DataFrame PassFault
 pub record IsLong (piece : List ℕ) : Type 0 where
   pub bytes : List ℕ
   pub spelled : Spells bytes piece
-  pub long : MAX_FRAME < length bytes
+  pub long : most_bytes < length bytes
 
 -- The piece spells a type byte and other bytes that fit, and the command in the type byte isn't 0.
 pub record IsOtherCommand (piece : List ℕ) : Type 0 where
   pub head : ℕ
   pub bytes : List ℕ
   pub spelled : Spells (head ∷ bytes) piece
-  pub fits : length (head ∷ bytes) ≤ MAX_FRAME
+  pub fits : length (head ∷ bytes) ≤ most_bytes
   pub command : head % 16 ≢ 0
 
 -- The piece spells a type byte and the frame's bytes, which fit; the command in the type byte is 0,
@@ -34,7 +34,7 @@ pub record IsOtherCommand (piece : List ℕ) : Type 0 where
 pub record IsData (piece : List ℕ) (frame : DataFrame) : Type 0 where
   pub head : ℕ
   pub spelled : Spells (head ∷ frame.bytes) piece
-  pub fits : length (head ∷ frame.bytes) ≤ MAX_FRAME
+  pub fits : length (head ∷ frame.bytes) ≤ most_bytes
   pub command : head % 16 ≡ 0
   pub port : frame.port ≡ head / 16
 
@@ -56,7 +56,7 @@ frame_of (head ∷ bytes) =
 -- The judgement of a piece that spells these bytes, or none.
 abbrev pub judgement_by : Option (List ℕ) → Judgement
 judgement_by None = Err BadEscape
-judgement_by (Some bytes) = if nat_lt MAX_FRAME (length bytes) then Err TooLong else frame_of bytes
+judgement_by (Some bytes) = if nat_lt most_bytes (length bytes) then Err TooLong else frame_of bytes
 
 -- The judgement of a piece, by the bytes that it spells.
 unfoldable pub judgement_of : List ℕ → Judgement

@@ -4,7 +4,7 @@ use Rattle.std.specs.List.{All, flat_map}
 use Rattle.aprs_kiss.specs.Spelling.{HasNoEnd, Spells, kiss_text}
 use Rattle.aprs_kiss.specs.Stream.{judgements_of, pieces_of, rest_of}
 use Rattle.aprs_kiss.specs.Judgement.{Judgement, Judged, judgement_of}
-use Rattle.aprs_kiss.specs.declared.reader.TheConstants.{MAX_FRAME}
+use Rattle.aprs_kiss.specs.Sizes.{most_bytes}
 use Rattle.aprs_kiss.specs.declared.fault.PassFault.TheVariants.{TooLong}
 
 -- No two lists of bytes are spelled alike.
@@ -31,13 +31,13 @@ LeftInParts = (prefix more : List ℕ) → rest_of (prefix ++ more) ≡ rest_of 
 -- A written frame that fits, at the beginning of a stream or after a frame end, is read as a frame
 -- of port 0 with the same bytes.
 abbrev pub ReadBack : Type 0
-ReadBack = (stream frame : List ℕ) → rest_of stream ≡ [] → length frame ≤ MAX_FRAME - 1
+ReadBack = (stream frame : List ℕ) → rest_of stream ≡ [] → length frame ≤ most_bytes - 1
     → judgements_of (stream ++ kiss_text frame)
     ≡ judgements_of stream ++ Ok (record { port = 0; bytes = frame }) ∷ []
 
 -- A longer written frame is passed over as too long.
 abbrev pub ReadBackLong : Type 0
-ReadBackLong = (stream frame : List ℕ) → rest_of stream ≡ [] → MAX_FRAME - 1 < length frame
+ReadBackLong = (stream frame : List ℕ) → rest_of stream ≡ [] → most_bytes - 1 < length frame
     → judgements_of (stream ++ kiss_text frame) ≡ judgements_of stream ++ Err TooLong ∷ []
 
 -- After a written frame nothing is left of the stream.

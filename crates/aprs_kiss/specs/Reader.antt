@@ -4,7 +4,7 @@ use Rattle.aprs_kiss.specs.Spelling.{HasNoEnd}
 use Rattle.aprs_kiss.specs.Unspelling.{unspelled}
 use Rattle.aprs_kiss.specs.Judgement.{Judgement}
 use Rattle.aprs_kiss.specs.declared.fault.PassFault.{PassFault}
-use Rattle.aprs_kiss.specs.declared.reader.TheConstants.{MAX_FRAME}
+use Rattle.aprs_kiss.specs.Sizes.{most_bytes}
 use Rattle.aprs_kiss.specs.declared.reader.KissReader.{KissReader}
 use Rattle.aprs_kiss.specs.declared.reader.State.{State}
 use Rattle.aprs_kiss.specs.declared.reader.State.TheVariants.{Ended, Plain, Escape, Long, LongEscape, Broken}
@@ -24,7 +24,7 @@ pub record HoldsEscape (held bytes : List ℕ) : Type 0 where
 pub record HoldsLong (bytes : List ℕ) : Type 0 where
   pub all : List ℕ
   pub spelled : unspelled bytes ≡ Some all
-  pub long : MAX_FRAME < length all
+  pub long : most_bytes < length all
 
 -- The bytes end in an open escape, and those before it spell more than a frame may have.
 pub record HoldsLongEscape (bytes : List ℕ) : Type 0 where
@@ -32,7 +32,7 @@ pub record HoldsLongEscape (bytes : List ℕ) : Type 0 where
   pub all : List ℕ
   pub escape : bytes ≡ prefix ++ 0xDB ∷ []
   pub spelled : unspelled prefix ≡ Some all
-  pub long : MAX_FRAME < length all
+  pub long : most_bytes < length all
 
 -- What the reader holds after these bytes of a piece, by its state; in the state `Broken` they
 -- spell nothing, whatever follows them.

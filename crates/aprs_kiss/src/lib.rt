@@ -1,6 +1,7 @@
 //! KISS frames both ways, over devices that count their failed calls.
 #![tactic(auto)]
 
+mod example;
 mod fault;
 mod laws;
 mod listen;
@@ -9,6 +10,10 @@ mod spelling;
 mod write;
 
 pub use aprs_io::{Counted, DeviceFault, WriteFault, send};
+pub use example::{
+    hello_goes_to_port_5, leaving_kiss_mode_is_no_data, special_bytes_are_escaped,
+    test_goes_to_port_0,
+};
 pub use fault::PassFault;
 pub use laws::{
     a_stream_is_its_pieces, cuts_change_nothing, each_piece_is_judged_once, frame_ends_end_pieces,

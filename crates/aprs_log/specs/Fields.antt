@@ -1,7 +1,7 @@
 -- The first field of a text, which ends before a space. No public clause cites this module.
 use Rattle.std.specs.Prelude.{◌≡◌, ℕ, ◌<◌, ◌⊎◌, Bool, not, List, length, slice_index, None, Some}
 use Rattle.aprs_io.specs.Cut.{Cut, cut_at}
-use Rattle.aprs_log.specs.declared.civil.TheConstants.{MILLIS_LEN, SECONDS_LEN}
+use Rattle.aprs_log.specs.Sizes.{millis_size, seconds_size}
 use Rattle.aprs_log.specs.Moment.{moment_of}
 use Rattle.aprs_log.specs.Receiver.{IsName, is_name_byte}
 
@@ -11,12 +11,12 @@ HasSpace text n = (n < length text) × (slice_index text n ≡ 32)
 
 -- the place of the space that ends a moment to the second, or else one to the millisecond
 abbrev pub EndsMoment : List ℕ → ℕ → Type 0
-EndsMoment text n = ((n ≡ SECONDS_LEN) × HasSpace text SECONDS_LEN)
-    ⊎ ((n ≡ MILLIS_LEN) × HasSpace text MILLIS_LEN × ¬ HasSpace text SECONDS_LEN)
+EndsMoment text n = ((n ≡ seconds_size) × HasSpace text seconds_size)
+    ⊎ ((n ≡ millis_size) × HasSpace text millis_size × ¬ HasSpace text seconds_size)
 
 -- no space stands where it could end a moment
 abbrev pub EndsNoMoment : List ℕ → Type 0
-EndsNoMoment text = ¬ HasSpace text SECONDS_LEN × ¬ HasSpace text MILLIS_LEN
+EndsNoMoment text = ¬ HasSpace text seconds_size × ¬ HasSpace text millis_size
 
 -- the text's first field is the moment m, and `rest` stands after the space
 pub record TakesMoment (text : List ℕ) (m : ℕ) (rest : List ℕ) : Type 0 where

@@ -13,6 +13,7 @@ pub mod Places
 pub mod Reader
 pub mod Receiver
 pub mod Reception
+pub mod Sizes
 pub mod Steps
 pub mod StreamLaws
 pub mod Window

@@ -18,7 +18,7 @@ use Rattle.aprs_log.specs.declared.fault.LineFault.{LineFault}
 use Rattle.aprs_log.specs.declared.fault.LineFault.TheVariants as fault
 use Rattle.aprs_log.specs.declared.fault.Reason.{Reason}
 use Rattle.aprs_log.specs.declared.fault.Reason.TheVariants as reason
-use Rattle.aprs_log.specs.declared.line.TheConstants.{MAX_LINE}
+use Rattle.aprs_log.specs.Sizes.{most_line}
 use Rattle.aprs_log.specs.declared.line.Line.{Line}
 use Rattle.aprs_log.specs.declared.line.Line.TheVariants as line
 
@@ -65,7 +65,7 @@ line_of_digits m r digits = do
 -- ends the name of a receiver, or the fault is Receiver; and what follows is read as digits.
 unfoldable pub line_of : List ℕ → Result Line LineFault
 line_of l = do
-  short ← guard (nat_le (length l) MAX_LINE) otherwise fault.LongLine
+  short ← guard (nat_le (length l) most_line) otherwise fault.LongLine
   first ← cut_at 32 l otherwise fault.Moment
   moment ← moment_of first.before otherwise fault.Moment
   second ← cut_at 32 first.after otherwise fault.Receiver

@@ -5,7 +5,7 @@ use Rattle.aprs_io.specs.Cut.{is_byte}
 use Rattle.aprs_log.specs.Fault.{log_cause_of}
 use Rattle.aprs_log.specs.Line.{line_of}
 use Rattle.aprs_log.specs.Reception.{Heard}
-use Rattle.aprs_log.specs.declared.line.TheConstants.{MAX_LINE}
+use Rattle.aprs_log.specs.Sizes.{most_line}
 use Rattle.aprs_log.specs.declared.line.Line.{Line}
 use Rattle.aprs_log.specs.declared.line.Line.TheVariants as line
 use Rattle.aprs_log.specs.declared.fault.LineFault.{LineFault}
@@ -30,7 +30,7 @@ ending_cause End (b ∷ bs) = Some cause.NoNewline
 -- why a log ends at what stands after its last LF, by how the input ended after that
 abbrev pub tail_cause : List ℕ → Ending → Option LogCause
 tail_cause tail ending =
-    if nat_lt MAX_LINE (length tail) then Some cause.LongLine else ending_cause ending tail
+    if nat_lt most_line (length tail) then Some cause.LongLine else ending_cause ending tail
 
 -- the lines that are given, and the fault after them, if there is one
 pub record Answers : Type 0 where

@@ -2,7 +2,7 @@
 use Rattle.std.specs.Prelude.{◌≡◌, ℕ, zero, suc, ◌+◌, ◌-◌, ◌*◌, ◌/◌, ◌%◌, ◌<◌, ◌≤◌, ◌==◌, ◌&&◌, Bool, if◌then◌else◌, List, [], ◌∷◌, ◌++◌, length, slice_index, Option, None, Some, nat_le, nat_lt, pos, unsigned_abs, ◌+ℤ◌, ◌*ℤ◌}
 use Rattle.std.specs.Str.{bytes_eq}
 use Rattle.jiff_core.specs.Calendar.{IsDate, days_from_civil, days_in_month}
-use Rattle.aprs_log.specs.declared.civil.TheConstants.{SECONDS_LEN}
+use Rattle.aprs_log.specs.Sizes.{seconds_size}
 use Rattle.aprs_log.specs.declared.moment_form.MomentForm.{MomentForm}
 use Rattle.aprs_log.specs.declared.moment_form.MomentForm.TheVariants.{Seconds, Millis}
 
@@ -175,7 +175,7 @@ moment_in form text = if is_real form (civil_at text) (millis_at form text)
 
 -- the one form that a text can be in, by its length
 abbrev pub form_of : List ℕ → MomentForm
-form_of text = if length text == SECONDS_LEN then Seconds else Millis
+form_of text = if length text == seconds_size then Seconds else Millis
 
 -- the moment of a text in either form
 abbrev pub moment_of : List ℕ → Option ℕ

@@ -8,6 +8,8 @@ use Rattle.aprs_io.specs.Device.{Last, Going, End}
 use Rattle.aprs_log.specs.LogAnswers.{Answers, Gets, ended, log_answers, then_given}
 use Rattle.aprs_log.specs.Window.{items}
 use Rattle.aprs_log.specs.declared.line.Line.{Line}
+use Rattle.aprs_log.specs.declared.line.Line.TheVariants as line
+use Rattle.aprs_log.specs.declared.fault.Reason.TheVariants.{NoFrame}
 use Rattle.aprs_log.specs.declared.fault.LogFault.{LogFault}
 use Rattle.aprs_io.specs.declared.input.Ending.{Ending}
 use Rattle.aprs_log.specs.declared.reader.LogReader.{LogReader}
@@ -46,6 +48,13 @@ abbrev pub Awaits : {R : Type 0} → Option (List ℕ) → Option (List ℕ) →
     → Type 0
 Awaits known end r answers =
     AwaitsIn r.state known end r.left r.line (items r.window) answers
+
+-- nothing was read yet: no line was returned, it holds the head alone, and it may go on
+pub record Starts {R : Type 0} (r : LogReader R) (head : List ℕ) : Type 0 where
+  pub first : lines_of r ≡ 0
+  pub current : current_of r ≡ line.Passed NoFrame
+  pub held : held_of r ≡ head
+  pub going : stop_of r ≡ None
 
 -- a reader that moves without an answer: what may follow now, could have followed where it was
 -- `old`

@@ -1,6 +1,6 @@
 -- Names of receivers.
 use Rattle.std.specs.Prelude.{ℕ, ◌==◌, ◌||◌, ◌&&◌, Bool, List, length, IsTrue, nat_le}
-use Rattle.aprs_log.specs.declared.receiver.TheConstants.{MAX_NAME}
+use Rattle.aprs_log.specs.Sizes.{most_name}
 use Rattle.std.specs.Char.{is_ascii_alphanumeric}
 use Rattle.std.specs.List.{list_all}
 
@@ -11,7 +11,7 @@ is_name_byte b = is_ascii_alphanumeric b || (b == 45) || (b == 95)
 -- whether bytes are a receiver's name: 1 to 16 such bytes
 abbrev pub is_name : List ℕ → Bool
 is_name bytes = nat_le 1 (length bytes) && nat_le
-    (length bytes) MAX_NAME && list_all is_name_byte bytes
+    (length bytes) most_name && list_all is_name_byte bytes
 
 -- the bytes are a receiver's name
 abbrev pub IsName : List ℕ → Type 0

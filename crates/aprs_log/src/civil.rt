@@ -1,7 +1,7 @@
 //! Dates of the civil calendar with a time of the day.
 ghost use Rattle.std.specs.Prelude.{◌≡◌, ◌≤◌, ◌<◌, ◌+◌, ◌*◌, ◌/◌, ◌%◌, ◌∷◌, ◌++◌, [], length, pos, SomeIff, IfSome};
 ghost use Rattle.aprs_log.specs.Moment.{Civil, civil_text, is_time, second_of_day, seconds_of, IsCivil};
-ghost use Rattle.aprs_log.specs.declared.moment.TheConstants.{LAST_SECOND};
+ghost use Rattle.aprs_log.specs.Sizes.{last_second, seconds_size};
 ghost use Rattle.aprs_log.specs.Places.{near_civil, near_digit, near_millis, near_pair};
 
 use crate::MomentForm;
@@ -99,7 +99,7 @@ impl CivilTime {
 
     /// The time whose digits stand at their places in a text.
     fn from_digits(text: &[u8]) -> CivilTime
-        requires { SECONDS_LEN ≤ length text.now }
+        requires { seconds_size ≤ length text.now }
         ensures { result ≡ near_civil text.now }
     {
         CivilTime {
@@ -114,7 +114,7 @@ impl CivilTime {
 
     /// The date and the time of the day that are so many seconds after 1970-01-01T00:00:00Z.
     pub fn from_seconds(seconds: u64) -> CivilTime
-        requires { seconds ≤ LAST_SECOND }
+        requires { seconds ≤ last_second }
         ensures real { IsCivil result }
         ensures number { seconds_of result ≡ seconds }
     {
@@ -133,7 +133,7 @@ impl CivilTime {
     /// The seconds from 1970-01-01T00:00:00Z to this time, where the calendar and the day have it.
     pub fn seconds(&self) -> Option<u64>
         ensures value { SomeIff result (IsCivil self.now) (seconds_of self.now) }
-        ensures bound { IfSome result (λ n. n ≤ LAST_SECOND) }
+        ensures bound { IfSome result (λ n. n ≤ last_second) }
     {
         if self.year < 1970 || self.year > 2099 || !self.is_time() {
             return None;

@@ -2,7 +2,7 @@
 ghost use Rattle.std.specs.Prelude.{◌≡◌, ◌⊎◌, ◌<◌, ◌+◌, ◌∷◌, ◌++◌, [], length, slice_index, Some, IfSome};
 ghost use Rattle.aprs_log.specs.declared.moment_form.MomentForm.{MomentForm};
 ghost use Rattle.aprs_log.specs.Clock.{FractionText, form_of_end, SecondText, midnight_text};
-ghost use Rattle.aprs_log.specs.declared.civil.TheConstants.{MILLIS_LEN, SECONDS_LEN};
+ghost use Rattle.aprs_log.specs.Sizes.{millis_size, seconds_size};
 ghost use Rattle.aprs_log.specs.Moment.{moment_in, moment_of, two_digits};
 
 use crate::MomentForm;
@@ -37,7 +37,7 @@ impl Clock {
 
     /// The moment of a text, as `Moment::parse`. Keeps its date.
     pub fn parse(&mut self, text: &[u8]) -> Option<Moment>
-        requires { (length text.now ≡ SECONDS_LEN) ⊎ (length text.now ≡ MILLIS_LEN) }
+        requires { (length text.now ≡ seconds_size) ⊎ (length text.now ≡ millis_size) }
         ensures { result ≡ moment_of text.now }
     {
         match self.parse_same_day(text) {
@@ -48,7 +48,7 @@ impl Clock {
 
     /// The same, where the text has the date that is kept.
     fn parse_same_day(&self, text: &[u8]) -> Option<Moment>
-        requires { (length text.now ≡ SECONDS_LEN) ⊎ (length text.now ≡ MILLIS_LEN) }
+        requires { (length text.now ≡ seconds_size) ⊎ (length text.now ≡ millis_size) }
         ensures { IfSome result (λ m. moment_of text.now ≡ Some m) }
     {
         let (date, rest) = text.split_at(DATE_LEN);
@@ -65,7 +65,7 @@ impl Clock {
     #[cold]
     #[inline(never)]
     fn parse_anew(&mut self, text: &[u8]) -> Option<Moment>
-        requires { (length text.now ≡ SECONDS_LEN) ⊎ (length text.now ≡ MILLIS_LEN) }
+        requires { (length text.now ≡ seconds_size) ⊎ (length text.now ≡ millis_size) }
         ensures { result ≡ moment_of text.now }
     {
         let moment = Moment::parse(text)?;

@@ -2,6 +2,7 @@
 ghost use Rattle.std.specs.Prelude.{◌≡◌, ◌≤◌, ◌*◌, ◌↔◌, length, IsOk, OnErr};
 ghost use Rattle.aprs_ax25.specs.FrameFault.{frame_of};
 ghost use Rattle.aprs_log.specs.Line.{frame_or_reason, heard_or_passed, line_in, line_of, line_of_digits, LineSyntax};
+ghost use Rattle.aprs_log.specs.Sizes.{most_line};
 
 use crate::fault::{LineFault, Reason};
 use crate::fields::{first_moment, take_receiver};
@@ -31,7 +32,7 @@ pub enum Line {
 pub fn read_line(line: &[u8]) -> Result<Line, LineFault>
     ensures line { result ≡ line_of line.now }
     // Whatever the bytes are, a line of this syntax is not refused.
-    ensures sound { IsOk result ↔ ((length line.now ≤ MAX_LINE) × LineSyntax line.now) }
+    ensures sound { IsOk result ↔ ((length line.now ≤ most_line) × LineSyntax line.now) }
 {
     let mut found = Line::empty();
     match read_fields(line, &mut Scratch::new(), &mut found) {
@@ -127,7 +128,7 @@ fn read_within(
     scratch: &mut Scratch,
     found: &mut Line,
 ) -> Result<(), LineFault>
-    requires { length digits.now ≤ MAX_LINE }
+    requires { length digits.now ≤ most_line }
     ensures line { line_in result found.new ≡ line_of_digits moment receiver digits.now }
     ensures unchanged { OnErr result (found.new ≡ found.old) }
 {

@@ -4,7 +4,7 @@ ghost use Rattle.std.specs.Ordering.{nat_cmp, as_partial_cmp};
 ghost use Rattle.std.proofs.Common.{rules};
 ghost use Rattle.std.specs.Cmp.{partial_order_from_own_ties};
 ghost use Rattle.std.specs.Cmp.Rules.{comparing};
-ghost use Rattle.aprs_log.specs.declared.moment.TheConstants.{LAST_MILLI};
+ghost use Rattle.aprs_log.specs.Sizes.{last_milli, last_second};
 ghost use Rattle.aprs_log.specs.Moment.{MomentText, MomentTextIn, form_of, moment_in, moment_of, moment_text};
 
 use crate::MomentForm;
@@ -30,7 +30,7 @@ impl Model for Moment {
 
     ghost view = { λ m. m.millis };
 
-    ghost invariant = { λ m. m.millis ≤ LAST_MILLI };
+    ghost invariant = { λ m. m.millis ≤ last_milli };
 
     ghost inverse = { λ n. record { millis = n } };
 }
@@ -39,7 +39,7 @@ impl Moment {
     /// The moment so many seconds after 1970-01-01T00:00:00Z, where these are 0 to 4,102,444,799.
     /// Takes no memory.
     pub fn new(seconds: u64) -> Option<Moment>
-        ensures { SomeIff result (seconds ≤ LAST_SECOND) (seconds * 1000) }
+        ensures { SomeIff result (seconds ≤ last_second) (seconds * 1000) }
     {
         if seconds <= LAST_SECOND {
             Some(Moment {
@@ -53,7 +53,7 @@ impl Moment {
     /// The moment so many milliseconds after 1970-01-01T00:00:00Z, where these are 0 to
     /// 4,102,444,799,999. Takes no memory.
     pub fn from_millis(millis: u64) -> Option<Moment>
-        ensures { SomeIff result (millis ≤ LAST_MILLI) millis }
+        ensures { SomeIff result (millis ≤ last_milli) millis }
     {
         if millis <= LAST_MILLI {
             Some(Moment { millis })
@@ -72,7 +72,7 @@ impl Moment {
     /// The milliseconds since 1970-01-01T00:00:00Z. Takes no memory.
     pub fn millis(&self) -> u64
         ensures value { result ≡ self.now }
-        ensures in_range { result ≤ LAST_MILLI }
+        ensures in_range { result ≤ last_milli }
     {
         self.millis
     }
@@ -80,7 +80,7 @@ impl Moment {
     /// The whole seconds since 1970-01-01T00:00:00Z, rounded down. Takes no memory.
     pub fn seconds(&self) -> u64
         ensures value { result ≡ self.now / 1000 }
-        ensures in_range { result ≤ LAST_SECOND }
+        ensures in_range { result ≤ last_second }
     {
         self.millis / 1000
     }

@@ -1,6 +1,6 @@
 //! A reader of a log's lines.
 ghost use Rattle.std.specs.Prelude.{◌≡◌, ◌≢◌, ◌+◌, ◌≤◌, length};
-ghost use Rattle.aprs_io.specs.declared.input.TheConstants.{MAX_INPUT};
+ghost use Rattle.aprs_io.specs.Input.{most_input};
 ghost use Rattle.aprs_log.specs.Awaits.{KeepsMemory};
 ghost use Rattle.aprs_log.specs.Window.{items};
 
@@ -25,7 +25,7 @@ pub struct LogReader<'a, R> {
     left: u64,
     line: u64,
     state: State,
-    ghost few: { line + length (items window) + left ≤ MAX_INPUT },
+    ghost few: { line + length (items window) + left ≤ most_input },
     ghost no_memory: { KeepsMemory state },
 }
 
@@ -36,7 +36,7 @@ impl<'a, R: Read> LogReader<'a, R> {
     ghost use Rattle.aprs_io.specs.Cut.{cut_at};
     ghost use Rattle.aprs_log.specs.LogAnswers.{Answers, then_given};
     ghost use Rattle.aprs_log.specs.Window.{items};
-    ghost use Rattle.aprs_log.specs.Reader.{answer_at, answer_with, Awaits, AreAnswersOf, GivesNext, HasLine, current_of, held_of, lines_of, loan_of, source_of, stop_of, returns_line, work_of, Moves, last_told};
+    ghost use Rattle.aprs_log.specs.Reader.{answer_at, answer_with, Awaits, AreAnswersOf, GivesNext, HasLine, Moves, Starts, current_of, held_of, last_told, lines_of, loan_of, returns_line, source_of, stop_of, work_of};
     ghost use Rattle.aprs_log.specs.Awaits.{last_in};
 
     /// A reader of the log that begins with `head` and goes on with the bytes of `source`. It takes
@@ -49,15 +49,12 @@ impl<'a, R: Read> LogReader<'a, R> {
         head: &[u8],
         source: &'a mut Counted<R>,
     ) -> LogReader<'a, R>
-        requires limit { limit ≤ MAX_INPUT }
+        requires limit { limit ≤ most_input }
         requires head { length head.now ≤ 8 }
         requires within { length head.now ≤ limit }
         ensures same_reference { loan_of result ≡ source.entry.ghost_name }
         ensures source { source_of result ≡ source.old }
-        ensures first { lines_of result ≡ 0 }
-        ensures current { current_of result ≡ Line.Passed Reason.NoFrame }
-        ensures held { held_of result ≡ head.now }
-        ensures going { stop_of result ≡ None }
+        ensures starts { Starts result head.now }
         // What may come are the answers of the whole log.
         ensures whole { (end : Option (List ℕ)) (answers : Answers)
             → Awaits (R.remaining (device_of (source_of result))) end result answers
@@ -103,11 +100,11 @@ impl<'a, R: Read> LogReader<'a, R> {
         ensures unread { stop_of self.old ≡ None → HasLine (held_of self.old)
             → source_of self.new ≡ source_of self.old }
         // What it came to stays, and it reads no more.
-        ensures repeats { (stop : Option LogFault) → stop_of self.old ≡ Some stop
-            → result ≡ answer_at stop }
         ensures stays { (stop : Option LogFault) → stop_of self.old ≡ Some stop
-            → (stop_of self.new ≡ Some stop) × (source_of self.new ≡ source_of self.old) }
-        ensures number { IfErr result (λ fault. fault.line ≡ lines_of self.new + 1) }
+            → (result ≡ answer_at stop) × (stop_of self.new ≡ Some stop)
+            × (source_of self.new ≡ source_of self.old) }
+        ensures fault { IfErr result (λ fault. (fault.line ≡ lines_of self.new + 1)
+            × (fault.cause ≢ LogCause.Memory)) }
         // Some answers may always come.
         ensures awaits { (answers : Answers) × Awaits (R.remaining (device_of (source_of self.new)))
             (R.remaining (device_of (source_of self.new))) self.new answers }
@@ -115,7 +112,6 @@ impl<'a, R: Read> LogReader<'a, R> {
         // input ended, and nothing else, so that it never asks again.
         ensures calls { stop_of self.old ≡ None
             → Calls (last_told result) (source_of self.old) (source_of self.new) }
-        ensures memory { IfErr result (λ fault. fault.cause ≢ LogCause.Memory) }
     {
         match self.advance() {
             Ok(true) => Ok(Some(self.current.copy())),
@@ -137,19 +133,19 @@ impl<'a, R: Read> LogReader<'a, R> {
         // Where no line comes, the last one stays.
         ensures keeps { returns_line result ≡ false → current_of self.new ≡ current_of self.old }
         // What it came to stays, and it reads no more.
-        ensures repeats { (stop : Option LogFault) → stop_of self.old ≡ Some stop
-            → answer_with result (current_of self.new) ≡ answer_at stop }
         ensures stays { (stop : Option LogFault) → stop_of self.old ≡ Some stop
-            → (stop_of self.new ≡ Some stop) × (source_of self.new ≡ source_of self.old) }
-        ensures number { IfErr result (λ fault. fault.line ≡ lines_of self.new + 1) }
+            → (answer_with result (current_of self.new) ≡ answer_at stop)
+            × (stop_of self.new ≡ Some stop) × (source_of self.new ≡ source_of self.old) }
+        ensures fault { IfErr result (λ fault. (fault.line ≡ lines_of self.new + 1)
+            × (fault.cause ≢ LogCause.Memory)) }
         // Some answers may always come.
         ensures awaits { (answers : Answers) × Awaits (R.remaining (device_of (source_of self.new)))
             (R.remaining (device_of (source_of self.new))) self.new answers }
         // What it answers tells what the device answered last: a fault at `Read`, the end where the
         // input ended, and nothing else, so that it never asks again.
         ensures calls { stop_of self.old ≡ None
-            → Calls (last_told (answer_with result (current_of self.new))) (source_of self.old) (source_of self.new) }
-        ensures memory { IfErr result (λ fault. fault.cause ≢ LogCause.Memory) }
+            → Calls (last_told (answer_with result (current_of self.new))) (source_of self.old)
+            (source_of self.new) }
     {
         loop {
             match self.state {

@@ -1,6 +1,6 @@
 //! Bytes that were read and are not yet taken.
 ghost use Rattle.std.specs.Prelude.{◌≤◌};
-ghost use Rattle.aprs_log.specs.declared.line.TheConstants.{MAX_LINE};
+ghost use Rattle.aprs_log.specs.Sizes.{most_line};
 ghost use Rattle.aprs_log.specs.declared.window.TheConstants.{WINDOW_SIZE};
 
 use aprs_io::{Counted, Ending, read_some};
@@ -59,7 +59,7 @@ impl Window {
     /// Reads once after the bytes that it holds, at most `left` bytes, and returns how many came;
     /// or returns how the input ends.
     pub fn read_more<R: Read>(&mut self, source: &mut Counted<R>, left: u64) -> Result<u64, Ending>
-        requires { length (items self.old) ≤ MAX_LINE }
+        requires { length (items self.old) ≤ most_line }
         ensures some { IfOk result (λ n. (0 < n) × (n ≤ left)) }
         ensures more { IfOk result (λ n. (more : List ℕ) × (length more ≡ n)
             × (items self.new ≡ items self.old ++ more)

@@ -7,8 +7,7 @@ ghost use Rattle.aprs_kiss.specs.Plain.{is_special};
 ghost use Rattle.aprs_kiss.specs.Spelling.{kiss_text, spelling_of_byte};
 ghost use Rattle.aprs_log.specs.Line.{line_of, written_line};
 ghost use Rattle.aprs_log.specs.Moment.{moment_text};
-ghost use Rattle.aprs_log.specs.declared.civil.TheConstants.{MILLIS_LEN as LEN};
-ghost use Rattle.aprs_log.specs.declared.line.TheConstants.{MAX_LINE};
+ghost use Rattle.aprs_log.specs.Sizes.{millis_size, most_line};
 
 use crate::civil::MILLIS_LEN;
 use crate::laws::{frames_are_read, written_laws};
@@ -46,7 +45,7 @@ pub struct LogWriter {
     line: [u8; MAX_WRITTEN],
     /// The moment whose text the line begins with.
     moment: Option<Moment>,
-    ghost begins: { IfSome moment (λ m. take LEN line ≡ moment_text m) } by { Prim.hlevel props },
+    ghost begins: { IfSome moment (λ m. take millis_size line ≡ moment_text m) } by { Prim.hlevel props },
 }
 
 impl LogWriter {
@@ -76,7 +75,7 @@ impl LogWriter {
 
     /// Has the line begin with the text of a moment, as it may from the line before.
     fn begin(&mut self, moment: Moment)
-        ensures line { take LEN self.new.line ≡ moment_text moment }
+        ensures line { take millis_size self.new.line ≡ moment_text moment }
         ensures moment { self.new.moment ≡ Some moment }
     {
         let is_there = match &self.moment {
@@ -94,11 +93,11 @@ impl LogWriter {
 /// returns how many bytes they are.
 fn put_line(line: &mut [u8], reception: &Reception) -> usize
     requires line { length line.old ≡ MAX_WRITTEN }
-    requires begins { take LEN line.old ≡ moment_text reception.now.moment }
+    requires begins { take millis_size line.old ≡ moment_text reception.now.moment }
     ensures fits { result ≤ MAX_WRITTEN }
     ensures len { length line.new ≡ MAX_WRITTEN }
     ensures line { take result line.new ≡ written_line reception.now ++ 10 ∷ [] }
-    ensures back { length (written_line reception.now) ≤ MAX_LINE
+    ensures back { length (written_line reception.now) ≤ most_line
         → line_of (written_line reception.now) ≡ Ok (Line.Heard reception.now) }
 {
     written_laws();

@@ -14,8 +14,8 @@ lines-init g c = record {
   same_reference = refl;
   reads = subst (Calls Going c.args.r.now) (sym c.new-reader.ensures.source) (Calls-none _);
   writes = Calls-none _;
-  going = c.new-reader.ensures.going;
-  checked = λ end. Checked-none _ _ _ c.new-reader.ensures.first;
+  going = c.new-reader.ensures.starts.going;
+  checked = λ end. Checked-none _ _ _ c.new-reader.ensures.starts.first;
 }
 
 pub overflow_add-heard : goal.overflow_add-heard

@@ -14,7 +14,7 @@ lines-init g c = record {
   same_reference = refl;
   reads = subst (Calls Going c.args.r.now) (sym c.new-reader.ensures.source) (Calls-none _);
   writes = Calls-none _;
-  going = c.new-reader.ensures.going;
+  going = c.new-reader.ensures.starts.going;
   ran = λ end. Ran-none _ _ _;
 }
 
