@@ -11,12 +11,11 @@ use Rattle.aprs_laws.specs.Sound.{Sound}
 use Rattle.aprs_laws.specs.Witnesses.{witnesses}
 use Rattle.aprs_laws.specs.Joining.{Joined}
 use Rattle.aprs_laws.specs.JoinRow.{merge, interleave_from, interleave, coalesced}
-use Rattle.aprs_laws.proofs.Lists.{ordered_weaker}
+use Rattle.aprs_laws.proofs.Lists.{in_either, in_left, in_right, ordered_weaker}
 use Rattle.aprs_laws.proofs.Choices.{by_choice}
 use Rattle.aprs_laws.proofs.Books.{row_total, one_book}
-use Rattle.aprs_laws.proofs.Soundness.{witnessed}
 use Rattle.aprs_laws.proofs.Views.{joined_by_merge}
-use Rattle.aprs_laws.proofs.Streams.{streamed}
+use Rattle.aprs_laws.proofs.Coalescing.{coalesces_joined}
 
 -- the two ways in which rows lie
 row_compared : (y x : Row)
@@ -117,18 +116,15 @@ ascending gap rows s =
 pub one_pass : (gap : ℕ) → 0 < gap → (a b : List Row) → Sound gap a → Sound gap b
     → Joined gap a b (coalesced gap (interleave a b))
 one_pass gap pos a b v w =
-    stream (interleave a b) (interleave_ordered a b (ascending gap a v) (ascending gap b w))
-    (interleave_members a b) where
-      empty : (a b : List Row) → ((x : Row) → (x ∈ []) ↔ ((x ∈ a) ⊎ (x ∈ b))) → Sound gap a
-          → Sound gap b → Joined gap a b []
-      empty [] [] e v w = witnessed gap [] pos v
-      empty (x ∷ xs) b e v w = absurd ((e x).1 (inl (inl refl)))
-      empty [] (y ∷ ys) e v w = absurd ((e y).1 (inr (inl refl)))
-
-      stream : (rows : List Row) → Ordered (IsUpTo row_cmp) rows
-          → ((x : Row) → (x ∈ rows) ↔ ((x ∈ a) ⊎ (x ∈ b))) → Joined gap a b (coalesced gap rows)
-      stream [] o e = empty a b e v w
-      stream (l ∷ xs) o e = streamed gap pos a b l xs v w o e
+    coalesces_joined gap pos a b (interleave a b) v w
+    (λ x. let i = interleave_members a b x in (
+      λ h. i.1 (in_either x a b h),
+      λ h. elim (i.0 h) [
+        | inl k ↦ in_left x a b k
+        | inr k ↦ in_right x a b k
+      ],
+    ))
+    (interleave_ordered a b (ascending gap a v) (ascending gap b w))
 
 -- a joined value is what comes of the rows one after another, and so is that of the one pass
 pub joined_is_merge : (gap : ℕ) → 0 < gap → (a b c : List Row) → Sound gap a → Sound gap b

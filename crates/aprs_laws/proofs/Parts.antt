@@ -16,7 +16,7 @@ use Rattle.aprs_laws.proofs.Lists.{in_right}
 use Rattle.aprs_laws.proofs.Orders.{compared, key_total, key_exact}
 use Rattle.aprs_laws.proofs.Rows.{IsBefore, combined_key, combined_last}
 
-one_key : (x y : Row) → row_key x ≡ row_key y → key_cmp (row_key x) (row_key y) ≡ Equal
+pub one_key : (x y : Row) → row_key x ≡ row_key y → key_cmp (row_key x) (row_key y) ≡ Equal
 one_key x y e =
     subst (λ (k : Key). key_cmp (row_key x) k ≡ Equal) e (tied_itself key_total (row_key x))
 

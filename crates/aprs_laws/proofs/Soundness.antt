@@ -71,13 +71,13 @@ module _ (gap : ℕ) (x : Row) (w : IsSoundRow x) (pos : 0 < gap) where
       (in_map (witness_at x) m (moments x.first (last_of x - x.first + 1))
       (in_moments m x.first (last_of x - x.first + 1) l (omega arith)))
 
-  has_witness_by : (r : List ℕ) → r ∈ x.receivers → witness_by x r ∈ witnesses_of_row x
+  pub has_witness_by : (r : List ℕ) → r ∈ x.receivers → witness_by x r ∈ witnesses_of_row x
   has_witness_by r h =
       in_right (witness_by x r) (map (witness_at x) (moments x.first (last_of x - x.first + 1)))
       (map (witness_by x) x.receivers) (in_map (witness_by x) r x.receivers h)
 
   -- each witness is one of these
-  from_witness : (P : Heard → Type 0) → ((m : ℕ) → x.first ≤ m → m ≤ last_of x → P (witness_at x m))
+  pub from_witness : (P : Heard → Type 0) → ((m : ℕ) → x.first ≤ m → m ≤ last_of x → P (witness_at x m))
       → ((r : List ℕ) → r ∈ x.receivers → P (witness_by x r)) → (s : Heard) → s ∈ witnesses_of_row x
       → P s
   from_witness P f g s h =

@@ -1,6 +1,6 @@
 -- Merging in one pass: rows that come by key and first moment, from any number of books, join only
 -- the last one so far.
-use Rattle.std.proofs.Common.{◌≡◌, ℕ, ◌<◌, ◌≤◌, min, List, [], ◌∷◌, ◌++◌, ◌⊎◌, ◌↔◌, inl, inr, sym, refl, ap, ◌∙◌, subst, arith, false}
+use Rattle.std.proofs.Common.{◌≡◌, ℕ, ◌≤◌, min, List, [], ◌∷◌, ◌++◌, ◌↔◌, inl, inr, sym, refl, ap, ◌∙◌, subst, arith, false}
 use Rattle.std.proofs.lemmas.Bool.Decides.{nat_tests}
 use Rattle.std.specs.Ordering.{nat_cmp, ordering_then, ordering_reverse, is_gt}
 use Rattle.std.specs.declared.cmp.Ordering.{Ordering}
@@ -10,16 +10,13 @@ use Rattle.aprs_laws.specs.Lists.{◌∈◌, Ordered}
 use Rattle.aprs_laws.specs.Order.{IsUpTo}
 use Rattle.aprs_laws.specs.Key.{Key, key_cmp}
 use Rattle.aprs_laws.specs.Row.{Row, row_key, row_cmp}
-use Rattle.aprs_laws.specs.Sound.{IsSoundRow, Sound}
 use Rattle.aprs_laws.specs.Witnesses.{witnesses_of_row, witnesses}
-use Rattle.aprs_laws.specs.Joining.{Joined}
 use Rattle.aprs_laws.specs.JoinRow.{combine, place, coalesce}
 use Rattle.aprs_laws.proofs.Lists.{in_left, in_right, in_either}
 use Rattle.aprs_laws.proofs.Choices.{by_choice}
 use Rattle.aprs_laws.proofs.Rows.{Makes, IsBefore, combined, combined_key, combines, place_means, before_combined}
 use Rattle.aprs_laws.proofs.Made.{IsUnion, Made, span}
-use Rattle.aprs_laws.proofs.Books.{below, row_total, book_of_keeps, book_carries}
-use Rattle.aprs_laws.proofs.Soundness.{witnesses_made}
+use Rattle.aprs_laws.proofs.Books.{below, row_total}
 use Rattle.aprs_laws.proofs.Parts.{before_up_to}
 
 -- U = L + (X + T) is (L + X) + T
@@ -53,13 +50,13 @@ made_coalesce gap U L T l (x ∷ xs) u ml m =
     (combined gap L m.0 l x (combine l x) ml m.3 n (combines gap L m.0 l x n.key ml m.3)) m.4)
     (λ _. (L, T, u, ml, made_coalesce gap T m.0 m.1 x xs m.2 m.3 m.4))
 
-down : (a c : ℕ) → is_gt (nat_cmp a c) ≡ false → a ≤ c
+pub down : (a c : ℕ) → is_gt (nat_cmp a c) ≡ false → a ≤ c
 down a c u = grind (arith, nat_tests)
 
 up : (a c : ℕ) → a ≤ c → is_gt (nat_cmp a c) ≡ false
 up a c l = grind (arith, nat_tests)
 
-combined_up_to : (l x y : Row) → row_key l ≡ row_key x → IsUpTo row_cmp l y
+pub combined_up_to : (l x y : Row) → row_key l ≡ row_key x → IsUpTo row_cmp l y
     → IsUpTo row_cmp (combine l x) y
 combined_up_to l x y e u =
     subst
@@ -137,33 +134,3 @@ in_witnesses (x ∷ xs) s = (
     | inr k ↦ in_right s (witnesses_of_row x) (witnesses xs) ((in_witnesses xs s).1 (t.0, k, t.2))
   ],
 )
-
--- one pass over rows in the order of key and first moment, which are those of a and of b
-pub streamed : (gap : ℕ) → 0 < gap → (a b : List Row) (l : Row) (xs : List Row) → Sound gap a
-    → Sound gap b → Ordered (IsUpTo row_cmp) (l ∷ xs)
-    → ((x : Row) → (x ∈ (l ∷ xs)) ↔ ((x ∈ a) ⊎ (x ∈ b))) → Joined gap a b (coalesce gap l xs)
-streamed gap pos a b l xs v w o e =
-    book_carries gap (witnesses (l ∷ xs)) (witnesses a ++ witnesses b) (coalesce gap l xs) same
-    (book_of_keeps gap (witnesses (l ∷ xs)) (coalesce gap l xs) (record {
-      made = made_coalesce gap (witnesses (l ∷ xs)) m.0 m.1 l xs m.2 m.3 m.4;
-      ordered = ordered_coalesce gap m.0 m.1 l xs m.3 m.4 o.0 o.1;
-    })) where
-      each : (x : Row) → x ∈ (l ∷ xs) → IsSoundRow x
-      each x h = elim ((e x).0 h) [ inl k ↦ v.each x k | inr k ↦ w.each x k ]
-
-      m : Made gap (witnesses (l ∷ xs)) (l ∷ xs)
-      m = witnesses_made gap pos (l ∷ xs) each
-
-      same : (s : Heard) → (s ∈ witnesses (l ∷ xs)) ↔ (s ∈ (witnesses a ++ witnesses b))
-      same s = (
-        λ h. let t = (in_witnesses (l ∷ xs) s).0 h in elim ((e t.0).0 t.1) [
-          | inl k ↦ in_left s (witnesses a) (witnesses b) ((in_witnesses a s).1 (t.0, k, t.2))
-          | inr k ↦ in_right s (witnesses a) (witnesses b) ((in_witnesses b s).1 (t.0, k, t.2))
-        ],
-        λ h. elim (in_either s (witnesses a) (witnesses b) h) [
-          | inl k ↦ let t =
-              (in_witnesses a s).0 k in (in_witnesses (l ∷ xs) s).1 (t.0, (e t.0).1 (inl t.1), t.2)
-          | inr k ↦ let t =
-              (in_witnesses b s).0 k in (in_witnesses (l ∷ xs) s).1 (t.0, (e t.0).1 (inr t.1), t.2)
-        ],
-      )

@@ -2,7 +2,7 @@
 use Rattle.std.proofs.Common.{◌≡◌, ℕ, ◌<◌, ◌≤◌, List, [], ◌∷◌, ◌++◌, ap, arith}
 use Rattle.std.specs.Ordering.{is_gt}
 use Rattle.aprs_log.specs.Reception.{Heard}
-use Rattle.aprs_laws.specs.Lists.{Ordered}
+use Rattle.aprs_laws.specs.Lists.{SameMembers}
 use Rattle.aprs_laws.specs.Order.{IsBelow, IsUpTo}
 use Rattle.aprs_laws.specs.Row.{Row, row_cmp}
 use Rattle.aprs_laws.specs.Book.{BookOf}
@@ -10,13 +10,14 @@ use Rattle.aprs_laws.specs.Sound.{Sound}
 use Rattle.aprs_laws.specs.Witnesses.{witnesses}
 use Rattle.aprs_laws.specs.Joining.{Joined}
 use Rattle.aprs_laws.specs.JoinRow.{coalesced}
+use Rattle.aprs_laws.specs.Coalescing.{AreInOrder}
 use Rattle.aprs_laws.specs.Widening.{widened}
 use Rattle.aprs_laws.proofs.Lists.{ordered_weaker}
 use Rattle.aprs_laws.proofs.Rows.{Makes}
-use Rattle.aprs_laws.proofs.Made.{Made, Keeps}
-use Rattle.aprs_laws.proofs.Books.{book_of_keeps, keeps_of_book, one_book}
+use Rattle.aprs_laws.proofs.Made.{Made}
+use Rattle.aprs_laws.proofs.Books.{keeps_of_book, one_book}
 use Rattle.aprs_laws.proofs.Soundness.{sound, witnessed}
-use Rattle.aprs_laws.proofs.Streams.{made_coalesce, ordered_coalesce}
+use Rattle.aprs_laws.proofs.Coalescing.{books_stand, coalesces_book, made_is_book}
 use Rattle.aprs_laws.proofs.RunRows.{union_is_joined}
 
 -- what is linked under a gap is linked under a greater one
@@ -36,22 +37,12 @@ made_wider g h S [] l m = m
 made_wider g h S (x ∷ xs) l m =
     (m.0, m.1, m.2, makes_wider g h m.0 x l m.3, made_wider g h m.1 xs l m.4)
 
--- rows that are made of S in order of key and first moment, joined in one pass
-keeps_coalesced : (gap : ℕ) (S : List Heard) (rows : List Row) → Made gap S rows
-    → Ordered (IsUpTo row_cmp) rows → Keeps gap S (coalesced gap rows)
-keeps_coalesced gap S [] m o = record { made = m; ordered = tt }
-keeps_coalesced gap S (x ∷ xs) m o = record {
-  made = made_coalesce gap S m.0 m.1 x xs m.2 m.3 m.4;
-  ordered = ordered_coalesce gap m.0 m.1 x xs m.3 m.4 o.0 o.1;
-}
-
 pub widens_book : (g h : ℕ) (S : List Heard) (rows : List Row) → g ≤ h → BookOf g S rows
     → BookOf h S (widened h rows)
 widens_book g h S rows l b =
-    book_of_keeps h S (coalesced h rows)
-    (keeps_coalesced h S rows (made_wider g h S rows l (keeps_of_book g S rows b).made)
+    made_is_book h S rows (made_wider g h S rows l (keeps_of_book g S rows b).made)
     (ordered_weaker (IsBelow row_cmp) (IsUpTo row_cmp) rows (λ x y hx hy e. ap is_gt e)
-    b.ascending))
+    b.ascending)
 
 -- sound rows are the book of their witnesses
 pub widens_witnesses : (g h : ℕ) (rows : List Row) → 0 < g → g ≤ h → Sound g rows
@@ -83,3 +74,11 @@ widens_joined g h a b c pos l v w j =
     (widened h c)
     (widens_witnesses g h a pos l v) (widens_witnesses g h b pos l w)).0
     (widens_book g h (witnesses a ++ witnesses b) c l j)
+
+-- rows of a book, put in order
+pub coalesces_wider : (g h : ℕ) (told rows : List Row) → 0 < g → g ≤ h → Sound g told
+    → SameMembers told rows → AreInOrder rows → coalesced h rows ≡ widened h told
+coalesces_wider g h told rows pos l w e o =
+    one_book h (witnesses told) (coalesced h rows) (widened h told)
+    (coalesces_book h (omega (arith, pos, l)) (witnesses told) told rows (books_stand g told w) e o)
+    (widens_witnesses g h told pos l w)

@@ -22,6 +22,7 @@ pub mod BestLaws
 pub mod Spans
 pub mod SpanLaws
 pub mod StepLaws
+pub mod Coalescing
 pub mod Widening
 pub mod BookValue
 pub mod Scaling

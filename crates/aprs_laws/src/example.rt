@@ -17,6 +17,7 @@ ghost use Rattle.aprs_laws.specs.BookValue.{Holds, IsSoundBook, HaveOneGap, AreJ
 ghost use Rattle.aprs_laws.specs.Taken.{taken, StepsFit};
 ghost use Rattle.aprs_laws.specs.Best.{IsBest, LastKnown, known_of};
 ghost use Rattle.aprs_laws.specs.JoinRow.{single, IsNear, interleave, coalesced, plain_book};
+ghost use Rattle.aprs_laws.specs.Coalescing.{AreInOrder, StandFor, appended};
 ghost use Rattle.aprs_laws.specs.Merged.{merged};
 ghost use Rattle.aprs_laws.specs.Inserted.{inserted, FitsInPlace};
 ghost use Rattle.aprs_laws.specs.BestLaws.{Passes};
@@ -229,4 +230,23 @@ pub fn rows_are_near_up_to_the_gap()
     ensures misses_receiver { FitsInPlace half_minute (early_row ∷ []) (by_rx1 10) → ⊥ }
     ensures misses_two { FitsInPlace half_minute (early_row ∷ late_row ∷ [])
         (heard 10 rx2 direct) → ⊥ }
+{}
+
+/// Rows in order join the last so far or come after it, whatever book or log each is of. In another
+/// order that gives no book.
+pub fn rows_in_order_are_one_book()
+    ensures in_order { AreInOrder (early_row ∷ row_at 0 ∷ late_row ∷ []) }
+    ensures misses_later_first { AreInOrder (late_row ∷ early_row ∷ []) → ⊥ }
+    ensures inside { coalesced half_minute
+        (row_to 0 60000 ∷ row_at 10 ∷ row_at 90000 ∷ row_at 120001 ∷ [])
+        ≡ row_to 0 90000 ∷ row_at 120001 ∷ [] }
+    ensures tied { coalesced half_minute (early_row ∷ row_at 0 ∷ []) ≡ tied_row ∷ [] }
+    ensures misses_order { coalesced half_minute (row_at 30001 ∷ row_at 0 ∷ [])
+        ≡ row_at 0 ∷ row_at 30001 ∷ [] → ⊥ }
+    ensures appended { appended half_minute (row_at 0 ∷ row_at 60001 ∷ []) (row_at 90001)
+        ≡ row_at 0 ∷ row_to 60001 90001 ∷ [] }
+    ensures misses_bridge { appended half_minute (row_at 0 ∷ row_at 60001 ∷ []) (row_at 30000)
+        ≡ row_at 0 ∷ row_at 30000 ∷ row_at 60001 ∷ [] → ⊥ }
+    ensures stands { StandFor (early_row ∷ []) (early ∷ []) }
+    ensures misses_witness { StandFor (short_row ∷ []) (by_rx1 1 ∷ []) → ⊥ }
 {}

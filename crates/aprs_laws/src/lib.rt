@@ -24,9 +24,9 @@ pub use example::{
     books_are_whole, books_have_gaps, copies_have_one_key, gaps_are_of_seconds, gaps_decide_rows,
     gaps_decide_what_is_inserted, greatest_is_last_known, joined_books_are_books, joins_take_both,
     merges_take_what_is_there, real_receptions_are_few, receivers_ascend,
-    rows_are_near_up_to_the_gap, rows_are_whole, runs_are_maximal, sets_and_orders,
-    soundness_is_seen_in_rows, sources_are_ordered_first, ties_go_by_receiver_then_frame,
-    units_scale_gaps_too, wider_gaps_join_rows,
+    rows_are_near_up_to_the_gap, rows_are_whole, rows_in_order_are_one_book, runs_are_maximal,
+    sets_and_orders, soundness_is_seen_in_rows, sources_are_ordered_first,
+    ties_go_by_receiver_then_frame, units_scale_gaps_too, wider_gaps_join_rows,
 };
 pub use gap::Gap;
 pub use gap_law::{books_can_be_widened, gaps_can_be_widened, gaps_cannot_be_narrowed};
@@ -37,8 +37,8 @@ pub use merge_fault::MergeFault;
 pub use order_law::{equals_are_identical, orders_are_total};
 pub use row_cause::RowCause;
 pub use step_law::{
-    last_row_decides, one_more_joins, one_pass_joins, reception_is_inserted, steps_give_books,
-    two_rows_are_near_at_most,
+    last_row_decides, one_more_joins, one_pass_joins, reception_is_inserted,
+    rows_in_order_coalesce, steps_give_books, two_rows_are_near_at_most,
 };
 pub use unit_law::units_can_change;
 pub use widen_fault::WidenFault;

@@ -1,5 +1,6 @@
 //! Laws of the step that books are made with.
 ghost use Rattle.std.specs.Prelude.{ℕ, ◌<◌};
+ghost use Rattle.aprs_laws.specs.Coalescing.{BooksStand, CoalescesBook, CoalescesJoined, CoalescesOneByOne, CoalescesReceptions, CoalescesWider, CoalescesWitnesses, JoinsLast, SinglesStand, UnionsStand};
 ghost use Rattle.aprs_laws.specs.StepLaws.{PlainBookIsBook, TakesReception, InsertsReception, FitsByTest, OnlyNextFollows, TakesRow, TakesRows, AtMostTwoAreNear, OnePassJoins, StepsGiveBooks, SameTakenSameRows};
 
 /// One more row that joins a book gives the book of the union.
@@ -38,4 +39,20 @@ pub fn one_pass_joins()
 pub fn steps_give_books()
     ensures books { (gap : ℕ) → StepsGiveBooks gap }
     ensures equal { (gap : ℕ) → SameTakenSameRows gap }
+{}
+
+/// Rows in order of key and first moment, each sound by itself, become the book of what they stand
+/// for where each joins the one before it that it is near to. So one pass over the rows of any books
+/// and over receptions, put in order, gives the book of all.
+pub fn rows_in_order_coalesce()
+    ensures witnesses { (gap : ℕ) → 0 < gap → CoalescesWitnesses gap }
+    ensures book { (gap : ℕ) → 0 < gap → CoalescesBook gap }
+    ensures singles { SinglesStand }
+    ensures books { BooksStand }
+    ensures unions { UnionsStand }
+    ensures receptions { (gap : ℕ) → CoalescesReceptions gap }
+    ensures joined { (gap : ℕ) → 0 < gap → CoalescesJoined gap }
+    ensures wider { CoalescesWider }
+    ensures one_by_one { (gap : ℕ) → CoalescesOneByOne gap }
+    ensures last { (gap : ℕ) → JoinsLast gap }
 {}
