@@ -1,5 +1,5 @@
 //! Names of receivers in ascending order.
-ghost use Rattle.std.specs.Prelude.{◌≡◌, ℕ, ◌+◌, ◌≤◌, List, [], ◌++◌, length, insert, IsOk, OnOk, OnErr, IfOk, MatchResult, vec_len, vec_capacity};
+ghost use Rattle.std.specs.Prelude.{◌≡◌, ℕ, ◌+◌, ◌≤◌, List, [], ◌∷◌, ◌++◌, length, insert, IsOk, OnOk, OnErr, IfOk, MatchResult, vec_len, vec_capacity};
 ghost use Rattle.aprs_log.specs.Reception.{bytes_cmp};
 ghost use Rattle.aprs_laws.specs.Lists.{◌∈◌, Ordered};
 ghost use Rattle.aprs_laws.specs.Order.{IsBelow};
@@ -58,6 +58,7 @@ impl<A: Allocator + Copy> Receivers<A> {
     /// Puts a name in its place. Where it is there already, that takes no memory. After `Memory`
     /// the names are as before.
     pub fn add(&mut self, name: &Receiver) -> Result<(), Memory>
+        ensures joined { OnOk result (IsUnited bytes_cmp (name.now ∷ []) self.old self.new) }
         ensures added { OnOk result (self.new ≡ add bytes_cmp name.now self.old) }
         ensures unchanged { OnErr result (self.new ≡ self.old) }
         ensures listed { name.now ∈ self.old → IsOk result }
