@@ -8,7 +8,8 @@ ghost use Rattle.aprs_ax25.specs.CallText.{CallText, FirstCallFault};
 ghost use Rattle.aprs_ax25.specs.Frame.{FrameOf, spelling};
 ghost use Rattle.aprs_ax25.specs.FrameFault.{frame_fault, parts_of};
 ghost use Rattle.aprs_ax25.specs.Making.{made_parts, hop_address, make_fault};
-ghost use Rattle.aprs_ax25.specs.Examples.{callsign, nj7p, n7lem, n7oo, to_nj7p, from_n7lem, by_n7oo};
+ghost use Rattle.aprs_ax25.specs.Examples.{callsign, nj7p, n7lem, n7oo, to_nj7p, from_n7lem};
+ghost use Rattle.aprs_ax25.specs.Examples.{by_n7oo};
 ghost use Rattle.aprs_ax25.specs.Examples.{said, direct_field, direct, repeated, parts_through};
 ghost use Rattle.aprs_ax25.specs.Examples.{through_n7oo, field_through, letters_a};
 

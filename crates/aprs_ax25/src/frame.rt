@@ -187,8 +187,8 @@ impl Frame {
     }
 
     /// Where there is a digipeater number i, counted as by `hop`, puts the text of its callsign at
-    /// the end, at most 9 bytes, and returns whether it has repeated the frame. Takes no memory. For
-    /// the crates of this repository.
+    /// the end, at most 9 bytes, and returns whether it has repeated the frame. Takes no memory.
+    /// For the crates of this repository.
     pub fn push_hop_text<const N: usize>(&self, i: usize, out: &mut ArrayVec<u8, N>) -> Option<bool>
         requires room { array_vec_len out.old + 9 ≤ N }
         ensures repeated { result
