@@ -69,7 +69,7 @@ impl<A: Allocator + Copy> Receivers<A> {
         }
     }
 
-    /// The names of both, which stay as they are.
+    /// The names of both, which stay as they are. For the crates of this repository.
     pub fn unite(&self, other: &Receivers<A>) -> Result<Receivers<A>, Memory>
         ensures union { IfOk result (λ both. both ≡ union bytes_cmp self.now other.now) }
         ensures joined { IfOk result (IsUnited bytes_cmp self.now other.now) }
@@ -88,7 +88,7 @@ impl<A: Allocator + Copy> Receivers<A> {
         })
     }
 
-    /// These names, which have to ascend strictly.
+    /// These names, which have to ascend strictly. For the crates of this repository.
     pub fn of_ascending(alloc: A, ascending: &[Receiver]) -> Result<Receivers<A>, Memory>
         requires { Ordered (IsBelow bytes_cmp) ascending.now }
         ensures { IfOk result (λ names. names ≡ ascending.now) }
@@ -108,7 +108,7 @@ impl<A: Allocator + Copy> Receivers<A> {
         })
     }
 
-    /// The same names again.
+    /// The same names again. For the crates of this repository.
     pub fn duplicate(&self) -> Result<Receivers<A>, Memory>
         ensures { IfOk result (λ copy. copy ≡ self.now) }
     {

@@ -3,7 +3,7 @@ use Rattle.aprs_laws.specs.Gap.{millis_of}
 use Rattle.aprs_book.specs.Refusal.{refusal}
 use Rattle.aprs_book.proofs.Refusals.{Answers}
 use Rattle.aprs_book.proofs.RowsFaults.{fault_of_push, faultless}
-use Rattle.aprs_book.proofs.from_parts.from_rows.Goals as goal
+use Rattle.aprs_book.proofs.from_parts.push_rows.Goals as goal
 
 pub returns-in-Err-clause-fault : goal.returns-in-Err-clause-fault
 returns-in-Err-clause-fault g c =
