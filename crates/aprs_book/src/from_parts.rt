@@ -38,16 +38,15 @@ pub fn from_rows<A: Allocator + Copy>(
 
 /// Pushes these rows onto an empty book, one after another, up to the first that is refused: then
 /// the book has those before it.
-fn push_rows<A: Allocator + Copy>(
-    book: &mut Book<A>,
-    rows: &[RowParts<A>],
-) -> Result<(), RowsFault>
+fn push_rows<A: Allocator + Copy>(book: &mut Book<A>, rows: &[RowParts<A>]) -> Result<(), RowsFault>
     requires { book.old.rows ≡ [] }
     ensures gap { book.new.gap ≡ book.old.gap }
     ensures rows { OnOk result (book.new.rows ≡ rows.now) }
     ensures sound { OnOk result (Sound (millis_of book.old.gap) rows.now) }
     ensures place { IfErr result (λ f. f.place < length rows.now) }
     ensures reached { IfErr result (λ f. book.new.rows ≡ take f.place rows.now) }
+    ensures memory { Sound (millis_of book.old.gap) rows.now
+        → IfErr result (λ f. f.cause ≡ RowCause.Memory) }
     ensures fault { IfErr result (IsRowsFault (millis_of book.old.gap) rows.now) }
 {
     for (place, row) in rows.iter().enumerate() {
