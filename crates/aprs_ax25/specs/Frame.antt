@@ -2,7 +2,6 @@
 use Rattle.std.specs.Prelude.{◌≡◌, ℕ, ◌<◌, ◌≤◌, List, [], ◌∷◌, ◌++◌, length}
 use Rattle.std.specs.List.{AllByRecursion}
 use Rattle.aprs_ax25.specs.Address.{Address, IsAddress, address_octets}
-use Rattle.aprs_ax25.specs.declared.scan.TheConstants.{CONTROL_UI, PID_NONE}
 
 -- The parts of a frame.
 pub record Parts : Type 0 where
@@ -17,12 +16,20 @@ address_field [] = []
 address_field (last ∷ []) = address_octets 1 last
 address_field (first ∷ next ∷ more) = address_octets 0 first ++ address_field (next ∷ more)
 
+-- The control octet of a UI frame without poll.
+abbrev pub control_ui : ℕ
+control_ui = 0x03
+
+-- The PID octet of no layer 3 protocol.
+abbrev pub pid_none : ℕ
+pid_none = 0xF0
+
 -- The bytes of a frame: the address field, control 03 (UI), PID F0 (no layer 3) and the
 -- information.
 abbrev pub spelling : Parts → List ℕ
 spelling parts =
     address_field (parts.destination ∷ parts.source ∷ parts.digipeaters)
-    ++ CONTROL_UI ∷ PID_NONE ∷ parts.info
+    ++ control_ui ∷ pid_none ∷ parts.info
 
 -- A frame may have these parts: at most 8 digipeaters, and 1 to 256 bytes of information.
 pub record IsParts (parts : Parts) : Type 0 where

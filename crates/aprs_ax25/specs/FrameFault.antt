@@ -5,8 +5,7 @@ use Rattle.std.specs.Prelude.{Ok, Err, suc, zero}
 use Rattle.std.specs.List.{list_all, find, position_or_len}
 use Rattle.aprs_ax25.specs.Callsign.{Call, is_callsign_byte}
 use Rattle.aprs_ax25.specs.Address.{Address}
-use Rattle.aprs_ax25.specs.Frame.{Parts}
-use Rattle.aprs_ax25.specs.declared.scan.TheConstants.{CONTROL_UI, PID_NONE}
+use Rattle.aprs_ax25.specs.Frame.{Parts, control_ui, pid_none}
 use Rattle.aprs_ax25.specs.declared.fault.FrameFault.{FrameFault}
 use Rattle.aprs_ax25.specs.declared.fault.FrameFault.TheVariants.{Address as AddressFault, Callsign}
 use Rattle.aprs_ax25.specs.declared.fault.FrameFault.TheVariants.{Control, Pid, NoInfo, LongInfo}
@@ -65,8 +64,8 @@ abbrev pub is_wrong : FrameFault → List ℕ → Bool
 is_wrong AddressFault bytes =
     not (nat_le (field_len bytes) (length bytes) && is_field_len (field_len bytes))
 is_wrong Callsign bytes = not (list_all has_callsign (addresses bytes))
-is_wrong Control bytes = not (slice_index (after_field bytes) 0 == CONTROL_UI)
-is_wrong Pid bytes = not (slice_index (after_field bytes) 1 == PID_NONE)
+is_wrong Control bytes = not (slice_index (after_field bytes) 0 == control_ui)
+is_wrong Pid bytes = not (slice_index (after_field bytes) 1 == pid_none)
 is_wrong NoInfo bytes = nat_le (length (after_field bytes)) 2
 is_wrong LongInfo bytes = nat_lt 258 (length (after_field bytes))
 

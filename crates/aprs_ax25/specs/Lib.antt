@@ -9,5 +9,6 @@ pub mod Scan
 pub mod Plain
 pub mod Laws
 pub mod Hop
+pub mod Examples
 pub mod CallText
 pub mod Making

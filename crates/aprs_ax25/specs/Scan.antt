@@ -9,8 +9,8 @@ use Rattle.aprs_ax25.specs.CallText.{before_dash, from_dash}
 use Rattle.aprs_ax25.specs.declared.fault.CallFault.{CallFault}
 use Rattle.aprs_ax25.specs.declared.fault.CallFault.TheVariants.{Length, Character, Ssid}
 use Rattle.std.specs.Borrow.{Bor}
+use Rattle.aprs_ax25.specs.Frame.{control_ui, pid_none}
 use Rattle.aprs_ax25.specs.FrameFault.{field_of, after_field, is_wrong}
-use Rattle.aprs_ax25.specs.declared.scan.TheConstants.{CONTROL_UI, PID_NONE}
 use Rattle.aprs_ax25.specs.declared.fault.FrameFault.{FrameFault}
 use Rattle.aprs_ax25.specs.declared.fault.FrameFault.TheVariants.{Address, Control, Pid, NoInfo}
 use Rattle.aprs_ax25.specs.declared.fault.FrameFault.TheVariants.{LongInfo}
@@ -29,8 +29,8 @@ fault_of_info len = if len == 0 then Some NoInfo
 -- The first fault of what stands after the address field.
 abbrev pub fault_after_field : List ℕ → Option FrameFault
 fault_after_field rest =
-    if not (slice_index rest 0 == CONTROL_UI) then Some Control
-    else (if not (slice_index rest 1 == PID_NONE) then Some Pid
+    if not (slice_index rest 0 == control_ui) then Some Control
+    else (if not (slice_index rest 1 == pid_none) then Some Pid
     else (if nat_le (length rest) 2 then Some NoInfo
     else (if nat_lt 258 (length rest) then Some LongInfo else None)))
 

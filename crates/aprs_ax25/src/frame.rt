@@ -69,7 +69,7 @@ impl Frame {
     }
 
     /// Reads the frame that is all the bytes in the place of this one, or returns the first fault
-    /// as `read` does, and then this one stays. Takes no memory.
+    /// as `read` does, and then this one stays. Takes no memory. For the crates of this repository.
     pub fn reread(&mut self, bytes: &[u8]) -> Result<(), FrameFault>
         ensures read { OnOk result (frame_of bytes.now ≡ Ok self.new) }
         ensures fault { IfErr result (λ fault. frame_of bytes.now ≡ Err fault) }
@@ -145,7 +145,7 @@ impl Frame {
     pub fn bytes(&self) -> &[u8]
         ensures value { result.now ≡ self.now }
         ensures frame { FrameOf (parts_of self.now) self.now }
-        ensures most { length result.now ≤ MAX_UI_FRAME }
+        ensures most { length result.now ≤ 328 }
     {
         self.bytes.as_slice()
     }
@@ -166,7 +166,7 @@ impl Frame {
     }
 
     /// Puts the source's text at the end, as `source` and `Callsign::text` give it: at most 9
-    /// bytes. Takes no memory.
+    /// bytes. Takes no memory. For the crates of this repository.
     pub fn push_source_text<const N: usize>(&self, out: &mut ArrayVec<u8, N>)
         requires room { array_vec_len out.old + 9 ≤ N }
         ensures text { out.new.items ≡ out.old.items ++ call_text (parts_of self.now).source.call }
@@ -175,7 +175,8 @@ impl Frame {
         push_text_at(out, seven_at(&self.bytes, 7));
     }
 
-    /// Puts the destination's text at the end: at most 9 bytes. Takes no memory.
+    /// Puts the destination's text at the end: at most 9 bytes. Takes no memory. For the crates of
+    /// this repository.
     pub fn push_destination_text<const N: usize>(&self, out: &mut ArrayVec<u8, N>)
         requires room { array_vec_len out.old + 9 ≤ N }
         ensures text { out.new.items ≡ out.old.items
@@ -187,6 +188,7 @@ impl Frame {
 
     /// Where there is a digipeater number i, counted as by `hop`, puts the text of its callsign at
     /// the end, at most 9 bytes, and returns whether it has repeated the frame. Takes no memory.
+    /// For the crates of this repository.
     pub fn push_hop_text<const N: usize>(&self, i: usize, out: &mut ArrayVec<u8, N>) -> Option<bool>
         requires room { array_vec_len out.old + 9 ≤ N }
         ensures repeated { result

@@ -2,6 +2,7 @@
 #![tactic(auto)]
 
 mod callsign;
+mod examples;
 mod fault;
 mod frame;
 mod hop;
@@ -10,6 +11,10 @@ mod plain;
 mod scan;
 
 pub use callsign::Callsign;
+pub use examples::{
+    callsigns_have_texts, frames_are_as_the_standard_shows_them, frames_are_made_as_commands,
+    frames_have_limits,
+};
 pub use fault::{CallFault, FrameFault, MakeFault};
 pub use frame::Frame;
 pub use hop::Hop;

@@ -1,5 +1,5 @@
 //! A book made of many rows.
-ghost use Rattle.std.specs.Prelude.{◌≡◌, ℕ, IsOk, IfOk, IfErr};
+ghost use Rattle.std.specs.Prelude.{◌≡◌, ◌<◌, ℕ, [], length, take, IsOk, IfOk, IfErr, OnOk};
 ghost use Rattle.aprs_laws.specs.Gap.{millis_of};
 ghost use Rattle.aprs_laws.specs.Sound.{Sound};
 ghost use Rattle.aprs_book.specs.RowsFault.{IsRowsFault, AreSoundOrFaulty, SoundRowsAreFaultless, HaveOneFaultAtMost};
@@ -32,12 +32,29 @@ pub fn from_rows<A: Allocator + Copy>(
     ensures fault { IfErr result (IsRowsFault (millis_of gap) rows.now) }
 {
     let mut book = Book::with_gap(alloc, gap);
+    push_rows(&mut book, rows)?;
+    Ok(book)
+}
+
+/// Pushes these rows onto an empty book, one after another, up to the first that is refused: then
+/// the book has those before it.
+fn push_rows<A: Allocator + Copy>(book: &mut Book<A>, rows: &[RowParts<A>]) -> Result<(), RowsFault>
+    requires { book.old.rows ≡ [] }
+    ensures gap { book.new.gap ≡ book.old.gap }
+    ensures rows { OnOk result (book.new.rows ≡ rows.now) }
+    ensures sound { OnOk result (Sound (millis_of book.old.gap) rows.now) }
+    ensures place { IfErr result (λ f. f.place < length rows.now) }
+    ensures reached { IfErr result (λ f. book.new.rows ≡ take f.place rows.now) }
+    ensures memory { Sound (millis_of book.old.gap) rows.now
+        → IfErr result (λ f. f.cause ≡ RowCause.Memory) }
+    ensures fault { IfErr result (IsRowsFault (millis_of book.old.gap) rows.now) }
+{
     for (place, row) in rows.iter().enumerate() {
         if let Err(cause) = book.push_row(row) {
             return Err(RowsFault { place, cause });
         }
     }
-    Ok(book)
+    Ok(())
 }
 
 /// Rows that aren't sound have exactly one fault that isn't of memory: the first row that a cause

@@ -22,7 +22,8 @@ use std::collections::BTreeMap;
 use std::marker::Model;
 
 /// The rows of a book one after another, and what is last known: what a listing shows. A row isn't
-/// found by its key in it, so that it takes rows faster than a book does.
+/// found by its key in it, so that it takes rows faster than a book does. For the crates of this
+/// repository.
 pub struct RowList<A: Allocator = Global> {
     gap: Gap,
     rows: Vec<KeptRow<A>, A>,

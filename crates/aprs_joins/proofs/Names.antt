@@ -7,9 +7,11 @@ use Rattle.aprs_log.specs.Reception.{bytes_cmp}
 use Rattle.aprs_laws.specs.Lists.{◌∈◌, Ordered}
 use Rattle.aprs_laws.specs.Order.{IsBelow}
 use Rattle.aprs_laws.specs.JoinRow.{add}
+use Rattle.aprs_laws.specs.Joining.{IsUnited}
 use Rattle.aprs_laws.specs.Merged.{merged}
 use Rattle.aprs_laws.proofs.Orders.{bytes_total, bytes_exact}
 use Rattle.aprs_laws.proofs.Choices.{add_listed, add_ordered}
+use Rattle.aprs_laws.proofs.Merges.{merged_is_united, merged_is_union}
 
 merged-nil : (xs : List (List ℕ)) → merged bytes_cmp xs [] ≡ xs
 merged-nil [] = refl
@@ -37,3 +39,21 @@ kept_ordered (Ok _) name names new i o e f g =
     subst (Ordered (IsBelow bytes_cmp)) (e ∙ sym f)
     (add_ordered bytes_total bytes_exact name names o)
 kept_ordered (Err _) name names new i o e f g = subst (Ordered (IsBelow bytes_cmp)) (sym g) o
+
+-- a name in its place among others is united with them
+pub added_is_united : (name : List ℕ) (names : List (List ℕ)) → Ordered (IsBelow bytes_cmp) names
+    → IsUnited bytes_cmp (name ∷ []) names (add bytes_cmp name names)
+added_is_united name names o =
+    let one : Ordered (IsBelow bytes_cmp) (name ∷ []) = (λ y h. absurd h, tt) in
+    subst (IsUnited bytes_cmp (name ∷ []) names)
+    (merged_is_union bytes_total bytes_exact (name ∷ []) names one o)
+    (merged_is_united bytes_total bytes_exact (name ∷ []) names one o)
+
+-- and so it is where it was put at that place, unless that failed
+pub inserted_joins : {U E : Type 0} (r : Result U E) (name : List ℕ)
+    (names new : List (List ℕ)) (i : ℕ) → Ordered (IsBelow bytes_cmp) names
+    → add bytes_cmp name names ≡ insert names i name → OnOk r (new ≡ insert names i name)
+    → OnOk r (IsUnited bytes_cmp (name ∷ []) names new)
+inserted_joins (Ok _) name names new i o e f =
+    subst (IsUnited bytes_cmp (name ∷ []) names) (e ∙ sym f) (added_is_united name names o)
+inserted_joins (Err _) name names new i o e f = tt

@@ -1,5 +1,5 @@
 //! Names of receivers in ascending order.
-ghost use Rattle.std.specs.Prelude.{◌≡◌, ℕ, ◌+◌, ◌≤◌, List, [], ◌++◌, length, insert, IsOk, OnOk, OnErr, IfOk, MatchResult, vec_len, vec_capacity};
+ghost use Rattle.std.specs.Prelude.{◌≡◌, ℕ, ◌+◌, ◌≤◌, List, [], ◌∷◌, ◌++◌, length, insert, IsOk, OnOk, OnErr, IfOk, MatchResult, vec_len, vec_capacity};
 ghost use Rattle.aprs_log.specs.Reception.{bytes_cmp};
 ghost use Rattle.aprs_laws.specs.Lists.{◌∈◌, Ordered};
 ghost use Rattle.aprs_laws.specs.Order.{IsBelow};
@@ -58,6 +58,7 @@ impl<A: Allocator + Copy> Receivers<A> {
     /// Puts a name in its place. Where it is there already, that takes no memory. After `Memory`
     /// the names are as before.
     pub fn add(&mut self, name: &Receiver) -> Result<(), Memory>
+        ensures joined { OnOk result (IsUnited bytes_cmp (name.now ∷ []) self.old self.new) }
         ensures added { OnOk result (self.new ≡ add bytes_cmp name.now self.old) }
         ensures unchanged { OnErr result (self.new ≡ self.old) }
         ensures listed { name.now ∈ self.old → IsOk result }
@@ -68,7 +69,7 @@ impl<A: Allocator + Copy> Receivers<A> {
         }
     }
 
-    /// The names of both, which stay as they are.
+    /// The names of both, which stay as they are. For the crates of this repository.
     pub fn unite(&self, other: &Receivers<A>) -> Result<Receivers<A>, Memory>
         ensures union { IfOk result (λ both. both ≡ union bytes_cmp self.now other.now) }
         ensures joined { IfOk result (IsUnited bytes_cmp self.now other.now) }
@@ -87,7 +88,7 @@ impl<A: Allocator + Copy> Receivers<A> {
         })
     }
 
-    /// These names, which have to ascend strictly.
+    /// These names, which have to ascend strictly. For the crates of this repository.
     pub fn of_ascending(alloc: A, ascending: &[Receiver]) -> Result<Receivers<A>, Memory>
         requires { Ordered (IsBelow bytes_cmp) ascending.now }
         ensures { IfOk result (λ names. names ≡ ascending.now) }
@@ -107,7 +108,7 @@ impl<A: Allocator + Copy> Receivers<A> {
         })
     }
 
-    /// The same names again.
+    /// The same names again. For the crates of this repository.
     pub fn duplicate(&self) -> Result<Receivers<A>, Memory>
         ensures { IfOk result (λ copy. copy ≡ self.now) }
     {

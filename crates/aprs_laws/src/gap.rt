@@ -1,6 +1,6 @@
 //! The gap inside a transmission.
 ghost use Rattle.std.specs.Prelude.{◌≡◌, ◌≤◌, SomeIff};
-ghost use Rattle.aprs_laws.specs.Gap.{IsGap};
+ghost use Rattle.aprs_laws.specs.Gap.{IsGap, standard_gap};
 
 use std::marker::Model;
 
@@ -47,5 +47,14 @@ impl Gap {
         ensures range { IsGap result }
     {
         self.seconds
+    }
+}
+
+/// The standard gap, of 30 seconds. Takes no memory.
+impl Default for Gap {
+    ghost is_default = { λ gap. gap ≡ standard_gap };
+
+    fn default() -> Gap {
+        Gap::STANDARD
     }
 }

@@ -7,17 +7,20 @@ use Rattle.aprs_report.specs.declared.coordinate.Axis.{Axis}
 use Rattle.aprs_report.specs.declared.coordinate.Axis.TheVariants.{Latitude, Longitude}
 use Rattle.aprs_report.specs.Bytes.{is_digit, is_space}
 use Rattle.aprs_report.specs.Numeral.{IsNumeral}
-use Rattle.aprs_report.specs.declared.coordinate.TheConstants.{PER_DEGREE}
 
 -- How many digits the degrees of an angle have.
 abbrev pub degree_digits : Axis → ℕ
 degree_digits Latitude = 2
 degree_digits Longitude = 3
 
+-- How many hundredths of minutes a degree has.
+abbrev pub per_degree : ℕ
+per_degree = 6000
+
 -- The greatest angle: 90 degrees of latitude, 180 of longitude.
 abbrev pub limit : Axis → ℕ
-limit Latitude = 90 * PER_DEGREE
-limit Longitude = 180 * PER_DEGREE
+limit Latitude = 90 * per_degree
+limit Longitude = 180 * per_degree
 
 -- The letter of the negative or the positive half: S or N, W or E.
 abbrev pub letter : Axis → Bool → ℕ
@@ -48,7 +51,7 @@ pub record IsMinutes (axis : Axis) (ambiguity minutes : ℕ) (places : List ℕ)
   pub blanks : list_all (is_blank axis) blank ≡ true
   pub count : length blank ≡ ambiguity
   pub value : minutes ≡ number * 10 ^ ambiguity
-  pub below : minutes < PER_DEGREE
+  pub below : minutes < per_degree
 
 -- The text MM.hh and the letter of the half.
 abbrev pub minutes_text : (tens units tenths hundredths half : ℕ) → List ℕ
@@ -68,7 +71,7 @@ pub record IsCoordinate (axis : Axis) (ambiguity : ℕ) (angle : ℤ) (text : Li
   pub width : length degree_text ≡ degree_digits axis
   pub at_degrees : IsNumeral 10 48 degrees degree_text
   pub at_minutes : IsMinutes axis ambiguity minutes (tens ∷ units ∷ tenths ∷ hundredths ∷ [])
-  pub within : degrees * PER_DEGREE + minutes ≤ limit axis
-  pub value : angle ≡ signed is_negative (degrees * PER_DEGREE + minutes)
+  pub within : degrees * per_degree + minutes ≤ limit axis
+  pub value : angle ≡ signed is_negative (degrees * per_degree + minutes)
   pub whole : text ≡
       degree_text ++ minutes_text tens units tenths hundredths (letter axis is_negative)

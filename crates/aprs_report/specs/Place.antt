@@ -2,14 +2,12 @@
 use Rattle.std.specs.Prelude.{◌≡◌, ℕ, ℤ, pos, ◌-ℤ◌, List, [], ◌∷◌, ◌++◌, length}
 use Rattle.aprs_report.specs.declared.symbol.Symbol.{Symbol}
 use Rattle.aprs_report.specs.declared.coordinate.Axis.TheVariants.{Latitude, Longitude}
-use Rattle.aprs_report.specs.declared.coordinate.TheConstants.{PER_DEGREE}
-use Rattle.aprs_report.specs.declared.place.TheConstants.{MIDDLE, LATITUDE_PARTS, LONGITUDE_PARTS}
 use Rattle.aprs_report.specs.declared.place.Place.{Place}
 use Rattle.aprs_report.specs.declared.place.Place.TheVariants.{Plain, Base91}
 use Rattle.aprs_report.specs.declared.place.Fraction.{Fraction}
 use Rattle.aprs_report.specs.Symbol.{IsSymbol, compressed_table}
-use Rattle.aprs_report.specs.Coordinate.{IsCoordinate}
-use Rattle.aprs_report.specs.Compressed.{IsBase91}
+use Rattle.aprs_report.specs.Coordinate.{IsCoordinate, per_degree}
+use Rattle.aprs_report.specs.Compressed.{IsBase91, middle, latitude_parts, longitude_parts}
 
 -- The text is a plain position in nineteen bytes: latitude, table, longitude and code. Both angles
 -- have the latitude's ambiguity.
@@ -39,16 +37,16 @@ IsPlace (Base91 y x cst) s text = IsCompressed y x cst s text
 
 -- The degrees north: hundredths of minutes of a plain position, and 90 - y / 380926.
 abbrev pub latitude_of : Place → Fraction
-latitude_of (Plain lat lon ambiguity) = record { numerator = lat; denominator = pos PER_DEGREE }
+latitude_of (Plain lat lon ambiguity) = record { numerator = lat; denominator = pos per_degree }
 latitude_of (Base91 y x cst) = record {
-  numerator = MIDDLE -ℤ pos y;
-  denominator = LATITUDE_PARTS;
+  numerator = middle -ℤ pos y;
+  denominator = latitude_parts;
 }
 
 -- The degrees east: hundredths of minutes of a plain position, and -180 + x / 190463.
 abbrev pub longitude_of : Place → Fraction
-longitude_of (Plain lat lon ambiguity) = record { numerator = lon; denominator = pos PER_DEGREE }
+longitude_of (Plain lat lon ambiguity) = record { numerator = lon; denominator = pos per_degree }
 longitude_of (Base91 y x cst) = record {
-  numerator = pos x -ℤ MIDDLE;
-  denominator = LONGITUDE_PARTS;
+  numerator = pos x -ℤ middle;
+  denominator = longitude_parts;
 }

@@ -6,8 +6,6 @@ use Rattle.std.specs.Prelude.{slice_index, Option, Some, None, unwrap_or, codes}
 use Rattle.std.specs.List.{list_all, position as first_place}
 use Rattle.aprs_report.specs.declared.stamp.Stamp.{Stamp}
 use Rattle.aprs_report.specs.declared.symbol.Symbol.{Symbol}
-use Rattle.aprs_report.specs.declared.coordinate.TheConstants.{PER_DEGREE}
-use Rattle.aprs_report.specs.declared.compressed.TheConstants.{MAX_BASE91}
 use Rattle.aprs_report.specs.declared.coordinate.Axis.{Axis}
 use Rattle.aprs_report.specs.declared.coordinate.Axis.TheVariants.{Latitude, Longitude}
 use Rattle.aprs_report.specs.declared.place.Place.{Place}
@@ -16,7 +14,8 @@ use Rattle.aprs_report.specs.Bytes.{is_digit, is_capital, is_printable, is_space
 use Rattle.aprs_report.specs.Numeral.{is_digit_of, number}
 use Rattle.aprs_report.specs.Stamp.{is_mark}
 use Rattle.aprs_report.specs.Symbol.{is_table, is_code}
-use Rattle.aprs_report.specs.Coordinate.{limit, letter, signed, is_blank}
+use Rattle.aprs_report.specs.Compressed.{greatest_base91}
+use Rattle.aprs_report.specs.Coordinate.{per_degree, limit, letter, signed, is_blank}
 use Rattle.aprs_report.specs.Object.{is_item_mark}
 use Rattle.aprs_report.specs.Message.{is_id}
 use Rattle.aprs_report.specs.Reading.{Value, position, object, item, message, ack, rej, status, raw}
@@ -81,7 +80,7 @@ minutes_of axis ambiguity places =
     if list_all (is_blank axis) (drop (4 - ambiguity) places)
     then (do
       known ← numeral_of 10 48 (take (4 - ambiguity) places)
-      guarded (nat_lt (known * 10 ^ ambiguity) PER_DEGREE) (known * 10 ^ ambiguity))
+      guarded (nat_lt (known * 10 ^ ambiguity) per_degree) (known * 10 ^ ambiguity))
     else None
 
 -- Whether a letter is that of the negative half, if it is that of a half.
@@ -95,8 +94,8 @@ angle_of axis ambiguity degree_text text = do
   degrees ← numeral_of 10 48 degree_text
   minutes ← minutes_of axis ambiguity (places_of text)
   is_negative ← half_of axis (slice_index text 5)
-  guarded (slice_index text 2 == 46 && nat_le (degrees * PER_DEGREE + minutes) (limit axis))
-      (signed is_negative (degrees * PER_DEGREE + minutes))
+  guarded (slice_index text 2 == 46 && nat_le (degrees * per_degree + minutes) (limit axis))
+      (signed is_negative (degrees * per_degree + minutes))
 
 -- The plain position at the start of some bytes, its symbol, and the rest.
 unfoldable pub plain_of : List ℕ → Option (Place × Symbol × List ℕ)
@@ -134,7 +133,7 @@ named_of (b ∷ rest) = do
 unfoldable pub base91_of : List ℕ → Option ℕ
 base91_of text = do
   n ← numeral_of 91 33 text
-  guarded (nat_le n MAX_BASE91) n
+  guarded (nat_le n greatest_base91) n
 
 -- The compressed position at the start of some bytes, its symbol, and the rest.
 unfoldable pub compressed_of : List ℕ → Option (Place × Symbol × List ℕ)

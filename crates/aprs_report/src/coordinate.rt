@@ -3,6 +3,7 @@
 ghost use Rattle.std.specs.Prelude.{◌≡◌, ◌<◌, ◌≤◌, ◌^◌, length, nat_lt, IfSome};
 ghost use Rattle.std.specs.List.{list_all};
 ghost use Rattle.aprs_report.specs.Reader.{guarded, ambiguity_of, minutes_of, half_of, angle_of};
+ghost use Rattle.aprs_report.specs.Coordinate.{per_degree};
 
 use crate::bytes::{Trailing, is_digit_byte};
 use crate::numeral::numeral;
@@ -100,8 +101,8 @@ fn power_of_ten(exponent: u8) -> u64
 
 /// The minutes, where they are less than a degree.
 fn within_degree(minutes: u64) -> Option<u64>
-    ensures exact { result ≡ guarded (nat_lt minutes PER_DEGREE) minutes }
-    ensures small { IfSome result (λ n. n < PER_DEGREE) }
+    ensures exact { result ≡ guarded (nat_lt minutes per_degree) minutes }
+    ensures small { IfSome result (λ n. n < per_degree) }
 {
     if minutes < PER_DEGREE {
         Some(minutes)
@@ -116,7 +117,7 @@ fn within_degree(minutes: u64) -> Option<u64>
 fn minutes(axis: Axis, ambiguity: u8, places: &[u8; 4]) -> Option<u64>
     requires { ambiguity ≤ 4 }
     ensures exact { result ≡ minutes_of axis ambiguity places.now }
-    ensures small { IfSome result (λ n. n < PER_DEGREE) }
+    ensures small { IfSome result (λ n. n < per_degree) }
 {
     if ambiguity == 0 {
         // As nearly everywhere. That there are four digits is known here before the program runs.

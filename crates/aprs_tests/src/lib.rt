@@ -18,6 +18,8 @@ mod failing_inputs;
 #[cfg(test)]
 mod gaps;
 #[cfg(test)]
+mod given_back;
+#[cfg(test)]
 mod last_known;
 #[cfg(test)]
 mod lines;
@@ -31,6 +33,8 @@ mod logs;
 mod merges;
 #[cfg(test)]
 mod millis;
+#[cfg(test)]
+mod no_requests;
 #[cfg(test)]
 mod pieces;
 #[cfg(test)]

@@ -1,9 +1,9 @@
 use Rattle.std.proofs.Common.{◌≡◌, take}
 use Rattle.aprs_laws.specs.Gap.{millis_of}
 use Rattle.aprs_laws.specs.Sound.{Sound}
-use Rattle.aprs_book.proofs.from_parts.from_rows.Given as goal
+use Rattle.aprs_book.proofs.from_parts.push_rows.Given as goal
 
 abbrev pub invariant-loop-place : goal.invariant-loop-place
 invariant-loop-place g l =
-    (l.book.gap ≡ l.fn.gap) × (l.book.rows ≡ take l.place l.rows)
-    × Sound (millis_of l.fn.gap) (take l.place l.rows)
+    (l.book.gap ≡ l.fn.book.gap) × (l.book.rows ≡ take l.place l.rows)
+    × Sound (millis_of l.fn.book.gap) (take l.place l.rows)

@@ -1,0 +1,254 @@
+//! Calls that take no memory ask for none. A full arena grows at a request and stays as large, so
+//! that a request shows even where what it got is given back at once.
+
+use crate::last_known::{callsign, sent};
+use crate::refused_calls::{SENT, squeeze};
+use crate::vectors::{DIRECT, heard, receiver};
+use aprs_book::{Book, Gap, Join, MergeFault, Receivers, RowList, WidenFault, all_fit};
+use aprs_pile::{Pile, PiledRows, RowView};
+use bumpalo::Bump;
+use std::alloc::Global;
+use std::test::Fail;
+
+/// Fills the arena, so that it grows at the next request.
+fn fill(bump: &Bump) -> Result<Vec<u8, &Bump>, Fail> {
+    let filling = squeeze(bump, 0)?;
+    bump.set_allocation_limit(None);
+    Ok(filling)
+}
+
+#[test]
+fn a_request_shows(rt: HostRuntime) -> Result<(), Fail> {
+    let bump = Bump::try_with_capacity(rt.alloc(), 4096)?;
+    let _filling = fill(&bump)?;
+    let size = bump.allocated_bytes();
+    let mut spare: Vec<u8, &Bump> = Vec::new(&bump);
+    spare.reserve(1)?;
+    drop(spare);
+    assert!(rt; bump.allocated_bytes() > size);
+    Ok(())
+}
+
+/// The book under this gap of what was sent.
+fn book_of_sent(bump: &Bump, gap: Gap) -> Result<Book<&Bump>, Fail> {
+    let mut book = Book::with_gap(bump, gap);
+    for &(second, source, info) in SENT {
+        let x = sent(second, source, info)?;
+        book.take(&x).ok().ok_or("memory")?;
+    }
+    Ok(book)
+}
+
+/// A call that takes no memory.
+#[derive(Clone, Copy)]
+enum Call {
+    New,
+    NewList,
+    NewPile,
+    NewReceivers,
+    Gap,
+    Rows,
+    Same,
+    Fits,
+    AllFit,
+    OtherGap,
+    Narrower,
+    Position,
+    Status,
+    Object,
+    Item,
+}
+
+const CALLS: &[Call] = &[
+    Call::New,
+    Call::NewList,
+    Call::NewPile,
+    Call::NewReceivers,
+    Call::Gap,
+    Call::Rows,
+    Call::Same,
+    Call::Fits,
+    Call::AllFit,
+    Call::OtherGap,
+    Call::Narrower,
+    Call::Position,
+    Call::Status,
+    Call::Object,
+    Call::Item,
+];
+
+/// Whether what is new is empty.
+fn is_empty(bump: &Bump, call: Call) -> bool {
+    match call {
+        Call::NewList => {
+            let _list = RowList::new(bump, Gap::STANDARD);
+            true
+        }
+        Call::NewPile => Pile::new(bump).is_empty(),
+        Call::NewReceivers => Receivers::new(bump).as_slice().is_empty(),
+        _ => Book::new(bump).len() == 0,
+    }
+}
+
+/// Whether the call refuses a book of another gap, or a gap that is less.
+fn is_refused<'a>(call: Call, book: &Book<&'a Bump>, wide: &Book<&'a Bump>) -> bool {
+    match call {
+        Call::OtherGap => match book.merge(wide) {
+            Err(MergeFault::OtherGap) => true,
+            _ => false,
+        },
+        _ => match wide.widen(Gap::STANDARD) {
+            Err(WidenFault::Narrower) => true,
+            _ => false,
+        },
+    }
+}
+
+/// Whether something is last known of the sender, of the object or of the item.
+fn is_known(call: Call, book: &Book<&Bump>) -> Result<bool, Fail> {
+    let sender = callsign(b"N0CALL-7")?;
+    Ok(match call {
+        Call::Position => book.position(&sender).is_some(),
+        Call::Status => book.status(&sender).is_none(),
+        Call::Object => book.object(b"LEADER").is_some(),
+        _ => book.item(b"LEADER   ").is_some(),
+    })
+}
+
+/// How many rows are shown that one receiver heard.
+fn shown_rows(book: &Book<&Bump>) -> usize {
+    let mut shown = 0usize;
+    for row in book.rows() {
+        if RowView::of(&row).receivers().len() == 1 {
+            shown = shown.saturating_add(1);
+        }
+    }
+    shown
+}
+
+/// Whether the call answers as it has to, of books with and without a wider gap.
+fn is_answered<'a>(
+    bump: &'a Bump,
+    call: Call,
+    books: &[Book<&'a Bump>],
+) -> Result<bool, Fail> {
+    let [book, wide] = books else {
+        return Err("two books".into());
+    };
+    Ok(match call {
+        Call::New | Call::NewList | Call::NewPile | Call::NewReceivers => is_empty(bump, call),
+        Call::Gap => book.gap() == Gap::STANDARD && book.len() == SENT.len(),
+        Call::Rows => shown_rows(book) == SENT.len(),
+        Call::Same => book.same(book) && !book.same(wide),
+        Call::Fits => book.fits(book) && !book.fits(wide),
+        Call::AllFit => !all_fit(book, books),
+        Call::OtherGap | Call::Narrower => is_refused(call, book, wide),
+        Call::Position | Call::Status | Call::Object | Call::Item => is_known(call, book)?,
+    })
+}
+
+/// Two books of what was sent, the second with a wider gap.
+fn two_books<'a>(bump: &'a Bump, alloc: Global) -> Result<Vec<Book<&'a Bump>>, Fail> {
+    let mut books = Vec::new(alloc);
+    books.push(book_of_sent(bump, Gap::STANDARD)?)?;
+    books.push(book_of_sent(bump, Gap::new(31).ok_or("a gap")?)?)?;
+    Ok(books)
+}
+
+/// Whether the call answers as it has to, and asks for no memory.
+fn asks_for_none(alloc: Global, call: Call) -> Result<bool, Fail> {
+    let bump = Bump::try_with_capacity(alloc, 65_536)?;
+    let books = two_books(&bump, alloc)?;
+    let _filling = fill(&bump)?;
+    let size = bump.allocated_bytes();
+    Ok(is_answered(&bump, call, books.as_slice())? && bump.allocated_bytes() == size)
+}
+
+#[test]
+fn calls_of_books_ask_for_none(rt: HostRuntime) -> Result<(), Fail> {
+    for (i, call) in CALLS.iter().enumerate() {
+        assert!(rt; asks_for_none(rt.alloc(), *call)?, "call {i}");
+    }
+    Ok(())
+}
+
+/// What was heard before, and what fits into a row that lists its receiver.
+const BEFORE: &[(u64, &[u8])] = &[(100, b"RX1"), (130, b"RX2"), (200, b"RX1")];
+
+const IN_PLACE: &[(u64, &[u8])] = &[
+    (100, b"RX1"),
+    (110, b"RX2"),
+    (70, b"RX2"),
+    (130, b"RX1"),
+    (160, b"RX1"),
+    (169, b"RX2"),
+    (230, b"RX1"),
+    (200, b"RX1"),
+];
+
+/// Takes what a receiver hears at each second of the hour.
+fn take_all<'a>(book: &mut Book<&'a Bump>, heard_at: &[(u64, &[u8])]) -> Result<(), Fail> {
+    for &(second, name) in heard_at {
+        let x = heard(second, name, &DIRECT)?;
+        book.take(&x).ok().ok_or("memory")?;
+    }
+    Ok(())
+}
+
+// The first and the last row grow at both ends, up to the gap and no further.
+#[test]
+fn receptions_in_place_ask_for_none(rt: HostRuntime) -> Result<(), Fail> {
+    let bump = Bump::try_with_capacity(rt.alloc(), 65_536)?;
+    let mut book = Book::new(&bump);
+    take_all(&mut book, BEFORE)?;
+    let _filling = fill(&bump)?;
+    let size = bump.allocated_bytes();
+    take_all(&mut book, IN_PLACE)?;
+    assert!(rt; book.len() == 2 && bump.allocated_bytes() == size);
+    Ok(())
+}
+
+#[test]
+fn listed_names_ask_for_none(rt: HostRuntime) -> Result<(), Fail> {
+    let bump = Bump::try_with_capacity(rt.alloc(), 4096)?;
+    let mut names = Receivers::new(&bump);
+    for name in [b"RX2", b"RX1", b"RX3"] {
+        names.add(&receiver(name)?).ok().ok_or("memory")?;
+    }
+    let _filling = fill(&bump)?;
+    let size = bump.allocated_bytes();
+    for name in [b"RX1", b"RX2", b"RX3"] {
+        names.add(&receiver(name)?).ok().ok_or("memory")?;
+    }
+    assert!(rt; names.as_slice().len() == 3 && bump.allocated_bytes() == size);
+    Ok(())
+}
+
+/// Whether these are the rows of what was sent.
+fn are_rows_of_sent(rows: &PiledRows<'_, &Bump>) -> bool {
+    let mut shown = 0usize;
+    for row in rows.rows() {
+        let view = row.view();
+        if view.first() == view.last() && view.receiver() == b"RX1".as_slice() {
+            shown = shown.saturating_add(1);
+        }
+    }
+    rows.gap() == Gap::STANDARD && rows.len() == SENT.len() && shown == SENT.len()
+}
+
+#[test]
+fn calls_of_piles_ask_for_none(rt: HostRuntime) -> Result<(), Fail> {
+    let bump = Bump::try_with_capacity(rt.alloc(), 65_536)?;
+    let mut pile = Pile::new(&bump);
+    for &(second, source, info) in SENT {
+        let x = sent(second, source, info)?;
+        pile.push(&x).ok().ok_or("memory")?;
+    }
+    let sorted = pile.sorted().ok().ok_or("memory")?;
+    let rows = sorted.rows(Gap::STANDARD).ok().ok_or("memory")?;
+    let _filling = fill(&bump)?;
+    let size = bump.allocated_bytes();
+    assert!(rt; !pile.is_empty() && are_rows_of_sent(&rows));
+    assert!(rt; bump.allocated_bytes() == size);
+    Ok(())
+}
