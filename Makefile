@@ -79,8 +79,9 @@ uninstall:
 	    share/bash-completion/completions/aprsbook share/zsh/site-functions/_aprsbook \
 	    share/fish/vendor_completions.d/aprsbook.fish
 
-# a package of Debian, and a tar file to unpack into a PREFIX
+# a package of Debian, and a tar file to unpack into a PREFIX, in the folder OUT
+OUT = out
 deb: built
-	packaging/make-deb $(PROGRAM) out
+	packaging/make-deb $(PROGRAM) '$(OUT)'
 tarball: built
-	packaging/make-tarball $(PROGRAM) out
+	packaging/make-tarball $(PROGRAM) '$(OUT)'
