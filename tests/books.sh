@@ -123,6 +123,12 @@ if has days.mk make timeout; then
     days && good
     same net/net.book all.30
 
+    # books that another program made, of which nobody knows of what
+    rm net/days/*.of
+    cp hill.60 net/days/2024-06-22.book
+    days && good
+    same net/net.book all.30
+
     # a log that was cut short: its day and the book of all stay, and the other day is made
     cp -R net/logs kept
     head -c 1001 hill.log > net/logs/2024-06-21/HILL.log
