@@ -279,6 +279,21 @@ if has book-to-sqlite sqlite3; then
     [ "$(sqlite3 net.db 'select count(*) from places where name = "name"')" = 0 ] || fail 'a heading is a place'
 fi
 
+# ---- places: which objects were killed ----
+
+aprsbook show all.30 > listing
+killed=$(grep -Ec '^(object|item) [^ ]* killed ' listing)
+[ "$killed" -gt 0 ] || fail 'no object of the evening was killed'
+awk -f "$recipes/places.awk" listing > places.csv
+[ "$(grep -c ',killed,.*,"killed[:"]' places.csv)" = "$killed" ] || fail 'the CSV has other killed objects'
+[ "$(grep -c ',"killed' places.csv)" = "$killed" ] || fail 'the CSV says killed of others'
+if has 'GPX and KML' gpsbabel; then
+    for form in gpx kml; do
+        gpsbabel -i unicsv -f places.csv -o $form -F places.$form
+        [ "$(grep -ci '<desc[a-z]*>killed' places.$form)" = "$killed" ] || fail "$form has other killed objects"
+    done
+fi
+
 # ---- merge-tree ----
 
 if has merge-tree parallel; then
