@@ -1,9 +1,9 @@
 # The commands of this repository. The kit's `rt` does the work.
 PREFIX ?= /usr/local
 PROGRAM = crates/aprsbook/out/aprsbook
-SHARE = $(DESTDIR)$(PREFIX)/share
 
-.PHONY: build libraries run try test words recipes cookbook bench hostile install
+.PHONY: build libraries run try test words recipes cookbook bench hostile
+.PHONY: built install uninstall deb tarball
 
 # how many jobs a proof has: as many as there are processors, at most four, each with 3 GB of free memory
 JOBS ?= $(shell awk -v n=$$(nproc) '/MemAvailable/ { most = int($$2 / 3000000) } \
@@ -37,24 +37,27 @@ try:
 test: words recipes
 	rt ci
 
-# the manual page and the completions name what the program has
+# the manual page and the completions name what the program has, and the scripts are in order
 words:
 	tests/words.sh
+	tests/completions.sh
+	tests/scripts.sh
 
-# the README's example, the old club's book, gaps, and the recipes that need only a POSIX system, where
-# a program is there that is newer than its sources
+# what is tried with the program: the README's example, the old club's book, gaps, what happens to logs and
+# books, each awk, the packages
+TRIED = readme old_book gaps logs books awks packages
+tried = $(foreach it,$(TRIED),tests/$(it).sh $(PROGRAM) &&)
+
+# these, and the recipes that need only a POSIX system, where a program is there that is newer than its
+# sources; each says what it leaves out because a tool isn't there
 recipes:
 	@if [ -x $(PROGRAM) ] && [ -z "$$(find crates -name '*.rt' -newer $(PROGRAM))" ]; then \
-	    tests/readme.sh $(PROGRAM) && tests/old_book.sh $(PROGRAM) && \
-	    tests/gaps.sh $(PROGRAM) && examples/cookbook.sh --posix $(PROGRAM); \
+	    $(tried) examples/cookbook.sh --posix $(PROGRAM); \
 	else echo 'left out: the recipes of the cookbook, since no program is built (make build)'; fi
 
-# the README's example, the old club's book, gaps, and every recipe of the cookbook whose tools are there
+# these, and every recipe of the cookbook whose tools are there
 cookbook: build
-	tests/readme.sh $(PROGRAM)
-	tests/old_book.sh $(PROGRAM)
-	tests/gaps.sh $(PROGRAM)
-	examples/cookbook.sh $(PROGRAM)
+	$(tried) examples/cookbook.sh $(PROGRAM)
 
 bench: build
 	bench/run.sh $(PROGRAM)
@@ -63,11 +66,22 @@ bench: build
 hostile: build
 	bench/hostile.sh $(PROGRAM)
 
-install: build
-	install -d $(DESTDIR)$(PREFIX)/bin $(SHARE)/man/man1 $(SHARE)/bash-completion/completions \
-	    $(SHARE)/zsh/site-functions $(SHARE)/fish/vendor_completions.d
-	install -m 755 $(PROGRAM) $(DESTDIR)$(PREFIX)/bin/aprsbook
-	install -m 644 man/aprsbook.1 $(SHARE)/man/man1/aprsbook.1
-	install -m 644 completions/aprsbook.bash $(SHARE)/bash-completion/completions/aprsbook
-	install -m 644 completions/_aprsbook $(SHARE)/zsh/site-functions/_aprsbook
-	install -m 644 completions/aprsbook.fish $(SHARE)/fish/vendor_completions.d/aprsbook.fish
+# what follows needs the program and builds nothing, so that no root runs a prover
+built:
+	@if [ ! -x $(PROGRAM) ]; then echo 'there is no program yet: make build' >&2; exit 1; fi
+
+install: built
+	packaging/put-into '$(DESTDIR)$(PREFIX)' $(PROGRAM)
+
+# what install has put there; folders that other programs use too are left
+uninstall:
+	cd '$(DESTDIR)$(PREFIX)' && rm -rf bin/aprsbook share/man/man1/aprsbook.1 share/aprsbook \
+	    share/bash-completion/completions/aprsbook share/zsh/site-functions/_aprsbook \
+	    share/fish/vendor_completions.d/aprsbook.fish
+
+# a package of Debian, and a tar file to unpack into a PREFIX, in the folder OUT
+OUT = out
+deb: built
+	packaging/make-deb $(PROGRAM) '$(OUT)'
+tarball: built
+	packaging/make-tarball $(PROGRAM) '$(OUT)'

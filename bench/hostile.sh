@@ -33,6 +33,7 @@ refused() {
     local fault
     fault=$("$here/make_hostile.py" "$3" "$4" | "$program" merge 2>&1 > /dev/null) && exit 1
     [ "$fault" = "aprsbook: standard input: $2" ] || { echo "hostile.sh: $fault" >&2; exit 1; }
+    # shellcheck disable=SC2016 # the shell within puts these in
     show "$1: $2" "$4" sh -c '"$1" "$2" "$3" | { "$4" merge 2> /dev/null; [ $? = 1 ]; }' sh \
         "$here/make_hostile.py" "$3" "$4" "$program"
 }

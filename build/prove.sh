@@ -16,6 +16,7 @@ view=out/$crate
 lower=$(tac crates.txt | awk -F '[: ]+' -v crate="$crate" '
     $1 == crate || $1 in wanted { for (i = 2; i <= NF; i++) wanted[$i] }
     $1 != crate && $1 in wanted { print $1 }')
+# shellcheck disable=SC2086 # one name a word
 for it in $(printf '%s\n' $lower "$crate" | sort); do
     exec {held}< "crates/$it"
     if [ "$it" = "$crate" ]; then flock "$held"; else flock -s "$held"; fi

@@ -3,7 +3,7 @@
 # out because a tool isn't there.
 # usage: examples/cookbook.sh [--posix] PROGRAM [FOLDER]
 #        --posix runs those alone that need no tool beyond a POSIX system, and passes over the others
-#        FOLDER, a new one, keeps what they make; otherwise it is thrown away
+#        FOLDER, a new one, keeps what they make, and in output/ what they print; otherwise it is thrown away
 #
 # A recipe is a block that begins with ```sh. The words after sh are the tools that it needs beyond those
 # of a POSIX system.
@@ -18,6 +18,10 @@ if [ $# = 0 ]; then
     echo "usage: cookbook.sh [--posix] PROGRAM [FOLDER]" >&2
     exit 2
 fi
+if [ ! -f "$1" ] || [ ! -x "$1" ]; then
+    echo "cookbook.sh: there is no program '$1'" >&2
+    exit 1
+fi
 program=$(realpath "$1")
 here=$(dirname "$(realpath "$0")")
 scratch=$(mktemp -d)
@@ -27,7 +31,7 @@ if [ -e "$work" ]; then
     echo "cookbook.sh: $work is there already" >&2
     exit 1
 fi
-mkdir -p "$work/logs/2024-06-21" "$scratch/bin" "$scratch/blocks"
+mkdir -p "$work/logs/2024-06-21" "$work/output" "$scratch/bin" "$scratch/blocks"
 work=$(realpath "$work")
 ln -s "$program" "$scratch/bin/aprsbook"
 export PATH="$scratch/bin:$here/recipes:$PATH"
@@ -66,10 +70,11 @@ for block in "$scratch"/blocks/*; do
         left=$((left + 1))
         continue
     fi
-    if ! bash -euo pipefail -c "$(sed 1,2d "$block")" > "$scratch/output" 2>&1 < /dev/null; then
+    output=output/${block##*/}
+    if ! bash -euo pipefail -c "$(sed 1,2d "$block")" > "$output" 2>&1 < /dev/null; then
         echo "failed: $heading"
         sed 1,2d "$block"
-        cat "$scratch/output"
+        cat "$output"
         exit 1
     fi
     echo "ran: $heading"

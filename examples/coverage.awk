@@ -28,11 +28,17 @@ function step_of(number,   step) {
     while (number / step > 6) step *= (step ~ /^20*$/) ? 2.5 : 2
     return step
 }
+# With one decimal, after a point in any language.
+function px(value,   text) {
+    text = sprintf("%.1f", value)
+    sub(/,/, ".", text)
+    return text
+}
 function say(class, at_x, at_y, anchor, words) {
-    printf "<text class='%s' x='%.1f' y='%d' text-anchor='%s'>%s</text>\n", class, at_x, at_y, anchor, words
+    printf "<text class='%s' x='%s' y='%d' text-anchor='%s'>%s</text>\n", class, px(at_x), at_y, anchor, words
 }
 function block(class, at_x, at_y, wide, high, title) {
-    printf "<rect class='%s' x='%.1f' y='%d' width='%.1f' height='%d'>", class, at_x, at_y, wide, high
+    printf "<rect class='%s' x='%s' y='%d' width='%s' height='%d'>", class, px(at_x), at_y, px(wide), high
     print "<title>" title "</title></rect>"
 }
 function bar(name, row,   at, share) {
@@ -61,7 +67,7 @@ function head() {
 }
 function axis(   k) {
     for (k = 0; k <= total; k += step_of(total)) {
-        printf "<path class='grid' d='M%.1f %dv%d'/>", left + k * scale, top, height
+        printf "<path class='grid' d='M%s %dv%d'/>", px(left + k * scale), top, height
         say("axis", left + k * scale, top + height + 16, "middle", k)
     }
     say("axis", left + width / 2, top + height + 34, "middle", "transmissions")

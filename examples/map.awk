@@ -32,7 +32,19 @@ function add(kind, name, moment, lat, lon, about) {
     if (moment > latest) latest = moment
 }
 
-BEGIN { if (within != "") split(within, edge, ","); for (i in edge) edge[i] += 0 }
+# Some languages write a comma where numbers here have a point.
+function fixed(value, decimals,   text) {
+    text = sprintf("%." decimals "f", value)
+    sub(/,/, ".", text)
+    return text
+}
+function px(value) { return fixed(value, 1) }
+function number(text) {
+    sub(/\./, substr(sprintf("%.1f", 0.5), 2, 1), text)
+    return text + 0
+}
+
+BEGIN { if (within != "") split(within, edge, ","); for (i in edge) edge[i] = number(edge[i]) }
 $1 == "station" { call = $2; count = $3 }
 $1 == "position" {
     heard = count == 1 ? "1 transmission" : count " transmissions"
@@ -50,10 +62,11 @@ $1 == "object" || $1 == "item" {
 function x(lon) { return left + (lon - west) * across }
 function y(lat) { return top + (north - lat) * up }
 function say(class, at_x, at_y, anchor, words) {
-    printf "<text class='%s' x='%.1f' y='%.1f' text-anchor='%s'>%s</text>\n", class, at_x, at_y, anchor, words
+    printf "<text class='%s' x='%s' y='%s' text-anchor='%s'>", class, px(at_x), px(at_y), anchor
+    print words "</text>"
 }
 function draw(class, at_x, at_y, rest) {
-    printf "<path class='%s' d='M%.1f %.1f%s'/>\n", class, at_x, at_y, rest
+    printf "<path class='%s' d='M%s %s%s'/>\n", class, px(at_x), px(at_y), rest
 }
 
 # The least of .., 1, 2, 5, 10, 20, .. that is at least so much. (There is no logarithm, power or cosine
@@ -76,20 +89,20 @@ function cosine(latitude,   square) {
 }
 function angle(value, step, marks,   half) {
     half = value < 0 ? substr(marks, 2, 1) : value > 0 ? substr(marks, 1, 1) : ""
-    return sprintf("%." decimals_of(step) "f&#176; %s", value < 0 ? -value : value, half)
+    return fixed(value < 0 ? -value : value, decimals_of(step)) "&#176; " half
 }
 # Parallels at least 60 pixels apart and meridians at least 90, so that their angles can be read.
 function graticule(   step, k) {
     step = round_step(60 / up)
     for (k = int(south / step) - 1; k * step < north; k++)
         if (k * step > south && k * step <= 90 && k * step >= -90) {
-            draw("grid", left, y(k * step), sprintf("h%.1f", width))
+            draw("grid", left, y(k * step), "h" px(width))
             say("axis", left - 6, y(k * step) + 4, "end", angle(k * step, step, "NS"))
         }
     step = round_step(90 / across)
     for (k = int(west / step) - 1; k * step < east; k++)
         if (k * step > west && k * step <= 180 && k * step >= -180) {
-            draw("grid", x(k * step), top, sprintf("v%.1f", height))
+            draw("grid", x(k * step), top, "v" px(height))
             say("axis", x(k * step), top + height + 16, "middle", angle(k * step, step, "EW"))
         }
 }
@@ -99,11 +112,11 @@ function scale_bar(   kilometres, long, from, base) {
     long = kilometres / 111.2 * up
     from = left + width - long
     base = top + height + 34
-    draw("bar", from, base - 6, sprintf("v6h%.1fv-6", long))
+    draw("bar", from, base - 6, "v6h" px(long) "v-6")
     say("axis", from - 6, base, "end", kilometres < 1 ? kilometres * 1000 " m" : kilometres " km")
 }
 function mark(kind, at_x, at_y) {
-    if (kind == "station") printf "<circle class='station' cx='%.1f' cy='%.1f' r='4.5'/>", at_x, at_y
+    if (kind == "station") printf "<circle class='station' cx='%s' cy='%s' r='4.5'/>", px(at_x), px(at_y)
     else if (kind == "object") draw(kind, at_x - 6, at_y - 6, "h12v12h-12z")
     else if (kind == "item") draw(kind, at_x, at_y - 8, "l7 12h-14z")
     else draw(kind, at_x - 4.5, at_y - 4.5, "l9 9m0-9l-9 9")
@@ -129,7 +142,7 @@ function take(owner, x1, y1, x2, y2,   i, j) {
 function leader(at_x, at_y, side, level, far, base,   end_x, end_y) {
     end_x = side ? at_x + side * 8 * far : at_x
     end_y = base - 4 - level * 5
-    draw("leader", at_x + side * 6, at_y + level * 6, sprintf("L%.1f %.1f", end_x, end_y))
+    draw("leader", at_x + side * 6, at_y + level * 6, "L" px(end_x) " " px(end_y))
 }
 # Tries the places around a mark, near ones first; a far one gets a line to its mark. A name without a
 # free place is left out, and stands in the title alone.
@@ -169,7 +182,7 @@ function head() {
     print ".killed-name { fill: #777 } .leader { stroke: #9aa } g:hover > * { stroke: #000 }"
     print "</style>"
     print "<rect class='paper' width='100%' height='100%'/>"
-    printf "<rect class='sheet' x='%d' y='%d' width='%.1f' height='%.1f'/>\n", left, top, width, height
+    printf "<rect class='sheet' x='%d' y='%d' width='%s' height='%s'/>\n", left, top, px(width), px(height)
     say("heading", left, 22, "start", n (n == 1 ? " place" : " places"))
 }
 # The edges of the map, with room around the places, and its scale: `up` and `across` are pixels to a

@@ -2,20 +2,10 @@
 # Tries the gaps of books with the program: examples/slow.log has one frame three times, 45 seconds apart.
 # Needs a POSIX system alone.
 # usage: tests/gaps.sh PROGRAM
-set -eu
-export LC_ALL=C
-case $1 in
-/*) program=$1 ;;
-*) program=$PWD/$1 ;;
-esac
-log=$(cd "$(dirname "$0")/../examples" && pwd)/slow.log
-scratch=$(mktemp -d)
-trap 'rm -rf "$scratch"' EXIT
+# shellcheck source=program.sh
+. "$(dirname "$0")/program.sh"
+log=$repository/examples/slow.log
 cd "$scratch"
-fail() {
-    echo "tests/gaps.sh: $*" >&2
-    exit 1
-}
 # is FILE: the file is the text on standard input
 is() { cmp "$1" - || fail "$1 is another"; }
 # refused STATUS WORDS ARGUMENT..: the run ends with the status, says the words and writes nothing

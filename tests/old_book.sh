@@ -3,20 +3,10 @@
 # compares what is written with the same file, but for its header and the milliseconds of both moments of
 # each row; merged again, it has to be the same bytes. Needs a POSIX system alone.
 # usage: tests/old_book.sh PROGRAM
-set -eu
-export LC_ALL=C
-case $1 in
-/*) program=$1 ;;
-*) program=$PWD/$1 ;;
-esac
-cd "$(dirname "$0")/.."
-scratch=$(mktemp -d)
-trap 'rm -rf "$scratch"' EXIT
+# shellcheck source=program.sh
+. "$(dirname "$0")/program.sh"
+cd "$repository"
 old=examples/old-book.txt
-fail() {
-    echo "tests/old_book.sh: $*" >&2
-    exit 1
-}
 [ "$(head -n 1 $old)" = 'APRSBOOK 1' ] || fail "$old isn't of version 1"
 sed -e '1s/.*/APRSBOOK 3 30/' -e 's/^T \([^ ]*\)Z \([^ ]*\)Z /T \1.000Z \2.000Z /' $old > "$scratch/expected"
 "$program" merge $old > "$scratch/merged" || fail "the old book is refused"

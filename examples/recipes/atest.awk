@@ -3,8 +3,8 @@
 # start, such as 1:02.345. SECONDS is the start of the recording, as `date +%s` prints it. Needs mawk or
 # gawk.
 /^DECODED\[/ {
-    split($2, part, ":")
-    from_start = int((part[1] * 60 + part[2]) * 1000 + 0.5)
+    split($2, part, /[:.]/)
+    from_start = (part[1] * 60 + part[2]) * 1000 + part[3]
     at = start + int(from_start / 1000)
     frame = ""
 }

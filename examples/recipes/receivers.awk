@@ -7,4 +7,10 @@ $1 == "T" {
         if (n == 1) alone[by[i]]++
     }
 }
-END { for (r in heard) printf "%-16s %7d %5.1f%% %7d\n", r, heard[r], 100 * heard[r] / total, alone[r] }
+END {
+    for (r in heard) {
+        line = sprintf("%-16s %7d %5.1f%% %7d", r, heard[r], 100 * heard[r] / total, alone[r])
+        sub(/,/, ".", line) # the decimal sign of some languages
+        print line
+    }
+}

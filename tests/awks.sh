@@ -1,0 +1,87 @@
+#!/bin/sh
+# Runs the recipes that need only a POSIX system, and the pictures, with mawk, gawk and busybox: they have to
+# make the same files and print the same. Runs each file of awk where the decimal sign is a comma: it has to
+# print the same. Needs a POSIX system, mktemp and bash, and says what it leaves out because a tool isn't there.
+# usage: tests/awks.sh PROGRAM
+# shellcheck source=program.sh
+. "$(dirname "$0")/program.sh"
+examples=$repository/examples recipes=$repository/examples/recipes
+cd "$scratch"
+
+# ---- the cookbook under each ----
+
+# under NAME: the cookbook with what the folder NAME holds first in PATH
+under() {
+    PATH=$scratch/$1:$PATH "$examples/cookbook.sh" --posix "$program" "$scratch/made-$1" > said 2>&1 || fail "$1: $(cat said)"
+    if [ -z "${first-}" ]; then
+        first=$1
+    else
+        diff -r "made-$first" "made-$1" > said || fail "$first and $1 differ: $(cat said)"
+    fi
+}
+for awk in mawk gawk; do
+    if has "the cookbook with $awk" $awk; then
+        mkdir $awk
+        ln -s "$(command -v $awk)" $awk/awk
+        under $awk
+    fi
+done
+if has 'the cookbook with busybox' busybox; then
+    mkdir busybox
+    for tool in awk cat cmp comm cp cut diff dirname find grep head mkdir mktemp mv od paste printf rm sed sort split \
+        tail tr uniq wc; do
+        printf '#!/bin/sh\nexec busybox %s "$@"\n' $tool > busybox/$tool
+        chmod +x busybox/$tool
+    done
+    under busybox
+fi
+
+# ---- a decimal comma ----
+
+if has 'a decimal comma' localedef; then
+    mkdir locales
+    export LOCPATH="$scratch/locales"
+    localedef -i de_DE -f UTF-8 locales/de_DE.UTF-8 2> said || fail "localedef says: $(cat said)"
+    cp "$examples/evening/hill.log" .
+    aprsbook merge "$examples"/evening/*.log "$examples/slow.log" > net.book
+    aprsbook show net.book > listing
+    cat > atest.txt << 'end'
+DECODED[1] 1:02.345 N0CALL audio level = 50(21/22)     |||||||||
+  000:  82 a0 a4 a6 40 40 e0 9c 60 86 82 98 98 6f 03 f0  ....@@..`....o..
+  010:  3e 48 69                                         >Hi
+------
+end
+    cat > kissutil.txt << 'end'
+From KISS TNC:
+  000:  c0 00 82 a0 a4 a6 40 40 e0 9c 60 86 82 98 98 6f  ......@@..`....o
+  010:  03 f0 3e 48 69 c0                                ..>Hi.
+[0 2024-05-01T12:00:00Z] N0CALL-7>APRS:>Hi
+end
+    # all AWK..: what each file of awk prints
+    all() {
+        "$@" -f "$recipes/places.awk" listing
+        "$@" -f "$examples/map.awk" listing
+        "$@" -v within=54.51,-3.54,54.53,-3.50 -f "$examples/map.awk" listing
+        "$@" -f "$examples/coverage.awk" net.book
+        "$@" -f "$recipes/log.awk" net.book
+        "$@" -f "$recipes/pcap.awk" net.book
+        "$@" -f "$recipes/receivers.awk" net.book | sort
+        "$@" -f "$recipes/stations.awk" net.book | sort
+        "$@" -f "$recipes/map-source.awk" hill.log | "$@" -v parts=4 -v name=part -f "$recipes/partition.awk"
+        cat part.?
+        "$@" -v start=1714564800 -v name=TAPE -f "$recipes/atest.awk" atest.txt
+        "$@" -v name=RX1 -f "$recipes/kissutil.awk" kissutil.txt
+    }
+    all awk > expected
+    grep -q '^2024-05-01T12:01:02.345Z TAPE c00082' expected || fail 'atest.awk makes another moment'
+    grep -q '^2024-05-01T12:00:00Z RX1 c00082.*4869c0$' expected || fail 'kissutil.awk makes another line'
+    for awk in mawk gawk 'gawk --use-lc-numeric' 'busybox awk'; do
+        has "a decimal comma with $awk" "${awk%% *}" || continue
+        # shellcheck disable=SC2086 # the name of one, or a name and an argument
+        for language in C de_DE.UTF-8; do
+            LC_ALL=$language all $awk > printed
+            diff expected printed > said || fail "with $awk in $language it prints something else: $(cat said)"
+        done
+    done
+fi
+echo 'every awk makes the same, also where the decimal sign is a comma'

@@ -1,0 +1,31 @@
+#!/bin/sh
+# Read by the tests of this folder, whose first argument is the program: finds it, makes a folder that is
+# thrown away, and puts the program and the recipes into PATH. Needs a POSIX system and mktemp.
+set -eu
+export LC_ALL=C
+fail() {
+    echo "tests/${0##*/}: $*" >&2
+    exit 1
+}
+case ${1-} in
+/*) program=$1 ;;
+*) program=$PWD/${1-} ;;
+esac
+if [ ! -f "$program" ] || [ ! -x "$program" ]; then fail "there is no program '${1-}'"; fi
+repository=$(cd "$(dirname "$0")/.." && pwd)
+scratch=$(mktemp -d)
+trap 'rm -rf "$scratch"' EXIT
+mkdir "$scratch/bin"
+ln -s "$program" "$scratch/bin/aprsbook"
+PATH=$scratch/bin:$repository/examples/recipes:$PATH
+# has WHAT TOOL..: the tools are there; where they aren't, it is said what is left out
+has() {
+    what=$1
+    shift
+    for tool; do
+        if ! command -v "$tool" > /dev/null; then
+            echo "left out: $what (needs $tool)"
+            return 1
+        fi
+    done
+}
