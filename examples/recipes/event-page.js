@@ -29,7 +29,8 @@ const [north, east] = [0, 1].map(k => spots.length ? [least(spots.map(spot => sp
   most(spots.map(spot => spot[k]))] : [0, 0]);
 // a degree east is that much of a degree north
 const squeeze = Math.max(0.05, Math.cos((north[0] + north[1]) / 2 * Math.PI / 180));
-let width = 0, height = 0, scale = 1, middle = [0, 0], fitted = true, picked = null, until = Infinity;
+let width = 0, height = 0, scale = 1, middle = [0, 0], fitted = true;
+let picked = null, until = Infinity;
 const x = degrees => width / 2 + (degrees - middle[1]) * scale * squeeze;
 const y = degrees => height / 2 - (degrees - middle[0]) * scale;
 
@@ -98,17 +99,20 @@ function drawThings() {
   const marked = thing => thing.n === picked ? " picked" : "";
   for (const [thing, places] of been) {
     // a kill ends a segment
-    const d = path(places.map(([, north, east], k) => [k && !places[k - 1][3] ? "L" : "M", north, east]));
+    const d = path(places.map(([, north, east], k) =>
+      [k && !places[k - 1][3] ? "L" : "M", north, east]));
     const faint = picked === null || thing.n === picked ? "" : " faint";
-    if (places.length > 1) draw("path", { class: `track ${thing.kind}${marked(thing)}${faint}`, d });
+    const kind = `track ${thing.kind}${marked(thing)}${faint}`;
+    if (places.length > 1) draw("path", { class: kind, d });
   }
   // boxes that are taken, by marks and by names: left, top, right, bottom
   const taken = been.map(([, places]) => {
     const [, north, east] = places[places.length - 1];
     return [x(east) - 5, y(north) - 5, x(east) + 5, y(north) + 5];
   });
+  const meet = (a, b) => a[0] < b[2] && b[0] < a[2] && a[1] < b[3] && b[1] < a[3];
   const isFree = box => box[0] > 0 && box[2] < width && box[1] > 0 && box[3] < height &&
-    !taken.some(other => box[0] < other[2] && other[0] < box[2] && box[1] < other[3] && other[1] < box[3]);
+    !taken.some(other => meet(box, other));
   for (const [thing, places] of been) {
     const [when, north, east, killed, ambiguity] = places[places.length - 1];
     const group = draw("g", {
@@ -117,8 +121,8 @@ function drawThings() {
     });
     draw("title", {}, `${thing.name}: ${utc(data.begin + when)}${killed ? ", killed" : ""}, ` +
       `${places.length} ${places.length === 1 ? "place" : "places"}`, group);
-    if (open[ambiguity])
-      draw("circle", { class: "ring", r: Math.max(8, open[ambiguity] * scale / 2) }, undefined, group);
+    const ring = Math.max(8, open[ambiguity] * scale / 2);
+    if (open[ambiguity]) draw("circle", { class: "ring", r: ring }, undefined, group);
     draw("path", { class: "shape", d: shapes[killed ? "killed" : thing.kind] }, undefined, group);
     group.addEventListener("click", () => pick(thing.n));
     const long = thing.name.length * 7.2 + 4;
@@ -206,8 +210,9 @@ addEventListener("pointermove", event => {
 for (const end of ["pointerup", "pointercancel"])
   addEventListener(end, event => { if (fingers.delete(event.pointerId)) turn(); });
 const keys = {
-  ArrowLeft: () => move(60, 0), ArrowRight: () => move(-60, 0), ArrowUp: () => move(0, 60),
-  ArrowDown: () => move(0, -60), "+": () => zoom(1.3), "=": () => zoom(1.3), "-": () => zoom(1 / 1.3), 0: fit,
+  ArrowLeft: () => move(60, 0), ArrowRight: () => move(-60, 0),
+  ArrowUp: () => move(0, 60), ArrowDown: () => move(0, -60),
+  "+": () => zoom(1.3), "=": () => zoom(1.3), "-": () => zoom(1 / 1.3), 0: fit,
 };
 map.addEventListener("keydown", event => {
   if (!Object.hasOwn(keys, event.key) || event.ctrlKey || event.altKey || event.metaKey) return;
@@ -248,7 +253,8 @@ play.onclick = () => {
 for (const table of document.querySelectorAll("table.sorted")) {
   const heads = [...table.tHead.rows[0].cells], body = table.tBodies[0];
   const value = cell => "v" in cell.dataset ? +cell.dataset.v : cell.textContent;
-  const compare = (a, b) => typeof a === "number" ? a - b : a.localeCompare(b, undefined, { numeric: true });
+  const compare = (a, b) =>
+    typeof a === "number" ? a - b : a.localeCompare(b, undefined, { numeric: true });
   const sort = (column, down) => {
     body.append(...[...body.rows].sort((a, b) =>
       compare(value(a.cells[column]), value(b.cells[column])) * (down ? -1 : 1)));
@@ -288,9 +294,9 @@ for (const row of rows) {
   if (button) button.onclick = () => {
     const { n, places } = things[row.dataset.n], [, north, east] = places[places.length - 1];
     pick(n);
-    const away = Math.abs(x(east) - width / 2) > width / 2 || Math.abs(y(north) - height / 2) > height / 2;
-    if (picked === n && away) {
-      move(width / 2 - x(east), height / 2 - y(north));
+    const right = width / 2 - x(east), down = height / 2 - y(north);
+    if (picked === n && (Math.abs(right) > width / 2 || Math.abs(down) > height / 2)) {
+      move(right, down);
       turn();
     }
     map.scrollIntoView({ block: "nearest" });
@@ -319,8 +325,8 @@ if (data.live) {
   let touched = 0;
   // event-page has the same
   const age = seconds => {
-    const [size, unit] = [[1, "s", 60], [60, "min", 5400], [3600, "h", 172800], [86400, "d", Infinity]]
-      .find(([, , below]) => seconds < below);
+    const [, size, unit] = [[60, 1, "s"], [5400, 60, "min"], [172800, 3600, "h"]]
+      .find(([below]) => seconds < below) || [0, 86400, "d"];
     return `${Math.floor(seconds / size)} ${unit}`;
   };
   const since = seconds => Math.max(0, Date.now() / 1000 - seconds);
@@ -337,7 +343,8 @@ if (data.live) {
       silent += row.classList.toggle("silent", passed > data.silent);
     }
     byId("silents").textContent = `${silent} ${silent === 1 ? "station" : "stations"}`;
-    byId("stale").textContent = since(data.end) > 600 ? `nothing was heard for ${age(since(data.end))}` : "";
+    const quiet = since(data.end);
+    byId("stale").textContent = quiet > 600 ? `nothing was heard for ${age(quiet)}` : "";
     const idle = Date.now() - touched > 10000 && !playing;
     if (live.checked && idle && Date.now() - loaded > data.live * 1000) location.reload();
   };

@@ -28,7 +28,8 @@ class Browser:
         self.reader, self.writer = os.fdopen(ends[2], "rb"), os.fdopen(ends[1], "wb")
         self.rest, self.last, self.session, self.events = b"", 0, None, []
         target = self.call("Target.createTarget", url="about:blank")["targetId"]
-        self.session = self.call("Target.attachToTarget", targetId=target, flatten=True)["sessionId"]
+        attached = self.call("Target.attachToTarget", targetId=target, flatten=True)
+        self.session = attached["sessionId"]
         for domain in "Page", "Runtime", "Log", "Network", "Accessibility":
             self.call(domain + ".enable")
 
@@ -71,9 +72,10 @@ class Browser:
         return done["result"].get("value")
 
     def open(self, url, width=1280, height=860, scheme="light"):
-        self.call("Emulation.setDeviceMetricsOverride", width=width, height=height, deviceScaleFactor=1,
-                  mobile=width < 600)
-        self.call("Emulation.setEmulatedMedia", features=[{"name": "prefers-color-scheme", "value": scheme}])
+        self.call("Emulation.setDeviceMetricsOverride", width=width, height=height,
+                  deviceScaleFactor=1, mobile=width < 600)
+        colours = {"name": "prefers-color-scheme", "value": scheme}
+        self.call("Emulation.setEmulatedMedia", features=[colours])
         self.call("Page.navigate", url="about:blank")
         self.events.clear()
         self.call("Page.navigate", url=url)
@@ -82,7 +84,8 @@ class Browser:
     def settle(self):
         """Waits until the page has loaded and painted."""
         self.wait("document.readyState === 'complete' && location.href !== 'about:blank'")
-        self.js("new Promise(done => requestAnimationFrame(() => requestAnimationFrame(() => done(1))))")
+        self.js("new Promise(done => requestAnimationFrame(() => requestAnimationFrame(done)))"
+                ".then(() => true)")
 
     def wait(self, condition, seconds=20):
         end = time.monotonic() + seconds
@@ -93,8 +96,9 @@ class Browser:
 
     def key(self, key, code=0):
         for kind in "keyDown", "keyUp":
-            text = {"text": key} if kind == "keyDown" and len(key) == 1 else {}
-            self.call("Input.dispatchKeyEvent", type=kind, key=key, windowsVirtualKeyCode=code, **text)
+            text = key if kind == "keyDown" and len(key) == 1 else ""
+            self.call("Input.dispatchKeyEvent", type=kind, key=key, text=text,
+                      windowsVirtualKeyCode=code)
 
     def happened(self, *methods):
         return [event["params"] for event in self.events if event.get("method") in methods]
@@ -103,7 +107,8 @@ class Browser:
         return [it["request"]["url"] for it in self.happened("Network.requestWillBeSent")]
 
     def problems(self):
-        return self.happened("Runtime.exceptionThrown", "Runtime.consoleAPICalled", "Log.entryAdded")
+        return self.happened(
+            "Runtime.exceptionThrown", "Runtime.consoleAPICalled", "Log.entryAdded")
 
     def picture(self, path, whole=False):
         shot = self.call("Page.captureScreenshot", captureBeyondViewport=whole)

@@ -1,7 +1,7 @@
 #!/usr/bin/env python3
 """Tests event-page without a browser: what came off the air is text alone.
 
-usage: event_page.py EXAMPLES    the folder examples; aprsbook and event-page in the PATH; needs Python 3
+usage: event_page.py EXAMPLES    aprsbook and the recipes in the PATH; needs Python 3
 """
 import base64
 import hashlib
@@ -22,9 +22,10 @@ SCRIPT = (EXAMPLES / "recipes/event-page.js").read_text()
 # each tag of the page, with its attributes
 OWN = {
     "html": "lang", "head": "", "meta": "charset http-equiv name content", "title": "", "style": "",
-    "body": "", "header": "", "h1": "", "h2": "", "p": "class id", "a": "href class", "span": "id class role",
-    "main": "", "section": "id", "div": "id class", "label": "", "button": "type id title aria-label class",
-    "input": "type id min max value aria-label checked", "output": "id for", "noscript": "",
+    "body": "", "header": "", "h1": "", "h2": "", "p": "class id", "a": "href class", "main": "",
+    "section": "id", "div": "id class", "label": "", "span": "id class role", "noscript": "",
+    "button": "type id title aria-label class", "output": "id for",
+    "input": "type id min max value aria-label checked",
     "svg": "id role tabindex aria-label viewbox preserveaspectratio", "rect": "x y width height",
     "select": "id", "option": "value", "table": "id class", "caption": "", "thead": "", "tbody": "",
     "tr": "class data-n", "th": "scope class", "td": "class data-v title", "time": "datetime title",
@@ -64,8 +65,8 @@ class Page(html.parser.HTMLParser):
         return [attributes for name, attributes in self.tags if name == tag]
 
 
-def event_page(*arguments, **keywords):
-    done = subprocess.run(["event-page", *arguments], stdout=subprocess.PIPE, check=True, **keywords)
+def event_page(*arguments):
+    done = subprocess.run(["event-page", *arguments], stdout=subprocess.PIPE, check=True)
     return done.stdout.decode("utf-8")
 
 
@@ -92,15 +93,16 @@ def test_order(folder):
     logs = sorted(map(str, EXAMPLES.glob("evening/*.log")))
     pages = {event_page(*order) for order in itertools.permutations(logs)}
     assert len(pages) == 1
-    (folder / "net.book").write_bytes(subprocess.run(["aprsbook", "merge", *logs], check=True,
-                                                     stdout=subprocess.PIPE).stdout)
+    book = subprocess.run(["aprsbook", "merge", *logs], check=True, stdout=subprocess.PIPE)
+    (folder / "net.book").write_bytes(book.stdout)
     assert event_page(folder / "net.book") in pages
     page, data = read(pages.pop())
     assert page.texts["title"] == ["APRS net"]
     assert len(data["things"]) == 17
     assert page.texts["td"].count("unanswered") == 1
-    messages = [text for text in page.texts["td"] if text in ("unanswered", "rejected", "acknowledged")]
-    assert messages[0] == "unanswered"
+    states = ["unanswered", "rejected", "unnumbered", "acknowledged"]
+    stood = [text for text in page.texts["td"] if text in states]
+    assert stood == sorted(stood, key=states.index)
     (folder / "page.html").write_text("before")
     event_page("-o", folder / "page.html", "--title", "Fell race", *logs)
     assert read((folder / "page.html").read_text())[0].texts["h1"] == ["Fell race"]
@@ -110,8 +112,8 @@ def test_order(folder):
 def test_hostile(folder):
     (folder / "hostile.log").write_text("".join(hostile.log()))
     (folder / "hostile.gpx").write_text(hostile.course())
-    text = event_page("--title", hostile.TITLE, "--live", "60", "--course", folder / "hostile.gpx",
-                      folder / "hostile.log")
+    text = event_page("--title", hostile.TITLE, "--live", "60",
+                      "--course", folder / "hostile.gpx", folder / "hostile.log")
     page, data = read(text)
     assert page.texts["title"] == page.texts["h1"] == [hostile.TITLE]
     for raw in [hostile.TITLE, *hostile.TEXTS]:

@@ -1,11 +1,12 @@
 #!/usr/bin/env python3
-"""Holds every-place to aprsbook itself: each row of a book, alone in a log, through `aprsbook show`.
+"""Holds every-place to aprsbook itself: each row of a book, alone in a log, through `show`.
 
-usage: every_place.py [SEED [FRAMES]]    with aprsbook and every-place in the PATH; needs Python 3
+usage: every_place.py [SEED [FRAMES]]    aprsbook and the recipes in the PATH; needs Python 3
 
-The frames are made at random, with the same seed the same ones: positions plain and compressed, with
-digits left out, stamped or not; objects and items, also killed, with odd names; reports that are none
-of these; frames of 256 bytes; up to eight digipeaters; calls that look like every-place's numbers.
+The frames are made at random, with the same seed the same ones: positions plain and compressed,
+with digits left out, stamped or not; objects and items, also killed, with odd names; reports that
+are none of these; frames of 256 bytes; up to eight digipeaters; calls that look like every-place's
+numbers.
 """
 import collections
 import datetime
@@ -15,8 +16,8 @@ import sys
 
 SOURCES = ["Q1A", "Q1A-7", "Q1BBBB-15", "000001", "ZZZZZZ-3", "9"]
 HOPS = ["WIDE1-1", "Q1DIG", "WIDE2-2"]
-OBJECTS = [b"LEADER", b"CP1 SHED", b"a\\b", b"\\", b"x:y", b"A  B", b"!_!", b";)", b"~", b"123456789",
-           b" lead", b"tab'\"<", b"a>b,c"]
+OBJECTS = [b"LEADER", b"CP1 SHED", b"a\\b", b"\\", b"x:y", b"A  B", b"!_!", b";)", b"~",
+           b"123456789", b" lead", b"tab'\"<", b"a>b,c"]
 ITEMS = [b"AID", b"A\\C", b"  x", b"FIRST AID", b"a:b", b"<b>", b"x  ", b"\\\\\\"]
 COMMENTS = [b"", b"ok", b"tab\there", b"\xc0\xdb\xdc\xdd", b"</script>\"'&amp;\\x3c", b"x" * 40,
             b" lead", "v\u00e4r \u2602".encode(), b"a:b:c \\", b"/A=001234 foo", b"!_!"]
@@ -36,13 +37,14 @@ def plain():
     for place in [6, 5, 3, 2][:max(0, some.randrange(8) - 3)]:
         latitude[place] = ord(" ")
     longitude = b"%03d%02d.%02dW" % tuple(map(some.randrange, (180, 60, 100)))
-    return bytes(latitude) + some.choice([b"/", b"\\", b"A"]) + longitude + some.choice([b":", b"\\", b"!"])
+    table, code = some.choice([b"/", b"\\", b"A"]), some.choice([b":", b"\\", b"!"])
+    return bytes(latitude) + table + longitude + code
 
 
 def compressed():
     digits = [some.randrange(68566681) // 91 ** n % 91 + 33 for n in (3, 2, 1, 0, 3, 2, 1, 0)]
-    symbol = some.choice([b":", b"\\", b"!"])
-    return some.choice([b"/", b"\\", b"j"]) + bytes(digits) + symbol + b"%c!T" % some.randrange(33, 124)
+    table, code = some.choice([b"/", b"\\", b"j"]), some.choice([b":", b"\\", b"!"])
+    return table + bytes(digits) + code + b"%c!T" % some.randrange(33, 124)
 
 
 def information():
@@ -77,11 +79,12 @@ def heard():
     """A log: each frame once or more, so that some rows have copies."""
     for _ in range(frames):
         octets = frame(some.choice(SOURCES))
-        start = datetime.datetime(2024, 6, 21, 18) + datetime.timedelta(milliseconds=some.randrange(700000))
+        start = some.randrange(700000)
         for _ in range(some.randrange(1, 4)):
-            later = start + datetime.timedelta(seconds=some.choice([0, 1, 29, 31]))
-            moment = later.isoformat(timespec="milliseconds") + "Z"
-            yield line(moment, some.choice(["RX1", "RX2", "a_b-C"]), octets)
+            later = datetime.timedelta(milliseconds=start + some.choice([0, 1000, 29000, 31000]))
+            moment = datetime.datetime(2024, 6, 21, 18) + later
+            receiver = some.choice(["RX1", "RX2", "a_b-C"])
+            yield line(moment.isoformat(timespec="milliseconds") + "Z", receiver, octets)
 
 
 def degrees(fraction):
@@ -109,8 +112,8 @@ def places(row):
         for _ in range(2):
             end += 4 if tail.startswith("\\x5c", end) else 1
         assert tail[end] == ":", shown
-        yield "\t".join([kind, name, state, first, last, receivers, call, degrees(north), degrees(east),
-                         ambiguity, tail[:end], tail[end + 1:]])
+        yield "\t".join([kind, name, state, first, last, receivers, call, degrees(north),
+                         degrees(east), ambiguity, tail[:end], tail[end + 1:]])
 
 
 log = "".join(heard())

@@ -5,12 +5,14 @@ import datetime
 TITLE = "</title><script>window.ran=1</script>"
 TEXTS = [
     "</script><script>window.ran=2</script>", "<img src=x onerror=\"window.ran=3\">",
-    "\"'><svg onload=window.ran=4>", "&lt;b&gt; &amp; &#60;", "\\x3cscript>", "<!--<script>", "]]>-->",
-    "{{7*7}} ${7*7} %s %(x)s {0}", "\u202egnp.exe", "\u2067right\u2069", "a\0b\7", "javascript:alert(1)",
-    "x" * 200, "  two  spaces ", "\u2028\u2029", "\\\\", "tab\there", "\u00dcn\u00efc\u00f6d\u00e9 \u2602",
-    "\ufffe\U0001f600", "<style>*{display:none}</style>", "<meta http-equiv=refresh content=0>",
+    "\"'><svg onload=window.ran=4>", "&lt;b&gt; &amp; &#60;", "\\x3cscript>", "<!--<script>",
+    "]]>-->", "{{7*7}} ${7*7} %s %(x)s {0}", "\u202egnp.exe", "\u2067right\u2069", "a\0b\7",
+    "javascript:alert(1)", "x" * 200, "  two  spaces ", "\u2028\u2029", "\\\\", "tab\there",
+    "\u00dcn\u00efc\u00f6d\u00e9 \u2602", "\ufffe\U0001f600", "<style>*{display:none}</style>",
+    "<meta http-equiv=refresh content=0>",
 ]
-NAMES = ["<img src>", "\"'&<>`\\", "--><b>", "&lt;b&gt;", "'+alert+'", "</script", "constructo", "__proto__"]
+NAMES = ["<img src>", "\"'&<>`\\", "--><b>", "&lt;b&gt;", "'+alert+'", "</script", "constructo",
+         "__proto__"]
 
 
 def address(call, flags, last=0):
@@ -45,11 +47,12 @@ def log():
 def course():
     """A GPX file, with a name in it that is no markup there."""
     name = TEXTS[0].replace("&", "&amp;").replace("<", "&lt;")
-    return ('<gpx xmlns="http://www.topografix.com/GPX/1/1"><wpt lat="54.5" lon="-3.5"><name>' + name
-            + '</name></wpt><trk><trkseg><trkpt lat="54.5" lon="-3.5"/><trkpt lat="54.6" lon="-3.4"/>'
-            "</trkseg></trk></gpx>")
+    return ('<gpx xmlns="http://www.topografix.com/GPX/1/1">'
+            f'<wpt lat="54.5" lon="-3.5"><name>{name}</name></wpt><trk><trkseg>'
+            '<trkpt lat="54.5" lon="-3.5"/><trkpt lat="54.6" lon="-3.4"/></trkseg></trk></gpx>')
 
 
 def shown(text):
-    """How the page shows a text: what can't be printed as \\x.. of its bytes."""
-    return "".join(c if c.isprintable() else "".join("\\x%02x" % b for b in c.encode()) for c in text)
+    """How the page shows a text: what can't be printed stays in hexadecimal, after a backslash."""
+    return "".join(it if it.isprintable() else "".join(f"\\x{octet:02x}" for octet in it.encode())
+                   for it in text)

@@ -1,7 +1,7 @@
 #!/usr/bin/env python3
-"""Tries event-page in headless Chromium: text off the air does nothing, and the controls do their work.
+"""Tries event-page in headless Chromium: text off the air does nothing, and the controls work.
 
-usage: in_browser.py EXAMPLES [PICTURES]    with aprsbook and event-page in the PATH; needs Python 3 and
+usage: in_browser.py EXAMPLES [PICTURES]    aprsbook and the recipes in the PATH; needs Python 3 and
                                             chromium; PICTURES is a folder for pictures of the page
 """
 import json
@@ -17,8 +17,10 @@ import hostile
 EXAMPLES = pathlib.Path(sys.argv[1])
 PICTURES = sys.argv[2] if len(sys.argv) > 2 else None
 EVENING = sorted(map(str, EXAMPLES.glob("evening/*.log")))
-CONTROLS = ["button", "slider", "searchbox", "combobox", "checkbox", "link", "table", "img", "group"]
-shown = "[...document.querySelectorAll('#things tbody tr:not([hidden]) th')].map(it => it.textContent)"
+CONTROLS = "button slider searchbox combobox checkbox link table img group".split()
+texts = "[...document.querySelectorAll('%s')].map(it => it.textContent)"
+shown = texts % "#things tbody tr:not([hidden]) th"
+sorted_by_sent = "document.querySelectorAll('#things thead th')[5].getAttribute('aria-sort')"
 FIND = "document.getElementById('find')"
 marks = "document.querySelectorAll('#map g').length"
 
@@ -35,14 +37,14 @@ def is_(got, wanted):
 def test_hostile(page, folder):
     (folder / "hostile.log").write_text("".join(hostile.log()))
     (folder / "hostile.gpx").write_text(hostile.course())
-    url = event_page(folder / "hostile.html", "--title", hostile.TITLE, "--course", folder / "hostile.gpx",
-                     folder / "hostile.log")
+    url = event_page(folder / "hostile.html", "--title", hostile.TITLE,
+                     "--course", folder / "hostile.gpx", folder / "hostile.log")
     page.open(url)
     is_(page.js("document.title"), hostile.TITLE)
-    texts = page.js("[...document.querySelectorAll('bdi')].map(it => it.textContent)")
+    said = page.js(texts % "bdi")
     for text in hostile.TEXTS:
-        is_(texts.count(hostile.shown(text)), 3)
-    names = page.js("[...document.querySelectorAll('#map g title')].map(it => it.textContent)")
+        is_(said.count(hostile.shown(text)), 3)
+    names = page.js(texts % "#map g title")
     assert len(names) > 40 and any(name.startswith("<img src>: ") for name in names)
     page.js("document.querySelectorAll('#map g, .pick, th button').forEach(it => "
             "it.dispatchEvent(new Event('click')))")
@@ -53,7 +55,8 @@ def test_hostile(page, folder):
     picture(page, "hostile", whole=True)
     # were a text not escaped, the page's policy would still stop it
     page.js("""(() => {
-        const add = (tag, of) => Object.assign(document.body.appendChild(document.createElement(tag)), of);
+        const add = (tag, of) =>
+            Object.assign(document.body.appendChild(document.createElement(tag)), of);
         add("script", { textContent: "window.ran = 5" });
         add("img", { src: "http://127.0.0.1:9/x.png" });
         add("div", { innerHTML: "<a onclick='window.ran = 6' id=more>x</a>" });
@@ -73,16 +76,18 @@ def test_controls(page, folder):
     page.js("document.querySelectorAll('#things thead button')[5].click()")
     is_(page.js(shown + "[0]"), "Q1NET")
     page.js("document.querySelectorAll('#things thead button')[5].click()")
-    is_(page.js("document.querySelectorAll('#things thead th')[5].getAttribute('aria-sort')"), "ascending")
+    is_(page.js(sorted_by_sent), "ascending")
     page.js(f"{FIND}.value = 'runner'; {FIND}.dispatchEvent(new Event('input'))")
     found = page.js(shown)
     assert 0 < len(found) < 17
     is_(page.js("found.textContent"), f"{len(found)} of 17")
     is_(page.js(marks), len(found))
     page.js(f"{FIND}.value = ''; kind.value = 'object'; kind.dispatchEvent(new Event('change'))")
-    is_(set(page.js("[...document.querySelectorAll('#map g')].map(it => it.classList[0])")), {"object"})
+    is_(page.js("document.querySelectorAll('#map g:not(.object)').length"), 0)
+    assert page.js(marks) > 0
     page.js("kind.value = ''; kind.dispatchEvent(new Event('change'))")
-    page.js("[...document.querySelectorAll('.pick')].find(it => it.textContent === 'Q1RUN-7').click()")
+    page.js("[...document.querySelectorAll('.pick')].find(it => it.textContent === 'Q1RUN-7')"
+            ".click()")
     is_(page.js("document.querySelectorAll('#map .picked').length"), 2)
     picture(page, "picked")
     # the clock: half way, fewer have been anywhere; and what is chosen outlives loading again
@@ -99,18 +104,19 @@ def test_controls(page, folder):
     page.wait("document.querySelectorAll('#map .picked').length === 2")
     is_(page.js("location.hash"), hash_before)
     is_([page.js("document.getElementById('then').textContent"), page.js(marks)], before)
-    is_(page.js("document.querySelectorAll('#things thead th')[5].getAttribute('aria-sort')"), "ascending")
+    is_(page.js(sorted_by_sent), "ascending")
     page.js("map.focus()")
     page.key("0")
     assert "view" not in page.js("location.hash")
     # the mouse: the wheel zooms, and a drag moves
-    box = page.js("(() => { const box = map.getBoundingClientRect(); return [box.x, box.y] })()")
-    page.call("Input.dispatchMouseEvent", type="mouseWheel", x=box[0] + 90, y=box[1] + 90, deltaX=0, deltaY=-99)
+    corner = page.js("(() => { const it = map.getBoundingClientRect(); return [it.x, it.y] })()")
+    x, y = corner[0] + 90, corner[1] + 90
+    page.call("Input.dispatchMouseEvent", type="mouseWheel", x=x, y=y, deltaX=0, deltaY=-99)
     page.wait("location.hash.includes('view=')")
     middle = page.js("location.hash")
     for kind, by in ("mousePressed", 0), ("mouseMoved", 40), ("mouseReleased", 40):
-        page.call("Input.dispatchMouseEvent", type=kind, x=box[0] + 90 + by, y=box[1] + 90, button="left",
-                  buttons=1, clickCount=1)
+        page.call("Input.dispatchMouseEvent", type=kind, x=x + by, y=y, button="left", buttons=1,
+                  clickCount=1)
     page.wait(f"location.hash !== {json.dumps(middle)}")
     # replaying comes to the end, and stops there
     page.js("fit.click(); clock.value = 950; clock.dispatchEvent(new Event('input')); play.click()")
@@ -130,7 +136,7 @@ def test_names(page, folder):
     for _ in range(60):
         page.key("Tab", 9)
         reached.add(page.js("document.activeElement.id || document.activeElement.className"))
-    assert {"in", "out", "fit", "play", "clock", "map", "find", "kind", "live", "pick"} <= reached, reached
+    assert reached >= set("in out fit play clock map find kind live pick".split()), reached
 
 
 def test_widths(page, folder):
@@ -142,8 +148,9 @@ def test_widths(page, folder):
                 page.open(at, width, 844, scheme)
                 is_(page.js("document.documentElement.scrollWidth <= innerWidth"), True)
                 if width == 390:
-                    inside = "it => it.scrollWidth > it.clientWidth && it.querySelector('.sorted')"
-                    is_(page.js(f"[...document.querySelectorAll('.wide')].filter({inside}).length"), 0)
+                    wide = "it => it.scrollWidth > it.clientWidth && it.querySelector('.sorted')"
+                    all_ = "[...document.querySelectorAll('.wide')]"
+                    is_(page.js(f"{all_}.filter({wide}).length"), 0)
             picture(page, f"{name}-{scheme}")
             picture(page, f"{name}-{scheme}-whole", whole=True)
     (folder / "empty.log").write_text("")
@@ -187,4 +194,4 @@ try:
             test(page, pathlib.Path(name))
 finally:
     page.close()
-print("event-page in Chromium: nothing ran, one request, no message; controls, names, widths, loading again")
+print("event-page in Chromium: nothing ran, one request, no message; controls, names, widths, live")

@@ -1,8 +1,8 @@
 #!/usr/bin/env python3
-"""Tests aprs-listen, on the loopback alone: torn lines, a full disk, midnight, a clock that is set, several
-radios, a server that ends and comes back, and one that says nothing.
+"""Tests aprs-listen, on the loopback alone: torn lines, a full disk, midnight, a clock that is set,
+several radios, a server that ends and comes back, and one that says nothing.
 
-usage: listen.py EXAMPLES    the folder examples; aprsbook in the PATH; needs Python 3
+usage: listen.py EXAMPLES    aprsbook in the PATH; needs Python 3
 """
 import importlib.machinery
 import importlib.util
@@ -17,6 +17,7 @@ import time
 import types
 
 EXAMPLES = pathlib.Path(sys.argv[1])
+HILL = EXAMPLES / "evening/hill.log"
 LISTEN = str(EXAMPLES / "recipes/aprs-listen")
 sys.dont_write_bytecode = True
 loader = importlib.machinery.SourceFileLoader("aprs_listen", LISTEN)
@@ -29,13 +30,14 @@ FRAME_1 = FRAME[:1] + b"\x10" + FRAME[2:]
 
 
 def aprsbook(*command, given=b""):
-    return subprocess.run(["aprsbook", *command], input=given, stdout=subprocess.PIPE, check=True).stdout
+    done = subprocess.run(["aprsbook", *command], input=given, stdout=subprocess.PIPE, check=True)
+    return done.stdout
 
 
 def run(folder, given, *options, **keywords):
     """What the program says of a stream."""
-    done = subprocess.run([LISTEN, *options, "RX1", folder], input=given, stderr=subprocess.PIPE, check=True,
-                          **keywords)
+    done = subprocess.run([LISTEN, *options, "RX1", folder], input=given, stderr=subprocess.PIPE,
+                          check=True, **keywords)
     return done.stderr.decode()
 
 
@@ -52,10 +54,10 @@ def whole(text):
 
 
 def test_stream(folder):
-    stream = aprsbook("convert", "kiss", EXAMPLES / "evening/hill.log")
+    stream = aprsbook("convert", "kiss", HILL)
     assert run(folder, b"torn\xc0" + stream + FRAME[:9]) == ""
     [log] = logs(folder).values()
-    assert aprsbook("convert", "text", given=log) == aprsbook("convert", "text", EXAMPLES / "evening/hill.log")
+    assert aprsbook("convert", "text", given=log) == aprsbook("convert", "text", HILL)
     assert all(line[19] == ord(".") and line[23:29] == b"Z RX1 " for line in log.splitlines())
 
 
@@ -88,7 +90,7 @@ def clock_at(*moments):
     rest = list(moments)
     boot = iter(range(1000))
     listen.time = types.SimpleNamespace(
-        time=lambda: rest.pop(0), clock_gettime=lambda _: next(boot), CLOCK_BOOTTIME=None, sleep=time.sleep)
+        time=lambda: rest.pop(0), clock_gettime=lambda _: next(boot), CLOCK_BOOTTIME=None)
     return listen.Clock()
 
 
@@ -97,8 +99,8 @@ def test_midnight(folder):
     options = types.SimpleNamespace(folder=folder, name="RX1", ports=False)
     stream = [b"", FRAME * 2]
     listen.listen(options, clock_at(midnight - 0.001, midnight + 0.999), lambda _: stream.pop())
-    for day, moment in ("2024-06-21", "2024-06-21T23:59:59.999Z"), ("2024-06-22", "2024-06-22T00:00:00.999Z"):
-        [line] = (pathlib.Path(folder) / day / "RX1.log").read_text().splitlines()
+    for moment in "2024-06-21T23:59:59.999Z", "2024-06-22T00:00:00.999Z":
+        [line] = (pathlib.Path(folder) / moment[:10] / "RX1.log").read_text().splitlines()
         assert line.startswith(moment + " RX1 "), line
     assert said == []
 
@@ -114,13 +116,14 @@ def test_clock(_):
 
 def test_radios(folder):
     run(folder, FRAME + FRAME_1 * 2, "--ports")
-    assert {name: whole(log) for name, log in logs(folder).items()} == {"RX1.log": 1, "RX1-1.log": 2}
+    heard = {name: whole(log) for name, log in logs(folder).items()}
+    assert heard == {"RX1.log": 1, "RX1-1.log": 2}
     run(folder, FRAME_1)
     assert whole(logs(folder)["RX1.log"]) == 2
 
 
 def test_server(folder):
-    """The server ends a connection in a frame; then it isn't there; then it says nothing; then it goes on."""
+    """The server ends a connection in a frame, isn't there, says nothing, and goes on."""
     listen.time, listen.AGAIN = time, 0.1
     server = socket.create_server(("127.0.0.1", 0))
     place = server.getsockname()
@@ -158,4 +161,4 @@ for test in test_stream, test_torn, test_full, test_midnight, test_clock, test_r
     said.clear()
     with tempfile.TemporaryDirectory() as name:
         test(name)
-print("aprs-listen: torn lines, a full disk, midnight, the clock, radios, a server that ends or is silent")
+print("aprs-listen: torn lines, a full disk, midnight, the clock, radios, servers that end")

@@ -1,7 +1,7 @@
 #!/bin/sh
-# Tests merge-dask on the loopback: a scheduler and four workers, two of which are killed in the middle.
-# usage: merge_dask.sh EXAMPLES    the folder examples; aprsbook and merge-dask in the PATH; needs
-#                                  dask-scheduler and dask-worker (python3-distributed)
+# Tests merge-dask on the loopback: a scheduler and four workers, two of which are killed in the
+# middle.
+# usage: merge_dask.sh EXAMPLES    aprsbook and the recipes in the PATH; needs python3-distributed
 set -eu
 export LC_ALL=C
 examples=$1
@@ -38,7 +38,8 @@ chmod +x bin/aprsbook
 cat "$examples"/evening/*.log | split -l 6 - part/
 aprsbook merge "$examples"/evening/*.log > wanted.book
 
-dask-scheduler --host 127.0.0.1 --port 0 --no-dashboard --scheduler-file scheduler.json > scheduler.txt 2>&1 &
+dask-scheduler --host 127.0.0.1 --port 0 --no-dashboard --scheduler-file scheduler.json \
+    > scheduler.txt 2>&1 &
 started=$!
 tries=0
 until [ -s scheduler.json ]; do
@@ -48,8 +49,8 @@ until [ -s scheduler.json ]; do
 done
 address=$(sed -n 's/.*"address": "\(tcp:[^"]*\)".*/\1/p' scheduler.json)
 for n in 1 2 3 4; do
-    PATH="$scratch/bin:$PATH" dask-worker "$address" --host 127.0.0.1 --nthreads 1 --no-nanny --no-dashboard \
-        --local-directory "$scratch/worker.$n" > "worker.$n.txt" 2>&1 &
+    PATH="$scratch/bin:$PATH" dask-worker "$address" --host 127.0.0.1 --nthreads 1 --no-nanny \
+        --no-dashboard --local-directory "$scratch/worker.$n" > "worker.$n.txt" 2>&1 &
     started="$started $!"
 done
 merge-dask --fan 2 "$address" net.book part/* > client.txt 2>&1 &
@@ -64,7 +65,9 @@ cmp net.book wanted.book || fail 'the book is another'
 # a log with a fault is said, and no book is made; the inputs of one host go to its workers
 cp wanted.book faulty.book
 sed -n '1,3p' wanted.book > cut.book
-if merge-dask "$address" faulty.book 127.0.0.1:"$PWD/cut.book" part/aa 2> said.txt; then fail 'a cut book was taken'; fi
+if merge-dask "$address" faulty.book "127.0.0.1:$PWD/cut.book" part/aa 2> said.txt; then
+    fail 'a cut book was taken'
+fi
 grep -q 'merge-dask: aprsbook: .*cut.book: line 4: Ending' said.txt || fail 'the fault is another'
 cmp faulty.book wanted.book || fail 'a book was written at a fault'
 echo "merge-dask: the same bytes, with two of four workers killed; a fault"

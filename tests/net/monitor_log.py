@@ -1,7 +1,7 @@
 #!/usr/bin/env python3
-"""Tests monitor-log: logs come back byte for byte from their monitor text, and a feed has its gates.
+"""Tests monitor-log: logs come back byte for byte from monitor text, and a feed has its gates.
 
-usage: monitor_log.py EXAMPLES    the folder examples; aprsbook and monitor-log in the PATH; needs Python 3
+usage: monitor_log.py EXAMPLES    aprsbook and the recipes in the PATH; needs Python 3
 """
 import pathlib
 import re
@@ -12,7 +12,7 @@ EXAMPLES = pathlib.Path(sys.argv[1])
 
 
 def run(*command, given=b""):
-    done = subprocess.run(command, input=given, stdout=subprocess.PIPE, stderr=subprocess.PIPE, check=True)
+    done = subprocess.run(command, input=given, capture_output=True, check=True)
     return done.stdout, done.stderr.decode()
 
 
@@ -20,15 +20,15 @@ def test_evening():
     for path in sorted(EXAMPLES.glob("evening/*.log")):
         log, _ = run("aprsbook", "convert", "log", path)
         text, _ = run("aprsbook", "convert", "text", path)
-        moments = [line[:24] for line in log.splitlines()]
         name = log.split(b" ")[1].decode()
-        own = b"".join(moment + b" " + line + b"\n" for moment, line in zip(moments, text.splitlines()))
+        own, wolf = b"", b""
+        for moment, line in zip([line[:24] for line in log.splitlines()], text.splitlines()):
+            own += moment + b" " + line + b"\n"
+            # as Dire Wolf prints it: no Z, other escapes, and but one star, after the last
+            # digipeater that repeated the frame
+            line = re.sub(rb"\\x(..)", rb"<0x\1>", re.sub(rb"\*(?=,[^:]*\*)", b"", line))
+            wolf += b"\nQ1DIG audio level = 50(12/12)\n[0.3 " + moment[:23] + b"] " + line + b"\n"
         assert run("monitor-log", "--name", name, "--bytes", "aprsbook", given=own) == (log, "")
-        # as Dire Wolf prints it: no Z, other escapes, a star after the last digipeater that repeated alone
-        wolf = b"".join(
-            b"\nQ1DIG audio level = 50(12/12)\n[0.3 " + moment[:23] + b"] "
-            + re.sub(rb"\\x(..)", rb"<0x\1>", re.sub(rb"\*(?=,[^:]*\*)", b"", line)) + b"\n"
-            for moment, line in zip(moments, text.splitlines()))
         assert run("monitor-log", "--name", name, given=wolf) == (log, "")
 
 
@@ -46,7 +46,8 @@ Q1NET>APDW17,Q1NETTOOLONG,qAR,Q0GATE-1:>no call either
     [row] = book.splitlines()[1:-1]
     assert row.split(b" ")[3] == b"Q0GATE-1,Q0OTHER", row
     text, _ = run("aprsbook", "convert", "text", given=log)
-    assert text.splitlines()[0] == rb"Q1RUN-7>APDW17,Q1DIG*,WIDE2-1:!5432.58N/00327.36W>caf\xc3\xa9 <0x41> \x5cx41"
+    assert text.splitlines()[0] == (
+        rb"Q1RUN-7>APDW17,Q1DIG*,WIDE2-1:!5432.58N/00327.36W>caf\xc3\xa9 <0x41> \x5cx41")
 
 
 def test_refused():

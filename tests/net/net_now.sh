@@ -1,6 +1,6 @@
 #!/bin/sh
 # Tests net-now: the days that it takes, torn lines, a second round, and a round that fails.
-# usage: net_now.sh EXAMPLES    the folder examples; aprsbook and the recipes in the PATH; needs Python 3
+# usage: net_now.sh EXAMPLES    aprsbook and the recipes in the PATH; needs Python 3
 set -eu
 export LC_ALL=C
 examples=$1
@@ -16,14 +16,15 @@ fail() {
 mkdir -p logs/2024-06-21
 cp "$examples"/evening/*.log logs/2024-06-21
 aprsbook merge logs/2024-06-21/*.log > wanted.book
-{ head -c 301 "$examples/evening/hill.log" && echo; cat "$examples/evening/hill.log"; } > logs/2024-06-21/HILL.log
+{ head -c 301 "$examples/evening/hill.log"; echo; cat "$examples/evening/hill.log"; } > torn
+mv torn logs/2024-06-21/hill.log
+cp "$examples/evening/north.log" logs/2024-06-21/more.log
 head -c 1001 "$examples/evening/north.log" > logs/2024-06-21/north.log
-cat "$examples/evening/north.log" > logs/2024-06-21/more.log
 DAYS=2024-06-21 net-now logs page --title 'Fell race' 2> said
 cmp page/net.book wanted.book || fail 'the book is another'
-[ "$(cat said)" = 'net-now: logs/2024-06-21/HILL.log: lines left out: 1' ] || fail "it says: $(cat said)"
+[ "$(cat said)" = 'net-now: logs/2024-06-21/hill.log: lines left out: 1' ] || fail "$(cat said)"
 grep -q '<h1>Fell race</h1>' page/index.html || fail 'the page has another title'
-[ "$(ls page)" = "$(printf 'index.html\nnet.book')" ] || fail "there is more: $(ls page)"
+[ -z "$(find page -name '*.new')" ] || fail 'something was left beside'
 
 # another gap, and what has the book's old file open goes on reading it
 exec 3< page/net.book
@@ -35,7 +36,8 @@ cmp wanted.book - <&3 || fail 'a book was written over'
 cp page/net.book before.book
 cp page/index.html before.html
 if GAP=0 DAYS=2024-06-21 net-now logs page 2> said; then fail 'a gap of 0 was taken'; fi
-cmp page/net.book before.book && cmp page/index.html before.html || fail 'a round that failed left something'
+cmp page/net.book before.book || fail 'a round that failed left another book'
+cmp page/index.html before.html || fail 'a round that failed left another page'
 
 # today and yesterday; again, should midnight have come between
 while
@@ -45,13 +47,13 @@ while
     for ago in 0 1 2; do
         day=$(date -u -d "@$((now - 86400 * ago))" +%Y-%m-%d)
         mkdir -p "logs/$day"
-        sed "s/^2024-06-21/$day/" "$examples/sample.log" | sed "s/^2024-05-01/$day/" > "logs/$day/RX1.log"
+        sed "s/^2024-05-01/$day/" "$examples/sample.log" > "logs/$day/RX1.log"
     done
     net-now logs page
     [ "$today" != "$(date -u +%Y-%m-%d)" ]
 do :; done
 sed -n 's/^T \([^T]*\)T.*/\1/p' page/net.book | sort -u > days
-ls logs | sed 1d | cmp - days || fail "it took the days $(cat days)"
+printf '%s\n' logs/* | sed '1d; s/.*\///' | cmp - days || fail "it took the days $(cat days)"
 
 # none was heard yet
 net-now none page

@@ -1,6 +1,6 @@
 #!/bin/sh
-# Tests the recipes of tracks, the page, the net and the engine, each where its tools are there, and says
-# which were left out.
+# Tests the recipes of tracks, the page, the net and the engine, each where its tools are there, and
+# says which were left out.
 # usage: tests/net/run.sh PROGRAM
 set -eu
 export LC_ALL=C PYTHONDONTWRITEBYTECODE=1

@@ -1,25 +1,27 @@
 #!/usr/bin/env python3
 """Tests tracks: each form has the places of every-place, field by field, and lines end at a kill.
 
-usage: tracks.py EXAMPLES    the folder examples; aprsbook, every-place and tracks in the PATH; needs Python 3
+usage: tracks.py EXAMPLES    aprsbook and the recipes in the PATH; needs Python 3
 """
 import csv
 import io
 import itertools
 import json
+import pathlib
 import subprocess
 import sys
 import xml.etree.ElementTree
 
 import hostile
 
-EXAMPLES = sys.argv[1]
+EXAMPLES = pathlib.Path(sys.argv[1])
 COLUMNS = "kind name state first last receivers source lat lon ambiguity symbol comment".split()
 GPX = "{http://www.topografix.com/GPX/1/1}"
 
 
 def run(*command, given=b""):
-    return subprocess.run(command, input=given, stdout=subprocess.PIPE, check=True).stdout.decode("ascii")
+    done = subprocess.run(command, input=given, stdout=subprocess.PIPE, check=True)
+    return done.stdout.decode("ascii")
 
 
 def segments(places):
@@ -35,10 +37,12 @@ def segments(places):
 
 
 def test(log):
-    places = [dict(zip(COLUMNS, line.split("\t"))) for line in run("every-place", given=log).splitlines()]
+    listed = run("every-place", given=log).splitlines()
+    places = [dict(zip(COLUMNS, line.split("\t"), strict=True)) for line in listed]
     assert places
     assert list(csv.DictReader(io.StringIO(run("tracks", "csv", given=log)))) == places
-    things = [list(group) for _, group in itertools.groupby(places, lambda it: (it["kind"], it["name"]))]
+    groups = itertools.groupby(places, lambda it: (it["kind"], it["name"]))
+    things = [list(group) for _, group in groups]
     moved = [them for them in things if len({(it["lat"], it["lon"]) for it in them}) > 1]
 
     collection = json.loads(run("tracks", "geojson", given=log))
@@ -47,10 +51,12 @@ def test(log):
     lines = collection["features"][len(points):]
     for point, place in zip(points, places, strict=True):
         assert point["geometry"]["coordinates"] == [float(place["lon"]), float(place["lat"])]
-        assert point["properties"] == {name: place[name] for name in COLUMNS if name not in ("lat", "lon")}
+        wanted = {name: place[name] for name in COLUMNS if name not in ("lat", "lon")}
+        assert point["properties"] == wanted
     wanted = []
     for them in moved:
-        line = [[[float(it["lon"]), float(it["lat"])] for it in run] for run in segments(them) if len(run) > 1]
+        line = [[[float(it["lon"]), float(it["lat"])] for it in run]
+                for run in segments(them) if len(run) > 1]
         if line:
             wanted.append(({"kind": them[0]["kind"], "name": them[0]["name"]},
                            {"type": "MultiLineString", "coordinates": line}))
@@ -78,18 +84,22 @@ def test(log):
     return len(places), len(moved)
 
 
-evening = b"".join(open(f"{EXAMPLES}/evening/{name}.log", "rb").read() for name in ("coast", "hill", "north"))
+evening = b"".join(path.read_bytes() for path in EXAMPLES.glob("evening/*.log"))
 # an object that is put, moved, killed, and put elsewhere; a station with a height
 more = []
 for minute, source, text in [
-        (0, "Q1NET", ";LEADER   *111111z5432.58N/00327.36W>"), (1, "Q1NET", ";LEADER   *111111z5433.58N/00327.36W>"),
-        (2, "Q1NET", ";LEADER   _111111z5434.58N/00327.36W>"), (3, "Q1NET", ";LEADER   *111111z5435.58N/00327.36W>"),
-        (4, "Q1FLY", "!5432.58N/00327.36W'/A=001000 up"), (5, "Q1FLY", "!5432.  N/00327.  W'/A=00100x")]:
-    frame = hostile.address("APRS", 0xE0) + hostile.address(source, 0x60, 1) + b"\x03\xf0" + text.encode()
+        (0, "Q1NET", b";LEADER   *111111z5432.58N/00327.36W>"),
+        (1, "Q1NET", b";LEADER   *111111z5433.58N/00327.36W>"),
+        (2, "Q1NET", b";LEADER   _111111z5434.58N/00327.36W>"),
+        (3, "Q1NET", b";LEADER   *111111z5435.58N/00327.36W>"),
+        (4, "Q1FLY", b"!5432.58N/00327.36W'/A=001000 up"),
+        (5, "Q1FLY", b"!5432.  N/00327.  W'/A=00100x")]:
+    frame = hostile.address("APRS", 0xE0) + hostile.address(source, 0x60, 1) + b"\x03\xf0" + text
     more.append(f"2024-06-21T21:{minute:02}:00Z RX1 c000{frame.hex()}c0\n")
 assert test("".join(more).encode()) == (6, 2)
-heights = xml.etree.ElementTree.fromstring(run("tracks", "gpx", given="".join(more).encode())).iter(GPX + "ele")
-assert [height.text for height in heights] == ["304.8"]
+root = xml.etree.ElementTree.fromstring(run("tracks", "gpx", given="".join(more).encode()))
+# a point of the track alone: the last place has none
+assert [height.text for height in root.iter(GPX + "ele")] == ["304.8"]
 count, moved = test(evening)
 test("".join(hostile.log()).encode())
 print(f"tracks: {count} places of the evening in CSV, GPX and GeoJSON, {moved} things that moved")
