@@ -122,6 +122,12 @@ def test_radios(folder):
     assert whole(logs(folder)["RX1.log"]) == 2
 
 
+def test_noise(folder):
+    noise = bytes(range(1, 192)) * 50
+    assert run(folder, noise + FRAME * 2 + noise + FRAME + noise[:2049] + FRAME) == ""
+    assert whole(logs(folder)["RX1.log"]) == 4
+
+
 def test_server(folder):
     """The server ends a connection in a frame, isn't there, says nothing, and goes on."""
     listen.time, listen.AGAIN = time, 0.1
@@ -157,7 +163,9 @@ def wait(condition):
         time.sleep(0.05)
 
 
-for test in test_stream, test_torn, test_full, test_midnight, test_clock, test_radios, test_server:
+tests = [test_stream, test_torn, test_full, test_midnight, test_clock, test_radios, test_noise,
+         test_server]
+for test in tests:
     said.clear()
     with tempfile.TemporaryDirectory() as name:
         test(name)
