@@ -97,7 +97,7 @@ def test_order(folder):
     (folder / "net.book").write_bytes(book.stdout)
     assert event_page(folder / "net.book") in pages
     page, data = read(pages.pop())
-    assert page.texts["title"] == ["APRS net"]
+    assert page.texts["h1"] == ["APRS net"]
     assert len(data["things"]) == 17
     assert page.texts["td"].count("unanswered") == 1
     states = ["unanswered", "rejected", "unnumbered", "acknowledged"]
@@ -115,7 +115,7 @@ def test_hostile(folder):
     text = event_page("--title", hostile.TITLE, "--live", "60",
                       "--course", folder / "hostile.gpx", folder / "hostile.log")
     page, data = read(text)
-    assert page.texts["title"] == page.texts["h1"] == [hostile.TITLE]
+    assert page.texts["title"][0] == page.texts["h1"][0] == hostile.TITLE
     for raw in [hostile.TITLE, *hostile.TEXTS]:
         if re.search("[<>&\"']", raw):
             assert raw not in text.replace(SCRIPT, ""), raw

@@ -45,7 +45,8 @@ def test_hostile(page, folder):
     for text in hostile.TEXTS:
         is_(said.count(hostile.shown(text)), 3)
     names = page.js(texts % "#map g title")
-    assert len(names) > 40 and any(name.startswith("<img src>: ") for name in names)
+    is_(len(names), len(hostile.TEXTS) + 1 + 2 * len(hostile.NAMES))
+    assert any(name.startswith("<img src>: ") for name in names)
     page.js("document.querySelectorAll('#map g, .pick, th button').forEach(it => "
             "it.dispatchEvent(new Event('click')))")
     is_(page.js("[window.ran === undefined, document.querySelectorAll('script').length, "
@@ -72,7 +73,7 @@ def test_controls(page, folder):
     page.open(url)
     is_(page.requests(), [url])
     is_(page.problems(), [])
-    is_(page.js(marks), 17)
+    is_(page.js(marks), 16)
     page.js("document.querySelectorAll('#things thead button')[5].click()")
     is_(page.js(shown + "[0]"), "Q1NET")
     page.js("document.querySelectorAll('#things thead button')[5].click()")
@@ -121,7 +122,7 @@ def test_controls(page, folder):
     # replaying comes to the end, and stops there
     page.js("fit.click(); clock.value = 950; clock.dispatchEvent(new Event('input')); play.click()")
     page.wait("clock.value === '1000' && play.textContent === 'play'")
-    is_(page.js(marks), 17)
+    is_(page.js(marks), 16)
     is_(page.problems(), [])
 
 

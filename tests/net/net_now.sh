@@ -16,7 +16,7 @@ fail() {
 mkdir -p logs/2024-06-21
 cp "$examples"/evening/*.log logs/2024-06-21
 aprsbook merge logs/2024-06-21/*.log > wanted.book
-{ head -c 301 "$examples/evening/hill.log"; echo; cat "$examples/evening/hill.log"; } > torn
+{ head -c 21 "$examples/evening/hill.log"; echo; cat "$examples/evening/hill.log"; } > torn
 mv torn logs/2024-06-21/hill.log
 cp "$examples/evening/north.log" logs/2024-06-21/more.log
 head -c 1001 "$examples/evening/north.log" > logs/2024-06-21/north.log
