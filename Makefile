@@ -62,6 +62,12 @@ cookbook: build
 bench: build
 	bench/run.sh $(PROGRAM)
 
+# the recipes of tracks, a page, a net that runs and an engine, each where its tools are there
+.PHONY: net
+cookbook: net
+net: build
+	tests/net/run.sh $(PROGRAM)
+
 # book files that nobody would write by hand: what each takes
 hostile: build
 	bench/hostile.sh $(PROGRAM)

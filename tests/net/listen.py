@@ -1,0 +1,172 @@
+#!/usr/bin/env python3
+"""Tests aprs-listen, on the loopback alone: torn lines, a full disk, midnight, a clock that is set,
+several radios, a server that ends and comes back, and one that says nothing.
+
+usage: listen.py EXAMPLES    aprsbook in the PATH; needs Python 3
+"""
+import importlib.machinery
+import importlib.util
+import pathlib
+import resource
+import socket
+import subprocess
+import sys
+import tempfile
+import threading
+import time
+import types
+
+EXAMPLES = pathlib.Path(sys.argv[1])
+HILL = EXAMPLES / "evening/hill.log"
+LISTEN = str(EXAMPLES / "recipes/aprs-listen")
+sys.dont_write_bytecode = True
+loader = importlib.machinery.SourceFileLoader("aprs_listen", LISTEN)
+listen = importlib.util.module_from_spec(importlib.util.spec_from_loader("aprs_listen", loader))
+loader.exec_module(listen)
+said = []
+listen.say = said.append
+FRAME = bytes.fromhex("c00082a0a4a64040e09c60868298986f03f03e4869c0")
+FRAME_1 = FRAME[:1] + b"\x10" + FRAME[2:]
+
+
+def aprsbook(*command, given=b""):
+    done = subprocess.run(["aprsbook", *command], input=given, stdout=subprocess.PIPE, check=True)
+    return done.stdout
+
+
+def run(folder, given, *options, **keywords):
+    """What the program says of a stream."""
+    done = subprocess.run([LISTEN, *options, "RX1", folder], input=given, stderr=subprocess.PIPE,
+                          check=True, **keywords)
+    return done.stderr.decode()
+
+
+def logs(folder):
+    """The texts of all logs below the folder, by name."""
+    return {path.name: path.read_bytes() for path in sorted(pathlib.Path(folder).glob("*/*.log"))}
+
+
+def whole(text):
+    """How many frames the log has; each of its lines is whole."""
+    answer = aprsbook("check", given=text).decode().split()
+    assert answer[0] == "heard" and answer[2:] == ["passed", "0"], answer
+    return int(answer[1])
+
+
+def test_stream(folder):
+    stream = aprsbook("convert", "kiss", HILL)
+    assert run(folder, b"torn\xc0" + stream + FRAME[:9]) == ""
+    [log] = logs(folder).values()
+    assert aprsbook("convert", "text", given=log) == aprsbook("convert", "text", HILL)
+    assert all(line[19] == ord(".") and line[23:29] == b"Z RX1 " for line in log.splitlines())
+
+
+def test_torn(folder):
+    run(folder, FRAME * 2)
+    [path] = pathlib.Path(folder).glob("*/*.log")
+    log = path.read_bytes()
+    for cut in range(len(log)):
+        path.write_bytes(log[:cut])
+        listen.put(folder, "RX1", f"{path.parent.name}T12:00:00.000Z", FRAME)
+        assert whole(path.read_bytes()) == log[:cut].count(b"\n") + 1, cut
+    path.write_bytes(log[:-7])
+    assert "torn line" in run(folder, FRAME)
+    assert whole(path.read_bytes()) == 2
+
+
+def test_full(folder):
+    def limit():
+        resource.setrlimit(resource.RLIMIT_FSIZE, (1000, 1000))
+
+    assert run(folder, FRAME * 40, preexec_fn=limit).count("torn line") > 20
+    [log] = logs(folder).values()
+    assert 900 < len(log) <= 1000 and whole(log) == len(log.splitlines())
+    assert run(folder, FRAME) == ""
+    assert whole(logs(folder)["RX1.log"]) == len(log.splitlines()) + 1
+
+
+def clock_at(*moments):
+    """A clock for aprs-listen that says each of these seconds once."""
+    rest = list(moments)
+    boot = iter(range(1000))
+    listen.time = types.SimpleNamespace(
+        time=lambda: rest.pop(0), clock_gettime=lambda _: next(boot), CLOCK_BOOTTIME=None)
+    return listen.Clock()
+
+
+def test_midnight(folder):
+    midnight = 1719014400  # 2024-06-22
+    options = types.SimpleNamespace(folder=folder, name="RX1", ports=False)
+    stream = [b"", FRAME * 2]
+    listen.listen(options, clock_at(midnight - 0.001, midnight + 0.999), lambda _: stream.pop())
+    for moment in "2024-06-21T23:59:59.999Z", "2024-06-22T00:00:00.999Z":
+        [line] = (pathlib.Path(folder) / moment[:10] / "RX1.log").read_text().splitlines()
+        assert line.startswith(moment + " RX1 "), line
+    assert said == []
+
+
+def test_clock(_):
+    clock = clock_at(1719014400, 1719014401, 1719014402 - 3600, 20)
+    for _ in range(3):
+        clock.moment()
+    assert said == ["the clock was set by -3600.0 seconds"], said
+    clock.moment()
+    assert said[-1] == "the clock says 1970-01-01: set it"
+
+
+def test_radios(folder):
+    run(folder, FRAME + FRAME_1 * 2, "--ports")
+    heard = {name: whole(log) for name, log in logs(folder).items()}
+    assert heard == {"RX1.log": 1, "RX1-1.log": 2}
+    run(folder, FRAME_1)
+    assert whole(logs(folder)["RX1.log"]) == 2
+
+
+def test_noise(folder):
+    noise = bytes(range(1, 192)) * 50
+    assert run(folder, noise + FRAME * 2 + noise + FRAME + noise[:2049] + FRAME) == ""
+    assert whole(logs(folder)["RX1.log"]) == 4
+
+
+def test_server(folder):
+    """The server ends a connection in a frame, isn't there, says nothing, and goes on."""
+    listen.time, listen.AGAIN = time, 0.1
+    server = socket.create_server(("127.0.0.1", 0))
+    place = server.getsockname()
+    options = types.SimpleNamespace(folder=folder, name="RX1", ports=False, connect=place, idle=0.5)
+    threading.Thread(target=listen.connect, args=(options, listen.Clock()), daemon=True).start()
+
+    def accept():
+        server.settimeout(10)
+        return server.accept()[0]
+
+    with accept() as connection:
+        connection.sendall(FRAME * 2 + FRAME[:9])
+    server.close()
+    wait(lambda: any("refused" in text for text in said))
+    server = socket.create_server(place)
+    silent = accept()
+    silent.sendall(FRAME)
+    with accept() as connection:
+        connection.sendall(FRAME[5:] + FRAME)
+        wait(lambda: logs(folder).get("RX1.log", b"").count(b"\n") == 4)
+    silent.close()
+    server.close()
+    assert whole(logs(folder)["RX1.log"]) == 4
+    assert {"connected", "the connection ended", "timed out"} <= set(said), said
+
+
+def wait(condition):
+    end = time.monotonic() + 10
+    while not condition():
+        assert time.monotonic() < end, said
+        time.sleep(0.05)
+
+
+tests = [test_stream, test_torn, test_full, test_midnight, test_clock, test_radios, test_noise,
+         test_server]
+for test in tests:
+    said.clear()
+    with tempfile.TemporaryDirectory() as name:
+        test(name)
+print("aprs-listen: torn lines, a full disk, midnight, the clock, radios, servers that end")

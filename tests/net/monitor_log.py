@@ -1,0 +1,69 @@
+#!/usr/bin/env python3
+"""Tests monitor-log: logs come back byte for byte from monitor text, and a feed has its gates.
+
+usage: monitor_log.py EXAMPLES    aprsbook and the recipes in the PATH; needs Python 3
+"""
+import pathlib
+import re
+import subprocess
+import sys
+
+EXAMPLES = pathlib.Path(sys.argv[1])
+
+
+def run(*command, given=b""):
+    done = subprocess.run(command, input=given, capture_output=True, check=True)
+    return done.stdout, done.stderr.decode()
+
+
+def test_evening():
+    for path in sorted(EXAMPLES.glob("evening/*.log")):
+        log, _ = run("aprsbook", "convert", "log", path)
+        text, _ = run("aprsbook", "convert", "text", path)
+        name = log.split(b" ")[1].decode()
+        own, wolf = b"", b""
+        for moment, line in zip([line[:24] for line in log.splitlines()], text.splitlines()):
+            own += moment + b" " + line + b"\n"
+            # as Dire Wolf prints it: no Z, other escapes, and but one star, after the last
+            # digipeater that repeated the frame
+            line = re.sub(rb"\\x(..)", rb"<0x\1>", re.sub(rb"\*(?=,[^:]*\*)", b"", line))
+            wolf += b"\nQ1DIG audio level = 50(12/12)\n[0.3 " + moment[:23] + b"] " + line + b"\n"
+        assert run("monitor-log", "--name", name, "--bytes", "aprsbook", given=own) == (log, "")
+        assert run("monitor-log", "--name", name, given=wolf) == (log, "")
+
+
+def test_feed():
+    feed = b"""# aprsc 2.1.19 01 Jan 2024 00:00:00 GMT T2TEST 127.0.0.1:14580
+Q1RUN-7>APDW17,Q1DIG*,WIDE2-1,qAR,Q0GATE-1:!5432.58N/00327.36W>caf\xc3\xa9 <0x41> \\x41
+Q1RUN-7>APDW17,qAO,Q0OTHER:!5432.58N/00327.36W>caf\xc3\xa9 <0x41> \\x41
+Q1NET>APDW17,TCPIP*,qAC,T2TEST:>sent over the net alone
+Q1lower>APDW17,qAR,Q0GATE-1:>no call
+Q1NET>APDW17,Q1NETTOOLONG,qAR,Q0GATE-1:>no call either
+"""
+    log, said = run("monitor-log", "--igate", "--now", "--bytes", "raw", given=feed)
+    assert said.count("\n") == 1 and "Q1NETTOOLONG is no call" in said, said
+    book, _ = run("aprsbook", "merge", given=log)
+    [row] = book.splitlines()[1:-1]
+    assert row.split(b" ")[3] == b"Q0GATE-1,Q0OTHER", row
+    text, _ = run("aprsbook", "convert", "text", given=log)
+    assert text.splitlines()[0] == (
+        rb"Q1RUN-7>APDW17,Q1DIG*,WIDE2-1:!5432.58N/00327.36W>caf\xc3\xa9 <0x41> \x5cx41")
+
+
+def test_refused():
+    text = b"""Q1NET>APRS:>no time before it
+2024-06-31T12:00:00Z Q1NET>APRS:>no such day
+2024-06-21T12:00:00Z Q1NET>APRS:
+2024-06-21T12:00:00Z Q1NET>APRS,A,B,C,D,E,F,G,H,I:>too many
+2024-06-21T12:00:00Z Q1NET>APRS:%s
+2024-06-21 12:00:00.25 Q1NET>APRS:>kept\r
+""" % (b"x" * 257)
+    log, said = run("monitor-log", given=text)
+    assert said.count("monitor-log: ") == 3, said
+    assert log.startswith(b"2024-06-21T12:00:00.250Z TEXT c000") and log.count(b"\n") == 1
+    assert run("aprsbook", "check", given=log)[0] == b"heard 1 passed 0\n"
+
+
+for test in test_evening, test_feed, test_refused:
+    test()
+print("monitor-log: the evening's logs byte for byte, a feed of APRS-IS, lines that are none")

@@ -1,0 +1,61 @@
+#!/bin/sh
+# Tests net-now: the days that it takes, torn lines, a second round, and a round that fails.
+# usage: net_now.sh EXAMPLES    aprsbook and the recipes in the PATH; needs Python 3
+set -eu
+export LC_ALL=C
+examples=$1
+scratch=$(mktemp -d)
+trap 'rm -r "$scratch"' EXIT
+cd "$scratch"
+fail() {
+    echo "tests/net/net_now.sh: $*" >&2
+    exit 1
+}
+
+# a day that is named; a torn line in the midst of a log, and one that is being written
+mkdir -p logs/2024-06-21
+cp "$examples"/evening/*.log logs/2024-06-21
+aprsbook merge logs/2024-06-21/*.log > wanted.book
+{ head -c 21 "$examples/evening/hill.log"; echo; cat "$examples/evening/hill.log"; } > torn
+mv torn logs/2024-06-21/hill.log
+cp "$examples/evening/north.log" logs/2024-06-21/more.log
+head -c 1001 "$examples/evening/north.log" > logs/2024-06-21/north.log
+DAYS=2024-06-21 net-now logs page --title 'Fell race' 2> said
+cmp page/net.book wanted.book || fail 'the book is another'
+[ "$(cat said)" = 'net-now: logs/2024-06-21/hill.log: lines left out: 1' ] || fail "$(cat said)"
+grep -q '<h1>Fell race</h1>' page/index.html || fail 'the page has another title'
+[ -z "$(find page -name '*.new')" ] || fail 'something was left beside'
+
+# another gap, and what has the book's old file open goes on reading it
+exec 3< page/net.book
+GAP=60 DAYS=2024-06-21 net-now logs page 2> said
+cmp wanted.book - <&3 || fail 'a book was written over'
+[ "$(head -n 1 page/net.book)" = 'APRSBOOK 3 60' ] || fail 'the gap is another'
+
+# a round that fails keeps what is there
+cp page/net.book before.book
+cp page/index.html before.html
+if GAP=0 DAYS=2024-06-21 net-now logs page 2> said; then fail 'a gap of 0 was taken'; fi
+cmp page/net.book before.book || fail 'a round that failed left another book'
+cmp page/index.html before.html || fail 'a round that failed left another page'
+
+# today and yesterday; again, should midnight have come between
+while
+    today=$(date -u +%Y-%m-%d)
+    now=$(date +%s)
+    rm -rf logs page
+    for ago in 0 1 2; do
+        day=$(date -u -d "@$((now - 86400 * ago))" +%Y-%m-%d)
+        mkdir -p "logs/$day"
+        sed "s/^2024-05-01/$day/" "$examples/sample.log" > "logs/$day/RX1.log"
+    done
+    net-now logs page
+    [ "$today" != "$(date -u +%Y-%m-%d)" ]
+do :; done
+sed -n 's/^T \([^T]*\)T.*/\1/p' page/net.book | sort -u > days
+printf '%s\n' logs/* | sed '1d; s/.*\///' | cmp - days || fail "it took the days $(cat days)"
+
+# none was heard yet
+net-now none page
+[ "$(sed -n '$p' page/net.book)" = 'END 0' ] || fail 'a book of nothing has rows'
+echo "net-now: its days, torn lines, a second round, a round that fails"
