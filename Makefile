@@ -2,7 +2,7 @@
 PREFIX ?= /usr/local
 PROGRAM = crates/aprsbook/out/aprsbook
 
-.PHONY: build libraries run try test words recipes cookbook bench hostile
+.PHONY: build libraries run try test words map recipes cookbook bench hostile
 .PHONY: built install uninstall deb tarball
 
 # how many jobs a proof has: as many as there are processors, at most four, each with 3 GB of free memory
@@ -37,11 +37,19 @@ try:
 test: words recipes
 	rt ci
 
-# the manual page and the completions name what the program has, and the scripts are in order
+# the manual page and the completions name what the program has, the documents what the crates have, and the
+# scripts are in order
 words:
 	tests/words.sh
+	tests/names.sh
+	tests/map.sh
 	tests/completions.sh
 	tests/scripts.sh
+
+# the map in docs/architecture.md, drawn anew
+map:
+	build/map.sh > docs/architecture.new
+	mv docs/architecture.new docs/architecture.md
 
 # what is tried with the program: the README's example, the old club's book, gaps, what happens to logs and
 # books, each awk, the packages
