@@ -23,7 +23,8 @@ std: Box BufWriter Copy Drop Ok Option PartialEq Result u64::MAX
 standards: DDMM.hh DDDMM.hh atest f0 rust
 commands of make: deb tarball try
 states of messages and objects: acknowledged rejected unanswered unnumbered tracks
-of examples: in/ logs/DAY/HILL.log logs/DAY/RECEIVER.log millis.log numerator/denominator own.book slow.log
+of examples: in/ logs/DAY/HILL.log logs/DAY/RECEIVER.log millis.log numerator/denominator own.book page
+slow.log time
 what is made: out/ crates/aprsbook/out/aprsbook share/aprsbook
 how names are written: function.clause
 end
