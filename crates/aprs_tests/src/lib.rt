@@ -22,6 +22,8 @@ mod given_back;
 #[cfg(test)]
 mod last_known;
 #[cfg(test)]
+mod library;
+#[cfg(test)]
 mod lines;
 #[cfg(test)]
 mod listed;
