@@ -4,7 +4,10 @@
 use crate::last_known::{callsign, sent};
 use crate::refused_calls::{SENT, squeeze};
 use crate::vectors::{DIRECT, heard, receiver};
-use aprs_book::{Book, Gap, Join, MergeFault, Receivers, RowList, WidenFault, all_fit};
+use aprs_book::{
+    Book, Gap, Join, MergeFault, ReceiverList, Receivers, RowList, WidenFault, all_fit,
+};
+use aprs_log::Receiver;
 use aprs_pile::{Pile, PiledRows, RowView};
 use bumpalo::Bump;
 use std::alloc::Global;
@@ -127,11 +130,7 @@ fn shown_rows(book: &Book<&Bump>) -> usize {
 }
 
 /// Whether the call answers as it has to, of books with and without a wider gap.
-fn is_answered<'a>(
-    bump: &'a Bump,
-    call: Call,
-    books: &[Book<&'a Bump>],
-) -> Result<bool, Fail> {
+fn is_answered<'a>(bump: &'a Bump, call: Call, books: &[Book<&'a Bump>]) -> Result<bool, Fail> {
     let [book, wide] = books else {
         return Err("two books".into());
     };
@@ -227,6 +226,24 @@ fn listed_names_ask_for_none(rt: HostRuntime) -> Result<(), Fail> {
     let size = bump.allocated_bytes();
     add_all(&mut names, NAMES)?;
     assert!(rt; names.as_slice().len() == 3 && bump.allocated_bytes() == size);
+    Ok(())
+}
+
+/// How many names a list shows, and then gives back.
+fn shown_and_given(names: Vec<Receiver, &Bump>) -> (usize, usize) {
+    let list = ReceiverList::new(names);
+    let shown = list.as_slice().len();
+    (shown, list.into_vec().len())
+}
+
+#[test]
+fn lists_of_names_ask_for_none(rt: HostRuntime) -> Result<(), Fail> {
+    let bump = Bump::try_with_capacity(rt.alloc(), 4096)?;
+    let mut names = Vec::new(&bump);
+    names.push(receiver(b"RX1")?)?;
+    let _filling = fill(&bump)?;
+    let size = bump.allocated_bytes();
+    assert!(rt; shown_and_given(names) == (1, 1) && bump.allocated_bytes() == size);
     Ok(())
 }
 
