@@ -174,7 +174,9 @@ fn used_of_parts(heap: &LocalHeap, made: Made) -> Result<usize, Fail> {
 fn used_of_desk(heap: &LocalHeap) -> Result<usize, Fail> {
     let mut desk = Desk::new(heap, MAX_INPUT);
     for input in [LOG, MERGED_TEXT] {
-        desk.take_input(&mut Counted::new(input)).ok().ok_or("an input")?;
+        desk.take_input(&mut Counted::new(input))
+            .ok()
+            .ok_or("an input")?;
     }
     Ok(heap.used())
 }
@@ -186,10 +188,16 @@ fn used_of(alloc: Global, heap: &LocalHeap, made: Made) -> Result<usize, Fail> {
         Made::Receivers => used_of_receivers(heap),
         Made::RowParts | Made::Pushed => used_of_parts(heap, made),
         Made::ReadBook => {
-            used_with(heap, read_book(heap, MAX_INPUT, b"", &mut Counted::new(MERGED_TEXT)))
+            used_with(
+                heap,
+                read_book(heap, MAX_INPUT, b"", &mut Counted::new(MERGED_TEXT)),
+            )
         }
         Made::ReadInput => {
-            used_with(heap, read_input(heap, MAX_INPUT, Gap::STANDARD, &mut Counted::new(LOG)))
+            used_with(
+                heap,
+                read_input(heap, MAX_INPUT, Gap::STANDARD, &mut Counted::new(LOG)),
+            )
         }
         Made::Desk => used_of_desk(heap),
         Made::Book
@@ -222,7 +230,11 @@ T 2099-12-31T23:59:59.000Z 2099-12-31T23:59:59.000Z RX2 RX2 82a0a4a64040e09c6086
 
 /// Whether a merge or a listing of a log, a book file and a third input fails at that one.
 fn is_refused(alloc: Global, heap: &LocalHeap, third: &[u8], is_listing: bool) -> bool {
-    let mut inputs = [Counted::new(LOG), Counted::new(MERGED_TEXT), Counted::new(third)];
+    let mut inputs = [
+        Counted::new(LOG),
+        Counted::new(MERGED_TEXT),
+        Counted::new(third),
+    ];
     let mut out = Counted::new(Vec::new(alloc));
     if is_listing {
         show_run(heap, MAX_INPUT, Gap::STANDARD, &mut inputs, &mut out).is_err()
@@ -235,7 +247,11 @@ fn is_refused(alloc: Global, heap: &LocalHeap, third: &[u8], is_listing: bool) -
 #[test]
 fn what_fails_gives_all_back(rt: HostRuntime) -> Result<(), Fail> {
     let heap = LocalHeap::new(rt.alloc(), 262_144)?;
-    for third in [CUT_TEXT, b"APRSBOOK 3 31\nEND 0\n".as_slice(), b"no log\n".as_slice()] {
+    for third in [
+        CUT_TEXT,
+        b"APRSBOOK 3 31\nEND 0\n".as_slice(),
+        b"no log\n".as_slice(),
+    ] {
         assert!(rt; is_refused(rt.alloc(), &heap, third, false));
         assert!(rt; is_refused(rt.alloc(), &heap, third, true));
         assert!(rt; heap.used() == 0);

@@ -4,7 +4,10 @@
 use crate::last_known::{callsign, sent};
 use crate::refused_calls::{SENT, squeeze};
 use crate::vectors::{DIRECT, heard, receiver};
-use aprs_book::{Book, Gap, Join, MergeFault, Receivers, RowList, WidenFault, all_fit};
+use aprs_book::{
+    Book, Gap, Join, MergeFault, ReceiverList, Receivers, RowList, WidenFault, all_fit,
+};
+use aprs_log::Receiver;
 use aprs_pile::{Pile, PiledRows, RowView};
 use bumpalo::Bump;
 use std::alloc::Global;
@@ -127,11 +130,7 @@ fn shown_rows(book: &Book<&Bump>) -> usize {
 }
 
 /// Whether the call answers as it has to, of books with and without a wider gap.
-fn is_answered<'a>(
-    bump: &'a Bump,
-    call: Call,
-    books: &[Book<&'a Bump>],
-) -> Result<bool, Fail> {
+fn is_answered<'a>(bump: &'a Bump, call: Call, books: &[Book<&'a Bump>]) -> Result<bool, Fail> {
     let [book, wide] = books else {
         return Err("two books".into());
     };
@@ -208,24 +207,58 @@ fn receptions_in_place_ask_for_none(rt: HostRuntime) -> Result<(), Fail> {
     Ok(())
 }
 
+const NAMES: &[&[u8]] = &[b"RX2", b"RX1", b"RX3"];
+
+/// Adds these names.
+fn add_all<'a>(names: &mut Receivers<&'a Bump>, added: &[&[u8]]) -> Result<(), Fail> {
+    for name in added {
+        names.add(&receiver(name)?).ok().ok_or("memory")?;
+    }
+    Ok(())
+}
+
 #[test]
 fn listed_names_ask_for_none(rt: HostRuntime) -> Result<(), Fail> {
     let bump = Bump::try_with_capacity(rt.alloc(), 4096)?;
     let mut names = Receivers::new(&bump);
-    for name in [b"RX2", b"RX1", b"RX3"] {
-        names.add(&receiver(name)?).ok().ok_or("memory")?;
-    }
+    add_all(&mut names, NAMES)?;
     let _filling = fill(&bump)?;
     let size = bump.allocated_bytes();
-    for name in [b"RX1", b"RX2", b"RX3"] {
-        names.add(&receiver(name)?).ok().ok_or("memory")?;
-    }
+    add_all(&mut names, NAMES)?;
     assert!(rt; names.as_slice().len() == 3 && bump.allocated_bytes() == size);
     Ok(())
 }
 
-/// Whether these are the rows of what was sent.
-fn are_rows_of_sent(rows: &PiledRows<'_, &Bump>) -> bool {
+/// How many names a list shows, and then gives back.
+fn shown_and_given(names: Vec<Receiver, &Bump>) -> (usize, usize) {
+    let list = ReceiverList::new(names);
+    let shown = list.as_slice().len();
+    (shown, list.into_vec().len())
+}
+
+#[test]
+fn lists_of_names_ask_for_none(rt: HostRuntime) -> Result<(), Fail> {
+    let bump = Bump::try_with_capacity(rt.alloc(), 4096)?;
+    let mut names = Vec::new(&bump);
+    names.push(receiver(b"RX1")?)?;
+    let _filling = fill(&bump)?;
+    let size = bump.allocated_bytes();
+    assert!(rt; shown_and_given(names) == (1, 1) && bump.allocated_bytes() == size);
+    Ok(())
+}
+
+/// The pile of what was sent.
+fn pile_of_sent(bump: &Bump) -> Result<Pile<&Bump>, Fail> {
+    let mut pile = Pile::new(bump);
+    for &(second, source, info) in SENT {
+        let x = sent(second, source, info)?;
+        pile.push(&x).ok().ok_or("memory")?;
+    }
+    Ok(pile)
+}
+
+/// How many rows are shown that were heard at one moment.
+fn shown_piled_rows(rows: &PiledRows<'_, &Bump>) -> usize {
     let mut shown = 0usize;
     for row in rows.rows() {
         let view = row.view();
@@ -233,22 +266,30 @@ fn are_rows_of_sent(rows: &PiledRows<'_, &Bump>) -> bool {
             shown = shown.saturating_add(1);
         }
     }
-    rows.gap() == Gap::STANDARD && rows.len() == SENT.len() && shown == SENT.len()
+    shown
+}
+
+/// Whether calls of the pile and of its rows answer as they have to, and ask for no memory.
+fn ask_for_none<'a>(
+    bump: &'a Bump,
+    pile: &Pile<&'a Bump>,
+    rows: &PiledRows<'_, &'a Bump>,
+) -> Result<bool, Fail> {
+    let _filling = fill(bump)?;
+    let size = bump.allocated_bytes();
+    let is_right = !pile.is_empty()
+        && rows.gap() == Gap::STANDARD
+        && rows.len() == SENT.len()
+        && shown_piled_rows(rows) == SENT.len();
+    Ok(is_right && bump.allocated_bytes() == size)
 }
 
 #[test]
 fn calls_of_piles_ask_for_none(rt: HostRuntime) -> Result<(), Fail> {
     let bump = Bump::try_with_capacity(rt.alloc(), 65_536)?;
-    let mut pile = Pile::new(&bump);
-    for &(second, source, info) in SENT {
-        let x = sent(second, source, info)?;
-        pile.push(&x).ok().ok_or("memory")?;
-    }
+    let pile = pile_of_sent(&bump)?;
     let sorted = pile.sorted().ok().ok_or("memory")?;
     let rows = sorted.rows(Gap::STANDARD).ok().ok_or("memory")?;
-    let _filling = fill(&bump)?;
-    let size = bump.allocated_bytes();
-    assert!(rt; !pile.is_empty() && are_rows_of_sent(&rows));
-    assert!(rt; bump.allocated_bytes() == size);
+    assert!(rt; ask_for_none(&bump, &pile, &rows)?);
     Ok(())
 }
