@@ -41,19 +41,22 @@ test: words recipes
 words:
 	tests/words.sh
 
-# the README's example, the old club's book, gaps, and the recipes that need only a POSIX system, where
-# a program is there that is newer than its sources
+# the README's example, the old club's book, gaps, outputs that take nothing, and the recipes that need only
+# a POSIX system, where a program is there that is newer than its sources
 recipes:
 	@if [ -x $(PROGRAM) ] && [ -z "$$(find crates -name '*.rt' -newer $(PROGRAM))" ]; then \
 	    tests/readme.sh $(PROGRAM) && tests/old_book.sh $(PROGRAM) && \
-	    tests/gaps.sh $(PROGRAM) && examples/cookbook.sh --posix $(PROGRAM); \
+	    tests/gaps.sh $(PROGRAM) && tests/full_output.sh $(PROGRAM) && \
+	    examples/cookbook.sh --posix $(PROGRAM); \
 	else echo 'left out: the recipes of the cookbook, since no program is built (make build)'; fi
 
-# the README's example, the old club's book, gaps, and every recipe of the cookbook whose tools are there
+# the README's example, the old club's book, gaps, outputs that take nothing, and every recipe of the cookbook
+# whose tools are there
 cookbook: build
 	tests/readme.sh $(PROGRAM)
 	tests/old_book.sh $(PROGRAM)
 	tests/gaps.sh $(PROGRAM)
+	tests/full_output.sh $(PROGRAM)
 	examples/cookbook.sh $(PROGRAM)
 
 bench: build
