@@ -43,6 +43,7 @@ words:
 	tests/words.sh
 	tests/names.sh
 	tests/map.sh
+	tests/library.sh
 	tests/completions.sh
 	tests/scripts.sh
 
@@ -51,9 +52,9 @@ map:
 	build/map.sh > docs/architecture.new
 	mv docs/architecture.new docs/architecture.md
 
-# what is tried with the program: the README's example, the old club's book, gaps, what happens to logs and
+# what is tried with the program: the README's example, the old club's book, gaps, outputs that take nothing, what happens to logs and
 # books, each awk, the packages
-TRIED = readme old_book gaps logs books awks packages
+TRIED = readme old_book gaps full_output logs books awks packages
 tried = $(foreach it,$(TRIED),tests/$(it).sh $(PROGRAM) &&)
 
 # these, and the recipes that need only a POSIX system, where a program is there that is newer than its

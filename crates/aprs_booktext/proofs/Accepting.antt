@@ -3,12 +3,12 @@ use Rattle.std.proofs.Common.{◌≡◌, ℕ, ◌+◌, ◌*◌, ◌/◌, ◌%◌
 use Rattle.std.proofs.lemmas.List.{length-map}
 use Rattle.std.proofs.lemmas.List.Elements.{All-weaker}
 use Rattle.std.proofs.lemmas.Result.{IfErr-weaker}
-use Rattle.aprs_io.specs.declared.input.TheConstants.{MAX_INPUT}
-use Rattle.aprs_log.specs.LogAnswers.{Gets}
+use Rattle.aprs_io.specs.Input.{most_input}
+use Rattle.aprs_io.specs.Input.{Gets}
 use Rattle.aprs_log.specs.Moment.{civil_after, civil_text, moment_text_in}
 use Rattle.aprs_log.specs.Reception.{Heard}
-use Rattle.aprs_log.specs.declared.Ending.{Ending}
-use Rattle.aprs_log.specs.declared.Ending.TheVariants as ending
+use Rattle.aprs_io.specs.declared.input.Ending.{Ending}
+use Rattle.aprs_io.specs.declared.input.Ending.TheVariants as ending
 use Rattle.aprs_log.specs.declared.moment_form.MomentForm.{MomentForm}
 use Rattle.aprs_log.specs.declared.moment_form.MomentForm.TheVariants.{Seconds, Millis}
 use Rattle.aprs_laws.specs.BookValue.{BookValue, Holds}
@@ -65,7 +65,7 @@ text_of_read limit head input after book h =
     }
 
 module _ (limit : ℕ) (head rest : List ℕ) (after : Option (List ℕ)) (v : Version) (rows : List Row)
-    (small : limit ≤ MAX_INPUT) (is : IsBookRows v rows)
+    (small : limit ≤ most_input) (is : IsBookRows v rows)
     (text_is : head ++ rest ≡ book_text v rows) where
   -- what was read is the book of the rows
   pub same_read : (found : BookValue) → Reads limit head rest after (Ok found)
@@ -101,7 +101,7 @@ module _ (limit : ℕ) (head rest : List ℕ) (after : Option (List ℕ)) (v : V
 
 -- the same, where the input's bytes may not be known, and a failed read has Q
 pub accepts : (known after : Option (List ℕ)) (limit : ℕ) (head : List ℕ)
-    (r : Result BookValue BookFault) (Q : Type 0) → limit ≤ MAX_INPUT
+    (r : Result BookValue BookFault) (Q : Type 0) → limit ≤ most_input
     → IfSome known (λ input. Reads limit head input after r)
     → IfErr r (λ f. f.cause ≡ cause.Read → Q)
     → IfSome known (λ input. (v : Version) (rows : List Row) → IsBookRows v rows
@@ -114,7 +114,7 @@ accepts (Some input) after limit head r Q small h read =
 
 -- ---- texts of version 1
 
-module _ (limit : ℕ) (head : List ℕ) (after : Option (List ℕ)) (small : limit ≤ MAX_INPUT) where
+module _ (limit : ℕ) (head : List ℕ) (after : Option (List ℕ)) (small : limit ≤ most_input) where
   in_seconds : (input : List ℕ) (S : List Heard) → IsTextInSeconds S (head ++ input)
       → (r : Result BookValue BookFault) → Reads limit head input after r
       → IfOk r (λ book. (book.gap ≡ standard_gap) × Holds (map (scaled_heard 1000) S) book)

@@ -16,7 +16,7 @@ use Rattle.aprs_log.specs.Moment.{moment_in, moment_text_in}
 use Rattle.aprs_log.specs.Receiver.{IsName, is_name}
 use Rattle.aprs_log.specs.declared.moment_form.MomentForm.{MomentForm}
 use Rattle.aprs_log.proofs.Moments.{moment_in-text}
-use Rattle.aprs_log.specs.declared.Ending.{Ending}
+use Rattle.aprs_io.specs.declared.input.Ending.{Ending}
 use Rattle.aprs_laws.specs.Gap.{greatest_gap, IsGap, millis_of}
 use Rattle.aprs_laws.specs.Row.{Row, last_of}
 use Rattle.aprs_laws.specs.Sound.{Sound}
@@ -30,12 +30,11 @@ use Rattle.aprs_booktext.specs.Law.{IsBookText}
 use Rattle.aprs_booktext.specs.Lines.{is_byte, Lacks, pieces}
 use Rattle.aprs_booktext.specs.Reader.{HoldsIn, IsJudgedIn, StandsAfter, is_done, line_number, may_end}
 use Rattle.aprs_booktext.specs.RowFields.{SpellsBytes, SpellsNames}
-use Rattle.aprs_booktext.specs.Text.{row_line, end_line, lines_of, book_text, IsSpelled, IsBookRow, IsWritable}
+use Rattle.aprs_booktext.specs.Text.{row_line, end_line, lines_of, book_text, most_frame_bytes, IsSpelled, IsBookRow, IsWritable}
 use Rattle.aprs_booktext.specs.Version.{form_of, gap_of, header_of}
 use Rattle.aprs_booktext.specs.declared.fault.BookCause.{BookCause}
 use Rattle.aprs_booktext.specs.declared.fault.BookCause.TheVariants as cause
 use Rattle.aprs_booktext.specs.declared.fault.BookFault.{BookFault}
-use Rattle.aprs_booktext.specs.declared.hexadecimal.TheConstants.{MAX_FRAME}
 use Rattle.aprs_booktext.specs.declared.reader.Stage.{Stage}
 use Rattle.aprs_booktext.specs.declared.reader.Stage.TheVariants.{Header, Rows, Done}
 use Rattle.aprs_booktext.specs.declared.version.Version.{Version}
@@ -118,7 +117,7 @@ bytes_or_none d = by (decode_of d) refl where
       | inr none ↦ inr (λ bytes h. let f : Ok b ≡ Ok bytes = sym is
           ∙ decode_of-spelled d bytes h in let same : b ≡ bytes = cc in let few = h.few.0 in
           omega (arith, none, few, ap length same))
-      | inl some ↦ elim (cases_lt MAX_FRAME (length b)) [
+      | inl some ↦ elim (cases_lt most_frame_bytes (length b)) [
         | inl many ↦ inr (λ bytes h. let f : Ok b ≡ Ok bytes = sym is
             ∙ decode_of-spelled d bytes h in let same : b ≡ bytes = cc in let few = h.few.1 in
             omega (arith, many, few, ap length same))

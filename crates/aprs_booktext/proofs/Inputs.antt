@@ -1,14 +1,17 @@
 -- Lemmas on what was got of an input.
-use Rattle.std.proofs.Common.{◌≡◌, ℕ, ◌+◌, List, [], ◌++◌, length, Option, None, Some, IfSome, Result, Err, inl, inr, refl, sym, ap, ◌∙◌, subst, append_assoc, append-nil, length-append, arith}
+use Rattle.std.proofs.Common.{◌≡◌, ℕ, ◌+◌, ◌-◌, ◌≤◌, List, [], ◌++◌, length, drop, Option, None, Some, IfSome, Result, Err, inl, inr, refl, sym, ap, ◌∙◌, subst, append_assoc, append-nil, length-append, arith}
+use Rattle.std.proofs.Math.Seq.{drop-append-add}
 use Rattle.std.specs.Io.KnownBytes.{Consumes}
 use Rattle.std.proofs.KnownBytes.{Consumes-nil, Consumes-trans}
-use Rattle.aprs_log.specs.LogAnswers.{Gets, EndsSo}
-use Rattle.aprs_log.specs.declared.Ending.{Ending}
-use Rattle.aprs_log.specs.declared.Ending.TheVariants as ending
+use Rattle.aprs_io.specs.Input.{EndsSo, Gets, TakesOne}
+use Rattle.aprs_io.specs.declared.input.Ending.{Ending}
+use Rattle.aprs_io.specs.declared.input.Ending.TheVariants as ending
 use Rattle.aprs_laws.specs.BookValue.{BookValue}
-use Rattle.aprs_booktext.specs.FirstFault.{Reads, ReadsSo, piece_most}
-use Rattle.aprs_booktext.specs.Reader.{IsFault}
+use Rattle.aprs_booktext.specs.Asking.{Takes, TakesAt, TakesAtMost}
+use Rattle.aprs_booktext.specs.FirstFault.{ending_cause, Reads, ReadsSo, most_ahead}
+use Rattle.aprs_booktext.specs.Reader.{EndsIn, IsFault}
 use Rattle.aprs_booktext.specs.declared.fault.BookFault.{BookFault}
+use Rattle.aprs_booktext.proofs.Asking.{Takes-end}
 
 -- what was got after the head is gone from the input, and that much less may be got
 pub record Got (P : List ℕ → Type 0) (head : List ℕ) (old now : Option (List ℕ))
@@ -72,6 +75,58 @@ module _ (P : List ℕ → Type 0) (head : List ℕ) (old now : Option (List ℕ
     may None = tt
     may (Some y) = record { rest = y; whole = refl; ends = (refl, omega arith) }
 
+  at_most : (input y rest : List ℕ) → input ≡ p.got ++ y → length y ≤ length rest
+      → length input ≤ limit - length head + length rest
+  at_most input y rest took few = omega (
+    arith,
+    p.size,
+    length-append head p.got,
+    ap length took,
+    length-append p.got y,
+    few,
+  )
+
+  -- what was got is all that was taken
+  pub takes_got : IfSome old (λ input. TakesAtMost (limit - length head) input now)
+  takes_got = takes old now p.took where
+    takes : (old now : Option (List ℕ)) → Consumes old now p.got
+        → IfSome old (λ input. TakesAtMost (limit - length head) input now)
+    takes None now took = tt
+    takes (Some input) None took = tt
+    takes (Some input) (Some y) took = at_most input y y took (omega arith)
+
+  taken : (e : Ending) (input y : List ℕ) (after : Option (List ℕ)) → input ≡ p.got ++ y
+      → Gets left y after [] e → (e ≡ ending.TooLong → after ≡ Some (drop 1 y))
+      → TakesAt (ending_cause e) (limit - length head) input after
+  taken ending.End input y None took gets one = tt
+  taken ending.End input y (Some rest) took gets one =
+      let none = ap length (gets.whole ∙ gets.ends.0) in
+      at_most input y rest took (omega (arith, none))
+  taken ending.Read input y after took gets one =
+      subst (TakesAtMost (limit - length head) input) (sym gets.ends.0)
+      (let all = ap length gets.whole in
+      at_most input y gets.rest took (omega (arith, all)))
+  taken ending.TooLong input y after took gets one =
+      let size : limit - length head ≡ length p.got =
+      omega (arith, p.size, gets.ends.1, length-append head p.got) in
+      one refl ∙ ap Some (sym (ap (λ n. drop (n + 1) input) size
+      ∙ ap (drop (length p.got + 1)) took ∙ drop-append-add p.got y 1))
+
+  -- the input ends so, and the answer says it
+  pub Takes-here : (e : Ending) (after : Option (List ℕ)) (r : Result BookValue BookFault)
+      → EndsIn e r → IfSome now (λ rest. Gets left rest after [] e)
+      → (e ≡ ending.TooLong → TakesOne now after)
+      → IfSome old (λ input. Takes r (limit - length head) input after)
+  Takes-here e after r is gets one = here old now p.took gets one where
+    here : (old now : Option (List ℕ)) → Consumes old now p.got
+        → IfSome now (λ rest. Gets left rest after [] e)
+        → (e ≡ ending.TooLong → TakesOne now after)
+        → IfSome old (λ input. Takes r (limit - length head) input after)
+    here None now took gets one = tt
+    here (Some input) None took gets one = absurd took
+    here (Some input) (Some y) took gets one =
+        Takes-end (limit - length head) input after e r is (taken e input y after took gets one)
+
 -- what was got is read so
 pub Reads-got : (old after : Option (List ℕ)) (limit : ℕ) (head got : List ℕ) (e : Ending)
     (r : Result BookValue BookFault) → IfSome old
@@ -81,7 +136,7 @@ Reads-got None after limit head got e r gets reads = tt
 Reads-got (Some input) after limit head got e r gets reads =
     record { got = got; ending = e; gets = gets; reads = reads }
 
-pub fault_reads : (f : BookFault) (t : List ℕ) (e : Ending) → IsFault piece_most f t
+pub fault_reads : (f : BookFault) (t : List ℕ) (e : Ending) → IsFault most_ahead f t
     → ReadsSo (Err f) t e
 fault_reads f t e h = elim h [
   | inl m ↦ inl m
@@ -90,9 +145,9 @@ fault_reads f t e h = elim h [
 
 -- a fault in what was got
 pub Reads-fault : (f : BookFault) (head : List ℕ) (old now : Option (List ℕ)) (limit left : ℕ)
-    → Got (IsFault piece_most f) head old now limit left
+    → Got (IsFault most_ahead f) head old now limit left
     → IfSome old (λ input. Reads limit head input now (Err f))
 Reads-fault f head old now limit left p =
     Reads-got old now limit head p.got ending.Read (Err f)
-    (Gets-read (IsFault piece_most f) head old now limit left p)
+    (Gets-read (IsFault most_ahead f) head old now limit left p)
     (fault_reads f (head ++ p.got) ending.Read p.stands)

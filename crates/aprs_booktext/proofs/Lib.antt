@@ -1,4 +1,5 @@
 pub mod Accepting
+pub mod Asking
 pub mod Cuts
 pub mod Deciding
 pub mod Digits

@@ -11,8 +11,8 @@ use Rattle.hex.proofs.HexLemmas.{decode_of-encode_lower}
 use Rattle.aprs_ax25.specs.FrameFault.{frame_of}
 use Rattle.aprs_log.specs.Moment.{moment_in, moment_text_in}
 use Rattle.aprs_log.specs.declared.moment_form.MomentForm.{MomentForm}
-use Rattle.aprs_log.specs.declared.Ending.{Ending}
-use Rattle.aprs_log.specs.declared.Ending.TheVariants as ending
+use Rattle.aprs_io.specs.declared.input.Ending.{Ending}
+use Rattle.aprs_io.specs.declared.input.Ending.TheVariants as ending
 use Rattle.aprs_laws.specs.BookValue.{BookValue}
 use Rattle.aprs_laws.specs.Gap.{millis_of}
 use Rattle.aprs_laws.specs.Row.{Row, last_of}

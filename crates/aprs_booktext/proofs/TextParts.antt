@@ -68,24 +68,15 @@ row_lines [] = refl
 row_lines (x ∷ rows) = ap (λ l. line_and_lf x ++ l) (row_lines rows)
 
 pub text_parts : (book : BookValue) (gap : ℕ) (head : List ℕ) → gap ≡ book.gap
-    → head ≡ ended_by_lf (header_of (Three gap))
-    → written_text book ≡ head ++ (flat_map line_and_lf book.rows
-    ++ ended_by_lf (end_line (length book.rows)))
-text_parts book gap head g is = ap (λ l. ended_by_lf (header_of (Three book.gap)) ++ l) (
+    → head ≡ ended_by_lf (header_of (Three gap)) → (n : ℕ) (last : List ℕ) → n ≡ length book.rows
+    → last ≡ ended_by_lf (end_line n)
+    → written_text book ≡ head ++ (flat_map line_and_lf book.rows ++ last)
+text_parts book gap head g h n last e is = ap (λ l. ended_by_lf (header_of (Three book.gap)) ++ l) (
     flat_map-append ended_by_lf (map (row_line Millis) book.rows) (end_line (length book.rows) ∷ [])
     ∙ ap (λ l. l ++ flat_map ended_by_lf (end_line (length book.rows) ∷ [])) (row_lines book.rows)
     ∙ ap (λ l. flat_map line_and_lf book.rows ++ l)
-    (append-nil (ended_by_lf (end_line (length book.rows))))
+    (append-nil (ended_by_lf (end_line (length book.rows)))
+    ∙ ap (λ k. ended_by_lf (end_line k)) (sym e) ∙ sym is)
     )
-    ∙ ap (λ l. l ++ (flat_map line_and_lf book.rows ++ ended_by_lf (end_line (length book.rows))))
-    (sym (is ∙ ap (λ n. ended_by_lf (header_of (Three n))) g))
-
-pub text_end : (book : BookValue) (gap : ℕ) (head : List ℕ) → gap ≡ book.gap
-    → head ≡ ended_by_lf (header_of (Three gap)) → (n : ℕ) (last : List ℕ) → n ≡ length book.rows
-    → last ≡ ended_by_lf (end_line n)
-    → written_text book ≡ (head ++ flat_map line_and_lf book.rows) ++ last
-text_end book gap head g h n last e is = text_parts book gap head g h
-    ∙ sym (append_assoc head (flat_map line_and_lf book.rows)
-    (ended_by_lf (end_line (length book.rows))))
-    ∙ ap (λ l. (head ++ flat_map line_and_lf book.rows) ++ l)
-    (ap (λ k. ended_by_lf (end_line k)) (sym e) ∙ sym is)
+    ∙ ap (λ l. l ++ (flat_map line_and_lf book.rows ++ last))
+    (sym (h ∙ ap (λ k. ended_by_lf (header_of (Three k))) g))

@@ -1,8 +1,15 @@
 -- Rows that were written can be read.
-use Rattle.std.proofs.Common.{◌≡◌, ℕ, ◌+◌, ◌<◌, List, [], ◌∷◌, ◌++◌, length, get_or, take, inl, refl, sym, ap, ◌∙◌, subst, append_assoc, append-nil, arith}
+use Rattle.std.proofs.Common.{◌≡◌, ℕ, ◌+◌, ◌<◌, List, [], ◌∷◌, ◌++◌, length, get_or, take, drop, Option, Result, Ok, Err, inl, refl, sym, ap, ◌∙◌, subst, append_assoc, append-nil, arith}
 use Rattle.std.specs.Prelude.{All}
-use Rattle.std.proofs.lemmas.List.{take_more}
+use Rattle.std.specs.List.{flat_map}
+use Rattle.std.specs.Result.{IsErr}
+use Rattle.std.proofs.lemmas.List.{drop_more, flat_map_more, take_more}
+use Rattle.std.proofs.lemmas.List.Concat.{flat_map-append}
 use Rattle.std.proofs.lemmas.List.Elements.{All-nil, All-push}
+use Rattle.aprs_io.specs.declared.device.WriteFault.{WriteFault}
+use Rattle.aprs_outbox.specs.Outlet.{Puts}
+use Rattle.aprs_outbox.specs.declared.outlet.Outlet.{Outlet}
+use Rattle.aprs_outbox.proofs.Outlets.{Puts-fails, Puts-is, Puts-none, Puts-then}
 use Rattle.aprs_log.specs.Receiver.{IsName}
 use Rattle.aprs_log.specs.declared.moment_form.MomentForm.TheVariants.{Millis}
 use Rattle.aprs_laws.specs.BookValue.{BookValue, IsSoundBook}
@@ -10,6 +17,7 @@ use Rattle.aprs_laws.specs.Lists.{◌∈◌}
 use Rattle.aprs_laws.specs.Row.{Row}
 use Rattle.aprs_laws.specs.Sound.{Sound}
 use Rattle.aprs_laws.proofs.Lists.{in_right}
+use Rattle.aprs_booktext.specs.RowLines.{line_and_lf}
 use Rattle.aprs_booktext.specs.Text.{IsBookRow, IsBookRows, written_version}
 
 -- one name more
@@ -20,38 +28,72 @@ names_more names i name lt is h n =
     subst (All IsName) (ap (λ (y : List ℕ). take i names ++ y ∷ []) is
     ∙ sym (take_more names i name lt)) (All-push IsName (take i names) name h n)
 
+-- what is left of a list of which one is next
+pub rest_next : {X : Type 0} (xs : List X) (i : ℕ) (x : X) → i < length xs → x ≡ get_or xs i x
+    → drop i xs ≡ x ∷ drop (i + 1) xs
+rest_next xs i x lt is = drop_more xs i x lt ∙ ap (λ y. y ∷ drop (i + 1) xs) (sym is)
+
 some_of : (x : List ℕ) (xs : List (List ℕ)) → x ∈ xs → 0 < length xs
 some_of x [] h = absurd h
 some_of x (y ∷ ys) h = omega arith
 
--- those that were written so far are rows of books
-pub record WrittenSoFar (all rest : List Row) : Type 0 where
+-- The lines of a prefix of the rows were put, and they are rows of books.
+pub record PutSoFar {W : Type 0} (contents : W → Option (List ℕ)) (first now : Outlet W)
+    (all rest : List Row) : Type 0 where
   pub prefix : List Row
   pub whole : all ≡ prefix ++ rest
   pub each : All (IsBookRow Millis) prefix
+  pub puts : Puts {E = WriteFault} contents (Ok tt) first now (flat_map line_and_lf prefix)
 
-pub WrittenSoFar-none : (all : List Row) → WrittenSoFar all all
-WrittenSoFar-none all = record { prefix = []; whole = refl; each = All-nil (IsBookRow Millis) }
+module _ {W : Type 0} {contents : W → Option (List ℕ)} where
+  pub PutSoFar-none : (o : Outlet W) (all : List Row) → PutSoFar contents o o all all
+  PutSoFar-none o all = record {
+    prefix = [];
+    whole = refl;
+    each = All-nil (IsBookRow Millis);
+    puts = Puts-none o;
+  }
 
-pub WrittenSoFar-more : (gap : ℕ) (all rest more : List Row) (x : Row) → Sound gap all
-    → WrittenSoFar all rest → rest ≡ x ∷ more → (0 < length x.receivers → IsBookRow Millis x)
-    → WrittenSoFar all more
-WrittenSoFar-more gap all rest more x sound p next is =
-    let cut : all ≡ p.prefix ++ x ∷ more = p.whole ∙ ap (λ r. p.prefix ++ r) next in
-    let own = sound.each x (subst (λ l. x ∈ l) (sym cut)
-    (in_right x p.prefix (x ∷ more) (inl refl))) in
-    record {
-      prefix = p.prefix ++ x ∷ [];
-      whole = cut ∙ sym (append_assoc p.prefix (x ∷ []) more);
-      each = All-push (IsBookRow Millis) p.prefix x p.each
-          (is (some_of x.greatest.receiver x.receivers own.receiver));
-    }
+  module _ {o p : Outlet W} {all rest : List Row} (so : PutSoFar contents o p all rest) where
+    module _ (x : Row) (more : List Row) (next : rest ≡ x ∷ more) where
+      cut : all ≡ so.prefix ++ x ∷ more
+      cut = so.whole ∙ ap (λ r. so.prefix ++ r) next
 
-pub WrittenSoFar-all : (book : BookValue) (rest : List Row) → IsSoundBook book
-    → WrittenSoFar book.rows rest → rest ≡ [] → IsBookRows (written_version book) book.rows
-WrittenSoFar-all book rest h p e = record {
-  version = h.range;
-  sound = h.sound;
-  each = subst (All (IsBookRow Millis)) (sym (p.whole ∙ ap (λ r. p.prefix ++ r) e
-      ∙ append-nil p.prefix)) p.each;
-}
+      -- one row more
+      pub PutSoFar-more : (gap : ℕ) {q : Outlet W} → Sound gap all
+          → Puts {E = WriteFault} contents (Ok tt) p q (line_and_lf x)
+          → (0 < length x.receivers → IsBookRow Millis x) → PutSoFar contents o q all more
+      PutSoFar-more gap sound put is =
+          let own = sound.each x (subst (λ l. x ∈ l) (sym cut)
+          (in_right x so.prefix (x ∷ more) (inl refl))) in
+          record {
+            prefix = so.prefix ++ x ∷ [];
+            whole = cut ∙ sym (append_assoc so.prefix (x ∷ []) more);
+            each = All-push (IsBookRow Millis) so.prefix x so.each
+                (is (some_of x.greatest.receiver x.receivers own.receiver));
+            puts = Puts-is (Puts-then so.puts put) (flat_map_more line_and_lf [] so.prefix x);
+          }
+
+      -- a row could not be put
+      pub PutSoFar-broken : {q : Outlet W} {e : WriteFault} (r : Result (Unit {0}) WriteFault)
+          → IsErr r → Puts contents (Err e) p q (line_and_lf x)
+          → Puts contents r o q (flat_map line_and_lf all)
+      PutSoFar-broken r is put = Puts-is
+          (Puts-then so.puts (Puts-fails r is put (flat_map line_and_lf more)))
+          (sym (ap (flat_map line_and_lf) cut ∙ flat_map-append line_and_lf so.prefix (x ∷ more)))
+
+    module _ (none : rest ≡ []) where
+      all_of : so.prefix ≡ all
+      all_of = sym (so.whole ∙ ap (λ r. so.prefix ++ r) none ∙ append-nil so.prefix)
+
+      -- all rows were put
+      pub PutSoFar-all : Puts {E = WriteFault} contents (Ok tt) o p (flat_map line_and_lf all)
+      PutSoFar-all = Puts-is so.puts (ap (flat_map line_and_lf) all_of)
+
+      pub PutSoFar-each : All (IsBookRow Millis) all
+      PutSoFar-each = subst (All (IsBookRow Millis)) all_of so.each
+
+-- sound rows, each of which a line can spell, are those of a book
+pub book_rows : (book : BookValue) → IsSoundBook book → All (IsBookRow Millis) book.rows
+    → IsBookRows (written_version book) book.rows
+book_rows book h each = record { version = h.range; sound = h.sound; each = each }

@@ -3,9 +3,9 @@
 use Rattle.std.specs.Prelude.{◌≡◌, ◌≢◌, ℕ, ◌+◌, ◌<◌, ◌≤◌, ◌==◌, ◌⊎◌, Bool, false, true, List, [], ◌∷◌, ◌++◌, length, map, codes, Option, Some, Result, Ok, Err, IsErr}
 use Rattle.std.specs.List.{starts_with}
 use Rattle.aprs_ax25.specs.FrameFault.{frame_of}
-use Rattle.aprs_log.specs.LogAnswers.{Gets}
-use Rattle.aprs_log.specs.declared.Ending.{Ending}
-use Rattle.aprs_log.specs.declared.Ending.TheVariants as how
+use Rattle.aprs_io.specs.Input.{Gets}
+use Rattle.aprs_io.specs.declared.input.Ending.{Ending}
+use Rattle.aprs_io.specs.declared.input.Ending.TheVariants as how
 use Rattle.aprs_log.specs.declared.moment_form.MomentForm.{MomentForm}
 use Rattle.aprs_laws.specs.BookValue.{BookValue}
 use Rattle.aprs_laws.specs.Gap.{millis_of}
@@ -19,7 +19,6 @@ use Rattle.aprs_booktext.specs.Version.{form_of, gap_of, header_of, IsVersion}
 use Rattle.aprs_booktext.specs.declared.fault.BookCause.{BookCause}
 use Rattle.aprs_booktext.specs.declared.fault.BookCause.TheVariants as why
 use Rattle.aprs_booktext.specs.declared.fault.BookFault.{BookFault}
-use Rattle.aprs_booktext.specs.declared.read.TheConstants.{CHUNK}
 use Rattle.aprs_booktext.specs.declared.version.Version.{Version}
 
 -- ---- what is wrong with a line after the lines of some rows
@@ -167,16 +166,16 @@ pub record IsMemoryAt (most : ℕ) (text : List ℕ) (fault : BookFault) : Type 
 
 -- ---- how a text is read
 
--- how many bytes are asked of a device at once, at most
-abbrev pub piece_most : ℕ
-piece_most = CHUNK
+-- how many bytes past the line that is read may have come when `Memory` is answered, at most
+abbrev pub most_ahead : ℕ
+most_ahead = 16384
 
 -- A book is read where the text is that of its rows in some version of its gap, and the end came
 -- after it. A fault is the text's first, or an allocation failed before it.
 abbrev pub ReadsSo : Result BookValue BookFault → List ℕ → Ending → Type 0
 ReadsSo (Ok book) text ending = (version : Version) × (book.gap ≡ gap_of version)
     × (text ≡ book_text version book.rows) × IsBookRows version book.rows × (ending ≡ how.End)
-ReadsSo (Err fault) text ending = IsMemoryAt piece_most text fault ⊎ FirstFault text ending fault
+ReadsSo (Err fault) text ending = IsMemoryAt most_ahead text fault ⊎ FirstFault text ending fault
 
 -- Of the input some bytes were got after its head, at most `limit` with it, and head and bytes are
 -- read so.

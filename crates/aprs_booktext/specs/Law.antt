@@ -1,8 +1,8 @@
 -- What holds of all texts of books.
 use Rattle.std.specs.Prelude.{◌≡◌, ◌≢◌, ℕ, ◌^◌, ◌<◌, ◌≤◌, ◌⊎◌, ◌↔◌, List, [], ◌++◌, length, All, Option, Result, Ok, IfErr}
-use Rattle.aprs_io.specs.declared.input.TheConstants.{MAX_INPUT}
-use Rattle.aprs_log.specs.declared.Ending.{Ending}
-use Rattle.aprs_log.specs.declared.Ending.TheVariants as how
+use Rattle.aprs_io.specs.Input.{most_input}
+use Rattle.aprs_io.specs.declared.input.Ending.{Ending}
+use Rattle.aprs_io.specs.declared.input.Ending.TheVariants as how
 use Rattle.aprs_log.specs.Reception.{Heard}
 use Rattle.aprs_laws.specs.BookValue.{BookValue, Holds}
 use Rattle.aprs_laws.specs.Row.{Row}
@@ -35,7 +35,7 @@ AreCutShort = (v : Version) (rows : List Row) → IsBookRows v rows → length r
 -- failed or an allocation failed.
 abbrev pub AreReadBack : Type 0
 AreReadBack = (v : Version) (rows : List Row) → IsBookRows v rows
-    → (limit : ℕ) → limit ≤ MAX_INPUT
+    → (limit : ℕ) → limit ≤ most_input
     → length (book_text v rows) ≤ limit → (after : Option (List ℕ))
     → (answer : Result BookValue BookFault) → Reads limit [] (book_text v rows) after answer
     → IfErr answer (λ fault. fault.cause ≢ why.Read) → IsBookOrMemory answer (book_of v rows)

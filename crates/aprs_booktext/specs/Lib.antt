@@ -1,3 +1,4 @@
+pub mod Asking
 pub mod Fault
 pub mod FirstFault
 pub mod Law

@@ -1,11 +1,11 @@
 -- What a reader of a book holds. No public clause cites this module.
-use Rattle.std.specs.Prelude.{◌≡◌, ℕ, ◌+◌, ◌⊎◌, Bool, true, false, List, [], ◌∷◌, ◌++◌, length, map, Result, Ok, Err}
-use Rattle.aprs_log.specs.declared.Ending.{Ending}
-use Rattle.aprs_log.specs.declared.Ending.TheVariants as how
+use Rattle.std.specs.Prelude.{◌≡◌, ◌≢◌, ℕ, ◌+◌, ◌⊎◌, Bool, true, false, List, [], ◌∷◌, ◌++◌, length, map, Result, Ok, Err}
+use Rattle.aprs_io.specs.declared.input.Ending.{Ending}
+use Rattle.aprs_io.specs.declared.input.Ending.TheVariants as how
 use Rattle.aprs_laws.specs.Gap.{millis_of}
 use Rattle.aprs_laws.specs.Row.{Row}
 use Rattle.aprs_laws.specs.Sound.{Sound}
-use Rattle.aprs_booktext.specs.FirstFault.{FirstFault, IsMemoryAt, IsNoHeader, IsWrong}
+use Rattle.aprs_booktext.specs.FirstFault.{FirstFault, IsMemoryAt, IsNoHeader, IsWrong, ending_cause}
 use Rattle.aprs_booktext.specs.Lines.{Lacks}
 use Rattle.aprs_booktext.specs.Text.{row_line, end_line, lines_of, text_of_lines, IsBookRow, IsBookRows}
 use Rattle.aprs_booktext.specs.Version.{form_of, gap_of, header_of, IsVersion}
@@ -60,6 +60,15 @@ may_end (Done v) how.Read = false
 may_end (Done v) how.TooLong = false
 may_end Header ending = false
 may_end (Rows v) ending = false
+
+-- The cause was found in the text: no read failed, and the limit wasn't passed.
+abbrev pub IsOfText : BookCause → Type 0
+IsOfText cause = (cause ≢ why.Read) × (cause ≢ why.TooLong)
+
+-- The answer is the book at the end alone, and else the fault of this ending.
+abbrev pub EndsIn : {A : Type 0} → Ending → Result A BookFault → Type 0
+EndsIn ending (Ok book) = ending ≡ how.End
+EndsIn ending (Err fault) = fault.cause ≡ ending_cause ending
 
 -- After the lines of the old rows of this version a line is judged so: it is a row's, which is
 -- added to them, or the last line, or an allocation failed, or the line is wrong.

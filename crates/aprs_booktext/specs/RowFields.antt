@@ -7,10 +7,9 @@ use Rattle.aprs_log.specs.Receiver.{IsName}
 use Rattle.aprs_log.specs.declared.moment_form.MomentForm.{MomentForm}
 use Rattle.aprs_laws.specs.Row.{Row}
 use Rattle.aprs_booktext.specs.FirstFault.{HasNoFrame}
-use Rattle.aprs_booktext.specs.Text.{row_line, IsSpelled}
+use Rattle.aprs_booktext.specs.Text.{row_line, IsSpelled, most_frame_bytes}
 use Rattle.aprs_booktext.specs.declared.fault.BookCause.{BookCause}
 use Rattle.aprs_booktext.specs.declared.fault.BookCause.TheVariants as why
-use Rattle.aprs_booktext.specs.declared.hexadecimal.TheConstants.{MAX_FRAME}
 use Rattle.aprs_booktext.specs.declared.fields.FieldTexts.{FieldTexts}
 
 -- the six fields in order
@@ -22,7 +21,7 @@ list_of f = f.tag.now ∷ f.first.now ∷ f.last.now ∷ f.receivers.now ∷ f.r
 pub record SpellsBytes (digits bytes : List ℕ) : Type 0 where
   pub digits_are : digits ≡ encode_lower bytes
   pub bytes_are : IsBytes bytes
-  pub few : (0 < length bytes) × (length bytes ≤ MAX_FRAME)
+  pub few : (0 < length bytes) × (length bytes ≤ most_frame_bytes)
 
 -- The field spells these names, at least one, with commas between.
 pub record SpellsNames (field : List ℕ) (names : List (List ℕ)) : Type 0 where

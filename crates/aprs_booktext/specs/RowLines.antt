@@ -5,14 +5,13 @@ use Rattle.aprs_ax25.specs.FrameFault.{frame_of}
 use Rattle.aprs_log.specs.Receiver.{IsName}
 use Rattle.aprs_log.specs.declared.moment_form.MomentForm.TheVariants.{Millis}
 use Rattle.aprs_laws.specs.Row.{Row}
-use Rattle.aprs_booktext.specs.Text.{ended_by_lf, row_line}
-use Rattle.aprs_booktext.specs.declared.hexadecimal.TheConstants.{MAX_FRAME}
+use Rattle.aprs_booktext.specs.Text.{ended_by_lf, row_line, most_frame_bytes}
 
 -- A row's line can spell this receiver and this frame.
 pub record AreSpelled (who bytes : List ℕ) : Type 0 where
   pub name_is : IsName who
   pub bytes_are : IsBytes bytes
-  pub few : (0 < length bytes) × (length bytes ≤ MAX_FRAME)
+  pub few : (0 < length bytes) × (length bytes ≤ most_frame_bytes)
   pub frame_is : frame_of bytes ≡ Ok bytes
 
 -- a row's line as it is written, with its LF

@@ -11,7 +11,6 @@ use Rattle.aprs_laws.specs.Gap.{millis_of}
 use Rattle.aprs_laws.specs.Row.{Row, last_of}
 use Rattle.aprs_laws.specs.Sound.{Sound}
 use Rattle.aprs_booktext.specs.Version.{form_of, gap_of, header_of, IsVersion}
-use Rattle.aprs_booktext.specs.declared.hexadecimal.TheConstants.{MAX_FRAME}
 use Rattle.aprs_booktext.specs.declared.version.Version.{Version}
 use Rattle.aprs_booktext.specs.declared.version.Version.TheVariants.{Three}
 
@@ -64,6 +63,10 @@ written_text book = book_text (written_version book) book.rows
 
 -- ---- whose text it is
 
+-- the most bytes of a frame in a book
+abbrev pub most_frame_bytes : ℕ
+most_frame_bytes = 328
+
 -- The moment is before the year 2100 and can be written in this form: to the second, one of a whole
 -- second.
 pub record IsWritable (form : MomentForm) (m : ℕ) : Type 0 where
@@ -71,7 +74,7 @@ pub record IsWritable (form : MomentForm) (m : ℕ) : Type 0 where
   pub whole : m % 1000 < room_of form
 
 -- The fields of a line can spell the row: its moments, its receivers, at least one, and its
--- greatest reception, whose frame has at least one byte and at most `MAX_FRAME`.
+-- greatest reception, whose frame has at least one byte and at most 328.
 pub record IsSpelled (form : MomentForm) (x : Row) : Type 0 where
   pub first : IsWritable form x.first
   pub last : IsWritable form (last_of x)
@@ -79,7 +82,7 @@ pub record IsSpelled (form : MomentForm) (x : Row) : Type 0 where
   pub receivers : All IsName x.receivers
   pub receiver : IsName x.greatest.receiver
   pub bytes : IsBytes x.greatest.frame
-  pub few : (0 < length x.greatest.frame) × (length x.greatest.frame ≤ MAX_FRAME)
+  pub few : (0 < length x.greatest.frame) × (length x.greatest.frame ≤ most_frame_bytes)
 
 -- The fields of a line can spell the row, and the bytes of its frame are a UI frame.
 pub record IsBookRow (form : MomentForm) (x : Row) : Type 0 where

@@ -9,7 +9,7 @@ use aprs_io::encode_to;
 pub const MAX_FRAME: usize = 328;
 
 /// The most digits of a frame.
-pub const MAX_DIGITS: usize = 656;
+pub const MAX_DIGITS: usize = 2 * MAX_FRAME;
 
 /// The bytes whose digits these are, put into `room`: 1 to `MAX_FRAME` of them.
 pub fn decode_into<'r>(digits: &[u8], room: &'r mut [u8; MAX_FRAME]) -> Option<&'r [u8]>

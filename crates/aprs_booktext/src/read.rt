@@ -1,15 +1,15 @@
 //! Reading a book.
-ghost use Rattle.std.specs.Prelude.{◌≡◌, ◌≤◌, ◌++◌, length, IsErrAnd, IfSome, IfErr};
-ghost use Rattle.aprs_io.specs.declared.input.TheConstants.{MAX_INPUT};
-ghost use Rattle.aprs_kiss.specs.Device.{device_of, failures_of, answered_of, Rose, RoseWhere};
+ghost use Rattle.std.specs.Prelude.{◌≤◌, ◌-◌, ◌++◌, length, IfSome};
+ghost use Rattle.aprs_io.specs.Device.{device_of, failures_of, Rose};
+ghost use Rattle.aprs_io.specs.Input.{most_input};
+ghost use Rattle.aprs_booktext.specs.Asking.{Asks, Takes};
 ghost use Rattle.aprs_booktext.specs.FirstFault.{AcceptsBook, Reads};
 ghost use Rattle.aprs_booktext.specs.Seconds.{ReadsSeconds};
 
 use crate::fault::{BookCause, BookFault};
 use crate::reader::BookReader;
 use aprs_book::Book;
-use aprs_io::read_some;
-use aprs_kiss::Counted;
+use aprs_io::{Counted, read_some};
 use std::alloc::Allocator;
 use std::io::Read;
 
@@ -30,7 +30,7 @@ pub fn read_book<R: Read, A: Allocator + Copy>(
     head: &[u8],
     source: &mut Counted<R>,
 ) -> Result<Book<A>, BookFault>
-    requires limit { limit ≤ MAX_INPUT }
+    requires limit { limit ≤ most_input }
     requires head { length head.now ≤ 8 }
     requires within { length head.now ≤ limit }
     ensures reads { IfSome (R.remaining (device_of source.old))
@@ -40,12 +40,10 @@ pub fn read_book<R: Read, A: Allocator + Copy>(
         (Rose (failures_of source.old) (failures_of source.new))) }
     ensures seconds { IfSome (R.remaining (device_of source.old))
         (λ input. ReadsSeconds (head.now ++ input) result) }
-    ensures count { failures_of source.old ≤ failures_of source.new }
-    ensures read { IfErr result (λ fault. fault.cause ≡ BookCause.Read
-        → Rose (failures_of source.old) (failures_of source.new)) }
-    // A failed read is reported where a call of the reader returned one, and nowhere else.
-    ensures answered { RoseWhere (IsErrAnd result (λ fault. fault.cause ≡ BookCause.Read))
-        (answered_of source.old) (answered_of source.new) }
+    // The reader is asked neither after its end nor after a fault.
+    ensures calls { Asks result source.old source.new }
+    ensures over { IfSome (R.remaining (device_of source.old)) (λ input. Takes result
+        (limit - length head.now) input (R.remaining (device_of source.new))) }
 {
     let mut reader = BookReader::new(alloc);
     reader.feed(head)?;

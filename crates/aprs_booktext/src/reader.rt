@@ -1,12 +1,12 @@
 //! A book, while its text is read.
-ghost use Rattle.std.specs.Prelude.{◌≡◌, ◌≢◌, ◌+◌, ◌≤◌, ◌++◌, ◌∷◌, ℕ, [], true, List, length, IsErrAnd, OnOk, OnErr, MatchResult, IfOk, IfErr};
-ghost use Rattle.aprs_io.specs.declared.input.TheConstants.{MAX_INPUT};
+ghost use Rattle.std.specs.Prelude.{◌≡◌, ◌≢◌, ◌+◌, ◌≤◌, ◌++◌, ◌∷◌, ℕ, [], true, List, length, OnOk, OnErr, MatchResult, IfOk, IfErr};
+ghost use Rattle.aprs_io.specs.Input.{most_input};
 ghost use Rattle.aprs_laws.specs.Gap.{millis_of};
 ghost use Rattle.aprs_booktext.specs.FirstFault.{ending_cause, ReadsSo};
 ghost use Rattle.aprs_booktext.specs.Lines.{Lacks};
 ghost use Rattle.aprs_booktext.specs.Text.{end_line};
 ghost use Rattle.aprs_booktext.specs.Version.{gap_of};
-ghost use Rattle.aprs_booktext.specs.Reader.{HasItsGap, IsFault, IsJudged, IsJudgedFirst, IsJudgedIn, is_done, line_number, may_end, Stands};
+ghost use Rattle.aprs_booktext.specs.Reader.{EndsIn, HasItsGap, IsFault, IsJudged, IsJudgedFirst, IsJudgedIn, IsOfText, is_done, line_number, may_end, Stands};
 
 use crate::cut::cut;
 use crate::end_line::end_line;
@@ -14,7 +14,7 @@ use crate::fault::{BookCause, BookFault};
 use crate::row_line::read_row;
 use crate::version::Version;
 use aprs_book::Book;
-use aprs_log::Ending;
+use aprs_io::Ending;
 use std::alloc::Allocator;
 
 /// Which line of a book's text comes next.
@@ -51,14 +51,14 @@ impl<A: Allocator + Copy> BookReader<A> {
 
     /// Reads on.
     pub fn feed(&mut self, piece: &[u8]) -> Result<(), BookFault>
-        requires { length self.old.book.rows + length piece.now ≤ MAX_INPUT }
+        requires { length self.old.book.rows + length piece.now ≤ most_input }
         ensures stands { OnOk result ((t : List ℕ) → Stands self.old t
             → Stands self.new (t ++ piece.now)) }
         ensures more { OnOk result
             (length self.new.book.rows ≤ length self.old.book.rows + length piece.now) }
         ensures fault { IfErr result (λ fault. (t : List ℕ) → Stands self.old t
             → IsFault (length piece.now) fault (t ++ piece.now)) }
-        ensures cause { IfErr result (λ fault. fault.cause ≢ BookCause.Read) }
+        ensures cause { IfErr result (λ fault. IsOfText fault.cause) }
     {
         let mut rest = piece;
         while let Some((part, after)) = cut(rest, b'\n') {
@@ -71,12 +71,9 @@ impl<A: Allocator + Copy> BookReader<A> {
 
     /// The book of the text after which `ending` came.
     pub fn finish(self, ending: Ending) -> Result<Book<A>, BookFault>
-        requires { length self.book.rows ≤ MAX_INPUT }
+        requires { length self.book.rows ≤ most_input }
         ensures reads { (t : List ℕ) → Stands self t → ReadsSo result t ending }
-        ensures cause { IfErr result
-            (λ fault. fault.cause ≡ BookCause.Read → ending ≡ Ending.Read) }
-        ensures read { ending ≡ Ending.Read
-            → IsErrAnd result (λ fault. fault.cause ≡ BookCause.Read) }
+        ensures ending { EndsIn ending result }
     {
         if may_end(self.stage, ending) {
             return Ok(self.book);
@@ -86,13 +83,13 @@ impl<A: Allocator + Copy> BookReader<A> {
 
     /// Puts bytes after those of the line.
     fn append(&mut self, bytes: &[u8]) -> Result<(), BookFault>
-        requires { length self.old.book.rows ≤ MAX_INPUT }
+        requires { length self.old.book.rows ≤ most_input }
         ensures stands { OnOk result ((t : List ℕ) → Stands self.old t
             → Lacks 10 bytes.now → Stands self.new (t ++ bytes.now)) }
         ensures same { OnOk result (self.new.book ≡ self.old.book) }
         ensures fault { IfErr result (λ fault. (t more : List ℕ) → Stands self.old t
             → IsFault (length bytes.now + length more) fault ((t ++ bytes.now) ++ more)) }
-        ensures cause { IfErr result (λ fault. fault.cause ≢ BookCause.Read) }
+        ensures cause { IfErr result (λ fault. IsOfText fault.cause) }
     {
         if is_done(self.stage) {
             return self.append_nothing(bytes);
@@ -105,12 +102,12 @@ impl<A: Allocator + Copy> BookReader<A> {
 
     /// Sees that no bytes come after the last line.
     fn append_nothing(&self, bytes: &[u8]) -> Result<(), BookFault>
-        requires few { length self.now.book.rows ≤ MAX_INPUT }
+        requires few { length self.now.book.rows ≤ most_input }
         requires done { is_done self.now.stage ≡ true }
         ensures ok { OnOk result (bytes.now ≡ []) }
         ensures fault { IfErr result (λ fault. (t more : List ℕ) → Stands self.now t
             → IsFault (length bytes.now + length more) fault ((t ++ bytes.now) ++ more)) }
-        ensures cause { IfErr result (λ fault. fault.cause ≢ BookCause.Read) }
+        ensures cause { IfErr result (λ fault. IsOfText fault.cause) }
     {
         if bytes.is_empty() {
             return Ok(());
@@ -120,13 +117,13 @@ impl<A: Allocator + Copy> BookReader<A> {
 
     /// Judges the line, which is whole.
     fn end_line(&mut self) -> Result<(), BookFault>
-        requires { length self.old.book.rows ≤ MAX_INPUT }
+        requires { length self.old.book.rows ≤ most_input }
         ensures stands { OnOk result ((t : List ℕ) → Stands self.old t
             → Stands self.new (t ++ 10 ∷ [])) }
         ensures more { OnOk result (length self.new.book.rows ≤ length self.old.book.rows + 1) }
         ensures fault { IfErr result (λ fault. (t more : List ℕ) → Stands self.old t
             → IsFault (length more + 1) fault (t ++ 10 ∷ more)) }
-        ensures cause { IfErr result (λ fault. fault.cause ≢ BookCause.Read) }
+        ensures cause { IfErr result (λ fault. IsOfText fault.cause) }
     {
         match self.judge() {
             Ok(stage) => {
@@ -148,7 +145,7 @@ impl<A: Allocator + Copy> BookReader<A> {
         ensures more { OnOk result
             (length self.new.book.rows ≤ length self.old.book.rows + 1) }
         ensures unchanged { OnErr result (self.new.book ≡ self.old.book) }
-        ensures cause { IfErr result (λ cause. cause ≢ BookCause.Read) }
+        ensures cause { IfErr result IsOfText }
         ensures line { self.new.line.items ≡ self.old.line.items }
         ensures stage { self.new.stage ≡ self.old.stage }
     {
@@ -164,7 +161,7 @@ impl<A: Allocator + Copy> BookReader<A> {
 
     /// A fault of this cause in the line that is read.
     fn fault(&self, cause: BookCause) -> BookFault
-        requires { length self.now.book.rows ≤ MAX_INPUT }
+        requires { length self.now.book.rows ≤ most_input }
         ensures { result
             ≡ record { line = line_number self.now.stage self.now.book.rows; cause = cause } }
     {

@@ -1,7 +1,6 @@
 //! Writing a book.
-ghost use Rattle.std.specs.Prelude.{◌≡◌, ◌<◌, ◌≤◌, ◌+◌, ◌*◌, ◌++◌, ◌∷◌, [], All, codes, length, map, flat_map, OnOk, OnErr};
+ghost use Rattle.std.specs.Prelude.{◌≡◌, ◌<◌, ◌≤◌, ◌+◌, ◌*◌, ◌++◌, ◌∷◌, [], All, codes, length, map, flat_map, OnOk};
 ghost use Rattle.std.specs.List.{join_with_byte};
-ghost use Rattle.std.specs.Io.KnownBytes.{Appends};
 ghost use Rattle.hex.specs.Hex.{encode_lower, IsBytes};
 ghost use Rattle.arrayvec.specs.ArrayVec.{array_vec_len};
 ghost use Rattle.aprs_ax25.specs.Frame.{FrameOf};
@@ -9,9 +8,8 @@ ghost use Rattle.aprs_ax25.specs.FrameFault.{parts_of};
 ghost use Rattle.aprs_log.specs.Moment.{moment_text};
 ghost use Rattle.aprs_log.specs.Receiver.{IsName};
 ghost use Rattle.aprs_log.specs.declared.moment_form.MomentForm.TheVariants.{Millis};
-ghost use Rattle.aprs_kiss.specs.Device.{answered_of, device_of, failures_of, Rose, RoseAtErr};
-ghost use Rattle.aprs_kiss.specs.Device.{AppendsPrefix};
-ghost use Rattle.aprs_outbox.specs.Outbox.{Puts};
+ghost use Rattle.aprs_io.specs.Device.{Sends};
+ghost use Rattle.aprs_outbox.specs.Outlet.{Puts};
 ghost use Rattle.aprs_booktext.specs.RowLines.{AreSpelled, line_and_lf};
 ghost use Rattle.aprs_booktext.specs.Text.{row_line, end_line, ended_by_lf, IsBookRow, IsBookRows, IsWritable, written_text, written_version};
 ghost use Rattle.aprs_booktext.specs.Version.{header_of};
@@ -21,10 +19,9 @@ use crate::end_line::{END_LINE, end_line};
 use crate::hexadecimal::{MAX_DIGITS, MAX_FRAME};
 use crate::version::{MAX_HEADER, Version};
 use aprs_book::{Book, Gap};
-use aprs_io::{encode_to, push_all};
-use aprs_kiss::{Counted, WriteFault};
+use aprs_io::{Counted, WriteFault, encode_to, push_all};
 use aprs_log::{Moment, Receiver};
-use aprs_outbox::{Outbox, flush, put};
+use aprs_outbox::Outlet;
 use aprs_pile::RowView;
 use arrayvec::ArrayVec;
 use std::alloc::Allocator;
@@ -47,80 +44,53 @@ pub fn write_book<W: Write, A: Allocator + Copy>(
     w: &mut Counted<W>,
     book: &Book<A>,
 ) -> Result<(), WriteFault>
-    ensures sent { OnOk result (Appends (W.contents (device_of w.old))
-        (W.contents (device_of w.new)) (written_text book.now)) }
-    ensures prefix { OnErr result (AppendsPrefix (W.contents (device_of w.old))
-        (W.contents (device_of w.new)) (written_text book.now)) }
-    ensures count { failures_of w.old ≤ failures_of w.new }
-    ensures fault { OnErr result (Rose (failures_of w.old) (failures_of w.new)) }
-    ensures answered { RoseAtErr result (answered_of w.old) (answered_of w.new) }
+    ensures sends { Sends W.contents result w.old w.new (written_text book.now) }
     // Such rows are read back of their text.
     ensures spelled { OnOk result (IsBookRows (written_version book.now) book.now.rows) }
 {
-    let mut held = Outbox::new();
-    put_book(w, &mut held, book)?;
-    flush(w, &mut held)
+    let mut out = Outlet::new(w);
+    put_book(&mut out, book)?;
+    out.flush()
 }
 
 /// Puts the text of a book.
 fn put_book<W: Write, A: Allocator + Copy>(
-    w: &mut Counted<W>,
-    held: &mut Outbox,
+    out: &mut Outlet<'_, W>,
     book: &Book<A>,
 ) -> Result<(), WriteFault>
-    ensures sent { OnOk result (Puts (W.contents (device_of w.old)) (W.contents (device_of w.new))
-        held.old.items held.new.items (written_text book.now)) }
-    ensures prefix { OnErr result (AppendsPrefix (W.contents (device_of w.old))
-        (W.contents (device_of w.new)) (held.old.items ++ written_text book.now)) }
-    ensures count { failures_of w.old ≤ failures_of w.new }
-    ensures fault { OnErr result (Rose (failures_of w.old) (failures_of w.new)) }
-    ensures answered { RoseAtErr result (answered_of w.old) (answered_of w.new) }
+    ensures puts { Puts W.contents result out.old out.new (written_text book.now) }
     ensures spelled { OnOk result (IsBookRows (written_version book.now) book.now.rows) }
 {
-    put(w, held, header_line(book.gap()).as_slice())?;
-    put_rows(w, held, book)?;
-    put(w, held, end_line_and_lf(book.len()).as_slice())
+    out.put(header_line(book.gap()).as_slice())?;
+    put_rows(out, book)?;
+    out.put(end_line_and_lf(book.len()).as_slice())
 }
 
 /// Puts the lines of a book's rows.
 fn put_rows<W: Write, A: Allocator + Copy>(
-    w: &mut Counted<W>,
-    held: &mut Outbox,
+    out: &mut Outlet<'_, W>,
     book: &Book<A>,
 ) -> Result<(), WriteFault>
-    ensures sent { OnOk result (Puts (W.contents (device_of w.old)) (W.contents (device_of w.new))
-        held.old.items held.new.items (flat_map line_and_lf book.now.rows)) }
-    ensures prefix { OnErr result (AppendsPrefix (W.contents (device_of w.old))
-        (W.contents (device_of w.new)) (held.old.items ++ flat_map line_and_lf book.now.rows)) }
-    ensures count { failures_of w.old ≤ failures_of w.new }
-    ensures fault { OnErr result (Rose (failures_of w.old) (failures_of w.new)) }
-    ensures answered { RoseAtErr result (answered_of w.old) (answered_of w.new) }
+    ensures puts { Puts W.contents result out.old out.new (flat_map line_and_lf book.now.rows) }
     ensures spelled { OnOk result (IsBookRows (written_version book.now) book.now.rows) }
 {
     for row in book.rows() {
-        put_row(w, held, &RowView::of(&row))?;
+        put_row(out, &RowView::of(&row))?;
     }
     Ok(())
 }
 
 /// Puts the row's line.
 pub(crate) fn put_row<W: Write>(
-    w: &mut Counted<W>,
-    held: &mut Outbox,
+    out: &mut Outlet<'_, W>,
     row: &RowView<'_>,
 ) -> Result<(), WriteFault>
-    ensures sent { OnOk result (Puts (W.contents (device_of w.old)) (W.contents (device_of w.new))
-        held.old.items held.new.items (ended_by_lf (row_line Millis row.now))) }
-    ensures prefix { OnErr result (AppendsPrefix (W.contents (device_of w.old))
-        (W.contents (device_of w.new)) (held.old.items ++ ended_by_lf (row_line Millis row.now))) }
-    ensures count { failures_of w.old ≤ failures_of w.new }
-    ensures fault { OnErr result (Rose (failures_of w.old) (failures_of w.new)) }
-    ensures answered { RoseAtErr result (answered_of w.old) (answered_of w.new) }
+    ensures puts { Puts W.contents result out.old out.new (ended_by_lf (row_line Millis row.now)) }
     ensures spelled { OnOk result (0 < length row.now.receivers → IsBookRow Millis row.now) }
 {
-    put(w, held, row_head(row.first(), row.last()).as_slice())?;
-    put_names(w, held, row.receivers())?;
-    put(w, held, row_tail(row.receiver(), row.frame()).as_slice())
+    out.put(row_head(row.first(), row.last()).as_slice())?;
+    put_names(out, row.receivers())?;
+    out.put(row_tail(row.receiver(), row.frame()).as_slice())
 }
 
 /// The part before the receivers in a row's line.
@@ -156,45 +126,27 @@ fn row_tail(receiver: &[u8], frame: &[u8]) -> ArrayVec<u8, ROW_TAIL>
 }
 
 /// Puts names with commas between.
-fn put_names<W: Write>(
-    w: &mut Counted<W>,
-    held: &mut Outbox,
-    names: &[Receiver],
-) -> Result<(), WriteFault>
-    ensures sent { OnOk result (Puts (W.contents (device_of w.old)) (W.contents (device_of w.new))
-        held.old.items held.new.items (join_with_byte 44 names.now)) }
-    ensures prefix { OnErr result (AppendsPrefix (W.contents (device_of w.old))
-        (W.contents (device_of w.new)) (held.old.items ++ join_with_byte 44 names.now)) }
-    ensures count { failures_of w.old ≤ failures_of w.new }
-    ensures fault { OnErr result (Rose (failures_of w.old) (failures_of w.new)) }
-    ensures answered { RoseAtErr result (answered_of w.old) (answered_of w.new) }
+fn put_names<W: Write>(out: &mut Outlet<'_, W>, names: &[Receiver]) -> Result<(), WriteFault>
+    ensures puts { Puts W.contents result out.old out.new (join_with_byte 44 names.now) }
     ensures names { OnOk result (All IsName names.now) }
 {
     let Some((first, others)) = names.split_first() else {
         return Ok(());
     };
-    put(w, held, first.as_bytes())?;
-    put_further_names(w, held, others)
+    out.put(first.as_bytes())?;
+    put_further_names(out, others)
 }
 
 /// Puts names with a comma before each.
 fn put_further_names<W: Write>(
-    w: &mut Counted<W>,
-    held: &mut Outbox,
+    out: &mut Outlet<'_, W>,
     names: &[Receiver],
 ) -> Result<(), WriteFault>
-    ensures sent { OnOk result (Puts (W.contents (device_of w.old)) (W.contents (device_of w.new))
-        held.old.items held.new.items (flat_map (λ name. 44 ∷ name) names.now)) }
-    ensures prefix { OnErr result (AppendsPrefix (W.contents (device_of w.old))
-        (W.contents (device_of w.new))
-        (held.old.items ++ flat_map (λ name. 44 ∷ name) names.now)) }
-    ensures count { failures_of w.old ≤ failures_of w.new }
-    ensures fault { OnErr result (Rose (failures_of w.old) (failures_of w.new)) }
-    ensures answered { RoseAtErr result (answered_of w.old) (answered_of w.new) }
+    ensures puts { Puts W.contents result out.old out.new (flat_map (λ name. 44 ∷ name) names.now) }
     ensures names { OnOk result (All IsName names.now) }
 {
     for name in names {
-        put(w, held, after_comma(name).as_slice())?;
+        out.put(after_comma(name).as_slice())?;
     }
     Ok(())
 }

@@ -1,25 +1,11 @@
--- How lines of the listing go out. No public clause cites this module.
-use Rattle.std.specs.Prelude.{ℕ, ◌≤◌, List, ◌∷◌, ◌++◌, Option, Result, OnOk, OnErr}
+-- The text of a field. No public clause cites this module.
+use Rattle.std.specs.Prelude.{ℕ, List, ◌∷◌}
 use Rattle.std.specs.Fmt.{decimal}
 use Rattle.aprs_ax25.specs.Callsign.{call_text}
-use Rattle.aprs_kiss.specs.Device.{AppendsPrefix, Rose, RoseAtErr}
-use Rattle.aprs_kiss.specs.declared.WriteFault.{WriteFault}
 use Rattle.aprs_log.specs.Moment.{moment_text}
-use Rattle.aprs_outbox.specs.Outbox.{Puts}
 use Rattle.aprs_listing.specs.Listing.{word, stamp_text, fraction_text, ambiguity_text, symbol_text}
 use Rattle.aprs_listing.specs.declared.field.Field.{Field}
 use Rattle.aprs_listing.specs.declared.field.Field.TheVariants as field
-
--- At Ok the text stands after what was held, of which a prefix went out; at a fault a prefix of
--- both went out, and the count of failed calls rose. Of the calls that answered a fault the count
--- rose exactly there.
-pub record PutsText (r : Result (Unit {0}) WriteFault) (old new : Option (List ℕ))
-    (before after answered_before answered_after : ℕ) (held left text : List ℕ) : Type 0 where
-  pub sent : OnOk r (Puts old new held left text)
-  pub prefix : OnErr r (AppendsPrefix old new (held ++ text))
-  pub count : before ≤ after
-  pub fault : OnErr r (Rose before after)
-  pub answered : RoseAtErr r answered_before answered_after
 
 -- the text of a field
 abbrev pub field_text : Field → List ℕ

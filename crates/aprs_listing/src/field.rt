@@ -1,18 +1,16 @@
 //! The fields of the listing's lines.
 ghost use Rattle.std.specs.Prelude.{◌≡◌};
-ghost use Rattle.aprs_kiss.specs.Device.{answered_of, device_of, failures_of};
-ghost use Rattle.aprs_listing.specs.Lines.{PutsText, field_text};
+ghost use Rattle.aprs_outbox.specs.Outlet.{Puts};
+ghost use Rattle.aprs_listing.specs.Lines.{field_text};
 ghost use Rattle.aprs_listing.specs.Listing.{ambiguity_text, fraction_text, stamp_text};
 ghost use Rattle.aprs_listing.specs.Listing.{word, word_byte};
 ghost use Rattle.aprs_convert.specs.Shown.{shown};
 
-use crate::bytes::put_bytes;
 use aprs_ax25::Callsign;
 use aprs_convert::{are_shown, shown_byte};
-use aprs_io::push_all;
-use aprs_kiss::{Counted, WriteFault};
+use aprs_io::{WriteFault, push_all};
 use aprs_log::Moment;
-use aprs_outbox::Outbox;
+use aprs_outbox::Outlet;
 use aprs_report::{Fraction, Place, Stamp, Symbol};
 use arrayvec::ArrayVec;
 use itoa::Buffer;
@@ -37,26 +35,19 @@ pub enum Field<'a> {
 }
 
 /// Puts the field's text.
-pub fn put_field<W: Write>(
-    w: &mut Counted<W>,
-    held: &mut Outbox,
-    field: &Field<'_>,
-) -> Result<(), WriteFault>
-    ensures { PutsText result (W.contents (device_of w.old)) (W.contents (device_of w.new))
-        (failures_of w.old) (failures_of w.new) (answered_of w.old) (answered_of w.new)
-        held.old.items held.new.items
-        (field_text field.now) }
+pub fn put_field<W: Write>(out: &mut Outlet<'_, W>, field: &Field<'_>) -> Result<(), WriteFault>
+    ensures { Puts W.contents result out.old out.new (field_text field.now) }
 {
     match field {
-        Field::Plain(bytes) => put_bytes(w, held, bytes),
-        Field::Word(bytes) => put_word(w, held, bytes),
-        Field::Call(call) => put_bytes(w, held, call.text().as_slice()),
-        Field::Count(n) => put_bytes(w, held, Buffer::new().format(*n).as_bytes()),
-        Field::Moment(moment) => put_bytes(w, held, &moment.text()),
-        Field::Stamp(stamp) => put_bytes(w, held, stamp_text(stamp).as_slice()),
-        Field::Degrees(fraction) => put_bytes(w, held, fraction_text(fraction).as_slice()),
-        Field::Ambiguity(place) => put_bytes(w, held, ambiguity_text(place).as_slice()),
-        Field::Symbol(symbol) => put_shown(w, held, &[symbol.table, symbol.code]),
+        Field::Plain(bytes) => out.put(bytes),
+        Field::Word(bytes) => put_word(out, bytes),
+        Field::Call(call) => out.put(call.text().as_slice()),
+        Field::Count(n) => out.put(Buffer::new().format(*n).as_bytes()),
+        Field::Moment(moment) => out.put(&moment.text()),
+        Field::Stamp(stamp) => out.put(stamp_text(stamp).as_slice()),
+        Field::Degrees(fraction) => out.put(fraction_text(fraction).as_slice()),
+        Field::Ambiguity(place) => out.put(ambiguity_text(place).as_slice()),
+        Field::Symbol(symbol) => put_shown(out, &[symbol.table, symbol.code]),
     }
 }
 
@@ -107,32 +98,24 @@ fn ambiguity_text(place: &Place) -> ArrayVec<u8, 40>
 }
 
 /// Puts what the bytes are shown as.
-pub fn put_shown<W: Write>(
-    w: &mut Counted<W>,
-    held: &mut Outbox,
-    bytes: &[u8],
-) -> Result<(), WriteFault>
-    ensures { PutsText result (W.contents (device_of w.old)) (W.contents (device_of w.new))
-        (failures_of w.old) (failures_of w.new) (answered_of w.old) (answered_of w.new)
-        held.old.items held.new.items (shown bytes.now) }
+pub fn put_shown<W: Write>(out: &mut Outlet<'_, W>, bytes: &[u8]) -> Result<(), WriteFault>
+    ensures { Puts W.contents result out.old out.new (shown bytes.now) }
 {
     if are_shown(bytes) {
-        return put_bytes(w, held, bytes);
+        return out.put(bytes);
     }
     for b in bytes {
-        put_bytes(w, held, shown_byte(*b).as_slice())?;
+        out.put(shown_byte(*b).as_slice())?;
     }
     Ok(())
 }
 
 /// Puts a name, in which a space is shown too.
-fn put_word<W: Write>(w: &mut Counted<W>, held: &mut Outbox, bytes: &[u8]) -> Result<(), WriteFault>
-    ensures { PutsText result (W.contents (device_of w.old)) (W.contents (device_of w.new))
-        (failures_of w.old) (failures_of w.new) (answered_of w.old) (answered_of w.new)
-        held.old.items held.new.items (word bytes.now) }
+fn put_word<W: Write>(out: &mut Outlet<'_, W>, bytes: &[u8]) -> Result<(), WriteFault>
+    ensures { Puts W.contents result out.old out.new (word bytes.now) }
 {
     for b in bytes {
-        put_bytes(w, held, word_byte(*b).as_slice())?;
+        out.put(word_byte(*b).as_slice())?;
     }
     Ok(())
 }

@@ -1,15 +1,15 @@
 //! The line of what was heard last of something.
 ghost use Rattle.std.specs.Prelude.{◌≡◌, ◌++◌, ◌∷◌, [], codes, map};
-ghost use Rattle.aprs_kiss.specs.Device.{answered_of, device_of, failures_of};
-ghost use Rattle.aprs_listing.specs.Lines.{PutsText, field_text};
+ghost use Rattle.aprs_outbox.specs.Outlet.{Puts};
+ghost use Rattle.aprs_listing.specs.Lines.{field_text};
 ghost use Rattle.aprs_listing.specs.Listing.{heard_fields, heard_line, live_text, name_fields};
 ghost use Rattle.aprs_listing.specs.Listing.{place_fields, stamp_text, text_line_of};
 
 use crate::field::Field;
 use crate::line::put_text_line;
 use aprs_book::Heard;
-use aprs_kiss::{Counted, WriteFault};
-use aprs_outbox::Outbox;
+use aprs_io::WriteFault;
+use aprs_outbox::Outlet;
 use aprs_report::{Place, Report, Stamp, Symbol};
 use std::io::Write;
 
@@ -42,15 +42,8 @@ impl<'a> Whereabouts<'a> {
 }
 
 /// Puts the line of a position, a status, an object or an item. Other reports have none.
-pub fn put_heard<W: Write>(
-    w: &mut Counted<W>,
-    held: &mut Outbox,
-    heard: &Heard<'_>,
-) -> Result<(), WriteFault>
-    ensures { PutsText result (W.contents (device_of w.old)) (W.contents (device_of w.new))
-        (failures_of w.old) (failures_of w.new) (answered_of w.old) (answered_of w.new)
-        held.old.items held.new.items
-        (heard_line heard.now) }
+pub fn put_heard<W: Write>(out: &mut Outlet<'_, W>, heard: &Heard<'_>) -> Result<(), WriteFault>
+    ensures { Puts W.contents result out.old out.new (heard_line heard.now) }
 {
     match heard.report {
         Report::Position {
@@ -61,7 +54,7 @@ pub fn put_heard<W: Write>(
             ..
         } => {
             let at = Whereabouts::new(stamp, place, symbol, comment);
-            put_position(w, held, heard, &at)
+            put_position(out, heard, &at)
         }
         Report::Object {
             name,
@@ -72,7 +65,7 @@ pub fn put_heard<W: Write>(
             comment,
         } => {
             let at = Whereabouts::new(Some(stamp), place, symbol, comment);
-            put_name(w, held, b"object", name, live, heard, &at)
+            put_name(out, b"object", name, live, heard, &at)
         }
         Report::Item {
             name,
@@ -82,23 +75,20 @@ pub fn put_heard<W: Write>(
             comment,
         } => {
             let at = Whereabouts::new(None, place, symbol, comment);
-            put_name(w, held, b"item", name, live, heard, &at)
+            put_name(out, b"item", name, live, heard, &at)
         }
-        Report::Status { stamp, text } => put_status(w, held, heard, stamp, text),
+        Report::Status { stamp, text } => put_status(out, heard, stamp, text),
         Report::Message { .. } | Report::Ack { .. } | Report::Rej { .. } | Report::Raw => Ok(()),
     }
 }
 
 /// Puts the line of a position.
 fn put_position<W: Write>(
-    w: &mut Counted<W>,
-    held: &mut Outbox,
+    out: &mut Outlet<'_, W>,
     heard: &Heard<'_>,
     at: &Whereabouts<'_>,
 ) -> Result<(), WriteFault>
-    ensures { PutsText result (W.contents (device_of w.old)) (W.contents (device_of w.new))
-        (failures_of w.old) (failures_of w.new) (answered_of w.old) (answered_of w.new)
-        held.old.items held.new.items
+    ensures { Puts W.contents result out.old out.new
         (text_line_of (codes "position") (heard_fields heard.now
         ++ place_fields at.now.stamp at.now.place at.now.symbol) at.now.comment.now) }
 {
@@ -106,22 +96,19 @@ fn put_position<W: Write>(
         Field::Moment(heard.moment),
         Field::Plain(heard.receiver.as_bytes()),
     ];
-    put_text_line(w, held, b"position", &fields, &place_fields(at), at.comment)
+    put_text_line(out, b"position", &fields, &place_fields(at), at.comment)
 }
 
 /// Puts the line of an object or an item of this name, which is live or killed.
 fn put_name<'a, W: Write>(
-    w: &mut Counted<W>,
-    held: &mut Outbox,
+    out: &mut Outlet<'_, W>,
     kind: &[u8],
     name: &'a [u8],
     live: bool,
     heard: &Heard<'a>,
     at: &Whereabouts<'_>,
 ) -> Result<(), WriteFault>
-    ensures { PutsText result (W.contents (device_of w.old)) (W.contents (device_of w.new))
-        (failures_of w.old) (failures_of w.new) (answered_of w.old) (answered_of w.new)
-        held.old.items held.new.items
+    ensures { Puts W.contents result out.old out.new
         (text_line_of kind.now (name_fields name.now live heard.now
         ++ place_fields at.now.stamp at.now.place at.now.symbol) at.now.comment.now) }
 {
@@ -132,20 +119,17 @@ fn put_name<'a, W: Write>(
         Field::Plain(heard.receiver.as_bytes()),
         Field::Call(heard.frame.source()),
     ];
-    put_text_line(w, held, kind, &fields, &place_fields(at), at.comment)
+    put_text_line(out, kind, &fields, &place_fields(at), at.comment)
 }
 
 /// Puts the line of a status.
 fn put_status<W: Write>(
-    w: &mut Counted<W>,
-    held: &mut Outbox,
+    out: &mut Outlet<'_, W>,
     heard: &Heard<'_>,
     stamp: Option<Stamp>,
     text: &[u8],
 ) -> Result<(), WriteFault>
-    ensures { PutsText result (W.contents (device_of w.old)) (W.contents (device_of w.new))
-        (failures_of w.old) (failures_of w.new) (answered_of w.old) (answered_of w.new)
-        held.old.items held.new.items
+    ensures { Puts W.contents result out.old out.new
         (text_line_of (codes "status") (heard_fields heard.now ++ stamp_text stamp ∷ []) text.now) }
 {
     let fields = [
@@ -153,7 +137,7 @@ fn put_status<W: Write>(
         Field::Plain(heard.receiver.as_bytes()),
         Field::Stamp(stamp),
     ];
-    put_text_line(w, held, b"status", &fields, &[], text)
+    put_text_line(out, b"status", &fields, &[], text)
 }
 
 /// Where something is.

@@ -2,7 +2,6 @@
 //! item and message.
 #![tactic(auto)]
 
-mod bytes;
 mod field;
 mod heard_line;
 mod line;

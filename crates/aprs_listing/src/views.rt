@@ -1,14 +1,12 @@
 //! The listing of a book: its stations, objects, items and messages.
-ghost use Rattle.std.specs.Prelude.{◌≡◌, ◌≤◌, IfOk, OnOk, OnErr};
+ghost use Rattle.std.specs.Prelude.{◌≡◌, IfOk};
 ghost use Rattle.std.specs.List.{flat_map};
-ghost use Rattle.std.specs.Io.KnownBytes.{Appends};
-ghost use Rattle.aprs_kiss.specs.Device.{answered_of, device_of, failures_of, Rose, RoseAtErr};
-ghost use Rattle.aprs_kiss.specs.Device.{AppendsPrefix};
+ghost use Rattle.aprs_io.specs.Device.{Sends};
+ghost use Rattle.aprs_outbox.specs.Outlet.{Puts};
 ghost use Rattle.aprs_laws.specs.Gap.{millis_of};
 ghost use Rattle.aprs_book.specs.Stations.{ReportsStations};
 ghost use Rattle.aprs_book.specs.Names.{ReportsNamed};
 ghost use Rattle.aprs_book.specs.Messages.{ReportsMessages};
-ghost use Rattle.aprs_listing.specs.Lines.{PutsText};
 ghost use Rattle.aprs_listing.specs.Listing.{id_text, known_line, message_line, named_line};
 ghost use Rattle.aprs_listing.specs.Listing.{show_text, state_text, station_lines};
 
@@ -16,8 +14,8 @@ use crate::field::Field;
 use crate::heard_line::put_heard;
 use crate::line::{put_line, put_text_line};
 use aprs_book::{Book, Heard, Memory, MessageRow, MessageState, Named, RowList, Station};
-use aprs_kiss::{Counted, WriteFault};
-use aprs_outbox::{Outbox, flush};
+use aprs_io::{Counted, WriteFault};
+use aprs_outbox::Outlet;
 use std::alloc::{Allocator, Global};
 use std::io::Write;
 
@@ -80,136 +78,93 @@ impl<'a, A: Allocator + Copy> Views<'a, A> {
     /// Writes the listing, a line for each station, what is last known of it, each object, item and
     /// message. At a fault a prefix of that went out. Takes no memory.
     pub fn write<W: Write>(&self, w: &mut Counted<W>) -> Result<(), WriteFault>
-        ensures sent { OnOk result (Appends (W.contents (device_of w.old))
-            (W.contents (device_of w.new))
-            (show_text self.now.stations.items self.now.named.items self.now.messages.items)) }
-        ensures prefix { OnErr result (AppendsPrefix (W.contents (device_of w.old))
-            (W.contents (device_of w.new))
-            (show_text self.now.stations.items self.now.named.items self.now.messages.items)) }
-        ensures count { failures_of w.old ≤ failures_of w.new }
-        ensures fault { OnErr result (Rose (failures_of w.old) (failures_of w.new)) }
-        ensures answered { RoseAtErr result (answered_of w.old) (answered_of w.new) }
+        ensures { Sends W.contents result w.old w.new
+            (show_text self.now.stations.items self.now.named.items self.now.messages.items) }
     {
-        let mut held = Outbox::new();
-        put_views(w, &mut held, self)?;
-        flush(w, &mut held)
+        let mut out = Outlet::new(w);
+        put_views(&mut out, self)?;
+        out.flush()
     }
 }
 
 /// Puts the lines of all.
 fn put_views<W: Write, A: Allocator + Copy>(
-    w: &mut Counted<W>,
-    held: &mut Outbox,
+    out: &mut Outlet<'_, W>,
     views: &Views<'_, A>,
 ) -> Result<(), WriteFault>
-    ensures { PutsText result (W.contents (device_of w.old)) (W.contents (device_of w.new))
-        (failures_of w.old) (failures_of w.new) (answered_of w.old) (answered_of w.new)
-        held.old.items held.new.items
+    ensures { Puts W.contents result out.old out.new
         (show_text views.now.stations.items views.now.named.items views.now.messages.items) }
 {
-    put_stations(w, held, &views.stations)?;
-    put_all_named(w, held, &views.named)?;
-    put_messages(w, held, &views.messages)
+    put_stations(out, &views.stations)?;
+    put_all_named(out, &views.named)?;
+    put_messages(out, &views.messages)
 }
 
 /// Puts the lines of stations.
 fn put_stations<W: Write>(
-    w: &mut Counted<W>,
-    held: &mut Outbox,
+    out: &mut Outlet<'_, W>,
     stations: &[Station<'_>],
 ) -> Result<(), WriteFault>
-    ensures { PutsText result (W.contents (device_of w.old)) (W.contents (device_of w.new))
-        (failures_of w.old) (failures_of w.new) (answered_of w.old) (answered_of w.new)
-        held.old.items held.new.items
-        (flat_map station_lines stations.now) }
+    ensures { Puts W.contents result out.old out.new (flat_map station_lines stations.now) }
 {
     for station in stations {
-        put_station(w, held, station)?;
+        put_station(out, station)?;
     }
     Ok(())
 }
 
 /// Puts the lines of objects and items.
-fn put_all_named<W: Write>(
-    w: &mut Counted<W>,
-    held: &mut Outbox,
-    all: &[Named<'_>],
-) -> Result<(), WriteFault>
-    ensures { PutsText result (W.contents (device_of w.old)) (W.contents (device_of w.new))
-        (failures_of w.old) (failures_of w.new) (answered_of w.old) (answered_of w.new)
-        held.old.items held.new.items
-        (flat_map named_line all.now) }
+fn put_all_named<W: Write>(out: &mut Outlet<'_, W>, all: &[Named<'_>]) -> Result<(), WriteFault>
+    ensures { Puts W.contents result out.old out.new (flat_map named_line all.now) }
 {
     for named in all {
-        put_heard(w, held, &named.heard)?;
+        put_heard(out, &named.heard)?;
     }
     Ok(())
 }
 
 /// Puts the lines of messages.
 fn put_messages<W: Write>(
-    w: &mut Counted<W>,
-    held: &mut Outbox,
+    out: &mut Outlet<'_, W>,
     messages: &[MessageRow<'_>],
 ) -> Result<(), WriteFault>
-    ensures { PutsText result (W.contents (device_of w.old)) (W.contents (device_of w.new))
-        (failures_of w.old) (failures_of w.new) (answered_of w.old) (answered_of w.new)
-        held.old.items held.new.items
-        (flat_map message_line messages.now) }
+    ensures { Puts W.contents result out.old out.new (flat_map message_line messages.now) }
 {
     for message in messages {
-        put_message(w, held, message)?;
+        put_message(out, message)?;
     }
     Ok(())
 }
 
 /// Puts the line of a station, and those of its last known position and status.
-fn put_station<W: Write>(
-    w: &mut Counted<W>,
-    held: &mut Outbox,
-    station: &Station<'_>,
-) -> Result<(), WriteFault>
-    ensures { PutsText result (W.contents (device_of w.old)) (W.contents (device_of w.new))
-        (failures_of w.old) (failures_of w.new) (answered_of w.old) (answered_of w.new)
-        held.old.items held.new.items
-        (station_lines station.now) }
+fn put_station<W: Write>(out: &mut Outlet<'_, W>, station: &Station<'_>) -> Result<(), WriteFault>
+    ensures { Puts W.contents result out.old out.new (station_lines station.now) }
 {
     let fields = [
         Field::Call(station.call.copy()),
         Field::Count(station.transmissions),
     ];
-    put_line(w, held, b"station", &fields)?;
-    put_known(w, held, &station.position)?;
-    put_known(w, held, &station.status)
+    put_line(out, b"station", &fields)?;
+    put_known(out, &station.position)?;
+    put_known(out, &station.status)
 }
 
 /// Puts the line of what is last known, if there is any.
-fn put_known<W: Write>(
-    w: &mut Counted<W>,
-    held: &mut Outbox,
-    known: &Option<Heard<'_>>,
-) -> Result<(), WriteFault>
-    ensures { PutsText result (W.contents (device_of w.old)) (W.contents (device_of w.new))
-        (failures_of w.old) (failures_of w.new) (answered_of w.old) (answered_of w.new)
-        held.old.items held.new.items
-        (known_line known.now) }
+fn put_known<W: Write>(out: &mut Outlet<'_, W>, known: &Option<Heard<'_>>) -> Result<(), WriteFault>
+    ensures { Puts W.contents result out.old out.new (known_line known.now) }
 {
     match known {
-        Some(heard) => put_heard(w, held, heard),
+        Some(heard) => put_heard(out, heard),
         None => Ok(()),
     }
 }
 
 /// Puts the line of a message.
 fn put_message<W: Write>(
-    w: &mut Counted<W>,
-    held: &mut Outbox,
+    out: &mut Outlet<'_, W>,
     message: &MessageRow<'_>,
 ) -> Result<(), WriteFault>
-    ensures { PutsText result (W.contents (device_of w.old)) (W.contents (device_of w.new))
-        (failures_of w.old) (failures_of w.new) (answered_of w.old) (answered_of w.new)
-        held.old.items held.new.items
-        (message_line message.now) }
+    ensures { Puts W.contents result out.old out.new (message_line message.now) }
 {
     let fields = [
         Field::Call(message.source.copy()),
@@ -219,7 +174,7 @@ fn put_message<W: Write>(
         Field::Moment(message.first),
         Field::Moment(message.last),
     ];
-    put_text_line(w, held, b"message", &fields, &[], message.text)
+    put_text_line(out, b"message", &fields, &[], message.text)
 }
 
 /// The id, or `-` without one.

@@ -64,6 +64,49 @@ impl Read for Stuttering<'_> {
     }
 }
 
+/// A reader of a file that grows: it gives its bytes and then nothing once, and after that those of
+/// `more`, or it fails where there are none. It counts the calls after it gave nothing.
+#[derive(Drop)]
+pub struct Growing<'a> {
+    pub bytes: &'a [u8],
+    pub more: &'a [u8],
+    pub is_past: bool,
+    pub again: u64,
+}
+
+impl<'a> Growing<'a> {
+    /// One that was not asked yet.
+    pub fn new(bytes: &'a [u8], more: &'a [u8]) -> Growing<'a> {
+        Growing {
+            bytes,
+            more,
+            is_past: false,
+            again: 0,
+        }
+    }
+}
+
+impl Read for Growing<'_> {
+    fn read(&mut self, buf: &mut [u8]) -> io::Result<usize> {
+        if self.is_past {
+            self.again = self.again.saturating_add(1);
+        }
+        if self.bytes.is_empty() {
+            if self.is_past {
+                return Err(io::Error::from(ErrorKind::Other));
+            }
+            self.is_past = true;
+            self.bytes = self.more;
+            return Ok(0);
+        }
+        let n = buf.len().min(self.bytes.len());
+        let (given, rest) = self.bytes.split_at(n);
+        buf[..n].copy_from_slice(given);
+        self.bytes = rest;
+        Ok(n)
+    }
+}
+
 /// A writer that takes one byte a call, each after so many interrupted tries.
 #[derive(Drop)]
 pub struct Halting {

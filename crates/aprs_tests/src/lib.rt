@@ -14,6 +14,8 @@ mod compared_books;
 #[cfg(test)]
 mod devices;
 #[cfg(test)]
+mod ends;
+#[cfg(test)]
 mod failing_inputs;
 #[cfg(test)]
 mod gaps;

@@ -13,7 +13,7 @@ use std::test::Fail;
 
 /// A run over one input.
 #[derive(Clone, Copy)]
-enum Run {
+pub enum Run {
     Check,
     Text,
     Kind,
@@ -30,7 +30,7 @@ const FRAMES: &[u8] =
     \xc0\x00\x82\xa0\xa4\xa6\x40\x40\xe0\x9c\x60\x86\x82\x98\x98\x6f\x03\xf0>Hi\xc0";
 
 /// Each run, an input of two frames, and what the run writes.
-const RUNS: &[(Run, &[u8], &[u8])] = &[
+pub const RUNS: &[(Run, &[u8], &[u8])] = &[
     (Run::Check, LOG, b"heard 2 passed 0\n"),
     (Run::Text, LOG, TEXT),
     (
@@ -72,7 +72,7 @@ fn gone<R: Read, W: Write>(
 }
 
 /// Whether a run goes well, and writes this text in one try a call.
-fn writes<R: Read>(alloc: Global, run: Run, r: &mut Counted<R>, text: &[u8]) -> bool {
+pub fn writes<R: Read>(alloc: Global, run: Run, r: &mut Counted<R>, text: &[u8]) -> bool {
     let mut w = Counted::new(Vec::new(alloc));
     let is_ok = gone(alloc, run, r, &mut w).is_ok();
     is_ok && w.failures() == 0 && w.into_inner().as_slice() == text

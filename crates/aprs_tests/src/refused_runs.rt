@@ -16,7 +16,7 @@ use std::alloc::Global;
 use std::test::Fail;
 
 /// What is listed of `MERGED_TEXT`.
-const MERGED_LISTING: &[u8] = b"station N0CALL-7 2\nstatus 2099-12-31T23:59:59.000Z RX2 -:Hi\n";
+pub const MERGED_LISTING: &[u8] = b"station N0CALL-7 2\nstatus 2099-12-31T23:59:59.000Z RX2 -:Hi\n";
 
 /// An arena that has room for so many units of 64 bytes, and refuses the growth that would take it
 /// beyond until its limit is lifted.

@@ -11,11 +11,11 @@ use Rattle.aprs_laws.specs.Witnesses.{witnesses}
 use Rattle.aprs_laws.specs.Row.{Row}
 use Rattle.aprs_laws.specs.Sound.{Sound}
 use Rattle.aprs_laws.proofs.Soundness.{witnessed}
-use Rattle.aprs_io.specs.declared.input.TheConstants.{MAX_INPUT}
-use Rattle.aprs_log.specs.LogAnswers.{Gets, ended, fault_at, log_answers, receptions_of}
-use Rattle.aprs_log.specs.declared.Ending.{Ending}
-use Rattle.aprs_log.specs.declared.Ending.TheVariants as ending
-use Rattle.aprs_log.specs.declared.fault.LogCause.{LogCause}
+use Rattle.aprs_io.specs.Input.{Gets, most_input}
+use Rattle.aprs_io.specs.declared.input.Ending.{Ending}
+use Rattle.aprs_io.specs.declared.input.Ending.TheVariants as ending
+use Rattle.aprs_log.specs.LogAnswers.{ended, log_answers, receptions_of}
+use Rattle.aprs_log.specs.declared.fault.LogFault.{LogFault}
 use Rattle.aprs_booktext.specs.FirstFault.{Reads}
 use Rattle.aprs_booktext.specs.Text.{book_text, IsBookRows}
 use Rattle.aprs_booktext.specs.Version.{gap_of, IsVersion}
@@ -187,13 +187,12 @@ log_input (Some input) after limit head P Q size other follows h = record {
 }
 
 -- a short one has this fault, or none
-pub short_fault : (t : List ℕ) (c : Ending) (k : LogCause) (pile : List Heard)
-    → log_answers t c ≡ ended (fault_at 1 (Some k))
-    → ReadsLog (Err (Log (record { line = 1; cause = k }))) pile pile t c
-short_fault t c k pile e = ap (λ a. a.fault) e
+pub short_fault : (t : List ℕ) (c : Ending) (fault : LogFault) (pile : List Heard)
+    → log_answers t c ≡ ended (Some fault) → ReadsLog (Err (Log fault)) pile pile t c
+short_fault t c fault pile e = ap (λ a. a.fault) e
 
 pub short_empty : (t : List ℕ) (c : Ending) (pile : List Heard)
-    → log_answers t c ≡ ended (fault_at 1 None) → ReadsLog (Ok tt) pile pile t c
+    → log_answers t c ≡ ended None → ReadsLog (Ok tt) pile pile t c
 short_empty t c pile e = (
   ap (λ a. a.fault) e,
   sym (append-nil pile) ∙ ap (λ a. pile ++ receptions_of a.given) (sym e),
@@ -202,7 +201,7 @@ short_empty t c pile e = (
 -- ---- a book file
 
 faultless_book : (v : Version) (rows : List Row) → IsBookRows v rows
-    → length (book_text v rows) ≤ MAX_INPUT
+    → length (book_text v rows) ≤ most_input
     → is_book_file (book_text v rows) ≡ true → (e : InputFault)
     → IsFaultOf e (book_text v rows) ending.End → ⊥
 faultless_book v rows is fits b (Book f) h =
@@ -243,7 +242,7 @@ gap_positive Two is = omega arith
 gap_positive (Three gap) is = is.0
 
 reads_book : (asked : ℕ) (b : BookValue) (v : Version) → b.gap ≡ gap_of v → IsBookRows v b.rows
-    → length (book_text v b.rows) ≤ MAX_INPUT
+    → length (book_text v b.rows) ≤ most_input
     → ReadsInput asked (Ok b) (book_text v b.rows) ending.End
 reads_book asked b v same is fits =
     let begin = book_begins v b.rows in
@@ -260,7 +259,7 @@ reads_book asked b v same is fits =
 
 -- ---- what was got of a book file
 
-module _ (limit : ℕ) (input : List ℕ) (after : Option (List ℕ)) (small : limit ≤ MAX_INPUT) where
+module _ (limit : ℕ) (input : List ℕ) (after : Option (List ℕ)) (small : limit ≤ most_input) where
   pub refused_book : (f : BookFault) → Reads limit mark input after (Err f)
       → HoldsOfGot limit (mark ++ input) after (IsRefused (Book f))
   refused_book f h =
@@ -291,7 +290,7 @@ module _ (limit : ℕ) (input : List ℕ) (after : Option (List ℕ)) (small : l
 
 -- where its bytes may not be known
 pub book_input : (asked : ℕ) (known after : Option (List ℕ)) (limit : ℕ) (head : List ℕ)
-    (b : BookValue) → limit ≤ MAX_INPUT
+    (b : BookValue) → limit ≤ most_input
     → head ≡ mark → IfSome known (λ input. Reads limit head input after (Ok b))
     → IfSome known (λ input. HoldsOfGot limit (head ++ input) after (ReadsInput asked (Ok b)))
 book_input asked None after limit head b small is h = tt
@@ -300,7 +299,7 @@ book_input asked (Some input) after limit head b small is h =
     (read_book limit input after small asked b (subst (λ l. Reads limit l input after (Ok b)) is h))
 
 pub refused_input : (known after : Option (List ℕ)) (limit : ℕ) (head : List ℕ) (f : BookFault)
-    → limit ≤ MAX_INPUT → head ≡ mark
+    → limit ≤ most_input → head ≡ mark
     → IfSome known (λ input. Reads limit head input after (Err f))
     → IfSome known (λ input. HoldsOfGot limit (head ++ input) after (IsRefused (Book f)))
 refused_input None after limit head f small is h = tt

@@ -1,8 +1,8 @@
 -- Lemmas on the book of inputs that were all read, where an allocation failed for it.
-use Rattle.std.proofs.Common.{◌≡◌, ◌∙◌, ℕ, zero, suc, ◌-◌, ◌<◌, List, [], ◌∷◌, length, Option, Ok, Err, inr, refl, sym, subst, arith, slice_get}
-use Rattle.std.proofs.lemmas.Option.{slice_get_past}
-use Rattle.std.specs.Io.KnownBytes.{Appends}
-use Rattle.aprs_kiss.specs.Device.{AppendsPrefix}
+use Rattle.std.proofs.Common.{◌≡◌, ◌∙◌, ℕ, zero, suc, ◌-◌, List, [], ◌∷◌, length, Option, Ok, Err, inr, refl, subst, arith}
+use Rattle.aprs_io.specs.Device.{Sends}
+use Rattle.aprs_io.specs.declared.device.Counted.{Counted}
+use Rattle.aprs_io.proofs.Sends.{Sends-err, Sends-ok}
 use Rattle.aprs_laws.specs.Book.{BookOf}
 use Rattle.aprs_laws.specs.BookValue.{BookValue}
 use Rattle.aprs_laws.specs.Gap.{millis_of}
@@ -12,6 +12,8 @@ use Rattle.aprs_booktext.specs.Text.{written_text}
 use Rattle.aprs_tool.specs.Gathered.{WritesText}
 use Rattle.aprs_tool.specs.Merge.{AllFit, Got, HoldsOfEach, IsFirstRefused, ReadsEach}
 use Rattle.aprs_tool.specs.declared.fault.InputFault.TheVariants.{Memory}
+use Rattle.aprs_tool.specs.declared.fault.RunFault.{RunFault}
+use Rattle.aprs_tool.specs.declared.fault.RunFault.TheVariants.{Write}
 use Rattle.aprs_tool.specs.declared.gathered.Unwritten.{Unwritten}
 use Rattle.aprs_tool.specs.declared.gathered.Unwritten.TheVariants as unwritten
 use Rattle.aprs_tool.proofs.Merges.{gots_len}
@@ -50,26 +52,20 @@ refused_at_last gap limit n inputs afters b read e some = record {
       read.holds some;
 }
 
--- no input comes after the last
-pub none_after : {X : Type 0} (old new : List X) (n k : ℕ) → length new ≡ length old
-    → length new ≡ n → n - 1 < k → slice_get new k ≡ slice_get old k
-none_after old new n k e f l =
-    slice_get_past new k (omega (arith, f, l))
-    ∙ sym (slice_get_past old k (omega (arith, e, f, l)))
-
 -- ---- what was written
 
-pub text_sent : (b : BookValue) (old new : Option (List ℕ)) → WritesText (Ok tt) b old new
-    → Appends old new (written_text b)
-unfolding WritesText
-text_sent b old new h = h
+module _ {W : Type 0} {contents : W → Option (List ℕ)} (b : BookValue) (old new : Counted W) where
+  pub text_sent : WritesText contents (Ok tt) b old new
+      → Sends {E = RunFault} contents (Ok tt) old new (written_text b)
+  unfolding WritesText
+  text_sent h = Sends-ok h
 
-pub text_cut : (u : Unwritten) (b : BookValue) (old new : Option (List ℕ)) → u ≡ unwritten.Write
-    → WritesText (Err u) b old new → AppendsPrefix old new (written_text b)
-unfolding WritesText
-text_cut u b old new e h = subst (λ v. WritesText (Err v) b old new) e h
+  pub text_cut : (u : Unwritten) → u ≡ unwritten.Write → WritesText contents (Err u) b old new
+      → Sends {E = RunFault} contents (Err Write) old new (written_text b)
+  unfolding WritesText
+  text_cut u e h = Sends-err (Err Write) tt (subst (λ v. WritesText contents (Err v) b old new) e h)
 
-pub text_none : (u : Unwritten) (b : BookValue) (old new : Option (List ℕ)) → u ≡ unwritten.Memory
-    → WritesText (Err u) b old new → (new ≡ old) × (b.rows ≡ [] → ⊥)
-unfolding WritesText
-text_none u b old new e h = subst (λ v. WritesText (Err v) b old new) e h
+  pub text_none : (u : Unwritten) → u ≡ unwritten.Memory → WritesText contents (Err u) b old new
+      → (new ≡ old) × (b.rows ≡ [] → ⊥)
+  unfolding WritesText
+  text_none u e h = subst (λ v. WritesText contents (Err v) b old new) e h

@@ -6,6 +6,6 @@ pub mod Shows
 pub mod Merges
 pub mod OneMerge
 pub mod ShortLogs
-pub mod Runs
+pub mod Readers
 pub mod Widens
 pub mod LastRefused

@@ -1,11 +1,8 @@
 -- Lemmas on several inputs that are read one after another.
 use Rattle.std.proofs.Common.{◌≡◌, ◌<◌, ℕ, ◌+◌, zero, suc, List, [], ◌∷◌, ◌++◌, length, map, take, drop, Option, Some, Ok, Err, inl, inr, slice_get, get_or, set, option_map, refl, ap, sym, ◌∙◌, add-one, append_assoc, append-nil, length-append, length-drop, take-append-drop, subst, arith}
-use Rattle.std.specs.Prelude.{◌≢◌}
 use Rattle.std.proofs.Math.Seq.{take-suc-set}
-use Rattle.std.proofs.lemmas.Bool.{cases_lt}
 use Rattle.std.proofs.lemmas.List.{length-map, map-set, take_all}
-use Rattle.std.proofs.lemmas.Option.{slice_get-get_or, slice_get-map, slice_get_within}
-use Rattle.aprs_kiss.specs.Device.{RoseWhere}
+use Rattle.std.proofs.lemmas.Option.{slice_get-map, slice_get_within}
 use Rattle.aprs_laws.specs.Book.{BookOf}
 use Rattle.aprs_laws.specs.BookValue.{BookValue}
 use Rattle.aprs_laws.specs.Gap.{millis_of}
@@ -23,79 +20,10 @@ some_each inputs = map (λ input. Some input) inputs
 
 -- ---- an element that is written
 
-pub set_elsewhere : {X : Type 0} (xs : List X) (i k : ℕ) (y : X) → i ≢ k
-    → slice_get (set xs i y) k ≡ slice_get xs k
-set_elsewhere [] i k y h = refl
-set_elsewhere (x ∷ xs) zero zero y h = absurd (h refl)
-set_elsewhere (x ∷ xs) (suc i) zero y h = refl
-set_elsewhere (x ∷ xs) zero (suc k) y h = refl
-set_elsewhere (x ∷ xs) (suc i) (suc k) y h = set_elsewhere xs i k y (λ e. h (omega (arith, e)))
-
-pub set_here : {X : Type 0} (xs : List X) (i : ℕ) (y : X) → i < length xs
-    → slice_get (set xs i y) i ≡ Some y
-set_here [] i y h = absurd (omega (arith, h))
-set_here (x ∷ xs) zero y h = refl
-set_here (x ∷ xs) (suc i) y h = set_here xs i y (omega (arith, h))
-
--- an element that wasn't written yet
-pub element : {X : Type 0} (now old : List X) (i : ℕ) (d : X) → i < length now
-    → slice_get now i ≡ slice_get old i → slice_get old i ≡ Some (get_or now i d)
-element now old i d within same = sym same ∙ slice_get-get_or now i d within
-
 pub element_of : {X Y : Type 0} (f : X → Y) (old : List X) (all : List Y) (i : ℕ) (x : X)
     → slice_get old i ≡ Some x → map f old ≡ all → slice_get all i ≡ Some (f x)
 element_of f old all i x is e = ap (λ l. slice_get l i) (sym e) ∙ slice_get-map f old i
     ∙ ap (option_map f) is
-
--- ---- counts of readers that are written one by one
-
--- none rose
-abbrev pub AreCounts : {X : Type 0} → (X → ℕ) → List X → List X → Type 0
-AreCounts {X} f old now = (k : ℕ) (before after : X) → slice_get old k ≡ Some before
-    → slice_get now k ≡ Some after → f after ≡ f before
-
-pub counts_none : {X : Type 0} (f : X → ℕ) (xs : List X) → AreCounts f xs xs
-counts_none f xs k before after was is = let e : Some after ≡ Some before = sym is
-    ∙ was in ap f (cc)
-
-module _ {X : Type 0} (f : X → ℕ) (old now : List X) (i : ℕ) (x y : X)
-    (was : slice_get old i ≡ Some x) (within : i < length now) (same : AreCounts f old now) where
-  -- the element that was written, or another
-  pub at_each : (P : ℕ → ℕ → ℕ → Type 0) → P i (f x) (f y) → ((k n : ℕ) → i ≢ k → P k n n)
-      → (k : ℕ) (before after : X) → slice_get old k ≡ Some before
-      → slice_get (set now i y) k ≡ Some after → P k (f before) (f after)
-  at_each P here other k before after b a = elim (cases_lt i k) [
-    | inl lt ↦ elsewhere (λ e. omega (arith, lt, e))
-    | inr le ↦ elim (cases_lt k i) [
-      | inl lt ↦ elsewhere (λ e. omega (arith, lt, e))
-      | inr ge ↦ at_it (omega (arith, le, ge))
-    ]
-  ] where
-    elsewhere : i ≢ k → P k (f before) (f after)
-    elsewhere differs = subst (λ n. P k (f before) n)
-        (sym (same k before after b (sym (set_elsewhere now i k y differs) ∙ a)))
-        (other k (f before) differs)
-
-    at_it : i ≡ k → P k (f before) (f after)
-    at_it e =
-        let first : Some x ≡ Some before = sym was ∙ ap (λ n. slice_get old n) e ∙ b in
-        let second : Some y ≡ Some after = sym (set_here now i y within)
-        ∙ ap (λ n. slice_get (set now i y) n) e ∙ a in
-        let x_is : x ≡ before = cc in
-        let y_is : y ≡ after = cc in
-        subst (λ n. P n (f before) (f after)) e
-        (subst (λ z. P i (f z) (f after)) x_is (subst (λ z. P i (f x) (f z)) y_is here))
-
-  pub counts_more : f y ≡ f x → AreCounts f old (set now i y)
-  counts_more e = at_each (λ k m n. n ≡ m) e (λ k n differs. refl)
-
-  pub rose_where : (Q : Type 0) → RoseWhere Q (f x) (f y) → (k : ℕ) (before after : X)
-      → slice_get old k ≡ Some before → slice_get (set now i y) k ≡ Some after
-      → RoseWhere ((i ≡ k) × Q) (f before) (f after)
-  rose_where Q rose = at_each (λ k m n. RoseWhere ((i ≡ k) × Q) m n) (
-    λ p. rose.0 p.1,
-    λ none. rose.1 (λ q. none (refl, q)),
-  ) (λ k n differs. (λ p. absurd (differs p.0), λ h. refl))
 
 -- a place that is read adds what its device then has
 pub after_more : {X Y : Type 0} (f : X → Y) (now : List X) (i : ℕ) (y : X) → i < length now

@@ -7,8 +7,9 @@ use Rattle.std.specs.declared.cmp.Ordering.TheVariants.{Less}
 use Rattle.aprs_ax25.specs.Callsign.{Call, call_cmp, call_text}
 use Rattle.aprs_laws.proofs.Orders.{call_total, not_both}
 use Rattle.aprs_laws.proofs.Known.{known_once}
-use Rattle.std.specs.Io.KnownBytes.{Appends}
-use Rattle.aprs_kiss.specs.Device.{AppendsPrefix}
+use Rattle.aprs_io.specs.Device.{Sends}
+use Rattle.aprs_io.specs.declared.device.Counted.{Counted}
+use Rattle.aprs_io.proofs.Sends.{Sends-err, Sends-ok}
 use Rattle.aprs_laws.specs.Book.{BookOf}
 use Rattle.aprs_laws.specs.BookValue.{BookValue}
 use Rattle.aprs_laws.specs.Gap.{millis_of}
@@ -26,6 +27,8 @@ use Rattle.aprs_book.specs.declared.station.Station.{Station}
 use Rattle.aprs_listing.specs.Listing.{known_line, line_of, message_line, named_line, show_text, station_lines}
 use Rattle.aprs_tool.specs.Show.{IsListingOf, TellsPosition}
 use Rattle.aprs_tool.specs.ShownBook.{IsShown, ShowsBook}
+use Rattle.aprs_tool.specs.declared.fault.RunFault.{RunFault}
+use Rattle.aprs_tool.specs.declared.fault.RunFault.TheVariants.{Write}
 use Rattle.aprs_tool.specs.declared.gathered.Unwritten.{Unwritten}
 use Rattle.aprs_tool.specs.declared.gathered.Unwritten.TheVariants as unwritten
 
@@ -125,20 +128,23 @@ shown_text b stations named messages s n m = record {
   text_is = refl;
 }
 
-pub shown_sent : (b : BookValue) (old new : Option (List ℕ)) → ShowsBook (Ok tt) b old new
-    → (text : List ℕ) × IsShown b text × Appends old new text
-unfolding ShowsBook
-shown_sent b old new h = h
+module _ {W : Type 0} {contents : W → Option (List ℕ)} (b : BookValue) (old new : Counted W) where
+  pub shown_sent : ShowsBook contents (Ok tt) b old new
+      → (text : List ℕ) × IsShown b text × Sends {E = RunFault} contents (Ok tt) old new text
+  unfolding ShowsBook
+  shown_sent h = (h.0, h.1, Sends-ok h.2)
 
-pub shown_cut : (u : Unwritten) (b : BookValue) (old new : Option (List ℕ)) → u ≡ unwritten.Write
-    → ShowsBook (Err u) b old new → (text : List ℕ) × IsShown b text × AppendsPrefix old new text
-unfolding ShowsBook
-shown_cut u b old new e h = subst (λ v. ShowsBook (Err v) b old new) e h
+  pub shown_cut : (u : Unwritten) → u ≡ unwritten.Write → ShowsBook contents (Err u) b old new
+      → (text : List ℕ) × IsShown b text
+      × Sends {E = RunFault} contents (Err Write) old new text
+  unfolding ShowsBook
+  shown_cut u e h = let it = subst (λ v. ShowsBook contents (Err v) b old new) e h in
+      (it.0, it.1, Sends-err (Err Write) tt it.2)
 
-pub shown_none : (u : Unwritten) (b : BookValue) (old new : Option (List ℕ)) → u ≡ unwritten.Memory
-    → ShowsBook (Err u) b old new → new ≡ old
-unfolding ShowsBook
-shown_none u b old new e h = subst (λ v. ShowsBook (Err v) b old new) e h
+  pub shown_none : (u : Unwritten) → u ≡ unwritten.Memory → ShowsBook contents (Err u) b old new
+      → new ≡ old
+  unfolding ShowsBook
+  shown_none u e h = subst (λ v. ShowsBook contents (Err v) b old new) e h
 
 -- the listing of whatever set the rows are the book of
 pub listing_of_shown : (gap : ℕ) (b : BookValue) (text : List ℕ) → b.gap ≡ gap → IsShown b text

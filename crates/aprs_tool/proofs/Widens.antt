@@ -1,19 +1,18 @@
 -- Lemmas on an input whose book is widened.
 use Rattle.std.proofs.Common.{◌≡◌, ◌<◌, ◌≤◌, ℕ, List, Option, Result, Ok, Err, inl, inr, refl, sym, ◌∙◌, subst}
 use Rattle.std.specs.Prelude.{◌↔◌}
-use Rattle.std.specs.Io.KnownBytes.{Appends}
 use Rattle.std.proofs.lemmas.Bool.{cases_lt}
-use Rattle.aprs_kiss.specs.Device.{AppendsPrefix}
+use Rattle.aprs_io.specs.declared.device.Counted.{Counted}
 use Rattle.aprs_laws.specs.BookValue.{BookValue, widened_to}
 use Rattle.aprs_laws.specs.declared.widen_fault.WidenFault.{WidenFault}
 use Rattle.aprs_laws.specs.declared.widen_fault.WidenFault.TheVariants as fault
 use Rattle.aprs_booktext.specs.Text.{written_text}
 use Rattle.aprs_convert.specs.Got.{OfGot}
 use Rattle.aprs_tool.specs.Inputs.{ReadsInput}
-use Rattle.aprs_tool.specs.Widen.{WidensInput}
+use Rattle.aprs_tool.specs.Widen.{WidensInput, WritesWide}
 use Rattle.aprs_tool.specs.declared.fault.InputFault.{InputFault}
 use Rattle.aprs_tool.specs.declared.fault.InputFault.TheVariants.{Narrower}
-use Rattle.aprs_tool.specs.declared.fault.RunFault.TheVariants.{Input, Write, Memory}
+use Rattle.aprs_tool.specs.declared.fault.RunFault.TheVariants.{Input, Memory}
 use Rattle.aprs_tool.proofs.Into.{got_so}
 
 -- a gap that isn't refused as narrower is wide enough
@@ -35,51 +34,27 @@ pub wide_refused : (gap own : ℕ) (r : Result BookValue WidenFault) → r ≡ E
     → (r ≡ Err fault.Narrower) ↔ (gap < own) → own ≤ gap
 wide_refused gap own r is known = wide_enough gap own (λ less. two_faults r is (known.1 less))
 
-module _ (known after : Option (List ℕ)) (limit gap : ℕ) (old new : Option (List ℕ)) where
+module _ {W : Type 0} {contents : W → Option (List ℕ)} (known after : Option (List ℕ))
+    (limit gap : ℕ) (w : Counted W) where
   pub not_read : (e : InputFault) → OfGot limit known after (ReadsInput gap (Err e))
-      → OfGot limit known after (WidensInput gap (Err (Input 0 e)) old old)
+      → OfGot limit known after (WidensInput gap contents (Err (Input 0 e)) w w)
   not_read e = got_so known after limit (λ input. input) _ _ (λ t c h. (refl, inl h, refl))
 
   module _ (b : BookValue) (read : OfGot limit known after (ReadsInput gap (Ok b))) where
     pub not_wide : gap < b.gap → OfGot limit known after
-        (WidensInput gap (Err (Input 0 Narrower)) old old)
+        (WidensInput gap contents (Err (Input 0 Narrower)) w w)
     not_wide less = got_so known after limit (λ input. input) _ _
         (λ t c h. (refl, inr (refl, (h.0, (b, h.1, less))), refl)) read
 
-    pub no_memory : b.gap ≤ gap → OfGot limit known after (WidensInput gap (Err Memory) old old)
+    pub no_memory : b.gap ≤ gap
+        → OfGot limit known after (WidensInput gap contents (Err Memory) w w)
     no_memory enough = got_so known after limit (λ input. input) _ _
         (λ t c h. ((h.0, (b, h.1, enough)), refl)) read
 
-    pub sent : (w : BookValue) → b.gap ≤ gap → w ≡ widened_to gap b
-        → Appends old new (written_text w) → OfGot limit known after
-        (WidensInput gap (Ok tt) old new)
-    sent w enough is text =
-        got_so known after limit (λ input. input) _ _
-        (λ t c h. (
-          h.0,
-          (
-            b,
-            h.1,
-            (
-              enough,
-              subst (λ (w : BookValue). Appends old new (written_text w)) is text,
-            ),
-          ),
-        )) read
-
-    pub cut_short : (w : BookValue) → b.gap ≤ gap → w ≡ widened_to gap b
-        → AppendsPrefix old new (written_text w)
-        → OfGot limit known after (WidensInput gap (Err Write) old new)
-    cut_short w enough is text =
-        got_so known after limit (λ input. input) _ _
-        (λ t c h. (
-          h.0,
-          (
-            b,
-            h.1,
-            (
-              enough,
-              subst (λ (w : BookValue). AppendsPrefix old new (written_text w)) is text,
-            ),
-          ),
-        )) read
+    -- what holds of its text
+    pub wide_text : (P : List ℕ → Type 0) (wide : BookValue) → b.gap ≤ gap
+        → wide ≡ widened_to gap b → P (written_text wide)
+        → OfGot limit known after (λ t c. WritesWide gap t c P)
+    wide_text P wide enough is text = got_so known after limit (λ input. input) _ _
+        (λ t c h. (h.0, (b, h.1, (enough, subst (λ (b : BookValue). P (written_text b)) is text))))
+        read

@@ -1,7 +1,7 @@
 -- What was gathered of inputs: a book, and receptions that are not in it yet.
 use Rattle.std.specs.Prelude.{◌≡◌, ◌≢◌, ℕ, List, [], ◌∷◌, Option, Result, Ok, Err}
-use Rattle.std.specs.Io.KnownBytes.{Appends}
-use Rattle.aprs_kiss.specs.Device.{AppendsPrefix}
+use Rattle.aprs_io.specs.Device.{Sends}
+use Rattle.aprs_io.specs.declared.device.Counted.{Counted}
 use Rattle.aprs_log.specs.Reception.{Heard}
 use Rattle.aprs_laws.specs.BookValue.{BookValue}
 use Rattle.aprs_laws.specs.Gap.{millis_of}
@@ -23,8 +23,10 @@ book_with_all book xs =
 
 -- The text of the book is written, or a prefix of it where the output was refused. Where an
 -- allocation failed, nothing is, and the book has rows.
-unfoldable pub WritesText : Result (Unit {0}) Unwritten → BookValue → Option (List ℕ)
-    → Option (List ℕ) → Type 0
-WritesText (Ok u) book old new = Appends old new (written_text book)
-WritesText (Err Write) book old new = AppendsPrefix old new (written_text book)
-WritesText (Err Memory) book old new = (new ≡ old) × (book.rows ≢ [])
+unfoldable pub WritesText : {W : Type 0} → (W → Option (List ℕ)) → Result (Unit {0}) Unwritten
+    → BookValue → Counted W → Counted W → Type 0
+WritesText contents (Ok u) book old new =
+    Sends {E = Unwritten} contents (Ok u) old new (written_text book)
+WritesText contents (Err Write) book old new =
+    Sends contents (Err Write) old new (written_text book)
+WritesText contents (Err Memory) book old new = (new ≡ old) × (book.rows ≢ [])

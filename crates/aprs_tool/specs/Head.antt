@@ -1,9 +1,24 @@
 -- The first bytes of an input, as they are read before the others. No public clause cites this
 -- module.
-use Rattle.std.specs.Prelude.{◌≡◌, ◌<◌, ◌⊎◌, ℕ, List, [], ◌∷◌, ◌++◌, length}
+use Rattle.std.specs.Prelude.{◌≡◌, ◌<◌, ◌⊎◌, ℕ, List, [], ◌∷◌, ◌++◌, length, Result, Ok, Err}
+use Rattle.aprs_io.specs.Device.{Last, Going, End}
+use Rattle.aprs_io.specs.Input.{last_of}
+use Rattle.aprs_log.specs.Awaits.{last_of_cause}
+use Rattle.aprs_log.specs.declared.fault.LogFault.{LogFault}
+use Rattle.aprs_tool.specs.declared.head.ShortInput.{ShortInput}
 use Rattle.aprs_tool.specs.declared.head.TheConstants.{HEAD_LEN}
 
 -- These are eight bytes, or fewer of which the last is an LF.
 abbrev pub IsHead : List ℕ → Type 0
 IsHead head = (length head ≡ HEAD_LEN)
     ⊎ ((line : List ℕ) × (length line < HEAD_LEN) × (head ≡ line ++ 10 ∷ []))
+
+-- what a reader answered last, where its first bytes were read so
+abbrev pub last_headed : {A : Type 0} → Result A ShortInput → Last
+last_headed (Ok head) = Going
+last_headed (Err short) = last_of short.ending
+
+-- the same by the answer for an input that is too short for a book file
+abbrev pub last_short : Result (Unit {0}) LogFault → Last
+last_short (Ok u) = End
+last_short (Err fault) = last_of_cause fault.cause

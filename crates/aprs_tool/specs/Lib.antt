@@ -1,6 +1,7 @@
 -- Definitions that contracts of runs cite.
 pub mod Status
 pub mod Run
+pub mod Devices
 pub mod Head
 pub mod Inputs
 pub mod Desk

@@ -1,18 +1,16 @@
 -- What a merge of several inputs writes and answers.
-use Rattle.std.specs.Prelude.{◌≡◌, ◌<◌, ℕ, zero, suc, List, [], ◌∷◌, ◌++◌, Option, Some, Result, Ok, Err, map, slice_get}
-use Rattle.std.specs.Io.KnownBytes.{Appends}
-use Rattle.aprs_kiss.specs.Device.{AppendsPrefix, answered_of, failures_of, Rose, RoseWhere}
-use Rattle.aprs_kiss.specs.declared.Counted.{Counted}
-use Rattle.aprs_log.specs.LogAnswers.{Gets}
+use Rattle.std.specs.Prelude.{◌≡◌, ◌<◌, ℕ, zero, suc, List, [], ◌∷◌, ◌++◌, Option, Some, Result, Ok, Err, map}
+use Rattle.aprs_io.specs.Device.{Sends}
+use Rattle.aprs_io.specs.Input.{Gets}
+use Rattle.aprs_io.specs.declared.device.Counted.{Counted}
+use Rattle.aprs_io.specs.declared.input.Ending.{Ending}
 use Rattle.aprs_log.specs.Reception.{Heard}
-use Rattle.aprs_log.specs.declared.Ending.{Ending}
 use Rattle.aprs_laws.specs.Book.{BookOf}
 use Rattle.aprs_laws.specs.BookValue.{BookValue}
 use Rattle.aprs_laws.specs.Gap.{millis_of}
 use Rattle.aprs_laws.specs.Row.{Row}
 use Rattle.aprs_booktext.specs.Text.{written_text}
 use Rattle.aprs_tool.specs.Inputs.{AreMembers, Fits, IsNotTaken}
-use Rattle.aprs_tool.specs.Run.{IsReadFault}
 use Rattle.aprs_tool.specs.declared.fault.InputFault.{InputFault}
 use Rattle.aprs_tool.specs.declared.fault.RunFault.{RunFault}
 use Rattle.aprs_tool.specs.declared.fault.RunFault.TheVariants.{Input, Write, Memory}
@@ -84,14 +82,16 @@ abbrev pub WritesBook : ℕ → List Got → (List ℕ → Type 0) → Type 0
 WritesBook gap gots P = WritesOfAll gap (IsBookTextOf gap) gots P
 
 -- The text of their book is written, or a prefix of it where the output was refused. Where an input
--- is refused, nothing is written.
-abbrev pub MergesEach : ℕ → Result (Unit {0}) RunFault → Option (List ℕ) → Option (List ℕ)
-    → List Got → Type 0
-MergesEach gap (Ok u) old new gots = WritesBook gap gots (λ text. Appends old new text)
-MergesEach gap (Err Write) old new gots = WritesBook gap gots (λ text. AppendsPrefix old new text)
-MergesEach gap (Err (Input index fault)) old new gots =
+-- is refused, nothing is.
+abbrev pub MergesEach : {W : Type 0} → ℕ → (W → Option (List ℕ)) → Result (Unit {0}) RunFault
+    → Counted W → Counted W → List Got → Type 0
+MergesEach gap contents (Ok u) old new gots =
+    WritesBook gap gots (λ text. Sends {E = RunFault} contents (Ok u) old new text)
+MergesEach gap contents (Err Write) old new gots =
+    WritesBook gap gots (λ text. Sends contents (Err Write) old new text)
+MergesEach gap contents (Err (Input index fault)) old new gots =
     IsFirstRefused gap index fault gots × (new ≡ old)
-MergesEach gap (Err Memory) old new gots = ⊥
+MergesEach gap contents (Err Memory) old new gots = ⊥
 
 -- Of each input at most `limit` bytes were got, and P holds of what was got; the devices then have
 -- `afters`.
@@ -107,48 +107,3 @@ abbrev pub OfEach : ℕ → List (Option (List ℕ)) → List (Option (List ℕ)
 OfEach limit knowns afters P =
     (inputs : List (List ℕ)) → knowns ≡ map (λ input. Some input) inputs
     → HoldsOfEach limit inputs afters P
-
--- ---- failed reads
-
--- The count of this reader's failed calls rose.
-pub record RoseAt {R : Type 0} (index : ℕ) (old new : List (Counted R)) : Type 0 where
-  pub before : Counted R
-  pub after : Counted R
-  pub was : slice_get old index ≡ Some before
-  pub is : slice_get new index ≡ Some after
-  pub rose : Rose (failures_of before) (failures_of after)
-
--- A failed read of an input is reported only where its reader's count rose.
-abbrev pub RoseWhereRead : {R : Type 0} → RunFault → List (Counted R) → List (Counted R) → Type 0
-RoseWhereRead (Input index fault) old new = IsReadFault fault → RoseAt index old new
-RoseWhereRead Write old new = Unit {0}
-RoseWhereRead Memory old new = Unit {0}
-
--- The fault is a failed read of input number `k`.
-abbrev pub IsReadOf : ℕ → RunFault → Type 0
-IsReadOf k (Input index fault) = (index ≡ k) × IsReadFault fault
-IsReadOf k Write = ⊥
-IsReadOf k Memory = ⊥
-
--- Of each reader, the count of faults that it returned rose where P holds of its number, and else
--- is as it was.
-abbrev pub RoseWhereEach : {R : Type 0} → (ℕ → Type 0) → List (Counted R) → List (Counted R)
-    → Type 0
-RoseWhereEach {R} P old new = (k : ℕ) (before after : Counted R) → slice_get old k ≡ Some before
-    → slice_get new k ≡ Some after → RoseWhere (P k) (answered_of before) (answered_of after)
-
--- The readers after number `index` are as they were.
-abbrev pub IsAsBefore : {R : Type 0} → ℕ → List (Counted R) → List (Counted R) → Type 0
-IsAsBefore index old new = (k : ℕ) → index < k → slice_get new k ≡ slice_get old k
-
--- No input was read after one that is refused.
-abbrev pub ReadsNoFurther : {R : Type 0} → RunFault → List (Counted R) → List (Counted R) → Type 0
-ReadsNoFurther (Input index fault) old new = IsAsBefore index old new
-ReadsNoFurther Write old new = Unit {0}
-ReadsNoFurther Memory old new = Unit {0}
-
--- Where an input is refused, or an allocation failed for a listing, nothing is written.
-abbrev pub WritesNothing : RunFault → Option (List ℕ) → Option (List ℕ) → Type 0
-WritesNothing (Input index fault) old new = new ≡ old
-WritesNothing Write old new = Unit {0}
-WritesNothing Memory old new = new ≡ old

@@ -2,8 +2,8 @@
 use Rattle.std.specs.Prelude.{◌≡◌, ◌≢◌, ℕ, List, [], ◌∷◌, ◌++◌, Option, Result, Ok, Err, codes}
 use Rattle.std.specs.List.{flat_map}
 use Rattle.std.specs.Fmt.{decimal}
-use Rattle.std.specs.Io.KnownBytes.{Appends}
-use Rattle.aprs_kiss.specs.Device.{AppendsPrefix}
+use Rattle.aprs_io.specs.Device.{Sends}
+use Rattle.aprs_io.specs.declared.device.Counted.{Counted}
 use Rattle.aprs_ax25.specs.Callsign.{Call, call_text}
 use Rattle.aprs_log.specs.Reception.{Heard}
 use Rattle.aprs_laws.specs.Best.{LastKnown}
@@ -43,15 +43,15 @@ pub record IsListingOf (gap : ℕ) (S : List Heard) (text : List ℕ) : Type 0 w
 
 -- A refused output comes after a prefix of the listing of the receptions of all. Where an input is
 -- refused, or an allocation failed for the listing, nothing is written.
-abbrev pub ShowsEach : ℕ → Result (Unit {0}) RunFault → Option (List ℕ) → Option (List ℕ)
-    → List Got → Type 0
-ShowsEach gap (Ok u) old new gots =
-    WritesOfAll gap (IsListingOf gap) gots (λ text. Appends old new text)
-ShowsEach gap (Err Write) old new gots =
-    WritesOfAll gap (IsListingOf gap) gots (λ text. AppendsPrefix old new text)
-ShowsEach gap (Err (Input index fault)) old new gots =
+abbrev pub ShowsEach : {W : Type 0} → ℕ → (W → Option (List ℕ)) → Result (Unit {0}) RunFault
+    → Counted W → Counted W → List Got → Type 0
+ShowsEach gap contents (Ok u) old new gots = WritesOfAll gap (IsListingOf gap) gots
+    (λ text. Sends {E = RunFault} contents (Ok u) old new text)
+ShowsEach gap contents (Err Write) old new gots = WritesOfAll gap (IsListingOf gap) gots
+    (λ text. Sends contents (Err Write) old new text)
+ShowsEach gap contents (Err (Input index fault)) old new gots =
     IsFirstRefused gap index fault gots × (new ≡ old)
-ShowsEach gap (Err Memory) old new gots = AllFit gap gots × (new ≡ old)
+ShowsEach gap contents (Err Memory) old new gots = AllFit gap gots × (new ≡ old)
 
 -- ---- the positions in it
 

@@ -1,7 +1,7 @@
 -- What is written of the listing of a book.
 use Rattle.std.specs.Prelude.{◌≡◌, ℕ, List, Option, Result, Ok, Err}
-use Rattle.std.specs.Io.KnownBytes.{Appends}
-use Rattle.aprs_kiss.specs.Device.{AppendsPrefix}
+use Rattle.aprs_io.specs.Device.{Sends}
+use Rattle.aprs_io.specs.declared.device.Counted.{Counted}
 use Rattle.aprs_laws.specs.BookValue.{BookValue}
 use Rattle.aprs_laws.specs.Gap.{millis_of}
 use Rattle.aprs_book.specs.Messages.{ReportsMessages}
@@ -26,8 +26,10 @@ pub record IsShown (book : BookValue) (text : List ℕ) : Type 0 where
 
 -- The listing of the book is written, or a prefix of it where the output was refused. Where an
 -- allocation failed, nothing is.
-unfoldable pub ShowsBook : Result (Unit {0}) Unwritten → BookValue → Option (List ℕ)
-    → Option (List ℕ) → Type 0
-ShowsBook (Ok u) book old new = (text : List ℕ) × IsShown book text × Appends old new text
-ShowsBook (Err Write) book old new = (text : List ℕ) × IsShown book text × AppendsPrefix old new text
-ShowsBook (Err Memory) book old new = new ≡ old
+unfoldable pub ShowsBook : {W : Type 0} → (W → Option (List ℕ)) → Result (Unit {0}) Unwritten
+    → BookValue → Counted W → Counted W → Type 0
+ShowsBook contents (Ok u) book old new = (text : List ℕ) × IsShown book text
+    × Sends {E = Unwritten} contents (Ok u) old new text
+ShowsBook contents (Err Write) book old new = (text : List ℕ) × IsShown book text
+    × Sends contents (Err Write) old new text
+ShowsBook contents (Err Memory) book old new = new ≡ old

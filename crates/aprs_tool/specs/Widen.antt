@@ -1,8 +1,8 @@
 -- What widening an input writes and answers.
 use Rattle.std.specs.Prelude.{◌≡◌, ◌<◌, ◌≤◌, ◌⊎◌, ℕ, List, Option, Result, Ok, Err}
-use Rattle.std.specs.Io.KnownBytes.{Appends}
-use Rattle.aprs_kiss.specs.Device.{AppendsPrefix}
-use Rattle.aprs_log.specs.declared.Ending.{Ending}
+use Rattle.aprs_io.specs.Device.{Sends}
+use Rattle.aprs_io.specs.declared.device.Counted.{Counted}
+use Rattle.aprs_io.specs.declared.input.Ending.{Ending}
 use Rattle.aprs_laws.specs.BookValue.{BookValue, widened_to}
 use Rattle.aprs_booktext.specs.Text.{written_text}
 use Rattle.aprs_tool.specs.Inputs.{IsBookOfInput, IsFaultless, IsRefused}
@@ -30,13 +30,13 @@ WritesWide gap text ending P = OfInput gap text ending
 -- The text of the widened book is written, or a prefix of it where the output was refused. Where
 -- the input is refused, or its gap is greater, or an allocation failed for the book, nothing is
 -- written.
-abbrev pub WidensInput : ℕ → Result (Unit {0}) RunFault → Option (List ℕ) → Option (List ℕ)
-    → List ℕ → Ending → Type 0
-WidensInput gap (Ok u) old new text ending =
-    WritesWide gap text ending (λ written. Appends old new written)
-WidensInput gap (Err Write) old new text ending =
-    WritesWide gap text ending (λ written. AppendsPrefix old new written)
-WidensInput gap (Err (Input index fault)) old new text ending =
+abbrev pub WidensInput : {W : Type 0} → ℕ → (W → Option (List ℕ)) → Result (Unit {0}) RunFault
+    → Counted W → Counted W → List ℕ → Ending → Type 0
+WidensInput gap contents (Ok u) old new text ending = WritesWide gap text ending
+    (λ written. Sends {E = RunFault} contents (Ok u) old new written)
+WidensInput gap contents (Err Write) old new text ending = WritesWide gap text ending
+    (λ written. Sends contents (Err Write) old new written)
+WidensInput gap contents (Err (Input index fault)) old new text ending =
     (index ≡ 0) × IsNotWidened gap fault text ending × (new ≡ old)
-WidensInput gap (Err Memory) old new text ending =
+WidensInput gap contents (Err Memory) old new text ending =
     OfInput gap text ending (λ book. book.gap ≤ gap) × (new ≡ old)

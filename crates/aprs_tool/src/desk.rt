@@ -1,11 +1,11 @@
 //! A book that inputs are merged into.
 ghost use Rattle.std.specs.Prelude.{◌≤◌};
-ghost use Rattle.aprs_io.specs.declared.input.TheConstants.{MAX_INPUT};
+ghost use Rattle.aprs_io.specs.Input.{most_input};
 
 use crate::fault::InputFault;
 use crate::input::{merged, read_input};
 use aprs_book::{Book, Gap};
-use aprs_kiss::Counted;
+use aprs_io::Counted;
 use std::alloc::{Allocator, Global};
 use std::io::Read;
 
@@ -14,7 +14,7 @@ pub struct Desk<A: Allocator = Global> {
     alloc: A,
     limit: u64,
     book: Book<A>,
-    ghost few: { limit ≤ MAX_INPUT },
+    ghost few: { limit ≤ most_input },
 }
 
 impl<A: Allocator> Drop for Desk<A> {
@@ -29,20 +29,20 @@ impl<A: Allocator> Drop for Desk<A> {
 }
 
 impl<A: Allocator + Copy> Desk<A> {
-    ghost use Rattle.std.specs.Prelude.{◌≡◌, ◌≤◌, [], IfErr, IsErrAnd, OnErr};
-    ghost use Rattle.aprs_io.specs.declared.input.TheConstants.{MAX_INPUT};
-    ghost use Rattle.aprs_kiss.specs.Device.{device_of, failures_of, answered_of, Rose, RoseWhere};
+    ghost use Rattle.std.specs.Prelude.{◌≡◌, ◌≤◌, [], OnErr};
+    ghost use Rattle.aprs_io.specs.Input.{most_input};
+    ghost use Rattle.aprs_io.specs.Device.{device_of};
     ghost use Rattle.aprs_laws.specs.BookValue.{Holds};
     ghost use Rattle.aprs_laws.specs.Gap.{standard_gap};
     ghost use Rattle.aprs_tool.specs.Desk.{book_of, gap_of, limit_of, rows_of};
     ghost use Rattle.aprs_convert.specs.Got.{OfGot};
+    ghost use Rattle.aprs_tool.specs.Devices.{AsksInput};
     ghost use Rattle.aprs_tool.specs.Inputs.{TakesInput};
-    ghost use Rattle.aprs_tool.specs.Run.{IsReadFault};
 
     /// An empty book with a gap of 30 seconds, into which inputs are read up to `limit` bytes each.
     /// Requires that `limit` is at most `MAX_INPUT` (1,073,741,824). Takes no memory.
     pub fn new(alloc: A, limit: u64) -> Desk<A>
-        requires { limit ≤ MAX_INPUT }
+        requires { limit ≤ most_input }
         ensures gap { gap_of result ≡ standard_gap }
         ensures rows { rows_of result ≡ [] }
         ensures book { Holds [] (book_of result) }
@@ -53,7 +53,7 @@ impl<A: Allocator + Copy> Desk<A> {
 
     /// The same with this gap. Requires that `limit` is at most `MAX_INPUT`. Takes no memory.
     pub fn with_gap(alloc: A, limit: u64, gap: Gap) -> Desk<A>
-        requires { limit ≤ MAX_INPUT }
+        requires { limit ≤ most_input }
         ensures gap { gap_of result ≡ gap }
         ensures rows { rows_of result ≡ [] }
         ensures book { Holds [] (book_of result) }
@@ -77,12 +77,8 @@ impl<A: Allocator + Copy> Desk<A> {
         ensures gap { gap_of self.new ≡ gap_of self.old }
         ensures limit { limit_of self.new ≡ limit_of self.old }
         ensures unchanged { OnErr result (self.new ≡ self.old) }
-        ensures count { failures_of r.old ≤ failures_of r.new }
-        ensures read { IfErr result (λ fault. IsReadFault fault
-            → Rose (failures_of r.old) (failures_of r.new)) }
-        // A failed read is reported where a call of the reader returned one, and nowhere else.
-        ensures answered { RoseWhere (IsErrAnd result IsReadFault) (answered_of r.old)
-            (answered_of r.new) }
+        // The reader is asked neither after its end nor after a fault.
+        ensures calls { AsksInput result r.old r.new }
     {
         let input = read_input(self.alloc, self.limit, self.book.gap(), r)?;
         self.book = merged(&self.book, input)?;

@@ -5,7 +5,7 @@ ghost use Rattle.aprs_tool.specs.Status.{status_of_fault, status_of_input};
 use aprs_book::{Memory, MergeFault};
 use aprs_booktext::{BookCause, BookFault};
 use aprs_convert::ConvertFault;
-use aprs_kiss::WriteFault;
+use aprs_io::WriteFault;
 use aprs_log::{LogCause, LogFault};
 use thiserror::Error;
 

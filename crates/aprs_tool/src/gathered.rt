@@ -1,13 +1,12 @@
 //! What is gathered of inputs before their book is made.
-ghost use Rattle.std.specs.Prelude.{◌≡◌, ◌≢◌, [], Err, IfOk, OnOk, OnErr};
-ghost use Rattle.aprs_kiss.specs.Device.{answered_of, device_of, failures_of, Rose, RoseWhere};
+ghost use Rattle.std.specs.Prelude.{◌≡◌, ◌≢◌, [], IfOk, OnErr};
 ghost use Rattle.aprs_laws.specs.BookValue.{BookValue, Holds};
 ghost use Rattle.aprs_tool.specs.Gathered.{WritesText};
 
 use crate::input::merged;
 use aprs_book::{Book, Gap, Memory};
 use aprs_booktext::{write_book, write_rows};
-use aprs_kiss::{Counted, WriteFault};
+use aprs_io::{Counted, WriteFault};
 use aprs_pile::Pile;
 use std::alloc::{Allocator, Global};
 use std::io::Write;
@@ -101,12 +100,7 @@ impl<A: Allocator + Copy> Gathered<A> {
     /// Writes the text of the book of all that was gathered. Where logs alone were gathered, its
     /// rows are written from the pile.
     pub(crate) fn write<W: Write>(self, w: &mut Counted<W>) -> Result<(), Unwritten>
-        ensures text { WritesText result self (W.contents (device_of w.old))
-            (W.contents (device_of w.new)) }
-        ensures fault { result ≡ Err Unwritten.Write
-            → Rose (failures_of w.old) (failures_of w.new) }
-        ensures refused { RoseWhere (result ≡ Err Unwritten.Write) (answered_of w.old)
-            (answered_of w.new) }
+        ensures { WritesText W.contents result self w.old w.new }
     {
         if self.book.len() > 0 || self.pile.is_empty() {
             let book = self.into_book()?;
@@ -123,11 +117,8 @@ fn write_pile<W: Write, A: Allocator + Copy>(
     pile: &Pile<A>,
 ) -> Result<(), Unwritten>
     requires { pile.now ≢ [] }
-    ensures text { (book : BookValue) → book.gap ≡ gap → Holds pile.now book
-        → WritesText result book (W.contents (device_of w.old)) (W.contents (device_of w.new)) }
-    ensures fault { result ≡ Err Unwritten.Write → Rose (failures_of w.old) (failures_of w.new) }
-    ensures refused { RoseWhere (result ≡ Err Unwritten.Write) (answered_of w.old)
-        (answered_of w.new) }
+    ensures { (book : BookValue) → book.gap ≡ gap → Holds pile.now book
+        → WritesText W.contents result book w.old w.new }
 {
     let sorted = pile.sorted()?;
     let rows = sorted.rows(gap)?;

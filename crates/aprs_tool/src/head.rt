@@ -1,15 +1,13 @@
 //! The first bytes of an input, by which a book file is known from a log.
-ghost use Rattle.std.specs.Prelude.{◌≡◌, ◌<◌, ◌≤◌, [], ◌∷◌, false, length, IfSome, IfOk, IfErr, IsErrAnd, OnOk};
+ghost use Rattle.std.specs.Prelude.{◌≡◌, ◌<◌, ◌≤◌, [], ◌∷◌, false, length, IfSome, IfOk, IfErr, OnOk};
 ghost use Rattle.std.specs.List.{list_any};
 ghost use Rattle.std.specs.Io.KnownBytes.{Consumes};
-ghost use Rattle.aprs_kiss.specs.Device.{device_of, failures_of, answered_of, Rose, RoseWhere};
-ghost use Rattle.aprs_log.specs.Awaits.{EndsHere};
-ghost use Rattle.aprs_log.specs.LogAnswers.{Gets, is_lf};
-ghost use Rattle.aprs_tool.specs.Head.{IsHead};
+ghost use Rattle.aprs_io.specs.Device.{Calls, device_of};
+ghost use Rattle.aprs_io.specs.Input.{EndsHere, Gets, last_got};
+ghost use Rattle.aprs_log.specs.LogAnswers.{is_lf};
+ghost use Rattle.aprs_tool.specs.Head.{IsHead, last_headed};
 
-use aprs_io::read_some;
-use aprs_kiss::Counted;
-use aprs_log::Ending;
+use aprs_io::{Counted, Ending, read_some};
 use arrayvec::ArrayVec;
 use std::io::Read;
 
@@ -41,11 +39,7 @@ pub fn read_head<R: Read>(
     ensures end { IfErr result (λ short. IfSome (R.remaining (device_of r.old))
         (λ input. Gets limit input (R.remaining (device_of r.new)) short.bytes.items
         short.ending)) }
-    ensures count { failures_of r.old ≤ failures_of r.new }
-    ensures read { IfErr result (λ short. short.ending ≡ Ending.Read
-        → Rose (failures_of r.old) (failures_of r.new)) }
-    ensures answered { RoseWhere (IsErrAnd result (λ short. short.ending ≡ Ending.Read))
-        (answered_of r.old) (answered_of r.new) }
+    ensures calls { Calls (last_headed result) r.old r.new }
 {
     let mut bytes = ArrayVec::new();
     while bytes.len() < HEAD_LEN {
@@ -68,11 +62,7 @@ fn read_byte<R: Read>(r: &mut Counted<R>, left: u64) -> Result<u8, Ending>
         (R.remaining (device_of r.new)) (byte ∷ [])) }
     ensures end { IfErr result (λ ending. EndsHere ending left (R.remaining (device_of r.old))
         (R.remaining (device_of r.new))) }
-    ensures count { failures_of r.old ≤ failures_of r.new }
-    ensures read { IfErr result (λ ending. ending ≡ Ending.Read
-        → Rose (failures_of r.old) (failures_of r.new)) }
-    ensures answered { RoseWhere (IsErrAnd result (λ ending. ending ≡ Ending.Read))
-        (answered_of r.old) (answered_of r.new) }
+    ensures calls { Calls (last_got result) r.old r.new }
 {
     let mut one = [0];
     match read_some(r, &mut one, left) {

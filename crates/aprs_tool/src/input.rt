@@ -1,28 +1,29 @@
 //! The book of an input, which is a log or a book file.
-ghost use Rattle.std.specs.Prelude.{◌≡◌, ◌↔◌, ◌<◌, ◌≤◌, [], ◌∷◌, ◌++◌, false, length, ℕ, List, None, Some, IfSome, IfOk, IfErr, IsErrAnd, OnOk, OnErr};
+ghost use Rattle.std.specs.Prelude.{◌≡◌, ◌<◌, ◌≤◌, [], ◌∷◌, ◌++◌, false, length, List, IfSome, IfOk, IfErr, OnOk};
 ghost use Rattle.std.specs.List.{list_any};
-ghost use Rattle.aprs_io.specs.declared.input.TheConstants.{MAX_INPUT};
-ghost use Rattle.aprs_kiss.specs.Device.{device_of, failures_of, answered_of, Rose, RoseWhere};
-ghost use Rattle.aprs_log.specs.LogAnswers.{ended, fault_at, is_lf, log_answers, receptions_of};
+ghost use Rattle.std.specs.Result.{result_err};
+ghost use Rattle.aprs_io.specs.Device.{device_of};
+ghost use Rattle.aprs_io.specs.Input.{last_of, most_input};
+ghost use Rattle.aprs_log.specs.LogAnswers.{ended, is_lf, log_answers, receptions_of};
 ghost use Rattle.aprs_laws.specs.BookValue.{HaveOneGap};
 ghost use Rattle.aprs_laws.specs.Gap.{millis_of};
 ghost use Rattle.aprs_laws.specs.Book.{BookOf};
 ghost use Rattle.aprs_log.specs.Reception.{Heard};
 ghost use Rattle.aprs_book.specs.Taking.{MergesInto};
 ghost use Rattle.aprs_tool.specs.declared.head.TheConstants.{HEAD_LEN};
-ghost use Rattle.aprs_tool.specs.Head.{IsHead};
+ghost use Rattle.aprs_tool.specs.Devices.{AsksInput};
+ghost use Rattle.aprs_tool.specs.Head.{IsHead, last_short};
 ghost use Rattle.aprs_convert.specs.Got.{HoldsOfGot, OfGot};
 ghost use Rattle.aprs_tool.specs.Inputs.{ReadsInput, ReadsLog};
 ghost use Rattle.aprs_tool.specs.Inputs.{RefusesGaps, TakesInput};
-ghost use Rattle.aprs_tool.specs.Run.{IsReadFault};
 
 use crate::fault::InputFault;
 use crate::gathered::{Gathered, book_of};
 use crate::head::{ShortInput, read_head};
 use aprs_book::{Book, Gap, Memory, MergeFault};
 use aprs_booktext::read_book;
-use aprs_kiss::Counted;
-use aprs_log::{Ending, Line, LogCause, LogFault, LogReader};
+use aprs_io::{Counted, Ending};
+use aprs_log::{Line, LogCause, LogFault, LogReader};
 use aprs_pile::Pile;
 use std::alloc::Allocator;
 use std::io::Read;
@@ -44,19 +45,18 @@ pub fn read_input<R: Read, A: Allocator + Copy>(
     gap: Gap,
     r: &mut Counted<R>,
 ) -> Result<Book<A>, InputFault>
-    requires { limit ≤ MAX_INPUT }
+    requires { limit ≤ most_input }
     ensures reads { OfGot limit (R.remaining (device_of r.old))
         (R.remaining (device_of r.new)) (ReadsInput gap result) }
-    ensures count { failures_of r.old ≤ failures_of r.new }
-    ensures read { IfErr result (λ fault. IsReadFault fault
-        → Rose (failures_of r.old) (failures_of r.new)) }
-    // A failed read is reported where a call of the reader returned one, and nowhere else.
-    ensures answered { RoseWhere (IsErrAnd result IsReadFault) (answered_of r.old)
-        (answered_of r.new) }
+    // The reader is asked neither after its end nor after a fault.
+    ensures calls { AsksInput result r.old r.new }
 {
     match read_head(limit, r) {
         Ok(head) => read_own(alloc, limit, gap, head.as_slice(), r),
-        Err(short) => read_few(alloc, gap, &short),
+        Err(short) => {
+            read_short(&short)?;
+            Ok(Book::with_gap(alloc, gap))
+        }
     }
 }
 
@@ -68,18 +68,14 @@ fn read_own<R: Read, A: Allocator + Copy>(
     head: &[u8],
     r: &mut Counted<R>,
 ) -> Result<Book<A>, InputFault>
-    requires limit { limit ≤ MAX_INPUT }
+    requires limit { limit ≤ most_input }
     requires head { IsHead head.now }
     requires few { length head.now ≤ HEAD_LEN }
     requires within { length head.now ≤ limit }
     ensures reads { IfSome (R.remaining (device_of r.old))
         (λ input. HoldsOfGot limit (head.now ++ input) (R.remaining (device_of r.new))
         (ReadsInput gap result)) }
-    ensures count { failures_of r.old ≤ failures_of r.new }
-    ensures read { IfErr result (λ fault. IsReadFault fault
-        → Rose (failures_of r.old) (failures_of r.new)) }
-    ensures answered { RoseWhere (IsErrAnd result IsReadFault) (answered_of r.old)
-        (answered_of r.new) }
+    ensures calls { AsksInput result r.old r.new }
 {
     if head == BOOK_MARK {
         return Ok(read_book(alloc, limit, head, r)?);
@@ -87,23 +83,6 @@ fn read_own<R: Read, A: Allocator + Copy>(
     let mut pile = Pile::new(alloc);
     read_log(alloc, limit, head, &mut pile, r)?;
     Ok(book_of(alloc, gap, &pile)?)
-}
-
-/// The book of an input that is too short for a book file: that of a log.
-fn read_few<A: Allocator + Copy>(
-    alloc: A,
-    gap: Gap,
-    short: &ShortInput,
-) -> Result<Book<A>, InputFault>
-    requires few { length short.now.bytes.items < HEAD_LEN }
-    requires one { list_any is_lf short.now.bytes.items ≡ false }
-    ensures reads { ReadsInput gap result short.now.bytes.items short.now.ending }
-    ensures read { IsErrAnd result IsReadFault ↔ (short.now.ending ≡ Ending.Read) }
-{
-    match read_short(short) {
-        Ok(()) => Ok(Book::with_gap(alloc, gap)),
-        Err(fault) => Err(fault),
-    }
 }
 
 /// Reads an input, as `read_input` does, to what was gathered: its book, that of a set, becomes the
@@ -116,19 +95,15 @@ pub(crate) fn read_into<R: Read, A: Allocator + Copy>(
     gathered: &mut Gathered<A>,
     r: &mut Counted<R>,
 ) -> Result<(), InputFault>
-    requires { limit ≤ MAX_INPUT }
+    requires { limit ≤ most_input }
     ensures reads { OfGot limit (R.remaining (device_of r.old)) (R.remaining (device_of r.new))
         (TakesInput gathered.old.gap result gathered.old.rows gathered.new.rows) }
     ensures gap { gathered.new.gap ≡ gathered.old.gap }
-    ensures count { failures_of r.old ≤ failures_of r.new }
-    ensures read { IfErr result (λ fault. IsReadFault fault
-        → Rose (failures_of r.old) (failures_of r.new)) }
-    ensures answered { RoseWhere (IsErrAnd result IsReadFault) (answered_of r.old)
-        (answered_of r.new) }
+    ensures calls { AsksInput result r.old r.new }
 {
     match read_head(limit, r) {
         Ok(head) => read_whole(alloc, limit, head.as_slice(), gathered, r),
-        Err(short) => read_short(&short),
+        Err(short) => Ok(read_short(&short)?),
     }
 }
 
@@ -140,7 +115,7 @@ fn read_whole<R: Read, A: Allocator + Copy>(
     gathered: &mut Gathered<A>,
     r: &mut Counted<R>,
 ) -> Result<(), InputFault>
-    requires limit { limit ≤ MAX_INPUT }
+    requires limit { limit ≤ most_input }
     requires head { IsHead head.now }
     requires few { length head.now ≤ HEAD_LEN }
     requires within { length head.now ≤ limit }
@@ -148,11 +123,7 @@ fn read_whole<R: Read, A: Allocator + Copy>(
         (λ input. HoldsOfGot limit (head.now ++ input) (R.remaining (device_of r.new))
         (TakesInput gathered.old.gap result gathered.old.rows gathered.new.rows)) }
     ensures gap { gathered.new.gap ≡ gathered.old.gap }
-    ensures count { failures_of r.old ≤ failures_of r.new }
-    ensures read { IfErr result (λ fault. IsReadFault fault
-        → Rose (failures_of r.old) (failures_of r.new)) }
-    ensures answered { RoseWhere (IsErrAnd result IsReadFault) (answered_of r.old)
-        (answered_of r.new) }
+    ensures calls { AsksInput result r.old r.new }
 {
     if head != BOOK_MARK {
         return read_log(alloc, limit, head, &mut gathered.pile, r);
@@ -170,17 +141,13 @@ fn read_log<R: Read, A: Allocator + Copy>(
     pile: &mut Pile<A>,
     r: &mut Counted<R>,
 ) -> Result<(), InputFault>
-    requires limit { limit ≤ MAX_INPUT }
+    requires limit { limit ≤ most_input }
     requires head { length head.now ≤ HEAD_LEN }
     requires within { length head.now ≤ limit }
     ensures reads { IfSome (R.remaining (device_of r.old))
         (λ input. HoldsOfGot limit (head.now ++ input) (R.remaining (device_of r.new))
         (ReadsLog result pile.old pile.new)) }
-    ensures count { failures_of r.old ≤ failures_of r.new }
-    ensures read { IfErr result (λ fault. IsReadFault fault
-        → Rose (failures_of r.old) (failures_of r.new)) }
-    ensures answered { RoseWhere (IsErrAnd result IsReadFault) (answered_of r.old)
-        (answered_of r.new) }
+    ensures calls { AsksInput result r.old r.new }
 {
     let mut reader = LogReader::new(alloc, limit, head, r);
     'lines: loop {
@@ -223,31 +190,25 @@ pub(crate) fn merged<A: Allocator + Copy>(
     book.merge(&input)
 }
 
-/// The answer for an input that is too short for a book file: that of a log.
-fn read_short(short: &ShortInput) -> Result<(), InputFault>
+/// The answer for an input that is too short for a book file: that of a log without an LF.
+fn read_short(short: &ShortInput) -> Result<(), LogFault>
     requires few { length short.now.bytes.items < HEAD_LEN }
     requires one { list_any is_lf short.now.bytes.items ≡ false }
-    ensures reads { (pile : List Heard) → ReadsLog result pile pile
-        short.now.bytes.items short.now.ending }
-    ensures read { IsErrAnd result IsReadFault ↔ (short.now.ending ≡ Ending.Read) }
+    ensures answers { log_answers short.now.bytes.items short.now.ending
+        ≡ ended (result_err result) }
+    ensures last { last_short result ≡ last_of short.now.ending }
 {
-    match refuse_short(short.bytes.as_slice(), short.ending) {
-        Some(cause) => Err(InputFault::from(LogFault { line: 1, cause })),
-        None => Ok(()),
+    match short.ending {
+        Ending::Read => Err(first_line(LogCause::Read)),
+        Ending::TooLong => Err(first_line(LogCause::TooLong)),
+        Ending::End if short.bytes.is_empty() => Ok(()),
+        Ending::End => Err(first_line(LogCause::NoNewline)),
     }
 }
 
-/// Why a log of so few bytes without an LF is refused, if it is.
-fn refuse_short(text: &[u8], ending: Ending) -> Option<LogCause>
-    requires few { length text.now < HEAD_LEN }
-    requires one { list_any is_lf text.now ≡ false }
-    ensures answers { log_answers text.now ending ≡ ended (fault_at 1 result) }
-    ensures read { (result ≡ Some LogCause.Read) ↔ (ending ≡ Ending.Read) }
+/// The fault with this cause in the first line.
+fn first_line(cause: LogCause) -> LogFault
+    ensures { result ≡ record { line = 1; cause = cause } }
 {
-    match ending {
-        Ending::Read => Some(LogCause::Read),
-        Ending::TooLong => Some(LogCause::TooLong),
-        Ending::End if text.is_empty() => None,
-        Ending::End => Some(LogCause::NoNewline),
-    }
+    LogFault { line: 1, cause }
 }

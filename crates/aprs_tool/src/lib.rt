@@ -15,6 +15,7 @@ mod widen;
 
 pub use aprs_command::{Job, JobFault, command_is_simple, job};
 pub use aprs_convert::Form;
+pub use aprs_io::{Counted, DeviceFault, WriteFault, send};
 pub use desk::Desk;
 pub use fault::{InputFault, RunFault, status_of};
 pub use input::read_input;

@@ -1,17 +1,15 @@
 //! The merge of several inputs.
-ghost use Rattle.std.specs.Prelude.{◌≡◌, ◌≤◌, ◌-◌, length, map, IfOk, IfErr, IsErrAnd, Err};
-ghost use Rattle.aprs_io.specs.declared.input.TheConstants.{MAX_INPUT};
-ghost use Rattle.aprs_kiss.specs.Device.{answered_of, device_of, failures_of, Rose, RoseWhere};
-ghost use Rattle.aprs_tool.specs.Merge.{IsAsBefore, IsReadOf, MergesEach, OfEach, ReadsEach};
-ghost use Rattle.aprs_tool.specs.Merge.{ReadsNoFurther, RoseAt, RoseWhereEach, RoseWhereRead};
-ghost use Rattle.aprs_tool.specs.Merge.{WritesNothing};
-ghost use Rattle.aprs_tool.specs.Run.{IsReadFault};
+ghost use Rattle.std.specs.Prelude.{◌≡◌, ◌≢◌, ◌-◌, ◌<◌, ◌≤◌, length, map, IfOk, Result, Ok, Err};
+ghost use Rattle.aprs_io.specs.Device.{device_of};
+ghost use Rattle.aprs_io.specs.Input.{most_input};
+ghost use Rattle.aprs_tool.specs.Devices.{AsksEach, CallsOutput, ReadsAll};
+ghost use Rattle.aprs_tool.specs.Merge.{MergesEach, OfEach, ReadsEach};
 
 use crate::fault::{InputFault, RunFault};
 use crate::gathered::{Gathered, Unwritten};
 use crate::input::read_into;
 use aprs_book::Gap;
-use aprs_kiss::Counted;
+use aprs_io::Counted;
 use std::alloc::Allocator;
 use std::io::{Read, Write};
 
@@ -27,22 +25,13 @@ pub fn merge_run<R: Read, W: Write, A: Allocator + Copy>(
     inputs: &mut [Counted<R>],
     w: &mut Counted<W>,
 ) -> Result<(), RunFault>
-    requires { limit ≤ MAX_INPUT }
+    requires { limit ≤ most_input }
     ensures run { OfEach limit (map (λ r. R.remaining (device_of r)) inputs.old)
         (map (λ r. R.remaining (device_of r)) inputs.new)
-        (MergesEach gap result (W.contents (device_of w.old))
-        (W.contents (device_of w.new))) }
-    ensures nothing { IfErr result (λ fault. WritesNothing fault (W.contents (device_of w.old))
-        (W.contents (device_of w.new))) }
-    ensures unread { IfErr result (λ fault. ReadsNoFurther fault inputs.old inputs.new) }
-    ensures read { IfErr result (λ fault. RoseWhereRead fault inputs.old inputs.new) }
-    // A failed read is reported where a call of that reader returned one, and nowhere else.
-    ensures answered { RoseWhereEach (λ k. IsErrAnd result (IsReadOf k)) inputs.old inputs.new }
-    ensures write { IfErr result (λ fault. fault ≡ RunFault.Write
-        → Rose (failures_of w.old) (failures_of w.new)) }
-    // `Write` is returned where a call of the output returned a fault, and nowhere else.
-    ensures refused { RoseWhere (result ≡ Err RunFault.Write) (answered_of w.old)
-        (answered_of w.new) }
+        (MergesEach gap W.contents result w.old w.new) }
+    // The inputs are asked neither after their ends nor after a fault, nor is the output.
+    ensures reads { AsksEach result inputs.old inputs.new }
+    ensures writes { CallsOutput result w.old w.new }
 {
     let gathered = match read_all(alloc, limit, gap, inputs) {
         Ok(gathered) => gathered,
@@ -74,15 +63,12 @@ pub(crate) fn read_all<R: Read, A: Allocator + Copy>(
     gap: Gap,
     inputs: &mut [Counted<R>],
 ) -> Result<Gathered<A>, (usize, InputFault)>
-    requires { limit ≤ MAX_INPUT }
+    requires { limit ≤ most_input }
     ensures reads { OfEach limit (map (λ r. R.remaining (device_of r)) inputs.old)
         (map (λ r. R.remaining (device_of r)) inputs.new) (ReadsEach gap result) }
-    ensures unread { IfErr result (λ p. IsAsBefore p.0 inputs.old inputs.new) }
-    ensures read { IfErr result (λ p. IsReadFault p.1 → RoseAt p.0 inputs.old inputs.new) }
-    ensures answered { RoseWhereEach (λ k. IsErrAnd result (λ p. (p.0 ≡ k) × IsReadFault p.1))
-        inputs.old inputs.new }
+    ensures calls { ReadsAll result inputs.old inputs.new }
     ensures gap { IfOk result (λ gathered. gathered.gap ≡ gap) }
-    ensures len { length inputs.new ≡ length inputs.old }
+    ensures some { IfOk result (λ gathered. gathered.rows ≢ [] → 0 < length inputs.old) }
 {
     let mut gathered = Gathered::new(alloc, gap);
     for (index, r) in inputs.iter_mut().enumerate() {

@@ -1,13 +1,12 @@
 //! Conversions and checks as runs over one input.
-ghost use Rattle.std.specs.Prelude.{◌≡◌, ◌≤◌, IfErr, IsErrAnd, Err};
-ghost use Rattle.aprs_io.specs.declared.input.TheConstants.{MAX_INPUT};
-ghost use Rattle.aprs_kiss.specs.Device.{device_of, failures_of, answered_of, Rose, RoseWhere};
+ghost use Rattle.std.specs.Prelude.{◌≤◌};
+ghost use Rattle.aprs_io.specs.Input.{most_input};
 ghost use Rattle.aprs_convert.specs.Plan.{check_plan, convert_plan};
-ghost use Rattle.aprs_tool.specs.Run.{RunsOver, IsRead};
+ghost use Rattle.aprs_tool.specs.Run.{RunsAs};
 
 use crate::fault::RunFault;
 use aprs_convert::{Form, check_log, convert_input};
-use aprs_kiss::Counted;
+use aprs_io::Counted;
 use std::alloc::Allocator;
 use std::io::{Read, Write};
 
@@ -22,18 +21,9 @@ pub fn convert_run<R: Read, W: Write, A: Allocator + Copy>(
     r: &mut Counted<R>,
     w: &mut Counted<W>,
 ) -> Result<(), RunFault>
-    requires { limit ≤ MAX_INPUT }
-    ensures run { RunsOver (convert_plan form) limit
-        (R.remaining (device_of r.old)) (R.remaining (device_of r.new)) result
-        (W.contents (device_of w.old)) (W.contents (device_of w.new)) }
-    ensures read { IfErr result (λ fault. IsRead fault
-        → Rose (failures_of r.old) (failures_of r.new)) }
-    ensures answered { RoseWhere (IsErrAnd result IsRead) (answered_of r.old) (answered_of r.new) }
-    ensures write { IfErr result (λ fault. fault ≡ RunFault.Write
-        → Rose (failures_of w.old) (failures_of w.new)) }
-    // `Write` is returned where a call of the output returned a fault, and nowhere else.
-    ensures refused { RoseWhere (result ≡ Err RunFault.Write) (answered_of w.old)
-        (answered_of w.new) }
+    requires { limit ≤ most_input }
+    ensures { RunsAs (convert_plan form) limit R.remaining W.contents result r.old r.new
+        w.old w.new }
 {
     Ok(convert_input(alloc, limit, form, r, w)?)
 }
@@ -48,18 +38,8 @@ pub fn check_run<R: Read, W: Write, A: Allocator + Copy>(
     r: &mut Counted<R>,
     w: &mut Counted<W>,
 ) -> Result<(), RunFault>
-    requires { limit ≤ MAX_INPUT }
-    ensures run { RunsOver check_plan limit (R.remaining (device_of r.old))
-        (R.remaining (device_of r.new)) result
-        (W.contents (device_of w.old)) (W.contents (device_of w.new)) }
-    ensures read { IfErr result (λ fault. IsRead fault
-        → Rose (failures_of r.old) (failures_of r.new)) }
-    ensures answered { RoseWhere (IsErrAnd result IsRead) (answered_of r.old) (answered_of r.new) }
-    ensures write { IfErr result (λ fault. fault ≡ RunFault.Write
-        → Rose (failures_of w.old) (failures_of w.new)) }
-    // `Write` is returned where a call of the output returned a fault, and nowhere else.
-    ensures refused { RoseWhere (result ≡ Err RunFault.Write) (answered_of w.old)
-        (answered_of w.new) }
+    requires { limit ≤ most_input }
+    ensures { RunsAs check_plan limit R.remaining W.contents result r.old r.new w.old w.new }
 {
     Ok(check_log(alloc, limit, r, w)?)
 }

@@ -1,16 +1,16 @@
 //! The listing of several inputs.
-ghost use Rattle.std.specs.Prelude.{◌≡◌, ◌≤◌, map, IfErr, IsErrAnd, Err};
-ghost use Rattle.aprs_io.specs.declared.input.TheConstants.{MAX_INPUT};
-ghost use Rattle.aprs_kiss.specs.Device.{answered_of, device_of, failures_of, Rose, RoseWhere};
-ghost use Rattle.aprs_tool.specs.Merge.{IsReadOf, OfEach, ReadsNoFurther, RoseWhereEach};
-ghost use Rattle.aprs_tool.specs.Merge.{RoseWhereRead, WritesNothing};
+ghost use Rattle.std.specs.Prelude.{◌≤◌, map};
+ghost use Rattle.aprs_io.specs.Device.{device_of};
+ghost use Rattle.aprs_io.specs.Input.{most_input};
+ghost use Rattle.aprs_tool.specs.Devices.{AsksEach, CallsOutput};
+ghost use Rattle.aprs_tool.specs.Merge.{OfEach};
 ghost use Rattle.aprs_tool.specs.Show.{ShowsEach};
 
 use crate::fault::RunFault;
 use crate::gathered::Unwritten;
 use crate::merge::read_all;
 use aprs_book::Gap;
-use aprs_kiss::Counted;
+use aprs_io::Counted;
 use std::alloc::Allocator;
 use std::io::{Read, Write};
 
@@ -28,22 +28,13 @@ pub fn show_run<R: Read, W: Write, A: Allocator + Copy>(
     inputs: &mut [Counted<R>],
     w: &mut Counted<W>,
 ) -> Result<(), RunFault>
-    requires { limit ≤ MAX_INPUT }
+    requires { limit ≤ most_input }
     ensures run { OfEach limit (map (λ r. R.remaining (device_of r)) inputs.old)
         (map (λ r. R.remaining (device_of r)) inputs.new)
-        (ShowsEach gap result (W.contents (device_of w.old))
-        (W.contents (device_of w.new))) }
-    ensures nothing { IfErr result (λ fault. WritesNothing fault (W.contents (device_of w.old))
-        (W.contents (device_of w.new))) }
-    ensures unread { IfErr result (λ fault. ReadsNoFurther fault inputs.old inputs.new) }
-    ensures read { IfErr result (λ fault. RoseWhereRead fault inputs.old inputs.new) }
-    // A failed read is reported where a call of that reader returned one, and nowhere else.
-    ensures answered { RoseWhereEach (λ k. IsErrAnd result (IsReadOf k)) inputs.old inputs.new }
-    ensures write { IfErr result (λ fault. fault ≡ RunFault.Write
-        → Rose (failures_of w.old) (failures_of w.new)) }
-    // `Write` is returned where a call of the output returned a fault, and nowhere else.
-    ensures refused { RoseWhere (result ≡ Err RunFault.Write) (answered_of w.old)
-        (answered_of w.new) }
+        (ShowsEach gap W.contents result w.old w.new) }
+    // The inputs are asked neither after their ends nor after a fault, nor is the output.
+    ensures reads { AsksEach result inputs.old inputs.new }
+    ensures writes { CallsOutput result w.old w.new }
 {
     let gathered = match read_all(alloc, limit, gap, inputs) {
         Ok(gathered) => gathered,

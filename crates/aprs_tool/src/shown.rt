@@ -1,12 +1,11 @@
 //! The listing of what was gathered.
-ghost use Rattle.std.specs.Prelude.{◌≡◌, Err, IfOk};
-ghost use Rattle.aprs_kiss.specs.Device.{answered_of, device_of, failures_of, Rose, RoseWhere};
+ghost use Rattle.std.specs.Prelude.{◌≡◌, IfOk};
 ghost use Rattle.aprs_laws.specs.BookValue.{BookValue, Holds};
 ghost use Rattle.aprs_tool.specs.ShownBook.{ShowsBook};
 
 use crate::gathered::{Gathered, Unwritten};
 use aprs_book::{Book, Gap, Memory, RowList};
-use aprs_kiss::Counted;
+use aprs_io::Counted;
 use aprs_listing::Views;
 use aprs_pile::Pile;
 use std::alloc::Allocator;
@@ -16,12 +15,7 @@ impl<A: Allocator + Copy> Gathered<A> {
     /// Writes the listing of the book of all that was gathered. Where logs alone were gathered, its
     /// rows are listed from the pile, and no book is made.
     pub(crate) fn show<W: Write>(self, w: &mut Counted<W>) -> Result<(), Unwritten>
-        ensures listing { ShowsBook result self (W.contents (device_of w.old))
-            (W.contents (device_of w.new)) }
-        ensures fault { result ≡ Err Unwritten.Write
-            → Rose (failures_of w.old) (failures_of w.new) }
-        ensures refused { RoseWhere (result ≡ Err Unwritten.Write) (answered_of w.old)
-            (answered_of w.new) }
+        ensures { ShowsBook W.contents result self w.old w.new }
     {
         if self.book.len() > 0 || self.pile.is_empty() {
             let book = self.into_book()?;
@@ -37,11 +31,7 @@ fn show_book<W: Write, A: Allocator + Copy>(
     w: &mut Counted<W>,
     book: &Book<A>,
 ) -> Result<(), Unwritten>
-    ensures listing { ShowsBook result book.now (W.contents (device_of w.old))
-        (W.contents (device_of w.new)) }
-    ensures fault { result ≡ Err Unwritten.Write → Rose (failures_of w.old) (failures_of w.new) }
-    ensures refused { RoseWhere (result ≡ Err Unwritten.Write) (answered_of w.old)
-        (answered_of w.new) }
+    ensures { ShowsBook W.contents result book.now w.old w.new }
 {
     let views = Views::of(book)?;
     Ok(views.write(w)?)
@@ -52,11 +42,7 @@ fn show_list<W: Write, A: Allocator + Copy>(
     w: &mut Counted<W>,
     list: &RowList<A>,
 ) -> Result<(), Unwritten>
-    ensures listing { ShowsBook result list.now (W.contents (device_of w.old))
-        (W.contents (device_of w.new)) }
-    ensures fault { result ≡ Err Unwritten.Write → Rose (failures_of w.old) (failures_of w.new) }
-    ensures refused { RoseWhere (result ≡ Err Unwritten.Write) (answered_of w.old)
-        (answered_of w.new) }
+    ensures { ShowsBook W.contents result list.now w.old w.new }
 {
     let views = Views::of_list(list)?;
     Ok(views.write(w)?)

@@ -1,17 +1,16 @@
 //! The widening of an input's book.
-ghost use Rattle.std.specs.Prelude.{◌≡◌, ◌≤◌, IfErr, IsErrAnd, Err};
-ghost use Rattle.aprs_io.specs.declared.input.TheConstants.{MAX_INPUT};
-ghost use Rattle.aprs_kiss.specs.Device.{device_of, failures_of, answered_of, Rose, RoseWhere};
+ghost use Rattle.std.specs.Prelude.{◌≡◌, ◌≤◌, [], ◌∷◌};
+ghost use Rattle.aprs_io.specs.Device.{device_of};
+ghost use Rattle.aprs_io.specs.Input.{most_input};
 ghost use Rattle.aprs_convert.specs.Got.{OfGot};
-ghost use Rattle.aprs_tool.specs.Merge.{WritesNothing};
-ghost use Rattle.aprs_tool.specs.Run.{IsRead};
+ghost use Rattle.aprs_tool.specs.Devices.{AsksEach, CallsOutput};
 ghost use Rattle.aprs_tool.specs.Widen.{WidensInput};
 
 use crate::fault::{InputFault, RunFault};
 use crate::input::read_input;
 use aprs_book::{Gap, WidenFault};
 use aprs_booktext::write_book;
-use aprs_kiss::Counted;
+use aprs_io::Counted;
 use std::alloc::Allocator;
 use std::io::{Read, Write};
 
@@ -28,20 +27,12 @@ pub fn widen_run<R: Read, W: Write, A: Allocator + Copy>(
     r: &mut Counted<R>,
     w: &mut Counted<W>,
 ) -> Result<(), RunFault>
-    requires { limit ≤ MAX_INPUT }
+    requires { limit ≤ most_input }
     ensures run { OfGot limit (R.remaining (device_of r.old)) (R.remaining (device_of r.new))
-        (WidensInput gap result (W.contents (device_of w.old)) (W.contents (device_of w.new))) }
-    ensures nothing { IfErr result (λ fault. WritesNothing fault (W.contents (device_of w.old))
-        (W.contents (device_of w.new))) }
-    ensures read { IfErr result (λ fault. IsRead fault
-        → Rose (failures_of r.old) (failures_of r.new)) }
-    // A failed read is reported where a call of the reader returned one, and nowhere else.
-    ensures answered { RoseWhere (IsErrAnd result IsRead) (answered_of r.old) (answered_of r.new) }
-    ensures write { IfErr result (λ fault. fault ≡ RunFault.Write
-        → Rose (failures_of w.old) (failures_of w.new)) }
-    // `Write` is returned where a call of the output returned a fault, and nowhere else.
-    ensures refused { RoseWhere (result ≡ Err RunFault.Write) (answered_of w.old)
-        (answered_of w.new) }
+        (WidensInput gap W.contents result w.old w.new) }
+    // The input is asked neither after its end nor after a fault, nor is the output.
+    ensures reads { AsksEach result (r.old ∷ []) (r.new ∷ []) }
+    ensures writes { CallsOutput result w.old w.new }
 {
     let book = match read_input(alloc, limit, gap, r) {
         Ok(book) => book,

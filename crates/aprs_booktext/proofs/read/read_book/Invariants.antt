@@ -1,5 +1,5 @@
-use Rattle.std.proofs.Common.{◌≡◌, ◌+◌, ◌≤◌, length}
-use Rattle.aprs_kiss.specs.Device.{device_of, failures_of, answered_of}
+use Rattle.std.proofs.Common.{◌+◌, ◌≤◌, length}
+use Rattle.aprs_io.specs.Device.{Calls, Going, device_of}
 use Rattle.aprs_booktext.specs.Reader.{Stands}
 use Rattle.aprs_booktext.proofs.Inputs.{Got}
 use Rattle.aprs_booktext.proofs.read.read_book.Given as goal
@@ -11,8 +11,7 @@ invariant-loop-count g l =
       got : Got (Stands l.reader) l.head (remaining (device_of l.fn.source))
           (remaining (device_of l.source)) l.limit l.left;
       few : length l.reader.book.rows + l.left ≤ l.limit;
-      count : failures_of l.fn.source ≤ failures_of l.source;
-      answered : answered_of l.source ≡ answered_of l.fn.source;
+      calls : Calls Going l.fn.source l.source;
     }
 
 abbrev pub decreases-loop-count : goal.decreases-loop-count

@@ -1,18 +1,8 @@
-use Rattle.std.proofs.Common.{◌≡◌, ◌≤◌, drop}
-use Rattle.aprs_kiss.specs.Device.{answered_of, device_of, failures_of}
-use Rattle.aprs_booktext.specs.RowLines.{line_and_lf}
-use Rattle.aprs_outbox.proofs.Sending.{PutSoFar}
-use Rattle.aprs_booktext.proofs.Written.{WrittenSoFar}
+use Rattle.std.proofs.Common.{drop}
+use Rattle.aprs_booktext.proofs.Written.{PutSoFar}
 use Rattle.aprs_booktext.proofs.write_pile.put_lines.Given as goal
 
 abbrev pub invariant-loop-row : goal.invariant-loop-row
 invariant-loop-row g l =
-    let contents = g.W.Write.contents in
-    let rest = drop l.row-index l.fn.rows.rows in
-    record {
-      put : PutSoFar line_and_lf (contents (device_of l.initial.w))
-          (contents (device_of l.w)) l.initial.held.items l.held.items l.fn.rows.rows rest;
-      count : failures_of l.initial.w ≤ failures_of l.w;
-      answered : answered_of l.w ≡ answered_of l.initial.w;
-      written : WrittenSoFar l.fn.rows.rows rest;
-    }
+    PutSoFar g.W.Write.contents l.initial.out l.out l.fn.rows.rows
+    (drop l.row-index l.fn.rows.rows)

@@ -1,15 +1,17 @@
-use Rattle.aprs_kiss.proofs.Bytes.{on_err}
-use Rattle.aprs_outbox.proofs.Sending.{Appends-last, prefix_of_held}
+use Rattle.std.proofs.Common.{rules, subst}
+use Rattle.aprs_io.specs.Device.{Sends}
+use Rattle.aprs_outbox.proofs.Outlets.{Sends-put, Sends-unput}
+use Rattle.aprs_booktext.specs.Text.{written_text}
 use Rattle.aprs_booktext.proofs.write_pile.write_rows.Goals as goal
 
-pub returns-in_err-put_text-clause-prefix : goal.returns-in_err-put_text-clause-prefix
-returns-in_err-put_text-clause-prefix g c = on_err c.from_residual.result
-    (rw c.new-held.ensures at c.in_err-put_text.ensures.prefix)
+pub returns-in_err-put_text-clause-sends : goal.returns-in_err-put_text-clause-sends
+returns-in_err-put_text-clause-sends g c =
+    subst (λ w. Sends g.W.Write.contents c.from_residual.result c.args.w.now w
+    (written_text c.args.rows.now)) (search rules)
+    (Sends-unput c.new-out.ensures.nothing _ c.from_residual.ensures.0 c.in_err-put_text.ensures.puts)
 
-pub returns-clause-sent : goal.returns-clause-sent
-returns-clause-sent g c = Appends-last c.flush.result _ _ _ _ _
-    (rw c.new-held.ensures at c.in_ok-put_text.ensures.sent) c.flush.ensures.sent
-
-pub returns-clause-prefix : goal.returns-clause-prefix
-returns-clause-prefix g c = prefix_of_held c.flush.result _ _ _ _ _
-    (rw c.new-held.ensures at c.in_ok-put_text.ensures.sent) c.flush.ensures.prefix
+pub returns-clause-sends : goal.returns-clause-sends
+returns-clause-sends g c =
+    subst (λ w. Sends g.W.Write.contents c.flush.result c.args.w.now w
+    (written_text c.args.rows.now)) (search rules)
+    (Sends-put c.new-out.ensures.nothing c.in_ok-put_text.ensures.puts c.flush.ensures.sent)

@@ -1,19 +1,19 @@
 use Rattle.std.proofs.Common.{ap, sym, ◌∙◌}
 use Rattle.aprs_listing.specs.Lines.{field_text}
 use Rattle.aprs_listing.specs.declared.field.Field.{Field}
-use Rattle.aprs_listing.proofs.Lines.{PutsText-is}
+use Rattle.aprs_outbox.proofs.Outlets.{Puts-is}
 use Rattle.aprs_listing.proofs.field.put_field.Goals as goal
 
 pub returns-in-Call : goal.returns-in-Call
-returns-in-Call g c = PutsText-is c.put_bytes-in-Call.ensures
+returns-in-Call g c = Puts-is c.put-in-Call.ensures
     (c.as_slice.ensures.value ∙ c.text.ensures.text
     ∙ sym (ap (λ (x : Field). field_text x) c.in-Call.is))
 
 pub returns-in-Degrees : goal.returns-in-Degrees
-returns-in-Degrees g c = PutsText-is c.put_bytes-in-Degrees.ensures
+returns-in-Degrees g c = Puts-is c.put-in-Degrees.ensures
     (c.as_slice-in-Degrees.ensures.value ∙ c.fraction_text.ensures
     ∙ sym (ap (λ (x : Field). field_text x) c.in-Degrees.is))
 
 pub returns-in-Symbol : goal.returns-in-Symbol
-returns-in-Symbol g c = PutsText-is c.put_shown.ensures
+returns-in-Symbol g c = Puts-is c.put_shown.ensures
     (sym (ap (λ (x : Field). field_text x) c.in-Symbol.is))

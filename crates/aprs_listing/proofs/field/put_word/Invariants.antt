@@ -1,14 +1,10 @@
 use Rattle.std.proofs.Common.{Ok, take}
 use Rattle.std.specs.List.{flat_map}
-use Rattle.aprs_kiss.specs.Device.{answered_of, device_of, failures_of}
-use Rattle.aprs_listing.specs.Lines.{PutsText}
+use Rattle.aprs_outbox.specs.Outlet.{Puts}
 use Rattle.aprs_listing.specs.Listing.{word_byte}
 use Rattle.aprs_listing.proofs.field.put_word.Given as goal
 
 abbrev pub invariant-loop-b : goal.invariant-loop-b
 invariant-loop-b g l =
-    let contents = g.W.Write.contents in
-    PutsText (Ok tt) (contents (device_of l.initial.w)) (contents (device_of l.w))
-    (failures_of l.initial.w) (failures_of l.w) (answered_of l.initial.w) (answered_of l.w)
-    l.initial.held.items l.held.items
+    Puts {E = Unit {0}} g.W.Write.contents (Ok tt) l.initial.out l.out
     (flat_map word_byte (take l.b-index l.bytes))

@@ -1,11 +1,12 @@
 use Rattle.aprs_laws.specs.Key.{key_of}
-use Rattle.aprs_listing.proofs.Lines.{PutsText-is, name_fields_of, placed}
+use Rattle.aprs_outbox.proofs.Outlets.{Puts-is}
+use Rattle.aprs_listing.proofs.Lines.{name_fields_of, placed}
 use Rattle.aprs_listing.proofs.heard_line.put_name.Goals as goal
 
 pub returns : goal.returns
 unfolding key_of
 returns g c =
-    PutsText-is c.put_text_line.ensures
+    Puts-is c.put_text_line.ensures
     (placed c.args.kind.now c.args.at.now.comment.now _ _ _ c.place_fields.result
     (name_fields_of c.args.name.now c.live_text.result.now c.as_bytes.result.now c.args.live _
     c.args.heard.now c.source.result c.heard.view_is c.live_text.ensures

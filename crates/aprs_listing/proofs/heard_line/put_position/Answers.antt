@@ -1,10 +1,11 @@
 use Rattle.std.proofs.Common.{codes}
-use Rattle.aprs_listing.proofs.Lines.{PutsText-is, heard_fields_of, placed}
+use Rattle.aprs_outbox.proofs.Outlets.{Puts-is}
+use Rattle.aprs_listing.proofs.Lines.{heard_fields_of, placed}
 use Rattle.aprs_listing.proofs.heard_line.put_position.Goals as goal
 
 pub returns : goal.returns
 returns g c =
-    PutsText-is c.put_text_line.ensures
+    Puts-is c.put_text_line.ensures
     (placed (codes "position") c.args.at.now.comment.now _ _ _ c.place_fields.result
     (heard_fields_of _ c.args.heard.now c.as_bytes.result.now c.heard.view_is
     c.as_bytes.ensures.value)

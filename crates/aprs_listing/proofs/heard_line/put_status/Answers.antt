@@ -1,11 +1,11 @@
 use Rattle.std.proofs.Common.{ap}
 use Rattle.aprs_log.specs.Reception.{Heard}
-use Rattle.aprs_listing.proofs.Lines.{PutsText-is}
+use Rattle.aprs_outbox.proofs.Outlets.{Puts-is}
 use Rattle.aprs_listing.proofs.heard_line.put_status.Goals as goal
 
 pub returns : goal.returns
 returns g c =
-    PutsText-is c.put_text_line.ensures
+    Puts-is c.put_text_line.ensures
     (cc (
       c.as_bytes.ensures.value,
       ap (λ (h : Heard). h.moment) c.heard.view_is,

@@ -1,19 +1,19 @@
 use Rattle.std.proofs.Common.{arith}
 use Rattle.aprs_listing.specs.Lines.{spaced_field}
-use Rattle.aprs_listing.proofs.Lines.{PutsText-broken, PutsText-more, PutsText-none}
+use Rattle.aprs_outbox.proofs.Outlets.{Puts-broken, Puts-more, Puts-none}
 use Rattle.aprs_listing.proofs.line.put_fields.Goals as goal
 
 pub loop-field-init : goal.loop-field-init
-loop-field-init g c = PutsText-none _ _ _ _
+loop-field-init g c = Puts-none _
 
 pub loop-field-preserved : goal.loop-field-preserved
 loop-field-preserved g c =
-    PutsText-more spaced_field c.args.fields.now c.loop-field.field-index _
+    Puts-more spaced_field c.args.fields.now c.loop-field.field-index _
     (omega arith) c.field-item.is c.loop-field.invariant c.in_ok-put_spaced.ensures
 
 pub returns-in_err-put_spaced : goal.returns-in_err-put_spaced
 returns-in_err-put_spaced g c =
-    PutsText-broken spaced_field c.args.fields.now c.loop-field.field-index _
-    (omega arith) c.field-item.is c.loop-field.invariant _ c.from_residual.result
+    Puts-broken spaced_field c.args.fields.now c.loop-field.field-index _
+    (omega arith) c.field-item.is c.loop-field.invariant c.from_residual.result
     c.from_residual.ensures.0
     c.in_err-put_spaced.ensures

@@ -1,17 +1,17 @@
-use Rattle.aprs_listing.proofs.Lines.{PutsText-fails, PutsText-then}
+use Rattle.aprs_outbox.proofs.Outlets.{Puts-fails, Puts-then}
 use Rattle.aprs_listing.proofs.line.put_line.Goals as goal
 
-pub returns-in_err-put_bytes : goal.returns-in_err-put_bytes
-returns-in_err-put_bytes g c =
-    PutsText-fails c.from_residual.result c.from_residual.ensures.0 c.in_err-put_bytes.ensures _
+pub returns-in_err-put : goal.returns-in_err-put
+returns-in_err-put g c =
+    Puts-fails c.from_residual.result c.from_residual.ensures.0 c.in_err-put.ensures _
 
 pub returns-in_err-put_fields : goal.returns-in_err-put_fields
 returns-in_err-put_fields g c =
-    PutsText-then c.in_ok-put_bytes.ensures
-    (PutsText-fails c.from_residual-in_err-put_fields.result
+    Puts-then c.in_ok-put.ensures
+    (Puts-fails c.from_residual-in_err-put_fields.result
     c.from_residual-in_err-put_fields.ensures.0 c.in_err-put_fields.ensures _)
 
 pub returns : goal.returns
 returns g c =
-    PutsText-then c.in_ok-put_bytes.ensures
-    (PutsText-then c.in_ok-put_fields.ensures c.put_bytes-2.ensures)
+    Puts-then c.in_ok-put.ensures
+    (Puts-then c.in_ok-put_fields.ensures c.put-2.ensures)

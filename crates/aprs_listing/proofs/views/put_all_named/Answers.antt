@@ -1,19 +1,19 @@
 use Rattle.std.proofs.Common.{arith}
 use Rattle.aprs_listing.specs.Listing.{named_line}
-use Rattle.aprs_listing.proofs.Lines.{PutsText-broken, PutsText-more, PutsText-none}
+use Rattle.aprs_outbox.proofs.Outlets.{Puts-broken, Puts-more, Puts-none}
 use Rattle.aprs_listing.proofs.views.put_all_named.Goals as goal
 
 pub loop-named-init : goal.loop-named-init
-loop-named-init g c = PutsText-none _ _ _ _
+loop-named-init g c = Puts-none _
 
 pub loop-named-preserved : goal.loop-named-preserved
 loop-named-preserved g c =
-    PutsText-more named_line c.args.all.now c.loop-named.named-index _
+    Puts-more named_line c.args.all.now c.loop-named.named-index _
     (omega arith) c.named-item.is c.loop-named.invariant c.in_ok-put_heard.ensures
 
 pub returns-in_err-put_heard : goal.returns-in_err-put_heard
 returns-in_err-put_heard g c =
-    PutsText-broken named_line c.args.all.now c.loop-named.named-index _
-    (omega arith) c.named-item.is c.loop-named.invariant _ c.from_residual.result
+    Puts-broken named_line c.args.all.now c.loop-named.named-index _
+    (omega arith) c.named-item.is c.loop-named.invariant c.from_residual.result
     c.from_residual.ensures.0
     c.in_err-put_heard.ensures

@@ -1,7 +1,7 @@
 use Rattle.std.proofs.Common.{◌≡◌, ◌≤◌, ◌-◌, length, false}
 use Rattle.std.specs.List.{list_any}
 use Rattle.std.specs.Io.KnownBytes.{Consumes}
-use Rattle.aprs_kiss.specs.Device.{device_of, failures_of, answered_of}
+use Rattle.aprs_io.specs.Device.{Calls, Going, device_of}
 use Rattle.aprs_log.specs.LogAnswers.{is_lf}
 use Rattle.aprs_tool.proofs.head.read_head.Given as goal
 
@@ -12,8 +12,7 @@ invariant-loop-r g l = record {
   few : length l.bytes.items ≤ l.limit;
   most : length l.bytes.items ≤ 8;
   one : list_any is_lf l.bytes.items ≡ false;
-  answered : answered_of l.r ≡ answered_of l.initial.r;
-  count : failures_of l.initial.r ≤ failures_of l.r;
+  calls : Calls Going l.initial.r l.r;
 }
 
 abbrev pub decreases-loop-r : goal.decreases-loop-r

@@ -1,11 +1,13 @@
-use Rattle.std.proofs.Common.{arith, ap, refl, sym, ◌∙◌, ◌++◌, ◌∷◌, [], subst, IfSome, Ok, Err}
+use Rattle.std.proofs.Common.{ap, inl, refl, rules, sym, ◌∙◌, ◌++◌, ◌∷◌, [], subst, IfSome, Ok, Err}
 use Rattle.std.proofs.lemmas.Result.{err_from_is_err_and}
-use Rattle.aprs_kiss.specs.Device.{device_of}
+use Rattle.aprs_io.specs.Device.{Calls, End, Going, device_of}
+use Rattle.aprs_io.proofs.Sends.{Calls-none, Calls-then}
 use Rattle.aprs_convert.specs.Got.{HoldsOfGot}
 use Rattle.aprs_tool.specs.Inputs.{ReadsLog}
 use Rattle.aprs_tool.specs.declared.fault.InputFault.TheVariants.{Log}
 use Rattle.aprs_log.specs.LogAnswers.{receptions_of}
-use Rattle.aprs_log.specs.Reader.{current_of}
+use Rattle.aprs_log.specs.Awaits.{last_of_cause}
+use Rattle.aprs_log.specs.Reader.{current_of, source_of}
 use Rattle.aprs_log.specs.declared.line.Line.{Line}
 use Rattle.aprs_tool.proofs.Logs.{Took-none, Took-line, Took-ended, Took-fault, Took-refused}
 use Rattle.aprs_tool.proofs.input.read_log.Goals as goal
@@ -13,9 +15,8 @@ use Rattle.aprs_tool.proofs.input.read_log.Goals as goal
 pub lines-init : goal.lines-init
 lines-init g c = record {
   same_reference = refl;
-  reads = omega arith;
+  calls = subst (Calls Going c.args.r.now) (sym c.new-reader.ensures.source) (Calls-none _);
   going = c.new-reader.ensures.going;
-  answered = refl;
   took = λ end. Took-none _ _;
 }
 
@@ -24,10 +25,9 @@ lines-preserved g c =
     let gives = rw c.if-not-branch.false at c.in_ok-advance.ensures.gives in
     record {
       same_reference = cc;
-      reads = omega (arith, c.in_ok-advance.ensures.count, c.lines.invariant.reads);
+      calls = Calls-then c.lines.invariant.calls
+          (rw c.if-not-branch.false at (c.in_ok-advance.ensures.calls c.lines.invariant.going));
       going = gives.1;
-      answered = (c.in_ok-advance.ensures.answered c.lines.invariant.going).1 (λ e. absurd e)
-          ∙ c.lines.invariant.answered;
       took = λ end. Took-line _ _ _ _ _ _ _ (current_of c.advance.new.self) refl
           (c.lines.invariant.took end) (gives.2 end)
           (c.in_ok-lay.ensures ∙ ap (λ (y : Line). c.lines.pile ++ receptions_of (y ∷ []))
@@ -67,3 +67,23 @@ returns-in_err-lay-clause-reads g c =
     let p = err_from_is_err_and c.from_residual-in_err-lay.result
     c.from_residual-in_err-lay.ensures.1 in
     rw (p.1, p.2) (Took-refused _ _ c.args.limit c.args.head.now c.args.pile.now c.lay.new.pile)
+
+pub returns-then-not-branch-clause-calls : goal.returns-then-not-branch-clause-calls
+returns-then-not-branch-clause-calls g c = subst (Calls End c.args.r.now) (search rules)
+    (Calls-then c.lines.invariant.calls
+    (rw c.if-not-branch.true at (c.in_ok-advance.ensures.calls c.lines.invariant.going)))
+
+pub returns-in_err-advance-clause-calls : goal.returns-in_err-advance-clause-calls
+returns-in_err-advance-clause-calls g c =
+    let p = err_from_is_err_and c.from_residual.result c.from_residual.ensures.1 in
+    rw (p.1, p.2)
+    (subst (Calls (last_of_cause c.in_err-advance.field-0.0.cause) c.args.r.now) (search rules)
+    (Calls-then c.lines.invariant.calls (c.in_err-advance.ensures.calls c.lines.invariant.going)))
+
+pub returns-in_err-lay-clause-calls : goal.returns-in_err-lay-clause-calls
+returns-in_err-lay-clause-calls g c =
+    let p = err_from_is_err_and c.from_residual-in_err-lay.result
+    c.from_residual-in_err-lay.ensures.1 in
+    rw (p.1, p.2) (inl (subst (Calls Going c.args.r.now) (search rules)
+    (Calls-then c.lines.invariant.calls
+    (rw c.if-not-branch.false at (c.in_ok-advance.ensures.calls c.lines.invariant.going)))))

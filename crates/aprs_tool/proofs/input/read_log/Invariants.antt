@@ -1,6 +1,6 @@
-use Rattle.std.proofs.Common.{◌≡◌, ◌≤◌, ◌-◌, ℕ, List, Option, None}
-use Rattle.aprs_io.specs.declared.input.TheConstants.{MAX_INPUT}
-use Rattle.aprs_kiss.specs.Device.{device_of, failures_of, answered_of}
+use Rattle.std.proofs.Common.{◌≡◌, ◌-◌, ℕ, List, Option, None}
+use Rattle.aprs_io.specs.Device.{Calls, Going, device_of}
+use Rattle.aprs_io.specs.Input.{most_input}
 use Rattle.aprs_log.specs.Reader.{Awaits, lines_of, loan_of, source_of, stop_of}
 use Rattle.aprs_tool.proofs.Logs.{Took}
 use Rattle.aprs_tool.proofs.input.read_log.Given as goal
@@ -10,13 +10,12 @@ invariant-lines g l =
     let remaining = g.R.Read.remaining in
     record {
       same_reference : loan_of l.reader ≡ loan_of l.initial.reader;
-      reads : failures_of (source_of l.initial.reader) ≤ failures_of (source_of l.reader);
+      calls : Calls Going l.fn.r (source_of l.reader);
       going : stop_of l.reader ≡ None;
-      answered : answered_of (source_of l.reader) ≡ answered_of (source_of l.initial.reader);
       took : (end : Option (List ℕ)) → Took
           (Awaits (remaining (device_of (source_of l.initial.reader))) end l.initial.reader)
           (Awaits (remaining (device_of (source_of l.reader))) end l.reader) l.fn.pile l.pile;
     }
 
 abbrev pub decreases-lines : goal.decreases-lines
-decreases-lines g l = MAX_INPUT - lines_of l.reader
+decreases-lines g l = most_input - lines_of l.reader

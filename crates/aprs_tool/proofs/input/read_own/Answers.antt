@@ -1,4 +1,4 @@
-use Rattle.std.proofs.Common.{inl}
+use Rattle.std.proofs.Common.{inl, inr}
 use Rattle.std.proofs.lemmas.Result.{err_from_is_err_and}
 use Rattle.aprs_tool.proofs.Inputs.{book_input, is_mark_eq, is_other_eq, log_input, read_alone, refused_log}
 use Rattle.aprs_tool.proofs.input.read_own.Goals as goal
@@ -33,3 +33,9 @@ returns-clause-reads g c =
     (λ t e is. read_alone c.args.gap c.in_ok-book_of.field-0 c.new-pile.result c.read_log.new.pile
     t e is c.in_ok-book_of.ensures.gap c.new-pile.ensures c.in_ok-book_of.ensures.book)
     c.in_ok-read_log.ensures.reads
+
+pub returns-in_err-book_of-clause-calls : goal.returns-in_err-book_of-clause-calls
+returns-in_err-book_of-clause-calls g c =
+    let p = err_from_is_err_and c.from_residual-in_err-book_of.result
+    c.from_residual-in_err-book_of.ensures.1 in
+    rw (p.1, p.2) (inr c.in_ok-read_log.ensures.calls)

@@ -1,19 +1,26 @@
-use Rattle.std.proofs.Common.{◌∙◌, ap, sym}
-use Rattle.aprs_log.specs.LogAnswers.{log_answers}
-use Rattle.aprs_tool.proofs.Inputs.{short_empty, short_fault}
+use Rattle.std.proofs.Common.{◌∙◌, Some, ap, sym}
+use Rattle.aprs_log.specs.LogAnswers.{ended, ending_cause, fault_at, log_answers}
+use Rattle.aprs_tool.proofs.ShortLogs.{short_tail, short_unended}
 use Rattle.aprs_tool.proofs.input.read_short.Goals as goal
 
-pub returns-in-Some-clause-reads : goal.returns-in-Some-clause-reads
-returns-in-Some-clause-reads c =
-    let short = c.args.short.now in
-    let answers = ap (λ t. log_answers t short.ending) (sym c.as_slice.ensures.value)
-    ∙ c.in-Some.ensures.answers in
-    rw c.from.ensures (λ pile. short_fault short.bytes.items short.ending c.in-Some.cause pile
-    answers)
+pub returns-in-Read-clause-answers : goal.returns-in-Read-clause-answers
+returns-in-Read-clause-answers c =
+    let text = c.args.short.now.bytes.items in
+    short_tail text c.args.short.now.ending c.requires.few c.requires.one
+    ∙ ap (λ e. ended (fault_at 1 (ending_cause e text))) c.in-Read.is
+    ∙ ap (λ f. ended (Some f)) (sym c.first_line.ensures)
 
-pub returns-in-None-clause-reads : goal.returns-in-None-clause-reads
-returns-in-None-clause-reads c =
-    let short = c.args.short.now in
-    λ pile. short_empty short.bytes.items short.ending pile
-    (ap (λ t. log_answers t short.ending) (sym c.as_slice.ensures.value)
-    ∙ c.in-None.ensures.answers)
+pub returns-in-TooLong-clause-answers : goal.returns-in-TooLong-clause-answers
+returns-in-TooLong-clause-answers c =
+    let text = c.args.short.now.bytes.items in
+    short_tail text c.args.short.now.ending c.requires.few c.requires.one
+    ∙ ap (λ e. ended (fault_at 1 (ending_cause e text))) c.in-TooLong.is
+    ∙ ap (λ f. ended (Some f)) (sym c.first_line-in-TooLong.ensures)
+
+pub returns-in-End-2-clause-answers : goal.returns-in-End-2-clause-answers
+returns-in-End-2-clause-answers c =
+    let text = c.args.short.now.bytes.items in
+    ap (λ e. log_answers text e) c.in-End.is
+    ∙ short_unended text c.requires.few c.requires.one (sym c.is_empty.ensures
+    ∙ c.if-is_empty.false)
+    ∙ ap (λ f. ended (Some f)) (sym c.first_line-in-End-2.ensures)

@@ -6,6 +6,7 @@ use Rattle.aprs_tool.specs.Gathered.{rows_with}
 use Rattle.aprs_tool.specs.Inputs.{TakesInput, fault_of_merge}
 use Rattle.aprs_tool.proofs.Inputs.{book_input, is_mark, is_other, log_input, reads_log, refused_input}
 use Rattle.aprs_tool.proofs.Into.{got_so, gathered_in, not_merged_in}
+use Rattle.aprs_tool.proofs.Readers.{asks_merge}
 use Rattle.aprs_tool.proofs.input.read_whole.Goals as goal
 
 pub returns-then-ne-clause-reads : goal.returns-then-ne-clause-reads
@@ -60,3 +61,9 @@ returns-in_err-gathered-inside-clause-reads g c =
     c.in_err-gathered-inside.ensures.refused))
     (book_input was.book.gap _ _ c.args.limit c.args.head.now b c.requires.limit mark
     c.in_ok-input.ensures.reads))
+
+pub returns-in_err-gathered-inside-clause-calls : goal.returns-in_err-gathered-inside-clause-calls
+returns-in_err-gathered-inside-clause-calls g c =
+    let p = err_from_is_err_and c.from_residual-in_err-gathered-inside.result
+    c.from_residual-in_err-gathered-inside.ensures.1 in
+    rw (p.1, p.2) (asks_merge c.in_err-gathered-inside.field-0.0 c.in_ok-input.ensures.calls)

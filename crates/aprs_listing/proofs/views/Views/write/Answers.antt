@@ -1,11 +1,19 @@
-use Rattle.aprs_kiss.proofs.Bytes.{on_err}
-use Rattle.aprs_outbox.proofs.Sending.{prefix_of_held}
+use Rattle.std.proofs.Common.{refl, rules, subst}
+use Rattle.aprs_io.specs.Device.{Sends}
+use Rattle.aprs_outbox.proofs.Outlets.{Sends-put, Sends-unput}
+use Rattle.aprs_listing.specs.Listing.{show_text}
 use Rattle.aprs_listing.proofs.views.Views.write.Goals as goal
 
-pub returns-in_err-put_views-clause-prefix : goal.returns-in_err-put_views-clause-prefix
-returns-in_err-put_views-clause-prefix g c = on_err c.from_residual.result
-    (rw c.new-held.ensures at c.in_err-put_views.ensures.prefix)
+pub returns-in_err-put_views : goal.returns-in_err-put_views
+returns-in_err-put_views g c =
+    let v = c.args.self.now in
+    subst (λ w. Sends g.W.Write.contents c.from_residual.result c.args.w.now w
+    (show_text v.stations.items v.named.items v.messages.items)) (search rules)
+    (Sends-unput c.new-out.ensures.nothing _ c.from_residual.ensures.0 c.in_err-put_views.ensures)
 
-pub returns-clause-prefix : goal.returns-clause-prefix
-returns-clause-prefix g c = prefix_of_held c.flush.result _ _ _ _ _
-    (rw c.new-held.ensures at c.in_ok-put_views.ensures.sent) c.flush.ensures.prefix
+pub returns : goal.returns
+returns g c =
+    let v = c.args.self.now in
+    subst (λ w. Sends g.W.Write.contents c.flush.result c.args.w.now w
+    (show_text v.stations.items v.named.items v.messages.items)) (search rules)
+    (Sends-put c.new-out.ensures.nothing c.in_ok-put_views.ensures c.flush.ensures.sent)

@@ -1,5 +1,6 @@
 use Rattle.std.proofs.lemmas.Result.{err_from_is_err_and}
 use Rattle.aprs_tool.proofs.Into.{got_so, merged_in, not_merged_in}
+use Rattle.aprs_tool.proofs.Readers.{asks_merge}
 use Rattle.aprs_tool.proofs.desk.Desk.take_input.Goals as goal
 
 pub returns-clause-takes : goal.returns-clause-takes
@@ -17,3 +18,9 @@ returns-in_err-self-clause-takes g c =
     rw (p.1, p.2) (got_so _ _ c.args.self.now.limit (λ input. input) _ _
     (λ t e h. not_merged_in book.gap t e c.in_ok-input.input h c.in_err-self.field-0.0 book.rows
     book.rows c.in_err-self.ensures.refused) (rw c.gap.ensures at c.in_ok-input.ensures.reads))
+
+pub returns-in_err-self-clause-calls : goal.returns-in_err-self-clause-calls
+returns-in_err-self-clause-calls g c =
+    let p = err_from_is_err_and c.from_residual-in_err-self.result
+    c.from_residual-in_err-self.ensures.1 in
+    rw (p.1, p.2) (asks_merge c.in_err-self.field-0.0 c.in_ok-input.ensures.calls)

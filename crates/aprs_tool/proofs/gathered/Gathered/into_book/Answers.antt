@@ -1,5 +1,5 @@
 use Rattle.std.proofs.Common.{◌∙◌, ap}
-use Rattle.aprs_kiss.proofs.Bytes.{on_err}
+use Rattle.aprs_io.proofs.Bytes.{on_err}
 use Rattle.aprs_laws.specs.BookValue.{BookValue}
 use Rattle.aprs_laws.specs.Gap.{millis_of}
 use Rattle.aprs_tool.proofs.RowsWith.{pile_some, not_so, merged_book}

@@ -1,0 +1,111 @@
+-- Lemmas on what was asked of the readers of inputs.
+use Rattle.std.specs.Prelude.{◌⊎◌}
+use Rattle.std.proofs.Common.{◌≡◌, ℕ, zero, suc, List, [], ◌∷◌, length, Option, Some, Result, Ok, Err, inl, inr, slice_get, set, refl, sym, ap, subst, arith}
+use Rattle.aprs_io.specs.Device.{Calls, Going, End}
+use Rattle.aprs_io.specs.declared.device.Counted.{Counted}
+use Rattle.aprs_io.proofs.Sends.{Calls-then}
+use Rattle.aprs_laws.specs.declared.merge_fault.MergeFault.{MergeFault}
+use Rattle.aprs_laws.specs.declared.merge_fault.MergeFault.TheVariants as merge
+use Rattle.aprs_booktext.specs.Asking.{AsksAt}
+use Rattle.aprs_booktext.specs.declared.fault.BookCause.{BookCause}
+use Rattle.aprs_booktext.specs.declared.fault.BookCause.TheVariants as why
+use Rattle.aprs_tool.specs.Devices.{AsksInput, AsksToFault, ReadsFirst, StopsAt}
+use Rattle.aprs_tool.specs.Inputs.{fault_of_merge}
+use Rattle.aprs_tool.specs.declared.fault.InputFault.{InputFault}
+use Rattle.aprs_tool.specs.declared.fault.InputFault.TheVariants.{Log, Book, Memory, OtherGap, Narrower}
+
+-- ---- one reader
+
+module _ {R : Type 0} {a b c : Counted R} (first : Calls Going a b) where
+  then_either : Calls Going b c ⊎ Calls End b c → Calls Going a c ⊎ Calls End a c
+  then_either h = elim h [
+    | inl going ↦ inl (Calls-then first going)
+    | inr end ↦ inr (Calls-then first end)
+  ]
+
+  AsksAt-then : (cause : BookCause) → AsksAt cause b c → AsksAt cause a c
+  AsksAt-then why.Header h = Calls-then first h
+  AsksAt-then why.RowSyntax h = Calls-then first h
+  AsksAt-then why.Frame h = Calls-then first h
+  AsksAt-then why.Order h = Calls-then first h
+  AsksAt-then why.Span h = Calls-then first h
+  AsksAt-then why.Near h = Calls-then first h
+  AsksAt-then why.Receivers h = Calls-then first h
+  AsksAt-then why.NotGreatest h = Calls-then first h
+  AsksAt-then why.Ending h = then_either h
+  AsksAt-then why.After h = Calls-then first h
+  AsksAt-then why.Read h = Calls-then first h
+  AsksAt-then why.TooLong h = Calls-then first h
+  AsksAt-then why.Memory h = Calls-then first h
+
+  -- its first bytes, and then the others
+  AsksToFault-then : (fault : InputFault) → AsksToFault fault b c → AsksToFault fault a c
+  AsksToFault-then (Log fault) h = Calls-then first h
+  AsksToFault-then (Book fault) h = AsksAt-then fault.cause h
+  AsksToFault-then Memory h = then_either h
+  AsksToFault-then OtherGap h = Calls-then first h
+  AsksToFault-then Narrower h = Calls-then first h
+
+  pub AsksInput-then : {A : Type 0} {r : Result A InputFault} → AsksInput r b c → AsksInput r a c
+  AsksInput-then {A} {r = Ok value} h = Calls-then first h
+  AsksInput-then {A} {r = Err fault} h = AsksToFault-then fault h
+
+-- an input that was read to its end isn't merged
+pub asks_merge : {R : Type 0} {a b : Counted R} (fault : MergeFault) → Calls End a b
+    → AsksToFault (fault_of_merge fault) a b
+asks_merge merge.OtherGap h = h
+asks_merge merge.Memory h = inr h
+
+-- ---- readers one after another
+
+module _ {R : Type 0} where
+  pub ReadsFirst-len : (n : ℕ) (old now : List (Counted R)) → ReadsFirst n old now
+      → length now ≡ length old
+  ReadsFirst-len zero old now h = ap length h
+  ReadsFirst-len (suc n) (r ∷ old) (s ∷ now) h = ap suc (ReadsFirst-len n old now h.1)
+  ReadsFirst-len (suc n) [] now h = absurd h
+  ReadsFirst-len (suc n) (r ∷ old) [] h = absurd h
+
+  -- the next one wasn't asked yet
+  pub ReadsFirst-next : (n : ℕ) (old now : List (Counted R)) → ReadsFirst n old now
+      → slice_get old n ≡ slice_get now n
+  ReadsFirst-next zero old now h = ap (λ l. slice_get l zero) (sym h)
+  ReadsFirst-next (suc n) (r ∷ old) (s ∷ now) h = ReadsFirst-next n old now h.1
+  ReadsFirst-next (suc n) [] now h = absurd h
+  ReadsFirst-next (suc n) (r ∷ old) [] h = absurd h
+
+  module _ (x y : Counted R) where
+    -- it is read to its end
+    pub ReadsFirst-more : (n : ℕ) (old now : List (Counted R)) → ReadsFirst n old now
+        → slice_get now n ≡ Some x → Calls End x y → ReadsFirst (suc n) old (set now n y)
+    ReadsFirst-more zero old [] h is calls = absurd cc
+    ReadsFirst-more zero [] (s ∷ now) h is calls = absurd cc
+    ReadsFirst-more zero (r ∷ old) (s ∷ now) h is calls =
+        let same : x ≡ r = cc in (subst (λ z. Calls End z y) same calls, cc)
+    ReadsFirst-more (suc n) (r ∷ old) (s ∷ now) h is calls =
+        (h.0, ReadsFirst-more n old now h.1 is calls)
+    ReadsFirst-more (suc n) [] now h is calls = absurd h
+    ReadsFirst-more (suc n) (r ∷ old) [] h is calls = absurd h
+
+    -- or to its fault
+    pub StopsAt-next : (fault : InputFault) (n : ℕ) (old now : List (Counted R))
+        → ReadsFirst n old now → slice_get now n ≡ Some x → AsksToFault fault x y
+        → StopsAt n fault old (set now n y)
+    StopsAt-next fault zero old [] h is asks = absurd cc
+    StopsAt-next fault zero [] (s ∷ now) h is asks = absurd cc
+    StopsAt-next fault zero (r ∷ old) (s ∷ now) h is asks =
+        let same : x ≡ r = cc in (subst (λ z. AsksToFault fault z y) same asks, cc)
+    StopsAt-next fault (suc n) (r ∷ old) (s ∷ now) h is asks =
+        (h.0, StopsAt-next fault n old now h.1 is asks)
+    StopsAt-next fault (suc n) [] now h is asks = absurd h
+    StopsAt-next fault (suc n) (r ∷ old) [] h is asks = absurd h
+
+  -- an allocation failed after the last
+  pub StopsAt-last : (n : ℕ) (old new : List (Counted R)) → ReadsFirst (suc n) old new
+      → StopsAt n Memory old new
+  StopsAt-last zero (r ∷ old) (s ∷ new) h = (inr h.0, h.1)
+  StopsAt-last (suc n) (r ∷ old) (s ∷ new) h = (h.0, StopsAt-last n old new h.1)
+  StopsAt-last zero [] new h = absurd h
+  StopsAt-last zero (r ∷ old) [] h = absurd h
+  StopsAt-last (suc n) [] new h = absurd h
+  StopsAt-last (suc n) (r ∷ old) [] h = absurd h
