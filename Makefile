@@ -43,13 +43,13 @@ words:
 	tests/completions.sh
 	tests/scripts.sh
 
-# what is tried with the program: the README's example, the old club's book, gaps, what happens to logs and
-# books, each awk, the packages
+# what is tried with the program: the README's example, the old club's book, gaps, what happens to
+# logs and books, each awk, the packages
 TRIED = readme old_book gaps logs books awks packages
 tried = $(foreach it,$(TRIED),tests/$(it).sh $(PROGRAM) &&)
 
-# these, and the recipes that need only a POSIX system, where a program is there that is newer than its
-# sources; each says what it leaves out because a tool isn't there
+# these, and the recipes that need only a POSIX system, where a program is there that is newer than
+# its sources; each says what it leaves out because a tool isn't there
 recipes:
 	@if [ -x $(PROGRAM) ] && [ -z "$$(find crates -name '*.rt' -newer $(PROGRAM))" ]; then \
 	    $(tried) examples/cookbook.sh --posix $(PROGRAM); \

@@ -1,6 +1,7 @@
 #!/bin/sh
-# Read by the tests of this folder, whose first argument is the program: finds it, makes a folder that is
-# thrown away, and puts the program and the recipes into PATH. Needs a POSIX system and mktemp.
+# Read by the tests of this folder, whose first argument is the program: finds it, makes a folder
+# that is thrown away, and puts the program and the recipes into PATH. Needs a POSIX system and
+# mktemp.
 set -eu
 export LC_ALL=C
 fail() {

@@ -1,7 +1,7 @@
 #!/bin/sh
-# Checks that the cookbook's table "When it says" has each message and each cause of a fault, and, both
-# ways, that the manual page and the completions name the words that the program has:
-# its commands, forms, options, kinds of reports, lines and states of a listing, exit statuses and
+# Checks that the cookbook's table "When it says" has each message and each cause of a fault, and,
+# both ways, that the manual page and the completions name the words that the program has: its
+# commands, forms, options, kinds of reports, lines and states of a listing, exit statuses and
 # messages, the causes of faults, and the reasons for which a line is passed over. The program's
 # words are read from its sources. Needs a POSIX system alone; where mandoc, bash, zsh or fish is
 # there, it also looks at its file.
