@@ -6,7 +6,6 @@
 # shellcheck source=program.sh
 . "$(dirname "$0")/program.sh"
 has 'make install, tarball and deb' make git || exit 0
-unset MAKEFLAGS MFLAGS MAKELEVEL
 if ! git -C "$repository" log -1 > "$scratch/said" 2>&1; then
     echo 'left out: make install, tarball and deb (no commit is there)'
     exit 0

@@ -4,6 +4,8 @@
 # mktemp.
 set -eu
 export LC_ALL=C
+# a make that a test runs is none of the make that runs the test
+unset MAKEFLAGS MFLAGS MAKELEVEL
 fail() {
     echo "tests/${0##*/}: $*" >&2
     exit 1
