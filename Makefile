@@ -52,13 +52,13 @@ map:
 	build/map.sh > docs/architecture.new
 	mv docs/architecture.new docs/architecture.md
 
-# what is tried with the program: the README's example, the old club's book, gaps, outputs that take nothing, what happens to logs and
-# books, each awk, the packages
+# what is tried with the program: the README's example, the old club's book, gaps, outputs that take
+# nothing, what happens to logs and books, each awk, the packages
 TRIED = readme old_book gaps full_output logs books awks packages
 tried = $(foreach it,$(TRIED),tests/$(it).sh $(PROGRAM) &&)
 
-# these, and the recipes that need only a POSIX system, where a program is there that is newer than its
-# sources; each says what it leaves out because a tool isn't there
+# these, and the recipes that need only a POSIX system, where a program is there that is newer than
+# its sources; each says what it leaves out because a tool isn't there
 recipes:
 	@if [ -x $(PROGRAM) ] && [ -z "$$(find crates -name '*.rt' -newer $(PROGRAM))" ]; then \
 	    $(tried) examples/cookbook.sh --posix $(PROGRAM); \

@@ -18,7 +18,8 @@ _aprsbook() {
         line=${line#"$piece"}
     done
     local count=${#typed[@]}
-    local word=${typed[-1]} before=${typed[count - 2]} command=${typed[1]} form=${typed[2]-} words='--help'
+    local word=${typed[-1]} before=${typed[count - 2]} command=${typed[1]} form=${typed[2]-}
+    local words='--help'
     COMPREPLY=()
     if ((count == 2)); then
         words="$commands --help --version"

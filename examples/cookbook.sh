@@ -1,12 +1,13 @@
 #!/usr/bin/env bash
-# Runs the recipes of docs/cookbook.md, in order, on the logs of examples/evening, and says which it left
-# out because a tool isn't there.
+# Runs the recipes of docs/cookbook.md, in order, on the logs of examples/evening, and says which it
+# left out because a tool isn't there.
 # usage: examples/cookbook.sh [--posix] PROGRAM [FOLDER]
 #        --posix runs those alone that need no tool beyond a POSIX system, and passes over the others
-#        FOLDER, a new one, keeps what they make, and in output/ what they print; otherwise it is thrown away
+#        FOLDER, a new one, keeps what they make, and in output/ what they print; without it that is
+#        thrown away
 #
-# A recipe is a block that begins with ```sh. The words after sh are the tools that it needs beyond those
-# of a POSIX system.
+# A recipe is a block that begins with ```sh. The words after sh are the tools that it needs beyond
+# those of a POSIX system.
 set -euo pipefail
 export LC_ALL=C
 posix=

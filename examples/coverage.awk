@@ -35,10 +35,12 @@ function px(value,   text) {
     return text
 }
 function say(class, at_x, at_y, anchor, words) {
-    printf "<text class='%s' x='%s' y='%d' text-anchor='%s'>%s</text>\n", class, px(at_x), at_y, anchor, words
+    printf "<text class='%s' x='%s' y='%d' text-anchor='%s'>", class, px(at_x), at_y, anchor
+    print words "</text>"
 }
 function block(class, at_x, at_y, wide, high, title) {
-    printf "<rect class='%s' x='%s' y='%d' width='%s' height='%d'>", class, px(at_x), at_y, px(wide), high
+    printf "<rect class='%s' x='%s' y='%d' ", class, px(at_x), at_y
+    printf "width='%s' height='%d'>", px(wide), high
     print "<title>" title "</title></rect>"
 }
 function bar(name, row,   at, share) {

@@ -116,7 +116,7 @@ function scale_bar(   kilometres, long, from, base) {
     say("axis", from - 6, base, "end", kilometres < 1 ? kilometres * 1000 " m" : kilometres " km")
 }
 function mark(kind, at_x, at_y) {
-    if (kind == "station") printf "<circle class='station' cx='%s' cy='%s' r='4.5'/>", px(at_x), px(at_y)
+    if (kind == "station") print "<circle class='station' cx='" px(at_x) "' cy='" px(at_y) "' r='4.5'/>"
     else if (kind == "object") draw(kind, at_x - 6, at_y - 6, "h12v12h-12z")
     else if (kind == "item") draw(kind, at_x, at_y - 8, "l7 12h-14z")
     else draw(kind, at_x - 4.5, at_y - 4.5, "l9 9m0-9l-9 9")
@@ -182,7 +182,8 @@ function head() {
     print ".killed-name { fill: #777 } .leader { stroke: #9aa } g:hover > * { stroke: #000 }"
     print "</style>"
     print "<rect class='paper' width='100%' height='100%'/>"
-    printf "<rect class='sheet' x='%d' y='%d' width='%s' height='%s'/>\n", left, top, px(width), px(height)
+    printf "<rect class='sheet' x='%d' y='%d' ", left, top
+    print "width='" px(width) "' height='" px(height) "'/>"
     say("heading", left, 22, "start", n (n == 1 ? " place" : " places"))
 }
 # The edges of the map, with room around the places, and its scale: `up` and `across` are pixels to a

@@ -1,7 +1,8 @@
 #!/bin/sh
-# Runs the recipes that need only a POSIX system, and the pictures, with mawk, gawk and busybox: they have to
-# make the same files and print the same. Runs each file of awk where the decimal sign is a comma: it has to
-# print the same. Needs a POSIX system, mktemp and bash, and says what it leaves out because a tool isn't there.
+# Runs the recipes that need only a POSIX system, and the pictures, with mawk, gawk and busybox:
+# they have to make the same files and print the same. Runs each file of awk where the decimal sign
+# is a comma: it has to print the same. Needs a POSIX system, mktemp and bash, and says what it
+# leaves out because a tool isn't there.
 # usage: tests/awks.sh PROGRAM
 # shellcheck source=program.sh
 . "$(dirname "$0")/program.sh"
@@ -12,7 +13,8 @@ cd "$scratch"
 
 # under NAME: the cookbook with what the folder NAME holds first in PATH
 under() {
-    PATH=$scratch/$1:$PATH "$examples/cookbook.sh" --posix "$program" "$scratch/made-$1" > said 2>&1 || fail "$1: $(cat said)"
+    PATH=$scratch/$1:$PATH "$examples/cookbook.sh" --posix "$program" "made-$1" > said 2>&1 ||
+        fail "$1: $(cat said)"
     if [ -z "${first-}" ]; then
         first=$1
     else
@@ -28,8 +30,8 @@ for awk in mawk gawk; do
 done
 if has 'the cookbook with busybox' busybox; then
     mkdir busybox
-    for tool in awk cat cmp comm cp cut diff dirname find grep head mkdir mktemp mv od paste printf rm sed sort split \
-        tail tr uniq wc; do
+    for tool in awk cat cmp comm cp cut diff dirname find grep head mkdir mktemp mv od paste rm sed \
+        sort split tail tr uniq wc; do
         printf '#!/bin/sh\nexec busybox %s "$@"\n' $tool > busybox/$tool
         chmod +x busybox/$tool
     done
@@ -67,20 +69,23 @@ end
         "$@" -f "$recipes/pcap.awk" net.book
         "$@" -f "$recipes/receivers.awk" net.book | sort
         "$@" -f "$recipes/stations.awk" net.book | sort
-        "$@" -f "$recipes/map-source.awk" hill.log | "$@" -v parts=4 -v name=part -f "$recipes/partition.awk"
+        "$@" -f "$recipes/map-source.awk" hill.log |
+            "$@" -v parts=4 -v name=part -f "$recipes/partition.awk"
         cat part.?
         "$@" -v start=1714564800 -v name=TAPE -f "$recipes/atest.awk" atest.txt
         "$@" -v name=RX1 -f "$recipes/kissutil.awk" kissutil.txt
     }
     all awk > expected
-    grep -q '^2024-05-01T12:01:02.345Z TAPE c00082' expected || fail 'atest.awk makes another moment'
-    grep -q '^2024-05-01T12:00:00Z RX1 c00082.*4869c0$' expected || fail 'kissutil.awk makes another line'
+    grep -q '^2024-05-01T12:01:02.345Z TAPE c00082' expected ||
+        fail 'atest.awk makes another moment'
+    grep -q '^2024-05-01T12:00:00Z RX1 c00082.*4869c0$' expected ||
+        fail 'kissutil.awk makes another line'
     for awk in mawk gawk 'gawk --use-lc-numeric' 'busybox awk'; do
         has "a decimal comma with $awk" "${awk%% *}" || continue
         # shellcheck disable=SC2086 # the name of one, or a name and an argument
         for language in C de_DE.UTF-8; do
             LC_ALL=$language all $awk > printed
-            diff expected printed > said || fail "with $awk in $language it prints something else: $(cat said)"
+            diff expected printed > said || fail "$awk in $language differs: $(cat said)"
         done
     done
 fi

@@ -5,6 +5,8 @@ export LC_ALL=C
 cd "$(dirname "$0")/.."
 # shellcheck source=../completions/aprsbook.bash
 source completions/aprsbook.bash
+# bash knows this only while it completes
+compopt() { :; }
 scratch=$(mktemp -d)
 trap 'rm -rf "$scratch"' EXIT
 cd "$scratch"

@@ -18,7 +18,7 @@ while [ $cut -le 1200 ]; do
         lines=$((lines + 1))
         next=$(head -n $lines "$hill" | wc -c)
     fi
-    [ "$(head -c $cut start | whole-lines)" = "$expected" ] || fail "whole-lines is wrong after $cut bytes"
+    [ "$(head -c $cut start | whole-lines)" = "$expected" ] || fail "wrong after $cut bytes"
     cut=$((cut + 1))
 done
 [ $lines -gt 4 ] || fail 'the start of the log has too few lines'
@@ -27,15 +27,16 @@ head -c 1001 start | whole-lines | aprsbook check > said || fail 'what whole-lin
 # a line that aprsbook refuses isn't kept, and one that it reads is, though it may pass it over
 digits() { head -c "$1" /dev/zero | tr '\000' 0; }
 kept() { [ "$(printf '%s\n' "$1" | whole-lines)" = "$1" ]; }
-while read -r line; do
-    line="$line$(digits "$((8192 - ${#line}))")"
-    printf '%s\n' "$line" | aprsbook check > said || fail "aprsbook refuses: $line"
-    kept "$line" || fail "whole-lines drops: $line"
-    if printf '%s00\n' "$line" | aprsbook check > said 2>&1; then fail 'a line of 8,194 bytes is read'; fi
-    if kept "${line}00"; then fail 'whole-lines keeps a line of 8,194 bytes'; fi
+while read -r start; do
+    # the longest line that begins so
+    line="$start$(digits "$(((8192 - ${#start}) / 2 * 2))")"
+    printf '%s\n' "$line" | aprsbook check > said || fail "aprsbook refuses: $start"
+    kept "$line" || fail "whole-lines drops: $start"
+    if printf '%s00\n' "$line" | aprsbook check > said 2>&1; then fail 'a longer line is read'; fi
+    if kept "${line}00"; then fail 'whole-lines keeps a longer line'; fi
 done << end
 2024-02-29T23:59:59Z RX1 c000
-2000-02-29T00:00:00.250Z a-Z_4567890123456 00
+2000-02-29T00:00:00.250Z a-Z_456789012345 00
 1970-01-01T00:00:00Z RX1 cD
 2099-12-31T23:59:59.999Z RX1 00
 end
@@ -68,9 +69,12 @@ tr '@' '\000' > wrong << end
 2024-05-01T12:00:00Z RX1
 APRSBOOK 3 30
 end
-while IFS= read -r line; do
-    if printf '%s\n' "$line" | aprsbook check > said 2>&1; then fail "aprsbook reads: $line"; fi
-done < wrong
+number=$(wc -l < wrong)
+while [ "$number" -gt 0 ]; do
+    sed -n "${number}p" wrong > line
+    if aprsbook check line > said 2>&1; then fail "aprsbook reads: $(cat line)"; fi
+    number=$((number - 1))
+done
 [ -z "$(whole-lines < wrong)" ] || fail "whole-lines keeps: $(whole-lines < wrong)"
 
 # ---- aprs-log ----
@@ -99,14 +103,18 @@ has aprs-log stdbuf || exit 0
 aprsbook convert kiss "$hill" > heard.kiss
 aprsbook convert text "$hill" > heard.txt
 aprs-log RX1 now < heard.kiss
-grep -Ecv '^[0-9-]*T[0-9:]*\.[0-9][0-9][0-9]Z RX1 c0' now/*/RX1.log > said || fail 'a moment is without milliseconds'
+if grep -Ev '^[0-9-]*T[0-9:]*\.[0-9]{3}Z RX1 c0' now/*/RX1.log; then fail 'no milliseconds'; fi
 cat now/*/RX1.log | aprsbook convert text | cmp - heard.txt || fail 'aprs-log wrote other frames'
 
-# from here on a clock of its own: a quarter of a second before midnight, and after twenty frames midnight
+# from here on a clock of its own: a quarter of a second before midnight, and after twenty frames
+# midnight
 cat > bin/date << 'end'
 #!/bin/sh
+[ "$*" != '-u +%3N' ] || exec echo 250
 echo >> "$CALLS"
-if [ "$(wc -l < "$CALLS")" -le 20 ]; then echo 2024-06-21T23:59:59.750Z; else echo 2024-06-22T00:00:00.000Z; fi
+moment=2024-06-21T23:59:59.750Z
+[ "$(wc -l < "$CALLS")" -le 20 ] || moment=2024-06-22T00:00:00.000Z
+echo $moment
 end
 chmod +x bin/date
 export CALLS="$scratch/calls"
@@ -121,12 +129,14 @@ log() {
 for root in logs '-n' "\$(touch pwned)\`touch pwned\`\";touch pwned;'" 'a b'; do
     log "$root" < heard.kiss
     [ "$(wc -l < "./$root/$today")" = 20 ] || fail "not twenty frames before midnight in $root"
-    cat "./$root/$today" "./$root/$tomorrow" | aprsbook convert text | cmp - heard.txt || fail "other frames in $root"
+    cat "./$root/$today" "./$root/$tomorrow" | aprsbook convert text | cmp - heard.txt ||
+        fail "other frames in $root"
     [ ! -s said ] || fail "aprs-log says: $(cat said)"
 done
 [ ! -e pwned ] || fail 'aprs-log ran text of its arguments'
 
-# a line that was cut short, and a hole that a power failure left, are taken off, and no more than that
+# a line that was cut short, and a hole that a power failure left, are taken off, and no more than
+# that
 cat logs/$today logs/$tomorrow > all
 for cut in 1 2 3 30 31 100 no; do
     if [ $cut = no ]; then
@@ -142,8 +152,8 @@ for cut in 1 2 3 30 31 100 no; do
     cmp logs/$today expected || fail "a log that was cut short by $cut isn't mended"
 done
 
-# noise without a frame end costs no frame, and no line is made of it; what stands before the first C0 isn't
-# the beginning of a frame
+# noise without a frame end costs no frame, and no line is made of it; what stands before the first
+# C0 isn't the beginning of a frame
 rm -r logs
 {
     printf 'not a frame'
@@ -174,5 +184,5 @@ aprsbook check logs/$today > said || fail 'the log of a full disk is refused'
 lines=$(wc -l < logs/$today)
 [ "$lines" -gt 0 ] || fail 'nothing was written before the disk was full'
 log logs < heard.kiss
-[ "$(wc -l < logs/$today)" = $((lines + 20)) ] || fail 'a log is not gone on with once the disk has room'
+[ "$(wc -l < logs/$today)" = $((lines + 20)) ] || fail 'the log is lost once the disk has room'
 echo 'logs survive what happens to them'

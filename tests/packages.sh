@@ -1,19 +1,25 @@
 #!/bin/sh
-# Tries make install, uninstall, tarball and deb: each is put into an empty folder and runs the sample there. Needs a
-# POSIX system, mktemp, GNU make, install and tar, and git, and says what it leaves out because a tool isn't there.
+# Tries make install, uninstall, tarball and deb: each is put into an empty folder and runs the
+# sample there. Needs a POSIX system, mktemp, GNU make, install and tar, and git, and says what it
+# leaves out because a tool isn't there.
 # usage: tests/packages.sh PROGRAM
 # shellcheck source=program.sh
 . "$(dirname "$0")/program.sh"
 has 'make install, tarball and deb' make git || exit 0
-unset MAKEFLAGS MFLAGS MAKELEVEL
-git -C "$repository" log -1 > "$scratch/said" 2>&1 || { echo 'left out: packages (no commit is there)' && exit 0; }
+if ! git -C "$repository" log -1 > "$scratch/said" 2>&1; then
+    echo 'left out: make install, tarball and deb (no commit is there)'
+    exit 0
+fi
 cd "$scratch"
 aprsbook convert text "$repository/examples/sample.log" > expected
 # make_it TARGET ARGUMENT..: builds nothing, and needs no `rt`
-make_it() { make -s -C "$repository" PROGRAM="$program" "$@" > said 2>&1 || fail "make $*: $(cat said)"; }
+make_it() {
+    make -s -C "$repository" PROGRAM="$program" "$@" > said 2>&1 || fail "make $*: $(cat said)"
+}
 # runs PREFIX: what was put there runs, its links lead somewhere, and nobody else may write there
 runs() {
-    "$1/bin/aprsbook" convert text "$1/share/aprsbook/examples/sample.log" | cmp - expected || fail "$1: the sample is another"
+    "$1/bin/aprsbook" convert text "$1/share/aprsbook/examples/sample.log" | cmp - expected ||
+        fail "$1: the sample is another"
     [ -z "$(find "$1" -perm -2 ! -type l)" ] || fail "$1 may be written by others"
     find "$1/share/aprsbook" -name '*.md' | while read -r page; do
         grep -o ']([^):]*)' "$page" | sed 's/^](//; s/[#)].*//; /^$/d' | while read -r link; do
@@ -37,7 +43,8 @@ mkdir -p 'a root/usr/bin'
 runs 'a root/usr'
 cp -R 'a root/usr' installed
 make_it uninstall DESTDIR="$scratch/a root" PREFIX=/usr
-[ "$(find 'a root' -type f)" = 'a root/usr/bin/other' ] || fail "make uninstall leaves: $(find 'a root' -type f)"
+[ "$(find 'a root' -type f)" = 'a root/usr/bin/other' ] ||
+    fail "make uninstall leaves: $(find 'a root' -type f)"
 [ ! -e 'a root/usr/share/aprsbook' ] || fail 'make uninstall leaves a folder'
 rm installed/bin/other
 
@@ -58,16 +65,17 @@ if has 'make tarball' tar; then
     twice tarball
     mkdir prefix
     tar -xzf tarball1/*.tar.gz -C prefix
-    diff -r installed prefix || fail 'the tar file holds other files than make install puts in place'
+    diff -r installed prefix || fail 'the tar file has other files than make install'
     runs prefix
     # the cookbook that was unpacked with it
-    prefix/share/aprsbook/examples/cookbook.sh --posix prefix/bin/aprsbook > said 2>&1 || fail "unpacked: $(cat said)"
+    prefix/share/aprsbook/examples/cookbook.sh --posix prefix/bin/aprsbook > said 2>&1 ||
+        fail "unpacked: $(cat said)"
 fi
 if has 'make deb' dpkg-deb; then
     twice deb
     dpkg-deb -x deb1/*.deb package
     runs package/usr
-    diff -r installed/share/aprsbook package/usr/share/aprsbook || fail 'the package has other recipes'
+    diff -r installed/share/aprsbook package/usr/share/aprsbook || fail 'the deb has other files'
     gzip -dc package/usr/share/man/man1/aprsbook.1.gz | cmp - "$repository/man/aprsbook.1"
     if has 'lintian of the package' lintian; then
         lintian --allow-root --no-tag-display-limit deb1/*.deb > said 2>&1 || true

@@ -1,8 +1,11 @@
 #!/bin/sh
-# Read by the tests of this folder, whose first argument is the program: finds it, makes a folder that is
-# thrown away, and puts the program and the recipes into PATH. Needs a POSIX system and mktemp.
+# Read by the tests of this folder, whose first argument is the program: finds it, makes a folder
+# that is thrown away, and puts the program and the recipes into PATH. Needs a POSIX system and
+# mktemp.
 set -eu
 export LC_ALL=C
+# a make that a test runs is none of the make that runs the test
+unset MAKEFLAGS MFLAGS MAKELEVEL
 fail() {
     echo "tests/${0##*/}: $*" >&2
     exit 1

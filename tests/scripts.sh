@@ -1,6 +1,7 @@
 #!/bin/sh
-# Checks the scripts of this repository: each test that takes the program, and cookbook.sh, fails with one sentence
-# where there is none; and shellcheck, where it is there, has nothing to say of any.
+# Checks the scripts of this repository: each test that takes the program, and cookbook.sh, fails
+# with one sentence where there is none; and shellcheck, where it is there, has nothing to say of
+# any.
 set -eu
 export LC_ALL=C
 cd "$(dirname "$0")/.."

@@ -1,6 +1,7 @@
 #!/bin/sh
-# Checks, both ways, that the manual page and the completions name the words that the program has:
-# its commands, forms, options, kinds of reports, lines and states of a listing, exit statuses and
+# Checks that the cookbook's table "When it says" has each message and each cause of a fault, and,
+# both ways, that the manual page and the completions name the words that the program has: its
+# commands, forms, options, kinds of reports, lines and states of a listing, exit statuses and
 # messages, the causes of faults, and the reasons for which a line is passed over. The program's
 # words are read from its sources. Needs a POSIX system alone; where mandoc, bash, zsh or fish is
 # there, it also looks at its file.
@@ -144,6 +145,16 @@ done
 for shell in bash zsh fish; do
     for kind in commands forms long_options; do same $kind $shell; done
 done
+
+# ---- the cookbook's table ----
+
+sed -n '/^## When it says/,/^## /s/^| \(.*\) | .*/\1/p' docs/cookbook.md > "$scratch/table"
+# messages without their place and line, and causes
+sed 's/^aprsbook: //; s/^PLACE: //; /^line N/d' "$scratch/program/messages" |
+    cat - "$scratch/program/log_causes" "$scratch/program/book_causes" | while read -r words; do
+    grep -qwF -- "$words" "$scratch/table" || echo "$words"
+done > "$scratch/lacks"
+[ ! -s "$scratch/lacks" ] || fail "the cookbook's table lacks: $(cat "$scratch/lacks")"
 
 # ---- each file by its own reader ----
 
