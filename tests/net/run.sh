@@ -4,6 +4,10 @@
 # usage: tests/net/run.sh PROGRAM
 set -eu
 export LC_ALL=C PYTHONDONTWRITEBYTECODE=1
+if [ ! -f "${1-}" ] || [ ! -x "$1" ]; then
+    echo "tests/net/run.sh: there is no program '${1-}'" >&2
+    exit 1
+fi
 here=$(cd "$(dirname "$0")" && pwd)
 examples=$(cd "$here/../../examples" && pwd)
 scratch=$(mktemp -d)
