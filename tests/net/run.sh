@@ -30,6 +30,7 @@ with() {
 
 with 'python3' every_place.py
 with 'python3' tracks.py "$examples"
+with '' last_heard.sh "$examples"
 with 'python3' event_page.py "$examples"
 with 'python3 chromium' in_browser.py "$examples"
 with 'python3' listen.py "$examples"
