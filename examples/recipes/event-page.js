@@ -59,7 +59,7 @@ function drawGrid() {
   let by = round(70 / scale);
   for (const at of lines(middle[0], height / 2 / scale, by)) {
     draw("path", { class: "grid", d: `M0 ${y(at)}H${width}` });
-    draw("text", { class: "axis", x: 4, y: y(at) - 3 }, words(at, by, "NS"));
+    if (y(at) > 15) draw("text", { class: "axis", x: 4, y: y(at) - 3 }, words(at, by, "NS"));
   }
   by = round(90 / scale / squeeze);
   for (const at of lines(middle[1], width / 2 / scale / squeeze, by)) {
@@ -93,9 +93,11 @@ const open = { 1: 1 / 600, 2: 1 / 60, 3: 1 / 6, 4: 1 };
 const utc = seconds => new Date(seconds * 1000).toISOString().slice(11, 19);
 
 function drawThings() {
+  // the picked one comes first, so that its name has room
   const been = placed.filter(thing => thing.shown)
     .map(thing => [thing, thing.places.filter(([when]) => when <= until)])
-    .filter(([, places]) => places.length);
+    .filter(([, places]) => places.length)
+    .sort(([a], [b]) => (b.n === picked) - (a.n === picked));
   const marked = thing => thing.n === picked ? " picked" : "";
   for (const [thing, places] of been) {
     // a kill ends a segment
@@ -129,12 +131,13 @@ function drawThings() {
     for (const [anchor, right, down] of beside) {
       const left = x(east) + right - (anchor === "end" ? long : anchor === "middle" ? long / 2 : 0);
       const box = [left, y(north) + down - 11, left + long, y(north) + down + 3];
-      if (!isFree(box) && thing.n !== picked) continue;
+      if (!isFree(box)) continue;
       taken.push(box);
       draw("text", { x: right, y: down, "text-anchor": anchor }, thing.name, group);
       break;
     }
   }
+  map.append(...map.querySelectorAll("g.picked"));
 }
 
 function paint() {

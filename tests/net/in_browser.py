@@ -78,7 +78,7 @@ def test_controls(page, folder):
     is_(page.js(shown + "[0]"), "Q1NET")
     page.js("document.querySelectorAll('#things thead button')[5].click()")
     is_(page.js(sorted_by_sent), "ascending")
-    page.js(f"{FIND}.value = 'runner'; {FIND}.dispatchEvent(new Event('input'))")
+    page.js(f"{FIND}.value = 'q1med'; {FIND}.dispatchEvent(new Event('input'))")
     found = page.js(shown)
     assert 0 < len(found) < 17
     is_(page.js("found.textContent"), f"{len(found)} of 17")
@@ -148,10 +148,9 @@ def test_widths(page, folder):
             for at in long, url:
                 page.open(at, width, 844, scheme)
                 is_(page.js("document.documentElement.scrollWidth <= innerWidth"), True)
-                if width == 390:
-                    wide = "it => it.scrollWidth > it.clientWidth && it.querySelector('.sorted')"
-                    all_ = "[...document.querySelectorAll('.wide')]"
-                    is_(page.js(f"{all_}.filter({wide}).length"), 0)
+            # nor does a table of the evening in its box
+            is_(page.js("[...document.querySelectorAll('.wide')]"
+                        ".filter(it => it.scrollWidth > it.clientWidth).length"), 0)
             picture(page, f"{name}-{scheme}")
             picture(page, f"{name}-{scheme}-whole", whole=True)
     (folder / "empty.log").write_text("")

@@ -4,6 +4,10 @@
 # usage: tests/net/run.sh PROGRAM
 set -eu
 export LC_ALL=C PYTHONDONTWRITEBYTECODE=1
+if [ ! -f "${1-}" ] || [ ! -x "$1" ]; then
+    echo "tests/net/run.sh: there is no program '${1-}'" >&2
+    exit 1
+fi
 here=$(cd "$(dirname "$0")" && pwd)
 examples=$(cd "$here/../../examples" && pwd)
 scratch=$(mktemp -d)
@@ -26,6 +30,7 @@ with() {
 
 with 'python3' every_place.py
 with 'python3' tracks.py "$examples"
+with '' last_heard.sh "$examples"
 with 'python3' event_page.py "$examples"
 with 'python3 chromium' in_browser.py "$examples"
 with 'python3' listen.py "$examples"
