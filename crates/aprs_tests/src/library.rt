@@ -14,21 +14,14 @@ use std::alloc::Global;
 use std::test::Fail;
 
 /// Takes what a TNC has just sent into a book, and merges it with that of another receiver.
-fn hear(
-    mut book: Book,
-    other: &Book,
-    sent: &[u8],
-    moment: Moment,
-    receiver: Receiver,
-) -> Option<Book> {
+fn hear(mut book: Book, other: &Book, sent: &[u8], moment: Moment, by: Receiver) -> Option<Book> {
     let mut tnc = KissReader::new();
-    let (_, fed) = tnc.feed(sent);
-    let Fed::Frame { frame, .. } = fed else {
+    let (_, Fed::Frame { frame, .. }) = tnc.feed(sent) else {
         return None;
     };
     let frame = Frame::read(frame).ok()?;
     if Report::read(frame.info()).kind() != "raw" {
-        book.take(&Reception::new(moment, receiver, frame)).ok()?;
+        book.take(&Reception::new(moment, by, frame)).ok()?;
     }
     book.merge(other).ok()
 }
