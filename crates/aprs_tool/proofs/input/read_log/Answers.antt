@@ -16,7 +16,7 @@ pub lines-init : goal.lines-init
 lines-init g c = record {
   same_reference = refl;
   calls = subst (Calls Going c.args.r.now) (sym c.new-reader.ensures.source) (Calls-none _);
-  going = c.new-reader.ensures.going;
+  going = c.new-reader.ensures.starts.going;
   took = λ end. Took-none _ _;
 }
 
