@@ -34,8 +34,8 @@ pub wide_refused : (gap own : ℕ) (r : Result BookValue WidenFault) → r ≡ E
     → (r ≡ Err fault.Narrower) ↔ (gap < own) → own ≤ gap
 wide_refused gap own r is known = wide_enough gap own (λ less. two_faults r is (known.1 less))
 
-module _ {W : Type 0} {contents : W → Option (List ℕ)} (known after : Option (List ℕ))
-    (limit gap : ℕ) (w : Counted W) where
+module _ {W : Type 0} (contents : W → Option (List ℕ)) (w : Counted W)
+    (known after : Option (List ℕ)) (limit gap : ℕ) where
   pub not_read : (e : InputFault) → OfGot limit known after (ReadsInput gap (Err e))
       → OfGot limit known after (WidensInput gap contents (Err (Input 0 e)) w w)
   not_read e = got_so known after limit (λ input. input) _ _ (λ t c h. (refl, inl h, refl))
@@ -51,10 +51,11 @@ module _ {W : Type 0} {contents : W → Option (List ℕ)} (known after : Option
     no_memory enough = got_so known after limit (λ input. input) _ _
         (λ t c h. ((h.0, (b, h.1, enough)), refl)) read
 
-    -- what holds of its text
-    pub wide_text : (P : List ℕ → Type 0) (wide : BookValue) → b.gap ≤ gap
-        → wide ≡ widened_to gap b → P (written_text wide)
-        → OfGot limit known after (λ t c. WritesWide gap t c P)
-    wide_text P wide enough is text = got_so known after limit (λ input. input) _ _
-        (λ t c h. (h.0, (b, h.1, (enough, subst (λ (b : BookValue). P (written_text b)) is text))))
-        read
+-- what holds of the text of the widened book
+pub wide_text : (known after : Option (List ℕ)) (limit gap : ℕ) (b : BookValue)
+    → OfGot limit known after (ReadsInput gap (Ok b)) → (P : List ℕ → Type 0) (wide : BookValue)
+    → b.gap ≤ gap → wide ≡ widened_to gap b → P (written_text wide)
+    → OfGot limit known after (λ t c. WritesWide gap t c P)
+wide_text known after limit gap b read P wide enough is text =
+    got_so known after limit (λ input. input) _ _
+    (λ t c h. (h.0, (b, h.1, (enough, subst (λ (b : BookValue). P (written_text b)) is text)))) read
