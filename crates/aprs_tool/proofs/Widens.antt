@@ -27,30 +27,6 @@ pub wide_ok : (gap own : ℕ) (r : Result BookValue WidenFault) (w : BookValue) 
 wide_ok gap own r w is known = wide_enough gap own (λ less. let bad : Ok w ≡ Err fault.Narrower =
     sym is ∙ known.1 less in absurd cc)
 
-two_faults : (r : Result BookValue WidenFault) → r ≡ Err fault.Memory → r ≡ Err fault.Narrower → ⊥
-two_faults r memory narrower = absurd cc
-
-pub wide_refused : (gap own : ℕ) (r : Result BookValue WidenFault) → r ≡ Err fault.Memory
-    → (r ≡ Err fault.Narrower) ↔ (gap < own) → own ≤ gap
-wide_refused gap own r is known = wide_enough gap own (λ less. two_faults r is (known.1 less))
-
-module _ {W : Type 0} (contents : W → Option (List ℕ)) (w : Counted W)
-    (known after : Option (List ℕ)) (limit gap : ℕ) where
-  pub not_read : (e : InputFault) → OfGot limit known after (ReadsInput gap (Err e))
-      → OfGot limit known after (WidensInput gap contents (Err (Input 0 e)) w w)
-  not_read e = got_so known after limit (λ input. input) _ _ (λ t c h. (refl, inl h, refl))
-
-  module _ (b : BookValue) (read : OfGot limit known after (ReadsInput gap (Ok b))) where
-    pub not_wide : gap < b.gap → OfGot limit known after
-        (WidensInput gap contents (Err (Input 0 Narrower)) w w)
-    not_wide less = got_so known after limit (λ input. input) _ _
-        (λ t c h. (refl, inr (refl, (h.0, (b, h.1, less))), refl)) read
-
-    pub no_memory : b.gap ≤ gap
-        → OfGot limit known after (WidensInput gap contents (Err Memory) w w)
-    no_memory enough = got_so known after limit (λ input. input) _ _
-        (λ t c h. ((h.0, (b, h.1, enough)), refl)) read
-
 -- what holds of the text of the widened book
 pub wide_text : (known after : Option (List ℕ)) (limit gap : ℕ) (b : BookValue)
     → OfGot limit known after (ReadsInput gap (Ok b)) → (P : List ℕ → Type 0) (wide : BookValue)
