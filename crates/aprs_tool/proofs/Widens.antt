@@ -1,18 +1,14 @@
 -- Lemmas on an input whose book is widened.
-use Rattle.std.proofs.Common.{◌≡◌, ◌<◌, ◌≤◌, ℕ, List, Option, Result, Ok, Err, inl, inr, refl, sym, ◌∙◌, subst}
+use Rattle.std.proofs.Common.{◌≡◌, ◌<◌, ◌≤◌, ℕ, List, Option, Result, Ok, Err, inl, inr, sym, ◌∙◌, subst}
 use Rattle.std.specs.Prelude.{◌↔◌}
 use Rattle.std.proofs.lemmas.Bool.{cases_lt}
-use Rattle.aprs_io.specs.declared.device.Counted.{Counted}
 use Rattle.aprs_laws.specs.BookValue.{BookValue, widened_to}
 use Rattle.aprs_laws.specs.declared.widen_fault.WidenFault.{WidenFault}
 use Rattle.aprs_laws.specs.declared.widen_fault.WidenFault.TheVariants as fault
 use Rattle.aprs_booktext.specs.Text.{written_text}
 use Rattle.aprs_convert.specs.Got.{OfGot}
 use Rattle.aprs_tool.specs.Inputs.{ReadsInput}
-use Rattle.aprs_tool.specs.Widen.{WidensInput, WritesWide}
-use Rattle.aprs_tool.specs.declared.fault.InputFault.{InputFault}
-use Rattle.aprs_tool.specs.declared.fault.InputFault.TheVariants.{Narrower}
-use Rattle.aprs_tool.specs.declared.fault.RunFault.TheVariants.{Input, Memory}
+use Rattle.aprs_tool.specs.Widen.{WritesWide}
 use Rattle.aprs_tool.proofs.Into.{got_so}
 
 -- a gap that isn't refused as narrower is wide enough

@@ -1,4 +1,4 @@
-use Rattle.std.proofs.Common.{◌≡◌, ◌∙◌, ◌-◌, length, suc, refl, subst, sym, arith}
+use Rattle.std.proofs.Common.{◌≡◌, ◌∙◌, ◌-◌, length, suc, subst, sym, arith}
 use Rattle.aprs_io.specs.Device.{device_of}
 use Rattle.aprs_tool.specs.Devices.{ReadsFirst}
 use Rattle.aprs_tool.specs.Merge.{IsBookTextOf}
