@@ -54,7 +54,7 @@ refused_at_last gap limit n inputs afters b read e some = record {
 
 -- ---- what was written
 
-module _ {W : Type 0} {contents : W → Option (List ℕ)} (b : BookValue) (old new : Counted W) where
+module _ {W : Type 0} (contents : W → Option (List ℕ)) (b : BookValue) (old new : Counted W) where
   pub text_sent : WritesText contents (Ok tt) b old new
       → Sends {E = RunFault} contents (Ok tt) old new (written_text b)
   unfolding WritesText
@@ -63,7 +63,7 @@ module _ {W : Type 0} {contents : W → Option (List ℕ)} (b : BookValue) (old 
   pub text_cut : (u : Unwritten) → u ≡ unwritten.Write → WritesText contents (Err u) b old new
       → Sends {E = RunFault} contents (Err Write) old new (written_text b)
   unfolding WritesText
-  text_cut u e h = Sends-err (Err Write) tt (subst (λ v. WritesText contents (Err v) b old new) e h)
+  text_cut u e h = Sends-err (Err Write) refl (subst (λ v. WritesText contents (Err v) b old new) e h)
 
   pub text_none : (u : Unwritten) → u ≡ unwritten.Memory → WritesText contents (Err u) b old new
       → (new ≡ old) × (b.rows ≡ [] → ⊥)

@@ -1,5 +1,5 @@
 -- Lemmas on several inputs that are read one after another.
-use Rattle.std.proofs.Common.{◌≡◌, ◌<◌, ℕ, ◌+◌, zero, suc, List, [], ◌∷◌, ◌++◌, length, map, take, drop, Option, Some, Ok, Err, inl, inr, slice_get, get_or, set, option_map, refl, ap, sym, ◌∙◌, add-one, append_assoc, append-nil, length-append, length-drop, take-append-drop, subst, arith}
+use Rattle.std.proofs.Common.{◌≡◌, ◌<◌, ℕ, ◌+◌, List, [], ◌∷◌, ◌++◌, length, map, take, drop, Option, Some, Ok, Err, slice_get, set, option_map, refl, ap, sym, ◌∙◌, add-one, append_assoc, append-nil, length-append, length-drop, take-append-drop, subst, arith}
 use Rattle.std.proofs.Math.Seq.{take-suc-set}
 use Rattle.std.proofs.lemmas.List.{length-map, map-set, take_all}
 use Rattle.std.proofs.lemmas.Option.{slice_get-map, slice_get_within}

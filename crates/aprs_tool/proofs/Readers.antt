@@ -1,6 +1,6 @@
 -- Lemmas on what was asked of the readers of inputs.
 use Rattle.std.specs.Prelude.{◌⊎◌}
-use Rattle.std.proofs.Common.{◌≡◌, ℕ, zero, suc, List, [], ◌∷◌, length, Option, Some, Result, Ok, Err, inl, inr, slice_get, set, refl, sym, ap, subst, arith}
+use Rattle.std.proofs.Common.{◌≡◌, ℕ, zero, suc, List, [], ◌∷◌, length, Some, Result, Ok, Err, inl, inr, slice_get, set, sym, ap, subst}
 use Rattle.aprs_io.specs.Device.{Calls, Going, End}
 use Rattle.aprs_io.specs.declared.device.Counted.{Counted}
 use Rattle.aprs_io.proofs.Sends.{Calls-then}
@@ -16,7 +16,7 @@ use Rattle.aprs_tool.specs.declared.fault.InputFault.TheVariants.{Log, Book, Mem
 
 -- ---- one reader
 
-module _ {R : Type 0} {a b c : Counted R} (first : Calls Going a b) where
+module _ {R : Type 0} (a b c : Counted R) (first : Calls Going a b) where
   then_either : Calls Going b c ⊎ Calls End b c → Calls Going a c ⊎ Calls End a c
   then_either h = elim h [
     | inl going ↦ inl (Calls-then first going)
@@ -24,31 +24,21 @@ module _ {R : Type 0} {a b c : Counted R} (first : Calls Going a b) where
   ]
 
   AsksAt-then : (cause : BookCause) → AsksAt cause b c → AsksAt cause a c
-  AsksAt-then why.Header h = Calls-then first h
-  AsksAt-then why.RowSyntax h = Calls-then first h
-  AsksAt-then why.Frame h = Calls-then first h
-  AsksAt-then why.Order h = Calls-then first h
-  AsksAt-then why.Span h = Calls-then first h
-  AsksAt-then why.Near h = Calls-then first h
-  AsksAt-then why.Receivers h = Calls-then first h
-  AsksAt-then why.NotGreatest h = Calls-then first h
   AsksAt-then why.Ending h = then_either h
-  AsksAt-then why.After h = Calls-then first h
   AsksAt-then why.Read h = Calls-then first h
-  AsksAt-then why.TooLong h = Calls-then first h
-  AsksAt-then why.Memory h = Calls-then first h
+  AsksAt-then cause h = Calls-then first h
 
-  -- its first bytes, and then the others
   AsksToFault-then : (fault : InputFault) → AsksToFault fault b c → AsksToFault fault a c
-  AsksToFault-then (Log fault) h = Calls-then first h
   AsksToFault-then (Book fault) h = AsksAt-then fault.cause h
   AsksToFault-then Memory h = then_either h
+  AsksToFault-then (Log fault) h = Calls-then first h
   AsksToFault-then OtherGap h = Calls-then first h
   AsksToFault-then Narrower h = Calls-then first h
 
-  pub AsksInput-then : {A : Type 0} {r : Result A InputFault} → AsksInput r b c → AsksInput r a c
-  AsksInput-then {A} {r = Ok value} h = Calls-then first h
-  AsksInput-then {A} {r = Err fault} h = AsksToFault-then fault h
+  -- its first bytes, and then the others
+  pub AsksInput-then : {A : Type 0} (r : Result A InputFault) → AsksInput r b c → AsksInput r a c
+  AsksInput-then (Ok value) h = Calls-then first h
+  AsksInput-then (Err fault) h = AsksToFault-then fault h
 
 -- an input that was read to its end isn't merged
 pub asks_merge : {R : Type 0} {a b : Counted R} (fault : MergeFault) → Calls End a b

@@ -128,7 +128,7 @@ shown_text b stations named messages s n m = record {
   text_is = refl;
 }
 
-module _ {W : Type 0} {contents : W → Option (List ℕ)} (b : BookValue) (old new : Counted W) where
+module _ {W : Type 0} (contents : W → Option (List ℕ)) (b : BookValue) (old new : Counted W) where
   pub shown_sent : ShowsBook contents (Ok tt) b old new
       → (text : List ℕ) × IsShown b text × Sends {E = RunFault} contents (Ok tt) old new text
   unfolding ShowsBook
@@ -139,7 +139,7 @@ module _ {W : Type 0} {contents : W → Option (List ℕ)} (b : BookValue) (old 
       × Sends {E = RunFault} contents (Err Write) old new text
   unfolding ShowsBook
   shown_cut u e h = let it = subst (λ v. ShowsBook contents (Err v) b old new) e h in
-      (it.0, it.1, Sends-err (Err Write) tt it.2)
+      (it.0, it.1, Sends-err (Err Write) refl it.2)
 
   pub shown_none : (u : Unwritten) → u ≡ unwritten.Memory → ShowsBook contents (Err u) b old new
       → new ≡ old

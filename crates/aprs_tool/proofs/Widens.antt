@@ -1,18 +1,14 @@
 -- Lemmas on an input whose book is widened.
-use Rattle.std.proofs.Common.{◌≡◌, ◌<◌, ◌≤◌, ℕ, List, Option, Result, Ok, Err, inl, inr, refl, sym, ◌∙◌, subst}
+use Rattle.std.proofs.Common.{◌≡◌, ◌<◌, ◌≤◌, ℕ, List, Option, Result, Ok, Err, inl, inr, sym, ◌∙◌, subst}
 use Rattle.std.specs.Prelude.{◌↔◌}
 use Rattle.std.proofs.lemmas.Bool.{cases_lt}
-use Rattle.aprs_io.specs.declared.device.Counted.{Counted}
 use Rattle.aprs_laws.specs.BookValue.{BookValue, widened_to}
 use Rattle.aprs_laws.specs.declared.widen_fault.WidenFault.{WidenFault}
 use Rattle.aprs_laws.specs.declared.widen_fault.WidenFault.TheVariants as fault
 use Rattle.aprs_booktext.specs.Text.{written_text}
 use Rattle.aprs_convert.specs.Got.{OfGot}
 use Rattle.aprs_tool.specs.Inputs.{ReadsInput}
-use Rattle.aprs_tool.specs.Widen.{WidensInput, WritesWide}
-use Rattle.aprs_tool.specs.declared.fault.InputFault.{InputFault}
-use Rattle.aprs_tool.specs.declared.fault.InputFault.TheVariants.{Narrower}
-use Rattle.aprs_tool.specs.declared.fault.RunFault.TheVariants.{Input, Memory}
+use Rattle.aprs_tool.specs.Widen.{WritesWide}
 use Rattle.aprs_tool.proofs.Into.{got_so}
 
 -- a gap that isn't refused as narrower is wide enough
@@ -27,34 +23,11 @@ pub wide_ok : (gap own : ℕ) (r : Result BookValue WidenFault) (w : BookValue) 
 wide_ok gap own r w is known = wide_enough gap own (λ less. let bad : Ok w ≡ Err fault.Narrower =
     sym is ∙ known.1 less in absurd cc)
 
-two_faults : (r : Result BookValue WidenFault) → r ≡ Err fault.Memory → r ≡ Err fault.Narrower → ⊥
-two_faults r memory narrower = absurd cc
-
-pub wide_refused : (gap own : ℕ) (r : Result BookValue WidenFault) → r ≡ Err fault.Memory
-    → (r ≡ Err fault.Narrower) ↔ (gap < own) → own ≤ gap
-wide_refused gap own r is known = wide_enough gap own (λ less. two_faults r is (known.1 less))
-
-module _ {W : Type 0} {contents : W → Option (List ℕ)} (known after : Option (List ℕ))
-    (limit gap : ℕ) (w : Counted W) where
-  pub not_read : (e : InputFault) → OfGot limit known after (ReadsInput gap (Err e))
-      → OfGot limit known after (WidensInput gap contents (Err (Input 0 e)) w w)
-  not_read e = got_so known after limit (λ input. input) _ _ (λ t c h. (refl, inl h, refl))
-
-  module _ (b : BookValue) (read : OfGot limit known after (ReadsInput gap (Ok b))) where
-    pub not_wide : gap < b.gap → OfGot limit known after
-        (WidensInput gap contents (Err (Input 0 Narrower)) w w)
-    not_wide less = got_so known after limit (λ input. input) _ _
-        (λ t c h. (refl, inr (refl, (h.0, (b, h.1, less))), refl)) read
-
-    pub no_memory : b.gap ≤ gap
-        → OfGot limit known after (WidensInput gap contents (Err Memory) w w)
-    no_memory enough = got_so known after limit (λ input. input) _ _
-        (λ t c h. ((h.0, (b, h.1, enough)), refl)) read
-
-    -- what holds of its text
-    pub wide_text : (P : List ℕ → Type 0) (wide : BookValue) → b.gap ≤ gap
-        → wide ≡ widened_to gap b → P (written_text wide)
-        → OfGot limit known after (λ t c. WritesWide gap t c P)
-    wide_text P wide enough is text = got_so known after limit (λ input. input) _ _
-        (λ t c h. (h.0, (b, h.1, (enough, subst (λ (b : BookValue). P (written_text b)) is text))))
-        read
+-- what holds of the text of the widened book
+pub wide_text : (known after : Option (List ℕ)) (limit gap : ℕ) (b : BookValue)
+    → OfGot limit known after (ReadsInput gap (Ok b)) → (P : List ℕ → Type 0) (wide : BookValue)
+    → b.gap ≤ gap → wide ≡ widened_to gap b → P (written_text wide)
+    → OfGot limit known after (λ t c. WritesWide gap t c P)
+wide_text known after limit gap b read P wide enough is text =
+    got_so known after limit (λ input. input) _ _
+    (λ t c h. (h.0, (b, h.1, (enough, subst (λ (b : BookValue). P (written_text b)) is text)))) read

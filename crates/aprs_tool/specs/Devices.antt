@@ -1,5 +1,5 @@
 -- What was done to the readers of a run's inputs and to its writer.
-use Rattle.std.specs.Prelude.{◌≡◌, ◌⊎◌, ℕ, zero, suc, List, [], ◌∷◌, length, Result, Ok, Err}
+use Rattle.std.specs.Prelude.{◌≡◌, ◌⊎◌, ℕ, zero, suc, List, ◌∷◌, length, Result, Ok, Err}
 use Rattle.aprs_io.specs.Device.{Calls, Going, Fault, End}
 use Rattle.aprs_io.specs.declared.device.Counted.{Counted}
 use Rattle.aprs_log.specs.Awaits.{last_of_cause}

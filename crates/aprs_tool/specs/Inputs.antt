@@ -12,7 +12,7 @@ use Rattle.aprs_laws.specs.BookValue.{BookValue, Holds}
 use Rattle.aprs_laws.specs.Gap.{millis_of}
 use Rattle.aprs_laws.specs.Witnesses.{witnesses}
 use Rattle.aprs_laws.specs.Row.{Row}
-use Rattle.aprs_booktext.specs.FirstFault.{FirstFault, IsMemoryAt, piece_most}
+use Rattle.aprs_booktext.specs.FirstFault.{FirstFault, IsMemoryAt, most_ahead}
 use Rattle.aprs_booktext.specs.Text.{book_text, IsBookRows}
 use Rattle.aprs_booktext.specs.Version.{gap_of}
 use Rattle.aprs_booktext.specs.declared.version.Version.{Version}
@@ -76,7 +76,7 @@ HasOtherGap gap text ending = IsFaultless text ending × (is_book_file text ≡ 
 -- An allocation failed: for a log, or in the line of a book file that was being read.
 abbrev pub IsMemoryOf : InputFault → List ℕ → Type 0
 IsMemoryOf Memory text = is_book_file text ≡ false
-IsMemoryOf (Book fault) text = (is_book_file text ≡ true) × IsMemoryAt piece_most text fault
+IsMemoryOf (Book fault) text = (is_book_file text ≡ true) × IsMemoryAt most_ahead text fault
 IsMemoryOf fault text = ⊥
 
 -- The input is refused: for its own fault, or because an allocation failed before that.

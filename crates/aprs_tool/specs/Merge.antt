@@ -1,5 +1,5 @@
 -- What a merge of several inputs writes and answers.
-use Rattle.std.specs.Prelude.{◌≡◌, ◌<◌, ℕ, zero, suc, List, [], ◌∷◌, ◌++◌, Option, Some, Result, Ok, Err, map}
+use Rattle.std.specs.Prelude.{◌≡◌, ℕ, zero, suc, List, [], ◌∷◌, ◌++◌, Option, Some, Result, Ok, Err, map}
 use Rattle.aprs_io.specs.Device.{Sends}
 use Rattle.aprs_io.specs.Input.{Gets}
 use Rattle.aprs_io.specs.declared.device.Counted.{Counted}

@@ -1,5 +1,5 @@
 //! The merge of several inputs.
-ghost use Rattle.std.specs.Prelude.{◌≡◌, ◌≢◌, ◌-◌, ◌<◌, ◌≤◌, length, map, IfOk, Result, Ok, Err};
+ghost use Rattle.std.specs.Prelude.{◌≡◌, ◌≢◌, ◌-◌, ◌<◌, ◌≤◌, [], length, map, IfOk};
 ghost use Rattle.aprs_io.specs.Device.{device_of};
 ghost use Rattle.aprs_io.specs.Input.{most_input};
 ghost use Rattle.aprs_tool.specs.Devices.{AsksEach, CallsOutput, ReadsAll};

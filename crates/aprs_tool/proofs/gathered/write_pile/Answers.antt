@@ -28,7 +28,7 @@ returns-in_err-write_rows g c =
     c.args.w.now c.write_rows.new.w)
     (same_book c.args.gap c.args.pile.now c.in_ok-sorted.sorted c.in_ok-rows.rows book
     c.in_ok-sorted.ensures c.in_ok-rows.ensures.book c.in_ok-rows.ensures.gap e h)
-    (Sends-err (Err Write) tt c.in_err-write_rows.ensures.sends))
+    (Sends-err (Err Write) refl c.in_err-write_rows.ensures.sends))
 
 pub returns : goal.returns
 unfolding WritesText

@@ -1,4 +1,4 @@
-use Rattle.std.proofs.Common.{◌∙◌, [], refl, sym, inr}
+use Rattle.std.proofs.Common.{[], refl}
 use Rattle.std.proofs.lemmas.Result.{err_from_is_err_and}
 use Rattle.aprs_tool.specs.Inputs.{ReadsInput}
 use Rattle.aprs_tool.proofs.Inputs.{of_got, of_head, read_alone, refused_log, short_empty, short_fault, short_is_log}
@@ -13,23 +13,24 @@ returns-in-Ok-clause-reads g c =
     (rw c.as_slice.ensures.value at c.read_own.ensures.reads)
 
 pub returns-in-Ok-clause-calls : goal.returns-in-Ok-clause-calls
-returns-in-Ok-clause-calls g c = AsksInput-then c.in-Ok.ensures.calls c.read_own.ensures.calls
+returns-in-Ok-clause-calls g c = AsksInput-then _ _ _ c.in-Ok.ensures.calls c.read_own.result
+    c.read_own.ensures.calls
 
-pub returns-in_err-read_short-clause-reads : goal.returns-in_err-read_short-clause-reads
-returns-in_err-read_short-clause-reads g c =
+pub returns-in_err-read_short-in-Err-clause-reads : goal.returns-in_err-read_short-in-Err-clause-reads
+returns-in_err-read_short-in-Err-clause-reads g c =
     let p = err_from_is_err_and c.from_residual.result c.from_residual.ensures.1 in
     let short = c.in-Err.short in
-    let fault = c.in_err-read_short.field-0.0 in
+    let fault = c.in_err-read_short-in-Err.field-0.0 in
     rw (p.1, p.2) (of_got _ _ c.args.limit _ _ _ c.in-Err.ensures.end
     (refused_log (Log fault) [] [] short.bytes.items short.ending
     (short_is_log short.bytes.items c.in-Err.ensures.short)
-    (short_fault short.bytes.items short.ending fault [] c.in_err-read_short.ensures.answers)))
+    (short_fault short.bytes.items short.ending fault [] c.in_err-read_short-in-Err.ensures.answers)))
 
-pub returns-in_ok-read_short-clause-reads : goal.returns-in_ok-read_short-clause-reads
-returns-in_ok-read_short-clause-reads g c =
+pub returns-in_ok-read_short-in-Err-clause-reads : goal.returns-in_ok-read_short-in-Err-clause-reads
+returns-in_ok-read_short-in-Err-clause-reads g c =
     let short = c.in-Err.short in
     let made = c.with_gap in
     of_got _ _ c.args.limit _ _ _ c.in-Err.ensures.end
     (read_alone c.args.gap made.result [] [] short.bytes.items short.ending
     (short_is_log short.bytes.items c.in-Err.ensures.short) made.ensures.gap refl made.ensures.book
-    (short_empty short.bytes.items short.ending [] c.in_ok-read_short.ensures.answers))
+    (short_empty short.bytes.items short.ending [] c.in_ok-read_short-in-Err.ensures.answers))

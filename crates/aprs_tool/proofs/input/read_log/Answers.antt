@@ -7,7 +7,7 @@ use Rattle.aprs_tool.specs.Inputs.{ReadsLog}
 use Rattle.aprs_tool.specs.declared.fault.InputFault.TheVariants.{Log}
 use Rattle.aprs_log.specs.LogAnswers.{receptions_of}
 use Rattle.aprs_log.specs.Awaits.{last_of_cause}
-use Rattle.aprs_log.specs.Reader.{current_of, source_of}
+use Rattle.aprs_log.specs.Reader.{current_of}
 use Rattle.aprs_log.specs.declared.line.Line.{Line}
 use Rattle.aprs_tool.proofs.Logs.{Took-none, Took-line, Took-ended, Took-fault, Took-refused}
 use Rattle.aprs_tool.proofs.input.read_log.Goals as goal

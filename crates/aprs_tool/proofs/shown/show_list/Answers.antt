@@ -21,7 +21,7 @@ returns-in_err-write g c =
     rw (p.1, p.2) (
       _,
       shown_text _ _ _ _ views.stations views.named views.messages,
-      Sends-err (Err Write) tt c.in_err-write.ensures,
+      Sends-err (Err Write) refl c.in_err-write.ensures,
     )
 
 pub returns : goal.returns

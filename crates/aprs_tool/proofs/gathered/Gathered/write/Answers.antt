@@ -20,7 +20,7 @@ returns-in_err-write_book g c =
     c.from_residual-in_err-write_book.ensures.1 in
     rw (p.1, p.2) (subst (λ b. WritesText g.W.Write.contents (Err Write) b c.args.w.now
     c.write_book.new.w) c.in_ok-book.ensures.book
-    (Sends-err (Err Write) tt c.in_err-write_book.ensures.sends))
+    (Sends-err (Err Write) refl c.in_err-write_book.ensures.sends))
 
 pub returns-then-len-gt0 : goal.returns-then-len-gt0
 unfolding WritesText
