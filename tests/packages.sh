@@ -11,10 +11,14 @@ if ! git -C "$repository" log -1 > "$scratch/said" 2>&1; then
     exit 0
 fi
 cd "$scratch"
+# whoever builds is found out
+printf '#!/bin/sh\n: > "%s/built"\nexit 1\n' "$scratch" > bin/rt
+chmod +x bin/rt
 aprsbook convert text "$repository/examples/sample.log" > expected
-# make_it TARGET ARGUMENT..: builds nothing, and needs no `rt`
+# make_it TARGET ARGUMENT..: builds nothing
 make_it() {
     make -s -C "$repository" PROGRAM="$program" "$@" > said 2>&1 || fail "make $*: $(cat said)"
+    [ ! -e built ] || fail "make $* builds"
 }
 # runs PREFIX: what was put there runs, its links lead somewhere, and nobody else may write there
 runs() {
