@@ -211,8 +211,11 @@ if has 'what aprs-log@.service runs' nc stdbuf timeout; then
     run=$(sed -n "s/^ExecStart=.*-c '\(.*\)' %i\$/\1/p" "$recipes/aprs-log@.service" |
         sed "s/8001/8127/; s/-w 900/-w 1/; s/\\\$\\\$/\$/; s,/var/lib/aprs,$scratch,")
     (cat heard.kiss; sleep 8) | nc -l 127.0.0.1 8127 > sent & other=$!
-    sleep 0.5
-    timeout 6 sh -c "$run" RX1 || fail "a dead connection isn't ended"
+    # until the other end listens
+    until cat logs/*/RX1.log > said 2>&1; do
+        sleep 0.2
+        timeout 6 sh -c "$run" RX1 || fail "a dead connection isn't ended"
+    done
     kill $other 2> /dev/null || true
     aprsbook convert text hill.log > heard.txt
     cat logs/*/RX1.log | aprsbook convert text | cmp - heard.txt || fail 'a frame is lost'
