@@ -30,10 +30,13 @@ for awk in mawk gawk; do
 done
 if has 'the cookbook with busybox' busybox; then
     mkdir busybox
+    busybox --list > applets
     for tool in awk cat cmp comm cp cut diff dirname find grep head mkdir mktemp mv od paste rm sed \
         sort split tail tr uniq wc; do
-        printf '#!/bin/sh\nexec busybox %s "$@"\n' $tool > busybox/$tool
-        chmod +x busybox/$tool
+        if grep -qx $tool applets; then
+            printf '#!/bin/sh\nexec busybox %s "$@"\n' $tool > busybox/$tool
+            chmod +x busybox/$tool
+        fi
     done
     under busybox
 fi

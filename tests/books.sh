@@ -34,14 +34,14 @@ club() {
     cp hill.60 club/own.book
 }
 club
-fold-in club 2> said
+fold-in club 2> said || fail "fold-in: $(cat said)"
 same club/own.book hill.60
 [ ! -s said ] || fail "fold-in of nothing says: $(cat said)"
 cp coast.60 'club/in/a b=c.book'
 cp north.60 club/in/north.book
-fold-in club
+fold-in club || fail "fold-in ended with $?"
 same club/own.book all.60
-fold-in club
+fold-in club || fail "fold-in ended with $?"
 same club/own.book all.60
 
 # a bad book, one of another gap and one that isn't a file are passed over, and the others are
@@ -53,7 +53,7 @@ cp north.30 club/in/gap.book
 mkdir club/in/folder.book
 mkfifo club/in/pipe.book
 cp north.60 club/in/north.book
-fold-in club 2> said
+fold-in club 2> said || fail "fold-in: $(cat said)"
 same club/own.book all.60
 says '^fold-in: in/cut.book is passed over: line [0-9]*: Ending$'
 says '^fold-in: in/gap.book is passed over: other gap$'
@@ -77,7 +77,7 @@ chmod +x slow/aprsbook
 PATH=$scratch/slow:$PATH fold-in club &
 sleep 0.4
 cp north.60 club/in/north.book
-fold-in club
+fold-in club || fail "fold-in ended with $?"
 wait $!
 aprsbook merge --gap 60 club/own.book hill.60 coast.60 | cmp - club/own.book ||
     fail 'a book is lost'
@@ -211,8 +211,11 @@ if has 'what aprs-log@.service runs' nc stdbuf timeout; then
     run=$(sed -n "s/^ExecStart=.*-c '\(.*\)' %i\$/\1/p" "$recipes/aprs-log@.service" |
         sed "s/8001/8127/; s/-w 900/-w 1/; s/\\\$\\\$/\$/; s,/var/lib/aprs,$scratch,")
     (cat heard.kiss; sleep 8) | nc -l 127.0.0.1 8127 > sent & other=$!
-    sleep 0.5
-    timeout 6 sh -c "$run" RX1 || fail "a dead connection isn't ended"
+    # until the other end listens
+    until cat logs/*/RX1.log > said 2>&1; do
+        sleep 0.2
+        timeout 6 sh -c "$run" RX1 || fail "a dead connection isn't ended"
+    done
     kill $other 2> /dev/null || true
     aprsbook convert text hill.log > heard.txt
     cat logs/*/RX1.log | aprsbook convert text | cmp - heard.txt || fail 'a frame is lost'
