@@ -142,6 +142,11 @@ def test_refused(folder):
     done = subprocess.run(["event-page", "-o", folder / "page.html", folder / "torn.log"],
                           stderr=subprocess.PIPE)
     assert done.returncode == 1 and (folder / "page.html").read_text() == "before"
+    for course in "torn.log", "nowhere.gpx":
+        done = subprocess.run(["event-page", "--course", folder / course, EXAMPLES / "sample.log"],
+                              stdout=subprocess.PIPE, stderr=subprocess.PIPE)
+        assert done.returncode == 1 and done.stdout == b"", course
+        assert re.fullmatch(rb"event-page: .*\n", done.stderr), done.stderr
 
 
 def test_contrast(_):

@@ -4,10 +4,11 @@
 # usage: last_heard.sh EXAMPLES    aprsbook and the recipes in the PATH
 set -eu
 export LC_ALL=C
+examples=$(cd "$1" && pwd)
 scratch=$(mktemp -d)
 trap 'rm -r "$scratch"' EXIT
 cd "$scratch"
-cat "$1"/evening/*.log > all.log
+cat "$examples"/evening/*.log > all.log
 aprsbook convert log all.log > one-form.log
 aprsbook convert text one-form.log | sed 's/>.*//' | paste -d ' ' - one-form.log |
     awk '$2 " " $3 > last[$1] { last[$1] = $2 " " $3 } END { for (it in last) print it, last[it] }' |

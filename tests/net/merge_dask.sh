@@ -4,7 +4,7 @@
 # usage: merge_dask.sh EXAMPLES    aprsbook and the recipes in the PATH; needs python3-distributed
 set -eu
 export LC_ALL=C
-examples=$1
+examples=$(cd "$1" && pwd)
 scratch=$(mktemp -d)
 started=
 # workers don't always end on a polite signal

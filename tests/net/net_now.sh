@@ -3,7 +3,7 @@
 # usage: net_now.sh EXAMPLES    aprsbook and the recipes in the PATH; needs Python 3
 set -eu
 export LC_ALL=C
-examples=$1
+examples=$(cd "$1" && pwd)
 scratch=$(mktemp -d)
 trap 'rm -r "$scratch"' EXIT
 cd "$scratch"
