@@ -43,10 +43,13 @@ fi
 
 # ---- a decimal comma ----
 
-if has 'a decimal comma' localedef; then
-    mkdir locales
-    export LOCPATH="$scratch/locales"
-    localedef -i de_DE -f UTF-8 locales/de_DE.UTF-8 2> said || fail "localedef says: $(cat said)"
+mkdir locales
+export LOCPATH="$scratch/locales"
+if ! has 'a decimal comma' localedef; then
+    :
+elif ! localedef -i de_DE -f UTF-8 locales/de_DE.UTF-8 > said 2>&1; then
+    echo "left out: a decimal comma (needs the language de_DE, as in Debian's package locales)"
+else
     cp "$examples/evening/hill.log" .
     aprsbook merge "$examples"/evening/*.log "$examples/slow.log" > net.book
     aprsbook show net.book > listing
@@ -92,4 +95,4 @@ end
         done
     done
 fi
-echo 'every awk makes the same, also where the decimal sign is a comma'
+echo 'the recipes make the same with every awk that is there'

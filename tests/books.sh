@@ -213,6 +213,7 @@ if has 'what aprs-log@.service runs' nc stdbuf timeout; then
     (cat heard.kiss; sleep 8) | nc -l 127.0.0.1 8127 > sent & other=$!
     # until the other end listens
     until cat logs/*/RX1.log > said 2>&1; do
+        kill -0 $other 2> /dev/null || fail 'nobody listens on port 8127'
         sleep 0.2
         timeout 6 sh -c "$run" RX1 || fail "a dead connection isn't ended"
     done
