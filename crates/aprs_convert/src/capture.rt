@@ -35,8 +35,8 @@ pub fn capture<R: Read, W: Write>(
     w: &mut Counted<W>,
 ) -> Result<(), ConvertFault>
     requires { limit ≤ most_input }
-    ensures { Runs (stream_plan receiver.now moment.now) limit R.remaining W.contents result r.old r.new
-        w.old w.new }
+    ensures { Runs (stream_plan receiver.now moment.now) limit R.remaining W.contents result
+        r.old r.new w.old w.new }
 {
     let mut reader = KissReader::new();
     let mut log = LogWriter::new();
