@@ -41,7 +41,7 @@ sed -n 's/.*PossibleValue::new("\([a-z]*\)").*/\1/p' $words > "$scratch/program/
 } > "$scratch/program/options"
 sed '/^-.$/d' "$scratch/program/options" > "$scratch/program/long_options"
 arms aprs_report/src/report.rt 'impl<' > "$scratch/program/kinds"
-sed -n 's/.*put_[a-z_]*(w, held, b"\([a-z]*\)".*/\1/p' aprs_listing/src/views.rt \
+sed -n 's/.*put_[a-z_]*(out, b"\([a-z]*\)".*/\1/p' aprs_listing/src/views.rt \
     aprs_listing/src/heard_line.rt > "$scratch/program/listed"
 sed -n 's/.*if live { b"\([a-z]*\)" } else { b"\([a-z]*\)" }.*/\1 \2/p' \
     aprs_listing/src/heard_line.rt | tr ' ' '\n' > "$scratch/program/object_states"
