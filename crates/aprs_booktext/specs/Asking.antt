@@ -14,7 +14,7 @@ AsksAt why.Read old new = Calls Fault old new
 AsksAt why.Ending old new = Calls Going old new ⊎ Calls End old new
 AsksAt cause old new = Calls Going old new
 
--- What the reader answered last: its end, where a book was read, and at a fault what its cause says.
+-- What the reader answered last: its end where a book was read, and at a fault what its cause says.
 abbrev pub Asks : {R : Type 0} → Result BookValue BookFault → Counted R → Counted R → Type 0
 Asks (Ok book) old new = Calls End old new
 Asks (Err fault) old new = AsksAt fault.cause old new
