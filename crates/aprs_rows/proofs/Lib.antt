@@ -1,0 +1,6 @@
+-- Lemmas of rows.
+pub mod Heads
+pub mod Infos
+pub mod Rows
+pub mod Orders
+pub mod Names

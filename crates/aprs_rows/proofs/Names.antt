@@ -1,0 +1,42 @@
+-- Names in texts.
+use Rattle.std.proofs.Common.{◌≡◌, ◌∙◌, ℕ, ◌<◌, ◌≤◌, ◌==◌, Bool, true, false, List, [], ◌∷◌, ◌++◌, length, refl, sym, ap, arith}
+use Rattle.std.specs.Prelude.{All}
+use Rattle.std.specs.List.{list_all, join_with_byte, slice_split, AllByRecursion}
+use Rattle.std.proofs.lemmas.Bool.{and_parts}
+use Rattle.std.proofs.lemmas.Bool.Decides.{nat_tests}
+use Rattle.std.proofs.lemmas.List.Elements.{All-from_recursion, recursion_from_All}
+use Rattle.std.proofs.lemmas.List.Splits.{slice_split_none, slice_split_at}
+use Rattle.aprs_log.specs.Receiver.{IsName, is_name_byte}
+use Rattle.aprs_rows.specs.Names.{names_in}
+
+abbrev is_comma : ℕ → Bool
+is_comma b = b == 44
+
+no_comma : (b : ℕ) → is_name_byte b ≡ true → is_comma b ≡ false
+no_comma b h = grind (arith, nat_tests)
+
+lacks : (bytes : List ℕ) → list_all is_name_byte bytes ≡ true
+    → AllByRecursion (λ b. is_comma b ≡ false) bytes
+lacks [] h = tt
+lacks (b ∷ bytes) h =
+    (no_comma b (and_parts _ _ h).0, lacks bytes (and_parts _ _ h).1)
+
+name_lacks : (r : List ℕ) → IsName r → All (λ b. is_comma b ≡ false) r
+name_lacks r h = All-from_recursion (λ b. is_comma b ≡ false) r (lacks r (and_parts _ _ h).1)
+
+-- a name is the only one in itself
+pub name_alone : (r : List ℕ) → IsName r → names_in r ≡ r ∷ []
+name_alone r h = slice_split_none is_comma r (name_lacks r h)
+
+joined : (names : List (List ℕ)) → 0 < length names → AllByRecursion IsName names
+    → names_in (join_with_byte 44 names) ≡ names
+joined [] some h = absurd (omega (arith, some))
+joined (r ∷ []) some h = name_alone r h.0
+joined (r ∷ s ∷ names) some h =
+    slice_split_at is_comma r 44 (join_with_byte 44 (s ∷ names)) (name_lacks r h.0) refl
+    ∙ ap (λ rest. r ∷ rest) (joined (s ∷ names) (omega arith) h.1)
+
+-- the names of a text of names with commas between are these
+pub names_joined : (names : List (List ℕ)) → 0 < length names → All IsName names
+    → names_in (join_with_byte 44 names) ≡ names
+names_joined names some h = joined names some (recursion_from_All IsName names h)

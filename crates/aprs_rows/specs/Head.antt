@@ -1,0 +1,45 @@
+-- Heads of keys. No public clause cites this module.
+use Rattle.std.specs.Prelude.{◌≡◌, ℕ, ◌<◌, ◌/◌, ◌%◌, List, [], ◌∷◌, ◌++◌, map, take, slice_index}
+use Rattle.std.specs.Int.{w64, from_be_bytes}
+use Rattle.std.specs.Ordering.{nat_cmp, on, then_cmp}
+use Rattle.std.specs.declared.cmp.Ordering.{Ordering}
+use Rattle.aprs_ax25.specs.Callsign.{Call}
+use Rattle.aprs_ax25.specs.Address.{padded}
+use Rattle.aprs_ax25.specs.Frame.{FrameOf}
+use Rattle.aprs_ax25.specs.FrameFault.{parts_of}
+use Rattle.aprs_laws.specs.Key.{Key, key_of}
+use Rattle.aprs_rows.specs.declared.head.Head.{Head}
+
+-- The number of a callsign, base 256: its letters, padded with spaces to six, and its SSID.
+abbrev pub call_number : Call → ℕ
+call_number call = from_be_bytes w64 (0 ∷ padded call.letters ++ call.ssid ∷ [])
+
+-- The same of the seven octets of an address: the letters are the first six, shifted right by one
+-- bit, and the SSID is bits 1 to 4 of the last.
+abbrev pub octets_number : List ℕ → ℕ
+octets_number octets =
+    from_be_bytes w64
+    (0 ∷ map (λ o. o / 2) (take 6 octets) ++ slice_index octets 6 / 2 % 16 ∷ [])
+
+-- The head of a key: the numbers of the callsigns, and of the first eight bytes of the information,
+-- base 256. `from_be_bytes` reads zeros where there are fewer.
+unfoldable pub head_of : Key → Head
+head_of key = record {
+  source = call_number key.source;
+  destination = call_number key.destination;
+  info = from_be_bytes w64 key.info;
+}
+
+-- Heads are ordered by the number of the source, then of the destination, then of the information.
+abbrev pub head_cmp : Head → Head → Ordering
+head_cmp = then_cmp (on (λ h. h.source) nat_cmp)
+    (then_cmp (on (λ h. h.destination) nat_cmp) (on (λ h. h.info) nat_cmp))
+
+-- Two frames, whose keys have these heads.
+pub record HaveHeads (f g : List ℕ) (h k : Head) : Type 0 where
+  pub frame : FrameOf (parts_of f) f
+  pub other : FrameOf (parts_of g) g
+  pub bytes : (i : ℕ) → slice_index (parts_of f).info i < 256
+  pub other_bytes : (i : ℕ) → slice_index (parts_of g).info i < 256
+  pub head : h ≡ head_of (key_of f)
+  pub other_head : k ≡ head_of (key_of g)

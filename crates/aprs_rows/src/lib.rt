@@ -1,0 +1,13 @@
+//! Rows in bytes: a store of rows, their order, and the rows that they are together.
+#![tactic(auto)]
+
+mod entry;
+mod head;
+mod laid;
+mod order;
+mod row_view;
+mod store;
+
+pub use order::RowsInOrder;
+pub use row_view::RowView;
+pub use store::RowStore;

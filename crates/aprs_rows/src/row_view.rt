@@ -1,0 +1,139 @@
+//! A row in bytes.
+ghost use Rattle.std.specs.Prelude.{◌≡◌, All, length, drop, ◌≤◌};
+ghost use Rattle.std.specs.List.{join_with_byte};
+ghost use Rattle.aprs_ax25.specs.Frame.{FrameOf};
+ghost use Rattle.aprs_ax25.specs.FrameFault.{parts_of};
+ghost use Rattle.aprs_log.specs.Receiver.{IsName};
+ghost use Rattle.aprs_laws.specs.Key.{key_of, key_cmp};
+ghost use Rattle.aprs_laws.specs.Row.{last_of, row_key};
+ghost use Rattle.aprs_rows.specs.Names.{names_in};
+ghost use Rattle.aprs_rows.specs.Rows.{row_of};
+
+use aprs_ax25::Frame;
+use aprs_log::Moment;
+use std::marker::Model;
+
+/// One transmission: its moments, the names of its receivers with commas between, and the receiver
+/// and the frame of its greatest reception.
+#[derive(Drop)]
+pub struct RowView<'a> {
+    first: Moment,
+    last: Moment,
+    receivers: &'a [u8],
+    receiver: &'a [u8],
+    frame: &'a [u8],
+    info_at: usize,
+}
+
+impl<'a> Model for RowView<'a> {
+    ghost use Rattle.std.specs.Prelude.{◌≡◌, ◌≤◌, length, drop};
+    ghost use Rattle.aprs_ax25.specs.FrameFault.{parts_of};
+    ghost use Rattle.aprs_laws.specs.Row.{Row as RowValue};
+    ghost use Rattle.aprs_rows.specs.Rows.{row_of, IsTold};
+
+    ghost Value = { RowValue };
+
+    ghost view = { λ r. row_of r.first r.last r.receivers.now r.receiver.now r.frame.now };
+
+    ghost invariant = { λ r.
+        IsTold (row_of r.first r.last r.receivers.now r.receiver.now r.frame.now)
+        × (r.info_at ≤ length r.frame.now)
+        × (drop r.info_at r.frame.now ≡ (parts_of r.frame.now).info) };
+}
+
+impl<'a> RowView<'a> {
+    /// The row of these, with the names in `receivers`, which commas part. Takes no memory.
+    pub fn new(
+        first: Moment,
+        last: Moment,
+        receivers: &'a [u8],
+        receiver: &'a [u8],
+        frame: &'a Frame,
+    ) -> RowView<'a>
+        requires names { All IsName (names_in receivers.now) }
+        requires name { IsName receiver.now }
+        ensures { result ≡ row_of first last receivers.now receiver.now frame.now }
+    {
+        let bytes = frame.bytes();
+        RowView {
+            first,
+            last,
+            receivers,
+            receiver,
+            frame: bytes,
+            info_at: bytes.len() - frame.info().len(),
+        }
+    }
+
+    /// The same, of a frame's bytes whose last ones, so many, are its information.
+    pub(crate) fn of_bytes(
+        first: Moment,
+        last: Moment,
+        receivers: &'a [u8],
+        receiver: &'a [u8],
+        frame: &'a [u8],
+        info: usize,
+    ) -> RowView<'a>
+        requires names { All IsName (names_in receivers.now) }
+        requires name { IsName receiver.now }
+        requires frame { FrameOf (parts_of frame.now) frame.now }
+        requires info { info ≡ length (parts_of frame.now).info }
+        ensures { result ≡ row_of first last receivers.now receiver.now frame.now }
+    {
+        RowView {
+            first,
+            last,
+            receivers,
+            receiver,
+            frame,
+            info_at: frame.len() - info,
+        }
+    }
+
+    /// The first moment at which the transmission was heard. Takes no memory.
+    pub fn first(&self) -> Moment
+        ensures { result ≡ self.now.first }
+    {
+        self.first
+    }
+
+    /// The last moment, which is that of the greatest reception. Takes no memory.
+    pub fn last(&self) -> Moment
+        ensures { result ≡ last_of self.now }
+    {
+        self.last
+    }
+
+    /// The names of those who heard it, with commas between. Takes no memory.
+    pub fn receivers(&self) -> &'a [u8]
+        ensures text { result.now ≡ join_with_byte 44 self.now.receivers }
+        ensures names { names_in result.now ≡ self.now.receivers }
+        ensures each { All IsName self.now.receivers }
+    {
+        self.receivers
+    }
+
+    /// The name of the receiver of the greatest reception. Takes no memory.
+    pub fn receiver(&self) -> &'a [u8]
+        ensures value { result.now ≡ self.now.greatest.receiver }
+        ensures name { IsName self.now.greatest.receiver }
+    {
+        self.receiver
+    }
+
+    /// The frame of the greatest reception. Takes no memory.
+    pub fn frame(&self) -> &'a [u8]
+        ensures value { result.now ≡ self.now.greatest.frame }
+        ensures frame { FrameOf (parts_of self.now.greatest.frame) self.now.greatest.frame }
+    {
+        self.frame
+    }
+
+    /// The information of that frame. Takes no memory.
+    pub fn info(&self) -> &'a [u8]
+        ensures { result.now ≡ (parts_of self.now.greatest.frame).info }
+    {
+        let (_, info) = self.frame.split_at(self.info_at);
+        info
+    }
+}

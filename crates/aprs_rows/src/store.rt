@@ -1,0 +1,203 @@
+//! Rows in one place.
+ghost use Rattle.std.specs.Prelude.{◌≡◌, ◌↔◌, ◌+◌, ◌≤◌, ◌<◌, [], ◌∷◌, ◌++◌, None, Some, length, IsTrue, IfOk, IfSome, IfNone, OnOk, OnErr, vec_len, vec_capacity};
+ghost use Rattle.std.specs.List.{join_with_byte, last_or};
+ghost use Rattle.aprs_laws.specs.Coalescing.{AreInOrder};
+ghost use Rattle.aprs_laws.specs.JoinRow.{single};
+ghost use Rattle.aprs_laws.specs.Lists.{SameMembers};
+ghost use Rattle.aprs_laws.specs.Sound.{IsSoundRow};
+ghost use Rattle.aprs_ax25.specs.FrameFault.{parts_of};
+ghost use Rattle.aprs_rows.specs.Rows.{row_of, IsTold};
+
+use crate::entry::Entry;
+use crate::laid::Laid;
+use crate::order::RowsInOrder;
+use crate::row_view::RowView;
+use aprs_joins::Memory;
+use aprs_log::Reception;
+use std::alloc::{Allocator, Global};
+use std::marker::Model;
+
+/// Rows in the order in which they came, in as few bytes as they have: the names of their receivers
+/// and their frames lie one after another. A reception is a row of its own.
+pub struct RowStore<A: Allocator = Global> {
+    alloc: A,
+    entries: Vec<Entry, A>,
+    bytes: Vec<u8, A>,
+    /// Whether rows came that were in order, as those of a book file.
+    has_runs: bool,
+}
+
+impl<A: Allocator> Drop for RowStore<A> {
+    fn drop(self) {
+        let RowStore {
+            alloc: _,
+            entries,
+            bytes,
+            has_runs: _,
+        } = self;
+        drop(entries);
+        drop(bytes);
+    }
+}
+
+impl<A: Allocator> Model for RowStore<A> {
+    ghost use Rattle.std.specs.Prelude.{List};
+    ghost use Rattle.aprs_laws.specs.Row.{Row};
+    ghost use Rattle.aprs_rows.specs.Rows.{rows_in, AreRowsIn};
+
+    ghost Value = { List Row };
+
+    ghost view = { λ s. rows_in s.entries.items s.bytes.items };
+
+    ghost invariant = { λ s. AreRowsIn s.entries.items s.bytes.items };
+}
+
+impl<A: Allocator + Copy> RowStore<A> {
+    /// No rows. Takes no memory.
+    pub fn new(alloc: A) -> RowStore<A>
+        ensures { result ≡ [] }
+    {
+        RowStore {
+            alloc,
+            entries: Vec::new(alloc),
+            bytes: Vec::new(alloc),
+            has_runs: false,
+        }
+    }
+
+    /// Whether there are no rows. Takes no memory.
+    pub fn is_empty(&self) -> bool
+        ensures { IsTrue result ↔ (self.now ≡ []) }
+    {
+        self.entries.is_empty()
+    }
+
+    /// The number of rows. Takes no memory.
+    pub fn len(&self) -> usize
+        ensures { result ≡ length self.now }
+    {
+        self.entries.len()
+    }
+
+    /// The last of the rows. Takes no memory.
+    pub fn last(&self) -> Option<RowView<'_>>
+        ensures some { IfSome result (λ row. last_or None self.now ≡ Some row) }
+        ensures none { IfNone result (self.now ≡ []) }
+    {
+        let entry = self.entries.last()?;
+        let size = entry.receivers as usize + (entry.receiver as usize + entry.frame as usize);
+        let (_, bytes) = self.bytes.split_at(self.bytes.len() - size);
+        Some(Laid::of(entry, bytes).view())
+    }
+
+    /// Puts a reception after the rows, as a row of its own. After `Memory` the rows are as before.
+    pub fn push_reception(&mut self, x: &Reception) -> Result<(), Memory>
+        ensures pushed { OnOk result (self.new ≡ self.old ++ single x.now ∷ []) }
+        ensures unchanged { OnErr result (self.new ≡ self.old) }
+    {
+        let receiver = x.receiver().as_bytes();
+        let frame = x.frame().bytes();
+        let entry = Entry {
+            first: x.moment(),
+            last: x.moment(),
+            receivers: receiver.len() as u32,
+            receiver: receiver.len() as u8,
+            frame: frame.len() as u16,
+            info: x.frame().info().len() as u16,
+        };
+        self.put(entry, receiver, receiver, frame)
+    }
+
+    /// Puts a row after the others. Requires that it is sound by itself, and that its receivers'
+    /// names with commas between have fewer than 4,294,967,296 bytes. After `Memory` the rows are as
+    /// before.
+    pub fn push(&mut self, row: &RowView<'_>) -> Result<(), Memory>
+        requires sound { IsSoundRow row.now }
+        requires short { length (join_with_byte 44 row.now.receivers) < 4294967296 }
+        ensures pushed { OnOk result (self.new ≡ self.old ++ row.now ∷ []) }
+        ensures unchanged { OnErr result (self.new ≡ self.old) }
+    {
+        let receivers = row.receivers();
+        let receiver = row.receiver();
+        let frame = row.frame();
+        let entry = Entry {
+            first: row.first(),
+            last: row.last(),
+            receivers: receivers.len() as u32,
+            receiver: receiver.len() as u8,
+            frame: frame.len() as u16,
+            info: row.info().len() as u16,
+        };
+        self.put(entry, receivers, receiver, frame)?;
+        self.has_runs = true;
+        Ok(())
+    }
+
+    /// Puts the row of an entry after the others.
+    fn put(
+        &mut self,
+        entry: Entry,
+        receivers: &[u8],
+        receiver: &[u8],
+        frame: &[u8],
+    ) -> Result<(), Memory>
+        requires receivers { entry.receivers ≡ length receivers.now }
+        requires receiver { entry.receiver ≡ length receiver.now }
+        requires frame { entry.frame ≡ length frame.now }
+        requires info { entry.info ≡ length (parts_of frame.now).info }
+        requires sound { IsSoundRow
+            (row_of entry.first entry.last receivers.now receiver.now frame.now) }
+        requires told { IsTold (row_of entry.first entry.last receivers.now receiver.now frame.now) }
+        ensures pushed { OnOk result (self.new ≡ self.old
+            ++ row_of entry.first entry.last receivers.now receiver.now frame.now ∷ []) }
+        ensures unchanged { OnErr result (self.new ≡ self.old) }
+    {
+        make_room(&mut self.entries, 1)?;
+        make_room(&mut self.bytes, receivers.len() + receiver.len() + frame.len())?;
+        self.entries.push_reserved(entry);
+        put(&mut self.bytes, receivers);
+        put(&mut self.bytes, receiver);
+        put(&mut self.bytes, frame);
+        Ok(())
+    }
+
+    /// The rows by key and first moment.
+    pub fn in_order(&self) -> Result<RowsInOrder<'_, A>, Memory>
+        ensures members { IfOk result (SameMembers self.now) }
+        ensures ordered { IfOk result AreInOrder }
+    {
+        let mut laid = Vec::new(self.alloc);
+        make_room(&mut laid, self.entries.len())?;
+        let mut rest = self.bytes.as_slice();
+        for entry in self.entries.iter() {
+            let size = entry.receivers as usize + (entry.receiver as usize + entry.frame as usize);
+            let (row, others) = rest.split_at(size);
+            laid.push_reserved(Laid::of(entry, row));
+            rest = others;
+        }
+        RowsInOrder::of(self.alloc, laid, self.has_runs)
+    }
+}
+
+/// Makes room for so many more.
+fn make_room<T, A: Allocator>(items: &mut Vec<T, A>, more: usize) -> Result<(), Memory>
+    ensures items { items.new.items ≡ items.old.items }
+    ensures room { OnOk result (vec_len items.new + more ≤ vec_capacity items.new) }
+{
+    match items.reserve(more) {
+        Ok(()) => Ok(()),
+        Err(_) => Err(Memory),
+    }
+}
+
+/// Puts bytes after those that are there, where there is room.
+fn put<A: Allocator>(items: &mut Vec<u8, A>, more: &[u8])
+    requires { vec_len items.old + length more.now ≤ vec_capacity items.old }
+    ensures items { items.new.items ≡ items.old.items ++ more.now }
+    ensures capacity { vec_capacity items.old ≤ vec_capacity items.new }
+    ensures len { vec_len items.new ≡ vec_len items.old + length more.now }
+{
+    if items.extend_from_slice(more).is_err() {
+        unreachable!()
+    }
+}
