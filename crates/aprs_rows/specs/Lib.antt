@@ -4,6 +4,7 @@ pub mod Judging
 pub mod Names
 pub mod Refusal
 pub mod Rows
+pub mod Sorted
 -- what public clauses cite of lower crates
 pub use Rattle.aprs_log.specs.Reception
 pub use Rattle.aprs_laws.specs.Order
