@@ -24,7 +24,7 @@ use std::marker::Model;
 pub struct RowView<'a> {
     first: Moment,
     last: Moment,
-    receivers: &'a [u8],
+    names: &'a [u8],
     receiver: &'a [u8],
     frame: &'a [u8],
     info_at: usize,
@@ -38,10 +38,10 @@ impl<'a> Model for RowView<'a> {
 
     ghost Value = { RowValue };
 
-    ghost view = { λ r. row_of r.first r.last r.receivers.now r.receiver.now r.frame.now };
+    ghost view = { λ r. row_of r.first r.last r.names.now r.receiver.now r.frame.now };
 
     ghost invariant = { λ r.
-        IsTold (row_of r.first r.last r.receivers.now r.receiver.now r.frame.now)
+        IsTold (row_of r.first r.last r.names.now r.receiver.now r.frame.now)
         × (r.info_at ≤ length r.frame.now)
         × (drop r.info_at r.frame.now ≡ (parts_of r.frame.now).info) };
 }
@@ -63,7 +63,7 @@ impl<'a> RowView<'a> {
         RowView {
             first,
             last,
-            receivers,
+            names: receivers,
             receiver,
             frame: bytes,
             info_at: bytes.len() - frame.info().len(),
@@ -88,7 +88,7 @@ impl<'a> RowView<'a> {
         RowView {
             first,
             last,
-            receivers,
+            names: receivers,
             receiver,
             frame,
             info_at: frame.len() - info,
@@ -115,7 +115,7 @@ impl<'a> RowView<'a> {
         ensures names { names_in result.now ≡ self.now.receivers }
         ensures each { All IsName self.now.receivers }
     {
-        self.receivers
+        self.names
     }
 
     /// The name of the receiver of the greatest reception. Takes no memory.
