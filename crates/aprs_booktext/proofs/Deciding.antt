@@ -1,8 +1,8 @@
 -- Each line spells a row or none, and each text is a book's or has a first fault.
 use Rattle.std.proofs.Common.{◌≡◌, ℕ, zero, suc, ◌+◌, ◌<◌, ◌≤◌, Bool, true, false, cond, List, [], ◌∷◌, ◌++◌, length, Option, Some, None, Result, Ok, Err, IsErr, ◌⊎◌, inl, inr, refl, sym, ap, ◌∙◌, subst, append_assoc, append-nil, length-append, arith}
-use Rattle.std.specs.Prelude.{◌≢◌, codes}
+use Rattle.std.specs.Prelude.{◌≢◌, All, codes}
 use Rattle.std.specs.Str.{bytes_eq}
-use Rattle.std.specs.List.{AllByRecursion}
+use Rattle.std.specs.List.{AllByRecursion, join_with_byte}
 use Rattle.std.proofs.lemmas.Bool.{cases_lt}
 use Rattle.std.proofs.lemmas.List.{nil_from_length}
 use Rattle.std.proofs.lemmas.Slice.Eq.{bytes_eq-Decides}
@@ -29,7 +29,7 @@ use Rattle.aprs_booktext.specs.FirstFault.{FirstFault, is_end}
 use Rattle.aprs_booktext.specs.Law.{IsBookText}
 use Rattle.aprs_booktext.specs.Lines.{is_byte, Lacks, pieces}
 use Rattle.aprs_booktext.specs.Reader.{HoldsIn, IsJudgedIn, StandsAfter, is_done, line_number, may_end}
-use Rattle.aprs_booktext.specs.RowFields.{SpellsBytes, SpellsNames}
+use Rattle.aprs_booktext.specs.RowFields.{SpellsBytes}
 use Rattle.aprs_booktext.specs.Text.{row_line, end_line, lines_of, book_text, most_frame_bytes, IsSpelled, IsBookRow, IsWritable}
 use Rattle.aprs_booktext.specs.Version.{form_of, gap_of, header_of}
 use Rattle.aprs_booktext.specs.declared.fault.BookCause.{BookCause}
@@ -84,6 +84,12 @@ all_names (p ∷ ps) = by (all_names ps) (is_name p) refl where
     | inl all ↦ inl (e, all)
     | inr none ↦ inr (λ h. none h.1)
   ]
+
+-- The field spells these names, at least one, with commas between.
+record SpellsNames (field : List ℕ) (names : List (List ℕ)) : Type 0 where
+  field_is : field ≡ join_with_byte 44 names
+  names_are : All IsName names
+  some : 0 < length names
 
 names_or_none : (n : List ℕ) → ((names : List (List ℕ)) × SpellsNames n names)
     ⊎ ((names : List (List ℕ)) → SpellsNames n names → ⊥)

@@ -1,0 +1,1 @@
+use Rattle.aprs_booktext.proofs.row_line.are_names.Goals as goal
