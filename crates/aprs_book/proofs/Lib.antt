@@ -11,7 +11,7 @@ pub mod Places
 pub mod Taking
 pub mod Pushes
 pub mod Replays
-pub mod Refusals
+pub mod RefusalEnds
 pub mod RowsFaults
 pub mod Views
 mod Inserts

@@ -12,9 +12,9 @@ use Rattle.aprs_laws.proofs.RunRows.{book_of_nothing}
 use Rattle.aprs_laws.specs.declared.row_cause.RowCause.{RowCause}
 use Rattle.aprs_laws.specs.declared.row_cause.RowCause.TheVariants.{Memory}
 use Rattle.aprs_book.specs.declared.from_parts.RowsFault.{RowsFault}
-use Rattle.aprs_book.specs.Refusal.{refusal}
+use Rattle.aprs_rows.specs.Refusal.{refusal}
 use Rattle.aprs_book.specs.RowsFault.{IsRowsFault, AreSoundOrFaulty, SoundRowsAreFaultless, HaveOneFaultAtMost}
-use Rattle.aprs_book.proofs.Refusals.{Answers, none_exactly, never_memory}
+use Rattle.aprs_rows.proofs.Refusals.{Answers, none_exactly, never_memory}
 
 -- ---- prefixes of rows
 

@@ -6,7 +6,6 @@ pub mod Places
 pub mod Taking
 pub mod Pushed
 pub mod Replay
-pub mod Refusal
 pub mod RowsFault
 pub mod Reports
 pub mod LastKnown
@@ -37,6 +36,7 @@ pub use Rattle.aprs_laws.specs.Best
 pub use Rattle.aprs_laws.specs.BestLaws
 pub use Rattle.aprs_laws.specs.Spans
 pub use Rattle.aprs_keys.specs.KeyBytes
+pub use Rattle.aprs_rows.specs.Refusal
 pub use Rattle.aprs_ax25.specs.CallText
 pub use Rattle.aprs_report.specs.Reading
 pub use Rattle.aprs_report.specs.Reader

@@ -2,7 +2,7 @@
 use Rattle.std.specs.Prelude.{◌≡◌, ◌≢◌, ℕ, ◌<◌, ◌⊎◌, List, take, slice_get, None, Some}
 use Rattle.aprs_laws.specs.Row.{Row}
 use Rattle.aprs_laws.specs.Sound.{Sound}
-use Rattle.aprs_book.specs.Refusal.{refusal}
+use Rattle.aprs_rows.specs.Refusal.{refusal}
 use Rattle.aprs_laws.specs.declared.row_cause.RowCause.{RowCause}
 use Rattle.aprs_laws.specs.declared.row_cause.RowCause.TheVariants.{Memory}
 use Rattle.aprs_book.specs.declared.from_parts.RowsFault.{RowsFault}

@@ -6,7 +6,7 @@ ghost use Rattle.aprs_laws.specs.Sound.{Sound};
 ghost use Rattle.aprs_laws.specs.Inserted.{FitsInPlace};
 ghost use Rattle.aprs_laws.proofs.Joins.{gap_laws};
 ghost use Rattle.aprs_book.specs.Taking.{TakesIn, MergesInto, WidensTo};
-ghost use Rattle.aprs_book.specs.Refusal.{refusal};
+ghost use Rattle.aprs_rows.specs.Refusal.{refusal};
 ghost use Rattle.aprs_book.specs.Known.{AreIndexesOf};
 
 use crate::indexes::Indexes;

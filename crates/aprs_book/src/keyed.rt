@@ -1,7 +1,7 @@
 //! The rows of a book by the heads of their keys.
 ghost use Rattle.std.specs.Prelude.{◌≡◌, ◌+◌, [], ◌∷◌, ◌++◌, length, true, IsOk, IfOk, OnOk, OnErr};
 ghost use Rattle.aprs_book.specs.Keyed.{EndsUpTo, IsEndOf, rows_of};
-ghost use Rattle.aprs_book.specs.Refusal.{refusal};
+ghost use Rattle.aprs_rows.specs.Refusal.{refusal};
 ghost use Rattle.aprs_laws.specs.JoinRow.{interleave, coalesced};
 ghost use Rattle.aprs_log.specs.Reception.{bytes_cmp};
 ghost use Rattle.aprs_laws.specs.Lists.{Ordered};

@@ -20,11 +20,11 @@ use Rattle.aprs_io.specs.declared.input.Ending.{Ending}
 use Rattle.aprs_laws.specs.Gap.{greatest_gap, IsGap, millis_of}
 use Rattle.aprs_laws.specs.Row.{Row, last_of}
 use Rattle.aprs_laws.specs.Sound.{Sound}
-use Rattle.aprs_book.specs.Refusal.{refusal, is_refused}
+use Rattle.aprs_rows.specs.Refusal.{refusal, is_refused}
 use Rattle.aprs_book.specs.Shown.{row_of}
 use Rattle.aprs_laws.specs.declared.row_cause.RowCause.{RowCause}
 use Rattle.aprs_laws.specs.declared.row_cause.RowCause.TheVariants as row
-use Rattle.aprs_book.proofs.Refusals.{none_exactly}
+use Rattle.aprs_rows.proofs.Refusals.{none_exactly}
 use Rattle.aprs_booktext.specs.FirstFault.{FirstFault, is_end}
 use Rattle.aprs_booktext.specs.Law.{IsBookText}
 use Rattle.aprs_booktext.specs.Lines.{is_byte, Lacks, pieces}

@@ -14,7 +14,7 @@ use Rattle.aprs_laws.specs.Sound.{Sound}
 use Rattle.aprs_booktext.specs.Lines.{Lacks}
 use Rattle.aprs_booktext.proofs.Cuts.{lacks_append}
 use Rattle.aprs_log.specs.declared.moment_form.MomentForm.{MomentForm}
-use Rattle.aprs_book.specs.Refusal.{refusal}
+use Rattle.aprs_rows.specs.Refusal.{refusal}
 use Rattle.aprs_laws.specs.declared.row_cause.RowCause.{RowCause}
 use Rattle.aprs_laws.specs.declared.row_cause.RowCause.TheVariants as row
 use Rattle.aprs_booktext.specs.Fault.{book_cause_of}

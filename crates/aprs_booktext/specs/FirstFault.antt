@@ -10,7 +10,7 @@ use Rattle.aprs_log.specs.declared.moment_form.MomentForm.{MomentForm}
 use Rattle.aprs_laws.specs.BookValue.{BookValue}
 use Rattle.aprs_laws.specs.Gap.{millis_of}
 use Rattle.aprs_laws.specs.Row.{Row}
-use Rattle.aprs_book.specs.Refusal.{refusal}
+use Rattle.aprs_rows.specs.Refusal.{refusal}
 use Rattle.aprs_laws.specs.declared.row_cause.RowCause.{RowCause}
 use Rattle.aprs_laws.specs.declared.row_cause.RowCause.TheVariants as row
 use Rattle.aprs_booktext.specs.Lines.{Lacks}

@@ -3,4 +3,6 @@ pub mod Heads
 pub mod Infos
 pub mod Rows
 pub mod Orders
-pub mod Names
+pub mod NameTexts
+pub mod Refusals
+pub mod Judgements

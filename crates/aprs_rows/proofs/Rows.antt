@@ -15,7 +15,7 @@ use Rattle.aprs_rows.specs.declared.entry.Entry.{Entry}
 use Rattle.aprs_laws.specs.JoinRow.{single}
 use Rattle.aprs_laws.proofs.Coalescing.{single_is_sound}
 use Rattle.aprs_rows.specs.Rows.{row_of, IsTold, size_of, entry_row, IsRowIn, rows_of, rows_in, AreOf, AreRowsIn}
-use Rattle.aprs_rows.proofs.Names.{name_alone}
+use Rattle.aprs_rows.proofs.NameTexts.{name_alone}
 
 take_front : (n : ℕ) (a b : List ℕ) → n ≤ length a → take n (a ++ b) ≡ take n a
 take_front zero a b h = refl

@@ -1,12 +1,15 @@
 -- Definitions that contracts of rows cite.
 pub mod Head
+pub mod Judging
 pub mod Names
+pub mod Refusal
 pub mod Rows
 -- what public clauses cite of lower crates
 pub use Rattle.aprs_log.specs.Reception
 pub use Rattle.aprs_laws.specs.Order
 pub use Rattle.aprs_laws.specs.Lists
 pub use Rattle.aprs_laws.specs.Row
+pub use Rattle.aprs_laws.specs.RowCause
 pub use Rattle.aprs_laws.specs.Sound
 pub use Rattle.aprs_laws.specs.Book
 pub use Rattle.aprs_laws.specs.BookValue

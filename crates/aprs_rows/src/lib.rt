@@ -3,7 +3,9 @@
 
 mod entry;
 mod head;
+mod judge;
 mod laid;
+mod names;
 mod order;
 mod row_view;
 mod store;

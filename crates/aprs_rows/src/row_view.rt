@@ -5,12 +5,14 @@ ghost use Rattle.aprs_ax25.specs.Frame.{FrameOf};
 ghost use Rattle.aprs_ax25.specs.FrameFault.{parts_of};
 ghost use Rattle.aprs_log.specs.Receiver.{IsName};
 ghost use Rattle.aprs_laws.specs.Key.{key_of, key_cmp};
-ghost use Rattle.aprs_laws.specs.Row.{last_of, row_key};
+ghost use Rattle.aprs_laws.specs.Row.{last_of, row_cmp, row_key};
 ghost use Rattle.aprs_rows.specs.Names.{names_in};
 ghost use Rattle.aprs_rows.specs.Rows.{row_of};
 
+use crate::head::{Head, key_order};
 use aprs_ax25::Frame;
 use aprs_log::Moment;
+use std::cmp::Ordering;
 use std::marker::Model;
 
 /// One transmission: its moments, the names of its receivers with commas between, and the receiver
@@ -135,5 +137,25 @@ impl<'a> RowView<'a> {
     {
         let (_, info) = self.frame.split_at(self.info_at);
         info
+    }
+
+    /// The order of rows, by key, then first moment.
+    pub(crate) fn order(&self, other: &RowView<'_>) -> Ordering
+        ensures { result ≡ row_cmp self.now other.now }
+    {
+        match self.key_order(other) {
+            Ordering::Equal => self.first.cmp(&other.first),
+            unequal => unequal,
+        }
+    }
+
+    /// The order of the keys.
+    pub(crate) fn key_order(&self, other: &RowView<'_>) -> Ordering
+        ensures { result ≡ key_cmp (row_key self.now) (row_key other.now) }
+    {
+        let info = self.info();
+        let other_info = other.info();
+        let head = Head::of(self.frame(), info);
+        key_order(head, info, Head::of(other.frame(), other_info), other_info)
     }
 }

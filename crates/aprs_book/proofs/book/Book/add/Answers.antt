@@ -3,10 +3,11 @@ use Rattle.aprs_log.specs.Reception.{Heard}
 use Rattle.aprs_laws.specs.Gap.{millis_of}
 use Rattle.aprs_laws.specs.Row.{row_key}
 use Rattle.aprs_laws.specs.Sound.{Sound}
-use Rattle.aprs_book.specs.Refusal.{refusal}
+use Rattle.aprs_rows.specs.Refusal.{refusal}
 use Rattle.aprs_book.specs.Known.{reported_in}
 use Rattle.aprs_book.proofs.Taking.{refusal_is}
-use Rattle.aprs_book.proofs.Refusals.{free_ascends, none_ends_up_to, none_exactly}
+use Rattle.aprs_rows.proofs.Refusals.{free_ascends, none_exactly}
+use Rattle.aprs_book.proofs.RefusalEnds.{none_ends_up_to}
 use Rattle.aprs_book.proofs.IndexSteps.{Noted, pushes_indexes}
 use Rattle.aprs_book.proofs.book.Book.add.Goals as goal
 

@@ -1,5 +1,5 @@
 use Rattle.std.proofs.Common.{◌∙◌}
-use Rattle.aprs_book.proofs.Refusals.{refused_at_end}
+use Rattle.aprs_book.proofs.RefusalEnds.{refused_at_end}
 use Rattle.aprs_book.proofs.keyed.KeyedRows.refusal.Goals as goal
 
 pub returns : goal.returns

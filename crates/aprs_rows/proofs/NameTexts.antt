@@ -1,8 +1,8 @@
 -- Names in texts.
-use Rattle.std.proofs.Common.{◌≡◌, ◌∙◌, ℕ, ◌<◌, ◌≤◌, ◌==◌, Bool, true, false, List, [], ◌∷◌, ◌++◌, length, refl, sym, ap, arith}
+use Rattle.std.proofs.Common.{◌≡◌, ◌∙◌, ℕ, ◌<◌, ◌≤◌, zero, suc, ◌==◌, Bool, true, false, List, [], ◌∷◌, ◌++◌, length, get_or, take, drop, refl, sym, ap, arith}
 use Rattle.std.specs.Prelude.{All}
-use Rattle.std.specs.List.{list_all, join_with_byte, slice_split, AllByRecursion}
-use Rattle.std.proofs.lemmas.Bool.{and_parts}
+use Rattle.std.specs.List.{list_all, join_with_byte, onto_first, slice_split, AllByRecursion}
+use Rattle.std.proofs.lemmas.Bool.{and_parts, false_from_ne_true}
 use Rattle.std.proofs.lemmas.Bool.Decides.{nat_tests}
 use Rattle.std.proofs.lemmas.List.Elements.{All-from_recursion, recursion_from_All}
 use Rattle.std.proofs.lemmas.List.Splits.{slice_split_none, slice_split_at}
@@ -40,3 +40,33 @@ joined (r ∷ s ∷ names) some h =
 pub names_joined : (names : List (List ℕ)) → 0 < length names → All IsName names
     → names_in (join_with_byte 44 names) ≡ names
 names_joined names some h = joined names some (recursion_from_All IsName names h)
+
+-- ---- the first name of a text
+
+-- the first name ends at the first comma
+pub first_name : (i j : ℕ) (text : List ℕ) → i < length text → j ≡ suc i
+    → ((k : ℕ) → k < i → ¬ (is_comma (get_or text k 0) ≡ true))
+    → is_comma (get_or text i 0) ≡ true
+    → names_in text ≡ take i text ∷ names_in (drop j text)
+first_name i j [] lt e none here = absurd (omega arith)
+first_name zero j (x ∷ xs) lt e none here = rw (e, here) refl
+first_name (suc i) j (x ∷ xs) lt e none here =
+    let rest : names_in xs ≡ take i xs ∷ names_in (drop (suc i) xs) =
+    first_name i (suc i) xs (omega arith) refl (λ k h. none (suc k) (omega arith)) here in
+    let first : is_comma x ≡ false = false_from_ne_true _ (none 0 (omega arith)) in
+    rw (e, first) (ap (onto_first x) rest)
+
+without : (text : List ℕ) → ((k : ℕ) → k < length text → ¬ (is_comma (get_or text k 0) ≡ true))
+    → AllByRecursion (λ b. is_comma b ≡ false) text
+without [] none = tt
+without (x ∷ text) none = (
+  false_from_ne_true _ (none 0 (omega arith)),
+  without text (λ k h. none (suc k) (omega arith)),
+)
+
+pub only_name : (text : List ℕ)
+    → ((k : ℕ) → k < length text → ¬ (is_comma (get_or text k 0) ≡ true))
+    → names_in text ≡ text ∷ []
+only_name text none =
+    slice_split_none is_comma text
+    (All-from_recursion (λ b. is_comma b ≡ false) text (without text none))

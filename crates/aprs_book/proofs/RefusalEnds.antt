@@ -1,0 +1,48 @@
+-- The end of rows refuses what the rows refuse.
+use Rattle.std.proofs.Common.{◌≡◌, ◌∙◌, ℕ, ◌<◌, ◌==◌, false, not, ◌&&◌, ltb, List, [], ◌∷◌, ◌++◌, inl, inr, Option, None, append_assoc, refl, sym, ap}
+use Rattle.std.specs.List.{last_or, list_any}
+use Rattle.std.specs.Option.{option_map_or}
+use Rattle.std.specs.Ordering.{is_lt, is_gt, ordering_then}
+use Rattle.std.specs.declared.cmp.Ordering.{Ordering}
+use Rattle.std.specs.declared.cmp.Ordering.TheVariants.{Less, Equal, Greater}
+use Rattle.aprs_laws.specs.Key.{key_cmp}
+use Rattle.aprs_laws.specs.Row.{Row, row_key, last_of}
+use Rattle.aprs_laws.proofs.Pushes.{empty_or_last}
+use Rattle.aprs_rows.specs.Refusal.{is_of_last, is_out_of_order, is_too_near, is_ascending, is_name, refusal}
+use Rattle.aprs_rows.proofs.Refusals.{last_after, of_last_after, first_of, refused_first, free_of_none}
+use Rattle.aprs_book.specs.Keyed.{EndsUpTo, IsEndOf}
+
+same_last : (end all : List Row) → IsEndOf end all → last_or None end ≡ last_or None all
+same_last end all e = elim (empty_or_last end) [
+  | inl n ↦ ap (last_or None) (n ∙ sym (e.none n))
+  | inr t ↦ ap (last_or None) t.2 ∙ last_after None t.0 t.1
+      ∙ sym (ap (last_or None)
+      (e.split ∙ ap (λ q. e.prefix ++ q) t.2 ∙ sym (append_assoc e.prefix t.0 (t.1 ∷ [])))
+      ∙ last_after None (e.prefix ++ t.0) t.1)
+]
+
+-- where the same row is the last, the same is refused
+pub refused_at_end : (gap : ℕ) (end all : List Row) (x : Row) → IsEndOf end all
+    → refusal gap end x ≡ refusal gap all x
+refused_at_end gap end all x e =
+    refused_first gap end x
+    ∙ ap (λ o. first_of (option_map_or (λ l. is_out_of_order l x) o false) (ltb (last_of x) x.first)
+    (option_map_or (λ l. is_too_near gap l x) o false)
+    (not (is_ascending x.receivers && list_any (is_name x.greatest.receiver) x.receivers))
+    ((x.first == last_of x) && not (is_of_last (is_name x.greatest.receiver) x.receivers)))
+    (same_last end all e)
+    ∙ sym (refused_first gap all x)
+
+up_first : (o p : Ordering) → not (is_lt (ordering_then o p)) ≡ false → is_gt o ≡ false
+up_first Less p h = refl
+up_first Equal p h = refl
+up_first Greater p h = absurd (cc)
+
+-- what isn't refused has a key not below that of the last row
+pub none_ends_up_to : (gap : ℕ) (rows : List Row) (x : Row) → None ≡ refusal gap rows x
+    → EndsUpTo x rows
+none_ends_up_to gap rows x h prefix l e =
+    up_first (key_cmp (row_key l) (row_key x)) _
+    (sym (of_last_after (λ r. is_out_of_order r x) prefix l)
+    ∙ ap (is_of_last (λ r. is_out_of_order r x)) (sym e)
+    ∙ (free_of_none gap rows x (sym h)).order)

@@ -1,0 +1,7 @@
+-- The row before another, if there is one. No public clause cites this module.
+use Rattle.std.specs.Prelude.{List, [], ◌∷◌, Option, None, Some}
+
+-- the list of what there is
+abbrev pub list_of : {X : Type 0} → Option X → List X
+list_of None = []
+list_of (Some x) = x ∷ []
