@@ -10,16 +10,9 @@ use Rattle.aprs_laws.specs.BookValue.{BookValue}
 use Rattle.aprs_booktext.specs.Asking.{Takes, TakesAt, TakesAtMost}
 use Rattle.aprs_booktext.specs.FirstFault.{ending_cause, Reads, ReadsSo, most_ahead}
 use Rattle.aprs_booktext.specs.Reader.{EndsIn, IsFault}
+use Rattle.aprs_booktext.specs.Reading.{Got}
 use Rattle.aprs_booktext.specs.declared.fault.BookFault.{BookFault}
 use Rattle.aprs_booktext.proofs.Asking.{Takes-end}
-
--- what was got after the head is gone from the input, and that much less may be got
-pub record Got (P : List ℕ → Type 0) (head : List ℕ) (old now : Option (List ℕ))
-    (limit left : ℕ) : Type 0 where
-  pub got : List ℕ
-  pub stands : P (head ++ got)
-  pub took : Consumes old now got
-  pub size : length (head ++ got) + left ≡ limit
 
 pub Got-none : (P : List ℕ → Type 0) (head : List ℕ) (old : Option (List ℕ)) (limit left : ℕ)
     → P head → length head + left ≡ limit → Got P head old old limit left

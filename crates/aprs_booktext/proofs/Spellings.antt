@@ -1,10 +1,10 @@
 -- Lemmas on the fields of a row's line.
-use Rattle.std.proofs.Common.{◌≡◌, ℕ, zero, suc, ◌/◌, ◌%◌, ◌<◌, ◌≤◌, Bool, true, List, [], ◌∷◌, ◌++◌, length, get_or, Option, Some, None, Ok, ◌⊎◌, inl, inr, sym, ap, ◌∙◌, subst, arith, rules, length-append}
+use Rattle.std.proofs.Common.{◌≡◌, ℕ, zero, suc, ◌/◌, ◌%◌, ◌<◌, ◌≤◌, Bool, true, List, [], ◌∷◌, ◌++◌, length, get_or, Option, Some, None, Ok, refl, sym, ap, ◌∙◌, subst, append_assoc, arith, rules}
 use Rattle.std.specs.Prelude.{◌↔◌, All, IsTrue, codes}
 use Rattle.std.specs.List.{join_with_byte, AllByRecursion, list_all}
 use Rattle.std.proofs.lemmas.Bool.{and_parts}
 use Rattle.std.proofs.lemmas.Bool.Decides.{nat_tests}
-use Rattle.std.proofs.lemmas.List.Elements.{All-push, recursion_from_All}
+use Rattle.std.proofs.lemmas.List.Elements.{All-nil, All-push, recursion_from_All}
 use Rattle.hex.specs.Hex.{encode_lower, encode_with, lower_digits, IsBytes}
 use Rattle.aprs_log.specs.Moment.{moment_in, moment_text_in, MomentTextIn, civil_after, civil_text, fraction_text, Civil, two_digits}
 use Rattle.aprs_log.specs.declared.moment_form.MomentForm.{MomentForm}
@@ -213,21 +213,40 @@ at_middle : {X : Type 0} (P : X → Type 0) (a : List X) (x : X) (b : List X)
 at_middle P [] x b h = h.0
 at_middle P (y ∷ a) x b h = at_middle P a x b h.1
 
+-- the pieces are some names, and then these
+pub record NamesFirst (ps rest : List (List ℕ)) : Type 0 where
+  pub names : List (List ℕ)
+  pub are : All IsName names
+  pub is : ps ≡ names ++ rest
+
+pub NamesFirst-none : (ps : List (List ℕ)) → NamesFirst ps ps
+NamesFirst-none ps = record { names = []; are = All-nil IsName; is = refl }
+
+pub NamesFirst-more : (ps : List (List ℕ)) (piece : List ℕ) (rest more : List (List ℕ))
+    → NamesFirst ps rest → rest ≡ piece ∷ more → IsName piece → NamesFirst ps more
+NamesFirst-more ps piece rest more n e h = record {
+  names = n.names ++ piece ∷ [];
+  are = All-push IsName n.names piece n.are h;
+  is = n.is ∙ ap (λ r. n.names ++ r) e ∙ sym (append_assoc n.names (piece ∷ []) more);
+}
+
 -- a piece that is no name
-pub not_names : (ps : List (List ℕ)) (names : List (List ℕ)) (piece : List ℕ)
-    (more : List (List ℕ)) → ps ≡ names ++ piece ∷ more → ¬ IsName piece → ¬ All IsName ps
-not_names ps names piece more is other all = other (at_middle IsName names piece more
-    (subst (AllByRecursion IsName) is (recursion_from_All IsName ps all)))
+pub NamesFirst-not : (ps : List (List ℕ)) (piece : List ℕ) (rest more : List (List ℕ))
+    → NamesFirst ps rest → rest ≡ piece ∷ more → ¬ IsName piece → ¬ All IsName ps
+NamesFirst-not ps piece rest more n e other all = other (at_middle IsName n.names piece more
+    (subst (AllByRecursion IsName) (n.is ∙ ap (λ r. n.names ++ r) e)
+    (recursion_from_All IsName ps all)))
 
 -- the last piece decides
-pub names_decided : (ps names : List (List ℕ)) (last : List ℕ) (answer : Bool)
-    → ps ≡ names ++ last ∷ [] → All IsName names → IsTrue answer ↔ IsName last
+pub NamesFirst-last : (ps : List (List ℕ)) (last : List ℕ) (rest : List (List ℕ))
+    → NamesFirst ps rest → rest ≡ last ∷ [] → (answer : Bool) → IsTrue answer ↔ IsName last
     → IsTrue answer ↔ All IsName ps
-names_decided ps names last answer is h d = (
-  λ yes. subst (All IsName) (sym is) (All-push IsName names last h (d.0 yes)),
-  λ all. d.1 (at_middle IsName names last [] (subst (AllByRecursion IsName) is
-      (recursion_from_All IsName ps all))),
-)
+NamesFirst-last ps last rest n e answer d =
+    let is : ps ≡ n.names ++ last ∷ [] = n.is ∙ ap (λ r. n.names ++ r) e in (
+      λ yes. subst (All IsName) (sym is) (All-push IsName n.names last n.are (d.0 yes)),
+      λ all. d.1 (at_middle IsName n.names last [] (subst (AllByRecursion IsName) is
+          (recursion_from_All IsName ps all))),
+    )
 
 -- a frame is its bytes
 pub frame_is : (bytes frame : List ℕ) → frame_of bytes ≡ Ok frame → frame ≡ bytes

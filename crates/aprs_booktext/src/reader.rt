@@ -235,7 +235,7 @@ fn judge_line<A: Allocator + Copy>(
     if line.starts_with(b"END") {
         return judge_end(line, version, *count);
     }
-    add_row(store, *count, version, line)?;
+    add_row(store, *count, &version, line)?;
     *count += 1;
     Ok(Stage::Rows(version))
 }
@@ -258,12 +258,12 @@ fn judge_end(line: &[u8], version: Version, rows: usize) -> Result<Stage, BookCa
 fn add_row<A: Allocator + Copy>(
     store: &mut RowStore<A>,
     count: usize,
-    version: Version,
+    version: &Version,
     line: &[u8],
 ) -> Result<(), BookCause>
     requires { length line.now ≤ most_input }
     ensures added { (before rows : List Row) → HasRows before rows count store.old
-        → AddsRow version result rows line.now store.old store.new }
+        → AddsRow version.now result rows line.now store.old store.new }
     ensures cause { IfErr result IsOfText }
 {
     let text = match read_row(version.form(), line) {

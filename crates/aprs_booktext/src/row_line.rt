@@ -31,7 +31,10 @@ pub fn read_row(form: MomentForm, line: &[u8]) -> Result<RowText<'_>, BookCause>
     let Some(last) = read_moment(form, fields.last) else {
         return Err(BookCause::RowSyntax);
     };
-    if !are_names(fields.receivers) || !is_name(fields.receiver) {
+    if !are_names(fields.receivers) {
+        return Err(BookCause::RowSyntax);
+    }
+    if !is_name(fields.receiver) {
         return Err(BookCause::RowSyntax);
     }
     let frame = read_frame(fields.frame)?;
