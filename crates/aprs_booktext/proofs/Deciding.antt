@@ -27,7 +27,7 @@ use Rattle.aprs_laws.specs.declared.row_cause.RowCause.TheVariants as row
 use Rattle.aprs_booktext.specs.FirstFault.{FirstFault, is_end}
 use Rattle.aprs_booktext.specs.Law.{IsBookText}
 use Rattle.aprs_booktext.specs.Lines.{is_byte, Lacks, pieces}
-use Rattle.aprs_booktext.specs.Reader.{HoldsIn, IsJudgedIn, StandsAfter, is_done, line_number}
+use Rattle.aprs_booktext.specs.Reader.{HoldsIn, IsJudgedIn, StandsAfter, is_done, line_number, may_end}
 use Rattle.aprs_booktext.specs.RowFields.{SpellsBytes}
 use Rattle.aprs_booktext.specs.Text.{row_line, end_line, lines_of, book_text, most_frame_bytes, IsSpelled, IsBookRow, IsWritable}
 use Rattle.aprs_booktext.specs.Version.{form_of, gap_of, header_of}
@@ -42,7 +42,7 @@ use Rattle.aprs_booktext.proofs.Cuts.{joined_pieces, pieces_some}
 use Rattle.aprs_booktext.proofs.Digits.{decode_of-spelled}
 use Rattle.aprs_booktext.proofs.RowReading.{IsNoRow}
 use Rattle.aprs_booktext.proofs.Spellings.{frame_is, moment_found, moment_missed, moment_read, names_pieces, same_fields, six_pieces, spelled_by}
-use Rattle.aprs_booktext.proofs.Standing.{cut_fault, ended_fault, ended_stands, ended_whole, held_stands, may_end}
+use Rattle.aprs_booktext.proofs.Standing.{cut_fault, ended_fault, ended_stands, ended_whole, held_stands}
 use Rattle.aprs_booktext.proofs.Versions.{no_header}
 
 -- ---- one list, or another

@@ -1,10 +1,11 @@
 -- Lemmas on what a reader of a book holds.
-use Rattle.std.proofs.Common.{◌≡◌, ℕ, ◌+◌, ◌<◌, ◌≤◌, true, false, List, [], ◌∷◌, ◌++◌, length, map, Bool, Option, None, Some, Result, Ok, Err, ◌⊎◌, inl, inr, refl, sym, ap, ◌∙◌, subst, append_assoc, append-nil, length-append, arith}
+use Rattle.std.proofs.Common.{◌≡◌, ℕ, ◌+◌, ◌<◌, ◌≤◌, true, false, List, [], ◌∷◌, ◌++◌, length, drop, map, Bool, Option, None, Some, Result, Ok, Err, ◌⊎◌, inl, inr, refl, sym, ap, ◌∙◌, subst, append_assoc, append-nil, length-append, arith}
 use Rattle.std.specs.Prelude.{◌≢◌, All, IfNone, IfSome}
 use Rattle.std.specs.List.{last_or}
 use Rattle.std.proofs.lemmas.List.{length-map, nil_from_length}
 use Rattle.std.proofs.lemmas.List.Concat.{flat_map-append}
 use Rattle.std.proofs.lemmas.List.{map_push}
+use Rattle.std.proofs.Math.Seq.{drop-append_seam}
 use Rattle.std.proofs.lemmas.List.Elements.{All-nil, All-push}
 use Rattle.aprs_io.specs.declared.input.Ending.{Ending}
 use Rattle.aprs_io.specs.declared.input.Ending.TheVariants as ending
@@ -20,7 +21,8 @@ use Rattle.aprs_laws.specs.declared.row_cause.RowCause.TheVariants as row
 use Rattle.aprs_rows.proofs.Refusals.{none_exactly}
 use Rattle.aprs_booktext.specs.Fault.{book_cause_of}
 use Rattle.aprs_booktext.specs.FirstFault.{FirstFault, IsWrong, ending_cause, ReadsSo}
-use Rattle.aprs_booktext.specs.Reader.{HoldsIn, StandsAfter, IsFault, IsJudgedIn, HasRows, HasRowsSo, gap_in, is_done, line_number, lines_read}
+use Rattle.aprs_booktext.specs.Reader.{HoldsIn, StandsAfter, IsFault, IsJudgedIn, HasRows, HasRowsSo, gap_in, is_done, line_number, lines_read, may_end}
+use Rattle.aprs_booktext.specs.StoredRows.{rows_after}
 use Rattle.aprs_booktext.specs.Text.{row_line, end_line, lines_of, text_of_lines, ended_by_lf, book_text, IsBookRow, IsBookRows}
 use Rattle.aprs_booktext.specs.Version.{form_of, gap_of, header_of, IsVersion}
 use Rattle.aprs_booktext.specs.declared.fault.BookCause.{BookCause}
@@ -54,6 +56,12 @@ pub last_found : (rows : List Row) (o : Option Row) → IfSome o (λ x. last_or 
     → IfNone o (rows ≡ []) → last_or None rows ≡ o
 last_found rows None some none = ap (last_or None) none
 last_found rows (Some x) some none = some
+
+-- they are what came after those from before
+pub rows_stored : (before rows : List Row) (count : ℕ) (store : List Row)
+    → HasRows before rows count store → rows_after before store ≡ rows
+rows_stored before rows count store h =
+    ap (drop (length before)) h.stored ∙ drop-append_seam before rows
 
 -- ---- one more line
 
@@ -328,13 +336,10 @@ fault_near few most f t less h = elim h [
 
 -- ---- the end
 
--- whether a text may end there
-abbrev pub may_end : Stage → Ending → Bool
-may_end (Done v) ending.End = true
-may_end (Done v) ending.Read = false
-may_end (Done v) ending.TooLong = false
-may_end Header e = false
-may_end (Rows v) e = false
+pub may_end-going : (stage : Stage) (e : Ending) → is_done stage ≡ false → may_end stage e ≡ false
+may_end-going Header e going = refl
+may_end-going (Rows v) e going = refl
+may_end-going (Done v) e going = absurd (let f : true ≡ false = going in cc)
 
 pub cut_fault : (stage : Stage) (rows : List Row) (line t : List ℕ) (e : Ending)
     → may_end stage e ≡ false → StandsAfter stage rows line t

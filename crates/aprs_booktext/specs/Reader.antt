@@ -59,6 +59,14 @@ is_done Header = false
 is_done (Rows v) = false
 is_done (Done v) = true
 
+-- whether a text may end there
+abbrev pub may_end : Stage → Ending → Bool
+may_end (Done v) how.End = true
+may_end (Done v) how.Read = false
+may_end (Done v) how.TooLong = false
+may_end Header ending = false
+may_end (Rows v) ending = false
+
 -- The cause was found in the text: no read failed, and the limit wasn't passed.
 abbrev pub IsOfText : BookCause → Type 0
 IsOfText cause = (cause ≢ why.Read) × (cause ≢ why.TooLong)

@@ -14,7 +14,7 @@ ghost use Rattle.aprs_booktext.specs.StoredRows.{book_read, rows_after};
 use crate::fault::{BookCause, BookFault};
 use crate::reader::BookReader;
 use aprs_book::Gap;
-use aprs_io::{Counted, Ending, read_some};
+use aprs_io::{Counted, read_some};
 use aprs_rows::RowStore;
 use std::alloc::Allocator;
 use std::io::Read;
@@ -107,7 +107,6 @@ fn gap_at_end<R: Read, A: Allocator + Copy>(
     let mut one = [0];
     match read_some(source, &mut one, left) {
         Ok(_) => Err(reader.fault(BookCause::After)),
-        Err(Ending::End) => Ok(reader.gap()),
-        Err(ending) => Err(reader.fault_at(ending)),
+        Err(ending) => reader.finish(ending),
     }
 }

@@ -5,11 +5,12 @@ ghost use Rattle.aprs_laws.specs.Gap.{millis_of};
 ghost use Rattle.aprs_laws.specs.Row.{Row};
 ghost use Rattle.aprs_laws.specs.Sound.{IsSoundRow};
 ghost use Rattle.aprs_rows.specs.Refusal.{refusal};
-ghost use Rattle.aprs_booktext.specs.FirstFault.{ending_cause};
+ghost use Rattle.aprs_booktext.specs.FirstFault.{ending_cause, ReadsSo};
 ghost use Rattle.aprs_booktext.specs.Lines.{Lacks};
+ghost use Rattle.aprs_booktext.specs.StoredRows.{book_read};
 ghost use Rattle.aprs_booktext.specs.Text.{end_line};
 ghost use Rattle.aprs_booktext.specs.Version.{gap_of};
-ghost use Rattle.aprs_booktext.specs.Reader.{AddsRow, HasRows, HasRowsSo, IsFault, IsJudged, IsJudgedFirst, IsJudgedIn, IsOfText, gap_in, is_done, line_number, size_of, Stands};
+ghost use Rattle.aprs_booktext.specs.Reader.{AddsRow, EndsIn, HasRows, HasRowsSo, IsFault, IsJudged, IsJudgedFirst, IsJudgedIn, IsOfText, gap_in, is_done, line_number, may_end, size_of, Stands};
 
 use crate::cut::cut;
 use crate::end_line::end_line;
@@ -172,7 +173,20 @@ impl<A: Allocator + Copy> BookReader<A> {
         }
     }
 
-    /// The fault where the text ends so, before its last line.
+    /// The gap of the text's book, where the text may end so.
+    pub fn finish(&self, ending: Ending) -> Result<Gap, BookFault>
+        requires { self.now.count ≤ most_input }
+        ensures reads { (before store : List Row) (t : List ℕ) → Stands before self.now store t
+            → ReadsSo (book_read result before store) t ending }
+        ensures ending { EndsIn ending result }
+    {
+        if may_end(self.stage, ending) {
+            return Ok(self.gap());
+        }
+        Err(self.fault_at(ending))
+    }
+
+    /// The fault where the text ends so and may not.
     pub fn fault_at(&self, ending: Ending) -> BookFault
         requires { self.now.count ≤ most_input }
         ensures { result ≡ record { line = line_number self.now.stage self.now.count;
@@ -205,6 +219,13 @@ fn is_done(stage: Stage) -> bool
         Stage::Done(_) => true,
         Stage::Header | Stage::Rows(_) => false,
     }
+}
+
+/// Whether a text may end there.
+fn may_end(stage: Stage, ending: Ending) -> bool
+    ensures { result ≡ may_end stage ending }
+{
+    is_done(stage) && ending == Ending::End
 }
 
 /// What comes after the first line: rows of a text of the version that it names.
