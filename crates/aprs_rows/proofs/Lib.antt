@@ -6,3 +6,4 @@ pub mod Orders
 pub mod NameTexts
 pub mod Refusals
 pub mod Judgements
+pub mod SortedTexts

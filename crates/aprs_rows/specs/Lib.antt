@@ -1,9 +1,11 @@
 -- Definitions that contracts of rows cite.
+pub mod Groups
 pub mod Head
 pub mod Judging
 pub mod Names
 pub mod Refusal
 pub mod Rows
+pub mod Sorted
 -- what public clauses cite of lower crates
 pub use Rattle.aprs_log.specs.Reception
 pub use Rattle.aprs_laws.specs.Order

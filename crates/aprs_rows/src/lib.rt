@@ -2,6 +2,7 @@
 #![tactic(auto)]
 
 mod entry;
+mod group;
 mod head;
 mod judge;
 mod laid;
@@ -9,7 +10,9 @@ mod names;
 mod order;
 mod row_view;
 mod store;
+mod transmissions;
 
 pub use order::RowsInOrder;
 pub use row_view::RowView;
 pub use store::RowStore;
+pub use transmissions::{RowViews, Transmissions};

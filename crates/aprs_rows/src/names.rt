@@ -1,6 +1,10 @@
 //! Names of receivers in texts, gathered and united.
 ghost use Rattle.std.specs.Prelude.{◌≡◌, ◌<◌, ◌++◌, ◌∷◌, [], length, map, IfNone, IfSome, OnOk};
+ghost use Rattle.std.specs.List.{join_with_byte};
+ghost use Rattle.aprs_log.specs.Reception.{bytes_cmp};
+ghost use Rattle.aprs_laws.specs.JoinRow.{union};
 ghost use Rattle.aprs_rows.specs.Names.{names_in};
+ghost use Rattle.aprs_rows.specs.Sorted.{next_text, text_of_sorted};
 
 use aprs_joins::Memory;
 use memchr::memchr;
@@ -43,6 +47,54 @@ fn push_name<'a, A: Allocator>(
         ≡ map (λ n. n.now) names.old.items ++ name.now ∷ []) }
 {
     if names.push(name).is_err() {
+        return Err(Memory);
+    }
+    Ok(())
+}
+
+/// Puts names, each once and ascending, with commas between, after the text that is there.
+pub(crate) fn put_united<A: Allocator, B: Allocator>(
+    text: &mut Vec<u8, A>,
+    names: &mut Vec<&[u8], B>,
+) -> Result<(), Memory>
+    ensures { OnOk result (text.new.items ≡ text.old.items
+        ++ join_with_byte 44 (union bytes_cmp (map (λ n. n.now) names.old.items) [])) }
+{
+    names.sort_unstable();
+    put_sorted(text, names.as_slice())
+}
+
+/// Puts names that ascend, of equal ones one, with commas between, after the text that is there.
+fn put_sorted<A: Allocator>(text: &mut Vec<u8, A>, names: &[&[u8]]) -> Result<(), Memory>
+    ensures { OnOk result (text.new.items ≡ text.old.items
+        ++ text_of_sorted (map (λ n. n.now) names.now)) }
+{
+    let Some((first, others)) = names.split_first() else {
+        return Ok(());
+    };
+    put(text, first)?;
+    for (i, name) in others.iter().enumerate() {
+        put_next(text, names[i], name)?;
+    }
+    Ok(())
+}
+
+/// Puts a comma and the name after the text, unless the name before it is the same.
+fn put_next<A: Allocator>(text: &mut Vec<u8, A>, before: &[u8], name: &[u8]) -> Result<(), Memory>
+    ensures { OnOk result (text.new.items ≡ text.old.items ++ next_text before.now name.now) }
+{
+    if before.cmp(name).is_eq() {
+        return Ok(());
+    }
+    put(text, b",")?;
+    put(text, name)
+}
+
+/// Puts bytes after the text that is there.
+fn put<A: Allocator>(text: &mut Vec<u8, A>, bytes: &[u8]) -> Result<(), Memory>
+    ensures { OnOk result (text.new.items ≡ text.old.items ++ bytes.now) }
+{
+    if text.extend_from_slice(bytes).is_err() {
         return Err(Memory);
     }
     Ok(())

@@ -1,0 +1,37 @@
+-- Rows that are one. No public clause cites this module.
+use Rattle.std.specs.Prelude.{◌≡◌, ℕ, zero, suc, List, [], ◌∷◌, All, length, take}
+use Rattle.aprs_log.specs.Receiver.{IsName}
+use Rattle.aprs_laws.specs.Row.{Row}
+use Rattle.aprs_rows.specs.Names.{names_in}
+use Rattle.aprs_rows.specs.Rows.{rows_of, AreOf}
+use Rattle.aprs_rows.specs.declared.group.Group.{Group}
+
+-- the names of a text of so many bytes, and these where it has none
+abbrev pub names_or : ℕ → List ℕ → List (List ℕ) → List (List ℕ)
+names_or zero text names = names
+names_or (suc n) text names = names_in text
+
+-- how many bytes the text of a group has
+abbrev pub text_size : Group → ℕ
+text_size g = g.receivers
+
+-- the row of a group whose receivers have this text
+abbrev pub group_row : Group → List ℕ → Row
+group_row g text = record {
+  first = g.first;
+  receivers = names_or g.receivers text g.greatest.now.receivers;
+  greatest = g.greatest.now.greatest;
+}
+
+-- The text has as many bytes as the group says, and its names are names of receivers.
+pub record IsGroup (g : Group) (text : List ℕ) : Type 0 where
+  pub size : length text ≡ text_size g
+  pub names : All IsName (group_row g text).receivers
+
+-- the rows of groups, whose texts lie one after another
+abbrev pub rows_of_groups : List Group → List ℕ → List Row
+rows_of_groups = rows_of text_size group_row
+
+-- the text is that of the groups
+abbrev pub AreGroups : List Group → List ℕ → Type 0
+AreGroups = AreOf text_size IsGroup

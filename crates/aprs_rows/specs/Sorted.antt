@@ -1,0 +1,23 @@
+-- The text of names that ascend, of equal ones one. No public clause cites this module.
+use Rattle.std.specs.Prelude.{ℕ, List, [], ◌∷◌, ◌++◌, if◌then◌else◌}
+use Rattle.std.specs.Ordering.{is_ne}
+use Rattle.aprs_log.specs.Reception.{bytes_cmp}
+
+-- a comma and the name, unless the name before it is the same
+abbrev pub next_text : List ℕ → List ℕ → List ℕ
+next_text before n = if is_ne (bytes_cmp before n) then 44 ∷ n else []
+
+-- the names after this one, each with a comma before it, of equal ones one
+abbrev pub further : List ℕ → List (List ℕ) → List ℕ
+further before [] = []
+further before (n ∷ names) = next_text before n ++ further n names
+
+-- what comes after the first of the names
+abbrev pub after_first : List (List ℕ) → List ℕ
+after_first [] = []
+after_first (n ∷ names) = further n names
+
+-- the names with commas between, of equal ones one
+abbrev pub text_of_sorted : List (List ℕ) → List ℕ
+text_of_sorted [] = []
+text_of_sorted (n ∷ names) = n ++ further n names
