@@ -1,6 +1,7 @@
 //! The text of a book: writing it, and reading it back.
 #![tactic(auto)]
 
+mod book_of;
 mod cut;
 mod end_line;
 mod fault;
