@@ -12,7 +12,7 @@ use Rattle.aprs_rows.specs.Names.{names_in}
 use Rattle.aprs_rows.specs.Refusal.{is_of_last, is_out_of_order, is_too_near, is_ascending, is_name, refusal}
 use Rattle.aprs_rows.proofs.Refusals.{first_of, refused_first, free_of_none, next_of_free}
 
-some_names : (text : List ℕ) → 0 < length (names_in text)
+pub some_names : (text : List ℕ) → 0 < length (names_in text)
 some_names text = omega (arith, length-slice_split (λ b. b == 44) text)
 
 last_of_more : {X : Type 0} (o p : Option X) (xs : List X) → 0 < length xs

@@ -7,3 +7,4 @@ pub mod NameTexts
 pub mod Refusals
 pub mod Judgements
 pub mod SortedTexts
+pub mod Sweeps

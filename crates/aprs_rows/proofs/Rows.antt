@@ -1,8 +1,8 @@
 -- Rows of bytes, one part after another.
-use Rattle.std.proofs.Common.{◌≡◌, ◌↔◌, ◌==◌, Bool, true, ◌∙◌, ℕ, zero, suc, ◌+◌, ◌-◌, ◌≤◌, List, [], ◌∷◌, ◌++◌, length, take, drop, Option, None, Some, Result, Ok, Err, OnOk, IfOk, refl, sym, ap, subst, append_assoc, arith}
+use Rattle.std.proofs.Common.{◌≡◌, ◌↔◌, ◌==◌, Bool, true, false, inl, inr, ◌∙◌, ℕ, zero, suc, ◌+◌, ◌-◌, ◌≤◌, List, [], ◌∷◌, ◌++◌, length, take, drop, Option, None, Some, Result, Ok, Err, OnOk, IfOk, refl, sym, ap, subst, append_assoc, arith}
 use Rattle.std.proofs.Math.Seq.{take-append_seam, drop-append_seam}
 use Rattle.std.proofs.lemmas.List.{length-append, drop_all, length-take, length-drop, take_all, drop-drop, append-nil}
-use Rattle.std.specs.Prelude.{IsTrue}
+use Rattle.std.specs.Prelude.{IsTrue, if◌then◌else◌}
 use Rattle.std.specs.List.{last_or, slice_get}
 use Rattle.std.proofs.lemmas.Bool.Decides.{nat_tests}
 use Rattle.std.proofs.lemmas.List.Elements.{All-nil, All-cons}
@@ -14,7 +14,7 @@ use Rattle.aprs_laws.specs.Sound.{IsSoundRow}
 use Rattle.aprs_rows.specs.declared.entry.Entry.{Entry}
 use Rattle.aprs_laws.specs.JoinRow.{single}
 use Rattle.aprs_laws.proofs.Coalescing.{single_is_sound}
-use Rattle.aprs_rows.specs.Rows.{row_of, IsTold, size_of, entry_row, IsRowIn, rows_of, rows_in, AreOf, AreRowsIn}
+use Rattle.aprs_rows.specs.Rows.{row_of, IsTold, size_of, entry_row, IsRowIn, rows_of, rows_in, AreOf, AreRowsIn, AreSoundRows}
 use Rattle.aprs_rows.proofs.NameTexts.{name_alone}
 
 take_front : (n : ℕ) (a b : List ℕ) → n ≤ length a → take n (a ++ b) ≡ take n a
@@ -258,3 +258,14 @@ pub all_taken : (taken rows : List Row) (es all : List Entry) (bytes rest : List
 all_taken taken rows es all bytes rest i l e v =
     sym (append-nil taken)
     ∙ ap (λ (ds : List Entry). taken ++ rows_in ds rest) (sym (drop_all i es l)) ∙ e ∙ v
+
+pub if_true : {X : Type 0} (b : Bool) (x y : X) → b ≡ true → (if b then x else y) ≡ x
+if_true true x y e = refl
+if_true false x y e = absurd (cc)
+
+-- the rows of a store are sound
+pub sound_rows : (es : List Entry) (bytes : List ℕ) → AreRowsIn es bytes
+    → AreSoundRows (rows_in es bytes)
+sound_rows [] bytes a x h = absurd h
+sound_rows (e ∷ es) bytes a x (inl i) = subst (λ (r : Row). IsSoundRow r) i a.0.sound
+sound_rows (e ∷ es) bytes a x (inr h) = sound_rows es (drop (size_of e) bytes) a.1 x h

@@ -4,6 +4,7 @@ use Rattle.aprs_ax25.specs.Frame.{FrameOf}
 use Rattle.aprs_ax25.specs.FrameFault.{parts_of}
 use Rattle.aprs_log.specs.Receiver.{IsName}
 use Rattle.aprs_log.specs.Reception.{Heard}
+use Rattle.aprs_laws.specs.Lists.{◌∈◌}
 use Rattle.aprs_laws.specs.Row.{Row}
 use Rattle.aprs_laws.specs.Sound.{IsSoundRow}
 use Rattle.aprs_rows.specs.Names.{names_in}
@@ -40,6 +41,10 @@ pub record IsRowIn (e : Entry) (bytes : List ℕ) : Type 0 where
   pub sound : IsSoundRow (entry_row e bytes)
   pub told : IsTold (entry_row e bytes)
   pub info : e.info ≡ length (parts_of (entry_row e bytes).greatest.frame).info
+
+-- each of the rows is sound by itself
+abbrev pub AreSoundRows : List Row → Type 0
+AreSoundRows rows = (x : Row) → x ∈ rows → IsSoundRow x
 
 -- the rows of the bytes, one for each part, which takes so many of them
 module _ {E : Type 0} (size : E → ℕ) (row : E → List ℕ → Row) where

@@ -6,6 +6,7 @@ ghost use Rattle.aprs_log.specs.Receiver.{IsName};
 ghost use Rattle.aprs_log.specs.Reception.{heard_cmp};
 ghost use Rattle.aprs_laws.specs.Key.{key_of, key_cmp};
 ghost use Rattle.aprs_laws.specs.Row.{row_cmp, row_key, last_of};
+ghost use Rattle.aprs_laws.specs.Sound.{IsSoundRow};
 ghost use Rattle.aprs_rows.specs.Head.{head_of};
 ghost use Rattle.aprs_rows.specs.Names.{names_in};
 ghost use Rattle.aprs_rows.specs.Rows.{entry_row, IsRowIn, IsTold};
@@ -91,7 +92,9 @@ impl<'a> Laid<'a> {
 
     /// The first moment at which it was heard.
     pub(crate) fn first(&self) -> Moment
-        ensures { result ≡ self.now.first }
+        ensures value { result ≡ self.now.first }
+        ensures told { IsTold self.now }
+        ensures sound { IsSoundRow self.now }
     {
         self.entry.first
     }
@@ -107,6 +110,7 @@ impl<'a> Laid<'a> {
     pub(crate) fn receivers(&self) -> &'a [u8]
         ensures names { names_in result.now ≡ self.now.receivers }
         ensures told { IsTold self.now }
+        ensures sound { IsSoundRow self.now }
     {
         let (receivers, _) = self.bytes.split_at(self.entry.receivers as usize);
         receivers

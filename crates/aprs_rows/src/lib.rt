@@ -10,6 +10,7 @@ mod names;
 mod order;
 mod row_view;
 mod store;
+mod sweep;
 mod transmissions;
 
 pub use order::RowsInOrder;

@@ -2,9 +2,15 @@
 ghost use Rattle.std.specs.Prelude.{◌≡◌, IfOk};
 ghost use Rattle.std.specs.List.Sorted.{IsPermutation};
 ghost use Rattle.aprs_laws.specs.Coalescing.{AreInOrder};
+ghost use Rattle.aprs_laws.specs.Gap.{millis_of};
+ghost use Rattle.aprs_laws.specs.JoinRow.{coalesced};
+ghost use Rattle.aprs_rows.specs.Rows.{AreSoundRows};
 
 use crate::laid::Laid;
+use crate::sweep::Sweep;
+use crate::transmissions::Transmissions;
 use aprs_joins::Memory;
+use aprs_laws::Gap;
 use std::alloc::{Allocator, Global};
 use std::marker::Model;
 
@@ -25,12 +31,13 @@ impl<'a, A: Allocator> Model for RowsInOrder<'a, A> {
     ghost use Rattle.std.specs.Prelude.{List};
     ghost use Rattle.aprs_laws.specs.Row.{Row};
     ghost use Rattle.aprs_laws.specs.Coalescing.{AreInOrder};
+    ghost use Rattle.aprs_rows.specs.Rows.{AreSoundRows};
 
     ghost Value = { List Row };
 
     ghost view = { λ s. s.laid.items };
 
-    ghost invariant = { λ s. AreInOrder s.laid.items };
+    ghost invariant = { λ s. AreInOrder s.laid.items × AreSoundRows s.laid.items };
 }
 
 impl<'a, A: Allocator + Copy> RowsInOrder<'a, A> {
@@ -41,6 +48,7 @@ impl<'a, A: Allocator + Copy> RowsInOrder<'a, A> {
         mut laid: Vec<Laid<'a>, A>,
         has_runs: bool,
     ) -> Result<RowsInOrder<'a, A>, Memory>
+        requires sound { AreSoundRows laid.items }
         ensures same { IfOk result (λ rows. IsPermutation laid.entry.items rows) }
         ensures ordered { IfOk result AreInOrder }
     {
@@ -53,6 +61,7 @@ impl<'a, A: Allocator + Copy> RowsInOrder<'a, A> {
 
     /// These rows, put in order by a sort that takes runs as they are.
     fn of_runs(alloc: A, mut laid: Vec<Laid<'a>, A>) -> Result<RowsInOrder<'a, A>, Memory>
+        requires sound { AreSoundRows laid.items }
         ensures same { IfOk result (λ rows. IsPermutation laid.entry.items rows) }
         ensures ordered { IfOk result AreInOrder }
     {
@@ -60,5 +69,26 @@ impl<'a, A: Allocator + Copy> RowsInOrder<'a, A> {
             return Err(Memory);
         }
         Ok(RowsInOrder { alloc, laid })
+    }
+
+    /// The rows of the book of these under a gap: each row joins the one before it that it is near
+    /// to. Takes memory for each row of the book, and for the names of those that were more than
+    /// one.
+    pub fn coalesced(&self, gap: Gap) -> Result<Transmissions<'_, A>, Memory>
+        ensures { IfOk result (λ t. t
+            ≡ record { gap = gap; rows = coalesced (millis_of gap) self.now }) }
+    {
+        let Some((first, others)) = self.laid.as_slice().split_first() else {
+            return Ok(Transmissions::of(
+                gap,
+                Vec::new(self.alloc),
+                Vec::new(self.alloc),
+            ));
+        };
+        let mut sweep = Sweep::begin(self.alloc, gap, first);
+        for row in others {
+            sweep.take(row)?;
+        }
+        sweep.finish()
     }
 }

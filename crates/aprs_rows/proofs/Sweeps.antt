@@ -1,0 +1,304 @@
+-- Rows in order, taken one after another.
+use Rattle.std.proofs.Common.{◌≡◌, ◌∙◌, ℕ, zero, suc, ◌+◌, ◌-◌, ◌<◌, ◌≤◌, min, Bool, true, false, List, [], ◌∷◌, ◌++◌, ◌⊎◌, inl, inr, length, map, append_assoc, refl, sym, ap, subst, arith, Bor}
+use Rattle.std.specs.Prelude.{All, if◌then◌else◌}
+use Rattle.std.specs.List.{join_with_byte, AllByRecursion}
+use Rattle.std.specs.Ordering.{is_eq}
+use Rattle.std.specs.declared.cmp.Ordering.{Ordering}
+use Rattle.std.specs.declared.cmp.Ordering.TheVariants.{Less, Equal, Greater}
+use Rattle.std.proofs.lemmas.Bool.Decides.{nat_tests}
+use Rattle.std.proofs.lemmas.List.{append-nil, length-append, map-append}
+use Rattle.std.proofs.lemmas.List.Elements.{All-from_recursion, recursion_from_All}
+use Rattle.aprs_log.specs.Receiver.{IsName}
+use Rattle.aprs_log.specs.Reception.{bytes_cmp}
+use Rattle.aprs_laws.specs.Coalescing.{appended}
+use Rattle.aprs_laws.specs.Row.{Row}
+use Rattle.aprs_laws.specs.JoinRow.{choose, combine, greater, place, union}
+use Rattle.aprs_laws.specs.Lists.{◌∈◌, Ordered}
+use Rattle.aprs_laws.specs.Order.{IsBelow}
+use Rattle.aprs_laws.proofs.Lists.{in_left, in_right, in_either}
+use Rattle.aprs_laws.proofs.Orders.{bytes_total, bytes_exact}
+use Rattle.aprs_laws.proofs.Choices.{in_union, same_members, union_ordered}
+use Rattle.aprs_rows.specs.declared.group.Group.{Group}
+use Rattle.aprs_rows.specs.declared.sweep.Open.{Open}
+use Rattle.aprs_rows.specs.Groups.{names_or, group_row, IsGroup}
+use Rattle.aprs_rows.specs.Names.{names_in}
+use Rattle.aprs_rows.specs.Sweep.{AreGathered, gathered, HasNames, open_row, open_text}
+use Rattle.aprs_rows.proofs.NameTexts.{names_joined}
+
+abbrev Ascends : List (List ℕ) → Type 0
+Ascends names = Ordered (IsBelow bytes_cmp) names
+
+-- ---- unions of names
+
+united_alone : (xs : List (List ℕ)) → Ascends xs → union bytes_cmp xs [] ≡ xs
+united_alone xs o =
+    same_members bytes_total bytes_exact (union bytes_cmp xs []) xs
+    (union_ordered bytes_total bytes_exact xs [] tt) o
+    (λ z. (
+      λ h. elim ((in_union bytes_total bytes_exact xs [] z).0 h) [
+        | inl k ↦ k
+        | inr k ↦ absurd k
+      ],
+      λ h. (in_union bytes_total bytes_exact xs [] z).1 (inl h),
+    ))
+
+united_more : (xs ys : List (List ℕ)) → Ascends ys
+    → union bytes_cmp (xs ++ ys) [] ≡ union bytes_cmp (union bytes_cmp xs []) ys
+united_more xs ys o =
+    let u = in_union bytes_total bytes_exact in
+    same_members bytes_total bytes_exact (union bytes_cmp (xs ++ ys) [])
+    (union bytes_cmp (union bytes_cmp xs []) ys)
+    (union_ordered bytes_total bytes_exact (xs ++ ys) [] tt)
+    (union_ordered bytes_total bytes_exact (union bytes_cmp xs []) ys o)
+    (λ z. (
+      λ h. (u (union bytes_cmp xs []) ys z).1 (elim ((u (xs ++ ys) [] z).0 h) [
+        | inl k ↦ elim (in_either z xs ys k) [
+          | inl j ↦ inl ((u xs [] z).1 (inl j))
+          | inr j ↦ inr j
+        ]
+        | inr k ↦ absurd k
+      ]),
+      λ h. (u (xs ++ ys) [] z).1 (inl (elim ((u (union bytes_cmp xs []) ys z).0 h) [
+        | inl k ↦ elim ((u xs [] z).0 k) [
+          | inl j ↦ in_left z xs ys j
+          | inr j ↦ absurd j
+        ]
+        | inr k ↦ in_right z xs ys k
+      ])),
+    ))
+
+-- ---- all are names
+
+all_append : (xs ys : List (List ℕ)) → All IsName xs → All IsName ys → All IsName (xs ++ ys)
+all_append xs ys h k =
+    All-from_recursion IsName (xs ++ ys)
+    (both xs ys (recursion_from_All IsName xs h) (recursion_from_All IsName ys k)) where
+      both : (xs ys : List (List ℕ)) → AllByRecursion IsName xs → AllByRecursion IsName ys
+          → AllByRecursion IsName (xs ++ ys)
+      both [] ys h k = k
+      both (x ∷ xs) ys h k = (h.0, both xs ys h.1 k)
+
+each_name : (xs : List (List ℕ)) → AllByRecursion IsName xs → (z : List ℕ) → z ∈ xs → IsName z
+each_name [] a z h = absurd h
+each_name (x ∷ xs) a z (inl e) = subst IsName e a.0
+each_name (x ∷ xs) a z (inr h) = each_name xs a.1 z h
+
+names_each : (xs : List (List ℕ)) → ((z : List ℕ) → z ∈ xs → IsName z) → AllByRecursion IsName xs
+names_each [] f = tt
+names_each (x ∷ xs) f = (f x (inl refl), names_each xs (λ z h. f z (inr h)))
+
+united_names : (xs : List (List ℕ)) → All IsName xs → All IsName (union bytes_cmp xs [])
+united_names xs h =
+    All-from_recursion IsName (union bytes_cmp xs [])
+    (names_each (union bytes_cmp xs [])
+    (λ z k. elim ((in_union bytes_total bytes_exact xs [] z).0 k) [
+      | inl j ↦ each_name xs (recursion_from_All IsName xs h) z j
+      | inr j ↦ absurd j
+    ]))
+
+united_some : (xs : List (List ℕ)) → 0 < length xs → 0 < length (union bytes_cmp xs [])
+united_some [] h = absurd (omega (arith, h))
+united_some (x ∷ xs) h =
+    has_some (union bytes_cmp (x ∷ xs) []) x
+    ((in_union bytes_total bytes_exact (x ∷ xs) [] x).1 (inl (inl refl))) where
+      has_some : (ys : List (List ℕ)) (z : List ℕ) → z ∈ ys → 0 < length ys
+      has_some [] z h = absurd h
+      has_some (y ∷ ys) z h = omega arith
+
+-- ---- what was gathered is joined
+
+-- the names of the open rows, whether one or more
+own_names : (o : Open) (names : List (Bor (List ℕ))) → AreGathered o names
+    → union bytes_cmp
+    (gathered names ++ (if o.is_alone then o.greatest.now.receivers else [])) []
+    ≡ (open_row o names).receivers
+own_names o names a = by_test o.is_alone refl where
+  by_test : (b : Bool) → o.is_alone ≡ b
+      → union bytes_cmp (gathered names ++ (if b then o.greatest.now.receivers else [])) []
+      ≡ (if b then o.greatest.now.receivers else union bytes_cmp (gathered names) [])
+  by_test true e =
+      ap (λ (ns : List (Bor (List ℕ))). union bytes_cmp (gathered ns ++ o.greatest.now.receivers) [])
+      (a.none e)
+      ∙ united_alone o.greatest.now.receivers a.own.ascending
+  by_test false e = ap (λ ns. union bytes_cmp ns []) (append-nil (gathered names))
+
+all_names : (o : Open) (names : List (Bor (List ℕ))) → AreGathered o names
+    → All IsName (gathered names ++ (if o.is_alone then o.greatest.now.receivers else []))
+all_names o names a = by_test o.is_alone where
+  by_test : (b : Bool)
+      → All IsName (gathered names ++ (if b then o.greatest.now.receivers else []))
+  by_test true = all_append (gathered names) o.greatest.now.receivers a.each a.own.each
+  by_test false = subst (All IsName) (sym (append-nil (gathered names))) a.each
+
+-- What joining a row makes of the open ones.
+pub record JoinsOpen (o p : Open) (names more : List (Bor (List ℕ))) (x : Row) : Type 0 where
+  pub gathered_are : AreGathered p more
+  pub row_is : open_row p more ≡ combine (open_row o names) x
+
+pub joins_open : (o p : Open) (names most more : List (Bor (List ℕ))) (x : Row) (own : List (List ℕ))
+    → AreGathered o names → HasNames x
+    → gathered most ≡ gathered names ++ (if o.is_alone then o.greatest.now.receivers else [])
+    → gathered more ≡ gathered most ++ own → own ≡ x.receivers → 0 < length own
+    → p.first ≡ min o.first x.first
+    → p.greatest.now.greatest ≡ greater o.greatest.now.greatest x.greatest → p.is_alone ≡ false
+    → HasNames p.greatest.now → JoinsOpen o p names more x
+joins_open o p names most more x own a h e f own_is some first greatest alone has =
+    let extra = if o.is_alone then o.greatest.now.receivers else [] in
+    let all : gathered more ≡ (gathered names ++ extra) ++ x.receivers =
+    f ∙ (λ t. e t ++ own_is t) in
+    let united : union bytes_cmp (gathered more) []
+        ≡ union bytes_cmp (open_row o names).receivers x.receivers =
+    ap (λ ns. union bytes_cmp ns []) all
+    ∙ united_more (gathered names ++ extra) x.receivers h.ascending
+    ∙ ap (λ ns. union bytes_cmp ns x.receivers) (own_names o names a) in
+    record {
+      gathered_are = record {
+        own = has;
+        each = subst (All IsName) (sym all)
+            (all_append (gathered names ++ extra) x.receivers (all_names o names a) h.each);
+        none = λ t. absurd (let n = sym t ∙ alone in cc);
+        some = λ t. let n = length_more in omega (arith, n, some);
+      };
+      row_is = λ t. record {
+        first = first t;
+        receivers = (ap (λ b. if b then p.greatest.now.receivers else union bytes_cmp (gathered more) [])
+            alone ∙ united) t;
+        greatest = greatest t;
+      };
+    } where
+      length_more : length more ≡ length (gathered most) + length own
+      length_more = sym (length_map more) ∙ ap length f ∙ length-append (gathered most) own where
+        length_map : (ns : List (Bor (List ℕ))) → length (gathered ns) ≡ length ns
+        length_map [] = refl
+        length_map (n ∷ ns) = ap (λ k. suc k) (length_map ns)
+
+at_front : (o : Ordering) (r : Row) (a b : List Row)
+    → r ∷ choose o a b a ≡ choose o (r ∷ a) (r ∷ b) (r ∷ a)
+at_front Less r a b = refl
+at_front Equal r a b = refl
+at_front Greater r a b = refl
+
+-- ---- the open rows end
+
+text_some : (names : List (List ℕ)) → 0 < length names → All IsName names
+    → 0 < length (join_with_byte 44 names)
+text_some [] h a = absurd (omega (arith, h))
+text_some (x ∷ names) h a = longer x names (name_some x (recursion_from_All IsName (x ∷ names) a).0)
+  where
+    name_some : (r : List ℕ) → IsName r → 0 < length r
+    name_some r n = grind (arith, nat_tests)
+
+    longer : (r : List ℕ) (ns : List (List ℕ)) → 0 < length r
+        → 0 < length (join_with_byte 44 (r ∷ ns))
+    longer [] ns k = absurd (omega (arith, k))
+    longer (b ∷ r) [] k = omega arith
+    longer (b ∷ r) (n ∷ ns) k = omega arith
+
+names_of_text : (n : ℕ) (text : List ℕ) (own : List (List ℕ)) → 0 < n
+    → names_or n text own ≡ names_in text
+names_of_text zero text own h = absurd (omega (arith, h))
+names_of_text (suc n) text own h = refl
+
+-- What the group of the open rows is.
+pub record EndsOpen (o : Open) (g : Group) (text : List ℕ) (row : Row) : Type 0 where
+  pub group : IsGroup g text
+  pub row_is : group_row g text ≡ row
+
+ends_alone : (o : Open) (g : Group) → HasNames o.greatest.now → g.first ≡ o.first
+    → g.receivers ≡ 0 → g.greatest.now ≡ o.greatest.now
+    → EndsOpen o g [] (record {
+      first = o.first;
+      receivers = o.greatest.now.receivers;
+      greatest = o.greatest.now.greatest;
+    })
+ends_alone o g h first size greatest =
+    let is : names_or g.receivers [] g.greatest.now.receivers ≡ o.greatest.now.receivers =
+    ap (λ n. names_or n [] g.greatest.now.receivers) size ∙ (λ t. (greatest t).receivers) in
+    record {
+      group = record { size = sym size; names = subst (All IsName) (sym is) h.each };
+      row_is = λ t. record {
+        first = first t;
+        receivers = is t;
+        greatest = (greatest t).greatest;
+      };
+    }
+
+ends_united : (o : Open) (g : Group) (names : List (List ℕ)) → 0 < length names
+    → All IsName names → g.first ≡ o.first → g.receivers ≡ length (join_with_byte 44 names)
+    → g.greatest.now ≡ o.greatest.now
+    → EndsOpen o g (join_with_byte 44 names) (record {
+      first = o.first;
+      receivers = names;
+      greatest = o.greatest.now.greatest;
+    })
+ends_united o g names some h first size greatest =
+    let text = join_with_byte 44 names in
+    let is : names_or g.receivers text g.greatest.now.receivers ≡ names =
+    names_of_text g.receivers text g.greatest.now.receivers
+    (let n = text_some names some h in omega (arith, n, size))
+    ∙ names_joined names some h in
+    record {
+      group = record { size = sym size; names = subst (All IsName) (sym is) h };
+      row_is = λ t. record {
+        first = first t;
+        receivers = is t;
+        greatest = (greatest t).greatest;
+      };
+    }
+
+pub ends_open : (o : Open) (g : Group) (names : List (Bor (List ℕ))) → AreGathered o names
+    → g.first ≡ o.first → g.receivers ≡ length (open_text o names)
+    → g.greatest.now ≡ o.greatest.now → EndsOpen o g (open_text o names) (open_row o names)
+ends_open o g names a first size greatest = by_test o.is_alone refl size where
+  by_test : (b : Bool) → o.is_alone ≡ b
+      → g.receivers
+      ≡ length (if b then [] else join_with_byte 44 (union bytes_cmp (gathered names) []))
+      → EndsOpen o g (if b then [] else join_with_byte 44 (union bytes_cmp (gathered names) []))
+      (record {
+        first = o.first;
+        receivers = if b then o.greatest.now.receivers else union bytes_cmp (gathered names) [];
+        greatest = o.greatest.now.greatest;
+      })
+  by_test true e k = ends_alone o g a.own first k greatest
+  by_test false e k =
+      ends_united o g (union bytes_cmp (gathered names) [])
+      (united_some (gathered names) (some_gathered names (a.some e)))
+      (united_names (gathered names) a.each) first k greatest
+    where
+      some_gathered : (ns : List (Bor (List ℕ))) → 0 < length ns → 0 < length (gathered ns)
+      some_gathered [] h = h
+      some_gathered (n ∷ ns) h = omega arith
+
+-- ---- the next row
+
+pub appended_last : (gap : ℕ) (done : List Row) (l x : Row)
+    → appended gap (done ++ l ∷ []) x
+    ≡ choose (place gap l x) (done ++ l ∷ x ∷ []) (done ++ combine l x ∷ []) (done ++ l ∷ x ∷ [])
+appended_last gap [] l x = refl
+appended_last gap (d ∷ []) l x = at_front (place gap l x) d (l ∷ x ∷ []) (combine l x ∷ [])
+appended_last gap (d ∷ e ∷ done) l x =
+    ap (λ rows. d ∷ rows) (appended_last gap (e ∷ done) l x)
+    ∙ at_front (place gap l x) d ((e ∷ done) ++ l ∷ x ∷ []) ((e ∷ done) ++ combine l x ∷ [])
+
+pub joins_last : (gap : ℕ) (done : List Row) (l x : Row) → is_eq (place gap l x) ≡ true
+    → done ++ combine l x ∷ [] ≡ appended gap (done ++ l ∷ []) x
+joins_last gap done l x e =
+    sym (appended_last gap done l x ∙ near (place gap l x) e) where
+      near : (o : Ordering) → is_eq o ≡ true
+          → choose o (done ++ l ∷ x ∷ []) (done ++ combine l x ∷ []) (done ++ l ∷ x ∷ [])
+          ≡ done ++ combine l x ∷ []
+      near Less e = absurd (cc)
+      near Equal e = refl
+      near Greater e = absurd (cc)
+
+pub follows_last : (gap : ℕ) (done : List Row) (l x : Row) → is_eq (place gap l x) ≡ false
+    → (done ++ l ∷ []) ++ x ∷ [] ≡ appended gap (done ++ l ∷ []) x
+follows_last gap done l x e =
+    append_assoc done (l ∷ []) (x ∷ [])
+    ∙ sym (appended_last gap done l x ∙ far (place gap l x) e) where
+      far : (o : Ordering) → is_eq o ≡ false
+          → choose o (done ++ l ∷ x ∷ []) (done ++ combine l x ∷ []) (done ++ l ∷ x ∷ [])
+          ≡ done ++ l ∷ x ∷ []
+      far Less e = refl
+      far Equal e = absurd (cc)
+      far Greater e = refl

@@ -1,0 +1,50 @@
+-- Rows of a store, taken one after another. No public clause cites this module.
+use Rattle.std.specs.Prelude.{◌≡◌, ℕ, ◌<◌, Bool, true, false, List, [], ◌∷◌, ◌++◌, All, length, map, if◌then◌else◌}
+use Rattle.std.specs.List.{join_with_byte}
+use Rattle.std.specs.Borrow.{Bor}
+use Rattle.aprs_log.specs.Receiver.{IsName}
+use Rattle.aprs_log.specs.Reception.{bytes_cmp}
+use Rattle.aprs_laws.specs.Lists.{Ordered}
+use Rattle.aprs_laws.specs.Order.{IsBelow}
+use Rattle.aprs_laws.specs.Row.{Row}
+use Rattle.aprs_laws.specs.JoinRow.{union}
+use Rattle.aprs_rows.specs.Groups.{rows_of_groups, AreGroups}
+use Rattle.aprs_rows.specs.declared.sweep.Open.{Open}
+use Rattle.aprs_rows.specs.declared.sweep.Sweep.{Sweep}
+
+-- the names that were gathered
+abbrev pub gathered : List (Bor (List ℕ)) → List (List ℕ)
+gathered names = map (λ n. n.now) names
+
+-- the row that open rows are, with the names that were gathered if they are more than one
+abbrev pub open_row : Open → List (Bor (List ℕ)) → Row
+open_row o names = record {
+  first = o.first;
+  receivers = if o.is_alone then o.greatest.now.receivers else union bytes_cmp (gathered names) [];
+  greatest = o.greatest.now.greatest;
+}
+
+-- the text of the names that were gathered, if the open rows are more than one
+abbrev pub open_text : Open → List (Bor (List ℕ)) → List ℕ
+open_text o names =
+    if o.is_alone then [] else join_with_byte 44 (union bytes_cmp (gathered names) [])
+
+-- The receivers of a row have names, which ascend.
+pub record HasNames (x : Row) : Type 0 where
+  pub each : All IsName x.receivers
+  pub ascending : Ordered (IsBelow bytes_cmp) x.receivers
+
+-- Names are gathered of open rows, some if they are more than one, and none else.
+pub record AreGathered (o : Open) (names : List (Bor (List ℕ))) : Type 0 where
+  pub own : HasNames o.greatest.now
+  pub each : All IsName (gathered names)
+  pub none : o.is_alone ≡ true → names ≡ []
+  pub some : o.is_alone ≡ false → 0 < length names
+
+module _ {A : Type 0} where
+  -- The rows are those of the groups, and then the open one.
+  pub record Stands (s : Sweep A) (rows : List Row) : Type 0 where
+    pub groups : AreGroups s.groups.items s.texts.items
+    pub gathered : AreGathered s.open s.names.items
+    pub rows_are : rows_of_groups s.groups.items s.texts.items
+        ++ open_row s.open s.names.items ∷ [] ≡ rows

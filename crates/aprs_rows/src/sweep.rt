@@ -1,0 +1,205 @@
+//! Rows in order, taken one after another.
+ghost use Rattle.std.specs.Prelude.{◌≡◌, if◌then◌else◌, ℕ, ◌++◌, ◌∷◌, [], false, true, min, List, OnOk, IfOk};
+ghost use Rattle.std.specs.Ordering.{is_eq};
+ghost use Rattle.std.specs.Borrow.{Bor};
+ghost use Rattle.aprs_laws.specs.Coalescing.{appended};
+ghost use Rattle.aprs_laws.specs.Gap.{IsGap, millis_of};
+ghost use Rattle.aprs_laws.specs.JoinRow.{combine, greater, place};
+ghost use Rattle.aprs_laws.specs.Row.{Row};
+ghost use Rattle.aprs_laws.specs.Sound.{Sound};
+ghost use Rattle.aprs_rows.specs.Groups.{rows_of_groups, AreGroups};
+ghost use Rattle.aprs_rows.specs.Sweep.{AreGathered, gathered, HasNames, open_row, open_text, Stands};
+
+use crate::group::Group;
+use crate::laid::Laid;
+use crate::names::{gather, put_united};
+use crate::transmissions::Transmissions;
+use aprs_joins::Memory;
+use aprs_laws::Gap;
+use aprs_log::Moment;
+use std::alloc::Allocator;
+
+/// Rows that are one, while others may still come: the first moment of all, the row that has the
+/// greatest reception, and whether that is the only one.
+#[derive(Drop)]
+pub(crate) struct Open<'a> {
+    first: Moment,
+    greatest: &'a Laid<'a>,
+    is_alone: bool,
+}
+
+impl<'a> Open<'a> {
+    /// The row alone.
+    fn of(row: &'a Laid<'a>) -> Open<'a>
+        ensures row { (names : List (Bor (List ℕ))) → open_row result names ≡ row.now }
+        ensures alone { result.is_alone ≡ true }
+        ensures own { HasNames result.greatest.now }
+    {
+        Open {
+            first: row.first(),
+            greatest: row,
+            is_alone: true,
+        }
+    }
+
+    /// Whether a row is near to these.
+    fn is_near(&self, gap: Gap, row: &Laid<'_>) -> bool
+        ensures { (names : List (Bor (List ℕ)))
+            → result ≡ is_eq (place (millis_of gap) (open_row self.now names) row.now) }
+    {
+        let gap = gap.seconds() * 1000;
+        self.greatest.key_order(row).is_eq()
+            && row.first().millis() <= self.greatest.last().millis() + gap
+            && self.first.millis() <= row.last().millis() + gap
+    }
+
+    /// Takes a row to these.
+    fn grow(&mut self, row: &'a Laid<'a>)
+        ensures first { self.new.first ≡ min self.old.first row.now.first }
+        ensures greatest { self.new.greatest.now.greatest
+            ≡ greater self.old.greatest.now.greatest row.now.greatest }
+        ensures alone { self.new.is_alone ≡ false }
+        ensures own { HasNames self.old.greatest.now → HasNames self.new.greatest.now }
+    {
+        if row.first().millis() < self.first.millis() {
+            self.first = row.first();
+        }
+        if self.greatest.heard_order(row).is_lt() {
+            self.greatest = row;
+        }
+        self.is_alone = false;
+    }
+}
+
+/// What was made of the rows up to here: groups that have ended, with their texts, and those rows
+/// that are open, with the names of their receivers if they are more than one.
+#[derive(Drop)]
+pub(crate) struct Sweep<'a, A: Allocator> {
+    gap: Gap,
+    groups: Vec<Group<'a>, A>,
+    texts: Vec<u8, A>,
+    open: Open<'a>,
+    names: Vec<&'a [u8], A>,
+}
+
+impl<'a, A: Allocator + Copy> Sweep<'a, A> {
+    /// One row.
+    pub(crate) fn begin(alloc: A, gap: Gap, row: &'a Laid<'a>) -> Sweep<'a, A>
+        ensures stands { Stands result (row.now ∷ []) }
+        ensures gap { result.gap ≡ gap }
+        ensures range { IsGap gap }
+    {
+        Sweep {
+            gap,
+            groups: Vec::new(alloc),
+            texts: Vec::new(alloc),
+            open: Open::of(row),
+            names: Vec::new(alloc),
+        }
+    }
+
+    /// Takes the next row.
+    pub(crate) fn take(&mut self, row: &'a Laid<'a>) -> Result<(), Memory>
+        ensures stands { (rows : List Row) → Stands self.old rows
+            → OnOk result (Stands self.new (appended (millis_of self.old.gap) rows row.now)) }
+        ensures gap { OnOk result (self.new.gap ≡ self.old.gap) }
+    {
+        if self.open.is_near(self.gap, row) {
+            return self.join(row);
+        }
+        close(&mut self.groups, &mut self.texts, &self.open, &mut self.names)?;
+        self.open = Open::of(row);
+        Ok(())
+    }
+
+    /// The book of the rows, which are sound.
+    pub(crate) fn finish(self) -> Result<Transmissions<'a, A>, Memory>
+        requires sound { (rows : List Row) × Stands self rows × Sound (millis_of self.gap) rows }
+        ensures { (rows : List Row) → Stands self.entry rows
+            → IfOk result (λ t. t ≡ record { gap = self.entry.gap; rows = rows }) }
+    {
+        let Sweep {
+            gap,
+            mut groups,
+            mut texts,
+            open,
+            mut names,
+        } = self;
+        close(&mut groups, &mut texts, &open, &mut names)?;
+        Ok(Transmissions::of(gap, groups, texts))
+    }
+
+    /// Takes a row that is near to the open ones.
+    fn join(&mut self, row: &'a Laid<'a>) -> Result<(), Memory>
+        ensures groups { self.new.groups ≡ self.old.groups }
+        ensures texts { self.new.texts ≡ self.old.texts }
+        ensures gap { self.new.gap ≡ self.old.gap }
+        ensures joined { AreGathered self.old.open self.old.names.items
+            → OnOk result (AreGathered self.new.open self.new.names.items
+            × (open_row self.new.open self.new.names.items
+            ≡ combine (open_row self.old.open self.old.names.items) row.now)) }
+    {
+        gather_alone(&mut self.names, &self.open)?;
+        gather(&mut self.names, row.receivers())?;
+        self.open.grow(row);
+        Ok(())
+    }
+}
+
+/// Gathers the names of an open row that is alone; those of more are gathered.
+fn gather_alone<'a, A: Allocator>(
+    names: &mut Vec<&'a [u8], A>,
+    open: &Open<'a>,
+) -> Result<(), Memory>
+    ensures { OnOk result (gathered names.new.items
+        ≡ gathered names.old.items
+        ++ (if open.now.is_alone then open.now.greatest.now.receivers else [])) }
+{
+    if open.is_alone {
+        return gather(names, open.greatest.receivers());
+    }
+    Ok(())
+}
+
+/// Ends the open rows: they are a group after the others.
+fn close<'a, A: Allocator>(
+    groups: &mut Vec<Group<'a>, A>,
+    texts: &mut Vec<u8, A>,
+    open: &Open<'a>,
+    names: &mut Vec<&'a [u8], A>,
+) -> Result<(), Memory>
+    ensures closed { AreGathered open.now names.old.items → AreGroups groups.old.items texts.old.items
+        → OnOk result (AreGroups groups.new.items texts.new.items
+        × (rows_of_groups groups.new.items texts.new.items
+        ≡ rows_of_groups groups.old.items texts.old.items
+        ++ open_row open.now names.old.items ∷ [])) }
+    ensures names { OnOk result (names.new.items ≡ []) }
+{
+    let before = texts.len();
+    put_names(texts, open, names)?;
+    let group = Group {
+        first: open.first,
+        receivers: texts.len() - before,
+        greatest: open.greatest,
+    };
+    if groups.push(group).is_err() {
+        return Err(Memory);
+    }
+    names.clear();
+    Ok(())
+}
+
+/// Puts the text of the names of open rows after the texts of others, if they are more than one.
+fn put_names<A: Allocator>(
+    texts: &mut Vec<u8, A>,
+    open: &Open<'_>,
+    names: &mut Vec<&[u8], A>,
+) -> Result<(), Memory>
+    ensures { OnOk result
+        (texts.new.items ≡ texts.old.items ++ open_text open.now names.old.items) }
+{
+    if open.is_alone {
+        return Ok(());
+    }
+    put_united(texts, names)
+}
