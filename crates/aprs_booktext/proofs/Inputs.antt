@@ -10,7 +10,7 @@ use Rattle.aprs_io.specs.declared.input.Ending.{Ending}
 use Rattle.aprs_io.specs.declared.input.Ending.TheVariants as ending
 use Rattle.aprs_laws.specs.BookValue.{BookValue}
 use Rattle.aprs_laws.specs.Row.{Row}
-use Rattle.aprs_booktext.specs.StoredRows.{book_read}
+use Rattle.aprs_booktext.specs.StoredRows.{book_read, rows_after}
 use Rattle.aprs_booktext.specs.Asking.{Takes, TakesAt, TakesAtMost}
 use Rattle.aprs_booktext.specs.FirstFault.{ending_cause, Reads, ReadsSo, most_ahead}
 use Rattle.aprs_booktext.specs.Reader.{EndsIn, IsFault, IsOfText}
@@ -26,6 +26,12 @@ Got-none P head old limit left p size = record {
   took = Consumes-nil old;
   size = ap (λ l. length l + left) (append-nil head) ∙ size;
 }
+
+pub Got-weaker : (P Q : List ℕ → Type 0) (head : List ℕ) (old now : Option (List ℕ))
+    (limit left : ℕ) → ((t : List ℕ) → P t → Q t) → Got P head old now limit left
+    → Got Q head old now limit left
+Got-weaker P Q head old now limit left step p =
+    record { got = p.got; stands = step (head ++ p.got) p.stands; took = p.took; size = p.size }
 
 module _ (P : List ℕ → Type 0) (head : List ℕ) (old now : Option (List ℕ)) (limit left : ℕ)
     (p : Got P head old now limit left) where
@@ -183,3 +189,15 @@ pub EndsIn-book : (e : Ending) (r : Result ℕ BookFault) (old new : List Row) �
     → EndsIn e (book_read r old new)
 EndsIn-book e (Ok gap) old new is = is
 EndsIn-book e (Err f) old new is = is
+
+-- what is answered of all the rows of a store is a book
+pub answer_book : {R : Type 0} (remaining : R → Option (List ℕ)) (limit : ℕ) (head : List ℕ)
+    (old store : List Row) (gap : ℕ) (book : BookValue) (a c : Counted R)
+    → old ≡ [] → book ≡ record { gap = gap; rows = store }
+    → IsAnswered remaining limit head
+    (Ok (record { gap = gap; rows = rows_after old store })) a c
+    → IsAnswered remaining limit head (Ok book) a c
+answer_book remaining limit head old store gap book a c none is answer =
+    subst (λ (x : Result BookValue BookFault). IsAnswered remaining limit head x a c)
+    (ap (λ (o : List Row). Ok (record { gap = gap; rows = rows_after o store })) none
+    ∙ ap Ok (sym is)) answer

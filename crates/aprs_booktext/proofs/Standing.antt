@@ -175,7 +175,7 @@ ended_stands (Done v) next old new line t j s =
 
 -- ---- faults
 
-number_is : (stage : Stage) (rows : List Row)
+pub number_is : (stage : Stage) (rows : List Row)
     → line_number stage (length rows) ≡ length (lines_read stage rows) + 1
 number_is Header rows = refl
 number_is (Rows v) rows = omega (arith, length-map rows (row_line (form_of v)))

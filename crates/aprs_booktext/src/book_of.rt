@@ -3,17 +3,32 @@ ghost use Rattle.std.specs.Prelude.{◌≡◌, ◌++◌, ◌∷◌, [], All, IfO
 ghost use Rattle.aprs_ax25.specs.Frame.{FrameOf};
 ghost use Rattle.aprs_ax25.specs.FrameFault.{parts_of};
 ghost use Rattle.aprs_log.specs.Receiver.{IsName};
+ghost use Rattle.aprs_laws.specs.BookValue.{IsSoundBook};
 ghost use Rattle.aprs_rows.specs.Names.{names_in};
 
 use crate::cut::cut;
 use aprs_ax25::Frame;
-use aprs_book::{Book, Memory, ReceiverList, RowCause, RowParts};
+use aprs_book::{Book, Gap, Memory, ReceiverList, RowCause, RowParts};
 use aprs_log::Receiver;
-use aprs_rows::{RowView, Transmissions};
+use aprs_rows::{RowStore, RowView, Transmissions};
 use std::alloc::Allocator;
 
+/// The book of the rows of a store, which are those of a book with this gap.
+pub fn book_in<A: Allocator + Copy>(
+    alloc: A,
+    gap: Gap,
+    store: &RowStore<A>,
+) -> Result<Book<A>, Memory>
+    requires { IsSoundBook (record { gap = gap; rows = store.now }) }
+    ensures { IfOk result (λ book. book ≡ record { gap = gap; rows = store.now }) }
+{
+    let order = store.in_order()?;
+    let rows = order.coalesced(gap)?;
+    book_of(alloc, &rows)
+}
+
 /// The book of these rows, in memory of its own.
-pub fn book_of<A: Allocator + Copy>(
+fn book_of<A: Allocator + Copy>(
     alloc: A,
     rows: &Transmissions<'_, A>,
 ) -> Result<Book<A>, Memory>

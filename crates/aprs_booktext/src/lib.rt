@@ -21,7 +21,7 @@ pub use laws::{
     book_texts_are_of_sets, each_book_has_one_text, each_text_has_one_fault_or_none,
     old_moments_are_told_to_the_second, read_books_are_written_back, written_books_are_read,
 };
-pub use read::read_rows;
+pub use read::{read_book, read_rows};
 pub use version::Version;
 pub use write::write_book;
 pub use write_pile::write_rows;

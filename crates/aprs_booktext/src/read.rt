@@ -6,14 +6,15 @@ ghost use Rattle.aprs_io.specs.declared.device.Counted.{Counted as CountedValue}
 ghost use Rattle.aprs_laws.specs.Row.{Row};
 ghost use Rattle.aprs_booktext.specs.Asking.{Asks, Takes};
 ghost use Rattle.aprs_booktext.specs.FirstFault.{AcceptsBook, Reads};
-ghost use Rattle.aprs_booktext.specs.Reader.{is_done, size_of, Stands};
+ghost use Rattle.aprs_booktext.specs.Reader.{gap_in, is_done, size_of, Stands};
 ghost use Rattle.aprs_booktext.specs.Reading.{Got, IsAnswered};
 ghost use Rattle.aprs_booktext.specs.Seconds.{ReadsSeconds};
 ghost use Rattle.aprs_booktext.specs.StoredRows.{book_read, rows_after};
 
+use crate::book_of::book_in;
 use crate::fault::{BookCause, BookFault};
 use crate::reader::BookReader;
-use aprs_book::Gap;
+use aprs_book::{Book, Gap};
 use aprs_io::{Counted, read_some};
 use aprs_rows::RowStore;
 use std::alloc::Allocator;
@@ -21,6 +22,46 @@ use std::io::Read;
 
 /// How many bytes are asked of the reader at once.
 const CHUNK: usize = 16_384;
+
+/// Reads a book from its text, which begins with `head` and goes on with the bytes of `source`, to
+/// the end. The first line is `APRSBOOK 1`, and moments are written to the second (20 bytes each),
+/// or `APRSBOOK 2` or `APRSBOOK 3 G`, and they are written to the millisecond (24 bytes each). The
+/// book's gap is G seconds, 1 to 3,600 in decimal with no zero before it; in versions 1 and 2 it is
+/// 30 seconds. Reading takes at most `limit` bytes, the head among them. Requires a limit of at
+/// most `MAX_INPUT` (1,073,741,824) and a head of at most 8 bytes and at most `limit`. A fault is
+/// the text's first, with the number of its line; `Memory` comes instead where an allocation failed
+/// before that fault, with the number of the line that was being read. Holds one line and the rows
+/// in bytes, as `read_rows` does, and then the book beside them.
+pub fn read_book<R: Read, A: Allocator + Copy>(
+    alloc: A,
+    limit: u64,
+    head: &[u8],
+    source: &mut Counted<R>,
+) -> Result<Book<A>, BookFault>
+    requires limit { limit ≤ most_input }
+    requires head { length head.now ≤ 8 }
+    requires within { length head.now ≤ limit }
+    ensures reads { IfSome (R.remaining (device_of source.old))
+        (λ input. Reads limit head.now input (R.remaining (device_of source.new)) result) }
+    ensures accepts { IfSome (R.remaining (device_of source.old))
+        (λ input. AcceptsBook limit (head.now ++ input) result
+        (Rose (failures_of source.old) (failures_of source.new))) }
+    ensures seconds { IfSome (R.remaining (device_of source.old))
+        (λ input. ReadsSeconds (head.now ++ input) result) }
+    // The reader is asked neither after its end nor after a fault.
+    ensures calls { Asks result source.old source.new }
+    ensures over { IfSome (R.remaining (device_of source.old)) (λ input. Takes result
+        (limit - length head.now) input (R.remaining (device_of source.new))) }
+{
+    let mut store = RowStore::new(alloc);
+    let mut reader = BookReader::new(alloc);
+    let left = read_lines(limit, head, source, &mut reader, &mut store)?;
+    let Ok(book) = book_in(alloc, reader.gap(), &store) else {
+        return Err(reader.refusal_at_last());
+    };
+    gap_at_end(left, source, &reader)?;
+    Ok(book)
+}
 
 /// Reads the rows of a book from its text, as `read_book` does, into a store, after the rows that
 /// are there, and gives the book's gap. After a fault anything may be there. Holds the store and
@@ -99,7 +140,8 @@ fn gap_at_end<R: Read, A: Allocator + Copy>(
 ) -> Result<Gap, BookFault>
     requires few { reader.now.count ≤ most_input }
     requires done { is_done reader.now.stage ≡ true }
-    ensures { (before store : List Row) (head : List ℕ) (first : CountedValue R) (limit : ℕ)
+    ensures gap { IfOk result (λ gap. gap ≡ gap_in reader.now.stage) }
+    ensures answer { (before store : List Row) (head : List ℕ) (first : CountedValue R) (limit : ℕ)
         → Got (Stands before reader.now store) head (R.remaining (device_of first))
         (R.remaining (device_of source.old)) limit left → Calls Going first source.old
         → IsAnswered R.remaining limit head (book_read result before store) first source.new }

@@ -1,5 +1,5 @@
 //! A book's text, while it is read.
-ghost use Rattle.std.specs.Prelude.{◌≡◌, ◌≢◌, ◌+◌, ◌≤◌, ◌++◌, ◌∷◌, ℕ, [], true, List, length, OnOk, OnErr, MatchResult, IfErr, IfNone};
+ghost use Rattle.std.specs.Prelude.{◌≡◌, ◌≢◌, ◌+◌, ◌≤◌, ◌++◌, ◌∷◌, ℕ, [], true, List, length, OnOk, OnErr, MatchResult, IfErr, IfNone, IfOk};
 ghost use Rattle.aprs_io.specs.Input.{most_input};
 ghost use Rattle.aprs_laws.specs.Gap.{millis_of};
 ghost use Rattle.aprs_laws.specs.Row.{Row};
@@ -179,6 +179,7 @@ impl<A: Allocator + Copy> BookReader<A> {
         ensures reads { (before store : List Row) (t : List ℕ) → Stands before self.now store t
             → ReadsSo (book_read result before store) t ending }
         ensures ending { EndsIn ending result }
+        ensures gap { IfOk result (λ gap. gap ≡ gap_in self.now.stage) }
     {
         if may_end(self.stage, ending) {
             return Ok(self.gap());
@@ -193,6 +194,17 @@ impl<A: Allocator + Copy> BookReader<A> {
             cause = ending_cause ending } }
     {
         self.fault(ending_cause(ending))
+    }
+
+    /// The fault where memory is refused after the last line was read: it is that line's.
+    pub fn refusal_at_last(&self) -> BookFault
+        requires { self.now.count ≤ most_input }
+        ensures { result ≡ record { line = self.now.count + 2; cause = BookCause.Memory } }
+    {
+        BookFault {
+            line: self.count as u64 + 2,
+            cause: BookCause::Memory,
+        }
     }
 
     /// A fault of this cause in the line that is read.

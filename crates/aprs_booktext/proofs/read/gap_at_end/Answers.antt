@@ -6,8 +6,8 @@ use Rattle.aprs_booktext.proofs.Inputs.{EndsIn-book, Got-more, IsAnswered-end, I
 use Rattle.aprs_booktext.proofs.Standing.{after_fault, fault_near}
 use Rattle.aprs_booktext.proofs.read.gap_at_end.Goals as goal
 
-pub returns-in-Ok : goal.returns-in-Ok
-returns-in-Ok g c = λ before store head first limit got calls.
+pub returns-in-Ok-clause-answer : goal.returns-in-Ok-clause-answer
+returns-in-Ok-clause-answer g c = λ before store head first limit got calls.
     let n = c.in-Ok.field-0 in
     let some = c.in-Ok.ensures.some in
     let piece = take n c.read_some.new.room in
@@ -21,8 +21,8 @@ returns-in-Ok g c = λ before store head first limit got calls.
     (after_fault _ _ _ t piece [] c.requires.done (omega (arith, size, some)) s.holds))))
     c.in-Ok.ensures.bytes (omega (arith, size, some))))
 
-pub returns-in-Err : goal.returns-in-Err
-returns-in-Err g c = λ before store head first limit got calls.
+pub returns-in-Err-clause-answer : goal.returns-in-Err-clause-answer
+returns-in-Err-clause-answer g c = λ before store head first limit got calls.
     IsAnswered-end _ limit head first _ _ calls _ _ c.in-Err.ending _ got
     (EndsIn-book _ c.finish.result before store c.finish.ensures.ending)
     c.in-Err.ensures.end c.in-Err.ensures.over c.in-Err.ensures.calls

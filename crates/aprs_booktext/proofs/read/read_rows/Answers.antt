@@ -10,10 +10,10 @@ returns-in_err-left-clause-accepts g c =
 
 pub returns-clause-accepts : goal.returns-clause-accepts
 returns-clause-accepts g c = answer_accepts _ c.args.limit c.args.head.now _ _ _ c.requires.limit
-    (c.gap_at_end.ensures c.args.store.now c.read_lines.new.store c.args.head.now
+    (c.gap_at_end.ensures.answer c.args.store.now c.read_lines.new.store c.args.head.now
     c.args.source.now c.args.limit c.in_ok-left.ensures.got c.in_ok-left.ensures.going)
 
 pub returns-clause-seconds : goal.returns-clause-seconds
 returns-clause-seconds g c = answer_seconds _ c.args.limit c.args.head.now _ _ _ c.requires.limit
-    (c.gap_at_end.ensures c.args.store.now c.read_lines.new.store c.args.head.now
+    (c.gap_at_end.ensures.answer c.args.store.now c.read_lines.new.store c.args.head.now
     c.args.source.now c.args.limit c.in_ok-left.ensures.got c.in_ok-left.ensures.going)
