@@ -3,6 +3,8 @@ use Rattle.std.proofs.Common.{◌≡◌, ℕ, ◌+◌, ◌*◌, ◌/◌, ◌%◌
 use Rattle.std.proofs.lemmas.List.{length-map}
 use Rattle.std.proofs.lemmas.List.Elements.{All-weaker}
 use Rattle.std.proofs.lemmas.Result.{IfErr-weaker}
+use Rattle.aprs_io.specs.Device.{Rose}
+use Rattle.aprs_io.specs.declared.device.Counted.{Counted}
 use Rattle.aprs_io.specs.Input.{most_input}
 use Rattle.aprs_io.specs.Input.{Gets}
 use Rattle.aprs_log.specs.Moment.{civil_after, civil_text, moment_text_in}
@@ -18,15 +20,17 @@ use Rattle.aprs_laws.specs.Scaling.{scaled, scaled_heard}
 use Rattle.aprs_laws.specs.Sound.{Sound}
 use Rattle.aprs_laws.proofs.Scaling.{scaled_book}
 use Rattle.aprs_laws.proofs.Soundness.{sound}
-use Rattle.aprs_booktext.specs.FirstFault.{FirstFault, IsBookOrMemory, Reads}
+use Rattle.aprs_booktext.specs.FirstFault.{AcceptsBook, FirstFault, IsBookOrMemory, Reads}
 use Rattle.aprs_booktext.specs.Law.{IsWrittenBack}
-use Rattle.aprs_booktext.specs.Seconds.{AreWrittenToTheSecond, IsTextInSeconds}
+use Rattle.aprs_booktext.specs.Reading.{IsAnswered}
+use Rattle.aprs_booktext.specs.Seconds.{AreWrittenToTheSecond, IsTextInSeconds, ReadsSeconds}
 use Rattle.aprs_booktext.specs.Text.{row_line, lines_of, text_of_lines, ended_by_lf, book_of, book_text, IsBookRow, IsBookRows, IsWritable, written_version}
 use Rattle.aprs_booktext.specs.Version.{form_of, gap_of}
 use Rattle.aprs_booktext.specs.declared.fault.BookCause.TheVariants as cause
 use Rattle.aprs_booktext.specs.declared.fault.BookFault.{BookFault}
 use Rattle.aprs_booktext.specs.declared.version.Version.{Version}
 use Rattle.aprs_booktext.specs.declared.version.Version.TheVariants.{One, Three}
+use Rattle.aprs_booktext.proofs.Asking.{Asks-rose}
 use Rattle.aprs_booktext.proofs.OneText.{one_text, one_version, same_book, cut_short}
 use Rattle.aprs_booktext.proofs.Versions.{range}
 
@@ -141,6 +145,18 @@ module _ (limit : ℕ) (head : List ℕ) (after : Option (List ℕ)) (small : li
       → IfOk r (λ book. (book.gap ≡ standard_gap) × Holds (map (scaled_heard 1000) S) book))
   reads_seconds None r h = tt
   reads_seconds (Some input) r h = λ S t. in_seconds input S t r h
+
+-- the same of what was answered
+module _ {R : Type 0} (remaining : R → Option (List ℕ)) (limit : ℕ) (head : List ℕ)
+    (answer : Result BookValue BookFault) (old new : Counted R) (small : limit ≤ most_input)
+    (is : IsAnswered remaining limit head answer old new) where
+  pub answer_accepts : IfSome (remaining old.device) (λ input. AcceptsBook limit (head ++ input)
+      answer (Rose old.failed new.failed))
+  answer_accepts = accepts _ _ limit head answer _ small is.reads (Asks-rose _ _ answer is.calls)
+
+  pub answer_seconds : IfSome (remaining old.device)
+      (λ input. ReadsSeconds (head ++ input) answer)
+  answer_seconds = reads_seconds limit head _ small _ answer is.reads
 
 -- a moment of whole seconds is written as its date and its time of the day
 pub written_to_the_second : AreWrittenToTheSecond

@@ -1,8 +1,8 @@
 -- Each line spells a row or none, and each text is a book's or has a first fault.
 use Rattle.std.proofs.Common.{◌≡◌, ℕ, zero, suc, ◌+◌, ◌<◌, ◌≤◌, Bool, true, false, cond, List, [], ◌∷◌, ◌++◌, length, Option, Some, None, Result, Ok, Err, IsErr, ◌⊎◌, inl, inr, refl, sym, ap, ◌∙◌, subst, append_assoc, append-nil, length-append, arith}
-use Rattle.std.specs.Prelude.{◌≢◌, codes}
+use Rattle.std.specs.Prelude.{◌≢◌, All, codes}
 use Rattle.std.specs.Str.{bytes_eq}
-use Rattle.std.specs.List.{AllByRecursion}
+use Rattle.std.specs.List.{AllByRecursion, join_with_byte}
 use Rattle.std.proofs.lemmas.Bool.{cases_lt}
 use Rattle.std.proofs.lemmas.List.{nil_from_length}
 use Rattle.std.proofs.lemmas.Slice.Eq.{bytes_eq-Decides}
@@ -24,12 +24,11 @@ use Rattle.aprs_rows.specs.Refusal.{refusal, is_refused}
 use Rattle.aprs_book.specs.Shown.{row_of}
 use Rattle.aprs_laws.specs.declared.row_cause.RowCause.{RowCause}
 use Rattle.aprs_laws.specs.declared.row_cause.RowCause.TheVariants as row
-use Rattle.aprs_rows.proofs.Refusals.{none_exactly}
 use Rattle.aprs_booktext.specs.FirstFault.{FirstFault, is_end}
 use Rattle.aprs_booktext.specs.Law.{IsBookText}
 use Rattle.aprs_booktext.specs.Lines.{is_byte, Lacks, pieces}
 use Rattle.aprs_booktext.specs.Reader.{HoldsIn, IsJudgedIn, StandsAfter, is_done, line_number, may_end}
-use Rattle.aprs_booktext.specs.RowFields.{SpellsBytes, SpellsNames}
+use Rattle.aprs_booktext.specs.RowFields.{SpellsBytes}
 use Rattle.aprs_booktext.specs.Text.{row_line, end_line, lines_of, book_text, most_frame_bytes, IsSpelled, IsBookRow, IsWritable}
 use Rattle.aprs_booktext.specs.Version.{form_of, gap_of, header_of}
 use Rattle.aprs_booktext.specs.declared.fault.BookCause.{BookCause}
@@ -84,6 +83,12 @@ all_names (p ∷ ps) = by (all_names ps) (is_name p) refl where
     | inl all ↦ inl (e, all)
     | inr none ↦ inr (λ h. none h.1)
   ]
+
+-- The field spells these names, at least one, with commas between.
+record SpellsNames (field : List ℕ) (names : List (List ℕ)) : Type 0 where
+  field_is : field ≡ join_with_byte 44 names
+  names_are : All IsName names
+  some : 0 < length names
 
 names_or_none : (n : List ℕ) → ((names : List (List ℕ)) × SpellsNames n names)
     ⊎ ((names : List (List ℕ)) → SpellsNames n names → ⊥)
@@ -268,7 +273,7 @@ judge_header : (rows : List Row) (line : List ℕ) → Judged Header rows line
 judge_header rows line = elim (one_or_other line (header_of One)) [
   | inl same ↦ record {
     result = Ok (Rows One);
-    new = [];
+    new = rows;
     judged = (tt, same, refl);
     known =
         λ e. absurd cc;
@@ -276,7 +281,7 @@ judge_header rows line = elim (one_or_other line (header_of One)) [
   | inr first ↦ elim (one_or_other line (header_of Two)) [
     | inl same ↦ record {
       result = Ok (Rows Two);
-      new = [];
+      new = rows;
       judged = (tt, same, refl);
       known =
           λ e. absurd cc;
@@ -284,7 +289,7 @@ judge_header rows line = elim (one_or_other line (header_of One)) [
     | inr second ↦ elim (gap_or_none line greatest_gap (omega arith)) [
       | inl third ↦ record {
         result = Ok (Rows (Three third.0));
-        new = [];
+        new = rows;
         judged =
             (third.1, third.2, refl);
         known = λ e. absurd cc;
@@ -292,7 +297,7 @@ judge_header rows line = elim (one_or_other line (header_of One)) [
       | inr none ↦ record {
         result = Err cause.Header;
         new = rows;
-        judged = (no_header line first second (λ g is. none g is.0 is.1), refl);
+        judged = ((no_header line first second (λ g is. none g is.0 is.1), refl), refl);
         known = λ e. absurd cc;
       }
     ]
@@ -344,10 +349,9 @@ module _ (v : Version) (rows : List Row) (line : List ℕ) (s : SpelledRow (form
   }
   judge_why row.Memory e is = absurd (never_memory (millis_of (gap_of v)) rows s.row e)
 
-  judge_row : Sound (millis_of (gap_of v)) rows → (o : Option RowCause)
-      → refusal (millis_of (gap_of v)) rows s.row ≡ o → IsBookRow (form_of v) s.row
+  judge_row : (o : Option RowCause) → refusal (millis_of (gap_of v)) rows s.row ≡ o → IsBookRow (form_of v) s.row
       → Judged (Rows v) rows line
-  judge_row sound None e is = record {
+  judge_row None e is = record {
     result = Ok (Rows v);
     new = rows ++ s.row ∷ [];
     judged = (
@@ -356,15 +360,15 @@ module _ (v : Version) (rows : List Row) (line : List ℕ) (s : SpelledRow (form
       is,
       s.line_is,
       refl,
-      (none_exactly (millis_of (gap_of v)) rows s.row sound).0 e,
+      e,
     );
     known = λ f. absurd cc;
   }
-  judge_row sound (Some why) e is = judge_why why e is
+  judge_row (Some why) e is = judge_why why e is
 
-  judge_frame : Sound (millis_of (gap_of v)) rows → (r : Result (List ℕ) FrameFault)
+  judge_frame : (r : Result (List ℕ) FrameFault)
       → frame_of s.row.greatest.frame ≡ r → Judged (Rows v) rows line
-  judge_frame sound (Err fault) e = record {
+  judge_frame (Err fault) e = record {
     result = Err cause.Frame;
     new = rows;
     judged = (
@@ -379,17 +383,16 @@ module _ (v : Version) (rows : List Row) (line : List ℕ) (s : SpelledRow (form
     );
     known = λ f. absurd cc;
   }
-  judge_frame sound (Ok b) e =
-      judge_row sound (refusal (millis_of (gap_of v)) rows s.row) refl
+  judge_frame (Ok b) e =
+      judge_row (refusal (millis_of (gap_of v)) rows s.row) refl
       (record {
         spelled = s.is;
         frame = e
             ∙ ap (λ (l : List ℕ). Ok l) (frame_is s.row.greatest.frame b e);
       })
 
-judge_line : (v : Version) (rows : List Row) (line : List ℕ) → Sound (millis_of (gap_of v)) rows
-    → Judged (Rows v) rows line
-judge_line v rows line sound = by (is_end line) refl where
+judge_line : (v : Version) (rows : List Row) (line : List ℕ) → Judged (Rows v) rows line
+judge_line v rows line = by (is_end line) refl where
   by : (b : Bool) → is_end line ≡ b → Judged (Rows v) rows line
   by true e = elim (one_or_other line (end_line (length rows))) [
     | inl same ↦ record {
@@ -407,7 +410,7 @@ judge_line v rows line sound = by (is_end line) refl where
     }
   ]
   by false e = elim (by_fields (form_of v) line (pieces 32 line) refl) [
-    | inl s ↦ judge_frame v rows line s sound (frame_of s.row.greatest.frame) refl
+    | inl s ↦ judge_frame v rows line s (frame_of s.row.greatest.frame) refl
     | inr none ↦ record {
       result = Err cause.RowSyntax;
       new = rows;
@@ -416,11 +419,10 @@ judge_line v rows line sound = by (is_end line) refl where
     }
   ]
 
-judge : (stage : Stage) (rows : List Row) (line held : List ℕ) → HoldsIn stage rows held
-    → Judged stage rows line
-judge Header rows line held h = judge_header rows line
-judge (Rows v) rows line held h = judge_line v rows line h.sound
-judge (Done v) rows line held h = record {
+judge : (stage : Stage) (rows : List Row) (line : List ℕ) → Judged stage rows line
+judge Header rows line = judge_header rows line
+judge (Rows v) rows line = judge_line v rows line
+judge (Done v) rows line = record {
   result = Err cause.After;
   new = rows;
   judged =
@@ -522,7 +524,7 @@ step : (e : Ending) (rest : List ℕ) (stage : Stage) (rows : List Row) (t : Lis
     → ((more : List ℕ) → length more < length rest → FoundAfter e more) → Found (t ++ rest) e
 step e rest stage rows t going s next = elim (cut_text rest) [
   | inl lacks ↦ at_end stage rows rest (t ++ rest) e (goes_on stage rows rest t going lacks s)
-  | inr c ↦ by c (goes_on stage rows c.line t going c.one s) (judge stage rows c.line [] s.holds)
+  | inr c ↦ by c (goes_on stage rows c.line t going c.one s) (judge stage rows c.line)
 ] where
   text_is : (c : CutsLine rest) → (t ++ c.line) ++ 10 ∷ c.more ≡ t ++ rest
   text_is c = append_assoc t c.line (10 ∷ c.more) ∙ ap (λ l. t ++ l) (sym c.is)
@@ -541,8 +543,8 @@ step e rest stage rows t going s next = elim (cut_text rest) [
       (ended_fault stage rows new c.line (t ++ c.line) c.more k judged stands) [
         | inl m ↦ absurd (known (ap (λ (x : BookCause). Err x) m.refused))
         | inr first ↦ inr (record {
-          fault = record { line = line_number stage new; cause = k };
-          first = subst (λ l. FirstFault l e (record { line = line_number stage new; cause = k }))
+          fault = record { line = line_number stage (length new); cause = k };
+          first = subst (λ l. FirstFault l e (record { line = line_number stage (length new); cause = k }))
               (text_is c) (first e);
         })
       ]

@@ -1,25 +1,22 @@
 -- Lemmas on what was got of an input.
-use Rattle.std.proofs.Common.{◌≡◌, ℕ, ◌+◌, ◌-◌, ◌≤◌, List, [], ◌++◌, length, drop, Option, None, Some, IfSome, Result, Err, inl, inr, refl, sym, ap, ◌∙◌, subst, append_assoc, append-nil, length-append, arith}
+use Rattle.std.proofs.Common.{◌≡◌, ℕ, ◌+◌, ◌-◌, ◌≤◌, List, [], ◌++◌, length, drop, Option, None, Some, IfSome, Result, Ok, Err, inl, inr, refl, sym, ap, ◌∙◌, subst, append_assoc, append-nil, length-append, arith}
 use Rattle.std.proofs.Math.Seq.{drop-append-add}
 use Rattle.std.specs.Io.KnownBytes.{Consumes}
 use Rattle.std.proofs.KnownBytes.{Consumes-nil, Consumes-trans}
-use Rattle.aprs_io.specs.Input.{EndsSo, Gets, TakesOne}
+use Rattle.aprs_io.specs.Device.{Calls, Going}
+use Rattle.aprs_io.specs.declared.device.Counted.{Counted}
+use Rattle.aprs_io.specs.Input.{EndsHere, EndsSo, Gets, TakesOne, last_of}
 use Rattle.aprs_io.specs.declared.input.Ending.{Ending}
 use Rattle.aprs_io.specs.declared.input.Ending.TheVariants as ending
 use Rattle.aprs_laws.specs.BookValue.{BookValue}
+use Rattle.aprs_laws.specs.Row.{Row}
+use Rattle.aprs_booktext.specs.StoredRows.{book_read, rows_after}
 use Rattle.aprs_booktext.specs.Asking.{Takes, TakesAt, TakesAtMost}
 use Rattle.aprs_booktext.specs.FirstFault.{ending_cause, Reads, ReadsSo, most_ahead}
-use Rattle.aprs_booktext.specs.Reader.{EndsIn, IsFault}
+use Rattle.aprs_booktext.specs.Reader.{EndsIn, IsFault, IsOfText}
+use Rattle.aprs_booktext.specs.Reading.{Got, IsAnswered}
 use Rattle.aprs_booktext.specs.declared.fault.BookFault.{BookFault}
-use Rattle.aprs_booktext.proofs.Asking.{Takes-end}
-
--- what was got after the head is gone from the input, and that much less may be got
-pub record Got (P : List ℕ → Type 0) (head : List ℕ) (old now : Option (List ℕ))
-    (limit left : ℕ) : Type 0 where
-  pub got : List ℕ
-  pub stands : P (head ++ got)
-  pub took : Consumes old now got
-  pub size : length (head ++ got) + left ≡ limit
+use Rattle.aprs_booktext.proofs.Asking.{Asks-end, Asks-fault, Takes-end, Takes-fault}
 
 pub Got-none : (P : List ℕ → Type 0) (head : List ℕ) (old : Option (List ℕ)) (limit left : ℕ)
     → P head → length head + left ≡ limit → Got P head old old limit left
@@ -29,6 +26,12 @@ Got-none P head old limit left p size = record {
   took = Consumes-nil old;
   size = ap (λ l. length l + left) (append-nil head) ∙ size;
 }
+
+pub Got-weaker : (P Q : List ℕ → Type 0) (head : List ℕ) (old now : Option (List ℕ))
+    (limit left : ℕ) → ((t : List ℕ) → P t → Q t) → Got P head old now limit left
+    → Got Q head old now limit left
+Got-weaker P Q head old now limit left step p =
+    record { got = p.got; stands = step (head ++ p.got) p.stands; took = p.took; size = p.size }
 
 module _ (P : List ℕ → Type 0) (head : List ℕ) (old now : Option (List ℕ)) (limit left : ℕ)
     (p : Got P head old now limit left) where
@@ -151,3 +154,50 @@ Reads-fault f head old now limit left p =
     Reads-got old now limit head p.got ending.Read (Err f)
     (Gets-read (IsFault most_ahead f) head old now limit left p)
     (fault_reads f (head ++ p.got) ending.Read p.stands)
+
+-- ---- what is answered
+
+module _ {R : Type 0} (remaining : R → Option (List ℕ)) (limit : ℕ) (head : List ℕ)
+    (a b : Counted R) (left : ℕ) (calls : Calls Going a b) where
+  -- a fault in what was got
+  pub IsAnswered-fault : (f : BookFault) → IsOfText f.cause
+      → Got (IsFault most_ahead f) head (remaining a.device) (remaining b.device) limit left
+      → IsAnswered remaining limit head (Err f) a b
+  IsAnswered-fault f of p = record {
+    reads = Reads-fault f head _ _ limit left p;
+    calls = Asks-fault calls f of;
+    over = Takes-fault _ _ _ f of (takes_got _ head _ _ limit left p);
+  }
+
+  -- the input ends
+  pub IsAnswered-end : (P : List ℕ → Type 0) (c : Counted R) (way : Ending)
+      (r : Result BookValue BookFault)
+      → Got P head (remaining a.device) (remaining b.device) limit left → EndsIn way r
+      → EndsHere way left (remaining b.device) (remaining c.device)
+      → (way ≡ ending.TooLong → TakesOne (remaining b.device) (remaining c.device))
+      → Calls (last_of way) b c → ((t : List ℕ) → P t → ReadsSo r t way)
+      → IsAnswered remaining limit head r a c
+  IsAnswered-end P c way r p is end over last reads = record {
+    reads = Reads-got _ _ limit head p.got way r
+        (Gets-here P head _ _ limit left p way _ end) (reads _ p.stands);
+    calls = Asks-end calls way r is last;
+    over = Takes-here P head _ _ limit left p way _ r is end over;
+  }
+
+-- a book's answer is at the end alone, as that of its gap
+pub EndsIn-book : (e : Ending) (r : Result ℕ BookFault) (old new : List Row) → EndsIn e r
+    → EndsIn e (book_read r old new)
+EndsIn-book e (Ok gap) old new is = is
+EndsIn-book e (Err f) old new is = is
+
+-- what is answered of all the rows of a store is a book
+pub answer_book : {R : Type 0} (remaining : R → Option (List ℕ)) (limit : ℕ) (head : List ℕ)
+    (old store : List Row) (gap : ℕ) (book : BookValue) (a c : Counted R)
+    → old ≡ [] → book ≡ record { gap = gap; rows = store }
+    → IsAnswered remaining limit head
+    (Ok (record { gap = gap; rows = rows_after old store })) a c
+    → IsAnswered remaining limit head (Ok book) a c
+answer_book remaining limit head old store gap book a c none is answer =
+    subst (λ (x : Result BookValue BookFault). IsAnswered remaining limit head x a c)
+    (ap (λ (o : List Row). Ok (record { gap = gap; rows = rows_after o store })) none
+    ∙ ap Ok (sym is)) answer

@@ -6,6 +6,7 @@ pub mod Digits
 pub mod Spellings
 pub mod Standing
 pub mod Inputs
+pub mod LastLines
 pub mod OneFault
 pub mod OneText
 pub mod RowReading

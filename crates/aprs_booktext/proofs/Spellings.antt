@@ -1,10 +1,10 @@
 -- Lemmas on the fields of a row's line.
-use Rattle.std.proofs.Common.{◌≡◌, ℕ, zero, suc, ◌/◌, ◌%◌, ◌<◌, ◌≤◌, true, List, [], ◌∷◌, ◌++◌, length, get_or, Option, Some, None, Ok, ◌⊎◌, inl, inr, sym, ap, ◌∙◌, subst, arith, rules, length-append}
-use Rattle.std.specs.Prelude.{All, codes}
+use Rattle.std.proofs.Common.{◌≡◌, ℕ, zero, suc, ◌/◌, ◌%◌, ◌<◌, ◌≤◌, Bool, true, List, [], ◌∷◌, ◌++◌, length, get_or, Option, Some, None, Ok, refl, sym, ap, ◌∙◌, subst, append_assoc, arith, rules}
+use Rattle.std.specs.Prelude.{◌↔◌, All, IsTrue, codes}
 use Rattle.std.specs.List.{join_with_byte, AllByRecursion, list_all}
 use Rattle.std.proofs.lemmas.Bool.{and_parts}
 use Rattle.std.proofs.lemmas.Bool.Decides.{nat_tests}
-use Rattle.std.proofs.lemmas.List.Elements.{recursion_from_All}
+use Rattle.std.proofs.lemmas.List.Elements.{All-nil, All-push, recursion_from_All}
 use Rattle.hex.specs.Hex.{encode_lower, encode_with, lower_digits, IsBytes}
 use Rattle.aprs_log.specs.Moment.{moment_in, moment_text_in, MomentTextIn, civil_after, civil_text, fraction_text, Civil, two_digits}
 use Rattle.aprs_log.specs.declared.moment_form.MomentForm.{MomentForm}
@@ -15,9 +15,6 @@ use Rattle.aprs_laws.specs.Row.{Row, last_of}
 use Rattle.aprs_booktext.specs.Lines.{Lacks, pieces}
 use Rattle.aprs_ax25.specs.FrameFault.{frame_of, frame_fault, unless_fault}
 use Rattle.aprs_ax25.specs.declared.fault.FrameFault.{FrameFault}
-use Rattle.aprs_booktext.specs.RowFields.{SpellsNames, IsWrongNames}
-use Rattle.aprs_booktext.specs.declared.fault.BookCause.{BookCause}
-use Rattle.aprs_booktext.specs.declared.fault.BookCause.TheVariants as cause
 use Rattle.aprs_booktext.specs.Text.{fields_of, row_line, IsSpelled, IsWritable}
 use Rattle.aprs_booktext.proofs.Cuts.{lacks_joined, pieces_joined, joined_pieces}
 
@@ -209,40 +206,47 @@ pub six_pieces : (form : MomentForm) (x : Row) (line : List ℕ) → IsSpelled f
 six_pieces form x line h other e = other (ap (λ l. length (pieces 32 l)) e
     ∙ ap length (row_pieces form x h))
 
--- ---- names read one by one
+-- ---- names tested one by one
 
-at_middle : {X : Type 0} (P : X → Type 0) (a : List X) (x : X) (b : List X)
+pub at_middle : {X : Type 0} (P : X → Type 0) (a : List X) (x : X) (b : List X)
     → AllByRecursion P (a ++ x ∷ b) → P x
 at_middle P [] x b h = h.0
 at_middle P (y ∷ a) x b h = at_middle P a x b h.1
 
-spells_none : (field : List ℕ) (names : List (List ℕ)) (piece : List ℕ) (more : List (List ℕ))
-    → pieces 44 field ≡ names ++ piece ∷ more → ¬ IsName piece
-    → (all : List (List ℕ)) → SpellsNames field all → ⊥
-spells_none field names piece more is other all h =
-    let same : all ≡ names ++ piece ∷ more = sym (names_pieces all h.some h.names_are)
-    ∙ ap (pieces 44) (sym h.field_is) ∙ is in
-    other (at_middle IsName names piece more (subst (AllByRecursion IsName) same
-    (recursion_from_All IsName all h.names_are)))
+-- the pieces are some names, and then these
+pub record NamesFirst (ps rest : List (List ℕ)) : Type 0 where
+  pub names : List (List ℕ)
+  pub are : All IsName names
+  pub is : ps ≡ names ++ rest
+
+pub NamesFirst-none : (ps : List (List ℕ)) → NamesFirst ps ps
+NamesFirst-none ps = record { names = []; are = All-nil IsName; is = refl }
+
+pub NamesFirst-more : (ps : List (List ℕ)) (piece : List ℕ) (rest more : List (List ℕ))
+    → NamesFirst ps rest → rest ≡ piece ∷ more → IsName piece → NamesFirst ps more
+NamesFirst-more ps piece rest more n e h = record {
+  names = n.names ++ piece ∷ [];
+  are = All-push IsName n.names piece n.are h;
+  is = n.is ∙ ap (λ r. n.names ++ r) e ∙ sym (append_assoc n.names (piece ∷ []) more);
+}
 
 -- a piece that is no name
-pub names_wrong : (field : List ℕ) (names : List (List ℕ)) (piece : List ℕ) (more : List (List ℕ))
-    (c : BookCause) → pieces 44 field ≡ names ++ piece ∷ more
-    → (c ≡ cause.Memory) ⊎ ((c ≡ cause.RowSyntax) × ¬ IsName piece) → IsWrongNames field c
-names_wrong field names piece more c is h = elim h [
-  | inl m ↦ inl m
-  | inr w ↦ inr (w.0, spells_none field names piece more is w.1)
-]
+pub NamesFirst-not : (ps : List (List ℕ)) (piece : List ℕ) (rest more : List (List ℕ))
+    → NamesFirst ps rest → rest ≡ piece ∷ more → ¬ IsName piece → ¬ All IsName ps
+NamesFirst-not ps piece rest more n e other all = other (at_middle IsName n.names piece more
+    (subst (AllByRecursion IsName) (n.is ∙ ap (λ r. n.names ++ r) e)
+    (recursion_from_All IsName ps all)))
 
--- the last piece is a name
-pub names_spelled : (field : List ℕ) (names : List (List ℕ)) (last : List ℕ)
-    → pieces 44 field ≡ names ++ last ∷ [] → All IsName (names ++ last ∷ [])
-    → SpellsNames field (names ++ last ∷ [])
-names_spelled field names last is h = record {
-  field_is = joined_pieces 44 field (names ++ last ∷ []) is;
-  names_are = h;
-  some = simp length-append (omega arith);
-}
+-- the last piece decides
+pub NamesFirst-last : (ps : List (List ℕ)) (last : List ℕ) (rest : List (List ℕ))
+    → NamesFirst ps rest → rest ≡ last ∷ [] → (answer : Bool) → IsTrue answer ↔ IsName last
+    → IsTrue answer ↔ All IsName ps
+NamesFirst-last ps last rest n e answer d =
+    let is : ps ≡ n.names ++ last ∷ [] = n.is ∙ ap (λ r. n.names ++ r) e in (
+      λ yes. subst (All IsName) (sym is) (All-push IsName n.names last n.are (d.0 yes)),
+      λ all. d.1 (at_middle IsName n.names last [] (subst (AllByRecursion IsName) is
+          (recursion_from_All IsName ps all))),
+    )
 
 -- a frame is its bytes
 pub frame_is : (bytes frame : List ℕ) → frame_of bytes ≡ Ok frame → frame ≡ bytes

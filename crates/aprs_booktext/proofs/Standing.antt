@@ -1,13 +1,14 @@
 -- Lemmas on what a reader of a book holds.
-use Rattle.std.proofs.Common.{◌≡◌, ℕ, ◌+◌, ◌<◌, ◌≤◌, true, false, List, [], ◌∷◌, ◌++◌, length, map, Option, None, Some, Result, Ok, Err, IfOk, ◌⊎◌, inl, inr, refl, sym, ap, ◌∙◌, subst, append_assoc, append-nil, length-append, arith}
-use Rattle.std.specs.Prelude.{◌≢◌, All, IsOkUnless, MatchOption}
-use Rattle.std.proofs.lemmas.List.{length-map}
+use Rattle.std.proofs.Common.{◌≡◌, ℕ, ◌+◌, ◌<◌, ◌≤◌, true, false, List, [], ◌∷◌, ◌++◌, length, drop, map, Bool, Option, None, Some, Result, Ok, Err, ◌⊎◌, inl, inr, refl, sym, ap, ◌∙◌, subst, append_assoc, append-nil, length-append, arith}
+use Rattle.std.specs.Prelude.{◌≢◌, All, IfNone, IfSome}
+use Rattle.std.specs.List.{last_or}
+use Rattle.std.proofs.lemmas.List.{length-map, nil_from_length}
 use Rattle.std.proofs.lemmas.List.Concat.{flat_map-append}
 use Rattle.std.proofs.lemmas.List.{map_push}
+use Rattle.std.proofs.Math.Seq.{drop-append_seam}
 use Rattle.std.proofs.lemmas.List.Elements.{All-nil, All-push}
 use Rattle.aprs_io.specs.declared.input.Ending.{Ending}
 use Rattle.aprs_io.specs.declared.input.Ending.TheVariants as ending
-use Rattle.aprs_laws.specs.BookValue.{BookValue}
 use Rattle.aprs_laws.specs.Gap.{millis_of}
 use Rattle.aprs_laws.specs.Row.{Row}
 use Rattle.aprs_laws.specs.Sound.{Sound}
@@ -17,9 +18,11 @@ use Rattle.aprs_log.specs.declared.moment_form.MomentForm.{MomentForm}
 use Rattle.aprs_rows.specs.Refusal.{refusal}
 use Rattle.aprs_laws.specs.declared.row_cause.RowCause.{RowCause}
 use Rattle.aprs_laws.specs.declared.row_cause.RowCause.TheVariants as row
+use Rattle.aprs_rows.proofs.Refusals.{none_exactly}
 use Rattle.aprs_booktext.specs.Fault.{book_cause_of}
 use Rattle.aprs_booktext.specs.FirstFault.{FirstFault, IsWrong, ending_cause, ReadsSo}
-use Rattle.aprs_booktext.specs.Reader.{HasItsGap, HoldsIn, StandsAfter, IsFault, IsJudged, IsJudgedIn, is_done, line_number, lines_read, may_end}
+use Rattle.aprs_booktext.specs.Reader.{HoldsIn, StandsAfter, IsFault, IsJudgedIn, HasRows, HasRowsSo, gap_in, is_done, line_number, lines_read, may_end}
+use Rattle.aprs_booktext.specs.StoredRows.{rows_after}
 use Rattle.aprs_booktext.specs.Text.{row_line, end_line, lines_of, text_of_lines, ended_by_lf, book_text, IsBookRow, IsBookRows}
 use Rattle.aprs_booktext.specs.Version.{form_of, gap_of, header_of, IsVersion}
 use Rattle.aprs_booktext.specs.declared.fault.BookCause.{BookCause}
@@ -28,6 +31,37 @@ use Rattle.aprs_booktext.specs.declared.fault.BookFault.{BookFault}
 use Rattle.aprs_booktext.specs.declared.reader.Stage.{Stage}
 use Rattle.aprs_booktext.specs.declared.reader.Stage.TheVariants.{Header, Rows, Done}
 use Rattle.aprs_booktext.specs.declared.version.Version.{Version}
+
+-- ---- rows of a text, in a store
+
+pub HasRowsSo-weaker : (before : List Row) (count : ℕ) (store : List Row)
+    (P Q : List Row → Type 0) → ((rows : List Row) → P rows → Q rows)
+    → HasRowsSo before count store P → HasRowsSo before count store Q
+HasRowsSo-weaker before count store P Q step h =
+    record { rows = h.rows; has = h.has; holds = step h.rows h.holds }
+
+-- so many rows are the last ones
+pub last_before : (before rows : List Row) (count : ℕ) (store : List Row)
+    → HasRows before rows count store → 0 < count → last_or None store ≡ last_or None rows
+last_before before rows count store h some =
+    ap (last_or None) h.stored ∙ last_after before rows (omega (arith, some, h.counted)) None where
+      last_after : (before rows : List Row) → 0 < length rows → (o : Option Row)
+          → last_or o (before ++ rows) ≡ last_or None rows
+      last_after [] [] some o = absurd (omega (arith, some))
+      last_after [] (x ∷ rows) some o = refl
+      last_after (b ∷ before) rows some o = last_after before rows some (Some b)
+
+-- the last one, if there is one
+pub last_found : (rows : List Row) (o : Option Row) → IfSome o (λ x. last_or None rows ≡ Some x)
+    → IfNone o (rows ≡ []) → last_or None rows ≡ o
+last_found rows None some none = ap (last_or None) none
+last_found rows (Some x) some none = some
+
+-- they are what came after those from before
+pub rows_stored : (before rows : List Row) (count : ℕ) (store : List Row)
+    → HasRows before rows count store → rows_after before store ≡ rows
+rows_stored before rows count store h =
+    ap (drop (length before)) h.stored ∙ drop-append_seam before rows
 
 -- ---- one more line
 
@@ -41,30 +75,22 @@ one_more ls line t e =
 
 -- ---- a row that can't be added
 
-module _ (gap : ℕ) (form : MomentForm) (old new : List Row) (x : Row) (line : List ℕ)
-    (is : IsBookRow form x) (spelled : line ≡ row_line form x) (same : new ≡ old) where
-  abbrev IsWrongNow : RowCause → Type 0
-  IsWrongNow why = (book_cause_of why ≡ cause.Memory)
-      ⊎ IsWrong gap form old line (book_cause_of why)
-
-  for_cause : (why : RowCause) → refusal gap old x ≡ Some why → IsWrongNow why
-  for_cause row.Order e = inr (record { row = x; is = is; spelled = spelled; refused = e })
-  for_cause row.Span e = inr (record { row = x; is = is; spelled = spelled; refused = e })
-  for_cause row.Near e = inr (record { row = x; is = is; spelled = spelled; refused = e })
-  for_cause row.Receivers e = inr (record { row = x; is = is; spelled = spelled; refused = e })
-  for_cause row.NotGreatest e = inr (record { row = x; is = is; spelled = spelled; refused = e })
-  for_cause row.Memory e = inl refl
-
-  pub refused_line : {T : Type 0} (r : Result T RowCause) (why : RowCause) → Err why ≡ r
-      → MatchOption (refusal gap old x) (IsOkUnless r row.Memory) (λ c. r ≡ Err c)
-      → IsWrongNow why × (new ≡ old)
-  refused_line {T} r why was h = (by (refusal gap old x) refl h, same) where
-    by : (o : Option RowCause) → refusal gap old x ≡ o
-        → MatchOption o (IsOkUnless r row.Memory) (λ c. r ≡ Err c) → IsWrongNow why
-    by None e m = let k : why ≡ row.Memory = subst
-        (λ (q : Result T RowCause). IsOkUnless q row.Memory) (sym was) m in inl (ap book_cause_of k)
-    by (Some c) e m = let f : Err why ≡ Err c = was
-        ∙ m in let k : c ≡ why = cc in for_cause why (e ∙ ap (λ (w : RowCause). Some w) k)
+-- a row of this line that is refused makes the line wrong
+pub refused_line : (gap : ℕ) (form : MomentForm) (rows : List Row) (x : Row) (line : List ℕ)
+    → IsBookRow form x → line ≡ row_line form x → (why : RowCause)
+    → refusal gap rows x ≡ Some why
+    → (book_cause_of why ≡ cause.Memory) ⊎ IsWrong gap form rows line (book_cause_of why)
+refused_line gap form rows x line is spelled row.Order e =
+    inr (record { row = x; is = is; spelled = spelled; refused = e })
+refused_line gap form rows x line is spelled row.Span e =
+    inr (record { row = x; is = is; spelled = spelled; refused = e })
+refused_line gap form rows x line is spelled row.Near e =
+    inr (record { row = x; is = is; spelled = spelled; refused = e })
+refused_line gap form rows x line is spelled row.Receivers e =
+    inr (record { row = x; is = is; spelled = spelled; refused = e })
+refused_line gap form rows x line is spelled row.NotGreatest e =
+    inr (record { row = x; is = is; spelled = spelled; refused = e })
+refused_line gap form rows x line is spelled row.Memory e = inl refl
 
 -- no rows are a book's
 pub no_rows : (v : Version) → IsVersion v → IsBookRows v []
@@ -80,9 +106,10 @@ no_rows v h = record {
 }
 
 ended_header : (v : Version) (old new : List Row) (line t : List ℕ) → IsVersion v
-    → line ≡ header_of v → new ≡ [] → StandsAfter Header old line t
+    → line ≡ header_of v → new ≡ old → StandsAfter Header old line t
     → StandsAfter (Rows v) new [] (t ++ 10 ∷ [])
-ended_header v old new line t h is none s =
+ended_header v old new line t h is same s =
+    let none : new ≡ [] = same ∙ s.holds in
     let lines : line ∷ [] ≡ header_of v ∷ map (row_line (form_of v)) new
     = ap (λ l. l ∷ []) is ∙ ap (λ (rows : List Row). header_of v ∷ map (row_line (form_of v)) rows)
     (sym none) in
@@ -94,9 +121,10 @@ ended_header v old new line t h is none s =
     }
 
 ended_row : (v : Version) (old new : List Row) (x : Row) (line t : List ℕ) → IsBookRow (form_of v) x
-    → line ≡ row_line (form_of v) x → new ≡ old ++ x ∷ [] → Sound (millis_of (gap_of v)) new
+    → line ≡ row_line (form_of v) x → new ≡ old ++ x ∷ []
+    → refusal (millis_of (gap_of v)) old x ≡ None
     → StandsAfter (Rows v) old line t → StandsAfter (Rows v) new [] (t ++ 10 ∷ [])
-ended_row v old new x line t is line_is grown sound s =
+ended_row v old new x line t is line_is grown free s =
     let lines : header_of v ∷ map (row_line (form_of v)) old ++ line ∷ [] ≡ header_of v
     ∷ map (row_line (form_of v)) new
     = ap (λ l. header_of v ∷ map (row_line (form_of v)) old ++ l ∷ []) line_is
@@ -108,7 +136,8 @@ ended_row v old new x line t is line_is grown sound s =
       one = tt;
       holds = record {
         version = s.holds.version;
-        sound = sound;
+        sound = subst (Sound (millis_of (gap_of v))) (sym grown)
+            ((none_exactly (millis_of (gap_of v)) old x s.holds.sound).0 free);
         each =
             subst (All (IsBookRow (form_of v))) (sym grown)
             (All-push (IsBookRow (form_of v)) old x s.holds.each is);
@@ -146,8 +175,8 @@ ended_stands (Done v) next old new line t j s =
 
 -- ---- faults
 
-number_is : (stage : Stage) (rows : List Row)
-    → line_number stage rows ≡ length (lines_read stage rows) + 1
+pub number_is : (stage : Stage) (rows : List Row)
+    → line_number stage (length rows) ≡ length (lines_read stage rows) + 1
 number_is Header rows = refl
 number_is (Rows v) rows = omega (arith, length-map rows (row_line (form_of v)))
 number_is (Done v) rows =
@@ -162,7 +191,7 @@ and_more stage rows line t more s = ap (λ l. l ++ more) s.text_is
 
 pub ended_fault : (stage : Stage) (old new : List Row) (line t more : List ℕ) (c : BookCause)
     → IsJudgedIn stage (Err c) old line new → StandsAfter stage old line t
-    → IsFault (length more + 1) (record { line = line_number stage new; cause = c })
+    → IsFault (length more + 1) (record { line = line_number stage (length new); cause = c })
     (t ++ 10 ∷ more)
 ended_fault Header old new line t more c j s = inr (λ e. record {
   lines = [];
@@ -171,7 +200,7 @@ ended_fault Header old new line t more c j s = inr (λ e. record {
   line = refl;
   fault = inl (record {
     none_read = refl;
-    fault = inr (record { line = line; more = more; is = refl; one = s.one; holds = j });
+    fault = inr (record { line = line; more = more; is = refl; one = s.one; holds = j.0 });
   });
 })
 ended_fault (Rows v) old new line t more c j s = elim j.0 [
@@ -220,7 +249,7 @@ ended_fault (Done v) old new line t more c j s =
 pub held_fault : (stage : Stage) (rows : List Row) (line t bytes more : List ℕ)
     → is_done stage ≡ false → StandsAfter stage rows line t
     → IsFault (length bytes + length more) (record {
-      line = line_number stage rows;
+      line = line_number stage (length rows);
       cause =
           cause.Memory;
     }) ((t ++ bytes) ++ more)
@@ -268,7 +297,7 @@ held_stands stage rows line t bytes going lacks s = record {
 pub after_fault : (stage : Stage) (rows : List Row) (line t bytes more : List ℕ)
     → is_done stage ≡ true → 0 < length bytes → StandsAfter stage rows line t
     → IsFault (length bytes + length more) (record {
-      line = line_number stage rows;
+      line = line_number stage (length rows);
       cause =
           cause.After;
     }) ((t ++ bytes) ++ more)
@@ -307,9 +336,14 @@ fault_near few most f t less h = elim h [
 
 -- ---- the end
 
+pub may_end-going : (stage : Stage) (e : Ending) → is_done stage ≡ false → may_end stage e ≡ false
+may_end-going Header e going = refl
+may_end-going (Rows v) e going = refl
+may_end-going (Done v) e going = absurd (let f : true ≡ false = going in cc)
+
 pub cut_fault : (stage : Stage) (rows : List Row) (line t : List ℕ) (e : Ending)
     → may_end stage e ≡ false → StandsAfter stage rows line t
-    → FirstFault t e (record { line = line_number stage rows; cause = ending_cause e })
+    → FirstFault t e (record { line = line_number stage (length rows); cause = ending_cause e })
 cut_fault Header rows line t e may s = record {
   lines = [];
   rest = line;
@@ -373,33 +407,12 @@ ended_whole (Done v) rows line t e may s = record {
   is_end ending.Read may = absurd (let f : false ≡ true = may in cc)
   is_end ending.TooLong may = absurd (let f : false ≡ true = may in cc)
 
-pub ended_read : (stage : Stage) (book : BookValue) (line t : List ℕ) (e : Ending)
-    → may_end stage e ≡ true → StandsAfter stage book.rows line t → HasItsGap stage book.gap
-    → ReadsSo (Ok book) t e
-ended_read stage book line t e may s own =
-    let w = ended_whole stage book.rows line t e may s in (
-      w.version,
-      subst (λ (g : Stage). HasItsGap g book.gap) w.stage_is own,
-      w.text_is,
-      w.is,
-      w.ended,
-    )
-
--- ---- rows are judged by the gap of the header
-
-pub judged_so : (v : Version) (gap : ℕ) (r : Result Stage BookCause) (old : List Row)
-    (line : List ℕ) (new : List Row) → IsJudged (millis_of gap) v r old line new → gap ≡ gap_of v
-    → IsJudgedIn (Rows v) r old line new
-judged_so v gap r old line new j e = subst (λ (g : ℕ). IsJudged (millis_of g) v r old line new) e j
-
-pub keeps_gap : (v : Version) (millis gap next : ℕ) (r : Result Stage BookCause) (old : List Row)
-    (line : List ℕ) (new : List Row) → IsJudged millis v r old line new → next ≡ gap
-    → gap ≡ gap_of v
-    → IfOk r (λ stage. HasItsGap stage next)
-keeps_gap v millis gap next (Ok Header) old line new j same own = absurd j
-keeps_gap v millis gap next (Ok (Rows w)) old line new j same own = same ∙ own ∙ ap gap_of (sym j.0)
-keeps_gap v millis gap next (Ok (Done w)) old line new j same own = same ∙ own ∙ ap gap_of (sym j.0)
-keeps_gap v millis gap next (Err c) old line new j same own = tt
+pub ended_read : (stage : Stage) (rows : List Row) (line t : List ℕ) (e : Ending)
+    → may_end stage e ≡ true → StandsAfter stage rows line t
+    → ReadsSo (Ok (record { gap = gap_in stage; rows = rows })) t e
+ended_read stage rows line t e may s =
+    let w = ended_whole stage rows line t e may s in
+    (w.version, ap gap_in w.stage_is, w.text_is, w.is, w.ended)
 
 -- ---- a piece, line by line
 

@@ -5,7 +5,9 @@ pub mod Law
 pub mod Lines
 pub mod RowLines
 pub mod Reader
+pub mod Reading
 pub mod RowFields
 pub mod Seconds
+pub mod StoredRows
 pub mod Text
 pub mod Version

@@ -1,11 +1,11 @@
 -- What a reader of a book holds. No public clause cites this module.
-use Rattle.std.specs.Prelude.{◌≡◌, ◌≢◌, ℕ, ◌+◌, ◌⊎◌, Bool, true, false, List, [], ◌∷◌, ◌++◌, length, map, Result, Ok, Err}
+use Rattle.std.specs.Prelude.{◌≡◌, ◌≢◌, ℕ, ◌+◌, ◌⊎◌, Bool, true, false, List, [], ◌∷◌, ◌++◌, length, map, None, Result, Ok, Err}
 use Rattle.aprs_io.specs.declared.input.Ending.{Ending}
 use Rattle.aprs_io.specs.declared.input.Ending.TheVariants as how
-use Rattle.aprs_laws.specs.Gap.{millis_of}
+use Rattle.aprs_laws.specs.Gap.{millis_of, standard_gap}
 use Rattle.aprs_laws.specs.Row.{Row}
-use Rattle.aprs_laws.specs.Sound.{Sound}
-use Rattle.aprs_booktext.specs.FirstFault.{FirstFault, IsMemoryAt, IsNoHeader, IsWrong, ending_cause}
+use Rattle.aprs_rows.specs.Refusal.{refusal}
+use Rattle.aprs_booktext.specs.FirstFault.{FirstFault, IsMemoryAt, IsNoHeader, IsWrong, ending_cause, is_end}
 use Rattle.aprs_booktext.specs.Lines.{Lacks}
 use Rattle.aprs_booktext.specs.Text.{row_line, end_line, lines_of, text_of_lines, IsBookRow, IsBookRows}
 use Rattle.aprs_booktext.specs.Version.{form_of, gap_of, header_of, IsVersion}
@@ -41,11 +41,17 @@ abbrev pub IsFault : ℕ → BookFault → List ℕ → Type 0
 IsFault most fault text =
     IsMemoryAt most text fault ⊎ ((ending : Ending) → FirstFault text ending fault)
 
--- the number of the line that is read
-abbrev pub line_number : Stage → List Row → ℕ
-line_number Header rows = 1
-line_number (Rows v) rows = length rows + 2
-line_number (Done v) rows = length rows + 3
+-- the number of the line that is read after the lines of so many rows
+abbrev pub line_number : Stage → ℕ → ℕ
+line_number Header count = 1
+line_number (Rows v) count = count + 2
+line_number (Done v) count = count + 3
+
+-- the gap that the header says, if it was read
+abbrev pub gap_in : Stage → ℕ
+gap_in Header = standard_gap
+gap_in (Rows v) = gap_of v
+gap_in (Done v) = gap_of v
 
 -- whether the last line was read
 abbrev pub is_done : Stage → Bool
@@ -65,43 +71,69 @@ may_end (Rows v) ending = false
 abbrev pub IsOfText : BookCause → Type 0
 IsOfText cause = (cause ≢ why.Read) × (cause ≢ why.TooLong)
 
--- The answer is the book at the end alone, and else the fault of this ending.
+-- The answer is no fault at the end alone, and else the fault of this ending.
 abbrev pub EndsIn : {A : Type 0} → Ending → Result A BookFault → Type 0
-EndsIn ending (Ok book) = ending ≡ how.End
+EndsIn ending (Ok value) = ending ≡ how.End
 EndsIn ending (Err fault) = fault.cause ≡ ending_cause ending
 
--- After the lines of the old rows of this version a line is judged so: it is a row's, which is
--- added to them, or the last line, or an allocation failed, or the line is wrong.
-abbrev pub IsJudged : ℕ → Version → Result Stage BookCause → List Row → List ℕ → List Row → Type 0
-IsJudged gap v (Ok Header) old line new = ⊥
-IsJudged gap v (Ok (Rows w)) old line new = (w ≡ v) × (x : Row) × IsBookRow (form_of v) x
-    × (line ≡ row_line (form_of v) x) × (new ≡ old ++ x ∷ []) × Sound gap new
-IsJudged gap v (Ok (Done w)) old line new =
-    (w ≡ v) × (line ≡ end_line (length old)) × (new ≡ old)
-IsJudged gap v (Err cause) old line new =
-    ((cause ≡ why.Memory) ⊎ IsWrong gap (form_of v) old line cause) × (new ≡ old)
+-- After the lines of the old rows of this version a line is judged so: it is a row's, which nothing
+-- refuses, and which is added to them, or the last line, or an allocation failed, or the line is
+-- wrong.
+abbrev pub IsJudged : Version → Result Stage BookCause → List Row → List ℕ → List Row → Type 0
+IsJudged v (Ok Header) old line new = ⊥
+IsJudged v (Ok (Rows w)) old line new = (w ≡ v) × (x : Row) × IsBookRow (form_of v) x
+    × (line ≡ row_line (form_of v) x) × (new ≡ old ++ x ∷ [])
+    × (refusal (millis_of (gap_of v)) old x ≡ None)
+IsJudged v (Ok (Done w)) old line new = (w ≡ v) × (line ≡ end_line (length old)) × (new ≡ old)
+IsJudged v (Err cause) old line new =
+    ((cause ≡ why.Memory) ⊎ IsWrong (millis_of (gap_of v)) (form_of v) old line cause)
+    × (new ≡ old)
 
--- The first line is judged so: it is a version's header, after which there are no rows, or none.
-abbrev pub IsJudgedFirst : Result Stage BookCause → List ℕ → List Row → Type 0
-IsJudgedFirst (Ok Header) line new = ⊥
-IsJudgedFirst (Ok (Rows v)) line new = IsVersion v × (line ≡ header_of v) × (new ≡ [])
-IsJudgedFirst (Ok (Done v)) line new = ⊥
-IsJudgedFirst (Err cause) line new = IsNoHeader line cause
+-- The first line is judged so: it is a version's header, or none. It adds no rows.
+abbrev pub IsJudgedFirst : Result Stage BookCause → List Row → List ℕ → List Row → Type 0
+IsJudgedFirst (Ok Header) old line new = ⊥
+IsJudgedFirst (Ok (Rows v)) old line new = IsVersion v × (line ≡ header_of v) × (new ≡ old)
+IsJudgedFirst (Ok (Done v)) old line new = ⊥
+IsJudgedFirst (Err cause) old line new = IsNoHeader line cause × (new ≡ old)
 
 -- At this stage a line is judged so; after the last line there may be none.
 abbrev pub IsJudgedIn : Stage → Result Stage BookCause → List Row → List ℕ → List Row → Type 0
-IsJudgedIn Header answer old line new = IsJudgedFirst answer line new
-IsJudgedIn (Rows v) answer old line new =
-    IsJudged (millis_of (gap_of v)) v answer old line new
+IsJudgedIn Header answer old line new = IsJudgedFirst answer old line new
+IsJudgedIn (Rows v) answer old line new = IsJudged v answer old line new
 IsJudgedIn (Done v) answer old line new = (answer ≡ Err why.After) × (new ≡ old)
 
--- The reader's book has the gap of the header that was read.
-abbrev pub HasItsGap : Stage → ℕ → Type 0
-HasItsGap Header gap = Unit {0}
-HasItsGap (Rows v) gap = gap ≡ gap_of v
-HasItsGap (Done v) gap = gap ≡ gap_of v
+-- ---- the rows of a text, in a store
 
--- The reader has read this text, and its book has the gap of the text's header.
-abbrev pub Stands : {A : Type 0} → BookReader A → List ℕ → Type 0
-Stands reader text = StandsAfter reader.stage reader.book.rows reader.line.items text
-    × HasItsGap reader.stage reader.book.gap
+-- The store has those rows from before the text, and then these, of which there are so many.
+pub record HasRows (before rows : List Row) (count : ℕ) (store : List Row) : Type 0 where
+  pub stored : store ≡ before ++ rows
+  pub counted : count ≡ length rows
+
+-- The store has those rows from before the text, and then so many of which P holds.
+pub record HasRowsSo (before : List Row) (count : ℕ) (store : List Row) (P : List Row → Type 0)
+    : Type 0 where
+  pub rows : List Row
+  pub has : HasRows before rows count store
+  pub holds : P rows
+
+-- A line adds a row to the store, after these rows of its text: it spells one that nothing refuses;
+-- or an allocation failed, or the line is wrong.
+abbrev pub AddsRow : Version → Result (Unit {0}) BookCause → List Row → List ℕ → List Row
+    → List Row → Type 0
+AddsRow v (Ok u) rows line old new = (x : Row) × IsBookRow (form_of v) x
+    × (line ≡ row_line (form_of v) x) × (new ≡ old ++ x ∷ [])
+    × (refusal (millis_of (gap_of v)) rows x ≡ None)
+AddsRow v (Err cause) rows line old new = ((cause ≡ why.Memory)
+    ⊎ (is_end line ≡ false → IsWrong (millis_of (gap_of v)) (form_of v) rows line cause))
+    × (new ≡ old)
+
+-- ---- a reader
+
+-- how many rows and bytes of a line it has read
+abbrev pub size_of : {A : Type 0} → BookReader A → ℕ
+size_of reader = reader.count + length reader.line.items
+
+-- The reader has read this text, and its rows are in the store, after those from before it.
+abbrev pub Stands : {A : Type 0} → List Row → BookReader A → List Row → List ℕ → Type 0
+Stands before reader store text = HasRowsSo before reader.count store
+    (λ rows. StandsAfter reader.stage rows reader.line.items text)

@@ -23,17 +23,6 @@ pub record SpellsBytes (digits bytes : List ℕ) : Type 0 where
   pub bytes_are : IsBytes bytes
   pub few : (0 < length bytes) × (length bytes ≤ most_frame_bytes)
 
--- The field spells these names, at least one, with commas between.
-pub record SpellsNames (field : List ℕ) (names : List (List ℕ)) : Type 0 where
-  pub field_is : field ≡ join_with_byte 44 names
-  pub names_are : All IsName names
-  pub some : 0 < length names
-
--- An allocation failed, or the field spells no names.
-abbrev pub IsWrongNames : List ℕ → BookCause → Type 0
-IsWrongNames field cause = (cause ≡ why.Memory)
-    ⊎ ((cause ≡ why.RowSyntax) × ((names : List (List ℕ)) → SpellsNames field names → ⊥))
-
 -- The digits spell the bytes of this frame.
 pub record SpellsFrame (digits frame : List ℕ) : Type 0 where
   pub spelled : SpellsBytes digits frame
@@ -46,8 +35,8 @@ IsWrongFrame digits cause =
     ⊎ ((cause ≡ why.Frame)
     × ((bytes : List ℕ) × SpellsBytes digits bytes × IsErr (frame_of bytes)))
 
--- An allocation failed, or the line spells no row, or one whose frame is none.
+-- The line spells no row, or one whose frame is none.
 abbrev pub IsWrongRow : MomentForm → List ℕ → BookCause → Type 0
-IsWrongRow form line cause = (cause ≡ why.Memory)
-    ⊎ (((cause ≡ why.RowSyntax) × ((x : Row) → IsSpelled form x → line ≢ row_line form x))
-    ⊎ ((cause ≡ why.Frame) × HasNoFrame form line))
+IsWrongRow form line cause =
+    ((cause ≡ why.RowSyntax) × ((x : Row) → IsSpelled form x → line ≢ row_line form x))
+    ⊎ ((cause ≡ why.Frame) × HasNoFrame form line)

@@ -1,6 +1,7 @@
 //! The text of a book: writing it, and reading it back.
 #![tactic(auto)]
 
+mod book_of;
 mod cut;
 mod end_line;
 mod fault;
@@ -10,6 +11,7 @@ mod laws;
 mod read;
 mod reader;
 mod row_line;
+mod row_text;
 mod version;
 mod write;
 mod write_pile;
@@ -19,7 +21,7 @@ pub use laws::{
     book_texts_are_of_sets, each_book_has_one_text, each_text_has_one_fault_or_none,
     old_moments_are_told_to_the_second, read_books_are_written_back, written_books_are_read,
 };
-pub use read::read_book;
+pub use read::{read_book, read_rows};
 pub use version::Version;
 pub use write::write_book;
 pub use write_pile::write_rows;

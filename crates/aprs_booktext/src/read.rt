@@ -1,15 +1,22 @@
 //! Reading a book.
-ghost use Rattle.std.specs.Prelude.{◌≤◌, ◌-◌, ◌++◌, length, IfSome};
-ghost use Rattle.aprs_io.specs.Device.{device_of, failures_of, Rose};
+ghost use Rattle.std.specs.Prelude.{◌≡◌, ◌≤◌, ◌-◌, ◌++◌, ℕ, [], List, Err, true, length, IfSome, IfOk, IfErr, OnOk};
+ghost use Rattle.aprs_io.specs.Device.{device_of, failures_of, Calls, Going, Rose};
 ghost use Rattle.aprs_io.specs.Input.{most_input};
+ghost use Rattle.aprs_io.specs.declared.device.Counted.{Counted as CountedValue};
+ghost use Rattle.aprs_laws.specs.Row.{Row};
 ghost use Rattle.aprs_booktext.specs.Asking.{Asks, Takes};
 ghost use Rattle.aprs_booktext.specs.FirstFault.{AcceptsBook, Reads};
+ghost use Rattle.aprs_booktext.specs.Reader.{gap_in, is_done, size_of, Stands};
+ghost use Rattle.aprs_booktext.specs.Reading.{Got, IsAnswered};
 ghost use Rattle.aprs_booktext.specs.Seconds.{ReadsSeconds};
+ghost use Rattle.aprs_booktext.specs.StoredRows.{book_read, rows_after};
 
+use crate::book_of::book_in;
 use crate::fault::{BookCause, BookFault};
 use crate::reader::BookReader;
-use aprs_book::Book;
+use aprs_book::{Book, Gap};
 use aprs_io::{Counted, read_some};
+use aprs_rows::RowStore;
 use std::alloc::Allocator;
 use std::io::Read;
 
@@ -23,7 +30,8 @@ const CHUNK: usize = 16_384;
 /// 30 seconds. Reading takes at most `limit` bytes, the head among them. Requires a limit of at
 /// most `MAX_INPUT` (1,073,741,824) and a head of at most 8 bytes and at most `limit`. A fault is
 /// the text's first, with the number of its line; `Memory` comes instead where an allocation failed
-/// before that fault, with the number of the line that was being read. Holds the book and one line.
+/// before that fault, with the number of the line that was being read. Holds one line and the rows
+/// in bytes, as `read_rows` does, and then the book beside them.
 pub fn read_book<R: Read, A: Allocator + Copy>(
     alloc: A,
     limit: u64,
@@ -45,17 +53,102 @@ pub fn read_book<R: Read, A: Allocator + Copy>(
     ensures over { IfSome (R.remaining (device_of source.old)) (λ input. Takes result
         (limit - length head.now) input (R.remaining (device_of source.new))) }
 {
+    let mut store = RowStore::new(alloc);
     let mut reader = BookReader::new(alloc);
-    reader.feed(head)?;
+    let left = read_lines(limit, head, source, &mut reader, &mut store)?;
+    let Ok(book) = book_in(alloc, reader.gap(), &store) else {
+        return Err(reader.refusal_at_last());
+    };
+    gap_at_end(left, source, &reader)?;
+    Ok(book)
+}
+
+/// Reads the rows of a book from its text, as `read_book` does, into a store, after the rows that
+/// are there, and gives the book's gap. After a fault anything may be there. Holds the store and
+/// one line.
+pub fn read_rows<R: Read, A: Allocator + Copy>(
+    alloc: A,
+    limit: u64,
+    head: &[u8],
+    source: &mut Counted<R>,
+    store: &mut RowStore<A>,
+) -> Result<Gap, BookFault>
+    requires limit { limit ≤ most_input }
+    requires head { length head.now ≤ 8 }
+    requires within { length head.now ≤ limit }
+    ensures kept { OnOk result (store.new ≡ store.old ++ rows_after store.old store.new) }
+    ensures reads { IfSome (R.remaining (device_of source.old))
+        (λ input. Reads limit head.now input (R.remaining (device_of source.new))
+        (book_read result store.old store.new)) }
+    ensures accepts { IfSome (R.remaining (device_of source.old))
+        (λ input. AcceptsBook limit (head.now ++ input) (book_read result store.old store.new)
+        (Rose (failures_of source.old) (failures_of source.new))) }
+    ensures seconds { IfSome (R.remaining (device_of source.old))
+        (λ input. ReadsSeconds (head.now ++ input) (book_read result store.old store.new)) }
+    // The reader is asked neither after its end nor after a fault.
+    ensures calls { Asks (book_read result store.old store.new) source.old source.new }
+    ensures over { IfSome (R.remaining (device_of source.old))
+        (λ input. Takes (book_read result store.old store.new) (limit - length head.now) input
+        (R.remaining (device_of source.new))) }
+{
+    let mut reader = BookReader::new(alloc);
+    let left = read_lines(limit, head, source, &mut reader, store)?;
+    gap_at_end(left, source, &reader)
+}
+
+/// Reads the lines of a text to its last one, and gives how many bytes more may be read.
+fn read_lines<R: Read, A: Allocator + Copy>(
+    limit: u64,
+    head: &[u8],
+    source: &mut Counted<R>,
+    reader: &mut BookReader<A>,
+    store: &mut RowStore<A>,
+) -> Result<u64, BookFault>
+    requires limit { limit ≤ most_input }
+    requires head { length head.now ≤ 8 }
+    requires within { length head.now ≤ limit }
+    requires none { size_of reader.old ≡ 0 }
+    requires stands { Stands store.old reader.old store.old [] }
+    ensures got { IfOk result (λ left. Got (Stands store.old reader.new store.new) head.now
+        (R.remaining (device_of source.old)) (R.remaining (device_of source.new)) limit left) }
+    ensures few { OnOk result (reader.new.count ≤ most_input) }
+    ensures done { OnOk result (is_done reader.new.stage ≡ true) }
+    ensures going { OnOk result (Calls Going source.old source.new) }
+    ensures fault { IfErr result (λ fault.
+        IsAnswered R.remaining limit head.now (Err fault) source.old source.new) }
+{
+    reader.feed(store, head)?;
     let mut room = [0; CHUNK];
     let mut left = limit - head.len() as u64;
-    loop {
+    while !reader.is_done() {
         match read_some(source, &mut room, left) {
             Ok(count) => {
-                reader.feed(&room[..count])?;
+                reader.feed(store, &room[..count])?;
                 left -= count as u64;
             }
-            Err(ending) => return reader.finish(ending),
+            Err(ending) => return Err(reader.fault_at(ending)),
         }
+    }
+    Ok(left)
+}
+
+/// The gap of the book whose last line was read, where the input ends there.
+fn gap_at_end<R: Read, A: Allocator + Copy>(
+    left: u64,
+    source: &mut Counted<R>,
+    reader: &BookReader<A>,
+) -> Result<Gap, BookFault>
+    requires few { reader.now.count ≤ most_input }
+    requires done { is_done reader.now.stage ≡ true }
+    ensures gap { IfOk result (λ gap. gap ≡ gap_in reader.now.stage) }
+    ensures answer { (before store : List Row) (head : List ℕ) (first : CountedValue R) (limit : ℕ)
+        → Got (Stands before reader.now store) head (R.remaining (device_of first))
+        (R.remaining (device_of source.old)) limit left → Calls Going first source.old
+        → IsAnswered R.remaining limit head (book_read result before store) first source.new }
+{
+    let mut one = [0];
+    match read_some(source, &mut one, left) {
+        Ok(_) => Err(reader.fault(BookCause::After)),
+        Err(ending) => reader.finish(ending),
     }
 }

@@ -1,20 +1,25 @@
-//! A book, while its text is read.
-ghost use Rattle.std.specs.Prelude.{◌≡◌, ◌≢◌, ◌+◌, ◌≤◌, ◌++◌, ◌∷◌, ℕ, [], true, List, length, OnOk, OnErr, MatchResult, IfOk, IfErr};
+//! A book's text, while it is read.
+ghost use Rattle.std.specs.Prelude.{◌≡◌, ◌≢◌, ◌+◌, ◌≤◌, ◌++◌, ◌∷◌, ℕ, [], true, List, length, OnOk, OnErr, MatchResult, IfErr, IfNone, IfOk};
 ghost use Rattle.aprs_io.specs.Input.{most_input};
 ghost use Rattle.aprs_laws.specs.Gap.{millis_of};
+ghost use Rattle.aprs_laws.specs.Row.{Row};
+ghost use Rattle.aprs_laws.specs.Sound.{IsSoundRow};
+ghost use Rattle.aprs_rows.specs.Refusal.{refusal};
 ghost use Rattle.aprs_booktext.specs.FirstFault.{ending_cause, ReadsSo};
 ghost use Rattle.aprs_booktext.specs.Lines.{Lacks};
+ghost use Rattle.aprs_booktext.specs.StoredRows.{book_read};
 ghost use Rattle.aprs_booktext.specs.Text.{end_line};
 ghost use Rattle.aprs_booktext.specs.Version.{gap_of};
-ghost use Rattle.aprs_booktext.specs.Reader.{EndsIn, HasItsGap, IsFault, IsJudged, IsJudgedFirst, IsJudgedIn, IsOfText, is_done, line_number, may_end, Stands};
+ghost use Rattle.aprs_booktext.specs.Reader.{AddsRow, EndsIn, HasRows, HasRowsSo, IsFault, IsJudged, IsJudgedFirst, IsJudgedIn, IsOfText, gap_in, is_done, line_number, may_end, size_of, Stands};
 
 use crate::cut::cut;
 use crate::end_line::end_line;
 use crate::fault::{BookCause, BookFault};
 use crate::row_line::read_row;
 use crate::version::Version;
-use aprs_book::Book;
+use aprs_book::{Gap, RowCause};
 use aprs_io::Ending;
+use aprs_rows::{RowStore, RowView};
 use std::alloc::Allocator;
 
 /// Which line of a book's text comes next.
@@ -28,10 +33,11 @@ pub enum Stage {
     Done(Version),
 }
 
-/// What was read of a book's text: whole lines, and a prefix of a line.
+/// What was read of a book's text: whole lines, and a prefix of a line. The rows of the lines are
+/// the last ones of a store, so many.
 #[derive(Drop)]
 pub struct BookReader<A: Allocator> {
-    book: Book<A>,
+    count: usize,
     line: Vec<u8, A>,
     stage: Stage,
 }
@@ -39,55 +45,63 @@ pub struct BookReader<A: Allocator> {
 impl<A: Allocator + Copy> BookReader<A> {
     /// A reader before a text.
     pub fn new(alloc: A) -> BookReader<A>
-        ensures stands { Stands result [] }
-        ensures empty { result.book.rows ≡ [] }
+        ensures stands { (store : List Row) → Stands store result store [] }
+        ensures empty { size_of result ≡ 0 }
     {
         BookReader {
-            book: Book::new(alloc),
+            count: 0,
             line: Vec::new(alloc),
             stage: Stage::Header,
         }
     }
 
-    /// Reads on.
-    pub fn feed(&mut self, piece: &[u8]) -> Result<(), BookFault>
-        requires { length self.old.book.rows + length piece.now ≤ most_input }
-        ensures stands { OnOk result ((t : List ℕ) → Stands self.old t
-            → Stands self.new (t ++ piece.now)) }
-        ensures more { OnOk result
-            (length self.new.book.rows ≤ length self.old.book.rows + length piece.now) }
-        ensures fault { IfErr result (λ fault. (t : List ℕ) → Stands self.old t
+    /// Whether the last line was read.
+    pub fn is_done(&self) -> bool
+        ensures { result ≡ is_done self.now.stage }
+    {
+        is_done(self.stage)
+    }
+
+    /// The gap of the text's book, as the header says.
+    pub fn gap(&self) -> Gap
+        ensures { result ≡ gap_in self.now.stage }
+    {
+        match self.stage {
+            Stage::Header => Gap::STANDARD,
+            Stage::Rows(version) | Stage::Done(version) => version.gap(),
+        }
+    }
+
+    /// Reads on, and puts the rows of the lines after those of the store.
+    pub fn feed(&mut self, store: &mut RowStore<A>, piece: &[u8]) -> Result<(), BookFault>
+        requires { size_of self.old + length piece.now ≤ most_input }
+        ensures stands { OnOk result ((before : List Row) (t : List ℕ)
+            → Stands before self.old store.old t
+            → Stands before self.new store.new (t ++ piece.now)) }
+        ensures size { OnOk result (size_of self.new ≤ size_of self.old + length piece.now) }
+        ensures fault { IfErr result (λ fault. (before : List Row) (t : List ℕ)
+            → Stands before self.old store.old t
             → IsFault (length piece.now) fault (t ++ piece.now)) }
         ensures cause { IfErr result (λ fault. IsOfText fault.cause) }
     {
         let mut rest = piece;
         while let Some((part, after)) = cut(rest, b'\n') {
             self.append(part)?;
-            self.end_line()?;
+            self.end_line(store)?;
             rest = after;
         }
         self.append(rest)
     }
 
-    /// The book of the text after which `ending` came.
-    pub fn finish(self, ending: Ending) -> Result<Book<A>, BookFault>
-        requires { length self.book.rows ≤ most_input }
-        ensures reads { (t : List ℕ) → Stands self t → ReadsSo result t ending }
-        ensures ending { EndsIn ending result }
-    {
-        if may_end(self.stage, ending) {
-            return Ok(self.book);
-        }
-        Err(self.fault(ending_cause(ending)))
-    }
-
     /// Puts bytes after those of the line.
     fn append(&mut self, bytes: &[u8]) -> Result<(), BookFault>
-        requires { length self.old.book.rows ≤ most_input }
-        ensures stands { OnOk result ((t : List ℕ) → Stands self.old t
-            → Lacks 10 bytes.now → Stands self.new (t ++ bytes.now)) }
-        ensures same { OnOk result (self.new.book ≡ self.old.book) }
-        ensures fault { IfErr result (λ fault. (t more : List ℕ) → Stands self.old t
+        requires { size_of self.old ≤ most_input }
+        ensures stands { OnOk result ((before store : List Row) (t : List ℕ)
+            → Stands before self.old store t → Lacks 10 bytes.now
+            → Stands before self.new store (t ++ bytes.now)) }
+        ensures size { OnOk result (size_of self.new ≤ size_of self.old + length bytes.now) }
+        ensures fault { IfErr result (λ fault. (before store : List Row) (t more : List ℕ)
+            → Stands before self.old store t
             → IsFault (length bytes.now + length more) fault ((t ++ bytes.now) ++ more)) }
         ensures cause { IfErr result (λ fault. IsOfText fault.cause) }
     {
@@ -101,11 +115,12 @@ impl<A: Allocator + Copy> BookReader<A> {
     }
 
     /// Sees that no bytes come after the last line.
-    fn append_nothing(&self, bytes: &[u8]) -> Result<(), BookFault>
-        requires few { length self.now.book.rows ≤ most_input }
+    pub fn append_nothing(&self, bytes: &[u8]) -> Result<(), BookFault>
+        requires few { self.now.count ≤ most_input }
         requires done { is_done self.now.stage ≡ true }
         ensures ok { OnOk result (bytes.now ≡ []) }
-        ensures fault { IfErr result (λ fault. (t more : List ℕ) → Stands self.now t
+        ensures fault { IfErr result (λ fault. (before store : List Row) (t more : List ℕ)
+            → Stands before self.now store t
             → IsFault (length bytes.now + length more) fault ((t ++ bytes.now) ++ more)) }
         ensures cause { IfErr result (λ fault. IsOfText fault.cause) }
     {
@@ -116,16 +131,18 @@ impl<A: Allocator + Copy> BookReader<A> {
     }
 
     /// Judges the line, which is whole.
-    fn end_line(&mut self) -> Result<(), BookFault>
-        requires { length self.old.book.rows ≤ most_input }
-        ensures stands { OnOk result ((t : List ℕ) → Stands self.old t
-            → Stands self.new (t ++ 10 ∷ [])) }
-        ensures more { OnOk result (length self.new.book.rows ≤ length self.old.book.rows + 1) }
-        ensures fault { IfErr result (λ fault. (t more : List ℕ) → Stands self.old t
+    fn end_line(&mut self, store: &mut RowStore<A>) -> Result<(), BookFault>
+        requires { size_of self.old ≤ most_input }
+        ensures stands { OnOk result ((before : List Row) (t : List ℕ)
+            → Stands before self.old store.old t
+            → Stands before self.new store.new (t ++ 10 ∷ [])) }
+        ensures size { OnOk result (size_of self.new ≤ size_of self.old + 1) }
+        ensures fault { IfErr result (λ fault. (before : List Row) (t more : List ℕ)
+            → Stands before self.old store.old t
             → IsFault (length more + 1) fault (t ++ 10 ∷ more)) }
         ensures cause { IfErr result (λ fault. IsOfText fault.cause) }
     {
-        match self.judge() {
+        match self.judge(store) {
             Ok(stage) => {
                 self.stage = stage;
                 self.line.clear();
@@ -136,36 +153,67 @@ impl<A: Allocator + Copy> BookReader<A> {
     }
 
     /// What comes after the line.
-    fn judge(&mut self) -> Result<Stage, BookCause>
-        ensures judged { HasItsGap self.old.stage self.old.book.gap
-            → IsJudgedIn self.old.stage result self.old.book.rows
-            self.old.line.items self.new.book.rows }
-        ensures gap { HasItsGap self.old.stage self.old.book.gap
-            → IfOk result (λ next. HasItsGap next self.new.book.gap) }
-        ensures more { OnOk result
-            (length self.new.book.rows ≤ length self.old.book.rows + 1) }
-        ensures unchanged { OnErr result (self.new.book ≡ self.old.book) }
+    fn judge(&mut self, store: &mut RowStore<A>) -> Result<Stage, BookCause>
+        requires { size_of self.old ≤ most_input }
+        ensures judged { (before rows : List Row) → HasRows before rows self.old.count store.old
+            → HasRowsSo before self.new.count store.new
+            (IsJudgedIn self.old.stage result rows self.old.line.items) }
+        ensures count { self.new.count ≤ self.old.count + 1 }
+        ensures unchanged { OnErr result (self.new.count ≡ self.old.count) }
         ensures cause { IfErr result IsOfText }
         ensures line { self.new.line.items ≡ self.old.line.items }
         ensures stage { self.new.stage ≡ self.old.stage }
     {
         let stage = self.stage;
-        let alloc = *self.line.allocator();
         let line = self.line.as_slice();
         match stage {
-            Stage::Header => judge_header(alloc, &mut self.book, line),
-            Stage::Rows(version) => judge_line(alloc, &mut self.book, version, line),
+            Stage::Header => judge_header(line),
+            Stage::Rows(version) => judge_line(store, &mut self.count, version, line),
             Stage::Done(_) => Err(BookCause::After),
         }
     }
 
-    /// A fault of this cause in the line that is read.
-    fn fault(&self, cause: BookCause) -> BookFault
-        requires { length self.now.book.rows ≤ most_input }
-        ensures { result
-            ≡ record { line = line_number self.now.stage self.now.book.rows; cause = cause } }
+    /// The gap of the text's book, where the text may end so.
+    pub fn finish(&self, ending: Ending) -> Result<Gap, BookFault>
+        requires { self.now.count ≤ most_input }
+        ensures reads { (before store : List Row) (t : List ℕ) → Stands before self.now store t
+            → ReadsSo (book_read result before store) t ending }
+        ensures ending { EndsIn ending result }
+        ensures gap { IfOk result (λ gap. gap ≡ gap_in self.now.stage) }
     {
-        let rows = self.book.len() as u64;
+        if may_end(self.stage, ending) {
+            return Ok(self.gap());
+        }
+        Err(self.fault_at(ending))
+    }
+
+    /// The fault where the text ends so and may not.
+    pub fn fault_at(&self, ending: Ending) -> BookFault
+        requires { self.now.count ≤ most_input }
+        ensures { result ≡ record { line = line_number self.now.stage self.now.count;
+            cause = ending_cause ending } }
+    {
+        self.fault(ending_cause(ending))
+    }
+
+    /// The fault where memory is refused after the last line was read: it is that line's.
+    pub fn refusal_at_last(&self) -> BookFault
+        requires { self.now.count ≤ most_input }
+        ensures { result ≡ record { line = self.now.count + 2; cause = BookCause.Memory } }
+    {
+        BookFault {
+            line: self.count as u64 + 2,
+            cause: BookCause::Memory,
+        }
+    }
+
+    /// A fault of this cause in the line that is read.
+    pub fn fault(&self, cause: BookCause) -> BookFault
+        requires { self.now.count ≤ most_input }
+        ensures { result
+            ≡ record { line = line_number self.now.stage self.now.count; cause = cause } }
+    {
+        let rows = self.count as u64;
         let line = match self.stage {
             Stage::Header => 1,
             Stage::Rows(_) => rows + 2,
@@ -192,45 +240,37 @@ fn may_end(stage: Stage, ending: Ending) -> bool
     is_done(stage) && ending == Ending::End
 }
 
-/// What comes after the first line: rows of a book with the gap of the line's version.
-fn judge_header<A: Allocator + Copy>(
-    alloc: A,
-    book: &mut Book<A>,
-    line: &[u8],
-) -> Result<Stage, BookCause>
-    ensures judged { IsJudgedFirst result line.now book.new.rows }
-    ensures gap { IfOk result (λ next. HasItsGap next book.new.gap) }
-    ensures more { OnOk result (book.new.rows ≡ []) }
-    ensures unchanged { OnErr result (book.new ≡ book.old) }
+/// What comes after the first line: rows of a text of the version that it names.
+fn judge_header(line: &[u8]) -> Result<Stage, BookCause>
+    ensures judged { (rows : List Row) → IsJudgedFirst result rows line.now rows }
+    ensures cause { IfErr result IsOfText }
 {
     match Version::of_header(line) {
-        Some(version) => {
-            *book = Book::with_gap(alloc, version.gap());
-            Ok(Stage::Rows(version))
-        }
+        Some(version) => Ok(Stage::Rows(version)),
         None => Err(BookCause::Header),
     }
 }
 
 /// Adds the row that a line spells in a text of this version, or sees that it is the last line.
 fn judge_line<A: Allocator + Copy>(
-    alloc: A,
-    book: &mut Book<A>,
+    store: &mut RowStore<A>,
+    count: &mut usize,
     version: Version,
     line: &[u8],
 ) -> Result<Stage, BookCause>
-    ensures judged { IsJudged (millis_of book.old.gap) version result
-        book.old.rows line.now book.new.rows }
-    ensures gap { book.new.gap ≡ book.old.gap }
+    requires { count.old + length line.now ≤ most_input }
+    ensures judged { (before rows : List Row) → HasRows before rows count.old store.old
+        → HasRowsSo before count.new store.new (IsJudged version result rows line.now) }
+    ensures count { count.new ≤ count.old + 1 }
+    ensures unchanged { OnErr result (count.new ≡ count.old) }
+    ensures cause { IfErr result IsOfText }
 {
     if line.starts_with(b"END") {
-        return judge_end(line, version, book.len());
+        return judge_end(line, version, *count);
     }
-    let row = read_row(alloc, version.form(), line)?;
-    match book.push_row(&row) {
-        Ok(()) => Ok(Stage::Rows(version)),
-        Err(cause) => Err(BookCause::from(cause)),
-    }
+    add_row(store, *count, &version, line)?;
+    *count += 1;
+    Ok(Stage::Rows(version))
 }
 
 /// Whether this is the last line of so many rows, in a text of this version.
@@ -244,6 +284,51 @@ fn judge_end(line: &[u8], version: Version, rows: usize) -> Result<Stage, BookCa
     } else {
         Err(BookCause::Ending)
     }
+}
+
+/// Puts the row that a line spells after the rows of the store, of which the last, so many, are of
+/// its text.
+fn add_row<A: Allocator + Copy>(
+    store: &mut RowStore<A>,
+    count: usize,
+    version: &Version,
+    line: &[u8],
+) -> Result<(), BookCause>
+    requires { length line.now ≤ most_input }
+    ensures added { (before rows : List Row) → HasRows before rows count store.old
+        → AddsRow version.now result rows line.now store.old store.new }
+    ensures cause { IfErr result IsOfText }
+{
+    let text = match read_row(version.form(), line) {
+        Ok(text) => text,
+        Err(cause) => return Err(cause),
+    };
+    let row = text.view();
+    if let Some(cause) = refusal(store, count, version.gap(), &row) {
+        return Err(BookCause::from(cause));
+    }
+    match store.push(&row) {
+        Ok(()) => Ok(()),
+        Err(_) => Err(BookCause::Memory),
+    }
+}
+
+/// Why a row isn't put after the last rows of the store, so many, which are of its text.
+fn refusal<A: Allocator + Copy>(
+    store: &RowStore<A>,
+    count: usize,
+    gap: Gap,
+    row: &RowView<'_>,
+) -> Option<RowCause>
+    ensures cause { (before rows : List Row) → HasRows before rows count store.now
+        → result ≡ refusal (millis_of gap) rows row.now }
+    ensures sound { IfNone result (IsSoundRow row.now) }
+{
+    if count == 0 {
+        return row.refusal_after(None, gap);
+    }
+    let last = store.last();
+    row.refusal_after(last.as_ref(), gap)
 }
 
 /// The cause of a fault where a byte had to come and the input ended so.

@@ -1,143 +1,61 @@
-use Rattle.std.proofs.Common.{◌≡◌, ◌-◌, [], ap, arith, length, take, length-take}
+use Rattle.std.proofs.Common.{ℕ, ◌∙◌, List, Ok, ap, arith, sym}
 use Rattle.std.proofs.lemmas.Result.{err_from_is_err_and}
-use Rattle.aprs_io.specs.Device.{device_of}
-use Rattle.aprs_io.proofs.Sends.{Calls-none, Calls-then}
-use Rattle.aprs_booktext.proofs.Accepting.{accepts, reads_seconds}
-use Rattle.aprs_booktext.proofs.Asking.{Asks-end, Asks-fault, Asks-rose, Takes-fault}
 use Rattle.aprs_booktext.specs.FirstFault.{most_ahead}
-use Rattle.aprs_booktext.specs.Reader.{IsFault, Stands}
+use Rattle.aprs_booktext.specs.Reader.{IsFault, IsOfText, Stands}
+use Rattle.aprs_booktext.specs.Reading.{IsAnswered}
+use Rattle.aprs_booktext.proofs.Accepting.{answer_accepts, answer_seconds}
+use Rattle.aprs_booktext.proofs.Inputs.{Got-weaker, IsAnswered-fault, answer_book}
+use Rattle.aprs_booktext.proofs.LastLines.{done_refused}
 use Rattle.aprs_booktext.proofs.Standing.{fault_near}
-use Rattle.aprs_booktext.proofs.Inputs.{Got-none, Got-more, Gets-here, Takes-here, takes_got, Reads-got, Reads-fault}
 use Rattle.aprs_booktext.proofs.read.read_book.Goals as goal
 
-pub returns-in_err-feed-clause-reads : goal.returns-in_err-feed-clause-reads
-returns-in_err-feed-clause-reads g c =
+pub returns-in_err-left-clause-accepts : goal.returns-in_err-left-clause-accepts
+returns-in_err-left-clause-accepts g c =
     let p = err_from_is_err_and c.from_residual.result c.from_residual.ensures.1 in
-    let f = c.in_err-feed.field-0.0 in
-    rw (p.1, p.2) (Reads-fault f c.args.head.now _ _ _ _
-    (Got-none (IsFault most_ahead f) c.args.head.now
-    (g.R.Read.remaining (device_of c.args.source.now)) c.args.limit
-    (c.args.limit - length c.args.head.now)
-    (fault_near (length c.args.head.now) most_ahead f c.args.head.now (omega arith)
-    (c.in_err-feed.ensures.fault [] c.new-reader.ensures.stands)) (omega arith)))
+    rw (p.1, p.2) (answer_accepts _ c.args.limit c.args.head.now _ _ _ c.requires.limit
+    c.in_err-left.ensures.fault)
 
-pub loop-count-init : goal.loop-count-init
-loop-count-init g c = record {
-  got = Got-none (Stands c.feed.new.self) c.args.head.now _ _ _
-      (c.in_ok-feed.ensures.stands [] c.new-reader.ensures.stands) (omega arith);
-  few = omega (arith, c.in_ok-feed.ensures.more, ap length c.new-reader.ensures.empty);
-  calls = Calls-none _;
-}
+pub returns-in_default-clause-reads : goal.returns-in_default-clause-reads
+returns-in_default-clause-reads g c =
+    let f = c.refusal_at_last.result in
+    let reader = c.read_lines.new.reader in
+    let store = c.read_lines.new.store in
+    let of : IsOfText f.cause = rw c.refusal_at_last.ensures ((λ e. cc), (λ e. cc)) in
+    let step : (t : List ℕ) → Stands c.new-store.result reader store t → IsFault most_ahead f t =
+    λ t s. rw (c.refusal_at_last.ensures, s.has.counted)
+    (fault_near 1 most_ahead _ t (omega arith) (done_refused _ s.rows _ t c.in_ok-left.ensures.done
+    (omega (arith, c.in_ok-left.ensures.few, s.has.counted)) s.holds)) in
+    let answer = IsAnswered-fault g.R.Read.remaining c.args.limit c.args.head.now c.args.source.now
+    c.read_lines.new.source c.in_ok-left.left c.in_ok-left.ensures.going f of
+    (Got-weaker (Stands c.new-store.result reader store) (IsFault most_ahead f) c.args.head.now
+    _ _ c.args.limit c.in_ok-left.left step c.in_ok-left.ensures.got) in
+    answer.reads
 
-pub returns-in_err-feed-in-Ok-clause-reads : goal.returns-in_err-feed-in-Ok-clause-reads
-returns-in_err-feed-in-Ok-clause-reads g c =
-    let p = err_from_is_err_and c.from_residual-in_err-feed-in-Ok.result
-    c.from_residual-in_err-feed-in-Ok.ensures.1 in
-    let f = c.in_err-feed-in-Ok.field-0.0 in
-    let n = c.in-Ok.count in
-    let some = c.in-Ok.ensures.some in
-    let size : length (take n c.read_some.new.room) ≡ n = simp length-take (omega (arith, some)) in
-    rw (p.1, p.2) (Reads-fault f c.args.head.now _ _ _ _
-    (Got-more _ c.args.head.now _ _ _ _ c.loop-count.invariant.got (IsFault most_ahead f) _
-    (take n c.read_some.new.room) (c.loop-count.left - n)
-    (λ t s. fault_near (length (take n c.read_some.new.room)) most_ahead f _
-    (omega (arith, size, some)) (c.in_err-feed-in-Ok.ensures.fault t s)) c.in-Ok.ensures.bytes
-    (omega (arith, size, some))))
+pub returns-in_err-gap_at_end-clause-accepts : goal.returns-in_err-gap_at_end-clause-accepts
+returns-in_err-gap_at_end-clause-accepts g c =
+    let p = err_from_is_err_and c.from_residual-in_err-gap_at_end.result
+    c.from_residual-in_err-gap_at_end.ensures.1 in
+    rw (p.1, p.2) (answer_accepts _ c.args.limit c.args.head.now _ _ _ c.requires.limit
+    (c.in_err-gap_at_end.ensures.answer c.new-store.result c.read_lines.new.store c.args.head.now
+    c.args.source.now c.args.limit c.in_ok-left.ensures.got c.in_ok-left.ensures.going))
 
-pub loop-count-preserved : goal.loop-count-preserved
-loop-count-preserved g c =
-    let n = c.in-Ok.count in
-    let some = c.in-Ok.ensures.some in
-    let size : length (take n c.read_some.new.room) ≡ n = simp length-take (omega (arith, some)) in
-    record {
-      got = Got-more _ c.args.head.now _ _ _ _ c.loop-count.invariant.got
-          (Stands c.feed-in-Ok.new.self) _ (take n c.read_some.new.room) (c.loop-count.left - n)
-          c.in_ok-feed-in-Ok.ensures.stands c.in-Ok.ensures.bytes (omega (arith, size, some));
-      few = omega (arith, c.loop-count.invariant.few, c.in_ok-feed-in-Ok.ensures.more, size, some);
-      calls = Calls-then c.loop-count.invariant.calls c.in-Ok.ensures.calls;
-    }
+answer : (g : _) (c : goal.After-drop-store-2 g) → IsAnswered g.R.Read.remaining c.args.limit
+    c.args.head.now (Ok c.in-Ok.book) c.args.source.now c.gap_at_end.new.source
+answer g c = answer_book g.R.Read.remaining c.args.limit c.args.head.now c.new-store.result
+    c.read_lines.new.store c.in_ok-gap_at_end.field-0 c.in-Ok.book c.args.source.now
+    c.gap_at_end.new.source c.new-store.ensures
+    (c.in-Ok.ensures ∙ ap (λ (n : ℕ). record { gap = n; rows = c.read_lines.new.store })
+    (c.gap.ensures ∙ sym c.in_ok-gap_at_end.ensures.gap))
+    (c.in_ok-gap_at_end.ensures.answer c.new-store.result c.read_lines.new.store c.args.head.now
+    c.args.source.now c.args.limit c.in_ok-left.ensures.got c.in_ok-left.ensures.going)
 
-pub returns-in-Err-clause-reads : goal.returns-in-Err-clause-reads
-returns-in-Err-clause-reads g c =
-    let p = c.loop-count.invariant.got in
-    Reads-got _ _ c.args.limit c.args.head.now p.got c.in-Err.ending _
-    (Gets-here _ c.args.head.now _ _ c.args.limit c.loop-count.left p c.in-Err.ending _
-    c.in-Err.ensures.end)
-    (c.finish.ensures.reads _ p.stands)
+pub returns-clause-reads : goal.returns-clause-reads
+returns-clause-reads g c = let a = answer g c in a.reads
 
-pub returns-in_err-feed-clause-calls : goal.returns-in_err-feed-clause-calls
-returns-in_err-feed-clause-calls g c =
-    let p = err_from_is_err_and c.from_residual.result c.from_residual.ensures.1 in
-    rw (p.1, p.2) (Asks-fault (Calls-none _) c.in_err-feed.field-0.0 c.in_err-feed.ensures.cause)
+pub returns-clause-accepts : goal.returns-clause-accepts
+returns-clause-accepts g c = answer_accepts _ c.args.limit c.args.head.now _ _ _ c.requires.limit
+    (answer g c)
 
-pub returns-in_err-feed-clause-over : goal.returns-in_err-feed-clause-over
-returns-in_err-feed-clause-over g c =
-    let p = err_from_is_err_and c.from_residual.result c.from_residual.ensures.1 in
-    rw (p.1, p.2) (Takes-fault _ _ _ c.in_err-feed.field-0.0 c.in_err-feed.ensures.cause
-    (takes_got _ _ _ _ _ _ (Got-none (λ t. Unit {0}) c.args.head.now _ c.args.limit
-    (c.args.limit - length c.args.head.now) tt (omega arith))))
-
-pub returns-in_err-feed-in-Ok-clause-calls : goal.returns-in_err-feed-in-Ok-clause-calls
-returns-in_err-feed-in-Ok-clause-calls g c =
-    let p = err_from_is_err_and c.from_residual-in_err-feed-in-Ok.result
-    c.from_residual-in_err-feed-in-Ok.ensures.1 in
-    rw (p.1, p.2) (Asks-fault (Calls-then c.loop-count.invariant.calls c.in-Ok.ensures.calls)
-    c.in_err-feed-in-Ok.field-0.0 c.in_err-feed-in-Ok.ensures.cause)
-
-pub returns-in_err-feed-in-Ok-clause-over : goal.returns-in_err-feed-in-Ok-clause-over
-returns-in_err-feed-in-Ok-clause-over g c =
-    let p = err_from_is_err_and c.from_residual-in_err-feed-in-Ok.result
-    c.from_residual-in_err-feed-in-Ok.ensures.1 in
-    let n = c.in-Ok.count in
-    let some = c.in-Ok.ensures.some in
-    let size : length (take n c.read_some.new.room) ≡ n = simp length-take (omega (arith, some)) in
-    rw (p.1, p.2) (Takes-fault _ _ _ c.in_err-feed-in-Ok.field-0.0
-    c.in_err-feed-in-Ok.ensures.cause
-    (takes_got _ _ _ _ _ _ (Got-more _ c.args.head.now _ _ _ _ c.loop-count.invariant.got
-    (λ t. Unit {0}) _ (take n c.read_some.new.room) (c.loop-count.left - n) (λ t s. tt)
-    c.in-Ok.ensures.bytes (omega (arith, size, some)))))
-
-pub returns-in-Err-clause-calls : goal.returns-in-Err-clause-calls
-returns-in-Err-clause-calls g c =
-    Asks-end c.loop-count.invariant.calls c.in-Err.ending c.finish.result c.finish.ensures.ending
-    c.in-Err.ensures.calls
-
-pub returns-in-Err-clause-over : goal.returns-in-Err-clause-over
-returns-in-Err-clause-over g c =
-    let p = c.loop-count.invariant.got in
-    Takes-here _ _ _ _ _ _ p c.in-Err.ending _ c.finish.result c.finish.ensures.ending
-    c.in-Err.ensures.end c.in-Err.ensures.over
-
-pub returns-in_err-feed-clause-accepts : goal.returns-in_err-feed-clause-accepts
-returns-in_err-feed-clause-accepts g c =
-    accepts _ _ c.args.limit c.args.head.now c.from_residual.result _ c.requires.limit
-    (returns-in_err-feed-clause-reads g c)
-    (Asks-rose _ _ c.from_residual.result (returns-in_err-feed-clause-calls g c))
-
-pub returns-in_err-feed-in-Ok-clause-accepts : goal.returns-in_err-feed-in-Ok-clause-accepts
-returns-in_err-feed-in-Ok-clause-accepts g c =
-    accepts _ _ c.args.limit c.args.head.now c.from_residual-in_err-feed-in-Ok.result _
-    c.requires.limit (returns-in_err-feed-in-Ok-clause-reads g c)
-    (Asks-rose _ _ c.from_residual-in_err-feed-in-Ok.result
-    (returns-in_err-feed-in-Ok-clause-calls g c))
-
-pub returns-in-Err-clause-accepts : goal.returns-in-Err-clause-accepts
-returns-in-Err-clause-accepts g c =
-    accepts _ _ c.args.limit c.args.head.now c.finish.result _ c.requires.limit
-    (returns-in-Err-clause-reads g c)
-    (Asks-rose _ _ c.finish.result (returns-in-Err-clause-calls g c))
-
-pub returns-in_err-feed-clause-seconds : goal.returns-in_err-feed-clause-seconds
-returns-in_err-feed-clause-seconds g c =
-    reads_seconds c.args.limit c.args.head.now _ c.requires.limit _ c.from_residual.result
-    (returns-in_err-feed-clause-reads g c)
-
-pub returns-in_err-feed-in-Ok-clause-seconds : goal.returns-in_err-feed-in-Ok-clause-seconds
-returns-in_err-feed-in-Ok-clause-seconds g c =
-    reads_seconds c.args.limit c.args.head.now _ c.requires.limit _
-    c.from_residual-in_err-feed-in-Ok.result (returns-in_err-feed-in-Ok-clause-reads g c)
-
-pub returns-in-Err-clause-seconds : goal.returns-in-Err-clause-seconds
-returns-in-Err-clause-seconds g c =
-    reads_seconds c.args.limit c.args.head.now _ c.requires.limit _ c.finish.result
-    (returns-in-Err-clause-reads g c)
+pub returns-clause-seconds : goal.returns-clause-seconds
+returns-clause-seconds g c = answer_seconds _ c.args.limit c.args.head.now _ _ _ c.requires.limit
+    (answer g c)

@@ -1,13 +1,12 @@
 use Rattle.std.proofs.Common.{◌∙◌, sym}
-use Rattle.aprs_booktext.proofs.Standing.{held_fault, held_stands}
+use Rattle.aprs_booktext.proofs.Standing.{held_fault, held_stands, HasRowsSo-weaker}
 use Rattle.aprs_booktext.proofs.reader.BookReader.append.Goals as goal
 
 pub returns-in-Ok-clause-stands : goal.returns-in-Ok-clause-stands
-returns-in-Ok-clause-stands g c = λ t s lacks. rw c.in-Ok.ensures.items (
-  held_stands _ _ _ t c.args.bytes.now (sym c.is_done.ensures ∙ c.if-is_done.false) lacks s.0,
-  s.1,
-)
+returns-in-Ok-clause-stands g c = λ before store t s lacks. rw c.in-Ok.ensures.items
+    (HasRowsSo-weaker _ _ _ _ _ (λ rows h. held_stands _ _ _ t c.args.bytes.now
+    (sym c.is_done.ensures ∙ c.if-is_done.false) lacks h) s)
 
 pub returns-in-Err-clause-fault : goal.returns-in-Err-clause-fault
-returns-in-Err-clause-fault g c = λ t more s. rw c.fault.ensures
-    (held_fault _ _ _ t c.args.bytes.now more (sym c.is_done.ensures ∙ c.if-is_done.false) s.0)
+returns-in-Err-clause-fault g c = λ before store t more s. rw (c.fault.ensures, s.has.counted)
+    (held_fault _ _ _ t c.args.bytes.now more (sym c.is_done.ensures ∙ c.if-is_done.false) s.holds)

@@ -1,10 +1,18 @@
+use Rattle.std.proofs.Common.{◌++◌, ◌∷◌, []}
 use Rattle.aprs_booktext.proofs.Standing.{ended_stands, ended_fault}
 use Rattle.aprs_booktext.proofs.reader.BookReader.end_line.Goals as goal
 
 pub returns-in-Ok-clause-stands : goal.returns-in-Ok-clause-stands
-returns-in-Ok-clause-stands g c = λ t s. rw c.clear.ensures.items
-    (ended_stands _ _ _ _ _ t (c.in-Ok.ensures.judged s.1) s.0, c.in-Ok.ensures.gap s.1)
+returns-in-Ok-clause-stands g c = λ before t s. rw c.clear.ensures.items
+    (let j = c.in-Ok.ensures.judged before s.rows s.has in
+    record {
+      rows = j.rows;
+      has = j.has;
+      holds = ended_stands _ _ _ _ _ t j.holds s.holds;
+    })
 
 pub returns-in-Err-clause-fault : goal.returns-in-Err-clause-fault
-returns-in-Err-clause-fault g c = λ t more s. rw (c.fault.ensures, c.in-Err.ensures.stage)
-    (ended_fault _ _ _ _ t more _ (c.in-Err.ensures.judged s.1) s.0)
+returns-in-Err-clause-fault g c = λ before t more s.
+    let j = c.in-Err.ensures.judged before s.rows s.has in
+    rw (c.fault.ensures, c.in-Err.ensures.stage, j.has.counted)
+    (ended_fault _ _ _ _ t more _ j.holds s.holds)

@@ -1,11 +1,12 @@
 use Rattle.std.proofs.Common.{◌∙◌, sym, inr}
-use Rattle.aprs_booktext.proofs.Standing.{cut_fault, ended_read}
+use Rattle.aprs_booktext.proofs.Standing.{cut_fault, ended_read, rows_stored}
 use Rattle.aprs_booktext.proofs.reader.BookReader.finish.Goals as goal
 
 pub returns-then-may_end-clause-reads : goal.returns-then-may_end-clause-reads
-returns-then-may_end-clause-reads g c = λ t s. ended_read _ _ _ t _ (sym c.may_end.ensures
-    ∙ c.if-may_end.true) s.0 s.1
+returns-then-may_end-clause-reads g c = λ before store t s.
+    rw (c.gap.ensures, rows_stored before s.rows _ store s.has)
+    (ended_read _ _ _ t _ (sym c.may_end.ensures ∙ c.if-may_end.true) s.holds)
 
 pub returns-clause-reads : goal.returns-clause-reads
-returns-clause-reads g c = λ t s. rw (c.fault.ensures, c.ending_cause.ensures)
-    (inr (cut_fault _ _ _ t _ (sym c.may_end.ensures ∙ c.if-may_end.false) s.0))
+returns-clause-reads g c = λ before store t s. rw (c.fault_at.ensures, s.has.counted)
+    (inr (cut_fault _ _ _ t _ (sym c.may_end.ensures ∙ c.if-may_end.false) s.holds))

@@ -1,0 +1,23 @@
+use Rattle.std.proofs.Common.{◌≡◌, ◌<◌, ◌∙◌, List, ap, arith}
+use Rattle.std.proofs.lemmas.Result.{IfOk-weaker}
+use Rattle.aprs_laws.specs.Gap.{millis_of}
+use Rattle.aprs_laws.specs.JoinRow.{coalesced}
+use Rattle.aprs_laws.specs.Row.{Row}
+use Rattle.aprs_laws.specs.Witnesses.{witnesses}
+use Rattle.aprs_laws.proofs.Books.{one_book}
+use Rattle.aprs_laws.proofs.Coalescing.{books_stand, coalesces_book}
+use Rattle.aprs_laws.proofs.Soundness.{witnessed}
+use Rattle.aprs_booktext.proofs.book_of.book_in.Goals as goal
+
+pub returns : goal.returns
+returns g c =
+    let told = c.args.store.now in
+    let gap = millis_of c.args.gap in
+    let some : 0 < gap = omega (arith, c.requires.range) in
+    let same : coalesced gap c.in_ok-order.order ≡ told =
+    one_book gap (witnesses told) (coalesced gap c.in_ok-order.order) told
+    (coalesces_book gap some (witnesses told) told c.in_ok-order.order
+    (books_stand gap told c.requires.sound) c.in_ok-order.ensures.members
+    c.in_ok-order.ensures.ordered) (witnessed gap told some c.requires.sound) in
+    IfOk-weaker c.book_of.result _ _ (λ book is. is ∙ c.in_ok-rows.ensures
+    ∙ ap (λ (rows : List Row). record { gap = c.args.gap; rows = rows }) same) c.book_of.ensures

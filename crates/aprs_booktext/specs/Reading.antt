@@ -1,0 +1,26 @@
+-- How much of a book's text was read of an input. No public clause cites this module.
+use Rattle.std.specs.Prelude.{◌≡◌, ℕ, ◌+◌, ◌-◌, List, ◌++◌, length, Option, IfSome, Result}
+use Rattle.std.specs.Io.KnownBytes.{Consumes}
+use Rattle.aprs_io.specs.declared.device.Counted.{Counted}
+use Rattle.aprs_laws.specs.BookValue.{BookValue}
+use Rattle.aprs_booktext.specs.Asking.{Asks, Takes}
+use Rattle.aprs_booktext.specs.FirstFault.{Reads}
+use Rattle.aprs_booktext.specs.declared.fault.BookFault.{BookFault}
+
+-- What was got after the head is gone from the input, and P holds of both; so much less may be got.
+pub record Got (P : List ℕ → Type 0) (head : List ℕ) (old now : Option (List ℕ))
+    (limit left : ℕ) : Type 0 where
+  pub got : List ℕ
+  pub stands : P (head ++ got)
+  pub took : Consumes old now got
+  pub size : length (head ++ got) + left ≡ limit
+
+-- The answer is that of what was read of the input, the reader was asked no further, and no more was
+-- taken than may be.
+pub record IsAnswered {R : Type 0} (remaining : R → Option (List ℕ)) (limit : ℕ) (head : List ℕ)
+    (answer : Result BookValue BookFault) (old new : Counted R) : Type 0 where
+  pub reads : IfSome (remaining old.device)
+      (λ input. Reads limit head input (remaining new.device) answer)
+  pub calls : Asks answer old new
+  pub over : IfSome (remaining old.device)
+      (λ input. Takes answer (limit - length head) input (remaining new.device))
