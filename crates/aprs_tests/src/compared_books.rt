@@ -5,7 +5,7 @@ use crate::last_known::{callsign, frame_of};
 use crate::plain_book::{Plain, PlainBook, PlainRow};
 use crate::vectors::{REPEATED, receiver};
 use aprs_ax25::Frame;
-use aprs_book::{Book, Heard, Row};
+use aprs_book::{Book, Gap, Heard, Row};
 use aprs_log::{Moment, Receiver, Reception};
 use aprs_rows::RowStore;
 use std::alloc::Global;
