@@ -1,7 +1,11 @@
 //! Rows in order.
-ghost use Rattle.std.specs.Prelude.{◌≡◌, IfOk};
+ghost use Rattle.std.specs.Prelude.{◌≡◌, ◌≢◌, [], List, IfOk, OnErr};
 ghost use Rattle.std.specs.List.Sorted.{IsPermutation};
+ghost use Rattle.aprs_laws.specs.BookValue.{Holds};
 ghost use Rattle.aprs_laws.specs.Coalescing.{AreInOrder};
+ghost use Rattle.aprs_laws.specs.Lists.{SameMembers};
+ghost use Rattle.aprs_laws.specs.Row.{Row};
+ghost use Rattle.aprs_laws.specs.Witnesses.{witnesses};
 ghost use Rattle.aprs_laws.specs.Gap.{millis_of};
 ghost use Rattle.aprs_laws.specs.JoinRow.{coalesced};
 ghost use Rattle.aprs_rows.specs.Rows.{AreSoundRows};
@@ -41,6 +45,16 @@ impl<'a, A: Allocator> Model for RowsInOrder<'a, A> {
 }
 
 impl<'a, A: Allocator + Copy> RowsInOrder<'a, A> {
+    /// No rows. Takes no memory.
+    pub(crate) fn none(alloc: A) -> RowsInOrder<'a, A>
+        ensures { result ≡ [] }
+    {
+        RowsInOrder {
+            alloc,
+            laid: Vec::new(alloc),
+        }
+    }
+
     /// These rows, put in order. Where some came in order as a book file's do, a sort that takes
     /// such runs as they are is quicker; else one that takes no memory.
     pub(crate) fn of(
@@ -75,8 +89,12 @@ impl<'a, A: Allocator + Copy> RowsInOrder<'a, A> {
     /// to. Takes memory for each row of the book, and for the names of those that were more than
     /// one.
     pub fn coalesced(&self, gap: Gap) -> Result<Transmissions<'_, A>, Memory>
-        ensures { IfOk result (λ t. t
+        ensures rows { IfOk result (λ t. t
             ≡ record { gap = gap; rows = coalesced (millis_of gap) self.now }) }
+        // They are the book of what the same rows, in any order, stand for.
+        ensures book { (told : List Row) → SameMembers told self.now
+            → IfOk result (Holds (witnesses told)) }
+        ensures some { OnErr result (self.now ≢ []) }
     {
         let Some((first, others)) = self.laid.as_slice().split_first() else {
             return Ok(Transmissions::of(

@@ -1,5 +1,5 @@
 //! A row in bytes.
-ghost use Rattle.std.specs.Prelude.{◌≡◌, All, length, drop, ◌≤◌};
+ghost use Rattle.std.specs.Prelude.{◌≡◌, ◌≤◌, ◌++◌, ◌∷◌, [], All, IfOk, OnOk, length, drop};
 ghost use Rattle.std.specs.List.{join_with_byte};
 ghost use Rattle.aprs_ax25.specs.Frame.{FrameOf};
 ghost use Rattle.aprs_ax25.specs.FrameFault.{parts_of};
@@ -10,8 +10,11 @@ ghost use Rattle.aprs_rows.specs.Names.{names_in};
 ghost use Rattle.aprs_rows.specs.Rows.{row_of};
 
 use crate::head::{Head, key_order};
+use crate::names::cut_name;
 use aprs_ax25::Frame;
-use aprs_log::Moment;
+use aprs_joins::Memory;
+use aprs_log::{Moment, Receiver, Reception};
+use std::alloc::Allocator;
 use std::cmp::Ordering;
 use std::marker::Model;
 
@@ -139,6 +142,47 @@ impl<'a> RowView<'a> {
         info
     }
 
+    /// The names of those who heard it, in memory of their own.
+    pub fn receiver_names<A: Allocator + Copy>(&self, alloc: A) -> Result<Vec<Receiver, A>, Memory>
+        ensures { IfOk result (λ names. names.items ≡ self.now.receivers) }
+    {
+        let mut names = Vec::new(alloc);
+        let mut rest = self.receivers();
+        while let Some((name, after)) = cut_name(rest) {
+            push_receiver(&mut names, name)?;
+            rest = after;
+        }
+        push_receiver(&mut names, rest)?;
+        Ok(names)
+    }
+
+    /// The greatest reception, in a place of its own. Takes no memory.
+    pub fn greatest(&self) -> Reception
+        ensures { result ≡ self.now.greatest }
+    {
+        Reception::new(self.last, self.read_receiver(), self.read_frame())
+    }
+
+    /// The receiver of the greatest reception, in a place of its own. Takes no memory.
+    pub fn read_receiver(&self) -> Receiver
+        ensures { result ≡ self.now.greatest.receiver }
+    {
+        match Receiver::parse(self.receiver()) {
+            Some(receiver) => receiver,
+            None => unreachable!(),
+        }
+    }
+
+    /// The frame of the greatest reception, in a place of its own. Takes no memory.
+    pub fn read_frame(&self) -> Frame
+        ensures { result ≡ self.now.greatest.frame }
+    {
+        match Frame::read(self.frame()) {
+            Ok(frame) => frame,
+            Err(_) => unreachable!(),
+        }
+    }
+
     /// The order of rows, by key, then first moment.
     pub(crate) fn order(&self, other: &RowView<'_>) -> Ordering
         ensures { result ≡ row_cmp self.now other.now }
@@ -158,4 +202,18 @@ impl<'a> RowView<'a> {
         let head = Head::of(self.frame(), info);
         key_order(head, info, Head::of(other.frame(), other_info), other_info)
     }
+}
+
+/// Puts the receiver of this name after the others.
+fn push_receiver<A: Allocator>(names: &mut Vec<Receiver, A>, name: &[u8]) -> Result<(), Memory>
+    requires { IsName name.now }
+    ensures { OnOk result (names.new.items ≡ names.old.items ++ name.now ∷ []) }
+{
+    let Some(receiver) = Receiver::parse(name) else {
+        unreachable!()
+    };
+    if names.push(receiver).is_err() {
+        return Err(Memory);
+    }
+    Ok(())
 }

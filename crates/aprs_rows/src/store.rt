@@ -1,9 +1,10 @@
 //! Rows in one place.
-ghost use Rattle.std.specs.Prelude.{◌≡◌, ◌↔◌, ◌+◌, ◌≤◌, ◌<◌, [], ◌∷◌, ◌++◌, None, Some, length, IsTrue, IfOk, IfSome, IfNone, OnOk, OnErr, vec_len, vec_capacity};
+ghost use Rattle.std.specs.Prelude.{◌≡◌, ◌≢◌, ◌↔◌, ◌+◌, ◌≤◌, ◌<◌, [], ◌∷◌, ◌++◌, None, Some, length, IsTrue, IfOk, IfSome, IfNone, OnOk, OnErr, vec_len, vec_capacity};
 ghost use Rattle.std.specs.List.{join_with_byte, last_or};
 ghost use Rattle.aprs_laws.specs.Coalescing.{AreInOrder};
 ghost use Rattle.aprs_laws.specs.JoinRow.{single};
-ghost use Rattle.aprs_laws.specs.Lists.{SameMembers};
+ghost use Rattle.aprs_laws.specs.Lists.{◌∈◌, SameMembers};
+ghost use Rattle.aprs_laws.specs.Row.{Row};
 ghost use Rattle.aprs_laws.specs.Sound.{IsSoundRow};
 ghost use Rattle.aprs_ax25.specs.FrameFault.{parts_of};
 ghost use Rattle.aprs_rows.specs.Rows.{row_of, IsTold};
@@ -161,11 +162,17 @@ impl<A: Allocator + Copy> RowStore<A> {
         Ok(())
     }
 
-    /// The rows by key and first moment.
+    /// The rows by key and first moment. Takes memory for each row, and where rows of books came, as
+    /// much again.
     pub fn in_order(&self) -> Result<RowsInOrder<'_, A>, Memory>
         ensures members { IfOk result (SameMembers self.now) }
         ensures ordered { IfOk result AreInOrder }
+        ensures sound { (x : Row) → x ∈ self.now → IsSoundRow x }
+        ensures some { OnErr result (self.now ≢ []) }
     {
+        if self.is_empty() {
+            return Ok(RowsInOrder::none(self.alloc));
+        }
         let mut laid = Vec::new(self.alloc);
         make_room(&mut laid, self.entries.len())?;
         let mut rest = self.bytes.as_slice();

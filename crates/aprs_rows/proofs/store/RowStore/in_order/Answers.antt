@@ -24,3 +24,13 @@ of-requires-2 g c = record {
       c.loop-entry.invariant.items refl))
       (sound_rows c.self.inside.entries.items c.self.inside.bytes.items c.self.invariant);
 }
+
+pub returns-clause-sound : goal.returns-clause-sound
+returns-clause-sound g c =
+    subst AreSoundRows c.self.view_is
+    (sound_rows c.self.inside.entries.items c.self.inside.bytes.items c.self.invariant)
+
+pub returns-in_err-make_room-clause-sound : goal.returns-in_err-make_room-clause-sound
+returns-in_err-make_room-clause-sound g c =
+    subst AreSoundRows c.self.view_is
+    (sound_rows c.self.inside.entries.items c.self.inside.bytes.items c.self.invariant)
