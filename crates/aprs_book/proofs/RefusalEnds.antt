@@ -1,5 +1,5 @@
 -- The end of rows refuses what the rows refuse.
-use Rattle.std.proofs.Common.{◌≡◌, ◌∙◌, ℕ, ◌<◌, ◌==◌, false, not, ◌&&◌, ltb, List, [], ◌∷◌, ◌++◌, inl, inr, Option, None, append_assoc, refl, sym, ap}
+use Rattle.std.proofs.Common.{◌≡◌, ◌∙◌, ℕ, ◌<◌, ◌==◌, false, not, ◌&&◌, ltb, List, [], ◌∷◌, ◌++◌, inl, inr, Option, None, append_assoc, refl, sym, ap, subst, IfSome}
 use Rattle.std.specs.List.{last_or, list_any}
 use Rattle.std.specs.Option.{option_map_or}
 use Rattle.std.specs.Ordering.{is_lt, is_gt, ordering_then}
@@ -7,9 +7,10 @@ use Rattle.std.specs.declared.cmp.Ordering.{Ordering}
 use Rattle.std.specs.declared.cmp.Ordering.TheVariants.{Less, Equal, Greater}
 use Rattle.aprs_laws.specs.Key.{key_cmp}
 use Rattle.aprs_laws.specs.Row.{Row, row_key, last_of}
+use Rattle.aprs_laws.specs.Sound.{ComesAfter}
 use Rattle.aprs_laws.proofs.Pushes.{empty_or_last}
 use Rattle.aprs_rows.specs.Refusal.{is_of_last, is_out_of_order, is_too_near, is_ascending, is_name, refusal}
-use Rattle.aprs_rows.proofs.Refusals.{last_after, of_last_after, first_of, refused_first, free_of_none}
+use Rattle.aprs_rows.proofs.Refusals.{last_after, first_of, refused_first, free_of_none, next_of_free}
 use Rattle.aprs_book.specs.Keyed.{EndsUpTo, IsEndOf}
 
 same_last : (end all : List Row) → IsEndOf end all → last_or None end ≡ last_or None all
@@ -43,6 +44,6 @@ pub none_ends_up_to : (gap : ℕ) (rows : List Row) (x : Row) → None ≡ refus
     → EndsUpTo x rows
 none_ends_up_to gap rows x h prefix l e =
     up_first (key_cmp (row_key l) (row_key x)) _
-    (sym (of_last_after (λ r. is_out_of_order r x) prefix l)
-    ∙ ap (is_of_last (λ r. is_out_of_order r x)) (sym e)
-    ∙ (free_of_none gap rows x (sym h)).order)
+    (ap (λ o. not (is_lt o))
+    (subst (λ o. IfSome o (ComesAfter gap x)) (ap (last_or None) e ∙ last_after None prefix l)
+    (next_of_free gap rows x (free_of_none gap rows x (sym h))).after).0)

@@ -15,6 +15,7 @@ mod message;
 mod message_key;
 mod millis;
 mod named;
+mod of_rows;
 mod place;
 mod push;
 mod reported;

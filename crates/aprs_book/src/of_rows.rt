@@ -1,0 +1,60 @@
+//! The rows of a store as a book and as a list.
+ghost use Rattle.std.specs.Prelude.{◌≡◌, IfOk};
+
+use crate::{Book, Memory, ReceiverList, Receivers, RowCause, RowList, RowParts};
+use aprs_rows::{RowView, Transmissions};
+use std::alloc::Allocator;
+
+impl<A: Allocator + Copy> Book<A> {
+    /// The book of these rows, in memory of its own. A book that isn't finished is dropped.
+    pub fn of_rows(alloc: A, rows: &Transmissions<'_, A>) -> Result<Book<A>, Memory>
+        ensures { IfOk result (λ book. book ≡ rows.now) }
+    {
+        let mut book = Book::with_gap(alloc, rows.gap());
+        for row in rows.rows() {
+            let parts = parts_of(alloc, &row)?;
+            if let Err(cause) = book.push_row(&parts) {
+                return Err(refused(cause));
+            }
+        }
+        Ok(book)
+    }
+}
+
+impl<A: Allocator + Copy> RowList<A> {
+    /// The same rows in a list, in memory of its own. A list that isn't finished is dropped.
+    pub fn of_rows(alloc: A, rows: &Transmissions<'_, A>) -> Result<RowList<A>, Memory>
+        ensures { IfOk result (λ list. list ≡ rows.now) }
+    {
+        let mut list = RowList::new(alloc, rows.gap());
+        for row in rows.rows() {
+            let names = row.receiver_names(alloc)?;
+            let receivers = Receivers::of_ascending(alloc, names.as_slice())?;
+            list.push(row.first(), receivers, row.greatest())?;
+        }
+        Ok(list)
+    }
+}
+
+/// What makes the row, in memory of its own.
+fn parts_of<A: Allocator + Copy>(alloc: A, row: &RowView<'_>) -> Result<RowParts<A>, Memory>
+    ensures { IfOk result (λ parts. parts ≡ row.now) }
+{
+    Ok(RowParts {
+        first: row.first(),
+        last: row.last(),
+        receivers: ReceiverList::new(row.receiver_names(alloc)?),
+        receiver: row.read_receiver(),
+        frame: row.read_frame(),
+    })
+}
+
+/// Why a row that may be pushed is refused: an allocation failed.
+fn refused(cause: RowCause) -> Memory
+    requires { cause ≡ RowCause.Memory }
+{
+    match cause {
+        RowCause::Memory => Memory,
+        _ => unreachable!(),
+    }
+}
