@@ -208,7 +208,7 @@ six_pieces form x line h other e = other (ap (λ l. length (pieces 32 l)) e
 
 -- ---- names tested one by one
 
-pub at_middle : {X : Type 0} (P : X → Type 0) (a : List X) (x : X) (b : List X)
+at_middle : {X : Type 0} (P : X → Type 0) (a : List X) (x : X) (b : List X)
     → AllByRecursion P (a ++ x ∷ b) → P x
 at_middle P [] x b h = h.0
 at_middle P (y ∷ a) x b h = at_middle P a x b h.1

@@ -1,7 +1,6 @@
 //! The text of a book: writing it, and reading it back.
 #![tactic(auto)]
 
-mod book_of;
 mod cut;
 mod end_line;
 mod fault;
@@ -14,7 +13,7 @@ mod row_line;
 mod row_text;
 mod version;
 mod write;
-mod write_pile;
+mod write_transmissions;
 
 pub use fault::{BookCause, BookFault};
 pub use laws::{
@@ -24,4 +23,4 @@ pub use laws::{
 pub use read::{read_book, read_rows};
 pub use version::Version;
 pub use write::write_book;
-pub use write_pile::write_rows;
+pub use write_transmissions::write_rows;

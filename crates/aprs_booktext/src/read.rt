@@ -3,6 +3,7 @@ ghost use Rattle.std.specs.Prelude.{◌≡◌, ◌≤◌, ◌-◌, ◌++◌, ℕ
 ghost use Rattle.aprs_io.specs.Device.{device_of, failures_of, Calls, Going, Rose};
 ghost use Rattle.aprs_io.specs.Input.{most_input};
 ghost use Rattle.aprs_io.specs.declared.device.Counted.{Counted as CountedValue};
+ghost use Rattle.aprs_laws.specs.BookValue.{IsSoundBook};
 ghost use Rattle.aprs_laws.specs.Row.{Row};
 ghost use Rattle.aprs_booktext.specs.Asking.{Asks, Takes};
 ghost use Rattle.aprs_booktext.specs.FirstFault.{AcceptsBook, Reads};
@@ -11,10 +12,9 @@ ghost use Rattle.aprs_booktext.specs.Reading.{Got, IsAnswered};
 ghost use Rattle.aprs_booktext.specs.Seconds.{ReadsSeconds};
 ghost use Rattle.aprs_booktext.specs.StoredRows.{book_read, rows_after};
 
-use crate::book_of::book_in;
 use crate::fault::{BookCause, BookFault};
 use crate::reader::BookReader;
-use aprs_book::{Book, Gap};
+use aprs_book::{Book, Gap, Memory};
 use aprs_io::{Counted, read_some};
 use aprs_rows::RowStore;
 use std::alloc::Allocator;
@@ -151,4 +151,18 @@ fn gap_at_end<R: Read, A: Allocator + Copy>(
         Ok(_) => Err(reader.fault(BookCause::After)),
         Err(ending) => reader.finish(ending),
     }
+}
+
+/// The book of the rows of a store, which are those of a book with this gap.
+fn book_in<A: Allocator + Copy>(
+    alloc: A,
+    gap: Gap,
+    store: &RowStore<A>,
+) -> Result<Book<A>, Memory>
+    requires { IsSoundBook (record { gap = gap; rows = store.now }) }
+    ensures { IfOk result (λ book. book ≡ record { gap = gap; rows = store.now }) }
+{
+    let order = store.in_order()?;
+    let rows = order.coalesced(gap)?;
+    Book::of_rows(alloc, &rows)
 }

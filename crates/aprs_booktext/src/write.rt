@@ -18,11 +18,11 @@ ghost use Rattle.aprs_booktext.specs.declared.version.Version.TheVariants.{Three
 use crate::end_line::{END_LINE, end_line};
 use crate::hexadecimal::{MAX_DIGITS, MAX_FRAME};
 use crate::version::{MAX_HEADER, Version};
-use aprs_book::{Book, Gap};
+use aprs_book::{Book, Gap, Row};
 use aprs_io::{Counted, WriteFault, encode_to, push_all};
 use aprs_log::{Moment, Receiver};
 use aprs_outbox::Outlet;
-use aprs_pile::RowView;
+use aprs_rows::RowView;
 use arrayvec::ArrayVec;
 use std::alloc::Allocator;
 use std::io::Write;
@@ -75,12 +75,22 @@ fn put_rows<W: Write, A: Allocator + Copy>(
     ensures spelled { OnOk result (IsBookRows (written_version book.now) book.now.rows) }
 {
     for row in book.rows() {
-        put_row(out, &RowView::of(&row))?;
+        put_book_row(out, &row)?;
     }
     Ok(())
 }
 
-/// Puts the row's line.
+/// Puts the line of a book's row.
+fn put_book_row<W: Write>(out: &mut Outlet<'_, W>, row: &Row<'_>) -> Result<(), WriteFault>
+    ensures puts { Puts W.contents result out.old out.new (ended_by_lf (row_line Millis row.now)) }
+    ensures spelled { OnOk result (0 < length row.now.receivers → IsBookRow Millis row.now) }
+{
+    out.put(row_head(row.first, row.last).as_slice())?;
+    put_names(out, row.receivers)?;
+    out.put(row_tail(row.receiver.as_bytes(), row.frame.bytes()).as_slice())
+}
+
+/// Puts the line of a row in bytes.
 pub(crate) fn put_row<W: Write>(
     out: &mut Outlet<'_, W>,
     row: &RowView<'_>,
@@ -89,7 +99,7 @@ pub(crate) fn put_row<W: Write>(
     ensures spelled { OnOk result (0 < length row.now.receivers → IsBookRow Millis row.now) }
 {
     out.put(row_head(row.first(), row.last()).as_slice())?;
-    put_names(out, row.receivers())?;
+    out.put(row.receivers())?;
     out.put(row_tail(row.receiver(), row.frame()).as_slice())
 }
 

@@ -8,14 +8,14 @@ returns-in_err-put-clause-puts g c =
     let whole = row_parts c.args.row.now c.as_slice.result.now _ (cc) refl in
     Puts-is (Puts-fails _ c.from_residual.ensures.0 c.in_err-put.ensures _) (sym whole)
 
-pub returns-in_err-put_names-clause-puts : goal.returns-in_err-put_names-clause-puts
-returns-in_err-put_names-clause-puts g c =
+pub returns-in_err-put-2-clause-puts : goal.returns-in_err-put-2-clause-puts
+returns-in_err-put-2-clause-puts g c =
     let whole = row_parts c.args.row.now c.as_slice.result.now _ (cc) refl in
-    Puts-is (Puts-then c.in_ok-put.ensures (Puts-fails _ c.from_residual-in_err-put_names.ensures.0
-    (rw c.receivers.ensures at c.in_err-put_names.ensures.puts) _)) (sym whole)
+    Puts-is (Puts-then c.in_ok-put.ensures (Puts-fails _ c.from_residual-in_err-put-2.ensures.0
+    (rw c.receivers.ensures.text at c.in_err-put-2.ensures) _)) (sym whole)
 
 pub returns-clause-puts : goal.returns-clause-puts
 returns-clause-puts g c =
     let whole = row_parts c.args.row.now c.as_slice.result.now c.as_slice-2.result.now (cc) (cc) in
     Puts-is (Puts-then c.in_ok-put.ensures (Puts-then
-    (rw c.receivers.ensures at c.in_ok-put_names.ensures.puts) c.put-2.ensures)) (sym whole)
+    (rw c.receivers.ensures.text at c.in_ok-put-2.ensures) c.put-3.ensures)) (sym whole)

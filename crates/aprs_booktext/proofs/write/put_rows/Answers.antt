@@ -6,16 +6,16 @@ loop-row-init g c =
     rw (c.into_iter-row-iterator.ensures.into_iter_gives, c.rows-row-items.ensures.rows)
     (PutSoFar-none _ _)
 
-pub returns-in_err-put_row-clause-puts : goal.returns-in_err-put_row-clause-puts
-returns-in_err-put_row-clause-puts g c =
+pub returns-in_err-put_book_row-clause-puts : goal.returns-in_err-put_book_row-clause-puts
+returns-in_err-put_book_row-clause-puts g c =
     PutSoFar-broken c.loop-row.invariant _ _ c.in-Some.ensures.steps _ c.from_residual.ensures.0
-    (rw c.of.ensures at c.in_err-put_row.ensures.puts)
+    c.in_err-put_book_row.ensures.puts
 
 pub loop-row-preserved : goal.loop-row-preserved
 loop-row-preserved g c =
     PutSoFar-more c.loop-row.invariant _ _ c.in-Some.ensures.steps _
-    c.rows-row-items.ensures.sound.sound (rw c.of.ensures at c.in_ok-put_row.ensures.puts)
-    (rw c.of.ensures at c.in_ok-put_row.ensures.spelled)
+    c.rows-row-items.ensures.sound.sound c.in_ok-put_book_row.ensures.puts
+    c.in_ok-put_book_row.ensures.spelled
 
 pub returns-clause-puts : goal.returns-clause-puts
 returns-clause-puts g c = PutSoFar-all c.loop-row.invariant c.in-None.ensures.steps.0

@@ -2,7 +2,7 @@ use Rattle.std.proofs.Common.{rules, subst}
 use Rattle.aprs_io.specs.Device.{Sends}
 use Rattle.aprs_outbox.proofs.Outlets.{Sends-put, Sends-unput}
 use Rattle.aprs_booktext.specs.Text.{written_text}
-use Rattle.aprs_booktext.proofs.write_pile.write_rows.Goals as goal
+use Rattle.aprs_booktext.proofs.write_transmissions.write_rows.Goals as goal
 
 pub returns-in_err-put_text-clause-sends : goal.returns-in_err-put_text-clause-sends
 returns-in_err-put_text-clause-sends g c =

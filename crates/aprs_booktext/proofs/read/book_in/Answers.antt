@@ -7,7 +7,7 @@ use Rattle.aprs_laws.specs.Witnesses.{witnesses}
 use Rattle.aprs_laws.proofs.Books.{one_book}
 use Rattle.aprs_laws.proofs.Coalescing.{books_stand, coalesces_book}
 use Rattle.aprs_laws.proofs.Soundness.{witnessed}
-use Rattle.aprs_booktext.proofs.book_of.book_in.Goals as goal
+use Rattle.aprs_booktext.proofs.read.book_in.Goals as goal
 
 pub returns : goal.returns
 returns g c =
@@ -19,5 +19,5 @@ returns g c =
     (coalesces_book gap some (witnesses told) told c.in_ok-order.order
     (books_stand gap told c.requires.sound) c.in_ok-order.ensures.members
     c.in_ok-order.ensures.ordered) (witnessed gap told some c.requires.sound) in
-    IfOk-weaker c.book_of.result _ _ (λ book is. is ∙ c.in_ok-rows.ensures
-    ∙ ap (λ (rows : List Row). record { gap = c.args.gap; rows = rows }) same) c.book_of.ensures
+    IfOk-weaker c.of_rows.result _ _ (λ book is. is ∙ c.in_ok-rows.ensures.rows
+    ∙ ap (λ (rows : List Row). record { gap = c.args.gap; rows = rows }) same) c.of_rows.ensures

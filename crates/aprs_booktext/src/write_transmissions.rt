@@ -1,4 +1,4 @@
-//! Writing the rows of a pile.
+//! Writing what the rows of a store are together.
 ghost use Rattle.std.specs.Prelude.{flat_map, OnOk};
 ghost use Rattle.aprs_io.specs.Device.{Sends};
 ghost use Rattle.aprs_outbox.specs.Outlet.{Puts};
@@ -8,15 +8,15 @@ ghost use Rattle.aprs_booktext.specs.Text.{IsBookRows, written_text, written_ver
 use crate::write::{end_line_and_lf, header_line, put_row};
 use aprs_io::{Counted, WriteFault};
 use aprs_outbox::Outlet;
-use aprs_pile::PiledRows;
+use aprs_rows::Transmissions;
 use std::alloc::Allocator;
 use std::io::Write;
 
-/// Writes the rows of a pile's book as the text of that book, as `write_book` does. At a fault a
-/// prefix of the text went out, and the count of the device's failures rose. Takes no memory.
+/// Writes the rows of a book as the text of that book, as `write_book` does. At a fault a prefix of
+/// the text went out, and the count of the device's failures rose. Takes no memory.
 pub fn write_rows<W: Write, A: Allocator + Copy>(
     w: &mut Counted<W>,
-    rows: &PiledRows<'_, A>,
+    rows: &Transmissions<'_, A>,
 ) -> Result<(), WriteFault>
     ensures sends { Sends W.contents result w.old w.new (written_text rows.now) }
     // Such rows are read back of their text.
@@ -27,10 +27,10 @@ pub fn write_rows<W: Write, A: Allocator + Copy>(
     out.flush()
 }
 
-/// Puts the text of the book of a pile's rows.
+/// Puts the text of the book of these rows.
 fn put_text<W: Write, A: Allocator + Copy>(
     out: &mut Outlet<'_, W>,
-    rows: &PiledRows<'_, A>,
+    rows: &Transmissions<'_, A>,
 ) -> Result<(), WriteFault>
     ensures puts { Puts W.contents result out.old out.new (written_text rows.now) }
     ensures spelled { OnOk result (IsBookRows (written_version rows.now) rows.now.rows) }
@@ -40,16 +40,16 @@ fn put_text<W: Write, A: Allocator + Copy>(
     out.put(end_line_and_lf(rows.len()).as_slice())
 }
 
-/// Puts the lines of a pile's rows.
+/// Puts the lines of these rows.
 fn put_lines<W: Write, A: Allocator + Copy>(
     out: &mut Outlet<'_, W>,
-    rows: &PiledRows<'_, A>,
+    rows: &Transmissions<'_, A>,
 ) -> Result<(), WriteFault>
     ensures puts { Puts W.contents result out.old out.new (flat_map line_and_lf rows.now.rows) }
     ensures spelled { OnOk result (IsBookRows (written_version rows.now) rows.now.rows) }
 {
     for row in rows.rows() {
-        put_row(out, &row.view())?;
+        put_row(out, &row)?;
     }
     Ok(())
 }

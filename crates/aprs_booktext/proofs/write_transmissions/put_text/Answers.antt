@@ -1,7 +1,7 @@
 use Rattle.std.proofs.Common.{refl, sym}
 use Rattle.aprs_outbox.proofs.Outlets.{Puts-fails, Puts-is, Puts-then}
 use Rattle.aprs_booktext.proofs.TextParts.{text_parts}
-use Rattle.aprs_booktext.proofs.write_pile.put_text.Goals as goal
+use Rattle.aprs_booktext.proofs.write_transmissions.put_text.Goals as goal
 
 pub returns-in_err-put-clause-puts : goal.returns-in_err-put-clause-puts
 returns-in_err-put-clause-puts g c =
