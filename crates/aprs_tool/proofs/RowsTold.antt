@@ -1,17 +1,18 @@
 -- Lemmas on the rows of inputs, and the book that they are together.
-use Rattle.std.proofs.Common.{◌≡◌, ◌∙◌, ℕ, ◌<◌, List, [], ◌∷◌, ◌++◌, inl, refl, sym, ap, subst, append_assoc, append-nil, length, arith, Result, Ok, Err, OnOk}
+use Rattle.std.proofs.Common.{◌≡◌, ◌∙◌, ℕ, ◌<◌, ◌≤◌, List, [], ◌∷◌, ◌++◌, inl, inr, refl, sym, ap, subst, append_assoc, append-nil, length, arith, Result, Ok, Err, OnOk}
 use Rattle.aprs_log.specs.Reception.{Heard}
 use Rattle.aprs_log.specs.declared.Ending.{Ending}
 use Rattle.aprs_laws.specs.Book.{BookOf}
-use Rattle.aprs_laws.specs.BookValue.{BookValue, Holds, IsSoundBook}
+use Rattle.aprs_laws.specs.BookValue.{BookValue, Holds, IsSoundBook, widened_to}
 use Rattle.aprs_laws.specs.Coalescing.{StandFor}
 use Rattle.aprs_laws.specs.Gap.{IsGap, millis_of}
 use Rattle.aprs_laws.specs.JoinRow.{join_row, merge}
-use Rattle.aprs_laws.specs.Lists.{◌∈◌}
+use Rattle.aprs_laws.specs.Lists.{◌∈◌, SameMembers}
 use Rattle.aprs_laws.specs.Row.{Row}
 use Rattle.aprs_laws.specs.Sound.{IsSoundRow}
 use Rattle.aprs_laws.specs.Witnesses.{witnesses, witnesses_of_row, witness_by}
 use Rattle.aprs_laws.proofs.Books.{book_carries, one_book}
+use Rattle.aprs_laws.proofs.BookValues.{widened_holds}
 use Rattle.aprs_laws.proofs.Joins.{some_millis}
 use Rattle.aprs_laws.proofs.Lists.{in_either, in_left, in_right}
 use Rattle.aprs_laws.proofs.RunRows.{book_of_nothing, empty_book}
@@ -20,7 +21,7 @@ use Rattle.aprs_laws.proofs.Streams.{in_witnesses}
 use Rattle.aprs_laws.proofs.Unions.{merged}
 use Rattle.aprs_tool.specs.Gathered.{book_of_rows}
 use Rattle.aprs_tool.specs.InputRows.{GivesRows}
-use Rattle.aprs_tool.specs.Inputs.{AddsAll, AreMembers, TakesInput}
+use Rattle.aprs_tool.specs.Inputs.{AddsAll, AreMembers, IsBookOfInput, TakesInput}
 
 abbrev AreSound : List Row → Type 0
 AreSound rows = (x : Row) → x ∈ rows → IsSoundRow x
@@ -125,6 +126,36 @@ some_rows gap (x ∷ rows) r s some e =
     let there = (in_witnesses (x ∷ rows) (witness_by x x.greatest.receiver)).1
     (x, inl refl, has_witness_by (millis_of gap) x own pos x.greatest.receiver own.receiver) in
     absurd (subst (λ (ws : List Heard). witness_by x x.greatest.receiver ∈ ws) none there)
+
+-- the book of an input whose rows alone were read
+pub holds_read : (gap asked own : ℕ) (new : List Row) (t : List ℕ) (c : Ending) → IsGap gap
+    → (h : GivesRows asked own [] new t c) → Holds h.set (book_of_rows gap new)
+holds_read gap asked own new t c r h =
+    subst (λ rs. BookOf (millis_of gap) h.set (merge (millis_of gap) [] rs)) (sym h.new_is)
+    (carried (millis_of gap) [] h.set h.rows (merge (millis_of gap) [] h.rows) h.stand
+    (alone (millis_of gap) h.rows (some_millis gap r) h.stand.each))
+
+pub book_read : (asked own : ℕ) (new : List Row) (t : List ℕ) (c : Ending) → IsGap own
+    → GivesRows asked own [] new t c → IsBookOfInput asked (book_of_rows own new) t c
+book_read asked own new t c r h =
+    (h.gap_is, h.set, h.members, holds_read own asked own new t c r h)
+
+-- under a gap that is not less it is the widened book
+pub wide_read : (gap own : ℕ) (new : List Row) (t : List ℕ) (c : Ending) → IsGap gap → IsGap own
+    → own ≤ gap → GivesRows gap own [] new t c
+    → book_of_rows gap new ≡ widened_to gap (book_of_rows own new)
+wide_read gap own new t c r o l h =
+    let lines =
+    one_book (millis_of gap) h.set (merge (millis_of gap) [] new)
+    (widened_to gap (book_of_rows own new)).rows (holds_read gap gap own new t c r h)
+    (widened_holds gap h.set (book_of_rows own new) l (holds_read own gap own new t c o h)) in
+    λ i. record { gap = gap; rows = lines i }
+
+-- rows of which none are others
+pub none_same : (xs ys : List Row) → SameMembers xs ys → xs ≡ [] → ys ≡ []
+none_same xs [] m e = refl
+none_same xs (y ∷ ys) m e =
+    absurd (subst (λ (zs : List Row). y ∈ zs) e ((m y).1 (inl refl)))
 
 -- ---- a book that another is merged into
 

@@ -1,33 +1,42 @@
 -- Lemmas on an input whose book is widened.
-use Rattle.std.proofs.Common.{◌≡◌, ◌<◌, ◌≤◌, ℕ, List, Option, Result, Ok, Err, inl, inr, sym, ◌∙◌, subst}
-use Rattle.std.specs.Prelude.{◌↔◌}
-use Rattle.std.proofs.lemmas.Bool.{cases_lt}
-use Rattle.aprs_laws.specs.BookValue.{BookValue, widened_to}
-use Rattle.aprs_laws.specs.declared.widen_fault.WidenFault.{WidenFault}
-use Rattle.aprs_laws.specs.declared.widen_fault.WidenFault.TheVariants as fault
+use Rattle.std.proofs.Common.{◌≡◌, ◌<◌, ◌≤◌, ◌==◌, not, false, ℕ, List, [], inr, refl, sym, subst, arith}
+use Rattle.std.proofs.lemmas.Bool.Decides.{nat_tests}
+use Rattle.aprs_log.specs.declared.Ending.{Ending}
+use Rattle.aprs_laws.specs.BookValue.{BookValue}
+use Rattle.aprs_laws.specs.Gap.{IsGap}
+use Rattle.aprs_laws.specs.Row.{Row}
 use Rattle.aprs_booktext.specs.Text.{written_text}
-use Rattle.aprs_convert.specs.Got.{OfGot}
-use Rattle.aprs_tool.specs.Inputs.{ReadsInput}
-use Rattle.aprs_tool.specs.Widen.{WritesWide}
-use Rattle.aprs_tool.proofs.Into.{got_so}
+use Rattle.aprs_tool.specs.Gathered.{book_of_rows}
+use Rattle.aprs_tool.specs.InputRows.{GivesRows}
+use Rattle.aprs_tool.specs.Widen.{IsNotWidened, OfInput, WritesWide}
+use Rattle.aprs_tool.specs.declared.fault.InputFault.TheVariants.{Narrower}
+use Rattle.aprs_tool.proofs.RowsTold.{book_read, wide_read}
 
--- a gap that isn't refused as narrower is wide enough
-wide_enough : (gap own : ℕ) → (gap < own → ⊥) → own ≤ gap
-wide_enough gap own none = elim (cases_lt gap own) [
-  | inl less ↦ absurd (none less)
-  | inr more ↦ more
-]
+-- the gap of a number that tests say
+pub same_gap : (own gap : ℕ) → false ≡ not (own == gap) → own ≡ gap
+same_gap own gap e = grind (arith, nat_tests)
 
-pub wide_ok : (gap own : ℕ) (r : Result BookValue WidenFault) (w : BookValue) → r ≡ Ok w
-    → (r ≡ Err fault.Narrower) ↔ (gap < own) → own ≤ gap
-wide_ok gap own r w is known = wide_enough gap own (λ less. let bad : Ok w ≡ Err fault.Narrower =
-    sym is ∙ known.1 less in absurd cc)
+module _ (gap own : ℕ) (new : List Row) (t : List ℕ) (c : Ending) (r : IsGap gap) (o : IsGap own)
+    (h : GivesRows gap own [] new t c) where
+  -- an input of a greater gap
+  pub not_wide : gap < own → IsNotWidened gap Narrower t c
+  not_wide less =
+      inr (refl, (h.faultless, (book_of_rows own new, book_read gap own new t c o h, less)))
 
--- what holds of the text of the widened book
-pub wide_text : (known after : Option (List ℕ)) (limit gap : ℕ) (b : BookValue)
-    → OfGot limit known after (ReadsInput gap (Ok b)) → (P : List ℕ → Type 0) (wide : BookValue)
-    → b.gap ≤ gap → wide ≡ widened_to gap b → P (written_text wide)
-    → OfGot limit known after (λ t c. WritesWide gap t c P)
-wide_text known after limit gap b read P wide enough is text =
-    got_so known after limit (λ input. input) _ _
-    (λ t c h. (h.0, (b, h.1, (enough, subst (λ (b : BookValue). P (written_text b)) is text)))) read
+  pub of_input : own ≤ gap → OfInput gap t c (λ book. book.gap ≤ gap)
+  of_input l = (h.faultless, (book_of_rows own new, book_read gap own new t c o h, l))
+
+  -- what holds of the text of the widened book
+  pub writes_wide : (P : List ℕ → Type 0) → own ≤ gap → P (written_text (book_of_rows gap new))
+      → WritesWide gap t c P
+  writes_wide P l text = (
+    h.faultless,
+    (
+      book_of_rows own new,
+      book_read gap own new t c o h,
+      (
+        l,
+        subst (λ (b : BookValue). P (written_text b)) (wide_read gap own new t c r o l h) text,
+      ),
+    ),
+  )

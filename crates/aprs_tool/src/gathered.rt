@@ -1,7 +1,7 @@
 //! The rows of inputs, before their book is made.
 ghost use Rattle.std.specs.Prelude.{◌≡◌, []};
 ghost use Rattle.aprs_laws.specs.BookValue.{BookValue};
-ghost use Rattle.aprs_tool.specs.Gathered.{WritesText};
+ghost use Rattle.aprs_tool.specs.Gathered.{book_of_rows, WritesText};
 ghost use Rattle.aprs_tool.specs.ShownBook.{ShowsBook};
 
 use aprs_book::{Gap, Memory, RowList};
@@ -77,11 +77,14 @@ impl<A: Allocator + Copy> Gathered<A> {
     pub(crate) fn new(alloc: A, gap: Gap) -> Gathered<A>
         ensures { result ≡ record { gap = gap; rows = [] } }
     {
-        Gathered {
-            alloc,
-            gap,
-            store: RowStore::new(alloc),
-        }
+        Gathered::of(alloc, gap, RowStore::new(alloc))
+    }
+
+    /// These rows, for a book of this gap. Takes no memory.
+    pub(crate) fn of(alloc: A, gap: Gap, store: RowStore<A>) -> Gathered<A>
+        ensures { result ≡ book_of_rows gap store }
+    {
+        Gathered { alloc, gap, store }
     }
 
     /// Writes the text of the book of all rows.

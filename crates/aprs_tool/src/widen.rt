@@ -11,13 +11,14 @@ use crate::gathered::{Gathered, Unwritten};
 use crate::input::read_input_rows;
 use aprs_book::Gap;
 use aprs_io::Counted;
+use aprs_rows::RowStore;
 use std::alloc::Allocator;
 use std::io::{Read, Write};
 
 /// Writes the text of an input's book under this gap. The input is read as by `read_input` with
 /// this gap, so that `Narrower` comes for a faultless book file of a greater gap alone. Requires
 /// that `limit` is at most `MAX_INPUT` (1,073,741,824). The input is number 0. All of it is read,
-/// and its book widened, before the first byte is written: where the input is refused nothing is
+/// and its rows are joined, before the first byte is written: where the input is refused nothing is
 /// written, nor is anything at `Memory`, which is that of the widened book. At `Write` a prefix of
 /// the text was written.
 pub fn widen_run<R: Read, W: Write, A: Allocator + Copy>(
@@ -34,15 +35,15 @@ pub fn widen_run<R: Read, W: Write, A: Allocator + Copy>(
     ensures reads { AsksEach result (r.old ∷ []) (r.new ∷ []) }
     ensures writes { CallsOutput result w.old w.new }
 {
-    let mut gathered = Gathered::new(alloc, gap);
-    let own = match read_input_rows(alloc, limit, gap, &mut gathered.store, r) {
+    let mut store = RowStore::new(alloc);
+    let own = match read_input_rows(alloc, limit, gap, &mut store, r) {
         Ok(own) => own,
         Err(fault) => return Err(RunFault::Input { index: 0, fault }),
     };
     if own.seconds() > gap.seconds() {
         return Err(narrower());
     }
-    match gathered.write(w) {
+    match Gathered::of(alloc, gap, store).write(w) {
         Ok(()) => Ok(()),
         Err(Unwritten::Memory) => Err(RunFault::Memory),
         Err(Unwritten::Write) => Err(RunFault::Write),

@@ -1,6 +1,6 @@
 use Rattle.std.proofs.Common.{arith}
 use Rattle.aprs_tool.proofs.Into.{merges_empty}
-use Rattle.aprs_tool.proofs.RowsWith.{known_none, known_sound, whatever}
+use Rattle.aprs_tool.proofs.RowsTold.{known_none, known_sound, whatever}
 use Rattle.aprs_tool.proofs.input.merged.Goals as goal
 
 pub returns-then-len-eq0-clause-merges : goal.returns-then-len-eq0-clause-merges

@@ -4,7 +4,7 @@ use Rattle.aprs_io.proofs.Sends.{Sends-err, Sends-ok}
 use Rattle.aprs_laws.specs.BookValue.{BookValue}
 use Rattle.aprs_tool.specs.Gathered.{WritesText}
 use Rattle.aprs_tool.specs.declared.gathered.Unwritten.TheVariants.{Write}
-use Rattle.aprs_tool.proofs.RowsTold.{same_book, some_rows}
+use Rattle.aprs_tool.proofs.RowsTold.{none_same, same_book, some_rows}
 use Rattle.aprs_tool.proofs.gathered.Gathered.write.Goals as goal
 
 pub returns-in_err-order : goal.returns-in_err-order
@@ -18,7 +18,15 @@ returns-in_err-order g c =
 
 pub returns-in_err-rows : goal.returns-in_err-rows
 unfolding WritesText
-returns-in_err-rows g c = ?
+returns-in_err-rows g c =
+    let p = err_from_is_err_and c.from_residual-in_err-rows.result
+    c.from_residual-in_err-rows.ensures.1 in
+    let was = c.self.inside in
+    rw (p.1, p.2) (refl, λ e. some_rows was.gap was.store c.self.invariant
+    c.in_ok-order.ensures.sound
+    (λ none. c.in_err-rows.ensures.some
+    (none_same was.store c.in_ok-order.order c.in_ok-order.ensures.members none))
+    (ap (λ (b : BookValue). b.rows) c.self.view_is ∙ e))
 
 pub returns-in_err-write_rows : goal.returns-in_err-write_rows
 unfolding WritesText

@@ -1,0 +1,73 @@
+use Rattle.std.proofs.Common.{Ok, Err, refl, subst, ◌∙◌, sym, ap}
+use Rattle.std.proofs.lemmas.Result.{err_from_is_err_and}
+use Rattle.aprs_io.proofs.Sends.{Sends-err, Sends-ok}
+use Rattle.aprs_laws.specs.BookValue.{BookValue}
+use Rattle.aprs_tool.specs.ShownBook.{ShowsBook}
+use Rattle.aprs_tool.specs.declared.gathered.Unwritten.TheVariants.{Write}
+use Rattle.aprs_tool.proofs.RowsTold.{same_book}
+use Rattle.aprs_tool.proofs.Shows.{shown_text}
+use Rattle.aprs_tool.proofs.gathered.Gathered.show.Goals as goal
+
+pub returns-in_err-order : goal.returns-in_err-order
+unfolding ShowsBook
+returns-in_err-order g c =
+    let p = err_from_is_err_and c.from_residual.result c.from_residual.ensures.1 in
+    rw (p.1, p.2) refl
+
+pub returns-in_err-rows : goal.returns-in_err-rows
+unfolding ShowsBook
+returns-in_err-rows g c =
+    let p = err_from_is_err_and c.from_residual-in_err-rows.result
+    c.from_residual-in_err-rows.ensures.1 in
+    rw (p.1, p.2) refl
+
+pub returns-in_err-list : goal.returns-in_err-list
+unfolding ShowsBook
+returns-in_err-list g c =
+    let p = err_from_is_err_and c.from_residual-in_err-list.result
+    c.from_residual-in_err-list.ensures.1 in
+    rw (p.1, p.2) refl
+
+pub returns-in_err-views : goal.returns-in_err-views
+unfolding ShowsBook
+returns-in_err-views g c =
+    let p = err_from_is_err_and c.from_residual-in_err-views.result
+    c.from_residual-in_err-views.ensures.1 in
+    rw (p.1, p.2) refl
+
+pub returns-in_err-write : goal.returns-in_err-write
+unfolding ShowsBook
+returns-in_err-write g c =
+    let p = err_from_is_err_and c.from_residual-in_err-write.result
+    c.from_residual-in_err-write.ensures.1 in
+    let was = c.self.inside in
+    let views = c.in_ok-views.ensures in
+    rw (p.1, p.2) (subst (λ b. ShowsBook g.W.Write.contents (Err Write) b c.args.w.now
+    c.write.new.w)
+    (c.in_ok-list.ensures
+    ∙ same_book was.gap was.store c.in_ok-rows.rows c.self.invariant c.in_ok-order.ensures.sound
+    (ap (λ (b : BookValue). b.gap) c.in_ok-rows.ensures.rows)
+    (c.in_ok-rows.ensures.book was.store c.in_ok-order.ensures.members)
+    ∙ c.self.view_is)
+    (
+      _,
+      shown_text _ _ _ _ views.stations views.named views.messages,
+      Sends-err (Err Write) refl c.in_err-write.ensures,
+    ))
+
+pub returns : goal.returns
+unfolding ShowsBook
+returns g c =
+    let was = c.self.inside in
+    let views = c.in_ok-views.ensures in
+    subst (λ b. ShowsBook g.W.Write.contents (Ok tt) b c.args.w.now c.write.new.w)
+    (c.in_ok-list.ensures
+    ∙ same_book was.gap was.store c.in_ok-rows.rows c.self.invariant c.in_ok-order.ensures.sound
+    (ap (λ (b : BookValue). b.gap) c.in_ok-rows.ensures.rows)
+    (c.in_ok-rows.ensures.book was.store c.in_ok-order.ensures.members)
+    ∙ c.self.view_is)
+    (
+      _,
+      shown_text _ _ _ _ views.stations views.named views.messages,
+      Sends-ok c.in_ok-write.ensures,
+    )
