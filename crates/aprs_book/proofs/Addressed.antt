@@ -2,6 +2,7 @@
 use Rattle.std.proofs.Common.{◌≡◌, ◌∙◌, ℕ, true, false, List, None, refl, sym, ap}
 use Rattle.aprs_ax25.specs.Callsign.{Call}
 use Rattle.aprs_report.specs.Reading.{Value, position, object, item, message, ack, rej, status, raw, Reads}
+use Rattle.aprs_report.specs.Reader.{reading_of}
 use Rattle.aprs_report.proofs.Readings.{reads_as}
 use Rattle.aprs_laws.specs.Key.{Key}
 use Rattle.aprs_book.specs.Reports.{report_of}
@@ -36,5 +37,6 @@ no_answer raw info r n = refl
 pub no_message_in : (k : Key) → is_addressed k.info ≡ false → message_in k ≡ None
 no_message_in k n = no_message k.source (report_of k) k.info (reads_as k.info) n
 
-pub no_answer_in : (k : Key) → is_addressed k.info ≡ false → answer_reported (report_of k) ≡ None
-no_answer_in k n = no_answer (report_of k) k.info (reads_as k.info) n
+pub no_answer_in : (info : List ℕ) → is_addressed info ≡ false
+    → answer_reported (reading_of info) ≡ None
+no_answer_in info n = no_answer (reading_of info) info (reads_as info) n

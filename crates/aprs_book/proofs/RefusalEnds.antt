@@ -1,5 +1,5 @@
 -- The end of rows refuses what the rows refuse.
-use Rattle.std.proofs.Common.{◌≡◌, ◌∙◌, ℕ, ◌<◌, ◌==◌, false, not, ◌&&◌, ltb, List, [], ◌∷◌, ◌++◌, inl, inr, Option, None, append_assoc, refl, sym, ap, subst, IfSome}
+use Rattle.std.proofs.Common.{◌≡◌, ◌∙◌, ℕ, ◌==◌, false, not, ◌&&◌, ltb, List, [], ◌∷◌, ◌++◌, inl, inr, None, append_assoc, refl, sym, ap, subst, IfSome}
 use Rattle.std.specs.List.{last_or, list_any}
 use Rattle.std.specs.Option.{option_map_or}
 use Rattle.std.specs.Ordering.{is_lt, is_gt, ordering_then}

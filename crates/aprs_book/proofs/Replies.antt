@@ -1,6 +1,6 @@
 -- The answers to messages in rows.
 use Rattle.std.proofs.Common.{◌≡◌, ◌∙◌, ℕ, List, ◌↔◌, Option, Some, None, sym, ap, refl, subst, inl, inr, Bor}
-use Rattle.std.specs.Option.{option_map, option_copied}
+use Rattle.std.specs.Option.{option_copied}
 use Rattle.std.specs.Map.{lookup, keys_of}
 use Rattle.std.specs.BTreeMap.{is_at, insert_entry}
 use Rattle.std.specs.List.Sorted.{IsStrictlySortedBy}
@@ -19,7 +19,7 @@ use Rattle.aprs_laws.specs.JoinRow.{greater}
 use Rattle.aprs_laws.proofs.Joins.{is_greater_of}
 use Rattle.aprs_laws.proofs.Orders.{call_total, call_exact, bytes_total, bytes_exact, heard_total, up_to_itself}
 use Rattle.aprs_book.specs.declared.message_key.Asked.{Asked}
-use Rattle.aprs_book.specs.MessageRows.{Answer, answer_of, answer_cmp, IsReply, IsGreatestReply, IsGreatestEntry, AreReplies, IsFor, ReportsAnswer}
+use Rattle.aprs_book.specs.MessageRows.{Answer, answer_of, answer_cmp, IsReply, IsGreatestReply, AreReplies, IsFor, ReportsAnswer}
 use Rattle.aprs_book.specs.Messages.{Message}
 use Rattle.aprs_book.proofs.Collected.{cmp_of, found, absent, Adds, passed, put_by, same_lookup}
 
@@ -84,77 +84,69 @@ abbrev pub asked_cmp : Asked → Asked → Ordering
 asked_cmp = cmp_of answer_of answer_cmp
 
 module _ (rows more : List Row) (x : Row) (adds : Adds rows x more)
-    (es : List (Asked × Bor Heard)) (c : AreReplies rows es) where
+    (es : List (Asked × Heard)) (c : AreReplies rows es) where
   pub replies_passed : ((a : Answer) → IsReply a (row_key x) → ⊥) → AreReplies more es
   replies_passed n =
-      passed answer_of answer_cmp answer_total answer_exact IsReply IsGreatestEntry rows
+      passed answer_of answer_cmp answer_total answer_exact IsReply IsGreatestReply rows
       more x adds
-      (λ a v. reply_stays rows more x adds a v.now) es c n
+      (λ a v. reply_stays rows more x adds a v) es c n
 
-  reply_there : (k : Asked) → IsReply (answer_of k) (row_key x) → (known : Option (Bor Heard))
+  reply_there : (k : Asked) → IsReply (answer_of k) (row_key x) → (known : Option Heard)
       → lookup (is_at (asked_cmp k)) es ≡ known
       → IsGreatestReply more (answer_of k)
-      (greater_known (option_map (λ (b : Bor Heard). b.now) known) x.greatest)
+      (greater_known known x.greatest)
   reply_there k q None h =
       reply_begins rows more x adds (answer_of k) q
       (λ y j p. let t = c.every y j (answer_of k) p in
       absent answer_of answer_cmp answer_total answer_exact k es h t.0 t.1 (sym t.2))
   reply_there k q (Some s) h =
       let f = found answer_of answer_cmp answer_total answer_exact k s es h in
-      reply_grows rows more x adds (answer_of k) s.now q
-      (subst (λ (v : Bor Heard). IsGreatestReply rows (answer_of k) v.now) f.3
-      (subst (λ (t : Answer). IsGreatestReply rows t f.0.1.now) (sym f.2) (c.each f.0 f.1)))
+      reply_grows rows more x adds (answer_of k) s q
+      (subst (IsGreatestReply rows (answer_of k)) f.3
+      (subst (λ (t : Answer). IsGreatestReply rows t f.0.1) (sym f.2) (c.each f.0 f.1)))
 
   pub replies_put : (R : Asked → Asked → Ordering) → ((a b : Asked) → R a b ≡ asked_cmp a b)
       → (k : Asked)
-      (v : Bor Heard) (new : List (Asked × Bor Heard))
+      (v : Heard) (new : List (Asked × Heard))
       → ((a : Answer) → IsReply a (row_key x) ↔ (Some (answer_of k) ≡ Some a))
-      → v.now ≡ greater_known (option_map (λ (b : Bor Heard). b.now) (lookup (is_at (R k)) es))
-      x.greatest
+      → v ≡ greater_known (lookup (is_at (R k)) es) x.greatest
       → new ≡ insert_entry R es k v → IsStrictlySortedBy R (keys_of new)
       → AreReplies more new
   replies_put R same k v new q e n sorted =
-      put_by answer_of answer_cmp answer_total answer_exact IsReply IsGreatestEntry rows
+      put_by answer_of answer_cmp answer_total answer_exact IsReply IsGreatestReply rows
       more x adds
-      (λ a v. reply_stays rows more x adds a v.now) es c R
+      (λ a v. reply_stays rows more x adds a v) es c R
       same k v new n sorted
       (λ a p. unwrapped (answer_of k) a ((q a).0 p))
       (subst (IsGreatestReply more (answer_of k))
-      (sym (e ∙ ap (λ t. greater_known (option_map (λ (b : Bor Heard). b.now) t) x.greatest)
+      (sym (e ∙ ap (λ t. greater_known t x.greatest)
       (same_lookup answer_of answer_cmp R same k es)))
       (reply_there k ((q (answer_of k)).1 refl) (lookup (is_at (asked_cmp k)) es) refl)) where
         unwrapped : (a b : Answer) → Some a ≡ Some b → a ≡ b
         unwrapped a b h = cc
 
-pub copied_alike : {X : Type 0} (o : Option (Bor X))
-    → option_copied o ≡ option_map (λ (b : Bor X). b.now) o
-copied_alike None = refl
-copied_alike (Some b) = refl
-
-pub kept_greater : (r : Heard) (o m : Option (Bor Heard)) (x y : Heard)
-    → r ≡ greater_known (option_copied o) x → o ≡ m → x ≡ y
-    → r ≡ greater_known (option_map (λ (b : Bor Heard). b.now) m) y
-kept_greater r o m x y e f h =
-    e ∙ (ap (λ t. greater_known (option_copied t) x) f
-    ∙ (ap (greater_known (option_copied m)) h ∙ ap (λ t. greater_known t y) (copied_alike m)))
+pub kept_greater : (r : Heard) (o : Option (Bor Heard)) (m : Option Heard) (x y : Heard)
+    → r ≡ greater_known (option_copied o) x → option_copied o ≡ m → x ≡ y
+    → r ≡ greater_known m y
+kept_greater r o m x y e f h = e ∙ (ap (λ t. greater_known t x) f ∙ ap (greater_known m) h)
 
 -- ---- the answer that a look-up finds
 
-module _ (es : List (Asked × Bor Heard)) (k : Asked) (m : Message) (id : List ℕ)
+module _ (es : List (Asked × Heard)) (k : Asked) (m : Message) (id : List ℕ)
     (f : IsFor m id (answer_of k)) (u : (a : Answer) → IsFor m id a → a ≡ answer_of k) where
-  reported_by : (known : Option (Bor Heard)) → lookup (is_at (asked_cmp k)) es ≡ known
-      → ReportsAnswer es m id (option_copied known)
+  reported_by : (known : Option Heard) → lookup (is_at (asked_cmp k)) es ≡ known
+      → ReportsAnswer es m id known
   reported_by None h = λ e j g.
       absent answer_of answer_cmp answer_total answer_exact k es h e j (sym (u (answer_of e.0) g))
   reported_by (Some v) h =
       let t = found answer_of answer_cmp answer_total answer_exact k v es h in
-      (t.0, t.1, subst (IsFor m id) t.2 f, λ a g. u a g ∙ t.2, ap (λ (b : Bor Heard). b.now) t.3)
+      (t.0, t.1, subst (IsFor m id) t.2 f, λ a g. u a g ∙ t.2, t.3)
 
   pub answer_reported_by : (R : Asked → Asked → Ordering) → ((a b : Asked) → R a b ≡ asked_cmp a b)
-      → (o : Option (Bor Heard)) → o ≡ lookup (is_at (R k)) es
-      → ReportsAnswer es m id (option_copied o)
+      → (o : Option Heard) → o ≡ lookup (is_at (R k)) es
+      → ReportsAnswer es m id o
   answer_reported_by R same o e =
-      subst (λ t. ReportsAnswer es m id (option_copied t))
+      subst (λ t. ReportsAnswer es m id t)
       (sym (e ∙ same_lookup answer_of answer_cmp R same k es))
       (reported_by (lookup (is_at (asked_cmp k)) es) refl)
 

@@ -3,7 +3,6 @@ use Rattle.std.specs.Prelude.{◌≡◌, ◌==◌, ◌⊎◌, ℕ, Bool, false, 
 use Rattle.std.specs.Option.{option_map}
 use Rattle.std.specs.Ordering.{on, then_cmp}
 use Rattle.std.specs.declared.cmp.Ordering.{Ordering}
-use denote.Ref.{Bor}
 use Rattle.aprs_ax25.specs.Callsign.{Call, call_cmp}
 use Rattle.aprs_ax25.specs.CallText.{CallText}
 use Rattle.aprs_log.specs.Reception.{Heard, bytes_cmp, heard_cmp}
@@ -88,10 +87,6 @@ abbrev pub answer_cmp : Answer → Answer → Ordering
 answer_cmp = then_cmp (on (λ a. a.source) call_cmp)
     (then_cmp (on (λ a. a.addressee) call_cmp) (on (λ a. a.id) bytes_cmp))
 
--- a kept reception is the greatest that answers so
-abbrev pub IsGreatestEntry : List Row → Answer → Bor Heard → Type 0
-IsGreatestEntry rows a g = IsGreatestReply rows a g.now
-
 -- ---- entries, one for each message or answer of the rows
 
 -- Entries of the rows: of what each shows and has, T holds, and each thing that a row's key is of
@@ -107,8 +102,8 @@ abbrev pub AreSpans : List Row → List (MessageKey × Span) → Type 0
 AreSpans rows entries = IsCollected message_of ReportsIt IsSpan rows entries
 
 -- one greatest reception for each answer of the rows
-abbrev pub AreReplies : List Row → List (Asked × Bor Heard) → Type 0
-AreReplies rows entries = IsCollected answer_of IsReply IsGreatestEntry rows entries
+abbrev pub AreReplies : List Row → List (Asked × Heard) → Type 0
+AreReplies rows entries = IsCollected answer_of IsReply IsGreatestReply rows entries
 
 -- ---- rows of the listing
 
@@ -119,22 +114,22 @@ pub record IsFor (m : Message) (id : List ℕ) (a : Answer) : Type 0 where
   pub same_id : a.id ≡ id
 
 -- the greatest answer among the entries, or none
-abbrev pub ReportsAnswer : List (Asked × Bor Heard) → Message → List ℕ → Option Heard → Type 0
+abbrev pub ReportsAnswer : List (Asked × Heard) → Message → List ℕ → Option Heard → Type 0
 ReportsAnswer entries m id None =
-    (e : Asked × Bor Heard) → e ∈ entries → IsFor m id (answer_of e.0) → ⊥
+    (e : Asked × Heard) → e ∈ entries → IsFor m id (answer_of e.0) → ⊥
 ReportsAnswer entries m id (Some g) =
-    (e : Asked × Bor Heard) × (e ∈ entries) × IsFor m id (answer_of e.0)
-    × ((a : Answer) → IsFor m id a → a ≡ answer_of e.0) × (e.1.now ≡ g)
+    (e : Asked × Heard) × (e ∈ entries) × IsFor m id (answer_of e.0)
+    × ((a : Answer) → IsFor m id a → a ≡ answer_of e.0) × (e.1 ≡ g)
 
 -- the state of a message of this first moment and id, by the greatest answer among the entries
-abbrev pub StateFrom : List (Asked × Bor Heard) → Message → ℕ → Option (List ℕ) → MessageState
+abbrev pub StateFrom : List (Asked × Heard) → Message → ℕ → Option (List ℕ) → MessageState
     → Type 0
 StateFrom entries m first None state = state ≡ Unnumbered
 StateFrom entries m first (Some id) state =
     (answer : Option Heard) × ReportsAnswer entries m id answer × (state ≡ state_by first answer)
 
 -- the row of a message and its span
-pub record IsListed (entries : List (Asked × Bor Heard)) (e : MessageKey × Span) (x : MessageRow) :
+pub record IsListed (entries : List (Asked × Heard)) (e : MessageKey × Span) (x : MessageRow) :
     Type 0 where
   pub message : shown_message x ≡ message_of e.0
   pub first : x.first ≡ e.1.first

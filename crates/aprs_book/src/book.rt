@@ -8,11 +8,14 @@ ghost use Rattle.aprs_laws.proofs.Joins.{gap_laws};
 ghost use Rattle.aprs_book.specs.Taking.{TakesIn, MergesInto, WidensTo};
 ghost use Rattle.aprs_rows.specs.Refusal.{refusal};
 ghost use Rattle.aprs_book.specs.Known.{AreIndexesOf};
+ghost use Rattle.aprs_book.specs.Transmission.{rows_left};
 
 use crate::indexes::Indexes;
 use crate::keyed::KeyedRows;
 use crate::millis::Millis;
+use crate::reception_view::ReceptionView;
 use crate::reported::Reported;
+use crate::transmission::RowWalk;
 use crate::walk::Walk;
 use crate::{Gap, Join, Memory, MergeFault, RowCause, RowParts, Rows, WidenFault};
 use aprs_log::Reception;
@@ -43,6 +46,7 @@ impl<A: Allocator> Drop for Book<A> {
 impl<A: Allocator> Model for Book<A> {
     ghost use Rattle.aprs_laws.specs.BookValue.{BookValue, IsSoundBook};
     ghost use Rattle.aprs_book.specs.Known.{AreIndexesOf};
+    ghost use Rattle.aprs_book.specs.Transmission.{rows_left};
 
     ghost Value = { BookValue };
 
@@ -108,10 +112,11 @@ impl<A: Allocator + Copy> Book<A> {
         ensures unchanged { OnErr result (self.new ≡ self.old) }
         ensures in_place { FitsInPlace (millis_of self.old.gap) self.old.rows x.now → IsOk result }
     {
-        let reported = Reported::of(x.frame());
+        let heard = ReceptionView::of(x);
+        let reported = Reported::of(&heard);
         self.indexes.place(&reported)?;
         self.rows.take(Millis::of(self.gap), x)?;
-        self.indexes.note(&reported, x);
+        self.indexes.note(&reported, &heard);
         Ok(())
     }
 
@@ -143,10 +148,11 @@ impl<A: Allocator + Copy> Book<A> {
         ensures gap { self.new.gap ≡ self.old.gap }
         ensures unchanged { OnErr result (self.new ≡ self.old) }
     {
-        let reported = Reported::of(&parts.frame);
+        let heard = parts.heard();
+        let reported = Reported::of(&heard);
         self.indexes.place(&reported)?;
         self.rows.push(parts)?;
-        self.indexes.note(&reported, &parts.greatest());
+        self.indexes.note(&reported, &heard);
         Ok(())
     }
 
@@ -226,6 +232,13 @@ impl<A: Allocator + Copy> Book<A> {
         ensures sound { IsSoundBook self.now }
     {
         self.rows.walk()
+    }
+
+    /// The rows, for what takes those of a store too.
+    pub(crate) fn walk_rows(&self) -> RowWalk<'_, '_, A>
+        ensures rows { rows_left result ≡ self.now.rows }
+    {
+        RowWalk::Kept(self.walk())
     }
 
     /// What is last known.

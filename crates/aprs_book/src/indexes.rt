@@ -7,6 +7,7 @@ ghost use Rattle.aprs_keys.specs.KeyBytes.{call_bytes};
 
 use crate::Memory;
 use crate::known::Known;
+use crate::reception_view::ReceptionView;
 use crate::reported::Reported;
 use aprs_ax25::Callsign;
 use aprs_keys::call_bytes;
@@ -124,7 +125,7 @@ impl<A: Allocator + Copy> Indexes<A> {
 
     /// Keeps the reception in the entry for what is reported on, if it is greater than what is
     /// known. Takes no memory.
-    pub(crate) fn note(&mut self, reported: &Reported<'_>, x: &Reception)
+    pub(crate) fn note(&mut self, reported: &Reported<'_>, x: &ReceptionView<'_>)
         requires { HaveEntries reported.now self.old }
         ensures { (topic : Topic) (bytes : List ℕ) → known_at bytes (index_of topic self.new)
             ≡ (if is_reported bytes (reported_at topic reported.now)
@@ -142,7 +143,11 @@ impl<A: Allocator + Copy> Indexes<A> {
 
     /// Keeps the reception for what is reported on, if it is greater than what is known. After
     /// `Memory` the same is known as before.
-    pub(crate) fn take(&mut self, reported: &Reported<'_>, x: &Reception) -> Result<(), Memory>
+    pub(crate) fn take(
+        &mut self,
+        reported: &Reported<'_>,
+        x: &ReceptionView<'_>,
+    ) -> Result<(), Memory>
         ensures taken { OnOk result ((topic : Topic) (bytes : List ℕ)
             → known_at bytes (index_of topic self.new)
             ≡ (if is_reported bytes (reported_at topic reported.now)

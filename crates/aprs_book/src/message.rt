@@ -2,18 +2,19 @@
 ghost use Rattle.std.specs.Prelude.{◌≡◌, ℕ, IfOk};
 ghost use Rattle.std.specs.Option.{option_copied};
 ghost use Rattle.aprs_laws.specs.Lists.{Ordered};
-ghost use Rattle.aprs_laws.specs.Key.{key_of};
+ghost use Rattle.aprs_report.specs.Reader.{reading_of};
 ghost use Rattle.aprs_laws.specs.Gap.{millis_of};
-ghost use Rattle.aprs_book.specs.Reports.{report_of};
+ghost use Rattle.aprs_book.specs.Transmission.{rows_left};
 ghost use Rattle.aprs_book.specs.Messages.{state_by, state_reported, ReportsMessages};
 ghost use Rattle.aprs_book.specs.MessageRows.{AreSpans, AreReplies, message_of, IsListed, ReportsAnswer, Zipped, IsKeyBefore};
 
 use crate::last_known::greater;
 use crate::message_key::{Asked, MessageKey, Span, message_in, reply_in, span_with};
-use crate::walk::Walk;
+use crate::reception_view::ReceptionView;
+use crate::transmission::RowWalk;
 use crate::{Book, Memory};
-use aprs_ax25::{Callsign, Frame};
-use aprs_log::{Moment, Reception};
+use aprs_ax25::Callsign;
+use aprs_log::Moment;
 use aprs_report::Report;
 use std::alloc::Allocator;
 use std::collections::BTreeMap;
@@ -57,18 +58,19 @@ impl<A: Allocator + Copy> Book<A> {
         ensures { IfOk result (λ messages.
             ReportsMessages (millis_of self.now.gap) self.now.rows messages.items) }
     {
-        messages_of(self.allocator(), self.walk(), self.walk())
+        messages_of(self.allocator(), self.walk_rows(), self.walk_rows())
     }
 }
 
 /// The messages of rows, which are walked twice.
 pub(crate) fn messages_of<'a, A: Allocator + Copy>(
     alloc: A,
-    rows: Walk<'a, A>,
-    again: Walk<'a, A>,
+    rows: RowWalk<'a, '_, A>,
+    again: RowWalk<'a, '_, A>,
 ) -> Result<Vec<MessageRow<'a>, A>, Memory>
-    requires { again ≡ rows }
-    ensures { (gap : ℕ) → IfOk result (λ messages. ReportsMessages gap rows.entry messages.items) }
+    requires { rows_left again ≡ rows_left rows }
+    ensures { (gap : ℕ) → IfOk result (λ messages.
+        ReportsMessages gap (rows_left rows.entry) messages.items) }
 {
     let spans = message_spans(alloc, rows)?;
     let answers = greatest_answers(alloc, again)?;
@@ -78,14 +80,14 @@ pub(crate) fn messages_of<'a, A: Allocator + Copy>(
 /// Each message of the rows, with its moments.
 fn message_spans<'a, A: Allocator + Copy>(
     alloc: A,
-    rows: Walk<'a, A>,
+    rows: RowWalk<'a, '_, A>,
 ) -> Result<BTreeMap<MessageKey<'a>, Span, A>, Memory>
-    ensures { IfOk result (λ spans. AreSpans rows.entry spans.entries) }
+    ensures { IfOk result (λ spans. AreSpans (rows_left rows.entry) spans.entries) }
 {
     let mut spans = BTreeMap::new(alloc);
     for row in rows {
-        if let Some(message) = message_in(row) {
-            let span = span_with(spans.get(&message), row);
+        if let Some(message) = message_in(&row) {
+            let span = span_with(spans.get(&message), &row);
             if spans.insert(message, span).is_err() {
                 return Err(Memory);
             }
@@ -97,14 +99,14 @@ fn message_spans<'a, A: Allocator + Copy>(
 /// The greatest answer of each kind in the rows.
 fn greatest_answers<'a, A: Allocator + Copy>(
     alloc: A,
-    rows: Walk<'a, A>,
-) -> Result<BTreeMap<Asked<'a>, &'a Reception, A>, Memory>
-    ensures { IfOk result (λ answers. AreReplies rows.entry answers.entries) }
+    rows: RowWalk<'a, '_, A>,
+) -> Result<BTreeMap<Asked<'a>, ReceptionView<'a>, A>, Memory>
+    ensures { IfOk result (λ answers. AreReplies (rows_left rows.entry) answers.entries) }
 {
     let mut answers = BTreeMap::new(alloc);
     for row in rows {
-        if let Some(asked) = reply_in(row) {
-            let answer = greater(answers.get(&asked).copied(), row.greatest());
+        if let Some(asked) = reply_in(&row) {
+            let answer = greater(answers.get(&asked), row.greatest());
             if answers.insert(asked, answer).is_err() {
                 return Err(Memory);
             }
@@ -117,7 +119,7 @@ fn greatest_answers<'a, A: Allocator + Copy>(
 fn listed<'a, A: Allocator + Copy>(
     alloc: A,
     spans: &BTreeMap<MessageKey<'a>, Span, A>,
-    answers: &BTreeMap<Asked<'a>, &'a Reception, A>,
+    answers: &BTreeMap<Asked<'a>, ReceptionView<'a>, A>,
 ) -> Result<Vec<MessageRow<'a>, A>, Memory>
     ensures ascending { Ordered IsKeyBefore spans.now.entries }
     ensures rows { IfOk result (λ list.
@@ -136,7 +138,7 @@ fn listed<'a, A: Allocator + Copy>(
 fn row_of<'a, A: Allocator + Copy>(
     message: &MessageKey<'a>,
     span: &Span,
-    answers: &BTreeMap<Asked<'a>, &'a Reception, A>,
+    answers: &BTreeMap<Asked<'a>, ReceptionView<'a>, A>,
 ) -> MessageRow<'a>
     ensures { IsListed answers.now.entries (message.now, span.now) result }
 {
@@ -156,11 +158,11 @@ fn row_of<'a, A: Allocator + Copy>(
 }
 
 /// The greatest answer to this id of a message, or none.
-fn greatest_answer<'a, A: Allocator + Copy>(
+fn greatest_answer<'a, 'b, A: Allocator + Copy>(
     message: &MessageKey<'a>,
     id: &'a [u8],
-    answers: &BTreeMap<Asked<'a>, &'a Reception, A>,
-) -> Option<&'a Reception>
+    answers: &'b BTreeMap<Asked<'a>, ReceptionView<'a>, A>,
+) -> Option<&'b ReceptionView<'a>>
     ensures { ReportsAnswer answers.now.entries (message_of message.now) id.now
         (option_copied result) }
 {
@@ -171,28 +173,27 @@ fn greatest_answer<'a, A: Allocator + Copy>(
                 addressee,
                 id,
             };
-            answers.get(&asked).copied()
+            answers.get(&asked)
         }
         Err(_) => None,
     }
 }
 
 /// What came of a message first heard at this moment, by its greatest answer.
-fn state_by(first: Moment, answer: Option<&Reception>) -> MessageState
+fn state_by(first: Moment, answer: Option<&ReceptionView<'_>>) -> MessageState
     ensures { result ≡ state_by first (option_copied answer.entry) }
 {
     match answer {
-        Some(x) if x.moment() >= first => state_reported(x.frame()),
+        Some(x) if x.moment() >= first => state_reported(x.info()),
         _ => MessageState::Unanswered,
     }
 }
 
-/// What an answer says.
-#[tactic(auto, unfolding(aprs_laws::specs::Key::key_of))]
-fn state_reported(answer: &Frame) -> MessageState
-    ensures { result ≡ state_reported (report_of (key_of answer.now)) }
+/// What an answer of this information says.
+fn state_reported(info: &[u8]) -> MessageState
+    ensures { result ≡ state_reported (reading_of info.now) }
 {
-    match Report::read(answer.info()) {
+    match Report::read(info) {
         Report::Rej { .. } => MessageState::Rejected,
         _ => MessageState::Acknowledged,
     }

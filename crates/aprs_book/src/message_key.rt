@@ -2,13 +2,13 @@
 ghost use Rattle.std.specs.Prelude.{◌≡◌, ◌↔◌, Some};
 ghost use Rattle.std.specs.Option.{option_map, option_copied};
 ghost use Rattle.aprs_laws.specs.Row.{row_key};
-ghost use Rattle.aprs_laws.specs.Key.{key_of};
-ghost use Rattle.aprs_book.specs.Reports.{report_of};
+ghost use Rattle.aprs_report.specs.Reader.{reading_of};
 ghost use Rattle.aprs_book.specs.Messages.{message_in};
+ghost use Rattle.aprs_book.specs.Transmission.{row_in};
 ghost use Rattle.aprs_book.specs.MessageRows.{message_of, is_addressed, span_with, Answer, answer_of, answer_reported, IsReply};
 
-use crate::kept_row::KeptRow;
-use aprs_ax25::{Callsign, Frame};
+use crate::transmission::Transmission;
+use aprs_ax25::Callsign;
 use aprs_log::Moment;
 use aprs_report::Report;
 use std::alloc::Allocator;
@@ -38,21 +38,22 @@ pub(crate) struct Asked<'a> {
 }
 
 /// The message that a row's frames report, or none.
-#[tactic(auto, unfolding(aprs_laws::specs::Key::key_of))]
-pub(crate) fn message_in<'a, A: Allocator + Copy>(row: &'a KeptRow<A>) -> Option<MessageKey<'a>>
-    ensures { option_map message_of result ≡ message_in (row_key row.now) }
+pub(crate) fn message_in<'a, A: Allocator + Copy>(
+    row: &Transmission<'a, A>,
+) -> Option<MessageKey<'a>>
+    ensures { option_map message_of result ≡ message_in (row_key (row_in row.now)) }
 {
-    let frame = row.greatest().frame();
-    if !is_addressed(frame.info()) {
+    let heard = row.greatest();
+    if !is_addressed(heard.info()) {
         return None;
     }
-    match Report::read(frame.info()) {
+    match Report::read(heard.info()) {
         Report::Message {
             addressee,
             text,
             id,
         } => Some(MessageKey {
-            source: frame.source(),
+            source: heard.source(),
             addressee,
             text,
             id,
@@ -62,8 +63,11 @@ pub(crate) fn message_in<'a, A: Allocator + Copy>(row: &'a KeptRow<A>) -> Option
 }
 
 /// What is known of a message's moments, with one more row.
-pub(crate) fn span_with<A: Allocator + Copy>(known: Option<&Span>, row: &KeptRow<A>) -> Span
-    ensures { result ≡ span_with (option_copied known.entry) row.now }
+pub(crate) fn span_with<A: Allocator + Copy>(
+    known: Option<&Span>,
+    row: &Transmission<'_, A>,
+) -> Span
+    ensures { result ≡ span_with (option_copied known.entry) (row_in row.now) }
 {
     let first = row.first();
     let last = row.greatest().moment();
@@ -77,32 +81,31 @@ pub(crate) fn span_with<A: Allocator + Copy>(known: Option<&Span>, row: &KeptRow
 }
 
 /// What a row's frames answer, if they are an answer to a callsign.
-#[tactic(auto, unfolding(aprs_laws::specs::Key::key_of))]
-pub(crate) fn reply_in<'a, A: Allocator + Copy>(row: &'a KeptRow<A>) -> Option<Asked<'a>>
-    ensures { (a : Answer) → IsReply a (row_key row.now) ↔ (option_map answer_of result ≡ Some a) }
+pub(crate) fn reply_in<'a, A: Allocator + Copy>(row: &Transmission<'a, A>) -> Option<Asked<'a>>
+    ensures { (a : Answer) → IsReply a (row_key (row_in row.now))
+        ↔ (option_map answer_of result ≡ Some a) }
 {
-    let frame = row.greatest().frame();
-    let (addressee, id) = answer_in(frame)?;
+    let heard = row.greatest();
+    let (addressee, id) = answer_in(heard.info())?;
     match Callsign::parse(addressee) {
         Ok(source) => Some(Asked {
             source,
-            addressee: frame.source(),
+            addressee: heard.source(),
             id,
         }),
         Err(_) => None,
     }
 }
 
-/// The addressee and the id of an answer.
-#[tactic(auto, unfolding(aprs_laws::specs::Key::key_of))]
-fn answer_in(frame: &Frame) -> Option<(&[u8], &[u8])>
+/// The addressee and the id of an answer that has this information.
+fn answer_in(info: &[u8]) -> Option<(&[u8], &[u8])>
     ensures { option_map (λ x. (x.0.now, x.1.now)) result
-        ≡ answer_reported (report_of (key_of frame.now)) }
+        ≡ answer_reported (reading_of info.now) }
 {
-    if !is_addressed(frame.info()) {
+    if !is_addressed(info) {
         return None;
     }
-    match Report::read(frame.info()) {
+    match Report::read(info) {
         Report::Ack { addressee, id } => Some((addressee, id)),
         Report::Rej { addressee, id } => Some((addressee, id)),
         _ => None,

@@ -1,7 +1,7 @@
-//! The rows of a store as a book and as a list.
+//! The rows of a store as a book.
 ghost use Rattle.std.specs.Prelude.{◌≡◌, IfOk};
 
-use crate::{Book, Memory, ReceiverList, Receivers, RowCause, RowList, RowParts};
+use crate::{Book, Memory, ReceiverList, RowCause, RowParts};
 use aprs_rows::{RowView, Transmissions};
 use std::alloc::Allocator;
 
@@ -18,21 +18,6 @@ impl<A: Allocator + Copy> Book<A> {
             }
         }
         Ok(book)
-    }
-}
-
-impl<A: Allocator + Copy> RowList<A> {
-    /// The same rows in a list, in memory of its own. A list that isn't finished is dropped.
-    pub fn of_rows(alloc: A, rows: &Transmissions<'_, A>) -> Result<RowList<A>, Memory>
-        ensures { IfOk result (λ list. list ≡ rows.now) }
-    {
-        let mut list = RowList::new(alloc, rows.gap());
-        for row in rows.rows() {
-            let names = row.receiver_names(alloc)?;
-            let receivers = Receivers::of_ascending(alloc, names.as_slice())?;
-            list.push(row.first(), receivers, row.greatest())?;
-        }
-        Ok(list)
     }
 }
 

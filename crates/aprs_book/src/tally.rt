@@ -1,11 +1,11 @@
 //! How many rows each station has.
 ghost use Rattle.std.specs.Prelude.{◌≡◌, ◌+◌, ◌<◌, [], IfOk, OnOk, length};
 ghost use Rattle.std.specs.Option.{option_copied};
+ghost use Rattle.aprs_book.specs.Transmission.{row_in, rows_left};
 ghost use Rattle.aprs_book.specs.StationRows.{AreTallies, counted, source_of, tally_of, with_last, with_one_more};
 
 use crate::Memory;
-use crate::kept_row::KeptRow;
-use crate::walk::Walk;
+use crate::transmission::{RowWalk, Transmission};
 use aprs_ax25::Callsign;
 use std::alloc::{Allocator, Global};
 use std::collections::BTreeMap;
@@ -35,6 +35,7 @@ impl<A: Allocator> Drop for Counting<A> {
 impl<A: Allocator> Model for Counting<A> {
     ghost use Rattle.std.specs.Prelude.{ℕ, List};
     ghost use Rattle.aprs_ax25.specs.Callsign.{Call};
+    ghost use Rattle.aprs_book.specs.Transmission.{row_in, rows_left};
     ghost use Rattle.aprs_book.specs.StationRows.{with_last};
 
     ghost Value = { List (Call × ℕ) };
@@ -102,25 +103,24 @@ fn put<A: Allocator + Copy>(
 /// How many of the rows, of which there are `len`, each station has.
 pub(crate) fn tallies<A: Allocator + Copy>(
     alloc: A,
-    rows: Walk<'_, A>,
+    rows: RowWalk<'_, '_, A>,
     len: usize,
 ) -> Result<BTreeMap<Callsign, u64, A>, Memory>
-    requires { length rows ≡ len }
-    ensures { IfOk result (λ tallies. AreTallies rows.entry tallies.entries) }
+    requires { length (rows_left rows) ≡ len }
+    ensures { IfOk result (λ tallies. AreTallies (rows_left rows.entry) tallies.entries) }
 {
     let mut tallies = Counting::new(alloc);
     for row in rows {
-        tallies.add(source_of(row))?;
+        tallies.add(source_of(&row))?;
     }
     tallies.into_map()
 }
 
 /// The station whose transmission this row is.
-#[tactic(auto, unfolding(aprs_laws::specs::Key::key_of))]
-fn source_of<A: Allocator + Copy>(row: &KeptRow<A>) -> Callsign
-    ensures { result ≡ source_of row.now }
+fn source_of<A: Allocator + Copy>(row: &Transmission<'_, A>) -> Callsign
+    ensures { result ≡ source_of (row_in row.now) }
 {
-    row.greatest().frame().source()
+    row.greatest().source()
 }
 
 /// One more than were counted.

@@ -13,7 +13,7 @@ ghost use Rattle.aprs_listing.specs.Listing.{show_text, state_text, station_line
 use crate::field::Field;
 use crate::heard_line::put_heard;
 use crate::line::{put_line, put_text_line};
-use aprs_book::{Book, Heard, Memory, MessageRow, MessageState, Named, RowList, Station};
+use aprs_book::{Book, Heard, Memory, MessageRow, MessageState, Named, Overview, Station};
 use aprs_io::{Counted, WriteFault};
 use aprs_outbox::Outlet;
 use std::alloc::{Allocator, Global};
@@ -59,19 +59,19 @@ impl<'a, A: Allocator + Copy> Views<'a, A> {
         })
     }
 
-    /// What is listed of the rows of a list. `Memory` where an allocation failed for it.
-    pub fn of_list(list: &'a RowList<A>) -> Result<Views<'a, A>, Memory>
+    /// What is listed of rows in a store. `Memory` where an allocation failed for it.
+    pub fn of_rows(rows: &'a Overview<'_, '_, A>) -> Result<Views<'a, A>, Memory>
         ensures stations { IfOk result (λ v.
-            ReportsStations (millis_of list.now.gap) list.now.rows v.stations.items) }
+            ReportsStations (millis_of rows.now.gap) rows.now.rows v.stations.items) }
         ensures named { IfOk result (λ v.
-            ReportsNamed (millis_of list.now.gap) list.now.rows v.named.items) }
+            ReportsNamed (millis_of rows.now.gap) rows.now.rows v.named.items) }
         ensures messages { IfOk result (λ v.
-            ReportsMessages (millis_of list.now.gap) list.now.rows v.messages.items) }
+            ReportsMessages (millis_of rows.now.gap) rows.now.rows v.messages.items) }
     {
         Ok(Views {
-            stations: list.stations()?,
-            named: list.objects()?,
-            messages: list.messages()?,
+            stations: rows.stations()?,
+            named: rows.objects()?,
+            messages: rows.messages()?,
         })
     }
 

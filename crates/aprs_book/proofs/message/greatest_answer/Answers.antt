@@ -13,4 +13,4 @@ returns-in-Ok g c =
     (let t : Ok c.in-Ok.addressee ≡ Ok a.addressee = c.in-Ok.ensures.only a.addressee f.addressee in
     cc)
     f.same_id)
-    _ asked_alike c.copied.result (c.copied.ensures ∙ c.get.ensures.value)
+    _ asked_alike _ c.get.ensures.value

@@ -1,5 +1,6 @@
-use Rattle.std.proofs.Common.{◌+◌, refl, arith}
+use Rattle.std.proofs.Common.{◌+◌, ap, refl, arith}
 use Rattle.aprs_book.specs.StationRows.{tally_of}
+use Rattle.aprs_book.specs.Transmission.{row_in, rows_left}
 use Rattle.aprs_book.proofs.Collected.{collected_first, walk_starts, walk_goes, walk_ends}
 use Rattle.aprs_book.proofs.Stations.{all_counted, no_keys, room_for_one, stays_in_order, tallies_put}
 use Rattle.aprs_book.proofs.tally.tallies.Goals as goal
@@ -7,22 +8,22 @@ use Rattle.aprs_book.proofs.tally.tallies.Goals as goal
 pub loop-row-init : goal.loop-row-init
 loop-row-init g c = record {
   counted =
-      walk_starts _ _ _ c.into_iter-row-iterator.ensures.into_iter_gives
+      walk_starts _ _ _ (ap rows_left c.into_iter-row-iterator.ensures.into_iter_gives)
       (collected_first _ _ _ _ c.new-tallies.ensures);
   sorted = no_keys _ c.new-tallies.ensures;
 }
 
 pub add-requires : goal.add-requires
 add-requires g c =
-    let few = room_for_one _ c.loop-row.row-iterator _ c.in-Some.row.now c.loop-row.tallies
+    let few = room_for_one _ (rows_left c.loop-row.row-iterator) _ (row_in c.in-Some.row) c.loop-row.tallies
     c.source_of.result _ c.loop-row.invariant.counted c.in-Some.ensures.steps refl in
     omega (arith, few, c.requires)
 
 pub loop-row-preserved : goal.loop-row-preserved
 loop-row-preserved g c = record {
   counted =
-      walk_goes _ _ _ _ _ c.in-Some.row.now c.in-Some.ensures.steps
-      (λ done more adds held. tallies_put done c.loop-row.tallies held more c.in-Some.row.now adds
+      walk_goes _ _ _ _ _ (row_in c.in-Some.row) c.in-Some.ensures.steps
+      (λ done more adds held. tallies_put done c.loop-row.tallies held more (row_in c.in-Some.row) adds
       c.source_of.result (tally_of c.source_of.result c.loop-row.tallies + 1) c.add.new.self
       c.source_of.ensures refl c.in_ok-add.ensures
       (stays_in_order c.source_of.result c.loop-row.tallies c.add.new.self c.in_ok-add.ensures
@@ -35,5 +36,5 @@ loop-row-preserved g c = record {
 
 pub returns : goal.returns
 returns g c =
-    all_counted _ (λ m. m.entries) c.into_map.result c.args.rows c.loop-row.tallies
+    all_counted _ (λ m. m.entries) c.into_map.result (rows_left c.args.rows) c.loop-row.tallies
     (walk_ends _ _ _ c.in-None.ensures.steps.0 c.loop-row.invariant.counted) c.into_map.ensures

@@ -2,11 +2,13 @@ use Rattle.std.specs.List.Sorted.{IsStrictlySortedBy}
 use Rattle.std.specs.Map.{keys_of}
 use Rattle.aprs_ax25.specs.Callsign.{call_cmp}
 use Rattle.aprs_book.specs.StationRows.{AreTallies}
+use Rattle.aprs_book.specs.Transmission.{rows_left}
 use Rattle.aprs_book.proofs.Collected.{SoFar}
 use Rattle.aprs_book.proofs.tally.tallies.Given as goal
 
 abbrev pub invariant-loop-row : goal.invariant-loop-row
 invariant-loop-row g l = record {
-  counted : SoFar (λ done. AreTallies done l.tallies) l.fn.rows l.row-iterator;
+  counted : SoFar (λ done. AreTallies done l.tallies) (rows_left l.fn.rows)
+      (rows_left l.row-iterator);
   sorted : IsStrictlySortedBy call_cmp (keys_of l.tallies);
 }

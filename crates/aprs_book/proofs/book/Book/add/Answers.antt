@@ -1,7 +1,7 @@
 use Rattle.std.proofs.Common.{◌≡◌, ◌∙◌, None, sym, ap, refl, subst}
 use Rattle.aprs_log.specs.Reception.{Heard}
 use Rattle.aprs_laws.specs.Gap.{millis_of}
-use Rattle.aprs_laws.specs.Row.{row_key}
+use Rattle.aprs_laws.specs.Key.{key_of}
 use Rattle.aprs_laws.specs.Sound.{Sound}
 use Rattle.aprs_rows.specs.Refusal.{refusal}
 use Rattle.aprs_book.specs.Known.{reported_in}
@@ -37,9 +37,9 @@ invariant_of-self-2 g c =
       pushes_indexes c.of-reported.result c.args.parts.now c.self.inside.rows c.push.new.self
           c.self.inside.indexes c.place.new.self c.note.new.self c.self.invariant.1
           (λ topic. c.of-reported.ensures topic
-          ∙ ap (λ r. reported_in topic (row_key r)) c.parts.view_is)
+          ∙ ap (λ (x : Heard). reported_in topic (key_of x.frame)) c.heard-heard.ensures)
           c.in_ok-place.ensures.same
           (subst (λ (x : Heard). Noted c.of-reported.result x c.place.new.self c.note.new.self)
-          c.greatest.ensures c.note.ensures)
+          c.heard-heard.ensures c.note.ensures)
           c.in_ok-push.ensures.added,
     )

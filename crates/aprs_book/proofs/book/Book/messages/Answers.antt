@@ -7,4 +7,4 @@ pub returns : goal.returns
 returns g c =
     let gap = millis_of c.args.self.now.gap in
     subst (λ rows. IfOk c.messages_of.result (λ v. ReportsMessages gap rows v.items))
-    c.walk.ensures.rows (c.messages_of.ensures gap)
+    c.walk_rows.ensures.rows (c.messages_of.ensures gap)

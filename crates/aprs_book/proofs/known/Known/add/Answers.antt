@@ -16,6 +16,10 @@ loop-bytes-preserved-in-Some-known g c =
           adds_known (λ k. k.items) e c.next.new.self ascend q c.in-Some-known.x
           (known_at q c.loop-bytes.self) (known_at q c.note.new.self) c.in-Some-known.is
           (c.note.ensures q
+          ∙ ap (λ (x : Heard). cond
+          (is_eq (bytes_cmp c.as_slice-in-Some-known.result.now q))
+          (Some (greater_known (known_at q c.place.new.self) x)) (known_at q c.place.new.self))
+          c.of.ensures
           ∙ ap (λ b. cond (is_eq (bytes_cmp b q))
           (Some (greater_known (known_at q c.place.new.self) c.in-Some-known.x))
           (known_at q c.place.new.self))

@@ -1,7 +1,7 @@
 use Rattle.std.proofs.Common.{IfOk, subst}
 use Rattle.aprs_laws.specs.Gap.{millis_of}
 use Rattle.aprs_book.specs.Messages.{ReportsMessages}
-use Rattle.aprs_book.proofs.row_list.RowList.messages.Goals as goal
+use Rattle.aprs_book.proofs.overview.Overview.messages.Goals as goal
 
 pub returns : goal.returns
 returns g c =

@@ -2,7 +2,7 @@ use Rattle.std.proofs.Common.{IfOk, subst, sym}
 use Rattle.aprs_laws.specs.Gap.{millis_of}
 use Rattle.aprs_book.specs.Known.{AreIndexesOf}
 use Rattle.aprs_book.specs.Stations.{ReportsStations}
-use Rattle.aprs_book.proofs.row_list.RowList.stations.Goals as goal
+use Rattle.aprs_book.proofs.overview.Overview.stations.Goals as goal
 
 pub returns : goal.returns
 returns g c =
