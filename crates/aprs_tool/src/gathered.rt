@@ -4,7 +4,7 @@ ghost use Rattle.aprs_laws.specs.BookValue.{BookValue};
 ghost use Rattle.aprs_tool.specs.Gathered.{book_of_rows, WritesText};
 ghost use Rattle.aprs_tool.specs.ShownBook.{ShowsBook};
 
-use aprs_book::{Gap, Memory, RowList};
+use aprs_book::{Gap, Memory, Overview};
 use aprs_booktext::write_rows;
 use aprs_io::{Counted, WriteFault};
 use aprs_listing::Views;
@@ -102,8 +102,8 @@ impl<A: Allocator + Copy> Gathered<A> {
     {
         let order = self.store.in_order()?;
         let rows = order.coalesced(self.gap)?;
-        let list = RowList::of_rows(self.alloc, &rows)?;
-        let views = Views::of_list(&list)?;
+        let overview = Overview::of(self.alloc, &rows)?;
+        let views = Views::of_rows(&overview)?;
         Ok(views.write(w)?)
     }
 }

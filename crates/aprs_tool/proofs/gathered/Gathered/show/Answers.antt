@@ -21,11 +21,11 @@ returns-in_err-rows g c =
     c.from_residual-in_err-rows.ensures.1 in
     rw (p.1, p.2) refl
 
-pub returns-in_err-list : goal.returns-in_err-list
+pub returns-in_err-overview : goal.returns-in_err-overview
 unfolding ShowsBook
-returns-in_err-list g c =
-    let p = err_from_is_err_and c.from_residual-in_err-list.result
-    c.from_residual-in_err-list.ensures.1 in
+returns-in_err-overview g c =
+    let p = err_from_is_err_and c.from_residual-in_err-overview.result
+    c.from_residual-in_err-overview.ensures.1 in
     rw (p.1, p.2) refl
 
 pub returns-in_err-views : goal.returns-in_err-views
@@ -44,7 +44,7 @@ returns-in_err-write g c =
     let views = c.in_ok-views.ensures in
     rw (p.1, p.2) (subst (λ b. ShowsBook g.W.Write.contents (Err Write) b c.args.w.now
     c.write.new.w)
-    (c.in_ok-list.ensures
+    (c.in_ok-overview.ensures
     ∙ same_book was.gap was.store c.in_ok-rows.rows c.self.invariant c.in_ok-order.ensures.sound
     (ap (λ (b : BookValue). b.gap) c.in_ok-rows.ensures.rows)
     (c.in_ok-rows.ensures.book was.store c.in_ok-order.ensures.members)
@@ -61,7 +61,7 @@ returns g c =
     let was = c.self.inside in
     let views = c.in_ok-views.ensures in
     subst (λ b. ShowsBook g.W.Write.contents (Ok tt) b c.args.w.now c.write.new.w)
-    (c.in_ok-list.ensures
+    (c.in_ok-overview.ensures
     ∙ same_book was.gap was.store c.in_ok-rows.rows c.self.invariant c.in_ok-order.ensures.sound
     (ap (λ (b : BookValue). b.gap) c.in_ok-rows.ensures.rows)
     (c.in_ok-rows.ensures.book was.store c.in_ok-order.ensures.members)
