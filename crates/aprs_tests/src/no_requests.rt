@@ -129,21 +129,28 @@ fn shown_rows(book: &Book<&Bump>) -> usize {
     shown
 }
 
+/// Whether the book has the gap and the rows of what was sent, and differs from one with a wider gap.
+fn is_seen<'a>(call: Call, book: &Book<&'a Bump>, wide: &Book<&'a Bump>) -> bool {
+    match call {
+        Call::Gap => book.gap() == Gap::STANDARD && book.len() == SENT.len(),
+        Call::Rows => shown_rows(book) == SENT.len(),
+        Call::Same => book.same(book) && !book.same(wide),
+        _ => book.fits(book) && !book.fits(wide),
+    }
+}
+
 /// Whether the call answers as it has to, of books with and without a wider gap.
 fn is_answered<'a>(bump: &'a Bump, call: Call, books: &[Book<&'a Bump>]) -> Result<bool, Fail> {
     let [book, wide] = books else {
         return Err("two books".into());
     };
-    Ok(match call {
-        Call::New | Call::NewList | Call::NewPile | Call::NewReceivers => is_empty(bump, call),
-        Call::Gap => book.gap() == Gap::STANDARD && book.len() == SENT.len(),
-        Call::Rows => shown_rows(book) == SENT.len(),
-        Call::Same => book.same(book) && !book.same(wide),
-        Call::Fits => book.fits(book) && !book.fits(wide),
-        Call::AllFit => !all_fit(book, books),
-        Call::OtherGap | Call::Narrower => is_refused(call, book, wide),
-        Call::Position | Call::Status | Call::Object | Call::Item => is_known(call, book)?,
-    })
+    match call {
+        Call::New | Call::NewList | Call::NewPile | Call::NewReceivers => Ok(is_empty(bump, call)),
+        Call::Gap | Call::Rows | Call::Same | Call::Fits => Ok(is_seen(call, book, wide)),
+        Call::AllFit => Ok(!all_fit(book, books)),
+        Call::OtherGap | Call::Narrower => Ok(is_refused(call, book, wide)),
+        Call::Position | Call::Status | Call::Object | Call::Item => is_known(call, book),
+    }
 }
 
 /// Two books of what was sent, the second with a wider gap.

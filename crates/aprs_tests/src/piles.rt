@@ -43,7 +43,8 @@ fn taken(alloc: Global, first: u64) -> Result<Book, Fail> {
 #[test]
 fn two_hundred_receptions_are_sorted(rt: HostRuntime) -> Result<(), Fail> {
     let alloc = rt.alloc();
-    for (first, rows) in [(0, 100), (30, 1), (6031, 200)] {
+    const CASES: &[(u64, usize)] = &[(0, 100), (30, 1), (6031, 200)];
+    for &(first, rows) in CASES {
         let pile = two_hundred(alloc, first)?;
         let book = book_of(alloc, &pile).ok().ok_or("memory")?;
         assert!(rt; book.len() == rows);
@@ -66,19 +67,27 @@ fn lay<'a>(bump: &'a Bump, pile: &mut Pile<&'a Bump>) -> Result<u64, Fail> {
     Ok(refused)
 }
 
+/// Whether the pile's book has the rows of what was sent.
+fn has_rows<'a>(alloc: Global, bump: &'a Bump, pile: &Pile<&'a Bump>) -> bool {
+    match book_of(bump, pile) {
+        Ok(book) => is_shown(alloc, &book, ROWS),
+        Err(_) => false,
+    }
+}
+
 /// What was refused with so many units of room: whether a reception, and whether the book.
 fn refusals(alloc: Global, units: usize) -> Result<(bool, bool), Fail> {
     let bump = Bump::try_with_capacity(alloc, 65_536)?;
     let _fill = squeeze(&bump, units)?;
     let mut pile = Pile::new(&bump);
     let refused = lay(&bump, &mut pile)?;
-    let answer = book_of(&bump, &pile);
+    let is_refused = book_of(&bump, &pile).is_err();
     bump.set_allocation_limit(None);
-    let book = book_of(&bump, &pile).ok().ok_or("memory")?;
-    if !is_shown(alloc, &book, ROWS) {
-        return Err("other rows".into());
+    if has_rows(alloc, &bump, &pile) {
+        Ok((refused > 0, is_refused))
+    } else {
+        Err("other rows".into())
     }
-    Ok((refused > 0, answer.is_err()))
 }
 
 // Room for more and more units: first a reception is refused, then the order, the rows or the book,
@@ -114,21 +123,24 @@ fn counts<A: Allocator + Copy>(list: &RowList<A>) -> Result<(usize, usize, usize
     Ok((stations.len(), named.len(), messages.len()))
 }
 
+/// How many entries the pile's list has of each kind, or nothing where memory was refused.
+fn listed<'a>(bump: &'a Bump, pile: &Pile<&'a Bump>) -> Option<(usize, usize, usize)> {
+    let list = list_of(bump, pile).ok()?;
+    counts(&list).ok()
+}
+
 /// Whether the list of what was sent, or what it lists, is refused with so many units of room.
 fn is_list_refused(alloc: Global, units: usize) -> Result<bool, Fail> {
     let bump = Bump::try_with_capacity(alloc, 65_536)?;
     let mut pile = Pile::new(&bump);
     lay(&bump, &mut pile)?;
     let _fill = squeeze(&bump, units)?;
-    let is_refused = match list_of(&bump, &pile) {
-        Ok(list) => counts(&list).is_err(),
-        Err(_) => true,
-    };
+    let is_refused = listed(&bump, &pile).is_none();
     bump.set_allocation_limit(None);
-    let list = list_of(&bump, &pile).ok().ok_or("memory")?;
-    match counts(&list) {
-        Ok((3, 2, 1)) => Ok(is_refused),
-        _ => Err("another list".into()),
+    if listed(&bump, &pile) == Some((3, 2, 1)) {
+        Ok(is_refused)
+    } else {
+        Err("another list".into())
     }
 }
 
