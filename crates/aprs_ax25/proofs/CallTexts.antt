@@ -89,11 +89,6 @@ ssid_of-ssid_text s h =
 pub SsidText-ssid_of : (s : ℕ) (d : List ℕ) → SsidText s d → ssid_of d ≡ Some s
 SsidText-ssid_of s d h = ap ssid_of h.spelled ∙ ssid_of-ssid_text s h.range
 
-pub ssid_of-SsidText : (s : ℕ) (d : List ℕ) → (0 < length d → slice_index d 0 ≡ 45) → ssid_of d
-    ≡ Some s → SsidText s d
-ssid_of-SsidText s d first h = let p = ssid_of-Some s d first h in
-    record { range = p.1; spelled = p.0 }
-
 -- ---- text that has no fault
 
 pub length-before_dash : (text : List ℕ) → length (before_dash text) ≡ position_or_len is_dash text

@@ -18,9 +18,6 @@ position-past (x ∷ xs) ys h =
     ap (λ b. cond b (1 + position_or_len ends_field (xs ++ ys)) 0) p.0
     ∙ ap (λ n. 1 + n) (position-past xs ys p.1) ∙ omega arith
 
-ends-even : (n : ℕ) → ends_field (32 * n + 0) ≡ false
-ends-even n = ne_eqb ((32 * n + 0) % 2) 1 (λ e. omega arith)
-
 module _ (a : Address) (h : IsAddress a) (rest : List ℕ) where
   abbrev letter_octets : List ℕ
   letter_octets = double (padded a.call.letters)

@@ -73,19 +73,6 @@ hops-more hops i hop h is all p =
     (subst (AllByRecursion IsAddress) (sym (map-append hop_address (take i hops) (hop ∷ [])))
     (all-more (map hop_address (take i hops)) (hop_address hop) all p))
 
--- the field of a destination, a source and digipeaters, as their addresses go out one by one
-pub field-pushed : (destination source : Address) (others : List Address) (a b c d : List ℕ) (e : ℕ)
-    → a ≡ [] → b ≡ a ++ address_octets 0 destination
-    → c ≡ b ++ address_octets e source → d ≡ c ++ address_field others → (length others ≡ 0 → e ≡ 1)
-    → (0 < length others → e ≡ 0)
-    → d ≡ address_field (destination ∷ source ∷ others)
-field-pushed destination source others a b c d e empty p q r last inner =
-    r ∙ ap (λ l. l ++ address_field others)
-    (q ∙ ap (λ l. l ++ address_octets e source)
-    (p ∙ ap (λ l. l ++ address_octets 0 destination) empty))
-    ∙ append_assoc (address_octets 0 destination) (address_octets e source) (address_field others)
-    ∙ ap (λ l. address_octets 0 destination ++ l) (sym (field-cons source others e last inner))
-
 -- the frame that is spelled so has no fault, and is the frame of its parts
 pub made : (p : Parts) (bytes : List ℕ) → IsParts p → bytes ≡ spelling p
     → (frame_fault bytes ≡ None) × FrameOf (parts_of bytes) bytes

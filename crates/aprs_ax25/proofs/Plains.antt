@@ -14,10 +14,6 @@ use Rattle.aprs_ax25.proofs.Scans.{frame_fault-after}
 
 -- ---- letters and then spaces
 
-or-cases : (a b : Bool) → (a || b) ≡ true → (b ≡ false → a ≡ true)
-or-cases true b h = λ _. refl
-or-cases false b h = λ e. let no : false ≡ true = sym e ∙ h in cc
-
 callsign_byte-most : (b : ℕ) → is_callsign_byte b ≡ true → b ≤ 90
 callsign_byte-most b h =
     elim (nat_le 65 b && nat_le b 90) as (λ t. (nat_le 65 b && nat_le b 90) ≡ t → b ≤ 90) [
@@ -140,10 +136,6 @@ plain-address octets seven first all =
     }
 
 -- ---- two addresses at once
-
-or-parts : (a b : Bool) → (a || b) ≡ true → a ≡ false → b ≡ true
-or-parts true b h e = let no : true ≡ false = e in cc
-or-parts false b h e = h
 
 -- what is looked at inside a callsign
 inside : (i before octet : ℕ) → (i == 5) ≡ false → nat_le 12 i ≡ false → (i == 6) ≡ false
@@ -304,15 +296,6 @@ pub record ArePlain (count : ℕ) (bytes rest : List ℕ) : Type 0 where
   pub goes_on : position_or_len ends_field bytes ≡ 7 * count + position_or_len ends_field rest
   pub callsigns : (more : ℕ) → list_all has_callsign (sevens more rest) ≡ true
       → list_all has_callsign (sevens (count + more) bytes) ≡ true
-
-pub ArePlain-none : (bytes : List ℕ) → ArePlain 0 bytes bytes
-ArePlain-none bytes = record {
-  is = refl;
-  within = omega arith;
-  goes_on = omega arith;
-  callsigns = λ more h. let e : 0 + more ≡ more = omega arith in
-      ap (λ k. list_all has_callsign (sevens k bytes)) e ∙ h;
-}
 
 module _ (count : ℕ) (bytes rest address after : List ℕ) (held : ArePlain count bytes rest)
     (many : 7 ≤ length rest)

@@ -1,5 +1,5 @@
 -- Lemmas on the steps of looking for a frame's first fault.
-use Rattle.std.proofs.Common.{◌≡◌, ℕ, ◌/◌, ◌≤◌, ◌<◌, suc, List, [], ◌∷◌, length, take, drop, Bool, true, false, ◌&&◌, Some, arith, sym, ap, ◌∙◌, refl}
+use Rattle.std.proofs.Common.{◌≡◌, ℕ, ◌/◌, ◌≤◌, ◌<◌, suc, List, ◌∷◌, length, take, drop, Bool, false, ◌&&◌, arith, sym, ap, ◌∙◌, refl}
 use Rattle.std.specs.List.{list_all}
 use Rattle.std.proofs.lemmas.List.{length-drop}
 use Rattle.std.proofs.lemmas.Bool.{lt-ltb}
@@ -24,20 +24,6 @@ sevens-more bytes h =
     let e : length bytes / 7 ≡ suc (length (drop 7 bytes) / 7) =
     omega (arith, length-drop 7 bytes) in
     ap (λ n. sevens n bytes) e
-
--- fewer: none
-pub sevens-none : (bytes : List ℕ) → length bytes < 7 → sevens (length bytes / 7) bytes ≡ []
-sevens-none bytes h =
-    let e : length bytes / 7 ≡ 0 = omega arith in
-    ap (λ n. sevens n bytes) e
-
-pub frame_fault-address : (bytes : List ℕ) → is_wrong Address bytes ≡ true → Some Address
-    ≡ frame_fault bytes
-frame_fault-address bytes h = rw h refl
-
-pub frame_fault-callsign : (bytes : List ℕ) → is_wrong Address bytes ≡ false
-    → is_wrong Callsign bytes ≡ true → Some Callsign ≡ frame_fault bytes
-frame_fault-callsign bytes h k = rw (h, k) refl
 
 pub frame_fault-after : (bytes : List ℕ) → is_wrong Address bytes ≡ false → is_wrong Callsign bytes
     ≡ false

@@ -52,10 +52,6 @@ pub Appends-from_all : (a b : Option (List ℕ)) (bs : List ℕ) → AppendsAllB
     → Appends a b bs
 Appends-from_all a b bs p = subst (Appends a b) (sym (p.1 ∙ append-nil p.0)) p.2
 
-pub AppendsPrefix-all : (a b : Option (List ℕ)) (bs : List ℕ) → Appends a b bs
-    → AppendsPrefix a b bs
-AppendsPrefix-all a b bs p = ([], (bs, sym (append-nil bs), p))
-
 -- two texts, one after another
 pub AppendsPrefix-more : (a b : Option (List ℕ)) (bs more : List ℕ) → AppendsPrefix a b bs
     → AppendsPrefix a b (bs ++ more)

@@ -22,9 +22,6 @@ not_escape x h = grind (arith, nat_tests)
 pub not_end : (x : ℕ) → is_special x ≡ false → is_frame_end x ≡ false
 not_end x h = grind (arith, nat_tests)
 
-pub not_special : (x : ℕ) → x ≢ 0xC0 → x ≢ 0xDB → is_special x ≡ false
-not_special x h g = grind (arith, nat_tests)
-
 is_some_or_none : (o : Option (List ℕ)) → ((l : List ℕ) × (o ≡ Some l)) ⊎ (o ≡ None)
 is_some_or_none None = inr refl
 is_some_or_none (Some l) = inl (l, refl)

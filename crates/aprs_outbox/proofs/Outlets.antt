@@ -6,7 +6,7 @@ use Rattle.std.specs.List.{flat_map}
 use Rattle.std.specs.Result.{IsErr}
 use Rattle.aprs_io.specs.Device.{Sends, SendsAllBut}
 use Rattle.aprs_io.specs.declared.device.Counted.{Counted}
-use Rattle.aprs_io.proofs.Sends.{Sends-err, Sends-fails, Sends-is, Sends-last, Sends-none, Sends-ok, fails_of_both, left_all, left_of_both}
+use Rattle.aprs_io.proofs.Sends.{Sends-err, Sends-fails, Sends-is, Sends-last, Sends-ok, fails_of_both, left_all, left_of_both}
 use Rattle.aprs_outbox.specs.Outlet.{HasTaken, Puts, held_of, loan_of, writer_of}
 use Rattle.aprs_outbox.specs.declared.outlet.Outlet.{Outlet}
 

@@ -40,9 +40,6 @@ small_power (suc (suc (suc zero))) h = lit≤ tt
 small_power (suc (suc (suc (suc zero)))) h = lit≤ tt
 small_power (suc (suc (suc (suc (suc i))))) h = absurd (omega arith)
 
-pub reads_none : (base nought : ℕ) (text : List ℕ) → ReadTo base nought text 0 0
-reads_none base nought text = record { digits = refl; value = refl; below = lit< tt }
-
 -- how large the next number can be, by the digits that it has
 next_below : (base n d i : ℕ) → base ≤ 91 → d < base → n < 91 ^ i → n * base + d < 91 ^ suc i
 next_below base n d i b db h =

@@ -161,10 +161,6 @@ reading_is (rej a id) info h = of_form (rej a id) info h
 reading_is (status st t) info h = of_form (status st t) info h
 reading_is raw info h = raw_takes (form_of info) info refl h
 
--- two readings of a field are one
-pub same_reading : (v w : Value) (info : List ℕ) → Reads v info → Reads w info → w ≡ v
-same_reading v w info h k = sym (reading_is w info k) ∙ reading_is v info h
-
 -- each field has exactly one reading
 pub one_reading : (info : List ℕ) → OneReading info
 one_reading info = (reading_of info, reads_as info, λ w h. sym (reading_is w info h))

@@ -51,7 +51,8 @@ fn rows_together(alloc: Global, first: u64) -> Result<usize, Fail> {
 fn a_hundred_rows_are_taken_and_merged(rt: HostRuntime) -> Result<(), Fail> {
     let alloc = rt.alloc();
     assert!(rt; hundred(alloc, 0, b"RX1")?.len() == 100);
-    for (first, rows) in [(0, 100), (30, 1), (6031, 200)] {
+    const CASES: &[(u64, usize)] = &[(0, 100), (30, 1), (6031, 200)];
+    for &(first, rows) in CASES {
         assert!(rt; rows_together(alloc, first)? == rows);
     }
     Ok(())
@@ -60,7 +61,8 @@ fn a_hundred_rows_are_taken_and_merged(rt: HostRuntime) -> Result<(), Fail> {
 /// Three books of a hundred minutes each, and two of them close to each other.
 fn three_books(alloc: Global) -> Result<Vec<Book>, Fail> {
     let mut books = Vec::new(alloc);
-    for (first, name) in [(0, b"RX1"), (30, b"RX2"), (6031, b"RX2")] {
+    const HEARD: &[(u64, &[u8])] = &[(0, b"RX1"), (30, b"RX2"), (6031, b"RX2")];
+    for &(first, name) in HEARD {
         books.push(hundred(alloc, first, name)?)?;
     }
     Ok(books)
@@ -85,12 +87,17 @@ fn has_joined(joined: &Book, first: &Book) -> bool {
     }
 }
 
+/// Whether these books have a hundred and one rows together, among them the first one's.
+fn are_joined(books: &[Book]) -> Option<bool> {
+    let first = books.first()?;
+    let joined = joined_all(first, books)?;
+    Some(joined.len() == 101 && has_joined(&joined, first))
+}
+
 #[test]
 fn a_hundred_rows_are_joined(rt: HostRuntime) -> Result<(), Fail> {
     let books = three_books(rt.alloc())?;
-    let first = books.first().ok_or("a book")?;
-    let joined = joined_all(first, books.as_slice()).ok_or("a joined book")?;
-    assert!(rt; joined.len() == 101 && has_joined(&joined, first));
+    assert!(rt; are_joined(books.as_slice()) == Some(true));
     Ok(())
 }
 
@@ -161,7 +168,8 @@ fn three_inputs(alloc: Global) -> Result<Vec<Vec<u8>>, Fail> {
 /// Nine inputs, each one of three.
 fn nine_of<'a>(alloc: Global, three: &'a [Vec<u8>]) -> Result<Vec<Counted<&'a [u8]>>, Fail> {
     let mut inputs = Vec::new(alloc);
-    for number in [0usize, 2, 1, 0, 2, 2, 2, 1, 2] {
+    const NUMBERS: &[usize] = &[0, 2, 1, 0, 2, 2, 2, 1, 2];
+    for &number in NUMBERS {
         let input = three.get(number).ok_or("an input")?;
         inputs.push(Counted::new(input.as_slice()))?;
     }
@@ -205,7 +213,8 @@ fn nine_inputs_are_merged_and_listed(rt: HostRuntime) -> Result<(), Fail> {
     let alloc = rt.alloc();
     let three = three_inputs(alloc)?;
     let heap = LocalHeap::new(alloc, 1_048_576)?;
-    for (is_listing, want) in [(false, ONE_ROW), (true, ONE_STATION)] {
+    const WANTED: &[(bool, &[u8])] = &[(false, ONE_ROW), (true, ONE_STATION)];
+    for &(is_listing, want) in WANTED {
         assert!(rt; is_gathered(alloc, &heap, three.as_slice(), is_listing, want)?);
         assert!(rt; heap.used() == 0);
     }
@@ -228,7 +237,8 @@ fn a_listed_receiver_takes_no_room(rt: HostRuntime) -> Result<(), Fail> {
     let mut book = Book::new(&heap);
     take_direct(&mut book, &[0, 61, 122, 20])?;
     let used = heap.used();
-    for second in [0, 10, 20, 61, 70, 91, 122, 152] {
+    const SECONDS: &[u64] = &[0, 10, 20, 61, 70, 91, 122, 152];
+    for &second in SECONDS {
         take_direct(&mut book, &[second])?;
         assert!(rt; heap.used() == used);
     }

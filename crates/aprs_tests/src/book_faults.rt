@@ -1,4 +1,5 @@
 //! Texts that are no book's.
+ghost use Rattle.std.specs.Prelude.{◌≤◌};
 
 use crate::vectors::{DIRECT_TEXT, MERGED_TEXT, OLD_DIRECT_TEXT, OLD_MERGED_TEXT, line_after};
 use aprs_booktext::{BookCause, BookFault, read_book, write_book};
@@ -9,7 +10,14 @@ use std::test::Fail;
 
 /// The line and the name of the cause of a text's fault, or nothing.
 pub fn fault_of(alloc: Global, text: &[u8]) -> Option<(u64, &'static str)> {
-    match read_book(alloc, MAX_INPUT, b"", &mut Counted::new(text)) {
+    fault_within(alloc, MAX_INPUT, text)
+}
+
+/// The same of a text under a limit.
+fn fault_within(alloc: Global, limit: u64, text: &[u8]) -> Option<(u64, &'static str)>
+    requires { limit ≤ 1073741824 }
+{
+    match read_book(alloc, limit, b"", &mut Counted::new(text)) {
         Ok(_) => None,
         Err(BookFault { line, cause }) => Some((line, cause.name())),
     }
@@ -164,7 +172,7 @@ fn fields_have_one_spelling(rt: HostRuntime) -> Result<(), Fail> {
 }
 
 /// Rows of three keys, by the SSID of the source, each two 30 seconds apart.
-const NEAR_PAIRS: [&[u8]; 6] = [
+const NEAR_PAIRS: &[&[u8]] = &[
     b"T 2024-05-01T12:00:00.000Z 2024-05-01T12:00:00.000Z RX1 RX1 \
     82a0a4a64040e09c60868298986103f03e4869",
     b"T 2024-05-01T12:00:30.000Z 2024-05-01T12:00:30.000Z RX1 RX1 \
@@ -183,21 +191,15 @@ const NEAR_PAIRS: [&[u8]; 6] = [
 #[test]
 fn rows_of_three_keys_are_near_in_pairs(rt: HostRuntime) -> Result<(), Fail> {
     let alloc = rt.alloc();
-    let [a, near_a, b, near_b, c, near_c] = NEAR_PAIRS;
-    for (rows, fault) in [
-        ([a, b, c].as_slice(), None),
-        ([a, near_a, b, c].as_slice(), Some((3, "Near"))),
-        ([a, b, near_b, c].as_slice(), Some((4, "Near"))),
-        ([a, b, c, near_c].as_slice(), Some((5, "Near"))),
-        (NEAR_PAIRS.as_slice(), Some((3, "Near"))),
-    ] {
-        let last: &[u8] = if rows.len() == 3 {
-            b"END 3\n"
-        } else {
-            b"END 4\n"
-        };
-        assert!(rt; has_fault(alloc, rows, last, fault)?);
-    }
+    let &[a, near_a, b, near_b, c, near_c] = NEAR_PAIRS else {
+        return Err("six rows".into());
+    };
+    let (third, last) = (Some((3, "Near")), b"END 4\n");
+    assert!(rt; has_fault(alloc, &[a, b, c], b"END 3\n", None)?);
+    assert!(rt; has_fault(alloc, &[a, near_a, b, c], last, third)?);
+    assert!(rt; has_fault(alloc, &[a, b, near_b, c], last, Some((4, "Near")))?);
+    assert!(rt; has_fault(alloc, &[a, b, c, near_c], last, Some((5, "Near")))?);
+    assert!(rt; has_fault(alloc, NEAR_PAIRS, last, third)?);
     Ok(())
 }
 
@@ -213,21 +215,19 @@ fn a_second_row(rt: HostRuntime) -> Result<(), Fail> {
     let far = b"T 2024-05-01T12:00:31.000Z 2024-05-01T12:00:31.000Z RX1 RX1 \
         82a0a4a64040e09c60868298986f03f03e4869"
         .as_slice();
-    for (second, fault) in [
-        (near, Some((3, "Near"))),
-        (far, None),
-        (first, Some((3, "Order"))),
-    ] {
-        assert!(rt; has_fault(alloc, &[first, second], b"END 2\n", fault)?);
-    }
-    assert!(rt; has_fault(alloc, &[far, first], b"END 2\n", Some((3, "Order")))?);
+    let (order, last) = (Some((3, "Order")), b"END 2\n");
+    assert!(rt; has_fault(alloc, &[first, near], last, Some((3, "Near")))?);
+    assert!(rt; has_fault(alloc, &[first, far], last, None)?);
+    assert!(rt; has_fault(alloc, &[first, first], last, order)?);
+    assert!(rt; has_fault(alloc, &[far, first], last, order)?);
     Ok(())
 }
 
 // The fault is of the line in which the text ends.
 #[test]
 fn texts_cut_short(rt: HostRuntime) {
-    for text in [DIRECT_TEXT, MERGED_TEXT, OLD_DIRECT_TEXT, OLD_MERGED_TEXT] {
+    const CASES: &[&[u8]] = &[DIRECT_TEXT, MERGED_TEXT, OLD_DIRECT_TEXT, OLD_MERGED_TEXT];
+    for &text in CASES {
         for cut in 0..text.len() {
             let fault = fault_of(rt.alloc(), &text[..cut]);
             assert!(rt; fault == Some((line_after(text, cut), "Ending")));
@@ -242,26 +242,8 @@ fn texts_grown_or_beyond_the_limit(rt: HostRuntime) -> Result<(), Fail> {
     more.extend_from_slice(DIRECT_TEXT)?;
     more.push(b'\n')?;
     assert!(rt; fault_of(alloc, more.as_slice()) == Some((4, "After")));
-    let short = read_book(alloc, 119, b"", &mut Counted::new(more.as_slice()));
-    assert!(rt;
-        matches!(
-            &short,
-            Err(BookFault {
-                line: 4,
-                cause: BookCause::TooLong
-            })
-        )
-    );
-    let shorter = read_book(alloc, 118, b"", &mut Counted::new(DIRECT_TEXT));
-    assert!(rt;
-        matches!(
-            &shorter,
-            Err(BookFault {
-                line: 3,
-                cause: BookCause::TooLong
-            })
-        )
-    );
+    assert!(rt; fault_within(alloc, 119, more.as_slice()) == Some((4, "TooLong")));
+    assert!(rt; fault_within(alloc, 118, DIRECT_TEXT) == Some((3, "TooLong")));
     Ok(())
 }
 

@@ -28,18 +28,16 @@ fn book_of(alloc: Global, lines: &[&[u8]]) -> Result<Book, Fail> {
 #[test]
 fn books_and_their_texts(rt: HostRuntime) -> Result<(), Fail> {
     let alloc = rt.alloc();
-    for (lines, text) in [
-        ([].as_slice(), EMPTY_TEXT),
-        ([DIRECT_LINE].as_slice(), DIRECT_TEXT),
+    const CASES: &[(&[&[u8]], &[u8])] = &[
+        (&[], EMPTY_TEXT),
+        (&[DIRECT_LINE], DIRECT_TEXT),
+        (&[FIRST_LINE, LAST_LINE, REPEATED_LINE], MERGED_TEXT),
         (
-            [FIRST_LINE, LAST_LINE, REPEATED_LINE].as_slice(),
+            &[REPEATED_LINE, FIRST_LINE, LAST_LINE, FIRST_LINE],
             MERGED_TEXT,
         ),
-        (
-            [REPEATED_LINE, FIRST_LINE, LAST_LINE, FIRST_LINE].as_slice(),
-            MERGED_TEXT,
-        ),
-    ] {
+    ];
+    for &(lines, text) in CASES {
         let book = book_of(alloc, lines)?;
         assert!(rt; is_written_as(alloc, &book, text));
     }
@@ -66,22 +64,35 @@ fn a_writer_fails_at_each_byte(rt: HostRuntime) -> Result<(), Fail> {
     Ok(())
 }
 
+const TEXTS: &[&[u8]] = &[EMPTY_TEXT, DIRECT_TEXT, MERGED_TEXT];
+
+/// Whether a text is read as its book.
+fn is_read_back(alloc: Global, text: &[u8]) -> bool {
+    let read = read_book(alloc, MAX_INPUT, b"", &mut Counted::new(text));
+    matches!(&read, Ok(book) if is_written_as(alloc, book, text))
+}
+
+/// The same where its first eight bytes were read before, and the limit is its length.
+fn is_read_on(alloc: Global, text: &[u8]) -> bool {
+    if text.len() < 8 || text.len() > 1000 {
+        return false;
+    }
+    let (head, rest) = text.split_at(8);
+    let read = read_book(alloc, text.len() as u64, head, &mut Counted::new(rest));
+    matches!(&read, Ok(book) if is_written_as(alloc, book, text))
+}
+
 #[test]
 fn texts_are_read_back(rt: HostRuntime) {
-    let alloc = rt.alloc();
-    for text in [EMPTY_TEXT, DIRECT_TEXT, MERGED_TEXT] {
-        let read = read_book(alloc, MAX_INPUT, b"", &mut Counted::new(text));
-        assert!(rt; matches!(&read, Ok(book) if is_written_as(alloc, book, text)));
-        let mut rest = Counted::new(&text[8..]);
-        let again = read_book(alloc, text.len() as u64, &text[..8], &mut rest);
-        assert!(rt; matches!(&again, Ok(book) if is_written_as(alloc, book, text)));
+    for &text in TEXTS {
+        assert!(rt; is_read_back(rt.alloc(), text) && is_read_on(rt.alloc(), text));
     }
 }
 
 #[test]
 fn texts_are_read_byte_by_byte(rt: HostRuntime) {
     let alloc = rt.alloc();
-    for text in [EMPTY_TEXT, DIRECT_TEXT, MERGED_TEXT] {
+    for &text in TEXTS {
         let mut source = Counted::new(Failing {
             bytes: text,
             most: 1,
@@ -137,21 +148,23 @@ fn read_text(alloc: Global, text: &[u8]) -> Result<Book, Fail> {
     Ok(read.ok().ok_or("a book")?)
 }
 
-// Receptions that the row may stand for make the same book, in any order.
+/// Receptions that the row may stand for, in each order.
+const ORDERS: &[[&[u8]; 3]] = &[
+    [EARLY_LINE, DIRECT_LINE, EARLY_OTHER_LINE],
+    [EARLY_LINE, EARLY_OTHER_LINE, DIRECT_LINE],
+    [DIRECT_LINE, EARLY_LINE, EARLY_OTHER_LINE],
+    [DIRECT_LINE, EARLY_OTHER_LINE, EARLY_LINE],
+    [EARLY_OTHER_LINE, EARLY_LINE, DIRECT_LINE],
+    [EARLY_OTHER_LINE, DIRECT_LINE, EARLY_LINE],
+];
+
+// They make the same book.
 #[test]
 fn a_read_row_stands_for_receptions(rt: HostRuntime) -> Result<(), Fail> {
     let alloc = rt.alloc();
     let book = read_text(alloc, SPAN_TEXT)?;
-    let (a, b, c) = (EARLY_LINE, DIRECT_LINE, EARLY_OTHER_LINE);
-    for lines in [
-        [a, b, c],
-        [a, c, b],
-        [b, a, c],
-        [b, c, a],
-        [c, a, b],
-        [c, b, a],
-    ] {
-        assert!(rt; book_of(alloc, &lines)?.same(&book));
+    for lines in ORDERS {
+        assert!(rt; book_of(alloc, lines)?.same(&book));
     }
     assert!(rt; book.merge(&book).ok().ok_or("a merge")?.same(&book));
     Ok(())

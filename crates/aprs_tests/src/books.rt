@@ -42,17 +42,15 @@ fn heard_at_once(alloc: Global, all: &[(&[u8], &[u8])]) -> Result<Book, Fail> {
 
 #[test]
 fn ties_go_by_receiver_then_frame(rt: HostRuntime) -> Result<(), Fail> {
-    let direct = (b"RX1".as_slice(), DIRECT.as_slice());
-    let repeated = (b"RX1".as_slice(), REPEATED.as_slice());
-    let other = (b"RX2".as_slice(), REPEATED.as_slice());
-    for (all, rows) in [
-        ([repeated, direct].as_slice(), "0-0 RX1 / RX1 6f; "),
-        ([direct, repeated].as_slice(), "0-0 RX1 / RX1 6f; "),
-        (
-            [repeated, direct, other].as_slice(),
-            "0-0 RX1 RX2 / RX2 6e; ",
-        ),
-    ] {
+    const DIRECT_ONE: (&[u8], &[u8]) = (b"RX1", &DIRECT);
+    const REPEATED_ONE: (&[u8], &[u8]) = (b"RX1", &REPEATED);
+    const OTHER: (&[u8], &[u8]) = (b"RX2", &REPEATED);
+    const CASES: &[(&[(&[u8], &[u8])], &str)] = &[
+        (&[REPEATED_ONE, DIRECT_ONE], "0-0 RX1 / RX1 6f; "),
+        (&[DIRECT_ONE, REPEATED_ONE], "0-0 RX1 / RX1 6f; "),
+        (&[REPEATED_ONE, DIRECT_ONE, OTHER], "0-0 RX1 RX2 / RX2 6e; "),
+    ];
+    for &(all, rows) in CASES {
         let book = heard_at_once(rt.alloc(), all)?;
         assert!(rt; is_shown(rt.alloc(), &book, rows), "{rows}");
     }
@@ -73,7 +71,8 @@ fn other_digipeaters_are_no_other_row(rt: HostRuntime) -> Result<(), Fail> {
 fn receivers_stand_once(rt: HostRuntime) -> Result<(), Fail> {
     let alloc = rt.alloc();
     let mut names = Receivers::new(alloc);
-    for name in [b"RX2", b"RX1", b"RX2"] {
+    const NAMES: &[&[u8]] = &[b"RX2", b"RX1", b"RX2"];
+    for &name in NAMES {
         let name = receiver(name)?;
         names.add(&name).ok().ok_or("memory")?;
     }
@@ -104,11 +103,9 @@ fn two_rows_bridge_three(rt: HostRuntime) -> Result<(), Fail> {
     let alloc = rt.alloc();
     let three = book_by(alloc, b"RX1", &[0, 60, 120])?;
     let two = book_by(alloc, b"RX2", &[30, 90])?;
-    for (ours, theirs) in [(&three, &two), (&two, &three)] {
-        assert!(rt; is_merged_to(alloc, ours, theirs, "0-120 RX1 RX2 / RX1 6f; "));
-    }
-    assert!(rt; three.len() == 3);
-    assert!(rt; two.len() == 2);
+    assert!(rt; is_merged_to(alloc, &three, &two, "0-120 RX1 RX2 / RX1 6f; "));
+    assert!(rt; is_merged_to(alloc, &two, &three, "0-120 RX1 RX2 / RX1 6f; "));
+    assert!(rt; three.len() == 3 && two.len() == 2);
     assert!(rt; !three.same(&two) && two.same(&two));
     Ok(())
 }

@@ -28,14 +28,15 @@ const EIGHT: &[u8] = &[3, 4, 5];
 fn table(alloc: Global) -> Result<Vec<Frame>, Fail> {
     let mut frames = Vec::new(alloc);
     frames.push(Frame::read(&REPEATED).ok().ok_or("frame")?)?;
-    for (source, info) in [
-        (b"N0CALL-7", b"!4903.50N/07201.75W-".as_slice()),
+    const SENT: &[(&[u8], &[u8])] = &[
+        (b"N0CALL-7", b"!4903.50N/07201.75W-"),
         (b"N0CALL-7", b";LEADER   *092345z4903.50N/07201.75W>"),
         (b"N0CALL-7", b">Hi"),
         (b"N0CALL-8", b")LEADER!4903.50N/07201.75W>"),
         (b"N0CALL-8", b";LEADER   _092345z4903.50N/07201.75W>"),
         (b"N0CALL-8", b";LEADER   _092345z4903.50N/07201.75W>home"),
-    ] {
+    ];
+    for &(source, info) in SENT {
         frames.push(frame_of(source, info)?)?;
     }
     Ok(frames)
@@ -129,7 +130,8 @@ fn same_known(frames: &[Frame], book: &Book, plain: &PlainBook) -> Result<bool, 
 fn same_stations(book: &Book, plain: &PlainBook) -> Result<bool, Fail> {
     let stations = book.stations().ok().ok_or("memory")?;
     let mut listed = stations.iter().map(|station| station.transmissions);
-    for keys in [SEVEN, EIGHT] {
+    const KEYS: &[&[u8]] = &[SEVEN, EIGHT];
+    for &keys in KEYS {
         let count = plain.transmissions(keys);
         if count > 0 && listed.next() != Some(count) {
             return Ok(false);
@@ -220,7 +222,8 @@ fn agrees_in_order(alloc: Global, frames: &[Frame], order: usize) -> Result<bool
     let mut both = Both::new(alloc);
     let mut store = RowStore::new(alloc);
     let mut rest = order;
-    for size in [5usize, 4, 3, 2, 1] {
+    const SIZES: &[usize] = &[5, 4, 3, 2, 1];
+    for &size in SIZES {
         let place = rest % size;
         rest /= size;
         if place >= left.len() {
@@ -351,7 +354,8 @@ fn agrees_in_a_thousand(alloc: Global, frames: &[Frame], stride: u64) -> Result<
 fn a_thousand_rows_of_one_key(rt: HostRuntime) -> Result<(), Fail> {
     let alloc = rt.alloc();
     let frames = table(alloc)?;
-    for stride in [1u64, 999, 387] {
+    const STRIDES: &[u64] = &[1, 999, 387];
+    for &stride in STRIDES {
         assert!(rt;
             agrees_in_a_thousand(alloc, frames.as_slice(), stride)?,
             "{stride}"

@@ -57,40 +57,31 @@ fn line_of(run: &Result<(), RunFault>) -> Option<u64> {
     }
 }
 
-// Nothing is written, and the third isn't read.
+/// Whether a run over three inputs ends at the second, which fails after so many bytes: at its line,
+/// asked once, and with nothing written.
+fn is_ended_by(alloc: Global, second: &[u8], good: usize, is_listing: bool) -> bool {
+    let mut inputs = [
+        reader(ONE_LINE, usize::MAX),
+        reader(second, good),
+        reader(MERGED_TEXT, usize::MAX),
+    ];
+    let mut w = Counted::new(Vec::new(alloc));
+    let run = if is_listing {
+        show_run(alloc, MAX_INPUT, Gap::STANDARD, &mut inputs, &mut w)
+    } else {
+        merge_run(alloc, MAX_INPUT, Gap::STANDARD, &mut inputs, &mut w)
+    };
+    let is_at = line_of(&run) == Some(line_after(second, good));
+    is_at && inputs[1].failures() == 1 && w.into_inner().is_empty()
+}
+
 #[test]
 fn the_second_of_three_inputs_fails_at_each_byte(rt: HostRuntime) {
-    let alloc = rt.alloc();
-    for second in [LOG, DIRECT_TEXT] {
+    const SECOND: &[&[u8]] = &[LOG, DIRECT_TEXT];
+    for &second in SECOND {
         for good in 0..=second.len() {
-            for is_listing in [false, true] {
-                let mut inputs = [
-                    reader(ONE_LINE, usize::MAX),
-                    reader(second, good),
-                    reader(MERGED_TEXT, usize::MAX),
-                ];
-                let mut w = Counted::new(Vec::new(alloc));
-                let run = if is_listing {
-                    show_run(
-                        alloc,
-                        MAX_INPUT,
-                        Gap::STANDARD,
-                        inputs.as_mut_slice(),
-                        &mut w,
-                    )
-                } else {
-                    merge_run(
-                        alloc,
-                        MAX_INPUT,
-                        Gap::STANDARD,
-                        inputs.as_mut_slice(),
-                        &mut w,
-                    )
-                };
-                assert!(rt; line_of(&run) == Some(line_after(second, good)), "{good}");
-                assert!(rt; w.into_inner().is_empty());
-                assert!(rt; inputs[1].failures() == 1);
-            }
+            assert!(rt; is_ended_by(rt.alloc(), second, good, false), "{good}");
+            assert!(rt; is_ended_by(rt.alloc(), second, good, true), "{good}");
         }
     }
 }

@@ -28,7 +28,8 @@ fn gaps_are_1_to_3600_seconds(rt: HostRuntime) {
 /// The book of a frame that RX1 heard, RX2 45 seconds later, and RX1 again as long after that.
 fn three_rows<A: Allocator + Copy>(alloc: A) -> Result<Book<A>, Fail> {
     let mut book = Book::new(alloc);
-    for (second, name) in [(0, b"RX1"), (45, b"RX2"), (90, b"RX1")] {
+    const CASES: &[(u64, &[u8])] = &[(0, b"RX1"), (45, b"RX2"), (90, b"RX1")];
+    for &(second, name) in CASES {
         let x = heard(second, name, &DIRECT)?;
         book.take(&x).ok().ok_or("memory")?;
     }
@@ -60,7 +61,8 @@ fn is_narrower(book: &Book, seconds: u64) -> bool {
 fn rows_join_where_the_gap_reaches(rt: HostRuntime) -> Result<(), Fail> {
     let alloc = rt.alloc();
     let book = three_rows(alloc)?;
-    for (seconds, rows) in [(30, THREE), (44, THREE), (45, WIDE), (3600, WIDE)] {
+    const CASES: &[(u64, &str)] = &[(30, THREE), (44, THREE), (45, WIDE), (3600, WIDE)];
+    for &(seconds, rows) in CASES {
         assert!(rt; is_widened_to(alloc, &book, seconds, rows), "{seconds}");
     }
     assert!(rt; is_narrower(&book, 29));
@@ -216,7 +218,8 @@ fn a_desk_takes_no_book_of_another_gap(rt: HostRuntime) {
 fn a_desk_has_its_gap(rt: HostRuntime) -> Result<(), Fail> {
     let alloc = rt.alloc();
     let mut desk = Desk::with_gap(alloc, MAX_INPUT, gap(45)?);
-    for input in [THREE_LOG, WIDE_TEXT] {
+    const INPUTS: &[&[u8]] = &[THREE_LOG, WIDE_TEXT];
+    for &input in INPUTS {
         assert!(rt; desk.take_input(&mut Counted::new(input)).is_ok());
         assert!(rt; is_shown(alloc, desk.book(), WIDE));
     }

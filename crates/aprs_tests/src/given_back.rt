@@ -4,7 +4,7 @@ use crate::last_known::sent;
 use crate::pushed_rows::parts;
 use crate::refused_calls::SENT;
 use crate::vectors::{LOG, MERGED_TEXT, NOON, receiver};
-use aprs_book::{Book, Gap, Join, Receivers, RowList, Step, from_rows, replay, steps_fit};
+use aprs_book::{Book, Gap, Join, Overview, Receivers, Step, from_rows, replay, steps_fit};
 use aprs_booktext::read_book;
 use aprs_kiss::Counted;
 use aprs_log::MAX_INPUT;
@@ -28,7 +28,7 @@ enum Made {
     RowsInOrder,
     Transmissions,
     BookOfRows,
-    RowList,
+    Overview,
     ListedStations,
     ListedObjects,
     ListedMessages,
@@ -53,7 +53,7 @@ const MADE: &[Made] = &[
     Made::RowsInOrder,
     Made::Transmissions,
     Made::BookOfRows,
-    Made::RowList,
+    Made::Overview,
     Made::ListedStations,
     Made::ListedObjects,
     Made::ListedMessages,
@@ -86,13 +86,35 @@ fn book_of_sent(heap: &LocalHeap) -> Result<Book<&LocalHeap>, Fail> {
 fn used_of_book(heap: &LocalHeap, made: Made) -> Result<usize, Fail> {
     let book = book_of_sent(heap)?;
     match made {
-        Made::Merged => used_with(heap, book.merge(&book)),
-        Made::Joined if book.fits(&book) => used_with(heap, book.join(&book)),
-        Made::Widened => used_with(heap, book.widen(Gap::new(60).ok_or("a gap")?)),
+        Made::Book => Ok(heap.used()),
+        Made::Merged | Made::Joined | Made::Widened => used_of_another(heap, &book, made),
+        _ => used_of_entries(heap, &book, made),
+    }
+}
+
+/// How much is in use with another book that is made of this one.
+fn used_of_another<'a>(
+    heap: &'a LocalHeap,
+    book: &Book<&'a LocalHeap>,
+    made: Made,
+) -> Result<usize, Fail> {
+    match made {
+        Made::Merged => used_with(heap, book.merge(book)),
+        Made::Joined if book.fits(book) => used_with(heap, book.join(book)),
+        _ => used_with(heap, book.widen(Gap::new(60).ok_or("a gap")?)),
+    }
+}
+
+/// How much is in use with a list of this book.
+fn used_of_entries<'a>(
+    heap: &'a LocalHeap,
+    book: &Book<&'a LocalHeap>,
+    made: Made,
+) -> Result<usize, Fail> {
+    match made {
         Made::Stations => used_with(heap, book.stations()),
         Made::Objects => used_with(heap, book.objects()),
-        Made::Messages => used_with(heap, book.messages()),
-        _ => Ok(heap.used()),
+        _ => used_with(heap, book.messages()),
     }
 }
 
@@ -120,21 +142,21 @@ fn used_of_store(heap: &LocalHeap, made: Made) -> Result<usize, Fail> {
     match made {
         Made::Transmissions => Ok(heap.used()),
         Made::BookOfRows => used_with(heap, Book::of_rows(heap, &rows)),
-        _ => used_of_list(heap, &rows, made),
+        _ => used_of_overview(heap, &rows, made),
     }
 }
 
-/// How much is in use with the list of these rows, and with what is made of it.
-fn used_of_list<'a>(
+/// How much is in use with what these rows say, and with what is made of it.
+fn used_of_overview<'a>(
     heap: &'a LocalHeap,
     rows: &Transmissions<'_, &'a LocalHeap>,
     made: Made,
 ) -> Result<usize, Fail> {
-    let list = RowList::of_rows(heap, rows).ok().ok_or("memory")?;
+    let overview = Overview::of(heap, rows).ok().ok_or("memory")?;
     match made {
-        Made::ListedStations => used_with(heap, list.stations()),
-        Made::ListedObjects => used_with(heap, list.objects()),
-        Made::ListedMessages => used_with(heap, list.messages()),
+        Made::ListedStations => used_with(heap, overview.stations()),
+        Made::ListedObjects => used_with(heap, overview.objects()),
+        Made::ListedMessages => used_with(heap, overview.messages()),
         _ => Ok(heap.used()),
     }
 }
@@ -155,7 +177,8 @@ fn used_of_steps(alloc: Global, heap: &LocalHeap) -> Result<usize, Fail> {
 /// How much is in use with the names of three receivers.
 fn used_of_receivers(heap: &LocalHeap) -> Result<usize, Fail> {
     let mut names = Receivers::new(heap);
-    for name in [b"RX2", b"RX1", b"RX3"] {
+    const NAMES: &[&[u8]] = &[b"RX2", b"RX1", b"RX3"];
+    for &name in NAMES {
         names.add(&receiver(name)?).ok().ok_or("memory")?;
     }
     Ok(heap.used())
@@ -173,7 +196,8 @@ fn used_of_parts(heap: &LocalHeap, made: Made) -> Result<usize, Fail> {
 /// How much is in use with a desk that took a log and a book file.
 fn used_of_desk(heap: &LocalHeap) -> Result<usize, Fail> {
     let mut desk = Desk::new(heap, MAX_INPUT);
-    for input in [LOG, MERGED_TEXT] {
+    const INPUTS: &[&[u8]] = &[LOG, MERGED_TEXT];
+    for &input in INPUTS {
         desk.take_input(&mut Counted::new(input))
             .ok()
             .ok_or("an input")?;
@@ -247,11 +271,8 @@ fn is_refused(alloc: Global, heap: &LocalHeap, third: &[u8], is_listing: bool) -
 #[test]
 fn what_fails_gives_all_back(rt: HostRuntime) -> Result<(), Fail> {
     let heap = LocalHeap::new(rt.alloc(), 262_144)?;
-    for third in [
-        CUT_TEXT,
-        b"APRSBOOK 3 31\nEND 0\n".as_slice(),
-        b"no log\n".as_slice(),
-    ] {
+    const THIRD: &[&[u8]] = &[CUT_TEXT, b"APRSBOOK 3 31\nEND 0\n", b"no log\n"];
+    for &third in THIRD {
         assert!(rt; is_refused(rt.alloc(), &heap, third, false));
         assert!(rt; is_refused(rt.alloc(), &heap, third, true));
         assert!(rt; heap.used() == 0);

@@ -89,12 +89,8 @@ fn knows_the_later(book: &Book, late: &Reception, report: &Report<'_>) -> Result
     )
 }
 
-// A position taken later, but heard earlier, isn't the last known one.
-#[test]
-fn positions_are_the_greatest_heard(rt: HostRuntime) -> Result<(), Fail> {
-    let alloc = rt.alloc();
-    let late = sent(600, b"N0CALL-7", b"!4903.50N/07201.75W-")?;
-    let early = sent(0, b"N0CALL-7", b"!4904.00N/07201.75W-")?;
+/// Whether the book of two receptions has the later one's report, that of a house here.
+fn has_the_later(alloc: Global, both: &[&Reception], late: &Reception) -> Result<bool, Fail> {
     let here = Report::Position {
         messaging: false,
         stamp: None,
@@ -102,27 +98,42 @@ fn positions_are_the_greatest_heard(rt: HostRuntime) -> Result<(), Fail> {
         symbol: HOUSE,
         comment: b"",
     };
-    let book = book_of(alloc, &[&late, &early])?;
-    assert!(rt; knows_the_later(&book, &late, &here)?);
-    let turned = book_of(alloc, &[&early, &late])?;
-    assert!(rt; knows_the_later(&turned, &late, &here)?);
+    knows_the_later(&book_of(alloc, both)?, late, &here)
+}
+
+// A position taken later, but heard earlier, isn't the last known one.
+#[test]
+fn positions_are_the_greatest_heard(rt: HostRuntime) -> Result<(), Fail> {
+    let late = sent(600, b"N0CALL-7", b"!4903.50N/07201.75W-")?;
+    let early = sent(0, b"N0CALL-7", b"!4904.00N/07201.75W-")?;
+    assert!(rt; has_the_later(rt.alloc(), &[&late, &early], &late)?);
+    assert!(rt; has_the_later(rt.alloc(), &[&early, &late], &late)?);
     Ok(())
 }
 
-#[test]
-fn statuses_are_no_positions(rt: HostRuntime) -> Result<(), Fail> {
-    let alloc = rt.alloc();
+/// Whether a book of a status and a later position from N0CALL-7 keeps the status.
+fn keeps_the_status(book: &Book, status: &Reception) -> Result<bool, Fail> {
     let station = callsign(b"N0CALL-7")?;
-    let status = sent(0, b"N0CALL-7", b">Hi")?;
-    let position = sent(60, b"N0CALL-7", b"!4903.50N/07201.75W-")?;
-    let book = book_of(alloc, &[&status, &position])?;
     let hi = Report::Status {
         stamp: None,
         text: b"Hi",
     };
-    assert!(rt; is_known(&book.status(&station), &status, &hi));
-    assert!(rt; book.position(&station).is_some());
-    assert!(rt; Book::new(alloc).status(&station).is_none());
+    Ok(is_known(&book.status(&station), status, &hi) && book.position(&station).is_some())
+}
+
+#[test]
+fn statuses_are_no_positions(rt: HostRuntime) -> Result<(), Fail> {
+    let status = sent(0, b"N0CALL-7", b">Hi")?;
+    let position = sent(60, b"N0CALL-7", b"!4903.50N/07201.75W-")?;
+    let book = book_of(rt.alloc(), &[&status, &position])?;
+    assert!(rt; keeps_the_status(&book, &status)?);
+    Ok(())
+}
+
+#[test]
+fn nothing_is_known_of_no_rows(rt: HostRuntime) -> Result<(), Fail> {
+    let station = callsign(b"N0CALL-7")?;
+    assert!(rt; Book::new(rt.alloc()).status(&station).is_none());
     Ok(())
 }
 
@@ -150,6 +161,22 @@ fn knows_leader(book: &Book, name: &[u8], killed: &Reception, item: &Reception) 
         && is_known(&book.item(name), item, &item_report)
 }
 
+/// Whether it knows them by their name, with spaces at its end or without.
+fn knows_both(book: &Book, killed: &Reception, item: &Reception) -> bool {
+    knows_leader(book, b"LEADER", killed, item) && knows_leader(book, b"LEADER   ", killed, item)
+}
+
+/// Whether it knows an object or an item of another name.
+fn knows_others(book: &Book) -> bool {
+    const OTHERS: &[&[u8]] = &[b"", b" LEADER", b"LEAD"];
+    for &name in OTHERS {
+        if book.object(name).is_some() || book.item(name).is_some() {
+            return true;
+        }
+    }
+    false
+}
+
 /// Whether two transmissions of N0CALL-7 and one of N0CALL-8, which has no position, are listed.
 fn lists_three(book: &Book) -> Result<bool, Fail> {
     let stations = book.stations().ok().ok_or("memory")?;
@@ -166,12 +193,7 @@ fn objects_and_items_go_by_name(rt: HostRuntime) -> Result<(), Fail> {
     let killed = sent(60, b"N0CALL-8", b";LEADER   _092345z4903.50N/07201.75W>")?;
     let item = sent(120, b"N0CALL-7", b")LEADER!4903.50N/07201.75W>")?;
     let book = book_of(rt.alloc(), &[&live, &killed, &item])?;
-    for name in [b"LEADER".as_slice(), b"LEADER   ".as_slice()] {
-        assert!(rt; knows_leader(&book, name, &killed, &item));
-    }
-    for name in [b"".as_slice(), b" LEADER".as_slice(), b"LEAD".as_slice()] {
-        assert!(rt; book.object(name).is_none() && book.item(name).is_none());
-    }
+    assert!(rt; knows_both(&book, &killed, &item) && !knows_others(&book));
     assert!(rt; lists_three(&book)?);
     Ok(())
 }

@@ -103,6 +103,11 @@ fn what_a_tnc_sends_is_heard(rt: HostRuntime) -> Result<(), Fail> {
     let (mine, other) = (Book::new(rt.alloc()), Book::new(rt.alloc()));
     let book = hear(mine, &other, SENT, moment, receiver(b"RX1")?).ok_or("heard")?;
     assert!(rt; book.len() == 1 && other.len() == 0);
+    Ok(())
+}
+
+#[test]
+fn a_tnc_is_read_and_written(rt: HostRuntime) -> Result<(), Fail> {
     assert!(rt; port_and_length(SENT) == Some((0, 19)));
     let mut tnc = Counted::new(Vec::new(rt.alloc()));
     let frame = Frame::read(&DIRECT).ok().ok_or("frame")?;
@@ -121,19 +126,26 @@ fn frames_and_reports_are_made_and_read(rt: HostRuntime) -> Result<(), Fail> {
     Ok(())
 }
 
+/// Whether a book's file is that of one line, and is read as the book.
+fn is_kept(alloc: Global, book: &Book) -> Result<bool, Fail> {
+    let file = file_of(alloc, book).ok().ok_or("file")?;
+    let again = book_in(alloc, file.as_slice()).ok().ok_or("read")?;
+    Ok(file.as_slice() == DIRECT_TEXT && again.same(book))
+}
+
 #[test]
-fn books_are_taken_merged_and_kept(rt: HostRuntime) -> Result<(), Fail> {
+fn books_are_taken_and_kept(rt: HostRuntime) -> Result<(), Fail> {
     let mut book = Book::new(rt.alloc());
     assert!(rt; take_line(&mut book, DIRECT_LINE).is_some());
     let station = Callsign::parse(b"N0CALL-7").ok().ok_or("callsign")?;
     assert!(rt; heard_last(&book, &book, &station).is_none());
-    let file = file_of(rt.alloc(), &book).ok().ok_or("file")?;
-    assert!(rt; file.as_slice() == DIRECT_TEXT);
-    let again = book_in(rt.alloc(), file.as_slice()).ok().ok_or("read")?;
-    assert!(rt; again.same(&book));
-    let merged = merge_two(rt.alloc(), ONE_LINE, file.as_slice())
-        .ok()
-        .ok_or("merged")?;
-    assert!(rt; merged.as_slice() == DIRECT_TEXT);
+    assert!(rt; is_kept(rt.alloc(), &book)?);
+    Ok(())
+}
+
+#[test]
+fn files_are_merged(rt: HostRuntime) -> Result<(), Fail> {
+    let merged = merge_two(rt.alloc(), ONE_LINE, DIRECT_TEXT);
+    assert!(rt; merged.ok().ok_or("merged")?.as_slice() == DIRECT_TEXT);
     Ok(())
 }

@@ -11,7 +11,7 @@ use std::test::Fail;
 
 #[test]
 fn moments_and_their_texts(rt: HostRuntime) -> Result<(), Fail> {
-    for (text, seconds, written) in [
+    const CASES: &[(&[u8], u64, &[u8; 24])] = &[
         (b"1970-01-01T00:00:00Z", 0, b"1970-01-01T00:00:00.000Z"),
         (
             b"2024-05-01T12:00:00Z",
@@ -23,19 +23,21 @@ fn moments_and_their_texts(rt: HostRuntime) -> Result<(), Fail> {
             4_102_444_799,
             b"2099-12-31T23:59:59.000Z",
         ),
-    ] {
+    ];
+    for &(text, seconds, written) in CASES {
         let moment = Moment::parse(text).ok_or("a moment")?;
         assert!(rt; moment.seconds() == seconds);
         assert!(rt; moment.text() == *written);
         assert!(rt; Moment::new(seconds) == Some(moment.copy()));
     }
-    for text in [
+    const NONE: &[&[u8]] = &[
         b"2024-05-01T12:00:60Z",
         b"2023-02-29T00:00:00Z",
         b"2100-01-01T00:00:00Z",
         b"1969-12-31T23:59:59Z",
         b"2024-05-01t12:00:00Z",
-    ] {
+    ];
+    for &text in NONE {
         assert!(rt; Moment::parse(text).is_none());
     }
     assert!(rt; Moment::new(4_102_444_800).is_none());
@@ -185,7 +187,8 @@ fn line_of_size(rt: &HostRuntime, kind: u8, more: usize) -> Result<Line, Fail> {
 
 #[test]
 fn sizes_of_frames(rt: HostRuntime) -> Result<(), Fail> {
-    for (more, reason) in [(0, Reason::NoInfo), (257, Reason::LongInfo)] {
+    const CASES: &[(usize, Reason)] = &[(0, Reason::NoInfo), (257, Reason::LongInfo)];
+    for &(more, reason) in CASES {
         assert!(rt; line_of_size(&rt, 0, more)? == Line::Passed(reason));
     }
     let Line::Heard(heard) = line_of_size(&rt, 0x50, 256)? else {
@@ -199,7 +202,8 @@ fn sizes_of_frames(rt: HostRuntime) -> Result<(), Fail> {
 #[test]
 fn sizes_of_pieces(rt: HostRuntime) -> Result<(), Fail> {
     let most = [b'A'; 1024];
-    for (size, reason) in [(1023, Reason::Address), (1024, Reason::TooLong)] {
+    const CASES: &[(usize, Reason)] = &[(1023, Reason::Address), (1024, Reason::TooLong)];
+    for &(size, reason) in CASES {
         let sent = kiss(&rt, 0, &most[..size])?;
         assert!(rt; line_of(rt.alloc(), sent.as_slice())? == Line::Passed(reason));
     }

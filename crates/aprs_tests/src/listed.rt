@@ -1,8 +1,7 @@
 //! Objects and messages of a larger book, as values.
 
 use crate::last_known::sent;
-use crate::stored_rows::list_of;
-use aprs_book::{Book, MessageRow, MessageState, Named, RowList};
+use aprs_book::{Book, Gap, MessageRow, MessageState, Named, Overview};
 use aprs_log::Reception;
 use aprs_rows::RowStore;
 use std::alloc::Global;
@@ -63,15 +62,15 @@ fn fifty_taken(alloc: Global) -> Result<Book, Fail> {
     Ok(book)
 }
 
-/// The list of the store of fifty of both.
-fn fifty_listed(alloc: Global) -> Result<RowList, Fail> {
+/// The store of fifty of both.
+fn fifty_stored(alloc: Global) -> Result<RowStore, Fail> {
     let mut store = RowStore::new(alloc);
     for i in 0..50u64 {
         for x in both(i)? {
             store.push_reception(&x).ok().ok_or("memory")?;
         }
     }
-    Ok(list_of(alloc, &store).ok().ok_or("memory")?)
+    Ok(store)
 }
 
 /// Whether the book lists the fifty messages and the fifty items.
@@ -81,16 +80,16 @@ fn book_has_fifty(book: &Book) -> Result<bool, Fail> {
     Ok(are_fifty(messages.as_slice(), named.as_slice()))
 }
 
-/// Whether the list has the fifty messages and the fifty items.
-fn list_has_fifty(list: &RowList) -> Result<bool, Fail> {
-    let messages = list.messages().ok().ok_or("memory")?;
-    let named = list.objects().ok().ok_or("memory")?;
+/// Whether these rows tell of the fifty messages and the fifty items.
+fn overview_has_fifty(overview: &Overview<'_, '_>) -> Result<bool, Fail> {
+    let messages = overview.messages().ok().ok_or("memory")?;
+    let named = overview.objects().ok().ok_or("memory")?;
     Ok(are_fifty(messages.as_slice(), named.as_slice()))
 }
 
-/// Whether the list has two stations of fifty transmissions each.
-fn list_has_two(list: &RowList) -> Result<bool, Fail> {
-    let stations = list.stations().ok().ok_or("memory")?;
+/// Whether these rows are of two stations of fifty transmissions each.
+fn overview_has_two(overview: &Overview<'_, '_>) -> Result<bool, Fail> {
+    let stations = overview.stations().ok().ok_or("memory")?;
     Ok(stations.len() == 2 && stations.iter().all(|station| station.transmissions == 50))
 }
 
@@ -106,8 +105,12 @@ fn many_rows_of_a_book_are_listed(rt: HostRuntime) -> Result<(), Fail> {
 
 #[test]
 fn many_rows_of_a_store_are_listed(rt: HostRuntime) -> Result<(), Fail> {
-    let list = fifty_listed(rt.alloc())?;
-    assert!(rt; list_has_fifty(&list)?);
-    assert!(rt; list_has_two(&list)?);
+    let alloc = rt.alloc();
+    let store = fifty_stored(alloc)?;
+    let order = store.in_order().ok().ok_or("memory")?;
+    let rows = order.coalesced(Gap::STANDARD).ok().ok_or("memory")?;
+    let overview = Overview::of(alloc, &rows).ok().ok_or("memory")?;
+    assert!(rt; overview_has_fifty(&overview)?);
+    assert!(rt; overview_has_two(&overview)?);
     Ok(())
 }

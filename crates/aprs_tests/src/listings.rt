@@ -71,7 +71,7 @@ position 2024-05-01T12:10:00.000Z RX1 - 294350/6000 -432175/6000 0 /-:
 // The greatest position is listed, whichever was taken last.
 #[test]
 fn stations_are_listed(rt: HostRuntime) -> Result<(), Fail> {
-    let cases: [(&[Sent], &str); 4] = [
+    const CASES: &[(&[Sent], &str)] = &[
         (&[], ""),
         (
             &[HELLO],
@@ -80,14 +80,14 @@ fn stations_are_listed(rt: HostRuntime) -> Result<(), Fail> {
         (&[LATE, EARLY], GREATEST),
         (&[EARLY, LATE], GREATEST),
     ];
-    assert!(rt; are_listed(rt.alloc(), cases.as_slice())?);
+    assert!(rt; are_listed(rt.alloc(), CASES)?);
     Ok(())
 }
 
 // An object is that of whoever reported it last, and an item of its name is something else.
 #[test]
 fn objects_and_items_are_listed(rt: HostRuntime) -> Result<(), Fail> {
-    let cases: [(&[Sent], &str); 1] = [(
+    const CASES: &[(&[Sent], &str)] = &[(
         &[
             (NOON, FROM, b";LEADER   *092345z4903.50N/07201.75W>"),
             (
@@ -103,7 +103,7 @@ object LEADER killed 2024-05-01T12:01:00.000Z RX1 N0CALL-8 092345z 294350/6000 -
 item LEADER live 2024-05-01T12:02:00.000Z RX1 N0CALL-7 - 294350/6000 -432175/6000 0 />:
 ",
     )];
-    assert!(rt; are_listed(rt.alloc(), cases.as_slice())?);
+    assert!(rt; are_listed(rt.alloc(), CASES)?);
     Ok(())
 }
 
@@ -122,7 +122,7 @@ const OWN: Sent = ("2024-05-01T12:00:10Z", FROM, b":N0CALL-7 :ack003");
 // An answer counts from the message's first moment on, and only from whom it was sent to.
 #[test]
 fn messages_are_listed(rt: HostRuntime) -> Result<(), Fail> {
-    let cases: [(&[Sent], &str); 5] = [
+    const CASES: &[(&[Sent], &str)] = &[
         (
             &[TESTING, BEFORE],
             "station N0CALL-7 1
@@ -157,14 +157,14 @@ message N0CALL-7 WU2Z 003 unanswered 2024-05-01T12:00:00.000Z 2024-05-01T12:00:0
 ",
         ),
     ];
-    assert!(rt; are_listed(rt.alloc(), cases.as_slice())?);
+    assert!(rt; are_listed(rt.alloc(), CASES)?);
     Ok(())
 }
 
 // Without an id, what looks like one is text. By text, then none before any id.
 #[test]
 fn messages_without_an_id_are_listed(rt: HostRuntime) -> Result<(), Fail> {
-    let cases: [(&[Sent], &str); 2] = [
+    const CASES: &[(&[Sent], &str)] = &[
         (
             &[
                 (NOON, FROM, b":WU2Z     :ack"),
@@ -183,7 +183,7 @@ message N0CALL-7 WU2Z 003 unanswered 2024-05-01T12:00:00.000Z 2024-05-01T12:00:0
 ",
         ),
     ];
-    assert!(rt; are_listed(rt.alloc(), cases.as_slice())?);
+    assert!(rt; are_listed(rt.alloc(), CASES)?);
     Ok(())
 }
 
@@ -191,7 +191,7 @@ message N0CALL-7 WU2Z 003 unanswered 2024-05-01T12:00:00.000Z 2024-05-01T12:00:0
 // a colon, and one of the alternate table.
 #[test]
 fn places_are_listed(rt: HostRuntime) -> Result<(), Fail> {
-    let cases: [(&[Sent], &str); 5] = [
+    const CASES: &[(&[Sent], &str)] = &[
         (
             &[(NOON, FROM, b"@092345/4903.50N/07201.75W>Test1234")],
             "station N0CALL-7 1
@@ -223,7 +223,7 @@ position 2024-05-01T12:00:00.000Z RX1 - 294350/6000 -432175/6000 0 \\x5c\\x5c:
 ",
         ),
     ];
-    assert!(rt; are_listed(rt.alloc(), cases.as_slice())?);
+    assert!(rt; are_listed(rt.alloc(), CASES)?);
     Ok(())
 }
 
@@ -231,7 +231,7 @@ position 2024-05-01T12:00:00.000Z RX1 - 294350/6000 -432175/6000 0 \\x5c\\x5c:
 // space in a name, but none in a text.
 #[test]
 fn bytes_are_shown(rt: HostRuntime) -> Result<(), Fail> {
-    let cases: [(&[Sent], &str); 4] = [
+    const CASES: &[(&[Sent], &str)] = &[
         (
             &[
                 (NOON, FROM, b"!4903.50N/07201.75W-a \\\xff"),
@@ -264,6 +264,6 @@ message N0CALL-7 A\\x20\\x5cB 1 unanswered \
 ",
         ),
     ];
-    assert!(rt; are_listed(rt.alloc(), cases.as_slice())?);
+    assert!(rt; are_listed(rt.alloc(), CASES)?);
     Ok(())
 }

@@ -1,4 +1,5 @@
 //! Merges, and the inputs of one.
+ghost use Rattle.std.specs.Prelude.{◌≤◌};
 
 use crate::vectors::{DIRECT_TEXT, EMPTY_TEXT, MERGED_TEXT, ONE_LINE};
 use aprs_book::Gap;
@@ -49,15 +50,16 @@ fn books_are_written(rt: HostRuntime) {
     assert!(rt; is_merged_to(alloc, &[ONE_LINE], DIRECT_TEXT));
     assert!(rt; is_merged_to(alloc, &[b"".as_slice()], EMPTY_TEXT));
     assert!(rt; is_merged_to(alloc, &[EMPTY_TEXT, EMPTY_TEXT], EMPTY_TEXT));
-    for texts in [
+    const ORDERS: &[[&[u8]; 3]] = &[
         [FIRST, LAST, NEAR],
         [FIRST, NEAR, LAST],
         [LAST, FIRST, NEAR],
         [LAST, NEAR, FIRST],
         [NEAR, FIRST, LAST],
         [NEAR, LAST, FIRST],
-    ] {
-        assert!(rt; is_merged_to(alloc, &texts, MERGED_TEXT));
+    ];
+    for texts in ORDERS {
+        assert!(rt; is_merged_to(alloc, texts, MERGED_TEXT));
     }
     assert!(rt; is_merged_to(alloc, &[FIRST, LAST, FIRST, NEAR], MERGED_TEXT));
 }
@@ -104,55 +106,41 @@ fn a_faulty_input_writes_nothing(rt: HostRuntime) -> Result<(), Fail> {
     Ok(())
 }
 
+/// The line and the name of the cause of the fault of an input under a limit, if it has one.
+fn fault_within(alloc: Global, limit: u64, input: &[u8]) -> Option<(u64, &'static str)>
+    requires { limit ≤ 1073741824 }
+{
+    match read_input(alloc, limit, Gap::STANDARD, &mut Counted::new(input)) {
+        Ok(_) => None,
+        Err(fault) => line_and_name(&fault),
+    }
+}
+
 #[test]
 fn short_inputs_are_logs(rt: HostRuntime) -> Result<(), Fail> {
     let alloc = rt.alloc();
-    let Ok(book) = read_input(
+    let read = read_input(
         alloc,
         MAX_INPUT,
         Gap::STANDARD,
-        &mut Counted::new(&DIRECT_TEXT[..0]),
-    ) else {
-        return Err("an empty log".into());
-    };
-    assert!(rt; book.len() == 0);
+        &mut Counted::new(b"".as_slice()),
+    );
+    assert!(rt; read.ok().ok_or("an empty log")?.len() == 0);
     for size in 1..8usize {
-        let read = read_input(
-            alloc,
-            MAX_INPUT,
-            Gap::STANDARD,
-            &mut Counted::new(&DIRECT_TEXT[..size]),
-        );
-        assert!(rt; matches!(&read, Err(fault) if line_and_name(fault) == Some((1, "NoNewline"))));
-        let read = read_input(
-            alloc,
-            size as u64,
-            Gap::STANDARD,
-            &mut Counted::new(DIRECT_TEXT),
-        );
-        assert!(rt; matches!(&read, Err(fault) if line_and_name(fault) == Some((1, "TooLong"))));
+        let short = fault_within(alloc, MAX_INPUT, &DIRECT_TEXT[..size]);
+        assert!(rt; short == Some((1, "NoNewline")));
+        let long = fault_within(alloc, size as u64, DIRECT_TEXT);
+        assert!(rt; long == Some((1, "TooLong")));
     }
     Ok(())
 }
 
 #[test]
-fn eight_bytes_say_what_an_input_is(rt: HostRuntime) -> Result<(), Fail> {
-    let alloc = rt.alloc();
-    let read = read_input(
-        alloc,
-        MAX_INPUT,
-        Gap::STANDARD,
-        &mut Counted::new(b"APRS\nBO".as_slice()),
-    );
-    assert!(rt; matches!(&read, Err(fault) if line_and_name(fault) == Some((1, "Moment"))));
-    let read = read_input(
-        alloc,
-        MAX_INPUT,
-        Gap::STANDARD,
-        &mut Counted::new(&DIRECT_TEXT[..8]),
-    );
-    assert!(rt; matches!(&read, Err(InputFault::Book(fault)) if fault.cause == BookCause::Ending));
-    Ok(())
+fn eight_bytes_say_what_an_input_is(rt: HostRuntime) {
+    let log = fault_within(rt.alloc(), MAX_INPUT, b"APRS\nBO");
+    assert!(rt; log == Some((1, "Moment")));
+    let book = fault_within(rt.alloc(), MAX_INPUT, &DIRECT_TEXT[..8]);
+    assert!(rt; book == Some((1, "Ending")));
 }
 
 /// A reader that gives one byte a call, and then fails, once.
@@ -176,26 +164,27 @@ impl Read for FailingOnce<'_> {
     }
 }
 
+/// Whether a failed read of a book file or of a log is all that is wrong with these first bytes.
+fn is_failed(alloc: Global, bytes: &[u8], is_book: bool) -> bool {
+    let mut r = Counted::new(FailingOnce {
+        bytes,
+        failed: false,
+    });
+    let is_right = match read_input(alloc, MAX_INPUT, Gap::STANDARD, &mut r) {
+        Err(InputFault::Book(fault)) => is_book && fault.cause == BookCause::Read,
+        Err(InputFault::Log(fault)) => !is_book && fault.cause == LogCause::Read,
+        _ => false,
+    };
+    is_right && r.failures() == 1
+}
+
 #[test]
 fn a_reader_fails_at_each_byte(rt: HostRuntime) {
-    for (text, is_book) in [(DIRECT_TEXT, true), (ONE_LINE, false)] {
-        for good in 0..=text.len() {
-            let mut r = Counted::new(FailingOnce {
-                bytes: &text[..good],
-                failed: false,
-            });
-            let read = read_input(rt.alloc(), MAX_INPUT, Gap::STANDARD, &mut r);
-            if is_book && good >= 8 {
-                assert!(rt;
-                    matches!(&read, Err(InputFault::Book(fault)) if fault.cause == BookCause::Read)
-                );
-            } else {
-                assert!(rt;
-                    matches!(&read, Err(InputFault::Log(fault)) if fault.cause == LogCause::Read)
-                );
-            }
-            assert!(rt; r.failures() == 1);
-        }
+    for good in 0..=DIRECT_TEXT.len() {
+        assert!(rt; is_failed(rt.alloc(), &DIRECT_TEXT[..good], good >= 8));
+    }
+    for good in 0..=ONE_LINE.len() {
+        assert!(rt; is_failed(rt.alloc(), &ONE_LINE[..good], false));
     }
 }
 
@@ -203,12 +192,8 @@ fn a_reader_fails_at_each_byte(rt: HostRuntime) {
 fn a_desk_keeps_its_book_after_a_fault(rt: HostRuntime) -> Result<(), Fail> {
     let alloc = rt.alloc();
     let mut desk = Desk::new(alloc, MAX_INPUT);
-    for text in [
-        DIRECT_TEXT,
-        b"APRSBOOK 9\n".as_slice(),
-        ONE_LINE,
-        b"x\n".as_slice(),
-    ] {
+    const TEXTS: &[&[u8]] = &[DIRECT_TEXT, b"APRSBOOK 9\n", ONE_LINE, b"x\n"];
+    for &text in TEXTS {
         let _ = desk.take_input(&mut Counted::new(text));
         assert!(rt; desk.book().len() == 1);
     }
@@ -218,29 +203,21 @@ fn a_desk_keeps_its_book_after_a_fault(rt: HostRuntime) -> Result<(), Fail> {
     Ok(())
 }
 
+/// The status of a run that ends at an input with this fault.
+fn status(fault: InputFault) -> u8 {
+    status_of(&RunFault::Input { index: 0, fault })
+}
+
+/// The same of a fault in the first line of a book file.
+fn book_status(cause: BookCause) -> u8 {
+    status(InputFault::Book(BookFault { line: 1, cause }))
+}
+
 #[test]
 fn statuses_of_inputs(rt: HostRuntime) {
     let cause = LogCause::Memory;
-    for (fault, status) in [
-        (InputFault::Memory, 4),
-        (InputFault::OtherGap, 1),
-        (InputFault::Narrower, 1),
-        (InputFault::Log(LogFault { line: 1, cause }), 4),
-        (
-            InputFault::Book(BookFault {
-                line: 1,
-                cause: BookCause::Memory,
-            }),
-            4,
-        ),
-        (
-            InputFault::Book(BookFault {
-                line: 1,
-                cause: BookCause::Read,
-            }),
-            1,
-        ),
-    ] {
-        assert!(rt; status_of(&RunFault::Input { index: 0, fault }) == status);
-    }
+    assert!(rt; status(InputFault::Memory) == 4);
+    assert!(rt; status(InputFault::OtherGap) == 1 && status(InputFault::Narrower) == 1);
+    assert!(rt; status(InputFault::Log(LogFault { line: 1, cause })) == 4);
+    assert!(rt; book_status(BookCause::Memory) == 4 && book_status(BookCause::Read) == 1);
 }

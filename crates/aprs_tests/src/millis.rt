@@ -20,14 +20,15 @@ const NOON: u64 = 1_714_564_800_000;
 
 #[test]
 fn moments_at_their_limits(rt: HostRuntime) -> Result<(), Fail> {
-    for (millis, text) in [
+    const CASES: &[(u64, &[u8; 24])] = &[
         (0, b"1970-01-01T00:00:00.000Z"),
         (1, b"1970-01-01T00:00:00.001Z"),
         (999, b"1970-01-01T00:00:00.999Z"),
         (1000, b"1970-01-01T00:00:01.000Z"),
         (NOON + 500, b"2024-05-01T12:00:00.500Z"),
         (4_102_444_799_999, b"2099-12-31T23:59:59.999Z"),
-    ] {
+    ];
+    for &(millis, text) in CASES {
         let moment = Moment::from_millis(millis).ok_or("a moment")?;
         assert!(rt; moment.millis() == millis && moment.seconds() == millis / 1000);
         assert!(rt; moment.text() == *text && Moment::parse(text) == Some(moment));
@@ -104,12 +105,13 @@ fn heard_at(alloc: Global, moment: &[u8]) -> Result<Reception, Fail> {
 fn lines_are_read_in_both_spellings(rt: HostRuntime) -> Result<(), Fail> {
     let alloc = rt.alloc();
     let short = heard_at(alloc, b"2024-05-01T12:00:00Z")?;
-    for (moment, millis) in [
-        (b"2024-05-01T12:00:00Z".as_slice(), NOON),
-        (b"2024-05-01T12:00:00.000Z".as_slice(), NOON),
-        (b"2024-05-01T12:00:00.001Z".as_slice(), NOON + 1),
-        (b"2024-05-01T12:00:00.999Z".as_slice(), NOON + 999),
-    ] {
+    const CASES: &[(&[u8], u64)] = &[
+        (b"2024-05-01T12:00:00Z", NOON),
+        (b"2024-05-01T12:00:00.000Z", NOON),
+        (b"2024-05-01T12:00:00.001Z", NOON + 1),
+        (b"2024-05-01T12:00:00.999Z", NOON + 999),
+    ];
+    for &(moment, millis) in CASES {
         let heard = heard_at(alloc, moment)?;
         assert!(rt; heard.moment().millis() == millis);
         assert!(rt; (heard == short) == (millis == NOON));
@@ -125,15 +127,14 @@ const HALF: &[u8] = b"2024-05-01T12:00:00.500Z RX1 c00082a0a4a64040e09c608682989
 
 #[test]
 fn lines_are_written_to_the_millisecond(rt: HostRuntime) {
-    for (log, written) in [
+    const CASES: &[(&[u8], &[u8])] = &[
         (ONE_LINE, WRITTEN_LINE),
         (WRITTEN_LINE, WRITTEN_LINE),
         (HALF, HALF),
-    ] {
+    ];
+    for &(log, written) in CASES {
         let (text, fault) = converted(&rt, MAX_INPUT, Form::Log, log);
-        assert!(rt; text.as_slice() == written);
-        assert!(rt; text.len() == 74);
-        assert!(rt; fault.is_none());
+        assert!(rt; text.as_slice() == written && written.len() == 74 && fault.is_none());
     }
     let faulty = b"2024-05-01T12:00:60.000Z RX1 c0\n".as_slice();
     let (text, fault) = converted(&rt, MAX_INPUT, Form::Log, faulty);
@@ -180,46 +181,50 @@ fn is_no_moment(rt: &HostRuntime, moment: &'static str) -> bool {
 
 #[test]
 fn captures_are_of_a_moment_in_either_spelling(rt: HostRuntime) -> Result<(), Fail> {
-    for (moment, millis, is) in [
+    const CASES: &[(&str, u64, bool)] = &[
         ("2024-05-01T12:00:00Z", NOON, true),
         ("2024-05-01T12:00:00.000Z", NOON, true),
         ("2024-05-01T12:00:00.250Z", NOON + 250, true),
         ("2024-05-01T12:00:00.250Z", NOON, false),
-    ] {
+    ];
+    for &(moment, millis, is) in CASES {
         assert!(rt; is_captured(&rt, moment, millis)? == is);
     }
-    for moment in [
+    const NONE: &[&str] = &[
         "2024-05-01T12:00:00.5Z",
         "2024-05-01T12:00:00.5000Z",
         "2024-05-01T12:00:60.000Z",
         "2024-05-01T12:00:00.000z",
-    ] {
+    ];
+    for &moment in NONE {
         assert!(rt; is_no_moment(&rt, moment), "{moment}");
     }
     Ok(())
 }
 
-/// The number of rows of the frame that RX1 hears at noon and so many milliseconds later, or the
-/// other way round.
-fn rows_apart(alloc: Global, millis: u64, is_turned: bool) -> Result<usize, Fail> {
+/// The frame that RX1 hears so many milliseconds after noon.
+fn heard_after(millis: u64) -> Result<Reception, Fail> {
+    Ok(Reception::new(
+        Moment::from_millis(NOON.saturating_add(millis)).ok_or("moment")?,
+        receiver(b"RX1")?,
+        Frame::read(&DIRECT).ok().ok_or("frame")?,
+    ))
+}
+
+/// The number of rows of that, after so many milliseconds and after so many.
+fn rows_of(alloc: Global, first: u64, second: u64) -> Result<usize, Fail> {
     let mut book = Book::new(alloc);
-    let places = if is_turned { [millis, 0] } else { [0, millis] };
-    for later in places {
-        let x = Reception::new(
-            Moment::from_millis(NOON.saturating_add(later)).ok_or("moment")?,
-            receiver(b"RX1")?,
-            Frame::read(&DIRECT).ok().ok_or("frame")?,
-        );
-        book.take(&x).ok().ok_or("memory")?;
-    }
+    book.take(&heard_after(first)?).ok().ok_or("memory")?;
+    book.take(&heard_after(second)?).ok().ok_or("memory")?;
     Ok(book.len())
 }
 
 #[test]
 fn rows_are_thirty_thousand_milliseconds_apart(rt: HostRuntime) -> Result<(), Fail> {
-    for (millis, rows) in [(0, 1), (1, 1), (29_999, 1), (30_000, 1), (30_001, 2)] {
-        assert!(rt; rows_apart(rt.alloc(), millis, false)? == rows);
-        assert!(rt; rows_apart(rt.alloc(), millis, true)? == rows);
+    const CASES: &[(u64, usize)] = &[(0, 1), (1, 1), (29_999, 1), (30_000, 1), (30_001, 2)];
+    for &(millis, rows) in CASES {
+        assert!(rt; rows_of(rt.alloc(), 0, millis)? == rows);
+        assert!(rt; rows_of(rt.alloc(), millis, 0)? == rows);
     }
     Ok(())
 }

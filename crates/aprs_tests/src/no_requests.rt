@@ -5,7 +5,7 @@ use crate::last_known::{callsign, sent};
 use crate::refused_calls::{SENT, squeeze};
 use crate::vectors::{DIRECT, heard, receiver};
 use aprs_book::{
-    Book, Gap, Join, MergeFault, ReceiverList, Receivers, RowCause, RowList, WidenFault, all_fit,
+    Book, Gap, Join, MergeFault, ReceiverList, Receivers, RowCause, WidenFault, all_fit,
 };
 use aprs_log::Receiver;
 use aprs_rows::{RowStore, Transmissions};
@@ -46,7 +46,6 @@ fn book_of_sent(bump: &Bump, gap: Gap) -> Result<Book<&Bump>, Fail> {
 #[derive(Clone, Copy)]
 enum Call {
     New,
-    NewList,
     NewStore,
     NewReceivers,
     Gap,
@@ -64,7 +63,6 @@ enum Call {
 
 const CALLS: &[Call] = &[
     Call::New,
-    Call::NewList,
     Call::NewStore,
     Call::NewReceivers,
     Call::Gap,
@@ -83,10 +81,6 @@ const CALLS: &[Call] = &[
 /// Whether what is new is empty.
 fn is_empty(bump: &Bump, call: Call) -> bool {
     match call {
-        Call::NewList => {
-            let _list = RowList::new(bump, Gap::STANDARD);
-            true
-        }
         Call::NewStore => RowStore::new(bump).is_empty(),
         Call::NewReceivers => Receivers::new(bump).as_slice().is_empty(),
         _ => Book::new(bump).len() == 0,
@@ -129,21 +123,28 @@ fn shown_rows(book: &Book<&Bump>) -> usize {
     shown
 }
 
+/// Whether the book has the gap and the rows of what was sent, and differs from one with a wider gap.
+fn is_seen<'a>(call: Call, book: &Book<&'a Bump>, wide: &Book<&'a Bump>) -> bool {
+    match call {
+        Call::Gap => book.gap() == Gap::STANDARD && book.len() == SENT.len(),
+        Call::Rows => shown_rows(book) == SENT.len(),
+        Call::Same => book.same(book) && !book.same(wide),
+        _ => book.fits(book) && !book.fits(wide),
+    }
+}
+
 /// Whether the call answers as it has to, of books with and without a wider gap.
 fn is_answered<'a>(bump: &'a Bump, call: Call, books: &[Book<&'a Bump>]) -> Result<bool, Fail> {
     let [book, wide] = books else {
         return Err("two books".into());
     };
-    Ok(match call {
-        Call::New | Call::NewList | Call::NewStore | Call::NewReceivers => is_empty(bump, call),
-        Call::Gap => book.gap() == Gap::STANDARD && book.len() == SENT.len(),
-        Call::Rows => shown_rows(book) == SENT.len(),
-        Call::Same => book.same(book) && !book.same(wide),
-        Call::Fits => book.fits(book) && !book.fits(wide),
-        Call::AllFit => !all_fit(book, books),
-        Call::OtherGap | Call::Narrower => is_refused(call, book, wide),
-        Call::Position | Call::Status | Call::Object | Call::Item => is_known(call, book)?,
-    })
+    match call {
+        Call::New | Call::NewStore | Call::NewReceivers => Ok(is_empty(bump, call)),
+        Call::Gap | Call::Rows | Call::Same | Call::Fits => Ok(is_seen(call, book, wide)),
+        Call::AllFit => Ok(!all_fit(book, books)),
+        Call::OtherGap | Call::Narrower => Ok(is_refused(call, book, wide)),
+        Call::Position | Call::Status | Call::Object | Call::Item => is_known(call, book),
+    }
 }
 
 /// Two books of what was sent, the second with a wider gap.

@@ -80,7 +80,8 @@ fn receivers_are_given_back(rt: HostRuntime) -> Result<(), Fail> {
 /// A book of two rows of one key, as close to one another as rows can be.
 fn two_rows(alloc: Global) -> Result<Book, Fail> {
     let mut book = Book::new(alloc);
-    for second in [0, 31] {
+    const SECONDS: &[u64] = &[0, 31];
+    for &second in SECONDS {
         let row = parts(alloc, NOON + second, NOON + second, &[b"RX1"], b"RX1")?;
         book.push_row(&row).ok().ok_or("a row")?;
     }
@@ -90,7 +91,8 @@ fn two_rows(alloc: Global) -> Result<Book, Fail> {
 /// The book that takes what they stand for, the later first.
 fn two_taken(alloc: Global) -> Result<Book, Fail> {
     let mut book = Book::new(alloc);
-    for second in [31, 0] {
+    const SECONDS: &[u64] = &[31, 0];
+    for &second in SECONDS {
         let x = heard(second, b"RX1", &DIRECT)?;
         book.take(&x).ok().ok_or("memory")?;
     }
@@ -110,12 +112,13 @@ fn rows_are_pushed_after_the_last(rt: HostRuntime) -> Result<(), Fail> {
 fn rows_out_of_place_are_refused(rt: HostRuntime) -> Result<(), Fail> {
     let alloc = rt.alloc();
     let mut book = two_rows(alloc)?;
-    for (first, last, cause) in [
+    const CASES: &[(u64, u64, RowCause)] = &[
         (33, 32, RowCause::Span),
         (61, 61, RowCause::Near),
         (31, 31, RowCause::Order),
         (0, 0, RowCause::Order),
-    ] {
+    ];
+    for &(first, last, cause) in CASES {
         let row = parts(alloc, NOON + first, NOON + last, &[b"RX1"], b"RX1")?;
         assert!(rt; book.push_row(&row) == Err(cause));
     }
@@ -137,17 +140,18 @@ fn rows_of(alloc: Global, spans: &[(u64, u64)]) -> Result<Vec<RowParts>, Fail> {
 #[test]
 fn books_are_made_of_rows(rt: HostRuntime) -> Result<(), Fail> {
     let alloc = rt.alloc();
-    for (spans, rows, fault) in [
-        ([].as_slice(), 0, None),
-        ([(0, 0), (31, 40), (71, 71)].as_slice(), 3, None),
-        ([(0, 1), (31, 40)].as_slice(), 0, Some((1, RowCause::Near))),
-        ([(40, 31)].as_slice(), 0, Some((0, RowCause::Span))),
+    const CASES: &[(&[(u64, u64)], usize, Option<(usize, RowCause)>)] = &[
+        (&[], 0, None),
+        (&[(0, 0), (31, 40), (71, 71)], 3, None),
+        (&[(0, 1), (31, 40)], 0, Some((1, RowCause::Near))),
+        (&[(40, 31)], 0, Some((0, RowCause::Span))),
         (
-            [(0, 0), (31, 31), (0, 0), (9, 8)].as_slice(),
+            &[(0, 0), (31, 31), (0, 0), (9, 8)],
             0,
             Some((2, RowCause::Order)),
         ),
-    ] {
+    ];
+    for &(spans, rows, fault) in CASES {
         let parts = rows_of(alloc, spans)?;
         match from_rows(alloc, Gap::STANDARD, parts.as_slice()) {
             Ok(book) => assert!(rt; fault.is_none() && book.len() == rows),

@@ -78,13 +78,8 @@ fn entries_of<T: Drop, A: Allocator, E: Drop>(list: Result<Vec<T, A>, E>) -> Opt
     Some(list.ok()?.len())
 }
 
-/// How many rows or entries the call gives, or nothing where memory was refused.
-fn called<'a>(
-    bump: &'a Bump,
-    call: Call,
-    books: &[Book<&'a Bump>],
-    steps: &[Step],
-) -> Option<usize> {
+/// How many rows the two books have together, or nothing where memory was refused.
+fn rows_together<'a>(call: Call, books: &[Book<&'a Bump>]) -> Option<usize> {
     let [first, second] = books else {
         return None;
     };
@@ -94,11 +89,30 @@ fn called<'a>(
     match call {
         Call::Merge => rows_of(first.merge(second)),
         Call::Join => rows_of(first.join(second)),
-        Call::JoinAll => rows_of(join_all(first, books)),
+        _ => rows_of(join_all(first, books)),
+    }
+}
+
+/// How many entries the book's list has, or nothing where memory was refused.
+fn entries_in(call: Call, book: &Book<&Bump>) -> Option<usize> {
+    match call {
+        Call::Stations => entries_of(book.stations()),
+        Call::Objects => entries_of(book.objects()),
+        _ => entries_of(book.messages()),
+    }
+}
+
+/// How many rows or entries the call gives, or nothing where memory was refused.
+fn called<'a>(
+    bump: &'a Bump,
+    call: Call,
+    books: &[Book<&'a Bump>],
+    steps: &[Step],
+) -> Option<usize> {
+    match call {
+        Call::Merge | Call::Join | Call::JoinAll => rows_together(call, books),
         Call::Replay => replayed(bump, steps),
-        Call::Stations => entries_of(first.stations()),
-        Call::Objects => entries_of(first.objects()),
-        Call::Messages => entries_of(first.messages()),
+        Call::Stations | Call::Objects | Call::Messages => entries_in(call, books.first()?),
     }
 }
 
@@ -122,20 +136,36 @@ pub fn squeeze(bump: &Bump, units: usize) -> Result<Vec<u8, &Bump>, Fail> {
 
 /// Whether the call was refused with so many units of room. Then the books are as before, and with
 /// room again the call gives what it has to.
-fn is_refused(alloc: Global, call: Call, want: usize, units: usize) -> Result<bool, Fail> {
+fn is_refused(
+    alloc: Global,
+    call: Call,
+    want: usize,
+    steps: &[Step],
+    units: usize,
+) -> Result<bool, Fail> {
     let bump = Bump::try_with_capacity(alloc, 524_288)?;
     let books = two_books(&bump, alloc)?;
-    let steps = steps(alloc)?;
-    let answer = squeezed(&bump, call, units, books.as_slice(), steps.as_slice())?;
+    let answer = squeezed(&bump, call, units, books.as_slice(), steps)?;
     if answer == Some(want) {
         return Ok(false);
     }
     bump.set_allocation_limit(None);
-    let again = called(&bump, call, books.as_slice(), steps.as_slice());
-    if answer.is_some() || again != Some(want) || !has_rows(alloc, books.as_slice()) {
-        return Err("another answer".into());
+    let again = called(&bump, call, books.as_slice(), steps);
+    is_as_before(alloc, books.as_slice(), answer, again == Some(want))
+}
+
+/// That it is so, where the call gave nothing at first, and with room what it has to.
+fn is_as_before(
+    alloc: Global,
+    books: &[Book<&Bump>],
+    answer: Option<usize>,
+    is_given: bool,
+) -> Result<bool, Fail> {
+    if answer.is_none() && is_given && has_rows(alloc, books) {
+        Ok(true)
+    } else {
+        Err("another answer".into())
     }
-    Ok(true)
 }
 
 /// Whether the first book has the rows of what was sent.
@@ -161,17 +191,27 @@ fn squeezed<'a>(
 pub const ROWS: &str = "0-0 RX1 / RX1 6f; 10-10 RX1 / RX1 6f; 40-40 RX1 / RX1 71; \
     30-30 RX1 / RX1 71; 20-20 RX1 / RX1 61; ";
 
+/// With how many units of room the call is first granted.
+fn first_granted(
+    alloc: Global,
+    call: Call,
+    want: usize,
+    steps: &[Step],
+) -> Result<Option<usize>, Fail> {
+    for units in 0..2048usize {
+        if !is_refused(alloc, call, want, steps, units)? {
+            return Ok(Some(units));
+        }
+    }
+    Ok(None)
+}
+
 // Room for more and more units, until nothing is refused.
 #[test]
 fn refused_calls_change_nothing(rt: HostRuntime) -> Result<(), Fail> {
+    let steps = steps(rt.alloc())?;
     for &(call, want) in CALLS {
-        let mut granted = None;
-        for units in 0..2048usize {
-            if !is_refused(rt.alloc(), call, want, units)? {
-                granted = Some(units);
-                break;
-            }
-        }
+        let granted = first_granted(rt.alloc(), call, want, steps.as_slice())?;
         assert!(rt; granted > Some(0));
     }
     Ok(())

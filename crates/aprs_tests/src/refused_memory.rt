@@ -1,10 +1,10 @@
 //! Memory that is refused in the midst of a call.
 
 use crate::pushed_rows::parts;
-use crate::shown::{is_shown, shown};
+use crate::shown::{is_shown, is_written_as, shown};
 use crate::vectors::{DIRECT, MERGED_TEXT, NOON, heard};
 use aprs_book::{Book, Gap, RowCause, RowParts, RowsFault, from_rows};
-use aprs_booktext::{BookCause, BookFault, read_book, write_book};
+use aprs_booktext::{BookCause, BookFault, read_book};
 use aprs_kiss::Counted;
 use aprs_log::{MAX_INPUT, Reception};
 use linked_list_allocator::LocalHeap;
@@ -27,6 +27,29 @@ fn is_untaken<'a>(
     Err("other rows".into())
 }
 
+/// Takes all of the heap but for so much room, until it is given back.
+fn filled(heap: &LocalHeap, room: usize) -> Result<Vec<u8, &LocalHeap>, Fail> {
+    let mut fill = Vec::new(heap);
+    fill.reserve(65_280usize.saturating_sub(room))?;
+    Ok(fill)
+}
+
+/// Takes a reception, once more with room where an allocation failed, and returns whether one did.
+fn is_taken_again<'a>(
+    alloc: Global,
+    heap: &'a LocalHeap,
+    fill: &mut Vec<u8, &'a LocalHeap>,
+    book: &mut Book<&'a LocalHeap>,
+    x: &Reception,
+) -> Result<bool, Fail> {
+    if !is_untaken(alloc, book, x)? {
+        return Ok(false);
+    }
+    *fill = Vec::new(heap);
+    book.take(x).ok().ok_or("memory")?;
+    Ok(true)
+}
+
 /// Receptions, and the rows after each.
 const STEPS: &[(u64, &[u8], &str)] = &[
     (0, b"RX1", "0-0 RX1 / RX1 6f; "),
@@ -36,38 +59,46 @@ const STEPS: &[(u64, &[u8], &str)] = &[
     (40, b"RX1", "0-61 RX1 RX2 / RX1 6f; "),
 ];
 
+/// How many steps are refused at first with so much room.
+fn refused_steps(alloc: Global, room: usize) -> Result<u64, Fail> {
+    let heap = LocalHeap::new(alloc, 65_536)?;
+    let mut fill = filled(&heap, room)?;
+    let mut book = Book::new(&heap);
+    let mut refused = 0u64;
+    for &(second, name, rows) in STEPS {
+        let x = heard(second, name, &DIRECT)?;
+        if is_taken_again(alloc, &heap, &mut fill, &mut book, &x)? {
+            refused = refused.saturating_add(1);
+        }
+        if !is_shown(alloc, &book, rows) {
+            return Err("other rows".into());
+        }
+    }
+    Ok(refused)
+}
+
 // The heap is full but for some units, until it refuses a step: then the rows are as before, and
 // with room again the step gives the same book.
 #[test]
 fn refused_growths_change_nothing(rt: HostRuntime) -> Result<(), Fail> {
-    let alloc = rt.alloc();
     let mut refused = 0u64;
     for units in 0..192usize {
-        let heap = LocalHeap::new(alloc, 65536)?;
-        let mut fill: Vec<u8, &LocalHeap> = Vec::new(&heap);
-        fill.reserve(65280 - units * 64)?;
-        let mut book = Book::new(&heap);
-        for &(second, name, rows) in STEPS {
-            let x = heard(second, name, &DIRECT)?;
-            if is_untaken(alloc, &mut book, &x)? {
-                refused = refused.saturating_add(1);
-                fill = Vec::new(&heap);
-                assert!(rt; book.take(&x).is_ok());
-            }
-            assert!(rt; is_shown(alloc, &book, rows));
-        }
+        refused = refused.saturating_add(refused_steps(rt.alloc(), units * 64)?);
     }
     assert!(rt; refused > 4);
     Ok(())
 }
 
-/// Three rows of one key in a heap.
-fn three_rows<'a>(heap: &'a LocalHeap) -> Result<[RowParts<&'a LocalHeap>; 3], Fail> {
-    Ok([
-        parts(heap, NOON, NOON, &[b"RX1", b"RX2"], b"RX2")?,
-        parts(heap, NOON + 60, NOON + 70, &[b"RX1", b"RX2"], b"RX1")?,
-        parts(heap, NOON + 200, NOON + 200, &[b"RX1"], b"RX1")?,
-    ])
+/// Three rows of one key, whose receivers stand in a heap.
+fn three_rows<'a>(
+    alloc: Global,
+    heap: &'a LocalHeap,
+) -> Result<Vec<RowParts<&'a LocalHeap>>, Fail> {
+    let mut rows = Vec::new(alloc);
+    rows.push(parts(heap, NOON, NOON, &[b"RX1", b"RX2"], b"RX2")?)?;
+    rows.push(parts(heap, NOON + 60, NOON + 70, &[b"RX1", b"RX2"], b"RX1")?)?;
+    rows.push(parts(heap, NOON + 200, NOON + 200, &[b"RX1"], b"RX1")?)?;
+    Ok(rows)
 }
 
 /// Pushes a row, and returns whether an allocation failed. Then the rows have to be as before.
@@ -84,82 +115,137 @@ fn is_refused<'a>(
     }
 }
 
+/// Pushes a row, once more with room where an allocation failed, and returns whether one did.
+fn is_pushed_again<'a>(
+    alloc: Global,
+    heap: &'a LocalHeap,
+    fill: &mut Vec<u8, &'a LocalHeap>,
+    book: &mut Book<&'a LocalHeap>,
+    row: &RowParts<&'a LocalHeap>,
+) -> Result<bool, Fail> {
+    if !is_refused(alloc, book, row)? {
+        return Ok(false);
+    }
+    *fill = Vec::new(heap);
+    book.push_row(row).ok().ok_or("a cause")?;
+    Ok(true)
+}
+
+/// Which of three rows are refused at first with so much room.
+fn refused_of<'a>(
+    alloc: Global,
+    heap: &'a LocalHeap,
+    rows: &[RowParts<&'a LocalHeap>],
+    room: usize,
+) -> Result<[bool; 3], Fail> {
+    let mut fill = filled(heap, room)?;
+    let mut book = Book::new(heap);
+    let mut refused = [false; 3];
+    for (i, row) in rows.iter().enumerate().take(3) {
+        refused[i] = is_pushed_again(alloc, heap, &mut fill, &mut book, row)?;
+    }
+    if is_shown(alloc, &book, THREE_ROWS) {
+        Ok(refused)
+    } else {
+        Err("other rows".into())
+    }
+}
+
+/// The same in a heap of their own.
+fn refused_rows(alloc: Global, room: usize) -> Result<[bool; 3], Fail> {
+    let heap = LocalHeap::new(alloc, 65_536)?;
+    let rows = three_rows(alloc, &heap)?;
+    refused_of(alloc, &heap, rows.as_slice(), room)
+}
+
+const THREE_ROWS: &str = "0-0 RX1 RX2 / RX2 6f; 60-70 RX1 RX2 / RX1 6f; 200-200 RX1 / RX1 6f; ";
+
 // A heap that is full but for some units refuses the rows' growth, or that of the new row's
-// receivers: then the rows are as before, and with room again the row is added.
+// receivers: then the rows are as before, and with room again the row is added. The first row needs
+// both growths, the later ones that of their receivers alone.
 #[test]
 fn refused_rows_change_nothing(rt: HostRuntime) -> Result<(), Fail> {
-    let alloc = rt.alloc();
-    let mut refused = [0u64; 3];
+    let (mut first, mut second) = (false, false);
     for units in 0..700usize {
-        let heap = LocalHeap::new(alloc, 65536)?;
-        let rows = three_rows(&heap)?;
-        let mut fill: Vec<u8, &LocalHeap> = Vec::new(&heap);
-        fill.reserve(64768 - units * 16)?;
-        let mut book = Book::new(&heap);
-        for (i, row) in rows.iter().enumerate() {
-            if is_refused(alloc, &mut book, row)? {
-                refused[i] = refused[i].saturating_add(1);
-                fill = Vec::new(&heap);
-                assert!(rt; book.push_row(row) == Ok(()));
-            }
-        }
-        let want = "0-0 RX1 RX2 / RX2 6f; 60-70 RX1 RX2 / RX1 6f; 200-200 RX1 / RX1 6f; ";
-        assert!(rt; is_shown(alloc, &book, want));
+        let refused = refused_rows(rt.alloc(), 512 + units * 16)?;
+        first |= refused[0];
+        second |= refused[1];
     }
-    // the first row needs both growths, the later ones that of their receivers alone
-    assert!(rt; refused[0] > 0 && refused[1] > 0);
+    assert!(rt; first && second);
     Ok(())
 }
 
-// The place is that of the row for which memory was refused.
+/// The place of the row for which memory was refused, if it was.
+fn place_of(made: Result<Book<&LocalHeap>, RowsFault>) -> Result<Option<usize>, Fail> {
+    match made {
+        Ok(book) if book.len() == 3 => Ok(None),
+        Err(RowsFault { place, cause }) if cause == RowCause::Memory => Ok(Some(place)),
+        _ => Err("another answer".into()),
+    }
+}
+
+/// That of three rows which are made a book with so much room.
+fn refused_place(alloc: Global, room: usize) -> Result<Option<usize>, Fail> {
+    let heap = LocalHeap::new(alloc, 65_536)?;
+    let rows = three_rows(alloc, &heap)?;
+    place_with(&heap, rows.as_slice(), room)
+}
+
+/// The same of these rows in this heap.
+fn place_with<'a>(
+    heap: &'a LocalHeap,
+    rows: &[RowParts<&'a LocalHeap>],
+    room: usize,
+) -> Result<Option<usize>, Fail> {
+    let _fill = filled(heap, room)?;
+    place_of(from_rows(heap, Gap::STANDARD, rows))
+}
+
 #[test]
 fn memory_is_refused_at_a_row(rt: HostRuntime) -> Result<(), Fail> {
-    let alloc = rt.alloc();
-    let mut refused = [0u64; 3];
-    let mut granted = 0u64;
+    let (mut first, mut second, mut granted) = (false, false, false);
     for units in 0..700usize {
-        let heap = LocalHeap::new(alloc, 65536)?;
-        let rows = three_rows(&heap)?;
-        let mut fill: Vec<u8, &LocalHeap> = Vec::new(&heap);
-        fill.reserve(64768 - units * 16)?;
-        match from_rows(&heap, Gap::STANDARD, &rows) {
-            Ok(book) => {
-                assert!(rt; book.len() == 3);
-                granted = granted.saturating_add(1);
+        match refused_place(rt.alloc(), 512 + units * 16)? {
+            Some(0) => first = true,
+            Some(place) => {
+                second |= place == 1;
+                assert!(rt; place < 3);
             }
-            Err(RowsFault { place, cause }) => {
-                assert!(rt; cause == RowCause::Memory && place < 3);
-                refused[place] = refused[place].saturating_add(1);
-            }
+            None => granted = true,
         }
     }
-    assert!(rt; refused[0] > 0 && refused[1] > 0 && granted > 0);
+    assert!(rt; first && second && granted);
     Ok(())
+}
+
+/// Whether memory is refused in a line of a book file with so much room. Else its book is written
+/// as it was.
+fn is_line_refused(alloc: Global, room: usize) -> Result<bool, Fail> {
+    let heap = LocalHeap::new(alloc, 65_536)?;
+    let _fill = filled(&heap, room)?;
+    match read_book(&heap, MAX_INPUT, b"", &mut Counted::new(MERGED_TEXT)) {
+        Ok(book) if is_written_as(alloc, &book, MERGED_TEXT) => Ok(false),
+        Err(BookFault { line, cause }) if cause == BookCause::Memory => {
+            if line >= 1 && line <= 4 {
+                Ok(true)
+            } else {
+                Err("another line".into())
+            }
+        }
+        _ => Err("another answer".into()),
+    }
 }
 
 #[test]
 fn memory_is_refused_at_a_line(rt: HostRuntime) -> Result<(), Fail> {
-    let alloc = rt.alloc();
-    let mut refused = 0u64;
-    let mut granted = 0u64;
+    let (mut refused, mut granted) = (false, false);
     for units in 0..128usize {
-        let heap = LocalHeap::new(alloc, 65536)?;
-        let mut fill: Vec<u8, &LocalHeap> = Vec::new(&heap);
-        fill.reserve(65280 - units * 128)?;
-        match read_book(&heap, MAX_INPUT, b"", &mut Counted::new(MERGED_TEXT)) {
-            Ok(book) => {
-                let mut out = Counted::new(Vec::new(alloc));
-                assert!(rt; write_book(&mut out, &book) == Ok(()));
-                assert!(rt; out.into_inner().as_slice() == MERGED_TEXT);
-                granted = granted.saturating_add(1);
-            }
-            Err(BookFault { line, cause }) => {
-                assert!(rt; cause == BookCause::Memory);
-                assert!(rt; line >= 1 && line <= 4);
-                refused = refused.saturating_add(1);
-            }
+        if is_line_refused(rt.alloc(), units * 128)? {
+            refused = true;
+        } else {
+            granted = true;
         }
     }
-    assert!(rt; refused > 0 && granted > 0);
+    assert!(rt; refused && granted);
     Ok(())
 }

@@ -60,7 +60,8 @@ fn is_input_refused(
 
 #[test]
 fn inputs_are_refused_for_memory(rt: HostRuntime) -> Result<(), Fail> {
-    for (input, is_book) in [(THREE_LINES, false), (MERGED_TEXT, true)] {
+    const INPUTS: &[(&[u8], bool)] = &[(THREE_LINES, false), (MERGED_TEXT, true)];
+    for &(input, is_book) in INPUTS {
         let mut refused = 0usize;
         for units in 0..1024usize {
             if is_input_refused(rt.alloc(), units, input, is_book)? {
@@ -214,30 +215,26 @@ fn stage_with(
     Ok(stage)
 }
 
+/// How far a run comes as room grows.
+fn stages(alloc: Global, gathering: Gathering, whole: &[u8]) -> Result<Vec<Stage>, Fail> {
+    let mut seen = Vec::new(alloc);
+    for units in 0..1024usize {
+        let stage = stage_with(alloc, units, gathering, whole)?;
+        if seen.last() != Some(&stage) {
+            seen.push(stage)?;
+        }
+    }
+    Ok(seen)
+}
+
 #[test]
 fn runs_write_nothing_where_memory_is_refused(rt: HostRuntime) -> Result<(), Fail> {
     let alloc = rt.alloc();
-    for (gathering, whole, stages) in [
-        (
-            Gathering::Merge,
-            MERGED_TEXT,
-            [Stage::Log, Stage::Book, Stage::End].as_slice(),
-        ),
-        (
-            Gathering::Show,
-            MERGED_LISTING,
-            [Stage::Log, Stage::Book, Stage::Lists, Stage::End].as_slice(),
-        ),
-    ] {
-        let mut seen = Vec::new(alloc);
-        for units in 0..1024usize {
-            let stage = stage_with(alloc, units, gathering, whole)?;
-            if seen.last() != Some(&stage) {
-                seen.push(stage)?;
-            }
-        }
-        assert!(rt; seen.as_slice() == stages);
-    }
+    let merged = stages(alloc, Gathering::Merge, MERGED_TEXT)?;
+    assert!(rt; merged.as_slice() == [Stage::Log, Stage::Book, Stage::End].as_slice());
+    let shown = stages(alloc, Gathering::Show, MERGED_LISTING)?;
+    let wanted = [Stage::Log, Stage::Book, Stage::Lists, Stage::End];
+    assert!(rt; shown.as_slice() == wanted.as_slice());
     Ok(())
 }
 
@@ -264,19 +261,20 @@ fn checks_and_conversions_take_no_memory(rt: HostRuntime) -> Result<(), Fail> {
     assert!(rt; bump.try_alloc(0u8).is_err());
     let receiver = Receiver::parse(b"RX1").ok_or("a name")?;
     let moment = Moment::parse(b"2024-05-01T12:00:00Z").ok_or("a moment")?;
-    for (form, input, text) in [
-        (Form::Text, ONE_LINE, b"N0CALL-7>APRS:>Hi\n".as_slice()),
-        (
+    let capture = Form::Capture { receiver, moment };
+    assert!(rt; is_converted_to(alloc, &bump, Form::Text, ONE_LINE, b"N0CALL-7>APRS:>Hi\n"));
+    assert!(rt;
+        is_converted_to(
+            alloc,
+            &bump,
             Form::Kind,
             ONE_LINE,
-            b"status N0CALL-7>APRS:>Hi\n".as_slice(),
-        ),
-        (Form::Kiss, ONE_LINE, FRAME),
-        (Form::Log, LOG, LOG),
-        (Form::Capture { receiver, moment }, FRAME, WRITTEN_LINE),
-    ] {
-        assert!(rt; is_converted_to(alloc, &bump, form, input, text));
-    }
+            b"status N0CALL-7>APRS:>Hi\n"
+        )
+    );
+    assert!(rt; is_converted_to(alloc, &bump, Form::Kiss, ONE_LINE, FRAME));
+    assert!(rt; is_converted_to(alloc, &bump, Form::Log, LOG, LOG));
+    assert!(rt; is_converted_to(alloc, &bump, capture, FRAME, WRITTEN_LINE));
     assert!(rt; is_checked_to(alloc, &bump, LOG, b"heard 2 passed 0\n"));
     Ok(())
 }

@@ -6,6 +6,7 @@ use crate::vectors::{LOG, ONE_LINE, WRITTEN_LINE};
 use aprs_kiss::Counted;
 use aprs_log::{LogCause, LogFault, MAX_INPUT, Moment, Receiver};
 use aprs_tool::{Form, InputFault, RunFault, check_run, convert_run, status_of};
+use std::alloc::Global;
 use std::test::Fail;
 
 /// The frame of that log as a KISS frame.
@@ -47,18 +48,18 @@ pub fn converted(
     (w.into_inner(), fault_of(run))
 }
 
+/// Whether one line is written so in this form.
+fn is_converted_to(rt: &HostRuntime, form: Form, text: &[u8]) -> bool {
+    let (written, fault) = converted(rt, MAX_INPUT, form, ONE_LINE);
+    written.as_slice() == text && fault.is_none()
+}
+
 #[test]
 fn one_line_in_each_form(rt: HostRuntime) {
-    for (form, text) in [
-        (Form::Text, b"N0CALL-7>APRS:>Hi\n".as_slice()),
-        (Form::Kind, b"status N0CALL-7>APRS:>Hi\n".as_slice()),
-        (Form::Kiss, FRAME),
-        (Form::Log, WRITTEN_LINE),
-    ] {
-        let (written, fault) = converted(&rt, MAX_INPUT, form, ONE_LINE);
-        assert!(rt; written.as_slice() == text);
-        assert!(rt; fault.is_none());
-    }
+    assert!(rt; is_converted_to(&rt, Form::Text, b"N0CALL-7>APRS:>Hi\n"));
+    assert!(rt; is_converted_to(&rt, Form::Kind, b"status N0CALL-7>APRS:>Hi\n"));
+    assert!(rt; is_converted_to(&rt, Form::Kiss, FRAME));
+    assert!(rt; is_converted_to(&rt, Form::Log, WRITTEN_LINE));
 }
 
 #[test]
@@ -96,23 +97,33 @@ const STREAM: &[&[u8]] = &[
     b"\x00\x82",
 ];
 
-#[test]
-fn a_stream_is_captured(rt: HostRuntime) -> Result<(), Fail> {
-    let receiver = Receiver::parse(b"RX1").ok_or("a name")?;
-    let moment = Moment::parse(b"2024-05-01T12:00:00Z").ok_or("a moment")?;
-    let mut stream = Vec::new(rt.alloc());
+/// That stream.
+fn stream(alloc: Global) -> Result<Vec<u8>, Fail> {
+    let mut stream = Vec::new(alloc);
     for &piece in STREAM {
         stream.extend_from_slice(piece)?;
     }
-    let form = Form::Capture { receiver, moment };
+    Ok(stream)
+}
+
+/// A capture by RX1 at noon.
+fn capture() -> Option<Form> {
+    let receiver = Receiver::parse(b"RX1")?;
+    let moment = Moment::parse(b"2024-05-01T12:00:00Z")?;
+    Some(Form::Capture { receiver, moment })
+}
+
+#[test]
+fn a_stream_is_captured(rt: HostRuntime) -> Result<(), Fail> {
+    let stream = stream(rt.alloc())?;
+    let form = capture().ok_or("a form")?;
     let (written, fault) = converted(&rt, MAX_INPUT, form, stream.as_slice());
-    assert!(rt; fault.is_none());
-    assert!(rt; written.as_slice() == LOG);
+    assert!(rt; fault.is_none() && written.as_slice() == LOG);
     Ok(())
 }
 
 #[test]
-fn devices_that_fail(rt: HostRuntime) {
+fn a_reader_that_fails(rt: HostRuntime) {
     let mut r = Counted::new(Failing {
         bytes: ONE_LINE,
         most: usize::MAX,
@@ -123,14 +134,13 @@ fn devices_that_fail(rt: HostRuntime) {
     assert!(rt; fault_of(run) == Some((2, LogCause::Read)));
     assert!(rt; r.failures() == 1);
     assert!(rt; w.into_inner().as_slice() == b"N0CALL-7>APRS:>Hi\n".as_slice());
+}
+
+#[test]
+fn a_writer_that_fails(rt: HostRuntime) {
+    let mut r = Counted::new(ONE_LINE);
     let mut w = Counted::new(Full);
-    let run = convert_run(
-        rt.alloc(),
-        MAX_INPUT,
-        Form::Log,
-        &mut Counted::new(ONE_LINE),
-        &mut w,
-    );
+    let run = convert_run(rt.alloc(), MAX_INPUT, Form::Log, &mut r, &mut w);
     assert!(rt; matches!(&run, Err(RunFault::Write)));
     assert!(rt; w.failures() == 1);
 }

@@ -5,7 +5,7 @@ use crate::last_known::sent;
 use crate::refused_calls::{ROWS, SENT, squeeze};
 use crate::shown::is_shown;
 use crate::vectors::{DIRECT, heard};
-use aprs_book::{Book, Gap, Memory, RowList};
+use aprs_book::{Book, Gap, Memory, Overview};
 use aprs_rows::RowStore;
 use bumpalo::Bump;
 use std::alloc::{Allocator, Global};
@@ -43,7 +43,8 @@ fn taken(alloc: Global, first: u64) -> Result<Book, Fail> {
 #[test]
 fn two_hundred_receptions_are_put_in_order(rt: HostRuntime) -> Result<(), Fail> {
     let alloc = rt.alloc();
-    for (first, rows) in [(0, 100), (30, 1), (6031, 200)] {
+    const CASES: &[(u64, usize)] = &[(0, 100), (30, 1), (6031, 200)];
+    for &(first, rows) in CASES {
         let store = two_hundred(alloc, first)?;
         let book = book_of(alloc, &store).ok().ok_or("memory")?;
         assert!(rt; book.len() == rows);
@@ -66,19 +67,27 @@ fn store_sent<'a>(bump: &'a Bump, store: &mut RowStore<&'a Bump>) -> Result<u64,
     Ok(refused)
 }
 
+/// Whether the book of the store's rows has the rows of what was sent.
+fn has_rows<'a>(alloc: Global, bump: &'a Bump, store: &RowStore<&'a Bump>) -> bool {
+    match book_of(bump, store) {
+        Ok(book) => is_shown(alloc, &book, ROWS),
+        Err(_) => false,
+    }
+}
+
 /// What was refused with so many units of room: whether a reception, and whether the book.
 fn refusals(alloc: Global, units: usize) -> Result<(bool, bool), Fail> {
     let bump = Bump::try_with_capacity(alloc, 65_536)?;
     let _fill = squeeze(&bump, units)?;
     let mut store = RowStore::new(&bump);
     let refused = store_sent(&bump, &mut store)?;
-    let answer = book_of(&bump, &store);
+    let is_refused = book_of(&bump, &store).is_err();
     bump.set_allocation_limit(None);
-    let book = book_of(&bump, &store).ok().ok_or("memory")?;
-    if !is_shown(alloc, &book, ROWS) {
-        return Err("other rows".into());
+    if has_rows(alloc, &bump, &store) {
+        Ok((refused > 0, is_refused))
+    } else {
+        Err("other rows".into())
     }
-    Ok((refused > 0, answer.is_err()))
 }
 
 // Room for more and more units: first a reception is refused, then the order, the rows or the book,
@@ -99,36 +108,37 @@ fn refused_stores_are_as_before(rt: HostRuntime) -> Result<(), Fail> {
     Ok(())
 }
 
-/// The rows of a store in a list.
-pub fn list_of<A: Allocator + Copy>(alloc: A, store: &RowStore<A>) -> Result<RowList<A>, Memory> {
+/// How many stations, objects and items, and messages the rows of a store tell of.
+fn counts<A: Allocator + Copy>(
+    alloc: A,
+    store: &RowStore<A>,
+) -> Result<(usize, usize, usize), Memory> {
     let order = store.in_order()?;
     let rows = order.coalesced(Gap::STANDARD)?;
-    RowList::of_rows(alloc, &rows)
-}
-
-/// How many stations, objects and items, and messages the list has.
-fn counts<A: Allocator + Copy>(list: &RowList<A>) -> Result<(usize, usize, usize), Memory> {
-    let stations = list.stations()?;
-    let named = list.objects()?;
-    let messages = list.messages()?;
+    let overview = Overview::of(alloc, &rows)?;
+    let stations = overview.stations()?;
+    let named = overview.objects()?;
+    let messages = overview.messages()?;
     Ok((stations.len(), named.len(), messages.len()))
 }
 
-/// Whether the list of what was sent, or what it lists, is refused with so many units of room.
+/// The same, or nothing where memory was refused.
+fn listed<'a>(bump: &'a Bump, store: &RowStore<&'a Bump>) -> Option<(usize, usize, usize)> {
+    counts(bump, store).ok()
+}
+
+/// Whether what is listed of what was sent is refused with so many units of room.
 fn is_list_refused(alloc: Global, units: usize) -> Result<bool, Fail> {
     let bump = Bump::try_with_capacity(alloc, 65_536)?;
     let mut store = RowStore::new(&bump);
     store_sent(&bump, &mut store)?;
     let _fill = squeeze(&bump, units)?;
-    let is_refused = match list_of(&bump, &store) {
-        Ok(list) => counts(&list).is_err(),
-        Err(_) => true,
-    };
+    let is_refused = listed(&bump, &store).is_none();
     bump.set_allocation_limit(None);
-    let list = list_of(&bump, &store).ok().ok_or("memory")?;
-    match counts(&list) {
-        Ok((3, 2, 1)) => Ok(is_refused),
-        _ => Err("another list".into()),
+    if listed(&bump, &store) == Some((3, 2, 1)) {
+        Ok(is_refused)
+    } else {
+        Err("another list".into())
     }
 }
 

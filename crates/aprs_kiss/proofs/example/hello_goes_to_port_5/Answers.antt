@@ -1,7 +1,6 @@
 use Rattle.std.proofs.Common.{refl}
 use Rattle.aprs_kiss.specs.Judgement.{judgement_of}
 use Rattle.aprs_kiss.specs.Stream.{judgements_of, pieces_of}
-use Rattle.aprs_kiss.specs.Spelling.{spelling_of}
 use Rattle.aprs_kiss.specs.Unspelling.{unspelled}
 use Rattle.aprs_kiss.proofs.example.hello_goes_to_port_5.Goals as goal
 
