@@ -14,11 +14,11 @@ use Rattle.aprs_laws.specs.Row.{Row, row_key}
 use Rattle.aprs_laws.proofs.Orders.{bytes_total, key_total, bytes_exact}
 use Rattle.aprs_laws.specs.Inserted.{side, grown, bridged, inserted}
 use Rattle.aprs_laws.proofs.Pushes.{empty_or_last}
-use Rattle.aprs_keys.proofs.Cases.{by_order}
+use Rattle.aprs_rows.proofs.Cases.{by_order}
 use Rattle.aprs_book.proofs.Entries.{order, test, IsWritten, set_same, found_key, AreKeyed-set_value, AreKeyed-insert_entry}
-use Rattle.aprs_keys.proofs.Heads.{head_less}
+use Rattle.aprs_rows.proofs.KeyHeads.{head_less}
 use Rattle.aprs_book.specs.Keyed.{HaveHead, rows_of, AreKeyed, AreFilled, AreKept, EndsUpTo, IsEndOf}
-use Rattle.aprs_keys.specs.KeyBytes.{head_bytes}
+use Rattle.aprs_rows.specs.KeyBytes.{head_bytes}
 
 bridged_some : (gap : ℕ) (x : Heard) (j : Row) (rows : List Row) → 0 < length (bridged gap x j rows)
 bridged_some gap x j [] = omega arith

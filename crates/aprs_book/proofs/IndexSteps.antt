@@ -29,8 +29,8 @@ use Rattle.aprs_book.specs.declared.reported.Reported.{Reported}
 use Rattle.aprs_book.specs.Reports.{report_of, is_position, is_status, is_object, is_item, is_from, reports_position, reports_status, reports_object, reports_item, without_spaces}
 use Rattle.aprs_book.specs.LastKnown.{IsLastKnown, greatest_of}
 use Rattle.aprs_book.specs.Known.{FourIndexes, Topic, positions, statuses, objects, items, index_of, known_at, known_both, is_reported, reports_at, reported_by, reported_in, reported_at, AreIndexesOf, SameKnown, HaveEntries}
-use Rattle.aprs_keys.specs.KeyBytes.{call_bytes}
-use Rattle.aprs_keys.proofs.KeyBytes.{call_bytes_cmp}
+use Rattle.aprs_rows.specs.KeyBytes.{call_bytes}
+use Rattle.aprs_rows.proofs.KeyBytes.{call_bytes_cmp}
 use Rattle.aprs_book.proofs.KnownSteps.{entry_there, same_as_itself}
 
 -- the receptions of a row are of its greatest's key: what the rows know the book's set knows

@@ -12,13 +12,13 @@ use Rattle.aprs_log.specs.Reception.{bytes_cmp}
 use Rattle.aprs_laws.specs.Row.{Row, row_key, row_cmp}
 use Rattle.aprs_laws.specs.JoinRow.{combine, place, coalesce, coalesced, interleave}
 use Rattle.aprs_laws.proofs.Orders.{bytes_total}
-use Rattle.aprs_keys.proofs.Cases.{by_order}
-use Rattle.aprs_keys.proofs.Heads.{head_less}
+use Rattle.aprs_rows.proofs.Cases.{by_order}
+use Rattle.aprs_rows.proofs.KeyHeads.{head_less}
 use Rattle.aprs_book.proofs.Entries.{order, Above, below_all, combined, AreKeyed-insert_entry}
 use Rattle.aprs_book.proofs.EntryEnds.{filled_insert}
 use Rattle.aprs_book.proofs.MergedKeys.{interleave-nil, IsBelowAll, AreBelow, merged_keys}
 use Rattle.aprs_book.specs.Keyed.{HaveHead, rows_of, AreKeyed, AreKept, PutsRows, held}
-use Rattle.aprs_keys.specs.KeyBytes.{head_bytes}
+use Rattle.aprs_rows.specs.KeyBytes.{head_bytes}
 
 -- ---- the rows of one key
 

@@ -24,7 +24,7 @@ use Rattle.aprs_book.specs.NamedRows.{shown_report, report_in, reports_in}
 use Rattle.aprs_book.specs.Known.{Entries, FourIndexes, Topic, objects, items, index_of, entry_at, entry_known, known_at, is_reported, reports_at, reported_by, reported_in, IsEntryBefore, AreIndexesOf}
 use Rattle.aprs_book.proofs.Collected.{found, absent, one_entry}
 use Rattle.aprs_book.proofs.IndexSteps.{entry_reports}
-use Rattle.aprs_keys.proofs.Cases.{by_order}
+use Rattle.aprs_rows.proofs.Cases.{by_order}
 
 thing_total : IsTotalOrder thing_cmp
 thing_total =

@@ -3,14 +3,14 @@ ghost use Rattle.std.specs.Prelude.{◌≡◌, ℕ, List, [], Some, IsOk, IfOk, 
 ghost use Rattle.std.specs.Option.{option_copied};
 ghost use Rattle.aprs_laws.specs.Best.{greater_known};
 ghost use Rattle.aprs_book.specs.Known.{Topic, FourIndexes, index_of, known_at, known_both, is_reported, reported_at, SameKnown, HaveEntries, positions, statuses, objects, items};
-ghost use Rattle.aprs_keys.specs.KeyBytes.{call_bytes};
+ghost use Rattle.aprs_rows.specs.KeyBytes.{call_bytes};
 
 use crate::Memory;
 use crate::known::Known;
 use crate::reception_view::ReceptionView;
 use crate::reported::Reported;
 use aprs_ax25::Callsign;
-use aprs_keys::call_bytes;
+use aprs_rows::call_bytes;
 use aprs_log::Reception;
 use std::alloc::{Allocator, Global};
 use std::marker::Model;

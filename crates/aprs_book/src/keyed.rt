@@ -16,8 +16,8 @@ use crate::place::put;
 use crate::push::first_cause;
 use crate::walk::Walk;
 use crate::{Memory, RowCause, RowParts};
-use aprs_joins::make_room;
-use aprs_keys::{Head, head_bytes};
+use aprs_rows::make_room;
+use aprs_rows::{KeyHead, head_bytes};
 use aprs_log::Reception;
 use std::alloc::{Allocator, Global};
 use std::cmp::Ordering;
@@ -27,7 +27,7 @@ use std::marker::Model;
 /// The rows of the keys with one head, in their order, by that head. No head is without rows. Most
 /// heads are of one key, so that a key is found by comparing heads, which lie in the map itself.
 pub(crate) struct KeyedRows<A: Allocator = Global> {
-    map: BTreeMap<Head, Vec<KeptRow<A>, A>, A>,
+    map: BTreeMap<KeyHead, Vec<KeptRow<A>, A>, A>,
     /// The number of the rows of all keys.
     count: usize,
     alloc: A,
@@ -233,7 +233,7 @@ fn push_one<A: Allocator + Copy>(
 
 /// The number of the rows of all keys.
 fn number_of_rows<A: Allocator + Copy>(
-    map: &BTreeMap<Head, Vec<KeptRow<A>, A>, A>,
+    map: &BTreeMap<KeyHead, Vec<KeptRow<A>, A>, A>,
 ) -> Result<usize, Memory>
     ensures { IfOk result (λ n.
         n ≡ length (rows_of (λ k. k) (λ v. v.items) map.now.entries)) }

@@ -7,7 +7,7 @@ use crate::Memory;
 use crate::kept_row::KeptRow;
 use crate::merging::{joined_rows, merged_rows};
 use crate::millis::Millis;
-use aprs_keys::Head;
+use aprs_rows::KeyHead;
 use std::alloc::Allocator;
 use std::collections::BTreeMap;
 
@@ -15,8 +15,8 @@ use std::collections::BTreeMap;
 pub(crate) fn put_merged<A: Allocator + Copy>(
     alloc: A,
     gap: Millis,
-    map: &mut BTreeMap<Head, Vec<KeptRow<A>, A>, A>,
-    head: &Head,
+    map: &mut BTreeMap<KeyHead, Vec<KeptRow<A>, A>, A>,
+    head: &KeyHead,
     ours: &[KeptRow<A>],
     theirs: &[KeptRow<A>],
 ) -> Result<(), Memory>
@@ -34,8 +34,8 @@ pub(crate) fn put_merged<A: Allocator + Copy>(
 pub(crate) fn put_joined<A: Allocator + Copy>(
     alloc: A,
     gap: Millis,
-    map: &mut BTreeMap<Head, Vec<KeptRow<A>, A>, A>,
-    head: &Head,
+    map: &mut BTreeMap<KeyHead, Vec<KeptRow<A>, A>, A>,
+    head: &KeyHead,
     rows: &[KeptRow<A>],
 ) -> Result<(), Memory>
     ensures { OnOk result (PutsRows (λ k. k) (λ v. v.items) map.old.entries map.new.entries

@@ -2,10 +2,10 @@
 ghost use Rattle.std.specs.Prelude.{◌≡◌};
 ghost use Rattle.aprs_laws.specs.Key.{key_of};
 ghost use Rattle.aprs_book.specs.Known.{Topic, reported_at, reported_in};
-ghost use Rattle.aprs_keys.specs.KeyBytes.{call_bytes};
+ghost use Rattle.aprs_rows.specs.KeyBytes.{call_bytes};
 
 use crate::reception_view::ReceptionView;
-use aprs_keys::call_bytes;
+use aprs_rows::call_bytes;
 use aprs_report::Report;
 use arrayvec::ArrayVec;
 

@@ -7,9 +7,9 @@ use Rattle.std.proofs.lemmas.List.{drop_more, flat_map_more, take_more}
 use Rattle.std.proofs.lemmas.List.Concat.{flat_map-append}
 use Rattle.std.proofs.lemmas.List.Elements.{All-nil, All-push}
 use Rattle.aprs_io.specs.declared.device.WriteFault.{WriteFault}
-use Rattle.aprs_outbox.specs.Outlet.{Puts}
-use Rattle.aprs_outbox.specs.declared.outlet.Outlet.{Outlet}
-use Rattle.aprs_outbox.proofs.Outlets.{Puts-fails, Puts-is, Puts-none, Puts-then}
+use Rattle.aprs_io.specs.Outlet.{Puts}
+use Rattle.aprs_io.specs.declared.outlet.Outlet.{Outlet}
+use Rattle.aprs_io.proofs.Outlets.{Puts-fails, Puts-is, Puts-none, Puts-then}
 use Rattle.aprs_log.specs.Receiver.{IsName}
 use Rattle.aprs_log.specs.declared.moment_form.MomentForm.TheVariants.{Millis}
 use Rattle.aprs_laws.specs.BookValue.{BookValue, IsSoundBook}

@@ -1,13 +1,13 @@
 //! Writing what the rows of a store are together.
 ghost use Rattle.std.specs.Prelude.{flat_map, OnOk};
 ghost use Rattle.aprs_io.specs.Device.{Sends};
-ghost use Rattle.aprs_outbox.specs.Outlet.{Puts};
+ghost use Rattle.aprs_io.specs.Outlet.{Puts};
 ghost use Rattle.aprs_booktext.specs.RowLines.{line_and_lf};
 ghost use Rattle.aprs_booktext.specs.Text.{IsBookRows, written_text, written_version};
 
 use crate::write::{end_line_and_lf, header_line, put_row};
 use aprs_io::{Counted, WriteFault};
-use aprs_outbox::Outlet;
+use aprs_io::Outlet;
 use aprs_rows::Transmissions;
 use std::alloc::Allocator;
 use std::io::Write;

@@ -3,3 +3,4 @@ pub mod Cut
 pub mod Device
 pub mod Hexadecimal
 pub mod Input
+pub mod Outlet

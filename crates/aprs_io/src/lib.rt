@@ -1,4 +1,4 @@
-//! Devices that count their failed calls, and what is read of an input under a limit.
+//! Devices that count their failed calls: what is read of an input under a limit, and bytes on their way out.
 #![tactic(auto)]
 
 mod byte_vectors;
@@ -7,6 +7,7 @@ mod device;
 mod hexadecimal;
 mod input;
 mod laws;
+mod outlet;
 
 pub use byte_vectors::{copied, push_all, put};
 pub use cut::cut_at;
@@ -14,3 +15,4 @@ pub use device::{Counted, DeviceFault, WriteFault, send};
 pub use hexadecimal::{decode_into, encode_to};
 pub use input::{Ending, MAX_INPUT, read_some};
 pub use laws::inputs_have_at_most_one_gibibyte;
+pub use outlet::{MAX_HELD, Outlet};

@@ -1,6 +1,6 @@
 //! The fields of the listing's lines.
 ghost use Rattle.std.specs.Prelude.{◌≡◌};
-ghost use Rattle.aprs_outbox.specs.Outlet.{Puts};
+ghost use Rattle.aprs_io.specs.Outlet.{Puts};
 ghost use Rattle.aprs_listing.specs.Lines.{field_text};
 ghost use Rattle.aprs_listing.specs.Listing.{ambiguity_text, fraction_text, stamp_text};
 ghost use Rattle.aprs_listing.specs.Listing.{word, word_byte};
@@ -10,7 +10,7 @@ use aprs_ax25::Callsign;
 use aprs_convert::{are_shown, shown_byte};
 use aprs_io::{WriteFault, push_all};
 use aprs_log::Moment;
-use aprs_outbox::Outlet;
+use aprs_io::Outlet;
 use aprs_report::{Fraction, Place, Stamp, Symbol};
 use arrayvec::ArrayVec;
 use itoa::Buffer;

@@ -1,6 +1,6 @@
 //! The line of what was heard last of something.
 ghost use Rattle.std.specs.Prelude.{◌≡◌, ◌++◌, ◌∷◌, [], codes, map};
-ghost use Rattle.aprs_outbox.specs.Outlet.{Puts};
+ghost use Rattle.aprs_io.specs.Outlet.{Puts};
 ghost use Rattle.aprs_listing.specs.Lines.{field_text};
 ghost use Rattle.aprs_listing.specs.Listing.{heard_fields, heard_line, live_text, name_fields};
 ghost use Rattle.aprs_listing.specs.Listing.{place_fields, stamp_text, text_line_of};
@@ -9,7 +9,7 @@ use crate::field::Field;
 use crate::line::put_text_line;
 use aprs_book::Heard;
 use aprs_io::WriteFault;
-use aprs_outbox::Outlet;
+use aprs_io::Outlet;
 use aprs_report::{Place, Report, Stamp, Symbol};
 use std::io::Write;
 

@@ -1,13 +1,13 @@
 //! The listing's lines on their way out.
 ghost use Rattle.std.specs.Prelude.{[], ◌∷◌, ◌++◌};
 ghost use Rattle.std.specs.List.{flat_map};
-ghost use Rattle.aprs_outbox.specs.Outlet.{Puts};
+ghost use Rattle.aprs_io.specs.Outlet.{Puts};
 ghost use Rattle.aprs_listing.specs.Lines.{spaced_field};
 ghost use Rattle.aprs_convert.specs.Shown.{shown};
 
 use crate::field::{Field, put_field, put_shown};
 use aprs_io::WriteFault;
-use aprs_outbox::Outlet;
+use aprs_io::Outlet;
 use std::io::Write;
 
 /// Puts a line: its kind, and each field after a space.

@@ -2,7 +2,7 @@
 ghost use Rattle.std.specs.Prelude.{◌≡◌, IfOk};
 ghost use Rattle.std.specs.List.{flat_map};
 ghost use Rattle.aprs_io.specs.Device.{Sends};
-ghost use Rattle.aprs_outbox.specs.Outlet.{Puts};
+ghost use Rattle.aprs_io.specs.Outlet.{Puts};
 ghost use Rattle.aprs_laws.specs.Gap.{millis_of};
 ghost use Rattle.aprs_book.specs.Stations.{ReportsStations};
 ghost use Rattle.aprs_book.specs.Names.{ReportsNamed};
@@ -15,7 +15,7 @@ use crate::heard_line::put_heard;
 use crate::line::{put_line, put_text_line};
 use aprs_book::{Book, Heard, Memory, MessageRow, MessageState, Named, Overview, Station};
 use aprs_io::{Counted, WriteFault};
-use aprs_outbox::Outlet;
+use aprs_io::Outlet;
 use std::alloc::{Allocator, Global};
 use std::io::Write;
 

@@ -18,7 +18,7 @@ use Rattle.aprs_ax25.proofs.Spellings.{FrameOf-IsSound}
 use Rattle.aprs_log.specs.Reception.{bytes_cmp}
 use Rattle.aprs_laws.specs.Key.{Key, key_of, key_cmp}
 use Rattle.aprs_laws.proofs.Orders.{ordering_then_assoc}
-use Rattle.aprs_keys.proofs.Digits.{Bytes, be_cmp, be_cmp_all, first_then_all, then_equal}
+use Rattle.aprs_rows.proofs.Digits.{Bytes, be_cmp, be_cmp_all, first_then_all, then_equal}
 use Rattle.aprs_rows.specs.Head.{call_number, octets_number, head_of, head_cmp, HaveHeads}
 use Rattle.aprs_rows.specs.declared.head.Head.{Head}
 

@@ -1,10 +1,17 @@
 -- Lemmas of rows.
+pub mod Cases
+pub mod Digits
 pub mod Heads
+mod HeadOrder
 pub mod Infos
-pub mod Rows
-pub mod Orders
-pub mod NameTexts
-pub mod Refusals
 pub mod Judgements
+pub mod KeyBytes
+pub mod KeyHeads
+mod Letters
+pub mod NameTexts
+pub mod Orders
+mod ReceiverNames
+pub mod Refusals
+pub mod Rows
 pub mod SortedTexts
 pub mod Sweeps

@@ -2,6 +2,9 @@
 pub mod Groups
 pub mod Head
 pub mod Judging
+pub mod KeptNames
+pub mod KeyBytes
+pub mod KeyHead
 pub mod Names
 pub mod Refusal
 pub mod Rows
@@ -9,8 +12,10 @@ pub mod Sorted
 pub mod Sweep
 -- what public clauses cite of lower crates
 pub use Rattle.aprs_log.specs.Reception
+pub use Rattle.aprs_ax25.specs.CallText
 pub use Rattle.aprs_laws.specs.Order
 pub use Rattle.aprs_laws.specs.Lists
+pub use Rattle.aprs_laws.specs.Key
 pub use Rattle.aprs_laws.specs.Row
 pub use Rattle.aprs_laws.specs.RowCause
 pub use Rattle.aprs_laws.specs.Sound
@@ -18,4 +23,5 @@ pub use Rattle.aprs_laws.specs.Book
 pub use Rattle.aprs_laws.specs.BookValue
 pub use Rattle.aprs_laws.specs.Gap
 pub use Rattle.aprs_laws.specs.JoinRow
+pub use Rattle.aprs_laws.specs.Joining
 pub use Rattle.aprs_laws.specs.Coalescing

@@ -6,7 +6,7 @@ ghost use Rattle.aprs_laws.specs.JoinRow.{union};
 ghost use Rattle.aprs_rows.specs.Names.{names_in};
 ghost use Rattle.aprs_rows.specs.Sorted.{next_text, text_of_sorted};
 
-use aprs_joins::Memory;
+use crate::Memory;
 use memchr::memchr;
 use std::alloc::Allocator;
 

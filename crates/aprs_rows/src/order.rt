@@ -13,7 +13,7 @@ ghost use Rattle.aprs_rows.specs.Rows.{AreSoundRows};
 use crate::laid::Laid;
 use crate::sweep::Sweep;
 use crate::transmissions::Transmissions;
-use aprs_joins::Memory;
+use crate::Memory;
 use aprs_laws::Gap;
 use std::alloc::{Allocator, Global};
 use std::marker::Model;

@@ -12,7 +12,7 @@ ghost use Rattle.aprs_rows.specs.Names.{row_of_text};
 use crate::head::{Head, key_order};
 use crate::names::cut_name;
 use aprs_ax25::Frame;
-use aprs_joins::Memory;
+use crate::Memory;
 use aprs_log::{Moment, Receiver, Reception};
 use std::alloc::Allocator;
 use std::cmp::Ordering;

@@ -14,7 +14,7 @@ use crate::entry::Entry;
 use crate::laid::Laid;
 use crate::order::RowsInOrder;
 use crate::row_view::RowView;
-use aprs_joins::Memory;
+use crate::Memory;
 use aprs_log::Reception;
 use std::alloc::{Allocator, Global};
 use std::marker::Model;

@@ -14,7 +14,7 @@ use crate::group::Group;
 use crate::laid::Laid;
 use crate::names::{gather, put_united};
 use crate::transmissions::Transmissions;
-use aprs_joins::Memory;
+use crate::Memory;
 use aprs_laws::Gap;
 use aprs_log::Moment;
 use std::alloc::Allocator;

@@ -1,5 +1,5 @@
 use Rattle.std.proofs.Common.{refl}
-use Rattle.aprs_keys.proofs.Cases.{on_not_err}
+use Rattle.aprs_rows.proofs.Cases.{on_not_err}
 use Rattle.aprs_book.proofs.merging_keys.put_joined.Goals as goal
 
 pub returns : goal.returns

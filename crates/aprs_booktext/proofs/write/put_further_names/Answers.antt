@@ -1,5 +1,5 @@
 use Rattle.std.proofs.Common.{◌∷◌, arith}
-use Rattle.aprs_outbox.proofs.Outlets.{Puts-broken, Puts-is, Puts-more}
+use Rattle.aprs_io.proofs.Outlets.{Puts-broken, Puts-is, Puts-more}
 use Rattle.aprs_booktext.proofs.Written.{names_more}
 use Rattle.aprs_booktext.proofs.write.put_further_names.Goals as goal
 

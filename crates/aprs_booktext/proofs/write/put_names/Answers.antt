@@ -1,5 +1,5 @@
 use Rattle.std.proofs.Common.{sym}
-use Rattle.aprs_outbox.proofs.Outlets.{Puts-fails, Puts-is, Puts-then}
+use Rattle.aprs_io.proofs.Outlets.{Puts-fails, Puts-is, Puts-then}
 use Rattle.aprs_booktext.proofs.TextParts.{joined_first}
 use Rattle.aprs_booktext.proofs.write.put_names.Goals as goal
 

@@ -6,7 +6,7 @@ use Rattle.aprs_log.specs.Reception.{Heard}
 use Rattle.aprs_report.specs.Reading.{view}
 use Rattle.aprs_report.specs.declared.report.Report.{Report}
 use Rattle.aprs_listing.specs.Listing.{heard_fields, heard_line, name_fields, place_fields, report_line, text_line_of}
-use Rattle.aprs_outbox.proofs.Outlets.{Puts-is}
+use Rattle.aprs_io.proofs.Outlets.{Puts-is}
 use Rattle.aprs_listing.proofs.heard_line.put_heard.Goals as goal
 
 -- the report of a reception as it is lent gives its line

@@ -1,6 +1,6 @@
 use Rattle.std.proofs.Common.{ap}
 use Rattle.aprs_log.specs.Reception.{Heard}
-use Rattle.aprs_outbox.proofs.Outlets.{Puts-is}
+use Rattle.aprs_io.proofs.Outlets.{Puts-is}
 use Rattle.aprs_listing.proofs.heard_line.put_status.Goals as goal
 
 pub returns : goal.returns

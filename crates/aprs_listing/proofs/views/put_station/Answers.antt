@@ -2,7 +2,7 @@ use Rattle.std.proofs.Common.{[], ◌∷◌, ap, codes}
 use Rattle.std.specs.Fmt.{decimal}
 use Rattle.aprs_ax25.specs.Callsign.{Call, call_text}
 use Rattle.aprs_listing.specs.Listing.{line_of, station_line}
-use Rattle.aprs_outbox.proofs.Outlets.{Puts-fails, Puts-is, Puts-then}
+use Rattle.aprs_io.proofs.Outlets.{Puts-fails, Puts-is, Puts-then}
 use Rattle.aprs_listing.proofs.views.put_station.Goals as goal
 
 pub returns-in_err-put_line : goal.returns-in_err-put_line

@@ -3,8 +3,8 @@ use Rattle.std.specs.BTreeMap.{insert_entry}
 use Rattle.aprs_log.specs.Reception.{Heard, bytes_cmp}
 use Rattle.aprs_laws.specs.Key.{key_of}
 use Rattle.aprs_book.specs.Keyed.{EndsUpTo}
-use Rattle.aprs_keys.specs.KeyBytes.{head_bytes}
-use Rattle.aprs_keys.proofs.Cases.{on_not_err, on_err}
+use Rattle.aprs_rows.specs.KeyBytes.{head_bytes}
+use Rattle.aprs_rows.proofs.Cases.{on_not_err, on_err}
 use Rattle.aprs_book.proofs.EntryEnds.{stays, err_stays, count_set, count_insert, IsAfter, after_ok, after_err, after_kept, after_new}
 use Rattle.aprs_book.proofs.keyed.KeyedRows.append.Goals as goal
 

@@ -4,10 +4,10 @@ use Rattle.aprs_log.specs.Reception.{bytes_cmp}
 use Rattle.aprs_laws.specs.Key.{key_of}
 use Rattle.aprs_laws.specs.Sound.{Sound}
 use Rattle.aprs_laws.specs.Inserted.{inserted, fits_in_place}
-use Rattle.aprs_keys.specs.KeyBytes.{head_bytes}
+use Rattle.aprs_rows.specs.KeyBytes.{head_bytes}
 use Rattle.aprs_book.proofs.Searches.{none_sound, found_sound}
 use Rattle.aprs_book.proofs.Entries.{IsWritten, written_ok, written_err, written_keyed, written_in_place, IsAbsent, absent_in_place, absent_done}
-use Rattle.aprs_keys.proofs.Cases.{on_not_err, on_err}
+use Rattle.aprs_rows.proofs.Cases.{on_not_err, on_err}
 use Rattle.aprs_book.proofs.EntryEnds.{found_length, count_set, count_insert, inserted_some, filled_insert, written_filled}
 use Rattle.aprs_book.proofs.keyed.KeyedRows.take.Goals as goal
 

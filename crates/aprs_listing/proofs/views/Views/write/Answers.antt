@@ -1,6 +1,6 @@
 use Rattle.std.proofs.Common.{refl, rules, subst}
 use Rattle.aprs_io.specs.Device.{Sends}
-use Rattle.aprs_outbox.proofs.Outlets.{Sends-put, Sends-unput}
+use Rattle.aprs_io.proofs.Outlets.{Sends-put, Sends-unput}
 use Rattle.aprs_listing.specs.Listing.{show_text}
 use Rattle.aprs_listing.proofs.views.Views.write.Goals as goal
 

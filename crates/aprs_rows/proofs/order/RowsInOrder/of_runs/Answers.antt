@@ -1,5 +1,5 @@
 use Rattle.std.proofs.Common.{◌∙◌, sym, rules}
-use Rattle.aprs_keys.proofs.Cases.{on_not_err}
+use Rattle.aprs_rows.proofs.Cases.{on_not_err}
 use Rattle.aprs_laws.specs.Row.{Row}
 use Rattle.aprs_rows.proofs.Orders.{ordered_by_sort, same_members}
 use Rattle.aprs_rows.proofs.order.RowsInOrder.of_runs.Goals as goal

@@ -1,0 +1,59 @@
+//! A writer with bytes on their way to it.
+ghost use Rattle.std.specs.Prelude.{◌≡◌, [], ◌++◌, OnOk};
+ghost use Rattle.aprs_io.specs.Device.{Sends};
+
+use crate::{Counted, WriteFault, push_all, send};
+use arrayvec::ArrayVec;
+use std::io::Write;
+
+/// The most bytes that are held back: twice those of a `BufWriter`, so that they aren't buffered
+/// there again.
+pub const MAX_HELD: usize = 16_384;
+
+/// Has a writer on loan, and holds bytes back that it sends a buffer full at a time.
+#[derive(Drop)]
+pub struct Outlet<'a, W> {
+    w: &'a mut Counted<W>,
+    held: ArrayVec<u8, MAX_HELD>,
+}
+
+impl<'a, W: Write> Outlet<'a, W> {
+    ghost use Rattle.aprs_io.specs.Outlet.{HasTaken, Puts, loan_of, writer_of, held_of};
+
+    /// Holds nothing yet. Takes no memory.
+    pub fn new(w: &'a mut Counted<W>) -> Outlet<'a, W>
+        ensures same_reference { loan_of result ≡ w.entry.ghost_name }
+        ensures nothing { HasTaken W.contents w.old result [] }
+    {
+        Outlet {
+            w,
+            held: ArrayVec::new(),
+        }
+    }
+
+    /// Puts bytes after those that it took before. Takes no memory.
+    pub fn put(&mut self, bytes: &[u8]) -> Result<(), WriteFault>
+        ensures { Puts W.contents result self.old self.new bytes.now }
+    {
+        if self.held.len() + bytes.len() > MAX_HELD {
+            self.flush()?;
+            if bytes.len() > MAX_HELD {
+                return send(self.w, bytes);
+            }
+        }
+        push_all(&mut self.held, bytes);
+        Ok(())
+    }
+
+    /// Sends what it holds, and lets go of it at a fault too. Takes no memory.
+    pub fn flush(&mut self) -> Result<(), WriteFault>
+        ensures same_reference { loan_of self.new ≡ loan_of self.old }
+        ensures sent { Sends W.contents result (writer_of self.old) (writer_of self.new)
+            (held_of self.old) }
+        ensures empty { held_of self.new ≡ [] }
+    {
+        let sent = send(self.w, self.held.as_slice());
+        self.held.clear();
+        sent
+    }
+}

@@ -1,2 +1,0 @@
--- Lemmas of joining.
-mod Names

@@ -1,2 +1,0 @@
--- Lemmas on bytes on their way out.
-pub mod Outlets

@@ -1,0 +1,10 @@
+-- Names of receivers as a book keeps them.
+use Rattle.std.specs.Prelude.{ℕ, List, [], ◌∷◌}
+use Rattle.aprs_rows.specs.declared.kept_names.KeptNames.{KeptNames}
+use Rattle.aprs_rows.specs.declared.kept_names.KeptNames.TheVariants.{One, Many}
+
+module _ {A : Type 0} where
+  -- the names that are kept
+  abbrev pub names_in : KeptNames A → List (List ℕ)
+  names_in (One alloc name) = name ∷ []
+  names_in (Many names) = names.items
