@@ -149,8 +149,10 @@ find . -name .git -prune -o -name out -prune -o -print | awk '
     }
 ' >> "$scratch/there"
 
-# ---- what the documents name ----
+# ---- what the documents name; what is in docs/reading.md comes from the sources ----
 
+set -- README.md CONTRIBUTING.md
+for page in docs/*.md; do [ "$page" = docs/reading.md ] || set -- "$@" "$page"; done
 awk -v failed=0 '
     FILENAME == ARGV[1] { there[$0]; next }
     FILENAME == ARGV[2] { for (i = 1; i <= NF; i++) there[$i]; next }
@@ -182,5 +184,5 @@ awk -v failed=0 '
         }
     }
     END { exit failed }
-' "$scratch/there" "$scratch/others" README.md CONTRIBUTING.md docs/*.md
+' "$scratch/there" "$scratch/others" "$@"
 echo 'what the documents name is there'
