@@ -35,6 +35,9 @@ book_of_all() { cat all.book; }
 receivers_log() { "$@" "$program" merge receivers.log; }
 receivers_book() { "$@" "$program" merge receivers.book; }
 three_receivers() { "$@" "$program" merge three.log; }
+widen_receivers() { "$@" "$program" widen 60 apart.book; }
+widen_three() { "$@" "$program" widen 60 three_apart.book; }
+merge_wide() { "$program" merge --gap 60 apart.log; }
 names_heard() { cut -d ' ' -f 2 receivers.log | sort -u | paste -s -d ,; }
 names_of_row() { sed -n 2p receivers.book | cut -d ' ' -f 4; }
 
@@ -75,16 +78,23 @@ measure_books() {
 }
 
 # measure_receivers LINES: of one transmission, each line by another receiver, and as many lines by three.
+# Once they lie within ten seconds, and once 40 seconds apart: a row each, which a gap of 60 makes one.
 measure_receivers() {
-    local lines=$1
+    local lines=$1 log
     python3 "$here/make_log.py" receivers "$lines" "$lines" > receivers.log
     python3 "$here/make_log.py" receivers 3 "$lines" > three.log
+    python3 "$here/make_log.py" apart "$lines" "$lines" > apart.log
+    python3 "$here/make_log.py" apart 3 "$lines" > three_apart.log
     receivers_log > receivers.book
+    for log in apart three_apart; do "$program" merge "$log.log" > "$log.book"; done
     same "the receivers of $lines lines, and of the row" names_heard names_of_row
     same "the book of $lines receivers, and merge of it" receivers_log receivers_book
+    same "widen of $lines rows, and merge of their log" widen_receivers merge_wide
     take_turns receivers_log receivers_book three_receivers
     time_row 'log of one transmission, a receiver a line / by three' "$lines" 3.0 receivers_log three_receivers
     time_row 'book file of it / log of as many lines by three' "$lines" 3.0 receivers_book three_receivers
+    take_turns widen_receivers widen_three
+    time_row 'widen of a receiver a row into one row / by three' "$lines" 3.0 widen_receivers widen_three
 }
 
 show_load 'before'

@@ -9,6 +9,7 @@ usage: make_log.py LINES               one log of so many lines, to standard out
                                        31 seconds after the last, to standard output
        make_log.py receivers N LINES   one log of one transmission, which N receivers hear within ten
                                        seconds, with so many lines, to standard output
+       make_log.py apart N LINES       the same with each line 40 seconds after the last
 """
 import datetime
 import random
@@ -93,20 +94,21 @@ def write_one_key(rows, out):
         out.write(line(31 * row, "RX1", heard))
 
 
-def write_receivers(count, lines, out):
+def write_receivers(count, lines, apart, out):
     numbers = random.Random(3)
     names = ["RX%07d" % i for i in range(count)]
     numbers.shuffle(names)
     heard = frame("N0CALL", 7, [], b">Hi")
     for i in range(lines):
-        out.write(line(numbers.randrange(10000) / 1000, names[i % count], heard))
+        seconds = 40 * i if apart else numbers.randrange(10000) / 1000
+        out.write(line(seconds, names[i % count], heard))
 
 
 def main():
     if len(sys.argv) == 3 and sys.argv[1] == "one-key":
         write_one_key(int(sys.argv[2]), sys.stdout.buffer)
-    elif len(sys.argv) == 4 and sys.argv[1] == "receivers":
-        write_receivers(int(sys.argv[2]), int(sys.argv[3]), sys.stdout.buffer)
+    elif len(sys.argv) == 4 and sys.argv[1] in ("receivers", "apart"):
+        write_receivers(int(sys.argv[2]), int(sys.argv[3]), sys.argv[1] == "apart", sys.stdout.buffer)
     elif len(sys.argv) == 2:
         write_one_log(int(sys.argv[1]), sys.stdout.buffer)
     elif len(sys.argv) == 3:
