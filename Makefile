@@ -2,7 +2,7 @@
 PREFIX ?= /usr/local
 PROGRAM = crates/aprsbook/out/aprsbook
 
-.PHONY: build libraries run try test words map recipes cookbook bench hostile
+.PHONY: build libraries run try test words map reading recipes cookbook bench hostile
 .PHONY: built install uninstall deb tarball
 
 # how many jobs a proof has: as many as there are processors, at most four, each with 3 GB of free memory
@@ -37,12 +37,13 @@ try:
 test: words recipes
 	rt ci
 
-# the manual page and the completions name what the program has, the documents what the crates have, and the
-# scripts are in order
+# the manual page and the completions name what the program has, the documents what the crates have, the
+# reading list is that of the sources, and the scripts are in order
 words:
 	tests/words.sh
 	tests/names.sh
 	tests/map.sh
+	tests/reading.sh
 	tests/library.sh
 	tests/completions.sh
 	tests/scripts.sh
@@ -51,6 +52,10 @@ words:
 map:
 	build/map.sh > docs/architecture.new
 	mv docs/architecture.new docs/architecture.md
+
+# the pages of docs/reading and the sums in docs/proved.md, written anew of the clauses and definitions
+reading:
+	build/reading.py
 
 # what is tried with the program: the README's example, the old club's book, gaps, outputs that take
 # nothing, what happens to logs and books, each awk, the packages
@@ -70,6 +75,7 @@ cookbook: build
 
 bench: build
 	bench/run.sh $(PROGRAM)
+	bench/books.sh $(PROGRAM)
 
 # the recipes of tracks, a page, a net that runs and an engine, each where its tools are there
 .PHONY: net

@@ -13,6 +13,7 @@ here=$(dirname "$(realpath "$0")")
 work=$(mktemp -d)
 trap 'rm -rf "$work"' EXIT
 cd "$work"
+build_plain "$here"
 
 show_load 'before'
 echo

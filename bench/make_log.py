@@ -7,6 +7,9 @@ usage: make_log.py LINES               one log of so many lines, to standard out
                                        same transmissions, with so many lines in all
        make_log.py one-key ROWS        one log of one transmission after another of the same key, each
                                        31 seconds after the last, to standard output
+       make_log.py receivers N LINES   one log of one transmission, which N receivers hear within ten
+                                       seconds, with so many lines, to standard output
+       make_log.py apart N LINES       the same with each line 40 seconds after the last
 """
 import datetime
 import random
@@ -48,7 +51,8 @@ def information(kind, numbers):
 
 
 def line(seconds, receiver, heard):
-    moment = (START + datetime.timedelta(seconds=seconds)).strftime("%Y-%m-%dT%H:%M:%SZ")
+    at = START + datetime.timedelta(seconds=seconds)
+    moment = at.isoformat(timespec="milliseconds" if at.microsecond else "seconds") + "Z"
     escaped = heard.replace(b"\xdb", b"\xdb\xdd").replace(b"\xc0", b"\xdb\xdc")
     return f"{moment} {receiver} c000{escaped.hex()}c0\n".encode()
 
@@ -90,9 +94,21 @@ def write_one_key(rows, out):
         out.write(line(31 * row, "RX1", heard))
 
 
+def write_receivers(count, lines, apart, out):
+    numbers = random.Random(3)
+    names = ["RX%07d" % i for i in range(count)]
+    numbers.shuffle(names)
+    heard = frame("N0CALL", 7, [], b">Hi")
+    for i in range(lines):
+        seconds = 40 * i if apart else numbers.randrange(10000) / 1000
+        out.write(line(seconds, names[i % count], heard))
+
+
 def main():
     if len(sys.argv) == 3 and sys.argv[1] == "one-key":
         write_one_key(int(sys.argv[2]), sys.stdout.buffer)
+    elif len(sys.argv) == 4 and sys.argv[1] in ("receivers", "apart"):
+        write_receivers(int(sys.argv[2]), int(sys.argv[3]), sys.argv[1] == "apart", sys.stdout.buffer)
     elif len(sys.argv) == 2:
         write_one_log(int(sys.argv[1]), sys.stdout.buffer)
     elif len(sys.argv) == 3:

@@ -1,9 +1,9 @@
 #!/usr/bin/env bash
-# Builds the plain C programs, makes the logs, and measures: what each command takes beside `wc -l` of
-# the log and `xxd -r -p` of its hexadecimal column, then the ratios that are wanted (compare.sh).
+# Builds the plain C programs, makes a log, and measures what checks and conversions of it take, beside
+# `wc -l` of the log and `xxd -r -p` of its hexadecimal column, then the ratios that are wanted (compare.sh).
+# Merges and listings are measured by books.sh.
 # usage: bench/run.sh PROGRAM [LINES]    a million lines where none are asked for
 # environment: RUNS                      of how many runs the best counts (5)
-#              MERGE_RECEPTIONS          lines of the three logs of a merge, in all (200000)
 set -euo pipefail
 export LC_ALL=C
 program=$(realpath "$1")
@@ -13,13 +13,9 @@ here=$(dirname "$(realpath "$0")")
 work=$(mktemp -d)
 trap 'rm -rf "$work"' EXIT
 
-mkdir "$work/plain" "$work/three"
-for source in "$here"/plain/*.c; do
-    "${CC:-cc}" -O2 -Wall -Wextra -o "$work/plain/$(basename "$source" .c)" "$source"
-done
 cd "$work"
+build_plain "$here"
 python3 "$here/make_log.py" "$lines" > heard.log
-python3 "$here/make_log.py" "${MERGE_RECEPTIONS:-200000}" three
 cut -d ' ' -f 3 heard.log > hexadecimal
 xxd -r -p hexadecimal > heard.kiss
 
@@ -33,10 +29,9 @@ awk -v l="$lines" -v w="$wc_time" -v x="$xxd_time" \
     'BEGIN { printf "%d lines; wc -l %.3f s, xxd -r -p %.3f s\n", l, w / 1e6, x / 1e6 }'
 printf '%-16s %8s %8s %8s %13s\n' run seconds to-wc to-xxd peak-memory
 show() {
-    local name=$1 peak
+    local name=$1
     shift
     take_least "$program" "$@"
-    peak=$(plain/peak "$program" "$@")
     awk -v n="$name" -v t="$least" -v w="$wc_time" -v x="$xxd_time" -v p="$peak" \
         'BEGIN { printf "%-16s %8.3f %8.2f %8.2f %9d KiB\n", n, t / 1e6, t / w, t / x, p }'
 }

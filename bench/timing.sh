@@ -1,36 +1,64 @@
 # shellcheck shell=bash
-# What run.sh, compare.sh and growth.sh share. Sourced, not run.
+# What the measurements share. Sourced, not run.
+#
+# A run is the name of a function that runs a command behind the words that the function is given: alone
+# it gives the command's output, and behind plain/cost.c what the command took.
 : "${RUNS:=5}"
+declare -A time_of peak_of
 
-# Sets `taken` to the microseconds that a command took, its output thrown away.
-take_time() {
-    local began=${EPOCHREALTIME/./}
-    "$@" > /dev/null
-    taken=$((${EPOCHREALTIME/./} - began))
+# Builds the plain C programs beside a script into `plain/` of the working folder.
+build_plain() {
+    local source
+    mkdir plain
+    for source in "$1"/plain/*.c; do
+        "${CC:-cc}" -O2 -Wall -Wextra -o "plain/$(basename "$source" .c)" "$source"
+    done
 }
 
-# Sets `least` to the least of RUNS such times.
+# Sets `time_of` and `peak_of` each of some runs to the microseconds of a processor and the KiB of peak
+# memory that it takes: the least of RUNS times. They take turns, so that all meet the same load.
+take_turns() {
+    local i run cost
+    for run; do time_of[$run]='' peak_of[$run]=''; done
+    for ((i = 0; i < RUNS; i++)); do
+        for run; do
+            cost=$("$run" plain/cost)
+            if [ -z "${time_of[$run]}" ] || [ "${cost% *}" -lt "${time_of[$run]}" ]; then
+                time_of[$run]=${cost% *}
+            fi
+            if [ -z "${peak_of[$run]}" ] || [ "${cost#* }" -lt "${peak_of[$run]}" ]; then
+                peak_of[$run]=${cost#* }
+            fi
+        done
+    done
+}
+
+# Sets `least` and `peak` to what a command takes.
 take_least() {
-    local i
-    least=
-    for ((i = 0; i < RUNS; i++)); do
-        take_time "$@"
-        if [ -z "$least" ] || [ "$taken" -lt "$least" ]; then least=$taken; fi
-    done
+    command=("$@")
+    take_turns run_command
+    least=${time_of[run_command]} peak=${peak_of[run_command]}
+}
+run_command() { "$@" "${command[@]}"; }
+
+# same WHAT A B: run A ends well, and its output is that of run B, byte for byte
+same() {
+    if ! "$2" | cmp -s - <("$3"); then
+        echo "$(basename "$0"): the outputs differ: $1" >&2
+        exit 1
+    fi
 }
 
-# Sets `ours` and `theirs` to the least times of two commands, which run in turns so that both meet the
-# same load of the machine. Each is the name of a function or a program without words.
-take_both() {
-    local i
-    ours='' theirs=''
-    for ((i = 0; i < RUNS; i++)); do
-        take_time "$1"
-        if [ -z "$ours" ] || [ "$taken" -lt "$ours" ]; then ours=$taken; fi
-        take_time "$2"
-        if [ -z "$theirs" ] || [ "$taken" -lt "$theirs" ]; then theirs=$taken; fi
-    done
+# A table of ratios, of what two runs took. time_row WHAT LINES GOAL RUN YARDSTICK, and memory_row likewise
+ratio_head() { printf '%-54s %8s %7s %6s  %-7s %s\n' what lines ratio goal '' 'of one / of the other'; }
+ratio_row() {
+    awk -v what="$1" -v lines="$2" -v goal="$3" -v a="$4" -v b="$5" -v form="$6" -v size="$7" 'BEGIN {
+        printf "%-54s %8d %7.2f %6s  %-7s " form "\n", what, lines, a / b, goal,
+            a / b <= goal ? "ok" : "missed", a / size, b / size
+    }'
 }
+time_row() { ratio_row "$1" "$2" "$3" "${time_of[$4]}" "${time_of[$5]}" '%.3f s / %.3f s' 1000000; }
+memory_row() { ratio_row "$1" "$2" "$3" "${peak_of[$4]}" "${peak_of[$5]}" '%.1f MiB / %.1f MiB' 1024; }
 
 # The cores, and how many processes wanted one in the last 1, 5 and 15 minutes.
 show_load() {

@@ -17,7 +17,7 @@ trap 'rm -rf "$scratch"' EXIT
 # what is no name of this repository
 cat > "$scratch/others" << 'end'
 tools: awk callgrind cat decode_aprs direwolf gen_packets grep ifne kissutil moreutils nc nice od ogr2ogr rsync
-shellcheck sort sponge stdbuf stdin stdout text2pcap valgrind zcat MERGE_RECEPTIONS
+shellcheck sort sponge stdbuf stdin stdout text2pcap valgrind zcat
 Rattle: rattle rt contents remaining ensures requires proves file old std Proof.decls out/incremental
 std: Box BufWriter Copy Drop Ok Option PartialEq Result u64::MAX
 standards: DDMM.hh DDDMM.hh atest f0 rust
@@ -149,8 +149,10 @@ find . -name .git -prune -o -name out -prune -o -print | awk '
     }
 ' >> "$scratch/there"
 
-# ---- what the documents name ----
+# ---- what the documents name; what is in docs/reading.md comes from the sources ----
 
+set -- README.md CONTRIBUTING.md
+for page in docs/*.md; do [ "$page" = docs/reading.md ] || set -- "$@" "$page"; done
 awk -v failed=0 '
     FILENAME == ARGV[1] { there[$0]; next }
     FILENAME == ARGV[2] { for (i = 1; i <= NF; i++) there[$i]; next }
@@ -182,5 +184,5 @@ awk -v failed=0 '
         }
     }
     END { exit failed }
-' "$scratch/there" "$scratch/others" README.md CONTRIBUTING.md docs/*.md
+' "$scratch/there" "$scratch/others" "$@"
 echo 'what the documents name is there'

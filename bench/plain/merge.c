@@ -2,8 +2,7 @@
    It reads no book files. */
 #include "plain.h"
 
-/* The gap is in milliseconds. */
-enum { GAP = 30000, BLOCK = 1 << 24 };
+enum { BLOCK = 1 << 24 };
 
 /* The key is the bytes of source, destination (six characters and the SSID each) and information. */
 struct reception {
@@ -16,12 +15,6 @@ struct reception {
 static struct reception *receptions;
 static size_t count, room;
 
-static void *sure(void *memory) {
-    if (memory) return memory;
-    fprintf(stderr, "out of memory\n");
-    exit(4);
-}
-
 static byte *bytes_of(size_t length) {
     static byte *block;
     static size_t left;
@@ -30,11 +23,6 @@ static byte *bytes_of(size_t length) {
     block += length;
     left -= length;
     return given;
-}
-
-static int by_bytes(const byte *a, unsigned a_length, const byte *b, unsigned b_length) {
-    int order = memcmp(a, b, a_length < b_length ? a_length : b_length);
-    return order ? order : (a_length > b_length) - (a_length < b_length);
 }
 
 static int by_key(const struct reception *a, const struct reception *b) {

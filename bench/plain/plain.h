@@ -15,6 +15,19 @@ enum { LONGEST_LINE = 8192, LONGEST_PIECE = 1024, LONGEST_NAME = 16 };
 enum { TO_SECONDS = 19, SHORT_MOMENT = 20, MOMENT_LENGTH = 24 };
 enum { SHORTEST_FIELD = 14, LONGEST_FIELD = 70, LONGEST_INFORMATION = 256 };
 enum { INPUT_ROOM = 1 << 16, OUTPUT_ROOM = 1 << 17, MOST_OUTPUT_OF_A_LINE = 1 << 12 };
+/* How many milliseconds apart neighbours of one transmission may be. */
+enum { GAP = 30000 };
+
+static inline void *sure(void *memory) {
+    if (memory) return memory;
+    fprintf(stderr, "out of memory\n");
+    exit(4);
+}
+
+static inline int by_bytes(const void *a, size_t a_length, const void *b, size_t b_length) {
+    int order = memcmp(a, b, a_length < b_length ? a_length : b_length);
+    return order ? order : (a_length > b_length) - (a_length < b_length);
+}
 
 /* Output */
 
@@ -157,17 +170,20 @@ struct line {
     byte bytes[LONGEST_LINE / 2];
 };
 
-/* Undoes the digits from `at` to `end`. Returns 0 where they are no hexadecimal. */
-static inline int undo_hex(struct line *line, const byte *at, const byte *end) {
+/* Undoes the digits from `at` to `end` into half as many bytes. Returns 0 where they are no hexadecimal. */
+static inline int undo_digits(byte *out, const byte *at, const byte *end) {
     unsigned seen = 0;
-    byte *out = line->bytes;
     for (; at + 1 < end; at += 2) {
         unsigned high = value_of_hex[at[0]], low = value_of_hex[at[1]];
         seen |= high | low;
         *out++ = (byte)(high << 4 | low);
     }
-    line->count = (size_t)(out - line->bytes);
     return at == end && seen < 16;
+}
+
+static inline int undo_hex(struct line *line, const byte *at, const byte *end) {
+    line->count = (size_t)(end - at) / 2;
+    return undo_digits(line->bytes, at, end);
 }
 
 /* Cuts the line from `at` to `end`. Returns 0 where it is faulty. */

@@ -1,0 +1,515 @@
+"""The statement of the crates: their public clauses, and the definitions that these cite.
+
+Reads crates/*/specs/*.antt, crates/*/src/*.rt and crates.txt as text and proves nothing; the tools
+of Rattle are not asked. `Statement()` holds it all. Lines of a definition are counted without
+comments, imports and operators' precedences.
+"""
+import collections
+import glob
+import re
+from typing import NamedTuple
+
+# where a word of specs/ stands: its crate, its module, and its name; a module itself has no name
+Key = collections.namedtuple("Key", "crate module name")
+
+WORD = re.compile(r"[A-Za-z_◌][\w'\-◌]*")
+SYMBOL = re.compile(r"[^\w\s(){}\[\].,;'\"]+|[A-Za-z_]\w*")
+IMPORT = r"\s+Rattle\.(\w+)\.(?:specs\.)?(\w+(?:\.\w+)*)(?:\.\{([^}]*)\}|\s+as\s+(\w+))?"
+START = re.compile(
+    r"(?: *(?:abbrev|unfoldable|record|data|inductive) pub| *pub (?:record|data|inductive)"
+    r"|abbrev|unfoldable|record|data)\s+([^\s:({]+)"
+)
+# of the kit's trait Model a caller sees what the value is; how it is kept, and laws, he doesn't
+UNSEEN = ("view", "invariant", "inverse", "laws", "total", "matches_partial_cmp", "matches_eq")
+
+
+class Definition(NamedTuple):
+    """One of specs/: the comment before it, and its lines, those of comments in it too."""
+
+    key: Key
+    sentence: list
+    text: list
+
+    @property
+    def size(self):
+        """How many lines it has to read."""
+        return sum(not re.match(r"\s*(--|infix)", line) for line in self.text)
+
+
+class Module(NamedTuple):
+    """A file of specs/: what it says of itself, what can be named in it, what it gives on."""
+
+    about: str
+    scope: dict
+    names: list
+
+
+class Item(NamedTuple):
+    """A type or a constant of src/. `value` is what contracts see of it where it isn't itself."""
+
+    crate: str
+    path: str
+    doc: list
+    text: list
+    value: str
+    scope: dict
+
+
+class Call(NamedTuple):
+    """A public function, or what a type promises of a trait: its clauses, by name, in order."""
+
+    crate: str
+    name: str
+    path: str
+    doc: list
+    text: list
+    clauses: list
+    scope: dict
+
+
+# ---- texts
+
+
+def read(path):
+    """The text of a file."""
+    with open(path, encoding="utf8") as file:
+        return file.read()
+
+
+def imports(text, keyword):
+    """What can be named through the imports of a file: the name in it, and where it stands."""
+    found = {}
+    for crate, module, listed, alias in re.findall(keyword + IMPORT, text):
+        for part in listed.split(","):
+            there, _, here = part.strip().partition(" as ")
+            if there:
+                found[here or there] = Key(crate, module, there)
+        if not listed:
+            found[alias or module.split(".")[-1]] = Key(crate, module, "")
+    return found
+
+
+def masked(text):
+    """The text of code with blanks in place of comments, strings and characters."""
+    pattern = r"//[^\n]*|\"(?:\\[\s\S]|[^\"\\])*\"|b?'(?:\\.|[^\\'\n])'"
+    return re.sub(pattern, lambda m: re.sub(r"[^\n]", " ", m.group()), text)
+
+
+def closing(text, at):
+    """Where the bracket that opens at this place is closed."""
+    depth = 0
+    for i in range(at, len(text)):
+        depth += (text[i] in "([{") - (text[i] in ")]}")
+        if depth == 0:
+            return i
+    raise ValueError("a bracket stays open")
+
+
+def dedented(text):
+    """The lines of a text without what all of them begin with, as their first one does."""
+    lines = text.rstrip().split("\n")
+    margin = len(lines[0]) - len(lines[0].lstrip())
+    return [line[margin:] if not line[:margin].strip() else line for line in lines]
+
+
+def doc_before(text, at):
+    """The doc comment of the item that begins at this place, and where its attributes begin."""
+    doc, lines = [], text[:at].split("\n")[:-1]
+    while lines and re.match(r"\s*(///|#\[)", lines[-1]):
+        line = lines.pop().strip()
+        if line.startswith("///"):
+            doc.insert(0, line[3:].strip())
+    return doc
+
+
+# ---- definitions
+
+
+def module_of(path):
+    """The module of a file of specs/, and its definitions."""
+    _, crate, _, file = path.split("/")
+    name, text = file[: -len(".antt")], read(path)
+    lines = text.split("\n")
+    head = [line[2:].strip() for line in lines[: next_code(lines)] if line.startswith("--")]
+    found, comment, precedence = [], [], []
+    for line in lines[next_code(lines) :]:
+        start = START.match(line)
+        if start:
+            key = Key(crate, name, start.group(1))
+            sentence = [c.strip()[2:].strip() for c in comment]
+            found.append(Definition(key, sentence, precedence + [line]))
+        if line.lstrip().startswith("--"):
+            comment.append(line)
+        elif re.match(r"infix", line):
+            precedence = [line]
+        else:
+            if found and not start and re.match(r"\s*\S", line) and not is_outside(line):
+                found[-1].text.extend(comment + [line])
+            comment, precedence = [], []
+    scope = imports(text, r"use")
+    scope.update({d.key.name: d.key for d in found})
+    return Module(" ".join(head), scope, [d.key for d in found]), found
+
+
+def next_code(lines):
+    """The first line that is no comment."""
+    return next((i for i, line in enumerate(lines) if not line.startswith("--")), len(lines))
+
+
+def is_outside(line):
+    """Whether the line belongs to no definition."""
+    return re.match(r"(pub )?(use|mod|module) ", line)
+
+
+def statements(text):
+    """The signature of a definition, and its equations: a name is bound in one of them."""
+    margin = re.match(r" *", text[0]).end()
+    found = [[]]
+    for i, line in enumerate(text):
+        heading = START.match(line) or not re.match(" " * (margin + 1), line)
+        if i and heading and found[-1]:
+            found.append([])
+        found[-1].append(line)
+    return ["\n".join(part) for part in found]
+
+
+# ---- what a text cites
+
+
+def bound_in(text):
+    """The names that the text itself binds: parameters, fields and the patterns of an equation."""
+    groups = re.findall(r"[({]\s*([\w' ]+?)\s*:", text) + re.findall(r"λ ([\w' ]+)\.", text)
+    groups += re.findall(r"^\s+(?:pub )?([\w']+) :", text, re.M)
+    return {word for group in groups for word in group.split()}
+
+
+def words_of(text, scope):
+    """The words of the scope that a text names, an operator where all its parts are there."""
+    bare = re.sub(r"(?<=[\w)'])\.[A-Za-z_][\w'\-]*", " ", text)
+    bare = re.sub(r"([{;]\s*)[\w']+ = ", r"\1", bare)
+    words = set(WORD.findall(bare)) - bound_in(bare)
+    tokens = set(SYMBOL.findall(bare)) | ({">>="} if "←" in bare else set())
+    for name in scope:
+        parts = [part for part in name.split("◌") if part]
+        if "◌" in name and all(part in tokens for part in parts):
+            words.add(name)
+        elif name == "[]" and "[]" in bare:
+            words.add(name)
+    return words & set(scope)
+
+
+def named_in(text, scope):
+    """Where the words stand that a text names: those of the scope, and those of its modules."""
+    text = re.sub(r"(--|//).*|codes \"[^\"]*\"", " ", text)
+    found = {scope[word] for word in words_of(text, scope)}
+    for alias, name in re.findall(r"(?<![\w.])(\w+)\.(\w[\w'\-]*)", text):
+        if alias in scope and scope[alias].name == "":
+            found.add(scope[alias]._replace(name=name))
+    return found
+
+
+# ---- code
+
+
+def given_on(path):
+    """What lib.rt gives on: its public modules, and what it uses of others, by module and name."""
+    text = masked(read(path))
+    modules = set(re.findall(r"^pub mod (\w+);", text, re.M)) | {"lib"}
+    used = set()
+    for module, group in re.findall(r"^pub use ([\w:]+)(?:::\{([^}]*)\})?(?:::\*)?;", text, re.M):
+        if not group:
+            module, _, group = module.rpartition("::")
+        names = [word.split(" as ")[0].strip() for word in group.split(",")]
+        used |= {(module.split("::")[-1], name) for name in names if name}
+    return modules, used
+
+
+def blocks(code):
+    """The blocks `impl` and `trait` of a file: where they stand, of what, and of which trait."""
+    found = []
+    for start in re.finditer(r"^(?:pub )?(impl|trait)\b", code, re.M):
+        brace = code.index("{", start.end())
+        head = re.sub(r"^\s*<.*?>(?= \w)", "", code[start.end() : brace].replace("->", "")).strip()
+        of_trait, _, rest = head.rpartition(" for ")
+        owner = re.match(r"\W*(?:'\w+ )?([\w]+)", rest).group(1)
+        found.append((start.start(), closing(code, brace), owner, start.group(1), of_trait))
+    return found
+
+
+def clauses_after(text, code, at):
+    """The clauses of the function whose name ends at this place, and where they end."""
+    found, i = [], at
+    while i < len(code) and code[i] not in ";{":
+        word = re.compile(r"(requires|ensures)\b\*? *(\w*) *").match(code, i)
+        if word and not code[i - 1].isalnum():
+            end = closing(code, word.end()) + 1
+            named = word.group(1) == "ensures" and word.group(2)
+            found.append((named or word.group(1), text[word.end() : end]))
+            i = end
+        else:
+            i = closing(code, i) + 1 if code[i] in "([" else i + 1
+    return found, i
+
+
+def functions_of(path, is_public):
+    """The public functions of a file, with their clauses."""
+    text, crate = read(path), path.split("/")[1]
+    code, scope, found = masked(text), imports(text, r"ghost use"), []
+    kinds = blocks(code)
+    for head in re.finditer(r"^ *(pub(?:\(\w+\))? )?(?:const )?fn (\w+)", code, re.M):
+        inside = [block for block in kinds if block[0] < head.start() < block[1]]
+        owner, kind, trait = inside[0][2:] if inside else ("", "", "")
+        seen = head.group(1) == "pub " or kind == "trait" or trait
+        if not seen or not is_public(path, owner, head.group(2)):
+            continue
+        clauses, end = clauses_after(text, code, head.end())
+        name = (owner + "::" if owner else "") + head.group(2)
+        doc, whole = doc_before(text, head.start()), dedented(text[head.start() : end])
+        found.append(Call(crate, name, path, doc, whole, clauses, scope))
+    return found
+
+
+def promises_of(path, is_public):
+    """What the public types of a file promise of traits, the kit's `ghost` items in an `impl`."""
+    text, crate = read(path), path.split("/")[1]
+    code, scope, found = masked(text), imports(text, r"ghost use"), []
+    for start, end, owner, _, trait in blocks(code):
+        if not trait or not is_public(path, owner, ""):
+            continue
+        promised = []
+        for ghost in re.finditer(r"^    ghost (\w+) = \{", code[start:end], re.M):
+            brace = start + ghost.end() - 1
+            if ghost.group(1) not in UNSEEN:
+                promised.append((ghost.group(1), text[brace : closing(code, brace) + 1]))
+        found.append(Call(crate, owner, path, [], [], promised, scope))
+    return found
+
+
+def values_in(text, code):
+    """What contracts see of the types of a file, by their names."""
+    found = {}
+    for start, end, owner, _, trait in blocks(code):
+        value = re.search(r"^    ghost Value = \{", code[start:end], re.M)
+        if trait == "Model" and value:
+            brace = start + value.end() - 1
+            found[owner] = " ".join(text[brace + 1 : closing(code, brace)].split())
+    return found
+
+
+def items_of(path):
+    """The types and constants of a file of src/, by name."""
+    text, crate = read(path), path.split("/")[1]
+    code, scope, found = masked(text), imports(text, r"ghost use"), {}
+    values = values_in(text, code)
+    for head in re.finditer(r"^(?:pub(?:\(\w+\))? )?(struct|enum|const) (\w+)", code, re.M):
+        i = head.end()
+        while code[i] not in "{;":
+            i = closing(code, i) + 1 if code[i] in "([" else i + 1
+        end = closing(code, i) + 1 if code[i] == "{" else i + 1
+        body = re.sub(r"\n *#\[[^\n]*\]", "", text[head.start() : end]).split("\n")
+        doc, name = doc_before(text, head.start()), head.group(2)
+        found[name] = Item(crate, path, doc, body, values.get(name, ""), scope)
+    return found
+
+
+# ---- the whole
+
+
+class Statement:
+    """All modules, definitions, items and calls of the crates, and what cites what."""
+
+    def __init__(self):
+        self.modules, self.definitions, self.items, self.given = {}, {}, {}, {}
+        self.calls = []
+        for path in sorted(glob.glob("crates/*/specs/*.antt")):
+            module, found = module_of(path)
+            _, crate, _, file = path.split("/")
+            self.modules[crate, file[: -len(".antt")]] = module
+            self.definitions.update({d.key: d for d in found})
+        for lib in sorted(glob.glob("crates/*/src/lib.rt")):
+            self.read_crate(lib)
+        self.crates = re.findall(r"^([a-z]\w*):", read("crates.txt"), re.M)
+        self.cites = {key: self.cited_by(key) for key in self.definitions}
+        self.order = self.in_order()
+
+    def read_crate(self, lib):
+        """Reads the files of src/ beside this lib.rt."""
+        crate = lib.split("/")[1]
+        modules, self.given[crate] = given_on(lib)
+        types = {name for _, name in self.given[crate]}
+
+        def is_public(path, owner, function):
+            file = path.split("/")[-1][: -len(".rt")]
+            given = owner in types if owner else (file, function) in self.given[crate]
+            return file in modules or given
+
+        for path in sorted(glob.glob(f"crates/{crate}/src/**/*.rt", recursive=True)):
+            for name, item in items_of(path).items():
+                self.items[crate, name] = item
+            self.calls += functions_of(path, is_public) + promises_of(path, is_public)
+
+    def found(self, key):
+        """The definition that a name stands for, through what modules give on; or None."""
+        for _ in range(8):
+            if key in self.definitions:
+                return key
+            module = self.modules.get(key[:2])
+            if module is None:
+                lib = self.modules.get((key.crate, "Lib"))
+                given = lib and lib.scope.get(key.module)
+                if not given or given.name:
+                    return None
+                key = given._replace(name=key.name)
+                continue
+            key = module.scope.get(key.name)
+            if key is None or key.name == "":
+                return None
+        return None
+
+    def named_by(self, key):
+        """Where all the words stand that a definition names, its own name apart."""
+        scope, text = self.modules[key[:2]].scope, self.definitions[key].text
+        parts = statements(text)
+        return {word for part in parts for word in named_in(part, scope)} - {key}
+
+    def cited_by(self, key):
+        """The definitions that a definition cites itself."""
+        return {self.found(word) for word in self.named_by(key)} - {None, key}
+
+    def roots(self, clauses, scope):
+        """The definitions that clauses cite themselves."""
+        words = {word for _, text in clauses for word in named_in(text, scope)}
+        return {self.found(word) for word in words} - {None}
+
+    def closure(self, roots):
+        """The definitions that are cited, directly or through others, lowest first."""
+        seen, todo = set(), list(roots)
+        while todo:
+            key = todo.pop()
+            if key not in seen:
+                seen.add(key)
+                todo += self.cites[key]
+        return [key for key in self.order if key in seen]
+
+    def in_order(self):
+        """All definitions, each after those that it cites, and else as their files have them."""
+        listed = []
+        below = lambda module: {key[:2] for key in self.modules[module].scope.values()}
+        rank = {crate: i for i, crate in enumerate(self.crates)}
+        for module in sorted(self.modules, key=lambda m: (rank.get(m[0], len(rank)), m[1])):
+            lowest_first(module, lambda m: sorted(below(m) & set(self.modules)), listed)
+        order, position = [], {}
+        for module in listed:
+            for key in self.modules[module].names:
+                position[key] = len(position)
+        for key in position:
+            lowest_first(key, lambda k: sorted(self.cites[k], key=position.get), order)
+        return order
+
+    def size(self, keys):
+        """How many lines these definitions have."""
+        return sum(self.definitions[key].size for key in keys)
+
+    def wanted(self, word):
+        """The clauses that CALL or CALL.CLAUSE names, each with its scope."""
+        name, _, clause = word.partition(".")
+        found = []
+        for call in self.calls:
+            if call.name == name or call.name.endswith("::" + name):
+                found += [(c, call.scope) for c in call.clauses if clause in ("", c[0])]
+        if not found:
+            raise LookupError(f"no public function has the clauses of {word}")
+        return found
+
+    def call(self, name):
+        """The one public function of this name."""
+        found = [call for call in self.calls if call.name == name and call.text]
+        if len(found) != 1:
+            raise LookupError(f"{len(found)} public functions have the name {name}")
+        return found[0]
+
+    def of(self, words):
+        """The definitions to believe what calls or their clauses say, lowest first."""
+        roots = set()
+        for word in words:
+            for clause, scope in self.wanted(word):
+                roots |= self.roots([clause], scope)
+        return self.closure(roots)
+
+    def public(self):
+        """The definitions that all public clauses cite, lowest first."""
+        roots = set()
+        for call in self.calls:
+            roots |= self.roots(call.clauses, call.scope)
+        return self.closure(roots)
+
+    # ---- types and constants of the code, and words of the kit
+
+    def item(self, crate, name):
+        """The type or constant that a name stands for in a crate, also by what it gives on."""
+        if (crate, name) in self.items:
+            return crate, name
+        for other, used in self.given.get(crate, ()):
+            if used == name and other in self.given and other != crate:
+                return self.item(other, name)
+        return None
+
+    def item_of_word(self, word):
+        """The type or constant that a word of specs/ stands for, or None."""
+        parts = word.module.split(".")[1:] + [word.name]
+        if not word.module.startswith("declared"):
+            return None
+        if "TheConstants" in parts:
+            return self.item(word.crate, word.name)
+        names = [part for part in parts if part[:1].isupper()]
+        return self.item(word.crate, names[0]) if names else None
+
+    def items_in(self, path, text):
+        """The types that a text of a file of src/ names."""
+        crate, code = path.split("/")[1], masked(read(path))
+        home = {}
+        for other, group in re.findall(r"^use (\w+)::(?:\w+::)*([\w, {}\n]+);", code, re.M):
+            home.update({name: other for name in re.findall(r"\w+", group)})
+        words = dict.fromkeys(re.findall(r"(?<![.\w])[A-Z]\w*", masked(text)))
+        found = [self.item(home.get(name, crate), name) or self.item(crate, name) for name in words]
+        return [key for key in found if key]
+
+    def items_of_call(self, call):
+        """The types that a function's head and clauses name."""
+        return self.items_in(call.path, "\n".join(call.text))
+
+    def items_of(self, keys, more=()):
+        """The types and constants that definitions name, and those in them that callers see."""
+        found, todo = {}, list(more)
+        for key in keys:
+            todo += filter(None, map(self.item_of_word, self.named_by(key)))
+        while todo:
+            key = todo.pop()
+            if key not in found:
+                found[key] = self.items[key]
+                todo += self.items_in(found[key].path, seen_text(found[key]))
+        rank = {crate: i for i, crate in enumerate(self.crates)}
+        return sorted(found, key=lambda key: (rank.get(key[0], len(rank)), found[key].path, key))
+
+    def kit_words(self, key):
+        """The words of the kit that a definition names."""
+        ours = {crate for crate, _ in self.modules}
+        words = (word for word in self.named_by(key) if word.crate not in ours and word.name)
+        return [word for word in words if not word.module.startswith("declared")]
+
+
+def seen_text(item):
+    """The part of a type's text that a caller sees: an enum's, and the public fields of others."""
+    if item.value or re.match(r"(pub(\(\w+\))? )?const", item.text[0]):
+        return ""
+    if re.match(r"(pub(\(\w+\))? )?enum", item.text[0]):
+        return "\n".join(re.sub(r"^    \w+", "", line) for line in item.text[1:])
+    return "\n".join(line for line in item.text[1:] if re.match(r" *pub ", line))
+
+
+def lowest_first(key, below, done, above=()):
+    """Puts a key after all those below it."""
+    if key not in done and key not in above:
+        for other in below(key):
+            lowest_first(other, below, done, above + (key,))
+        done.append(key)

@@ -1,0 +1,35 @@
+#!/bin/sh
+# Checks that docs/reading.md, the pages in docs/reading and the sums in docs/proved.md are what the
+# sources say, and that no public clause cites a module of specs/ whose head says that none does.
+# Needs a POSIX system and Python 3, and says that it leaves this out where there is no Python.
+set -eu
+cd "$(dirname "$0")/.."
+if ! command -v python3 > /dev/null; then
+    echo 'left out: the reading list (python3 is not there)'
+    exit 0
+fi
+scratch=$(mktemp -d)
+trap 'rm -rf "$scratch"' EXIT
+failed=0
+fail() {
+    echo "tests/reading.sh: $*" >&2
+    failed=1
+}
+
+build/reading.py --into "$scratch"
+for page in reading.md reading proved.md; do
+    if ! diff -r "docs/$page" "$scratch/$page" > "$scratch/said" 2>&1; then
+        fail "docs/$page is another one: make reading"
+        head -n 8 "$scratch/said" >&2
+    fi
+done
+build/reading.py --cited > "$scratch/said"
+# these two say so and are cited: Steps by what a line of a log is, Window by what its reader holds
+sed '/^crates\/aprs_log\/specs\/Steps\.antt/d; /^crates\/aprs_log\/specs\/Window\.antt/d' \
+    "$scratch/said" > "$scratch/cited"
+while IFS= read -r line; do
+    fail "its head says that no public clause cites it, and one does: $line"
+done < "$scratch/cited"
+
+[ $failed = 0 ] && echo 'the reading list is what the sources say'
+exit $failed
