@@ -10,7 +10,7 @@ JOBS ?= $(shell awk -v n=$$(nproc) '/MemAvailable/ { most = int($$2 / 3000000) }
     END { if (n > 4) n = 4; if (n > most) n = most; print (n < 1 ? 1 : n) }' /proc/meminfo)
 
 # what is proved beside the book and what leads to it, which take longer: one job each, and after these
-BESIDE = aprs_outbox aprs_report aprs_convert aprs_command aprs_listing
+BESIDE = aprs_report aprs_convert aprs_command aprs_listing
 
 # the program alone, each call of it proved: crates that don't stand on each other side by side, and last
 # the program with one job, which is quicker than with more
