@@ -154,11 +154,7 @@ fn gap_at_end<R: Read, A: Allocator + Copy>(
 }
 
 /// The book of the rows of a store, which are those of a book with this gap.
-fn book_in<A: Allocator + Copy>(
-    alloc: A,
-    gap: Gap,
-    store: &RowStore<A>,
-) -> Result<Book<A>, Memory>
+fn book_in<A: Allocator + Copy>(alloc: A, gap: Gap, store: &RowStore<A>) -> Result<Book<A>, Memory>
     requires { IsSoundBook (record { gap = gap; rows = store.now }) }
     ensures { IfOk result (λ book. book ≡ record { gap = gap; rows = store.now }) }
 {

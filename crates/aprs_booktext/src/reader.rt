@@ -190,8 +190,10 @@ impl<A: Allocator + Copy> BookReader<A> {
     /// The fault where the text ends so and may not.
     pub fn fault_at(&self, ending: Ending) -> BookFault
         requires { self.now.count ≤ most_input }
-        ensures { result ≡ record { line = line_number self.now.stage self.now.count;
-            cause = ending_cause ending } }
+        ensures { result ≡ record {
+          line = line_number self.now.stage self.now.count;
+          cause = ending_cause ending;
+        } }
     {
         self.fault(ending_cause(ending))
     }

@@ -1,5 +1,4 @@
-use Rattle.std.proofs.Common.{◌∙◌, refl, sym, ap}
-use Rattle.hex.specs.Hex.{encode_lower}
+use Rattle.std.proofs.Common.{◌∙◌, refl, sym}
 use Rattle.aprs_outbox.proofs.Outlets.{Puts-fails, Puts-is, Puts-then}
 use Rattle.aprs_booktext.proofs.TextParts.{told_parts}
 use Rattle.aprs_booktext.proofs.write.put_book_row.Goals as goal
