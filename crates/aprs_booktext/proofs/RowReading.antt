@@ -6,7 +6,7 @@ use Rattle.aprs_log.specs.Moment.{moment_text_in}
 use Rattle.aprs_log.specs.declared.moment_form.MomentForm.{MomentForm}
 use Rattle.aprs_log.specs.Receiver.{IsName}
 use Rattle.aprs_laws.specs.Row.{Row, last_of}
-use Rattle.aprs_rows.specs.Rows.{row_of}
+use Rattle.aprs_rows.specs.Names.{row_of_text}
 use Rattle.aprs_booktext.specs.Lines.{pieces}
 use Rattle.aprs_booktext.specs.FirstFault.{HasNoFrame}
 use Rattle.aprs_booktext.specs.RowFields.{SpellsBytes, SpellsFrame, IsWrongFrame, IsWrongRow}
@@ -58,7 +58,7 @@ module _ (form : MomentForm) (line t f l n w d : List ℕ)
       (first_is : IsWritable form first × (f ≡ moment_text_in form first))
       (last_is : IsWritable form last × (l ≡ moment_text_in form last))
       (names_are : All IsName (pieces 44 n)) (name : IsName w) where
-    spelled : SpellsBytes d frame → IsSpelled form (row_of first last n w frame)
+    spelled : SpellsBytes d frame → IsSpelled form (row_of_text first last n w frame)
     spelled h = record {
       first = first_is.0;
       last = last_is.0;
@@ -69,8 +69,8 @@ module _ (form : MomentForm) (line t f l n w d : List ℕ)
       few = h.few;
     }
 
-    lined : SpellsBytes d frame → line ≡ row_line form (row_of first last n w frame)
-    lined h = spelled_by form line t f l n w d is (row_of first last n w frame)
+    lined : SpellsBytes d frame → line ≡ row_line form (row_of_text first last n w frame)
+    lined h = spelled_by form line t f l n w d is (row_of_text first last n w frame)
         (record {
           tag = tag_is;
           first = first_is.1;
@@ -80,13 +80,13 @@ module _ (form : MomentForm) (line t f l n w d : List ℕ)
           frame = h.digits_are;
         })
 
-    pub row_found : SpellsFrame d frame → IsBookRow form (row_of first last n w frame)
-        × (line ≡ row_line form (row_of first last n w frame))
+    pub row_found : SpellsFrame d frame → IsBookRow form (row_of_text first last n w frame)
+        × (line ≡ row_line form (row_of_text first last n w frame))
     row_found h = (record { spelled = spelled h.spelled; frame = h.is }, lined h.spelled)
 
     pub no_frame : SpellsBytes d frame → IsErr (frame_of frame) → HasNoFrame form line
     no_frame h err = record {
-      row = row_of first last n w frame;
+      row = row_of_text first last n w frame;
       is = spelled h;
       spelled =
           lined h;

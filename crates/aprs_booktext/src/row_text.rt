@@ -3,7 +3,7 @@ ghost use Rattle.std.specs.Prelude.{◌≡◌, ◌≤◌, length, All};
 ghost use Rattle.std.specs.List.{join_with_byte};
 ghost use Rattle.aprs_log.specs.Receiver.{IsName};
 ghost use Rattle.aprs_rows.specs.Names.{names_in};
-ghost use Rattle.aprs_rows.specs.Rows.{row_of};
+ghost use Rattle.aprs_rows.specs.Names.{row_of_text};
 
 use aprs_ax25::Frame;
 use aprs_log::Moment;
@@ -26,11 +26,11 @@ impl<'a> Model for RowText<'a> {
     ghost use Rattle.aprs_laws.specs.Row.{Row as RowValue};
     ghost use Rattle.aprs_log.specs.Receiver.{IsName};
     ghost use Rattle.aprs_rows.specs.Names.{names_in};
-    ghost use Rattle.aprs_rows.specs.Rows.{row_of};
+    ghost use Rattle.aprs_rows.specs.Names.{row_of_text};
 
     ghost Value = { RowValue };
 
-    ghost view = { λ r. row_of r.first r.last r.receivers.now r.receiver.now r.frame };
+    ghost view = { λ r. row_of_text r.first r.last r.receivers.now r.receiver.now r.frame };
 
     ghost invariant = { λ r. All IsName (names_in r.receivers.now) × IsName r.receiver.now };
 }
@@ -46,7 +46,7 @@ impl<'a> RowText<'a> {
     ) -> RowText<'a>
         requires names { All IsName (names_in receivers.now) }
         requires name { IsName receiver.now }
-        ensures { result ≡ row_of first last receivers.now receiver.now frame }
+        ensures { result ≡ row_of_text first last receivers.now receiver.now frame }
     {
         RowText {
             first,

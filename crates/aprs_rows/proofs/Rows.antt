@@ -14,7 +14,9 @@ use Rattle.aprs_laws.specs.Sound.{IsSoundRow}
 use Rattle.aprs_rows.specs.declared.entry.Entry.{Entry}
 use Rattle.aprs_laws.specs.JoinRow.{single}
 use Rattle.aprs_laws.proofs.Coalescing.{single_is_sound}
-use Rattle.aprs_rows.specs.Rows.{row_of, IsTold, size_of, entry_row, IsRowIn, rows_of, rows_in, AreOf, AreRowsIn, AreSoundRows}
+use Rattle.aprs_rows.specs.Names.{row_of_text}
+
+use Rattle.aprs_rows.specs.Rows.{IsTold, size_of, entry_row, IsRowIn, rows_of, rows_in, AreOf, AreRowsIn, AreSoundRows}
 use Rattle.aprs_rows.proofs.NameTexts.{name_alone}
 
 take_front : (n : ℕ) (a b : List ℕ) → n ≤ length a → take n (a ++ b) ≡ take n a
@@ -126,7 +128,7 @@ module _ {E : Type 0} (size : E → ℕ) (row : E → List ℕ → Row) (Fits : 
 
 -- the row of bytes whose parts have the lengths that the entry says
 pub entry_row_of : (e : Entry) (a b c : List ℕ) → e.receivers ≡ length a → e.receiver ≡ length b
-    → entry_row e (a ++ (b ++ c)) ≡ row_of e.first e.last a b c
+    → entry_row e (a ++ (b ++ c)) ≡ row_of_text e.first e.last a b c
 entry_row_of e a b c m n =
     let first : take e.receivers (a ++ (b ++ c)) ≡ a =
     ap (λ k. take k (a ++ (b ++ c))) m ∙ take-append_seam a (b ++ c) in
@@ -136,11 +138,11 @@ entry_row_of e a b c m n =
     ap (take e.receiver) rest ∙ ap (λ k. take k (b ++ c)) n ∙ take-append_seam b c in
     let third : drop e.receiver (drop e.receivers (a ++ (b ++ c))) ≡ c =
     ap (drop e.receiver) rest ∙ ap (λ k. drop k (b ++ c)) n ∙ drop-append_seam b c in
-    λ t. row_of e.first e.last (first t) (second t) (third t)
+    λ t. row_of_text e.first e.last (first t) (second t) (third t)
 
 pub row_in : (e : Entry) (a b c : List ℕ) → e.receivers ≡ length a → e.receiver ≡ length b
     → e.frame ≡ length c → e.info ≡ length (parts_of c).info
-    → IsSoundRow (row_of e.first e.last a b c) → IsTold (row_of e.first e.last a b c)
+    → IsSoundRow (row_of_text e.first e.last a b c) → IsTold (row_of_text e.first e.last a b c)
     → IsRowIn e (a ++ (b ++ c))
 row_in e a b c m n k i s h =
     let is = entry_row_of e a b c m n in
@@ -181,7 +183,7 @@ none_exactly es bytes rows n b e l h = (
 -- ---- a row of one reception
 
 pub single_is : (m : ℕ) (r f : List ℕ) → IsName r
-    → row_of m m r r f ≡ single (record { moment = m; receiver = r; frame = f })
+    → row_of_text m m r r f ≡ single (record { moment = m; receiver = r; frame = f })
 single_is m r f h = ap (λ names. record {
   first = m;
   receivers = names;
@@ -189,12 +191,12 @@ single_is m r f h = ap (λ names. record {
 }) (name_alone r h)
 
 pub single_told : (m : ℕ) (r f : List ℕ) → IsName r → FrameOf (parts_of f) f
-    → IsTold (row_of m m r r f)
+    → IsTold (row_of_text m m r r f)
 single_told m r f h p =
     subst IsTold (sym (single_is m r f h))
     (record { names_are = All-cons IsName r [] h (All-nil IsName); name_is = h; frame_is = p })
 
-pub single_sound : (m : ℕ) (r f : List ℕ) → IsName r → IsSoundRow (row_of m m r r f)
+pub single_sound : (m : ℕ) (r f : List ℕ) → IsName r → IsSoundRow (row_of_text m m r r f)
 single_sound m r f h = subst IsSoundRow (sym (single_is m r f h)) (single_is_sound _)
 
 -- ---- one more row
@@ -206,9 +208,9 @@ pub record HasMore (es more : List Entry) (bytes longer : List ℕ) (x : Row) : 
 
 pub more_rows : (es more : List Entry) (bytes longer : List ℕ) (e : Entry) (a b c : List ℕ)
     → AreRowsIn es bytes → e.receivers ≡ length a → e.receiver ≡ length b → e.frame ≡ length c
-    → e.info ≡ length (parts_of c).info → IsSoundRow (row_of e.first e.last a b c)
-    → IsTold (row_of e.first e.last a b c) → more ≡ es ++ e ∷ []
-    → longer ≡ ((bytes ++ a) ++ b) ++ c → HasMore es more bytes longer (row_of e.first e.last a b c)
+    → e.info ≡ length (parts_of c).info → IsSoundRow (row_of_text e.first e.last a b c)
+    → IsTold (row_of_text e.first e.last a b c) → more ≡ es ++ e ∷ []
+    → longer ≡ ((bytes ++ a) ++ b) ++ c → HasMore es more bytes longer (row_of_text e.first e.last a b c)
 more_rows es more bytes longer e a b c l m n k i s t p q =
     let row = row_in e a b c m n k i s t in
     let all : longer ≡ bytes ++ (a ++ (b ++ c)) =

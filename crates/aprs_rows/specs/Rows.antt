@@ -7,17 +7,8 @@ use Rattle.aprs_log.specs.Reception.{Heard}
 use Rattle.aprs_laws.specs.Lists.{◌∈◌}
 use Rattle.aprs_laws.specs.Row.{Row}
 use Rattle.aprs_laws.specs.Sound.{IsSoundRow}
-use Rattle.aprs_rows.specs.Names.{names_in}
+use Rattle.aprs_rows.specs.Names.{row_of_text}
 use Rattle.aprs_rows.specs.declared.entry.Entry.{Entry}
-
--- the row of a first and a last moment, the text of its receivers, and the greatest reception's
--- receiver and frame
-abbrev pub row_of : ℕ → ℕ → List ℕ → List ℕ → List ℕ → Row
-row_of start end text who bytes = record {
-  first = start;
-  receivers = names_in text;
-  greatest = record { moment = end; receiver = who; frame = bytes };
-}
 
 -- The receivers have names, and so has that of the greatest reception, whose frame is a UI frame.
 pub record IsTold (x : Row) : Type 0 where
@@ -32,7 +23,7 @@ size_of e = e.receivers + (e.receiver + e.frame)
 -- the row of these bytes, as the entry says how many are whose
 abbrev pub entry_row : Entry → List ℕ → Row
 entry_row e bytes =
-    row_of e.first e.last (take e.receivers bytes) (take e.receiver (drop e.receivers bytes))
+    row_of_text e.first e.last (take e.receivers bytes) (take e.receiver (drop e.receivers bytes))
     (drop e.receiver (drop e.receivers bytes))
 
 -- The bytes are those of a row that is sound by itself, as the entry says.

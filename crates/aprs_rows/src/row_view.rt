@@ -7,7 +7,7 @@ ghost use Rattle.aprs_log.specs.Receiver.{IsName};
 ghost use Rattle.aprs_laws.specs.Key.{key_of, key_cmp};
 ghost use Rattle.aprs_laws.specs.Row.{last_of, row_cmp, row_key};
 ghost use Rattle.aprs_rows.specs.Names.{names_in};
-ghost use Rattle.aprs_rows.specs.Rows.{row_of};
+ghost use Rattle.aprs_rows.specs.Names.{row_of_text};
 
 use crate::head::{Head, key_order};
 use crate::names::cut_name;
@@ -24,7 +24,7 @@ use std::marker::Model;
 pub struct RowView<'a> {
     first: Moment,
     last: Moment,
-    receivers: &'a [u8],
+    names: &'a [u8],
     receiver: &'a [u8],
     frame: &'a [u8],
     info_at: usize,
@@ -34,14 +34,15 @@ impl<'a> Model for RowView<'a> {
     ghost use Rattle.std.specs.Prelude.{◌≡◌, ◌≤◌, length, drop};
     ghost use Rattle.aprs_ax25.specs.FrameFault.{parts_of};
     ghost use Rattle.aprs_laws.specs.Row.{Row as RowValue};
-    ghost use Rattle.aprs_rows.specs.Rows.{row_of, IsTold};
+    ghost use Rattle.aprs_rows.specs.Names.{row_of_text};
+    ghost use Rattle.aprs_rows.specs.Rows.{IsTold};
 
     ghost Value = { RowValue };
 
-    ghost view = { λ r. row_of r.first r.last r.receivers.now r.receiver.now r.frame.now };
+    ghost view = { λ r. row_of_text r.first r.last r.names.now r.receiver.now r.frame.now };
 
     ghost invariant = { λ r.
-        IsTold (row_of r.first r.last r.receivers.now r.receiver.now r.frame.now)
+        IsTold (row_of_text r.first r.last r.names.now r.receiver.now r.frame.now)
         × (r.info_at ≤ length r.frame.now)
         × (drop r.info_at r.frame.now ≡ (parts_of r.frame.now).info) };
 }
@@ -57,13 +58,13 @@ impl<'a> RowView<'a> {
     ) -> RowView<'a>
         requires names { All IsName (names_in receivers.now) }
         requires name { IsName receiver.now }
-        ensures { result ≡ row_of first last receivers.now receiver.now frame.now }
+        ensures { result ≡ row_of_text first last receivers.now receiver.now frame.now }
     {
         let bytes = frame.bytes();
         RowView {
             first,
             last,
-            receivers,
+            names: receivers,
             receiver,
             frame: bytes,
             info_at: bytes.len() - frame.info().len(),
@@ -83,12 +84,12 @@ impl<'a> RowView<'a> {
         requires name { IsName receiver.now }
         requires frame { FrameOf (parts_of frame.now) frame.now }
         requires info { info ≡ length (parts_of frame.now).info }
-        ensures { result ≡ row_of first last receivers.now receiver.now frame.now }
+        ensures { result ≡ row_of_text first last receivers.now receiver.now frame.now }
     {
         RowView {
             first,
             last,
-            receivers,
+            names: receivers,
             receiver,
             frame,
             info_at: frame.len() - info,
@@ -115,7 +116,7 @@ impl<'a> RowView<'a> {
         ensures names { names_in result.now ≡ self.now.receivers }
         ensures each { All IsName self.now.receivers }
     {
-        self.receivers
+        self.names
     }
 
     /// The name of the receiver of the greatest reception. Takes no memory.

@@ -7,7 +7,8 @@ ghost use Rattle.aprs_laws.specs.Lists.{◌∈◌, SameMembers};
 ghost use Rattle.aprs_laws.specs.Row.{Row};
 ghost use Rattle.aprs_laws.specs.Sound.{IsSoundRow};
 ghost use Rattle.aprs_ax25.specs.FrameFault.{parts_of};
-ghost use Rattle.aprs_rows.specs.Rows.{row_of, IsTold};
+ghost use Rattle.aprs_rows.specs.Names.{row_of_text};
+ghost use Rattle.aprs_rows.specs.Rows.{IsTold};
 
 use crate::entry::Entry;
 use crate::laid::Laid;
@@ -147,10 +148,10 @@ impl<A: Allocator + Copy> RowStore<A> {
         requires frame { entry.frame ≡ length frame.now }
         requires info { entry.info ≡ length (parts_of frame.now).info }
         requires sound { IsSoundRow
-            (row_of entry.first entry.last receivers.now receiver.now frame.now) }
-        requires told { IsTold (row_of entry.first entry.last receivers.now receiver.now frame.now) }
+            (row_of_text entry.first entry.last receivers.now receiver.now frame.now) }
+        requires told { IsTold (row_of_text entry.first entry.last receivers.now receiver.now frame.now) }
         ensures pushed { OnOk result (self.new ≡ self.old
-            ++ row_of entry.first entry.last receivers.now receiver.now frame.now ∷ []) }
+            ++ row_of_text entry.first entry.last receivers.now receiver.now frame.now ∷ []) }
         ensures unchanged { OnErr result (self.new ≡ self.old) }
     {
         make_room(&mut self.entries, 1)?;

@@ -32,7 +32,7 @@ fn hundred_lines(alloc: Global, first: u64, name: &[u8]) -> Result<Vec<u8>, Fail
 }
 
 /// The text of a book.
-fn text_of(alloc: Global, book: &Book) -> Result<Vec<u8>, Fail> {
+pub fn text_of(alloc: Global, book: &Book) -> Result<Vec<u8>, Fail> {
     let mut out = Counted::new(Vec::new(alloc));
     write_book(&mut out, book).ok().ok_or("memory")?;
     Ok(out.into_inner())

@@ -5,8 +5,9 @@ use crate::last_known::{callsign, frame_of};
 use crate::plain_book::{Plain, PlainBook, PlainRow};
 use crate::vectors::{REPEATED, receiver};
 use aprs_ax25::Frame;
-use aprs_book::{Book, Heard, Row};
+use aprs_book::{Book, Gap, Heard, Row};
 use aprs_log::{Moment, Receiver, Reception};
+use aprs_rows::RowStore;
 use std::alloc::Global;
 use std::test::Fail;
 
@@ -204,11 +205,20 @@ const FIVE: [Plain; 5] = [
     },
 ];
 
-/// Takes the five in the order of this number, below 120, into both.
+/// Whether this is the book of a store's rows.
+fn is_of_store(alloc: Global, store: &RowStore, book: &Book) -> Result<bool, Fail> {
+    let order = store.in_order().ok().ok_or("memory")?;
+    let rows = order.coalesced(Gap::STANDARD).ok().ok_or("memory")?;
+    let made = Book::of_rows(alloc, &rows).ok().ok_or("memory")?;
+    Ok(made.same(book))
+}
+
+/// Takes the five in the order of this number, below 120, into both, and into a store.
 fn agrees_in_order(alloc: Global, frames: &[Frame], order: usize) -> Result<bool, Fail> {
     let mut left = Vec::new(alloc);
     left.extend_from_slice(&FIVE)?;
     let mut both = Both::new(alloc);
+    let mut store = RowStore::new(alloc);
     let mut rest = order;
     for size in [5usize, 4, 3, 2, 1] {
         let place = rest % size;
@@ -216,12 +226,15 @@ fn agrees_in_order(alloc: Global, frames: &[Frame], order: usize) -> Result<bool
         if place >= left.len() {
             return Ok(false);
         }
-        both.take(alloc, frames, left.remove(place))?;
+        let x = left.remove(place);
+        let heard = reception(frames, x)?;
+        store.push_reception(&heard).ok().ok_or("memory")?;
+        both.take(alloc, frames, x)?;
         if !both.agree(frames)? {
             return Ok(false);
         }
     }
-    Ok(true)
+    is_of_store(alloc, &store, &both.book)
 }
 
 #[test]
@@ -314,18 +327,23 @@ fn a_hundred_sequences_of_steps(rt: HostRuntime) -> Result<(), Fail> {
     Ok(())
 }
 
-/// Takes a thousand rows of one key, this many places apart.
+/// Takes a thousand rows of one key, this many places apart, into both, and into a store.
 fn agrees_in_a_thousand(alloc: Global, frames: &[Frame], stride: u64) -> Result<bool, Fail> {
     let mut both = Both::new(alloc);
+    let mut store = RowStore::new(alloc);
     for i in 0..1000u64 {
         let x = Plain {
             milli: i.wrapping_mul(stride) % 1000 * 30_001,
             receiver: 1,
             frame: 3,
         };
+        let heard = reception(frames, x)?;
+        store.push_reception(&heard).ok().ok_or("memory")?;
         both.take(alloc, frames, x)?;
     }
-    Ok(both.agree(frames)? && both.plain.rows.len() == 1000)
+    Ok(both.agree(frames)?
+        && both.plain.rows.len() == 1000
+        && is_of_store(alloc, &store, &both.book)?)
 }
 
 // In order, against it, and scattered.

@@ -4,11 +4,11 @@ use crate::last_known::sent;
 use crate::pushed_rows::parts;
 use crate::refused_calls::SENT;
 use crate::vectors::{LOG, MERGED_TEXT, NOON, receiver};
-use aprs_book::{Book, Gap, Join, Receivers, Step, from_rows, replay, steps_fit};
+use aprs_book::{Book, Gap, Join, Receivers, RowList, Step, from_rows, replay, steps_fit};
 use aprs_booktext::read_book;
 use aprs_kiss::Counted;
 use aprs_log::MAX_INPUT;
-use aprs_pile::{Pile, PiledRows};
+use aprs_rows::{RowStore, Transmissions};
 use aprs_tool::{Desk, merge_run, read_input, show_run};
 use linked_list_allocator::LocalHeap;
 use std::alloc::Global;
@@ -24,10 +24,10 @@ enum Made {
     Stations,
     Objects,
     Messages,
-    Pile,
-    Sorted,
-    PiledRows,
-    PiledBook,
+    RowStore,
+    RowsInOrder,
+    Transmissions,
+    BookOfRows,
     RowList,
     ListedStations,
     ListedObjects,
@@ -49,10 +49,10 @@ const MADE: &[Made] = &[
     Made::Stations,
     Made::Objects,
     Made::Messages,
-    Made::Pile,
-    Made::Sorted,
-    Made::PiledRows,
-    Made::PiledBook,
+    Made::RowStore,
+    Made::RowsInOrder,
+    Made::Transmissions,
+    Made::BookOfRows,
     Made::RowList,
     Made::ListedStations,
     Made::ListedObjects,
@@ -96,41 +96,41 @@ fn used_of_book(heap: &LocalHeap, made: Made) -> Result<usize, Fail> {
     }
 }
 
-/// The pile of what was sent.
-fn pile_of_sent(heap: &LocalHeap) -> Result<Pile<&LocalHeap>, Fail> {
-    let mut pile = Pile::new(heap);
+/// The store of what was sent.
+fn store_of_sent(heap: &LocalHeap) -> Result<RowStore<&LocalHeap>, Fail> {
+    let mut store = RowStore::new(heap);
     for &(second, source, info) in SENT {
         let x = sent(second, source, info)?;
-        pile.push(&x).ok().ok_or("memory")?;
+        store.push_reception(&x).ok().ok_or("memory")?;
     }
-    Ok(pile)
+    Ok(store)
 }
 
-/// How much is in use with a pile, and with what is made of it.
-fn used_of_pile(heap: &LocalHeap, made: Made) -> Result<usize, Fail> {
-    let pile = pile_of_sent(heap)?;
-    if let Made::Pile = made {
+/// How much is in use with a store, and with what is made of it.
+fn used_of_store(heap: &LocalHeap, made: Made) -> Result<usize, Fail> {
+    let store = store_of_sent(heap)?;
+    if let Made::RowStore = made {
         return Ok(heap.used());
     }
-    let sorted = pile.sorted().ok().ok_or("memory")?;
-    if let Made::Sorted = made {
+    let order = store.in_order().ok().ok_or("memory")?;
+    if let Made::RowsInOrder = made {
         return Ok(heap.used());
     }
-    let rows = sorted.rows(Gap::STANDARD).ok().ok_or("memory")?;
+    let rows = order.coalesced(Gap::STANDARD).ok().ok_or("memory")?;
     match made {
-        Made::PiledRows => Ok(heap.used()),
-        Made::PiledBook => used_with(heap, rows.book(heap)),
-        _ => used_of_list(heap, rows, made),
+        Made::Transmissions => Ok(heap.used()),
+        Made::BookOfRows => used_with(heap, Book::of_rows(heap, &rows)),
+        _ => used_of_list(heap, &rows, made),
     }
 }
 
 /// How much is in use with the list of these rows, and with what is made of it.
 fn used_of_list<'a>(
     heap: &'a LocalHeap,
-    rows: PiledRows<'_, &'a LocalHeap>,
+    rows: &Transmissions<'_, &'a LocalHeap>,
     made: Made,
 ) -> Result<usize, Fail> {
-    let list = rows.into_list(heap).ok().ok_or("memory")?;
+    let list = RowList::of_rows(heap, rows).ok().ok_or("memory")?;
     match made {
         Made::ListedStations => used_with(heap, list.stations()),
         Made::ListedObjects => used_with(heap, list.objects()),
@@ -207,7 +207,7 @@ fn used_of(alloc: Global, heap: &LocalHeap, made: Made) -> Result<usize, Fail> {
         | Made::Stations
         | Made::Objects
         | Made::Messages => used_of_book(heap, made),
-        _ => used_of_pile(heap, made),
+        _ => used_of_store(heap, made),
     }
 }
 

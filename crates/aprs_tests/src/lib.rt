@@ -38,11 +38,11 @@ mod merges;
 #[cfg(test)]
 mod millis;
 #[cfg(test)]
+mod mixed_inputs;
+#[cfg(test)]
 mod no_requests;
 #[cfg(test)]
 mod pieces;
-#[cfg(test)]
-mod piles;
 #[cfg(test)]
 mod plain_book;
 #[cfg(test)]
@@ -59,6 +59,8 @@ mod runs;
 mod show_runs;
 #[cfg(test)]
 mod shown;
+#[cfg(test)]
+mod stored_rows;
 #[cfg(test)]
 mod vectors;
 #[cfg(test)]

@@ -1,10 +1,10 @@
 //! Objects and messages of a larger book, as values.
 
 use crate::last_known::sent;
-use crate::piles::list_of;
+use crate::stored_rows::list_of;
 use aprs_book::{Book, MessageRow, MessageState, Named, RowList};
 use aprs_log::Reception;
-use aprs_pile::Pile;
+use aprs_rows::RowStore;
 use std::alloc::Global;
 use std::test::Fail;
 
@@ -63,15 +63,15 @@ fn fifty_taken(alloc: Global) -> Result<Book, Fail> {
     Ok(book)
 }
 
-/// The list of the pile on which fifty of both are laid.
+/// The list of the store of fifty of both.
 fn fifty_listed(alloc: Global) -> Result<RowList, Fail> {
-    let mut pile = Pile::new(alloc);
+    let mut store = RowStore::new(alloc);
     for i in 0..50u64 {
         for x in both(i)? {
-            pile.push(&x).ok().ok_or("memory")?;
+            store.push_reception(&x).ok().ok_or("memory")?;
         }
     }
-    Ok(list_of(alloc, &pile).ok().ok_or("memory")?)
+    Ok(list_of(alloc, &store).ok().ok_or("memory")?)
 }
 
 /// Whether the book lists the fifty messages and the fifty items.
@@ -105,7 +105,7 @@ fn many_rows_of_a_book_are_listed(rt: HostRuntime) -> Result<(), Fail> {
 }
 
 #[test]
-fn many_rows_of_a_pile_are_listed(rt: HostRuntime) -> Result<(), Fail> {
+fn many_rows_of_a_store_are_listed(rt: HostRuntime) -> Result<(), Fail> {
     let list = fifty_listed(rt.alloc())?;
     assert!(rt; list_has_fifty(&list)?);
     assert!(rt; list_has_two(&list)?);

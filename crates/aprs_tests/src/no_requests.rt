@@ -5,10 +5,10 @@ use crate::last_known::{callsign, sent};
 use crate::refused_calls::{SENT, squeeze};
 use crate::vectors::{DIRECT, heard, receiver};
 use aprs_book::{
-    Book, Gap, Join, MergeFault, ReceiverList, Receivers, RowList, WidenFault, all_fit,
+    Book, Gap, Join, MergeFault, ReceiverList, Receivers, RowCause, RowList, WidenFault, all_fit,
 };
 use aprs_log::Receiver;
-use aprs_pile::{Pile, PiledRows, RowView};
+use aprs_rows::{RowStore, Transmissions};
 use bumpalo::Bump;
 use std::alloc::Global;
 use std::test::Fail;
@@ -47,7 +47,7 @@ fn book_of_sent(bump: &Bump, gap: Gap) -> Result<Book<&Bump>, Fail> {
 enum Call {
     New,
     NewList,
-    NewPile,
+    NewStore,
     NewReceivers,
     Gap,
     Rows,
@@ -65,7 +65,7 @@ enum Call {
 const CALLS: &[Call] = &[
     Call::New,
     Call::NewList,
-    Call::NewPile,
+    Call::NewStore,
     Call::NewReceivers,
     Call::Gap,
     Call::Rows,
@@ -87,7 +87,7 @@ fn is_empty(bump: &Bump, call: Call) -> bool {
             let _list = RowList::new(bump, Gap::STANDARD);
             true
         }
-        Call::NewPile => Pile::new(bump).is_empty(),
+        Call::NewStore => RowStore::new(bump).is_empty(),
         Call::NewReceivers => Receivers::new(bump).as_slice().is_empty(),
         _ => Book::new(bump).len() == 0,
     }
@@ -122,7 +122,7 @@ fn is_known(call: Call, book: &Book<&Bump>) -> Result<bool, Fail> {
 fn shown_rows(book: &Book<&Bump>) -> usize {
     let mut shown = 0usize;
     for row in book.rows() {
-        if RowView::of(&row).receivers().len() == 1 {
+        if row.receivers.len() == 1 {
             shown = shown.saturating_add(1);
         }
     }
@@ -135,7 +135,7 @@ fn is_answered<'a>(bump: &'a Bump, call: Call, books: &[Book<&'a Bump>]) -> Resu
         return Err("two books".into());
     };
     Ok(match call {
-        Call::New | Call::NewList | Call::NewPile | Call::NewReceivers => is_empty(bump, call),
+        Call::New | Call::NewList | Call::NewStore | Call::NewReceivers => is_empty(bump, call),
         Call::Gap => book.gap() == Gap::STANDARD && book.len() == SENT.len(),
         Call::Rows => shown_rows(book) == SENT.len(),
         Call::Same => book.same(book) && !book.same(wide),
@@ -247,49 +247,58 @@ fn lists_of_names_ask_for_none(rt: HostRuntime) -> Result<(), Fail> {
     Ok(())
 }
 
-/// The pile of what was sent.
-fn pile_of_sent(bump: &Bump) -> Result<Pile<&Bump>, Fail> {
-    let mut pile = Pile::new(bump);
+/// The store of what was sent.
+fn store_of_sent(bump: &Bump) -> Result<RowStore<&Bump>, Fail> {
+    let mut store = RowStore::new(bump);
     for &(second, source, info) in SENT {
         let x = sent(second, source, info)?;
-        pile.push(&x).ok().ok_or("memory")?;
+        store.push_reception(&x).ok().ok_or("memory")?;
     }
-    Ok(pile)
+    Ok(store)
 }
 
-/// How many rows are shown that were heard at one moment.
-fn shown_piled_rows(rows: &PiledRows<'_, &Bump>) -> usize {
+/// How many rows are shown that RX1 alone heard, at one moment.
+fn shown_transmissions(rows: &Transmissions<'_, &Bump>) -> usize {
     let mut shown = 0usize;
     for row in rows.rows() {
-        let view = row.view();
-        if view.first() == view.last() && view.receiver() == b"RX1".as_slice() {
+        if row.first() == row.last()
+            && row.receivers() == b"RX1".as_slice()
+            && row.receiver() == b"RX1".as_slice()
+            && row.frame().ends_with(row.info())
+            && row.greatest().moment() == row.last()
+        {
             shown = shown.saturating_add(1);
         }
     }
     shown
 }
 
-/// Whether calls of the pile and of its rows answer as they have to, and ask for no memory.
+/// Whether calls of a store and of its rows answer as they have to, and ask for no memory.
 fn ask_for_none<'a>(
     bump: &'a Bump,
-    pile: &Pile<&'a Bump>,
-    rows: &PiledRows<'_, &'a Bump>,
+    store: &RowStore<&'a Bump>,
+    rows: &Transmissions<'_, &'a Bump>,
 ) -> Result<bool, Fail> {
     let _filling = fill(bump)?;
     let size = bump.allocated_bytes();
-    let is_right = !pile.is_empty()
+    let Some(last) = store.last() else {
+        return Err("a row".into());
+    };
+    let is_right = !store.is_empty()
+        && store.len() == SENT.len()
+        && last.refusal_after(Some(&last), Gap::STANDARD) == Some(RowCause::Order)
         && rows.gap() == Gap::STANDARD
         && rows.len() == SENT.len()
-        && shown_piled_rows(rows) == SENT.len();
+        && shown_transmissions(rows) == SENT.len();
     Ok(is_right && bump.allocated_bytes() == size)
 }
 
 #[test]
-fn calls_of_piles_ask_for_none(rt: HostRuntime) -> Result<(), Fail> {
+fn calls_of_stores_ask_for_none(rt: HostRuntime) -> Result<(), Fail> {
     let bump = Bump::try_with_capacity(rt.alloc(), 65_536)?;
-    let pile = pile_of_sent(&bump)?;
-    let sorted = pile.sorted().ok().ok_or("memory")?;
-    let rows = sorted.rows(Gap::STANDARD).ok().ok_or("memory")?;
-    assert!(rt; ask_for_none(&bump, &pile, &rows)?);
+    let store = store_of_sent(&bump)?;
+    let order = store.in_order().ok().ok_or("memory")?;
+    let rows = order.coalesced(Gap::STANDARD).ok().ok_or("memory")?;
+    assert!(rt; ask_for_none(&bump, &store, &rows)?);
     Ok(())
 }

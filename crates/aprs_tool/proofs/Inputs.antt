@@ -1,11 +1,16 @@
 -- Lemmas on inputs, of which the first bytes are known.
-use Rattle.std.proofs.Common.{◌≡◌, ℕ, zero, suc, get_or, ◌^◌, ◌<◌, ◌≤◌, Bool, true, false, not, List, [], ◌∷◌, ◌++◌, length, take, drop, codes, Option, None, Some, Result, Ok, Err, IfSome, inl, inr, refl, ap, sym, ◌∙◌, append_assoc, append-nil, length-append, subst, arith}
+use Rattle.std.proofs.Common.{◌≡◌, ℕ, zero, suc, get_or, ◌^◌, ◌<◌, ◌≤◌, Bool, true, false, not, List, [], ◌∷◌, ◌++◌, length, map, take, drop, codes, Option, None, Some, Result, Ok, Err, IfSome, inl, inr, refl, ap, sym, ◌∙◌, append_assoc, append-nil, length-append, subst, arith}
 use Rattle.std.proofs.Math.Seq.{take-append_seam}
 use Rattle.std.proofs.lemmas.Bool.Decides.{Decides-eqb}
 use Rattle.std.proofs.lemmas.Slice.Eq.{bytes_eq-Decides, starts_is}
 use Rattle.std.specs.Io.KnownBytes.{Consumes}
 use Rattle.std.specs.Str.{bytes_eq}
+use Rattle.aprs_laws.specs.Book.{BookOf}
 use Rattle.aprs_laws.specs.BookValue.{BookValue, Holds}
+use Rattle.aprs_laws.specs.JoinRow.{single}
+use Rattle.aprs_laws.proofs.Books.{book_carries}
+use Rattle.aprs_laws.proofs.Coalescing.{books_stand, singles_stand}
+use Rattle.aprs_booktext.specs.StoredRows.{rows_after}
 use Rattle.aprs_laws.specs.Gap.{millis_of}
 use Rattle.aprs_laws.specs.Witnesses.{witnesses}
 use Rattle.aprs_laws.specs.Row.{Row}
@@ -25,11 +30,10 @@ use Rattle.aprs_booktext.specs.declared.fault.BookFault.{BookFault}
 use Rattle.aprs_booktext.proofs.Accepting.{rows_few}
 use Rattle.aprs_booktext.proofs.OneText.{cut_short}
 use Rattle.aprs_log.specs.Reception.{Heard}
-use Rattle.aprs_tool.proofs.RowsWith.{gathers_more}
-use Rattle.aprs_tool.specs.Gathered.{rows_with}
 use Rattle.aprs_tool.specs.Head.{IsHead}
 use Rattle.aprs_convert.specs.Got.{HoldsOfGot, OfGot}
-use Rattle.aprs_tool.specs.Inputs.{AreMembers, is_book_file, IsFaultOf, IsRefused, ReadsInput, ReadsLog, TakesInput}
+use Rattle.aprs_tool.specs.Inputs.{AreMembers, is_book_file, IsFaultOf, IsRefused, ReadsInput}
+use Rattle.aprs_tool.specs.InputRows.{GivesRows, ReadsLog, ReadsRows}
 use Rattle.aprs_tool.specs.declared.fault.InputFault.{InputFault}
 use Rattle.aprs_tool.specs.declared.fault.InputFault.TheVariants.{Log, Book, Memory, OtherGap, Narrower}
 
@@ -133,7 +137,7 @@ members_log : (gap : ℕ) (t : List ℕ) (c : Ending) → is_book_file t ≡ fal
     → AreMembers gap t c (receptions_of (log_answers t c).given)
 members_log gap t c is = inr (is, refl)
 
-pub refused_log : (e : InputFault) (old new : List Heard) (t : List ℕ) (c : Ending)
+pub refused_log : (e : InputFault) (old new : List Row) (t : List ℕ) (c : Ending)
     → is_book_file t ≡ false → ReadsLog (Err e) old new t c → IsRefused e t c
 refused_log (Log f) old new t c is h = inr (is, h)
 refused_log Memory old new t c is h = inl is
@@ -141,35 +145,43 @@ refused_log (Book f) old new t c is h = absurd h
 refused_log OtherGap old new t c is h = absurd h
 refused_log Narrower old new t c is h = absurd h
 
--- what is read of a log is gathered
-pub reads_log : (gap : ℕ) (rows : List Row) (r : Result (Unit {0}) InputFault)
-    (old new : List Heard) (t : List ℕ) (c : Ending) → is_book_file t ≡ false
-    → ReadsLog r old new t c
-    → TakesInput gap r (rows_with (millis_of gap) rows old) (rows_with (millis_of gap) rows new) t c
-reads_log gap rows (Ok u) old new t c is h = (
-  faultless_log t c is h.0,
-  (
-    receptions_of (log_answers t c).given,
-    members_log gap t c is,
-    gathers_more gap rows old (receptions_of (log_answers t c).given) new h.1,
-  ),
-)
-reads_log gap rows (Err e) old new t c is h = inl (refused_log e old new t c is h)
+-- the rows of what is read of a log stand for its receptions
+pub gives_log : (asked : ℕ) (old new : List Row) (t : List ℕ) (c : Ending)
+    → is_book_file t ≡ false → ReadsLog (Ok tt) old new t c → GivesRows asked asked old new t c
+gives_log asked old new t c is h =
+    let heard = receptions_of (log_answers t c).given in record {
+      faultless = faultless_log t c is h.0;
+      gap_is = λ log. refl;
+      rows = map single heard;
+      new_is = h.1;
+      set = heard;
+      members = members_log asked t c is;
+      stand = singles_stand heard;
+    }
 
 -- the book of what is read of a log is its book
-pub read_alone : (asked : ℕ) (b : BookValue) (old pile : List Heard) (t : List ℕ) (c : Ending)
-    → is_book_file t ≡ false → b.gap ≡ asked → old ≡ [] → Holds pile b
-    → ReadsLog (Ok tt) old pile t c → ReadsInput asked (Ok b) t c
-read_alone asked b old pile t c is its none holds h =
-    let heard = receptions_of (log_answers t c).given in (
+pub read_alone : (asked : ℕ) (b : BookValue) (old rows : List Row) (t : List ℕ) (c : Ending)
+    → is_book_file t ≡ false → b.gap ≡ asked → old ≡ [] → Holds (witnesses rows) b
+    → ReadsLog (Ok tt) old rows t c → ReadsInput asked (Ok b) t c
+read_alone asked b old rows t c is its none holds h =
+    let heard = receptions_of (log_answers t c).given in
+    let all : rows ≡ map single heard = h.1 ∙ ap (λ T. T ++ map single heard) none in (
       faultless_log t c is h.0,
       (
         λ log. its,
         heard,
         members_log b.gap t c is,
-        subst (λ S. Holds S b) (h.1 ∙ ap (λ T. T ++ heard) none) holds,
+        book_carries (millis_of b.gap) (witnesses (map single heard)) heard b.rows
+            (singles_stand heard).members
+            (subst (λ rs. BookOf (millis_of b.gap) (witnesses rs) b.rows) all holds),
       ),
     )
+
+-- and so it is where the log has no receptions
+pub read_empty : (asked : ℕ) (b : BookValue) (t : List ℕ) (c : Ending)
+    → is_book_file t ≡ false → b.gap ≡ asked → Holds [] b → ReadsLog (Ok tt) [] [] t c
+    → ReadsInput asked (Ok b) t c
+read_empty asked b t c is its holds h = read_alone asked b [] [] t c is its refl holds h
 
 -- what was got of one is read as a log's text
 pub log_input : (known after : Option (List ℕ)) (limit : ℕ) (head : List ℕ) (P Q : List ℕ → Ending
@@ -187,15 +199,15 @@ log_input (Some input) after limit head P Q size other follows h = record {
 }
 
 -- a short one has this fault, or none
-pub short_fault : (t : List ℕ) (c : Ending) (fault : LogFault) (pile : List Heard)
-    → log_answers t c ≡ ended (Some fault) → ReadsLog (Err (Log fault)) pile pile t c
-short_fault t c fault pile e = ap (λ a. a.fault) e
+pub short_fault : (t : List ℕ) (c : Ending) (fault : LogFault) (rows : List Row)
+    → log_answers t c ≡ ended (Some fault) → ReadsLog (Err (Log fault)) rows rows t c
+short_fault t c fault rows e = ap (λ a. a.fault) e
 
-pub short_empty : (t : List ℕ) (c : Ending) (pile : List Heard)
-    → log_answers t c ≡ ended None → ReadsLog (Ok tt) pile pile t c
-short_empty t c pile e = (
+pub short_empty : (t : List ℕ) (c : Ending) (rows : List Row)
+    → log_answers t c ≡ ended None → ReadsLog (Ok tt) rows rows t c
+short_empty t c rows e = (
   ap (λ a. a.fault) e,
-  sym (append-nil pile) ∙ ap (λ a. pile ++ receptions_of a.given) (sym e),
+  sym (append-nil rows) ∙ ap (λ a. rows ++ map single (receptions_of a.given)) (sym e),
 )
 
 -- ---- a book file
@@ -257,6 +269,21 @@ reads_book asked b v same is fits =
       ),
     )
 
+-- the rows of a book stand for their witnesses
+gives_book : (asked own : ℕ) (old new rows : List Row) (v : Version) → own ≡ gap_of v
+    → IsBookRows v rows → length (book_text v rows) ≤ most_input → new ≡ old ++ rows
+    → GivesRows asked own old new (book_text v rows) ending.End
+gives_book asked own old new rows v same is fits e =
+    let begin = book_begins v rows in record {
+      faultless = faultless_book v rows is fits begin;
+      gap_is = λ log. let x : true ≡ false = sym begin ∙ log in cc;
+      rows = rows;
+      new_is = e;
+      set = witnesses rows;
+      members = members_book own v rows (sym same) is begin;
+      stand = books_stand (millis_of (gap_of v)) rows is.sound;
+    }
+
 -- ---- what was got of a book file
 
 module _ (limit : ℕ) (input : List ℕ) (after : Option (List ℕ)) (small : limit ≤ most_input) where
@@ -288,7 +315,37 @@ module _ (limit : ℕ) (input : List ℕ) (after : Option (List ℕ)) (small : l
         holds = reads_book asked b v h.reads.1 h.reads.3 (omega (arith, small, gets.ends.1));
       }
 
+  pub rows_read : (asked own : ℕ) (old new : List Row) → new ≡ old ++ rows_after old new
+      → Reads limit mark input after (Ok (record { gap = own; rows = rows_after old new }))
+      → HoldsOfGot limit (mark ++ input) after (GivesRows asked own old new)
+  rows_read asked own old new e h =
+      let v = h.reads.0 in
+      let rows = rows_after old new in
+      let gets : Gets limit (mark ++ input) after (book_text v rows) ending.End =
+      subst (λ c. Gets limit (mark ++ input) after (book_text v rows) c) h.reads.4
+      (subst (λ t. Gets limit (mark ++ input) after t h.ending) h.reads.2 h.gets) in
+      record {
+        text = book_text v rows;
+        ending = ending.End;
+        gets = gets;
+        holds = gives_book asked own old new rows v h.reads.1 h.reads.3
+            (omega (arith, small, gets.ends.1)) e;
+      }
+
 -- where its bytes may not be known
+pub rows_input : (asked own : ℕ) (old new : List Row) (known after : Option (List ℕ)) (limit : ℕ)
+    (head : List ℕ) → limit ≤ most_input → head ≡ mark → new ≡ old ++ rows_after old new
+    → IfSome known (λ input. Reads limit head input after
+    (Ok (record { gap = own; rows = rows_after old new })))
+    → IfSome known (λ input. HoldsOfGot limit (head ++ input) after
+    (ReadsRows asked (Ok own) old new))
+rows_input asked own old new None after limit head small is e h = tt
+rows_input asked own old new (Some input) after limit head small is e h =
+    subst (λ l. HoldsOfGot limit (l ++ input) after (ReadsRows asked (Ok own) old new)) (sym is)
+    (rows_read limit input after small asked own old new e
+    (subst (λ l. Reads limit l input after
+    (Ok (record { gap = own; rows = rows_after old new }))) is h))
+
 pub book_input : (asked : ℕ) (known after : Option (List ℕ)) (limit : ℕ) (head : List ℕ)
     (b : BookValue) → limit ≤ most_input
     → head ≡ mark → IfSome known (λ input. Reads limit head input after (Ok b))

@@ -4,8 +4,6 @@ use Rattle.aprs_laws.specs.Book.{BookOf}
 use Rattle.aprs_laws.specs.BookValue.{BookValue}
 use Rattle.aprs_laws.specs.Gap.{millis_of}
 use Rattle.aprs_laws.specs.Row.{Row}
-use Rattle.aprs_tool.specs.Gathered.{rows_with}
-use Rattle.aprs_tool.proofs.RowsWith.{gathers_book}
 use Rattle.aprs_laws.proofs.Books.{book_carries}
 use Rattle.aprs_laws.proofs.Unions.{around, merged}
 use Rattle.aprs_book.specs.Taking.{MergesInto}
@@ -43,7 +41,7 @@ got_so (Some input) after limit whole P Q follows h =
 -- ---- an input's book that is merged
 
 -- a log is read with the asked gap, so that only a book file has another
-other_of : (gap : ℕ) (t : List ℕ) (c : Ending) (other : ℕ) (S : List Heard) → (gap ≡ other → ⊥)
+pub other_of : (gap : ℕ) (t : List ℕ) (c : Ending) (other : ℕ) (S : List Heard) → (gap ≡ other → ⊥)
     → IsFaultless t c → IsGapOf gap t other → AreMembers other t c S → HasOtherGap gap t c
 other_of gap t c other S differs faultless is members = elim members [
   | inl book ↦ (faultless, book.0, (other, S, λ e. differs (sym e), book.1))
@@ -61,22 +59,6 @@ module _ (gap : ℕ) (t : List ℕ) (c : Ending) (b : BookValue) (h : ReadsInput
           S,
           subst (λ g. AreMembers g t c S) (sym same) h.1.2,
           λ T book. merges T S book (subst (λ g. BookOf (millis_of g) S b.rows) (sym same) h.1.3),
-        ),
-      )
-
-  -- it was merged beside receptions that were gathered
-  pub gathered_in : (W pile : List Heard) (old new : List Row) → gap ≡ b.gap
-      → BookOf (millis_of gap) W old → MergesInto (millis_of gap) old b.rows new
-      → TakesInput gap (Ok tt) (rows_with (millis_of gap) old pile)
-      (rows_with (millis_of gap) new pile) t c
-  gathered_in W pile old new same known merges =
-      let S = h.1.1 in (
-        h.0,
-        (
-          S,
-          subst (λ g. AreMembers g t c S) (sym same) h.1.2,
-          gathers_book gap W pile S old b.rows new known
-              (subst (λ g. BookOf (millis_of g) S b.rows) (sym same) h.1.3) merges,
         ),
       )
 

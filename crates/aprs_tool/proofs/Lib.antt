@@ -1,4 +1,4 @@
-pub mod RowsWith
+pub mod RowsTold
 pub mod Inputs
 pub mod Into
 pub mod Logs

@@ -1,5 +1,5 @@
 -- Lemmas on the receptions of a log whose lines are read one by one.
-use Rattle.std.proofs.Common.{◌≡◌, ℕ, List, [], ◌∷◌, ◌++◌, Option, None, Some, Result, Ok, Err, IfSome, refl, ap, sym, ◌∙◌, append_assoc, append-nil}
+use Rattle.std.proofs.Common.{◌≡◌, ℕ, List, [], ◌∷◌, ◌++◌, Option, None, Some, Result, Ok, Err, IfSome, refl, ap, sym, ◌∙◌, append_assoc, append-nil, map}
 use Rattle.aprs_log.specs.LogAnswers.{Answers, ended, log_answers, receptions_of, then_given}
 use Rattle.aprs_log.specs.Reader.{AreAnswersOf}
 use Rattle.aprs_log.specs.Reception.{Heard as Reception}
@@ -9,7 +9,10 @@ use Rattle.aprs_log.specs.declared.line.Line.{Line}
 use Rattle.aprs_log.specs.declared.line.Line.TheVariants.{Heard, Passed}
 use Rattle.aprs_log.proofs.Awaiting.{gets_whole}
 use Rattle.aprs_convert.specs.Got.{HoldsOfGot}
-use Rattle.aprs_tool.specs.Inputs.{ReadsLog}
+use Rattle.std.proofs.lemmas.List.{map-append}
+use Rattle.aprs_laws.specs.JoinRow.{single}
+use Rattle.aprs_laws.specs.Row.{Row}
+use Rattle.aprs_tool.specs.InputRows.{ReadsLog}
 use Rattle.aprs_tool.specs.declared.fault.InputFault.{InputFault}
 use Rattle.aprs_tool.specs.declared.fault.InputFault.TheVariants.{Log, Memory}
 use Rattle.aprs_convert.proofs.Seen.{HasSeen, HasSeen-none, HasSeen-line, prepended}
@@ -20,32 +23,35 @@ receptions_of-append [] ys = refl
 receptions_of-append (Heard x ∷ xs) ys = ap (λ l. x ∷ l) (receptions_of-append xs ys)
 receptions_of-append (Passed reason ∷ xs) ys = receptions_of-append xs ys
 
--- the receptions of the lines that were read lie after those that were there
-pub record Took (first now : Answers → Type 0) (old pile : List Reception) : Type 0 where
+-- the receptions of the lines that were read lie after the rows that were there
+pub record Took (first now : Answers → Type 0) (old rows : List Row) : Type 0 where
   pub seen : List Line
   pub has : HasSeen first now seen
-  pub are : pile ≡ old ++ receptions_of seen
+  pub are : rows ≡ old ++ map single (receptions_of seen)
 
-pub Took-none : (first : Answers → Type 0) (pile : List Reception) → Took first first pile pile
-Took-none first pile =
-    record { seen = []; has = HasSeen-none first; are = sym (append-nil pile) }
+pub Took-none : (first : Answers → Type 0) (rows : List Row) → Took first first rows rows
+Took-none first rows =
+    record { seen = []; has = HasSeen-none first; are = sym (append-nil rows) }
 
--- the reception of a line, which the reader lent, was laid after them
-pub Took-line : (first now after : Answers → Type 0) (old pile new : List Reception)
-    (x lent : Line) → lent ≡ x → Took first now old pile
+-- the reception of a line, which the reader lent, was put after them
+pub Took-line : (first now after : Answers → Type 0) (old rows new : List Row)
+    (x lent : Line) → lent ≡ x → Took first now old rows
     → ((answers : Answers) → after answers → now (then_given x answers))
-    → new ≡ pile ++ receptions_of (lent ∷ []) → Took first after old new
-Took-line first now after old pile new x lent same h next is = record {
+    → new ≡ rows ++ map single (receptions_of (lent ∷ [])) → Took first after old new
+Took-line first now after old rows new x lent same h next is = record {
   seen = h.seen ++ x ∷ [];
   has = HasSeen-line first now after h.seen x h.has next;
-  are = is ∙ (λ t. h.are t ++ receptions_of (same t ∷ []))
-      ∙ append_assoc old (receptions_of h.seen) (receptions_of (x ∷ []))
-      ∙ ap (λ T. old ++ T) (sym (receptions_of-append h.seen (x ∷ [])));
+  are = is ∙ (λ t. h.are t ++ map single (receptions_of (same t ∷ [])))
+      ∙ append_assoc old (map single (receptions_of h.seen))
+      (map single (receptions_of (x ∷ [])))
+      ∙ ap (λ T. old ++ T)
+      (sym (map-append single (receptions_of h.seen) (receptions_of (x ∷ []))))
+      ∙ ap (λ T. old ++ map single T) (sym (receptions_of-append h.seen (x ∷ [])));
 }
 
 -- of a log whose answers are these
 over_log : (known end : Option (List ℕ)) (limit : ℕ) (head : List ℕ) (a : Answers)
-    (r : Result (Unit {0}) InputFault) (old new : List Reception)
+    (r : Result (Unit {0}) InputFault) (old new : List Row)
     → IfSome known (λ input. AreAnswersOf limit (head ++ input) end a)
     → ((t : List ℕ) (c : Ending) → a ≡ log_answers t c → ReadsLog r old new t c)
     → IfSome known (λ input. HoldsOfGot limit (head ++ input) end (ReadsLog r old new))
@@ -54,38 +60,38 @@ over_log (Some input) end limit head a r old new h reads =
     record { text = h.text; ending = h.ending; gets = h.gets; holds = reads h.text h.ending h.is }
 
 -- the log ended
-pub Took-ended : (first now : Answers → Type 0) (old pile : List Reception)
-    (known end : Option (List ℕ)) (limit : ℕ) (head : List ℕ) → Took first now old pile
+pub Took-ended : (first now : Answers → Type 0) (old rows : List Row)
+    (known end : Option (List ℕ)) (limit : ℕ) (head : List ℕ) → Took first now old rows
     → now (ended None) → ((a : Answers) → first a
     → IfSome known (λ input. AreAnswersOf limit (head ++ input) end a))
-    → IfSome known (λ input. HoldsOfGot limit (head ++ input) end (ReadsLog (Ok tt) old pile))
-Took-ended first now old pile known end limit head h may whole =
+    → IfSome known (λ input. HoldsOfGot limit (head ++ input) end (ReadsLog (Ok tt) old rows))
+Took-ended first now old rows known end limit head h may whole =
     let all = prepended h.seen (ended None) in
-    over_log known end limit head all (Ok tt) old pile
+    over_log known end limit head all (Ok tt) old rows
     (whole all (h.has.complete (ended None) may))
     (λ t c e. (
       ap (λ (a : Answers). a.fault) (sym e),
       h.are
-          ∙ ap (λ (lines : List Line). old ++ receptions_of lines) (sym (append-nil h.seen))
-          ∙ ap (λ (a : Answers). old ++ receptions_of a.given) e,
+          ∙ ap (λ (lines : List Line). old ++ map single (receptions_of lines)) (sym (append-nil h.seen))
+          ∙ ap (λ (a : Answers). old ++ map single (receptions_of a.given)) e,
     ))
 
 -- the log has a fault
-pub Took-fault : (first now : Answers → Type 0) (old pile : List Reception)
+pub Took-fault : (first now : Answers → Type 0) (old rows : List Row)
     (known end : Option (List ℕ)) (limit : ℕ) (head : List ℕ) (fault : LogFault)
-    → Took first now old pile → now (ended (Some fault)) → ((a : Answers) → first a
+    → Took first now old rows → now (ended (Some fault)) → ((a : Answers) → first a
     → IfSome known (λ input. AreAnswersOf limit (head ++ input) end a))
     → IfSome known (λ input. HoldsOfGot limit (head ++ input) end
-    (ReadsLog (Err (Log fault)) old pile))
-Took-fault first now old pile known end limit head fault h may whole =
+    (ReadsLog (Err (Log fault)) old rows))
+Took-fault first now old rows known end limit head fault h may whole =
     let all = prepended h.seen (ended (Some fault)) in
-    over_log known end limit head all (Err (Log fault)) old pile
+    over_log known end limit head all (Err (Log fault)) old rows
     (whole all (h.has.complete (ended (Some fault)) may))
     (λ t c e. ap (λ (a : Answers). a.fault) (sym e))
 
 -- an allocation failed
 pub Took-refused : (known end : Option (List ℕ)) (limit : ℕ) (head : List ℕ)
-    (old new : List Reception)
+    (old new : List Row)
     → IfSome known (λ input. HoldsOfGot limit (head ++ input) end
     (ReadsLog (Err Memory) old new))
 Took-refused None end limit head old new = tt

@@ -127,16 +127,3 @@ abbrev pub TakesInput : ℕ → Result (Unit {0}) InputFault → List Row → Li
 TakesInput gap (Ok u) old new text ending = IsFaultless text ending
     × ((T : List Heard) × AreMembers gap text ending T × AddsAll gap T old new)
 TakesInput gap (Err fault) old new text ending = IsNotTaken gap fault text ending
-
--- A log is refused for the fault after its lines, or because an allocation failed.
-abbrev pub IsLogRefused : InputFault → List ℕ → Ending → Type 0
-IsLogRefused (Log fault) text ending = (log_answers text ending).fault ≡ Some fault
-IsLogRefused Memory text ending = Unit {0}
-IsLogRefused fault text ending = ⊥
-
--- The receptions of a faultless log come after those that were there, and any other log is refused.
-abbrev pub ReadsLog : Result (Unit {0}) InputFault → List Heard → List Heard → List ℕ → Ending
-    → Type 0
-ReadsLog (Ok u) old new text ending = ((log_answers text ending).fault ≡ None)
-    × (new ≡ old ++ receptions_of (log_answers text ending).given)
-ReadsLog (Err fault) old new text ending = IsLogRefused fault text ending

@@ -4,6 +4,7 @@ pub mod Run
 pub mod Devices
 pub mod Head
 pub mod Inputs
+pub mod InputRows
 pub mod Desk
 pub mod Gathered
 pub mod Merge

@@ -1,11 +1,13 @@
 //! The book of an input, which is a log or a book file.
-ghost use Rattle.std.specs.Prelude.{◌≡◌, ◌<◌, ◌≤◌, [], ◌∷◌, ◌++◌, false, length, List, IfSome, IfOk, IfErr, OnOk};
+ghost use Rattle.std.specs.Prelude.{◌≡◌, ◌<◌, ◌≤◌, [], ◌∷◌, ◌++◌, false, length, map, List, IfSome, IfOk, IfErr, OnOk};
 ghost use Rattle.std.specs.List.{list_any};
 ghost use Rattle.std.specs.Result.{result_err};
 ghost use Rattle.aprs_io.specs.Device.{device_of};
 ghost use Rattle.aprs_io.specs.Input.{last_of, most_input};
 ghost use Rattle.aprs_log.specs.LogAnswers.{ended, is_lf, log_answers, receptions_of};
-ghost use Rattle.aprs_laws.specs.BookValue.{HaveOneGap};
+ghost use Rattle.aprs_laws.specs.BookValue.{HaveOneGap, Holds};
+ghost use Rattle.aprs_laws.specs.JoinRow.{single};
+ghost use Rattle.aprs_laws.specs.Witnesses.{witnesses};
 ghost use Rattle.aprs_laws.specs.Gap.{millis_of};
 ghost use Rattle.aprs_laws.specs.Book.{BookOf};
 ghost use Rattle.aprs_log.specs.Reception.{Heard};
@@ -14,17 +16,17 @@ ghost use Rattle.aprs_tool.specs.declared.head.TheConstants.{HEAD_LEN};
 ghost use Rattle.aprs_tool.specs.Devices.{AsksInput};
 ghost use Rattle.aprs_tool.specs.Head.{IsHead, last_short};
 ghost use Rattle.aprs_convert.specs.Got.{HoldsOfGot, OfGot};
-ghost use Rattle.aprs_tool.specs.Inputs.{ReadsInput, ReadsLog};
-ghost use Rattle.aprs_tool.specs.Inputs.{RefusesGaps, TakesInput};
+ghost use Rattle.aprs_tool.specs.Inputs.{ReadsInput, RefusesGaps, TakesInput};
+ghost use Rattle.aprs_tool.specs.InputRows.{ReadsLog, ReadsRows};
 
 use crate::fault::InputFault;
-use crate::gathered::{Gathered, book_of};
+use crate::gathered::Gathered;
 use crate::head::{ShortInput, read_head};
 use aprs_book::{Book, Gap, Memory, MergeFault};
-use aprs_booktext::read_book;
+use aprs_booktext::{read_book, read_rows};
 use aprs_io::{Counted, Ending};
 use aprs_log::{Line, LogCause, LogFault, LogReader};
-use aprs_pile::Pile;
+use aprs_rows::RowStore;
 use std::alloc::Allocator;
 use std::io::Read;
 
@@ -80,15 +82,28 @@ fn read_own<R: Read, A: Allocator + Copy>(
     if head == BOOK_MARK {
         return Ok(read_book(alloc, limit, head, r)?);
     }
-    let mut pile = Pile::new(alloc);
-    read_log(alloc, limit, head, &mut pile, r)?;
-    Ok(book_of(alloc, gap, &pile)?)
+    let mut store = RowStore::new(alloc);
+    read_log(alloc, limit, head, &mut store, r)?;
+    Ok(book_of(alloc, gap, &store)?)
 }
 
-/// Reads an input, as `read_input` does, to what was gathered: its book, that of a set, becomes the
-/// book of that set and of the input's receptions. `OtherGap` comes for a faultless book file of
-/// another gap, and then `Memory` where an allocation failed for the merge. After a fault anything
-/// may be gathered.
+/// The book of the rows in a store.
+fn book_of<A: Allocator + Copy>(
+    alloc: A,
+    gap: Gap,
+    store: &RowStore<A>,
+) -> Result<Book<A>, Memory>
+    ensures book { IfOk result (Holds (witnesses store.now)) }
+    ensures gap { IfOk result (λ book. book.gap ≡ gap) }
+{
+    let order = store.in_order()?;
+    let rows = order.coalesced(gap)?;
+    Book::of_rows(alloc, &rows)
+}
+
+/// Reads an input, as `read_input` does, into what was gathered: its book, that of a set, becomes
+/// the book of that set and of the input's receptions. `OtherGap` comes for a faultless book file of
+/// another gap. After a fault anything may be gathered.
 pub(crate) fn read_into<R: Read, A: Allocator + Copy>(
     alloc: A,
     limit: u64,
@@ -101,44 +116,69 @@ pub(crate) fn read_into<R: Read, A: Allocator + Copy>(
     ensures gap { gathered.new.gap ≡ gathered.old.gap }
     ensures calls { AsksInput result r.old r.new }
 {
+    let gap = gathered.gap;
+    let own = read_input_rows(alloc, limit, gap, &mut gathered.store, r)?;
+    if own != gap {
+        return Err(InputFault::OtherGap);
+    }
+    Ok(())
+}
+
+/// Reads the rows of an input into a store, after those that are there, and gives its gap: its own,
+/// where it is a book file, and else the one that is asked for. A reception of a log is a row. After
+/// a fault anything may be there. Holds the store and one line.
+pub(crate) fn read_input_rows<R: Read, A: Allocator + Copy>(
+    alloc: A,
+    limit: u64,
+    gap: Gap,
+    store: &mut RowStore<A>,
+    r: &mut Counted<R>,
+) -> Result<Gap, InputFault>
+    requires { limit ≤ most_input }
+    ensures reads { OfGot limit (R.remaining (device_of r.old)) (R.remaining (device_of r.new))
+        (ReadsRows gap result store.old store.new) }
+    ensures calls { AsksInput result r.old r.new }
+{
     match read_head(limit, r) {
-        Ok(head) => read_whole(alloc, limit, head.as_slice(), gathered, r),
-        Err(short) => Ok(read_short(&short)?),
+        Ok(head) => read_own_rows(alloc, limit, gap, head.as_slice(), store, r),
+        Err(short) => {
+            read_short(&short)?;
+            Ok(gap)
+        }
     }
 }
 
-/// Reads an input that begins with these bytes to what was gathered.
-fn read_whole<R: Read, A: Allocator + Copy>(
+/// Reads the rows of an input that begins with these bytes.
+fn read_own_rows<R: Read, A: Allocator + Copy>(
     alloc: A,
     limit: u64,
+    gap: Gap,
     head: &[u8],
-    gathered: &mut Gathered<A>,
+    store: &mut RowStore<A>,
     r: &mut Counted<R>,
-) -> Result<(), InputFault>
+) -> Result<Gap, InputFault>
     requires limit { limit ≤ most_input }
     requires head { IsHead head.now }
     requires few { length head.now ≤ HEAD_LEN }
     requires within { length head.now ≤ limit }
     ensures reads { IfSome (R.remaining (device_of r.old))
         (λ input. HoldsOfGot limit (head.now ++ input) (R.remaining (device_of r.new))
-        (TakesInput gathered.old.gap result gathered.old.rows gathered.new.rows)) }
-    ensures gap { gathered.new.gap ≡ gathered.old.gap }
+        (ReadsRows gap result store.old store.new)) }
     ensures calls { AsksInput result r.old r.new }
 {
-    if head != BOOK_MARK {
-        return read_log(alloc, limit, head, &mut gathered.pile, r);
+    if head == BOOK_MARK {
+        return Ok(read_rows(alloc, limit, head, r, store)?);
     }
-    let input = read_book(alloc, limit, head, r)?;
-    gathered.book = merged(&gathered.book, input)?;
-    Ok(())
+    read_log(alloc, limit, head, store, r)?;
+    Ok(gap)
 }
 
-/// Lays the receptions of a log that begins with `head` on a pile.
+/// Reads the receptions of a log that begins with `head` into a store, each as a row.
 fn read_log<R: Read, A: Allocator + Copy>(
     alloc: A,
     limit: u64,
     head: &[u8],
-    pile: &mut Pile<A>,
+    store: &mut RowStore<A>,
     r: &mut Counted<R>,
 ) -> Result<(), InputFault>
     requires limit { limit ≤ most_input }
@@ -146,7 +186,7 @@ fn read_log<R: Read, A: Allocator + Copy>(
     requires within { length head.now ≤ limit }
     ensures reads { IfSome (R.remaining (device_of r.old))
         (λ input. HoldsOfGot limit (head.now ++ input) (R.remaining (device_of r.new))
-        (ReadsLog result pile.old pile.new)) }
+        (ReadsLog result store.old store.new)) }
     ensures calls { AsksInput result r.old r.new }
 {
     let mut reader = LogReader::new(alloc, limit, head, r);
@@ -154,16 +194,17 @@ fn read_log<R: Read, A: Allocator + Copy>(
         if !reader.advance()? {
             return Ok(());
         }
-        lay(pile, reader.current())?;
+        push_heard(store, reader.current())?;
     }
 }
 
-/// Lays the reception of a line on a pile, if it has one.
-fn lay<A: Allocator + Copy>(pile: &mut Pile<A>, line: &Line) -> Result<(), Memory>
-    ensures { OnOk result (pile.new ≡ pile.old ++ receptions_of (line.now ∷ [])) }
+/// Puts the reception of a line after the rows, if it has one.
+fn push_heard<A: Allocator + Copy>(store: &mut RowStore<A>, line: &Line) -> Result<(), Memory>
+    ensures { OnOk result (store.new
+        ≡ store.old ++ map single (receptions_of (line.now ∷ []))) }
 {
     match line {
-        Line::Heard(x) => pile.push(x),
+        Line::Heard(x) => store.push_reception(x),
         Line::Passed(_) => Ok(()),
     }
 }

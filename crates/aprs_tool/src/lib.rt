@@ -10,7 +10,6 @@ mod laws;
 mod merge;
 mod run;
 mod show;
-mod shown;
 mod widen;
 
 pub use aprs_command::{Job, JobFault, command_is_simple, job};

@@ -7,9 +7,9 @@ ghost use Rattle.aprs_tool.specs.Devices.{AsksEach, CallsOutput};
 ghost use Rattle.aprs_tool.specs.Widen.{WidensInput};
 
 use crate::fault::{InputFault, RunFault};
-use crate::input::read_input;
-use aprs_book::{Gap, WidenFault};
-use aprs_booktext::write_book;
+use crate::gathered::{Gathered, Unwritten};
+use crate::input::read_input_rows;
+use aprs_book::Gap;
 use aprs_io::Counted;
 use std::alloc::Allocator;
 use std::io::{Read, Write};
@@ -34,16 +34,19 @@ pub fn widen_run<R: Read, W: Write, A: Allocator + Copy>(
     ensures reads { AsksEach result (r.old ∷ []) (r.new ∷ []) }
     ensures writes { CallsOutput result w.old w.new }
 {
-    let book = match read_input(alloc, limit, gap, r) {
-        Ok(book) => book,
+    let mut gathered = Gathered::new(alloc, gap);
+    let own = match read_input_rows(alloc, limit, gap, &mut gathered.store, r) {
+        Ok(own) => own,
         Err(fault) => return Err(RunFault::Input { index: 0, fault }),
     };
-    let wide = match book.widen(gap) {
-        Ok(wide) => wide,
-        Err(WidenFault::Narrower) => return Err(narrower()),
-        Err(WidenFault::Memory) => return Err(RunFault::Memory),
-    };
-    Ok(write_book(w, &wide)?)
+    if own.seconds() > gap.seconds() {
+        return Err(narrower());
+    }
+    match gathered.write(w) {
+        Ok(()) => Ok(()),
+        Err(Unwritten::Memory) => Err(RunFault::Memory),
+        Err(Unwritten::Write) => Err(RunFault::Write),
+    }
 }
 
 /// The only input has a greater gap.

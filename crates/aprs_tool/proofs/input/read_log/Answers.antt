@@ -1,9 +1,10 @@
-use Rattle.std.proofs.Common.{ap, inl, refl, rules, sym, ◌∙◌, ◌++◌, ◌∷◌, [], subst, IfSome, Ok, Err}
+use Rattle.aprs_laws.specs.JoinRow.{single}
+use Rattle.std.proofs.Common.{ap, map, inl, refl, rules, sym, ◌∙◌, ◌++◌, ◌∷◌, [], subst, IfSome, Ok, Err}
 use Rattle.std.proofs.lemmas.Result.{err_from_is_err_and}
 use Rattle.aprs_io.specs.Device.{Calls, End, Going, device_of}
 use Rattle.aprs_io.proofs.Sends.{Calls-none, Calls-then}
 use Rattle.aprs_convert.specs.Got.{HoldsOfGot}
-use Rattle.aprs_tool.specs.Inputs.{ReadsLog}
+use Rattle.aprs_tool.specs.InputRows.{ReadsLog}
 use Rattle.aprs_tool.specs.declared.fault.InputFault.TheVariants.{Log}
 use Rattle.aprs_log.specs.LogAnswers.{receptions_of}
 use Rattle.aprs_log.specs.Awaits.{last_of_cause}
@@ -30,7 +31,7 @@ lines-preserved g c =
       going = gives.1;
       took = λ end. Took-line _ _ _ _ _ _ _ (current_of c.advance.new.self) refl
           (c.lines.invariant.took end) (gives.2 end)
-          (c.in_ok-lay.ensures ∙ ap (λ (y : Line). c.lines.pile ++ receptions_of (y ∷ []))
+          (c.in_ok-push_heard.ensures ∙ ap (λ (y : Line). c.lines.store ++ map single (receptions_of (y ∷ [])))
           c.current.ensures);
     }
 
@@ -42,7 +43,7 @@ returns-then-not-branch-clause-reads g c =
     let back = c.r-then-not-branch-1.given.1 (sym loan) in
     subst (λ k. IfSome (g.R.Read.remaining (device_of c.args.r.now))
     (λ input. HoldsOfGot c.args.limit (c.args.head.now ++ input) k
-    (ReadsLog (Ok tt) c.args.pile.now c.lines.pile)))
+    (ReadsLog (Ok tt) c.args.store.now c.lines.store)))
     (ap (λ k. g.R.Read.remaining (device_of k)) (sym back))
     (Took-ended _ _ _ _ _ _ c.args.limit c.args.head.now (c.lines.invariant.took _)
     gives.2 (c.new-reader.ensures.whole _))
@@ -57,16 +58,16 @@ returns-in_err-advance-clause-reads g c =
     rw (p.1, p.2)
     (subst (λ k. IfSome (g.R.Read.remaining (device_of c.args.r.now))
     (λ input. HoldsOfGot c.args.limit (c.args.head.now ++ input) k
-    (ReadsLog (Err (Log fault)) c.args.pile.now c.lines.pile)))
+    (ReadsLog (Err (Log fault)) c.args.store.now c.lines.store)))
     (ap (λ k. g.R.Read.remaining (device_of k)) (sym back))
     (Took-fault _ _ _ _ _ _ c.args.limit c.args.head.now fault
     (c.lines.invariant.took _) c.in_err-advance.ensures.gives.2 (c.new-reader.ensures.whole _)))
 
-pub returns-in_err-lay-clause-reads : goal.returns-in_err-lay-clause-reads
-returns-in_err-lay-clause-reads g c =
-    let p = err_from_is_err_and c.from_residual-in_err-lay.result
-    c.from_residual-in_err-lay.ensures.1 in
-    rw (p.1, p.2) (Took-refused _ _ c.args.limit c.args.head.now c.args.pile.now c.lay.new.pile)
+pub returns-in_err-push_heard-clause-reads : goal.returns-in_err-push_heard-clause-reads
+returns-in_err-push_heard-clause-reads g c =
+    let p = err_from_is_err_and c.from_residual-in_err-push_heard.result
+    c.from_residual-in_err-push_heard.ensures.1 in
+    rw (p.1, p.2) (Took-refused _ _ c.args.limit c.args.head.now c.args.store.now c.push_heard.new.store)
 
 pub returns-then-not-branch-clause-calls : goal.returns-then-not-branch-clause-calls
 returns-then-not-branch-clause-calls g c = subst (Calls End c.args.r.now) (search rules)
@@ -80,10 +81,10 @@ returns-in_err-advance-clause-calls g c =
     (subst (Calls (last_of_cause c.in_err-advance.field-0.0.cause) c.args.r.now) (search rules)
     (Calls-then c.lines.invariant.calls (c.in_err-advance.ensures.calls c.lines.invariant.going)))
 
-pub returns-in_err-lay-clause-calls : goal.returns-in_err-lay-clause-calls
-returns-in_err-lay-clause-calls g c =
-    let p = err_from_is_err_and c.from_residual-in_err-lay.result
-    c.from_residual-in_err-lay.ensures.1 in
+pub returns-in_err-push_heard-clause-calls : goal.returns-in_err-push_heard-clause-calls
+returns-in_err-push_heard-clause-calls g c =
+    let p = err_from_is_err_and c.from_residual-in_err-push_heard.result
+    c.from_residual-in_err-push_heard.ensures.1 in
     rw (p.1, p.2) (inl (subst (Calls Going c.args.r.now) (search rules)
     (Calls-then c.lines.invariant.calls
     (rw c.if-not-branch.false at (c.in_ok-advance.ensures.calls c.lines.invariant.going)))))

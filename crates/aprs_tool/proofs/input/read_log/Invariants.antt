@@ -14,7 +14,7 @@ invariant-lines g l =
       going : stop_of l.reader ≡ None;
       took : (end : Option (List ℕ)) → Took
           (Awaits (remaining (device_of (source_of l.initial.reader))) end l.initial.reader)
-          (Awaits (remaining (device_of (source_of l.reader))) end l.reader) l.fn.pile l.pile;
+          (Awaits (remaining (device_of (source_of l.reader))) end l.reader) l.fn.store l.store;
     }
 
 abbrev pub decreases-lines : goal.decreases-lines

@@ -15,7 +15,7 @@ returns-in_err-read_log-clause-reads g c =
     c.from_residual-in_err-read_log.ensures.1 in
     rw (p.1, p.2) (log_input _ _ c.args.limit c.args.head.now _ _ c.requires.head
     (is_other_eq c.args.head.now c.eq.result c.eq.ensures c.if-eq.false)
-    (refused_log c.in_err-read_log.field-0.0 c.new-pile.result c.read_log.new.pile)
+    (refused_log c.in_err-read_log.field-0.0 c.new-store.result c.read_log.new.store)
     c.in_err-read_log.ensures.reads)
 
 pub returns-in_err-book_of-clause-reads : goal.returns-in_err-book_of-clause-reads
@@ -30,8 +30,8 @@ pub returns-clause-reads : goal.returns-clause-reads
 returns-clause-reads g c =
     log_input _ _ c.args.limit c.args.head.now _ _ c.requires.head
     (is_other_eq c.args.head.now c.eq.result c.eq.ensures c.if-eq.false)
-    (λ t e is. read_alone c.args.gap c.in_ok-book_of.field-0 c.new-pile.result c.read_log.new.pile
-    t e is c.in_ok-book_of.ensures.gap c.new-pile.ensures c.in_ok-book_of.ensures.book)
+    (λ t e is. read_alone c.args.gap c.in_ok-book_of.field-0 c.new-store.result c.read_log.new.store
+    t e is c.in_ok-book_of.ensures.gap c.new-store.ensures c.in_ok-book_of.ensures.book)
     c.in_ok-read_log.ensures.reads
 
 pub returns-in_err-book_of-clause-calls : goal.returns-in_err-book_of-clause-calls

@@ -1,8 +1,0 @@
-use Rattle.std.proofs.Common.{◌≡◌, take}
-use Rattle.aprs_pile.proofs.rows.PiledRows.book.Given as goal
-
-abbrev pub invariant-loop-row : goal.invariant-loop-row
-invariant-loop-row g l = record {
-  gap : l.book.gap ≡ l.fn.self.gap;
-  rows : l.book.rows ≡ take l.row-index l.row-items;
-}

@@ -1,0 +1,149 @@
+//! Rows in a store, with ample memory and with each growth refused.
+
+use crate::ample_memory::hundred;
+use crate::last_known::sent;
+use crate::refused_calls::{ROWS, SENT, squeeze};
+use crate::shown::is_shown;
+use crate::vectors::{DIRECT, heard};
+use aprs_book::{Book, Gap, Memory, RowList};
+use aprs_rows::RowStore;
+use bumpalo::Bump;
+use std::alloc::{Allocator, Global};
+use std::test::Fail;
+
+/// The book of a store's rows.
+fn book_of<A: Allocator + Copy>(alloc: A, store: &RowStore<A>) -> Result<Book<A>, Memory> {
+    let order = store.in_order()?;
+    let rows = order.coalesced(Gap::STANDARD)?;
+    Book::of_rows(alloc, &rows)
+}
+
+/// The receptions of a hundred minutes by RX2 from this second on, the last first, and by RX1.
+fn two_hundred(alloc: Global, first: u64) -> Result<RowStore, Fail> {
+    let mut store = RowStore::new(alloc);
+    for minute in 0..100u64 {
+        let second = first.saturating_add(99u64.saturating_sub(minute) * 60);
+        let x = heard(second, b"RX2", &DIRECT)?;
+        store.push_reception(&x).ok().ok_or("memory")?;
+    }
+    for minute in 0..100u64 {
+        let x = heard(minute * 60, b"RX1", &DIRECT)?;
+        store.push_reception(&x).ok().ok_or("memory")?;
+    }
+    Ok(store)
+}
+
+/// The book of a hundred minutes by RX1, and by RX2 from this second on.
+fn taken(alloc: Global, first: u64) -> Result<Book, Fail> {
+    let book = hundred(alloc, 0, b"RX1")?;
+    let other = hundred(alloc, first, b"RX2")?;
+    Ok(book.merge(&other).ok().ok_or("memory")?)
+}
+
+#[test]
+fn two_hundred_receptions_are_put_in_order(rt: HostRuntime) -> Result<(), Fail> {
+    let alloc = rt.alloc();
+    for (first, rows) in [(0, 100), (30, 1), (6031, 200)] {
+        let store = two_hundred(alloc, first)?;
+        let book = book_of(alloc, &store).ok().ok_or("memory")?;
+        assert!(rt; book.len() == rows);
+        assert!(rt; book.same(&taken(alloc, first)?));
+    }
+    Ok(())
+}
+
+/// Stores what was sent, each again where memory was refused, and returns how often it was.
+fn store_sent<'a>(bump: &'a Bump, store: &mut RowStore<&'a Bump>) -> Result<u64, Fail> {
+    let mut refused = 0u64;
+    for &(second, source, info) in SENT {
+        let x = sent(second, source, info)?;
+        if store.push_reception(&x).is_err() {
+            refused = refused.saturating_add(1);
+            bump.set_allocation_limit(None);
+            store.push_reception(&x).ok().ok_or("memory")?;
+        }
+    }
+    Ok(refused)
+}
+
+/// What was refused with so many units of room: whether a reception, and whether the book.
+fn refusals(alloc: Global, units: usize) -> Result<(bool, bool), Fail> {
+    let bump = Bump::try_with_capacity(alloc, 65_536)?;
+    let _fill = squeeze(&bump, units)?;
+    let mut store = RowStore::new(&bump);
+    let refused = store_sent(&bump, &mut store)?;
+    let answer = book_of(&bump, &store);
+    bump.set_allocation_limit(None);
+    let book = book_of(&bump, &store).ok().ok_or("memory")?;
+    if !is_shown(alloc, &book, ROWS) {
+        return Err("other rows".into());
+    }
+    Ok((refused > 0, answer.is_err()))
+}
+
+// Room for more and more units: first a reception is refused, then the order, the rows or the book,
+// and at last nothing.
+#[test]
+fn refused_stores_are_as_before(rt: HostRuntime) -> Result<(), Fail> {
+    let mut receptions = 0u64;
+    let mut books = 0u64;
+    let mut granted = 0u64;
+    for units in 0..256usize {
+        match refusals(rt.alloc(), units)? {
+            (true, _) => receptions = receptions.saturating_add(1),
+            (false, true) => books = books.saturating_add(1),
+            (false, false) => granted = granted.saturating_add(1),
+        }
+    }
+    assert!(rt; receptions > 0 && books > 0 && granted > 0);
+    Ok(())
+}
+
+/// The rows of a store in a list.
+pub fn list_of<A: Allocator + Copy>(alloc: A, store: &RowStore<A>) -> Result<RowList<A>, Memory> {
+    let order = store.in_order()?;
+    let rows = order.coalesced(Gap::STANDARD)?;
+    RowList::of_rows(alloc, &rows)
+}
+
+/// How many stations, objects and items, and messages the list has.
+fn counts<A: Allocator + Copy>(list: &RowList<A>) -> Result<(usize, usize, usize), Memory> {
+    let stations = list.stations()?;
+    let named = list.objects()?;
+    let messages = list.messages()?;
+    Ok((stations.len(), named.len(), messages.len()))
+}
+
+/// Whether the list of what was sent, or what it lists, is refused with so many units of room.
+fn is_list_refused(alloc: Global, units: usize) -> Result<bool, Fail> {
+    let bump = Bump::try_with_capacity(alloc, 65_536)?;
+    let mut store = RowStore::new(&bump);
+    store_sent(&bump, &mut store)?;
+    let _fill = squeeze(&bump, units)?;
+    let is_refused = match list_of(&bump, &store) {
+        Ok(list) => counts(&list).is_err(),
+        Err(_) => true,
+    };
+    bump.set_allocation_limit(None);
+    let list = list_of(&bump, &store).ok().ok_or("memory")?;
+    match counts(&list) {
+        Ok((3, 2, 1)) => Ok(is_refused),
+        _ => Err("another list".into()),
+    }
+}
+
+// Room for more and more units: at first something is refused, and at last nothing.
+#[test]
+fn refused_lists_are_made_again(rt: HostRuntime) -> Result<(), Fail> {
+    let mut refused = 0u64;
+    let mut granted = 0u64;
+    for units in 0..256usize {
+        if is_list_refused(rt.alloc(), units)? {
+            refused = refused.saturating_add(1);
+        } else {
+            granted = granted.saturating_add(1);
+        }
+    }
+    assert!(rt; refused > 0 && granted > 0);
+    Ok(())
+}

@@ -1,0 +1,40 @@
+-- What an input's rows are in a store. No public clause cites this module.
+use Rattle.std.specs.Prelude.{◌≡◌, ℕ, List, [], ◌++◌, None, Some, Result, Ok, Err, map}
+use Rattle.aprs_log.specs.LogAnswers.{log_answers, receptions_of}
+use Rattle.aprs_log.specs.Reception.{Heard}
+use Rattle.aprs_log.specs.declared.Ending.{Ending}
+use Rattle.aprs_laws.specs.Coalescing.{StandFor}
+use Rattle.aprs_laws.specs.JoinRow.{single}
+use Rattle.aprs_laws.specs.Row.{Row}
+use Rattle.aprs_tool.specs.Inputs.{AreMembers, IsFaultless, IsGapOf, IsRefused}
+use Rattle.aprs_tool.specs.declared.fault.InputFault.{InputFault}
+use Rattle.aprs_tool.specs.declared.fault.InputFault.TheVariants.{Log, Memory}
+
+-- A log is refused for the fault after its lines, or because an allocation failed.
+abbrev pub IsLogRefused : InputFault → List ℕ → Ending → Type 0
+IsLogRefused (Log fault) text ending = (log_answers text ending).fault ≡ Some fault
+IsLogRefused Memory text ending = Unit {0}
+IsLogRefused fault text ending = ⊥
+
+-- The receptions of a faultless log come after the rows that were there, each as a row, and any
+-- other log is refused.
+abbrev pub ReadsLog : Result (Unit {0}) InputFault → List Row → List Row → List ℕ → Ending → Type 0
+ReadsLog (Ok u) old new text ending = ((log_answers text ending).fault ≡ None)
+    × (new ≡ old ++ map single (receptions_of (log_answers text ending).given))
+ReadsLog (Err fault) old new text ending = IsLogRefused fault text ending
+
+-- The input is faultless, and the rows that came after the old ones stand for its receptions, under
+-- its own gap or the one asked for.
+pub record GivesRows (asked own : ℕ) (old new : List Row) (text : List ℕ) (ending : Ending) : Type 0 where
+  pub faultless : IsFaultless text ending
+  pub gap_is : IsGapOf asked text own
+  pub rows : List Row
+  pub new_is : new ≡ old ++ rows
+  pub set : List Heard
+  pub members : AreMembers own text ending set
+  pub stand : StandFor rows set
+
+-- The rows of a faultless input are read, and any other input is refused.
+abbrev pub ReadsRows : ℕ → Result ℕ InputFault → List Row → List Row → List ℕ → Ending → Type 0
+ReadsRows asked (Ok own) old new text ending = GivesRows asked own old new text ending
+ReadsRows asked (Err fault) old new text ending = IsRefused fault text ending
