@@ -348,8 +348,8 @@ module _ (v : Version) (rows : List Row) (line : List ℕ) (s : SpelledRow (form
   }
   judge_why row.Memory e is = absurd (never_memory (millis_of (gap_of v)) rows s.row e)
 
-  judge_row : (o : Option RowCause) → refusal (millis_of (gap_of v)) rows s.row ≡ o → IsBookRow (form_of v) s.row
-      → Judged (Rows v) rows line
+  judge_row : (o : Option RowCause) → refusal (millis_of (gap_of v)) rows s.row ≡ o
+      → IsBookRow (form_of v) s.row → Judged (Rows v) rows line
   judge_row None e is = record {
     result = Ok (Rows v);
     new = rows ++ s.row ∷ [];
@@ -543,7 +543,8 @@ step e rest stage rows t going s next = elim (cut_text rest) [
         | inl m ↦ absurd (known (ap (λ (x : BookCause). Err x) m.refused))
         | inr first ↦ inr (record {
           fault = record { line = line_number stage (length new); cause = k };
-          first = subst (λ l. FirstFault l e (record { line = line_number stage (length new); cause = k }))
+          first = subst (λ l. FirstFault l e
+              (record { line = line_number stage (length new); cause = k }))
               (text_is c) (first e);
         })
       ]

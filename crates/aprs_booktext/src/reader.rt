@@ -115,7 +115,7 @@ impl<A: Allocator + Copy> BookReader<A> {
     }
 
     /// Sees that no bytes come after the last line.
-    pub fn append_nothing(&self, bytes: &[u8]) -> Result<(), BookFault>
+    fn append_nothing(&self, bytes: &[u8]) -> Result<(), BookFault>
         requires few { self.now.count ≤ most_input }
         requires done { is_done self.now.stage ≡ true }
         ensures ok { OnOk result (bytes.now ≡ []) }
