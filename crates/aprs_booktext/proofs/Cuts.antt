@@ -1,5 +1,5 @@
 -- Lemmas on texts in pieces.
-use Rattle.std.proofs.Common.{◌≡◌, ℕ, zero, suc, ◌<◌, ◌≤◌, true, false, eqb, List, [], ◌∷◌, ◌++◌, length, get_or, take, drop, refl, sym, ap, ◌∙◌, arith}
+use Rattle.std.proofs.Common.{◌≡◌, ℕ, zero, suc, ◌<◌, true, false, eqb, List, [], ◌∷◌, ◌++◌, length, get_or, take, drop, refl, sym, ap, ◌∙◌, arith}
 use Rattle.std.specs.List.{join_with_byte, onto_first, AllByRecursion}
 use Rattle.std.proofs.lemmas.List.Splits.{slice_split_none, slice_split_at, join_with_byte-slice_split, length-slice_split}
 use Rattle.std.proofs.lemmas.List.Elements.{All-from_recursion}
@@ -18,15 +18,6 @@ lacks_of c [] none = tt
 lacks_of c (x ∷ text) none = (
   false_from_ne_true _ (none 0 (omega arith)),
   lacks_of c text (λ k h. none (suc k) (omega arith)),
-)
-
-pub lacks_take : (c i : ℕ) (text : List ℕ) → i ≤ length text
-    → ((k : ℕ) → k < i → ¬ (is_byte c (get_or text k 0) ≡ true)) → Lacks c (take i text)
-lacks_take c zero text h none = tt
-lacks_take c (suc i) [] h none = tt
-lacks_take c (suc i) (x ∷ text) h none = (
-  false_from_ne_true _ (none 0 (omega arith)),
-  lacks_take c i text (omega arith) (λ k l. none (suc k) (omega arith)),
 )
 
 -- ---- pieces

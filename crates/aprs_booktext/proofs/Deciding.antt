@@ -19,7 +19,6 @@ use Rattle.aprs_log.proofs.Moments.{moment_in-text}
 use Rattle.aprs_io.specs.declared.input.Ending.{Ending}
 use Rattle.aprs_laws.specs.Gap.{greatest_gap, IsGap, millis_of}
 use Rattle.aprs_laws.specs.Row.{Row, last_of}
-use Rattle.aprs_laws.specs.Sound.{Sound}
 use Rattle.aprs_rows.specs.Refusal.{refusal, is_refused}
 use Rattle.aprs_book.specs.Shown.{row_of}
 use Rattle.aprs_laws.specs.declared.row_cause.RowCause.{RowCause}
@@ -27,7 +26,7 @@ use Rattle.aprs_laws.specs.declared.row_cause.RowCause.TheVariants as row
 use Rattle.aprs_booktext.specs.FirstFault.{FirstFault, is_end}
 use Rattle.aprs_booktext.specs.Law.{IsBookText}
 use Rattle.aprs_booktext.specs.Lines.{is_byte, Lacks, pieces}
-use Rattle.aprs_booktext.specs.Reader.{HoldsIn, IsJudgedIn, StandsAfter, is_done, line_number, may_end}
+use Rattle.aprs_booktext.specs.Reader.{IsJudgedIn, StandsAfter, is_done, line_number, may_end}
 use Rattle.aprs_booktext.specs.RowFields.{SpellsBytes}
 use Rattle.aprs_booktext.specs.Text.{row_line, end_line, lines_of, book_text, most_frame_bytes, IsSpelled, IsBookRow, IsWritable}
 use Rattle.aprs_booktext.specs.Version.{form_of, gap_of, header_of}
@@ -349,8 +348,8 @@ module _ (v : Version) (rows : List Row) (line : List ℕ) (s : SpelledRow (form
   }
   judge_why row.Memory e is = absurd (never_memory (millis_of (gap_of v)) rows s.row e)
 
-  judge_row : (o : Option RowCause) → refusal (millis_of (gap_of v)) rows s.row ≡ o → IsBookRow (form_of v) s.row
-      → Judged (Rows v) rows line
+  judge_row : (o : Option RowCause) → refusal (millis_of (gap_of v)) rows s.row ≡ o
+      → IsBookRow (form_of v) s.row → Judged (Rows v) rows line
   judge_row None e is = record {
     result = Ok (Rows v);
     new = rows ++ s.row ∷ [];
@@ -544,7 +543,8 @@ step e rest stage rows t going s next = elim (cut_text rest) [
         | inl m ↦ absurd (known (ap (λ (x : BookCause). Err x) m.refused))
         | inr first ↦ inr (record {
           fault = record { line = line_number stage (length new); cause = k };
-          first = subst (λ l. FirstFault l e (record { line = line_number stage (length new); cause = k }))
+          first = subst (λ l. FirstFault l e
+              (record { line = line_number stage (length new); cause = k }))
               (text_is c) (first e);
         })
       ]

@@ -1,9 +1,8 @@
--- Lemmas on what stands where the last line was read.
-use Rattle.std.proofs.Common.{◌≡◌, ℕ, ◌+◌, ◌<◌, ◌^◌, true, false, List, [], ◌∷◌, ◌++◌, length, map, inl, inr, refl, sym, ap, ◌∙◌, append_assoc, append-nil, arith}
+-- A refused allocation after the last line was read.
+use Rattle.std.proofs.Common.{◌≡◌, ℕ, ◌+◌, ◌<◌, ◌^◌, true, false, List, [], ◌∷◌, ◌++◌, length, map, inl, inr, refl, ap, ◌∙◌, append-nil, arith}
 use Rattle.std.proofs.lemmas.List.Concat.{flat_map-append}
-use Rattle.aprs_laws.specs.BookValue.{IsSoundBook}
 use Rattle.aprs_laws.specs.Row.{Row}
-use Rattle.aprs_booktext.specs.Reader.{StandsAfter, IsFault, gap_in, is_done}
+use Rattle.aprs_booktext.specs.Reader.{StandsAfter, IsFault, is_done}
 use Rattle.aprs_booktext.specs.Text.{row_line, end_line, lines_of, text_of_lines, ended_by_lf}
 use Rattle.aprs_booktext.specs.Version.{form_of, header_of}
 use Rattle.aprs_booktext.specs.declared.fault.BookCause.TheVariants as cause
@@ -12,16 +11,6 @@ use Rattle.aprs_booktext.specs.declared.reader.Stage.TheVariants.{Header, Rows, 
 use Rattle.aprs_booktext.specs.declared.version.Version.{Version}
 use Rattle.aprs_booktext.proofs.OneText.{end_lacks}
 use Rattle.aprs_booktext.proofs.Standing.{number_is}
-use Rattle.aprs_booktext.proofs.Versions.{range}
-
--- the rows are those of a book
-pub done_sound : (stage : Stage) (rows : List Row) (line t : List ℕ) → is_done stage ≡ true
-    → StandsAfter stage rows line t
-    → IsSoundBook (record { gap = gap_in stage; rows = rows })
-done_sound Header rows line t done s = absurd (let f : false ≡ true = done in cc)
-done_sound (Rows v) rows line t done s = absurd (let f : false ≡ true = done in cc)
-done_sound (Done v) rows line t done s =
-    record { range = range v s.holds.0.version; sound = s.holds.0.sound }
 
 module _ (v : Version) (rows : List Row) where
   -- its lines but the last

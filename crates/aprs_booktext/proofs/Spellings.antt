@@ -52,10 +52,6 @@ high_lacks c [] h high = tt
 high_lacks c (b ∷ text) h high = let low = high.0 in
     (grind (arith, nat_tests), high_lacks c text h high.1)
 
-high_append : (a b : List ℕ) → High a → High b → High (a ++ b)
-high_append [] b h k = k
-high_append (x ∷ a) b h k = (h.0, high_append a b h.1 k)
-
 high_two : (n : ℕ) (rest : List ℕ) → High rest → High (two_digits n ++ rest)
 high_two n rest h = (omega arith, (omega arith, h))
 
@@ -96,9 +92,6 @@ pub high_name : (r : List ℕ) → IsName r → High r
 high_name r h = high_bytes r (and_parts _ _ h).1
 
 -- ---- digits
-
-abbrev AreHigh : List ℕ → Type 0
-AreHigh table = High table
 
 high_at : (table : List ℕ) (n : ℕ) → n < length table → High table → 45 ≤ get_or table n 0
 high_at [] n h high = absurd (omega arith)

@@ -1,8 +1,8 @@
 -- Lemmas on what a reader of a book holds.
-use Rattle.std.proofs.Common.{◌≡◌, ℕ, ◌+◌, ◌<◌, ◌≤◌, true, false, List, [], ◌∷◌, ◌++◌, length, drop, map, Bool, Option, None, Some, Result, Ok, Err, ◌⊎◌, inl, inr, refl, sym, ap, ◌∙◌, subst, append_assoc, append-nil, length-append, arith}
+use Rattle.std.proofs.Common.{◌≡◌, ℕ, ◌+◌, ◌<◌, ◌≤◌, true, false, List, [], ◌∷◌, ◌++◌, length, drop, map, Option, None, Some, Ok, Err, inl, inr, refl, sym, ap, ◌∙◌, subst, append_assoc, append-nil, length-append, arith}
 use Rattle.std.specs.Prelude.{◌≢◌, All, IfNone, IfSome}
 use Rattle.std.specs.List.{last_or}
-use Rattle.std.proofs.lemmas.List.{length-map, nil_from_length}
+use Rattle.std.proofs.lemmas.List.{length-map}
 use Rattle.std.proofs.lemmas.List.Concat.{flat_map-append}
 use Rattle.std.proofs.lemmas.List.{map_push}
 use Rattle.std.proofs.Math.Seq.{drop-append_seam}
@@ -14,13 +14,9 @@ use Rattle.aprs_laws.specs.Row.{Row}
 use Rattle.aprs_laws.specs.Sound.{Sound}
 use Rattle.aprs_booktext.specs.Lines.{Lacks}
 use Rattle.aprs_booktext.proofs.Cuts.{lacks_append}
-use Rattle.aprs_log.specs.declared.moment_form.MomentForm.{MomentForm}
 use Rattle.aprs_rows.specs.Refusal.{refusal}
-use Rattle.aprs_laws.specs.declared.row_cause.RowCause.{RowCause}
-use Rattle.aprs_laws.specs.declared.row_cause.RowCause.TheVariants as row
 use Rattle.aprs_rows.proofs.Refusals.{none_exactly}
-use Rattle.aprs_booktext.specs.Fault.{book_cause_of}
-use Rattle.aprs_booktext.specs.FirstFault.{FirstFault, IsWrong, ending_cause, ReadsSo}
+use Rattle.aprs_booktext.specs.FirstFault.{FirstFault, ending_cause, ReadsSo}
 use Rattle.aprs_booktext.specs.Reader.{HoldsIn, StandsAfter, IsFault, IsJudgedIn, HasRows, HasRowsSo, gap_in, is_done, line_number, lines_read, may_end}
 use Rattle.aprs_booktext.specs.StoredRows.{rows_after}
 use Rattle.aprs_booktext.specs.Text.{row_line, end_line, lines_of, text_of_lines, ended_by_lf, book_text, IsBookRow, IsBookRows}
@@ -73,24 +69,7 @@ one_more ls line t e =
     ∙ sym (flat_map-append ended_by_lf ls (line ∷ []))
     ∙ sym (append-nil (text_of_lines (ls ++ line ∷ [])))
 
--- ---- a row that can't be added
-
--- a row of this line that is refused makes the line wrong
-pub refused_line : (gap : ℕ) (form : MomentForm) (rows : List Row) (x : Row) (line : List ℕ)
-    → IsBookRow form x → line ≡ row_line form x → (why : RowCause)
-    → refusal gap rows x ≡ Some why
-    → (book_cause_of why ≡ cause.Memory) ⊎ IsWrong gap form rows line (book_cause_of why)
-refused_line gap form rows x line is spelled row.Order e =
-    inr (record { row = x; is = is; spelled = spelled; refused = e })
-refused_line gap form rows x line is spelled row.Span e =
-    inr (record { row = x; is = is; spelled = spelled; refused = e })
-refused_line gap form rows x line is spelled row.Near e =
-    inr (record { row = x; is = is; spelled = spelled; refused = e })
-refused_line gap form rows x line is spelled row.Receivers e =
-    inr (record { row = x; is = is; spelled = spelled; refused = e })
-refused_line gap form rows x line is spelled row.NotGreatest e =
-    inr (record { row = x; is = is; spelled = spelled; refused = e })
-refused_line gap form rows x line is spelled row.Memory e = inl refl
+-- ---- a line judged
 
 -- no rows are a book's
 pub no_rows : (v : Version) → IsVersion v → IsBookRows v []

@@ -1,9 +1,7 @@
 -- The fields of a row's line, as they are cut. No public clause cites this module.
-use Rattle.std.specs.Prelude.{◌≡◌, ◌≢◌, ◌<◌, ◌≤◌, ◌⊎◌, ℕ, ◌∷◌, [], List, All, length, Ok, IsErr}
-use Rattle.std.specs.List.{join_with_byte}
+use Rattle.std.specs.Prelude.{◌≡◌, ◌≢◌, ◌<◌, ◌≤◌, ◌⊎◌, ℕ, ◌∷◌, [], List, length, Ok, IsErr}
 use Rattle.hex.specs.Hex.{encode_lower, IsBytes}
 use Rattle.aprs_ax25.specs.FrameFault.{frame_of}
-use Rattle.aprs_log.specs.Receiver.{IsName}
 use Rattle.aprs_log.specs.declared.moment_form.MomentForm.{MomentForm}
 use Rattle.aprs_laws.specs.Row.{Row}
 use Rattle.aprs_booktext.specs.FirstFault.{HasNoFrame}

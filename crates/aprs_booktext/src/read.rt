@@ -31,7 +31,7 @@ const CHUNK: usize = 16_384;
 /// most `MAX_INPUT` (1,073,741,824) and a head of at most 8 bytes and at most `limit`. A fault is
 /// the text's first, with the number of its line; `Memory` comes instead where an allocation failed
 /// before that fault, with the number of the line that was being read. Holds one line and the rows
-/// in bytes, as `read_rows` does, and then the book beside them.
+/// in bytes, and then the book beside them.
 pub fn read_book<R: Read, A: Allocator + Copy>(
     alloc: A,
     limit: u64,
@@ -63,9 +63,9 @@ pub fn read_book<R: Read, A: Allocator + Copy>(
     Ok(book)
 }
 
-/// Reads the rows of a book from its text, as `read_book` does, into a store, after the rows that
-/// are there, and gives the book's gap. After a fault anything may be there. Holds the store and
-/// one line.
+/// Reads the rows of a book from its text, as `read_book` does, and puts them after those of a
+/// store: the answer is the book's gap. What is required is the same, and so are the faults; after
+/// one, anything may be in the store. Holds the store and one line.
 pub fn read_rows<R: Read, A: Allocator + Copy>(
     alloc: A,
     limit: u64,
@@ -154,11 +154,7 @@ fn gap_at_end<R: Read, A: Allocator + Copy>(
 }
 
 /// The book of the rows of a store, which are those of a book with this gap.
-fn book_in<A: Allocator + Copy>(
-    alloc: A,
-    gap: Gap,
-    store: &RowStore<A>,
-) -> Result<Book<A>, Memory>
+fn book_in<A: Allocator + Copy>(alloc: A, gap: Gap, store: &RowStore<A>) -> Result<Book<A>, Memory>
     requires { IsSoundBook (record { gap = gap; rows = store.now }) }
     ensures { IfOk result (λ book. book ≡ record { gap = gap; rows = store.now }) }
 {

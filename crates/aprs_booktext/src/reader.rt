@@ -115,7 +115,7 @@ impl<A: Allocator + Copy> BookReader<A> {
     }
 
     /// Sees that no bytes come after the last line.
-    pub fn append_nothing(&self, bytes: &[u8]) -> Result<(), BookFault>
+    fn append_nothing(&self, bytes: &[u8]) -> Result<(), BookFault>
         requires few { self.now.count ≤ most_input }
         requires done { is_done self.now.stage ≡ true }
         ensures ok { OnOk result (bytes.now ≡ []) }
@@ -190,8 +190,10 @@ impl<A: Allocator + Copy> BookReader<A> {
     /// The fault where the text ends so and may not.
     pub fn fault_at(&self, ending: Ending) -> BookFault
         requires { self.now.count ≤ most_input }
-        ensures { result ≡ record { line = line_number self.now.stage self.now.count;
-            cause = ending_cause ending } }
+        ensures { result ≡ record {
+          line = line_number self.now.stage self.now.count;
+          cause = ending_cause ending;
+        } }
     {
         self.fault(ending_cause(ending))
     }

@@ -1,9 +1,7 @@
 //! A row whose names lie in its line.
-ghost use Rattle.std.specs.Prelude.{◌≡◌, ◌≤◌, length, All};
-ghost use Rattle.std.specs.List.{join_with_byte};
+ghost use Rattle.std.specs.Prelude.{◌≡◌, All};
 ghost use Rattle.aprs_log.specs.Receiver.{IsName};
-ghost use Rattle.aprs_rows.specs.Names.{names_in};
-ghost use Rattle.aprs_rows.specs.Names.{row_of_text};
+ghost use Rattle.aprs_rows.specs.Names.{names_in, row_of_text};
 
 use aprs_ax25::Frame;
 use aprs_log::Moment;
@@ -25,8 +23,7 @@ impl<'a> Model for RowText<'a> {
     ghost use Rattle.std.specs.Prelude.{All};
     ghost use Rattle.aprs_laws.specs.Row.{Row as RowValue};
     ghost use Rattle.aprs_log.specs.Receiver.{IsName};
-    ghost use Rattle.aprs_rows.specs.Names.{names_in};
-    ghost use Rattle.aprs_rows.specs.Names.{row_of_text};
+    ghost use Rattle.aprs_rows.specs.Names.{names_in, row_of_text};
 
     ghost Value = { RowValue };
 

@@ -1,6 +1,5 @@
 use Rattle.std.proofs.Common.{◌≡◌, ◌-◌, ◌∙◌, [], refl, sym, inr, arith, length, take, length-take}
 use Rattle.std.proofs.lemmas.Result.{err_from_is_err_and}
-use Rattle.aprs_io.specs.Device.{device_of}
 use Rattle.aprs_io.proofs.Sends.{Calls-none, Calls-then}
 use Rattle.aprs_booktext.specs.FirstFault.{most_ahead}
 use Rattle.aprs_booktext.specs.Reader.{IsFault, Stands}

@@ -15,7 +15,8 @@ returns-then-not-is_name c =
     let none : ¬ IsName c.in-Some.piece.now = λ h. let yes = c.is_name.ensures.1 h in
     let no : false ≡ true = sym c.if-not-is_name.true ∙ yes in cc in (
       λ no. absurd (let f : false ≡ true = no in cc),
-      λ all. absurd (NamesFirst-not _ _ _ _ c.loop-piece.invariant c.in-Some.ensures.pieces none all),
+      λ all. absurd (NamesFirst-not _ _ _ _ c.loop-piece.invariant c.in-Some.ensures.pieces none
+          all),
     )
 
 pub returns : goal.returns

@@ -1,5 +1,4 @@
-use Rattle.std.proofs.Common.{◌∙◌, refl, sym, ap}
-use Rattle.hex.specs.Hex.{encode_lower}
+use Rattle.std.proofs.Common.{◌∙◌, refl, sym}
 use Rattle.aprs_io.proofs.Outlets.{Puts-fails, Puts-is, Puts-then}
 use Rattle.aprs_booktext.proofs.TextParts.{told_parts}
 use Rattle.aprs_booktext.proofs.write.put_book_row.Goals as goal
@@ -8,14 +7,16 @@ pub returns-in_err-put-clause-puts : goal.returns-in_err-put-clause-puts
 returns-in_err-put-clause-puts g c =
     let i = c.row.inside in
     let whole = told_parts c.args.row.now i.first i.last i.receivers.now i.receiver.now i.frame.now
-    c.row.view_is c.as_slice.result.now _ (c.as_slice.ensures.value ∙ c.row_head.ensures.text) refl in
+    c.row.view_is c.as_slice.result.now _ (c.as_slice.ensures.value ∙ c.row_head.ensures.text)
+    refl in
     Puts-is (Puts-fails _ c.from_residual.ensures.0 c.in_err-put.ensures _) (sym whole)
 
 pub returns-in_err-put_names-clause-puts : goal.returns-in_err-put_names-clause-puts
 returns-in_err-put_names-clause-puts g c =
     let i = c.row.inside in
     let whole = told_parts c.args.row.now i.first i.last i.receivers.now i.receiver.now i.frame.now
-    c.row.view_is c.as_slice.result.now _ (c.as_slice.ensures.value ∙ c.row_head.ensures.text) refl in
+    c.row.view_is c.as_slice.result.now _ (c.as_slice.ensures.value ∙ c.row_head.ensures.text)
+    refl in
     Puts-is (Puts-then c.in_ok-put.ensures (Puts-fails _ c.from_residual-in_err-put_names.ensures.0
     c.in_err-put_names.ensures.puts _)) (sym whole)
 

@@ -1,4 +1,3 @@
-use Rattle.std.proofs.Common.{◌++◌, ◌∷◌, []}
 use Rattle.aprs_booktext.proofs.Standing.{ended_stands, ended_fault}
 use Rattle.aprs_booktext.proofs.reader.BookReader.end_line.Goals as goal
 
