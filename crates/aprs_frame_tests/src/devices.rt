@@ -138,7 +138,12 @@ fn a_refused_write_is_not_tried_again(rt: HostRuntime) {
 
 #[test]
 fn interrupted_reads_are_tried_again(rt: HostRuntime) {
-    for (interrupts, first) in [(0, Ok(1)), (999, Ok(1)), (1000, Err(DeviceFault))] {
+    const CASES: &[(u32, Result<usize, DeviceFault>)] = &[
+        (0, Ok(1)),
+        (999, Ok(1)),
+        (1000, Err(DeviceFault)),
+    ];
+    for &(interrupts, first) in CASES {
         let mut reader = Counted::new(Rough {
             bytes: b"ab",
             most: 1,
@@ -155,11 +160,12 @@ fn interrupted_reads_are_tried_again(rt: HostRuntime) {
 
 #[test]
 fn interrupted_writes_are_tried_again(rt: HostRuntime) {
-    for (interrupts, sent, used, failures) in [
+    const CASES: &[(u32, Result<(), WriteFault>, usize, u64)] = &[
         (0, Ok(()), 2, 0),
         (999, Ok(()), 2, 1998),
         (1000, Err(WriteFault), 0, 1000),
-    ] {
+    ];
+    for &(interrupts, sent, used, failures) in CASES {
         let mut room = [0u8; 4];
         let mut writer = Counted::new(Tight {
             room: &mut room,

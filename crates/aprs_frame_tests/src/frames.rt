@@ -59,19 +59,21 @@ fn fault_with(place: usize, octet: u8) -> Option<FrameFault> {
 
 #[test]
 fn refuses_what_is_no_frame(rt: HostRuntime) {
-    for (place, octet, fault) in [
+    const OCTETS: &[(usize, u8, FrameFault)] = &[
         (6, 0xe1, FrameFault::Address),
         (7, 0x40, FrameFault::Callsign),
         (14, 0x13, FrameFault::Control),
         (15, 0xcf, FrameFault::Pid),
-    ] {
+    ];
+    for &(place, octet, fault) in OCTETS {
         assert!(rt; fault_with(place, octet) == Some(fault), "{fault:?}");
     }
-    for (size, fault) in [
+    const SIZES: &[(usize, FrameFault)] = &[
         (16, FrameFault::NoInfo),
         (14, FrameFault::Control),
         (0, FrameFault::Address),
-    ] {
+    ];
+    for &(size, fault) in SIZES {
         assert!(rt; Frame::read(&PLAIN[..size]).err() == Some(fault), "{size}");
     }
 }
@@ -114,21 +116,24 @@ fn reads_eight_digipeaters_and_no_ninth(rt: HostRuntime) -> Result<(), Fail> {
 
 #[test]
 fn parses_callsigns(rt: HostRuntime) {
-    for text in ["N0CALL-7", "A-15", "APRS"] {
+    const TEXTS: &[&str] = &["N0CALL-7", "A-15", "APRS"];
+    for &text in TEXTS {
         let bytes = text.as_bytes();
         assert!(rt; matches!(Callsign::parse(bytes), Ok(call) if call.text().as_slice() == bytes));
     }
-    for text in ["", "N0CALLX", "-7"] {
+    const LENGTHS: &[&str] = &["", "N0CALLX", "-7"];
+    for &text in LENGTHS {
         assert!(rt; matches!(Callsign::parse(text.as_bytes()), Err(CallFault::Length)));
     }
     assert!(rt; matches!(Callsign::parse(b"n0call"), Err(CallFault::Character)));
-    for text in [
+    const SSIDS: &[&str] = &[
         "N0CALL-0",
         "N0CALL-07",
         "N0CALL-16",
         "N0CALL-",
         "N0CALL-1-2",
-    ] {
+    ];
+    for &text in SSIDS {
         assert!(rt; matches!(Callsign::parse(text.as_bytes()), Err(CallFault::Ssid)));
     }
 }

@@ -215,9 +215,6 @@ record IsNth (n : ℕ) (d : Day) : Type 0 where
   day : (1 ≤ d.day) × (d.day ≤ days_in_month (pos d.year) d.month)
   count : day_count (pos d.year) d.month d.day ≡ 4_371_953 + n
 
-first_month : (y m : ℕ) → m ≡ 1 → 31 ≤ days_in_month (pos y) m
-first_month y m e = grind (arith, nat_tests)
-
 last_month : (y m : ℕ) → m ≡ 12 → days_in_month (pos y) m ≡ 31
 last_month y m e = grind (arith, nat_tests)
 

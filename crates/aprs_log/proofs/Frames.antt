@@ -5,6 +5,7 @@ use Rattle.std.proofs.Math.Seq.{take-length}
 use Rattle.aprs_kiss.specs.Plain.{CutsPlain, IsPlain}
 use Rattle.aprs_kiss.specs.Spelling.{kiss_text, spelling_of}
 use Rattle.aprs_kiss.proofs.Escapes.{spelling_of-all}
+use Rattle.aprs_kiss.proofs.ReadingBack.{begins_empty, judged_in_parts, left_in_parts, read_back, read_whole}
 use Rattle.aprs_kiss.specs.Stream.{rest_of, is_nonempty, judgements_of, EndsPiece}
 use Rattle.aprs_kiss.specs.Judgement.{Judgement}
 use Rattle.aprs_kiss.specs.Answer.{judgements_in}
@@ -13,7 +14,7 @@ use Rattle.aprs_kiss.specs.declared.fault.PassFault.{PassFault}
 use Rattle.aprs_kiss.specs.declared.reader.Fed.{Fed}
 use Rattle.aprs_kiss.specs.declared.reader.Fed.TheVariants.{Nothing, Frame, Passed}
 use Rattle.aprs_ax25.specs.FrameFault.{frame_of}
-use Rattle.aprs_log.specs.StreamLaws.{has_other, StreamLaws, WrittenLaws}
+use Rattle.aprs_log.specs.FrameEnds.{has_other}
 use Rattle.aprs_log.specs.Line.{frame_in, frame_or_reason, only_frame}
 use Rattle.aprs_log.specs.Fault.{reason_of_pass}
 use Rattle.aprs_log.specs.declared.fault.Reason.{Reason}
@@ -46,24 +47,24 @@ two_frames : (j : Judgement) (js : List Judgement) → 0 < length js
 two_frames j [] h = absurd (omega (arith, h))
 two_frames j (k ∷ js) h = refl
 
-module _ (laws : StreamLaws) (used more : List ℕ) (j : Judgement) (u : UsedTo used j)
+module _ (used more : List ℕ) (j : Judgement) (u : UsedTo used j)
     (e : is_nonempty (rest_of (used ++ more)) ≡ false) where
   judged_then : judgements_of (used ++ more) ≡ j ∷ judgements_of more
   judged_then =
-      laws.judged used more ∙ ap (λ js. js ++ judgements_of (rest_of used ++ more)) u.judged
+      judged_in_parts used more ∙ ap (λ js. js ++ judgements_of (rest_of used ++ more)) u.judged
       ∙ ap (λ l. j ∷ judgements_of (l ++ more)) u.left
 
   frame_in-one : has_other more ≡ false → only_frame (j ∷ []) ≡ frame_in (used ++ more)
   frame_in-one alone =
-      let none = ap (λ js. j ∷ js) (ends_alone laws more alone) in
+      let none = ap (λ js. j ∷ js) (ends_alone more alone) in
       sym (frame_in-ended (used ++ more) e ∙ ap only_frame (judged_then ∙ none))
 
   frame_in-two : has_other more ≡ true → Err reason.TwoFrames ≡ frame_in (used ++ more)
   frame_in-two other =
       let rest = rest_nil (rest_of (used ++ more)) e in
       let moved : rest_of (used ++ more) ≡ rest_of more
-      = laws.left used more ∙ ap (λ l. rest_of (l ++ more)) u.left in
-      let some = judges_other laws more (sym moved ∙ rest) other in
+      = left_in_parts used more ∙ ap (λ l. rest_of (l ++ more)) u.left in
+      let some = judges_other more (sym moved ∙ rest) other in
       sym (frame_in-ended (used ++ more) e ∙ ap only_frame judged_then
       ∙ two_frames j (judgements_of more) some)
 
@@ -91,7 +92,7 @@ used_to : (bytes : List ℕ) (n : ℕ) (j : Judgement) → FedOnce bytes n (j �
 used_to bytes n j f =
     record { judged = f.judged; left = (f.ends (λ e. let h : ⊥ = absurd cc in h)).left }
 
-module _ (laws : StreamLaws) (bytes : List ℕ) (n : ℕ) (e : false ≡ is_nonempty (rest_of bytes))
+module _ (bytes : List ℕ) (n : ℕ) (e : false ≡ is_nonempty (rest_of bytes))
   where
     judged_nothing : FedOnce bytes n [] → Err reason.NoFrame ≡ frame_in bytes
     judged_nothing f =
@@ -108,7 +109,7 @@ module _ (laws : StreamLaws) (bytes : List ℕ) (n : ℕ) (e : false ≡ is_none
         → only_frame (j ∷ []) ≡ frame_in bytes
     unfolding after_used
     judged_one j f alone =
-        frame_in-one laws (take n bytes) (after_used bytes n) j (used_to bytes n j f) ended
+        frame_in-one (take n bytes) (after_used bytes n) j (used_to bytes n j f) ended
         (sym alone)
         ∙ ap frame_in (again bytes n)
 
@@ -117,7 +118,7 @@ module _ (laws : StreamLaws) (bytes : List ℕ) (n : ℕ) (e : false ≡ is_none
         → Err reason.TwoFrames ≡ frame_in bytes
     unfolding after_used
     judged_two j f other =
-        frame_in-two laws (take n bytes) (after_used bytes n) j (used_to bytes n j f) ended
+        frame_in-two (take n bytes) (after_used bytes n) j (used_to bytes n j f) ended
         (sym other)
         ∙ ap frame_in (again bytes n)
 
@@ -163,30 +164,30 @@ module _ (laws : StreamLaws) (bytes : List ℕ) (n : ℕ) (e : false ≡ is_none
 -- ---- what is written for a frame
 
 -- it holds the frame's bytes
-frame_in-written : WrittenLaws → (frame : List ℕ) → length frame ≤ 1023
+frame_in-written : (frame : List ℕ) → length frame ≤ 1023
     → frame_in (kiss_text frame) ≡ frame_or_reason (frame_of frame)
-frame_in-written laws frame len =
+frame_in-written frame len =
     let data_frame = Ok (record { port = 0; bytes = frame }) in
-    let found = laws.read_back [] frame laws.begins.1 len
-    ∙ ap (λ js. js ++ data_frame ∷ []) laws.begins.0 in
-    let rest = ap is_nonempty (laws.read_whole [] frame) in
+    let found = read_back [] frame begins_empty.1 len
+    ∙ ap (λ js. js ++ data_frame ∷ []) begins_empty.0 in
+    let rest = ap is_nonempty (read_whole [] frame) in
     frame_in-ended (kiss_text frame) rest ∙ ap only_frame found
 
 -- it holds that frame
-pub frame_in-kiss_text : WrittenLaws → (frame : List ℕ) → length frame ≤ 1023
+pub frame_in-kiss_text : (frame : List ℕ) → length frame ≤ 1023
     → frame_of frame ≡ Ok frame → frame_in (kiss_text frame) ≡ Ok frame
-frame_in-kiss_text laws frame len is = frame_in-written laws frame len ∙ ap frame_or_reason is
+frame_in-kiss_text frame len is = frame_in-written frame len ∙ ap frame_or_reason is
 
 -- bytes that are sent as themselves, between two frame ends, are what is written
-pub frame_in-plain : WrittenLaws → (bytes ended frame : List ℕ) → bytes ≡ 0xC0 ∷ 0 ∷ ended
+pub frame_in-plain : (bytes ended frame : List ℕ) → bytes ≡ 0xC0 ∷ 0 ∷ ended
     → IsPlain frame → ended ≡ frame ++ 0xC0 ∷ [] → length ended ≤ 1024
     → frame_in bytes ≡ frame_or_reason (frame_of frame)
-frame_in-plain laws bytes ended frame all plain is few =
+frame_in-plain bytes ended frame all plain is few =
     let written : spelling_of frame ++ 0xC0 ∷ [] ≡ frame ++ 0xC0 ∷ []
     = spelling_of-all frame frame (0xC0 ∷ []) plain refl in
     let same : bytes ≡ kiss_text frame = all ∙ ap (λ l. 0xC0 ∷ 0 ∷ l) (is ∙ sym written) in
     let len : length ended ≡ length frame + 1 = ap length is ∙ length-append frame (0xC0 ∷ []) in
-    ap frame_in same ∙ frame_in-written laws frame (omega arith)
+    ap frame_in same ∙ frame_in-written frame (omega arith)
 
 two_bytes : (bytes : List ℕ) → 2 ≤ length bytes → slice_index bytes 0 ≡ 0xC0
     → slice_index bytes 1 ≡ 0
@@ -200,16 +201,16 @@ nothing [] e = refl
 nothing (x ∷ l) e = absurd (omega arith)
 
 -- so are these bytes, where the cut at the first byte that isn't sent as itself leaves nothing
-pub frame_in-cut : WrittenLaws → (bytes ended frame : List ℕ) (cut : Option (ℕ × Bor (List ℕ)))
+pub frame_in-cut : (bytes ended frame : List ℕ) (cut : Option (ℕ × Bor (List ℕ)))
     (end : ℕ) (after : Bor (List ℕ)) → 2 ≤ length bytes → slice_index bytes 0 ≡ 0xC0
     → slice_index bytes 1 ≡ 0 → ended ≡ drop 2 bytes → IsPlain frame → CutsPlain ended frame cut
     → cut ≡ Some (end, after) → end ≡ 0xC0 → length after.now ≡ 0 → length ended ≤ 1024
     → frame_in bytes ≡ frame_or_reason (frame_of frame)
-frame_in-cut laws bytes ended frame cut end after two first kind is plain cuts e last none few =
+frame_in-cut bytes ended frame cut end after two first kind is plain cuts e last none few =
     let parts = (subst (CutsPlain ended frame) e cuts).0 in
     let tail : ended ≡ frame ++ 0xC0 ∷ []
     = parts ∙ ap (λ l. frame ++ end ∷ l) (nothing after.now none)
     ∙ ap (λ n. frame ++ n ∷ []) last in
-    frame_in-plain laws bytes ended frame (two_bytes bytes two first kind
+    frame_in-plain bytes ended frame (two_bytes bytes two first kind
     ∙ ap (λ l. 0xC0 ∷ 0 ∷ l) (sym is))
     plain tail few

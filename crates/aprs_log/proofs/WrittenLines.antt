@@ -1,6 +1,5 @@
 -- Lemmas on the line that is written for a reception.
-use Rattle.std.proofs.Common.{◌≡◌, ℕ, zero, suc, ◌⊎◌, inl, inr, ◌+◌, ◌/◌, ◌%◌, ◌<◌, ◌≤◌, ◌≢◌, Bool, true, false, if◌then◌else◌, List, [], ◌∷◌, ◌++◌, length, get_or, slice_index, append_assoc, take, length-append, length-take, Ok, refl, arith, sym, ap, ◌∙◌, subst}
-use Rattle.std.specs.List.{All}
+use Rattle.std.proofs.Common.{◌≡◌, ℕ, zero, suc, ◌+◌, ◌/◌, ◌%◌, ◌<◌, ◌≤◌, ◌≢◌, Bool, true, false, if◌then◌else◌, List, [], ◌∷◌, ◌++◌, length, slice_index, append_assoc, take, length-append, length-take, Ok, refl, arith, sym, ap, ◌∙◌, subst}
 use Rattle.std.proofs.lemmas.List.{take-take}
 use Rattle.std.proofs.Math.Seq.{take-append_seam}
 use Rattle.aprs_kiss.specs.Plain.{IsPlain, is_special}
@@ -8,11 +7,10 @@ use Rattle.aprs_kiss.specs.Spelling.{is_escape, is_frame_end, spelling_of, spell
 use Rattle.aprs_kiss.proofs.Escapes.{spelling_of-all, spelling_of-cut}
 use Rattle.aprs_ax25.specs.Frame.{FrameOf, Parts}
 use Rattle.aprs_ax25.specs.FrameFault.{frame_of, unless_fault}
-use Rattle.aprs_ax25.specs.Laws.{IsFrame, IsRefused}
+use Rattle.aprs_ax25.proofs.Spellings.{FrameOf-frame_fault}
 use Rattle.hex.specs.Hex.{IsBytes, decode_of, encode_lower, encode_with, lower_digits}
 use Rattle.hex.proofs.HexLemmas.{decode_of-encode_lower}
 use Rattle.std.proofs.lemmas.Bool.Decides.{nat_tests}
-use Rattle.aprs_log.specs.StreamLaws.{WrittenLaws}
 use Rattle.aprs_log.specs.Moment.{MomentText, moment_text}
 use Rattle.aprs_log.specs.Receiver.{IsName}
 use Rattle.aprs_log.specs.Reception.{Heard}
@@ -165,10 +163,10 @@ real x text e moment receiver frame few = record {
   few = omega arith;
 }
 
-pub line_of-written : WrittenLaws → (x : Heard) → IsReal x
+pub line_of-written : (x : Heard) → IsReal x
     → decode_of (encode_lower (kiss_text x.frame)) ≡ Ok (kiss_text x.frame)
     → length (written_line x) ≤ MAX_LINE → line_of (written_line x) ≡ Ok (line.Heard x)
-line_of-written laws x h digits short =
+line_of-written x h digits short =
     line_of-syntax (written_line x) short (record {
       moment = x.moment;
       text = moment_text x.moment;
@@ -181,22 +179,9 @@ line_of-written laws x h digits short =
       spelled = refl;
     })
     ∙ ap (λ r. Ok (heard_or_passed x.moment x.receiver r))
-    (frame_in-kiss_text laws x.frame h.few h.frame)
+    (frame_in-kiss_text x.frame h.few h.frame)
 
 -- ---- a frame's bytes are read as it
 
-same_at : (xs : List ℕ) (k d e : ℕ) → k < length xs → get_or xs k d ≡ get_or xs k e
-same_at [] k d e h = absurd (omega arith)
-same_at (x ∷ xs) zero d e h = refl
-same_at (x ∷ xs) (suc k) d e h = same_at xs k d e (omega arith)
-
-all_bytes : (xs : List ℕ) → ((i : ℕ) → get_or xs i 0 < 256) → All (λ b. b < 256) xs
-all_bytes xs fits k d h = rw (same_at xs k d 0 h) (fits k)
-
-pub frame_of-is : (frame : List ℕ) (p : Parts) → ((i : ℕ) → get_or frame i 0 < 256)
-    → (All (λ b. b < 256) frame → IsFrame frame ⊎ IsRefused frame) → FrameOf p frame
-    → frame_of frame ≡ Ok frame
-frame_of-is frame p fits law is = elim (law (all_bytes frame fits)) [
-  | inl it ↦ ap (unless_fault frame) it.faultless
-  | inr refused ↦ absurd (refused.none p is)
-]
+pub frame_of-is : (frame : List ℕ) (p : Parts) → FrameOf p frame → frame_of frame ≡ Ok frame
+frame_of-is frame p is = ap (unless_fault frame) (FrameOf-frame_fault p frame is)

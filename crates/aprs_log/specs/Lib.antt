@@ -6,6 +6,7 @@ pub mod Awaits
 pub mod Clock
 pub mod Fault
 pub mod Fields
+pub mod FrameEnds
 pub mod Line
 pub mod LogAnswers
 pub mod Moment
@@ -15,5 +16,5 @@ pub mod Receiver
 pub mod Reception
 pub mod Sizes
 pub mod Steps
-pub mod StreamLaws
 pub mod Window
+pub mod Written

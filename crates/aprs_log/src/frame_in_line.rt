@@ -2,11 +2,10 @@
 ghost use Rattle.std.specs.Prelude.{◌≡◌, Err, IfSome, MatchResult};
 ghost use Rattle.aprs_kiss.specs.Stream.{is_nonempty, rest_of};
 ghost use Rattle.aprs_ax25.specs.FrameFault.{frame_of};
-ghost use Rattle.aprs_log.specs.StreamLaws.{has_other};
+ghost use Rattle.aprs_log.specs.FrameEnds.{has_other};
 ghost use Rattle.aprs_log.specs.Line.{frame_in, frame_or_reason};
 
 use crate::fault::Reason;
-use crate::laws::{stream_laws, written_laws};
 use aprs_kiss::{Fed, KissReader, cut_plain};
 
 /// Stands before and after a frame.
@@ -34,7 +33,6 @@ fn plain_frame_in(bytes: &[u8]) -> Option<&[u8]>
     ensures { IfSome result
         (λ frame. frame_in bytes.now ≡ frame_or_reason (frame_of frame.now)) }
 {
-    written_laws();
     let [first, kind, ended @ ..] = bytes else {
         return None;
     };
@@ -58,7 +56,6 @@ fn fed_frame_in<'r>(reader: &'r mut KissReader, bytes: &[u8]) -> Result<&'r [u8]
         (λ frame. frame_in bytes.now ≡ frame_or_reason (frame_of frame.now))
         (λ reason. frame_in bytes.now ≡ Err reason) }
 {
-    stream_laws();
     if is_unended(bytes) {
         return Err(Reason::Unended);
     }
@@ -78,7 +75,6 @@ fn fed_frame_in<'r>(reader: &'r mut KissReader, bytes: &[u8]) -> Result<&'r [u8]
 fn is_unended(bytes: &[u8]) -> bool
     ensures { result ≡ is_nonempty (rest_of bytes.now) }
 {
-    stream_laws();
     match bytes {
         [.., last] => *last != FEND,
         [] => false,

@@ -8,7 +8,6 @@ mod ending;
 mod fault;
 mod fields;
 mod frame_in_line;
-mod laws;
 mod line;
 mod moment;
 mod moment_form;

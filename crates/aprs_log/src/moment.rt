@@ -120,13 +120,6 @@ impl Moment {
         CivilTime::from_seconds(self.millis / 1000).text((self.millis % 1000) as u16)
     }
 
-    /// Each moment has a text. Does nothing.
-    pub(crate) fn has_a_text(&self)
-        ensures { MomentText self.now (moment_text self.now) }
-    {
-        let _in_range = self.millis();
-    }
-
     /// The same moment. Takes no memory.
     pub fn copy(&self) -> Moment
         ensures { result ≡ self.now }

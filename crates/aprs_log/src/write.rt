@@ -1,16 +1,16 @@
 //! Lines of a log as they are written.
-ghost use Rattle.std.specs.Prelude.{◌≡◌, ◌≤◌, ◌+◌, ◌*◌, [], ◌∷◌, ◌++◌, length, take, true, Ok, Some, IfSome};
+ghost use Rattle.std.specs.Prelude.{◌≡◌, ◌≤◌, ◌+◌, ◌*◌, [], ◌∷◌, ◌++◌, length, take, true, Ok, Some};
 ghost use Rattle.std.proofs.Props.{props};
 ghost use Rattle.hex.specs.Hex.{decode_of, encode_lower};
 ghost use Rattle.aprs_io.specs.Device.{Sends};
 ghost use Rattle.aprs_kiss.specs.Plain.{is_special};
 ghost use Rattle.aprs_kiss.specs.Spelling.{kiss_text, spelling_of_byte};
 ghost use Rattle.aprs_log.specs.Line.{line_of, written_line};
-ghost use Rattle.aprs_log.specs.Moment.{moment_text};
+ghost use Rattle.aprs_log.specs.Moment.{moment_of, moment_text};
 ghost use Rattle.aprs_log.specs.Sizes.{millis_size, most_line};
+ghost use Rattle.aprs_log.specs.Written.{BeginsWith};
 
 use crate::civil::MILLIS_LEN;
-use crate::laws::{frames_are_read, written_laws};
 use crate::line::Line;
 use crate::moment::Moment;
 use crate::reception::Reception;
@@ -45,7 +45,7 @@ pub struct LogWriter {
     line: [u8; MAX_WRITTEN],
     /// The moment whose text the line begins with.
     moment: Option<Moment>,
-    ghost begins: { IfSome moment (λ m. take millis_size line ≡ moment_text m) } by { Prim.hlevel props },
+    ghost begins: { BeginsWith moment line } by { Prim.hlevel props },
 }
 
 impl LogWriter {
@@ -77,6 +77,7 @@ impl LogWriter {
     fn begin(&mut self, moment: Moment)
         ensures line { take millis_size self.new.line ≡ moment_text moment }
         ensures moment { self.new.moment ≡ Some moment }
+        ensures read { moment_of (moment_text moment) ≡ Some moment }
     {
         let is_there = match &self.moment {
             Some(last) => *last == moment,
@@ -94,20 +95,17 @@ impl LogWriter {
 fn put_line(line: &mut [u8], reception: &Reception) -> usize
     requires line { length line.old ≡ MAX_WRITTEN }
     requires begins { take millis_size line.old ≡ moment_text reception.now.moment }
+    requires read { moment_of (moment_text reception.now.moment) ≡ Some reception.now.moment }
     ensures fits { result ≤ MAX_WRITTEN }
     ensures len { length line.new ≡ MAX_WRITTEN }
     ensures line { take result line.new ≡ written_line reception.now ++ 10 ∷ [] }
     ensures back { length (written_line reception.now) ≤ most_line
         → line_of (written_line reception.now) ≡ Ok (Line.Heard reception.now) }
 {
-    written_laws();
-    reception.moment().has_a_text();
     let space = put(line, MILLIS_LEN, b" ");
     let receiver = put(line, space, reception.receiver().as_bytes());
     let place = put(line, receiver, b" ");
-    let frame = reception.frame().bytes();
-    frames_are_read(frame);
-    let digits = put_frame(line, place, frame);
+    let digits = put_frame(line, place, reception.frame().bytes());
     put(line, digits, b"\n")
 }
 

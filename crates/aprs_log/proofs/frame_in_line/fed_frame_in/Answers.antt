@@ -9,21 +9,21 @@ pub returns-then-has_other : goal.returns-then-has_other
 returns-then-has_other c =
     let f = c.feed.ensures in
     let found = once _ _ _ (f.judged [] c.reset.ensures) f.whole (f.ends [] c.reset.ensures) in
-    sym (fed_two c.stream_laws.ensures c.args.bytes.now _ c.if-is_unended.ensures
+    sym (fed_two c.args.bytes.now _ c.if-is_unended.ensures
     c.feed.result.1 found c.if-has_other.ensures)
 
 pub returns-in-Nothing : goal.returns-in-Nothing
 returns-in-Nothing c =
     let f = c.feed.ensures in
     let found = once _ _ _ (f.judged [] c.reset.ensures) f.whole (f.ends [] c.reset.ensures) in
-    fed_nothing c.stream_laws.ensures c.args.bytes.now _ c.if-is_unended.ensures
+    fed_nothing c.args.bytes.now _ c.if-is_unended.ensures
     c.feed.result.1 found c.if-has_other.ensures c.in-Nothing.is
 
 pub returns-in-Passed : goal.returns-in-Passed
 returns-in-Passed c =
     let f = c.feed.ensures in
     let found = once _ _ _ (f.judged [] c.reset.ensures) f.whole (f.ends [] c.reset.ensures) in
-    fed_passed c.stream_laws.ensures c.args.bytes.now _ c.if-is_unended.ensures
+    fed_passed c.args.bytes.now _ c.if-is_unended.ensures
     c.feed.result.1 found c.if-has_other.ensures c.in-Passed.fault c.in-Passed.is
     ∙ ap Err (sym c.from.ensures)
 
@@ -31,5 +31,5 @@ pub returns-in-Frame : goal.returns-in-Frame
 returns-in-Frame c =
     let f = c.feed.ensures in
     let found = once _ _ _ (f.judged [] c.reset.ensures) f.whole (f.ends [] c.reset.ensures) in
-    fed_frame c.stream_laws.ensures c.args.bytes.now _ c.if-is_unended.ensures
+    fed_frame c.args.bytes.now _ c.if-is_unended.ensures
     c.feed.result.1 found c.if-has_other.ensures c.in-Frame.port c.in-Frame.frame c.in-Frame.is

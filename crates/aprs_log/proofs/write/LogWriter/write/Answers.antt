@@ -1,8 +1,8 @@
 use Rattle.std.proofs.Common.{◌≡◌, ℕ, Option, length, take, ap, sym, ◌∙◌, arith, subst}
-use Rattle.std.specs.Prelude.{IfSome}
 use Rattle.std.proofs.lemmas.List.{length-take-le}
 use Rattle.aprs_io.proofs.Sends.{Sends-is}
 use Rattle.aprs_log.specs.Moment.{moment_text}
+use Rattle.aprs_log.specs.Written.{BeginsWith}
 use Rattle.aprs_log.proofs.WrittenLines.{begins_with_moment}
 use Rattle.aprs_log.proofs.write.LogWriter.write.Goals as goal
 
@@ -19,9 +19,8 @@ invariant_of-self g c =
     len
     ∙ ap moment_text (sym c.moment.ensures) in
     record {
-      begins = subst (λ (o : Option ℕ). IfSome o
-          (λ m. take 24 c.put_line-len.new.line ≡ moment_text m))
-          (sym c.begin.ensures.moment) after;
+      begins = subst (λ (o : Option ℕ). BeginsWith o c.put_line-len.new.line)
+          (sym c.begin.ensures.moment) (after, c.begin.ensures.read);
     }
 
 pub returns-clause-sends : goal.returns-clause-sends
