@@ -10,8 +10,8 @@ use crate::known::Known;
 use crate::reception_view::ReceptionView;
 use crate::reported::Reported;
 use aprs_ax25::Callsign;
-use aprs_rows::call_bytes;
 use aprs_log::Reception;
+use aprs_rows::call_bytes;
 use std::alloc::{Allocator, Global};
 use std::marker::Model;
 

@@ -5,8 +5,8 @@ ghost use Rattle.aprs_book.specs.Known.{Topic, reported_at, reported_in};
 ghost use Rattle.aprs_rows.specs.KeyBytes.{call_bytes};
 
 use crate::reception_view::ReceptionView;
-use aprs_rows::call_bytes;
 use aprs_report::Report;
+use aprs_rows::call_bytes;
 use arrayvec::ArrayVec;
 
 /// What a reception reports on, by the bytes that an index has.

@@ -6,8 +6,7 @@ ghost use Rattle.aprs_booktext.specs.RowLines.{line_and_lf};
 ghost use Rattle.aprs_booktext.specs.Text.{IsBookRows, written_text, written_version};
 
 use crate::write::{end_line_and_lf, header_line, put_row};
-use aprs_io::{Counted, WriteFault};
-use aprs_io::Outlet;
+use aprs_io::{Counted, Outlet, WriteFault};
 use aprs_rows::Transmissions;
 use std::alloc::Allocator;
 use std::io::Write;

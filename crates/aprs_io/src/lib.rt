@@ -1,4 +1,5 @@
-//! Devices that count their failed calls: what is read of an input under a limit, and bytes on their way out.
+//! Devices that count their failed calls: what is read of an input under a limit, and bytes on
+//! their way out.
 #![tactic(auto)]
 
 mod byte_vectors;

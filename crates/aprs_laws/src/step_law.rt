@@ -42,8 +42,8 @@ pub fn steps_give_books()
 {}
 
 /// Rows in order of key and first moment, each sound by itself, become the book of what they stand
-/// for where each joins the one before it that it is near to. So one pass over the rows of any books
-/// and over receptions, put in order, gives the book of all.
+/// for where each joins the one before it that it is near to. So one pass over the rows of any
+/// books and over receptions, put in order, gives the book of all.
 pub fn rows_in_order_coalesce()
     ensures witnesses { (gap : ℕ) → 0 < gap → CoalescesWitnesses gap }
     ensures book { (gap : ℕ) → 0 < gap → CoalescesBook gap }

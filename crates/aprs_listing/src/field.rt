@@ -8,9 +8,8 @@ ghost use Rattle.aprs_convert.specs.Shown.{shown};
 
 use aprs_ax25::Callsign;
 use aprs_convert::{are_shown, shown_byte};
-use aprs_io::{WriteFault, push_all};
+use aprs_io::{Outlet, WriteFault, push_all};
 use aprs_log::Moment;
-use aprs_io::Outlet;
 use aprs_report::{Fraction, Place, Stamp, Symbol};
 use arrayvec::ArrayVec;
 use itoa::Buffer;

@@ -8,8 +8,7 @@ ghost use Rattle.aprs_listing.specs.Listing.{place_fields, stamp_text, text_line
 use crate::field::Field;
 use crate::line::put_text_line;
 use aprs_book::Heard;
-use aprs_io::WriteFault;
-use aprs_io::Outlet;
+use aprs_io::{Outlet, WriteFault};
 use aprs_report::{Place, Report, Stamp, Symbol};
 use std::io::Write;
 

@@ -6,8 +6,7 @@ ghost use Rattle.aprs_listing.specs.Lines.{spaced_field};
 ghost use Rattle.aprs_convert.specs.Shown.{shown};
 
 use crate::field::{Field, put_field, put_shown};
-use aprs_io::WriteFault;
-use aprs_io::Outlet;
+use aprs_io::{Outlet, WriteFault};
 use std::io::Write;
 
 /// Puts a line: its kind, and each field after a space.

@@ -14,8 +14,7 @@ use crate::field::Field;
 use crate::heard_line::put_heard;
 use crate::line::{put_line, put_text_line};
 use aprs_book::{Book, Heard, Memory, MessageRow, MessageState, Named, Overview, Station};
-use aprs_io::{Counted, WriteFault};
-use aprs_io::Outlet;
+use aprs_io::{Counted, Outlet, WriteFault};
 use std::alloc::{Allocator, Global};
 use std::io::Write;
 

@@ -1,7 +1,7 @@
 -- Names in texts.
-use Rattle.std.proofs.Common.{◌≡◌, ◌∙◌, ℕ, ◌<◌, ◌≤◌, zero, suc, ◌==◌, Bool, true, false, List, [], ◌∷◌, ◌++◌, length, get_or, take, drop, refl, sym, ap, arith}
+use Rattle.std.proofs.Common.{◌≡◌, ◌∙◌, ℕ, ◌<◌, zero, suc, ◌==◌, Bool, true, false, List, [], ◌∷◌, length, get_or, take, drop, refl, ap, arith}
 use Rattle.std.specs.Prelude.{All}
-use Rattle.std.specs.List.{list_all, join_with_byte, onto_first, slice_split, AllByRecursion}
+use Rattle.std.specs.List.{list_all, join_with_byte, onto_first, AllByRecursion}
 use Rattle.std.proofs.lemmas.Bool.{and_parts, false_from_ne_true}
 use Rattle.std.proofs.lemmas.Bool.Decides.{nat_tests}
 use Rattle.std.proofs.lemmas.List.Elements.{All-from_recursion, recursion_from_All}

@@ -15,7 +15,6 @@ use Rattle.aprs_rows.specs.declared.entry.Entry.{Entry}
 use Rattle.aprs_laws.specs.JoinRow.{single}
 use Rattle.aprs_laws.proofs.Coalescing.{single_is_sound}
 use Rattle.aprs_rows.specs.Names.{row_of_text}
-
 use Rattle.aprs_rows.specs.Rows.{IsTold, size_of, entry_row, IsRowIn, rows_of, rows_in, AreOf, AreRowsIn, AreSoundRows}
 use Rattle.aprs_rows.proofs.NameTexts.{name_alone}
 
@@ -114,7 +113,7 @@ module _ {E : Type 0} (size : E → ℕ) (row : E → List ℕ → Row) (Fits : 
       let n = size d in
       let rest = ends_with (f ∷ es) (drop n bytes) e is a.1 in
       let there : drop (length (drop n bytes) - size e) (drop n bytes)
-          ≡ drop (length bytes - size e) bytes =
+      ≡ drop (length bytes - size e) bytes =
       drop-drop (length (drop n bytes) - size e) n bytes
       ∙ ap (λ k. drop k bytes)
       (let m = length-drop n bytes in omega (arith, m, l, rest.within)) in

@@ -1,5 +1,5 @@
 -- The text of names that ascend, of equal ones one, is that of their union.
-use Rattle.std.proofs.Common.{◌≡◌, ◌∙◌, ℕ, zero, suc, ◌+◌, ◌<◌, ◌≤◌, Bool, true, false, List, [], ◌∷◌, ◌++◌, ◌⊎◌, ◌↔◌, inl, inr, length, get_or, drop, map, append_assoc, refl, sym, ap, subst, arith, Bor}
+use Rattle.std.proofs.Common.{◌≡◌, ◌∙◌, ℕ, zero, suc, ◌+◌, ◌<◌, ◌≤◌, Bool, true, false, List, [], ◌∷◌, ◌++◌, ◌⊎◌, inl, inr, length, get_or, drop, map, append_assoc, refl, sym, ap, subst, arith, Bor}
 use Rattle.std.proofs.lemmas.List.{append-nil, drop_all}
 use Rattle.std.specs.Prelude.{if◌then◌else◌}
 use Rattle.std.specs.List.{join_with_byte}
@@ -43,8 +43,8 @@ pub next_put : (names others : List (Bor (List ℕ))) (first : Bor (List ℕ)) (
 next_put names others first i d text start longer e l h k =
     let one : i + 1 ≡ suc i = omega arith in
     let step : after_first (drop i (map now_of names))
-        ≡ next_text (get_or names i d).now (get_or others i d).now
-        ++ after_first (drop (i + 1) (map now_of names)) =
+    ≡ next_text (get_or names i d).now (get_or others i d).now
+    ++ after_first (drop (i + 1) (map now_of names)) =
     (λ t. after_first (drop i (map now_of (e t)))) ∙ steps first others i d l
     ∙ (λ t. next_text (get_or (sym e t) i d).now (get_or others i d).now
     ++ after_first (drop (sym one t) (map now_of (sym e t)))) in
@@ -167,7 +167,7 @@ text_is_of_union names (n ∷ sorted) e o =
     (union_ordered bytes_total bytes_exact names [] tt)
     (λ z. (
       λ h. (in_union bytes_total bytes_exact names [] z).1 (inl ((e z).1
-      (elim h [ inl k ↦ inl k | inr k ↦ inr (r.of z k) ]))),
+          (elim h [ inl k ↦ inl k | inr k ↦ inr (r.of z k) ]))),
       λ h. elim ((in_union bytes_total bytes_exact names [] z).0 h) [
         | inl k ↦ elim ((e z).0 k) [
           | inl j ↦ inl j

@@ -1,12 +1,12 @@
 -- Rows in order, taken one after another.
-use Rattle.std.proofs.Common.{◌≡◌, ◌∙◌, ℕ, zero, suc, ◌+◌, ◌-◌, ◌<◌, ◌≤◌, min, Bool, true, false, List, [], ◌∷◌, ◌++◌, ◌⊎◌, inl, inr, length, map, append_assoc, refl, sym, ap, subst, arith, Bor}
+use Rattle.std.proofs.Common.{◌≡◌, ◌∙◌, ℕ, zero, suc, ◌+◌, ◌<◌, min, Bool, true, false, List, [], ◌∷◌, ◌++◌, inl, inr, length, append_assoc, refl, sym, ap, subst, arith, Bor}
 use Rattle.std.specs.Prelude.{All, if◌then◌else◌}
 use Rattle.std.specs.List.{join_with_byte, AllByRecursion}
 use Rattle.std.specs.Ordering.{is_eq}
 use Rattle.std.specs.declared.cmp.Ordering.{Ordering}
 use Rattle.std.specs.declared.cmp.Ordering.TheVariants.{Less, Equal, Greater}
 use Rattle.std.proofs.lemmas.Bool.Decides.{nat_tests}
-use Rattle.std.proofs.lemmas.List.{append-nil, length-append, map-append}
+use Rattle.std.proofs.lemmas.List.{append-nil, length-append}
 use Rattle.std.proofs.lemmas.List.Elements.{All-from_recursion, recursion_from_All}
 use Rattle.aprs_log.specs.Receiver.{IsName}
 use Rattle.aprs_log.specs.Reception.{bytes_cmp}
@@ -147,7 +147,7 @@ joins_open o p names most more x own a h e f own_is some first greatest alone ha
     let all : gathered more ≡ (gathered names ++ extra) ++ x.receivers =
     f ∙ (λ t. e t ++ own_is t) in
     let united : union bytes_cmp (gathered more) []
-        ≡ union bytes_cmp (open_row o names).receivers x.receivers =
+    ≡ union bytes_cmp (open_row o names).receivers x.receivers =
     ap (λ ns. union bytes_cmp ns []) all
     ∙ united_more (gathered names ++ extra) x.receivers h.ascending
     ∙ ap (λ ns. union bytes_cmp ns x.receivers) (own_names o names a) in

@@ -1,5 +1,5 @@
 -- Rows that are one. No public clause cites this module.
-use Rattle.std.specs.Prelude.{◌≡◌, ℕ, zero, suc, List, [], ◌∷◌, All, length, take}
+use Rattle.std.specs.Prelude.{◌≡◌, ℕ, zero, suc, List, All, length}
 use Rattle.aprs_log.specs.Receiver.{IsName}
 use Rattle.aprs_laws.specs.Row.{Row}
 use Rattle.aprs_rows.specs.Names.{names_in}

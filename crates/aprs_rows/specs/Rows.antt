@@ -3,7 +3,6 @@ use Rattle.std.specs.Prelude.{◌≡◌, ℕ, ◌+◌, List, [], ◌∷◌, All,
 use Rattle.aprs_ax25.specs.Frame.{FrameOf}
 use Rattle.aprs_ax25.specs.FrameFault.{parts_of}
 use Rattle.aprs_log.specs.Receiver.{IsName}
-use Rattle.aprs_log.specs.Reception.{Heard}
 use Rattle.aprs_laws.specs.Lists.{◌∈◌}
 use Rattle.aprs_laws.specs.Row.{Row}
 use Rattle.aprs_laws.specs.Sound.{IsSoundRow}

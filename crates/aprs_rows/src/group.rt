@@ -23,7 +23,9 @@ impl<'a> Group<'a> {
         ensures { result ≡ group_row self.now text.now }
     {
         if self.receivers == 0 {
-            return self.greatest.view_with(self.first, self.greatest.receivers());
+            return self
+                .greatest
+                .view_with(self.first, self.greatest.receivers());
         }
         self.greatest.view_with(self.first, text)
     }

@@ -35,12 +35,7 @@ impl Head {
 }
 
 /// The order of the keys of two frames that have these heads and this information.
-pub(crate) fn key_order(
-    head: Head,
-    info: &[u8],
-    other: Head,
-    other_info: &[u8],
-) -> Ordering
+pub(crate) fn key_order(head: Head, info: &[u8], other: Head, other_info: &[u8]) -> Ordering
     ensures { (f g : List ℕ) → HaveHeads f g head other → info.now ≡ (parts_of f).info
         → other_info.now ≡ (parts_of g).info → result ≡ key_cmp (key_of f) (key_of g) }
 {

@@ -14,8 +14,8 @@ use crate::row_view::RowView;
 use aprs_laws::{Gap, RowCause};
 
 impl<'a> RowView<'a> {
-    /// The first cause for which the row can't follow others in a book of this gap, of which `before`
-    /// is the last. Takes no memory.
+    /// The first cause for which the row can't follow others in a book of this gap, of which
+    /// `before` is the last. Takes no memory.
     pub fn refusal_after(&self, before: Option<&RowView<'_>>, gap: Gap) -> Option<RowCause>
         ensures cause { (rows : List Row) → last_or None rows ≡ option_copied before.entry
             → result ≡ refusal (millis_of gap) rows self.now }
@@ -88,7 +88,11 @@ fn find_name(text: &[u8], name: &[u8]) -> Option<bool>
         × (is_last ≡ is_of_last (is_name name.now) (names_in text.now))) }
 {
     let Some((first, others)) = cut_name(text) else {
-        return if name.cmp(text).is_eq() { Some(true) } else { None };
+        return if name.cmp(text).is_eq() {
+            Some(true)
+        } else {
+            None
+        };
     };
     let mut before = first;
     let mut rest = others;

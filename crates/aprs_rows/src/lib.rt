@@ -1,4 +1,4 @@
-//! Rows in bytes: names of receivers, the order of keys, a store of rows, and what rows are together.
+//! Rows in bytes: names of receivers, the order of keys, a store of rows, and what they are together.
 #![tactic(auto)]
 
 mod entry;

@@ -39,10 +39,7 @@ pub(crate) fn gather<'a, A: Allocator>(
 }
 
 /// Puts a name after those that are there.
-fn push_name<'a, A: Allocator>(
-    names: &mut Vec<&'a [u8], A>,
-    name: &'a [u8],
-) -> Result<(), Memory>
+fn push_name<'a, A: Allocator>(names: &mut Vec<&'a [u8], A>, name: &'a [u8]) -> Result<(), Memory>
     ensures { OnOk result (map (λ n. n.now) names.new.items
         ≡ map (λ n. n.now) names.old.items ++ name.now ∷ []) }
 {

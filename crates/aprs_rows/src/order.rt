@@ -10,10 +10,10 @@ ghost use Rattle.aprs_laws.specs.Gap.{millis_of};
 ghost use Rattle.aprs_laws.specs.JoinRow.{coalesced};
 ghost use Rattle.aprs_rows.specs.Rows.{AreSoundRows};
 
+use crate::Memory;
 use crate::laid::Laid;
 use crate::sweep::Sweep;
 use crate::transmissions::Transmissions;
-use crate::Memory;
 use aprs_laws::Gap;
 use std::alloc::{Allocator, Global};
 use std::marker::Model;
@@ -97,11 +97,7 @@ impl<'a, A: Allocator + Copy> RowsInOrder<'a, A> {
         ensures some { OnErr result (self.now ≢ []) }
     {
         let Some((first, others)) = self.laid.as_slice().split_first() else {
-            return Ok(Transmissions::of(
-                gap,
-                Vec::new(self.alloc),
-                Vec::new(self.alloc),
-            ));
+            return Ok(Transmissions::of(gap, Vec::new(self.alloc), Vec::new(self.alloc)));
         };
         let mut sweep = Sweep::begin(self.alloc, gap, first);
         for row in others {

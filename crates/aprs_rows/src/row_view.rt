@@ -9,10 +9,10 @@ ghost use Rattle.aprs_laws.specs.Row.{last_of, row_cmp, row_key};
 ghost use Rattle.aprs_rows.specs.Names.{names_in};
 ghost use Rattle.aprs_rows.specs.Names.{row_of_text};
 
+use crate::Memory;
 use crate::head::{Head, key_order};
 use crate::names::cut_name;
 use aprs_ax25::Frame;
-use crate::Memory;
 use aprs_log::{Moment, Receiver, Reception};
 use std::alloc::Allocator;
 use std::cmp::Ordering;

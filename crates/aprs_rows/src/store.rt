@@ -10,11 +10,11 @@ ghost use Rattle.aprs_ax25.specs.FrameFault.{parts_of};
 ghost use Rattle.aprs_rows.specs.Names.{row_of_text};
 ghost use Rattle.aprs_rows.specs.Rows.{IsTold};
 
+use crate::Memory;
 use crate::entry::Entry;
 use crate::laid::Laid;
 use crate::order::RowsInOrder;
 use crate::row_view::RowView;
-use crate::Memory;
 use aprs_log::Reception;
 use std::alloc::{Allocator, Global};
 use std::marker::Model;
@@ -111,8 +111,8 @@ impl<A: Allocator + Copy> RowStore<A> {
     }
 
     /// Puts a row after the others. Requires that it is sound by itself, and that its receivers'
-    /// names with commas between have fewer than 4,294,967,296 bytes. After `Memory` the rows are as
-    /// before.
+    /// names with commas between have fewer than 4,294,967,296 bytes. After `Memory` the rows are
+    /// as before.
     pub fn push(&mut self, row: &RowView<'_>) -> Result<(), Memory>
         requires sound { IsSoundRow row.now }
         requires short { length (join_with_byte 44 row.now.receivers) < 4294967296 }
@@ -149,13 +149,17 @@ impl<A: Allocator + Copy> RowStore<A> {
         requires info { entry.info ≡ length (parts_of frame.now).info }
         requires sound { IsSoundRow
             (row_of_text entry.first entry.last receivers.now receiver.now frame.now) }
-        requires told { IsTold (row_of_text entry.first entry.last receivers.now receiver.now frame.now) }
+        requires told { IsTold
+            (row_of_text entry.first entry.last receivers.now receiver.now frame.now) }
         ensures pushed { OnOk result (self.new ≡ self.old
             ++ row_of_text entry.first entry.last receivers.now receiver.now frame.now ∷ []) }
         ensures unchanged { OnErr result (self.new ≡ self.old) }
     {
         make_room(&mut self.entries, 1)?;
-        make_room(&mut self.bytes, receivers.len() + receiver.len() + frame.len())?;
+        make_room(
+            &mut self.bytes,
+            receivers.len() + receiver.len() + frame.len(),
+        )?;
         self.entries.push_reserved(entry);
         put(&mut self.bytes, receivers);
         put(&mut self.bytes, receiver);
@@ -163,8 +167,8 @@ impl<A: Allocator + Copy> RowStore<A> {
         Ok(())
     }
 
-    /// The rows by key and first moment. Takes memory for each row, and where rows of books came, as
-    /// much again.
+    /// The rows by key and first moment. Takes memory for each row, and where rows of books came,
+    /// as much again.
     pub fn in_order(&self) -> Result<RowsInOrder<'_, A>, Memory>
         ensures members { IfOk result (SameMembers self.now) }
         ensures ordered { IfOk result AreInOrder }

@@ -10,11 +10,11 @@ ghost use Rattle.aprs_laws.specs.Sound.{Sound};
 ghost use Rattle.aprs_rows.specs.Groups.{rows_of_groups, AreGroups};
 ghost use Rattle.aprs_rows.specs.Sweep.{AreGathered, gathered, HasNames, open_row, open_text, Stands};
 
+use crate::Memory;
 use crate::group::Group;
 use crate::laid::Laid;
 use crate::names::{gather, put_united};
 use crate::transmissions::Transmissions;
-use crate::Memory;
 use aprs_laws::Gap;
 use aprs_log::Moment;
 use std::alloc::Allocator;
@@ -107,7 +107,12 @@ impl<'a, A: Allocator + Copy> Sweep<'a, A> {
         if self.open.is_near(self.gap, row) {
             return self.join(row);
         }
-        close(&mut self.groups, &mut self.texts, &self.open, &mut self.names)?;
+        close(
+            &mut self.groups,
+            &mut self.texts,
+            &self.open,
+            &mut self.names,
+        )?;
         self.open = Open::of(row);
         Ok(())
     }
@@ -168,7 +173,8 @@ fn close<'a, A: Allocator>(
     open: &Open<'a>,
     names: &mut Vec<&'a [u8], A>,
 ) -> Result<(), Memory>
-    ensures closed { AreGathered open.now names.old.items → AreGroups groups.old.items texts.old.items
+    ensures closed { AreGathered open.now names.old.items
+        → AreGroups groups.old.items texts.old.items
         → OnOk result (AreGroups groups.new.items texts.new.items
         × (rows_of_groups groups.new.items texts.new.items
         ≡ rows_of_groups groups.old.items texts.old.items

@@ -344,9 +344,11 @@ fn agrees_in_a_thousand(alloc: Global, frames: &[Frame], stride: u64) -> Result<
         store.push_reception(&heard).ok().ok_or("memory")?;
         both.take(alloc, frames, x)?;
     }
-    Ok(both.agree(frames)?
-        && both.plain.rows.len() == 1000
-        && is_of_store(alloc, &store, &both.book)?)
+    Ok(
+        both.agree(frames)?
+            && both.plain.rows.len() == 1000
+            && is_of_store(alloc, &store, &both.book)?,
+    )
 }
 
 // In order, against it, and scattered.

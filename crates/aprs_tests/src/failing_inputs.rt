@@ -57,8 +57,8 @@ fn line_of(run: &Result<(), RunFault>) -> Option<u64> {
     }
 }
 
-/// Whether a run over three inputs ends at the second, which fails after so many bytes: at its line,
-/// asked once, and with nothing written.
+/// Whether a run over three inputs ends at the second, which fails after so many bytes: at its
+/// line, asked once, and with nothing written.
 fn is_ended_by(alloc: Global, second: &[u8], good: usize, is_listing: bool) -> bool {
     let mut inputs = [
         reader(ONE_LINE, usize::MAX),

@@ -61,7 +61,14 @@ END 1
 /// Whether the three become this text in each order, and with the first of them twice.
 fn are_merged_to(alloc: Global, texts: [&[u8]; 3], text: &[u8]) -> bool {
     let [a, b, c] = texts;
-    for texts in [[a, b, c], [a, c, b], [b, a, c], [b, c, a], [c, a, b], [c, b, a]] {
+    for texts in [
+        [a, b, c],
+        [a, c, b],
+        [b, a, c],
+        [b, c, a],
+        [c, a, b],
+        [c, b, a],
+    ] {
         if !is_merged_to(alloc, &texts, text) {
             return false;
         }

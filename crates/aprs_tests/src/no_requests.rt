@@ -123,7 +123,8 @@ fn shown_rows(book: &Book<&Bump>) -> usize {
     shown
 }
 
-/// Whether the book has the gap and the rows of what was sent, and differs from one with a wider gap.
+/// Whether the book has the gap and the rows of what was sent, and differs from one with a wider
+/// gap.
 fn is_seen<'a>(call: Call, book: &Book<&'a Bump>, wide: &Book<&'a Bump>) -> bool {
     match call {
         Call::Gap => book.gap() == Gap::STANDARD && book.len() == SENT.len(),

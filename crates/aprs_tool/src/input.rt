@@ -88,11 +88,7 @@ fn read_own<R: Read, A: Allocator + Copy>(
 }
 
 /// The book of the rows in a store.
-fn book_of<A: Allocator + Copy>(
-    alloc: A,
-    gap: Gap,
-    store: &RowStore<A>,
-) -> Result<Book<A>, Memory>
+fn book_of<A: Allocator + Copy>(alloc: A, gap: Gap, store: &RowStore<A>) -> Result<Book<A>, Memory>
     ensures book { IfOk result (Holds (witnesses store.now)) }
     ensures gap { IfOk result (λ book. book.gap ≡ gap) }
 {
@@ -102,8 +98,8 @@ fn book_of<A: Allocator + Copy>(
 }
 
 /// Reads an input, as `read_input` does, into what was gathered: its book, that of a set, becomes
-/// the book of that set and of the input's receptions. `OtherGap` comes for a faultless book file of
-/// another gap. After a fault anything may be gathered.
+/// the book of that set and of the input's receptions. `OtherGap` comes for a faultless book file
+/// of another gap. After a fault anything may be gathered.
 pub(crate) fn read_into<R: Read, A: Allocator + Copy>(
     alloc: A,
     limit: u64,
@@ -125,8 +121,8 @@ pub(crate) fn read_into<R: Read, A: Allocator + Copy>(
 }
 
 /// Reads the rows of an input into a store, after those that are there, and gives its gap: its own,
-/// where it is a book file, and else the one that is asked for. A reception of a log is a row. After
-/// a fault anything may be there. Holds the store and one line.
+/// where it is a book file, and else the one that is asked for. A reception of a log is a row.
+/// After a fault anything may be there. Holds the store and one line.
 pub(crate) fn read_input_rows<R: Read, A: Allocator + Copy>(
     alloc: A,
     limit: u64,

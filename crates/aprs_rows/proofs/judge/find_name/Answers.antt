@@ -1,6 +1,6 @@
-use Rattle.std.proofs.Common.{◌≡◌, ◌∙◌, sym, ap}
+use Rattle.std.proofs.Common.{◌∙◌, sym, ap}
 use Rattle.std.specs.Ordering.{is_eq, is_lt}
-use Rattle.aprs_rows.proofs.Judgements.{AreSeen, first_seen, next_seen, has_it, is_it}
+use Rattle.aprs_rows.proofs.Judgements.{first_seen, next_seen, has_it, is_it}
 use Rattle.aprs_rows.proofs.judge.find_name.Goals as goal
 
 pub loop-next-init : goal.loop-next-init

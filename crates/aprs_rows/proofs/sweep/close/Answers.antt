@@ -14,12 +14,18 @@ returns-clause-closed g c a m =
     let size : c.len.result - c.len-before.result ≡ length text =
     let l = ap length put in
     let n = length-append c.args.texts.now.items text in
-    omega (arith, c.len.ensures, c.len-before.ensures, c.args.texts.now.ok.0,
-    c.put_names.new.texts.ok.0, l, n) in
+    omega (
+      arith,
+      c.len.ensures,
+      c.len-before.ensures,
+      c.args.texts.now.ok.0,
+      c.put_names.new.texts.ok.0,
+      l,
+      n,
+    ) in
     let pushed = c.push.ensures.items
     ∙ if_true _ _ _ (c.is_err.ensures.negation ∙ ap not c.if-is_err.false) in
-    let e = ends_open c.args.«open».now _ c.args.names.now.items a refl size refl in
-    (
+    let e = ends_open c.args.«open».now _ c.args.names.now.items a refl size refl in (
       subst (λ (x : List Group × List ℕ). AreGroups x.0 x.1) (λ t. (sym pushed t, sym put t))
           (are_more text_size group_row IsGroup (λ e bytes h. h.size) _ _ _ text m e.group),
       (λ t. rows_of_groups (pushed t) (put t))

@@ -1,4 +1,4 @@
-use Rattle.std.proofs.Common.{◌∙◌, ◌-◌, sym, ap, drop, length}
+use Rattle.std.proofs.Common.{◌∙◌, ◌-◌, ap, drop, length}
 use Rattle.aprs_ax25.specs.FrameFault.{parts_of}
 use Rattle.aprs_laws.specs.Row.{Row}
 use Rattle.aprs_rows.proofs.Infos.{info_at}

@@ -1,4 +1,3 @@
-use Rattle.std.proofs.Common.{◌≡◌, ◌∙◌, sym, ap, arith}
 use Rattle.aprs_rows.proofs.Rows.{none_exactly}
 use Rattle.aprs_rows.proofs.store.RowStore.is_empty.Goals as goal
 

@@ -1,4 +1,4 @@
-use Rattle.std.proofs.Common.{◌≡◌, ◌∙◌, sym, ap, subst, length, arith}
+use Rattle.std.proofs.Common.{ap, length, arith}
 use Rattle.aprs_ax25.proofs.Sounds.{IsSound-len}
 use Rattle.aprs_ax25.proofs.Spellings.{FrameOf-IsSound}
 use Rattle.aprs_rows.proofs.store.RowStore.push.Goals as goal

@@ -5,7 +5,6 @@ use Rattle.aprs_log.specs.Receiver.{IsName}
 use Rattle.aprs_laws.specs.Sound.{IsSoundRow}
 use Rattle.aprs_laws.specs.JoinRow.{single}
 use Rattle.aprs_rows.specs.Names.{row_of_text}
-
 use Rattle.aprs_rows.specs.Rows.{IsTold}
 use Rattle.aprs_rows.proofs.Rows.{on_ok, single_is, single_told, single_sound}
 use Rattle.aprs_rows.proofs.store.RowStore.push_reception.Goals as goal

@@ -1,6 +1,5 @@
-use Rattle.std.proofs.Common.{◌≡◌, sym}
 use Rattle.aprs_rows.proofs.Judgements.{some_names}
-use Rattle.aprs_rows.proofs.Sweeps.{JoinsOpen, joins_open}
+use Rattle.aprs_rows.proofs.Sweeps.{joins_open}
 use Rattle.aprs_rows.proofs.sweep.Sweep.join.Goals as goal
 
 pub returns-clause-joined : goal.returns-clause-joined

@@ -1,4 +1,4 @@
-use Rattle.std.proofs.Common.{length, sym, ap, arith}
+use Rattle.std.proofs.Common.{length, ap, arith}
 use Rattle.aprs_laws.specs.BookValue.{BookValue}
 use Rattle.aprs_rows.specs.Groups.{text_size, group_row, IsGroup}
 use Rattle.aprs_rows.proofs.Rows.{length-rows_of}

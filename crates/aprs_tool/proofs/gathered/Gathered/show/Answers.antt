@@ -48,8 +48,7 @@ returns-in_err-write g c =
     ∙ same_book was.gap was.store c.in_ok-rows.rows c.self.invariant c.in_ok-order.ensures.sound
     (ap (λ (b : BookValue). b.gap) c.in_ok-rows.ensures.rows)
     (c.in_ok-rows.ensures.book was.store c.in_ok-order.ensures.members)
-    ∙ c.self.view_is)
-    (
+    ∙ c.self.view_is) (
       _,
       shown_text _ _ _ _ views.stations views.named views.messages,
       Sends-err (Err Write) refl c.in_err-write.ensures,
@@ -65,8 +64,7 @@ returns g c =
     ∙ same_book was.gap was.store c.in_ok-rows.rows c.self.invariant c.in_ok-order.ensures.sound
     (ap (λ (b : BookValue). b.gap) c.in_ok-rows.ensures.rows)
     (c.in_ok-rows.ensures.book was.store c.in_ok-order.ensures.members)
-    ∙ c.self.view_is)
-    (
+    ∙ c.self.view_is) (
       _,
       shown_text _ _ _ _ views.stations views.named views.messages,
       Sends-ok c.in_ok-write.ensures,

@@ -12,9 +12,12 @@ unfolding WritesText
 returns-in_err-order g c =
     let p = err_from_is_err_and c.from_residual.result c.from_residual.ensures.1 in
     let was = c.self.inside in
-    rw (p.1, p.2) (refl, λ e. some_rows was.gap was.store c.self.invariant
-    c.in_err-order.ensures.sound c.in_err-order.ensures.some
-    (ap (λ (b : BookValue). b.rows) c.self.view_is ∙ e))
+    rw (p.1, p.2) (
+      refl,
+      λ e. some_rows was.gap was.store c.self.invariant
+          c.in_err-order.ensures.sound c.in_err-order.ensures.some
+          (ap (λ (b : BookValue). b.rows) c.self.view_is ∙ e),
+    )
 
 pub returns-in_err-rows : goal.returns-in_err-rows
 unfolding WritesText
@@ -22,11 +25,14 @@ returns-in_err-rows g c =
     let p = err_from_is_err_and c.from_residual-in_err-rows.result
     c.from_residual-in_err-rows.ensures.1 in
     let was = c.self.inside in
-    rw (p.1, p.2) (refl, λ e. some_rows was.gap was.store c.self.invariant
-    c.in_ok-order.ensures.sound
-    (λ none. c.in_err-rows.ensures.some
-    (none_same was.store c.in_ok-order.order c.in_ok-order.ensures.members none))
-    (ap (λ (b : BookValue). b.rows) c.self.view_is ∙ e))
+    rw (p.1, p.2) (
+      refl,
+      λ e. some_rows was.gap was.store c.self.invariant
+          c.in_ok-order.ensures.sound
+          (λ none. c.in_err-rows.ensures.some
+          (none_same was.store c.in_ok-order.order c.in_ok-order.ensures.members none))
+          (ap (λ (b : BookValue). b.rows) c.self.view_is ∙ e),
+    )
 
 pub returns-in_err-write_rows : goal.returns-in_err-write_rows
 unfolding WritesText
