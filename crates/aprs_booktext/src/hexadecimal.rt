@@ -1,9 +1,7 @@
 //! The bytes of a frame in lower case hexadecimal.
 ghost use Rattle.std.specs.Prelude.{◌≡◌, ◌↔◌, ◌*◌, ◌≤◌, length, ℕ, List, IsTrue, IfSome, IfNone};
-ghost use Rattle.hex.specs.Hex.{encode_lower};
-ghost use Rattle.aprs_booktext.specs.RowFields.{SpellsBytes};
-
-use aprs_io::encode_to;
+ghost use Rattle.std.specs.List.{list_any};
+ghost use Rattle.aprs_booktext.specs.RowFields.{SpellsBytes, is_capital};
 
 /// The most bytes of a frame.
 pub const MAX_FRAME: usize = 328;
@@ -22,23 +20,20 @@ pub fn decode_into<'r>(digits: &[u8], room: &'r mut [u8; MAX_FRAME]) -> Option<&
     let Some(count) = aprs_io::decode_into(digits, room) else {
         return None;
     };
-    let bytes = &room[..count];
-    if bytes.is_empty() {
+    if count == 0 || has_capital(digits) {
         return None;
     }
-    if !are_digits_of(digits, bytes) {
-        return None;
-    }
-    Some(bytes)
+    Some(&room[..count])
 }
 
-/// Whether these are the digits that the bytes are written with.
-fn are_digits_of(digits: &[u8], bytes: &[u8]) -> bool
-    requires { length bytes.now ≤ MAX_FRAME }
-    ensures { IsTrue result ↔ (digits.now ≡ encode_lower bytes.now) }
+/// Whether a letter `A` to `F` is among the digits. There is no early end, so that many are looked
+/// at in one step of the processor.
+fn has_capital(digits: &[u8]) -> bool
+    ensures { result ≡ list_any is_capital digits.now }
 {
-    let mut room = [0; MAX_DIGITS];
-    let written = &mut room[..2 * bytes.len()];
-    encode_to(bytes, written);
-    digits == written
+    let mut found = false;
+    'digits: for i in 0..digits.len() {
+        found |= digits[i].wrapping_sub(b'A') < 6;
+    }
+    found
 }
