@@ -12,10 +12,14 @@ use crate::fields::cut_fields;
 use crate::hexadecimal::{MAX_FRAME, decode_into};
 use crate::row_text::RowText;
 use aprs_ax25::Frame;
-use aprs_log::{Moment, MomentForm, Receiver};
+use aprs_log::{Clock, Moment, MomentForm, Receiver};
 
 /// The row that a line spells, its moments in this form, or why it spells none.
-pub fn read_row(form: MomentForm, line: &[u8]) -> Result<RowText<'_>, BookCause>
+pub fn read_row<'l>(
+    clock: &mut Clock,
+    form: MomentForm,
+    line: &'l [u8],
+) -> Result<RowText<'l>, BookCause>
     ensures ok { IfOk result (λ x. IsBookRow form x × (line.now ≡ row_line form x)) }
     ensures err { IfErr result (λ cause. IsWrongRow form line.now cause) }
 {
@@ -25,10 +29,10 @@ pub fn read_row(form: MomentForm, line: &[u8]) -> Result<RowText<'_>, BookCause>
     if !is_tag(fields.tag) {
         return Err(BookCause::RowSyntax);
     }
-    let Some(first) = read_moment(form, fields.first) else {
+    let Some(first) = read_moment(clock, form, fields.first) else {
         return Err(BookCause::RowSyntax);
     };
-    let Some(last) = read_moment(form, fields.last) else {
+    let Some(last) = read_moment(clock, form, fields.last) else {
         return Err(BookCause::RowSyntax);
     };
     if !are_names(fields.receivers) {
@@ -49,11 +53,11 @@ fn is_tag(field: &[u8]) -> bool
 }
 
 /// The moment that a field spells in this form.
-fn read_moment(form: MomentForm, field: &[u8]) -> Option<Moment>
+fn read_moment(clock: &mut Clock, form: MomentForm, field: &[u8]) -> Option<Moment>
     ensures some { IfSome result (λ m. IsWritable form m × (field.now ≡ moment_text_in form m)) }
     ensures none { IfNone result ((m : ℕ) → IsWritable form m → field.now ≢ moment_text_in form m) }
 {
-    match Moment::parse_in(form, field) {
+    match clock.parse_in(form, field) {
         Some(moment) => {
             prove!(moment.millis() <= 4_102_444_799_999);
             Some(moment)

@@ -1,5 +1,5 @@
 -- Lemmas on moments and their texts.
-use Rattle.std.proofs.Common.{◌≡◌, ℕ, ◌+◌, ◌*◌, ◌/◌, ◌%◌, ◌<◌, ◌≤◌, ◌↔◌, nat_lt, Bool, true, false, List, Option, None, Some, pos, ◌+ℤ◌, ◌*ℤ◌, unsigned_abs, refl, arith, sym, ap, ◌∙◌, ◌&&◌, cond, subst}
+use Rattle.std.proofs.Common.{◌≡◌, ℕ, ◌+◌, ◌*◌, ◌/◌, ◌%◌, ◌<◌, ◌≤◌, ◌↔◌, nat_lt, Bool, true, false, List, length, Option, None, Some, pos, ◌+ℤ◌, ◌*ℤ◌, unsigned_abs, refl, arith, sym, ap, ◌∙◌, ◌&&◌, cond, subst}
 use Rattle.std.proofs.lemmas.Bool.{and_from, lt-ltb, ltb-true}
 use Rattle.std.proofs.lemmas.Bool.Decides.{nat_tests}
 use Rattle.std.specs.Str.{bytes_eq}
@@ -10,6 +10,7 @@ use Rattle.aprs_log.proofs.Days.{IsDay-number, one_date, NthDay, day_after-is}
 use Rattle.aprs_log.specs.declared.moment_form.MomentForm.{MomentForm}
 use Rattle.aprs_log.specs.declared.moment_form.MomentForm.TheVariants.{Seconds, Millis}
 use Rattle.aprs_log.specs.Places.{near_civil, near_digit, near_millis}
+use Rattle.aprs_log.specs.Clock.{form_size}
 use Rattle.aprs_log.specs.Moment.{Civil, civil_at, civil_text, digit_of, IsCivil, is_date, is_time, is_civil, is_real, second_of_day, seconds_of, room_of, MomentTextIn, MomentText, millis_at, moment_in, form_of, moment_of, day_after, civil_after, moment_text_in}
 
 -- a civil time whose parts have as many digits as a text has room for
@@ -239,6 +240,29 @@ pub text-moment_in : (form : MomentForm) (t : List ℕ) (m : ℕ) → MomentText
 text-moment_in form t m h = ap (moment_in form) h.spelled
     ∙ moment_in-civil form h.civil h.millis h.real h.below
     ∙ ap (λ n. Some n) (sym (number-back m h.civil h.millis h.real h.number))
+
+-- the text of a moment in a form has that form's length
+pub length_in : (form : MomentForm) (m : ℕ) (t : List ℕ) → MomentTextIn form m t
+    → length t ≡ form_size form
+length_in Seconds m t h = ap length h.spelled
+length_in Millis m t h = ap length h.spelled
+
+pub form_by_size : (form : MomentForm) (t : List ℕ) → length t ≡ form_size form → form_of t ≡ form
+form_by_size Seconds t h = rw h refl
+form_by_size Millis t h = rw h refl
+
+pub moment_by_size : (form : MomentForm) (t : List ℕ) → length t ≡ form_size form
+    → moment_of t ≡ moment_in form t
+moment_by_size form t h = ap (λ f. moment_in f t) (form_by_size form t h)
+
+none_if : (form : MomentForm) (t : List ℕ) → (length t ≡ form_size form → ⊥) → (r : Option ℕ)
+    → moment_in form t ≡ r → r ≡ None
+none_if form t h None e = refl
+none_if form t h (Some m) e = absurd (h (length_in form m t (moment_in-text form t m e)))
+
+pub no_moment_by_size : (form : MomentForm) (t : List ℕ) → (length t ≡ form_size form → ⊥)
+    → moment_in form t ≡ None
+no_moment_by_size form t h = none_if form t h (moment_in form t) refl
 
 -- the length of a text says its form
 form_of-text : (form : MomentForm) (m : ℕ) (t : List ℕ) → MomentTextIn form m t → form_of t ≡ form

@@ -3,6 +3,12 @@ use Rattle.std.specs.Prelude.{◌≡◌, ℕ, ◌+◌, ◌*◌, ◌<◌, ◌==�
 use Rattle.aprs_log.specs.declared.moment_form.MomentForm.{MomentForm}
 use Rattle.aprs_log.specs.declared.moment_form.MomentForm.TheVariants.{Seconds, Millis}
 use Rattle.aprs_log.specs.Moment.{two_digits, fraction_text, room_of}
+use Rattle.aprs_log.specs.Sizes.{millis_size, seconds_size}
+
+-- the bytes of a moment's text in a form
+abbrev pub form_size : MomentForm → ℕ
+form_size Seconds = seconds_size
+form_size Millis = millis_size
 
 -- the text HH:MM:SS of a time of the day
 abbrev pub clock_text : ℕ → ℕ → ℕ → List ℕ

@@ -1,9 +1,9 @@
-//! The day of the line before.
-ghost use Rattle.std.specs.Prelude.{◌≡◌, ◌⊎◌, ◌<◌, ◌+◌, ◌∷◌, ◌++◌, [], length, slice_index, Some, IfSome};
+//! Moments that follow one another.
+ghost use Rattle.std.specs.Prelude.{◌≡◌, ◌⊎◌, ◌↔◌, ℕ, ◌<◌, ◌+◌, ◌∷◌, ◌++◌, [], length, slice_index, Some, IfSome};
 ghost use Rattle.aprs_log.specs.declared.moment_form.MomentForm.{MomentForm};
 ghost use Rattle.aprs_log.specs.Clock.{FractionText, form_of_end, SecondText, midnight_text};
 ghost use Rattle.aprs_log.specs.Sizes.{millis_size, seconds_size};
-ghost use Rattle.aprs_log.specs.Moment.{moment_in, moment_of, two_digits};
+ghost use Rattle.aprs_log.specs.Moment.{MomentTextIn, moment_in, moment_of, two_digits};
 
 use crate::MomentForm;
 use crate::moment::Moment;
@@ -17,8 +17,8 @@ const TIME_LEN: usize = 8;
 /// How many milliseconds a day has.
 const MILLIS_A_DAY: u64 = 86_400_000;
 
-/// A date and its first moment, since lines of a log that follow one another mostly have the same
-/// date.
+/// Reads moments that follow one another. It keeps the date of the last one and that day's first
+/// moment, since lines of a log or a book that follow one another mostly have the same date.
 #[derive(Drop)]
 pub struct Clock {
     date: [u8; DATE_LEN],
@@ -27,7 +27,7 @@ pub struct Clock {
 }
 
 impl Clock {
-    /// A clock before the first line.
+    /// A clock that keeps the date 1970-01-01. Takes no memory.
     pub fn new() -> Clock {
         Clock {
             date: *b"1970-01-01T",
@@ -35,8 +35,20 @@ impl Clock {
         }
     }
 
+    /// The moment of a text in this form, as `Moment::parse_in`. Keeps its date, so that the next
+    /// moment of that day is read sooner. Takes no memory.
+    pub fn parse_in(&mut self, form: MomentForm, text: &[u8]) -> Option<Moment>
+        ensures value { result ≡ moment_in form text.now }
+        ensures exact { (m : ℕ) → (result ≡ Some m) ↔ MomentTextIn form m text.now }
+    {
+        if text.len() != form.size() {
+            return None;
+        }
+        self.parse(text)
+    }
+
     /// The moment of a text, as `Moment::parse`. Keeps its date.
-    pub fn parse(&mut self, text: &[u8]) -> Option<Moment>
+    pub(crate) fn parse(&mut self, text: &[u8]) -> Option<Moment>
         requires { (length text.now ≡ seconds_size) ⊎ (length text.now ≡ millis_size) }
         ensures { result ≡ moment_of text.now }
     {

@@ -20,6 +20,7 @@ mod window;
 mod write;
 
 pub use aprs_io::{Ending, MAX_INPUT};
+pub use clock::Clock;
 pub use fault::{LineFault, LogCause, LogFault, Reason};
 pub use line::{Line, MAX_LINE, read_line};
 pub use moment::Moment;
