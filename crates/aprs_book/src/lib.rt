@@ -23,6 +23,7 @@ mod reception_view;
 mod reported;
 mod row;
 mod row_parts;
+mod sender;
 mod station;
 mod steps;
 mod tally;

@@ -12,6 +12,7 @@ use crate::message::messages_of;
 use crate::named::objects_of;
 use crate::reception_view::ReceptionView;
 use crate::reported::Reported;
+use crate::sender::Sender;
 use crate::station::stations_of;
 use crate::transmission::RowWalk;
 use crate::{Memory, MessageRow, Named, Station};
@@ -56,9 +57,12 @@ impl<'t, 'a, A: Allocator + Copy> Overview<'t, 'a, A> {
         ensures { IfOk result (λ overview. overview ≡ rows.now) }
     {
         let mut indexes = Indexes::new(alloc);
+        let mut before = None;
         for row in rows.rows() {
             let heard = ReceptionView::of_row(&row);
-            indexes.take(&Reported::of(&heard), &heard)?;
+            let sender = Sender::after(before, &heard);
+            indexes.take(&Reported::of(sender.call(), heard.info()), &heard)?;
+            before = Some(sender);
         }
         Ok(Overview {
             rows,

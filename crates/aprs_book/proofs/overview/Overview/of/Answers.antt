@@ -1,9 +1,10 @@
 use Rattle.std.proofs.Common.{◌≡◌, ◌∙◌, [], ap, refl, subst, sym}
 use Rattle.aprs_log.specs.Reception.{Heard}
+use Rattle.aprs_report.specs.Reader.{reading_of}
 use Rattle.aprs_laws.specs.Key.{key_of}
 use Rattle.aprs_laws.specs.Best.{LastKnown}
 use Rattle.aprs_laws.specs.BestLaws.{Passes}
-use Rattle.aprs_book.specs.Known.{known_at, reported_in, reports_at}
+use Rattle.aprs_book.specs.Known.{known_at, reported_by, reported_in, reports_at}
 use Rattle.aprs_book.proofs.Collected.{walk_starts, walk_goes, walk_ends}
 use Rattle.aprs_book.proofs.IndexSteps.{Noted, pushes_indexes}
 use Rattle.aprs_book.proofs.overview.Overview.of.Goals as goal
@@ -19,10 +20,14 @@ loop-row-init g c =
 pub loop-row-preserved : goal.loop-row-preserved
 loop-row-preserved g c =
     let is : c.of_row-heard.result ≡ c.in-Some.row.greatest = c.of_row-heard.ensures in
+    let source = c.call.ensures ∙ c.after-sender.ensures
+    ∙ ap (λ (x : Heard). (key_of x.frame).source) is in
+    let info = c.info.ensures ∙ ap (λ (x : Heard). (key_of x.frame).info) is in
     walk_goes _ _ _ _ _ c.in-Some.row c.in-Some.ensures.steps
     (λ done more adds known. pushes_indexes c.of.result c.in-Some.row done more
     c.loop-row.indexes c.loop-row.indexes c.take.new.self known
-    (λ topic. c.of.ensures topic ∙ ap (λ (x : Heard). reported_in topic (key_of x.frame)) is)
+    (λ topic. c.of.ensures topic
+    ∙ (λ i. reported_by topic (source i) (reading_of (info i))))
     (λ topic bytes. refl)
     (subst (λ (x : Heard). Noted c.of.result x c.loop-row.indexes c.take.new.self) is
     c.in_ok-take.ensures.taken)
