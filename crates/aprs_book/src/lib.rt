@@ -15,6 +15,7 @@ mod message;
 mod message_key;
 mod millis;
 mod named;
+mod notes;
 mod of_rows;
 mod overview;
 mod place;

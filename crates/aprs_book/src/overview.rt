@@ -10,6 +10,7 @@ ghost use Rattle.aprs_book.specs.Transmission.{rows_left};
 use crate::indexes::Indexes;
 use crate::message::messages_of;
 use crate::named::objects_of;
+use crate::notes::Notes;
 use crate::reception_view::ReceptionView;
 use crate::reported::Reported;
 use crate::sender::Sender;
@@ -56,17 +57,17 @@ impl<'t, 'a, A: Allocator + Copy> Overview<'t, 'a, A> {
     pub fn of(alloc: A, rows: &'t Transmissions<'a, A>) -> Result<Overview<'t, 'a, A>, Memory>
         ensures { IfOk result (λ overview. overview ≡ rows.now) }
     {
-        let mut indexes = Indexes::new(alloc);
+        let mut notes = Notes::new(alloc);
         let mut before = None;
         for row in rows.rows() {
             let heard = ReceptionView::of_row(&row);
             let sender = Sender::after(before, &heard);
-            indexes.take(&Reported::of(sender.call(), heard.info()), &heard)?;
+            notes.take(Reported::of(sender.call(), heard.info()), heard)?;
             before = Some(sender);
         }
         Ok(Overview {
             rows,
-            indexes,
+            indexes: notes.into_indexes()?,
             alloc,
         })
     }

@@ -1,5 +1,5 @@
 //! What a frame reports on.
-ghost use Rattle.std.specs.Prelude.{◌≡◌};
+ghost use Rattle.std.specs.Prelude.{◌≡◌, true};
 ghost use Rattle.aprs_report.specs.Reader.{reading_of};
 ghost use Rattle.aprs_book.specs.Known.{Topic, reported_at, reported_by};
 ghost use Rattle.aprs_keys.specs.KeyBytes.{call_bytes};
@@ -36,6 +36,24 @@ impl<'a> Reported<'a> {
             Report::Object { name, .. } => Reported::Object(name),
             Report::Item { name, .. } => Reported::Item(name),
             _ => Reported::Nothing,
+        }
+    }
+
+    /// Whether it is the same that another frame reports on. Two that report on nothing aren't.
+    pub(crate) fn is_same(&self, other: &Reported<'_>) -> bool
+        ensures { result ≡ true
+            → (topic : Topic) → reported_at topic self.now ≡ reported_at topic other.now }
+    {
+        match (self, other) {
+            (Reported::Position(ours), Reported::Position(theirs)) => {
+                ours.as_slice() == theirs.as_slice()
+            }
+            (Reported::Status(ours), Reported::Status(theirs)) => {
+                ours.as_slice() == theirs.as_slice()
+            }
+            (Reported::Object(ours), Reported::Object(theirs)) => ours == theirs,
+            (Reported::Item(ours), Reported::Item(theirs)) => ours == theirs,
+            _ => false,
         }
     }
 }
