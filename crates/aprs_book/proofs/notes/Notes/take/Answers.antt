@@ -1,4 +1,4 @@
-use Rattle.std.proofs.Common.{◌≡◌, ◌∙◌, None, refl, ◌∷◌, ◌++◌, [], Option, Some, if◌then◌else◌, List, ℕ, map, ap, subst, sym}
+use Rattle.std.proofs.Common.{◌≡◌, ◌∙◌, refl, ◌∷◌, ◌++◌, [], Option, Some, if◌then◌else◌, List, ℕ, map, ap, subst, sym}
 use Rattle.aprs_log.specs.Reception.{Heard}
 use Rattle.aprs_laws.specs.JoinRow.{greater}
 use Rattle.aprs_laws.specs.Best.{LastKnown, greater_known}
