@@ -23,3 +23,4 @@ pub mod Replies
 pub mod Listings
 pub mod MessagesOfSets
 pub mod Things
+pub mod Noting

@@ -2,6 +2,7 @@
 pub mod Keyed
 pub mod Known
 pub mod Shown
+pub mod Notes
 pub mod Transmission
 pub mod Places
 pub mod Taking

@@ -113,7 +113,7 @@ impl<A: Allocator + Copy> Book<A> {
         ensures in_place { FitsInPlace (millis_of self.old.gap) self.old.rows x.now → IsOk result }
     {
         let heard = ReceptionView::of(x);
-        let reported = Reported::of(&heard);
+        let reported = heard.reported();
         self.indexes.place(&reported)?;
         self.rows.take(Millis::of(self.gap), x)?;
         self.indexes.note(&reported, &heard);
@@ -149,7 +149,7 @@ impl<A: Allocator + Copy> Book<A> {
         ensures unchanged { OnErr result (self.new ≡ self.old) }
     {
         let heard = parts.heard();
-        let reported = Reported::of(&heard);
+        let reported = heard.reported();
         self.indexes.place(&reported)?;
         self.rows.push(parts)?;
         self.indexes.note(&reported, &heard);

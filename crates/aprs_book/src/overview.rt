@@ -10,8 +10,10 @@ ghost use Rattle.aprs_book.specs.Transmission.{rows_left};
 use crate::indexes::Indexes;
 use crate::message::messages_of;
 use crate::named::objects_of;
+use crate::notes::Notes;
 use crate::reception_view::ReceptionView;
 use crate::reported::Reported;
+use crate::sender::Sender;
 use crate::station::stations_of;
 use crate::transmission::RowWalk;
 use crate::{Memory, MessageRow, Named, Station};
@@ -55,14 +57,17 @@ impl<'t, 'a, A: Allocator + Copy> Overview<'t, 'a, A> {
     pub fn of(alloc: A, rows: &'t Transmissions<'a, A>) -> Result<Overview<'t, 'a, A>, Memory>
         ensures { IfOk result (λ overview. overview ≡ rows.now) }
     {
-        let mut indexes = Indexes::new(alloc);
+        let mut notes = Notes::new(alloc);
+        let mut before = None;
         for row in rows.rows() {
             let heard = ReceptionView::of_row(&row);
-            indexes.take(&Reported::of(&heard), &heard)?;
+            let sender = Sender::after(before, &heard);
+            notes.take(Reported::of(sender.call(), heard.info()), heard)?;
+            before = Some(sender);
         }
         Ok(Overview {
             rows,
-            indexes,
+            indexes: notes.into_indexes()?,
             alloc,
         })
     }

@@ -1,11 +1,13 @@
 //! A reception in bytes.
-ghost use Rattle.std.specs.Prelude.{◌≡◌};
+ghost use Rattle.std.specs.Prelude.{◌≡◌, take, drop};
 ghost use Rattle.std.specs.Ordering.{is_lt};
 ghost use Rattle.aprs_ax25.specs.Frame.{FrameOf};
 ghost use Rattle.aprs_ax25.specs.FrameFault.{parts_of};
 ghost use Rattle.aprs_log.specs.Reception.{heard_cmp};
 ghost use Rattle.aprs_laws.specs.Key.{key_of};
+ghost use Rattle.aprs_book.specs.Known.{Topic, reported_at, reported_in};
 
+use crate::reported::Reported;
 use aprs_ax25::{Callsign, Frame};
 use aprs_log::{Moment, Receiver, Reception};
 use aprs_rows::RowView;
@@ -92,6 +94,22 @@ impl<'a> ReceptionView<'a> {
         ensures { result ≡ (key_of self.now.frame).source }
     {
         read_frame(self.frame).source()
+    }
+
+    /// The seven octets of the address of that station.
+    pub(crate) fn source_octets(&self) -> &'a [u8]
+        ensures { result.now ≡ take 7 (drop 7 self.now.frame) }
+    {
+        &self.frame[7..14]
+    }
+
+    /// What its frame reports on.
+    #[tactic(auto, unfolding(aprs_laws::specs::Key::key_of))]
+    pub(crate) fn reported(&self) -> Reported<'a>
+        ensures { (topic : Topic)
+            → reported_at topic result ≡ reported_in topic (key_of self.now.frame) }
+    {
+        Reported::of(&self.source(), self.info)
     }
 
     /// Whether it comes before the other in the order of receptions.

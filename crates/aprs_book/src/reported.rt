@@ -1,15 +1,15 @@
-//! What a reception reports on.
-ghost use Rattle.std.specs.Prelude.{◌≡◌};
-ghost use Rattle.aprs_laws.specs.Key.{key_of};
-ghost use Rattle.aprs_book.specs.Known.{Topic, reported_at, reported_in};
+//! What a frame reports on.
+ghost use Rattle.std.specs.Prelude.{◌≡◌, true};
+ghost use Rattle.aprs_report.specs.Reader.{reading_of};
+ghost use Rattle.aprs_book.specs.Known.{Topic, reported_at, reported_by};
 ghost use Rattle.aprs_rows.specs.KeyBytes.{call_bytes};
 
-use crate::reception_view::ReceptionView;
+use aprs_ax25::Callsign;
 use aprs_report::Report;
 use aprs_rows::call_bytes;
 use arrayvec::ArrayVec;
 
-/// What a reception reports on, by the bytes that an index has.
+/// What a frame reports on, by the bytes that an index has.
 #[derive(Drop)]
 pub(crate) enum Reported<'a> {
     /// Where this station is.
@@ -25,17 +25,35 @@ pub(crate) enum Reported<'a> {
 }
 
 impl<'a> Reported<'a> {
-    /// What this reception reports on.
-    pub(crate) fn of(x: &ReceptionView<'a>) -> Reported<'a>
-        ensures { (topic : Topic)
-            → reported_at topic result ≡ reported_in topic (key_of x.now.frame) }
+    /// What a frame from this station with this information reports on.
+    pub(crate) fn of(source: &Callsign, info: &'a [u8]) -> Reported<'a>
+        ensures { (topic : Topic) → reported_at topic result
+            ≡ reported_by topic source.now (reading_of info.now) }
     {
-        match Report::read(x.info()) {
-            Report::Position { .. } => Reported::Position(call_bytes(&x.source())),
-            Report::Status { .. } => Reported::Status(call_bytes(&x.source())),
+        match Report::read(info) {
+            Report::Position { .. } => Reported::Position(call_bytes(source)),
+            Report::Status { .. } => Reported::Status(call_bytes(source)),
             Report::Object { name, .. } => Reported::Object(name),
             Report::Item { name, .. } => Reported::Item(name),
             _ => Reported::Nothing,
+        }
+    }
+
+    /// Whether it is the same that another frame reports on. Two that report on nothing aren't.
+    pub(crate) fn is_same(&self, other: &Reported<'_>) -> bool
+        ensures { result ≡ true
+            → (topic : Topic) → reported_at topic self.now ≡ reported_at topic other.now }
+    {
+        match (self, other) {
+            (Reported::Position(ours), Reported::Position(theirs)) => {
+                ours.as_slice() == theirs.as_slice()
+            }
+            (Reported::Status(ours), Reported::Status(theirs)) => {
+                ours.as_slice() == theirs.as_slice()
+            }
+            (Reported::Object(ours), Reported::Object(theirs)) => ours == theirs,
+            (Reported::Item(ours), Reported::Item(theirs)) => ours == theirs,
+            _ => false,
         }
     }
 }

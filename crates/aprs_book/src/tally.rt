@@ -1,11 +1,12 @@
 //! How many rows each station has.
 ghost use Rattle.std.specs.Prelude.{◌≡◌, ◌+◌, ◌<◌, [], IfOk, OnOk, length};
 ghost use Rattle.std.specs.Option.{option_copied};
-ghost use Rattle.aprs_book.specs.Transmission.{row_in, rows_left};
-ghost use Rattle.aprs_book.specs.StationRows.{AreTallies, counted, source_of, tally_of, with_last, with_one_more};
+ghost use Rattle.aprs_book.specs.Transmission.{rows_left};
+ghost use Rattle.aprs_book.specs.StationRows.{AreTallies, counted, tally_of, with_last, with_one_more};
 
 use crate::Memory;
-use crate::transmission::{RowWalk, Transmission};
+use crate::sender::Sender;
+use crate::transmission::RowWalk;
 use aprs_ax25::Callsign;
 use std::alloc::{Allocator, Global};
 use std::collections::BTreeMap;
@@ -35,7 +36,7 @@ impl<A: Allocator> Drop for Counting<A> {
 impl<A: Allocator> Model for Counting<A> {
     ghost use Rattle.std.specs.Prelude.{ℕ, List};
     ghost use Rattle.aprs_ax25.specs.Callsign.{Call};
-    ghost use Rattle.aprs_book.specs.Transmission.{row_in, rows_left};
+    ghost use Rattle.aprs_book.specs.Transmission.{rows_left};
     ghost use Rattle.aprs_book.specs.StationRows.{with_last};
 
     ghost Value = { List (Call × ℕ) };
@@ -55,14 +56,14 @@ impl<A: Allocator + Copy> Counting<A> {
     }
 
     /// Counts one more row of this station.
-    fn add(&mut self, station: Callsign) -> Result<(), Memory>
-        requires { tally_of station self.old < 18446744073709551615 }
-        ensures { OnOk result (self.new ≡ with_one_more station self.old) }
+    fn add(&mut self, station: &Callsign) -> Result<(), Memory>
+        requires { tally_of station.now self.old < 18446744073709551615 }
+        ensures { OnOk result (self.new ≡ with_one_more station.now self.old) }
     {
         let last = match self.last.take() {
-            Some(last) if last.station.cmp(&station).is_eq() => {
+            Some(last) if last.station.cmp(station).is_eq() => {
                 self.last = Some(Tally {
-                    station,
+                    station: last.station,
                     rows: last.rows + 1,
                 });
                 return Ok(());
@@ -70,8 +71,11 @@ impl<A: Allocator + Copy> Counting<A> {
             last => last,
         };
         put(&mut self.map, last)?;
-        let rows = one_more(self.map.get(&station));
-        self.last = Some(Tally { station, rows });
+        let rows = one_more(self.map.get(station));
+        self.last = Some(Tally {
+            station: station.copy(),
+            rows,
+        });
         Ok(())
     }
 
@@ -110,17 +114,13 @@ pub(crate) fn tallies<A: Allocator + Copy>(
     ensures { IfOk result (λ tallies. AreTallies (rows_left rows.entry) tallies.entries) }
 {
     let mut tallies = Counting::new(alloc);
+    let mut before = None;
     for row in rows {
-        tallies.add(source_of(&row))?;
+        let sender = Sender::after(before, &row.greatest());
+        tallies.add(sender.call())?;
+        before = Some(sender);
     }
     tallies.into_map()
-}
-
-/// The station whose transmission this row is.
-fn source_of<A: Allocator + Copy>(row: &Transmission<'_, A>) -> Callsign
-    ensures { result ≡ source_of (row_in row.now) }
-{
-    row.greatest().source()
 }
 
 /// One more than were counted.

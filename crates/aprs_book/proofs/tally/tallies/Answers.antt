@@ -1,4 +1,6 @@
-use Rattle.std.proofs.Common.{◌+◌, ap, refl, arith}
+use Rattle.std.proofs.Common.{◌∙◌, ◌+◌, ap, refl, arith}
+use Rattle.aprs_log.specs.Reception.{Heard}
+use Rattle.aprs_laws.specs.Key.{key_of}
 use Rattle.aprs_book.specs.StationRows.{tally_of}
 use Rattle.aprs_book.specs.Transmission.{row_in, rows_left}
 use Rattle.aprs_book.proofs.Collected.{collected_first, walk_starts, walk_goes, walk_ends}
@@ -15,24 +17,28 @@ loop-row-init g c = record {
 
 pub add-requires : goal.add-requires
 add-requires g c =
-    let few = room_for_one _ (rows_left c.loop-row.row-iterator) _ (row_in c.in-Some.row) c.loop-row.tallies
-    c.source_of.result _ c.loop-row.invariant.counted c.in-Some.ensures.steps refl in
+    let few = room_for_one _ (rows_left c.loop-row.row-iterator) _ (row_in c.in-Some.row)
+    c.loop-row.tallies c.call.result.now _ c.loop-row.invariant.counted c.in-Some.ensures.steps refl in
     omega (arith, few, c.requires)
 
 pub loop-row-preserved : goal.loop-row-preserved
-loop-row-preserved g c = record {
-  counted =
-      walk_goes _ _ _ _ _ (row_in c.in-Some.row) c.in-Some.ensures.steps
-      (λ done more adds held. tallies_put done c.loop-row.tallies held more (row_in c.in-Some.row) adds
-      c.source_of.result (tally_of c.source_of.result c.loop-row.tallies + 1) c.add.new.self
-      c.source_of.ensures refl c.in_ok-add.ensures
-      (stays_in_order c.source_of.result c.loop-row.tallies c.add.new.self c.in_ok-add.ensures
-      c.loop-row.invariant.sorted))
-      c.loop-row.invariant.counted;
-  sorted =
-      stays_in_order c.source_of.result c.loop-row.tallies c.add.new.self c.in_ok-add.ensures
-      c.loop-row.invariant.sorted;
-}
+loop-row-preserved g c =
+    let source = c.call.ensures ∙ c.after-sender.ensures
+    ∙ ap (λ (x : Heard). (key_of x.frame).source) c.greatest.ensures in
+    record {
+      counted =
+          walk_goes _ _ _ _ _ (row_in c.in-Some.row) c.in-Some.ensures.steps
+          (λ done more adds held. tallies_put done c.loop-row.tallies held more
+          (row_in c.in-Some.row) adds c.call.result.now
+          (tally_of c.call.result.now c.loop-row.tallies + 1) c.add.new.self
+          source refl c.in_ok-add.ensures
+          (stays_in_order c.call.result.now c.loop-row.tallies c.add.new.self c.in_ok-add.ensures
+          c.loop-row.invariant.sorted))
+          c.loop-row.invariant.counted;
+      sorted =
+          stays_in_order c.call.result.now c.loop-row.tallies c.add.new.self c.in_ok-add.ensures
+          c.loop-row.invariant.sorted;
+    }
 
 pub returns : goal.returns
 returns g c =

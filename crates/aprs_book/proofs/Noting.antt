@@ -1,0 +1,59 @@
+-- What is noted after one more row.
+use Rattle.std.proofs.Common.{◌≡◌, ◌∙◌, ℕ, Bool, true, false, List, [], ◌∷◌, ◌++◌, Option, Some, None, if◌then◌else◌, map, refl, sym, ap, subst}
+use Rattle.aprs_log.specs.Reception.{Heard}
+use Rattle.aprs_laws.specs.Row.{Row, row_key}
+use Rattle.aprs_laws.specs.JoinRow.{greater}
+use Rattle.aprs_laws.specs.Best.{LastKnown, greater_known}
+use Rattle.aprs_laws.specs.BestLaws.{Passes}
+use Rattle.aprs_laws.proofs.Joins.{greatest_laws, is_greater_of}
+use Rattle.aprs_book.specs.Known.{Topic, is_reported, reported_in, reports_at}
+use Rattle.aprs_book.specs.LastKnown.{greatest_of}
+use Rattle.aprs_book.proofs.IndexSteps.{pushes_note}
+
+-- the greatest of three
+greater_three : (k : Option Heard) (x y : Heard)
+    → greater (greater_known k x) y ≡ greater_known k (greater x y)
+greater_three None x y = refl
+greater_three (Some g) x y =
+    greatest_laws.associative g x y (greater g x) (greater x y) (greater (greater g x) y)
+    (greater g (greater x y)) (is_greater_of g x) (is_greater_of (greater g x) y)
+    (is_greater_of x y) (is_greater_of g (greater x y))
+
+one_more : (b : Bool) (k : Option Heard) (x y : Heard)
+    → (if b then Some (greater_known (if b then Some (greater_known k x) else k) y)
+    else (if b then Some (greater_known k x) else k))
+    ≡ (if b then Some (greater_known k (greater x y)) else k)
+one_more true k x y = ap Some (greater_three k x y)
+one_more false k x y = refl
+
+module _ (rows : List Row) (r : Row) (topic : Topic) (bytes : List ℕ) (o : Option (List ℕ))
+    (same : o ≡ reported_in topic (row_key r)) (k : Option Heard) where
+  -- a row that reports on what the last ones do
+  pub run_grows : (x : Heard)
+      → LastKnown (map greatest_of rows) (Passes (reports_at (reported_in topic) bytes))
+      (if is_reported bytes o then Some (greater_known k x) else k)
+      → LastKnown (map greatest_of (rows ++ r ∷ []))
+      (Passes (reports_at (reported_in topic) bytes))
+      (if is_reported bytes o then Some (greater_known k (greater x r.greatest)) else k)
+  run_grows x h =
+      let before = if is_reported bytes o then Some (greater_known k x) else k in
+      subst (LastKnown (map greatest_of (rows ++ r ∷ []))
+      (Passes (reports_at (reported_in topic) bytes)))
+      (ap (λ p. if is_reported bytes p then Some (greater_known before r.greatest) else before)
+      (sym same)
+      ∙ one_more (is_reported bytes o) k x r.greatest)
+      (pushes_note rows r (reports_at (reported_in topic) bytes) before h)
+
+  -- a row that reports on something else
+  pub run_begins : (x : Heard) → x ≡ r.greatest → (was : Option Heard) → k ≡ was
+      → LastKnown (map greatest_of rows) (Passes (reports_at (reported_in topic) bytes)) was
+      → LastKnown (map greatest_of (rows ++ r ∷ []))
+      (Passes (reports_at (reported_in topic) bytes))
+      (if is_reported bytes o then Some (greater_known k x) else k)
+  run_begins x is was e h =
+      let P = Passes (reports_at (reported_in topic) bytes) in
+      subst (LastKnown (map greatest_of (rows ++ r ∷ [])) P)
+      (ap (λ p. if is_reported bytes p then Some (greater_known k r.greatest) else k) (sym same)
+      ∙ ap (λ (y : Heard). if is_reported bytes o then Some (greater_known k y) else k) (sym is))
+      (pushes_note rows r (reports_at (reported_in topic) bytes) k
+      (subst (LastKnown (map greatest_of rows) P) (sym e) h))

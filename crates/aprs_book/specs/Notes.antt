@@ -1,0 +1,24 @@
+-- What is noted of rows, one after another.
+use Rattle.std.specs.Prelude.{ℕ, List, Option, Some, None, if◌then◌else◌, map}
+use Rattle.aprs_log.specs.Reception.{Heard}
+use Rattle.aprs_laws.specs.Row.{Row}
+use Rattle.aprs_laws.specs.Best.{LastKnown, greater_known}
+use Rattle.aprs_laws.specs.BestLaws.{Passes}
+use Rattle.aprs_book.specs.declared.notes.Notes.{Notes}
+use Rattle.aprs_book.specs.declared.notes.Run.{Run}
+use Rattle.aprs_book.specs.Known.{FourIndexes, Topic, index_of, is_reported, known_at, reported_at, reported_in, reports_at}
+use Rattle.aprs_book.specs.LastKnown.{greatest_of}
+
+-- what the indexes know of what has these bytes, with what the last rows report
+abbrev pub known_with : Option Run → Topic → List ℕ → FourIndexes → Option Heard
+known_with None topic bytes indexes = known_at bytes (index_of topic indexes)
+known_with (Some run) topic bytes indexes =
+    if is_reported bytes (reported_at topic run.reported)
+    then Some (greater_known (known_at bytes (index_of topic indexes)) run.greatest)
+    else known_at bytes (index_of topic indexes)
+
+-- whatever the rows report on, its greatest reception in them is noted
+abbrev pub AreNotesOf : {A : Type 0} → List Row → Notes A → Type 0
+AreNotesOf rows notes = (topic : Topic) (bytes : List ℕ)
+    → LastKnown (map greatest_of rows) (Passes (reports_at (reported_in topic) bytes))
+    (known_with notes.last topic bytes notes.indexes)
