@@ -74,8 +74,8 @@ impl<'a> RowView<'a> {
     fn reaches(&self, gap: Gap, other: &RowView<'_>) -> bool
         ensures { result ≡ is_too_near (millis_of gap) self.now other.now }
     {
-        self.key_order(other).is_eq()
-            && other.first().millis() <= self.last().millis() + gap.seconds() * 1000
+        other.first().millis() <= self.last().millis() + gap.seconds() * 1000
+            && self.key_order(other).is_eq()
     }
 }
 

@@ -6,10 +6,11 @@ ghost use Rattle.aprs_ax25.specs.FrameFault.{parts_of};
 ghost use Rattle.aprs_log.specs.Receiver.{IsName};
 ghost use Rattle.aprs_laws.specs.Key.{key_of, key_cmp};
 ghost use Rattle.aprs_laws.specs.Row.{last_of, row_cmp, row_key};
-ghost use Rattle.aprs_rows.specs.Names.{names_in};
-ghost use Rattle.aprs_rows.specs.Names.{row_of_text};
+ghost use Rattle.aprs_rows.specs.Names.{names_in, row_of_text};
+ghost use Rattle.aprs_rows.specs.Rows.{IsRowIn, entry_row};
 
 use crate::Memory;
+use crate::entry::Entry;
 use crate::head::{Head, key_order};
 use crate::names::cut_name;
 use aprs_ax25::Frame;
@@ -94,6 +95,23 @@ impl<'a> RowView<'a> {
             frame,
             info_at: frame.len() - info,
         }
+    }
+
+    /// The row of an entry that has these bytes.
+    pub(crate) fn of_entry(entry: &Entry, bytes: &'a [u8]) -> RowView<'a>
+        requires { IsRowIn entry.now bytes.now }
+        ensures { result ≡ entry_row entry.now bytes.now }
+    {
+        let (receivers, rest) = bytes.split_at(entry.receivers as usize);
+        let (receiver, frame) = rest.split_at(entry.receiver as usize);
+        RowView::of_bytes(
+            entry.first,
+            entry.last,
+            receivers,
+            receiver,
+            frame,
+            entry.info as usize,
+        )
     }
 
     /// The first moment at which the transmission was heard. Takes no memory.
@@ -198,6 +216,9 @@ impl<'a> RowView<'a> {
     pub(crate) fn key_order(&self, other: &RowView<'_>) -> Ordering
         ensures { result ≡ key_cmp (row_key self.now) (row_key other.now) }
     {
+        if self.frame == other.frame {
+            return Ordering::Equal;
+        }
         let info = self.info();
         let other_info = other.info();
         let head = Head::of(self.frame(), info);

@@ -89,7 +89,7 @@ impl<A: Allocator + Copy> RowStore<A> {
         let entry = self.entries.last()?;
         let size = entry.receivers as usize + (entry.receiver as usize + entry.frame as usize);
         let (_, bytes) = self.bytes.split_at(self.bytes.len() - size);
-        Some(Laid::of(entry, bytes).view())
+        Some(RowView::of_entry(entry, bytes))
     }
 
     /// Puts a reception after the rows, as a row of its own. After `Memory` the rows are as before.

@@ -12,8 +12,8 @@ overflow_sub-len g c =
     c.self.invariant in
     let e = ends.within in omega (arith, e, c.len.ensures, c.self.inside.bytes.ok.0)
 
-pub of-requires : goal.of-requires
-of-requires g c =
+pub of_entry-requires : goal.of_entry-requires
+of_entry-requires g c =
     let ends = last_entry _ _ _
     (c.in_ok-entry.ensures.value
     ∙ ap (λ es. slice_get es (length es - 1)) c.deref.ensures.value)
@@ -36,4 +36,4 @@ returns-clause-some g c =
     (c.len.ensures ∙ c.self.inside.bytes.ok.0) in
     ap (last_or None) (sym c.self.view_is) ∙ ends.last
     ∙ ap (λ bs. Some (entry_row c.in_ok-entry.entry.now bs)) (sym here)
-    ∙ (λ t. Some (sym (c.view.ensures ∙ c.of.ensures) t))
+    ∙ (λ t. Some (sym c.of_entry.ensures t))
