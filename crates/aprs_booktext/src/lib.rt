@@ -10,7 +10,7 @@ mod laws;
 mod read;
 mod reader;
 mod row_line;
-mod row_text;
+mod scratch;
 mod version;
 mod write;
 mod write_transmissions;

@@ -16,10 +16,10 @@ use crate::cut::cut;
 use crate::end_line::end_line;
 use crate::fault::{BookCause, BookFault};
 use crate::row_line::read_row;
+use crate::scratch::Scratch;
 use crate::version::Version;
 use aprs_book::{Gap, RowCause};
 use aprs_io::Ending;
-use aprs_log::Clock;
 use aprs_rows::{RowStore, RowView};
 use std::alloc::Allocator;
 
@@ -41,7 +41,7 @@ pub struct BookReader<A: Allocator> {
     count: usize,
     line: Vec<u8, A>,
     stage: Stage,
-    clock: Clock,
+    scratch: Scratch,
 }
 
 impl<A: Allocator + Copy> BookReader<A> {
@@ -54,7 +54,7 @@ impl<A: Allocator + Copy> BookReader<A> {
             count: 0,
             line: Vec::new(alloc),
             stage: Stage::Header,
-            clock: Clock::new(),
+            scratch: Scratch::new(),
         }
     }
 
@@ -172,7 +172,7 @@ impl<A: Allocator + Copy> BookReader<A> {
         match stage {
             Stage::Header => judge_header(line),
             Stage::Rows(version) => {
-                judge_line(store, &mut self.clock, &mut self.count, version, line)
+                judge_line(store, &mut self.scratch, &mut self.count, version, line)
             }
             Stage::Done(_) => Err(BookCause::After),
         }
@@ -261,7 +261,7 @@ fn judge_header(line: &[u8]) -> Result<Stage, BookCause>
 /// Adds the row that a line spells in a text of this version, or sees that it is the last line.
 fn judge_line<A: Allocator + Copy>(
     store: &mut RowStore<A>,
-    clock: &mut Clock,
+    scratch: &mut Scratch,
     count: &mut usize,
     version: Version,
     line: &[u8],
@@ -276,7 +276,7 @@ fn judge_line<A: Allocator + Copy>(
     if line.starts_with(b"END") {
         return judge_end(line, version, *count);
     }
-    add_row(store, clock, *count, &version, line)?;
+    add_row(store, scratch, *count, &version, line)?;
     *count += 1;
     Ok(Stage::Rows(version))
 }
@@ -298,7 +298,7 @@ fn judge_end(line: &[u8], version: Version, rows: usize) -> Result<Stage, BookCa
 /// its text.
 fn add_row<A: Allocator + Copy>(
     store: &mut RowStore<A>,
-    clock: &mut Clock,
+    scratch: &mut Scratch,
     count: usize,
     version: &Version,
     line: &[u8],
@@ -308,11 +308,7 @@ fn add_row<A: Allocator + Copy>(
         → AddsRow version.now result rows line.now store.old store.new }
     ensures cause { IfErr result IsOfText }
 {
-    let text = match read_row(clock, version.form(), line) {
-        Ok(text) => text,
-        Err(cause) => return Err(cause),
-    };
-    let row = text.view();
+    let row = read_row(scratch, version.form(), line)?;
     if let Some(cause) = refusal(store, count, version.gap(), &row) {
         return Err(BookCause::from(cause));
     }

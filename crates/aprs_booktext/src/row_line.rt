@@ -1,5 +1,5 @@
 //! A row's line.
-ghost use Rattle.std.specs.Prelude.{◌≡◌, ◌≢◌, ◌↔◌, ◌≤◌, ◌⊎◌, ℕ, codes, length, All, IsTrue, IfOk, IfErr, IfNone, IfSome};
+ghost use Rattle.std.specs.Prelude.{◌≡◌, ◌≢◌, ◌↔◌, ◌≤◌, ◌⊎◌, ℕ, codes, length, All, IsTrue, IfOk, OnOk, IfErr, IfNone, IfSome};
 ghost use Rattle.aprs_log.specs.Receiver.{IsName};
 ghost use Rattle.aprs_log.specs.Moment.{moment_text_in};
 ghost use Rattle.aprs_booktext.specs.Lines.{pieces};
@@ -10,16 +10,17 @@ use crate::cut::cut;
 use crate::fault::BookCause;
 use crate::fields::cut_fields;
 use crate::hexadecimal::{MAX_FRAME, decode_into};
-use crate::row_text::RowText;
+use crate::scratch::Scratch;
 use aprs_ax25::Frame;
 use aprs_log::{Clock, Moment, MomentForm, Receiver};
+use aprs_rows::RowView;
 
 /// The row that a line spells, its moments in this form, or why it spells none.
 pub fn read_row<'l>(
-    clock: &mut Clock,
+    scratch: &'l mut Scratch,
     form: MomentForm,
     line: &'l [u8],
-) -> Result<RowText<'l>, BookCause>
+) -> Result<RowView<'l>, BookCause>
     ensures ok { IfOk result (λ x. IsBookRow form x × (line.now ≡ row_line form x)) }
     ensures err { IfErr result (λ cause. IsWrongRow form line.now cause) }
 {
@@ -29,10 +30,10 @@ pub fn read_row<'l>(
     if !is_tag(fields.tag) {
         return Err(BookCause::RowSyntax);
     }
-    let Some(first) = read_moment(clock, form, fields.first) else {
+    let Some(first) = read_moment(&mut scratch.clock, form, fields.first) else {
         return Err(BookCause::RowSyntax);
     };
-    let Some(last) = read_moment(clock, form, fields.last) else {
+    let Some(last) = read_moment(&mut scratch.clock, form, fields.last) else {
         return Err(BookCause::RowSyntax);
     };
     if !are_names(fields.receivers) {
@@ -41,8 +42,14 @@ pub fn read_row<'l>(
     if !is_name(fields.receiver) {
         return Err(BookCause::RowSyntax);
     }
-    let frame = read_frame(fields.frame)?;
-    Ok(RowText::new(first, last, fields.receivers, fields.receiver, frame))
+    read_frame(&mut scratch.bytes, &mut scratch.frame, fields.frame)?;
+    Ok(RowView::new(
+        first,
+        last,
+        fields.receivers,
+        fields.receiver,
+        &scratch.frame,
+    ))
 }
 
 /// Whether the field says that the line is a row's.
@@ -87,17 +94,16 @@ fn is_name(bytes: &[u8]) -> bool
     Receiver::parse(bytes).is_some()
 }
 
-/// The frame of a field in lower case hexadecimal.
-fn read_frame(field: &[u8]) -> Result<Frame, BookCause>
-    ensures ok { IfOk result (λ frame. SpellsFrame field.now frame) }
+/// Reads the frame of a field in lower case hexadecimal.
+fn read_frame(room: &mut [u8; MAX_FRAME], frame: &mut Frame, field: &[u8]) -> Result<(), BookCause>
+    ensures ok { OnOk result (SpellsFrame field.now frame.new) }
     ensures err { IfErr result (λ cause. IsWrongFrame field.now cause) }
 {
-    let mut room = [0; MAX_FRAME];
-    let Some(bytes) = decode_into(field, &mut room) else {
+    let Some(bytes) = decode_into(field, room) else {
         return Err(BookCause::RowSyntax);
     };
-    match Frame::read(bytes) {
-        Ok(frame) => Ok(frame),
+    match frame.reread(bytes) {
+        Ok(()) => Ok(()),
         Err(_) => Err(BookCause::Frame),
     }
 }

@@ -5,6 +5,6 @@ use Rattle.aprs_booktext.proofs.row_line.read_frame.Goals as goal
 
 pub returns-in-Ok-clause-ok : goal.returns-in-Ok-clause-ok
 returns-in-Ok-clause-ok c =
-    let same = frame_is c.in-Some.bytes.now c.in-Ok.frame (sym c.in-Ok.ensures.exact) in
+    let same = frame_is c.in-Some.bytes.now c.reread.new.self c.in-Ok.ensures.read in
     subst (SpellsFrame c.args.field.now) (sym same)
-    (record { spelled = c.in-Some.ensures.some; is = sym c.in-Ok.ensures.exact ∙ ap Ok same })
+    (record { spelled = c.in-Some.ensures.some; is = c.in-Ok.ensures.read ∙ ap Ok same })

@@ -31,15 +31,15 @@ returns-then-not-is_name-clause-err c = wrong_receiver c.args.form c.args.line.n
     c.in-Some.ensures.some (λ name. let yes = c.is_name.ensures.1 name in let no : false ≡ true =
     sym c.if-not-is_name.true ∙ yes in cc)
 
-pub returns-in_err-frame-clause-err : goal.returns-in_err-frame-clause-err
-returns-in_err-frame-clause-err c =
+pub returns-in_err-read_frame-clause-err : goal.returns-in_err-read_frame-clause-err
+returns-in_err-read_frame-clause-err c =
     let p = err_from_is_err_and c.from_residual.result c.from_residual.ensures.1 in
     rw (p.1, p.2) (wrong_frame c.args.form c.args.line.now _ _ _ _ _ _ c.in-Some.ensures.some
     c.in-Some-read_moment.first c.in-Some-read_moment-2.last
     (c.is_tag.ensures.0 c.if-not-is_tag.false)
     c.in-Some-read_moment.ensures.some c.in-Some-read_moment-2.ensures.some
     (c.are_names.ensures.0 c.if-not-are_names.false)
-    (c.is_name.ensures.0 c.if-not-is_name.false) _ c.in_err-frame.ensures.err)
+    (c.is_name.ensures.0 c.if-not-is_name.false) _ c.in_err-read_frame.ensures.err)
 
 pub new-requires-clause-names : goal.new-requires-clause-names
 new-requires-clause-names c = c.are_names.ensures.0 c.if-not-are_names.false
@@ -49,7 +49,7 @@ returns-clause-ok c =
     rw c.new.ensures
     (row_found c.args.form c.args.line.now _ _ _ _ _ _ c.in-Some.ensures.some
     c.in-Some-read_moment.first c.in-Some-read_moment-2.last
-    c.in_ok-frame.frame (c.is_tag.ensures.0 c.if-not-is_tag.false)
+    c.read_frame.new.frame (c.is_tag.ensures.0 c.if-not-is_tag.false)
     c.in-Some-read_moment.ensures.some c.in-Some-read_moment-2.ensures.some
     (c.are_names.ensures.0 c.if-not-are_names.false)
-    (c.is_name.ensures.0 c.if-not-is_name.false) c.in_ok-frame.ensures.ok)
+    (c.is_name.ensures.0 c.if-not-is_name.false) c.in_ok-read_frame.ensures.ok)
