@@ -7,6 +7,7 @@ pub mod Infos
 pub mod Judgements
 pub mod KeyBytes
 pub mod KeyHeads
+mod KeyOrders
 mod Letters
 pub mod NameTexts
 pub mod Orders

@@ -19,6 +19,9 @@ use std::alloc::Allocator;
 use std::cmp::Ordering;
 use std::marker::Model;
 
+/// The octets of the destination's address and the source's.
+const CALLS_LEN: usize = 14;
+
 /// One transmission: its moments, the names of its receivers with commas between, and the receiver
 /// and the frame of its greatest reception.
 #[derive(Drop)]
@@ -216,13 +219,13 @@ impl<'a> RowView<'a> {
     pub(crate) fn key_order(&self, other: &RowView<'_>) -> Ordering
         ensures { result ≡ key_cmp (row_key self.now) (row_key other.now) }
     {
-        if self.frame == other.frame {
-            return Ordering::Equal;
+        let (frame, info) = (self.frame(), self.info());
+        let (other_frame, other_info) = (other.frame(), other.info());
+        if frame[..CALLS_LEN] == other_frame[..CALLS_LEN] {
+            return info.cmp(other_info);
         }
-        let info = self.info();
-        let other_info = other.info();
-        let head = Head::of(self.frame(), info);
-        key_order(head, info, Head::of(other.frame(), other_info), other_info)
+        let head = Head::of(frame, info);
+        key_order(head, info, Head::of(other_frame, other_info), other_info)
     }
 }
 
