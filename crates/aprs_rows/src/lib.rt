@@ -1,4 +1,5 @@
-//! Rows in bytes: names of receivers, the order of keys, a store of rows, and what they are together.
+//! Rows in bytes: names of receivers, the order of keys, a store of rows, and what they are
+//! together.
 #![tactic(auto)]
 
 mod entry;

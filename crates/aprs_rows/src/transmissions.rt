@@ -42,7 +42,8 @@ impl<'a, A: Allocator> Model for Transmissions<'a, A> {
     } };
 
     ghost invariant = { λ t. AreGroups t.groups.items t.texts.items
-        × IsSoundBook (record { gap = t.gap; rows = rows_of_groups t.groups.items t.texts.items }) };
+        × IsSoundBook
+        (record { gap = t.gap; rows = rows_of_groups t.groups.items t.texts.items }) };
 }
 
 impl<'a, A: Allocator + Copy> Transmissions<'a, A> {
