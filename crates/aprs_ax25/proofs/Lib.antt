@@ -6,4 +6,5 @@ pub mod Addresses
 pub mod Fields
 pub mod Sounds
 pub mod Spellings
+pub mod UiFrames
 pub mod Making

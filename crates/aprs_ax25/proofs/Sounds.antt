@@ -10,6 +10,7 @@ use Rattle.aprs_ax25.specs.Address.{Address, IsAddress}
 use Rattle.aprs_ax25.specs.Frame.{Parts, FrameOf, address_field}
 use Rattle.aprs_ax25.specs.FrameFault.{ends_field, field_len, field_of, after_field, is_field_len, sevens, has_callsign, addresses, is_wrong, frame_fault, address_of, parts_of}
 use Rattle.aprs_ax25.specs.declared.fault.FrameFault.TheVariants.{Address as AddressFault, Callsign, Control, Pid, NoInfo, LongInfo}
+use Rattle.aprs_ax25.specs.UiFrame.{IsUiFrame}
 use Rattle.aprs_ax25.proofs.Fields.{Spells, Spells-sevens, All-take}
 
 pub cond-None : {X : Type 0} (b : Bool) (x : X) (r : Option X) → cond b (Some x) r ≡ None
@@ -21,19 +22,7 @@ pub not-false : (b : Bool) → not b ≡ false → b ≡ true
 not-false true h = refl
 not-false false h = cc
 
--- what holds of bytes that have no fault
-pub record IsSound (bytes : List ℕ) : Type 0 where
-  pub within : field_len bytes ≤ length bytes
-  pub sevenfold : field_len bytes % 7 ≡ 0
-  pub least : 14 ≤ field_len bytes
-  pub most : field_len bytes ≤ 70
-  pub callsigns : list_all has_callsign (addresses bytes) ≡ true
-  pub control : slice_index (after_field bytes) 0 ≡ 3
-  pub pid : slice_index (after_field bytes) 1 ≡ 240
-  pub some : 2 < length (after_field bytes)
-  pub few : length (after_field bytes) ≤ 258
-
-pub frame_fault-IsSound : (bytes : List ℕ) → frame_fault bytes ≡ None → IsSound bytes
+pub frame_fault-IsSound : (bytes : List ℕ) → frame_fault bytes ≡ None → IsUiFrame bytes
 frame_fault-IsSound bytes h =
     let address = cond-None (is_wrong AddressFault bytes) _ _ h in
     let callsign = cond-None (is_wrong Callsign bytes) _ _ address.1 in
@@ -57,13 +46,13 @@ frame_fault-IsSound bytes h =
       few = ltb-false 258 (length (after_field bytes)) long_info.0;
     }
 
-pub IsSound-len : (bytes : List ℕ) → IsSound bytes → length bytes ≤ 328
+pub IsSound-len : (bytes : List ℕ) → IsUiFrame bytes → length bytes ≤ 328
 IsSound-len bytes s =
     let len : length (after_field bytes) ≡ length bytes - field_len bytes =
     length-drop (field_len bytes) bytes in
     omega (arith, len, s.few, s.most, s.within)
 
-pub IsSound-frame_fault : (bytes : List ℕ) → IsSound bytes → frame_fault bytes ≡ None
+pub IsSound-frame_fault : (bytes : List ℕ) → IsUiFrame bytes → frame_fault bytes ≡ None
 IsSound-frame_fault bytes s =
     let n = field_len bytes in
     let after = after_field bytes in
@@ -81,7 +70,7 @@ IsSound-frame_fault bytes s =
 
 -- ---- where the address field ends, looked for at the end of each address
 
-pub field_goes_on : (f : List ℕ) → IsSound f → (n : ℕ) → n % 7 ≡ 0 → 14 ≤ n → n ≤ field_len f
+pub field_goes_on : (f : List ℕ) → IsUiFrame f → (n : ℕ) → n % 7 ≡ 0 → 14 ≤ n → n ≤ field_len f
     → ends_field (slice_index f (n - 1)) ≡ false → n + 7 ≤ field_len f
 field_goes_on f s n seven least most even = elim (cases_lt n (field_len f)) [
   | inl lt ↦ (let all = s.sevenfold in omega arith)
@@ -152,7 +141,7 @@ same_parts p q h i =
       info = x;
     }) i
 
-module _ (f : List ℕ) (s : IsSound f) where
+module _ (f : List ℕ) (s : IsUiFrame f) where
   abbrev n : ℕ
   n = field_len f
 
@@ -264,7 +253,7 @@ sevens-at (suc m) (suc i) bytes d h =
     sevens-at m i (drop 7 bytes) d (omega arith) ∙ ap (take 7) (drop-drop (7 * i) 7 bytes)
     ∙ ap (λ k. take 7 (drop k bytes)) e
 
-module _ (f : List ℕ) (s : IsSound f) (i : ℕ) (h : i < field_len f / 7) where
+module _ (f : List ℕ) (s : IsUiFrame f) (i : ℕ) (h : i < field_len f / 7) where
   pub addresses-at : (d : List ℕ) → get_or (addresses f) i d ≡ take 7 (drop (7 * i) f)
   addresses-at d =
       let n = field_len f in
@@ -287,7 +276,7 @@ module _ (f : List ℕ) (s : IsSound f) (i : ℕ) (h : i < field_len f / 7) wher
   pub room-at : 7 * i + 7 ≤ length f
   room-at = let within = s.within in omega arith
 
-module _ (f : List ℕ) (s : IsSound f) (i : ℕ) (h : i + 2 < field_len f / 7) where
+module _ (f : List ℕ) (s : IsUiFrame f) (i : ℕ) (h : i + 2 < field_len f / 7) where
   pub digipeater-at : slice_get (parts_of f).digipeaters i
       ≡ Some (address_of (take 7 (drop (7 * (i + 2)) f)))
   digipeater-at =

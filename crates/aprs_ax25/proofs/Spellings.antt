@@ -5,7 +5,8 @@ use Rattle.std.proofs.lemmas.List.{length-append, take_at, drop_at}
 use Rattle.aprs_ax25.specs.Address.{Address, IsAddress}
 use Rattle.aprs_ax25.specs.Frame.{Parts, IsParts, FrameOf, address_field, spelling}
 use Rattle.aprs_ax25.specs.FrameFault.{field_len, field_of, after_field, sevens, has_callsign, addresses, frame_fault, address_of, parts_of}
-use Rattle.aprs_ax25.proofs.Sounds.{IsSound, frame_fault-IsSound, IsSound-frame_fault, same_parts, all-addresses}
+use Rattle.aprs_ax25.specs.UiFrame.{IsUiFrame}
+use Rattle.aprs_ax25.proofs.Sounds.{frame_fault-IsSound, IsSound-frame_fault, same_parts, all-addresses}
 use Rattle.aprs_ax25.proofs.Fields.{Holds, sevens-address_field, length-address_field, position-address_field}
 
 module _ (p : Parts) (h : IsParts p) where
@@ -48,7 +49,7 @@ module _ (p : Parts) (h : IsParts p) where
   held : Holds (p.destination ∷ others) (sevens (suc (length others)) field)
   held = sevens-address_field p.destination others each
 
-  sound : IsSound f
+  sound : IsUiFrame f
   sound =
       let few = h.few in
       let some = h.some in
@@ -83,5 +84,5 @@ FrameOf-frame_fault p bytes h = ap frame_fault h.spelled ∙ spelling-frame_faul
 pub FrameOf-parts_of : (p : Parts) (bytes : List ℕ) → FrameOf p bytes → parts_of bytes ≡ p
 FrameOf-parts_of p bytes h = ap parts_of h.spelled ∙ parts_of-spelling p h.parts
 
-pub FrameOf-IsSound : (p : Parts) (bytes : List ℕ) → FrameOf p bytes → IsSound bytes
+pub FrameOf-IsSound : (p : Parts) (bytes : List ℕ) → FrameOf p bytes → IsUiFrame bytes
 FrameOf-IsSound p bytes h = frame_fault-IsSound bytes (FrameOf-frame_fault p bytes h)
