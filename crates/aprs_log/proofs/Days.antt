@@ -140,6 +140,15 @@ IsDay-number y m d h =
     let k = days_from_civil-day_count (pos y) m d in
     abs_of (days_from_civil (pos y) m d) (omega (arith, signed_arith, c, k))
 
+-- nor more than that of 2099-12-31
+pub IsDay-few : (y m d : ℕ) → IsDay y m d
+    → unsigned_abs (days_from_civil (pos y) m d) < 47482
+IsDay-few y m d h =
+    let b = count_to (pos y) m d (IsDay-civil y m d h) (omega (arith, signed_arith, h.1)) in
+    let k = days_from_civil-day_count (pos y) m d in
+    let n = IsDay-number y m d h in
+    omega (arith, signed_arith, b, k, n)
+
 pub record SameDay (y m d y₂ m₂ d₂ : ℕ) : Type 0 where
   pub year : y ≡ y₂
   pub month : m ≡ m₂

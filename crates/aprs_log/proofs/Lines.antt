@@ -10,19 +10,20 @@ use Rattle.aprs_log.specs.declared.moment_form.MomentForm.{MomentForm}
 use Rattle.aprs_log.specs.declared.moment_form.MomentForm.TheVariants.{Seconds, Millis}
 use Rattle.aprs_log.specs.Moment.{Civil, two_digits, fraction_text, civil_text, MomentText, moment_of}
 use Rattle.aprs_log.specs.Receiver.{IsName, is_name, is_name_byte}
-use Rattle.aprs_log.specs.Line.{LineSyntax, frame_in, heard_or_passed, line_of, line_of_digits}
+use Rattle.aprs_log.specs.Line.{frame_in, heard_or_passed, line_of, line_of_digits}
+use Rattle.aprs_log.specs.LineText.{HasMoment, HasReceiver, IsLine, IsTextOf}
 use Rattle.aprs_log.specs.Steps.{◌>>=◌, ◌otherwise◌, guard}
 use Rattle.aprs_log.specs.declared.line.TheConstants.{MAX_LINE}
 use Rattle.aprs_log.specs.declared.fault.LineFault.{LineFault}
 use Rattle.aprs_log.specs.declared.fault.LineFault.TheVariants as fault
 use Rattle.aprs_log.specs.declared.line.Line.{Line}
 use Rattle.aprs_io.proofs.Cuts.{Lacks, cut_at-append, cut_at-parts}
-use Rattle.aprs_log.proofs.Moments.{moment_of-text, text-moment_of}
+use Rattle.aprs_log.proofs.Moments.{IsTextOf-text, moment_of-text, text-IsTextOf, text-moment_of}
 
 -- ---- a line's first two fields have no space
 
-not_space : (b : ℕ) → 32 < b → is_byte 32 b ≡ false
-not_space b h = grind (arith, nat_tests)
+not_low : (stop b : ℕ) → stop < b → is_byte stop b ≡ false
+not_low stop b h = grind (arith, nat_tests)
 
 pub name_byte : (b : ℕ) → is_name_byte b ≡ true → 32 < b
 name_byte b h = grind (arith, nat_tests)
@@ -31,43 +32,80 @@ pub both : (a b : Bool) → a && b ≡ true → (a ≡ true) × (b ≡ true)
 both true b h = (refl, h)
 both false b h = absurd (let e : false ≡ true = h in cc)
 
-names_lack : (r : List ℕ) → list_all is_name_byte r ≡ true → Lacks 32 r
-names_lack [] h = tt
-names_lack (b ∷ r) h =
-    let parts = both (is_name_byte b) (list_all is_name_byte r) h in
-    (not_space b (name_byte b parts.0), names_lack r parts.1)
+module _ (stop : ℕ) (low : stop ≤ 32) where
+  names_lack : (r : List ℕ) → list_all is_name_byte r ≡ true → Lacks stop r
+  names_lack [] h = tt
+  names_lack (b ∷ r) h =
+      let parts = both (is_name_byte b) (list_all is_name_byte r) h in
+      let above = name_byte b parts.0 in
+      (not_low stop b (omega (arith, low, above)), names_lack r parts.1)
+
+  pub name_lacks : (r : List ℕ) → IsName r → Lacks stop r
+  name_lacks r h = names_lack r (both _ (list_all is_name_byte r) h).1
+
+  -- a text lacks bytes up to the space if its parts do
+  lacks_pair : (n : ℕ) (xs : List ℕ) → Lacks stop xs → Lacks stop (two_digits n ++ xs)
+  lacks_pair n xs k =
+      (not_low stop _ (omega (arith, low)), (not_low stop _ (omega (arith, low)), k))
+
+  lacks_end : (form : MomentForm) (n : ℕ) → Lacks stop (fraction_text form n ++ 90 ∷ [])
+  lacks_end Seconds n = (not_low stop _ (omega (arith, low)), tt)
+  lacks_end Millis n =
+      let last : Lacks stop (90 ∷ []) = (not_low stop _ (omega (arith, low)), tt) in (
+        not_low stop _ (omega (arith, low)),
+        (not_low stop _ (omega (arith, low)), lacks_pair (n % 100) (90 ∷ []) last),
+      )
+
+  marked : (b : ℕ) (xs : List ℕ) → 32 < b → Lacks stop xs → Lacks stop (b ∷ xs)
+  marked b xs h k = (not_low stop b (omega (arith, low, h)), k)
+
+  civil_text-lacks : (form : MomentForm) (c : Civil) (n : ℕ) → Lacks stop (civil_text form c n)
+  civil_text-lacks form c n =
+      let end = fraction_text form n ++ 90 ∷ [] in
+      let second = 58 ∷ two_digits c.second ++ end in
+      let minute = 58 ∷ two_digits c.minute ++ second in
+      let hour = 84 ∷ two_digits c.hour ++ minute in
+      let day = 45 ∷ two_digits c.day ++ hour in
+      let month = 45 ∷ two_digits c.month ++ day in
+      let s : Lacks stop second
+      = marked 58 (two_digits c.second ++ end) (omega arith)
+      (lacks_pair c.second end (lacks_end form n)) in
+      let m : Lacks stop minute
+      = marked 58 (two_digits c.minute ++ second) (omega arith) (lacks_pair c.minute second s) in
+      let h : Lacks stop hour
+      = marked 84 (two_digits c.hour ++ minute) (omega arith) (lacks_pair c.hour minute m) in
+      let d : Lacks stop day
+      = marked 45 (two_digits c.day ++ hour) (omega arith) (lacks_pair c.day hour h) in
+      let o : Lacks stop month
+      = marked 45 (two_digits c.month ++ day) (omega arith) (lacks_pair c.month day d) in
+      lacks_pair (c.year / 100) (two_digits (c.year % 100) ++ month)
+      (lacks_pair (c.year % 100) month o)
+
+  pub moment_lacks : (m : ℕ) (t : List ℕ) → MomentText m t → Lacks stop t
+  moment_lacks m t h = subst (Lacks stop) (sym h.1.spelled)
+      (civil_text-lacks h.0 h.1.civil h.1.millis)
 
 pub IsName-lacks : (r : List ℕ) → IsName r → Lacks 32 r
-IsName-lacks r h = names_lack r (both _ (list_all is_name_byte r) h).1
-
--- a text lacks spaces if its parts do
-lacks_pair : (n : ℕ) (xs : List ℕ) → Lacks 32 xs → Lacks 32 (two_digits n ++ xs)
-lacks_pair n xs k = (not_space _ (omega arith), (not_space _ (omega arith), k))
-
-lacks_end : (form : MomentForm) (n : ℕ) → Lacks 32 (fraction_text form n ++ 90 ∷ [])
-lacks_end Seconds n = (refl, tt)
-lacks_end Millis n =
-    (refl, (not_space _ (omega arith), lacks_pair (n % 100) (90 ∷ []) (refl, tt)))
-
-civil_text-lacks : (form : MomentForm) (c : Civil) (n : ℕ) → Lacks 32 (civil_text form c n)
-civil_text-lacks form c n =
-    let end = fraction_text form n ++ 90 ∷ [] in
-    let second = 58 ∷ two_digits c.second ++ end in
-    let minute = 58 ∷ two_digits c.minute ++ second in
-    let hour = 84 ∷ two_digits c.hour ++ minute in
-    let day = 45 ∷ two_digits c.day ++ hour in
-    let month = 45 ∷ two_digits c.month ++ day in
-    let s : Lacks 32 second = (refl, lacks_pair c.second end (lacks_end form n)) in
-    let m : Lacks 32 minute = (refl, lacks_pair c.minute second s) in
-    let h : Lacks 32 hour = (refl, lacks_pair c.hour minute m) in
-    let d : Lacks 32 day = (refl, lacks_pair c.day hour h) in
-    let o : Lacks 32 month = (refl, lacks_pair c.month day d) in
-    lacks_pair (c.year / 100) (two_digits (c.year % 100) ++ month)
-    (lacks_pair (c.year % 100) month o)
+IsName-lacks r h = name_lacks 32 (omega arith) r h
 
 pub MomentText-lacks : (m : ℕ) (t : List ℕ) → MomentText m t → Lacks 32 t
-MomentText-lacks m t h = subst (Lacks 32) (sym h.1.spelled)
-    (civil_text-lacks h.0 h.1.civil h.1.millis)
+MomentText-lacks m t h = moment_lacks 32 (omega arith) m t h
+
+-- ---- where the first two fields of a line end
+
+-- the line is cut after its moment
+pub moment_cut : (l : List ℕ) (m : ℕ) (more : List ℕ) (h : HasMoment l m more)
+    → cut_at 32 l ≡ Some (record { before = h.0; after = more })
+moment_cut l m more h = ap (cut_at 32) h.2
+    ∙ cut_at-append 32 h.0 more (MomentText-lacks m h.0 (IsTextOf-text m h.0 h.1))
+
+pub moment_read : (m : ℕ) (text : List ℕ) → IsTextOf m text → moment_of text ≡ Some m
+moment_read m text h = text-moment_of text m (IsTextOf-text m text h)
+
+-- and what follows it after the name
+pub name_cut : (name more : List ℕ) → IsName name
+    → cut_at 32 (name ++ 32 ∷ more) ≡ Some (record { before = name; after = more })
+name_cut name more h = cut_at-append 32 name more (IsName-lacks name h)
 
 -- ---- the steps of a reading
 
@@ -95,24 +133,40 @@ is_false true h = absurd (h refl)
 is_false false h = refl
 
 -- a line of this syntax is sound, whatever its bytes are
-pub line_of-syntax : (l : List ℕ) → length l ≤ MAX_LINE → (s : LineSyntax l)
+pub line_of-syntax : (l : List ℕ) (s : IsLine l)
     → line_of l ≡ Ok (heard_or_passed s.moment s.receiver (frame_in s.bytes))
 unfolding line_of
-line_of-syntax l h s =
+line_of-syntax l s =
     let rest = s.receiver ++ 32 ∷ s.digits in
-    let whole : l ≡ s.text ++ 32 ∷ rest = s.spelled
-    ∙ append_assoc s.text (32 ∷ s.receiver) (32 ∷ s.digits) in
-    let first : cut_at 32 l ≡ Some (record { before = s.text; after = rest })
-    = ap (cut_at 32) whole
-    ∙ cut_at-append 32 s.text rest (MomentText-lacks s.moment s.text s.is_moment) in
+    let text = s.fields.1.0 in
+    let first : cut_at 32 l ≡ Some (record { before = text; after = rest })
+    = moment_cut l s.moment rest s.fields.1 in
     let second : cut_at 32 rest ≡ Some (record { before = s.receiver; after = s.digits })
-    = cut_at-append 32 s.receiver s.digits (IsName-lacks s.receiver s.is_receiver) in
-    let moment : moment_of s.text ≡ Some s.moment = text-moment_of s.text s.moment s.is_moment in
-    let named : is_name s.receiver ≡ true = s.is_receiver in
-    rw (is_short l h, first, moment, second, named, s.is_hex)
+    = name_cut s.receiver s.digits s.fields.0 in
+    let moment : moment_of text ≡ Some s.moment = moment_read s.moment text s.fields.1.1 in
+    let named : is_name s.receiver ≡ true = s.fields.0 in
+    rw (is_short l s.short, first, moment, second, named, s.is_hex)
+
+-- a text that is cut where a moment was read has that moment
+pub has_moment : (l : List ℕ) (first : Cut) (m : ℕ) → cut_at 32 l ≡ Some first
+    → moment_of first.before ≡ Some m → HasMoment l m first.after
+has_moment l first m e read = (
+  first.before,
+  text-IsTextOf m first.before (moment_of-text first.before m read),
+  cut_at-parts 32 l first e,
+)
+
+-- and if what follows is cut after a name, it has that receiver
+pub has_receiver : (l : List ℕ) (first next : Cut) (m : ℕ) → cut_at 32 l ≡ Some first
+    → moment_of first.before ≡ Some m → cut_at 32 first.after ≡ Some next → IsName next.before
+    → HasReceiver l m next.before next.after
+has_receiver l first next m e read second name = (
+  name,
+  subst (HasMoment l m) (cut_at-parts 32 first.after next second) (has_moment l first m e read),
+)
 
 -- a sound line has this syntax
-pub line_of-sound : (l : List ℕ) → IsOk (line_of l) → (length l ≤ MAX_LINE) × LineSyntax l
+pub line_of-sound : (l : List ℕ) → IsOk (line_of l) → IsLine l
 unfolding line_of
 line_of-sound l h =
     let short = found_if (guard (nat_le (length l) MAX_LINE)) fault.LongLine _ h in
@@ -120,23 +174,17 @@ line_of-sound l h =
     let moment = found_if (moment_of first.0.before) fault.Moment _ first.2 in
     let second = found_if (cut_at 32 first.0.after) fault.Receiver _ moment.2 in
     let named = found_if (guard (is_name second.0.before)) fault.Receiver _ second.2 in
-    let bytes = found_if (result_ok (decode_of second.0.after)) fault.Hex _ named.2 in (
-      leb-true _ _ (guard_if _ short.0 short.1),
-      record {
-        moment = moment.0;
-        text = first.0.before;
-        receiver = second.0.before;
-        digits = second.0.after;
-        bytes = bytes.0;
-        is_moment = moment_of-text first.0.before moment.0 moment.1;
-        is_receiver = guard_if (is_name second.0.before) named.0 named.1;
-        is_hex = value_if (decode_of second.0.after) bytes.0 bytes.1;
-        spelled = cut_at-parts 32 l first.0 first.1
-            ∙ ap (λ t. first.0.before ++ 32 ∷ t)
-            (cut_at-parts 32 first.0.after second.0 second.1)
-            ∙ sym (append_assoc first.0.before (32 ∷ second.0.before) (32 ∷ second.0.after));
-      },
-    )
+    let bytes = found_if (result_ok (decode_of second.0.after)) fault.Hex _ named.2 in
+    record {
+      moment = moment.0;
+      receiver = second.0.before;
+      digits = second.0.after;
+      bytes = bytes.0;
+      short = leb-true _ _ (guard_if _ short.0 short.1);
+      fields = has_receiver l first.0 second.0 moment.0 first.1 moment.1 second.1
+          (guard_if (is_name second.0.before) named.0 named.1);
+      is_hex = value_if (decode_of second.0.after) bytes.0 bytes.1;
+    }
 
 -- ---- the answer, field by field
 
@@ -183,9 +231,8 @@ ok_is : (m : ℕ) (r : List ℕ) (bytes : List ℕ) (x : Result Line LineFault)
 ok_is m r bytes x e = subst (λ y. IsOk y) (sym e) refl
 
 -- sound exactly where it has the syntax
-pub IsOk-line_of : (l : List ℕ) (x : Result Line LineFault) → x ≡ line_of l
-    → IsOk x ↔ ((length l ≤ MAX_LINE) × LineSyntax l)
+pub IsOk-line_of : (l : List ℕ) (x : Result Line LineFault) → x ≡ line_of l → IsOk x ↔ IsLine l
 IsOk-line_of l x e = (
   λ h. line_of-sound l (subst (λ y. IsOk y) e h),
-  λ h. ok_is h.1.moment h.1.receiver h.1.bytes x (e ∙ line_of-syntax l h.0 h.1),
+  λ h. ok_is h.moment h.receiver h.bytes x (e ∙ line_of-syntax l h),
 )

@@ -95,7 +95,7 @@ answers_from-tail n t c h =
 
 -- ---- more bytes than a line may have, and no LF: the line is too long, whatever comes
 
-too_long_tail : (l : List ℕ) (c : Ending) → MAX_LINE < length l
+pub too_long_tail : (l : List ℕ) (c : Ending) → MAX_LINE < length l
     → tail_cause l c ≡ Some cause.LongLine
 too_long_tail l c h = grind (arith, nat_tests)
 

@@ -6,11 +6,12 @@ use Rattle.std.specs.Str.{bytes_eq}
 use Rattle.std.proofs.lemmas.Slice.Eq.{bytes_eq-Decides}
 use Rattle.jiff_core.specs.Calendar.{days_from_civil, days_in_month}
 use Rattle.jiff_core.proofs.SignedLemmas.{signed_arith}
-use Rattle.aprs_log.proofs.Days.{IsDay-number, one_date, NthDay, day_after-is}
+use Rattle.aprs_log.proofs.Days.{IsDay-few, IsDay-number, one_date, NthDay, day_after-is}
 use Rattle.aprs_log.specs.declared.moment_form.MomentForm.{MomentForm}
 use Rattle.aprs_log.specs.declared.moment_form.MomentForm.TheVariants.{Seconds, Millis}
 use Rattle.aprs_log.specs.Places.{near_civil, near_digit, near_millis}
 use Rattle.aprs_log.specs.Clock.{form_size}
+use Rattle.aprs_log.specs.LineText.{IsTextOf}
 use Rattle.aprs_log.specs.Moment.{Civil, civil_at, civil_text, digit_of, IsCivil, is_date, is_time, is_civil, is_real, second_of_day, seconds_of, room_of, MomentTextIn, MomentText, millis_at, moment_in, form_of, moment_of, day_after, civil_after, moment_text_in}
 
 -- a civil time whose parts have as many digits as a text has room for
@@ -407,3 +408,40 @@ millis_kept form m t h =
     (number-back m h.civil h.millis h.real h.number) where
       left : (s n r : ℕ) → n < 1000 → n < r → m ≡ s * 1000 + n → m % 1000 < r
       left s n r a b e = omega arith
+
+-- a moment that has a text is before the year 2100
+pub text_early : (form : MomentForm) (m : ℕ) (t : List ℕ) → MomentTextIn form m t
+    → m ≤ 4102444799999
+text_early form m t h =
+    early (unsigned_abs (days_from_civil (pos h.civil.year) h.civil.month h.civil.day))
+    (second_of_day h.civil) h.millis
+    (IsDay-few h.civil.year h.civil.month h.civil.day h.real.date)
+    (of_day h.civil.hour h.civil.minute h.civil.second h.real.hour h.real.minute h.real.second)
+    (room_most form h.millis h.below)
+    (number-back m h.civil h.millis h.real h.number) where
+      early : (day second n : ℕ) → day < 47482 → second < 86400 → n < 1000
+          → m ≡ (86400 * day + second) * 1000 + n → m ≤ 4102444799999
+      early day second n a b c e = omega arith
+
+      of_day : (hour minute second : ℕ) → hour < 24 → minute < 60 → second < 60
+          → hour * 3600 + minute * 60 + second < 86400
+      of_day hour minute second a b c = omega arith
+
+-- ---- the text as one relation
+
+pub IsTextOf-text : (m : ℕ) (t : List ℕ) → IsTextOf m t → MomentText m t
+IsTextOf-text m t h = (
+  h.form,
+  subst (MomentTextIn h.form m) (sym h.text_is)
+      (moment_text-is h.form m h.in_range h.whole),
+)
+
+pub text-IsTextOf : (m : ℕ) (t : List ℕ) → MomentText m t → IsTextOf m t
+text-IsTextOf m t h =
+    let early = text_early h.0 m t h.1 in
+    let kept = millis_kept h.0 m t h.1 in record {
+      form = h.0;
+      in_range = early;
+      whole = kept;
+      text_is = one_text h.0 m t (moment_text_in h.0 m) h.1 (moment_text-is h.0 m early kept);
+    }

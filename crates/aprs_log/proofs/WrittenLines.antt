@@ -18,6 +18,7 @@ use Rattle.aprs_log.specs.Line.{heard_or_passed, line_of, written_line}
 use Rattle.aprs_log.specs.declared.line.Line.TheVariants as line
 use Rattle.aprs_log.proofs.Lines.{line_of-syntax}
 use Rattle.aprs_log.proofs.Frames.{frame_in-kiss_text}
+use Rattle.aprs_log.proofs.Moments.{text-IsTextOf}
 use Rattle.aprs_log.specs.declared.line.TheConstants.{MAX_LINE}
 use Rattle.aprs_log.specs.declared.write.TheConstants.{MAX_FRAME}
 
@@ -167,16 +168,22 @@ pub line_of-written : (x : Heard) → IsReal x
     → decode_of (encode_lower (kiss_text x.frame)) ≡ Ok (kiss_text x.frame)
     → length (written_line x) ≤ MAX_LINE → line_of (written_line x) ≡ Ok (line.Heard x)
 line_of-written x h digits short =
-    line_of-syntax (written_line x) short (record {
+    line_of-syntax (written_line x) (record {
       moment = x.moment;
-      text = moment_text x.moment;
       receiver = x.receiver;
       digits = encode_lower (kiss_text x.frame);
       bytes = kiss_text x.frame;
-      is_moment = h.moment;
-      is_receiver = h.receiver;
+      short = short;
+      fields = (
+        h.receiver,
+        (
+          moment_text x.moment,
+          text-IsTextOf x.moment (moment_text x.moment) h.moment,
+          append_assoc (moment_text x.moment) (32 ∷ x.receiver)
+              (32 ∷ encode_lower (kiss_text x.frame)),
+        ),
+      );
       is_hex = digits;
-      spelled = refl;
     })
     ∙ ap (λ r. Ok (heard_or_passed x.moment x.receiver r))
     (frame_in-kiss_text x.frame h.few h.frame)

@@ -8,7 +8,9 @@ pub mod Fault
 pub mod Fields
 pub mod FrameEnds
 pub mod Line
+pub mod LineText
 pub mod LogAnswers
+pub mod LogText
 pub mod Moment
 pub mod Places
 pub mod Reader

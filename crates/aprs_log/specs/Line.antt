@@ -10,8 +10,8 @@ use Rattle.aprs_ax25.specs.FrameFault.{frame_of}
 use Rattle.aprs_ax25.specs.declared.fault.FrameFault.{FrameFault}
 use Rattle.aprs_io.specs.Cut.{cut_at}
 use Rattle.aprs_log.specs.Fault.{reason_of_pass, reason_of_frame}
-use Rattle.aprs_log.specs.Moment.{MomentText, moment_of, moment_text}
-use Rattle.aprs_log.specs.Receiver.{IsName, is_name}
+use Rattle.aprs_log.specs.Moment.{moment_of, moment_text}
+use Rattle.aprs_log.specs.Receiver.{is_name}
 use Rattle.aprs_log.specs.Reception.{Heard}
 use Rattle.aprs_log.specs.Steps.{◌>>=◌, ◌otherwise◌, guard}
 use Rattle.aprs_log.specs.declared.fault.LineFault.{LineFault}
@@ -76,20 +76,6 @@ line_of l = do
 abbrev pub line_in : Result (Unit {0}) LineFault → Line → Result Line LineFault
 line_in (Ok u) found = Ok found
 line_in (Err fault) found = Err fault
-
--- ---- the same rule without an order: what the bytes of a frame may be is no part of it
-
--- l is the text of a moment, a space, a receiver's name, a space, and bytes in hexadecimal
-pub record LineSyntax (l : List ℕ) : Type 0 where
-  pub moment : ℕ
-  pub text : List ℕ
-  pub receiver : List ℕ
-  pub digits : List ℕ
-  pub bytes : List ℕ
-  pub is_moment : MomentText moment text
-  pub is_receiver : IsName receiver
-  pub is_hex : decode_of digits ≡ Ok bytes
-  pub spelled : l ≡ text ++ 32 ∷ receiver ++ 32 ∷ digits
 
 -- ---- the line that is written
 

@@ -1,7 +1,8 @@
 //! Lines of a log.
 ghost use Rattle.std.specs.Prelude.{◌≡◌, ◌≤◌, ◌*◌, ◌↔◌, length, IsOk, OnErr};
 ghost use Rattle.aprs_ax25.specs.FrameFault.{frame_of};
-ghost use Rattle.aprs_log.specs.Line.{frame_or_reason, heard_or_passed, line_in, line_of, line_of_digits, LineSyntax};
+ghost use Rattle.aprs_log.specs.Line.{frame_or_reason, heard_or_passed, line_in, line_of, line_of_digits};
+ghost use Rattle.aprs_log.specs.LineText.{IsLine};
 ghost use Rattle.aprs_log.specs.Sizes.{most_line};
 
 use crate::fault::{LineFault, Reason};
@@ -32,7 +33,7 @@ pub enum Line {
 pub fn read_line(line: &[u8]) -> Result<Line, LineFault>
     ensures line { result ≡ line_of line.now }
     // Whatever the bytes are, a line of this syntax is not refused.
-    ensures sound { IsOk result ↔ ((length line.now ≤ most_line) × LineSyntax line.now) }
+    ensures sound { IsOk result ↔ IsLine line.now }
 {
     let mut found = Line::empty();
     match read_fields(line, &mut Scratch::new(), &mut found) {

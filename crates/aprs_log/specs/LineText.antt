@@ -1,0 +1,78 @@
+-- What a line of a log says, without its LF; and what is wrong with a line that is refused.
+use Rattle.std.specs.Prelude.{◌≡◌, ℕ, ◌%◌, ◌<◌, ◌≤◌, List, ◌∷◌, ◌++◌, length, replicate, Ok, IsErr}
+use Rattle.hex.specs.Hex.{decode_of}
+use Rattle.aprs_kiss.specs.Spelling.{spelling_of}
+use Rattle.aprs_ax25.specs.UiFrame.{IsUiFrame}
+use Rattle.aprs_log.specs.Moment.{moment_text_in, room_of}
+use Rattle.aprs_log.specs.Receiver.{IsName}
+use Rattle.aprs_log.specs.Reception.{Heard}
+use Rattle.aprs_log.specs.Sizes.{last_milli, most_line}
+use Rattle.aprs_log.specs.declared.fault.LogCause.{LogCause}
+use Rattle.aprs_log.specs.declared.fault.LogCause.TheVariants as why
+use Rattle.aprs_log.specs.declared.moment_form.MomentForm.{MomentForm}
+
+-- ---- a line that is in order
+
+-- The text is that of the moment in a form: the moment is before the year 2100 and can be written
+-- in this form, to the second only where it is of a whole second.
+pub record IsTextOf (m : ℕ) (text : List ℕ) : Type 0 where
+  pub form : MomentForm
+  pub in_range : m ≤ last_milli
+  pub whole : m % 1000 < room_of form
+  pub text_is : text ≡ moment_text_in form m
+
+-- The line is a text of the moment, a space, and these bytes.
+abbrev pub HasMoment : List ℕ → ℕ → List ℕ → Type 0
+HasMoment line m more = (text : List ℕ) × IsTextOf m text × (line ≡ text ++ 32 ∷ more)
+
+-- The line is a text of the moment, a space, the name of a receiver, a space, and these bytes.
+abbrev pub HasReceiver : List ℕ → ℕ → List ℕ → List ℕ → Type 0
+HasReceiver line m name more = IsName name × HasMoment line m (name ++ 32 ∷ more)
+
+-- The line has at most 8,192 bytes: a moment, a receiver's name, and bytes in hexadecimal, with a
+-- space between.
+pub record IsLine (line : List ℕ) : Type 0 where
+  pub moment : ℕ
+  pub receiver : List ℕ
+  pub digits : List ℕ
+  pub bytes : List ℕ
+  pub short : length line ≤ most_line
+  pub fields : HasReceiver line moment receiver digits
+  pub is_hex : decode_of digits ≡ Ok bytes
+
+-- The bytes are one data frame of KISS, and a UI frame is all that is in it: a type byte of command
+-- 0 and the frame's bytes, as KISS sends them, then a frame end; and more frame ends may stand
+-- before and after.
+pub record CarriesFrame (bytes frame : List ℕ) : Type 0 where
+  pub before : ℕ
+  pub head : ℕ
+  pub after : ℕ
+  pub command : head % 16 ≡ 0
+  pub is_frame : IsUiFrame frame
+  pub bytes_are : bytes
+      ≡ replicate before 0xC0 ++ (spelling_of (head ∷ frame) ++ 0xC0 ∷ replicate after 0xC0)
+
+-- The line reports this reception: its bytes carry the frame.
+abbrev pub Reports : List ℕ → Heard → Type 0
+Reports line x = (is : IsLine line)
+    × (x.moment ≡ is.moment) × (x.receiver ≡ is.receiver) × CarriesFrame is.bytes x.frame
+
+-- The line is passed over: its bytes carry no frame.
+abbrev pub IsPassed : List ℕ → Type 0
+IsPassed line = (is : IsLine line) × ((frame : List ℕ) → ¬ CarriesFrame is.bytes frame)
+
+-- ---- a line that is refused
+
+-- The line is wrong for the first of these that is so: it is too long, it begins with no moment, no
+-- receiver's name comes next, or what follows isn't hexadecimal.
+abbrev pub IsWrongLine : List ℕ → LogCause → Type 0
+IsWrongLine line why.LongLine = most_line < length line
+IsWrongLine line why.Moment =
+    (length line ≤ most_line) × ((m : ℕ) (more : List ℕ) → ¬ HasMoment line m more)
+IsWrongLine line why.Receiver =
+    (length line ≤ most_line) × ((m : ℕ) × (more : List ℕ) × HasMoment line m more)
+    × ((m : ℕ) (name more : List ℕ) → ¬ HasReceiver line m name more)
+IsWrongLine line why.Hex =
+    (length line ≤ most_line) × ((m : ℕ) × (name : List ℕ) × (more : List ℕ)
+    × HasReceiver line m name more × IsErr (decode_of more))
+IsWrongLine line other = ⊥

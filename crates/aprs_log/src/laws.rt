@@ -1,0 +1,35 @@
+//! Laws of lines and logs: what is read is what the text says. These functions do nothing: what
+//! they ensure is the law.
+ghost use Rattle.std.specs.Prelude.{ℕ, ◌≡◌, ◌↔◌, List, None, Some, Ok, Err};
+ghost use Rattle.aprs_io.specs.declared.input.Ending.{Ending};
+ghost use Rattle.aprs_log.specs.Fault.{log_cause_of};
+ghost use Rattle.aprs_log.specs.Line.{line_of};
+ghost use Rattle.aprs_log.specs.LineText.{IsPassed, IsWrongLine, Reports};
+ghost use Rattle.aprs_log.specs.LogAnswers.{log_answers, receptions_of};
+ghost use Rattle.aprs_log.specs.LogText.{HasLogFault, IsLogText};
+ghost use Rattle.aprs_log.specs.Reception.{Heard};
+ghost use Rattle.aprs_log.specs.declared.fault.LineFault.{LineFault};
+ghost use Rattle.aprs_log.specs.declared.fault.LogCause.{LogCause};
+ghost use Rattle.aprs_log.specs.declared.fault.LogFault.{LogFault};
+ghost use Rattle.aprs_log.specs.declared.fault.Reason.{Reason};
+ghost use Rattle.aprs_log.specs.declared.line.Line.TheVariants as line;
+
+/// A line is read as it says: what it reports is heard, a line that carries no frame is passed over
+/// for some reason, and a line that is wrong is refused for that.
+pub fn lines_are_read_as_they_say()
+    ensures heard { (l : List ℕ) (x : Heard) → Reports l x ↔ (line_of l ≡ Ok (line.Heard x)) }
+    ensures passed { (l : List ℕ)
+        → IsPassed l ↔ ((reason : Reason) × (line_of l ≡ Ok (line.Passed reason))) }
+    ensures wrong { (l : List ℕ) (cause : LogCause) → IsWrongLine l cause
+        ↔ ((fault : LineFault) × (line_of l ≡ Err fault) × (log_cause_of fault ≡ cause)) }
+{}
+
+/// A log is read as it says: it has no fault, and its lines report these receptions, exactly where
+/// its text is that of such a log; and it has a fault exactly where that is the text's.
+pub fn logs_are_read_as_they_say()
+    ensures faultless { (text : List ℕ) (ending : Ending) (S : List Heard)
+        → IsLogText text ending S ↔ (((log_answers text ending).fault ≡ None)
+        × (receptions_of (log_answers text ending).given ≡ S)) }
+    ensures fault { (text : List ℕ) (ending : Ending) (fault : LogFault)
+        → HasLogFault text ending fault ↔ ((log_answers text ending).fault ≡ Some fault) }
+{}
