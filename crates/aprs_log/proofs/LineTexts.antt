@@ -259,7 +259,7 @@ wrong_or_line l = elim (cases_lt MAX_LINE (length l)) as (λ _. IsWrong l ⊎ Is
 ok_err : (x : Line) (f : LineFault) (r : Result Line LineFault) → r ≡ Ok x → r ≡ Err f → ⊥
 ok_err x f r e g = absurd cc
 
-err_same : (f g : LineFault) (r : Result Line LineFault) → r ≡ Err f → r ≡ Err g → f ≡ g
+pub err_same : (f g : LineFault) (r : Result Line LineFault) → r ≡ Err f → r ≡ Err g → f ≡ g
 err_same f g r e h = cc
 
 pub line_of-is : (l : List ℕ) (x : Line) → line_of l ≡ Ok x → IsLine l

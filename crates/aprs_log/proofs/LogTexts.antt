@@ -47,7 +47,7 @@ each_lacks : (l : List ℕ) → AllByRecursion (λ b. b ≢ 10) l → Lacks 10 l
 each_lacks [] h = tt
 each_lacks (b ∷ l) h = (is_other b (is_byte 10 b) refl h.0, each_lacks l h.1)
 
-lacks-none : (l : List ℕ) → Lacks 10 l → HasNoLf l
+pub lacks-none : (l : List ℕ) → Lacks 10 l → HasNoLf l
 lacks-none l h = All-from_recursion (λ b. b ≢ 10) l (each_differs l h)
 
 none-lacks : (l : List ℕ) → HasNoLf l → Lacks 10 l

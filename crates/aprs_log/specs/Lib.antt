@@ -4,6 +4,7 @@ pub use Rattle.aprs_io.specs.Device
 pub use Rattle.aprs_io.specs.Input
 pub mod Awaits
 pub mod Clock
+pub mod Examples
 pub mod Fault
 pub mod Fields
 pub mod FrameEnds

@@ -5,6 +5,7 @@ mod calendar;
 mod civil;
 mod clock;
 mod ending;
+mod examples;
 mod fault;
 mod fields;
 mod frame_in_line;
@@ -22,6 +23,9 @@ mod write;
 
 pub use aprs_io::{Ending, MAX_INPUT};
 pub use clock::Clock;
+pub use examples::{
+    lines_are_wrong_from_the_left, lines_report_frames, logs_have_first_faults, moments_have_texts,
+};
 pub use fault::{LineFault, LogCause, LogFault, Reason};
 pub use laws::{lines_are_read_as_they_say, logs_are_read_as_they_say};
 pub use line::{Line, MAX_LINE, read_line};

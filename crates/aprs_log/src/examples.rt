@@ -1,0 +1,50 @@
+//! Worked examples of the definitions, and near misses. These functions do nothing.
+ghost use Rattle.std.specs.Prelude.{◌≡◌, ◌++◌, ◌∷◌, [], ℕ, List, codes};
+ghost use Rattle.aprs_io.specs.declared.input.Ending.TheVariants.{End, Read};
+ghost use Rattle.aprs_log.specs.Examples.{ended_line, heard_after, hi_digits, hi_line, leap_line, line_by, noon, unended_line};
+ghost use Rattle.aprs_log.specs.LineText.{IsPassed, IsTextOf, IsWrongLine, Reports};
+ghost use Rattle.aprs_log.specs.LogText.{HasLogFault, IsLogText};
+ghost use Rattle.aprs_log.specs.Reception.{Heard};
+ghost use Rattle.aprs_log.specs.declared.fault.LogCause.TheVariants as why;
+
+/// A moment has a text to the second, if it is of a whole one, and a text to the millisecond.
+pub fn moments_have_texts()
+    ensures seconds { IsTextOf 1714564800000 noon }
+    ensures millis { IsTextOf 1714564800500 (codes "2024-05-01T12:00:00.500Z") }
+    ensures misses_half { IsTextOf 1714564800500 noon → ⊥ }
+    ensures misses_leap { (m : ℕ) → IsTextOf m (codes "2024-05-01T12:00:60.000Z") → ⊥ }
+{}
+
+/// A line reports the frame that its bytes are, and is passed over where they are none.
+pub fn lines_report_frames()
+    ensures reports { Reports hi_line (heard_after 0) }
+    ensures millis { Reports (line_by (codes "2024-05-01T12:00:00.500Z") hi_digits)
+        (heard_after 500) }
+    ensures misses_moment { Reports hi_line (heard_after 1) → ⊥ }
+    ensures passed { IsPassed unended_line }
+    ensures misses_unended { (x : Heard) → Reports unended_line x → ⊥ }
+    ensures empty { IsPassed (line_by noon []) }
+{}
+
+/// A line that is refused is wrong for its first fault, from the left.
+pub fn lines_are_wrong_from_the_left()
+    ensures moment { IsWrongLine leap_line why.Moment }
+    ensures receiver { IsWrongLine (noon ++ codes " RX.1 c0") why.Receiver }
+    ensures hex { IsWrongLine (line_by noon (codes "c")) why.Hex }
+    ensures misses_later { IsWrongLine (leap_line ++ codes "0") why.Hex → ⊥ }
+    ensures misses_passed { IsWrongLine unended_line why.Hex → ⊥ }
+{}
+
+/// A log has no fault where each of its lines is in order and ended, and it is read to its end.
+pub fn logs_have_first_faults()
+    ensures faultless { IsLogText (ended_line unended_line ++ ended_line hi_line) End
+        (heard_after 0 ∷ []) }
+    ensures wrong { HasLogFault (ended_line hi_line ++ ended_line leap_line) End
+        (record { line = 2; cause = why.Moment }) }
+    ensures misses_wrong { (S : List Heard)
+        → IsLogText (ended_line hi_line ++ ended_line leap_line) End S → ⊥ }
+    ensures unended { HasLogFault (ended_line hi_line ++ hi_line) End
+        (record { line = 2; cause = why.NoNewline }) }
+    ensures cut_short { HasLogFault (ended_line hi_line ++ hi_line) Read
+        (record { line = 2; cause = why.Read }) }
+{}
