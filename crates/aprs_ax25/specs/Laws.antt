@@ -12,7 +12,7 @@ pub record IsFrame (bytes : List ℕ) : Type 0 where
   pub faultless : frame_fault bytes ≡ None
 
 -- One fault is the first that is true of the bytes, and they are no frame.
-pub record IsRefused (bytes : List ℕ) : Type 0 where
+pub record IsNoFrame (bytes : List ℕ) : Type 0 where
   pub fault : FrameFault
   pub first : frame_fault bytes ≡ Some fault
   pub none : (parts : Parts) → FrameOf parts bytes → ⊥

@@ -1,21 +1,16 @@
 -- Receptions and rows that the worked examples are about.
 use Rattle.std.specs.Prelude.{◌≡◌, ℕ, Bool, true, List, [], ◌∷◌, codes}
 use Rattle.aprs_ax25.specs.Callsign.{Call}
+pub use Rattle.aprs_log.specs.Examples.{hi_frame}
 use Rattle.aprs_log.specs.Reception.{Heard}
 use Rattle.aprs_laws.specs.Key.{Key}
 use Rattle.aprs_laws.specs.Row.{Row}
 use Rattle.aprs_laws.specs.BookValue.{BookValue}
 use Rattle.aprs_laws.specs.Taken.{Step, Take, Merge}
 
--- N0CALL-7>APRS:>Hi
-abbrev pub direct : List ℕ
-direct =
-    130 ∷ 160 ∷ 164 ∷ 166 ∷ 64 ∷ 64 ∷ 224 ∷ 156 ∷ 96 ∷ 134 ∷ 130 ∷ 152 ∷ 152 ∷ 111
-    ∷ 3 ∷ 240 ∷ 62 ∷ 72 ∷ 105 ∷ []
-
 -- N0CALL-7>APRS,WIDE1-1*:>Hi
-abbrev pub repeated : List ℕ
-repeated =
+abbrev pub hi_repeated : List ℕ
+hi_repeated =
     130 ∷ 160 ∷ 164 ∷ 166 ∷ 64 ∷ 64 ∷ 224 ∷ 156 ∷ 96 ∷ 134 ∷ 130 ∷ 152 ∷ 152 ∷ 110
     ∷ 174 ∷ 146 ∷ 136 ∷ 138 ∷ 98 ∷ 64 ∷ 227 ∷ 3 ∷ 240 ∷ 62 ∷ 72 ∷ 105 ∷ []
 
@@ -66,11 +61,11 @@ row_of first receivers greatest =
 
 -- heard by RX1 at a moment
 abbrev pub by_rx1 : ℕ → Heard
-by_rx1 moment = heard moment rx1 direct
+by_rx1 moment = heard moment rx1 hi_frame
 
 -- heard by RX2 through a digipeater, at moment 0
 abbrev pub early : Heard
-early = heard 0 rx2 repeated
+early = heard 0 rx2 hi_repeated
 
 -- the standard gap, in milliseconds
 abbrev pub half_minute : ℕ
@@ -135,7 +130,7 @@ merge_then_take = Take 0 (by_rx1 0) ∷ Merge 1 0 ∷ Take 0 (by_rx1 30001) ∷ 
 -- each place takes one, and then what the other has, and one takes what it has itself
 abbrev pub back_and_forth : List Step
 back_and_forth =
-    Take 0 (by_rx1 0) ∷ Take 1 (heard 20 rx2 direct)
+    Take 0 (by_rx1 0) ∷ Take 1 (heard 20 rx2 hi_frame)
     ∷ Merge 0 1 ∷ Merge 1 0 ∷ Merge 0 0 ∷ []
 
 -- a join that answers the first value

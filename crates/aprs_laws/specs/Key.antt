@@ -1,10 +1,10 @@
 -- What makes frames copies of one transmission, and the order of that.
-use Rattle.std.specs.Prelude.{ℕ, List}
+use Rattle.std.specs.Prelude.{ℕ, List, take, drop}
 use Rattle.std.specs.Ordering.{on, then_cmp}
 use Rattle.std.specs.declared.cmp.Ordering.{Ordering}
 use Rattle.aprs_ax25.specs.Callsign.{Call, call_cmp}
 use Rattle.aprs_ax25.specs.Frame.{Parts}
-use Rattle.aprs_ax25.specs.FrameFault.{parts_of}
+use Rattle.aprs_ax25.specs.FrameFault.{after_field, call_of}
 use Rattle.aprs_log.specs.Reception.{bytes_cmp}
 
 -- The source, the destination and the information of a frame. The digipeaters and the C, H and
@@ -14,13 +14,18 @@ pub record Key : Type 0 where
   pub destination : Call
   pub info : List ℕ
 
+-- the key of a frame's bytes: the callsigns of its second address and of its first, and what follows
+-- control and PID
+unfoldable pub key_of : List ℕ → Key
+key_of frame = record {
+  source = call_of (take 7 (drop 7 frame));
+  destination = call_of (take 7 frame);
+  info = drop 2 (after_field frame);
+}
+
 -- the key of a frame's parts
 abbrev pub key_of_parts : Parts → Key
 key_of_parts p = record { source = p.source.call; destination = p.destination.call; info = p.info }
-
--- the key of a frame's bytes
-unfoldable pub key_of : List ℕ → Key
-key_of frame = key_of_parts (parts_of frame)
 
 -- keys are ordered by source, then destination, then the bytes of the information
 unfoldable pub key_cmp : Key → Key → Ordering

@@ -24,7 +24,7 @@ ghost use Rattle.aprs_laws.specs.BestLaws.{Passes};
 ghost use Rattle.aprs_laws.specs.Widening.{widened};
 ghost use Rattle.aprs_laws.specs.Scaling.{scaled, scaled_heard};
 ghost use Rattle.aprs_laws.specs.StepLaws.{rows_after_steps};
-ghost use Rattle.aprs_laws.specs.Examples.{half_minute, direct, repeated, answered, of_other, hi_key, n0call, key_by, any_key, rx1, rx2, heard, by_rx1, early, row_of, row_at, row_to, near_pair, near_row, far_pair, book_under, early_row, late_row, close_row, tied_pair, tied_row, short_row, merge_then_take, back_and_forth, TakesFirst};
+ghost use Rattle.aprs_laws.specs.Examples.{half_minute, hi_frame, hi_repeated, answered, of_other, hi_key, n0call, key_by, any_key, rx1, rx2, heard, by_rx1, early, row_of, row_at, row_to, near_pair, near_row, far_pair, book_under, early_row, late_row, close_row, tied_pair, tied_row, short_row, merge_then_take, back_and_forth, TakesFirst};
 
 /// Members have no number and no place. Ascending lists have no repeats.
 pub fn sets_and_orders()
@@ -39,11 +39,11 @@ pub fn sets_and_orders()
 /// Copies of a frame with other digipeaters and other C and H bits have one key. Another SSID is
 /// another key.
 pub fn copies_have_one_key()
-    ensures direct { key_of direct ≡ hi_key }
-    ensures repeated { key_of repeated ≡ hi_key }
+    ensures direct { key_of hi_frame ≡ hi_key }
+    ensures repeated { key_of hi_repeated ≡ hi_key }
     ensures answered { key_of answered ≡ hi_key }
     ensures misses_other_ssid { key_of of_other ≡ hi_key → ⊥ }
-    ensures misses_bytes { direct ≡ repeated → ⊥ }
+    ensures misses_bytes { hi_frame ≡ hi_repeated → ⊥ }
 {}
 
 /// Keys are ordered by source first. SSIDs are ordered as numbers, and not as their texts.
@@ -123,16 +123,16 @@ pub fn gaps_decide_what_is_inserted()
 /// Of receptions at one moment the greater receiver is greatest, and of one receiver's the greater
 /// frame, in whatever order they come.
 pub fn ties_go_by_receiver_then_frame()
-    ensures frame { plain_book half_minute (heard 0 rx1 repeated ∷ by_rx1 0 ∷ []) ≡ row_at 0 ∷ [] }
-    ensures frame_turned { plain_book half_minute (by_rx1 0 ∷ heard 0 rx1 repeated ∷ [])
+    ensures frame { plain_book half_minute (heard 0 rx1 hi_repeated ∷ by_rx1 0 ∷ []) ≡ row_at 0 ∷ [] }
+    ensures frame_turned { plain_book half_minute (by_rx1 0 ∷ heard 0 rx1 hi_repeated ∷ [])
         ≡ row_at 0 ∷ [] }
     ensures receiver { plain_book half_minute tied_pair ≡ tied_row ∷ [] }
 {}
 
 /// Receivers stand in ascending order, each once.
 pub fn receivers_ascend()
-    ensures { plain_book half_minute (heard 10 rx2 direct ∷ heard 5 rx1 answered ∷ early ∷ [])
-        ≡ row_of 0 (rx1 ∷ rx2 ∷ []) (heard 10 rx2 direct) ∷ [] }
+    ensures { plain_book half_minute (heard 10 rx2 hi_frame ∷ heard 5 rx1 answered ∷ early ∷ [])
+        ≡ row_of 0 (rx1 ∷ rx2 ∷ []) (heard 10 rx2 hi_frame) ∷ [] }
 {}
 
 /// A part of a transmission is none, nor are two transmissions one.
@@ -174,8 +174,8 @@ pub fn soundness_is_seen_in_rows()
 /// Witnesses are as few as make the rows: what else was heard is not among them.
 pub fn real_receptions_are_few()
     ensures witnesses { witnesses (short_row ∷ [])
-        ≡ by_rx1 0 ∷ by_rx1 1 ∷ by_rx1 0 ∷ heard 0 rx2 direct ∷ [] }
-    ensures misses_other { heard 1 rx2 direct ∈ witnesses (short_row ∷ []) → ⊥ }
+        ≡ by_rx1 0 ∷ by_rx1 1 ∷ by_rx1 0 ∷ heard 0 rx2 hi_frame ∷ [] }
+    ensures misses_other { heard 1 rx2 hi_frame ∈ witnesses (short_row ∷ []) → ⊥ }
 {}
 
 /// The greater of two receptions, and the receivers of both. To return the first value is no join.
@@ -208,9 +208,9 @@ pub fn merges_take_what_is_there()
     ensures fits { StepsFit 2 back_and_forth }
     ensures misses_place { StepsFit 1 back_and_forth → ⊥ }
     ensures first_book { rows_after_steps half_minute back_and_forth (λ place. []) 0
-        ≡ row_of 0 (rx1 ∷ rx2 ∷ []) (heard 20 rx2 direct) ∷ [] }
+        ≡ row_of 0 (rx1 ∷ rx2 ∷ []) (heard 20 rx2 hi_frame) ∷ [] }
     ensures second_book { rows_after_steps half_minute back_and_forth (λ place. []) 1
-        ≡ row_of 0 (rx1 ∷ rx2 ∷ []) (heard 20 rx2 direct) ∷ [] }
+        ≡ row_of 0 (rx1 ∷ rx2 ∷ []) (heard 20 rx2 hi_frame) ∷ [] }
 {}
 
 /// What comes last in a list is not what is last known.
@@ -226,10 +226,10 @@ pub fn greatest_is_last_known()
 pub fn rows_are_near_up_to_the_gap()
     ensures near { IsNear half_minute early_row (single (by_rx1 30000)) }
     ensures misses_far { IsNear half_minute early_row (single (by_rx1 30001)) → ⊥ }
-    ensures fits { FitsInPlace half_minute (early_row ∷ late_row ∷ []) (heard 0 rx2 direct) }
+    ensures fits { FitsInPlace half_minute (early_row ∷ late_row ∷ []) (heard 0 rx2 hi_frame) }
     ensures misses_receiver { FitsInPlace half_minute (early_row ∷ []) (by_rx1 10) → ⊥ }
     ensures misses_two { FitsInPlace half_minute (early_row ∷ late_row ∷ [])
-        (heard 10 rx2 direct) → ⊥ }
+        (heard 10 rx2 hi_frame) → ⊥ }
 {}
 
 /// Rows in order join the last so far or come after it, whatever book or log each is of. In another

@@ -6,7 +6,7 @@ use Rattle.jiff_core.specs.Calendar.{days_from_civil}
 use Rattle.aprs_log.specs.declared.moment_form.MomentForm.{MomentForm}
 use Rattle.aprs_log.specs.declared.moment_form.MomentForm.TheVariants.{Seconds, Millis}
 use Rattle.aprs_log.specs.Clock.{FractionText, SecondText, clock_text, form_of_end, midnight_text}
-use Rattle.aprs_log.specs.Moment.{Civil, IsCivil, civil_text, day_after, form_of, four_digits, fraction_text, moment_in, moment_of, moment_text_in, room_of, second_of_day, seconds_of, two_digits}
+use Rattle.aprs_log.specs.Moment.{Civil, IsCivil, civil_text, day_after, form_of_text, four_digits, fraction_text, moment_in, moment_of, moment_text_in, room_of, second_of_day, seconds_of, two_digits}
 use Rattle.aprs_log.proofs.Moments.{moment_in-civil, moment_in-text, moment_text-is, room_most, text-moment_in}
 
 -- YYYY-MM-DDT
@@ -69,9 +69,9 @@ civil_text-length Millis c n = inr refl
 pub moment_of-length : (t : List ℕ) (m : ℕ) → moment_of t ≡ Some m
     → (length t ≡ 20) ⊎ (length t ≡ 24)
 moment_of-length t m e =
-    let f = found (form_of t) t m e in
+    let f = found (form_of_text t) t m e in
     subst (λ (l : List ℕ). (length l ≡ 20) ⊎ (length l ≡ 24)) (sym f.spelled)
-    (civil_text-length (form_of t) f.civil f.millis)
+    (civil_text-length (form_of_text t) f.civil f.millis)
 
 digit_inside : (form : MomentForm) (c : Civil) (n : ℕ) → length (civil_text form c n) ≡ 24
     → slice_index (civil_text form c n) 20 ≢ 32
@@ -82,8 +82,8 @@ digit_inside Millis c n len e = let no : 48 + n / 100 ≡ 32 = e in absurd (omeg
 pub moment_of-inside : (t : List ℕ) (m : ℕ) → moment_of t ≡ Some m → length t ≡ 24
     → slice_index t 20 ≢ 32
 moment_of-inside t m e len space =
-    let f = found (form_of t) t m e in
-    digit_inside (form_of t) f.civil f.millis (ap length (sym f.spelled) ∙ len)
+    let f = found (form_of_text t) t m e in
+    digit_inside (form_of_text t) f.civil f.millis (ap length (sym f.spelled) ∙ len)
     (ap (λ l. slice_index l 20) (sym f.spelled) ∙ space)
 
 -- another time of the day of a civil time
@@ -142,7 +142,7 @@ moment_in-same_day form date time end midnight second n len e t f =
 
 -- what follows the seconds says the form
 same_form : (text end : List ℕ) → (length text ≡ 20) ⊎ (length text ≡ 24)
-    → length text ≡ 19 + length end → form_of text ≡ form_of_end end
+    → length text ≡ 19 + length end → form_of_text text ≡ form_of_end end
 same_form text end (inl e) len =
     let one : length end ≡ 1 = omega (arith, len, e) in
     ap (λ n. cond (n == 20) Seconds Millis) e ∙ sym (ap (λ n. cond (n == 1) Seconds Millis) one)
@@ -175,7 +175,7 @@ moment_of-same_day text date rest time end midnight second n either len is then 
 pub moment_of-midnight : (t : List ℕ) (m : ℕ) → moment_of t ≡ Some m
     → moment_in Seconds (take 11 t ++ midnight_text) ≡ Some (m - m % 86400000)
 moment_of-midnight t m e =
-    let form = form_of t in
+    let form = form_of_text t in
     let f = found form t m e in
     let most = room_most form f.millis f.below in
     let second : second_of_day f.civil < 86400 =

@@ -12,7 +12,7 @@ use Rattle.aprs_log.specs.declared.moment_form.MomentForm.TheVariants.{Seconds, 
 use Rattle.aprs_log.specs.Places.{near_civil, near_digit, near_millis}
 use Rattle.aprs_log.specs.Clock.{form_size}
 use Rattle.aprs_log.specs.LineText.{IsTextOf}
-use Rattle.aprs_log.specs.Moment.{Civil, civil_at, civil_text, digit_of, IsCivil, is_date, is_time, is_civil, is_real, second_of_day, seconds_of, room_of, MomentTextIn, MomentText, millis_at, moment_in, form_of, moment_of, day_after, civil_after, moment_text_in}
+use Rattle.aprs_log.specs.Moment.{Civil, civil_at, civil_text, digit_of, IsCivil, is_date, is_time, is_civil, is_real, second_of_day, seconds_of, room_of, MomentTextIn, MomentText, millis_at, moment_in, form_of_text, moment_of, day_after, civil_after, moment_text_in}
 
 -- a civil time whose parts have as many digits as a text has room for
 pub record FitsText (c : Civil) : Type 0 where
@@ -248,7 +248,7 @@ pub length_in : (form : MomentForm) (m : ℕ) (t : List ℕ) → MomentTextIn fo
 length_in Seconds m t h = ap length h.spelled
 length_in Millis m t h = ap length h.spelled
 
-pub form_by_size : (form : MomentForm) (t : List ℕ) → length t ≡ form_size form → form_of t ≡ form
+pub form_by_size : (form : MomentForm) (t : List ℕ) → length t ≡ form_size form → form_of_text t ≡ form
 form_by_size Seconds t h = rw h refl
 form_by_size Millis t h = rw h refl
 
@@ -266,12 +266,12 @@ pub no_moment_by_size : (form : MomentForm) (t : List ℕ) → (length t ≡ for
 no_moment_by_size form t h = none_if form t h (moment_in form t) refl
 
 -- the length of a text says its form
-form_of-text : (form : MomentForm) (m : ℕ) (t : List ℕ) → MomentTextIn form m t → form_of t ≡ form
-form_of-text Seconds m t h = ap form_of h.spelled
-form_of-text Millis m t h = ap form_of h.spelled
+form_of-text : (form : MomentForm) (m : ℕ) (t : List ℕ) → MomentTextIn form m t → form_of_text t ≡ form
+form_of-text Seconds m t h = ap form_of_text h.spelled
+form_of-text Millis m t h = ap form_of_text h.spelled
 
 pub moment_of-text : (t : List ℕ) (m : ℕ) → moment_of t ≡ Some m → MomentText m t
-moment_of-text t m e = (form_of t, moment_in-text (form_of t) t m e)
+moment_of-text t m e = (form_of_text t, moment_in-text (form_of_text t) t m e)
 
 pub text-moment_of : (t : List ℕ) (m : ℕ) → MomentText m t → moment_of t ≡ Some m
 text-moment_of t m h =

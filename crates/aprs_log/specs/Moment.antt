@@ -174,9 +174,9 @@ moment_in form text = if is_real form (civil_at text) (millis_at form text)
     then Some (seconds_of (civil_at text) * 1000 + millis_at form text) else None
 
 -- the one form that a text can be in, by its length
-abbrev pub form_of : List ℕ → MomentForm
-form_of text = if length text == seconds_size then Seconds else Millis
+abbrev pub form_of_text : List ℕ → MomentForm
+form_of_text text = if length text == seconds_size then Seconds else Millis
 
 -- the moment of a text in either form
 abbrev pub moment_of : List ℕ → Option ℕ
-moment_of text = moment_in (form_of text) text
+moment_of text = moment_in (form_of_text text) text

@@ -31,12 +31,12 @@ abbrev pub current_of : {R : Type 0} → LogReader R → Line
 current_of r = r.current
 
 -- the bytes that it has read and not yet answered
-abbrev pub held_of : {R : Type 0} → LogReader R → List ℕ
-held_of r = items r.window
+abbrev pub read_ahead_of : {R : Type 0} → LogReader R → List ℕ
+read_ahead_of r = items r.window
 
--- a whole line is among the bytes: an LF stands in them
-abbrev pub HasLine : List ℕ → Type 0
-HasLine bytes = IsTrue (has_byte 10 bytes)
+-- an LF stands in the bytes, so that a whole line is among them
+abbrev pub HasLf : List ℕ → Type 0
+HasLf bytes = IsTrue (has_byte 10 bytes)
 
 -- the fault or the end that it answers from now on, if it has come to one
 abbrev pub stop_of : {R : Type 0} → LogReader R → Option (Option LogFault)
@@ -53,7 +53,7 @@ Awaits known end r answers =
 pub record Starts {R : Type 0} (r : LogReader R) (head : List ℕ) : Type 0 where
   pub first : lines_of r ≡ 0
   pub current : current_of r ≡ line.Passed NoFrame
-  pub held : held_of r ≡ head
+  pub held : read_ahead_of r ≡ head
   pub going : stop_of r ≡ None
 
 -- a reader that moves without an answer: what may follow now, could have followed where it was
@@ -82,9 +82,9 @@ abbrev pub work_of : {R : Type 0} → LogReader R → ℕ
 work_of r = work_in r.state r.left
 
 -- what it answers where it has come to a fault or to the end
-abbrev pub answer_at : Option LogFault → Result (Option Line) LogFault
-answer_at None = Ok None
-answer_at (Some fault) = Err fault
+abbrev pub answer_of_stop : Option LogFault → Result (Option Line) LogFault
+answer_of_stop None = Ok None
+answer_of_stop (Some fault) = Err fault
 
 -- whether a line is returned
 abbrev pub returns_line : Result Bool LogFault → Bool

@@ -2,17 +2,13 @@
 use Rattle.std.specs.Prelude.{ℕ, List}
 use Rattle.std.specs.declared.cmp.Ordering.{Ordering}
 use Rattle.std.specs.Ordering.{nat_cmp, on, then_cmp}
-use Rattle.std.specs.Cmp.Lexicographic.{slice_cmp}
+pub use Rattle.aprs_ax25.specs.Order.{bytes_cmp}
 
 -- when and by whom a frame was heard, and its bytes
 pub record Heard : Type 0 where
   pub moment : ℕ
   pub receiver : List ℕ
   pub frame : List ℕ
-
--- the order of byte lists: by the first byte that differs, a proper prefix before the whole
-abbrev pub bytes_cmp : List ℕ → List ℕ → Ordering
-bytes_cmp = slice_cmp nat_cmp
 
 -- the order of receptions: by moment, then receiver, then frame
 abbrev pub heard_cmp : Heard → Heard → Ordering

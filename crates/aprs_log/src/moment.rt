@@ -5,7 +5,7 @@ ghost use Rattle.std.proofs.Common.{rules};
 ghost use Rattle.std.specs.Cmp.{partial_order_from_own_ties};
 ghost use Rattle.std.specs.Cmp.Rules.{comparing};
 ghost use Rattle.aprs_log.specs.Sizes.{last_milli, last_second};
-ghost use Rattle.aprs_log.specs.Moment.{MomentText, MomentTextIn, form_of, moment_in, moment_of, moment_text};
+ghost use Rattle.aprs_log.specs.Moment.{MomentText, MomentTextIn, form_of_text, moment_in, moment_of, moment_text};
 
 use crate::MomentForm;
 use crate::civil::{CivilTime, SECONDS_LEN};
@@ -155,7 +155,7 @@ impl PartialOrd for Moment {
 
 /// The one form that a text can be in, by its length.
 fn form_of(text: &[u8]) -> MomentForm
-    ensures { result ≡ form_of text.now }
+    ensures { result ≡ form_of_text text.now }
 {
     if text.len() == SECONDS_LEN {
         MomentForm::Seconds

@@ -36,7 +36,7 @@ impl<'a, R: Read> LogReader<'a, R> {
     ghost use Rattle.aprs_io.specs.Cut.{cut_at};
     ghost use Rattle.aprs_log.specs.LogAnswers.{Answers, then_given};
     ghost use Rattle.aprs_log.specs.Window.{items};
-    ghost use Rattle.aprs_log.specs.Reader.{answer_at, answer_with, Awaits, AreAnswersOf, GivesNext, HasLine, Moves, Starts, current_of, held_of, last_told, lines_of, loan_of, returns_line, source_of, stop_of, work_of};
+    ghost use Rattle.aprs_log.specs.Reader.{answer_of_stop, answer_with, Awaits, AreAnswersOf, GivesNext, HasLf, Moves, Starts, current_of, read_ahead_of, last_told, lines_of, loan_of, returns_line, source_of, stop_of, work_of};
     ghost use Rattle.aprs_log.specs.Awaits.{last_in};
 
     /// A reader of the log that begins with `head` and goes on with the bytes of `source`. It takes
@@ -97,11 +97,11 @@ impl<'a, R: Read> LogReader<'a, R> {
         ensures gives { GivesNext result (R.remaining (device_of (source_of self.old))) self.old
             (R.remaining (device_of (source_of self.new))) self.new }
         // A line that it holds whole is answered without a read.
-        ensures unread { stop_of self.old ≡ None → HasLine (held_of self.old)
+        ensures unread { stop_of self.old ≡ None → HasLf (read_ahead_of self.old)
             → source_of self.new ≡ source_of self.old }
         // What it came to stays, and it reads no more.
         ensures stays { (stop : Option LogFault) → stop_of self.old ≡ Some stop
-            → (result ≡ answer_at stop) × (stop_of self.new ≡ Some stop)
+            → (result ≡ answer_of_stop stop) × (stop_of self.new ≡ Some stop)
             × (source_of self.new ≡ source_of self.old) }
         ensures fault { IfErr result (λ fault. (fault.line ≡ lines_of self.new + 1)
             × (fault.cause ≢ LogCause.Memory)) }
@@ -128,13 +128,13 @@ impl<'a, R: Read> LogReader<'a, R> {
             (R.remaining (device_of (source_of self.old))) self.old
             (R.remaining (device_of (source_of self.new))) self.new }
         // A line that it holds whole is answered without a read.
-        ensures unread { stop_of self.old ≡ None → HasLine (held_of self.old)
+        ensures unread { stop_of self.old ≡ None → HasLf (read_ahead_of self.old)
             → source_of self.new ≡ source_of self.old }
         // Where no line comes, the last one stays.
         ensures keeps { returns_line result ≡ false → current_of self.new ≡ current_of self.old }
         // What it came to stays, and it reads no more.
         ensures stays { (stop : Option LogFault) → stop_of self.old ≡ Some stop
-            → (answer_with result (current_of self.new) ≡ answer_at stop)
+            → (answer_with result (current_of self.new) ≡ answer_of_stop stop)
             × (stop_of self.new ≡ Some stop) × (source_of self.new ≡ source_of self.old) }
         ensures fault { IfErr result (λ fault. (fault.line ≡ lines_of self.new + 1)
             × (fault.cause ≢ LogCause.Memory)) }
@@ -191,7 +191,7 @@ impl<'a, R: Read> LogReader<'a, R> {
             (R.remaining (device_of (source_of self.new))) self.new) }
         ensures going { OnTrue result (stop_of self.new ≡ None) }
         ensures less { OnFalse result (work_of self.new < work_of self.old) }
-        ensures unread { HasLine (held_of self.old) → (source_of self.new ≡ source_of self.old)
+        ensures unread { HasLf (read_ahead_of self.old) → (source_of self.new ≡ source_of self.old)
             × OnFalse result (stop_of self.new ≢ None) }
         ensures calls { Calls (last_in self.new.state) (source_of self.old)
             (source_of self.new) }

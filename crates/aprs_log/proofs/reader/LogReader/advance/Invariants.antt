@@ -1,7 +1,7 @@
 use Rattle.std.proofs.Common.{◌≡◌, Option, None, Some}
 use Rattle.aprs_io.specs.Device.{Calls, device_of}
 use Rattle.aprs_log.specs.Awaits.{last_in}
-use Rattle.aprs_log.specs.Reader.{HasLine, Moves, current_of, held_of, lines_of, loan_of, source_of, stop_of, work_of}
+use Rattle.aprs_log.specs.Reader.{HasLf, Moves, current_of, read_ahead_of, lines_of, loan_of, source_of, stop_of, work_of}
 use Rattle.aprs_log.specs.declared.fault.LogFault.{LogFault}
 use Rattle.aprs_log.proofs.reader.LogReader.advance.Given as goal
 
@@ -12,9 +12,9 @@ invariant-loop-self g l = record {
   current : current_of l.self ≡ current_of l.initial.self;
   moves : Moves (g.R.Read.remaining (device_of (source_of l.initial.self))) l.initial.self
       (g.R.Read.remaining (device_of (source_of l.self))) l.self;
-  unread : stop_of l.initial.self ≡ None → HasLine (held_of l.initial.self)
+  unread : stop_of l.initial.self ≡ None → HasLf (read_ahead_of l.initial.self)
       → (source_of l.self ≡ source_of l.initial.self)
-      × (stop_of l.self ≡ None → HasLine (held_of l.self));
+      × (stop_of l.self ≡ None → HasLf (read_ahead_of l.self));
   stays : (stop : Option LogFault) → stop_of l.initial.self ≡ Some stop
       → (stop_of l.self ≡ Some stop) × (source_of l.self ≡ source_of l.initial.self);
   calls : stop_of l.initial.self ≡ None
