@@ -22,7 +22,7 @@ lacks_of c (x ∷ text) none = (
 
 -- ---- pieces
 
-byte_is : (c : ℕ) → eqb c c ≡ true
+pub byte_is : (c : ℕ) → eqb c c ≡ true
 byte_is c = grind arith
 
 pub pieces_at : (c : ℕ) (a b : List ℕ) → Lacks c a → pieces c (a ++ c ∷ b) ≡ a ∷ pieces c b
@@ -70,9 +70,3 @@ pieces_first c (suc i) j (x ∷ xs) lt e none here =
     pieces_first c i (suc i) xs (omega arith) refl (λ k h. none (suc k) (omega arith)) here in
     let first : is_byte c x ≡ false = false_from_ne_true _ (none 0 (omega arith)) in
     rw (e, first) (ap (onto_first x) rest)
-
--- a text in more pieces than six
-pub seven_pieces : (c : ℕ) (a b d e f g h text : List ℕ) (ps : List (List ℕ))
-    → pieces c text ≡ a ∷ b ∷ d ∷ e ∷ f ∷ ps → ps ≡ g ∷ pieces c h → ¬ (length (pieces c text) ≡ 6)
-seven_pieces c a b d e f g h text ps is more six =
-    omega (arith, pieces_some c h, ap length is, ap length more, six)

@@ -1,5 +1,9 @@
 -- Lemmas on the parts of a book's text.
-use Rattle.std.proofs.Common.{◌≡◌, ℕ, List, [], ◌∷◌, ◌++◌, length, map, refl, sym, ap, ◌∙◌, append_assoc, append-nil}
+use Rattle.std.proofs.Common.{◌≡◌, ℕ, ◌+◌, ◌<◌, List, [], ◌∷◌, ◌++◌, length, take, drop, map, refl, sym, ap, ◌∙◌, append_assoc, append-nil}
+use Rattle.std.proofs.Math.ListN.{replicate, set}
+use Rattle.std.proofs.Math.Seq.{drop-append-add, take-append-add}
+use Rattle.std.proofs.lemmas.List.{take_more_set}
+use borrow.Rule.Slice.PartMut.{put_mid}
 use Rattle.std.proofs.lemmas.List.Concat.{flat_map-append}
 use Rattle.std.specs.List.{flat_map, join_with_byte}
 use Rattle.std.specs.Prelude.{codes}
@@ -70,6 +74,37 @@ pub told_parts : (row : Row) (start end : ℕ) (names : List (List ℕ)) (who by
 told_parts row start end names who bytes is head tail h t =
     ap (λ (x : Row). ended_by_lf (row_line Millis x)) (sym is)
     ∙ row_parts (row_of start end names who bytes) head tail h t
+
+-- ---- the parts of a line, as they are put at their places
+
+front_of : (a rest : List ℕ) → length a ≡ 24 → take 25 (a ++ rest) ≡ a ++ take 1 rest
+front_of a rest len = ap (λ n. take (n + 1) (a ++ rest)) (sym len) ∙ take-append-add a rest 1
+
+back_of : (a rest : List ℕ) → length a ≡ 24 → drop 25 (a ++ rest) ≡ drop 1 rest
+back_of a rest len = ap (λ n. drop (n + 1) (a ++ rest)) (sym len) ∙ drop-append-add a rest 1
+
+-- two moments of 24 bytes, put over spaces
+pub head_is : (first last a b : List ℕ) → length a ≡ 24 → a ≡ first → b ≡ last
+    → put_mid 27 24 (84 ∷ 32 ∷ (a ++ replicate 26 32)) b
+    ≡ codes "T " ++ first ++ 32 ∷ last ++ 32 ∷ []
+head_is first last a b len f l =
+    let spaces = replicate 26 32 in
+    ap (λ t. 84 ∷ 32 ∷ (t ++ (b ++ drop 24 (drop 25 (a ++ spaces))))) (front_of a spaces len)
+    ∙ ap (λ t. 84 ∷ 32 ∷ ((a ++ 32 ∷ []) ++ (b ++ drop 24 t))) (back_of a spaces len)
+    ∙ ap (λ t. 84 ∷ 32 ∷ t) (append_assoc a (32 ∷ []) (b ++ 32 ∷ [])
+    ∙ ap (λ t. t ++ 32 ∷ (b ++ 32 ∷ [])) f ∙ ap (λ t. first ++ 32 ∷ (t ++ 32 ∷ [])) l
+    ∙ sym (append_assoc first (32 ∷ last) (32 ∷ [])))
+
+-- a name and digits, with a byte before each and after them, put one after another
+pub tail_is : (r s t who digits : List ℕ) (space end : ℕ) → 0 < length r → space < length s
+    → end < length t → take space s ≡ take 1 (set r 0 32) ++ who
+    → take end t ≡ take (space + 1) (set s space 32) ++ digits
+    → take (end + 1) (set t end 10) ≡ 32 ∷ who ++ 32 ∷ digits ++ 10 ∷ []
+tail_is r s t who digits space end some is end_is name hex =
+    take_more_set t end 10 end_is
+    ∙ ap (λ l. l ++ 10 ∷ []) (hex ∙ ap (λ l. l ++ digits) (take_more_set s space 32 is
+    ∙ ap (λ l. l ++ 32 ∷ []) (name ∙ ap (λ l. l ++ who) (take_more_set r 0 32 some)))
+    ∙ append_assoc (32 ∷ who) (32 ∷ []) digits)
 
 -- ---- the parts of a text
 

@@ -1,19 +1,19 @@
--- The fields of a row's line, as they are cut. No public clause cites this module.
-use Rattle.std.specs.Prelude.{◌≡◌, ◌≢◌, ◌<◌, ◌≤◌, ◌⊎◌, ◌&&◌, Bool, nat_le, ℕ, ◌∷◌, [], List, length, Ok, IsErr}
+-- The fields of a row's line, as they are read. No public clause cites this module.
+use Rattle.std.specs.Prelude.{◌≡◌, ◌≢◌, ◌<◌, ◌≤◌, ◌⊎◌, ◌&&◌, Bool, nat_le, ℕ, List, length, Ok, IsErr}
 use Rattle.hex.specs.Hex.{encode_lower, IsBytes}
 use Rattle.aprs_ax25.specs.FrameFault.{frame_of}
 use Rattle.aprs_log.specs.declared.moment_form.MomentForm.{MomentForm}
+use Rattle.aprs_log.specs.declared.moment_form.MomentForm.TheVariants.{Seconds, Millis}
 use Rattle.aprs_laws.specs.Row.{Row}
 use Rattle.aprs_booktext.specs.FirstFault.{HasNoFrame}
 use Rattle.aprs_booktext.specs.Text.{row_line, IsSpelled, most_frame_bytes}
 use Rattle.aprs_booktext.specs.declared.fault.BookCause.{BookCause}
 use Rattle.aprs_booktext.specs.declared.fault.BookCause.TheVariants as why
-use Rattle.aprs_booktext.specs.declared.fields.FieldTexts.{FieldTexts}
 
--- the six fields in order
-abbrev pub list_of : FieldTexts → List (List ℕ)
-list_of f = f.tag.now ∷ f.first.now ∷ f.last.now ∷ f.receivers.now ∷ f.receiver.now
-    ∷ f.frame.now ∷ []
+-- how many bytes a moment's text has in a form
+abbrev pub size_in : MomentForm → ℕ
+size_in Seconds = 20
+size_in Millis = 24
 
 -- The digits spell these bytes, at least one and at most those of a frame.
 pub record SpellsBytes (digits bytes : List ℕ) : Type 0 where

@@ -18,3 +18,21 @@ pub fn cut(text: &[u8], stop: u8) -> Option<(&[u8], &[u8])>
         None => None,
     }
 }
+
+/// The same, of a text whose first bytes mostly have one, as those of a name and what follows it: a
+/// plain loop is there before a search has begun.
+pub fn cut_near(text: &[u8], stop: u8) -> Option<(&[u8], &[u8])>
+    ensures none { IfNone result (Lacks stop text.now) }
+    ensures one { IfNone result (pieces stop text.now ≡ text.now ∷ []) }
+    ensures some { IfSome result (λ p. (text.now ≡ p.0.now ++ stop ∷ p.1.now)
+        × Lacks stop p.0.now) }
+    ensures pieces { IfSome result (λ p. pieces stop text.now ≡ p.0.now ∷ pieces stop p.1.now) }
+    ensures len { IfSome result (λ p. length p.0.now + 1 + length p.1.now ≡ length text.now) }
+{
+    for i in 0..text.len() {
+        if text[i] == stop {
+            return Some((&text[..i], &text[i + 1..]));
+        }
+    }
+    None
+}

@@ -4,7 +4,6 @@
 mod cut;
 mod end_line;
 mod fault;
-mod fields;
 mod hexadecimal;
 mod laws;
 mod read;

@@ -1,5 +1,5 @@
 //! A book's text, while it is read.
-ghost use Rattle.std.specs.Prelude.{◌≡◌, ◌≢◌, ◌+◌, ◌≤◌, ◌++◌, ◌∷◌, ℕ, [], true, List, length, OnOk, OnErr, MatchResult, IfErr, IfNone, IfOk};
+ghost use Rattle.std.specs.Prelude.{◌≡◌, ◌≢◌, ◌+◌, ◌≤◌, ◌++◌, ◌∷◌, ℕ, [], true, false, List, length, OnOk, OnErr, MatchResult, IfErr, IfNone, IfOk};
 ghost use Rattle.aprs_io.specs.Input.{most_input};
 ghost use Rattle.aprs_laws.specs.Gap.{millis_of};
 ghost use Rattle.aprs_laws.specs.Row.{Row};
@@ -89,8 +89,7 @@ impl<A: Allocator + Copy> BookReader<A> {
     {
         let mut rest = piece;
         while let Some((part, after)) = cut(rest, b'\n') {
-            self.append(part)?;
-            self.end_line(store)?;
+            self.end_line(store, part)?;
             rest = after;
         }
         self.append(rest)
@@ -133,8 +132,52 @@ impl<A: Allocator + Copy> BookReader<A> {
         Err(self.fault(BookCause::After))
     }
 
-    /// Judges the line, which is whole.
-    fn end_line(&mut self, store: &mut RowStore<A>) -> Result<(), BookFault>
+    /// Judges the line that ends with these bytes: where it lies, if they are all of it.
+    fn end_line(&mut self, store: &mut RowStore<A>, part: &[u8]) -> Result<(), BookFault>
+        requires { size_of self.old + length part.now ≤ most_input }
+        ensures stands { OnOk result ((before : List Row) (t : List ℕ)
+            → Stands before self.old store.old t → Lacks 10 part.now
+            → Stands before self.new store.new ((t ++ part.now) ++ 10 ∷ [])) }
+        ensures size { OnOk result
+            (size_of self.new ≤ size_of self.old + length part.now + 1) }
+        ensures fault { IfErr result (λ fault. (before : List Row) (t more : List ℕ)
+            → Stands before self.old store.old t → Lacks 10 part.now
+            → IsFault (length part.now + (length more + 1)) fault
+            ((t ++ part.now) ++ 10 ∷ more)) }
+        ensures cause { IfErr result (λ fault. IsOfText fault.cause) }
+    {
+        if self.line.is_empty() && !is_done(self.stage) {
+            return self.take_line(store, part);
+        }
+        self.append(part)?;
+        self.take_held(store)
+    }
+
+    /// Judges a line that is whole, where none is held.
+    fn take_line(&mut self, store: &mut RowStore<A>, line: &[u8]) -> Result<(), BookFault>
+        requires size { size_of self.old + length line.now ≤ most_input }
+        requires none { self.old.line.items ≡ [] }
+        requires going { is_done self.old.stage ≡ false }
+        ensures stands { OnOk result ((before : List Row) (t : List ℕ)
+            → Stands before self.old store.old t → Lacks 10 line.now
+            → Stands before self.new store.new ((t ++ line.now) ++ 10 ∷ [])) }
+        ensures size { OnOk result (size_of self.new ≤ size_of self.old + 1) }
+        ensures fault { IfErr result (λ fault. (before : List Row) (t more : List ℕ)
+            → Stands before self.old store.old t → Lacks 10 line.now
+            → IsFault (length more + 1) fault ((t ++ line.now) ++ 10 ∷ more)) }
+        ensures cause { IfErr result (λ fault. IsOfText fault.cause) }
+    {
+        match judge(self.stage, store, &mut self.scratch, &mut self.count, line) {
+            Ok(stage) => {
+                self.stage = stage;
+                Ok(())
+            }
+            Err(cause) => Err(self.fault(cause)),
+        }
+    }
+
+    /// Judges the line that is held, which is whole.
+    fn take_held(&mut self, store: &mut RowStore<A>) -> Result<(), BookFault>
         requires { size_of self.old ≤ most_input }
         ensures stands { OnOk result ((before : List Row) (t : List ℕ)
             → Stands before self.old store.old t
@@ -145,36 +188,14 @@ impl<A: Allocator + Copy> BookReader<A> {
             → IsFault (length more + 1) fault (t ++ 10 ∷ more)) }
         ensures cause { IfErr result (λ fault. IsOfText fault.cause) }
     {
-        match self.judge(store) {
+        let line = self.line.as_slice();
+        match judge(self.stage, store, &mut self.scratch, &mut self.count, line) {
             Ok(stage) => {
                 self.stage = stage;
                 self.line.clear();
                 Ok(())
             }
             Err(cause) => Err(self.fault(cause)),
-        }
-    }
-
-    /// What comes after the line.
-    fn judge(&mut self, store: &mut RowStore<A>) -> Result<Stage, BookCause>
-        requires { size_of self.old ≤ most_input }
-        ensures judged { (before rows : List Row) → HasRows before rows self.old.count store.old
-            → HasRowsSo before self.new.count store.new
-            (IsJudgedIn self.old.stage result rows self.old.line.items) }
-        ensures count { self.new.count ≤ self.old.count + 1 }
-        ensures unchanged { OnErr result (self.new.count ≡ self.old.count) }
-        ensures cause { IfErr result IsOfText }
-        ensures line { self.new.line.items ≡ self.old.line.items }
-        ensures stage { self.new.stage ≡ self.old.stage }
-    {
-        let stage = self.stage;
-        let line = self.line.as_slice();
-        match stage {
-            Stage::Header => judge_header(line),
-            Stage::Rows(version) => {
-                judge_line(store, &mut self.scratch, &mut self.count, version, line)
-            }
-            Stage::Done(_) => Err(BookCause::After),
         }
     }
 
@@ -245,6 +266,28 @@ fn may_end(stage: Stage, ending: Ending) -> bool
     ensures { result ≡ may_end stage ending }
 {
     is_done(stage) && ending == Ending::End
+}
+
+/// What comes after a line at this stage, where so many of the rows in the store are of its text.
+fn judge<A: Allocator + Copy>(
+    stage: Stage,
+    store: &mut RowStore<A>,
+    scratch: &mut Scratch,
+    count: &mut usize,
+    line: &[u8],
+) -> Result<Stage, BookCause>
+    requires { count.old + length line.now ≤ most_input }
+    ensures judged { (before rows : List Row) → HasRows before rows count.old store.old
+        → HasRowsSo before count.new store.new (IsJudgedIn stage result rows line.now) }
+    ensures count { count.new ≤ count.old + 1 }
+    ensures unchanged { OnErr result (count.new ≡ count.old) }
+    ensures cause { IfErr result IsOfText }
+{
+    match stage {
+        Stage::Header => judge_header(line),
+        Stage::Rows(version) => judge_line(store, scratch, count, version, line),
+        Stage::Done(_) => Err(BookCause::After),
+    }
 }
 
 /// What comes after the first line: rows of a text of the version that it names.

@@ -1,14 +1,13 @@
 //! A row's line.
-ghost use Rattle.std.specs.Prelude.{◌≡◌, ◌≢◌, ◌↔◌, ◌≤◌, ◌⊎◌, ℕ, codes, length, All, IsTrue, IfOk, OnOk, IfErr, IfNone, IfSome};
+ghost use Rattle.std.specs.Prelude.{◌≡◌, ◌≢◌, ◌↔◌, ◌≤◌, ◌⊎◌, ◌∷◌, ◌++◌, ℕ, List, length, All, IsTrue, IfOk, OnOk, IfErr, IfNone, IfSome};
 ghost use Rattle.aprs_log.specs.Receiver.{IsName};
 ghost use Rattle.aprs_log.specs.Moment.{moment_text_in};
 ghost use Rattle.aprs_booktext.specs.Lines.{pieces};
-ghost use Rattle.aprs_booktext.specs.RowFields.{IsWrongFrame, IsWrongRow, list_of, SpellsFrame};
+ghost use Rattle.aprs_booktext.specs.RowFields.{IsWrongFrame, IsWrongRow, size_in, SpellsFrame};
 ghost use Rattle.aprs_booktext.specs.Text.{row_line, IsBookRow, IsWritable};
 
-use crate::cut::cut;
+use crate::cut::cut_near;
 use crate::fault::BookCause;
-use crate::fields::cut_fields;
 use crate::hexadecimal::{MAX_FRAME, decode_into};
 use crate::scratch::Scratch;
 use aprs_ax25::Frame;
@@ -24,39 +23,61 @@ pub fn read_row<'l>(
     ensures ok { IfOk result (λ x. IsBookRow form x × (line.now ≡ row_line form x)) }
     ensures err { IfErr result (λ cause. IsWrongRow form line.now cause) }
 {
-    let Some(fields) = cut_fields(line) else {
+    let Some(rest) = cut_tag(line) else {
         return Err(BookCause::RowSyntax);
     };
-    if !is_tag(fields.tag) {
-        return Err(BookCause::RowSyntax);
-    }
-    let Some(first) = read_moment(&mut scratch.clock, form, fields.first) else {
+    let Some(first) = cut_moment(&mut scratch.clock, form, rest) else {
         return Err(BookCause::RowSyntax);
     };
-    let Some(last) = read_moment(&mut scratch.clock, form, fields.last) else {
+    let Some(last) = cut_moment(&mut scratch.clock, form, first.1) else {
         return Err(BookCause::RowSyntax);
     };
-    if !are_names(fields.receivers) {
+    let Some((receivers, rest)) = cut_names(last.1) else {
         return Err(BookCause::RowSyntax);
-    }
-    if !is_name(fields.receiver) {
+    };
+    let Some((receiver, digits)) = cut_name(rest) else {
         return Err(BookCause::RowSyntax);
-    }
-    read_frame(&mut scratch.bytes, &mut scratch.frame, fields.frame)?;
-    Ok(RowView::new(
-        first,
-        last,
-        fields.receivers,
-        fields.receiver,
-        &scratch.frame,
-    ))
+    };
+    read_frame(&mut scratch.bytes, &mut scratch.frame, digits)?;
+    Ok(RowView::new(first.0, last.0, receivers, receiver, &scratch.frame))
 }
 
-/// Whether the field says that the line is a row's.
-fn is_tag(field: &[u8]) -> bool
-    ensures { IsTrue result ↔ (field.now ≡ codes "T") }
+/// What follows the tag of a row's line, `T`, and a space.
+fn cut_tag(line: &[u8]) -> Option<&[u8]>
+    ensures some { IfSome result (λ rest. line.now ≡ 84 ∷ 32 ∷ rest.now) }
+    ensures none { IfNone result ((rest : List ℕ) → line.now ≢ 84 ∷ 32 ∷ rest) }
 {
-    field == b"T".as_slice()
+    if line.len() < 2 || line[0] != b'T' || line[1] != b' ' {
+        return None;
+    }
+    Some(&line[2..])
+}
+
+/// The moment in this form that a text begins with, and what follows the space after it.
+fn cut_moment<'l>(clock: &mut Clock, form: MomentForm, text: &'l [u8]) -> Option<(Moment, &'l [u8])>
+    ensures some { IfSome result (λ p. IsWritable form p.0
+        × (text.now ≡ moment_text_in form p.0 ++ 32 ∷ p.1.now)) }
+    ensures none { IfNone result ((m : ℕ) (rest : List ℕ) → IsWritable form m
+        → text.now ≢ moment_text_in form m ++ 32 ∷ rest) }
+{
+    let size = size_in(form);
+    if text.len() <= size || text[size] != b' ' {
+        return None;
+    }
+    match read_moment(clock, form, &text[..size]) {
+        Some(moment) => Some((moment, &text[size + 1..])),
+        None => None,
+    }
+}
+
+/// The bytes of a moment in this form.
+fn size_in(form: MomentForm) -> usize
+    ensures { result ≡ size_in form }
+{
+    match form {
+        MomentForm::Seconds => 20,
+        MomentForm::Millis => 24,
+    }
 }
 
 /// The moment that a field spells in this form.
@@ -73,12 +94,42 @@ fn read_moment(clock: &mut Clock, form: MomentForm, field: &[u8]) -> Option<Mome
     }
 }
 
+/// The names of receivers, with commas between, that a text begins with, and what follows the space
+/// after them.
+fn cut_names(text: &[u8]) -> Option<(&[u8], &[u8])>
+    ensures some { IfSome result (λ p. All IsName (pieces 44 p.0.now)
+        × (text.now ≡ p.0.now ++ 32 ∷ p.1.now)) }
+    ensures none { IfNone result ((names rest : List ℕ) → All IsName (pieces 44 names)
+        → text.now ≢ names ++ 32 ∷ rest) }
+{
+    let (names, rest) = cut_near(text, b' ')?;
+    if are_names(names) {
+        Some((names, rest))
+    } else {
+        None
+    }
+}
+
+/// The name of a receiver that a text begins with, and what follows the space after it.
+fn cut_name(text: &[u8]) -> Option<(&[u8], &[u8])>
+    ensures some { IfSome result (λ p. IsName p.0.now × (text.now ≡ p.0.now ++ 32 ∷ p.1.now)) }
+    ensures none { IfNone result ((name rest : List ℕ) → IsName name
+        → text.now ≢ name ++ 32 ∷ rest) }
+{
+    let (name, rest) = cut_near(text, b' ')?;
+    if is_name(name) {
+        Some((name, rest))
+    } else {
+        None
+    }
+}
+
 /// Whether each part of a field, with commas between, is a receiver's name.
 fn are_names(field: &[u8]) -> bool
     ensures { IsTrue result ↔ All IsName (pieces 44 field.now) }
 {
     let mut rest = field;
-    while let Some((piece, after)) = cut(rest, b',') {
+    while let Some((piece, after)) = cut_near(rest, b',') {
         if !is_name(piece) {
             return false;
         }

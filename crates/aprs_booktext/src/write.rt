@@ -1,5 +1,5 @@
 //! Writing a book.
-ghost use Rattle.std.specs.Prelude.{◌≡◌, ◌<◌, ◌≤◌, ◌+◌, ◌*◌, ◌++◌, ◌∷◌, [], All, codes, length, map, flat_map, OnOk};
+ghost use Rattle.std.specs.Prelude.{◌≡◌, ◌<◌, ◌≤◌, ◌+◌, ◌*◌, ◌++◌, ◌∷◌, [], All, codes, length, map, flat_map, take, OnOk};
 ghost use Rattle.std.specs.List.{join_with_byte};
 ghost use Rattle.hex.specs.Hex.{encode_lower, IsBytes};
 ghost use Rattle.arrayvec.specs.ArrayVec.{array_vec_len};
@@ -16,24 +16,23 @@ ghost use Rattle.aprs_booktext.specs.Version.{header_of};
 ghost use Rattle.aprs_booktext.specs.declared.version.Version.TheVariants.{Three};
 
 use crate::end_line::{END_LINE, end_line};
-use crate::hexadecimal::{MAX_DIGITS, MAX_FRAME};
 use crate::version::{MAX_HEADER, Version};
 use aprs_book::{Book, Gap, Row};
-use aprs_io::{Counted, Outlet, WriteFault, encode_to, push_all};
+use aprs_io::{Counted, Outlet, WriteFault, encode_to, push_all, put};
 use aprs_log::{Moment, Receiver};
 use aprs_rows::RowView;
 use arrayvec::ArrayVec;
 use std::alloc::Allocator;
 use std::io::Write;
 
-/// The most bytes of a row's line before its receivers.
+/// The bytes of a row's line before its receivers.
 const ROW_HEAD: usize = 52;
 
 /// The most bytes of a further receiver in a row's line, with the comma before it.
 const MAX_FURTHER: usize = 17;
 
 /// The most bytes of a row's line after its receivers, with the LF.
-const ROW_TAIL: usize = 675;
+pub(crate) const ROW_TAIL: usize = 675;
 
 /// Writes a book as its text of version 3: a header with the book's gap in seconds, a line for each
 /// row, with its moments to the millisecond, and a last line with their number.
@@ -73,65 +72,82 @@ fn put_rows<W: Write, A: Allocator + Copy>(
     ensures puts { Puts W.contents result out.old out.new (flat_map line_and_lf book.now.rows) }
     ensures spelled { OnOk result (IsBookRows (written_version book.now) book.now.rows) }
 {
+    let mut room = [0; ROW_TAIL];
     for row in book.rows() {
-        put_book_row(out, &row)?;
+        put_book_row(out, &mut room, &row)?;
     }
     Ok(())
 }
 
-/// Puts the line of a book's row.
-fn put_book_row<W: Write>(out: &mut Outlet<'_, W>, row: &Row<'_>) -> Result<(), WriteFault>
+/// Puts the line of a book's row. The room is kept from row to row.
+fn put_book_row<W: Write>(
+    out: &mut Outlet<'_, W>,
+    room: &mut [u8; ROW_TAIL],
+    row: &Row<'_>,
+) -> Result<(), WriteFault>
     ensures puts { Puts W.contents result out.old out.new (ended_by_lf (row_line Millis row.now)) }
     ensures spelled { OnOk result (0 < length row.now.receivers → IsBookRow Millis row.now) }
 {
-    out.put(row_head(row.first, row.last).as_slice())?;
+    out.put(&row_head(row.first, row.last))?;
     put_names(out, row.receivers)?;
-    out.put(row_tail(row.receiver.as_bytes(), row.frame.bytes()).as_slice())
+    out.put(row_tail(room, row.receiver.as_bytes(), row.frame.bytes()))
 }
 
-/// Puts the line of a row in bytes.
+/// Puts the line of a row in bytes. The room is kept from row to row.
 pub(crate) fn put_row<W: Write>(
     out: &mut Outlet<'_, W>,
+    room: &mut [u8; ROW_TAIL],
     row: &RowView<'_>,
 ) -> Result<(), WriteFault>
     ensures puts { Puts W.contents result out.old out.new (ended_by_lf (row_line Millis row.now)) }
     ensures spelled { OnOk result (0 < length row.now.receivers → IsBookRow Millis row.now) }
 {
-    out.put(row_head(row.first(), row.last()).as_slice())?;
+    out.put(&row_head(row.first(), row.last()))?;
     out.put(row.receivers())?;
-    out.put(row_tail(row.receiver(), row.frame()).as_slice())
+    out.put(row_tail(room, row.receiver(), row.frame()))
 }
 
 /// The part before the receivers in a row's line.
-fn row_head(first: Moment, last: Moment) -> ArrayVec<u8, ROW_HEAD>
-    ensures text { result.items
+fn row_head(first: Moment, last: Moment) -> [u8; ROW_HEAD]
+    ensures text { result
         ≡ codes "T " ++ moment_text first ++ 32 ∷ moment_text last ++ 32 ∷ [] }
     ensures moments { IsWritable Millis first × IsWritable Millis last }
 {
-    let mut text = ArrayVec::new();
-    push_all(&mut text, b"T ");
-    push_all(&mut text, &first.text());
-    push_all(&mut text, b" ");
-    push_all(&mut text, &last.text());
-    push_all(&mut text, b" ");
+    let mut text = [b' '; ROW_HEAD];
+    text[0] = b'T';
+    text[2..26].copy_from_slice(&first.text());
+    text[27..51].copy_from_slice(&last.text());
     text
 }
 
-/// The part after the receivers in a row's line, with the LF.
-fn row_tail(receiver: &[u8], frame: &[u8]) -> ArrayVec<u8, ROW_TAIL>
+/// The part after the receivers in a row's line, with the LF, at the start of a room.
+fn row_tail<'r>(room: &'r mut [u8; ROW_TAIL], receiver: &[u8], frame: &[u8]) -> &'r [u8]
     requires name { IsName receiver.now }
     requires frame { FrameOf (parts_of frame.now) frame.now }
-    ensures text { result.items
+    ensures text { result.now
         ≡ 32 ∷ receiver.now ++ 32 ∷ encode_lower frame.now ++ 10 ∷ [] }
     ensures spelled { AreSpelled receiver.now frame.now }
 {
-    let mut text = ArrayVec::new();
-    push_all(&mut text, b" ");
-    push_all(&mut text, receiver);
-    push_all(&mut text, b" ");
-    push_hex(&mut text, frame);
-    push_all(&mut text, b"\n");
-    text
+    room[0] = b' ';
+    let space = put(room, 1, receiver);
+    room[space] = b' ';
+    let end = put_hex(room, space + 1, frame);
+    room[end] = b'\n';
+    &room[..end + 1]
+}
+
+/// Puts the digits of a frame's bytes at a place of a room, over those that are there, and returns
+/// the place after them.
+fn put_hex(room: &mut [u8], at: usize, bytes: &[u8]) -> usize
+    requires { at + 2 * length bytes.now ≤ length room.old }
+    ensures end { result ≡ at + 2 * length bytes.now }
+    ensures len { length room.new ≡ length room.old }
+    ensures digits { take result room.new ≡ take at room.old ++ encode_lower bytes.now }
+    ensures bytes { IsBytes bytes.now }
+{
+    let end = at + 2 * bytes.len();
+    encode_to(bytes, &mut room[at..end]);
+    end
 }
 
 /// Puts names with commas between.
@@ -187,18 +203,4 @@ pub(crate) fn end_line_and_lf(rows: usize) -> ArrayVec<u8, END_LINE>
     let mut text = end_line(rows);
     push_all(&mut text, b"\n");
     text
-}
-
-/// Puts the digits of a frame's bytes after what is there.
-fn push_hex(out: &mut ArrayVec<u8, ROW_TAIL>, bytes: &[u8])
-    requires few { length bytes.now ≤ MAX_FRAME }
-    requires room { array_vec_len out.old ≤ 18 }
-    ensures items { out.new.items ≡ out.old.items ++ encode_lower bytes.now }
-    ensures bytes { IsBytes bytes.now }
-    ensures len { array_vec_len out.new ≡ array_vec_len out.old + 2 * length bytes.now }
-{
-    let mut digits = [0; MAX_DIGITS];
-    let digits = &mut digits[..2 * bytes.len()];
-    encode_to(bytes, digits);
-    push_all(out, digits);
 }

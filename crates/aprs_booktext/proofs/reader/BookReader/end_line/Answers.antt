@@ -1,17 +1,22 @@
-use Rattle.aprs_booktext.proofs.Standing.{ended_stands, ended_fault}
+use Rattle.std.proofs.Common.{◌+◌, ◌++◌, ◌∷◌, length, arith}
+use Rattle.std.proofs.lemmas.Result.{err_from_is_err_and, IfErr-weaker}
+use Rattle.aprs_booktext.proofs.Standing.{fault_near}
 use Rattle.aprs_booktext.proofs.reader.BookReader.end_line.Goals as goal
 
-pub returns-in-Ok-clause-stands : goal.returns-in-Ok-clause-stands
-returns-in-Ok-clause-stands g c = λ before t s. rw c.clear.ensures.items
-    (let j = c.in-Ok.ensures.judged before s.rows s.has in
-    record {
-      rows = j.rows;
-      has = j.has;
-      holds = ended_stands _ _ _ _ _ t j.holds s.holds;
-    })
+pub returns-then-not-is_done-clause-fault : goal.returns-then-not-is_done-clause-fault
+returns-then-not-is_done-clause-fault g c = IfErr-weaker c.take_line.result _ _
+    (λ f fault before t more s lacks. fault_near _ (length c.args.part.now + (length more + 1)) f _
+    (omega arith) (fault before t more s lacks)) c.take_line.ensures.fault
 
-pub returns-in-Err-clause-fault : goal.returns-in-Err-clause-fault
-returns-in-Err-clause-fault g c = λ before t more s.
-    let j = c.in-Err.ensures.judged before s.rows s.has in
-    rw (c.fault.ensures, c.in-Err.ensures.stage, j.has.counted)
-    (ended_fault _ _ _ _ t more _ j.holds s.holds)
+pub returns-in_err-append-clause-fault : goal.returns-in_err-append-clause-fault
+returns-in_err-append-clause-fault g c =
+    let p = err_from_is_err_and c.from_residual.result c.from_residual.ensures.1 in
+    rw (p.1, p.2) (λ before t more s lacks.
+    fault_near _ (length c.args.part.now + (length more + 1)) _ _ (omega arith)
+    (c.in_err-append.ensures.fault before c.args.store.now t (10 ∷ more) s))
+
+pub returns-clause-fault : goal.returns-clause-fault
+returns-clause-fault g c = IfErr-weaker c.take_held.result _ _
+    (λ f fault before t more s lacks. fault_near _ (length c.args.part.now + (length more + 1)) f _
+    (omega arith) (fault before (t ++ c.args.part.now) more
+    (c.in_ok-append.ensures.stands before c.args.store.now t s lacks))) c.take_held.ensures.fault
