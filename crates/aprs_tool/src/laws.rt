@@ -2,8 +2,8 @@
 //! listing. The functions do nothing: what they ensure are the laws.
 ghost use Rattle.std.specs.Prelude.{ℕ};
 ghost use Rattle.aprs_laws.specs.Gap.{IsGap};
+ghost use Rattle.aprs_tool.specs.Merge.{AreBooksOfUnions, HaveOneMerge};
 ghost use Rattle.aprs_tool.specs.Show.{ListingsTellPositions};
-ghost use Rattle.aprs_tool.specs.StandsFor.{AreBooksOfUnions, HaveOneMerge};
 
 /// Under one gap, inputs that stand for sets with the same members have one book, and `merge_run`
 /// writes the same bytes of them: in any order, with repeats, and some of them through books that
