@@ -17,7 +17,7 @@ module _ {W : Type 0} (Stand : List Heard → Type 0) (Tells : List Heard → Li
 
   pub sent : Sends {E = RunFault} contents (Ok tt) old new text
       → SendsFor Stand Tells contents (Ok tt) old new
-  sent p = (some.0, text, some.1, tells some.0 some.1, p)
+  sent p = record { some = some; text = text; tells = tells; went = p }
 
   -- or a prefix of it
   pub cut_short : Sends {E = RunFault} contents (Err Write) old new text
@@ -26,4 +26,4 @@ module _ {W : Type 0} (Stand : List Heard → Type 0) (Tells : List Heard → Li
 
   pub refused : Sends {E = RunFault} contents (Err Write) old new text
       → SendsFor Stand Tells contents (Err Write) old new
-  refused p = (some.0, text, some.1, tells some.0 some.1, p)
+  refused p = record { some = some; text = text; tells = tells; went = p }

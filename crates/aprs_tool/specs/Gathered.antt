@@ -1,5 +1,5 @@
 -- What was gathered of inputs. No public clause cites this module.
-use Rattle.std.specs.Prelude.{◌≡◌, ◌≢◌, ℕ, List, [], Option, Result, Ok, Err}
+use Rattle.std.specs.Prelude.{◌≡◌, ◌≢◌, ℕ, List, [], length, Option, Result, Ok, Err}
 use Rattle.aprs_io.specs.Device.{Sends}
 use Rattle.aprs_io.specs.declared.device.Counted.{Counted}
 use Rattle.aprs_laws.specs.BookValue.{BookValue}
@@ -7,6 +7,7 @@ use Rattle.aprs_laws.specs.Gap.{millis_of}
 use Rattle.aprs_laws.specs.JoinRow.{merge}
 use Rattle.aprs_laws.specs.Row.{Row}
 use Rattle.aprs_booktext.specs.Text.{written_text}
+use Rattle.aprs_tool.specs.Devices.{ReadsFirst, StopsAt}
 use Rattle.aprs_tool.specs.Merge.{IsBookOfAll}
 use Rattle.aprs_tool.specs.Several.{GotOf, IsFirstRefused}
 use Rattle.aprs_tool.specs.declared.fault.InputFault.{InputFault}
@@ -33,3 +34,10 @@ abbrev pub ReadsEach : {limit : ℕ} → ℕ → Result BookValue (ℕ × InputF
     → Type 0
 ReadsEach gap (Ok book) gots = (book.gap ≡ gap) × IsBookOfAll gap book.rows gots
 ReadsEach gap (Err refused) gots = IsFirstRefused gap gots refused.0 refused.1
+
+-- All inputs were read to their ends, or those before the one that is refused, and that one to its
+-- fault.
+abbrev pub ReadsAll : {A R : Type 0} → Result A (ℕ × InputFault) → List (Counted R)
+    → List (Counted R) → Type 0
+ReadsAll (Ok value) old new = ReadsFirst (length old) old new
+ReadsAll (Err refused) old new = StopsAt refused.0 refused.1 old new

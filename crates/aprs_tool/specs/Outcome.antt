@@ -27,18 +27,13 @@ WritesFor Stand Tells contents (Err Write) old new =
     Writes Stand Tells (AppendsPrefix (contents old.device) (contents new.device))
 WritesFor Stand Tells contents other old new = Unit {0}
 
--- The output was called as it is to send a text that one of the sets has.
-abbrev pub SendsOne : {W : Type 0} → (List Heard → Type 0) → (List Heard → List ℕ → Type 0)
-    → (W → Option (List ℕ)) → Result (Unit {0}) RunFault → Counted W → Counted W → Type 0
-SendsOne Stand Tells contents answer old new = (S : List Heard) × (text : List ℕ)
-    × Stand S × Tells S text × Sends contents answer old new text
-
--- So it was where the text was written, and where it was refused.
+-- So it was sent, with as many calls of the output and failed tries as `Sends` allows.
 abbrev pub SendsFor : {W : Type 0} → (List Heard → Type 0) → (List Heard → List ℕ → Type 0)
     → (W → Option (List ℕ)) → Result (Unit {0}) RunFault → Counted W → Counted W → Type 0
-SendsFor Stand Tells contents (Ok u) old new = SendsOne Stand Tells contents (Ok u) old new
+SendsFor Stand Tells contents (Ok u) old new =
+    Writes Stand Tells (Sends {E = RunFault} contents (Ok u) old new)
 SendsFor Stand Tells contents (Err Write) old new =
-    SendsOne Stand Tells contents (Err Write) old new
+    Writes Stand Tells (Sends contents (Err Write) old new)
 SendsFor Stand Tells contents other old new = Unit {0}
 
 -- An input is refused for its fault, or an allocation failed for what is written of the inputs,

@@ -1,7 +1,6 @@
 //! What a merge writes depends on the set of receptions alone, and so do the positions in a
 //! listing. The functions do nothing: what they ensure are the laws.
 ghost use Rattle.std.specs.Prelude.{ℕ};
-ghost use Rattle.aprs_laws.specs.Gap.{IsGap};
 ghost use Rattle.aprs_tool.specs.Merge.{AreBooksOfUnions, HaveOneMerge};
 ghost use Rattle.aprs_tool.specs.Show.{ListingsTellPositions};
 
@@ -10,8 +9,8 @@ ghost use Rattle.aprs_tool.specs.Show.{ListingsTellPositions};
 /// were written before. A log stands for its receptions, and the text of a book for each set whose
 /// book it is.
 pub fn same_receptions_same_bytes()
-    ensures book { (gap : ℕ) → IsGap gap → AreBooksOfUnions gap }
-    ensures one { (gap : ℕ) → IsGap gap → HaveOneMerge gap }
+    ensures book { (gap : ℕ) → AreBooksOfUnions gap }
+    ensures one { (gap : ℕ) → HaveOneMerge gap }
 {}
 
 /// In the listing of any set of receptions under any gap, each station's line is followed by the

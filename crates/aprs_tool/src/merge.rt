@@ -1,8 +1,8 @@
 //! The merge of several inputs.
 ghost use Rattle.std.specs.Prelude.{◌≡◌, ◌≢◌, ◌-◌, ◌<◌, ◌≤◌, [], length, Err, IfOk};
 ghost use Rattle.aprs_io.specs.Input.{most_input};
-ghost use Rattle.aprs_tool.specs.Devices.{AsksEach, CallsOutput, ReadsAll};
-ghost use Rattle.aprs_tool.specs.Gathered.{ReadsEach};
+ghost use Rattle.aprs_tool.specs.Devices.{AsksEach, CallsOutput};
+ghost use Rattle.aprs_tool.specs.Gathered.{ReadsAll, ReadsEach};
 ghost use Rattle.aprs_tool.specs.Merge.{IsTextOfBook};
 ghost use Rattle.aprs_tool.specs.Outcome.{RefusesFor, SendsFor, WritesFor};
 ghost use Rattle.aprs_tool.specs.Several.{GiveUnion, IsFirstRefused, OfEach};
