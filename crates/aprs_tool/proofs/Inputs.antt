@@ -1,5 +1,5 @@
 -- Lemmas on inputs, of which the first bytes are known.
-use Rattle.std.proofs.Common.{◌≡◌, ℕ, zero, suc, get_or, ◌^◌, ◌<◌, ◌≤◌, Bool, true, false, not, List, [], ◌∷◌, ◌++◌, length, map, take, drop, codes, Option, None, Some, Result, Ok, Err, IfSome, inl, inr, refl, ap, sym, ◌∙◌, append_assoc, append-nil, length-append, subst, arith}
+use Rattle.std.proofs.Common.{◌≡◌, ℕ, zero, suc, get_or, ◌<◌, Bool, true, false, not, List, [], ◌∷◌, ◌++◌, length, map, take, drop, codes, Option, None, Some, Result, Ok, Err, IfSome, inl, inr, refl, ap, sym, ◌∙◌, append_assoc, append-nil, length-append, subst, arith}
 use Rattle.std.proofs.Math.Seq.{take-append_seam}
 use Rattle.std.proofs.lemmas.Bool.Decides.{Decides-eqb}
 use Rattle.std.proofs.lemmas.Slice.Eq.{bytes_eq-Decides, starts_is}
@@ -16,7 +16,7 @@ use Rattle.aprs_laws.specs.Witnesses.{witnesses}
 use Rattle.aprs_laws.specs.Row.{Row}
 use Rattle.aprs_laws.specs.Sound.{Sound}
 use Rattle.aprs_laws.proofs.Soundness.{witnessed}
-use Rattle.aprs_io.specs.Input.{Gets, most_input}
+use Rattle.aprs_io.specs.Input.{Gets}
 use Rattle.aprs_io.specs.declared.input.Ending.{Ending}
 use Rattle.aprs_io.specs.declared.input.Ending.TheVariants as ending
 use Rattle.aprs_log.specs.LogAnswers.{ended, log_answers, receptions_of}
@@ -27,12 +27,12 @@ use Rattle.aprs_booktext.specs.Version.{gap_of, IsVersion}
 use Rattle.aprs_booktext.specs.declared.version.Version.{Version}
 use Rattle.aprs_booktext.specs.declared.version.Version.TheVariants.{One, Two, Three}
 use Rattle.aprs_booktext.specs.declared.fault.BookFault.{BookFault}
-use Rattle.aprs_booktext.proofs.Accepting.{rows_few}
-use Rattle.aprs_booktext.proofs.OneText.{cut_short}
-use Rattle.aprs_log.specs.Reception.{Heard}
 use Rattle.aprs_tool.specs.Head.{IsHead}
 use Rattle.aprs_convert.specs.Got.{HoldsOfGot, OfGot}
-use Rattle.aprs_tool.specs.Inputs.{AreMembers, is_book_file, IsFaultOf, IsRefused, ReadsInput}
+use Rattle.aprs_tool.specs.InputBook.{IsGapOf, ReadsInput}
+use Rattle.aprs_tool.specs.Inputs.{GivesSet, is_book_file}
+use Rattle.aprs_tool.specs.Refused.{IsFaulty}
+use Rattle.aprs_tool.proofs.Sets.{log_of, set_book}
 use Rattle.aprs_tool.specs.InputRows.{GivesRows, ReadsLog, ReadsRows}
 use Rattle.aprs_tool.specs.declared.fault.InputFault.{InputFault}
 use Rattle.aprs_tool.specs.declared.fault.InputFault.TheVariants.{Log, Book, Memory, OtherGap, Narrower}
@@ -125,22 +125,10 @@ short_is_log t short = by (is_book_file t) refl
 
 -- ---- a log
 
-faultless_log : (t : List ℕ) (c : Ending) → is_book_file t ≡ false → (log_answers t c).fault ≡ None
-    → (e : InputFault) → IsFaultOf e t c → ⊥
-faultless_log t c is none (Log f) h = let x : None ≡ Some f = sym none ∙ h.1 in cc
-faultless_log t c is none (Book f) h = let x : false ≡ true = sym is ∙ h.0 in cc
-faultless_log t c is none Memory h = h
-faultless_log t c is none OtherGap h = h
-faultless_log t c is none Narrower h = h
-
-members_log : (gap : ℕ) (t : List ℕ) (c : Ending) → is_book_file t ≡ false
-    → AreMembers gap t c (receptions_of (log_answers t c).given)
-members_log gap t c is = inr (is, refl)
-
 pub refused_log : (e : InputFault) (old new : List Row) (t : List ℕ) (c : Ending)
-    → is_book_file t ≡ false → ReadsLog (Err e) old new t c → IsRefused e t c
-refused_log (Log f) old new t c is h = inr (is, h)
-refused_log Memory old new t c is h = inl is
+    → is_book_file t ≡ false → ReadsLog (Err e) old new t c → IsFaulty e t c
+refused_log (Log f) old new t c is h = (is, h)
+refused_log Memory old new t c is h = is
 refused_log (Book f) old new t c is h = absurd h
 refused_log OtherGap old new t c is h = absurd h
 refused_log Narrower old new t c is h = absurd h
@@ -150,12 +138,11 @@ pub gives_log : (asked : ℕ) (old new : List Row) (t : List ℕ) (c : Ending)
     → is_book_file t ≡ false → ReadsLog (Ok tt) old new t c → GivesRows asked asked old new t c
 gives_log asked old new t c is h =
     let heard = receptions_of (log_answers t c).given in record {
-      faultless = faultless_log t c is h.0;
       gap_is = λ log. refl;
       rows = map single heard;
       new_is = h.1;
       set = heard;
-      members = members_log asked t c is;
+      gives = inr (is, log_of t c h.0);
       stand = singles_stand heard;
     }
 
@@ -165,23 +152,15 @@ pub read_alone : (asked : ℕ) (b : BookValue) (old rows : List Row) (t : List �
     → ReadsLog (Ok tt) old rows t c → ReadsInput asked (Ok b) t c
 read_alone asked b old rows t c is its none holds h =
     let heard = receptions_of (log_answers t c).given in
-    let all : rows ≡ map single heard = h.1 ∙ ap (λ T. T ++ map single heard) none in (
-      faultless_log t c is h.0,
-      (
-        λ log. its,
-        heard,
-        members_log b.gap t c is,
-        book_carries (millis_of b.gap) (witnesses (map single heard)) heard b.rows
-            (singles_stand heard).members
-            (subst (λ rs. BookOf (millis_of b.gap) (witnesses rs) b.rows) all holds),
-      ),
+    let all : rows ≡ map single heard = h.1 ∙ ap (λ T. T ++ map single heard) none in
+    let gives : GivesSet b.gap t c heard = inr (is, log_of t c h.0) in (
+      λ log. its,
+      (heard, gives),
+      λ S set. set_book b.gap t c S heard b.rows set gives
+          (book_carries (millis_of b.gap) (witnesses (map single heard)) heard b.rows
+          (singles_stand heard).members
+          (subst (λ rs. BookOf (millis_of b.gap) (witnesses rs) b.rows) all holds)),
     )
-
--- and so it is where the log has no receptions
-pub read_empty : (asked : ℕ) (b : BookValue) (t : List ℕ) (c : Ending)
-    → is_book_file t ≡ false → b.gap ≡ asked → Holds [] b → ReadsLog (Ok tt) [] [] t c
-    → ReadsInput asked (Ok b) t c
-read_empty asked b t c is its holds h = read_alone asked b [] [] t c is its refl holds h
 
 -- what was got of one is read as a log's text
 pub log_input : (known after : Option (List ℕ)) (limit : ℕ) (head : List ℕ) (P Q : List ℕ → Ending
@@ -212,35 +191,6 @@ short_empty t c rows e = (
 
 -- ---- a book file
 
-faultless_book : (v : Version) (rows : List Row) → IsBookRows v rows
-    → length (book_text v rows) ≤ most_input
-    → is_book_file (book_text v rows) ≡ true → (e : InputFault)
-    → IsFaultOf e (book_text v rows) ending.End → ⊥
-faultless_book v rows is fits b (Book f) h =
-    let text = book_text v rows in
-    let small : length rows < 2 ^ 64 = omega (arith, fits, rows_few v rows) in
-    (cut_short v rows is small [] ending.End f.cause text f (append-nil text) refl h.1).1 refl refl
-faultless_book v rows is fits b (Log f) h = let x : true ≡ false = sym b ∙ h.0 in cc
-faultless_book v rows is fits b Memory h = h
-faultless_book v rows is fits b OtherGap h = h
-faultless_book v rows is fits b Narrower h = h
-
-members_book : (gap : ℕ) (v : Version) (rows : List Row) → gap_of v ≡ gap → IsBookRows v rows
-    → is_book_file (book_text v rows) ≡ true → AreMembers gap (book_text v rows) ending.End
-    (witnesses rows)
-members_book gap v rows same is b =
-    inl (
-      b,
-      record {
-        version = v;
-        gap_is = same;
-        rows = rows;
-        is_book = is;
-        text_is = refl;
-        receptions_are = refl;
-      },
-    )
-
 book_begins : (v : Version) (rows : List Row) → is_book_file (book_text v rows) ≡ true
 book_begins One rows = is_book (book_text One rows) (drop 8 (book_text One rows)) refl
 book_begins Two rows = is_book (book_text Two rows) (drop 8 (book_text Two rows)) refl
@@ -253,53 +203,64 @@ gap_positive One is = omega arith
 gap_positive Two is = omega arith
 gap_positive (Three gap) is = is.0
 
+-- it stands for the witnesses of its rows
+gives_file : (own : ℕ) (v : Version) (rows : List Row) → own ≡ gap_of v → IsBookRows v rows
+    → GivesSet own (book_text v rows) ending.End (witnesses rows)
+gives_file own v rows same is = inl (
+  book_begins v rows,
+  record {
+    version = v;
+    rows = rows;
+    gap_is = sym same;
+    sound = is;
+    text_is = refl;
+    whole = refl;
+    book = let positive = gap_positive v is.version in
+        witnessed (millis_of own) rows (omega (arith, positive, same))
+        (subst (λ g. Sound (millis_of g) rows) (sym same) is.sound);
+  },
+)
+
+-- no log begins so
+its_own : (asked own : ℕ) (v : Version) (rows : List Row) → IsGapOf asked (book_text v rows) own
+its_own asked own v rows log = let x : true ≡ false = sym (book_begins v rows) ∙ log in cc
+
 reads_book : (asked : ℕ) (b : BookValue) (v : Version) → b.gap ≡ gap_of v → IsBookRows v b.rows
-    → length (book_text v b.rows) ≤ most_input
     → ReadsInput asked (Ok b) (book_text v b.rows) ending.End
-reads_book asked b v same is fits =
-    let begin = book_begins v b.rows in
+reads_book asked b v same is =
+    let gives = gives_file b.gap v b.rows same is in
     let positive = gap_positive v is.version in (
-      faultless_book v b.rows is fits begin,
-      (
-        λ log. let x : true ≡ false = sym begin ∙ log in cc,
-        witnesses b.rows,
-        members_book b.gap v b.rows (sym same) is begin,
-        witnessed (millis_of b.gap) b.rows (omega (arith, positive, same))
-            (subst (λ g. Sound (millis_of g) b.rows) (sym same) is.sound),
-      ),
+      its_own asked b.gap v b.rows,
+      (witnesses b.rows, gives),
+      λ S set. set_book b.gap (book_text v b.rows) ending.End S (witnesses b.rows) b.rows set gives
+          (witnessed (millis_of b.gap) b.rows (omega (arith, positive, same))
+          (subst (λ g. Sound (millis_of g) b.rows) (sym same) is.sound)),
     )
 
 -- the rows of a book stand for their witnesses
 gives_book : (asked own : ℕ) (old new rows : List Row) (v : Version) → own ≡ gap_of v
-    → IsBookRows v rows → length (book_text v rows) ≤ most_input → new ≡ old ++ rows
+    → IsBookRows v rows → new ≡ old ++ rows
     → GivesRows asked own old new (book_text v rows) ending.End
-gives_book asked own old new rows v same is fits e =
-    let begin = book_begins v rows in record {
-      faultless = faultless_book v rows is fits begin;
-      gap_is = λ log. let x : true ≡ false = sym begin ∙ log in cc;
-      rows = rows;
-      new_is = e;
-      set = witnesses rows;
-      members = members_book own v rows (sym same) is begin;
-      stand = books_stand (millis_of (gap_of v)) rows is.sound;
-    }
+gives_book asked own old new rows v same is e = record {
+  gap_is = its_own asked own v rows;
+  rows = rows;
+  new_is = e;
+  set = witnesses rows;
+  gives = gives_file own v rows same is;
+  stand = books_stand (millis_of (gap_of v)) rows is.sound;
+}
 
 -- ---- what was got of a book file
 
-module _ (limit : ℕ) (input : List ℕ) (after : Option (List ℕ)) (small : limit ≤ most_input) where
+module _ (limit : ℕ) (input : List ℕ) (after : Option (List ℕ)) where
   pub refused_book : (f : BookFault) → Reads limit mark input after (Err f)
-      → HoldsOfGot limit (mark ++ input) after (IsRefused (Book f))
-  refused_book f h =
-      let is = is_book (mark ++ h.got) h.got refl in
-      record {
-        text = mark ++ h.got;
-        ending = h.ending;
-        gets = h.gets;
-        holds = elim h.reads [
-          | inl memory ↦ inl (is, memory)
-          | inr first ↦ inr (is, first)
-        ];
-      }
+      → HoldsOfGot limit (mark ++ input) after (IsFaulty (Book f))
+  refused_book f h = record {
+    text = mark ++ h.got;
+    ending = h.ending;
+    gets = h.gets;
+    holds = (is_book (mark ++ h.got) h.got refl, h.reads);
+  }
 
   pub read_book : (asked : ℕ) (b : BookValue) → Reads limit mark input after (Ok b)
       → HoldsOfGot limit (mark ++ input) after (ReadsInput asked (Ok b))
@@ -312,7 +273,7 @@ module _ (limit : ℕ) (input : List ℕ) (after : Option (List ℕ)) (small : l
         text = book_text v b.rows;
         ending = ending.End;
         gets = gets;
-        holds = reads_book asked b v h.reads.1 h.reads.3 (omega (arith, small, gets.ends.1));
+        holds = reads_book asked b v h.reads.1 h.reads.3;
       }
 
   pub rows_read : (asked own : ℕ) (old new : List Row) → new ≡ old ++ rows_after old new
@@ -328,41 +289,38 @@ module _ (limit : ℕ) (input : List ℕ) (after : Option (List ℕ)) (small : l
         text = book_text v rows;
         ending = ending.End;
         gets = gets;
-        holds = gives_book asked own old new rows v h.reads.1 h.reads.3
-            (omega (arith, small, gets.ends.1)) e;
+        holds = gives_book asked own old new rows v h.reads.1 h.reads.3 e;
       }
 
 -- where its bytes may not be known
 pub rows_input : (asked own : ℕ) (old new : List Row) (known after : Option (List ℕ)) (limit : ℕ)
-    (head : List ℕ) → limit ≤ most_input → head ≡ mark → new ≡ old ++ rows_after old new
+    (head : List ℕ) → head ≡ mark → new ≡ old ++ rows_after old new
     → IfSome known (λ input. Reads limit head input after
     (Ok (record { gap = own; rows = rows_after old new })))
     → IfSome known (λ input. HoldsOfGot limit (head ++ input) after
     (ReadsRows asked (Ok own) old new))
-rows_input asked own old new None after limit head small is e h = tt
-rows_input asked own old new (Some input) after limit head small is e h =
+rows_input asked own old new None after limit head is e h = tt
+rows_input asked own old new (Some input) after limit head is e h =
     subst (λ l. HoldsOfGot limit (l ++ input) after (ReadsRows asked (Ok own) old new)) (sym is)
-    (rows_read limit input after small asked own old new e
+    (rows_read limit input after asked own old new e
     (subst (λ l. Reads limit l input after
     (Ok (record { gap = own; rows = rows_after old new }))) is h))
 
 pub book_input : (asked : ℕ) (known after : Option (List ℕ)) (limit : ℕ) (head : List ℕ)
-    (b : BookValue) → limit ≤ most_input
-    → head ≡ mark → IfSome known (λ input. Reads limit head input after (Ok b))
+    (b : BookValue) → head ≡ mark → IfSome known (λ input. Reads limit head input after (Ok b))
     → IfSome known (λ input. HoldsOfGot limit (head ++ input) after (ReadsInput asked (Ok b)))
-book_input asked None after limit head b small is h = tt
-book_input asked (Some input) after limit head b small is h =
+book_input asked None after limit head b is h = tt
+book_input asked (Some input) after limit head b is h =
     subst (λ l. HoldsOfGot limit (l ++ input) after (ReadsInput asked (Ok b))) (sym is)
-    (read_book limit input after small asked b (subst (λ l. Reads limit l input after (Ok b)) is h))
+    (read_book limit input after asked b (subst (λ l. Reads limit l input after (Ok b)) is h))
 
 pub refused_input : (known after : Option (List ℕ)) (limit : ℕ) (head : List ℕ) (f : BookFault)
-    → limit ≤ most_input → head ≡ mark
-    → IfSome known (λ input. Reads limit head input after (Err f))
-    → IfSome known (λ input. HoldsOfGot limit (head ++ input) after (IsRefused (Book f)))
-refused_input None after limit head f small is h = tt
-refused_input (Some input) after limit head f small is h =
-    subst (λ l. HoldsOfGot limit (l ++ input) after (IsRefused (Book f))) (sym is)
-    (refused_book limit input after small f (subst (λ l. Reads limit l input after (Err f)) is h))
+    → head ≡ mark → IfSome known (λ input. Reads limit head input after (Err f))
+    → IfSome known (λ input. HoldsOfGot limit (head ++ input) after (IsFaulty (Book f)))
+refused_input None after limit head f is h = tt
+refused_input (Some input) after limit head f is h =
+    subst (λ l. HoldsOfGot limit (l ++ input) after (IsFaulty (Book f))) (sym is)
+    (refused_book limit input after f (subst (λ l. Reads limit l input after (Err f)) is h))
 
 -- what was got is read so
 pub of_got : (known after : Option (List ℕ)) (limit : ℕ) (t : List ℕ) (c : Ending) (P : List ℕ

@@ -1,5 +1,5 @@
 -- Lemmas on an input that is read into a book.
-use Rattle.std.proofs.Common.{◌≡◌, ℕ, List, [], ◌∷◌, ◌++◌, length, Option, None, Some, Ok, Err, IfSome, inl, inr, sym, subst, arith}
+use Rattle.std.proofs.Common.{◌≡◌, ℕ, true, false, Bool, List, [], ◌∷◌, ◌++◌, length, Option, None, Some, Ok, Err, IfSome, inl, inr, refl, sym, subst, arith}
 use Rattle.aprs_laws.specs.Book.{BookOf}
 use Rattle.aprs_laws.specs.BookValue.{BookValue}
 use Rattle.aprs_laws.specs.Gap.{millis_of}
@@ -9,11 +9,14 @@ use Rattle.aprs_laws.proofs.Unions.{around, merged}
 use Rattle.aprs_book.specs.Taking.{MergesInto}
 use Rattle.aprs_laws.specs.declared.merge_fault.MergeFault.{MergeFault}
 use Rattle.aprs_laws.specs.declared.merge_fault.MergeFault.TheVariants as fault
-use Rattle.aprs_log.specs.Reception.{Heard}
 use Rattle.aprs_log.specs.declared.Ending.{Ending}
 use Rattle.aprs_convert.specs.Got.{HoldsOfGot}
-use Rattle.aprs_tool.specs.Inputs.{AreMembers, fault_of_merge, HasOtherGap, IsFaultless, IsGapOf, ReadsInput, RefusesGaps, TakesInput}
+use Rattle.aprs_tool.specs.InputBook.{IsGapOf, ReadsInput, TakesInput}
+use Rattle.aprs_tool.specs.InputRows.{GivesRows, RefusesGaps}
+use Rattle.aprs_tool.specs.Inputs.{GivesSet, is_book_file}
+use Rattle.aprs_tool.specs.Refused.{fault_of_merge, IsNotTaken}
 use Rattle.aprs_tool.specs.declared.fault.InputFault.{InputFault}
+use Rattle.aprs_tool.specs.declared.fault.InputFault.TheVariants.{OtherGap}
 
 -- the book of no receptions becomes the other
 pub merges_empty : (gap : ℕ) (old rows : List Row) → length old ≡ 0 → MergesInto gap old rows rows
@@ -38,37 +41,41 @@ got_so (Some input) after limit whole P Q follows h =
           follows h.text h.ending h.holds;
     }
 
--- ---- an input's book that is merged
+-- ---- an input's book that is merged, or its rows
 
 -- a log is read with the asked gap, so that only a book file has another
-pub other_of : (gap : ℕ) (t : List ℕ) (c : Ending) (other : ℕ) (S : List Heard) → (gap ≡ other → ⊥)
-    → IsFaultless t c → IsGapOf gap t other → AreMembers other t c S → HasOtherGap gap t c
-other_of gap t c other S differs faultless is members = elim members [
-  | inl book ↦ (faultless, book.0, (other, S, λ e. differs (sym e), book.1))
-  | inr log ↦ absurd (differs (sym (is log.0)))
-]
+pub other_gap : (gap : ℕ) (t : List ℕ) (own : ℕ) → (own ≡ gap → ⊥) → IsGapOf gap t own
+    → is_book_file t ≡ true
+other_gap gap t own differs is = by (is_book_file t) refl
+  where
+    by : (b : Bool) → is_book_file t ≡ b → is_book_file t ≡ true
+    by true e = e
+    by false e = absurd (differs (is e))
 
 module _ (gap : ℕ) (t : List ℕ) (c : Ending) (b : BookValue) (h : ReadsInput gap (Ok b) t c) where
   -- it was merged into the rows
   pub merged_in : (old new : List Row) → gap ≡ b.gap → MergesInto (millis_of gap) old b.rows new
       → TakesInput gap (Ok tt) old new t c
-  merged_in old new same merges =
-      let S = h.1.1 in (
-        h.0,
-        (
-          S,
-          subst (λ g. AreMembers g t c S) (sym same) h.1.2,
-          λ T book. merges T S book (subst (λ g. BookOf (millis_of g) S b.rows) (sym same) h.1.3),
-        ),
-      )
+  merged_in old new same merges = (
+    (h.1.0, subst (λ g. GivesSet g t c h.1.0) (sym same) h.1.1),
+    λ S T gives book. merges S T book (subst (λ g. BookOf (millis_of g) T b.rows) (sym same)
+        (h.2 T (subst (λ g. GivesSet g t c T) same gives))),
+  )
 
   -- or that was refused
   pub not_merged_in : (e : MergeFault) (old new : List Row) → RefusesGaps e gap b.gap
       → TakesInput gap (Err (fault_of_merge e)) old new t c
   not_merged_in fault.OtherGap old new differs =
-      inr (other_of gap t c b.gap h.1.1 differs h.0 h.1.0 h.1.2)
-  not_merged_in fault.Memory old new same = inr
-      (h.0, (h.1.1, subst (λ g. AreMembers g t c h.1.1) (sym same) h.1.2))
+      let other : b.gap ≡ gap → ⊥ = λ same. differs (sym same) in
+      inr (other_gap gap t b.gap other h.0, (b.gap, h.1.0, other, h.1.1))
+  not_merged_in fault.Memory old new same =
+      inr (h.1.0, subst (λ g. GivesSet g t c h.1.0) (sym same) h.1.1)
+
+-- rows of another gap are not taken
+pub other_rows : (gap own : ℕ) (old new : List Row) (t : List ℕ) (c : Ending) → (own ≡ gap → ⊥)
+    → GivesRows gap own old new t c → IsNotTaken gap OtherGap t c
+other_rows gap own old new t c differs h =
+    inr (other_gap gap t own differs h.gap_is, (own, h.set, differs, h.gives))
 
 -- an input that isn't read is not taken
 pub not_read : (gap : ℕ) (t : List ℕ) (c : Ending) (e : InputFault) (old new : List Row)

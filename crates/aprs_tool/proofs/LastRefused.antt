@@ -1,5 +1,6 @@
 -- Lemmas on the book of inputs that were all read, where an allocation failed for it.
-use Rattle.std.proofs.Common.{◌≡◌, ◌∙◌, ℕ, zero, suc, ◌-◌, List, [], ◌∷◌, length, Option, Ok, Err, inr, refl, subst, arith}
+use Rattle.std.proofs.Common.{◌≡◌, ◌∙◌, ℕ, ◌-◌, List, [], ◌∷◌, ◌++◌, length, Option, Ok, Err, inr, refl, sym, ap, subst, arith, length-append}
+use Rattle.std.proofs.lemmas.List.{length-map}
 use Rattle.aprs_io.specs.Device.{Sends}
 use Rattle.aprs_io.specs.declared.device.Counted.{Counted}
 use Rattle.aprs_io.proofs.Sends.{Sends-err, Sends-ok}
@@ -9,47 +10,70 @@ use Rattle.aprs_laws.specs.Gap.{millis_of}
 use Rattle.aprs_laws.proofs.Books.{one_book}
 use Rattle.aprs_laws.proofs.RunRows.{book_of_nothing}
 use Rattle.aprs_booktext.specs.Text.{written_text}
-use Rattle.aprs_tool.specs.Gathered.{WritesText}
-use Rattle.aprs_tool.specs.Merge.{AllFit, Got, HoldsOfEach, IsFirstRefused, ReadsEach}
+use Rattle.aprs_log.specs.Reception.{Heard}
+use Rattle.aprs_tool.specs.Gathered.{ReadsEach, WritesText}
+use Rattle.aprs_tool.specs.Inputs.{GivesSet}
+use Rattle.aprs_tool.specs.Several.{GiveUnion, GotOf, HoldsOfEach, IsFirstRefused}
 use Rattle.aprs_tool.specs.declared.fault.InputFault.TheVariants.{Memory}
 use Rattle.aprs_tool.specs.declared.fault.RunFault.{RunFault}
 use Rattle.aprs_tool.specs.declared.fault.RunFault.TheVariants.{Write}
 use Rattle.aprs_tool.specs.declared.gathered.Unwritten.{Unwritten}
 use Rattle.aprs_tool.specs.declared.gathered.Unwritten.TheVariants as unwritten
-use Rattle.aprs_tool.proofs.Merges.{gots_len}
 
--- all fit, so that the last may be refused for a failed allocation
-at_last : (gap n : ℕ) (gots : List Got) → length gots ≡ suc n → AllFit gap gots
-    → IsFirstRefused gap n Memory gots
-at_last gap n [] e fit = absurd (omega (arith, e))
-at_last gap zero (g ∷ []) e fit = inr fit.0
-at_last gap (suc n) (g ∷ []) e fit = absurd (omega (arith, e))
-at_last gap zero (g ∷ h ∷ gots) e fit = absurd (omega (arith, e))
-at_last gap (suc n) (g ∷ h ∷ gots) e fit =
-    (fit.0, at_last gap n (h ∷ gots) (omega (arith, e)) fit.1)
+-- the last of inputs that are faultless, and those before it
+record Last (gap limit : ℕ) (gots : List (GotOf limit)) : Type 0 where
+  before : List (GotOf limit)
+  at : GotOf limit
+  whole : gots ≡ before ++ at ∷ []
+  first : (S : List Heard) × GiveUnion gap before S
+  last : (T : List Heard) × GivesSet gap at.text at.ending T
 
-refused : (gap n : ℕ) (gots : List Got) (b : BookValue) → length gots ≡ n
-    → ReadsEach gap (Ok b) gots → (b.rows ≡ [] → ⊥) → IsFirstRefused gap (n - 1) Memory gots
-refused gap n [] b e read some =
+last_of : (gap limit : ℕ) (g : GotOf limit) (gots : List (GotOf limit)) (S : List Heard)
+    → GiveUnion gap (g ∷ gots) S → Last gap limit (g ∷ gots)
+last_of gap limit g [] S h =
+    record { before = []; at = g; whole = refl; first = ([], refl); last = (h.0, h.2) }
+last_of gap limit g (x ∷ gots) S h =
+    let rest = last_of gap limit x gots h.1 h.3 in
+    let union = h.0 ++ rest.first.0 in
+    record {
+      before = g ∷ rest.before;
+      at = rest.at;
+      whole = ap (λ l. g ∷ l) rest.whole;
+      first = (union, (h.0, rest.first.0, h.2, rest.first.1, λ s. (λ k. k, λ k. k)));
+      last = rest.last;
+    }
+
+refused : (gap limit n : ℕ) (gots : List (GotOf limit)) (b : BookValue) → length gots ≡ n
+    → ReadsEach gap (Ok b) gots → (b.rows ≡ [] → ⊥) → IsFirstRefused gap gots (n - 1) Memory
+refused gap limit n [] b e read some =
     absurd (some (one_book (millis_of gap) [] b.rows []
-    (subst (λ S. BookOf (millis_of gap) S b.rows) read.2.1 read.2.2)
+    (subst (λ S. BookOf (millis_of gap) S b.rows) read.1.1 read.1.2)
     (book_of_nothing (millis_of gap))))
-refused gap n (g ∷ gots) b e read some =
-    subst (λ m. IsFirstRefused gap m Memory (g ∷ gots)) (less (length gots) n e)
-    (at_last gap (length gots) (g ∷ gots) refl read.1) where
-      less : (m n : ℕ) → suc m ≡ n → m ≡ n - 1
-      less m n e = omega (arith, e)
+refused gap limit n (g ∷ gots) b e read some =
+    let its = last_of gap limit g gots read.1.0 read.1.1 in
+    record {
+      before = its.before;
+      at = its.at;
+      after = [];
+      gots_are = its.whole;
+      number = let all = ap length its.whole in
+          let parts = length-append its.before (its.at ∷ []) in omega (arith, all, parts, e);
+      faultless = its.first;
+      refused = inr its.last;
+    }
 
 -- of all inputs, the last is refused
 pub refused_at_last : (gap limit n : ℕ) (inputs : List (List ℕ)) (afters : List (Option (List ℕ)))
     (b : BookValue) → HoldsOfEach limit inputs afters (ReadsEach gap (Ok b)) → length inputs ≡ n
     → (b.rows ≡ [] → ⊥)
-    → HoldsOfEach limit inputs afters (IsFirstRefused gap (n - 1) Memory)
+    → HoldsOfEach limit inputs afters (λ gots. IsFirstRefused gap gots (n - 1) Memory)
 refused_at_last gap limit n inputs afters b read e some = record {
   gots = read.gots;
-  gets = read.gets;
-  holds = refused gap n read.gots b (gots_len limit inputs afters read.gots read.gets ∙ e)
-      read.holds some;
+  inputs_are = read.inputs_are;
+  afters_are = read.afters_are;
+  holds = refused gap limit n read.gots b
+      (sym (ap length read.inputs_are
+      ∙ length-map read.gots (λ (g : GotOf limit). g.text ++ g.rest)) ∙ e) read.holds some;
 }
 
 -- ---- what was written

@@ -1,3 +1,4 @@
+pub mod Sets
 pub mod RowsTold
 pub mod Inputs
 pub mod Into
@@ -5,6 +6,8 @@ pub mod Logs
 pub mod Shows
 pub mod Merges
 pub mod OneMerge
+pub mod Outcomes
+pub mod RunsOver
 pub mod ShortLogs
 pub mod Readers
 pub mod Widens

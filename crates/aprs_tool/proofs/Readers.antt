@@ -10,7 +10,7 @@ use Rattle.aprs_booktext.specs.Asking.{AsksAt}
 use Rattle.aprs_booktext.specs.declared.fault.BookCause.{BookCause}
 use Rattle.aprs_booktext.specs.declared.fault.BookCause.TheVariants as why
 use Rattle.aprs_tool.specs.Devices.{AsksInput, AsksToFault, ReadsFirst, StopsAt}
-use Rattle.aprs_tool.specs.Inputs.{fault_of_merge}
+use Rattle.aprs_tool.specs.Refused.{fault_of_merge}
 use Rattle.aprs_tool.specs.declared.fault.InputFault.{InputFault}
 use Rattle.aprs_tool.specs.declared.fault.InputFault.TheVariants.{Log, Book, Memory, OtherGap, Narrower}
 

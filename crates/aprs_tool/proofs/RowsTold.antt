@@ -21,7 +21,9 @@ use Rattle.aprs_laws.proofs.Streams.{in_witnesses}
 use Rattle.aprs_laws.proofs.Unions.{merged}
 use Rattle.aprs_tool.specs.Gathered.{book_of_rows}
 use Rattle.aprs_tool.specs.InputRows.{GivesRows}
-use Rattle.aprs_tool.specs.Inputs.{AddsAll, AreMembers, IsBookOfInput, TakesInput}
+use Rattle.aprs_tool.specs.InputBook.{TakesInput}
+use Rattle.aprs_tool.specs.Inputs.{GivesSet}
+use Rattle.aprs_tool.proofs.Sets.{set_book}
 
 abbrev AreSound : List Row → Type 0
 AreSound rows = (x : Row) → x ∈ rows → IsSoundRow x
@@ -78,27 +80,43 @@ carried gap S T rows p f b =
       ],
     )) b
 
-pub adds_rows : (gap : ℕ) (T : List Heard) (old rows new : List Row) → 0 < millis_of gap
-    → StandFor rows T → new ≡ old ++ rows
-    → AddsAll gap T (merge (millis_of gap) [] old) (merge (millis_of gap) [] new)
+adds_rows : (gap : ℕ) (T : List Heard) (old rows new : List Row) → 0 < millis_of gap
+    → StandFor rows T → new ≡ old ++ rows → (S : List Heard)
+    → BookOf (millis_of gap) S (merge (millis_of gap) [] old)
+    → BookOf (millis_of gap) (S ++ T) (merge (millis_of gap) [] new)
 adds_rows gap T old rows new pos f e S b =
     subst (λ rs. BookOf (millis_of gap) (S ++ T) rs)
     (sym (ap (merge (millis_of gap) []) e ∙ merge_append (millis_of gap) [] old rows))
     (carried (millis_of gap) S T rows _ f
     (joined_rows (millis_of gap) S (merge (millis_of gap) [] old) rows pos f.each b))
 
+-- their book, of a set that they stand for
+own_book : (gap : ℕ) (T : List Heard) (rows : List Row) → 0 < gap → StandFor rows T
+    → BookOf gap T (merge gap [] rows)
+own_book gap T rows pos f = carried gap [] T rows (merge gap [] rows) f (alone gap rows pos f.each)
+
+-- two sets with one book add the same
+added : (gap : ℕ) (S T U : List Heard) (old own new : List Row) → BookOf gap S old
+    → BookOf gap T own → BookOf gap U own → BookOf gap (S ++ U) new → BookOf gap (S ++ T) new
+added gap S T U old own new book first second whole =
+    subst (λ (rs : List Row). BookOf gap (S ++ T) rs)
+    (one_book gap (S ++ U) (merge gap old own) new (merged gap S U old own book second) whole)
+    (merged gap S T old own book first)
+
 -- the rows of a faultless input are taken into those of a book of its gap
 pub takes_rows : (gap own : ℕ) (old new : List Row) (t : List ℕ) (c : Ending) → IsGap gap
     → own ≡ gap → GivesRows gap own old new t c
     → TakesInput gap (Ok tt) (merge (millis_of gap) [] old) (merge (millis_of gap) [] new) t c
-takes_rows gap own old new t c r e h = (
-  h.faultless,
-  (
-    h.set,
-    subst (λ g. AreMembers g t c h.set) e h.members,
-    adds_rows gap h.set old h.rows new (some_millis gap r) h.stand h.new_is,
-  ),
-)
+takes_rows gap own old new t c r e h =
+    let its = subst (λ g. GivesSet g t c h.set) e h.gives in
+    let pos = some_millis gap r in
+    let own = own_book (millis_of gap) h.set h.rows pos h.stand in (
+      (h.set, its),
+      λ S T gives book. added (millis_of gap) S T h.set (merge (millis_of gap) [] old)
+          (merge (millis_of gap) [] h.rows) (merge (millis_of gap) [] new) book
+          (set_book gap t c T h.set (merge (millis_of gap) [] h.rows) gives its own) own
+          (adds_rows gap h.set old h.rows new pos h.stand h.new_is S book),
+    )
 
 -- ---- their book
 
@@ -128,20 +146,14 @@ some_rows gap (x ∷ rows) r s some e =
     absurd (subst (λ (ws : List Heard). witness_by x x.greatest.receiver ∈ ws) none there)
 
 -- the book of an input whose rows alone were read
-pub holds_read : (gap asked own : ℕ) (new : List Row) (t : List ℕ) (c : Ending) → IsGap gap
+holds_read : (gap asked own : ℕ) (new : List Row) (t : List ℕ) (c : Ending) → IsGap gap
     → (h : GivesRows asked own [] new t c) → Holds h.set (book_of_rows gap new)
 holds_read gap asked own new t c r h =
     subst (λ rs. BookOf (millis_of gap) h.set (merge (millis_of gap) [] rs)) (sym h.new_is)
-    (carried (millis_of gap) [] h.set h.rows (merge (millis_of gap) [] h.rows) h.stand
-    (alone (millis_of gap) h.rows (some_millis gap r) h.stand.each))
-
-pub book_read : (asked own : ℕ) (new : List Row) (t : List ℕ) (c : Ending) → IsGap own
-    → GivesRows asked own [] new t c → IsBookOfInput asked (book_of_rows own new) t c
-book_read asked own new t c r h =
-    (h.gap_is, h.set, h.members, holds_read own asked own new t c r h)
+    (own_book (millis_of gap) h.set h.rows (some_millis gap r) h.stand)
 
 -- under a gap that is not less it is the widened book
-pub wide_read : (gap own : ℕ) (new : List Row) (t : List ℕ) (c : Ending) → IsGap gap → IsGap own
+wide_read : (gap own : ℕ) (new : List Row) (t : List ℕ) (c : Ending) → IsGap gap → IsGap own
     → own ≤ gap → GivesRows gap own [] new t c
     → book_of_rows gap new ≡ widened_to gap (book_of_rows own new)
 wide_read gap own new t c r o l h =
@@ -150,6 +162,16 @@ wide_read gap own new t c r o l h =
     (widened_to gap (book_of_rows own new)).rows (holds_read gap gap own new t c r h)
     (widened_holds gap h.set (book_of_rows own new) l (holds_read own gap own new t c o h)) in
     λ i. record { gap = gap; rows = lines i }
+
+-- which is that of each set that the input stands for
+pub holds_wide : (gap own : ℕ) (new : List Row) (t : List ℕ) (c : Ending) → IsGap gap → IsGap own
+    → own ≤ gap → GivesRows gap own [] new t c → (S : List Heard) → GivesSet own t c S
+    → Holds S (book_of_rows gap new)
+holds_wide gap own new t c r o l h S gives =
+    subst (λ (b : BookValue). Holds S b) (sym (wide_read gap own new t c r o l h))
+    (widened_holds gap S (book_of_rows own new) l
+    (set_book own t c S h.set (book_of_rows own new).rows gives h.gives
+    (holds_read own gap own new t c o h)))
 
 -- rows of which none are others
 pub none_same : (xs ys : List Row) → SameMembers xs ys → xs ≡ [] → ys ≡ []

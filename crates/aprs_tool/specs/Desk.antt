@@ -5,17 +5,17 @@ use Rattle.aprs_laws.specs.Row.{Row}
 use Rattle.aprs_tool.specs.declared.desk.Desk.{Desk}
 
 -- its book
-abbrev pub book_of : {A : Type 0} → Desk A → BookValue
-book_of desk = desk.book
+abbrev pub desk_book : {A : Type 0} → Desk A → BookValue
+desk_book desk = desk.book
 
 -- the gap of its book, in seconds
-abbrev pub gap_of : {A : Type 0} → Desk A → ℕ
-gap_of desk = desk.book.gap
+abbrev pub desk_gap : {A : Type 0} → Desk A → ℕ
+desk_gap desk = desk.book.gap
 
 -- the rows of its book
-abbrev pub rows_of : {A : Type 0} → Desk A → List Row
-rows_of desk = desk.book.rows
+abbrev pub desk_rows : {A : Type 0} → Desk A → List Row
+desk_rows desk = desk.book.rows
 
 -- how many bytes it reads of an input at most
-abbrev pub limit_of : {A : Type 0} → Desk A → ℕ
-limit_of desk = desk.limit
+abbrev pub desk_limit : {A : Type 0} → Desk A → ℕ
+desk_limit desk = desk.limit

@@ -41,12 +41,6 @@ StopsAt zero fault (r ∷ old) (s ∷ new) = AsksToFault fault r s × (new ≡ o
 StopsAt (suc index) fault (r ∷ old) (s ∷ new) = Calls End r s × StopsAt index fault old new
 StopsAt index fault _ _ = ⊥
 
--- The same by what is read of them all.
-abbrev pub ReadsAll : {A R : Type 0} → Result A (ℕ × InputFault) → List (Counted R)
-    → List (Counted R) → Type 0
-ReadsAll (Ok value) old new = ReadsFirst (length old) old new
-ReadsAll (Err refused) old new = StopsAt refused.0 refused.1 old new
-
 -- All inputs were read to their ends, or those before one that is refused.
 abbrev pub AsksEach : {R : Type 0} → Result (Unit {0}) RunFault → List (Counted R)
     → List (Counted R) → Type 0

@@ -1,5 +1,5 @@
 -- What was gathered of inputs. No public clause cites this module.
-use Rattle.std.specs.Prelude.{◌≡◌, ◌≢◌, ℕ, List, [], Option, Result, Ok, Err}
+use Rattle.std.specs.Prelude.{◌≡◌, ◌≢◌, ℕ, List, [], length, Option, Result, Ok, Err}
 use Rattle.aprs_io.specs.Device.{Sends}
 use Rattle.aprs_io.specs.declared.device.Counted.{Counted}
 use Rattle.aprs_laws.specs.BookValue.{BookValue}
@@ -7,6 +7,10 @@ use Rattle.aprs_laws.specs.Gap.{millis_of}
 use Rattle.aprs_laws.specs.JoinRow.{merge}
 use Rattle.aprs_laws.specs.Row.{Row}
 use Rattle.aprs_booktext.specs.Text.{written_text}
+use Rattle.aprs_tool.specs.Devices.{ReadsFirst, StopsAt}
+use Rattle.aprs_tool.specs.Merge.{IsBookOfAll}
+use Rattle.aprs_tool.specs.Several.{GotOf, IsFirstRefused}
+use Rattle.aprs_tool.specs.declared.fault.InputFault.{InputFault}
 use Rattle.aprs_tool.specs.declared.gathered.Unwritten.{Unwritten}
 use Rattle.aprs_tool.specs.declared.gathered.Unwritten.TheVariants.{Memory, Write}
 
@@ -23,3 +27,17 @@ WritesText contents (Ok u) book old new =
 WritesText contents (Err Write) book old new =
     Sends contents (Err Write) old new (written_text book)
 WritesText contents (Err Memory) book old new = (new ≡ old) × (book.rows ≢ [])
+
+-- The one book of faultless inputs is read; otherwise the first that is refused is reported, by
+-- number.
+abbrev pub ReadsEach : {limit : ℕ} → ℕ → Result BookValue (ℕ × InputFault) → List (GotOf limit)
+    → Type 0
+ReadsEach gap (Ok book) gots = (book.gap ≡ gap) × IsBookOfAll gap book.rows gots
+ReadsEach gap (Err refused) gots = IsFirstRefused gap gots refused.0 refused.1
+
+-- All inputs were read to their ends, or those before the one that is refused, and that one to its
+-- fault.
+abbrev pub ReadsAll : {A R : Type 0} → Result A (ℕ × InputFault) → List (Counted R)
+    → List (Counted R) → Type 0
+ReadsAll (Ok value) old new = ReadsFirst (length old) old new
+ReadsAll (Err refused) old new = StopsAt refused.0 refused.1 old new

@@ -1,12 +1,17 @@
--- What an input's rows are in a store. No public clause cites this module.
-use Rattle.std.specs.Prelude.{◌≡◌, ℕ, List, [], ◌++◌, None, Some, Result, Ok, Err, map}
+-- What an input's rows are in a store, and why its book isn't merged. No public clause cites this
+-- module.
+use Rattle.std.specs.Prelude.{◌≡◌, ◌≢◌, ℕ, List, ◌++◌, None, Some, Result, Ok, Err, map}
+use Rattle.aprs_io.specs.declared.input.Ending.{Ending}
 use Rattle.aprs_log.specs.LogAnswers.{log_answers, receptions_of}
 use Rattle.aprs_log.specs.Reception.{Heard}
-use Rattle.aprs_log.specs.declared.Ending.{Ending}
 use Rattle.aprs_laws.specs.Coalescing.{StandFor}
 use Rattle.aprs_laws.specs.JoinRow.{single}
 use Rattle.aprs_laws.specs.Row.{Row}
-use Rattle.aprs_tool.specs.Inputs.{AreMembers, IsFaultless, IsGapOf, IsRefused}
+use Rattle.aprs_laws.specs.declared.merge_fault.MergeFault.{MergeFault}
+use Rattle.aprs_laws.specs.declared.merge_fault.MergeFault.TheVariants as merge
+use Rattle.aprs_tool.specs.InputBook.{IsGapOf}
+use Rattle.aprs_tool.specs.Inputs.{GivesSet}
+use Rattle.aprs_tool.specs.Refused.{IsFaulty}
 use Rattle.aprs_tool.specs.declared.fault.InputFault.{InputFault}
 use Rattle.aprs_tool.specs.declared.fault.InputFault.TheVariants.{Log, Memory}
 
@@ -23,18 +28,23 @@ ReadsLog (Ok u) old new text ending = ((log_answers text ending).fault ≡ None)
     × (new ≡ old ++ map single (receptions_of (log_answers text ending).given))
 ReadsLog (Err fault) old new text ending = IsLogRefused fault text ending
 
--- The input is faultless, and the rows that came after the old ones stand for its receptions, under
--- its own gap or the one asked for.
+-- The rows that came after the old ones stand for a set that the input stands for, under its own
+-- gap or the one asked for.
 pub record GivesRows (asked own : ℕ) (old new : List Row) (text : List ℕ) (ending : Ending) : Type 0 where
-  pub faultless : IsFaultless text ending
   pub gap_is : IsGapOf asked text own
   pub rows : List Row
   pub new_is : new ≡ old ++ rows
   pub set : List Heard
-  pub members : AreMembers own text ending set
+  pub gives : GivesSet own text ending set
   pub stand : StandFor rows set
 
 -- The rows of a faultless input are read, and any other input is refused.
 abbrev pub ReadsRows : ℕ → Result ℕ InputFault → List Row → List Row → List ℕ → Ending → Type 0
 ReadsRows asked (Ok own) old new text ending = GivesRows asked own old new text ending
-ReadsRows asked (Err fault) old new text ending = IsRefused fault text ending
+ReadsRows asked (Err fault) old new text ending = IsFaulty fault text ending
+
+-- A merge is refused where the gaps differ, and for an allocation that failed only where they
+-- don't.
+abbrev pub RefusesGaps : MergeFault → ℕ → ℕ → Type 0
+RefusesGaps merge.OtherGap gap other = gap ≢ other
+RefusesGaps merge.Memory gap other = gap ≡ other

@@ -4,11 +4,14 @@ pub mod Run
 pub mod Devices
 pub mod Head
 pub mod Inputs
+pub mod Refused
+pub mod InputBook
 pub mod InputRows
 pub mod Desk
-pub mod Gathered
+pub mod Several
+pub mod Outcome
 pub mod Merge
-pub mod StandsFor
+pub mod Gathered
 pub mod Show
 pub mod ShownBook
 pub mod Widen

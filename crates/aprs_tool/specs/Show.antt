@@ -1,9 +1,7 @@
--- What the listing of several inputs writes and answers.
-use Rattle.std.specs.Prelude.{◌≡◌, ◌≢◌, ℕ, List, [], ◌∷◌, ◌++◌, Option, Result, Ok, Err, codes}
+-- The listing of a set, which is what showing inputs writes.
+use Rattle.std.specs.Prelude.{◌≡◌, ◌≢◌, ℕ, List, [], ◌∷◌, ◌++◌, Option, codes}
 use Rattle.std.specs.List.{flat_map}
 use Rattle.std.specs.Fmt.{decimal}
-use Rattle.aprs_io.specs.Device.{Sends}
-use Rattle.aprs_io.specs.declared.device.Counted.{Counted}
 use Rattle.aprs_ax25.specs.Callsign.{Call, call_text}
 use Rattle.aprs_log.specs.Reception.{Heard}
 use Rattle.aprs_laws.specs.Best.{LastKnown}
@@ -20,9 +18,6 @@ use Rattle.aprs_book.specs.declared.message.MessageRow.{MessageRow}
 use Rattle.aprs_book.specs.declared.named.Named.{Named}
 use Rattle.aprs_book.specs.declared.station.Station.{Station}
 use Rattle.aprs_listing.specs.Listing.{known_line, line_of, show_text, station_lines}
-use Rattle.aprs_tool.specs.Merge.{AllFit, Got, IsFirstRefused, WritesOfAll}
-use Rattle.aprs_tool.specs.declared.fault.RunFault.{RunFault}
-use Rattle.aprs_tool.specs.declared.fault.RunFault.TheVariants.{Input, Write, Memory}
 
 -- ---- the listing of a set
 
@@ -38,20 +33,6 @@ pub record IsListingOf (gap : ℕ) (S : List Heard) (text : List ℕ) : Type 0 w
   pub are_named : AreNamed S named
   pub are_messages : AreMessages S messages
   pub text_is : text ≡ show_text stations named messages
-
--- ---- how it is written
-
--- A refused output comes after a prefix of the listing of the receptions of all. Where an input is
--- refused, or an allocation failed for the listing, nothing is written.
-abbrev pub ShowsEach : {W : Type 0} → ℕ → (W → Option (List ℕ)) → Result (Unit {0}) RunFault
-    → Counted W → Counted W → List Got → Type 0
-ShowsEach gap contents (Ok u) old new gots = WritesOfAll gap (IsListingOf gap) gots
-    (λ text. Sends {E = RunFault} contents (Ok u) old new text)
-ShowsEach gap contents (Err Write) old new gots = WritesOfAll gap (IsListingOf gap) gots
-    (λ text. Sends contents (Err Write) old new text)
-ShowsEach gap contents (Err (Input index fault)) old new gots =
-    IsFirstRefused gap index fault gots × (new ≡ old)
-ShowsEach gap contents (Err Memory) old new gots = AllFit gap gots × (new ≡ old)
 
 -- ---- the positions in it
 

@@ -34,19 +34,19 @@ impl<A: Allocator + Copy> Desk<A> {
     ghost use Rattle.aprs_io.specs.Device.{device_of};
     ghost use Rattle.aprs_laws.specs.BookValue.{Holds};
     ghost use Rattle.aprs_laws.specs.Gap.{standard_gap};
-    ghost use Rattle.aprs_tool.specs.Desk.{book_of, gap_of, limit_of, rows_of};
+    ghost use Rattle.aprs_tool.specs.Desk.{desk_book, desk_gap, desk_limit, desk_rows};
     ghost use Rattle.aprs_convert.specs.Got.{OfGot};
     ghost use Rattle.aprs_tool.specs.Devices.{AsksInput};
-    ghost use Rattle.aprs_tool.specs.Inputs.{TakesInput};
+    ghost use Rattle.aprs_tool.specs.InputBook.{TakesInput};
 
     /// An empty book with a gap of 30 seconds, into which inputs are read up to `limit` bytes each.
     /// Requires that `limit` is at most `MAX_INPUT` (1,073,741,824). Takes no memory.
     pub fn new(alloc: A, limit: u64) -> Desk<A>
         requires { limit ≤ most_input }
-        ensures gap { gap_of result ≡ standard_gap }
-        ensures rows { rows_of result ≡ [] }
-        ensures book { Holds [] (book_of result) }
-        ensures limit { limit_of result ≡ limit }
+        ensures gap { desk_gap result ≡ standard_gap }
+        ensures rows { desk_rows result ≡ [] }
+        ensures book { Holds [] (desk_book result) }
+        ensures limit { desk_limit result ≡ limit }
     {
         Desk::with_gap(alloc, limit, Gap::STANDARD)
     }
@@ -54,10 +54,10 @@ impl<A: Allocator + Copy> Desk<A> {
     /// The same with this gap. Requires that `limit` is at most `MAX_INPUT`. Takes no memory.
     pub fn with_gap(alloc: A, limit: u64, gap: Gap) -> Desk<A>
         requires { limit ≤ most_input }
-        ensures gap { gap_of result ≡ gap }
-        ensures rows { rows_of result ≡ [] }
-        ensures book { Holds [] (book_of result) }
-        ensures limit { limit_of result ≡ limit }
+        ensures gap { desk_gap result ≡ gap }
+        ensures rows { desk_rows result ≡ [] }
+        ensures book { Holds [] (desk_book result) }
+        ensures limit { desk_limit result ≡ limit }
     {
         Desk {
             alloc,
@@ -71,11 +71,11 @@ impl<A: Allocator + Copy> Desk<A> {
     /// book file of another gap, and then `Memory` where an allocation failed for the merge.
     /// After a fault the desk is as before.
     pub fn take_input<R: Read>(&mut self, r: &mut Counted<R>) -> Result<(), InputFault>
-        ensures takes { OfGot (limit_of self.old) (R.remaining (device_of r.old))
+        ensures takes { OfGot (desk_limit self.old) (R.remaining (device_of r.old))
             (R.remaining (device_of r.new))
-            (TakesInput (gap_of self.old) result (rows_of self.old) (rows_of self.new)) }
-        ensures gap { gap_of self.new ≡ gap_of self.old }
-        ensures limit { limit_of self.new ≡ limit_of self.old }
+            (TakesInput (desk_gap self.old) result (desk_rows self.old) (desk_rows self.new)) }
+        ensures gap { desk_gap self.new ≡ desk_gap self.old }
+        ensures limit { desk_limit self.new ≡ desk_limit self.old }
         ensures unchanged { OnErr result (self.new ≡ self.old) }
         // The reader is asked neither after its end nor after a fault.
         ensures calls { AsksInput result r.old r.new }
@@ -87,14 +87,14 @@ impl<A: Allocator + Copy> Desk<A> {
 
     /// The book. Takes no memory.
     pub fn book(&self) -> &Book<A>
-        ensures { result.now ≡ book_of self.now }
+        ensures { result.now ≡ desk_book self.now }
     {
         &self.book
     }
 
     /// Returns the book. Takes no memory.
     pub fn into_book(self) -> Book<A>
-        ensures { result ≡ book_of self }
+        ensures { result ≡ desk_book self }
     {
         let Desk {
             alloc: _,

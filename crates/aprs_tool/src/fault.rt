@@ -60,7 +60,7 @@ impl From<Memory> for InputFault {
 }
 
 impl From<MergeFault> for InputFault {
-    ghost use Rattle.aprs_tool.specs.Inputs.{fault_of_merge};
+    ghost use Rattle.aprs_tool.specs.Refused.{fault_of_merge};
 
     ghost from_gives = { λ fault made. made ≡ fault_of_merge fault };
 

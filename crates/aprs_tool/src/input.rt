@@ -16,8 +16,8 @@ ghost use Rattle.aprs_tool.specs.declared.head.TheConstants.{HEAD_LEN};
 ghost use Rattle.aprs_tool.specs.Devices.{AsksInput};
 ghost use Rattle.aprs_tool.specs.Head.{IsHead, last_short};
 ghost use Rattle.aprs_convert.specs.Got.{HoldsOfGot, OfGot};
-ghost use Rattle.aprs_tool.specs.Inputs.{ReadsInput, RefusesGaps, TakesInput};
-ghost use Rattle.aprs_tool.specs.InputRows.{ReadsLog, ReadsRows};
+ghost use Rattle.aprs_tool.specs.InputBook.{ReadsInput, TakesInput};
+ghost use Rattle.aprs_tool.specs.InputRows.{ReadsLog, ReadsRows, RefusesGaps};
 
 use crate::fault::InputFault;
 use crate::gathered::Gathered;

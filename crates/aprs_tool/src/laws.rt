@@ -1,17 +1,16 @@
 //! What a merge writes depends on the set of receptions alone, and so do the positions in a
 //! listing. The functions do nothing: what they ensure are the laws.
 ghost use Rattle.std.specs.Prelude.{ℕ};
-ghost use Rattle.aprs_laws.specs.Gap.{IsGap};
+ghost use Rattle.aprs_tool.specs.Merge.{AreBooksOfUnions, HaveOneMerge};
 ghost use Rattle.aprs_tool.specs.Show.{ListingsTellPositions};
-ghost use Rattle.aprs_tool.specs.StandsFor.{AreBooksOfUnions, HaveOneMerge};
 
 /// Under one gap, inputs that stand for sets with the same members have one book, and `merge_run`
 /// writes the same bytes of them: in any order, with repeats, and some of them through books that
 /// were written before. A log stands for its receptions, and the text of a book for each set whose
 /// book it is.
 pub fn same_receptions_same_bytes()
-    ensures book { (gap : ℕ) → IsGap gap → AreBooksOfUnions gap }
-    ensures one { (gap : ℕ) → IsGap gap → HaveOneMerge gap }
+    ensures book { (gap : ℕ) → AreBooksOfUnions gap }
+    ensures one { (gap : ℕ) → HaveOneMerge gap }
 {}
 
 /// In the listing of any set of receptions under any gap, each station's line is followed by the

@@ -1,9 +1,11 @@
 //! The merge of several inputs.
-ghost use Rattle.std.specs.Prelude.{◌≡◌, ◌≢◌, ◌-◌, ◌<◌, ◌≤◌, [], length, map, IfOk};
-ghost use Rattle.aprs_io.specs.Device.{device_of};
+ghost use Rattle.std.specs.Prelude.{◌≡◌, ◌≢◌, ◌-◌, ◌<◌, ◌≤◌, [], length, Err, IfOk};
 ghost use Rattle.aprs_io.specs.Input.{most_input};
-ghost use Rattle.aprs_tool.specs.Devices.{AsksEach, CallsOutput, ReadsAll};
-ghost use Rattle.aprs_tool.specs.Merge.{MergesEach, OfEach, ReadsEach};
+ghost use Rattle.aprs_tool.specs.Devices.{AsksEach, CallsOutput};
+ghost use Rattle.aprs_tool.specs.Gathered.{ReadsAll, ReadsEach};
+ghost use Rattle.aprs_tool.specs.Merge.{IsTextOfBook};
+ghost use Rattle.aprs_tool.specs.Outcome.{RefusesFor, SendsFor, WritesFor};
+ghost use Rattle.aprs_tool.specs.Several.{GiveUnion, IsFirstRefused, OfEach};
 
 use crate::fault::{InputFault, RunFault};
 use crate::gathered::{Gathered, Unwritten};
@@ -26,12 +28,16 @@ pub fn merge_run<R: Read, W: Write, A: Allocator + Copy>(
     w: &mut Counted<W>,
 ) -> Result<(), RunFault>
     requires { limit ≤ most_input }
-    ensures run { OfEach limit (map (λ r. R.remaining (device_of r)) inputs.old)
-        (map (λ r. R.remaining (device_of r)) inputs.new)
-        (MergesEach gap W.contents result w.old w.new) }
+    ensures writes { OfEach limit R.remaining inputs.old inputs.new (λ gots.
+        WritesFor (GiveUnion gap gots) (IsTextOfBook gap) W.contents result w.old w.new) }
+    ensures sends { OfEach limit R.remaining inputs.old inputs.new (λ gots.
+        SendsFor (GiveUnion gap gots) (IsTextOfBook gap) W.contents result w.old w.new) }
+    ensures refuses { OfEach limit R.remaining inputs.old inputs.new (λ gots.
+        RefusesFor (GiveUnion gap gots) (IsFirstRefused gap gots) result w.old w.new) }
+    ensures memory { result ≡ Err RunFault.Memory → ⊥ }
     // The inputs are asked neither after their ends nor after a fault, nor is the output.
-    ensures reads { AsksEach result inputs.old inputs.new }
-    ensures writes { CallsOutput result w.old w.new }
+    ensures asks { AsksEach result inputs.old inputs.new }
+    ensures calls { CallsOutput result w.old w.new }
 {
     let gathered = match read_all(alloc, limit, gap, inputs) {
         Ok(gathered) => gathered,
@@ -64,8 +70,7 @@ pub(crate) fn read_all<R: Read, A: Allocator + Copy>(
     inputs: &mut [Counted<R>],
 ) -> Result<Gathered<A>, (usize, InputFault)>
     requires { limit ≤ most_input }
-    ensures reads { OfEach limit (map (λ r. R.remaining (device_of r)) inputs.old)
-        (map (λ r. R.remaining (device_of r)) inputs.new) (ReadsEach gap result) }
+    ensures reads { OfEach limit R.remaining inputs.old inputs.new (ReadsEach gap result) }
     ensures calls { ReadsAll result inputs.old inputs.new }
     ensures gap { IfOk result (λ gathered. gathered.gap ≡ gap) }
     ensures some { IfOk result (λ gathered. gathered.rows ≢ [] → 0 < length inputs.old) }

@@ -1,10 +1,10 @@
 //! The listing of several inputs.
-ghost use Rattle.std.specs.Prelude.{◌≤◌, map};
-ghost use Rattle.aprs_io.specs.Device.{device_of};
+ghost use Rattle.std.specs.Prelude.{◌≤◌};
 ghost use Rattle.aprs_io.specs.Input.{most_input};
 ghost use Rattle.aprs_tool.specs.Devices.{AsksEach, CallsOutput};
-ghost use Rattle.aprs_tool.specs.Merge.{OfEach};
-ghost use Rattle.aprs_tool.specs.Show.{ShowsEach};
+ghost use Rattle.aprs_tool.specs.Outcome.{RefusesFor, SendsFor, WritesFor};
+ghost use Rattle.aprs_tool.specs.Several.{GiveUnion, IsFirstRefused, OfEach};
+ghost use Rattle.aprs_tool.specs.Show.{IsListingOf};
 
 use crate::fault::RunFault;
 use crate::gathered::Unwritten;
@@ -29,12 +29,15 @@ pub fn show_run<R: Read, W: Write, A: Allocator + Copy>(
     w: &mut Counted<W>,
 ) -> Result<(), RunFault>
     requires { limit ≤ most_input }
-    ensures run { OfEach limit (map (λ r. R.remaining (device_of r)) inputs.old)
-        (map (λ r. R.remaining (device_of r)) inputs.new)
-        (ShowsEach gap W.contents result w.old w.new) }
+    ensures writes { OfEach limit R.remaining inputs.old inputs.new (λ gots.
+        WritesFor (GiveUnion gap gots) (IsListingOf gap) W.contents result w.old w.new) }
+    ensures sends { OfEach limit R.remaining inputs.old inputs.new (λ gots.
+        SendsFor (GiveUnion gap gots) (IsListingOf gap) W.contents result w.old w.new) }
+    ensures refuses { OfEach limit R.remaining inputs.old inputs.new (λ gots.
+        RefusesFor (GiveUnion gap gots) (IsFirstRefused gap gots) result w.old w.new) }
     // The inputs are asked neither after their ends nor after a fault, nor is the output.
-    ensures reads { AsksEach result inputs.old inputs.new }
-    ensures writes { CallsOutput result w.old w.new }
+    ensures asks { AsksEach result inputs.old inputs.new }
+    ensures calls { CallsOutput result w.old w.new }
 {
     let gathered = match read_all(alloc, limit, gap, inputs) {
         Ok(gathered) => gathered,

@@ -4,7 +4,9 @@ ghost use Rattle.aprs_io.specs.Device.{device_of};
 ghost use Rattle.aprs_io.specs.Input.{most_input};
 ghost use Rattle.aprs_convert.specs.Got.{OfGot};
 ghost use Rattle.aprs_tool.specs.Devices.{AsksEach, CallsOutput};
-ghost use Rattle.aprs_tool.specs.Widen.{WidensInput};
+ghost use Rattle.aprs_tool.specs.Merge.{IsTextOfBook};
+ghost use Rattle.aprs_tool.specs.Outcome.{RefusesFor, SendsFor, WritesFor};
+ghost use Rattle.aprs_tool.specs.Widen.{GivesSetWithin, IsNotWidened};
 
 use crate::fault::{InputFault, RunFault};
 use crate::gathered::{Gathered, Unwritten};
@@ -29,11 +31,18 @@ pub fn widen_run<R: Read, W: Write, A: Allocator + Copy>(
     w: &mut Counted<W>,
 ) -> Result<(), RunFault>
     requires { limit ≤ most_input }
-    ensures run { OfGot limit (R.remaining (device_of r.old)) (R.remaining (device_of r.new))
-        (WidensInput gap W.contents result w.old w.new) }
+    ensures writes { OfGot limit (R.remaining (device_of r.old)) (R.remaining (device_of r.new))
+        (λ text ending. WritesFor (GivesSetWithin gap text ending) (IsTextOfBook gap) W.contents
+        result w.old w.new) }
+    ensures sends { OfGot limit (R.remaining (device_of r.old)) (R.remaining (device_of r.new))
+        (λ text ending. SendsFor (GivesSetWithin gap text ending) (IsTextOfBook gap) W.contents
+        result w.old w.new) }
+    ensures refuses { OfGot limit (R.remaining (device_of r.old)) (R.remaining (device_of r.new))
+        (λ text ending. RefusesFor (GivesSetWithin gap text ending)
+        (IsNotWidened gap text ending) result w.old w.new) }
     // The input is asked neither after its end nor after a fault, nor is the output.
-    ensures reads { AsksEach result (r.old ∷ []) (r.new ∷ []) }
-    ensures writes { CallsOutput result w.old w.new }
+    ensures asks { AsksEach result (r.old ∷ []) (r.new ∷ []) }
+    ensures calls { CallsOutput result w.old w.new }
 {
     let mut store = RowStore::new(alloc);
     let own = match read_input_rows(alloc, limit, gap, &mut store, r) {

@@ -1,6 +1,6 @@
 use Rattle.std.proofs.Common.{[], refl}
 use Rattle.std.proofs.lemmas.Result.{err_from_is_err_and}
-use Rattle.aprs_tool.specs.Inputs.{ReadsInput}
+use Rattle.aprs_tool.specs.InputBook.{ReadsInput}
 use Rattle.aprs_tool.proofs.Inputs.{of_got, of_head, read_alone, refused_log, short_empty, short_fault, short_is_log}
 use Rattle.aprs_tool.proofs.Readers.{AsksInput-then}
 use Rattle.aprs_tool.specs.declared.fault.InputFault.TheVariants.{Log}

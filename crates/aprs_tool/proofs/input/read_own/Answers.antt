@@ -6,8 +6,8 @@ use Rattle.aprs_tool.proofs.input.read_own.Goals as goal
 pub returns-then-eq-clause-reads : goal.returns-then-eq-clause-reads
 returns-then-eq-clause-reads g c =
     let mark = is_mark_eq c.args.head.now c.eq.result c.eq.ensures c.if-eq.true in
-    book_input c.args.gap _ _ c.args.limit c.args.head.now c.in_ok-read_book.field-0
-    c.requires.limit mark c.in_ok-read_book.ensures.reads
+    book_input c.args.gap _ _ c.args.limit c.args.head.now c.in_ok-read_book.field-0 mark
+    c.in_ok-read_book.ensures.reads
 
 pub returns-in_err-read_log-clause-reads : goal.returns-in_err-read_log-clause-reads
 returns-in_err-read_log-clause-reads g c =
@@ -24,7 +24,7 @@ returns-in_err-book_of-clause-reads g c =
     c.from_residual-in_err-book_of.ensures.1 in
     rw (p.1, p.2) (log_input _ _ c.args.limit c.args.head.now _ _ c.requires.head
     (is_other_eq c.args.head.now c.eq.result c.eq.ensures c.if-eq.false)
-    (λ t e is h. inl is) c.in_ok-read_log.ensures.reads)
+    (λ t e is h. is) c.in_ok-read_log.ensures.reads)
 
 pub returns-clause-reads : goal.returns-clause-reads
 returns-clause-reads g c =

@@ -7,7 +7,7 @@ pub returns-then-eq-clause-reads : goal.returns-then-eq-clause-reads
 returns-then-eq-clause-reads g c =
     let mark = is_mark_eq c.args.head.now c.eq.result c.eq.ensures c.if-eq.true in
     rows_input c.args.gap c.in_ok-read_rows.field-0 c.args.store.now c.read_rows.new.store _ _
-    c.args.limit c.args.head.now c.requires.limit mark c.in_ok-read_rows.ensures.kept
+    c.args.limit c.args.head.now mark c.in_ok-read_rows.ensures.kept
     c.in_ok-read_rows.ensures.reads
 
 pub returns-in_err-read_rows-clause-reads : goal.returns-in_err-read_rows-clause-reads
@@ -15,7 +15,7 @@ returns-in_err-read_rows-clause-reads g c =
     let p = err_from_is_err_and c.from_residual.result c.from_residual.ensures.1 in
     let mark = is_mark_eq c.args.head.now c.eq.result c.eq.ensures c.if-eq.true in
     rw (p.1, p.2) (refused_input _ _ c.args.limit c.args.head.now
-    c.in_err-read_rows.field-0.0 c.requires.limit mark c.in_err-read_rows.ensures.reads)
+    c.in_err-read_rows.field-0.0 mark c.in_err-read_rows.ensures.reads)
 
 pub returns-in_err-read_log-clause-reads : goal.returns-in_err-read_log-clause-reads
 returns-in_err-read_log-clause-reads g c =

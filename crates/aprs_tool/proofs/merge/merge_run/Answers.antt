@@ -1,51 +1,80 @@
 use Rattle.std.proofs.Common.{◌≡◌, ◌∙◌, ◌-◌, length, suc, subst, sym, arith}
 use Rattle.aprs_io.specs.Device.{device_of}
 use Rattle.aprs_tool.specs.Devices.{ReadsFirst}
-use Rattle.aprs_tool.specs.Merge.{IsBookTextOf}
+use Rattle.aprs_tool.specs.Merge.{IsTextOfBook}
 use Rattle.aprs_tool.proofs.LastRefused.{refused_at_last, text_cut, text_none, text_sent}
-use Rattle.aprs_tool.proofs.Merges.{same_len, text_of_book, written}
+use Rattle.aprs_tool.proofs.Merges.{same_len, text_of_book}
 use Rattle.aprs_tool.proofs.Readers.{ReadsFirst-len, StopsAt-last}
+use Rattle.aprs_tool.proofs.RunsOver.{all_cut, all_refused, all_sent, all_written, each_so, unsaid}
 use Rattle.aprs_tool.proofs.merge.merge_run.Goals as goal
 
-pub returns-in-Ok-write-clause-run : goal.returns-in-Ok-write-clause-run
-returns-in-Ok-write-clause-run g c = λ inputs e.
-    let read = c.in-Ok.ensures.reads inputs e in
-    record {
-      gots = read.gots;
-      gets = read.gets;
-      holds = written _ (IsBookTextOf _) read.gots _ _ _ read.holds (text_of_book _ _ read.holds.0)
-          (text_sent _ _ _ _ c.in-Ok-write.ensures);
-    }
+-- ---- the text was written
 
 pub returns-in-Ok-write-clause-writes : goal.returns-in-Ok-write-clause-writes
-returns-in-Ok-write-clause-writes g c = (text_sent _ _ _ _ c.in-Ok-write.ensures).calls
+returns-in-Ok-write-clause-writes g c = λ inputs e.
+    all_written c.args.limit c.args.gap inputs _ (IsTextOfBook c.args.gap) g.W.Write.contents _ _ _ _
+    (text_of_book _ _ c.in-Ok.ensures.gap) (c.in-Ok.ensures.reads inputs e)
+    (text_sent _ _ _ _ c.in-Ok-write.ensures)
 
-pub returns-in-Err-Write-clause-run : goal.returns-in-Err-Write-clause-run
-returns-in-Err-Write-clause-run g c = λ inputs e.
-    let read = c.in-Ok.ensures.reads inputs e in
-    record {
-      gots = read.gots;
-      gets = read.gets;
-      holds = written _ (IsBookTextOf _) read.gots _ _ _ read.holds (text_of_book _ _ read.holds.0)
-          (text_cut _ _ _ _ _ c.in-Err-Write.field-0-is c.in-Err-Write.ensures);
-    }
+pub returns-in-Ok-write-clause-sends : goal.returns-in-Ok-write-clause-sends
+returns-in-Ok-write-clause-sends g c = λ inputs e.
+    all_sent c.args.limit c.args.gap inputs _ (IsTextOfBook c.args.gap) g.W.Write.contents _ _ _ _
+    (text_of_book _ _ c.in-Ok.ensures.gap) (c.in-Ok.ensures.reads inputs e)
+    (text_sent _ _ _ _ c.in-Ok-write.ensures)
+
+pub returns-in-Ok-write-clause-refuses : goal.returns-in-Ok-write-clause-refuses
+returns-in-Ok-write-clause-refuses g c = λ inputs e.
+    unsaid c.args.limit inputs _ _ (c.in-Ok.ensures.reads inputs e)
+
+pub returns-in-Ok-write-clause-calls : goal.returns-in-Ok-write-clause-calls
+returns-in-Ok-write-clause-calls g c = (text_sent _ _ _ _ c.in-Ok-write.ensures).calls
+
+-- ---- the output was refused
 
 pub returns-in-Err-Write-clause-writes : goal.returns-in-Err-Write-clause-writes
-returns-in-Err-Write-clause-writes g c =
+returns-in-Err-Write-clause-writes g c = λ inputs e.
+    all_cut c.args.limit c.args.gap inputs _ (IsTextOfBook c.args.gap) g.W.Write.contents _ _ _ _
+    (text_of_book _ _ c.in-Ok.ensures.gap) (c.in-Ok.ensures.reads inputs e)
+    (text_cut _ _ _ _ _ c.in-Err-Write.field-0-is c.in-Err-Write.ensures)
+
+pub returns-in-Err-Write-clause-sends : goal.returns-in-Err-Write-clause-sends
+returns-in-Err-Write-clause-sends g c = λ inputs e.
+    all_refused c.args.limit c.args.gap inputs _ (IsTextOfBook c.args.gap) g.W.Write.contents _ _ _ _
+    (text_of_book _ _ c.in-Ok.ensures.gap) (c.in-Ok.ensures.reads inputs e)
+    (text_cut _ _ _ _ _ c.in-Err-Write.field-0-is c.in-Err-Write.ensures)
+
+pub returns-in-Err-Write-clause-refuses : goal.returns-in-Err-Write-clause-refuses
+returns-in-Err-Write-clause-refuses g c = λ inputs e.
+    unsaid c.args.limit inputs _ _ (c.in-Ok.ensures.reads inputs e)
+
+pub returns-in-Err-Write-clause-calls : goal.returns-in-Err-Write-clause-calls
+returns-in-Err-Write-clause-calls g c =
     (text_cut _ _ _ _ _ c.in-Err-Write.field-0-is c.in-Err-Write.ensures).calls
 
-pub returns-clause-run : goal.returns-clause-run
-returns-clause-run g c =
+-- ---- an allocation failed
+
+pub returns-clause-writes : goal.returns-clause-writes
+returns-clause-writes g c =
+    rw c.refused_last.ensures (λ inputs e.
+    unsaid c.args.limit inputs _ _ (c.in-Ok.ensures.reads inputs e))
+
+pub returns-clause-sends : goal.returns-clause-sends
+returns-clause-sends g c =
+    rw c.refused_last.ensures (λ inputs e.
+    unsaid c.args.limit inputs _ _ (c.in-Ok.ensures.reads inputs e))
+
+pub returns-clause-refuses : goal.returns-clause-refuses
+returns-clause-refuses g c =
     let len = ReadsFirst-len _ c.args.inputs.now c.read_all.new.inputs c.in-Ok.ensures.calls in
     let none = text_none _ _ _ _ _ c.in-Err-Memory.field-0-is c.in-Err-Memory.ensures in
     rw c.refused_last.ensures (λ inputs e.
-    let last = refused_at_last _ _ _ inputs _ _ (c.in-Ok.ensures.reads inputs e)
+    each_so c.args.limit inputs _ _ _ (λ gots first. (first, none.0))
+    (refused_at_last _ _ _ inputs _ _ (c.in-Ok.ensures.reads inputs e)
     (same_len (λ r. g.R.Read.remaining (device_of r)) c.args.inputs.now inputs e
-    ∙ sym len) none.1 in
-    record { gots = last.gots; gets = last.gets; holds = (last.holds, none.0) })
+    ∙ sym len) none.1))
 
-pub returns-clause-reads : goal.returns-clause-reads
-returns-clause-reads g c =
+pub returns-clause-asks : goal.returns-clause-asks
+returns-clause-asks g c =
     let none = text_none _ _ _ _ _ c.in-Err-Memory.field-0-is c.in-Err-Memory.ensures in
     let some = c.in-Ok.ensures.some none.1 in
     let old = c.args.inputs.now in
@@ -55,7 +84,7 @@ returns-clause-reads g c =
     rw c.refused_last.ensures (StopsAt-last (length new - 1) old new
     (subst (λ n. ReadsFirst n old new) last c.in-Ok.ensures.calls))
 
-pub returns-clause-writes : goal.returns-clause-writes
-returns-clause-writes g c =
+pub returns-clause-calls : goal.returns-clause-calls
+returns-clause-calls g c =
     rw c.refused_last.ensures
     (text_none _ _ _ _ _ c.in-Err-Memory.field-0-is c.in-Err-Memory.ensures).0

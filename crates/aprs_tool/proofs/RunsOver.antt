@@ -1,0 +1,72 @@
+-- Lemmas on what a run over several inputs writes.
+use Rattle.std.proofs.Common.{ℕ, List, Option, Ok, Err}
+use Rattle.aprs_io.specs.Device.{Sends}
+use Rattle.aprs_io.specs.declared.device.Counted.{Counted}
+use Rattle.aprs_log.specs.Reception.{Heard}
+use Rattle.aprs_laws.specs.Book.{BookOf}
+use Rattle.aprs_laws.specs.BookValue.{BookValue}
+use Rattle.aprs_laws.specs.Gap.{millis_of}
+use Rattle.aprs_tool.specs.Gathered.{ReadsEach}
+use Rattle.aprs_tool.specs.Outcome.{SendsFor, WritesFor}
+use Rattle.aprs_tool.specs.Several.{GiveUnion, GotOf, HoldsOfEach}
+use Rattle.aprs_tool.specs.declared.fault.RunFault.{RunFault}
+use Rattle.aprs_tool.specs.declared.fault.RunFault.TheVariants.{Write}
+use Rattle.aprs_tool.proofs.OneMerge.{book_of_union}
+use Rattle.aprs_tool.proofs.Outcomes.{cut_short, refused, sent, written}
+
+-- ---- what follows of what was got
+
+pub each_so : (limit : ℕ) (inputs : List (List ℕ)) (afters : List (Option (List ℕ)))
+    (P Q : List (GotOf limit) → Type 0) → ((gots : List (GotOf limit)) → P gots → Q gots)
+    → HoldsOfEach limit inputs afters P → HoldsOfEach limit inputs afters Q
+each_so limit inputs afters P Q follows h = record {
+  gots = h.gots;
+  inputs_are = h.inputs_are;
+  afters_are = h.afters_are;
+  holds = follows h.gots h.holds;
+}
+
+-- a clause that says nothing of this answer
+pub unsaid : (limit : ℕ) (inputs : List (List ℕ)) (afters : List (Option (List ℕ)))
+    (P : List (GotOf limit) → Type 0) → HoldsOfEach limit inputs afters P
+    → HoldsOfEach limit inputs afters (λ gots. Unit {0})
+unsaid limit inputs afters P h = each_so limit inputs afters P (λ gots. Unit {0}) (λ gots p. tt) h
+
+-- ---- a text that tells of whatever set the rows are the book of
+
+module _ {W : Type 0} (limit gap : ℕ) (inputs : List (List ℕ)) (afters : List (Option (List ℕ)))
+    (Tells : List Heard → List ℕ → Type 0) (contents : W → Option (List ℕ)) (old new : Counted W)
+    (b : BookValue) (text : List ℕ)
+    (tells : (S : List Heard) → BookOf (millis_of gap) S b.rows → Tells S text)
+    (read : HoldsOfEach limit inputs afters (ReadsEach gap (Ok b))) where
+  tells_each : (gots : List (GotOf limit)) → ReadsEach gap (Ok b) gots → (S : List Heard)
+      → GiveUnion gap gots S → Tells S text
+  tells_each gots p S gives = tells S (book_of_union gap limit gots S b.rows gives p.1)
+
+  pub all_written : Sends {E = RunFault} contents (Ok tt) old new text
+      → HoldsOfEach limit inputs afters
+      (λ gots. WritesFor (GiveUnion gap gots) Tells contents (Ok tt) old new)
+  all_written went = each_so limit inputs afters (ReadsEach gap (Ok b)) _
+      (λ gots p. written (GiveUnion gap gots) Tells contents old new text (p.1.0, p.1.1)
+      (tells_each gots p) went) read
+
+  pub all_sent : Sends {E = RunFault} contents (Ok tt) old new text
+      → HoldsOfEach limit inputs afters
+      (λ gots. SendsFor (GiveUnion gap gots) Tells contents (Ok tt) old new)
+  all_sent went = each_so limit inputs afters (ReadsEach gap (Ok b)) _
+      (λ gots p. sent (GiveUnion gap gots) Tells contents old new text (p.1.0, p.1.1)
+      (tells_each gots p) went) read
+
+  pub all_cut : Sends {E = RunFault} contents (Err Write) old new text
+      → HoldsOfEach limit inputs afters
+      (λ gots. WritesFor (GiveUnion gap gots) Tells contents (Err Write) old new)
+  all_cut went = each_so limit inputs afters (ReadsEach gap (Ok b)) _
+      (λ gots p. cut_short (GiveUnion gap gots) Tells contents old new text (p.1.0, p.1.1)
+      (tells_each gots p) went) read
+
+  pub all_refused : Sends {E = RunFault} contents (Err Write) old new text
+      → HoldsOfEach limit inputs afters
+      (λ gots. SendsFor (GiveUnion gap gots) Tells contents (Err Write) old new)
+  all_refused went = each_so limit inputs afters (ReadsEach gap (Ok b)) _
+      (λ gots p. refused (GiveUnion gap gots) Tells contents old new text (p.1.0, p.1.1)
+      (tells_each gots p) went) read

@@ -1,0 +1,63 @@
+-- Lemmas on the sets that an input stands for: all have one book.
+use Rattle.std.proofs.Common.{◌≡◌, ℕ, true, false, List, None, inl, inr, sym, ap, ◌∙◌, subst}
+use Rattle.aprs_io.specs.declared.input.Ending.{Ending}
+use Rattle.aprs_log.specs.LogAnswers.{log_answers, receptions_of}
+use Rattle.aprs_log.specs.Reception.{Heard}
+use Rattle.aprs_laws.specs.Book.{BookOf}
+use Rattle.aprs_laws.specs.Gap.{millis_of}
+use Rattle.aprs_laws.specs.Row.{Row}
+use Rattle.aprs_laws.proofs.Books.{book_carries, one_book}
+use Rattle.aprs_booktext.specs.Version.{gap_of}
+use Rattle.aprs_booktext.proofs.OneText.{one_text}
+use Rattle.aprs_tool.specs.Inputs.{GivesSet, IsBookFileOf, IsLogOf}
+
+-- ---- a log
+
+-- a log without a fault is one of the receptions that its lines report
+pub log_of : (t : List ℕ) (c : Ending) → (log_answers t c).fault ≡ None
+    → IsLogOf (receptions_of (log_answers t c).given) t c
+log_of t c none = record { faultless = none; heard = λ x. (λ h. h, λ h. h) }
+
+log_book : (gap : ℕ) (t : List ℕ) (c : Ending) (S T : List Heard) (rows : List Row)
+    → IsLogOf S t c → IsLogOf T t c → BookOf gap T rows → BookOf gap S rows
+log_book gap t c S T rows p q book = book_carries gap T S rows
+    (λ x. (λ h. (p.heard x).1 ((q.heard x).0 h), λ h. (q.heard x).1 ((p.heard x).0 h))) book
+
+-- ---- a book file
+
+file_book : (gap : ℕ) (t : List ℕ) (c : Ending) (S T : List Heard) (rows : List Row)
+    → IsBookFileOf gap S t c → IsBookFileOf gap T t c → BookOf (millis_of gap) T rows
+    → BookOf (millis_of gap) S rows
+file_book gap t c S T rows p q book =
+    let same : p.rows ≡ q.rows = (one_text p.version q.version p.rows q.rows p.sound q.sound
+    (sym p.text_is ∙ q.text_is)).1 in
+    subst (λ (r : List Row). BookOf (millis_of gap) S r)
+    (same ∙ one_book (millis_of gap) T q.rows rows q.book book) p.book
+
+file_gap : (gap own : ℕ) (t : List ℕ) (c : Ending) (S T : List Heard) → IsBookFileOf gap S t c
+    → IsBookFileOf own T t c → IsBookFileOf gap T t c
+file_gap gap own t c S T p q =
+    let same = (one_text p.version q.version p.rows q.rows p.sound q.sound
+    (sym p.text_is ∙ q.text_is)).0 in
+    subst (λ g. IsBookFileOf g T t c) (sym q.gap_is ∙ sym (ap gap_of same) ∙ p.gap_is) q
+
+-- ---- either
+
+-- the book of one set that an input stands for is that of each
+pub set_book : (gap : ℕ) (t : List ℕ) (c : Ending) (S T : List Heard) (rows : List Row)
+    → GivesSet gap t c S → GivesSet gap t c T → BookOf (millis_of gap) T rows
+    → BookOf (millis_of gap) S rows
+set_book gap t c S T rows (inl p) (inl q) book = file_book gap t c S T rows p.1 q.1 book
+set_book gap t c S T rows (inr p) (inr q) book = log_book (millis_of gap) t c S T rows p.1 q.1 book
+set_book gap t c S T rows (inl p) (inr q) book =
+    absurd (let x : true ≡ false = sym p.0 ∙ q.0 in cc)
+set_book gap t c S T rows (inr p) (inl q) book =
+    absurd (let x : true ≡ false = sym q.0 ∙ p.0 in cc)
+
+-- a log stands for its receptions under any gap, and a book file has one gap
+pub set_gap : (gap own : ℕ) (t : List ℕ) (c : Ending) (S T : List Heard) → GivesSet gap t c S
+    → GivesSet own t c T → GivesSet gap t c T
+set_gap gap own t c S T (inl p) (inl q) = inl (q.0, file_gap gap own t c S T p.1 q.1)
+set_gap gap own t c S T (inr p) (inr q) = inr q
+set_gap gap own t c S T (inl p) (inr q) = absurd (let x : true ≡ false = sym p.0 ∙ q.0 in cc)
+set_gap gap own t c S T (inr p) (inl q) = absurd (let x : true ≡ false = sym q.0 ∙ p.0 in cc)

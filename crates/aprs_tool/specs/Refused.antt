@@ -1,0 +1,39 @@
+-- Why an input is refused, by the text that was got of it and by what came after that.
+use Rattle.std.specs.Prelude.{◌≡◌, ◌≢◌, ◌⊎◌, ℕ, true, false, List, Some}
+use Rattle.aprs_io.specs.declared.input.Ending.{Ending}
+use Rattle.aprs_log.specs.LogAnswers.{log_answers}
+use Rattle.aprs_log.specs.Reception.{Heard}
+use Rattle.aprs_laws.specs.declared.merge_fault.MergeFault.{MergeFault}
+use Rattle.aprs_laws.specs.declared.merge_fault.MergeFault.TheVariants as merge
+use Rattle.aprs_booktext.specs.FirstFault.{FirstFault, IsMemoryAt, most_ahead}
+use Rattle.aprs_tool.specs.Inputs.{GivesSet, is_book_file}
+use Rattle.aprs_tool.specs.declared.fault.InputFault.{InputFault}
+use Rattle.aprs_tool.specs.declared.fault.InputFault.TheVariants.{Log, Book, Memory, OtherGap}
+
+-- The input itself is refused: for the fault after a log's lines, or the first of a book's text; or
+-- because an allocation failed before that, for a log, or in the line of a book file that was being
+-- read.
+abbrev pub IsFaulty : InputFault → List ℕ → Ending → Type 0
+IsFaulty (Log fault) text ending =
+    (is_book_file text ≡ false) × ((log_answers text ending).fault ≡ Some fault)
+IsFaulty (Book fault) text ending = (is_book_file text ≡ true)
+    × (IsMemoryAt most_ahead text fault ⊎ FirstFault text ending fault)
+IsFaulty Memory text ending = is_book_file text ≡ false
+IsFaulty fault text ending = ⊥
+
+-- The input is faultless, and isn't merged into a book of this gap: it is a book file of another
+-- gap, or an allocation failed for the merge.
+abbrev pub IsNotMerged : ℕ → InputFault → List ℕ → Ending → Type 0
+IsNotMerged gap OtherGap text ending = (is_book_file text ≡ true)
+    × ((other : ℕ) × (S : List Heard) × (other ≢ gap) × GivesSet other text ending S)
+IsNotMerged gap Memory text ending = (S : List Heard) × GivesSet gap text ending S
+IsNotMerged gap fault text ending = ⊥
+
+-- A book of this gap doesn't take the input, for this fault.
+abbrev pub IsNotTaken : ℕ → InputFault → List ℕ → Ending → Type 0
+IsNotTaken gap fault text ending = IsFaulty fault text ending ⊎ IsNotMerged gap fault text ending
+
+-- the fault of an input whose merge is refused
+abbrev pub fault_of_merge : MergeFault → InputFault
+fault_of_merge merge.OtherGap = OtherGap
+fault_of_merge merge.Memory = Memory
