@@ -72,11 +72,6 @@ line_of l = do
   named ← guard (is_name second.before) otherwise fault.Receiver
   line_of_digits moment second.before second.after
 
--- the line that now lies in a place, or its fault
-abbrev pub line_in : Result (Unit {0}) LineFault → Line → Result Line LineFault
-line_in (Ok u) found = Ok found
-line_in (Err fault) found = Err fault
-
 -- ---- the line that is written
 
 -- the line of a reception, without its LF
