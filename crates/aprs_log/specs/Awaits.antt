@@ -1,6 +1,6 @@
 -- What a reader of a log may still answer, by what it holds. Nobody knows yet what the device will
 -- give, so many answers may follow: those do that some rest of the input yields.
-use Rattle.std.specs.Prelude.{◌≡◌, ◌≢◌, ℕ, ◌+◌, List, ◌++◌, Option, None, Some, IfSome}
+use Rattle.std.specs.Prelude.{◌≡◌, ℕ, ◌+◌, List, ◌++◌, Option, None, Some, IfSome}
 use Rattle.aprs_log.specs.LogAnswers.{Answers, answers_from, ended, Gets}
 use Rattle.aprs_log.specs.declared.fault.LogCause.{LogCause}
 use Rattle.aprs_log.specs.declared.fault.LogCause.TheVariants as cause

@@ -1,6 +1,6 @@
 -- A line of a log: a moment's text, a space, a receiver's name, a space, and the bytes that the
 -- receiver gave in hexadecimal.
-use Rattle.std.specs.Prelude.{◌≡◌, ℕ, if◌then◌else◌, List, [], ◌∷◌, ◌++◌, length, Result, Ok, Err, nat_le}
+use Rattle.std.specs.Prelude.{ℕ, if◌then◌else◌, List, [], ◌∷◌, ◌++◌, length, Result, Ok, Err, nat_le}
 use Rattle.std.specs.Result.{result_ok}
 use Rattle.hex.specs.Hex.{decode_of, encode_lower}
 use Rattle.aprs_kiss.specs.Spelling.{kiss_text}

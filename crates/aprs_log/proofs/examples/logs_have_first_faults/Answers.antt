@@ -1,10 +1,9 @@
-use Rattle.std.proofs.Common.{◌≡◌, ◌∙◌, [], ◌∷◌, ◌++◌, ℕ, List, None, Some, sym, refl, inl, inr, subst, length, ◌≤◌, arith}
+use Rattle.std.proofs.Common.{◌≡◌, [], ◌∷◌, ◌++◌, ℕ, List, None, Some, refl, inl, inr, length, ◌≤◌, arith}
 use Rattle.aprs_io.specs.declared.input.Ending.{Ending}
 use Rattle.aprs_io.specs.declared.input.Ending.TheVariants.{End, Read}
 use Rattle.aprs_log.specs.Examples.{heard_after, hi_line, leap_line, unended_line}
 use Rattle.aprs_log.specs.LogAnswers.{log_answers}
 use Rattle.aprs_log.specs.LogText.{BeginsWrong, HasLogFault, ReportAll}
-use Rattle.aprs_log.specs.Reception.{Heard}
 use Rattle.aprs_log.specs.declared.fault.LineFault.TheVariants as fault
 use Rattle.aprs_log.specs.declared.fault.LogCause.{LogCause}
 use Rattle.aprs_log.specs.declared.fault.LogCause.TheVariants as why
