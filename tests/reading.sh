@@ -23,10 +23,7 @@ for page in reading.md reading proved.md; do
         head -n 8 "$scratch/said" >&2
     fi
 done
-build/reading.py --cited > "$scratch/said"
-# these two say so and are cited: Steps by what a line of a log is, Window by what its reader holds
-sed '/^crates\/aprs_log\/specs\/Steps\.antt/d; /^crates\/aprs_log\/specs\/Window\.antt/d' \
-    "$scratch/said" > "$scratch/cited"
+build/reading.py --cited > "$scratch/cited"
 while IFS= read -r line; do
     fail "its head says that no public clause cites it, and one does: $line"
 done < "$scratch/cited"

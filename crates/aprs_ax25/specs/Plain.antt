@@ -1,4 +1,4 @@
--- What is seen of addresses in one pass. No public contract cites these.
+-- What is seen of addresses in one pass. No public clause cites this module.
 use Rattle.std.specs.Prelude.{◌≡◌, ℕ, ◌+◌, ◌*◌, ◌/◌, ◌%◌, ◌==◌, Bool, true, ◌&&◌, ◌||◌, List, [], ◌∷◌}
 use Rattle.std.specs.Prelude.{take, not, nat_le}
 use Rattle.std.specs.List.{list_all}

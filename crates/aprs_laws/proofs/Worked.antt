@@ -70,12 +70,14 @@ joined_singles s t rows e =
 
 pub joined_near : Joined 30000 (early_row ∷ []) (close_row ∷ []) (near_row ∷ [])
 unfolding key_of key_cmp
-joined_near = joined_singles (heard 0 rx2 hi_repeated) (heard 30000 rx1 hi_frame) (near_row ∷ []) refl
+joined_near =
+    joined_singles (heard 0 rx2 hi_repeated) (heard 30000 rx1 hi_frame) (near_row ∷ []) refl
 
 pub joined_far : Joined 30000 (early_row ∷ []) (late_row ∷ []) (early_row ∷ late_row ∷ [])
 unfolding key_of key_cmp
 joined_far =
-    joined_singles (heard 0 rx2 hi_repeated) (heard 30001 rx1 hi_frame) (early_row ∷ late_row ∷ []) refl
+    joined_singles (heard 0 rx2 hi_repeated) (heard 30001 rx1 hi_frame)
+    (early_row ∷ late_row ∷ []) refl
 
 pub other_receiver : rx2 ≡ rx1 → ⊥
 other_receiver e = let g : Greater ≡ Equal = ap (λ (r : List ℕ). bytes_cmp r rx1) e in cc

@@ -14,8 +14,8 @@ pub record Key : Type 0 where
   pub destination : Call
   pub info : List ℕ
 
--- the key of a frame's bytes: the callsigns of its second address and of its first, and what follows
--- control and PID
+-- the key of a frame's bytes: the callsigns of its second address and of its first, and what
+-- follows control and PID
 unfoldable pub key_of : List ℕ → Key
 key_of frame = record {
   source = call_of (take 7 (drop 7 frame));

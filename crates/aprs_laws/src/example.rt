@@ -123,7 +123,8 @@ pub fn gaps_decide_what_is_inserted()
 /// Of receptions at one moment the greater receiver is greatest, and of one receiver's the greater
 /// frame, in whatever order they come.
 pub fn ties_go_by_receiver_then_frame()
-    ensures frame { plain_book half_minute (heard 0 rx1 hi_repeated ∷ by_rx1 0 ∷ []) ≡ row_at 0 ∷ [] }
+    ensures frame { plain_book half_minute (heard 0 rx1 hi_repeated ∷ by_rx1 0 ∷ [])
+        ≡ row_at 0 ∷ [] }
     ensures frame_turned { plain_book half_minute (by_rx1 0 ∷ heard 0 rx1 hi_repeated ∷ [])
         ≡ row_at 0 ∷ [] }
     ensures receiver { plain_book half_minute tied_pair ≡ tied_row ∷ [] }

@@ -2,10 +2,11 @@
 use Rattle.std.proofs.Common.{◌≡◌, ℕ, ◌+◌, ◌-◌, ◌<◌, ◌≤◌, List, [], ◌++◌, length, Option, None, Some, Ok, Err, IfSome, refl, arith, sym, ap, ◌∙◌, append_assoc, append-nil, subst}
 use Rattle.std.specs.Io.KnownBytes.{Consumes}
 use Rattle.aprs_io.specs.Cut.{Cut, cut_at}
+use Rattle.aprs_log.specs.States.{KeepsMemory, state_after}
 use Rattle.aprs_log.specs.Fault.{log_cause_of}
 use Rattle.aprs_log.specs.Line.{line_of}
 use Rattle.aprs_log.specs.LogAnswers.{Answers, answers_from, ended, fault_at, tail_cause, then_answers, then_given}
-use Rattle.aprs_log.specs.Awaits.{AwaitsIn, EndsHere, KeepsMemory, fault_after, state_after}
+use Rattle.aprs_log.specs.Awaits.{AwaitsIn, EndsHere, fault_after}
 use Rattle.aprs_log.specs.Reader.{AreAnswersOf}
 use Rattle.aprs_log.specs.declared.line.Line.{Line}
 use Rattle.aprs_log.specs.declared.fault.LineFault.{LineFault}

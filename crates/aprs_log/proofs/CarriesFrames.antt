@@ -1,8 +1,7 @@
 -- A line's bytes carry a frame exactly where the reading of the line finds it.
-use Rattle.std.proofs.Common.{◌≡◌, ℕ, zero, suc, ◌+◌, ◌<◌, ◌≤◌, ◌/◌, ◌%◌, ◌==◌, Bool, true, false, List, [], ◌∷◌, ◌++◌, length, map, filter, replicate, Option, None, Some, Result, Ok, Err, All, inl, inr, refl, sym, ap, ◌∙◌, append-nil, append_assoc, length-append, subst, arith, eqb-true}
-use Rattle.std.specs.Prelude.{if◌then◌else◌, nat_lt, ◌⊎◌}
+use Rattle.std.proofs.Common.{◌≡◌, ℕ, zero, suc, ◌<◌, ◌/◌, ◌%◌, ◌==◌, Bool, true, false, List, [], ◌∷◌, ◌++◌, length, map, filter, replicate, Option, None, Some, Result, Ok, Err, All, inl, inr, refl, sym, ap, ◌∙◌, append-nil, append_assoc, length-append, subst, arith, eqb-true}
+use Rattle.std.specs.Prelude.{if◌then◌else◌, nat_lt}
 use Rattle.std.specs.List.{flat_map}
-use Rattle.std.proofs.lemmas.List.Elements.{All-append, All-cons, All-nil}
 use Rattle.aprs_ax25.specs.FrameFault.{frame_of as ui_frame_of}
 use Rattle.aprs_ax25.specs.UiFrame.{IsUiFrame}
 use Rattle.aprs_ax25.specs.declared.fault.FrameFault.{FrameFault}
@@ -10,7 +9,7 @@ use Rattle.aprs_ax25.proofs.Sounds.{IsSound-len}
 use Rattle.aprs_ax25.proofs.UiFrames.{frame_of-is, frame_of-same, is-frame_of}
 use Rattle.aprs_kiss.specs.Judgement.{DataFrame, Judgement, frame_of, judgement_by, judgement_of}
 use Rattle.aprs_kiss.specs.Spelling.{HasNoEnd, is_escape, is_frame_end, spelling_of, spelling_of_byte}
-use Rattle.aprs_kiss.specs.Stream.{is_nonempty, judgements_of, nonempty_pieces_of, pieces_of, rest_of}
+use Rattle.aprs_kiss.specs.Stream.{is_nonempty, judgements_of, pieces_of, rest_of}
 use Rattle.aprs_kiss.specs.Unspelling.{unspelled}
 use Rattle.aprs_kiss.specs.declared.fault.PassFault.TheVariants.{TooLong, NotData}
 use Rattle.aprs_kiss.specs.Sizes.{most_bytes}

@@ -10,7 +10,8 @@ use Rattle.aprs_io.specs.declared.device.Counted.{Counted}
 use Rattle.aprs_io.specs.declared.input.Ending.{Ending}
 use Rattle.aprs_io.specs.declared.input.Ending.TheVariants.{End, Read, TooLong}
 use Rattle.aprs_io.proofs.Sends.{Calls-none}
-use Rattle.aprs_log.specs.Awaits.{last_in, last_of_cause, state_after}
+use Rattle.aprs_log.specs.States.{last_in, state_after}
+use Rattle.aprs_log.specs.Awaits.{last_of_cause}
 use Rattle.aprs_log.specs.Fault.{log_cause_of}
 use Rattle.aprs_log.specs.Line.{line_of}
 use Rattle.aprs_log.specs.LogAnswers.{tail_cause}

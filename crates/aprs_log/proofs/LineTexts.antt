@@ -1,12 +1,12 @@
 -- What a line says, as relations and as the reading of the line.
-use Rattle.std.proofs.Common.{◌≡◌, ◌↔◌, ◌⊎◌, ℕ, ◌<◌, ◌≤◌, Bool, true, false, List, ◌∷◌, ◌++◌, length, Option, None, Some, Result, Ok, Err, IsErr, inl, inr, refl, sym, ap, ◌∙◌, subst}
+use Rattle.std.proofs.Common.{◌≡◌, ◌⊎◌, ℕ, ◌≤◌, Bool, true, false, List, ◌∷◌, ◌++◌, length, Option, None, Some, Result, Ok, Err, IsErr, inl, inr, refl, sym, ap, ◌∙◌, subst}
 use Rattle.std.proofs.lemmas.Bool.{cases_lt}
 use Rattle.hex.specs.Hex.{decode_of}
 use Rattle.hex.specs.declared.error.FromHexError.{FromHexError}
 use Rattle.aprs_io.specs.Cut.{Cut, cut_at}
 use Rattle.aprs_log.specs.Fault.{log_cause_of}
 use Rattle.aprs_log.specs.Line.{frame_in, heard_or_passed, line_of, line_of_digits}
-use Rattle.aprs_log.specs.LineText.{CarriesFrame, HasMoment, HasReceiver, IsLine, IsPassed, IsWrongLine, Reports}
+use Rattle.aprs_log.specs.LineText.{HasMoment, HasReceiver, IsLine, IsPassed, IsWrongLine, Reports}
 use Rattle.aprs_log.specs.Moment.{moment_of}
 use Rattle.aprs_log.specs.Receiver.{IsName, is_name}
 use Rattle.aprs_log.specs.Reception.{Heard}
@@ -23,6 +23,9 @@ use Rattle.aprs_log.proofs.Lines.{has_moment, has_receiver, line_of-fields, line
 
 -- ---- a line that is in order
 
+abbrev heard_as : ℕ → List ℕ → List ℕ → Result Line LineFault
+heard_as m name frame = Ok (line.Heard (record { moment = m; receiver = name; frame = frame }))
+
 -- what reading makes of a reception that is reported
 pub reports-line_of : (l : List ℕ) (x : Heard) → Reports l x → line_of l ≡ Ok (line.Heard x)
 reports-line_of l x h =
@@ -30,10 +33,8 @@ reports-line_of l x h =
     line_of-syntax l is
     ∙ ap (λ r. Ok (heard_or_passed is.moment is.receiver r))
     (frame_in-carried is.bytes x.frame h.3)
-    ∙ ap (λ (m : ℕ). Ok (line.Heard (record { moment = m; receiver = is.receiver; frame = x.frame })))
-    (sym h.1)
-    ∙ ap (λ (r : List ℕ). Ok (line.Heard (record { moment = x.moment; receiver = r; frame = x.frame })))
-    (sym h.2)
+    ∙ ap (λ (m : ℕ). heard_as m is.receiver x.frame) (sym h.1)
+    ∙ ap (λ (name : List ℕ). heard_as x.moment name x.frame) (sym h.2)
 
 -- the line is passed over for some reason
 abbrev pub IsPassedOver : Result Line LineFault → Type 0

@@ -1,5 +1,5 @@
 -- A log's text, as relations and as the answers of its reading.
-use Rattle.std.proofs.Common.{◌≡◌, ◌≢◌, ◌⊎◌, ℕ, zero, suc, ◌+◌, ◌<◌, ◌≤◌, nat_lt, Bool, true, false, List, [], ◌∷◌, ◌++◌, length, flat_map, Option, None, Some, Result, Ok, Err, All, inl, inr, cond, refl, arith, sym, ap, ◌∙◌, subst, append_assoc, append-nil, length-append, eqb-true}
+use Rattle.std.proofs.Common.{◌≡◌, ◌≢◌, ◌⊎◌, ℕ, zero, suc, ◌+◌, ◌<◌, ◌≤◌, nat_lt, Bool, true, false, List, [], ◌∷◌, ◌++◌, length, Option, None, Some, Result, Ok, Err, inl, inr, cond, refl, arith, sym, ap, ◌∙◌, subst, append_assoc, append-nil, length-append, eqb-true}
 use Rattle.std.specs.List.{AllByRecursion}
 use Rattle.std.proofs.lemmas.Bool.{cases_lt}
 use Rattle.std.proofs.lemmas.Bool.Decides.{nat_tests}
@@ -12,8 +12,8 @@ use Rattle.aprs_io.specs.declared.input.Ending.{Ending}
 use Rattle.aprs_io.specs.declared.input.Ending.TheVariants as how
 use Rattle.aprs_log.specs.Fault.{log_cause_of}
 use Rattle.aprs_log.specs.Line.{line_of}
-use Rattle.aprs_log.specs.LineText.{IsLine, IsPassed, IsWrongLine, Reports}
-use Rattle.aprs_log.specs.LogAnswers.{Answers, answers_from, ended, ending_cause, fault_at, is_lf, log_answers, receptions_of, tail_cause, then_answers}
+use Rattle.aprs_log.specs.LineText.{IsLine, IsWrongLine}
+use Rattle.aprs_log.specs.LogAnswers.{Answers, answers_from, ended, ending_cause, fault_at, log_answers, receptions_of, tail_cause, then_answers}
 use Rattle.aprs_log.specs.LogText.{BeginsWrong, HasLogFault, HasNoLf, IsLogText, IsWrongTail, ReportAll, text_of_lines}
 use Rattle.aprs_log.specs.Reception.{Heard}
 use Rattle.aprs_log.specs.declared.fault.LineFault.{LineFault}
@@ -24,7 +24,7 @@ use Rattle.aprs_log.specs.declared.line.Line.{Line}
 use Rattle.aprs_log.specs.declared.line.Line.TheVariants as line
 use Rattle.aprs_log.specs.declared.line.TheConstants.{MAX_LINE}
 use Rattle.aprs_log.proofs.Lines.{moment_lacks, name_lacks}
-use Rattle.aprs_log.proofs.LineTexts.{IsPassedOver, line_of-passed, line_of-reports, line_of-wrong, passed-line_of, reports-line_of, wrong-line_of}
+use Rattle.aprs_log.proofs.LineTexts.{line_of-passed, line_of-reports, line_of-wrong, passed-line_of, reports-line_of, wrong-line_of}
 use Rattle.aprs_log.proofs.LogAnswers.{answers_from-line, answers_from-tail, no_lf, too_long_tail}
 use Rattle.aprs_log.proofs.Moments.{IsTextOf-text}
 

@@ -248,7 +248,8 @@ pub length_in : (form : MomentForm) (m : ℕ) (t : List ℕ) → MomentTextIn fo
 length_in Seconds m t h = ap length h.spelled
 length_in Millis m t h = ap length h.spelled
 
-pub form_by_size : (form : MomentForm) (t : List ℕ) → length t ≡ form_size form → form_of_text t ≡ form
+pub form_by_size : (form : MomentForm) (t : List ℕ) → length t ≡ form_size form
+    → form_of_text t ≡ form
 form_by_size Seconds t h = rw h refl
 form_by_size Millis t h = rw h refl
 
@@ -266,7 +267,8 @@ pub no_moment_by_size : (form : MomentForm) (t : List ℕ) → (length t ≡ for
 no_moment_by_size form t h = none_if form t h (moment_in form t) refl
 
 -- the length of a text says its form
-form_of-text : (form : MomentForm) (m : ℕ) (t : List ℕ) → MomentTextIn form m t → form_of_text t ≡ form
+form_of-text : (form : MomentForm) (m : ℕ) (t : List ℕ) → MomentTextIn form m t
+    → form_of_text t ≡ form
 form_of-text Seconds m t h = ap form_of_text h.spelled
 form_of-text Millis m t h = ap form_of_text h.spelled
 

@@ -8,7 +8,7 @@ use Rattle.aprs_kiss.specs.Judgement.{judgement_of}
 use Rattle.aprs_kiss.specs.Stream.{judgements_of, pieces_of, rest_of}
 use Rattle.aprs_kiss.specs.Unspelling.{unspelled}
 use Rattle.hex.specs.Hex.{decode_pairs}
-use Rattle.aprs_log.specs.Examples.{ended_line, heard_after, hi_digits, hi_line, leap_line, line_by, noon, unended_line}
+use Rattle.aprs_log.specs.Examples.{heard_after, hi_digits, hi_line, leap_line, line_by, noon, unended_line}
 use Rattle.aprs_log.specs.Line.{frame_in, line_of}
 use Rattle.aprs_log.specs.LogText.{HasNoLf}
 use Rattle.aprs_log.specs.Moment.{moment_in, moment_of}

@@ -1,6 +1,6 @@
 -- What a reader of a log may still answer, by what it holds. Nobody knows yet what the device will
 -- give, so many answers may follow: those do that some rest of the input yields.
-use Rattle.std.specs.Prelude.{◌≡◌, ◌≢◌, ℕ, ◌+◌, List, ◌++◌, Option, None, Some, IfSome}
+use Rattle.std.specs.Prelude.{◌≡◌, ℕ, ◌+◌, List, ◌++◌, Option, None, Some, IfSome}
 use Rattle.aprs_log.specs.LogAnswers.{Answers, answers_from, ended, Gets}
 use Rattle.aprs_log.specs.declared.fault.LogCause.{LogCause}
 use Rattle.aprs_log.specs.declared.fault.LogCause.TheVariants as cause
@@ -42,21 +42,6 @@ stop_in Reading line = None
 stop_in Ended line = Some None
 stop_in (Failed cause) line = Some (Some (fault_after line cause))
 
--- what a reader does after the tail: it stops well, or with this cause
-abbrev pub state_after : Option LogCause → State
-state_after None = Ended
-state_after (Some cause) = Failed cause
-
--- how many steps a reader may take yet: one for each byte that it may read, and one to stop
-abbrev pub work_in : State → ℕ → ℕ
-work_in Reading left = left + 1
-work_in Ended left = 0
-work_in (Failed cause) left = 0
-
--- no failed allocation stopped it
-abbrev pub KeepsMemory : State → Type 0
-KeepsMemory state = state ≢ Failed cause.Memory
-
 -- what the device answered last where a log is read no further for this cause
 abbrev pub last_of_cause : LogCause → Last
 last_of_cause cause.LongLine = Going
@@ -67,9 +52,3 @@ last_of_cause cause.Hex = Going
 last_of_cause cause.Read = Fault
 last_of_cause cause.TooLong = Going
 last_of_cause cause.Memory = Going
-
--- what it answered last, by the state of the reader
-abbrev pub last_in : State → Last
-last_in Reading = Going
-last_in Ended = End
-last_in (Failed cause) = last_of_cause cause

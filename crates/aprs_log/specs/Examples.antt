@@ -1,5 +1,5 @@
 -- Worked examples of the definitions: lines of docs/formats.md, and near misses.
-use Rattle.std.specs.Prelude.{ℕ, ◌+◌, List, [], ◌∷◌, ◌++◌, codes}
+use Rattle.std.specs.Prelude.{ℕ, ◌+◌, List, ◌∷◌, ◌++◌, codes}
 use Rattle.aprs_log.specs.Reception.{Heard}
 
 -- The bytes of a frame from N0CALL-7 to APRS that says `>Hi`.
@@ -39,7 +39,3 @@ unended_line = line_by noon (codes "c00082a0a4a64040e09c60868298986f03f03e4869")
 -- A line of a leap second.
 abbrev pub leap_line : List ℕ
 leap_line = line_by (codes "2024-05-01T12:00:60Z") hi_digits
-
--- The line with its LF.
-abbrev pub ended_line : List ℕ → List ℕ
-ended_line line = line ++ 10 ∷ []

@@ -15,9 +15,11 @@ pub mod LogText
 pub mod Moment
 pub mod Places
 pub mod Reader
+pub mod ReaderSteps
 pub mod Receiver
 pub mod Reception
 pub mod Sizes
+pub mod States
 pub mod Steps
 pub mod Window
 pub mod Written

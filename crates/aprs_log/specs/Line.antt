@@ -1,6 +1,6 @@
 -- A line of a log: a moment's text, a space, a receiver's name, a space, and the bytes that the
 -- receiver gave in hexadecimal.
-use Rattle.std.specs.Prelude.{◌≡◌, ℕ, if◌then◌else◌, List, [], ◌∷◌, ◌++◌, length, Result, Ok, Err, nat_le}
+use Rattle.std.specs.Prelude.{ℕ, if◌then◌else◌, List, [], ◌∷◌, ◌++◌, length, Result, Ok, Err, nat_le}
 use Rattle.std.specs.Result.{result_ok}
 use Rattle.hex.specs.Hex.{decode_of, encode_lower}
 use Rattle.aprs_kiss.specs.Spelling.{kiss_text}
@@ -71,11 +71,6 @@ line_of l = do
   second ← cut_at 32 first.after otherwise fault.Receiver
   named ← guard (is_name second.before) otherwise fault.Receiver
   line_of_digits moment second.before second.after
-
--- the line that now lies in a place, or its fault
-abbrev pub line_in : Result (Unit {0}) LineFault → Line → Result Line LineFault
-line_in (Ok u) found = Ok found
-line_in (Err fault) found = Err fault
 
 -- ---- the line that is written
 

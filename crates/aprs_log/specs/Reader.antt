@@ -2,7 +2,7 @@
 use Rattle.std.specs.Prelude.{◌≡◌, ℕ, ◌+◌, Bool, true, false, List, Option, None, Some, Result, Ok, Err, IsTrue}
 use Rattle.std.specs.Borrow.{GName}
 use Rattle.aprs_io.specs.declared.device.Counted.{Counted}
-use Rattle.aprs_log.specs.Awaits.{AwaitsIn, last_of_cause, stop_in, work_in}
+use Rattle.aprs_log.specs.Awaits.{AwaitsIn, last_of_cause, stop_in}
 use Rattle.aprs_io.specs.Cut.{has_byte}
 use Rattle.aprs_io.specs.Device.{Last, Going, End}
 use Rattle.aprs_log.specs.LogAnswers.{Answers, Gets, ended, log_answers, then_given}
@@ -56,13 +56,6 @@ pub record Starts {R : Type 0} (r : LogReader R) (head : List ℕ) : Type 0 wher
   pub held : read_ahead_of r ≡ head
   pub going : stop_of r ≡ None
 
--- a reader that moves without an answer: what may follow now, could have followed where it was
--- `old`
-abbrev pub Moves : {R : Type 0} → Option (List ℕ) → LogReader R → Option (List ℕ) → LogReader R
-    → Type 0
-Moves known old after new = (end : Option (List ℕ)) (answers : Answers)
-    → Awaits after end new answers → Awaits known end old answers
-
 -- what the device answered last, by what the reader answers
 abbrev pub last_told : Result (Option Line) LogFault → Last
 last_told (Ok (Some x)) = Going
@@ -76,10 +69,6 @@ pub record AreAnswersOf (limit : ℕ) (input : List ℕ) (after : Option (List �
   pub ending : Ending
   pub gets : Gets limit input after text ending
   pub is : answers ≡ log_answers text ending
-
--- how much it may read yet, where it has not stopped
-abbrev pub work_of : {R : Type 0} → LogReader R → ℕ
-work_of r = work_in r.state r.left
 
 -- what it answers where it has come to a fault or to the end
 abbrev pub answer_of_stop : Option LogFault → Result (Option Line) LogFault

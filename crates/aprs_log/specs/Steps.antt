@@ -1,5 +1,4 @@
--- Readings field by field: each step finds something or ends the reading with its fault. No public
--- clause cites this module.
+-- Readings field by field: each step finds something or ends the reading with its fault.
 use Rattle.std.specs.Prelude.{Bool, true, false, Option, None, Some, Result, Ok, Err}
 use Rattle.aprs_log.specs.declared.fault.LineFault.{LineFault}
 

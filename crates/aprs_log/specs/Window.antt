@@ -1,4 +1,4 @@
--- What a clause reads of a buffer. No public clause cites this module.
+-- What a clause reads of a buffer.
 use Rattle.std.specs.Prelude.{ℕ, List, slice_range}
 use Rattle.aprs_log.specs.declared.window.Window.{Window}
 

@@ -1,7 +1,7 @@
 //! Worked examples of the definitions, and near misses. These functions do nothing.
 ghost use Rattle.std.specs.Prelude.{◌≡◌, ◌++◌, ◌∷◌, [], ℕ, List, codes};
 ghost use Rattle.aprs_io.specs.declared.input.Ending.TheVariants.{End, Read};
-ghost use Rattle.aprs_log.specs.Examples.{ended_line, heard_after, hi_digits, hi_line, leap_line, line_by, noon, unended_line};
+ghost use Rattle.aprs_log.specs.Examples.{heard_after, hi_digits, hi_line, leap_line, line_by, noon, unended_line};
 ghost use Rattle.aprs_log.specs.LineText.{IsPassed, IsTextOf, IsWrongLine, Reports};
 ghost use Rattle.aprs_log.specs.LogText.{HasLogFault, IsLogText};
 ghost use Rattle.aprs_log.specs.Reception.{Heard};
@@ -37,14 +37,14 @@ pub fn lines_are_wrong_from_the_left()
 
 /// A log has no fault where each of its lines is in order and ended, and it is read to its end.
 pub fn logs_have_first_faults()
-    ensures faultless { IsLogText (ended_line unended_line ++ ended_line hi_line) End
+    ensures faultless { IsLogText (unended_line ++ 10 ∷ hi_line ++ 10 ∷ []) End
         (heard_after 0 ∷ []) }
-    ensures wrong { HasLogFault (ended_line hi_line ++ ended_line leap_line) End
+    ensures wrong { HasLogFault (hi_line ++ 10 ∷ leap_line ++ 10 ∷ []) End
         (record { line = 2; cause = why.Moment }) }
     ensures misses_wrong { (S : List Heard)
-        → IsLogText (ended_line hi_line ++ ended_line leap_line) End S → ⊥ }
-    ensures unended { HasLogFault (ended_line hi_line ++ hi_line) End
+        → IsLogText (hi_line ++ 10 ∷ leap_line ++ 10 ∷ []) End S → ⊥ }
+    ensures unended { HasLogFault (hi_line ++ 10 ∷ hi_line) End
         (record { line = 2; cause = why.NoNewline }) }
-    ensures cut_short { HasLogFault (ended_line hi_line ++ hi_line) Read
+    ensures cut_short { HasLogFault (hi_line ++ 10 ∷ hi_line) Read
         (record { line = 2; cause = why.Read }) }
 {}

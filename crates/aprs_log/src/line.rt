@@ -1,7 +1,8 @@
 //! Lines of a log.
+ghost use Rattle.aprs_log.specs.ReaderSteps.{line_in};
 ghost use Rattle.std.specs.Prelude.{◌≡◌, ◌≤◌, ◌*◌, ◌↔◌, length, IsOk, OnErr};
 ghost use Rattle.aprs_ax25.specs.FrameFault.{frame_of};
-ghost use Rattle.aprs_log.specs.Line.{frame_or_reason, heard_or_passed, line_in, line_of, line_of_digits};
+ghost use Rattle.aprs_log.specs.Line.{frame_or_reason, heard_or_passed, line_of, line_of_digits};
 ghost use Rattle.aprs_log.specs.LineText.{IsLine};
 ghost use Rattle.aprs_log.specs.Sizes.{most_line};
 

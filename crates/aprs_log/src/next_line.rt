@@ -1,7 +1,8 @@
 //! Lines out of a window.
+ghost use Rattle.aprs_log.specs.ReaderSteps.{line_in};
 ghost use Rattle.std.specs.Prelude.{◌≡◌, ◌<◌, length, None, Some, IfNone, IfSome, OnErr};
 ghost use Rattle.aprs_io.specs.Cut.{Cut, cut_at};
-ghost use Rattle.aprs_log.specs.Line.{line_in, line_of};
+ghost use Rattle.aprs_log.specs.Line.{line_of};
 ghost use Rattle.aprs_log.specs.Window.{items};
 
 use crate::fault::LineFault;

@@ -1,7 +1,7 @@
 //! A reader of a log's lines.
 ghost use Rattle.std.specs.Prelude.{◌≡◌, ◌≢◌, ◌+◌, ◌≤◌, length};
 ghost use Rattle.aprs_io.specs.Input.{most_input};
-ghost use Rattle.aprs_log.specs.Awaits.{KeepsMemory};
+ghost use Rattle.aprs_log.specs.States.{KeepsMemory};
 ghost use Rattle.aprs_log.specs.Window.{items};
 
 use crate::ending::{State, refuse_tail};
@@ -34,10 +34,11 @@ impl<'a, R: Read> LogReader<'a, R> {
     ghost use Rattle.std.specs.Bool.{OnTrue, OnFalse};
     ghost use Rattle.aprs_io.specs.Device.{Calls, device_of, failures_of};
     ghost use Rattle.aprs_io.specs.Cut.{cut_at};
+    ghost use Rattle.aprs_log.specs.ReaderSteps.{Moves, work_of};
+    ghost use Rattle.aprs_log.specs.States.{last_in};
     ghost use Rattle.aprs_log.specs.LogAnswers.{Answers, then_given};
     ghost use Rattle.aprs_log.specs.Window.{items};
-    ghost use Rattle.aprs_log.specs.Reader.{answer_of_stop, answer_with, Awaits, AreAnswersOf, GivesNext, HasLf, Moves, Starts, current_of, read_ahead_of, last_told, lines_of, loan_of, returns_line, source_of, stop_of, work_of};
-    ghost use Rattle.aprs_log.specs.Awaits.{last_in};
+    ghost use Rattle.aprs_log.specs.Reader.{answer_of_stop, answer_with, Awaits, AreAnswersOf, GivesNext, HasLf, Starts, current_of, read_ahead_of, last_told, lines_of, loan_of, returns_line, source_of, stop_of};
 
     /// A reader of the log that begins with `head` and goes on with the bytes of `source`. It takes
     /// at most `limit` bytes, the head among them. Requires that `limit` is at most `MAX_INPUT`,

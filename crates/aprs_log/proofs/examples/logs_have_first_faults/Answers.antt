@@ -1,10 +1,9 @@
-use Rattle.std.proofs.Common.{◌≡◌, ◌∙◌, [], ◌∷◌, ◌++◌, ℕ, List, None, Some, sym, refl, inl, inr, subst, length, ◌≤◌, arith}
+use Rattle.std.proofs.Common.{◌≡◌, [], ◌∷◌, ◌++◌, ℕ, List, None, Some, refl, inl, inr, length, ◌≤◌, arith}
 use Rattle.aprs_io.specs.declared.input.Ending.{Ending}
 use Rattle.aprs_io.specs.declared.input.Ending.TheVariants.{End, Read}
-use Rattle.aprs_log.specs.Examples.{ended_line, heard_after, hi_line, leap_line, unended_line}
+use Rattle.aprs_log.specs.Examples.{heard_after, hi_line, leap_line, unended_line}
 use Rattle.aprs_log.specs.LogAnswers.{log_answers}
 use Rattle.aprs_log.specs.LogText.{BeginsWrong, HasLogFault, ReportAll}
-use Rattle.aprs_log.specs.Reception.{Heard}
 use Rattle.aprs_log.specs.declared.fault.LineFault.TheVariants as fault
 use Rattle.aprs_log.specs.declared.fault.LogCause.{LogCause}
 use Rattle.aprs_log.specs.declared.fault.LogCause.TheVariants as why
@@ -20,7 +19,7 @@ one_report = inr (heard_after 0, [], line_of-reports hi_line (heard_after 0) hi_
 
 -- what is wrong in the second line, after the one that is in order
 second : (rest : List ℕ) (e : Ending) (cause : LogCause) → BeginsWrong rest e cause
-    → HasLogFault (ended_line hi_line ++ rest) e (record { line = 2; cause = cause })
+    → HasLogFault (hi_line ++ 10 ∷ rest) e (record { line = 2; cause = cause })
 second rest e cause wrong = record {
   lines = hi_line ∷ [];
   rest = rest;
@@ -38,9 +37,9 @@ returns-clause-faultless c = record {
   report = inl (line_of-passed unended_line (reason.Unended, unended_read), one_report);
 }
 
-wrong : HasLogFault (ended_line hi_line ++ ended_line leap_line) End
+wrong : HasLogFault (hi_line ++ 10 ∷ leap_line ++ 10 ∷ []) End
     (record { line = 2; cause = why.Moment })
-wrong = second (ended_line leap_line) End why.Moment
+wrong = second (leap_line ++ 10 ∷ []) End why.Moment
     (inr (leap_line, [], refl, leap_has_no_lf, line_of-wrong leap_line fault.Moment leap_line_read))
 
 pub returns-clause-wrong : goal.returns-clause-wrong
@@ -52,7 +51,7 @@ both_ways text f e g = absurd cc
 
 pub returns-clause-misses_wrong : goal.returns-clause-misses_wrong
 returns-clause-misses_wrong c = λ S h.
-    let text = ended_line hi_line ++ ended_line leap_line in
+    let text = hi_line ++ 10 ∷ leap_line ++ 10 ∷ [] in
     both_ways text (record { line = 2; cause = why.Moment })
     (log_fault-answers text End (record { line = 2; cause = why.Moment }) wrong)
     (log_text-answers text End S h).0

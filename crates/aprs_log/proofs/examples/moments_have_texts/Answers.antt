@@ -1,6 +1,5 @@
 use Rattle.std.proofs.Common.{◌≡◌, ℕ, arith, ◌∙◌, codes, Some, None, sym}
 use Rattle.aprs_log.specs.Examples.{noon}
-use Rattle.aprs_log.specs.Moment.{moment_of}
 use Rattle.aprs_log.proofs.Lines.{moment_read}
 use Rattle.aprs_log.proofs.Moments.{moment_of-text, text-IsTextOf}
 use Rattle.aprs_log.proofs.Worked.{half_read, leap_read, noon_read}

@@ -1,7 +1,8 @@
 use Rattle.std.proofs.Common.{◌≡◌, Option, None, Some}
 use Rattle.aprs_io.specs.Device.{Calls, device_of}
-use Rattle.aprs_log.specs.Awaits.{last_in}
-use Rattle.aprs_log.specs.Reader.{HasLf, Moves, current_of, read_ahead_of, lines_of, loan_of, source_of, stop_of, work_of}
+use Rattle.aprs_log.specs.ReaderSteps.{Moves, work_of}
+use Rattle.aprs_log.specs.States.{last_in}
+use Rattle.aprs_log.specs.Reader.{HasLf, current_of, read_ahead_of, lines_of, loan_of, source_of, stop_of}
 use Rattle.aprs_log.specs.declared.fault.LogFault.{LogFault}
 use Rattle.aprs_log.proofs.reader.LogReader.advance.Given as goal
 
