@@ -131,7 +131,7 @@ awk '
         there(first(item))
         there(record "." first(item))
     }
-' crates/*/src/*.rt crates/*/specs/*.antt > "$scratch/there"
+' crates/*/src/*.rt crates/*/src/*/*.rt crates/*/specs/*.antt > "$scratch/there"
 awk -F '[: ]+' '/^[a-z]/ { for (i = 1; i <= NF; i++) print $i }' crates.txt >> "$scratch/there"
 # files and folders, each with as much of its path as is wanted, and definitions also without .antt
 find . -name .git -prune -o -name out -prune -o -print | awk '

@@ -1,5 +1,5 @@
 -- Entries of a map that are collected from rows: one for each thing that some row reports on.
-use Rattle.std.proofs.Common.{◌≡◌, ◌∙◌, List, [], ◌∷◌, ◌++◌, append_assoc, append-nil, ◌⊎◌, Some, None, cond, sym, ap, refl, subst, inl, inr}
+use Rattle.std.proofs.Common.{◌≡◌, ◌∙◌, List, [], ◌∷◌, ◌++◌, append_assoc, append-nil, ◌⊎◌, Some, None, Result, Ok, Err, OnOk, cond, sym, ap, refl, subst, inl, inr}
 use Rattle.std.specs.List.{AllByRecursion}
 use Rattle.std.specs.Map.{lookup, keys_of}
 use Rattle.std.specs.BTreeMap.{is_at, insert_entry}
@@ -253,7 +253,7 @@ pub record SoFar (P : List Row → Type 0) (all rest : List Row) : Type 0 where
   pub split : all ≡ done ++ rest
   pub holds : P done
 
-adds_last : (rows : List Row) (x : Row) → Adds rows x (rows ++ x ∷ [])
+pub adds_last : (rows : List Row) (x : Row) → Adds rows x (rows ++ x ∷ [])
 adds_last rows x = record {
   last = refl;
   to = λ y h. elim (in_either y rows (x ∷ []) h) [
@@ -263,6 +263,16 @@ adds_last rows x = record {
   old = λ y h. in_left y rows (x ∷ []) h;
   new = in_right x rows (x ∷ []) (inl refl);
 }
+
+-- what holds where it went well
+pub on_ok : {A E : Type 0} {P Q : Type 0} (r : Result A E) → (P → Q) → OnOk r P → OnOk r Q
+on_ok (Ok v) f h = f h
+on_ok (Err e) f h = tt
+
+-- what holds of rows and one more
+pub last_added : (P : List Row → Type 0) {rows : List Row} {x : Row} {more : List Row}
+    → Adds rows x more → P (rows ++ x ∷ []) → P more
+last_added P adds h = subst P (sym adds.last) h
 
 module _ (P : List Row → Type 0) (all : List Row) where
   pub walk_starts : (rest : List Row) → rest ≡ all → P [] → SoFar P all rest

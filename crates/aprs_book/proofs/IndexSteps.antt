@@ -25,7 +25,7 @@ use Rattle.aprs_laws.proofs.Inserts.{inserted_is_book}
 use Rattle.aprs_laws.proofs.Joins.{is_greater_of}
 use Rattle.aprs_laws.proofs.Orders.{heard_total}
 use Rattle.aprs_laws.proofs.Known.{rows_know, set_knows, known_last}
-use Rattle.aprs_book.specs.declared.reported.Reported.{Reported}
+use Rattle.aprs_book.specs.declared.known.subject.Subject.{Subject}
 use Rattle.aprs_book.specs.Reports.{report_of, is_position, is_status, is_object, is_item, is_from, reports_position, reports_status, reports_object, reports_item, without_spaces}
 use Rattle.aprs_book.specs.LastKnown.{IsLastKnown, greatest_of}
 use Rattle.aprs_book.specs.Known.{FourIndexes, Topic, positions, statuses, objects, items, index_of, known_at, known_both, is_reported, reports_at, reported_by, reported_in, reported_at, AreIndexesOf, SameKnown, HaveEntries}
@@ -118,16 +118,16 @@ same_indexes rows old new h same = λ topic bytes.
     (sym (same topic bytes)) (h topic bytes)
 
 -- what a reception reports on is noted
-abbrev pub Noted : Reported → Heard → FourIndexes → FourIndexes → Type 0
+abbrev pub Noted : Subject → Heard → FourIndexes → FourIndexes → Type 0
 Noted t x old new = (topic : Topic) (bytes : List ℕ)
     → known_at bytes (index_of topic new) ≡ (if is_reported bytes (reported_at topic t)
     then Some (greater_known (known_at bytes (index_of topic old)) x)
     else known_at bytes (index_of topic old))
 
-abbrev pub IsReported : Reported → Key → Type 0
+abbrev pub IsReported : Subject → Key → Type 0
 IsReported t k = (topic : Topic) → reported_at topic t ≡ reported_in topic k
 
-noted_known : (t : Reported) (x : Heard) (i j k : FourIndexes) → IsReported t (key_of x.frame)
+noted_known : (t : Subject) (x : Heard) (i j k : FourIndexes) → IsReported t (key_of x.frame)
     → SameKnown i j
     → Noted t x j k → (topic : Topic) (bytes : List ℕ)
     → known_after (reports_at (reported_in topic) bytes) (known_at bytes (index_of topic i)) x
@@ -140,7 +140,7 @@ noted_known t x i j k reported same noted topic bytes =
     ∙ ap (λ n. if is_reported bytes (reported_in topic (key_of x.frame)) then Some
     (greater_known n x) else n) (same topic bytes))
 
-pub takes_indexes : (gap : ℕ) → 0 < gap → (t : Reported) (x : Heard) (rows new : List Row)
+pub takes_indexes : (gap : ℕ) → 0 < gap → (t : Subject) (x : Heard) (rows new : List Row)
     (i j k : FourIndexes) → Sound gap rows → AreIndexesOf rows i → IsReported t (key_of x.frame)
     → SameKnown i j → Noted t x j k → new ≡ inserted gap x rows → AreIndexesOf new k
 takes_indexes gap pos t x rows new i j k w h reported same noted made = λ topic bytes.
@@ -154,7 +154,7 @@ takes_indexes gap pos t x rows new i j k w h reported same noted made = λ topic
     (known_at bytes (index_of topic i)) w
     (h topic bytes)))
 
-pub pushes_indexes : (t : Reported) (r : Row) (rows new : List Row) (i j k : FourIndexes)
+pub pushes_indexes : (t : Subject) (r : Row) (rows new : List Row) (i j k : FourIndexes)
     → AreIndexesOf rows i → IsReported t (row_key r) → SameKnown i j → Noted t r.greatest j k
     → new ≡ rows ++ r ∷ [] → AreIndexesOf new k
 pushes_indexes t r rows new i j k h reported same noted made = λ topic bytes.
@@ -205,7 +205,7 @@ widens_indexes g h pos l rows new i none k w held empty both made = λ topic byt
     (sym (both topic bytes ∙ ap (λ t. known_both known (known_at bytes t)) (empty topic)))
     (widens_note g h pos l rows (reports_at (reported_in topic) bytes) known w (held topic bytes)))
 
-pub near_entries : (gap : ℕ) (t : Reported) (x : Heard) (rows : List Row) (i : FourIndexes)
+pub near_entries : (gap : ℕ) (t : Subject) (x : Heard) (rows : List Row) (i : FourIndexes)
     → AreIndexesOf rows i → IsReported t (key_of x.frame) → FitsInPlace gap rows x → HaveEntries t i
 near_entries gap t x rows i h reported f = λ topic bytes e.
     entry_there (reported_in topic) rows (index_of topic i) bytes f.row (h topic) f.member

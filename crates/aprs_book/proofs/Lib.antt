@@ -24,3 +24,4 @@ pub mod Listings
 pub mod MessagesOfSets
 pub mod Things
 pub mod Noting
+pub mod Exchanges

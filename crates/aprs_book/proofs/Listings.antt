@@ -4,8 +4,8 @@ use Rattle.std.specs.Map.{keys_of}
 use Rattle.std.specs.List.Sorted.{IsStrictlySortedBy}
 use Rattle.std.specs.declared.cmp.Ordering.{Ordering}
 use Rattle.aprs_laws.specs.Lists.{◌∈◌, Ordered}
-use Rattle.aprs_book.specs.declared.message_key.MessageKey.{MessageKey}
-use Rattle.aprs_book.specs.declared.message_key.Span.{Span}
+use Rattle.aprs_book.specs.declared.lists.message_key.MessageKey.{MessageKey}
+use Rattle.aprs_book.specs.declared.lists.message_key.Span.{Span}
 use Rattle.aprs_book.specs.Messages.{message_cmp}
 use Rattle.aprs_book.specs.MessageRows.{message_of, Zipped, IsKeyBefore}
 use Rattle.aprs_book.proofs.Collected.{in_order}
@@ -55,10 +55,10 @@ lists_last R all rest ys e l =
     subst (λ t. Zipped R t ys)
     (sym (append-nil l.done) ∙ (ap (λ t. l.done ++ t) (sym e) ∙ l.whole)) l.zipped
 
-pub pushed : {Y : Type 0} (b : Bool) (new more old : List Y) → b ≡ true
+pub push_done : {Y : Type 0} (b : Bool) (new more old : List Y) → b ≡ true
     → new ≡ (if b then more else old) → new ≡ more
-pushed true new more old e h = h
-pushed false new more old e h = absurd (cc)
+push_done true new more old e h = h
+push_done false new more old e h = absurd (cc)
 
 -- ---- members
 

@@ -16,10 +16,11 @@ use Rattle.aprs_log.specs.Reception.{bytes_cmp}
 use Rattle.aprs_laws.specs.Lists.{◌∈◌}
 use Rattle.aprs_laws.specs.Row.{Row, row_key, last_of}
 use Rattle.aprs_laws.proofs.Orders.{call_total, call_exact, bytes_total, bytes_exact}
-use Rattle.aprs_book.specs.declared.message_key.Span.{Span}
+use Rattle.aprs_book.specs.declared.lists.message_key.Span.{Span}
 use Rattle.aprs_book.specs.Messages.{Message, ReportsIt, message_in, message_cmp}
-use Rattle.aprs_book.specs.declared.message_key.MessageKey.{MessageKey}
+use Rattle.aprs_book.specs.declared.lists.message_key.MessageKey.{MessageKey}
 use Rattle.aprs_book.specs.MessageRows.{message_of, span_with, span_of, IsSpan, AreSpans}
+use Rattle.aprs_book.proofs.Inserts.{inserted_twice}
 use Rattle.aprs_book.proofs.Collected.{cmp_of, found, absent, Adds, passed, put}
 
 -- ---- the order of messages
@@ -163,7 +164,7 @@ module _ (rows more : List Row) (x : Row) (adds : Adds rows x more)
 
   span_there : (k : MessageKey) (m : Message) → m ≡ message_of k → message_in (row_key x) ≡ Some m
       → (known : Option Span) → lookup (is_at (keys_cmp k)) es ≡ known
-      → IsSpan more m (span_with known x)
+      → IsSpan more m (span_with known (span_of x))
   span_there k m e q None h =
       span_begins rows more x adds m q
       (λ y j p. let t = c.every y j m p in
@@ -175,7 +176,7 @@ module _ (rows more : List Row) (x : Row) (adds : Adds rows x more)
       (subst (λ (t : Message). IsSpan rows t f.0.1) (sym f.2 ∙ sym e) (c.each f.0 f.1)))
 
   pub spans_put : (k : MessageKey) (s : Span) → message_in (row_key x) ≡ Some (message_of k)
-      → s ≡ span_with (lookup (is_at (keys_cmp k)) es) x
+      → s ≡ span_with (lookup (is_at (keys_cmp k)) es) (span_of x)
       → IsStrictlySortedBy keys_cmp (keys_of (insert_entry keys_cmp es k s))
       → AreSpans more (insert_entry keys_cmp es k s)
   spans_put k s q e sorted =
@@ -193,16 +194,34 @@ module _ (rows more : List Row) (x : Row) (adds : Adds rows x more)
   pub spans_put_by : (R : MessageKey → MessageKey → Ordering)
       → ((a b : MessageKey) → R a b ≡ keys_cmp a b)
       → (k : MessageKey) (s : Span) (new : List (MessageKey × Span))
-      → message_in (row_key x) ≡ Some (message_of k) → s ≡ span_with (lookup (is_at (R k)) es) x
+      → message_in (row_key x) ≡ Some (message_of k) → s ≡ span_with (lookup (is_at (R k)) es) (span_of x)
       → new ≡ insert_entry R es k s → IsStrictlySortedBy R (keys_of new)
       → AreSpans more new
   spans_put_by R same k s new q e n sorted =
       let p : keys_cmp ≡ R = λ j a b. sym (same a b) j in
       subst (AreSpans more) (sym n)
-      (subst (λ (Q : MessageKey → MessageKey → Ordering). s ≡ span_with (lookup (is_at (Q k)) es) x
+      (subst (λ (Q : MessageKey → MessageKey → Ordering). s ≡ span_with (lookup (is_at (Q k)) es) (span_of x)
       → IsStrictlySortedBy Q (keys_of (insert_entry Q es k s))
       → AreSpans more (insert_entry Q es k s)) p (spans_put k s q) e
       (subst (λ (t : List (MessageKey × Span)). IsStrictlySortedBy R (keys_of t)) n sorted))
+
+-- a span that is put, and put again with what was known
+module _ (rows more : List Row) (x : Row) (adds : Adds rows x more)
+    (es : List (MessageKey × Span)) (c : AreSpans rows es)
+    (R : MessageKey → MessageKey → Ordering) (same : (a b : MessageKey) → R a b ≡ keys_cmp a b)
+    (k : MessageKey) (q : message_in (row_key x) ≡ Some (message_of k)) where
+  pub spans_put_twice : (again : MessageKey) → again ≡ k → (s t : Span)
+      (once twice : List (MessageKey × Span))
+      → t ≡ span_with (lookup (is_at (R k)) es) (span_of x)
+      → once ≡ insert_entry R es k s → twice ≡ insert_entry R once again t
+      → IsStrictlySortedBy R (keys_of twice) → AreSpans more twice
+  spans_put_twice again alike s t once twice e first second sorted =
+      spans_put_by rows more x adds es c R same k t twice q e
+      (second ∙ (λ i. insert_entry R (first i) (alike i) t) ∙ inserted_twice R total k s t es) sorted where
+        total : IsTotalOrder R
+        total =
+            subst (λ (Q : MessageKey → MessageKey → Ordering). IsTotalOrder Q)
+            (λ j a b. sym (same a b) j) (on_total message_of message_total)
 
 pub where_ok : {A E : Type 0} {P : Type 0} (r : Result A E) → is_ok r ≡ true → OnOk r P → P
 where_ok (Ok v) e h = h

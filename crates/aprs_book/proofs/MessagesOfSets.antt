@@ -12,11 +12,11 @@ use Rattle.aprs_laws.specs.Best.{LastKnown, IsBest}
 use Rattle.aprs_laws.specs.Spans.{IsFirstMoment, IsLastMoment}
 use Rattle.aprs_laws.proofs.Spans.{first_moment, last_moment}
 use Rattle.aprs_laws.proofs.Views.{a_row, best_of_rows, none_of_rows}
-use Rattle.aprs_book.specs.declared.message.MessageRow.{MessageRow}
-use Rattle.aprs_book.specs.declared.message.MessageState.{MessageState}
-use Rattle.aprs_book.specs.declared.message_key.MessageKey.{MessageKey}
-use Rattle.aprs_book.specs.declared.message_key.Span.{Span}
-use Rattle.aprs_book.specs.declared.message_key.Asked.{Asked}
+use Rattle.aprs_book.specs.declared.lists.message.MessageRow.{MessageRow}
+use Rattle.aprs_book.specs.declared.lists.message.MessageState.{MessageState}
+use Rattle.aprs_book.specs.declared.lists.message_key.MessageKey.{MessageKey}
+use Rattle.aprs_book.specs.declared.lists.message_key.Span.{Span}
+use Rattle.aprs_book.specs.declared.lists.message_key.Asked.{Asked}
 use Rattle.aprs_book.specs.Messages.{Message, message_cmp, ReportsIt, AnswersIt, StandsBy, shown_message, IsMessageRow, AreMessages, IsListedBefore, ReportsMessages}
 use Rattle.aprs_book.specs.MessageRows.{message_of, Answer, answer_of, IsReply, AreSpans, AreReplies, IsFor, ReportsAnswer, StateFrom, IsListed, Zipped, IsKeyBefore}
 use Rattle.aprs_book.proofs.Listings.{in_zip_right, in_zip_left}

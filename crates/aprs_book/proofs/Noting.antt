@@ -44,6 +44,18 @@ module _ (rows : List Row) (r : Row) (topic : Topic) (bytes : List ℕ) (o : Opt
       ∙ one_more (is_reported bytes o) k x r.greatest)
       (pushes_note rows r (reports_at (reported_in topic) bytes) before h)
 
+  -- a row that reports on nothing
+  pub run_stays : o ≡ None
+      → LastKnown (map greatest_of rows) (Passes (reports_at (reported_in topic) bytes)) k
+      → LastKnown (map greatest_of (rows ++ r ∷ []))
+      (Passes (reports_at (reported_in topic) bytes)) k
+  run_stays none h =
+      subst (LastKnown (map greatest_of (rows ++ r ∷ []))
+      (Passes (reports_at (reported_in topic) bytes)))
+      (ap (λ p. if is_reported bytes p then Some (greater_known k r.greatest) else k)
+      (sym same ∙ none))
+      (pushes_note rows r (reports_at (reported_in topic) bytes) k h)
+
   -- a row that reports on something else
   pub run_begins : (x : Heard) → x ≡ r.greatest → (was : Option Heard) → k ≡ was
       → LastKnown (map greatest_of rows) (Passes (reports_at (reported_in topic) bytes)) was

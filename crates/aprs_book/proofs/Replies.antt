@@ -18,7 +18,7 @@ use Rattle.aprs_laws.specs.Best.{greater_known}
 use Rattle.aprs_laws.specs.JoinRow.{greater}
 use Rattle.aprs_laws.proofs.Joins.{is_greater_of}
 use Rattle.aprs_laws.proofs.Orders.{call_total, call_exact, bytes_total, bytes_exact, heard_total, up_to_itself}
-use Rattle.aprs_book.specs.declared.message_key.Asked.{Asked}
+use Rattle.aprs_book.specs.declared.lists.message_key.Asked.{Asked}
 use Rattle.aprs_book.specs.MessageRows.{Answer, answer_of, answer_cmp, IsReply, IsGreatestReply, AreReplies, IsFor, ReportsAnswer}
 use Rattle.aprs_book.specs.Messages.{Message}
 use Rattle.aprs_book.proofs.Collected.{cmp_of, found, absent, Adds, passed, put_by, same_lookup}

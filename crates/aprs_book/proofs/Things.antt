@@ -17,7 +17,7 @@ use Rattle.aprs_laws.specs.Best.{IsBest, LastKnown}
 use Rattle.aprs_laws.specs.BestLaws.{Passes}
 use Rattle.aprs_laws.proofs.Lists.{in_left, in_right, in_either, in_map, from_map}
 use Rattle.aprs_laws.proofs.Orders.{bytes_total, bytes_exact}
-use Rattle.aprs_book.specs.declared.named.Named.{Named}
+use Rattle.aprs_book.specs.declared.lists.named.Named.{Named}
 use Rattle.aprs_book.specs.Reports.{report_of}
 use Rattle.aprs_book.specs.Names.{Thing, thing_reported, thing_cmp, ReportsOf, shown_thing, IsNamedBefore, AreNamed, ReportsNamed}
 use Rattle.aprs_book.specs.NamedRows.{shown_report, report_in, reports_in}

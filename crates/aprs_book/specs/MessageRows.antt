@@ -1,4 +1,4 @@
--- What rows report of messages and their answers.
+-- What rows report of messages and their answers. No public clause cites this module.
 use Rattle.std.specs.Prelude.{◌≡◌, ◌==◌, ◌⊎◌, ℕ, Bool, false, min, max, List, [], ◌∷◌, Option, Some, None}
 use Rattle.std.specs.Option.{option_map}
 use Rattle.std.specs.Ordering.{on, then_cmp}
@@ -12,13 +12,13 @@ use Rattle.aprs_laws.specs.Order.{IsBelow, IsUpTo}
 use Rattle.aprs_laws.specs.Key.{Key}
 use Rattle.aprs_laws.specs.Row.{Row, row_key, last_of}
 use Rattle.aprs_laws.specs.Spans.{IsLeastFirst, IsGreatestLast}
-use Rattle.aprs_book.specs.declared.message_key.MessageKey.{MessageKey}
-use Rattle.aprs_book.specs.declared.message_key.Asked.{Asked}
-use Rattle.aprs_book.specs.declared.message_key.Span.{Span}
+use Rattle.aprs_book.specs.declared.lists.message_key.MessageKey.{MessageKey}
+use Rattle.aprs_book.specs.declared.lists.message_key.Asked.{Asked}
+use Rattle.aprs_book.specs.declared.lists.message_key.Span.{Span}
 use Rattle.aprs_book.specs.Reports.{report_of}
-use Rattle.aprs_book.specs.declared.message.MessageRow.{MessageRow}
-use Rattle.aprs_book.specs.declared.message.MessageState.{MessageState}
-use Rattle.aprs_book.specs.declared.message.MessageState.TheVariants.{Unnumbered}
+use Rattle.aprs_book.specs.declared.lists.message.MessageRow.{MessageRow}
+use Rattle.aprs_book.specs.declared.lists.message.MessageState.{MessageState}
+use Rattle.aprs_book.specs.declared.lists.message.MessageState.TheVariants.{Unnumbered}
 use Rattle.aprs_book.specs.Messages.{Message, ReportsIt, message_cmp, shown_message, state_by}
 
 -- whether information begins with a colon, as that of messages and their answers does
@@ -42,9 +42,9 @@ abbrev pub span_of : Row → Span
 span_of x = record { first = x.first; last = last_of x }
 
 -- a span, if there is one, with that of one more row
-abbrev pub span_with : Option Span → Row → Span
-span_with None x = span_of x
-span_with (Some s) x = record { first = min s.first x.first; last = max s.last (last_of x) }
+abbrev pub span_with : Option Span → Span → Span
+span_with None t = t
+span_with (Some s) t = record { first = min s.first t.first; last = max s.last t.last }
 
 -- from the least first to the greatest last moment of the rows
 pub record IsSpan (rows : List Row) (m : Message) (s : Span) : Type 0 where

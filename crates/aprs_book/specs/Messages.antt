@@ -14,9 +14,9 @@ use Rattle.aprs_laws.specs.Row.{Row}
 use Rattle.aprs_laws.specs.Book.{BookOf}
 use Rattle.aprs_laws.specs.Best.{LastKnown}
 use Rattle.aprs_laws.specs.Spans.{IsFirstMoment, IsLastMoment}
-use Rattle.aprs_book.specs.declared.message.MessageRow.{MessageRow}
-use Rattle.aprs_book.specs.declared.message.MessageState.{MessageState}
-use Rattle.aprs_book.specs.declared.message.MessageState.TheVariants.{Unnumbered, Unanswered, Acknowledged, Rejected}
+use Rattle.aprs_book.specs.declared.lists.message.MessageRow.{MessageRow}
+use Rattle.aprs_book.specs.declared.lists.message.MessageState.{MessageState}
+use Rattle.aprs_book.specs.declared.lists.message.MessageState.TheVariants.{Unnumbered, Unanswered, Acknowledged, Rejected}
 use Rattle.aprs_book.specs.Reports.{report_of}
 
 -- who sent it, to whom, its text, and its id or none: receptions that agree in these are of one
@@ -50,8 +50,7 @@ message_cmp = then_cmp (on (λ m. m.source) call_cmp)
 -- ---- what answers a message
 
 -- A key that acknowledges or rejects this id of a message: its sender is the message's addressee,
--- and
--- it is addressed to the message's sender.
+-- and it is addressed to the message's sender.
 pub record AnswersIt (m : Message) (id : List ℕ) (k : Key) : Type 0 where
   pub addressee : List ℕ
   pub sender : CallText k.source m.addressee

@@ -1,7 +1,7 @@
--- What the indexes know of objects and items.
+-- What the indexes know of objects and items. No public clause cites this module.
 use Rattle.std.specs.Prelude.{Bool, ℕ, List, [], ◌∷◌, ◌++◌, Option, Some, None}
 use Rattle.aprs_log.specs.Reception.{Heard}
-use Rattle.aprs_book.specs.declared.named.Named.{Named}
+use Rattle.aprs_book.specs.declared.lists.named.Named.{Named}
 use Rattle.aprs_book.specs.Names.{Thing, shown_thing}
 use Rattle.aprs_book.specs.Known.{Entries}
 

@@ -1,11 +1,11 @@
--- What is noted of rows, one after another.
+-- What is noted of rows, one after another. No public clause cites this module.
 use Rattle.std.specs.Prelude.{ℕ, List, Option, Some, None, if◌then◌else◌, map}
 use Rattle.aprs_log.specs.Reception.{Heard}
 use Rattle.aprs_laws.specs.Row.{Row}
 use Rattle.aprs_laws.specs.Best.{LastKnown, greater_known}
 use Rattle.aprs_laws.specs.BestLaws.{Passes}
-use Rattle.aprs_book.specs.declared.notes.Notes.{Notes}
-use Rattle.aprs_book.specs.declared.notes.Run.{Run}
+use Rattle.aprs_book.specs.declared.known.notes.Notes.{Notes}
+use Rattle.aprs_book.specs.declared.known.notes.Run.{Run}
 use Rattle.aprs_book.specs.Known.{FourIndexes, Topic, index_of, is_reported, known_at, reported_at, reported_in, reports_at}
 use Rattle.aprs_book.specs.LastKnown.{greatest_of}
 
@@ -13,7 +13,7 @@ use Rattle.aprs_book.specs.LastKnown.{greatest_of}
 abbrev pub known_with : Option Run → Topic → List ℕ → FourIndexes → Option Heard
 known_with None topic bytes indexes = known_at bytes (index_of topic indexes)
 known_with (Some run) topic bytes indexes =
-    if is_reported bytes (reported_at topic run.reported)
+    if is_reported bytes (reported_at topic run.subject)
     then Some (greater_known (known_at bytes (index_of topic indexes)) run.greatest)
     else known_at bytes (index_of topic indexes)
 

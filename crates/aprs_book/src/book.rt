@@ -8,15 +8,13 @@ ghost use Rattle.aprs_laws.proofs.Joins.{gap_laws};
 ghost use Rattle.aprs_book.specs.Taking.{TakesIn, MergesInto, WidensTo};
 ghost use Rattle.aprs_rows.specs.Refusal.{refusal};
 ghost use Rattle.aprs_book.specs.Known.{AreIndexesOf};
-ghost use Rattle.aprs_book.specs.Transmission.{rows_left};
 
-use crate::indexes::Indexes;
-use crate::keyed::KeyedRows;
-use crate::millis::Millis;
-use crate::reception_view::ReceptionView;
-use crate::reported::Reported;
-use crate::transmission::RowWalk;
-use crate::walk::Walk;
+use crate::known::indexes::Indexes;
+use crate::known::reception_view::ReceptionView;
+use crate::known::subject::Subject;
+use crate::rows::keyed::KeyedRows;
+use crate::rows::millis::Millis;
+use crate::rows::walk::Walk;
 use crate::{Gap, Join, Memory, MergeFault, RowCause, RowParts, Rows, WidenFault};
 use aprs_log::Reception;
 use std::alloc::{Allocator, Global};
@@ -46,7 +44,6 @@ impl<A: Allocator> Drop for Book<A> {
 impl<A: Allocator> Model for Book<A> {
     ghost use Rattle.aprs_laws.specs.BookValue.{BookValue, IsSoundBook};
     ghost use Rattle.aprs_book.specs.Known.{AreIndexesOf};
-    ghost use Rattle.aprs_book.specs.Transmission.{rows_left};
 
     ghost Value = { BookValue };
 
@@ -113,10 +110,10 @@ impl<A: Allocator + Copy> Book<A> {
         ensures in_place { FitsInPlace (millis_of self.old.gap) self.old.rows x.now → IsOk result }
     {
         let heard = ReceptionView::of(x);
-        let reported = heard.reported();
-        self.indexes.place(&reported)?;
+        let subject = heard.subject();
+        self.indexes.place(&subject)?;
         self.rows.take(Millis::of(self.gap), x)?;
-        self.indexes.note(&reported, &heard);
+        self.indexes.note(&subject, &heard);
         Ok(())
     }
 
@@ -149,10 +146,10 @@ impl<A: Allocator + Copy> Book<A> {
         ensures unchanged { OnErr result (self.new ≡ self.old) }
     {
         let heard = parts.heard();
-        let reported = heard.reported();
-        self.indexes.place(&reported)?;
+        let subject = heard.subject();
+        self.indexes.place(&subject)?;
         self.rows.push(parts)?;
-        self.indexes.note(&reported, &heard);
+        self.indexes.note(&subject, &heard);
         Ok(())
     }
 
@@ -186,8 +183,8 @@ impl<A: Allocator + Copy> Book<A> {
         ensures sound_other { IsSoundBook other.now }
         ensures sound_result { IfOk result IsSoundBook }
     {
-        let rows = self.rows.merged(Millis::of(self.gap), &other.rows)?;
-        let indexes = self.indexes.merged(&other.indexes)?;
+        let rows = self.rows.merge(Millis::of(self.gap), &other.rows)?;
+        let indexes = self.indexes.merge(&other.indexes)?;
         Ok(Book {
             gap: self.gap,
             rows,
@@ -208,21 +205,21 @@ impl<A: Allocator + Copy> Book<A> {
         if gap.seconds() < self.gap.seconds() {
             return Err(WidenFault::Narrower);
         }
-        match self.widened(gap) {
+        match self.widen_to(gap) {
             Ok(wide) => Ok(wide),
             Err(_) => Err(WidenFault::Memory),
         }
     }
 
     /// The book of the same set under a gap that is not less.
-    fn widened(&self, gap: Gap) -> Result<Book<A>, Memory>
+    fn widen_to(&self, gap: Gap) -> Result<Book<A>, Memory>
         requires { self.now.gap ≤ gap }
         ensures wide { IfOk result (λ wide. wide ≡ widened_to gap self.now) }
         ensures sound { IsSoundBook self.now }
     {
         let alloc = self.rows.allocator();
-        let rows = self.rows.merged(Millis::of(gap), &KeyedRows::new(alloc))?;
-        let indexes = self.indexes.merged(&Indexes::new(alloc))?;
+        let rows = self.rows.merge(Millis::of(gap), &KeyedRows::new(alloc))?;
+        let indexes = self.indexes.merge(&Indexes::new(alloc))?;
         Ok(Book { gap, rows, indexes })
     }
 
@@ -232,13 +229,6 @@ impl<A: Allocator + Copy> Book<A> {
         ensures sound { IsSoundBook self.now }
     {
         self.rows.walk()
-    }
-
-    /// The rows, for what takes those of a store too.
-    pub(crate) fn walk_rows(&self) -> RowWalk<'_, '_, A>
-        ensures rows { rows_left result ≡ self.now.rows }
-    {
-        RowWalk::Kept(self.walk())
     }
 
     /// What is last known.

@@ -14,7 +14,7 @@ impl<A: Allocator + Copy> Book<A> {
         for row in rows.rows() {
             let parts = parts_of(alloc, &row)?;
             if let Err(cause) = book.push_row(&parts) {
-                return Err(refused(cause));
+                return Err(memory_of(cause));
             }
         }
         Ok(book)
@@ -35,7 +35,7 @@ fn parts_of<A: Allocator + Copy>(alloc: A, row: &RowView<'_>) -> Result<RowParts
 }
 
 /// Why a row that may be pushed is refused: an allocation failed.
-fn refused(cause: RowCause) -> Memory
+fn memory_of(cause: RowCause) -> Memory
     requires { cause ≡ RowCause.Memory }
 {
     match cause {

@@ -17,11 +17,11 @@ use Rattle.aprs_log.specs.Moment.{moment_text}
 use Rattle.aprs_log.specs.Reception.{Heard}
 use Rattle.aprs_laws.specs.Key.{key_of}
 use Rattle.aprs_book.specs.Reports.{report_of}
-use Rattle.aprs_book.specs.declared.message.MessageRow.{MessageRow}
-use Rattle.aprs_book.specs.declared.message.MessageState.{MessageState}
-use Rattle.aprs_book.specs.declared.message.MessageState.TheVariants.{Unnumbered, Unanswered, Acknowledged, Rejected}
-use Rattle.aprs_book.specs.declared.named.Named.{Named}
-use Rattle.aprs_book.specs.declared.station.Station.{Station}
+use Rattle.aprs_book.specs.declared.lists.message.MessageRow.{MessageRow}
+use Rattle.aprs_book.specs.declared.lists.message.MessageState.{MessageState}
+use Rattle.aprs_book.specs.declared.lists.message.MessageState.TheVariants.{Unnumbered, Unanswered, Acknowledged, Rejected}
+use Rattle.aprs_book.specs.declared.lists.named.Named.{Named}
+use Rattle.aprs_book.specs.declared.lists.station.Station.{Station}
 use Rattle.aprs_convert.specs.Shown.{shown, shown_byte}
 
 -- ---- fields

@@ -21,9 +21,9 @@ use Rattle.aprs_book.specs.Reports.{reports_position}
 use Rattle.aprs_book.specs.Messages.{ReportsMessages}
 use Rattle.aprs_book.specs.Names.{ReportsNamed}
 use Rattle.aprs_book.specs.Stations.{ComesBefore, IsSource, ReportsStations}
-use Rattle.aprs_book.specs.declared.message.MessageRow.{MessageRow}
-use Rattle.aprs_book.specs.declared.named.Named.{Named}
-use Rattle.aprs_book.specs.declared.station.Station.{Station}
+use Rattle.aprs_book.specs.declared.lists.message.MessageRow.{MessageRow}
+use Rattle.aprs_book.specs.declared.lists.named.Named.{Named}
+use Rattle.aprs_book.specs.declared.lists.station.Station.{Station}
 use Rattle.aprs_listing.specs.Listing.{known_line, line_of, message_line, named_line, show_text, station_lines}
 use Rattle.aprs_tool.specs.Show.{IsListingOf, TellsPosition}
 use Rattle.aprs_tool.specs.ShownBook.{IsShown, ShowsBook}

@@ -14,9 +14,9 @@ use Rattle.aprs_book.specs.Messages.{AreMessages}
 use Rattle.aprs_book.specs.Names.{AreNamed}
 use Rattle.aprs_book.specs.Reports.{reports_position}
 use Rattle.aprs_book.specs.Stations.{AreStations, IsSource}
-use Rattle.aprs_book.specs.declared.message.MessageRow.{MessageRow}
-use Rattle.aprs_book.specs.declared.named.Named.{Named}
-use Rattle.aprs_book.specs.declared.station.Station.{Station}
+use Rattle.aprs_book.specs.declared.lists.message.MessageRow.{MessageRow}
+use Rattle.aprs_book.specs.declared.lists.named.Named.{Named}
+use Rattle.aprs_book.specs.declared.lists.station.Station.{Station}
 use Rattle.aprs_listing.specs.Listing.{known_line, line_of, show_text, station_lines}
 
 -- ---- the listing of a set

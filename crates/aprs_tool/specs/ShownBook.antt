@@ -7,9 +7,9 @@ use Rattle.aprs_laws.specs.Gap.{millis_of}
 use Rattle.aprs_book.specs.Messages.{ReportsMessages}
 use Rattle.aprs_book.specs.Names.{ReportsNamed}
 use Rattle.aprs_book.specs.Stations.{ReportsStations}
-use Rattle.aprs_book.specs.declared.message.MessageRow.{MessageRow}
-use Rattle.aprs_book.specs.declared.named.Named.{Named}
-use Rattle.aprs_book.specs.declared.station.Station.{Station}
+use Rattle.aprs_book.specs.declared.lists.message.MessageRow.{MessageRow}
+use Rattle.aprs_book.specs.declared.lists.named.Named.{Named}
+use Rattle.aprs_book.specs.declared.lists.station.Station.{Station}
 use Rattle.aprs_listing.specs.Listing.{show_text}
 use Rattle.aprs_tool.specs.declared.gathered.Unwritten.{Unwritten}
 use Rattle.aprs_tool.specs.declared.gathered.Unwritten.TheVariants.{Memory, Write}

@@ -34,12 +34,12 @@ invariant_of-self-2 g c =
             ((none_exactly gap c.self.inside.rows c.args.parts.now c.self.invariant.0.sound).0
             none);
       },
-      pushes_indexes c.reported-reported.result c.args.parts.now c.self.inside.rows c.push.new.self
+      pushes_indexes c.subject-subject.result c.args.parts.now c.self.inside.rows c.push.new.self
           c.self.inside.indexes c.place.new.self c.note.new.self c.self.invariant.1
-          (λ topic. c.reported-reported.ensures topic
+          (λ topic. c.subject-subject.ensures topic
           ∙ ap (λ (x : Heard). reported_in topic (key_of x.frame)) c.heard-heard.ensures)
           c.in_ok-place.ensures.same
-          (subst (λ (x : Heard). Noted c.reported-reported.result x c.place.new.self c.note.new.self)
+          (subst (λ (x : Heard). Noted c.subject-subject.result x c.place.new.self c.note.new.self)
           c.heard-heard.ensures c.note.ensures)
           c.in_ok-push.ensures.added,
     )

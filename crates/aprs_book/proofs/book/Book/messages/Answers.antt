@@ -1,10 +1,10 @@
-use Rattle.std.proofs.Common.{IfOk, subst}
+use Rattle.std.proofs.Common.{subst}
 use Rattle.aprs_laws.specs.Gap.{millis_of}
-use Rattle.aprs_book.specs.Messages.{ReportsMessages}
+use Rattle.aprs_book.specs.Exchange.{IsExchangeOf}
 use Rattle.aprs_book.proofs.book.Book.messages.Goals as goal
 
 pub returns : goal.returns
 returns g c =
-    let gap = millis_of c.args.self.now.gap in
-    subst (λ rows. IfOk c.messages_of.result (λ v. ReportsMessages gap rows v.items))
-    c.walk_rows.ensures.rows (c.messages_of.ensures gap)
+    c.messages_of.ensures (millis_of c.args.self.now.gap) c.args.self.now.rows
+    (subst (λ rows. IsExchangeOf rows c.in_ok-exchange.exchange) c.walk.ensures.rows
+    c.in_ok-exchange.ensures)

@@ -4,8 +4,8 @@ use Rattle.aprs_laws.specs.Sound.{Sound}
 use Rattle.aprs_laws.proofs.Pushes.{sound_prefix}
 use Rattle.aprs_book.proofs.book.Book.of_rows.Goals as goal
 
-pub refused-requires : goal.refused-requires
-refused-requires g c =
+pub memory_of-requires : goal.memory_of-requires
+memory_of-requires g c =
     let gap = millis_of c.loop-row.book.gap in
     let all : Sound gap c.args.rows.now.rows =
     subst (λ n. Sound (millis_of n) c.args.rows.now.rows) (sym c.loop-row.invariant.gap)

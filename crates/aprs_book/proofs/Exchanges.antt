@@ -1,0 +1,50 @@
+-- What one more row adds to what rows exchange.
+use Rattle.std.proofs.Common.{◌≡◌, ◌∙◌, ℕ, List, [], ◌∷◌, ◌++◌, Option, Some, None, false, sym, ap, inl, inr}
+use Rattle.aprs_log.specs.Reception.{Heard}
+use Rattle.aprs_laws.specs.Key.{Key}
+use Rattle.aprs_laws.specs.Row.{Row, row_key}
+use Rattle.aprs_report.specs.Reader.{reading_of}
+use Rattle.aprs_book.specs.declared.lists.message_key.Asked.{Asked}
+use Rattle.aprs_book.specs.declared.lists.message_key.MessageKey.{MessageKey}
+use Rattle.aprs_book.specs.declared.lists.message_key.Span.{Span}
+use Rattle.aprs_book.specs.Reports.{report_of}
+use Rattle.aprs_book.specs.Messages.{Message, message_in, message_reported}
+use Rattle.aprs_book.specs.MessageRows.{Answer, AreReplies, AreSpans, IsReply, answer_reported, is_addressed}
+use Rattle.aprs_book.proofs.Addressed.{no_message_in, no_answer_in}
+use Rattle.aprs_book.proofs.Collected.{adds_last}
+use Rattle.aprs_book.proofs.Messages.{spans_passed}
+use Rattle.aprs_book.proofs.Replies.{replies_passed}
+
+-- an answer reads as one
+answer_reads : (a : Answer) (k : Key) (r : IsReply a k)
+    → answer_reported (report_of k) ≡ Some (r.addressee, a.id)
+answer_reads a k r = elim r.answer [
+  | inl e ↦ ap answer_reported e
+  | inr e ↦ ap answer_reported e
+]
+
+-- a message is no answer
+pub message_no_reply : (k : Key) (m : Message) → message_in k ≡ Some m → (a : Answer) → IsReply a k → ⊥
+message_no_reply k m h a r = elim r.answer [
+  | inl e ↦ let t : None ≡ Some m = sym (ap (message_reported k.source) e) ∙ h in absurd (cc)
+  | inr e ↦ let t : None ≡ Some m = sym (ap (message_reported k.source) e) ∙ h in absurd (cc)
+]
+
+none_is_some : {X : Type 0} (o : Option X) (x : X) → o ≡ None → o ≡ Some x → ⊥
+none_is_some o x n s = let t : None ≡ Some x = sym n ∙ s in absurd (cc)
+
+-- what begins with no colon is no answer
+pub no_reply : (k : Key) → is_addressed k.info ≡ false → (a : Answer) → IsReply a k → ⊥
+no_reply k n a r =
+    let none : answer_reported (report_of k) ≡ None = no_answer_in k.info n in
+    let some = answer_reads a k r in
+    absurd (none_is_some (answer_reported (report_of k)) (r.addressee, a.id) none some)
+
+module _ (rows : List Row) (r : Row) where
+  pub spans_beside : (es : List (MessageKey × Span)) → message_in (row_key r) ≡ None → AreSpans rows es
+      → AreSpans (rows ++ r ∷ []) es
+  spans_beside es n c = spans_passed rows (rows ++ r ∷ []) r (adds_last rows r) es c n
+
+  pub replies_beside : (es : List (Asked × Heard)) → ((a : Answer) → IsReply a (row_key r) → ⊥)
+      → AreReplies rows es → AreReplies (rows ++ r ∷ []) es
+  replies_beside es n c = replies_passed rows (rows ++ r ∷ []) r (adds_last rows r) es c n

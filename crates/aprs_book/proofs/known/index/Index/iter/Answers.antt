@@ -1,0 +1,10 @@
+use Rattle.std.proofs.Common.{subst}
+use Rattle.aprs_laws.specs.Lists.{Ordered}
+use Rattle.aprs_book.specs.Known.{IsEntryBefore}
+use Rattle.aprs_book.proofs.KnownSteps.{plain_ascend}
+use Rattle.aprs_book.proofs.known.index.Index.iter.Goals as goal
+
+pub returns-clause-ascending : goal.returns-clause-ascending
+returns-clause-ascending g c =
+    subst (Ordered IsEntryBefore) c.self.view_is
+    (plain_ascend (λ k. k.items) c.self.inside.map.entries c.iter.ensures.ordered)

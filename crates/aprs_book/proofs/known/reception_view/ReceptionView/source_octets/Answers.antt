@@ -1,0 +1,8 @@
+use Rattle.std.proofs.Common.{arith}
+use Rattle.aprs_rows.proofs.Heads.{two_addresses}
+use Rattle.aprs_book.proofs.known.reception_view.ReceptionView.source_octets.Goals as goal
+
+pub slice_bounds-result-end : goal.slice_bounds-result-end
+slice_bounds-result-end c =
+    let n = two_addresses c.self.inside.frame.now c.self.invariant.1 in
+    omega (arith, n)

@@ -1,0 +1,12 @@
+use Rattle.std.specs.List.Sorted.{IsStrictlySortedBy}
+use Rattle.std.specs.Map.{keys_of}
+use Rattle.aprs_ax25.specs.Callsign.{call_cmp}
+use Rattle.aprs_book.specs.StationRows.{AreTallies}
+use Rattle.aprs_book.proofs.Collected.{SoFar}
+use Rattle.aprs_book.proofs.lists.tally.tallies.Given as goal
+
+abbrev pub invariant-loop-row : goal.invariant-loop-row
+invariant-loop-row g l = record {
+  counted : SoFar (λ done. AreTallies done l.tallies) l.fn.rows l.row-iterator;
+  sorted : IsStrictlySortedBy call_cmp (keys_of l.tallies);
+}

@@ -1,8 +1,0 @@
-use Rattle.aprs_book.specs.MessageRows.{AreReplies}
-use Rattle.aprs_book.specs.Transmission.{rows_left}
-use Rattle.aprs_book.proofs.Collected.{SoFar}
-use Rattle.aprs_book.proofs.message.greatest_answers.Given as goal
-
-abbrev pub invariant-loop-row : goal.invariant-loop-row
-invariant-loop-row g l = SoFar (λ done. AreReplies done l.answers.entries) (rows_left l.fn.rows)
-    (rows_left l.row-iterator)

@@ -1,7 +1,0 @@
-use Rattle.aprs_book.specs.MessageRows.{IsListed}
-use Rattle.aprs_book.proofs.Listings.{Listing}
-use Rattle.aprs_book.proofs.message.listed.Given as goal
-
-abbrev pub invariant-loop-message : goal.invariant-loop-message
-invariant-loop-message g l =
-    Listing (IsListed l.answers.entries) l.spans.entries l.message-iterator l.list.items

@@ -1,0 +1,12 @@
+use Rattle.std.proofs.Common.{◌∙◌, sym, ap}
+use Rattle.std.specs.Option.{option_copied}
+use Rattle.aprs_laws.specs.Row.{Row}
+use Rattle.aprs_rows.specs.Refusal.{is_too_near}
+use Rattle.aprs_rows.proofs.Refusals.{of_last_got}
+use Rattle.aprs_book.proofs.rows.push.is_too_near.Goals as goal
+
+pub returns-in-Some : goal.returns-in-Some
+returns-in-Some g c =
+    c.reaches.ensures
+    ∙ of_last_got (λ (l : Row). is_too_near c.args.gap l c.args.parts.now) c.args.rows.now
+    c.in-Some.last.now (ap option_copied (sym c.in-Some.is) ∙ c.last.ensures.value)

@@ -1,0 +1,11 @@
+use Rattle.std.proofs.Common.{◌≡◌, ◌++◌, length}
+use Rattle.std.specs.List.{flat_map}
+use Rattle.aprs_book.proofs.rows.walk.WalkIterator.next.Given as goal
+
+abbrev pub invariant-loop-self : goal.invariant-loop-self
+invariant-loop-self g l =
+    l.initial.self-inside.rows.now ++ flat_map (λ v. v.items) l.initial.self-inside.others
+    ≡ l.self-inside.rows.now ++ flat_map (λ v. v.items) l.self-inside.others
+
+abbrev pub decreases-loop-self : goal.decreases-loop-self
+decreases-loop-self g l = length l.self-inside.others

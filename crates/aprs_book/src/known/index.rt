@@ -1,0 +1,158 @@
+//! What is last known, by the bytes of what it is known of.
+ghost use Rattle.std.specs.Prelude.{◌≡◌, ℕ, List, [], Some, IsOk, IfOk, OnOk, OnErr, cond};
+ghost use Rattle.std.specs.Option.{option_copied};
+ghost use Rattle.std.specs.Ordering.{is_eq};
+ghost use Rattle.aprs_log.specs.Reception.{bytes_cmp};
+ghost use Rattle.aprs_laws.specs.Best.{greater_known};
+ghost use Rattle.aprs_laws.specs.JoinRow.{greater};
+ghost use Rattle.aprs_laws.specs.Lists.{Ordered};
+ghost use Rattle.aprs_book.specs.Known.{known_at, known_both, plain, HasEntry, IsEntryBefore};
+
+use crate::Memory;
+use crate::known::reception_view::ReceptionView;
+use crate::rows::keyed::copy_of;
+use aprs_log::Reception;
+use std::alloc::{Allocator, Global};
+use std::collections::BTreeMap;
+use std::collections::btree_map::Iter;
+use std::marker::Model;
+
+/// The greatest reception that reports on each callsign or name. An empty entry stands for nothing.
+pub(crate) struct Index<A: Allocator = Global> {
+    map: BTreeMap<Vec<u8, A>, Option<Reception>, A>,
+    alloc: A,
+}
+
+impl<A: Allocator> Drop for Index<A> {
+    fn drop(self) {
+        let Index { map, alloc: _ } = self;
+        drop(map);
+    }
+}
+
+impl<A: Allocator> Model for Index<A> {
+    ghost use Rattle.aprs_book.specs.Known.{Entries, plain};
+
+    ghost Value = { Entries };
+
+    ghost view = { λ k. plain (λ key. key.items) k.map.entries };
+}
+
+impl<A: Allocator + Copy> Index<A> {
+    /// Nothing is known.
+    pub(crate) fn new(alloc: A) -> Index<A>
+        ensures { result ≡ [] }
+    {
+        Index {
+            map: BTreeMap::new(alloc),
+            alloc,
+        }
+    }
+
+    /// Makes an entry, which is empty, unless there is one. It knows no more than before.
+    pub(crate) fn place(&mut self, bytes: &[u8]) -> Result<(), Memory>
+        ensures same { (q : List ℕ) → known_at q self.new ≡ known_at q self.old }
+        ensures made { OnOk result (HasEntry bytes.now self.new) }
+        ensures there { HasEntry bytes.now self.old → IsOk result }
+    {
+        if self.map.contains_key(bytes) {
+            return Ok(());
+        }
+        let key = copy_of(self.alloc, bytes)?;
+        if self.map.insert(key, None).is_err() {
+            return Err(Memory);
+        }
+        Ok(())
+    }
+
+    /// Keeps the reception in the entry if it is greater than what is known. Takes no memory.
+    pub(crate) fn note(&mut self, bytes: &[u8], x: &ReceptionView<'_>)
+        requires { HasEntry bytes.now self.old }
+        ensures { (q : List ℕ) → known_at q self.new ≡ cond (is_eq (bytes_cmp bytes.now q))
+            (Some (greater_known (known_at q self.old) x.now)) (known_at q self.old) }
+    {
+        if let Some(known) = self.map.get_mut(bytes) {
+            keep(known, x);
+        }
+    }
+
+    /// Keeps the reception in its entry, which is made where there is none, if it is greater than
+    /// what is known.
+    pub(crate) fn take(&mut self, bytes: &[u8], x: &ReceptionView<'_>) -> Result<(), Memory>
+        ensures taken { OnOk result ((q : List ℕ)
+            → known_at q self.new ≡ cond (is_eq (bytes_cmp bytes.now q))
+            (Some (greater_known (known_at q self.old) x.now)) (known_at q self.old)) }
+        ensures same { OnErr result ((q : List ℕ) → known_at q self.new ≡ known_at q self.old) }
+    {
+        if let Some(known) = self.map.get_mut(bytes) {
+            keep(known, x);
+            return Ok(());
+        }
+        self.place(bytes)?;
+        self.note(bytes, x);
+        Ok(())
+    }
+
+    /// What is known. Takes no memory.
+    pub(crate) fn get(&self, bytes: &[u8]) -> Option<&Reception>
+        ensures { option_copied result ≡ known_at bytes.now self.now }
+    {
+        match self.map.get(bytes) {
+            Some(known) => known.as_ref(),
+            None => None,
+        }
+    }
+
+    /// The entries, by their bytes. Takes no memory, nor does their walk.
+    pub(crate) fn iter(&self) -> Iter<'_, Vec<u8, A>, Option<Reception>>
+        ensures entries { plain (λ key. key.items) result ≡ self.now }
+        ensures ascending { Ordered IsEntryBefore self.now }
+    {
+        self.map.iter()
+    }
+
+    /// What is known to both.
+    pub(crate) fn merge(&self, other: &Index<A>) -> Result<Index<A>, Memory>
+        ensures { IfOk result (λ both. (q : List ℕ)
+            → known_at q both ≡ known_both (known_at q self.now) (known_at q other.now)) }
+    {
+        let mut both = Index::new(self.alloc);
+        both.add(self)?;
+        both.add(other)?;
+        Ok(both)
+    }
+
+    /// Adds what the other knows.
+    fn add(&mut self, other: &Index<A>) -> Result<(), Memory>
+        ensures { OnOk result ((q : List ℕ)
+            → known_at q self.new ≡ known_both (known_at q self.old) (known_at q other.now)) }
+    {
+        for (bytes, known) in other.map.iter() {
+            if let Some(x) = known {
+                self.place(bytes.as_slice())?;
+                self.note(bytes.as_slice(), &ReceptionView::of(x));
+            }
+        }
+        Ok(())
+    }
+}
+
+/// Makes it the greater of what is known and the reception.
+fn keep(known: &mut Option<Reception>, x: &ReceptionView<'_>)
+    ensures { known.new ≡ Some (greater_known known.old x.now) }
+{
+    match known {
+        Some(greatest) => keep_greater(greatest, x),
+        None => *known = Some(x.read()),
+    }
+}
+
+/// Makes it the greater of both.
+fn keep_greater(greatest: &mut Reception, x: &ReceptionView<'_>)
+    ensures { greatest.new ≡ greater greatest.old x.now }
+{
+    let current: &Reception = greatest;
+    if ReceptionView::of(current).is_below(x) {
+        *greatest = x.read();
+    }
+}

@@ -1,0 +1,181 @@
+//! What is last known of each station, object and item.
+ghost use Rattle.std.specs.Prelude.{◌≡◌, ℕ, List, [], Some, IsOk, IfOk, OnOk, OnErr, if◌then◌else◌};
+ghost use Rattle.std.specs.Option.{option_copied};
+ghost use Rattle.aprs_laws.specs.Best.{greater_known};
+ghost use Rattle.aprs_book.specs.Known.{Topic, FourIndexes, index_of, known_at, known_both, is_reported, reported_at, SameKnown, HaveEntries, positions, statuses, objects, items};
+ghost use Rattle.aprs_rows.specs.KeyBytes.{call_bytes};
+
+use crate::Memory;
+use crate::known::index::Index;
+use crate::known::reception_view::ReceptionView;
+use crate::known::subject::Subject;
+use aprs_ax25::Callsign;
+use aprs_log::Reception;
+use aprs_rows::call_bytes;
+use std::alloc::{Allocator, Global};
+use std::marker::Model;
+
+/// The last position and status by callsign, and the last report of an object and an item by name.
+pub(crate) struct Indexes<A: Allocator = Global> {
+    positions: Index<A>,
+    statuses: Index<A>,
+    objects: Index<A>,
+    items: Index<A>,
+}
+
+impl<A: Allocator> Drop for Indexes<A> {
+    fn drop(self) {
+        let Indexes {
+            positions,
+            statuses,
+            objects,
+            items,
+        } = self;
+        drop(positions);
+        drop(statuses);
+        drop(objects);
+        drop(items);
+    }
+}
+
+impl<A: Allocator> Model for Indexes<A> {
+    ghost use Rattle.aprs_book.specs.Known.{FourIndexes};
+
+    ghost Value = { FourIndexes };
+
+    ghost view = { λ i. record {
+      positions = i.positions;
+      statuses = i.statuses;
+      objects = i.objects;
+      items = i.items;
+    } };
+}
+
+impl<A: Allocator + Copy> Indexes<A> {
+    /// Nothing is known.
+    pub(crate) fn new(alloc: A) -> Indexes<A>
+        ensures { (topic : Topic) → index_of topic result ≡ [] }
+    {
+        Indexes {
+            positions: Index::new(alloc),
+            statuses: Index::new(alloc),
+            objects: Index::new(alloc),
+            items: Index::new(alloc),
+        }
+    }
+
+    /// The last position reception of this station. Takes no memory, as the other three.
+    pub(crate) fn position(&self, station: &Callsign) -> Option<&Reception>
+        ensures { option_copied result
+            ≡ known_at (call_bytes station.now) (index_of positions self.now) }
+    {
+        self.positions.get(call_bytes(station).as_slice())
+    }
+
+    /// The last status reception of this station.
+    pub(crate) fn status(&self, station: &Callsign) -> Option<&Reception>
+        ensures { option_copied result
+            ≡ known_at (call_bytes station.now) (index_of statuses self.now) }
+    {
+        self.statuses.get(call_bytes(station).as_slice())
+    }
+
+    /// The last report of the object of this name, which has no spaces at its end.
+    pub(crate) fn object(&self, name: &[u8]) -> Option<&Reception>
+        ensures { option_copied result ≡ known_at name.now (index_of objects self.now) }
+    {
+        self.objects.get(name)
+    }
+
+    /// The last report of the item of this name, which has no spaces at its end.
+    pub(crate) fn item(&self, name: &[u8]) -> Option<&Reception>
+        ensures { option_copied result ≡ known_at name.now (index_of items self.now) }
+    {
+        self.items.get(name)
+    }
+
+    /// The last report of each object, by name.
+    pub(crate) fn objects(&self) -> &Index<A>
+        ensures { result.now ≡ index_of objects self.now }
+    {
+        &self.objects
+    }
+
+    /// The last report of each item, by name.
+    pub(crate) fn items(&self) -> &Index<A>
+        ensures { result.now ≡ index_of items self.now }
+    {
+        &self.items
+    }
+
+    /// Makes an entry for what is reported on, which is empty, unless there is one.
+    pub(crate) fn place(&mut self, subject: &Subject<'_>) -> Result<(), Memory>
+        ensures same { SameKnown self.old self.new }
+        ensures made { OnOk result (HaveEntries subject.now self.new) }
+        ensures there { HaveEntries subject.now self.old → IsOk result }
+    {
+        match subject {
+            Subject::Position(call) => self.positions.place(call.as_slice()),
+            Subject::Status(call) => self.statuses.place(call.as_slice()),
+            Subject::Object(name) => self.objects.place(name),
+            Subject::Item(name) => self.items.place(name),
+            Subject::Nothing => Ok(()),
+        }
+    }
+
+    /// Keeps the reception in the entry for what is reported on, if it is greater than what is
+    /// known. Takes no memory.
+    pub(crate) fn note(&mut self, subject: &Subject<'_>, x: &ReceptionView<'_>)
+        requires { HaveEntries subject.now self.old }
+        ensures { (topic : Topic) (bytes : List ℕ) → known_at bytes (index_of topic self.new)
+            ≡ (if is_reported bytes (reported_at topic subject.now)
+            then Some (greater_known (known_at bytes (index_of topic self.old)) x.now)
+            else known_at bytes (index_of topic self.old)) }
+    {
+        match subject {
+            Subject::Position(call) => self.positions.note(call.as_slice(), x),
+            Subject::Status(call) => self.statuses.note(call.as_slice(), x),
+            Subject::Object(name) => self.objects.note(name, x),
+            Subject::Item(name) => self.items.note(name, x),
+            Subject::Nothing => {}
+        }
+    }
+
+    /// Keeps the reception for what is reported on, if it is greater than what is known. After
+    /// `Memory` the same is known as before.
+    pub(crate) fn take(
+        &mut self,
+        subject: &Subject<'_>,
+        x: &ReceptionView<'_>,
+    ) -> Result<(), Memory>
+        ensures taken { OnOk result ((topic : Topic) (bytes : List ℕ)
+            → known_at bytes (index_of topic self.new)
+            ≡ (if is_reported bytes (reported_at topic subject.now)
+            then Some (greater_known (known_at bytes (index_of topic self.old)) x.now)
+            else known_at bytes (index_of topic self.old))) }
+        ensures same { OnErr result (SameKnown self.old self.new) }
+    {
+        match subject {
+            Subject::Position(call) => self.positions.take(call.as_slice(), x),
+            Subject::Status(call) => self.statuses.take(call.as_slice(), x),
+            Subject::Object(name) => self.objects.take(name, x),
+            Subject::Item(name) => self.items.take(name, x),
+            Subject::Nothing => Ok(()),
+        }
+    }
+
+    /// What is known to both.
+    pub(crate) fn merge(&self, other: &Indexes<A>) -> Result<Indexes<A>, Memory>
+        ensures { IfOk result (λ both. (topic : Topic) (bytes : List ℕ)
+            → known_at bytes (index_of topic both)
+            ≡ known_both (known_at bytes (index_of topic self.now))
+            (known_at bytes (index_of topic other.now))) }
+    {
+        Ok(Indexes {
+            positions: self.positions.merge(&other.positions)?,
+            statuses: self.statuses.merge(&other.statuses)?,
+            objects: self.objects.merge(&other.objects)?,
+            items: self.items.merge(&other.items)?,
+        })
+    }
+}

@@ -1,0 +1,101 @@
+//! What rows report, taken one after another.
+ghost use Rattle.std.specs.Prelude.{◌≡◌, ℕ, List, [], ◌∷◌, ◌++◌, IfOk, OnOk};
+ghost use Rattle.aprs_laws.specs.Row.{Row, row_key};
+ghost use Rattle.aprs_book.specs.Known.{Topic, AreIndexesOf, index_of, known_at, reported_at, reported_in};
+ghost use Rattle.aprs_book.specs.Notes.{AreNotesOf, known_with};
+
+use crate::Memory;
+use crate::known::indexes::Indexes;
+use crate::known::last_known::greater;
+use crate::known::reception_view::ReceptionView;
+use crate::known::subject::Subject;
+use std::alloc::{Allocator, Global};
+
+/// What some rows one after another report on, and the greatest reception of them.
+#[derive(Drop)]
+pub(crate) struct Run<'t> {
+    subject: Subject<'t>,
+    greatest: ReceptionView<'t>,
+}
+
+/// What rows report. What the last ones report is put into the indexes where a row follows that
+/// reports on something else, since most rows report on what the one before them does.
+pub(crate) struct Notes<'t, A: Allocator = Global> {
+    indexes: Indexes<A>,
+    last: Option<Run<'t>>,
+}
+
+impl<'t, A: Allocator> Drop for Notes<'t, A> {
+    fn drop(self) {
+        let Notes { indexes, last: _ } = self;
+        drop(indexes);
+    }
+}
+
+impl<'t, A: Allocator + Copy> Notes<'t, A> {
+    /// Those of no rows.
+    pub(crate) fn new(alloc: A) -> Notes<'t, A>
+        ensures { AreNotesOf [] result }
+    {
+        Notes {
+            indexes: Indexes::new(alloc),
+            last: None,
+        }
+    }
+
+    /// Adds what one more row reports on, by its greatest reception.
+    pub(crate) fn take(&mut self, subject: Subject<'t>, x: ReceptionView<'t>) -> Result<(), Memory>
+        ensures { OnOk result ((rows : List Row) (r : Row) → AreNotesOf rows self.old
+            → ((topic : Topic)
+            → reported_at topic subject.entry ≡ reported_in topic (row_key r))
+            → x.entry ≡ r.greatest → AreNotesOf (rows ++ r ∷ []) self.new) }
+    {
+        if subject.is_nothing() {
+            return Ok(());
+        }
+        match self.last.take() {
+            Some(run) if run.subject.is_same(&subject) => {
+                let greatest = greater(Some(&run.greatest), x);
+                self.last = Some(Run { subject, greatest });
+                Ok(())
+            }
+            Some(run) => {
+                self.indexes.take(&run.subject, &run.greatest)?;
+                self.last = Some(Run {
+                    subject,
+                    greatest: x,
+                });
+                Ok(())
+            }
+            None => {
+                self.last = Some(Run {
+                    subject,
+                    greatest: x,
+                });
+                Ok(())
+            }
+        }
+    }
+
+    /// The indexes of all.
+    pub(crate) fn into_indexes(self) -> Result<Indexes<A>, Memory>
+        ensures { IfOk result (λ indexes. (rows : List Row) → AreNotesOf rows self.entry
+            → AreIndexesOf rows indexes) }
+    {
+        let Notes { mut indexes, last } = self;
+        put(&mut indexes, last)?;
+        Ok(indexes)
+    }
+}
+
+/// Puts what rows report into the indexes, where there are some.
+fn put<A: Allocator + Copy>(indexes: &mut Indexes<A>, last: Option<Run<'_>>) -> Result<(), Memory>
+    ensures { OnOk result ((topic : Topic) (bytes : List ℕ)
+        → known_at bytes (index_of topic indexes.new)
+        ≡ known_with last.entry topic bytes indexes.old) }
+{
+    match last {
+        Some(run) => indexes.take(&run.subject, &run.greatest),
+        None => Ok(()),
+    }
+}

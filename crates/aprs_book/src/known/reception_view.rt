@@ -1,0 +1,160 @@
+//! A reception in bytes.
+ghost use Rattle.std.specs.Prelude.{◌≡◌, take, drop};
+ghost use Rattle.std.specs.Ordering.{is_lt};
+ghost use Rattle.aprs_ax25.specs.Frame.{FrameOf};
+ghost use Rattle.aprs_ax25.specs.FrameFault.{parts_of};
+ghost use Rattle.aprs_log.specs.Reception.{heard_cmp};
+ghost use Rattle.aprs_laws.specs.Key.{key_of};
+ghost use Rattle.aprs_book.specs.Known.{Topic, reported_at, reported_in};
+
+use crate::known::subject::Subject;
+use aprs_ax25::{Callsign, Frame};
+use aprs_log::{Moment, Receiver, Reception};
+use aprs_rows::RowView;
+use std::cmp::Ordering;
+use std::marker::Model;
+
+/// A reception whose bytes lie elsewhere: in a reception, in a row or in a store of rows.
+#[derive(Drop)]
+pub(crate) struct ReceptionView<'a> {
+    moment: Moment,
+    receiver: &'a [u8],
+    frame: &'a [u8],
+    info: &'a [u8],
+}
+
+impl<'a> Model for ReceptionView<'a> {
+    ghost use Rattle.std.specs.Prelude.{◌≡◌};
+    ghost use Rattle.aprs_ax25.specs.Frame.{FrameOf};
+    ghost use Rattle.aprs_ax25.specs.FrameFault.{parts_of};
+    ghost use Rattle.aprs_log.specs.Receiver.{IsName};
+    ghost use Rattle.aprs_log.specs.Reception.{Heard as Received};
+
+    ghost Value = { Received };
+
+    ghost view = { λ x.
+        record { moment = x.moment; receiver = x.receiver.now; frame = x.frame.now } };
+
+    ghost invariant = { λ x. IsName x.receiver.now
+        × FrameOf (parts_of x.frame.now) x.frame.now
+        × (x.info.now ≡ (parts_of x.frame.now).info) };
+}
+
+impl<'a> ReceptionView<'a> {
+    /// The reception of these.
+    pub(crate) fn new(moment: Moment, receiver: &'a Receiver, frame: &'a Frame) -> ReceptionView<'a>
+        ensures { result
+            ≡ record { moment = moment; receiver = receiver.now; frame = frame.now } }
+    {
+        ReceptionView {
+            moment,
+            receiver: receiver.as_bytes(),
+            frame: frame.bytes(),
+            info: frame.info(),
+        }
+    }
+
+    /// The reception.
+    pub(crate) fn of(x: &'a Reception) -> ReceptionView<'a>
+        ensures { result ≡ x.now }
+    {
+        ReceptionView::new(x.moment(), x.receiver(), x.frame())
+    }
+
+    /// The greatest reception of a row.
+    pub(crate) fn of_row(row: &RowView<'a>) -> ReceptionView<'a>
+        ensures { result ≡ row.now.greatest }
+    {
+        ReceptionView {
+            moment: row.last(),
+            receiver: row.receiver(),
+            frame: row.frame(),
+            info: row.info(),
+        }
+    }
+
+    /// When the frame was heard.
+    pub(crate) fn moment(&self) -> Moment
+        ensures { result ≡ self.now.moment }
+    {
+        self.moment
+    }
+
+    /// The information of the frame.
+    #[tactic(auto, unfolding(aprs_laws::specs::Key::key_of))]
+    pub(crate) fn info(&self) -> &'a [u8]
+        ensures { result.now ≡ (key_of self.now.frame).info }
+    {
+        self.info
+    }
+
+    /// The station that sent the frame.
+    #[tactic(auto, unfolding(aprs_laws::specs::Key::key_of))]
+    pub(crate) fn source(&self) -> Callsign
+        ensures { result ≡ (key_of self.now.frame).source }
+    {
+        read_frame(self.frame).source()
+    }
+
+    /// The seven octets of the address of that station.
+    pub(crate) fn source_octets(&self) -> &'a [u8]
+        ensures { result.now ≡ take 7 (drop 7 self.now.frame) }
+    {
+        &self.frame[7..14]
+    }
+
+    /// What its frame reports on.
+    #[tactic(auto, unfolding(aprs_laws::specs::Key::key_of))]
+    pub(crate) fn subject(&self) -> Subject<'a>
+        ensures { (topic : Topic)
+            → reported_at topic result ≡ reported_in topic (key_of self.now.frame) }
+    {
+        Subject::of(&self.source(), self.info)
+    }
+
+    /// Whether it comes before the other in the order of receptions.
+    pub(crate) fn is_below(&self, other: &ReceptionView<'_>) -> bool
+        ensures { result ≡ is_lt (heard_cmp self.now other.now) }
+    {
+        match self.moment.cmp(&other.moment) {
+            Ordering::Equal => match self.receiver.cmp(other.receiver) {
+                Ordering::Equal => self.frame.cmp(other.frame).is_lt(),
+                unequal => unequal.is_lt(),
+            },
+            unequal => unequal.is_lt(),
+        }
+    }
+
+    /// The same reception.
+    pub(crate) fn copy(&self) -> ReceptionView<'a>
+        ensures { result ≡ self.now }
+    {
+        ReceptionView {
+            moment: self.moment,
+            receiver: self.receiver,
+            frame: self.frame,
+            info: self.info,
+        }
+    }
+
+    /// The reception, in a place of its own.
+    pub(crate) fn read(&self) -> Reception
+        ensures { result ≡ self.now }
+    {
+        match Receiver::parse(self.receiver) {
+            Some(receiver) => Reception::new(self.moment, receiver, read_frame(self.frame)),
+            None => unreachable!(),
+        }
+    }
+}
+
+/// The frame of these bytes.
+fn read_frame(bytes: &[u8]) -> Frame
+    requires { FrameOf (parts_of bytes.now) bytes.now }
+    ensures { result ≡ bytes.now }
+{
+    match Frame::read(bytes) {
+        Ok(frame) => frame,
+        Err(_) => unreachable!(),
+    }
+}

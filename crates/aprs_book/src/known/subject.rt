@@ -1,0 +1,66 @@
+//! What a frame reports on.
+ghost use Rattle.std.specs.Prelude.{◌≡◌, true, None};
+ghost use Rattle.aprs_report.specs.Reader.{reading_of};
+ghost use Rattle.aprs_book.specs.Known.{Topic, reported_at, reported_by};
+ghost use Rattle.aprs_rows.specs.KeyBytes.{call_bytes};
+
+use aprs_ax25::Callsign;
+use aprs_report::Report;
+use aprs_rows::call_bytes;
+use arrayvec::ArrayVec;
+
+/// What a frame reports on, by the bytes that an index has.
+#[derive(Drop)]
+pub(crate) enum Subject<'a> {
+    /// Where this station is.
+    Position(ArrayVec<u8, 8>),
+    /// The status of this station.
+    Status(ArrayVec<u8, 8>),
+    /// The object of this name.
+    Object(&'a [u8]),
+    /// The item of this name.
+    Item(&'a [u8]),
+    /// Nothing that an index has.
+    Nothing,
+}
+
+impl<'a> Subject<'a> {
+    /// What a frame from this station with this information reports on.
+    pub(crate) fn of(source: &Callsign, info: &'a [u8]) -> Subject<'a>
+        ensures { (topic : Topic) → reported_at topic result
+            ≡ reported_by topic source.now (reading_of info.now) }
+    {
+        match Report::read(info) {
+            Report::Position { .. } => Subject::Position(call_bytes(source)),
+            Report::Status { .. } => Subject::Status(call_bytes(source)),
+            Report::Object { name, .. } => Subject::Object(name),
+            Report::Item { name, .. } => Subject::Item(name),
+            _ => Subject::Nothing,
+        }
+    }
+
+    /// Whether it is nothing that an index has.
+    pub(crate) fn is_nothing(&self) -> bool
+        ensures { result ≡ true → (topic : Topic) → reported_at topic self.now ≡ None }
+    {
+        matches!(self, Subject::Nothing)
+    }
+
+    /// Whether it is the same that another frame reports on. Two that report on nothing aren't.
+    pub(crate) fn is_same(&self, other: &Subject<'_>) -> bool
+        ensures { result ≡ true
+            → (topic : Topic) → reported_at topic self.now ≡ reported_at topic other.now }
+    {
+        match (self, other) {
+            (Subject::Position(ours), Subject::Position(theirs)) => {
+                ours.as_slice() == theirs.as_slice()
+            }
+            (Subject::Status(ours), Subject::Status(theirs)) => {
+                ours.as_slice() == theirs.as_slice()
+            }
+            (Subject::Object(ours), Subject::Object(theirs)) => ours == theirs,
+            (Subject::Item(ours), Subject::Item(theirs)) => ours == theirs,
+            _ => false,
+        }
+    }
+}

@@ -1,0 +1,11 @@
+//! The lists of what was heard: stations, objects, items and messages.
+
+pub(crate) mod exchange;
+pub(crate) mod message;
+pub(crate) mod message_key;
+pub(crate) mod named;
+pub(crate) mod overview;
+pub(crate) mod sender;
+pub(crate) mod station;
+pub(crate) mod survey;
+pub(crate) mod tally;

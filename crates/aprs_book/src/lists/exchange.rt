@@ -1,0 +1,131 @@
+//! Messages and their answers, of rows that are taken one after another.
+ghost use Rattle.std.specs.Prelude.{◌≡◌, ◌↔◌, List, [], ◌∷◌, ◌++◌, Some, IfOk, OnOk};
+ghost use Rattle.aprs_laws.specs.Key.{key_of};
+ghost use Rattle.aprs_laws.specs.Row.{Row, row_key, last_of};
+ghost use Rattle.aprs_book.specs.Messages.{message_in};
+ghost use Rattle.aprs_book.specs.MessageRows.{Answer, AreReplies, AreSpans, IsReply, answer_of, message_of};
+ghost use Rattle.aprs_book.specs.Exchange.{IsExchangeOf};
+
+use crate::Memory;
+use crate::known::last_known::greater;
+use crate::known::reception_view::ReceptionView;
+use crate::lists::message_key::{
+    Asked, MessageKey, Span, is_addressed, message_in, reply_in, span_with,
+};
+use crate::lists::sender::Sender;
+use crate::rows::walk::Walk;
+use aprs_ax25::Callsign;
+use aprs_log::Moment;
+use std::alloc::{Allocator, Global};
+use std::collections::BTreeMap;
+
+/// Each message of some rows with its moments, and the greatest answer of each kind.
+pub(crate) struct Exchange<'t, A: Allocator = Global> {
+    pub spans: BTreeMap<MessageKey<'t>, Span, A>,
+    pub answers: BTreeMap<Asked<'t>, ReceptionView<'t>, A>,
+}
+
+impl<'t, A: Allocator> Drop for Exchange<'t, A> {
+    fn drop(self) {
+        let Exchange { spans, answers } = self;
+        drop(spans);
+        drop(answers);
+    }
+}
+
+impl<'t, A: Allocator + Copy> Exchange<'t, A> {
+    /// That of no rows.
+    pub(crate) fn new(alloc: A) -> Exchange<'t, A>
+        ensures { IsExchangeOf [] result }
+    {
+        Exchange {
+            spans: BTreeMap::new(alloc),
+            answers: BTreeMap::new(alloc),
+        }
+    }
+
+    /// Adds one more row, by who sent it, its first moment and its greatest reception.
+    pub(crate) fn take(
+        &mut self,
+        sender: &Callsign,
+        first: Moment,
+        heard: &ReceptionView<'t>,
+    ) -> Result<(), Memory>
+        requires { sender.now ≡ (key_of heard.now.frame).source }
+        ensures { OnOk result ((rows : List Row) (r : Row) → IsExchangeOf rows self.old
+            → first ≡ r.first → heard.now ≡ r.greatest
+            → IsExchangeOf (rows ++ r ∷ []) self.new) }
+    {
+        if !is_addressed(heard.info()) {
+            return Ok(());
+        }
+        if let Some(message) = message_in(sender, heard) {
+            let last = heard.moment();
+            return put_span(&mut self.spans, message, &Span { first, last });
+        }
+        match reply_in(sender, heard) {
+            Some(asked) => put_answer(&mut self.answers, asked, heard),
+            None => Ok(()),
+        }
+    }
+}
+
+/// Adds the moments of a row to those of its message. Most messages come once, so that the map is
+/// searched once for them.
+fn put_span<'t, A: Allocator + Copy>(
+    spans: &mut BTreeMap<MessageKey<'t>, Span, A>,
+    message: MessageKey<'t>,
+    more: &Span,
+) -> Result<(), Memory>
+    ensures { OnOk result ((rows : List Row) (r : Row) → AreSpans rows spans.old.entries
+        → message_in (row_key r) ≡ Some (message_of message.entry)
+        → more.now.first ≡ r.first → more.now.last ≡ last_of r
+        → AreSpans (rows ++ r ∷ []) spans.new.entries) }
+{
+    let again = message.copy();
+    let known = match spans.insert(message, *more) {
+        Ok(Some(known)) => known,
+        Ok(None) => return Ok(()),
+        Err(_) => return Err(Memory),
+    };
+    if spans.insert(again, span_with(&known, more)).is_err() {
+        return Err(Memory);
+    }
+    Ok(())
+}
+
+/// Keeps the greatest reception of a row for what it answers, if it is greater than what is kept.
+fn put_answer<'t, A: Allocator + Copy>(
+    answers: &mut BTreeMap<Asked<'t>, ReceptionView<'t>, A>,
+    asked: Asked<'t>,
+    heard: &ReceptionView<'t>,
+) -> Result<(), Memory>
+    ensures { OnOk result ((rows : List Row) (r : Row) → AreReplies rows answers.old.entries
+        → ((a : Answer) → IsReply a (row_key r) ↔ (Some (answer_of asked.entry) ≡ Some a))
+        → heard.now ≡ r.greatest
+        → AreReplies (rows ++ r ∷ []) answers.new.entries) }
+{
+    let answer = greater(answers.get(&asked), heard.copy());
+    if answers.insert(asked, answer).is_err() {
+        return Err(Memory);
+    }
+    Ok(())
+}
+
+/// The exchange of a book's rows.
+pub(crate) fn exchange_of<'t, A: Allocator + Copy>(
+    alloc: A,
+    rows: Walk<'t, A>,
+) -> Result<Exchange<'t, A>, Memory>
+    ensures { IfOk result (IsExchangeOf rows.entry) }
+{
+    let mut exchange = Exchange::new(alloc);
+    let mut before = None;
+    for row in rows {
+        let heard = ReceptionView::of(row.greatest());
+        let sender = Sender::after(before, &heard);
+        exchange.take(sender.call(), row.first(), &heard)?;
+        before = Some(sender);
+    }
+    Ok(exchange)
+}

@@ -1,0 +1,159 @@
+//! The messages of a book.
+ghost use Rattle.std.specs.Prelude.{◌≡◌, ℕ, List, IfOk};
+ghost use Rattle.std.specs.Option.{option_copied};
+ghost use Rattle.aprs_laws.specs.Lists.{Ordered};
+ghost use Rattle.aprs_report.specs.Reader.{reading_of};
+ghost use Rattle.aprs_laws.specs.Gap.{millis_of};
+ghost use Rattle.aprs_laws.specs.Row.{Row};
+ghost use Rattle.aprs_book.specs.Messages.{state_by, state_reported, ReportsMessages};
+ghost use Rattle.aprs_book.specs.MessageRows.{message_of, IsListed, ReportsAnswer, Zipped, IsKeyBefore};
+ghost use Rattle.aprs_book.specs.Exchange.{IsExchangeOf};
+
+use crate::known::reception_view::ReceptionView;
+use crate::lists::exchange::{Exchange, exchange_of};
+use crate::lists::message_key::{Asked, MessageKey, Span};
+use crate::{Book, Memory};
+use aprs_ax25::Callsign;
+use aprs_log::Moment;
+use aprs_report::Report;
+use std::alloc::Allocator;
+use std::collections::BTreeMap;
+
+/// What came of a message.
+#[derive(Clone, Copy, Debug, PartialEq, Eq)]
+pub enum MessageState {
+    /// It has no id, so nothing can answer it.
+    Unnumbered,
+    /// Nothing answered it since its first reception.
+    Unanswered,
+    /// It was acknowledged last.
+    Acknowledged,
+    /// It was rejected last.
+    Rejected,
+}
+
+/// A message that was heard.
+#[derive(Drop)]
+pub struct MessageRow<'a> {
+    /// Who sent it.
+    pub source: Callsign,
+    /// To whom, without the spaces at its end.
+    pub addressee: &'a [u8],
+    /// Without the id.
+    pub text: &'a [u8],
+    /// One to five letters or digits.
+    pub id: Option<&'a [u8]>,
+    /// The first moment at which it was heard.
+    pub first: Moment,
+    /// The last moment at which it was heard.
+    pub last: Moment,
+    /// What came of it.
+    pub state: MessageState,
+}
+
+impl<A: Allocator + Copy> Book<A> {
+    /// The messages that were heard, ascending by source, addressee, text and id, where none comes
+    /// first.
+    pub fn messages(&self) -> Result<Vec<MessageRow<'_>, A>, Memory>
+        ensures { IfOk result (λ messages.
+            ReportsMessages (millis_of self.now.gap) self.now.rows messages.items) }
+    {
+        let exchange = exchange_of(self.allocator(), self.walk())?;
+        messages_of(self.allocator(), &exchange)
+    }
+}
+
+/// The messages of rows, by what they exchange.
+pub(crate) fn messages_of<'a, A: Allocator + Copy>(
+    alloc: A,
+    exchange: &Exchange<'a, A>,
+) -> Result<Vec<MessageRow<'a>, A>, Memory>
+    ensures { (gap : ℕ) (rows : List Row) → IsExchangeOf rows exchange.now
+        → IfOk result (λ messages. ReportsMessages gap rows messages.items) }
+{
+    list_messages(alloc, &exchange.spans, &exchange.answers)
+}
+
+/// The messages with their moments and what came of them.
+fn list_messages<'a, A: Allocator + Copy>(
+    alloc: A,
+    spans: &BTreeMap<MessageKey<'a>, Span, A>,
+    answers: &BTreeMap<Asked<'a>, ReceptionView<'a>, A>,
+) -> Result<Vec<MessageRow<'a>, A>, Memory>
+    ensures ascending { Ordered IsKeyBefore spans.now.entries }
+    ensures rows { IfOk result (λ list.
+        Zipped (IsListed answers.now.entries) spans.now.entries list.items) }
+{
+    let mut list = Vec::new(alloc);
+    for (message, span) in spans.iter() {
+        if list.push(row_of(message, span, answers)).is_err() {
+            return Err(Memory);
+        }
+    }
+    Ok(list)
+}
+
+/// A message with its moments and what came of it.
+fn row_of<'a, A: Allocator + Copy>(
+    message: &MessageKey<'a>,
+    span: &Span,
+    answers: &BTreeMap<Asked<'a>, ReceptionView<'a>, A>,
+) -> MessageRow<'a>
+    ensures { IsListed answers.now.entries (message.now, span.now) result }
+{
+    let state = match message.id {
+        Some(id) => state_by(span.first, greatest_answer(message, id, answers)),
+        None => MessageState::Unnumbered,
+    };
+    MessageRow {
+        source: message.source.copy(),
+        addressee: message.addressee,
+        text: message.text,
+        id: message.id,
+        first: span.first,
+        last: span.last,
+        state,
+    }
+}
+
+/// The greatest answer to this id of a message, or none.
+fn greatest_answer<'a, 'b, A: Allocator + Copy>(
+    message: &MessageKey<'a>,
+    id: &'a [u8],
+    answers: &'b BTreeMap<Asked<'a>, ReceptionView<'a>, A>,
+) -> Option<&'b ReceptionView<'a>>
+    ensures { ReportsAnswer answers.now.entries (message_of message.now) id.now
+        (option_copied result) }
+{
+    match Callsign::parse(message.addressee) {
+        Ok(addressee) => {
+            let asked = Asked {
+                source: message.source.copy(),
+                addressee,
+                id,
+            };
+            answers.get(&asked)
+        }
+        Err(_) => None,
+    }
+}
+
+/// What came of a message first heard at this moment, by its greatest answer.
+fn state_by(first: Moment, answer: Option<&ReceptionView<'_>>) -> MessageState
+    ensures { result ≡ state_by first (option_copied answer.entry) }
+{
+    match answer {
+        Some(x) if x.moment() >= first => state_reported(x.info()),
+        _ => MessageState::Unanswered,
+    }
+}
+
+/// What an answer of this information says.
+fn state_reported(info: &[u8]) -> MessageState
+    ensures { result ≡ state_reported (reading_of info.now) }
+{
+    match Report::read(info) {
+        Report::Rej { .. } => MessageState::Rejected,
+        _ => MessageState::Acknowledged,
+    }
+}

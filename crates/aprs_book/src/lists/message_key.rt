@@ -1,0 +1,118 @@
+//! What makes messages one, and what answers them.
+ghost use Rattle.std.specs.Prelude.{◌≡◌, ◌↔◌, Some};
+ghost use Rattle.std.specs.Option.{option_map};
+ghost use Rattle.aprs_laws.specs.Key.{key_of};
+ghost use Rattle.aprs_report.specs.Reader.{reading_of};
+ghost use Rattle.aprs_book.specs.Messages.{message_in};
+ghost use Rattle.aprs_book.specs.MessageRows.{message_of, is_addressed, span_with, Answer, answer_of, answer_reported, IsReply};
+
+use crate::known::reception_view::ReceptionView;
+use aprs_ax25::Callsign;
+use aprs_log::Moment;
+use aprs_report::Report;
+
+/// A message: receptions that agree in all of these are of one.
+#[derive(PartialEq, Eq, PartialOrd, Ord, Drop)]
+pub(crate) struct MessageKey<'a> {
+    pub source: Callsign,
+    pub addressee: &'a [u8],
+    pub text: &'a [u8],
+    pub id: Option<&'a [u8]>,
+}
+
+impl<'a> MessageKey<'a> {
+    /// The same message.
+    pub(crate) fn copy(&self) -> MessageKey<'a>
+        ensures { result ≡ self.now }
+    {
+        MessageKey {
+            source: self.source.copy(),
+            addressee: self.addressee,
+            text: self.text,
+            id: self.id,
+        }
+    }
+}
+
+/// From the first to the last moment.
+#[derive(Clone, Copy)]
+pub(crate) struct Span {
+    pub first: Moment,
+    pub last: Moment,
+}
+
+/// What an answer names: the station whose message it answers, the one that answers, and the id.
+#[derive(PartialEq, Eq, PartialOrd, Ord, Drop)]
+pub(crate) struct Asked<'a> {
+    pub source: Callsign,
+    pub addressee: Callsign,
+    pub id: &'a [u8],
+}
+
+/// The message that a reception from this station reports, or none.
+#[tactic(auto, unfolding(aprs_laws::specs::Key::key_of))]
+pub(crate) fn message_in<'a>(sender: &Callsign, heard: &ReceptionView<'a>) -> Option<MessageKey<'a>>
+    requires { sender.now ≡ (key_of heard.now.frame).source }
+    ensures { option_map message_of result ≡ message_in (key_of heard.now.frame) }
+{
+    match Report::read(heard.info()) {
+        Report::Message {
+            addressee,
+            text,
+            id,
+        } => Some(MessageKey {
+            source: sender.copy(),
+            addressee,
+            text,
+            id,
+        }),
+        _ => None,
+    }
+}
+
+/// What is known of a message's moments, with those of one more row.
+pub(crate) fn span_with(known: &Span, more: &Span) -> Span
+    ensures { result ≡ span_with (Some known.now) more.now }
+{
+    Span {
+        first: known.first.min(more.first),
+        last: known.last.max(more.last),
+    }
+}
+
+/// What a reception from this station answers, if it is an answer to a callsign.
+pub(crate) fn reply_in<'a>(sender: &Callsign, heard: &ReceptionView<'a>) -> Option<Asked<'a>>
+    requires { sender.now ≡ (key_of heard.now.frame).source }
+    ensures { (a : Answer) → IsReply a (key_of heard.now.frame)
+        ↔ (option_map answer_of result ≡ Some a) }
+{
+    let (addressee, id) = answer_in(heard.info())?;
+    match Callsign::parse(addressee) {
+        Ok(source) => Some(Asked {
+            source,
+            addressee: sender.copy(),
+            id,
+        }),
+        Err(_) => None,
+    }
+}
+
+/// The addressee and the id of an answer that has this information.
+fn answer_in(info: &[u8]) -> Option<(&[u8], &[u8])>
+    ensures { option_map (λ x. (x.0.now, x.1.now)) result
+        ≡ answer_reported (reading_of info.now) }
+{
+    match Report::read(info) {
+        Report::Ack { addressee, id } => Some((addressee, id)),
+        Report::Rej { addressee, id } => Some((addressee, id)),
+        _ => None,
+    }
+}
+
+/// Whether information begins with the data type of messages and their answers (APRS Protocol
+/// Reference 1.0.1, chapter 14). Most doesn't, and needn't be read.
+pub(crate) fn is_addressed(info: &[u8]) -> bool
+    ensures { result ≡ is_addressed info.now }
+{
+    matches!(info, [b':', ..])
+}

@@ -1,0 +1,73 @@
+//! The objects and items of a book.
+ghost use Rattle.std.specs.Prelude.{◌≡◌, ◌++◌, ℕ, List, map, IfOk, OnOk};
+ghost use Rattle.aprs_laws.specs.Gap.{millis_of};
+ghost use Rattle.aprs_laws.specs.Lists.{Ordered};
+ghost use Rattle.aprs_book.specs.Known.{AreIndexesOf, IsEntryBefore};
+ghost use Rattle.aprs_laws.specs.Row.{Row};
+ghost use Rattle.aprs_book.specs.Names.{ReportsNamed};
+ghost use Rattle.aprs_book.specs.NamedRows.{shown_report, reports_in};
+
+use crate::known::index::Index;
+use crate::known::indexes::Indexes;
+use crate::{Book, Heard, Memory};
+use std::alloc::Allocator;
+
+/// An object or an item that was heard of.
+#[derive(Drop)]
+pub struct Named<'a> {
+    /// Whether it is an item.
+    pub is_item: bool,
+    /// Its name, without the spaces at its end.
+    pub name: &'a [u8],
+    /// Its last report.
+    pub heard: Heard<'a>,
+}
+
+impl<A: Allocator + Copy> Book<A> {
+    /// The last report of each object, by name, and then of each item, by name.
+    pub fn objects(&self) -> Result<Vec<Named<'_>, A>, Memory>
+        ensures { IfOk result (λ named.
+            ReportsNamed (millis_of self.now.gap) self.now.rows named.items) }
+    {
+        objects_of(self.allocator(), self.indexes())
+    }
+}
+
+/// The objects and items that are known of.
+pub(crate) fn objects_of<'a, A: Allocator + Copy>(
+    alloc: A,
+    indexes: &'a Indexes<A>,
+) -> Result<Vec<Named<'a>, A>, Memory>
+    ensures { (gap : ℕ) (rows : List Row) → AreIndexesOf rows indexes.now
+        → IfOk result (λ named. ReportsNamed gap rows named.items) }
+{
+    let mut list = Vec::new(alloc);
+    push_reports(&mut list, false, indexes.objects())?;
+    push_reports(&mut list, true, indexes.items())?;
+    Ok(list)
+}
+
+/// Adds what an index knows of objects or of items, in order.
+fn push_reports<'a, A: Allocator + Copy>(
+    list: &mut Vec<Named<'a>, A>,
+    is_item: bool,
+    known: &'a Index<A>,
+) -> Result<(), Memory>
+    ensures ascending { Ordered IsEntryBefore known.now }
+    ensures reports { OnOk result (map shown_report list.new.items
+        ≡ map shown_report list.old.items ++ reports_in is_item known.now) }
+{
+    for (name, greatest) in known.iter() {
+        if let Some(x) = greatest {
+            let named = Named {
+                is_item,
+                name: name.as_slice(),
+                heard: Heard::of(x),
+            };
+            if list.push(named).is_err() {
+                return Err(Memory);
+            }
+        }
+    }
+    Ok(())
+}

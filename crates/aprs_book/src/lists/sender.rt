@@ -1,0 +1,51 @@
+//! The station that sent a frame.
+ghost use Rattle.std.specs.Prelude.{◌≡◌};
+ghost use Rattle.aprs_laws.specs.Key.{key_of};
+
+use crate::known::reception_view::ReceptionView;
+use aprs_ax25::Callsign;
+use std::marker::Model;
+
+/// The station that sent a frame, with the octets of its address. A row follows mostly one of its
+/// own station, and then its callsign needn't be read.
+#[derive(Drop)]
+pub(crate) struct Sender<'a> {
+    call: Callsign,
+    octets: &'a [u8],
+}
+
+impl<'a> Model for Sender<'a> {
+    ghost use Rattle.std.specs.Prelude.{◌≡◌};
+    ghost use Rattle.aprs_ax25.specs.Callsign.{Call};
+    ghost use Rattle.aprs_ax25.specs.FrameFault.{call_of};
+
+    ghost Value = { Call };
+
+    ghost view = { λ s. s.call };
+
+    ghost invariant = { λ s. s.call ≡ call_of s.octets.now };
+}
+
+impl<'a> Sender<'a> {
+    /// Who sent the frame of a reception, after that of another.
+    #[tactic(auto, unfolding(aprs_laws::specs::Key::key_of))]
+    pub(crate) fn after(before: Option<Sender<'a>>, x: &ReceptionView<'a>) -> Sender<'a>
+        ensures { result ≡ (key_of x.now.frame).source }
+    {
+        let octets = x.source_octets();
+        match before {
+            Some(sender) if sender.octets == octets => sender,
+            _ => Sender {
+                call: x.source(),
+                octets,
+            },
+        }
+    }
+
+    /// Its callsign.
+    pub(crate) fn call(&self) -> &Callsign
+        ensures { result.now ≡ self.now }
+    {
+        &self.call
+    }
+}

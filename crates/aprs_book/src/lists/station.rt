@@ -1,0 +1,92 @@
+//! The stations of a book.
+ghost use Rattle.std.specs.Prelude.{◌≡◌, ℕ, List, IfOk};
+ghost use Rattle.aprs_laws.specs.Gap.{millis_of};
+ghost use Rattle.aprs_laws.specs.Lists.{Ordered};
+ghost use Rattle.aprs_book.specs.Known.{AreIndexesOf};
+ghost use Rattle.aprs_laws.specs.Row.{Row};
+ghost use Rattle.aprs_book.specs.Stations.{ReportsStations};
+ghost use Rattle.aprs_book.specs.StationRows.{AreTallies, IsStationIn, IsStationBefore};
+ghost use Rattle.aprs_book.specs.MessageRows.{Zipped};
+
+use crate::known::heard::heard_of;
+use crate::known::indexes::Indexes;
+use crate::lists::tally::tallies;
+use crate::{Book, Heard, Memory};
+use aprs_ax25::Callsign;
+use std::alloc::Allocator;
+use std::collections::BTreeMap;
+
+/// A station that was heard.
+#[derive(Drop)]
+pub struct Station<'a> {
+    /// Its callsign.
+    pub call: Callsign,
+    /// The number of its rows in the book, 1 at least.
+    pub transmissions: u64,
+    /// Its last known position.
+    pub position: Option<Heard<'a>>,
+    /// Its last known status.
+    pub status: Option<Heard<'a>>,
+}
+
+impl<A: Allocator + Copy> Book<A> {
+    /// The stations that were heard, ascending by callsign.
+    pub fn stations(&self) -> Result<Vec<Station<'_>, A>, Memory>
+        ensures { IfOk result (λ stations.
+            ReportsStations (millis_of self.now.gap) self.now.rows stations.items) }
+    {
+        let tallies = tallies(self.allocator(), self.walk(), self.len())?;
+        stations_of(self.allocator(), &tallies, self.indexes())
+    }
+}
+
+/// The stations of rows, by how many rows each has and what is known of them.
+pub(crate) fn stations_of<'a, A: Allocator + Copy>(
+    alloc: A,
+    tallies: &BTreeMap<Callsign, u64, A>,
+    indexes: &'a Indexes<A>,
+) -> Result<Vec<Station<'a>, A>, Memory>
+    ensures { (gap : ℕ) (rows : List Row) → AreTallies rows tallies.now.entries
+        → AreIndexesOf rows indexes.now
+        → IfOk result (λ stations. ReportsStations gap rows stations.items) }
+{
+    list_stations(alloc, tallies, indexes)
+}
+
+/// The stations that were counted, in order.
+fn list_stations<'a, A: Allocator + Copy>(
+    alloc: A,
+    tallies: &BTreeMap<Callsign, u64, A>,
+    indexes: &'a Indexes<A>,
+) -> Result<Vec<Station<'a>, A>, Memory>
+    ensures ascending { Ordered IsStationBefore tallies.now.entries }
+    ensures rows { IfOk result (λ list.
+        Zipped (IsStationIn indexes.now) tallies.now.entries list.items) }
+{
+    let mut list = Vec::new(alloc);
+    for (call, transmissions) in tallies.iter() {
+        if list
+            .push(station_of(call, *transmissions, indexes))
+            .is_err()
+        {
+            return Err(Memory);
+        }
+    }
+    Ok(list)
+}
+
+/// A station of so many rows, with what is last known of it.
+fn station_of<'a, A: Allocator + Copy>(
+    call: &Callsign,
+    transmissions: u64,
+    indexes: &'a Indexes<A>,
+) -> Station<'a>
+    ensures { IsStationIn indexes.now (call.now, transmissions) result }
+{
+    Station {
+        call: call.copy(),
+        transmissions,
+        position: heard_of(indexes.position(call)),
+        status: heard_of(indexes.status(call)),
+    }
+}

@@ -1,0 +1,78 @@
+//! What rows say, in one pass over them.
+ghost use Rattle.std.specs.Prelude.{◌≡◌, ◌<◌, List, [], ◌∷◌, ◌++◌, IfOk, OnOk, length};
+ghost use Rattle.aprs_laws.specs.Key.{key_of};
+ghost use Rattle.aprs_laws.specs.Row.{Row};
+ghost use Rattle.aprs_book.specs.StationRows.{tally_of};
+ghost use Rattle.aprs_book.specs.Survey.{IsSurveyOf};
+
+use crate::Memory;
+use crate::known::notes::Notes;
+use crate::known::reception_view::ReceptionView;
+use crate::known::subject::Subject;
+use crate::lists::exchange::Exchange;
+use crate::lists::sender::Sender;
+use crate::lists::tally::Counting;
+use aprs_ax25::Callsign;
+use aprs_log::Moment;
+use aprs_rows::RowViews;
+use std::alloc::{Allocator, Global};
+
+/// What some rows report, how many each station has, and which messages they are.
+#[derive(Drop)]
+pub(crate) struct Survey<'t, A: Allocator = Global> {
+    pub notes: Notes<'t, A>,
+    pub tallies: Counting<A>,
+    pub exchange: Exchange<'t, A>,
+}
+
+impl<'t, A: Allocator + Copy> Survey<'t, A> {
+    /// That of no rows.
+    fn new(alloc: A) -> Survey<'t, A>
+        ensures { IsSurveyOf [] result }
+    {
+        Survey {
+            notes: Notes::new(alloc),
+            tallies: Counting::new(alloc),
+            exchange: Exchange::new(alloc),
+        }
+    }
+
+    /// Adds one more row, by who sent it, its first moment and its greatest reception.
+    fn take(
+        &mut self,
+        sender: &Callsign,
+        first: Moment,
+        heard: ReceptionView<'t>,
+    ) -> Result<(), Memory>
+        requires sender { sender.now ≡ (key_of heard.frame).source }
+        requires room { tally_of sender.now self.old.tallies < 18446744073709551615 }
+        ensures { OnOk result ((rows : List Row) (r : Row) → IsSurveyOf rows self.old
+            → first ≡ r.first → heard.entry ≡ r.greatest
+            → IsSurveyOf (rows ++ r ∷ []) self.new) }
+    {
+        self.tallies.add(sender)?;
+        self.exchange.take(sender, first, &heard)?;
+        let subject = Subject::of(sender, heard.info());
+        self.notes.take(subject, heard)
+    }
+}
+
+/// The survey of the rows of a store, of which there are `len`.
+pub(crate) fn survey_of<'t, A: Allocator + Copy>(
+    alloc: A,
+    rows: RowViews<'t, '_>,
+    len: usize,
+) -> Result<Survey<'t, A>, Memory>
+    requires { length rows ≡ len }
+    ensures { IfOk result (IsSurveyOf rows.entry) }
+{
+    let mut survey = Survey::new(alloc);
+    let mut before = None;
+    for row in rows {
+        let heard = ReceptionView::of_row(&row);
+        let sender = Sender::after(before, &heard);
+        survey.take(sender.call(), row.first(), heard)?;
+        before = Some(sender);
+    }
+    Ok(survey)
+}

@@ -1,0 +1,134 @@
+//! How many rows each station has.
+ghost use Rattle.std.specs.Prelude.{◌≡◌, ◌+◌, ◌<◌, [], IfOk, OnOk, length};
+ghost use Rattle.std.specs.Option.{option_copied};
+ghost use Rattle.aprs_book.specs.StationRows.{AreTallies, count_in, tally_of, with_last, with_one_more};
+
+use crate::Memory;
+use crate::known::reception_view::ReceptionView;
+use crate::lists::sender::Sender;
+use crate::rows::walk::Walk;
+use aprs_ax25::Callsign;
+use std::alloc::{Allocator, Global};
+use std::collections::BTreeMap;
+use std::marker::Model;
+
+/// A station, and how many rows it has.
+#[derive(Drop)]
+pub(crate) struct Tally {
+    station: Callsign,
+    rows: u64,
+}
+
+/// How many rows each station has. The station that was counted last is put into the map where
+/// another follows it, since most rows follow one of their own station.
+pub(crate) struct Counting<A: Allocator = Global> {
+    map: BTreeMap<Callsign, u64, A>,
+    last: Option<Tally>,
+}
+
+impl<A: Allocator> Drop for Counting<A> {
+    fn drop(self) {
+        let Counting { map, last: _ } = self;
+        drop(map);
+    }
+}
+
+impl<A: Allocator> Model for Counting<A> {
+    ghost use Rattle.std.specs.Prelude.{ℕ, List};
+    ghost use Rattle.aprs_ax25.specs.Callsign.{Call};
+    ghost use Rattle.aprs_book.specs.StationRows.{with_last};
+
+    ghost Value = { List (Call × ℕ) };
+
+    ghost view = { λ t. with_last t.last t.map.entries };
+}
+
+impl<A: Allocator + Copy> Counting<A> {
+    /// No stations.
+    pub(crate) fn new(alloc: A) -> Counting<A>
+        ensures { result ≡ [] }
+    {
+        Counting {
+            map: BTreeMap::new(alloc),
+            last: None,
+        }
+    }
+
+    /// Counts one more row of this station.
+    pub(crate) fn add(&mut self, station: &Callsign) -> Result<(), Memory>
+        requires { tally_of station.now self.old < 18446744073709551615 }
+        ensures { OnOk result (self.new ≡ with_one_more station.now self.old) }
+    {
+        let last = match self.last.take() {
+            Some(last) if last.station.cmp(station).is_eq() => {
+                self.last = Some(Tally {
+                    station: last.station,
+                    rows: last.rows + 1,
+                });
+                return Ok(());
+            }
+            last => last,
+        };
+        put(&mut self.map, last)?;
+        let rows = one_more(self.map.get(station));
+        self.last = Some(Tally {
+            station: station.copy(),
+            rows,
+        });
+        Ok(())
+    }
+
+    /// The stations with their rows, in order.
+    pub(crate) fn into_map(self) -> Result<BTreeMap<Callsign, u64, A>, Memory>
+        ensures { IfOk result (λ map. map.entries ≡ self) }
+    {
+        let Counting { mut map, last } = self;
+        put(&mut map, last)?;
+        Ok(map)
+    }
+}
+
+/// Puts a station's rows into the map, where there is one.
+fn put<A: Allocator + Copy>(
+    map: &mut BTreeMap<Callsign, u64, A>,
+    last: Option<Tally>,
+) -> Result<(), Memory>
+    ensures { OnOk result (map.new.entries ≡ with_last last map.old.entries) }
+{
+    if let Some(Tally { station, rows }) = last {
+        if map.insert(station, rows).is_err() {
+            return Err(Memory);
+        }
+    }
+    Ok(())
+}
+
+/// How many of a book's rows, of which there are `len`, each station has.
+pub(crate) fn tallies<A: Allocator + Copy>(
+    alloc: A,
+    rows: Walk<'_, A>,
+    len: usize,
+) -> Result<BTreeMap<Callsign, u64, A>, Memory>
+    requires { length rows ≡ len }
+    ensures { IfOk result (λ tallies. AreTallies rows.entry tallies.entries) }
+{
+    let mut tallies = Counting::new(alloc);
+    let mut before = None;
+    for row in rows {
+        let sender = Sender::after(before, &ReceptionView::of(row.greatest()));
+        tallies.add(sender.call())?;
+        before = Some(sender);
+    }
+    tallies.into_map()
+}
+
+/// One more than were counted.
+fn one_more(known: Option<&u64>) -> u64
+    requires { count_in (option_copied known) < 18446744073709551615 }
+    ensures { result ≡ count_in (option_copied known.entry) + 1 }
+{
+    match known {
+        Some(count) => *count + 1,
+        None => 1,
+    }
+}

@@ -1,0 +1,12 @@
+//! The rows that a book keeps, in memory of their own.
+
+pub(crate) mod kept_row;
+pub(crate) mod keyed;
+pub(crate) mod merging;
+pub(crate) mod merging_keys;
+pub(crate) mod millis;
+pub(crate) mod place;
+pub(crate) mod push;
+pub(crate) mod row;
+pub(crate) mod row_parts;
+pub(crate) mod walk;

@@ -1,0 +1,320 @@
+//! A row as a book keeps it.
+ghost use Rattle.std.specs.Prelude.{true, min, ◌≡◌, ◌↔◌, IsTrue, ◌+◌, ◌≤◌, if◌then◌else◌, nat_lt, IsOk, IfOk, OnOk, OnErr};
+ghost use Rattle.std.specs.Ordering.{ordering_then, is_lt};
+ghost use Rattle.std.specs.declared.cmp.Ordering.TheVariants.{Less, Equal, Greater};
+ghost use Rattle.aprs_log.specs.Reception.{bytes_cmp};
+ghost use Rattle.aprs_laws.specs.Lists.{◌∈◌, Ordered};
+ghost use Rattle.aprs_laws.specs.Order.{IsBelow};
+ghost use Rattle.aprs_laws.specs.Key.{key_of, key_cmp};
+ghost use Rattle.aprs_laws.specs.Row.{row_cmp};
+ghost use Rattle.aprs_laws.specs.JoinRow.{single, combine, place};
+ghost use Rattle.aprs_laws.specs.Inserted.{side, grown};
+ghost use Rattle.aprs_book.specs.Keyed.{HaveSameCalls};
+ghost use Rattle.aprs_rows.specs.Refusal.{is_too_near};
+
+use crate::rows::millis::Millis;
+use crate::{Memory, Receivers, Row, RowParts};
+use aprs_ax25::Frame;
+use aprs_log::{Moment, Receiver, Reception};
+use aprs_rows::{copied, keep_greater};
+use std::alloc::{Allocator, Global};
+use std::boxed::Box;
+use std::cmp::Ordering;
+use std::marker::Model;
+
+/// One transmission, in a place of its own, so that rows are put in order without moving them.
+pub(crate) struct KeptRow<A: Allocator = Global> {
+    sent: Box<Sent<A>, A>,
+}
+
+impl<A: Allocator> Drop for KeptRow<A> {
+    fn drop(self) {
+        let KeptRow { sent } = self;
+        drop(sent);
+    }
+}
+
+/// What is known of a transmission. Its key and its last moment are those of its greatest
+/// reception.
+#[derive(Drop)]
+struct Sent<A: Allocator = Global> {
+    first: Moment,
+    receivers: Receivers<A>,
+    greatest: Reception,
+}
+
+impl<A: Allocator> Model for KeptRow<A> {
+    ghost use Rattle.aprs_laws.specs.Row.{Row as RowValue};
+
+    ghost Value = { RowValue };
+
+    ghost view = { λ r. record {
+      first = r.sent.value.first;
+      receivers = r.sent.value.receivers;
+      greatest = r.sent.value.greatest;
+    } };
+}
+
+impl<A: Allocator + Copy> KeptRow<A> {
+    /// The row of these, in a place of its own.
+    pub(crate) fn new(
+        alloc: A,
+        first: Moment,
+        receivers: Receivers<A>,
+        greatest: Reception,
+    ) -> Result<KeptRow<A>, Memory>
+        ensures { IfOk result (λ row.
+            row ≡ record { first = first; receivers = receivers; greatest = greatest }) }
+    {
+        let sent = Sent {
+            first,
+            receivers,
+            greatest,
+        };
+        match Box::new(alloc, sent) {
+            Ok(sent) => Ok(KeptRow { sent }),
+            Err(_) => Err(Memory),
+        }
+    }
+
+    /// The row of one reception.
+    pub(crate) fn single(alloc: A, x: &Reception) -> Result<KeptRow<A>, Memory>
+        ensures { IfOk result (λ row. row ≡ single x.now) }
+    {
+        let mut receivers = Receivers::new(alloc);
+        receivers.add(x.receiver())?;
+        KeptRow::new(alloc, x.moment(), receivers, copied(x))
+    }
+
+    /// The row of these parts, whose receivers ascend.
+    pub(crate) fn of(alloc: A, parts: &RowParts<A>) -> Result<KeptRow<A>, Memory>
+        requires { Ordered (IsBelow bytes_cmp) parts.now.receivers }
+        ensures { IfOk result (λ row. row ≡ parts.now) }
+    {
+        let receivers = Receivers::of_ascending(alloc, parts.receivers.as_slice())?;
+        KeptRow::new(alloc, parts.first, receivers, parts.greatest())
+    }
+
+    /// Where this row lies, seen from a reception: before it, near to it, or after it.
+    pub(crate) fn side(&self, gap: Millis, x: &Reception) -> Ordering
+        ensures { result ≡ side gap self.now x.now }
+    {
+        let greatest = self.greatest();
+        match key_order(greatest.frame(), x.frame()) {
+            Ordering::Equal => {
+                let moment = x.moment();
+                moment_order(gap, self.first(), greatest.moment(), moment, moment)
+            }
+            unequal => unequal,
+        }
+    }
+
+    /// Where this row lies, seen from another: before it, near to it, or after it.
+    pub(crate) fn place(&self, gap: Millis, other: &KeptRow<A>) -> Ordering
+        ensures { result ≡ place gap self.now other.now }
+    {
+        let (ours, theirs) = (self.greatest(), other.greatest());
+        match key_order(ours.frame(), theirs.frame()) {
+            Ordering::Equal => moment_order(
+                gap,
+                self.first(),
+                ours.moment(),
+                other.first(),
+                theirs.moment(),
+            ),
+            unequal => unequal,
+        }
+    }
+
+    /// The order of rows in a book.
+    pub(crate) fn order(&self, other: &KeptRow<A>) -> Ordering
+        ensures { result ≡ row_cmp self.now other.now }
+    {
+        match key_order(self.greatest().frame(), other.greatest().frame()) {
+            Ordering::Equal => self.first().cmp(&other.first()),
+            unequal => unequal,
+        }
+    }
+
+    /// Whether a row of these parts comes after this one.
+    pub(crate) fn comes_before(&self, parts: &RowParts<A>) -> bool
+        ensures { result ≡ is_lt (row_cmp self.now parts.now) }
+    {
+        match key_order(self.greatest().frame(), &parts.frame) {
+            Ordering::Equal => self.first() < parts.first,
+            unequal => unequal.is_lt(),
+        }
+    }
+
+    /// Whether a row of these parts has the key of this one, and begins too soon after its end.
+    pub(crate) fn reaches(&self, gap: Millis, parts: &RowParts<A>) -> bool
+        ensures { result ≡ is_too_near gap self.now parts.now }
+    {
+        let greatest = self.greatest();
+        key_order(greatest.frame(), &parts.frame).is_eq()
+            && parts.first.millis() <= greatest.moment().millis() + gap.get()
+    }
+
+    /// Adds a reception that is near. Where its receiver is listed, that takes no memory.
+    pub(crate) fn grow(&mut self, x: &Reception) -> Result<(), Memory>
+        ensures grown { OnOk result (self.new ≡ grown self.old x.now) }
+        ensures unchanged { OnErr result (self.new ≡ self.old) }
+        ensures listed { x.now.receiver ∈ self.old.receivers → IsOk result }
+    {
+        let sent = self.sent.as_mut();
+        sent.receivers.add(x.receiver())?;
+        sent.first = earlier(sent.first, x.moment());
+        keep_greater(&mut sent.greatest, x);
+        Ok(())
+    }
+
+    /// Makes one row of this and a near one.
+    pub(crate) fn absorb(&mut self, other: &KeptRow<A>) -> Result<(), Memory>
+        ensures { OnOk result (self.new ≡ combine self.old other.now) }
+    {
+        let receivers = self.receivers().unite(other.receivers())?;
+        let sent = self.sent.as_mut();
+        sent.receivers = receivers;
+        sent.first = earlier(sent.first, other.first());
+        keep_greater(&mut sent.greatest, other.greatest());
+        Ok(())
+    }
+
+    /// The same row again.
+    pub(crate) fn duplicate(&self) -> Result<KeptRow<A>, Memory>
+        ensures { IfOk result (λ copy. copy ≡ self.now) }
+    {
+        let receivers = self.receivers().duplicate()?;
+        KeptRow::new(
+            self.allocator(),
+            self.first(),
+            receivers,
+            copied(self.greatest()),
+        )
+    }
+
+    /// This row with a reception that is near, and the next row, to which that is near too, as one.
+    pub(crate) fn bridge(&self, x: &Reception, next: &KeptRow<A>) -> Result<KeptRow<A>, Memory>
+        ensures { IfOk result (λ row. row ≡ combine (grown self.now x.now) next.now) }
+    {
+        let mut receivers = self.receivers().duplicate()?;
+        receivers.add(x.receiver())?;
+        let receivers = receivers.unite(next.receivers())?;
+        let mut greatest = copied(self.greatest());
+        keep_greater(&mut greatest, x);
+        keep_greater(&mut greatest, next.greatest());
+        let first = earlier(earlier(self.first(), x.moment()), next.first());
+        KeptRow::new(self.allocator(), first, receivers, greatest)
+    }
+
+    /// Whether both are the same row.
+    pub(crate) fn equals(&self, other: &KeptRow<A>) -> bool
+        ensures { IsTrue result ↔ (self.now ≡ other.now) }
+    {
+        self.first() == other.first()
+            && same_names(self.receivers().as_slice(), other.receivers().as_slice())
+            && same_reception(self.greatest(), other.greatest())
+    }
+
+    /// The first moment.
+    pub(crate) fn first(&self) -> Moment
+        ensures { result ≡ self.now.first }
+    {
+        self.sent.as_ref().first
+    }
+
+    /// Who heard it.
+    fn receivers(&self) -> &Receivers<A>
+        ensures { result.now ≡ self.now.receivers }
+    {
+        &self.sent.as_ref().receivers
+    }
+
+    /// Where the row's memory comes from.
+    fn allocator(&self) -> A {
+        *Box::allocator(&self.sent)
+    }
+
+    /// The greatest reception.
+    pub(crate) fn greatest(&self) -> &Reception
+        ensures { result.now ≡ self.now.greatest }
+    {
+        &self.sent.as_ref().greatest
+    }
+
+    /// What the row shows.
+    pub(crate) fn show(&self) -> Row<'_>
+        ensures { result ≡ self.now }
+    {
+        Row::new(self.first(), self.receivers().as_slice(), self.greatest())
+    }
+}
+
+/// The order of the frames' keys.
+#[tactic(auto, unfolding(aprs_laws::specs::Key::key_of, aprs_laws::specs::Key::key_cmp))]
+fn key_order(a: &Frame, b: &Frame) -> Ordering
+    ensures { result ≡ key_cmp (key_of a.now) (key_of b.now) }
+{
+    if have_same_calls(a.bytes(), b.bytes()) {
+        return a.info().cmp(b.info());
+    }
+    match a.source().cmp(&b.source()) {
+        Ordering::Equal => match a.destination().cmp(&b.destination()) {
+            Ordering::Equal => a.info().cmp(b.info()),
+            unequal => unequal,
+        },
+        unequal => unequal,
+    }
+}
+
+/// How many octets the destination and the source of a frame have.
+const CALLS: usize = 14;
+
+/// Whether two frames have the same destination and the same source, seen by their octets alone. So
+/// have most copies of one transmission.
+fn have_same_calls(a: &[u8], b: &[u8]) -> bool
+    ensures { result ≡ true → HaveSameCalls a.now b.now }
+{
+    a.len() >= CALLS && b.len() >= CALLS && a[..CALLS] == b[..CALLS]
+}
+
+/// Where the first span lies: before the second and far from it, near to it, or after it.
+fn moment_order(
+    gap: Millis,
+    first: Moment,
+    last: Moment,
+    other_first: Moment,
+    other_last: Moment,
+) -> Ordering
+    ensures { result ≡ (if nat_lt (last + gap) other_first then Less
+        else if nat_lt (other_last + gap) first then Greater else Equal) }
+{
+    if last.millis() + gap.get() < other_first.millis() {
+        Ordering::Less
+    } else if other_last.millis() + gap.get() < first.millis() {
+        Ordering::Greater
+    } else {
+        Ordering::Equal
+    }
+}
+
+/// The earlier of both.
+fn earlier(a: Moment, b: Moment) -> Moment
+    ensures { result ≡ min a b }
+{
+    if b.millis() < a.millis() { b } else { a }
+}
+
+/// Whether both are the same names.
+fn same_names(a: &[Receiver], b: &[Receiver]) -> bool
+    ensures { IsTrue result ↔ (a.now ≡ b.now) }
+{
+    a == b
+}
+
+/// Whether both are the same reception.
+fn same_reception(a: &Reception, b: &Reception) -> bool
+    ensures { IsTrue result ↔ (a.now ≡ b.now) }
+{
+    a == b
+}

@@ -1,0 +1,259 @@
+//! The rows of a book by the heads of their keys.
+ghost use Rattle.std.specs.Prelude.{◌≡◌, ◌+◌, [], ◌∷◌, ◌++◌, length, true, IsOk, IfOk, OnOk, OnErr};
+ghost use Rattle.aprs_book.specs.Keyed.{EndsUpTo, IsEndOf, rows_of};
+ghost use Rattle.aprs_rows.specs.Refusal.{refusal};
+ghost use Rattle.aprs_laws.specs.JoinRow.{interleave, coalesced};
+ghost use Rattle.aprs_log.specs.Reception.{bytes_cmp};
+ghost use Rattle.aprs_laws.specs.Lists.{Ordered};
+ghost use Rattle.aprs_laws.specs.Order.{IsBelow};
+ghost use Rattle.aprs_laws.specs.Inserted.{inserted, fits_in_place};
+ghost use Rattle.aprs_laws.specs.Sound.{Sound};
+
+use crate::rows::kept_row::KeptRow;
+use crate::rows::merging_keys::{put_joined, put_merged};
+use crate::rows::millis::Millis;
+use crate::rows::place::put;
+use crate::rows::push::first_cause;
+use crate::rows::walk::Walk;
+use crate::{Memory, RowCause, RowParts};
+use aprs_log::Reception;
+use aprs_rows::{KeyHead, head_bytes, make_room};
+use std::alloc::{Allocator, Global};
+use std::cmp::Ordering;
+use std::collections::BTreeMap;
+use std::marker::Model;
+
+/// The rows of the keys with one head, in their order, by that head. No head is without rows. Most
+/// heads are of one key, so that a key is found by comparing heads, which lie in the map itself.
+pub(crate) struct KeyedRows<A: Allocator = Global> {
+    map: BTreeMap<KeyHead, Vec<KeptRow<A>, A>, A>,
+    /// The number of the rows of all keys.
+    count: usize,
+    alloc: A,
+}
+
+impl<A: Allocator> Drop for KeyedRows<A> {
+    fn drop(self) {
+        let KeyedRows {
+            map,
+            count: _,
+            alloc: _,
+        } = self;
+        drop(map);
+    }
+}
+
+impl<A: Allocator> Model for KeyedRows<A> {
+    ghost use Rattle.std.specs.Prelude.{◌≡◌, List, length};
+    ghost use Rattle.aprs_laws.specs.Row.{Row as RowValue};
+    ghost use Rattle.aprs_book.specs.Keyed.{rows_of, AreKept};
+
+    ghost Value = { List RowValue };
+
+    ghost view = { λ b. rows_of (λ k. k) (λ v. v.items) b.map.entries };
+
+    ghost invariant = { λ b. AreKept (λ k. k) (λ v. v.items) b.map.entries
+        × (b.count ≡ length (rows_of (λ k. k) (λ v. v.items) b.map.entries)) };
+}
+
+impl<A: Allocator + Copy> KeyedRows<A> {
+    /// No rows.
+    pub(crate) fn new(alloc: A) -> KeyedRows<A>
+        ensures { result ≡ [] }
+    {
+        KeyedRows {
+            map: BTreeMap::new(alloc),
+            count: 0,
+            alloc,
+        }
+    }
+
+    /// The number of rows.
+    pub(crate) fn len(&self) -> usize
+        ensures { result ≡ length self.now }
+    {
+        self.count
+    }
+
+    /// Where the rows' memory comes from.
+    pub(crate) fn allocator(&self) -> A {
+        self.alloc
+    }
+
+    /// The rows one after another.
+    pub(crate) fn walk(&self) -> Walk<'_, A>
+        ensures { result ≡ self.now }
+    {
+        Walk::of(&[], self.map.values())
+    }
+
+    /// The rows of both, head by head, in one pass over the heads of both.
+    pub(crate) fn merge(&self, gap: Millis, other: &KeyedRows<A>) -> Result<KeyedRows<A>, Memory>
+        ensures { IfOk result (λ both. both ≡ coalesced gap (interleave self.now other.now)) }
+    {
+        let mut map = BTreeMap::new(self.alloc);
+        let mut ours = self.map.iter();
+        let mut theirs = other.map.iter();
+        let mut our = ours.next();
+        let mut their = theirs.next();
+        loop {
+            match (our, their) {
+                (None, None) => break,
+                (Some((head, x)), None) => {
+                    put_joined(self.alloc, gap, &mut map, head, x.as_slice())?;
+                    our = ours.next();
+                }
+                (None, Some((head, y))) => {
+                    put_joined(self.alloc, gap, &mut map, head, y.as_slice())?;
+                    their = theirs.next();
+                }
+                (Some((head, x)), Some((other_head, y))) => match head.cmp(other_head) {
+                    Ordering::Less => {
+                        put_joined(self.alloc, gap, &mut map, head, x.as_slice())?;
+                        our = ours.next();
+                    }
+                    Ordering::Equal => {
+                        put_merged(self.alloc, gap, &mut map, head, x.as_slice(), y.as_slice())?;
+                        our = ours.next();
+                        their = theirs.next();
+                    }
+                    Ordering::Greater => {
+                        put_joined(self.alloc, gap, &mut map, other_head, y.as_slice())?;
+                        their = theirs.next();
+                    }
+                },
+            }
+        }
+        let count = number_of_rows(&map)?;
+        let alloc = self.alloc;
+        Ok(KeyedRows { map, count, alloc })
+    }
+
+    /// The last head's rows.
+    fn last_rows(&self) -> &[KeptRow<A>]
+        ensures { IsEndOf result.now self.now }
+    {
+        match self.map.last_key_value() {
+            Some((_, rows)) => rows.as_slice(),
+            None => &[],
+        }
+    }
+
+    /// Puts a row after all others. What needs memory is made before the first change.
+    fn append(&mut self, row: KeptRow<A>) -> Result<(), Memory>
+        requires { EndsUpTo row self.old }
+        ensures added { OnOk result (self.new ≡ self.old ++ row ∷ []) }
+        ensures unchanged { OnErr result (self.new ≡ self.old) }
+    {
+        let head = head_bytes(row.greatest().frame());
+        let mut count = self.count;
+        if let Some(rows) = self.map.get_mut(&head) {
+            let pushed = push_one(rows, &mut count, row);
+            self.count = count;
+            return pushed;
+        }
+        let mut rows = Vec::new(self.alloc);
+        push_one(&mut rows, &mut count, row)?;
+        if self.map.insert(head, rows).is_err() {
+            return Err(Memory);
+        }
+        self.count = count;
+        Ok(())
+    }
+
+    /// The first cause that refuses a row of these parts after all others. Looks at the last row
+    /// alone.
+    pub(crate) fn refusal(&self, gap: Millis, parts: &RowParts<A>) -> Option<RowCause>
+        ensures { result ≡ refusal gap self.now parts.now }
+    {
+        first_cause(gap, self.last_rows(), parts)
+    }
+
+    /// Adds a row of these parts after all others. What needs memory is made before the first
+    /// change.
+    pub(crate) fn push(&mut self, parts: &RowParts<A>) -> Result<(), Memory>
+        requires ascending { Ordered (IsBelow bytes_cmp) parts.now.receivers }
+        requires last { EndsUpTo parts.now self.old }
+        ensures added { OnOk result (self.new ≡ self.old ++ parts.now ∷ []) }
+        ensures unchanged { OnErr result (self.new ≡ self.old) }
+    {
+        let row = KeptRow::of(self.alloc, parts)?;
+        self.append(row)
+    }
+
+    /// Adds a reception. What needs memory is made before the first change.
+    pub(crate) fn take(&mut self, gap: Millis, x: &Reception) -> Result<(), Memory>
+        requires { Sound gap self.old }
+        ensures inserted { OnOk result (self.new ≡ inserted gap x.now self.old) }
+        ensures unchanged { OnErr result (self.new ≡ self.old) }
+        ensures in_place { fits_in_place gap x.now self.old ≡ true → IsOk result }
+    {
+        let head = head_bytes(x.frame());
+        let mut count = self.count;
+        if let Some(rows) = self.map.get_mut(&head) {
+            let taken = put(gap, rows, &mut count, x);
+            self.count = count;
+            return taken;
+        }
+        let mut rows = Vec::new(self.alloc);
+        put(gap, &mut rows, &mut count, x)?;
+        if self.map.insert(head, rows).is_err() {
+            return Err(Memory);
+        }
+        self.count = count;
+        Ok(())
+    }
+}
+
+/// Puts a row after the others of its head. `count` is the number of the rows of all keys, and goes
+/// with them.
+fn push_one<A: Allocator + Copy>(
+    rows: &mut Vec<KeptRow<A>, A>,
+    count: &mut usize,
+    row: KeptRow<A>,
+) -> Result<(), Memory>
+    ensures added { OnOk result (rows.new.items ≡ rows.old.items ++ row ∷ []) }
+    ensures unchanged { OnErr result (rows.new.items ≡ rows.old.items) }
+    ensures counted { count.new + length rows.old.items ≡ count.old + length rows.new.items }
+{
+    let Some(more) = count.checked_add(1) else {
+        return Err(Memory);
+    };
+    make_room(rows)?;
+    if rows.push(row).is_err() {
+        return Err(Memory);
+    }
+    *count = more;
+    Ok(())
+}
+
+/// The number of the rows of all keys.
+fn number_of_rows<A: Allocator + Copy>(
+    map: &BTreeMap<KeyHead, Vec<KeptRow<A>, A>, A>,
+) -> Result<usize, Memory>
+    ensures { IfOk result (λ n.
+        n ≡ length (rows_of (λ k. k) (λ v. v.items) map.now.entries)) }
+{
+    let mut count: usize = 0;
+    for rows in map.values() {
+        let Some(more) = count.checked_add(rows.len()) else {
+            return Err(Memory);
+        };
+        count = more;
+    }
+    Ok(count)
+}
+
+/// The same bytes, in memory of their own.
+pub(crate) fn copy_of<A: Allocator + Copy>(alloc: A, bytes: &[u8]) -> Result<Vec<u8, A>, Memory>
+    ensures { IfOk result (λ copy. copy.items ≡ bytes.now) }
+{
+    let mut copy = Vec::new(alloc);
+    if copy.reserve_exact(bytes.len()).is_err() {
+        return Err(Memory);
+    }
+    if copy.extend_from_slice(bytes).is_err() {
+        return Err(Memory);
+    }
+    Ok(copy)
+}

@@ -1,0 +1,97 @@
+//! The rows of two books in one.
+ghost use Rattle.std.specs.Prelude.{◌≡◌, [], ◌∷◌, ◌++◌, true, false, IfOk, OnOk};
+ghost use Rattle.aprs_laws.specs.JoinRow.{interleave, coalesced};
+ghost use Rattle.aprs_book.specs.WithRows.{with_row, with_rows, IsNearLast};
+
+use crate::Memory;
+use crate::rows::kept_row::KeptRow;
+use crate::rows::millis::Millis;
+use aprs_rows::make_room;
+use std::alloc::Allocator;
+
+/// The rows of both in order, where each joins the one before it that it is near to.
+pub(crate) fn merged_rows<A: Allocator + Copy>(
+    alloc: A,
+    gap: Millis,
+    ours: &[KeptRow<A>],
+    theirs: &[KeptRow<A>],
+) -> Result<Vec<KeptRow<A>, A>, Memory>
+    ensures { IfOk result (λ rows.
+        rows.items ≡ coalesced gap (interleave ours.now theirs.now)) }
+{
+    let mut rows = Vec::new(alloc);
+    let mut i = 0;
+    let mut j = 0;
+    while i < ours.len() && j < theirs.len() {
+        if theirs[j].order(&ours[i]).is_lt() {
+            push(gap, &mut rows, &theirs[j])?;
+            j += 1;
+        } else {
+            push(gap, &mut rows, &ours[i])?;
+            i += 1;
+        }
+    }
+    push_all(gap, &mut rows, &ours[i..])?;
+    push_all(gap, &mut rows, &theirs[j..])?;
+    Ok(rows)
+}
+
+/// The rows in order, where each joins the one before it that it is near to.
+pub(crate) fn joined_rows<A: Allocator + Copy>(
+    alloc: A,
+    gap: Millis,
+    more: &[KeptRow<A>],
+) -> Result<Vec<KeptRow<A>, A>, Memory>
+    ensures { IfOk result (λ rows. rows.items ≡ coalesced gap more.now) }
+{
+    let mut rows = Vec::new(alloc);
+    push_all(gap, &mut rows, more)?;
+    Ok(rows)
+}
+
+/// Puts the rows after those that are there.
+fn push_all<A: Allocator + Copy>(
+    gap: Millis,
+    rows: &mut Vec<KeptRow<A>, A>,
+    more: &[KeptRow<A>],
+) -> Result<(), Memory>
+    ensures { OnOk result (rows.new.items ≡ with_rows gap rows.old.items more.now) }
+{
+    for row in more {
+        push(gap, rows, row)?;
+    }
+    Ok(())
+}
+
+/// Puts a row after those that are there, or joins it to the last of them if that is near.
+fn push<A: Allocator + Copy>(
+    gap: Millis,
+    rows: &mut Vec<KeptRow<A>, A>,
+    row: &KeptRow<A>,
+) -> Result<(), Memory>
+    ensures { OnOk result (rows.new.items ≡ with_row gap rows.old.items row.now) }
+{
+    if is_near_last(gap, rows.as_slice(), row) {
+        let end = rows.len() - 1;
+        let last = &mut rows[end];
+        return last.absorb(row);
+    }
+    let row = row.duplicate()?;
+    make_room(rows)?;
+    if rows.push(row).is_err() {
+        return Err(Memory);
+    }
+    Ok(())
+}
+
+/// Whether the last of the rows is near to the row.
+fn is_near_last<A: Allocator + Copy>(gap: Millis, rows: &[KeptRow<A>], row: &KeptRow<A>) -> bool
+    ensures near { result ≡ true → IsNearLast gap rows.now row.now }
+    ensures far { result ≡ false → with_row gap rows.now row.now ≡ rows.now ++ row.now ∷ [] }
+{
+    let len = rows.len();
+    if len == 0 {
+        return false;
+    }
+    rows[len - 1].place(gap, row).is_eq()
+}

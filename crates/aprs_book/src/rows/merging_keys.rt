@@ -1,0 +1,49 @@
+//! The rows of two books in one, head by head.
+ghost use Rattle.std.specs.Prelude.{◌≡◌, IfOk, OnOk};
+ghost use Rattle.aprs_laws.specs.JoinRow.{interleave, coalesced};
+ghost use Rattle.aprs_book.specs.Keyed.{PutsRows};
+
+use crate::Memory;
+use crate::rows::kept_row::KeptRow;
+use crate::rows::merging::{joined_rows, merged_rows};
+use crate::rows::millis::Millis;
+use aprs_rows::KeyHead;
+use std::alloc::Allocator;
+use std::collections::BTreeMap;
+
+/// Puts one head's rows of both at the end.
+pub(crate) fn put_merged<A: Allocator + Copy>(
+    alloc: A,
+    gap: Millis,
+    map: &mut BTreeMap<KeyHead, Vec<KeptRow<A>, A>, A>,
+    head: &KeyHead,
+    ours: &[KeptRow<A>],
+    theirs: &[KeptRow<A>],
+) -> Result<(), Memory>
+    ensures { OnOk result (PutsRows (λ k. k) (λ v. v.items) map.old.entries map.new.entries
+        head.now (coalesced gap (interleave ours.now theirs.now))) }
+{
+    let rows = merged_rows(alloc, gap, ours, theirs)?;
+    if map.insert(*head, rows).is_err() {
+        return Err(Memory);
+    }
+    Ok(())
+}
+
+/// Puts one head's rows of either at the end.
+pub(crate) fn put_joined<A: Allocator + Copy>(
+    alloc: A,
+    gap: Millis,
+    map: &mut BTreeMap<KeyHead, Vec<KeptRow<A>, A>, A>,
+    head: &KeyHead,
+    rows: &[KeptRow<A>],
+) -> Result<(), Memory>
+    ensures { OnOk result (PutsRows (λ k. k) (λ v. v.items) map.old.entries map.new.entries
+        head.now (coalesced gap rows.now)) }
+{
+    let rows = joined_rows(alloc, gap, rows)?;
+    if map.insert(*head, rows).is_err() {
+        return Err(Memory);
+    }
+    Ok(())
+}

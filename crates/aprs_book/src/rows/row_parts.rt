@@ -1,0 +1,49 @@
+//! A row as it is handed over.
+ghost use Rattle.std.specs.Prelude.{◌≡◌};
+
+use crate::ReceiverList;
+use crate::known::reception_view::ReceptionView;
+use aprs_ax25::Frame;
+use aprs_log::{Moment, Receiver, Reception};
+use std::alloc::{Allocator, Global};
+use std::marker::Model;
+
+/// What makes a row, in any values.
+#[derive(Drop)]
+pub struct RowParts<A: Allocator = Global> {
+    /// The first moment at which it was heard.
+    pub first: Moment,
+    /// The moment of the greatest reception.
+    pub last: Moment,
+    /// Who heard it.
+    pub receivers: ReceiverList<A>,
+    /// Who heard the greatest reception.
+    pub receiver: Receiver,
+    /// The frame of the greatest reception, which has the key.
+    pub frame: Frame,
+}
+
+impl<A: Allocator> Model for RowParts<A> {
+    ghost use Rattle.aprs_laws.specs.Row.{Row as RowValue};
+    ghost use Rattle.aprs_book.specs.Shown.{row_of};
+
+    ghost Value = { RowValue };
+
+    ghost view = { λ r. row_of r.first r.last r.receivers r.receiver r.frame };
+}
+
+impl<A: Allocator> RowParts<A> {
+    /// The greatest reception.
+    pub(crate) fn greatest(&self) -> Reception
+        ensures { result ≡ self.now.greatest }
+    {
+        Reception::new(self.last, self.receiver.copy(), self.frame.copy())
+    }
+
+    /// The greatest reception, where it lies.
+    pub(crate) fn heard(&self) -> ReceptionView<'_>
+        ensures { result ≡ self.now.greatest }
+    {
+        ReceptionView::new(self.last, &self.receiver, &self.frame)
+    }
+}

@@ -1,0 +1,56 @@
+//! The walk over the rows of a book, head by head.
+ghost use Rattle.std.specs.Prelude.{◌≡◌, ◌++◌, List};
+ghost use Rattle.std.specs.List.{flat_map};
+ghost use Rattle.std.specs.Iterator.{YieldsFirstRef, item_count};
+
+use crate::rows::kept_row::KeptRow;
+use aprs_rows::KeyHead;
+use std::alloc::{Allocator, Global};
+use std::collections::btree_map::Values;
+use std::marker::Model;
+
+/// The rows as they are kept that are still to come, in order: those of one head, then all others.
+#[derive(Drop)]
+pub(crate) struct Walk<'a, A: Allocator = Global> {
+    rows: &'a [KeptRow<A>],
+    others: Values<'a, KeyHead, Vec<KeptRow<A>, A>>,
+}
+
+impl<'a, A: Allocator> Model for Walk<'a, A> {
+    ghost use Rattle.std.specs.Prelude.{List, ◌++◌};
+    ghost use Rattle.std.specs.List.{flat_map};
+    ghost use Rattle.aprs_laws.specs.Row.{Row as RowValue};
+
+    ghost Value = { List RowValue };
+
+    ghost view = { λ w. w.rows.now ++ flat_map (λ v. v.items) w.others };
+}
+
+impl<'a, A: Allocator> Walk<'a, A> {
+    /// These rows, and then those of all these heads.
+    pub(crate) fn of(
+        rows: &'a [KeptRow<A>],
+        others: Values<'a, KeyHead, Vec<KeptRow<A>, A>>,
+    ) -> Walk<'a, A>
+        ensures { result ≡ rows.now ++ flat_map (λ v. v.items) others.entry }
+    {
+        Walk { rows, others }
+    }
+}
+
+impl<'a, A: Allocator + Copy> Iterator for Walk<'a, A> {
+    type Item = &'a KeptRow<A>;
+
+    ghost next_gives = { YieldsFirstRef (λ rows. rows) };
+
+    ghost remaining = { item_count (λ rows. rows) };
+
+    fn next(&mut self) -> Option<&'a KeptRow<A>> {
+        while self.rows.is_empty() {
+            self.rows = self.others.next()?.as_slice();
+        }
+        let (first, others) = self.rows.split_first()?;
+        self.rows = others;
+        Some(first)
+    }
+}
