@@ -1,4 +1,5 @@
 pub mod Sets
+pub mod Faultless
 pub mod RowsTold
 pub mod Inputs
 pub mod Into

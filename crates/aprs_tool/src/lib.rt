@@ -18,7 +18,9 @@ pub use aprs_io::{Counted, DeviceFault, WriteFault, send};
 pub use desk::Desk;
 pub use fault::{InputFault, RunFault, status_of};
 pub use input::read_input;
-pub use laws::{listings_tell_positions, same_receptions_same_bytes};
+pub use laws::{
+    faultless_inputs_have_no_fault, listings_tell_positions, same_receptions_same_bytes,
+};
 pub use merge::merge_run;
 pub use run::{check_run, convert_run};
 pub use show::show_run;
