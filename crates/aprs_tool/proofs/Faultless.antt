@@ -1,5 +1,5 @@
 -- An input that stands for a set has no fault.
-use Rattle.std.proofs.Common.{◌≡◌, ◌∙◌, ℕ, ◌^◌, ◌<◌, ◌≤◌, true, false, List, [], length, None, Some, inl, inr, refl, sym, ap, append-nil, subst, arith}
+use Rattle.std.proofs.Common.{◌≡◌, ◌∙◌, ℕ, ◌^◌, ◌<◌, ◌≤◌, true, false, List, [], length, None, Some, inl, inr, refl, sym, ap, append-nil, arith}
 use Rattle.aprs_io.specs.Input.{most_input}
 use Rattle.aprs_io.specs.declared.input.Ending.{Ending}
 use Rattle.aprs_log.specs.Reception.{Heard}
@@ -13,7 +13,7 @@ use Rattle.aprs_tool.specs.Status.{status_of_book_cause, status_of_input}
 use Rattle.aprs_tool.specs.declared.fault.InputFault.{InputFault}
 use Rattle.aprs_tool.specs.declared.fault.InputFault.TheVariants.{Log, Book, Memory, OtherGap, Narrower}
 
-file_none : (gap : ℕ) (S : List Heard) (t : List ℕ) (c : Ending) (f : BookFault)
+pub file_none : (gap : ℕ) (S : List Heard) (t : List ℕ) (c : Ending) (f : BookFault)
     → length t ≤ most_input → IsBookFileOf gap S t c → FirstFault t c f → ⊥
 file_none gap S t c f small p first =
     let size : length t ≡ length _ = ap length p.text_is in

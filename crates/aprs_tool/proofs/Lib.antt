@@ -13,3 +13,4 @@ pub mod ShortLogs
 pub mod Readers
 pub mod Widens
 pub mod LastRefused
+pub mod Worked

@@ -2,6 +2,7 @@
 #![tactic(auto)]
 
 mod desk;
+mod example;
 mod fault;
 mod gathered;
 mod head;
@@ -16,6 +17,7 @@ pub use aprs_command::{Job, JobFault, command_is_simple, job};
 pub use aprs_convert::Form;
 pub use aprs_io::{Counted, DeviceFault, WriteFault, send};
 pub use desk::Desk;
+pub use example::{book_files_stand_for_their_sets, logs_stand_for_their_receptions};
 pub use fault::{InputFault, RunFault, status_of};
 pub use input::read_input;
 pub use laws::{
