@@ -1,5 +1,5 @@
 -- Lemmas on inputs, of which the first bytes are known.
-use Rattle.std.proofs.Common.{◌≡◌, ℕ, zero, suc, get_or, ◌<◌, Bool, true, false, not, List, [], ◌∷◌, ◌++◌, length, map, take, drop, codes, Option, None, Some, Result, Ok, Err, IfSome, inl, inr, refl, ap, sym, ◌∙◌, append_assoc, append-nil, length-append, subst, arith}
+use Rattle.std.proofs.Common.{◌≡◌, ℕ, zero, suc, get_or, ◌<◌, Bool, true, false, not, List, [], ◌∷◌, ◌++◌, length, map, take, drop, codes, Option, None, Some, Ok, Err, IfSome, inl, inr, refl, ap, sym, ◌∙◌, append_assoc, append-nil, length-append, subst, arith}
 use Rattle.std.proofs.Math.Seq.{take-append_seam}
 use Rattle.std.proofs.lemmas.Bool.Decides.{Decides-eqb}
 use Rattle.std.proofs.lemmas.Slice.Eq.{bytes_eq-Decides, starts_is}
@@ -42,21 +42,7 @@ mark = codes "APRSBOOK"
 
 -- ---- which of both it is
 
--- the test of the code, which asks whether the bytes are others
-pub is_other : (head : List ℕ) (b : Bool) → b ≡ not (bytes_eq head mark) → b ≡ true → head ≡ mark
-    → ⊥
-is_other head b e other same =
-    let f : false ≡ true = sym (ap not ((bytes_eq-Decides head mark).1 same)) ∙ sym e ∙ other in
-    absurd cc
-
-pub is_mark : (head : List ℕ) (b : Bool) → b ≡ not (bytes_eq head mark) → b ≡ false → head ≡ mark
-is_mark head b e same = (bytes_eq-Decides head mark).0 (by (bytes_eq head mark) (sym e ∙ same))
-  where
-    by : (b : Bool) → not b ≡ false → b ≡ true
-    by true e = refl
-    by false e = absurd cc
-
--- or whether they are those
+-- the test of the code, which asks whether the bytes are those
 pub is_mark_eq : (head : List ℕ) (b : Bool) → b ≡ bytes_eq head mark → b ≡ true → head ≡ mark
 is_mark_eq head b e same = (bytes_eq-Decides head mark).0 (sym e ∙ same)
 

@@ -15,7 +15,6 @@ use Rattle.aprs_tool.specs.InputBook.{IsGapOf, ReadsInput, TakesInput}
 use Rattle.aprs_tool.specs.InputRows.{GivesRows, RefusesGaps}
 use Rattle.aprs_tool.specs.Inputs.{GivesSet, is_book_file}
 use Rattle.aprs_tool.specs.Refused.{fault_of_merge, IsNotTaken}
-use Rattle.aprs_tool.specs.declared.fault.InputFault.{InputFault}
 use Rattle.aprs_tool.specs.declared.fault.InputFault.TheVariants.{OtherGap}
 
 -- the book of no receptions becomes the other
@@ -76,8 +75,3 @@ pub other_rows : (gap own : ℕ) (old new : List Row) (t : List ℕ) (c : Ending
     → GivesRows gap own old new t c → IsNotTaken gap OtherGap t c
 other_rows gap own old new t c differs h =
     inr (other_gap gap t own differs h.gap_is, (own, h.set, differs, h.gives))
-
--- an input that isn't read is not taken
-pub not_read : (gap : ℕ) (t : List ℕ) (c : Ending) (e : InputFault) (old new : List Row)
-    → ReadsInput gap (Err e) t c → TakesInput gap (Err e) old new t c
-not_read gap t c e old new h = inl h

@@ -1,4 +1,5 @@
 pub mod Sets
+pub mod Faultless
 pub mod RowsTold
 pub mod Inputs
 pub mod Into
@@ -12,3 +13,4 @@ pub mod ShortLogs
 pub mod Readers
 pub mod Widens
 pub mod LastRefused
+pub mod Worked

@@ -2,7 +2,6 @@
 use Rattle.std.proofs.Common.{◌≡◌, ℕ, List, [], ◌∷◌, ◌++◌, Option, None, Some, Result, Ok, Err, IfSome, refl, ap, sym, ◌∙◌, append_assoc, append-nil, map}
 use Rattle.aprs_log.specs.LogAnswers.{Answers, ended, log_answers, receptions_of, then_given}
 use Rattle.aprs_log.specs.Reader.{AreAnswersOf}
-use Rattle.aprs_log.specs.Reception.{Heard as Reception}
 use Rattle.aprs_log.specs.declared.Ending.{Ending}
 use Rattle.aprs_log.specs.declared.fault.LogFault.{LogFault}
 use Rattle.aprs_log.specs.declared.line.Line.{Line}

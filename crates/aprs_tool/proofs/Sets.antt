@@ -5,6 +5,7 @@ use Rattle.aprs_log.specs.LogAnswers.{log_answers, receptions_of}
 use Rattle.aprs_log.specs.Reception.{Heard}
 use Rattle.aprs_laws.specs.Book.{BookOf}
 use Rattle.aprs_laws.specs.Gap.{millis_of}
+use Rattle.aprs_laws.specs.Lists.{SameMembers}
 use Rattle.aprs_laws.specs.Row.{Row}
 use Rattle.aprs_laws.proofs.Books.{book_carries, one_book}
 use Rattle.aprs_booktext.specs.Version.{gap_of}
@@ -18,10 +19,18 @@ pub log_of : (t : List ℕ) (c : Ending) → (log_answers t c).fault ≡ None
     → IsLogOf (receptions_of (log_answers t c).given) t c
 log_of t c none = record { faultless = none; heard = λ x. (λ h. h, λ h. h) }
 
+-- and of no others
+pub log_is : (S : List Heard) (t : List ℕ) (c : Ending) → IsLogOf S t c
+    → SameMembers S (receptions_of (log_answers t c).given)
+log_is S t c p = p.heard
+
 log_book : (gap : ℕ) (t : List ℕ) (c : Ending) (S T : List Heard) (rows : List Row)
     → IsLogOf S t c → IsLogOf T t c → BookOf gap T rows → BookOf gap S rows
-log_book gap t c S T rows p q book = book_carries gap T S rows
-    (λ x. (λ h. (p.heard x).1 ((q.heard x).0 h), λ h. (q.heard x).1 ((p.heard x).0 h))) book
+log_book gap t c S T rows p q book =
+    let first = log_is S t c p in
+    let second = log_is T t c q in
+    book_carries gap T S rows
+    (λ x. (λ h. (first x).1 ((second x).0 h), λ h. (second x).1 ((first x).0 h))) book
 
 -- ---- a book file
 

@@ -1,5 +1,5 @@
 -- Lemmas on an input whose book is widened.
-use Rattle.std.proofs.Common.{◌≡◌, ◌<◌, ◌≤◌, ◌==◌, not, true, false, ℕ, List, [], Option, Ok, Err, inr, refl, sym, subst, arith}
+use Rattle.std.proofs.Common.{◌≡◌, ◌<◌, ◌≤◌, ◌==◌, not, true, false, ℕ, List, [], Option, Ok, Err, inr, refl, arith}
 use Rattle.std.proofs.lemmas.Bool.Decides.{nat_tests}
 use Rattle.aprs_io.specs.Device.{Sends}
 use Rattle.aprs_io.specs.declared.device.Counted.{Counted}

@@ -15,6 +15,7 @@ pub mod Gathered
 pub mod Show
 pub mod ShownBook
 pub mod Widen
+pub mod Examples
 -- what public clauses cite of lower crates
 pub use Rattle.aprs_listing.specs.Listing
 pub use Rattle.aprs_convert.specs.Shown

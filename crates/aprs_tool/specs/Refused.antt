@@ -1,5 +1,6 @@
 -- Why an input is refused, by the text that was got of it and by what came after that.
-use Rattle.std.specs.Prelude.{◌≡◌, ◌≢◌, ◌⊎◌, ℕ, true, false, List, Some}
+use Rattle.std.specs.Prelude.{◌≡◌, ◌≢◌, ◌≤◌, ◌⊎◌, ℕ, true, false, List, length, Some}
+use Rattle.aprs_io.specs.Input.{most_input}
 use Rattle.aprs_io.specs.declared.input.Ending.{Ending}
 use Rattle.aprs_log.specs.LogAnswers.{log_answers}
 use Rattle.aprs_log.specs.Reception.{Heard}
@@ -7,6 +8,7 @@ use Rattle.aprs_laws.specs.declared.merge_fault.MergeFault.{MergeFault}
 use Rattle.aprs_laws.specs.declared.merge_fault.MergeFault.TheVariants as merge
 use Rattle.aprs_booktext.specs.FirstFault.{FirstFault, IsMemoryAt, most_ahead}
 use Rattle.aprs_tool.specs.Inputs.{GivesSet, is_book_file}
+use Rattle.aprs_tool.specs.Status.{status_of_input}
 use Rattle.aprs_tool.specs.declared.fault.InputFault.{InputFault}
 use Rattle.aprs_tool.specs.declared.fault.InputFault.TheVariants.{Log, Book, Memory, OtherGap}
 
@@ -37,3 +39,9 @@ IsNotTaken gap fault text ending = IsFaulty fault text ending ⊎ IsNotMerged ga
 abbrev pub fault_of_merge : MergeFault → InputFault
 fault_of_merge merge.OtherGap = OtherGap
 fault_of_merge merge.Memory = Memory
+
+-- An input that stands for a set is refused only where an allocation failed.
+abbrev pub HaveNoFault : Type 0
+HaveNoFault = (gap : ℕ) (text : List ℕ) (ending : Ending) (S : List Heard) (fault : InputFault)
+    → length text ≤ most_input → GivesSet gap text ending S → IsFaulty fault text ending
+    → status_of_input fault ≡ 4

@@ -1,7 +1,9 @@
 //! What a merge writes depends on the set of receptions alone, and so do the positions in a
-//! listing. The functions do nothing: what they ensure are the laws.
+//! listing. What stands for a set has no fault. The functions do nothing: what they ensure are the
+//! laws.
 ghost use Rattle.std.specs.Prelude.{ℕ};
 ghost use Rattle.aprs_tool.specs.Merge.{AreBooksOfUnions, HaveOneMerge};
+ghost use Rattle.aprs_tool.specs.Refused.{HaveNoFault};
 ghost use Rattle.aprs_tool.specs.Show.{ListingsTellPositions};
 
 /// Under one gap, inputs that stand for sets with the same members have one book, and `merge_run`
@@ -11,6 +13,12 @@ ghost use Rattle.aprs_tool.specs.Show.{ListingsTellPositions};
 pub fn same_receptions_same_bytes()
     ensures book { (gap : ℕ) → AreBooksOfUnions gap }
     ensures one { (gap : ℕ) → HaveOneMerge gap }
+{}
+
+/// An input of at most `MAX_INPUT` (1,073,741,824) bytes that stands for a set of receptions has no
+/// fault: it is refused only where an allocation failed.
+pub fn faultless_inputs_have_no_fault()
+    ensures none { HaveNoFault }
 {}
 
 /// In the listing of any set of receptions under any gap, each station's line is followed by the

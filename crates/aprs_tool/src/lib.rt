@@ -2,6 +2,7 @@
 #![tactic(auto)]
 
 mod desk;
+mod example;
 mod fault;
 mod gathered;
 mod head;
@@ -16,9 +17,12 @@ pub use aprs_command::{Job, JobFault, command_is_simple, job};
 pub use aprs_convert::Form;
 pub use aprs_io::{Counted, DeviceFault, WriteFault, send};
 pub use desk::Desk;
+pub use example::{book_files_stand_for_their_sets, logs_stand_for_their_receptions};
 pub use fault::{InputFault, RunFault, status_of};
 pub use input::read_input;
-pub use laws::{listings_tell_positions, same_receptions_same_bytes};
+pub use laws::{
+    faultless_inputs_have_no_fault, listings_tell_positions, same_receptions_same_bytes,
+};
 pub use merge::merge_run;
 pub use run::{check_run, convert_run};
 pub use show::show_run;

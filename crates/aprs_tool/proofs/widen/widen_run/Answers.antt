@@ -1,6 +1,6 @@
-use Rattle.std.proofs.Common.{◌≡◌, ◌∙◌, ◌≤◌, Ok, Err, inl, refl, subst, sym, ap, arith}
+use Rattle.std.proofs.Common.{Ok, Err, inl, refl, subst, arith}
 use Rattle.aprs_laws.specs.Gap.{IsGap}
-use Rattle.aprs_tool.specs.Gathered.{book_of_rows, WritesText}
+use Rattle.aprs_tool.specs.Gathered.{WritesText}
 use Rattle.aprs_tool.specs.InputRows.{GivesRows}
 use Rattle.aprs_tool.proofs.Into.{got_so}
 use Rattle.aprs_tool.proofs.LastRefused.{text_cut, text_none, text_sent}

@@ -1,0 +1,36 @@
+-- An input that stands for a set has no fault.
+use Rattle.std.proofs.Common.{◌≡◌, ◌∙◌, ℕ, ◌^◌, ◌<◌, ◌≤◌, true, false, List, [], length, None, Some, inl, inr, refl, sym, ap, append-nil, arith}
+use Rattle.aprs_io.specs.Input.{most_input}
+use Rattle.aprs_io.specs.declared.input.Ending.{Ending}
+use Rattle.aprs_log.specs.Reception.{Heard}
+use Rattle.aprs_booktext.specs.FirstFault.{FirstFault}
+use Rattle.aprs_booktext.specs.declared.fault.BookFault.{BookFault}
+use Rattle.aprs_booktext.proofs.Accepting.{rows_few}
+use Rattle.aprs_booktext.proofs.OneText.{cut_short}
+use Rattle.aprs_tool.specs.Inputs.{GivesSet, IsBookFileOf}
+use Rattle.aprs_tool.specs.Refused.{IsFaulty}
+use Rattle.aprs_tool.specs.Status.{status_of_book_cause, status_of_input}
+use Rattle.aprs_tool.specs.declared.fault.InputFault.{InputFault}
+use Rattle.aprs_tool.specs.declared.fault.InputFault.TheVariants.{Log, Book, Memory, OtherGap, Narrower}
+
+pub file_none : (gap : ℕ) (S : List Heard) (t : List ℕ) (c : Ending) (f : BookFault)
+    → length t ≤ most_input → IsBookFileOf gap S t c → FirstFault t c f → ⊥
+file_none gap S t c f small p first =
+    let size : length t ≡ length _ = ap length p.text_is in
+    let few : length p.rows < 2 ^ 64 = omega (arith, small, size, rows_few p.version p.rows) in
+    (cut_short p.version p.rows p.sound few [] c f.cause t f (append-nil t ∙ p.text_is) refl
+    first).1 p.whole refl
+
+pub no_fault : (gap : ℕ) (t : List ℕ) (c : Ending) (S : List Heard) (e : InputFault)
+    → length t ≤ most_input → GivesSet gap t c S → IsFaulty e t c → status_of_input e ≡ 4
+no_fault gap t c S (Log f) small (inl p) h = absurd (let x : true ≡ false = sym p.0 ∙ h.0 in cc)
+no_fault gap t c S (Log f) small (inr p) h =
+    absurd (let x : None ≡ Some f = sym p.1.faultless ∙ h.1 in cc)
+no_fault gap t c S (Book f) small (inl p) h = elim h.1 [
+  | inl memory ↦ ap status_of_book_cause memory.refused
+  | inr first ↦ absurd (file_none gap S t c f small p.1 first)
+]
+no_fault gap t c S (Book f) small (inr p) h = absurd (let x : true ≡ false = sym h.0 ∙ p.0 in cc)
+no_fault gap t c S Memory small gives h = refl
+no_fault gap t c S OtherGap small gives h = absurd h
+no_fault gap t c S Narrower small gives h = absurd h

@@ -1,0 +1,117 @@
+-- Worked examples of what an input stands for.
+use Rattle.std.proofs.Common.{◌≡◌, ◌∙◌, ℕ, ◌<◌, true, false, List, [], ◌∷◌, ◌++◌, length, codes, None, inl, inr, refl, sym, ap, subst, arith}
+use Rattle.std.specs.Fmt.{decimal}
+use Rattle.std.specs.List.{list_any}
+use Rattle.std.proofs.lemmas.Fmt.{decimal_digit}
+use Rattle.aprs_io.specs.declared.input.Ending.{Ending}
+use Rattle.aprs_io.specs.declared.input.Ending.TheVariants.{End, Read}
+use Rattle.aprs_log.specs.LogAnswers.{Answers, ended, ending_cause, fault_at, is_lf, log_answers, receptions_of}
+use Rattle.aprs_log.specs.Reception.{Heard}
+use Rattle.aprs_laws.specs.Gap.{IsGap, millis_of}
+use Rattle.aprs_laws.specs.Lists.{◌∈◌}
+use Rattle.aprs_laws.proofs.RunRows.{book_of_nothing}
+use Rattle.aprs_booktext.specs.FirstFault.{FirstFault}
+use Rattle.aprs_booktext.specs.Text.{book_text, text_of_lines}
+use Rattle.aprs_booktext.specs.Version.{gap_of, header_of}
+use Rattle.aprs_booktext.specs.declared.fault.BookCause.TheVariants as why
+use Rattle.aprs_booktext.specs.declared.version.Version.TheVariants.{Three}
+use Rattle.aprs_booktext.proofs.OneText.{one_text}
+use Rattle.aprs_booktext.proofs.Standing.{no_rows}
+use Rattle.aprs_tool.specs.Examples.{cut_book, empty_book, unended_log}
+use Rattle.aprs_tool.specs.Inputs.{GivesSet, IsLogOf, is_book_file}
+use Rattle.aprs_tool.proofs.Faultless.{file_none}
+use Rattle.aprs_tool.proofs.Sets.{log_is, log_of}
+use Rattle.aprs_tool.proofs.ShortLogs.{short_tail}
+
+-- ---- logs
+
+nothing_read : log_answers [] End ≡ ended None
+nothing_read = short_tail [] End (omega arith) refl
+
+pub empty_log : GivesSet 30 [] End []
+empty_log = inr (
+  refl,
+  subst (λ S. IsLogOf S [] End) (ap (λ (a : Answers). receptions_of a.given) nothing_read)
+      (log_of [] End (ap (λ (a : Answers). a.fault) nothing_read)),
+)
+
+pub no_reception : (x : Heard) → GivesSet 30 [] End (x ∷ []) → ⊥
+no_reception x (inl p) = absurd (let e : false ≡ true = p.0 in cc)
+no_reception x (inr p) =
+    subst (λ (T : List Heard). x ∈ T) (ap (λ (a : Answers). receptions_of a.given) nothing_read)
+    ((log_is (x ∷ []) [] End p.1 x).0 (inl refl))
+
+-- a log with this fault stands for no set
+no_set : (gap : ℕ) (t : List ℕ) (c : Ending) → is_book_file t ≡ false → length t < 8
+    → list_any is_lf t ≡ false → ((fault_at 1 (ending_cause c t)) ≡ None → ⊥)
+    → (S : List Heard) → GivesSet gap t c S → ⊥
+no_set gap t c is few one some S (inl p) = absurd (let e : true ≡ false = sym p.0 ∙ is in cc)
+no_set gap t c is few one some S (inr p) =
+    some (sym (ap (λ (a : Answers). a.fault) (short_tail t c few one)) ∙ p.1.faultless)
+
+pub no_failed_read : (S : List Heard) → GivesSet 30 [] Read S → ⊥
+no_failed_read = no_set 30 [] Read refl (omega arith) refl (λ e. absurd cc)
+
+pub no_unended : (S : List Heard) → GivesSet 30 unended_log End S → ⊥
+no_unended = no_set 30 unended_log End refl (omega arith) refl (λ e. absurd cc)
+
+-- ---- book files
+
+few_seconds : IsGap 5
+few_seconds = (omega arith, omega arith)
+
+-- the text of a book of no row, by its numbers
+abbrev two_lines : List ℕ → List ℕ → List ℕ
+two_lines gap many =
+    text_of_lines ((codes "APRSBOOK 3 " ++ gap) ∷ (codes "END " ++ many) ∷ [])
+
+empty_text : empty_book ≡ book_text (Three 5) []
+empty_text = sym (ap (λ gap. two_lines gap (decimal 0)) (decimal_digit 5 (omega arith))
+    ∙ ap (two_lines (53 ∷ [])) (decimal_digit 0 (omega arith)))
+
+pub empty_file : GivesSet 5 empty_book End []
+empty_file = inl (
+  refl,
+  record {
+    version = Three 5;
+    rows = [];
+    gap_is = refl;
+    sound = no_rows (Three 5) few_seconds;
+    text_is = empty_text;
+    whole = refl;
+    book = book_of_nothing (millis_of 5);
+  },
+)
+
+pub no_other_gap : (S : List Heard) → GivesSet 30 empty_book End S → ⊥
+no_other_gap S (inl p) =
+    let same = (one_text (Three 5) p.1.version [] p.1.rows (no_rows (Three 5) few_seconds) p.1.sound
+    (sym empty_text ∙ p.1.text_is)).0 in
+    let gap : 5 ≡ 30 = ap gap_of same ∙ p.1.gap_is in
+    absurd (omega (arith, gap))
+no_other_gap S (inr p) = absurd (let e : true ≡ false = p.0 in cc)
+
+pub no_failed_file : (S : List Heard) → GivesSet 5 empty_book Read S → ⊥
+no_failed_file S (inl p) = absurd (let e : Read ≡ End = p.1.whole in cc)
+no_failed_file S (inr p) = absurd (let e : true ≡ false = p.0 in cc)
+
+cut_fault : FirstFault cut_book End (record { line = 2; cause = why.Ending })
+cut_fault = record {
+  lines = header_of (Three 5) ∷ [];
+  rest = [];
+  whole = sym (ap (λ gap. text_of_lines ((codes "APRSBOOK 3 " ++ gap) ∷ []) ++ [])
+      (decimal_digit 5 (omega arith)));
+  line = refl;
+  fault = inr (inl (record {
+    version = Three 5;
+    rows = [];
+    sound = no_rows (Three 5) few_seconds;
+    read = refl;
+    fault = inl (tt, refl);
+  }));
+}
+
+pub no_cut_file : (S : List Heard) → GivesSet 5 cut_book End S → ⊥
+no_cut_file S (inl p) = file_none 5 S cut_book End (record { line = 2; cause = why.Ending })
+    (omega arith) p.1 cut_fault
+no_cut_file S (inr p) = absurd (let e : true ≡ false = p.0 in cc)
