@@ -3,12 +3,14 @@ use Rattle.std.proofs.Common.{◌≡◌, ◌∙◌, ℕ, ◌^◌, ◌<◌, ◌�
 use Rattle.aprs_io.specs.Input.{most_input}
 use Rattle.aprs_io.specs.declared.input.Ending.{Ending}
 use Rattle.aprs_log.specs.Reception.{Heard}
+use Rattle.aprs_log.proofs.LogTexts.{log_fault-answers}
 use Rattle.aprs_booktext.specs.FirstFault.{FirstFault}
 use Rattle.aprs_booktext.specs.declared.fault.BookFault.{BookFault}
 use Rattle.aprs_booktext.proofs.Accepting.{rows_few}
 use Rattle.aprs_booktext.proofs.OneText.{cut_short}
 use Rattle.aprs_tool.specs.Inputs.{GivesSet, IsBookFileOf}
 use Rattle.aprs_tool.specs.Refused.{IsFaulty}
+use Rattle.aprs_tool.proofs.Sets.{log_none}
 use Rattle.aprs_tool.specs.Status.{status_of_book_cause, status_of_input}
 use Rattle.aprs_tool.specs.declared.fault.InputFault.{InputFault}
 use Rattle.aprs_tool.specs.declared.fault.InputFault.TheVariants.{Log, Book, Memory, OtherGap, Narrower}
@@ -25,7 +27,7 @@ pub no_fault : (gap : ℕ) (t : List ℕ) (c : Ending) (S : List Heard) (e : Inp
     → length t ≤ most_input → GivesSet gap t c S → IsFaulty e t c → status_of_input e ≡ 4
 no_fault gap t c S (Log f) small (inl p) h = absurd (let x : true ≡ false = sym p.0 ∙ h.0 in cc)
 no_fault gap t c S (Log f) small (inr p) h =
-    absurd (let x : None ≡ Some f = sym p.1.faultless ∙ h.1 in cc)
+    absurd (let x : None ≡ Some f = sym (log_none S t c p.1) ∙ log_fault-answers t c f h.1 in cc)
 no_fault gap t c S (Book f) small (inl p) h = elim h.1 [
   | inl memory ↦ ap status_of_book_cause memory.refused
   | inr first ↦ absurd (file_none gap S t c f small p.1 first)

@@ -20,6 +20,7 @@ use Rattle.aprs_io.specs.Input.{Gets}
 use Rattle.aprs_io.specs.declared.input.Ending.{Ending}
 use Rattle.aprs_io.specs.declared.input.Ending.TheVariants as ending
 use Rattle.aprs_log.specs.LogAnswers.{ended, log_answers, receptions_of}
+use Rattle.aprs_log.proofs.LogTexts.{answers-log_fault}
 use Rattle.aprs_log.specs.declared.fault.LogFault.{LogFault}
 use Rattle.aprs_booktext.specs.FirstFault.{Reads}
 use Rattle.aprs_booktext.specs.Text.{book_text, IsBookRows}
@@ -113,7 +114,7 @@ short_is_log t short = by (is_book_file t) refl
 
 pub refused_log : (e : InputFault) (old new : List Row) (t : List ℕ) (c : Ending)
     → is_book_file t ≡ false → ReadsLog (Err e) old new t c → IsFaulty e t c
-refused_log (Log f) old new t c is h = (is, h)
+refused_log (Log f) old new t c is h = (is, answers-log_fault t c f h)
 refused_log Memory old new t c is h = is
 refused_log (Book f) old new t c is h = absurd h
 refused_log OtherGap old new t c is h = absurd h

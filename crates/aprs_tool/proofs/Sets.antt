@@ -1,8 +1,9 @@
 -- Lemmas on the sets that an input stands for: all have one book.
-use Rattle.std.proofs.Common.{◌≡◌, ℕ, true, false, List, None, inl, inr, sym, ap, ◌∙◌, subst}
+use Rattle.std.proofs.Common.{◌≡◌, ℕ, true, false, List, None, inl, inr, refl, sym, ap, ◌∙◌, subst}
 use Rattle.aprs_io.specs.declared.input.Ending.{Ending}
 use Rattle.aprs_log.specs.LogAnswers.{log_answers, receptions_of}
 use Rattle.aprs_log.specs.Reception.{Heard}
+use Rattle.aprs_log.proofs.LogTexts.{answers-log_text, log_text-answers}
 use Rattle.aprs_laws.specs.Book.{BookOf}
 use Rattle.aprs_laws.specs.Gap.{millis_of}
 use Rattle.aprs_laws.specs.Lists.{SameMembers}
@@ -17,12 +18,21 @@ use Rattle.aprs_tool.specs.Inputs.{GivesSet, IsBookFileOf, IsLogOf}
 -- a log without a fault is one of the receptions that its lines report
 pub log_of : (t : List ℕ) (c : Ending) → (log_answers t c).fault ≡ None
     → IsLogOf (receptions_of (log_answers t c).given) t c
-log_of t c none = record { faultless = none; heard = λ x. (λ h. h, λ h. h) }
+log_of t c none = record {
+  reported = receptions_of (log_answers t c).given;
+  is_log = answers-log_text t c (receptions_of (log_answers t c).given) (none, refl);
+  same = λ x. (λ h. h, λ h. h);
+}
 
 -- and of no others
 pub log_is : (S : List Heard) (t : List ℕ) (c : Ending) → IsLogOf S t c
     → SameMembers S (receptions_of (log_answers t c).given)
-log_is S t c p = p.heard
+log_is S t c p = subst (SameMembers S) (sym (log_text-answers t c p.reported p.is_log).1) p.same
+
+-- and it has no fault
+pub log_none : (S : List Heard) (t : List ℕ) (c : Ending) → IsLogOf S t c
+    → (log_answers t c).fault ≡ None
+log_none S t c p = (log_text-answers t c p.reported p.is_log).0
 
 log_book : (gap : ℕ) (t : List ℕ) (c : Ending) (S T : List Heard) (rows : List Row)
     → IsLogOf S t c → IsLogOf T t c → BookOf gap T rows → BookOf gap S rows

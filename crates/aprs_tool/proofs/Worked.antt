@@ -20,7 +20,7 @@ use Rattle.aprs_booktext.proofs.Standing.{no_rows}
 use Rattle.aprs_tool.specs.Examples.{cut_book, empty_book, unended_log}
 use Rattle.aprs_tool.specs.Inputs.{GivesSet, IsLogOf, is_book_file}
 use Rattle.aprs_tool.proofs.Faultless.{file_none}
-use Rattle.aprs_tool.proofs.Sets.{log_is, log_of}
+use Rattle.aprs_tool.proofs.Sets.{log_is, log_none, log_of}
 use Rattle.aprs_tool.proofs.ShortLogs.{short_tail}
 
 -- ---- logs
@@ -47,7 +47,7 @@ no_set : (gap : ℕ) (t : List ℕ) (c : Ending) → is_book_file t ≡ false �
     → (S : List Heard) → GivesSet gap t c S → ⊥
 no_set gap t c is few one some S (inl p) = absurd (let e : true ≡ false = sym p.0 ∙ is in cc)
 no_set gap t c is few one some S (inr p) =
-    some (sym (ap (λ (a : Answers). a.fault) (short_tail t c few one)) ∙ p.1.faultless)
+    some (sym (ap (λ (a : Answers). a.fault) (short_tail t c few one)) ∙ log_none S t c p.1)
 
 pub no_failed_read : (S : List Heard) → GivesSet 30 [] Read S → ⊥
 no_failed_read = no_set 30 [] Read refl (omega arith) refl (λ e. absurd cc)

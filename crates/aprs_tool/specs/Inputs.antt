@@ -1,10 +1,10 @@
 -- Which sets of receptions an input stands for, by the text that was got of it and by what came
 -- after that.
-use Rattle.std.specs.Prelude.{◌≡◌, ◌==◌, ◌⊎◌, ℕ, Bool, true, false, List, codes, None}
+use Rattle.std.specs.Prelude.{◌≡◌, ◌==◌, ◌⊎◌, ℕ, Bool, true, false, List, codes}
 use Rattle.std.specs.List.{starts_with}
 use Rattle.aprs_io.specs.declared.input.Ending.{Ending}
 use Rattle.aprs_io.specs.declared.input.Ending.TheVariants.{End}
-use Rattle.aprs_log.specs.LogAnswers.{log_answers, receptions_of}
+use Rattle.aprs_log.specs.LogText.{IsLogText}
 use Rattle.aprs_log.specs.Reception.{Heard}
 use Rattle.aprs_laws.specs.Book.{BookOf}
 use Rattle.aprs_laws.specs.Gap.{millis_of}
@@ -31,8 +31,9 @@ pub record IsBookFileOf (gap : ℕ) (S : List Heard) (text : List ℕ) (ending :
 
 -- A log without a fault, to its end: S are the receptions that its lines report.
 pub record IsLogOf (S : List Heard) (text : List ℕ) (ending : Ending) : Type 0 where
-  pub faultless : (log_answers text ending).fault ≡ None
-  pub heard : SameMembers S (receptions_of (log_answers text ending).given)
+  pub reported : List Heard
+  pub is_log : IsLogText text ending reported
+  pub same : SameMembers S reported
 
 -- The input is faultless and stands for the set S: a log for the receptions in it, and a book file
 -- of this gap for each set whose book it is.

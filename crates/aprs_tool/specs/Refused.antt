@@ -1,8 +1,8 @@
 -- Why an input is refused, by the text that was got of it and by what came after that.
-use Rattle.std.specs.Prelude.{◌≡◌, ◌≢◌, ◌≤◌, ◌⊎◌, ℕ, true, false, List, length, Some}
+use Rattle.std.specs.Prelude.{◌≡◌, ◌≢◌, ◌≤◌, ◌⊎◌, ℕ, true, false, List, length}
 use Rattle.aprs_io.specs.Input.{most_input}
 use Rattle.aprs_io.specs.declared.input.Ending.{Ending}
-use Rattle.aprs_log.specs.LogAnswers.{log_answers}
+use Rattle.aprs_log.specs.LogText.{HasLogFault}
 use Rattle.aprs_log.specs.Reception.{Heard}
 use Rattle.aprs_laws.specs.declared.merge_fault.MergeFault.{MergeFault}
 use Rattle.aprs_laws.specs.declared.merge_fault.MergeFault.TheVariants as merge
@@ -17,7 +17,7 @@ use Rattle.aprs_tool.specs.declared.fault.InputFault.TheVariants.{Log, Book, Mem
 -- read.
 abbrev pub IsFaulty : InputFault → List ℕ → Ending → Type 0
 IsFaulty (Log fault) text ending =
-    (is_book_file text ≡ false) × ((log_answers text ending).fault ≡ Some fault)
+    (is_book_file text ≡ false) × HasLogFault text ending fault
 IsFaulty (Book fault) text ending = (is_book_file text ≡ true)
     × (IsMemoryAt most_ahead text fault ⊎ FirstFault text ending fault)
 IsFaulty Memory text ending = is_book_file text ≡ false
