@@ -146,8 +146,8 @@ named_form_of name r m = if bytes_eq name (codes "text") then plain_form_of form
     else capture_form_of r m)))
 
 -- the form that the matches name
-abbrev pub form_of : List Row → Option Form
-form_of rows = option_and_then (λ name. named_form_of name (first_of (codes "receiver") rows)
+abbrev pub asked_form : List Row → Option Form
+asked_form rows = option_and_then (λ name. named_form_of name (first_of (codes "receiver") rows)
     (first_of (codes "moment") rows)) (first_of (codes "form") rows)
 
 -- the number of seconds in a text, if the command takes it as a gap
@@ -171,7 +171,7 @@ widened_gap rows = option_and_then read_gap (first_of (codes "seconds") rows)
 -- the task of the command of this name, if its options are right
 abbrev pub task_named : Text → List Row → Option Task
 task_named name rows =
-    if bytes_eq name (codes "convert") then option_map (λ f. task.Convert f) (form_of rows)
+    if bytes_eq name (codes "convert") then option_map (λ f. task.Convert f) (asked_form rows)
     else (if bytes_eq name (codes "merge") then option_map (λ g. task.Merge g) (chosen_gap rows)
     else (if bytes_eq name (codes "show") then option_map (λ g. task.Show g) (chosen_gap rows)
     else (if bytes_eq name (codes "widen") then option_map (λ g. task.Widen g) (widened_gap rows)

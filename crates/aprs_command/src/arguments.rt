@@ -10,7 +10,7 @@ ghost use Rattle.aprs_command.specs.Arguments.{check_app, convert_app, gathering
 ghost use Rattle.aprs_command.specs.Arguments.{widen_app, gap_rule, seconds_rule, gap_parser, read_gap};
 ghost use Rattle.aprs_command.specs.Arguments.{chosen_gap, widened_gap};
 ghost use Rattle.aprs_command.specs.Arguments.{AreForms, input_rule, inputs_named, inputs_of, inputs_rule, paths_of};
-ghost use Rattle.aprs_command.specs.Arguments.{plain_form_of, capture_form_of, named_form_of, form_of};
+ghost use Rattle.aprs_command.specs.Arguments.{plain_form_of, capture_form_of, named_form_of, asked_form};
 ghost use Rattle.aprs_command.specs.Arguments.{task_named, task_of};
 ghost use Rattle.aprs_log.specs.Moment.{moment_of};
 
@@ -319,7 +319,7 @@ fn read_gap(text: &str) -> Option<Gap>
 }
 
 fn read_form(matches: &ArgMatches<'_>) -> Option<Form>
-    ensures { result ≡ form_of (rows_of (found_of matches.now)) }
+    ensures { result ≡ asked_form (rows_of (found_of matches.now)) }
 {
     let name = text_at(matches, "form")?;
     named_form(

@@ -30,10 +30,10 @@ RunsOver plan_of limit known after answer old new =
 
 -- What the input answered last, by the run's answer: where the output was refused, it may have
 -- come to the end before or not.
-abbrev pub Asks : {R : Type 0} → Result (Unit {0}) ConvertFault → Counted R → Counted R → Type 0
-Asks (Ok u) old new = Calls End old new
-Asks (Err (Log fault)) old new = Calls (last_of_cause fault.cause) old new
-Asks (Err Write) old new = Calls Going old new ⊎ Calls End old new
+abbrev pub AsksForRun : {R : Type 0} → Result (Unit {0}) ConvertFault → Counted R → Counted R → Type 0
+AsksForRun (Ok u) old new = Calls End old new
+AsksForRun (Err (Log fault)) old new = Calls (last_of_cause fault.cause) old new
+AsksForRun (Err Write) old new = Calls Going old new ⊎ Calls End old new
 
 -- What the output answered last, by the run's answer.
 abbrev pub last_written : Result (Unit {0}) ConvertFault → Last
@@ -49,7 +49,7 @@ pub record Runs {R W : Type 0} (plan_of : List ℕ → Ending → Plan) (limit :
     (written_to now_written : Counted W) : Type 0 where
   pub run : RunsOver plan_of limit (remaining read_from.device) (remaining now_read.device) answer
       (contents written_to.device) (contents now_written.device)
-  pub reads : Asks answer read_from now_read
+  pub reads : AsksForRun answer read_from now_read
   pub writes : Calls (last_written answer) written_to now_written
 
 -- A run over a stream that ends so has this answer.

@@ -7,7 +7,7 @@ use Rattle.aprs_laws.specs.Key.{key_of}
 use Rattle.aprs_log.specs.Moment.{moment_text}
 use Rattle.aprs_log.specs.Reception.{Heard}
 use Rattle.aprs_listing.specs.Lines.{field_text, spaced_field}
-use Rattle.aprs_listing.specs.Listing.{after_space, heard_fields, live_text, name_fields, text_line_of, word}
+use Rattle.aprs_listing.specs.Listing.{after_space, heard_fields, live_text, name_fields, line_with_text, word}
 use Rattle.aprs_convert.specs.Shown.{shown}
 use Rattle.aprs_listing.specs.declared.field.Field.{Field}
 
@@ -21,7 +21,7 @@ pub placed : (kind comment : List ℕ) (fields known place : List (List ℕ)) (o
     → fields ≡ known → map field_text others ≡ place
     → kind ++ (flat_map after_space fields ++
     (flat_map spaced_field others ++ (58 ∷ shown comment ++ 10 ∷ [])))
-    ≡ text_line_of kind (known ++ place) comment
+    ≡ line_with_text kind (known ++ place) comment
 placed kind comment fields known place others e o =
     let rest = 58 ∷ shown comment ++ 10 ∷ [] in
     ap₂ (λ l m. kind ++ (flat_map after_space l ++ (m ++ rest))) e (spaced_fields others

@@ -3,7 +3,7 @@ use Rattle.std.specs.Prelude.{ℕ, List, ◌∷◌}
 use Rattle.std.specs.Fmt.{decimal}
 use Rattle.aprs_ax25.specs.Callsign.{call_text}
 use Rattle.aprs_log.specs.Moment.{moment_text}
-use Rattle.aprs_listing.specs.Listing.{word, stamp_text, fraction_text, ambiguity_text, symbol_text}
+use Rattle.aprs_listing.specs.Listing.{word, stamp_text, degrees_text, ambiguity_text, symbol_text}
 use Rattle.aprs_listing.specs.declared.field.Field.{Field}
 use Rattle.aprs_listing.specs.declared.field.Field.TheVariants as field
 
@@ -15,7 +15,7 @@ field_text (field.Call call) = call_text call
 field_text (field.Count n) = decimal n
 field_text (field.Moment moment) = moment_text moment
 field_text (field.Stamp stamp) = stamp_text stamp
-field_text (field.Degrees fraction) = fraction_text fraction
+field_text (field.Degrees fraction) = degrees_text fraction
 field_text (field.Ambiguity place) = ambiguity_text place
 field_text (field.Symbol symbol) = symbol_text symbol
 

@@ -40,8 +40,8 @@ stamp_text None = codes "-"
 stamp_text (Some s) = stamp_bytes s
 
 -- numerator/denominator, in decimal
-abbrev pub fraction_text : Fraction → List ℕ
-fraction_text f = signed_decimal f.numerator ++ codes "/" ++ signed_decimal f.denominator
+abbrev pub degrees_text : Fraction → List ℕ
+degrees_text f = signed_decimal f.numerator ++ codes "/" ++ signed_decimal f.denominator
 
 -- how many digits of the minutes are left out, or c for a compressed position
 abbrev pub ambiguity_text : Place → List ℕ
@@ -80,8 +80,8 @@ name_fields name live x =
 
 -- where something is: time stamp, latitude, longitude, ambiguity and symbol
 abbrev pub place_fields : Option Stamp → Place → Symbol → List (List ℕ)
-place_fields stamp place symbol = stamp_text stamp ∷ fraction_text (latitude_of place)
-    ∷ fraction_text (longitude_of place) ∷ ambiguity_text place ∷ symbol_text symbol ∷ []
+place_fields stamp place symbol = stamp_text stamp ∷ degrees_text (latitude_of place)
+    ∷ degrees_text (longitude_of place) ∷ ambiguity_text place ∷ symbol_text symbol ∷ []
 
 -- ---- lines
 
@@ -90,25 +90,25 @@ abbrev pub after_space : List ℕ → List ℕ
 after_space field = 32 ∷ field
 
 -- the kind of a line, and each field after a space
-abbrev pub line_of : List ℕ → List (List ℕ) → List ℕ
-line_of kind fields = kind ++ (flat_map after_space fields ++ 10 ∷ [])
+abbrev pub line_with : List ℕ → List (List ℕ) → List ℕ
+line_with kind fields = kind ++ (flat_map after_space fields ++ 10 ∷ [])
 
 -- the same, and at the end a text after a colon
-abbrev pub text_line_of : List ℕ → List (List ℕ) → List ℕ → List ℕ
-text_line_of kind fields text =
+abbrev pub line_with_text : List ℕ → List (List ℕ) → List ℕ → List ℕ
+line_with_text kind fields text =
     kind ++ (flat_map after_space fields ++ (58 ∷ shown text ++ 10 ∷ []))
 
 -- the line of a reception, by what it reports: a position, a status, an object or an item
 abbrev pub report_line : Heard → Value → List ℕ
 report_line x (position messaging stamp place symbol comment) =
-    text_line_of (codes "position") (heard_fields x ++ place_fields stamp place symbol) comment
+    line_with_text (codes "position") (heard_fields x ++ place_fields stamp place symbol) comment
 report_line x (status stamp text) =
-    text_line_of (codes "status") (heard_fields x ++ stamp_text stamp ∷ []) text
+    line_with_text (codes "status") (heard_fields x ++ stamp_text stamp ∷ []) text
 report_line x (object name live stamp place symbol comment) =
-    text_line_of (codes "object")
+    line_with_text (codes "object")
     (name_fields name live x ++ place_fields (Some stamp) place symbol) comment
 report_line x (item name live place symbol comment) =
-    text_line_of (codes "item") (name_fields name live x ++ place_fields None place symbol) comment
+    line_with_text (codes "item") (name_fields name live x ++ place_fields None place symbol) comment
 report_line x (message addressee text id) = []
 report_line x (ack addressee id) = []
 report_line x (rej addressee id) = []
@@ -125,7 +125,7 @@ known_line (Some x) = heard_line x
 
 -- its callsign and the number of its transmissions
 abbrev pub station_line : Station → List ℕ
-station_line x = line_of (codes "station") (call_text x.call ∷ decimal x.transmissions ∷ [])
+station_line x = line_with (codes "station") (call_text x.call ∷ decimal x.transmissions ∷ [])
 
 -- that line, and those of its last known position and status
 abbrev pub station_lines : Station → List ℕ
@@ -142,7 +142,7 @@ message_fields x = call_text x.source ∷ word x.addressee.now ∷ id_text x.id 
 
 -- the line of a message
 abbrev pub message_line : MessageRow → List ℕ
-message_line x = text_line_of (codes "message") (message_fields x) x.text.now
+message_line x = line_with_text (codes "message") (message_fields x) x.text.now
 
 -- ---- the text
 

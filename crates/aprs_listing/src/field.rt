@@ -2,7 +2,7 @@
 ghost use Rattle.std.specs.Prelude.{◌≡◌};
 ghost use Rattle.aprs_io.specs.Outlet.{Puts};
 ghost use Rattle.aprs_listing.specs.Lines.{field_text};
-ghost use Rattle.aprs_listing.specs.Listing.{ambiguity_text, fraction_text, stamp_text};
+ghost use Rattle.aprs_listing.specs.Listing.{ambiguity_text, degrees_text, stamp_text};
 ghost use Rattle.aprs_listing.specs.Listing.{word, word_byte};
 ghost use Rattle.aprs_convert.specs.Shown.{shown};
 
@@ -44,7 +44,7 @@ pub fn put_field<W: Write>(out: &mut Outlet<'_, W>, field: &Field<'_>) -> Result
         Field::Count(n) => out.put(Buffer::new().format(*n).as_bytes()),
         Field::Moment(moment) => out.put(&moment.text()),
         Field::Stamp(stamp) => out.put(stamp_text(stamp).as_slice()),
-        Field::Degrees(fraction) => out.put(fraction_text(fraction).as_slice()),
+        Field::Degrees(fraction) => out.put(degrees_text(fraction).as_slice()),
         Field::Ambiguity(place) => out.put(ambiguity_text(place).as_slice()),
         Field::Symbol(symbol) => put_shown(out, &[symbol.table, symbol.code]),
     }
@@ -66,8 +66,8 @@ fn stamp_text(stamp: &Option<Stamp>) -> ArrayVec<u8, 7>
 }
 
 /// Numerator and denominator.
-fn fraction_text(fraction: &Fraction) -> ArrayVec<u8, 81>
-    ensures { result.items ≡ fraction_text fraction.now }
+fn degrees_text(fraction: &Fraction) -> ArrayVec<u8, 81>
+    ensures { result.items ≡ degrees_text fraction.now }
 {
     let mut text = ArrayVec::new();
     push_all(

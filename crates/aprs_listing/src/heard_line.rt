@@ -3,7 +3,7 @@ ghost use Rattle.std.specs.Prelude.{◌≡◌, ◌++◌, ◌∷◌, [], codes, m
 ghost use Rattle.aprs_io.specs.Outlet.{Puts};
 ghost use Rattle.aprs_listing.specs.Lines.{field_text};
 ghost use Rattle.aprs_listing.specs.Listing.{heard_fields, heard_line, live_text, name_fields};
-ghost use Rattle.aprs_listing.specs.Listing.{place_fields, stamp_text, text_line_of};
+ghost use Rattle.aprs_listing.specs.Listing.{place_fields, stamp_text, line_with_text};
 
 use crate::field::Field;
 use crate::line::put_text_line;
@@ -88,7 +88,7 @@ fn put_position<W: Write>(
     at: &Whereabouts<'_>,
 ) -> Result<(), WriteFault>
     ensures { Puts W.contents result out.old out.new
-        (text_line_of (codes "position") (heard_fields heard.now
+        (line_with_text (codes "position") (heard_fields heard.now
         ++ place_fields at.now.stamp at.now.place at.now.symbol) at.now.comment.now) }
 {
     let fields = [
@@ -108,7 +108,7 @@ fn put_name<'a, W: Write>(
     at: &Whereabouts<'_>,
 ) -> Result<(), WriteFault>
     ensures { Puts W.contents result out.old out.new
-        (text_line_of kind.now (name_fields name.now live heard.now
+        (line_with_text kind.now (name_fields name.now live heard.now
         ++ place_fields at.now.stamp at.now.place at.now.symbol) at.now.comment.now) }
 {
     let fields = [
@@ -129,7 +129,7 @@ fn put_status<W: Write>(
     text: &[u8],
 ) -> Result<(), WriteFault>
     ensures { Puts W.contents result out.old out.new
-        (text_line_of (codes "status") (heard_fields heard.now ++ stamp_text stamp ∷ []) text.now) }
+        (line_with_text (codes "status") (heard_fields heard.now ++ stamp_text stamp ∷ []) text.now) }
 {
     let fields = [
         Field::Moment(heard.moment),

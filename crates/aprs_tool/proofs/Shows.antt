@@ -24,7 +24,7 @@ use Rattle.aprs_book.specs.Stations.{ComesBefore, IsSource, ReportsStations}
 use Rattle.aprs_book.specs.declared.lists.message.MessageRow.{MessageRow}
 use Rattle.aprs_book.specs.declared.lists.named.Named.{Named}
 use Rattle.aprs_book.specs.declared.lists.station.Station.{Station}
-use Rattle.aprs_listing.specs.Listing.{known_line, line_of, message_line, named_line, show_text, station_lines}
+use Rattle.aprs_listing.specs.Listing.{known_line, line_with, message_line, named_line, show_text, station_lines}
 use Rattle.aprs_tool.specs.Show.{IsListingOf, TellsPosition}
 use Rattle.aprs_tool.specs.ShownBook.{IsShown, ShowsBook}
 use Rattle.aprs_tool.specs.declared.fault.RunFault.{RunFault}
@@ -104,10 +104,10 @@ tells_position_of gap S text call known l source best =
       after = known_line x.status ++ (flat_map station_lines cut.after ++ rest);
       others = cut.others;
       text_is = l.text_is ∙ ap (λ l. flat_map station_lines l ++ rest) cut.whole
-          ∙ parts cut.before cut.after x (line_of (codes "station")
+          ∙ parts cut.before cut.after x (line_with (codes "station")
           (call_text call ∷ decimal x.transmissions ∷ [])) (known_line known)
           (known_line x.status) rest
-          (ap₂ (λ (c : Call) (p : Option Heard). line_of (codes "station")
+          (ap₂ (λ (c : Call) (p : Option Heard). line_with (codes "station")
           (call_text c ∷ decimal x.transmissions ∷ [])
           ++ (known_line p ++ known_line x.status)) cut.is same);
     }

@@ -17,7 +17,7 @@ use Rattle.aprs_book.specs.Stations.{AreStations, IsSource}
 use Rattle.aprs_book.specs.declared.lists.message.MessageRow.{MessageRow}
 use Rattle.aprs_book.specs.declared.lists.named.Named.{Named}
 use Rattle.aprs_book.specs.declared.lists.station.Station.{Station}
-use Rattle.aprs_listing.specs.Listing.{known_line, line_of, show_text, station_lines}
+use Rattle.aprs_listing.specs.Listing.{known_line, line_with, show_text, station_lines}
 
 -- ---- the listing of a set
 
@@ -44,7 +44,7 @@ pub record TellsPosition (text : List ℕ) (call : Call) (known : Option Heard) 
   pub after : List ℕ
   pub others : (x : Station) → x ∈ before → x.call ≢ call
   pub text_is : text ≡ flat_map station_lines before
-      ++ (line_of (codes "station") (call_text call ∷ decimal transmissions ∷ [])
+      ++ (line_with (codes "station") (call_text call ∷ decimal transmissions ∷ [])
       ++ (known_line known ++ after))
 
 -- The listing of any set has, for each source in the set, the position that is the set's greatest

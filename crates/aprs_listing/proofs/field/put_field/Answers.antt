@@ -11,7 +11,7 @@ returns-in-Call g c = Puts-is c.put-in-Call.ensures
 
 pub returns-in-Degrees : goal.returns-in-Degrees
 returns-in-Degrees g c = Puts-is c.put-in-Degrees.ensures
-    (c.as_slice-in-Degrees.ensures.value ∙ c.fraction_text.ensures
+    (c.as_slice-in-Degrees.ensures.value ∙ c.degrees_text.ensures
     ∙ sym (ap (λ (x : Field). field_text x) c.in-Degrees.is))
 
 pub returns-in-Symbol : goal.returns-in-Symbol

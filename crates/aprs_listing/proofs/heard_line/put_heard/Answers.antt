@@ -5,7 +5,7 @@ use Rattle.aprs_laws.specs.Key.{key_of}
 use Rattle.aprs_log.specs.Reception.{Heard}
 use Rattle.aprs_report.specs.Reading.{view}
 use Rattle.aprs_report.specs.declared.report.Report.{Report}
-use Rattle.aprs_listing.specs.Listing.{heard_fields, heard_line, name_fields, place_fields, report_line, text_line_of}
+use Rattle.aprs_listing.specs.Listing.{heard_fields, heard_line, name_fields, place_fields, report_line, line_with_text}
 use Rattle.aprs_io.proofs.Outlets.{Puts-is}
 use Rattle.aprs_listing.proofs.heard_line.put_heard.Goals as goal
 
@@ -17,7 +17,7 @@ line_by x lent r e is = ap (λ (r : Report). report_line x (view r)) (sym is) �
 pub returns-in-Position : goal.returns-in-Position
 returns-in-Position g c =
     Puts-is c.put_position.ensures
-    (ap (λ at. text_line_of (codes "position") (heard_fields c.args.heard.now
+    (ap (λ at. line_with_text (codes "position") (heard_fields c.args.heard.now
     ++ place_fields at.stamp at.place at.symbol) at.comment.now) c.new-at.ensures
     ∙ line_by c.args.heard.now c.heard.inside.report _ (c.heard.invariant
     ∙ ap (λ (h : Heard). report_of (key_of h.frame)) c.heard.view_is) c.in-Position.is)
@@ -25,7 +25,7 @@ returns-in-Position g c =
 pub returns-in-Object : goal.returns-in-Object
 returns-in-Object g c =
     Puts-is c.put_name.ensures
-    (ap (λ at. text_line_of (codes "object") (name_fields c.in-Object.name.now c.in-Object.live
+    (ap (λ at. line_with_text (codes "object") (name_fields c.in-Object.name.now c.in-Object.live
     c.args.heard.now
     ++ place_fields at.stamp at.place at.symbol) at.comment.now) c.new-at-in-Object.ensures
     ∙ line_by c.args.heard.now c.heard.inside.report _ (c.heard.invariant
@@ -34,7 +34,7 @@ returns-in-Object g c =
 pub returns-in-Item : goal.returns-in-Item
 returns-in-Item g c =
     Puts-is c.put_name-in-Item.ensures
-    (ap (λ at. text_line_of (codes "item") (name_fields c.in-Item.name.now c.in-Item.live
+    (ap (λ at. line_with_text (codes "item") (name_fields c.in-Item.name.now c.in-Item.live
     c.args.heard.now
     ++ place_fields at.stamp at.place at.symbol) at.comment.now) c.new-at-in-Item.ensures
     ∙ line_by c.args.heard.now c.heard.inside.report _ (c.heard.invariant
