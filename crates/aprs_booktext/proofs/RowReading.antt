@@ -5,6 +5,7 @@ use Rattle.std.specs.Prelude.{◌≢◌, All, IfNone}
 use Rattle.std.specs.List.{join_with_byte}
 use Rattle.hex.specs.Hex.{encode_lower}
 use Rattle.aprs_ax25.specs.FrameFault.{frame_of}
+use Rattle.aprs_log.specs.Clock.{form_size}
 use Rattle.aprs_log.specs.Moment.{moment_text_in}
 use Rattle.aprs_log.specs.declared.moment_form.MomentForm.{MomentForm}
 use Rattle.aprs_log.specs.declared.moment_form.MomentForm.TheVariants.{Seconds, Millis}
@@ -13,7 +14,7 @@ use Rattle.aprs_laws.specs.Row.{Row, last_of}
 use Rattle.aprs_rows.specs.Names.{row_of_text}
 use Rattle.aprs_booktext.specs.Lines.{Lacks, pieces}
 use Rattle.aprs_booktext.specs.FirstFault.{HasNoFrame}
-use Rattle.aprs_booktext.specs.RowFields.{SpellsBytes, SpellsFrame, IsWrongFrame, IsWrongRow, size_in}
+use Rattle.aprs_booktext.specs.RowFields.{SpellsBytes, SpellsFrame, IsWrongFrame, IsWrongRow}
 use Rattle.aprs_booktext.specs.Text.{row_line, IsSpelled, IsBookRow, IsWritable}
 use Rattle.aprs_booktext.specs.declared.fault.BookCause.{BookCause}
 use Rattle.aprs_booktext.specs.declared.fault.BookCause.TheVariants as cause
@@ -40,16 +41,16 @@ has_field a rest = record {
   field = take-append_seam a (32 ∷ rest);
 }
 
-pub moment_len : (form : MomentForm) (m : ℕ) → length (moment_text_in form m) ≡ size_in form
+pub moment_len : (form : MomentForm) (m : ℕ) → length (moment_text_in form m) ≡ form_size form
 unfolding moment_text_in
 moment_len Seconds m = refl
 moment_len Millis m = refl
 
 pub has_moment : (form : MomentForm) (m : ℕ) (rest text : List ℕ)
     → text ≡ moment_text_in form m ++ 32 ∷ rest
-    → HasField (size_in form) (moment_text_in form m) text
+    → HasField (form_size form) (moment_text_in form m) text
 has_moment form m rest text e =
-    subst (λ t. HasField (size_in form) (moment_text_in form m) t) (sym e)
+    subst (λ t. HasField (form_size form) (moment_text_in form m) t) (sym e)
     (subst (λ n. HasField n (moment_text_in form m) (moment_text_in form m ++ 32 ∷ rest))
     (moment_len form m) (has_field (moment_text_in form m) rest))
 

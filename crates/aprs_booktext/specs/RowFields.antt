@@ -3,17 +3,11 @@ use Rattle.std.specs.Prelude.{◌≡◌, ◌≢◌, ◌<◌, ◌≤◌, ◌⊎�
 use Rattle.hex.specs.Hex.{encode_lower, IsBytes}
 use Rattle.aprs_ax25.specs.FrameFault.{frame_of}
 use Rattle.aprs_log.specs.declared.moment_form.MomentForm.{MomentForm}
-use Rattle.aprs_log.specs.declared.moment_form.MomentForm.TheVariants.{Seconds, Millis}
 use Rattle.aprs_laws.specs.Row.{Row}
 use Rattle.aprs_booktext.specs.FirstFault.{HasNoFrame}
 use Rattle.aprs_booktext.specs.Text.{row_line, IsSpelled, most_frame_bytes}
 use Rattle.aprs_booktext.specs.declared.fault.BookCause.{BookCause}
 use Rattle.aprs_booktext.specs.declared.fault.BookCause.TheVariants as why
-
--- how many bytes a moment's text has in a form
-abbrev pub size_in : MomentForm → ℕ
-size_in Seconds = 20
-size_in Millis = 24
 
 -- The digits spell these bytes, at least one and at most those of a frame.
 pub record SpellsBytes (digits bytes : List ℕ) : Type 0 where

@@ -1,9 +1,10 @@
 //! A row's line.
 ghost use Rattle.std.specs.Prelude.{◌≡◌, ◌≢◌, ◌↔◌, ◌≤◌, ◌⊎◌, ◌∷◌, ◌++◌, ℕ, List, length, All, IsTrue, IfOk, OnOk, IfErr, IfNone, IfSome};
+ghost use Rattle.aprs_log.specs.Clock.{form_size};
 ghost use Rattle.aprs_log.specs.Receiver.{IsName};
 ghost use Rattle.aprs_log.specs.Moment.{moment_text_in};
 ghost use Rattle.aprs_booktext.specs.Lines.{pieces};
-ghost use Rattle.aprs_booktext.specs.RowFields.{IsWrongFrame, IsWrongRow, size_in, SpellsFrame};
+ghost use Rattle.aprs_booktext.specs.RowFields.{IsWrongFrame, IsWrongRow, SpellsFrame};
 ghost use Rattle.aprs_booktext.specs.Text.{row_line, IsBookRow, IsWritable};
 
 use crate::cut::cut_near;
@@ -72,7 +73,7 @@ fn cut_moment<'l>(clock: &mut Clock, form: MomentForm, text: &'l [u8]) -> Option
 
 /// The bytes of a moment in this form.
 fn size_in(form: MomentForm) -> usize
-    ensures { result ≡ size_in form }
+    ensures { result ≡ form_size form }
 {
     match form {
         MomentForm::Seconds => 20,

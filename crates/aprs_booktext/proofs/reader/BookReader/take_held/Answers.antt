@@ -1,5 +1,3 @@
-use Rattle.std.proofs.Common.{subst}
-use Rattle.aprs_booktext.specs.Reader.{IsJudgedIn}
 use Rattle.aprs_booktext.proofs.Standing.{ended_stands, ended_fault}
 use Rattle.aprs_booktext.proofs.reader.BookReader.take_held.Goals as goal
 
