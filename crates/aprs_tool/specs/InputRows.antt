@@ -30,7 +30,8 @@ ReadsLog (Err fault) old new text ending = IsLogRefused fault text ending
 
 -- The rows that came after the old ones stand for a set that the input stands for, under its own
 -- gap or the one asked for.
-pub record GivesRows (asked own : ℕ) (old new : List Row) (text : List ℕ) (ending : Ending) : Type 0 where
+pub record GivesRows (asked own : ℕ) (old new : List Row) (text : List ℕ) (ending : Ending)
+    : Type 0 where
   pub gap_is : IsGapOf asked text own
   pub rows : List Row
   pub new_is : new ≡ old ++ rows

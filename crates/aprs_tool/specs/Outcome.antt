@@ -1,5 +1,5 @@
--- How a run ends: what it writes, or why it writes nothing. `Stand` says which sets its inputs stand
--- for, and `Tells` which text is written of a set.
+-- How a run ends: what it writes, or why it writes nothing. `Stand` says which sets its inputs
+-- stand for, and `Tells` which text is written of a set.
 use Rattle.std.specs.Prelude.{◌≡◌, ℕ, List, Option, Result, Ok, Err}
 use Rattle.std.specs.Io.KnownBytes.{Appends}
 use Rattle.aprs_io.specs.Device.{AppendsPrefix, Sends}
