@@ -204,7 +204,8 @@ decided Less r n = refl
 decided Equal r n = absurd (n refl)
 decided Greater r n = refl
 
-head_and_info : (f g : List ℕ) (h k : Head) → HaveHeads f g h k
+-- heads decide, and where they are equal the information does
+pub head_and_info : (f g : List ℕ) (h k : Head) → HaveHeads f g h k
     → ordering_then (head_cmp h k) (bytes_cmp (parts_of f).info (parts_of g).info)
     ≡ key_cmp (key_of f) (key_of g)
 unfolding key_of

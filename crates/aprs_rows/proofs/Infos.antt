@@ -1,8 +1,10 @@
 -- Where the information of a frame begins.
 use Rattle.std.proofs.Common.{◌≡◌, ◌∙◌, ℕ, zero, suc, ◌-◌, ◌≤◌, List, [], ◌∷◌, length, take, drop, ◌+◌, Option, None, Some, Result, Ok, Err, refl, sym, ap, arith}
 use Rattle.std.proofs.lemmas.List.{length-drop, take_all, drop-drop}
+use Rattle.aprs_ax25.specs.Frame.{FrameOf}
 use Rattle.aprs_ax25.specs.FrameFault.{field_len, parts_of, frame_of, frame_fault, unless_fault}
 use Rattle.aprs_ax25.specs.declared.fault.FrameFault.{FrameFault}
+use Rattle.aprs_ax25.proofs.Spellings.{FrameOf-IsSound}
 
 -- so many from the end as stand after the first n
 pub drop_to_end : (n : ℕ) (xs : List ℕ) → drop (length xs - length (drop n xs)) xs ≡ drop n xs
@@ -41,3 +43,12 @@ frame_is x bytes = by_case (frame_fault bytes) where
     got (Ok y) = y
     got (Err f) = x
   by_case (Some f) e = absurd (cc)
+
+-- at most 72 bytes stand before it
+pub info_place : (f : List ℕ) → FrameOf (parts_of f) f
+    → length f - length (parts_of f).info ≤ 72
+info_place f h =
+    let s = FrameOf-IsSound (parts_of f) f h in
+    let n = length-drop 2 (drop (field_len f) f) in
+    let m = length-drop (field_len f) f in
+    omega (arith, s.within, s.most, n, m)

@@ -1,16 +1,18 @@
 -- Lemmas of rows.
 pub mod Cases
 pub mod Digits
+pub mod EntryOrder
+pub mod Groups
 pub mod Heads
 mod HeadOrder
 pub mod Infos
 pub mod Judgements
 pub mod KeyBytes
 pub mod KeyHeads
-mod KeyOrders
 mod Letters
 pub mod NameTexts
 pub mod Orders
+mod Places
 mod ReceiverNames
 pub mod Refusals
 pub mod Rows

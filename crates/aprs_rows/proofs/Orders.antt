@@ -1,15 +1,12 @@
 -- Rows that a sort has put in order.
-use Rattle.std.proofs.Common.{◌≡◌, ◌∙◌, ℕ, suc, ◌<◌, ◌≤◌, Bool, false, List, [], ◌∷◌, length, get_or, inl, inr, refl, ap, subst, arith, Bor}
-use Rattle.std.specs.Cmp.{IsStrictWeakOrder}
-use Rattle.std.specs.Fn.{Called, ComparesAs, Mut}
+use Rattle.std.proofs.Common.{◌≡◌, ◌∙◌, ℕ, suc, ◌<◌, ◌≤◌, false, List, [], ◌∷◌, length, get_or, inl, inr, refl, ap, subst, arith}
 use Rattle.std.specs.List.{AllByRecursion}
-use Rattle.std.specs.List.Sorted.{IsSortedBy, IsPermutation}
+use Rattle.std.specs.List.Sorted.{IsPermutation}
 use Rattle.std.specs.Ordering.{is_lt, is_gt, ordering_reverse}
 use Rattle.std.specs.declared.cmp.Ordering.{Ordering}
 use Rattle.std.specs.declared.cmp.Ordering.TheVariants.{Less, Equal, Greater}
-use Rattle.std.proofs.lemmas.Fn.{always_returns_same}
 use Rattle.std.proofs.lemmas.List.Elements.{All-from_recursion, recursion_from_All}
-use Rattle.std.proofs.lemmas.List.Sorted.{ranks_by, sorted_far, All-permutation, IsPermutation-sym}
+use Rattle.std.proofs.lemmas.List.Sorted.{All-permutation, IsPermutation-sym}
 use Rattle.aprs_laws.specs.Coalescing.{AreInOrder}
 use Rattle.aprs_laws.specs.Lists.{◌∈◌, SameMembers}
 use Rattle.aprs_laws.specs.Order.{IsUpTo}
@@ -25,7 +22,7 @@ not_after x y e = ap is_gt (row_total.antisymm x y) ∙ reversed (row_cmp y x) e
   reversed Equal e = refl
   reversed Greater e = refl
 
-ordered : (xs : List Row)
+pub ordered : (xs : List Row)
     → ((i j : ℕ) (d : Row) → i ≤ j → j < length xs
     → is_lt (row_cmp (get_or xs j d) (get_or xs i d)) ≡ false)
     → AreInOrder xs
@@ -37,20 +34,6 @@ ordered (x ∷ xs) h = (
       (not_after x (get_or xs p.0 y) (h 0 (suc p.0) y (omega arith) (omega (arith, p.1)))),
   ordered xs (λ i j d p q. h (suc i) (suc j) d (omega (arith, p)) (omega (arith, q))),
 )
-
--- what a sort by this order gives
-pub ordered_by_sort : {F : Type 0} {g : Mut F (Bor Row × (Bor Row × Unit {0})) Ordering} {f : F}
-    (xs : List Row)
-    → ((lt : Row → Row → Bool) → IsStrictWeakOrder lt → ComparesAs g lt f → IsSortedBy lt xs)
-    → ((a : Bor Row × (Bor Row × Unit {0})) (r : Ordering) (f' : F) → Called g f a r f'
-    → (r ≡ row_cmp a.0.now a.1.0.now) × (f' ≡ f))
-    → AreInOrder xs
-ordered_by_sort {g = g} {f = f} xs up h =
-    let order = ranks_by row_total (λ x. x) in
-    ordered xs (sorted_far (λ x y. is_lt (row_cmp x y)) order xs
-    (up (λ x y. is_lt (row_cmp x y)) order
-    (always_returns_same g (λ a r. is_lt r ≡ is_lt (row_cmp a.0.now a.1.0.now)) f
-    (λ a r f' k. (ap is_lt (h a r f' k).0, (h a r f' k).1)))))
 
 -- ---- the same rows in another order
 

@@ -110,24 +110,24 @@ united_some (x ∷ xs) h =
 -- the names of the open rows, whether one or more
 own_names : (o : Open) (names : List (Bor (List ℕ))) → AreGathered o names
     → union bytes_cmp
-    (gathered names ++ (if o.is_alone then o.greatest.now.receivers else [])) []
+    (gathered names ++ (if o.is_alone then o.greatest.receivers else [])) []
     ≡ (open_row o names).receivers
 own_names o names a = by_test o.is_alone refl where
   by_test : (b : Bool) → o.is_alone ≡ b
-      → union bytes_cmp (gathered names ++ (if b then o.greatest.now.receivers else [])) []
-      ≡ (if b then o.greatest.now.receivers else union bytes_cmp (gathered names) [])
+      → union bytes_cmp (gathered names ++ (if b then o.greatest.receivers else [])) []
+      ≡ (if b then o.greatest.receivers else union bytes_cmp (gathered names) [])
   by_test true e =
-      ap (λ (ns : List (Bor (List ℕ))). union bytes_cmp (gathered ns ++ o.greatest.now.receivers) [])
+      ap (λ (ns : List (Bor (List ℕ))). union bytes_cmp (gathered ns ++ o.greatest.receivers) [])
       (a.none e)
-      ∙ united_alone o.greatest.now.receivers a.own.ascending
+      ∙ united_alone o.greatest.receivers a.own.ascending
   by_test false e = ap (λ ns. union bytes_cmp ns []) (append-nil (gathered names))
 
 all_names : (o : Open) (names : List (Bor (List ℕ))) → AreGathered o names
-    → All IsName (gathered names ++ (if o.is_alone then o.greatest.now.receivers else []))
+    → All IsName (gathered names ++ (if o.is_alone then o.greatest.receivers else []))
 all_names o names a = by_test o.is_alone where
   by_test : (b : Bool)
-      → All IsName (gathered names ++ (if b then o.greatest.now.receivers else []))
-  by_test true = all_append (gathered names) o.greatest.now.receivers a.each a.own.each
+      → All IsName (gathered names ++ (if b then o.greatest.receivers else []))
+  by_test true = all_append (gathered names) o.greatest.receivers a.each a.own.each
   by_test false = subst (All IsName) (sym (append-nil (gathered names))) a.each
 
 -- What joining a row makes of the open ones.
@@ -137,13 +137,13 @@ pub record JoinsOpen (o p : Open) (names more : List (Bor (List ℕ))) (x : Row)
 
 pub joins_open : (o p : Open) (names most more : List (Bor (List ℕ))) (x : Row) (own : List (List ℕ))
     → AreGathered o names → HasNames x
-    → gathered most ≡ gathered names ++ (if o.is_alone then o.greatest.now.receivers else [])
+    → gathered most ≡ gathered names ++ (if o.is_alone then o.greatest.receivers else [])
     → gathered more ≡ gathered most ++ own → own ≡ x.receivers → 0 < length own
     → p.first ≡ min o.first x.first
-    → p.greatest.now.greatest ≡ greater o.greatest.now.greatest x.greatest → p.is_alone ≡ false
-    → HasNames p.greatest.now → JoinsOpen o p names more x
+    → p.greatest.greatest ≡ greater o.greatest.greatest x.greatest → p.is_alone ≡ false
+    → HasNames p.greatest → JoinsOpen o p names more x
 joins_open o p names most more x own a h e f own_is some first greatest alone has =
-    let extra = if o.is_alone then o.greatest.now.receivers else [] in
+    let extra = if o.is_alone then o.greatest.receivers else [] in
     let all : gathered more ≡ (gathered names ++ extra) ++ x.receivers =
     f ∙ (λ t. e t ++ own_is t) in
     let united : union bytes_cmp (gathered more) []
@@ -161,7 +161,7 @@ joins_open o p names most more x own a h e f own_is some first greatest alone ha
       };
       row_is = λ t. record {
         first = first t;
-        receivers = (ap (λ b. if b then p.greatest.now.receivers else union bytes_cmp (gathered more) [])
+        receivers = (ap (λ b. if b then p.greatest.receivers else union bytes_cmp (gathered more) [])
             alone ∙ united) t;
         greatest = greatest t;
       };
@@ -194,7 +194,7 @@ text_some (x ∷ names) h a = longer x names (name_some x (recursion_from_All Is
     longer (b ∷ r) [] k = omega arith
     longer (b ∷ r) (n ∷ ns) k = omega arith
 
-names_of_text : (n : ℕ) (text : List ℕ) (own : List (List ℕ)) → 0 < n
+pub names_of_text : (n : ℕ) (text : List ℕ) (own : List (List ℕ)) → 0 < n
     → names_or n text own ≡ names_in text
 names_of_text zero text own h = absurd (omega (arith, h))
 names_of_text (suc n) text own h = refl
@@ -204,16 +204,16 @@ pub record EndsOpen (o : Open) (g : Group) (text : List ℕ) (row : Row) : Type 
   pub group : IsGroup g text
   pub row_is : group_row g text ≡ row
 
-ends_alone : (o : Open) (g : Group) → HasNames o.greatest.now → g.first ≡ o.first
-    → g.receivers ≡ 0 → g.greatest.now ≡ o.greatest.now
+ends_alone : (o : Open) (g : Group) → HasNames o.greatest → g.first ≡ o.first
+    → g.receivers ≡ 0 → g.greatest ≡ o.greatest
     → EndsOpen o g [] (record {
       first = o.first;
-      receivers = o.greatest.now.receivers;
-      greatest = o.greatest.now.greatest;
+      receivers = o.greatest.receivers;
+      greatest = o.greatest.greatest;
     })
 ends_alone o g h first size greatest =
-    let is : names_or g.receivers [] g.greatest.now.receivers ≡ o.greatest.now.receivers =
-    ap (λ n. names_or n [] g.greatest.now.receivers) size ∙ (λ t. (greatest t).receivers) in
+    let is : names_or g.receivers [] g.greatest.receivers ≡ o.greatest.receivers =
+    ap (λ n. names_or n [] g.greatest.receivers) size ∙ (λ t. (greatest t).receivers) in
     record {
       group = record { size = sym size; names = subst (All IsName) (sym is) h.each };
       row_is = λ t. record {
@@ -225,16 +225,16 @@ ends_alone o g h first size greatest =
 
 ends_united : (o : Open) (g : Group) (names : List (List ℕ)) → 0 < length names
     → All IsName names → g.first ≡ o.first → g.receivers ≡ length (join_with_byte 44 names)
-    → g.greatest.now ≡ o.greatest.now
+    → g.greatest ≡ o.greatest
     → EndsOpen o g (join_with_byte 44 names) (record {
       first = o.first;
       receivers = names;
-      greatest = o.greatest.now.greatest;
+      greatest = o.greatest.greatest;
     })
 ends_united o g names some h first size greatest =
     let text = join_with_byte 44 names in
-    let is : names_or g.receivers text g.greatest.now.receivers ≡ names =
-    names_of_text g.receivers text g.greatest.now.receivers
+    let is : names_or g.receivers text g.greatest.receivers ≡ names =
+    names_of_text g.receivers text g.greatest.receivers
     (let n = text_some names some h in omega (arith, n, size))
     ∙ names_joined names some h in
     record {
@@ -248,7 +248,7 @@ ends_united o g names some h first size greatest =
 
 pub ends_open : (o : Open) (g : Group) (names : List (Bor (List ℕ))) → AreGathered o names
     → g.first ≡ o.first → g.receivers ≡ length (open_text o names)
-    → g.greatest.now ≡ o.greatest.now → EndsOpen o g (open_text o names) (open_row o names)
+    → g.greatest ≡ o.greatest → EndsOpen o g (open_text o names) (open_row o names)
 ends_open o g names a first size greatest = by_test o.is_alone refl size where
   by_test : (b : Bool) → o.is_alone ≡ b
       → g.receivers
@@ -256,8 +256,8 @@ ends_open o g names a first size greatest = by_test o.is_alone refl size where
       → EndsOpen o g (if b then [] else join_with_byte 44 (union bytes_cmp (gathered names) []))
       (record {
         first = o.first;
-        receivers = if b then o.greatest.now.receivers else union bytes_cmp (gathered names) [];
-        greatest = o.greatest.now.greatest;
+        receivers = if b then o.greatest.receivers else union bytes_cmp (gathered names) [];
+        greatest = o.greatest.greatest;
       })
   by_test true e k = ends_alone o g a.own first k greatest
   by_test false e k =

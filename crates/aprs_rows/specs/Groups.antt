@@ -1,10 +1,21 @@
 -- Rows that are one. No public clause cites this module.
-use Rattle.std.specs.Prelude.{◌≡◌, ℕ, zero, suc, List, All, length}
+use Rattle.std.specs.Prelude.{◌≡◌, ℕ, zero, suc, List, [], ◌∷◌, All, length, take, drop}
 use Rattle.aprs_log.specs.Receiver.{IsName}
 use Rattle.aprs_laws.specs.Row.{Row}
 use Rattle.aprs_rows.specs.Names.{names_in}
-use Rattle.aprs_rows.specs.Rows.{rows_of, AreOf}
 use Rattle.aprs_rows.specs.declared.group.Group.{Group}
+
+-- the rows of the bytes, one for each part, which takes so many of them
+module _ {E : Type 0} (size : E → ℕ) (row : E → List ℕ → Row) where
+  abbrev pub rows_of : List E → List ℕ → List Row
+  rows_of [] bytes = []
+  rows_of (e ∷ es) bytes = row e (take (size e) bytes) ∷ rows_of es (drop (size e) bytes)
+
+-- the bytes are those of these parts, one after another, and nothing more
+module _ {E : Type 0} (size : E → ℕ) (Fits : E → List ℕ → Type 0) where
+  abbrev pub AreOf : List E → List ℕ → Type 0
+  AreOf [] bytes = bytes ≡ []
+  AreOf (e ∷ es) bytes = Fits e (take (size e) bytes) × AreOf es (drop (size e) bytes)
 
 -- the names of a text of so many bytes, and these where it has none
 abbrev pub names_or : ℕ → List ℕ → List (List ℕ) → List (List ℕ)
@@ -19,8 +30,8 @@ text_size g = g.receivers
 abbrev pub group_row : Group → List ℕ → Row
 group_row g text = record {
   first = g.first;
-  receivers = names_or g.receivers text g.greatest.now.receivers;
-  greatest = g.greatest.now.greatest;
+  receivers = names_or g.receivers text g.greatest.receivers;
+  greatest = g.greatest.greatest;
 }
 
 -- The text has as many bytes as the group says, and its names are names of receivers.

@@ -1,19 +1,38 @@
 -- Rows as their bytes lie in a store. No public clause cites this module.
-use Rattle.std.specs.Prelude.{◌≡◌, ℕ, ◌+◌, List, [], ◌∷◌, All, length, take, drop}
+use Rattle.std.specs.Prelude.{◌≡◌, ℕ, ◌+◌, ◌≤◌, ◌<◌, List, ◌++◌, All, length, map, take, drop, slice_index}
+use Rattle.std.specs.List.{AllByRecursion, join_with_byte}
+use Rattle.std.specs.Ordering.{nat_cmp, on, then_cmp}
+use Rattle.std.specs.declared.cmp.Ordering.{Ordering}
 use Rattle.aprs_ax25.specs.Frame.{FrameOf}
 use Rattle.aprs_ax25.specs.FrameFault.{parts_of}
 use Rattle.aprs_log.specs.Receiver.{IsName}
+use Rattle.aprs_log.specs.Reception.{bytes_cmp}
+use Rattle.aprs_laws.specs.Key.{key_of}
 use Rattle.aprs_laws.specs.Lists.{◌∈◌}
 use Rattle.aprs_laws.specs.Row.{Row}
 use Rattle.aprs_laws.specs.Sound.{IsSoundRow}
+use Rattle.aprs_rows.specs.Head.{head_of, head_cmp}
 use Rattle.aprs_rows.specs.Names.{row_of_text}
 use Rattle.aprs_rows.specs.declared.entry.Entry.{Entry}
+use Rattle.aprs_rows.specs.declared.head.Head.{Head}
 
 -- The receivers have names, and so has that of the greatest reception, whose frame is a UI frame.
 pub record IsTold (x : Row) : Type 0 where
   pub names_are : All IsName x.receivers
   pub name_is : IsName x.greatest.receiver
   pub frame_is : FrameOf (parts_of x.greatest.frame) x.greatest.frame
+
+-- The head is that of the key of this frame, whose information begins at a place.
+pub record HasKey (h : Head) (place : ℕ) (frame : List ℕ) : Type 0 where
+  pub within : place ≤ length frame
+  pub info : drop place frame ≡ (parts_of frame).info
+  pub bytes : (i : ℕ) → slice_index (parts_of frame).info i < 256
+  pub head : h ≡ head_of (key_of frame)
+
+-- the bytes of a row as they lie in a store: the names of its receivers with commas between, the
+-- name of the greatest reception's receiver, and its frame
+abbrev pub row_bytes : Row → List ℕ
+row_bytes x = join_with_byte 44 x.receivers ++ (x.greatest.receiver ++ x.greatest.frame)
 
 -- how many bytes the row of an entry has
 abbrev pub size_of : Entry → ℕ
@@ -30,28 +49,29 @@ pub record IsRowIn (e : Entry) (bytes : List ℕ) : Type 0 where
   pub size : length bytes ≡ size_of e
   pub sound : IsSoundRow (entry_row e bytes)
   pub told : IsTold (entry_row e bytes)
-  pub info : e.info ≡ length (parts_of (entry_row e bytes).greatest.frame).info
+  pub key : HasKey e.head e.info_at (entry_row e bytes).greatest.frame
+
+-- the bytes of an entry's row, among those of all rows
+abbrev pub bytes_of : Entry → List ℕ → List ℕ
+bytes_of e bytes = take (size_of e) (drop e.place bytes)
+
+-- the rows of a store
+abbrev pub rows_in : List Entry → List ℕ → List Row
+rows_in entries bytes = map (λ e. entry_row e (bytes_of e bytes)) entries
+
+-- among these bytes are those of each entry's row
+abbrev pub AreRowsIn : List Entry → List ℕ → Type 0
+AreRowsIn entries bytes = AllByRecursion (λ e. IsRowIn e (bytes_of e bytes)) entries
+
+-- the information of an entry's frame, among the bytes of all rows
+abbrev pub info_of : Entry → List ℕ → List ℕ
+info_of e bytes = drop (e.receivers + (e.receiver + e.info_at)) (bytes_of e bytes)
+
+-- Entries are ordered by their heads, then by what is of the information, then by the first moment.
+abbrev pub entry_cmp : List ℕ → Entry → Entry → Ordering
+entry_cmp bytes = then_cmp (on (λ e. e.head) head_cmp)
+    (then_cmp (on (λ e. info_of e bytes) bytes_cmp) (on (λ e. e.first) nat_cmp))
 
 -- each of the rows is sound by itself
 abbrev pub AreSoundRows : List Row → Type 0
 AreSoundRows rows = (x : Row) → x ∈ rows → IsSoundRow x
-
--- the rows of the bytes, one for each part, which takes so many of them
-module _ {E : Type 0} (size : E → ℕ) (row : E → List ℕ → Row) where
-  abbrev pub rows_of : List E → List ℕ → List Row
-  rows_of [] bytes = []
-  rows_of (e ∷ es) bytes = row e (take (size e) bytes) ∷ rows_of es (drop (size e) bytes)
-
--- the bytes are those of these parts, one after another, and nothing more
-module _ {E : Type 0} (size : E → ℕ) (Fits : E → List ℕ → Type 0) where
-  abbrev pub AreOf : List E → List ℕ → Type 0
-  AreOf [] bytes = bytes ≡ []
-  AreOf (e ∷ es) bytes = Fits e (take (size e) bytes) × AreOf es (drop (size e) bytes)
-
--- the rows of a store
-abbrev pub rows_in : List Entry → List ℕ → List Row
-rows_in = rows_of size_of entry_row
-
--- the bytes are those of the entries' rows
-abbrev pub AreRowsIn : List Entry → List ℕ → Type 0
-AreRowsIn = AreOf size_of IsRowIn

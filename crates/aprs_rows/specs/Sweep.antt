@@ -20,8 +20,8 @@ gathered names = map (λ n. n.now) names
 abbrev pub open_row : Open → List (Bor (List ℕ)) → Row
 open_row o names = record {
   first = o.first;
-  receivers = if o.is_alone then o.greatest.now.receivers else union bytes_cmp (gathered names) [];
-  greatest = o.greatest.now.greatest;
+  receivers = if o.is_alone then o.greatest.receivers else union bytes_cmp (gathered names) [];
+  greatest = o.greatest.greatest;
 }
 
 -- the text of the names that were gathered, if the open rows are more than one
@@ -36,7 +36,7 @@ pub record HasNames (x : Row) : Type 0 where
 
 -- Names are gathered of open rows, some if they are more than one, and none else.
 pub record AreGathered (o : Open) (names : List (Bor (List ℕ))) : Type 0 where
-  pub own : HasNames o.greatest.now
+  pub own : HasNames o.greatest
   pub each : All IsName (gathered names)
   pub none : o.is_alone ≡ true → names ≡ []
   pub some : o.is_alone ≡ false → 0 < length names

@@ -13,7 +13,7 @@ use aprs_log::Moment;
 pub(crate) struct Group<'a> {
     pub first: Moment,
     pub receivers: usize,
-    pub greatest: &'a Laid<'a>,
+    pub greatest: Laid<'a>,
 }
 
 impl<'a> Group<'a> {
@@ -22,11 +22,11 @@ impl<'a> Group<'a> {
         requires { IsGroup self.now text.now }
         ensures { result ≡ group_row self.now text.now }
     {
+        let row = self.greatest.view();
         if self.receivers == 0 {
-            return self
-                .greatest
-                .view_with(self.first, self.greatest.receivers());
+            let names = row.receivers();
+            return row.with(self.first, names);
         }
-        self.greatest.view_with(self.first, text)
+        row.with(self.first, text)
     }
 }

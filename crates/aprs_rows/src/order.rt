@@ -8,9 +8,10 @@ ghost use Rattle.aprs_laws.specs.Row.{Row};
 ghost use Rattle.aprs_laws.specs.Witnesses.{witnesses};
 ghost use Rattle.aprs_laws.specs.Gap.{millis_of};
 ghost use Rattle.aprs_laws.specs.JoinRow.{coalesced};
-ghost use Rattle.aprs_rows.specs.Rows.{AreSoundRows};
+ghost use Rattle.aprs_rows.specs.Rows.{AreRowsIn, rows_in};
 
 use crate::Memory;
+use crate::entry::Entry;
 use crate::laid::Laid;
 use crate::sweep::Sweep;
 use crate::transmissions::Transmissions;
@@ -19,70 +20,82 @@ use std::alloc::{Allocator, Global};
 use std::marker::Model;
 
 /// The rows of a store by key, and those of one key by first moment.
-pub struct RowsInOrder<'a, A: Allocator = Global> {
+pub struct RowsInOrder<A: Allocator = Global> {
     alloc: A,
-    laid: Vec<Laid<'a>, A>,
+    entries: Vec<Entry, A>,
+    bytes: Vec<u8, A>,
 }
 
-impl<'a, A: Allocator> Drop for RowsInOrder<'a, A> {
+impl<A: Allocator> Drop for RowsInOrder<A> {
     fn drop(self) {
-        let RowsInOrder { alloc: _, laid } = self;
-        drop(laid);
+        let RowsInOrder {
+            alloc: _,
+            entries,
+            bytes,
+        } = self;
+        drop(entries);
+        drop(bytes);
     }
 }
 
-impl<'a, A: Allocator> Model for RowsInOrder<'a, A> {
+impl<A: Allocator> Model for RowsInOrder<A> {
     ghost use Rattle.std.specs.Prelude.{List};
     ghost use Rattle.aprs_laws.specs.Row.{Row};
     ghost use Rattle.aprs_laws.specs.Coalescing.{AreInOrder};
-    ghost use Rattle.aprs_rows.specs.Rows.{AreSoundRows};
+    ghost use Rattle.aprs_rows.specs.Rows.{AreRowsIn, rows_in};
 
     ghost Value = { List Row };
 
-    ghost view = { λ s. s.laid.items };
+    ghost view = { λ s. rows_in s.entries.items s.bytes.items };
 
-    ghost invariant = { λ s. AreInOrder s.laid.items × AreSoundRows s.laid.items };
+    ghost invariant = { λ s. AreRowsIn s.entries.items s.bytes.items
+        × AreInOrder (rows_in s.entries.items s.bytes.items) };
 }
 
-impl<'a, A: Allocator + Copy> RowsInOrder<'a, A> {
-    /// No rows. Takes no memory.
-    pub(crate) fn none(alloc: A) -> RowsInOrder<'a, A>
-        ensures { result ≡ [] }
-    {
-        RowsInOrder {
-            alloc,
-            laid: Vec::new(alloc),
-        }
-    }
-
+impl<A: Allocator + Copy> RowsInOrder<A> {
     /// These rows, put in order. Where some came in order as a book file's do, a sort that takes
     /// such runs as they are is quicker; else one that takes no memory.
     pub(crate) fn of(
         alloc: A,
-        mut laid: Vec<Laid<'a>, A>,
+        mut entries: Vec<Entry, A>,
+        bytes: Vec<u8, A>,
         has_runs: bool,
-    ) -> Result<RowsInOrder<'a, A>, Memory>
-        requires sound { AreSoundRows laid.items }
-        ensures same { IfOk result (λ rows. IsPermutation laid.entry.items rows) }
+    ) -> Result<RowsInOrder<A>, Memory>
+        requires { AreRowsIn entries.items bytes.items }
+        ensures same { IfOk result (IsPermutation (rows_in entries.items bytes.items)) }
         ensures ordered { IfOk result AreInOrder }
+        ensures some { OnErr result (entries.items ≢ []) }
     {
         if has_runs {
-            return RowsInOrder::of_runs(alloc, laid);
+            return RowsInOrder::of_runs(alloc, entries, bytes);
         }
-        laid.sort_unstable_by(Laid::order);
-        Ok(RowsInOrder { alloc, laid })
+        let among = bytes.as_slice();
+        entries.sort_unstable_by(|entry, other| entry.order(other, among));
+        Ok(RowsInOrder {
+            alloc,
+            entries,
+            bytes,
+        })
     }
 
     /// These rows, put in order by a sort that takes runs as they are.
-    fn of_runs(alloc: A, mut laid: Vec<Laid<'a>, A>) -> Result<RowsInOrder<'a, A>, Memory>
-        requires sound { AreSoundRows laid.items }
-        ensures same { IfOk result (λ rows. IsPermutation laid.entry.items rows) }
+    fn of_runs(
+        alloc: A,
+        mut entries: Vec<Entry, A>,
+        bytes: Vec<u8, A>,
+    ) -> Result<RowsInOrder<A>, Memory>
+        requires { AreRowsIn entries.items bytes.items }
+        ensures same { IfOk result (IsPermutation (rows_in entries.items bytes.items)) }
         ensures ordered { IfOk result AreInOrder }
+        ensures some { OnErr result (entries.items ≢ []) }
     {
-        if laid.sort_by(Laid::order).is_err() {
-            return Err(Memory);
-        }
-        Ok(RowsInOrder { alloc, laid })
+        let among = bytes.as_slice();
+        entries.sort_by(|entry, other| entry.order(other, among))?;
+        Ok(RowsInOrder {
+            alloc,
+            entries,
+            bytes,
+        })
     }
 
     /// The rows of the book of these under a gap: each row joins the one before it that it is near
@@ -96,12 +109,13 @@ impl<'a, A: Allocator + Copy> RowsInOrder<'a, A> {
             → IfOk result (Holds (witnesses told)) }
         ensures some { OnErr result (self.now ≢ []) }
     {
-        let Some((first, others)) = self.laid.as_slice().split_first() else {
+        let bytes = self.bytes.as_slice();
+        let Some((first, others)) = self.entries.as_slice().split_first() else {
             return Ok(Transmissions::of(gap, Vec::new(self.alloc), Vec::new(self.alloc)));
         };
-        let mut sweep = Sweep::begin(self.alloc, gap, first);
-        for row in others {
-            sweep.take(row)?;
+        let mut sweep = Sweep::begin(self.alloc, gap, Laid::of(first, bytes));
+        for entry in others {
+            sweep.take(Laid::of(entry, bytes))?;
         }
         sweep.finish()
     }

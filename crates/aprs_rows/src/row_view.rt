@@ -1,13 +1,16 @@
 //! A row in bytes.
-ghost use Rattle.std.specs.Prelude.{◌≡◌, ◌≤◌, ◌++◌, ◌∷◌, [], All, IfOk, OnOk, length, drop};
+ghost use Rattle.std.specs.Prelude.{◌≡◌, ◌<◌, ◌++◌, ◌∷◌, [], ℕ, All, IfOk, OnOk, length, slice_index};
 ghost use Rattle.std.specs.List.{join_with_byte};
 ghost use Rattle.aprs_ax25.specs.Frame.{FrameOf};
 ghost use Rattle.aprs_ax25.specs.FrameFault.{parts_of};
 ghost use Rattle.aprs_log.specs.Receiver.{IsName};
-ghost use Rattle.aprs_laws.specs.Key.{key_of, key_cmp};
+ghost use Rattle.aprs_log.specs.Reception.{heard_cmp};
+ghost use Rattle.aprs_laws.specs.Key.{key_cmp};
 ghost use Rattle.aprs_laws.specs.Row.{last_of, row_cmp, row_key};
+ghost use Rattle.aprs_laws.specs.Sound.{IsSoundRow};
+ghost use Rattle.aprs_rows.specs.Head.{head_of};
 ghost use Rattle.aprs_rows.specs.Names.{names_in, row_of_text};
-ghost use Rattle.aprs_rows.specs.Rows.{IsRowIn, entry_row};
+ghost use Rattle.aprs_rows.specs.Rows.{IsRowIn, entry_row, row_bytes};
 
 use crate::Memory;
 use crate::entry::Entry;
@@ -19,9 +22,6 @@ use std::alloc::Allocator;
 use std::cmp::Ordering;
 use std::marker::Model;
 
-/// The octets of the destination's address and the source's.
-const CALLS_LEN: usize = 14;
-
 /// One transmission: its moments, the names of its receivers with commas between, and the receiver
 /// and the frame of its greatest reception.
 #[derive(Drop)]
@@ -31,15 +31,14 @@ pub struct RowView<'a> {
     names: &'a [u8],
     receiver: &'a [u8],
     frame: &'a [u8],
-    info_at: usize,
+    info_at: u8,
+    head: Head,
 }
 
 impl<'a> Model for RowView<'a> {
-    ghost use Rattle.std.specs.Prelude.{◌≡◌, ◌≤◌, length, drop};
-    ghost use Rattle.aprs_ax25.specs.FrameFault.{parts_of};
     ghost use Rattle.aprs_laws.specs.Row.{Row as RowValue};
     ghost use Rattle.aprs_rows.specs.Names.{row_of_text};
-    ghost use Rattle.aprs_rows.specs.Rows.{IsTold};
+    ghost use Rattle.aprs_rows.specs.Rows.{HasKey, IsTold};
 
     ghost Value = { RowValue };
 
@@ -47,8 +46,7 @@ impl<'a> Model for RowView<'a> {
 
     ghost invariant = { λ r.
         IsTold (row_of_text r.first r.last r.names.now r.receiver.now r.frame.now)
-        × (r.info_at ≤ length r.frame.now)
-        × (drop r.info_at r.frame.now ≡ (parts_of r.frame.now).info) };
+        × HasKey r.head r.info_at r.frame.now };
 }
 
 impl<'a> RowView<'a> {
@@ -65,38 +63,15 @@ impl<'a> RowView<'a> {
         ensures { result ≡ row_of_text first last receivers.now receiver.now frame.now }
     {
         let bytes = frame.bytes();
+        let info = frame.info();
         RowView {
             first,
             last,
             names: receivers,
             receiver,
             frame: bytes,
-            info_at: bytes.len() - frame.info().len(),
-        }
-    }
-
-    /// The same, of a frame's bytes whose last ones, so many, are its information.
-    pub(crate) fn of_bytes(
-        first: Moment,
-        last: Moment,
-        receivers: &'a [u8],
-        receiver: &'a [u8],
-        frame: &'a [u8],
-        info: usize,
-    ) -> RowView<'a>
-        requires names { All IsName (names_in receivers.now) }
-        requires name { IsName receiver.now }
-        requires frame { FrameOf (parts_of frame.now) frame.now }
-        requires info { info ≡ length (parts_of frame.now).info }
-        ensures { result ≡ row_of_text first last receivers.now receiver.now frame.now }
-    {
-        RowView {
-            first,
-            last,
-            names: receivers,
-            receiver,
-            frame,
-            info_at: frame.len() - info,
+            info_at: (bytes.len() - info.len()) as u8,
+            head: Head::of(bytes, info),
         }
     }
 
@@ -107,14 +82,55 @@ impl<'a> RowView<'a> {
     {
         let (receivers, rest) = bytes.split_at(entry.receivers as usize);
         let (receiver, frame) = rest.split_at(entry.receiver as usize);
-        RowView::of_bytes(
-            entry.first,
-            entry.last,
-            receivers,
+        RowView {
+            first: entry.first,
+            last: entry.last,
+            names: receivers,
             receiver,
             frame,
-            entry.info as usize,
-        )
+            info_at: entry.info_at,
+            head: entry.head,
+        }
+    }
+
+    /// The entry of the row, if its bytes begin at this place. Requires what `RowStore::push` does.
+    pub(crate) fn entry(&self, place: usize) -> Entry
+        requires sound { IsSoundRow self.now }
+        requires short { length (join_with_byte 44 self.now.receivers) < 4294967296 }
+        ensures place { result.place ≡ place }
+        ensures row { IsRowIn result (row_bytes self.now) }
+        ensures same { entry_row result (row_bytes self.now) ≡ self.now }
+    {
+        Entry {
+            head: self.head,
+            first: self.first,
+            last: self.last,
+            place,
+            receivers: self.names.len() as u32,
+            frame: self.frame.len() as u16,
+            receiver: self.receiver.len() as u8,
+            info_at: self.info_at,
+        }
+    }
+
+    /// The row with another first moment, and with the names of this text.
+    pub(crate) fn with(self, first: Moment, receivers: &'a [u8]) -> RowView<'a>
+        requires { All IsName (names_in receivers.now) }
+        ensures { result ≡ record {
+          first = first;
+          receivers = names_in receivers.now;
+          greatest = self.entry.greatest;
+        } }
+    {
+        RowView {
+            first,
+            last: self.last,
+            names: receivers,
+            receiver: self.receiver,
+            frame: self.frame,
+            info_at: self.info_at,
+            head: self.head,
+        }
     }
 
     /// The first moment at which the transmission was heard. Takes no memory.
@@ -160,7 +176,7 @@ impl<'a> RowView<'a> {
     pub fn info(&self) -> &'a [u8]
         ensures { result.now ≡ (parts_of self.now.greatest.frame).info }
     {
-        let (_, info) = self.frame.split_at(self.info_at);
+        let (_, info) = self.frame.split_at(self.info_at as usize);
         info
     }
 
@@ -219,13 +235,29 @@ impl<'a> RowView<'a> {
     pub(crate) fn key_order(&self, other: &RowView<'_>) -> Ordering
         ensures { result ≡ key_cmp (row_key self.now) (row_key other.now) }
     {
-        let (frame, info) = (self.frame(), self.info());
-        let (other_frame, other_info) = (other.frame(), other.info());
-        if frame[..CALLS_LEN] == other_frame[..CALLS_LEN] {
-            return info.cmp(other_info);
+        key_order(self.head(), self.info(), other.head(), other.info())
+    }
+
+    /// The order of the greatest receptions, by moment, receiver and frame.
+    pub(crate) fn heard_order(&self, other: &RowView<'_>) -> Ordering
+        ensures { result ≡ heard_cmp self.now.greatest other.now.greatest }
+    {
+        match self.last.cmp(&other.last) {
+            Ordering::Equal => match self.receiver.cmp(other.receiver) {
+                Ordering::Equal => self.frame.cmp(other.frame),
+                unequal => unequal,
+            },
+            unequal => unequal,
         }
-        let head = Head::of(frame, info);
-        key_order(head, info, Head::of(other_frame, other_info), other_info)
+    }
+
+    /// The head of the key, and what makes heads be in order as keys are.
+    fn head(&self) -> Head
+        ensures value { result ≡ head_of (row_key self.now) }
+        ensures frame { FrameOf (parts_of self.now.greatest.frame) self.now.greatest.frame }
+        ensures bytes { (i : ℕ) → slice_index (parts_of self.now.greatest.frame).info i < 256 }
+    {
+        self.head
     }
 }
 

@@ -6,13 +6,9 @@ ghost use Rattle.aprs_laws.specs.JoinRow.{single};
 ghost use Rattle.aprs_laws.specs.Lists.{◌∈◌, SameMembers};
 ghost use Rattle.aprs_laws.specs.Row.{Row};
 ghost use Rattle.aprs_laws.specs.Sound.{IsSoundRow};
-ghost use Rattle.aprs_ax25.specs.FrameFault.{parts_of};
-ghost use Rattle.aprs_rows.specs.Names.{row_of_text};
-ghost use Rattle.aprs_rows.specs.Rows.{IsTold};
 
 use crate::Memory;
 use crate::entry::Entry;
-use crate::laid::Laid;
 use crate::order::RowsInOrder;
 use crate::row_view::RowView;
 use aprs_log::Reception;
@@ -87,9 +83,7 @@ impl<A: Allocator + Copy> RowStore<A> {
         ensures none { IfNone result (self.now ≡ []) }
     {
         let entry = self.entries.last()?;
-        let size = entry.receivers as usize + (entry.receiver as usize + entry.frame as usize);
-        let (_, bytes) = self.bytes.split_at(self.bytes.len() - size);
-        Some(RowView::of_entry(entry, bytes))
+        Some(RowView::of_entry(entry, entry.bytes_in(self.bytes.as_slice())))
     }
 
     /// Puts a reception after the rows, as a row of its own. After `Memory` the rows are as before.
@@ -97,17 +91,8 @@ impl<A: Allocator + Copy> RowStore<A> {
         ensures pushed { OnOk result (self.new ≡ self.old ++ single x.now ∷ []) }
         ensures unchanged { OnErr result (self.new ≡ self.old) }
     {
-        let receiver = x.receiver().as_bytes();
-        let frame = x.frame().bytes();
-        let entry = Entry {
-            first: x.moment(),
-            last: x.moment(),
-            receivers: receiver.len() as u32,
-            receiver: receiver.len() as u8,
-            frame: frame.len() as u16,
-            info: x.frame().info().len() as u16,
-        };
-        self.put(entry, receiver, receiver, frame)
+        let name = x.receiver().as_bytes();
+        self.put(&RowView::new(x.moment(), x.moment(), name, name, x.frame()))
     }
 
     /// Puts a row after the others. Requires that it is sound by itself, and that its receivers'
@@ -119,47 +104,23 @@ impl<A: Allocator + Copy> RowStore<A> {
         ensures pushed { OnOk result (self.new ≡ self.old ++ row.now ∷ []) }
         ensures unchanged { OnErr result (self.new ≡ self.old) }
     {
-        let receivers = row.receivers();
-        let receiver = row.receiver();
-        let frame = row.frame();
-        let entry = Entry {
-            first: row.first(),
-            last: row.last(),
-            receivers: receivers.len() as u32,
-            receiver: receiver.len() as u8,
-            frame: frame.len() as u16,
-            info: row.info().len() as u16,
-        };
-        self.put(entry, receivers, receiver, frame)?;
+        self.put(row)?;
         self.has_runs = true;
         Ok(())
     }
 
-    /// Puts the row of an entry after the others.
-    fn put(
-        &mut self,
-        entry: Entry,
-        receivers: &[u8],
-        receiver: &[u8],
-        frame: &[u8],
-    ) -> Result<(), Memory>
-        requires receivers { entry.receivers ≡ length receivers.now }
-        requires receiver { entry.receiver ≡ length receiver.now }
-        requires frame { entry.frame ≡ length frame.now }
-        requires info { entry.info ≡ length (parts_of frame.now).info }
-        requires sound { IsSoundRow
-            (row_of_text entry.first entry.last receivers.now receiver.now frame.now) }
-        requires told { IsTold
-            (row_of_text entry.first entry.last receivers.now receiver.now frame.now) }
-        ensures pushed { OnOk result (self.new ≡ self.old
-            ++ row_of_text entry.first entry.last receivers.now receiver.now frame.now ∷ []) }
+    /// Puts a row after the others.
+    fn put(&mut self, row: &RowView<'_>) -> Result<(), Memory>
+        requires sound { IsSoundRow row.now }
+        requires short { length (join_with_byte 44 row.now.receivers) < 4294967296 }
+        ensures pushed { OnOk result (self.new ≡ self.old ++ row.now ∷ []) }
         ensures unchanged { OnErr result (self.new ≡ self.old) }
     {
+        let (receivers, receiver, frame) = (row.receivers(), row.receiver(), row.frame());
+        let size = receivers.len() + receiver.len() + frame.len();
+        let entry = row.entry(self.bytes.len());
         make_room(&mut self.entries, 1)?;
-        make_room(
-            &mut self.bytes,
-            receivers.len() + receiver.len() + frame.len(),
-        )?;
+        make_room(&mut self.bytes, size)?;
         self.entries.push_reserved(entry);
         put(&mut self.bytes, receivers);
         put(&mut self.bytes, receiver);
@@ -167,27 +128,21 @@ impl<A: Allocator + Copy> RowStore<A> {
         Ok(())
     }
 
-    /// The rows by key and first moment. Takes memory for each row, and where rows of books came,
-    /// as much again.
-    pub fn in_order(&self) -> Result<RowsInOrder<'_, A>, Memory>
-        ensures members { IfOk result (SameMembers self.now) }
+    /// The rows by key and first moment. Takes memory for each row where rows of books came, and
+    /// none else.
+    pub fn in_order(self) -> Result<RowsInOrder<A>, Memory>
+        ensures members { IfOk result (SameMembers self) }
         ensures ordered { IfOk result AreInOrder }
-        ensures sound { (x : Row) → x ∈ self.now → IsSoundRow x }
-        ensures some { OnErr result (self.now ≢ []) }
+        ensures sound { (x : Row) → x ∈ self → IsSoundRow x }
+        ensures some { OnErr result (self ≢ []) }
     {
-        if self.is_empty() {
-            return Ok(RowsInOrder::none(self.alloc));
-        }
-        let mut laid = Vec::new(self.alloc);
-        make_room(&mut laid, self.entries.len())?;
-        let mut rest = self.bytes.as_slice();
-        for entry in self.entries.iter() {
-            let size = entry.receivers as usize + (entry.receiver as usize + entry.frame as usize);
-            let (row, others) = rest.split_at(size);
-            laid.push_reserved(Laid::of(entry, row));
-            rest = others;
-        }
-        RowsInOrder::of(self.alloc, laid, self.has_runs)
+        let RowStore {
+            alloc,
+            entries,
+            bytes,
+            has_runs,
+        } = self;
+        RowsInOrder::of(alloc, entries, bytes, has_runs)
     }
 }
 

@@ -24,16 +24,16 @@ use std::alloc::Allocator;
 #[derive(Drop)]
 pub(crate) struct Open<'a> {
     first: Moment,
-    greatest: &'a Laid<'a>,
+    greatest: Laid<'a>,
     is_alone: bool,
 }
 
 impl<'a> Open<'a> {
     /// The row alone.
-    fn of(row: &'a Laid<'a>) -> Open<'a>
-        ensures row { (names : List (Bor (List ℕ))) → open_row result names ≡ row.now }
+    fn of(row: Laid<'a>) -> Open<'a>
+        ensures row { (names : List (Bor (List ℕ))) → open_row result names ≡ row.entry }
         ensures alone { result.is_alone ≡ true }
-        ensures own { HasNames result.greatest.now }
+        ensures own { HasNames result.greatest }
     {
         Open {
             first: row.first(),
@@ -48,23 +48,23 @@ impl<'a> Open<'a> {
             → result ≡ is_eq (place (millis_of gap) (open_row self.now names) row.now) }
     {
         let gap = gap.seconds() * 1000;
-        self.greatest.key_order(row).is_eq()
-            && row.first().millis() <= self.greatest.last().millis() + gap
+        row.first().millis() <= self.greatest.last().millis() + gap
             && self.first.millis() <= row.last().millis() + gap
+            && self.greatest.key_order(row).is_eq()
     }
 
     /// Takes a row to these.
-    fn grow(&mut self, row: &'a Laid<'a>)
-        ensures first { self.new.first ≡ min self.old.first row.now.first }
-        ensures greatest { self.new.greatest.now.greatest
-            ≡ greater self.old.greatest.now.greatest row.now.greatest }
+    fn grow(&mut self, row: Laid<'a>)
+        ensures first { self.new.first ≡ min self.old.first row.entry.first }
+        ensures greatest { self.new.greatest.greatest
+            ≡ greater self.old.greatest.greatest row.entry.greatest }
         ensures alone { self.new.is_alone ≡ false }
-        ensures own { HasNames self.old.greatest.now → HasNames self.new.greatest.now }
+        ensures own { HasNames self.old.greatest → HasNames self.new.greatest }
     {
         if row.first().millis() < self.first.millis() {
             self.first = row.first();
         }
-        if self.greatest.heard_order(row).is_lt() {
+        if self.greatest.heard_order(&row).is_lt() {
             self.greatest = row;
         }
         self.is_alone = false;
@@ -84,8 +84,8 @@ pub(crate) struct Sweep<'a, A: Allocator> {
 
 impl<'a, A: Allocator + Copy> Sweep<'a, A> {
     /// One row.
-    pub(crate) fn begin(alloc: A, gap: Gap, row: &'a Laid<'a>) -> Sweep<'a, A>
-        ensures stands { Stands result (row.now ∷ []) }
+    pub(crate) fn begin(alloc: A, gap: Gap, row: Laid<'a>) -> Sweep<'a, A>
+        ensures stands { Stands result (row.entry ∷ []) }
         ensures gap { result.gap ≡ gap }
         ensures range { IsGap gap }
     {
@@ -99,12 +99,12 @@ impl<'a, A: Allocator + Copy> Sweep<'a, A> {
     }
 
     /// Takes the next row.
-    pub(crate) fn take(&mut self, row: &'a Laid<'a>) -> Result<(), Memory>
+    pub(crate) fn take(&mut self, row: Laid<'a>) -> Result<(), Memory>
         ensures stands { (rows : List Row) → Stands self.old rows
-            → OnOk result (Stands self.new (appended (millis_of self.old.gap) rows row.now)) }
+            → OnOk result (Stands self.new (appended (millis_of self.old.gap) rows row.entry)) }
         ensures gap { OnOk result (self.new.gap ≡ self.old.gap) }
     {
-        if self.open.is_near(self.gap, row) {
+        if self.open.is_near(self.gap, &row) {
             return self.join(row);
         }
         close(
@@ -135,14 +135,14 @@ impl<'a, A: Allocator + Copy> Sweep<'a, A> {
     }
 
     /// Takes a row that is near to the open ones.
-    fn join(&mut self, row: &'a Laid<'a>) -> Result<(), Memory>
+    fn join(&mut self, row: Laid<'a>) -> Result<(), Memory>
         ensures groups { self.new.groups ≡ self.old.groups }
         ensures texts { self.new.texts ≡ self.old.texts }
         ensures gap { self.new.gap ≡ self.old.gap }
         ensures joined { AreGathered self.old.open self.old.names.items
             → OnOk result (AreGathered self.new.open self.new.names.items
             × (open_row self.new.open self.new.names.items
-            ≡ combine (open_row self.old.open self.old.names.items) row.now)) }
+            ≡ combine (open_row self.old.open self.old.names.items) row.entry)) }
     {
         gather_alone(&mut self.names, &self.open)?;
         gather(&mut self.names, row.receivers())?;
@@ -158,7 +158,7 @@ fn gather_alone<'a, A: Allocator>(
 ) -> Result<(), Memory>
     ensures { OnOk result (gathered names.new.items
         ≡ gathered names.old.items
-        ++ (if open.now.is_alone then open.now.greatest.now.receivers else [])) }
+        ++ (if open.now.is_alone then open.now.greatest.receivers else [])) }
 {
     if open.is_alone {
         return gather(names, open.greatest.receivers());
@@ -186,7 +186,7 @@ fn close<'a, A: Allocator>(
     let group = Group {
         first: open.first,
         receivers: texts.len() - before,
-        greatest: open.greatest,
+        greatest: open.greatest.copy(),
     };
     if groups.push(group).is_err() {
         return Err(Memory);

@@ -3,7 +3,7 @@ use Rattle.std.proofs.lemmas.List.{length-append}
 use Rattle.aprs_rows.specs.declared.group.Group.{Group}
 use Rattle.aprs_rows.specs.Groups.{text_size, group_row, IsGroup, AreGroups, rows_of_groups}
 use Rattle.aprs_rows.specs.Sweep.{open_text}
-use Rattle.aprs_rows.proofs.Rows.{are_more, if_true, rows_more}
+use Rattle.aprs_rows.proofs.Groups.{are_more, if_true, rows_more}
 use Rattle.aprs_rows.proofs.Sweeps.{ends_open}
 use Rattle.aprs_rows.proofs.sweep.close.Goals as goal
 
@@ -25,7 +25,13 @@ returns-clause-closed g c a m =
     ) in
     let pushed = c.push.ensures.items
     ∙ if_true _ _ _ (c.is_err.ensures.negation ∙ ap not c.if-is_err.false) in
-    let e = ends_open c.args.«open».now _ c.args.names.now.items a refl size refl in (
+    let group : Group =
+    record {
+      first = c.args.«open».now.first;
+      receivers = c.len.result - c.len-before.result;
+      greatest = c.copy.result;
+    } in
+    let e = ends_open c.args.«open».now group c.args.names.now.items a refl size c.copy.ensures in (
       subst (λ (x : List Group × List ℕ). AreGroups x.0 x.1) (λ t. (sym pushed t, sym put t))
           (are_more text_size group_row IsGroup (λ e bytes h. h.size) _ _ _ text m e.group),
       (λ t. rows_of_groups (pushed t) (put t))

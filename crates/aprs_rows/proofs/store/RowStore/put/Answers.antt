@@ -1,28 +1,32 @@
-use Rattle.std.proofs.Common.{◌∙◌, ◌∷◌, ◌++◌, [], ap}
-use Rattle.aprs_rows.specs.Names.{row_of_text}
+use Rattle.std.proofs.Common.{◌∙◌, ◌∷◌, ◌++◌, [], ap, append_assoc}
 use Rattle.aprs_rows.proofs.Rows.{HasMore, more_rows}
 use Rattle.aprs_rows.proofs.store.RowStore.put.Goals as goal
 
 -- one more lies there
 lies : (g : _) (c : goal.After-put-3 g)
     → HasMore c.self.inside.entries.items c.push_reserved.new.self.items c.self.inside.bytes.items
-    c.put-3.new.items.items
-    (row_of_text c.args.entry.first c.args.entry.last c.args.receivers.now c.args.receiver.now
-    c.args.frame.now)
+    c.put-3.new.items.items c.args.row.now
 lies g c =
-    more_rows _ _ _ _ c.args.entry _ _ _ c.self.invariant c.requires.receivers
-    c.requires.receiver c.requires.frame c.requires.info c.requires.sound c.requires.told
+    let bytes = c.self.inside.bytes.items in
+    let a = c.receivers-receivers.result.now in
+    let b = c.receiver-receiver.result.now in
+    let f = c.frame-frame.result.now in
+    more_rows c.self.inside.entries.items c.push_reserved.new.self.items bytes
+    c.put-3.new.items.items c.entry-entry.result c.args.row.now c.self.invariant
+    (c.entry-entry.ensures.place ∙ c.len.ensures ∙ c.self.inside.bytes.ok.0)
+    (record { row = c.entry-entry.ensures.row; same = c.entry-entry.ensures.same })
     (c.push_reserved.ensures.items
-    ∙ ap (λ es. es ++ c.args.entry ∷ []) c.in_ok-make_room.ensures.items)
-    (c.put-3.ensures.items ∙ ap (λ bs. bs ++ c.args.frame.now) (c.put-2.ensures.items
-    ∙ ap (λ bs. bs ++ c.args.receiver.now) (c.put.ensures.items
-    ∙ ap (λ bs. bs ++ c.args.receivers.now) c.in_ok-make_room-2.ensures.items)))
+    ∙ ap (λ es. es ++ c.entry-entry.result ∷ []) c.in_ok-make_room.ensures.items)
+    (c.put-3.ensures.items ∙ ap (λ bs. bs ++ f) (c.put-2.ensures.items
+    ∙ ap (λ bs. bs ++ b) (c.put.ensures.items
+    ∙ ap (λ bs. bs ++ a) c.in_ok-make_room-2.ensures.items))
+    ∙ append_assoc (bytes ++ a) b f ∙ append_assoc bytes a (b ++ f)
+    ∙ (λ t. bytes ++ (c.receivers-receivers.ensures.text t
+    ++ (c.receiver-receiver.ensures.value t ++ c.frame-frame.ensures.value t))))
 
 pub invariant_of-self-2 : goal.invariant_of-self-2
 invariant_of-self-2 g c = (lies g c).lies
 
 pub returns-clause-pushed : goal.returns-clause-pushed
 returns-clause-pushed g c =
-    (lies g c).is
-    ∙ ap (λ rows. rows ++ row_of_text c.args.entry.first c.args.entry.last c.args.receivers.now
-    c.args.receiver.now c.args.frame.now ∷ []) c.self.view_is
+    (lies g c).is ∙ ap (λ rows. rows ++ c.args.row.now ∷ []) c.self.view_is

@@ -5,7 +5,7 @@ use Rattle.aprs_rows.proofs.sweep.Sweep.join.Goals as goal
 pub returns-clause-joined : goal.returns-clause-joined
 returns-clause-joined g c a =
     let j = joins_open c.args.self.now.«open» c.grow.new.self c.args.self.now.names.items
-    c.gather_alone.new.names.items c.gather.new.names.items c.args.row.now _ a
+    c.gather_alone.new.names.items c.gather.new.names.items c.args.row _ a
     (record {
       each = c.receivers.ensures.told.names_are;
       ascending = c.receivers.ensures.sound.ascending;

@@ -23,8 +23,8 @@ returns-then-is_near-clause-stands g c rows s =
       rows_are = (λ t. rows_of_groups (c.join.ensures.groups t).items (c.join.ensures.texts t).items
           ++ j.1 t ∷ [])
           ∙ joins_last gap (rows_of_groups old.groups.items old.texts.items)
-          (open_row old.«open» old.names.items) c.args.row.now is
-          ∙ ap (λ rs. appended gap rs c.args.row.now) s.rows_are;
+          (open_row old.«open» old.names.items) c.args.row is
+          ∙ ap (λ rs. appended gap rs c.args.row) s.rows_are;
     })
     (c.join.ensures.joined s.gathered)
 
@@ -45,6 +45,6 @@ returns-clause-stands g c rows s =
           });
       rows_are = (λ t. k.1 t ++ c.of-self.ensures.row c.close.new.names.items t ∷ [])
           ∙ follows_last gap (rows_of_groups old.groups.items old.texts.items)
-          (open_row old.«open» old.names.items) c.args.row.now is
-          ∙ ap (λ rs. appended gap rs c.args.row.now) s.rows_are;
+          (open_row old.«open» old.names.items) c.args.row is
+          ∙ ap (λ rs. appended gap rs c.args.row) s.rows_are;
     }
