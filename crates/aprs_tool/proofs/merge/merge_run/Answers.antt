@@ -34,8 +34,8 @@ pub returns-in-Err-Write-clause-writes : goal.returns-in-Err-Write-clause-writes
 returns-in-Err-Write-clause-writes g c =
     (text_cut _ _ _ _ _ c.in-Err-Write.field-0-is c.in-Err-Write.ensures).calls
 
-pub returns-clause-run : goal.returns-clause-run
-returns-clause-run g c =
+pub returns-in-Err-Memory-clause-run : goal.returns-in-Err-Memory-clause-run
+returns-in-Err-Memory-clause-run g c =
     let len = ReadsFirst-len _ c.args.inputs.now c.read_all.new.inputs c.in-Ok.ensures.calls in
     let none = text_none _ _ _ _ _ c.in-Err-Memory.field-0-is c.in-Err-Memory.ensures in
     rw c.refused_last.ensures (λ inputs e.
@@ -44,8 +44,8 @@ returns-clause-run g c =
     ∙ sym len) none.1 in
     record { gots = last.gots; gets = last.gets; holds = (last.holds, none.0) })
 
-pub returns-clause-reads : goal.returns-clause-reads
-returns-clause-reads g c =
+pub returns-in-Err-Memory-clause-reads : goal.returns-in-Err-Memory-clause-reads
+returns-in-Err-Memory-clause-reads g c =
     let none = text_none _ _ _ _ _ c.in-Err-Memory.field-0-is c.in-Err-Memory.ensures in
     let some = c.in-Ok.ensures.some none.1 in
     let old = c.args.inputs.now in
@@ -55,7 +55,7 @@ returns-clause-reads g c =
     rw c.refused_last.ensures (StopsAt-last (length new - 1) old new
     (subst (λ n. ReadsFirst n old new) last c.in-Ok.ensures.calls))
 
-pub returns-clause-writes : goal.returns-clause-writes
-returns-clause-writes g c =
+pub returns-in-Err-Memory-clause-writes : goal.returns-in-Err-Memory-clause-writes
+returns-in-Err-Memory-clause-writes g c =
     rw c.refused_last.ensures
     (text_none _ _ _ _ _ c.in-Err-Memory.field-0-is c.in-Err-Memory.ensures).0

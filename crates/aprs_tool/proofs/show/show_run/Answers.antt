@@ -17,8 +17,8 @@ returns-in-Ok-show-clause-run g c = λ inputs e.
 pub returns-in-Ok-show-clause-writes : goal.returns-in-Ok-show-clause-writes
 returns-in-Ok-show-clause-writes g c = (shown_sent _ _ _ _ c.in-Ok-show.ensures).2.calls
 
-pub returns-clause-run : goal.returns-clause-run
-returns-clause-run g c = λ inputs e.
+pub returns-in-Err-Write-clause-run : goal.returns-in-Err-Write-clause-run
+returns-in-Err-Write-clause-run g c = λ inputs e.
     let read = c.in-Ok.ensures.reads inputs e in
     let shown = shown_cut _ _ _ _ _ c.in-Err-Write.field-0-is c.in-Err-Write.ensures in
     record {
@@ -28,8 +28,8 @@ returns-clause-run g c = λ inputs e.
           (listing_of_shown _ _ _ read.holds.0 shown.1) shown.2;
     }
 
-pub returns-clause-writes : goal.returns-clause-writes
-returns-clause-writes g c =
+pub returns-in-Err-Write-clause-writes : goal.returns-in-Err-Write-clause-writes
+returns-in-Err-Write-clause-writes g c =
     (shown_cut _ _ _ _ _ c.in-Err-Write.field-0-is c.in-Err-Write.ensures).2.calls
 
 pub returns-in-Err-Memory-clause-run : goal.returns-in-Err-Memory-clause-run

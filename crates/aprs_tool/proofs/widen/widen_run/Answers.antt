@@ -66,8 +66,8 @@ pub returns-in-Err-Memory-clause-writes : goal.returns-in-Err-Memory-clause-writ
 returns-in-Err-Memory-clause-writes g c =
     (text_none _ _ _ _ _ c.in-Err-Memory.field-0-is c.in-Err-Memory.ensures).0
 
-pub returns-clause-run : goal.returns-clause-run
-returns-clause-run g c =
+pub returns-in-Err-Write-clause-run : goal.returns-in-Err-Write-clause-run
+returns-in-Err-Write-clause-run g c =
     let gap = c.args.gap in
     let own = c.in-Ok.own in
     let new = c.read_input_rows.new.store in
@@ -83,6 +83,6 @@ returns-clause-run g c =
     (omega (arith, c.if-seconds.false, c.seconds.ensures.value, c.seconds-2.ensures.value))
     cut) c.in-Ok.ensures.reads
 
-pub returns-clause-writes : goal.returns-clause-writes
-returns-clause-writes g c =
+pub returns-in-Err-Write-clause-writes : goal.returns-in-Err-Write-clause-writes
+returns-in-Err-Write-clause-writes g c =
     (text_cut _ _ _ _ _ c.in-Err-Write.field-0-is c.in-Err-Write.ensures).calls
