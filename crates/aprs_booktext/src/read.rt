@@ -56,7 +56,7 @@ pub fn read_book<R: Read, A: Allocator + Copy>(
     let mut store = RowStore::new(alloc);
     let mut reader = BookReader::new(alloc);
     let left = read_lines(limit, head, source, &mut reader, &mut store)?;
-    let Ok(book) = book_in(alloc, reader.gap(), &store) else {
+    let Ok(book) = book_in(alloc, reader.gap(), store) else {
         return Err(reader.refusal_at_last());
     };
     gap_at_end(left, source, &reader)?;
@@ -154,9 +154,9 @@ fn gap_at_end<R: Read, A: Allocator + Copy>(
 }
 
 /// The book of the rows of a store, which are those of a book with this gap.
-fn book_in<A: Allocator + Copy>(alloc: A, gap: Gap, store: &RowStore<A>) -> Result<Book<A>, Memory>
-    requires { IsSoundBook (record { gap = gap; rows = store.now }) }
-    ensures { IfOk result (λ book. book ≡ record { gap = gap; rows = store.now }) }
+fn book_in<A: Allocator + Copy>(alloc: A, gap: Gap, store: RowStore<A>) -> Result<Book<A>, Memory>
+    requires { IsSoundBook (record { gap = gap; rows = store }) }
+    ensures { IfOk result (λ book. book ≡ record { gap = gap; rows = store }) }
 {
     let order = store.in_order()?;
     let rows = order.coalesced(gap)?;

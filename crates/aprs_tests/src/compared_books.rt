@@ -208,7 +208,7 @@ const FIVE: [Plain; 5] = [
 ];
 
 /// Whether this is the book of a store's rows.
-fn is_of_store(alloc: Global, store: &RowStore, book: &Book) -> Result<bool, Fail> {
+fn is_of_store(alloc: Global, store: RowStore, book: &Book) -> Result<bool, Fail> {
     let order = store.in_order().ok().ok_or("memory")?;
     let rows = order.coalesced(Gap::STANDARD).ok().ok_or("memory")?;
     let made = Book::of_rows(alloc, &rows).ok().ok_or("memory")?;
@@ -237,7 +237,7 @@ fn agrees_in_order(alloc: Global, frames: &[Frame], order: usize) -> Result<bool
             return Ok(false);
         }
     }
-    is_of_store(alloc, &store, &both.book)
+    is_of_store(alloc, store, &both.book)
 }
 
 #[test]
@@ -347,7 +347,7 @@ fn agrees_in_a_thousand(alloc: Global, frames: &[Frame], stride: u64) -> Result<
     Ok(
         both.agree(frames)?
             && both.plain.rows.len() == 1000
-            && is_of_store(alloc, &store, &both.book)?,
+            && is_of_store(alloc, store, &both.book)?,
     )
 }
 

@@ -8,7 +8,7 @@ use aprs_book::{
     Book, Gap, Join, MergeFault, ReceiverList, Receivers, RowCause, WidenFault, all_fit,
 };
 use aprs_log::Receiver;
-use aprs_rows::{RowStore, Transmissions};
+use aprs_rows::{RowStore, RowsInOrder, Transmissions};
 use bumpalo::Bump;
 use std::alloc::Global;
 use std::test::Fail;
@@ -275,21 +275,41 @@ fn shown_transmissions(rows: &Transmissions<'_, &Bump>) -> usize {
     shown
 }
 
-/// Whether calls of a store and of its rows answer as they have to, and ask for no memory.
-fn ask_for_none<'a>(
+/// Whether calls of a store answer as they have to, and ask for no memory, nor does putting its
+/// receptions in order, which is given.
+fn store_asks_for_none<'a>(
     bump: &'a Bump,
-    store: &RowStore<&'a Bump>,
-    rows: &Transmissions<'_, &'a Bump>,
-) -> Result<bool, Fail> {
+    store: RowStore<&'a Bump>,
+) -> Result<RowsInOrder<&'a Bump>, Fail> {
     let _filling = fill(bump)?;
     let size = bump.allocated_bytes();
-    let Some(last) = store.last() else {
-        return Err("a row".into());
-    };
-    let is_right = !store.is_empty()
-        && store.len() == SENT.len()
-        && last.refusal_after(Some(&last), Gap::STANDARD) == Some(RowCause::Order)
-        && rows.gap() == Gap::STANDARD
+    if !answers(&store) {
+        return Err("another answer".into());
+    }
+    let order = store.in_order().ok().ok_or("memory")?;
+    if bump.allocated_bytes() > size {
+        return Err("a request".into());
+    }
+    Ok(order)
+}
+
+/// Whether calls of a store of what was sent answer as they have to.
+fn answers(store: &RowStore<&Bump>) -> bool {
+    match store.last() {
+        Some(last) => {
+            !store.is_empty()
+                && store.len() == SENT.len()
+                && last.refusal_after(Some(&last), Gap::STANDARD) == Some(RowCause::Order)
+        }
+        None => false,
+    }
+}
+
+/// Whether calls of rows answer as they have to, and ask for no memory.
+fn rows_ask_for_none<'a>(bump: &'a Bump, rows: &Transmissions<'_, &'a Bump>) -> Result<bool, Fail> {
+    let _filling = fill(bump)?;
+    let size = bump.allocated_bytes();
+    let is_right = rows.gap() == Gap::STANDARD
         && rows.len() == SENT.len()
         && shown_transmissions(rows) == SENT.len();
     Ok(is_right && bump.allocated_bytes() == size)
@@ -298,9 +318,8 @@ fn ask_for_none<'a>(
 #[test]
 fn calls_of_stores_ask_for_none(rt: HostRuntime) -> Result<(), Fail> {
     let bump = Bump::try_with_capacity(rt.alloc(), 65_536)?;
-    let store = store_of_sent(&bump)?;
-    let order = store.in_order().ok().ok_or("memory")?;
+    let order = store_asks_for_none(&bump, store_of_sent(&bump)?)?;
     let rows = order.coalesced(Gap::STANDARD).ok().ok_or("memory")?;
-    assert!(rt; ask_for_none(&bump, &store, &rows)?);
+    assert!(rt; rows_ask_for_none(&bump, &rows)?);
     Ok(())
 }

@@ -6,13 +6,13 @@ use crate::refused_calls::{ROWS, SENT, squeeze};
 use crate::shown::is_shown;
 use crate::vectors::{DIRECT, heard};
 use aprs_book::{Book, Gap, Memory, Overview};
-use aprs_rows::RowStore;
+use aprs_rows::{RowStore, RowsInOrder};
 use bumpalo::Bump;
 use std::alloc::{Allocator, Global};
 use std::test::Fail;
 
 /// The book of a store's rows.
-fn book_of<A: Allocator + Copy>(alloc: A, store: &RowStore<A>) -> Result<Book<A>, Memory> {
+fn book_of<A: Allocator + Copy>(alloc: A, store: RowStore<A>) -> Result<Book<A>, Memory> {
     let order = store.in_order()?;
     let rows = order.coalesced(Gap::STANDARD)?;
     Book::of_rows(alloc, &rows)
@@ -46,7 +46,7 @@ fn two_hundred_receptions_are_put_in_order(rt: HostRuntime) -> Result<(), Fail> 
     const CASES: &[(u64, usize)] = &[(0, 100), (30, 1), (6031, 200)];
     for &(first, rows) in CASES {
         let store = two_hundred(alloc, first)?;
-        let book = book_of(alloc, &store).ok().ok_or("memory")?;
+        let book = book_of(alloc, store).ok().ok_or("memory")?;
         assert!(rt; book.len() == rows);
         assert!(rt; book.same(&taken(alloc, first)?));
     }
@@ -67,31 +67,24 @@ fn store_sent<'a>(bump: &'a Bump, store: &mut RowStore<&'a Bump>) -> Result<u64,
     Ok(refused)
 }
 
-/// Whether the book of the store's rows has the rows of what was sent.
-fn has_rows<'a>(alloc: Global, bump: &'a Bump, store: &RowStore<&'a Bump>) -> bool {
-    match book_of(bump, store) {
-        Ok(book) => is_shown(alloc, &book, ROWS),
-        Err(_) => false,
-    }
-}
-
 /// What was refused with so many units of room: whether a reception, and whether the book.
 fn refusals(alloc: Global, units: usize) -> Result<(bool, bool), Fail> {
     let bump = Bump::try_with_capacity(alloc, 65_536)?;
     let _fill = squeeze(&bump, units)?;
     let mut store = RowStore::new(&bump);
     let refused = store_sent(&bump, &mut store)?;
-    let is_refused = book_of(&bump, &store).is_err();
-    bump.set_allocation_limit(None);
-    if has_rows(alloc, &bump, &store) {
-        Ok((refused > 0, is_refused))
+    let Ok(book) = book_of(&bump, store) else {
+        return Ok((refused > 0, true));
+    };
+    if is_shown(alloc, &book, ROWS) {
+        Ok((refused > 0, false))
     } else {
         Err("other rows".into())
     }
 }
 
-// Room for more and more units: first a reception is refused, then the order, the rows or the book,
-// and at last nothing.
+// Room for more and more units: first a reception is refused, and its store has all the same when
+// it comes again; then the rows or the book, and at last nothing.
 #[test]
 fn refused_stores_are_as_before(rt: HostRuntime) -> Result<(), Fail> {
     let mut receptions = 0u64;
@@ -108,12 +101,11 @@ fn refused_stores_are_as_before(rt: HostRuntime) -> Result<(), Fail> {
     Ok(())
 }
 
-/// How many stations, objects and items, and messages the rows of a store tell of.
+/// How many stations, objects and items, and messages these rows tell of.
 fn counts<A: Allocator + Copy>(
     alloc: A,
-    store: &RowStore<A>,
+    order: &RowsInOrder<A>,
 ) -> Result<(usize, usize, usize), Memory> {
-    let order = store.in_order()?;
     let rows = order.coalesced(Gap::STANDARD)?;
     let overview = Overview::of(alloc, &rows)?;
     let stations = overview.stations()?;
@@ -123,8 +115,8 @@ fn counts<A: Allocator + Copy>(
 }
 
 /// The same, or nothing where memory was refused.
-fn listed<'a>(bump: &'a Bump, store: &RowStore<&'a Bump>) -> Option<(usize, usize, usize)> {
-    counts(bump, store).ok()
+fn listed<'a>(bump: &'a Bump, order: &RowsInOrder<&'a Bump>) -> Option<(usize, usize, usize)> {
+    counts(bump, order).ok()
 }
 
 /// Whether what is listed of what was sent is refused with so many units of room.
@@ -132,10 +124,11 @@ fn is_list_refused(alloc: Global, units: usize) -> Result<bool, Fail> {
     let bump = Bump::try_with_capacity(alloc, 65_536)?;
     let mut store = RowStore::new(&bump);
     store_sent(&bump, &mut store)?;
+    let order = store.in_order().ok().ok_or("memory")?;
     let _fill = squeeze(&bump, units)?;
-    let is_refused = listed(&bump, &store).is_none();
+    let is_refused = listed(&bump, &order).is_none();
     bump.set_allocation_limit(None);
-    if listed(&bump, &store) == Some((3, 2, 1)) {
+    if listed(&bump, &order) == Some((3, 2, 1)) {
         Ok(is_refused)
     } else {
         Err("another list".into())

@@ -88,21 +88,27 @@ impl<A: Allocator + Copy> Gathered<A> {
     }
 
     /// Writes the text of the book of all rows.
-    pub(crate) fn write<W: Write>(&self, w: &mut Counted<W>) -> Result<(), Unwritten>
-        ensures { WritesText W.contents result self.now w.old w.new }
+    pub(crate) fn write<W: Write>(self, w: &mut Counted<W>) -> Result<(), Unwritten>
+        ensures { WritesText W.contents result self w.old w.new }
     {
-        let order = self.store.in_order()?;
-        let rows = order.coalesced(self.gap)?;
+        let Gathered {
+            alloc: _,
+            gap,
+            store,
+        } = self;
+        let order = store.in_order()?;
+        let rows = order.coalesced(gap)?;
         Ok(write_rows(w, &rows)?)
     }
 
     /// Writes the listing of the book of all rows.
-    pub(crate) fn show<W: Write>(&self, w: &mut Counted<W>) -> Result<(), Unwritten>
-        ensures { ShowsBook W.contents result self.now w.old w.new }
+    pub(crate) fn show<W: Write>(self, w: &mut Counted<W>) -> Result<(), Unwritten>
+        ensures { ShowsBook W.contents result self w.old w.new }
     {
-        let order = self.store.in_order()?;
-        let rows = order.coalesced(self.gap)?;
-        let overview = Overview::of(self.alloc, &rows)?;
+        let Gathered { alloc, gap, store } = self;
+        let order = store.in_order()?;
+        let rows = order.coalesced(gap)?;
+        let overview = Overview::of(alloc, &rows)?;
         let views = Views::of_rows(&overview)?;
         Ok(views.write(w)?)
     }

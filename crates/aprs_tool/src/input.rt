@@ -84,12 +84,12 @@ fn read_own<R: Read, A: Allocator + Copy>(
     }
     let mut store = RowStore::new(alloc);
     read_log(alloc, limit, head, &mut store, r)?;
-    Ok(book_of(alloc, gap, &store)?)
+    Ok(book_of(alloc, gap, store)?)
 }
 
 /// The book of the rows in a store.
-fn book_of<A: Allocator + Copy>(alloc: A, gap: Gap, store: &RowStore<A>) -> Result<Book<A>, Memory>
-    ensures book { IfOk result (Holds (witnesses store.now)) }
+fn book_of<A: Allocator + Copy>(alloc: A, gap: Gap, store: RowStore<A>) -> Result<Book<A>, Memory>
+    ensures book { IfOk result (Holds (witnesses store)) }
     ensures gap { IfOk result (λ book. book.gap ≡ gap) }
 {
     let order = store.in_order()?;

@@ -11,7 +11,7 @@ use Rattle.aprs_booktext.proofs.read.book_in.Goals as goal
 
 pub returns : goal.returns
 returns g c =
-    let told = c.args.store.now in
+    let told = c.args.store in
     let gap = millis_of c.args.gap in
     let some : 0 < gap = omega (arith, c.requires.range) in
     let same : coalesced gap c.in_ok-order.order ≡ told =

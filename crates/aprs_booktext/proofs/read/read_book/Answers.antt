@@ -39,7 +39,7 @@ returns-in_err-gap_at_end-clause-accepts g c =
     (c.in_err-gap_at_end.ensures.answer c.new-store.result c.read_lines.new.store c.args.head.now
     c.args.source.now c.args.limit c.in_ok-left.ensures.got c.in_ok-left.ensures.going))
 
-answer : (g : _) (c : goal.After-drop-store-2 g) → IsAnswered g.R.Read.remaining c.args.limit
+answer : (g : _) (c : goal.After-drop-reader-2 g) → IsAnswered g.R.Read.remaining c.args.limit
     c.args.head.now (Ok c.in-Ok.book) c.args.source.now c.gap_at_end.new.source
 answer g c = answer_book g.R.Read.remaining c.args.limit c.args.head.now c.new-store.result
     c.read_lines.new.store c.in_ok-gap_at_end.field-0 c.in-Ok.book c.args.source.now

@@ -53,18 +53,18 @@ returns-in-Err-Write-clause-calls g c =
 
 -- ---- an allocation failed
 
-pub returns-clause-writes : goal.returns-clause-writes
-returns-clause-writes g c =
+pub returns-in-Err-Memory-clause-writes : goal.returns-in-Err-Memory-clause-writes
+returns-in-Err-Memory-clause-writes g c =
     rw c.refused_last.ensures (λ inputs e.
     unsaid c.args.limit inputs _ _ (c.in-Ok.ensures.reads inputs e))
 
-pub returns-clause-sends : goal.returns-clause-sends
-returns-clause-sends g c =
+pub returns-in-Err-Memory-clause-sends : goal.returns-in-Err-Memory-clause-sends
+returns-in-Err-Memory-clause-sends g c =
     rw c.refused_last.ensures (λ inputs e.
     unsaid c.args.limit inputs _ _ (c.in-Ok.ensures.reads inputs e))
 
-pub returns-clause-refuses : goal.returns-clause-refuses
-returns-clause-refuses g c =
+pub returns-in-Err-Memory-clause-refuses : goal.returns-in-Err-Memory-clause-refuses
+returns-in-Err-Memory-clause-refuses g c =
     let len = ReadsFirst-len _ c.args.inputs.now c.read_all.new.inputs c.in-Ok.ensures.calls in
     let none = text_none _ _ _ _ _ c.in-Err-Memory.field-0-is c.in-Err-Memory.ensures in
     rw c.refused_last.ensures (λ inputs e.
@@ -73,8 +73,8 @@ returns-clause-refuses g c =
     (same_len (λ r. g.R.Read.remaining (device_of r)) c.args.inputs.now inputs e
     ∙ sym len) none.1))
 
-pub returns-clause-asks : goal.returns-clause-asks
-returns-clause-asks g c =
+pub returns-in-Err-Memory-clause-asks : goal.returns-in-Err-Memory-clause-asks
+returns-in-Err-Memory-clause-asks g c =
     let none = text_none _ _ _ _ _ c.in-Err-Memory.field-0-is c.in-Err-Memory.ensures in
     let some = c.in-Ok.ensures.some none.1 in
     let old = c.args.inputs.now in
@@ -84,7 +84,7 @@ returns-clause-asks g c =
     rw c.refused_last.ensures (StopsAt-last (length new - 1) old new
     (subst (λ n. ReadsFirst n old new) last c.in-Ok.ensures.calls))
 
-pub returns-clause-calls : goal.returns-clause-calls
-returns-clause-calls g c =
+pub returns-in-Err-Memory-clause-calls : goal.returns-in-Err-Memory-clause-calls
+returns-in-Err-Memory-clause-calls g c =
     rw c.refused_last.ensures
     (text_none _ _ _ _ _ c.in-Err-Memory.field-0-is c.in-Err-Memory.ensures).0

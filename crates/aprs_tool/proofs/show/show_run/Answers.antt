@@ -26,24 +26,24 @@ returns-in-Ok-show-clause-calls g c = (shown_sent _ _ _ _ c.in-Ok-show.ensures).
 
 -- ---- the output was refused
 
-pub returns-clause-writes : goal.returns-clause-writes
-returns-clause-writes g c = λ inputs e.
+pub returns-in-Err-Write-clause-writes : goal.returns-in-Err-Write-clause-writes
+returns-in-Err-Write-clause-writes g c = λ inputs e.
     let shown = shown_cut _ _ _ _ _ c.in-Err-Write.field-0-is c.in-Err-Write.ensures in
     all_cut c.args.limit c.args.gap inputs _ (IsListingOf c.args.gap) g.W.Write.contents _ _ _ _
     (listing_of_shown _ _ _ c.in-Ok.ensures.gap shown.1) (c.in-Ok.ensures.reads inputs e) shown.2
 
-pub returns-clause-sends : goal.returns-clause-sends
-returns-clause-sends g c = λ inputs e.
+pub returns-in-Err-Write-clause-sends : goal.returns-in-Err-Write-clause-sends
+returns-in-Err-Write-clause-sends g c = λ inputs e.
     let shown = shown_cut _ _ _ _ _ c.in-Err-Write.field-0-is c.in-Err-Write.ensures in
     all_refused c.args.limit c.args.gap inputs _ (IsListingOf c.args.gap) g.W.Write.contents _ _ _ _
     (listing_of_shown _ _ _ c.in-Ok.ensures.gap shown.1) (c.in-Ok.ensures.reads inputs e) shown.2
 
-pub returns-clause-refuses : goal.returns-clause-refuses
-returns-clause-refuses g c = λ inputs e.
+pub returns-in-Err-Write-clause-refuses : goal.returns-in-Err-Write-clause-refuses
+returns-in-Err-Write-clause-refuses g c = λ inputs e.
     unsaid c.args.limit inputs _ _ (c.in-Ok.ensures.reads inputs e)
 
-pub returns-clause-calls : goal.returns-clause-calls
-returns-clause-calls g c =
+pub returns-in-Err-Write-clause-calls : goal.returns-in-Err-Write-clause-calls
+returns-in-Err-Write-clause-calls g c =
     (shown_cut _ _ _ _ _ c.in-Err-Write.field-0-is c.in-Err-Write.ensures).2.calls
 
 -- ---- an allocation failed

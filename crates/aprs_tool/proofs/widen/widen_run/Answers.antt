@@ -107,8 +107,8 @@ returns-in-Err-Memory-clause-calls g c =
 
 -- ---- the output was refused
 
-pub returns-clause-writes : goal.returns-clause-writes
-returns-clause-writes g c =
+pub returns-in-Err-Write-clause-writes : goal.returns-in-Err-Write-clause-writes
+returns-in-Err-Write-clause-writes g c =
     let gap = c.args.gap in
     let own = c.in-Ok.own in
     let new = c.read_input_rows.new.store in
@@ -123,8 +123,8 @@ returns-clause-writes g c =
     (λ b. WritesText g.W.Write.contents (Err c.in-Err-Write.field-0) b c.args.w.now
     c.write.new.w) c.of.ensures c.in-Err-Write.ensures))) c.in-Ok.ensures.reads
 
-pub returns-clause-sends : goal.returns-clause-sends
-returns-clause-sends g c =
+pub returns-in-Err-Write-clause-sends : goal.returns-in-Err-Write-clause-sends
+returns-in-Err-Write-clause-sends g c =
     let gap = c.args.gap in
     let own = c.in-Ok.own in
     let new = c.read_input_rows.new.store in
@@ -139,10 +139,10 @@ returns-clause-sends g c =
     (λ b. WritesText g.W.Write.contents (Err c.in-Err-Write.field-0) b c.args.w.now
     c.write.new.w) c.of.ensures c.in-Err-Write.ensures))) c.in-Ok.ensures.reads
 
-pub returns-clause-refuses : goal.returns-clause-refuses
-returns-clause-refuses g c =
+pub returns-in-Err-Write-clause-refuses : goal.returns-in-Err-Write-clause-refuses
+returns-in-Err-Write-clause-refuses g c =
     got_so _ _ c.args.limit (λ input. input) _ _ (λ t e h. tt) c.in-Ok.ensures.reads
 
-pub returns-clause-calls : goal.returns-clause-calls
-returns-clause-calls g c =
+pub returns-in-Err-Write-clause-calls : goal.returns-in-Err-Write-clause-calls
+returns-in-Err-Write-clause-calls g c =
     (text_cut _ _ _ _ _ c.in-Err-Write.field-0-is c.in-Err-Write.ensures).calls

@@ -1,4 +1,3 @@
-use Rattle.std.proofs.Common.{arith}
 use Rattle.aprs_rows.proofs.row_view.RowView.key_order.Goals as goal
 
 pub returns : goal.returns

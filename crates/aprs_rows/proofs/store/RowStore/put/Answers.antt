@@ -1,5 +1,4 @@
-use Rattle.std.proofs.Common.{◌∙◌, ◌∷◌, ◌++◌, [], sym, ap, append_assoc}
-use Rattle.aprs_rows.specs.Rows.{row_bytes}
+use Rattle.std.proofs.Common.{◌∙◌, ◌∷◌, ◌++◌, [], ap, append_assoc}
 use Rattle.aprs_rows.proofs.Rows.{HasMore, more_rows}
 use Rattle.aprs_rows.proofs.store.RowStore.put.Goals as goal
 
