@@ -11,6 +11,7 @@ use Rattle.hex.specs.Hex.{encode_lower, decode_of}
 use Rattle.hex.specs.declared.error.FromHexError.{FromHexError}
 use Rattle.hex.proofs.HexLemmas.{decode_of-ok}
 use Rattle.aprs_ax25.specs.FrameFault.{frame_of}
+use Rattle.aprs_ax25.proofs.UiFrames.{frame_of-is, is-frame_of}
 use Rattle.aprs_ax25.specs.declared.fault.FrameFault.{FrameFault}
 use Rattle.aprs_log.specs.Moment.{moment_in, moment_text_in}
 use Rattle.aprs_log.specs.Receiver.{IsName, is_name}
@@ -40,7 +41,7 @@ use Rattle.aprs_booktext.specs.declared.version.Version.TheVariants.{One, Two, T
 use Rattle.aprs_booktext.proofs.Cuts.{joined_pieces, pieces_some}
 use Rattle.aprs_booktext.proofs.Digits.{decode_of-spelled}
 use Rattle.aprs_booktext.proofs.RowReading.{IsNoRow}
-use Rattle.aprs_booktext.proofs.Spellings.{frame_is, moment_found, moment_missed, moment_read, names_pieces, same_fields, six_pieces, spelled_by}
+use Rattle.aprs_booktext.proofs.Spellings.{moment_found, moment_missed, moment_read, names_pieces, same_fields, six_pieces, spelled_by}
 use Rattle.aprs_booktext.proofs.Standing.{cut_fault, ended_fault, ended_stands, ended_whole, held_stands}
 use Rattle.aprs_booktext.proofs.Versions.{no_header}
 
@@ -375,8 +376,8 @@ module _ (v : Version) (rows : List Row) (line : List ℕ) (s : SpelledRow (form
         row = s.row;
         is = s.is;
         spelled = s.line_is;
-        refused =
-            subst IsErr (sym e) refl;
+        refused = λ u. absurd (let x : Err fault ≡ Ok s.row.greatest.frame = sym e
+        ∙ is-frame_of s.row.greatest.frame u in cc);
       }),
       refl,
     );
@@ -386,8 +387,7 @@ module _ (v : Version) (rows : List Row) (line : List ℕ) (s : SpelledRow (form
       judge_row (refusal (millis_of (gap_of v)) rows s.row) refl
       (record {
         spelled = s.is;
-        frame = e
-            ∙ ap (λ (l : List ℕ). Ok l) (frame_is s.row.greatest.frame b e);
+        frame = frame_of-is s.row.greatest.frame b e;
       })
 
 judge_line : (v : Version) (rows : List Row) (line : List ℕ) → Judged (Rows v) rows line

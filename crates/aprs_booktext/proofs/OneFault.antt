@@ -1,11 +1,11 @@
 -- A text has one first fault at most.
-use Rattle.std.proofs.Common.{◌≡◌, ℕ, ◌+◌, ◌^◌, ◌<◌, ◌≤◌, false, true, List, [], ◌∷◌, ◌++◌, length, map, Some, IsErr, ◌⊎◌, inl, inr, refl, sym, ap, ◌∙◌, subst, append_assoc, append-nil, length-append, arith}
+use Rattle.std.proofs.Common.{◌≡◌, ℕ, ◌+◌, ◌^◌, ◌<◌, ◌≤◌, false, true, List, [], ◌∷◌, ◌++◌, length, map, Some, ◌⊎◌, inl, inr, refl, sym, ap, ◌∙◌, subst, append_assoc, append-nil, length-append, arith}
 use Rattle.std.specs.Prelude.{◌≢◌, All}
 use Rattle.std.specs.List.{AllByRecursion}
 use Rattle.std.proofs.lemmas.Bool.{false≢true}
 use Rattle.std.proofs.lemmas.List.{length-map}
 use Rattle.std.proofs.lemmas.List.Elements.{All-head, All-tail}
-use Rattle.aprs_ax25.specs.FrameFault.{frame_of}
+use Rattle.aprs_ax25.specs.UiFrame.{IsUiFrame}
 use Rattle.aprs_io.specs.declared.input.Ending.{Ending}
 use Rattle.aprs_log.specs.declared.moment_form.MomentForm.{MomentForm}
 use Rattle.aprs_laws.specs.Gap.{millis_of}
@@ -42,8 +42,7 @@ no_frame : (gap : ℕ) (form : MomentForm) (rows : List Row) (line : List ℕ) (
     → HasNoFrame form line → IsRefused gap form rows line why → ⊥
 no_frame gap form rows line why h k =
     let same = same_row form h.row k.row h.is k.is.spelled (sym h.spelled ∙ k.spelled) in
-    false≢true (subst IsErr (ap (λ (r : Row). frame_of r.greatest.frame) same
-    ∙ k.is.frame) h.refused)
+    h.refused (subst (λ (r : Row). IsUiFrame r.greatest.frame) (sym same) k.is.frame)
 
 no_end : (form : MomentForm) (line : List ℕ) (x : Row) → is_end line ≡ true → line ≡ row_line form x
     → ⊥

@@ -1,5 +1,5 @@
 -- The text of a book's rows is that of no others, and has no fault but that it may be cut short.
-use Rattle.std.proofs.Common.{◌≡◌, ℕ, ◌+◌, ◌^◌, ◌<◌, true, false, eqb, List, [], ◌∷◌, ◌++◌, length, get_or, map, Some, None, Ok, IsErr, inl, inr, refl, sym, ap, ◌∙◌, subst, append_assoc, append-nil, length-append, arith}
+use Rattle.std.proofs.Common.{◌≡◌, ℕ, ◌+◌, ◌^◌, ◌<◌, true, false, eqb, List, [], ◌∷◌, ◌++◌, length, get_or, map, Some, None, Ok, inl, inr, refl, sym, ap, ◌∙◌, subst, append_assoc, append-nil, length-append, arith}
 use Rattle.std.specs.Prelude.{◌≢◌, All, codes}
 use Rattle.std.specs.List.{join_with_byte}
 use Rattle.std.proofs.lemmas.List.Elements.{All-head, All-tail}
@@ -8,7 +8,7 @@ use Rattle.std.proofs.lemmas.List.{nil_from_length}
 use Rattle.std.proofs.lemmas.List.Concat.{flat_map-append}
 use Rattle.hex.specs.Hex.{encode_lower, decode_of}
 use Rattle.hex.proofs.HexLemmas.{decode_of-encode_lower}
-use Rattle.aprs_ax25.specs.FrameFault.{frame_of}
+use Rattle.aprs_ax25.specs.UiFrame.{IsUiFrame}
 use Rattle.aprs_log.specs.Moment.{moment_in, moment_text_in}
 use Rattle.aprs_log.specs.declared.moment_form.MomentForm.{MomentForm}
 use Rattle.aprs_io.specs.declared.input.Ending.{Ending}
@@ -281,8 +281,7 @@ wrong_row gap form rows more x cause.Ending h s w = false≢true w.0
 wrong_row gap form rows more x cause.RowSyntax h s w = w.1 x h.spelled refl
 wrong_row gap form rows more x cause.Frame h s w =
     let same = same_row form x w.row h.spelled w.is w.spelled in
-    false≢true (subst IsErr (ap (λ (r : Row). frame_of r.greatest.frame) (sym same)
-    ∙ h.frame) w.refused)
+    w.refused (subst (λ (r : Row). IsUiFrame r.greatest.frame) same h.frame)
 wrong_row gap form rows more x cause.Order h s w = refused gap form rows more x _ h s w
 wrong_row gap form rows more x cause.Span h s w = refused gap form rows more x _ h s w
 wrong_row gap form rows more x cause.Near h s w = refused gap form rows more x _ h s w

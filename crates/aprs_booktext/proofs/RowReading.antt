@@ -2,9 +2,11 @@
 use Rattle.std.proofs.Common.{◌≡◌, ℕ, ◌<◌, List, [], ◌∷◌, ◌++◌, length, get_or, take, drop, IsErr, Option, Some, None, inl, inr, refl, sym, ap, ◌∙◌, subst, length-append, arith}
 use Rattle.std.proofs.Math.Seq.{take-append_seam}
 use Rattle.std.specs.Prelude.{◌≢◌, All, IfNone}
+use Rattle.std.proofs.lemmas.Bool.{false≢true}
 use Rattle.std.specs.List.{join_with_byte}
 use Rattle.hex.specs.Hex.{encode_lower}
 use Rattle.aprs_ax25.specs.FrameFault.{frame_of}
+use Rattle.aprs_ax25.proofs.UiFrames.{frame_of-is, is-frame_of}
 use Rattle.aprs_log.specs.Clock.{form_size}
 use Rattle.aprs_log.specs.Moment.{moment_text_in}
 use Rattle.aprs_log.specs.declared.moment_form.MomentForm.{MomentForm}
@@ -195,14 +197,14 @@ module _ (form : MomentForm) (line a : List ℕ) (tag_is : line ≡ 84 ∷ 32 �
             pub row_found : SpellsFrame g frame
                 → IsBookRow form (row_of_text first last n w frame)
                 × (line ≡ row_line form (row_of_text first last n w frame))
-            row_found h = (record { spelled = spelled h.spelled; frame = h.is }, lined h.spelled)
+            row_found h = (record { spelled = spelled h.spelled; frame = frame_of-is frame frame h.is }, lined h.spelled)
 
             no_frame : SpellsBytes g frame → IsErr (frame_of frame) → HasNoFrame form line
             no_frame h err = record {
               row = row_of_text first last n w frame;
               is = spelled h;
               spelled = lined h;
-              refused = err;
+              refused = λ u. false≢true (subst IsErr (is-frame_of frame u) err);
             }
 
           pub wrong_frame : (why : BookCause) → IsWrongFrame g why → IsWrongRow form line why

@@ -1,8 +1,8 @@
 -- The first fault of a text that isn't that of a book. It lies right after the longest prefix of
 -- lines that a book's text may begin with, in some version.
-use Rattle.std.specs.Prelude.{◌≡◌, ◌≢◌, ℕ, ◌+◌, ◌<◌, ◌≤◌, ◌==◌, ◌⊎◌, Bool, false, true, List, [], ◌∷◌, ◌++◌, length, map, codes, Option, Some, Result, Ok, Err, IsErr}
+use Rattle.std.specs.Prelude.{◌≡◌, ◌≢◌, ℕ, ◌+◌, ◌<◌, ◌≤◌, ◌==◌, ◌⊎◌, Bool, false, true, List, [], ◌∷◌, ◌++◌, length, map, codes, Option, Some, Result, Ok, Err}
 use Rattle.std.specs.List.{starts_with}
-use Rattle.aprs_ax25.specs.FrameFault.{frame_of}
+use Rattle.aprs_ax25.specs.UiFrame.{IsUiFrame}
 use Rattle.aprs_io.specs.Input.{Gets}
 use Rattle.aprs_io.specs.declared.input.Ending.{Ending}
 use Rattle.aprs_io.specs.declared.input.Ending.TheVariants as how
@@ -40,7 +40,7 @@ pub record HasNoFrame (form : MomentForm) (line : List ℕ) : Type 0 where
   pub row : Row
   pub is : IsSpelled form row
   pub spelled : line ≡ row_line form row
-  pub refused : IsErr (frame_of row.greatest.frame)
+  pub refused : IsUiFrame row.greatest.frame → ⊥
 
 -- After these rows the line is wrong for this cause: it begins as the last line and isn't that of
 -- so many rows, or it spells no row, or one whose frame is none, or one that can't be added.

@@ -1,7 +1,7 @@
 -- The lines of rows as they are written.
-use Rattle.std.specs.Prelude.{◌≡◌, ◌<◌, ◌≤◌, ℕ, List, Ok, length}
+use Rattle.std.specs.Prelude.{◌<◌, ◌≤◌, ℕ, List, length}
 use Rattle.hex.specs.Hex.{IsBytes}
-use Rattle.aprs_ax25.specs.FrameFault.{frame_of}
+use Rattle.aprs_ax25.specs.UiFrame.{IsUiFrame}
 use Rattle.aprs_log.specs.Receiver.{IsName}
 use Rattle.aprs_log.specs.declared.moment_form.MomentForm.TheVariants.{Millis}
 use Rattle.aprs_laws.specs.Row.{Row}
@@ -12,7 +12,7 @@ pub record AreSpelled (who bytes : List ℕ) : Type 0 where
   pub name_is : IsName who
   pub bytes_are : IsBytes bytes
   pub few : (0 < length bytes) × (length bytes ≤ most_frame_bytes)
-  pub frame_is : frame_of bytes ≡ Ok bytes
+  pub frame_is : IsUiFrame bytes
 
 -- a row's line as it is written, with its LF
 abbrev pub line_and_lf : Row → List ℕ

@@ -1,8 +1,8 @@
 -- The one text of a book's rows in each version, and the text that a book is written as.
-use Rattle.std.specs.Prelude.{◌≡◌, ℕ, ◌%◌, ◌<◌, ◌≤◌, List, [], ◌∷◌, ◌++◌, length, map, flat_map, codes, decimal, All, Ok}
+use Rattle.std.specs.Prelude.{◌≡◌, ℕ, ◌%◌, ◌<◌, ◌≤◌, List, [], ◌∷◌, ◌++◌, length, map, flat_map, codes, decimal, All}
 use Rattle.std.specs.List.{join_with_byte}
 use Rattle.hex.specs.Hex.{encode_lower, IsBytes}
-use Rattle.aprs_ax25.specs.FrameFault.{frame_of}
+use Rattle.aprs_ax25.specs.UiFrame.{IsUiFrame}
 use Rattle.aprs_log.specs.Moment.{moment_text_in, room_of}
 use Rattle.aprs_log.specs.declared.moment_form.MomentForm.{MomentForm}
 use Rattle.aprs_log.specs.Receiver.{IsName}
@@ -87,7 +87,7 @@ pub record IsSpelled (form : MomentForm) (x : Row) : Type 0 where
 -- The fields of a line can spell the row, and the bytes of its frame are a UI frame.
 pub record IsBookRow (form : MomentForm) (x : Row) : Type 0 where
   pub spelled : IsSpelled form x
-  pub frame : frame_of x.greatest.frame ≡ Ok x.greatest.frame
+  pub frame : IsUiFrame x.greatest.frame
 
 -- The rows are sound under the version's gap, and each can be spelled in its form.
 pub record IsBookRows (v : Version) (rows : List Row) : Type 0 where

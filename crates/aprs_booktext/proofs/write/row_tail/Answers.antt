@@ -1,8 +1,7 @@
-use Rattle.std.proofs.Common.{◌≤◌, length, ap, arith}
+use Rattle.std.proofs.Common.{◌≤◌, length, arith}
 use Rattle.std.proofs.lemmas.Grind.{common_steps}
-use Rattle.aprs_ax25.specs.FrameFault.{unless_fault}
 use Rattle.aprs_ax25.proofs.Sounds.{IsSound-len}
-use Rattle.aprs_ax25.proofs.Spellings.{FrameOf-frame_fault, FrameOf-IsSound}
+use Rattle.aprs_ax25.proofs.Spellings.{FrameOf-IsSound}
 use Rattle.aprs_booktext.proofs.Spellings.{name_len}
 use Rattle.aprs_booktext.proofs.TextParts.{tail_is}
 use Rattle.aprs_booktext.proofs.write.row_tail.Goals as goal
@@ -53,5 +52,5 @@ returns-clause-spelled c =
       name_is = c.requires.name;
       bytes_are = c.put_hex-end.ensures.bytes;
       few = (omega (arith, sound.within, sound.least), IsSound-len frame sound);
-      frame_is = ap (unless_fault frame) (FrameOf-frame_fault _ frame c.requires.frame);
+      frame_is = sound;
     }
