@@ -10,7 +10,7 @@ use Rattle.aprs_booktext.proofs.Accepting.{rows_few}
 use Rattle.aprs_booktext.proofs.OneText.{cut_short}
 use Rattle.aprs_tool.specs.Inputs.{GivesSet, IsBookFileOf}
 use Rattle.aprs_tool.specs.Refused.{IsFaulty}
-use Rattle.aprs_tool.proofs.Sets.{log_none}
+use Rattle.aprs_tool.proofs.Sets.{file_rows, log_none}
 use Rattle.aprs_tool.specs.Status.{status_of_book_cause, status_of_input}
 use Rattle.aprs_tool.specs.declared.fault.InputFault.{InputFault}
 use Rattle.aprs_tool.specs.declared.fault.InputFault.TheVariants.{Log, Book, Memory, OtherGap, Narrower}
@@ -20,7 +20,7 @@ pub file_none : (gap : ℕ) (S : List Heard) (t : List ℕ) (c : Ending) (f : Bo
 file_none gap S t c f small p first =
     let size : length t ≡ length _ = ap length p.text_is in
     let few : length p.rows < 2 ^ 64 = omega (arith, small, size, rows_few p.version p.rows) in
-    (cut_short p.version p.rows p.sound few [] c f.cause t f (append-nil t ∙ p.text_is) refl
+    (cut_short p.version p.rows (file_rows gap S t c p) few [] c f.cause t f (append-nil t ∙ p.text_is) refl
     first).1 p.whole refl
 
 pub no_fault : (gap : ℕ) (t : List ℕ) (c : Ending) (S : List Heard) (e : InputFault)

@@ -199,7 +199,8 @@ gives_file own v rows same is = inl (
     version = v;
     rows = rows;
     gap_is = sym same;
-    sound = is;
+    is_version = is.version;
+    spelled = is.each;
     text_is = refl;
     whole = refl;
     book = let positive = gap_positive v is.version in

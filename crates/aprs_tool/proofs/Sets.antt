@@ -9,6 +9,9 @@ use Rattle.aprs_laws.specs.Gap.{millis_of}
 use Rattle.aprs_laws.specs.Lists.{SameMembers}
 use Rattle.aprs_laws.specs.Row.{Row}
 use Rattle.aprs_laws.proofs.Books.{book_carries, one_book}
+use Rattle.aprs_laws.specs.Sound.{Sound}
+use Rattle.aprs_laws.proofs.Soundness.{sound}
+use Rattle.aprs_booktext.specs.Text.{IsBookRows}
 use Rattle.aprs_booktext.specs.Version.{gap_of}
 use Rattle.aprs_booktext.proofs.OneText.{one_text}
 use Rattle.aprs_tool.specs.Inputs.{GivesSet, IsBookFileOf, IsLogOf}
@@ -44,20 +47,30 @@ log_book gap t c S T rows p q book =
 
 -- ---- a book file
 
+-- its rows are sound under its gap, since they are the book of a set
+pub file_rows : (gap : ℕ) (S : List Heard) (t : List ℕ) (c : Ending) (p : IsBookFileOf gap S t c)
+    → IsBookRows p.version p.rows
+file_rows gap S t c p = record {
+  version = p.is_version;
+  sound = subst (λ g. Sound (millis_of g) p.rows) (sym p.gap_is)
+      (sound (millis_of gap) S p.rows p.book);
+  each = p.spelled;
+}
+
 file_book : (gap : ℕ) (t : List ℕ) (c : Ending) (S T : List Heard) (rows : List Row)
     → IsBookFileOf gap S t c → IsBookFileOf gap T t c → BookOf (millis_of gap) T rows
     → BookOf (millis_of gap) S rows
 file_book gap t c S T rows p q book =
-    let same : p.rows ≡ q.rows = (one_text p.version q.version p.rows q.rows p.sound q.sound
-    (sym p.text_is ∙ q.text_is)).1 in
+    let same : p.rows ≡ q.rows = (one_text p.version q.version p.rows q.rows (file_rows gap S t c p)
+    (file_rows gap T t c q) (sym p.text_is ∙ q.text_is)).1 in
     subst (λ (r : List Row). BookOf (millis_of gap) S r)
     (same ∙ one_book (millis_of gap) T q.rows rows q.book book) p.book
 
 file_gap : (gap own : ℕ) (t : List ℕ) (c : Ending) (S T : List Heard) → IsBookFileOf gap S t c
     → IsBookFileOf own T t c → IsBookFileOf gap T t c
 file_gap gap own t c S T p q =
-    let same = (one_text p.version q.version p.rows q.rows p.sound q.sound
-    (sym p.text_is ∙ q.text_is)).0 in
+    let same = (one_text p.version q.version p.rows q.rows (file_rows gap S t c p)
+    (file_rows own T t c q) (sym p.text_is ∙ q.text_is)).0 in
     subst (λ g. IsBookFileOf g T t c) (sym q.gap_is ∙ sym (ap gap_of same) ∙ p.gap_is) q
 
 -- ---- either

@@ -20,7 +20,7 @@ use Rattle.aprs_booktext.proofs.Standing.{no_rows}
 use Rattle.aprs_tool.specs.Examples.{cut_book, empty_book, unended_log}
 use Rattle.aprs_tool.specs.Inputs.{GivesSet, IsLogOf, is_book_file}
 use Rattle.aprs_tool.proofs.Faultless.{file_none}
-use Rattle.aprs_tool.proofs.Sets.{log_is, log_none, log_of}
+use Rattle.aprs_tool.proofs.Sets.{file_rows, log_is, log_none, log_of}
 use Rattle.aprs_tool.proofs.ShortLogs.{short_tail}
 
 -- ---- logs
@@ -76,7 +76,8 @@ empty_file = inl (
     version = Three 5;
     rows = [];
     gap_is = refl;
-    sound = no_rows (Three 5) few_seconds;
+    is_version = (no_rows (Three 5) few_seconds).version;
+    spelled = (no_rows (Three 5) few_seconds).each;
     text_is = empty_text;
     whole = refl;
     book = book_of_nothing (millis_of 5);
@@ -85,8 +86,8 @@ empty_file = inl (
 
 pub no_other_gap : (S : List Heard) → GivesSet 30 empty_book End S → ⊥
 no_other_gap S (inl p) =
-    let same = (one_text (Three 5) p.1.version [] p.1.rows (no_rows (Three 5) few_seconds) p.1.sound
-    (sym empty_text ∙ p.1.text_is)).0 in
+    let same = (one_text (Three 5) p.1.version [] p.1.rows (no_rows (Three 5) few_seconds)
+    (file_rows 30 S empty_book End p.1) (sym empty_text ∙ p.1.text_is)).0 in
     let gap : 5 ≡ 30 = ap gap_of same ∙ p.1.gap_is in
     absurd (omega (arith, gap))
 no_other_gap S (inr p) = absurd (let e : true ≡ false = p.0 in cc)

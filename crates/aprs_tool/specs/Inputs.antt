@@ -1,6 +1,6 @@
 -- Which sets of receptions an input stands for, by the text that was got of it and by what came
 -- after that.
-use Rattle.std.specs.Prelude.{◌≡◌, ◌==◌, ◌⊎◌, ℕ, Bool, true, false, List, codes}
+use Rattle.std.specs.Prelude.{◌≡◌, ◌==◌, ◌⊎◌, ℕ, Bool, true, false, List, codes, All}
 use Rattle.std.specs.List.{starts_with}
 use Rattle.aprs_io.specs.declared.input.Ending.{Ending}
 use Rattle.aprs_io.specs.declared.input.Ending.TheVariants.{End}
@@ -10,8 +10,8 @@ use Rattle.aprs_laws.specs.Book.{BookOf}
 use Rattle.aprs_laws.specs.Gap.{millis_of}
 use Rattle.aprs_laws.specs.Lists.{SameMembers}
 use Rattle.aprs_laws.specs.Row.{Row}
-use Rattle.aprs_booktext.specs.Text.{book_text, IsBookRows}
-use Rattle.aprs_booktext.specs.Version.{gap_of}
+use Rattle.aprs_booktext.specs.Text.{book_text, IsBookRow}
+use Rattle.aprs_booktext.specs.Version.{form_of, gap_of, IsVersion}
 use Rattle.aprs_booktext.specs.declared.version.Version.{Version}
 
 -- whether the text begins as that of a book; any other text is a log's
@@ -24,7 +24,8 @@ pub record IsBookFileOf (gap : ℕ) (S : List Heard) (text : List ℕ) (ending :
   pub version : Version
   pub rows : List Row
   pub gap_is : gap_of version ≡ gap
-  pub sound : IsBookRows version rows
+  pub is_version : IsVersion version
+  pub spelled : All (IsBookRow (form_of version)) rows
   pub text_is : text ≡ book_text version rows
   pub whole : ending ≡ End
   pub book : BookOf (millis_of gap) S rows
