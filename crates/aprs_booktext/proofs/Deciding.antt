@@ -377,7 +377,7 @@ module _ (v : Version) (rows : List Row) (line : List ℕ) (s : SpelledRow (form
         is = s.is;
         spelled = s.line_is;
         refused = λ u. absurd (let x : Err fault ≡ Ok s.row.greatest.frame = sym e
-        ∙ is-frame_of s.row.greatest.frame u in cc);
+            ∙ is-frame_of s.row.greatest.frame u in cc);
       }),
       refl,
     );
