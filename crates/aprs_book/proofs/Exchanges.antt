@@ -1,16 +1,15 @@
 -- What one more row adds to what rows exchange.
-use Rattle.std.proofs.Common.{◌≡◌, ◌∙◌, ℕ, List, [], ◌∷◌, ◌++◌, Option, Some, None, false, sym, ap, inl, inr}
+use Rattle.std.proofs.Common.{◌≡◌, ◌∙◌, List, [], ◌∷◌, ◌++◌, Option, Some, None, false, sym, ap, inl, inr}
 use Rattle.aprs_log.specs.Reception.{Heard}
 use Rattle.aprs_laws.specs.Key.{Key}
 use Rattle.aprs_laws.specs.Row.{Row, row_key}
-use Rattle.aprs_report.specs.Reader.{reading_of}
 use Rattle.aprs_book.specs.declared.lists.message_key.Asked.{Asked}
 use Rattle.aprs_book.specs.declared.lists.message_key.MessageKey.{MessageKey}
 use Rattle.aprs_book.specs.declared.lists.message_key.Span.{Span}
 use Rattle.aprs_book.specs.Reports.{report_of}
 use Rattle.aprs_book.specs.Messages.{Message, message_in, message_reported}
 use Rattle.aprs_book.specs.MessageRows.{Answer, AreReplies, AreSpans, IsReply, answer_reported, is_addressed}
-use Rattle.aprs_book.proofs.Addressed.{no_message_in, no_answer_in}
+use Rattle.aprs_book.proofs.Addressed.{no_answer_in}
 use Rattle.aprs_book.proofs.Collected.{adds_last}
 use Rattle.aprs_book.proofs.Messages.{spans_passed}
 use Rattle.aprs_book.proofs.Replies.{replies_passed}

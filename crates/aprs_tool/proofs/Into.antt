@@ -1,5 +1,5 @@
 -- Lemmas on an input that is read into a book.
-use Rattle.std.proofs.Common.{◌≡◌, ℕ, true, false, Bool, List, [], ◌∷◌, ◌++◌, length, Option, None, Some, Ok, Err, IfSome, inl, inr, refl, sym, subst, arith}
+use Rattle.std.proofs.Common.{◌≡◌, ℕ, true, false, Bool, List, [], ◌∷◌, ◌++◌, length, Option, None, Some, Ok, Err, IfSome, inr, refl, sym, subst, arith}
 use Rattle.aprs_laws.specs.Book.{BookOf}
 use Rattle.aprs_laws.specs.BookValue.{BookValue}
 use Rattle.aprs_laws.specs.Gap.{millis_of}

@@ -17,7 +17,7 @@ use Rattle.aprs_booktext.specs.declared.fault.BookCause.TheVariants as why
 use Rattle.aprs_booktext.specs.declared.version.Version.TheVariants.{Three}
 use Rattle.aprs_booktext.proofs.OneText.{one_text}
 use Rattle.aprs_booktext.proofs.Standing.{no_rows}
-use Rattle.aprs_tool.specs.Examples.{cut_book, empty_book, unended_log}
+use Rattle.aprs_tool.specs.Examples.{cut_book, text_of_no_row, unended_log}
 use Rattle.aprs_tool.specs.Inputs.{GivesSet, IsLogOf, is_book_file}
 use Rattle.aprs_tool.proofs.Faultless.{file_none}
 use Rattle.aprs_tool.proofs.Sets.{file_rows, log_is, log_none, log_of}
@@ -65,11 +65,11 @@ abbrev two_lines : List ℕ → List ℕ → List ℕ
 two_lines gap many =
     text_of_lines ((codes "APRSBOOK 3 " ++ gap) ∷ (codes "END " ++ many) ∷ [])
 
-empty_text : empty_book ≡ book_text (Three 5) []
+empty_text : text_of_no_row ≡ book_text (Three 5) []
 empty_text = sym (ap (λ gap. two_lines gap (decimal 0)) (decimal_digit 5 (omega arith))
     ∙ ap (two_lines (53 ∷ [])) (decimal_digit 0 (omega arith)))
 
-pub empty_file : GivesSet 5 empty_book End []
+pub empty_file : GivesSet 5 text_of_no_row End []
 empty_file = inl (
   refl,
   record {
@@ -84,15 +84,15 @@ empty_file = inl (
   },
 )
 
-pub no_other_gap : (S : List Heard) → GivesSet 30 empty_book End S → ⊥
+pub no_other_gap : (S : List Heard) → GivesSet 30 text_of_no_row End S → ⊥
 no_other_gap S (inl p) =
     let same = (one_text (Three 5) p.1.version [] p.1.rows (no_rows (Three 5) few_seconds)
-    (file_rows 30 S empty_book End p.1) (sym empty_text ∙ p.1.text_is)).0 in
+    (file_rows 30 S text_of_no_row End p.1) (sym empty_text ∙ p.1.text_is)).0 in
     let gap : 5 ≡ 30 = ap gap_of same ∙ p.1.gap_is in
     absurd (omega (arith, gap))
 no_other_gap S (inr p) = absurd (let e : true ≡ false = p.0 in cc)
 
-pub no_failed_file : (S : List Heard) → GivesSet 5 empty_book Read S → ⊥
+pub no_failed_file : (S : List Heard) → GivesSet 5 text_of_no_row Read S → ⊥
 no_failed_file S (inl p) = absurd (let e : Read ≡ End = p.1.whole in cc)
 no_failed_file S (inr p) = absurd (let e : true ≡ false = p.0 in cc)
 

@@ -6,8 +6,8 @@ abbrev pub unended_log : List ℕ
 unended_log = codes "2024"
 
 -- the text of a book of no row, whose gap is 5 seconds
-abbrev pub empty_book : List ℕ
-empty_book = codes "APRSBOOK 3 5" ++ 10 ∷ (codes "END 0" ++ 10 ∷ [])
+abbrev pub text_of_no_row : List ℕ
+text_of_no_row = codes "APRSBOOK 3 5" ++ 10 ∷ (codes "END 0" ++ 10 ∷ [])
 
 -- its first line alone
 abbrev pub cut_book : List ℕ

@@ -3,7 +3,7 @@
 ghost use Rattle.std.specs.Prelude.{[], ◌∷◌, List};
 ghost use Rattle.aprs_io.specs.declared.input.Ending.TheVariants.{End, Read};
 ghost use Rattle.aprs_log.specs.Reception.{Heard};
-ghost use Rattle.aprs_tool.specs.Examples.{cut_book, empty_book, unended_log};
+ghost use Rattle.aprs_tool.specs.Examples.{cut_book, text_of_no_row, unended_log};
 ghost use Rattle.aprs_tool.specs.Inputs.{GivesSet};
 
 /// A log of no line stands for the empty set alone. One whose read failed, or whose last line isn't
@@ -18,8 +18,8 @@ pub fn logs_stand_for_their_receptions()
 /// A book file of no row stands for the empty set, under its own gap. Without its last line it
 /// stands for none.
 pub fn book_files_stand_for_their_sets()
-    ensures empty { GivesSet 5 empty_book End [] }
-    ensures misses_other_gap { (S : List Heard) → GivesSet 30 empty_book End S → ⊥ }
-    ensures misses_failed_read { (S : List Heard) → GivesSet 5 empty_book Read S → ⊥ }
+    ensures empty { GivesSet 5 text_of_no_row End [] }
+    ensures misses_other_gap { (S : List Heard) → GivesSet 30 text_of_no_row End S → ⊥ }
+    ensures misses_failed_read { (S : List Heard) → GivesSet 5 text_of_no_row Read S → ⊥ }
     ensures misses_cut_short { (S : List Heard) → GivesSet 5 cut_book End S → ⊥ }
 {}

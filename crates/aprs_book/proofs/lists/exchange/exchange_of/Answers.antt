@@ -1,6 +1,4 @@
-use Rattle.std.proofs.Common.{◌∙◌, ap}
-use Rattle.aprs_log.specs.Reception.{Heard}
-use Rattle.aprs_laws.specs.Key.{key_of}
+use Rattle.std.proofs.Common.{◌∙◌}
 use Rattle.aprs_book.specs.Exchange.{IsExchangeOf}
 use Rattle.aprs_book.proofs.Collected.{walk_starts, walk_goes, walk_ends, last_added}
 use Rattle.aprs_book.proofs.lists.exchange.exchange_of.Goals as goal

@@ -1,8 +1,6 @@
-use Rattle.std.proofs.Common.{◌∙◌, ◌+◌, ap, refl, arith}
-use Rattle.aprs_log.specs.Reception.{Heard}
-use Rattle.aprs_laws.specs.Key.{key_of}
+use Rattle.std.proofs.Common.{◌∙◌, refl, arith}
 use Rattle.aprs_book.specs.Survey.{IsSurveyOf}
-use Rattle.aprs_book.proofs.Collected.{SoFar, walk_starts, walk_goes, walk_ends, last_added}
+use Rattle.aprs_book.proofs.Collected.{walk_starts, walk_goes, walk_ends, last_added}
 use Rattle.aprs_book.proofs.Stations.{room_for_one}
 use Rattle.aprs_book.proofs.lists.survey.survey_of.Goals as goal
 
