@@ -129,7 +129,8 @@ fn put_status<W: Write>(
     text: &[u8],
 ) -> Result<(), WriteFault>
     ensures { Puts W.contents result out.old out.new
-        (line_with_text (codes "status") (heard_fields heard.now ++ stamp_text stamp ∷ []) text.now) }
+        (line_with_text (codes "status") (heard_fields heard.now ++ stamp_text stamp ∷ [])
+        text.now) }
 {
     let fields = [
         Field::Moment(heard.moment),

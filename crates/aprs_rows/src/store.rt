@@ -129,7 +129,7 @@ impl<A: Allocator + Copy> RowStore<A> {
     }
 
     /// The rows by key and first moment. Takes memory for each row where rows of books came, and
-    /// none else.
+    /// none else. Gives the store up, at `Memory` too.
     pub fn in_order(self) -> Result<RowsInOrder<A>, Memory>
         ensures members { IfOk result (SameMembers self) }
         ensures ordered { IfOk result AreInOrder }
