@@ -1,12 +1,13 @@
 -- Lemmas on times of a day whose date is known.
-use Rattle.std.proofs.Common.{◌≡◌, ◌≢◌, ◌⊎◌, inl, inr, ℕ, Bool, true, false, not, ◌+◌, ◌-◌, ◌*◌, ◌/◌, ◌%◌, ◌<◌, List, [], ◌∷◌, ◌++◌, ◌==◌, cond, length, length-append, take, drop, slice_index, Option, None, Some, pos, unsigned_abs, refl, arith, sym, ap, ◌∙◌, subst, take-append-drop}
+use Rattle.std.proofs.Common.{◌≡◌, ◌≢◌, ◌⊎◌, inl, inr, ℕ, ◌+◌, ◌-◌, ◌*◌, ◌/◌, ◌%◌, ◌<◌, ◌≤◌, List, [], ◌∷◌, ◌++◌, ◌==◌, cond, length, length-append, take, drop, slice_index, Option, None, Some, pos, unsigned_abs, refl, arith, sym, ap, ◌∙◌, subst, take-append-drop}
 use Rattle.std.specs.Prelude.{IfSome, SomeIff}
 use Rattle.std.proofs.Math.Seq.{take-append_seam, drop-append-add}
+use borrow.Rule.Slice.PartMut.{put_mid}
 use Rattle.jiff_core.specs.Calendar.{days_from_civil}
 use Rattle.aprs_log.specs.declared.moment_form.MomentForm.{MomentForm}
 use Rattle.aprs_log.specs.declared.moment_form.MomentForm.TheVariants.{Seconds, Millis}
 use Rattle.aprs_log.specs.Clock.{FractionText, SecondText, clock_text, form_of_end, midnight_text}
-use Rattle.aprs_log.specs.Moment.{Civil, IsCivil, civil_text, day_after, form_of_text, four_digits, fraction_text, moment_in, moment_of, moment_text_in, room_of, second_of_day, seconds_of, two_digits}
+use Rattle.aprs_log.specs.Moment.{Civil, Day, IsCivil, civil_text, day_after, form_of_text, four_digits, fraction_text, moment_in, moment_of, moment_text, moment_text_in, room_of, second_of_day, seconds_of, two_digits}
 use Rattle.aprs_log.proofs.Moments.{moment_in-civil, moment_in-text, moment_text-is, room_most, text-moment_in}
 
 -- YYYY-MM-DDT
@@ -206,6 +207,56 @@ pub halves : (n : ℕ) (l prefix rest : List ℕ) → prefix ≡ take n l → re
 halves n l prefix rest e f =
     sym (take-append-drop n l) ∙ ap (λ x. x ++ drop n l) (sym e) ∙ ap (λ x. prefix ++ x) (sym f)
 
-pub not_false : (b : Bool) → not b ≡ false → b ≡ true
-not_false true e = refl
-not_false false e = absurd (let f : true ≡ false = e in cc)
+-- ---- the text of a moment of a day whose text is known
+
+split_time : (m k t : ℕ) → m / 86400000 ≡ k / 86400000 → t ≡ m % 86400000
+    → (m / 1000 / 86400 ≡ k / 1000 / 86400) × (m / 1000 % 86400 / 3600 ≡ t / 3600000)
+    × (m / 1000 % 86400 / 60 % 60 ≡ t / 60000 % 60) × (m / 1000 % 86400 % 60 ≡ t / 1000 % 60)
+    × (m % 1000 ≡ t % 1000)
+split_time m k t same is = (omega arith, omega arith, omega arith, omega arith, omega arith)
+
+-- a day at a time of it
+abbrev at_day : Day → ℕ → ℕ → ℕ → Civil
+at_day d hour minute second = record {
+  year = d.year;
+  month = d.month;
+  day = d.day;
+  hour = hour;
+  minute = minute;
+  second = second;
+}
+
+same_time : (a b : Day) (h m s n h' m' s' n' : ℕ) → a ≡ b → h ≡ h' → m ≡ m' → s ≡ s' → n ≡ n'
+    → civil_text Millis (at_day a h m s) n ≡ civil_text Millis (at_day b h' m' s') n'
+same_time a b h m s n h' m' s' n' day hour minute second milli = cc
+
+-- it differs in its time alone
+pub text_of_day : (m k t : ℕ) → m / 86400000 ≡ k / 86400000 → t ≡ m % 86400000
+    → moment_text m ≡ take 11 (moment_text k)
+    ++ time_text Millis (t / 3600000) (t / 60000 % 60) (t / 1000 % 60) (t % 1000)
+unfolding moment_text_in
+text_of_day m k t same is =
+    let e = split_time m k t same is in
+    same_time (day_after (m / 1000 / 86400)) (day_after (k / 1000 / 86400)) _ _ _ _ _ _ _ _
+    (ap day_after e.0) e.1 e.2 e.3 e.4
+
+-- a time of the day put over the last one
+pub time_put : (text time : List ℕ) (m k t : ℕ) → text ≡ moment_text k
+    → m / 86400000 ≡ k / 86400000 → t ≡ m % 86400000
+    → time ≡ time_text Millis (t / 3600000) (t / 60000 % 60) (t / 1000 % 60) (t % 1000)
+    → put_mid 11 13 text time ≡ moment_text m
+unfolding moment_text_in
+time_put text time m k t was same is put =
+    ap (λ l. put_mid 11 13 l time) was ∙ ap (λ l. put_mid 11 13 (moment_text k) l) put
+    ∙ sym (text_of_day m k t same is)
+
+-- the milliseconds since midnight, as they are reckoned where the moment may be before it
+pub since_midnight : (m midnight : ℕ) → m ≤ 4102444799999 → midnight ≤ 4102444799999
+    → (m + (18446744073709551616 - midnight)) % 18446744073709551616 < 86400000
+    → midnight + (m + (18446744073709551616 - midnight)) % 18446744073709551616 ≡ m
+since_midnight m midnight last early below = omega arith
+
+pub same_day : (m midnight time since : ℕ) → midnight % 86400000 ≡ 0 → time < 86400000
+    → since < 86400000 → midnight + since ≡ m
+    → (m / 86400000 ≡ (midnight + time) / 86400000) × (since ≡ m % 86400000)
+same_day m midnight time since starts within below sum = (omega arith, omega arith)

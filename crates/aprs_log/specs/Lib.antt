@@ -22,4 +22,3 @@ pub mod Sizes
 pub mod States
 pub mod Steps
 pub mod Window
-pub mod Written

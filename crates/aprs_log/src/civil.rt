@@ -220,14 +220,16 @@ fn near_pair(text: &[u8], i: usize) -> u8
     near_digit(text[i]) * 10 + near_digit(text[i + 1])
 }
 
-fn tens(n: u8) -> u8
+/// The tens digit of a number.
+pub fn tens(n: u8) -> u8
     requires { n < 100 }
     ensures { result ≡ 48 + n / 10 }
 {
     b'0' + n / 10
 }
 
-fn units(n: u8) -> u8
+/// The last digit of a number.
+pub fn units(n: u8) -> u8
     ensures { result ≡ 48 + n % 10 }
 {
     b'0' + n % 10
