@@ -7,16 +7,18 @@ use Rattle.jiff_core.specs.Calendar.{days_from_civil}
 use Rattle.aprs_log.specs.declared.moment_form.MomentForm.{MomentForm}
 use Rattle.aprs_log.specs.declared.moment_form.MomentForm.TheVariants.{Seconds, Millis}
 use Rattle.aprs_log.specs.Clock.{FractionText, SecondText, clock_text, form_of_end, midnight_text}
-use Rattle.aprs_log.specs.Moment.{Civil, Day, IsCivil, civil_text, day_after, form_of_text, four_digits, fraction_text, moment_in, moment_of, moment_text, moment_text_in, room_of, second_of_day, seconds_of, two_digits}
+use Rattle.aprs_log.specs.Moment.{date_text, day_after, four_digits, fraction_text, moment_text, moment_text_in, room_of, time_text, two_digits}
+use Rattle.aprs_log.specs.CivilMoment.{IsCivil}
+use Rattle.aprs_log.specs.MomentReading.{Civil, civil_text, form_of_text, moment_in, moment_of, second_of_day, seconds_of}
 use Rattle.aprs_log.proofs.Moments.{moment_in-civil, moment_in-text, moment_text-is, room_most, text-moment_in}
 
 -- YYYY-MM-DDT
-abbrev date_text : Civil → List ℕ
-date_text c = four_digits c.year ++ 45 ∷ two_digits c.month ++ 45 ∷ two_digits c.day ++ 84 ∷ []
+abbrev front_of : Civil → List ℕ
+front_of c = four_digits c.year ++ 45 ∷ two_digits c.month ++ 45 ∷ two_digits c.day ++ 84 ∷ []
 
 -- HH:MM:SS and what follows it
-abbrev time_text : MomentForm → ℕ → ℕ → ℕ → ℕ → List ℕ
-time_text form hour minute second n =
+abbrev end_of : MomentForm → ℕ → ℕ → ℕ → ℕ → List ℕ
+end_of form hour minute second n =
     clock_text hour minute second ++ fraction_text form n ++ 90 ∷ []
 
 -- the same day at another time
@@ -90,7 +92,7 @@ moment_of-inside t m e len space =
 -- another time of the day of a civil time
 moment_at : (form : MomentForm) (c : Civil) → IsCivil c → (hour minute second n : ℕ)
     → hour < 24 → minute < 60 → second < 60 → n < room_of form
-    → moment_in form (date_text c ++ time_text form hour minute second n)
+    → moment_in form (front_of c ++ end_of form hour minute second n)
     ≡ Some ((86400 * days_of c + (hour * 3600 + minute * 60 + second)) * 1000 + n)
 unfolding days_of
 moment_at form c real hour minute second n h m s below =
@@ -99,7 +101,7 @@ moment_at form c real hour minute second n h m s below =
 
 cut_text : (form : MomentForm) (date time : List ℕ) (c : Civil) (n : ℕ) → length date ≡ 11
     → date ++ time ≡ civil_text form c n
-    → (date ≡ date_text c) × (time ≡ time_text form c.hour c.minute c.second n)
+    → (date ≡ front_of c) × (time ≡ end_of form c.hour c.minute c.second n)
 cut_text form date time c n len e =
     let prefix : take 11 (date ++ time) ≡ date
     = ap (λ k. take k (date ++ time)) (sym len) ∙ take-append_seam date time in
@@ -109,7 +111,7 @@ cut_text form date time c n len e =
     (sym prefix ∙ ap (λ l. take 11 l) e, sym back ∙ ap (λ l. drop 11 l) e)
 
 -- at midnight no second of the day has gone by
-no_second : (c : Civil) (n : ℕ) → midnight_text ≡ time_text Seconds c.hour c.minute c.second n
+no_second : (c : Civil) (n : ℕ) → midnight_text ≡ end_of Seconds c.hour c.minute c.second n
     → second_of_day c ≡ 0
 no_second c n e =
     let h1 : 48 + c.hour / 10 ≡ 48 = sym (ap (λ l. slice_index l 0) e) in
@@ -134,8 +136,8 @@ moment_in-same_day form date time end midnight second n len e t f =
     ≡ midnight + second * 1000 + n
     = omega (arith, day.number, none, zero, t.number) in
     ap (λ l. moment_in form (l ++ (time ++ end))) parts.0
-    ∙ ap (λ l. moment_in form (date_text day.civil ++ (l ++ end))) t.spelled
-    ∙ ap (λ l. moment_in form (date_text day.civil
+    ∙ ap (λ l. moment_in form (front_of day.civil ++ (l ++ end))) t.spelled
+    ∙ ap (λ l. moment_in form (front_of day.civil
     ++ (clock_text t.hour t.minute t.second ++ l))) f.spelled
     ∙ moment_at form day.civil day.real t.hour t.minute t.second n t.is_hour t.is_minute t.is_second
     f.below
@@ -209,46 +211,15 @@ halves n l prefix rest e f =
 
 -- ---- the text of a moment of a day whose text is known
 
-split_time : (m k t : ℕ) → m / 86400000 ≡ k / 86400000 → t ≡ m % 86400000
-    → (m / 1000 / 86400 ≡ k / 1000 / 86400) × (m / 1000 % 86400 / 3600 ≡ t / 3600000)
-    × (m / 1000 % 86400 / 60 % 60 ≡ t / 60000 % 60) × (m / 1000 % 86400 % 60 ≡ t / 1000 % 60)
-    × (m % 1000 ≡ t % 1000)
-split_time m k t same is = (omega arith, omega arith, omega arith, omega arith, omega arith)
-
--- a day at a time of it
-abbrev at_day : Day → ℕ → ℕ → ℕ → Civil
-at_day d hour minute second = record {
-  year = d.year;
-  month = d.month;
-  day = d.day;
-  hour = hour;
-  minute = minute;
-  second = second;
-}
-
-same_time : (a b : Day) (h m s n h' m' s' n' : ℕ) → a ≡ b → h ≡ h' → m ≡ m' → s ≡ s' → n ≡ n'
-    → civil_text Millis (at_day a h m s) n ≡ civil_text Millis (at_day b h' m' s') n'
-same_time a b h m s n h' m' s' n' day hour minute second milli = cc
-
--- it differs in its time alone
-pub text_of_day : (m k t : ℕ) → m / 86400000 ≡ k / 86400000 → t ≡ m % 86400000
-    → moment_text m ≡ take 11 (moment_text k)
-    ++ time_text Millis (t / 3600000) (t / 60000 % 60) (t / 1000 % 60) (t % 1000)
-unfolding moment_text_in
-text_of_day m k t same is =
-    let e = split_time m k t same is in
-    same_time (day_after (m / 1000 / 86400)) (day_after (k / 1000 / 86400)) _ _ _ _ _ _ _ _
-    (ap day_after e.0) e.1 e.2 e.3 e.4
-
 -- a time of the day put over the last one
 pub time_put : (text time : List ℕ) (m k t : ℕ) → text ≡ moment_text k
-    → m / 86400000 ≡ k / 86400000 → t ≡ m % 86400000
-    → time ≡ time_text Millis (t / 3600000) (t / 60000 % 60) (t / 1000 % 60) (t % 1000)
+    → m / 86400000 ≡ k / 86400000 → t ≡ m % 86400000 → time ≡ time_text Millis t
     → put_mid 11 13 text time ≡ moment_text m
 unfolding moment_text_in
 time_put text time m k t was same is put =
     ap (λ l. put_mid 11 13 l time) was ∙ ap (λ l. put_mid 11 13 (moment_text k) l) put
-    ∙ sym (text_of_day m k t same is)
+    ∙ ap (λ d. date_text (day_after d) ++ 84 ∷ time_text Millis t) (sym same)
+    ∙ ap (λ n. date_text (day_after (m / 86400000)) ++ 84 ∷ time_text Millis n) is
 
 -- the milliseconds since midnight, as they are reckoned where the moment may be before it
 pub since_midnight : (m midnight : ℕ) → m ≤ 4102444799999 → midnight ≤ 4102444799999

@@ -1,5 +1,5 @@
 -- Times of a day whose date is known. No public clause cites this module.
-use Rattle.std.specs.Prelude.{◌≡◌, ℕ, ◌+◌, ◌*◌, ◌/◌, ◌%◌, ◌<◌, ◌==◌, if◌then◌else◌, List, [], ◌∷◌, ◌++◌, length}
+use Rattle.std.specs.Prelude.{◌≡◌, ℕ, ◌+◌, ◌*◌, ◌<◌, ◌==◌, if◌then◌else◌, List, [], ◌∷◌, ◌++◌, length}
 use Rattle.aprs_log.specs.declared.moment_form.MomentForm.{MomentForm}
 use Rattle.aprs_log.specs.declared.moment_form.MomentForm.TheVariants.{Seconds, Millis}
 use Rattle.aprs_log.specs.Moment.{two_digits, fraction_text, room_of}
@@ -13,12 +13,6 @@ form_size Millis = millis_size
 -- the text HH:MM:SS of a time of the day
 abbrev pub clock_text : ℕ → ℕ → ℕ → List ℕ
 clock_text hour minute second = two_digits hour ++ 58 ∷ two_digits minute ++ 58 ∷ two_digits second
-
--- the text of a time of the day in milliseconds: HH:MM:SSZ, or with .mmm before the Z
-abbrev pub time_text : MomentForm → ℕ → List ℕ
-time_text form n =
-    clock_text (n / 3600000) (n / 60000 % 60) (n / 1000 % 60) ++ fraction_text form (n % 1000)
-    ++ 90 ∷ []
 
 -- the end of the text of a day's first moment: 00:00:00Z
 abbrev pub midnight_text : List ℕ

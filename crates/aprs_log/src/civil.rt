@@ -1,6 +1,7 @@
 //! Dates of the civil calendar with a time of the day.
 ghost use Rattle.std.specs.Prelude.{◌≡◌, ◌≤◌, ◌<◌, ◌+◌, ◌*◌, ◌/◌, ◌%◌, ◌∷◌, ◌++◌, [], length, pos, SomeIff, IfSome};
-ghost use Rattle.aprs_log.specs.Moment.{Civil, civil_text, is_time, second_of_day, seconds_of, IsCivil};
+ghost use Rattle.aprs_log.specs.CivilMoment.{IsCivil};
+ghost use Rattle.aprs_log.specs.MomentReading.{Civil, civil_text, is_time, second_of_day, seconds_of};
 ghost use Rattle.aprs_log.specs.Sizes.{last_second, seconds_size};
 ghost use Rattle.aprs_log.specs.Places.{near_civil, near_digit, near_millis, near_pair};
 

@@ -5,7 +5,8 @@ ghost use Rattle.std.specs.Int.{w64, to_le_bytes};
 ghost use Rattle.aprs_log.specs.declared.moment_form.MomentForm.{MomentForm};
 ghost use Rattle.aprs_log.specs.Clock.{FractionText, form_of_end, SecondText, midnight_text};
 ghost use Rattle.aprs_log.specs.Sizes.{millis_size, seconds_size};
-ghost use Rattle.aprs_log.specs.Moment.{MomentTextIn, moment_in, moment_of, two_digits};
+ghost use Rattle.aprs_log.specs.Moment.{IsWritable, moment_text_in, two_digits};
+ghost use Rattle.aprs_log.specs.MomentReading.{moment_in, moment_of};
 
 use crate::MomentForm;
 use crate::moment::Moment;
@@ -40,8 +41,8 @@ impl Clock {
     /// The moment of a text in this form, as `Moment::parse_in`. Keeps its date, so that the next
     /// moment of that day is read sooner. Takes no memory.
     pub fn parse_in(&mut self, form: MomentForm, text: &[u8]) -> Option<Moment>
-        ensures value { result ≡ moment_in form text.now }
-        ensures exact { (m : ℕ) → (result ≡ Some m) ↔ MomentTextIn form m text.now }
+        ensures exact { (m : ℕ)
+            → (result ≡ Some m) ↔ (IsWritable form m × (text.now ≡ moment_text_in form m)) }
     {
         if text.len() != form.size() {
             return None;

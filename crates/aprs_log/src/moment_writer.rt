@@ -1,8 +1,7 @@
 //! Moments that follow one another, as they are written.
 ghost use Rattle.std.specs.Prelude.{◌≡◌, ◌<◌, ◌≤◌, ◌+◌, ◌%◌};
 ghost use Rattle.aprs_log.specs.declared.moment_form.MomentForm.{MomentForm};
-ghost use Rattle.aprs_log.specs.Clock.{time_text};
-ghost use Rattle.aprs_log.specs.Moment.{moment_text};
+ghost use Rattle.aprs_log.specs.Moment.{moment_text, time_text};
 ghost use Rattle.aprs_log.specs.Sizes.{last_milli};
 
 use crate::civil::{MILLIS_LEN, tens, units};
