@@ -144,12 +144,9 @@ pub line_of-written : (x : Heard) → IsReal x
     → decode_of (encode_lower (kiss_text x.frame)) ≡ Ok (kiss_text x.frame)
     → length (written_line x) ≤ MAX_LINE → line_of (written_line x) ≡ Ok (line.Heard x)
 line_of-written x h digits short =
-    line_of-syntax (written_line x) (record {
-      moment = x.moment;
-      receiver = x.receiver;
-      digits = encode_lower (kiss_text x.frame);
-      bytes = kiss_text x.frame;
+    line_of-syntax (written_line x) x.moment x.receiver (kiss_text x.frame) (record {
       short = short;
+      digits = encode_lower (kiss_text x.frame);
       fields = (
         h.receiver,
         (

@@ -20,15 +20,12 @@ HasMoment line m more = (text : List ℕ) × IsTextOf m text × (line ≡ text +
 abbrev pub HasReceiver : List ℕ → ℕ → List ℕ → List ℕ → Type 0
 HasReceiver line m name more = IsName name × HasMoment line m (name ++ 32 ∷ more)
 
--- The line has at most 8,192 bytes: a moment, a receiver's name, and bytes in hexadecimal, with a
--- space between.
-pub record IsLine (line : List ℕ) : Type 0 where
-  pub moment : ℕ
-  pub receiver : List ℕ
-  pub digits : List ℕ
-  pub bytes : List ℕ
+-- The line has at most 8,192 bytes: a text of the moment, a receiver's name, and these bytes in
+-- hexadecimal, with a space between.
+pub record IsLine (line : List ℕ) (m : ℕ) (name bytes : List ℕ) : Type 0 where
   pub short : length line ≤ most_line
-  pub fields : HasReceiver line moment receiver digits
+  pub digits : List ℕ
+  pub fields : HasReceiver line m name digits
   pub is_hex : decode_of digits ≡ Ok bytes
 
 -- The bytes are one data frame of KISS, and a UI frame is all that is in it: a type byte of command
@@ -45,12 +42,13 @@ pub record CarriesFrame (bytes frame : List ℕ) : Type 0 where
 
 -- The line reports this reception: its bytes carry the frame.
 abbrev pub Reports : List ℕ → Heard → Type 0
-Reports line x = (is : IsLine line)
-    × (x.moment ≡ is.moment) × (x.receiver ≡ is.receiver) × CarriesFrame is.bytes x.frame
+Reports line x =
+    (bytes : List ℕ) × IsLine line x.moment x.receiver bytes × CarriesFrame bytes x.frame
 
 -- The line is passed over: its bytes carry no frame.
 abbrev pub IsPassed : List ℕ → Type 0
-IsPassed line = (is : IsLine line) × ((frame : List ℕ) → ¬ CarriesFrame is.bytes frame)
+IsPassed line = (m : ℕ) × (name : List ℕ) × (bytes : List ℕ) × IsLine line m name bytes
+    × ((frame : List ℕ) → ¬ CarriesFrame bytes frame)
 
 -- ---- a line that is refused
 
