@@ -13,7 +13,7 @@ use Rattle.aprs_io.specs.declared.input.Ending.TheVariants as how
 use Rattle.aprs_log.specs.Fault.{log_cause_of}
 use Rattle.aprs_log.specs.Line.{line_of}
 use Rattle.aprs_log.specs.LineText.{IsWrongLine}
-use Rattle.aprs_log.specs.LogAnswers.{Answers, answers_from, ended, ending_cause, fault_at, log_answers, receptions_of, tail_cause, then_answers}
+use Rattle.aprs_log.specs.LogAnswers.{Answers, answers_from, ended, short_tail_cause, fault_at, log_answers, receptions_of, tail_cause, then_answers}
 use Rattle.aprs_log.specs.LogText.{BeginsWrong, HasLogFault, HasNoLf, IsLogText, IsWrongTail, ReportAll, text_of_lines}
 use Rattle.aprs_log.specs.Reception.{Heard}
 use Rattle.aprs_log.specs.declared.fault.LineFault.{LineFault}
@@ -135,10 +135,10 @@ answers_from-last n t e h =
 
 -- ---- the tail
 
-short_tail : (t : List ℕ) (e : Ending) → length t ≤ MAX_LINE → tail_cause t e ≡ ending_cause e t
+short_tail : (t : List ℕ) (e : Ending) → length t ≤ MAX_LINE → tail_cause t e ≡ short_tail_cause e t
 short_tail t e h = unless_long (nat_lt MAX_LINE (length t)) (grind (arith, nat_tests)) where
   unless_long : (b : Bool) → b ≡ false
-      → cond b (Some why.LongLine) (ending_cause e t) ≡ ending_cause e t
+      → cond b (Some why.LongLine) (short_tail_cause e t) ≡ short_tail_cause e t
   unless_long true h = absurd (let bad : true ≡ false = h in cc)
   unless_long false h = refl
 
@@ -148,14 +148,14 @@ some_same c d o e f = cc
 none_some : (c : LogCause) (o : Option LogCause) → o ≡ None → o ≡ Some c → ⊥
 none_some c o e f = absurd cc
 
-good_ending : (t : List ℕ) (e : Ending) → ending_cause e t ≡ None → (t ≡ []) × (e ≡ how.End)
+good_ending : (t : List ℕ) (e : Ending) → short_tail_cause e t ≡ None → (t ≡ []) × (e ≡ how.End)
 good_ending t how.Read h = absurd cc
 good_ending t how.TooLong h = absurd cc
 good_ending [] how.End h = (refl, refl)
 good_ending (b ∷ t) how.End h = absurd cc
 
 wrong_ending : (t : List ℕ) (e : Ending) (c : LogCause) → length t ≤ MAX_LINE
-    → ending_cause e t ≡ Some c → IsWrongTail t e c
+    → short_tail_cause e t ≡ Some c → IsWrongTail t e c
 wrong_ending t how.Read c short h =
     subst (IsWrongTail t how.Read) (some_same why.Read c _ refl h) (short, refl)
 wrong_ending t how.TooLong c short h =
@@ -179,7 +179,7 @@ wrong_tail t e c h = elim (cases_lt MAX_LINE (length t)) as (λ _. IsWrongTail t
   | inr short ↦ wrong_ending t e c short (sym (short_tail t e short) ∙ h)
 ]
 
-not_newline : (t : List ℕ) → t ≢ [] → ending_cause how.End t ≡ Some why.NoNewline
+not_newline : (t : List ℕ) → t ≢ [] → short_tail_cause how.End t ≡ Some why.NoNewline
 not_newline [] h = absurd (h refl)
 not_newline (b ∷ t) h = refl
 
@@ -187,12 +187,12 @@ cause_of_tail : (t : List ℕ) (e : Ending) (c : LogCause) → IsWrongTail t e c
     → tail_cause t e ≡ Some c
 cause_of_tail t e why.LongLine h = too_long_tail t e h
 cause_of_tail t e why.NoNewline h =
-    short_tail t e h.0 ∙ ap (λ e. ending_cause e t) h.1 ∙ not_newline t h.2
+    short_tail t e h.0 ∙ ap (λ e. short_tail_cause e t) h.1 ∙ not_newline t h.2
 cause_of_tail t e why.Moment h = absurd h
 cause_of_tail t e why.Receiver h = absurd h
 cause_of_tail t e why.Hex h = absurd h
-cause_of_tail t e why.Read h = short_tail t e h.0 ∙ ap (λ e. ending_cause e t) h.1
-cause_of_tail t e why.TooLong h = short_tail t e h.0 ∙ ap (λ e. ending_cause e t) h.1
+cause_of_tail t e why.Read h = short_tail t e h.0 ∙ ap (λ e. short_tail_cause e t) h.1
+cause_of_tail t e why.TooLong h = short_tail t e h.0 ∙ ap (λ e. short_tail_cause e t) h.1
 cause_of_tail t e why.Memory h = absurd h
 
 -- ---- what the answers tell of the text
