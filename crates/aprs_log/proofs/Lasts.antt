@@ -18,7 +18,7 @@ use Rattle.aprs_log.specs.LogAnswers.{tail_cause}
 use Rattle.aprs_log.specs.MomentReading.{moment_of}
 use Rattle.aprs_log.specs.Receiver.{is_name}
 use Rattle.std.specs.Prelude.{nat_le}
-use Rattle.aprs_log.specs.Steps.{◌>>=◌, ◌otherwise◌, guard}
+use Rattle.aprs_log.specs.Steps.{◌otherwise◌then◌, guard}
 use Rattle.aprs_log.specs.declared.fault.LineFault.{LineFault}
 use Rattle.aprs_log.specs.declared.fault.LineFault.TheVariants as fault
 use Rattle.aprs_log.specs.declared.fault.LogCause.{LogCause}
@@ -36,7 +36,7 @@ record WantsNone {X : Type 0} (r : Result X LineFault) : Type 0 where
 
 after_step : {X Y : Type 0} (o : Option X) (f : LineFault) (k : X → Result Y LineFault)
     → last_of_cause (log_cause_of f) ≡ Going → ((x : X) → WantsNone (k x))
-    → WantsNone ((o otherwise f) >>= k)
+    → WantsNone (o otherwise f then k)
 after_step None f k is next = record { is = is }
 after_step (Some x) f k is next = next x
 

@@ -14,7 +14,7 @@ use Rattle.aprs_log.specs.MomentReading.{Civil, civil_text, moment_of}
 use Rattle.aprs_log.specs.Receiver.{IsName, is_name, is_name_byte}
 use Rattle.aprs_log.specs.Line.{frame_in, heard_or_passed, line_of, line_of_digits}
 use Rattle.aprs_log.specs.LineText.{HasMoment, HasReceiver, IsLine}
-use Rattle.aprs_log.specs.Steps.{◌>>=◌, ◌otherwise◌, guard}
+use Rattle.aprs_log.specs.Steps.{◌otherwise◌then◌, guard}
 use Rattle.aprs_log.specs.declared.line.TheConstants.{MAX_LINE}
 use Rattle.aprs_log.specs.declared.fault.LineFault.{LineFault}
 use Rattle.aprs_log.specs.declared.fault.LineFault.TheVariants as fault
@@ -113,7 +113,7 @@ name_cut name more h = cut_at-append 32 name more (IsName-lacks name h)
 
 -- a reading that ends well found something at its first step
 found_if : {A B : Type 0} (o : Option A) (why : LineFault) (next : A → Result B LineFault)
-    → IsOk ((o otherwise why) >>= next) → (x : A) × (o ≡ Some x) × IsOk (next x)
+    → IsOk (o otherwise why then next) → (x : A) × (o ≡ Some x) × IsOk (next x)
 found_if None why next h = absurd cc
 found_if (Some x) why next h = (x, refl, h)
 
