@@ -5,7 +5,7 @@ use Rattle.std.specs.Io.KnownBytes.{Consumes}
 use Rattle.std.proofs.KnownBytes.{Consumes-nil, Consumes-trans}
 use Rattle.aprs_io.specs.Device.{Calls, Going}
 use Rattle.aprs_io.specs.declared.device.Counted.{Counted}
-use Rattle.aprs_io.specs.Input.{EndsHere, EndsSo, Gets, TakesOne, last_of}
+use Rattle.aprs_io.specs.Input.{EndsHere, EndsSo, Gets, TakesOne, last_of_ending}
 use Rattle.aprs_io.specs.declared.input.Ending.{Ending}
 use Rattle.aprs_io.specs.declared.input.Ending.TheVariants as ending
 use Rattle.aprs_laws.specs.BookValue.{BookValue}
@@ -175,7 +175,7 @@ module _ {R : Type 0} (remaining : R → Option (List ℕ)) (limit : ℕ) (head 
       → Got P head (remaining a.device) (remaining b.device) limit left → EndsIn way r
       → EndsHere way left (remaining b.device) (remaining c.device)
       → (way ≡ ending.TooLong → TakesOne (remaining b.device) (remaining c.device))
-      → Calls (last_of way) b c → ((t : List ℕ) → P t → ReadsSo r t way)
+      → Calls (last_of_ending way) b c → ((t : List ℕ) → P t → ReadsSo r t way)
       → IsAnswered remaining limit head r a c
   IsAnswered-end P c way r p is end over last reads = record {
     reads = Reads-got _ _ limit head p.got way r

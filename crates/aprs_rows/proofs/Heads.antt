@@ -9,7 +9,7 @@ use Rattle.std.proofs.lemmas.Bool.Decides.{nat_tests}
 use Rattle.std.proofs.lemmas.Bool.{and_parts}
 use Rattle.std.proofs.lemmas.Cmp.{tied_itself, nat_cmp_total}
 use Rattle.std.proofs.lemmas.List.{length-append, length-replicate, take_at, drop_at, take-take}
-use Rattle.aprs_ax25.specs.Address.{Address, IsAddress, padded, address_octets}
+use Rattle.aprs_ax25.specs.Address.{Address, IsAddress, letters_and_spaces, address_octets}
 use Rattle.aprs_ax25.specs.Callsign.{Call, IsCall, call_cmp, is_callsign_byte}
 use Rattle.aprs_ax25.specs.Frame.{Parts, FrameOf, address_field}
 use Rattle.aprs_ax25.specs.FrameFault.{call_of, parts_of}
@@ -72,12 +72,12 @@ spaced_cmp (x ∷ a) (y ∷ b) i j m n e h k =
     ∙ sym (ordering_then_assoc (nat_cmp x y) (bytes_cmp a b) (nat_cmp m n))
 
 abbrev digits : Call → List ℕ
-digits c = 0 ∷ padded c.letters ++ c.ssid ∷ []
+digits c = 0 ∷ letters_and_spaces c.letters ++ c.ssid ∷ []
 
 Bytes-digits : (c : Call) → IsCall c → Bytes (digits c)
 Bytes-digits c h zero = omega arith
 Bytes-digits c h (suc i) =
-    Bytes-append (padded c.letters) (c.ssid ∷ [])
+    Bytes-append (letters_and_spaces c.letters) (c.ssid ∷ [])
     (Bytes-append c.letters _ (Bytes-letters c.letters h.bytes) (Bytes-spaces _)) ssid i where
       ssid : Bytes (c.ssid ∷ [])
       ssid zero = omega (arith, h.ssid)
@@ -88,7 +88,7 @@ length-digits c h =
     omega (
       arith,
       h.most,
-      length-append (padded c.letters) (c.ssid ∷ []),
+      length-append (letters_and_spaces c.letters) (c.ssid ∷ []),
       length-append c.letters (replicate (6 - length c.letters) 32),
       length-replicate {A = ℕ} (6 - length c.letters) 32,
     )
@@ -140,25 +140,25 @@ half_double (x ∷ xs) =
 
 -- the letters of an address that stands first
 first_letters : (extension : ℕ) (a : Address) → IsAddress a → (more : List ℕ)
-    → half (take 6 (take 7 (address_octets extension a ++ more))) ≡ padded a.call.letters
+    → half (take 6 (take 7 (address_octets extension a ++ more))) ≡ letters_and_spaces a.call.letters
 first_letters extension a h more =
-    let letters = double (padded a.call.letters) in
+    let letters = double (letters_and_spaces a.call.letters) in
     let last = 32 * a.flags + 2 * a.call.ssid + extension in
     ap (λ t. half (take 6 (take 7 t))) (append_assoc letters (last ∷ []) more)
     ∙ ap half (take-take 6 7 (letters ++ last ∷ more) (omega arith)
     ∙ take_at letters (last ∷ more) 6
     (omega (arith, length-address_octets extension a h, length-append letters (last ∷ []))))
-    ∙ half_double (padded a.call.letters)
+    ∙ half_double (letters_and_spaces a.call.letters)
 
 field_letters : (a : Address) (others : List Address) → IsAddress a → (more : List ℕ)
-    → half (take 6 (take 7 (address_field (a ∷ others) ++ more))) ≡ padded a.call.letters
+    → half (take 6 (take 7 (address_field (a ∷ others) ++ more))) ≡ letters_and_spaces a.call.letters
 field_letters a [] h more = first_letters 1 a h more
 field_letters a (b ∷ others) h more =
     ap (λ t. half (take 6 (take 7 t)))
     (append_assoc (address_octets 0 a) (address_field (b ∷ others)) more)
     ∙ first_letters 0 a h _
 
-spelled_number : (octets : List ℕ) → half (take 6 octets) ≡ padded (call_of octets).letters
+spelled_number : (octets : List ℕ) → half (take 6 octets) ≡ letters_and_spaces (call_of octets).letters
     → octets_number octets ≡ call_number (call_of octets)
 spelled_number octets e =
     ap (λ t. from_be_bytes w64 (0 ∷ t ++ slice_index octets 6 / 2 % 16 ∷ [])) e

@@ -4,7 +4,7 @@ use Rattle.std.specs.Int.{w64, from_be_bytes}
 use Rattle.std.specs.Ordering.{nat_cmp, on, then_cmp}
 use Rattle.std.specs.declared.cmp.Ordering.{Ordering}
 use Rattle.aprs_ax25.specs.Callsign.{Call}
-use Rattle.aprs_ax25.specs.Address.{padded}
+use Rattle.aprs_ax25.specs.Address.{letters_and_spaces}
 use Rattle.aprs_ax25.specs.Frame.{FrameOf}
 use Rattle.aprs_ax25.specs.FrameFault.{parts_of}
 use Rattle.aprs_laws.specs.Key.{Key, key_of}
@@ -12,7 +12,7 @@ use Rattle.aprs_rows.specs.declared.head.Head.{Head}
 
 -- The number of a callsign, base 256: its letters, padded with spaces to six, and its SSID.
 abbrev pub call_number : Call → ℕ
-call_number call = from_be_bytes w64 (0 ∷ padded call.letters ++ call.ssid ∷ [])
+call_number call = from_be_bytes w64 (0 ∷ letters_and_spaces call.letters ++ call.ssid ∷ [])
 
 -- The same of the seven octets of an address: the letters are the first six, shifted right by one
 -- bit, and the SSID is bits 1 to 4 of the last.
