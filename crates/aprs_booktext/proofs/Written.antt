@@ -19,6 +19,7 @@ use Rattle.aprs_laws.specs.Sound.{Sound}
 use Rattle.aprs_laws.proofs.Lists.{in_right}
 use Rattle.aprs_booktext.specs.RowLines.{line_and_lf}
 use Rattle.aprs_booktext.specs.Text.{IsBookRow, IsBookRows, written_version}
+use Rattle.aprs_booktext.proofs.BookRows.{rows_are}
 
 -- one name more
 pub names_more : (names : List (List ℕ)) (i : ℕ) (name : List ℕ) → i < length names
@@ -96,4 +97,4 @@ module _ {W : Type 0} {contents : W → Option (List ℕ)} where
 -- sound rows, each of which a line can spell, are those of a book
 pub book_rows : (book : BookValue) → IsSoundBook book → All (IsBookRow Millis) book.rows
     → IsBookRows (written_version book) book.rows
-book_rows book h each = record { version = h.range; sound = h.sound; each = each }
+book_rows book h each = rows_are (written_version book) book.rows h.range h.sound each

@@ -10,8 +10,8 @@ ghost use Rattle.aprs_log.specs.Receiver.{IsName};
 ghost use Rattle.aprs_log.specs.declared.moment_form.MomentForm.TheVariants.{Millis};
 ghost use Rattle.aprs_io.specs.Device.{Sends};
 ghost use Rattle.aprs_io.specs.Outlet.{Puts};
-ghost use Rattle.aprs_booktext.specs.RowLines.{AreSpelled, line_and_lf};
-ghost use Rattle.aprs_booktext.specs.Text.{row_line, end_line, ended_by_lf, IsBookRow, IsBookRows, IsWritable, written_text, written_version};
+ghost use Rattle.aprs_booktext.specs.RowLines.{AreSpelled, line_and_lf, ended_by_lf};
+ghost use Rattle.aprs_booktext.specs.Text.{row_line, end_line, IsBookRow, IsBookRows, IsWritable, written_text, written_version};
 ghost use Rattle.aprs_booktext.specs.Version.{header_of};
 ghost use Rattle.aprs_booktext.specs.declared.version.Version.TheVariants.{Three};
 
