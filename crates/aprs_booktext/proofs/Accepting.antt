@@ -7,7 +7,7 @@ use Rattle.aprs_io.specs.Device.{Rose}
 use Rattle.aprs_io.specs.declared.device.Counted.{Counted}
 use Rattle.aprs_io.specs.Input.{most_input}
 use Rattle.aprs_io.specs.Input.{Gets}
-use Rattle.aprs_log.specs.Moment.{civil_after, civil_text, moment_text_in}
+use Rattle.aprs_log.specs.Moment.{IsWritable, date_text, day_after, moment_text_in, time_text}
 use Rattle.aprs_log.specs.Reception.{Heard}
 use Rattle.aprs_io.specs.declared.input.Ending.{Ending}
 use Rattle.aprs_io.specs.declared.input.Ending.TheVariants as ending
@@ -22,7 +22,7 @@ use Rattle.aprs_booktext.specs.FirstFault.{FirstFault}
 use Rattle.aprs_booktext.specs.Law.{IsWrittenBack}
 use Rattle.aprs_booktext.specs.Reading.{IsAnswered}
 use Rattle.aprs_booktext.specs.Seconds.{AreWrittenToTheSecond, IsTextInSeconds, ReadsSeconds}
-use Rattle.aprs_booktext.specs.Text.{row_line, lines_of, book_of, book_text, IsBookRow, IsBookRows, IsWritable, written_version}
+use Rattle.aprs_booktext.specs.Text.{row_line, lines_of, book_of, book_text, IsBookRow, IsBookRows, written_version}
 use Rattle.aprs_booktext.specs.RowLines.{ended_by_lf}
 use Rattle.aprs_log.specs.LogText.{text_of_lines}
 use Rattle.aprs_booktext.specs.BookAnswers.{AcceptsBook, IsBookOrMemory, ReadsBook}
@@ -164,10 +164,10 @@ module _ {R : Type 0} (remaining : R → Option (List ℕ)) (limit : ℕ) (head 
 pub written_to_the_second : AreWrittenToTheSecond
 unfolding moment_text_in
 written_to_the_second = λ s h.
-    let q : s * 1000 / 1000 ≡ s = omega arith in
-    let r : s * 1000 % 1000 ≡ 0 = omega arith in
-    ap (λ n. civil_text Seconds (civil_after n) (s * 1000 % 1000)) q
-    ∙ ap (λ n. civil_text Seconds (civil_after s) n) r
+    let q : s * 1000 / 86400000 ≡ s / 86400 = omega arith in
+    let r : s * 1000 % 86400000 ≡ s % 86400 * 1000 = omega arith in
+    ap (λ n. date_text (day_after n) ++ 84 ∷ time_text Seconds (s * 1000 % 86400000)) q
+    ∙ ap (λ n. date_text (day_after (s / 86400)) ++ 84 ∷ time_text Seconds n) r
 
 -- ---- what was read is written in version 3
 

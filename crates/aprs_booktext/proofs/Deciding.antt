@@ -13,7 +13,8 @@ use Rattle.hex.proofs.HexLemmas.{decode_of-ok}
 use Rattle.aprs_ax25.specs.FrameFault.{frame_of}
 use Rattle.aprs_ax25.proofs.UiFrames.{frame_of-is, is-frame_of}
 use Rattle.aprs_ax25.specs.declared.fault.FrameFault.{FrameFault}
-use Rattle.aprs_log.specs.Moment.{moment_in, moment_text_in}
+use Rattle.aprs_log.specs.Moment.{moment_text_in, IsWritable}
+use Rattle.aprs_log.specs.MomentReading.{moment_in}
 use Rattle.aprs_log.specs.Receiver.{IsName, is_name}
 use Rattle.aprs_log.specs.declared.moment_form.MomentForm.{MomentForm}
 use Rattle.aprs_log.proofs.Moments.{moment_in-text}
@@ -30,7 +31,7 @@ use Rattle.aprs_booktext.specs.Lines.{Lacks, pieces}
 use Rattle.aprs_io.specs.Cut.{is_byte}
 use Rattle.aprs_booktext.specs.Reader.{IsJudgedIn, StandsAfter, is_done, line_number, may_end}
 use Rattle.aprs_booktext.specs.RowFields.{SpellsBytes}
-use Rattle.aprs_booktext.specs.Text.{row_line, end_line, lines_of, book_text, most_frame_bytes, IsSpelled, IsBookRow, IsWritable}
+use Rattle.aprs_booktext.specs.Text.{row_line, end_line, lines_of, book_text, most_frame_bytes, IsSpelled, IsBookRow}
 use Rattle.aprs_booktext.specs.Version.{form_of, gap_of, header_of}
 use Rattle.aprs_booktext.specs.declared.fault.BookCause.{BookCause}
 use Rattle.aprs_booktext.specs.declared.fault.BookCause.TheVariants as cause

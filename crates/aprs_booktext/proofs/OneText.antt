@@ -9,7 +9,8 @@ use Rattle.std.proofs.lemmas.List.Concat.{flat_map-append}
 use Rattle.hex.specs.Hex.{encode_lower, decode_of}
 use Rattle.hex.proofs.HexLemmas.{decode_of-encode_lower}
 use Rattle.aprs_ax25.specs.UiFrame.{IsUiFrame}
-use Rattle.aprs_log.specs.Moment.{moment_in, moment_text_in}
+use Rattle.aprs_log.specs.Moment.{moment_text_in, IsWritable}
+use Rattle.aprs_log.specs.MomentReading.{moment_in}
 use Rattle.aprs_log.specs.declared.moment_form.MomentForm.{MomentForm}
 use Rattle.aprs_io.specs.declared.input.Ending.{Ending}
 use Rattle.aprs_io.specs.declared.input.Ending.TheVariants as ending
@@ -24,7 +25,7 @@ use Rattle.aprs_laws.specs.declared.row_cause.RowCause.{RowCause}
 use Rattle.aprs_rows.proofs.Refusals.{none_exactly}
 use Rattle.aprs_booktext.specs.FirstFault.{EndFault, FaultAfter, FirstFault, HasLine, HeaderFault, IsCut, IsRefused, IsWrong, LineFault}
 use Rattle.aprs_booktext.specs.Lines.{Lacks, pieces}
-use Rattle.aprs_booktext.specs.Text.{fields_of, row_line, end_line, book_text, IsSpelled, IsBookRow, IsBookRows, IsWritable, written_text, written_version}
+use Rattle.aprs_booktext.specs.Text.{fields_of, row_line, end_line, book_text, IsSpelled, IsBookRow, IsBookRows, written_text, written_version}
 use Rattle.aprs_booktext.specs.RowLines.{ended_by_lf}
 use Rattle.aprs_log.specs.LogText.{text_of_lines}
 use Rattle.aprs_booktext.specs.Fault.{ending_cause}

@@ -23,7 +23,7 @@ use Rattle.aprs_laws.specs.Order.{IsBelow, IsUpTo}
 use Rattle.aprs_laws.specs.Row.{Row, row_cmp}
 use Rattle.aprs_laws.specs.Sound.{IsSoundRow, Sound}
 use Rattle.aprs_laws.proofs.Orders.{bytes_total, up_to_itself}
-use Rattle.aprs_booktext.specs.Examples.{fault_in, one_too_many, two_disordered, unfinished}
+use Rattle.aprs_booktext.specs.Examples.{fault_in, miscounted_text, disordered_text, unfinished_text}
 use Rattle.aprs_booktext.specs.Text.{end_line, row_line, IsBookRow, IsBookRows, IsSpelled}
 use Rattle.aprs_booktext.specs.TextFault.{AreOfRows, HasBookFault, Meets}
 use Rattle.aprs_booktext.specs.declared.fault.BookCause.{BookCause}
@@ -56,7 +56,7 @@ other_end e =
     let digit : 49 ≡ 48 = ap (λ text. get_or text 4 0) same in
     omega (arith, digit)
 
-pub wrong_end : HasBookFault one_too_many End (fault_in 2 why.Ending)
+pub wrong_end : HasBookFault miscounted_text End (fault_in 2 why.Ending)
 wrong_end = record {
   lines = codes "APRSBOOK 2" ∷ [];
   line = codes "END 1";
@@ -67,13 +67,13 @@ wrong_end = record {
   wrong = inr (Two, [], no_row_yet, ([], refl), (refl, other_end));
 }
 
-pub no_syntax : HasBookFault one_too_many End (fault_in 2 why.RowSyntax) → ⊥
-no_syntax = no_other one_too_many 2 why.Ending why.RowSyntax (omega arith) wrong_end (λ e. cc)
+pub no_syntax : HasBookFault miscounted_text End (fault_in 2 why.RowSyntax) → ⊥
+no_syntax = no_other miscounted_text 2 why.Ending why.RowSyntax (omega arith) wrong_end (λ e. cc)
     (λ e. cc) (λ e. cc)
 
 -- ---- memory
 
-pub second_line : HasBookFault unfinished End (fault_in 2 why.Memory)
+pub second_line : HasBookFault unfinished_text End (fault_in 2 why.Memory)
 second_line = record {
   lines = codes "APRSBOOK 2" ∷ [];
   line = codes "EN";
@@ -105,13 +105,13 @@ as_many (l ∷ lines) rest =
     let k = one_more l (text_of_lines lines ++ rest) in
     omega (arith, h, k, ap lfs (line_first l lines rest))
 
-pub no_third_line : HasBookFault unfinished End (fault_in 3 why.Memory) → ⊥
+pub no_third_line : HasBookFault unfinished_text End (fault_in 3 why.Memory) → ⊥
 unfolding lfs
 no_third_line h =
     let many = as_many h.lines (h.line ++ h.more) in
-    let text : lfs unfinished ≡ lfs (text_of_lines h.lines ++ (h.line ++ h.more)) =
+    let text : lfs unfinished_text ≡ lfs (text_of_lines h.lines ++ (h.line ++ h.more)) =
     ap lfs h.text_is in
-    let one : lfs unfinished ≡ 1 = refl in
+    let one : lfs unfinished_text ≡ 1 = refl in
     let two : 3 ≡ length h.lines + 1 = h.number in
     omega (arith, many, text, one, two)
 
@@ -176,7 +176,7 @@ first_row = rows_are Two (row_in 3000 3000 ∷ []) standard_range
       frame = hi_is_frame;
     }) (All-nil (IsBookRow Millis)))
 
-lines_of_rows : two_disordered ≡ text_of_lines (codes "APRSBOOK 2"
+lines_of_rows : disordered_text ≡ text_of_lines (codes "APRSBOOK 2"
     ∷ row_line Millis (row_in 3000 3000) ∷ []) ++ (row_line Millis (row_in 2000 1000) ++ 10 ∷ [])
 unfolding moment_text_in day_after encode_with
 lines_of_rows = refl
@@ -185,7 +185,7 @@ no_order : IsBelow row_cmp (row_in 3000 3000) (row_in 2000 1000) → ⊥
 unfolding key_cmp key_of
 no_order below = cc
 
-pub out_of_order : HasBookFault two_disordered End (fault_in 3 why.Order)
+pub out_of_order : HasBookFault disordered_text End (fault_in 3 why.Order)
 out_of_order = record {
   lines = codes "APRSBOOK 2" ∷ row_line Millis (row_in 3000 3000) ∷ [];
   line = row_line Millis (row_in 2000 1000);
@@ -217,6 +217,6 @@ out_of_order = record {
   spelled : IsSpelled Millis (row_in 2000 1000)
   spelled = row_spelled 2000 1000 (omega arith) (omega arith)
 
-pub no_span : HasBookFault two_disordered End (fault_in 3 why.Span) → ⊥
-no_span = no_other two_disordered 3 why.Order why.Span (omega arith) out_of_order (λ e. cc)
+pub no_span : HasBookFault disordered_text End (fault_in 3 why.Span) → ⊥
+no_span = no_other disordered_text 3 why.Order why.Span (omega arith) out_of_order (λ e. cc)
     (λ e. cc) (λ e. cc)

@@ -1,10 +1,10 @@
 -- The one text of a book's rows in each version, and the text that a book is written as.
-use Rattle.std.specs.Prelude.{ℕ, ◌%◌, ◌<◌, ◌≤◌, List, [], ◌∷◌, ◌++◌, length, map, codes, decimal, All}
+use Rattle.std.specs.Prelude.{ℕ, ◌<◌, ◌≤◌, List, [], ◌∷◌, ◌++◌, length, map, codes, decimal, All}
 use Rattle.std.specs.List.{join_with_byte}
 use Rattle.hex.specs.Hex.{encode_lower, IsBytes}
 use Rattle.aprs_ax25.specs.UiFrame.{IsUiFrame}
 use Rattle.aprs_log.specs.LogText.{text_of_lines}
-use Rattle.aprs_log.specs.Moment.{moment_text_in, room_of}
+use Rattle.aprs_log.specs.Moment.{IsWritable, moment_text_in}
 use Rattle.aprs_log.specs.declared.moment_form.MomentForm.{MomentForm}
 use Rattle.aprs_log.specs.Receiver.{IsName}
 use Rattle.aprs_log.specs.Reception.{Heard}
@@ -60,12 +60,6 @@ written_text book = book_text (written_version book) book.rows
 -- the most bytes of a frame in a book
 abbrev pub most_frame_bytes : ℕ
 most_frame_bytes = 328
-
--- The moment is before the year 2100 and can be written in this form: to the second, one of a whole
--- second.
-pub record IsWritable (form : MomentForm) (m : ℕ) : Type 0 where
-  pub in_range : m ≤ 4102444799999
-  pub whole : m % 1000 < room_of form
 
 -- The fields of a line can spell the row: its moments, its receivers, at least one, and its
 -- greatest reception, whose frame has at least one byte and at most 328.

@@ -10,6 +10,7 @@ mod laws;
 mod read;
 mod reader;
 mod row_line;
+mod row_room;
 mod scratch;
 mod version;
 mod write;

@@ -15,7 +15,7 @@ use Rattle.aprs_log.specs.Awaits.{last_of_cause}
 use Rattle.aprs_log.specs.Fault.{log_cause_of}
 use Rattle.aprs_log.specs.Line.{line_of}
 use Rattle.aprs_log.specs.LogAnswers.{tail_cause}
-use Rattle.aprs_log.specs.Moment.{moment_of}
+use Rattle.aprs_log.specs.MomentReading.{moment_of}
 use Rattle.aprs_log.specs.Receiver.{is_name}
 use Rattle.std.specs.Prelude.{nat_le}
 use Rattle.aprs_log.specs.Steps.{◌>>=◌, ◌otherwise◌, guard}

@@ -8,10 +8,12 @@ use Rattle.hex.specs.Hex.{decode_of}
 use Rattle.aprs_io.specs.Cut.{Cut, cut_at, is_byte}
 use Rattle.aprs_log.specs.declared.moment_form.MomentForm.{MomentForm}
 use Rattle.aprs_log.specs.declared.moment_form.MomentForm.TheVariants.{Seconds, Millis}
-use Rattle.aprs_log.specs.Moment.{Civil, two_digits, fraction_text, civil_text, MomentText, moment_of}
+use Rattle.aprs_log.specs.Moment.{two_digits, fraction_text, IsTextOf}
+use Rattle.aprs_log.specs.CivilMoment.{MomentText}
+use Rattle.aprs_log.specs.MomentReading.{Civil, civil_text, moment_of}
 use Rattle.aprs_log.specs.Receiver.{IsName, is_name, is_name_byte}
 use Rattle.aprs_log.specs.Line.{frame_in, heard_or_passed, line_of, line_of_digits}
-use Rattle.aprs_log.specs.LineText.{HasMoment, HasReceiver, IsLine, IsTextOf}
+use Rattle.aprs_log.specs.LineText.{HasMoment, HasReceiver, IsLine}
 use Rattle.aprs_log.specs.Steps.{◌>>=◌, ◌otherwise◌, guard}
 use Rattle.aprs_log.specs.declared.line.TheConstants.{MAX_LINE}
 use Rattle.aprs_log.specs.declared.fault.LineFault.{LineFault}

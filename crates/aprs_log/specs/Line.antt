@@ -10,7 +10,8 @@ use Rattle.aprs_ax25.specs.FrameFault.{frame_of}
 use Rattle.aprs_ax25.specs.declared.fault.FrameFault.{FrameFault}
 use Rattle.aprs_io.specs.Cut.{cut_at}
 use Rattle.aprs_log.specs.Fault.{reason_of_pass, reason_of_frame}
-use Rattle.aprs_log.specs.Moment.{moment_of, moment_text}
+use Rattle.aprs_log.specs.Moment.{moment_text}
+use Rattle.aprs_log.specs.MomentReading.{moment_of}
 use Rattle.aprs_log.specs.Receiver.{is_name}
 use Rattle.aprs_log.specs.Reception.{Heard}
 use Rattle.aprs_log.specs.Steps.{◌>>=◌, ◌otherwise◌, guard}

@@ -3,23 +3,14 @@ use Rattle.std.specs.Prelude.{◌≡◌, ℕ, ◌%◌, ◌<◌, ◌≤◌, List,
 use Rattle.hex.specs.Hex.{decode_of}
 use Rattle.aprs_kiss.specs.Spelling.{spelling_of}
 use Rattle.aprs_ax25.specs.UiFrame.{IsUiFrame}
-use Rattle.aprs_log.specs.Moment.{moment_text_in, room_of}
+use Rattle.aprs_log.specs.Moment.{IsTextOf}
 use Rattle.aprs_log.specs.Receiver.{IsName}
 use Rattle.aprs_log.specs.Reception.{Heard}
-use Rattle.aprs_log.specs.Sizes.{last_milli, most_line}
+use Rattle.aprs_log.specs.Sizes.{most_line}
 use Rattle.aprs_log.specs.declared.fault.LogCause.{LogCause}
 use Rattle.aprs_log.specs.declared.fault.LogCause.TheVariants as why
-use Rattle.aprs_log.specs.declared.moment_form.MomentForm.{MomentForm}
 
 -- ---- a line that is in order
-
--- The text is that of the moment in a form: the moment is before the year 2100 and can be written
--- in this form, to the second only where it is of a whole second.
-pub record IsTextOf (m : ℕ) (text : List ℕ) : Type 0 where
-  pub form : MomentForm
-  pub in_range : m ≤ last_milli
-  pub whole : m % 1000 < room_of form
-  pub text_is : text ≡ moment_text_in form m
 
 -- The line is a text of the moment, a space, and these bytes.
 abbrev pub HasMoment : List ℕ → ℕ → List ℕ → Type 0

@@ -1,7 +1,7 @@
 //! Days of the civil calendar, by their number.
 ghost use Rattle.std.specs.Prelude.{◌≡◌, ◌≤◌, ◌<◌, pos, MatchOption};
 ghost use Rattle.jiff_core.specs.Calendar.{days_from_civil};
-ghost use Rattle.aprs_log.specs.Moment.{IsDay};
+ghost use Rattle.aprs_log.specs.CivilMoment.{IsDay};
 
 use jiff::civil::Date;
 
