@@ -8,7 +8,7 @@ use Rattle.aprs_io.specs.declared.input.Ending.TheVariants as how
 use Rattle.aprs_io.proofs.Sends.{Calls-then}
 use Rattle.aprs_laws.specs.BookValue.{BookValue}
 use Rattle.aprs_booktext.specs.Asking.{Asks, AsksAt, Takes, TakesAt, TakesAtMost}
-use Rattle.aprs_booktext.specs.FirstFault.{ending_cause}
+use Rattle.aprs_booktext.specs.Fault.{ending_cause}
 use Rattle.aprs_booktext.specs.Reader.{EndsIn, IsOfText}
 use Rattle.aprs_booktext.specs.declared.fault.BookCause.{BookCause}
 use Rattle.aprs_booktext.specs.declared.fault.BookCause.TheVariants as why

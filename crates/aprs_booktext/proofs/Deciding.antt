@@ -27,7 +27,8 @@ use Rattle.aprs_laws.specs.declared.row_cause.RowCause.{RowCause}
 use Rattle.aprs_laws.specs.declared.row_cause.RowCause.TheVariants as row
 use Rattle.aprs_booktext.specs.FirstFault.{FirstFault, is_end}
 use Rattle.aprs_booktext.specs.Law.{IsBookText}
-use Rattle.aprs_booktext.specs.Lines.{is_byte, Lacks, pieces}
+use Rattle.aprs_booktext.specs.Lines.{Lacks, pieces}
+use Rattle.aprs_io.specs.Cut.{is_byte}
 use Rattle.aprs_booktext.specs.Reader.{IsJudgedIn, StandsAfter, is_done, line_number, may_end}
 use Rattle.aprs_booktext.specs.RowFields.{SpellsBytes}
 use Rattle.aprs_booktext.specs.Text.{row_line, end_line, lines_of, book_text, most_frame_bytes, IsSpelled, IsBookRow}
@@ -45,6 +46,7 @@ use Rattle.aprs_booktext.proofs.RowReading.{IsNoRow}
 use Rattle.aprs_booktext.proofs.Spellings.{moment_found, moment_missed, moment_read, names_pieces, same_fields, six_pieces, spelled_by}
 use Rattle.aprs_booktext.proofs.Standing.{cut_fault, ended_fault, ended_stands, ended_whole, held_stands}
 use Rattle.aprs_booktext.proofs.Versions.{no_header}
+use Rattle.aprs_booktext.proofs.Versions.{standard_range}
 
 -- ---- one list, or another
 
@@ -275,7 +277,7 @@ judge_header rows line = elim (one_or_other line (header_of One)) [
   | inl same ↦ record {
     result = Ok (Rows One);
     new = rows;
-    judged = (tt, same, refl);
+    judged = (standard_range, same, refl);
     known =
         λ e. absurd cc;
   }
@@ -283,7 +285,7 @@ judge_header rows line = elim (one_or_other line (header_of One)) [
     | inl same ↦ record {
       result = Ok (Rows Two);
       new = rows;
-      judged = (tt, same, refl);
+      judged = (standard_range, same, refl);
       known =
           λ e. absurd cc;
     }
