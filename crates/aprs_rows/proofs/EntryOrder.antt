@@ -17,7 +17,7 @@ use Rattle.aprs_laws.specs.Row.{Row, row_cmp, row_key}
 use Rattle.aprs_laws.proofs.Orders.{bytes_total, ordering_then_assoc}
 use Rattle.aprs_rows.specs.Head.{head_cmp, HaveHeads}
 use Rattle.aprs_rows.specs.Rows.{AreRowsIn, bytes_of, entry_cmp, entry_row, info_of, IsRowIn, rows_in}
-use Rattle.aprs_rows.specs.declared.entry.Entry.{Entry}
+use Rattle.aprs_rows.specs.declared.store.entry.Entry.{Entry}
 use Rattle.aprs_rows.proofs.Heads.{head_and_info}
 use Rattle.aprs_rows.proofs.Orders.{ordered}
 use Rattle.aprs_rows.proofs.Rows.{each_lies, info_there}

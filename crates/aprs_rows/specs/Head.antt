@@ -8,7 +8,7 @@ use Rattle.aprs_ax25.specs.Address.{padded}
 use Rattle.aprs_ax25.specs.Frame.{FrameOf}
 use Rattle.aprs_ax25.specs.FrameFault.{parts_of}
 use Rattle.aprs_laws.specs.Key.{Key, key_of}
-use Rattle.aprs_rows.specs.declared.head.Head.{Head}
+use Rattle.aprs_rows.specs.declared.row.head.Head.{Head}
 
 -- The number of a callsign, base 256: its letters, padded with spaces to six, and its SSID.
 abbrev pub call_number : Call → ℕ

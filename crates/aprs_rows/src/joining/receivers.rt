@@ -10,7 +10,7 @@ ghost use Rattle.aprs_rows.specs.KeptNames.{names_in};
 ghost use Rattle.aprs_laws.proofs.Orders.{bytes_total, bytes_exact};
 ghost use Rattle.aprs_laws.proofs.Joins.{receivers_laws};
 
-use crate::kept_names::KeptNames;
+use crate::joining::kept_names::KeptNames;
 use crate::{Join, Memory};
 use aprs_log::Receiver;
 use std::alloc::{Allocator, Global};

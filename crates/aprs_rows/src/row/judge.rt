@@ -9,8 +9,8 @@ ghost use Rattle.aprs_rows.specs.Names.{names_in};
 ghost use Rattle.aprs_rows.specs.Refusal.{refusal, is_of_last, is_out_of_order, is_too_near, is_ascending, is_name};
 ghost use Rattle.aprs_rows.specs.Judging.{list_of};
 
-use crate::names::cut_name;
-use crate::row_view::RowView;
+use crate::row::names::cut_name;
+use crate::row::row_view::RowView;
 use aprs_laws::{Gap, RowCause};
 
 impl<'a> RowView<'a> {

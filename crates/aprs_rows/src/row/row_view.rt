@@ -13,9 +13,9 @@ ghost use Rattle.aprs_rows.specs.Names.{names_in, row_of_text};
 ghost use Rattle.aprs_rows.specs.Rows.{IsRowIn, entry_row, row_bytes};
 
 use crate::Memory;
-use crate::entry::Entry;
-use crate::head::{Head, key_order};
-use crate::names::cut_name;
+use crate::row::head::{Head, key_order};
+use crate::row::names::cut_name;
+use crate::store::entry::Entry;
 use aprs_ax25::Frame;
 use aprs_log::{Moment, Receiver, Reception};
 use std::alloc::Allocator;

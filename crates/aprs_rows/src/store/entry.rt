@@ -2,7 +2,7 @@
 ghost use Rattle.std.specs.Prelude.{◌≡◌, take, drop};
 ghost use Rattle.aprs_rows.specs.Rows.{bytes_of, entry_cmp, info_of};
 
-use crate::head::Head;
+use crate::row::head::Head;
 use aprs_log::Moment;
 use std::cmp::Ordering;
 

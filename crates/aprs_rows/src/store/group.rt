@@ -2,8 +2,8 @@
 ghost use Rattle.std.specs.Prelude.{◌≡◌};
 ghost use Rattle.aprs_rows.specs.Groups.{group_row, IsGroup};
 
-use crate::laid::Laid;
-use crate::row_view::RowView;
+use crate::row::row_view::RowView;
+use crate::store::laid::Laid;
 use aprs_log::Moment;
 
 /// Rows that are one: the first moment of all, how many bytes the text of their receivers has, and

@@ -7,8 +7,8 @@ ghost use Rattle.aprs_laws.specs.Sound.{IsSoundRow};
 ghost use Rattle.aprs_rows.specs.Names.{names_in};
 ghost use Rattle.aprs_rows.specs.Rows.{bytes_of, entry_row, IsRowIn, IsTold};
 
-use crate::entry::Entry;
-use crate::row_view::RowView;
+use crate::row::row_view::RowView;
+use crate::store::entry::Entry;
 use aprs_log::Moment;
 use std::cmp::Ordering;
 use std::marker::Model;

@@ -11,10 +11,10 @@ ghost use Rattle.aprs_laws.specs.JoinRow.{coalesced};
 ghost use Rattle.aprs_rows.specs.Rows.{AreRowsIn, rows_in};
 
 use crate::Memory;
-use crate::entry::Entry;
-use crate::laid::Laid;
-use crate::sweep::Sweep;
-use crate::transmissions::Transmissions;
+use crate::store::entry::Entry;
+use crate::store::laid::Laid;
+use crate::store::sweep::Sweep;
+use crate::store::transmissions::Transmissions;
 use aprs_laws::Gap;
 use std::alloc::{Allocator, Global};
 use std::marker::Model;

@@ -8,9 +8,9 @@ ghost use Rattle.aprs_laws.specs.Row.{Row};
 ghost use Rattle.aprs_laws.specs.Sound.{IsSoundRow};
 
 use crate::Memory;
-use crate::entry::Entry;
-use crate::order::RowsInOrder;
-use crate::row_view::RowView;
+use crate::row::row_view::RowView;
+use crate::store::entry::Entry;
+use crate::store::order::RowsInOrder;
 use aprs_log::Reception;
 use std::alloc::{Allocator, Global};
 use std::marker::Model;

@@ -11,10 +11,10 @@ ghost use Rattle.aprs_rows.specs.Groups.{rows_of_groups, AreGroups};
 ghost use Rattle.aprs_rows.specs.Sweep.{AreGathered, gathered, HasNames, open_row, open_text, Stands};
 
 use crate::Memory;
-use crate::group::Group;
-use crate::laid::Laid;
-use crate::names::{gather, put_united};
-use crate::transmissions::Transmissions;
+use crate::row::names::{gather, put_united};
+use crate::store::group::Group;
+use crate::store::laid::Laid;
+use crate::store::transmissions::Transmissions;
 use aprs_laws::Gap;
 use aprs_log::Moment;
 use std::alloc::Allocator;
@@ -78,7 +78,7 @@ pub(crate) struct Sweep<'a, A: Allocator> {
     gap: Gap,
     groups: Vec<Group<'a>, A>,
     texts: Vec<u8, A>,
-    open: Open<'a>,
+    latest: Open<'a>,
     names: Vec<&'a [u8], A>,
 }
 
@@ -93,7 +93,7 @@ impl<'a, A: Allocator + Copy> Sweep<'a, A> {
             gap,
             groups: Vec::new(alloc),
             texts: Vec::new(alloc),
-            open: Open::of(row),
+            latest: Open::of(row),
             names: Vec::new(alloc),
         }
     }
@@ -104,16 +104,16 @@ impl<'a, A: Allocator + Copy> Sweep<'a, A> {
             → OnOk result (Stands self.new (appended (millis_of self.old.gap) rows row.entry)) }
         ensures gap { OnOk result (self.new.gap ≡ self.old.gap) }
     {
-        if self.open.is_near(self.gap, &row) {
+        if self.latest.is_near(self.gap, &row) {
             return self.join(row);
         }
         close(
             &mut self.groups,
             &mut self.texts,
-            &self.open,
+            &self.latest,
             &mut self.names,
         )?;
-        self.open = Open::of(row);
+        self.latest = Open::of(row);
         Ok(())
     }
 
@@ -127,10 +127,10 @@ impl<'a, A: Allocator + Copy> Sweep<'a, A> {
             gap,
             mut groups,
             mut texts,
-            open,
+            latest,
             mut names,
         } = self;
-        close(&mut groups, &mut texts, &open, &mut names)?;
+        close(&mut groups, &mut texts, &latest, &mut names)?;
         Ok(Transmissions::of(gap, groups, texts))
     }
 
@@ -139,14 +139,14 @@ impl<'a, A: Allocator + Copy> Sweep<'a, A> {
         ensures groups { self.new.groups ≡ self.old.groups }
         ensures texts { self.new.texts ≡ self.old.texts }
         ensures gap { self.new.gap ≡ self.old.gap }
-        ensures joined { AreGathered self.old.open self.old.names.items
-            → OnOk result (AreGathered self.new.open self.new.names.items
-            × (open_row self.new.open self.new.names.items
-            ≡ combine (open_row self.old.open self.old.names.items) row.entry)) }
+        ensures joined { AreGathered self.old.latest self.old.names.items
+            → OnOk result (AreGathered self.new.latest self.new.names.items
+            × (open_row self.new.latest self.new.names.items
+            ≡ combine (open_row self.old.latest self.old.names.items) row.entry)) }
     {
-        gather_alone(&mut self.names, &self.open)?;
+        gather_alone(&mut self.names, &self.latest)?;
         gather(&mut self.names, row.receivers())?;
-        self.open.grow(row);
+        self.latest.grow(row);
         Ok(())
     }
 }
@@ -154,14 +154,14 @@ impl<'a, A: Allocator + Copy> Sweep<'a, A> {
 /// Gathers the names of an open row that is alone; those of more are gathered.
 fn gather_alone<'a, A: Allocator>(
     names: &mut Vec<&'a [u8], A>,
-    open: &Open<'a>,
+    latest: &Open<'a>,
 ) -> Result<(), Memory>
     ensures { OnOk result (gathered names.new.items
         ≡ gathered names.old.items
-        ++ (if open.now.is_alone then open.now.greatest.receivers else [])) }
+        ++ (if latest.now.is_alone then latest.now.greatest.receivers else [])) }
 {
-    if open.is_alone {
-        return gather(names, open.greatest.receivers());
+    if latest.is_alone {
+        return gather(names, latest.greatest.receivers());
     }
     Ok(())
 }
@@ -170,23 +170,23 @@ fn gather_alone<'a, A: Allocator>(
 fn close<'a, A: Allocator>(
     groups: &mut Vec<Group<'a>, A>,
     texts: &mut Vec<u8, A>,
-    open: &Open<'a>,
+    latest: &Open<'a>,
     names: &mut Vec<&'a [u8], A>,
 ) -> Result<(), Memory>
-    ensures closed { AreGathered open.now names.old.items
+    ensures closed { AreGathered latest.now names.old.items
         → AreGroups groups.old.items texts.old.items
         → OnOk result (AreGroups groups.new.items texts.new.items
         × (rows_of_groups groups.new.items texts.new.items
         ≡ rows_of_groups groups.old.items texts.old.items
-        ++ open_row open.now names.old.items ∷ [])) }
+        ++ open_row latest.now names.old.items ∷ [])) }
     ensures names { OnOk result (names.new.items ≡ []) }
 {
     let before = texts.len();
-    put_names(texts, open, names)?;
+    put_names(texts, latest, names)?;
     let group = Group {
-        first: open.first,
+        first: latest.first,
         receivers: texts.len() - before,
-        greatest: open.greatest.copy(),
+        greatest: latest.greatest.copy(),
     };
     if groups.push(group).is_err() {
         return Err(Memory);
@@ -198,13 +198,13 @@ fn close<'a, A: Allocator>(
 /// Puts the text of the names of open rows after the texts of others, if they are more than one.
 fn put_names<A: Allocator>(
     texts: &mut Vec<u8, A>,
-    open: &Open<'_>,
+    latest: &Open<'_>,
     names: &mut Vec<&[u8], A>,
 ) -> Result<(), Memory>
     ensures { OnOk result
-        (texts.new.items ≡ texts.old.items ++ open_text open.now names.old.items) }
+        (texts.new.items ≡ texts.old.items ++ open_text latest.now names.old.items) }
 {
-    if open.is_alone {
+    if latest.is_alone {
         return Ok(());
     }
     put_united(texts, names)

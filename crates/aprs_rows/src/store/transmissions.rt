@@ -4,8 +4,8 @@ ghost use Rattle.std.specs.Iterator.{YieldsFirst, item_count};
 ghost use Rattle.aprs_laws.specs.BookValue.{IsSoundBook};
 ghost use Rattle.aprs_rows.specs.Groups.{rows_of_groups, AreGroups};
 
-use crate::group::Group;
-use crate::row_view::RowView;
+use crate::row::row_view::RowView;
+use crate::store::group::Group;
 use aprs_laws::Gap;
 use std::alloc::{Allocator, Global};
 use std::marker::Model;

@@ -4,7 +4,7 @@ use Rattle.aprs_laws.specs.Lists.{◌∈◌}
 use Rattle.aprs_laws.specs.Joining.{AreAllAlike}
 use Rattle.aprs_laws.proofs.Lists.{in_either}
 use Rattle.aprs_laws.proofs.Places.{in_place}
-use Rattle.aprs_rows.proofs.join.all_fit.Goals as goal
+use Rattle.aprs_rows.proofs.joining.join.all_fit.Goals as goal
 
 pub loop-other-preserved : goal.loop-other-preserved
 loop-other-preserved g c =

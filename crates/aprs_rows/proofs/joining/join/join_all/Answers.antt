@@ -5,7 +5,7 @@ use Rattle.aprs_laws.specs.Joining.{FoldsTo}
 use Rattle.aprs_laws.proofs.Lists.{in_either}
 use Rattle.aprs_laws.proofs.Places.{in_place}
 use Rattle.aprs_laws.proofs.Folds.{fold_same, fold_more}
-use Rattle.aprs_rows.proofs.join.join_all.Goals as goal
+use Rattle.aprs_rows.proofs.joining.join.join_all.Goals as goal
 
 pub loop-item-preserved : goal.loop-item-preserved
 loop-item-preserved g c =

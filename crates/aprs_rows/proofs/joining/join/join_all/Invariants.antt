@@ -1,7 +1,7 @@
 use Rattle.std.proofs.Common.{take}
 use Rattle.aprs_laws.specs.Lists.{◌∈◌}
 use Rattle.aprs_laws.specs.Joining.{FoldsTo}
-use Rattle.aprs_rows.proofs.join.join_all.Given as goal
+use Rattle.aprs_rows.proofs.joining.join.join_all.Given as goal
 
 abbrev pub invariant-loop-item : goal.invariant-loop-item
 invariant-loop-item g l =

@@ -1,8 +1,8 @@
 use Rattle.std.proofs.Common.{◌≤◌, ◌⊎◌, length, arith, inl, inr}
 use Rattle.std.proofs.lemmas.Grind.{common_steps}
 use Rattle.aprs_rows.proofs.ReceiverNames.{merged_ended}
-use Rattle.aprs_rows.proofs.receivers.merge_onto.Goals as goal
-use Rattle.aprs_rows.proofs.receivers.merge_onto.Goals.{then-loop-i-test+else-j-theirs, else-loop-i-test}
+use Rattle.aprs_rows.proofs.joining.receivers.merge_onto.Goals as goal
+use Rattle.aprs_rows.proofs.joining.receivers.merge_onto.Goals.{then-loop-i-test+else-j-theirs, else-loop-i-test}
 
 pub returns : goal.returns
 returns g c =

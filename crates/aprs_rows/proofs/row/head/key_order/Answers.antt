@@ -1,7 +1,7 @@
 use Rattle.std.proofs.Common.{◌∙◌, sym}
 use Rattle.aprs_log.specs.Reception.{bytes_cmp}
 use Rattle.aprs_rows.proofs.Heads.{heads_decide, infos_decide}
-use Rattle.aprs_rows.proofs.head.key_order.Goals as goal
+use Rattle.aprs_rows.proofs.row.head.key_order.Goals as goal
 
 pub returns-in-Equal : goal.returns-in-Equal
 returns-in-Equal c f g h p q =

@@ -1,7 +1,7 @@
 use Rattle.std.proofs.Common.{◌∙◌, sym, ap}
 use Rattle.std.specs.Ordering.{is_eq, is_lt}
 use Rattle.aprs_rows.proofs.Judgements.{first_seen, next_seen, has_it, is_it}
-use Rattle.aprs_rows.proofs.judge.find_name.Goals as goal
+use Rattle.aprs_rows.proofs.row.judge.find_name.Goals as goal
 
 pub loop-next-init : goal.loop-next-init
 loop-next-init c =

@@ -2,7 +2,7 @@ use Rattle.std.proofs.Common.{◌≡◌, ◌||◌, ◌∷◌, None, length}
 use Rattle.std.specs.List.{last_or, list_any}
 use Rattle.aprs_rows.specs.Names.{names_in}
 use Rattle.aprs_rows.specs.Refusal.{is_ascending, is_name}
-use Rattle.aprs_rows.proofs.judge.find_name.Given as goal
+use Rattle.aprs_rows.proofs.row.judge.find_name.Given as goal
 
 abbrev pub invariant-loop-next : goal.invariant-loop-next
 invariant-loop-next l = record {

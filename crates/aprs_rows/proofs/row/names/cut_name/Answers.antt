@@ -2,7 +2,7 @@ use Rattle.std.proofs.Common.{◌∙◌, ◌∷◌, ◌+◌, ap, sym, arith, tak
 use Rattle.std.proofs.lemmas.List.{take_rest}
 use Rattle.aprs_rows.specs.Names.{names_in}
 use Rattle.aprs_rows.proofs.NameTexts.{first_name, only_name}
-use Rattle.aprs_rows.proofs.names.cut_name.Goals as goal
+use Rattle.aprs_rows.proofs.row.names.cut_name.Goals as goal
 
 pub returns-in-Some-clause-some : goal.returns-in-Some-clause-some
 returns-in-Some-clause-some c =

@@ -1,6 +1,6 @@
 use Rattle.std.proofs.Common.{◌≡◌, ◌++◌, length, map}
 use Rattle.aprs_rows.specs.Names.{names_in}
-use Rattle.aprs_rows.proofs.names.gather.Given as goal
+use Rattle.aprs_rows.proofs.row.names.gather.Given as goal
 
 abbrev pub invariant-loop-name : goal.invariant-loop-name
 invariant-loop-name g l =

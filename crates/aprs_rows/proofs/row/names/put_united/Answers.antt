@@ -2,7 +2,7 @@ use Rattle.std.proofs.Common.{◌∙◌, ◌++◌, map, ap}
 use Rattle.aprs_rows.specs.Sorted.{text_of_sorted}
 use Rattle.aprs_rows.proofs.Rows.{on_ok}
 use Rattle.aprs_rows.proofs.SortedTexts.{text_of_sort}
-use Rattle.aprs_rows.proofs.names.put_united.Goals as goal
+use Rattle.aprs_rows.proofs.row.names.put_united.Goals as goal
 
 pub returns : goal.returns
 returns g c =

@@ -1,6 +1,6 @@
 use Rattle.std.proofs.Common.{◌∙◌, drop, ap}
 use Rattle.std.proofs.lemmas.List.{drop_min}
-use Rattle.aprs_rows.proofs.entry.after.Goals as goal
+use Rattle.aprs_rows.proofs.store.entry.after.Goals as goal
 
 pub returns : goal.returns
 returns c =

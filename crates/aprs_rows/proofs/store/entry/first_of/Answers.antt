@@ -1,6 +1,6 @@
 use Rattle.std.proofs.Common.{◌∙◌, take, ap}
 use Rattle.std.proofs.lemmas.List.{take_min}
-use Rattle.aprs_rows.proofs.entry.first_of.Goals as goal
+use Rattle.aprs_rows.proofs.store.entry.first_of.Goals as goal
 
 pub returns : goal.returns
 returns c =

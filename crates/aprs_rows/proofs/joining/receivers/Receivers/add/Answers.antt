@@ -6,7 +6,7 @@ use Rattle.aprs_laws.specs.Lists.{◌∈◌}
 use Rattle.aprs_laws.specs.JoinRow.{add}
 use Rattle.aprs_laws.specs.Joining.{IsUnited}
 use Rattle.aprs_rows.specs.KeptNames.{names_in}
-use Rattle.aprs_rows.proofs.receivers.Receivers.add.Goals as goal
+use Rattle.aprs_rows.proofs.joining.receivers.Receivers.add.Goals as goal
 
 pub invariant_of-self : goal.invariant_of-self
 invariant_of-self g c =

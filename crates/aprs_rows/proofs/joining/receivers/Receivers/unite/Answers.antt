@@ -8,7 +8,7 @@ use Rattle.aprs_laws.specs.Joining.{IsUnited}
 use Rattle.aprs_laws.proofs.Orders.{bytes_total, bytes_exact}
 use Rattle.aprs_laws.proofs.Merges.{merged_ordered, merged_is_united, merged_is_union}
 use Rattle.aprs_rows.specs.KeptNames.{names_in}
-use Rattle.aprs_rows.proofs.receivers.Receivers.unite.Goals as goal
+use Rattle.aprs_rows.proofs.joining.receivers.Receivers.unite.Goals as goal
 
 pub invariant_of-result : goal.invariant_of-result
 invariant_of-result g c =

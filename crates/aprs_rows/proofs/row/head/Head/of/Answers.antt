@@ -1,6 +1,6 @@
 use Rattle.std.proofs.Common.{refl, arith}
 use Rattle.aprs_rows.proofs.Heads.{two_addresses, head_made}
-use Rattle.aprs_rows.proofs.head.Head.of.Goals as goal
+use Rattle.aprs_rows.proofs.row.head.Head.of.Goals as goal
 
 pub slice_bounds-call_number-end : goal.slice_bounds-call_number-end
 slice_bounds-call_number-end c =

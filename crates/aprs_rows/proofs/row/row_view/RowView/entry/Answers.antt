@@ -4,9 +4,9 @@ use Rattle.std.proofs.lemmas.List.Splits.{join_with_byte-slice_split}
 use Rattle.aprs_ax25.proofs.Sounds.{IsSound-len}
 use Rattle.aprs_ax25.proofs.Spellings.{FrameOf-IsSound}
 use Rattle.aprs_laws.specs.Row.{Row}
-use Rattle.aprs_rows.specs.declared.entry.Entry.{Entry}
+use Rattle.aprs_rows.specs.declared.store.entry.Entry.{Entry}
 use Rattle.aprs_rows.proofs.Rows.{Says, says}
-use Rattle.aprs_rows.proofs.row_view.RowView.entry.Goals as goal
+use Rattle.aprs_rows.proofs.row.row_view.RowView.entry.Goals as goal
 
 pub overflow_cast-result : goal.overflow_cast-result
 overflow_cast-result c =

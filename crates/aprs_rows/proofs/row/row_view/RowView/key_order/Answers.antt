@@ -1,4 +1,4 @@
-use Rattle.aprs_rows.proofs.row_view.RowView.key_order.Goals as goal
+use Rattle.aprs_rows.proofs.row.row_view.RowView.key_order.Goals as goal
 
 pub returns : goal.returns
 returns c =

@@ -2,7 +2,7 @@ use Rattle.std.proofs.Common.{◌≡◌, ◌∙◌, ◌-◌, sym, ap, subst, dro
 use Rattle.aprs_ax25.specs.Frame.{FrameOf}
 use Rattle.aprs_ax25.specs.FrameFault.{parts_of}
 use Rattle.aprs_rows.proofs.Infos.{info_at, info_place}
-use Rattle.aprs_rows.proofs.row_view.RowView.new.Goals as goal
+use Rattle.aprs_rows.proofs.row.row_view.RowView.new.Goals as goal
 
 pub overflow_cast-result : goal.overflow_cast-result
 overflow_cast-result c =

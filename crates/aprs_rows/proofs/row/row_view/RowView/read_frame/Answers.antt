@@ -3,7 +3,7 @@ use Rattle.std.specs.Result.{IsOk}
 use Rattle.aprs_ax25.specs.Frame.{FrameOf}
 use Rattle.aprs_ax25.specs.FrameFault.{parts_of}
 use Rattle.aprs_rows.proofs.Infos.{frame_is}
-use Rattle.aprs_rows.proofs.row_view.RowView.read_frame.Goals as goal
+use Rattle.aprs_rows.proofs.row.row_view.RowView.read_frame.Goals as goal
 
 pub unreachable-requires : goal.unreachable-requires
 unreachable-requires c =

@@ -3,7 +3,7 @@ use Rattle.std.specs.Prelude.{All}
 use Rattle.std.proofs.lemmas.List.Elements.{All-tail}
 use Rattle.aprs_log.specs.Receiver.{IsName}
 use Rattle.aprs_rows.specs.Names.{names_in}
-use Rattle.aprs_rows.proofs.row_view.RowView.receiver_names.Goals as goal
+use Rattle.aprs_rows.proofs.row.row_view.RowView.receiver_names.Goals as goal
 
 pub loop-name-preserved : goal.loop-name-preserved
 loop-name-preserved g c =

@@ -2,7 +2,7 @@ use Rattle.std.proofs.Common.{◌≡◌, ◌++◌, length}
 use Rattle.std.specs.Prelude.{All}
 use Rattle.aprs_log.specs.Receiver.{IsName}
 use Rattle.aprs_rows.specs.Names.{names_in}
-use Rattle.aprs_rows.proofs.row_view.RowView.receiver_names.Given as goal
+use Rattle.aprs_rows.proofs.row.row_view.RowView.receiver_names.Given as goal
 
 abbrev pub invariant-loop-name : goal.invariant-loop-name
 invariant-loop-name g l = record {

@@ -2,7 +2,7 @@ use Rattle.std.proofs.Common.{◌∙◌, sym, ap}
 use Rattle.std.specs.List.{join_with_byte}
 use Rattle.std.proofs.lemmas.List.Splits.{join_with_byte-slice_split}
 use Rattle.aprs_laws.specs.Row.{Row}
-use Rattle.aprs_rows.proofs.row_view.RowView.receivers.Goals as goal
+use Rattle.aprs_rows.proofs.row.row_view.RowView.receivers.Goals as goal
 
 pub returns-clause-text : goal.returns-clause-text
 returns-clause-text c =

@@ -7,7 +7,7 @@ use Rattle.aprs_laws.specs.declared.row_cause.RowCause.{RowCause}
 use Rattle.aprs_rows.specs.Judging.{list_of}
 use Rattle.aprs_rows.specs.Refusal.{refusal}
 use Rattle.aprs_rows.proofs.Judgements.{same_refusal, free_is_sound}
-use Rattle.aprs_rows.proofs.row_view.RowView.refusal_after.Goals as goal
+use Rattle.aprs_rows.proofs.row.row_view.RowView.refusal_after.Goals as goal
 
 pub returns-clause-cause : goal.returns-clause-cause
 returns-clause-cause c rows e =

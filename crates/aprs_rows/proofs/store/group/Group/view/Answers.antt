@@ -2,7 +2,7 @@ use Rattle.std.proofs.Common.{subst, arith}
 use Rattle.std.specs.Prelude.{All}
 use Rattle.aprs_log.specs.Receiver.{IsName}
 use Rattle.aprs_rows.proofs.Sweeps.{names_of_text}
-use Rattle.aprs_rows.proofs.group.Group.view.Goals as goal
+use Rattle.aprs_rows.proofs.store.group.Group.view.Goals as goal
 
 pub with-requires-2 : goal.with-requires-2
 with-requires-2 c =

@@ -3,7 +3,7 @@ use Rattle.aprs_laws.specs.Lists.{SameMembers}
 use Rattle.aprs_rows.specs.Rows.{AreSoundRows}
 use Rattle.aprs_rows.proofs.Orders.{same_members}
 use Rattle.aprs_rows.proofs.Rows.{if_ok, sound_rows}
-use Rattle.aprs_rows.proofs.store.RowStore.in_order.Goals as goal
+use Rattle.aprs_rows.proofs.store.row_store.RowStore.in_order.Goals as goal
 
 pub returns-clause-members : goal.returns-clause-members
 returns-clause-members g c =

@@ -1,5 +1,5 @@
 use Rattle.aprs_rows.proofs.Rows.{none_exactly}
-use Rattle.aprs_rows.proofs.store.RowStore.is_empty.Goals as goal
+use Rattle.aprs_rows.proofs.store.row_store.RowStore.is_empty.Goals as goal
 
 pub returns : goal.returns
 returns g c =

@@ -2,7 +2,7 @@ use Rattle.std.proofs.Common.{◌∙◌, ◌-◌, sym, ap, subst, length, None, 
 use Rattle.std.specs.List.{last_or, slice_get}
 use Rattle.aprs_rows.specs.Rows.{IsRowIn, bytes_of, entry_row}
 use Rattle.aprs_rows.proofs.Rows.{last_entry}
-use Rattle.aprs_rows.proofs.store.RowStore.last.Goals as goal
+use Rattle.aprs_rows.proofs.store.row_store.RowStore.last.Goals as goal
 
 pub of_entry-requires : goal.of_entry-requires
 of_entry-requires g c =

@@ -1,6 +1,6 @@
 use Rattle.std.proofs.Common.{arith}
 use Rattle.aprs_rows.proofs.Rows.{len_in}
-use Rattle.aprs_rows.proofs.store.RowStore.len.Goals as goal
+use Rattle.aprs_rows.proofs.store.row_store.RowStore.len.Goals as goal
 
 pub returns : goal.returns
 returns g c =

@@ -1,6 +1,6 @@
 use Rattle.std.proofs.Common.{◌∙◌, ◌∷◌, ◌++◌, [], ap, append_assoc}
 use Rattle.aprs_rows.proofs.Rows.{HasMore, more_rows}
-use Rattle.aprs_rows.proofs.store.RowStore.put.Goals as goal
+use Rattle.aprs_rows.proofs.store.row_store.RowStore.put.Goals as goal
 
 -- one more lies there
 lies : (g : _) (c : goal.After-put-3 g)

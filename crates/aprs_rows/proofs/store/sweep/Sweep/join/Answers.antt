@@ -1,10 +1,10 @@
 use Rattle.aprs_rows.proofs.Judgements.{some_names}
 use Rattle.aprs_rows.proofs.Sweeps.{joins_open}
-use Rattle.aprs_rows.proofs.sweep.Sweep.join.Goals as goal
+use Rattle.aprs_rows.proofs.store.sweep.Sweep.join.Goals as goal
 
 pub returns-clause-joined : goal.returns-clause-joined
 returns-clause-joined g c a =
-    let j = joins_open c.args.self.now.«open» c.grow.new.self c.args.self.now.names.items
+    let j = joins_open c.args.self.now.latest c.grow.new.self c.args.self.now.names.items
     c.gather_alone.new.names.items c.gather.new.names.items c.args.row _ a
     (record {
       each = c.receivers.ensures.told.names_are;

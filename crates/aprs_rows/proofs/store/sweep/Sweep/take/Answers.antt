@@ -7,7 +7,7 @@ use Rattle.aprs_rows.specs.Groups.{AreGroups, rows_of_groups}
 use Rattle.aprs_rows.specs.Sweep.{AreGathered, open_row}
 use Rattle.aprs_rows.proofs.Rows.{on_ok}
 use Rattle.aprs_rows.proofs.Sweeps.{joins_last, follows_last}
-use Rattle.aprs_rows.proofs.sweep.Sweep.take.Goals as goal
+use Rattle.aprs_rows.proofs.store.sweep.Sweep.take.Goals as goal
 
 pub returns-then-is_near-clause-stands : goal.returns-then-is_near-clause-stands
 returns-then-is_near-clause-stands g c rows s =
@@ -23,7 +23,7 @@ returns-then-is_near-clause-stands g c rows s =
       rows_are = (λ t. rows_of_groups (c.join.ensures.groups t).items (c.join.ensures.texts t).items
           ++ j.1 t ∷ [])
           ∙ joins_last gap (rows_of_groups old.groups.items old.texts.items)
-          (open_row old.«open» old.names.items) c.args.row is
+          (open_row old.latest old.names.items) c.args.row is
           ∙ ap (λ rs. appended gap rs c.args.row) s.rows_are;
     })
     (c.join.ensures.joined s.gathered)
@@ -45,6 +45,6 @@ returns-clause-stands g c rows s =
           });
       rows_are = (λ t. k.1 t ++ c.of-self.ensures.row c.close.new.names.items t ∷ [])
           ∙ follows_last gap (rows_of_groups old.groups.items old.texts.items)
-          (open_row old.«open» old.names.items) c.args.row is
+          (open_row old.latest old.names.items) c.args.row is
           ∙ ap (λ rs. appended gap rs c.args.row) s.rows_are;
     }

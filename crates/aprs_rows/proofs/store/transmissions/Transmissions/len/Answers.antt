@@ -2,7 +2,7 @@ use Rattle.std.proofs.Common.{length, ap, arith}
 use Rattle.aprs_laws.specs.BookValue.{BookValue}
 use Rattle.aprs_rows.specs.Groups.{text_size, group_row, IsGroup}
 use Rattle.aprs_rows.proofs.Groups.{length-rows_of}
-use Rattle.aprs_rows.proofs.transmissions.Transmissions.len.Goals as goal
+use Rattle.aprs_rows.proofs.store.transmissions.Transmissions.len.Goals as goal
 
 pub returns : goal.returns
 returns g c =
