@@ -3,8 +3,6 @@
 #![tactic(auto)]
 
 mod joining;
-mod key_bytes;
-mod key_head;
 mod memory;
 mod room;
 mod row;
@@ -14,10 +12,9 @@ pub use joining::greatest::{Greatest, copied, keep_greater};
 pub use joining::join::{Join, all_fit, join_all};
 pub use joining::receiver_list::ReceiverList;
 pub use joining::receivers::Receivers;
-pub use key_bytes::{call_bytes, head_bytes};
-pub use key_head::{HEAD, KeyHead};
 pub use memory::Memory;
 pub use room::make_room;
+pub use row::head::Head;
 pub use row::row_view::RowView;
 pub use store::order::RowsInOrder;
 pub use store::row_store::RowStore;

@@ -4,19 +4,28 @@ ghost use Rattle.std.specs.Int.{w64, from_be_bytes};
 ghost use Rattle.aprs_ax25.specs.Frame.{FrameOf};
 ghost use Rattle.aprs_ax25.specs.FrameFault.{parts_of};
 ghost use Rattle.aprs_laws.specs.Key.{key_of, key_cmp};
-ghost use Rattle.aprs_rows.specs.Head.{head_of, octets_number, HaveHeads};
+ghost use Rattle.aprs_rows.specs.Head.{head_of, octets_number, HasHead};
 
+use aprs_ax25::Frame;
 use std::cmp::Ordering;
 
-/// Numbers that are in order as the keys of frames are, as far as they go.
+/// The head of a frame's key: the numbers of its source, of its destination and of the first eight
+/// bytes of its information. Heads are in order as keys are, as far as they go.
 #[derive(Clone, Copy, PartialEq, Eq, PartialOrd, Ord)]
-pub(crate) struct Head {
+pub struct Head {
     source: u64,
     destination: u64,
     info: u64,
 }
 
 impl Head {
+    /// The head of the frame's key. Takes no memory.
+    pub fn of_frame(frame: &Frame) -> Head
+        ensures { HasHead result frame.now }
+    {
+        Head::of(frame.bytes(), frame.info())
+    }
+
     /// The head of the key of the frame of these bytes, with this information.
     #[tactic(auto, unfolding(aprs_laws::specs::Key::key_of))]
     pub(crate) fn of(frame: &[u8], info: &[u8]) -> Head
@@ -36,7 +45,7 @@ impl Head {
 
 /// The order of the keys of two frames that have these heads and this information.
 pub(crate) fn key_order(head: Head, info: &[u8], other: Head, other_info: &[u8]) -> Ordering
-    ensures { (f g : List ℕ) → HaveHeads f g head other → info.now ≡ (parts_of f).info
+    ensures { (f g : List ℕ) → HasHead head f → HasHead other g → info.now ≡ (parts_of f).info
         → other_info.now ≡ (parts_of g).info → result ≡ key_cmp (key_of f) (key_of g) }
 {
     match head.cmp(&other) {

@@ -8,7 +8,7 @@ ghost use Rattle.aprs_log.specs.Reception.{heard_cmp};
 ghost use Rattle.aprs_laws.specs.Key.{key_cmp};
 ghost use Rattle.aprs_laws.specs.Row.{last_of, row_cmp, row_key};
 ghost use Rattle.aprs_laws.specs.Sound.{IsSoundRow};
-ghost use Rattle.aprs_rows.specs.Head.{head_of};
+ghost use Rattle.aprs_rows.specs.Head.{HasHead};
 ghost use Rattle.aprs_rows.specs.Names.{names_in, row_of_text};
 ghost use Rattle.aprs_rows.specs.Rows.{IsRowIn, entry_row, row_bytes};
 
@@ -251,11 +251,9 @@ impl<'a> RowView<'a> {
         }
     }
 
-    /// The head of the key, and what makes heads be in order as keys are.
+    /// The head of the key.
     fn head(&self) -> Head
-        ensures value { result ≡ head_of (row_key self.now) }
-        ensures frame { FrameOf (parts_of self.now.greatest.frame) self.now.greatest.frame }
-        ensures bytes { (i : ℕ) → slice_index (parts_of self.now.greatest.frame).info i < 256 }
+        ensures { HasHead result self.now.greatest.frame }
     {
         self.head
     }
