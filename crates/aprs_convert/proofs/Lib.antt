@@ -7,3 +7,4 @@ pub mod Forms
 pub mod Planned
 pub mod SaidLines
 pub mod Writings
+pub mod OneText

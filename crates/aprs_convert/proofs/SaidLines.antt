@@ -26,7 +26,7 @@ use Rattle.aprs_convert.proofs.Seen.{prepended}
 
 -- ---- one line
 
-same_line : (a b : Line) (r : Result Line LineFault) → r ≡ Ok a → r ≡ Ok b → a ≡ b
+pub same_line : (a b : Line) (r : Result Line LineFault) → r ≡ Ok a → r ≡ Ok b → a ≡ b
 same_line a b r e f = cc
 
 reason_in : (m : ℕ) (name : List ℕ) (found : Result (List ℕ) Reason) (reason : Reason)

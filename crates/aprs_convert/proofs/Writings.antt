@@ -32,7 +32,7 @@ lines_text f [] = refl
 lines_text f (line.Heard x ∷ given) = ap (λ l. reception_text f x ++ l) (lines_text f given)
 lines_text f (line.Passed reason ∷ given) = lines_text f given
 
-heard_text : (f : Form) (t : List ℕ) (c : Ending) (S : List Heard)
+pub heard_text : (f : Form) (t : List ℕ) (c : Ending) (S : List Heard)
     → receptions_of (log_answers t c).given ≡ S
     → flat_map (line_text f) (log_answers t c).given ≡ flat_map (reception_text f) S
 heard_text f t c S e =
@@ -71,7 +71,7 @@ module _ (r : List ℕ) (m : ℕ) where
   frame_text (Ok frame) rest frames e = ap (λ l. frame_line r m (Ok frame) ++ l) e
   frame_text (Err fault) rest frames e = e
 
-  stream_text : (js : List Judgement) → flat_map (capture_text r m) js
+  pub stream_text : (js : List Judgement) → flat_map (capture_text r m) js
       ≡ flat_map (reception_text (Capture r m)) (map heard_so (filter_map frame_in_data js))
   stream_text [] = refl
   stream_text (Err fault ∷ js) = stream_text js
@@ -90,7 +90,7 @@ converts (Capture r m) t c = (_, (refl, refl), stream_text r m (judgements_of t)
 
 -- ---- a check
 
-reports_text : (n : ℕ) (given : List Line)
+pub reports_text : (n : ℕ) (given : List Line)
     → check_lines n given ≡ text_of_lines (map passed_line (passed_in n given))
 reports_text n [] = refl
 reports_text n (line.Heard x ∷ given) = reports_text (n + 1) given
@@ -108,7 +108,7 @@ so_many_passed n (line.Heard x ∷ given) = so_many_passed (n + 1) given
 so_many_passed n (line.Passed reason ∷ given) =
     let e = so_many_passed (n + 1) given in omega (arith, e)
 
-totals_text : (given : List Line) (S : List Heard) → receptions_of given ≡ S
+pub totals_text : (given : List Line) (S : List Heard) → receptions_of given ≡ S
     → check_lines 1 given ++ totals None given
     ≡ text_of_lines (map passed_line (passed_in 1 given)
     ++ totals_line (length S) (length (passed_in 1 given)) ∷ [])
