@@ -11,8 +11,7 @@ use Rattle.aprs_kiss.specs.Reader.{StandsAfter}
 use Rattle.aprs_kiss.specs.declared.reader.KissReader.{KissReader}
 use Rattle.aprs_log.specs.LogAnswers.{Gets}
 use Rattle.aprs_log.specs.declared.Ending.TheVariants as ending
-use Rattle.aprs_convert.specs.Ends.{RunsOver}
-use Rattle.aprs_convert.specs.Plan.{capture_text, stream_plan}
+use Rattle.aprs_convert.specs.Plan.{RunsOver, capture_text, stream_plan}
 use Rattle.aprs_convert.specs.declared.fault.ConvertFault.TheVariants.{Write}
 use Rattle.aprs_kiss.proofs.Pieces.{cuts, rest_of-none, judgements_of-append, judgements_of-none}
 
@@ -208,4 +207,4 @@ HasGot-refused r m limit left reader first now then_ old mid new chunk h consume
         → AppendsPrefix old new (text_of (capture_text r m) bytes)
         → RunsOver (stream_plan r m) limit first then_ (Err Write) old new
     runs None bytes g out = tt
-    runs (Some x) bytes g out = record { text = bytes; ending = ending.Read; gets = g; holds = out }
+    runs (Some x) bytes g out = (bytes, ending.Read, g, out)

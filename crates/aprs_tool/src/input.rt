@@ -15,9 +15,9 @@ ghost use Rattle.aprs_book.specs.Taking.{MergesInto};
 ghost use Rattle.aprs_tool.specs.declared.head.TheConstants.{HEAD_LEN};
 ghost use Rattle.aprs_tool.specs.Devices.{AsksInput};
 ghost use Rattle.aprs_tool.specs.Head.{IsHead, last_short};
-ghost use Rattle.aprs_convert.specs.Got.{HoldsOfGot, OfGot};
+ghost use Rattle.aprs_convert.specs.Got.{OfGot};
 ghost use Rattle.aprs_tool.specs.InputBook.{ReadsInput, TakesInput};
-ghost use Rattle.aprs_tool.specs.InputRows.{ReadsLog, ReadsRows, RefusesGaps};
+ghost use Rattle.aprs_tool.specs.InputRows.{HoldsOfGot, ReadsLog, ReadsRows, RefusesGaps};
 
 use crate::fault::InputFault;
 use crate::gathered::Gathered;

@@ -2,24 +2,21 @@ use Rattle.std.proofs.Common.{Ok, Err, inl, refl, subst, arith}
 use Rattle.aprs_laws.specs.Gap.{IsGap}
 use Rattle.aprs_tool.specs.Gathered.{WritesText}
 use Rattle.aprs_tool.specs.InputRows.{GivesRows}
-use Rattle.aprs_tool.proofs.Into.{got_so}
+use Rattle.aprs_convert.proofs.Gots.{got_so}
 use Rattle.aprs_tool.proofs.LastRefused.{text_cut, text_none, text_sent}
-use Rattle.aprs_tool.proofs.Widens.{not_wide, wide_cut, wide_refused, wide_sent, wide_written, within}
+use Rattle.aprs_tool.proofs.Outcomes.{prefix_went, text_went}
+use Rattle.aprs_tool.proofs.Widens.{not_wide, not_widened, wide_text, within}
 use Rattle.aprs_tool.proofs.widen.widen_run.Goals as goal
 
 -- ---- the input is refused
 
 pub returns-in-Err-clause-refuses : goal.returns-in-Err-clause-refuses
 returns-in-Err-clause-refuses g c =
-    got_so _ _ c.args.limit (λ input. input) _ _ (λ t e h. ((refl, inl h), refl))
+    got_so _ _ c.args.limit (λ input. input) _ _ (λ t e h. (not_widened c.args.gap t e c.in-Err.fault h, refl))
     c.in-Err.ensures.reads
 
 pub returns-then-seconds-clause-writes : goal.returns-then-seconds-clause-writes
 returns-then-seconds-clause-writes g c = rw c.narrower.ensures
-    (got_so _ _ c.args.limit (λ input. input) _ _ (λ t e h. tt) c.in-Ok.ensures.reads)
-
-pub returns-then-seconds-clause-sends : goal.returns-then-seconds-clause-sends
-returns-then-seconds-clause-sends g c = rw c.narrower.ensures
     (got_so _ _ c.args.limit (λ input. input) _ _ (λ t e h. tt) c.in-Ok.ensures.reads)
 
 pub returns-then-seconds-clause-refuses : goal.returns-then-seconds-clause-refuses
@@ -44,28 +41,12 @@ returns-in-Ok-write-clause-writes g c =
     let own = c.in-Ok.own in
     let new = c.read_input_rows.new.store in
     got_so _ _ c.args.limit (λ input. input) _ _
-    (λ t e h. wide_written gap own new t e
+    (λ t e h. text_went _ g.W.Write.contents c.args.w.now c.write.new.w _
+    (wide_text gap own new t e
     (subst (λ old. GivesRows gap own old new t e) c.new-store.ensures h)
     (subst IsGap c.seconds-2.ensures.value c.seconds-2.ensures.range)
     (subst IsGap c.seconds.ensures.value c.seconds.ensures.range)
-    (omega (arith, c.if-seconds.false, c.seconds.ensures.value, c.seconds-2.ensures.value))
-    g.W.Write.contents c.args.w.now c.write.new.w
-    (text_sent _ _ _ _ (subst
-    (λ b. WritesText g.W.Write.contents (Ok tt) b c.args.w.now c.write.new.w) c.of.ensures
-    c.in-Ok-write.ensures))) c.in-Ok.ensures.reads
-
-pub returns-in-Ok-write-clause-sends : goal.returns-in-Ok-write-clause-sends
-returns-in-Ok-write-clause-sends g c =
-    let gap = c.args.gap in
-    let own = c.in-Ok.own in
-    let new = c.read_input_rows.new.store in
-    got_so _ _ c.args.limit (λ input. input) _ _
-    (λ t e h. wide_sent gap own new t e
-    (subst (λ old. GivesRows gap own old new t e) c.new-store.ensures h)
-    (subst IsGap c.seconds-2.ensures.value c.seconds-2.ensures.range)
-    (subst IsGap c.seconds.ensures.value c.seconds.ensures.range)
-    (omega (arith, c.if-seconds.false, c.seconds.ensures.value, c.seconds-2.ensures.value))
-    g.W.Write.contents c.args.w.now c.write.new.w
+    (omega (arith, c.if-seconds.false, c.seconds.ensures.value, c.seconds-2.ensures.value)))
     (text_sent _ _ _ _ (subst
     (λ b. WritesText g.W.Write.contents (Ok tt) b c.args.w.now c.write.new.w) c.of.ensures
     c.in-Ok-write.ensures))) c.in-Ok.ensures.reads
@@ -81,10 +62,6 @@ returns-in-Ok-write-clause-calls g c = (text_sent _ _ _ _ c.in-Ok-write.ensures)
 
 pub returns-in-Err-Memory-clause-writes : goal.returns-in-Err-Memory-clause-writes
 returns-in-Err-Memory-clause-writes g c =
-    got_so _ _ c.args.limit (λ input. input) _ _ (λ t e h. tt) c.in-Ok.ensures.reads
-
-pub returns-in-Err-Memory-clause-sends : goal.returns-in-Err-Memory-clause-sends
-returns-in-Err-Memory-clause-sends g c =
     got_so _ _ c.args.limit (λ input. input) _ _ (λ t e h. tt) c.in-Ok.ensures.reads
 
 pub returns-in-Err-Memory-clause-refuses : goal.returns-in-Err-Memory-clause-refuses
@@ -113,28 +90,12 @@ returns-in-Err-Write-clause-writes g c =
     let own = c.in-Ok.own in
     let new = c.read_input_rows.new.store in
     got_so _ _ c.args.limit (λ input. input) _ _
-    (λ t e h. wide_cut gap own new t e
+    (λ t e h. prefix_went _ g.W.Write.contents c.args.w.now c.write.new.w _
+    (wide_text gap own new t e
     (subst (λ old. GivesRows gap own old new t e) c.new-store.ensures h)
     (subst IsGap c.seconds-2.ensures.value c.seconds-2.ensures.range)
     (subst IsGap c.seconds.ensures.value c.seconds.ensures.range)
-    (omega (arith, c.if-seconds.false, c.seconds.ensures.value, c.seconds-2.ensures.value))
-    g.W.Write.contents c.args.w.now c.write.new.w
-    (text_cut _ _ _ _ _ c.in-Err-Write.field-0-is (subst
-    (λ b. WritesText g.W.Write.contents (Err c.in-Err-Write.field-0) b c.args.w.now
-    c.write.new.w) c.of.ensures c.in-Err-Write.ensures))) c.in-Ok.ensures.reads
-
-pub returns-in-Err-Write-clause-sends : goal.returns-in-Err-Write-clause-sends
-returns-in-Err-Write-clause-sends g c =
-    let gap = c.args.gap in
-    let own = c.in-Ok.own in
-    let new = c.read_input_rows.new.store in
-    got_so _ _ c.args.limit (λ input. input) _ _
-    (λ t e h. wide_refused gap own new t e
-    (subst (λ old. GivesRows gap own old new t e) c.new-store.ensures h)
-    (subst IsGap c.seconds-2.ensures.value c.seconds-2.ensures.range)
-    (subst IsGap c.seconds.ensures.value c.seconds.ensures.range)
-    (omega (arith, c.if-seconds.false, c.seconds.ensures.value, c.seconds-2.ensures.value))
-    g.W.Write.contents c.args.w.now c.write.new.w
+    (omega (arith, c.if-seconds.false, c.seconds.ensures.value, c.seconds-2.ensures.value)))
     (text_cut _ _ _ _ _ c.in-Err-Write.field-0-is (subst
     (λ b. WritesText g.W.Write.contents (Err c.in-Err-Write.field-0) b c.args.w.now
     c.write.new.w) c.of.ensures c.in-Err-Write.ensures))) c.in-Ok.ensures.reads
