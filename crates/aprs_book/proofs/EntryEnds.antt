@@ -327,7 +327,8 @@ module _ {V : Type 0} (rows : V → List Row) where
       record {
         prefix = [];
         split = append-nil (rows d.1) ∙ ap (λ (t : Head × V). rows t.1) same;
-        none = λ n. absurd (omega (arith, h.0, ap length (ap (λ (t : Head × V). rows t.1) same ∙ n)));
+        none = λ n. absurd (omega
+            (arith, h.0, ap length (ap (λ (t : Head × V). rows t.1) same ∙ n)));
       }
   end_of_entries (d ∷ q ∷ es) e h f =
       let r = end_of_entries (q ∷ es) e h.1

@@ -16,7 +16,7 @@ use crate::rows::millis::Millis;
 use crate::{Memory, Receivers, Row, RowParts};
 use aprs_ax25::Frame;
 use aprs_log::{Moment, Receiver, Reception};
-use aprs_rows::{copied, keep_greater};
+use aprs_rows::keep_greater;
 use std::alloc::{Allocator, Global};
 use std::boxed::Box;
 use std::cmp::Ordering;
@@ -83,7 +83,7 @@ impl<A: Allocator + Copy> KeptRow<A> {
     {
         let mut receivers = Receivers::new(alloc);
         receivers.add(x.receiver())?;
-        KeptRow::new(alloc, x.moment(), receivers, copied(x))
+        KeptRow::new(alloc, x.moment(), receivers, x.copy())
     }
 
     /// The row of these parts, whose receivers ascend.
@@ -189,7 +189,7 @@ impl<A: Allocator + Copy> KeptRow<A> {
             self.allocator(),
             self.first(),
             receivers,
-            copied(self.greatest()),
+            self.greatest().copy(),
         )
     }
 
@@ -200,7 +200,7 @@ impl<A: Allocator + Copy> KeptRow<A> {
         let mut receivers = self.receivers().duplicate()?;
         receivers.add(x.receiver())?;
         let receivers = receivers.unite(next.receivers())?;
-        let mut greatest = copied(self.greatest());
+        let mut greatest = self.greatest().copy();
         keep_greater(&mut greatest, x);
         keep_greater(&mut greatest, next.greatest());
         let first = earlier(earlier(self.first(), x.moment()), next.first());

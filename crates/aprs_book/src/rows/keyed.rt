@@ -10,7 +10,7 @@ ghost use Rattle.aprs_laws.specs.Inserted.{inserted, fits_in_place};
 ghost use Rattle.aprs_laws.specs.Sound.{Sound};
 
 use crate::rows::kept_row::KeptRow;
-use crate::rows::merging_keys::{put_joined, put_merged};
+use crate::rows::merging_keys::{put_both, put_either};
 use crate::rows::millis::Millis;
 use crate::rows::place::put;
 use crate::rows::push::first_cause;
@@ -100,25 +100,25 @@ impl<A: Allocator + Copy> KeyedRows<A> {
             match (our, their) {
                 (None, None) => break,
                 (Some((head, x)), None) => {
-                    put_joined(self.alloc, gap, &mut map, head, x.as_slice())?;
+                    put_either(self.alloc, gap, &mut map, head, x.as_slice())?;
                     our = ours.next();
                 }
                 (None, Some((head, y))) => {
-                    put_joined(self.alloc, gap, &mut map, head, y.as_slice())?;
+                    put_either(self.alloc, gap, &mut map, head, y.as_slice())?;
                     their = theirs.next();
                 }
                 (Some((head, x)), Some((other_head, y))) => match head.cmp(other_head) {
                     Ordering::Less => {
-                        put_joined(self.alloc, gap, &mut map, head, x.as_slice())?;
+                        put_either(self.alloc, gap, &mut map, head, x.as_slice())?;
                         our = ours.next();
                     }
                     Ordering::Equal => {
-                        put_merged(self.alloc, gap, &mut map, head, x.as_slice(), y.as_slice())?;
+                        put_both(self.alloc, gap, &mut map, head, x.as_slice(), y.as_slice())?;
                         our = ours.next();
                         their = theirs.next();
                     }
                     Ordering::Greater => {
-                        put_joined(self.alloc, gap, &mut map, other_head, y.as_slice())?;
+                        put_either(self.alloc, gap, &mut map, other_head, y.as_slice())?;
                         their = theirs.next();
                     }
                 },

@@ -12,7 +12,7 @@ use std::alloc::Allocator;
 use std::collections::BTreeMap;
 
 /// Puts one head's rows of both at the end.
-pub(crate) fn put_merged<A: Allocator + Copy>(
+pub(crate) fn put_both<A: Allocator + Copy>(
     alloc: A,
     gap: Millis,
     map: &mut BTreeMap<Head, Vec<KeptRow<A>, A>, A>,
@@ -31,7 +31,7 @@ pub(crate) fn put_merged<A: Allocator + Copy>(
 }
 
 /// Puts one head's rows of either at the end.
-pub(crate) fn put_joined<A: Allocator + Copy>(
+pub(crate) fn put_either<A: Allocator + Copy>(
     alloc: A,
     gap: Millis,
     map: &mut BTreeMap<Head, Vec<KeptRow<A>, A>, A>,

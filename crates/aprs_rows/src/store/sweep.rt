@@ -8,10 +8,10 @@ ghost use Rattle.aprs_laws.specs.JoinRow.{combine, greater, place};
 ghost use Rattle.aprs_laws.specs.Row.{Row};
 ghost use Rattle.aprs_laws.specs.Sound.{Sound};
 ghost use Rattle.aprs_rows.specs.Groups.{rows_of_groups, AreGroups};
-ghost use Rattle.aprs_rows.specs.Sweep.{AreGathered, gathered, HasNames, open_row, open_text, Stands};
+ghost use Rattle.aprs_rows.specs.Sweep.{AreGathered, gathered_names, HasNames, open_row, open_text, Stands};
 
 use crate::Memory;
-use crate::row::names::{gather, put_united};
+use crate::row::names::{gather, put_union};
 use crate::store::group::Group;
 use crate::store::laid::Laid;
 use crate::store::transmissions::Transmissions;
@@ -156,8 +156,8 @@ fn gather_alone<'a, A: Allocator>(
     names: &mut Vec<&'a [u8], A>,
     latest: &Open<'a>,
 ) -> Result<(), Memory>
-    ensures { OnOk result (gathered names.new.items
-        ≡ gathered names.old.items
+    ensures { OnOk result (gathered_names names.new.items
+        ≡ gathered_names names.old.items
         ++ (if latest.now.is_alone then latest.now.greatest.receivers else [])) }
 {
     if latest.is_alone {
@@ -207,5 +207,5 @@ fn put_names<A: Allocator>(
     if latest.is_alone {
         return Ok(());
     }
-    put_united(texts, names)
+    put_union(texts, names)
 }
