@@ -6,7 +6,7 @@ use Rattle.aprs_laws.specs.Row.{Row}
 use Rattle.aprs_laws.specs.Book.{BookOf}
 use Rattle.aprs_laws.specs.Sound.{IsSoundRow, Sound, IsNext}
 use Rattle.aprs_laws.specs.Joining.{Joined}
-use Rattle.aprs_laws.specs.Taken.{Step, Take, Merge, taken}
+use Rattle.aprs_laws.specs.Taken.{Step, Take, Merge, sets_after}
 use Rattle.aprs_laws.specs.Inserted.{inserted, FitsInPlace, fits_in_place}
 use Rattle.aprs_laws.specs.JoinRow.{single, IsNear, join_row, merge, interleave, coalesced, plain_book}
 
@@ -74,10 +74,10 @@ rows_after_steps gap (step ∷ steps) rows =
 abbrev pub StepsGiveBooks : ℕ → Type 0
 StepsGiveBooks gap =
     (steps : List Step) (i : ℕ)
-    → BookOf gap (taken steps i) (rows_after_steps gap steps (λ k. []) i)
+    → BookOf gap (sets_after steps i) (rows_after_steps gap steps (λ k. []) i)
 
 -- places that took the same receptions, in any order, with any repeats and merges, have equal rows
 abbrev pub SameTakenSameRows : ℕ → Type 0
 SameTakenSameRows gap =
-    (steps others : List Step) (i j : ℕ) → SameMembers (taken steps i) (taken others j)
+    (steps others : List Step) (i j : ℕ) → SameMembers (sets_after steps i) (sets_after others j)
     → rows_after_steps gap steps (λ k. []) i ≡ rows_after_steps gap others (λ k. []) j

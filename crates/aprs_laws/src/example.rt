@@ -14,7 +14,7 @@ ghost use Rattle.aprs_laws.specs.Sound.{Sound, IsNext};
 ghost use Rattle.aprs_laws.specs.Witnesses.{witnesses};
 ghost use Rattle.aprs_laws.specs.Joining.{JoinLaws, AreAny, IsGreaterOf, IsAny, IsUnited, Joined, FoldsTo};
 ghost use Rattle.aprs_laws.specs.BookValue.{Holds, IsSoundBook, HaveOneGap, AreJoined, widened_to};
-ghost use Rattle.aprs_laws.specs.Taken.{taken, StepsFit};
+ghost use Rattle.aprs_laws.specs.Taken.{sets_after, StepsFit};
 ghost use Rattle.aprs_laws.specs.Best.{IsBest, LastKnown, known_of};
 ghost use Rattle.aprs_laws.specs.JoinRow.{single, IsNear, interleave, coalesced, plain_book};
 ghost use Rattle.aprs_laws.specs.Coalescing.{AreInOrder, StandFor, appended};
@@ -204,8 +204,8 @@ pub fn joined_books_are_books()
 
 /// A merge takes what the other place has then, and not what comes there later.
 pub fn merges_take_what_is_there()
-    ensures taken { taken merge_then_take 1 ≡ by_rx1 0 ∷ [] }
-    ensures misses_later { by_rx1 30001 ∈ taken merge_then_take 1 → ⊥ }
+    ensures taken { sets_after merge_then_take 1 ≡ by_rx1 0 ∷ [] }
+    ensures misses_later { by_rx1 30001 ∈ sets_after merge_then_take 1 → ⊥ }
     ensures fits { StepsFit 2 back_and_forth }
     ensures misses_place { StepsFit 1 back_and_forth → ⊥ }
     ensures first_book { rows_after_steps half_minute back_and_forth (λ place. []) 0
