@@ -15,7 +15,7 @@ use Rattle.aprs_laws.specs.Lists.{◌∈◌}
 use Rattle.aprs_laws.specs.Key.{Key, key_of}
 use Rattle.aprs_laws.specs.Row.{Row, row_key}
 use Rattle.aprs_laws.specs.JoinRow.{greater}
-use Rattle.aprs_laws.specs.Inserted.{inserted, FitsInPlace}
+use Rattle.aprs_laws.specs.Inserted.{insert_heard, FitsInPlace}
 use Rattle.aprs_laws.specs.Sound.{Sound}
 use Rattle.aprs_laws.specs.Witnesses.{witnesses}
 use Rattle.aprs_laws.specs.Joining.{Joined}
@@ -39,11 +39,11 @@ use Rattle.aprs_book.proofs.KnownSteps.{entry_there, same_as_itself}
 pub takes_note : (gap : ℕ) → 0 < gap → (x : Heard) (old : List Row) (test : Key → Bool)
     (known : Option Heard)
     → Sound gap old → LastKnown (map greatest_of old) (Passes test) known
-    → LastKnown (map greatest_of (inserted gap x old)) (Passes test)
+    → LastKnown (map greatest_of (insert_heard gap x old)) (Passes test)
     (known_after test known x)
 takes_note gap pos x old test known w h =
     let b = witnessed gap old pos w in
-    rows_know gap (witnesses old ++ x ∷ []) (inserted gap x old) (Passes test)
+    rows_know gap (witnesses old ++ x ∷ []) (insert_heard gap x old) (Passes test)
     (known_after test known x) (inserted_is_book gap (witnesses old) x old b)
     (known_last test x (witnesses old) known (set_knows gap (witnesses old) old
     (Passes test) known b h))
@@ -137,12 +137,12 @@ noted_known t x i j k reported same noted topic bytes =
 
 pub takes_indexes : (gap : ℕ) → 0 < gap → (t : Subject) (x : Heard) (rows new : List Row)
     (i j k : FourIndexes) → Sound gap rows → AreIndexesOf rows i → IsReported t (key_of x.frame)
-    → SameKnown i j → Noted t x j k → new ≡ inserted gap x rows → AreIndexesOf new k
+    → SameKnown i j → Noted t x j k → new ≡ insert_heard gap x rows → AreIndexesOf new k
 takes_indexes gap pos t x rows new i j k w h reported same noted made = λ topic bytes.
     subst (λ (r : List Row). LastKnown (map greatest_of r)
     (Passes (reports_at (reported_in topic) bytes)) (known_at bytes (index_of topic k)))
     (sym made)
-    (subst (LastKnown (map greatest_of (inserted gap x rows))
+    (subst (LastKnown (map greatest_of (insert_heard gap x rows))
     (Passes (reports_at (reported_in topic) bytes)))
     (noted_known t x i j k reported same noted topic bytes)
     (takes_note gap pos x rows (reports_at (reported_in topic) bytes)

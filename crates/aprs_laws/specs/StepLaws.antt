@@ -7,7 +7,7 @@ use Rattle.aprs_laws.specs.Book.{BookOf}
 use Rattle.aprs_laws.specs.Sound.{IsSoundRow, Sound, IsNext}
 use Rattle.aprs_laws.specs.Joining.{Joined}
 use Rattle.aprs_laws.specs.Taken.{Step, Take, Merge, sets_after}
-use Rattle.aprs_laws.specs.Inserted.{inserted, FitsInPlace, fits_in_place}
+use Rattle.aprs_laws.specs.Inserted.{insert_heard, FitsInPlace, fits_in_place}
 use Rattle.aprs_laws.specs.JoinRow.{single, IsNear, join_row, merge, interleave, coalesced, plain_book}
 
 -- the plain way gives the book
@@ -24,7 +24,7 @@ TakesReception gap =
 abbrev pub InsertsReception : ℕ → Type 0
 InsertsReception gap =
     (S : List Heard) (s : Heard) (p : List Row) → BookOf gap S p
-    → BookOf gap (S ++ s ∷ []) (inserted gap s p)
+    → BookOf gap (S ++ s ∷ []) (insert_heard gap s p)
 
 -- what fits in place passes the test of that
 abbrev pub FitsByTest : ℕ → Type 0

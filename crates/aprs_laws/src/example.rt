@@ -19,7 +19,7 @@ ghost use Rattle.aprs_laws.specs.Best.{IsBest, LastKnown, known_of};
 ghost use Rattle.aprs_laws.specs.JoinRow.{single, IsNear, interleave, coalesced, plain_book};
 ghost use Rattle.aprs_laws.specs.Coalescing.{AreInOrder, StandFor, appended};
 ghost use Rattle.aprs_laws.specs.Merged.{merged};
-ghost use Rattle.aprs_laws.specs.Inserted.{inserted, FitsInPlace};
+ghost use Rattle.aprs_laws.specs.Inserted.{insert_heard, FitsInPlace};
 ghost use Rattle.aprs_laws.specs.BestLaws.{Passes};
 ghost use Rattle.aprs_laws.specs.Widening.{widened};
 ghost use Rattle.aprs_laws.specs.Scaling.{scaled, scaled_heard};
@@ -110,13 +110,13 @@ pub fn units_scale_gaps_too()
 
 /// The same, as code makes it.
 pub fn gaps_decide_what_is_inserted()
-    ensures apart { inserted half_minute (by_rx1 60001) (row_at 0 ∷ [])
+    ensures apart { insert_heard half_minute (by_rx1 60001) (row_at 0 ∷ [])
         ≡ row_at 0 ∷ row_at 60001 ∷ [] }
-    ensures grown { inserted half_minute (by_rx1 30001) (row_at 0 ∷ row_at 60001 ∷ [])
+    ensures grown { insert_heard half_minute (by_rx1 30001) (row_at 0 ∷ row_at 60001 ∷ [])
         ≡ row_at 0 ∷ row_to 30001 60001 ∷ [] }
-    ensures bridged { inserted half_minute (by_rx1 30000) (row_at 0 ∷ row_to 30001 60001 ∷ [])
+    ensures bridged { insert_heard half_minute (by_rx1 30000) (row_at 0 ∷ row_to 30001 60001 ∷ [])
         ≡ row_to 0 60001 ∷ [] }
-    ensures inside { inserted half_minute (by_rx1 40000) (row_to 0 60001 ∷ [])
+    ensures inside { insert_heard half_minute (by_rx1 40000) (row_to 0 60001 ∷ [])
         ≡ row_to 0 60001 ∷ [] }
 {}
 

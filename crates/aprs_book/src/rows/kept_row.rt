@@ -8,7 +8,7 @@ ghost use Rattle.aprs_laws.specs.Order.{IsBelow};
 ghost use Rattle.aprs_laws.specs.Key.{key_of, key_cmp};
 ghost use Rattle.aprs_laws.specs.Row.{row_cmp};
 ghost use Rattle.aprs_laws.specs.JoinRow.{single, combine, place};
-ghost use Rattle.aprs_laws.specs.Inserted.{side, grown};
+ghost use Rattle.aprs_laws.specs.Inserted.{side, grow_row};
 ghost use Rattle.aprs_book.specs.Keyed.{HaveSameCalls};
 ghost use Rattle.aprs_rows.specs.Refusal.{is_too_near};
 
@@ -157,7 +157,7 @@ impl<A: Allocator + Copy> KeptRow<A> {
 
     /// Adds a reception that is near. Where its receiver is listed, that takes no memory.
     pub(crate) fn grow(&mut self, x: &Reception) -> Result<(), Memory>
-        ensures grown { OnOk result (self.new ≡ grown self.old x.now) }
+        ensures grown { OnOk result (self.new ≡ grow_row self.old x.now) }
         ensures unchanged { OnErr result (self.new ≡ self.old) }
         ensures listed { x.now.receiver ∈ self.old.receivers → IsOk result }
     {
@@ -195,7 +195,7 @@ impl<A: Allocator + Copy> KeptRow<A> {
 
     /// This row with a reception that is near, and the next row, to which that is near too, as one.
     pub(crate) fn bridge(&self, x: &Reception, next: &KeptRow<A>) -> Result<KeptRow<A>, Memory>
-        ensures { IfOk result (λ row. row ≡ combine (grown self.now x.now) next.now) }
+        ensures { IfOk result (λ row. row ≡ combine (grow_row self.now x.now) next.now) }
     {
         let mut receivers = self.receivers().duplicate()?;
         receivers.add(x.receiver())?;

@@ -6,7 +6,7 @@ ghost use Rattle.aprs_laws.specs.JoinRow.{interleave, coalesced};
 ghost use Rattle.aprs_log.specs.Reception.{bytes_cmp};
 ghost use Rattle.aprs_laws.specs.Lists.{Ordered};
 ghost use Rattle.aprs_laws.specs.Order.{IsBelow};
-ghost use Rattle.aprs_laws.specs.Inserted.{inserted, fits_in_place};
+ghost use Rattle.aprs_laws.specs.Inserted.{insert_heard, fits_in_place};
 ghost use Rattle.aprs_laws.specs.Sound.{Sound};
 
 use crate::rows::kept_row::KeptRow;
@@ -184,7 +184,7 @@ impl<A: Allocator + Copy> KeyedRows<A> {
     /// Adds a reception. What needs memory is made before the first change.
     pub(crate) fn take(&mut self, gap: Millis, x: &Reception) -> Result<(), Memory>
         requires { Sound gap self.old }
-        ensures inserted { OnOk result (self.new ≡ inserted gap x.now self.old) }
+        ensures inserted { OnOk result (self.new ≡ insert_heard gap x.now self.old) }
         ensures unchanged { OnErr result (self.new ≡ self.old) }
         ensures in_place { fits_in_place gap x.now self.old ≡ true → IsOk result }
     {
