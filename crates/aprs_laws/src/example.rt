@@ -22,7 +22,7 @@ ghost use Rattle.aprs_laws.specs.Merged.{merged};
 ghost use Rattle.aprs_laws.specs.Inserted.{insert_heard, FitsInPlace};
 ghost use Rattle.aprs_laws.specs.BestLaws.{Passes};
 ghost use Rattle.aprs_laws.specs.Widening.{widened};
-ghost use Rattle.aprs_laws.specs.Scaling.{scaled, scaled_heard};
+ghost use Rattle.aprs_laws.specs.Scaling.{scaled_rows, scaled_heard};
 ghost use Rattle.aprs_laws.specs.StepLaws.{rows_after_steps};
 ghost use Rattle.aprs_laws.specs.Examples.{half_minute, hi_frame, hi_repeated, answered, of_other, hi_key, n0call, key_by, any_key, rx1, rx2, heard, by_rx1, early, row_of, row_at, row_to, near_pair, near_row, far_pair, book_under, early_row, late_row, close_row, tied_pair, tied_row, short_row, merge_then_take, back_and_forth, TakesFirst};
 
@@ -100,10 +100,10 @@ pub fn wider_gaps_join_rows()
 /// One transmission of 30,000 milliseconds is one of 30,000,000 microseconds under the gap in
 /// microseconds. Under the gap in milliseconds it would be two.
 pub fn units_scale_gaps_too()
-    ensures scaled { scaled 1000 (near_row ∷ [])
+    ensures scaled { scaled_rows 1000 (near_row ∷ [])
         ≡ row_of 0 (rx1 ∷ rx2 ∷ []) (by_rx1 30000000) ∷ [] }
     ensures plain { plain_book 30000000 (map (scaled_heard 1000) near_pair)
-        ≡ scaled 1000 (near_row ∷ []) }
+        ≡ scaled_rows 1000 (near_row ∷ []) }
     ensures misses_gap { plain_book 30000 (map (scaled_heard 1000) near_pair)
         ≡ early_row ∷ row_at 30000000 ∷ [] }
 {}
