@@ -18,7 +18,7 @@ ghost use Rattle.aprs_laws.specs.Taken.{sets_after, StepsFit};
 ghost use Rattle.aprs_laws.specs.Best.{IsBest, LastKnown, known_of};
 ghost use Rattle.aprs_laws.specs.JoinRow.{single, IsNear, interleave, coalesced, plain_book};
 ghost use Rattle.aprs_laws.specs.Coalescing.{AreInOrder, StandFor, appended};
-ghost use Rattle.aprs_laws.specs.Merged.{merged};
+ghost use Rattle.aprs_laws.specs.Merged.{ascending_union};
 ghost use Rattle.aprs_laws.specs.Inserted.{insert_heard, FitsInPlace};
 ghost use Rattle.aprs_laws.specs.BestLaws.{Passes};
 ghost use Rattle.aprs_laws.specs.Widening.{widened};
@@ -184,7 +184,7 @@ pub fn joins_take_both()
     ensures greater { IsGreaterOf early (by_rx1 30001) (by_rx1 30001) }
     ensures misses_lesser { IsGreaterOf early (by_rx1 30001) early → ⊥ }
     ensures united { IsUnited bytes_cmp (rx2 ∷ []) (rx1 ∷ rx2 ∷ []) (rx1 ∷ rx2 ∷ []) }
-    ensures merged { merged bytes_cmp (rx2 ∷ []) (rx1 ∷ rx2 ∷ []) ≡ rx1 ∷ rx2 ∷ [] }
+    ensures merged { ascending_union bytes_cmp (rx2 ∷ []) (rx1 ∷ rx2 ∷ []) ≡ rx1 ∷ rx2 ∷ [] }
     ensures misses_repeat { IsUnited bytes_cmp (rx1 ∷ []) (rx1 ∷ []) (rx1 ∷ rx1 ∷ []) → ⊥ }
     ensures misses_first { JoinLaws IsAny AreAny TakesFirst → ⊥ }
     ensures folds { FoldsTo IsGreaterOf early (by_rx1 30001 ∷ []) (by_rx1 30001) }
