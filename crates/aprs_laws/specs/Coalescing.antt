@@ -23,11 +23,11 @@ pub record StandFor (rows : List Row) (S : List Heard) : Type 0 where
   pub members : SameMembers (witnesses rows) S
 
 -- the rows with one more after them, which joins the last of them where it is near to it
-abbrev pub appended : ℕ → List Row → Row → List Row
-appended gap [] r = r ∷ []
-appended gap (l ∷ []) r =
+abbrev pub append_row : ℕ → List Row → Row → List Row
+append_row gap [] r = r ∷ []
+append_row gap (l ∷ []) r =
     choose (place gap l r) (l ∷ r ∷ []) (combine l r ∷ []) (l ∷ r ∷ [])
-appended gap (l ∷ m ∷ rows) r = l ∷ appended gap (m ∷ rows) r
+append_row gap (l ∷ m ∷ rows) r = l ∷ append_row gap (m ∷ rows) r
 
 -- rows in order that are sound each by itself coalesce to the book of their witnesses
 abbrev pub CoalescesWitnesses : ℕ → Type 0
@@ -76,7 +76,7 @@ CoalescesWider =
 -- one more row is appended to what the rows before it coalesce to
 abbrev pub CoalescesOneByOne : ℕ → Type 0
 CoalescesOneByOne gap =
-    (rows : List Row) (x : Row) → coalesced gap (rows ++ x ∷ []) ≡ appended gap (coalesced gap rows) x
+    (rows : List Row) (x : Row) → coalesced gap (rows ++ x ∷ []) ≡ append_row gap (coalesced gap rows) x
 
 -- whether the next row joins the last so far: it has its key, and begins at most the gap after its
 -- end

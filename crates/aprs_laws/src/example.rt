@@ -17,7 +17,7 @@ ghost use Rattle.aprs_laws.specs.BookValue.{Holds, IsSoundBook, HaveOneGap, AreJ
 ghost use Rattle.aprs_laws.specs.Taken.{sets_after, StepsFit};
 ghost use Rattle.aprs_laws.specs.Best.{IsBest, LastKnown, known_of};
 ghost use Rattle.aprs_laws.specs.JoinRow.{single, IsNear, interleave, coalesced, plain_book};
-ghost use Rattle.aprs_laws.specs.Coalescing.{AreInOrder, StandFor, appended};
+ghost use Rattle.aprs_laws.specs.Coalescing.{AreInOrder, StandFor, append_row};
 ghost use Rattle.aprs_laws.specs.Merged.{ascending_union};
 ghost use Rattle.aprs_laws.specs.Inserted.{insert_heard, FitsInPlace};
 ghost use Rattle.aprs_laws.specs.BestLaws.{Passes};
@@ -244,9 +244,9 @@ pub fn rows_in_order_are_one_book()
     ensures tied { coalesced half_minute (early_row ∷ row_at 0 ∷ []) ≡ tied_row ∷ [] }
     ensures misses_order { coalesced half_minute (row_at 30001 ∷ row_at 0 ∷ [])
         ≡ row_at 0 ∷ row_at 30001 ∷ [] → ⊥ }
-    ensures appended { appended half_minute (row_at 0 ∷ row_at 60001 ∷ []) (row_at 90001)
+    ensures appended { append_row half_minute (row_at 0 ∷ row_at 60001 ∷ []) (row_at 90001)
         ≡ row_at 0 ∷ row_to 60001 90001 ∷ [] }
-    ensures misses_bridge { appended half_minute (row_at 0 ∷ row_at 60001 ∷ []) (row_at 30000)
+    ensures misses_bridge { append_row half_minute (row_at 0 ∷ row_at 60001 ∷ []) (row_at 30000)
         ≡ row_at 0 ∷ row_at 30000 ∷ row_at 60001 ∷ [] → ⊥ }
     ensures stands { StandFor (early_row ∷ []) (early ∷ []) }
     ensures misses_witness { StandFor (short_row ∷ []) (by_rx1 1 ∷ []) → ⊥ }

@@ -2,7 +2,7 @@
 ghost use Rattle.std.specs.Prelude.{◌≡◌, if◌then◌else◌, ℕ, ◌++◌, ◌∷◌, [], false, true, min, List, OnOk, IfOk};
 ghost use Rattle.std.specs.Ordering.{is_eq};
 ghost use Rattle.std.specs.Borrow.{Bor};
-ghost use Rattle.aprs_laws.specs.Coalescing.{appended};
+ghost use Rattle.aprs_laws.specs.Coalescing.{append_row};
 ghost use Rattle.aprs_laws.specs.Gap.{IsGap, millis_of};
 ghost use Rattle.aprs_laws.specs.JoinRow.{combine, greater, place};
 ghost use Rattle.aprs_laws.specs.Row.{Row};
@@ -101,7 +101,7 @@ impl<'a, A: Allocator + Copy> Sweep<'a, A> {
     /// Takes the next row.
     pub(crate) fn take(&mut self, row: Laid<'a>) -> Result<(), Memory>
         ensures stands { (rows : List Row) → Stands self.old rows
-            → OnOk result (Stands self.new (appended (millis_of self.old.gap) rows row.entry)) }
+            → OnOk result (Stands self.new (append_row (millis_of self.old.gap) rows row.entry)) }
         ensures gap { OnOk result (self.new.gap ≡ self.old.gap) }
     {
         if self.latest.is_near(self.gap, &row) {
