@@ -9,7 +9,7 @@ use Rattle.std.specs.Ordering.{ordering_reverse}
 use Rattle.std.specs.declared.cmp.Ordering.TheVariants.{Less, Greater}
 use Rattle.std.proofs.lemmas.Map.Keys.{sorted_head, sorted_tail}
 use Rattle.aprs_laws.specs.Row.{Row, row_key, row_cmp}
-use Rattle.aprs_laws.specs.JoinRow.{combine, place, coalesce, coalesced, interleave}
+use Rattle.aprs_laws.specs.JoinRow.{combine, place, coalesce, coalesced_rows, interleave}
 use Rattle.aprs_rows.proofs.Cases.{by_order}
 use Rattle.aprs_rows.proofs.Heads.{head_total, head_less}
 use Rattle.aprs_rows.specs.Head.{head_cmp, HasHead}
@@ -31,7 +31,7 @@ have_coalesce gap k l (x ∷ rows) e h =
     (λ o. rw o (e, have_coalesce gap k x rows h.0 h.1))
 
 have_coalesced : (gap : ℕ) (k : Head) (rows : List Row) → HaveHead k rows
-    → HaveHead k (coalesced gap rows)
+    → HaveHead k (coalesced_rows gap rows)
 have_coalesced gap k [] h = tt
 have_coalesced gap k (l ∷ rows) h = have_coalesce gap k l rows h.0 h.1
 
@@ -59,7 +59,7 @@ some_coalesce gap l (x ∷ rows) =
     (λ o. rw o (some_coalesce gap (combine l x) rows))
     (λ o. rw o (omega arith))
 
-some_coalesced : (gap : ℕ) (rows : List Row) → 0 < length rows → 0 < length (coalesced gap rows)
+some_coalesced : (gap : ℕ) (rows : List Row) → 0 < length rows → 0 < length (coalesced_rows gap rows)
 some_coalesced gap [] h = absurd (omega (arith, h))
 some_coalesced gap (l ∷ rows) h = some_coalesce gap l rows
 
@@ -177,7 +177,7 @@ module _ {V : Type 0} (rows : V → List Row) where
   pub record IsMerging (gap : ℕ) (all : List Row) (done ours theirs : List (Head × V)) : Type 0
     where
       pub sum : all ≡ rows_of rows done
-          ++ coalesced gap (interleave (rows_of rows ours) (rows_of rows theirs))
+          ++ coalesced_rows gap (interleave (rows_of rows ours) (rows_of rows theirs))
       pub kept : AreKept rows done
       pub ours_left : IsRest ours
       pub theirs_left : IsRest theirs
@@ -189,25 +189,25 @@ module _ {V : Type 0} (rows : V → List Row) where
       (x y : List Row)
       (key : Head) (v : V) → IsMerging gap all done ours theirs → IsCut key ours x ours'
       → IsCut key theirs y theirs' → Below done key
-      → (0 < length x) ⊎ (0 < length y) → rows v ≡ coalesced gap (interleave x y)
+      → (0 < length x) ⊎ (0 < length y) → rows v ≡ coalesced_rows gap (interleave x y)
       → IsMerging gap all (insert_entry head_cmp done key v) ours' theirs'
   step gap all done ours theirs ours' theirs' x y key v m c d b some made = record {
     sum =
         m.sum
         ∙ ap (λ t. rows_of rows done ++ t)
-        (ap (λ t. coalesced gap (interleave t (rows_of rows theirs))) c.split
-        ∙ ap (λ t. coalesced gap (interleave (x ++ rows_of rows ours') t)) d.split
+        (ap (λ t. coalesced_rows gap (interleave t (rows_of rows theirs))) c.split
+        ∙ ap (λ t. coalesced_rows gap (interleave (x ++ rows_of rows ours') t)) d.split
         ∙ merged_keys gap x y (rows_of rows ours') (rows_of rows theirs')
         (are_below key x ours' c.have c.rest.kept.0 c.above)
         (are_below key x theirs' c.have d.rest.kept.0 d.above)
         (are_below key y ours' d.have c.rest.kept.0 c.above)
         (are_below key y theirs' d.have d.rest.kept.0 d.above)
-        ∙ ap (λ t. t ++ coalesced gap (interleave (rows_of rows ours')
+        ∙ ap (λ t. t ++ coalesced_rows gap (interleave (rows_of rows ours')
         (rows_of rows theirs')))
         (sym made))
         ∙ sym (append_assoc (rows_of rows done) (rows v)
-        (coalesced gap (interleave (rows_of rows ours') (rows_of rows theirs'))))
-        ∙ ap (λ t. t ++ coalesced gap (interleave (rows_of rows ours')
+        (coalesced_rows gap (interleave (rows_of rows ours') (rows_of rows theirs'))))
+        ∙ ap (λ t. t ++ coalesced_rows gap (interleave (rows_of rows ours')
         (rows_of rows theirs')))
         (sym (put_after done key v b));
     kept = (
@@ -229,7 +229,7 @@ module _ {V : Type 0} (rows : V → List Row) where
 
   pub step_ours : (gap : ℕ) (all : List Row) (done es theirs : List (Head × V)) (e : Head × V)
       (v : V) → IsMerging gap all done (e ∷ es) theirs → HeadAbove e.0 theirs
-      → rows v ≡ coalesced gap (interleave (rows e.1) [])
+      → rows v ≡ coalesced_rows gap (interleave (rows e.1) [])
       → IsMerging gap all (insert_entry head_cmp done e.0 v) es theirs
   step_ours gap all done es theirs e v m above made =
       step gap all done (e ∷ es) theirs es theirs (rows e.1) [] e.0 v m
@@ -238,7 +238,7 @@ module _ {V : Type 0} (rows : V → List Row) where
 
   pub step_theirs : (gap : ℕ) (all : List Row) (done ours fs : List (Head × V)) (f : Head × V)
       (v : V) → IsMerging gap all done ours (f ∷ fs) → HeadAbove f.0 ours
-      → rows v ≡ coalesced gap (interleave [] (rows f.1))
+      → rows v ≡ coalesced_rows gap (interleave [] (rows f.1))
       → IsMerging gap all (insert_entry head_cmp done f.0 v) ours fs
   step_theirs gap all done ours fs f v m above made =
       step gap all done ours (f ∷ fs) ours fs [] (rows f.1) f.0 v m
@@ -247,7 +247,7 @@ module _ {V : Type 0} (rows : V → List Row) where
 
   pub step_both : (gap : ℕ) (all : List Row) (done es fs : List (Head × V)) (e f : Head × V)
       (v : V) → IsMerging gap all done (e ∷ es) (f ∷ fs) → e.0 ≡ f.0
-      → rows v ≡ coalesced gap (interleave (rows e.1) (rows f.1))
+      → rows v ≡ coalesced_rows gap (interleave (rows e.1) (rows f.1))
       → IsMerging gap all (insert_entry head_cmp done e.0 v) es fs
   step_both gap all done es fs e f v m same made =
       step gap all done (e ∷ es) (f ∷ fs) es fs (rows e.1) (rows f.1) e.0 v m
@@ -257,7 +257,7 @@ module _ {V : Type 0} (rows : V → List Row) where
       m.below_ours (inl m.ours_left.kept.1.0) made
 
   pub merging_starts : (gap : ℕ) (ours theirs : List (Head × V)) → IsRest ours → IsRest theirs
-      → IsMerging gap (coalesced gap (interleave (rows_of rows ours)
+      → IsMerging gap (coalesced_rows gap (interleave (rows_of rows ours)
       (rows_of rows theirs)))
       [] ours theirs
   merging_starts gap ours theirs r s = record {
@@ -289,18 +289,18 @@ module _ {V : Type 0} (rows : V → List Row) (gap : ℕ) (all : List Row)
   pub takes_ours : (p : Bor Head × Bor V) (es es' F : List (Head × V))
       (r : Option (Bor Head × Bor V))
       → IsMerging rows gap all done ((p.0.now, p.1.now) ∷ es) F
-      → PutsRows rows done done' p.0.now (coalesced gap (rows p.1.now))
+      → PutsRows rows done done' p.0.now (coalesced_rows gap (rows p.1.now))
       → HeadAbove rows p.0.now F → TakesFirst deref_pair es r es'
       → IsMerging rows gap all done' (held_entries r es') F
   takes_ours p es es' F r m put above t =
       subst (λ (E : List (Head × V)). IsMerging rows gap all done' E F) (held_is r es es' t)
       (rw put.2 (step_ours rows gap all done es F (p.0.now, p.1.now) put.0 m above
-      (put.1 ∙ ap (coalesced gap) (sym (interleave-nil (rows p.1.now))))))
+      (put.1 ∙ ap (coalesced_rows gap) (sym (interleave-nil (rows p.1.now))))))
 
   pub takes_theirs : (p : Bor Head × Bor V) (E es es' : List (Head × V))
       (r : Option (Bor Head × Bor V))
       → IsMerging rows gap all done E ((p.0.now, p.1.now) ∷ es)
-      → PutsRows rows done done' p.0.now (coalesced gap (rows p.1.now))
+      → PutsRows rows done done' p.0.now (coalesced_rows gap (rows p.1.now))
       → HeadAbove rows p.0.now E → TakesFirst deref_pair es r es'
       → IsMerging rows gap all done' E (held_entries r es')
   takes_theirs p E es es' r m put above t =
@@ -311,7 +311,7 @@ module _ {V : Type 0} (rows : V → List Row) (gap : ℕ) (all : List Row)
       (r s : Option (Bor Head × Bor V))
       → IsMerging rows gap all done ((p.0.now, p.1.now) ∷ es) ((q.0.now, q.1.now) ∷ fs)
       → PutsRows rows done done' p.0.now
-      (coalesced gap (interleave (rows p.1.now) (rows q.1.now)))
+      (coalesced_rows gap (interleave (rows p.1.now) (rows q.1.now)))
       → p.0.now ≡ q.0.now → TakesFirst deref_pair es r es'
       → TakesFirst deref_pair fs s fs'
       → IsMerging rows gap all done' (held_entries r es') (held_entries s fs')
@@ -324,11 +324,11 @@ module _ {V : Type 0} (rows : V → List Row) (gap : ℕ) (all : List Row)
 
   module _ (p : Bor Head × Bor V) (es es' fs : List (Head × V)) (o s r : Option (Bor Head × Bor V))
       (k : Head) (x : List Row) (key : k ≡ p.0.now) (of_key : x ≡ rows p.1.now)
-      (put : PutsRows rows done done' k (coalesced gap x)) where
-    putting : PutsRows rows done done' p.0.now (coalesced gap (rows p.1.now))
+      (put : PutsRows rows done done' k (coalesced_rows gap x)) where
+    putting : PutsRows rows done done' p.0.now (coalesced_rows gap (rows p.1.now))
     putting =
-        subst (λ (t : Head). PutsRows rows done done' t (coalesced gap (rows p.1.now))) key
-        (subst (λ (t : List Row). PutsRows rows done done' k (coalesced gap t)) of_key put)
+        subst (λ (t : Head). PutsRows rows done done' t (coalesced_rows gap (rows p.1.now))) key
+        (subst (λ (t : List Row). PutsRows rows done done' k (coalesced_rows gap t)) of_key put)
 
     -- the least key is that of the first, or of the second
     pub first_goes : o ≡ Some p
@@ -354,7 +354,7 @@ module _ {V : Type 0} (rows : V → List Row) (gap : ℕ) (all : List Row)
   pub both_go : (p q : Bor Head × Bor V) (es es' fs fs' : List (Head × V))
       (o s r u : Option (Bor Head × Bor V))
       (k : Head) (x y : List Row) → k ≡ p.0.now → x ≡ rows p.1.now → y ≡ rows q.1.now
-      → PutsRows rows done done' k (coalesced gap (interleave x y)) → o ≡ Some p → s ≡ Some q
+      → PutsRows rows done done' k (coalesced_rows gap (interleave x y)) → o ≡ Some p → s ≡ Some q
       → IsMerging rows gap all done (held_entries o es) (held_entries s fs) → p.0.now ≡ q.0.now
       → TakesFirst deref_pair es r es' → TakesFirst deref_pair fs u fs'
       → IsMerging rows gap all done' (held_entries r es') (held_entries u fs')
@@ -365,10 +365,10 @@ module _ {V : Type 0} (rows : V → List Row) (gap : ℕ) (all : List Row)
       (subst (λ (d : Option (Bor Head × Bor V)). IsMerging rows gap all done (held_entries o es)
       (held_entries d fs)) is m))
       (subst (λ (d : Head). PutsRows rows done done' d
-      (coalesced gap (interleave (rows p.1.now) (rows q.1.now)))) key
+      (coalesced_rows gap (interleave (rows p.1.now) (rows q.1.now)))) key
       (subst (λ (d : List Row). PutsRows rows done done' k
-      (coalesced gap (interleave d (rows q.1.now)))) ox
-      (subst (λ (d : List Row). PutsRows rows done done' k (coalesced gap (interleave x d)))
+      (coalesced_rows gap (interleave d (rows q.1.now)))) ox
+      (subst (λ (d : List Row). PutsRows rows done done' k (coalesced_rows gap (interleave x d)))
       oy put)))
       same t v
 
@@ -412,14 +412,14 @@ pub starts : {V : Type 0} (rows : V → List Row) (gap : ℕ) (a b : List Row)
     (E F iE iF es fs done : List (Head × V)) (r s : Option (Bor Head × Bor V)) → rows_of rows E ≡ a
     → rows_of rows F ≡ b → IsRest rows E → IsRest rows F → done ≡ [] → iE ≡ E
     → iF ≡ F → TakesFirst deref_pair iE r es → TakesFirst deref_pair iF s fs
-    → IsMerging rows gap (coalesced gap (interleave a b)) done (held_entries r es)
+    → IsMerging rows gap (coalesced_rows gap (interleave a b)) done (held_entries r es)
     (held_entries s fs)
 starts {V} rows gap a b E F iE iF es fs done r s ea eb p q n i j t u =
     rw (← ea, ← eb, n)
     (subst (λ (X : List (Head × V)). IsMerging rows gap
-    (coalesced gap (interleave (rows_of rows E) (rows_of rows F))) [] X (held_entries s fs))
+    (coalesced_rows gap (interleave (rows_of rows E) (rows_of rows F))) [] X (held_entries s fs))
     (sym i ∙ held_is r iE es t)
     (subst (λ (Y : List (Head × V)). IsMerging rows gap
-    (coalesced gap (interleave (rows_of rows E) (rows_of rows F))) [] E Y)
+    (coalesced_rows gap (interleave (rows_of rows E) (rows_of rows F))) [] E Y)
     (sym j ∙ held_is s iF fs u)
     (merging_starts rows gap E F p q)))

@@ -10,7 +10,7 @@ use Rattle.aprs_laws.specs.Row.{Row, row_cmp}
 use Rattle.aprs_laws.specs.Sound.{Sound}
 use Rattle.aprs_laws.specs.Witnesses.{witnesses}
 use Rattle.aprs_laws.specs.Joining.{Joined}
-use Rattle.aprs_laws.specs.JoinRow.{merge, interleave_from, interleave, coalesced}
+use Rattle.aprs_laws.specs.JoinRow.{merge, interleave_from, interleave, coalesced_rows}
 use Rattle.aprs_laws.proofs.Lists.{in_either, in_left, in_right, ordered_weaker}
 use Rattle.aprs_laws.proofs.Choices.{by_choice}
 use Rattle.aprs_laws.proofs.Books.{row_total, one_book}
@@ -114,7 +114,7 @@ ascending gap rows s =
 
 -- one pass over both books gives their joined value
 pub one_pass : (gap : ℕ) → 0 < gap → (a b : List Row) → Sound gap a → Sound gap b
-    → Joined gap a b (coalesced gap (interleave a b))
+    → Joined gap a b (coalesced_rows gap (interleave a b))
 one_pass gap pos a b v w =
     coalesces_joined gap pos a b (interleave a b) v w
     (λ x. let i = interleave_members a b x in (

@@ -9,7 +9,7 @@ use Rattle.aprs_laws.specs.Book.{BookOf}
 use Rattle.aprs_laws.specs.Sound.{Sound}
 use Rattle.aprs_laws.specs.Witnesses.{witnesses}
 use Rattle.aprs_laws.specs.Joining.{Joined}
-use Rattle.aprs_laws.specs.JoinRow.{coalesced}
+use Rattle.aprs_laws.specs.JoinRow.{coalesced_rows}
 use Rattle.aprs_laws.specs.Coalescing.{AreInOrder}
 use Rattle.aprs_laws.specs.Widening.{widened}
 use Rattle.aprs_laws.proofs.Lists.{ordered_weaker}
@@ -77,8 +77,8 @@ widens_joined g h a b c pos l v w j =
 
 -- rows of a book, put in order
 pub coalesces_wider : (g h : ℕ) (told rows : List Row) → 0 < g → g ≤ h → Sound g told
-    → SameMembers told rows → AreInOrder rows → coalesced h rows ≡ widened h told
+    → SameMembers told rows → AreInOrder rows → coalesced_rows h rows ≡ widened h told
 coalesces_wider g h told rows pos l w e o =
-    one_book h (witnesses told) (coalesced h rows) (widened h told)
+    one_book h (witnesses told) (coalesced_rows h rows) (widened h told)
     (coalesces_book h (omega (arith, pos, l)) (witnesses told) told rows (books_stand g told w) e o)
     (widens_witnesses g h told pos l w)

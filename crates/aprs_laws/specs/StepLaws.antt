@@ -8,7 +8,7 @@ use Rattle.aprs_laws.specs.Sound.{IsSoundRow, Sound, IsNext}
 use Rattle.aprs_laws.specs.Joining.{Joined}
 use Rattle.aprs_laws.specs.Taken.{Step, Take, Merge, sets_after}
 use Rattle.aprs_laws.specs.Inserted.{insert_heard, FitsInPlace, fits_in_place}
-use Rattle.aprs_laws.specs.JoinRow.{single, IsNear, join_row, merge, interleave, coalesced, plain_book}
+use Rattle.aprs_laws.specs.JoinRow.{single, IsNear, join_row, merge, interleave, coalesced_rows, plain_book}
 
 -- the plain way gives the book
 abbrev pub PlainBookIsBook : ℕ → Type 0
@@ -57,7 +57,7 @@ AtMostTwoAreNear gap =
 -- the rows of two books in order, where each joins the one before it if they are near
 abbrev pub OnePassJoins : ℕ → Type 0
 OnePassJoins gap =
-    (a b : List Row) → Sound gap a → Sound gap b → Joined gap a b (coalesced gap (interleave a b))
+    (a b : List Row) → Sound gap a → Sound gap b → Joined gap a b (coalesced_rows gap (interleave a b))
 
 -- the rows at all places after one more step
 abbrev pub rows_after_step : ℕ → Step → (ℕ → List Row) → ℕ → List Row

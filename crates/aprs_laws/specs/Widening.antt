@@ -5,11 +5,11 @@ use Rattle.aprs_laws.specs.Row.{Row}
 use Rattle.aprs_laws.specs.Book.{BookOf}
 use Rattle.aprs_laws.specs.Sound.{Sound}
 use Rattle.aprs_laws.specs.Joining.{Joined}
-use Rattle.aprs_laws.specs.JoinRow.{coalesced}
+use Rattle.aprs_laws.specs.JoinRow.{coalesced_rows}
 
 -- rows of a book under a gap that is not less: each joins the one before it that it is near to
 abbrev pub widened : ℕ → List Row → List Row
-widened gap rows = coalesced gap rows
+widened gap rows = coalesced_rows gap rows
 
 -- that is the book of the same set
 abbrev pub WidensBook : Type 0

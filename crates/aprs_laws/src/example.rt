@@ -16,7 +16,7 @@ ghost use Rattle.aprs_laws.specs.Joining.{JoinLaws, AreAny, IsGreaterOf, IsAny, 
 ghost use Rattle.aprs_laws.specs.BookValue.{Holds, IsSoundBook, HaveOneGap, AreJoined, widened_to};
 ghost use Rattle.aprs_laws.specs.Taken.{sets_after, StepsFit};
 ghost use Rattle.aprs_laws.specs.Best.{IsBest, LastKnown, known_of};
-ghost use Rattle.aprs_laws.specs.JoinRow.{single, IsNear, interleave, coalesced, plain_book};
+ghost use Rattle.aprs_laws.specs.JoinRow.{single, IsNear, interleave, coalesced_rows, plain_book};
 ghost use Rattle.aprs_laws.specs.Coalescing.{AreInOrder, StandFor, append_row};
 ghost use Rattle.aprs_laws.specs.Merged.{ascending_union};
 ghost use Rattle.aprs_laws.specs.Inserted.{insert_heard, FitsInPlace};
@@ -194,7 +194,7 @@ pub fn joins_take_both()
 /// The joined value of two books has neither the rows of one alone nor all rows side by side.
 pub fn joined_books_are_books()
     ensures joined { Joined half_minute (early_row ∷ []) (close_row ∷ []) (near_row ∷ []) }
-    ensures one_pass { coalesced half_minute (interleave (early_row ∷ []) (close_row ∷ []))
+    ensures one_pass { coalesced_rows half_minute (interleave (early_row ∷ []) (close_row ∷ []))
         ≡ near_row ∷ [] }
     ensures misses_side_by_side { Joined half_minute (early_row ∷ []) (close_row ∷ [])
         (early_row ∷ close_row ∷ []) → ⊥ }
@@ -238,11 +238,11 @@ pub fn rows_are_near_up_to_the_gap()
 pub fn rows_in_order_are_one_book()
     ensures in_order { AreInOrder (early_row ∷ row_at 0 ∷ late_row ∷ []) }
     ensures misses_later_first { AreInOrder (late_row ∷ early_row ∷ []) → ⊥ }
-    ensures inside { coalesced half_minute
+    ensures inside { coalesced_rows half_minute
         (row_to 0 60000 ∷ row_at 10 ∷ row_at 90000 ∷ row_at 120001 ∷ [])
         ≡ row_to 0 90000 ∷ row_at 120001 ∷ [] }
-    ensures tied { coalesced half_minute (early_row ∷ row_at 0 ∷ []) ≡ tied_row ∷ [] }
-    ensures misses_order { coalesced half_minute (row_at 30001 ∷ row_at 0 ∷ [])
+    ensures tied { coalesced_rows half_minute (early_row ∷ row_at 0 ∷ []) ≡ tied_row ∷ [] }
+    ensures misses_order { coalesced_rows half_minute (row_at 30001 ∷ row_at 0 ∷ [])
         ≡ row_at 0 ∷ row_at 30001 ∷ [] → ⊥ }
     ensures appended { append_row half_minute (row_at 0 ∷ row_at 60001 ∷ []) (row_at 90001)
         ≡ row_at 0 ∷ row_to 60001 90001 ∷ [] }

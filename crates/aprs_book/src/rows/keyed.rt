@@ -2,7 +2,7 @@
 ghost use Rattle.std.specs.Prelude.{◌≡◌, ◌+◌, [], ◌∷◌, ◌++◌, length, true, IsOk, IfOk, OnOk, OnErr};
 ghost use Rattle.aprs_book.specs.Keyed.{EndsUpTo, IsEndOf, rows_of};
 ghost use Rattle.aprs_rows.specs.Refusal.{refusal};
-ghost use Rattle.aprs_laws.specs.JoinRow.{interleave, coalesced};
+ghost use Rattle.aprs_laws.specs.JoinRow.{interleave, coalesced_rows};
 ghost use Rattle.aprs_log.specs.Reception.{bytes_cmp};
 ghost use Rattle.aprs_laws.specs.Lists.{Ordered};
 ghost use Rattle.aprs_laws.specs.Order.{IsBelow};
@@ -89,7 +89,7 @@ impl<A: Allocator + Copy> KeyedRows<A> {
 
     /// The rows of both, head by head, in one pass over the heads of both.
     pub(crate) fn merge(&self, gap: Millis, other: &KeyedRows<A>) -> Result<KeyedRows<A>, Memory>
-        ensures { IfOk result (λ both. both ≡ coalesced gap (interleave self.now other.now)) }
+        ensures { IfOk result (λ both. both ≡ coalesced_rows gap (interleave self.now other.now)) }
     {
         let mut map = BTreeMap::new(self.alloc);
         let mut ours = self.map.iter();

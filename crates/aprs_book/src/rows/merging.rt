@@ -1,6 +1,6 @@
 //! The rows of two books in one.
 ghost use Rattle.std.specs.Prelude.{◌≡◌, [], ◌∷◌, ◌++◌, true, false, IfOk, OnOk};
-ghost use Rattle.aprs_laws.specs.JoinRow.{interleave, coalesced};
+ghost use Rattle.aprs_laws.specs.JoinRow.{interleave, coalesced_rows};
 ghost use Rattle.aprs_laws.specs.Coalescing.{append_row};
 ghost use Rattle.aprs_book.specs.WithRows.{with_rows, IsNearLast};
 
@@ -18,7 +18,7 @@ pub(crate) fn merged_rows<A: Allocator + Copy>(
     theirs: &[KeptRow<A>],
 ) -> Result<Vec<KeptRow<A>, A>, Memory>
     ensures { IfOk result (λ rows.
-        rows.items ≡ coalesced gap (interleave ours.now theirs.now)) }
+        rows.items ≡ coalesced_rows gap (interleave ours.now theirs.now)) }
 {
     let mut rows = Vec::new(alloc);
     let mut i = 0;
@@ -43,7 +43,7 @@ pub(crate) fn joined_rows<A: Allocator + Copy>(
     gap: Millis,
     more: &[KeptRow<A>],
 ) -> Result<Vec<KeptRow<A>, A>, Memory>
-    ensures { IfOk result (λ rows. rows.items ≡ coalesced gap more.now) }
+    ensures { IfOk result (λ rows. rows.items ≡ coalesced_rows gap more.now) }
 {
     let mut rows = Vec::new(alloc);
     push_all(gap, &mut rows, more)?;

@@ -7,7 +7,7 @@ ghost use Rattle.aprs_laws.specs.Lists.{SameMembers};
 ghost use Rattle.aprs_laws.specs.Row.{Row};
 ghost use Rattle.aprs_laws.specs.Witnesses.{witnesses};
 ghost use Rattle.aprs_laws.specs.Gap.{millis_of};
-ghost use Rattle.aprs_laws.specs.JoinRow.{coalesced};
+ghost use Rattle.aprs_laws.specs.JoinRow.{coalesced_rows};
 ghost use Rattle.aprs_rows.specs.Rows.{AreRowsIn, rows_in};
 
 use crate::Memory;
@@ -103,7 +103,7 @@ impl<A: Allocator + Copy> RowsInOrder<A> {
     /// one.
     pub fn coalesced(&self, gap: Gap) -> Result<Transmissions<'_, A>, Memory>
         ensures rows { IfOk result (λ t. t
-            ≡ record { gap = gap; rows = coalesced (millis_of gap) self.now }) }
+            ≡ record { gap = gap; rows = coalesced_rows (millis_of gap) self.now }) }
         // They are the book of what the same rows, in any order, stand for.
         ensures book { (told : List Row) → SameMembers told self.now
             → IfOk result (Holds (witnesses told)) }
