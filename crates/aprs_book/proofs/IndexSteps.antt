@@ -19,7 +19,7 @@ use Rattle.aprs_laws.specs.Inserted.{insert_heard, FitsInPlace}
 use Rattle.aprs_laws.specs.Sound.{Sound}
 use Rattle.aprs_laws.specs.Witnesses.{witnesses}
 use Rattle.aprs_laws.specs.Joining.{Joined}
-use Rattle.aprs_laws.specs.Widening.{widened}
+use Rattle.aprs_laws.specs.Widening.{widened_rows}
 use Rattle.aprs_laws.proofs.Widening.{widens_book}
 use Rattle.aprs_laws.specs.Best.{LastKnown, greater_known, known_after}
 use Rattle.aprs_laws.specs.BestLaws.{Passes}
@@ -178,10 +178,10 @@ merges_indexes gap pos a b c i j k v w joined h g both = λ topic bytes.
 -- a wider gap joins rows, and their greatest receptions know what they knew
 pub widens_note : (g h : ℕ) → 0 < g → g ≤ h → (old : List Row) (test : Key → Bool)
     (known : Option Heard) → Sound g old → LastKnown (map greatest_of old) (Passes test) known
-    → LastKnown (map greatest_of (widened h old)) (Passes test) known
+    → LastKnown (map greatest_of (widened_rows h old)) (Passes test) known
 widens_note g h pos l old test known w k =
     let b = witnessed g old pos w in
-    rows_know h (witnesses old) (widened h old) (Passes test) known
+    rows_know h (witnesses old) (widened_rows h old) (Passes test) known
     (widens_book g h (witnesses old) old l b)
     (set_knows g (witnesses old) old (Passes test) known b k)
 
@@ -189,13 +189,13 @@ pub widens_indexes : (g h : ℕ) → 0 < g → g ≤ h → (rows new : List Row)
     → Sound g rows → AreIndexesOf rows i → ((topic : Topic) → index_of topic none ≡ [])
     → ((topic : Topic) (bytes : List ℕ) → known_at bytes (index_of topic k)
     ≡ known_both (known_at bytes (index_of topic i)) (known_at bytes (index_of topic none)))
-    → new ≡ widened h rows → AreIndexesOf new k
+    → new ≡ widened_rows h rows → AreIndexesOf new k
 widens_indexes g h pos l rows new i none k w held empty both made = λ topic bytes.
     let known = known_at bytes (index_of topic i) in
     subst (λ (r : List Row). LastKnown (map greatest_of r)
     (Passes (reports_at (reported_in topic) bytes)) (known_at bytes (index_of topic k)))
     (sym made)
-    (subst (LastKnown (map greatest_of (widened h rows))
+    (subst (LastKnown (map greatest_of (widened_rows h rows))
     (Passes (reports_at (reported_in topic) bytes)))
     (sym (both topic bytes ∙ ap (λ t. known_both known (known_at bytes t)) (empty topic)))
     (widens_note g h pos l rows (reports_at (reported_in topic) bytes) known w (held topic bytes)))

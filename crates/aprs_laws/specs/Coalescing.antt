@@ -11,7 +11,7 @@ use Rattle.aprs_laws.specs.Sound.{IsSoundRow, Sound}
 use Rattle.aprs_laws.specs.Witnesses.{witnesses}
 use Rattle.aprs_laws.specs.Joining.{Joined}
 use Rattle.aprs_laws.specs.JoinRow.{choose, single, combine, place, coalesced_rows}
-use Rattle.aprs_laws.specs.Widening.{widened}
+use Rattle.aprs_laws.specs.Widening.{widened_rows}
 
 -- rows in the order of key and first moment; equal ones stand in any order
 abbrev pub AreInOrder : List Row → Type 0
@@ -71,7 +71,7 @@ CoalescesJoined gap =
 abbrev pub CoalescesWider : Type 0
 CoalescesWider =
     (narrow wide : ℕ) (told rows : List Row) → 0 < narrow → narrow ≤ wide → Sound narrow told
-    → SameMembers told rows → AreInOrder rows → coalesced_rows wide rows ≡ widened wide told
+    → SameMembers told rows → AreInOrder rows → coalesced_rows wide rows ≡ widened_rows wide told
 
 -- one more row is appended to what the rows before it coalesce to
 abbrev pub CoalescesOneByOne : ℕ → Type 0

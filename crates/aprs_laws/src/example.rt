@@ -21,7 +21,7 @@ ghost use Rattle.aprs_laws.specs.Coalescing.{AreInOrder, StandFor, append_row};
 ghost use Rattle.aprs_laws.specs.Merged.{ascending_union};
 ghost use Rattle.aprs_laws.specs.Inserted.{insert_heard, FitsInPlace};
 ghost use Rattle.aprs_laws.specs.BestLaws.{Passes};
-ghost use Rattle.aprs_laws.specs.Widening.{widened};
+ghost use Rattle.aprs_laws.specs.Widening.{widened_rows};
 ghost use Rattle.aprs_laws.specs.Scaling.{scaled_rows, scaled_heard};
 ghost use Rattle.aprs_laws.specs.StepLaws.{rows_after_steps};
 ghost use Rattle.aprs_laws.specs.Examples.{half_minute, hi_frame, hi_repeated, answered, of_other, hi_key, n0call, key_by, any_key, rx1, rx2, heard, by_rx1, early, row_of, row_at, row_to, near_pair, near_row, far_pair, book_under, early_row, late_row, close_row, tied_pair, tied_row, short_row, merge_then_take, back_and_forth, TakesFirst};
@@ -92,9 +92,9 @@ pub fn books_have_gaps()
 
 /// Two rows 30,001 milliseconds apart are one under a gap of 30,001, and stay two under their own.
 pub fn wider_gaps_join_rows()
-    ensures widened { widened 30001 (early_row ∷ late_row ∷ [])
+    ensures widened { widened_rows 30001 (early_row ∷ late_row ∷ [])
         ≡ row_of 0 (rx1 ∷ rx2 ∷ []) (by_rx1 30001) ∷ [] }
-    ensures misses_one { widened 30000 (early_row ∷ late_row ∷ []) ≡ early_row ∷ late_row ∷ [] }
+    ensures misses_one { widened_rows 30000 (early_row ∷ late_row ∷ []) ≡ early_row ∷ late_row ∷ [] }
 {}
 
 /// One transmission of 30,000 milliseconds is one of 30,000,000 microseconds under the gap in
