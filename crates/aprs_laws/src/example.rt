@@ -24,7 +24,7 @@ ghost use Rattle.aprs_laws.specs.BestLaws.{Passes};
 ghost use Rattle.aprs_laws.specs.Widening.{widened_rows};
 ghost use Rattle.aprs_laws.specs.Scaling.{scaled_rows, scaled_heard};
 ghost use Rattle.aprs_laws.specs.StepLaws.{rows_after_steps};
-ghost use Rattle.aprs_laws.specs.Examples.{half_minute, hi_frame, hi_repeated, answered, of_other, hi_key, n0call, key_by, any_key, rx1, rx2, heard, by_rx1, early, row_of, row_at, row_to, near_pair, near_row, far_pair, book_under, early_row, late_row, close_row, tied_pair, tied_row, short_row, merge_then_take, back_and_forth, TakesFirst};
+ghost use Rattle.aprs_laws.specs.Examples.{half_minute, hi_frame, hi_after_digipeater, hi_as_response, of_other, hi_key, n0call, key_by, any_key, rx1, rx2, heard, by_rx1, early, row_of, row_at, row_to, near_pair, near_row, far_pair, book_under, early_row, late_row, close_row, tied_pair, tied_row, short_row, merge_then_take, back_and_forth, TakesFirst};
 
 /// Members have no number and no place. Ascending lists have no repeats.
 pub fn sets_and_orders()
@@ -40,10 +40,10 @@ pub fn sets_and_orders()
 /// another key.
 pub fn copies_have_one_key()
     ensures direct { key_of hi_frame ≡ hi_key }
-    ensures repeated { key_of hi_repeated ≡ hi_key }
-    ensures answered { key_of answered ≡ hi_key }
+    ensures repeated { key_of hi_after_digipeater ≡ hi_key }
+    ensures answered { key_of hi_as_response ≡ hi_key }
     ensures misses_other_ssid { key_of of_other ≡ hi_key → ⊥ }
-    ensures misses_bytes { hi_frame ≡ hi_repeated → ⊥ }
+    ensures misses_bytes { hi_frame ≡ hi_after_digipeater → ⊥ }
 {}
 
 /// Keys are ordered by source first. SSIDs are ordered as numbers, and not as their texts.
@@ -123,16 +123,16 @@ pub fn gaps_decide_what_is_inserted()
 /// Of receptions at one moment the greater receiver is greatest, and of one receiver's the greater
 /// frame, in whatever order they come.
 pub fn ties_go_by_receiver_then_frame()
-    ensures frame { plain_book half_minute (heard 0 rx1 hi_repeated ∷ by_rx1 0 ∷ [])
+    ensures frame { plain_book half_minute (heard 0 rx1 hi_after_digipeater ∷ by_rx1 0 ∷ [])
         ≡ row_at 0 ∷ [] }
-    ensures frame_turned { plain_book half_minute (by_rx1 0 ∷ heard 0 rx1 hi_repeated ∷ [])
+    ensures frame_turned { plain_book half_minute (by_rx1 0 ∷ heard 0 rx1 hi_after_digipeater ∷ [])
         ≡ row_at 0 ∷ [] }
     ensures receiver { plain_book half_minute tied_pair ≡ tied_row ∷ [] }
 {}
 
 /// Receivers stand in ascending order, each once.
 pub fn receivers_ascend()
-    ensures { plain_book half_minute (heard 10 rx2 hi_frame ∷ heard 5 rx1 answered ∷ early ∷ [])
+    ensures { plain_book half_minute (heard 10 rx2 hi_frame ∷ heard 5 rx1 hi_as_response ∷ early ∷ [])
         ≡ row_of 0 (rx1 ∷ rx2 ∷ []) (heard 10 rx2 hi_frame) ∷ [] }
 {}
 
