@@ -21,7 +21,8 @@ use Rattle.aprs_rows.specs.Head.{head_cmp, HasHead}
 use Rattle.aprs_rows.specs.declared.row.head.Head.{Head}
 use Rattle.aprs_book.specs.Keyed.{HaveHead, rows_of, AreKeyed, AreFilled, AreKept, EndsUpTo, IsEndOf}
 
-bridged_some : (gap : ℕ) (x : Heard) (j : Row) (rows : List Row) → 0 < length (bridge_row gap x j rows)
+bridged_some : (gap : ℕ) (x : Heard) (j : Row) (rows : List Row)
+    → 0 < length (bridge_row gap x j rows)
 bridged_some gap x j [] = omega arith
 bridged_some gap x j (s ∷ rows) =
     by_order (side gap s x) (λ o. rw o (omega arith)) (λ o. rw o (omega arith))

@@ -59,7 +59,8 @@ some_coalesce gap l (x ∷ rows) =
     (λ o. rw o (some_coalesce gap (combine l x) rows))
     (λ o. rw o (omega arith))
 
-some_coalesced : (gap : ℕ) (rows : List Row) → 0 < length rows → 0 < length (coalesced_rows gap rows)
+some_coalesced : (gap : ℕ) (rows : List Row) → 0 < length rows
+    → 0 < length (coalesced_rows gap rows)
 some_coalesced gap [] h = absurd (omega (arith, h))
 some_coalesced gap (l ∷ rows) h = some_coalesce gap l rows
 

@@ -54,7 +54,8 @@ same_witnesses p q e s = (
 )
 
 pub coalesces_book : (gap : ℕ) → 0 < gap → (S : List Heard) (told rows : List Row)
-    → StandFor told S → SameMembers told rows → AreInOrder rows → BookOf gap S (coalesced_rows gap rows)
+    → StandFor told S → SameMembers told rows → AreInOrder rows
+    → BookOf gap S (coalesced_rows gap rows)
 coalesces_book gap pos S told rows f e o =
     book_carries gap (witnesses rows) S (coalesced_rows gap rows)
     (λ s. let w = same_witnesses told rows e s in (
@@ -192,7 +193,8 @@ coalesce_one_more gap l (y ∷ xs) x =
     (coalesce_one_more gap (combine l y) xs x) where
       by_case : (o : Ordering)
           → l ∷ coalesce gap y (xs ++ x ∷ []) ≡ append_row gap (l ∷ coalesce gap y xs) x
-          → coalesce gap (combine l y) (xs ++ x ∷ []) ≡ append_row gap (coalesce gap (combine l y) xs) x
+          → coalesce gap (combine l y) (xs ++ x ∷ []) ≡ append_row gap
+          (coalesce gap (combine l y) xs) x
           → choose o (l ∷ coalesce gap y (xs ++ x ∷ [])) (coalesce gap (combine l y) (xs ++ x ∷ []))
           (l ∷ coalesce gap y (xs ++ x ∷ []))
           ≡ append_row gap (choose o (l ∷ coalesce gap y xs) (coalesce gap (combine l y) xs)
@@ -250,13 +252,15 @@ first_up_to l x e u =
     (subst (λ (o : Ordering). is_gt (ordering_then o (nat_cmp l.first x.first)) ≡ false)
     (one_key l x e) u)
 
-pub joins_last : (gap : ℕ) (rows done : List Row) (l x : Row) → coalesced_rows gap rows ≡ done ++ l ∷ []
+pub joins_last : (gap : ℕ) (rows done : List Row) (l x : Row)
+    → coalesced_rows gap rows ≡ done ++ l ∷ []
     → AreInOrder (rows ++ x ∷ []) → IsSoundRow x
     → (place gap l x ≡ Equal) ↔ ((row_key l ≡ row_key x) × (x.first ≤ last_of l + gap))
 joins_last gap rows done l x c o w = (near, test) where
   near : place gap l x ≡ Equal → (row_key l ≡ row_key x) × (x.first ≤ last_of l + gap)
   near e = let n =
-      subst (λ (p : Ordering). MatchOrdering p (IsBefore gap l x) (IsNear gap l x) (IsBefore gap x l))
+      subst (λ (p : Ordering). MatchOrdering p (IsBefore gap l x) (IsNear gap l x)
+      (IsBefore gap x l))
       e (place_means gap l x) in (n.key, n.after)
 
   is_last : l ∈ coalesced_rows gap rows

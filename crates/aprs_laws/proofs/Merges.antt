@@ -56,7 +56,8 @@ module _ {X : Type 0} {R : X → X → Ordering} (o : IsTotalOrder R) (e : CmpEq
         ],
       ))
 
-  pub merged_members : (xs ys : List X) (z : X) → (z ∈ ascending_union R xs ys) ↔ ((z ∈ xs) ⊎ (z ∈ ys))
+  pub merged_members : (xs ys : List X) (z : X)
+      → (z ∈ ascending_union R xs ys) ↔ ((z ∈ xs) ⊎ (z ∈ ys))
   merged_members [] ys z = (λ h. inr h, λ h. elim h [ inl k ↦ absurd k | inr k ↦ k ])
   merged_members (x ∷ xs) ys z = from_members x xs (ascending_union R xs) (merged_members xs) ys z
 

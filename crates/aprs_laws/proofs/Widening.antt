@@ -70,7 +70,8 @@ widens_in_steps g h k rows pos l m w =
 pub widens_joined : (g h : ℕ) (a b c : List Row) → 0 < g → g ≤ h → Sound g a → Sound g b
     → Joined g a b c → Joined h (widened_rows h a) (widened_rows h b) (widened_rows h c)
 widens_joined g h a b c pos l v w j =
-    (union_is_joined h (omega arith) (witnesses a) (witnesses b) (widened_rows h a) (widened_rows h b)
+    (union_is_joined h (omega arith) (witnesses a) (witnesses b) (widened_rows h a)
+    (widened_rows h b)
     (widened_rows h c)
     (widens_witnesses g h a pos l v) (widens_witnesses g h b pos l w)).0
     (widens_book g h (witnesses a ++ witnesses b) c l j)

@@ -76,7 +76,8 @@ CoalescesWider =
 -- one more row is appended to what the rows before it coalesce to
 abbrev pub CoalescesOneByOne : ℕ → Type 0
 CoalescesOneByOne gap =
-    (rows : List Row) (x : Row) → coalesced_rows gap (rows ++ x ∷ []) ≡ append_row gap (coalesced_rows gap rows) x
+    (rows : List Row) (x : Row)
+    → coalesced_rows gap (rows ++ x ∷ []) ≡ append_row gap (coalesced_rows gap rows) x
 
 -- whether the next row joins the last so far: it has its key, and begins at most the gap after its
 -- end

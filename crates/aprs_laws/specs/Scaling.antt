@@ -26,4 +26,5 @@ scaled_rows factor rows = map (scaled_row factor) rows
 abbrev pub ScalesBook : Type 0
 ScalesBook =
     (factor gap : ℕ) (S : List Heard) (rows : List Row) → 0 < factor
-    → BookOf gap S rows ↔ BookOf (gap * factor) (map (scaled_heard factor) S) (scaled_rows factor rows)
+    → BookOf gap S rows
+    ↔ BookOf (gap * factor) (map (scaled_heard factor) S) (scaled_rows factor rows)

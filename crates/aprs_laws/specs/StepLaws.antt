@@ -57,7 +57,8 @@ AtMostTwoAreNear gap =
 -- the rows of two books in order, where each joins the one before it if they are near
 abbrev pub OnePassJoins : ℕ → Type 0
 OnePassJoins gap =
-    (a b : List Row) → Sound gap a → Sound gap b → Joined gap a b (coalesced_rows gap (interleave a b))
+    (a b : List Row) → Sound gap a → Sound gap b
+    → Joined gap a b (coalesced_rows gap (interleave a b))
 
 -- the rows at all places after one more step
 abbrev pub rows_after_step : ℕ → Step → (ℕ → List Row) → ℕ → List Row

@@ -94,7 +94,8 @@ pub fn books_have_gaps()
 pub fn wider_gaps_join_rows()
     ensures widened { widened_rows 30001 (early_row ∷ late_row ∷ [])
         ≡ row_of 0 (rx1 ∷ rx2 ∷ []) (by_rx1 30001) ∷ [] }
-    ensures misses_one { widened_rows 30000 (early_row ∷ late_row ∷ []) ≡ early_row ∷ late_row ∷ [] }
+    ensures misses_one { widened_rows 30000 (early_row ∷ late_row ∷ [])
+        ≡ early_row ∷ late_row ∷ [] }
 {}
 
 /// One transmission of 30,000 milliseconds is one of 30,000,000 microseconds under the gap in
@@ -132,7 +133,8 @@ pub fn ties_go_by_receiver_then_frame()
 
 /// Receivers stand in ascending order, each once.
 pub fn receivers_ascend()
-    ensures { plain_book half_minute (heard 10 rx2 hi_frame ∷ heard 5 rx1 hi_as_response ∷ early ∷ [])
+    ensures { plain_book half_minute
+        (heard 10 rx2 hi_frame ∷ heard 5 rx1 hi_as_response ∷ early ∷ [])
         ≡ row_of 0 (rx1 ∷ rx2 ∷ []) (heard 10 rx2 hi_frame) ∷ [] }
 {}
 

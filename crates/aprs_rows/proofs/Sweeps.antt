@@ -164,18 +164,18 @@ joins_open o p names most more x own a h e f own_is some first greatest alone ha
       };
       row_is = λ t. record {
         first = first t;
-        receivers = (ap (λ b. if b then p.greatest.receivers else union bytes_cmp
-        (gathered_names more) [])
-            alone ∙ united) t;
+        receivers =
+            (ap (λ b. if b then p.greatest.receivers
+            else union bytes_cmp (gathered_names more) []) alone ∙ united) t;
         greatest = greatest t;
       };
     } where
       length_more : length more ≡ length (gathered_names most) + length own
-      length_more = sym (length_map more) ∙ ap length f ∙ length-append (gathered_names most) own
-      where
-        length_map : (ns : List (Bor (List ℕ))) → length (gathered_names ns) ≡ length ns
-        length_map [] = refl
-        length_map (n ∷ ns) = ap (λ k. suc k) (length_map ns)
+      length_more =
+          sym (length_map more) ∙ ap length f ∙ length-append (gathered_names most) own where
+            length_map : (ns : List (Bor (List ℕ))) → length (gathered_names ns) ≡ length ns
+            length_map [] = refl
+            length_map (n ∷ ns) = ap (λ k. suc k) (length_map ns)
 
 at_front : (o : Ordering) (r : Row) (a b : List Row)
     → r ∷ choose o a b a ≡ choose o (r ∷ a) (r ∷ b) (r ∷ a)
