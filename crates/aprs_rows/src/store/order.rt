@@ -1,5 +1,5 @@
 //! Rows in order.
-ghost use Rattle.std.specs.Prelude.{◌≡◌, ◌≢◌, [], List, IfOk, OnErr};
+ghost use Rattle.std.specs.Prelude.{◌≡◌, ◌≢◌, [], List, IfOk, IsOk, OnErr, false};
 ghost use Rattle.std.specs.List.Sorted.{IsPermutation};
 ghost use Rattle.aprs_laws.specs.BookValue.{Holds};
 ghost use Rattle.aprs_laws.specs.Coalescing.{AreInOrder};
@@ -65,6 +65,7 @@ impl<A: Allocator + Copy> RowsInOrder<A> {
         ensures same { IfOk result (IsPermutation (rows_in entries.items bytes.items)) }
         ensures ordered { IfOk result AreInOrder }
         ensures some { OnErr result (entries.items ≢ []) }
+        ensures in_place { has_runs ≡ false → IsOk result }
     {
         if has_runs {
             return RowsInOrder::of_runs(alloc, entries, bytes);
