@@ -8,7 +8,7 @@ use Rattle.std.specs.Map.Iter.{TakesFirst, deref_pair}
 use Rattle.std.specs.Ordering.{ordering_reverse}
 use Rattle.std.specs.declared.cmp.Ordering.TheVariants.{Less, Greater}
 use Rattle.std.proofs.lemmas.Map.Keys.{sorted_head, sorted_tail}
-use Rattle.aprs_laws.specs.Row.{Row, row_key, row_cmp}
+use Rattle.aprs_laws.specs.Row.{Row, row_cmp}
 use Rattle.aprs_laws.specs.JoinRow.{combine, place, coalesce, coalesced_rows, interleave}
 use Rattle.aprs_rows.proofs.Cases.{by_order}
 use Rattle.aprs_rows.proofs.Heads.{head_total, head_less}

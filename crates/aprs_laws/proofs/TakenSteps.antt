@@ -6,7 +6,7 @@ use Rattle.aprs_laws.specs.Row.{Row}
 use Rattle.aprs_laws.specs.Book.{BookOf}
 use Rattle.aprs_laws.specs.Sound.{IsSoundRow, Sound}
 use Rattle.aprs_laws.specs.Joining.{Joined}
-use Rattle.aprs_laws.specs.Taken.{Step, Take, Merge, StepFits, after_step, after_steps, sets_after}
+use Rattle.aprs_laws.specs.Taken.{Step, Take, Merge, after_step, after_steps, sets_after}
 use Rattle.aprs_laws.specs.JoinRow.{single, join_row, merge, plain_book}
 use Rattle.aprs_laws.specs.StepLaws.{rows_after_step, rows_after_steps}
 use Rattle.aprs_laws.proofs.Made.{keeps_book}

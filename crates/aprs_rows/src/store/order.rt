@@ -102,7 +102,7 @@ impl<A: Allocator + Copy> RowsInOrder<A> {
     /// The rows of the book of these under a gap: each row joins the one before it that it is near
     /// to. Takes memory for each row of the book, and for the names of those that were more than
     /// one.
-    pub fn coalesced(&self, gap: Gap) -> Result<Transmissions<'_, A>, Memory>
+    pub fn transmissions(&self, gap: Gap) -> Result<Transmissions<'_, A>, Memory>
         ensures rows { IfOk result (λ t. t
             ≡ record { gap = gap; rows = coalesced_rows (millis_of gap) self.now }) }
         // They are the book of what the same rows, in any order, stand for.

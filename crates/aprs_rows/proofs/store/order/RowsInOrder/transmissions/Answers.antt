@@ -18,7 +18,7 @@ use Rattle.aprs_rows.specs.Groups.{rows_of_groups}
 use Rattle.aprs_rows.specs.Rows.{AreRowsIn, AreSoundRows, bytes_of, entry_row, IsRowIn, rows_in}
 use Rattle.aprs_rows.specs.Sweep.{Stands}
 use Rattle.aprs_rows.proofs.Rows.{each_lies, if_ok, len_in, sound_rows}
-use Rattle.aprs_rows.proofs.store.order.RowsInOrder.coalesced.Goals as goal
+use Rattle.aprs_rows.proofs.store.order.RowsInOrder.transmissions.Goals as goal
 
 -- What is known of the first entry and the others.
 record Begins (first : Entry) (others : List Entry) (bytes : List ℕ) (all : List Row) : Type 0 where
