@@ -8,7 +8,7 @@ mod room;
 mod row;
 mod store;
 
-pub use joining::greatest::{Greatest, copied, keep_greater};
+pub use joining::greatest::{Greatest, keep_greater};
 pub use joining::join::{Join, all_fit, join_all};
 pub use joining::receiver_list::ReceiverList;
 pub use joining::receivers::Receivers;

@@ -93,7 +93,7 @@ fn book_of<A: Allocator + Copy>(alloc: A, gap: Gap, store: RowStore<A>) -> Resul
     ensures gap { IfOk result (λ book. book.gap ≡ gap) }
 {
     let order = store.in_order()?;
-    let rows = order.coalesced(gap)?;
+    let rows = order.transmissions(gap)?;
     Book::of_rows(alloc, &rows)
 }
 

@@ -6,7 +6,7 @@ ghost use Rattle.aprs_laws.specs.Gap.{millis_of};
 ghost use Rattle.aprs_laws.specs.Row.{Row};
 ghost use Rattle.aprs_laws.specs.Sound.{IsSoundRow};
 ghost use Rattle.aprs_rows.specs.Names.{names_in};
-ghost use Rattle.aprs_rows.specs.Refusal.{refusal, is_of_last, is_out_of_order, is_too_near, is_ascending, is_name};
+ghost use Rattle.aprs_rows.specs.Refusal.{refusal, is_of_last, is_out_of_order, is_too_near, is_ascending, is_same_name};
 ghost use Rattle.aprs_rows.specs.Judging.{list_of};
 
 use crate::row::names::cut_name;
@@ -82,10 +82,10 @@ impl<'a> RowView<'a> {
 /// Where the names of a text ascend and this one is among them: whether it is the last.
 fn find_name(text: &[u8], name: &[u8]) -> Option<bool>
     ensures none { IfNone result ((is_ascending (names_in text.now)
-        && list_any (is_name name.now) (names_in text.now)) ≡ false) }
+        && list_any (is_same_name name.now) (names_in text.now)) ≡ false) }
     ensures some { IfSome result (λ is_last. ((is_ascending (names_in text.now)
-        && list_any (is_name name.now) (names_in text.now)) ≡ true)
-        × (is_last ≡ is_of_last (is_name name.now) (names_in text.now))) }
+        && list_any (is_same_name name.now) (names_in text.now)) ≡ true)
+        × (is_last ≡ is_of_last (is_same_name name.now) (names_in text.now))) }
 {
     let Some((first, others)) = cut_name(text) else {
         return if name.cmp(text).is_eq() {
