@@ -1,8 +1,7 @@
 -- Lemmas on inputs, of which the first bytes are known.
-use Rattle.std.proofs.Common.{◌≡◌, ℕ, zero, suc, get_or, ◌<◌, Bool, true, false, not, List, [], ◌∷◌, ◌++◌, length, map, take, drop, codes, Option, None, Some, Ok, Err, IfSome, inl, inr, refl, ap, sym, ◌∙◌, append_assoc, append-nil, length-append, subst, arith}
+use Rattle.std.proofs.Common.{◌≡◌, ℕ, zero, suc, get_or, ◌<◌, Bool, true, false, List, [], ◌∷◌, ◌++◌, length, map, take, drop, Option, None, Some, Ok, Err, IfSome, inl, inr, refl, ap, sym, ◌∙◌, append_assoc, append-nil, length-append, subst, arith}
 use Rattle.std.proofs.Math.Seq.{take-append_seam}
-use Rattle.std.proofs.lemmas.Bool.Decides.{Decides-eqb}
-use Rattle.std.proofs.lemmas.Slice.Eq.{bytes_eq-Decides, starts_is}
+use Rattle.std.proofs.lemmas.Slice.Eq.{bytes_eq-Decides}
 use Rattle.std.specs.Io.KnownBytes.{Consumes}
 use Rattle.std.specs.Str.{bytes_eq}
 use Rattle.aprs_laws.specs.Book.{BookOf}
@@ -245,8 +244,7 @@ module _ (limit : ℕ) (input : List ℕ) (after : Option (List ℕ)) where
       let rows = rows_after old new in
       let gets : Gets limit (mark ++ input) after (book_text v rows) ending.End =
       subst (λ c. Gets limit (mark ++ input) after (book_text v rows) c) h.reads.4
-      (subst (λ t. Gets limit (mark ++ input) after t h.ending) h.reads.2 h.gets) in
-      (
+      (subst (λ t. Gets limit (mark ++ input) after t h.ending) h.reads.2 h.gets) in (
         book_text v rows,
         ending.End,
         gets,
