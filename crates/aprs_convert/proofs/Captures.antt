@@ -11,8 +11,7 @@ use Rattle.aprs_kiss.specs.Reader.{StandsAfter}
 use Rattle.aprs_kiss.specs.declared.reader.KissReader.{KissReader}
 use Rattle.aprs_log.specs.LogAnswers.{Gets}
 use Rattle.aprs_log.specs.declared.Ending.TheVariants as ending
-use Rattle.aprs_convert.specs.Ends.{RunsOver}
-use Rattle.aprs_convert.specs.Plan.{capture_text, stream_plan}
+use Rattle.aprs_convert.specs.Plan.{RunsOver, capture_text, stream_plan}
 use Rattle.aprs_convert.specs.declared.fault.ConvertFault.TheVariants.{Write}
 use Rattle.aprs_kiss.proofs.Pieces.{cuts, rest_of-none, judgements_of-append, judgements_of-none}
 
@@ -92,20 +91,6 @@ module _ (text : Judgement → List ℕ) where
           sent = λ f s. subst (Appends between after) (sym (ap (flat_map text) (judged f s))) out;
         });
       }
-
-  -- nothing is left
-  pub HasCaptured-all : (old new : KissReader) (before after : Option (List ℕ))
-      (chunk rest : List ℕ)
-      → HasCaptured old new before after chunk rest → length rest ≡ 0
-      → Captures old new before after chunk
-  HasCaptured-all old new before after chunk rest h e =
-      let none : rest ≡ [] = nil rest e in
-      subst (λ l. Captures old new before after l)
-      (sym (h.cut ∙ ap (λ l. h.seen ++ l) none ∙ append-nil h.seen)) h.captures
-    where
-      nil : (l : List ℕ) → length l ≡ 0 → l ≡ []
-      nil [] z = refl
-      nil (x ∷ l) z = absurd (omega (arith, z))
 
   -- an answer is refused
   pub HasCaptured-refused : (old mid : KissReader) (before between after : Option (List ℕ))
@@ -208,4 +193,4 @@ HasGot-refused r m limit left reader first now then_ old mid new chunk h consume
         → AppendsPrefix old new (text_of (capture_text r m) bytes)
         → RunsOver (stream_plan r m) limit first then_ (Err Write) old new
     runs None bytes g out = tt
-    runs (Some x) bytes g out = record { text = bytes; ending = ending.Read; gets = g; holds = out }
+    runs (Some x) bytes g out = (bytes, ending.Read, g, out)

@@ -11,11 +11,19 @@ use Rattle.aprs_log.specs.declared.fault.Reason.{Reason}
 use Rattle.aprs_log.specs.declared.line.Line.{Line}
 use Rattle.aprs_log.specs.declared.line.Line.TheVariants.{Heard, Passed}
 use Rattle.aprs_log.specs.Reception.{Heard as Reception}
-use Rattle.aprs_convert.specs.Ends.{RunsOver}
-use Rattle.aprs_convert.specs.Plan.{check_lines, check_of, check_plan, count_heard, count_passed, passed_line, totals_line, totals}
+use Rattle.aprs_convert.specs.Plan.{RunsOver, check_lines, check_of, check_plan, count_heard, count_passed, totals}
+use Rattle.aprs_convert.specs.Check.{passed_line, totals_line}
 use Rattle.aprs_convert.specs.declared.fault.ConvertFault.{ConvertFault}
 use Rattle.aprs_convert.specs.declared.fault.ConvertFault.TheVariants.{Log, Write}
 use Rattle.aprs_convert.proofs.Seen.{HasSeen, HasSeen-none, HasSeen-line, IsWhole, over, prepended}
+
+-- the report of a line, with its LF
+abbrev report : ℕ → Reason → List ℕ
+report n reason = passed_line (n, reason) ++ 10 ∷ []
+
+-- that of how many there are, with its LF
+abbrev sums : ℕ → ℕ → List ℕ
+sums heard passed = totals_line heard passed ++ 10 ∷ []
 
 check_lines-append : (n : ℕ) (xs ys : List Line)
     → check_lines n (xs ++ ys) ≡ check_lines n xs ++ check_lines (n + length xs) ys
@@ -25,9 +33,9 @@ check_lines-append n (Heard x ∷ xs) ys =
     check_lines-append (n + 1) xs ys ∙ ap (λ k. check_lines (n + 1) xs ++ check_lines k ys) e
 check_lines-append n (Passed reason ∷ xs) ys =
     let e : n + 1 + length xs ≡ n + length (Passed reason ∷ xs) = omega arith in
-    ap (λ l. passed_line n reason ++ l) (check_lines-append (n + 1) xs ys
+    ap (λ l. report n reason ++ l) (check_lines-append (n + 1) xs ys
     ∙ ap (λ k. check_lines (n + 1) xs ++ check_lines k ys) e)
-    ∙ sym (append_assoc (passed_line n reason) (check_lines (n + 1) xs)
+    ∙ sym (append_assoc (report n reason) (check_lines (n + 1) xs)
     (check_lines (n + length (Passed reason ∷ xs)) ys))
 
 count_heard-more : (xs : List Line) (x : Line)
@@ -113,7 +121,7 @@ module _ (first now after : Answers → Type 0) (a b : Option (List ℕ)) (heard
   pub Checked-passed : (c : Option (List ℕ)) (number : ℕ) (line : Line) (reason : Reason)
       → number ≡ count → line ≡ Passed reason
       → ((answers : Answers) → after answers → now (then_given line answers))
-      → Appends b c (passed_line number reason) → Checked first after a c heard (passed + 1) count
+      → Appends b c (report number reason) → Checked first after a c heard (passed + 1) count
   Checked-passed c number line reason same is given out =
       let next = given_as after now line (Passed reason) is given in
       let k = h.heard_is in
@@ -124,15 +132,15 @@ module _ (first now after : Answers → Type 0) (a b : Option (List ℕ)) (heard
       let len = length-append h.seen (Passed reason ∷ []) in
       let at : number ≡ 1 + length h.seen = omega arith in
       let text : check_lines 1 (h.seen ++ Passed reason ∷ []) ≡ check_lines 1 h.seen
-      ++ passed_line number reason =
+      ++ report number reason =
       check_lines-append 1 h.seen (Passed reason ∷ [])
-      ∙ ap (λ l. check_lines 1 h.seen ++ l) (append-nil (passed_line (1 + length h.seen) reason)
-      ∙ ap (λ i. passed_line i reason) (sym at)) in
+      ∙ ap (λ l. check_lines 1 h.seen ++ l) (append-nil (report (1 + length h.seen) reason)
+      ∙ ap (λ i. report i reason) (sym at)) in
       record {
         seen = h.seen ++ Passed reason ∷ [];
         has = HasSeen-line first now after h.seen (Passed reason) h.has next;
         out = subst (Appends a c) (sym text) (Appends-trans a b c (check_lines 1 h.seen)
-            (passed_line number reason) h.out out);
+            (report number reason) h.out out);
         heard_is = omega arith;
         passed_is = omega arith;
         lines_are = omega arith;
@@ -142,21 +150,21 @@ module _ (first now after : Answers → Type 0) (a b : Option (List ℕ)) (heard
   pub Checked-refused : (limit : ℕ) (known end c : Option (List ℕ)) (number : ℕ) (line : Line)
       (reason : Reason) → number ≡ count → line ≡ Passed reason
       → ((answers : Answers) → after answers → now (then_given line answers))
-      → (answers : Answers) → after answers → AppendsPrefix b c (passed_line number reason)
+      → (answers : Answers) → after answers → AppendsPrefix b c (report number reason)
       → IsWhole first limit known end
       → RunsOver check_plan limit known end (Err Write) a c
   Checked-refused limit known end c number line reason same is given answers may prefix whole =
       let next = given_as after now line (Passed reason) is given in
       let n = h.lines_are in
       let at : number ≡ 1 + length h.seen = omega arith in
-      let line = passed_line number reason in
+      let line = report number reason in
       let all = prepended h.seen (then_given (Passed reason) answers) in
       let more = check_lines (1 + length h.seen + 1) answers.given
       ++ totals answers.fault all.given in
       let text : check_of all ≡ (check_lines 1 h.seen ++ line) ++ more =
       ap (λ l. l ++ totals answers.fault all.given)
       (check_lines-append 1 h.seen (Passed reason ∷ answers.given)
-      ∙ ap (λ i. check_lines 1 h.seen ++ (passed_line i reason
+      ∙ ap (λ i. check_lines 1 h.seen ++ (report i reason
       ++ check_lines (1 + length h.seen + 1) answers.given)) (sym at)
       ∙ sym (append_assoc (check_lines 1 h.seen) line
       (check_lines (1 + length h.seen + 1) answers.given)))
@@ -177,32 +185,32 @@ module _ (first now : Answers → Type 0) (a b : Option (List ℕ)) (heard passe
       (append-nil h.seen)
 
   text_is : check_of (prepended h.seen (ended None)) ≡ check_lines 1 h.seen
-      ++ totals_line heard passed
-  text_is = seen_whole None ∙ ap (λ k. check_lines 1 h.seen ++ totals_line k (count_passed h.seen))
+      ++ sums heard passed
+  text_is = seen_whole None ∙ ap (λ k. check_lines 1 h.seen ++ sums k (count_passed h.seen))
       (sym h.heard_is)
-      ∙ ap (λ k. check_lines 1 h.seen ++ totals_line heard k) (sym h.passed_is)
+      ∙ ap (λ k. check_lines 1 h.seen ++ sums heard k) (sym h.passed_is)
 
   -- the log ended
   pub Checked-ended : (c : Option (List ℕ)) → now (ended None)
-      → Appends b c (totals_line heard passed)
+      → Appends b c (sums heard passed)
       → RunsOver check_plan limit known end (Ok tt) a c
   Checked-ended c may out =
       over check_of limit known end (Ok tt) a c (prepended h.seen (ended None))
       (whole _ (h.has.complete (ended None) may)) (
         refl,
         subst (Appends a c) (sym text_is)
-            (Appends-trans a b c (check_lines 1 h.seen) (totals_line heard passed) h.out out),
+            (Appends-trans a b c (check_lines 1 h.seen) (sums heard passed) h.out out),
       )
 
   -- the totals are refused
   pub Checked-totals_refused : (c : Option (List ℕ)) → now (ended None)
-      → AppendsPrefix b c (totals_line heard passed)
+      → AppendsPrefix b c (sums heard passed)
       → RunsOver check_plan limit known end (Err Write) a c
   Checked-totals_refused c may prefix =
       over check_of limit known end (Err Write) a c (prepended h.seen (ended None))
       (whole _ (h.has.complete (ended None) may))
       (subst (AppendsPrefix a c) (sym text_is)
-      (AppendsPrefix-then a b c (check_lines 1 h.seen) (totals_line heard passed) h.out prefix))
+      (AppendsPrefix-then a b c (check_lines 1 h.seen) (sums heard passed) h.out prefix))
 
   -- the log has a fault
   pub Checked-fault : (fault : LogFault) (answer : ConvertFault) → answer ≡ Log fault

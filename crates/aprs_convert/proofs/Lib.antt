@@ -1,5 +1,10 @@
+pub mod Gots
 pub mod Texts
 pub mod Seen
 pub mod Checked
 pub mod Captures
 pub mod Forms
+pub mod Planned
+pub mod SaidLines
+pub mod Writings
+pub mod OneText

@@ -10,8 +10,7 @@ use Rattle.aprs_log.specs.LogAnswers.{Answers, ended, log_answers, then_given}
 use Rattle.aprs_log.specs.Reader.{AreAnswersOf}
 use Rattle.aprs_log.specs.declared.line.Line.{Line}
 use Rattle.aprs_log.specs.declared.fault.LogFault.{LogFault}
-use Rattle.aprs_convert.specs.Ends.{Ends, RunsOver}
-use Rattle.aprs_convert.specs.Plan.{line_text, lines_plan, lines_fault}
+use Rattle.aprs_convert.specs.Plan.{EndsAsPlanned, RunsOver, line_text, lines_plan}
 use Rattle.aprs_convert.specs.declared.fault.ConvertFault.{ConvertFault}
 use Rattle.aprs_convert.specs.declared.fault.ConvertFault.TheVariants.{Log, Write}
 use Rattle.aprs_convert.specs.declared.form.Form.{Form}
@@ -79,17 +78,17 @@ IsWhole first limit known end = (a : Answers) → first a
 pub over : (whole : Answers → List ℕ) (limit : ℕ) (known end : Option (List ℕ))
     (r : Result (Unit {0}) ConvertFault) (old new : Option (List ℕ)) (a : Answers)
     → IfSome known (λ input. AreAnswersOf limit input end a)
-    → Ends r old new (record { text = whole a; fault = a.fault })
-    → RunsOver (λ t c. record { text = whole (log_answers t c); fault = lines_fault t c }) limit
-    known end r old new
+    → EndsAsPlanned r old new (record { text = whole a; fault = a.fault })
+    → RunsOver (λ t c. record { text = whole (log_answers t c); fault = (log_answers t c).fault })
+    limit known end r old new
 over whole limit None end r old new a h runs = tt
-over whole limit (Some input) end r old new a h runs = record {
-  text = h.text;
-  ending = h.ending;
-  gets = h.gets;
-  holds = subst (λ (x : Answers). Ends r old new (record { text = whole x; fault = x.fault })) h.is
-      runs;
-}
+over whole limit (Some input) end r old new a h runs = (
+  h.text,
+  h.ending,
+  h.gets,
+  subst (λ (x : Answers). EndsAsPlanned r old new (record { text = whole x; fault = x.fault }))
+      h.is runs,
+)
 
 abbrev lines_of : Form → Answers → List ℕ
 lines_of form a = flat_map (line_text form) a.given

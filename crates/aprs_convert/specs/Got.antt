@@ -3,15 +3,8 @@ use Rattle.std.specs.Prelude.{ℕ, List, Option, IfSome}
 use Rattle.aprs_log.specs.LogAnswers.{Gets}
 use Rattle.aprs_log.specs.declared.Ending.{Ending}
 
--- At most `limit` bytes were got, and P holds of them and of what came after them; the device then
--- has `after`.
-pub record HoldsOfGot (limit : ℕ) (input : List ℕ) (after : Option (List ℕ))
-    (P : List ℕ → Ending → Type 0) : Type 0 where
-  pub text : List ℕ
-  pub ending : Ending
-  pub gets : Gets limit input after text ending
-  pub holds : P text ending
-
--- The same, where the input's bytes are known.
+-- P holds of at most `limit` bytes that were got of an input and of what came after them, where all
+-- of its bytes are known; the device then has `after`.
 abbrev pub OfGot : ℕ → Option (List ℕ) → Option (List ℕ) → (List ℕ → Ending → Type 0) → Type 0
-OfGot limit known after P = IfSome known (λ input. HoldsOfGot limit input after P)
+OfGot limit known after P = IfSome known (λ input.
+    (text : List ℕ) × (ending : Ending) × Gets limit input after text ending × P text ending)

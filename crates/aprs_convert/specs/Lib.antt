@@ -1,6 +1,8 @@
 -- Definitions that contracts of conversions and checks cite.
 pub mod Shown
 pub mod Monitor
-pub mod Plan
+pub mod Conversion
+pub mod Check
 pub mod Got
 pub mod Ends
+pub mod Plan

@@ -6,7 +6,8 @@ ghost use Rattle.aprs_report.specs.Reader.{reading_of};
 ghost use Rattle.aprs_report.specs.Reading.{kind_of};
 ghost use Rattle.arrayvec.specs.ArrayVec.{array_vec_len};
 ghost use Rattle.aprs_convert.specs.Monitor.{monitor_text, kind_text};
-ghost use Rattle.aprs_convert.specs.Plan.{line_text, reception_text, ended_by_lf};
+ghost use Rattle.aprs_convert.specs.Conversion.{reception_text};
+ghost use Rattle.aprs_convert.specs.Plan.{line_text};
 
 use crate::form::Form;
 use crate::monitor::push_monitor_text;
@@ -65,8 +66,7 @@ fn write_reception<W: Write>(
         Form::Text => write_monitor_line(w, reception.frame(), &mut scratch.text),
         Form::Kind => write_kind_line(w, reception.frame(), &mut scratch.text),
         Form::Kiss => scratch.kiss.write(w, reception.frame().bytes()),
-        Form::Log => scratch.log.write(w, reception),
-        Form::Capture { .. } => Ok(()),
+        Form::Log | Form::Capture { .. } => scratch.log.write(w, reception),
     }
 }
 
@@ -77,7 +77,7 @@ fn write_monitor_line<W: Write>(
     text: &mut Text,
 ) -> Result<(), WriteFault>
     ensures { Sends W.contents result w.old w.new
-        (ended_by_lf (monitor_text (parts_of frame.now))) }
+        (monitor_text (parts_of frame.now) ++ 10 ∷ []) }
 {
     text.clear();
     push_monitor_line(text, frame);
@@ -90,7 +90,7 @@ fn write_kind_line<W: Write>(
     frame: &Frame,
     text: &mut Text,
 ) -> Result<(), WriteFault>
-    ensures { Sends W.contents result w.old w.new (ended_by_lf (kind_text (parts_of frame.now))) }
+    ensures { Sends W.contents result w.old w.new (kind_text (parts_of frame.now) ++ 10 ∷ []) }
 {
     text.clear();
     push_kind_line(text, frame);
@@ -100,7 +100,7 @@ fn write_kind_line<W: Write>(
 /// Puts the kind of report, a space, the frame as a monitor prints it, and an LF into the text.
 fn push_kind_line(text: &mut Text, frame: &Frame)
     requires { text.old.items ≡ [] }
-    ensures { text.new.items ≡ ended_by_lf (kind_text (parts_of frame.now)) }
+    ensures { text.new.items ≡ kind_text (parts_of frame.now) ++ 10 ∷ [] }
 {
     push_kind(text, frame.info());
     text.push(b' ');
@@ -121,7 +121,7 @@ fn push_kind(out: &mut Text, info: &[u8])
 /// Puts the frame as a monitor prints it, and an LF into the text.
 fn push_monitor_line(text: &mut Text, frame: &Frame)
     requires { text.old.items ≡ [] }
-    ensures { text.new.items ≡ ended_by_lf (monitor_text (parts_of frame.now)) }
+    ensures { text.new.items ≡ monitor_text (parts_of frame.now) ++ 10 ∷ [] }
 {
     push_monitor_text(text, frame);
     text.push(b'\n');

@@ -12,8 +12,7 @@ ghost use Rattle.aprs_kiss.specs.Answer.{judgements_in};
 ghost use Rattle.aprs_kiss.specs.Stream.{judgements_of, rest_of};
 ghost use Rattle.aprs_log.specs.Awaits.{EndsHere};
 ghost use Rattle.aprs_log.specs.declared.Ending.TheVariants.{Read as ReadFailed};
-ghost use Rattle.aprs_convert.specs.Ends.{Runs, EndsStream};
-ghost use Rattle.aprs_convert.specs.Plan.{stream_plan, capture_text, captured};
+ghost use Rattle.aprs_convert.specs.Plan.{EndsStream, RunsAsPlanned, capture_text, frame_line, stream_plan};
 
 use crate::fault::ConvertFault;
 use aprs_ax25::Frame;
@@ -35,8 +34,8 @@ pub fn capture<R: Read, W: Write>(
     w: &mut Counted<W>,
 ) -> Result<(), ConvertFault>
     requires { limit ≤ most_input }
-    ensures { Runs (stream_plan receiver.now moment.now) limit R.remaining W.contents result
-        r.old r.new w.old w.new }
+    ensures { RunsAsPlanned (stream_plan receiver.now moment.now) limit R.remaining W.contents
+        result r.old r.new w.old w.new }
 {
     let mut reader = KissReader::new();
     let mut log = LogWriter::new();
@@ -127,7 +126,7 @@ fn write_frame<W: Write>(
     bytes: &[u8],
 ) -> Result<(), WriteFault>
     ensures { Sends W.contents result w.old w.new
-        (captured receiver.now moment.now (frame_of bytes.now)) }
+        (frame_line receiver.now moment.now (frame_of bytes.now)) }
 {
     match Frame::read(bytes) {
         Ok(frame) => log.write(w, &Reception::new(moment.copy(), receiver.copy(), frame)),

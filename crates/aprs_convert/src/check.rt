@@ -1,12 +1,12 @@
 //! What a check reports of a log.
-ghost use Rattle.std.specs.Prelude.{◌≡◌, ◌≤◌, ◌++◌, codes};
+ghost use Rattle.std.specs.Prelude.{◌≡◌, ◌≤◌, [], ◌∷◌, ◌++◌, codes};
 ghost use Rattle.std.specs.Fmt.{decimal};
 ghost use Rattle.arrayvec.specs.ArrayVec.{array_vec_len};
 ghost use Rattle.aprs_io.specs.Input.{most_input};
 ghost use Rattle.aprs_kiss.specs.Device.{Sends};
 ghost use Rattle.aprs_log.specs.Fault.{reason_name};
+ghost use Rattle.aprs_convert.specs.Check.{Checks, passed_line, totals_line};
 ghost use Rattle.aprs_convert.specs.Ends.{Runs};
-ghost use Rattle.aprs_convert.specs.Plan.{check_plan, ended_by_lf, passed_line, totals_line};
 
 use crate::fault::ConvertFault;
 use crate::text::{Text, push_decimal};
@@ -27,8 +27,7 @@ pub fn check_log<R: Read, W: Write, A: Allocator + Copy>(
     w: &mut Counted<W>,
 ) -> Result<(), ConvertFault>
     requires { limit ≤ most_input }
-    ensures { Runs check_plan limit R.remaining W.contents result r.old r.new
-        w.old w.new }
+    ensures { Runs Checks limit R.remaining W.contents result r.old r.new w.old w.new }
 {
     let mut reader = LogReader::new(alloc, limit, &[], r);
     let mut heard = 0;
@@ -50,7 +49,7 @@ pub fn check_log<R: Read, W: Write, A: Allocator + Copy>(
 
 /// Writes that a line is passed over, and why.
 fn write_passed<W: Write>(w: &mut Counted<W>, line: u64, reason: Reason) -> Result<(), WriteFault>
-    ensures { Sends W.contents result w.old w.new (passed_line line reason) }
+    ensures { Sends W.contents result w.old w.new (passed_line (line, reason) ++ 10 ∷ []) }
 {
     let text = passed_line(line, reason);
     send(w, text.as_slice())
@@ -58,14 +57,14 @@ fn write_passed<W: Write>(w: &mut Counted<W>, line: u64, reason: Reason) -> Resu
 
 /// Writes how many lines are heard and how many passed over.
 fn write_totals<W: Write>(w: &mut Counted<W>, heard: u64, passed: u64) -> Result<(), WriteFault>
-    ensures { Sends W.contents result w.old w.new (totals_line heard passed) }
+    ensures { Sends W.contents result w.old w.new (totals_line heard passed ++ 10 ∷ []) }
 {
     let text = totals_line(heard, passed);
     send(w, text.as_slice())
 }
 
 fn passed_line(line: u64, reason: Reason) -> Text
-    ensures { result.items ≡ passed_line line reason }
+    ensures { result.items ≡ passed_line (line, reason) ++ 10 ∷ [] }
 {
     let mut text = Text::new();
     push_all(&mut text, b"line ");
@@ -77,7 +76,7 @@ fn passed_line(line: u64, reason: Reason) -> Text
 }
 
 fn totals_line(heard: u64, passed: u64) -> Text
-    ensures { result.items ≡ totals_line heard passed }
+    ensures { result.items ≡ totals_line heard passed ++ 10 ∷ [] }
 {
     let mut text = Text::new();
     push_all(&mut text, b"heard ");

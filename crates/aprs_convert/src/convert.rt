@@ -1,8 +1,7 @@
 //! A log's lines, converted as they are read.
 ghost use Rattle.std.specs.Prelude.{◌≤◌};
 ghost use Rattle.aprs_io.specs.Input.{most_input};
-ghost use Rattle.aprs_convert.specs.Ends.{Runs};
-ghost use Rattle.aprs_convert.specs.Plan.{lines_plan};
+ghost use Rattle.aprs_convert.specs.Plan.{RunsAsPlanned, lines_plan};
 
 use crate::answer::{Scratch, write_line_as};
 use crate::fault::ConvertFault;
@@ -21,7 +20,7 @@ pub fn convert_lines<R: Read, W: Write, A: Allocator + Copy>(
     w: &mut Counted<W>,
 ) -> Result<(), ConvertFault>
     requires { limit ≤ most_input }
-    ensures { Runs (lines_plan form.now) limit R.remaining W.contents result r.old r.new
+    ensures { RunsAsPlanned (lines_plan form.now) limit R.remaining W.contents result r.old r.new
         w.old w.new }
 {
     let mut reader = LogReader::new(alloc, limit, &[], r);

@@ -1,8 +1,8 @@
 //! Runs over one input.
 ghost use Rattle.std.specs.Prelude.{◌≤◌};
 ghost use Rattle.aprs_io.specs.Input.{most_input};
+ghost use Rattle.aprs_convert.specs.Conversion.{Converts};
 ghost use Rattle.aprs_convert.specs.Ends.{Runs};
-ghost use Rattle.aprs_convert.specs.Plan.{convert_plan};
 
 use crate::capture::capture;
 use crate::convert::convert_lines;
@@ -24,8 +24,7 @@ pub fn convert_input<R: Read, W: Write, A: Allocator + Copy>(
     w: &mut Counted<W>,
 ) -> Result<(), ConvertFault>
     requires { limit ≤ most_input }
-    ensures { Runs (convert_plan form) limit R.remaining W.contents result r.old r.new
-        w.old w.new }
+    ensures { Runs (Converts form) limit R.remaining W.contents result r.old r.new w.old w.new }
 {
     match &form {
         Form::Capture { receiver, moment } => capture(limit, receiver, moment, r, w),

@@ -10,6 +10,7 @@ use Rattle.aprs_booktext.proofs.Accepting.{rows_few}
 use Rattle.aprs_booktext.proofs.OneText.{cut_short}
 use Rattle.aprs_tool.specs.Inputs.{GivesSet, IsBookFileOf}
 use Rattle.aprs_tool.specs.Refused.{IsFaulty}
+use Rattle.aprs_tool.proofs.Beginnings.{file_begins, log_is_no_book}
 use Rattle.aprs_tool.proofs.Sets.{file_rows, log_none}
 use Rattle.aprs_tool.specs.Status.{status_of_book_cause, status_of_input}
 use Rattle.aprs_tool.specs.declared.fault.InputFault.{InputFault}
@@ -25,14 +26,15 @@ file_none gap S t c f small p first =
 
 pub no_fault : (gap : ℕ) (t : List ℕ) (c : Ending) (S : List Heard) (e : InputFault)
     → length t ≤ most_input → GivesSet gap t c S → IsFaulty e t c → status_of_input e ≡ 4
-no_fault gap t c S (Log f) small (inl p) h = absurd (let x : true ≡ false = sym p.0 ∙ h.0 in cc)
+no_fault gap t c S (Log f) small (inl p) h =
+    absurd (let x : true ≡ false = sym (file_begins gap S t c p) ∙ h.0 in cc)
 no_fault gap t c S (Log f) small (inr p) h =
-    absurd (let x : None ≡ Some f = sym (log_none S t c p.1) ∙ log_fault-answers t c f h.1 in cc)
+    absurd (let x : None ≡ Some f = sym (log_none S t c p) ∙ log_fault-answers t c f h.1 in cc)
 no_fault gap t c S (Book f) small (inl p) h = elim h.1 [
   | inl memory ↦ ap status_of_book_cause memory.refused
-  | inr first ↦ absurd (file_none gap S t c f small p.1 first)
+  | inr first ↦ absurd (file_none gap S t c f small p first)
 ]
-no_fault gap t c S (Book f) small (inr p) h = absurd (let x : true ≡ false = sym h.0 ∙ p.0 in cc)
+no_fault gap t c S (Book f) small (inr p) h = absurd (log_is_no_book t c p.0 p.1 h.0)
 no_fault gap t c S Memory small gives h = refl
 no_fault gap t c S OtherGap small gives h = absurd h
 no_fault gap t c S Narrower small gives h = absurd h

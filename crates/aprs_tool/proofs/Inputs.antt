@@ -1,8 +1,7 @@
 -- Lemmas on inputs, of which the first bytes are known.
-use Rattle.std.proofs.Common.{◌≡◌, ℕ, zero, suc, get_or, ◌<◌, Bool, true, false, not, List, [], ◌∷◌, ◌++◌, length, map, take, drop, codes, Option, None, Some, Ok, Err, IfSome, inl, inr, refl, ap, sym, ◌∙◌, append_assoc, append-nil, length-append, subst, arith}
+use Rattle.std.proofs.Common.{◌≡◌, ℕ, zero, suc, get_or, ◌<◌, Bool, true, false, List, [], ◌∷◌, ◌++◌, length, map, take, drop, Option, None, Some, Ok, Err, IfSome, inl, inr, refl, ap, sym, ◌∙◌, append_assoc, append-nil, length-append, subst, arith}
 use Rattle.std.proofs.Math.Seq.{take-append_seam}
-use Rattle.std.proofs.lemmas.Bool.Decides.{Decides-eqb}
-use Rattle.std.proofs.lemmas.Slice.Eq.{bytes_eq-Decides, starts_is}
+use Rattle.std.proofs.lemmas.Slice.Eq.{bytes_eq-Decides}
 use Rattle.std.specs.Io.KnownBytes.{Consumes}
 use Rattle.std.specs.Str.{bytes_eq}
 use Rattle.aprs_laws.specs.Book.{BookOf}
@@ -29,17 +28,15 @@ use Rattle.aprs_booktext.specs.declared.version.Version.{Version}
 use Rattle.aprs_booktext.specs.declared.version.Version.TheVariants.{One, Two, Three}
 use Rattle.aprs_booktext.specs.declared.fault.BookFault.{BookFault}
 use Rattle.aprs_tool.specs.Head.{IsHead}
-use Rattle.aprs_convert.specs.Got.{HoldsOfGot, OfGot}
+use Rattle.aprs_convert.specs.Got.{OfGot}
 use Rattle.aprs_tool.specs.InputBook.{IsGapOf, ReadsInput}
 use Rattle.aprs_tool.specs.Inputs.{GivesSet, is_book_file}
 use Rattle.aprs_tool.specs.Refused.{IsFaulty}
+use Rattle.aprs_tool.proofs.Beginnings.{begins, book_begins, is_book, mark}
 use Rattle.aprs_tool.proofs.Sets.{log_of, set_book}
-use Rattle.aprs_tool.specs.InputRows.{GivesRows, ReadsLog, ReadsRows}
+use Rattle.aprs_tool.specs.InputRows.{GivesRows, HoldsOfGot, ReadsLog, ReadsRows}
 use Rattle.aprs_tool.specs.declared.fault.InputFault.{InputFault}
 use Rattle.aprs_tool.specs.declared.fault.InputFault.TheVariants.{Log, Book, Memory, OtherGap, Narrower}
-
-abbrev mark : List ℕ
-mark = codes "APRSBOOK"
 
 -- ---- which of both it is
 
@@ -51,12 +48,6 @@ pub is_other_eq : (head : List ℕ) (b : Bool) → b ≡ bytes_eq head mark → 
 is_other_eq head b e other same =
     let f : false ≡ true = sym other ∙ e ∙ (bytes_eq-Decides head mark).1 same in
     absurd cc
-
-begins : (t : List ℕ) → is_book_file t ≡ true → t ≡ mark ++ drop 8 t
-begins t e = (starts_is Decides-eqb t mark (is_book_file t) refl).0 e
-
-is_book : (t rest : List ℕ) → t ≡ mark ++ rest → is_book_file t ≡ true
-is_book t rest e = (starts_is Decides-eqb t mark (is_book_file t) refl).1 rest e
 
 same_prefix : (a b x y : List ℕ) → length a ≡ length b → a ++ x ≡ b ++ y → a ≡ b
 same_prefix a b x y size e =
@@ -129,7 +120,7 @@ gives_log asked old new t c is h =
       rows = map single heard;
       new_is = h.1;
       set = heard;
-      gives = inr (is, log_of t c h.0);
+      gives = inr (log_of t c h.0);
       stand = singles_stand heard;
     }
 
@@ -140,7 +131,7 @@ pub read_alone : (asked : ℕ) (b : BookValue) (old rows : List Row) (t : List �
 read_alone asked b old rows t c is its none holds h =
     let heard = receptions_of (log_answers t c).given in
     let all : rows ≡ map single heard = h.1 ∙ ap (λ T. T ++ map single heard) none in
-    let gives : GivesSet b.gap t c heard = inr (is, log_of t c h.0) in (
+    let gives : GivesSet b.gap t c heard = inr (log_of t c h.0) in (
       λ log. its,
       (heard, gives),
       λ S set. set_book b.gap t c S heard b.rows set gives
@@ -156,13 +147,12 @@ pub log_input : (known after : Option (List ℕ)) (limit : ℕ) (head : List ℕ
     → IfSome known (λ input. HoldsOfGot limit (head ++ input) after P)
     → IfSome known (λ input. HoldsOfGot limit (head ++ input) after Q)
 log_input None after limit head P Q size other follows h = tt
-log_input (Some input) after limit head P Q size other follows h = record {
-  text = h.text;
-  ending = h.ending;
-  gets = h.gets;
-  holds = follows h.text h.ending (is_log head input h.text h.gets.rest size other h.gets.whole)
-      h.holds;
-}
+log_input (Some input) after limit head P Q size other follows h = (
+  h.0,
+  h.1,
+  h.2,
+  follows h.0 h.1 (is_log head input h.0 h.2.rest size other h.2.whole) h.3,
+)
 
 -- a short one has this fault, or none
 pub short_fault : (t : List ℕ) (c : Ending) (fault : LogFault) (rows : List Row)
@@ -178,12 +168,6 @@ short_empty t c rows e = (
 
 -- ---- a book file
 
-book_begins : (v : Version) (rows : List Row) → is_book_file (book_text v rows) ≡ true
-book_begins One rows = is_book (book_text One rows) (drop 8 (book_text One rows)) refl
-book_begins Two rows = is_book (book_text Two rows) (drop 8 (book_text Two rows)) refl
-book_begins (Three gap) rows = is_book (book_text (Three gap) rows)
-    (drop 8 (book_text (Three gap) rows)) refl
-
 -- the gap of a version
 gap_positive : (v : Version) → IsVersion v → 0 < gap_of v
 gap_positive One is = omega arith
@@ -193,21 +177,18 @@ gap_positive (Three gap) is = is.0
 -- it stands for the witnesses of its rows
 gives_file : (own : ℕ) (v : Version) (rows : List Row) → own ≡ gap_of v → IsBookRows v rows
     → GivesSet own (book_text v rows) ending.End (witnesses rows)
-gives_file own v rows same is = inl (
-  book_begins v rows,
-  record {
-    version = v;
-    rows = rows;
-    gap_is = sym same;
-    is_version = is.version;
-    spelled = is.each;
-    text_is = refl;
-    whole = refl;
-    book = let positive = gap_positive v is.version in
-        witnessed (millis_of own) rows (omega (arith, positive, same))
-        (subst (λ g. Sound (millis_of g) rows) (sym same) is.sound);
-  },
-)
+gives_file own v rows same is = inl (record {
+  version = v;
+  rows = rows;
+  gap_is = sym same;
+  is_version = is.version;
+  spelled = is.each;
+  text_is = refl;
+  whole = refl;
+  book = let positive = gap_positive v is.version in
+      witnessed (millis_of own) rows (omega (arith, positive, same))
+      (subst (λ g. Sound (millis_of g) rows) (sym same) is.sound);
+})
 
 -- no log begins so
 its_own : (asked own : ℕ) (v : Version) (rows : List Row) → IsGapOf asked (book_text v rows) own
@@ -243,12 +224,8 @@ gives_book asked own old new rows v same is e = record {
 module _ (limit : ℕ) (input : List ℕ) (after : Option (List ℕ)) where
   pub refused_book : (f : BookFault) → Reads limit mark input after (Err f)
       → HoldsOfGot limit (mark ++ input) after (IsFaulty (Book f))
-  refused_book f h = record {
-    text = mark ++ h.got;
-    ending = h.ending;
-    gets = h.gets;
-    holds = (is_book (mark ++ h.got) h.got refl, h.reads);
-  }
+  refused_book f h =
+      (mark ++ h.got, h.ending, h.gets, (is_book (mark ++ h.got) h.got refl, h.reads))
 
   pub read_book : (asked : ℕ) (b : BookValue) → Reads limit mark input after (Ok b)
       → HoldsOfGot limit (mark ++ input) after (ReadsInput asked (Ok b))
@@ -257,12 +234,7 @@ module _ (limit : ℕ) (input : List ℕ) (after : Option (List ℕ)) where
       let gets : Gets limit (mark ++ input) after (book_text v b.rows) ending.End =
       subst (λ c. Gets limit (mark ++ input) after (book_text v b.rows) c) h.reads.4
       (subst (λ t. Gets limit (mark ++ input) after t h.ending) h.reads.2 h.gets) in
-      record {
-        text = book_text v b.rows;
-        ending = ending.End;
-        gets = gets;
-        holds = reads_book asked b v h.reads.1 h.reads.3;
-      }
+      (book_text v b.rows, ending.End, gets, reads_book asked b v h.reads.1 h.reads.3)
 
   pub rows_read : (asked own : ℕ) (old new : List Row) → new ≡ old ++ rows_after old new
       → Reads limit mark input after (Ok (record { gap = own; rows = rows_after old new }))
@@ -272,13 +244,12 @@ module _ (limit : ℕ) (input : List ℕ) (after : Option (List ℕ)) where
       let rows = rows_after old new in
       let gets : Gets limit (mark ++ input) after (book_text v rows) ending.End =
       subst (λ c. Gets limit (mark ++ input) after (book_text v rows) c) h.reads.4
-      (subst (λ t. Gets limit (mark ++ input) after t h.ending) h.reads.2 h.gets) in
-      record {
-        text = book_text v rows;
-        ending = ending.End;
-        gets = gets;
-        holds = gives_book asked own old new rows v h.reads.1 h.reads.3 e;
-      }
+      (subst (λ t. Gets limit (mark ++ input) after t h.ending) h.reads.2 h.gets) in (
+        book_text v rows,
+        ending.End,
+        gets,
+        gives_book asked own old new rows v h.reads.1 h.reads.3 e,
+      )
 
 -- where its bytes may not be known
 pub rows_input : (asked own : ℕ) (old new : List Row) (known after : Option (List ℕ)) (limit : ℕ)
@@ -316,7 +287,7 @@ pub of_got : (known after : Option (List ℕ)) (limit : ℕ) (t : List ℕ) (c :
     → P t c → OfGot limit known after P
 of_got None after limit t c P gets reads = tt
 of_got (Some input) after limit t c P gets reads =
-    record { text = t; ending = c; gets = gets; holds = reads }
+    (t, c, gets, reads)
 
 -- and so is what was got after a head
 pub of_head : (known mid after : Option (List ℕ)) (limit : ℕ) (head : List ℕ)

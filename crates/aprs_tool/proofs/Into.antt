@@ -1,5 +1,5 @@
 -- Lemmas on an input that is read into a book.
-use Rattle.std.proofs.Common.{◌≡◌, ℕ, true, false, Bool, List, [], ◌∷◌, ◌++◌, length, Option, None, Some, Ok, Err, IfSome, inr, refl, sym, subst, arith}
+use Rattle.std.proofs.Common.{◌≡◌, ℕ, true, false, Bool, List, [], ◌∷◌, ◌++◌, length, Ok, Err, inl, inr, refl, sym, subst, arith}
 use Rattle.aprs_laws.specs.Book.{BookOf}
 use Rattle.aprs_laws.specs.BookValue.{BookValue}
 use Rattle.aprs_laws.specs.Gap.{millis_of}
@@ -10,10 +10,11 @@ use Rattle.aprs_book.specs.Taking.{MergesInto}
 use Rattle.aprs_laws.specs.declared.merge_fault.MergeFault.{MergeFault}
 use Rattle.aprs_laws.specs.declared.merge_fault.MergeFault.TheVariants as fault
 use Rattle.aprs_log.specs.declared.Ending.{Ending}
-use Rattle.aprs_convert.specs.Got.{HoldsOfGot}
 use Rattle.aprs_tool.specs.InputBook.{IsGapOf, ReadsInput, TakesInput}
 use Rattle.aprs_tool.specs.InputRows.{GivesRows, RefusesGaps}
-use Rattle.aprs_tool.specs.Inputs.{GivesSet, is_book_file}
+use Rattle.aprs_log.specs.Reception.{Heard}
+use Rattle.aprs_tool.specs.Inputs.{GivesSet, IsBookFileOf, is_book_file}
+use Rattle.aprs_tool.proofs.Beginnings.{log_is_no_book}
 use Rattle.aprs_tool.specs.Refused.{fault_of_merge, IsNotTaken}
 use Rattle.aprs_tool.specs.declared.fault.InputFault.TheVariants.{OtherGap}
 
@@ -23,33 +24,22 @@ merges_empty gap [] rows e = λ S T none book. book_carries gap (T ++ S) (S ++ T
     (merged gap T S rows [] book none)
 merges_empty gap (x ∷ old) rows e = absurd (omega (arith, e))
 
--- ---- of whatever was got
-
--- what follows of each text follows of what was got
-pub got_so : (known after : Option (List ℕ)) (limit : ℕ) (whole : List ℕ → List ℕ) (P Q : List ℕ
-    → Ending → Type 0) → ((t : List ℕ) (c : Ending) → P t c → Q t c)
-    → IfSome known (λ input. HoldsOfGot limit (whole input) after P)
-    → IfSome known (λ input. HoldsOfGot limit (whole input) after Q)
-got_so None after limit whole P Q follows h = tt
-got_so (Some input) after limit whole P Q follows h =
-    record {
-      text = h.text;
-      ending = h.ending;
-      gets = h.gets;
-      holds =
-          follows h.text h.ending h.holds;
-    }
-
 -- ---- an input's book that is merged, or its rows
 
 -- a log is read with the asked gap, so that only a book file has another
-pub other_gap : (gap : ℕ) (t : List ℕ) (own : ℕ) → (own ≡ gap → ⊥) → IsGapOf gap t own
+other_gap : (gap : ℕ) (t : List ℕ) (own : ℕ) → (own ≡ gap → ⊥) → IsGapOf gap t own
     → is_book_file t ≡ true
 other_gap gap t own differs is = by (is_book_file t) refl
   where
     by : (b : Bool) → is_book_file t ≡ b → is_book_file t ≡ true
     by true e = e
     by false e = absurd (differs (is e))
+
+pub file_of : (gap own : ℕ) (t : List ℕ) (c : Ending) (S : List Heard) → (own ≡ gap → ⊥)
+    → IsGapOf gap t own → GivesSet own t c S → IsBookFileOf own S t c
+file_of gap own t c S differs is (inl p) = p
+file_of gap own t c S differs is (inr p) =
+    absurd (log_is_no_book t c p.0 p.1 (other_gap gap t own differs is))
 
 module _ (gap : ℕ) (t : List ℕ) (c : Ending) (b : BookValue) (h : ReadsInput gap (Ok b) t c) where
   -- it was merged into the rows
@@ -66,7 +56,7 @@ module _ (gap : ℕ) (t : List ℕ) (c : Ending) (b : BookValue) (h : ReadsInput
       → TakesInput gap (Err (fault_of_merge e)) old new t c
   not_merged_in fault.OtherGap old new differs =
       let other : b.gap ≡ gap → ⊥ = λ same. differs (sym same) in
-      inr (other_gap gap t b.gap other h.0, (b.gap, h.1.0, other, h.1.1))
+      (b.gap, h.1.0, other, file_of gap b.gap t c h.1.0 other h.0 h.1.1)
   not_merged_in fault.Memory old new same =
       inr (h.1.0, subst (λ g. GivesSet g t c h.1.0) (sym same) h.1.1)
 
@@ -74,4 +64,4 @@ module _ (gap : ℕ) (t : List ℕ) (c : Ending) (b : BookValue) (h : ReadsInput
 pub other_rows : (gap own : ℕ) (old new : List Row) (t : List ℕ) (c : Ending) → (own ≡ gap → ⊥)
     → GivesRows gap own old new t c → IsNotTaken gap OtherGap t c
 other_rows gap own old new t c differs h =
-    inr (other_gap gap t own differs h.gap_is, (own, h.set, differs, h.gives))
+    (own, h.set, differs, file_of gap own t c h.set differs h.gap_is h.gives)

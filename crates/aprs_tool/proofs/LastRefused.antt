@@ -13,7 +13,8 @@ use Rattle.aprs_booktext.specs.Text.{written_text}
 use Rattle.aprs_log.specs.Reception.{Heard}
 use Rattle.aprs_tool.specs.Gathered.{ReadsEach, WritesText}
 use Rattle.aprs_tool.specs.Inputs.{GivesSet}
-use Rattle.aprs_tool.specs.Several.{GiveUnion, GotOf, HoldsOfEach, IsFirstRefused}
+use Rattle.aprs_tool.specs.Several.{GiveUnion, GotOf, IsFirstRefused}
+use Rattle.aprs_tool.proofs.Merges.{HoldsOfEach, refused_after}
 use Rattle.aprs_tool.specs.declared.fault.InputFault.TheVariants.{Memory}
 use Rattle.aprs_tool.specs.declared.fault.RunFault.{RunFault}
 use Rattle.aprs_tool.specs.declared.fault.RunFault.TheVariants.{Write}
@@ -51,30 +52,25 @@ refused gap limit n [] b e read some =
     (book_of_nothing (millis_of gap))))
 refused gap limit n (g ∷ gots) b e read some =
     let its = last_of gap limit g gots read.1.0 read.1.1 in
-    record {
-      before = its.before;
-      at = its.at;
-      after = [];
-      gots_are = its.whole;
-      number = let all = ap length its.whole in
-          let parts = length-append its.before (its.at ∷ []) in omega (arith, all, parts, e);
-      faultless = its.first;
-      refused = inr its.last;
-    }
+    let all = ap length its.whole in
+    let parts = length-append its.before (its.at ∷ []) in
+    let number : n - 1 ≡ length its.before = omega (arith, all, parts, e) in
+    subst (λ (all : List (GotOf limit)). IsFirstRefused gap all (n - 1) Memory) (sym its.whole)
+    (refused_after gap limit (n - 1) its.before [] its.at Memory number its.first (inr its.last))
 
 -- of all inputs, the last is refused
 pub refused_at_last : (gap limit n : ℕ) (inputs : List (List ℕ)) (afters : List (Option (List ℕ)))
     (b : BookValue) → HoldsOfEach limit inputs afters (ReadsEach gap (Ok b)) → length inputs ≡ n
     → (b.rows ≡ [] → ⊥)
     → HoldsOfEach limit inputs afters (λ gots. IsFirstRefused gap gots (n - 1) Memory)
-refused_at_last gap limit n inputs afters b read e some = record {
-  gots = read.gots;
-  inputs_are = read.inputs_are;
-  afters_are = read.afters_are;
-  holds = refused gap limit n read.gots b
-      (sym (ap length read.inputs_are
-      ∙ length-map read.gots (λ (g : GotOf limit). g.text ++ g.rest)) ∙ e) read.holds some;
-}
+refused_at_last gap limit n inputs afters b read e some = (
+  read.0,
+  read.1,
+  read.2,
+  refused gap limit n read.0 b
+      (sym (ap length read.1 ∙ length-map read.0 (λ (g : GotOf limit). g.text ++ g.rest)) ∙ e)
+      read.3 some,
+)
 
 -- ---- what was written
 

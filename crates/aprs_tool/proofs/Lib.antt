@@ -1,3 +1,4 @@
+pub mod Beginnings
 pub mod Sets
 pub mod Faultless
 pub mod RowsTold
@@ -7,6 +8,7 @@ pub mod Logs
 pub mod Shows
 pub mod Merges
 pub mod OneMerge
+pub mod OneInput
 pub mod Outcomes
 pub mod RunsOver
 pub mod ShortLogs

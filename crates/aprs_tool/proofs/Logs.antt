@@ -7,11 +7,10 @@ use Rattle.aprs_log.specs.declared.fault.LogFault.{LogFault}
 use Rattle.aprs_log.specs.declared.line.Line.{Line}
 use Rattle.aprs_log.specs.declared.line.Line.TheVariants.{Heard, Passed}
 use Rattle.aprs_log.proofs.Awaiting.{gets_whole}
-use Rattle.aprs_convert.specs.Got.{HoldsOfGot}
 use Rattle.std.proofs.lemmas.List.{map-append}
 use Rattle.aprs_laws.specs.JoinRow.{single}
 use Rattle.aprs_laws.specs.Row.{Row}
-use Rattle.aprs_tool.specs.InputRows.{ReadsLog}
+use Rattle.aprs_tool.specs.InputRows.{HoldsOfGot, ReadsLog}
 use Rattle.aprs_tool.specs.declared.fault.InputFault.{InputFault}
 use Rattle.aprs_tool.specs.declared.fault.InputFault.TheVariants.{Log, Memory}
 use Rattle.aprs_convert.proofs.Seen.{HasSeen, HasSeen-none, HasSeen-line, prepended}
@@ -56,7 +55,7 @@ over_log : (known end : Option (List ℕ)) (limit : ℕ) (head : List ℕ) (a : 
     → IfSome known (λ input. HoldsOfGot limit (head ++ input) end (ReadsLog r old new))
 over_log None end limit head a r old new h reads = tt
 over_log (Some input) end limit head a r old new h reads =
-    record { text = h.text; ending = h.ending; gets = h.gets; holds = reads h.text h.ending h.is }
+    (h.text, h.ending, h.gets, reads h.text h.ending h.is)
 
 -- the log ended
 pub Took-ended : (first now : Answers → Type 0) (old rows : List Row)
@@ -96,4 +95,4 @@ pub Took-refused : (known end : Option (List ℕ)) (limit : ℕ) (head : List �
 Took-refused None end limit head old new = tt
 Took-refused (Some input) end limit head old new =
     let g = gets_whole limit (head ++ input) end in
-    record { text = g.text; ending = g.ending; gets = g.gets; holds = tt }
+    (g.text, g.ending, g.gets, tt)

@@ -1,6 +1,6 @@
 -- Lemmas on several inputs that are read one after another.
 use Rattle.std.proofs.Common.{◌≡◌, ◌<◌, ℕ, ◌+◌, List, [], ◌∷◌, ◌++◌, length, map, take, drop, Option, Some, Ok, Err, slice_get, set, option_map, inl, inr, refl, ap, sym, ◌∙◌, add-one, append_assoc, append-nil, length-append, length-drop, take-append-drop, subst, arith}
-use Rattle.std.proofs.Math.Seq.{take-suc-set}
+use Rattle.std.proofs.Math.Seq.{take-append_seam, take-suc-set}
 use Rattle.std.proofs.lemmas.List.{length-map, map-append, map-set, take_all}
 use Rattle.std.proofs.lemmas.Option.{slice_get-map, slice_get_within}
 use Rattle.aprs_laws.specs.Book.{BookOf}
@@ -14,13 +14,22 @@ use Rattle.aprs_log.specs.Reception.{Heard}
 use Rattle.aprs_log.proofs.Awaiting.{gets_whole}
 use Rattle.aprs_booktext.specs.Text.{book_text, written_text}
 use Rattle.aprs_booktext.specs.declared.version.Version.TheVariants.{Three}
-use Rattle.aprs_convert.specs.Got.{HoldsOfGot, OfGot}
+use Rattle.aprs_convert.specs.Got.{OfGot}
 use Rattle.aprs_tool.specs.Gathered.{ReadsEach}
 use Rattle.aprs_tool.specs.InputBook.{TakesInput}
+use Rattle.aprs_tool.specs.InputRows.{HoldsOfGot}
 use Rattle.aprs_tool.specs.Inputs.{GivesSet}
 use Rattle.aprs_tool.specs.Merge.{IsBookOfAll, IsTextOfBook}
-use Rattle.aprs_tool.specs.Several.{GiveUnion, GotOf, HoldsOfEach}
+use Rattle.aprs_tool.specs.Refused.{IsNotTaken}
+use Rattle.aprs_tool.specs.Several.{GiveUnion, GotOf, IsFirstRefused}
 use Rattle.aprs_tool.specs.declared.fault.InputFault.{InputFault}
+
+-- P holds of what was got of inputs of these bytes, whose devices then have `afters`.
+abbrev pub HoldsOfEach : (limit : ℕ) → List (List ℕ) → List (Option (List ℕ))
+    → (List (GotOf limit) → Type 0) → Type 0
+HoldsOfEach limit inputs afters P = (gots : List (GotOf limit))
+    × (inputs ≡ map (λ (g : GotOf limit). g.text ++ g.rest) gots)
+    × (afters ≡ map (λ (g : GotOf limit). g.after) gots) × P gots
 
 abbrev pub some_each : List (List ℕ) → List (Option (List ℕ))
 some_each inputs = map (λ input. Some input) inputs
@@ -99,6 +108,27 @@ gets_unread limit (input ∷ inputs) (after ∷ afters) e =
       afters_are = ap (λ l. after ∷ l) more.afters_are;
     }
 
+-- ---- the first that is refused
+
+at_seam : {X : Type 0} (before after : List X) (x : X)
+    → slice_get (before ++ x ∷ after) (length before) ≡ Some x
+at_seam [] after x = refl
+at_seam (y ∷ before) after x = at_seam before after x
+
+-- it comes after faultless ones
+pub refused_after : (gap limit index : ℕ) (before after : List (GotOf limit)) (at : GotOf limit)
+    (fault : InputFault) → index ≡ length before → ((S : List Heard) × GiveUnion gap before S)
+    → IsNotTaken gap fault at.text at.ending
+    → IsFirstRefused gap (before ++ at ∷ after) index fault
+refused_after gap limit index before after at fault number faultless refused = record {
+  at = at;
+  is_there = ap (slice_get (before ++ at ∷ after)) number ∙ at_seam before after at;
+  faultless = subst (λ gots. (S : List Heard) × GiveUnion gap gots S)
+      (sym (ap (λ n. take n (before ++ at ∷ after)) number
+      ∙ take-append_seam before (at ∷ after))) faultless;
+  refused = refused;
+}
+
 -- ---- as far as they were read
 
 -- the rows are the book of the first `index` inputs
@@ -158,11 +188,11 @@ module _ (gap limit : ℕ) (inputs : List (List ℕ)) (afters next : List (Optio
   abbrev got_of : (P : List ℕ → Ending → Type 0) (input : List ℕ) → HoldsOfGot limit input after P
       → GotOf limit
   got_of P input got = record {
-    text = got.text;
-    ending = got.ending;
-    rest = got.gets.rest;
+    text = got.0;
+    ending = got.1;
+    rest = got.2.rest;
     after = after;
-    ends = got.gets.ends;
+    ends = got.2.ends;
   }
 
   -- it is taken
@@ -179,12 +209,12 @@ module _ (gap limit : ℕ) (inputs : List (List ℕ)) (afters next : List (Optio
           (subst (λ l. OfGot l known after (TakesInput gap (Ok tt) rows new)) same
           (subst (λ n. OfGot most known after (TakesInput n (Ok tt) rows new)) is took)) in
           let g = got_of (TakesInput gap (Ok tt) rows new) input got in
-          let T = got.holds.0.0 in
+          let T = got.3.0.0 in
           record {
             gots = h.gots ++ g ∷ [];
             rest = rest;
             cut = whole (input ∷ rest) e ∙ sym (append_assoc done (input ∷ []) rest)
-                ∙ ap (λ i. (done ++ i ∷ []) ++ rest) got.gets.whole
+                ∙ ap (λ i. (done ++ i ∷ []) ++ rest) got.2.whole
                 ∙ ap (λ l. l ++ rest)
                 (sym (map-append (λ (g : GotOf limit). g.text ++ g.rest) h.gots (g ∷ [])));
             place = let len = length-append h.gots (g ∷ []) in omega (arith, len, h.place);
@@ -192,8 +222,8 @@ module _ (gap limit : ℕ) (inputs : List (List ℕ)) (afters next : List (Optio
                 ∙ sym (map-append (λ (g : GotOf limit). g.after) h.gots (g ∷ []));
             book = (
               h.book.0 ++ T,
-              union_more gap limit h.gots g h.book.0 T h.book.1 got.holds.0.1,
-              got.holds.1 h.book.0 T got.holds.0.1 h.book.2,
+              union_more gap limit h.gots g h.book.0 T h.book.1 got.3.0.1,
+              got.3.1 h.book.0 T got.3.0.1 h.book.2,
             );
           }
 
@@ -224,26 +254,18 @@ module _ (gap limit : ℕ) (inputs : List (List ℕ)) (afters next : List (Optio
           let all : length inputs ≡ length done + length (input ∷ rest) =
           ap length (whole (input ∷ rest) e) ∙ length-append done (input ∷ rest) in
           let few = length-drop (index + 1) next in
-          let left = gets_unread limit rest tail (omega (arith, all, few, size, so_many)) in
-          record {
-            gots = h.gots ++ g ∷ left.gots;
-            inputs_are = whole (input ∷ rest) e ∙ ap (λ i. done ++ i ∷ rest) got.gets.whole
+          let left = gets_unread limit rest tail (omega (arith, all, few, size, so_many)) in (
+            h.gots ++ g ∷ left.gots,
+            whole (input ∷ rest) e ∙ ap (λ i. done ++ i ∷ rest) got.2.whole
                 ∙ ap (λ l. done ++ (g.text ++ g.rest) ∷ l) left.inputs_are
                 ∙ sym (map-append (λ (g : GotOf limit). g.text ++ g.rest) h.gots
-                (g ∷ left.gots));
-            afters_are = parts ∙ ap (λ l. l ++ after ∷ tail) h.left
+                (g ∷ left.gots)),
+            parts ∙ ap (λ l. l ++ after ∷ tail) h.left
                 ∙ ap (λ l. map (λ (g : GotOf limit). g.after) h.gots ++ after ∷ l) left.afters_are
-                ∙ sym (map-append (λ (g : GotOf limit). g.after) h.gots (g ∷ left.gots));
-            holds = record {
-              before = h.gots;
-              at = g;
-              after = left.gots;
-              gots_are = refl;
-              number = sym h.place;
-              faultless = (h.book.0, h.book.1);
-              refused = got.holds;
-            };
-          }
+                ∙ sym (map-append (λ (g : GotOf limit). g.after) h.gots (g ∷ left.gots)),
+            refused_after gap limit index h.gots left.gots g fault (sym h.place)
+                (h.book.0, h.book.1) got.3,
+          )
 
 -- there are as many as their bytes
 pub same_len : {X : Type 0} (f : X → Option (List ℕ)) (xs : List X) (inputs : List (List ℕ))
@@ -260,15 +282,13 @@ HasRead-all gap limit inputs afters index b same h all many =
     let done = map (λ (g : GotOf limit). g.text ++ g.rest) h.gots in
     let len : length inputs ≡ length done + length h.rest = ap length h.cut
     ∙ length-append done h.rest in
-    let so_many = length-map h.gots (λ (g : GotOf limit). g.text ++ g.rest) in
-    record {
-      gots = h.gots;
-      inputs_are = h.cut
-          ∙ ap (λ l. done ++ l) (none h.rest (omega (arith, len, all, so_many, h.place)))
-          ∙ append-nil done;
-      afters_are = sym (take_all index afters (omega (arith, many))) ∙ h.left;
-      holds = (same, h.book);
-    }
+    let so_many = length-map h.gots (λ (g : GotOf limit). g.text ++ g.rest) in (
+      h.gots,
+      h.cut ∙ ap (λ l. done ++ l) (none h.rest (omega (arith, len, all, so_many, h.place)))
+          ∙ append-nil done,
+      sym (take_all index afters (omega (arith, many))) ∙ h.left,
+      (same, h.book),
+    )
   where
     none : (l : List (List ℕ)) → length l ≡ 0 → l ≡ []
     none [] e = refl

@@ -1,29 +1,19 @@
--- Lemmas on what a run writes of the sets that its inputs stand for.
+-- Lemmas on what a run writes of what is told of its inputs.
 use Rattle.std.proofs.Common.{ℕ, List, Option, Ok, Err}
 use Rattle.aprs_io.specs.Device.{Sends}
 use Rattle.aprs_io.specs.declared.device.Counted.{Counted}
-use Rattle.aprs_log.specs.Reception.{Heard}
-use Rattle.aprs_tool.specs.Outcome.{SendsFor, WritesFor}
+use Rattle.aprs_tool.specs.Outcome.{WritesFor}
 use Rattle.aprs_tool.specs.declared.fault.RunFault.{RunFault}
 use Rattle.aprs_tool.specs.declared.fault.RunFault.TheVariants.{Write}
 
-module _ {W : Type 0} (Stand : List Heard → Type 0) (Tells : List Heard → List ℕ → Type 0)
-    (contents : W → Option (List ℕ)) (old new : Counted W) (text : List ℕ)
-    (some : (S : List Heard) × Stand S) (tells : (S : List Heard) → Stand S → Tells S text) where
-  -- a text that tells of each set was sent
-  pub written : Sends {E = RunFault} contents (Ok tt) old new text
-      → WritesFor Stand Tells contents (Ok tt) old new
-  written p = record { some = some; text = text; tells = tells; went = p.sent }
-
-  pub sent : Sends {E = RunFault} contents (Ok tt) old new text
-      → SendsFor Stand Tells contents (Ok tt) old new
-  sent p = record { some = some; text = text; tells = tells; went = p }
+module _ {W : Type 0} (Told : List ℕ → Type 0) (contents : W → Option (List ℕ))
+    (old new : Counted W) (text : List ℕ) (told : Told text) where
+  -- a text that is told was sent
+  pub text_went : Sends {E = RunFault} contents (Ok tt) old new text
+      → WritesFor Told contents (Ok tt) old new
+  text_went p = (text, told, p.sent, p.tries)
 
   -- or a prefix of it
-  pub cut_short : Sends {E = RunFault} contents (Err Write) old new text
-      → WritesFor Stand Tells contents (Err Write) old new
-  cut_short p = record { some = some; text = text; tells = tells; went = p.prefix }
-
-  pub refused : Sends {E = RunFault} contents (Err Write) old new text
-      → SendsFor Stand Tells contents (Err Write) old new
-  refused p = record { some = some; text = text; tells = tells; went = p }
+  pub prefix_went : Sends {E = RunFault} contents (Err Write) old new text
+      → WritesFor Told contents (Err Write) old new
+  prefix_went p = (text, told, p.prefix, p.tries)

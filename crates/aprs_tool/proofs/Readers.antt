@@ -1,6 +1,6 @@
 -- Lemmas on what was asked of the readers of inputs.
 use Rattle.std.specs.Prelude.{◌⊎◌}
-use Rattle.std.proofs.Common.{◌≡◌, ℕ, zero, suc, List, [], ◌∷◌, length, Some, Result, Ok, Err, inl, inr, slice_get, set, sym, ap, subst}
+use Rattle.std.proofs.Common.{◌≡◌, ℕ, zero, suc, List, [], ◌∷◌, length, Some, Result, Ok, Err, inl, inr, slice_get, set, refl, sym, ap, subst, arith}
 use Rattle.aprs_io.specs.Device.{Calls, Going, End}
 use Rattle.aprs_io.specs.declared.device.Counted.{Counted}
 use Rattle.aprs_io.proofs.Sends.{Calls-then}
@@ -9,10 +9,11 @@ use Rattle.aprs_laws.specs.declared.merge_fault.MergeFault.TheVariants as merge
 use Rattle.aprs_booktext.specs.Asking.{AsksAt}
 use Rattle.aprs_booktext.specs.declared.fault.BookCause.{BookCause}
 use Rattle.aprs_booktext.specs.declared.fault.BookCause.TheVariants as why
-use Rattle.aprs_tool.specs.Devices.{AsksInput, AsksToFault, ReadsFirst, StopsAt}
+use Rattle.aprs_tool.specs.Devices.{AsksEach, AsksInput, AsksToFault}
 use Rattle.aprs_tool.specs.Refused.{fault_of_merge}
 use Rattle.aprs_tool.specs.declared.fault.InputFault.{InputFault}
-use Rattle.aprs_tool.specs.declared.fault.InputFault.TheVariants.{Log, Book, Memory, OtherGap, Narrower}
+use Rattle.aprs_tool.specs.declared.fault.InputFault.TheVariants.{Book, Memory}
+use Rattle.aprs_tool.specs.declared.fault.RunFault.TheVariants.{Input}
 
 -- ---- one reader
 
@@ -31,9 +32,7 @@ module _ {R : Type 0} (a b c : Counted R) (first : Calls Going a b) where
   AsksToFault-then : (fault : InputFault) → AsksToFault fault b c → AsksToFault fault a c
   AsksToFault-then (Book fault) h = AsksAt-then fault.cause h
   AsksToFault-then Memory h = then_either h
-  AsksToFault-then (Log fault) h = Calls-then first h
-  AsksToFault-then OtherGap h = Calls-then first h
-  AsksToFault-then Narrower h = Calls-then first h
+  AsksToFault-then fault h = Calls-then first h
 
   -- its first bytes, and then the others
   pub AsksInput-then : {A : Type 0} (r : Result A InputFault) → AsksInput r b c → AsksInput r a c
@@ -48,13 +47,20 @@ asks_merge merge.Memory h = inr h
 
 -- ---- readers one after another
 
+-- The first `n` inputs were read to their ends, and no other was asked.
+abbrev pub ReadsFirst : {R : Type 0} → ℕ → List (Counted R) → List (Counted R) → Type 0
+ReadsFirst zero old new = new ≡ old
+ReadsFirst (suc n) (r ∷ old) (s ∷ new) = Calls End r s × ReadsFirst n old new
+ReadsFirst (suc n) old new = ⊥
+
 module _ {R : Type 0} where
-  pub ReadsFirst-len : (n : ℕ) (old now : List (Counted R)) → ReadsFirst n old now
-      → length now ≡ length old
-  ReadsFirst-len zero old now h = ap length h
-  ReadsFirst-len (suc n) (r ∷ old) (s ∷ now) h = ap suc (ReadsFirst-len n old now h.1)
-  ReadsFirst-len (suc n) [] now h = absurd h
-  ReadsFirst-len (suc n) (r ∷ old) [] h = absurd h
+  -- all were
+  pub ReadsFirst-all : (old now : List (Counted R)) → ReadsFirst (length old) old now
+      → AsksEach (Ok tt) old now
+  ReadsFirst-all [] [] h = tt
+  ReadsFirst-all [] (s ∷ now) h = absurd cc
+  ReadsFirst-all (r ∷ old) [] h = absurd h
+  ReadsFirst-all (r ∷ old) (s ∷ now) h = (h.0, ReadsFirst-all old now h.1)
 
   -- the next one wasn't asked yet
   pub ReadsFirst-next : (n : ℕ) (old now : List (Counted R)) → ReadsFirst n old now
@@ -78,24 +84,25 @@ module _ {R : Type 0} where
     ReadsFirst-more (suc n) (r ∷ old) [] h is calls = absurd h
 
     -- or to its fault
-    pub StopsAt-next : (fault : InputFault) (n : ℕ) (old now : List (Counted R))
+    pub AsksEach-next : (fault : InputFault) (n : ℕ) (old now : List (Counted R))
         → ReadsFirst n old now → slice_get now n ≡ Some x → AsksToFault fault x y
-        → StopsAt n fault old (set now n y)
-    StopsAt-next fault zero old [] h is asks = absurd cc
-    StopsAt-next fault zero [] (s ∷ now) h is asks = absurd cc
-    StopsAt-next fault zero (r ∷ old) (s ∷ now) h is asks =
+        → AsksEach (Err (Input n fault)) old (set now n y)
+    AsksEach-next fault zero old [] h is asks = absurd cc
+    AsksEach-next fault zero [] (s ∷ now) h is asks = absurd cc
+    AsksEach-next fault zero (r ∷ old) (s ∷ now) h is asks =
         let same : x ≡ r = cc in (subst (λ z. AsksToFault fault z y) same asks, cc)
-    StopsAt-next fault (suc n) (r ∷ old) (s ∷ now) h is asks =
-        (h.0, StopsAt-next fault n old now h.1 is asks)
-    StopsAt-next fault (suc n) [] now h is asks = absurd h
-    StopsAt-next fault (suc n) (r ∷ old) [] h is asks = absurd h
+    AsksEach-next fault (suc n) (r ∷ old) (s ∷ now) h is asks =
+        (h.0, AsksEach-next fault n old now h.1 is asks)
+    AsksEach-next fault (suc n) [] now h is asks = absurd h
+    AsksEach-next fault (suc n) (r ∷ old) [] h is asks = absurd h
 
   -- an allocation failed after the last
-  pub StopsAt-last : (n : ℕ) (old new : List (Counted R)) → ReadsFirst (suc n) old new
-      → StopsAt n Memory old new
-  StopsAt-last zero (r ∷ old) (s ∷ new) h = (inr h.0, h.1)
-  StopsAt-last (suc n) (r ∷ old) (s ∷ new) h = (h.0, StopsAt-last n old new h.1)
-  StopsAt-last zero [] new h = absurd h
-  StopsAt-last zero (r ∷ old) [] h = absurd h
-  StopsAt-last (suc n) [] new h = absurd h
-  StopsAt-last (suc n) (r ∷ old) [] h = absurd h
+  pub AsksEach-last : (n : ℕ) (old new : List (Counted R)) → length old ≡ suc n
+      → AsksEach (Ok tt) old new → AsksEach (Err (Input n Memory)) old new
+  AsksEach-last n [] new e h = absurd (omega (arith, e))
+  AsksEach-last n (r ∷ old) [] e h = absurd h
+  AsksEach-last zero (r ∷ []) (s ∷ []) e h = (inr h.0, refl)
+  AsksEach-last zero (r ∷ []) (s ∷ t ∷ new) e h = absurd h.1
+  AsksEach-last zero (r ∷ q ∷ old) (s ∷ new) e h = absurd (omega (arith, e))
+  AsksEach-last (suc n) (r ∷ old) (s ∷ new) e h =
+      (h.0, AsksEach-last n old new (omega (arith, e)) h.1)

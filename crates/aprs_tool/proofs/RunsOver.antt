@@ -7,24 +7,20 @@ use Rattle.aprs_laws.specs.Book.{BookOf}
 use Rattle.aprs_laws.specs.BookValue.{BookValue}
 use Rattle.aprs_laws.specs.Gap.{millis_of}
 use Rattle.aprs_tool.specs.Gathered.{ReadsEach}
-use Rattle.aprs_tool.specs.Outcome.{SendsFor, WritesFor}
-use Rattle.aprs_tool.specs.Several.{GiveUnion, GotOf, HoldsOfEach}
+use Rattle.aprs_tool.specs.Outcome.{IsToldOf, WritesFor}
+use Rattle.aprs_tool.specs.Several.{GiveUnion, GotOf}
 use Rattle.aprs_tool.specs.declared.fault.RunFault.{RunFault}
 use Rattle.aprs_tool.specs.declared.fault.RunFault.TheVariants.{Write}
+use Rattle.aprs_tool.proofs.Merges.{HoldsOfEach}
 use Rattle.aprs_tool.proofs.OneMerge.{book_of_union}
-use Rattle.aprs_tool.proofs.Outcomes.{cut_short, refused, sent, written}
+use Rattle.aprs_tool.proofs.Outcomes.{prefix_went, text_went}
 
 -- ---- what follows of what was got
 
 pub each_so : (limit : ℕ) (inputs : List (List ℕ)) (afters : List (Option (List ℕ)))
     (P Q : List (GotOf limit) → Type 0) → ((gots : List (GotOf limit)) → P gots → Q gots)
     → HoldsOfEach limit inputs afters P → HoldsOfEach limit inputs afters Q
-each_so limit inputs afters P Q follows h = record {
-  gots = h.gots;
-  inputs_are = h.inputs_are;
-  afters_are = h.afters_are;
-  holds = follows h.gots h.holds;
-}
+each_so limit inputs afters P Q follows h = (h.0, h.1, h.2, follows h.0 h.3)
 
 -- a clause that says nothing of this answer
 pub unsaid : (limit : ℕ) (inputs : List (List ℕ)) (afters : List (Option (List ℕ)))
@@ -39,34 +35,23 @@ module _ {W : Type 0} (limit gap : ℕ) (inputs : List (List ℕ)) (afters : Lis
     (b : BookValue) (text : List ℕ)
     (tells : (S : List Heard) → BookOf (millis_of gap) S b.rows → Tells S text)
     (read : HoldsOfEach limit inputs afters (ReadsEach gap (Ok b))) where
-  tells_each : (gots : List (GotOf limit)) → ReadsEach gap (Ok b) gots → (S : List Heard)
-      → GiveUnion gap gots S → Tells S text
-  tells_each gots p S gives = tells S (book_of_union gap limit gots S b.rows gives p.1)
+  told_of : (gots : List (GotOf limit)) → ReadsEach gap (Ok b) gots
+      → IsToldOf (GiveUnion gap gots) Tells text
+  told_of gots p = (
+    (p.1.0, p.1.1),
+    λ S gives. tells S (book_of_union gap limit gots S b.rows gives p.1),
+  )
 
   pub all_written : Sends {E = RunFault} contents (Ok tt) old new text
       → HoldsOfEach limit inputs afters
-      (λ gots. WritesFor (GiveUnion gap gots) Tells contents (Ok tt) old new)
+      (λ gots. WritesFor (IsToldOf (GiveUnion gap gots) Tells) contents (Ok tt) old new)
   all_written went = each_so limit inputs afters (ReadsEach gap (Ok b)) _
-      (λ gots p. written (GiveUnion gap gots) Tells contents old new text (p.1.0, p.1.1)
-      (tells_each gots p) went) read
-
-  pub all_sent : Sends {E = RunFault} contents (Ok tt) old new text
-      → HoldsOfEach limit inputs afters
-      (λ gots. SendsFor (GiveUnion gap gots) Tells contents (Ok tt) old new)
-  all_sent went = each_so limit inputs afters (ReadsEach gap (Ok b)) _
-      (λ gots p. sent (GiveUnion gap gots) Tells contents old new text (p.1.0, p.1.1)
-      (tells_each gots p) went) read
+      (λ gots p. text_went (IsToldOf (GiveUnion gap gots) Tells) contents old new text
+      (told_of gots p) went) read
 
   pub all_cut : Sends {E = RunFault} contents (Err Write) old new text
       → HoldsOfEach limit inputs afters
-      (λ gots. WritesFor (GiveUnion gap gots) Tells contents (Err Write) old new)
+      (λ gots. WritesFor (IsToldOf (GiveUnion gap gots) Tells) contents (Err Write) old new)
   all_cut went = each_so limit inputs afters (ReadsEach gap (Ok b)) _
-      (λ gots p. cut_short (GiveUnion gap gots) Tells contents old new text (p.1.0, p.1.1)
-      (tells_each gots p) went) read
-
-  pub all_refused : Sends {E = RunFault} contents (Err Write) old new text
-      → HoldsOfEach limit inputs afters
-      (λ gots. SendsFor (GiveUnion gap gots) Tells contents (Err Write) old new)
-  all_refused went = each_so limit inputs afters (ReadsEach gap (Ok b)) _
-      (λ gots p. refused (GiveUnion gap gots) Tells contents old new text (p.1.0, p.1.1)
-      (tells_each gots p) went) read
+      (λ gots p. prefix_went (IsToldOf (GiveUnion gap gots) Tells) contents old new text
+      (told_of gots p) went) read

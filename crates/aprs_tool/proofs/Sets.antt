@@ -1,7 +1,8 @@
 -- Lemmas on the sets that an input stands for: all have one book.
-use Rattle.std.proofs.Common.{◌≡◌, ℕ, true, false, List, None, inl, inr, refl, sym, ap, ◌∙◌, subst}
+use Rattle.std.proofs.Common.{◌≡◌, ℕ, List, None, inl, inr, refl, sym, ap, ◌∙◌, subst}
 use Rattle.aprs_io.specs.declared.input.Ending.{Ending}
 use Rattle.aprs_log.specs.LogAnswers.{log_answers, receptions_of}
+use Rattle.aprs_log.specs.LogText.{IsLogText}
 use Rattle.aprs_log.specs.Reception.{Heard}
 use Rattle.aprs_log.proofs.LogTexts.{answers-log_text, log_text-answers}
 use Rattle.aprs_laws.specs.Book.{BookOf}
@@ -14,28 +15,31 @@ use Rattle.aprs_laws.proofs.Soundness.{sound}
 use Rattle.aprs_booktext.specs.Text.{IsBookRows}
 use Rattle.aprs_booktext.specs.Version.{gap_of}
 use Rattle.aprs_booktext.proofs.OneText.{one_text}
-use Rattle.aprs_tool.specs.Inputs.{GivesSet, IsBookFileOf, IsLogOf}
+use Rattle.aprs_tool.specs.Inputs.{GivesSet, IsBookFileOf}
+use Rattle.aprs_tool.proofs.Beginnings.{file_begins, log_is_no_book}
 
 -- ---- a log
 
--- a log without a fault is one of the receptions that its lines report
+-- a log without a fault, to its end: S are the receptions that its lines report
+abbrev pub IsLogOf : List Heard → List ℕ → Ending → Type 0
+IsLogOf S t c = (T : List Heard) × IsLogText t c T × SameMembers S T
+
+-- one without a fault gives the receptions that its lines report
 pub log_of : (t : List ℕ) (c : Ending) → (log_answers t c).fault ≡ None
     → IsLogOf (receptions_of (log_answers t c).given) t c
-log_of t c none = record {
-  reported = receptions_of (log_answers t c).given;
-  is_log = answers-log_text t c (receptions_of (log_answers t c).given) (none, refl);
-  same = λ x. (λ h. h, λ h. h);
-}
+log_of t c none =
+    let heard = receptions_of (log_answers t c).given in
+    (heard, answers-log_text t c heard (none, refl), λ x. (λ h. h, λ h. h))
 
 -- and of no others
 pub log_is : (S : List Heard) (t : List ℕ) (c : Ending) → IsLogOf S t c
     → SameMembers S (receptions_of (log_answers t c).given)
-log_is S t c p = subst (SameMembers S) (sym (log_text-answers t c p.reported p.is_log).1) p.same
+log_is S t c p = subst (SameMembers S) (sym (log_text-answers t c p.0 p.1).1) p.2
 
 -- and it has no fault
 pub log_none : (S : List Heard) (t : List ℕ) (c : Ending) → IsLogOf S t c
     → (log_answers t c).fault ≡ None
-log_none S t c p = (log_text-answers t c p.reported p.is_log).0
+log_none S t c p = (log_text-answers t c p.0 p.1).0
 
 log_book : (gap : ℕ) (t : List ℕ) (c : Ending) (S T : List Heard) (rows : List Row)
     → IsLogOf S t c → IsLogOf T t c → BookOf gap T rows → BookOf gap S rows
@@ -75,21 +79,24 @@ file_gap gap own t c S T p q =
 
 -- ---- either
 
+-- no text is that of both
+pub not_both : (gap : ℕ) (t : List ℕ) (c : Ending) (S T : List Heard) → IsBookFileOf gap S t c
+    → IsLogOf T t c → ⊥
+not_both gap t c S T p q = log_is_no_book t c q.0 q.1 (file_begins gap S t c p)
+
 -- the book of one set that an input stands for is that of each
 pub set_book : (gap : ℕ) (t : List ℕ) (c : Ending) (S T : List Heard) (rows : List Row)
     → GivesSet gap t c S → GivesSet gap t c T → BookOf (millis_of gap) T rows
     → BookOf (millis_of gap) S rows
-set_book gap t c S T rows (inl p) (inl q) book = file_book gap t c S T rows p.1 q.1 book
-set_book gap t c S T rows (inr p) (inr q) book = log_book (millis_of gap) t c S T rows p.1 q.1 book
-set_book gap t c S T rows (inl p) (inr q) book =
-    absurd (let x : true ≡ false = sym p.0 ∙ q.0 in cc)
-set_book gap t c S T rows (inr p) (inl q) book =
-    absurd (let x : true ≡ false = sym q.0 ∙ p.0 in cc)
+set_book gap t c S T rows (inl p) (inl q) book = file_book gap t c S T rows p q book
+set_book gap t c S T rows (inr p) (inr q) book = log_book (millis_of gap) t c S T rows p q book
+set_book gap t c S T rows (inl p) (inr q) book = absurd (not_both gap t c S T p q)
+set_book gap t c S T rows (inr p) (inl q) book = absurd (not_both gap t c T S q p)
 
 -- a log stands for its receptions under any gap, and a book file has one gap
 pub set_gap : (gap own : ℕ) (t : List ℕ) (c : Ending) (S T : List Heard) → GivesSet gap t c S
     → GivesSet own t c T → GivesSet gap t c T
-set_gap gap own t c S T (inl p) (inl q) = inl (q.0, file_gap gap own t c S T p.1 q.1)
+set_gap gap own t c S T (inl p) (inl q) = inl (file_gap gap own t c S T p q)
 set_gap gap own t c S T (inr p) (inr q) = inr q
-set_gap gap own t c S T (inl p) (inr q) = absurd (let x : true ≡ false = sym p.0 ∙ q.0 in cc)
-set_gap gap own t c S T (inr p) (inl q) = absurd (let x : true ≡ false = sym q.0 ∙ p.0 in cc)
+set_gap gap own t c S T (inl p) (inr q) = absurd (not_both gap t c S T p q)
+set_gap gap own t c S T (inr p) (inl q) = absurd (not_both own t c T S q p)

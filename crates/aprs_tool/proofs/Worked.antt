@@ -18,9 +18,10 @@ use Rattle.aprs_booktext.specs.declared.version.Version.TheVariants.{Three}
 use Rattle.aprs_booktext.proofs.OneText.{one_text}
 use Rattle.aprs_booktext.proofs.Standing.{no_rows}
 use Rattle.aprs_tool.specs.Examples.{cut_book, text_of_no_row, unended_log}
-use Rattle.aprs_tool.specs.Inputs.{GivesSet, IsLogOf, is_book_file}
+use Rattle.aprs_tool.specs.Inputs.{GivesSet, is_book_file}
 use Rattle.aprs_tool.proofs.Faultless.{file_none}
-use Rattle.aprs_tool.proofs.Sets.{file_rows, log_is, log_none, log_of}
+use Rattle.aprs_tool.proofs.Beginnings.{file_begins, log_is_no_book}
+use Rattle.aprs_tool.proofs.Sets.{IsLogOf, file_rows, log_is, log_none, log_of}
 use Rattle.aprs_tool.proofs.ShortLogs.{short_tail}
 
 -- ---- logs
@@ -29,25 +30,25 @@ nothing_read : log_answers [] End ≡ ended None
 nothing_read = short_tail [] End (omega arith) refl
 
 pub empty_log : GivesSet 30 [] End []
-empty_log = inr (
-  refl,
-  subst (λ S. IsLogOf S [] End) (ap (λ (a : Answers). receptions_of a.given) nothing_read)
-      (log_of [] End (ap (λ (a : Answers). a.fault) nothing_read)),
-)
+empty_log = inr (subst (λ S. IsLogOf S [] End)
+    (ap (λ (a : Answers). receptions_of a.given) nothing_read)
+    (log_of [] End (ap (λ (a : Answers). a.fault) nothing_read)))
 
 pub no_reception : (x : Heard) → GivesSet 30 [] End (x ∷ []) → ⊥
-no_reception x (inl p) = absurd (let e : false ≡ true = p.0 in cc)
+no_reception x (inl p) =
+    absurd (let e : false ≡ true = file_begins 30 (x ∷ []) [] End p in cc)
 no_reception x (inr p) =
     subst (λ (T : List Heard). x ∈ T) (ap (λ (a : Answers). receptions_of a.given) nothing_read)
-    ((log_is (x ∷ []) [] End p.1 x).0 (inl refl))
+    ((log_is (x ∷ []) [] End p x).0 (inl refl))
 
 -- a log with this fault stands for no set
 no_set : (gap : ℕ) (t : List ℕ) (c : Ending) → is_book_file t ≡ false → length t < 8
     → list_any is_lf t ≡ false → ((fault_at 1 (ending_cause c t)) ≡ None → ⊥)
     → (S : List Heard) → GivesSet gap t c S → ⊥
-no_set gap t c is few one some S (inl p) = absurd (let e : true ≡ false = sym p.0 ∙ is in cc)
+no_set gap t c is few one some S (inl p) =
+    absurd (let e : true ≡ false = sym (file_begins gap S t c p) ∙ is in cc)
 no_set gap t c is few one some S (inr p) =
-    some (sym (ap (λ (a : Answers). a.fault) (short_tail t c few one)) ∙ log_none S t c p.1)
+    some (sym (ap (λ (a : Answers). a.fault) (short_tail t c few one)) ∙ log_none S t c p)
 
 pub no_failed_read : (S : List Heard) → GivesSet 30 [] Read S → ⊥
 no_failed_read = no_set 30 [] Read refl (omega arith) refl (λ e. absurd cc)
@@ -70,31 +71,28 @@ empty_text = sym (ap (λ gap. two_lines gap (decimal 0)) (decimal_digit 5 (omega
     ∙ ap (two_lines (53 ∷ [])) (decimal_digit 0 (omega arith)))
 
 pub empty_file : GivesSet 5 text_of_no_row End []
-empty_file = inl (
-  refl,
-  record {
-    version = Three 5;
-    rows = [];
-    gap_is = refl;
-    is_version = (no_rows (Three 5) few_seconds).version;
-    spelled = (no_rows (Three 5) few_seconds).each;
-    text_is = empty_text;
-    whole = refl;
-    book = book_of_nothing (millis_of 5);
-  },
-)
+empty_file = inl (record {
+  version = Three 5;
+  rows = [];
+  gap_is = refl;
+  is_version = (no_rows (Three 5) few_seconds).version;
+  spelled = (no_rows (Three 5) few_seconds).each;
+  text_is = empty_text;
+  whole = refl;
+  book = book_of_nothing (millis_of 5);
+})
 
 pub no_other_gap : (S : List Heard) → GivesSet 30 text_of_no_row End S → ⊥
 no_other_gap S (inl p) =
-    let same = (one_text (Three 5) p.1.version [] p.1.rows (no_rows (Three 5) few_seconds)
-    (file_rows 30 S text_of_no_row End p.1) (sym empty_text ∙ p.1.text_is)).0 in
-    let gap : 5 ≡ 30 = ap gap_of same ∙ p.1.gap_is in
+    let same = (one_text (Three 5) p.version [] p.rows (no_rows (Three 5) few_seconds)
+    (file_rows 30 S text_of_no_row End p) (sym empty_text ∙ p.text_is)).0 in
+    let gap : 5 ≡ 30 = ap gap_of same ∙ p.gap_is in
     absurd (omega (arith, gap))
-no_other_gap S (inr p) = absurd (let e : true ≡ false = p.0 in cc)
+no_other_gap S (inr p) = absurd (log_is_no_book text_of_no_row End p.0 p.1 refl)
 
 pub no_failed_file : (S : List Heard) → GivesSet 5 text_of_no_row Read S → ⊥
-no_failed_file S (inl p) = absurd (let e : Read ≡ End = p.1.whole in cc)
-no_failed_file S (inr p) = absurd (let e : true ≡ false = p.0 in cc)
+no_failed_file S (inl p) = absurd (let e : Read ≡ End = p.whole in cc)
+no_failed_file S (inr p) = absurd (log_is_no_book text_of_no_row Read p.0 p.1 refl)
 
 cut_fault : FirstFault cut_book End (record { line = 2; cause = why.Ending })
 cut_fault = record {
@@ -114,5 +112,5 @@ cut_fault = record {
 
 pub no_cut_file : (S : List Heard) → GivesSet 5 cut_book End S → ⊥
 no_cut_file S (inl p) = file_none 5 S cut_book End (record { line = 2; cause = why.Ending })
-    (omega arith) p.1 cut_fault
-no_cut_file S (inr p) = absurd (let e : true ≡ false = p.0 in cc)
+    (omega arith) p cut_fault
+no_cut_file S (inr p) = absurd (log_is_no_book cut_book End p.0 p.1 refl)

@@ -1,16 +1,16 @@
 -- What was done to the readers of a run's inputs and to its writer.
-use Rattle.std.specs.Prelude.{◌≡◌, ◌⊎◌, ℕ, zero, suc, List, ◌∷◌, length, Result, Ok, Err}
+use Rattle.std.specs.Prelude.{◌≡◌, ◌⊎◌, zero, suc, List, ◌∷◌, Result, Ok, Err}
+use Rattle.std.specs.List.{AllZip}
 use Rattle.aprs_io.specs.Device.{Calls, Going, Fault, End}
 use Rattle.aprs_io.specs.declared.device.Counted.{Counted}
 use Rattle.aprs_log.specs.Awaits.{last_of_cause}
 use Rattle.aprs_booktext.specs.Asking.{AsksAt}
 use Rattle.aprs_tool.specs.declared.fault.InputFault.{InputFault}
-use Rattle.aprs_tool.specs.declared.fault.InputFault.TheVariants.{Log, Book, Memory, OtherGap, Narrower}
+use Rattle.aprs_tool.specs.declared.fault.InputFault.TheVariants.{Log, Book, Memory}
 use Rattle.aprs_tool.specs.declared.fault.RunFault.{RunFault}
 use Rattle.aprs_tool.specs.declared.fault.RunFault.TheVariants.{Input, Write}
-use Rattle.aprs_tool.specs.declared.fault.RunFault.TheVariants as run
 
--- ---- one input
+-- ---- the inputs
 
 -- What its reader answered last where it has this fault. Where an allocation failed the input may
 -- have come to its end before or not.
@@ -18,36 +18,22 @@ abbrev pub AsksToFault : {R : Type 0} → InputFault → Counted R → Counted R
 AsksToFault (Log fault) old new = Calls (last_of_cause fault.cause) old new
 AsksToFault (Book fault) old new = AsksAt fault.cause old new
 AsksToFault Memory old new = Calls Going old new ⊎ Calls End old new
-AsksToFault OtherGap old new = Calls End old new
-AsksToFault Narrower old new = Calls End old new
+AsksToFault other old new = Calls End old new
 
 -- The input was read to its end, or to its fault.
 abbrev pub AsksInput : {A R : Type 0} → Result A InputFault → Counted R → Counted R → Type 0
 AsksInput (Ok value) old new = Calls End old new
 AsksInput (Err fault) old new = AsksToFault fault old new
 
--- ---- several inputs
-
--- The first `n` inputs were read to their ends, and no other was asked.
-abbrev pub ReadsFirst : {R : Type 0} → ℕ → List (Counted R) → List (Counted R) → Type 0
-ReadsFirst zero old new = new ≡ old
-ReadsFirst (suc n) (r ∷ old) (s ∷ new) = Calls End r s × ReadsFirst n old new
-ReadsFirst (suc n) _ _ = ⊥
-
--- The inputs before number `index` were read to their ends and that one to this fault, and none
--- after it was asked.
-abbrev pub StopsAt : {R : Type 0} → ℕ → InputFault → List (Counted R) → List (Counted R) → Type 0
-StopsAt zero fault (r ∷ old) (s ∷ new) = AsksToFault fault r s × (new ≡ old)
-StopsAt (suc index) fault (r ∷ old) (s ∷ new) = Calls End r s × StopsAt index fault old new
-StopsAt index fault _ _ = ⊥
-
--- All inputs were read to their ends, or those before one that is refused.
+-- Each input was read to its end; or, where one is refused, that one to its fault, each before it to
+-- its end, and none after it was asked.
 abbrev pub AsksEach : {R : Type 0} → Result (Unit {0}) RunFault → List (Counted R)
     → List (Counted R) → Type 0
-AsksEach (Ok u) old new = ReadsFirst (length old) old new
-AsksEach (Err (Input index fault)) old new = StopsAt index fault old new
-AsksEach (Err Write) old new = ReadsFirst (length old) old new
-AsksEach (Err run.Memory) old new = ReadsFirst (length old) old new
+AsksEach (Err (Input zero fault)) (r ∷ old) (s ∷ new) = AsksToFault fault r s × (new ≡ old)
+AsksEach (Err (Input (suc index) fault)) (r ∷ old) (s ∷ new) =
+    Calls End r s × AsksEach (Err (Input index fault)) old new
+AsksEach (Err (Input index fault)) old new = ⊥
+AsksEach answer old new = AllZip (Calls End) old new
 
 -- ---- the output
 
@@ -55,6 +41,5 @@ AsksEach (Err run.Memory) old new = ReadsFirst (length old) old new
 -- an input is refused, or an allocation failed, there was none.
 abbrev pub CallsOutput : {W : Type 0} → Result (Unit {0}) RunFault → Counted W → Counted W → Type 0
 CallsOutput (Ok u) old new = Calls Going old new
-CallsOutput (Err (Input index fault)) old new = new ≡ old
 CallsOutput (Err Write) old new = Calls Fault old new
-CallsOutput (Err run.Memory) old new = new ≡ old
+CallsOutput answer old new = new ≡ old

@@ -1,5 +1,5 @@
 -- What was gathered of inputs. No public clause cites this module.
-use Rattle.std.specs.Prelude.{◌≡◌, ◌≢◌, ℕ, List, [], length, Option, Result, Ok, Err}
+use Rattle.std.specs.Prelude.{◌≡◌, ◌≢◌, ℕ, List, [], Option, Result, Ok, Err}
 use Rattle.aprs_io.specs.Device.{Sends}
 use Rattle.aprs_io.specs.declared.device.Counted.{Counted}
 use Rattle.aprs_laws.specs.BookValue.{BookValue}
@@ -7,10 +7,11 @@ use Rattle.aprs_laws.specs.Gap.{millis_of}
 use Rattle.aprs_laws.specs.JoinRow.{merge}
 use Rattle.aprs_laws.specs.Row.{Row}
 use Rattle.aprs_booktext.specs.Text.{written_text}
-use Rattle.aprs_tool.specs.Devices.{ReadsFirst, StopsAt}
+use Rattle.aprs_tool.specs.Devices.{AsksEach}
 use Rattle.aprs_tool.specs.Merge.{IsBookOfAll}
 use Rattle.aprs_tool.specs.Several.{GotOf, IsFirstRefused}
 use Rattle.aprs_tool.specs.declared.fault.InputFault.{InputFault}
+use Rattle.aprs_tool.specs.declared.fault.RunFault.TheVariants.{Input}
 use Rattle.aprs_tool.specs.declared.gathered.Unwritten.{Unwritten}
 use Rattle.aprs_tool.specs.declared.gathered.Unwritten.TheVariants.{Memory, Write}
 
@@ -39,5 +40,5 @@ ReadsEach gap (Err refused) gots = IsFirstRefused gap gots refused.0 refused.1
 -- fault.
 abbrev pub ReadsAll : {A R : Type 0} → Result A (ℕ × InputFault) → List (Counted R)
     → List (Counted R) → Type 0
-ReadsAll (Ok value) old new = ReadsFirst (length old) old new
-ReadsAll (Err refused) old new = StopsAt refused.0 refused.1 old new
+ReadsAll (Ok value) old new = AsksEach (Ok tt) old new
+ReadsAll (Err refused) old new = AsksEach (Err (Input refused.0 refused.1)) old new

@@ -1,6 +1,7 @@
 -- What an input's rows are in a store, and why its book isn't merged. No public clause cites this
 -- module.
-use Rattle.std.specs.Prelude.{◌≡◌, ◌≢◌, ℕ, List, ◌++◌, None, Some, Result, Ok, Err, map}
+use Rattle.std.specs.Prelude.{◌≡◌, ◌≢◌, ℕ, List, ◌++◌, Option, None, Some, Result, Ok, Err, map}
+use Rattle.aprs_io.specs.Input.{Gets}
 use Rattle.aprs_io.specs.declared.input.Ending.{Ending}
 use Rattle.aprs_log.specs.LogAnswers.{log_answers, receptions_of}
 use Rattle.aprs_log.specs.Reception.{Heard}
@@ -14,6 +15,12 @@ use Rattle.aprs_tool.specs.Inputs.{GivesSet}
 use Rattle.aprs_tool.specs.Refused.{IsFaulty}
 use Rattle.aprs_tool.specs.declared.fault.InputFault.{InputFault}
 use Rattle.aprs_tool.specs.declared.fault.InputFault.TheVariants.{Log, Memory}
+
+-- P holds of at most `limit` bytes that were got of an input and of what came after them; the device
+-- then has `after`.
+abbrev pub HoldsOfGot : ℕ → List ℕ → Option (List ℕ) → (List ℕ → Ending → Type 0) → Type 0
+HoldsOfGot limit input after P =
+    (text : List ℕ) × (ending : Ending) × Gets limit input after text ending × P text ending
 
 -- A log is refused for the fault after its lines, or because an allocation failed.
 abbrev pub IsLogRefused : InputFault → List ℕ → Ending → Type 0

@@ -1,6 +1,6 @@
 -- Which sets of receptions an input stands for, by the text that was got of it and by what came
 -- after that.
-use Rattle.std.specs.Prelude.{◌≡◌, ◌==◌, ◌⊎◌, ℕ, Bool, true, false, List, codes, All}
+use Rattle.std.specs.Prelude.{◌≡◌, ◌==◌, ◌⊎◌, ℕ, Bool, List, codes, All}
 use Rattle.std.specs.List.{starts_with}
 use Rattle.aprs_io.specs.declared.input.Ending.{Ending}
 use Rattle.aprs_io.specs.declared.input.Ending.TheVariants.{End}
@@ -14,7 +14,7 @@ use Rattle.aprs_booktext.specs.Text.{book_text, IsBookRow}
 use Rattle.aprs_booktext.specs.Version.{form_of, gap_of, IsVersion}
 use Rattle.aprs_booktext.specs.declared.version.Version.{Version}
 
--- whether the text begins as that of a book; any other text is a log's
+-- whether the text begins as that of a book, which no log does
 abbrev pub is_book_file : List ℕ → Bool
 is_book_file text = starts_with ◌==◌ text (codes "APRSBOOK")
 
@@ -30,14 +30,8 @@ pub record IsBookFileOf (gap : ℕ) (S : List Heard) (text : List ℕ) (ending :
   pub whole : ending ≡ End
   pub book : BookOf (millis_of gap) S rows
 
--- A log without a fault, to its end: S are the receptions that its lines report.
-pub record IsLogOf (S : List Heard) (text : List ℕ) (ending : Ending) : Type 0 where
-  pub reported : List Heard
-  pub is_log : IsLogText text ending reported
-  pub same : SameMembers S reported
-
--- The input is faultless and stands for the set S: a log for the receptions in it, and a book file
--- of this gap for each set whose book it is.
+-- The input is faultless and stands for the set S: a book file of this gap for each set whose book
+-- it is, and a log for the receptions that its lines report.
 abbrev pub GivesSet : ℕ → List ℕ → Ending → List Heard → Type 0
-GivesSet gap text ending S = ((is_book_file text ≡ true) × IsBookFileOf gap S text ending)
-    ⊎ ((is_book_file text ≡ false) × IsLogOf S text ending)
+GivesSet gap text ending S = IsBookFileOf gap S text ending
+    ⊎ ((T : List Heard) × IsLogText text ending T × SameMembers S T)

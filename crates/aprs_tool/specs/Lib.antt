@@ -20,7 +20,8 @@ pub mod Examples
 pub use Rattle.aprs_listing.specs.Listing
 pub use Rattle.aprs_convert.specs.Shown
 pub use Rattle.aprs_convert.specs.Monitor
-pub use Rattle.aprs_convert.specs.Plan
+pub use Rattle.aprs_convert.specs.Conversion
+pub use Rattle.aprs_convert.specs.Check
 pub use Rattle.aprs_convert.specs.Got
 pub use Rattle.aprs_convert.specs.Ends
 pub use Rattle.aprs_command.specs.Arguments

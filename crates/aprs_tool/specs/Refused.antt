@@ -7,7 +7,7 @@ use Rattle.aprs_log.specs.Reception.{Heard}
 use Rattle.aprs_laws.specs.declared.merge_fault.MergeFault.{MergeFault}
 use Rattle.aprs_laws.specs.declared.merge_fault.MergeFault.TheVariants as merge
 use Rattle.aprs_booktext.specs.FirstFault.{FirstFault, IsMemoryAt, most_ahead}
-use Rattle.aprs_tool.specs.Inputs.{GivesSet, is_book_file}
+use Rattle.aprs_tool.specs.Inputs.{GivesSet, IsBookFileOf, is_book_file}
 use Rattle.aprs_tool.specs.Status.{status_of_input}
 use Rattle.aprs_tool.specs.declared.fault.InputFault.{InputFault}
 use Rattle.aprs_tool.specs.declared.fault.InputFault.TheVariants.{Log, Book, Memory, OtherGap}
@@ -16,24 +16,20 @@ use Rattle.aprs_tool.specs.declared.fault.InputFault.TheVariants.{Log, Book, Mem
 -- because an allocation failed before that, for a log, or in the line of a book file that was being
 -- read.
 abbrev pub IsFaulty : InputFault → List ℕ → Ending → Type 0
-IsFaulty (Log fault) text ending =
-    (is_book_file text ≡ false) × HasLogFault text ending fault
+IsFaulty (Log fault) text ending = (is_book_file text ≡ false) × HasLogFault text ending fault
 IsFaulty (Book fault) text ending = (is_book_file text ≡ true)
     × (IsMemoryAt most_ahead text fault ⊎ FirstFault text ending fault)
 IsFaulty Memory text ending = is_book_file text ≡ false
 IsFaulty fault text ending = ⊥
 
--- The input is faultless, and isn't merged into a book of this gap: it is a book file of another
--- gap, or an allocation failed for the merge.
-abbrev pub IsNotMerged : ℕ → InputFault → List ℕ → Ending → Type 0
-IsNotMerged gap OtherGap text ending = (is_book_file text ≡ true)
-    × ((other : ℕ) × (S : List Heard) × (other ≢ gap) × GivesSet other text ending S)
-IsNotMerged gap Memory text ending = (S : List Heard) × GivesSet gap text ending S
-IsNotMerged gap fault text ending = ⊥
-
--- A book of this gap doesn't take the input, for this fault.
+-- A book of this gap doesn't take the input: that is a faultless book file of another gap; or it is
+-- faultless, and an allocation failed for the merge; or it is refused itself.
 abbrev pub IsNotTaken : ℕ → InputFault → List ℕ → Ending → Type 0
-IsNotTaken gap fault text ending = IsFaulty fault text ending ⊎ IsNotMerged gap fault text ending
+IsNotTaken gap OtherGap text ending =
+    (other : ℕ) × (S : List Heard) × (other ≢ gap) × IsBookFileOf other S text ending
+IsNotTaken gap Memory text ending =
+    IsFaulty Memory text ending ⊎ ((S : List Heard) × GivesSet gap text ending S)
+IsNotTaken gap fault text ending = IsFaulty fault text ending
 
 -- the fault of an input whose merge is refused
 abbrev pub fault_of_merge : MergeFault → InputFault

@@ -1,6 +1,5 @@
 -- What several inputs stand for together, and which of them is refused.
-use Rattle.std.specs.Prelude.{◌≡◌, ℕ, List, [], ◌∷◌, ◌++◌, length, map, Option, Some}
-use Rattle.aprs_io.specs.Device.{device_of}
+use Rattle.std.specs.Prelude.{◌≡◌, ℕ, List, [], ◌∷◌, ◌++◌, map, take, slice_get, Option, Some}
 use Rattle.aprs_io.specs.Input.{EndsSo}
 use Rattle.aprs_io.specs.declared.device.Counted.{Counted}
 use Rattle.aprs_io.specs.declared.input.Ending.{Ending}
@@ -19,20 +18,13 @@ pub record GotOf (limit : ℕ) : Type 0 where
   pub after : Option (List ℕ)
   pub ends : EndsSo ending limit text rest after
 
--- P holds of what was got of inputs of these bytes, whose devices then have `afters`.
-pub record HoldsOfEach (limit : ℕ) (inputs : List (List ℕ)) (afters : List (Option (List ℕ)))
-    (P : List (GotOf limit) → Type 0) : Type 0 where
-  pub gots : List (GotOf limit)
-  pub inputs_are : inputs ≡ map (λ g. g.text ++ g.rest) gots
-  pub afters_are : afters ≡ map (λ g. g.after) gots
-  pub holds : P gots
-
--- The same of readers that were read, where it is known which bytes all had.
+-- P holds of what was got of these readers' inputs, where it is known which bytes all had.
 abbrev pub OfEach : {R : Type 0} → (limit : ℕ) → (R → Option (List ℕ)) → List (Counted R)
     → List (Counted R) → (List (GotOf limit) → Type 0) → Type 0
 OfEach limit remaining old new P = (inputs : List (List ℕ))
-    → map (λ r. remaining (device_of r)) old ≡ map (λ input. Some input) inputs
-    → HoldsOfEach limit inputs (map (λ r. remaining (device_of r)) new) P
+    → map (λ r. remaining r.device) old ≡ map (λ input. Some input) inputs
+    → (gots : List (GotOf limit)) × (inputs ≡ map (λ g. g.text ++ g.rest) gots)
+    × (map (λ r. remaining r.device) new ≡ map (λ g. g.after) gots) × P gots
 
 -- All inputs are faultless, and S is the union of sets that they stand for, one for each.
 abbrev pub GiveUnion : {limit : ℕ} → ℕ → List (GotOf limit) → List Heard → Type 0
@@ -40,13 +32,11 @@ GiveUnion gap [] S = S ≡ []
 GiveUnion gap (g ∷ gots) S = (T : List Heard) × (U : List Heard)
     × GivesSet gap g.text g.ending T × GiveUnion gap gots U × SameMembers S (T ++ U)
 
--- Input number `index`, from 0, is the first that a book of this gap doesn't take, for this fault.
+-- Input number `index`, from 0, is the first that a book of this gap doesn't take, for this fault:
+-- all before it are faultless.
 pub record IsFirstRefused {limit : ℕ} (gap : ℕ) (gots : List (GotOf limit)) (index : ℕ)
     (fault : InputFault) : Type 0 where
-  pub before : List (GotOf limit)
   pub at : GotOf limit
-  pub after : List (GotOf limit)
-  pub gots_are : gots ≡ before ++ at ∷ after
-  pub number : index ≡ length before
-  pub faultless : (S : List Heard) × GiveUnion gap before S
+  pub is_there : slice_get gots index ≡ Some at
+  pub faultless : (S : List Heard) × GiveUnion gap (take index gots) S
   pub refused : IsNotTaken gap fault at.text at.ending

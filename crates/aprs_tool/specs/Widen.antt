@@ -1,8 +1,8 @@
 -- What widening an input writes and answers.
-use Rattle.std.specs.Prelude.{◌≡◌, ◌<◌, ◌≤◌, ◌⊎◌, ℕ, true, List}
+use Rattle.std.specs.Prelude.{◌<◌, ◌≤◌, ℕ, zero, suc, List}
 use Rattle.aprs_io.specs.declared.input.Ending.{Ending}
 use Rattle.aprs_log.specs.Reception.{Heard}
-use Rattle.aprs_tool.specs.Inputs.{GivesSet, is_book_file}
+use Rattle.aprs_tool.specs.Inputs.{GivesSet, IsBookFileOf}
 use Rattle.aprs_tool.specs.Refused.{IsFaulty}
 use Rattle.aprs_tool.specs.declared.fault.InputFault.{InputFault}
 use Rattle.aprs_tool.specs.declared.fault.InputFault.TheVariants.{Narrower}
@@ -12,13 +12,10 @@ use Rattle.aprs_tool.specs.declared.fault.InputFault.TheVariants.{Narrower}
 abbrev pub GivesSetWithin : ℕ → List ℕ → Ending → List Heard → Type 0
 GivesSetWithin gap text ending S = (own : ℕ) × (own ≤ gap) × GivesSet own text ending S
 
--- The input is a faultless book file, whose own gap is greater than this one.
-abbrev pub IsNarrower : ℕ → InputFault → List ℕ → Ending → Type 0
-IsNarrower gap Narrower text ending = (is_book_file text ≡ true)
-    × ((own : ℕ) × (S : List Heard) × (gap < own) × GivesSet own text ending S)
-IsNarrower gap fault text ending = ⊥
-
--- The only input, number 0, is refused for this fault.
+-- The only input, number 0, is refused: it is a faultless book file of a greater gap than this one,
+-- or refused itself.
 abbrev pub IsNotWidened : ℕ → List ℕ → Ending → ℕ → InputFault → Type 0
-IsNotWidened gap text ending index fault = (index ≡ 0)
-    × (IsFaulty fault text ending ⊎ IsNarrower gap fault text ending)
+IsNotWidened gap text ending zero Narrower =
+    (own : ℕ) × (S : List Heard) × (gap < own) × IsBookFileOf own S text ending
+IsNotWidened gap text ending zero fault = IsFaulty fault text ending
+IsNotWidened gap text ending (suc index) fault = ⊥

@@ -4,7 +4,7 @@ ghost use Rattle.aprs_io.specs.Input.{most_input};
 ghost use Rattle.aprs_tool.specs.Devices.{AsksEach, CallsOutput};
 ghost use Rattle.aprs_tool.specs.Gathered.{ReadsAll, ReadsEach};
 ghost use Rattle.aprs_tool.specs.Merge.{IsTextOfBook};
-ghost use Rattle.aprs_tool.specs.Outcome.{RefusesFor, SendsFor, WritesFor};
+ghost use Rattle.aprs_tool.specs.Outcome.{IsToldOf, RefusesFor, WritesFor};
 ghost use Rattle.aprs_tool.specs.Several.{GiveUnion, IsFirstRefused, OfEach};
 
 use crate::fault::{InputFault, RunFault};
@@ -29,9 +29,7 @@ pub fn merge_run<R: Read, W: Write, A: Allocator + Copy>(
 ) -> Result<(), RunFault>
     requires { limit ≤ most_input }
     ensures writes { OfEach limit R.remaining inputs.old inputs.new (λ gots.
-        WritesFor (GiveUnion gap gots) (IsTextOfBook gap) W.contents result w.old w.new) }
-    ensures sends { OfEach limit R.remaining inputs.old inputs.new (λ gots.
-        SendsFor (GiveUnion gap gots) (IsTextOfBook gap) W.contents result w.old w.new) }
+        WritesFor (IsToldOf (GiveUnion gap gots) (IsTextOfBook gap)) W.contents result w.old w.new) }
     ensures refuses { OfEach limit R.remaining inputs.old inputs.new (λ gots.
         RefusesFor (GiveUnion gap gots) (IsFirstRefused gap gots) result w.old w.new) }
     ensures memory { result ≡ Err RunFault.Memory → ⊥ }
@@ -46,13 +44,13 @@ pub fn merge_run<R: Read, W: Write, A: Allocator + Copy>(
     match gathered.write(w) {
         Ok(()) => Ok(()),
         Err(Unwritten::Write) => Err(RunFault::Write),
-        Err(Unwritten::Memory) => Err(refused_last(inputs.len())),
+        Err(Unwritten::Memory) => Err(fault_of_last(inputs.len())),
     }
 }
 
 /// An allocation failed for the book of so many inputs, all of which were read: a fault of the
 /// last.
-pub(crate) fn refused_last(inputs: usize) -> RunFault
+pub(crate) fn fault_of_last(inputs: usize) -> RunFault
     ensures { result ≡ RunFault.Input (inputs - 1) InputFault.Memory }
 {
     RunFault::Input {

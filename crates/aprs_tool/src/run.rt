@@ -1,8 +1,11 @@
 //! Conversions and checks as runs over one input.
 ghost use Rattle.std.specs.Prelude.{◌≤◌};
+ghost use Rattle.aprs_io.specs.Device.{Calls, device_of};
 ghost use Rattle.aprs_io.specs.Input.{most_input};
-ghost use Rattle.aprs_convert.specs.Plan.{check_plan, convert_plan};
-ghost use Rattle.aprs_tool.specs.Run.{RunsAs};
+ghost use Rattle.aprs_convert.specs.Check.{Checks};
+ghost use Rattle.aprs_convert.specs.Conversion.{Converts};
+ghost use Rattle.aprs_convert.specs.Got.{OfGot};
+ghost use Rattle.aprs_tool.specs.Run.{AsksOne, WritesWhileRead, last_of_writer};
 
 use crate::fault::RunFault;
 use aprs_convert::{Form, check_log, convert_input};
@@ -22,8 +25,12 @@ pub fn convert_run<R: Read, W: Write, A: Allocator + Copy>(
     w: &mut Counted<W>,
 ) -> Result<(), RunFault>
     requires { limit ≤ most_input }
-    ensures { RunsAs (convert_plan form) limit R.remaining W.contents result r.old r.new
-        w.old w.new }
+    ensures writes { OfGot limit (R.remaining (device_of r.old)) (R.remaining (device_of r.new))
+        (λ text ending. WritesWhileRead (λ fault. Converts form fault text ending) result
+        (W.contents (device_of w.old)) (W.contents (device_of w.new))) }
+    // The input is asked neither after its end nor after a fault, nor is the output.
+    ensures asks { AsksOne result r.old r.new }
+    ensures calls { Calls (last_of_writer result) w.old w.new }
 {
     Ok(convert_input(alloc, limit, form, r, w)?)
 }
@@ -39,7 +46,12 @@ pub fn check_run<R: Read, W: Write, A: Allocator + Copy>(
     w: &mut Counted<W>,
 ) -> Result<(), RunFault>
     requires { limit ≤ most_input }
-    ensures { RunsAs check_plan limit R.remaining W.contents result r.old r.new w.old w.new }
+    ensures writes { OfGot limit (R.remaining (device_of r.old)) (R.remaining (device_of r.new))
+        (λ text ending. WritesWhileRead (λ fault. Checks fault text ending) result
+        (W.contents (device_of w.old)) (W.contents (device_of w.new))) }
+    // The input is asked neither after its end nor after a fault, nor is the output.
+    ensures asks { AsksOne result r.old r.new }
+    ensures calls { Calls (last_of_writer result) w.old w.new }
 {
     Ok(check_log(alloc, limit, r, w)?)
 }

@@ -2,7 +2,7 @@
 ghost use Rattle.std.specs.Prelude.{◌≤◌};
 ghost use Rattle.aprs_io.specs.Input.{most_input};
 ghost use Rattle.aprs_tool.specs.Devices.{AsksEach, CallsOutput};
-ghost use Rattle.aprs_tool.specs.Outcome.{RefusesFor, SendsFor, WritesFor};
+ghost use Rattle.aprs_tool.specs.Outcome.{IsToldOf, RefusesFor, WritesFor};
 ghost use Rattle.aprs_tool.specs.Several.{GiveUnion, IsFirstRefused, OfEach};
 ghost use Rattle.aprs_tool.specs.Show.{IsListingOf};
 
@@ -30,9 +30,7 @@ pub fn show_run<R: Read, W: Write, A: Allocator + Copy>(
 ) -> Result<(), RunFault>
     requires { limit ≤ most_input }
     ensures writes { OfEach limit R.remaining inputs.old inputs.new (λ gots.
-        WritesFor (GiveUnion gap gots) (IsListingOf gap) W.contents result w.old w.new) }
-    ensures sends { OfEach limit R.remaining inputs.old inputs.new (λ gots.
-        SendsFor (GiveUnion gap gots) (IsListingOf gap) W.contents result w.old w.new) }
+        WritesFor (IsToldOf (GiveUnion gap gots) (IsListingOf gap)) W.contents result w.old w.new) }
     ensures refuses { OfEach limit R.remaining inputs.old inputs.new (λ gots.
         RefusesFor (GiveUnion gap gots) (IsFirstRefused gap gots) result w.old w.new) }
     // The inputs are asked neither after their ends nor after a fault, nor is the output.

@@ -5,7 +5,7 @@ ghost use Rattle.aprs_io.specs.Input.{most_input};
 ghost use Rattle.aprs_convert.specs.Got.{OfGot};
 ghost use Rattle.aprs_tool.specs.Devices.{AsksEach, CallsOutput};
 ghost use Rattle.aprs_tool.specs.Merge.{IsTextOfBook};
-ghost use Rattle.aprs_tool.specs.Outcome.{RefusesFor, SendsFor, WritesFor};
+ghost use Rattle.aprs_tool.specs.Outcome.{IsToldOf, RefusesFor, WritesFor};
 ghost use Rattle.aprs_tool.specs.Widen.{GivesSetWithin, IsNotWidened};
 
 use crate::fault::{InputFault, RunFault};
@@ -32,11 +32,8 @@ pub fn widen_run<R: Read, W: Write, A: Allocator + Copy>(
 ) -> Result<(), RunFault>
     requires { limit ≤ most_input }
     ensures writes { OfGot limit (R.remaining (device_of r.old)) (R.remaining (device_of r.new))
-        (λ text ending. WritesFor (GivesSetWithin gap text ending) (IsTextOfBook gap) W.contents
-        result w.old w.new) }
-    ensures sends { OfGot limit (R.remaining (device_of r.old)) (R.remaining (device_of r.new))
-        (λ text ending. SendsFor (GivesSetWithin gap text ending) (IsTextOfBook gap) W.contents
-        result w.old w.new) }
+        (λ text ending. WritesFor (IsToldOf (GivesSetWithin gap text ending) (IsTextOfBook gap))
+        W.contents result w.old w.new) }
     ensures refuses { OfGot limit (R.remaining (device_of r.old)) (R.remaining (device_of r.new))
         (λ text ending. RefusesFor (GivesSetWithin gap text ending)
         (IsNotWidened gap text ending) result w.old w.new) }
@@ -50,7 +47,7 @@ pub fn widen_run<R: Read, W: Write, A: Allocator + Copy>(
         Err(fault) => return Err(RunFault::Input { index: 0, fault }),
     };
     if own.seconds() > gap.seconds() {
-        return Err(narrower());
+        return Err(narrower_fault());
     }
     match Gathered::of(alloc, gap, store).write(w) {
         Ok(()) => Ok(()),
@@ -60,7 +57,7 @@ pub fn widen_run<R: Read, W: Write, A: Allocator + Copy>(
 }
 
 /// The only input has a greater gap.
-fn narrower() -> RunFault
+fn narrower_fault() -> RunFault
     ensures { result ≡ RunFault.Input 0 InputFault.Narrower }
 {
     RunFault::Input {

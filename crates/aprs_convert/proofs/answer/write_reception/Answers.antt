@@ -1,9 +1,9 @@
-use Rattle.std.proofs.Common.{ap, sym, ◌∙◌}
+use Rattle.std.proofs.Common.{[], ◌∷◌, ◌++◌, ap, sym, ◌∙◌}
 use Rattle.aprs_io.proofs.Sends.{Sends-is}
 use Rattle.aprs_ax25.specs.FrameFault.{parts_of}
 use Rattle.aprs_kiss.specs.Spelling.{kiss_text}
 use Rattle.aprs_convert.specs.Monitor.{monitor_text, kind_text}
-use Rattle.aprs_convert.specs.Plan.{ended_by_lf, reception_text}
+use Rattle.aprs_convert.specs.Conversion.{reception_text}
 use Rattle.aprs_convert.specs.declared.form.Form.{Form}
 use Rattle.aprs_convert.proofs.answer.write_reception.Goals as goal
 
@@ -11,14 +11,14 @@ pub returns-in-Text : goal.returns-in-Text
 returns-in-Text g c =
     let x = c.args.reception.now in
     Sends-is c.write_monitor_line.ensures
-    (ap (λ frame. ended_by_lf (monitor_text (parts_of frame))) c.frame.ensures
+    (ap (λ frame. monitor_text (parts_of frame) ++ 10 ∷ []) c.frame.ensures
     ∙ sym (ap (λ (f : Form). reception_text f x) c.in-Text.is))
 
 pub returns-in-Kind : goal.returns-in-Kind
 returns-in-Kind g c =
     let x = c.args.reception.now in
     Sends-is c.write_kind_line.ensures
-    (ap (λ frame. ended_by_lf (kind_text (parts_of frame))) c.frame-in-Kind.ensures
+    (ap (λ frame. kind_text (parts_of frame) ++ 10 ∷ []) c.frame-in-Kind.ensures
     ∙ sym (ap (λ (f : Form). reception_text f x) c.in-Kind.is))
 
 pub returns-in-Kiss : goal.returns-in-Kiss

@@ -2,8 +2,10 @@ use Rattle.std.proofs.Common.{inl, inr, arith, refl, sym, ◌∙◌, None, Ok, E
 use Rattle.std.proofs.lemmas.Result.{err_from_is_err_and}
 use Rattle.aprs_kiss.specs.Device.{Calls, Going}
 use Rattle.aprs_io.proofs.Sends.{Calls-none, Calls-then}
-use Rattle.aprs_convert.specs.Ends.{Runs}
+use Rattle.aprs_convert.specs.Check.{Checks}
 use Rattle.aprs_convert.specs.Plan.{check_plan}
+use Rattle.aprs_convert.proofs.Planned.{runs_back}
+use Rattle.aprs_convert.proofs.Writings.{checks}
 use Rattle.aprs_convert.specs.declared.fault.ConvertFault.TheVariants.{Log, Write}
 use Rattle.aprs_log.specs.Reader.{current_of, source_of}
 use Rattle.aprs_convert.proofs.Checked.{Checked-none, Checked-sum, Checked-heard, Checked-passed, Checked-refused, Checked-ended, Checked-totals_refused, Checked-fault}
@@ -67,10 +69,9 @@ returns-in_err-write_passed-in-Passed g c =
     let p = err_from_is_err_and c.from_residual-in_err-write_passed-in-Passed.result
     c.from_residual-in_err-write_passed-in-Passed.ensures.1 in
     let gives = rw c.if-not-branch.false at c.in_ok-advance.ensures.gives in
-    let it : Runs check_plan c.args.limit g.R.Read.remaining
-    g.W.Write.contents (Err Write)
-    c.args.r.now (source_of c.advance.new.self) c.args.w.now c.write_passed.new.w =
-    record {
+    rw (p.1, p.2) (runs_back check_plan c.args.limit g.R.Read.remaining g.W.Write.contents (Err Write)
+    c.args.r.now (source_of c.advance.new.self) _ c.args.w.now c.write_passed.new.w (search rules)
+    (record {
       run = Checked-refused _ _ _ _ _ _ _ _ (c.lines.invariant.checked _) _ gives.0 c.args.limit _ _ _ _
           (current_of c.advance.new.self) _
           c.line.ensures (sym c.current.ensures ∙ c.in-Passed.is)
@@ -80,65 +81,47 @@ returns-in_err-write_passed-in-Passed g c =
           (rw c.if-not-branch.false at (c.in_ok-advance.ensures.calls c.lines.invariant.going)));
       writes = Calls-then c.lines.invariant.writes
           c.in_err-write_passed-in-Passed.ensures.calls;
-    } in
-    rw (p.1, p.2)
-    (subst (λ k. Runs check_plan c.args.limit g.R.Read.remaining
-    g.W.Write.contents (Err Write)
-    c.args.r.now k c.args.w.now c.write_passed.new.w) (search rules) it)
+    }) Checks checks)
 
 pub returns-then-not-branch : goal.returns-then-not-branch
 returns-then-not-branch g c =
     let gives = rw c.if-not-branch.true at c.in_ok-advance.ensures.gives in
-    let it : Runs check_plan c.args.limit g.R.Read.remaining
-    g.W.Write.contents (Ok tt)
-    c.args.r.now (source_of c.advance.new.self) c.args.w.now c.write_totals.new.w =
-    record {
+    runs_back check_plan c.args.limit g.R.Read.remaining g.W.Write.contents (Ok tt)
+    c.args.r.now (source_of c.advance.new.self) _ c.args.w.now c.write_totals.new.w (search rules)
+    (record {
       run = Checked-ended _ _ _ _ _ _ _ (c.lines.invariant.checked _) c.args.limit _ _
           (c.new-reader.ensures.whole _) _ gives.2 c.in_ok-write_totals.ensures.sent;
       reads = Calls-then c.lines.invariant.reads
           (rw c.if-not-branch.true at (c.in_ok-advance.ensures.calls c.lines.invariant.going));
       writes = Calls-then c.lines.invariant.writes c.in_ok-write_totals.ensures.calls;
-    } in
-    (subst (λ k. Runs check_plan c.args.limit g.R.Read.remaining
-    g.W.Write.contents (Ok tt)
-    c.args.r.now k c.args.w.now c.write_totals.new.w) (search rules) it)
+    }) Checks checks
 
 pub returns-in_err-write_totals : goal.returns-in_err-write_totals
 returns-in_err-write_totals g c =
     let p = err_from_is_err_and c.from_residual-in_err-write_totals.result
     c.from_residual-in_err-write_totals.ensures.1 in
     let gives = rw c.if-not-branch.true at c.in_ok-advance.ensures.gives in
-    let it : Runs check_plan c.args.limit g.R.Read.remaining
-    g.W.Write.contents (Err Write)
-    c.args.r.now (source_of c.advance.new.self) c.args.w.now c.write_totals.new.w =
-    record {
+    rw (p.1, p.2) (runs_back check_plan c.args.limit g.R.Read.remaining g.W.Write.contents (Err Write)
+    c.args.r.now (source_of c.advance.new.self) _ c.args.w.now c.write_totals.new.w (search rules)
+    (record {
       run = Checked-totals_refused _ _ _ _ _ _ _ (c.lines.invariant.checked _) c.args.limit _ _
           (c.new-reader.ensures.whole _) _ gives.2 c.in_err-write_totals.ensures.prefix;
       reads = inr (Calls-then c.lines.invariant.reads
           (rw c.if-not-branch.true at (c.in_ok-advance.ensures.calls c.lines.invariant.going)));
       writes = Calls-then c.lines.invariant.writes c.in_err-write_totals.ensures.calls;
-    } in
-    rw (p.1, p.2)
-    (subst (λ k. Runs check_plan c.args.limit g.R.Read.remaining
-    g.W.Write.contents (Err Write)
-    c.args.r.now k c.args.w.now c.write_totals.new.w) (search rules) it)
+    }) Checks checks)
 
 pub returns-in_err-advance : goal.returns-in_err-advance
 returns-in_err-advance g c =
     let p = err_from_is_err_and c.from_residual.result c.from_residual.ensures.1 in
     let fault = c.in_err-advance.field-0.0 in
-    let it : Runs check_plan c.args.limit g.R.Read.remaining
-    g.W.Write.contents (Err (Log fault))
-    c.args.r.now (source_of c.advance.new.self) c.args.w.now c.lines.w =
-    record {
+    rw (p.1, p.2) (runs_back check_plan c.args.limit g.R.Read.remaining g.W.Write.contents (Err (Log fault))
+    c.args.r.now (source_of c.advance.new.self) _ c.args.w.now c.lines.w (search rules)
+    (record {
       run = Checked-fault _ _ _ _ _ _ _ (c.lines.invariant.checked _) c.args.limit _ _
           (c.new-reader.ensures.whole _) fault _ refl
           c.in_err-advance.ensures.gives.2;
       reads = Calls-then c.lines.invariant.reads
           (c.in_err-advance.ensures.calls c.lines.invariant.going);
       writes = c.lines.invariant.writes;
-    } in
-    rw (p.1, p.2)
-    (subst (λ k. Runs check_plan c.args.limit g.R.Read.remaining
-    g.W.Write.contents (Err (Log fault))
-    c.args.r.now k c.args.w.now c.lines.w) (search rules) it)
+    }) Checks checks)

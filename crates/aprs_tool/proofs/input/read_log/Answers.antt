@@ -3,8 +3,7 @@ use Rattle.std.proofs.Common.{ap, map, inl, refl, rules, sym, ◌∙◌, ◌++�
 use Rattle.std.proofs.lemmas.Result.{err_from_is_err_and}
 use Rattle.aprs_io.specs.Device.{Calls, End, Going, device_of}
 use Rattle.aprs_io.proofs.Sends.{Calls-none, Calls-then}
-use Rattle.aprs_convert.specs.Got.{HoldsOfGot}
-use Rattle.aprs_tool.specs.InputRows.{ReadsLog}
+use Rattle.aprs_tool.specs.InputRows.{HoldsOfGot, ReadsLog}
 use Rattle.aprs_tool.specs.declared.fault.InputFault.TheVariants.{Log}
 use Rattle.aprs_log.specs.LogAnswers.{receptions_of}
 use Rattle.aprs_log.specs.Awaits.{last_of_cause}

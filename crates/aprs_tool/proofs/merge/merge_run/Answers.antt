@@ -1,11 +1,11 @@
-use Rattle.std.proofs.Common.{◌≡◌, ◌∙◌, ◌-◌, length, suc, subst, sym, arith}
-use Rattle.aprs_io.specs.Device.{device_of}
-use Rattle.aprs_tool.specs.Devices.{ReadsFirst}
+use Rattle.std.proofs.Common.{◌∙◌, ◌-◌, length, arith}
+use Rattle.std.proofs.lemmas.List.Elements.{length_all_zip}
+use Rattle.aprs_io.specs.Device.{Calls, End, device_of}
 use Rattle.aprs_tool.specs.Merge.{IsTextOfBook}
 use Rattle.aprs_tool.proofs.LastRefused.{refused_at_last, text_cut, text_none, text_sent}
 use Rattle.aprs_tool.proofs.Merges.{same_len, text_of_book}
-use Rattle.aprs_tool.proofs.Readers.{ReadsFirst-len, StopsAt-last}
-use Rattle.aprs_tool.proofs.RunsOver.{all_cut, all_refused, all_sent, all_written, each_so, unsaid}
+use Rattle.aprs_tool.proofs.Readers.{AsksEach-last}
+use Rattle.aprs_tool.proofs.RunsOver.{all_cut, all_written, each_so, unsaid}
 use Rattle.aprs_tool.proofs.merge.merge_run.Goals as goal
 
 -- ---- the text was written
@@ -13,12 +13,6 @@ use Rattle.aprs_tool.proofs.merge.merge_run.Goals as goal
 pub returns-in-Ok-write-clause-writes : goal.returns-in-Ok-write-clause-writes
 returns-in-Ok-write-clause-writes g c = λ inputs e.
     all_written c.args.limit c.args.gap inputs _ (IsTextOfBook c.args.gap) g.W.Write.contents _ _ _ _
-    (text_of_book _ _ c.in-Ok.ensures.gap) (c.in-Ok.ensures.reads inputs e)
-    (text_sent _ _ _ _ c.in-Ok-write.ensures)
-
-pub returns-in-Ok-write-clause-sends : goal.returns-in-Ok-write-clause-sends
-returns-in-Ok-write-clause-sends g c = λ inputs e.
-    all_sent c.args.limit c.args.gap inputs _ (IsTextOfBook c.args.gap) g.W.Write.contents _ _ _ _
     (text_of_book _ _ c.in-Ok.ensures.gap) (c.in-Ok.ensures.reads inputs e)
     (text_sent _ _ _ _ c.in-Ok-write.ensures)
 
@@ -37,12 +31,6 @@ returns-in-Err-Write-clause-writes g c = λ inputs e.
     (text_of_book _ _ c.in-Ok.ensures.gap) (c.in-Ok.ensures.reads inputs e)
     (text_cut _ _ _ _ _ c.in-Err-Write.field-0-is c.in-Err-Write.ensures)
 
-pub returns-in-Err-Write-clause-sends : goal.returns-in-Err-Write-clause-sends
-returns-in-Err-Write-clause-sends g c = λ inputs e.
-    all_refused c.args.limit c.args.gap inputs _ (IsTextOfBook c.args.gap) g.W.Write.contents _ _ _ _
-    (text_of_book _ _ c.in-Ok.ensures.gap) (c.in-Ok.ensures.reads inputs e)
-    (text_cut _ _ _ _ _ c.in-Err-Write.field-0-is c.in-Err-Write.ensures)
-
 pub returns-in-Err-Write-clause-refuses : goal.returns-in-Err-Write-clause-refuses
 returns-in-Err-Write-clause-refuses g c = λ inputs e.
     unsaid c.args.limit inputs _ _ (c.in-Ok.ensures.reads inputs e)
@@ -55,23 +43,19 @@ returns-in-Err-Write-clause-calls g c =
 
 pub returns-in-Err-Memory-clause-writes : goal.returns-in-Err-Memory-clause-writes
 returns-in-Err-Memory-clause-writes g c =
-    rw c.refused_last.ensures (λ inputs e.
-    unsaid c.args.limit inputs _ _ (c.in-Ok.ensures.reads inputs e))
-
-pub returns-in-Err-Memory-clause-sends : goal.returns-in-Err-Memory-clause-sends
-returns-in-Err-Memory-clause-sends g c =
-    rw c.refused_last.ensures (λ inputs e.
+    rw c.fault_of_last.ensures (λ inputs e.
     unsaid c.args.limit inputs _ _ (c.in-Ok.ensures.reads inputs e))
 
 pub returns-in-Err-Memory-clause-refuses : goal.returns-in-Err-Memory-clause-refuses
 returns-in-Err-Memory-clause-refuses g c =
-    let len = ReadsFirst-len _ c.args.inputs.now c.read_all.new.inputs c.in-Ok.ensures.calls in
+    let len = length_all_zip (Calls End) c.args.inputs.now c.read_all.new.inputs
+    c.in-Ok.ensures.calls in
     let none = text_none _ _ _ _ _ c.in-Err-Memory.field-0-is c.in-Err-Memory.ensures in
-    rw c.refused_last.ensures (λ inputs e.
+    rw c.fault_of_last.ensures (λ inputs e.
     each_so c.args.limit inputs _ _ _ (λ gots first. (first, none.0))
     (refused_at_last _ _ _ inputs _ _ (c.in-Ok.ensures.reads inputs e)
     (same_len (λ r. g.R.Read.remaining (device_of r)) c.args.inputs.now inputs e
-    ∙ sym len) none.1))
+    ∙ len) none.1))
 
 pub returns-in-Err-Memory-clause-asks : goal.returns-in-Err-Memory-clause-asks
 returns-in-Err-Memory-clause-asks g c =
@@ -79,12 +63,11 @@ returns-in-Err-Memory-clause-asks g c =
     let some = c.in-Ok.ensures.some none.1 in
     let old = c.args.inputs.now in
     let new = c.read_all.new.inputs in
-    let len = ReadsFirst-len _ old new c.in-Ok.ensures.calls in
-    let last : length old ≡ suc (length new - 1) = omega (arith, some, len) in
-    rw c.refused_last.ensures (StopsAt-last (length new - 1) old new
-    (subst (λ n. ReadsFirst n old new) last c.in-Ok.ensures.calls))
+    let len = length_all_zip (Calls End) old new c.in-Ok.ensures.calls in
+    rw c.fault_of_last.ensures (AsksEach-last (length new - 1) old new (omega (arith, some, len))
+    c.in-Ok.ensures.calls)
 
 pub returns-in-Err-Memory-clause-calls : goal.returns-in-Err-Memory-clause-calls
 returns-in-Err-Memory-clause-calls g c =
-    rw c.refused_last.ensures
+    rw c.fault_of_last.ensures
     (text_none _ _ _ _ _ c.in-Err-Memory.field-0-is c.in-Err-Memory.ensures).0

@@ -6,9 +6,8 @@ use Rattle.aprs_laws.specs.Book.{BookOf}
 use Rattle.aprs_laws.specs.BookValue.{BookValue}
 use Rattle.aprs_laws.specs.Gap.{millis_of}
 use Rattle.aprs_laws.proofs.RunRows.{book_of_nothing}
-use Rattle.aprs_tool.specs.Devices.{ReadsFirst}
 use Rattle.aprs_tool.proofs.Merges.{HasRead-all, HasRead-more, HasRead-none, HasRead-refused, after_more, element_of, same_len}
-use Rattle.aprs_tool.proofs.Readers.{ReadsFirst-more, ReadsFirst-next, StopsAt-next}
+use Rattle.aprs_tool.proofs.Readers.{AsksEach-next, ReadsFirst, ReadsFirst-all, ReadsFirst-more, ReadsFirst-next}
 use Rattle.aprs_tool.proofs.merge.read_all.Goals as goal
 
 pub loop-index-init : goal.loop-index-init
@@ -73,7 +72,7 @@ pub returns-in-Err-clause-calls : goal.returns-in-Err-clause-calls
 returns-in-Err-clause-calls g c =
     let i = c.loop-index.index in
     let now = c.loop-index.inputs in
-    StopsAt-next (get_or now i c.index-inputs-index.result) c.read_into.new.r c.in-Err.fault i
+    AsksEach-next (get_or now i c.index-inputs-index.result) c.read_into.new.r c.in-Err.fault i
     c.args.inputs.now now c.loop-index.invariant.calls
     (slice_get-get_or now i c.index-inputs-index.result
     (omega (arith, c.loop-index-test.true, c.loop-index.auto.inputs))) c.in-Err.ensures.calls
@@ -98,5 +97,6 @@ pub returns-clause-calls : goal.returns-clause-calls
 returns-clause-calls g c =
     let whole : c.loop-index.index ≡ length c.args.inputs.now =
     omega (arith, c.loop-index-test.false, c.loop-index.auto.index-end) in
-    subst (λ n. ReadsFirst n c.args.inputs.now c.loop-index.inputs) whole
-    c.loop-index.invariant.calls
+    ReadsFirst-all c.args.inputs.now c.loop-index.inputs
+    (subst (λ n. ReadsFirst n c.args.inputs.now c.loop-index.inputs) whole
+    c.loop-index.invariant.calls)

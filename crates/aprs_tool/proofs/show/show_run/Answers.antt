@@ -1,5 +1,5 @@
 use Rattle.aprs_tool.specs.Show.{IsListingOf}
-use Rattle.aprs_tool.proofs.RunsOver.{all_cut, all_refused, all_sent, all_written, each_so, unsaid}
+use Rattle.aprs_tool.proofs.RunsOver.{all_cut, all_written, each_so, unsaid}
 use Rattle.aprs_tool.proofs.Shows.{listing_of_shown, shown_cut, shown_none, shown_sent}
 use Rattle.aprs_tool.proofs.show.show_run.Goals as goal
 
@@ -9,12 +9,6 @@ pub returns-in-Ok-show-clause-writes : goal.returns-in-Ok-show-clause-writes
 returns-in-Ok-show-clause-writes g c = λ inputs e.
     let shown = shown_sent _ _ _ _ c.in-Ok-show.ensures in
     all_written c.args.limit c.args.gap inputs _ (IsListingOf c.args.gap) g.W.Write.contents _ _ _ _
-    (listing_of_shown _ _ _ c.in-Ok.ensures.gap shown.1) (c.in-Ok.ensures.reads inputs e) shown.2
-
-pub returns-in-Ok-show-clause-sends : goal.returns-in-Ok-show-clause-sends
-returns-in-Ok-show-clause-sends g c = λ inputs e.
-    let shown = shown_sent _ _ _ _ c.in-Ok-show.ensures in
-    all_sent c.args.limit c.args.gap inputs _ (IsListingOf c.args.gap) g.W.Write.contents _ _ _ _
     (listing_of_shown _ _ _ c.in-Ok.ensures.gap shown.1) (c.in-Ok.ensures.reads inputs e) shown.2
 
 pub returns-in-Ok-show-clause-refuses : goal.returns-in-Ok-show-clause-refuses
@@ -32,12 +26,6 @@ returns-in-Err-Write-clause-writes g c = λ inputs e.
     all_cut c.args.limit c.args.gap inputs _ (IsListingOf c.args.gap) g.W.Write.contents _ _ _ _
     (listing_of_shown _ _ _ c.in-Ok.ensures.gap shown.1) (c.in-Ok.ensures.reads inputs e) shown.2
 
-pub returns-in-Err-Write-clause-sends : goal.returns-in-Err-Write-clause-sends
-returns-in-Err-Write-clause-sends g c = λ inputs e.
-    let shown = shown_cut _ _ _ _ _ c.in-Err-Write.field-0-is c.in-Err-Write.ensures in
-    all_refused c.args.limit c.args.gap inputs _ (IsListingOf c.args.gap) g.W.Write.contents _ _ _ _
-    (listing_of_shown _ _ _ c.in-Ok.ensures.gap shown.1) (c.in-Ok.ensures.reads inputs e) shown.2
-
 pub returns-in-Err-Write-clause-refuses : goal.returns-in-Err-Write-clause-refuses
 returns-in-Err-Write-clause-refuses g c = λ inputs e.
     unsaid c.args.limit inputs _ _ (c.in-Ok.ensures.reads inputs e)
@@ -50,10 +38,6 @@ returns-in-Err-Write-clause-calls g c =
 
 pub returns-in-Err-Memory-clause-writes : goal.returns-in-Err-Memory-clause-writes
 returns-in-Err-Memory-clause-writes g c = λ inputs e.
-    unsaid c.args.limit inputs _ _ (c.in-Ok.ensures.reads inputs e)
-
-pub returns-in-Err-Memory-clause-sends : goal.returns-in-Err-Memory-clause-sends
-returns-in-Err-Memory-clause-sends g c = λ inputs e.
     unsaid c.args.limit inputs _ _ (c.in-Ok.ensures.reads inputs e)
 
 pub returns-in-Err-Memory-clause-refuses : goal.returns-in-Err-Memory-clause-refuses

@@ -1,5 +1,6 @@
 use Rattle.std.proofs.lemmas.Result.{err_from_is_err_and}
-use Rattle.aprs_tool.proofs.Into.{got_so, merged_in, not_merged_in}
+use Rattle.aprs_convert.proofs.Gots.{got_so}
+use Rattle.aprs_tool.proofs.Into.{merged_in, not_merged_in}
 use Rattle.aprs_tool.proofs.Readers.{asks_merge}
 use Rattle.aprs_tool.proofs.desk.Desk.take_input.Goals as goal
 

@@ -1,0 +1,65 @@
+-- A text begins as that of a book, or as a log does.
+use Rattle.std.proofs.Common.{◌≡◌, ◌∙◌, ℕ, get_or, true, false, List, [], ◌∷◌, ◌++◌, drop, codes, inl, inr, refl, sym, ap, arith}
+use Rattle.std.proofs.lemmas.Bool.Decides.{Decides-eqb}
+use Rattle.std.proofs.lemmas.Slice.Eq.{starts_is}
+use Rattle.aprs_io.specs.declared.input.Ending.{Ending}
+use Rattle.aprs_log.specs.LineText.{IsLine}
+use Rattle.aprs_log.specs.LogText.{IsLogText, ReportAll, text_of_lines}
+use Rattle.aprs_log.specs.Reception.{Heard}
+use Rattle.aprs_log.proofs.Moments.{IsTextOf-text}
+use Rattle.aprs_laws.specs.Row.{Row}
+use Rattle.aprs_booktext.specs.Text.{book_text}
+use Rattle.aprs_booktext.specs.declared.version.Version.{Version}
+use Rattle.aprs_booktext.specs.declared.version.Version.TheVariants.{One, Two, Three}
+use Rattle.aprs_tool.specs.Inputs.{IsBookFileOf, is_book_file}
+
+abbrev pub mark : List ℕ
+mark = codes "APRSBOOK"
+
+pub begins : (t : List ℕ) → is_book_file t ≡ true → t ≡ mark ++ drop 8 t
+begins t e = (starts_is Decides-eqb t mark (is_book_file t) refl).0 e
+
+pub is_book : (t rest : List ℕ) → t ≡ mark ++ rest → is_book_file t ≡ true
+is_book t rest e = (starts_is Decides-eqb t mark (is_book_file t) refl).1 rest e
+
+-- ---- a book file
+
+pub book_begins : (v : Version) (rows : List Row) → is_book_file (book_text v rows) ≡ true
+book_begins One rows = is_book (book_text One rows) (drop 8 (book_text One rows)) refl
+book_begins Two rows = is_book (book_text Two rows) (drop 8 (book_text Two rows)) refl
+book_begins (Three gap) rows = is_book (book_text (Three gap) rows)
+    (drop 8 (book_text (Three gap) rows)) refl
+
+pub file_begins : (gap : ℕ) (S : List Heard) (t : List ℕ) (c : Ending) → IsBookFileOf gap S t c
+    → is_book_file t ≡ true
+file_begins gap S t c p = ap is_book_file p.text_is ∙ book_begins p.version p.rows
+
+-- ---- a log
+
+-- after the digits of a year comes a hyphen
+hyphen : (line : List ℕ) → IsLine line → (end more : List ℕ)
+    → get_or ((line ++ end) ++ more) 4 0 ≡ 45
+hyphen line is end more =
+    let text = IsTextOf-text is.moment is.fields.1.0 is.fields.1.1 in
+    let fields = 32 ∷ (is.receiver ++ 32 ∷ is.digits) in
+    ap (λ l. get_or ((l ++ end) ++ more) 4 0) is.fields.1.2
+    ∙ ap (λ t. get_or (((t ++ fields) ++ end) ++ more) 4 0) text.1.spelled
+
+first_line : (line : List ℕ) (lines : List (List ℕ)) (S : List Heard) → ReportAll (line ∷ lines) S
+    → IsLine line
+first_line line lines S (inl passed) = passed.0.0
+first_line line lines S (inr heard) = heard.2.0
+
+-- so it begins otherwise
+log_begins : (lines : List (List ℕ)) (S : List Heard) → ReportAll lines S
+    → is_book_file (text_of_lines lines) ≡ true → ⊥
+log_begins [] S all e = let bad : false ≡ true = e in absurd cc
+log_begins (line ∷ lines) S all e =
+    let other : get_or ((line ++ 10 ∷ []) ++ text_of_lines lines) 4 0 ≡ 66 =
+    ap (λ t. get_or t 4 0) (begins (text_of_lines (line ∷ lines)) e) in
+    let own = hyphen line (first_line line lines S all) (10 ∷ []) (text_of_lines lines) in
+    omega (arith, other, own)
+
+pub log_is_no_book : (t : List ℕ) (c : Ending) (S : List Heard) → IsLogText t c S
+    → is_book_file t ≡ true → ⊥
+log_is_no_book t c S p e = log_begins p.lines S p.report (ap is_book_file (sym p.text_is) ∙ e)
