@@ -169,8 +169,8 @@ abbrev pub widened_gap : List Row → Option ℕ
 widened_gap rows = option_and_then read_gap (first_of (codes "seconds") rows)
 
 -- the task of the command of this name, if its options are right
-abbrev pub task_named : Text → List Row → Option Task
-task_named name rows =
+abbrev pub task_by_name : Text → List Row → Option Task
+task_by_name name rows =
     if bytes_eq name (codes "convert") then option_map (λ f. task.Convert f) (asked_form rows)
     else (if bytes_eq name (codes "merge") then option_map (λ g. task.Merge g) (chosen_gap rows)
     else (if bytes_eq name (codes "show") then option_map (λ g. task.Show g) (chosen_gap rows)
@@ -180,12 +180,12 @@ task_named name rows =
 -- the task, or none where the options break the rule on capture; `convert text` without a command
 abbrev pub task_of : Option (Text × List Row) → Option Task
 task_of None = Some (task.Convert form.Text)
-task_of (Some p) = task_named p.0 p.1
+task_of (Some p) = task_by_name p.0 p.1
 
 -- the paths of the inputs, in the order of the arguments; none without a command
-abbrev pub inputs_named : Option (Text × List Row) → List Text
-inputs_named None = []
-inputs_named (Some p) = unwrap_or (all_of (codes "input") p.1) []
+abbrev pub inputs_in : Option (Text × List Row) → List Text
+inputs_in None = []
+inputs_in (Some p) = unwrap_or (all_of (codes "input") p.1) []
 
 -- ---- the answer
 
@@ -202,17 +202,17 @@ inputs_of (job.Show g inputs) = paths_of inputs.items
 inputs_of (job.Widen g inputs) = paths_of inputs.items
 
 -- what a job asks for, apart from its inputs
-abbrev pub asked_by : Job → Task
-asked_by (job.Check inputs) = task.Check
-asked_by (job.Convert f inputs) = task.Convert f
-asked_by (job.Merge g inputs) = task.Merge g
-asked_by (job.Show g inputs) = task.Show g
-asked_by (job.Widen g inputs) = task.Widen g
+abbrev pub job_task : Job → Task
+job_task (job.Check inputs) = task.Check
+job_task (job.Convert f inputs) = task.Convert f
+job_task (job.Merge g inputs) = task.Merge g
+job_task (job.Show g inputs) = task.Show g
+job_task (job.Widen g inputs) = task.Widen g
 
 -- The job is the one that these matches ask for, with their inputs.
 pub record IsJobOf (found : Option (Text × List Row)) (j : Job) : Type 0 where
-  pub task : task_of found ≡ Some (asked_by j)
-  pub inputs : inputs_of j ≡ inputs_named found
+  pub task : task_of found ≡ Some (job_task j)
+  pub inputs : inputs_of j ≡ inputs_in found
 
 -- The arguments are refused only where the command doesn't take them, and the options of capture
 -- only where they break the rule on them.

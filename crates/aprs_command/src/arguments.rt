@@ -5,13 +5,13 @@ ghost use Rattle.clap.specs.Words.{rule_of, subcommand_rows_of};
 ghost use Rattle.clap.specs.declared.error.kind.ErrorKind.TheVariants.{OutOfMemory};
 ghost use Rattle.clap.specs.declared.builder.command.Command.TheViews.{out-Command};
 ghost use Rattle.clap.specs.declared.builder.value_parser.ValueParser.{ValueParser};
-ghost use Rattle.aprs_command.specs.Arguments.{IsForms, AnswersArguments, JudgesArguments, asked_by, form_rule, option_rule, required_rule};
+ghost use Rattle.aprs_command.specs.Arguments.{IsForms, AnswersArguments, JudgesArguments, job_task, form_rule, option_rule, required_rule};
 ghost use Rattle.aprs_command.specs.Arguments.{check_app, convert_app, gathering_app, program_app, program_top, receiver_of};
 ghost use Rattle.aprs_command.specs.Arguments.{widen_app, gap_rule, seconds_rule, gap_parser, read_gap};
 ghost use Rattle.aprs_command.specs.Arguments.{chosen_gap, widened_gap};
-ghost use Rattle.aprs_command.specs.Arguments.{AreForms, input_rule, inputs_named, inputs_of, inputs_rule, paths_of};
+ghost use Rattle.aprs_command.specs.Arguments.{AreForms, input_rule, inputs_in, inputs_of, inputs_rule, paths_of};
 ghost use Rattle.aprs_command.specs.Arguments.{plain_form_of, capture_form_of, named_form_of, asked_form};
-ghost use Rattle.aprs_command.specs.Arguments.{task_named, task_of};
+ghost use Rattle.aprs_command.specs.Arguments.{task_by_name, task_of};
 ghost use Rattle.aprs_log.specs.MomentReading.{moment_of};
 
 use crate::help;
@@ -276,7 +276,7 @@ fn read_task(matches: &ArgMatches<'_>) -> Option<Task>
 }
 
 fn read_named(name: &str, matches: &ArgMatches<'_>) -> Option<Task>
-    ensures { result ≡ task_named name.now (rows_of (found_of matches.now)) }
+    ensures { result ≡ task_by_name name.now (rows_of (found_of matches.now)) }
 {
     if name == "convert" {
         Some(Task::Convert(read_form(matches)?))
@@ -381,19 +381,19 @@ fn read_moment(text: &str) -> Option<Moment>
 
 /// The paths of the inputs, in order.
 fn read_inputs(alloc: Global, matches: &ArgMatches<'_>) -> Result<Vec<String>, AllocError>
-    ensures { IfOk result (λ v. paths_of v.items ≡ inputs_named (subcommand_rows_of matches.now)) }
+    ensures { IfOk result (λ v. paths_of v.items ≡ inputs_in (subcommand_rows_of matches.now)) }
 {
     let Some((_, inner)) = matches.subcommand() else {
         return Ok(Vec::new(alloc));
     };
     match inner.get_strs("input") {
-        Some(paths) => copied(alloc, paths),
+        Some(paths) => copy_paths(alloc, paths),
         None => Ok(Vec::new(alloc)),
     }
 }
 
 /// The texts as they are, in memory of their own.
-fn copied(alloc: Global, paths: &[&str]) -> Result<Vec<String>, AllocError>
+fn copy_paths(alloc: Global, paths: &[&str]) -> Result<Vec<String>, AllocError>
     ensures { IfOk result (λ v. paths_of v.items ≡ map (λ path. path.now) paths.now) }
 {
     let mut inputs = Vec::new(alloc);
@@ -404,7 +404,7 @@ fn copied(alloc: Global, paths: &[&str]) -> Result<Vec<String>, AllocError>
 }
 
 fn with_inputs(task: Task, inputs: Vec<String>) -> Job
-    ensures task { asked_by result ≡ task }
+    ensures task { job_task result ≡ task }
     ensures inputs { inputs_of result ≡ paths_of inputs.items }
 {
     match task {

@@ -92,20 +92,6 @@ module _ (text : Judgement → List ℕ) where
         });
       }
 
-  -- nothing is left
-  pub HasCaptured-all : (old new : KissReader) (before after : Option (List ℕ))
-      (chunk rest : List ℕ)
-      → HasCaptured old new before after chunk rest → length rest ≡ 0
-      → Captures old new before after chunk
-  HasCaptured-all old new before after chunk rest h e =
-      let none : rest ≡ [] = nil rest e in
-      subst (λ l. Captures old new before after l)
-      (sym (h.cut ∙ ap (λ l. h.seen ++ l) none ∙ append-nil h.seen)) h.captures
-    where
-      nil : (l : List ℕ) → length l ≡ 0 → l ≡ []
-      nil [] z = refl
-      nil (x ∷ l) z = absurd (omega (arith, z))
-
   -- an answer is refused
   pub HasCaptured-refused : (old mid : KissReader) (before between after : Option (List ℕ))
       (chunk rest part left : List ℕ) (judgements : List Judgement)

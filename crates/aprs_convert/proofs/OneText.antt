@@ -3,24 +3,23 @@ use Rattle.std.proofs.Common.{◌≡◌, ◌∙◌, ℕ, ◌+◌, List, [], ◌�
 use Rattle.std.specs.List.{flat_map}
 use Rattle.aprs_kiss.specs.Stream.{judgements_of}
 use Rattle.aprs_log.specs.Line.{frame_in, heard_or_passed, line_of}
-use Rattle.aprs_log.specs.LineText.{IsLine, Reports}
-use Rattle.aprs_log.specs.LogAnswers.{Answers, log_answers, receptions_of}
+use Rattle.aprs_log.specs.LineText.{IsLine}
+use Rattle.aprs_log.specs.LogAnswers.{log_answers, receptions_of}
 use Rattle.aprs_log.specs.LogText.{HasLogFault, IsLogText, text_of_lines}
 use Rattle.aprs_log.specs.Reception.{Heard}
 use Rattle.aprs_log.specs.declared.Ending.{Ending}
 use Rattle.aprs_log.specs.declared.fault.LogFault.{LogFault}
 use Rattle.aprs_log.specs.declared.fault.Reason.{Reason}
-use Rattle.aprs_log.specs.declared.line.Line.{Line}
 use Rattle.aprs_log.specs.declared.line.Line.TheVariants as line
 use Rattle.aprs_log.proofs.Lines.{line_of-syntax}
 use Rattle.aprs_log.proofs.LineTexts.{reports-line_of}
 use Rattle.aprs_log.proofs.LogTexts.{log_fault-answers, log_text-answers}
 use Rattle.aprs_convert.specs.Check.{Checks, PassesOver, passed_line, totals_line}
-use Rattle.aprs_convert.specs.Conversion.{Converts, Hears, reception_text}
+use Rattle.aprs_convert.specs.Conversion.{Converts, reception_text}
 use Rattle.aprs_convert.specs.Plan.{Plan, check_lines, check_plan, convert_plan, lines_plan, totals}
 use Rattle.aprs_convert.specs.declared.form.Form.{Form}
 use Rattle.aprs_convert.specs.declared.form.Form.TheVariants.{Text, Kind, Kiss, Log, Capture}
-use Rattle.aprs_convert.proofs.SaidLines.{SaidWhole, faultless_said, faulty_said, passed_in, same_line}
+use Rattle.aprs_convert.proofs.SaidLines.{faultless_said, faulty_said, passed_in, same_line}
 use Rattle.aprs_convert.proofs.Writings.{heard_text, reports_text, stream_text, totals_text}
 
 -- the run writes this and ends with this fault

@@ -1,7 +1,6 @@
 -- Lemmas on lines that are in order: what a reader gives of them, and of the log that they are of.
 use Rattle.std.proofs.Common.{◌≡◌, ◌∙◌, ℕ, ◌+◌, List, [], ◌∷◌, ◌++◌, length, Option, None, Some, Result, Ok, Err, inl, inr, refl, sym, ap, append_assoc, append-nil, arith}
 use Rattle.std.specs.List.{AllZip, slice_split}
-use Rattle.std.proofs.lemmas.List.{length-append}
 use Rattle.aprs_io.proofs.Cuts.{cut_at-append}
 use Rattle.aprs_log.specs.Fault.{log_cause_of}
 use Rattle.aprs_log.specs.Line.{frame_in, heard_or_passed, line_of}
@@ -20,7 +19,7 @@ use Rattle.aprs_log.specs.declared.line.Line.TheVariants as line
 use Rattle.aprs_log.proofs.Lines.{line_of-syntax}
 use Rattle.aprs_log.proofs.LineTexts.{passed-line_of, reports-line_of}
 use Rattle.aprs_log.proofs.LogAnswers.{answers_from-line}
-use Rattle.aprs_log.proofs.LogTexts.{answers-log_fault, answers-log_text, line_lacks, log_fault-answers}
+use Rattle.aprs_log.proofs.LogTexts.{line_lacks, log_fault-answers}
 use Rattle.aprs_convert.specs.Check.{PassesOver}
 use Rattle.aprs_convert.proofs.Seen.{prepended}
 

@@ -4,7 +4,7 @@ use Rattle.std.specs.List.{flat_map, list_all}
 use Rattle.std.specs.Option.{option_map}
 use Rattle.std.proofs.Common.{Bool, true, false, cond}
 use Rattle.hex.specs.Hex.{encode_lower}
-use Rattle.aprs_convert.specs.Shown.{is_shown, shown}
+use Rattle.aprs_convert.specs.Shown.{is_shown, shown_text}
 use Rattle.std.specs.Fmt.{decimal}
 use Rattle.std.proofs.lemmas.List.{length-append, take_more, flat_map_more}
 use Rattle.std.proofs.lemmas.Option.{slice_get_within, slice_get_cases, slice_get-map, get_or_from_slice_get}
@@ -52,11 +52,11 @@ shown_byte-plain b rest true is e = refl
 shown_byte-plain b rest false is e = absurd cc
 
 -- bytes that are shown as themselves
-pub shown-plain : (bytes : List ℕ) → list_all is_shown bytes ≡ true → bytes ≡ shown bytes
+pub shown-plain : (bytes : List ℕ) → list_all is_shown bytes ≡ true → bytes ≡ shown_text bytes
 shown-plain [] e = refl
 shown-plain (b ∷ bytes) e =
     let p = and_parts _ _ e in
-    ap (λ l. b ∷ l) (shown-plain bytes p.1) ∙ shown_byte-plain b (shown bytes) (is_shown b) refl p.0
+    ap (λ l. b ∷ l) (shown-plain bytes p.1) ∙ shown_byte-plain b (shown_text bytes) (is_shown b) refl p.0
 
 pub length-decimal-step : (n : ℕ) → 10 ≤ n → n < 2 ^ 64
     → length (decimal n) ≡ length (decimal (n / 10)) + 1

@@ -1,5 +1,5 @@
 -- What runs plan to write is what a conversion or a check writes.
-use Rattle.std.proofs.Common.{◌≡◌, ◌∙◌, ℕ, ◌+◌, List, [], ◌∷◌, ◌++◌, length, map, Option, None, Some, Result, Ok, Err, refl, sym, ap, append-nil, subst, arith}
+use Rattle.std.proofs.Common.{◌≡◌, ◌∙◌, ℕ, ◌+◌, List, [], ◌∷◌, ◌++◌, length, map, Option, None, Some, Result, Ok, Err, refl, sym, ap, append-nil, arith}
 use Rattle.std.specs.List.{cons_option, filter_map, flat_map}
 use Rattle.std.specs.Option.{option_and_then}
 use Rattle.std.specs.Result.{result_ok}
@@ -8,7 +8,7 @@ use Rattle.aprs_kiss.specs.Judgement.{Judgement}
 use Rattle.aprs_kiss.specs.Stream.{judgements_of}
 use Rattle.aprs_ax25.specs.FrameFault.{frame_of}
 use Rattle.aprs_ax25.specs.declared.fault.FrameFault.{FrameFault}
-use Rattle.aprs_log.specs.LogAnswers.{Answers, log_answers, receptions_of}
+use Rattle.aprs_log.specs.LogAnswers.{log_answers, receptions_of}
 use Rattle.aprs_log.specs.LogText.{text_of_lines}
 use Rattle.aprs_log.specs.Reception.{Heard}
 use Rattle.aprs_log.specs.declared.Ending.{Ending}
@@ -17,7 +17,7 @@ use Rattle.aprs_log.specs.declared.line.Line.{Line}
 use Rattle.aprs_log.specs.declared.line.Line.TheVariants as line
 use Rattle.aprs_log.proofs.LogTexts.{answers-log_fault, answers-log_text}
 use Rattle.aprs_convert.specs.Check.{Checks, passed_line, totals_line}
-use Rattle.aprs_convert.specs.Conversion.{Converts, Hears, reception_text}
+use Rattle.aprs_convert.specs.Conversion.{Converts, reception_text}
 use Rattle.aprs_convert.specs.Plan.{capture_text, check_lines, check_plan, convert_plan, count_heard, count_passed, frame_line, line_text, totals}
 use Rattle.aprs_convert.specs.declared.form.Form.{Form}
 use Rattle.aprs_convert.specs.declared.form.Form.TheVariants.{Text, Kind, Kiss, Log, Capture}
@@ -51,9 +51,12 @@ log_converts f not t c None e =
     (S, answers-log_text t c S (e, refl), heard_text f t c S refl)
 log_converts f not t c (Some fault) e =
     let log = answers-log_fault t c fault e in
-    let its = faulty_said t c fault log in
-    (log.before.0, (log, refl), heard_text f t c log.before.0
-    (ap receptions_of its.whole ∙ its.said.heard))
+    let its = faulty_said t c fault log in (
+      log.before.0,
+      (log, refl),
+      heard_text f t c log.before.0
+          (ap receptions_of its.whole ∙ its.said.heard),
+    )
 
 -- ---- a capture
 
@@ -129,16 +132,23 @@ log_checks : (t : List ℕ) (c : Ending) (fault : Option LogFault) → (log_answ
 log_checks t c None e =
     let S = receptions_of (log_answers t c).given in
     let log = answers-log_text t c S (e, refl) in
-    let its = faultless_said t c S log in
-    (S, log, passed_in 1 its.said.given, its.said.passes,
-    ap (λ given. check_lines 1 given ++ totals None given) its.whole
-    ∙ totals_text its.said.given S its.said.heard)
+    let its = faultless_said t c S log in (
+      S,
+      log,
+      passed_in 1 its.said.given,
+      its.said.passes,
+      ap (λ given. check_lines 1 given ++ totals None given) its.whole
+          ∙ totals_text its.said.given S its.said.heard,
+    )
 log_checks t c (Some fault) e =
     let log = answers-log_fault t c fault e in
-    let its = faulty_said t c fault log in
-    (log, passed_in 1 its.said.given, its.said.passes,
-    append-nil (check_lines 1 (log_answers t c).given)
-    ∙ ap (check_lines 1) its.whole ∙ reports_text 1 its.said.given)
+    let its = faulty_said t c fault log in (
+      log,
+      passed_in 1 its.said.given,
+      its.said.passes,
+      append-nil (check_lines 1 (log_answers t c).given)
+          ∙ ap (check_lines 1) its.whole ∙ reports_text 1 its.said.given,
+    )
 
 pub checks : (t : List ℕ) (c : Ending) → Checks (check_plan t c).fault t c (check_plan t c).text
 checks t c = log_checks t c (log_answers t c).fault refl

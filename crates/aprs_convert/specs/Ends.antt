@@ -1,12 +1,10 @@
 -- How a conversion or a check ends.
-use Rattle.std.specs.Prelude.{◌≡◌, ◌⊎◌, ℕ, List, Option, None, Some, Result, Ok, Err}
+use Rattle.std.specs.Prelude.{◌⊎◌, ℕ, List, Option, None, Some, Result, Ok, Err}
 use Rattle.std.specs.Io.KnownBytes.{Appends}
 use Rattle.aprs_io.specs.declared.device.Counted.{Counted}
 use Rattle.aprs_kiss.specs.Device.{AppendsPrefix, Calls, Last, Going, Fault, End}
 use Rattle.aprs_log.specs.Awaits.{last_of_cause}
 use Rattle.aprs_log.specs.declared.Ending.{Ending}
-use Rattle.aprs_log.specs.declared.Ending.TheVariants as how
-use Rattle.aprs_log.specs.declared.fault.LogCause.TheVariants as why
 use Rattle.aprs_log.specs.declared.fault.LogFault.{LogFault}
 use Rattle.aprs_convert.specs.Got.{OfGot}
 use Rattle.aprs_convert.specs.declared.fault.ConvertFault.{ConvertFault}
@@ -45,9 +43,3 @@ pub record Runs {R W : Type 0} (Told : Option LogFault → List ℕ → Ending �
       (contents now_written.device))
   pub reads : AsksForRun answer read_from now_read
   pub writes : Calls (last_of_output answer) written_to now_written
-
--- A run over a stream that ends so has this answer.
-abbrev pub EndsStream : Result (Unit {0}) ConvertFault → Ending → Type 0
-EndsStream answer how.End = answer ≡ Ok tt
-EndsStream answer how.Read = answer ≡ Err (Log (record { line = 0; cause = why.Read }))
-EndsStream answer how.TooLong = answer ≡ Err (Log (record { line = 0; cause = why.TooLong }))

@@ -7,7 +7,7 @@ use Rattle.aprs_ax25.specs.declared.hop.Hop.{Hop}
 use Rattle.aprs_ax25.specs.Frame.{Parts}
 use Rattle.aprs_report.specs.Reading.{kind_of}
 use Rattle.aprs_report.specs.Reader.{reading_of}
-use Rattle.aprs_convert.specs.Shown.{shown}
+use Rattle.aprs_convert.specs.Shown.{shown_text}
 
 -- a comma, the digipeater, and a star where it has repeated the frame
 abbrev pub hop_text : Hop → List ℕ
@@ -16,7 +16,7 @@ hop_text hop = 44 ∷ call_text hop.call ++ (if hop.repeated then 42 ∷ [] else
 -- SOURCE>DESTINATION,DIGIPEATER*,..:INFORMATION
 abbrev pub monitor_text : Parts → List ℕ
 monitor_text p = call_text p.source.call ++ 62 ∷ call_text p.destination.call
-    ++ flat_map hop_text (map hop_of p.digipeaters) ++ 58 ∷ shown p.info
+    ++ flat_map hop_text (map hop_of p.digipeaters) ++ 58 ∷ shown_text p.info
 
 -- the same, after the kind of report that the information is
 abbrev pub kind_text : Parts → List ℕ

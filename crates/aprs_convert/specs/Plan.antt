@@ -12,6 +12,8 @@ use Rattle.aprs_io.specs.declared.device.Counted.{Counted}
 use Rattle.aprs_log.specs.Line.{written_line}
 use Rattle.aprs_log.specs.LogAnswers.{Answers, log_answers}
 use Rattle.aprs_log.specs.declared.Ending.{Ending}
+use Rattle.aprs_log.specs.declared.Ending.TheVariants as how
+use Rattle.aprs_log.specs.declared.fault.LogCause.TheVariants as why
 use Rattle.aprs_log.specs.declared.fault.LogFault.{LogFault}
 use Rattle.aprs_log.specs.declared.line.Line.{Line}
 use Rattle.aprs_log.specs.declared.line.Line.TheVariants as line
@@ -61,6 +63,12 @@ stream_plan receiver moment text ending = record {
   text = flat_map (capture_text receiver moment) (judgements_of text);
   fault = stream_fault ending;
 }
+
+-- A run over a stream that ends so has this answer.
+abbrev pub EndsStream : Result (Unit {0}) ConvertFault → Ending → Type 0
+EndsStream answer how.End = answer ≡ Ok tt
+EndsStream answer how.Read = answer ≡ Err (Log (record { line = 0; cause = why.Read }))
+EndsStream answer how.TooLong = answer ≡ Err (Log (record { line = 0; cause = why.TooLong }))
 
 -- what a conversion does: a capture reads a stream, and any other form a log
 abbrev pub convert_plan : Form → List ℕ → Ending → Plan

@@ -12,5 +12,5 @@ abbrev pub shown_byte : ℕ → List ℕ
 shown_byte b = if is_shown b then b ∷ [] else 92 ∷ 120 ∷ encode_lower (b ∷ [])
 
 -- the bytes as they are shown
-abbrev pub shown : List ℕ → List ℕ
-shown bytes = flat_map shown_byte bytes
+abbrev pub shown_text : List ℕ → List ℕ
+shown_text bytes = flat_map shown_byte bytes

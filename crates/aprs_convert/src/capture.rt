@@ -12,8 +12,7 @@ ghost use Rattle.aprs_kiss.specs.Answer.{judgements_in};
 ghost use Rattle.aprs_kiss.specs.Stream.{judgements_of, rest_of};
 ghost use Rattle.aprs_log.specs.Awaits.{EndsHere};
 ghost use Rattle.aprs_log.specs.declared.Ending.TheVariants.{Read as ReadFailed};
-ghost use Rattle.aprs_convert.specs.Ends.{EndsStream};
-ghost use Rattle.aprs_convert.specs.Plan.{RunsAsPlanned, capture_text, frame_line, stream_plan};
+ghost use Rattle.aprs_convert.specs.Plan.{EndsStream, RunsAsPlanned, capture_text, frame_line, stream_plan};
 
 use crate::fault::ConvertFault;
 use aprs_ax25::Frame;

@@ -4,7 +4,7 @@ ghost use Rattle.std.specs.List.{list_all};
 ghost use Rattle.std.specs.Fmt.{decimal};
 ghost use Rattle.arrayvec.specs.ArrayVec.{array_vec_len};
 ghost use Rattle.hex.specs.Hex.{encode_lower};
-ghost use Rattle.aprs_convert.specs.Shown.{is_shown, shown, shown_byte};
+ghost use Rattle.aprs_convert.specs.Shown.{is_shown, shown_byte, shown_text};
 
 use aprs_io::push_all;
 use arrayvec::ArrayVec;
@@ -76,7 +76,7 @@ fn push_hex<const N: usize>(out: &mut ArrayVec<u8, N>, b: u8)
 /// Puts at the end what the bytes are shown as.
 pub fn push_shown(out: &mut Text, bytes: &[u8])
     requires { array_vec_len out.old + 4 * length bytes.now ≤ MAX_TEXT }
-    ensures shown { out.new.items ≡ out.old.items ++ shown bytes.now }
+    ensures shown { out.new.items ≡ out.old.items ++ shown_text bytes.now }
     ensures most { array_vec_len out.new ≤ array_vec_len out.old + 4 * length bytes.now }
 {
     if are_shown(bytes) {
@@ -89,7 +89,7 @@ pub fn push_shown(out: &mut Text, bytes: &[u8])
 /// The same, byte by byte.
 fn push_escaped(out: &mut Text, bytes: &[u8])
     requires { array_vec_len out.old + 4 * length bytes.now ≤ MAX_TEXT }
-    ensures shown { out.new.items ≡ out.old.items ++ shown bytes.now }
+    ensures shown { out.new.items ≡ out.old.items ++ shown_text bytes.now }
     ensures most { array_vec_len out.new ≤ array_vec_len out.old + 4 * length bytes.now }
 {
     for b in bytes {

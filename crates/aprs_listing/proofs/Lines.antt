@@ -8,7 +8,7 @@ use Rattle.aprs_log.specs.Moment.{moment_text}
 use Rattle.aprs_log.specs.Reception.{Heard}
 use Rattle.aprs_listing.specs.Lines.{field_text, spaced_field}
 use Rattle.aprs_listing.specs.Listing.{after_space, heard_fields, live_text, name_fields, line_with_text, word}
-use Rattle.aprs_convert.specs.Shown.{shown}
+use Rattle.aprs_convert.specs.Shown.{shown_text}
 use Rattle.aprs_listing.specs.declared.field.Field.{Field}
 
 spaced_fields : (xs : List Field) → flat_map spaced_field xs
@@ -20,10 +20,10 @@ spaced_fields (x ∷ xs) = ap (λ l. spaced_field x ++ l) (spaced_fields xs)
 pub placed : (kind comment : List ℕ) (fields known place : List (List ℕ)) (others : List Field)
     → fields ≡ known → map field_text others ≡ place
     → kind ++ (flat_map after_space fields ++
-    (flat_map spaced_field others ++ (58 ∷ shown comment ++ 10 ∷ [])))
+    (flat_map spaced_field others ++ (58 ∷ shown_text comment ++ 10 ∷ [])))
     ≡ line_with_text kind (known ++ place) comment
 placed kind comment fields known place others e o =
-    let rest = 58 ∷ shown comment ++ 10 ∷ [] in
+    let rest = 58 ∷ shown_text comment ++ 10 ∷ [] in
     ap₂ (λ l m. kind ++ (flat_map after_space l ++ (m ++ rest))) e (spaced_fields others
     ∙ ap (flat_map after_space) o)
     ∙ ap (λ l. kind ++ l) (sym (append_assoc (flat_map after_space known)

@@ -22,7 +22,7 @@ use Rattle.aprs_book.specs.declared.lists.message.MessageState.{MessageState}
 use Rattle.aprs_book.specs.declared.lists.message.MessageState.TheVariants.{Unnumbered, Unanswered, Acknowledged, Rejected}
 use Rattle.aprs_book.specs.declared.lists.named.Named.{Named}
 use Rattle.aprs_book.specs.declared.lists.station.Station.{Station}
-use Rattle.aprs_convert.specs.Shown.{shown, shown_byte}
+use Rattle.aprs_convert.specs.Shown.{shown_byte, shown_text}
 
 -- ---- fields
 
@@ -50,7 +50,7 @@ ambiguity_text (Base91 y x cst) = codes "c"
 
 -- its table and its code
 abbrev pub symbol_text : Symbol → List ℕ
-symbol_text s = shown (s.table ∷ s.code ∷ [])
+symbol_text s = shown_text (s.table ∷ s.code ∷ [])
 
 -- whether an object or an item is live or killed
 abbrev pub live_text : Bool → List ℕ
@@ -96,7 +96,7 @@ line_with kind fields = kind ++ (flat_map after_space fields ++ 10 ∷ [])
 -- the same, and at the end a text after a colon
 abbrev pub line_with_text : List ℕ → List (List ℕ) → List ℕ → List ℕ
 line_with_text kind fields text =
-    kind ++ (flat_map after_space fields ++ (58 ∷ shown text ++ 10 ∷ []))
+    kind ++ (flat_map after_space fields ++ (58 ∷ shown_text text ++ 10 ∷ []))
 
 -- the line of a reception, by what it reports: a position, a status, an object or an item
 abbrev pub report_line : Heard → Value → List ℕ

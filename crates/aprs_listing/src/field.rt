@@ -4,7 +4,7 @@ ghost use Rattle.aprs_io.specs.Outlet.{Puts};
 ghost use Rattle.aprs_listing.specs.Lines.{field_text};
 ghost use Rattle.aprs_listing.specs.Listing.{ambiguity_text, degrees_text, stamp_text};
 ghost use Rattle.aprs_listing.specs.Listing.{word, word_byte};
-ghost use Rattle.aprs_convert.specs.Shown.{shown};
+ghost use Rattle.aprs_convert.specs.Shown.{shown_text};
 
 use aprs_ax25::Callsign;
 use aprs_convert::{are_shown, shown_byte};
@@ -98,7 +98,7 @@ fn ambiguity_text(place: &Place) -> ArrayVec<u8, 40>
 
 /// Puts what the bytes are shown as.
 pub fn put_shown<W: Write>(out: &mut Outlet<'_, W>, bytes: &[u8]) -> Result<(), WriteFault>
-    ensures { Puts W.contents result out.old out.new (shown bytes.now) }
+    ensures { Puts W.contents result out.old out.new (shown_text bytes.now) }
 {
     if are_shown(bytes) {
         return out.put(bytes);

@@ -3,7 +3,7 @@ ghost use Rattle.std.specs.Prelude.{[], ◌∷◌, ◌++◌};
 ghost use Rattle.std.specs.List.{flat_map};
 ghost use Rattle.aprs_io.specs.Outlet.{Puts};
 ghost use Rattle.aprs_listing.specs.Lines.{spaced_field};
-ghost use Rattle.aprs_convert.specs.Shown.{shown};
+ghost use Rattle.aprs_convert.specs.Shown.{shown_text};
 
 use crate::field::{Field, put_field, put_shown};
 use aprs_io::{Outlet, WriteFault};
@@ -33,7 +33,7 @@ pub fn put_text_line<W: Write>(
 ) -> Result<(), WriteFault>
     ensures { Puts W.contents result out.old out.new
         (kind.now ++ (flat_map spaced_field fields.now ++ (flat_map spaced_field others.now
-        ++ (58 ∷ shown text.now ++ 10 ∷ [])))) }
+        ++ (58 ∷ shown_text text.now ++ 10 ∷ [])))) }
 {
     out.put(kind)?;
     put_fields(out, fields)?;
@@ -61,7 +61,7 @@ fn put_spaced<W: Write>(out: &mut Outlet<'_, W>, field: &Field<'_>) -> Result<()
 
 /// Puts a colon, the text as it is shown, and an LF.
 fn put_text<W: Write>(out: &mut Outlet<'_, W>, text: &[u8]) -> Result<(), WriteFault>
-    ensures { Puts W.contents result out.old out.new (58 ∷ shown text.now ++ 10 ∷ []) }
+    ensures { Puts W.contents result out.old out.new (58 ∷ shown_text text.now ++ 10 ∷ []) }
 {
     out.put(b":")?;
     put_shown(out, text)?;

@@ -1,5 +1,5 @@
 -- A text begins as that of a book, or as a log does.
-use Rattle.std.proofs.Common.{◌≡◌, ◌∙◌, ℕ, get_or, true, false, Bool, List, [], ◌∷◌, ◌++◌, drop, codes, inl, inr, refl, sym, ap, arith}
+use Rattle.std.proofs.Common.{◌≡◌, ◌∙◌, ℕ, get_or, true, false, List, [], ◌∷◌, ◌++◌, drop, codes, inl, inr, refl, sym, ap, arith}
 use Rattle.std.proofs.lemmas.Bool.Decides.{Decides-eqb}
 use Rattle.std.proofs.lemmas.Slice.Eq.{starts_is}
 use Rattle.aprs_io.specs.declared.input.Ending.{Ending}

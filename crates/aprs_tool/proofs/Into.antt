@@ -1,5 +1,5 @@
 -- Lemmas on an input that is read into a book.
-use Rattle.std.proofs.Common.{◌≡◌, ℕ, true, false, Bool, List, [], ◌∷◌, ◌++◌, length, Option, None, Some, Ok, Err, IfSome, inl, inr, refl, sym, subst, arith}
+use Rattle.std.proofs.Common.{◌≡◌, ℕ, true, false, Bool, List, [], ◌∷◌, ◌++◌, length, Ok, Err, inl, inr, refl, sym, subst, arith}
 use Rattle.aprs_laws.specs.Book.{BookOf}
 use Rattle.aprs_laws.specs.BookValue.{BookValue}
 use Rattle.aprs_laws.specs.Gap.{millis_of}
@@ -15,9 +15,8 @@ use Rattle.aprs_tool.specs.InputRows.{GivesRows, RefusesGaps}
 use Rattle.aprs_log.specs.Reception.{Heard}
 use Rattle.aprs_tool.specs.Inputs.{GivesSet, IsBookFileOf, is_book_file}
 use Rattle.aprs_tool.proofs.Beginnings.{log_is_no_book}
-use Rattle.aprs_tool.specs.Refused.{fault_of_merge, IsFaulty, IsNotTaken}
-use Rattle.aprs_tool.specs.declared.fault.InputFault.{InputFault}
-use Rattle.aprs_tool.specs.declared.fault.InputFault.TheVariants.{Memory, OtherGap}
+use Rattle.aprs_tool.specs.Refused.{fault_of_merge, IsNotTaken}
+use Rattle.aprs_tool.specs.declared.fault.InputFault.TheVariants.{OtherGap}
 
 -- the book of no receptions becomes the other
 pub merges_empty : (gap : ℕ) (old rows : List Row) → length old ≡ 0 → MergesInto gap old rows rows
@@ -60,13 +59,6 @@ module _ (gap : ℕ) (t : List ℕ) (c : Ending) (b : BookValue) (h : ReadsInput
       (b.gap, h.1.0, other, file_of gap b.gap t c h.1.0 other h.0 h.1.1)
   not_merged_in fault.Memory old new same =
       inr (h.1.0, subst (λ g. GivesSet g t c h.1.0) (sym same) h.1.1)
-
--- an input that is refused itself isn't taken
-pub not_taken : (gap : ℕ) (t : List ℕ) (c : Ending) (fault : InputFault) → IsFaulty fault t c
-    → IsNotTaken gap fault t c
-not_taken gap t c OtherGap h = absurd h
-not_taken gap t c Memory h = inl h
-not_taken gap t c fault h = h
 
 -- rows of another gap are not taken
 pub other_rows : (gap own : ℕ) (old new : List Row) (t : List ℕ) (c : Ending) → (own ≡ gap → ⊥)

@@ -254,8 +254,7 @@ module _ (gap limit : ℕ) (inputs : List (List ℕ)) (afters next : List (Optio
           let all : length inputs ≡ length done + length (input ∷ rest) =
           ap length (whole (input ∷ rest) e) ∙ length-append done (input ∷ rest) in
           let few = length-drop (index + 1) next in
-          let left = gets_unread limit rest tail (omega (arith, all, few, size, so_many)) in
-          (
+          let left = gets_unread limit rest tail (omega (arith, all, few, size, so_many)) in (
             h.gots ++ g ∷ left.gots,
             whole (input ∷ rest) e ∙ ap (λ i. done ++ i ∷ rest) got.2.whole
                 ∙ ap (λ l. done ++ (g.text ++ g.rest) ∷ l) left.inputs_are
@@ -283,8 +282,7 @@ HasRead-all gap limit inputs afters index b same h all many =
     let done = map (λ (g : GotOf limit). g.text ++ g.rest) h.gots in
     let len : length inputs ≡ length done + length h.rest = ap length h.cut
     ∙ length-append done h.rest in
-    let so_many = length-map h.gots (λ (g : GotOf limit). g.text ++ g.rest) in
-    (
+    let so_many = length-map h.gots (λ (g : GotOf limit). g.text ++ g.rest) in (
       h.gots,
       h.cut ∙ ap (λ l. done ++ l) (none h.rest (omega (arith, len, all, so_many, h.place)))
           ∙ append-nil done,

@@ -1,5 +1,5 @@
 -- Lemmas on an input whose book is widened.
-use Rattle.std.proofs.Common.{◌≡◌, ◌<◌, ◌≤◌, ◌==◌, not, true, false, ℕ, List, [], refl, arith}
+use Rattle.std.proofs.Common.{◌≡◌, ◌<◌, ◌≤◌, ◌==◌, not, true, false, ℕ, List, [], refl, subst, arith}
 use Rattle.std.proofs.lemmas.Bool.Decides.{nat_tests}
 use Rattle.aprs_log.specs.Reception.{Heard}
 use Rattle.aprs_log.specs.declared.Ending.{Ending}
@@ -31,27 +31,37 @@ pub not_widened : (gap : ℕ) (t : List ℕ) (c : Ending) (fault : InputFault) �
 not_widened gap t c Narrower h = absurd h
 not_widened gap t c fault h = h
 
-module _ (gap own : ℕ) (new : List Row) (t : List ℕ) (c : Ending)
-    (h : GivesRows gap own [] new t c) where
+-- rows that were read into an empty store, by the seconds of both gaps
+module _ (gap own seconds its : ℕ) (old new : List Row) (t : List ℕ) (c : Ending)
+    (asked : seconds ≡ gap) (found : its ≡ own) (none : old ≡ [])
+    (h : GivesRows gap own old new t c) where
+  given : GivesRows gap own [] new t c
+  given = subst (λ rows. GivesRows gap own rows new t c) none h
+
   -- an input of a greater gap
-  pub not_wide : gap < own → IsNotWidened gap t c 0 Narrower
+  pub not_wide : seconds < its → IsNotWidened gap t c 0 Narrower
   not_wide less =
-      let differs : own ≡ gap → ⊥ = λ same. omega (arith, less, same) in
-      (own, h.set, less, file_of gap own t c h.set differs h.gap_is h.gives)
+      let differs : own ≡ gap → ⊥ = λ same. omega (arith, less, same, asked, found) in (
+        own,
+        given.set,
+        omega (arith, less, asked, found),
+        file_of gap own t c given.set differs given.gap_is given.gives,
+      )
 
   -- of another gap
-  pub within : own ≤ gap → (S : List Heard) × GivesSetWithin gap t c S
-  within l = (h.set, (own, l, h.gives))
+  pub within : its ≤ seconds → (S : List Heard) × GivesSetWithin gap t c S
+  within l = (given.set, (own, omega (arith, l, asked, found), given.gives))
 
   -- the text of the rows under this gap
-  pub wide_text : IsGap gap → IsGap own → own ≤ gap
+  pub wide_text : IsGap seconds → IsGap its → its ≤ seconds
       → IsToldOf (GivesSetWithin gap t c) (IsTextOfBook gap) (written_text (book_of_rows gap new))
   wide_text r o l = (
     within l,
     λ S gives. record {
       rows = (book_of_rows gap new).rows;
-      book = holds_wide gap own new t c r o l h S
-          (set_gap own gives.0 t c h.set S h.gives gives.2);
+      book = holds_wide gap own new t c (subst IsGap asked r) (subst IsGap found o)
+          (omega (arith, l, asked, found)) given S
+          (set_gap own gives.0 t c given.set S given.gives gives.2);
       text_is = refl;
     },
   )

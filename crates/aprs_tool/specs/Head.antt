@@ -14,11 +14,11 @@ IsHead head = (length head ≡ HEAD_LEN)
     ⊎ ((line : List ℕ) × (length line < HEAD_LEN) × (head ≡ line ++ 10 ∷ []))
 
 -- what a reader answered last, where its first bytes were read so
-abbrev pub last_headed : {A : Type 0} → Result A ShortInput → Last
-last_headed (Ok head) = Going
-last_headed (Err short) = last_of_ending short.ending
+abbrev pub last_of_head : {A : Type 0} → Result A ShortInput → Last
+last_of_head (Ok head) = Going
+last_of_head (Err short) = last_of_ending short.ending
 
 -- the same by the answer for an input that is too short for a book file
-abbrev pub last_short : Result (Unit {0}) LogFault → Last
-last_short (Ok u) = End
-last_short (Err fault) = last_of_cause fault.cause
+abbrev pub last_of_short : Result (Unit {0}) LogFault → Last
+last_of_short (Ok u) = End
+last_of_short (Err fault) = last_of_cause fault.cause

@@ -3,7 +3,7 @@ ghost use Rattle.std.specs.Prelude.{◌≤◌};
 ghost use Rattle.aprs_io.specs.Input.{most_input};
 
 use crate::fault::InputFault;
-use crate::input::{merged, read_input};
+use crate::input::{merge_books, read_input};
 use aprs_book::{Book, Gap};
 use aprs_io::Counted;
 use std::alloc::{Allocator, Global};
@@ -81,7 +81,7 @@ impl<A: Allocator + Copy> Desk<A> {
         ensures calls { AsksInput result r.old r.new }
     {
         let input = read_input(self.alloc, self.limit, self.book.gap(), r)?;
-        self.book = merged(&self.book, input)?;
+        self.book = merge_books(&self.book, input)?;
         Ok(())
     }
 

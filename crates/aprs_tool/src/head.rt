@@ -5,7 +5,7 @@ ghost use Rattle.std.specs.Io.KnownBytes.{Consumes};
 ghost use Rattle.aprs_io.specs.Device.{Calls, device_of};
 ghost use Rattle.aprs_io.specs.Input.{EndsHere, Gets, last_got};
 ghost use Rattle.aprs_log.specs.LogAnswers.{is_lf};
-ghost use Rattle.aprs_tool.specs.Head.{IsHead, last_headed};
+ghost use Rattle.aprs_tool.specs.Head.{IsHead, last_of_head};
 
 use aprs_io::{Counted, Ending, read_some};
 use arrayvec::ArrayVec;
@@ -39,7 +39,7 @@ pub fn read_head<R: Read>(
     ensures end { IfErr result (λ short. IfSome (R.remaining (device_of r.old))
         (λ input. Gets limit input (R.remaining (device_of r.new)) short.bytes.items
         short.ending)) }
-    ensures calls { Calls (last_headed result) r.old r.new }
+    ensures calls { Calls (last_of_head result) r.old r.new }
 {
     let mut bytes = ArrayVec::new();
     while bytes.len() < HEAD_LEN {

@@ -14,7 +14,7 @@ ghost use Rattle.aprs_log.specs.Reception.{Heard};
 ghost use Rattle.aprs_book.specs.Taking.{MergesInto};
 ghost use Rattle.aprs_tool.specs.declared.head.TheConstants.{HEAD_LEN};
 ghost use Rattle.aprs_tool.specs.Devices.{AsksInput};
-ghost use Rattle.aprs_tool.specs.Head.{IsHead, last_short};
+ghost use Rattle.aprs_tool.specs.Head.{IsHead, last_of_short};
 ghost use Rattle.aprs_convert.specs.Got.{OfGot};
 ghost use Rattle.aprs_tool.specs.InputBook.{ReadsInput, TakesInput};
 ghost use Rattle.aprs_tool.specs.InputRows.{HoldsOfGot, ReadsLog, ReadsRows, RefusesGaps};
@@ -206,7 +206,7 @@ fn push_heard<A: Allocator + Copy>(store: &mut RowStore<A>, line: &Line) -> Resu
 }
 
 /// The book of both sets together: the second itself where the first has no rows.
-pub(crate) fn merged<A: Allocator + Copy>(
+pub(crate) fn merge_books<A: Allocator + Copy>(
     book: &Book<A>,
     input: Book<A>,
 ) -> Result<Book<A>, MergeFault>
@@ -233,7 +233,7 @@ fn read_short(short: &ShortInput) -> Result<(), LogFault>
     requires one { list_any is_lf short.now.bytes.items ≡ false }
     ensures answers { log_answers short.now.bytes.items short.now.ending
         ≡ end_with (result_err result) }
-    ensures last { last_short result ≡ last_of_ending short.now.ending }
+    ensures last { last_of_short result ≡ last_of_ending short.now.ending }
 {
     match short.ending {
         Ending::Read => Err(first_line(LogCause::Read)),

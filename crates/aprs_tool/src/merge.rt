@@ -44,13 +44,13 @@ pub fn merge_run<R: Read, W: Write, A: Allocator + Copy>(
     match gathered.write(w) {
         Ok(()) => Ok(()),
         Err(Unwritten::Write) => Err(RunFault::Write),
-        Err(Unwritten::Memory) => Err(refused_last(inputs.len())),
+        Err(Unwritten::Memory) => Err(fault_of_last(inputs.len())),
     }
 }
 
 /// An allocation failed for the book of so many inputs, all of which were read: a fault of the
 /// last.
-pub(crate) fn refused_last(inputs: usize) -> RunFault
+pub(crate) fn fault_of_last(inputs: usize) -> RunFault
     ensures { result ≡ RunFault.Input (inputs - 1) InputFault.Memory }
 {
     RunFault::Input {

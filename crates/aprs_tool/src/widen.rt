@@ -47,7 +47,7 @@ pub fn widen_run<R: Read, W: Write, A: Allocator + Copy>(
         Err(fault) => return Err(RunFault::Input { index: 0, fault }),
     };
     if own.seconds() > gap.seconds() {
-        return Err(narrower());
+        return Err(narrower_fault());
     }
     match Gathered::of(alloc, gap, store).write(w) {
         Ok(()) => Ok(()),
@@ -57,7 +57,7 @@ pub fn widen_run<R: Read, W: Write, A: Allocator + Copy>(
 }
 
 /// The only input has a greater gap.
-fn narrower() -> RunFault
+fn narrower_fault() -> RunFault
     ensures { result ≡ RunFault.Input 0 InputFault.Narrower }
 {
     RunFault::Input {

@@ -2,12 +2,12 @@ use Rattle.std.proofs.Common.{◌≡◌, List, [], Option, Some, None, option_ma
 use Rattle.std.proofs.lemmas.Result.{IfOk-weaker}
 use Rattle.clap.specs.Words.{Row, Text, all_of, found_of, rows_of, subcommand_rows_of}
 use Rattle.clap.proofs.WalkLemmas.{raw_values-rows}
-use Rattle.aprs_command.specs.Arguments.{inputs_named}
+use Rattle.aprs_command.specs.Arguments.{inputs_in}
 use Rattle.aprs_command.proofs.arguments.read_inputs.Goals as goal
 
 named_in : (found : Option (Text × List Row)) (rows : List Row)
     → Some rows ≡ option_map (λ p. p.1) found
-    → inputs_named found ≡ unwrap_or (all_of (codes "input") rows) []
+    → inputs_in found ≡ unwrap_or (all_of (codes "input") rows) []
 named_in None rows e = absurd cc
 named_in (Some p) rows e = let same : p.1 ≡ rows = cc in rw same refl
 
@@ -17,8 +17,8 @@ returns-in-Some-get_strs c =
     let read = c.in-Some-get_strs.ensures ∙ raw_values-rows found (codes "input") in
     let named = named_in (subcommand_rows_of c.args.matches.now)
     (rows_of found) c.in-Some.ensures.rows in
-    IfOk-weaker c.copied.result _ _ (λ v h. h ∙ ap (λ (o : Option (List Text)). unwrap_or o []) read
-    ∙ sym named) c.copied.ensures
+    IfOk-weaker c.copy_paths.result _ _ (λ v h. h ∙ ap (λ (o : Option (List Text)). unwrap_or o []) read
+    ∙ sym named) c.copy_paths.ensures
 
 pub returns-in-None : goal.returns-in-None
 returns-in-None c =

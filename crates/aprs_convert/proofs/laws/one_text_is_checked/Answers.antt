@@ -5,8 +5,11 @@ use Rattle.aprs_convert.proofs.laws.one_text_is_checked.Goals as goal
 
 pub returns-clause-some : goal.returns-clause-some
 returns-clause-some c =
-    λ text ending. ((check_plan text ending).fault, (check_plan text ending).text,
-    checks text ending)
+    λ text ending. (
+      (check_plan text ending).fault,
+      (check_plan text ending).text,
+      checks text ending,
+    )
 
 pub returns-clause-one : goal.returns-clause-one
 returns-clause-one c = λ text ending fault other written more a b.

@@ -5,8 +5,11 @@ use Rattle.aprs_convert.proofs.laws.one_text_is_converted.Goals as goal
 
 pub returns-clause-some : goal.returns-clause-some
 returns-clause-some c =
-    λ f text ending. ((convert_plan f text ending).fault, (convert_plan f text ending).text,
-    converts f text ending)
+    λ f text ending. (
+      (convert_plan f text ending).fault,
+      (convert_plan f text ending).text,
+      converts f text ending,
+    )
 
 pub returns-clause-one : goal.returns-clause-one
 returns-clause-one c = λ f text ending fault other written more a b.

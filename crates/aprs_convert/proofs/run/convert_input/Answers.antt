@@ -1,4 +1,3 @@
-use Rattle.std.proofs.Common.{◌≡◌, subst, sym}
 use Rattle.aprs_convert.specs.Conversion.{Converts}
 use Rattle.aprs_convert.specs.Plan.{RunsAsPlanned, convert_plan}
 use Rattle.aprs_convert.proofs.Forms.{by_lines}

@@ -6,7 +6,7 @@ use Rattle.aprs_tool.specs.InputBook.{TakesInput}
 use Rattle.aprs_tool.specs.Refused.{IsNotTaken}
 use Rattle.aprs_tool.specs.declared.fault.InputFault.TheVariants.{OtherGap}
 use Rattle.aprs_convert.proofs.Gots.{got_so}
-use Rattle.aprs_tool.proofs.Into.{not_taken, other_rows}
+use Rattle.aprs_tool.proofs.Into.{other_rows}
 use Rattle.aprs_tool.proofs.RowsTold.{takes_rows}
 use Rattle.aprs_tool.proofs.Widens.{differing_gap, same_gap}
 use Rattle.aprs_tool.proofs.input.read_into.Goals as goal

@@ -43,7 +43,7 @@ returns-in-Err-Write-clause-calls g c =
 
 pub returns-in-Err-Memory-clause-writes : goal.returns-in-Err-Memory-clause-writes
 returns-in-Err-Memory-clause-writes g c =
-    rw c.refused_last.ensures (λ inputs e.
+    rw c.fault_of_last.ensures (λ inputs e.
     unsaid c.args.limit inputs _ _ (c.in-Ok.ensures.reads inputs e))
 
 pub returns-in-Err-Memory-clause-refuses : goal.returns-in-Err-Memory-clause-refuses
@@ -51,7 +51,7 @@ returns-in-Err-Memory-clause-refuses g c =
     let len = length_all_zip (Calls End) c.args.inputs.now c.read_all.new.inputs
     c.in-Ok.ensures.calls in
     let none = text_none _ _ _ _ _ c.in-Err-Memory.field-0-is c.in-Err-Memory.ensures in
-    rw c.refused_last.ensures (λ inputs e.
+    rw c.fault_of_last.ensures (λ inputs e.
     each_so c.args.limit inputs _ _ _ (λ gots first. (first, none.0))
     (refused_at_last _ _ _ inputs _ _ (c.in-Ok.ensures.reads inputs e)
     (same_len (λ r. g.R.Read.remaining (device_of r)) c.args.inputs.now inputs e
@@ -64,10 +64,10 @@ returns-in-Err-Memory-clause-asks g c =
     let old = c.args.inputs.now in
     let new = c.read_all.new.inputs in
     let len = length_all_zip (Calls End) old new c.in-Ok.ensures.calls in
-    rw c.refused_last.ensures (AsksEach-last (length new - 1) old new (omega (arith, some, len))
+    rw c.fault_of_last.ensures (AsksEach-last (length new - 1) old new (omega (arith, some, len))
     c.in-Ok.ensures.calls)
 
 pub returns-in-Err-Memory-clause-calls : goal.returns-in-Err-Memory-clause-calls
 returns-in-Err-Memory-clause-calls g c =
-    rw c.refused_last.ensures
+    rw c.fault_of_last.ensures
     (text_none _ _ _ _ _ c.in-Err-Memory.field-0-is c.in-Err-Memory.ensures).0

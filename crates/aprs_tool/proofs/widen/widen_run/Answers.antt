@@ -1,8 +1,6 @@
-use Rattle.std.proofs.Common.{Ok, Err, inl, refl, subst, arith}
-use Rattle.aprs_laws.specs.Gap.{IsGap}
-use Rattle.aprs_tool.specs.Gathered.{WritesText}
-use Rattle.aprs_tool.specs.InputRows.{GivesRows}
+use Rattle.std.proofs.Common.{Ok, Err, refl, subst}
 use Rattle.aprs_convert.proofs.Gots.{got_so}
+use Rattle.aprs_tool.specs.Gathered.{WritesText}
 use Rattle.aprs_tool.proofs.LastRefused.{text_cut, text_none, text_sent}
 use Rattle.aprs_tool.proofs.Outcomes.{prefix_went, text_went}
 use Rattle.aprs_tool.proofs.Widens.{not_wide, not_widened, wide_text, within}
@@ -12,41 +10,33 @@ use Rattle.aprs_tool.proofs.widen.widen_run.Goals as goal
 
 pub returns-in-Err-clause-refuses : goal.returns-in-Err-clause-refuses
 returns-in-Err-clause-refuses g c =
-    got_so _ _ c.args.limit (λ input. input) _ _ (λ t e h. (not_widened c.args.gap t e c.in-Err.fault h, refl))
-    c.in-Err.ensures.reads
+    got_so _ _ c.args.limit (λ input. input) _ _
+    (λ t e h. (not_widened c.args.gap t e c.in-Err.fault h, refl)) c.in-Err.ensures.reads
 
 pub returns-then-seconds-clause-writes : goal.returns-then-seconds-clause-writes
-returns-then-seconds-clause-writes g c = rw c.narrower.ensures
+returns-then-seconds-clause-writes g c = rw c.narrower_fault.ensures
     (got_so _ _ c.args.limit (λ input. input) _ _ (λ t e h. tt) c.in-Ok.ensures.reads)
 
 pub returns-then-seconds-clause-refuses : goal.returns-then-seconds-clause-refuses
 returns-then-seconds-clause-refuses g c =
-    let gap = c.args.gap in
-    let own = c.in-Ok.own in
-    let new = c.read_input_rows.new.store in
-    rw c.narrower.ensures
+    rw c.narrower_fault.ensures
     (got_so _ _ c.args.limit (λ input. input) _ _
     (λ t e h. (
-      not_wide gap own new t e
-          (subst (λ old. GivesRows gap own old new t e) c.new-store.ensures h)
-          (omega (arith, c.if-seconds.true, c.seconds.ensures.value, c.seconds-2.ensures.value)),
+      not_wide c.args.gap c.in-Ok.own _ _ _ c.read_input_rows.new.store t e
+          c.seconds-2.ensures.value c.seconds.ensures.value c.new-store.ensures h c.if-seconds.true,
       refl,
-    )) c.in-Ok.ensures.reads)
+    ))
+    c.in-Ok.ensures.reads)
 
 -- ---- the text was written
 
 pub returns-in-Ok-write-clause-writes : goal.returns-in-Ok-write-clause-writes
 returns-in-Ok-write-clause-writes g c =
-    let gap = c.args.gap in
-    let own = c.in-Ok.own in
-    let new = c.read_input_rows.new.store in
     got_so _ _ c.args.limit (λ input. input) _ _
     (λ t e h. text_went _ g.W.Write.contents c.args.w.now c.write.new.w _
-    (wide_text gap own new t e
-    (subst (λ old. GivesRows gap own old new t e) c.new-store.ensures h)
-    (subst IsGap c.seconds-2.ensures.value c.seconds-2.ensures.range)
-    (subst IsGap c.seconds.ensures.value c.seconds.ensures.range)
-    (omega (arith, c.if-seconds.false, c.seconds.ensures.value, c.seconds-2.ensures.value)))
+    (wide_text c.args.gap c.in-Ok.own _ _ _ c.read_input_rows.new.store t e
+    c.seconds-2.ensures.value c.seconds.ensures.value c.new-store.ensures h
+    c.seconds-2.ensures.range c.seconds.ensures.range c.if-seconds.false)
     (text_sent _ _ _ _ (subst
     (λ b. WritesText g.W.Write.contents (Ok tt) b c.args.w.now c.write.new.w) c.of.ensures
     c.in-Ok-write.ensures))) c.in-Ok.ensures.reads
@@ -66,15 +56,11 @@ returns-in-Err-Memory-clause-writes g c =
 
 pub returns-in-Err-Memory-clause-refuses : goal.returns-in-Err-Memory-clause-refuses
 returns-in-Err-Memory-clause-refuses g c =
-    let gap = c.args.gap in
-    let own = c.in-Ok.own in
-    let new = c.read_input_rows.new.store in
     let none = text_none _ _ _ _ _ c.in-Err-Memory.field-0-is c.in-Err-Memory.ensures in
     got_so _ _ c.args.limit (λ input. input) _ _
     (λ t e h. (
-      within gap own new t e
-          (subst (λ old. GivesRows gap own old new t e) c.new-store.ensures h)
-          (omega (arith, c.if-seconds.false, c.seconds.ensures.value, c.seconds-2.ensures.value)),
+      within c.args.gap c.in-Ok.own _ _ _ c.read_input_rows.new.store t e
+          c.seconds-2.ensures.value c.seconds.ensures.value c.new-store.ensures h c.if-seconds.false,
       none.0,
     )) c.in-Ok.ensures.reads
 
@@ -86,16 +72,11 @@ returns-in-Err-Memory-clause-calls g c =
 
 pub returns-in-Err-Write-clause-writes : goal.returns-in-Err-Write-clause-writes
 returns-in-Err-Write-clause-writes g c =
-    let gap = c.args.gap in
-    let own = c.in-Ok.own in
-    let new = c.read_input_rows.new.store in
     got_so _ _ c.args.limit (λ input. input) _ _
     (λ t e h. prefix_went _ g.W.Write.contents c.args.w.now c.write.new.w _
-    (wide_text gap own new t e
-    (subst (λ old. GivesRows gap own old new t e) c.new-store.ensures h)
-    (subst IsGap c.seconds-2.ensures.value c.seconds-2.ensures.range)
-    (subst IsGap c.seconds.ensures.value c.seconds.ensures.range)
-    (omega (arith, c.if-seconds.false, c.seconds.ensures.value, c.seconds-2.ensures.value)))
+    (wide_text c.args.gap c.in-Ok.own _ _ _ c.read_input_rows.new.store t e
+    c.seconds-2.ensures.value c.seconds.ensures.value c.new-store.ensures h
+    c.seconds-2.ensures.range c.seconds.ensures.range c.if-seconds.false)
     (text_cut _ _ _ _ _ c.in-Err-Write.field-0-is (subst
     (λ b. WritesText g.W.Write.contents (Err c.in-Err-Write.field-0) b c.args.w.now
     c.write.new.w) c.of.ensures c.in-Err-Write.ensures))) c.in-Ok.ensures.reads

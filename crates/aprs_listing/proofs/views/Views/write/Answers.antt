@@ -1,4 +1,4 @@
-use Rattle.std.proofs.Common.{refl, rules, subst}
+use Rattle.std.proofs.Common.{rules, subst}
 use Rattle.aprs_io.specs.Device.{Sends}
 use Rattle.aprs_io.proofs.Outlets.{Sends-put, Sends-unput}
 use Rattle.aprs_listing.specs.Listing.{show_text}
