@@ -1,6 +1,6 @@
 #!/bin/sh
-# Prints docs/architecture.md with its map drawn anew: what crates.txt says of each crate, and the
-# first sentence of its lib.rt. Needs a POSIX system alone.
+# Prints docs/architecture.md with its map drawn anew: what crates.txt says of each crate and calls
+# the floors, and the first sentence of each lib.rt. Needs a POSIX system alone.
 set -eu
 export LC_ALL=C
 cd "$(dirname "$0")/.."
@@ -24,6 +24,7 @@ map() {
         function listed(text, name) { return text (text == "" ? "" : ", ") "`" name "`" }
         function or_none(text) { return text == "" ? "none" : text }
         FILENAME == "-" { is[$1] = $2; next }
+        sub(/^# floors of the map, from below: /, "") { named = split($0, name_of, "; "); next }
         !/^[a-z]/ { next }
         {
             split($0, side, ":")
@@ -43,9 +44,10 @@ map() {
             for (j = n; j >= 1; j--) for (i = j + 1; i <= n; i++)
                 if (((i, j) in under) && down[j] < down[i] + 1) down[j] = down[i] + 1
             for (j = 1; j <= n; j++) if (down[j] > most) most = down[j]
+            if (named != most + 1) { print "build/map.sh: crates.txt names " named " floors" > "/dev/stderr"; exit 1 }
             print "```text"
             for (floor = most; floor >= 0; floor--) {
-                line = sprintf("%2d ", floor)
+                line = sprintf("%d  %-19s", floor, name_of[floor + 1])
                 for (j = 1; j <= n; j++)
                     if (most - down[j] == floor) line = line sprintf(" %-17s", crate[j])
                 sub(/ *$/, "", line)

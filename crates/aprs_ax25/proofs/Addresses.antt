@@ -6,7 +6,7 @@ use Rattle.std.proofs.lemmas.List.{length-take-le, length-map, length-append, le
 use Rattle.std.proofs.lemmas.List.Folds.{list_all-append}
 use Rattle.std.proofs.lemmas.Bool.{and_parts, and_from, ltb-true, lt-ltb, eqb-true, ne_eqb}
 use Rattle.aprs_ax25.specs.Callsign.{is_callsign_byte}
-use Rattle.aprs_ax25.specs.Address.{Address, IsAddress, padded, address_octets}
+use Rattle.aprs_ax25.specs.Address.{Address, IsAddress, letters_and_spaces, address_octets}
 use Rattle.aprs_ax25.specs.FrameFault.{ends_field, letters_len, is_no_letter, is_space_octet, has_callsign, address_of}
 use Rattle.aprs_ax25.proofs.Calls.{call_of-IsCall, letters_len-le}
 
@@ -80,9 +80,9 @@ spaces-are (o ∷ os) h e =
     let is : o ≡ 64 = omega arith in
     ap (λ x. x ∷ os) is ∙ ap (λ l. 64 ∷ l) (spaces-are os p.1 q.1)
 
-length-padded : (letters : List ℕ) → length letters ≤ 6 → length (double (padded letters)) ≡ 6
+length-padded : (letters : List ℕ) → length letters ≤ 6 → length (double (letters_and_spaces letters)) ≡ 6
 length-padded letters h =
-    length-map (padded letters) (λ b. 2 * b)
+    length-map (letters_and_spaces letters) (λ b. 2 * b)
     ∙ length-append letters (replicate (6 - length letters) 32)
     ∙ ap (λ n. length letters + n) (length-replicate (6 - length letters) 32)
     ∙ omega arith
@@ -94,7 +94,7 @@ module _ (extension : ℕ) (a : Address) (h : IsAddress a) where
   octets = address_octets extension a
 
   abbrev letter_octets : List ℕ
-  letter_octets = double (padded a.call.letters)
+  letter_octets = double (letters_and_spaces a.call.letters)
 
   abbrev last : ℕ
   last = 32 * a.flags + 2 * a.call.ssid + extension
@@ -205,7 +205,7 @@ module _ (os : List ℕ) (seven : length os ≡ 7) (h : has_callsign os ≡ true
   len_spaces : length spaces ≡ 6 - len
   len_spaces = length-drop len (take 6 os) ∙ ap (λ n. n - len) (length-take-le 6 os (omega arith))
 
-  front_is : double (padded (half letters)) ≡ take 6 os
+  front_is : double (letters_and_spaces (half letters)) ≡ take 6 os
   front_is =
       map-append (λ b. 2 * b) (half letters) (replicate (6 - length (half letters)) 32)
       ∙ ap (λ l. l ++ double (replicate (6 - length (half letters)) 32))
@@ -218,7 +218,7 @@ module _ (os : List ℕ) (seven : length os ≡ 7) (h : has_callsign os ≡ true
   pub address_of-spells : os ≡ address_octets (slice_index os 6 % 2) (address_of os)
   address_of-spells =
       split_last os seven ∙ ap (λ l. l ++ slice_index os 6 ∷ []) (sym front_is)
-      ∙ ap (λ o. double (padded (half letters)) ++ o ∷ []) (last_octet (slice_index os 6))
+      ∙ ap (λ o. double (letters_and_spaces (half letters)) ++ o ∷ []) (last_octet (slice_index os 6))
 
 pub address_of-IsAddress : (os : List ℕ) → length os ≡ 7 → has_callsign os ≡ true
     → slice_index os 6 < 256 → IsAddress (address_of os)

@@ -4,7 +4,7 @@ use Rattle.std.specs.List.{list_all, position_or_len, AllByRecursion, All}
 use Rattle.std.proofs.lemmas.List.{length-take, length-take-le, length-drop, length-append, take_at, drop_at, take_all, take-take, get_or-take, get_or-drop}
 use Rattle.std.proofs.lemmas.List.Sums.{fails_before_first, passes_at_first, list_all-from_AllPass}
 use Rattle.std.proofs.lemmas.Bool.{and_parts, and_from, eqb-true, eqb-false, ne_eqb}
-use Rattle.aprs_ax25.specs.Address.{Address, IsAddress, padded, address_octets}
+use Rattle.aprs_ax25.specs.Address.{Address, IsAddress, letters_and_spaces, address_octets}
 use Rattle.aprs_ax25.specs.Frame.{address_field}
 use Rattle.aprs_ax25.specs.FrameFault.{ends_field, sevens, has_callsign, address_of}
 use Rattle.aprs_ax25.proofs.Addresses.{double, are_even, are_even-double, length-address_octets, has_callsign-address_octets, address_of-address_octets, address_of-spells, address_of-IsAddress}
@@ -20,7 +20,7 @@ position-past (x ∷ xs) ys h =
 
 module _ (a : Address) (h : IsAddress a) (rest : List ℕ) where
   abbrev letter_octets : List ℕ
-  letter_octets = double (padded a.call.letters)
+  letter_octets = double (letters_and_spaces a.call.letters)
 
   abbrev last : ℕ → ℕ
   last extension = 32 * a.flags + 2 * a.call.ssid + extension
@@ -39,7 +39,7 @@ module _ (a : Address) (h : IsAddress a) (rest : List ℕ) where
       ≡ 7 + position_or_len ends_field rest
   position-more =
       ap (position_or_len ends_field) (append_assoc letter_octets (last 0 ∷ []) rest)
-      ∙ position-past letter_octets (last 0 ∷ rest) (are_even-double (padded a.call.letters))
+      ∙ position-past letter_octets (last 0 ∷ rest) (are_even-double (letters_and_spaces a.call.letters))
       ∙ ap (λ n. n + cond (not (ends_field (last 0))) (1 + position_or_len ends_field rest) 0) six
       ∙ ap (λ b. 6 + cond b (1 + position_or_len ends_field rest) 0) last_even
       ∙ omega arith
@@ -48,7 +48,7 @@ module _ (a : Address) (h : IsAddress a) (rest : List ℕ) where
   pub position-last : position_or_len ends_field (address_octets 1 a ++ rest) ≡ 6
   position-last =
       ap (position_or_len ends_field) (append_assoc letter_octets (last 1 ∷ []) rest)
-      ∙ position-past letter_octets (last 1 ∷ rest) (are_even-double (padded a.call.letters))
+      ∙ position-past letter_octets (last 1 ∷ rest) (are_even-double (letters_and_spaces a.call.letters))
       ∙ ap (λ n. n + cond (not (ends_field (last 1))) (1 + position_or_len ends_field rest) 0) six
       ∙ ap (λ b. 6 + cond b (1 + position_or_len ends_field rest) 0) last_odd
 

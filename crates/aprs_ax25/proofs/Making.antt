@@ -5,7 +5,7 @@ use Rattle.aprs_ax25.proofs.Sounds.{cond-None}
 use Rattle.std.specs.List.{AllByRecursion}
 use Rattle.std.proofs.lemmas.List.{map-append, drop-replicate, take_all, take_more, length-map, length-drop, drop_more}
 use Rattle.aprs_ax25.specs.Callsign.{Call}
-use Rattle.aprs_ax25.specs.Address.{Address, IsAddress, padded, address_octets}
+use Rattle.aprs_ax25.specs.Address.{Address, IsAddress, letters_and_spaces, address_octets}
 use Rattle.aprs_ax25.specs.Frame.{Parts, IsParts, FrameOf, address_field, spelling}
 use Rattle.aprs_ax25.specs.declared.hop.Hop.{Hop}
 use Rattle.aprs_ax25.specs.FrameFault.{frame_fault, parts_of}
@@ -19,7 +19,7 @@ double-spaces (suc n) = ap (λ l. 64 ∷ l) (double-spaces n)
 -- the letters went out, and then of six spaces those that are wanting
 pub padded-pushed : (a b c letters : List ℕ) (i : ℕ) → length letters ≤ i → b
     ≡ a ++ map (λ l. 2 * l) (take i letters)
-    → c ≡ b ++ drop (length letters) (replicate 6 64) → c ≡ a ++ map (λ l. 2 * l) (padded letters)
+    → c ≡ b ++ drop (length letters) (replicate 6 64) → c ≡ a ++ map (λ l. 2 * l) (letters_and_spaces letters)
 padded-pushed a b c letters i h f g =
     let n = length letters in
     g ∙ ap (λ l. l ++ drop n (replicate 6 64))

@@ -37,20 +37,21 @@ frame_fault-IsSound bytes h =
     record {
       within = leb-true n (length bytes) ends.0;
       sevenfold = eqb-true (n % 7) 0 two.0;
-      least = leb-true 14 n two.1;
-      most = leb-true n 70 parts.1;
+      size = (leb-true 14 n two.1, leb-true n 70 parts.1);
       callsigns = not-false _ callsign.0;
       control = eqb-true (slice_index (after_field bytes) 0) 3 (not-false _ control.0);
       pid = eqb-true (slice_index (after_field bytes) 1) 240 (not-false _ pid.0);
-      some = leb-false (length (after_field bytes)) 2 no_info.0;
-      few = ltb-false 258 (length (after_field bytes)) long_info.0;
+      info = (
+        leb-false (length (after_field bytes)) 2 no_info.0,
+        ltb-false 258 (length (after_field bytes)) long_info.0,
+      );
     }
 
 pub IsSound-len : (bytes : List ℕ) → IsUiFrame bytes → length bytes ≤ 328
 IsSound-len bytes s =
     let len : length (after_field bytes) ≡ length bytes - field_len bytes =
     length-drop (field_len bytes) bytes in
-    omega (arith, len, s.few, s.most, s.within)
+    omega (arith, len, s.info.1, s.size.1, s.within)
 
 pub IsSound-frame_fault : (bytes : List ℕ) → IsUiFrame bytes → frame_fault bytes ≡ None
 IsSound-frame_fault bytes s =
@@ -59,13 +60,13 @@ IsSound-frame_fault bytes s =
     let address : is_wrong AddressFault bytes ≡ false =
     ap not (and_from (nat_le n (length bytes)) (is_field_len n) (le-leb n (length bytes) s.within)
     (and_from (n % 7 == 0 && nat_le 14 n) (nat_le n 70)
-    (and_from (n % 7 == 0) (nat_le 14 n) (ap (λ k. k == 0) s.sevenfold) (le-leb 14 n s.least))
-    (le-leb n 70 s.most))) in
+    (and_from (n % 7 == 0) (nat_le 14 n) (ap (λ k. k == 0) s.sevenfold) (le-leb 14 n s.size.0))
+    (le-leb n 70 s.size.1))) in
     let callsign : is_wrong Callsign bytes ≡ false = ap not s.callsigns in
     let control : is_wrong Control bytes ≡ false = ap (λ k. not (k == 3)) s.control in
     let pid : is_wrong Pid bytes ≡ false = ap (λ k. not (k == 240)) s.pid in
-    let no_info : is_wrong NoInfo bytes ≡ false = lt-leb (length after) 2 s.some in
-    let long_info : is_wrong LongInfo bytes ≡ false = le-ltb 258 (length after) s.few in
+    let no_info : is_wrong NoInfo bytes ≡ false = lt-leb (length after) 2 s.info.0 in
+    let long_info : is_wrong LongInfo bytes ≡ false = le-ltb 258 (length after) s.info.1 in
     rw (address, callsign, control, pid, no_info, long_info) refl
 
 -- ---- where the address field ends, looked for at the end of each address
@@ -156,18 +157,18 @@ module _ (f : List ℕ) (s : IsUiFrame f) where
 
   count : length field / 7 ≡ suc (suc k)
   count = ap (λ m. m / 7) length-field
-      ∙ (let least = s.least in let seven = s.sevenfold in omega arith)
+      ∙ (let least = s.size.0 in let seven = s.sevenfold in omega arith)
 
   addresses-are : addresses f
       ≡ take 7 field ∷ take 7 (drop 7 field) ∷ sevens k (drop 7 (drop 7 field))
   addresses-are = ap (λ m. sevens m field) count
 
   first : take 7 field ≡ take 7 f
-  first = take-take 7 n f (let least = s.least in omega arith)
+  first = take-take 7 n f (let least = s.size.0 in omega arith)
 
   second : take 7 (drop 7 field) ≡ take 7 (drop 7 f)
   second =
-      let least = s.least in
+      let least = s.size.0 in
       let e : n ≡ 7 + (n - 7) = omega arith in
       ap (λ m. take 7 (drop 7 (take m f))) e ∙ ap (take 7) (drop-take 7 (n - 7) f)
       ∙ take-take 7 (n - 7) (drop 7 f) (omega arith)
@@ -184,7 +185,7 @@ module _ (f : List ℕ) (s : IsUiFrame f) where
 
   pub length-digipeaters : length (parts_of f).digipeaters + 2 ≡ n / 7
   length-digipeaters =
-      let least = s.least in
+      let least = s.size.0 in
       let seven = s.sevenfold in
       let a = length-map (addresses f) address_of in
       let b = length-sevens (length field / 7) field in
@@ -206,7 +207,7 @@ module _ (f : List ℕ) (s : IsUiFrame f) where
   spells : All (λ b. b < 256) f → Spells field (addresses f)
   spells bytes =
       let P : ℕ → Type 0 = λ m. Spells field (sevens m field) in
-      let least = s.least in
+      let least = s.size.0 in
       let seven = s.sevenfold in
       subst P (sym count) (Spells-sevens (suc k) field (length-field ∙ omega arith) end
       (ap (λ m. list_all has_callsign (sevens m field)) (sym count) ∙ s.callsigns)
@@ -224,9 +225,9 @@ module _ (f : List ℕ) (s : IsUiFrame f) where
       let held = spells bytes in
       let each : AllByRecursion IsAddress (all_of p) =
       subst (AllByRecursion IsAddress) all-addresses held.each in
-      let most = s.most in
-      let some = s.some in
-      let few = s.few in
+      let most = s.size.1 in
+      let some = s.info.0 in
+      let few = s.info.1 in
       let info : length p.info ≡ length (after_field f) - 2 = length-drop 2 (after_field f) in
       record {
         parts = record {
@@ -301,7 +302,7 @@ within-digipeaters f self hops i s is e h =
     omega (arith, all, same)
 
 pub digipeaters-few : (f : List ℕ) → frame_fault f ≡ None → field_len f / 7 - 2 ≤ 8
-digipeaters-few f h = let most = (frame_fault-IsSound f h).most in omega arith
+digipeaters-few f h = let most = (frame_fault-IsSound f h).size.1 in omega arith
 
 pub info-is : (f : List ℕ) → drop (field_len f + 2) f ≡ (parts_of f).info
 info-is f = sym (drop-drop 2 (field_len f) f)

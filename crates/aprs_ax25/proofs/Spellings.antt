@@ -58,13 +58,14 @@ module _ (p : Parts) (h : IsParts p) where
       record {
         within = omega (arith, field_len-is, length-field);
         sevenfold = omega (arith, field_len-is);
-        least = omega (arith, field_len-is);
-        most = omega (arith, field_len-is);
+        size = (omega (arith, field_len-is), omega (arith, field_len-is));
         callsigns = ap (list_all has_callsign) addresses-are ∙ held.callsigns;
         control = ap (λ l. slice_index l 0) after_field-is;
         pid = ap (λ l. slice_index l 1) after_field-is;
-        some = omega (arith, ap length after_field-is);
-        few = omega (arith, ap length after_field-is);
+        info = (
+          omega (arith, ap length after_field-is),
+          omega (arith, ap length after_field-is),
+        );
       }
 
   pub spelling-frame_fault : frame_fault (spelling p) ≡ None

@@ -9,10 +9,8 @@ use Rattle.aprs_ax25.specs.FrameFault.{addresses, after_field, field_len, has_ca
 pub record IsUiFrame (bytes : List ℕ) : Type 0 where
   pub within : field_len bytes ≤ length bytes
   pub sevenfold : field_len bytes % 7 ≡ 0
-  pub least : 14 ≤ field_len bytes
-  pub most : field_len bytes ≤ 70
+  pub size : (14 ≤ field_len bytes) × (field_len bytes ≤ 70)
   pub callsigns : list_all has_callsign (addresses bytes) ≡ true
   pub control : slice_index (after_field bytes) 0 ≡ control_ui
   pub pid : slice_index (after_field bytes) 1 ≡ pid_none
-  pub some : 2 < length (after_field bytes)
-  pub few : length (after_field bytes) ≤ 258
+  pub info : (2 < length (after_field bytes)) × (length (after_field bytes) ≤ 258)

@@ -3,7 +3,7 @@ ghost use Rattle.std.specs.Prelude.{◌≡◌, ◌+◌, ◌<◌, ◌≤◌, ◌*
 ghost use Rattle.std.specs.Prelude.{Some, IfOk, IfErr};
 ghost use Rattle.std.specs.List.{list_all, position_or_len};
 ghost use Rattle.arrayvec.specs.ArrayVec.{array_vec_len};
-ghost use Rattle.aprs_ax25.specs.Address.{address_octets, padded};
+ghost use Rattle.aprs_ax25.specs.Address.{address_octets, letters_and_spaces};
 ghost use Rattle.aprs_ax25.specs.Callsign.{Call, IsCall, call_text, ssid_text, is_callsign_byte};
 ghost use Rattle.aprs_ax25.specs.Callsign.{call_cmp, call_eq};
 ghost use Rattle.aprs_ax25.specs.CallText.{CallText, FirstCallFault, is_dash, before_dash};
@@ -268,7 +268,7 @@ fn push_padded(out: &mut ArrayVec<u8, MAX_UI_FRAME>, letters: &[u8])
     requires room { array_vec_len out.old + 6 ≤ MAX_UI_FRAME }
     requires six { length letters.now ≤ 6 }
     requires bytes { list_all is_callsign_byte letters.now ≡ true }
-    ensures { out.new.items ≡ out.old.items ++ map (λ b. 2 * b) (padded letters.now) }
+    ensures { out.new.items ≡ out.old.items ++ map (λ b. 2 * b) (letters_and_spaces letters.now) }
 {
     for letter in letters {
         out.push(2 * letter);

@@ -1,10 +1,14 @@
 -- What the indexes know after one more reception, one more row, or a merge.
-use Rattle.std.proofs.Common.{◌≡◌, ◌∙◌, Bool, true, false, ◌&&◌, if◌then◌else◌, List, [], ◌∷◌, ◌++◌, Option, None, Some, map, inl, inr, refl, sym, ap, subst, ℕ, ◌<◌, ◌≤◌}
+use Rattle.std.proofs.Common.{◌≡◌, ◌∙◌, Bool, true, false, ◌&&◌, if◌then◌else◌, List, [], ◌∷◌, ◌++◌, Option, None, Some, map, inl, inr, refl, sym, ap, subst, arith, length, take, ℕ, ◌<◌, ◌≤◌}
 use Rattle.std.proofs.Math.Bool.{and-false, and-true}
-use Rattle.std.proofs.lemmas.Cmp.{upto}
-use Rattle.std.proofs.lemmas.List.{map-append}
+use Rattle.std.proofs.lemmas.Cmp.{tied_itself, upto}
+use Rattle.std.proofs.lemmas.List.{length-append, map-append}
+use Rattle.std.proofs.Math.Seq.{take-append_seam}
+use Rattle.std.specs.declared.cmp.Ordering.{Ordering}
+use Rattle.std.specs.declared.cmp.Ordering.TheVariants.{Less, Equal, Greater}
+use Rattle.aprs_rows.proofs.Cases.{by_order}
 use Rattle.std.specs.Ordering.{is_eq}
-use Rattle.aprs_ax25.specs.Callsign.{Call, call_cmp}
+use Rattle.aprs_ax25.specs.Callsign.{Call, call_cmp, call_text, ssid_text}
 use Rattle.aprs_log.specs.Reception.{Heard, bytes_cmp}
 use Rattle.aprs_report.specs.Reading.{Value, position, object, item, message, ack, rej, status, raw}
 use Rattle.aprs_laws.specs.Lists.{◌∈◌}
@@ -23,14 +27,12 @@ use Rattle.aprs_laws.proofs.Lists.{in_left, in_right, in_either}
 use Rattle.aprs_laws.proofs.Soundness.{witnessed}
 use Rattle.aprs_laws.proofs.Inserts.{inserted_is_book}
 use Rattle.aprs_laws.proofs.Joins.{is_greater_of}
-use Rattle.aprs_laws.proofs.Orders.{heard_total}
+use Rattle.aprs_laws.proofs.Orders.{bytes_exact, bytes_total, call_exact, call_total, heard_total}
 use Rattle.aprs_laws.proofs.Known.{rows_know, set_knows, known_last}
 use Rattle.aprs_book.specs.declared.known.subject.Subject.{Subject}
 use Rattle.aprs_book.specs.Reports.{report_of, is_position, is_status, is_object, is_item, is_from, reports_position, reports_status, reports_object, reports_item, without_spaces}
 use Rattle.aprs_book.specs.LastKnown.{IsLastKnown, greatest_of}
-use Rattle.aprs_book.specs.Known.{FourIndexes, Topic, positions, statuses, objects, items, index_of, known_at, known_both, is_reported, reports_at, reported_by, reported_in, reported_at, AreIndexesOf, SameKnown, HaveEntries}
-use Rattle.aprs_rows.specs.KeyBytes.{call_bytes}
-use Rattle.aprs_rows.proofs.KeyBytes.{call_bytes_cmp}
+use Rattle.aprs_book.specs.Known.{FourIndexes, Topic, call_bytes, positions, statuses, objects, items, index_of, known_at, known_both, is_reported, reports_at, reported_by, reported_in, reported_at, AreIndexesOf, SameKnown, HaveEntries}
 use Rattle.aprs_book.proofs.KnownSteps.{entry_there, same_as_itself}
 
 -- the receptions of a row are of its greatest's key: what the rows know the book's set knows
@@ -109,13 +111,6 @@ pushes_note old r test known h =
     (known_last test r.greatest (map greatest_of old) known h)
 
 -- ---- the four indexes
-
-pub same_indexes : (rows : List Row) (old new : FourIndexes) → AreIndexesOf rows old
-    → SameKnown old new
-    → AreIndexesOf rows new
-same_indexes rows old new h same = λ topic bytes.
-    subst (LastKnown (map greatest_of rows) (Passes (reports_at (reported_in topic) bytes)))
-    (sym (same topic bytes)) (h topic bytes)
 
 -- what a reception reports on is noted
 abbrev pub Noted : Subject → Heard → FourIndexes → FourIndexes → Type 0
@@ -274,8 +269,40 @@ by_bytes gap rows test topic bytes i known h same is =
     (known_at bytes (index_of topic i))) alike
     (h topic bytes)))
 
+same_front : (a b t : List ℕ) → a ++ t ≡ b ++ t → a ≡ b
+same_front a b t e =
+    let n : length a ≡ length b =
+    omega (arith, ap length e, length-append a t, length-append b t) in
+    sym (take-append_seam a t) ∙ ap (take (length a)) e ∙ ap (λ m. take m (b ++ t)) n
+    ∙ take-append_seam b t
+
+-- the bytes of a callsign are no other's
+same_bytes : (a b : Call) → call_bytes a ≡ call_bytes b → a ≡ b
+same_bytes a b e =
+    let s : a.ssid ≡ b.ssid = cc in
+    let t : call_text a ≡ call_text b = cc in
+    let l = same_front a.letters b.letters (ssid_text b.ssid)
+    (subst (λ (n : ℕ). a.letters ++ ssid_text n ≡ call_text b) s t) in
+    λ i. record { letters = l i; ssid = s i }
+
+apart : (a b : Call) → (a ≡ b → ⊥) → is_eq (bytes_cmp (call_bytes a) (call_bytes b)) ≡ false
+apart a b n =
+    by_order (bytes_cmp (call_bytes a) (call_bytes b))
+    (λ o. ap is_eq o)
+    (λ o. absurd (n (same_bytes a b (bytes_exact (call_bytes a) (call_bytes b) o))))
+    (λ o. ap is_eq o)
+
+itself : (a b : Call) → a ≡ b → call_cmp a b ≡ Equal
+itself a b e = ap (call_cmp a) (sym e) ∙ tied_itself call_total a
+
 call_same : (a b : Call) → is_eq (bytes_cmp (call_bytes a) (call_bytes b)) ≡ is_eq (call_cmp a b)
-call_same a b = ap is_eq (call_bytes_cmp a b)
+call_same a b =
+    by_order (call_cmp a b)
+    (λ o. apart a b (λ e. let no : Less ≡ Equal = sym o ∙ itself a b e in cc) ∙ ap is_eq (sym o))
+    (λ o. ap is_eq (ap (λ c. bytes_cmp (call_bytes a) (call_bytes c)) (sym (call_exact a b o))
+    ∙ tied_itself bytes_total (call_bytes a)) ∙ ap is_eq (sym o))
+    (λ o. apart a b (λ e. let no : Greater ≡ Equal = sym o ∙ itself a b e in cc)
+    ∙ ap is_eq (sym o))
 
 of_call : (own : Bool) (call : Call) (k : Key)
     → is_reported (call_bytes call) (if own then Some (call_bytes k.source) else None)

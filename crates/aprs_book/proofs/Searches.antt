@@ -10,7 +10,7 @@ use denote.Param.Members.{Mut}
 use Rattle.std.specs.Ordering.{is_lt, is_gt, MatchOrdering}
 use Rattle.std.specs.declared.cmp.Ordering.{Ordering}
 use Rattle.std.specs.declared.cmp.Ordering.TheVariants.{Less, Equal, Greater}
-use Rattle.aprs_log.specs.Reception.{Heard, bytes_cmp}
+use Rattle.aprs_log.specs.Reception.{Heard}
 use Rattle.aprs_laws.specs.Lists.{◌∈◌, Ordered}
 use Rattle.aprs_laws.specs.Order.{IsBelow}
 use Rattle.aprs_laws.specs.Row.{Row, last_of, row_cmp}
@@ -23,6 +23,8 @@ use Rattle.aprs_laws.proofs.Parts.{place_before}
 use Rattle.aprs_laws.proofs.Pushes.{IsSound, one_relation, sound_prefix}
 use Rattle.aprs_book.proofs.Places.{here, two_at, one_at, alone_end, alone_next}
 use Rattle.aprs_rows.proofs.Cases.{by_order}
+use Rattle.aprs_rows.specs.Head.{head_cmp}
+use Rattle.aprs_rows.specs.declared.row.head.Head.{Head}
 use Rattle.aprs_book.proofs.Entries.{test}
 use Rattle.aprs_book.specs.Places.{IsNewAt, GrowsAt, BridgesAt}
 use Rattle.aprs_book.specs.Keyed.{rows_of}
@@ -204,18 +206,18 @@ module _ (gap : ℕ) (x : Heard) where
 
 -- ---- a key's rows among those of all keys
 
-module _ {K V : Type 0} (bytes : K → List ℕ) (rows : V → List Row) where
-  pub found_sound : (gap : ℕ) (k : List ℕ) (es : List (K × V)) (old : V)
-      → Sound gap (rows_of bytes rows es) → lookup (test bytes rows k) es ≡ Some old
+module _ {V : Type 0} (rows : V → List Row) where
+  pub found_sound : (gap : ℕ) (k : Head) (es : List (Head × V)) (old : V)
+      → Sound gap (rows_of rows es) → lookup (test k) es ≡ Some old
       → Sound gap (rows old)
   found_sound gap k [] old s found = absurd (cc)
   found_sound gap k (e ∷ es) old s found =
-      let others = sound_back gap (rows e.1) (rows_of bytes rows es) s in
-      by_order (bytes_cmp k (bytes e.0))
+      let others = sound_back gap (rows e.1) (rows_of rows es) s in
+      by_order (head_cmp k e.0)
       (λ o. found_sound gap k es old others (rw o at found))
       (λ o.
       let f : Some e.1 ≡ Some old = rw o at found in
       let r : e.1 ≡ old = cc in
       subst (λ (v : V). Sound gap (rows v)) r (sound_prefix gap (rows e.1)
-      (rows_of bytes rows es) s))
+      (rows_of rows es) s))
       (λ o. found_sound gap k es old others (rw o at found))

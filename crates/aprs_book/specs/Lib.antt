@@ -38,7 +38,6 @@ pub use Rattle.aprs_laws.specs.Taken
 pub use Rattle.aprs_laws.specs.Best
 pub use Rattle.aprs_laws.specs.BestLaws
 pub use Rattle.aprs_laws.specs.Spans
-pub use Rattle.aprs_rows.specs.KeyBytes
 pub use Rattle.aprs_rows.specs.Refusal
 pub use Rattle.aprs_ax25.specs.CallText
 pub use Rattle.aprs_report.specs.Reading

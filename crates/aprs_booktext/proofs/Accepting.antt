@@ -7,7 +7,7 @@ use Rattle.aprs_io.specs.Device.{Rose}
 use Rattle.aprs_io.specs.declared.device.Counted.{Counted}
 use Rattle.aprs_io.specs.Input.{most_input}
 use Rattle.aprs_io.specs.Input.{Gets}
-use Rattle.aprs_log.specs.Moment.{civil_after, civil_text, moment_text_in}
+use Rattle.aprs_log.specs.Moment.{IsWritable, date_text, day_after, moment_text_in, time_text}
 use Rattle.aprs_log.specs.Reception.{Heard}
 use Rattle.aprs_io.specs.declared.input.Ending.{Ending}
 use Rattle.aprs_io.specs.declared.input.Ending.TheVariants as ending
@@ -17,14 +17,15 @@ use Rattle.aprs_laws.specs.BookValue.{BookValue, Holds}
 use Rattle.aprs_laws.specs.Gap.{IsGap, millis_of, standard_gap}
 use Rattle.aprs_laws.specs.Row.{Row, last_of}
 use Rattle.aprs_laws.specs.Scaling.{scaled, scaled_heard}
-use Rattle.aprs_laws.specs.Sound.{Sound}
 use Rattle.aprs_laws.proofs.Scaling.{scaled_book}
-use Rattle.aprs_laws.proofs.Soundness.{sound}
-use Rattle.aprs_booktext.specs.FirstFault.{AcceptsBook, FirstFault, IsBookOrMemory, Reads}
+use Rattle.aprs_booktext.specs.FirstFault.{FirstFault}
 use Rattle.aprs_booktext.specs.Law.{IsWrittenBack}
 use Rattle.aprs_booktext.specs.Reading.{IsAnswered}
 use Rattle.aprs_booktext.specs.Seconds.{AreWrittenToTheSecond, IsTextInSeconds, ReadsSeconds}
-use Rattle.aprs_booktext.specs.Text.{row_line, lines_of, text_of_lines, ended_by_lf, book_of, book_text, IsBookRow, IsBookRows, IsWritable, written_version}
+use Rattle.aprs_booktext.specs.Text.{row_line, lines_of, book_of, book_text, IsBookRow, IsBookRows, written_version}
+use Rattle.aprs_booktext.specs.RowLines.{ended_by_lf}
+use Rattle.aprs_log.specs.LogText.{text_of_lines}
+use Rattle.aprs_booktext.specs.BookAnswers.{AcceptsBook, IsBookOrMemory, ReadsBook}
 use Rattle.aprs_booktext.specs.Version.{form_of, gap_of}
 use Rattle.aprs_booktext.specs.declared.fault.BookCause.TheVariants as cause
 use Rattle.aprs_booktext.specs.declared.fault.BookFault.{BookFault}
@@ -32,7 +33,9 @@ use Rattle.aprs_booktext.specs.declared.version.Version.{Version}
 use Rattle.aprs_booktext.specs.declared.version.Version.TheVariants.{One, Three}
 use Rattle.aprs_booktext.proofs.Asking.{Asks-rose}
 use Rattle.aprs_booktext.proofs.OneText.{one_text, one_version, same_book, cut_short}
-use Rattle.aprs_booktext.proofs.Versions.{range}
+use Rattle.aprs_booktext.proofs.Versions.{standard_range}
+use Rattle.aprs_booktext.proofs.SameFaults.{memory_or_first}
+use Rattle.aprs_laws.specs.Book.{BookOf}
 
 -- each line has an LF
 pub lines_few : (ls : List (List ℕ)) → length ls ≤ length (text_of_lines ls)
@@ -57,7 +60,7 @@ pub record IsTextOf (book : BookValue) (text : List ℕ) : Type 0 where
   pub is : IsBookRows version book.rows
 
 pub text_of_read : (limit : ℕ) (head input : List ℕ) (after : Option (List ℕ)) (book : BookValue)
-    → Reads limit head input after (Ok book) → IsTextOf book (head ++ input)
+    → ReadsBook limit head input after (Ok book) → IsTextOf book (head ++ input)
 text_of_read limit head input after book h =
     let gets = subst (Gets limit (head ++ input) after (head ++ h.got)) h.reads.4 h.gets in
     record {
@@ -72,7 +75,7 @@ module _ (limit : ℕ) (head rest : List ℕ) (after : Option (List ℕ)) (v : V
     (small : limit ≤ most_input) (is : IsBookRows v rows)
     (text_is : head ++ rest ≡ book_text v rows) where
   -- what was read is the book of the rows
-  pub same_read : (found : BookValue) → Reads limit head rest after (Ok found)
+  pub same_read : (found : BookValue) → ReadsBook limit head rest after (Ok found)
       → found ≡ book_of v rows
   same_read found h =
       let t = text_of_read limit head rest after found h in
@@ -95,10 +98,10 @@ module _ (limit : ℕ) (head rest : List ℕ) (after : Option (List ℕ)) (v : V
     faultless ending.TooLong text f gets read first =
         omega (arith, ap length gets.whole, length-append text gets.rest, gets.ends, fits)
 
-    pub accepted : (r : Result BookValue BookFault) → Reads limit head rest after r
+    pub accepted : (r : Result BookValue BookFault) → ReadsBook limit head rest after r
         → IfErr r (λ f. f.cause ≡ cause.Read → ⊥) → IsBookOrMemory r (book_of v rows)
     accepted (Ok found) h read = same_read found h
-    accepted (Err f) h read = elim h.reads [
+    accepted (Err f) h read = elim (memory_or_first (head ++ h.got) h.ending f h.reads) [
       | inl m ↦ m.refused
       | inr first ↦ absurd (faultless h.ending (head ++ h.got) f h.gets read first)
     ]
@@ -106,7 +109,7 @@ module _ (limit : ℕ) (head rest : List ℕ) (after : Option (List ℕ)) (v : V
 -- the same, where the input's bytes may not be known, and a failed read has Q
 pub accepts : (known after : Option (List ℕ)) (limit : ℕ) (head : List ℕ)
     (r : Result BookValue BookFault) (Q : Type 0) → limit ≤ most_input
-    → IfSome known (λ input. Reads limit head input after r)
+    → IfSome known (λ input. ReadsBook limit head input after r)
     → IfErr r (λ f. f.cause ≡ cause.Read → Q)
     → IfSome known (λ input. (v : Version) (rows : List Row) → IsBookRows v rows
     → head ++ input ≡ book_text v rows → length (head ++ input) ≤ limit → (Q → ⊥)
@@ -120,7 +123,7 @@ accepts (Some input) after limit head r Q small h read =
 
 module _ (limit : ℕ) (head : List ℕ) (after : Option (List ℕ)) (small : limit ≤ most_input) where
   in_seconds : (input : List ℕ) (S : List Heard) → IsTextInSeconds S (head ++ input)
-      → (r : Result BookValue BookFault) → Reads limit head input after r
+      → (r : Result BookValue BookFault) → ReadsBook limit head input after r
       → IfOk r (λ book. (book.gap ≡ standard_gap) × Holds (map (scaled_heard 1000) S) book)
   in_seconds input S t (Err f) h = tt
   in_seconds input S t (Ok found) h =
@@ -128,9 +131,8 @@ module _ (limit : ℕ) (head : List ℕ) (after : Option (List ℕ)) (small : li
       let book : Holds (map (scaled_heard 1000) S) (book_of One rows) =
       scaled_book 1000 standard_gap (omega arith) S t.rows t.book in
       let is : IsBookRows One rows = record {
-        version = tt;
-        sound =
-            sound (millis_of standard_gap) (map (scaled_heard 1000) S) rows book;
+        version = standard_range;
+        book = (map (scaled_heard 1000) S, book);
         each = t.each;
       } in
       let same = same_read limit head input after One rows small is t.text_is found h in (
@@ -140,7 +142,7 @@ module _ (limit : ℕ) (head : List ℕ) (after : Option (List ℕ)) (small : li
       )
 
   pub reads_seconds : (known : Option (List ℕ)) (r : Result BookValue BookFault)
-      → IfSome known (λ input. Reads limit head input after r)
+      → IfSome known (λ input. ReadsBook limit head input after r)
       → IfSome known (λ input. (S : List Heard) → IsTextInSeconds S (head ++ input)
       → IfOk r (λ book. (book.gap ≡ standard_gap) × Holds (map (scaled_heard 1000) S) book))
   reads_seconds None r h = tt
@@ -162,10 +164,10 @@ module _ {R : Type 0} (remaining : R → Option (List ℕ)) (limit : ℕ) (head 
 pub written_to_the_second : AreWrittenToTheSecond
 unfolding moment_text_in
 written_to_the_second = λ s h.
-    let q : s * 1000 / 1000 ≡ s = omega arith in
-    let r : s * 1000 % 1000 ≡ 0 = omega arith in
-    ap (λ n. civil_text Seconds (civil_after n) (s * 1000 % 1000)) q
-    ∙ ap (λ n. civil_text Seconds (civil_after s) n) r
+    let q : s * 1000 / 86400000 ≡ s / 86400 = omega arith in
+    let r : s * 1000 % 86400000 ≡ s % 86400 * 1000 = omega arith in
+    ap (λ n. date_text (day_after n) ++ 84 ∷ time_text Seconds (s * 1000 % 86400000)) q
+    ∙ ap (λ n. date_text (day_after (s / 86400)) ++ 84 ∷ time_text Seconds n) r
 
 -- ---- what was read is written in version 3
 
@@ -189,13 +191,13 @@ row_more form x h = record {
 rows_more : (v : Version) (gap : ℕ) (rows : List Row) → gap ≡ gap_of v → IsBookRows v rows
     → IsBookRows (Three gap) rows
 rows_more v gap rows e h = record {
-  version = subst IsGap (sym e) (range v h.version);
-  sound = subst (λ g. Sound (millis_of g) rows) (sym e) h.sound;
+  version = subst IsGap (sym e) h.version;
+  book = subst (λ g. (S : List Heard) × BookOf (millis_of g) S rows) (sym e) h.book;
   each = All-weaker (IsBookRow (form_of v)) (IsBookRow Millis) (row_more (form_of v)) rows h.each;
 }
 
 pub written_back : (limit : ℕ) (head input : List ℕ) (after : Option (List ℕ)) (book : BookValue)
-    → Reads limit head input after (Ok book) → IsWrittenBack book (head ++ input)
+    → ReadsBook limit head input after (Ok book) → IsWrittenBack book (head ++ input)
 written_back limit head input after book h =
     let t = text_of_read limit head input after book h in
     let more = rows_more t.version book.gap book.rows t.gap_is t.is in

@@ -4,7 +4,8 @@ use Rattle.std.specs.List.{join_with_byte, onto_first, AllByRecursion}
 use Rattle.std.proofs.lemmas.List.Splits.{slice_split_none, slice_split_at, join_with_byte-slice_split, length-slice_split}
 use Rattle.std.proofs.lemmas.List.Elements.{All-from_recursion}
 use Rattle.std.proofs.lemmas.Bool.{false_from_ne_true}
-use Rattle.aprs_booktext.specs.Lines.{is_byte, Lacks, pieces}
+use Rattle.aprs_booktext.specs.Lines.{Lacks, pieces}
+use Rattle.aprs_io.specs.Cut.{is_byte}
 
 -- ---- texts without the byte
 

@@ -13,7 +13,8 @@ use Rattle.hex.proofs.HexLemmas.{decode_of-ok}
 use Rattle.aprs_ax25.specs.FrameFault.{frame_of}
 use Rattle.aprs_ax25.proofs.UiFrames.{frame_of-is, is-frame_of}
 use Rattle.aprs_ax25.specs.declared.fault.FrameFault.{FrameFault}
-use Rattle.aprs_log.specs.Moment.{moment_in, moment_text_in}
+use Rattle.aprs_log.specs.Moment.{moment_text_in, IsWritable}
+use Rattle.aprs_log.specs.MomentReading.{moment_in}
 use Rattle.aprs_log.specs.Receiver.{IsName, is_name}
 use Rattle.aprs_log.specs.declared.moment_form.MomentForm.{MomentForm}
 use Rattle.aprs_log.proofs.Moments.{moment_in-text}
@@ -26,10 +27,11 @@ use Rattle.aprs_laws.specs.declared.row_cause.RowCause.{RowCause}
 use Rattle.aprs_laws.specs.declared.row_cause.RowCause.TheVariants as row
 use Rattle.aprs_booktext.specs.FirstFault.{FirstFault, is_end}
 use Rattle.aprs_booktext.specs.Law.{IsBookText}
-use Rattle.aprs_booktext.specs.Lines.{is_byte, Lacks, pieces}
+use Rattle.aprs_booktext.specs.Lines.{Lacks, pieces}
+use Rattle.aprs_io.specs.Cut.{is_byte}
 use Rattle.aprs_booktext.specs.Reader.{IsJudgedIn, StandsAfter, is_done, line_number, may_end}
 use Rattle.aprs_booktext.specs.RowFields.{SpellsBytes}
-use Rattle.aprs_booktext.specs.Text.{row_line, end_line, lines_of, book_text, most_frame_bytes, IsSpelled, IsBookRow, IsWritable}
+use Rattle.aprs_booktext.specs.Text.{row_line, end_line, lines_of, book_text, most_frame_bytes, IsSpelled, IsBookRow}
 use Rattle.aprs_booktext.specs.Version.{form_of, gap_of, header_of}
 use Rattle.aprs_booktext.specs.declared.fault.BookCause.{BookCause}
 use Rattle.aprs_booktext.specs.declared.fault.BookCause.TheVariants as cause
@@ -44,6 +46,7 @@ use Rattle.aprs_booktext.proofs.RowReading.{IsNoRow}
 use Rattle.aprs_booktext.proofs.Spellings.{moment_found, moment_missed, moment_read, names_pieces, same_fields, six_pieces, spelled_by}
 use Rattle.aprs_booktext.proofs.Standing.{cut_fault, ended_fault, ended_stands, ended_whole, held_stands}
 use Rattle.aprs_booktext.proofs.Versions.{no_header}
+use Rattle.aprs_booktext.proofs.Versions.{standard_range}
 
 -- ---- one list, or another
 
@@ -274,7 +277,7 @@ judge_header rows line = elim (one_or_other line (header_of One)) [
   | inl same ↦ record {
     result = Ok (Rows One);
     new = rows;
-    judged = (tt, same, refl);
+    judged = (standard_range, same, refl);
     known =
         λ e. absurd cc;
   }
@@ -282,7 +285,7 @@ judge_header rows line = elim (one_or_other line (header_of One)) [
     | inl same ↦ record {
       result = Ok (Rows Two);
       new = rows;
-      judged = (tt, same, refl);
+      judged = (standard_range, same, refl);
       known =
           λ e. absurd cc;
     }

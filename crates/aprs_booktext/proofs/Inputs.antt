@@ -5,18 +5,21 @@ use Rattle.std.specs.Io.KnownBytes.{Consumes}
 use Rattle.std.proofs.KnownBytes.{Consumes-nil, Consumes-trans}
 use Rattle.aprs_io.specs.Device.{Calls, Going}
 use Rattle.aprs_io.specs.declared.device.Counted.{Counted}
-use Rattle.aprs_io.specs.Input.{EndsHere, EndsSo, Gets, TakesOne, last_of}
+use Rattle.aprs_io.specs.Input.{EndsHere, EndsSo, Gets, TakesOne, last_of_ending}
 use Rattle.aprs_io.specs.declared.input.Ending.{Ending}
 use Rattle.aprs_io.specs.declared.input.Ending.TheVariants as ending
 use Rattle.aprs_laws.specs.BookValue.{BookValue}
 use Rattle.aprs_laws.specs.Row.{Row}
 use Rattle.aprs_booktext.specs.StoredRows.{book_read, rows_after}
 use Rattle.aprs_booktext.specs.Asking.{Takes, TakesAt, TakesAtMost}
-use Rattle.aprs_booktext.specs.FirstFault.{ending_cause, Reads, ReadsSo, most_ahead}
+use Rattle.aprs_booktext.specs.TextFault.{most_ahead}
+use Rattle.aprs_booktext.specs.BookAnswers.{ReadsBook, IsAnswerFor}
+use Rattle.aprs_booktext.specs.Fault.{ending_cause}
 use Rattle.aprs_booktext.specs.Reader.{EndsIn, IsFault, IsOfText}
 use Rattle.aprs_booktext.specs.Reading.{Got, IsAnswered}
 use Rattle.aprs_booktext.specs.declared.fault.BookFault.{BookFault}
 use Rattle.aprs_booktext.proofs.Asking.{Asks-end, Asks-fault, Takes-end, Takes-fault}
+use Rattle.aprs_booktext.proofs.SameFaults.{first_is, memory_is}
 
 pub Got-none : (P : List ℕ → Type 0) (head : List ℕ) (old : Option (List ℕ)) (limit left : ℕ)
     → P head → length head + left ≡ limit → Got P head old old limit left
@@ -131,27 +134,27 @@ module _ (P : List ℕ → Type 0) (head : List ℕ) (old now : Option (List ℕ
         Takes-end (limit - length head) input after e r is (taken e input y after took gets one)
 
 -- what was got is read so
-pub Reads-got : (old after : Option (List ℕ)) (limit : ℕ) (head got : List ℕ) (e : Ending)
+pub ReadsBook-got : (old after : Option (List ℕ)) (limit : ℕ) (head got : List ℕ) (e : Ending)
     (r : Result BookValue BookFault) → IfSome old
     (λ input. Gets limit (head ++ input) after (head ++ got) e)
-    → ReadsSo r (head ++ got) e → IfSome old (λ input. Reads limit head input after r)
-Reads-got None after limit head got e r gets reads = tt
-Reads-got (Some input) after limit head got e r gets reads =
+    → IsAnswerFor r (head ++ got) e → IfSome old (λ input. ReadsBook limit head input after r)
+ReadsBook-got None after limit head got e r gets reads = tt
+ReadsBook-got (Some input) after limit head got e r gets reads =
     record { got = got; ending = e; gets = gets; reads = reads }
 
 pub fault_reads : (f : BookFault) (t : List ℕ) (e : Ending) → IsFault most_ahead f t
-    → ReadsSo (Err f) t e
+    → IsAnswerFor (Err f) t e
 fault_reads f t e h = elim h [
-  | inl m ↦ inl m
-  | inr first ↦ inr (first e)
+  | inl m ↦ memory_is t e f m
+  | inr first ↦ first_is t e f (first e)
 ]
 
 -- a fault in what was got
-pub Reads-fault : (f : BookFault) (head : List ℕ) (old now : Option (List ℕ)) (limit left : ℕ)
+pub ReadsBook-fault : (f : BookFault) (head : List ℕ) (old now : Option (List ℕ)) (limit left : ℕ)
     → Got (IsFault most_ahead f) head old now limit left
-    → IfSome old (λ input. Reads limit head input now (Err f))
-Reads-fault f head old now limit left p =
-    Reads-got old now limit head p.got ending.Read (Err f)
+    → IfSome old (λ input. ReadsBook limit head input now (Err f))
+ReadsBook-fault f head old now limit left p =
+    ReadsBook-got old now limit head p.got ending.Read (Err f)
     (Gets-read (IsFault most_ahead f) head old now limit left p)
     (fault_reads f (head ++ p.got) ending.Read p.stands)
 
@@ -164,7 +167,7 @@ module _ {R : Type 0} (remaining : R → Option (List ℕ)) (limit : ℕ) (head 
       → Got (IsFault most_ahead f) head (remaining a.device) (remaining b.device) limit left
       → IsAnswered remaining limit head (Err f) a b
   IsAnswered-fault f of p = record {
-    reads = Reads-fault f head _ _ limit left p;
+    reads = ReadsBook-fault f head _ _ limit left p;
     calls = Asks-fault calls f of;
     over = Takes-fault _ _ _ f of (takes_got _ head _ _ limit left p);
   }
@@ -175,10 +178,10 @@ module _ {R : Type 0} (remaining : R → Option (List ℕ)) (limit : ℕ) (head 
       → Got P head (remaining a.device) (remaining b.device) limit left → EndsIn way r
       → EndsHere way left (remaining b.device) (remaining c.device)
       → (way ≡ ending.TooLong → TakesOne (remaining b.device) (remaining c.device))
-      → Calls (last_of way) b c → ((t : List ℕ) → P t → ReadsSo r t way)
+      → Calls (last_of_ending way) b c → ((t : List ℕ) → P t → IsAnswerFor r t way)
       → IsAnswered remaining limit head r a c
   IsAnswered-end P c way r p is end over last reads = record {
-    reads = Reads-got _ _ limit head p.got way r
+    reads = ReadsBook-got _ _ limit head p.got way r
         (Gets-here P head _ _ limit left p way _ end) (reads _ p.stands);
     calls = Asks-end calls way r is last;
     over = Takes-here P head _ _ limit left p way _ r is end over;

@@ -2,8 +2,10 @@
 use Rattle.std.proofs.Common.{◌≡◌, ℕ, ◌+◌, ◌<◌, ◌^◌, true, false, List, [], ◌∷◌, ◌++◌, length, map, inl, inr, refl, ap, ◌∙◌, append-nil, arith}
 use Rattle.std.proofs.lemmas.List.Concat.{flat_map-append}
 use Rattle.aprs_laws.specs.Row.{Row}
-use Rattle.aprs_booktext.specs.Reader.{StandsAfter, IsFault, is_done}
-use Rattle.aprs_booktext.specs.Text.{row_line, end_line, lines_of, text_of_lines, ended_by_lf}
+use Rattle.aprs_booktext.specs.Reader.{HoldsIn, IsFault, StandsAfter, gap_in, is_done}
+use Rattle.aprs_booktext.specs.Text.{row_line, end_line, lines_of}
+use Rattle.aprs_booktext.specs.RowLines.{ended_by_lf}
+use Rattle.aprs_log.specs.LogText.{text_of_lines}
 use Rattle.aprs_booktext.specs.Version.{form_of, header_of}
 use Rattle.aprs_booktext.specs.declared.fault.BookCause.TheVariants as cause
 use Rattle.aprs_booktext.specs.declared.reader.Stage.{Stage}
@@ -11,6 +13,8 @@ use Rattle.aprs_booktext.specs.declared.reader.Stage.TheVariants.{Header, Rows, 
 use Rattle.aprs_booktext.specs.declared.version.Version.{Version}
 use Rattle.aprs_booktext.proofs.OneText.{end_lacks}
 use Rattle.aprs_booktext.proofs.Standing.{number_is}
+use Rattle.aprs_laws.specs.BookValue.{IsSoundBook}
+use Rattle.aprs_booktext.proofs.BookRows.{rows_sound}
 
 module _ (v : Version) (rows : List Row) where
   -- its lines but the last
@@ -38,6 +42,14 @@ done_refused (Done v) rows line t done few s = inl (record {
       ∙ append-nil (text_of_lines (lines_of v rows)) ∙ last_apart v rows;
   one = end_lacks (length rows) few;
   near = omega arith;
-  begins = inr (v, rows, s.holds.0, refl);
+  begins = inr (v, rows, record { rows_are = s.holds.0; lines_are = refl });
   number = number_is (Rows v) rows;
 })
+
+-- where the last line was read, the rows are a book's under the gap that the header says
+pub done_sound : (stage : Stage) (rows : List Row) (line : List ℕ) → is_done stage ≡ true
+    → HoldsIn stage rows line → IsSoundBook (record { gap = gap_in stage; rows = rows })
+done_sound Header rows line done h = absurd (let f : false ≡ true = done in cc)
+done_sound (Rows v) rows line done h = absurd (let f : false ≡ true = done in cc)
+done_sound (Done v) rows line done h =
+    record { range = h.0.version; sound = rows_sound v rows h.0 }

@@ -1,5 +1,6 @@
 pub mod Accepting
 pub mod Asking
+pub mod BookRows
 pub mod Cuts
 pub mod Deciding
 pub mod Digits
@@ -9,7 +10,10 @@ pub mod Inputs
 pub mod LastLines
 pub mod OneFault
 pub mod OneText
+pub mod Requirements
 pub mod RowReading
+pub mod SameFaults
 pub mod TextParts
 pub mod Written
 pub mod Versions
+pub mod Worked

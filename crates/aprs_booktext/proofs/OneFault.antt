@@ -16,7 +16,8 @@ use Rattle.aprs_laws.specs.declared.row_cause.RowCause.TheVariants as row
 use Rattle.aprs_booktext.specs.FirstFault.{AmongRows, EndFault, FaultAfter, FirstFault, HasNoFrame, HeaderFault, IsCut, IsRefused, IsWrong, LineFault, PastEnd, is_end}
 use Rattle.aprs_booktext.specs.Fault.{book_cause_of}
 use Rattle.aprs_booktext.specs.Lines.{Lacks}
-use Rattle.aprs_booktext.specs.Text.{row_line, end_line, lines_of, text_of_lines, IsSpelled, IsBookRow, IsBookRows}
+use Rattle.aprs_booktext.specs.Text.{row_line, end_line, lines_of, IsSpelled, IsBookRow, IsBookRows}
+use Rattle.aprs_log.specs.LogText.{text_of_lines}
 use Rattle.aprs_booktext.specs.Version.{form_of, gap_of, header_of, IsVersion}
 use Rattle.aprs_booktext.specs.declared.fault.BookCause.{BookCause}
 use Rattle.aprs_booktext.specs.declared.fault.BookCause.TheVariants as cause
@@ -25,6 +26,7 @@ use Rattle.aprs_booktext.specs.declared.version.Version.{Version}
 use Rattle.aprs_booktext.proofs.Accepting.{lines_few}
 use Rattle.aprs_booktext.proofs.OneText.{All-middle, end_is_row, end_lacks, has_line, line_first, row_lacks, same_line, same_row, wrong_end, wrong_row}
 use Rattle.aprs_booktext.proofs.Versions.{header_lacks, headers_differ}
+use Rattle.aprs_booktext.proofs.BookRows.{rows_sound}
 
 -- ---- a line is wrong in one way
 
@@ -358,7 +360,8 @@ wrong_on v a b line rest tail e c is on text one h = elim h [
       = (same_line 10 w.line w.more line tail w.one one (sym w.is ∙ text)).0 ∙ on.line_is in
       wrong_row gap form a on.more on.row_is c
       (All-middle (IsBookRow form) a on.row_is on.more (subst (All (IsBookRow form)) on.is is.each))
-      (subst (Sound gap) on.is is.sound) (subst (λ l. IsWrong gap form a l c) same w.holds)
+      (subst (Sound gap) on.is (rows_sound v b is))
+      (subst (λ l. IsWrong gap form a l c) same w.holds)
 ]
 
 wrong_at_end : (v : Version) (a b : List Row) (line rest tail : List ℕ) (e : Ending) (c : BookCause)

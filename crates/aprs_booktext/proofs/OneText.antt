@@ -9,7 +9,8 @@ use Rattle.std.proofs.lemmas.List.Concat.{flat_map-append}
 use Rattle.hex.specs.Hex.{encode_lower, decode_of}
 use Rattle.hex.proofs.HexLemmas.{decode_of-encode_lower}
 use Rattle.aprs_ax25.specs.UiFrame.{IsUiFrame}
-use Rattle.aprs_log.specs.Moment.{moment_in, moment_text_in}
+use Rattle.aprs_log.specs.Moment.{moment_text_in, IsWritable}
+use Rattle.aprs_log.specs.MomentReading.{moment_in}
 use Rattle.aprs_log.specs.declared.moment_form.MomentForm.{MomentForm}
 use Rattle.aprs_io.specs.declared.input.Ending.{Ending}
 use Rattle.aprs_io.specs.declared.input.Ending.TheVariants as ending
@@ -22,9 +23,12 @@ use Rattle.aprs_rows.specs.Refusal.{refusal}
 use Rattle.aprs_book.specs.Shown.{row_of}
 use Rattle.aprs_laws.specs.declared.row_cause.RowCause.{RowCause}
 use Rattle.aprs_rows.proofs.Refusals.{none_exactly}
-use Rattle.aprs_booktext.specs.FirstFault.{EndFault, FaultAfter, FirstFault, HasLine, HeaderFault, IsCut, IsRefused, IsWrong, LineFault, ending_cause}
+use Rattle.aprs_booktext.specs.FirstFault.{EndFault, FaultAfter, FirstFault, HasLine, HeaderFault, IsCut, IsRefused, IsWrong, LineFault}
 use Rattle.aprs_booktext.specs.Lines.{Lacks, pieces}
-use Rattle.aprs_booktext.specs.Text.{fields_of, row_line, end_line, text_of_lines, ended_by_lf, book_text, IsSpelled, IsBookRow, IsBookRows, IsWritable, written_text, written_version}
+use Rattle.aprs_booktext.specs.Text.{fields_of, row_line, end_line, book_text, IsSpelled, IsBookRow, IsBookRows, written_text, written_version}
+use Rattle.aprs_booktext.specs.RowLines.{ended_by_lf}
+use Rattle.aprs_log.specs.LogText.{text_of_lines}
+use Rattle.aprs_booktext.specs.Fault.{ending_cause}
 use Rattle.aprs_booktext.specs.Version.{form_of, gap_of, header_of, IsVersion}
 use Rattle.aprs_booktext.specs.declared.fault.BookCause.{BookCause}
 use Rattle.aprs_booktext.specs.declared.fault.BookCause.TheVariants as cause
@@ -33,6 +37,7 @@ use Rattle.aprs_booktext.specs.declared.version.Version.{Version}
 use Rattle.aprs_booktext.proofs.Cuts.{lacks_joined}
 use Rattle.aprs_booktext.proofs.Versions.{decimal_lacks, header_lacks, headers_differ}
 use Rattle.aprs_booktext.proofs.Spellings.{moment_read, names_pieces, row_fields_lack, row_pieces}
+use Rattle.aprs_booktext.proofs.BookRows.{rows_sound}
 
 -- ---- lines
 
@@ -352,7 +357,7 @@ module _ (v : Version) (rows : List Row) (is : IsBookRows v rows) (small : lengt
         (sym (append_assoc w.line (10 ∷ w.more) more) ∙ ap (λ l. l ++ more) (sym w.is) ∙ t
         ∙ row_lines_cons (form_of v) x tail (length rows))).0 in
         wrong_row (millis_of (gap_of v)) (form_of v) prefix tail x c book
-        (subst (Sound (millis_of (gap_of v))) r is.sound)
+        (subst (Sound (millis_of (gap_of v))) r (rows_sound v rows is))
         (subst (λ l. IsWrong (millis_of (gap_of v)) (form_of v) prefix l c) line w.holds)
 
     wrong_last : rows ≡ prefix → rest ++ more ≡ row_lines (form_of v) [] (length rows)

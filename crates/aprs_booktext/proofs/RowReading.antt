@@ -8,7 +8,7 @@ use Rattle.hex.specs.Hex.{encode_lower}
 use Rattle.aprs_ax25.specs.FrameFault.{frame_of}
 use Rattle.aprs_ax25.proofs.UiFrames.{frame_of-is, is-frame_of}
 use Rattle.aprs_log.specs.Clock.{form_size}
-use Rattle.aprs_log.specs.Moment.{moment_text_in}
+use Rattle.aprs_log.specs.Moment.{moment_text_in, IsWritable}
 use Rattle.aprs_log.specs.declared.moment_form.MomentForm.{MomentForm}
 use Rattle.aprs_log.specs.declared.moment_form.MomentForm.TheVariants.{Seconds, Millis}
 use Rattle.aprs_log.specs.Receiver.{IsName}
@@ -17,7 +17,7 @@ use Rattle.aprs_rows.specs.Names.{row_of_text}
 use Rattle.aprs_booktext.specs.Lines.{Lacks, pieces}
 use Rattle.aprs_booktext.specs.FirstFault.{HasNoFrame}
 use Rattle.aprs_booktext.specs.RowFields.{SpellsBytes, SpellsFrame, IsWrongFrame, IsWrongRow}
-use Rattle.aprs_booktext.specs.Text.{row_line, IsSpelled, IsBookRow, IsWritable}
+use Rattle.aprs_booktext.specs.Text.{row_line, IsSpelled, IsBookRow}
 use Rattle.aprs_booktext.specs.declared.fault.BookCause.{BookCause}
 use Rattle.aprs_booktext.specs.declared.fault.BookCause.TheVariants as cause
 use Rattle.aprs_booktext.proofs.Cuts.{joined_pieces, pieces_some}

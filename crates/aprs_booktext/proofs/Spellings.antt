@@ -6,16 +6,18 @@ use Rattle.std.proofs.lemmas.Bool.{and_parts}
 use Rattle.std.proofs.lemmas.Bool.Decides.{nat_tests}
 use Rattle.std.proofs.lemmas.List.Elements.{All-nil, All-push, recursion_from_All}
 use Rattle.hex.specs.Hex.{encode_lower, encode_with, lower_digits, IsBytes}
-use Rattle.aprs_log.specs.Moment.{moment_in, moment_text_in, MomentTextIn, civil_after, civil_text, fraction_text, Civil, two_digits}
+use Rattle.aprs_log.specs.Moment.{moment_text_in, fraction_text, two_digits, IsWritable}
+use Rattle.aprs_log.specs.CivilMoment.{MomentTextIn, civil_after}
+use Rattle.aprs_log.specs.MomentReading.{moment_in, civil_text, Civil}
 use Rattle.aprs_log.specs.declared.moment_form.MomentForm.{MomentForm}
 use Rattle.aprs_log.specs.declared.moment_form.MomentForm.TheVariants.{Seconds, Millis}
 use Rattle.aprs_log.specs.Receiver.{IsName, is_name_byte}
-use Rattle.aprs_log.proofs.Moments.{text-moment_in, one_text, moment_text-is, millis_kept}
+use Rattle.aprs_log.proofs.Moments.{text-moment_in, one_text, moment_text-is, millis_kept, same_text}
 use Rattle.aprs_laws.specs.Row.{Row, last_of}
 use Rattle.aprs_booktext.specs.Lines.{Lacks, pieces}
 use Rattle.aprs_ax25.specs.FrameFault.{frame_of, frame_fault, unless_fault}
 use Rattle.aprs_ax25.specs.declared.fault.FrameFault.{FrameFault}
-use Rattle.aprs_booktext.specs.Text.{fields_of, row_line, IsSpelled, IsWritable}
+use Rattle.aprs_booktext.specs.Text.{fields_of, row_line, IsSpelled}
 use Rattle.aprs_booktext.proofs.Cuts.{lacks_joined, pieces_joined, joined_pieces}
 
 -- ---- moments
@@ -75,8 +77,8 @@ high_civil form c n =
     high_two (c.year / 100) (two_digits (c.year % 100) ++ month) (high_two (c.year % 100) month o)
 
 pub high_moment : (form : MomentForm) (m : ℕ) → High (moment_text_in form m)
-unfolding moment_text_in
-high_moment form m = high_civil form (civil_after (m / 1000)) (m % 1000)
+high_moment form m =
+    subst High (sym (same_text form m)) (high_civil form (civil_after (m / 1000)) (m % 1000))
 
 name_byte : (b : ℕ) → is_name_byte b ≡ true → 45 ≤ b
 name_byte b h = grind (arith, nat_tests)

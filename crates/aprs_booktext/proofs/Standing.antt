@@ -16,10 +16,14 @@ use Rattle.aprs_booktext.specs.Lines.{Lacks}
 use Rattle.aprs_booktext.proofs.Cuts.{lacks_append}
 use Rattle.aprs_rows.specs.Refusal.{refusal}
 use Rattle.aprs_rows.proofs.Refusals.{none_exactly}
-use Rattle.aprs_booktext.specs.FirstFault.{FirstFault, ending_cause, ReadsSo}
+use Rattle.aprs_booktext.specs.FirstFault.{FirstFault}
 use Rattle.aprs_booktext.specs.Reader.{HoldsIn, StandsAfter, IsFault, IsJudgedIn, HasRows, HasRowsSo, gap_in, is_done, line_number, lines_read, may_end}
 use Rattle.aprs_booktext.specs.StoredRows.{rows_after}
-use Rattle.aprs_booktext.specs.Text.{row_line, end_line, lines_of, text_of_lines, ended_by_lf, book_text, IsBookRow, IsBookRows}
+use Rattle.aprs_booktext.specs.Text.{row_line, end_line, lines_of, book_text, IsBookRow, IsBookRows}
+use Rattle.aprs_booktext.specs.RowLines.{ended_by_lf}
+use Rattle.aprs_log.specs.LogText.{text_of_lines}
+use Rattle.aprs_booktext.specs.BookAnswers.{IsAnswerFor}
+use Rattle.aprs_booktext.specs.Fault.{ending_cause}
 use Rattle.aprs_booktext.specs.Version.{form_of, gap_of, header_of, IsVersion}
 use Rattle.aprs_booktext.specs.declared.fault.BookCause.{BookCause}
 use Rattle.aprs_booktext.specs.declared.fault.BookCause.TheVariants as cause
@@ -27,6 +31,7 @@ use Rattle.aprs_booktext.specs.declared.fault.BookFault.{BookFault}
 use Rattle.aprs_booktext.specs.declared.reader.Stage.{Stage}
 use Rattle.aprs_booktext.specs.declared.reader.Stage.TheVariants.{Header, Rows, Done}
 use Rattle.aprs_booktext.specs.declared.version.Version.{Version}
+use Rattle.aprs_booktext.proofs.BookRows.{rows_are, rows_sound}
 
 -- ---- rows of a text, in a store
 
@@ -73,16 +78,9 @@ one_more ls line t e =
 
 -- no rows are a book's
 pub no_rows : (v : Version) → IsVersion v → IsBookRows v []
-no_rows v h = record {
-  version = h;
-  sound = record {
-    ascending = tt;
-    apart = tt;
-    each =
-        λ x h. absurd h;
-  };
-  each = All-nil (IsBookRow (form_of v));
-}
+no_rows v h = rows_are v [] h
+    (record { ascending = tt; apart = tt; each = λ x h. absurd h })
+    (All-nil (IsBookRow (form_of v)))
 
 ended_header : (v : Version) (old new : List Row) (line t : List ℕ) → IsVersion v
     → line ≡ header_of v → new ≡ old → StandsAfter Header old line t
@@ -113,14 +111,11 @@ ended_row v old new x line t is line_is grown free s =
       text_is = one_more (header_of v ∷ map (row_line (form_of v)) old) line t s.text_is
           ∙ ap (λ (ls : List (List ℕ)). text_of_lines ls ++ []) lines;
       one = tt;
-      holds = record {
-        version = s.holds.version;
-        sound = subst (Sound (millis_of (gap_of v))) (sym grown)
-            ((none_exactly (millis_of (gap_of v)) old x s.holds.sound).0 free);
-        each =
-            subst (All (IsBookRow (form_of v))) (sym grown)
-            (All-push (IsBookRow (form_of v)) old x s.holds.each is);
-      };
+      holds = rows_are v new s.holds.version
+          (subst (Sound (millis_of (gap_of v))) (sym grown)
+          ((none_exactly (millis_of (gap_of v)) old x (rows_sound v old s.holds)).0 free))
+          (subst (All (IsBookRow (form_of v))) (sym grown)
+          (All-push (IsBookRow (form_of v)) old x s.holds.each is));
     }
 
 ended_last : (v : Version) (old new : List Row) (line t : List ℕ) → line ≡ end_line (length old)
@@ -191,7 +186,7 @@ ended_fault (Rows v) old new line t more c j s = elim j.0 [
     whole = and_more (Rows v) old line t (10 ∷ more) s;
     one = s.one;
     near = omega arith;
-    begins = inr (v, old, s.holds, refl);
+    begins = inr (v, old, record { rows_are = s.holds; lines_are = refl });
     number = ap (λ (rows : List Row). length rows + 2) j.1 ∙ number_is (Rows v) old;
   })
   | inr w ↦ inr (λ e. record {
@@ -251,7 +246,7 @@ held_fault (Rows v) rows line t bytes more going s = inl (record {
   whole = append_assoc t bytes more ∙ and_more (Rows v) rows line t (bytes ++ more) s;
   one = s.one;
   near = omega (arith, length-append bytes more);
-  begins = inr (v, rows, s.holds, refl);
+  begins = inr (v, rows, record { rows_are = s.holds; lines_are = refl });
   number = number_is (Rows v) rows;
 })
 held_fault (Done v) rows line t bytes more going s = absurd (let f : true ≡ false = going in cc)
@@ -388,7 +383,7 @@ ended_whole (Done v) rows line t e may s = record {
 
 pub ended_read : (stage : Stage) (rows : List Row) (line t : List ℕ) (e : Ending)
     → may_end stage e ≡ true → StandsAfter stage rows line t
-    → ReadsSo (Ok (record { gap = gap_in stage; rows = rows })) t e
+    → IsAnswerFor (Ok (record { gap = gap_in stage; rows = rows })) t e
 ended_read stage rows line t e may s =
     let w = ended_whole stage rows line t e may s in
     (w.version, ap gap_in w.stage_is, w.text_is, w.is, w.ended)

@@ -13,8 +13,8 @@ use Rattle.aprs_log.specs.declared.moment_form.MomentForm.TheVariants.{Millis}
 use Rattle.aprs_laws.specs.BookValue.{BookValue}
 use Rattle.aprs_laws.specs.Row.{Row, last_of}
 use Rattle.aprs_book.specs.Shown.{row_of}
-use Rattle.aprs_booktext.specs.RowLines.{line_and_lf}
-use Rattle.aprs_booktext.specs.Text.{row_line, end_line, ended_by_lf, written_text}
+use Rattle.aprs_booktext.specs.RowLines.{line_and_lf, ended_by_lf}
+use Rattle.aprs_booktext.specs.Text.{row_line, end_line, written_text}
 use Rattle.aprs_booktext.specs.Version.{header_of}
 use Rattle.aprs_booktext.specs.declared.version.Version.TheVariants.{Three}
 

@@ -7,11 +7,13 @@ use Rattle.std.proofs.lemmas.Bool.Decides.{nat_tests}
 use Rattle.std.proofs.lemmas.Fmt.{decimal_by_steps, decimal_injective, length-decimal-le}
 use Rattle.std.proofs.lemmas.Slice.Eq.{bytes_eq-Decides}
 use Rattle.aprs_laws.specs.Gap.{IsGap, millis_of}
-use Rattle.aprs_booktext.specs.Lines.{is_byte, Lacks}
+use Rattle.aprs_booktext.specs.Lines.{Lacks}
+use Rattle.aprs_io.specs.Cut.{is_byte}
 use Rattle.aprs_booktext.specs.Version.{gap_of, header_of, IsVersion}
 use Rattle.aprs_booktext.specs.declared.version.Version.{Version}
 use Rattle.aprs_booktext.specs.declared.version.Version.TheVariants.{One, Two, Three}
 use Rattle.aprs_booktext.proofs.Cuts.{lacks_append}
+use Rattle.aprs_laws.specs.Gap.{standard_gap}
 
 -- ---- no number has an LF
 
@@ -99,13 +101,11 @@ no_header line a b c (Three g) h = c g h
 
 -- ---- gaps
 
-pub range : (v : Version) → IsVersion v → IsGap (gap_of v)
-range One h = (omega arith, omega arith)
-range Two h = (omega arith, omega arith)
-range (Three g) h = h
+pub standard_range : IsGap standard_gap
+standard_range = (omega arith, omega arith)
 
 pub some_millis : (v : Version) → IsVersion v → 0 < millis_of (gap_of v)
-some_millis v h = let r = (range v h).0 in omega (arith, r)
+some_millis v h = omega (arith, h.0)
 
 -- a gap has four digits at most
 pub few_digits : (g : ℕ) (bytes text : List ℕ) → IsGap g → bytes ≡ text → text ≡ decimal g

@@ -1,9 +1,9 @@
 -- Rows that were written can be read.
-use Rattle.std.proofs.Common.{◌≡◌, ℕ, ◌+◌, ◌<◌, List, [], ◌∷◌, ◌++◌, length, get_or, take, drop, Option, Result, Ok, Err, inl, refl, sym, ap, ◌∙◌, subst, append_assoc, append-nil, arith}
+use Rattle.std.proofs.Common.{◌≡◌, ℕ, ◌+◌, ◌<◌, List, [], ◌∷◌, ◌++◌, length, get_or, take, Option, Result, Ok, Err, inl, refl, sym, ap, ◌∙◌, subst, append_assoc, append-nil, arith}
 use Rattle.std.specs.Prelude.{All}
 use Rattle.std.specs.List.{flat_map}
 use Rattle.std.specs.Result.{IsErr}
-use Rattle.std.proofs.lemmas.List.{drop_more, flat_map_more, take_more}
+use Rattle.std.proofs.lemmas.List.{flat_map_more, take_more}
 use Rattle.std.proofs.lemmas.List.Concat.{flat_map-append}
 use Rattle.std.proofs.lemmas.List.Elements.{All-nil, All-push}
 use Rattle.aprs_io.specs.declared.device.WriteFault.{WriteFault}
@@ -19,6 +19,7 @@ use Rattle.aprs_laws.specs.Sound.{Sound}
 use Rattle.aprs_laws.proofs.Lists.{in_right}
 use Rattle.aprs_booktext.specs.RowLines.{line_and_lf}
 use Rattle.aprs_booktext.specs.Text.{IsBookRow, IsBookRows, written_version}
+use Rattle.aprs_booktext.proofs.BookRows.{rows_are}
 
 -- one name more
 pub names_more : (names : List (List ℕ)) (i : ℕ) (name : List ℕ) → i < length names
@@ -27,11 +28,6 @@ pub names_more : (names : List (List ℕ)) (i : ℕ) (name : List ℕ) → i < l
 names_more names i name lt is h n =
     subst (All IsName) (ap (λ (y : List ℕ). take i names ++ y ∷ []) is
     ∙ sym (take_more names i name lt)) (All-push IsName (take i names) name h n)
-
--- what is left of a list of which one is next
-pub rest_next : {X : Type 0} (xs : List X) (i : ℕ) (x : X) → i < length xs → x ≡ get_or xs i x
-    → drop i xs ≡ x ∷ drop (i + 1) xs
-rest_next xs i x lt is = drop_more xs i x lt ∙ ap (λ y. y ∷ drop (i + 1) xs) (sym is)
 
 some_of : (x : List ℕ) (xs : List (List ℕ)) → x ∈ xs → 0 < length xs
 some_of x [] h = absurd h
@@ -96,4 +92,4 @@ module _ {W : Type 0} {contents : W → Option (List ℕ)} where
 -- sound rows, each of which a line can spell, are those of a book
 pub book_rows : (book : BookValue) → IsSoundBook book → All (IsBookRow Millis) book.rows
     → IsBookRows (written_version book) book.rows
-book_rows book h each = record { version = h.range; sound = h.sound; each = each }
+book_rows book h each = rows_are (written_version book) book.rows h.range h.sound each

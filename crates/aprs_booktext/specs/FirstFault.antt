@@ -1,20 +1,22 @@
--- The first fault of a text that isn't that of a book. It lies right after the longest prefix of
--- lines that a book's text may begin with, in some version.
-use Rattle.std.specs.Prelude.{◌≡◌, ◌≢◌, ℕ, ◌+◌, ◌<◌, ◌≤◌, ◌==◌, ◌⊎◌, Bool, false, true, List, [], ◌∷◌, ◌++◌, length, map, codes, Option, Some, Result, Ok, Err}
+-- The first fault of a text that isn't that of a book, as it is found: right after the longest
+-- prefix of lines that a book's text may begin with, in some version. No public clause cites this
+-- module.
+use Rattle.std.specs.Prelude.{◌≡◌, ◌≢◌, ℕ, ◌+◌, ◌<◌, ◌≤◌, ◌==◌, ◌⊎◌, Bool, false, true, List, [], ◌∷◌, ◌++◌, length, map, codes, Some}
 use Rattle.std.specs.List.{starts_with}
 use Rattle.aprs_ax25.specs.UiFrame.{IsUiFrame}
-use Rattle.aprs_io.specs.Input.{Gets}
 use Rattle.aprs_io.specs.declared.input.Ending.{Ending}
 use Rattle.aprs_io.specs.declared.input.Ending.TheVariants as how
+use Rattle.aprs_log.specs.LogText.{text_of_lines}
 use Rattle.aprs_log.specs.declared.moment_form.MomentForm.{MomentForm}
-use Rattle.aprs_laws.specs.BookValue.{BookValue}
 use Rattle.aprs_laws.specs.Gap.{millis_of}
 use Rattle.aprs_laws.specs.Row.{Row}
 use Rattle.aprs_rows.specs.Refusal.{refusal}
 use Rattle.aprs_laws.specs.declared.row_cause.RowCause.{RowCause}
 use Rattle.aprs_laws.specs.declared.row_cause.RowCause.TheVariants as row
+use Rattle.aprs_booktext.specs.Fault.{ending_cause}
 use Rattle.aprs_booktext.specs.Lines.{Lacks}
-use Rattle.aprs_booktext.specs.Text.{row_line, end_line, lines_of, text_of_lines, book_of, book_text, IsSpelled, IsBookRow, IsBookRows}
+use Rattle.aprs_booktext.specs.Text.{row_line, end_line, lines_of, IsSpelled, IsBookRow, IsBookRows}
+use Rattle.aprs_booktext.specs.TextFault.{BeginBook}
 use Rattle.aprs_booktext.specs.Version.{form_of, gap_of, header_of, IsVersion}
 use Rattle.aprs_booktext.specs.declared.fault.BookCause.{BookCause}
 use Rattle.aprs_booktext.specs.declared.fault.BookCause.TheVariants as why
@@ -66,12 +68,6 @@ IsNoHeader line cause =
     ((version : Version) → IsVersion version → line ≢ header_of version) × (cause ≡ why.Header)
 
 -- ---- what is wrong with the rest of a text, after whole lines
-
--- the cause of a fault where a byte had to come and the input ended so
-abbrev pub ending_cause : Ending → BookCause
-ending_cause how.End = why.Ending
-ending_cause how.Read = why.Read
-ending_cause how.TooLong = why.TooLong
 
 -- The rest is a line that isn't finished: it has no LF, and the cause says how the input ended.
 abbrev pub IsCut : List ℕ → Ending → BookCause → Type 0
@@ -145,12 +141,6 @@ pub record FirstFault (text : List ℕ) (ending : Ending) (found : BookFault) : 
 
 -- ---- where an allocation failed
 
--- A book's text may begin with these lines, none of which is its last.
-abbrev pub BeginsBook : List (List ℕ) → Type 0
-BeginsBook lines = (lines ≡ [])
-    ⊎ ((version : Version) × (rows : List Row) × IsBookRows version rows
-    × (lines ≡ header_of version ∷ map (row_line (form_of version)) rows))
-
 -- An allocation failed in the line after these lines, when its prefix `line` was read and at most
 -- `most` bytes more of the text.
 pub record IsMemoryAt (most : ℕ) (text : List ℕ) (fault : BookFault) : Type 0 where
@@ -161,38 +151,5 @@ pub record IsMemoryAt (most : ℕ) (text : List ℕ) (fault : BookFault) : Type 
   pub whole : text ≡ text_of_lines lines ++ (line ++ more)
   pub one : Lacks 10 line
   pub near : length more ≤ most
-  pub begins : BeginsBook lines
+  pub begins : BeginBook lines
   pub number : fault.line ≡ length lines + 1
-
--- ---- how a text is read
-
--- how many bytes past the line that is read may have come when `Memory` is answered, at most
-abbrev pub most_ahead : ℕ
-most_ahead = 16384
-
--- A book is read where the text is that of its rows in some version of its gap, and the end came
--- after it. A fault is the text's first, or an allocation failed before it.
-abbrev pub ReadsSo : Result BookValue BookFault → List ℕ → Ending → Type 0
-ReadsSo (Ok book) text ending = (version : Version) × (book.gap ≡ gap_of version)
-    × (text ≡ book_text version book.rows) × IsBookRows version book.rows × (ending ≡ how.End)
-ReadsSo (Err fault) text ending = IsMemoryAt most_ahead text fault ⊎ FirstFault text ending fault
-
--- Of the input some bytes were got after its head, at most `limit` with it, and head and bytes are
--- read so.
-pub record Reads (limit : ℕ) (head input : List ℕ) (after : Option (List ℕ))
-    (answer : Result BookValue BookFault) : Type 0 where
-  pub got : List ℕ
-  pub ending : Ending
-  pub gets : Gets limit (head ++ input) after (head ++ got) ending
-  pub reads : ReadsSo answer (head ++ got) ending
-
--- The answer is this book, or an allocation failed.
-abbrev pub IsBookOrMemory : Result BookValue BookFault → BookValue → Type 0
-IsBookOrMemory (Ok found) book = found ≡ book
-IsBookOrMemory (Err fault) book = fault.cause ≡ why.Memory
-
--- The text of a book in any version is read, where it is short enough and no read failed.
-abbrev pub AcceptsBook : ℕ → List ℕ → Result BookValue BookFault → Type 0 → Type 0
-AcceptsBook limit text answer Failed = (version : Version) (rows : List Row)
-    → IsBookRows version rows → text ≡ book_text version rows → length text ≤ limit
-    → (Failed → ⊥) → IsBookOrMemory answer (book_of version rows)

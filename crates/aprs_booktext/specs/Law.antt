@@ -6,8 +6,10 @@ use Rattle.aprs_io.specs.declared.input.Ending.TheVariants as how
 use Rattle.aprs_log.specs.Reception.{Heard}
 use Rattle.aprs_laws.specs.BookValue.{BookValue, Holds}
 use Rattle.aprs_laws.specs.Row.{Row}
-use Rattle.aprs_booktext.specs.FirstFault.{FirstFault, IsBookOrMemory, ending_cause, Reads}
+use Rattle.aprs_booktext.specs.BookAnswers.{IsBookOrMemory, ReadsBook}
+use Rattle.aprs_booktext.specs.Fault.{ending_cause}
 use Rattle.aprs_booktext.specs.Text.{book_of, book_text, IsBookRow, IsBookRows, written_text, written_version}
+use Rattle.aprs_booktext.specs.TextFault.{HasBookFault}
 use Rattle.aprs_booktext.specs.Version.{form_of, gap_of, IsVersion}
 use Rattle.aprs_booktext.specs.declared.fault.BookCause.TheVariants as why
 use Rattle.aprs_booktext.specs.declared.fault.BookFault.{BookFault}
@@ -23,12 +25,12 @@ abbrev pub TellBooksApart : Type 0
 TellBooksApart = (a b : BookValue) → IsBookRows (written_version a) a.rows
     → IsBookRows (written_version b) b.rows → written_text a ≡ written_text b → a ≡ b
 
--- A fault in a prefix of a book's text is that a byte had to come after it; and where the input
--- ended there, the prefix isn't the whole text.
+-- A fault in a prefix of a book's text, but Memory, is that a byte had to come after it; and where
+-- the input ended there, the prefix isn't the whole text.
 abbrev pub AreCutShort : Type 0
 AreCutShort = (v : Version) (rows : List Row) → IsBookRows v rows → length rows < 2 ^ 64
     → (text more : List ℕ) (ending : Ending) (fault : BookFault) → text ++ more ≡ book_text v rows
-    → FirstFault text ending fault
+    → HasBookFault text ending fault → fault.cause ≢ why.Memory
     → (fault.cause ≡ ending_cause ending) × (ending ≡ how.End → more ≢ [])
 
 -- An input that is the text of a book gives that book, unless it is longer than the limit, a read
@@ -37,13 +39,14 @@ abbrev pub AreReadBack : Type 0
 AreReadBack = (v : Version) (rows : List Row) → IsBookRows v rows
     → (limit : ℕ) → limit ≤ most_input
     → length (book_text v rows) ≤ limit → (after : Option (List ℕ))
-    → (answer : Result BookValue BookFault) → Reads limit [] (book_text v rows) after answer
+    → (answer : Result BookValue BookFault) → ReadsBook limit [] (book_text v rows) after answer
     → IfErr answer (λ fault. fault.cause ≢ why.Read) → IsBookOrMemory answer (book_of v rows)
 
--- A text has at most one first fault, for each way of ending.
-abbrev pub HaveOneFaultAtMost : Type 0
-HaveOneFaultAtMost = (text : List ℕ) (ending : Ending) (f g : BookFault) → length text < 2 ^ 64
-    → FirstFault text ending f → FirstFault text ending g → f ≡ g
+-- A text has at most one fault but Memory, for each way of ending.
+abbrev pub HaveOneBookFault : Type 0
+HaveOneBookFault = (text : List ℕ) (ending : Ending) (f g : BookFault) → length text < 2 ^ 64
+    → HasBookFault text ending f → f.cause ≢ why.Memory
+    → HasBookFault text ending g → g.cause ≢ why.Memory → f ≡ g
 
 -- The text is that of a book in some version, and the end came after it.
 pub record IsBookText (text : List ℕ) (ending : Ending) : Type 0 where
@@ -53,15 +56,16 @@ pub record IsBookText (text : List ℕ) (ending : Ending) : Type 0 where
   pub text_is : text ≡ book_text version rows
   pub ended : ending ≡ how.End
 
--- A text that isn't the whole text of a book has a first fault.
+-- A text that isn't the whole text of a book has a fault that isn't Memory.
 abbrev pub HaveFaultOrBook : Type 0
 HaveFaultOrBook = (text : List ℕ) (ending : Ending)
-    → IsBookText text ending ⊎ ((fault : BookFault) × FirstFault text ending fault)
+    → IsBookText text ending
+    ⊎ ((fault : BookFault) × HasBookFault text ending fault × (fault.cause ≢ why.Memory))
 
--- A text that is the whole text of a book has no fault.
+-- A text that is the whole text of a book has no fault but Memory.
 abbrev pub BooksAreFaultless : Type 0
 BooksAreFaultless = (text : List ℕ) (ending : Ending) (fault : BookFault) → length text < 2 ^ 64
-    → IsBookText text ending → FirstFault text ending fault → ⊥
+    → IsBookText text ending → HasBookFault text ending fault → fault.cause ≡ why.Memory
 
 -- The text is that of the book of these receptions in some version, under its gap, and each row
 -- can be spelled in it.
@@ -90,4 +94,4 @@ pub record IsWrittenBack (book : BookValue) (text : List ℕ) : Type 0 where
 -- A book that was read of an input, with its head, is written back so.
 abbrev pub AreWrittenBack : Type 0
 AreWrittenBack = (limit : ℕ) (head input : List ℕ) (after : Option (List ℕ)) (book : BookValue)
-    → Reads limit head input after (Ok book) → IsWrittenBack book (head ++ input)
+    → ReadsBook limit head input after (Ok book) → IsWrittenBack book (head ++ input)

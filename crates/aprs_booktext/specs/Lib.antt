@@ -1,4 +1,6 @@
 pub mod Asking
+pub mod BookAnswers
+pub mod Examples
 pub mod Fault
 pub mod FirstFault
 pub mod Law
@@ -10,4 +12,5 @@ pub mod RowFields
 pub mod Seconds
 pub mod StoredRows
 pub mod Text
+pub mod TextFault
 pub mod Version

@@ -1,10 +1,7 @@
--- Texts in pieces.
-use Rattle.std.specs.Prelude.{◌≡◌, ℕ, ◌==◌, Bool, false, List}
+-- Texts in pieces. No public clause cites this module.
+use Rattle.std.specs.Prelude.{◌≡◌, ℕ, false, List}
 use Rattle.std.specs.List.{AllByRecursion, slice_split}
-
--- whether the byte is `stop`
-abbrev pub is_byte : ℕ → ℕ → Bool
-is_byte stop b = b == stop
+use Rattle.aprs_io.specs.Cut.{is_byte}
 
 -- No byte of the text is `stop`.
 abbrev pub Lacks : ℕ → List ℕ → Type 0

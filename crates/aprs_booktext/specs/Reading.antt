@@ -4,7 +4,7 @@ use Rattle.std.specs.Io.KnownBytes.{Consumes}
 use Rattle.aprs_io.specs.declared.device.Counted.{Counted}
 use Rattle.aprs_laws.specs.BookValue.{BookValue}
 use Rattle.aprs_booktext.specs.Asking.{Asks, Takes}
-use Rattle.aprs_booktext.specs.FirstFault.{Reads}
+use Rattle.aprs_booktext.specs.BookAnswers.{ReadsBook}
 use Rattle.aprs_booktext.specs.declared.fault.BookFault.{BookFault}
 
 -- What was got after the head is gone from the input, and P holds of both; so much less may be got.
@@ -20,7 +20,7 @@ pub record Got (P : List ℕ → Type 0) (head : List ℕ) (old now : Option (Li
 pub record IsAnswered {R : Type 0} (remaining : R → Option (List ℕ)) (limit : ℕ) (head : List ℕ)
     (answer : Result BookValue BookFault) (old new : Counted R) : Type 0 where
   pub reads : IfSome (remaining old.device)
-      (λ input. Reads limit head input (remaining new.device) answer)
+      (λ input. ReadsBook limit head input (remaining new.device) answer)
   pub calls : Asks answer old new
   pub over : IfSome (remaining old.device)
       (λ input. Takes answer (limit - length head) input (remaining new.device))

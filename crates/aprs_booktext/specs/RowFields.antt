@@ -1,5 +1,5 @@
 -- The fields of a row's line, as they are read. No public clause cites this module.
-use Rattle.std.specs.Prelude.{◌≡◌, ◌≢◌, ◌<◌, ◌≤◌, ◌⊎◌, ◌&&◌, Bool, nat_le, ℕ, List, length, Ok, IsErr}
+use Rattle.std.specs.Prelude.{◌≡◌, ◌≢◌, ◌<◌, ◌≤◌, ◌⊎◌, ℕ, List, length, Ok, IsErr}
 use Rattle.hex.specs.Hex.{encode_lower, IsBytes}
 use Rattle.aprs_ax25.specs.FrameFault.{frame_of}
 use Rattle.aprs_log.specs.declared.moment_form.MomentForm.{MomentForm}
@@ -14,10 +14,6 @@ pub record SpellsBytes (digits bytes : List ℕ) : Type 0 where
   pub digits_are : digits ≡ encode_lower bytes
   pub bytes_are : IsBytes bytes
   pub few : (0 < length bytes) × (length bytes ≤ most_frame_bytes)
-
--- whether a digit is a capital letter, `A` to `F`
-abbrev pub is_capital : ℕ → Bool
-is_capital digit = nat_le 65 digit && nat_le digit 70
 
 -- The digits spell the bytes of this frame.
 pub record SpellsFrame (digits frame : List ℕ) : Type 0 where

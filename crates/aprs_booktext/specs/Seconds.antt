@@ -1,6 +1,6 @@
 -- Texts of version 1, whose moments are written to the second.
-use Rattle.std.specs.Prelude.{◌≡◌, ℕ, ◌*◌, ◌≤◌, List, All, map, Result, IfOk}
-use Rattle.aprs_log.specs.Moment.{civil_after, civil_text, moment_text_in}
+use Rattle.std.specs.Prelude.{◌≡◌, ℕ, ◌*◌, ◌/◌, ◌%◌, ◌≤◌, List, ◌∷◌, ◌++◌, All, map, Result, IfOk}
+use Rattle.aprs_log.specs.Moment.{date_text, day_after, moment_text_in, time_text}
 use Rattle.aprs_log.specs.Reception.{Heard}
 use Rattle.aprs_log.specs.declared.moment_form.MomentForm.TheVariants.{Seconds}
 use Rattle.aprs_laws.specs.Book.{BookOf}
@@ -29,4 +29,5 @@ ReadsSeconds text answer = (S : List Heard) → IsTextInSeconds S text
 -- A moment of so many seconds is written as its date and its time of the day, without milliseconds.
 abbrev pub AreWrittenToTheSecond : Type 0
 AreWrittenToTheSecond = (s : ℕ) → s ≤ 4102444799
-    → moment_text_in Seconds (s * 1000) ≡ civil_text Seconds (civil_after s) 0
+    → moment_text_in Seconds (s * 1000)
+    ≡ date_text (day_after (s / 86400)) ++ 84 ∷ time_text Seconds (s % 86400 * 1000)

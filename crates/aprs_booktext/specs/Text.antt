@@ -1,15 +1,17 @@
 -- The one text of a book's rows in each version, and the text that a book is written as.
-use Rattle.std.specs.Prelude.{ℕ, ◌%◌, ◌<◌, ◌≤◌, List, [], ◌∷◌, ◌++◌, length, map, flat_map, codes, decimal, All}
+use Rattle.std.specs.Prelude.{ℕ, ◌<◌, ◌≤◌, List, [], ◌∷◌, ◌++◌, length, map, codes, decimal, All}
 use Rattle.std.specs.List.{join_with_byte}
 use Rattle.hex.specs.Hex.{encode_lower, IsBytes}
 use Rattle.aprs_ax25.specs.UiFrame.{IsUiFrame}
-use Rattle.aprs_log.specs.Moment.{moment_text_in, room_of}
+use Rattle.aprs_log.specs.LogText.{text_of_lines}
+use Rattle.aprs_log.specs.Moment.{IsWritable, moment_text_in}
 use Rattle.aprs_log.specs.declared.moment_form.MomentForm.{MomentForm}
 use Rattle.aprs_log.specs.Receiver.{IsName}
+use Rattle.aprs_log.specs.Reception.{Heard}
+use Rattle.aprs_laws.specs.Book.{BookOf}
 use Rattle.aprs_laws.specs.BookValue.{BookValue}
 use Rattle.aprs_laws.specs.Gap.{millis_of}
 use Rattle.aprs_laws.specs.Row.{Row, last_of}
-use Rattle.aprs_laws.specs.Sound.{Sound}
 use Rattle.aprs_booktext.specs.Version.{form_of, gap_of, header_of, IsVersion}
 use Rattle.aprs_booktext.specs.declared.version.Version.{Version}
 use Rattle.aprs_booktext.specs.declared.version.Version.TheVariants.{Three}
@@ -35,14 +37,6 @@ lines_of v rows = header_of v ∷ map (row_line (form_of v)) rows ++ end_line (l
 
 -- ---- the text
 
--- the line with its LF
-abbrev pub ended_by_lf : List ℕ → List ℕ
-ended_by_lf line = line ++ 10 ∷ []
-
--- all lines, each with its LF
-abbrev pub text_of_lines : List (List ℕ) → List ℕ
-text_of_lines lines = flat_map ended_by_lf lines
-
 -- the text of rows in a version
 abbrev pub book_text : Version → List Row → List ℕ
 book_text v rows = text_of_lines (lines_of v rows)
@@ -67,12 +61,6 @@ written_text book = book_text (written_version book) book.rows
 abbrev pub most_frame_bytes : ℕ
 most_frame_bytes = 328
 
--- The moment is before the year 2100 and can be written in this form: to the second, one of a whole
--- second.
-pub record IsWritable (form : MomentForm) (m : ℕ) : Type 0 where
-  pub in_range : m ≤ 4102444799999
-  pub whole : m % 1000 < room_of form
-
 -- The fields of a line can spell the row: its moments, its receivers, at least one, and its
 -- greatest reception, whose frame has at least one byte and at most 328.
 pub record IsSpelled (form : MomentForm) (x : Row) : Type 0 where
@@ -89,8 +77,9 @@ pub record IsBookRow (form : MomentForm) (x : Row) : Type 0 where
   pub spelled : IsSpelled form x
   pub frame : IsUiFrame x.greatest.frame
 
--- The rows are sound under the version's gap, and each can be spelled in its form.
+-- The rows are the book of some receptions under the version's gap, and each can be spelled in its
+-- form.
 pub record IsBookRows (v : Version) (rows : List Row) : Type 0 where
   pub version : IsVersion v
-  pub sound : Sound (millis_of (gap_of v)) rows
+  pub book : (S : List Heard) × BookOf (millis_of (gap_of v)) S rows
   pub each : All (IsBookRow (form_of v)) rows

@@ -6,12 +6,6 @@ use Rattle.aprs_laws.specs.Gap.{IsGap, standard_gap}
 use Rattle.aprs_booktext.specs.declared.version.Version.{Version}
 use Rattle.aprs_booktext.specs.declared.version.Version.TheVariants.{One, Two, Three}
 
--- The gap that a header names, if it does, is one that a book can have.
-abbrev pub IsVersion : Version → Type 0
-IsVersion One = Unit {0}
-IsVersion Two = Unit {0}
-IsVersion (Three gap) = IsGap gap
-
 -- the first line of a text of this version, without its LF
 abbrev pub header_of : Version → List ℕ
 header_of One = codes "APRSBOOK 1"
@@ -21,11 +15,13 @@ header_of (Three gap) = codes "APRSBOOK 3 " ++ decimal gap
 -- how its moments are written
 abbrev pub form_of : Version → MomentForm
 form_of One = Seconds
-form_of Two = Millis
-form_of (Three gap) = Millis
+form_of version = Millis
 
 -- the gap of its book, in seconds
 abbrev pub gap_of : Version → ℕ
-gap_of One = standard_gap
-gap_of Two = standard_gap
 gap_of (Three gap) = gap
+gap_of version = standard_gap
+
+-- Its gap is one that a book can have.
+abbrev pub IsVersion : Version → Type 0
+IsVersion version = IsGap (gap_of version)

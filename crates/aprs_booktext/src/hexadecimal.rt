@@ -1,7 +1,9 @@
 //! The bytes of a frame in lower case hexadecimal.
-ghost use Rattle.std.specs.Prelude.{◌≡◌, ◌↔◌, ◌*◌, ◌≤◌, length, ℕ, List, IsTrue, IfSome, IfNone};
-ghost use Rattle.std.specs.List.{list_any};
-ghost use Rattle.aprs_booktext.specs.RowFields.{SpellsBytes, is_capital};
+ghost use Rattle.std.specs.Prelude.{◌≡◌, ◌<◌, ℕ, List, [], length, IfSome, IfNone};
+ghost use Rattle.hex.specs.Hex.{IsBytes};
+ghost use Rattle.aprs_booktext.specs.RowFields.{SpellsBytes};
+
+use aprs_io::decode_lower_into;
 
 /// The most bytes of a frame.
 pub const MAX_FRAME: usize = 328;
@@ -17,23 +19,21 @@ pub fn decode_into<'r>(digits: &[u8], room: &'r mut [u8; MAX_FRAME]) -> Option<&
     if digits.len() > MAX_DIGITS {
         return None;
     }
-    let Some(count) = aprs_io::decode_into(digits, room) else {
+    let Some(count) = decode_lower_into(digits, room) else {
         return None;
     };
-    if count == 0 || has_capital(digits) {
-        return None;
-    }
-    Some(&room[..count])
+    some_bytes(&room[..count])
 }
 
-/// Whether a letter `A` to `F` is among the digits. There is no early end, so that many are looked
-/// at in one step of the processor.
-fn has_capital(digits: &[u8]) -> bool
-    ensures { result ≡ list_any is_capital digits.now }
+/// These bytes, if there are any.
+#[inline(always)]
+fn some_bytes(bytes: &[u8]) -> Option<&[u8]>
+    ensures some { IfSome result (λ same. (same.now ≡ bytes.now) × IsBytes bytes.now
+        × (0 < length bytes.now)) }
+    ensures none { IfNone result (bytes.now ≡ []) }
 {
-    let mut found = false;
-    'digits: for i in 0..digits.len() {
-        found |= digits[i].wrapping_sub(b'A') < 6;
+    if bytes.is_empty() {
+        return None;
     }
-    found
+    Some(bytes)
 }

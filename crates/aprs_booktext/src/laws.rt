@@ -1,5 +1,5 @@
 //! Laws over all rows. Their functions do nothing: what they ensure is the law.
-ghost use Rattle.aprs_booktext.specs.Law.{AreCutShort, AreOfSets, AreReadBack, AreWrittenBack, BooksAreFaultless, HaveFaultOrBook, HaveOneFaultAtMost, HaveOneText, TellBooksApart};
+ghost use Rattle.aprs_booktext.specs.Law.{AreCutShort, AreOfSets, AreReadBack, AreWrittenBack, BooksAreFaultless, HaveFaultOrBook, HaveOneBookFault, HaveOneText, TellBooksApart};
 ghost use Rattle.aprs_booktext.specs.Seconds.{AreWrittenToTheSecond};
 
 /// The text of a book's rows in a version, with its gap, is that of no other version, gap or rows,
@@ -21,7 +21,7 @@ pub fn written_books_are_read()
 /// whole text of a book and the end came after it: then it has none.
 pub fn each_text_has_one_fault_or_none()
     ensures some { HaveFaultOrBook }
-    ensures one { HaveOneFaultAtMost }
+    ensures one { HaveOneBookFault }
     ensures none { BooksAreFaultless }
 {}
 

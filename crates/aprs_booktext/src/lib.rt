@@ -3,17 +3,22 @@
 
 mod cut;
 mod end_line;
+mod example;
 mod fault;
 mod hexadecimal;
 mod laws;
 mod read;
 mod reader;
 mod row_line;
+mod row_room;
 mod scratch;
 mod version;
 mod write;
 mod write_transmissions;
 
+pub use example::{
+    last_lines_are_told_by_their_beginning, memory_is_refused_in_a_line, order_comes_before_span,
+};
 pub use fault::{BookCause, BookFault};
 pub use laws::{
     book_texts_are_of_sets, each_book_has_one_text, each_text_has_one_fault_or_none,

@@ -6,7 +6,7 @@ ghost use Rattle.aprs_io.specs.declared.device.Counted.{Counted as CountedValue}
 ghost use Rattle.aprs_laws.specs.BookValue.{IsSoundBook};
 ghost use Rattle.aprs_laws.specs.Row.{Row};
 ghost use Rattle.aprs_booktext.specs.Asking.{Asks, Takes};
-ghost use Rattle.aprs_booktext.specs.FirstFault.{AcceptsBook, Reads};
+ghost use Rattle.aprs_booktext.specs.BookAnswers.{AcceptsBook, ReadsBook};
 ghost use Rattle.aprs_booktext.specs.Reader.{gap_in, is_done, size_of, Stands};
 ghost use Rattle.aprs_booktext.specs.Reading.{Got, IsAnswered};
 ghost use Rattle.aprs_booktext.specs.Seconds.{ReadsSeconds};
@@ -42,7 +42,7 @@ pub fn read_book<R: Read, A: Allocator + Copy>(
     requires head { length head.now ≤ 8 }
     requires within { length head.now ≤ limit }
     ensures reads { IfSome (R.remaining (device_of source.old))
-        (λ input. Reads limit head.now input (R.remaining (device_of source.new)) result) }
+        (λ input. ReadsBook limit head.now input (R.remaining (device_of source.new)) result) }
     ensures accepts { IfSome (R.remaining (device_of source.old))
         (λ input. AcceptsBook limit (head.now ++ input) result
         (Rose (failures_of source.old) (failures_of source.new))) }
@@ -78,7 +78,7 @@ pub fn read_rows<R: Read, A: Allocator + Copy>(
     requires within { length head.now ≤ limit }
     ensures kept { OnOk result (store.new ≡ store.old ++ rows_after store.old store.new) }
     ensures reads { IfSome (R.remaining (device_of source.old))
-        (λ input. Reads limit head.now input (R.remaining (device_of source.new))
+        (λ input. ReadsBook limit head.now input (R.remaining (device_of source.new))
         (book_read result store.old store.new)) }
     ensures accepts { IfSome (R.remaining (device_of source.old))
         (λ input. AcceptsBook limit (head.now ++ input) (book_read result store.old store.new)

@@ -5,7 +5,8 @@ ghost use Rattle.aprs_laws.specs.Gap.{millis_of};
 ghost use Rattle.aprs_laws.specs.Row.{Row};
 ghost use Rattle.aprs_laws.specs.Sound.{IsSoundRow};
 ghost use Rattle.aprs_rows.specs.Refusal.{refusal};
-ghost use Rattle.aprs_booktext.specs.FirstFault.{ending_cause, ReadsSo};
+ghost use Rattle.aprs_booktext.specs.BookAnswers.{IsAnswerFor};
+ghost use Rattle.aprs_booktext.specs.Fault.{ending_cause};
 ghost use Rattle.aprs_booktext.specs.Lines.{Lacks};
 ghost use Rattle.aprs_booktext.specs.StoredRows.{book_read};
 ghost use Rattle.aprs_booktext.specs.Text.{end_line};
@@ -203,7 +204,7 @@ impl<A: Allocator + Copy> BookReader<A> {
     pub fn finish(&self, ending: Ending) -> Result<Gap, BookFault>
         requires { self.now.count ≤ most_input }
         ensures reads { (before store : List Row) (t : List ℕ) → Stands before self.now store t
-            → ReadsSo (book_read result before store) t ending }
+            → IsAnswerFor (book_read result before store) t ending }
         ensures ending { EndsIn ending result }
         ensures gap { IfOk result (λ gap. gap ≡ gap_in self.now.stage) }
     {

@@ -2,10 +2,10 @@
 ghost use Rattle.std.specs.Prelude.{◌≡◌, ◌≢◌, ◌↔◌, ◌≤◌, ◌⊎◌, ◌∷◌, ◌++◌, ℕ, List, length, All, IsTrue, IfOk, OnOk, IfErr, IfNone, IfSome};
 ghost use Rattle.aprs_log.specs.Clock.{form_size};
 ghost use Rattle.aprs_log.specs.Receiver.{IsName};
-ghost use Rattle.aprs_log.specs.Moment.{moment_text_in};
+ghost use Rattle.aprs_log.specs.Moment.{moment_text_in, IsWritable};
 ghost use Rattle.aprs_booktext.specs.Lines.{pieces};
 ghost use Rattle.aprs_booktext.specs.RowFields.{IsWrongFrame, IsWrongRow, SpellsFrame};
-ghost use Rattle.aprs_booktext.specs.Text.{row_line, IsBookRow, IsWritable};
+ghost use Rattle.aprs_booktext.specs.Text.{row_line, IsBookRow};
 
 use crate::cut::cut_near;
 use crate::fault::BookCause;

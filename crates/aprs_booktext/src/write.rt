@@ -5,21 +5,22 @@ ghost use Rattle.hex.specs.Hex.{encode_lower, IsBytes};
 ghost use Rattle.arrayvec.specs.ArrayVec.{array_vec_len};
 ghost use Rattle.aprs_ax25.specs.Frame.{FrameOf};
 ghost use Rattle.aprs_ax25.specs.FrameFault.{parts_of};
-ghost use Rattle.aprs_log.specs.Moment.{moment_text};
+ghost use Rattle.aprs_log.specs.Moment.{moment_text, IsWritable};
 ghost use Rattle.aprs_log.specs.Receiver.{IsName};
 ghost use Rattle.aprs_log.specs.declared.moment_form.MomentForm.TheVariants.{Millis};
 ghost use Rattle.aprs_io.specs.Device.{Sends};
 ghost use Rattle.aprs_io.specs.Outlet.{Puts};
-ghost use Rattle.aprs_booktext.specs.RowLines.{AreSpelled, line_and_lf};
-ghost use Rattle.aprs_booktext.specs.Text.{row_line, end_line, ended_by_lf, IsBookRow, IsBookRows, IsWritable, written_text, written_version};
+ghost use Rattle.aprs_booktext.specs.RowLines.{AreSpelled, line_and_lf, ended_by_lf};
+ghost use Rattle.aprs_booktext.specs.Text.{row_line, end_line, IsBookRow, IsBookRows, written_text, written_version};
 ghost use Rattle.aprs_booktext.specs.Version.{header_of};
 ghost use Rattle.aprs_booktext.specs.declared.version.Version.TheVariants.{Three};
 
 use crate::end_line::{END_LINE, end_line};
+use crate::row_room::RowRoom;
 use crate::version::{MAX_HEADER, Version};
 use aprs_book::{Book, Gap, Row};
 use aprs_io::{Counted, Outlet, WriteFault, encode_to, push_all, put};
-use aprs_log::{Moment, Receiver};
+use aprs_log::{Moment, MomentWriter, Receiver};
 use aprs_rows::RowView;
 use arrayvec::ArrayVec;
 use std::alloc::Allocator;
@@ -72,7 +73,7 @@ fn put_rows<W: Write, A: Allocator + Copy>(
     ensures puts { Puts W.contents result out.old out.new (flat_map line_and_lf book.now.rows) }
     ensures spelled { OnOk result (IsBookRows (written_version book.now) book.now.rows) }
 {
-    let mut room = [0; ROW_TAIL];
+    let mut room = RowRoom::new();
     for row in book.rows() {
         put_book_row(out, &mut room, &row)?;
     }
@@ -82,41 +83,41 @@ fn put_rows<W: Write, A: Allocator + Copy>(
 /// Puts the line of a book's row. The room is kept from row to row.
 fn put_book_row<W: Write>(
     out: &mut Outlet<'_, W>,
-    room: &mut [u8; ROW_TAIL],
+    room: &mut RowRoom,
     row: &Row<'_>,
 ) -> Result<(), WriteFault>
     ensures puts { Puts W.contents result out.old out.new (ended_by_lf (row_line Millis row.now)) }
     ensures spelled { OnOk result (0 < length row.now.receivers → IsBookRow Millis row.now) }
 {
-    out.put(&row_head(row.first, row.last))?;
+    out.put(&row_head(&mut room.moments, row.first, row.last))?;
     put_names(out, row.receivers)?;
-    out.put(row_tail(room, row.receiver.as_bytes(), row.frame.bytes()))
+    out.put(row_tail(&mut room.tail, row.receiver.as_bytes(), row.frame.bytes()))
 }
 
 /// Puts the line of a row in bytes. The room is kept from row to row.
 pub(crate) fn put_row<W: Write>(
     out: &mut Outlet<'_, W>,
-    room: &mut [u8; ROW_TAIL],
+    room: &mut RowRoom,
     row: &RowView<'_>,
 ) -> Result<(), WriteFault>
     ensures puts { Puts W.contents result out.old out.new (ended_by_lf (row_line Millis row.now)) }
     ensures spelled { OnOk result (0 < length row.now.receivers → IsBookRow Millis row.now) }
 {
-    out.put(&row_head(row.first(), row.last()))?;
+    out.put(&row_head(&mut room.moments, row.first(), row.last()))?;
     out.put(row.receivers())?;
-    out.put(row_tail(room, row.receiver(), row.frame()))
+    out.put(row_tail(&mut room.tail, row.receiver(), row.frame()))
 }
 
 /// The part before the receivers in a row's line.
-fn row_head(first: Moment, last: Moment) -> [u8; ROW_HEAD]
+fn row_head(moments: &mut MomentWriter, first: Moment, last: Moment) -> [u8; ROW_HEAD]
     ensures text { result
         ≡ codes "T " ++ moment_text first ++ 32 ∷ moment_text last ++ 32 ∷ [] }
     ensures moments { IsWritable Millis first × IsWritable Millis last }
 {
     let mut text = [b' '; ROW_HEAD];
     text[0] = b'T';
-    text[2..26].copy_from_slice(&first.text());
-    text[27..51].copy_from_slice(&last.text());
+    text[2..26].copy_from_slice(&moments.text(first));
+    text[27..51].copy_from_slice(&moments.text(last));
     text
 }
 

@@ -12,7 +12,7 @@ ghost use Rattle.aprs_command.specs.Arguments.{chosen_gap, widened_gap};
 ghost use Rattle.aprs_command.specs.Arguments.{AreForms, input_rule, inputs_in, inputs_of, inputs_rule, paths_of};
 ghost use Rattle.aprs_command.specs.Arguments.{plain_form_of, capture_form_of, named_form_of, asked_form};
 ghost use Rattle.aprs_command.specs.Arguments.{task_by_name, task_of};
-ghost use Rattle.aprs_log.specs.Moment.{moment_of};
+ghost use Rattle.aprs_log.specs.MomentReading.{moment_of};
 
 use crate::help;
 use crate::jobs::{Job, JobFault};

@@ -1,12 +1,12 @@
 -- Lemmas on digits that are read in blocks.
-use Rattle.std.proofs.Common.{◌≡◌, ℕ, zero, suc, ◌+◌, ◌-◌, ◌*◌, ◌/◌, ◌%◌, ◌<◌, ◌≤◌, ◌≢◌, ◌==◌, ◌&&◌, Bool, true, nat_lt, cond, List, ◌++◌, length, take, drop, slice_index, slice_set, Option, Some, None, Ok, if◌then◌else◌, unwrap_or, inl, inr, refl, sym, ap, ◌∙◌, arith, subst}
+use Rattle.std.proofs.Common.{◌≡◌, ℕ, zero, suc, ◌+◌, ◌-◌, ◌*◌, ◌/◌, ◌%◌, ◌<◌, ◌≤◌, ◌≢◌, ◌==◌, ◌&&◌, ◌||◌, ◌⊎◌, Bool, true, false, nat_lt, cond, List, [], ◌∷◌, ◌++◌, length, take, drop, slice_index, slice_set, Option, Some, None, Ok, if◌then◌else◌, unwrap_or, inl, inr, refl, sym, ap, ◌∙◌, arith, subst}
 use Rattle.std.specs.Int.Bits.{bit_or}
-use Rattle.std.proofs.lemmas.Bool.{and_parts, cases_lt, eqb-true, lt-ltb}
+use Rattle.std.proofs.lemmas.Bool.{and_parts, cases_lt, eqb-true, le-ltb, lt-ltb}
 use Rattle.std.proofs.lemmas.List.{get_or-append_right, get_or-drop, get_or-set_other, get_or-set_same, get_or-take, get_or_append_left, length-set, length-take-le, set-get_or, take_more}
 use borrow.Rule.Slice.PartMut.{post_of, put_mid}
-use Rattle.hex.specs.Hex.{decode_of, decode_pairs, encode_lower, hex_digit_value, lower_digits, digit_or_error, value_at, pair_value}
+use Rattle.hex.specs.Hex.{IsBytes, decode_of, decode_pairs, encode_lower, encode_with, hex_digit_value, lower_digits, digit_or_error, value_at, pair_value}
 use Rattle.hex.proofs.Pairs.{cons_byte, decode_done, decode_pairs-ok_pair, decode_start, drop-pair, encode_done, encode_step, prepend, prepend-cons_byte}
-use Rattle.hex.proofs.HexLemmas.{decode_of-even}
+use Rattle.hex.proofs.HexLemmas.{decode_of-even, length-encode_with}
 use Rattle.aprs_io.specs.Hexadecimal.{HoldsByte, HoldsDigit, HoldsDigits, HoldsTwice, HoldsValue, byte_of}
 
 -- ---- the value of a letter, by a test of each byte
@@ -21,36 +21,97 @@ reads_letter b =
     if nat_lt (place b) 6 then unwrap_or (hex_digit_value b) 99 == place b + 10
     else true
 
--- the test of the first n bytes
-abbrev all_read : ℕ → Bool
-all_read zero = true
-all_read (suc n) = reads_letter n && all_read n
+-- the test of the first n numbers
+abbrev all_pass : (ℕ → Bool) → ℕ → Bool
+all_pass test zero = true
+all_pass test (suc n) = test n && all_pass test n
 
-all_read-at : (n b : ℕ) → all_read n ≡ true → b < n → reads_letter b ≡ true
-all_read-at zero b h lt = absurd (omega arith)
-all_read-at (suc n) b h lt =
-    let parts = and_parts (reads_letter n) (all_read n) h in
+all_pass-at : (test : ℕ → Bool) (n b : ℕ) → all_pass test n ≡ true → b < n → test b ≡ true
+all_pass-at test zero b h lt = absurd (omega arith)
+all_pass-at test (suc n) b h lt =
+    let parts = and_parts (test n) (all_pass test n) h in
     elim (cases_lt b n) [
-      | inl below ↦ all_read-at n b parts.1 below
+      | inl below ↦ all_pass-at test n b parts.1 below
       | inr top ↦
           let e : b ≡ n = omega arith in
           rw e parts.0
     ]
 
-each_reads : (b : ℕ) → b < 256 → reads_letter b ≡ true
-each_reads b lt = all_read-at 256 b refl lt
-
 some_from_unwrap : (o : Option ℕ) (d : ℕ) → d < 16 → unwrap_or o 99 ≡ d → o ≡ Some d
 some_from_unwrap (Some v) d lt e = ap Some e
 some_from_unwrap None d lt e = absurd (omega arith)
 
-pub letter_value : (b : ℕ) → b < 256 → place b < 6 → hex_digit_value b ≡ Some (place b + 10)
+letter_value : (b : ℕ) → b < 256 → place b < 6 → hex_digit_value b ≡ Some (place b + 10)
 letter_value b lt few =
     let t : nat_lt (place b) 6 ≡ true = lt-ltb _ _ few in
     let test : (unwrap_or (hex_digit_value b) 99 == place b + 10) ≡ true
     = ap (λ t. cond t (unwrap_or (hex_digit_value b) 99 == place b + 10) true) (sym t)
-    ∙ each_reads b lt in
+    ∙ all_pass-at reads_letter 256 b refl lt in
     some_from_unwrap (hex_digit_value b) (place b + 10) (omega arith) (eqb-true _ _ test)
+
+-- ---- lower case digits
+
+-- the places of a byte among the digits below 10, and among the small letters
+abbrev number_place : ℕ → ℕ
+number_place b = (b + 208) % 256
+
+abbrev small_place : ℕ → ℕ
+small_place b = (b + 159) % 256
+
+abbrev is_number : ℕ → Bool
+is_number b =
+    if nat_lt (number_place b) 10 then slice_index lower_digits (number_place b) == b else true
+
+abbrev is_small : ℕ → Bool
+is_small b =
+    if nat_lt (small_place b) 6 then slice_index lower_digits (small_place b + 10) == b else true
+
+abbrev reads_small : ℕ → Bool
+reads_small b =
+    if nat_lt (small_place b) 6 then unwrap_or (hex_digit_value b) 99 == small_place b + 10
+    else true
+
+abbrev is_found : ℕ → Bool
+is_found v = nat_lt (number_place (slice_index lower_digits v)) 10
+    || nat_lt (small_place (slice_index lower_digits v)) 6
+
+pub lower_number : (b : ℕ) → b < 256 → number_place b < 10
+    → b ≡ slice_index lower_digits (number_place b)
+lower_number b lt few =
+    let t : nat_lt (number_place b) 10 ≡ true = lt-ltb _ _ few in
+    sym (eqb-true _ _ (ap (λ t. cond t (slice_index lower_digits (number_place b) == b) true) (sym t)
+    ∙ all_pass-at is_number 256 b refl lt))
+
+pub lower_letter : (b : ℕ) → b < 256 → small_place b < 6
+    → b ≡ slice_index lower_digits (small_place b + 10)
+lower_letter b lt few =
+    let t : nat_lt (small_place b) 6 ≡ true = lt-ltb _ _ few in
+    sym (eqb-true _ _ (ap (λ t. cond t (slice_index lower_digits (small_place b + 10) == b) true)
+    (sym t) ∙ all_pass-at is_small 256 b refl lt))
+
+-- the value of a letter, which may be taken as it is
+pub value_of_letter : (b small : ℕ) → b < 256 → (small ≡ b) ⊎ (small ≡ bit_or b 32)
+    → (small + 159) % 256 < 6 → hex_digit_value b ≡ Some ((small + 159) % 256 + 10)
+value_of_letter b small lt (inl e) few =
+    let same : small_place b ≡ (small + 159) % 256 = ap (λ n. (n + 159) % 256) (sym e) in
+    let here : small_place b < 6 = omega arith in
+    let t : nat_lt (small_place b) 6 ≡ true = lt-ltb _ _ here in
+    let test = ap (λ t. cond t (unwrap_or (hex_digit_value b) 99 == small_place b + 10) true)
+    (sym t) ∙ all_pass-at reads_small 256 b refl lt in
+    some_from_unwrap (hex_digit_value b) (small_place b + 10) (omega arith) (eqb-true _ _ test)
+    ∙ ap (λ n. Some (n + 10)) same
+value_of_letter b small lt (inr e) few =
+    let same : place b ≡ (small + 159) % 256 = ap (λ n. (n + 159) % 256) (sym e) in
+    letter_value b lt (omega arith) ∙ ap (λ n. Some (n + 10)) same
+
+-- another byte is no lower case digit
+pub no_lower : (b : ℕ) → 10 ≤ number_place b → 6 ≤ small_place b → (v : ℕ) → v < 16
+    → b ≢ slice_index lower_digits v
+no_lower b no_number no_letter v lt is =
+    let found = all_pass-at is_found 16 v refl lt in
+    let no : is_found v ≡ false = ap (λ d. nat_lt (number_place d) 10 || nat_lt (small_place d) 6)
+    (sym is) ∙ rw (le-ltb _ _ no_number, le-ltb _ _ no_letter) refl in
+    absurd (let e : true ≡ false = sym found ∙ no in cc)
 
 -- ---- pairs of digits
 
@@ -75,6 +136,15 @@ pub HoldsByte-kept : (text before after : List ℕ) (k : ℕ) → slice_index af
     → HoldsByte text before k → HoldsByte text after k
 unfolding HoldsByte
 HoldsByte-kept text before after k same h = h ∙ ap Ok (sym same)
+
+-- the digits of the same byte in another list
+pub HoldsDigits-kept : (text before after : List ℕ) (k : ℕ)
+    → slice_index after k ≡ slice_index before k
+    → HoldsDigits before text k → HoldsDigits after text k
+HoldsDigits-kept text before after k same h = (
+  h.0 ∙ ap (λ b. slice_index lower_digits (b / 16)) (sym same),
+  h.1 ∙ ap (λ b. slice_index lower_digits (b % 16)) (sym same),
+)
 
 -- one byte more
 next_byte : (text out : List ℕ) (i : ℕ) → 2 * i + 1 < length text → i < length out
@@ -181,6 +251,60 @@ block_bytes text out values new at room len digits bytes k low high =
     = ap (slice_index (put_mid at (at + 16 - at) out new)) here
     ∙ byte_in out new at j room len (omega arith) ∙ bytes j (omega arith) in
     HoldsByte-of text (put_mid at (at + 16 - at) out new) k _ _ h.0 l.0 eh el is
+
+-- the same, of lower case digits
+pub block_digits_of : (text out values new : List ℕ) (at : ℕ) → at + 16 ≤ length out
+    → length new ≡ 16
+    → ((j : ℕ) → j < 32 → HoldsValue (take (2 * at + 32 - 2 * at) (drop (2 * at) text)) values j)
+    → ((j : ℕ) → j < 32 → slice_index (take (2 * at + 32 - 2 * at) (drop (2 * at) text)) j
+    ≡ slice_index lower_digits (slice_index values j))
+    → ((j : ℕ) → j < 16 → slice_index new j
+    ≡ byte_of (slice_index values (2 * j)) (slice_index values (2 * j + 1)))
+    → (k : ℕ) → at ≤ k → k < at + 16 → HoldsDigits (put_mid at (at + 16 - at) out new) text k
+block_digits_of text out values new at room len few digits bytes k low high =
+    let j : ℕ = k - at in
+    let whole = put_mid at (at + 16 - at) out new in
+    let here : k ≡ at + j = omega arith in
+    let even : 2 * at + 2 * j ≡ 2 * k = omega arith in
+    let odd : 2 * at + (2 * j + 1) ≡ 2 * k + 1 = omega arith in
+    let h = (few (2 * j) (omega arith)).0 in
+    let l = (few (2 * j + 1) (omega arith)).0 in
+    let is : slice_index whole k
+    ≡ byte_of (slice_index values (2 * j)) (slice_index values (2 * j + 1))
+    = ap (slice_index whole) here ∙ byte_in out new at j room len (omega arith)
+    ∙ bytes j (omega arith) in
+    let high_is : slice_index values (2 * j) ≡ slice_index whole k / 16 = omega arith in
+    let low_is : slice_index values (2 * j + 1) ≡ slice_index whole k % 16 = omega arith in (
+      ap (slice_index text) (sym even)
+          ∙ sym (digit_in text (2 * at) (2 * j) (omega arith)) ∙ digits (2 * j) (omega arith)
+          ∙ ap (slice_index lower_digits) high_is,
+      ap (slice_index text) (sym odd)
+          ∙ sym (digit_in text (2 * at) (2 * j + 1) (omega arith)) ∙ digits (2 * j + 1) (omega arith)
+          ∙ ap (slice_index lower_digits) low_is,
+    )
+
+-- one lower case digit more
+pub lowers_more : (digits values : List ℕ) (j v : ℕ) → j < length values
+    → slice_index digits j ≡ slice_index lower_digits v
+    → ((k : ℕ) → k < j → slice_index digits k ≡ slice_index lower_digits (slice_index values k))
+    → (k : ℕ) → k < j + 1
+    → slice_index digits k ≡ slice_index lower_digits (slice_index (slice_set values j v) k)
+lowers_more digits values j v room is so_far =
+    one_more (λ k v. slice_index digits k ≡ slice_index lower_digits v) values j v room is so_far
+
+-- one byte more, of two lower case digits
+pub byte_more : (text out : List ℕ) (i h l : ℕ) → i < length out → h < 16 → l < 16
+    → slice_index text (2 * i) ≡ slice_index lower_digits h
+    → slice_index text (2 * i + 1) ≡ slice_index lower_digits l
+    → ((k : ℕ) → k < i → HoldsDigits out text k)
+    → (k : ℕ) → k < i + 1 → HoldsDigits (slice_set out i (h * 16 + l)) text k
+byte_more text out i h l room few less high low so_far =
+    let high_is : h ≡ (h * 16 + l) / 16 = omega arith in
+    let low_is : l ≡ (h * 16 + l) % 16 = omega arith in
+    one_more (λ k b. (slice_index text (2 * k) ≡ slice_index lower_digits (b / 16))
+    × (slice_index text (2 * k + 1) ≡ slice_index lower_digits (b % 16))) out i (h * 16 + l) room
+    (high ∙ ap (slice_index lower_digits) high_is, low ∙ ap (slice_index lower_digits) low_is)
+    so_far
 
 -- ---- the digits of bytes
 
@@ -307,3 +431,39 @@ pub encode_lower-digits : (bytes digits : List ℕ) → length digits ≡ 2 * le
 encode_lower-digits bytes digits size all =
     encode_done lower_digits bytes digits (length bytes) (omega arith) size
     (first_digits bytes digits size all (length bytes) (omega arith))
+
+-- each pair of the digits of bytes
+pub digits_at : (bytes : List ℕ) (k : ℕ) → k < length bytes
+    → HoldsDigits bytes (encode_lower bytes) k
+unfolding encode_with
+digits_at [] k lt = absurd (omega arith)
+digits_at (b ∷ bytes) zero lt = (refl, refl)
+digits_at (b ∷ bytes) (suc k) lt =
+    let even : 2 * suc k ≡ suc (suc (2 * k)) = omega arith in
+    let odd : 2 * suc k + 1 ≡ suc (suc (2 * k + 1)) = omega arith in
+    let h = digits_at bytes k (omega arith) in (
+      ap (slice_index (encode_lower (b ∷ bytes))) even ∙ h.0,
+      ap (slice_index (encode_lower (b ∷ bytes))) odd ∙ h.1,
+    )
+
+-- a text with another byte at a digit's place is that of no bytes
+pub no_digits : (text : List ℕ) (i : ℕ) → 2 * i + 1 < length text
+    → ((v : ℕ) → v < 16 → slice_index text (2 * i) ≢ slice_index lower_digits v)
+    ⊎ ((v : ℕ) → v < 16 → slice_index text (2 * i + 1) ≢ slice_index lower_digits v)
+    → (bytes : List ℕ) → IsBytes bytes → text ≢ encode_lower bytes
+no_digits text i room other bytes are is =
+    let size = ap length is ∙ length-encode_with lower_digits bytes in
+    let d = digits_at bytes i (omega (arith, size)) in
+    let byte : slice_index bytes i < 256 = are i in
+    elim other [
+      | inl high ↦ high (slice_index bytes i / 16) (omega arith)
+          (ap (λ l. slice_index l (2 * i)) is ∙ d.0)
+      | inr low ↦ low (slice_index bytes i % 16) (omega arith)
+          (ap (λ l. slice_index l (2 * i + 1)) is ∙ d.1)
+    ]
+
+-- nor is one of an odd length
+pub no_odd_digits : (text : List ℕ) → ¬ (length text % 2 ≡ 0)
+    → (bytes : List ℕ) → IsBytes bytes → text ≢ encode_lower bytes
+no_odd_digits text odd bytes are is =
+    odd (omega (arith, ap length is ∙ length-encode_with lower_digits bytes))

@@ -7,11 +7,11 @@ use Rattle.std.specs.Result.{IsErr}
 use Rattle.aprs_io.specs.Device.{Sends, SendsAllBut}
 use Rattle.aprs_io.specs.declared.device.Counted.{Counted}
 use Rattle.aprs_io.proofs.Sends.{Sends-err, Sends-fails, Sends-is, Sends-last, Sends-ok, fails_of_both, left_all, left_of_both}
-use Rattle.aprs_io.specs.Outlet.{HasTaken, Puts, held_of, loan_of, writer_of}
+use Rattle.aprs_io.specs.Outlet.{HasTaken, Puts, held_of, writer_loan_of, writer_of}
 use Rattle.aprs_io.specs.declared.outlet.Outlet.{Outlet}
 
 module _ {W : Type 0} {contents : W → Option (List ℕ)} {old new : Outlet W} {text : List ℕ}
-    (same : loan_of new ≡ loan_of old) where
+    (same : writer_loan_of new ≡ writer_loan_of old) where
   -- it sent all that it held, and the text
   pub Puts-sent : {E : Type 0} (r : Result (Unit {0}) E) → held_of new ≡ []
       → Sends contents r (writer_of old) (writer_of new) (held_of old ++ text)

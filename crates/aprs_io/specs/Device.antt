@@ -36,15 +36,13 @@ pub data Last : Type 0 where
 
 -- A count of faults, after this answer.
 abbrev pub faults_after : Last → ℕ → ℕ
-faults_after Going n = n
 faults_after Fault n = one_more n
-faults_after End n = n
+faults_after other n = n
 
 -- A count of ends, after this answer.
 abbrev pub ends_after : Last → ℕ → ℕ
-ends_after Going n = n
-ends_after Fault n = n
 ends_after End n = one_more n
+ends_after other n = n
 
 -- The last call answered so, and no call before it answered a fault or the end: the count of failed
 -- calls fell nowhere and rose at a fault, and those of answers are exactly so many.
@@ -70,9 +68,8 @@ AppendsPrefix old new bytes = (rest : List ℕ) × AppendsAllBut old new bytes r
 
 -- How many tries may fail in so many calls of a device: 999 in each, and one more at a fault.
 abbrev pub most_failures : Last → ℕ → ℕ
-most_failures Going calls = 999 * calls
 most_failures Fault calls = 999 * calls + 1
-most_failures End calls = 999 * calls
+most_failures other calls = 999 * calls
 
 -- At Ok the text went out. At an error a prefix of it did, and the last call of the device answered
 -- a fault, which no call before it did. There is at most one call for each byte.

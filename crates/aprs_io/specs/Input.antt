@@ -32,15 +32,15 @@ abbrev pub EndsHere : Ending → ℕ → Option (List ℕ) → Option (List ℕ)
 EndsHere ending left known after = IfSome known (λ input. Gets left input after [] ending)
 
 -- What the device answered last where an input ends in this way: where it is too long, a byte.
-abbrev pub last_of : Ending → Last
-last_of ending.End = End
-last_of ending.Read = Fault
-last_of ending.TooLong = Going
+abbrev pub last_of_ending : Ending → Last
+last_of_ending ending.End = End
+last_of_ending ending.Read = Fault
+last_of_ending ending.TooLong = Going
 
 -- What the device answered last where some bytes came or the input ends in this way.
 abbrev pub last_got : {A : Type 0} → Result A Ending → Last
 last_got (Ok value) = Going
-last_got (Err way) = last_of way
+last_got (Err way) = last_of_ending way
 
 -- A byte was taken of the device and is not kept.
 abbrev pub TakesOne : Option (List ℕ) → Option (List ℕ) → Type 0
@@ -53,8 +53,8 @@ pub record EndsInput {R : Type 0} (remaining : R → Option (List ℕ)) (way : E
     (old new : Counted R) : Type 0 where
   pub end : EndsHere way left (remaining old.device) (remaining new.device)
   pub over : way ≡ ending.TooLong → TakesOne (remaining old.device) (remaining new.device)
-  pub calls : Calls (last_of way) old new
-  pub tries : new.failed ≤ old.failed + most_failures (last_of way) 1
+  pub calls : Calls (last_of_ending way) old new
+  pub tries : new.failed ≤ old.failed + most_failures (last_of_ending way) 1
 
 -- Some bytes came, as many as are answered, and no more were taken of the device; or the input ends
 -- in the way that is answered.

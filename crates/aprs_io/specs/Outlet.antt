@@ -10,8 +10,8 @@ abbrev pub writer_of : {W : Type 0} → Outlet W → Counted W
 writer_of o = o.w.now
 
 -- The name of that loan.
-abbrev pub loan_of : {W : Type 0} → Outlet W → GName
-loan_of o = o.w.ghost_name
+abbrev pub writer_loan_of : {W : Type 0} → Outlet W → GName
+writer_loan_of o = o.w.ghost_name
 
 -- The bytes that it holds back.
 abbrev pub held_of : {W : Type 0} → Outlet W → List ℕ
@@ -25,6 +25,6 @@ HasTaken contents first o text = SendsAllBut contents first (writer_of o) text (
 -- last call of the writer answered a fault.
 pub record Puts {W E : Type 0} (contents : W → Option (List ℕ)) (r : Result (Unit {0}) E)
     (old new : Outlet W) (text : List ℕ) : Type 0 where
-  pub same_reference : loan_of new ≡ loan_of old
+  pub same_reference : writer_loan_of new ≡ writer_loan_of old
   pub took : OnOk r (HasTaken contents (writer_of old) new (held_of old ++ text))
   pub fails : OnErr r (Sends contents r (writer_of old) (writer_of new) (held_of old ++ text))

@@ -1,7 +1,7 @@
 //! Bytes in hexadecimal.
-ghost use Rattle.std.specs.Prelude.{◌≡◌, ◌≤◌, ◌<◌, ◌+◌, ◌*◌, ◌/◌, ◌%◌, ℕ, take, length, slice_index, true, false, Ok, Some, MatchOption, MatchResult, IsOk};
+ghost use Rattle.std.specs.Prelude.{◌≡◌, ◌≢◌, ◌≤◌, ◌<◌, ◌+◌, ◌*◌, ◌/◌, ◌%◌, ℕ, List, take, length, slice_index, true, false, Ok, Some, MatchBool, MatchOption, MatchResult, IsOk};
 ghost use Rattle.std.specs.Bool.{OnTrue};
-ghost use Rattle.hex.specs.Hex.{decode_of, encode_lower, hex_digit_value, lower_digits};
+ghost use Rattle.hex.specs.Hex.{IsBytes, decode_of, encode_lower, hex_digit_value, lower_digits};
 ghost use Rattle.aprs_io.specs.Hexadecimal.{HoldsByte, HoldsDigits, HoldsValue, byte_of};
 
 /// How many bytes are read or written in a step.
@@ -15,12 +15,33 @@ pub fn decode_into(text: &[u8], room: &mut [u8]) -> Option<usize>
     ensures { MatchOption result (¬ IsOk (decode_of text.now))
         (λ n. (n ≤ length room.new) × (decode_of text.now ≡ Ok (take n room.new))) }
 {
-    if !text.len().is_multiple_of(2) {
+    let Some(len) = count_pairs(text) else {
         return None;
-    }
-    let len = text.len() / 2;
-    if decode_to(text, &mut room[..len]) {
-        Some(len)
+    };
+    decode_to(text, &mut room[..len]).then_some(len)
+}
+
+/// Reads lower case digits to the start of `room`, which has to have room for their bytes, and
+/// returns how many bytes they are. `None` where the text is that of no bytes: it has a capital
+/// letter, another byte that is no digit, or an odd number of digits. Takes no memory.
+pub fn decode_lower_into(text: &[u8], room: &mut [u8]) -> Option<usize>
+    requires { length text.now ≤ 2 * length room.old }
+    ensures { MatchOption result
+        ((bytes : List ℕ) → IsBytes bytes → text.now ≢ encode_lower bytes)
+        (λ n. (n ≤ length room.new) × (text.now ≡ encode_lower (take n room.new))) }
+{
+    let Some(len) = count_pairs(text) else {
+        return None;
+    };
+    decode_lower_to(text, &mut room[..len]).then_some(len)
+}
+
+/// How many pairs of digits a text has, where their number is even.
+fn count_pairs(text: &[u8]) -> Option<usize>
+    ensures { MatchOption result (¬ (length text.now % 2 ≡ 0)) (λ n. length text.now ≡ 2 * n) }
+{
+    if text.len().is_multiple_of(2) {
+        Some(text.len() / 2)
     } else {
         None
     }
@@ -118,16 +139,47 @@ fn decode_to(text: &[u8], out: &mut [u8]) -> bool
     ensures { MatchResult (decode_of text.now) (λ bytes. (result ≡ true) × (out.new ≡ bytes))
         (λ e. result ≡ false) }
 {
-    decode_digits(text, out) || hex::decode_to_slice(text, out).is_ok()
+    decode_digits(text, out, false) || hex::decode_to_slice(text, out).is_ok()
 }
 
-/// Whether the text is seen to have digits alone, and then its bytes fill `out`. Digits are read
-/// a block at a time; the last block may overlap the one before it. Where it says no, as of a text
-/// that is shorter than a block, `out` says nothing.
-fn decode_digits(text: &[u8], out: &mut [u8]) -> bool
+/// Whether the text is the lower case digits of the bytes that now fill `out`.
+fn decode_lower_to(text: &[u8], out: &mut [u8]) -> bool
+    requires { length text.now ≡ 2 * length out.old }
+    ensures len { length out.new ≡ length out.old }
+    ensures bytes { MatchBool result (text.now ≡ encode_lower out.new)
+        ((bytes : List ℕ) → IsBytes bytes → text.now ≢ encode_lower bytes) }
+{
+    decode_digits(text, out, true) || decode_few(text, out)
+}
+
+/// The same, byte by byte.
+#[inline(never)]
+fn decode_few(text: &[u8], out: &mut [u8]) -> bool
+    requires { length text.now ≡ 2 * length out.old }
+    ensures len { length out.new ≡ length out.old }
+    ensures bytes { MatchBool result (text.now ≡ encode_lower out.new)
+        ((bytes : List ℕ) → IsBytes bytes → text.now ≢ encode_lower bytes) }
+{
+    'bytes: for i in 0..out.len() {
+        let high = value_of(text[2 * i], true);
+        let low = value_of(text[2 * i + 1], true);
+        if high > 15 || low > 15 {
+            return false;
+        }
+        out[i] = high * 16 + low;
+    }
+    true
+}
+
+/// Whether the text is seen to have digits alone, and then its bytes fill `out`; `lower` asks for
+/// small letters. Digits are read a block at a time; the last block may overlap the one before it.
+/// Where it says no, as of a text that is shorter than a block, `out` says nothing.
+#[inline(always)]
+fn decode_digits(text: &[u8], out: &mut [u8], lower: bool) -> bool
     requires { length text.now ≡ 2 * length out.old }
     ensures len { length out.new ≡ length out.old }
     ensures bytes { OnTrue result (decode_of text.now ≡ Ok out.new) }
+    ensures lower { lower ≡ true → OnTrue result (text.now ≡ encode_lower out.new) }
 {
     let len = out.len();
     if len < BLOCK {
@@ -135,7 +187,7 @@ fn decode_digits(text: &[u8], out: &mut [u8]) -> bool
     }
     'blocks: for i in 0..len.div_ceil(BLOCK) {
         let at = (BLOCK * i).min(len - BLOCK);
-        if !decode_block(text, out, at) {
+        if !decode_block(text, out, at, lower) {
             return false;
         }
     }
@@ -144,16 +196,18 @@ fn decode_digits(text: &[u8], out: &mut [u8]) -> bool
 
 /// Whether the digits of the bytes of a block are digits, and then `out` has these bytes there.
 #[inline(always)]
-fn decode_block(text: &[u8], out: &mut [u8], at: usize) -> bool
+fn decode_block(text: &[u8], out: &mut [u8], at: usize, lower: bool) -> bool
     requires len { length text.now ≡ 2 * length out.old }
     requires room { at + BLOCK ≤ length out.old }
     ensures len { length out.new ≡ length out.old }
     ensures kept { (k : ℕ) → k < at → slice_index out.new k ≡ slice_index out.old k }
     ensures bytes { OnTrue result ((k : ℕ) → at ≤ k → k < at + BLOCK
         → HoldsByte text.now out.new k) }
+    ensures lower { lower ≡ true → OnTrue result ((k : ℕ) → at ≤ k → k < at + BLOCK
+        → HoldsDigits out.new text.now k) }
 {
     let mut values = [0; 2 * BLOCK];
-    let are_digits = put_values(&text[2 * at..2 * at + 2 * BLOCK], &mut values);
+    let are_digits = put_values(&text[2 * at..2 * at + 2 * BLOCK], &mut values, lower);
     put_bytes(&values, &mut out[at..at + BLOCK]);
     are_digits
 }
@@ -161,13 +215,15 @@ fn decode_block(text: &[u8], out: &mut [u8], at: usize) -> bool
 /// Puts the values of digits, and says whether they are digits. There is no early end, so that many
 /// are looked at in one step of the processor.
 #[inline(always)]
-fn put_values(digits: &[u8], values: &mut [u8; 32]) -> bool
+fn put_values(digits: &[u8], values: &mut [u8; 32], lower: bool) -> bool
     requires { length digits.now ≡ 2 * BLOCK }
-    ensures { OnTrue result ((j : ℕ) → j < 2 * BLOCK → HoldsValue digits.now values.new j) }
+    ensures value { OnTrue result ((j : ℕ) → j < 2 * BLOCK → HoldsValue digits.now values.new j) }
+    ensures lower { lower ≡ true → OnTrue result ((j : ℕ) → j < 2 * BLOCK
+        → slice_index digits.now j ≡ slice_index lower_digits (slice_index values.new j)) }
 {
     let mut most = 0;
     'digits: for j in 0..2 * BLOCK {
-        let value = value_of(digits[j]);
+        let value = value_of(digits[j], lower);
         most = value.max(most);
         values[j] = value;
     }
@@ -189,14 +245,18 @@ fn put_bytes(values: &[u8; 32], out: &mut [u8])
     }
 }
 
-/// The value of a digit, and 255 for another byte.
+/// The value of a digit, and 255 for another byte. If `lower`, a capital letter is no digit.
 #[inline(always)]
-fn value_of(byte: u8) -> u8
-    ensures { result < 16 → hex_digit_value byte ≡ Some result }
+fn value_of(byte: u8, lower: bool) -> u8
+    ensures value { result < 16 → hex_digit_value byte ≡ Some result }
+    ensures lower { lower ≡ true → result < 16 → byte ≡ slice_index lower_digits result }
+    ensures other { lower ≡ true → 16 ≤ result → (v : ℕ) → v < 16
+        → byte ≢ slice_index lower_digits v }
 {
     let number = byte.wrapping_sub(b'0');
     // Bit 5 is set in a small letter and clear in a capital.
-    let letter = (byte | 0x20).wrapping_sub(b'a');
+    let small = if lower { byte } else { byte | 0x20 };
+    let letter = small.wrapping_sub(b'a');
     if number < 10 {
         number
     } else if letter < 6 {

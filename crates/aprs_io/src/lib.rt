@@ -13,7 +13,7 @@ mod outlet;
 pub use byte_vectors::{copied, push_all, put};
 pub use cut::cut_at;
 pub use device::{Counted, DeviceFault, WriteFault, send};
-pub use hexadecimal::{decode_into, encode_to};
+pub use hexadecimal::{decode_into, decode_lower_into, encode_to};
 pub use input::{Ending, MAX_INPUT, read_some};
 pub use laws::inputs_have_at_most_one_gibibyte;
 pub use outlet::{MAX_HELD, Outlet};

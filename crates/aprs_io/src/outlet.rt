@@ -18,11 +18,11 @@ pub struct Outlet<'a, W> {
 }
 
 impl<'a, W: Write> Outlet<'a, W> {
-    ghost use Rattle.aprs_io.specs.Outlet.{HasTaken, Puts, loan_of, writer_of, held_of};
+    ghost use Rattle.aprs_io.specs.Outlet.{HasTaken, Puts, writer_loan_of, writer_of, held_of};
 
     /// Holds nothing yet. Takes no memory.
     pub fn new(w: &'a mut Counted<W>) -> Outlet<'a, W>
-        ensures same_reference { loan_of result ≡ w.entry.ghost_name }
+        ensures same_reference { writer_loan_of result ≡ w.entry.ghost_name }
         ensures nothing { HasTaken W.contents w.old result [] }
     {
         Outlet {
@@ -47,7 +47,7 @@ impl<'a, W: Write> Outlet<'a, W> {
 
     /// Sends what it holds, and lets go of it at a fault too. Takes no memory.
     pub fn flush(&mut self) -> Result<(), WriteFault>
-        ensures same_reference { loan_of self.new ≡ loan_of self.old }
+        ensures same_reference { writer_loan_of self.new ≡ writer_loan_of self.old }
         ensures sent { Sends W.contents result (writer_of self.old) (writer_of self.new)
             (held_of self.old) }
         ensures empty { held_of self.new ≡ [] }

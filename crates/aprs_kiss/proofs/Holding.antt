@@ -7,8 +7,8 @@ use Rattle.std.proofs.lemmas.List.Elements.{recursion_from_All, All-weaker, All-
 use Rattle.aprs_kiss.specs.Plain.{IsPlain, is_special}
 use Rattle.aprs_kiss.specs.Spelling.{HasNoEnd, is_frame_end}
 use Rattle.aprs_kiss.specs.Unspelling.{unspelled}
-use Rattle.aprs_kiss.specs.Judgement.{judgement_by, judgement_of, frame_of}
-use Rattle.aprs_kiss.specs.Reader.{Holds, IsOpen, IsClosed}
+use Rattle.aprs_kiss.specs.Judgement.{judgement_by, judgement_of, data_frame_of}
+use Rattle.aprs_kiss.specs.Reader.{HoldsAfter, IsOpen, IsClosed}
 use Rattle.aprs_kiss.specs.declared.reader.State.{State}
 use Rattle.aprs_kiss.specs.declared.reader.State.TheVariants.{Ended, Plain, Escape, Long, LongEscape, Broken}
 use Rattle.aprs_kiss.specs.declared.fault.PassFault.TheVariants.{BadEscape, TooLong}
@@ -25,41 +25,41 @@ HasNoEnd-plain run p =
     All-weaker (λ b. is_special b ≡ false) (λ b. is_frame_end b ≡ false) not_end run p
 
 -- what is held in the state that a test found
-pub Holds-in : (s t : State) (held bytes : List ℕ) → s ≡ t → Holds s held bytes → Holds t held bytes
-Holds-in s t held bytes e h = subst (λ s. Holds s held bytes) e h
+pub HoldsAfter-in : (s t : State) (held bytes : List ℕ) → s ≡ t → HoldsAfter s held bytes → HoldsAfter t held bytes
+HoldsAfter-in s t held bytes e h = subst (λ s. HoldsAfter s held bytes) e h
 
 -- a piece has begun in every state but one
-pub Holds-begun : (s : State) (held bytes : List ℕ) → s ≢ Ended → Holds s held bytes → bytes ≢ []
-Holds-begun Ended held bytes n h = λ _. n refl
-Holds-begun Plain held bytes n h = λ e.
+pub HoldsAfter-begun : (s : State) (held bytes : List ℕ) → s ≢ Ended → HoldsAfter s held bytes → bytes ≢ []
+HoldsAfter-begun Ended held bytes n h = λ _. n refl
+HoldsAfter-begun Plain held bytes n h = λ e.
     let z : length bytes ≡ 0 = ap length e in omega (arith, h.nonempty)
-Holds-begun Escape held bytes n h =
+HoldsAfter-begun Escape held bytes n h =
     λ e. let z : length bytes ≡ 0 =
     ap length e in omega (arith, ap length h.escape, length-append h.prefix (0xDB ∷ []))
-Holds-begun Long held bytes n h = λ e.
+HoldsAfter-begun Long held bytes n h = λ e.
     let r : Some [] ≡ Some h.all = sym unspelled-nil ∙ ap unspelled (sym e) ∙ h.spelled in
     let z : [] ≡ h.all = cc in
     omega (arith, h.long, ap length z)
-Holds-begun LongEscape held bytes n h =
+HoldsAfter-begun LongEscape held bytes n h =
     λ e. let z : length bytes ≡ 0 =
     ap length e in omega (arith, ap length h.escape, length-append h.prefix (0xDB ∷ []))
-Holds-begun Broken held bytes n h = λ e.
+HoldsAfter-begun Broken held bytes n h = λ e.
     let none : Option (List ℕ) = None in
     let r : Some [] ≡ none = sym unspelled-nil ∙ ap (λ l. unspelled (l ++ [])) (sym e) ∙ h [] in
     cc
 
 -- ---- bytes that stand for themselves
 
-pub Holds-run : (held bytes run : List ℕ) → HasNoEnd bytes → All (λ b. is_special b ≡ false) run
+pub HoldsAfter-run : (held bytes run : List ℕ) → HasNoEnd bytes → All (λ b. is_special b ≡ false) run
     → unspelled bytes ≡ Some held → unspelled (bytes ++ run) ≡ Some (held ++ run)
-Holds-run held bytes run n p h =
+HoldsAfter-run held bytes run n p h =
     unspelled-append bytes held run n h
     ∙ ap (option_map (λ l. held ++ l))
     (unspelled-run run (recursion_from_All (λ b. is_special b ≡ false) run p))
 
-pub Holds-broken : (held bytes run : List ℕ) → Holds Broken held bytes
-    → Holds Broken held (bytes ++ run)
-Holds-broken held bytes run h = λ more. ap unspelled (append_assoc bytes run more) ∙ h (run ++ more)
+pub HoldsAfter-broken : (held bytes run : List ℕ) → HoldsAfter Broken held bytes
+    → HoldsAfter Broken held (bytes ++ run)
+HoldsAfter-broken held bytes run h = λ more. ap unspelled (append_assoc bytes run more) ∙ h (run ++ more)
 
 -- ---- the byte after an escape
 
@@ -91,64 +91,64 @@ module _ (held prefix bytes : List ℕ) (code : ℕ) (n : HasNoEnd bytes)
       ∙ ap (option_map (λ l. held ++ l)) (k more)
 
 -- no byte stands for the code
-pub Holds-unescaped : (s : State) (held bytes : List ℕ) (code : ℕ) → IsOpen s → HasNoEnd bytes
-    → ((more : List ℕ) → unspelled (0xDB ∷ code ∷ more) ≡ None) → Holds s held bytes
-    → Holds Broken held (bytes ++ code ∷ [])
-Holds-unescaped Escape held bytes code o n k h =
+pub HoldsAfter-unescaped : (s : State) (held bytes : List ℕ) (code : ℕ) → IsOpen s → HasNoEnd bytes
+    → ((more : List ℕ) → unspelled (0xDB ∷ code ∷ more) ≡ None) → HoldsAfter s held bytes
+    → HoldsAfter Broken held (bytes ++ code ∷ [])
+HoldsAfter-unescaped Escape held bytes code o n k h =
     unspelled-unescaped held h.prefix bytes code n h.escape h.spelled k
-Holds-unescaped LongEscape held bytes code o n k h =
+HoldsAfter-unescaped LongEscape held bytes code o n k h =
     unspelled-unescaped h.all h.prefix bytes code n h.escape h.spelled k
-Holds-unescaped Ended held bytes code o n k h = absurd o
-Holds-unescaped Plain held bytes code o n k h = absurd o
-Holds-unescaped Long held bytes code o n k h = absurd o
-Holds-unescaped Broken held bytes code o n k h = absurd o
+HoldsAfter-unescaped Ended held bytes code o n k h = absurd o
+HoldsAfter-unescaped Plain held bytes code o n k h = absurd o
+HoldsAfter-unescaped Long held bytes code o n k h = absurd o
+HoldsAfter-unescaped Broken held bytes code o n k h = absurd o
 
 -- a byte for which there is no room
-pub Holds-escaped_long : (s : State) (held bytes : List ℕ) (code x : ℕ) → IsOpen s → s ≢ Escape
+pub HoldsAfter-escaped_long : (s : State) (held bytes : List ℕ) (code x : ℕ) → IsOpen s → s ≢ Escape
     → HasNoEnd bytes
     → ((more : List ℕ) → unspelled (0xDB ∷ code ∷ more) ≡ option_map (λ l. x ∷ l) (unspelled more))
-    → Holds s held bytes → Holds Long held (bytes ++ code ∷ [])
-Holds-escaped_long Escape held bytes code x o e n k h = absurd (e refl)
-Holds-escaped_long LongEscape held bytes code x o e n k h = record {
+    → HoldsAfter s held bytes → HoldsAfter Long held (bytes ++ code ∷ [])
+HoldsAfter-escaped_long Escape held bytes code x o e n k h = absurd (e refl)
+HoldsAfter-escaped_long LongEscape held bytes code x o e n k h = record {
   all = h.all ++ x ∷ [];
   spelled = unspelled-escaped h.all h.prefix bytes code n h.escape h.spelled x k;
   long = omega (arith, h.long, length-append h.all (x ∷ []));
 }
-Holds-escaped_long Ended held bytes code x o e n k h = absurd o
-Holds-escaped_long Plain held bytes code x o e n k h = absurd o
-Holds-escaped_long Long held bytes code x o e n k h = absurd o
-Holds-escaped_long Broken held bytes code x o e n k h = absurd o
+HoldsAfter-escaped_long Ended held bytes code x o e n k h = absurd o
+HoldsAfter-escaped_long Plain held bytes code x o e n k h = absurd o
+HoldsAfter-escaped_long Long held bytes code x o e n k h = absurd o
+HoldsAfter-escaped_long Broken held bytes code x o e n k h = absurd o
 
 -- ---- the reader's steps
 
 -- bytes that stand for themselves, where the buffer is of no more use
-pub Holds-more : (s : State) (held bytes run : List ℕ) → s ≢ Ended → s ≢ Plain → IsClosed s
+pub HoldsAfter-more : (s : State) (held bytes run : List ℕ) → s ≢ Ended → s ≢ Plain → IsClosed s
     → HasNoEnd bytes → IsPlain run
-    → Holds s held bytes → Holds s held (bytes ++ run)
-Holds-more Ended held bytes run e p k n q h = absurd (e refl)
-Holds-more Plain held bytes run e p k n q h = absurd (p refl)
-Holds-more Escape held bytes run e p k n q h = absurd k
-Holds-more Long held bytes run e p k n q h =
+    → HoldsAfter s held bytes → HoldsAfter s held (bytes ++ run)
+HoldsAfter-more Ended held bytes run e p k n q h = absurd (e refl)
+HoldsAfter-more Plain held bytes run e p k n q h = absurd (p refl)
+HoldsAfter-more Escape held bytes run e p k n q h = absurd k
+HoldsAfter-more Long held bytes run e p k n q h =
     record {
       all = h.all ++ run;
-      spelled = Holds-run h.all bytes run n q h.spelled;
+      spelled = HoldsAfter-run h.all bytes run n q h.spelled;
       long = omega (arith, h.long, length-append h.all run);
     }
-Holds-more LongEscape held bytes run e p k n q h = absurd k
-Holds-more Broken held bytes run e p k n q h = Holds-broken held bytes run h
+HoldsAfter-more LongEscape held bytes run e p k n q h = absurd k
+HoldsAfter-more Broken held bytes run e p k n q h = HoldsAfter-broken held bytes run h
 
 -- an escape begins
-pub Holds-escape_again : (s : State) (held bytes : List ℕ) → s ≢ Ended → s ≢ Plain → s ≢ Long
+pub HoldsAfter-escape_again : (s : State) (held bytes : List ℕ) → s ≢ Ended → s ≢ Plain → s ≢ Long
     → HasNoEnd bytes
-    → Holds s held bytes → Holds Broken held (bytes ++ 0xDB ∷ [])
-Holds-escape_again Ended held bytes e p l n h = absurd (e refl)
-Holds-escape_again Plain held bytes e p l n h = absurd (p refl)
-Holds-escape_again Escape held bytes e p l n h =
+    → HoldsAfter s held bytes → HoldsAfter Broken held (bytes ++ 0xDB ∷ [])
+HoldsAfter-escape_again Ended held bytes e p l n h = absurd (e refl)
+HoldsAfter-escape_again Plain held bytes e p l n h = absurd (p refl)
+HoldsAfter-escape_again Escape held bytes e p l n h =
     unspelled-unescaped held h.prefix bytes 0xDB n h.escape h.spelled unspelled-twice
-Holds-escape_again Long held bytes e p l n h = absurd (l refl)
-Holds-escape_again LongEscape held bytes e p l n h =
+HoldsAfter-escape_again Long held bytes e p l n h = absurd (l refl)
+HoldsAfter-escape_again LongEscape held bytes e p l n h =
     unspelled-unescaped h.all h.prefix bytes 0xDB n h.escape h.spelled unspelled-twice
-Holds-escape_again Broken held bytes e p l n h = Holds-broken held bytes (0xDB ∷ []) h
+HoldsAfter-escape_again Broken held bytes e p l n h = HoldsAfter-broken held bytes (0xDB ∷ []) h
 
 -- ---- the end of a piece
 
@@ -164,7 +164,7 @@ open_ends held prefix bytes n e h =
 -- an escape is broken, or isn't whole
 pub judgement_of-broken : (s : State) (held bytes : List ℕ) → s ≢ Plain → s ≢ Long
     → 0 < length bytes → HasNoEnd bytes
-    → Holds s held bytes → judgement_of bytes ≡ Err BadEscape
+    → HoldsAfter s held bytes → judgement_of bytes ≡ Err BadEscape
 unfolding judgement_of
 judgement_of-broken Ended held bytes p l z n h =
     absurd (let e : length bytes ≡ 0 = ap length h in omega (arith, z))
@@ -177,14 +177,14 @@ judgement_of-broken LongEscape held bytes p l z n h =
 judgement_of-broken Broken held bytes p l z n h =
     ap judgement_by (ap unspelled (sym (append-nil bytes)) ∙ h [])
 
-pub judgement_of-long : (bytes held : List ℕ) → Holds Long held bytes
+pub judgement_of-long : (bytes held : List ℕ) → HoldsAfter Long held bytes
     → judgement_of bytes ≡ Err TooLong
 unfolding judgement_of
 judgement_of-long bytes held h =
     ap judgement_by h.spelled ∙ rw (lt-ltb 1024 (length h.all) h.long) refl
 
 pub judgement_of-plain : (bytes held : List ℕ) → unspelled bytes ≡ Some held → length held ≤ 1024
-    → judgement_of bytes ≡ frame_of held
+    → judgement_of bytes ≡ data_frame_of held
 unfolding judgement_of
 judgement_of-plain bytes held h l = ap judgement_by h ∙ rw (le-ltb 1024 (length held) l) refl
 

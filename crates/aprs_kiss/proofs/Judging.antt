@@ -4,7 +4,7 @@ use Rattle.std.proofs.lemmas.Bool.{lt-ltb, le-ltb, eq-eqb}
 use Rattle.std.proofs.lemmas.Bool.Decides.{eqb_tells, nat_tests}
 use Rattle.aprs_kiss.specs.Spelling.{HasNoEnd, Spells, spelling_of}
 use Rattle.aprs_kiss.specs.Unspelling.{unspelled}
-use Rattle.aprs_kiss.specs.Judgement.{Judgement, Judged, judgement_of, judgement_by, frame_of}
+use Rattle.aprs_kiss.specs.Judgement.{Judgement, Judged, judgement_of, judgement_by, data_frame_of}
 use Rattle.aprs_kiss.specs.Laws.{SpellsOnce, JudgedOnce}
 use Rattle.aprs_kiss.specs.declared.fault.PassFault.TheVariants.{BadEscape, TooLong, NotData}
 use Rattle.aprs_kiss.proofs.Escapes.{unspelled-of, spelling_of-unspelled}
@@ -26,16 +26,16 @@ only_long piece bytes s l =
     ap judgement_by (unspelled_at bytes piece s) ∙ rw (lt-ltb 1024 (length bytes) l) refl
 
 only_short : (piece bytes : List ℕ) → Spells bytes piece → length bytes ≤ 1024
-    → judgement_of piece ≡ frame_of bytes
+    → judgement_of piece ≡ data_frame_of bytes
 unfolding judgement_of
 only_short piece bytes s l =
     ap judgement_by (unspelled_at bytes piece s) ∙ rw (le-ltb 1024 (length bytes) l) refl
 
-command_other : (head : ℕ) (bytes : List ℕ) → head % 16 ≢ 0 → frame_of (head ∷ bytes) ≡ Err NotData
+command_other : (head : ℕ) (bytes : List ℕ) → head % 16 ≢ 0 → data_frame_of (head ∷ bytes) ≡ Err NotData
 command_other head bytes n = grind (arith, nat_tests)
 
 command_data : (head : ℕ) (bytes : List ℕ) → head % 16 ≡ 0
-    → frame_of (head ∷ bytes) ≡ Ok (record { port = head / 16; bytes = bytes })
+    → data_frame_of (head ∷ bytes) ≡ Ok (record { port = head / 16; bytes = bytes })
 command_data head bytes e = rw (eq-eqb (head % 16) 0 e) refl
 
 broken_or_not : (o : Option (List ℕ)) → (o ≡ None) ⊎ ((bytes : List ℕ) × (o ≡ Some bytes))
@@ -66,10 +66,10 @@ judged_only piece n (Ok frame) h =
 -- ---- and the one that it gives is one
 
 judged_data : (piece bytes : List ℕ) → 0 < length bytes → Spells bytes piece → length bytes ≤ 1024
-    → Judged piece (frame_of bytes)
+    → Judged piece (data_frame_of bytes)
 judged_data piece [] z s l = absurd (omega (arith, z))
 judged_data piece (head ∷ bytes) z s l =
-    elim (eqb_tells (head % 16) 0) as (λ _. Judged piece (frame_of (head ∷ bytes))) [
+    elim (eqb_tells (head % 16) 0) as (λ _. Judged piece (data_frame_of (head ∷ bytes))) [
       | inl e ↦ rw e.0
           (record { head = head; spelled = s; fits = l; command = e.1; port = refl })
       | inr e ↦ rw e.0

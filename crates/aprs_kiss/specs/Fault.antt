@@ -4,13 +4,13 @@ use Rattle.aprs_kiss.specs.declared.fault.PassFault.{PassFault}
 use Rattle.aprs_kiss.specs.declared.fault.PassFault.TheVariants.{BadEscape, TooLong, NotData}
 
 -- A fault's number.
-abbrev pub number_of : PassFault → ℕ
-number_of BadEscape = 1
-number_of TooLong = 2
-number_of NotData = 3
+abbrev pub pass_fault_number : PassFault → ℕ
+pass_fault_number BadEscape = 1
+pass_fault_number TooLong = 2
+pass_fault_number NotData = 3
 
 -- A fault's name.
-abbrev pub name_of : PassFault → List ℕ
-name_of BadEscape = codes "BadEscape"
-name_of TooLong = codes "TooLong"
-name_of NotData = codes "NotData"
+abbrev pub pass_fault_name : PassFault → List ℕ
+pass_fault_name BadEscape = codes "BadEscape"
+pass_fault_name TooLong = codes "TooLong"
+pass_fault_name NotData = codes "NotData"

@@ -48,15 +48,15 @@ Judged piece (Ok frame) = IsData piece frame
 
 -- Bytes are a data frame if the low four bits of the first, the type byte, are 0, the command of
 -- data; its high four bits are the port.
-abbrev pub frame_of : List ℕ → Judgement
-frame_of [] = Err NotData
-frame_of (head ∷ bytes) =
+abbrev pub data_frame_of : List ℕ → Judgement
+data_frame_of [] = Err NotData
+data_frame_of (head ∷ bytes) =
     if head % 16 == 0 then Ok (record { port = head / 16; bytes = bytes }) else Err NotData
 
 -- The judgement of a piece that spells these bytes, or none.
 abbrev pub judgement_by : Option (List ℕ) → Judgement
 judgement_by None = Err BadEscape
-judgement_by (Some bytes) = if nat_lt most_bytes (length bytes) then Err TooLong else frame_of bytes
+judgement_by (Some bytes) = if nat_lt most_bytes (length bytes) then Err TooLong else data_frame_of bytes
 
 -- The judgement of a piece, by the bytes that it spells.
 unfoldable pub judgement_of : List ℕ → Judgement

@@ -36,18 +36,18 @@ pub record HoldsLongEscape (bytes : List ℕ) : Type 0 where
 
 -- What the reader holds after these bytes of a piece, by its state; in the state `Broken` they
 -- spell nothing, whatever follows them.
-abbrev pub Holds : State → List ℕ → List ℕ → Type 0
-Holds Ended held bytes = bytes ≡ []
-Holds Plain held bytes = HoldsPlain held bytes
-Holds Escape held bytes = HoldsEscape held bytes
-Holds Long held bytes = HoldsLong bytes
-Holds LongEscape held bytes = HoldsLongEscape bytes
-Holds Broken held bytes = (more : List ℕ) → unspelled (bytes ++ more) ≡ None
+abbrev pub HoldsAfter : State → List ℕ → List ℕ → Type 0
+HoldsAfter Ended held bytes = bytes ≡ []
+HoldsAfter Plain held bytes = HoldsPlain held bytes
+HoldsAfter Escape held bytes = HoldsEscape held bytes
+HoldsAfter Long held bytes = HoldsLong bytes
+HoldsAfter LongEscape held bytes = HoldsLongEscape bytes
+HoldsAfter Broken held bytes = (more : List ℕ) → unspelled (bytes ++ more) ≡ None
 
 -- Since the last frame end the reader was fed these bytes.
 pub record StandsAfter (reader : KissReader) (bytes : List ℕ) : Type 0 where
   pub whole : HasNoEnd bytes
-  pub held : Holds reader.state reader.bytes.items bytes
+  pub held : HoldsAfter reader.state reader.bytes.items bytes
 
 -- The judgement that an outcome reports, where the buffer holds a frame after its type byte.
 abbrev pub judged_as : Option (Result ℕ PassFault) → List ℕ → List Judgement

@@ -1,6 +1,6 @@
 //! Why a piece of a KISS stream is passed over.
 ghost use Rattle.std.specs.Prelude.{◌≡◌};
-ghost use Rattle.aprs_kiss.specs.Fault.{number_of, name_of};
+ghost use Rattle.aprs_kiss.specs.Fault.{pass_fault_number, pass_fault_name};
 
 /// Why a nonempty piece between two frame ends is no data frame: the first that holds.
 #[derive(Clone, Copy, Debug, PartialEq, Eq)]
@@ -16,7 +16,7 @@ pub enum PassFault {
 impl PassFault {
     /// 1 to 3, in the order in which the faults are looked for. Takes no memory.
     pub fn number(&self) -> u8
-        ensures { result ≡ number_of self.now }
+        ensures { result ≡ pass_fault_number self.now }
     {
         match self {
             PassFault::BadEscape => 1,
@@ -27,7 +27,7 @@ impl PassFault {
 
     /// The variant's name. Takes no memory.
     pub fn name(&self) -> &'static str
-        ensures { result.now ≡ name_of self.now }
+        ensures { result.now ≡ pass_fault_name self.now }
     {
         match self {
             PassFault::BadEscape => "BadEscape",

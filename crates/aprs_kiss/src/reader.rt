@@ -4,7 +4,7 @@ ghost use Rattle.std.specs.Bool.{OnTrue, OnFalse};
 ghost use Rattle.std.specs.Borrow.{sem};
 ghost use Rattle.std.specs.Option.{option_map, option_and_then};
 ghost use Rattle.std.specs.Io.BufRead.{Rests};
-ghost use Rattle.aprs_kiss.specs.Judgement.{judgement_of, frame_of};
+ghost use Rattle.aprs_kiss.specs.Judgement.{judgement_of, data_frame_of};
 ghost use Rattle.aprs_kiss.specs.Reader.{StandsAfter, IsOpen, IsClosed, judged_as};
 ghost use Rattle.aprs_kiss.specs.Answer.{IsWithinBounds, judgements_in};
 ghost use Rattle.aprs_kiss.specs.Plain.{IsPlain, is_special};
@@ -252,7 +252,7 @@ impl KissReader {
 
 /// The port of a data frame, from its type byte.
 fn port_of(bytes: &[u8]) -> Result<u8, PassFault>
-    ensures judged { judged_as (Some result) bytes.now ≡ frame_of bytes.now ∷ [] }
+    ensures judged { judged_as (Some result) bytes.now ≡ data_frame_of bytes.now ∷ [] }
     ensures frame { IfOk result (λ port. (port < 16) × (0 < length bytes.now)) }
 {
     match bytes {

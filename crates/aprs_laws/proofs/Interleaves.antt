@@ -125,14 +125,3 @@ one_pass gap pos a b v w =
       ],
     ))
     (interleave_ordered a b (ascending gap a v) (ascending gap b w))
-
--- a joined value is what comes of the rows one after another, and so is that of the one pass
-pub joined_is_merge : (gap : ℕ) → 0 < gap → (a b c : List Row) → Sound gap a → Sound gap b
-    → Joined gap a b c → c ≡ merge gap a b
-joined_is_merge gap pos a b c v w j =
-    one_book gap (witnesses a ++ witnesses b) c (merge gap a b) j (joined_by_merge gap pos a b v w)
-
-pub one_pass_is_merge : (gap : ℕ) → 0 < gap → (a b : List Row) → Sound gap a → Sound gap b
-    → coalesced gap (interleave a b) ≡ merge gap a b
-one_pass_is_merge gap pos a b v w =
-    joined_is_merge gap pos a b (coalesced gap (interleave a b)) v w (one_pass gap pos a b v w)

@@ -229,34 +229,3 @@ greatest_laws = record {
       (least a y q p m (then a x p j.left k.left)
       (least b c y p l (then b x p j.right k.left) k.right));
 }
-
--- by a test for Less
-pub second_is_greater : (a b : Heard) → is_lt (heard_cmp a b) ≡ true → IsGreaterOf a b b
-second_is_greater a b h = by_case (heard_cmp a b) refl h where
-  by_case : (o : Ordering) → heard_cmp a b ≡ o → is_lt o ≡ true → IsGreaterOf a b b
-  by_case Less e h = record {
-    one = inr refl;
-    left = ap is_gt e;
-    right = up_to_itself heard_total b;
-  }
-  by_case Equal e h = let n : false ≡ true = h in cc
-  by_case Greater e h = let n : false ≡ true = h in cc
-
-pub first_is_greater : (a b : Heard) → is_lt (heard_cmp a b) ≡ false → IsGreaterOf a b a
-first_is_greater a b h = by_case (heard_cmp a b) refl h where
-  by_case : (o : Ordering) → heard_cmp a b ≡ o → is_lt o ≡ false → IsGreaterOf a b a
-  by_case Less e h = let n : true ≡ false = h in cc
-  by_case Equal e h = record {
-    one = inl refl;
-    left = up_to_itself heard_total a;
-    right = ap is_gt (tied_back heard_total a b e);
-  }
-  by_case Greater e h = record {
-    one = inl refl;
-    left = up_to_itself heard_total a;
-    right = ap is_gt (heard_total.antisymm b a ∙ ap ordering_reverse e);
-  }
-
--- the joined value is the greater one
-pub is_the_greater : (a b c : Heard) → IsGreaterOf a b c → c ≡ greater a b
-is_the_greater a b c g = greatest_laws.only a b c (greater a b) g (is_greater_of a b)

@@ -31,18 +31,6 @@ not_three gap s x y z l b c i j k =
       apart : (a b c d m : ℕ) → a + gap < b → c + gap < d → b ≤ c → m ≤ a + gap → d ≤ m + gap → ⊥
       apart a b c d m f g l i k = omega arith
 
--- so near rows in order are two at most
-pub near_at_most_two : (gap : ℕ) (s : Heard) (rows : List Row) → Ordered (IsBefore gap) rows
-    → ((x : Row) → x ∈ rows → x.first ≤ last_of x)
-    → ((x : Row) → x ∈ rows → IsNear gap x (single s)) → length rows ≤ 2
-near_at_most_two gap s [] o l n = omega arith
-near_at_most_two gap s (x ∷ []) o l n = omega arith
-near_at_most_two gap s (x ∷ y ∷ []) o l n = omega arith
-near_at_most_two gap s (x ∷ y ∷ z ∷ zs) o l n =
-    absurd
-    (not_three gap s x y z (l y (inr (inl refl))) (o.0 y (inl refl)) (o.1.0 z (inl refl))
-    (n x (inl refl)) (n y (inr (inl refl))) (n z (inr (inr (inl refl)))))
-
 -- two members of a list in order
 pub one_or_ordered : {X : Type 0} (R : X → X → Type 0) (xs : List X) (x y : X) → Ordered R xs
     → x ∈ xs → y ∈ xs → (x ≡ y) ⊎ (R x y ⊎ R y x)

@@ -127,22 +127,6 @@ receiver_up_to s t e h = by_case (bytes_cmp s.receiver t.receiver) h where
   by_case Equal h = refl
   by_case Greater h = grind (arith, nat_tests)
 
--- the order of two frames' keys, by their parts
-pub key_cmp_of_parts : (f g : List ℕ)
-    → key_cmp (key_of f) (key_of g)
-    ≡ ordering_then (call_cmp (parts_of f).source.call (parts_of g).source.call)
-    (ordering_then (call_cmp (parts_of f).destination.call (parts_of g).destination.call)
-    (bytes_cmp (parts_of f).info (parts_of g).info))
-unfolding key_of key_cmp
-key_cmp_of_parts f g = refl
-
--- and that they are one where their parts are
-pub key_of_same_parts : (f g : List ℕ) → (parts_of f).source.call ≡ (parts_of g).source.call
-    → (parts_of f).destination.call ≡ (parts_of g).destination.call
-    → (parts_of f).info ≡ (parts_of g).info → key_of f ≡ key_of g
-unfolding key_of
-key_of_same_parts f g s d i = λ t. record { source = s t; destination = d t; info = i t }
-
 pub ordering_then_assoc : (p q r : Ordering)
     → ordering_then (ordering_then p q) r ≡ ordering_then p (ordering_then q r)
 ordering_then_assoc Less q r = refl

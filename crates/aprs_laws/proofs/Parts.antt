@@ -67,14 +67,6 @@ chosen gap x xs r o h =
     (λ (p : Ordering). choose p (x ∷ join_row gap xs r) (join_row gap xs (combine x r))
     (r ∷ x ∷ xs)) h
 
--- rows that lie before r stay
-pub join_past : (gap : ℕ) (a b : List Row) (r : Row) → ((x : Row) → x ∈ a → IsBefore gap x r)
-    → join_row gap (a ++ b) r ≡ a ++ join_row gap b r
-join_past gap [] b r f = refl
-join_past gap (x ∷ a) b r f =
-    chosen gap x (a ++ b) r Less (place_before gap x r (f x (inl refl)))
-    ∙ ap (λ (ys : List Row). x ∷ ys) (join_past gap a b r (λ y h. f y (inr h)))
-
 -- rows that lie after r stay
 pub join_first : (gap : ℕ) (c : List Row) (r : Row) → r.first ≤ last_of r
     → ((x : Row) → x ∈ c → x.first ≤ last_of x) → ((x : Row) → x ∈ c → IsBefore gap r x)
@@ -117,15 +109,6 @@ join_near gap (x ∷ n) c r l s o f g =
     (λ y h. near_combined gap x r y e.key (f y (inr h)))
     (λ y h. combined_before gap x r y e.key (o.0 y (in_right y n c h)) (g y h))
 
--- so one cut at each end of the near rows is all that `take` has to find
-pub join_parts : (gap : ℕ) (a n c : List Row) (r : Row) → r.first ≤ last_of r
-    → ((x : Row) → x ∈ (n ++ c) → x.first ≤ last_of x) → Ordered (IsBefore gap) (n ++ c)
-    → ((x : Row) → x ∈ a → IsBefore gap x r) → ((x : Row) → x ∈ n → IsNear gap x r)
-    → ((x : Row) → x ∈ c → IsBefore gap r x)
-    → join_row gap (a ++ (n ++ c)) r ≡ a ++ (gather n r ∷ c)
-join_parts gap a n c r l s o f g h =
-    join_past gap a (n ++ c) r f ∙ ap (λ (ys : List Row). a ++ ys) (join_near gap n c r l s o g h)
-
 -- what is before l is before what is not before l
 pub before_up_to : (gap : ℕ) (x l r : Row) → IsUpTo row_cmp l r → IsBefore gap x l
     → IsBefore gap x r
@@ -142,23 +125,3 @@ before_up_to gap x l r u b =
       by_case Equal h u (inl k) = inl (subst (λ (q : Key). key_cmp (row_key x) q ≡ Less) h k)
       by_case Equal h u (inr k) = inr (k.0 ∙ h, grind (arith, nat_tests, k.1))
       by_case Greater h u b = cc u
-
--- rows that come in order join the last one, or come after it
-pub join_last : (gap : ℕ) (prefix : List Row) (l r : Row) → l.first ≤ last_of l
-    → r.first ≤ last_of r
-    → ((x : Row) → x ∈ prefix → IsBefore gap x l) → IsUpTo row_cmp l r → IsNear gap l r
-    → join_row gap (prefix ++ l ∷ []) r ≡ prefix ++ combine l r ∷ []
-join_last gap prefix l r sl sr f u n =
-    join_parts gap prefix (l ∷ []) [] r sr
-    (λ x h. elim h [ inl e ↦ subst (λ (z : Row). z.first ≤ last_of z) e sl | inr k ↦ absurd k ])
-    (λ y h. absurd h, tt)
-    (λ x h. before_up_to gap x l r u (f x h))
-    (λ x h. elim h [ inl e ↦ subst (λ (z : Row). IsNear gap z r) e n | inr k ↦ absurd k ])
-    (λ x h. absurd h)
-
-pub join_after : (gap : ℕ) (out : List Row) (r : Row) → ((x : Row) → x ∈ out → IsBefore gap x r)
-    → join_row gap out r ≡ out ++ r ∷ []
-join_after gap [] r f = refl
-join_after gap (x ∷ xs) r f =
-    chosen gap x xs r Less (place_before gap x r (f x (inl refl)))
-    ∙ ap (λ (ys : List Row). x ∷ ys) (join_after gap xs r (λ y h. f y (inr h)))

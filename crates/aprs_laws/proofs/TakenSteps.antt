@@ -48,17 +48,6 @@ step_keeps gap (Merge i j) sets rows f k =
     by_test gap (sets k ++ sets j) (sets k) (merge gap (rows k) (rows j)) (rows k) (k == i)
     (merged gap (sets k) (sets j) (rows k) (rows j) (f k) (f j)) (f k)
 
--- the same of n places alone, if the step fits them
-pub step_keeps_below : (gap n : ℕ) (step : Step) (sets : ℕ → List Heard) (rows : ℕ → List Row)
-    → StepFits n step → ((k : ℕ) → k < n → BookOf gap (sets k) (rows k)) → (k : ℕ) → k < n
-    → BookOf gap (after_step step sets k) (rows_after_step gap step rows k)
-step_keeps_below gap n (Take i x) sets rows fits f k l =
-    by_test gap (sets k ++ x ∷ []) (sets k) (join_row gap (rows k) (single x)) (rows k) (k == i)
-    (taken_last gap (sets k) x (rows k) (f k l)) (f k l)
-step_keeps_below gap n (Merge i j) sets rows fits f k l =
-    by_test gap (sets k ++ sets j) (sets k) (merge gap (rows k) (rows j)) (rows k) (k == i)
-    (merged gap (sets k) (sets j) (rows k) (rows j) (f k l) (f j fits.1)) (f k l)
-
 pub steps_keep : (gap : ℕ) (steps : List Step) (sets : ℕ → List Heard) (rows : ℕ → List Row)
     → ((k : ℕ) → BookOf gap (sets k) (rows k)) → (k : ℕ)
     → BookOf gap (after_steps steps sets k) (rows_after_steps gap steps rows k)

@@ -2,12 +2,12 @@
 use Rattle.std.proofs.Common.{◌≡◌, ℕ, zero, suc, ◌<◌, ◌/◌, ◌%◌, ◌==◌, Bool, true, false, List, [], ◌∷◌, ◌++◌, length, map, filter, replicate, Option, None, Some, Result, Ok, Err, All, inl, inr, refl, sym, ap, ◌∙◌, append-nil, append_assoc, length-append, subst, arith, eqb-true}
 use Rattle.std.specs.Prelude.{if◌then◌else◌, nat_lt}
 use Rattle.std.specs.List.{flat_map}
-use Rattle.aprs_ax25.specs.FrameFault.{frame_of as ui_frame_of}
+use Rattle.aprs_ax25.specs.FrameFault.{frame_of}
 use Rattle.aprs_ax25.specs.UiFrame.{IsUiFrame}
 use Rattle.aprs_ax25.specs.declared.fault.FrameFault.{FrameFault}
 use Rattle.aprs_ax25.proofs.Sounds.{IsSound-len}
 use Rattle.aprs_ax25.proofs.UiFrames.{frame_of-is, frame_of-same, is-frame_of}
-use Rattle.aprs_kiss.specs.Judgement.{DataFrame, Judgement, frame_of, judgement_by, judgement_of}
+use Rattle.aprs_kiss.specs.Judgement.{DataFrame, Judgement, data_frame_of, judgement_by, judgement_of}
 use Rattle.aprs_kiss.specs.Spelling.{HasNoEnd, is_escape, is_frame_end, spelling_of, spelling_of_byte}
 use Rattle.aprs_kiss.specs.Stream.{is_nonempty, judgements_of, pieces_of, rest_of}
 use Rattle.aprs_kiss.specs.Unspelling.{unspelled}
@@ -89,7 +89,7 @@ some b bytes =
     omega (arith, one, all)
 
 is_data : (head : ℕ) (frame : List ℕ) → head % 16 ≡ 0
-    → frame_of (head ∷ frame) ≡ Ok (record { port = head / 16; bytes = frame })
+    → data_frame_of (head ∷ frame) ≡ Ok (record { port = head / 16; bytes = frame })
 is_data head frame e = rw e refl
 
 -- ---- new to old
@@ -194,7 +194,7 @@ if_head true h t d same e = record {
 }
 if_head false h t d same e = absurd cc
 
-has_head : (bytes : List ℕ) (d : DataFrame) → frame_of bytes ≡ Ok d → IsHead bytes d
+has_head : (bytes : List ℕ) (d : DataFrame) → data_frame_of bytes ≡ Ok d → IsHead bytes d
 has_head [] d e = absurd cc
 has_head (h ∷ t) d e = if_head (h % 16 == 0) h t d refl e
 
@@ -207,7 +207,7 @@ judged_by : (piece : List ℕ) (o : Option (List ℕ)) (d : DataFrame) → unspe
     → judgement_by o ≡ Ok d → IsSpelt piece d
 judged_by piece None d u e = absurd cc
 judged_by piece (Some bytes) d u e =
-    let h = has_head bytes d (if_data (nat_lt most_bytes (length bytes)) (frame_of bytes) d e) in
+    let h = has_head bytes d (if_data (nat_lt most_bytes (length bytes)) (data_frame_of bytes) d e) in
     record { head = h.head; command = h.command; is = u ∙ ap (λ l. Some l) h.is }
 
 judged_data : (piece : List ℕ) (d : DataFrame) → judgement_of piece ≡ Ok d → IsSpelt piece d
@@ -225,7 +225,7 @@ unfolding judgements_of
 judged_all bytes js e = e
 
 carried_by : (bytes frame : List ℕ) (d : DataFrame) → rest_of bytes ≡ []
-    → judgements_of bytes ≡ Ok d ∷ [] → ui_frame_of d.bytes ≡ Ok frame → CarriesFrame bytes frame
+    → judgements_of bytes ≡ Ok d ∷ [] → frame_of d.bytes ≡ Ok frame → CarriesFrame bytes frame
 carried_by bytes frame d r j e =
     let made = made_so bytes in
     let one = one_piece (pieces_of bytes) (Ok d) made.clean (judged_all bytes (Ok d ∷ []) j) in
@@ -253,7 +253,7 @@ carried_in bytes frame (x ∷ xs) js r j e = absurd cc
 carried_in bytes frame [] [] r j e = absurd cc
 carried_in bytes frame [] (Err f ∷ []) r j e = absurd cc
 carried_in bytes frame [] (Ok d ∷ []) r j e =
-    carried_by bytes frame d r j (or_reason (ui_frame_of d.bytes) frame e)
+    carried_by bytes frame d r j (or_reason (frame_of d.bytes) frame e)
 carried_in bytes frame [] (a ∷ b ∷ more) r j e = absurd cc
 
 pub carried-frame_in : (bytes frame : List ℕ) → frame_in bytes ≡ Ok frame

@@ -1,21 +1,24 @@
 -- Lemmas on times of a day whose date is known.
-use Rattle.std.proofs.Common.{◌≡◌, ◌≢◌, ◌⊎◌, inl, inr, ℕ, Bool, true, false, not, ◌+◌, ◌-◌, ◌*◌, ◌/◌, ◌%◌, ◌<◌, List, [], ◌∷◌, ◌++◌, ◌==◌, cond, length, length-append, take, drop, slice_index, Option, None, Some, pos, unsigned_abs, refl, arith, sym, ap, ◌∙◌, subst, take-append-drop}
+use Rattle.std.proofs.Common.{◌≡◌, ◌≢◌, ◌⊎◌, inl, inr, ℕ, ◌+◌, ◌-◌, ◌*◌, ◌/◌, ◌%◌, ◌<◌, ◌≤◌, List, [], ◌∷◌, ◌++◌, ◌==◌, cond, length, length-append, take, drop, slice_index, Option, None, Some, pos, unsigned_abs, refl, arith, sym, ap, ◌∙◌, subst, take-append-drop}
 use Rattle.std.specs.Prelude.{IfSome, SomeIff}
 use Rattle.std.proofs.Math.Seq.{take-append_seam, drop-append-add}
+use borrow.Rule.Slice.PartMut.{put_mid}
 use Rattle.jiff_core.specs.Calendar.{days_from_civil}
 use Rattle.aprs_log.specs.declared.moment_form.MomentForm.{MomentForm}
 use Rattle.aprs_log.specs.declared.moment_form.MomentForm.TheVariants.{Seconds, Millis}
 use Rattle.aprs_log.specs.Clock.{FractionText, SecondText, clock_text, form_of_end, midnight_text}
-use Rattle.aprs_log.specs.Moment.{Civil, IsCivil, civil_text, day_after, form_of_text, four_digits, fraction_text, moment_in, moment_of, moment_text_in, room_of, second_of_day, seconds_of, two_digits}
+use Rattle.aprs_log.specs.Moment.{date_text, day_after, four_digits, fraction_text, moment_text, moment_text_in, room_of, time_text, two_digits}
+use Rattle.aprs_log.specs.CivilMoment.{IsCivil}
+use Rattle.aprs_log.specs.MomentReading.{Civil, civil_text, form_of_text, moment_in, moment_of, second_of_day, seconds_of}
 use Rattle.aprs_log.proofs.Moments.{moment_in-civil, moment_in-text, moment_text-is, room_most, text-moment_in}
 
 -- YYYY-MM-DDT
-abbrev date_text : Civil → List ℕ
-date_text c = four_digits c.year ++ 45 ∷ two_digits c.month ++ 45 ∷ two_digits c.day ++ 84 ∷ []
+abbrev front_of : Civil → List ℕ
+front_of c = four_digits c.year ++ 45 ∷ two_digits c.month ++ 45 ∷ two_digits c.day ++ 84 ∷ []
 
 -- HH:MM:SS and what follows it
-abbrev time_text : MomentForm → ℕ → ℕ → ℕ → ℕ → List ℕ
-time_text form hour minute second n =
+abbrev end_of : MomentForm → ℕ → ℕ → ℕ → ℕ → List ℕ
+end_of form hour minute second n =
     clock_text hour minute second ++ fraction_text form n ++ 90 ∷ []
 
 -- the same day at another time
@@ -89,7 +92,7 @@ moment_of-inside t m e len space =
 -- another time of the day of a civil time
 moment_at : (form : MomentForm) (c : Civil) → IsCivil c → (hour minute second n : ℕ)
     → hour < 24 → minute < 60 → second < 60 → n < room_of form
-    → moment_in form (date_text c ++ time_text form hour minute second n)
+    → moment_in form (front_of c ++ end_of form hour minute second n)
     ≡ Some ((86400 * days_of c + (hour * 3600 + minute * 60 + second)) * 1000 + n)
 unfolding days_of
 moment_at form c real hour minute second n h m s below =
@@ -98,7 +101,7 @@ moment_at form c real hour minute second n h m s below =
 
 cut_text : (form : MomentForm) (date time : List ℕ) (c : Civil) (n : ℕ) → length date ≡ 11
     → date ++ time ≡ civil_text form c n
-    → (date ≡ date_text c) × (time ≡ time_text form c.hour c.minute c.second n)
+    → (date ≡ front_of c) × (time ≡ end_of form c.hour c.minute c.second n)
 cut_text form date time c n len e =
     let prefix : take 11 (date ++ time) ≡ date
     = ap (λ k. take k (date ++ time)) (sym len) ∙ take-append_seam date time in
@@ -108,7 +111,7 @@ cut_text form date time c n len e =
     (sym prefix ∙ ap (λ l. take 11 l) e, sym back ∙ ap (λ l. drop 11 l) e)
 
 -- at midnight no second of the day has gone by
-no_second : (c : Civil) (n : ℕ) → midnight_text ≡ time_text Seconds c.hour c.minute c.second n
+no_second : (c : Civil) (n : ℕ) → midnight_text ≡ end_of Seconds c.hour c.minute c.second n
     → second_of_day c ≡ 0
 no_second c n e =
     let h1 : 48 + c.hour / 10 ≡ 48 = sym (ap (λ l. slice_index l 0) e) in
@@ -133,8 +136,8 @@ moment_in-same_day form date time end midnight second n len e t f =
     ≡ midnight + second * 1000 + n
     = omega (arith, day.number, none, zero, t.number) in
     ap (λ l. moment_in form (l ++ (time ++ end))) parts.0
-    ∙ ap (λ l. moment_in form (date_text day.civil ++ (l ++ end))) t.spelled
-    ∙ ap (λ l. moment_in form (date_text day.civil
+    ∙ ap (λ l. moment_in form (front_of day.civil ++ (l ++ end))) t.spelled
+    ∙ ap (λ l. moment_in form (front_of day.civil
     ++ (clock_text t.hour t.minute t.second ++ l))) f.spelled
     ∙ moment_at form day.civil day.real t.hour t.minute t.second n t.is_hour t.is_minute t.is_second
     f.below
@@ -206,6 +209,25 @@ pub halves : (n : ℕ) (l prefix rest : List ℕ) → prefix ≡ take n l → re
 halves n l prefix rest e f =
     sym (take-append-drop n l) ∙ ap (λ x. x ++ drop n l) (sym e) ∙ ap (λ x. prefix ++ x) (sym f)
 
-pub not_false : (b : Bool) → not b ≡ false → b ≡ true
-not_false true e = refl
-not_false false e = absurd (let f : true ≡ false = e in cc)
+-- ---- the text of a moment of a day whose text is known
+
+-- a time of the day put over the last one
+pub time_put : (text time : List ℕ) (m k t : ℕ) → text ≡ moment_text k
+    → m / 86400000 ≡ k / 86400000 → t ≡ m % 86400000 → time ≡ time_text Millis t
+    → put_mid 11 13 text time ≡ moment_text m
+unfolding moment_text_in
+time_put text time m k t was same is put =
+    ap (λ l. put_mid 11 13 l time) was ∙ ap (λ l. put_mid 11 13 (moment_text k) l) put
+    ∙ ap (λ d. date_text (day_after d) ++ 84 ∷ time_text Millis t) (sym same)
+    ∙ ap (λ n. date_text (day_after (m / 86400000)) ++ 84 ∷ time_text Millis n) is
+
+-- the milliseconds since midnight, as they are reckoned where the moment may be before it
+pub since_midnight : (m midnight : ℕ) → m ≤ 4102444799999 → midnight ≤ 4102444799999
+    → (m + (18446744073709551616 - midnight)) % 18446744073709551616 < 86400000
+    → midnight + (m + (18446744073709551616 - midnight)) % 18446744073709551616 ≡ m
+since_midnight m midnight last early below = omega arith
+
+pub same_day : (m midnight time since : ℕ) → midnight % 86400000 ≡ 0 → time < 86400000
+    → since < 86400000 → midnight + since ≡ m
+    → (m / 86400000 ≡ (midnight + time) / 86400000) × (since ≡ m % 86400000)
+same_day m midnight time since starts within below sum = (omega arith, omega arith)

@@ -4,7 +4,8 @@ use Rattle.std.proofs.lemmas.Int.{by_lt_z}
 use Rattle.std.proofs.lemmas.Bool.{cases_lt}
 use Rattle.std.proofs.lemmas.Bool.Decides.{nat_tests}
 use Rattle.jiff_core.specs.Calendar.{day_count, days_from_civil, days_in_month, IsCivilDate}
-use Rattle.aprs_log.specs.Moment.{IsDay, Day, next_day, day_after}
+use Rattle.aprs_log.specs.Moment.{Day, next_day, day_after}
+use Rattle.aprs_log.specs.CivilMoment.{IsDay}
 use Rattle.jiff_core.proofs.SignedLemmas.{signed_arith}
 use Rattle.jiff_core.proofs.MarchLemmas.{day_count-early}
 use Rattle.jiff_core.proofs.CalendarLemmas.{day_count-epoch, days_from_civil-day_count, day_count-day, day_count-lt_month, day_count-lt_year, day_count-last_of_year, day_count-next_year, day_count-next_month, days_in_month_bounds}

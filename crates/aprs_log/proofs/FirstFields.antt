@@ -11,7 +11,7 @@ use Rattle.aprs_io.proofs.Cuts.{Lacks, cut_at-after, cut_at-append, cut_at-parts
 use Rattle.aprs_log.specs.Fields.{EndsMoment, EndsNoMoment, HasSpace, TakesMoment, TakesName, TakesNoMoment, TakesNoName, ends_name}
 use Rattle.aprs_log.specs.Line.{line_of, line_of_digits}
 use Rattle.aprs_log.specs.declared.fault.LineFault.TheVariants as fault
-use Rattle.aprs_log.specs.Moment.{moment_of}
+use Rattle.aprs_log.specs.MomentReading.{moment_of}
 use Rattle.aprs_log.specs.Receiver.{IsName, is_name_byte}
 use Rattle.aprs_log.proofs.Clocks.{moment_of-inside, moment_of-length}
 use Rattle.aprs_log.proofs.Lines.{IsName-lacks, MomentText-lacks, both, line_of-fields, line_of-no_moment, line_of-no_name, line_of-one_cut, line_of-uncut}

@@ -5,7 +5,7 @@ use Rattle.hex.specs.Hex.{decode_of}
 use Rattle.std.proofs.lemmas.Bool.Decides.{nat_tests}
 use Rattle.aprs_io.specs.Cut.{cut_at}
 use Rattle.aprs_io.specs.Device.{Calls, Going, Last}
-use Rattle.aprs_io.specs.Input.{last_of}
+use Rattle.aprs_io.specs.Input.{last_of_ending}
 use Rattle.aprs_io.specs.declared.device.Counted.{Counted}
 use Rattle.aprs_io.specs.declared.input.Ending.{Ending}
 use Rattle.aprs_io.specs.declared.input.Ending.TheVariants.{End, Read, TooLong}
@@ -15,10 +15,10 @@ use Rattle.aprs_log.specs.Awaits.{last_of_cause}
 use Rattle.aprs_log.specs.Fault.{log_cause_of}
 use Rattle.aprs_log.specs.Line.{line_of}
 use Rattle.aprs_log.specs.LogAnswers.{tail_cause}
-use Rattle.aprs_log.specs.Moment.{moment_of}
+use Rattle.aprs_log.specs.MomentReading.{moment_of}
 use Rattle.aprs_log.specs.Receiver.{is_name}
 use Rattle.std.specs.Prelude.{nat_le}
-use Rattle.aprs_log.specs.Steps.{◌>>=◌, ◌otherwise◌, guard}
+use Rattle.aprs_log.specs.Steps.{◌otherwise◌then◌, guard}
 use Rattle.aprs_log.specs.declared.fault.LineFault.{LineFault}
 use Rattle.aprs_log.specs.declared.fault.LineFault.TheVariants as fault
 use Rattle.aprs_log.specs.declared.fault.LogCause.{LogCause}
@@ -36,7 +36,7 @@ record WantsNone {X : Type 0} (r : Result X LineFault) : Type 0 where
 
 after_step : {X Y : Type 0} (o : Option X) (f : LineFault) (k : X → Result Y LineFault)
     → last_of_cause (log_cause_of f) ≡ Going → ((x : X) → WantsNone (k x))
-    → WantsNone ((o otherwise f) >>= k)
+    → WantsNone (o otherwise f then k)
 after_step None f k is next = record { is = is }
 after_step (Some x) f k is next = next x
 
@@ -60,7 +60,7 @@ fault_asks_nothing a l f c of is =
 -- ---- a tail that isn't too long stops it by how the input ended
 
 tail_tells : (tail : List ℕ) (e : Ending) → length tail ≤ MAX_LINE
-    → last_in (state_after (tail_cause tail e)) ≡ last_of e
+    → last_in (state_after (tail_cause tail e)) ≡ last_of_ending e
 tail_tells [] End short = refl
 tail_tells (b ∷ bs) End short = grind (arith, nat_tests, short)
 tail_tells tail Read short = grind (arith, nat_tests, short)
@@ -68,7 +68,7 @@ tail_tells tail TooLong short = grind (arith, nat_tests, short)
 
 pub stops_as_told : {R : Type 0} {a b : Counted R} {s : State} {o : Option LogCause}
     (tail : List ℕ) (e : Ending) → length tail ≤ MAX_LINE → o ≡ tail_cause tail e
-    → s ≡ state_after o → Calls (last_of e) a b → Calls (last_in s) a b
+    → s ≡ state_after o → Calls (last_of_ending e) a b → Calls (last_in s) a b
 stops_as_told {R} {a} {b} tail e short is to p =
     subst (λ last. Calls last a b)
     (sym (ap last_in to ∙ ap (λ o. last_in (state_after o)) is ∙ tail_tells tail e short)) p

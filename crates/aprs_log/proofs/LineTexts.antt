@@ -7,7 +7,7 @@ use Rattle.aprs_io.specs.Cut.{Cut, cut_at}
 use Rattle.aprs_log.specs.Fault.{log_cause_of}
 use Rattle.aprs_log.specs.Line.{frame_in, heard_or_passed, line_of, line_of_digits}
 use Rattle.aprs_log.specs.LineText.{HasMoment, HasReceiver, IsLine, IsPassed, IsWrongLine, Reports}
-use Rattle.aprs_log.specs.Moment.{moment_of}
+use Rattle.aprs_log.specs.MomentReading.{moment_of}
 use Rattle.aprs_log.specs.Receiver.{IsName, is_name}
 use Rattle.aprs_log.specs.Reception.{Heard}
 use Rattle.aprs_log.specs.declared.fault.LineFault.{LineFault}
@@ -19,22 +19,15 @@ use Rattle.aprs_log.specs.declared.line.Line.{Line}
 use Rattle.aprs_log.specs.declared.line.Line.TheVariants as line
 use Rattle.aprs_log.specs.declared.line.TheConstants.{MAX_LINE}
 use Rattle.aprs_log.proofs.CarriesFrames.{carried-frame_in, frame_in-carried}
-use Rattle.aprs_log.proofs.Lines.{has_moment, has_receiver, line_of-fields, line_of-long, line_of-no_moment, line_of-no_name, line_of-one_cut, line_of-syntax, line_of-uncut, moment_cut, moment_read, name_cut}
+use Rattle.aprs_log.proofs.Lines.{HasFields, has_moment, has_receiver, line_of-fields, line_of-long, line_of-no_moment, line_of-no_name, line_of-one_cut, line_of-syntax, line_of-uncut, moment_cut, moment_read, name_cut}
 
 -- ---- a line that is in order
-
-abbrev heard_as : ℕ → List ℕ → List ℕ → Result Line LineFault
-heard_as m name frame = Ok (line.Heard (record { moment = m; receiver = name; frame = frame }))
 
 -- what reading makes of a reception that is reported
 pub reports-line_of : (l : List ℕ) (x : Heard) → Reports l x → line_of l ≡ Ok (line.Heard x)
 reports-line_of l x h =
-    let is = h.0 in
-    line_of-syntax l is
-    ∙ ap (λ r. Ok (heard_or_passed is.moment is.receiver r))
-    (frame_in-carried is.bytes x.frame h.3)
-    ∙ ap (λ (m : ℕ). heard_as m is.receiver x.frame) (sym h.1)
-    ∙ ap (λ (name : List ℕ). heard_as x.moment name x.frame) (sym h.2)
+    line_of-syntax l x.moment x.receiver h.0 h.1
+    ∙ ap (λ r. Ok (heard_or_passed x.moment x.receiver r)) (frame_in-carried h.0 x.frame h.2)
 
 -- the line is passed over for some reason
 abbrev pub IsPassedOver : Result Line LineFault → Type 0
@@ -48,8 +41,8 @@ passed_by r m name (Err reason) e none = (reason, e)
 
 pub passed-line_of : (l : List ℕ) → IsPassed l → IsPassedOver (line_of l)
 passed-line_of l h =
-    passed_by (line_of l) h.0.moment h.0.receiver (frame_in h.0.bytes) (line_of-syntax l h.0)
-    (λ frame e. h.1 frame (carried-frame_in h.0.bytes frame e))
+    passed_by (line_of l) h.0 h.1 (frame_in h.2) (line_of-syntax l h.0 h.1 h.2 h.3)
+    (λ frame e. h.4 frame (carried-frame_in h.2 frame e))
 
 heard_parts : (m : ℕ) (name : List ℕ) (found : Result (List ℕ) Reason) (x : Heard)
     → heard_or_passed m name found ≡ line.Heard x
@@ -71,21 +64,25 @@ ok_same : (a b : Line) (r : Result Line LineFault) → r ≡ Ok a → r ≡ Ok b
 ok_same a b r e f = cc
 
 -- a line of this syntax reports what reading found, or is passed over
-said : (l : List ℕ) (is : IsLine l) (found : Line) → line_of l ≡ Ok found
-    → heard_or_passed is.moment is.receiver (frame_in is.bytes) ≡ found
-said l is found e = ok_same _ found (line_of l) (line_of-syntax l is) e
+said : (l : List ℕ) (is : HasFields l) (found : Line) → line_of l ≡ Ok found
+    → heard_or_passed is.0 is.1 (frame_in is.2) ≡ found
+said l is found e = ok_same _ found (line_of l) (line_of-syntax l is.0 is.1 is.2 is.3) e
 
-pub line_said-reports : (l : List ℕ) → IsLine l → (x : Heard) → line_of l ≡ Ok (line.Heard x)
+pub line_said-reports : (l : List ℕ) → HasFields l → (x : Heard) → line_of l ≡ Ok (line.Heard x)
     → Reports l x
 line_said-reports l is x e =
-    let parts = heard_parts is.moment is.receiver (frame_in is.bytes) x (said l is _ e) in
-    (is, parts.0, parts.1, carried-frame_in is.bytes x.frame parts.2)
+    let parts = heard_parts is.0 is.1 (frame_in is.2) x (said l is _ e) in (
+      is.2,
+      subst (λ m. IsLine l m x.receiver is.2) (sym parts.0)
+          (subst (λ name. IsLine l is.0 name is.2) (sym parts.1) is.3),
+      carried-frame_in is.2 x.frame parts.2,
+    )
 
-pub line_said-passed : (l : List ℕ) → IsLine l → (reason : Reason)
+pub line_said-passed : (l : List ℕ) → HasFields l → (reason : Reason)
     → line_of l ≡ Ok (line.Passed reason) → IsPassed l
 line_said-passed l is reason e =
-    let none = passed_parts is.moment is.receiver (frame_in is.bytes) reason (said l is _ e) in
-    (is, λ frame carried. none frame (frame_in-carried is.bytes frame carried))
+    let none = passed_parts is.0 is.1 (frame_in is.2) reason (said l is _ e) in
+    (is.0, is.1, is.2, is.3, λ frame carried. none frame (frame_in-carried is.2 frame carried))
 
 -- ---- a line that is refused
 
@@ -184,16 +181,13 @@ module _ (l : List ℕ) (short : length l ≤ MAX_LINE) where
     has = has_receiver l first next m e read second name
 
     by_digits : (d : Result (List ℕ) FromHexError) → decode_of next.after ≡ d
-        → IsWrong l ⊎ IsLine l
-    by_digits (Ok bytes) decoded = inr (record {
-      moment = m;
-      receiver = next.before;
-      digits = next.after;
-      bytes = bytes;
-      short = short;
-      fields = has;
-      is_hex = decoded;
-    })
+        → IsWrong l ⊎ HasFields l
+    by_digits (Ok bytes) decoded = inr (
+      m,
+      next.before,
+      bytes,
+      record { short = short; digits = next.after; fields = has; is_hex = decoded },
+    )
     by_digits (Err error) decoded =
         let bad : IsErr (decode_of next.after) = subst (λ r. IsErr r) (sym decoded) refl in
         inl (why.Hex, (short, (m, next.before, next.after, has, bad)))
@@ -211,7 +205,7 @@ module _ (l : List ℕ) (short : length l ≤ MAX_LINE) where
         (why.Receiver, (short, (m, first.after, has_moment l first m e read), none))
 
     by_name : (next : Cut) → cut_at 32 first.after ≡ Some next → (b : Bool)
-        → is_name next.before ≡ b → IsWrong l ⊎ IsLine l
+        → is_name next.before ≡ b → IsWrong l ⊎ HasFields l
     by_name next second true named =
         by_digits first next m e read second named (decode_of next.after) refl
     by_name next second false named = inl (wrong_name (λ n name more h.
@@ -220,13 +214,13 @@ module _ (l : List ℕ) (short : length l ≤ MAX_LINE) where
         let is : is_name next.before ≡ true = subst (λ b. is_name b ≡ true) same h.0 in
         let bad : true ≡ false = sym is ∙ named in cc))
 
-    by_second : (o : Option Cut) → cut_at 32 first.after ≡ o → IsWrong l ⊎ IsLine l
+    by_second : (o : Option Cut) → cut_at 32 first.after ≡ o → IsWrong l ⊎ HasFields l
     by_second None second = inl (wrong_name (λ n name more h.
         not_none _ (cut_at 32 first.after) (after_same n name more h) second))
     by_second (Some next) second = by_name next second (is_name next.before) refl
 
   by_moment : (first : Cut) → cut_at 32 l ≡ Some first → (r : Option ℕ)
-      → moment_of first.before ≡ r → IsWrong l ⊎ IsLine l
+      → moment_of first.before ≡ r → IsWrong l ⊎ HasFields l
   by_moment first e None read = inl (
     why.Moment,
     (
@@ -238,7 +232,7 @@ module _ (l : List ℕ) (short : length l ≤ MAX_LINE) where
   )
   by_moment first e (Some m) read = by_second first m e read (cut_at 32 first.after) refl
 
-  by_first : (o : Option Cut) → cut_at 32 l ≡ o → IsWrong l ⊎ IsLine l
+  by_first : (o : Option Cut) → cut_at 32 l ≡ o → IsWrong l ⊎ HasFields l
   by_first None e = inl (
     why.Moment,
     (
@@ -249,8 +243,8 @@ module _ (l : List ℕ) (short : length l ≤ MAX_LINE) where
   )
   by_first (Some first) e = by_moment first e (moment_of first.before) refl
 
-pub wrong_or_line : (l : List ℕ) → IsWrong l ⊎ IsLine l
-wrong_or_line l = elim (cases_lt MAX_LINE (length l)) as (λ _. IsWrong l ⊎ IsLine l) [
+pub wrong_or_line : (l : List ℕ) → IsWrong l ⊎ HasFields l
+wrong_or_line l = elim (cases_lt MAX_LINE (length l)) as (λ _. IsWrong l ⊎ HasFields l) [
   | inl long ↦ inl (why.LongLine, long)
   | inr short ↦ by_first l short (cut_at 32 l) refl
 ]
@@ -263,8 +257,8 @@ ok_err x f r e g = absurd cc
 pub err_same : (f g : LineFault) (r : Result Line LineFault) → r ≡ Err f → r ≡ Err g → f ≡ g
 err_same f g r e h = cc
 
-pub line_of-is : (l : List ℕ) (x : Line) → line_of l ≡ Ok x → IsLine l
-line_of-is l x e = elim (wrong_or_line l) as (λ _. IsLine l) [
+pub line_of-is : (l : List ℕ) (x : Line) → line_of l ≡ Ok x → HasFields l
+line_of-is l x e = elim (wrong_or_line l) as (λ _. HasFields l) [
   | inl wrong ↦
       let refused = wrong-line_of l wrong.0 wrong.1 in
       absurd (ok_err x refused.0 (line_of l) e refused.1)
@@ -284,5 +278,5 @@ line_of-wrong l f e = elim (wrong_or_line l) as (λ _. IsWrongLine l (log_cause_
       let refused = wrong-line_of l wrong.0 wrong.1 in
       let same : f ≡ refused.0 = err_same f refused.0 (line_of l) e refused.1 in
       subst (IsWrongLine l) (sym (ap log_cause_of same ∙ refused.2)) wrong.1
-  | inr is ↦ absurd (ok_err _ f (line_of l) (line_of-syntax l is) e)
+  | inr is ↦ absurd (ok_err _ f (line_of l) (line_of-syntax l is.0 is.1 is.2 is.3) e)
 ]

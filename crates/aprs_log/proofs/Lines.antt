@@ -8,11 +8,13 @@ use Rattle.hex.specs.Hex.{decode_of}
 use Rattle.aprs_io.specs.Cut.{Cut, cut_at, is_byte}
 use Rattle.aprs_log.specs.declared.moment_form.MomentForm.{MomentForm}
 use Rattle.aprs_log.specs.declared.moment_form.MomentForm.TheVariants.{Seconds, Millis}
-use Rattle.aprs_log.specs.Moment.{Civil, two_digits, fraction_text, civil_text, MomentText, moment_of}
+use Rattle.aprs_log.specs.Moment.{two_digits, fraction_text, IsTextOf}
+use Rattle.aprs_log.specs.CivilMoment.{MomentText}
+use Rattle.aprs_log.specs.MomentReading.{Civil, civil_text, moment_of}
 use Rattle.aprs_log.specs.Receiver.{IsName, is_name, is_name_byte}
 use Rattle.aprs_log.specs.Line.{frame_in, heard_or_passed, line_of, line_of_digits}
-use Rattle.aprs_log.specs.LineText.{HasMoment, HasReceiver, IsLine, IsTextOf}
-use Rattle.aprs_log.specs.Steps.{◌>>=◌, ◌otherwise◌, guard}
+use Rattle.aprs_log.specs.LineText.{HasMoment, HasReceiver, IsLine}
+use Rattle.aprs_log.specs.Steps.{◌otherwise◌then◌, guard}
 use Rattle.aprs_log.specs.declared.line.TheConstants.{MAX_LINE}
 use Rattle.aprs_log.specs.declared.fault.LineFault.{LineFault}
 use Rattle.aprs_log.specs.declared.fault.LineFault.TheVariants as fault
@@ -111,7 +113,7 @@ name_cut name more h = cut_at-append 32 name more (IsName-lacks name h)
 
 -- a reading that ends well found something at its first step
 found_if : {A B : Type 0} (o : Option A) (why : LineFault) (next : A → Result B LineFault)
-    → IsOk ((o otherwise why) >>= next) → (x : A) × (o ≡ Some x) × IsOk (next x)
+    → IsOk (o otherwise why then next) → (x : A) × (o ≡ Some x) × IsOk (next x)
 found_if None why next h = absurd cc
 found_if (Some x) why next h = (x, refl, h)
 
@@ -133,19 +135,23 @@ is_false true h = absurd (h refl)
 is_false false h = refl
 
 -- a line of this syntax is sound, whatever its bytes are
-pub line_of-syntax : (l : List ℕ) (s : IsLine l)
-    → line_of l ≡ Ok (heard_or_passed s.moment s.receiver (frame_in s.bytes))
+pub line_of-syntax : (l : List ℕ) (m : ℕ) (name bytes : List ℕ) → IsLine l m name bytes
+    → line_of l ≡ Ok (heard_or_passed m name (frame_in bytes))
 unfolding line_of
-line_of-syntax l s =
-    let rest = s.receiver ++ 32 ∷ s.digits in
+line_of-syntax l m name bytes s =
+    let rest = name ++ 32 ∷ s.digits in
     let text = s.fields.1.0 in
     let first : cut_at 32 l ≡ Some (record { before = text; after = rest })
-    = moment_cut l s.moment rest s.fields.1 in
-    let second : cut_at 32 rest ≡ Some (record { before = s.receiver; after = s.digits })
-    = name_cut s.receiver s.digits s.fields.0 in
-    let moment : moment_of text ≡ Some s.moment = moment_read s.moment text s.fields.1.1 in
-    let named : is_name s.receiver ≡ true = s.fields.0 in
+    = moment_cut l m rest s.fields.1 in
+    let second : cut_at 32 rest ≡ Some (record { before = name; after = s.digits })
+    = name_cut name s.digits s.fields.0 in
+    let moment : moment_of text ≡ Some m = moment_read m text s.fields.1.1 in
+    let named : is_name name ≡ true = s.fields.0 in
     rw (is_short l s.short, first, moment, second, named, s.is_hex)
+
+-- the line has this syntax
+abbrev pub HasFields : List ℕ → Type 0
+HasFields l = (m : ℕ) × (name : List ℕ) × (bytes : List ℕ) × IsLine l m name bytes
 
 -- a text that is cut where a moment was read has that moment
 pub has_moment : (l : List ℕ) (first : Cut) (m : ℕ) → cut_at 32 l ≡ Some first
@@ -166,7 +172,7 @@ has_receiver l first next m e read second name = (
 )
 
 -- a sound line has this syntax
-pub line_of-sound : (l : List ℕ) → IsOk (line_of l) → IsLine l
+pub line_of-sound : (l : List ℕ) → IsOk (line_of l) → HasFields l
 unfolding line_of
 line_of-sound l h =
     let short = found_if (guard (nat_le (length l) MAX_LINE)) fault.LongLine _ h in
@@ -174,17 +180,18 @@ line_of-sound l h =
     let moment = found_if (moment_of first.0.before) fault.Moment _ first.2 in
     let second = found_if (cut_at 32 first.0.after) fault.Receiver _ moment.2 in
     let named = found_if (guard (is_name second.0.before)) fault.Receiver _ second.2 in
-    let bytes = found_if (result_ok (decode_of second.0.after)) fault.Hex _ named.2 in
-    record {
-      moment = moment.0;
-      receiver = second.0.before;
-      digits = second.0.after;
-      bytes = bytes.0;
-      short = leb-true _ _ (guard_if _ short.0 short.1);
-      fields = has_receiver l first.0 second.0 moment.0 first.1 moment.1 second.1
-          (guard_if (is_name second.0.before) named.0 named.1);
-      is_hex = value_if (decode_of second.0.after) bytes.0 bytes.1;
-    }
+    let bytes = found_if (result_ok (decode_of second.0.after)) fault.Hex _ named.2 in (
+      moment.0,
+      second.0.before,
+      bytes.0,
+      record {
+        short = leb-true _ _ (guard_if _ short.0 short.1);
+        digits = second.0.after;
+        fields = has_receiver l first.0 second.0 moment.0 first.1 moment.1 second.1
+            (guard_if (is_name second.0.before) named.0 named.1);
+        is_hex = value_if (decode_of second.0.after) bytes.0 bytes.1;
+      },
+    )
 
 -- ---- the answer, field by field
 
@@ -231,8 +238,9 @@ ok_is : (m : ℕ) (r : List ℕ) (bytes : List ℕ) (x : Result Line LineFault)
 ok_is m r bytes x e = subst (λ y. IsOk y) (sym e) refl
 
 -- sound exactly where it has the syntax
-pub IsOk-line_of : (l : List ℕ) (x : Result Line LineFault) → x ≡ line_of l → IsOk x ↔ IsLine l
+pub IsOk-line_of : (l : List ℕ) (x : Result Line LineFault) → x ≡ line_of l
+    → IsOk x ↔ HasFields l
 IsOk-line_of l x e = (
   λ h. line_of-sound l (subst (λ y. IsOk y) e h),
-  λ h. ok_is h.moment h.receiver h.bytes x (e ∙ line_of-syntax l h),
+  λ h. ok_is h.0 h.1 h.2 x (e ∙ line_of-syntax l h.0 h.1 h.2 h.3),
 )

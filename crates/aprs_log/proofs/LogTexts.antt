@@ -12,8 +12,8 @@ use Rattle.aprs_io.specs.declared.input.Ending.{Ending}
 use Rattle.aprs_io.specs.declared.input.Ending.TheVariants as how
 use Rattle.aprs_log.specs.Fault.{log_cause_of}
 use Rattle.aprs_log.specs.Line.{line_of}
-use Rattle.aprs_log.specs.LineText.{IsLine, IsWrongLine}
-use Rattle.aprs_log.specs.LogAnswers.{Answers, answers_from, ended, ending_cause, fault_at, log_answers, receptions_of, tail_cause, then_answers}
+use Rattle.aprs_log.specs.LineText.{IsWrongLine}
+use Rattle.aprs_log.specs.LogAnswers.{Answers, answers_from, ended, short_tail_cause, fault_at, log_answers, receptions_of, tail_cause, then_answers}
 use Rattle.aprs_log.specs.LogText.{BeginsWrong, HasLogFault, HasNoLf, IsLogText, IsWrongTail, ReportAll, text_of_lines}
 use Rattle.aprs_log.specs.Reception.{Heard}
 use Rattle.aprs_log.specs.declared.fault.LineFault.{LineFault}
@@ -23,8 +23,8 @@ use Rattle.aprs_log.specs.declared.fault.LogFault.{LogFault}
 use Rattle.aprs_log.specs.declared.line.Line.{Line}
 use Rattle.aprs_log.specs.declared.line.Line.TheVariants as line
 use Rattle.aprs_log.specs.declared.line.TheConstants.{MAX_LINE}
-use Rattle.aprs_log.proofs.Lines.{moment_lacks, name_lacks}
-use Rattle.aprs_log.proofs.LineTexts.{line_of-passed, line_of-reports, line_of-wrong, passed-line_of, reports-line_of, wrong-line_of}
+use Rattle.aprs_log.proofs.Lines.{HasFields, moment_lacks, name_lacks}
+use Rattle.aprs_log.proofs.LineTexts.{line_of-is, line_of-passed, line_of-reports, line_of-wrong, passed-line_of, reports-line_of, wrong-line_of}
 use Rattle.aprs_log.proofs.LogAnswers.{answers_from-line, answers_from-tail, no_lf, too_long_tail}
 use Rattle.aprs_log.proofs.Moments.{IsTextOf-text}
 
@@ -72,17 +72,17 @@ digits_lack [] h = tt
 digits_lack (c ∷ ds) h = (digit_differs c (is_byte 10 c) refl h.0, digits_lack ds h.1)
 
 -- a line of the syntax has none
-pub line_lacks : (l : List ℕ) → IsLine l → Lacks 10 l
-line_lacks l is =
+pub line_lacks : (l : List ℕ) → HasFields l → Lacks 10 l
+line_lacks l h =
+    let is = h.3 in
     let text = is.fields.1.0 in
     let digits = digits_lack is.digits (recursion_from_All (λ c. is_hex_digit c ≡ true) is.digits
-    (decode_of-ok is.digits is.bytes is.is_hex).1) in
-    let name = name_lacks 10 (omega arith) is.receiver is.fields.0 in
-    let moment = moment_lacks 10 (omega arith) is.moment text
-    (IsTextOf-text is.moment text is.fields.1.1) in
+    (decode_of-ok is.digits h.2 is.is_hex).1) in
+    let name = name_lacks 10 (omega arith) h.1 is.fields.0 in
+    let moment = moment_lacks 10 (omega arith) h.0 text (IsTextOf-text h.0 text is.fields.1.1) in
     subst (Lacks 10) (sym is.fields.1.2)
-    (lacks_append text (32 ∷ (is.receiver ++ 32 ∷ is.digits)) moment
-    (refl, lacks_append is.receiver (32 ∷ is.digits) name (refl, digits)))
+    (lacks_append text (32 ∷ (h.1 ++ 32 ∷ is.digits)) moment
+    (refl, lacks_append h.1 (32 ∷ is.digits) name (refl, digits)))
 
 -- a text has no LF, or is cut at its first
 record FirstLine (text : List ℕ) : Type 0 where
@@ -135,10 +135,10 @@ answers_from-last n t e h =
 
 -- ---- the tail
 
-short_tail : (t : List ℕ) (e : Ending) → length t ≤ MAX_LINE → tail_cause t e ≡ ending_cause e t
+short_tail : (t : List ℕ) (e : Ending) → length t ≤ MAX_LINE → tail_cause t e ≡ short_tail_cause e t
 short_tail t e h = unless_long (nat_lt MAX_LINE (length t)) (grind (arith, nat_tests)) where
   unless_long : (b : Bool) → b ≡ false
-      → cond b (Some why.LongLine) (ending_cause e t) ≡ ending_cause e t
+      → cond b (Some why.LongLine) (short_tail_cause e t) ≡ short_tail_cause e t
   unless_long true h = absurd (let bad : true ≡ false = h in cc)
   unless_long false h = refl
 
@@ -148,14 +148,14 @@ some_same c d o e f = cc
 none_some : (c : LogCause) (o : Option LogCause) → o ≡ None → o ≡ Some c → ⊥
 none_some c o e f = absurd cc
 
-good_ending : (t : List ℕ) (e : Ending) → ending_cause e t ≡ None → (t ≡ []) × (e ≡ how.End)
+good_ending : (t : List ℕ) (e : Ending) → short_tail_cause e t ≡ None → (t ≡ []) × (e ≡ how.End)
 good_ending t how.Read h = absurd cc
 good_ending t how.TooLong h = absurd cc
 good_ending [] how.End h = (refl, refl)
 good_ending (b ∷ t) how.End h = absurd cc
 
 wrong_ending : (t : List ℕ) (e : Ending) (c : LogCause) → length t ≤ MAX_LINE
-    → ending_cause e t ≡ Some c → IsWrongTail t e c
+    → short_tail_cause e t ≡ Some c → IsWrongTail t e c
 wrong_ending t how.Read c short h =
     subst (IsWrongTail t how.Read) (some_same why.Read c _ refl h) (short, refl)
 wrong_ending t how.TooLong c short h =
@@ -179,7 +179,7 @@ wrong_tail t e c h = elim (cases_lt MAX_LINE (length t)) as (λ _. IsWrongTail t
   | inr short ↦ wrong_ending t e c short (sym (short_tail t e short) ∙ h)
 ]
 
-not_newline : (t : List ℕ) → t ≢ [] → ending_cause how.End t ≡ Some why.NoNewline
+not_newline : (t : List ℕ) → t ≢ [] → short_tail_cause how.End t ≡ Some why.NoNewline
 not_newline [] h = absurd (h refl)
 not_newline (b ∷ t) h = refl
 
@@ -187,12 +187,12 @@ cause_of_tail : (t : List ℕ) (e : Ending) (c : LogCause) → IsWrongTail t e c
     → tail_cause t e ≡ Some c
 cause_of_tail t e why.LongLine h = too_long_tail t e h
 cause_of_tail t e why.NoNewline h =
-    short_tail t e h.0 ∙ ap (λ e. ending_cause e t) h.1 ∙ not_newline t h.2
+    short_tail t e h.0 ∙ ap (λ e. short_tail_cause e t) h.1 ∙ not_newline t h.2
 cause_of_tail t e why.Moment h = absurd h
 cause_of_tail t e why.Receiver h = absurd h
 cause_of_tail t e why.Hex h = absurd h
-cause_of_tail t e why.Read h = short_tail t e h.0 ∙ ap (λ e. ending_cause e t) h.1
-cause_of_tail t e why.TooLong h = short_tail t e h.0 ∙ ap (λ e. ending_cause e t) h.1
+cause_of_tail t e why.Read h = short_tail t e h.0 ∙ ap (λ e. short_tail_cause e t) h.1
+cause_of_tail t e why.TooLong h = short_tail t e h.0 ∙ ap (λ e. short_tail_cause e t) h.1
 cause_of_tail t e why.Memory h = absurd h
 
 -- ---- what the answers tell of the text
@@ -353,12 +353,12 @@ record Gives (lines : List (List ℕ)) (S : List Heard) (n : ℕ) (rest : List �
       ≡ S ++ receptions_of (answers_from (length lines + n) rest e).given
 
 answers_join : (n : ℕ) (l : List ℕ) (lines : List (List ℕ)) (rest : List ℕ) (e : Ending) (x : Line)
-    → IsLine l → line_of l ≡ Ok x → answers_from n (text_of_lines (l ∷ lines) ++ rest) e
+    → line_of l ≡ Ok x → answers_from n (text_of_lines (l ∷ lines) ++ rest) e
     ≡ then_answers n (Ok x) (answers_from (n + 1) (text_of_lines lines ++ rest) e)
-answers_join n l lines rest e x is found =
+answers_join n l lines rest e x found =
     ap (λ t. answers_from n t e) (append_assoc (l ++ 10 ∷ []) (text_of_lines lines) rest
     ∙ append_assoc l (10 ∷ []) (text_of_lines lines ++ rest))
-    ∙ answers_from-first n l (text_of_lines lines ++ rest) e (line_lacks l is)
+    ∙ answers_from-first n l (text_of_lines lines ++ rest) e (line_lacks l (line_of-is l x found))
     ∙ ap (λ r. then_answers n r (answers_from (n + 1) (text_of_lines lines ++ rest) e)) found
 
 abbrev heard_in : Answers → List Heard
@@ -377,7 +377,7 @@ gives [] S all n rest e =
     }
 gives (l ∷ lines) S (inl passed) n rest e =
     let found = passed-line_of l passed.0 in
-    let joined = answers_join n l lines rest e (line.Passed found.0) passed.0.0 found.1 in
+    let joined = answers_join n l lines rest e (line.Passed found.0) found.1 in
     let more = gives lines S passed.1 (n + 1) rest e in
     let at = ap (λ k. answers_from k rest e) (next_number (length lines) n) in record {
       fault = ap (λ (a : Answers). a.fault) joined ∙ more.fault ∙ ap (λ (a : Answers). a.fault) at;
@@ -387,7 +387,7 @@ gives (l ∷ lines) S (inr one) n rest e =
     let x = one.0 in
     let T = one.1 in
     let found = reports-line_of l x one.2 in
-    let joined = answers_join n l lines rest e (line.Heard x) one.2.0 found in
+    let joined = answers_join n l lines rest e (line.Heard x) found in
     let more = gives lines T one.3 (n + 1) rest e in
     let at = ap (λ k. answers_from k rest e) (next_number (length lines) n) in record {
       fault = ap (λ (a : Answers). a.fault) joined ∙ more.fault ∙ ap (λ (a : Answers). a.fault) at;

@@ -11,8 +11,9 @@ use Rattle.aprs_log.specs.declared.moment_form.MomentForm.{MomentForm}
 use Rattle.aprs_log.specs.declared.moment_form.MomentForm.TheVariants.{Seconds, Millis}
 use Rattle.aprs_log.specs.Places.{near_civil, near_digit, near_millis}
 use Rattle.aprs_log.specs.Clock.{form_size}
-use Rattle.aprs_log.specs.LineText.{IsTextOf}
-use Rattle.aprs_log.specs.Moment.{Civil, civil_at, civil_text, digit_of, IsCivil, is_date, is_time, is_civil, is_real, second_of_day, seconds_of, room_of, MomentTextIn, MomentText, millis_at, moment_in, form_of_text, moment_of, day_after, civil_after, moment_text_in}
+use Rattle.aprs_log.specs.Moment.{Day, IsTextOf, IsWritable, room_of, day_after, moment_text_in}
+use Rattle.aprs_log.specs.CivilMoment.{IsCivil, MomentTextIn, MomentText, civil_after}
+use Rattle.aprs_log.specs.MomentReading.{Civil, civil_at, civil_text, digit_of, is_date, is_time, is_civil, is_real, second_of_day, seconds_of, millis_at, moment_in, form_of_text, moment_of}
 
 -- a civil time whose parts have as many digits as a text has room for
 pub record FitsText (c : Civil) : Type 0 where
@@ -346,15 +347,6 @@ moment_in-unfound form t h = let c = civil_at t in let n = millis_at form t in
         (near_civil-civil_text form c n (IsCivil-fits c real.civil))
         ∙ ap (civil_text form c) (near_millis-civil_text form c n real.below) ∙ is
 
-pub IsExactIn : (form : MomentForm) (t : List ℕ) (r : Option ℕ) → r ≡ moment_in form t → (m : ℕ)
-    → (r ≡ Some m) ↔ MomentTextIn form m t
-IsExactIn form t r e m =
-    (λ h. moment_in-text form t m (sym e ∙ h), λ h. e ∙ text-moment_in form t m h)
-
-pub IsExact : (t : List ℕ) (r : Option ℕ) → r ≡ moment_of t → (m : ℕ)
-    → (r ≡ Some m) ↔ MomentText m t
-IsExact t r e m = (λ h. moment_of-text t m (sym e ∙ h), λ h. e ∙ text-moment_of t m h)
-
 -- the text of a real time
 pub civil_text-moment : (form : MomentForm) (c : Civil) (n m : ℕ) → IsCivil c → n < room_of form
     → seconds_of c * 1000 + n ≡ m → MomentTextIn form m (civil_text form c n)
@@ -368,6 +360,30 @@ civil_text-moment form c n m h below e = record {
 }
 
 -- ---- the text as a function
+
+-- a day at a time of it
+abbrev at_day : Day → ℕ → ℕ → ℕ → Civil
+at_day d hour minute second = civil_of d.year d.month d.day hour minute second
+
+same_at : (form : MomentForm) (a b : Day) (h m s n h' m' s' n' : ℕ) → a ≡ b → h ≡ h' → m ≡ m'
+    → s ≡ s' → n ≡ n'
+    → civil_text form (at_day a h m s) n ≡ civil_text form (at_day b h' m' s') n'
+same_at form a b h m s n h' m' s' n' day hour minute second milli = cc
+
+split_time : (m t : ℕ) → t ≡ m % 86400000
+    → (m / 86400000 ≡ m / 1000 / 86400) × (t / 3600000 ≡ m / 1000 % 86400 / 3600)
+    × (t / 60000 % 60 ≡ m / 1000 % 86400 / 60 % 60) × (t / 1000 % 60 ≡ m / 1000 % 86400 % 60)
+    × (t % 1000 ≡ m % 1000)
+split_time m t is = (omega arith, omega arith, omega arith, omega arith, omega arith)
+
+-- the text of a moment is that of its civil time
+pub same_text : (form : MomentForm) (m : ℕ)
+    → moment_text_in form m ≡ civil_text form (civil_after (m / 1000)) (m % 1000)
+unfolding moment_text_in
+same_text form m =
+    let e = split_time m (m % 86400000) refl in
+    same_at form (day_after (m / 86400000)) (day_after (m / 1000 / 86400)) _ _ _ _ _ _ _ _
+    (ap day_after e.0) e.1 e.2 e.3 e.4
 
 civil_after-day : (m : ℕ) → m ≤ 4102444799 → NthDay (m / 86400) (day_after (m / 86400))
 civil_after-day m h = day_after-is (m / 86400) (omega arith)
@@ -393,12 +409,12 @@ after_seconds m h =
 -- each moment that the form can write has the text that the function gives
 pub moment_text-is : (form : MomentForm) (m : ℕ) → m ≤ 4102444799999 → m % 1000 < room_of form
     → MomentTextIn form m (moment_text_in form m)
-unfolding moment_text_in
 moment_text-is form m h below =
-    civil_text-moment form (civil_after (m / 1000)) (m % 1000) m
+    subst (MomentTextIn form m) (sym (same_text form m))
+    (civil_text-moment form (civil_after (m / 1000)) (m % 1000) m
     (after_real (m / 1000) (omega arith)) below
     (whole (m / 1000) (m % 1000) (seconds_of (civil_after (m / 1000)))
-    (after_seconds (m / 1000) (omega arith)) (omega arith)) where
+    (after_seconds (m / 1000) (omega arith)) (omega arith))) where
       whole : (q r s : ℕ) → s ≡ q → q * 1000 + r ≡ m → s * 1000 + r ≡ m
       whole q r s e f = omega arith
 
@@ -431,19 +447,48 @@ text_early form m t h =
 
 -- ---- the text as one relation
 
+pub writable-text : (form : MomentForm) (m : ℕ) (t : List ℕ) → IsWritable form m
+    → t ≡ moment_text_in form m → MomentTextIn form m t
+writable-text form m t h is =
+    subst (MomentTextIn form m) (sym is) (moment_text-is form m h.in_range h.whole)
+
+pub text-writable : (form : MomentForm) (m : ℕ) (t : List ℕ) → MomentTextIn form m t
+    → IsWritable form m × (t ≡ moment_text_in form m)
+text-writable form m t h =
+    let early = text_early form m t h in
+    let whole = millis_kept form m t h in (
+      record { in_range = early; whole = whole },
+      one_text form m t (moment_text_in form m) h (moment_text-is form m early whole),
+    )
+
 pub IsTextOf-text : (m : ℕ) (t : List ℕ) → IsTextOf m t → MomentText m t
-IsTextOf-text m t h = (
-  h.form,
-  subst (MomentTextIn h.form m) (sym h.text_is)
-      (moment_text-is h.form m h.in_range h.whole),
-)
+IsTextOf-text m t h = (h.0, writable-text h.0 m t h.1 h.2)
 
 pub text-IsTextOf : (m : ℕ) (t : List ℕ) → MomentText m t → IsTextOf m t
-text-IsTextOf m t h =
-    let early = text_early h.0 m t h.1 in
-    let kept = millis_kept h.0 m t h.1 in record {
-      form = h.0;
-      in_range = early;
-      whole = kept;
-      text_is = one_text h.0 m t (moment_text_in h.0 m) h.1 (moment_text-is h.0 m early kept);
-    }
+text-IsTextOf m t h = let is = text-writable h.0 m t h.1 in (h.0, is.0, is.1)
+
+pub IsExactIn : (form : MomentForm) (t : List ℕ) (r : Option ℕ) → r ≡ moment_in form t → (m : ℕ)
+    → (r ≡ Some m) ↔ (IsWritable form m × (t ≡ moment_text_in form m))
+IsExactIn form t r e m = (
+  λ h. text-writable form m t (moment_in-text form t m (sym e ∙ h)),
+  λ h. e ∙ text-moment_in form t m (writable-text form m t h.0 h.1),
+)
+
+pub IsExact : (t : List ℕ) (r : Option ℕ) → r ≡ moment_of t → (m : ℕ) → (r ≡ Some m) ↔ IsTextOf m t
+IsExact t r e m = (
+  λ h. text-IsTextOf m t (moment_of-text t m (sym e ∙ h)),
+  λ h. e ∙ text-moment_of t m (IsTextOf-text m t h),
+)
+
+-- what the relation says of an answer says which one it is
+pub exact-value : (form : MomentForm) (t : List ℕ) (r : Option ℕ)
+    → ((m : ℕ) → (r ≡ Some m) ↔ (IsWritable form m × (t ≡ moment_text_in form m)))
+    → r ≡ moment_in form t
+exact-value form t (Some m) exact =
+    let is = (exact m).0 refl in
+    sym (text-moment_in form t m (writable-text form m t is.0 is.1))
+exact-value form t None exact = none (moment_in form t) refl where
+  none : (o : Option ℕ) → moment_in form t ≡ o → None ≡ moment_in form t
+  none None e = sym e
+  none (Some m) e =
+      let no = (exact m).1 (text-writable form m t (moment_in-text form t m e)) in absurd (cc no)

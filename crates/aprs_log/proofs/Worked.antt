@@ -11,7 +11,7 @@ use Rattle.hex.specs.Hex.{decode_pairs}
 use Rattle.aprs_log.specs.Examples.{heard_after, hi_digits, hi_line, leap_line, line_by, noon, unended_line}
 use Rattle.aprs_log.specs.Line.{frame_in, line_of}
 use Rattle.aprs_log.specs.LogText.{HasNoLf}
-use Rattle.aprs_log.specs.Moment.{moment_in, moment_of}
+use Rattle.aprs_log.specs.MomentReading.{moment_in, moment_of}
 use Rattle.aprs_log.specs.declared.fault.LineFault.TheVariants as fault
 use Rattle.aprs_log.specs.declared.fault.Reason.TheVariants as reason
 use Rattle.aprs_log.specs.declared.line.Line.TheVariants as line

@@ -1,7 +1,5 @@
 -- Lemmas on the line that is written for a reception.
-use Rattle.std.proofs.Common.{◌≡◌, ℕ, zero, suc, ◌+◌, ◌/◌, ◌%◌, ◌<◌, ◌≤◌, ◌≢◌, Bool, true, false, if◌then◌else◌, List, [], ◌∷◌, ◌++◌, length, slice_index, append_assoc, take, length-append, length-take, Ok, refl, arith, sym, ap, ◌∙◌, subst}
-use Rattle.std.proofs.lemmas.List.{take-take}
-use Rattle.std.proofs.Math.Seq.{take-append_seam}
+use Rattle.std.proofs.Common.{◌≡◌, ℕ, zero, suc, ◌/◌, ◌%◌, ◌<◌, ◌≤◌, ◌≢◌, Bool, true, false, if◌then◌else◌, List, [], ◌∷◌, ◌++◌, length, slice_index, append_assoc, Ok, refl, arith, sym, ap, ◌∙◌, subst}
 use Rattle.aprs_kiss.specs.Plain.{IsPlain, is_special}
 use Rattle.aprs_kiss.specs.Spelling.{is_escape, is_frame_end, spelling_of, spelling_of_byte, kiss_text}
 use Rattle.aprs_kiss.proofs.Escapes.{spelling_of-all, spelling_of-cut}
@@ -11,7 +9,8 @@ use Rattle.aprs_ax25.proofs.Spellings.{FrameOf-frame_fault}
 use Rattle.hex.specs.Hex.{IsBytes, decode_of, encode_lower, encode_with, lower_digits}
 use Rattle.hex.proofs.HexLemmas.{decode_of-encode_lower}
 use Rattle.std.proofs.lemmas.Bool.Decides.{nat_tests}
-use Rattle.aprs_log.specs.Moment.{MomentText, moment_text}
+use Rattle.aprs_log.specs.Moment.{moment_text}
+use Rattle.aprs_log.specs.CivilMoment.{MomentText}
 use Rattle.aprs_log.specs.Receiver.{IsName}
 use Rattle.aprs_log.specs.Reception.{Heard}
 use Rattle.aprs_log.specs.Line.{heard_or_passed, line_of, written_line}
@@ -123,29 +122,6 @@ reads_back frame are =
     (bytes-append (spelling_of frame) (0xC0 ∷ []) (bytes-spelling frame are)
     (one_byte 0xC0 (omega arith))))
 
--- ---- a line's moment
-
-begins : (line text more : List ℕ) (n : ℕ) → take n line ≡ text ++ more → length text ≡ 24
-    → take 24 line ≡ text
-begins line text more n e len =
-    let most : length (take n line) ≤ n = simp length-take (omega arith) in
-    let size : length (text ++ more) ≡ length text + length more = length-append text more in
-    let least : 24 ≤ n = omega (arith, ap length e, size, len) in
-    sym (take-take 24 n line least) ∙ ap (λ l. take 24 l) e
-    ∙ ap (λ k. take k (text ++ more)) (sym len) ∙ take-append_seam text more
-
--- a line that was put together begins with its moment's text
-pub begins_with_moment : (line : List ℕ) (n : ℕ) (x : Heard)
-    → take n line ≡ written_line x ++ 10 ∷ []
-    → length (moment_text x.moment) ≡ 24 → take 24 line ≡ moment_text x.moment
-begins_with_moment line n x e len =
-    let text = moment_text x.moment in
-    let name = 32 ∷ x.receiver in
-    let digits = 32 ∷ encode_lower (kiss_text x.frame) in
-    begins line text (name ++ (digits ++ 10 ∷ [])) n
-    (e ∙ append_assoc (text ++ name) digits (10 ∷ [])
-    ∙ append_assoc text name (digits ++ 10 ∷ [])) len
-
 -- ---- a written line reads back
 
 -- what a reception's parts are
@@ -168,12 +144,9 @@ pub line_of-written : (x : Heard) → IsReal x
     → decode_of (encode_lower (kiss_text x.frame)) ≡ Ok (kiss_text x.frame)
     → length (written_line x) ≤ MAX_LINE → line_of (written_line x) ≡ Ok (line.Heard x)
 line_of-written x h digits short =
-    line_of-syntax (written_line x) (record {
-      moment = x.moment;
-      receiver = x.receiver;
-      digits = encode_lower (kiss_text x.frame);
-      bytes = kiss_text x.frame;
+    line_of-syntax (written_line x) x.moment x.receiver (kiss_text x.frame) (record {
       short = short;
+      digits = encode_lower (kiss_text x.frame);
       fields = (
         h.receiver,
         (

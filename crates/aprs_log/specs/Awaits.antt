@@ -44,11 +44,6 @@ stop_in (Failed cause) line = Some (Some (fault_after line cause))
 
 -- what the device answered last where a log is read no further for this cause
 abbrev pub last_of_cause : LogCause → Last
-last_of_cause cause.LongLine = Going
-last_of_cause cause.NoNewline = End
-last_of_cause cause.Moment = Going
-last_of_cause cause.Receiver = Going
-last_of_cause cause.Hex = Going
 last_of_cause cause.Read = Fault
-last_of_cause cause.TooLong = Going
-last_of_cause cause.Memory = Going
+last_of_cause cause.NoNewline = End
+last_of_cause other = Going

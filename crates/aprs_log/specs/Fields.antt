@@ -2,7 +2,7 @@
 use Rattle.std.specs.Prelude.{◌≡◌, ℕ, ◌<◌, ◌⊎◌, Bool, not, List, length, slice_index, None, Some}
 use Rattle.aprs_io.specs.Cut.{Cut, cut_at}
 use Rattle.aprs_log.specs.Sizes.{millis_size, seconds_size}
-use Rattle.aprs_log.specs.Moment.{moment_of}
+use Rattle.aprs_log.specs.MomentReading.{moment_of}
 use Rattle.aprs_log.specs.Receiver.{IsName, is_name_byte}
 
 -- a space stands at n

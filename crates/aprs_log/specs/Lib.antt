@@ -3,6 +3,7 @@ pub use Rattle.aprs_io.specs.Cut
 pub use Rattle.aprs_io.specs.Device
 pub use Rattle.aprs_io.specs.Input
 pub mod Awaits
+pub mod CivilMoment
 pub mod Clock
 pub mod Examples
 pub mod Fault
@@ -13,6 +14,7 @@ pub mod LineText
 pub mod LogAnswers
 pub mod LogText
 pub mod Moment
+pub mod MomentReading
 pub mod Places
 pub mod Reader
 pub mod ReaderSteps
@@ -22,4 +24,3 @@ pub mod Sizes
 pub mod States
 pub mod Steps
 pub mod Window
-pub mod Written

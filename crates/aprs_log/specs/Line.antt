@@ -10,10 +10,11 @@ use Rattle.aprs_ax25.specs.FrameFault.{frame_of}
 use Rattle.aprs_ax25.specs.declared.fault.FrameFault.{FrameFault}
 use Rattle.aprs_io.specs.Cut.{cut_at}
 use Rattle.aprs_log.specs.Fault.{reason_of_pass, reason_of_frame}
-use Rattle.aprs_log.specs.Moment.{moment_of, moment_text}
+use Rattle.aprs_log.specs.Moment.{moment_text}
+use Rattle.aprs_log.specs.MomentReading.{moment_of}
 use Rattle.aprs_log.specs.Receiver.{is_name}
 use Rattle.aprs_log.specs.Reception.{Heard}
-use Rattle.aprs_log.specs.Steps.{◌>>=◌, ◌otherwise◌, guard}
+use Rattle.aprs_log.specs.Steps.{◌otherwise◌then◌, guard}
 use Rattle.aprs_log.specs.declared.fault.LineFault.{LineFault}
 use Rattle.aprs_log.specs.declared.fault.LineFault.TheVariants as fault
 use Rattle.aprs_log.specs.declared.fault.Reason.{Reason}
@@ -56,21 +57,21 @@ heard_or_passed m r (Err reason) = line.Passed reason
 -- the line of a moment and a receiver whose bytes stand in these digits: they are hexadecimal, or
 -- the fault is Hex; then the frame in the bytes was heard, or the line is passed over
 abbrev pub line_of_digits : ℕ → List ℕ → List ℕ → Result Line LineFault
-line_of_digits m r digits = do
-  bytes ← result_ok (decode_of digits) otherwise fault.Hex
-  Ok (heard_or_passed m r (frame_in bytes))
+line_of_digits m r digits =
+    result_ok (decode_of digits) otherwise fault.Hex then λ bytes.
+    Ok (heard_or_passed m r (frame_in bytes))
 
 -- What a line without its LF reports, or its first fault. It has at most 8,192 bytes, or the fault
 -- is LongLine; its first space ends the text of a moment, or the fault is Moment; the next space
 -- ends the name of a receiver, or the fault is Receiver; and what follows is read as digits.
 unfoldable pub line_of : List ℕ → Result Line LineFault
-line_of l = do
-  short ← guard (nat_le (length l) most_line) otherwise fault.LongLine
-  first ← cut_at 32 l otherwise fault.Moment
-  moment ← moment_of first.before otherwise fault.Moment
-  second ← cut_at 32 first.after otherwise fault.Receiver
-  named ← guard (is_name second.before) otherwise fault.Receiver
-  line_of_digits moment second.before second.after
+line_of l =
+    guard (nat_le (length l) most_line) otherwise fault.LongLine then λ short.
+    cut_at 32 l otherwise fault.Moment then λ first.
+    moment_of first.before otherwise fault.Moment then λ moment.
+    cut_at 32 first.after otherwise fault.Receiver then λ second.
+    guard (is_name second.before) otherwise fault.Receiver then λ named.
+    line_of_digits moment second.before second.after
 
 -- ---- the line that is written
 

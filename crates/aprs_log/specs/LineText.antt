@@ -3,23 +3,14 @@ use Rattle.std.specs.Prelude.{◌≡◌, ℕ, ◌%◌, ◌<◌, ◌≤◌, List,
 use Rattle.hex.specs.Hex.{decode_of}
 use Rattle.aprs_kiss.specs.Spelling.{spelling_of}
 use Rattle.aprs_ax25.specs.UiFrame.{IsUiFrame}
-use Rattle.aprs_log.specs.Moment.{moment_text_in, room_of}
+use Rattle.aprs_log.specs.Moment.{IsTextOf}
 use Rattle.aprs_log.specs.Receiver.{IsName}
 use Rattle.aprs_log.specs.Reception.{Heard}
-use Rattle.aprs_log.specs.Sizes.{last_milli, most_line}
+use Rattle.aprs_log.specs.Sizes.{most_line}
 use Rattle.aprs_log.specs.declared.fault.LogCause.{LogCause}
 use Rattle.aprs_log.specs.declared.fault.LogCause.TheVariants as why
-use Rattle.aprs_log.specs.declared.moment_form.MomentForm.{MomentForm}
 
 -- ---- a line that is in order
-
--- The text is that of the moment in a form: the moment is before the year 2100 and can be written
--- in this form, to the second only where it is of a whole second.
-pub record IsTextOf (m : ℕ) (text : List ℕ) : Type 0 where
-  pub form : MomentForm
-  pub in_range : m ≤ last_milli
-  pub whole : m % 1000 < room_of form
-  pub text_is : text ≡ moment_text_in form m
 
 -- The line is a text of the moment, a space, and these bytes.
 abbrev pub HasMoment : List ℕ → ℕ → List ℕ → Type 0
@@ -29,15 +20,12 @@ HasMoment line m more = (text : List ℕ) × IsTextOf m text × (line ≡ text +
 abbrev pub HasReceiver : List ℕ → ℕ → List ℕ → List ℕ → Type 0
 HasReceiver line m name more = IsName name × HasMoment line m (name ++ 32 ∷ more)
 
--- The line has at most 8,192 bytes: a moment, a receiver's name, and bytes in hexadecimal, with a
--- space between.
-pub record IsLine (line : List ℕ) : Type 0 where
-  pub moment : ℕ
-  pub receiver : List ℕ
-  pub digits : List ℕ
-  pub bytes : List ℕ
+-- The line has at most 8,192 bytes: a text of the moment, a receiver's name, and these bytes in
+-- hexadecimal, with a space between.
+pub record IsLine (line : List ℕ) (m : ℕ) (name bytes : List ℕ) : Type 0 where
   pub short : length line ≤ most_line
-  pub fields : HasReceiver line moment receiver digits
+  pub digits : List ℕ
+  pub fields : HasReceiver line m name digits
   pub is_hex : decode_of digits ≡ Ok bytes
 
 -- The bytes are one data frame of KISS, and a UI frame is all that is in it: a type byte of command
@@ -54,12 +42,13 @@ pub record CarriesFrame (bytes frame : List ℕ) : Type 0 where
 
 -- The line reports this reception: its bytes carry the frame.
 abbrev pub Reports : List ℕ → Heard → Type 0
-Reports line x = (is : IsLine line)
-    × (x.moment ≡ is.moment) × (x.receiver ≡ is.receiver) × CarriesFrame is.bytes x.frame
+Reports line x =
+    (bytes : List ℕ) × IsLine line x.moment x.receiver bytes × CarriesFrame bytes x.frame
 
 -- The line is passed over: its bytes carry no frame.
 abbrev pub IsPassed : List ℕ → Type 0
-IsPassed line = (is : IsLine line) × ((frame : List ℕ) → ¬ CarriesFrame is.bytes frame)
+IsPassed line = (m : ℕ) × (name : List ℕ) × (bytes : List ℕ) × IsLine line m name bytes
+    × ((frame : List ℕ) → ¬ CarriesFrame bytes frame)
 
 -- ---- a line that is refused
 

@@ -21,16 +21,16 @@ abbrev pub is_lf : ℕ → Bool
 is_lf b = is_byte 10 b
 
 -- why a log ends at a tail of no more bytes than a line may have, unless it ends well
-abbrev pub ending_cause : Ending → List ℕ → Option LogCause
-ending_cause Read tail = Some cause.Read
-ending_cause TooLong tail = Some cause.TooLong
-ending_cause End [] = None
-ending_cause End (b ∷ bs) = Some cause.NoNewline
+abbrev pub short_tail_cause : Ending → List ℕ → Option LogCause
+short_tail_cause Read tail = Some cause.Read
+short_tail_cause TooLong tail = Some cause.TooLong
+short_tail_cause End [] = None
+short_tail_cause End (b ∷ bs) = Some cause.NoNewline
 
 -- why a log ends at what stands after its last LF, by how the input ended after that
 abbrev pub tail_cause : List ℕ → Ending → Option LogCause
 tail_cause tail ending =
-    if nat_lt most_line (length tail) then Some cause.LongLine else ending_cause ending tail
+    if nat_lt most_line (length tail) then Some cause.LongLine else short_tail_cause ending tail
 
 -- the lines that are given, and the fault after them, if there is one
 pub record Answers : Type 0 where

@@ -37,8 +37,7 @@ abbrev pub IsWrongTail : List ℕ → Ending → LogCause → Type 0
 IsWrongTail tail ending why.LongLine = most_line < length tail
 IsWrongTail tail ending why.Read = (length tail ≤ most_line) × (ending ≡ how.Read)
 IsWrongTail tail ending why.TooLong = (length tail ≤ most_line) × (ending ≡ how.TooLong)
-IsWrongTail tail ending why.NoNewline =
-    (length tail ≤ most_line) × (ending ≡ how.End) × (tail ≢ [])
+IsWrongTail tail ending why.NoNewline = (length tail ≤ most_line) × (ending ≡ how.End) × (tail ≢ [])
 IsWrongTail tail ending other = ⊥
 
 -- The text begins with a line that is wrong for this cause; or no line is left, and the tail is.

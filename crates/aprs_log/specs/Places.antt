@@ -2,7 +2,7 @@
 use Rattle.std.specs.Prelude.{ℕ, ◌+◌, ◌-◌, ◌*◌, min, List, slice_index}
 use Rattle.aprs_log.specs.declared.moment_form.MomentForm.{MomentForm}
 use Rattle.aprs_log.specs.declared.moment_form.MomentForm.TheVariants.{Seconds, Millis}
-use Rattle.aprs_log.specs.Moment.{Civil}
+use Rattle.aprs_log.specs.MomentReading.{Civil}
 
 -- the value of a digit, and of another byte that of the digit next to it
 abbrev pub near_digit : ℕ → ℕ

@@ -23,8 +23,8 @@ abbrev pub loan_of : {R : Type 0} → LogReader R → GName
 loan_of r = r.source.ghost_name
 
 -- how many lines it has returned
-abbrev pub lines_of : {R : Type 0} → LogReader R → ℕ
-lines_of r = r.line
+abbrev pub line_count_of : {R : Type 0} → LogReader R → ℕ
+line_count_of r = r.line
 
 -- the line that it returned last
 abbrev pub current_of : {R : Type 0} → LogReader R → Line
@@ -51,7 +51,7 @@ Awaits known end r answers =
 
 -- nothing was read yet: no line was returned, it holds the head alone, and it may go on
 pub record Starts {R : Type 0} (r : LogReader R) (head : List ℕ) : Type 0 where
-  pub first : lines_of r ≡ 0
+  pub first : line_count_of r ≡ 0
   pub current : current_of r ≡ line.Passed NoFrame
   pub held : read_ahead_of r ≡ head
   pub going : stop_of r ≡ None
@@ -94,11 +94,11 @@ answer_with (Err fault) x = Err fault
 abbrev pub GivesNext : {R : Type 0} → Result (Option Line) LogFault → Option (List ℕ) → LogReader R
     → Option (List ℕ) → LogReader R → Type 0
 GivesNext (Ok (Some x)) known old after new =
-    (lines_of new ≡ lines_of old + 1) × (stop_of new ≡ None)
+    (line_count_of new ≡ line_count_of old + 1) × (stop_of new ≡ None)
     × ((end : Option (List ℕ)) (answers : Answers) → Awaits after end new answers
     → Awaits known end old (then_given x answers))
 GivesNext (Ok None) known old after new =
-    (lines_of new ≡ lines_of old) × (stop_of new ≡ Some None) × Awaits known after old (ended None)
+    (line_count_of new ≡ line_count_of old) × (stop_of new ≡ Some None) × Awaits known after old (ended None)
 GivesNext (Err fault) known old after new =
-    (lines_of new ≡ lines_of old) × (stop_of new ≡ Some (Some fault))
+    (line_count_of new ≡ line_count_of old) × (stop_of new ≡ Some (Some fault))
     × Awaits known after old (ended (Some fault))

@@ -1,6 +1,7 @@
 //! Dates of the civil calendar with a time of the day.
 ghost use Rattle.std.specs.Prelude.{◌≡◌, ◌≤◌, ◌<◌, ◌+◌, ◌*◌, ◌/◌, ◌%◌, ◌∷◌, ◌++◌, [], length, pos, SomeIff, IfSome};
-ghost use Rattle.aprs_log.specs.Moment.{Civil, civil_text, is_time, second_of_day, seconds_of, IsCivil};
+ghost use Rattle.aprs_log.specs.CivilMoment.{IsCivil};
+ghost use Rattle.aprs_log.specs.MomentReading.{Civil, civil_text, is_time, second_of_day, seconds_of};
 ghost use Rattle.aprs_log.specs.Sizes.{last_second, seconds_size};
 ghost use Rattle.aprs_log.specs.Places.{near_civil, near_digit, near_millis, near_pair};
 
@@ -220,14 +221,16 @@ fn near_pair(text: &[u8], i: usize) -> u8
     near_digit(text[i]) * 10 + near_digit(text[i + 1])
 }
 
-fn tens(n: u8) -> u8
+/// The tens digit of a number.
+pub fn tens(n: u8) -> u8
     requires { n < 100 }
     ensures { result ≡ 48 + n / 10 }
 {
     b'0' + n / 10
 }
 
-fn units(n: u8) -> u8
+/// The last digit of a number.
+pub fn units(n: u8) -> u8
     ensures { result ≡ 48 + n % 10 }
 {
     b'0' + n % 10

@@ -1,21 +1,24 @@
 //! Moments that follow one another.
-ghost use Rattle.std.specs.Prelude.{◌≡◌, ◌⊎◌, ◌↔◌, ℕ, ◌<◌, ◌+◌, ◌∷◌, ◌++◌, [], length, slice_index, Some, IfSome};
+ghost use Rattle.std.specs.Prelude.{◌≡◌, ◌⊎◌, ◌↔◌, ℕ, ◌≤◌, ◌<◌, ◌+◌, ◌∷◌, ◌++◌, [], length, take, drop, slice_index, Some, IfSome};
+ghost use Rattle.std.specs.Bool.{OnTrue};
+ghost use Rattle.std.specs.Int.{w64, to_le_bytes};
 ghost use Rattle.aprs_log.specs.declared.moment_form.MomentForm.{MomentForm};
 ghost use Rattle.aprs_log.specs.Clock.{FractionText, form_of_end, SecondText, midnight_text};
 ghost use Rattle.aprs_log.specs.Sizes.{millis_size, seconds_size};
-ghost use Rattle.aprs_log.specs.Moment.{MomentTextIn, moment_in, moment_of, two_digits};
+ghost use Rattle.aprs_log.specs.Moment.{IsWritable, moment_text_in, two_digits};
+ghost use Rattle.aprs_log.specs.MomentReading.{moment_in, moment_of};
 
 use crate::MomentForm;
 use crate::moment::Moment;
 
 /// The bytes of a moment's date, with the `T` after it.
-const DATE_LEN: usize = 11;
+pub const DATE_LEN: usize = 11;
 
 /// The bytes of a time's hour, minute and second.
 const TIME_LEN: usize = 8;
 
 /// How many milliseconds a day has.
-const MILLIS_A_DAY: u64 = 86_400_000;
+pub const MILLIS_A_DAY: u64 = 86_400_000;
 
 /// Reads moments that follow one another. It keeps the date of the last one and that day's first
 /// moment, since lines of a log or a book that follow one another mostly have the same date.
@@ -38,8 +41,8 @@ impl Clock {
     /// The moment of a text in this form, as `Moment::parse_in`. Keeps its date, so that the next
     /// moment of that day is read sooner. Takes no memory.
     pub fn parse_in(&mut self, form: MomentForm, text: &[u8]) -> Option<Moment>
-        ensures value { result ≡ moment_in form text.now }
-        ensures exact { (m : ℕ) → (result ≡ Some m) ↔ MomentTextIn form m text.now }
+        ensures exact { (m : ℕ)
+            → (result ≡ Some m) ↔ (IsWritable form m × (text.now ≡ moment_text_in form m)) }
     {
         if text.len() != form.size() {
             return None;
@@ -63,10 +66,10 @@ impl Clock {
         requires { (length text.now ≡ seconds_size) ⊎ (length text.now ≡ millis_size) }
         ensures { IfSome result (λ m. moment_of text.now ≡ Some m) }
     {
-        let (date, rest) = text.split_at(DATE_LEN);
-        if date != self.date.as_slice() {
+        if !has_date(text, &self.date) {
             return None;
         }
+        let (_, rest) = text.split_at(DATE_LEN);
         let (time, fraction) = rest.split_at(TIME_LEN);
         let second = second_of_text(time)?;
         let milli = milli_of_text(fraction)?;
@@ -89,6 +92,26 @@ impl Clock {
         }
         Some(moment)
     }
+}
+
+/// Whether a text begins with this date: two words of eight bytes, which overlap, have all of it.
+#[inline(always)]
+fn has_date(text: &[u8], date: &[u8; DATE_LEN]) -> bool
+    requires { DATE_LEN ≤ length text.now }
+    ensures { OnTrue result (take DATE_LEN text.now ≡ date.now) }
+{
+    word_at(text, 0) == word_at(date, 0) && word_at(text, 3) == word_at(date, 3)
+}
+
+/// The eight bytes at a place, as a number.
+#[inline(always)]
+fn word_at(bytes: &[u8], place: usize) -> u64
+    requires { place + 8 ≤ length bytes.now }
+    ensures { to_le_bytes w64 result ≡ take 8 (drop place bytes.now) }
+{
+    let mut word = [0; 8];
+    word.copy_from_slice(&bytes[place..place + 8]);
+    u64::from_le_bytes(word)
 }
 
 /// The second of the day of a text as `12:00:00`, where it is one.

@@ -2,7 +2,8 @@
 ghost use Rattle.std.specs.Prelude.{◌≡◌, ◌++◌, ◌∷◌, [], ℕ, List, codes};
 ghost use Rattle.aprs_io.specs.declared.input.Ending.TheVariants.{End, Read};
 ghost use Rattle.aprs_log.specs.Examples.{heard_after, hi_digits, hi_line, leap_line, line_by, noon, unended_line};
-ghost use Rattle.aprs_log.specs.LineText.{IsPassed, IsTextOf, IsWrongLine, Reports};
+ghost use Rattle.aprs_log.specs.LineText.{IsPassed, IsWrongLine, Reports};
+ghost use Rattle.aprs_log.specs.Moment.{IsTextOf};
 ghost use Rattle.aprs_log.specs.LogText.{HasLogFault, IsLogText};
 ghost use Rattle.aprs_log.specs.Reception.{Heard};
 ghost use Rattle.aprs_log.specs.declared.fault.LogCause.TheVariants as why;

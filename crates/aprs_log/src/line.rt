@@ -1,6 +1,6 @@
 //! Lines of a log.
 ghost use Rattle.aprs_log.specs.ReaderSteps.{line_in};
-ghost use Rattle.std.specs.Prelude.{◌≡◌, ◌≤◌, ◌*◌, ◌↔◌, length, IsOk, OnErr};
+ghost use Rattle.std.specs.Prelude.{◌≡◌, ◌≤◌, ◌*◌, ◌↔◌, ℕ, List, length, IsOk, OnErr};
 ghost use Rattle.aprs_ax25.specs.FrameFault.{frame_of};
 ghost use Rattle.aprs_log.specs.Line.{frame_or_reason, heard_or_passed, line_of, line_of_digits};
 ghost use Rattle.aprs_log.specs.LineText.{IsLine};
@@ -34,7 +34,8 @@ pub enum Line {
 pub fn read_line(line: &[u8]) -> Result<Line, LineFault>
     ensures line { result ≡ line_of line.now }
     // Whatever the bytes are, a line of this syntax is not refused.
-    ensures sound { IsOk result ↔ IsLine line.now }
+    ensures sound { IsOk result ↔ ((m : ℕ) × (name : List ℕ) × (bytes : List ℕ)
+        × IsLine line.now m name bytes) }
 {
     let mut found = Line::empty();
     match read_fields(line, &mut Scratch::new(), &mut found) {

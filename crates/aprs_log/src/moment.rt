@@ -1,11 +1,12 @@
 //! Moments in milliseconds.
-ghost use Rattle.std.specs.Prelude.{◌≡◌, ◌↔◌, ℕ, ◌≤◌, ◌*◌, ◌/◌, List, SomeIff};
+ghost use Rattle.std.specs.Prelude.{◌≡◌, ◌↔◌, ℕ, ◌≤◌, ◌*◌, ◌/◌, Some, SomeIff};
 ghost use Rattle.std.specs.Ordering.{nat_cmp, as_partial_cmp};
 ghost use Rattle.std.proofs.Common.{rules};
 ghost use Rattle.std.specs.Cmp.{partial_order_from_own_ties};
 ghost use Rattle.std.specs.Cmp.Rules.{comparing};
 ghost use Rattle.aprs_log.specs.Sizes.{last_milli, last_second};
-ghost use Rattle.aprs_log.specs.Moment.{MomentText, MomentTextIn, form_of_text, moment_in, moment_of, moment_text};
+ghost use Rattle.aprs_log.specs.Moment.{IsTextOf, IsWritable, moment_text, moment_text_in};
+ghost use Rattle.aprs_log.specs.MomentReading.{form_of_text, moment_of};
 
 use crate::MomentForm;
 use crate::civil::{CivilTime, SECONDS_LEN};
@@ -90,15 +91,15 @@ impl Moment {
     /// a minute and a second below 60. Takes no memory.
     pub fn parse(text: &[u8]) -> Option<Moment>
         ensures value { result ≡ moment_of text.now }
-        ensures exact { (m : ℕ) → (result ≡ Some m) ↔ MomentText m text.now }
+        ensures exact { (m : ℕ) → (result ≡ Some m) ↔ IsTextOf m text.now }
     {
         Moment::parse_in(form_of(text), text)
     }
 
     /// The same, of a text in one form alone. Takes no memory.
     pub fn parse_in(form: MomentForm, text: &[u8]) -> Option<Moment>
-        ensures value { result ≡ moment_in form text.now }
-        ensures exact { (m : ℕ) → (result ≡ Some m) ↔ MomentTextIn form m text.now }
+        ensures exact { (m : ℕ)
+            → (result ≡ Some m) ↔ (IsWritable form m × (text.now ≡ moment_text_in form m)) }
     {
         match CivilTime::parse(form, text) {
             Some(read) => match read.0.seconds() {
@@ -114,7 +115,7 @@ impl Moment {
     /// The moment's text that is written, as `2024-05-01T12:00:00.000Z`. Takes no memory.
     pub fn text(&self) -> [u8; 24]
         ensures value { result ≡ moment_text self.now }
-        ensures exact { (t : List ℕ) → (t ≡ result) ↔ MomentTextIn MomentForm.Millis self.now t }
+        ensures writable { IsWritable MomentForm.Millis self.now }
         ensures reads_back { moment_of result ≡ Some self.now }
     {
         CivilTime::from_seconds(self.millis / 1000).text((self.millis % 1000) as u16)

@@ -38,7 +38,7 @@ impl<'a, R: Read> LogReader<'a, R> {
     ghost use Rattle.aprs_log.specs.States.{last_in};
     ghost use Rattle.aprs_log.specs.LogAnswers.{Answers, then_given};
     ghost use Rattle.aprs_log.specs.Window.{items};
-    ghost use Rattle.aprs_log.specs.Reader.{answer_of_stop, answer_with, Awaits, AreAnswersOf, GivesNext, HasLf, Starts, current_of, read_ahead_of, last_told, lines_of, loan_of, returns_line, source_of, stop_of};
+    ghost use Rattle.aprs_log.specs.Reader.{answer_of_stop, answer_with, Awaits, AreAnswersOf, GivesNext, HasLf, Starts, current_of, read_ahead_of, last_told, line_count_of, loan_of, returns_line, source_of, stop_of};
 
     /// A reader of the log that begins with `head` and goes on with the bytes of `source`. It takes
     /// at most `limit` bytes, the head among them. Requires that `limit` is at most `MAX_INPUT`,
@@ -78,7 +78,7 @@ impl<'a, R: Read> LogReader<'a, R> {
 
     /// The number of the last line that it returned, from 1, or 0 before any. Takes no memory.
     pub fn line(&self) -> u64
-        ensures { result ≡ lines_of self.now }
+        ensures { result ≡ line_count_of self.now }
     {
         self.line
     }
@@ -104,7 +104,7 @@ impl<'a, R: Read> LogReader<'a, R> {
         ensures stays { (stop : Option LogFault) → stop_of self.old ≡ Some stop
             → (result ≡ answer_of_stop stop) × (stop_of self.new ≡ Some stop)
             × (source_of self.new ≡ source_of self.old) }
-        ensures fault { IfErr result (λ fault. (fault.line ≡ lines_of self.new + 1)
+        ensures fault { IfErr result (λ fault. (fault.line ≡ line_count_of self.new + 1)
             × (fault.cause ≢ LogCause.Memory)) }
         // Some answers may always come.
         ensures awaits { (answers : Answers) × Awaits (R.remaining (device_of (source_of self.new)))
@@ -137,7 +137,7 @@ impl<'a, R: Read> LogReader<'a, R> {
         ensures stays { (stop : Option LogFault) → stop_of self.old ≡ Some stop
             → (answer_with result (current_of self.new) ≡ answer_of_stop stop)
             × (stop_of self.new ≡ Some stop) × (source_of self.new ≡ source_of self.old) }
-        ensures fault { IfErr result (λ fault. (fault.line ≡ lines_of self.new + 1)
+        ensures fault { IfErr result (λ fault. (fault.line ≡ line_count_of self.new + 1)
             × (fault.cause ≢ LogCause.Memory)) }
         // Some answers may always come.
         ensures awaits { (answers : Answers) × Awaits (R.remaining (device_of (source_of self.new)))
@@ -181,12 +181,12 @@ impl<'a, R: Read> LogReader<'a, R> {
     fn step(&mut self) -> bool
         requires { self.old.state ≡ State.Reading }
         ensures same_reference { loan_of self.new ≡ loan_of self.old }
-        ensures given { OnTrue result ((lines_of self.new ≡ lines_of self.old + 1)
+        ensures given { OnTrue result ((line_count_of self.new ≡ line_count_of self.old + 1)
             × ((end : Option (List ℕ)) (answers : Answers)
             → Awaits (R.remaining (device_of (source_of self.new))) end self.new answers
             → Awaits (R.remaining (device_of (source_of self.old))) end self.old
             (then_given (current_of self.new) answers))) }
-        ensures none { OnFalse result ((lines_of self.new ≡ lines_of self.old)
+        ensures none { OnFalse result ((line_count_of self.new ≡ line_count_of self.old)
             × (current_of self.new ≡ current_of self.old)
             × Moves (R.remaining (device_of (source_of self.old))) self.old
             (R.remaining (device_of (source_of self.new))) self.new) }
@@ -218,7 +218,7 @@ impl<'a, R: Read> LogReader<'a, R> {
         requires going { self.old.state ≡ State.Reading }
         requires none { cut_at 10 (items self.old.window) ≡ None }
         ensures same_reference { loan_of self.new ≡ loan_of self.old }
-        ensures lines { lines_of self.new ≡ lines_of self.old }
+        ensures lines { line_count_of self.new ≡ line_count_of self.old }
         ensures current { current_of self.new ≡ current_of self.old }
         ensures moves { Moves (R.remaining (device_of (source_of self.old))) self.old
             (R.remaining (device_of (source_of self.new))) self.new }

@@ -1,18 +1,16 @@
 //! Lines of a log as they are written.
-ghost use Rattle.std.specs.Prelude.{◌≡◌, ◌≤◌, ◌+◌, ◌*◌, [], ◌∷◌, ◌++◌, length, take, true, Ok, Some};
-ghost use Rattle.std.proofs.Props.{props};
+ghost use Rattle.std.specs.Prelude.{◌≡◌, ◌≤◌, ◌+◌, ◌*◌, [], ◌∷◌, ◌++◌, length, take, true, Ok};
 ghost use Rattle.hex.specs.Hex.{decode_of, encode_lower};
 ghost use Rattle.aprs_io.specs.Device.{Sends};
 ghost use Rattle.aprs_kiss.specs.Plain.{is_special};
 ghost use Rattle.aprs_kiss.specs.Spelling.{kiss_text, spelling_of_byte};
 ghost use Rattle.aprs_log.specs.Line.{line_of, written_line};
-ghost use Rattle.aprs_log.specs.Moment.{moment_of, moment_text};
-ghost use Rattle.aprs_log.specs.Sizes.{millis_size, most_line};
-ghost use Rattle.aprs_log.specs.Written.{BeginsWith};
+ghost use Rattle.aprs_log.specs.Moment.{moment_text};
+ghost use Rattle.aprs_log.specs.Sizes.{last_milli, most_line};
 
 use crate::civil::MILLIS_LEN;
 use crate::line::Line;
-use crate::moment::Moment;
+use crate::moment_writer::MomentWriter;
 use crate::reception::Reception;
 use aprs_io::{Counted, WriteFault, encode_to, put, send};
 use aprs_kiss::cut_plain;
@@ -43,9 +41,7 @@ pub fn write_line<W: Write>(w: &mut Counted<W>, reception: &Reception) -> Result
 #[derive(Drop)]
 pub struct LogWriter {
     line: [u8; MAX_WRITTEN],
-    /// The moment whose text the line begins with.
-    moment: Option<Moment>,
-    ghost begins: { BeginsWith moment line } by { Prim.hlevel props },
+    moments: MomentWriter,
 }
 
 impl LogWriter {
@@ -53,7 +49,7 @@ impl LogWriter {
     pub fn new() -> LogWriter {
         LogWriter {
             line: [0; MAX_WRITTEN],
-            moment: None,
+            moments: MomentWriter::new(),
         }
     }
 
@@ -68,41 +64,26 @@ impl LogWriter {
         // The line reads back as the reception.
         ensures reads_back { line_of (written_line reception.now) ≡ Ok (Line.Heard reception.now) }
     {
-        self.begin(reception.moment());
-        let len = put_line(&mut self.line, reception);
+        let moment = self.moments.text(reception.moment());
+        let len = put_line(&mut self.line, &moment, reception);
         send(w, &self.line[..len])
-    }
-
-    /// Has the line begin with the text of a moment, as it may from the line before.
-    fn begin(&mut self, moment: Moment)
-        ensures line { take millis_size self.new.line ≡ moment_text moment }
-        ensures moment { self.new.moment ≡ Some moment }
-        ensures read { moment_of (moment_text moment) ≡ Some moment }
-    {
-        let is_there = match &self.moment {
-            Some(last) => *last == moment,
-            None => false,
-        };
-        if !is_there {
-            put(&mut self.line, 0, &moment.text());
-            self.moment = Some(moment);
-        }
     }
 }
 
-/// Puts the line and its LF at the start of `line`, which begins with the text of its moment, and
-/// returns how many bytes they are.
-fn put_line(line: &mut [u8], reception: &Reception) -> usize
+/// Puts the line and its LF at the start of `line`, and returns how many bytes they are. `moment` is
+/// the text of its moment.
+fn put_line(line: &mut [u8], moment: &[u8; MILLIS_LEN], reception: &Reception) -> usize
     requires line { length line.old ≡ MAX_WRITTEN }
-    requires begins { take millis_size line.old ≡ moment_text reception.now.moment }
-    requires read { moment_of (moment_text reception.now.moment) ≡ Some reception.now.moment }
+    requires moment { moment.now ≡ moment_text reception.now.moment }
+    requires range { reception.now.moment ≤ last_milli }
     ensures fits { result ≤ MAX_WRITTEN }
     ensures len { length line.new ≡ MAX_WRITTEN }
     ensures line { take result line.new ≡ written_line reception.now ++ 10 ∷ [] }
     ensures back { length (written_line reception.now) ≤ most_line
         → line_of (written_line reception.now) ≡ Ok (Line.Heard reception.now) }
 {
-    let space = put(line, MILLIS_LEN, b" ");
+    let time = put(line, 0, moment);
+    let space = put(line, time, b" ");
     let receiver = put(line, space, reception.receiver().as_bytes());
     let place = put(line, receiver, b" ");
     let digits = put_frame(line, place, reception.frame().bytes());

@@ -12,7 +12,7 @@ use Rattle.aprs_report.specs.Bytes.{is_digit}
 use Rattle.aprs_report.specs.Symbol.{is_table, is_code, compressed_table}
 use Rattle.aprs_report.specs.Numeral.{is_digit_of, IsNumeral}
 use Rattle.aprs_report.specs.Compressed.{IsBase91}
-use Rattle.aprs_report.specs.Place.{IsPlain, IsCompressed, IsPlace}
+use Rattle.aprs_report.specs.Place.{IsPlainPlace, IsCompressedPlace, IsPlace}
 use Rattle.aprs_report.specs.Reader.{ambiguity_of, plain_of, table_named, named_of, base91_of}
 use Rattle.aprs_report.specs.Reader.{compressed_of, place_of}
 use Rattle.aprs_report.proofs.Steps.{after_some, guarded_some, if_either, some_is, chunk_found}
@@ -77,7 +77,7 @@ plain_found bytes x e =
           f5.parts f6.0;
     })))))))))
 
-plain_takes : (lat lon : ℤ) (a : ℕ) (s : Symbol) (text rest : List ℕ) → IsPlain lat lon a s text →
+plain_takes : (lat lon : ℤ) (a : ℕ) (s : Symbol) (text rest : List ℕ) → IsPlainPlace lat lon a s text →
     plain_of (text ++ rest) ≡ Some (Plain lat lon a, s, rest)
 unfolding plain_of
 plain_takes lat lon a s text rest h =
@@ -182,7 +182,7 @@ compressed_found bytes x e =
     }))))))))
 
 compressed_takes : (y x : ℕ) (cst : List ℕ) (s : Symbol) (text rest : List ℕ) →
-    IsCompressed y x cst s text → compressed_of (text ++ rest) ≡ Some (Base91 y x cst, s, rest)
+    IsCompressedPlace y x cst s text → compressed_of (text ++ rest) ≡ Some (Base91 y x cst, s, rest)
 unfolding compressed_of
 compressed_takes y x cst s text rest h =
     let regrouped : text ++ rest ≡ compressed_table s.table ∷

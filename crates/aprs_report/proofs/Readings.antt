@@ -12,7 +12,7 @@ use Rattle.aprs_report.specs.Position.{position_byte, IsOptionalStamp, IsPositio
 use Rattle.aprs_report.specs.Reading.{Value, position, object, item, message, ack, rej, status}
 use Rattle.aprs_report.specs.Reading.{raw, HasForm, Reads, OneReading}
 use Rattle.aprs_report.specs.Examples.{Example}
-use Rattle.aprs_report.specs.Reader.{position_of, stamped_of, status_of, form_of, reading_of}
+use Rattle.aprs_report.specs.Reader.{position_of, stamped_of, status_of, report_by_form, reading_of}
 use Rattle.aprs_report.proofs.Steps.{after_some, some_is, if_either}
 use Rattle.aprs_report.proofs.Stamps.{stamp_found, stamp_takes}
 use Rattle.aprs_report.proofs.Objects.{object_found, object_takes, item_found, item_takes}
@@ -50,8 +50,8 @@ at_byte : (v : Value) (b n : ℕ) (rest : List ℕ) → eqb b n ≡ true → Has
     HasForm v (b ∷ rest)
 at_byte v b n rest t h = subst (λ (k : ℕ). HasForm v (k ∷ rest)) (sym (eqb-true b n t)) h
 
-pub form_found : (info : List ℕ) (v : Value) → form_of info ≡ Some v → HasForm v info
-unfolding form_of
+pub form_found : (info : List ℕ) (v : Value) → report_by_form info ≡ Some v → HasForm v info
+unfolding report_by_form
 form_found [] v e = absurd cc
 form_found (b ∷ rest) v e =
     if_either _ _ _ _ _ e (λ t h. at_byte v b 33 rest t
@@ -84,33 +84,33 @@ stamped_takes : (messaging : Bool) (s : Stamp) (bytes : List ℕ) (v : Value) �
 unfolding stamped_of
 stamped_takes messaging s bytes v is h = rw (stamp_takes s bytes is) h
 
-pub form_takes : (v : Value) (info : List ℕ) → HasForm v info → form_of info ≡ Some v
-unfolding form_of
+pub form_takes : (v : Value) (info : List ℕ) → HasForm v info → report_by_form info ≡ Some v
+unfolding report_by_form
 form_takes (position false None place symbol comment) info h =
-    ap form_of (h.whole ∙ ap (λ (t : List ℕ). 33 ∷ (t ++ (h.place_text ++ comment))) h.at_stamp)
+    ap report_by_form (h.whole ∙ ap (λ (t : List ℕ). 33 ∷ (t ++ (h.place_text ++ comment))) h.at_stamp)
     ∙ position_takes _ _ _ _ _ _ h
 form_takes (position true None place symbol comment) info h =
-    ap form_of (h.whole ∙ ap (λ (t : List ℕ). 61 ∷ (t ++ (h.place_text ++ comment))) h.at_stamp)
+    ap report_by_form (h.whole ∙ ap (λ (t : List ℕ). 61 ∷ (t ++ (h.place_text ++ comment))) h.at_stamp)
     ∙ position_takes _ _ _ _ _ _ h
 form_takes (position false (Some s) place symbol comment) info h =
-    ap form_of (h.whole ∙ ap (λ (t : List ℕ). 47 ∷ (t ++ (h.place_text ++ comment))) h.at_stamp.1)
+    ap report_by_form (h.whole ∙ ap (λ (t : List ℕ). 47 ∷ (t ++ (h.place_text ++ comment))) h.at_stamp.1)
     ∙ stamped_takes false s (h.place_text ++ comment) _ h.at_stamp.0 (position_takes _ _ _ _ _ _ h)
 form_takes (position true (Some s) place symbol comment) info h =
-    ap form_of (h.whole ∙ ap (λ (t : List ℕ). 64 ∷ (t ++ (h.place_text ++ comment))) h.at_stamp.1)
+    ap report_by_form (h.whole ∙ ap (λ (t : List ℕ). 64 ∷ (t ++ (h.place_text ++ comment))) h.at_stamp.1)
     ∙ stamped_takes true s (h.place_text ++ comment) _ h.at_stamp.0 (position_takes _ _ _ _ _ _ h)
 form_takes (object name live stamp place symbol comment) info h =
-    ap form_of h.whole ∙ object_takes _ _ _ _ _ _ _ h
+    ap report_by_form h.whole ∙ object_takes _ _ _ _ _ _ _ h
 form_takes (item name live place symbol comment) info h =
-    ap form_of h.whole ∙ item_takes _ _ _ _ _ _ h
+    ap report_by_form h.whole ∙ item_takes _ _ _ _ _ _ h
 form_takes (message addressee text id) info h =
-    let at = message_takes addressee text id info h in ap form_of at.whole ∙ at.value
+    let at = message_takes addressee text id info h in ap report_by_form at.whole ∙ at.value
 form_takes (ack addressee id) info h =
-    let at = acks_take addressee id info h in ap form_of at.whole ∙ at.value
+    let at = acks_take addressee id info h in ap report_by_form at.whole ∙ at.value
 form_takes (rej addressee id) info h =
-    let at = rejs_take addressee id info h in ap form_of at.whole ∙ at.value
+    let at = rejs_take addressee id info h in ap report_by_form at.whole ∙ at.value
 form_takes (status stamp text) info h =
     let at = status_takes stamp text info h in
-    ap form_of at.whole ∙ ap (λ (v : Value). Some v) at.value
+    ap report_by_form at.whole ∙ ap (λ (v : Value). Some v) at.value
 form_takes raw info h = absurd h
 
 -- ---- the same for any forms, so that a further form changes nothing below
@@ -125,20 +125,20 @@ form_reads (rej a id) info h = h
 form_reads (status st t) info h = h
 form_reads raw info h = absurd h
 
-found_as : (o : Option Value) (info : List ℕ) → form_of info ≡ o → Reads (unwrap_or o raw) info
+found_as : (o : Option Value) (info : List ℕ) → report_by_form info ≡ o → Reads (unwrap_or o raw) info
 found_as (Some v) info e = form_reads v info (form_found info v e)
 found_as None info e = λ v h. none-some v (sym e ∙ form_takes v info h)
 
 -- a field reads as what a reader found
-pub reading_found : (o : Option Value) (info : List ℕ) → o ≡ form_of info →
+pub reading_found : (o : Option Value) (info : List ℕ) → o ≡ report_by_form info →
     Reads (unwrap_or o raw) info
 reading_found o info e = found_as o info (sym e)
 
-pub form_value : (o : Option Value) (info : List ℕ) → o ≡ form_of info →
+pub form_value : (o : Option Value) (info : List ℕ) → o ≡ report_by_form info →
     unwrap_or o raw ≡ reading_of info
 form_value o info e = ap (λ (o : Option Value). unwrap_or o raw) e
 
-raw_takes : (o : Option Value) (info : List ℕ) → form_of info ≡ o →
+raw_takes : (o : Option Value) (info : List ℕ) → report_by_form info ≡ o →
     ((v : Value) → HasForm v info → ⊥) → unwrap_or o raw ≡ raw
 raw_takes (Some v) info e h = absurd (h v (form_found info v e))
 raw_takes None info e h = refl
@@ -149,7 +149,7 @@ of_form v info h = ap (λ (o : Option Value). unwrap_or o raw) (form_takes v inf
 -- ---- for the crates above: `reading_of` is the reading
 
 pub reads_as : (info : List ℕ) → Reads (reading_of info) info
-reads_as info = found_as (form_of info) info refl
+reads_as info = found_as (report_by_form info) info refl
 
 pub reading_is : (v : Value) (info : List ℕ) → Reads v info → reading_of info ≡ v
 reading_is (position m st p s c) info h = of_form (position m st p s c) info h
@@ -159,7 +159,7 @@ reading_is (message a t id) info h = of_form (message a t id) info h
 reading_is (ack a id) info h = of_form (ack a id) info h
 reading_is (rej a id) info h = of_form (rej a id) info h
 reading_is (status st t) info h = of_form (status st t) info h
-reading_is raw info h = raw_takes (form_of info) info refl h
+reading_is raw info h = raw_takes (report_by_form info) info refl h
 
 -- each field has exactly one reading
 pub one_reading : (info : List ℕ) → OneReading info

@@ -11,7 +11,7 @@ use Rattle.aprs_report.specs.Compressed.{IsBase91, middle, latitude_parts, longi
 
 -- The text is a plain position in nineteen bytes: latitude, table, longitude and code. Both angles
 -- have the latitude's ambiguity.
-pub record IsPlain (lat lon : ℤ) (ambiguity : ℕ) (s : Symbol) (text : List ℕ) : Type 0 where
+pub record IsPlainPlace (lat lon : ℤ) (ambiguity : ℕ) (s : Symbol) (text : List ℕ) : Type 0 where
   pub lat_text : List ℕ
   pub lon_text : List ℕ
   pub at_lat : IsCoordinate Latitude ambiguity lat lat_text
@@ -21,7 +21,7 @@ pub record IsPlain (lat lon : ℤ) (ambiguity : ℕ) (s : Symbol) (text : List �
 
 -- The text is a compressed position in thirteen bytes: table, YYYY, XXXX, code, and the three bytes
 -- c, s and T as they stand.
-pub record IsCompressed (y x : ℕ) (cst : List ℕ) (s : Symbol) (text : List ℕ) : Type 0 where
+pub record IsCompressedPlace (y x : ℕ) (cst : List ℕ) (s : Symbol) (text : List ℕ) : Type 0 where
   pub y_text : List ℕ
   pub x_text : List ℕ
   pub at_y : IsBase91 y y_text
@@ -32,8 +32,8 @@ pub record IsCompressed (y x : ℕ) (cst : List ℕ) (s : Symbol) (text : List �
 
 -- The text is this position with this symbol, plain or compressed.
 abbrev pub IsPlace : Place → Symbol → List ℕ → Type 0
-IsPlace (Plain lat lon ambiguity) s text = IsPlain lat lon ambiguity s text
-IsPlace (Base91 y x cst) s text = IsCompressed y x cst s text
+IsPlace (Plain lat lon ambiguity) s text = IsPlainPlace lat lon ambiguity s text
+IsPlace (Base91 y x cst) s text = IsCompressedPlace y x cst s text
 
 -- The degrees north: hundredths of minutes of a plain position, and 90 - y / 380926.
 abbrev pub latitude_of : Place → Fraction

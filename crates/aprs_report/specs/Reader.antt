@@ -284,9 +284,9 @@ message_of bytes = do
 -- ---- by the first byte
 
 -- The report that has the form of the field, by its first byte.
-unfoldable pub form_of : List ℕ → Option Value
-form_of [] = None
-form_of (b ∷ rest) =
+unfoldable pub report_by_form : List ℕ → Option Value
+report_by_form [] = None
+report_by_form (b ∷ rest) =
     if b == 33 then position_of false None rest
     else (if b == 61 then position_of true None rest
     else (if b == 47 then stamped_of false rest
@@ -298,4 +298,4 @@ form_of (b ∷ rest) =
 
 -- What a field reads as: a report with a form, or raw.
 abbrev pub reading_of : List ℕ → Value
-reading_of info = unwrap_or (form_of info) raw
+reading_of info = unwrap_or (report_by_form info) raw

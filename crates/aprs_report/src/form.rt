@@ -3,7 +3,7 @@
 ghost use Rattle.std.specs.Prelude.{◌≡◌};
 ghost use Rattle.std.specs.Option.{option_map};
 ghost use Rattle.aprs_report.specs.Reading.{view};
-ghost use Rattle.aprs_report.specs.Reader.{form_of};
+ghost use Rattle.aprs_report.specs.Reader.{report_by_form};
 
 use crate::message::message;
 use crate::object::{item, object};
@@ -13,9 +13,9 @@ use crate::status::status;
 
 /// The report of a field, if its bytes have a form.
 #[inline(always)]
-#[tactic(auto, unfolding(crate::specs::Reader::form_of))]
+#[tactic(auto, unfolding(crate::specs::Reader::report_by_form))]
 pub fn form(info: &[u8]) -> Option<Report<'_>>
-    ensures { option_map view result ≡ form_of info.now }
+    ensures { option_map view result ≡ report_by_form info.now }
 {
     match info {
         [b'!', rest @ ..] => position(false, None, rest),

@@ -15,19 +15,17 @@ use Rattle.aprs_laws.specs.Coalescing.{AreInOrder}
 use Rattle.aprs_laws.specs.Key.{key_cmp}
 use Rattle.aprs_laws.specs.Row.{Row, row_cmp, row_key}
 use Rattle.aprs_laws.proofs.Orders.{bytes_total, ordering_then_assoc}
-use Rattle.aprs_rows.specs.Head.{head_cmp, HaveHeads}
+use Rattle.aprs_rows.specs.Head.{head_cmp, HasHead}
 use Rattle.aprs_rows.specs.Rows.{AreRowsIn, bytes_of, entry_cmp, entry_row, info_of, IsRowIn, rows_in}
-use Rattle.aprs_rows.specs.declared.entry.Entry.{Entry}
-use Rattle.aprs_rows.proofs.Heads.{head_and_info}
+use Rattle.aprs_rows.specs.declared.store.entry.Entry.{Entry}
+use Rattle.aprs_rows.proofs.Heads.{head_and_info, head_total}
 use Rattle.aprs_rows.proofs.Orders.{ordered}
 use Rattle.aprs_rows.proofs.Rows.{each_lies, info_there}
 
 module _ (bytes : List ℕ) where
   entry_total : IsTotalOrder (entry_cmp bytes)
   entry_total =
-      then_total (on_total (λ (e : Entry). e.head)
-      (then_total (on_total (λ h. h.source) nat_cmp_total)
-      (then_total (on_total (λ h. h.destination) nat_cmp_total) (on_total (λ h. h.info) nat_cmp_total))))
+      then_total (on_total (λ (e : Entry). e.head) head_total)
       (then_total (on_total (λ e. info_of e bytes) bytes_total) (on_total (λ e. e.first) nat_cmp_total))
 
   abbrev row_of : Entry → Row
@@ -38,20 +36,23 @@ module _ (bytes : List ℕ) where
   as_rows a b r s =
       let f = (row_of a).greatest.frame in
       let g = (row_of b).greatest.frame in
-      let heads : HaveHeads f g a.head b.head =
+      let heads : HasHead a.head f =
       record {
         frame = r.told.frame_is;
-        other = s.told.frame_is;
         bytes = r.key.bytes;
-        other_bytes = s.key.bytes;
         head = r.key.head;
-        other_head = s.key.head;
+      } in
+      let others : HasHead b.head g =
+      record {
+        frame = s.told.frame_is;
+        bytes = s.key.bytes;
+        head = s.key.head;
       } in
       let keys : ordering_then (head_cmp a.head b.head) (bytes_cmp (info_of a bytes) (info_of b bytes))
       ≡ key_cmp (row_key (row_of a)) (row_key (row_of b)) =
       (λ t. ordering_then (head_cmp a.head b.head)
       (bytes_cmp (info_there a bytes r t) (info_there b bytes s t)))
-      ∙ head_and_info f g a.head b.head heads in
+      ∙ head_and_info f g a.head b.head heads others in
       sym (ordering_then_assoc (head_cmp a.head b.head)
       (bytes_cmp (info_of a bytes) (info_of b bytes)) (nat_cmp a.first b.first))
       ∙ ap (λ o. ordering_then o (nat_cmp a.first b.first)) keys

@@ -7,9 +7,11 @@ use Rattle.std.specs.declared.cmp.Ordering.TheVariants.{Less, Equal, Greater}
 use Rattle.std.specs.List.{list_all}
 use Rattle.std.proofs.lemmas.Bool.Decides.{nat_tests}
 use Rattle.std.proofs.lemmas.Bool.{and_parts}
-use Rattle.std.proofs.lemmas.Cmp.{tied_itself, nat_cmp_total}
+use Rattle.std.specs.Cmp.{IsTotalOrder}
+use Rattle.std.proofs.lemmas.Cmp.{tied_itself, then_total, on_total, nat_cmp_total}
+use Rattle.std.proofs.lemmas.Map.Lookups.{CmpEqualImpliesEq, exact_pairs, exact_unsigned}
 use Rattle.std.proofs.lemmas.List.{length-append, length-replicate, take_at, drop_at, take-take}
-use Rattle.aprs_ax25.specs.Address.{Address, IsAddress, padded, address_octets}
+use Rattle.aprs_ax25.specs.Address.{Address, IsAddress, letters_and_spaces, address_octets}
 use Rattle.aprs_ax25.specs.Callsign.{Call, IsCall, call_cmp, is_callsign_byte}
 use Rattle.aprs_ax25.specs.Frame.{Parts, FrameOf, address_field}
 use Rattle.aprs_ax25.specs.FrameFault.{call_of, parts_of}
@@ -19,8 +21,8 @@ use Rattle.aprs_log.specs.Reception.{bytes_cmp}
 use Rattle.aprs_laws.specs.Key.{Key, key_of, key_cmp}
 use Rattle.aprs_laws.proofs.Orders.{ordering_then_assoc}
 use Rattle.aprs_rows.proofs.Digits.{Bytes, be_cmp, be_cmp_all, first_then_all, then_equal}
-use Rattle.aprs_rows.specs.Head.{call_number, octets_number, head_of, head_cmp, HaveHeads}
-use Rattle.aprs_rows.specs.declared.head.Head.{Head}
+use Rattle.aprs_rows.specs.Head.{call_number, octets_number, head_of, head_cmp, HasHead}
+use Rattle.aprs_rows.specs.declared.row.head.Head.{Head}
 
 -- ---- the numbers of callsigns
 
@@ -72,12 +74,12 @@ spaced_cmp (x ∷ a) (y ∷ b) i j m n e h k =
     ∙ sym (ordering_then_assoc (nat_cmp x y) (bytes_cmp a b) (nat_cmp m n))
 
 abbrev digits : Call → List ℕ
-digits c = 0 ∷ padded c.letters ++ c.ssid ∷ []
+digits c = 0 ∷ letters_and_spaces c.letters ++ c.ssid ∷ []
 
 Bytes-digits : (c : Call) → IsCall c → Bytes (digits c)
 Bytes-digits c h zero = omega arith
 Bytes-digits c h (suc i) =
-    Bytes-append (padded c.letters) (c.ssid ∷ [])
+    Bytes-append (letters_and_spaces c.letters) (c.ssid ∷ [])
     (Bytes-append c.letters _ (Bytes-letters c.letters h.bytes) (Bytes-spaces _)) ssid i where
       ssid : Bytes (c.ssid ∷ [])
       ssid zero = omega (arith, h.ssid)
@@ -88,7 +90,7 @@ length-digits c h =
     omega (
       arith,
       h.most,
-      length-append (padded c.letters) (c.ssid ∷ []),
+      length-append (letters_and_spaces c.letters) (c.ssid ∷ []),
       length-append c.letters (replicate (6 - length c.letters) 32),
       length-replicate {A = ℕ} (6 - length c.letters) 32,
     )
@@ -140,25 +142,25 @@ half_double (x ∷ xs) =
 
 -- the letters of an address that stands first
 first_letters : (extension : ℕ) (a : Address) → IsAddress a → (more : List ℕ)
-    → half (take 6 (take 7 (address_octets extension a ++ more))) ≡ padded a.call.letters
+    → half (take 6 (take 7 (address_octets extension a ++ more))) ≡ letters_and_spaces a.call.letters
 first_letters extension a h more =
-    let letters = double (padded a.call.letters) in
+    let letters = double (letters_and_spaces a.call.letters) in
     let last = 32 * a.flags + 2 * a.call.ssid + extension in
     ap (λ t. half (take 6 (take 7 t))) (append_assoc letters (last ∷ []) more)
     ∙ ap half (take-take 6 7 (letters ++ last ∷ more) (omega arith)
     ∙ take_at letters (last ∷ more) 6
     (omega (arith, length-address_octets extension a h, length-append letters (last ∷ []))))
-    ∙ half_double (padded a.call.letters)
+    ∙ half_double (letters_and_spaces a.call.letters)
 
 field_letters : (a : Address) (others : List Address) → IsAddress a → (more : List ℕ)
-    → half (take 6 (take 7 (address_field (a ∷ others) ++ more))) ≡ padded a.call.letters
+    → half (take 6 (take 7 (address_field (a ∷ others) ++ more))) ≡ letters_and_spaces a.call.letters
 field_letters a [] h more = first_letters 1 a h more
 field_letters a (b ∷ others) h more =
     ap (λ t. half (take 6 (take 7 t)))
     (append_assoc (address_octets 0 a) (address_field (b ∷ others)) more)
     ∙ first_letters 0 a h _
 
-spelled_number : (octets : List ℕ) → half (take 6 octets) ≡ padded (call_of octets).letters
+spelled_number : (octets : List ℕ) → half (take 6 octets) ≡ letters_and_spaces (call_of octets).letters
     → octets_number octets ≡ call_number (call_of octets)
 spelled_number octets e =
     ap (λ t. from_be_bytes w64 (0 ∷ t ++ slice_index octets 6 / 2 % 16 ∷ [])) e
@@ -205,25 +207,52 @@ decided Equal r n = absurd (n refl)
 decided Greater r n = refl
 
 -- heads decide, and where they are equal the information does
-pub head_and_info : (f g : List ℕ) (h k : Head) → HaveHeads f g h k
+pub head_and_info : (f g : List ℕ) (h k : Head) → HasHead h f → HasHead k g
     → ordering_then (head_cmp h k) (bytes_cmp (parts_of f).info (parts_of g).info)
     ≡ key_cmp (key_of f) (key_of g)
 unfolding key_of
-head_and_info f g h k a =
-    (λ t. ordering_then (head_cmp (a.head t) (a.other_head t))
+head_and_info f g h k a b =
+    (λ t. ordering_then (head_cmp (a.head t) (b.head t))
     (bytes_cmp (parts_of f).info (parts_of g).info))
-    ∙ head_then_info f g a.frame a.other a.bytes a.other_bytes
+    ∙ head_then_info f g a.frame b.frame a.bytes b.bytes
 
 -- heads that differ decide
-pub heads_decide : (f g : List ℕ) (h k : Head) → HaveHeads f g h k → (head_cmp h k ≡ Equal → ⊥)
-    → head_cmp h k ≡ key_cmp (key_of f) (key_of g)
-heads_decide f g h k a n =
+pub heads_decide : (f g : List ℕ) (h k : Head) → HasHead h f → HasHead k g
+    → (head_cmp h k ≡ Equal → ⊥) → head_cmp h k ≡ key_cmp (key_of f) (key_of g)
+heads_decide f g h k a b n =
     sym (decided (head_cmp h k) (bytes_cmp (parts_of f).info (parts_of g).info) n)
-    ∙ head_and_info f g h k a
+    ∙ head_and_info f g h k a b
 
 -- where they are equal, the information does
-pub infos_decide : (f g : List ℕ) (h k : Head) → HaveHeads f g h k → head_cmp h k ≡ Equal
+pub infos_decide : (f g : List ℕ) (h k : Head) → HasHead h f → HasHead k g
+    → head_cmp h k ≡ Equal
     → bytes_cmp (parts_of f).info (parts_of g).info ≡ key_cmp (key_of f) (key_of g)
-infos_decide f g h k a e =
+infos_decide f g h k a b e =
     sym (ap (λ o. ordering_then o (bytes_cmp (parts_of f).info (parts_of g).info)) e)
-    ∙ head_and_info f g h k a
+    ∙ head_and_info f g h k a b
+
+pub head_less : (f g : List ℕ) (h k : Head) → HasHead h f → HasHead k g → head_cmp h k ≡ Less
+    → key_cmp (key_of f) (key_of g) ≡ Less
+head_less f g h k a b e =
+    sym (heads_decide f g h k a b (λ n. let no : Less ≡ Equal = sym e ∙ n in cc)) ∙ e
+
+pub head_greater : (f g : List ℕ) (h k : Head) → HasHead h f → HasHead k g
+    → head_cmp h k ≡ Greater → key_cmp (key_of f) (key_of g) ≡ Greater
+head_greater f g h k a b e =
+    sym (heads_decide f g h k a b (λ n. let no : Greater ≡ Equal = sym e ∙ n in cc)) ∙ e
+
+-- ---- the order of heads
+
+pub head_total : IsTotalOrder head_cmp
+head_total =
+    then_total (on_total (λ h. h.source) nat_cmp_total)
+    (then_total (on_total (λ h. h.destination) nat_cmp_total)
+    (on_total (λ h. h.info) nat_cmp_total))
+
+pub head_exact : CmpEqualImpliesEq head_cmp
+head_exact a b h =
+    ap (λ (p : ℕ × (ℕ × ℕ)). record { source = p.0; destination = p.1.0; info = p.1.1 })
+    (exact_pairs nat_cmp
+    (λ (x y : ℕ × ℕ). ordering_then (nat_cmp x.0 y.0) (nat_cmp x.1 y.1)) exact_unsigned
+    (exact_pairs nat_cmp nat_cmp exact_unsigned exact_unsigned)
+    (a.source, (a.destination, a.info)) (b.source, (b.destination, b.info)) h)

@@ -21,10 +21,6 @@ drop_to_end (suc n) (x ∷ xs) =
       less : (n : ℕ) (xs : List ℕ) → length (drop n xs) ≤ length xs
       less n xs = let e = length-drop n xs in omega (arith, e)
 
--- and all of them
-pub all_to_end : (k : ℕ) (xs : List ℕ) → take (length xs - k) (drop k xs) ≡ drop k xs
-all_to_end k xs = let e = length-drop k xs in take_all (length xs - k) (drop k xs) (omega (arith, e))
-
 -- the information is as many bytes from the end as it has
 pub info_at : (f : List ℕ) (n : ℕ) → n ≡ length (parts_of f).info
     → drop (length f - n) f ≡ (parts_of f).info

@@ -4,12 +4,8 @@ pub mod Digits
 pub mod EntryOrder
 pub mod Groups
 pub mod Heads
-mod HeadOrder
 pub mod Infos
 pub mod Judgements
-pub mod KeyBytes
-pub mod KeyHeads
-mod Letters
 pub mod NameTexts
 pub mod Orders
 mod Places

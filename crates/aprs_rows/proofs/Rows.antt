@@ -14,7 +14,7 @@ use Rattle.aprs_laws.specs.JoinRow.{single}
 use Rattle.aprs_laws.specs.Row.{Row}
 use Rattle.aprs_laws.specs.Sound.{IsSoundRow}
 use Rattle.aprs_laws.proofs.Coalescing.{single_is_sound}
-use Rattle.aprs_rows.specs.declared.entry.Entry.{Entry}
+use Rattle.aprs_rows.specs.declared.store.entry.Entry.{Entry}
 use Rattle.aprs_rows.specs.Names.{names_in, row_of_text}
 use Rattle.aprs_rows.specs.Rows.{AreRowsIn, AreSoundRows, bytes_of, entry_row, HasKey, info_of, IsRowIn, IsTold, row_bytes, rows_in, size_of}
 use Rattle.aprs_rows.proofs.NameTexts.{name_alone}

@@ -18,8 +18,8 @@ use Rattle.aprs_laws.specs.Order.{IsBelow}
 use Rattle.aprs_laws.proofs.Lists.{in_left, in_right, in_either}
 use Rattle.aprs_laws.proofs.Orders.{bytes_total, bytes_exact}
 use Rattle.aprs_laws.proofs.Choices.{in_union, same_members, union_ordered}
-use Rattle.aprs_rows.specs.declared.group.Group.{Group}
-use Rattle.aprs_rows.specs.declared.sweep.Open.{Open}
+use Rattle.aprs_rows.specs.declared.store.group.Group.{Group}
+use Rattle.aprs_rows.specs.declared.store.sweep.Open.{Open}
 use Rattle.aprs_rows.specs.Groups.{names_or, group_row, IsGroup}
 use Rattle.aprs_rows.specs.Names.{names_in}
 use Rattle.aprs_rows.specs.Sweep.{AreGathered, gathered, HasNames, open_row, open_text}

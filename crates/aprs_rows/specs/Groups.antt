@@ -3,7 +3,7 @@ use Rattle.std.specs.Prelude.{◌≡◌, ℕ, zero, suc, List, [], ◌∷◌, Al
 use Rattle.aprs_log.specs.Receiver.{IsName}
 use Rattle.aprs_laws.specs.Row.{Row}
 use Rattle.aprs_rows.specs.Names.{names_in}
-use Rattle.aprs_rows.specs.declared.group.Group.{Group}
+use Rattle.aprs_rows.specs.declared.store.group.Group.{Group}
 
 -- the rows of the bytes, one for each part, which takes so many of them
 module _ {E : Type 0} (size : E → ℕ) (row : E → List ℕ → Row) where

@@ -1,18 +1,18 @@
--- Heads of keys. No public clause cites this module.
+-- Heads of keys.
 use Rattle.std.specs.Prelude.{◌≡◌, ℕ, ◌<◌, ◌/◌, ◌%◌, List, [], ◌∷◌, ◌++◌, map, take, slice_index}
 use Rattle.std.specs.Int.{w64, from_be_bytes}
 use Rattle.std.specs.Ordering.{nat_cmp, on, then_cmp}
 use Rattle.std.specs.declared.cmp.Ordering.{Ordering}
 use Rattle.aprs_ax25.specs.Callsign.{Call}
-use Rattle.aprs_ax25.specs.Address.{padded}
+use Rattle.aprs_ax25.specs.Address.{letters_and_spaces}
 use Rattle.aprs_ax25.specs.Frame.{FrameOf}
 use Rattle.aprs_ax25.specs.FrameFault.{parts_of}
 use Rattle.aprs_laws.specs.Key.{Key, key_of}
-use Rattle.aprs_rows.specs.declared.head.Head.{Head}
+use Rattle.aprs_rows.specs.declared.row.head.Head.{Head}
 
 -- The number of a callsign, base 256: its letters, padded with spaces to six, and its SSID.
 abbrev pub call_number : Call → ℕ
-call_number call = from_be_bytes w64 (0 ∷ padded call.letters ++ call.ssid ∷ [])
+call_number call = from_be_bytes w64 (0 ∷ letters_and_spaces call.letters ++ call.ssid ∷ [])
 
 -- The same of the seven octets of an address: the letters are the first six, shifted right by one
 -- bit, and the SSID is bits 1 to 4 of the last.
@@ -35,11 +35,8 @@ abbrev pub head_cmp : Head → Head → Ordering
 head_cmp = then_cmp (on (λ h. h.source) nat_cmp)
     (then_cmp (on (λ h. h.destination) nat_cmp) (on (λ h. h.info) nat_cmp))
 
--- Two frames, whose keys have these heads.
-pub record HaveHeads (f g : List ℕ) (h k : Head) : Type 0 where
+-- The bytes are a frame, and this is the head of its key.
+pub record HasHead (h : Head) (f : List ℕ) : Type 0 where
   pub frame : FrameOf (parts_of f) f
-  pub other : FrameOf (parts_of g) g
   pub bytes : (i : ℕ) → slice_index (parts_of f).info i < 256
-  pub other_bytes : (i : ℕ) → slice_index (parts_of g).info i < 256
   pub head : h ≡ head_of (key_of f)
-  pub other_head : k ≡ head_of (key_of g)

@@ -1,7 +1,7 @@
--- Names of receivers as a book keeps them.
+-- Names of receivers as a book keeps them. No public clause cites this module.
 use Rattle.std.specs.Prelude.{ℕ, List, [], ◌∷◌}
-use Rattle.aprs_rows.specs.declared.kept_names.KeptNames.{KeptNames}
-use Rattle.aprs_rows.specs.declared.kept_names.KeptNames.TheVariants.{One, Many}
+use Rattle.aprs_rows.specs.declared.joining.kept_names.KeptNames.{KeptNames}
+use Rattle.aprs_rows.specs.declared.joining.kept_names.KeptNames.TheVariants.{One, Many}
 
 module _ {A : Type 0} where
   -- the names that are kept

@@ -3,8 +3,6 @@ pub mod Groups
 pub mod Head
 pub mod Judging
 pub mod KeptNames
-pub mod KeyBytes
-pub mod KeyHead
 pub mod Names
 pub mod Refusal
 pub mod Rows

@@ -13,8 +13,8 @@ use Rattle.aprs_laws.specs.Row.{Row}
 use Rattle.aprs_laws.specs.Sound.{IsSoundRow}
 use Rattle.aprs_rows.specs.Head.{head_of, head_cmp}
 use Rattle.aprs_rows.specs.Names.{row_of_text}
-use Rattle.aprs_rows.specs.declared.entry.Entry.{Entry}
-use Rattle.aprs_rows.specs.declared.head.Head.{Head}
+use Rattle.aprs_rows.specs.declared.store.entry.Entry.{Entry}
+use Rattle.aprs_rows.specs.declared.row.head.Head.{Head}
 
 -- The receivers have names, and so has that of the greatest reception, whose frame is a UI frame.
 pub record IsTold (x : Row) : Type 0 where

@@ -9,8 +9,8 @@ use Rattle.aprs_laws.specs.Order.{IsBelow}
 use Rattle.aprs_laws.specs.Row.{Row}
 use Rattle.aprs_laws.specs.JoinRow.{union}
 use Rattle.aprs_rows.specs.Groups.{rows_of_groups, AreGroups}
-use Rattle.aprs_rows.specs.declared.sweep.Open.{Open}
-use Rattle.aprs_rows.specs.declared.sweep.Sweep.{Sweep}
+use Rattle.aprs_rows.specs.declared.store.sweep.Open.{Open}
+use Rattle.aprs_rows.specs.declared.store.sweep.Sweep.{Sweep}
 
 -- the names that were gathered
 abbrev pub gathered : List (Bor (List ℕ)) → List (List ℕ)
@@ -45,6 +45,6 @@ module _ {A : Type 0} where
   -- The rows are those of the groups, and then the open one.
   pub record Stands (s : Sweep A) (rows : List Row) : Type 0 where
     pub groups : AreGroups s.groups.items s.texts.items
-    pub gathered : AreGathered s.open s.names.items
+    pub gathered : AreGathered s.latest s.names.items
     pub rows_are : rows_of_groups s.groups.items s.texts.items
-        ++ open_row s.open s.names.items ∷ [] ≡ rows
+        ++ open_row s.latest s.names.items ∷ [] ≡ rows

@@ -5,7 +5,7 @@ use Rattle.std.specs.List.{list_any}
 use Rattle.std.proofs.lemmas.Fmt.{decimal_digit}
 use Rattle.aprs_io.specs.declared.input.Ending.{Ending}
 use Rattle.aprs_io.specs.declared.input.Ending.TheVariants.{End, Read}
-use Rattle.aprs_log.specs.LogAnswers.{Answers, ended, ending_cause, fault_at, is_lf, log_answers, receptions_of}
+use Rattle.aprs_log.specs.LogAnswers.{Answers, ended, short_tail_cause, fault_at, is_lf, log_answers, receptions_of}
 use Rattle.aprs_log.specs.Reception.{Heard}
 use Rattle.aprs_laws.specs.Gap.{IsGap, millis_of}
 use Rattle.aprs_laws.specs.Lists.{◌∈◌}
@@ -43,7 +43,7 @@ no_reception x (inr p) =
 
 -- a log with this fault stands for no set
 no_set : (gap : ℕ) (t : List ℕ) (c : Ending) → is_book_file t ≡ false → length t < 8
-    → list_any is_lf t ≡ false → ((fault_at 1 (ending_cause c t)) ≡ None → ⊥)
+    → list_any is_lf t ≡ false → ((fault_at 1 (short_tail_cause c t)) ≡ None → ⊥)
     → (S : List Heard) → GivesSet gap t c S → ⊥
 no_set gap t c is few one some S (inl p) =
     absurd (let e : true ≡ false = sym (file_begins gap S t c p) ∙ is in cc)

@@ -2,7 +2,7 @@
 -- module.
 use Rattle.std.specs.Prelude.{◌≡◌, ◌<◌, ◌⊎◌, ℕ, List, [], ◌∷◌, ◌++◌, length, Result, Ok, Err}
 use Rattle.aprs_io.specs.Device.{Last, Going, End}
-use Rattle.aprs_io.specs.Input.{last_of}
+use Rattle.aprs_io.specs.Input.{last_of_ending}
 use Rattle.aprs_log.specs.Awaits.{last_of_cause}
 use Rattle.aprs_log.specs.declared.fault.LogFault.{LogFault}
 use Rattle.aprs_tool.specs.declared.head.ShortInput.{ShortInput}
@@ -16,7 +16,7 @@ IsHead head = (length head ≡ HEAD_LEN)
 -- what a reader answered last, where its first bytes were read so
 abbrev pub last_of_head : {A : Type 0} → Result A ShortInput → Last
 last_of_head (Ok head) = Going
-last_of_head (Err short) = last_of short.ending
+last_of_head (Err short) = last_of_ending short.ending
 
 -- the same by the answer for an input that is too short for a book file
 abbrev pub last_of_short : Result (Unit {0}) LogFault → Last

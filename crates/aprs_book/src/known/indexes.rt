@@ -2,16 +2,14 @@
 ghost use Rattle.std.specs.Prelude.{◌≡◌, ℕ, List, [], Some, IsOk, IfOk, OnOk, OnErr, if◌then◌else◌};
 ghost use Rattle.std.specs.Option.{option_copied};
 ghost use Rattle.aprs_laws.specs.Best.{greater_known};
-ghost use Rattle.aprs_book.specs.Known.{Topic, FourIndexes, index_of, known_at, known_both, is_reported, reported_at, SameKnown, HaveEntries, positions, statuses, objects, items};
-ghost use Rattle.aprs_rows.specs.KeyBytes.{call_bytes};
+ghost use Rattle.aprs_book.specs.Known.{Topic, FourIndexes, call_bytes, index_of, known_at, known_both, is_reported, reported_at, SameKnown, HaveEntries, positions, statuses, objects, items};
 
 use crate::Memory;
 use crate::known::index::Index;
 use crate::known::reception_view::ReceptionView;
-use crate::known::subject::Subject;
+use crate::known::subject::{Subject, call_bytes};
 use aprs_ax25::Callsign;
 use aprs_log::Reception;
-use aprs_rows::call_bytes;
 use std::alloc::{Allocator, Global};
 use std::marker::Model;
 

@@ -1,21 +1,22 @@
 //! What a frame reports on.
 ghost use Rattle.std.specs.Prelude.{◌≡◌, true, None};
 ghost use Rattle.aprs_report.specs.Reader.{reading_of};
-ghost use Rattle.aprs_book.specs.Known.{Topic, reported_at, reported_by};
-ghost use Rattle.aprs_rows.specs.KeyBytes.{call_bytes};
+ghost use Rattle.aprs_book.specs.Known.{Topic, call_bytes, reported_at, reported_by};
 
 use aprs_ax25::Callsign;
 use aprs_report::Report;
-use aprs_rows::call_bytes;
 use arrayvec::ArrayVec;
+
+/// The most bytes by which an index has a callsign.
+const CALL_BYTES: usize = 10;
 
 /// What a frame reports on, by the bytes that an index has.
 #[derive(Drop)]
 pub(crate) enum Subject<'a> {
     /// Where this station is.
-    Position(ArrayVec<u8, 8>),
+    Position(ArrayVec<u8, CALL_BYTES>),
     /// The status of this station.
-    Status(ArrayVec<u8, 8>),
+    Status(ArrayVec<u8, CALL_BYTES>),
     /// The object of this name.
     Object(&'a [u8]),
     /// The item of this name.
@@ -63,4 +64,16 @@ impl<'a> Subject<'a> {
             _ => false,
         }
     }
+}
+
+/// The bytes by which an index has a callsign: its SSID, and then its text. No other has the same.
+pub(crate) fn call_bytes(call: &Callsign) -> ArrayVec<u8, CALL_BYTES>
+    ensures { result.items ≡ call_bytes call.now }
+{
+    let mut bytes = ArrayVec::new();
+    bytes.push(call.ssid());
+    if bytes.try_extend_from_slice(call.text().as_slice()).is_err() {
+        unreachable!()
+    }
+    bytes
 }

@@ -17,16 +17,16 @@ use crate::rows::push::first_cause;
 use crate::rows::walk::Walk;
 use crate::{Memory, RowCause, RowParts};
 use aprs_log::Reception;
-use aprs_rows::{KeyHead, head_bytes, make_room};
+use aprs_rows::{Head, make_room};
 use std::alloc::{Allocator, Global};
 use std::cmp::Ordering;
 use std::collections::BTreeMap;
 use std::marker::Model;
 
-/// The rows of the keys with one head, in their order, by that head. No head is without rows. Most
-/// heads are of one key, so that a key is found by comparing heads, which lie in the map itself.
+/// The rows of the keys with one head, in their order, by that head. No head is without rows. Heads
+/// lie in the map itself, so that most keys are told apart without a look at their frames.
 pub(crate) struct KeyedRows<A: Allocator = Global> {
-    map: BTreeMap<KeyHead, Vec<KeptRow<A>, A>, A>,
+    map: BTreeMap<Head, Vec<KeptRow<A>, A>, A>,
     /// The number of the rows of all keys.
     count: usize,
     alloc: A,
@@ -50,10 +50,10 @@ impl<A: Allocator> Model for KeyedRows<A> {
 
     ghost Value = { List RowValue };
 
-    ghost view = { λ b. rows_of (λ k. k) (λ v. v.items) b.map.entries };
+    ghost view = { λ b. rows_of (λ v. v.items) b.map.entries };
 
-    ghost invariant = { λ b. AreKept (λ k. k) (λ v. v.items) b.map.entries
-        × (b.count ≡ length (rows_of (λ k. k) (λ v. v.items) b.map.entries)) };
+    ghost invariant = { λ b. AreKept (λ v. v.items) b.map.entries
+        × (b.count ≡ length (rows_of (λ v. v.items) b.map.entries)) };
 }
 
 impl<A: Allocator + Copy> KeyedRows<A> {
@@ -145,7 +145,7 @@ impl<A: Allocator + Copy> KeyedRows<A> {
         ensures added { OnOk result (self.new ≡ self.old ++ row ∷ []) }
         ensures unchanged { OnErr result (self.new ≡ self.old) }
     {
-        let head = head_bytes(row.greatest().frame());
+        let head = Head::of_frame(row.greatest().frame());
         let mut count = self.count;
         if let Some(rows) = self.map.get_mut(&head) {
             let pushed = push_one(rows, &mut count, row);
@@ -188,7 +188,7 @@ impl<A: Allocator + Copy> KeyedRows<A> {
         ensures unchanged { OnErr result (self.new ≡ self.old) }
         ensures in_place { fits_in_place gap x.now self.old ≡ true → IsOk result }
     {
-        let head = head_bytes(x.frame());
+        let head = Head::of_frame(x.frame());
         let mut count = self.count;
         if let Some(rows) = self.map.get_mut(&head) {
             let taken = put(gap, rows, &mut count, x);
@@ -229,10 +229,10 @@ fn push_one<A: Allocator + Copy>(
 
 /// The number of the rows of all keys.
 fn number_of_rows<A: Allocator + Copy>(
-    map: &BTreeMap<KeyHead, Vec<KeptRow<A>, A>, A>,
+    map: &BTreeMap<Head, Vec<KeptRow<A>, A>, A>,
 ) -> Result<usize, Memory>
     ensures { IfOk result (λ n.
-        n ≡ length (rows_of (λ k. k) (λ v. v.items) map.now.entries)) }
+        n ≡ length (rows_of (λ v. v.items) map.now.entries)) }
 {
     let mut count: usize = 0;
     for rows in map.values() {

@@ -7,7 +7,7 @@ use crate::Memory;
 use crate::rows::kept_row::KeptRow;
 use crate::rows::merging::{joined_rows, merged_rows};
 use crate::rows::millis::Millis;
-use aprs_rows::KeyHead;
+use aprs_rows::Head;
 use std::alloc::Allocator;
 use std::collections::BTreeMap;
 
@@ -15,12 +15,12 @@ use std::collections::BTreeMap;
 pub(crate) fn put_merged<A: Allocator + Copy>(
     alloc: A,
     gap: Millis,
-    map: &mut BTreeMap<KeyHead, Vec<KeptRow<A>, A>, A>,
-    head: &KeyHead,
+    map: &mut BTreeMap<Head, Vec<KeptRow<A>, A>, A>,
+    head: &Head,
     ours: &[KeptRow<A>],
     theirs: &[KeptRow<A>],
 ) -> Result<(), Memory>
-    ensures { OnOk result (PutsRows (λ k. k) (λ v. v.items) map.old.entries map.new.entries
+    ensures { OnOk result (PutsRows (λ v. v.items) map.old.entries map.new.entries
         head.now (coalesced gap (interleave ours.now theirs.now))) }
 {
     let rows = merged_rows(alloc, gap, ours, theirs)?;
@@ -34,11 +34,11 @@ pub(crate) fn put_merged<A: Allocator + Copy>(
 pub(crate) fn put_joined<A: Allocator + Copy>(
     alloc: A,
     gap: Millis,
-    map: &mut BTreeMap<KeyHead, Vec<KeptRow<A>, A>, A>,
-    head: &KeyHead,
+    map: &mut BTreeMap<Head, Vec<KeptRow<A>, A>, A>,
+    head: &Head,
     rows: &[KeptRow<A>],
 ) -> Result<(), Memory>
-    ensures { OnOk result (PutsRows (λ k. k) (λ v. v.items) map.old.entries map.new.entries
+    ensures { OnOk result (PutsRows (λ v. v.items) map.old.entries map.new.entries
         head.now (coalesced gap rows.now)) }
 {
     let rows = joined_rows(alloc, gap, rows)?;

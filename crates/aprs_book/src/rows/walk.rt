@@ -4,7 +4,7 @@ ghost use Rattle.std.specs.List.{flat_map};
 ghost use Rattle.std.specs.Iterator.{YieldsFirstRef, item_count};
 
 use crate::rows::kept_row::KeptRow;
-use aprs_rows::KeyHead;
+use aprs_rows::Head;
 use std::alloc::{Allocator, Global};
 use std::collections::btree_map::Values;
 use std::marker::Model;
@@ -13,7 +13,7 @@ use std::marker::Model;
 #[derive(Drop)]
 pub(crate) struct Walk<'a, A: Allocator = Global> {
     rows: &'a [KeptRow<A>],
-    others: Values<'a, KeyHead, Vec<KeptRow<A>, A>>,
+    others: Values<'a, Head, Vec<KeptRow<A>, A>>,
 }
 
 impl<'a, A: Allocator> Model for Walk<'a, A> {
@@ -30,7 +30,7 @@ impl<'a, A: Allocator> Walk<'a, A> {
     /// These rows, and then those of all these heads.
     pub(crate) fn of(
         rows: &'a [KeptRow<A>],
-        others: Values<'a, KeyHead, Vec<KeptRow<A>, A>>,
+        others: Values<'a, Head, Vec<KeptRow<A>, A>>,
     ) -> Walk<'a, A>
         ensures { result ≡ rows.now ++ flat_map (λ v. v.items) others.entry }
     {

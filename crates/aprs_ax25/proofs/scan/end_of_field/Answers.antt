@@ -6,7 +6,7 @@ pub addresses-init : goal.addresses-init
 addresses-init c = let s = frame_fault-IsSound c.args.frame.now c.requires in record {
   sevenfold = omega arith;
   least = omega arith;
-  most = s.least;
+  most = s.size.0;
 }
 
 pub ends_address-requires : goal.ends_address-requires

@@ -1,6 +1,6 @@
 use Rattle.std.proofs.Common.{◌≡◌, ◌+◌, ◌++◌, ◌-◌, [], arith, length, take, length-take, subst, append-nil}
 use Rattle.aprs_io.proofs.Sends.{Calls-then}
-use Rattle.aprs_booktext.specs.FirstFault.{most_ahead}
+use Rattle.aprs_booktext.specs.TextFault.{most_ahead}
 use Rattle.aprs_booktext.specs.Reader.{IsFault}
 use Rattle.aprs_booktext.proofs.Inputs.{EndsIn-book, Got-more, IsAnswered-end, IsAnswered-fault}
 use Rattle.aprs_booktext.proofs.Standing.{after_fault, fault_near}

@@ -1,13 +1,24 @@
-use Rattle.std.proofs.Common.{ℕ, ◌∙◌, List, Ok, ap, arith, sym}
+use Rattle.std.proofs.Common.{ℕ, ◌∙◌, ◌++◌, ◌≡◌, List, Ok, ap, arith, subst, sym}
 use Rattle.std.proofs.lemmas.Result.{err_from_is_err_and}
-use Rattle.aprs_booktext.specs.FirstFault.{most_ahead}
+use Rattle.aprs_laws.specs.BookValue.{IsSoundBook}
+use Rattle.aprs_laws.specs.Row.{Row}
+use Rattle.aprs_booktext.specs.TextFault.{most_ahead}
 use Rattle.aprs_booktext.specs.Reader.{IsFault, IsOfText, Stands}
 use Rattle.aprs_booktext.specs.Reading.{IsAnswered}
 use Rattle.aprs_booktext.proofs.Accepting.{answer_accepts, answer_seconds}
 use Rattle.aprs_booktext.proofs.Inputs.{Got-weaker, IsAnswered-fault, answer_book}
-use Rattle.aprs_booktext.proofs.LastLines.{done_refused}
+use Rattle.aprs_booktext.proofs.LastLines.{done_refused, done_sound}
 use Rattle.aprs_booktext.proofs.Standing.{fault_near}
 use Rattle.aprs_booktext.proofs.read.read_book.Goals as goal
+
+pub book_in-requires : goal.book_in-requires
+book_in-requires g c =
+    let s = c.in_ok-left.ensures.got.stands in
+    let rows : s.rows ≡ c.read_lines.new.store =
+    sym (s.has.stored ∙ ap (λ (old : List Row). old ++ s.rows) c.new-store.ensures) in
+    subst (λ (r : List Row). IsSoundBook (record { gap = c.gap.result; rows = r })) rows
+    (subst (λ n. IsSoundBook (record { gap = n; rows = s.rows })) (sym c.gap.ensures)
+    (done_sound _ s.rows _ c.in_ok-left.ensures.done s.holds.holds))
 
 pub returns-in_err-left-clause-accepts : goal.returns-in_err-left-clause-accepts
 returns-in_err-left-clause-accepts g c =

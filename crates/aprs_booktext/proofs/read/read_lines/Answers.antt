@@ -1,7 +1,8 @@
-use Rattle.std.proofs.Common.{◌≡◌, ◌-◌, ◌∙◌, [], refl, sym, inr, arith, length, take, length-take}
+use Rattle.std.proofs.Common.{◌≡◌, ◌-◌, ◌∙◌, [], refl, sym, arith, length, take, length-take}
 use Rattle.std.proofs.lemmas.Result.{err_from_is_err_and}
 use Rattle.aprs_io.proofs.Sends.{Calls-none, Calls-then}
-use Rattle.aprs_booktext.specs.FirstFault.{most_ahead}
+use Rattle.aprs_booktext.specs.TextFault.{most_ahead}
+use Rattle.aprs_booktext.proofs.SameFaults.{first_is}
 use Rattle.aprs_booktext.specs.Reader.{IsFault, Stands}
 use Rattle.aprs_booktext.proofs.Standing.{cut_fault, fault_near, may_end-going}
 use Rattle.aprs_booktext.proofs.Inputs.{Got-none, Got-more, IsAnswered-end, IsAnswered-fault}
@@ -62,5 +63,5 @@ returns-in-Err-clause-fault g c =
     rw c.fault_at.ensures (IsAnswered-end _ c.args.limit c.args.head.now _ _ _
     c.loop-room.invariant.calls _ _ c.in-Err.ending _ c.loop-room.invariant.got refl
     c.in-Err.ensures.end c.in-Err.ensures.over c.in-Err.ensures.calls
-    (λ t s. rw s.has.counted (inr (cut_fault _ _ _ t _ (may_end-going _ _
+    (λ t s. rw s.has.counted (first_is _ _ _ (cut_fault _ _ _ t _ (may_end-going _ _
     (sym c.is_done.ensures ∙ c.loop-room-test.true)) s.holds))))

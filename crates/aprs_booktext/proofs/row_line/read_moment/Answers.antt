@@ -1,13 +1,9 @@
-use Rattle.std.proofs.Common.{refl, sym, arith}
-use Rattle.aprs_booktext.proofs.Spellings.{moment_found, moment_missed}
+use Rattle.std.proofs.Common.{◌≡◌, None, Some, refl}
 use Rattle.aprs_booktext.proofs.row_line.read_moment.Goals as goal
 
 pub returns-in-Some-clause-some : goal.returns-in-Some-clause-some
-returns-in-Some-clause-some c =
-    moment_found c.args.form c.args.field.now c.in-Some.moment
-    (omega (arith, c.millis.ensures.in_range, c.millis.ensures.value))
-    ((c.in-Some.ensures.exact c.in-Some.moment).0 refl)
+returns-in-Some-clause-some c = (c.in-Some.ensures.exact c.in-Some.moment).0 refl
 
 pub returns-in-None-clause-none : goal.returns-in-None-clause-none
-returns-in-None-clause-none c = moment_missed c.args.form c.args.field.now
-    (sym c.in-None.ensures.value)
+returns-in-None-clause-none c = λ m h is.
+    let no : None ≡ Some m = (c.in-None.ensures.exact m).1 (h, is) in cc

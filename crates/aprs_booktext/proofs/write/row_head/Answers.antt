@@ -6,7 +6,7 @@ use Rattle.aprs_booktext.proofs.write.row_head.Goals as goal
 
 pub returns-clause-text : goal.returns-clause-text
 returns-clause-text c =
-    let first = c.copy_from_slice.ensures.after ∙ c.text.ensures.value in
+    let first = c.copy_from_slice.ensures.after ∙ c.text.ensures in
     head_is _ _ c.copy_from_slice.new.self c.copy_from_slice-2.new.self
     (ap length first ∙ moment_len Millis c.args.first) first
-    (c.copy_from_slice-2.ensures.after ∙ c.text-2.ensures.value)
+    (c.copy_from_slice-2.ensures.after ∙ c.text-2.ensures)

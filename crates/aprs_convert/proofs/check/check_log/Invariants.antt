@@ -1,7 +1,7 @@
 use Rattle.std.proofs.Common.{◌≡◌, ◌-◌, ℕ, List, Option, None}
 use Rattle.aprs_io.specs.declared.input.TheConstants.{MAX_INPUT}
 use Rattle.aprs_kiss.specs.Device.{Calls, Going, device_of}
-use Rattle.aprs_log.specs.Reader.{Awaits, lines_of, loan_of, source_of, stop_of}
+use Rattle.aprs_log.specs.Reader.{Awaits, line_count_of, loan_of, source_of, stop_of}
 use Rattle.aprs_convert.proofs.Checked.{Checked}
 use Rattle.aprs_convert.proofs.check.check_log.Given as goal
 
@@ -18,8 +18,8 @@ invariant-lines g l =
           (Awaits (remaining (device_of (source_of l.initial.reader))) end l.initial.reader)
           (Awaits (remaining (device_of (source_of l.reader))) end l.reader)
           (contents (device_of l.initial.w)) (contents (device_of l.w))
-          l.heard l.passed (lines_of l.reader);
+          l.heard l.passed (line_count_of l.reader);
     }
 
 abbrev pub decreases-lines : goal.decreases-lines
-decreases-lines g l = MAX_INPUT - lines_of l.reader
+decreases-lines g l = MAX_INPUT - line_count_of l.reader

@@ -2,7 +2,7 @@ use Rattle.std.proofs.Common.{◌≡◌, ◌-◌, ℕ, List, Option, None}
 use Rattle.std.specs.List.{flat_map}
 use Rattle.aprs_io.specs.declared.input.TheConstants.{MAX_INPUT}
 use Rattle.aprs_kiss.specs.Device.{Calls, Going, device_of}
-use Rattle.aprs_log.specs.Reader.{Awaits, lines_of, loan_of, source_of, stop_of}
+use Rattle.aprs_log.specs.Reader.{Awaits, line_count_of, loan_of, source_of, stop_of}
 use Rattle.aprs_convert.specs.Plan.{line_text}
 use Rattle.aprs_convert.proofs.Seen.{Ran}
 use Rattle.aprs_convert.proofs.convert.convert_lines.Given as goal
@@ -23,4 +23,4 @@ invariant-lines g l =
     }
 
 abbrev pub decreases-lines : goal.decreases-lines
-decreases-lines g l = MAX_INPUT - lines_of l.reader
+decreases-lines g l = MAX_INPUT - line_count_of l.reader

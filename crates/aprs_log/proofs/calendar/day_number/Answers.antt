@@ -14,7 +14,7 @@ overflow_sub-result c =
     (parts_are date.year date.month date.day c.args.year c.args.month c.args.day
     c.days_since_min.result (civil date)
     ymd.0 ymd.1 ymd.2 c.requires.low c.requires.high
-    (rw c.to_plain.ensures at c.days_since_min.ensures.value)).0
+    c.days_since_min.ensures.value).0
 
 pub returns-in-Ok : goal.returns-in-Ok
 returns-in-Ok c =
@@ -26,7 +26,7 @@ returns-in-Ok c =
     let number = parts_are date.year date.month date.day c.args.year c.args.month c.args.day
     c.days_since_min.result (civil date)
     ymd.0 ymd.1 ymd.2 c.requires.low c.requires.high
-    (rw c.to_plain.ensures at c.days_since_min.ensures.value) in (
+    c.days_since_min.ensures.value in (
       (
         c.requires.low,
         c.requires.high,

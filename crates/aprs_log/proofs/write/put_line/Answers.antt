@@ -6,7 +6,8 @@ use Rattle.aprs_ax25.specs.FrameFault.{parts_of}
 use Rattle.aprs_log.specs.Moment.{moment_text}
 use Rattle.aprs_log.specs.Receiver.{IsName}
 use Rattle.aprs_log.specs.declared.write.TheConstants.{MAX_FRAME}
-use Rattle.aprs_log.proofs.Moments.{moment_of-text}
+use Rattle.aprs_log.specs.declared.moment_form.MomentForm.TheVariants.{Millis}
+use Rattle.aprs_log.proofs.Moments.{moment_text-is}
 use Rattle.aprs_log.proofs.WrittenLines.{frame_of-is, line_of-written, real}
 use Rattle.aprs_log.proofs.write.put_line.Goals as goal
 
@@ -18,7 +19,7 @@ returns-clause-back c short =
     let P : List ℕ → Type 0 = λ f. FrameOf (parts_of f) f in
     let reads = frame_of-is x.frame _ (subst P c.frame.ensures c.bytes.ensures.frame) in
     let is = real x (moment_text x.moment) refl
-    (moment_of-text (moment_text x.moment) x.moment c.requires.read)
+    (Millis, moment_text-is Millis x.moment c.requires.range (omega arith))
     (subst IsName c.receiver.ensures c.as_bytes.ensures.name) reads few in
     let digits = subst (λ l. decode_of (encode_lower (kiss_text l)) ≡ Ok (kiss_text l)) frame
     c.put_frame-digits.ensures.back in

@@ -1,11 +1,11 @@
 use Rattle.std.proofs.Common.{refl}
-use Rattle.aprs_report.specs.Reader.{form_of, position_of, place_of, plain_of, angle_of}
+use Rattle.aprs_report.specs.Reader.{report_by_form, position_of, place_of, plain_of, angle_of}
 use Rattle.aprs_report.specs.Reader.{minutes_of, numeral_of, cut_end}
 use Rattle.aprs_report.proofs.Readings.{computed}
 use Rattle.aprs_report.proofs.examples.plain_examples.Goals as goal
 
 pub returns : goal.returns
-unfolding form_of position_of place_of plain_of angle_of minutes_of numeral_of cut_end
+unfolding report_by_form position_of place_of plain_of angle_of minutes_of numeral_of cut_end
 returns c = record {
   full = computed refl;
   to_tenths = computed refl;

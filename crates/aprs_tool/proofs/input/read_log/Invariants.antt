@@ -1,7 +1,7 @@
 use Rattle.std.proofs.Common.{◌≡◌, ◌-◌, ℕ, List, Option, None}
 use Rattle.aprs_io.specs.Device.{Calls, Going, device_of}
 use Rattle.aprs_io.specs.Input.{most_input}
-use Rattle.aprs_log.specs.Reader.{Awaits, lines_of, loan_of, source_of, stop_of}
+use Rattle.aprs_log.specs.Reader.{Awaits, line_count_of, loan_of, source_of, stop_of}
 use Rattle.aprs_tool.proofs.Logs.{Took}
 use Rattle.aprs_tool.proofs.input.read_log.Given as goal
 
@@ -18,4 +18,4 @@ invariant-lines g l =
     }
 
 abbrev pub decreases-lines : goal.decreases-lines
-decreases-lines g l = most_input - lines_of l.reader
+decreases-lines g l = most_input - line_count_of l.reader

@@ -8,5 +8,5 @@ loop-rows-init g c =
     let all =
     ap (λ t. length (flat_map (λ v. v.items) t))
     (c.into_iter-rows-iterator.ensures.into_iter_gives ∙ c.values-rows-items.ensures.rest)
-    ∙ ap length (rows_of_values (λ k. k) (λ v. v.items) c.args.map.now.entries) in
+    ∙ ap length (rows_of_values (λ v. v.items) c.args.map.now.entries) in
     omega (arith, all)

@@ -5,5 +5,5 @@ use Rattle.aprs_book.proofs.rows.keyed.number_of_rows.Given as goal
 
 abbrev pub invariant-loop-rows : goal.invariant-loop-rows
 invariant-loop-rows g l =
-    length (rows_of (λ k. k) (λ v. v.items) l.map.entries)
+    length (rows_of (λ v. v.items) l.map.entries)
     ≡ l.count + length (flat_map (λ v. v.items) l.rows-iterator)

@@ -1,12 +1,9 @@
-use Rattle.std.proofs.Common.{refl}
 use Rattle.aprs_rows.proofs.Cases.{on_not_err}
 use Rattle.aprs_book.proofs.rows.merging_keys.put_joined.Goals as goal
 
 pub returns : goal.returns
 returns g c = (
-  c.args.head.now,
   c.in_ok-rows.rows,
-  refl,
   c.in_ok-rows.ensures,
   on_not_err c.insert.result _ c.insert.ensures.entries c.if-is_err.ensures.value,
 )

@@ -1,4 +1,5 @@
-use Rattle.std.proofs.Common.{◌∙◌, sym, inr}
+use Rattle.std.proofs.Common.{◌∙◌, sym}
+use Rattle.aprs_booktext.proofs.SameFaults.{first_is}
 use Rattle.aprs_booktext.proofs.Standing.{cut_fault, ended_read, rows_stored}
 use Rattle.aprs_booktext.proofs.reader.BookReader.finish.Goals as goal
 
@@ -9,4 +10,4 @@ returns-then-may_end-clause-reads g c = λ before store t s.
 
 pub returns-clause-reads : goal.returns-clause-reads
 returns-clause-reads g c = λ before store t s. rw (c.fault_at.ensures, s.has.counted)
-    (inr (cut_fault _ _ _ t _ (sym c.may_end.ensures ∙ c.if-may_end.false) s.holds))
+    (first_is _ _ _ (cut_fault _ _ _ t _ (sym c.may_end.ensures ∙ c.if-may_end.false) s.holds))

@@ -1,7 +1,7 @@
 use Rattle.std.proofs.Common.{◌≡◌, ◌+◌, ◌*◌, sym, ap, ◌∙◌, arith}
 use Rattle.std.proofs.lemmas.Slice.Eq.{bytes_eq-Decides}
 use Rattle.aprs_log.specs.declared.moment_form.MomentForm.TheVariants.{Millis}
-use Rattle.aprs_log.specs.Moment.{civil_text}
+use Rattle.aprs_log.specs.MomentReading.{civil_text}
 use Rattle.aprs_log.specs.Places.{near_civil, near_millis}
 use Rattle.aprs_log.proofs.civil.CivilTime.parse_long.Goals as goal
 

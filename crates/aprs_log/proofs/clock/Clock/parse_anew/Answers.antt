@@ -2,7 +2,7 @@ use Rattle.std.proofs.Common.{◌≡◌, Some, ◌-◌, ◌%◌, ◌++◌, ap, s
 use Rattle.aprs_log.proofs.Clocks.{moment_of-midnight}
 use Rattle.aprs_log.specs.declared.moment_form.MomentForm.TheVariants.{Seconds}
 use Rattle.aprs_log.specs.Clock.{midnight_text}
-use Rattle.aprs_log.specs.Moment.{moment_in}
+use Rattle.aprs_log.specs.MomentReading.{moment_in}
 use Rattle.aprs_log.proofs.clock.Clock.parse_anew.Goals as goal
 
 pub invariant_of-self : goal.invariant_of-self

@@ -1,17 +1,15 @@
-use Rattle.std.proofs.Common.{◌≡◌, Some, ◌+◌, ◌*◌, ◌++◌, arith, ap, sym, ◌∙◌}
-use Rattle.std.proofs.lemmas.Slice.Eq.{bytes_eq-Decides}
-use Rattle.aprs_log.proofs.Clocks.{IfSome-moment, halves, moment_of-same_day, not_false}
+use Rattle.std.proofs.Common.{◌≡◌, Some, ◌+◌, ◌*◌, arith, ap, sym, ◌∙◌}
+use Rattle.std.proofs.lemmas.Bool.{OnTrue_at}
+use Rattle.aprs_log.proofs.Clocks.{IfSome-moment, halves, moment_of-same_day}
 use Rattle.aprs_log.proofs.clock.Clock.parse_same_day.Goals as goal
 
 pub returns : goal.returns
 returns c =
     let text = c.args.text.now in
     let date = c.args.self.now.date in
-    let cut = c.split_at.ensures in
     let rest = c.split_at.result.1.now in
-    let same = (bytes_eq-Decides c.split_at.result.0.now c.as_slice.result.now).0
-    (not_false _ (sym c.ne.ensures ∙ c.if-ne.false)) ∙ c.as_slice.ensures in
-    let text_is = halves 11 text _ rest cut.front cut.back ∙ ap (λ l. l ++ rest) same in
+    let same = OnTrue_at c.if-not-has_date.false c.has_date.ensures in
+    let text_is = halves 11 text date rest (sym same) c.split_at.ensures.back in
     let rest_is = halves 8 rest _ _ c.split_at-2.ensures.front c.split_at-2.ensures.back in
     let sum : c.args.self.now.midnight + c.in_ok-second.second * 1000 + c.in_ok-milli.milli
     ≡ c.millis.result + c.from.result * 1000 + c.from-2.result

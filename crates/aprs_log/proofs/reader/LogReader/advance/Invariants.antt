@@ -2,14 +2,14 @@ use Rattle.std.proofs.Common.{◌≡◌, Option, None, Some}
 use Rattle.aprs_io.specs.Device.{Calls, device_of}
 use Rattle.aprs_log.specs.ReaderSteps.{Moves, work_of}
 use Rattle.aprs_log.specs.States.{last_in}
-use Rattle.aprs_log.specs.Reader.{HasLf, current_of, read_ahead_of, lines_of, loan_of, source_of, stop_of}
+use Rattle.aprs_log.specs.Reader.{HasLf, current_of, read_ahead_of, line_count_of, loan_of, source_of, stop_of}
 use Rattle.aprs_log.specs.declared.fault.LogFault.{LogFault}
 use Rattle.aprs_log.proofs.reader.LogReader.advance.Given as goal
 
 abbrev pub invariant-loop-self : goal.invariant-loop-self
 invariant-loop-self g l = record {
   same_reference : loan_of l.self ≡ loan_of l.initial.self;
-  lines : lines_of l.self ≡ lines_of l.initial.self;
+  lines : line_count_of l.self ≡ line_count_of l.initial.self;
   current : current_of l.self ≡ current_of l.initial.self;
   moves : Moves (g.R.Read.remaining (device_of (source_of l.initial.self))) l.initial.self
       (g.R.Read.remaining (device_of (source_of l.self))) l.self;

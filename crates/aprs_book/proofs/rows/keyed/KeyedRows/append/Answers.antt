@@ -1,30 +1,22 @@
-use Rattle.std.proofs.Common.{[], refl, ◌∷◌, ◌++◌, ◌∙◌, sym, ap, subst}
+use Rattle.std.proofs.Common.{[], ◌∷◌, ◌++◌, ◌∙◌, sym, ap}
 use Rattle.std.specs.BTreeMap.{insert_entry}
-use Rattle.aprs_log.specs.Reception.{Heard, bytes_cmp}
-use Rattle.aprs_laws.specs.Key.{key_of}
-use Rattle.aprs_book.specs.Keyed.{EndsUpTo}
-use Rattle.aprs_rows.specs.KeyBytes.{head_bytes}
+use Rattle.aprs_log.specs.Reception.{Heard}
+use Rattle.aprs_rows.specs.Head.{head_cmp}
 use Rattle.aprs_rows.proofs.Cases.{on_not_err, on_err}
-use Rattle.aprs_book.proofs.EntryEnds.{stays, err_stays, count_set, count_insert, IsAfter, after_ok, after_err, after_kept, after_new}
+use Rattle.aprs_book.proofs.EntryEnds.{stays, err_stays, count_set, count_insert, goes_after, after_ok, after_err, after_kept, after_new}
 use Rattle.aprs_book.proofs.rows.keyed.KeyedRows.append.Goals as goal
 
 pub invariant_of-self : goal.invariant_of-self
 invariant_of-self g c =
     let x = c.args.row in
     let es = c.self.inside.map.entries in
-    let b : IsAfter (λ k. k) (λ v. v.items) x c.head_bytes-head.result es =
-    record {
-      key = c.head_bytes-head.ensures
-          ∙ ap (λ t. head_bytes (key_of t)) (c.frame.ensures
-          ∙ ap (λ (t : Heard). t.frame) c.greatest.ensures);
-      sorted = c.in-Some.ensures.ordered;
-      kept = c.self.invariant.0;
-      ends = subst (EndsUpTo x) (sym c.self.view_is) c.requires;
-    } in (
-      after_kept (λ k. k) (λ v. v.items) x _ es _ _ _ c.push_one-pushed.result b
-          c.in-Some.ensures.value (c.get_mut.follows.holds c.push_one-pushed.new.rows).0
-          c.push_one-pushed.ensures.added c.push_one-pushed.ensures.unchanged,
-      count_set (λ k. k) (λ v. v.items) c.head_bytes-head.result es _ c.in-Some.rows.now
+    let b = goes_after (λ v. v.items) x c.frame.result.now c.of_frame-head.result es
+    c.of_frame-head.ensures (c.frame.ensures ∙ ap (λ (t : Heard). t.frame) c.greatest.ensures)
+    c.in-Some.ensures.ordered c.self.invariant.0 _ c.self.view_is c.requires in (
+      after_kept (λ v. v.items) x _ es _ _ _ c.push_one-pushed.result b c.in-Some.ensures.value
+          (c.get_mut.follows.holds c.push_one-pushed.new.rows).0 c.push_one-pushed.ensures.added
+          c.push_one-pushed.ensures.unchanged,
+      count_set (λ v. v.items) c.of_frame-head.result es _ c.in-Some.rows.now
           c.push_one-pushed.new.rows
           c.self.inside.count c.push_one-pushed.new.count c.in-Some.ensures.value
           (c.get_mut.follows.holds c.push_one-pushed.new.rows).0 c.self.invariant.1
@@ -35,25 +27,18 @@ pub returns-in-Some-clause-added : goal.returns-in-Some-clause-added
 returns-in-Some-clause-added g c =
     let x = c.args.row in
     let es = c.self.inside.map.entries in
-    let b : IsAfter (λ k. k) (λ v. v.items) x c.head_bytes-head.result es =
-    record {
-      key = c.head_bytes-head.ensures
-          ∙ ap (λ t. head_bytes (key_of t)) (c.frame.ensures
-          ∙ ap (λ (t : Heard). t.frame) c.greatest.ensures);
-      sorted = c.in-Some.ensures.ordered;
-      kept = c.self.invariant.0;
-      ends = subst (EndsUpTo x) (sym c.self.view_is) c.requires;
-    } in
-    rw (← c.self.view_is) (after_ok (λ k. k)
-    (λ v. v.items) x _ es _ _ _ c.push_one-pushed.result b c.in-Some.ensures.value
-    (c.get_mut.follows.holds c.push_one-pushed.new.rows).0 c.push_one-pushed.ensures.added)
+    let b = goes_after (λ v. v.items) x c.frame.result.now c.of_frame-head.result es
+    c.of_frame-head.ensures (c.frame.ensures ∙ ap (λ (t : Heard). t.frame) c.greatest.ensures)
+    c.in-Some.ensures.ordered c.self.invariant.0 _ c.self.view_is c.requires in
+    rw (← c.self.view_is) (after_ok (λ v. v.items) x _ es _ _ _ c.push_one-pushed.result b
+    c.in-Some.ensures.value (c.get_mut.follows.holds c.push_one-pushed.new.rows).0
+    c.push_one-pushed.ensures.added)
 
 pub returns-in-Some-clause-unchanged : goal.returns-in-Some-clause-unchanged
 returns-in-Some-clause-unchanged g c =
-    rw (← c.self.view_is) (after_err (λ k. k)
-    (λ v. v.items) c.args.row _ c.self.inside.map.entries _ _ _ c.push_one-pushed.result
-    c.in-Some.ensures.value (c.get_mut.follows.holds c.push_one-pushed.new.rows).0
-    c.push_one-pushed.ensures.unchanged)
+    rw (← c.self.view_is) (after_err (λ v. v.items) c.args.row _ c.self.inside.map.entries _ _ _
+    c.push_one-pushed.result c.in-Some.ensures.value
+    (c.get_mut.follows.holds c.push_one-pushed.new.rows).0 c.push_one-pushed.ensures.unchanged)
 
 pub invariant_of-self-then-is_err : goal.invariant_of-self-then-is_err
 invariant_of-self-then-is_err g c =
@@ -66,57 +51,41 @@ pub invariant_of-self-2 : goal.invariant_of-self-2
 invariant_of-self-2 g c =
     let x = c.args.row in
     let es = c.self.inside.map.entries in
-    let b : IsAfter (λ k. k) (λ v. v.items) x c.head_bytes-head.result es =
-    record {
-      key = c.head_bytes-head.ensures
-          ∙ ap (λ t. head_bytes (key_of t)) (c.frame.ensures
-          ∙ ap (λ (t : Heard). t.frame) c.greatest.ensures);
-      sorted = c.in_default.ensures.ordered;
-      kept = c.self.invariant.0;
-      ends = subst (EndsUpTo x) (sym c.self.view_is) c.requires;
-    } in
+    let b = goes_after (λ v. v.items) x c.frame.result.now c.of_frame-head.result es
+    c.of_frame-head.ensures (c.frame.ensures ∙ ap (λ (t : Heard). t.frame) c.greatest.ensures)
+    c.in_default.ensures.ordered c.self.invariant.0 _ c.self.view_is c.requires in
     let put = on_not_err c.insert.result _ c.insert.ensures.entries c.if-is_err.ensures.value in
-    let same = ap (λ m. m.entries) c.get_mut.follows.holds-at-none in (
-      (after_new (λ k. k) (λ v. v.items) x _ es _ c.head_bytes-head.result c.push_one.new.rows b
-          c.in_default.ensures.value refl (c.in_ok-push_one.ensures.added
-          ∙ ap (λ t. t ++ x ∷ []) c.new-rows.ensures.items)
-          (put ∙ ap (λ t. insert_entry (bytes_cmp) t c.head_bytes-head.result
-          c.push_one.new.rows) same)).1,
-      count_insert (λ k. k) (λ v. v.items) c.head_bytes-head.result es c.insert.new.self.entries
-          c.head_bytes-head.result c.push_one.new.rows c.new-rows.result.items c.self.inside.count
-          c.push_one.new.count c.in_default.ensures.value
-          refl
-          c.new-rows.ensures.items (put ∙ ap (λ t. insert_entry
-          (bytes_cmp) t c.head_bytes-head.result c.push_one.new.rows) same)
-          c.self.invariant.1 c.in_ok-push_one.ensures.counted,
+    let same = ap (λ m. m.entries) c.get_mut.follows.holds-at-none in
+    let entries = put
+    ∙ ap (λ t. insert_entry head_cmp t c.of_frame-head.result c.push_one.new.rows) same in (
+      (after_new (λ v. v.items) x _ es _ c.push_one.new.rows b c.in_default.ensures.value
+          (c.in_ok-push_one.ensures.added ∙ ap (λ t. t ++ x ∷ []) c.new-rows.ensures.items)
+          entries).1,
+      count_insert (λ v. v.items) c.of_frame-head.result es c.insert.new.self.entries
+          c.push_one.new.rows c.new-rows.result.items c.self.inside.count c.push_one.new.count
+          c.in_default.ensures.value c.new-rows.ensures.items entries c.self.invariant.1
+          c.in_ok-push_one.ensures.counted,
     )
 
 pub returns-clause-added : goal.returns-clause-added
 returns-clause-added g c =
     let x = c.args.row in
     let es = c.self.inside.map.entries in
-    let b : IsAfter (λ k. k) (λ v. v.items) x c.head_bytes-head.result es =
-    record {
-      key = c.head_bytes-head.ensures
-          ∙ ap (λ t. head_bytes (key_of t)) (c.frame.ensures
-          ∙ ap (λ (t : Heard). t.frame) c.greatest.ensures);
-      sorted = c.in_default.ensures.ordered;
-      kept = c.self.invariant.0;
-      ends = subst (EndsUpTo x) (sym c.self.view_is) c.requires;
-    } in
+    let b = goes_after (λ v. v.items) x c.frame.result.now c.of_frame-head.result es
+    c.of_frame-head.ensures (c.frame.ensures ∙ ap (λ (t : Heard). t.frame) c.greatest.ensures)
+    c.in_default.ensures.ordered c.self.invariant.0 _ c.self.view_is c.requires in
     let put = on_not_err c.insert.result _ c.insert.ensures.entries c.if-is_err.ensures.value in
     let same = ap (λ m. m.entries) c.get_mut.follows.holds-at-none in
-    rw (← c.self.view_is) (after_new (λ k. k)
-    (λ v. v.items) x _ es _ c.head_bytes-head.result c.push_one.new.rows b
+    let entries = put
+    ∙ ap (λ t. insert_entry head_cmp t c.of_frame-head.result c.push_one.new.rows) same in
+    rw (← c.self.view_is) (after_new (λ v. v.items) x _ es _ c.push_one.new.rows b
     c.in_default.ensures.value
-    refl
     (c.in_ok-push_one.ensures.added ∙ ap (λ t. t ++ x ∷ []) c.new-rows.ensures.items)
-    (put ∙ ap (λ t. insert_entry (bytes_cmp) t c.head_bytes-head.result
-    c.push_one.new.rows) same)).0
+    entries).0
 
 pub returns-in_err-push_one-clause-unchanged : goal.returns-in_err-push_one-clause-unchanged
 returns-in_err-push_one-clause-unchanged g c =
-    err_stays (λ k. k) (λ v. v.items) c.from_residual.result
+    err_stays (λ v. v.items) c.from_residual.result
     c.self.inside.map.entries _ _ (ap (λ m. m.entries) c.get_mut.follows.holds-at-none)
     c.self.view_is
 
@@ -125,4 +94,4 @@ returns-then-is_err-clause-unchanged g c =
     let same =
     on_err c.insert.result _ c.insert.ensures.err (sym c.if-is_err.true ∙ c.is_err.ensures.value)
     ∙ ap (λ m. m.entries) c.get_mut.follows.holds-at-none in
-    stays (λ k. k) (λ v. v.items) c.self.inside.map.entries _ _ same c.self.view_is
+    stays (λ v. v.items) c.self.inside.map.entries _ _ same c.self.view_is

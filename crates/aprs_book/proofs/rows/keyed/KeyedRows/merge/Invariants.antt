@@ -6,7 +6,7 @@ use Rattle.aprs_book.proofs.rows.keyed.KeyedRows.merge.Given as goal
 
 abbrev pub invariant-loop-our : goal.invariant-loop-our
 invariant-loop-our g l =
-    IsMerging (λ k. k) (λ v. v.items) l.gap (coalesced l.gap (interleave l.self l.other))
+    IsMerging (λ v. v.items) l.gap (coalesced l.gap (interleave l.self l.other))
     l.map.entries (held l.our l.ours) (held l.their l.theirs)
 
 abbrev pub decreases-loop-our : goal.decreases-loop-our

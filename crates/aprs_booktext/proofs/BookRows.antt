@@ -1,0 +1,24 @@
+-- The rows of a book's text are sound.
+use Rattle.std.proofs.Common.{List}
+use Rattle.std.specs.Prelude.{All}
+use Rattle.aprs_laws.specs.Gap.{millis_of}
+use Rattle.aprs_laws.specs.Row.{Row}
+use Rattle.aprs_laws.specs.Sound.{Sound}
+use Rattle.aprs_laws.specs.Witnesses.{witnesses}
+use Rattle.aprs_laws.proofs.Soundness.{sound, witnessed}
+use Rattle.aprs_booktext.specs.Text.{IsBookRow, IsBookRows}
+use Rattle.aprs_booktext.specs.Version.{form_of, gap_of, IsVersion}
+use Rattle.aprs_booktext.specs.declared.version.Version.{Version}
+use Rattle.aprs_booktext.proofs.Versions.{some_millis}
+
+pub rows_sound : (v : Version) (rows : List Row) → IsBookRows v rows
+    → Sound (millis_of (gap_of v)) rows
+rows_sound v rows is = sound (millis_of (gap_of v)) is.book.0 rows is.book.1
+
+pub rows_are : (v : Version) (rows : List Row) → IsVersion v → Sound (millis_of (gap_of v)) rows
+    → All (IsBookRow (form_of v)) rows → IsBookRows v rows
+rows_are v rows is s each = record {
+  version = is;
+  book = (witnesses rows, witnessed (millis_of (gap_of v)) rows (some_millis v is) s);
+  each = each;
+}

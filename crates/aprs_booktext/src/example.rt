@@ -1,0 +1,24 @@
+//! Worked examples of what is at fault in a text, and near misses. The functions do nothing.
+ghost use Rattle.aprs_io.specs.declared.input.Ending.TheVariants.{End};
+ghost use Rattle.aprs_booktext.specs.Examples.{fault_in, miscounted_text, disordered_text, unfinished_text};
+ghost use Rattle.aprs_booktext.specs.TextFault.{HasBookFault};
+ghost use Rattle.aprs_booktext.specs.declared.fault.BookCause.TheVariants.{Ending, Memory, Order, RowSyntax, Span};
+
+/// A line that begins with `END` and isn't the last one is `Ending`, though it spells no row.
+pub fn last_lines_are_told_by_their_beginning()
+    ensures ending { HasBookFault miscounted_text End (fault_in 2 Ending) }
+    ensures misses_syntax { HasBookFault miscounted_text End (fault_in 2 RowSyntax) → ⊥ }
+{}
+
+/// Where an allocation failed, a fault stands in the line that was being read: the second, of a
+/// text that stops in it.
+pub fn memory_is_refused_in_a_line()
+    ensures second { HasBookFault unfinished_text End (fault_in 2 Memory) }
+    ensures misses_third { HasBookFault unfinished_text End (fault_in 3 Memory) → ⊥ }
+{}
+
+/// A row that doesn't come after the one before it, and ends before it begins, is `Order`.
+pub fn order_comes_before_span()
+    ensures order { HasBookFault disordered_text End (fault_in 3 Order) }
+    ensures misses_span { HasBookFault disordered_text End (fault_in 3 Span) → ⊥ }
+{}

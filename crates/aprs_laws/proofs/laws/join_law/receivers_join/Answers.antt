@@ -1,0 +1,19 @@
+use Rattle.aprs_log.specs.Reception.{bytes_cmp}
+use Rattle.aprs_laws.specs.Lists.{Ordered}
+use Rattle.aprs_laws.specs.Order.{IsBelow}
+use Rattle.aprs_laws.specs.Joining.{AreAny, IsUnited}
+use Rattle.aprs_laws.proofs.Orders.{bytes_total, bytes_exact}
+use Rattle.aprs_laws.proofs.Joins.{receivers_laws}
+use Rattle.aprs_laws.proofs.Folds.{fold_same}
+use Rattle.aprs_laws.proofs.Merges.{merged_is_united}
+use Rattle.aprs_laws.proofs.laws.join_law.receivers_join.Goals as goal
+
+pub returns-clause-laws : goal.returns-clause-laws
+returns-clause-laws c = receivers_laws bytes_total bytes_exact
+
+pub returns-clause-folds : goal.returns-clause-folds
+returns-clause-folds c = fold_same (Ordered (IsBelow bytes_cmp)) AreAny (IsUnited bytes_cmp)
+    (receivers_laws bytes_total bytes_exact)
+
+pub returns-clause-one_pass : goal.returns-clause-one_pass
+returns-clause-one_pass c = merged_is_united bytes_total bytes_exact

@@ -1,9 +1,0 @@
-use Rattle.std.proofs.Common.{◌∙◌, drop, ap}
-use Rattle.std.proofs.lemmas.List.{drop_min}
-use Rattle.aprs_rows.proofs.entry.after.Goals as goal
-
-pub returns : goal.returns
-returns c =
-    c.split_at.ensures.back
-    ∙ ap (λ n. drop n c.args.bytes.now) c.min.ensures
-    ∙ drop_min c.args.place c.args.bytes.now

@@ -1,9 +1,0 @@
-use Rattle.std.proofs.Common.{◌∙◌, take, ap}
-use Rattle.std.proofs.lemmas.List.{take_min}
-use Rattle.aprs_rows.proofs.entry.first_of.Goals as goal
-
-pub returns : goal.returns
-returns c =
-    c.split_at.ensures.front
-    ∙ ap (λ n. take n c.args.bytes.now) c.min.ensures
-    ∙ take_min c.args.count c.args.bytes.now

@@ -1,0 +1,11 @@
+use Rattle.std.proofs.Common.{subst, arith}
+use Rattle.std.specs.Prelude.{All}
+use Rattle.aprs_log.specs.Receiver.{IsName}
+use Rattle.aprs_rows.proofs.Sweeps.{names_of_text}
+use Rattle.aprs_rows.proofs.store.group.Group.view.Goals as goal
+
+pub with-requires-2 : goal.with-requires-2
+with-requires-2 c =
+    subst (All IsName)
+    (names_of_text c.args.self.now.receivers c.args.text.now c.args.self.now.greatest.receivers
+    (omega (arith, c.if-self-eq0.false))) c.requires.names

@@ -1,0 +1,191 @@
+//! Names of receivers in ascending order.
+ghost use Rattle.std.specs.Prelude.{◌≡◌, ℕ, ◌+◌, ◌≤◌, List, [], ◌∷◌, ◌++◌, length, insert, IsOk, OnOk, OnErr, IfOk, MatchResult, vec_len, vec_capacity};
+ghost use Rattle.aprs_log.specs.Reception.{bytes_cmp};
+ghost use Rattle.aprs_laws.specs.Lists.{◌∈◌, Ordered};
+ghost use Rattle.aprs_laws.specs.Order.{IsBelow};
+ghost use Rattle.aprs_laws.specs.JoinRow.{add, union};
+ghost use Rattle.aprs_laws.specs.Merged.{merged};
+ghost use Rattle.aprs_laws.specs.Joining.{AreAny, IsUnited};
+ghost use Rattle.aprs_rows.specs.KeptNames.{names_in};
+ghost use Rattle.aprs_laws.proofs.Orders.{bytes_total, bytes_exact};
+ghost use Rattle.aprs_laws.proofs.Joins.{receivers_laws};
+
+use crate::joining::kept_names::KeptNames;
+use crate::{Join, Memory};
+use aprs_log::Receiver;
+use std::alloc::{Allocator, Global};
+use std::cmp::Ordering;
+use std::marker::Model;
+
+/// Names of receivers, strictly ascending.
+pub struct Receivers<A: Allocator = Global> {
+    names: KeptNames<A>,
+}
+
+impl<A: Allocator> Drop for Receivers<A> {
+    fn drop(self) {
+        let Receivers { names } = self;
+        drop(names);
+    }
+}
+
+impl<A: Allocator> Model for Receivers<A> {
+    ghost Value = { List (List ℕ) };
+
+    ghost view = { λ r. names_in r.names };
+
+    ghost invariant = { λ r. Ordered (IsBelow bytes_cmp) (names_in r.names) };
+}
+
+impl<A: Allocator + Copy> Receivers<A> {
+    /// No names. Takes no memory.
+    pub fn new(alloc: A) -> Receivers<A>
+        ensures { result ≡ [] }
+    {
+        Receivers {
+            names: KeptNames::of(Vec::new(alloc)),
+        }
+    }
+
+    /// The names in order, each once. Takes no memory.
+    pub fn as_slice(&self) -> &[Receiver]
+        ensures value { result.now ≡ self.now }
+        ensures ascending { Ordered (IsBelow bytes_cmp) self.now }
+    {
+        self.names.as_slice()
+    }
+
+    /// Puts a name in its place. Where it is there already, that takes no memory. After `Memory`
+    /// the names are as before.
+    pub fn add(&mut self, name: &Receiver) -> Result<(), Memory>
+        ensures joined { OnOk result (IsUnited bytes_cmp (name.now ∷ []) self.old self.new) }
+        ensures added { OnOk result (self.new ≡ add bytes_cmp name.now self.old) }
+        ensures unchanged { OnErr result (self.new ≡ self.old) }
+        ensures listed { name.now ∈ self.old → IsOk result }
+    {
+        match search(self.names.as_slice(), name) {
+            Ok(_) => Ok(()),
+            Err(i) => self.names.insert(i, name),
+        }
+    }
+
+    /// The names of both, which stay as they are. For the crates of this repository.
+    pub fn unite(&self, other: &Receivers<A>) -> Result<Receivers<A>, Memory>
+        ensures union { IfOk result (λ both. both ≡ union bytes_cmp self.now other.now) }
+        ensures joined { IfOk result (IsUnited bytes_cmp self.now other.now) }
+        ensures ascending { Ordered (IsBelow bytes_cmp) self.now }
+        ensures ascending_other { Ordered (IsBelow bytes_cmp) other.now }
+    {
+        let ours = self.names.as_slice();
+        let theirs = other.names.as_slice();
+        let mut names = Vec::new(self.names.allocator());
+        if names.reserve_exact(ours.len() + theirs.len()).is_err() {
+            return Err(Memory);
+        }
+        merge_onto(&mut names, ours, theirs);
+        Ok(Receivers {
+            names: KeptNames::of(names),
+        })
+    }
+
+    /// These names, which have to ascend strictly. For the crates of this repository.
+    pub fn of_ascending(alloc: A, ascending: &[Receiver]) -> Result<Receivers<A>, Memory>
+        requires { Ordered (IsBelow bytes_cmp) ascending.now }
+        ensures { IfOk result (λ names. names ≡ ascending.now) }
+    {
+        if let [name] = ascending {
+            return Ok(Receivers {
+                names: KeptNames::One(alloc, name.copy()),
+            });
+        }
+        let mut names = Vec::new(alloc);
+        if names.reserve_exact(ascending.len()).is_err() {
+            return Err(Memory);
+        }
+        copy_onto(&mut names, ascending);
+        Ok(Receivers {
+            names: KeptNames::Many(names),
+        })
+    }
+
+    /// The same names again. For the crates of this repository.
+    pub fn duplicate(&self) -> Result<Receivers<A>, Memory>
+        ensures { IfOk result (λ copy. copy ≡ self.now) }
+    {
+        Receivers::of_ascending(self.names.allocator(), self.names.as_slice())
+    }
+}
+
+impl<A: Allocator + Copy> Join for Receivers<A> {
+    ghost valid = { Ordered (IsBelow bytes_cmp) };
+
+    ghost alike = { AreAny };
+
+    ghost joined = { IsUnited bytes_cmp };
+
+    ghost laws = { receivers_laws bytes_total bytes_exact };
+
+    fn fits(&self, _other: &Receivers<A>) -> bool {
+        true
+    }
+
+    fn join(&self, other: &Receivers<A>) -> Result<Receivers<A>, Memory> {
+        self.unite(other)
+    }
+}
+
+/// The place of the name, or else the place where it belongs.
+fn search(names: &[Receiver], name: &Receiver) -> Result<usize, usize>
+    ensures { MatchResult result
+        (λ _. add bytes_cmp name.now names.now ≡ names.now)
+        (λ i. (i ≤ length names.now)
+        × (add bytes_cmp name.now names.now ≡ insert names.now i name.now)) }
+{
+    for (i, other) in names.iter().enumerate() {
+        match name.cmp(other) {
+            Ordering::Less => return Err(i),
+            Ordering::Equal => return Ok(i),
+            Ordering::Greater => {}
+        }
+    }
+    Err(names.len())
+}
+
+/// Puts the names of both in order after those that are there.
+fn merge_onto<A: Allocator>(names: &mut Vec<Receiver, A>, ours: &[Receiver], theirs: &[Receiver])
+    requires { vec_len names.old + length ours.now + length theirs.now ≤ vec_capacity names.old }
+    ensures { names.new.items ≡ names.old.items ++ merged bytes_cmp ours.now theirs.now }
+{
+    let mut i = 0;
+    let mut j = 0;
+    while i < ours.len() && j < theirs.len() {
+        match ours[i].cmp(&theirs[j]) {
+            Ordering::Less => {
+                names.push_reserved(ours[i].copy());
+                i += 1;
+            }
+            Ordering::Equal => {
+                names.push_reserved(ours[i].copy());
+                i += 1;
+                j += 1;
+            }
+            Ordering::Greater => {
+                names.push_reserved(theirs[j].copy());
+                j += 1;
+            }
+        }
+    }
+    copy_onto(names, &ours[i..]);
+    copy_onto(names, &theirs[j..]);
+}
+
+/// Puts the names after those that are there.
+fn copy_onto<A: Allocator>(names: &mut Vec<Receiver, A>, more: &[Receiver])
+    requires { vec_len names.old + length more.now ≤ vec_capacity names.old }
+    ensures items { names.new.items ≡ names.old.items ++ more.now }
+    ensures capacity { vec_capacity names.new ≡ vec_capacity names.old }
+{
+    for name in more {
+        names.push_reserved(name.copy());
+    }
+}

@@ -1,0 +1,6 @@
+//! One row in bytes, and the order of rows.
+
+pub(crate) mod head;
+pub(crate) mod judge;
+pub(crate) mod names;
+pub(crate) mod row_view;

@@ -1,0 +1,114 @@
+//! Why a row doesn't follow others in a book.
+ghost use Rattle.std.specs.Prelude.{◌≡◌, ◌&&◌, List, None, IfNone, IfSome, true, false};
+ghost use Rattle.std.specs.List.{last_or, list_any};
+ghost use Rattle.std.specs.Option.{option_copied};
+ghost use Rattle.aprs_laws.specs.Gap.{millis_of};
+ghost use Rattle.aprs_laws.specs.Row.{Row};
+ghost use Rattle.aprs_laws.specs.Sound.{IsSoundRow};
+ghost use Rattle.aprs_rows.specs.Names.{names_in};
+ghost use Rattle.aprs_rows.specs.Refusal.{refusal, is_of_last, is_out_of_order, is_too_near, is_ascending, is_name};
+ghost use Rattle.aprs_rows.specs.Judging.{list_of};
+
+use crate::row::names::cut_name;
+use crate::row::row_view::RowView;
+use aprs_laws::{Gap, RowCause};
+
+impl<'a> RowView<'a> {
+    /// The first cause for which the row can't follow others in a book of this gap, of which
+    /// `before` is the last. Takes no memory.
+    pub fn refusal_after(&self, before: Option<&RowView<'_>>, gap: Gap) -> Option<RowCause>
+        ensures cause { (rows : List Row) → last_or None rows ≡ option_copied before.entry
+            → result ≡ refusal (millis_of gap) rows self.now }
+        // A row that nothing refuses is sound by itself.
+        ensures sound { IfNone result (IsSoundRow self.now) }
+    {
+        self.first_cause(before, gap)
+    }
+
+    /// The first cause that refuses the row after this one alone, or after none.
+    #[tactic(auto, unfolding(crate::specs::Refusal::refusal))]
+    fn first_cause(&self, before: Option<&RowView<'_>>, gap: Gap) -> Option<RowCause>
+        ensures { result ≡ refusal (millis_of gap) (list_of (option_copied before.entry)) self.now }
+    {
+        if self.is_out_of_order(before) {
+            return Some(RowCause::Order);
+        }
+        if self.last().millis() < self.first().millis() {
+            return Some(RowCause::Span);
+        }
+        if self.is_too_near(before, gap) {
+            return Some(RowCause::Near);
+        }
+        let Some(is_last) = find_name(self.receivers(), self.receiver()) else {
+            return Some(RowCause::Receivers);
+        };
+        if self.first() == self.last() && !is_last {
+            return Some(RowCause::NotGreatest);
+        }
+        None
+    }
+
+    /// Whether there is a row before that this one doesn't come after.
+    fn is_out_of_order(&self, before: Option<&RowView<'_>>) -> bool
+        ensures { result
+            ≡ is_of_last (λ l. is_out_of_order l self.now) (list_of (option_copied before.entry)) }
+    {
+        match before {
+            Some(last) => !last.order(self).is_lt(),
+            None => false,
+        }
+    }
+
+    /// Whether there is a row before that this one is too near to.
+    fn is_too_near(&self, before: Option<&RowView<'_>>, gap: Gap) -> bool
+        ensures { result ≡ is_of_last (λ l. is_too_near (millis_of gap) l self.now)
+            (list_of (option_copied before.entry)) }
+    {
+        match before {
+            Some(last) => last.reaches(gap, self),
+            None => false,
+        }
+    }
+
+    /// Whether a row of the same key begins at most the gap after this one ends.
+    fn reaches(&self, gap: Gap, other: &RowView<'_>) -> bool
+        ensures { result ≡ is_too_near (millis_of gap) self.now other.now }
+    {
+        other.first().millis() <= self.last().millis() + gap.seconds() * 1000
+            && self.key_order(other).is_eq()
+    }
+}
+
+/// Where the names of a text ascend and this one is among them: whether it is the last.
+fn find_name(text: &[u8], name: &[u8]) -> Option<bool>
+    ensures none { IfNone result ((is_ascending (names_in text.now)
+        && list_any (is_name name.now) (names_in text.now)) ≡ false) }
+    ensures some { IfSome result (λ is_last. ((is_ascending (names_in text.now)
+        && list_any (is_name name.now) (names_in text.now)) ≡ true)
+        × (is_last ≡ is_of_last (is_name name.now) (names_in text.now))) }
+{
+    let Some((first, others)) = cut_name(text) else {
+        return if name.cmp(text).is_eq() {
+            Some(true)
+        } else {
+            None
+        };
+    };
+    let mut before = first;
+    let mut rest = others;
+    let mut has_name = name.cmp(first).is_eq();
+    while let Some((next, after)) = cut_name(rest) {
+        if !before.cmp(next).is_lt() {
+            return None;
+        }
+        has_name = has_name || name.cmp(next).is_eq();
+        before = next;
+        rest = after;
+    }
+    let is_last = name.cmp(rest).is_eq();
+    if before.cmp(rest).is_lt() && (has_name || is_last) {
+        Some(is_last)
+    } else {
+        None
+    }
+}

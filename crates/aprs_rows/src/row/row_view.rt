@@ -1,0 +1,274 @@
+//! A row in bytes.
+ghost use Rattle.std.specs.Prelude.{◌≡◌, ◌<◌, ◌++◌, ◌∷◌, [], ℕ, All, IfOk, OnOk, length, slice_index};
+ghost use Rattle.std.specs.List.{join_with_byte};
+ghost use Rattle.aprs_ax25.specs.Frame.{FrameOf};
+ghost use Rattle.aprs_ax25.specs.FrameFault.{parts_of};
+ghost use Rattle.aprs_log.specs.Receiver.{IsName};
+ghost use Rattle.aprs_log.specs.Reception.{heard_cmp};
+ghost use Rattle.aprs_laws.specs.Key.{key_cmp};
+ghost use Rattle.aprs_laws.specs.Row.{last_of, row_cmp, row_key};
+ghost use Rattle.aprs_laws.specs.Sound.{IsSoundRow};
+ghost use Rattle.aprs_rows.specs.Head.{HasHead};
+ghost use Rattle.aprs_rows.specs.Names.{names_in, row_of_text};
+ghost use Rattle.aprs_rows.specs.Rows.{IsRowIn, entry_row, row_bytes};
+
+use crate::Memory;
+use crate::row::head::{Head, key_order};
+use crate::row::names::cut_name;
+use crate::store::entry::Entry;
+use aprs_ax25::Frame;
+use aprs_log::{Moment, Receiver, Reception};
+use std::alloc::Allocator;
+use std::cmp::Ordering;
+use std::marker::Model;
+
+/// One transmission: its moments, the names of its receivers with commas between, and the receiver
+/// and the frame of its greatest reception.
+#[derive(Drop)]
+pub struct RowView<'a> {
+    first: Moment,
+    last: Moment,
+    names: &'a [u8],
+    receiver: &'a [u8],
+    frame: &'a [u8],
+    info_at: u8,
+    head: Head,
+}
+
+impl<'a> Model for RowView<'a> {
+    ghost use Rattle.aprs_laws.specs.Row.{Row as RowValue};
+    ghost use Rattle.aprs_rows.specs.Names.{row_of_text};
+    ghost use Rattle.aprs_rows.specs.Rows.{HasKey, IsTold};
+
+    ghost Value = { RowValue };
+
+    ghost view = { λ r. row_of_text r.first r.last r.names.now r.receiver.now r.frame.now };
+
+    ghost invariant = { λ r.
+        IsTold (row_of_text r.first r.last r.names.now r.receiver.now r.frame.now)
+        × HasKey r.head r.info_at r.frame.now };
+}
+
+impl<'a> RowView<'a> {
+    /// The row of these, with the names in `receivers`, which commas part. Takes no memory.
+    pub fn new(
+        first: Moment,
+        last: Moment,
+        receivers: &'a [u8],
+        receiver: &'a [u8],
+        frame: &'a Frame,
+    ) -> RowView<'a>
+        requires names { All IsName (names_in receivers.now) }
+        requires name { IsName receiver.now }
+        ensures { result ≡ row_of_text first last receivers.now receiver.now frame.now }
+    {
+        let bytes = frame.bytes();
+        let info = frame.info();
+        RowView {
+            first,
+            last,
+            names: receivers,
+            receiver,
+            frame: bytes,
+            info_at: (bytes.len() - info.len()) as u8,
+            head: Head::of(bytes, info),
+        }
+    }
+
+    /// The row of an entry that has these bytes.
+    pub(crate) fn of_entry(entry: &Entry, bytes: &'a [u8]) -> RowView<'a>
+        requires { IsRowIn entry.now bytes.now }
+        ensures { result ≡ entry_row entry.now bytes.now }
+    {
+        let (receivers, rest) = bytes.split_at(entry.receivers as usize);
+        let (receiver, frame) = rest.split_at(entry.receiver as usize);
+        RowView {
+            first: entry.first,
+            last: entry.last,
+            names: receivers,
+            receiver,
+            frame,
+            info_at: entry.info_at,
+            head: entry.head,
+        }
+    }
+
+    /// The entry of the row, if its bytes begin at this place. Requires what `RowStore::push` does.
+    pub(crate) fn entry(&self, place: usize) -> Entry
+        requires sound { IsSoundRow self.now }
+        requires short { length (join_with_byte 44 self.now.receivers) < 4294967296 }
+        ensures place { result.place ≡ place }
+        ensures row { IsRowIn result (row_bytes self.now) }
+        ensures same { entry_row result (row_bytes self.now) ≡ self.now }
+    {
+        Entry {
+            head: self.head,
+            first: self.first,
+            last: self.last,
+            place,
+            receivers: self.names.len() as u32,
+            frame: self.frame.len() as u16,
+            receiver: self.receiver.len() as u8,
+            info_at: self.info_at,
+        }
+    }
+
+    /// The row with another first moment, and with the names of this text.
+    pub(crate) fn with(self, first: Moment, receivers: &'a [u8]) -> RowView<'a>
+        requires { All IsName (names_in receivers.now) }
+        ensures { result ≡ record {
+          first = first;
+          receivers = names_in receivers.now;
+          greatest = self.entry.greatest;
+        } }
+    {
+        RowView {
+            first,
+            last: self.last,
+            names: receivers,
+            receiver: self.receiver,
+            frame: self.frame,
+            info_at: self.info_at,
+            head: self.head,
+        }
+    }
+
+    /// The first moment at which the transmission was heard. Takes no memory.
+    pub fn first(&self) -> Moment
+        ensures { result ≡ self.now.first }
+    {
+        self.first
+    }
+
+    /// The last moment, which is that of the greatest reception. Takes no memory.
+    pub fn last(&self) -> Moment
+        ensures { result ≡ last_of self.now }
+    {
+        self.last
+    }
+
+    /// The names of those who heard it, with commas between. Takes no memory.
+    pub fn receivers(&self) -> &'a [u8]
+        ensures text { result.now ≡ join_with_byte 44 self.now.receivers }
+        ensures names { names_in result.now ≡ self.now.receivers }
+        ensures each { All IsName self.now.receivers }
+    {
+        self.names
+    }
+
+    /// The name of the receiver of the greatest reception. Takes no memory.
+    pub fn receiver(&self) -> &'a [u8]
+        ensures value { result.now ≡ self.now.greatest.receiver }
+        ensures name { IsName self.now.greatest.receiver }
+    {
+        self.receiver
+    }
+
+    /// The frame of the greatest reception. Takes no memory.
+    pub fn frame(&self) -> &'a [u8]
+        ensures value { result.now ≡ self.now.greatest.frame }
+        ensures frame { FrameOf (parts_of self.now.greatest.frame) self.now.greatest.frame }
+    {
+        self.frame
+    }
+
+    /// The information of that frame. Takes no memory.
+    pub fn info(&self) -> &'a [u8]
+        ensures { result.now ≡ (parts_of self.now.greatest.frame).info }
+    {
+        let (_, info) = self.frame.split_at(self.info_at as usize);
+        info
+    }
+
+    /// The names of those who heard it, in memory of their own.
+    pub fn receiver_names<A: Allocator + Copy>(&self, alloc: A) -> Result<Vec<Receiver, A>, Memory>
+        ensures { IfOk result (λ names. names.items ≡ self.now.receivers) }
+    {
+        let mut names = Vec::new(alloc);
+        let mut rest = self.receivers();
+        while let Some((name, after)) = cut_name(rest) {
+            push_receiver(&mut names, name)?;
+            rest = after;
+        }
+        push_receiver(&mut names, rest)?;
+        Ok(names)
+    }
+
+    /// The greatest reception, in a place of its own. Takes no memory.
+    pub fn greatest(&self) -> Reception
+        ensures { result ≡ self.now.greatest }
+    {
+        Reception::new(self.last, self.read_receiver(), self.read_frame())
+    }
+
+    /// The receiver of the greatest reception, in a place of its own. Takes no memory.
+    pub fn read_receiver(&self) -> Receiver
+        ensures { result ≡ self.now.greatest.receiver }
+    {
+        match Receiver::parse(self.receiver()) {
+            Some(receiver) => receiver,
+            None => unreachable!(),
+        }
+    }
+
+    /// The frame of the greatest reception, in a place of its own. Takes no memory.
+    pub fn read_frame(&self) -> Frame
+        ensures { result ≡ self.now.greatest.frame }
+    {
+        match Frame::read(self.frame()) {
+            Ok(frame) => frame,
+            Err(_) => unreachable!(),
+        }
+    }
+
+    /// The order of rows, by key, then first moment.
+    pub(crate) fn order(&self, other: &RowView<'_>) -> Ordering
+        ensures { result ≡ row_cmp self.now other.now }
+    {
+        match self.key_order(other) {
+            Ordering::Equal => self.first.cmp(&other.first),
+            unequal => unequal,
+        }
+    }
+
+    /// The order of the keys.
+    pub(crate) fn key_order(&self, other: &RowView<'_>) -> Ordering
+        ensures { result ≡ key_cmp (row_key self.now) (row_key other.now) }
+    {
+        key_order(self.head(), self.info(), other.head(), other.info())
+    }
+
+    /// The order of the greatest receptions, by moment, receiver and frame.
+    pub(crate) fn heard_order(&self, other: &RowView<'_>) -> Ordering
+        ensures { result ≡ heard_cmp self.now.greatest other.now.greatest }
+    {
+        match self.last.cmp(&other.last) {
+            Ordering::Equal => match self.receiver.cmp(other.receiver) {
+                Ordering::Equal => self.frame.cmp(other.frame),
+                unequal => unequal,
+            },
+            unequal => unequal,
+        }
+    }
+
+    /// The head of the key.
+    fn head(&self) -> Head
+        ensures { HasHead result self.now.greatest.frame }
+    {
+        self.head
+    }
+}
+
+/// Puts the receiver of this name after the others.
+fn push_receiver<A: Allocator>(names: &mut Vec<Receiver, A>, name: &[u8]) -> Result<(), Memory>
+    requires { IsName name.now }
+    ensures { OnOk result (names.new.items ≡ names.old.items ++ name.now ∷ []) }
+{
+    let Some(receiver) = Receiver::parse(name) else {
+        unreachable!()
+    };
+    if names.push(receiver).is_err() {
+        return Err(Memory);
+    }
+    Ok(())
+}

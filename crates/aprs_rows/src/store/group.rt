@@ -1,0 +1,32 @@
+//! Rows of a store that are one.
+ghost use Rattle.std.specs.Prelude.{◌≡◌};
+ghost use Rattle.aprs_rows.specs.Groups.{group_row, IsGroup};
+
+use crate::row::row_view::RowView;
+use crate::store::laid::Laid;
+use aprs_log::Moment;
+
+/// Rows that are one: the first moment of all, how many bytes the text of their receivers has, and
+/// the row that has the greatest reception. Without a text the receivers are those of that row,
+/// which is the only one.
+#[derive(Drop)]
+pub(crate) struct Group<'a> {
+    pub first: Moment,
+    pub receivers: usize,
+    pub greatest: Laid<'a>,
+}
+
+impl<'a> Group<'a> {
+    /// The row of these, whose receivers have this text.
+    pub(crate) fn view<'t>(&'t self, text: &'t [u8]) -> RowView<'t>
+        requires { IsGroup self.now text.now }
+        ensures { result ≡ group_row self.now text.now }
+    {
+        let row = self.greatest.view();
+        if self.receivers == 0 {
+            let names = row.receivers();
+            return row.with(self.first, names);
+        }
+        row.with(self.first, text)
+    }
+}

@@ -1,0 +1,122 @@
+//! Rows in order.
+ghost use Rattle.std.specs.Prelude.{◌≡◌, ◌≢◌, [], List, IfOk, OnErr};
+ghost use Rattle.std.specs.List.Sorted.{IsPermutation};
+ghost use Rattle.aprs_laws.specs.BookValue.{Holds};
+ghost use Rattle.aprs_laws.specs.Coalescing.{AreInOrder};
+ghost use Rattle.aprs_laws.specs.Lists.{SameMembers};
+ghost use Rattle.aprs_laws.specs.Row.{Row};
+ghost use Rattle.aprs_laws.specs.Witnesses.{witnesses};
+ghost use Rattle.aprs_laws.specs.Gap.{millis_of};
+ghost use Rattle.aprs_laws.specs.JoinRow.{coalesced};
+ghost use Rattle.aprs_rows.specs.Rows.{AreRowsIn, rows_in};
+
+use crate::Memory;
+use crate::store::entry::Entry;
+use crate::store::laid::Laid;
+use crate::store::sweep::Sweep;
+use crate::store::transmissions::Transmissions;
+use aprs_laws::Gap;
+use std::alloc::{Allocator, Global};
+use std::marker::Model;
+
+/// The rows of a store by key, and those of one key by first moment.
+pub struct RowsInOrder<A: Allocator = Global> {
+    alloc: A,
+    entries: Vec<Entry, A>,
+    bytes: Vec<u8, A>,
+}
+
+impl<A: Allocator> Drop for RowsInOrder<A> {
+    fn drop(self) {
+        let RowsInOrder {
+            alloc: _,
+            entries,
+            bytes,
+        } = self;
+        drop(entries);
+        drop(bytes);
+    }
+}
+
+impl<A: Allocator> Model for RowsInOrder<A> {
+    ghost use Rattle.std.specs.Prelude.{List};
+    ghost use Rattle.aprs_laws.specs.Row.{Row};
+    ghost use Rattle.aprs_laws.specs.Coalescing.{AreInOrder};
+    ghost use Rattle.aprs_rows.specs.Rows.{AreRowsIn, rows_in};
+
+    ghost Value = { List Row };
+
+    ghost view = { λ s. rows_in s.entries.items s.bytes.items };
+
+    ghost invariant = { λ s. AreRowsIn s.entries.items s.bytes.items
+        × AreInOrder (rows_in s.entries.items s.bytes.items) };
+}
+
+impl<A: Allocator + Copy> RowsInOrder<A> {
+    /// These rows, put in order. Where some came in order as a book file's do, a sort that takes
+    /// such runs as they are is quicker; else one that takes no memory.
+    pub(crate) fn of(
+        alloc: A,
+        mut entries: Vec<Entry, A>,
+        bytes: Vec<u8, A>,
+        has_runs: bool,
+    ) -> Result<RowsInOrder<A>, Memory>
+        requires { AreRowsIn entries.items bytes.items }
+        ensures same { IfOk result (IsPermutation (rows_in entries.items bytes.items)) }
+        ensures ordered { IfOk result AreInOrder }
+        ensures some { OnErr result (entries.items ≢ []) }
+    {
+        if has_runs {
+            return RowsInOrder::of_runs(alloc, entries, bytes);
+        }
+        let among = bytes.as_slice();
+        entries.sort_unstable_by(|entry, other| entry.order(other, among));
+        Ok(RowsInOrder {
+            alloc,
+            entries,
+            bytes,
+        })
+    }
+
+    /// These rows, put in order by a sort that takes runs as they are.
+    fn of_runs(
+        alloc: A,
+        mut entries: Vec<Entry, A>,
+        bytes: Vec<u8, A>,
+    ) -> Result<RowsInOrder<A>, Memory>
+        requires { AreRowsIn entries.items bytes.items }
+        ensures same { IfOk result (IsPermutation (rows_in entries.items bytes.items)) }
+        ensures ordered { IfOk result AreInOrder }
+        ensures some { OnErr result (entries.items ≢ []) }
+    {
+        let among = bytes.as_slice();
+        entries.sort_by(|entry, other| entry.order(other, among))?;
+        Ok(RowsInOrder {
+            alloc,
+            entries,
+            bytes,
+        })
+    }
+
+    /// The rows of the book of these under a gap: each row joins the one before it that it is near
+    /// to. Takes memory for each row of the book, and for the names of those that were more than
+    /// one.
+    pub fn coalesced(&self, gap: Gap) -> Result<Transmissions<'_, A>, Memory>
+        ensures rows { IfOk result (λ t. t
+            ≡ record { gap = gap; rows = coalesced (millis_of gap) self.now }) }
+        // They are the book of what the same rows, in any order, stand for.
+        ensures book { (told : List Row) → SameMembers told self.now
+            → IfOk result (Holds (witnesses told)) }
+        ensures some { OnErr result (self.now ≢ []) }
+    {
+        let bytes = self.bytes.as_slice();
+        let Some((first, others)) = self.entries.as_slice().split_first() else {
+            return Ok(Transmissions::of(gap, Vec::new(self.alloc), Vec::new(self.alloc)));
+        };
+        let mut sweep = Sweep::begin(self.alloc, gap, Laid::of(first, bytes));
+        for entry in others {
+            sweep.take(Laid::of(entry, bytes))?;
+        }
+        sweep.finish()
+    }
+}

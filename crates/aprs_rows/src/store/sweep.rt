@@ -1,0 +1,211 @@
+//! Rows in order, taken one after another.
+ghost use Rattle.std.specs.Prelude.{◌≡◌, if◌then◌else◌, ℕ, ◌++◌, ◌∷◌, [], false, true, min, List, OnOk, IfOk};
+ghost use Rattle.std.specs.Ordering.{is_eq};
+ghost use Rattle.std.specs.Borrow.{Bor};
+ghost use Rattle.aprs_laws.specs.Coalescing.{appended};
+ghost use Rattle.aprs_laws.specs.Gap.{IsGap, millis_of};
+ghost use Rattle.aprs_laws.specs.JoinRow.{combine, greater, place};
+ghost use Rattle.aprs_laws.specs.Row.{Row};
+ghost use Rattle.aprs_laws.specs.Sound.{Sound};
+ghost use Rattle.aprs_rows.specs.Groups.{rows_of_groups, AreGroups};
+ghost use Rattle.aprs_rows.specs.Sweep.{AreGathered, gathered, HasNames, open_row, open_text, Stands};
+
+use crate::Memory;
+use crate::row::names::{gather, put_united};
+use crate::store::group::Group;
+use crate::store::laid::Laid;
+use crate::store::transmissions::Transmissions;
+use aprs_laws::Gap;
+use aprs_log::Moment;
+use std::alloc::Allocator;
+
+/// Rows that are one, while others may still come: the first moment of all, the row that has the
+/// greatest reception, and whether that is the only one.
+#[derive(Drop)]
+pub(crate) struct Open<'a> {
+    first: Moment,
+    greatest: Laid<'a>,
+    is_alone: bool,
+}
+
+impl<'a> Open<'a> {
+    /// The row alone.
+    fn of(row: Laid<'a>) -> Open<'a>
+        ensures row { (names : List (Bor (List ℕ))) → open_row result names ≡ row.entry }
+        ensures alone { result.is_alone ≡ true }
+        ensures own { HasNames result.greatest }
+    {
+        Open {
+            first: row.first(),
+            greatest: row,
+            is_alone: true,
+        }
+    }
+
+    /// Whether a row is near to these.
+    fn is_near(&self, gap: Gap, row: &Laid<'_>) -> bool
+        ensures { (names : List (Bor (List ℕ)))
+            → result ≡ is_eq (place (millis_of gap) (open_row self.now names) row.now) }
+    {
+        let gap = gap.seconds() * 1000;
+        row.first().millis() <= self.greatest.last().millis() + gap
+            && self.first.millis() <= row.last().millis() + gap
+            && self.greatest.key_order(row).is_eq()
+    }
+
+    /// Takes a row to these.
+    fn grow(&mut self, row: Laid<'a>)
+        ensures first { self.new.first ≡ min self.old.first row.entry.first }
+        ensures greatest { self.new.greatest.greatest
+            ≡ greater self.old.greatest.greatest row.entry.greatest }
+        ensures alone { self.new.is_alone ≡ false }
+        ensures own { HasNames self.old.greatest → HasNames self.new.greatest }
+    {
+        if row.first().millis() < self.first.millis() {
+            self.first = row.first();
+        }
+        if self.greatest.heard_order(&row).is_lt() {
+            self.greatest = row;
+        }
+        self.is_alone = false;
+    }
+}
+
+/// What was made of the rows up to here: groups that have ended, with their texts, and those rows
+/// that are open, with the names of their receivers if they are more than one.
+#[derive(Drop)]
+pub(crate) struct Sweep<'a, A: Allocator> {
+    gap: Gap,
+    groups: Vec<Group<'a>, A>,
+    texts: Vec<u8, A>,
+    latest: Open<'a>,
+    names: Vec<&'a [u8], A>,
+}
+
+impl<'a, A: Allocator + Copy> Sweep<'a, A> {
+    /// One row.
+    pub(crate) fn begin(alloc: A, gap: Gap, row: Laid<'a>) -> Sweep<'a, A>
+        ensures stands { Stands result (row.entry ∷ []) }
+        ensures gap { result.gap ≡ gap }
+        ensures range { IsGap gap }
+    {
+        Sweep {
+            gap,
+            groups: Vec::new(alloc),
+            texts: Vec::new(alloc),
+            latest: Open::of(row),
+            names: Vec::new(alloc),
+        }
+    }
+
+    /// Takes the next row.
+    pub(crate) fn take(&mut self, row: Laid<'a>) -> Result<(), Memory>
+        ensures stands { (rows : List Row) → Stands self.old rows
+            → OnOk result (Stands self.new (appended (millis_of self.old.gap) rows row.entry)) }
+        ensures gap { OnOk result (self.new.gap ≡ self.old.gap) }
+    {
+        if self.latest.is_near(self.gap, &row) {
+            return self.join(row);
+        }
+        close(
+            &mut self.groups,
+            &mut self.texts,
+            &self.latest,
+            &mut self.names,
+        )?;
+        self.latest = Open::of(row);
+        Ok(())
+    }
+
+    /// The book of the rows, which are sound.
+    pub(crate) fn finish(self) -> Result<Transmissions<'a, A>, Memory>
+        requires sound { (rows : List Row) × Stands self rows × Sound (millis_of self.gap) rows }
+        ensures { (rows : List Row) → Stands self.entry rows
+            → IfOk result (λ t. t ≡ record { gap = self.entry.gap; rows = rows }) }
+    {
+        let Sweep {
+            gap,
+            mut groups,
+            mut texts,
+            latest,
+            mut names,
+        } = self;
+        close(&mut groups, &mut texts, &latest, &mut names)?;
+        Ok(Transmissions::of(gap, groups, texts))
+    }
+
+    /// Takes a row that is near to the open ones.
+    fn join(&mut self, row: Laid<'a>) -> Result<(), Memory>
+        ensures groups { self.new.groups ≡ self.old.groups }
+        ensures texts { self.new.texts ≡ self.old.texts }
+        ensures gap { self.new.gap ≡ self.old.gap }
+        ensures joined { AreGathered self.old.latest self.old.names.items
+            → OnOk result (AreGathered self.new.latest self.new.names.items
+            × (open_row self.new.latest self.new.names.items
+            ≡ combine (open_row self.old.latest self.old.names.items) row.entry)) }
+    {
+        gather_alone(&mut self.names, &self.latest)?;
+        gather(&mut self.names, row.receivers())?;
+        self.latest.grow(row);
+        Ok(())
+    }
+}
+
+/// Gathers the names of an open row that is alone; those of more are gathered.
+fn gather_alone<'a, A: Allocator>(
+    names: &mut Vec<&'a [u8], A>,
+    latest: &Open<'a>,
+) -> Result<(), Memory>
+    ensures { OnOk result (gathered names.new.items
+        ≡ gathered names.old.items
+        ++ (if latest.now.is_alone then latest.now.greatest.receivers else [])) }
+{
+    if latest.is_alone {
+        return gather(names, latest.greatest.receivers());
+    }
+    Ok(())
+}
+
+/// Ends the open rows: they are a group after the others.
+fn close<'a, A: Allocator>(
+    groups: &mut Vec<Group<'a>, A>,
+    texts: &mut Vec<u8, A>,
+    latest: &Open<'a>,
+    names: &mut Vec<&'a [u8], A>,
+) -> Result<(), Memory>
+    ensures closed { AreGathered latest.now names.old.items
+        → AreGroups groups.old.items texts.old.items
+        → OnOk result (AreGroups groups.new.items texts.new.items
+        × (rows_of_groups groups.new.items texts.new.items
+        ≡ rows_of_groups groups.old.items texts.old.items
+        ++ open_row latest.now names.old.items ∷ [])) }
+    ensures names { OnOk result (names.new.items ≡ []) }
+{
+    let before = texts.len();
+    put_names(texts, latest, names)?;
+    let group = Group {
+        first: latest.first,
+        receivers: texts.len() - before,
+        greatest: latest.greatest.copy(),
+    };
+    if groups.push(group).is_err() {
+        return Err(Memory);
+    }
+    names.clear();
+    Ok(())
+}
+
+/// Puts the text of the names of open rows after the texts of others, if they are more than one.
+fn put_names<A: Allocator>(
+    texts: &mut Vec<u8, A>,
+    latest: &Open<'_>,
+    names: &mut Vec<&[u8], A>,
+) -> Result<(), Memory>
+    ensures { OnOk result
+        (texts.new.items ≡ texts.old.items ++ open_text latest.now names.old.items) }
+{
+    if latest.is_alone {
+        return Ok(());
+    }
+    put_united(texts, names)
+}
