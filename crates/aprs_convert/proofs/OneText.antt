@@ -14,7 +14,7 @@ use Rattle.aprs_log.specs.declared.line.Line.TheVariants as line
 use Rattle.aprs_log.proofs.Lines.{line_of-syntax}
 use Rattle.aprs_log.proofs.LineTexts.{reports-line_of}
 use Rattle.aprs_log.proofs.LogTexts.{log_fault-answers, log_text-answers}
-use Rattle.aprs_convert.specs.Check.{Checks, PassesOver, passed_line, totals_line}
+use Rattle.aprs_convert.specs.Check.{Checks, IsPassedFor, PassesOver, passed_line, totals_line}
 use Rattle.aprs_convert.specs.Conversion.{Converts, reception_text}
 use Rattle.aprs_convert.specs.Plan.{Plan, check_lines, check_plan, convert_plan, lines_plan, totals}
 use Rattle.aprs_convert.specs.declared.form.Form.{Form}
@@ -68,10 +68,10 @@ converts_plan Log t c (Some fault) written h = some_plan Log t c fault h.0 writt
 -- ---- a check
 
 -- a line that is passed over is read so
-passed_read : (l : List ℕ) (is : IsLine l) (reason : Reason) → frame_in is.bytes ≡ Err reason
+passed_read : (l : List ℕ) (reason : Reason) → IsPassedFor l reason
     → line_of l ≡ Ok (line.Passed reason)
-passed_read l is reason e =
-    line_of-syntax l is ∙ ap (λ r. Ok (heard_or_passed is.moment is.receiver r)) e
+passed_read l reason h =
+    line_of-syntax l h.0 h.1 h.2 h.3 ∙ ap (λ r. Ok (heard_or_passed h.0 h.1 r)) h.4
 
 not_both : (l : List ℕ) (x : Heard) (reason : Reason) → line_of l ≡ Ok (line.Heard x)
     → line_of l ≡ Ok (line.Passed reason) → ⊥
@@ -88,13 +88,13 @@ passed_same : (n : ℕ) (lines : List (List ℕ)) (p q : List (ℕ × Reason)) �
 passed_same n [] p q a b = a ∙ sym b
 passed_same n (l ∷ lines) p q (inl a) (inl b) = passed_same (n + 1) lines p q a.2 b.2
 passed_same n (l ∷ lines) p q (inl a) (inr b) = absurd (not_both l a.0 b.0
-    (reports-line_of l a.0 a.1) (passed_read l b.2 b.0 b.3))
+    (reports-line_of l a.0 a.1) (passed_read l b.0 b.2))
 passed_same n (l ∷ lines) p q (inr a) (inl b) = absurd (not_both l b.0 a.0
-    (reports-line_of l b.0 b.1) (passed_read l a.2 a.0 a.3))
+    (reports-line_of l b.0 b.1) (passed_read l a.0 a.2))
 passed_same n (l ∷ lines) p q (inr a) (inr b) =
-    let reason = same_reason l a.0 b.0 (passed_read l a.2 a.0 a.3) (passed_read l b.2 b.0 b.3) in
-    a.5 ∙ ap (λ (r : Reason). (n, r) ∷ a.1) reason
-    ∙ ap (λ ps. (n, b.0) ∷ ps) (passed_same (n + 1) lines a.1 b.1 a.4 b.4) ∙ sym b.5
+    let reason = same_reason l a.0 b.0 (passed_read l a.0 a.2) (passed_read l b.0 b.2) in
+    a.4 ∙ ap (λ (r : Reason). (n, r) ∷ a.1) reason
+    ∙ ap (λ ps. (n, b.0) ∷ ps) (passed_same (n + 1) lines a.1 b.1 a.3 b.3) ∙ sym b.4
 
 pub checks_plan : (t : List ℕ) (c : Ending) (fault : Option LogFault) (written : List ℕ)
     → Checks fault t c written → IsPlan (check_plan t c) fault written

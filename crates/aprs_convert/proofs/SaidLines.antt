@@ -16,7 +16,7 @@ use Rattle.aprs_log.specs.declared.fault.LogFault.{LogFault}
 use Rattle.aprs_log.specs.declared.fault.Reason.{Reason}
 use Rattle.aprs_log.specs.declared.line.Line.{Line}
 use Rattle.aprs_log.specs.declared.line.Line.TheVariants as line
-use Rattle.aprs_log.proofs.Lines.{line_of-syntax}
+use Rattle.aprs_log.proofs.Lines.{HasFields, line_of-syntax}
 use Rattle.aprs_log.proofs.LineTexts.{passed-line_of, reports-line_of}
 use Rattle.aprs_log.proofs.LogAnswers.{answers_from-line}
 use Rattle.aprs_log.proofs.LogTexts.{line_lacks, log_fault-answers}
@@ -34,10 +34,10 @@ reason_in m name (Ok frame) reason e = absurd cc
 reason_in m name (Err other) reason e = let same : other ≡ reason = cc in ap Err same
 
 -- the reason why a line is passed over is that of its bytes
-reason_of : (l : List ℕ) (is : IsLine l) (reason : Reason) → line_of l ≡ Ok (line.Passed reason)
-    → frame_in is.bytes ≡ Err reason
-reason_of l is reason e = reason_in is.moment is.receiver (frame_in is.bytes) reason
-    (same_line _ (line.Passed reason) (line_of l) (line_of-syntax l is) e)
+reason_of : (l : List ℕ) (m : ℕ) (name bytes : List ℕ) (reason : Reason) → IsLine l m name bytes
+    → line_of l ≡ Ok (line.Passed reason) → frame_in bytes ≡ Err reason
+reason_of l m name bytes reason is e = reason_in m name (frame_in bytes) reason
+    (same_line _ (line.Passed reason) (line_of l) (line_of-syntax l m name bytes is) e)
 
 -- ---- lines one after another
 
@@ -49,7 +49,7 @@ passed_in n (line.Passed reason ∷ lines) = (n, reason) ∷ passed_in (n + 1) l
 
 -- the line is in order, and a reader gives this of it
 abbrev IsGiven : List ℕ → Line → Type 0
-IsGiven l x = IsLine l × (line_of l ≡ Ok x)
+IsGiven l x = HasFields l × (line_of l ≡ Ok x)
 
 -- what a reader gives of lines from number n on, which report S
 pub record Said (n : ℕ) (lines : List (List ℕ)) (S : List Heard) : Type 0 where
@@ -62,17 +62,22 @@ said : (n : ℕ) (lines : List (List ℕ)) (S : List Heard) → ReportAll lines 
 said n [] S all = record { given = []; each = tt; heard = sym all; passes = refl }
 said n (l ∷ lines) S (inl passed) =
     let found = passed-line_of l passed.0 in
-    let is = passed.0.0 in
+    let its = passed.0 in
     let rest = said (n + 1) lines S passed.1 in
     record {
       given = line.Passed found.0 ∷ rest.given;
-      each = ((is, found.1), rest.each);
+      each = (((its.0, its.1, its.2, its.3), found.1), rest.each);
       heard = rest.heard;
       passes = inr (
         found.0,
         passed_in (n + 1) rest.given,
-        is,
-        reason_of l is found.0 found.1,
+        (
+          its.0,
+          its.1,
+          its.2,
+          its.3,
+          reason_of l its.0 its.1 its.2 found.0 its.3 found.1,
+        ),
         rest.passes,
         refl,
       );
@@ -82,7 +87,10 @@ said n (l ∷ lines) S (inr one) =
     let rest = said (n + 1) lines one.1 one.3 in
     record {
       given = line.Heard x ∷ rest.given;
-      each = ((one.2.0, reports-line_of l x one.2), rest.each);
+      each = (
+        ((x.moment, x.receiver, one.2.0, one.2.1), reports-line_of l x one.2),
+        rest.each,
+      );
       heard = ap (λ T. x ∷ T) rest.heard ∙ sym one.4;
       passes = inl (x, one.2, rest.passes);
     }

@@ -18,15 +18,20 @@ passed_line pass = codes "line " ++ decimal pass.0 ++ codes " passed " ++ reason
 abbrev pub totals_line : ℕ → ℕ → List ℕ
 totals_line heard passed = codes "heard " ++ decimal heard ++ codes " passed " ++ decimal passed
 
--- Of lines from number n on these are passed over, each by its number and the first reason why its
--- bytes carry no frame; each other line reports a reception.
+-- The line is in order, and passed over for this reason: it is the first why the line's bytes carry
+-- no frame.
+abbrev pub IsPassedFor : List ℕ → Reason → Type 0
+IsPassedFor line reason = (m : ℕ) × (name : List ℕ) × (bytes : List ℕ)
+    × IsLine line m name bytes × (frame_in bytes ≡ Err reason)
+
+-- Of lines from number n on these are passed over, each by its number and the reason; each other
+-- line reports a reception.
 abbrev pub PassesOver : ℕ → List (List ℕ) → List (ℕ × Reason) → Type 0
 PassesOver n [] passed = passed ≡ []
 PassesOver n (line ∷ lines) passed =
     ((x : Heard) × Reports line x × PassesOver (n + 1) lines passed)
-    ⊎ ((reason : Reason) × (more : List (ℕ × Reason)) × (is : IsLine line)
-    × (frame_in is.bytes ≡ Err reason) × PassesOver (n + 1) lines more
-    × (passed ≡ (n, reason) ∷ more))
+    ⊎ ((reason : Reason) × (more : List (ℕ × Reason)) × IsPassedFor line reason
+    × PassesOver (n + 1) lines more × (passed ≡ (n, reason) ∷ more))
 
 -- A check writes this of a log up to this fault, if it has one: a line for each that is passed over;
 -- and where there is no fault, how many lines report a reception and how many are passed over.

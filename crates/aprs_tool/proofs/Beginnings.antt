@@ -3,9 +3,9 @@ use Rattle.std.proofs.Common.{◌≡◌, ◌∙◌, ℕ, get_or, true, false, Li
 use Rattle.std.proofs.lemmas.Bool.Decides.{Decides-eqb}
 use Rattle.std.proofs.lemmas.Slice.Eq.{starts_is}
 use Rattle.aprs_io.specs.declared.input.Ending.{Ending}
-use Rattle.aprs_log.specs.LineText.{IsLine}
 use Rattle.aprs_log.specs.LogText.{IsLogText, ReportAll, text_of_lines}
 use Rattle.aprs_log.specs.Reception.{Heard}
+use Rattle.aprs_log.proofs.Lines.{HasFields}
 use Rattle.aprs_log.proofs.Moments.{IsTextOf-text}
 use Rattle.aprs_laws.specs.Row.{Row}
 use Rattle.aprs_booktext.specs.Text.{book_text}
@@ -37,18 +37,20 @@ file_begins gap S t c p = ap is_book_file p.text_is ∙ book_begins p.version p.
 -- ---- a log
 
 -- after the digits of a year comes a hyphen
-hyphen : (line : List ℕ) → IsLine line → (end more : List ℕ)
+hyphen : (line : List ℕ) → HasFields line → (end more : List ℕ)
     → get_or ((line ++ end) ++ more) 4 0 ≡ 45
-hyphen line is end more =
-    let text = IsTextOf-text is.moment is.fields.1.0 is.fields.1.1 in
-    let fields = 32 ∷ (is.receiver ++ 32 ∷ is.digits) in
+hyphen line h end more =
+    let is = h.3 in
+    let text = IsTextOf-text h.0 is.fields.1.0 is.fields.1.1 in
+    let fields = 32 ∷ (h.1 ++ 32 ∷ is.digits) in
     ap (λ l. get_or ((l ++ end) ++ more) 4 0) is.fields.1.2
     ∙ ap (λ t. get_or (((t ++ fields) ++ end) ++ more) 4 0) text.1.spelled
 
 first_line : (line : List ℕ) (lines : List (List ℕ)) (S : List Heard) → ReportAll (line ∷ lines) S
-    → IsLine line
-first_line line lines S (inl passed) = passed.0.0
-first_line line lines S (inr heard) = heard.2.0
+    → HasFields line
+first_line line lines S (inl passed) = (passed.0.0, passed.0.1, passed.0.2, passed.0.3)
+first_line line lines S (inr heard) =
+    (heard.0.moment, heard.0.receiver, heard.2.0, heard.2.1)
 
 -- so it begins otherwise
 log_begins : (lines : List (List ℕ)) (S : List Heard) → ReportAll lines S
