@@ -26,7 +26,8 @@ ghost use Rattle.aprs_laws.specs.Scaling.{scaled_rows, scaled_heard};
 ghost use Rattle.aprs_laws.specs.StepLaws.{rows_after_steps};
 ghost use Rattle.aprs_laws.specs.Examples.{half_minute, hi_frame, hi_after_digipeater, hi_as_response, of_other, hi_key, n0call, key_by, any_key, rx1, rx2, heard, by_rx1, early, row_of, row_at, row_to, near_pair, near_row, far_pair, book_under, early_row, late_row, close_row, tied_pair, tied_row, short_row, merge_then_take, back_and_forth, TakesFirst};
 
-/// Members have no number and no place. Ascending lists have no repeats.
+/// Two lists have the same members in whatever order and however often. Ascending lists have no
+/// repeats.
 pub fn sets_and_orders()
     ensures members { SameMembers (rx1 ∷ rx2 ∷ rx1 ∷ []) (rx2 ∷ rx1 ∷ []) }
     ensures misses_member { SameMembers (rx1 ∷ []) (rx1 ∷ rx2 ∷ []) → ⊥ }
@@ -109,7 +110,7 @@ pub fn units_scale_gaps_too()
         ≡ early_row ∷ row_at 30000000 ∷ [] }
 {}
 
-/// The same, as code makes it.
+/// Gaps decide in the same way where receptions are inserted one by one, as the code does it.
 pub fn gaps_decide_what_is_inserted()
     ensures apart { insert_heard half_minute (by_rx1 60001) (row_at 0 ∷ [])
         ≡ row_at 0 ∷ row_at 60001 ∷ [] }
@@ -138,7 +139,7 @@ pub fn receivers_ascend()
         ≡ row_of 0 (rx1 ∷ rx2 ∷ []) (heard 10 rx2 hi_frame) ∷ [] }
 {}
 
-/// A part of a transmission is none, nor are two transmissions one.
+/// A part of a transmission is no transmission, and two transmissions aren't one.
 pub fn runs_are_maximal()
     ensures heard { HeardAt far_pair hi_key 30001 }
     ensures misses_moment { HeardAt far_pair hi_key 30000 → ⊥ }
@@ -174,14 +175,16 @@ pub fn soundness_is_seen_in_rows()
     ensures misses_near_next { IsNext half_minute (early_row ∷ []) close_row → ⊥ }
 {}
 
-/// Witnesses are as few as make the rows: what else was heard is not among them.
+/// The witnesses of rows are only as many receptions as give these rows. Others that were heard are
+/// not among them.
 pub fn real_receptions_are_few()
     ensures witnesses { witnesses (short_row ∷ [])
         ≡ by_rx1 0 ∷ by_rx1 1 ∷ by_rx1 0 ∷ heard 0 rx2 hi_frame ∷ [] }
     ensures misses_other { heard 1 rx2 hi_frame ∈ witnesses (short_row ∷ []) → ⊥ }
 {}
 
-/// The greater of two receptions, and the receivers of both. To return the first value is no join.
+/// A join of two receptions is the greater one, and a join of two lists of receivers has the names
+/// of both, each once. A rule that always gives the first value is no join.
 pub fn joins_take_both()
     ensures greater { IsGreaterOf early (by_rx1 30001) (by_rx1 30001) }
     ensures misses_lesser { IsGreaterOf early (by_rx1 30001) early → ⊥ }

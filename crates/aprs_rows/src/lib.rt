@@ -1,5 +1,5 @@
-//! Rows in bytes: names of receivers, the order of keys, a store of rows, and what they are
-//! together.
+//! Rows packed in bytes: a store of rows, their order, joining those that are near, and judging
+//! which may follow.
 #![tactic(auto)]
 
 mod joining;

@@ -43,7 +43,7 @@ impl<A: Allocator> Model for Gathered<A> {
     ghost invariant = { λ g. IsGap g.gap };
 }
 
-/// Why what was gathered is not written.
+/// Why the book of the gathered rows, or its listing, isn't written.
 #[derive(Debug, Drop)]
 pub(crate) enum Unwritten {
     /// An allocation failed, before the first byte.

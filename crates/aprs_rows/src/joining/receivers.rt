@@ -134,7 +134,7 @@ impl<A: Allocator + Copy> Join for Receivers<A> {
     }
 }
 
-/// The place of the name, or else the place where it belongs.
+/// The place of the name, or, as `Err`, the place where it belongs.
 fn search(names: &[Receiver], name: &Receiver) -> Result<usize, usize>
     ensures { MatchResult result
         (λ _. add bytes_cmp name.now names.now ≡ names.now)

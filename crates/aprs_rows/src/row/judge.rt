@@ -25,7 +25,8 @@ impl<'a> RowView<'a> {
         self.first_cause(before, gap)
     }
 
-    /// The first cause that refuses the row after this one alone, or after none.
+    /// The first cause for which this row can't come right after `before`, the last row of a book,
+    /// or be the book's first row where `before` is none.
     #[tactic(auto, unfolding(crate::specs::Refusal::refusal))]
     fn first_cause(&self, before: Option<&RowView<'_>>, gap: Gap) -> Option<RowCause>
         ensures { result ≡ refusal (millis_of gap) (list_of (option_copied before.entry)) self.now }
@@ -42,6 +43,7 @@ impl<'a> RowView<'a> {
         let Some(is_last) = find_name(self.receivers(), self.receiver()) else {
             return Some(RowCause::Receivers);
         };
+        // Of receptions at one moment the greatest is that of the last receiver by name.
         if self.first() == self.last() && !is_last {
             return Some(RowCause::NotGreatest);
         }

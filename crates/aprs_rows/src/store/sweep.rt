@@ -53,7 +53,7 @@ impl<'a> Open<'a> {
             && self.greatest.key_order(row).is_eq()
     }
 
-    /// Takes a row to these.
+    /// Adds a row that is near to these.
     fn grow(&mut self, row: Laid<'a>)
         ensures first { self.new.first ≡ min self.old.first row.entry.first }
         ensures greatest { self.new.greatest.greatest
@@ -83,7 +83,7 @@ pub(crate) struct Sweep<'a, A: Allocator> {
 }
 
 impl<'a, A: Allocator + Copy> Sweep<'a, A> {
-    /// One row.
+    /// A sweep that has taken one row.
     pub(crate) fn begin(alloc: A, gap: Gap, row: Laid<'a>) -> Sweep<'a, A>
         ensures stands { Stands result (row.entry ∷ []) }
         ensures gap { result.gap ≡ gap }
@@ -151,7 +151,8 @@ impl<'a, A: Allocator + Copy> Sweep<'a, A> {
     }
 }
 
-/// Gathers the names of an open row that is alone; those of more are gathered.
+/// Gathers the names of the open row where it is a single one. The names of two rows or more have
+/// been gathered already.
 fn gather_alone<'a, A: Allocator>(
     names: &mut Vec<&'a [u8], A>,
     latest: &Open<'a>,
@@ -166,7 +167,8 @@ fn gather_alone<'a, A: Allocator>(
     Ok(())
 }
 
-/// Ends the open rows: they are a group after the others.
+/// Makes a group of the open rows, those that later rows could still join, and puts it after the
+/// other groups and the text of its names after the other texts. `names` is empty afterwards.
 fn close<'a, A: Allocator>(
     groups: &mut Vec<Group<'a>, A>,
     texts: &mut Vec<u8, A>,
