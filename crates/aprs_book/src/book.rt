@@ -153,7 +153,8 @@ impl<A: Allocator + Copy> Book<A> {
         Ok(())
     }
 
-    /// The book of both sets together, in one pass over the rows of both. Both stay as they are.
+    /// The book of the receptions of both books, in one pass over the rows of both, which stay as
+    /// they are.
     /// `OtherGap` comes exactly where the gaps differ, and before any memory is taken.
     pub fn merge(&self, other: &Book<A>) -> Result<Book<A>, MergeFault>
         ensures joined { IfOk result (AreJoined self.now other.now) }

@@ -10,7 +10,7 @@ use arrayvec::ArrayVec;
 /// The most bytes by which an index has a callsign.
 const CALL_BYTES: usize = 10;
 
-/// What a frame reports on, by the bytes that an index has.
+/// What a frame reports on, with the bytes under which an index has it.
 #[derive(Drop)]
 pub(crate) enum Subject<'a> {
     /// Where this station is.

@@ -34,7 +34,7 @@ impl<'t, A: Allocator> Drop for Exchange<'t, A> {
 }
 
 impl<'t, A: Allocator + Copy> Exchange<'t, A> {
-    /// That of no rows.
+    /// The exchange of no rows: no messages and no answers.
     pub(crate) fn new(alloc: A) -> Exchange<'t, A>
         ensures { IsExchangeOf [] result }
     {
@@ -94,7 +94,7 @@ fn put_span<'t, A: Allocator + Copy>(
     Ok(())
 }
 
-/// Keeps the greatest reception of a row for what it answers, if it is greater than what is kept.
+/// Keeps this reception as the answer to what it answers, unless a greater answer is kept already.
 fn put_answer<'t, A: Allocator + Copy>(
     answers: &mut BTreeMap<Asked<'t>, ReceptionView<'t>, A>,
     asked: Asked<'t>,

@@ -148,7 +148,7 @@ fn state_by(first: Moment, answer: Option<&ReceptionView<'_>>) -> MessageState
     }
 }
 
-/// What an answer of this information says.
+/// What an answer, an ack or a rej with this information, says of its message.
 fn reported_state(info: &[u8]) -> MessageState
     ensures { result ≡ reported_state (reading_of info.now) }
 {

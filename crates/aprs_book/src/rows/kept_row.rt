@@ -155,7 +155,7 @@ impl<A: Allocator + Copy> KeptRow<A> {
             && parts.first.millis() <= greatest.moment().millis() + gap.get()
     }
 
-    /// Adds a reception that is near. Where its receiver is listed, that takes no memory.
+    /// Adds a reception that is near to this row. Takes no memory where the row lists its receiver.
     pub(crate) fn grow(&mut self, x: &Reception) -> Result<(), Memory>
         ensures grown { OnOk result (self.new ≡ grow_row self.old x.now) }
         ensures unchanged { OnErr result (self.new ≡ self.old) }
@@ -193,7 +193,7 @@ impl<A: Allocator + Copy> KeptRow<A> {
         )
     }
 
-    /// This row with a reception that is near, and the next row, to which that is near too, as one.
+    /// The one row that this row, the next row and a reception that is near to both become.
     pub(crate) fn bridge(&self, x: &Reception, next: &KeptRow<A>) -> Result<KeptRow<A>, Memory>
         ensures { IfOk result (λ row. row ≡ combine (grow_row self.now x.now) next.now) }
     {

@@ -85,7 +85,7 @@ fn push<A: Allocator + Copy>(
     Ok(())
 }
 
-/// Whether the last of the rows is near to the row.
+/// Whether the row is near to the last of the rows, so that both are of one transmission.
 fn is_near_last<A: Allocator + Copy>(gap: Millis, rows: &[KeptRow<A>], row: &KeptRow<A>) -> bool
     ensures near { result ≡ true → IsNearLast gap rows.now row.now }
     ensures far { result ≡ false → append_row gap rows.now row.now ≡ rows.now ++ row.now ∷ [] }
