@@ -1,6 +1,7 @@
 #!/bin/sh
 # Checks that docs/reading.md, the pages in docs/reading and the sums in docs/proved.md are what the
-# sources say, and that no public clause cites a module of specs/ whose head says that none does.
+# sources say, that no public clause cites a module of specs/ whose head says that none does, and that
+# no name stands for two definitions that are cited, and no such definition stands twice.
 # Needs a POSIX system and Python 3, and says that it leaves this out where there is no Python.
 set -eu
 cd "$(dirname "$0")/.."
@@ -27,6 +28,15 @@ build/reading.py --cited > "$scratch/cited"
 while IFS= read -r line; do
     fail "its head says that no public clause cites it, and one does: $line"
 done < "$scratch/cited"
+
+build/reading.py --names > "$scratch/names"
+while IFS= read -r line; do
+    fail "a name stands for more than one thing: $line"
+done < "$scratch/names"
+build/reading.py --twice > "$scratch/twice"
+while IFS= read -r line; do
+    fail "a definition stands there twice: $line"
+done < "$scratch/twice"
 
 [ $failed = 0 ] && echo 'the reading list is what the sources say'
 exit $failed
