@@ -34,8 +34,8 @@ abbrev pub by_n7oo : ℕ → List ℕ
 by_n7oo last = 0x9C ∷ 0x6E ∷ 0x9E ∷ 0x9E ∷ 0x40 ∷ 0x40 ∷ last ∷ []
 
 -- What stands after the addresses: control, PID and `>Hi`.
-abbrev pub said : ℕ → ℕ → List ℕ
-said control pid = control ∷ pid ∷ codes ">Hi"
+abbrev pub hi_after : ℕ → ℕ → List ℕ
+hi_after control pid = control ∷ pid ∷ codes ">Hi"
 
 -- The addresses of the first frame, which no digipeater repeats.
 abbrev pub direct_field : List ℕ
@@ -46,12 +46,12 @@ abbrev pub repeated_field : List ℕ
 repeated_field = to_nj7p ++ from_n7lem 0x60 ++ by_n7oo 0xE3
 
 -- The first frame, as a UI frame that says `>Hi`.
-abbrev pub direct : List ℕ
-direct = direct_field ++ said 0x03 0xF0
+abbrev pub direct_frame : List ℕ
+direct_frame = direct_field ++ hi_after 0x03 0xF0
 
 -- The second frame, as a UI frame that says `>Hi`.
-abbrev pub repeated : List ℕ
-repeated = repeated_field ++ said 0x03 0xF0
+abbrev pub repeated_frame : List ℕ
+repeated_frame = repeated_field ++ hi_after 0x03 0xF0
 
 -- The address of this callsign, with these flags.
 abbrev pub address : Call → ℕ → Address

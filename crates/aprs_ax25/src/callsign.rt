@@ -17,7 +17,7 @@ ghost use Rattle.std.specs.Cmp.Rules.{comparing};
 
 use crate::fault::CallFault;
 use crate::scan::{MAX_UI_FRAME, is_callsign_byte};
-use aprs_io::{copied, push_all};
+use aprs_io::{copy_bytes, push_all};
 use arrayvec::ArrayVec;
 use std::cmp::Ordering;
 use std::marker::Model;
@@ -83,7 +83,7 @@ impl Callsign {
         ensures { result ≡ self.now }
     {
         Callsign {
-            letters: copied(&self.letters),
+            letters: copy_bytes(&self.letters),
             ssid: self.ssid,
         }
     }
@@ -102,7 +102,7 @@ impl Callsign {
             ++ address_octets extension (record { call = self.now; flags = flags }) }
         ensures callsign { IsCall self.now }
     {
-        push_padded(out, self.letters.as_slice());
+        push_letters_and_spaces(out, self.letters.as_slice());
         out.push(32 * flags + 2 * self.ssid + extension);
     }
 
@@ -264,7 +264,7 @@ fn up_to_six(bytes: &[u8]) -> ArrayVec<u8, 6>
 const SPACES: [u8; 6] = [64; 6];
 
 /// Puts letters at the end, padded with spaces to six and shifted left by one bit.
-fn push_padded(out: &mut ArrayVec<u8, MAX_UI_FRAME>, letters: &[u8])
+fn push_letters_and_spaces(out: &mut ArrayVec<u8, MAX_UI_FRAME>, letters: &[u8])
     requires room { array_vec_len out.old + 6 ≤ MAX_UI_FRAME }
     requires six { length letters.now ≤ 6 }
     requires bytes { list_all is_callsign_byte letters.now ≡ true }

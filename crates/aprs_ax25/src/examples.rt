@@ -10,31 +10,31 @@ ghost use Rattle.aprs_ax25.specs.FrameFault.{frame_fault, parts_of};
 ghost use Rattle.aprs_ax25.specs.Making.{made_parts, hop_address, make_fault};
 ghost use Rattle.aprs_ax25.specs.Examples.{callsign, nj7p, n7lem, n7oo, to_nj7p, from_n7lem};
 ghost use Rattle.aprs_ax25.specs.Examples.{by_n7oo};
-ghost use Rattle.aprs_ax25.specs.Examples.{said, direct_field, direct, repeated, parts_through};
+ghost use Rattle.aprs_ax25.specs.Examples.{hi_after, direct_field, direct_frame, repeated_frame, parts_through};
 ghost use Rattle.aprs_ax25.specs.Examples.{through_n7oo, field_through, letters_a};
 
 /// The frames that AX.25 2.2 shows in section 3.12, as UI frames. There they are I frames, control
 /// 3E, which APRS doesn't have.
 pub fn frames_are_as_the_standard_shows_them()
-    ensures direct { FrameOf (parts_through []) direct }
-    ensures repeated { FrameOf (parts_through (hop_address through_n7oo ∷ [])) repeated }
-    ensures reads_direct { parts_of direct ≡ parts_through [] }
-    ensures reads_repeated { parts_of repeated ≡ parts_through (hop_address through_n7oo ∷ []) }
-    ensures misses_i_frame { frame_fault (direct_field ++ said 0x3E 0xF0) ≡ Some Control }
-    ensures misses_poll { frame_fault (direct_field ++ said 0x13 0xF0) ≡ Some Control }
-    ensures misses_other_pid { frame_fault (direct_field ++ said 0x03 0xCF) ≡ Some Pid }
-    ensures misses_last_bit { frame_fault (to_nj7p ++ from_n7lem 0x60 ++ said 0x03 0xF0)
+    ensures direct { FrameOf (parts_through []) direct_frame }
+    ensures repeated { FrameOf (parts_through (hop_address through_n7oo ∷ [])) repeated_frame }
+    ensures reads_direct { parts_of direct_frame ≡ parts_through [] }
+    ensures reads_repeated { parts_of repeated_frame ≡ parts_through (hop_address through_n7oo ∷ []) }
+    ensures misses_i_frame { frame_fault (direct_field ++ hi_after 0x3E 0xF0) ≡ Some Control }
+    ensures misses_poll { frame_fault (direct_field ++ hi_after 0x13 0xF0) ≡ Some Control }
+    ensures misses_other_pid { frame_fault (direct_field ++ hi_after 0x03 0xCF) ≡ Some Pid }
+    ensures misses_last_bit { frame_fault (to_nj7p ++ from_n7lem 0x60 ++ hi_after 0x03 0xF0)
         ≡ Some Address }
     ensures misses_early_bit { frame_fault (to_nj7p ++ from_n7lem 0x61 ++ by_n7oo 0xE3
-        ++ said 0x03 0xF0) ≡ Some Control }
+        ++ hi_after 0x03 0xF0) ≡ Some Control }
     ensures misses_space { frame_fault (to_nj7p ++ (0x40 ∷ 0x6E ∷ 0x98 ∷ 0x8A ∷ 0x9A ∷ 0x40 ∷ 0x61
-        ∷ []) ++ said 0x03 0xF0) ≡ Some Callsign }
+        ∷ []) ++ hi_after 0x03 0xF0) ≡ Some Callsign }
 {}
 
 /// A frame has at most 8 digipeaters, and 1 to 256 bytes of information.
 pub fn frames_have_limits()
-    ensures eight { frame_fault (field_through 7 ++ said 0x03 0xF0) ≡ None }
-    ensures misses_nine { frame_fault (field_through 8 ++ said 0x03 0xF0) ≡ Some Address }
+    ensures eight { frame_fault (field_through 7 ++ hi_after 0x03 0xF0) ≡ None }
+    ensures misses_nine { frame_fault (field_through 8 ++ hi_after 0x03 0xF0) ≡ Some Address }
     ensures misses_no_info { frame_fault (direct_field ++ 0x03 ∷ 0xF0 ∷ []) ≡ Some NoInfo }
     ensures most { frame_fault (direct_field ++ 0x03 ∷ 0xF0 ∷ letters_a 256) ≡ None }
     ensures misses_more { frame_fault (direct_field ++ 0x03 ∷ 0xF0 ∷ letters_a 257)
@@ -47,13 +47,13 @@ pub fn frames_have_limits()
 
 /// A frame is made as a command: the destination's C bit is 1, and the source's 0.
 pub fn frames_are_made_as_commands()
-    ensures direct { spelling (made_parts nj7p n7lem [] (codes ">Hi")) ≡ direct }
+    ensures direct { spelling (made_parts nj7p n7lem [] (codes ">Hi")) ≡ direct_frame }
     ensures repeated { spelling (made_parts nj7p n7lem (through_n7oo ∷ []) (codes ">Hi"))
-        ≡ repeated }
+        ≡ repeated_frame }
     ensures misses_response { spelling (made_parts nj7p n7lem [] (codes ">Hi"))
-        ≡ to_nj7p ++ from_n7lem 0xE1 ++ said 0x03 0xF0 → ⊥ }
+        ≡ to_nj7p ++ from_n7lem 0xE1 ++ hi_after 0x03 0xF0 → ⊥ }
     ensures misses_h_bit { spelling (made_parts nj7p n7lem (through_n7oo ∷ []) (codes ">Hi"))
-        ≡ to_nj7p ++ from_n7lem 0x60 ++ by_n7oo 0x63 ++ said 0x03 0xF0 → ⊥ }
+        ≡ to_nj7p ++ from_n7lem 0x60 ++ by_n7oo 0x63 ++ hi_after 0x03 0xF0 → ⊥ }
 {}
 
 /// Callsigns as monitors print them.

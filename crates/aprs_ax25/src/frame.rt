@@ -24,7 +24,7 @@ use crate::fault::{FrameFault, MakeFault};
 use crate::hop::Hop;
 use crate::plain::plain_field_len;
 use crate::scan::{CONTROL_UI, MAX_UI_FRAME, PID_NONE, end_of_field, fault_of, seven_at};
-use aprs_io::{copied, push_all};
+use aprs_io::{copy_bytes, push_all};
 use arrayvec::ArrayVec;
 use std::cmp::Ordering;
 use std::marker::Model;
@@ -104,12 +104,12 @@ impl Frame {
     {
         match make_fault(hops.len(), info.len()) {
             Some(fault) => Err(fault),
-            None => Ok(Frame::spelled(destination, source, hops, info)),
+            None => Ok(Frame::spell(destination, source, hops, info)),
         }
     }
 
     /// The frame of these parts, which are not too many.
-    fn spelled(destination: &Callsign, source: &Callsign, hops: &[Hop], info: &[u8]) -> Frame
+    fn spell(destination: &Callsign, source: &Callsign, hops: &[Hop], info: &[u8]) -> Frame
         requires { make_fault (length hops.now) (length info.now) ≡ None }
         ensures { FrameOf (made_parts destination.now source.now hops.now info.now) result }
     {
@@ -244,7 +244,7 @@ impl Frame {
         ensures { result ≡ self.now }
     {
         Frame {
-            bytes: copied(&self.bytes),
+            bytes: copy_bytes(&self.bytes),
         }
     }
 }

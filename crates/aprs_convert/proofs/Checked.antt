@@ -5,7 +5,7 @@ use Rattle.std.proofs.KnownBytes.{Appends-nil, Appends-trans}
 use Rattle.std.proofs.lemmas.List.{length-append}
 use Rattle.aprs_kiss.specs.Device.{AppendsPrefix}
 use Rattle.aprs_kiss.proofs.Bytes.{AppendsPrefix-more, AppendsPrefix-then}
-use Rattle.aprs_log.specs.LogAnswers.{Answers, ended, then_given}
+use Rattle.aprs_log.specs.LogAnswers.{Answers, end_with, prepend_line}
 use Rattle.aprs_log.specs.declared.fault.LogFault.{LogFault}
 use Rattle.aprs_log.specs.declared.fault.Reason.{Reason}
 use Rattle.aprs_log.specs.declared.line.Line.{Line}
@@ -80,9 +80,9 @@ Checked-none first a lines none =
 
 -- the line that was given is this one
 given_as : (after now : Answers → Type 0) (line x : Line) → line ≡ x
-    → ((a : Answers) → after a → now (then_given line a))
-    → (a : Answers) → after a → now (then_given x a)
-given_as after now line x is next a may = subst (λ (y : Line). now (then_given y a)) is (next a may)
+    → ((a : Answers) → after a → now (prepend_line line a))
+    → (a : Answers) → after a → now (prepend_line x a)
+given_as after now line x is next a may = subst (λ (y : Line). now (prepend_line y a)) is (next a may)
 
 pub Checked-sum : (first now : Answers → Type 0) (old new : Option (List ℕ))
     (heard passed lines : ℕ) → Checked first now old new heard passed lines → heard + passed ≡ lines
@@ -97,7 +97,7 @@ module _ (first now after : Answers → Type 0) (a b : Option (List ℕ)) (heard
     (h : Checked first now a b heard passed lines) (count : ℕ) (next_line : count ≡ lines + 1) where
   -- a line is heard
   pub Checked-heard : (line : Line) (x : Reception) → line ≡ Heard x
-      → ((answers : Answers) → after answers → now (then_given line answers))
+      → ((answers : Answers) → after answers → now (prepend_line line answers))
       → Checked first after a b (heard + 1) passed count
   Checked-heard line x is given =
       let next = given_as after now line (Heard x) is given in
@@ -120,7 +120,7 @@ module _ (first now after : Answers → Type 0) (a b : Option (List ℕ)) (heard
   -- a line is passed over, which is reported
   pub Checked-passed : (c : Option (List ℕ)) (number : ℕ) (line : Line) (reason : Reason)
       → number ≡ count → line ≡ Passed reason
-      → ((answers : Answers) → after answers → now (then_given line answers))
+      → ((answers : Answers) → after answers → now (prepend_line line answers))
       → Appends b c (report number reason) → Checked first after a c heard (passed + 1) count
   Checked-passed c number line reason same is given out =
       let next = given_as after now line (Passed reason) is given in
@@ -149,7 +149,7 @@ module _ (first now after : Answers → Type 0) (a b : Option (List ℕ)) (heard
   -- the report of such a line is refused
   pub Checked-refused : (limit : ℕ) (known end c : Option (List ℕ)) (number : ℕ) (line : Line)
       (reason : Reason) → number ≡ count → line ≡ Passed reason
-      → ((answers : Answers) → after answers → now (then_given line answers))
+      → ((answers : Answers) → after answers → now (prepend_line line answers))
       → (answers : Answers) → after answers → AppendsPrefix b c (report number reason)
       → IsWhole first limit known end
       → RunsOver check_plan limit known end (Err Write) a c
@@ -158,7 +158,7 @@ module _ (first now after : Answers → Type 0) (a b : Option (List ℕ)) (heard
       let n = h.lines_are in
       let at : number ≡ 1 + length h.seen = omega arith in
       let line = report number reason in
-      let all = prepended h.seen (then_given (Passed reason) answers) in
+      let all = prepended h.seen (prepend_line (Passed reason) answers) in
       let more = check_lines (1 + length h.seen + 1) answers.given
       ++ totals answers.fault all.given in
       let text : check_of all ≡ (check_lines 1 h.seen ++ line) ++ more =
@@ -171,7 +171,7 @@ module _ (first now after : Answers → Type 0) (a b : Option (List ℕ)) (heard
       ∙ append_assoc (check_lines 1 h.seen ++ line)
       (check_lines (1 + length h.seen + 1) answers.given) (totals answers.fault all.given) in
       over check_of limit known end (Err Write) a c all
-      (whole all (h.has.complete (then_given (Passed reason) answers) (next answers may)))
+      (whole all (h.has.complete (prepend_line (Passed reason) answers) (next answers may)))
       (subst (AppendsPrefix a c) (sym text) (AppendsPrefix-more a c
       (check_lines 1 h.seen ++ line) more
       (AppendsPrefix-then a b c (check_lines 1 h.seen) line h.out prefix)))
@@ -179,48 +179,48 @@ module _ (first now after : Answers → Type 0) (a b : Option (List ℕ)) (heard
 module _ (first now : Answers → Type 0) (a b : Option (List ℕ)) (heard passed lines : ℕ)
     (h : Checked first now a b heard passed lines) (limit : ℕ) (known end : Option (List ℕ))
     (whole : IsWhole first limit known end) where
-  seen_whole : (fault : Option LogFault) → check_of (prepended h.seen (ended fault))
+  seen_whole : (fault : Option LogFault) → check_of (prepended h.seen (end_with fault))
       ≡ check_lines 1 h.seen ++ totals fault h.seen
   seen_whole fault = ap (λ (lines : List Line). check_lines 1 lines ++ totals fault lines)
       (append-nil h.seen)
 
-  text_is : check_of (prepended h.seen (ended None)) ≡ check_lines 1 h.seen
+  text_is : check_of (prepended h.seen (end_with None)) ≡ check_lines 1 h.seen
       ++ sums heard passed
   text_is = seen_whole None ∙ ap (λ k. check_lines 1 h.seen ++ sums k (count_passed h.seen))
       (sym h.heard_is)
       ∙ ap (λ k. check_lines 1 h.seen ++ sums heard k) (sym h.passed_is)
 
   -- the log ended
-  pub Checked-ended : (c : Option (List ℕ)) → now (ended None)
+  pub Checked-ended : (c : Option (List ℕ)) → now (end_with None)
       → Appends b c (sums heard passed)
       → RunsOver check_plan limit known end (Ok tt) a c
   Checked-ended c may out =
-      over check_of limit known end (Ok tt) a c (prepended h.seen (ended None))
-      (whole _ (h.has.complete (ended None) may)) (
+      over check_of limit known end (Ok tt) a c (prepended h.seen (end_with None))
+      (whole _ (h.has.complete (end_with None) may)) (
         refl,
         subst (Appends a c) (sym text_is)
             (Appends-trans a b c (check_lines 1 h.seen) (sums heard passed) h.out out),
       )
 
   -- the totals are refused
-  pub Checked-totals_refused : (c : Option (List ℕ)) → now (ended None)
+  pub Checked-totals_refused : (c : Option (List ℕ)) → now (end_with None)
       → AppendsPrefix b c (sums heard passed)
       → RunsOver check_plan limit known end (Err Write) a c
   Checked-totals_refused c may prefix =
-      over check_of limit known end (Err Write) a c (prepended h.seen (ended None))
-      (whole _ (h.has.complete (ended None) may))
+      over check_of limit known end (Err Write) a c (prepended h.seen (end_with None))
+      (whole _ (h.has.complete (end_with None) may))
       (subst (AppendsPrefix a c) (sym text_is)
       (AppendsPrefix-then a b c (check_lines 1 h.seen) (sums heard passed) h.out prefix))
 
   -- the log has a fault
   pub Checked-fault : (fault : LogFault) (answer : ConvertFault) → answer ≡ Log fault
-      → now (ended (Some fault))
+      → now (end_with (Some fault))
       → RunsOver check_plan limit known end (Err answer) a b
   Checked-fault fault answer same may =
       subst (λ (t : ConvertFault). RunsOver check_plan limit known end (Err t) a b) (sym same)
       (over check_of limit known end (Err (Log fault)) a b
-      (prepended h.seen (ended (Some fault)))
-      (whole _ (h.has.complete (ended (Some fault)) may)) (
+      (prepended h.seen (end_with (Some fault)))
+      (whole _ (h.has.complete (end_with (Some fault)) may)) (
         refl,
         subst (Appends a b) (sym (seen_whole (Some fault)
             ∙ append-nil (check_lines 1 h.seen))) h.out,

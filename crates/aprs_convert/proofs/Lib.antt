@@ -8,3 +8,4 @@ pub mod Planned
 pub mod SaidLines
 pub mod Writings
 pub mod OneText
+pub mod Worked

@@ -6,7 +6,7 @@ use Rattle.std.proofs.KnownBytes.{Appends-nil, Appends-trans}
 use Rattle.std.proofs.lemmas.List.{flat_map_more}
 use Rattle.aprs_kiss.specs.Device.{AppendsPrefix}
 use Rattle.aprs_kiss.proofs.Bytes.{AppendsPrefix-more, AppendsPrefix-then}
-use Rattle.aprs_log.specs.LogAnswers.{Answers, ended, log_answers, then_given}
+use Rattle.aprs_log.specs.LogAnswers.{Answers, end_with, log_answers, prepend_line}
 use Rattle.aprs_log.specs.Reader.{AreAnswersOf}
 use Rattle.aprs_log.specs.declared.line.Line.{Line}
 use Rattle.aprs_log.specs.declared.fault.LogFault.{LogFault}
@@ -29,11 +29,11 @@ HasSeen-none first = record { complete = λ a h. h }
 
 pub HasSeen-line : (first now after : Answers → Type 0) (seen : List Line) (x : Line)
     → HasSeen first now seen
-    → ((a : Answers) → after a → now (then_given x a)) → HasSeen first after (seen ++ x ∷ [])
+    → ((a : Answers) → after a → now (prepend_line x a)) → HasSeen first after (seen ++ x ∷ [])
 HasSeen-line first now after seen x h next = record {
   complete = λ a may. subst (λ (lines : List Line). first
       (record { given = lines; fault = a.fault }))
-      (sym (append_assoc seen (x ∷ []) a.given)) (h.complete (then_given x a) (next a may));
+      (sym (append_assoc seen (x ∷ []) a.given)) (h.complete (prepend_line x a) (next a may));
 }
 
 -- what a run over these lines has written
@@ -58,7 +58,7 @@ Ran-none f first a = record { seen = []; has = HasSeen-none first; out = Appends
 pub Ran-line : (f : Line → List ℕ) (first now after : Answers
     → Type 0) (a b c : Option (List ℕ)) (x lent : Line) → lent ≡ x
     → Ran (flat_map f) first now a b
-    → ((answers : Answers) → after answers → now (then_given x answers)) → Appends b c (f lent)
+    → ((answers : Answers) → after answers → now (prepend_line x answers)) → Appends b c (f lent)
     → Ran (flat_map f) first after a c
 Ran-line f first now after a b c x lent same h next out = record {
   seen = h.seen ++ x ∷ [];
@@ -97,18 +97,18 @@ lines_of form a = flat_map (line_text form) a.given
 pub Ran-refused : (form : Form) (first now after : Answers
     → Type 0) (limit : ℕ) (known end a b c : Option (List ℕ)) (x lent : Line) → lent ≡ x
     → Ran (flat_map (line_text form)) first now a b
-    → ((answers : Answers) → after answers → now (then_given x answers))
+    → ((answers : Answers) → after answers → now (prepend_line x answers))
     → (answers : Answers) → after answers → AppendsPrefix b c (line_text form lent)
     → IsWhole first limit known end
     → RunsOver (lines_plan form) limit known end (Err Write) a c
 Ran-refused form first now after limit known end a b c x lent same h next answers may prefix whole =
     let f = line_text form in
-    let all = prepended h.seen (then_given x answers) in
+    let all = prepended h.seen (prepend_line x answers) in
     let text : flat_map f all.given ≡ (flat_map f h.seen ++ f x) ++ flat_map f answers.given =
     flat_map-append f h.seen (x ∷ answers.given)
     ∙ sym (append_assoc (flat_map f h.seen) (f x) (flat_map f answers.given)) in
     over (lines_of form) limit known end (Err Write) a c all
-    (whole all (h.has.complete (then_given x answers) (next answers may)))
+    (whole all (h.has.complete (prepend_line x answers) (next answers may)))
     (subst (AppendsPrefix a c) (sym text) (AppendsPrefix-more a c (flat_map f h.seen ++ f x)
     (flat_map f answers.given)
     (AppendsPrefix-then a b c (flat_map f h.seen) (f x) h.out
@@ -123,23 +123,23 @@ whole_text f seen a b out = subst (λ (lines : List Line). Appends a b (flat_map
 -- the log ended
 pub Ran-ended : (form : Form) (first now : Answers
     → Type 0) (limit : ℕ) (known end a b : Option (List ℕ))
-    → Ran (flat_map (line_text form)) first now a b → now (ended None)
+    → Ran (flat_map (line_text form)) first now a b → now (end_with None)
     → IsWhole first limit known end
     → RunsOver (lines_plan form) limit known end (Ok tt) a b
 Ran-ended form first now limit known end a b h may whole =
-    over (lines_of form) limit known end (Ok tt) a b (prepended h.seen (ended None))
-    (whole _ (h.has.complete (ended None) may))
+    over (lines_of form) limit known end (Ok tt) a b (prepended h.seen (end_with None))
+    (whole _ (h.has.complete (end_with None) may))
     (refl, whole_text (line_text form) h.seen a b h.out)
 
 -- the log has a fault
 pub Ran-fault : (form : Form) (first now : Answers
     → Type 0) (limit : ℕ) (known end a b : Option (List ℕ)) (fault : LogFault)
     (answer : ConvertFault) → answer ≡ Log fault
-    → Ran (flat_map (line_text form)) first now a b → now (ended (Some fault))
+    → Ran (flat_map (line_text form)) first now a b → now (end_with (Some fault))
     → IsWhole first limit known end
     → RunsOver (lines_plan form) limit known end (Err answer) a b
 Ran-fault form first now limit known end a b fault answer same h may whole =
     subst (λ (t : ConvertFault). RunsOver (lines_plan form) limit known end (Err t) a b) (sym same)
     (over (lines_of form) limit known end (Err (Log fault)) a b
-    (prepended h.seen (ended (Some fault))) (whole _ (h.has.complete (ended (Some fault)) may))
+    (prepended h.seen (end_with (Some fault))) (whole _ (h.has.complete (end_with (Some fault)) may))
     (refl, whole_text (line_text form) h.seen a b h.out))

@@ -5,6 +5,7 @@ mod answer;
 mod capture;
 mod check;
 mod convert;
+mod example;
 mod fault;
 mod form;
 mod laws;
@@ -13,6 +14,7 @@ mod run;
 mod text;
 
 pub use check::check_log;
+pub use example::checks_count_lines;
 pub use fault::ConvertFault;
 pub use form::Form;
 pub use laws::{one_text_is_checked, one_text_is_converted};

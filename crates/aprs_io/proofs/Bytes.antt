@@ -1,5 +1,5 @@
 -- Lemmas on the bytes that go out of a writer.
-use Rattle.std.proofs.Common.{◌≡◌, Result, Ok, Err, OnOk, OnErr, ℕ, ◌-◌, List, [], ◌++◌, refl, subst, append-nil, length, take, drop, Option, sym, ap, ◌∙◌, append_assoc, take-append-drop}
+use Rattle.std.proofs.Common.{◌≡◌, Result, Ok, Err, OnErr, ℕ, ◌-◌, List, [], ◌++◌, refl, subst, append-nil, length, take, drop, Option, sym, ap, ◌∙◌, append_assoc, take-append-drop}
 use Rattle.std.proofs.lemmas.List.{take_rest}
 use Rattle.std.specs.Io.KnownBytes.{Appends}
 use Rattle.std.proofs.KnownBytes.{Appends-nil, Appends-trans}
@@ -72,18 +72,3 @@ AppendsPrefix-then a b c bs more p q =
 pub on_err : {T E P : Type 0} (r : Result T E) → P → OnErr r P
 on_err (Ok x) p = tt
 on_err (Err e) p = p
-
--- the last part of a text is sent, or a prefix of it
-pub sent_last : {T E : Type 0} (r : Result T E) (a b c : Option (List ℕ)) (bs part : List ℕ)
-    → AppendsAllBut a b bs part
-    → OnOk r (Appends b c part) → OnOk r (Appends a c bs)
-sent_last (Ok x) a b c bs part p q =
-    Appends-from_all a c bs (AppendsAllBut-sent a b c bs part part [] p (sym (append-nil part)) q)
-sent_last (Err e) a b c bs part p q = tt
-
-pub prefix_of_last : {T E : Type 0} (r : Result T E) (a b c : Option (List ℕ)) (bs part : List ℕ)
-    → AppendsAllBut a b bs part
-    → OnErr r (AppendsPrefix b c part) → OnErr r (AppendsPrefix a c bs)
-prefix_of_last (Ok x) a b c bs part p q = tt
-prefix_of_last (Err e) a b c bs part p q =
-    AppendsPrefix-after a b c bs part part [] p (sym (append-nil part)) q

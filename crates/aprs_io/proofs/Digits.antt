@@ -1,7 +1,7 @@
 -- Lemmas on digits that are read in blocks.
-use Rattle.std.proofs.Common.{◌≡◌, ℕ, zero, suc, ◌+◌, ◌-◌, ◌*◌, ◌/◌, ◌%◌, ◌<◌, ◌≤◌, ◌≢◌, ◌==◌, ◌&&◌, ◌||◌, ◌⊎◌, Bool, true, false, nat_lt, cond, List, [], ◌∷◌, ◌++◌, length, take, drop, slice_index, slice_set, Option, Some, None, Ok, if◌then◌else◌, unwrap_or, inl, inr, refl, sym, ap, ◌∙◌, arith, subst}
+use Rattle.std.proofs.Common.{◌≡◌, ℕ, zero, suc, ◌+◌, ◌-◌, ◌*◌, ◌/◌, ◌%◌, ◌<◌, ◌≤◌, ◌≢◌, ◌==◌, ◌&&◌, ◌⊎◌, Bool, true, nat_lt, cond, List, [], ◌∷◌, ◌++◌, length, take, drop, slice_index, slice_set, Option, Some, None, Ok, if◌then◌else◌, unwrap_or, inl, inr, refl, sym, ap, ◌∙◌, arith, subst}
 use Rattle.std.specs.Int.Bits.{bit_or}
-use Rattle.std.proofs.lemmas.Bool.{and_parts, cases_lt, eqb-true, le-ltb, lt-ltb}
+use Rattle.std.proofs.lemmas.Bool.{and_parts, cases_lt, eqb-true, lt-ltb}
 use Rattle.std.proofs.lemmas.List.{get_or-append_right, get_or-drop, get_or-set_other, get_or-set_same, get_or-take, get_or_append_left, length-set, length-take-le, set-get_or, take_more}
 use borrow.Rule.Slice.PartMut.{post_of, put_mid}
 use Rattle.hex.specs.Hex.{IsBytes, decode_of, decode_pairs, encode_lower, encode_with, hex_digit_value, lower_digits, digit_or_error, value_at, pair_value}
@@ -51,16 +51,9 @@ letter_value b lt few =
 
 -- ---- lower case digits
 
--- the places of a byte among the digits below 10, and among the small letters
-abbrev number_place : ℕ → ℕ
-number_place b = (b + 208) % 256
-
+-- the place of a byte among the small letters
 abbrev small_place : ℕ → ℕ
 small_place b = (b + 159) % 256
-
-abbrev is_number : ℕ → Bool
-is_number b =
-    if nat_lt (number_place b) 10 then slice_index lower_digits (number_place b) == b else true
 
 abbrev is_small : ℕ → Bool
 is_small b =
@@ -70,17 +63,6 @@ abbrev reads_small : ℕ → Bool
 reads_small b =
     if nat_lt (small_place b) 6 then unwrap_or (hex_digit_value b) 99 == small_place b + 10
     else true
-
-abbrev is_found : ℕ → Bool
-is_found v = nat_lt (number_place (slice_index lower_digits v)) 10
-    || nat_lt (small_place (slice_index lower_digits v)) 6
-
-pub lower_number : (b : ℕ) → b < 256 → number_place b < 10
-    → b ≡ slice_index lower_digits (number_place b)
-lower_number b lt few =
-    let t : nat_lt (number_place b) 10 ≡ true = lt-ltb _ _ few in
-    sym (eqb-true _ _ (ap (λ t. cond t (slice_index lower_digits (number_place b) == b) true) (sym t)
-    ∙ all_pass-at is_number 256 b refl lt))
 
 pub lower_letter : (b : ℕ) → b < 256 → small_place b < 6
     → b ≡ slice_index lower_digits (small_place b + 10)
@@ -103,15 +85,6 @@ value_of_letter b small lt (inl e) few =
 value_of_letter b small lt (inr e) few =
     let same : place b ≡ (small + 159) % 256 = ap (λ n. (n + 159) % 256) (sym e) in
     letter_value b lt (omega arith) ∙ ap (λ n. Some (n + 10)) same
-
--- another byte is no lower case digit
-pub no_lower : (b : ℕ) → 10 ≤ number_place b → 6 ≤ small_place b → (v : ℕ) → v < 16
-    → b ≢ slice_index lower_digits v
-no_lower b no_number no_letter v lt is =
-    let found = all_pass-at is_found 16 v refl lt in
-    let no : is_found v ≡ false = ap (λ d. nat_lt (number_place d) 10 || nat_lt (small_place d) 6)
-    (sym is) ∙ rw (le-ltb _ _ no_number, le-ltb _ _ no_letter) refl in
-    absurd (let e : true ≡ false = sym found ∙ no in cc)
 
 -- ---- pairs of digits
 

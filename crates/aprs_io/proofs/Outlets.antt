@@ -59,16 +59,6 @@ module _ {W : Type 0} {contents : W → Option (List ℕ)} where
     fails = Sends-is (fails_of_both first.took y then.fails) (append_assoc (held_of o) x y);
   }
 
-  -- which error it is is not said
-  pub Puts-err : {E F : Type 0} {e : E} {o p : Outlet W} {x : List ℕ} (r : Result (Unit {0}) F)
-      → IsErr r → Puts contents (Err e) o p x → Puts contents r o p x
-  Puts-err (Ok v) is put = absurd cc
-  Puts-err (Err f) is put = record {
-    same_reference = put.same_reference;
-    took = tt;
-    fails = Sends-err (Err f) is put.fails;
-  }
-
   -- the first of two texts failed
   pub Puts-fails : {E F : Type 0} {e : E} {o p : Outlet W} {x : List ℕ} (r : Result (Unit {0}) F)
       → IsErr r → Puts contents (Err e) o p x → (y : List ℕ) → Puts contents r o p (x ++ y)

@@ -10,7 +10,7 @@ mod input;
 mod laws;
 mod outlet;
 
-pub use byte_vectors::{copied, push_all, put};
+pub use byte_vectors::{copy_bytes, push_all, put};
 pub use cut::cut_at;
 pub use device::{Counted, DeviceFault, WriteFault, send};
 pub use hexadecimal::{decode_into, decode_lower_into, encode_to};

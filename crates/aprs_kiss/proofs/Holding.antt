@@ -6,7 +6,7 @@ use Rattle.std.proofs.lemmas.Bool.{lt-ltb, le-ltb, eqb-false}
 use Rattle.std.proofs.lemmas.List.Elements.{recursion_from_All, All-weaker, All-take}
 use Rattle.aprs_kiss.specs.Plain.{IsPlain, is_special}
 use Rattle.aprs_kiss.specs.Spelling.{HasNoEnd, is_frame_end}
-use Rattle.aprs_kiss.specs.Unspelling.{unspelled}
+use Rattle.aprs_kiss.specs.Unspelling.{spelled_bytes}
 use Rattle.aprs_kiss.specs.Judgement.{judgement_by, judgement_of, data_frame_of}
 use Rattle.aprs_kiss.specs.Reader.{HoldsAfter, IsOpen, IsClosed}
 use Rattle.aprs_kiss.specs.declared.reader.State.{State}
@@ -37,7 +37,7 @@ HoldsAfter-begun Escape held bytes n h =
     λ e. let z : length bytes ≡ 0 =
     ap length e in omega (arith, ap length h.escape, length-append h.prefix (0xDB ∷ []))
 HoldsAfter-begun Long held bytes n h = λ e.
-    let r : Some [] ≡ Some h.all = sym unspelled-nil ∙ ap unspelled (sym e) ∙ h.spelled in
+    let r : Some [] ≡ Some h.all = sym unspelled-nil ∙ ap spelled_bytes (sym e) ∙ h.spelled in
     let z : [] ≡ h.all = cc in
     omega (arith, h.long, ap length z)
 HoldsAfter-begun LongEscape held bytes n h =
@@ -45,13 +45,13 @@ HoldsAfter-begun LongEscape held bytes n h =
     ap length e in omega (arith, ap length h.escape, length-append h.prefix (0xDB ∷ []))
 HoldsAfter-begun Broken held bytes n h = λ e.
     let none : Option (List ℕ) = None in
-    let r : Some [] ≡ none = sym unspelled-nil ∙ ap (λ l. unspelled (l ++ [])) (sym e) ∙ h [] in
+    let r : Some [] ≡ none = sym unspelled-nil ∙ ap (λ l. spelled_bytes (l ++ [])) (sym e) ∙ h [] in
     cc
 
 -- ---- bytes that stand for themselves
 
 pub HoldsAfter-run : (held bytes run : List ℕ) → HasNoEnd bytes → All (λ b. is_special b ≡ false) run
-    → unspelled bytes ≡ Some held → unspelled (bytes ++ run) ≡ Some (held ++ run)
+    → spelled_bytes bytes ≡ Some held → spelled_bytes (bytes ++ run) ≡ Some (held ++ run)
 HoldsAfter-run held bytes run n p h =
     unspelled-append bytes held run n h
     ∙ ap (option_map (λ l. held ++ l))
@@ -59,40 +59,40 @@ HoldsAfter-run held bytes run n p h =
 
 pub HoldsAfter-broken : (held bytes run : List ℕ) → HoldsAfter Broken held bytes
     → HoldsAfter Broken held (bytes ++ run)
-HoldsAfter-broken held bytes run h = λ more. ap unspelled (append_assoc bytes run more) ∙ h (run ++ more)
+HoldsAfter-broken held bytes run h = λ more. ap spelled_bytes (append_assoc bytes run more) ∙ h (run ++ more)
 
 -- ---- the byte after an escape
 
 module _ (held prefix bytes : List ℕ) (code : ℕ) (n : HasNoEnd bytes)
-    (e : bytes ≡ prefix ++ 0xDB ∷ []) (h : unspelled prefix ≡ Some held) where
+    (e : bytes ≡ prefix ++ 0xDB ∷ []) (h : spelled_bytes prefix ≡ Some held) where
   after_escape : (more : List ℕ)
-      → unspelled (bytes ++ code ∷ more)
-      ≡ option_map (λ l. held ++ l) (unspelled (0xDB ∷ code ∷ more))
+      → spelled_bytes (bytes ++ code ∷ more)
+      ≡ option_map (λ l. held ++ l) (spelled_bytes (0xDB ∷ code ∷ more))
   after_escape more =
-      ap (λ l. unspelled (l ++ code ∷ more)) e
-      ∙ ap unspelled (append_assoc prefix (0xDB ∷ []) (code ∷ more))
+      ap (λ l. spelled_bytes (l ++ code ∷ more)) e
+      ∙ ap spelled_bytes (append_assoc prefix (0xDB ∷ []) (code ∷ more))
       ∙ unspelled-append prefix held (0xDB ∷ code ∷ more)
       (HasNoEnd-prefix prefix (0xDB ∷ []) (subst HasNoEnd e n)) h
 
   -- the code stands for a byte
   pub unspelled-escaped : (x : ℕ)
       → ((more : List ℕ)
-      → unspelled (0xDB ∷ code ∷ more) ≡ option_map (λ l. x ∷ l) (unspelled more))
-      → unspelled (bytes ++ code ∷ []) ≡ Some (held ++ x ∷ [])
+      → spelled_bytes (0xDB ∷ code ∷ more) ≡ option_map (λ l. x ∷ l) (spelled_bytes more))
+      → spelled_bytes (bytes ++ code ∷ []) ≡ Some (held ++ x ∷ [])
   unspelled-escaped x k =
       after_escape []
       ∙ ap (option_map (λ l. held ++ l)) (k [] ∙ ap (option_map (λ l. x ∷ l)) unspelled-nil)
 
   -- it stands for nothing
-  pub unspelled-unescaped : ((more : List ℕ) → unspelled (0xDB ∷ code ∷ more) ≡ None)
-      → (more : List ℕ) → unspelled ((bytes ++ code ∷ []) ++ more) ≡ None
+  pub unspelled-unescaped : ((more : List ℕ) → spelled_bytes (0xDB ∷ code ∷ more) ≡ None)
+      → (more : List ℕ) → spelled_bytes ((bytes ++ code ∷ []) ++ more) ≡ None
   unspelled-unescaped k more =
-      ap unspelled (append_assoc bytes (code ∷ []) more) ∙ after_escape more
+      ap spelled_bytes (append_assoc bytes (code ∷ []) more) ∙ after_escape more
       ∙ ap (option_map (λ l. held ++ l)) (k more)
 
 -- no byte stands for the code
 pub HoldsAfter-unescaped : (s : State) (held bytes : List ℕ) (code : ℕ) → IsOpen s → HasNoEnd bytes
-    → ((more : List ℕ) → unspelled (0xDB ∷ code ∷ more) ≡ None) → HoldsAfter s held bytes
+    → ((more : List ℕ) → spelled_bytes (0xDB ∷ code ∷ more) ≡ None) → HoldsAfter s held bytes
     → HoldsAfter Broken held (bytes ++ code ∷ [])
 HoldsAfter-unescaped Escape held bytes code o n k h =
     unspelled-unescaped held h.prefix bytes code n h.escape h.spelled k
@@ -106,7 +106,7 @@ HoldsAfter-unescaped Broken held bytes code o n k h = absurd o
 -- a byte for which there is no room
 pub HoldsAfter-escaped_long : (s : State) (held bytes : List ℕ) (code x : ℕ) → IsOpen s → s ≢ Escape
     → HasNoEnd bytes
-    → ((more : List ℕ) → unspelled (0xDB ∷ code ∷ more) ≡ option_map (λ l. x ∷ l) (unspelled more))
+    → ((more : List ℕ) → spelled_bytes (0xDB ∷ code ∷ more) ≡ option_map (λ l. x ∷ l) (spelled_bytes more))
     → HoldsAfter s held bytes → HoldsAfter Long held (bytes ++ code ∷ [])
 HoldsAfter-escaped_long Escape held bytes code x o e n k h = absurd (e refl)
 HoldsAfter-escaped_long LongEscape held bytes code x o e n k h = record {
@@ -153,10 +153,10 @@ HoldsAfter-escape_again Broken held bytes e p l n h = HoldsAfter-broken held byt
 -- ---- the end of a piece
 
 open_ends : (held prefix bytes : List ℕ) → HasNoEnd bytes → bytes ≡ prefix ++ 0xDB ∷ []
-    → unspelled prefix ≡ Some held
-    → unspelled bytes ≡ None
+    → spelled_bytes prefix ≡ Some held
+    → spelled_bytes bytes ≡ None
 open_ends held prefix bytes n e h =
-    ap unspelled e
+    ap spelled_bytes e
     ∙ unspelled-append prefix held (0xDB ∷ [])
     (HasNoEnd-prefix prefix (0xDB ∷ []) (subst HasNoEnd e n)) h
     ∙ ap (option_map (λ l. held ++ l)) unspelled-open
@@ -175,7 +175,7 @@ judgement_of-broken Escape held bytes p l z n h =
 judgement_of-broken LongEscape held bytes p l z n h =
     ap judgement_by (open_ends h.all h.prefix bytes n h.escape h.spelled)
 judgement_of-broken Broken held bytes p l z n h =
-    ap judgement_by (ap unspelled (sym (append-nil bytes)) ∙ h [])
+    ap judgement_by (ap spelled_bytes (sym (append-nil bytes)) ∙ h [])
 
 pub judgement_of-long : (bytes held : List ℕ) → HoldsAfter Long held bytes
     → judgement_of bytes ≡ Err TooLong
@@ -183,7 +183,7 @@ unfolding judgement_of
 judgement_of-long bytes held h =
     ap judgement_by h.spelled ∙ rw (lt-ltb 1024 (length h.all) h.long) refl
 
-pub judgement_of-plain : (bytes held : List ℕ) → unspelled bytes ≡ Some held → length held ≤ 1024
+pub judgement_of-plain : (bytes held : List ℕ) → spelled_bytes bytes ≡ Some held → length held ≤ 1024
     → judgement_of bytes ≡ data_frame_of held
 unfolding judgement_of
 judgement_of-plain bytes held h l = ap judgement_by h ∙ rw (le-ltb 1024 (length held) l) refl

@@ -3,14 +3,14 @@ use Rattle.std.proofs.Common.{◌≡◌, ◌≢◌, ℕ, ◌<◌, ◌≤◌, ◌
 use Rattle.std.proofs.lemmas.Bool.{lt-ltb, le-ltb, eq-eqb}
 use Rattle.std.proofs.lemmas.Bool.Decides.{eqb_tells, nat_tests}
 use Rattle.aprs_kiss.specs.Spelling.{HasNoEnd, Spells, spelling_of}
-use Rattle.aprs_kiss.specs.Unspelling.{unspelled}
+use Rattle.aprs_kiss.specs.Unspelling.{spelled_bytes}
 use Rattle.aprs_kiss.specs.Judgement.{Judgement, Judged, judgement_of, judgement_by, data_frame_of}
 use Rattle.aprs_kiss.specs.Laws.{SpellsOnce, JudgedOnce}
 use Rattle.aprs_kiss.specs.declared.fault.PassFault.TheVariants.{BadEscape, TooLong, NotData}
 use Rattle.aprs_kiss.proofs.Escapes.{unspelled-of, spelling_of-unspelled}
 
-unspelled_at : (bytes piece : List ℕ) → Spells bytes piece → unspelled piece ≡ Some bytes
-unspelled_at bytes piece s = ap unspelled s ∙ unspelled-of bytes
+unspelled_at : (bytes piece : List ℕ) → Spells bytes piece → spelled_bytes piece ≡ Some bytes
+unspelled_at bytes piece s = ap spelled_bytes s ∙ unspelled-of bytes
 
 pub spells_once : SpellsOnce
 spells_once spelled a b p q =
@@ -46,7 +46,7 @@ only_broken : (piece : List ℕ) → HasNoEnd piece → ((bytes : List ℕ) → 
     → judgement_of piece ≡ Err BadEscape
 unfolding judgement_of
 only_broken piece n h =
-    elim (broken_or_not (unspelled piece)) as (λ _. judgement_of piece ≡ Err BadEscape) [
+    elim (broken_or_not (spelled_bytes piece)) as (λ _. judgement_of piece ≡ Err BadEscape) [
       | inl e ↦ ap judgement_by e
       | inr b ↦ absurd (h b.0 (spelling_of-unspelled piece b.0 n b.1))
     ]
@@ -97,7 +97,7 @@ judged_bytes piece bytes z s =
 judged_so : (piece : List ℕ) → 0 < length piece → HasNoEnd piece → Judged piece (judgement_of piece)
 unfolding judgement_of
 judged_so piece z n =
-    elim (broken_or_not (unspelled piece)) as (λ _. Judged piece (judgement_by (unspelled piece))) [
+    elim (broken_or_not (spelled_bytes piece)) as (λ _. Judged piece (judgement_by (spelled_bytes piece))) [
       | inl e ↦ rw e
           (λ bytes s. let none : Option (List ℕ) =
           None in let w : none ≡ Some bytes = sym e ∙ unspelled_at bytes piece s in cc)

@@ -1,7 +1,7 @@
 -- What a nonempty piece of a KISS stream is: a data frame, or passed over.
 use Rattle.std.specs.Prelude.{◌≡◌, ◌≢◌, ◌==◌, ◌≤◌, ◌<◌, ◌/◌, ◌%◌, ℕ, if◌then◌else◌, nat_lt, List, [], ◌∷◌, length, Option, None, Some, Result, Ok, Err}
 use Rattle.aprs_kiss.specs.Spelling.{Spells}
-use Rattle.aprs_kiss.specs.Unspelling.{unspelled}
+use Rattle.aprs_kiss.specs.Unspelling.{spelled_bytes}
 use Rattle.aprs_kiss.specs.Sizes.{most_bytes}
 use Rattle.aprs_kiss.specs.declared.fault.PassFault.{PassFault}
 use Rattle.aprs_kiss.specs.declared.fault.PassFault.TheVariants.{BadEscape, TooLong, NotData}
@@ -60,4 +60,4 @@ judgement_by (Some bytes) = if nat_lt most_bytes (length bytes) then Err TooLong
 
 -- The judgement of a piece, by the bytes that it spells.
 unfoldable pub judgement_of : List ℕ → Judgement
-judgement_of piece = judgement_by (unspelled piece)
+judgement_of piece = judgement_by (spelled_bytes piece)

@@ -1,7 +1,7 @@
 -- What a KISS reader holds of the piece that it reads.
 use Rattle.std.specs.Prelude.{◌≡◌, ◌<◌, ℕ, List, [], ◌∷◌, ◌++◌, length, drop, Option, None, Some, Result, Ok, Err}
 use Rattle.aprs_kiss.specs.Spelling.{HasNoEnd}
-use Rattle.aprs_kiss.specs.Unspelling.{unspelled}
+use Rattle.aprs_kiss.specs.Unspelling.{spelled_bytes}
 use Rattle.aprs_kiss.specs.Judgement.{Judgement}
 use Rattle.aprs_kiss.specs.declared.fault.PassFault.{PassFault}
 use Rattle.aprs_kiss.specs.Sizes.{most_bytes}
@@ -12,18 +12,18 @@ use Rattle.aprs_kiss.specs.declared.reader.State.TheVariants.{Ended, Plain, Esca
 -- The bytes are some, and they spell what is held.
 pub record HoldsPlain (held bytes : List ℕ) : Type 0 where
   pub nonempty : 0 < length bytes
-  pub spelled : unspelled bytes ≡ Some held
+  pub spelled : spelled_bytes bytes ≡ Some held
 
 -- The bytes end in an open escape, and those before it spell what is held.
 pub record HoldsEscape (held bytes : List ℕ) : Type 0 where
   pub prefix : List ℕ
   pub escape : bytes ≡ prefix ++ 0xDB ∷ []
-  pub spelled : unspelled prefix ≡ Some held
+  pub spelled : spelled_bytes prefix ≡ Some held
 
 -- The bytes spell more than a frame may have.
 pub record HoldsLong (bytes : List ℕ) : Type 0 where
   pub all : List ℕ
-  pub spelled : unspelled bytes ≡ Some all
+  pub spelled : spelled_bytes bytes ≡ Some all
   pub long : most_bytes < length all
 
 -- The bytes end in an open escape, and those before it spell more than a frame may have.
@@ -31,7 +31,7 @@ pub record HoldsLongEscape (bytes : List ℕ) : Type 0 where
   pub prefix : List ℕ
   pub all : List ℕ
   pub escape : bytes ≡ prefix ++ 0xDB ∷ []
-  pub spelled : unspelled prefix ≡ Some all
+  pub spelled : spelled_bytes prefix ≡ Some all
   pub long : most_bytes < length all
 
 -- What the reader holds after these bytes of a piece, by its state; in the state `Broken` they
@@ -42,7 +42,7 @@ HoldsAfter Plain held bytes = HoldsPlain held bytes
 HoldsAfter Escape held bytes = HoldsEscape held bytes
 HoldsAfter Long held bytes = HoldsLong bytes
 HoldsAfter LongEscape held bytes = HoldsLongEscape bytes
-HoldsAfter Broken held bytes = (more : List ℕ) → unspelled (bytes ++ more) ≡ None
+HoldsAfter Broken held bytes = (more : List ℕ) → spelled_bytes (bytes ++ more) ≡ None
 
 -- Since the last frame end the reader was fed these bytes.
 pub record StandsAfter (reader : KissReader) (bytes : List ℕ) : Type 0 where
@@ -50,10 +50,10 @@ pub record StandsAfter (reader : KissReader) (bytes : List ℕ) : Type 0 where
   pub held : HoldsAfter reader.state reader.bytes.items bytes
 
 -- The judgement that an outcome reports, where the buffer holds a frame after its type byte.
-abbrev pub judged_as : Option (Result ℕ PassFault) → List ℕ → List Judgement
-judged_as None held = []
-judged_as (Some (Ok port)) held = Ok (record { port = port; bytes = drop 1 held }) ∷ []
-judged_as (Some (Err fault)) held = Err fault ∷ []
+abbrev pub judgements_of_outcome : Option (Result ℕ PassFault) → List ℕ → List Judgement
+judgements_of_outcome None held = []
+judgements_of_outcome (Some (Ok port)) held = Ok (record { port = port; bytes = drop 1 held }) ∷ []
+judgements_of_outcome (Some (Err fault)) held = Err fault ∷ []
 
 -- An escape has begun.
 abbrev pub IsOpen : State → Type 0

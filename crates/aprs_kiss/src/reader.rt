@@ -5,11 +5,11 @@ ghost use Rattle.std.specs.Borrow.{sem};
 ghost use Rattle.std.specs.Option.{option_map, option_and_then};
 ghost use Rattle.std.specs.Io.BufRead.{Rests};
 ghost use Rattle.aprs_kiss.specs.Judgement.{judgement_of, data_frame_of};
-ghost use Rattle.aprs_kiss.specs.Reader.{StandsAfter, IsOpen, IsClosed, judged_as};
+ghost use Rattle.aprs_kiss.specs.Reader.{StandsAfter, IsOpen, IsClosed, judgements_of_outcome};
 ghost use Rattle.aprs_kiss.specs.Answer.{IsWithinBounds, judgements_in};
 ghost use Rattle.aprs_kiss.specs.Plain.{IsPlain, is_special};
 ghost use Rattle.aprs_kiss.specs.Spelling.{HasNoEnd};
-ghost use Rattle.aprs_kiss.specs.Unspelling.{unspelled};
+ghost use Rattle.aprs_kiss.specs.Unspelling.{spelled_bytes};
 ghost use Rattle.aprs_kiss.specs.Stream.{EndsPiece, judgements_of, rest_of};
 ghost use Rattle.aprs_kiss.specs.contracts.reader.KissReader.{the_row};
 
@@ -120,7 +120,7 @@ impl KissReader {
             → StandsAfter self.new (rest_of (before ++ take result.0 piece.now)) }
         ensures judged { (before : List ℕ) → StandsAfter self.old before
             → judgements_of (before ++ take result.0 piece.now)
-            ≡ judged_as result.1 self.new.bytes.items }
+            ≡ judgements_of_outcome result.1 self.new.bytes.items }
         ensures used { result.0 ≤ length piece.now }
         ensures whole { IfNone result.1 (result.0 ≡ length piece.now) }
         ensures ends { (before : List ℕ) → StandsAfter self.old before
@@ -208,7 +208,7 @@ impl KissReader {
     /// Adds to the buffer the last bytes that a piece spells, if there is room.
     fn append(&mut self, bytes: &[u8])
         ensures stands { (all : List ℕ) → HasNoEnd all → 0 < length all
-            → unspelled all ≡ Some (self.old.bytes.items ++ bytes.now) → StandsAfter self.new all }
+            → spelled_bytes all ≡ Some (self.old.bytes.items ++ bytes.now) → StandsAfter self.new all }
         ensures closed { IsClosed self.new.state }
     {
         match self.bytes.try_extend_from_slice(bytes) {
@@ -237,7 +237,7 @@ impl KissReader {
     fn end_piece(&mut self) -> Result<u8, PassFault>
         ensures stands { StandsAfter self.new [] }
         ensures judged { (before : List ℕ) → StandsAfter self.old before → 0 < length before
-            → judged_as (Some result) self.new.bytes.items ≡ judgement_of before ∷ [] }
+            → judgements_of_outcome (Some result) self.new.bytes.items ≡ judgement_of before ∷ [] }
         ensures frame { IfOk result (λ port. (port < 16) × (0 < length self.new.bytes.items)) }
     {
         let state = self.state;
@@ -252,7 +252,7 @@ impl KissReader {
 
 /// The port of a data frame, from its type byte.
 fn port_of(bytes: &[u8]) -> Result<u8, PassFault>
-    ensures judged { judged_as (Some result) bytes.now ≡ data_frame_of bytes.now ∷ [] }
+    ensures judged { judgements_of_outcome (Some result) bytes.now ≡ data_frame_of bytes.now ∷ [] }
     ensures frame { IfOk result (λ port. (port < 16) × (0 < length bytes.now)) }
 {
     match bytes {
@@ -263,8 +263,8 @@ fn port_of(bytes: &[u8]) -> Result<u8, PassFault>
 
 /// The byte that an escape and this code stand for.
 fn unescape(code: u8) -> Option<u8>
-    ensures { (more : List ℕ) → unspelled (0xDB ∷ code ∷ more)
-        ≡ option_and_then (λ byte. option_map (λ bytes. byte ∷ bytes) (unspelled more)) result }
+    ensures { (more : List ℕ) → spelled_bytes (0xDB ∷ code ∷ more)
+        ≡ option_and_then (λ byte. option_map (λ bytes. byte ∷ bytes) (spelled_bytes more)) result }
 {
     if code == TFEND {
         Some(FEND)

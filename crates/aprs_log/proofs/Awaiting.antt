@@ -5,7 +5,7 @@ use Rattle.aprs_io.specs.Cut.{Cut, cut_at}
 use Rattle.aprs_log.specs.States.{KeepsMemory, state_after}
 use Rattle.aprs_log.specs.Fault.{log_cause_of}
 use Rattle.aprs_log.specs.Line.{line_of}
-use Rattle.aprs_log.specs.LogAnswers.{Answers, answers_from, ended, fault_at, tail_cause, then_answers, then_given}
+use Rattle.aprs_log.specs.LogAnswers.{Answers, answers_from, end_with, fault_at, tail_cause, then_answers, prepend_line}
 use Rattle.aprs_log.specs.Awaits.{AwaitsIn, EndsHere, fault_after}
 use Rattle.aprs_log.specs.Reader.{AreAnswersOf}
 use Rattle.aprs_log.specs.declared.line.Line.{Line}
@@ -14,8 +14,8 @@ use Rattle.aprs_log.specs.declared.fault.LineFault.TheVariants as fault
 use Rattle.aprs_log.specs.declared.fault.LogCause.{LogCause}
 use Rattle.aprs_log.specs.declared.fault.LogCause.TheVariants as cause
 use Rattle.aprs_io.specs.declared.input.Ending.{Ending}
-use Rattle.aprs_log.specs.declared.ending.State.{State}
-use Rattle.aprs_log.specs.declared.ending.State.TheVariants.{Reading, Ended, Failed}
+use Rattle.aprs_log.specs.declared.reader.ending.State.{State}
+use Rattle.aprs_log.specs.declared.reader.ending.State.TheVariants.{Reading, Ended, Failed}
 pub use Rattle.aprs_io.proofs.Inputs.{GetsWhole, gets_whole}
 use Rattle.aprs_io.proofs.Inputs.{Gets-after}
 use Rattle.aprs_log.proofs.LogAnswers.{answers_from-line, answers_from-tail, answers_from-long, no_lf}
@@ -35,13 +35,13 @@ pub awaits_line : (known end : Option (List ℕ)) (left line : ℕ) (held : List
     (x : Line)
     (a : Answers) → cut_at 10 held ≡ Some cut
     → Ok x ≡ line_of cut.before → AwaitsIn Reading known end left (line + 1) cut.after a
-    → AwaitsIn Reading known end left line held (then_given x a)
+    → AwaitsIn Reading known end left line held (prepend_line x a)
 awaits_line None end left line held cut x a e f w = tt
 awaits_line (Some input) end left line held cut x a e f w = record {
   text = w.text;
   ending = w.ending;
   gets = w.gets;
-  is = ap (λ a. then_given x a) w.is
+  is = ap (λ a. prepend_line x a) w.is
       ∙ ap (λ r. then_answers (line + 1) r
       (answers_from (line + 1 + 1) (cut.after ++ w.text) w.ending)) f
       ∙ sym (answers_from-line (line + 1) held w.text w.ending cut e);
@@ -50,7 +50,7 @@ awaits_line (Some input) end left line held cut x a e f w = record {
 pub awaits_fault : (known end : Option (List ℕ)) (left line : ℕ) (held : List ℕ) (cut : Cut)
     (f : LineFault) → cut_at 10 held ≡ Some cut
     → Err f ≡ line_of cut.before
-    → AwaitsIn Reading known end left line held (ended (Some (fault_after line (log_cause_of f))))
+    → AwaitsIn Reading known end left line held (end_with (Some (fault_after line (log_cause_of f))))
 awaits_fault known end left line held cut f e g = always known end left line held _
     (λ text c. ap (λ r. then_answers (line + 1) r
     (answers_from (line + 1 + 1) (cut.after ++ text) c)) g
@@ -61,13 +61,13 @@ awaits_fault known end left line held cut f e g = always known end left line hel
 pub awaits_long : (known end : Option (List ℕ)) (left line : ℕ) (held : List ℕ)
     → cut_at 10 held ≡ None
     → MAX_LINE < length held
-    → AwaitsIn Reading known end left line held (ended (Some (fault_after line cause.LongLine)))
+    → AwaitsIn Reading known end left line held (end_with (Some (fault_after line cause.LongLine)))
 awaits_long known end left line held none long = always known end left line held _
     (λ text c. sym (answers_from-long (line + 1) held text c (no_lf held none) long))
 
 pub awaits_end : (known end : Option (List ℕ)) (left line : ℕ) (held : List ℕ) (c : Ending)
     → cut_at 10 held ≡ None → EndsHere c left known end
-    → AwaitsIn Reading known end left line held (ended (fault_at (line + 1) (tail_cause held c)))
+    → AwaitsIn Reading known end left line held (end_with (fault_at (line + 1) (tail_cause held c)))
 awaits_end None end left line held c none ends = tt
 awaits_end (Some input) end left line held c none ends = record {
   text = [];
@@ -126,9 +126,9 @@ pub step_line : (s : State) (known end : Option (List ℕ)) (left line : ℕ) (h
     (x : Line) (cut : Cut) (a : Answers) → s ≡ Reading
     → cut_at 10 held ≡ Some cut → Ok x ≡ line_of cut.before → now ≡ cut.after
     → AwaitsIn s known end left (line + 1) now a
-    → AwaitsIn s known end left line held (then_given x a)
+    → AwaitsIn s known end left line held (prepend_line x a)
 step_line s known end left line held now x cut a going e f rest w =
-    going_on s known end left line held (then_given x a) going
+    going_on s known end left line held (prepend_line x a) going
     (awaits_line known end left line held cut x a e f
     (subst (λ t. AwaitsIn Reading known end left (line + 1) t a) rest
     (went_on s known end left (line + 1) now a going w)))
@@ -136,18 +136,18 @@ step_line s known end left line held now x cut a going e f rest w =
 pub step_fault : (s : State) (known end : Option (List ℕ)) (left line : ℕ) (held : List ℕ)
     (f : LineFault) (cut : Cut) (c : LogCause) (a : Answers) → s ≡ Reading
     → cut_at 10 held ≡ Some cut → Err f ≡ line_of cut.before → c ≡ log_cause_of f
-    → a ≡ ended (Some (fault_after line c))
+    → a ≡ end_with (Some (fault_after line c))
     → AwaitsIn s known end left line held a
 step_fault s known end left line held f cut c a going e g same is =
     going_on s known end left line held a going
     (subst (λ a. AwaitsIn Reading known end left line held a)
-    (sym (is ∙ ap (λ c. ended (Some (fault_after line c))) same))
+    (sym (is ∙ ap (λ c. end_with (Some (fault_after line c))) same))
     (awaits_fault known end left line held cut f e g))
 
 pub step_long : (s : State) (known end : Option (List ℕ)) (left line : ℕ) (held slice : List ℕ)
     (a : Answers) → s ≡ Reading
     → cut_at 10 held ≡ None → slice ≡ held → MAX_LINE < length slice
-    → a ≡ ended (Some (fault_after line cause.LongLine)) → AwaitsIn s known end left line held a
+    → a ≡ end_with (Some (fault_after line cause.LongLine)) → AwaitsIn s known end left line held a
 step_long s known end left line held slice a going none same long is =
     going_on s known end left line held a going
     (subst (λ a. AwaitsIn Reading known end left line held a) (sym is)
@@ -175,7 +175,7 @@ step_more s known after end left n line held now a going le came w =
 stopped_at : (next : State) (o : Option LogCause) (known end : Option (List ℕ)) (left line : ℕ)
     (held : List ℕ) (a : Answers) → next ≡ state_after o
     → AwaitsIn next known end left line held a
-    → (end ≡ known) × (a ≡ ended (fault_at (line + 1) o))
+    → (end ≡ known) × (a ≡ end_with (fault_at (line + 1) o))
 stopped_at next None known end left line held a to w =
     subst (λ s. AwaitsIn s known end left line held a) to w
 stopped_at next (Some c) known end left line held a to w =
@@ -191,7 +191,7 @@ step_end s next known after end left line held now slice e o a going none same i
     let cause = why ∙ ap (λ t. tail_cause t e) (is ∙ same) in
     going_on s known end left line held a going
     (subst (λ a. AwaitsIn Reading known end left line held a)
-    (sym (stopped.1 ∙ ap (λ o. ended (fault_at (line + 1) o)) cause))
+    (sym (stopped.1 ∙ ap (λ o. end_with (fault_at (line + 1) o)) cause))
     (awaits_end known end left line held e none
     (subst (λ end. EndsHere e left known end) (sym stopped.0) ends)))
 
@@ -206,12 +206,12 @@ faults_keep fault.Hex c e k = cc
 -- some answers may always come
 pub something : (s : State) (known : Option (List ℕ)) (left line : ℕ) (held : List ℕ)
     → (a : Answers) × AwaitsIn s known known left line held a
-something Reading None left line held = (ended None, tt)
+something Reading None left line held = (end_with None, tt)
 something Reading (Some input) left line held =
     let g = gets_whole left input (Some input) in (
       answers_from (line + 1) (held ++ g.text) g.ending,
       record
           { text = g.text; ending = g.ending; gets = g.gets; is = refl },
     )
-something Ended known left line held = (ended None, (refl, refl))
-something (Failed c) known left line held = (ended (Some (fault_after line c)), (refl, refl))
+something Ended known left line held = (end_with None, (refl, refl))
+something (Failed c) known left line held = (end_with (Some (fault_after line c)), (refl, refl))

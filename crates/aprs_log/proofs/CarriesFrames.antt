@@ -10,7 +10,7 @@ use Rattle.aprs_ax25.proofs.UiFrames.{frame_of-is, frame_of-same, is-frame_of}
 use Rattle.aprs_kiss.specs.Judgement.{DataFrame, Judgement, data_frame_of, judgement_by, judgement_of}
 use Rattle.aprs_kiss.specs.Spelling.{HasNoEnd, is_escape, is_frame_end, spelling_of, spelling_of_byte}
 use Rattle.aprs_kiss.specs.Stream.{is_nonempty, judgements_of, pieces_of, rest_of}
-use Rattle.aprs_kiss.specs.Unspelling.{unspelled}
+use Rattle.aprs_kiss.specs.Unspelling.{spelled_bytes}
 use Rattle.aprs_kiss.specs.declared.fault.PassFault.TheVariants.{TooLong, NotData}
 use Rattle.aprs_kiss.specs.Sizes.{most_bytes}
 use Rattle.aprs_kiss.proofs.Escapes.{is_true_or_not, spelling_of-unspelled, unspelled-of}
@@ -201,9 +201,9 @@ has_head (h ∷ t) d e = if_head (h % 16 == 0) h t d refl e
 record IsSpelt (piece : List ℕ) (d : DataFrame) : Type 0 where
   head : ℕ
   command : head % 16 ≡ 0
-  is : unspelled piece ≡ Some (head ∷ d.bytes)
+  is : spelled_bytes piece ≡ Some (head ∷ d.bytes)
 
-judged_by : (piece : List ℕ) (o : Option (List ℕ)) (d : DataFrame) → unspelled piece ≡ o
+judged_by : (piece : List ℕ) (o : Option (List ℕ)) (d : DataFrame) → spelled_bytes piece ≡ o
     → judgement_by o ≡ Ok d → IsSpelt piece d
 judged_by piece None d u e = absurd cc
 judged_by piece (Some bytes) d u e =
@@ -212,7 +212,7 @@ judged_by piece (Some bytes) d u e =
 
 judged_data : (piece : List ℕ) (d : DataFrame) → judgement_of piece ≡ Ok d → IsSpelt piece d
 unfolding judgement_of
-judged_data piece d e = judged_by piece (unspelled piece) d refl e
+judged_data piece d e = judged_by piece (spelled_bytes piece) d refl e
 
 or_reason : (r : Result (List ℕ) FrameFault) (frame : List ℕ) → frame_or_reason r ≡ Ok frame
     → r ≡ Ok frame

@@ -22,7 +22,7 @@ use Rattle.aprs_log.specs.Steps.{◌otherwise◌then◌, guard}
 use Rattle.aprs_log.specs.declared.fault.LineFault.{LineFault}
 use Rattle.aprs_log.specs.declared.fault.LineFault.TheVariants as fault
 use Rattle.aprs_log.specs.declared.fault.LogCause.{LogCause}
-use Rattle.aprs_log.specs.declared.ending.State.{State}
+use Rattle.aprs_log.specs.declared.reader.ending.State.{State}
 use Rattle.aprs_log.specs.declared.line.TheConstants.{MAX_LINE}
 
 -- ---- a whole line's fault is no end of the input

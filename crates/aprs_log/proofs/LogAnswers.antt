@@ -10,7 +10,7 @@ use Rattle.std.proofs.lemmas.Bool.{cases_lt}
 use Rattle.aprs_io.specs.Cut.{Cut, cut_at, first_cut, has_byte}
 use Rattle.aprs_log.specs.Line.{line_of}
 use Rattle.aprs_log.proofs.Lines.{line_of-long}
-use Rattle.aprs_log.specs.LogAnswers.{is_lf, tail_cause, fault_at, ended, then_answers, answers_of, answers_from}
+use Rattle.aprs_log.specs.LogAnswers.{is_lf, tail_cause, fault_at, end_with, then_answers, answers_of, answers_from}
 use Rattle.aprs_io.specs.declared.input.Ending.{Ending}
 use Rattle.aprs_log.specs.declared.fault.LogCause.TheVariants as cause
 use Rattle.aprs_log.specs.declared.line.TheConstants.{MAX_LINE}
@@ -87,7 +87,7 @@ uncut_lacks stop text e h =
     let bad : true ≡ false = sym h ∙ lacks in cc
 
 pub answers_from-tail : (n : ℕ) (t : List ℕ) (c : Ending) → length t ≤ position_or_len is_lf t
-    → answers_from n t c ≡ ended (fault_at n (tail_cause t c))
+    → answers_from n t c ≡ end_with (fault_at n (tail_cause t c))
 answers_from-tail n t c h =
     let all : All (λ x. is_lf x ≡ false) t
     = λ k d i. fails_before_first is_lf t k d (omega arith) in
@@ -114,7 +114,7 @@ past held more h = omega (arith, not_below held more h)
 
 pub answers_from-long : (n : ℕ) (held more : List ℕ) (c : Ending)
     → length held ≤ position_or_len is_lf held → MAX_LINE < length held
-    → answers_from n (held ++ more) c ≡ ended (fault_at n (Some cause.LongLine))
+    → answers_from n (held ++ more) c ≡ end_with (fault_at n (Some cause.LongLine))
 answers_from-long n held more c none long =
     let all = held ++ more in
     let p = past held more none in
@@ -123,5 +123,5 @@ answers_from-long n held more c none long =
           ∙ ap (λ r. then_answers n r (answers_from (n + 1) (after_first is_lf all ++ []) c))
           (sym (line_of-long (before_first is_lf all) (simp length-take (omega arith))))
       | inr ge ↦ answers_from-tail n all c ge
-          ∙ ap (λ o. ended (fault_at n o)) (too_long_tail all c (simp length-append (omega arith)))
+          ∙ ap (λ o. end_with (fault_at n o)) (too_long_tail all c (simp length-append (omega arith)))
     ]

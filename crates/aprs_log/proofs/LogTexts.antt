@@ -13,7 +13,7 @@ use Rattle.aprs_io.specs.declared.input.Ending.TheVariants as how
 use Rattle.aprs_log.specs.Fault.{log_cause_of}
 use Rattle.aprs_log.specs.Line.{line_of}
 use Rattle.aprs_log.specs.LineText.{IsWrongLine}
-use Rattle.aprs_log.specs.LogAnswers.{Answers, answers_from, ended, short_tail_cause, fault_at, log_answers, receptions_of, tail_cause, then_answers}
+use Rattle.aprs_log.specs.LogAnswers.{Answers, answers_from, end_with, short_tail_cause, fault_at, log_answers, receptions_of, tail_cause, then_answers}
 use Rattle.aprs_log.specs.LogText.{BeginsWrong, HasLogFault, HasNoLf, IsLogText, IsWrongTail, ReportAll, text_of_lines}
 use Rattle.aprs_log.specs.Reception.{Heard}
 use Rattle.aprs_log.specs.declared.fault.LineFault.{LineFault}
@@ -129,7 +129,7 @@ uncut_by t h (Some cut) e =
 
 -- what has no LF is the tail
 answers_from-last : (n : ℕ) (t : List ℕ) (e : Ending) → Lacks 10 t
-    → answers_from n t e ≡ ended (fault_at n (tail_cause t e))
+    → answers_from n t e ≡ end_with (fault_at n (tail_cause t e))
 answers_from-last n t e h =
     answers_from-tail n t e (no_lf t (uncut_by t h (cut_at 10 t) refl))
 
@@ -230,7 +230,7 @@ is_fault n (Some c) f e =
     }
 
 tells_last : (n : ℕ) (t : List ℕ) (e : Ending) → Lacks 10 t
-    → Tells n t e (ended (fault_at n (tail_cause t e)))
+    → Tells n t e (end_with (fault_at n (tail_cause t e)))
 tells_last n t e h = record {
   sound = λ none.
       let good = good_tail t e (no_cause n (tail_cause t e) none) in

@@ -6,7 +6,7 @@ use Rattle.aprs_io.specs.Cut.{cut_at, is_byte}
 use Rattle.aprs_io.proofs.Cuts.{Lacks}
 use Rattle.aprs_kiss.specs.Judgement.{judgement_of}
 use Rattle.aprs_kiss.specs.Stream.{judgements_of, pieces_of, rest_of}
-use Rattle.aprs_kiss.specs.Unspelling.{unspelled}
+use Rattle.aprs_kiss.specs.Unspelling.{spelled_bytes}
 use Rattle.hex.specs.Hex.{decode_pairs}
 use Rattle.aprs_log.specs.Examples.{heard_after, hi_digits, hi_line, leap_line, line_by, noon, unended_line}
 use Rattle.aprs_log.specs.Line.{frame_in, line_of}
@@ -32,12 +32,12 @@ unfolding moment_in
 leap_read = refl
 
 pub hi_read : line_of hi_line ≡ Ok (line.Heard (heard_after 0))
-unfolding line_of cut_at moment_in days_from_civil day_count days_of_years days_of_months decode_pairs frame_in rest_of judgements_of pieces_of judgement_of unspelled
+unfolding line_of cut_at moment_in days_from_civil day_count days_of_years days_of_months decode_pairs frame_in rest_of judgements_of pieces_of judgement_of spelled_bytes
 hi_read = refl
 
 pub half_line_read : line_of (line_by (codes "2024-05-01T12:00:00.500Z") hi_digits)
     ≡ Ok (line.Heard (heard_after 500))
-unfolding line_of cut_at moment_in days_from_civil day_count days_of_years days_of_months decode_pairs frame_in rest_of judgements_of pieces_of judgement_of unspelled
+unfolding line_of cut_at moment_in days_from_civil day_count days_of_years days_of_months decode_pairs frame_in rest_of judgements_of pieces_of judgement_of spelled_bytes
 half_line_read = refl
 
 pub unended_read : line_of unended_line ≡ Ok (line.Passed reason.Unended)

@@ -1,15 +1,15 @@
 -- What a reader of a log may still answer, by what it holds. Nobody knows yet what the device will
 -- give, so many answers may follow: those do that some rest of the input yields.
 use Rattle.std.specs.Prelude.{◌≡◌, ℕ, ◌+◌, List, ◌++◌, Option, None, Some, IfSome}
-use Rattle.aprs_log.specs.LogAnswers.{Answers, answers_from, ended, Gets}
+use Rattle.aprs_log.specs.LogAnswers.{Answers, answers_from, end_with, Gets}
 use Rattle.aprs_log.specs.declared.fault.LogCause.{LogCause}
 use Rattle.aprs_log.specs.declared.fault.LogCause.TheVariants as cause
 use Rattle.aprs_log.specs.declared.fault.LogFault.{LogFault}
 use Rattle.aprs_io.specs.declared.input.Ending.{Ending}
 pub use Rattle.aprs_io.specs.Input.{EndsHere}
 use Rattle.aprs_io.specs.Device.{Last, Going, Fault, End}
-use Rattle.aprs_log.specs.declared.ending.State.{State}
-use Rattle.aprs_log.specs.declared.ending.State.TheVariants.{Reading, Ended, Failed}
+use Rattle.aprs_log.specs.declared.reader.ending.State.{State}
+use Rattle.aprs_log.specs.declared.reader.ending.State.TheVariants.{Reading, Ended, Failed}
 
 -- Answers that may still follow: some text that can be got of the input, and some way in which it
 -- ends, yield them. `line` lines were given before, `held` was read of the next ones, `left` bytes
@@ -32,9 +32,9 @@ fault_after line why = record { line = line + 1; cause = why }
 abbrev pub AwaitsIn : State → Option (List ℕ) → Option (List ℕ) → ℕ → ℕ → List ℕ → Answers → Type 0
 AwaitsIn Reading known after left line held answers =
     IfSome known (λ input. Awaited left line held input after answers)
-AwaitsIn Ended known after left line held answers = (after ≡ known) × (answers ≡ ended None)
+AwaitsIn Ended known after left line held answers = (after ≡ known) × (answers ≡ end_with None)
 AwaitsIn (Failed cause) known after left line held answers =
-    (after ≡ known) × (answers ≡ ended (Some (fault_after line cause)))
+    (after ≡ known) × (answers ≡ end_with (Some (fault_after line cause)))
 
 -- the fault or the end that is answered from now on, if the reader has stopped
 abbrev pub stop_in : State → ℕ → Option (Option LogFault)

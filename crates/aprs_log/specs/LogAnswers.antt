@@ -43,22 +43,22 @@ fault_at n None = None
 fault_at n (Some cause) = Some (record { line = n; cause = cause })
 
 -- no line, and then this fault or the end
-abbrev pub ended : Option LogFault → Answers
-ended fault = record { given = []; fault = fault }
+abbrev pub end_with : Option LogFault → Answers
+end_with fault = record { given = []; fault = fault }
 
 -- this line, and then these answers
-abbrev pub then_given : Line → Answers → Answers
-then_given x answers = record { given = x ∷ answers.given; fault = answers.fault }
+abbrev pub prepend_line : Line → Answers → Answers
+prepend_line x answers = record { given = x ∷ answers.given; fault = answers.fault }
 
 -- what line n gives, and then the rest, which a fault cuts off
 abbrev pub then_answers : ℕ → Result Line LineFault → Answers → Answers
-then_answers n (Ok x) rest = then_given x rest
-then_answers n (Err fault) rest = ended (fault_at n (Some (log_cause_of fault)))
+then_answers n (Ok x) rest = prepend_line x rest
+then_answers n (Err fault) rest = end_with (fault_at n (Some (log_cause_of fault)))
 
 -- the answers of the lines from number n on, of which the last is what stands after the last LF
 abbrev pub answers_of : ℕ → List (List ℕ) → Ending → Answers
-answers_of n [] ending = ended None
-answers_of n (tail ∷ []) ending = ended (fault_at n (tail_cause tail ending))
+answers_of n [] ending = end_with None
+answers_of n (tail ∷ []) ending = end_with (fault_at n (tail_cause tail ending))
 answers_of n (l ∷ next ∷ more) ending =
     then_answers n (line_of l) (answers_of (n + 1) (next ∷ more) ending)
 

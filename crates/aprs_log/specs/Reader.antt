@@ -5,7 +5,7 @@ use Rattle.aprs_io.specs.declared.device.Counted.{Counted}
 use Rattle.aprs_log.specs.Awaits.{AwaitsIn, last_of_cause, stop_in}
 use Rattle.aprs_io.specs.Cut.{has_byte}
 use Rattle.aprs_io.specs.Device.{Last, Going, End}
-use Rattle.aprs_log.specs.LogAnswers.{Answers, Gets, ended, log_answers, then_given}
+use Rattle.aprs_log.specs.LogAnswers.{Answers, Gets, end_with, log_answers, prepend_line}
 use Rattle.aprs_log.specs.Window.{items}
 use Rattle.aprs_log.specs.declared.line.Line.{Line}
 use Rattle.aprs_log.specs.declared.line.Line.TheVariants as line
@@ -96,9 +96,9 @@ abbrev pub GivesNext : {R : Type 0} → Result (Option Line) LogFault → Option
 GivesNext (Ok (Some x)) known old after new =
     (line_count_of new ≡ line_count_of old + 1) × (stop_of new ≡ None)
     × ((end : Option (List ℕ)) (answers : Answers) → Awaits after end new answers
-    → Awaits known end old (then_given x answers))
+    → Awaits known end old (prepend_line x answers))
 GivesNext (Ok None) known old after new =
-    (line_count_of new ≡ line_count_of old) × (stop_of new ≡ Some None) × Awaits known after old (ended None)
+    (line_count_of new ≡ line_count_of old) × (stop_of new ≡ Some None) × Awaits known after old (end_with None)
 GivesNext (Err fault) known old after new =
     (line_count_of new ≡ line_count_of old) × (stop_of new ≡ Some (Some fault))
-    × Awaits known after old (ended (Some fault))
+    × Awaits known after old (end_with (Some fault))

@@ -2,8 +2,8 @@
 use Rattle.std.specs.Prelude.{◌≢◌, ℕ, ◌+◌, Option, None, Some}
 use Rattle.aprs_io.specs.Device.{Last, Going, End}
 use Rattle.aprs_log.specs.Awaits.{last_of_cause}
-use Rattle.aprs_log.specs.declared.ending.State.{State}
-use Rattle.aprs_log.specs.declared.ending.State.TheVariants.{Reading, Ended, Failed}
+use Rattle.aprs_log.specs.declared.reader.ending.State.{State}
+use Rattle.aprs_log.specs.declared.reader.ending.State.TheVariants.{Reading, Ended, Failed}
 use Rattle.aprs_log.specs.declared.fault.LogCause.{LogCause}
 use Rattle.aprs_log.specs.declared.fault.LogCause.TheVariants as cause
 

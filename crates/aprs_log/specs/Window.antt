@@ -1,6 +1,6 @@
 -- What a clause reads of a buffer.
 use Rattle.std.specs.Prelude.{ℕ, List, slice_range}
-use Rattle.aprs_log.specs.declared.window.Window.{Window}
+use Rattle.aprs_log.specs.declared.reader.window.Window.{Window}
 
 -- the bytes that a buffer holds
 abbrev pub items : Window → List ℕ

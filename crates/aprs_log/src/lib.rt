@@ -1,29 +1,18 @@
 //! Moments, receivers and the lines of a log, where each line holds a frame as it was heard.
 #![tactic(auto)]
 
-mod calendar;
-mod civil;
-mod clock;
-mod ending;
 mod examples;
 mod fault;
-mod fields;
-mod frame_in_line;
 mod laws;
 mod line;
 mod moment;
 mod moment_form;
-mod moment_writer;
-mod next_line;
 mod reader;
 mod receiver;
 mod reception;
-mod scratch;
-mod window;
 mod write;
 
 pub use aprs_io::{Ending, MAX_INPUT};
-pub use clock::Clock;
 pub use examples::{
     lines_are_wrong_from_the_left, lines_report_frames, logs_have_first_faults, moments_have_texts,
 };
@@ -31,8 +20,9 @@ pub use fault::{LineFault, LogCause, LogFault, Reason};
 pub use laws::{lines_are_read_as_they_say, logs_are_read_as_they_say};
 pub use line::{Line, MAX_LINE, read_line};
 pub use moment::Moment;
+pub use moment::clock::Clock;
+pub use moment::writer::MomentWriter;
 pub use moment_form::MomentForm;
-pub use moment_writer::MomentWriter;
 pub use reader::LogReader;
 pub use receiver::Receiver;
 pub use reception::Reception;

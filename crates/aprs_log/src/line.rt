@@ -6,13 +6,17 @@ ghost use Rattle.aprs_log.specs.Line.{frame_or_reason, heard_or_passed, line_of,
 ghost use Rattle.aprs_log.specs.LineText.{IsLine};
 ghost use Rattle.aprs_log.specs.Sizes.{most_line};
 
+mod fields;
+mod frame_in_line;
+pub(crate) mod scratch;
+
 use crate::fault::{LineFault, Reason};
-use crate::fields::{first_moment, take_receiver};
-use crate::frame_in_line::data_in;
-use crate::scratch::Scratch;
 use crate::{Moment, Receiver, Reception};
 use aprs_ax25::Frame;
 use aprs_io::decode_into;
+use fields::{first_moment, take_receiver};
+use frame_in_line::data_in;
+use scratch::Scratch;
 
 /// The most bytes of a line of a log, without its LF.
 pub const MAX_LINE: usize = 8192;

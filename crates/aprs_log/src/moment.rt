@@ -8,8 +8,13 @@ ghost use Rattle.aprs_log.specs.Sizes.{last_milli, last_second};
 ghost use Rattle.aprs_log.specs.Moment.{IsTextOf, IsWritable, moment_text, moment_text_in};
 ghost use Rattle.aprs_log.specs.MomentReading.{form_of_text, moment_of};
 
+mod calendar;
+pub(crate) mod civil;
+pub(crate) mod clock;
+pub(crate) mod writer;
+
 use crate::MomentForm;
-use crate::civil::{CivilTime, SECONDS_LEN};
+use civil::{CivilTime, SECONDS_LEN};
 use std::cmp::Ordering;
 use std::marker::Model;
 

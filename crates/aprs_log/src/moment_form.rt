@@ -2,7 +2,7 @@
 ghost use Rattle.std.specs.Prelude.{◌≡◌};
 ghost use Rattle.aprs_log.specs.Clock.{form_size};
 
-use crate::civil::{MILLIS_LEN, SECONDS_LEN};
+use crate::moment::civil::{MILLIS_LEN, SECONDS_LEN};
 
 /// How a moment is written: to the second, as `2024-05-01T12:00:00Z`, or to the millisecond, as
 /// `2024-05-01T12:00:00.000Z`.

@@ -4,15 +4,19 @@ ghost use Rattle.aprs_io.specs.Input.{most_input};
 ghost use Rattle.aprs_log.specs.States.{KeepsMemory};
 ghost use Rattle.aprs_log.specs.Window.{items};
 
-use crate::ending::{State, refuse_tail};
+mod ending;
+mod next_line;
+mod window;
+
 use crate::fault::{LogCause, LogFault, Reason};
+use crate::line::scratch::Scratch;
 use crate::line::{Line, MAX_LINE};
-use crate::next_line::take_line;
-use crate::scratch::Scratch;
-use crate::window::Window;
 use aprs_io::Counted;
+use ending::{State, refuse_tail};
+use next_line::take_line;
 use std::alloc::Allocator;
 use std::io::Read;
+use window::Window;
 
 /// Returns the lines of a log in order, up to the first fault. It has a buffer of its own, and
 /// keeps the line that it returned last.
@@ -36,7 +40,7 @@ impl<'a, R: Read> LogReader<'a, R> {
     ghost use Rattle.aprs_io.specs.Cut.{cut_at};
     ghost use Rattle.aprs_log.specs.ReaderSteps.{Moves, work_of};
     ghost use Rattle.aprs_log.specs.States.{last_in};
-    ghost use Rattle.aprs_log.specs.LogAnswers.{Answers, then_given};
+    ghost use Rattle.aprs_log.specs.LogAnswers.{Answers, prepend_line};
     ghost use Rattle.aprs_log.specs.Window.{items};
     ghost use Rattle.aprs_log.specs.Reader.{answer_of_stop, answer_with, Awaits, AreAnswersOf, GivesNext, HasLf, Starts, current_of, read_ahead_of, last_told, line_count_of, loan_of, returns_line, source_of, stop_of};
 
@@ -185,7 +189,7 @@ impl<'a, R: Read> LogReader<'a, R> {
             × ((end : Option (List ℕ)) (answers : Answers)
             → Awaits (R.remaining (device_of (source_of self.new))) end self.new answers
             → Awaits (R.remaining (device_of (source_of self.old))) end self.old
-            (then_given (current_of self.new) answers))) }
+            (prepend_line (current_of self.new) answers))) }
         ensures none { OnFalse result ((line_count_of self.new ≡ line_count_of self.old)
             × (current_of self.new ≡ current_of self.old)
             × Moves (R.remaining (device_of (source_of self.old))) self.old

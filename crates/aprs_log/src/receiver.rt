@@ -8,7 +8,7 @@ ghost use Rattle.std.specs.Cmp.Rules.{comparing};
 ghost use Rattle.aprs_log.specs.Receiver.{IsName, is_name, is_name_byte};
 ghost use Rattle.aprs_log.specs.Reception.{bytes_cmp};
 
-use aprs_io::copied;
+use aprs_io::copy_bytes;
 use arrayvec::ArrayVec;
 use std::cmp::Ordering;
 use std::marker::Model;
@@ -39,14 +39,14 @@ impl Receiver {
         ensures { SomeIff result (IsName bytes.now) bytes.now }
     {
         if is_name(bytes) {
-            Some(Receiver::named(bytes))
+            Some(Receiver::with_name(bytes))
         } else {
             None
         }
     }
 
     /// The receiver of this name.
-    pub(crate) fn named(bytes: &[u8]) -> Receiver
+    pub(crate) fn with_name(bytes: &[u8]) -> Receiver
         requires { IsName bytes.now }
         ensures { result ≡ bytes.now }
     {
@@ -69,7 +69,7 @@ impl Receiver {
         ensures { result ≡ self.now }
     {
         Receiver {
-            bytes: copied(&self.bytes),
+            bytes: copy_bytes(&self.bytes),
         }
     }
 }

@@ -8,9 +8,9 @@ ghost use Rattle.aprs_log.specs.Line.{line_of, written_line};
 ghost use Rattle.aprs_log.specs.Moment.{moment_text};
 ghost use Rattle.aprs_log.specs.Sizes.{last_milli, most_line};
 
-use crate::civil::MILLIS_LEN;
 use crate::line::Line;
-use crate::moment_writer::MomentWriter;
+use crate::moment::civil::MILLIS_LEN;
+use crate::moment::writer::MomentWriter;
 use crate::reception::Reception;
 use aprs_io::{Counted, WriteFault, encode_to, put, send};
 use aprs_kiss::cut_plain;

@@ -5,8 +5,8 @@ use Rattle.std.specs.List.{slice_index, list_all}
 use Rattle.std.proofs.lemmas.Bool.{and_parts, ltb-true, lt-ltb, leb-true, le-leb, eqb-true}
 use Rattle.std.proofs.lemmas.Bool.Decides.{nat_tests}
 use Rattle.std.proofs.lemmas.List.{take_at, drop_at, take-append-drop, length-append, length-drop}
-use Rattle.aprs_report.specs.declared.coordinate.Axis.{Axis}
-use Rattle.aprs_report.specs.declared.coordinate.Axis.TheVariants.{Latitude, Longitude}
+use Rattle.aprs_report.specs.declared.place.coordinate.Axis.{Axis}
+use Rattle.aprs_report.specs.declared.place.coordinate.Axis.TheVariants.{Latitude, Longitude}
 use Rattle.aprs_report.specs.Bytes.{is_space}
 use Rattle.aprs_report.specs.Numeral.{is_digit_of}
 use Rattle.aprs_report.specs.Trailing.{ends_in, IsTrimmed}

@@ -5,17 +5,17 @@ use Rattle.std.proofs.lemmas.List.{take-append-drop, drop_all}
 use Rattle.std.specs.List.{list_all}
 use Rattle.std.proofs.lemmas.Bool.{cond_both, and_from, and_parts}
 use Rattle.std.proofs.Math.Seq.{drop-cons}
-use Rattle.aprs_report.specs.Reader.{kept, cut_end}
+use Rattle.aprs_report.specs.Reader.{byte_before, cut_end}
 use Rattle.aprs_report.specs.Trailing.{ends_in, IsTrimmed}
 
 cut_push : (p : ℕ → Bool) (xs : List ℕ) (b : ℕ) → p b ≡ true →
     cut_end p (xs ++ b ∷ []) ≡ cut_end p xs
 unfolding cut_end
 cut_push p [] b h = rw h refl
-cut_push p (x ∷ xs) b h = ap (kept p x) (cut_push p xs b h)
+cut_push p (x ∷ xs) b h = ap (byte_before p x) (cut_push p xs b h)
 
 kept_more : (p : ℕ → Bool) (x : ℕ) (xs : List ℕ) (b : ℕ) →
-    kept p x (xs ++ b ∷ []) ≡ x ∷ (xs ++ b ∷ [])
+    byte_before p x (xs ++ b ∷ []) ≡ x ∷ (xs ++ b ∷ [])
 kept_more p x [] b = refl
 kept_more p x (y ∷ xs) b = refl
 
@@ -23,7 +23,7 @@ cut_stays : (p : ℕ → Bool) (xs : List ℕ) (b : ℕ) → p b ≡ false →
     cut_end p (xs ++ b ∷ []) ≡ xs ++ b ∷ []
 unfolding cut_end
 cut_stays p [] b h = rw h refl
-cut_stays p (x ∷ xs) b h = ap (kept p x) (cut_stays p xs b h) ∙ kept_more p x xs b
+cut_stays p (x ∷ xs) b h = ap (byte_before p x) (cut_stays p xs b h) ∙ kept_more p x xs b
 
 last_apart : (xs : List ℕ) → 0 < length xs → xs ≡ take (length xs - 1) xs ++
     get_or xs (length xs - 1) 0 ∷ []
@@ -53,7 +53,7 @@ cut_nothing p (x ∷ xs) e = absurd (omega arith)
 -- ---- the laws
 
 kept_stops : (p : ℕ → Bool) (b : ℕ) (xs : List ℕ) → ends_in p xs ≡ false →
-    ends_in p (kept p b xs) ≡ false
+    ends_in p (byte_before p b xs) ≡ false
 kept_stops p b [] h =
     cond_both (p b) [] (b ∷ []) (λ (l : List ℕ). ends_in p l ≡ false) (λ _. refl) (λ e. e)
 kept_stops p b (x ∷ xs) h = h
@@ -66,7 +66,7 @@ cut_stops p (b ∷ bytes) = kept_stops p b (cut_end p bytes) (cut_stops p bytes)
 -- one byte more before what was cut
 more_cut : (p : ℕ → Bool) (b : ℕ) (bytes left ending : List ℕ) → bytes ≡ left ++ ending →
     list_all p ending ≡ true
-    → (rest : List ℕ) × (b ∷ bytes ≡ kept p b left ++ rest) × (list_all p rest ≡ true)
+    → (rest : List ℕ) × (b ∷ bytes ≡ byte_before p b left ++ rest) × (list_all p rest ≡ true)
 more_cut p b bytes [] ending whole cut =
     cond_both (p b) [] (b ∷ []) (λ (l : List ℕ). (rest : List ℕ) × (b ∷ bytes ≡ l ++ rest) ×
     (list_all p rest ≡ true))
@@ -99,7 +99,7 @@ unfolding cut_end
 left_alone p [] ending stops cut = all_cut p ending cut
 left_alone p (b ∷ []) ending stops cut = rw (all_cut p ending cut, stops) refl
 left_alone p (b ∷ x ∷ left) ending stops cut =
-    ap (kept p b) (left_alone p (x ∷ left) ending stops cut)
+    ap (byte_before p b) (left_alone p (x ∷ left) ending stops cut)
 
 pub cut_takes : (p : ℕ → Bool) (left bytes : List ℕ) → IsTrimmed p left bytes → cut_end p bytes
     ≡ left

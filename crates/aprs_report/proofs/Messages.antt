@@ -12,8 +12,8 @@ use Rattle.aprs_report.specs.Bytes.{is_alphanumeric, is_line_end}
 use Rattle.aprs_report.specs.Message.{is_id, IsAddressed, IsAnswer, IsNumbered, IsNoAnswer, IsText}
 use Rattle.aprs_report.specs.Message.{IsMessage, IsReply}
 use Rattle.aprs_report.specs.Reading.{Value, message, ack, rej, HasForm}
-use Rattle.aprs_report.specs.Reader.{◌>>=◌, guarded, cut_end, is_colon, addressed_of, answer_at}
-use Rattle.aprs_report.specs.Reader.{id_at, numbered_with, numbered_of, part_with, part_of}
+use Rattle.aprs_report.specs.Reader.{◌>>=◌, value_when, cut_end, is_colon, addressee_and_part_of, answer_at}
+use Rattle.aprs_report.specs.Reader.{id_at, text_and_id_with, text_and_id_of, part_with, part_of}
 use Rattle.aprs_report.specs.Reader.{message_of}
 use Rattle.aprs_report.proofs.Steps.{after_some, guarded_some, some_is, chunk_found, chunk_takes}
 use Rattle.aprs_report.proofs.Steps.{byte_found}
@@ -31,52 +31,52 @@ regroup start b (Some x) = ap (λ (t : List ℕ). Some (t, x.1)) (simp append_as
 regroup start b None = refl
 
 numbered_at_none : (b : ℕ) (bs : List ℕ) → id_at (b ∷ bs) ≡ None →
-    numbered_of (b ∷ bs) ≡ (numbered_of bs >>= λ x. Some (b ∷ x.0, x.1))
-unfolding numbered_of
-numbered_at_none b bs h = ap (λ (o : Option (List ℕ)). numbered_with b o (numbered_of bs)) h
+    text_and_id_of (b ∷ bs) ≡ (text_and_id_of bs >>= λ x. Some (b ∷ x.0, x.1))
+unfolding text_and_id_of
+numbered_at_none b bs h = ap (λ (o : Option (List ℕ)). text_and_id_with b o (text_and_id_of bs)) h
 
 numbered_at_some : (b : ℕ) (bs id : List ℕ) → id_at (b ∷ bs) ≡ Some id →
-    numbered_of (b ∷ bs) ≡ Some ([], id)
-unfolding numbered_of
-numbered_at_some b bs id h = ap (λ (o : Option (List ℕ)). numbered_with b o (numbered_of bs)) h
+    text_and_id_of (b ∷ bs) ≡ Some ([], id)
+unfolding text_and_id_of
+numbered_at_some b bs id h = ap (λ (o : Option (List ℕ)). text_and_id_with b o (text_and_id_of bs)) h
 
 pub to_the_end : (part : List ℕ) (i : ℕ) → drop i part ≡ take (length part - i) (drop i part)
 to_the_end part i =
     sym (take_all (length part - i) (drop i part) (omega (arith, length-drop i part)))
 
 goes_on_suc : (part : List ℕ) (i : ℕ) (t : Option (List ℕ × List ℕ)) → i < length part →
-    id_at (drop i part) ≡ None → with_prefix (take i part) (numbered_of (drop i part)) ≡ t →
-    with_prefix (take (suc i) part) (numbered_of (drop (suc i) part)) ≡ t
+    id_at (drop i part) ≡ None → with_prefix (take i part) (text_and_id_of (drop i part)) ≡ t →
+    with_prefix (take (suc i) part) (text_and_id_of (drop (suc i) part)) ≡ t
 goes_on_suc part i t lt none h =
     let here : drop i part ≡ get_or part i 0 ∷ drop (suc i) part = drop-cons part i 0 lt in
     let step =
     numbered_at_none (get_or part i 0) (drop (suc i) part) (ap id_at (sym here) ∙ none) in
-    ap (λ (f : List ℕ). with_prefix f (numbered_of (drop (suc i) part))) (take-suc part i 0 lt)
-    ∙ sym (regroup (take i part) (get_or part i 0) (numbered_of (drop (suc i) part)))
-    ∙ ap (with_prefix (take i part)) (sym (ap numbered_of here ∙ step)) ∙ h
+    ap (λ (f : List ℕ). with_prefix f (text_and_id_of (drop (suc i) part))) (take-suc part i 0 lt)
+    ∙ sym (regroup (take i part) (get_or part i 0) (text_and_id_of (drop (suc i) part)))
+    ∙ ap (with_prefix (take i part)) (sym (ap text_and_id_of here ∙ step)) ∙ h
 
 pub goes_on : (part : List ℕ) (i : ℕ) (t : Option (List ℕ × List ℕ)) → i < length part →
-    id_at (drop i part) ≡ None → with_prefix (take i part) (numbered_of (drop i part)) ≡ t →
-    with_prefix (take (i + 1) part) (numbered_of (drop (i + 1) part)) ≡ t
+    id_at (drop i part) ≡ None → with_prefix (take i part) (text_and_id_of (drop i part)) ≡ t →
+    with_prefix (take (i + 1) part) (text_and_id_of (drop (i + 1) part)) ≡ t
 goes_on part i t lt none h =
-    subst (λ (k : ℕ). with_prefix (take k part) (numbered_of (drop k part)) ≡ t) (sym (add-one i))
+    subst (λ (k : ℕ). with_prefix (take k part) (text_and_id_of (drop k part)) ≡ t) (sym (add-one i))
     (goes_on_suc part i t lt none h)
 
 pub stops : (part : List ℕ) (i : ℕ) (id : List ℕ) (t : Option (List ℕ × List ℕ)) →
     i < length part → id_at (drop i part) ≡ Some id →
-    with_prefix (take i part) (numbered_of (drop i part)) ≡ t → Some (take i part, id) ≡ t
+    with_prefix (take i part) (text_and_id_of (drop i part)) ≡ t → Some (take i part, id) ≡ t
 stops part i id t lt some h =
     let here : drop i part ≡ get_or part i 0 ∷ drop (suc i) part = drop-cons part i 0 lt in
     let step =
     numbered_at_some (get_or part i 0) (drop (suc i) part) id (ap id_at (sym here) ∙ some) in
     ap (λ (f : List ℕ). Some (f, id)) (sym (append-nil (take i part)))
-    ∙ ap (with_prefix (take i part)) (sym (ap numbered_of here ∙ step)) ∙ h
+    ∙ ap (with_prefix (take i part)) (sym (ap text_and_id_of here ∙ step)) ∙ h
 
 pub ends : (part : List ℕ) (i : ℕ) (t : Option (List ℕ × List ℕ)) → length part ≤ i →
-    with_prefix (take i part) (numbered_of (drop i part)) ≡ t → None ≡ t
-unfolding numbered_of
+    with_prefix (take i part) (text_and_id_of (drop i part)) ≡ t → None ≡ t
+unfolding text_and_id_of
 ends part i t le h =
-    ap (λ (r : List ℕ). with_prefix (take i part) (numbered_of r)) (sym (drop_all i part le)) ∙ h
+    ap (λ (r : List ℕ). with_prefix (take i part) (text_and_id_of r)) (sym (drop_all i part le)) ∙ h
 
 -- ---- what comes before the last six bytes
 
@@ -89,19 +89,19 @@ too_long [] h = absurd (omega arith)
 too_long (b ∷ id) h =
     let short : leb (length id) 5 ≡ false = lt-leb (length id) 5 (omega arith) in
     let no : is_id id ≡ false = and_left _ (list_all is_alphanumeric id) (and_right _ _ short) in
-    ap (λ (p : Bool). guarded p id) (and_right (eqb b 123) _ no)
+    ap (λ (p : Bool). value_when p id) (and_right (eqb b 123) _ no)
 
 skipped : (part : List ℕ) (i : ℕ) → i ≤ length part - 6 →
-    with_prefix (take i part) (numbered_of (drop i part)) ≡ numbered_of part
-skipped part zero h = no_prefix (numbered_of part)
+    with_prefix (take i part) (text_and_id_of (drop i part)) ≡ text_and_id_of part
+skipped part zero h = no_prefix (text_and_id_of part)
 skipped part (suc i) h =
-    goes_on_suc part i (numbered_of part) (omega arith)
+    goes_on_suc part i (text_and_id_of part) (omega arith)
     (too_long (drop i part) (omega (arith, length-drop i part))) (skipped part i (omega arith))
 
 -- an id can begin at one of the last six bytes alone
 pub starts : (part : List ℕ) →
-    with_prefix (take (length part - 6) part) (numbered_of (drop (length part - 6) part))
-    ≡ numbered_of part
+    with_prefix (take (length part - 6) part) (text_and_id_of (drop (length part - 6) part))
+    ≡ text_and_id_of part
 starts part = skipped part (length part - 6) (omega arith)
 
 -- ---- answers
@@ -144,8 +144,8 @@ rej_id part = answer_at (codes "rej") part
 -- ---- ids at the end
 
 found_here : (b : ℕ) (bs : List ℕ) (x : List ℕ × List ℕ) (o : Option (List ℕ)) →
-    ((y : List ℕ × List ℕ) → numbered_of bs ≡ Some y → IsNumbered y.0 y.1 bs) →
-    id_at (b ∷ bs) ≡ o → numbered_with b o (numbered_of bs) ≡ Some x → IsNumbered x.0 x.1 (b ∷ bs)
+    ((y : List ℕ × List ℕ) → text_and_id_of bs ≡ Some y → IsNumbered y.0 y.1 bs) →
+    id_at (b ∷ bs) ≡ o → text_and_id_with b o (text_and_id_of bs) ≡ Some x → IsNumbered x.0 x.1 (b ∷ bs)
 found_here b bs x (Some id) later is e =
     let g = guarded_some (eqb b 123 && is_id bs) bs id is in
     let d = and_parts (eqb b 123) (is_id bs) g.0 in
@@ -157,9 +157,9 @@ found_here b bs x None later is e = after_some _ _ _ _ e (λ y e1 r1.
     subst (λ (x : List ℕ × List ℕ). IsNumbered x.0 x.1 (b ∷ bs)) (some_is (b ∷ y.0, y.1) x r1)
     (record { an_id = more.an_id; whole = ap (λ (t : List ℕ). b ∷ t) more.whole }))
 
-pub numbered_found : (part : List ℕ) (x : List ℕ × List ℕ) → numbered_of part ≡ Some x →
+pub numbered_found : (part : List ℕ) (x : List ℕ × List ℕ) → text_and_id_of part ≡ Some x →
     IsNumbered x.0 x.1 part
-unfolding numbered_of
+unfolding text_and_id_of
 numbered_found [] x e = absurd (none-some x e)
 numbered_found (b ∷ bs) x e =
     found_here b bs x (id_at (b ∷ bs)) (λ y h. numbered_found bs y h) refl e
@@ -171,16 +171,16 @@ no_id_part (b ∷ t) id = and_right (is_alphanumeric b) _ (no_id_part t id)
 no_id : (b : ℕ) (t id : List ℕ) → id_at (b ∷ (t ++ 123 ∷ id)) ≡ None
 no_id b t id =
     let no : is_id (t ++ 123 ∷ id) ≡ false = and_right _ _ (no_id_part t id) in
-    ap (λ (p : Bool). guarded p (t ++ 123 ∷ id)) (and_right (eqb b 123) _ no)
+    ap (λ (p : Bool). value_when p (t ++ 123 ∷ id)) (and_right (eqb b 123) _ no)
 
-numbered_again : (t id : List ℕ) → is_id id ≡ true → numbered_of (t ++ 123 ∷ id) ≡ Some (t, id)
-numbered_again [] id h = numbered_at_some 123 id id (ap (λ (p : Bool). guarded p id) h)
+numbered_again : (t id : List ℕ) → is_id id ≡ true → text_and_id_of (t ++ 123 ∷ id) ≡ Some (t, id)
+numbered_again [] id h = numbered_at_some 123 id id (ap (λ (p : Bool). value_when p id) h)
 numbered_again (b ∷ t) id h =
     numbered_at_none b (t ++ 123 ∷ id) (no_id b t id)
     ∙ ap (λ (o : Option (List ℕ × List ℕ)). o >>= λ x. Some (b ∷ x.0, x.1)) (numbered_again t id h)
 
-pub numbered_takes : (part t id : List ℕ) → IsNumbered t id part → numbered_of part ≡ Some (t, id)
-numbered_takes part t id h = ap numbered_of h.whole ∙ numbered_again t id h.an_id
+pub numbered_takes : (part t id : List ℕ) → IsNumbered t id part → text_and_id_of part ≡ Some (t, id)
+numbered_takes part t id h = ap text_and_id_of h.whole ∙ numbered_again t id h.an_id
 
 -- ---- parts
 
@@ -194,7 +194,7 @@ no_answers part e1 e2 = record {
 found_with : (addressee part info : List ℕ) (acked rejected : Option (List ℕ))
     (numbered : Option (List ℕ × List ℕ)) → IsAddressed addressee part info → ack_id part ≡ acked →
     rej_id part ≡ rejected
-    → numbered_of part ≡ numbered → HasForm (part_with addressee part acked rejected numbered) info
+    → text_and_id_of part ≡ numbered → HasForm (part_with addressee part acked rejected numbered) info
 found_with addressee part info (Some id) rejected numbered a e1 e2 e3 =
     record { part = part; addressed = a; answer = answer_found 97 99 107 part id e1 }
 found_with addressee part info None (Some id) numbered a e1 e2 e3 =
@@ -226,7 +226,7 @@ none_answered : (a b c : ℕ) (part : List ℕ) (o : Option (List ℕ)) →
 none_answered a b c part None e h = refl
 none_answered a b c part (Some id) e h = absurd (h id (answer_found a b c part id e))
 
-none_numbered : (part : List ℕ) (o : Option (List ℕ × List ℕ)) → numbered_of part ≡ o →
+none_numbered : (part : List ℕ) (o : Option (List ℕ × List ℕ)) → text_and_id_of part ≡ o →
     ((t id : List ℕ) → IsNumbered t id part → ⊥) → o ≡ None
 none_numbered part None e h = refl
 none_numbered part (Some x) e h = absurd (h x.0 x.1 (numbered_found part x e))
@@ -262,15 +262,15 @@ text_takes addressee text None part free h =
     rw (
       none_answered 97 99 107 part (ack_id part) refl free.no_ack,
       none_answered 114 101 106 part (rej_id part) refl free.no_rej,
-      none_numbered part (numbered_of part) refl h.1,
+      none_numbered part (text_and_id_of part) refl h.1,
     )
     (ap (λ (t : List ℕ). message addressee t None) (sym h.0))
 
 -- ---- messages
 
-addressed_found : (bytes : List ℕ) (x : List ℕ × List ℕ) → addressed_of bytes ≡ Some x →
+addressed_found : (bytes : List ℕ) (x : List ℕ × List ℕ) → addressee_and_part_of bytes ≡ Some x →
     IsAddressed x.0 x.1 (58 ∷ bytes)
-unfolding addressed_of
+unfolding addressee_and_part_of
 addressed_found bytes x e =
     after_some _ _ _ _ e (λ field e1 r1. after_some _ _ _ _ r1
     (λ name e2 r2. after_some _ _ _ _ r2 (λ colon e3 r3.
@@ -289,8 +289,8 @@ addressed_found bytes x e =
     }))))
 
 addressed_takes : (addressee part info : List ℕ) (h : IsAddressed addressee part info) →
-    addressed_of (h.field ++ (58 ∷ h.bytes)) ≡ Some (addressee, part)
-unfolding addressed_of
+    addressee_and_part_of (h.field ++ (58 ∷ h.bytes)) ≡ Some (addressee, part)
+unfolding addressee_and_part_of
 addressed_takes addressee part info h =
     rw (chunk_takes 9 h.field (58 ∷ h.bytes) h.nine, name_takes h.field addressee h.named)
     (ap (λ (t : List ℕ). Some (addressee, t)) (cut_takes is_line_end part h.bytes h.cut))

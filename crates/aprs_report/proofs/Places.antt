@@ -5,7 +5,7 @@ use Rattle.std.specs.List.{list_all}
 use Rattle.std.proofs.lemmas.Bool.{and_parts, leb-true, le-leb}
 use Rattle.std.proofs.lemmas.Bool.Decides.{nat_tests}
 use Rattle.aprs_report.specs.declared.symbol.Symbol.{Symbol}
-use Rattle.aprs_report.specs.declared.coordinate.Axis.TheVariants.{Latitude, Longitude}
+use Rattle.aprs_report.specs.declared.place.coordinate.Axis.TheVariants.{Latitude, Longitude}
 use Rattle.aprs_report.specs.declared.place.Place.{Place}
 use Rattle.aprs_report.specs.declared.place.Place.TheVariants.{Plain, Base91}
 use Rattle.aprs_report.specs.Bytes.{is_digit}
@@ -13,7 +13,7 @@ use Rattle.aprs_report.specs.Symbol.{is_table, is_code, compressed_table}
 use Rattle.aprs_report.specs.Numeral.{is_digit_of, IsNumeral}
 use Rattle.aprs_report.specs.Compressed.{IsBase91}
 use Rattle.aprs_report.specs.Place.{IsPlainPlace, IsCompressedPlace, IsPlace}
-use Rattle.aprs_report.specs.Reader.{ambiguity_of, plain_of, table_named, named_of, base91_of}
+use Rattle.aprs_report.specs.Reader.{ambiguity_of, plain_of, table_of_byte, table_at, base91_of}
 use Rattle.aprs_report.specs.Reader.{compressed_of, place_of}
 use Rattle.aprs_report.proofs.Steps.{after_some, guarded_some, if_either, some_is, chunk_found}
 use Rattle.aprs_report.proofs.Steps.{chunk_takes, byte_found}
@@ -108,14 +108,14 @@ record TableAt (bytes : List ℕ) (table : ℕ) (rest : List ℕ) : Type 0 where
   pub sound : is_table table ≡ true
   pub whole : bytes ≡ compressed_table table ∷ rest
 
-named_table : (b t : ℕ) → table_named b ≡ Some t → (is_table t ≡ true) × (b ≡ compressed_table t)
+named_table : (b t : ℕ) → table_of_byte b ≡ Some t → (is_table t ≡ true) × (b ≡ compressed_table t)
 named_table b t e = (grind (arith, nat_tests), grind (arith, nat_tests))
 
-table_takes : (t : ℕ) → is_table t ≡ true → table_named (compressed_table t) ≡ Some t
+table_takes : (t : ℕ) → is_table t ≡ true → table_of_byte (compressed_table t) ≡ Some t
 table_takes t h = grind (arith, nat_tests)
 
-named_found : (bytes : List ℕ) (x : ℕ × List ℕ) → named_of bytes ≡ Some x → TableAt bytes x.0 x.1
-unfolding named_of
+named_found : (bytes : List ℕ) (x : ℕ × List ℕ) → table_at bytes ≡ Some x → TableAt bytes x.0 x.1
+unfolding table_at
 named_found [] x e = absurd cc
 named_found (b ∷ rest) x e = after_some _ _ _ _ e (λ t e1 r1.
     let n = named_table b t e1 in
@@ -123,8 +123,8 @@ named_found (b ∷ rest) x e = after_some _ _ _ _ e (λ t e1 r1.
     (record { sound = n.0; whole = ap (λ (b : ℕ). b ∷ rest) n.1 }))
 
 named_takes : (t : ℕ) (rest : List ℕ) → is_table t ≡ true →
-    named_of (compressed_table t ∷ rest) ≡ Some (t, rest)
-unfolding named_of
+    table_at (compressed_table t ∷ rest) ≡ Some (t, rest)
+unfolding table_at
 named_takes t rest h = rw (table_takes t h) refl
 
 base91_found : (text : List ℕ) (n : ℕ) → length text ≡ 4 → base91_of text ≡ Some n →

@@ -12,7 +12,7 @@ use Rattle.aprs_report.specs.Position.{position_byte, IsOptionalStamp, IsPositio
 use Rattle.aprs_report.specs.Reading.{Value, position, object, item, message, ack, rej, status}
 use Rattle.aprs_report.specs.Reading.{raw, HasForm, Reads, OneReading}
 use Rattle.aprs_report.specs.Examples.{Example}
-use Rattle.aprs_report.specs.Reader.{position_of, stamped_of, status_of, report_by_form, reading_of}
+use Rattle.aprs_report.specs.Reader.{position_of, stamped_position_of, status_of, report_by_form, reading_of}
 use Rattle.aprs_report.proofs.Steps.{after_some, some_is, if_either}
 use Rattle.aprs_report.proofs.Stamps.{stamp_found, stamp_takes}
 use Rattle.aprs_report.proofs.Objects.{object_found, object_takes, item_found, item_takes}
@@ -36,9 +36,9 @@ position_found messaging stamp stamp_text bytes v h e = after_some _ _ _ _ e (λ
     }))
 
 stamped_found : (messaging : Bool) (b : ℕ) (bytes : List ℕ) (v : Value) →
-    ((s : Stamp) → position_byte messaging (Some s) ≡ b) → stamped_of messaging bytes ≡ Some v →
+    ((s : Stamp) → position_byte messaging (Some s) ≡ b) → stamped_position_of messaging bytes ≡ Some v →
     HasForm v (b ∷ bytes)
-unfolding stamped_of
+unfolding stamped_position_of
 stamped_found messaging b bytes v first e = after_some _ _ _ _ e (λ s e1 r1.
     let at = stamp_found bytes s e1 in
     subst (HasForm v) (ap (λ (b : ℕ). b ∷ (stamp_bytes s.0 ++ s.1)) (first s.0)
@@ -80,8 +80,8 @@ position_takes messaging stamp place symbol comment info h =
 
 stamped_takes : (messaging : Bool) (s : Stamp) (bytes : List ℕ) (v : Value) → IsStamp s →
     position_of messaging (Some s) bytes ≡ Some v →
-    stamped_of messaging (stamp_bytes s ++ bytes) ≡ Some v
-unfolding stamped_of
+    stamped_position_of messaging (stamp_bytes s ++ bytes) ≡ Some v
+unfolding stamped_position_of
 stamped_takes messaging s bytes v is h = rw (stamp_takes s bytes is) h
 
 pub form_takes : (v : Value) (info : List ℕ) → HasForm v info → report_by_form info ≡ Some v

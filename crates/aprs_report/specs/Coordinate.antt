@@ -3,8 +3,8 @@
 use Rattle.std.specs.Prelude.{◌≡◌, ℕ, ℤ, pos, neg_ℤ, ◌+◌, ◌*◌, ◌^◌, ◌<◌, ◌≤◌, Bool, true, false}
 use Rattle.std.specs.Prelude.{◌||◌, List, [], ◌∷◌, ◌++◌, length}
 use Rattle.std.specs.List.{list_all}
-use Rattle.aprs_report.specs.declared.coordinate.Axis.{Axis}
-use Rattle.aprs_report.specs.declared.coordinate.Axis.TheVariants.{Latitude, Longitude}
+use Rattle.aprs_report.specs.declared.place.coordinate.Axis.{Axis}
+use Rattle.aprs_report.specs.declared.place.coordinate.Axis.TheVariants.{Latitude, Longitude}
 use Rattle.aprs_report.specs.Bytes.{is_digit, is_space}
 use Rattle.aprs_report.specs.Numeral.{IsNumeral}
 
@@ -30,9 +30,9 @@ letter Longitude true = 87
 letter Longitude false = 69
 
 -- The number, or its negative.
-abbrev pub signed : Bool → ℕ → ℤ
-signed true n = neg_ℤ (pos n)
-signed false n = pos n
+abbrev pub with_sign : Bool → ℕ → ℤ
+with_sign true n = neg_ℤ (pos n)
+with_sign false n = pos n
 
 -- What may stand at an ambiguous place. In a longitude a digit may be left there, since the
 -- latitude shows how many places are ambiguous.
@@ -72,6 +72,6 @@ pub record IsCoordinate (axis : Axis) (ambiguity : ℕ) (angle : ℤ) (text : Li
   pub at_degrees : IsNumeral 10 48 degrees degree_text
   pub at_minutes : IsMinutes axis ambiguity minutes (tens ∷ units ∷ tenths ∷ hundredths ∷ [])
   pub within : degrees * per_degree + minutes ≤ limit axis
-  pub value : angle ≡ signed is_negative (degrees * per_degree + minutes)
+  pub value : angle ≡ with_sign is_negative (degrees * per_degree + minutes)
   pub whole : text ≡
       degree_text ++ minutes_text tens units tenths hundredths (letter axis is_negative)

@@ -6,8 +6,8 @@ use Rattle.std.specs.Prelude.{slice_index, Option, Some, None, unwrap_or, codes}
 use Rattle.std.specs.List.{list_all, position as first_place}
 use Rattle.aprs_report.specs.declared.stamp.Stamp.{Stamp}
 use Rattle.aprs_report.specs.declared.symbol.Symbol.{Symbol}
-use Rattle.aprs_report.specs.declared.coordinate.Axis.{Axis}
-use Rattle.aprs_report.specs.declared.coordinate.Axis.TheVariants.{Latitude, Longitude}
+use Rattle.aprs_report.specs.declared.place.coordinate.Axis.{Axis}
+use Rattle.aprs_report.specs.declared.place.coordinate.Axis.TheVariants.{Latitude, Longitude}
 use Rattle.aprs_report.specs.declared.place.Place.{Place}
 use Rattle.aprs_report.specs.declared.place.Place.TheVariants.{Plain, Base91}
 use Rattle.aprs_report.specs.Bytes.{is_digit, is_capital, is_printable, is_space, is_line_end}
@@ -15,7 +15,7 @@ use Rattle.aprs_report.specs.Numeral.{is_digit_of, number}
 use Rattle.aprs_report.specs.Stamp.{is_mark}
 use Rattle.aprs_report.specs.Symbol.{is_table, is_code}
 use Rattle.aprs_report.specs.Compressed.{greatest_base91}
-use Rattle.aprs_report.specs.Coordinate.{per_degree, limit, letter, signed, is_blank}
+use Rattle.aprs_report.specs.Coordinate.{per_degree, limit, letter, with_sign, is_blank}
 use Rattle.aprs_report.specs.Object.{is_item_mark}
 use Rattle.aprs_report.specs.Message.{is_id}
 use Rattle.aprs_report.specs.Reading.{Value, position, object, item, message, ack, rej, status, raw}
@@ -27,8 +27,8 @@ abbrev pub ◌>>=◌ : {A B : Type 0} → Option A → (A → Option B) → Opti
 None >>= f = None
 
 -- The value, if the test passes.
-abbrev pub guarded : {A : Type 0} → Bool → A → Option A
-guarded b x = if b then Some x else None
+abbrev pub value_when : {A : Type 0} → Bool → A → Option A
+value_when b x = if b then Some x else None
 
 -- The first n bytes and the rest.
 abbrev pub chunk_of : ℕ → List ℕ → Option (List ℕ × List ℕ)
@@ -37,22 +37,22 @@ chunk_of n bytes = if nat_lt (length bytes) n then None else Some (take n bytes,
 -- The first byte and the rest, if the byte passes the test.
 abbrev pub byte_of : (ℕ → Bool) → List ℕ → Option (ℕ × List ℕ)
 byte_of p [] = None
-byte_of p (b ∷ rest) = guarded (p b) (b, rest)
+byte_of p (b ∷ rest) = value_when (p b) (b, rest)
 
 -- A byte and what is left after it, or nothing where the byte passes and nothing is left after it.
-abbrev pub kept : (ℕ → Bool) → ℕ → List ℕ → List ℕ
-kept p b [] = if p b then [] else b ∷ []
-kept p b (x ∷ xs) = b ∷ x ∷ xs
+abbrev pub byte_before : (ℕ → Bool) → ℕ → List ℕ → List ℕ
+byte_before p b [] = if p b then [] else b ∷ []
+byte_before p b (x ∷ xs) = b ∷ x ∷ xs
 
 -- The bytes without those at the end that pass the test.
 unfoldable pub cut_end : (ℕ → Bool) → List ℕ → List ℕ
 cut_end p [] = []
-cut_end p (b ∷ bs) = kept p b (cut_end p bs)
+cut_end p (b ∷ bs) = byte_before p b (cut_end p bs)
 
 -- The number that digits of a base are.
 unfoldable pub numeral_of : ℕ → ℕ → List ℕ → Option ℕ
 numeral_of base nought text =
-    guarded (list_all (is_digit_of base nought) text) (number base nought text)
+    value_when (list_all (is_digit_of base nought) text) (number base nought text)
 
 -- ---- stamps
 
@@ -61,7 +61,7 @@ unfoldable pub stamp_at : List ℕ → Option (Stamp × List ℕ)
 stamp_at bytes = do
   digits ← chunk_of 6 bytes
   mark ← byte_of is_mark digits.1
-  guarded (list_all is_digit digits.0) (record { digits = digits.0; mark = mark.0 }, mark.1)
+  value_when (list_all is_digit digits.0) (record { digits = digits.0; mark = mark.0 }, mark.1)
 
 -- ---- plain positions
 
@@ -80,13 +80,13 @@ minutes_of axis ambiguity places =
     if list_all (is_blank axis) (drop (4 - ambiguity) places)
     then (do
       known ← numeral_of 10 48 (take (4 - ambiguity) places)
-      guarded (nat_lt (known * 10 ^ ambiguity) per_degree) (known * 10 ^ ambiguity))
+      value_when (nat_lt (known * 10 ^ ambiguity) per_degree) (known * 10 ^ ambiguity))
     else None
 
 -- Whether a letter is that of the negative half, if it is that of a half.
 abbrev pub half_of : Axis → ℕ → Option Bool
 half_of axis b =
-    if b == letter axis true then Some true else guarded (b == letter axis false) false
+    if b == letter axis true then Some true else value_when (b == letter axis false) false
 
 -- The angle of its degrees and of MM.hh and the letter of its half.
 unfoldable pub angle_of : Axis → ℕ → List ℕ → List ℕ → Option ℤ
@@ -94,8 +94,8 @@ angle_of axis ambiguity degree_text text = do
   degrees ← numeral_of 10 48 degree_text
   minutes ← minutes_of axis ambiguity (places_of text)
   is_negative ← half_of axis (slice_index text 5)
-  guarded (slice_index text 2 == 46 && nat_le (degrees * per_degree + minutes) (limit axis))
-      (signed is_negative (degrees * per_degree + minutes))
+  value_when (slice_index text 2 == 46 && nat_le (degrees * per_degree + minutes) (limit axis))
+      (with_sign is_negative (degrees * per_degree + minutes))
 
 -- The plain position at the start of some bytes, its symbol, and the rest.
 unfoldable pub plain_of : List ℕ → Option (Place × Symbol × List ℕ)
@@ -117,28 +117,28 @@ plain_of bytes = do
 -- ---- compressed positions
 
 -- The table that a byte of a compressed position stands for.
-abbrev pub table_named : ℕ → Option ℕ
-table_named b =
+abbrev pub table_of_byte : ℕ → Option ℕ
+table_of_byte b =
     if nat_le 97 b && nat_le b 106 then Some (b - 49)
-    else guarded (b == 47 || b == 92 || is_capital b) b
+    else value_when (b == 47 || b == 92 || is_capital b) b
 
 -- The table of a compressed position, and the rest.
-unfoldable pub named_of : List ℕ → Option (ℕ × List ℕ)
-named_of [] = None
-named_of (b ∷ rest) = do
-  table ← table_named b
+unfoldable pub table_at : List ℕ → Option (ℕ × List ℕ)
+table_at [] = None
+table_at (b ∷ rest) = do
+  table ← table_of_byte b
   Some (table, rest)
 
 -- The number of a compressed position that four digits are.
 unfoldable pub base91_of : List ℕ → Option ℕ
 base91_of text = do
   n ← numeral_of 91 33 text
-  guarded (nat_le n greatest_base91) n
+  value_when (nat_le n greatest_base91) n
 
 -- The compressed position at the start of some bytes, its symbol, and the rest.
 unfoldable pub compressed_of : List ℕ → Option (Place × Symbol × List ℕ)
 compressed_of bytes = do
-  table ← named_of bytes
+  table ← table_at bytes
   ys ← chunk_of 4 table.1
   xs ← chunk_of 4 ys.1
   code ← byte_of is_code xs.1
@@ -161,8 +161,8 @@ position_of messaging stamp bytes = do
   Some (position messaging stamp place.0 place.1 place.2)
 
 -- The position report with a stamp that bytes after the first are.
-unfoldable pub stamped_of : Bool → List ℕ → Option Value
-stamped_of messaging bytes = do
+unfoldable pub stamped_position_of : Bool → List ℕ → Option Value
+stamped_position_of messaging bytes = do
   stamp ← stamp_at bytes
   position_of messaging (Some stamp.0) stamp.1
 
@@ -171,14 +171,14 @@ stamped_of messaging bytes = do
 -- The name that a field has.
 abbrev pub name_of : List ℕ → Option (List ℕ)
 name_of field =
-    guarded (list_all is_printable field && nat_lt 0 (length (cut_end is_space field)))
+    value_when (list_all is_printable field && nat_lt 0 (length (cut_end is_space field)))
     (cut_end is_space field)
 
 -- Whether the first byte is the mark of a live one or of a killed one, and the rest.
 abbrev pub state_of : ℕ → List ℕ → Option (Bool × List ℕ)
 state_of live [] = None
 state_of live (b ∷ rest) =
-    if b == live then Some (true, rest) else guarded (b == 95) (false, rest)
+    if b == live then Some (true, rest) else value_when (b == 95) (false, rest)
 
 -- The object that bytes after the first are.
 unfoldable pub object_of : List ℕ → Option Value
@@ -194,7 +194,7 @@ object_of bytes = do
 unfoldable pub item_field_of : List ℕ → Option (List ℕ × List ℕ)
 item_field_of bytes = do
   end ← first_place is_item_mark bytes
-  guarded (nat_le 3 end && nat_le end 9) (take end bytes, drop end bytes)
+  value_when (nat_le 3 end && nat_le end 9) (take end bytes, drop end bytes)
 
 -- The item that bytes after the first are.
 unfoldable pub item_of : List ℕ → Option Value
@@ -211,7 +211,7 @@ item_of bytes = do
 unfoldable pub utc_at : List ℕ → Option (Stamp × List ℕ)
 utc_at bytes = do
   stamp ← stamp_at bytes
-  guarded (stamp.0.mark == 122) stamp
+  value_when (stamp.0.mark == 122) stamp
 
 -- The status of a stamp, if there is one, and a text.
 abbrev pub status_with : List ℕ → Option (Stamp × List ℕ) → Value
@@ -229,8 +229,8 @@ abbrev pub is_colon : ℕ → Bool
 is_colon b = b == 58
 
 -- The addressee and the part.
-unfoldable pub addressed_of : List ℕ → Option (List ℕ × List ℕ)
-addressed_of bytes = do
+unfoldable pub addressee_and_part_of : List ℕ → Option (List ℕ × List ℕ)
+addressee_and_part_of bytes = do
   field ← chunk_of 9 bytes
   name ← name_of field.0
   colon ← byte_of is_colon field.1
@@ -243,23 +243,23 @@ answer_at word (x ∷ []) = None
 answer_at word (x ∷ y ∷ []) = None
 answer_at word (x ∷ y ∷ z ∷ id) =
     let begins = x == slice_index word 0 && y == slice_index word 1 && z == slice_index word 2 in
-    guarded (begins && is_id id) id
+    value_when (begins && is_id id) id
 
 -- The id after a brace, with which the bytes begin.
 abbrev pub id_at : List ℕ → Option (List ℕ)
 id_at [] = None
-id_at (b ∷ id) = guarded (b == 123 && is_id id) id
+id_at (b ∷ id) = value_when (b == 123 && is_id id) id
 
 -- A text that ends before this byte, if an id begins here, or later.
-abbrev pub numbered_with : ℕ → Option (List ℕ) → Option (List ℕ × List ℕ) →
+abbrev pub text_and_id_with : ℕ → Option (List ℕ) → Option (List ℕ × List ℕ) →
     Option (List ℕ × List ℕ)
-numbered_with b (Some id) later = Some ([], id)
-numbered_with b None later = later >>= λ x. Some (b ∷ x.0, x.1)
+text_and_id_with b (Some id) later = Some ([], id)
+text_and_id_with b None later = later >>= λ x. Some (b ∷ x.0, x.1)
 
 -- The text and the id of a part, if it has an id.
-unfoldable pub numbered_of : List ℕ → Option (List ℕ × List ℕ)
-numbered_of [] = None
-numbered_of (b ∷ bs) = numbered_with b (id_at (b ∷ bs)) (numbered_of bs)
+unfoldable pub text_and_id_of : List ℕ → Option (List ℕ × List ℕ)
+text_and_id_of [] = None
+text_and_id_of (b ∷ bs) = text_and_id_with b (id_at (b ∷ bs)) (text_and_id_of bs)
 
 -- What a part says: an acknowledgement, a rejection, a text with its id, or all text.
 abbrev pub part_with : List ℕ → List ℕ → Option (List ℕ) → Option (List ℕ) →
@@ -273,12 +273,12 @@ part_with addressee part None None None = message addressee part None
 abbrev pub part_of : List ℕ → List ℕ → Value
 part_of addressee part =
     part_with addressee part (answer_at (codes "ack") part) (answer_at (codes "rej") part)
-    (numbered_of part)
+    (text_and_id_of part)
 
 -- The message or answer that bytes after the first are.
 unfoldable pub message_of : List ℕ → Option Value
 message_of bytes = do
-  addressed ← addressed_of bytes
+  addressed ← addressee_and_part_of bytes
   Some (part_of addressed.0 addressed.1)
 
 -- ---- by the first byte
@@ -289,8 +289,8 @@ report_by_form [] = None
 report_by_form (b ∷ rest) =
     if b == 33 then position_of false None rest
     else (if b == 61 then position_of true None rest
-    else (if b == 47 then stamped_of false rest
-    else (if b == 64 then stamped_of true rest
+    else (if b == 47 then stamped_position_of false rest
+    else (if b == 64 then stamped_position_of true rest
     else (if b == 59 then object_of rest
     else (if b == 41 then item_of rest
     else (if b == 62 then Some (status_of rest)

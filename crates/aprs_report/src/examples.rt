@@ -4,7 +4,7 @@ ghost use Rattle.std.specs.Prelude.{◌≡◌, [], Some, None, true, false, pos,
 ghost use Rattle.aprs_report.specs.declared.place.Place.TheVariants.{Base91};
 ghost use Rattle.aprs_report.specs.Place.{latitude_of, longitude_of};
 ghost use Rattle.aprs_report.specs.Reading.{message, ack, rej, status, raw};
-ghost use Rattle.aprs_report.specs.Examples.{Example, minus, fraction, plain, compressed};
+ghost use Rattle.aprs_report.specs.Examples.{Example, minus, fraction, plain, compressed_position};
 ghost use Rattle.aprs_report.specs.Examples.{stamp_with, leader, leader_item};
 
 /// Examples of plain positions, in hundredths of minutes.
@@ -25,11 +25,11 @@ pub fn plain_examples()
 
 /// Examples of compressed positions. The first is 49.5 degrees north.
 pub fn compressed_examples()
-    ensures full { Example (codes "=/5L!!<*e7> sT") (compressed 47 15427503 20427156) }
-    ensures south_pole { Example (codes "=/{{!!<*e7> sT") (compressed 47 68566680 20427156) }
+    ensures full { Example (codes "=/5L!!<*e7> sT") (compressed_position 47 15427503 20427156) }
+    ensures south_pole { Example (codes "=/{{!!<*e7> sT") (compressed_position 47 68566680 20427156) }
     ensures past_the_pole { Example (codes "=/{{!\"<*e7> sT") raw }
-    ensures end_of_the_east { Example (codes "=/5L!!{{!!> sT") (compressed 47 15427503 68566680) }
-    ensures overlay { Example (codes "=c5L!!<*e7> sT") (compressed 50 15427503 20427156) }
+    ensures end_of_the_east { Example (codes "=/5L!!{{!!> sT") (compressed_position 47 15427503 68566680) }
+    ensures overlay { Example (codes "=c5L!!<*e7> sT") (compressed_position 50 15427503 20427156) }
     ensures north { latitude_of (Base91 15427503 0 []) ≡ fraction (pos 18855837) 380926 }
     ensures south { latitude_of (Base91 68566680 0 []) ≡ fraction (minus 34283340) 380926 }
     ensures west { longitude_of (Base91 0 20427156 []) ≡ fraction (minus 13856184) 190463 }

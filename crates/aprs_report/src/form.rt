@@ -5,11 +5,11 @@ ghost use Rattle.std.specs.Option.{option_map};
 ghost use Rattle.aprs_report.specs.Reading.{view};
 ghost use Rattle.aprs_report.specs.Reader.{report_by_form};
 
-use crate::message::message;
-use crate::object::{item, object};
-use crate::position::{position, stamped};
+use crate::kinds::message::message;
+use crate::kinds::object::{item, object};
+use crate::kinds::position::{position, stamped_position};
+use crate::kinds::status::status;
 use crate::report::Report;
-use crate::status::status;
 
 /// The report of a field, if its bytes have a form.
 #[inline(always)]
@@ -20,8 +20,8 @@ pub fn form(info: &[u8]) -> Option<Report<'_>>
     match info {
         [b'!', rest @ ..] => position(false, None, rest),
         [b'=', rest @ ..] => position(true, None, rest),
-        [b'/', rest @ ..] => stamped(false, rest),
-        [b'@', rest @ ..] => stamped(true, rest),
+        [b'/', rest @ ..] => stamped_position(false, rest),
+        [b'@', rest @ ..] => stamped_position(true, rest),
         [b';', rest @ ..] => object(rest),
         [b')', rest @ ..] => item(rest),
         [b'>', rest @ ..] => Some(status(rest)),

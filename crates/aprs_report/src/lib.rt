@@ -2,20 +2,15 @@
 #![tactic(auto)]
 
 mod bytes;
-mod compressed;
-mod coordinate;
 mod examples;
 mod form;
+mod kinds;
 mod laws;
-mod message;
 mod name;
 mod numeral;
-mod object;
 mod place;
-mod position;
 mod report;
 mod stamp;
-mod status;
 mod symbol;
 
 pub use laws::each_field_has_one_reading;

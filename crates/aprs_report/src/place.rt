@@ -4,10 +4,13 @@ ghost use Rattle.std.specs.Prelude.{◌≡◌};
 ghost use Rattle.std.specs.Option.{option_map};
 ghost use Rattle.aprs_report.specs.Reader.{plain_of, compressed_of, place_of};
 
+mod compressed;
+mod coordinate;
+
 use crate::bytes::{chunk, is_digit_byte};
-use crate::compressed::base91;
-use crate::coordinate::{Axis, PER_DEGREE, ambiguity, angle};
 use crate::symbol::{Symbol, code_at_start, compressed_table_at_start, table_at_start};
+use compressed::base91;
+use coordinate::{Axis, PER_DEGREE, ambiguity, angle};
 
 /// The number of the equator and of the meridian of Greenwich in a compressed position.
 const MIDDLE: i64 = 34_283_340;

@@ -3,7 +3,7 @@
 ghost use Rattle.std.specs.Prelude.{◌≡◌};
 ghost use Rattle.std.specs.Option.{option_map};
 ghost use Rattle.aprs_report.specs.Symbol.{is_table, is_code};
-ghost use Rattle.aprs_report.specs.Reader.{byte_of, table_named, named_of};
+ghost use Rattle.aprs_report.specs.Reader.{byte_of, table_of_byte, table_at};
 
 use crate::bytes::{is_capital_byte, is_digit_byte};
 
@@ -52,7 +52,7 @@ pub fn code_at_start(bytes: &[u8]) -> Option<(u8, &[u8])>
 
 /// The table that a byte of a compressed position stands for.
 fn table_by_name(byte: u8) -> Option<u8>
-    ensures { result ≡ table_named byte }
+    ensures { result ≡ table_of_byte byte }
 {
     match byte {
         b'a'..=b'j' => Some(byte - b'a' + b'0'),
@@ -62,9 +62,9 @@ fn table_by_name(byte: u8) -> Option<u8>
 }
 
 /// The table that a compressed position names, and the rest.
-#[tactic(auto, unfolding(crate::specs::Reader::named_of))]
+#[tactic(auto, unfolding(crate::specs::Reader::table_at))]
 pub fn compressed_table_at_start(bytes: &[u8]) -> Option<(u8, &[u8])>
-    ensures { option_map (λ x. (x.0, x.1.now)) result ≡ named_of bytes.now }
+    ensures { option_map (λ x. (x.0, x.1.now)) result ≡ table_at bytes.now }
 {
     match bytes {
         [] => None,

@@ -170,7 +170,7 @@ module _ (f : List ℕ) (h : FrameOf (parts_of f) f) where
   p = parts_of f
 
   pub two_addresses : 14 ≤ length f
-  two_addresses = let s = FrameOf-IsSound p f h in omega (arith, s.least, s.within)
+  two_addresses = let s = FrameOf-IsSound p f h in omega (arith, s.size.0, s.within)
 
   source_number : octets_number (take 7 (drop 7 f)) ≡ call_number p.source.call
   source_number =

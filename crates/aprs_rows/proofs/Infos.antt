@@ -47,4 +47,4 @@ info_place f h =
     let s = FrameOf-IsSound (parts_of f) f h in
     let n = length-drop 2 (drop (field_len f) f) in
     let m = length-drop (field_len f) f in
-    omega (arith, s.within, s.most, n, m)
+    omega (arith, s.within, s.size.1, n, m)

@@ -18,7 +18,7 @@ use Rattle.aprs_laws.proofs.Soundness.{witnessed}
 use Rattle.aprs_io.specs.Input.{Gets}
 use Rattle.aprs_io.specs.declared.input.Ending.{Ending}
 use Rattle.aprs_io.specs.declared.input.Ending.TheVariants as ending
-use Rattle.aprs_log.specs.LogAnswers.{ended, log_answers, receptions_of}
+use Rattle.aprs_log.specs.LogAnswers.{end_with, log_answers, receptions_of}
 use Rattle.aprs_log.proofs.LogTexts.{answers-log_fault}
 use Rattle.aprs_log.specs.declared.fault.LogFault.{LogFault}
 use Rattle.aprs_booktext.specs.FirstFault.{Reads}
@@ -156,11 +156,11 @@ log_input (Some input) after limit head P Q size other follows h = (
 
 -- a short one has this fault, or none
 pub short_fault : (t : List ℕ) (c : Ending) (fault : LogFault) (rows : List Row)
-    → log_answers t c ≡ ended (Some fault) → ReadsLog (Err (Log fault)) rows rows t c
+    → log_answers t c ≡ end_with (Some fault) → ReadsLog (Err (Log fault)) rows rows t c
 short_fault t c fault rows e = ap (λ a. a.fault) e
 
 pub short_empty : (t : List ℕ) (c : Ending) (rows : List Row)
-    → log_answers t c ≡ ended None → ReadsLog (Ok tt) rows rows t c
+    → log_answers t c ≡ end_with None → ReadsLog (Ok tt) rows rows t c
 short_empty t c rows e = (
   ap (λ a. a.fault) e,
   sym (append-nil rows) ∙ ap (λ a. rows ++ map single (receptions_of a.given)) (sym e),

@@ -1,6 +1,6 @@
 -- Lemmas on the receptions of a log whose lines are read one by one.
 use Rattle.std.proofs.Common.{◌≡◌, ℕ, List, [], ◌∷◌, ◌++◌, Option, None, Some, Result, Ok, Err, IfSome, refl, ap, sym, ◌∙◌, append_assoc, append-nil, map}
-use Rattle.aprs_log.specs.LogAnswers.{Answers, ended, log_answers, receptions_of, then_given}
+use Rattle.aprs_log.specs.LogAnswers.{Answers, end_with, log_answers, receptions_of, prepend_line}
 use Rattle.aprs_log.specs.Reader.{AreAnswersOf}
 use Rattle.aprs_log.specs.declared.Ending.{Ending}
 use Rattle.aprs_log.specs.declared.fault.LogFault.{LogFault}
@@ -34,7 +34,7 @@ Took-none first rows =
 -- the reception of a line, which the reader lent, was put after them
 pub Took-line : (first now after : Answers → Type 0) (old rows new : List Row)
     (x lent : Line) → lent ≡ x → Took first now old rows
-    → ((answers : Answers) → after answers → now (then_given x answers))
+    → ((answers : Answers) → after answers → now (prepend_line x answers))
     → new ≡ rows ++ map single (receptions_of (lent ∷ [])) → Took first after old new
 Took-line first now after old rows new x lent same h next is = record {
   seen = h.seen ++ x ∷ [];
@@ -60,13 +60,13 @@ over_log (Some input) end limit head a r old new h reads =
 -- the log ended
 pub Took-ended : (first now : Answers → Type 0) (old rows : List Row)
     (known end : Option (List ℕ)) (limit : ℕ) (head : List ℕ) → Took first now old rows
-    → now (ended None) → ((a : Answers) → first a
+    → now (end_with None) → ((a : Answers) → first a
     → IfSome known (λ input. AreAnswersOf limit (head ++ input) end a))
     → IfSome known (λ input. HoldsOfGot limit (head ++ input) end (ReadsLog (Ok tt) old rows))
 Took-ended first now old rows known end limit head h may whole =
-    let all = prepended h.seen (ended None) in
+    let all = prepended h.seen (end_with None) in
     over_log known end limit head all (Ok tt) old rows
-    (whole all (h.has.complete (ended None) may))
+    (whole all (h.has.complete (end_with None) may))
     (λ t c e. (
       ap (λ (a : Answers). a.fault) (sym e),
       h.are
@@ -77,14 +77,14 @@ Took-ended first now old rows known end limit head h may whole =
 -- the log has a fault
 pub Took-fault : (first now : Answers → Type 0) (old rows : List Row)
     (known end : Option (List ℕ)) (limit : ℕ) (head : List ℕ) (fault : LogFault)
-    → Took first now old rows → now (ended (Some fault)) → ((a : Answers) → first a
+    → Took first now old rows → now (end_with (Some fault)) → ((a : Answers) → first a
     → IfSome known (λ input. AreAnswersOf limit (head ++ input) end a))
     → IfSome known (λ input. HoldsOfGot limit (head ++ input) end
     (ReadsLog (Err (Log fault)) old rows))
 Took-fault first now old rows known end limit head fault h may whole =
-    let all = prepended h.seen (ended (Some fault)) in
+    let all = prepended h.seen (end_with (Some fault)) in
     over_log known end limit head all (Err (Log fault)) old rows
-    (whole all (h.has.complete (ended (Some fault)) may))
+    (whole all (h.has.complete (end_with (Some fault)) may))
     (λ t c e. ap (λ (a : Answers). a.fault) (sym e))
 
 -- an allocation failed

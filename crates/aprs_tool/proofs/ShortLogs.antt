@@ -2,7 +2,7 @@
 use Rattle.std.proofs.Common.{◌≡◌, ◌==◌, ℕ, ◌+◌, ◌<◌, ◌≤◌, Bool, true, false, not, ◌||◌, cond, List, [], ◌∷◌, length, Option, Some, ap, ◌∙◌, arith}
 use Rattle.std.specs.List.{list_any, position_or_len}
 use Rattle.std.proofs.lemmas.Bool.Decides.{nat_tests}
-use Rattle.aprs_log.specs.LogAnswers.{ended, short_tail_cause, fault_at, is_lf, log_answers, tail_cause}
+use Rattle.aprs_log.specs.LogAnswers.{end_with, short_tail_cause, fault_at, is_lf, log_answers, tail_cause}
 use Rattle.aprs_log.specs.declared.Ending.{Ending}
 use Rattle.aprs_log.specs.declared.Ending.TheVariants as ending
 use Rattle.aprs_log.specs.declared.fault.LogCause.{LogCause}
@@ -21,16 +21,16 @@ no_line (x ∷ t) e = let less = tail_step (is_lf x) (list_any is_lf t) (length 
     (position_or_len is_lf t) e (no_line t) in omega (arith, less)
 
 pub short_tail : (t : List ℕ) (c : Ending) → length t < 8 → list_any is_lf t ≡ false
-    → log_answers t c ≡ ended (fault_at 1 (short_tail_cause c t))
+    → log_answers t c ≡ end_with (fault_at 1 (short_tail_cause c t))
 short_tail t c h none =
     answers_from-tail 1 t c (no_line t none) ∙ ap
-    (λ (k : Option LogCause). ended (fault_at 1 k)) fits
+    (λ (k : Option LogCause). end_with (fault_at 1 k)) fits
   where
     fits : tail_cause t c ≡ short_tail_cause c t
     fits = grind (arith, nat_tests)
 
 -- one that ends in a line
 pub short_unended : (t : List ℕ) → length t < 8 → list_any is_lf t ≡ false → (length t == 0) ≡ false
-    → log_answers t ending.End ≡ ended (fault_at 1 (Some cause.NoNewline))
+    → log_answers t ending.End ≡ end_with (fault_at 1 (Some cause.NoNewline))
 short_unended [] h none some = absurd cc
 short_unended (x ∷ t) h none some = short_tail (x ∷ t) ending.End h none

@@ -5,7 +5,7 @@ use Rattle.std.specs.List.{list_any}
 use Rattle.std.proofs.lemmas.Fmt.{decimal_digit}
 use Rattle.aprs_io.specs.declared.input.Ending.{Ending}
 use Rattle.aprs_io.specs.declared.input.Ending.TheVariants.{End, Read}
-use Rattle.aprs_log.specs.LogAnswers.{Answers, ended, short_tail_cause, fault_at, is_lf, log_answers, receptions_of}
+use Rattle.aprs_log.specs.LogAnswers.{Answers, end_with, short_tail_cause, fault_at, is_lf, log_answers, receptions_of}
 use Rattle.aprs_log.specs.Reception.{Heard}
 use Rattle.aprs_laws.specs.Gap.{IsGap, millis_of}
 use Rattle.aprs_laws.specs.Lists.{◌∈◌}
@@ -26,7 +26,7 @@ use Rattle.aprs_tool.proofs.ShortLogs.{short_tail}
 
 -- ---- logs
 
-nothing_read : log_answers [] End ≡ ended None
+nothing_read : log_answers [] End ≡ end_with None
 nothing_read = short_tail [] End (omega arith) refl
 
 pub empty_log : GivesSet 30 [] End []

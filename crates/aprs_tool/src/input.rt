@@ -4,7 +4,7 @@ ghost use Rattle.std.specs.List.{list_any};
 ghost use Rattle.std.specs.Result.{result_err};
 ghost use Rattle.aprs_io.specs.Device.{device_of};
 ghost use Rattle.aprs_io.specs.Input.{last_of_ending, most_input};
-ghost use Rattle.aprs_log.specs.LogAnswers.{ended, is_lf, log_answers, receptions_of};
+ghost use Rattle.aprs_log.specs.LogAnswers.{end_with, is_lf, log_answers, receptions_of};
 ghost use Rattle.aprs_laws.specs.BookValue.{HaveOneGap, Holds};
 ghost use Rattle.aprs_laws.specs.JoinRow.{single};
 ghost use Rattle.aprs_laws.specs.Witnesses.{witnesses};
@@ -232,7 +232,7 @@ fn read_short(short: &ShortInput) -> Result<(), LogFault>
     requires few { length short.now.bytes.items < HEAD_LEN }
     requires one { list_any is_lf short.now.bytes.items ≡ false }
     ensures answers { log_answers short.now.bytes.items short.now.ending
-        ≡ ended (result_err result) }
+        ≡ end_with (result_err result) }
     ensures last { last_of_short result ≡ last_of_ending short.now.ending }
 {
     match short.ending {

@@ -51,6 +51,6 @@ returns-clause-spelled c =
     record {
       name_is = c.requires.name;
       bytes_are = c.put_hex-end.ensures.bytes;
-      few = (omega (arith, sound.within, sound.least), IsSound-len frame sound);
+      few = (omega (arith, sound.within, sound.size.0), IsSound-len frame sound);
       frame_is = sound;
     }

@@ -1,12 +1,12 @@
 use Rattle.std.proofs.Common.{refl}
 use Rattle.aprs_report.specs.Reader.{report_by_form, object_of, item_of, item_field_of, stamp_at}
-use Rattle.aprs_report.specs.Reader.{place_of, plain_of, compressed_of, named_of, base91_of}
+use Rattle.aprs_report.specs.Reader.{place_of, plain_of, compressed_of, table_at, base91_of}
 use Rattle.aprs_report.specs.Reader.{angle_of, minutes_of, numeral_of, cut_end}
 use Rattle.aprs_report.proofs.Readings.{computed}
 use Rattle.aprs_report.proofs.examples.object_examples.Goals as goal
 
 pub returns : goal.returns
-unfolding report_by_form object_of item_of item_field_of stamp_at place_of plain_of compressed_of named_of
+unfolding report_by_form object_of item_of item_field_of stamp_at place_of plain_of compressed_of table_at
     base91_of angle_of minutes_of numeral_of cut_end
 returns c = record {
   live = computed refl;

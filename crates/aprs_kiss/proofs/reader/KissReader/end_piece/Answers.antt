@@ -1,6 +1,6 @@
 use Rattle.std.proofs.Common.{◌≡◌, ◌∙◌, ◌∷◌, [], ap, sym, refl, subst, length, Some, arith}
 use Rattle.aprs_kiss.specs.Judgement.{Judgement, data_frame_of}
-use Rattle.aprs_kiss.specs.Reader.{judged_as}
+use Rattle.aprs_kiss.specs.Reader.{judgements_of_outcome}
 use Rattle.aprs_kiss.proofs.Pieces.{HasNoEnd-nil}
 use Rattle.aprs_kiss.proofs.Holding.{HoldsAfter-in, judgement_of-plain, judgement_of-long, judgement_of-broken}
 use Rattle.aprs_kiss.proofs.reader.KissReader.end_piece.Goals as goal
@@ -10,7 +10,7 @@ alone a b e = ap (λ j. j ∷ []) (sym e)
 
 pub returns-in-Plain-clause-judged : goal.returns-in-Plain-clause-judged
 returns-in-Plain-clause-judged c e s l =
-    subst (λ bytes. judged_as (Some c.port_of.result) bytes
+    subst (λ bytes. judgements_of_outcome (Some c.port_of.result) bytes
     ≡ data_frame_of bytes ∷ []) c.as_slice.ensures.value c.port_of.ensures.judged
     ∙ alone _ _
     (judgement_of-plain e c.args.self.now.bytes.items

@@ -1,5 +1,5 @@
 use Rattle.std.proofs.Common.{◌∙◌, ap, sym, refl, Some}
-use Rattle.aprs_kiss.specs.Unspelling.{unspelled}
+use Rattle.aprs_kiss.specs.Unspelling.{spelled_bytes}
 use Rattle.aprs_kiss.proofs.Pieces.{HasNoEnd-append, HasNoEnd-one}
 use Rattle.aprs_kiss.proofs.Escapes.{unspelled-nil}
 use Rattle.aprs_kiss.proofs.Holding.{HoldsAfter-in, HoldsAfter-escape_again}
@@ -13,7 +13,7 @@ returns-in-Ended c e s =
       held = record {
         prefix = e;
         escape = refl;
-        spelled = ap unspelled empty ∙ unspelled-nil ∙ ap Some (sym c.clear.ensures);
+        spelled = ap spelled_bytes empty ∙ unspelled-nil ∙ ap Some (sym c.clear.ensures);
       };
     }
 

@@ -1,5 +1,5 @@
 use Rattle.std.proofs.Common.{◌≡◌, ◌∙◌, ◌++◌, ap, sym, length-append, arith, Some}
-use Rattle.aprs_kiss.specs.Unspelling.{unspelled}
+use Rattle.aprs_kiss.specs.Unspelling.{spelled_bytes}
 use Rattle.aprs_kiss.proofs.Pieces.{HasNoEnd-append}
 use Rattle.aprs_kiss.proofs.Escapes.{unspelled-run-all}
 use Rattle.aprs_kiss.proofs.Holding.{HasNoEnd-plain, HoldsAfter-in, HoldsAfter-more, HoldsAfter-run, nonempty_from_test}
@@ -27,5 +27,5 @@ returns-in-Ended-2 c e s =
     c.append.ensures.stands (e ++ c.args.run.now)
     (HasNoEnd-append e _ s.whole (HasNoEnd-plain _ c.requires.plain))
     (rw same (nonempty_from_test c.args.run.now c.if-is_empty.ensures))
-    (ap unspelled same ∙ unspelled-run-all c.args.run.now c.requires.plain
+    (ap spelled_bytes same ∙ unspelled-run-all c.args.run.now c.requires.plain
     ∙ ap (λ l. Some (l ++ c.args.run.now)) (sym c.clear.ensures))

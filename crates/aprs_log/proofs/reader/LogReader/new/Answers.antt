@@ -1,6 +1,6 @@
 use Rattle.std.proofs.Common.{◌-◌, length}
 use Rattle.aprs_log.specs.Window.{items}
-use Rattle.aprs_log.specs.declared.ending.State.TheVariants.{Reading}
+use Rattle.aprs_log.specs.declared.reader.ending.State.TheVariants.{Reading}
 use Rattle.aprs_log.proofs.Awaiting.{from_start, something}
 use Rattle.aprs_log.proofs.reader.LogReader.new.Goals as goal
 

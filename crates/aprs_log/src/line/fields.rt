@@ -1,0 +1,59 @@
+//! The first two fields of a line. Each ends before a space and has none in it, so a moment ends at
+//! one of two places, and a name where its bytes do.
+ghost use Rattle.std.specs.Prelude.{◌≡◌, ◌↔◌, IsTrue, MatchOption};
+ghost use Rattle.std.specs.List.{position};
+ghost use Rattle.aprs_log.specs.Fields.{EndsMoment, EndsNoMoment, HasSpace, TakesMoment, TakesName, TakesNoMoment, TakesNoName, ends_name};
+
+use crate::moment::civil::{MILLIS_LEN, SECONDS_LEN};
+use crate::moment::clock::Clock;
+use crate::receiver::{MAX_NAME, is_name_byte};
+use crate::{Moment, Receiver};
+
+/// The moment that a line begins with, and what stands after it and a space.
+pub fn first_moment<'a>(clock: &mut Clock, line: &'a [u8]) -> Option<(Moment, &'a [u8])>
+    ensures { MatchOption result (TakesNoMoment line.now)
+        (λ found. TakesMoment line.now found.0 found.1.now) }
+{
+    let len = moment_len(line)?;
+    let moment = clock.parse(&line[..len])?;
+    Some((moment, &line[len + 1..]))
+}
+
+/// The bytes of the moment that a line may begin with, by the place of the space after it.
+fn moment_len(line: &[u8]) -> Option<usize>
+    ensures { MatchOption result (EndsNoMoment line.now) (EndsMoment line.now) }
+{
+    if has_space(line, SECONDS_LEN) {
+        Some(SECONDS_LEN)
+    } else if has_space(line, MILLIS_LEN) {
+        Some(MILLIS_LEN)
+    } else {
+        None
+    }
+}
+
+/// The receiver whose name a text begins with, and what stands after it and a space.
+pub fn take_receiver(text: &[u8]) -> Option<(Receiver, &[u8])>
+    ensures { MatchOption result (TakesNoName text.now)
+        (λ found. TakesName text.now found.0 found.1.now) }
+{
+    let len = name_end(text)?;
+    if len == 0 || len > MAX_NAME || text[len] != b' ' {
+        return None;
+    }
+    Some((Receiver::with_name(&text[..len]), &text[len + 1..]))
+}
+
+/// Where the first byte stands that no name has.
+fn name_end(text: &[u8]) -> Option<usize>
+    ensures { result ≡ position ends_name text.now }
+{
+    text.iter().position(|byte| !is_name_byte(*byte))
+}
+
+/// Whether a space stands at a place.
+fn has_space(text: &[u8], at: usize) -> bool
+    ensures { IsTrue result ↔ HasSpace text.now at }
+{
+    text.get(at) == Some(&b' ')
+}

@@ -1,0 +1,237 @@
+//! Dates of the civil calendar with a time of the day.
+ghost use Rattle.std.specs.Prelude.{◌≡◌, ◌≤◌, ◌<◌, ◌+◌, ◌*◌, ◌/◌, ◌%◌, ◌∷◌, ◌++◌, [], length, pos, SomeIff, IfSome};
+ghost use Rattle.aprs_log.specs.CivilMoment.{IsCivil};
+ghost use Rattle.aprs_log.specs.MomentReading.{Civil, civil_text, is_time, second_of_day, seconds_of};
+ghost use Rattle.aprs_log.specs.Sizes.{last_second, seconds_size};
+ghost use Rattle.aprs_log.specs.Places.{near_civil, near_digit, near_millis, near_pair};
+
+use crate::MomentForm;
+use crate::moment::calendar::{date_of, day_number};
+use std::marker::Model;
+
+/// The bytes of a date and time's text to the second.
+pub const SECONDS_LEN: usize = 20;
+
+/// The bytes of a date and time's text to the millisecond.
+pub const MILLIS_LEN: usize = 24;
+
+/// A date and a time of its day, as the digits of a text say them.
+#[derive(Clone, Copy)]
+pub struct CivilTime {
+    year: u16,
+    month: u8,
+    day: u8,
+    hour: u8,
+    minute: u8,
+    second: u8,
+}
+
+impl Model for CivilTime {
+    ghost Value = { Civil };
+
+    ghost view = { λ c. record {
+      year = c.year;
+      month = c.month;
+      day = c.day;
+      hour = c.hour;
+      minute = c.minute;
+      second = c.second;
+    } };
+
+    ghost invariant = { λ c. (c.year < 10000) × (c.month < 100) × (c.day < 100)
+        × (c.hour < 100) × (c.minute < 100) × (c.second < 100) };
+
+    ghost inverse = { λ c. record {
+      year = c.year;
+      month = c.month;
+      day = c.day;
+      hour = c.hour;
+      minute = c.minute;
+      second = c.second;
+    } };
+}
+
+impl CivilTime {
+    /// The date and time of a text, and its milliseconds, where the bytes are in the form.
+    pub fn parse(form: MomentForm, text: &[u8]) -> Option<(CivilTime, u16)>
+        ensures { SomeIff result
+            (civil_text form (near_civil text.now) (near_millis form text.now) ≡ text.now)
+            (near_civil text.now, near_millis form text.now) }
+    {
+        match form {
+            MomentForm::Seconds => CivilTime::parse_short(text),
+            MomentForm::Millis => CivilTime::parse_long(text),
+        }
+    }
+
+    /// The same of a text as `2024-05-01T12:00:00Z`.
+    fn parse_short(text: &[u8]) -> Option<(CivilTime, u16)>
+        ensures { SomeIff result (civil_text MomentForm.Seconds (near_civil text.now) 0 ≡ text.now)
+            (near_civil text.now, 0) }
+    {
+        if text.len() != SECONDS_LEN {
+            return None;
+        }
+        let civil = CivilTime::from_digits(text);
+        if civil.short_text().as_slice() == text {
+            Some((civil, 0))
+        } else {
+            None
+        }
+    }
+
+    /// The same of a text as `2024-05-01T12:00:00.000Z`.
+    fn parse_long(text: &[u8]) -> Option<(CivilTime, u16)>
+        ensures { SomeIff result (civil_text MomentForm.Millis (near_civil text.now)
+            (near_millis MomentForm.Millis text.now) ≡ text.now)
+            (near_civil text.now, near_millis MomentForm.Millis text.now) }
+    {
+        if text.len() != MILLIS_LEN {
+            return None;
+        }
+        let civil = CivilTime::from_digits(text);
+        let millis = u16::from(near_digit(text[20])) * 100 + u16::from(near_pair(text, 21));
+        if civil.text(millis).as_slice() == text {
+            Some((civil, millis))
+        } else {
+            None
+        }
+    }
+
+    /// The time whose digits stand at their places in a text.
+    fn from_digits(text: &[u8]) -> CivilTime
+        requires { seconds_size ≤ length text.now }
+        ensures { result ≡ near_civil text.now }
+    {
+        CivilTime {
+            year: u16::from(near_pair(text, 0)) * 100 + u16::from(near_pair(text, 2)),
+            month: near_pair(text, 5),
+            day: near_pair(text, 8),
+            hour: near_pair(text, 11),
+            minute: near_pair(text, 14),
+            second: near_pair(text, 17),
+        }
+    }
+
+    /// The date and the time of the day that are so many seconds after 1970-01-01T00:00:00Z.
+    pub fn from_seconds(seconds: u64) -> CivilTime
+        requires { seconds ≤ last_second }
+        ensures real { IsCivil result }
+        ensures number { seconds_of result ≡ seconds }
+    {
+        let second = (seconds % 86_400) as u32;
+        let (year, month, day) = date_of((seconds / 86_400) as u32);
+        CivilTime {
+            year,
+            month,
+            day,
+            hour: (second / 3600) as u8,
+            minute: (second / 60 % 60) as u8,
+            second: (second % 60) as u8,
+        }
+    }
+
+    /// The seconds from 1970-01-01T00:00:00Z to this time, where the calendar and the day have it.
+    pub fn seconds(&self) -> Option<u64>
+        ensures value { SomeIff result (IsCivil self.now) (seconds_of self.now) }
+        ensures bound { IfSome result (λ n. n ≤ last_second) }
+    {
+        if self.year < 1970 || self.year > 2099 || !self.is_time() {
+            return None;
+        }
+        match day_number(self.year, self.month, self.day) {
+            Some(day) => Some(u64::from(day) * 86_400 + u64::from(self.second_of_day())),
+            None => None,
+        }
+    }
+
+    /// Whether a day has this hour, minute and second.
+    fn is_time(&self) -> bool
+        ensures { result ≡ is_time self.now }
+    {
+        self.hour < 24 && self.minute < 60 && self.second < 60
+    }
+
+    fn second_of_day(&self) -> u32
+        ensures value { result ≡ second_of_day self.now }
+        ensures bound { result < 363000 }
+    {
+        u32::from(self.hour) * 3600 + u32::from(self.minute) * 60 + u32::from(self.second)
+    }
+
+    /// The text to the second, as `2024-05-01T12:00:00Z`.
+    fn short_text(&self) -> [u8; SECONDS_LEN]
+        ensures { result ≡ civil_text MomentForm.Seconds self.now 0 }
+    {
+        let century = (self.year / 100) as u8;
+        let year = (self.year % 100) as u8;
+        [
+            tens(century),
+            units(century),
+            tens(year),
+            units(year),
+            b'-',
+            tens(self.month),
+            units(self.month),
+            b'-',
+            tens(self.day),
+            units(self.day),
+            b'T',
+            tens(self.hour),
+            units(self.hour),
+            b':',
+            tens(self.minute),
+            units(self.minute),
+            b':',
+            tens(self.second),
+            units(self.second),
+            b'Z',
+        ]
+    }
+
+    /// The text to the millisecond, as `2024-05-01T12:00:00.000Z`.
+    pub fn text(&self, millis: u16) -> [u8; MILLIS_LEN]
+        requires { millis < 1000 }
+        ensures { result ≡ civil_text MomentForm.Millis self.now millis }
+    {
+        let mut text = [b'Z'; MILLIS_LEN];
+        text[..19].copy_from_slice(&self.short_text()[..19]);
+        text[19] = b'.';
+        text[20] = b'0' + (millis / 100) as u8;
+        text[21] = tens((millis % 100) as u8);
+        text[22] = units((millis % 100) as u8);
+        text
+    }
+}
+
+/// The value of a digit, and of another byte that of the digit next to it.
+fn near_digit(byte: u8) -> u8
+    ensures value { result ≡ near_digit byte }
+    ensures bound { result ≤ 9 }
+{
+    byte.saturating_sub(b'0').min(9)
+}
+
+/// The number whose two digits stand at `i`.
+fn near_pair(text: &[u8], i: usize) -> u8
+    requires { i + 1 < length text.now }
+    ensures value { result ≡ near_pair text.now i }
+    ensures bound { result < 100 }
+{
+    near_digit(text[i]) * 10 + near_digit(text[i + 1])
+}
+
+/// The tens digit of a number.
+pub fn tens(n: u8) -> u8
+    requires { n < 100 }
+    ensures { result ≡ 48 + n / 10 }
+{
+    b'0' + n / 10
+}
+
+/// The last digit of a number.
+pub fn units(n: u8) -> u8
+    ensures { result ≡ 48 + n % 10 }
+{
+    b'0' + n % 10
+}
