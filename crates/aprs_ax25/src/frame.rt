@@ -121,7 +121,7 @@ impl Frame {
         Frame { bytes }
     }
 
-    /// The frame that is all the bytes.
+    /// The frame whose bytes these are.
     fn from_bytes(bytes: &[u8]) -> Frame
         requires { frame_fault bytes.now ≡ None }
         ensures value { result ≡ bytes.now }

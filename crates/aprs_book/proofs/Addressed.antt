@@ -6,11 +6,11 @@ use Rattle.aprs_report.specs.Reader.{reading_of}
 use Rattle.aprs_report.proofs.Readings.{reads_as}
 use Rattle.aprs_laws.specs.Key.{Key}
 use Rattle.aprs_book.specs.Reports.{report_of}
-use Rattle.aprs_book.specs.Messages.{message_in, message_reported}
-use Rattle.aprs_book.specs.MessageRows.{answer_reported, is_addressed}
+use Rattle.aprs_book.specs.Messages.{message_in, reported_message}
+use Rattle.aprs_book.specs.MessageRows.{reported_answer, is_addressed}
 
 no_message : (call : Call) (v : Value) (info : List ℕ) → Reads v info → is_addressed info ≡ false
-    → message_reported call v ≡ None
+    → reported_message call v ≡ None
 no_message call (message addressee text id) info r n =
     let t : true ≡ false = sym (ap is_addressed r.addressed.whole) ∙ n in absurd (cc)
 no_message call (position m s p y c) info r n = refl
@@ -22,7 +22,7 @@ no_message call (status s text) info r n = refl
 no_message call raw info r n = refl
 
 no_answer : (v : Value) (info : List ℕ) → Reads v info → is_addressed info ≡ false
-    → answer_reported v ≡ None
+    → reported_answer v ≡ None
 no_answer (ack addressee id) info r n =
     let t : true ≡ false = sym (ap is_addressed r.addressed.whole) ∙ n in absurd (cc)
 no_answer (rej addressee id) info r n =
@@ -38,5 +38,5 @@ pub no_message_in : (k : Key) → is_addressed k.info ≡ false → message_in k
 no_message_in k n = no_message k.source (report_of k) k.info (reads_as k.info) n
 
 pub no_answer_in : (info : List ℕ) → is_addressed info ≡ false
-    → answer_reported (reading_of info) ≡ None
+    → reported_answer (reading_of info) ≡ None
 no_answer_in info n = no_answer (reading_of info) info (reads_as info) n

@@ -12,7 +12,7 @@ use Rattle.aprs_laws.specs.Order.{IsUpTo}
 use Rattle.aprs_laws.specs.Key.{key_cmp}
 use Rattle.aprs_laws.specs.Row.{Row, row_key}
 use Rattle.aprs_laws.proofs.Orders.{key_total}
-use Rattle.aprs_laws.specs.Inserted.{side, grown, bridged, inserted}
+use Rattle.aprs_laws.specs.Inserted.{side, grow_row, bridge_row, insert_heard}
 use Rattle.aprs_laws.proofs.Pushes.{empty_or_last}
 use Rattle.aprs_rows.proofs.Cases.{by_order}
 use Rattle.aprs_book.proofs.Entries.{test, IsWritten, set_same, found_key, AreKeyed-set_value, AreKeyed-insert_entry}
@@ -21,17 +21,18 @@ use Rattle.aprs_rows.specs.Head.{head_cmp, HasHead}
 use Rattle.aprs_rows.specs.declared.row.head.Head.{Head}
 use Rattle.aprs_book.specs.Keyed.{HaveHead, rows_of, AreKeyed, AreFilled, AreKept, EndsUpTo, IsEndOf}
 
-bridged_some : (gap : ℕ) (x : Heard) (j : Row) (rows : List Row) → 0 < length (bridged gap x j rows)
+bridged_some : (gap : ℕ) (x : Heard) (j : Row) (rows : List Row)
+    → 0 < length (bridge_row gap x j rows)
 bridged_some gap x j [] = omega arith
 bridged_some gap x j (s ∷ rows) =
     by_order (side gap s x) (λ o. rw o (omega arith)) (λ o. rw o (omega arith))
     (λ o. rw o (omega arith))
 
-pub inserted_some : (gap : ℕ) (x : Heard) (rows : List Row) → 0 < length (inserted gap x rows)
+pub inserted_some : (gap : ℕ) (x : Heard) (rows : List Row) → 0 < length (insert_heard gap x rows)
 inserted_some gap x [] = omega arith
 inserted_some gap x (r ∷ rows) =
     by_order (side gap r x) (λ o. rw o (omega arith))
-    (λ o. rw o (bridged_some gap x (grown r x) rows)) (λ o. rw o (omega arith))
+    (λ o. rw o (bridged_some gap x (grow_row r x) rows)) (λ o. rw o (omega arith))
 
 module _ {V : Type 0} (rows : V → List Row) where
   -- all rows, by the values alone
@@ -151,7 +152,7 @@ module _ {V : Type 0} (rows : V → List Row) where
 
   pub written_filled : {A E : Type 0} (gap : ℕ) (x : Heard) (k : Head) (es es' : List (Head × V))
       (old new : V) (r : Result A E) → IsWritten rows x k es es' old new
-      → AreFilled rows es → OnOk r (rows new ≡ inserted gap x (rows old))
+      → AreFilled rows es → OnOk r (rows new ≡ insert_heard gap x (rows old))
       → OnErr r (rows new ≡ rows old) → AreFilled rows es'
   written_filled gap x k es es' old new (Ok _) w h e f =
       rw w.written (filled_set k es new h
@@ -327,7 +328,8 @@ module _ {V : Type 0} (rows : V → List Row) where
       record {
         prefix = [];
         split = append-nil (rows d.1) ∙ ap (λ (t : Head × V). rows t.1) same;
-        none = λ n. absurd (omega (arith, h.0, ap length (ap (λ (t : Head × V). rows t.1) same ∙ n)));
+        none = λ n. absurd (omega
+            (arith, h.0, ap length (ap (λ (t : Head × V). rows t.1) same ∙ n)));
       }
   end_of_entries (d ∷ q ∷ es) e h f =
       let r = end_of_entries (q ∷ es) e h.1

@@ -7,8 +7,8 @@ use Rattle.aprs_book.specs.declared.lists.message_key.Asked.{Asked}
 use Rattle.aprs_book.specs.declared.lists.message_key.MessageKey.{MessageKey}
 use Rattle.aprs_book.specs.declared.lists.message_key.Span.{Span}
 use Rattle.aprs_book.specs.Reports.{report_of}
-use Rattle.aprs_book.specs.Messages.{Message, message_in, message_reported}
-use Rattle.aprs_book.specs.MessageRows.{Answer, AreReplies, AreSpans, IsReply, answer_reported, is_addressed}
+use Rattle.aprs_book.specs.Messages.{Message, message_in, reported_message}
+use Rattle.aprs_book.specs.MessageRows.{Answer, AreReplies, AreSpans, IsReply, reported_answer, is_addressed}
 use Rattle.aprs_book.proofs.Addressed.{no_answer_in}
 use Rattle.aprs_book.proofs.Collected.{adds_last}
 use Rattle.aprs_book.proofs.Messages.{spans_passed}
@@ -16,17 +16,17 @@ use Rattle.aprs_book.proofs.Replies.{replies_passed}
 
 -- an answer reads as one
 answer_reads : (a : Answer) (k : Key) (r : IsReply a k)
-    → answer_reported (report_of k) ≡ Some (r.addressee, a.id)
+    → reported_answer (report_of k) ≡ Some (r.addressee, a.id)
 answer_reads a k r = elim r.answer [
-  | inl e ↦ ap answer_reported e
-  | inr e ↦ ap answer_reported e
+  | inl e ↦ ap reported_answer e
+  | inr e ↦ ap reported_answer e
 ]
 
 -- a message is no answer
 pub message_no_reply : (k : Key) (m : Message) → message_in k ≡ Some m → (a : Answer) → IsReply a k → ⊥
 message_no_reply k m h a r = elim r.answer [
-  | inl e ↦ let t : None ≡ Some m = sym (ap (message_reported k.source) e) ∙ h in absurd (cc)
-  | inr e ↦ let t : None ≡ Some m = sym (ap (message_reported k.source) e) ∙ h in absurd (cc)
+  | inl e ↦ let t : None ≡ Some m = sym (ap (reported_message k.source) e) ∙ h in absurd (cc)
+  | inr e ↦ let t : None ≡ Some m = sym (ap (reported_message k.source) e) ∙ h in absurd (cc)
 ]
 
 none_is_some : {X : Type 0} (o : Option X) (x : X) → o ≡ None → o ≡ Some x → ⊥
@@ -35,9 +35,9 @@ none_is_some o x n s = let t : None ≡ Some x = sym n ∙ s in absurd (cc)
 -- what begins with no colon is no answer
 pub no_reply : (k : Key) → is_addressed k.info ≡ false → (a : Answer) → IsReply a k → ⊥
 no_reply k n a r =
-    let none : answer_reported (report_of k) ≡ None = no_answer_in k.info n in
+    let none : reported_answer (report_of k) ≡ None = no_answer_in k.info n in
     let some = answer_reads a k r in
-    absurd (none_is_some (answer_reported (report_of k)) (r.addressee, a.id) none some)
+    absurd (none_is_some (reported_answer (report_of k)) (r.addressee, a.id) none some)
 
 module _ (rows : List Row) (r : Row) where
   pub spans_beside : (es : List (MessageKey × Span)) → message_in (row_key r) ≡ None → AreSpans rows es

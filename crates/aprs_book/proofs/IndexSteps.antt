@@ -4,7 +4,6 @@ use Rattle.std.proofs.Math.Bool.{and-false, and-true}
 use Rattle.std.proofs.lemmas.Cmp.{tied_itself, upto}
 use Rattle.std.proofs.lemmas.List.{length-append, map-append}
 use Rattle.std.proofs.Math.Seq.{take-append_seam}
-use Rattle.std.specs.declared.cmp.Ordering.{Ordering}
 use Rattle.std.specs.declared.cmp.Ordering.TheVariants.{Less, Equal, Greater}
 use Rattle.aprs_rows.proofs.Cases.{by_order}
 use Rattle.std.specs.Ordering.{is_eq}
@@ -15,11 +14,11 @@ use Rattle.aprs_laws.specs.Lists.{◌∈◌}
 use Rattle.aprs_laws.specs.Key.{Key, key_of}
 use Rattle.aprs_laws.specs.Row.{Row, row_key}
 use Rattle.aprs_laws.specs.JoinRow.{greater}
-use Rattle.aprs_laws.specs.Inserted.{inserted, FitsInPlace}
+use Rattle.aprs_laws.specs.Inserted.{insert_heard, FitsInPlace}
 use Rattle.aprs_laws.specs.Sound.{Sound}
 use Rattle.aprs_laws.specs.Witnesses.{witnesses}
 use Rattle.aprs_laws.specs.Joining.{Joined}
-use Rattle.aprs_laws.specs.Widening.{widened}
+use Rattle.aprs_laws.specs.Widening.{widened_rows}
 use Rattle.aprs_laws.proofs.Widening.{widens_book}
 use Rattle.aprs_laws.specs.Best.{LastKnown, greater_known, known_after}
 use Rattle.aprs_laws.specs.BestLaws.{Passes}
@@ -39,11 +38,11 @@ use Rattle.aprs_book.proofs.KnownSteps.{entry_there, same_as_itself}
 pub takes_note : (gap : ℕ) → 0 < gap → (x : Heard) (old : List Row) (test : Key → Bool)
     (known : Option Heard)
     → Sound gap old → LastKnown (map greatest_of old) (Passes test) known
-    → LastKnown (map greatest_of (inserted gap x old)) (Passes test)
+    → LastKnown (map greatest_of (insert_heard gap x old)) (Passes test)
     (known_after test known x)
 takes_note gap pos x old test known w h =
     let b = witnessed gap old pos w in
-    rows_know gap (witnesses old ++ x ∷ []) (inserted gap x old) (Passes test)
+    rows_know gap (witnesses old ++ x ∷ []) (insert_heard gap x old) (Passes test)
     (known_after test known x) (inserted_is_book gap (witnesses old) x old b)
     (known_last test x (witnesses old) known (set_knows gap (witnesses old) old
     (Passes test) known b h))
@@ -137,12 +136,12 @@ noted_known t x i j k reported same noted topic bytes =
 
 pub takes_indexes : (gap : ℕ) → 0 < gap → (t : Subject) (x : Heard) (rows new : List Row)
     (i j k : FourIndexes) → Sound gap rows → AreIndexesOf rows i → IsReported t (key_of x.frame)
-    → SameKnown i j → Noted t x j k → new ≡ inserted gap x rows → AreIndexesOf new k
+    → SameKnown i j → Noted t x j k → new ≡ insert_heard gap x rows → AreIndexesOf new k
 takes_indexes gap pos t x rows new i j k w h reported same noted made = λ topic bytes.
     subst (λ (r : List Row). LastKnown (map greatest_of r)
     (Passes (reports_at (reported_in topic) bytes)) (known_at bytes (index_of topic k)))
     (sym made)
-    (subst (LastKnown (map greatest_of (inserted gap x rows))
+    (subst (LastKnown (map greatest_of (insert_heard gap x rows))
     (Passes (reports_at (reported_in topic) bytes)))
     (noted_known t x i j k reported same noted topic bytes)
     (takes_note gap pos x rows (reports_at (reported_in topic) bytes)
@@ -178,10 +177,10 @@ merges_indexes gap pos a b c i j k v w joined h g both = λ topic bytes.
 -- a wider gap joins rows, and their greatest receptions know what they knew
 pub widens_note : (g h : ℕ) → 0 < g → g ≤ h → (old : List Row) (test : Key → Bool)
     (known : Option Heard) → Sound g old → LastKnown (map greatest_of old) (Passes test) known
-    → LastKnown (map greatest_of (widened h old)) (Passes test) known
+    → LastKnown (map greatest_of (widened_rows h old)) (Passes test) known
 widens_note g h pos l old test known w k =
     let b = witnessed g old pos w in
-    rows_know h (witnesses old) (widened h old) (Passes test) known
+    rows_know h (witnesses old) (widened_rows h old) (Passes test) known
     (widens_book g h (witnesses old) old l b)
     (set_knows g (witnesses old) old (Passes test) known b k)
 
@@ -189,13 +188,13 @@ pub widens_indexes : (g h : ℕ) → 0 < g → g ≤ h → (rows new : List Row)
     → Sound g rows → AreIndexesOf rows i → ((topic : Topic) → index_of topic none ≡ [])
     → ((topic : Topic) (bytes : List ℕ) → known_at bytes (index_of topic k)
     ≡ known_both (known_at bytes (index_of topic i)) (known_at bytes (index_of topic none)))
-    → new ≡ widened h rows → AreIndexesOf new k
+    → new ≡ widened_rows h rows → AreIndexesOf new k
 widens_indexes g h pos l rows new i none k w held empty both made = λ topic bytes.
     let known = known_at bytes (index_of topic i) in
     subst (λ (r : List Row). LastKnown (map greatest_of r)
     (Passes (reports_at (reported_in topic) bytes)) (known_at bytes (index_of topic k)))
     (sym made)
-    (subst (LastKnown (map greatest_of (widened h rows))
+    (subst (LastKnown (map greatest_of (widened_rows h rows))
     (Passes (reports_at (reported_in topic) bytes)))
     (sym (both topic bytes ∙ ap (λ t. known_both known (known_at bytes t)) (empty topic)))
     (widens_note g h pos l rows (reports_at (reported_in topic) bytes) known w (held topic bytes)))

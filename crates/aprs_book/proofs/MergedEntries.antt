@@ -8,8 +8,8 @@ use Rattle.std.specs.Map.Iter.{TakesFirst, deref_pair}
 use Rattle.std.specs.Ordering.{ordering_reverse}
 use Rattle.std.specs.declared.cmp.Ordering.TheVariants.{Less, Greater}
 use Rattle.std.proofs.lemmas.Map.Keys.{sorted_head, sorted_tail}
-use Rattle.aprs_laws.specs.Row.{Row, row_key, row_cmp}
-use Rattle.aprs_laws.specs.JoinRow.{combine, place, coalesce, coalesced, interleave}
+use Rattle.aprs_laws.specs.Row.{Row, row_cmp}
+use Rattle.aprs_laws.specs.JoinRow.{combine, place, coalesce, coalesced_rows, interleave}
 use Rattle.aprs_rows.proofs.Cases.{by_order}
 use Rattle.aprs_rows.proofs.Heads.{head_total, head_less}
 use Rattle.aprs_rows.specs.Head.{head_cmp, HasHead}
@@ -17,7 +17,7 @@ use Rattle.aprs_rows.specs.declared.row.head.Head.{Head}
 use Rattle.aprs_book.proofs.Entries.{Above, below_all, combined, AreKeyed-insert_entry}
 use Rattle.aprs_book.proofs.EntryEnds.{filled_insert}
 use Rattle.aprs_book.proofs.MergedKeys.{interleave-nil, IsBelowAll, AreBelow, merged_keys}
-use Rattle.aprs_book.specs.Keyed.{HaveHead, rows_of, AreKeyed, AreKept, PutsRows, held}
+use Rattle.aprs_book.specs.Keyed.{HaveHead, rows_of, AreKeyed, AreKept, PutsRows, held_entries}
 
 -- ---- the rows of one key
 
@@ -31,7 +31,7 @@ have_coalesce gap k l (x ∷ rows) e h =
     (λ o. rw o (e, have_coalesce gap k x rows h.0 h.1))
 
 have_coalesced : (gap : ℕ) (k : Head) (rows : List Row) → HaveHead k rows
-    → HaveHead k (coalesced gap rows)
+    → HaveHead k (coalesced_rows gap rows)
 have_coalesced gap k [] h = tt
 have_coalesced gap k (l ∷ rows) h = have_coalesce gap k l rows h.0 h.1
 
@@ -59,7 +59,8 @@ some_coalesce gap l (x ∷ rows) =
     (λ o. rw o (some_coalesce gap (combine l x) rows))
     (λ o. rw o (omega arith))
 
-some_coalesced : (gap : ℕ) (rows : List Row) → 0 < length rows → 0 < length (coalesced gap rows)
+some_coalesced : (gap : ℕ) (rows : List Row) → 0 < length rows
+    → 0 < length (coalesced_rows gap rows)
 some_coalesced gap [] h = absurd (omega (arith, h))
 some_coalesced gap (l ∷ rows) h = some_coalesce gap l rows
 
@@ -174,38 +175,40 @@ module _ {V : Type 0} (rows : V → List Row) where
   head_below done key v [] h a = tt
   head_below done key v (e ∷ es) h a = below_put done key v e.0 h a.0
 
-  pub record IsMerging (gap : ℕ) (all : List Row) (done ours theirs : List (Head × V)) : Type 0 where
-    pub sum : all ≡ rows_of rows done
-        ++ coalesced gap (interleave (rows_of rows ours) (rows_of rows theirs))
-    pub kept : AreKept rows done
-    pub ours_left : IsRest ours
-    pub theirs_left : IsRest theirs
-    pub below_ours : HeadBelow done ours
-    pub below_theirs : HeadBelow done theirs
+  pub record IsMerging (gap : ℕ) (all : List Row) (done ours theirs : List (Head × V)) : Type 0
+    where
+      pub sum : all ≡ rows_of rows done
+          ++ coalesced_rows gap (interleave (rows_of rows ours) (rows_of rows theirs))
+      pub kept : AreKept rows done
+      pub ours_left : IsRest ours
+      pub theirs_left : IsRest theirs
+      pub below_ours : HeadBelow done ours
+      pub below_theirs : HeadBelow done theirs
 
   -- one key's rows of both are put after what is merged
-  step : (gap : ℕ) (all : List Row) (done ours theirs ours' theirs' : List (Head × V)) (x y : List Row)
+  step : (gap : ℕ) (all : List Row) (done ours theirs ours' theirs' : List (Head × V))
+      (x y : List Row)
       (key : Head) (v : V) → IsMerging gap all done ours theirs → IsCut key ours x ours'
       → IsCut key theirs y theirs' → Below done key
-      → (0 < length x) ⊎ (0 < length y) → rows v ≡ coalesced gap (interleave x y)
+      → (0 < length x) ⊎ (0 < length y) → rows v ≡ coalesced_rows gap (interleave x y)
       → IsMerging gap all (insert_entry head_cmp done key v) ours' theirs'
   step gap all done ours theirs ours' theirs' x y key v m c d b some made = record {
     sum =
         m.sum
         ∙ ap (λ t. rows_of rows done ++ t)
-        (ap (λ t. coalesced gap (interleave t (rows_of rows theirs))) c.split
-        ∙ ap (λ t. coalesced gap (interleave (x ++ rows_of rows ours') t)) d.split
+        (ap (λ t. coalesced_rows gap (interleave t (rows_of rows theirs))) c.split
+        ∙ ap (λ t. coalesced_rows gap (interleave (x ++ rows_of rows ours') t)) d.split
         ∙ merged_keys gap x y (rows_of rows ours') (rows_of rows theirs')
         (are_below key x ours' c.have c.rest.kept.0 c.above)
         (are_below key x theirs' c.have d.rest.kept.0 d.above)
         (are_below key y ours' d.have c.rest.kept.0 c.above)
         (are_below key y theirs' d.have d.rest.kept.0 d.above)
-        ∙ ap (λ t. t ++ coalesced gap (interleave (rows_of rows ours')
+        ∙ ap (λ t. t ++ coalesced_rows gap (interleave (rows_of rows ours')
         (rows_of rows theirs')))
         (sym made))
         ∙ sym (append_assoc (rows_of rows done) (rows v)
-        (coalesced gap (interleave (rows_of rows ours') (rows_of rows theirs'))))
-        ∙ ap (λ t. t ++ coalesced gap (interleave (rows_of rows ours')
+        (coalesced_rows gap (interleave (rows_of rows ours') (rows_of rows theirs'))))
+        ∙ ap (λ t. t ++ coalesced_rows gap (interleave (rows_of rows ours')
         (rows_of rows theirs')))
         (sym (put_after done key v b));
     kept = (
@@ -227,7 +230,7 @@ module _ {V : Type 0} (rows : V → List Row) where
 
   pub step_ours : (gap : ℕ) (all : List Row) (done es theirs : List (Head × V)) (e : Head × V)
       (v : V) → IsMerging gap all done (e ∷ es) theirs → HeadAbove e.0 theirs
-      → rows v ≡ coalesced gap (interleave (rows e.1) [])
+      → rows v ≡ coalesced_rows gap (interleave (rows e.1) [])
       → IsMerging gap all (insert_entry head_cmp done e.0 v) es theirs
   step_ours gap all done es theirs e v m above made =
       step gap all done (e ∷ es) theirs es theirs (rows e.1) [] e.0 v m
@@ -236,7 +239,7 @@ module _ {V : Type 0} (rows : V → List Row) where
 
   pub step_theirs : (gap : ℕ) (all : List Row) (done ours fs : List (Head × V)) (f : Head × V)
       (v : V) → IsMerging gap all done ours (f ∷ fs) → HeadAbove f.0 ours
-      → rows v ≡ coalesced gap (interleave [] (rows f.1))
+      → rows v ≡ coalesced_rows gap (interleave [] (rows f.1))
       → IsMerging gap all (insert_entry head_cmp done f.0 v) ours fs
   step_theirs gap all done ours fs f v m above made =
       step gap all done ours (f ∷ fs) ours fs [] (rows f.1) f.0 v m
@@ -245,16 +248,17 @@ module _ {V : Type 0} (rows : V → List Row) where
 
   pub step_both : (gap : ℕ) (all : List Row) (done es fs : List (Head × V)) (e f : Head × V)
       (v : V) → IsMerging gap all done (e ∷ es) (f ∷ fs) → e.0 ≡ f.0
-      → rows v ≡ coalesced gap (interleave (rows e.1) (rows f.1))
+      → rows v ≡ coalesced_rows gap (interleave (rows e.1) (rows f.1))
       → IsMerging gap all (insert_entry head_cmp done e.0 v) es fs
   step_both gap all done es fs e f v m same made =
       step gap all done (e ∷ es) (f ∷ fs) es fs (rows e.1) (rows f.1) e.0 v m
       (cut_head e es m.ours_left)
-      (subst (λ (t : Head). IsCut t (f ∷ fs) (rows f.1) fs) (sym same) (cut_head f fs m.theirs_left))
+      (subst (λ (t : Head). IsCut t (f ∷ fs) (rows f.1) fs) (sym same)
+      (cut_head f fs m.theirs_left))
       m.below_ours (inl m.ours_left.kept.1.0) made
 
   pub merging_starts : (gap : ℕ) (ours theirs : List (Head × V)) → IsRest ours → IsRest theirs
-      → IsMerging gap (coalesced gap (interleave (rows_of rows ours)
+      → IsMerging gap (coalesced_rows gap (interleave (rows_of rows ours)
       (rows_of rows theirs)))
       [] ours theirs
   merging_starts gap ours theirs r s = record {
@@ -269,12 +273,13 @@ module _ {V : Type 0} (rows : V → List Row) where
     none [] = tt
     none (e ∷ es) = tt
 
-  pub merging_ends : (gap : ℕ) (all : List Row) (done : List (Head × V)) → IsMerging gap all done [] []
+  pub merging_ends : (gap : ℕ) (all : List Row) (done : List (Head × V))
+      → IsMerging gap all done [] []
       → rows_of rows done ≡ all
   merging_ends gap all done m = sym (m.sum ∙ append-nil (rows_of rows done))
 
 held_is : {V : Type 0} (r : Option (Bor Head × Bor V)) (s t : List (Head × V))
-    → TakesFirst deref_pair s r t → s ≡ held r t
+    → TakesFirst deref_pair s r t → s ≡ held_entries r t
 held_is None s t h = h.0
 held_is (Some p) s t h = h
 
@@ -282,21 +287,23 @@ held_is (Some p) s t h = h
 
 module _ {V : Type 0} (rows : V → List Row) (gap : ℕ) (all : List Row)
     (done done' : List (Head × V)) where
-  pub takes_ours : (p : Bor Head × Bor V) (es es' F : List (Head × V)) (r : Option (Bor Head × Bor V))
+  pub takes_ours : (p : Bor Head × Bor V) (es es' F : List (Head × V))
+      (r : Option (Bor Head × Bor V))
       → IsMerging rows gap all done ((p.0.now, p.1.now) ∷ es) F
-      → PutsRows rows done done' p.0.now (coalesced gap (rows p.1.now))
+      → PutsRows rows done done' p.0.now (coalesced_rows gap (rows p.1.now))
       → HeadAbove rows p.0.now F → TakesFirst deref_pair es r es'
-      → IsMerging rows gap all done' (held r es') F
+      → IsMerging rows gap all done' (held_entries r es') F
   takes_ours p es es' F r m put above t =
       subst (λ (E : List (Head × V)). IsMerging rows gap all done' E F) (held_is r es es' t)
       (rw put.2 (step_ours rows gap all done es F (p.0.now, p.1.now) put.0 m above
-      (put.1 ∙ ap (coalesced gap) (sym (interleave-nil (rows p.1.now))))))
+      (put.1 ∙ ap (coalesced_rows gap) (sym (interleave-nil (rows p.1.now))))))
 
-  pub takes_theirs : (p : Bor Head × Bor V) (E es es' : List (Head × V)) (r : Option (Bor Head × Bor V))
+  pub takes_theirs : (p : Bor Head × Bor V) (E es es' : List (Head × V))
+      (r : Option (Bor Head × Bor V))
       → IsMerging rows gap all done E ((p.0.now, p.1.now) ∷ es)
-      → PutsRows rows done done' p.0.now (coalesced gap (rows p.1.now))
+      → PutsRows rows done done' p.0.now (coalesced_rows gap (rows p.1.now))
       → HeadAbove rows p.0.now E → TakesFirst deref_pair es r es'
-      → IsMerging rows gap all done' E (held r es')
+      → IsMerging rows gap all done' E (held_entries r es')
   takes_theirs p E es es' r m put above t =
       subst (λ (F : List (Head × V)). IsMerging rows gap all done' E F) (held_is r es es' t)
       (rw put.2 (step_theirs rows gap all done E es (p.0.now, p.1.now) put.0 m above put.1))
@@ -305,12 +312,12 @@ module _ {V : Type 0} (rows : V → List Row) (gap : ℕ) (all : List Row)
       (r s : Option (Bor Head × Bor V))
       → IsMerging rows gap all done ((p.0.now, p.1.now) ∷ es) ((q.0.now, q.1.now) ∷ fs)
       → PutsRows rows done done' p.0.now
-      (coalesced gap (interleave (rows p.1.now) (rows q.1.now)))
+      (coalesced_rows gap (interleave (rows p.1.now) (rows q.1.now)))
       → p.0.now ≡ q.0.now → TakesFirst deref_pair es r es'
       → TakesFirst deref_pair fs s fs'
-      → IsMerging rows gap all done' (held r es') (held s fs')
+      → IsMerging rows gap all done' (held_entries r es') (held_entries s fs')
   takes_both p q es es' fs fs' r s m put same t u =
-      subst (λ (E : List (Head × V)). IsMerging rows gap all done' E (held s fs'))
+      subst (λ (E : List (Head × V)). IsMerging rows gap all done' E (held_entries s fs'))
       (held_is r es es' t)
       (subst (λ (F : List (Head × V)). IsMerging rows gap all done' es F) (held_is s fs fs' u)
       (rw put.2 (step_both rows gap all done es fs (p.0.now, p.1.now) (q.0.now, q.1.now) put.0 m
@@ -318,63 +325,66 @@ module _ {V : Type 0} (rows : V → List Row) (gap : ℕ) (all : List Row)
 
   module _ (p : Bor Head × Bor V) (es es' fs : List (Head × V)) (o s r : Option (Bor Head × Bor V))
       (k : Head) (x : List Row) (key : k ≡ p.0.now) (of_key : x ≡ rows p.1.now)
-      (put : PutsRows rows done done' k (coalesced gap x)) where
-    putting : PutsRows rows done done' p.0.now (coalesced gap (rows p.1.now))
+      (put : PutsRows rows done done' k (coalesced_rows gap x)) where
+    putting : PutsRows rows done done' p.0.now (coalesced_rows gap (rows p.1.now))
     putting =
-        subst (λ (t : Head). PutsRows rows done done' t (coalesced gap (rows p.1.now))) key
-        (subst (λ (t : List Row). PutsRows rows done done' k (coalesced gap t)) of_key put)
+        subst (λ (t : Head). PutsRows rows done done' t (coalesced_rows gap (rows p.1.now))) key
+        (subst (λ (t : List Row). PutsRows rows done done' k (coalesced_rows gap t)) of_key put)
 
     -- the least key is that of the first, or of the second
-    pub first_goes : o ≡ Some p → IsMerging rows gap all done (held o es) (held s fs)
-        → HeadAbove rows p.0.now (held s fs) → TakesFirst deref_pair es r es'
-        → IsMerging rows gap all done' (held r es') (held s fs)
+    pub first_goes : o ≡ Some p
+        → IsMerging rows gap all done (held_entries o es) (held_entries s fs)
+        → HeadAbove rows p.0.now (held_entries s fs) → TakesFirst deref_pair es r es'
+        → IsMerging rows gap all done' (held_entries r es') (held_entries s fs)
     first_goes is m above t =
-        takes_ours p es es' (held s fs) r
-        (subst (λ (q : Option (Bor Head × Bor V)). IsMerging rows gap all done (held q es)
-        (held s fs)) is m)
+        takes_ours p es es' (held_entries s fs) r
+        (subst (λ (q : Option (Bor Head × Bor V)). IsMerging rows gap all done (held_entries q es)
+        (held_entries s fs)) is m)
         putting above t
 
-    pub second_goes : o ≡ Some p → IsMerging rows gap all done (held s fs) (held o es)
-        → HeadAbove rows p.0.now (held s fs) → TakesFirst deref_pair es r es'
-        → IsMerging rows gap all done' (held s fs) (held r es')
+    pub second_goes : o ≡ Some p
+        → IsMerging rows gap all done (held_entries s fs) (held_entries o es)
+        → HeadAbove rows p.0.now (held_entries s fs) → TakesFirst deref_pair es r es'
+        → IsMerging rows gap all done' (held_entries s fs) (held_entries r es')
     second_goes is m above t =
-        takes_theirs p (held s fs) es es' r
-        (subst (λ (q : Option (Bor Head × Bor V)). IsMerging rows gap all done (held s fs)
-        (held q es)) is m)
+        takes_theirs p (held_entries s fs) es es' r
+        (subst (λ (q : Option (Bor Head × Bor V)). IsMerging rows gap all done (held_entries s fs)
+        (held_entries q es)) is m)
         putting above t
 
   pub both_go : (p q : Bor Head × Bor V) (es es' fs fs' : List (Head × V))
       (o s r u : Option (Bor Head × Bor V))
       (k : Head) (x y : List Row) → k ≡ p.0.now → x ≡ rows p.1.now → y ≡ rows q.1.now
-      → PutsRows rows done done' k (coalesced gap (interleave x y)) → o ≡ Some p → s ≡ Some q
-      → IsMerging rows gap all done (held o es) (held s fs) → p.0.now ≡ q.0.now
+      → PutsRows rows done done' k (coalesced_rows gap (interleave x y)) → o ≡ Some p → s ≡ Some q
+      → IsMerging rows gap all done (held_entries o es) (held_entries s fs) → p.0.now ≡ q.0.now
       → TakesFirst deref_pair es r es' → TakesFirst deref_pair fs u fs'
-      → IsMerging rows gap all done' (held r es') (held u fs')
+      → IsMerging rows gap all done' (held_entries r es') (held_entries u fs')
   both_go p q es es' fs fs' o s r u k x y key ox oy put io is m same t v =
       takes_both p q es es' fs fs' r u
-      (subst (λ (d : Option (Bor Head × Bor V)). IsMerging rows gap all done (held d es)
-      (held (Some q) fs)) io
-      (subst (λ (d : Option (Bor Head × Bor V)). IsMerging rows gap all done (held o es)
-      (held d fs)) is m))
+      (subst (λ (d : Option (Bor Head × Bor V)). IsMerging rows gap all done (held_entries d es)
+      (held_entries (Some q) fs)) io
+      (subst (λ (d : Option (Bor Head × Bor V)). IsMerging rows gap all done (held_entries o es)
+      (held_entries d fs)) is m))
       (subst (λ (d : Head). PutsRows rows done done' d
-      (coalesced gap (interleave (rows p.1.now) (rows q.1.now)))) key
+      (coalesced_rows gap (interleave (rows p.1.now) (rows q.1.now)))) key
       (subst (λ (d : List Row). PutsRows rows done done' k
-      (coalesced gap (interleave d (rows q.1.now)))) ox
-      (subst (λ (d : List Row). PutsRows rows done done' k (coalesced gap (interleave x d)))
+      (coalesced_rows gap (interleave d (rows q.1.now)))) ox
+      (subst (λ (d : List Row). PutsRows rows done done' k (coalesced_rows gap (interleave x d)))
       oy put)))
       same t v
 
 module _ {V : Type 0} (rows : V → List Row) where
   pub above_none : (k : Head) (s : Option (Bor Head × Bor V)) (fs : List (Head × V)) → s ≡ None
-      → HeadAbove rows k (held s fs)
-  above_none k s fs e = subst (λ (t : Option (Bor Head × Bor V)). HeadAbove rows k (held t fs))
+      → HeadAbove rows k (held_entries s fs)
+  above_none k s fs e = subst
+      (λ (t : Option (Bor Head × Bor V)). HeadAbove rows k (held_entries t fs))
       (sym e) tt
 
   pub above_some : (a b k : Head) (q : Bor Head × Bor V) (s : Option (Bor Head × Bor V))
       (fs : List (Head × V)) → s ≡ Some q → a ≡ k → b ≡ q.0.now → head_cmp a b ≡ Less
-      → HeadAbove rows k (held s fs)
+      → HeadAbove rows k (held_entries s fs)
   above_some a b k q s fs e i j l =
-      subst (λ (t : Option (Bor Head × Bor V)). HeadAbove rows k (held t fs)) (sym e)
+      subst (λ (t : Option (Bor Head × Bor V)). HeadAbove rows k (held_entries t fs)) (sym e)
       (sym (ap (λ t. head_cmp t b) i ∙ ap (head_cmp k) j) ∙ l)
 
 -- the other way round
@@ -382,33 +392,35 @@ pub turned : (a b : Head) → head_cmp a b ≡ Greater → head_cmp b a ≡ Less
 turned a b e = head_total.antisymm b a ∙ ap ordering_reverse e
 
 pub held_length : {V : Type 0} (r : Option (Bor Head × Bor V)) (s t : List (Head × V))
-    → TakesFirst deref_pair s r t → length (held r t) ≡ length s
+    → TakesFirst deref_pair s r t → length (held_entries r t) ≡ length s
 held_length r s t h = ap length (sym (held_is r s t h))
 
-pub held_some : {V : Type 0} (o : Option (Bor Head × Bor V)) (p : Bor Head × Bor V) (es : List (Head × V))
-    → o ≡ Some p → length (held o es) ≡ 1 + length es
-held_some o p es e = ap (λ t. length (held t es)) e ∙ (omega arith)
+pub held_some : {V : Type 0} (o : Option (Bor Head × Bor V)) (p : Bor Head × Bor V)
+    (es : List (Head × V))
+    → o ≡ Some p → length (held_entries o es) ≡ 1 + length es
+held_some o p es e = ap (λ t. length (held_entries t es)) e ∙ (omega arith)
 
 pub ends : {V : Type 0} (rows : V → List Row) (gap : ℕ) (all : List Row)
     (done es fs : List (Head × V)) (o s : Option (Bor Head × Bor V)) → o ≡ None → s ≡ None
-    → IsMerging rows gap all done (held o es) (held s fs) → rows_of rows done ≡ all
+    → IsMerging rows gap all done (held_entries o es) (held_entries s fs) → rows_of rows done ≡ all
 ends {V} rows gap all done es fs o s e f m =
     merging_ends rows gap all done
-    (subst (λ (t : Option (Bor Head × Bor V)). IsMerging rows gap all done (held t es) []) e
-    (subst (λ (t : Option (Bor Head × Bor V)). IsMerging rows gap all done (held o es)
-    (held t fs)) f m))
+    (subst (λ (t : Option (Bor Head × Bor V)). IsMerging rows gap all done (held_entries t es) []) e
+    (subst (λ (t : Option (Bor Head × Bor V)). IsMerging rows gap all done (held_entries o es)
+    (held_entries t fs)) f m))
 
 pub starts : {V : Type 0} (rows : V → List Row) (gap : ℕ) (a b : List Row)
     (E F iE iF es fs done : List (Head × V)) (r s : Option (Bor Head × Bor V)) → rows_of rows E ≡ a
     → rows_of rows F ≡ b → IsRest rows E → IsRest rows F → done ≡ [] → iE ≡ E
     → iF ≡ F → TakesFirst deref_pair iE r es → TakesFirst deref_pair iF s fs
-    → IsMerging rows gap (coalesced gap (interleave a b)) done (held r es) (held s fs)
+    → IsMerging rows gap (coalesced_rows gap (interleave a b)) done (held_entries r es)
+    (held_entries s fs)
 starts {V} rows gap a b E F iE iF es fs done r s ea eb p q n i j t u =
     rw (← ea, ← eb, n)
     (subst (λ (X : List (Head × V)). IsMerging rows gap
-    (coalesced gap (interleave (rows_of rows E) (rows_of rows F))) [] X (held s fs))
+    (coalesced_rows gap (interleave (rows_of rows E) (rows_of rows F))) [] X (held_entries s fs))
     (sym i ∙ held_is r iE es t)
     (subst (λ (Y : List (Head × V)). IsMerging rows gap
-    (coalesced gap (interleave (rows_of rows E) (rows_of rows F))) [] E Y)
+    (coalesced_rows gap (interleave (rows_of rows E) (rows_of rows F))) [] E Y)
     (sym j ∙ held_is s iF fs u)
     (merging_starts rows gap E F p q)))

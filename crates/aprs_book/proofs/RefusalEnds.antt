@@ -9,7 +9,7 @@ use Rattle.aprs_laws.specs.Key.{key_cmp}
 use Rattle.aprs_laws.specs.Row.{Row, row_key, last_of}
 use Rattle.aprs_laws.specs.Sound.{ComesAfter}
 use Rattle.aprs_laws.proofs.Pushes.{empty_or_last}
-use Rattle.aprs_rows.specs.Refusal.{is_of_last, is_out_of_order, is_too_near, is_ascending, is_name, refusal}
+use Rattle.aprs_rows.specs.Refusal.{is_of_last, is_out_of_order, is_too_near, is_ascending, is_same_name, refusal}
 use Rattle.aprs_rows.proofs.Refusals.{last_after, first_of, refused_first, free_of_none, next_of_free}
 use Rattle.aprs_book.specs.Keyed.{EndsUpTo, IsEndOf}
 
@@ -29,8 +29,8 @@ refused_at_end gap end all x e =
     refused_first gap end x
     ∙ ap (λ o. first_of (option_map_or (λ l. is_out_of_order l x) o false) (ltb (last_of x) x.first)
     (option_map_or (λ l. is_too_near gap l x) o false)
-    (not (is_ascending x.receivers && list_any (is_name x.greatest.receiver) x.receivers))
-    ((x.first == last_of x) && not (is_of_last (is_name x.greatest.receiver) x.receivers)))
+    (not (is_ascending x.receivers && list_any (is_same_name x.greatest.receiver) x.receivers))
+    ((x.first == last_of x) && not (is_of_last (is_same_name x.greatest.receiver) x.receivers)))
     (same_last end all e)
     ∙ sym (refused_first gap all x)
 

@@ -13,7 +13,7 @@ use Rattle.aprs_laws.specs.declared.row_cause.RowCause.{RowCause}
 use Rattle.aprs_laws.specs.declared.row_cause.RowCause.TheVariants.{Memory}
 use Rattle.aprs_book.specs.declared.from_parts.RowsFault.{RowsFault}
 use Rattle.aprs_rows.specs.Refusal.{refusal}
-use Rattle.aprs_book.specs.RowsFault.{IsRowsFault, AreSoundOrFaulty, SoundRowsAreFaultless, HaveOneFaultAtMost}
+use Rattle.aprs_book.specs.RowsFault.{IsRowsFault, AreSoundOrFaulty, SoundRowsAreFaultless, HaveOneRowsFault}
 use Rattle.aprs_rows.proofs.Refusals.{Answers, none_exactly, never_memory}
 
 -- ---- prefixes of rows
@@ -80,7 +80,7 @@ same_fault f g place cause =
     let P : ℕ → RowCause → RowsFault = λ n k. record { place = n; cause = k } in
     ap (λ n. P n f.cause) place ∙ ap (P g.place) cause
 
-pub one_fault : (gap : ℕ) → HaveOneFaultAtMost gap
+pub one_fault : (gap : ℕ) → HaveOneRowsFault gap
 one_fault gap rows f g a other b = elim a.refused [
   | inl e ↦ elim b.refused [
     | inl k ↦

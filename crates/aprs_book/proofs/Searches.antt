@@ -15,7 +15,7 @@ use Rattle.aprs_laws.specs.Lists.{◌∈◌, Ordered}
 use Rattle.aprs_laws.specs.Order.{IsBelow}
 use Rattle.aprs_laws.specs.Row.{Row, last_of, row_cmp}
 use Rattle.aprs_laws.specs.JoinRow.{single, IsNear}
-use Rattle.aprs_laws.specs.Inserted.{side, grown, inserted, fits_in_place}
+use Rattle.aprs_laws.specs.Inserted.{side, grow_row, insert_heard, fits_in_place}
 use Rattle.aprs_laws.specs.Sound.{IsFar, Sound}
 use Rattle.aprs_laws.proofs.Lists.{in_right}
 use Rattle.aprs_laws.proofs.Rows.{IsBefore, before_trans, place_means}
@@ -119,7 +119,7 @@ module _ (gap : ℕ) (x : Heard) where
 
   passed : (rows : List Row) (i : ℕ) → i ≤ length rows
       → ((k : ℕ) (d : Row) → k < i → is_before (get_or rows k d) ≡ true)
-      → (inserted gap x rows ≡ take i rows ++ inserted gap x (drop i rows))
+      → (insert_heard gap x rows ≡ take i rows ++ insert_heard gap x (drop i rows))
       × (fits_in_place gap x rows ≡ fits_in_place gap x (drop i rows))
   passed rows zero w b = (refl, refl)
   passed [] (suc i) w b = absurd (omega (arith, w))
@@ -130,7 +130,7 @@ module _ (gap : ℕ) (x : Heard) where
       (rw at (ap (λ t. r ∷ t) rest.0), rw at rest.1)
 
   split : (rows : List Row) (i : ℕ) → IsFound rows i
-      → (inserted gap x rows ≡ take i rows ++ inserted gap x (drop i rows))
+      → (insert_heard gap x rows ≡ take i rows ++ insert_heard gap x (drop i rows))
       × (fits_in_place gap x rows ≡ fits_in_place gap x (drop i rows))
   split rows i f = passed rows i f.within (λ k d l. f.point.0 k d (omega arith) l)
 
@@ -152,7 +152,7 @@ module _ (gap : ℕ) (x : Heard) where
       let none : drop i rows ≡ [] = drop_all i rows (omega (arith, e)) in record {
         within = f.within;
         inserts =
-            s.0 ∙ ap (λ t. take i rows ++ inserted gap x t) none
+            s.0 ∙ ap (λ t. take i rows ++ insert_heard gap x t) none
             ∙ ap (λ t. take i rows ++ single x ∷ t) (sym none);
         in_place = s.1 ∙ ap (λ t. fits_in_place gap x t) none;
       }
@@ -165,7 +165,7 @@ module _ (gap : ℕ) (x : Heard) where
       let far = greater_is (side gap r x) a in record {
         within = f.within;
         inserts =
-            s.0 ∙ ap (λ t. take i rows ++ inserted gap x t) at
+            s.0 ∙ ap (λ t. take i rows ++ insert_heard gap x t) at
             ∙ rw far (ap (λ t. take i rows ++ single x ∷ t) (sym at));
         in_place = s.1 ∙ ap (λ t. fits_in_place gap x t) at ∙ rw far refl;
       }
@@ -176,7 +176,7 @@ module _ (gap : ℕ) (x : Heard) where
   grows_last rows i r f l e a =
       let s = split rows i f in
       let within : i < length rows = omega (arith, l) in
-      let alone = alone_end gap x (grown r x) _ (drop_all (suc i) rows (omega (arith, l))) in
+      let alone = alone_end gap x (grow_row r x) _ (drop_all (suc i) rows (omega (arith, l))) in
       one_at gap x rows i r _ s.0 s.1 (here rows i r within e)
       (is_near rows i i r f (omega arith) within e a) alone.0 alone.1
 
@@ -188,7 +188,7 @@ module _ (gap : ℕ) (x : Heard) where
       let within : i < length rows = omega (arith, w) in
       let far = greater_is (side gap n x) a' in
       let alone =
-      alone_next gap x (grown r x) n _ _ (here rows (suc i) n w e')
+      alone_next gap x (grow_row r x) n _ _ (here rows (suc i) n w e')
       (λ o. absurd (let no : Greater ≡ Equal = sym far ∙ o in cc)) in
       one_at gap x rows i r _ s.0 s.1 (here rows i r within e)
       (is_near rows i i r f (omega arith) within e a) alone.0 alone.1

@@ -19,7 +19,7 @@ use Rattle.aprs_laws.proofs.Lists.{in_left, in_right, in_either, in_map, from_ma
 use Rattle.aprs_laws.proofs.Orders.{bytes_total, bytes_exact}
 use Rattle.aprs_book.specs.declared.lists.named.Named.{Named}
 use Rattle.aprs_book.specs.Reports.{report_of}
-use Rattle.aprs_book.specs.Names.{Thing, thing_reported, thing_cmp, ReportsOf, shown_thing, IsNamedBefore, AreNamed, ReportsNamed}
+use Rattle.aprs_book.specs.Names.{Thing, reported_thing, thing_cmp, ReportsOf, shown_thing, IsNamedBefore, AreNamed, ReportsNamed}
 use Rattle.aprs_book.specs.NamedRows.{shown_report, report_in, reports_in}
 use Rattle.aprs_book.specs.Known.{Entries, FourIndexes, Topic, objects, items, index_of, entry_at, entry_known, known_at, is_reported, reports_at, reported_by, reported_in, IsEntryBefore, AreIndexesOf}
 use Rattle.aprs_book.proofs.Collected.{found, absent, one_entry}
@@ -69,7 +69,7 @@ is_itself t o e = ap (is_that t) e ∙ ap is_eq (tied_itself thing_total t)
 
 reported_alike : (is_item : Bool) (name : List ℕ) (call : Call) (v : Value)
     → is_reported name (reported_by (topic_of is_item) call v) ≡ is_that (thing is_item name)
-    (thing_reported v)
+    (reported_thing v)
 reported_alike false name call (position messaging stamp place symbol comment) = refl
 reported_alike false name call (object other live stamp place symbol comment) = refl
 reported_alike false name call (item other live place symbol comment) = refl
@@ -93,13 +93,13 @@ reports_thing t = reports_at (reported_in (topic_of t.is_item)) t.name
 
 reports_of : (t : Thing) (k : Key) → IsTrue (reports_thing t k) → ReportsOf t k
 reports_of t k h =
-    that_one t (thing_reported (report_of k))
+    that_one t (reported_thing (report_of k))
     (sym (reported_alike t.is_item t.name k.source (report_of k)) ∙ h)
 
 reports_by : (t : Thing) (k : Key) → ReportsOf t k → IsTrue (reports_thing t k)
 reports_by t k e =
     reported_alike t.is_item t.name k.source (report_of k)
-    ∙ is_itself t (thing_reported (report_of k)) e
+    ∙ is_itself t (reported_thing (report_of k)) e
 
 -- ---- entries
 

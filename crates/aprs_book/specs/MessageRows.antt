@@ -54,10 +54,10 @@ pub record IsSpan (rows : List Row) (m : Message) (s : Span) : Type 0 where
 -- ---- answers
 
 -- the addressee and the id of an answer
-abbrev pub answer_reported : Value → Option (List ℕ × List ℕ)
-answer_reported (ack addressee id) = Some (addressee, id)
-answer_reported (rej addressee id) = Some (addressee, id)
-answer_reported v = None
+abbrev pub reported_answer : Value → Option (List ℕ × List ℕ)
+reported_answer (ack addressee id) = Some (addressee, id)
+reported_answer (rej addressee id) = Some (addressee, id)
+reported_answer v = None
 
 -- whose message is answered, who answers, and the id
 pub record Answer : Type 0 where

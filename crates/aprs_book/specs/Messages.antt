@@ -28,14 +28,14 @@ pub record Message : Type 0 where
   pub id : Option (List ℕ)
 
 -- the message that a station sends by a report, if it is one
-abbrev pub message_reported : Call → Value → Option Message
-message_reported from (message addressee text id) =
+abbrev pub reported_message : Call → Value → Option Message
+reported_message from (message addressee text id) =
     Some (record { source = from; addressee = addressee; text = text; id = id })
-message_reported from v = None
+reported_message from v = None
 
 -- the message that a key reports, or none
 abbrev pub message_in : Key → Option Message
-message_in k = message_reported k.source (report_of k)
+message_in k = reported_message k.source (report_of k)
 
 -- a key that reports this message
 abbrev pub ReportsIt : Message → Key → Type 0
@@ -58,15 +58,15 @@ pub record AnswersIt (m : Message) (id : List ℕ) (k : Key) : Type 0 where
   pub answer : (report_of k ≡ ack addressee id) ⊎ (report_of k ≡ rej addressee id)
 
 -- a rejection rejects, and an acknowledgement acknowledges
-abbrev pub state_reported : Value → MessageState
-state_reported (rej addressee id) = Rejected
-state_reported v = Acknowledged
+abbrev pub reported_state : Value → MessageState
+reported_state (rej addressee id) = Rejected
+reported_state v = Acknowledged
 
 -- by the greatest answer, which counts from the message's first moment on
 abbrev pub state_by : ℕ → Option Heard → MessageState
 state_by first None = Unanswered
 state_by first (Some a) =
-    if nat_lt a.moment first then Unanswered else state_reported (report_of (key_of a.frame))
+    if nat_lt a.moment first then Unanswered else reported_state (report_of (key_of a.frame))
 
 -- a message of no id can't be answered
 abbrev pub StandsBy : List Heard → Message → ℕ → Option (List ℕ) → MessageState → Type 0

@@ -19,15 +19,15 @@ pub record Thing : Type 0 where
   pub name : List ℕ
 
 -- the object or item that a report is of, if it is of one
-abbrev pub thing_reported : Value → Option Thing
-thing_reported (object name live stamp place symbol comment) =
+abbrev pub reported_thing : Value → Option Thing
+reported_thing (object name live stamp place symbol comment) =
     Some (record { is_item = false; name = name })
-thing_reported (item name live place symbol comment) = Some (record { is_item = true; name = name })
-thing_reported v = None
+reported_thing (item name live place symbol comment) = Some (record { is_item = true; name = name })
+reported_thing v = None
 
 -- a key that reports this thing, live or killed, from any station
 abbrev pub ReportsOf : Thing → Key → Type 0
-ReportsOf t k = thing_reported (report_of k) ≡ Some t
+ReportsOf t k = reported_thing (report_of k) ≡ Some t
 
 -- objects by name, then items by name
 abbrev pub thing_cmp : Thing → Thing → Ordering

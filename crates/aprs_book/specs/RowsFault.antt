@@ -30,7 +30,7 @@ SoundRowsAreFaultless gap = (rows : List Row) (f : RowsFault)
     → Sound gap rows → IsRowsFault gap rows f → f.cause ≡ Memory
 
 -- rows have one such fault at most, and any other is of memory, before it
-abbrev pub HaveOneFaultAtMost : ℕ → Type 0
-HaveOneFaultAtMost gap = (rows : List Row) (f g : RowsFault)
+abbrev pub HaveOneRowsFault : ℕ → Type 0
+HaveOneRowsFault gap = (rows : List Row) (f g : RowsFault)
     → IsRowsFault gap rows f → f.cause ≢ Memory → IsRowsFault gap rows g
     → (g ≡ f) ⊎ ((g.cause ≡ Memory) × (g.place < f.place))

@@ -3,19 +3,13 @@
 use Rattle.std.specs.Prelude.{ℕ, ◌≡◌, ◌<◌, ◌-◌, List, [], ◌∷◌, length, get_or}
 use Rattle.std.specs.declared.cmp.Ordering.TheVariants.{Equal}
 use Rattle.aprs_laws.specs.Row.{Row}
-use Rattle.aprs_laws.specs.JoinRow.{choose, combine, place}
-
--- the rows with one more after them
-abbrev pub with_row : ℕ → List Row → Row → List Row
-with_row gap [] r = r ∷ []
-with_row gap (l ∷ []) r =
-    choose (place gap l r) (l ∷ r ∷ []) (combine l r ∷ []) (l ∷ r ∷ [])
-with_row gap (l ∷ m ∷ rows) r = l ∷ with_row gap (m ∷ rows) r
+use Rattle.aprs_laws.specs.JoinRow.{place}
+use Rattle.aprs_laws.specs.Coalescing.{append_row}
 
 -- all of the second list after the first
 abbrev pub with_rows : ℕ → List Row → List Row → List Row
 with_rows gap rows [] = rows
-with_rows gap rows (r ∷ more) = with_rows gap (with_row gap rows r) more
+with_rows gap rows (r ∷ more) = with_rows gap (append_row gap rows r) more
 
 -- there is a last row, and it is near to r
 pub record IsNearLast (gap : ℕ) (rows : List Row) (r : Row) : Type 0 where

@@ -2,7 +2,7 @@
 ghost use Rattle.std.specs.Prelude.{◌≡◌, ◌<◌, ℕ, [], length, take, IsOk, IfOk, IfErr, OnOk};
 ghost use Rattle.aprs_laws.specs.Gap.{millis_of};
 ghost use Rattle.aprs_laws.specs.Sound.{Sound};
-ghost use Rattle.aprs_book.specs.RowsFault.{IsRowsFault, AreSoundOrFaulty, SoundRowsAreFaultless, HaveOneFaultAtMost};
+ghost use Rattle.aprs_book.specs.RowsFault.{IsRowsFault, AreSoundOrFaulty, SoundRowsAreFaultless, HaveOneRowsFault};
 
 use crate::{Book, Gap, RowCause, RowParts};
 use std::alloc::Allocator;
@@ -61,6 +61,6 @@ fn push_rows<A: Allocator + Copy>(book: &mut Book<A>, rows: &[RowParts<A>]) -> R
 /// refuses. Any other fault is of memory, before that. Sound rows have no fault but of memory.
 pub fn rows_are_sound_or_have_one_fault()
     ensures some { (gap : ℕ) → AreSoundOrFaulty gap }
-    ensures one { (gap : ℕ) → HaveOneFaultAtMost gap }
+    ensures one { (gap : ℕ) → HaveOneRowsFault gap }
     ensures none { (gap : ℕ) → SoundRowsAreFaultless gap }
 {}

@@ -16,7 +16,7 @@ use Rattle.aprs_log.specs.declared.moment_form.MomentForm.TheVariants.{Seconds, 
 use Rattle.aprs_laws.specs.BookValue.{BookValue, Holds}
 use Rattle.aprs_laws.specs.Gap.{IsGap, millis_of, standard_gap}
 use Rattle.aprs_laws.specs.Row.{Row, last_of}
-use Rattle.aprs_laws.specs.Scaling.{scaled, scaled_heard}
+use Rattle.aprs_laws.specs.Scaling.{scaled_rows, scaled_heard}
 use Rattle.aprs_laws.proofs.Scaling.{scaled_book}
 use Rattle.aprs_booktext.specs.FirstFault.{FirstFault}
 use Rattle.aprs_booktext.specs.Law.{IsWrittenBack}
@@ -127,7 +127,7 @@ module _ (limit : ℕ) (head : List ℕ) (after : Option (List ℕ)) (small : li
       → IfOk r (λ book. (book.gap ≡ standard_gap) × Holds (map (scaled_heard 1000) S) book)
   in_seconds input S t (Err f) h = tt
   in_seconds input S t (Ok found) h =
-      let rows = scaled 1000 t.rows in
+      let rows = scaled_rows 1000 t.rows in
       let book : Holds (map (scaled_heard 1000) S) (book_of One rows) =
       scaled_book 1000 standard_gap (omega arith) S t.rows t.book in
       let is : IsBookRows One rows = record {

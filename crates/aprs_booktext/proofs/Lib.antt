@@ -8,6 +8,7 @@ pub mod Spellings
 pub mod Standing
 pub mod Inputs
 pub mod LastLines
+pub mod OneCause
 pub mod OneFault
 pub mod OneText
 pub mod Requirements

@@ -7,7 +7,7 @@ use Rattle.aprs_laws.specs.Book.{BookOf}
 use Rattle.aprs_laws.specs.BookValue.{BookValue, Holds}
 use Rattle.aprs_laws.specs.Gap.{standard_gap}
 use Rattle.aprs_laws.specs.Row.{Row}
-use Rattle.aprs_laws.specs.Scaling.{scaled, scaled_heard}
+use Rattle.aprs_laws.specs.Scaling.{scaled_rows, scaled_heard}
 use Rattle.aprs_booktext.specs.Text.{book_text, IsBookRow}
 use Rattle.aprs_booktext.specs.declared.fault.BookFault.{BookFault}
 use Rattle.aprs_booktext.specs.declared.version.Version.TheVariants.{One}
@@ -17,8 +17,8 @@ use Rattle.aprs_booktext.specs.declared.version.Version.TheVariants.{One}
 pub record IsTextInSeconds (S : List Heard) (text : List ℕ) : Type 0 where
   pub rows : List Row
   pub book : BookOf standard_gap S rows
-  pub each : All (IsBookRow Seconds) (scaled 1000 rows)
-  pub text_is : text ≡ book_text One (scaled 1000 rows)
+  pub each : All (IsBookRow Seconds) (scaled_rows 1000 rows)
+  pub text_is : text ≡ book_text One (scaled_rows 1000 rows)
 
 -- The text of version 1 of the book of a set in seconds gives the book of that set in milliseconds,
 -- with the standard gap.

@@ -4,7 +4,8 @@ ghost use Rattle.aprs_booktext.specs.Seconds.{AreWrittenToTheSecond};
 
 /// The text of a book's rows in a version, with its gap, is that of no other version, gap or rows,
 /// so different books are written as different texts. What begins such a text, whole or not, has no
-/// fault but that a byte is missing after it, and the whole text has none.
+/// fault but that a byte is missing after it or that an allocation failed, and the whole text has
+/// none but the latter.
 pub fn each_book_has_one_text()
     ensures one { HaveOneText }
     ensures written { TellBooksApart }
@@ -17,8 +18,8 @@ pub fn written_books_are_read()
     ensures { AreReadBack }
 {}
 
-/// A text has exactly one first fault, for each way in which the input may end, unless it is the
-/// whole text of a book and the end came after it: then it has none.
+/// A text has exactly one fault but `Memory`, for each way in which the input may end, unless it is
+/// the whole text of a book and the end came after it: then it has none but that.
 pub fn each_text_has_one_fault_or_none()
     ensures some { HaveFaultOrBook }
     ensures one { HaveOneBookFault }

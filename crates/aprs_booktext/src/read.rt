@@ -159,6 +159,6 @@ fn book_in<A: Allocator + Copy>(alloc: A, gap: Gap, store: RowStore<A>) -> Resul
     ensures { IfOk result (λ book. book ≡ record { gap = gap; rows = store }) }
 {
     let order = store.in_order()?;
-    let rows = order.coalesced(gap)?;
+    let rows = order.transmissions(gap)?;
     Book::of_rows(alloc, &rows)
 }

@@ -35,8 +35,8 @@ pub enum Stage {
     Done(Version),
 }
 
-/// What was read of a book's text: whole lines, and a prefix of a line. The rows of the lines are
-/// the last ones of a store, so many.
+/// What was read of a book's text: whole lines, and the beginning of the next line. The rows of the
+/// lines are the last rows of a store, as many as `count` says.
 #[derive(Drop)]
 pub struct BookReader<A: Allocator> {
     count: usize,
@@ -66,7 +66,7 @@ impl<A: Allocator + Copy> BookReader<A> {
         is_done(self.stage)
     }
 
-    /// The gap of the text's book, as the header says.
+    /// The gap of the text's book, as the header says; before that is read, the standard gap.
     pub fn gap(&self) -> Gap
         ensures { result ≡ gap_in self.now.stage }
     {
@@ -117,7 +117,7 @@ impl<A: Allocator + Copy> BookReader<A> {
         }
     }
 
-    /// Sees that no bytes come after the last line.
+    /// Refuses any bytes after the last line.
     fn append_nothing(&self, bytes: &[u8]) -> Result<(), BookFault>
         requires few { self.now.count ≤ most_input }
         requires done { is_done self.now.stage ≡ true }
@@ -133,7 +133,8 @@ impl<A: Allocator + Copy> BookReader<A> {
         Err(self.fault(BookCause::After))
     }
 
-    /// Judges the line that ends with these bytes: where it lies, if they are all of it.
+    /// Judges the line that ends with these bytes. Where they are the whole line, it isn't copied
+    /// first.
     fn end_line(&mut self, store: &mut RowStore<A>, part: &[u8]) -> Result<(), BookFault>
         requires { size_of self.old + length part.now ≤ most_input }
         ensures stands { OnOk result ((before : List Row) (t : List ℕ)
@@ -380,7 +381,7 @@ fn refusal<A: Allocator + Copy>(
     row.refusal_after(last.as_ref(), gap)
 }
 
-/// The cause of a fault where a byte had to come and the input ended so.
+/// The cause of the fault where a text may not end in the way in which its input ended.
 fn ending_cause(ending: Ending) -> BookCause
     ensures { result ≡ ending_cause ending }
 {

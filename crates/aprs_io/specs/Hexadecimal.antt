@@ -1,4 +1,4 @@
--- Definitions for the private steps that read and write digits in blocks.
+-- Digits that are read and written in blocks. No public clause cites this module.
 use Rattle.std.specs.Prelude.{◌≡◌, ℕ, ◌+◌, ◌*◌, ◌/◌, ◌%◌, ◌<◌, List, slice_index, Ok, Some}
 use Rattle.hex.specs.Hex.{hex_digit_value, lower_digits, pair_value}
 

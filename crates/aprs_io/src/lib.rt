@@ -1,5 +1,5 @@
-//! Devices that count their failed calls: what is read of an input under a limit, and bytes on
-//! their way out.
+//! Reads an input up to a limit, and writes output through a buffer, over devices that count their
+//! failed calls.
 #![tactic(auto)]
 
 mod byte_vectors;

@@ -13,7 +13,7 @@ pub trait Listener {
     /// What an answer makes of it: the listener before, the answer, and the listener after.
     ghost hears: { Self → Judgement → Self → Type 0 };
 
-    /// Takes the next answer. By `Fed::Nothing` it stays as it is.
+    /// Takes the next answer. `Fed::Nothing` leaves the listener as it is.
     fn hear(&mut self, fed: Fed<'_>)
         ensures { FoldsTo hears self.old (judgements_in fed.entry) self.new };
 }

@@ -12,8 +12,8 @@ use Rattle.aprs_laws.specs.Book.{BookOf}
 use Rattle.aprs_laws.specs.Sound.{IsSoundRow, Sound}
 use Rattle.aprs_laws.specs.Witnesses.{witnesses_of_row, witnesses}
 use Rattle.aprs_laws.specs.Joining.{Joined}
-use Rattle.aprs_laws.specs.JoinRow.{choose, single, IsNear, combine, place, coalesce, coalesced}
-use Rattle.aprs_laws.specs.Coalescing.{AreInOrder, StandFor, appended}
+use Rattle.aprs_laws.specs.JoinRow.{choose, single, IsNear, combine, place, coalesce, coalesced_rows}
+use Rattle.aprs_laws.specs.Coalescing.{AreInOrder, StandFor, append_row}
 use Rattle.aprs_laws.proofs.Lists.{in_left, in_right, in_either}
 use Rattle.aprs_laws.proofs.Made.{Made, Keeps, makes_single}
 use Rattle.aprs_laws.proofs.Books.{book_of_keeps, book_carries}
@@ -26,7 +26,7 @@ use Rattle.aprs_laws.proofs.Streams.{combined_up_to, down, made_coalesce, ordere
 -- ---- the book of what rows in order are made of
 
 pub keeps_coalesced : (gap : ℕ) (S : List Heard) (rows : List Row) → Made gap S rows
-    → AreInOrder rows → Keeps gap S (coalesced gap rows)
+    → AreInOrder rows → Keeps gap S (coalesced_rows gap rows)
 keeps_coalesced gap S [] m o = record { made = m; ordered = tt }
 keeps_coalesced gap S (x ∷ xs) m o = record {
   made = made_coalesce gap S m.0 m.1 x xs m.2 m.3 m.4;
@@ -34,13 +34,13 @@ keeps_coalesced gap S (x ∷ xs) m o = record {
 }
 
 pub made_is_book : (gap : ℕ) (S : List Heard) (rows : List Row) → Made gap S rows
-    → AreInOrder rows → BookOf gap S (coalesced gap rows)
+    → AreInOrder rows → BookOf gap S (coalesced_rows gap rows)
 made_is_book gap S rows m o =
-    book_of_keeps gap S (coalesced gap rows) (keeps_coalesced gap S rows m o)
+    book_of_keeps gap S (coalesced_rows gap rows) (keeps_coalesced gap S rows m o)
 
 pub coalesces_witnesses : (gap : ℕ) → 0 < gap → (rows : List Row)
     → ((x : Row) → x ∈ rows → IsSoundRow x) → AreInOrder rows
-    → BookOf gap (witnesses rows) (coalesced gap rows)
+    → BookOf gap (witnesses rows) (coalesced_rows gap rows)
 coalesces_witnesses gap pos rows w o =
     made_is_book gap (witnesses rows) rows (witnesses_made gap pos rows w) o
 
@@ -54,9 +54,10 @@ same_witnesses p q e s = (
 )
 
 pub coalesces_book : (gap : ℕ) → 0 < gap → (S : List Heard) (told rows : List Row)
-    → StandFor told S → SameMembers told rows → AreInOrder rows → BookOf gap S (coalesced gap rows)
+    → StandFor told S → SameMembers told rows → AreInOrder rows
+    → BookOf gap S (coalesced_rows gap rows)
 coalesces_book gap pos S told rows f e o =
-    book_carries gap (witnesses rows) S (coalesced gap rows)
+    book_carries gap (witnesses rows) S (coalesced_rows gap rows)
     (λ s. let w = same_witnesses told rows e s in (
       λ h. (f.members s).0 (w.1 h),
       λ h. w.0 ((f.members s).1 h),
@@ -155,11 +156,11 @@ singles_made gap (s ∷ S) = (
 )
 
 pub coalesces_receptions : (gap : ℕ) (S : List Heard) → AreInOrder (map single S)
-    → BookOf gap S (coalesced gap (map single S))
+    → BookOf gap S (coalesced_rows gap (map single S))
 coalesces_receptions gap S o = made_is_book gap S (map single S) (singles_made gap S) o
 
 pub coalesces_joined : (gap : ℕ) → 0 < gap → (a b rows : List Row) → Sound gap a → Sound gap b
-    → SameMembers (a ++ b) rows → AreInOrder rows → Joined gap a b (coalesced gap rows)
+    → SameMembers (a ++ b) rows → AreInOrder rows → Joined gap a b (coalesced_rows gap rows)
 coalesces_joined gap pos a b rows v w e o =
     coalesces_book gap pos (witnesses a ++ witnesses b) (a ++ b) rows
     (unions_stand a b (witnesses a) (witnesses b) (books_stand gap a v) (books_stand gap b w)) e o
@@ -168,41 +169,42 @@ coalesces_joined gap pos a b rows v w e o =
 
 -- one more row looks at the last alone
 after_first : (gap : ℕ) (k l : Row) (xs : List Row) (x : Row)
-    → appended gap (k ∷ coalesce gap l xs) x ≡ k ∷ appended gap (coalesce gap l xs) x
+    → append_row gap (k ∷ coalesce gap l xs) x ≡ k ∷ append_row gap (coalesce gap l xs) x
 after_first gap k l [] x = refl
 after_first gap k l (y ∷ xs) x =
     by_case (place gap l y) (after_first gap k (combine l y) xs x) where
       by_case : (o : Ordering)
-          → appended gap (k ∷ coalesce gap (combine l y) xs) x
-          ≡ k ∷ appended gap (coalesce gap (combine l y) xs) x
-          → appended gap (k ∷ choose o (l ∷ coalesce gap y xs) (coalesce gap (combine l y) xs)
+          → append_row gap (k ∷ coalesce gap (combine l y) xs) x
+          ≡ k ∷ append_row gap (coalesce gap (combine l y) xs) x
+          → append_row gap (k ∷ choose o (l ∷ coalesce gap y xs) (coalesce gap (combine l y) xs)
           (l ∷ coalesce gap y xs)) x
-          ≡ k ∷ appended gap (choose o (l ∷ coalesce gap y xs) (coalesce gap (combine l y) xs)
+          ≡ k ∷ append_row gap (choose o (l ∷ coalesce gap y xs) (coalesce gap (combine l y) xs)
           (l ∷ coalesce gap y xs)) x
       by_case Less e = refl
       by_case Equal e = e
       by_case Greater e = refl
 
 pub coalesce_one_more : (gap : ℕ) (l : Row) (xs : List Row) (x : Row)
-    → coalesce gap l (xs ++ x ∷ []) ≡ appended gap (coalesce gap l xs) x
+    → coalesce gap l (xs ++ x ∷ []) ≡ append_row gap (coalesce gap l xs) x
 coalesce_one_more gap l [] x = refl
 coalesce_one_more gap l (y ∷ xs) x =
     by_case (place gap l y)
     (ap (λ zs. l ∷ zs) (coalesce_one_more gap y xs x) ∙ sym (after_first gap l y xs x))
     (coalesce_one_more gap (combine l y) xs x) where
       by_case : (o : Ordering)
-          → l ∷ coalesce gap y (xs ++ x ∷ []) ≡ appended gap (l ∷ coalesce gap y xs) x
-          → coalesce gap (combine l y) (xs ++ x ∷ []) ≡ appended gap (coalesce gap (combine l y) xs) x
+          → l ∷ coalesce gap y (xs ++ x ∷ []) ≡ append_row gap (l ∷ coalesce gap y xs) x
+          → coalesce gap (combine l y) (xs ++ x ∷ []) ≡ append_row gap
+          (coalesce gap (combine l y) xs) x
           → choose o (l ∷ coalesce gap y (xs ++ x ∷ [])) (coalesce gap (combine l y) (xs ++ x ∷ []))
           (l ∷ coalesce gap y (xs ++ x ∷ []))
-          ≡ appended gap (choose o (l ∷ coalesce gap y xs) (coalesce gap (combine l y) xs)
+          ≡ append_row gap (choose o (l ∷ coalesce gap y xs) (coalesce gap (combine l y) xs)
           (l ∷ coalesce gap y xs)) x
       by_case Less f n = f
       by_case Equal f n = n
       by_case Greater f n = f
 
 pub coalesces_one_by_one : (gap : ℕ) (rows : List Row) (x : Row)
-    → coalesced gap (rows ++ x ∷ []) ≡ appended gap (coalesced gap rows) x
+    → coalesced_rows gap (rows ++ x ∷ []) ≡ append_row gap (coalesced_rows gap rows) x
 coalesces_one_by_one gap [] x = refl
 coalesces_one_by_one gap (l ∷ rows) x = coalesce_one_more gap l rows x
 
@@ -237,7 +239,7 @@ before_next (z ∷ zs) x o y (inl e) =
 before_next (z ∷ zs) x o y (inr h) = before_next zs x o.1 y h
 
 coalesced_up_to : (gap : ℕ) (rows : List Row) (x : Row) → AreInOrder (rows ++ x ∷ []) → (y : Row)
-    → y ∈ coalesced gap rows → IsUpTo row_cmp y x
+    → y ∈ coalesced_rows gap rows → IsUpTo row_cmp y x
 coalesced_up_to gap [] x o y h = absurd h
 coalesced_up_to gap (l ∷ xs) x o y h =
     up_to_next gap x l xs (before_next (l ∷ xs) x o l (inl refl))
@@ -250,16 +252,18 @@ first_up_to l x e u =
     (subst (λ (o : Ordering). is_gt (ordering_then o (nat_cmp l.first x.first)) ≡ false)
     (one_key l x e) u)
 
-pub joins_last : (gap : ℕ) (rows done : List Row) (l x : Row) → coalesced gap rows ≡ done ++ l ∷ []
+pub joins_last : (gap : ℕ) (rows done : List Row) (l x : Row)
+    → coalesced_rows gap rows ≡ done ++ l ∷ []
     → AreInOrder (rows ++ x ∷ []) → IsSoundRow x
     → (place gap l x ≡ Equal) ↔ ((row_key l ≡ row_key x) × (x.first ≤ last_of l + gap))
 joins_last gap rows done l x c o w = (near, test) where
   near : place gap l x ≡ Equal → (row_key l ≡ row_key x) × (x.first ≤ last_of l + gap)
   near e = let n =
-      subst (λ (p : Ordering). MatchOrdering p (IsBefore gap l x) (IsNear gap l x) (IsBefore gap x l))
+      subst (λ (p : Ordering). MatchOrdering p (IsBefore gap l x) (IsNear gap l x)
+      (IsBefore gap x l))
       e (place_means gap l x) in (n.key, n.after)
 
-  is_last : l ∈ coalesced gap rows
+  is_last : l ∈ coalesced_rows gap rows
   is_last = subst (λ (ys : List Row). l ∈ ys) (sym c) (in_right l done (l ∷ []) (inl refl))
 
   test : (row_key l ≡ row_key x) × (x.first ≤ last_of l + gap) → place gap l x ≡ Equal

@@ -11,7 +11,7 @@ use Rattle.aprs_laws.specs.Book.{BookOf}
 use Rattle.aprs_laws.specs.Sound.{IsSoundRow, Sound}
 use Rattle.aprs_laws.specs.Witnesses.{witnesses}
 use Rattle.aprs_laws.specs.JoinRow.{choose, greater, single, IsNear, combine, place, join_row}
-use Rattle.aprs_laws.specs.Inserted.{grown, bridged, inserted, FitsInPlace, is_listed, is_near_first, fits_in_place}
+use Rattle.aprs_laws.specs.Inserted.{grow_row, bridge_row, insert_heard, FitsInPlace, is_listed, is_near_first, fits_in_place}
 use Rattle.aprs_laws.proofs.Orders.{bytes_total, bytes_exact, heard_total, heard_exact, same_greatest, compared, not_both}
 use Rattle.aprs_laws.proofs.Choices.{union_one, union_flip, union_ordered}
 use Rattle.aprs_laws.proofs.Rows.{IsBefore, the_greater, place_means, before_trans, combined_last}
@@ -24,9 +24,9 @@ use Rattle.aprs_laws.proofs.TakenSteps.{taken_last}
 
 -- a row grown is a row combined with that of the reception
 pub grown_is_combined : (r : Row) (s : Heard) → Ordered (IsBelow bytes_cmp) r.receivers
-    → grown r s ≡ combine r (single s)
+    → grow_row r s ≡ combine r (single s)
 grown_is_combined r s p =
-    same_row (grown r s) (combine r (single s)) refl
+    same_row (grow_row r s) (combine r (single s)) refl
     (sym (union_one bytes_total bytes_exact r.receivers s.receiver p)) refl
 
 pub greater_flip : (a b : Heard) → greater a b ≡ greater b a
@@ -83,7 +83,7 @@ after_two gap s r x y n m lx ly b c =
 -- a row near to s, grown by s, and the rows after it
 bridged_is_joined : (gap : ℕ) (s : Heard) (r : Row) (rows : List Row) → IsNear gap r (single s)
     → IsSoundRow r → ((x : Row) → x ∈ rows → IsSoundRow x) → Ordered (IsBefore gap) (r ∷ rows)
-    → bridged gap s (combine r (single s)) rows ≡ join_row gap rows (combine r (single s))
+    → bridge_row gap s (combine r (single s)) rows ≡ join_row gap rows (combine r (single s))
 bridged_is_joined gap s r [] n w v o = refl
 bridged_is_joined gap s r (x ∷ xs) n w v o =
     by_case (place gap x (single s)) (place_means gap x (single s)) where
@@ -134,7 +134,7 @@ bridged_is_joined gap s r (x ∷ xs) n w v o =
       by_case Greater h = sym (after h)
 
 pub inserted_is_joined : (gap : ℕ) (s : Heard) (rows : List Row) → IsSound gap rows
-    → inserted gap s rows ≡ join_row gap rows (single s)
+    → insert_heard gap s rows ≡ join_row gap rows (single s)
 inserted_is_joined gap s [] w = refl
 inserted_is_joined gap s (r ∷ rows) w =
     by_case (place gap r (single s)) (place_means gap r (single s))
@@ -145,28 +145,28 @@ inserted_is_joined gap s (r ∷ rows) w =
 
       by_case : (q : Ordering)
           → MatchOrdering q (IsBefore gap r (single s)) (IsNear gap r (single s))
-          (IsBefore gap (single s) r) → inserted gap s rows ≡ join_row gap rows (single s)
-          → choose q (r ∷ inserted gap s rows) (bridged gap s (grown r s) rows)
+          (IsBefore gap (single s) r) → insert_heard gap s rows ≡ join_row gap rows (single s)
+          → choose q (r ∷ insert_heard gap s rows) (bridge_row gap s (grow_row r s) rows)
           (single s ∷ r ∷ rows) ≡ choose q (r ∷ join_row gap rows (single s))
           (join_row gap rows (combine r (single s))) (single s ∷ r ∷ rows)
       by_case Less h e = ap (λ (xs : List Row). r ∷ xs) e
       by_case Equal h e =
-          ap (λ (x : Row). bridged gap s x rows) (grown_is_combined r s own.ascending)
+          ap (λ (x : Row). bridge_row gap s x rows) (grown_is_combined r s own.ascending)
           ∙ bridged_is_joined gap s r rows h own (λ x k. w.each x (inr k)) w.ordered
       by_case Greater h e = refl
 
 -- so it turns the book of S into that of S and s
 pub inserted_is_book : (gap : ℕ) (S : List Heard) (s : Heard) (rows : List Row) → BookOf gap S rows
-    → BookOf gap (S ++ s ∷ []) (inserted gap s rows)
+    → BookOf gap (S ++ s ∷ []) (insert_heard gap s rows)
 inserted_is_book gap S s rows b =
     subst (λ (p : List Row). BookOf gap (S ++ s ∷ []) p)
     (sym (inserted_is_joined gap s rows (one_relation gap rows (sound gap S rows b))))
     (taken_last gap S s rows b)
 
 pub inserted_is_sound : (gap : ℕ) → 0 < gap → (s : Heard) (rows : List Row) → Sound gap rows
-    → Sound gap (inserted gap s rows)
+    → Sound gap (insert_heard gap s rows)
 inserted_is_sound gap pos s rows w =
-    sound gap (witnesses rows ++ s ∷ []) (inserted gap s rows)
+    sound gap (witnesses rows ++ s ∷ []) (insert_heard gap s rows)
     (inserted_is_book gap (witnesses rows) s rows (witnessed gap rows pos w))
 
 -- ---- what changes in place

@@ -1,5 +1,5 @@
 -- Two lists of rows in order, put together in order: the one pass that merges two books.
-use Rattle.std.proofs.Common.{◌≡◌, ℕ, ◌<◌, List, [], ◌∷◌, ◌++◌, ◌⊎◌, ◌↔◌, inl, inr, refl, ap, ◌∙◌, subst}
+use Rattle.std.proofs.Common.{◌≡◌, ℕ, ◌<◌, List, [], ◌∷◌, ◌⊎◌, ◌↔◌, inl, inr, refl, ap, ◌∙◌, subst}
 use Rattle.std.proofs.lemmas.Cmp.{upto, tied_back}
 use Rattle.std.specs.Ordering.{ordering_reverse, is_gt, MatchOrdering}
 use Rattle.std.specs.declared.cmp.Ordering.{Ordering}
@@ -8,13 +8,11 @@ use Rattle.aprs_laws.specs.Lists.{◌∈◌, Ordered}
 use Rattle.aprs_laws.specs.Order.{IsBelow, IsUpTo}
 use Rattle.aprs_laws.specs.Row.{Row, row_cmp}
 use Rattle.aprs_laws.specs.Sound.{Sound}
-use Rattle.aprs_laws.specs.Witnesses.{witnesses}
 use Rattle.aprs_laws.specs.Joining.{Joined}
-use Rattle.aprs_laws.specs.JoinRow.{merge, interleave_from, interleave, coalesced}
+use Rattle.aprs_laws.specs.JoinRow.{interleave_from, interleave, coalesced_rows}
 use Rattle.aprs_laws.proofs.Lists.{in_either, in_left, in_right, ordered_weaker}
 use Rattle.aprs_laws.proofs.Choices.{by_choice}
-use Rattle.aprs_laws.proofs.Books.{row_total, one_book}
-use Rattle.aprs_laws.proofs.Views.{joined_by_merge}
+use Rattle.aprs_laws.proofs.Books.{row_total}
 use Rattle.aprs_laws.proofs.Coalescing.{coalesces_joined}
 
 -- the two ways in which rows lie
@@ -114,7 +112,7 @@ ascending gap rows s =
 
 -- one pass over both books gives their joined value
 pub one_pass : (gap : ℕ) → 0 < gap → (a b : List Row) → Sound gap a → Sound gap b
-    → Joined gap a b (coalesced gap (interleave a b))
+    → Joined gap a b (coalesced_rows gap (interleave a b))
 one_pass gap pos a b v w =
     coalesces_joined gap pos a b (interleave a b) v w
     (λ x. let i = interleave_members a b x in (

@@ -8,14 +8,14 @@ use Rattle.aprs_laws.specs.Lists.{◌∈◌, Ordered}
 use Rattle.aprs_laws.specs.Order.{IsBelow}
 use Rattle.aprs_laws.specs.Joining.{IsUnited}
 use Rattle.aprs_laws.specs.JoinRow.{union}
-use Rattle.aprs_laws.specs.Merged.{merged_from, merged}
+use Rattle.aprs_laws.specs.Merged.{ascending_union_from, ascending_union}
 use Rattle.aprs_laws.proofs.Orders.{compared}
 use Rattle.aprs_laws.proofs.Choices.{by_choice, united_is_union}
 
 module _ {X : Type 0} {R : X → X → Ordering} (o : IsTotalOrder R) (e : CmpEqualImpliesEq R) where
   from_members : (x : X) (xs : List X) (rest : List X → List X)
       → ((ys : List X) (z : X) → (z ∈ rest ys) ↔ ((z ∈ xs) ⊎ (z ∈ ys))) → (ys : List X) (z : X)
-      → (z ∈ merged_from R x xs rest ys) ↔ ((z ∈ (x ∷ xs)) ⊎ (z ∈ ys))
+      → (z ∈ ascending_union_from R x xs rest ys) ↔ ((z ∈ (x ∷ xs)) ⊎ (z ∈ ys))
   from_members x xs rest f [] z = (λ h. inl h, λ h. elim h [ inl k ↦ k | inr k ↦ absurd k ])
   from_members x xs rest f (y ∷ ys) z =
       by_choice (λ (zs : List X). (z ∈ zs) ↔ ((z ∈ (x ∷ xs)) ⊎ (z ∈ (y ∷ ys)))) _ _ _ _ _ _ (R x y)
@@ -56,13 +56,14 @@ module _ {X : Type 0} {R : X → X → Ordering} (o : IsTotalOrder R) (e : CmpEq
         ],
       ))
 
-  pub merged_members : (xs ys : List X) (z : X) → (z ∈ merged R xs ys) ↔ ((z ∈ xs) ⊎ (z ∈ ys))
+  pub merged_members : (xs ys : List X) (z : X)
+      → (z ∈ ascending_union R xs ys) ↔ ((z ∈ xs) ⊎ (z ∈ ys))
   merged_members [] ys z = (λ h. inr h, λ h. elim h [ inl k ↦ absurd k | inr k ↦ k ])
-  merged_members (x ∷ xs) ys z = from_members x xs (merged R xs) (merged_members xs) ys z
+  merged_members (x ∷ xs) ys z = from_members x xs (ascending_union R xs) (merged_members xs) ys z
 
   from_ordered : (x : X) (xs ys : List X) → Ordered (IsBelow R) (x ∷ xs) → Ordered (IsBelow R) ys
-      → ((zs : List X) → Ordered (IsBelow R) zs → Ordered (IsBelow R) (merged R xs zs))
-      → Ordered (IsBelow R) (merged R (x ∷ xs) ys)
+      → ((zs : List X) → Ordered (IsBelow R) zs → Ordered (IsBelow R) (ascending_union R xs zs))
+      → Ordered (IsBelow R) (ascending_union R (x ∷ xs) ys)
   from_ordered x xs [] p q f = p
   from_ordered x xs (y ∷ ys) p q f =
       by_choice (λ (zs : List X). Ordered (IsBelow R) zs) _ _ _ _ _ _ (R x y) (compared o e x y)
@@ -97,17 +98,17 @@ module _ {X : Type 0} {R : X → X → Ordering} (o : IsTotalOrder R) (e : CmpEq
       ))
 
   pub merged_ordered : (xs ys : List X) → Ordered (IsBelow R) xs → Ordered (IsBelow R) ys
-      → Ordered (IsBelow R) (merged R xs ys)
+      → Ordered (IsBelow R) (ascending_union R xs ys)
   merged_ordered [] ys p q = q
   merged_ordered (x ∷ xs) ys p q = from_ordered x xs ys p q (λ zs r. merged_ordered xs zs p.1 r)
 
   -- so it is the joined value
   pub merged_is_united : (xs ys : List X) → Ordered (IsBelow R) xs → Ordered (IsBelow R) ys
-      → IsUnited R xs ys (merged R xs ys)
+      → IsUnited R xs ys (ascending_union R xs ys)
   merged_is_united xs ys p q =
       record { ascending = merged_ordered xs ys p q; members = merged_members xs ys }
 
   pub merged_is_union : (xs ys : List X) → Ordered (IsBelow R) xs → Ordered (IsBelow R) ys
-      → merged R xs ys ≡ union R xs ys
+      → ascending_union R xs ys ≡ union R xs ys
   merged_is_union xs ys p q =
-      united_is_union o e xs ys (merged R xs ys) q (merged_is_united xs ys p q)
+      united_is_union o e xs ys (ascending_union R xs ys) q (merged_is_united xs ys p q)

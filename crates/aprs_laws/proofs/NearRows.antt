@@ -1,5 +1,5 @@
 -- One reception is near to at most two rows, which are neighbours.
-use Rattle.std.proofs.Common.{◌≡◌, ℕ, ◌+◌, ◌<◌, ◌≤◌, List, [], ◌∷◌, ◌⊎◌, inl, inr, refl, sym, ◌∙◌, subst, arith, length}
+use Rattle.std.proofs.Common.{◌≡◌, ℕ, ◌+◌, ◌<◌, ◌≤◌, List, [], ◌∷◌, ◌⊎◌, inl, inr, sym, ◌∙◌, subst, arith}
 use Rattle.std.specs.declared.cmp.Ordering.TheVariants.{Less}
 use Rattle.aprs_log.specs.Reception.{Heard}
 use Rattle.aprs_laws.specs.Lists.{◌∈◌, Ordered}

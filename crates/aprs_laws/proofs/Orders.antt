@@ -8,10 +8,9 @@ use Rattle.std.proofs.lemmas.Cmp.{then_total, on_total, nat_cmp_total, nat_list_
 use Rattle.std.proofs.lemmas.Bool.Decides.{nat_tests}
 use Rattle.std.proofs.lemmas.Map.Lookups.{CmpEqualImpliesEq, exact_pairs, exact_unsigned, exact_bytes}
 use Rattle.aprs_ax25.specs.Callsign.{Call, call_cmp}
-use Rattle.aprs_ax25.specs.FrameFault.{parts_of}
 use Rattle.aprs_log.specs.Reception.{Heard, bytes_cmp, heard_cmp}
 use Rattle.aprs_laws.specs.Order.{IsUpTo}
-use Rattle.aprs_laws.specs.Key.{key_of, key_cmp}
+use Rattle.aprs_laws.specs.Key.{key_cmp}
 
 pub not_both : {X : Type 0} {R : X → X → Ordering} → IsTotalOrder R → (x y : X) → R x y ≡ Less
     → R y x ≡ Less → ⊥

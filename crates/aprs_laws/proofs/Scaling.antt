@@ -12,7 +12,7 @@ use Rattle.aprs_laws.specs.Lists.{◌∈◌, Ordered}
 use Rattle.aprs_laws.specs.Order.{IsUpTo}
 use Rattle.aprs_laws.specs.Row.{Row, last_of, IsOf}
 use Rattle.aprs_laws.specs.Book.{BookOf}
-use Rattle.aprs_laws.specs.Scaling.{scaled_heard, scaled_row, scaled}
+use Rattle.aprs_laws.specs.Scaling.{scaled_heard, scaled_row, scaled_rows}
 use Rattle.aprs_laws.proofs.Lists.{in_map, from_map}
 use Rattle.aprs_laws.proofs.Rows.{Makes, IsBefore}
 use Rattle.aprs_laws.proofs.Made.{IsUnion, Made}
@@ -115,7 +115,7 @@ module _ (k gap : ℕ) (pos : 0 < k) where
   )
 
   scaled_made : (S : List Heard) (rows : List Row) → Made gap S rows
-      → Made (gap * k) (map (scaled_heard k) S) (scaled k rows)
+      → Made (gap * k) (map (scaled_heard k) S) (scaled_rows k rows)
   scaled_made S [] m =
       λ t h. let u = from_map (scaled_heard k) t S h in m u.0 u.1
   scaled_made S (x ∷ xs) m = (
@@ -137,7 +137,7 @@ module _ (k gap : ℕ) (pos : 0 < k) where
       )
 
   scaled_ordered : (rows : List Row) → Ordered (IsBefore gap) rows
-      → Ordered (IsBefore (gap * k)) (scaled k rows)
+      → Ordered (IsBefore (gap * k)) (scaled_rows k rows)
   scaled_ordered [] o = tt
   scaled_ordered (x ∷ xs) o = (
     λ z h. let u = from_map (scaled_row k) z xs h in
@@ -147,10 +147,10 @@ module _ (k gap : ℕ) (pos : 0 < k) where
   )
 
   pub scaled_book : (S : List Heard) (rows : List Row) → BookOf gap S rows
-      → BookOf (gap * k) (map (scaled_heard k) S) (scaled k rows)
+      → BookOf (gap * k) (map (scaled_heard k) S) (scaled_rows k rows)
   scaled_book S rows b =
       let w = keeps_of_book gap S rows b in
-      book_of_keeps (gap * k) (map (scaled_heard k) S) (scaled k rows)
+      book_of_keeps (gap * k) (map (scaled_heard k) S) (scaled_rows k rows)
       (record { made = scaled_made S rows w.made; ordered = scaled_ordered rows w.ordered })
 
   -- ---- and back, since no two moments scale to one
@@ -179,7 +179,7 @@ module _ (k gap : ℕ) (pos : 0 < k) where
   tail [] = []
   tail (x ∷ xs) = xs
 
-  pub one_scaled : (p q : List Row) → scaled k p ≡ scaled k q → p ≡ q
+  pub one_scaled : (p q : List Row) → scaled_rows k p ≡ scaled_rows k q → p ≡ q
   one_scaled [] [] e = refl
   one_scaled [] (y ∷ ys) e = cc e
   one_scaled (x ∷ xs) [] e = cc e
@@ -189,12 +189,12 @@ module _ (k gap : ℕ) (pos : 0 < k) where
       ap (λ z. z ∷ xs) h ∙ ap (λ zs. y ∷ zs) t
 
 pub scales_book : (k gap : ℕ) (S : List Heard) (rows : List Row) → 0 < k
-    → BookOf gap S rows ↔ BookOf (gap * k) (map (scaled_heard k) S) (scaled k rows)
+    → BookOf gap S rows ↔ BookOf (gap * k) (map (scaled_heard k) S) (scaled_rows k rows)
 scales_book k gap S rows pos = (
   scaled_book k gap pos S rows,
   λ b. let t = exists gap S in
       subst (λ (p : List Row). BookOf gap S p)
       (one_scaled k gap pos t.0 rows
-      (one_book (gap * k) (map (scaled_heard k) S) (scaled k t.0) (scaled k rows)
+      (one_book (gap * k) (map (scaled_heard k) S) (scaled_rows k t.0) (scaled_rows k rows)
       (scaled_book k gap pos S t.0 t.1) b)) t.1,
 )

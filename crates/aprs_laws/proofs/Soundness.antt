@@ -77,7 +77,8 @@ module _ (gap : ℕ) (x : Row) (w : IsSoundRow x) (pos : 0 < gap) where
       (map (witness_by x) x.receivers) (in_map (witness_by x) r x.receivers h)
 
   -- each witness is one of these
-  pub from_witness : (P : Heard → Type 0) → ((m : ℕ) → x.first ≤ m → m ≤ last_of x → P (witness_at x m))
+  pub from_witness : (P : Heard → Type 0) → ((m : ℕ) → x.first ≤ m → m ≤ last_of x
+      → P (witness_at x m))
       → ((r : List ℕ) → r ∈ x.receivers → P (witness_by x r)) → (s : Heard) → s ∈ witnesses_of_row x
       → P s
   from_witness P f g s h =

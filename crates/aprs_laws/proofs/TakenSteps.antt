@@ -6,7 +6,7 @@ use Rattle.aprs_laws.specs.Row.{Row}
 use Rattle.aprs_laws.specs.Book.{BookOf}
 use Rattle.aprs_laws.specs.Sound.{IsSoundRow, Sound}
 use Rattle.aprs_laws.specs.Joining.{Joined}
-use Rattle.aprs_laws.specs.Taken.{Step, Take, Merge, StepFits, after_step, after_steps, taken}
+use Rattle.aprs_laws.specs.Taken.{Step, Take, Merge, after_step, after_steps, sets_after}
 use Rattle.aprs_laws.specs.JoinRow.{single, join_row, merge, plain_book}
 use Rattle.aprs_laws.specs.StepLaws.{rows_after_step, rows_after_steps}
 use Rattle.aprs_laws.proofs.Made.{keeps_book}
@@ -57,7 +57,7 @@ steps_keep gap (step ∷ steps) sets rows f =
     (step_keeps gap step sets rows f)
 
 pub steps_give : (gap : ℕ) (steps : List Step) (i : ℕ)
-    → BookOf gap (taken steps i) (rows_after_steps gap steps (λ k. []) i)
+    → BookOf gap (sets_after steps i) (rows_after_steps gap steps (λ k. []) i)
 steps_give gap steps = steps_keep gap steps (λ k. []) (λ k. []) (λ k. book_of_nothing gap)
 
 -- the steps so far, and one more
@@ -67,8 +67,8 @@ after_steps_last [] step sets = refl
 after_steps_last (s ∷ steps) step sets = after_steps_last steps step (after_step s sets)
 
 pub same_taken : (gap : ℕ) (steps others : List Step) (i j : ℕ)
-    → SameMembers (taken steps i) (taken others j)
+    → SameMembers (sets_after steps i) (sets_after others j)
     → rows_after_steps gap steps (λ k. []) i ≡ rows_after_steps gap others (λ k. []) j
 same_taken gap steps others i j e =
-    unique gap (taken steps i) (taken others j) (rows_after_steps gap steps (λ k. []) i)
+    unique gap (sets_after steps i) (sets_after others j) (rows_after_steps gap steps (λ k. []) i)
     (rows_after_steps gap others (λ k. []) j) e (steps_give gap steps i) (steps_give gap others j)

@@ -9,9 +9,9 @@ use Rattle.aprs_laws.specs.Book.{BookOf}
 use Rattle.aprs_laws.specs.Sound.{Sound}
 use Rattle.aprs_laws.specs.Witnesses.{witnesses}
 use Rattle.aprs_laws.specs.Joining.{Joined}
-use Rattle.aprs_laws.specs.JoinRow.{coalesced}
+use Rattle.aprs_laws.specs.JoinRow.{coalesced_rows}
 use Rattle.aprs_laws.specs.Coalescing.{AreInOrder}
-use Rattle.aprs_laws.specs.Widening.{widened}
+use Rattle.aprs_laws.specs.Widening.{widened_rows}
 use Rattle.aprs_laws.proofs.Lists.{ordered_weaker}
 use Rattle.aprs_laws.proofs.Rows.{Makes}
 use Rattle.aprs_laws.proofs.Made.{Made}
@@ -38,7 +38,7 @@ made_wider g h S (x ∷ xs) l m =
     (m.0, m.1, m.2, makes_wider g h m.0 x l m.3, made_wider g h m.1 xs l m.4)
 
 pub widens_book : (g h : ℕ) (S : List Heard) (rows : List Row) → g ≤ h → BookOf g S rows
-    → BookOf h S (widened h rows)
+    → BookOf h S (widened_rows h rows)
 widens_book g h S rows l b =
     made_is_book h S rows (made_wider g h S rows l (keeps_of_book g S rows b).made)
     (ordered_weaker (IsBelow row_cmp) (IsUpTo row_cmp) rows (λ x y hx hy e. ap is_gt e)
@@ -46,39 +46,40 @@ widens_book g h S rows l b =
 
 -- sound rows are the book of their witnesses
 pub widens_witnesses : (g h : ℕ) (rows : List Row) → 0 < g → g ≤ h → Sound g rows
-    → BookOf h (witnesses rows) (widened h rows)
+    → BookOf h (witnesses rows) (widened_rows h rows)
 widens_witnesses g h rows pos l w = widens_book g h (witnesses rows) rows l (witnessed g rows pos w)
 
 pub widened_sound : (g h : ℕ) (rows : List Row) → 0 < g → g ≤ h → Sound g rows
-    → Sound h (widened h rows)
-widened_sound g h rows pos l w = sound h (witnesses rows) (widened h rows)
+    → Sound h (widened_rows h rows)
+widened_sound g h rows pos l w = sound h (witnesses rows) (widened_rows h rows)
     (widens_witnesses g h rows pos l w)
 
 pub keeps_under_own_gap : (gap : ℕ) (rows : List Row) → 0 < gap → Sound gap rows
-    → widened gap rows ≡ rows
+    → widened_rows gap rows ≡ rows
 keeps_under_own_gap gap rows pos w =
-    one_book gap (witnesses rows) (widened gap rows) rows
+    one_book gap (witnesses rows) (widened_rows gap rows) rows
     (widens_witnesses gap gap rows pos (omega arith) w) (witnessed gap rows pos w)
 
 pub widens_in_steps : (g h k : ℕ) (rows : List Row) → 0 < g → g ≤ h → h ≤ k → Sound g rows
-    → widened k (widened h rows) ≡ widened k rows
+    → widened_rows k (widened_rows h rows) ≡ widened_rows k rows
 widens_in_steps g h k rows pos l m w =
-    one_book k (witnesses rows) (widened k (widened h rows)) (widened k rows)
-    (widens_book h k (witnesses rows) (widened h rows) m (widens_witnesses g h rows pos l w))
+    one_book k (witnesses rows) (widened_rows k (widened_rows h rows)) (widened_rows k rows)
+    (widens_book h k (witnesses rows) (widened_rows h rows) m (widens_witnesses g h rows pos l w))
     (widens_witnesses g k rows pos (omega arith) w)
 
 pub widens_joined : (g h : ℕ) (a b c : List Row) → 0 < g → g ≤ h → Sound g a → Sound g b
-    → Joined g a b c → Joined h (widened h a) (widened h b) (widened h c)
+    → Joined g a b c → Joined h (widened_rows h a) (widened_rows h b) (widened_rows h c)
 widens_joined g h a b c pos l v w j =
-    (union_is_joined h (omega arith) (witnesses a) (witnesses b) (widened h a) (widened h b)
-    (widened h c)
+    (union_is_joined h (omega arith) (witnesses a) (witnesses b) (widened_rows h a)
+    (widened_rows h b)
+    (widened_rows h c)
     (widens_witnesses g h a pos l v) (widens_witnesses g h b pos l w)).0
     (widens_book g h (witnesses a ++ witnesses b) c l j)
 
 -- rows of a book, put in order
 pub coalesces_wider : (g h : ℕ) (told rows : List Row) → 0 < g → g ≤ h → Sound g told
-    → SameMembers told rows → AreInOrder rows → coalesced h rows ≡ widened h told
+    → SameMembers told rows → AreInOrder rows → coalesced_rows h rows ≡ widened_rows h told
 coalesces_wider g h told rows pos l w e o =
-    one_book h (witnesses told) (coalesced h rows) (widened h told)
+    one_book h (witnesses told) (coalesced_rows h rows) (widened_rows h told)
     (coalesces_book h (omega (arith, pos, l)) (witnesses told) told rows (books_stand g told w) e o)
     (widens_witnesses g h told pos l w)

@@ -6,7 +6,7 @@ use Rattle.aprs_laws.specs.Row.{Row}
 use Rattle.aprs_laws.specs.Book.{BookOf}
 use Rattle.aprs_laws.specs.Sound.{Sound}
 use Rattle.aprs_laws.specs.Joining.{Joined}
-use Rattle.aprs_laws.specs.Widening.{widened}
+use Rattle.aprs_laws.specs.Widening.{widened_rows}
 
 -- the gap in seconds, and the rows
 pub record BookValue : Type 0 where
@@ -35,7 +35,7 @@ pub record AreJoined (a b c : BookValue) : Type 0 where
 
 -- the book under another gap, which is not less
 abbrev pub widened_to : ℕ → BookValue → BookValue
-widened_to gap b = record { gap = gap; rows = widened (millis_of gap) b.rows }
+widened_to gap b = record { gap = gap; rows = widened_rows (millis_of gap) b.rows }
 
 -- books of one gap: the union of what two hold has their joined book
 abbrev pub UnionHasJoinedBook : Type 0

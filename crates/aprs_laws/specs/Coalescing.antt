@@ -10,8 +10,8 @@ use Rattle.aprs_laws.specs.Book.{BookOf}
 use Rattle.aprs_laws.specs.Sound.{IsSoundRow, Sound}
 use Rattle.aprs_laws.specs.Witnesses.{witnesses}
 use Rattle.aprs_laws.specs.Joining.{Joined}
-use Rattle.aprs_laws.specs.JoinRow.{choose, single, combine, place, coalesced}
-use Rattle.aprs_laws.specs.Widening.{widened}
+use Rattle.aprs_laws.specs.JoinRow.{choose, single, combine, place, coalesced_rows}
+use Rattle.aprs_laws.specs.Widening.{widened_rows}
 
 -- rows in the order of key and first moment; equal ones stand in any order
 abbrev pub AreInOrder : List Row → Type 0
@@ -23,24 +23,24 @@ pub record StandFor (rows : List Row) (S : List Heard) : Type 0 where
   pub members : SameMembers (witnesses rows) S
 
 -- the rows with one more after them, which joins the last of them where it is near to it
-abbrev pub appended : ℕ → List Row → Row → List Row
-appended gap [] r = r ∷ []
-appended gap (l ∷ []) r =
+abbrev pub append_row : ℕ → List Row → Row → List Row
+append_row gap [] r = r ∷ []
+append_row gap (l ∷ []) r =
     choose (place gap l r) (l ∷ r ∷ []) (combine l r ∷ []) (l ∷ r ∷ [])
-appended gap (l ∷ m ∷ rows) r = l ∷ appended gap (m ∷ rows) r
+append_row gap (l ∷ m ∷ rows) r = l ∷ append_row gap (m ∷ rows) r
 
 -- rows in order that are sound each by itself coalesce to the book of their witnesses
 abbrev pub CoalescesWitnesses : ℕ → Type 0
 CoalescesWitnesses gap =
     (rows : List Row) → ((x : Row) → x ∈ rows → IsSoundRow x) → AreInOrder rows
-    → BookOf gap (witnesses rows) (coalesced gap rows)
+    → BookOf gap (witnesses rows) (coalesced_rows gap rows)
 
 -- rows that stand for a set, put in order, coalesce to the book of that set
 abbrev pub CoalescesBook : ℕ → Type 0
 CoalescesBook gap =
     (S : List Heard) (told rows : List Row) → StandFor told S → SameMembers told rows
     → AreInOrder rows
-    → BookOf gap S (coalesced gap rows)
+    → BookOf gap S (coalesced_rows gap rows)
 
 -- receptions stand for themselves, each as a row of its own
 abbrev pub SinglesStand : Type 0
@@ -58,30 +58,31 @@ UnionsStand =
 -- receptions in order, each as a row of its own, coalesce to their book
 abbrev pub CoalescesReceptions : ℕ → Type 0
 CoalescesReceptions gap =
-    (S : List Heard) → AreInOrder (map single S) → BookOf gap S (coalesced gap (map single S))
+    (S : List Heard) → AreInOrder (map single S) → BookOf gap S (coalesced_rows gap (map single S))
 
 -- the rows of two books, put in order, coalesce to their joined value
 abbrev pub CoalescesJoined : ℕ → Type 0
 CoalescesJoined gap =
     (a b rows : List Row) → Sound gap a → Sound gap b → SameMembers (a ++ b) rows
     → AreInOrder rows
-    → Joined gap a b (coalesced gap rows)
+    → Joined gap a b (coalesced_rows gap rows)
 
 -- the rows of a book, put in order under a gap that is not less, coalesce to the widened book
 abbrev pub CoalescesWider : Type 0
 CoalescesWider =
     (narrow wide : ℕ) (told rows : List Row) → 0 < narrow → narrow ≤ wide → Sound narrow told
-    → SameMembers told rows → AreInOrder rows → coalesced wide rows ≡ widened wide told
+    → SameMembers told rows → AreInOrder rows → coalesced_rows wide rows ≡ widened_rows wide told
 
 -- one more row is appended to what the rows before it coalesce to
 abbrev pub CoalescesOneByOne : ℕ → Type 0
 CoalescesOneByOne gap =
-    (rows : List Row) (x : Row) → coalesced gap (rows ++ x ∷ []) ≡ appended gap (coalesced gap rows) x
+    (rows : List Row) (x : Row)
+    → coalesced_rows gap (rows ++ x ∷ []) ≡ append_row gap (coalesced_rows gap rows) x
 
 -- whether the next row joins the last so far: it has its key, and begins at most the gap after its
 -- end
 abbrev pub JoinsLast : ℕ → Type 0
 JoinsLast gap =
-    (rows done : List Row) (l x : Row) → coalesced gap rows ≡ done ++ l ∷ []
+    (rows done : List Row) (l x : Row) → coalesced_rows gap rows ≡ done ++ l ∷ []
     → AreInOrder (rows ++ x ∷ []) → IsSoundRow x
     → (place gap l x ≡ Equal) ↔ ((row_key l ≡ row_key x) × (x.first ≤ last_of l + gap))

@@ -9,14 +9,14 @@ use Rattle.aprs_laws.specs.BookValue.{BookValue}
 use Rattle.aprs_laws.specs.Taken.{Step, Take, Merge}
 
 -- N0CALL-7>APRS,WIDE1-1*:>Hi
-abbrev pub hi_repeated : List ℕ
-hi_repeated =
+abbrev pub hi_after_digipeater : List ℕ
+hi_after_digipeater =
     130 ∷ 160 ∷ 164 ∷ 166 ∷ 64 ∷ 64 ∷ 224 ∷ 156 ∷ 96 ∷ 134 ∷ 130 ∷ 152 ∷ 152 ∷ 110
     ∷ 174 ∷ 146 ∷ 136 ∷ 138 ∷ 98 ∷ 64 ∷ 227 ∷ 3 ∷ 240 ∷ 62 ∷ 72 ∷ 105 ∷ []
 
 -- the same, with the C bits the other way round
-abbrev pub answered : List ℕ
-answered =
+abbrev pub hi_as_response : List ℕ
+hi_as_response =
     130 ∷ 160 ∷ 164 ∷ 166 ∷ 64 ∷ 64 ∷ 96 ∷ 156 ∷ 96 ∷ 134 ∷ 130 ∷ 152 ∷ 152 ∷ 238
     ∷ 174 ∷ 146 ∷ 136 ∷ 138 ∷ 98 ∷ 64 ∷ 227 ∷ 3 ∷ 240 ∷ 62 ∷ 72 ∷ 105 ∷ []
 
@@ -65,7 +65,7 @@ by_rx1 moment = heard moment rx1 hi_frame
 
 -- heard by RX2 through a digipeater, at moment 0
 abbrev pub early : Heard
-early = heard 0 rx2 hi_repeated
+early = heard 0 rx2 hi_after_digipeater
 
 -- the standard gap, in milliseconds
 abbrev pub half_minute : ℕ

@@ -11,23 +11,23 @@ abbrev pub side : ℕ → Row → Heard → Ordering
 side gap r s = place gap r (single s)
 
 -- a row with one more reception
-abbrev pub grown : Row → Heard → Row
-grown r s = record {
+abbrev pub grow_row : Row → Heard → Row
+grow_row r s = record {
   first = min r.first s.moment;
   receivers = add bytes_cmp s.receiver r.receivers;
   greatest = greater r.greatest s;
 }
 
 -- a row grown by s, and the rows after it, of which the first may be near to s too
-abbrev pub bridged : ℕ → Heard → Row → List Row → List Row
-bridged gap s r [] = r ∷ []
-bridged gap s r (x ∷ xs) = choose (side gap x s) (r ∷ x ∷ xs) (combine r x ∷ xs) (r ∷ x ∷ xs)
+abbrev pub bridge_row : ℕ → Heard → Row → List Row → List Row
+bridge_row gap s r [] = r ∷ []
+bridge_row gap s r (x ∷ xs) = choose (side gap x s) (r ∷ x ∷ xs) (combine r x ∷ xs) (r ∷ x ∷ xs)
 
 -- the rows with one more reception, in its place among them
-abbrev pub inserted : ℕ → Heard → List Row → List Row
-inserted gap s [] = single s ∷ []
-inserted gap s (r ∷ rows) =
-    choose (side gap r s) (r ∷ inserted gap s rows) (bridged gap s (grown r s) rows)
+abbrev pub insert_heard : ℕ → Heard → List Row → List Row
+insert_heard gap s [] = single s ∷ []
+insert_heard gap s (r ∷ rows) =
+    choose (side gap r s) (r ∷ insert_heard gap s rows) (bridge_row gap s (grow_row r s) rows)
     (single s ∷ r ∷ rows)
 
 -- exactly one row is near to s, and lists its receiver: what s changes fits where it is

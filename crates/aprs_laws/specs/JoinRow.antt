@@ -74,9 +74,9 @@ coalesce gap l (x ∷ xs) =
     (l ∷ coalesce gap x xs)
 
 -- rows in order, where each joins the one before it that it is near to
-abbrev pub coalesced : ℕ → List Row → List Row
-coalesced gap [] = []
-coalesced gap (l ∷ xs) = coalesce gap l xs
+abbrev pub coalesced_rows : ℕ → List Row → List Row
+coalesced_rows gap [] = []
+coalesced_rows gap (l ∷ xs) = coalesce gap l xs
 
 -- x and the rows after it, in order with others, where `rest` does this for the rows after it
 abbrev pub interleave_from : Row → List Row → (List Row → List Row) → List Row → List Row

@@ -18,12 +18,13 @@ scaled_row factor x = record {
 }
 
 -- the same rows in the other unit
-abbrev pub scaled : ℕ → List Row → List Row
-scaled factor rows = map (scaled_row factor) rows
+abbrev pub scaled_rows : ℕ → List Row → List Row
+scaled_rows factor rows = map (scaled_row factor) rows
 
 -- The same rows in the finer unit are the book of the same receptions in it, under the same gap in
 -- it; and no other rows of the old unit are.
 abbrev pub ScalesBook : Type 0
 ScalesBook =
     (factor gap : ℕ) (S : List Heard) (rows : List Row) → 0 < factor
-    → BookOf gap S rows ↔ BookOf (gap * factor) (map (scaled_heard factor) S) (scaled factor rows)
+    → BookOf gap S rows
+    ↔ BookOf (gap * factor) (map (scaled_heard factor) S) (scaled_rows factor rows)

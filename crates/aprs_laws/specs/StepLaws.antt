@@ -6,9 +6,9 @@ use Rattle.aprs_laws.specs.Row.{Row}
 use Rattle.aprs_laws.specs.Book.{BookOf}
 use Rattle.aprs_laws.specs.Sound.{IsSoundRow, Sound, IsNext}
 use Rattle.aprs_laws.specs.Joining.{Joined}
-use Rattle.aprs_laws.specs.Taken.{Step, Take, Merge, taken}
-use Rattle.aprs_laws.specs.Inserted.{inserted, FitsInPlace, fits_in_place}
-use Rattle.aprs_laws.specs.JoinRow.{single, IsNear, join_row, merge, interleave, coalesced, plain_book}
+use Rattle.aprs_laws.specs.Taken.{Step, Take, Merge, sets_after}
+use Rattle.aprs_laws.specs.Inserted.{insert_heard, FitsInPlace, fits_in_place}
+use Rattle.aprs_laws.specs.JoinRow.{single, IsNear, join_row, merge, interleave, coalesced_rows, plain_book}
 
 -- the plain way gives the book
 abbrev pub PlainBookIsBook : ℕ → Type 0
@@ -24,7 +24,7 @@ TakesReception gap =
 abbrev pub InsertsReception : ℕ → Type 0
 InsertsReception gap =
     (S : List Heard) (s : Heard) (p : List Row) → BookOf gap S p
-    → BookOf gap (S ++ s ∷ []) (inserted gap s p)
+    → BookOf gap (S ++ s ∷ []) (insert_heard gap s p)
 
 -- what fits in place passes the test of that
 abbrev pub FitsByTest : ℕ → Type 0
@@ -57,7 +57,8 @@ AtMostTwoAreNear gap =
 -- the rows of two books in order, where each joins the one before it if they are near
 abbrev pub OnePassJoins : ℕ → Type 0
 OnePassJoins gap =
-    (a b : List Row) → Sound gap a → Sound gap b → Joined gap a b (coalesced gap (interleave a b))
+    (a b : List Row) → Sound gap a → Sound gap b
+    → Joined gap a b (coalesced_rows gap (interleave a b))
 
 -- the rows at all places after one more step
 abbrev pub rows_after_step : ℕ → Step → (ℕ → List Row) → ℕ → List Row
@@ -74,10 +75,10 @@ rows_after_steps gap (step ∷ steps) rows =
 abbrev pub StepsGiveBooks : ℕ → Type 0
 StepsGiveBooks gap =
     (steps : List Step) (i : ℕ)
-    → BookOf gap (taken steps i) (rows_after_steps gap steps (λ k. []) i)
+    → BookOf gap (sets_after steps i) (rows_after_steps gap steps (λ k. []) i)
 
 -- places that took the same receptions, in any order, with any repeats and merges, have equal rows
 abbrev pub SameTakenSameRows : ℕ → Type 0
 SameTakenSameRows gap =
-    (steps others : List Step) (i j : ℕ) → SameMembers (taken steps i) (taken others j)
+    (steps others : List Step) (i j : ℕ) → SameMembers (sets_after steps i) (sets_after others j)
     → rows_after_steps gap steps (λ k. []) i ≡ rows_after_steps gap others (λ k. []) j

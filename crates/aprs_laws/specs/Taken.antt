@@ -19,8 +19,8 @@ after_steps [] sets = sets
 after_steps (step ∷ steps) sets = after_steps steps (after_step step sets)
 
 -- the sets at all places after these steps, from empty sets at all places
-abbrev pub taken : List Step → ℕ → List Heard
-taken steps = after_steps steps (λ k. [])
+abbrev pub sets_after : List Step → ℕ → List Heard
+sets_after steps = after_steps steps (λ k. [])
 
 -- every place is below n
 abbrev pub StepFits : ℕ → Step → Type 0

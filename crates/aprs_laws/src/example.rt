@@ -14,19 +14,20 @@ ghost use Rattle.aprs_laws.specs.Sound.{Sound, IsNext};
 ghost use Rattle.aprs_laws.specs.Witnesses.{witnesses};
 ghost use Rattle.aprs_laws.specs.Joining.{JoinLaws, AreAny, IsGreaterOf, IsAny, IsUnited, Joined, FoldsTo};
 ghost use Rattle.aprs_laws.specs.BookValue.{Holds, IsSoundBook, HaveOneGap, AreJoined, widened_to};
-ghost use Rattle.aprs_laws.specs.Taken.{taken, StepsFit};
+ghost use Rattle.aprs_laws.specs.Taken.{sets_after, StepsFit};
 ghost use Rattle.aprs_laws.specs.Best.{IsBest, LastKnown, known_of};
-ghost use Rattle.aprs_laws.specs.JoinRow.{single, IsNear, interleave, coalesced, plain_book};
-ghost use Rattle.aprs_laws.specs.Coalescing.{AreInOrder, StandFor, appended};
-ghost use Rattle.aprs_laws.specs.Merged.{merged};
-ghost use Rattle.aprs_laws.specs.Inserted.{inserted, FitsInPlace};
+ghost use Rattle.aprs_laws.specs.JoinRow.{single, IsNear, interleave, coalesced_rows, plain_book};
+ghost use Rattle.aprs_laws.specs.Coalescing.{AreInOrder, StandFor, append_row};
+ghost use Rattle.aprs_laws.specs.Merged.{ascending_union};
+ghost use Rattle.aprs_laws.specs.Inserted.{insert_heard, FitsInPlace};
 ghost use Rattle.aprs_laws.specs.BestLaws.{Passes};
-ghost use Rattle.aprs_laws.specs.Widening.{widened};
-ghost use Rattle.aprs_laws.specs.Scaling.{scaled, scaled_heard};
+ghost use Rattle.aprs_laws.specs.Widening.{widened_rows};
+ghost use Rattle.aprs_laws.specs.Scaling.{scaled_rows, scaled_heard};
 ghost use Rattle.aprs_laws.specs.StepLaws.{rows_after_steps};
-ghost use Rattle.aprs_laws.specs.Examples.{half_minute, hi_frame, hi_repeated, answered, of_other, hi_key, n0call, key_by, any_key, rx1, rx2, heard, by_rx1, early, row_of, row_at, row_to, near_pair, near_row, far_pair, book_under, early_row, late_row, close_row, tied_pair, tied_row, short_row, merge_then_take, back_and_forth, TakesFirst};
+ghost use Rattle.aprs_laws.specs.Examples.{half_minute, hi_frame, hi_after_digipeater, hi_as_response, of_other, hi_key, n0call, key_by, any_key, rx1, rx2, heard, by_rx1, early, row_of, row_at, row_to, near_pair, near_row, far_pair, book_under, early_row, late_row, close_row, tied_pair, tied_row, short_row, merge_then_take, back_and_forth, TakesFirst};
 
-/// Members have no number and no place. Ascending lists have no repeats.
+/// Two lists have the same members in whatever order and however often. Ascending lists have no
+/// repeats.
 pub fn sets_and_orders()
     ensures members { SameMembers (rx1 ∷ rx2 ∷ rx1 ∷ []) (rx2 ∷ rx1 ∷ []) }
     ensures misses_member { SameMembers (rx1 ∷ []) (rx1 ∷ rx2 ∷ []) → ⊥ }
@@ -40,10 +41,10 @@ pub fn sets_and_orders()
 /// another key.
 pub fn copies_have_one_key()
     ensures direct { key_of hi_frame ≡ hi_key }
-    ensures repeated { key_of hi_repeated ≡ hi_key }
-    ensures answered { key_of answered ≡ hi_key }
+    ensures repeated { key_of hi_after_digipeater ≡ hi_key }
+    ensures answered { key_of hi_as_response ≡ hi_key }
     ensures misses_other_ssid { key_of of_other ≡ hi_key → ⊥ }
-    ensures misses_bytes { hi_frame ≡ hi_repeated → ⊥ }
+    ensures misses_bytes { hi_frame ≡ hi_after_digipeater → ⊥ }
 {}
 
 /// Keys are ordered by source first. SSIDs are ordered as numbers, and not as their texts.
@@ -92,51 +93,53 @@ pub fn books_have_gaps()
 
 /// Two rows 30,001 milliseconds apart are one under a gap of 30,001, and stay two under their own.
 pub fn wider_gaps_join_rows()
-    ensures widened { widened 30001 (early_row ∷ late_row ∷ [])
+    ensures widened { widened_rows 30001 (early_row ∷ late_row ∷ [])
         ≡ row_of 0 (rx1 ∷ rx2 ∷ []) (by_rx1 30001) ∷ [] }
-    ensures misses_one { widened 30000 (early_row ∷ late_row ∷ []) ≡ early_row ∷ late_row ∷ [] }
+    ensures misses_one { widened_rows 30000 (early_row ∷ late_row ∷ [])
+        ≡ early_row ∷ late_row ∷ [] }
 {}
 
 /// One transmission of 30,000 milliseconds is one of 30,000,000 microseconds under the gap in
 /// microseconds. Under the gap in milliseconds it would be two.
 pub fn units_scale_gaps_too()
-    ensures scaled { scaled 1000 (near_row ∷ [])
+    ensures scaled { scaled_rows 1000 (near_row ∷ [])
         ≡ row_of 0 (rx1 ∷ rx2 ∷ []) (by_rx1 30000000) ∷ [] }
     ensures plain { plain_book 30000000 (map (scaled_heard 1000) near_pair)
-        ≡ scaled 1000 (near_row ∷ []) }
+        ≡ scaled_rows 1000 (near_row ∷ []) }
     ensures misses_gap { plain_book 30000 (map (scaled_heard 1000) near_pair)
         ≡ early_row ∷ row_at 30000000 ∷ [] }
 {}
 
-/// The same, as code makes it.
+/// Gaps decide in the same way where receptions are inserted one by one, as the code does it.
 pub fn gaps_decide_what_is_inserted()
-    ensures apart { inserted half_minute (by_rx1 60001) (row_at 0 ∷ [])
+    ensures apart { insert_heard half_minute (by_rx1 60001) (row_at 0 ∷ [])
         ≡ row_at 0 ∷ row_at 60001 ∷ [] }
-    ensures grown { inserted half_minute (by_rx1 30001) (row_at 0 ∷ row_at 60001 ∷ [])
+    ensures grown { insert_heard half_minute (by_rx1 30001) (row_at 0 ∷ row_at 60001 ∷ [])
         ≡ row_at 0 ∷ row_to 30001 60001 ∷ [] }
-    ensures bridged { inserted half_minute (by_rx1 30000) (row_at 0 ∷ row_to 30001 60001 ∷ [])
+    ensures bridged { insert_heard half_minute (by_rx1 30000) (row_at 0 ∷ row_to 30001 60001 ∷ [])
         ≡ row_to 0 60001 ∷ [] }
-    ensures inside { inserted half_minute (by_rx1 40000) (row_to 0 60001 ∷ [])
+    ensures inside { insert_heard half_minute (by_rx1 40000) (row_to 0 60001 ∷ [])
         ≡ row_to 0 60001 ∷ [] }
 {}
 
 /// Of receptions at one moment the greater receiver is greatest, and of one receiver's the greater
 /// frame, in whatever order they come.
 pub fn ties_go_by_receiver_then_frame()
-    ensures frame { plain_book half_minute (heard 0 rx1 hi_repeated ∷ by_rx1 0 ∷ [])
+    ensures frame { plain_book half_minute (heard 0 rx1 hi_after_digipeater ∷ by_rx1 0 ∷ [])
         ≡ row_at 0 ∷ [] }
-    ensures frame_turned { plain_book half_minute (by_rx1 0 ∷ heard 0 rx1 hi_repeated ∷ [])
+    ensures frame_turned { plain_book half_minute (by_rx1 0 ∷ heard 0 rx1 hi_after_digipeater ∷ [])
         ≡ row_at 0 ∷ [] }
     ensures receiver { plain_book half_minute tied_pair ≡ tied_row ∷ [] }
 {}
 
 /// Receivers stand in ascending order, each once.
 pub fn receivers_ascend()
-    ensures { plain_book half_minute (heard 10 rx2 hi_frame ∷ heard 5 rx1 answered ∷ early ∷ [])
+    ensures { plain_book half_minute
+        (heard 10 rx2 hi_frame ∷ heard 5 rx1 hi_as_response ∷ early ∷ [])
         ≡ row_of 0 (rx1 ∷ rx2 ∷ []) (heard 10 rx2 hi_frame) ∷ [] }
 {}
 
-/// A part of a transmission is none, nor are two transmissions one.
+/// A part of a transmission is no transmission, and two transmissions aren't one.
 pub fn runs_are_maximal()
     ensures heard { HeardAt far_pair hi_key 30001 }
     ensures misses_moment { HeardAt far_pair hi_key 30000 → ⊥ }
@@ -172,19 +175,21 @@ pub fn soundness_is_seen_in_rows()
     ensures misses_near_next { IsNext half_minute (early_row ∷ []) close_row → ⊥ }
 {}
 
-/// Witnesses are as few as make the rows: what else was heard is not among them.
+/// The witnesses of rows are only as many receptions as give these rows. Others that were heard are
+/// not among them.
 pub fn real_receptions_are_few()
     ensures witnesses { witnesses (short_row ∷ [])
         ≡ by_rx1 0 ∷ by_rx1 1 ∷ by_rx1 0 ∷ heard 0 rx2 hi_frame ∷ [] }
     ensures misses_other { heard 1 rx2 hi_frame ∈ witnesses (short_row ∷ []) → ⊥ }
 {}
 
-/// The greater of two receptions, and the receivers of both. To return the first value is no join.
+/// A join of two receptions is the greater one, and a join of two lists of receivers has the names
+/// of both, each once. A rule that always gives the first value is no join.
 pub fn joins_take_both()
     ensures greater { IsGreaterOf early (by_rx1 30001) (by_rx1 30001) }
     ensures misses_lesser { IsGreaterOf early (by_rx1 30001) early → ⊥ }
     ensures united { IsUnited bytes_cmp (rx2 ∷ []) (rx1 ∷ rx2 ∷ []) (rx1 ∷ rx2 ∷ []) }
-    ensures merged { merged bytes_cmp (rx2 ∷ []) (rx1 ∷ rx2 ∷ []) ≡ rx1 ∷ rx2 ∷ [] }
+    ensures merged { ascending_union bytes_cmp (rx2 ∷ []) (rx1 ∷ rx2 ∷ []) ≡ rx1 ∷ rx2 ∷ [] }
     ensures misses_repeat { IsUnited bytes_cmp (rx1 ∷ []) (rx1 ∷ []) (rx1 ∷ rx1 ∷ []) → ⊥ }
     ensures misses_first { JoinLaws IsAny AreAny TakesFirst → ⊥ }
     ensures folds { FoldsTo IsGreaterOf early (by_rx1 30001 ∷ []) (by_rx1 30001) }
@@ -194,7 +199,7 @@ pub fn joins_take_both()
 /// The joined value of two books has neither the rows of one alone nor all rows side by side.
 pub fn joined_books_are_books()
     ensures joined { Joined half_minute (early_row ∷ []) (close_row ∷ []) (near_row ∷ []) }
-    ensures one_pass { coalesced half_minute (interleave (early_row ∷ []) (close_row ∷ []))
+    ensures one_pass { coalesced_rows half_minute (interleave (early_row ∷ []) (close_row ∷ []))
         ≡ near_row ∷ [] }
     ensures misses_side_by_side { Joined half_minute (early_row ∷ []) (close_row ∷ [])
         (early_row ∷ close_row ∷ []) → ⊥ }
@@ -204,8 +209,8 @@ pub fn joined_books_are_books()
 
 /// A merge takes what the other place has then, and not what comes there later.
 pub fn merges_take_what_is_there()
-    ensures taken { taken merge_then_take 1 ≡ by_rx1 0 ∷ [] }
-    ensures misses_later { by_rx1 30001 ∈ taken merge_then_take 1 → ⊥ }
+    ensures taken { sets_after merge_then_take 1 ≡ by_rx1 0 ∷ [] }
+    ensures misses_later { by_rx1 30001 ∈ sets_after merge_then_take 1 → ⊥ }
     ensures fits { StepsFit 2 back_and_forth }
     ensures misses_place { StepsFit 1 back_and_forth → ⊥ }
     ensures first_book { rows_after_steps half_minute back_and_forth (λ place. []) 0
@@ -238,15 +243,15 @@ pub fn rows_are_near_up_to_the_gap()
 pub fn rows_in_order_are_one_book()
     ensures in_order { AreInOrder (early_row ∷ row_at 0 ∷ late_row ∷ []) }
     ensures misses_later_first { AreInOrder (late_row ∷ early_row ∷ []) → ⊥ }
-    ensures inside { coalesced half_minute
+    ensures inside { coalesced_rows half_minute
         (row_to 0 60000 ∷ row_at 10 ∷ row_at 90000 ∷ row_at 120001 ∷ [])
         ≡ row_to 0 90000 ∷ row_at 120001 ∷ [] }
-    ensures tied { coalesced half_minute (early_row ∷ row_at 0 ∷ []) ≡ tied_row ∷ [] }
-    ensures misses_order { coalesced half_minute (row_at 30001 ∷ row_at 0 ∷ [])
+    ensures tied { coalesced_rows half_minute (early_row ∷ row_at 0 ∷ []) ≡ tied_row ∷ [] }
+    ensures misses_order { coalesced_rows half_minute (row_at 30001 ∷ row_at 0 ∷ [])
         ≡ row_at 0 ∷ row_at 30001 ∷ [] → ⊥ }
-    ensures appended { appended half_minute (row_at 0 ∷ row_at 60001 ∷ []) (row_at 90001)
+    ensures appended { append_row half_minute (row_at 0 ∷ row_at 60001 ∷ []) (row_at 90001)
         ≡ row_at 0 ∷ row_to 60001 90001 ∷ [] }
-    ensures misses_bridge { appended half_minute (row_at 0 ∷ row_at 60001 ∷ []) (row_at 30000)
+    ensures misses_bridge { append_row half_minute (row_at 0 ∷ row_at 60001 ∷ []) (row_at 30000)
         ≡ row_at 0 ∷ row_at 30000 ∷ row_at 60001 ∷ [] → ⊥ }
     ensures stands { StandFor (early_row ∷ []) (early ∷ []) }
     ensures misses_witness { StandFor (short_row ∷ []) (by_rx1 1 ∷ []) → ⊥ }

@@ -131,9 +131,9 @@ impl From<LineFault> for LogCause {
 /// Where a log is read no further, and why.
 #[derive(Clone, Copy, Debug, PartialEq, Eq)]
 pub struct LogFault {
-    /// The number of the line, counted from 1, that was not returned: one more than the lines that
-    /// were. Of a failed read, of a log without its last LF and of one over the limit, it is the
-    /// line whose end was not reached, of which no byte need have come.
+    /// The number of the first line that was not returned, counted from 1. Where a read failed, the
+    /// last LF is missing or the log is over the limit, it is the line whose end was not reached,
+    /// even if no byte of it came.
     pub line: u64,
     /// Why that line was not returned.
     pub cause: LogCause,

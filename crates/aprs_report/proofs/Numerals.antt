@@ -1,7 +1,7 @@
 -- Numbers in digits, from the left.
 use Rattle.std.proofs.Common.{◌≡◌, ℕ, zero, suc, ◌+◌, ◌*◌, ◌-◌, ◌^◌, ◌<◌, ◌≤◌, true, false, List}
 use Rattle.std.proofs.Common.{[], ◌∷◌, ◌++◌, length, take, get_or, Some, None, refl, sym, ap}
-use Rattle.std.proofs.Common.{subst, ◌∙◌, arith, ltb, leb, lit≤, lit<, add-one}
+use Rattle.std.proofs.Common.{subst, ◌∙◌, arith, ltb, leb, lit≤, add-one}
 use Rattle.std.specs.List.{list_all}
 use Rattle.std.proofs.Math.Nat.{pow-zero, pow-suc, mul_assoc, mul-one, add-mul, mul-le-mul_left}
 use Rattle.std.proofs.lemmas.Bool.{and_parts, and_from, ltb-true}

@@ -19,7 +19,7 @@ pub struct Stamp {
     pub mark: u8,
 }
 
-/// Whether each is `0` to `9`.
+/// Whether each byte is a digit, `0` to `9`.
 fn all_digits(bytes: &[u8]) -> bool
     ensures { result ≡ list_all is_digit bytes.now }
 {

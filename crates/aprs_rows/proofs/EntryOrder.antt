@@ -26,7 +26,8 @@ module _ (bytes : List ℕ) where
   entry_total : IsTotalOrder (entry_cmp bytes)
   entry_total =
       then_total (on_total (λ (e : Entry). e.head) head_total)
-      (then_total (on_total (λ e. info_of e bytes) bytes_total) (on_total (λ e. e.first) nat_cmp_total))
+      (then_total (on_total (λ e. info_of e bytes) bytes_total)
+      (on_total (λ e. e.first) nat_cmp_total))
 
   abbrev row_of : Entry → Row
   row_of e = entry_row e (bytes_of e bytes)
@@ -48,7 +49,8 @@ module _ (bytes : List ℕ) where
         bytes = s.key.bytes;
         head = s.key.head;
       } in
-      let keys : ordering_then (head_cmp a.head b.head) (bytes_cmp (info_of a bytes) (info_of b bytes))
+      let keys : ordering_then (head_cmp a.head b.head)
+      (bytes_cmp (info_of a bytes) (info_of b bytes))
       ≡ key_cmp (row_key (row_of a)) (row_key (row_of b)) =
       (λ t. ordering_then (head_cmp a.head b.head)
       (bytes_cmp (info_there a bytes r t) (info_there b bytes s t)))
@@ -83,7 +85,8 @@ module _ (bytes : List ℕ) where
             ∙ h i j e p q
 
   -- what a sort by the order of entries gives
-  pub ordered_by_sort : {F : Type 0} {g : Mut F (Bor Entry × (Bor Entry × Unit {0})) Ordering} {f : F}
+  pub ordered_by_sort : {F : Type 0} {g : Mut F (Bor Entry × (Bor Entry × Unit {0})) Ordering}
+      {f : F}
       (es : List Entry) → AreRowsIn es bytes
       → ((lt : Entry → Entry → Bool) → IsStrictWeakOrder lt → ComparesAs g lt f → IsSortedBy lt es)
       → ((a : Bor Entry × (Bor Entry × Unit {0})) (r : Ordering) (f' : F) → Called g f a r f'

@@ -9,7 +9,7 @@ use Rattle.aprs_laws.specs.Row.{Row, last_of}
 use Rattle.aprs_laws.specs.Sound.{IsSoundRow}
 use Rattle.aprs_rows.specs.Judging.{list_of}
 use Rattle.aprs_rows.specs.Names.{names_in}
-use Rattle.aprs_rows.specs.Refusal.{is_of_last, is_out_of_order, is_too_near, is_ascending, is_name, refusal}
+use Rattle.aprs_rows.specs.Refusal.{is_of_last, is_out_of_order, is_too_near, is_ascending, is_same_name, refusal}
 use Rattle.aprs_rows.proofs.Refusals.{first_of, refused_first, free_of_none, next_of_free}
 
 pub some_names : (text : List ℕ) → 0 < length (names_in text)
@@ -36,30 +36,30 @@ is_it false b c e f = f
 -- one of them; the others are those of `rest`.
 pub record AreSeen (text name before rest : List ℕ) (has : Bool) : Type 0 where
   pub ascending : is_ascending (names_in text) ≡ is_ascending (before ∷ names_in rest)
-  pub named : list_any (is_name name) (names_in text)
-      ≡ (has || list_any (is_name name) (names_in rest))
+  pub named : list_any (is_same_name name) (names_in text)
+      ≡ (has || list_any (is_same_name name) (names_in rest))
   pub last : last_or None (names_in text) ≡ last_or None (names_in rest)
 
 pub first_seen : (text name first rest : List ℕ) (has : Bool)
-    → names_in text ≡ first ∷ names_in rest → has ≡ is_name name first
+    → names_in text ≡ first ∷ names_in rest → has ≡ is_same_name name first
     → AreSeen text name first rest has
 first_seen text name first rest has e h = record {
   ascending = ap is_ascending e;
-  named = ap (list_any (is_name name)) e
-      ∙ ap (λ b. b || list_any (is_name name) (names_in rest)) (sym h);
+  named = ap (list_any (is_same_name name)) e
+      ∙ ap (λ b. b || list_any (is_same_name name) (names_in rest)) (sym h);
   last = ap (last_or None) e ∙ last_of_more (Some first) None (names_in rest) (some_names rest);
 }
 
 pub next_seen : (text name before rest next after : List ℕ) (has now : Bool)
     → AreSeen text name before rest has → names_in rest ≡ next ∷ names_in after
-    → is_lt (bytes_cmp before next) ≡ true → now ≡ (has || is_name name next)
+    → is_lt (bytes_cmp before next) ≡ true → now ≡ (has || is_same_name name next)
     → AreSeen text name next after now
 next_seen text name before rest next after has now s e lt h = record {
   ascending = s.ascending ∙ ap (λ ns. is_ascending (before ∷ ns)) e
       ∙ ap (λ b. b && is_ascending (next ∷ names_in after)) lt;
-  named = s.named ∙ ap (λ ns. has || list_any (is_name name) ns) e
-      ∙ either has (is_name name next) (list_any (is_name name) (names_in after))
-      ∙ ap (λ b. b || list_any (is_name name) (names_in after)) (sym h);
+  named = s.named ∙ ap (λ ns. has || list_any (is_same_name name) ns) e
+      ∙ either has (is_same_name name next) (list_any (is_same_name name) (names_in after))
+      ∙ ap (λ b. b || list_any (is_same_name name) (names_in after)) (sym h);
   last = s.last ∙ ap (last_or None) e
       ∙ last_of_more (Some next) None (names_in after) (some_names after);
 }
@@ -71,8 +71,8 @@ same_refusal gap rows o x e =
     refused_first gap (list_of o) x
     ∙ ap (λ p. first_of (option_map_or (λ l. is_out_of_order l x) p false) (ltb (last_of x) x.first)
     (option_map_or (λ l. is_too_near gap l x) p false)
-    (not (is_ascending x.receivers && list_any (is_name x.greatest.receiver) x.receivers))
-    ((x.first == last_of x) && not (is_of_last (is_name x.greatest.receiver) x.receivers)))
+    (not (is_ascending x.receivers && list_any (is_same_name x.greatest.receiver) x.receivers))
+    ((x.first == last_of x) && not (is_of_last (is_same_name x.greatest.receiver) x.receivers)))
     (alone o ∙ sym e)
     ∙ sym (refused_first gap rows x)
   where

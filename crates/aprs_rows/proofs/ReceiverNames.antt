@@ -8,18 +8,18 @@ use Rattle.aprs_laws.specs.Lists.{◌∈◌, Ordered}
 use Rattle.aprs_laws.specs.Order.{IsBelow}
 use Rattle.aprs_laws.specs.JoinRow.{add}
 use Rattle.aprs_laws.specs.Joining.{IsUnited}
-use Rattle.aprs_laws.specs.Merged.{merged}
+use Rattle.aprs_laws.specs.Merged.{ascending_union}
 use Rattle.aprs_laws.proofs.Orders.{bytes_total, bytes_exact}
 use Rattle.aprs_laws.proofs.Choices.{add_listed, add_ordered}
 use Rattle.aprs_laws.proofs.Merges.{merged_is_united, merged_is_union}
 
-merged-nil : (xs : List (List ℕ)) → merged bytes_cmp xs [] ≡ xs
+merged-nil : (xs : List (List ℕ)) → ascending_union bytes_cmp xs [] ≡ xs
 merged-nil [] = refl
 merged-nil (x ∷ xs) = refl
 
 -- where one list has ended, the other follows
 pub merged_ended : (xs ys : List (List ℕ)) (i j : ℕ) → (length xs ≤ i) ⊎ (length ys ≤ j)
-    → merged bytes_cmp (drop i xs) (drop j ys) ≡ drop i xs ++ drop j ys
+    → ascending_union bytes_cmp (drop i xs) (drop j ys) ≡ drop i xs ++ drop j ys
 merged_ended xs ys i j (inl h) = rw (drop_all i xs h)
 merged_ended xs ys i j (inr h) = rw (drop_all j ys h, merged-nil, append-nil)
 

@@ -19,7 +19,7 @@ use Rattle.aprs_laws.proofs.Orders.{bytes_total, bytes_exact}
 use Rattle.aprs_laws.proofs.Places.{place_of}
 use Rattle.aprs_laws.proofs.Choices.{in_union, same_members, union_ordered}
 use Rattle.aprs_rows.proofs.Orders as Orders
-use Rattle.aprs_rows.specs.Sorted.{next_text, further, after_first, text_of_sorted}
+use Rattle.aprs_rows.specs.Sorted.{next_text, further, after_first, ascending_text}
 
 abbrev now_of : Bor (List ℕ) → List ℕ
 now_of n = n.now
@@ -148,7 +148,7 @@ others b (n ∷ names) o = by_test (is_ne (bytes_cmp b n)) refl (others n names 
 -- the names in order, of equal ones one, are the union of names that are the same set
 pub text_is_of_union : (names sorted : List (List ℕ)) → SameMembers names sorted
     → Ordered (IsUpTo bytes_cmp) sorted
-    → text_of_sorted sorted ≡ join_with_byte 44 (union bytes_cmp names [])
+    → ascending_text sorted ≡ join_with_byte 44 (union bytes_cmp names [])
 text_is_of_union names [] e o =
     ap (join_with_byte 44) (same_members bytes_total bytes_exact [] (union bytes_cmp names []) tt
     (union_ordered bytes_total bytes_exact names [] tt)
@@ -209,7 +209,7 @@ ordered (x ∷ xs) h = (
 
 pub text_of_sort : (names sorted : List (Bor (List ℕ))) → IsPermutation names sorted
     → IsSorted names_cmp sorted
-    → text_of_sorted (map now_of sorted) ≡ join_with_byte 44 (union bytes_cmp (map now_of names) [])
+    → ascending_text (map now_of sorted) ≡ join_with_byte 44 (union bytes_cmp (map now_of names) [])
 text_of_sort names sorted p o =
     text_is_of_union (map now_of names) (map now_of sorted)
     (Orders.same_members (map now_of names) (map now_of sorted)

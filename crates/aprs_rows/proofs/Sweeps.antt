@@ -10,7 +10,7 @@ use Rattle.std.proofs.lemmas.List.{append-nil, length-append}
 use Rattle.std.proofs.lemmas.List.Elements.{All-from_recursion, recursion_from_All}
 use Rattle.aprs_log.specs.Receiver.{IsName}
 use Rattle.aprs_log.specs.Reception.{bytes_cmp}
-use Rattle.aprs_laws.specs.Coalescing.{appended}
+use Rattle.aprs_laws.specs.Coalescing.{append_row}
 use Rattle.aprs_laws.specs.Row.{Row}
 use Rattle.aprs_laws.specs.JoinRow.{choose, combine, greater, place, union}
 use Rattle.aprs_laws.specs.Lists.{◌∈◌, Ordered}
@@ -22,7 +22,7 @@ use Rattle.aprs_rows.specs.declared.store.group.Group.{Group}
 use Rattle.aprs_rows.specs.declared.store.sweep.Open.{Open}
 use Rattle.aprs_rows.specs.Groups.{names_or, group_row, IsGroup}
 use Rattle.aprs_rows.specs.Names.{names_in}
-use Rattle.aprs_rows.specs.Sweep.{AreGathered, gathered, HasNames, open_row, open_text}
+use Rattle.aprs_rows.specs.Sweep.{AreGathered, gathered_names, HasNames, open_row, open_text}
 use Rattle.aprs_rows.proofs.NameTexts.{names_joined}
 
 abbrev Ascends : List (List ℕ) → Type 0
@@ -110,67 +110,72 @@ united_some (x ∷ xs) h =
 -- the names of the open rows, whether one or more
 own_names : (o : Open) (names : List (Bor (List ℕ))) → AreGathered o names
     → union bytes_cmp
-    (gathered names ++ (if o.is_alone then o.greatest.receivers else [])) []
+    (gathered_names names ++ (if o.is_alone then o.greatest.receivers else [])) []
     ≡ (open_row o names).receivers
 own_names o names a = by_test o.is_alone refl where
   by_test : (b : Bool) → o.is_alone ≡ b
-      → union bytes_cmp (gathered names ++ (if b then o.greatest.receivers else [])) []
-      ≡ (if b then o.greatest.receivers else union bytes_cmp (gathered names) [])
+      → union bytes_cmp (gathered_names names ++ (if b then o.greatest.receivers else [])) []
+      ≡ (if b then o.greatest.receivers else union bytes_cmp (gathered_names names) [])
   by_test true e =
-      ap (λ (ns : List (Bor (List ℕ))). union bytes_cmp (gathered ns ++ o.greatest.receivers) [])
+      ap (λ (ns : List (Bor (List ℕ))). union bytes_cmp (gathered_names ns ++ o.greatest.receivers)
+      [])
       (a.none e)
       ∙ united_alone o.greatest.receivers a.own.ascending
-  by_test false e = ap (λ ns. union bytes_cmp ns []) (append-nil (gathered names))
+  by_test false e = ap (λ ns. union bytes_cmp ns []) (append-nil (gathered_names names))
 
 all_names : (o : Open) (names : List (Bor (List ℕ))) → AreGathered o names
-    → All IsName (gathered names ++ (if o.is_alone then o.greatest.receivers else []))
+    → All IsName (gathered_names names ++ (if o.is_alone then o.greatest.receivers else []))
 all_names o names a = by_test o.is_alone where
   by_test : (b : Bool)
-      → All IsName (gathered names ++ (if b then o.greatest.receivers else []))
-  by_test true = all_append (gathered names) o.greatest.receivers a.each a.own.each
-  by_test false = subst (All IsName) (sym (append-nil (gathered names))) a.each
+      → All IsName (gathered_names names ++ (if b then o.greatest.receivers else []))
+  by_test true = all_append (gathered_names names) o.greatest.receivers a.each a.own.each
+  by_test false = subst (All IsName) (sym (append-nil (gathered_names names))) a.each
 
 -- What joining a row makes of the open ones.
 pub record JoinsOpen (o p : Open) (names more : List (Bor (List ℕ))) (x : Row) : Type 0 where
   pub gathered_are : AreGathered p more
   pub row_is : open_row p more ≡ combine (open_row o names) x
 
-pub joins_open : (o p : Open) (names most more : List (Bor (List ℕ))) (x : Row) (own : List (List ℕ))
+pub joins_open : (o p : Open) (names most more : List (Bor (List ℕ))) (x : Row)
+    (own : List (List ℕ))
     → AreGathered o names → HasNames x
-    → gathered most ≡ gathered names ++ (if o.is_alone then o.greatest.receivers else [])
-    → gathered more ≡ gathered most ++ own → own ≡ x.receivers → 0 < length own
+    → gathered_names most ≡ gathered_names names ++
+    (if o.is_alone then o.greatest.receivers else [])
+    → gathered_names more ≡ gathered_names most ++ own → own ≡ x.receivers → 0 < length own
     → p.first ≡ min o.first x.first
     → p.greatest.greatest ≡ greater o.greatest.greatest x.greatest → p.is_alone ≡ false
     → HasNames p.greatest → JoinsOpen o p names more x
 joins_open o p names most more x own a h e f own_is some first greatest alone has =
     let extra = if o.is_alone then o.greatest.receivers else [] in
-    let all : gathered more ≡ (gathered names ++ extra) ++ x.receivers =
+    let all : gathered_names more ≡ (gathered_names names ++ extra) ++ x.receivers =
     f ∙ (λ t. e t ++ own_is t) in
-    let united : union bytes_cmp (gathered more) []
+    let united : union bytes_cmp (gathered_names more) []
     ≡ union bytes_cmp (open_row o names).receivers x.receivers =
     ap (λ ns. union bytes_cmp ns []) all
-    ∙ united_more (gathered names ++ extra) x.receivers h.ascending
+    ∙ united_more (gathered_names names ++ extra) x.receivers h.ascending
     ∙ ap (λ ns. union bytes_cmp ns x.receivers) (own_names o names a) in
     record {
       gathered_are = record {
         own = has;
         each = subst (All IsName) (sym all)
-            (all_append (gathered names ++ extra) x.receivers (all_names o names a) h.each);
+            (all_append (gathered_names names ++ extra) x.receivers (all_names o names a) h.each);
         none = λ t. absurd (let n = sym t ∙ alone in cc);
         some = λ t. let n = length_more in omega (arith, n, some);
       };
       row_is = λ t. record {
         first = first t;
-        receivers = (ap (λ b. if b then p.greatest.receivers else union bytes_cmp (gathered more) [])
-            alone ∙ united) t;
+        receivers =
+            (ap (λ b. if b then p.greatest.receivers
+            else union bytes_cmp (gathered_names more) []) alone ∙ united) t;
         greatest = greatest t;
       };
     } where
-      length_more : length more ≡ length (gathered most) + length own
-      length_more = sym (length_map more) ∙ ap length f ∙ length-append (gathered most) own where
-        length_map : (ns : List (Bor (List ℕ))) → length (gathered ns) ≡ length ns
-        length_map [] = refl
-        length_map (n ∷ ns) = ap (λ k. suc k) (length_map ns)
+      length_more : length more ≡ length (gathered_names most) + length own
+      length_more =
+          sym (length_map more) ∙ ap length f ∙ length-append (gathered_names most) own where
+            length_map : (ns : List (Bor (List ℕ))) → length (gathered_names ns) ≡ length ns
+            length_map [] = refl
+            length_map (n ∷ ns) = ap (λ k. suc k) (length_map ns)
 
 at_front : (o : Ordering) (r : Row) (a b : List Row)
     → r ∷ choose o a b a ≡ choose o (r ∷ a) (r ∷ b) (r ∷ a)
@@ -252,27 +257,28 @@ pub ends_open : (o : Open) (g : Group) (names : List (Bor (List ℕ))) → AreGa
 ends_open o g names a first size greatest = by_test o.is_alone refl size where
   by_test : (b : Bool) → o.is_alone ≡ b
       → g.receivers
-      ≡ length (if b then [] else join_with_byte 44 (union bytes_cmp (gathered names) []))
-      → EndsOpen o g (if b then [] else join_with_byte 44 (union bytes_cmp (gathered names) []))
+      ≡ length (if b then [] else join_with_byte 44 (union bytes_cmp (gathered_names names) []))
+      → EndsOpen o g (if b then [] else join_with_byte 44
+      (union bytes_cmp (gathered_names names) []))
       (record {
         first = o.first;
-        receivers = if b then o.greatest.receivers else union bytes_cmp (gathered names) [];
+        receivers = if b then o.greatest.receivers else union bytes_cmp (gathered_names names) [];
         greatest = o.greatest.greatest;
       })
   by_test true e k = ends_alone o g a.own first k greatest
   by_test false e k =
-      ends_united o g (union bytes_cmp (gathered names) [])
-      (united_some (gathered names) (some_gathered names (a.some e)))
-      (united_names (gathered names) a.each) first k greatest
+      ends_united o g (union bytes_cmp (gathered_names names) [])
+      (united_some (gathered_names names) (some_gathered names (a.some e)))
+      (united_names (gathered_names names) a.each) first k greatest
     where
-      some_gathered : (ns : List (Bor (List ℕ))) → 0 < length ns → 0 < length (gathered ns)
+      some_gathered : (ns : List (Bor (List ℕ))) → 0 < length ns → 0 < length (gathered_names ns)
       some_gathered [] h = h
       some_gathered (n ∷ ns) h = omega arith
 
 -- ---- the next row
 
 pub appended_last : (gap : ℕ) (done : List Row) (l x : Row)
-    → appended gap (done ++ l ∷ []) x
+    → append_row gap (done ++ l ∷ []) x
     ≡ choose (place gap l x) (done ++ l ∷ x ∷ []) (done ++ combine l x ∷ []) (done ++ l ∷ x ∷ [])
 appended_last gap [] l x = refl
 appended_last gap (d ∷ []) l x = at_front (place gap l x) d (l ∷ x ∷ []) (combine l x ∷ [])
@@ -281,7 +287,7 @@ appended_last gap (d ∷ e ∷ done) l x =
     ∙ at_front (place gap l x) d ((e ∷ done) ++ l ∷ x ∷ []) ((e ∷ done) ++ combine l x ∷ [])
 
 pub joins_last : (gap : ℕ) (done : List Row) (l x : Row) → is_eq (place gap l x) ≡ true
-    → done ++ combine l x ∷ [] ≡ appended gap (done ++ l ∷ []) x
+    → done ++ combine l x ∷ [] ≡ append_row gap (done ++ l ∷ []) x
 joins_last gap done l x e =
     sym (appended_last gap done l x ∙ near (place gap l x) e) where
       near : (o : Ordering) → is_eq o ≡ true
@@ -292,7 +298,7 @@ joins_last gap done l x e =
       near Greater e = absurd (cc)
 
 pub follows_last : (gap : ℕ) (done : List Row) (l x : Row) → is_eq (place gap l x) ≡ false
-    → (done ++ l ∷ []) ++ x ∷ [] ≡ appended gap (done ++ l ∷ []) x
+    → (done ++ l ∷ []) ++ x ∷ [] ≡ append_row gap (done ++ l ∷ []) x
 follows_last gap done l x e =
     append_assoc done (l ∷ []) (x ∷ [])
     ∙ sym (appended_last gap done l x ∙ far (place gap l x) e) where

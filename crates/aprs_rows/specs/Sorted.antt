@@ -18,6 +18,6 @@ after_first [] = []
 after_first (n ∷ names) = further n names
 
 -- the names with commas between, of equal ones one
-abbrev pub text_of_sorted : List (List ℕ) → List ℕ
-text_of_sorted [] = []
-text_of_sorted (n ∷ names) = n ++ further n names
+abbrev pub ascending_text : List (List ℕ) → List ℕ
+ascending_text [] = []
+ascending_text (n ∷ names) = n ++ further n names

@@ -13,21 +13,22 @@ use Rattle.aprs_rows.specs.declared.store.sweep.Open.{Open}
 use Rattle.aprs_rows.specs.declared.store.sweep.Sweep.{Sweep}
 
 -- the names that were gathered
-abbrev pub gathered : List (Bor (List ℕ)) → List (List ℕ)
-gathered names = map (λ n. n.now) names
+abbrev pub gathered_names : List (Bor (List ℕ)) → List (List ℕ)
+gathered_names names = map (λ n. n.now) names
 
 -- the row that open rows are, with the names that were gathered if they are more than one
 abbrev pub open_row : Open → List (Bor (List ℕ)) → Row
 open_row o names = record {
   first = o.first;
-  receivers = if o.is_alone then o.greatest.receivers else union bytes_cmp (gathered names) [];
+  receivers =
+      if o.is_alone then o.greatest.receivers else union bytes_cmp (gathered_names names) [];
   greatest = o.greatest.greatest;
 }
 
 -- the text of the names that were gathered, if the open rows are more than one
 abbrev pub open_text : Open → List (Bor (List ℕ)) → List ℕ
 open_text o names =
-    if o.is_alone then [] else join_with_byte 44 (union bytes_cmp (gathered names) [])
+    if o.is_alone then [] else join_with_byte 44 (union bytes_cmp (gathered_names names) [])
 
 -- The receivers of a row have names, which ascend.
 pub record HasNames (x : Row) : Type 0 where
@@ -37,7 +38,7 @@ pub record HasNames (x : Row) : Type 0 where
 -- Names are gathered of open rows, some if they are more than one, and none else.
 pub record AreGathered (o : Open) (names : List (Bor (List ℕ))) : Type 0 where
   pub own : HasNames o.greatest
-  pub each : All IsName (gathered names)
+  pub each : All IsName (gathered_names names)
   pub none : o.is_alone ≡ true → names ≡ []
   pub some : o.is_alone ≡ false → 0 < length names
 

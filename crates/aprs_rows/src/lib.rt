@@ -1,5 +1,5 @@
-//! Rows in bytes: names of receivers, the order of keys, a store of rows, and what they are
-//! together.
+//! Rows packed in bytes: a store of rows, their order, joining those that are near, and judging
+//! which may follow.
 #![tactic(auto)]
 
 mod joining;
@@ -8,7 +8,7 @@ mod room;
 mod row;
 mod store;
 
-pub use joining::greatest::{Greatest, copied, keep_greater};
+pub use joining::greatest::{Greatest, keep_greater};
 pub use joining::join::{Join, all_fit, join_all};
 pub use joining::receiver_list::ReceiverList;
 pub use joining::receivers::Receivers;

@@ -210,7 +210,7 @@ const FIVE: [Plain; 5] = [
 /// Whether this is the book of a store's rows.
 fn is_of_store(alloc: Global, store: RowStore, book: &Book) -> Result<bool, Fail> {
     let order = store.in_order().ok().ok_or("memory")?;
-    let rows = order.coalesced(Gap::STANDARD).ok().ok_or("memory")?;
+    let rows = order.transmissions(Gap::STANDARD).ok().ok_or("memory")?;
     let made = Book::of_rows(alloc, &rows).ok().ok_or("memory")?;
     Ok(made.same(book))
 }

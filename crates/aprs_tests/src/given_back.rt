@@ -138,7 +138,7 @@ fn used_of_store(heap: &LocalHeap, made: Made) -> Result<usize, Fail> {
     if let Made::RowsInOrder = made {
         return Ok(heap.used());
     }
-    let rows = order.coalesced(Gap::STANDARD).ok().ok_or("memory")?;
+    let rows = order.transmissions(Gap::STANDARD).ok().ok_or("memory")?;
     match made {
         Made::Transmissions => Ok(heap.used()),
         Made::BookOfRows => used_with(heap, Book::of_rows(heap, &rows)),

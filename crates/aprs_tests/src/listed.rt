@@ -108,7 +108,7 @@ fn many_rows_of_a_store_are_listed(rt: HostRuntime) -> Result<(), Fail> {
     let alloc = rt.alloc();
     let store = fifty_stored(alloc)?;
     let order = store.in_order().ok().ok_or("memory")?;
-    let rows = order.coalesced(Gap::STANDARD).ok().ok_or("memory")?;
+    let rows = order.transmissions(Gap::STANDARD).ok().ok_or("memory")?;
     let overview = Overview::of(alloc, &rows).ok().ok_or("memory")?;
     assert!(rt; overview_has_fifty(&overview)?);
     assert!(rt; overview_has_two(&overview)?);

@@ -319,7 +319,7 @@ fn rows_ask_for_none<'a>(bump: &'a Bump, rows: &Transmissions<'_, &'a Bump>) -> 
 fn calls_of_stores_ask_for_none(rt: HostRuntime) -> Result<(), Fail> {
     let bump = Bump::try_with_capacity(rt.alloc(), 65_536)?;
     let order = store_asks_for_none(&bump, store_of_sent(&bump)?)?;
-    let rows = order.coalesced(Gap::STANDARD).ok().ok_or("memory")?;
+    let rows = order.transmissions(Gap::STANDARD).ok().ok_or("memory")?;
     assert!(rt; rows_ask_for_none(&bump, &rows)?);
     Ok(())
 }

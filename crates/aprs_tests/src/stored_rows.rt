@@ -14,7 +14,7 @@ use std::test::Fail;
 /// The book of a store's rows.
 fn book_of<A: Allocator + Copy>(alloc: A, store: RowStore<A>) -> Result<Book<A>, Memory> {
     let order = store.in_order()?;
-    let rows = order.coalesced(Gap::STANDARD)?;
+    let rows = order.transmissions(Gap::STANDARD)?;
     Book::of_rows(alloc, &rows)
 }
 
@@ -106,7 +106,7 @@ fn counts<A: Allocator + Copy>(
     alloc: A,
     order: &RowsInOrder<A>,
 ) -> Result<(usize, usize, usize), Memory> {
-    let rows = order.coalesced(Gap::STANDARD)?;
+    let rows = order.transmissions(Gap::STANDARD)?;
     let overview = Overview::of(alloc, &rows)?;
     let stations = overview.stations()?;
     let named = overview.objects()?;

@@ -8,6 +8,7 @@ use Rattle.aprs_booktext.specs.FirstFault.{FirstFault}
 use Rattle.aprs_booktext.specs.declared.fault.BookFault.{BookFault}
 use Rattle.aprs_booktext.proofs.Accepting.{rows_few}
 use Rattle.aprs_booktext.proofs.OneText.{cut_short}
+use Rattle.aprs_booktext.proofs.SameFaults.{memory_or_first}
 use Rattle.aprs_tool.specs.Inputs.{GivesSet, IsBookFileOf}
 use Rattle.aprs_tool.specs.Refused.{IsFaulty}
 use Rattle.aprs_tool.proofs.Beginnings.{file_begins, log_is_no_book}
@@ -30,7 +31,7 @@ no_fault gap t c S (Log f) small (inl p) h =
     absurd (let x : true ≡ false = sym (file_begins gap S t c p) ∙ h.0 in cc)
 no_fault gap t c S (Log f) small (inr p) h =
     absurd (let x : None ≡ Some f = sym (log_none S t c p) ∙ log_fault-answers t c f h.1 in cc)
-no_fault gap t c S (Book f) small (inl p) h = elim h.1 [
+no_fault gap t c S (Book f) small (inl p) h = elim (memory_or_first t c f h.1) [
   | inl memory ↦ ap status_of_book_cause memory.refused
   | inr first ↦ absurd (file_none gap S t c f small p first)
 ]

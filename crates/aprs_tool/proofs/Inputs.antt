@@ -21,8 +21,9 @@ use Rattle.aprs_io.specs.declared.input.Ending.TheVariants as ending
 use Rattle.aprs_log.specs.LogAnswers.{end_with, log_answers, receptions_of}
 use Rattle.aprs_log.proofs.LogTexts.{answers-log_fault}
 use Rattle.aprs_log.specs.declared.fault.LogFault.{LogFault}
-use Rattle.aprs_booktext.specs.FirstFault.{Reads}
+use Rattle.aprs_booktext.specs.BookAnswers.{ReadsBook}
 use Rattle.aprs_booktext.specs.Text.{book_text, IsBookRows}
+use Rattle.aprs_booktext.proofs.BookRows.{rows_sound}
 use Rattle.aprs_booktext.specs.Version.{gap_of, IsVersion}
 use Rattle.aprs_booktext.specs.declared.version.Version.{Version}
 use Rattle.aprs_booktext.specs.declared.version.Version.TheVariants.{One, Two, Three}
@@ -187,7 +188,7 @@ gives_file own v rows same is = inl (record {
   whole = refl;
   book = let positive = gap_positive v is.version in
       witnessed (millis_of own) rows (omega (arith, positive, same))
-      (subst (λ g. Sound (millis_of g) rows) (sym same) is.sound);
+      (subst (λ g. Sound (millis_of g) rows) (sym same) (rows_sound v rows is));
 })
 
 -- no log begins so
@@ -203,7 +204,7 @@ reads_book asked b v same is =
       (witnesses b.rows, gives),
       λ S set. set_book b.gap (book_text v b.rows) ending.End S (witnesses b.rows) b.rows set gives
           (witnessed (millis_of b.gap) b.rows (omega (arith, positive, same))
-          (subst (λ g. Sound (millis_of g) b.rows) (sym same) is.sound)),
+          (subst (λ g. Sound (millis_of g) b.rows) (sym same) (rows_sound v b.rows is))),
     )
 
 -- the rows of a book stand for their witnesses
@@ -216,18 +217,18 @@ gives_book asked own old new rows v same is e = record {
   new_is = e;
   set = witnesses rows;
   gives = gives_file own v rows same is;
-  stand = books_stand (millis_of (gap_of v)) rows is.sound;
+  stand = books_stand (millis_of (gap_of v)) rows (rows_sound v rows is);
 }
 
 -- ---- what was got of a book file
 
 module _ (limit : ℕ) (input : List ℕ) (after : Option (List ℕ)) where
-  pub refused_book : (f : BookFault) → Reads limit mark input after (Err f)
+  pub refused_book : (f : BookFault) → ReadsBook limit mark input after (Err f)
       → HoldsOfGot limit (mark ++ input) after (IsFaulty (Book f))
   refused_book f h =
       (mark ++ h.got, h.ending, h.gets, (is_book (mark ++ h.got) h.got refl, h.reads))
 
-  pub read_book : (asked : ℕ) (b : BookValue) → Reads limit mark input after (Ok b)
+  pub read_book : (asked : ℕ) (b : BookValue) → ReadsBook limit mark input after (Ok b)
       → HoldsOfGot limit (mark ++ input) after (ReadsInput asked (Ok b))
   read_book asked b h =
       let v = h.reads.0 in
@@ -237,7 +238,7 @@ module _ (limit : ℕ) (input : List ℕ) (after : Option (List ℕ)) where
       (book_text v b.rows, ending.End, gets, reads_book asked b v h.reads.1 h.reads.3)
 
   pub rows_read : (asked own : ℕ) (old new : List Row) → new ≡ old ++ rows_after old new
-      → Reads limit mark input after (Ok (record { gap = own; rows = rows_after old new }))
+      → ReadsBook limit mark input after (Ok (record { gap = own; rows = rows_after old new }))
       → HoldsOfGot limit (mark ++ input) after (GivesRows asked own old new)
   rows_read asked own old new e h =
       let v = h.reads.0 in
@@ -254,7 +255,7 @@ module _ (limit : ℕ) (input : List ℕ) (after : Option (List ℕ)) where
 -- where its bytes may not be known
 pub rows_input : (asked own : ℕ) (old new : List Row) (known after : Option (List ℕ)) (limit : ℕ)
     (head : List ℕ) → head ≡ mark → new ≡ old ++ rows_after old new
-    → IfSome known (λ input. Reads limit head input after
+    → IfSome known (λ input. ReadsBook limit head input after
     (Ok (record { gap = own; rows = rows_after old new })))
     → IfSome known (λ input. HoldsOfGot limit (head ++ input) after
     (ReadsRows asked (Ok own) old new))
@@ -262,24 +263,24 @@ rows_input asked own old new None after limit head is e h = tt
 rows_input asked own old new (Some input) after limit head is e h =
     subst (λ l. HoldsOfGot limit (l ++ input) after (ReadsRows asked (Ok own) old new)) (sym is)
     (rows_read limit input after asked own old new e
-    (subst (λ l. Reads limit l input after
+    (subst (λ l. ReadsBook limit l input after
     (Ok (record { gap = own; rows = rows_after old new }))) is h))
 
 pub book_input : (asked : ℕ) (known after : Option (List ℕ)) (limit : ℕ) (head : List ℕ)
-    (b : BookValue) → head ≡ mark → IfSome known (λ input. Reads limit head input after (Ok b))
+    (b : BookValue) → head ≡ mark → IfSome known (λ input. ReadsBook limit head input after (Ok b))
     → IfSome known (λ input. HoldsOfGot limit (head ++ input) after (ReadsInput asked (Ok b)))
 book_input asked None after limit head b is h = tt
 book_input asked (Some input) after limit head b is h =
     subst (λ l. HoldsOfGot limit (l ++ input) after (ReadsInput asked (Ok b))) (sym is)
-    (read_book limit input after asked b (subst (λ l. Reads limit l input after (Ok b)) is h))
+    (read_book limit input after asked b (subst (λ l. ReadsBook limit l input after (Ok b)) is h))
 
 pub refused_input : (known after : Option (List ℕ)) (limit : ℕ) (head : List ℕ) (f : BookFault)
-    → head ≡ mark → IfSome known (λ input. Reads limit head input after (Err f))
+    → head ≡ mark → IfSome known (λ input. ReadsBook limit head input after (Err f))
     → IfSome known (λ input. HoldsOfGot limit (head ++ input) after (IsFaulty (Book f)))
 refused_input None after limit head f is h = tt
 refused_input (Some input) after limit head f is h =
     subst (λ l. HoldsOfGot limit (l ++ input) after (IsFaulty (Book f))) (sym is)
-    (refused_book limit input after f (subst (λ l. Reads limit l input after (Err f)) is h))
+    (refused_book limit input after f (subst (λ l. ReadsBook limit l input after (Err f)) is h))
 
 -- what was got is read so
 pub of_got : (known after : Option (List ℕ)) (limit : ℕ) (t : List ℕ) (c : Ending) (P : List ℕ

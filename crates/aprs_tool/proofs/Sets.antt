@@ -10,8 +10,6 @@ use Rattle.aprs_laws.specs.Gap.{millis_of}
 use Rattle.aprs_laws.specs.Lists.{SameMembers}
 use Rattle.aprs_laws.specs.Row.{Row}
 use Rattle.aprs_laws.proofs.Books.{book_carries, one_book}
-use Rattle.aprs_laws.specs.Sound.{Sound}
-use Rattle.aprs_laws.proofs.Soundness.{sound}
 use Rattle.aprs_booktext.specs.Text.{IsBookRows}
 use Rattle.aprs_booktext.specs.Version.{gap_of}
 use Rattle.aprs_booktext.proofs.OneText.{one_text}
@@ -51,13 +49,12 @@ log_book gap t c S T rows p q book =
 
 -- ---- a book file
 
--- its rows are sound under its gap, since they are the book of a set
+-- its rows are a book's under its gap
 pub file_rows : (gap : ℕ) (S : List Heard) (t : List ℕ) (c : Ending) (p : IsBookFileOf gap S t c)
     → IsBookRows p.version p.rows
 file_rows gap S t c p = record {
   version = p.is_version;
-  sound = subst (λ g. Sound (millis_of g) p.rows) (sym p.gap_is)
-      (sound (millis_of gap) S p.rows p.book);
+  book = subst (λ g. (T : List Heard) × BookOf (millis_of g) T p.rows) (sym p.gap_is) (S, p.book);
   each = p.spelled;
 }
 

@@ -6,19 +6,17 @@ use Rattle.aprs_log.specs.LogText.{HasLogFault}
 use Rattle.aprs_log.specs.Reception.{Heard}
 use Rattle.aprs_laws.specs.declared.merge_fault.MergeFault.{MergeFault}
 use Rattle.aprs_laws.specs.declared.merge_fault.MergeFault.TheVariants as merge
-use Rattle.aprs_booktext.specs.FirstFault.{FirstFault, IsMemoryAt, most_ahead}
+use Rattle.aprs_booktext.specs.TextFault.{HasBookFault}
 use Rattle.aprs_tool.specs.Inputs.{GivesSet, IsBookFileOf, is_book_file}
 use Rattle.aprs_tool.specs.Status.{status_of_input}
 use Rattle.aprs_tool.specs.declared.fault.InputFault.{InputFault}
 use Rattle.aprs_tool.specs.declared.fault.InputFault.TheVariants.{Log, Book, Memory, OtherGap}
 
--- The input itself is refused: for the fault after a log's lines, or the first of a book's text; or
--- because an allocation failed before that, for a log, or in the line of a book file that was being
--- read.
+-- The input itself is refused: for the fault after a log's lines, or that of a book's text; or
+-- because an allocation failed, for a log.
 abbrev pub IsFaulty : InputFault → List ℕ → Ending → Type 0
 IsFaulty (Log fault) text ending = (is_book_file text ≡ false) × HasLogFault text ending fault
-IsFaulty (Book fault) text ending = (is_book_file text ≡ true)
-    × (IsMemoryAt most_ahead text fault ⊎ FirstFault text ending fault)
+IsFaulty (Book fault) text ending = (is_book_file text ≡ true) × HasBookFault text ending fault
 IsFaulty Memory text ending = is_book_file text ≡ false
 IsFaulty fault text ending = ⊥
 

@@ -66,9 +66,9 @@ impl<A: Allocator + Copy> Desk<A> {
         }
     }
 
-    /// Reads an input, as `read_input` does with the gap of this desk's book: the book of a set
-    /// becomes the book of that set and of the input's receptions. `OtherGap` comes for a faultless
-    /// book file of another gap, and then `Memory` where an allocation failed for the merge.
+    /// Reads an input, as `read_input` does with the gap of this desk's book, and merges its book
+    /// into that. `OtherGap` comes for a faultless book file of another gap, and after that check
+    /// `Memory` where an allocation failed for the merge.
     /// After a fault the desk is as before.
     pub fn take_input<R: Read>(&mut self, r: &mut Counted<R>) -> Result<(), InputFault>
         ensures takes { OfGot (desk_limit self.old) (R.remaining (device_of r.old))

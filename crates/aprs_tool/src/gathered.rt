@@ -43,7 +43,7 @@ impl<A: Allocator> Model for Gathered<A> {
     ghost invariant = { λ g. IsGap g.gap };
 }
 
-/// Why what was gathered is not written.
+/// Why the book of the gathered rows, or its listing, isn't written.
 #[derive(Debug, Drop)]
 pub(crate) enum Unwritten {
     /// An allocation failed, before the first byte.
@@ -97,7 +97,7 @@ impl<A: Allocator + Copy> Gathered<A> {
             store,
         } = self;
         let order = store.in_order()?;
-        let rows = order.coalesced(gap)?;
+        let rows = order.transmissions(gap)?;
         Ok(write_rows(w, &rows)?)
     }
 
@@ -107,7 +107,7 @@ impl<A: Allocator + Copy> Gathered<A> {
     {
         let Gathered { alloc, gap, store } = self;
         let order = store.in_order()?;
-        let rows = order.coalesced(gap)?;
+        let rows = order.transmissions(gap)?;
         let overview = Overview::of(alloc, &rows)?;
         let views = Views::of_rows(&overview)?;
         Ok(views.write(w)?)

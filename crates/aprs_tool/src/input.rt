@@ -33,14 +33,15 @@ use std::io::Read;
 /// The text of a book begins so.
 const BOOK_MARK: &[u8] = b"APRSBOOK";
 
-/// Reads the book of an input: its own, where its first eight bytes are `APRSBOOK`, with its own
-/// gap, and else that of the receptions of a log, whose other lines are passed over, with the gap
-/// that is asked for. At most `limit` bytes are read, to the end. Requires that `limit` is at most
-/// `MAX_INPUT` (1,073,741,824). A faulty input gives its first fault. Where an allocation failed
-/// before it, a log gives `Memory`, and a book file `Book` with that cause and the line that was
-/// being read. An input of which fewer than eight bytes are got is a log, and one with an LF among
-/// its first eight is judged by that line first. Holds the book, one line, and a log's receptions,
-/// each in the bytes that it has.
+/// Reads the book of an input. An input whose first eight bytes are `APRSBOOK` is a book file, and
+/// gives its book with its own gap. Every other is a log, and gives the book of its receptions with
+/// the gap that is asked for; lines without a frame are passed over. At most `limit` bytes are
+/// read, to the end. Requires that `limit` is at most `MAX_INPUT` (1,073,741,824). A faulty input
+/// gives its first fault. Where an allocation failed before that fault, a log gives `Memory`, and a
+/// book file gives `Book` with the cause `Memory` and the line that was being read. An input of
+/// which fewer than eight bytes are got is a log, and where an LF is among the first eight, that
+/// line is judged first. Keeps in memory the book, one line and a log's receptions, each in as few
+/// bytes as it has.
 pub fn read_input<R: Read, A: Allocator + Copy>(
     alloc: A,
     limit: u64,
@@ -93,7 +94,7 @@ fn book_of<A: Allocator + Copy>(alloc: A, gap: Gap, store: RowStore<A>) -> Resul
     ensures gap { IfOk result (λ book. book.gap ≡ gap) }
 {
     let order = store.in_order()?;
-    let rows = order.coalesced(gap)?;
+    let rows = order.transmissions(gap)?;
     Book::of_rows(alloc, &rows)
 }
 
@@ -205,7 +206,7 @@ fn push_heard<A: Allocator + Copy>(store: &mut RowStore<A>, line: &Line) -> Resu
     }
 }
 
-/// The book of both sets together: the second itself where the first has no rows.
+/// The book of the receptions of both books: the second itself where the first has no rows.
 pub(crate) fn merge_books<A: Allocator + Copy>(
     book: &Book<A>,
     input: Book<A>,

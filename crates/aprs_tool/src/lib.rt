@@ -1,4 +1,5 @@
-//! Runs over logs, streams and book files.
+//! What each command does, from its inputs to its output and its exit status: check, convert,
+//! merge, widen, show.
 #![tactic(auto)]
 
 mod desk;

@@ -5,7 +5,7 @@ ghost use Rattle.aprs_laws.specs.Lists.{Ordered};
 ghost use Rattle.aprs_report.specs.Reader.{reading_of};
 ghost use Rattle.aprs_laws.specs.Gap.{millis_of};
 ghost use Rattle.aprs_laws.specs.Row.{Row};
-ghost use Rattle.aprs_book.specs.Messages.{state_by, state_reported, ReportsMessages};
+ghost use Rattle.aprs_book.specs.Messages.{state_by, reported_state, ReportsMessages};
 ghost use Rattle.aprs_book.specs.MessageRows.{message_of, IsListed, ReportsAnswer, Zipped, IsKeyBefore};
 ghost use Rattle.aprs_book.specs.Exchange.{IsExchangeOf};
 
@@ -143,14 +143,14 @@ fn state_by(first: Moment, answer: Option<&ReceptionView<'_>>) -> MessageState
     ensures { result ≡ state_by first (option_copied answer.entry) }
 {
     match answer {
-        Some(x) if x.moment() >= first => state_reported(x.info()),
+        Some(x) if x.moment() >= first => reported_state(x.info()),
         _ => MessageState::Unanswered,
     }
 }
 
 /// What an answer of this information says.
-fn state_reported(info: &[u8]) -> MessageState
-    ensures { result ≡ state_reported (reading_of info.now) }
+fn reported_state(info: &[u8]) -> MessageState
+    ensures { result ≡ reported_state (reading_of info.now) }
 {
     match Report::read(info) {
         Report::Rej { .. } => MessageState::Rejected,

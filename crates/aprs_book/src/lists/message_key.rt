@@ -4,7 +4,7 @@ ghost use Rattle.std.specs.Option.{option_map};
 ghost use Rattle.aprs_laws.specs.Key.{key_of};
 ghost use Rattle.aprs_report.specs.Reader.{reading_of};
 ghost use Rattle.aprs_book.specs.Messages.{message_in};
-ghost use Rattle.aprs_book.specs.MessageRows.{message_of, is_addressed, span_with, Answer, answer_of, answer_reported, IsReply};
+ghost use Rattle.aprs_book.specs.MessageRows.{message_of, is_addressed, span_with, Answer, answer_of, reported_answer, IsReply};
 
 use crate::known::reception_view::ReceptionView;
 use aprs_ax25::Callsign;
@@ -100,7 +100,7 @@ pub(crate) fn reply_in<'a>(sender: &Callsign, heard: &ReceptionView<'a>) -> Opti
 /// The addressee and the id of an answer that has this information.
 fn answer_in(info: &[u8]) -> Option<(&[u8], &[u8])>
     ensures { option_map (λ x. (x.0.now, x.1.now)) result
-        ≡ answer_reported (reading_of info.now) }
+        ≡ reported_answer (reading_of info.now) }
 {
     match Report::read(info) {
         Report::Ack { addressee, id } => Some((addressee, id)),

@@ -8,7 +8,7 @@ ghost use Rattle.aprs_laws.specs.Order.{IsBelow};
 ghost use Rattle.aprs_laws.specs.Key.{key_of, key_cmp};
 ghost use Rattle.aprs_laws.specs.Row.{row_cmp};
 ghost use Rattle.aprs_laws.specs.JoinRow.{single, combine, place};
-ghost use Rattle.aprs_laws.specs.Inserted.{side, grown};
+ghost use Rattle.aprs_laws.specs.Inserted.{side, grow_row};
 ghost use Rattle.aprs_book.specs.Keyed.{HaveSameCalls};
 ghost use Rattle.aprs_rows.specs.Refusal.{is_too_near};
 
@@ -16,7 +16,7 @@ use crate::rows::millis::Millis;
 use crate::{Memory, Receivers, Row, RowParts};
 use aprs_ax25::Frame;
 use aprs_log::{Moment, Receiver, Reception};
-use aprs_rows::{copied, keep_greater};
+use aprs_rows::keep_greater;
 use std::alloc::{Allocator, Global};
 use std::boxed::Box;
 use std::cmp::Ordering;
@@ -83,7 +83,7 @@ impl<A: Allocator + Copy> KeptRow<A> {
     {
         let mut receivers = Receivers::new(alloc);
         receivers.add(x.receiver())?;
-        KeptRow::new(alloc, x.moment(), receivers, copied(x))
+        KeptRow::new(alloc, x.moment(), receivers, x.copy())
     }
 
     /// The row of these parts, whose receivers ascend.
@@ -157,7 +157,7 @@ impl<A: Allocator + Copy> KeptRow<A> {
 
     /// Adds a reception that is near. Where its receiver is listed, that takes no memory.
     pub(crate) fn grow(&mut self, x: &Reception) -> Result<(), Memory>
-        ensures grown { OnOk result (self.new ≡ grown self.old x.now) }
+        ensures grown { OnOk result (self.new ≡ grow_row self.old x.now) }
         ensures unchanged { OnErr result (self.new ≡ self.old) }
         ensures listed { x.now.receiver ∈ self.old.receivers → IsOk result }
     {
@@ -189,18 +189,18 @@ impl<A: Allocator + Copy> KeptRow<A> {
             self.allocator(),
             self.first(),
             receivers,
-            copied(self.greatest()),
+            self.greatest().copy(),
         )
     }
 
     /// This row with a reception that is near, and the next row, to which that is near too, as one.
     pub(crate) fn bridge(&self, x: &Reception, next: &KeptRow<A>) -> Result<KeptRow<A>, Memory>
-        ensures { IfOk result (λ row. row ≡ combine (grown self.now x.now) next.now) }
+        ensures { IfOk result (λ row. row ≡ combine (grow_row self.now x.now) next.now) }
     {
         let mut receivers = self.receivers().duplicate()?;
         receivers.add(x.receiver())?;
         let receivers = receivers.unite(next.receivers())?;
-        let mut greatest = copied(self.greatest());
+        let mut greatest = self.greatest().copy();
         keep_greater(&mut greatest, x);
         keep_greater(&mut greatest, next.greatest());
         let first = earlier(earlier(self.first(), x.moment()), next.first());

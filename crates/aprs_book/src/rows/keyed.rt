@@ -2,15 +2,15 @@
 ghost use Rattle.std.specs.Prelude.{◌≡◌, ◌+◌, [], ◌∷◌, ◌++◌, length, true, IsOk, IfOk, OnOk, OnErr};
 ghost use Rattle.aprs_book.specs.Keyed.{EndsUpTo, IsEndOf, rows_of};
 ghost use Rattle.aprs_rows.specs.Refusal.{refusal};
-ghost use Rattle.aprs_laws.specs.JoinRow.{interleave, coalesced};
+ghost use Rattle.aprs_laws.specs.JoinRow.{interleave, coalesced_rows};
 ghost use Rattle.aprs_log.specs.Reception.{bytes_cmp};
 ghost use Rattle.aprs_laws.specs.Lists.{Ordered};
 ghost use Rattle.aprs_laws.specs.Order.{IsBelow};
-ghost use Rattle.aprs_laws.specs.Inserted.{inserted, fits_in_place};
+ghost use Rattle.aprs_laws.specs.Inserted.{insert_heard, fits_in_place};
 ghost use Rattle.aprs_laws.specs.Sound.{Sound};
 
 use crate::rows::kept_row::KeptRow;
-use crate::rows::merging_keys::{put_joined, put_merged};
+use crate::rows::merging_keys::{put_both, put_either};
 use crate::rows::millis::Millis;
 use crate::rows::place::put;
 use crate::rows::push::first_cause;
@@ -89,7 +89,7 @@ impl<A: Allocator + Copy> KeyedRows<A> {
 
     /// The rows of both, head by head, in one pass over the heads of both.
     pub(crate) fn merge(&self, gap: Millis, other: &KeyedRows<A>) -> Result<KeyedRows<A>, Memory>
-        ensures { IfOk result (λ both. both ≡ coalesced gap (interleave self.now other.now)) }
+        ensures { IfOk result (λ both. both ≡ coalesced_rows gap (interleave self.now other.now)) }
     {
         let mut map = BTreeMap::new(self.alloc);
         let mut ours = self.map.iter();
@@ -100,25 +100,25 @@ impl<A: Allocator + Copy> KeyedRows<A> {
             match (our, their) {
                 (None, None) => break,
                 (Some((head, x)), None) => {
-                    put_joined(self.alloc, gap, &mut map, head, x.as_slice())?;
+                    put_either(self.alloc, gap, &mut map, head, x.as_slice())?;
                     our = ours.next();
                 }
                 (None, Some((head, y))) => {
-                    put_joined(self.alloc, gap, &mut map, head, y.as_slice())?;
+                    put_either(self.alloc, gap, &mut map, head, y.as_slice())?;
                     their = theirs.next();
                 }
                 (Some((head, x)), Some((other_head, y))) => match head.cmp(other_head) {
                     Ordering::Less => {
-                        put_joined(self.alloc, gap, &mut map, head, x.as_slice())?;
+                        put_either(self.alloc, gap, &mut map, head, x.as_slice())?;
                         our = ours.next();
                     }
                     Ordering::Equal => {
-                        put_merged(self.alloc, gap, &mut map, head, x.as_slice(), y.as_slice())?;
+                        put_both(self.alloc, gap, &mut map, head, x.as_slice(), y.as_slice())?;
                         our = ours.next();
                         their = theirs.next();
                     }
                     Ordering::Greater => {
-                        put_joined(self.alloc, gap, &mut map, other_head, y.as_slice())?;
+                        put_either(self.alloc, gap, &mut map, other_head, y.as_slice())?;
                         their = theirs.next();
                     }
                 },
@@ -184,7 +184,7 @@ impl<A: Allocator + Copy> KeyedRows<A> {
     /// Adds a reception. What needs memory is made before the first change.
     pub(crate) fn take(&mut self, gap: Millis, x: &Reception) -> Result<(), Memory>
         requires { Sound gap self.old }
-        ensures inserted { OnOk result (self.new ≡ inserted gap x.now self.old) }
+        ensures inserted { OnOk result (self.new ≡ insert_heard gap x.now self.old) }
         ensures unchanged { OnErr result (self.new ≡ self.old) }
         ensures in_place { fits_in_place gap x.now self.old ≡ true → IsOk result }
     {

@@ -1,7 +1,8 @@
 //! The rows of two books in one.
 ghost use Rattle.std.specs.Prelude.{◌≡◌, [], ◌∷◌, ◌++◌, true, false, IfOk, OnOk};
-ghost use Rattle.aprs_laws.specs.JoinRow.{interleave, coalesced};
-ghost use Rattle.aprs_book.specs.WithRows.{with_row, with_rows, IsNearLast};
+ghost use Rattle.aprs_laws.specs.JoinRow.{interleave, coalesced_rows};
+ghost use Rattle.aprs_laws.specs.Coalescing.{append_row};
+ghost use Rattle.aprs_book.specs.WithRows.{with_rows, IsNearLast};
 
 use crate::Memory;
 use crate::rows::kept_row::KeptRow;
@@ -17,7 +18,7 @@ pub(crate) fn merged_rows<A: Allocator + Copy>(
     theirs: &[KeptRow<A>],
 ) -> Result<Vec<KeptRow<A>, A>, Memory>
     ensures { IfOk result (λ rows.
-        rows.items ≡ coalesced gap (interleave ours.now theirs.now)) }
+        rows.items ≡ coalesced_rows gap (interleave ours.now theirs.now)) }
 {
     let mut rows = Vec::new(alloc);
     let mut i = 0;
@@ -42,7 +43,7 @@ pub(crate) fn joined_rows<A: Allocator + Copy>(
     gap: Millis,
     more: &[KeptRow<A>],
 ) -> Result<Vec<KeptRow<A>, A>, Memory>
-    ensures { IfOk result (λ rows. rows.items ≡ coalesced gap more.now) }
+    ensures { IfOk result (λ rows. rows.items ≡ coalesced_rows gap more.now) }
 {
     let mut rows = Vec::new(alloc);
     push_all(gap, &mut rows, more)?;
@@ -69,7 +70,7 @@ fn push<A: Allocator + Copy>(
     rows: &mut Vec<KeptRow<A>, A>,
     row: &KeptRow<A>,
 ) -> Result<(), Memory>
-    ensures { OnOk result (rows.new.items ≡ with_row gap rows.old.items row.now) }
+    ensures { OnOk result (rows.new.items ≡ append_row gap rows.old.items row.now) }
 {
     if is_near_last(gap, rows.as_slice(), row) {
         let end = rows.len() - 1;
@@ -87,7 +88,7 @@ fn push<A: Allocator + Copy>(
 /// Whether the last of the rows is near to the row.
 fn is_near_last<A: Allocator + Copy>(gap: Millis, rows: &[KeptRow<A>], row: &KeptRow<A>) -> bool
     ensures near { result ≡ true → IsNearLast gap rows.now row.now }
-    ensures far { result ≡ false → with_row gap rows.now row.now ≡ rows.now ++ row.now ∷ [] }
+    ensures far { result ≡ false → append_row gap rows.now row.now ≡ rows.now ++ row.now ∷ [] }
 {
     let len = rows.len();
     if len == 0 {

@@ -1,6 +1,6 @@
 //! The rows of two books in one, head by head.
 ghost use Rattle.std.specs.Prelude.{◌≡◌, IfOk, OnOk};
-ghost use Rattle.aprs_laws.specs.JoinRow.{interleave, coalesced};
+ghost use Rattle.aprs_laws.specs.JoinRow.{interleave, coalesced_rows};
 ghost use Rattle.aprs_book.specs.Keyed.{PutsRows};
 
 use crate::Memory;
@@ -12,7 +12,7 @@ use std::alloc::Allocator;
 use std::collections::BTreeMap;
 
 /// Puts one head's rows of both at the end.
-pub(crate) fn put_merged<A: Allocator + Copy>(
+pub(crate) fn put_both<A: Allocator + Copy>(
     alloc: A,
     gap: Millis,
     map: &mut BTreeMap<Head, Vec<KeptRow<A>, A>, A>,
@@ -21,7 +21,7 @@ pub(crate) fn put_merged<A: Allocator + Copy>(
     theirs: &[KeptRow<A>],
 ) -> Result<(), Memory>
     ensures { OnOk result (PutsRows (λ v. v.items) map.old.entries map.new.entries
-        head.now (coalesced gap (interleave ours.now theirs.now))) }
+        head.now (coalesced_rows gap (interleave ours.now theirs.now))) }
 {
     let rows = merged_rows(alloc, gap, ours, theirs)?;
     if map.insert(*head, rows).is_err() {
@@ -31,7 +31,7 @@ pub(crate) fn put_merged<A: Allocator + Copy>(
 }
 
 /// Puts one head's rows of either at the end.
-pub(crate) fn put_joined<A: Allocator + Copy>(
+pub(crate) fn put_either<A: Allocator + Copy>(
     alloc: A,
     gap: Millis,
     map: &mut BTreeMap<Head, Vec<KeptRow<A>, A>, A>,
@@ -39,7 +39,7 @@ pub(crate) fn put_joined<A: Allocator + Copy>(
     rows: &[KeptRow<A>],
 ) -> Result<(), Memory>
     ensures { OnOk result (PutsRows (λ v. v.items) map.old.entries map.new.entries
-        head.now (coalesced gap rows.now)) }
+        head.now (coalesced_rows gap rows.now)) }
 {
     let rows = joined_rows(alloc, gap, rows)?;
     if map.insert(*head, rows).is_err() {

@@ -1,6 +1,6 @@
 //! Where a reception goes in the rows.
 ghost use Rattle.std.specs.Prelude.{◌≡◌, ◌≤◌, ◌+◌, true, length, IsOk, OnOk, OnErr};
-ghost use Rattle.aprs_laws.specs.Inserted.{inserted, fits_in_place};
+ghost use Rattle.aprs_laws.specs.Inserted.{insert_heard, fits_in_place};
 ghost use Rattle.aprs_laws.specs.Sound.{Sound};
 ghost use Rattle.aprs_book.specs.Places.{IsPlace};
 
@@ -51,7 +51,7 @@ pub(crate) fn put<A: Allocator + Copy>(
 ) -> Result<(), Memory>
     requires sound { Sound gap rows.old.items }
     requires fewer { length rows.old.items ≤ count.old }
-    ensures inserted { OnOk result (rows.new.items ≡ inserted gap x.now rows.old.items) }
+    ensures inserted { OnOk result (rows.new.items ≡ insert_heard gap x.now rows.old.items) }
     ensures unchanged { OnErr result (rows.new.items ≡ rows.old.items) }
     ensures in_place { fits_in_place gap x.now rows.old.items ≡ true → IsOk result }
     ensures counted { count.new + length rows.old.items ≡ count.old + length rows.new.items }

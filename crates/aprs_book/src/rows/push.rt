@@ -2,7 +2,7 @@
 ghost use Rattle.std.specs.Prelude.{ℕ, [], ◌≡◌};
 ghost use Rattle.std.specs.List.{list_any};
 ghost use Rattle.aprs_laws.specs.Sound.{Sound};
-ghost use Rattle.aprs_rows.specs.Refusal.{refusal, is_of_last, is_out_of_order, is_too_near, is_ascending, is_name, RefusesUnsound, PrefixesAreSound};
+ghost use Rattle.aprs_rows.specs.Refusal.{refusal, is_of_last, is_out_of_order, is_too_near, is_ascending, is_same_name, RefusesUnsound, PrefixesAreSound};
 
 use crate::rows::kept_row::KeptRow;
 use crate::rows::millis::Millis;
@@ -82,14 +82,14 @@ fn is_ascending(names: &[Receiver]) -> bool
 
 /// Whether the name is among these.
 fn has_name(names: &[Receiver], name: &Receiver) -> bool
-    ensures { result ≡ list_any (is_name name.now) names.now }
+    ensures { result ≡ list_any (is_same_name name.now) names.now }
 {
     names.iter().any(|other| name.cmp(other).is_eq())
 }
 
 /// Whether the name is the last of these.
 fn is_last_name(names: &[Receiver], name: &Receiver) -> bool
-    ensures { result ≡ is_of_last (is_name name.now) names.now }
+    ensures { result ≡ is_of_last (is_same_name name.now) names.now }
 {
     match names.last() {
         Some(last) => name.cmp(last).is_eq(),

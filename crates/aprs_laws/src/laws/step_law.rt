@@ -1,4 +1,4 @@
-//! Laws of the step that books are made with.
+//! Laws of the step that books are made with. The functions do nothing: their clauses are the laws.
 ghost use Rattle.std.specs.Prelude.{ℕ, ◌<◌};
 ghost use Rattle.aprs_laws.specs.Coalescing.{BooksStand, CoalescesBook, CoalescesJoined, CoalescesOneByOne, CoalescesReceptions, CoalescesWider, CoalescesWitnesses, JoinsLast, SinglesStand, UnionsStand};
 ghost use Rattle.aprs_laws.specs.StepLaws.{PlainBookIsBook, TakesReception, InsertsReception, FitsByTest, OnlyNextFollows, TakesRow, TakesRows, AtMostTwoAreNear, OnePassJoins, StepsGiveBooks, SameTakenSameRows};
@@ -29,7 +29,7 @@ pub fn two_rows_are_near_at_most()
     ensures { (gap : ℕ) → AtMostTwoAreNear gap }
 {}
 
-/// One pass over the rows of two books in order gives their joined value.
+/// One pass over the rows of two books, put in order, gives the rows of the merged book.
 pub fn one_pass_joins()
     ensures { (gap : ℕ) → 0 < gap → OnePassJoins gap }
 {}

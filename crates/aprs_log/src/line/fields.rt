@@ -1,5 +1,5 @@
-//! The first two fields of a line. Each ends before a space and has none in it, so a moment ends at
-//! one of two places, and a name where its bytes do.
+//! The first two fields of a line, a moment and a receiver's name, each with a space after it. A
+//! moment has one of two lengths, and a name ends before the first byte that no name has.
 ghost use Rattle.std.specs.Prelude.{◌≡◌, ◌↔◌, IsTrue, MatchOption};
 ghost use Rattle.std.specs.List.{position};
 ghost use Rattle.aprs_log.specs.Fields.{EndsMoment, EndsNoMoment, HasSpace, TakesMoment, TakesName, TakesNoMoment, TakesNoName, ends_name};
@@ -19,7 +19,8 @@ pub fn first_moment<'a>(clock: &mut Clock, line: &'a [u8]) -> Option<(Moment, &'
     Some((moment, &line[len + 1..]))
 }
 
-/// The bytes of the moment that a line may begin with, by the place of the space after it.
+/// How many bytes the moment at the beginning of a line has, if there is one. The space after it
+/// tells.
 fn moment_len(line: &[u8]) -> Option<usize>
     ensures { MatchOption result (EndsNoMoment line.now) (EndsMoment line.now) }
 {

@@ -21,7 +21,8 @@ fn utc_at_start(bytes: &[u8]) -> Option<(Stamp, &[u8])>
     }
 }
 
-/// A status, from the bytes after the first.
+/// The status report that has these bytes after its `>`: a time stamp in UTC, if they begin with
+/// one, and the text.
 pub fn status(bytes: &[u8]) -> Report<'_>
     ensures { view result ≡ status_of bytes.now }
 {

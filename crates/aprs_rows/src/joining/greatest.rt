@@ -28,7 +28,7 @@ impl Greatest {
     pub fn new(x: &Reception) -> Greatest
         ensures { result ≡ x.now }
     {
-        Greatest { heard: copied(x) }
+        Greatest { heard: x.copy() }
     }
 
     /// The reception. Takes no memory.
@@ -60,17 +60,10 @@ impl Join for Greatest {
         ensures valid_result { IfOk result IsAny }
         ensures always { IsOk result }
     {
-        let mut heard = copied(&self.heard);
+        let mut heard = self.heard.copy();
         keep_greater(&mut heard, &other.heard);
         Ok(Greatest { heard })
     }
-}
-
-/// The same reception again. Takes no memory.
-pub fn copied(x: &Reception) -> Reception
-    ensures { result ≡ x.now }
-{
-    Reception::new(x.moment(), x.receiver().copy(), x.frame().copy())
 }
 
 /// Makes it the greater of both, as [`Greatest`] orders them. Takes no memory.
@@ -79,6 +72,6 @@ pub fn keep_greater(greatest: &mut Reception, x: &Reception)
 {
     let current: &Reception = greatest;
     if current.cmp(x).is_lt() {
-        *greatest = copied(x);
+        *greatest = x.copy();
     }
 }

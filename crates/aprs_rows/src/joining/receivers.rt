@@ -4,7 +4,7 @@ ghost use Rattle.aprs_log.specs.Reception.{bytes_cmp};
 ghost use Rattle.aprs_laws.specs.Lists.{◌∈◌, Ordered};
 ghost use Rattle.aprs_laws.specs.Order.{IsBelow};
 ghost use Rattle.aprs_laws.specs.JoinRow.{add, union};
-ghost use Rattle.aprs_laws.specs.Merged.{merged};
+ghost use Rattle.aprs_laws.specs.Merged.{ascending_union};
 ghost use Rattle.aprs_laws.specs.Joining.{AreAny, IsUnited};
 ghost use Rattle.aprs_rows.specs.KeptNames.{names_in};
 ghost use Rattle.aprs_laws.proofs.Orders.{bytes_total, bytes_exact};
@@ -134,7 +134,7 @@ impl<A: Allocator + Copy> Join for Receivers<A> {
     }
 }
 
-/// The place of the name, or else the place where it belongs.
+/// The place of the name, or, as `Err`, the place where it belongs.
 fn search(names: &[Receiver], name: &Receiver) -> Result<usize, usize>
     ensures { MatchResult result
         (λ _. add bytes_cmp name.now names.now ≡ names.now)
@@ -154,7 +154,7 @@ fn search(names: &[Receiver], name: &Receiver) -> Result<usize, usize>
 /// Puts the names of both in order after those that are there.
 fn merge_onto<A: Allocator>(names: &mut Vec<Receiver, A>, ours: &[Receiver], theirs: &[Receiver])
     requires { vec_len names.old + length ours.now + length theirs.now ≤ vec_capacity names.old }
-    ensures { names.new.items ≡ names.old.items ++ merged bytes_cmp ours.now theirs.now }
+    ensures { names.new.items ≡ names.old.items ++ ascending_union bytes_cmp ours.now theirs.now }
 {
     let mut i = 0;
     let mut j = 0;

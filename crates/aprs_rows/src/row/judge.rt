@@ -6,7 +6,7 @@ ghost use Rattle.aprs_laws.specs.Gap.{millis_of};
 ghost use Rattle.aprs_laws.specs.Row.{Row};
 ghost use Rattle.aprs_laws.specs.Sound.{IsSoundRow};
 ghost use Rattle.aprs_rows.specs.Names.{names_in};
-ghost use Rattle.aprs_rows.specs.Refusal.{refusal, is_of_last, is_out_of_order, is_too_near, is_ascending, is_name};
+ghost use Rattle.aprs_rows.specs.Refusal.{refusal, is_of_last, is_out_of_order, is_too_near, is_ascending, is_same_name};
 ghost use Rattle.aprs_rows.specs.Judging.{list_of};
 
 use crate::row::names::cut_name;
@@ -25,7 +25,8 @@ impl<'a> RowView<'a> {
         self.first_cause(before, gap)
     }
 
-    /// The first cause that refuses the row after this one alone, or after none.
+    /// The first cause for which this row can't come right after `before`, the last row of a book,
+    /// or be the book's first row where `before` is none.
     #[tactic(auto, unfolding(crate::specs::Refusal::refusal))]
     fn first_cause(&self, before: Option<&RowView<'_>>, gap: Gap) -> Option<RowCause>
         ensures { result ≡ refusal (millis_of gap) (list_of (option_copied before.entry)) self.now }
@@ -42,6 +43,7 @@ impl<'a> RowView<'a> {
         let Some(is_last) = find_name(self.receivers(), self.receiver()) else {
             return Some(RowCause::Receivers);
         };
+        // Of receptions at one moment the greatest is that of the last receiver by name.
         if self.first() == self.last() && !is_last {
             return Some(RowCause::NotGreatest);
         }
@@ -82,10 +84,10 @@ impl<'a> RowView<'a> {
 /// Where the names of a text ascend and this one is among them: whether it is the last.
 fn find_name(text: &[u8], name: &[u8]) -> Option<bool>
     ensures none { IfNone result ((is_ascending (names_in text.now)
-        && list_any (is_name name.now) (names_in text.now)) ≡ false) }
+        && list_any (is_same_name name.now) (names_in text.now)) ≡ false) }
     ensures some { IfSome result (λ is_last. ((is_ascending (names_in text.now)
-        && list_any (is_name name.now) (names_in text.now)) ≡ true)
-        × (is_last ≡ is_of_last (is_name name.now) (names_in text.now))) }
+        && list_any (is_same_name name.now) (names_in text.now)) ≡ true)
+        × (is_last ≡ is_of_last (is_same_name name.now) (names_in text.now))) }
 {
     let Some((first, others)) = cut_name(text) else {
         return if name.cmp(text).is_eq() {

@@ -4,7 +4,7 @@ ghost use Rattle.std.specs.List.{join_with_byte};
 ghost use Rattle.aprs_log.specs.Reception.{bytes_cmp};
 ghost use Rattle.aprs_laws.specs.JoinRow.{union};
 ghost use Rattle.aprs_rows.specs.Names.{names_in};
-ghost use Rattle.aprs_rows.specs.Sorted.{next_text, text_of_sorted};
+ghost use Rattle.aprs_rows.specs.Sorted.{next_text, ascending_text};
 
 use crate::Memory;
 use memchr::memchr;
@@ -50,7 +50,7 @@ fn push_name<'a, A: Allocator>(names: &mut Vec<&'a [u8], A>, name: &'a [u8]) -> 
 }
 
 /// Puts names, each once and ascending, with commas between, after the text that is there.
-pub(crate) fn put_united<A: Allocator, B: Allocator>(
+pub(crate) fn put_union<A: Allocator, B: Allocator>(
     text: &mut Vec<u8, A>,
     names: &mut Vec<&[u8], B>,
 ) -> Result<(), Memory>
@@ -58,13 +58,13 @@ pub(crate) fn put_united<A: Allocator, B: Allocator>(
         ++ join_with_byte 44 (union bytes_cmp (map (λ n. n.now) names.old.items) [])) }
 {
     names.sort_unstable();
-    put_sorted(text, names.as_slice())
+    put_ascending(text, names.as_slice())
 }
 
 /// Puts names that ascend, of equal ones one, with commas between, after the text that is there.
-fn put_sorted<A: Allocator>(text: &mut Vec<u8, A>, names: &[&[u8]]) -> Result<(), Memory>
+fn put_ascending<A: Allocator>(text: &mut Vec<u8, A>, names: &[&[u8]]) -> Result<(), Memory>
     ensures { OnOk result (text.new.items ≡ text.old.items
-        ++ text_of_sorted (map (λ n. n.now) names.now)) }
+        ++ ascending_text (map (λ n. n.now) names.now)) }
 {
     let Some((first, others)) = names.split_first() else {
         return Ok(());

@@ -251,7 +251,7 @@ impl<'a> RowView<'a> {
         }
     }
 
-    /// The head of the key.
+    /// The head of the key: numbers that are compared before the keys themselves.
     fn head(&self) -> Head
         ensures { HasHead result self.now.greatest.frame }
     {

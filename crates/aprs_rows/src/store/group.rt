@@ -17,7 +17,8 @@ pub(crate) struct Group<'a> {
 }
 
 impl<'a> Group<'a> {
-    /// The row of these, whose receivers have this text.
+    /// The one row that the rows of the group are. `text` has the names of their receivers. It is
+    /// empty where the group has a single row, and then that row's own names stay.
     pub(crate) fn view<'t>(&'t self, text: &'t [u8]) -> RowView<'t>
         requires { IsGroup self.now text.now }
         ensures { result ≡ group_row self.now text.now }

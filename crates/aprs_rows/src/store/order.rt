@@ -1,5 +1,5 @@
 //! Rows in order.
-ghost use Rattle.std.specs.Prelude.{◌≡◌, ◌≢◌, [], List, IfOk, OnErr};
+ghost use Rattle.std.specs.Prelude.{◌≡◌, ◌≢◌, [], List, IfOk, IsOk, OnErr, false};
 ghost use Rattle.std.specs.List.Sorted.{IsPermutation};
 ghost use Rattle.aprs_laws.specs.BookValue.{Holds};
 ghost use Rattle.aprs_laws.specs.Coalescing.{AreInOrder};
@@ -7,7 +7,7 @@ ghost use Rattle.aprs_laws.specs.Lists.{SameMembers};
 ghost use Rattle.aprs_laws.specs.Row.{Row};
 ghost use Rattle.aprs_laws.specs.Witnesses.{witnesses};
 ghost use Rattle.aprs_laws.specs.Gap.{millis_of};
-ghost use Rattle.aprs_laws.specs.JoinRow.{coalesced};
+ghost use Rattle.aprs_laws.specs.JoinRow.{coalesced_rows};
 ghost use Rattle.aprs_rows.specs.Rows.{AreRowsIn, rows_in};
 
 use crate::Memory;
@@ -65,6 +65,7 @@ impl<A: Allocator + Copy> RowsInOrder<A> {
         ensures same { IfOk result (IsPermutation (rows_in entries.items bytes.items)) }
         ensures ordered { IfOk result AreInOrder }
         ensures some { OnErr result (entries.items ≢ []) }
+        ensures in_place { has_runs ≡ false → IsOk result }
     {
         if has_runs {
             return RowsInOrder::of_runs(alloc, entries, bytes);
@@ -101,9 +102,9 @@ impl<A: Allocator + Copy> RowsInOrder<A> {
     /// The rows of the book of these under a gap: each row joins the one before it that it is near
     /// to. Takes memory for each row of the book, and for the names of those that were more than
     /// one.
-    pub fn coalesced(&self, gap: Gap) -> Result<Transmissions<'_, A>, Memory>
+    pub fn transmissions(&self, gap: Gap) -> Result<Transmissions<'_, A>, Memory>
         ensures rows { IfOk result (λ t. t
-            ≡ record { gap = gap; rows = coalesced (millis_of gap) self.now }) }
+            ≡ record { gap = gap; rows = coalesced_rows (millis_of gap) self.now }) }
         // They are the book of what the same rows, in any order, stand for.
         ensures book { (told : List Row) → SameMembers told self.now
             → IfOk result (Holds (witnesses told)) }

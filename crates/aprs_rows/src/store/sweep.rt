@@ -2,16 +2,16 @@
 ghost use Rattle.std.specs.Prelude.{◌≡◌, if◌then◌else◌, ℕ, ◌++◌, ◌∷◌, [], false, true, min, List, OnOk, IfOk};
 ghost use Rattle.std.specs.Ordering.{is_eq};
 ghost use Rattle.std.specs.Borrow.{Bor};
-ghost use Rattle.aprs_laws.specs.Coalescing.{appended};
+ghost use Rattle.aprs_laws.specs.Coalescing.{append_row};
 ghost use Rattle.aprs_laws.specs.Gap.{IsGap, millis_of};
 ghost use Rattle.aprs_laws.specs.JoinRow.{combine, greater, place};
 ghost use Rattle.aprs_laws.specs.Row.{Row};
 ghost use Rattle.aprs_laws.specs.Sound.{Sound};
 ghost use Rattle.aprs_rows.specs.Groups.{rows_of_groups, AreGroups};
-ghost use Rattle.aprs_rows.specs.Sweep.{AreGathered, gathered, HasNames, open_row, open_text, Stands};
+ghost use Rattle.aprs_rows.specs.Sweep.{AreGathered, gathered_names, HasNames, open_row, open_text, Stands};
 
 use crate::Memory;
-use crate::row::names::{gather, put_united};
+use crate::row::names::{gather, put_union};
 use crate::store::group::Group;
 use crate::store::laid::Laid;
 use crate::store::transmissions::Transmissions;
@@ -53,7 +53,7 @@ impl<'a> Open<'a> {
             && self.greatest.key_order(row).is_eq()
     }
 
-    /// Takes a row to these.
+    /// Adds a row that is near to these.
     fn grow(&mut self, row: Laid<'a>)
         ensures first { self.new.first ≡ min self.old.first row.entry.first }
         ensures greatest { self.new.greatest.greatest
@@ -83,7 +83,7 @@ pub(crate) struct Sweep<'a, A: Allocator> {
 }
 
 impl<'a, A: Allocator + Copy> Sweep<'a, A> {
-    /// One row.
+    /// A sweep that has taken one row.
     pub(crate) fn begin(alloc: A, gap: Gap, row: Laid<'a>) -> Sweep<'a, A>
         ensures stands { Stands result (row.entry ∷ []) }
         ensures gap { result.gap ≡ gap }
@@ -101,7 +101,7 @@ impl<'a, A: Allocator + Copy> Sweep<'a, A> {
     /// Takes the next row.
     pub(crate) fn take(&mut self, row: Laid<'a>) -> Result<(), Memory>
         ensures stands { (rows : List Row) → Stands self.old rows
-            → OnOk result (Stands self.new (appended (millis_of self.old.gap) rows row.entry)) }
+            → OnOk result (Stands self.new (append_row (millis_of self.old.gap) rows row.entry)) }
         ensures gap { OnOk result (self.new.gap ≡ self.old.gap) }
     {
         if self.latest.is_near(self.gap, &row) {
@@ -151,13 +151,14 @@ impl<'a, A: Allocator + Copy> Sweep<'a, A> {
     }
 }
 
-/// Gathers the names of an open row that is alone; those of more are gathered.
+/// Gathers the names of the open row where it is a single one. The names of two rows or more have
+/// been gathered already.
 fn gather_alone<'a, A: Allocator>(
     names: &mut Vec<&'a [u8], A>,
     latest: &Open<'a>,
 ) -> Result<(), Memory>
-    ensures { OnOk result (gathered names.new.items
-        ≡ gathered names.old.items
+    ensures { OnOk result (gathered_names names.new.items
+        ≡ gathered_names names.old.items
         ++ (if latest.now.is_alone then latest.now.greatest.receivers else [])) }
 {
     if latest.is_alone {
@@ -166,7 +167,8 @@ fn gather_alone<'a, A: Allocator>(
     Ok(())
 }
 
-/// Ends the open rows: they are a group after the others.
+/// Makes a group of the open rows, those that later rows could still join, and puts it after the
+/// other groups and the text of its names after the other texts. `names` is empty afterwards.
 fn close<'a, A: Allocator>(
     groups: &mut Vec<Group<'a>, A>,
     texts: &mut Vec<u8, A>,
@@ -207,5 +209,5 @@ fn put_names<A: Allocator>(
     if latest.is_alone {
         return Ok(());
     }
-    put_united(texts, names)
+    put_union(texts, names)
 }

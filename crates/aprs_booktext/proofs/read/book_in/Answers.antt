@@ -1,7 +1,7 @@
 use Rattle.std.proofs.Common.{◌≡◌, ◌<◌, ◌∙◌, List, ap, arith}
 use Rattle.std.proofs.lemmas.Result.{IfOk-weaker}
 use Rattle.aprs_laws.specs.Gap.{millis_of}
-use Rattle.aprs_laws.specs.JoinRow.{coalesced}
+use Rattle.aprs_laws.specs.JoinRow.{coalesced_rows}
 use Rattle.aprs_laws.specs.Row.{Row}
 use Rattle.aprs_laws.specs.Witnesses.{witnesses}
 use Rattle.aprs_laws.proofs.Books.{one_book}
@@ -14,8 +14,8 @@ returns g c =
     let told = c.args.store in
     let gap = millis_of c.args.gap in
     let some : 0 < gap = omega (arith, c.requires.range) in
-    let same : coalesced gap c.in_ok-order.order ≡ told =
-    one_book gap (witnesses told) (coalesced gap c.in_ok-order.order) told
+    let same : coalesced_rows gap c.in_ok-order.order ≡ told =
+    one_book gap (witnesses told) (coalesced_rows gap c.in_ok-order.order) told
     (coalesces_book gap some (witnesses told) told c.in_ok-order.order
     (books_stand gap told c.requires.sound) c.in_ok-order.ensures.members
     c.in_ok-order.ensures.ordered) (witnessed gap told some c.requires.sound) in

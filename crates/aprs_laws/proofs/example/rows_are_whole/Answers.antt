@@ -1,5 +1,5 @@
 use Rattle.std.proofs.Common.{inl, inr, refl, sym, arith}
-use Rattle.aprs_laws.specs.Examples.{rx1, rx2, hi_frame, hi_repeated, heard, tied_row}
+use Rattle.aprs_laws.specs.Examples.{rx1, rx2, hi_frame, hi_after_digipeater, heard, tied_row}
 use Rattle.aprs_laws.proofs.Worked.{same_key, tied_book, other_receiver}
 use Rattle.aprs_laws.proofs.example.rows_are_whole.Goals as goal
 
@@ -11,7 +11,7 @@ returns-clause-row c = (tied_book.exactly tied_row).0 (inl refl)
 
 pub returns-clause-misses_greatest : goal.returns-clause-misses_greatest
 returns-clause-misses_greatest c = λ r. let g =
-    r.greatest (heard 0 rx2 hi_repeated) (inr (inl refl))
+    r.greatest (heard 0 rx2 hi_after_digipeater) (inr (inl refl))
     (record { key = same_key; from = omega arith; to = omega arith }) in cc g
 
 pub returns-clause-misses_receiver : goal.returns-clause-misses_receiver

@@ -5,8 +5,8 @@ use Rattle.aprs_laws.specs.Order.{IsUpTo}
 use Rattle.aprs_laws.specs.Key.{key_of, key_cmp}
 use Rattle.aprs_laws.specs.Row.{Row, row_cmp}
 use Rattle.aprs_laws.specs.Examples.{half_minute, by_rx1, early, early_row, late_row, row_at}
-use Rattle.aprs_laws.specs.JoinRow.{coalesced}
-use Rattle.aprs_laws.specs.Coalescing.{appended}
+use Rattle.aprs_laws.specs.JoinRow.{coalesced_rows}
+use Rattle.aprs_laws.specs.Coalescing.{append_row}
 use Rattle.aprs_laws.proofs.Coalescing.{singles_stand}
 use Rattle.aprs_laws.proofs.example.rows_in_order_are_one_book.Goals as goal
 
@@ -53,7 +53,7 @@ unfolding key_of key_cmp
 returns-clause-tied c = refl
 
 -- what comes of two rows in the other order
-turned : coalesced half_minute (row_at 30001 ∷ row_at 0 ∷ []) ≡ row_at 30001 ∷ row_at 0 ∷ []
+turned : coalesced_rows half_minute (row_at 30001 ∷ row_at 0 ∷ []) ≡ row_at 30001 ∷ row_at 0 ∷ []
 unfolding key_of key_cmp
 turned = refl
 
@@ -67,7 +67,7 @@ unfolding key_of key_cmp
 returns-clause-appended c = refl
 
 -- what comes of a row between two others, put after them
-late : appended half_minute (row_at 0 ∷ row_at 60001 ∷ []) (row_at 30000)
+late : append_row half_minute (row_at 0 ∷ row_at 60001 ∷ []) (row_at 30000)
     ≡ row_at 0 ∷ row_at 60001 ∷ row_at 30000 ∷ []
 unfolding key_of key_cmp
 late = refl

@@ -1,12 +1,12 @@
 use Rattle.std.proofs.Common.{◌∙◌, sym, ap}
 use Rattle.std.specs.Ordering.{is_eq}
 use Rattle.std.specs.Option.{option_copied}
-use Rattle.aprs_rows.specs.Refusal.{is_name}
+use Rattle.aprs_rows.specs.Refusal.{is_same_name}
 use Rattle.aprs_rows.proofs.Refusals.{of_last_got}
 use Rattle.aprs_book.proofs.rows.push.is_last_name.Goals as goal
 
 pub returns-in-Some : goal.returns-in-Some
 returns-in-Some c =
     c.is_eq.ensures ∙ ap is_eq c.cmp.ensures
-    ∙ of_last_got (is_name c.args.name.now) c.args.names.now c.in-Some.last.now
+    ∙ of_last_got (is_same_name c.args.name.now) c.args.names.now c.in-Some.last.now
     (ap option_copied (sym c.in-Some.is) ∙ c.last.ensures.value)

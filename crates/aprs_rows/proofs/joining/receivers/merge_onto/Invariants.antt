@@ -1,12 +1,12 @@
 use Rattle.std.proofs.Common.{◌≡◌, ◌+◌, ◌-◌, ◌≤◌, ◌++◌, drop, length, vec_len, vec_capacity}
 use Rattle.aprs_log.specs.Reception.{bytes_cmp}
-use Rattle.aprs_laws.specs.Merged.{merged}
+use Rattle.aprs_laws.specs.Merged.{ascending_union}
 use Rattle.aprs_rows.proofs.joining.receivers.merge_onto.Given as goal
 
 abbrev pub invariant-loop-i : goal.invariant-loop-i
 invariant-loop-i g l =
-    (l.initial.names.items ++ merged bytes_cmp l.ours l.theirs
-    ≡ l.names.items ++ merged bytes_cmp (drop l.i l.ours) (drop l.j l.theirs))
+    (l.initial.names.items ++ ascending_union bytes_cmp l.ours l.theirs
+    ≡ l.names.items ++ ascending_union bytes_cmp (drop l.i l.ours) (drop l.j l.theirs))
     × (vec_len l.names + (length l.ours - l.i) + (length l.theirs - l.j) ≤ vec_capacity l.names)
     × (l.i ≤ length l.ours)
     × (l.j ≤ length l.theirs)

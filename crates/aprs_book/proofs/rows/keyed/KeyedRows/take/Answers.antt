@@ -1,6 +1,6 @@
 use Rattle.std.proofs.Common.{[], ◌≡◌, ◌∙◌, sym, ap, subst, true, false, arith}
 use Rattle.aprs_laws.specs.Sound.{Sound}
-use Rattle.aprs_laws.specs.Inserted.{inserted, fits_in_place}
+use Rattle.aprs_laws.specs.Inserted.{insert_heard, fits_in_place}
 use Rattle.std.specs.BTreeMap.{insert_entry}
 use Rattle.aprs_rows.specs.Head.{head_cmp}
 use Rattle.aprs_book.proofs.Searches.{none_sound, found_sound}
@@ -118,7 +118,7 @@ invariant_of-self-2 g c =
     let put = on_not_err c.insert.result _ c.insert.ensures.entries c.if-is_err.ensures.value in
     let same = ap (λ m. m.entries) c.get_mut.follows.holds-at-none in
     let made = c.in_ok-put.ensures.inserted ∙ ap
-    (λ t. inserted c.args.gap x t) c.new-rows.ensures.items in
+    (λ t. insert_heard c.args.gap x t) c.new-rows.ensures.items in
     let entries = put
     ∙ ap (λ t. insert_entry head_cmp t c.of_frame-head.result c.put.new.rows) same in (
       (
@@ -143,9 +143,9 @@ returns-clause-inserted g c =
     let put = on_not_err c.insert.result _ c.insert.ensures.entries c.if-is_err.ensures.value in
     let same = ap (λ m. m.entries) c.get_mut.follows.holds-at-none in
     let made = c.in_ok-put.ensures.inserted ∙ ap
-    (λ t. inserted c.args.gap x t) c.new-rows.ensures.items in
+    (λ t. insert_heard c.args.gap x t) c.new-rows.ensures.items in
     let entries = put
     ∙ ap (λ t. insert_entry head_cmp t c.of_frame-head.result c.put.new.rows) same in
     (absent_done (λ v. v.items) c.args.gap x c.of_frame-head.result es
     c.insert.new.self.entries c.put.new.rows a made entries).0
-    ∙ ap (λ t. inserted c.args.gap x t) c.self.view_is
+    ∙ ap (λ t. insert_heard c.args.gap x t) c.self.view_is

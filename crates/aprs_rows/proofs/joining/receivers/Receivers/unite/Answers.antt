@@ -3,7 +3,7 @@ use Rattle.aprs_log.specs.Reception.{bytes_cmp}
 use Rattle.aprs_laws.specs.Lists.{Ordered}
 use Rattle.aprs_laws.specs.Order.{IsBelow}
 use Rattle.aprs_laws.specs.JoinRow.{union}
-use Rattle.aprs_laws.specs.Merged.{merged}
+use Rattle.aprs_laws.specs.Merged.{ascending_union}
 use Rattle.aprs_laws.specs.Joining.{IsUnited}
 use Rattle.aprs_laws.proofs.Orders.{bytes_total, bytes_exact}
 use Rattle.aprs_laws.proofs.Merges.{merged_ordered, merged_is_united, merged_is_union}
@@ -14,7 +14,8 @@ pub invariant_of-result : goal.invariant_of-result
 invariant_of-result g c =
     let ours = names_in c.self.inside.names in
     let theirs = names_in c.other.inside.names in
-    let made : c.merge_onto.new.names.items ≡ merged bytes_cmp ours theirs = search rules in
+    let made : c.merge_onto.new.names.items ≡ ascending_union bytes_cmp ours theirs =
+    search rules in
     let e = c.of.ensures ∙ made in
     subst (Ordered (IsBelow bytes_cmp)) (sym e)
     (merged_ordered bytes_total bytes_exact _ _ c.self.invariant c.other.invariant)
@@ -23,7 +24,8 @@ pub returns-clause-union : goal.returns-clause-union
 returns-clause-union g c =
     let ours = names_in c.self.inside.names in
     let theirs = names_in c.other.inside.names in
-    let made : c.merge_onto.new.names.items ≡ merged bytes_cmp ours theirs = search rules in
+    let made : c.merge_onto.new.names.items ≡ ascending_union bytes_cmp ours theirs =
+    search rules in
     let e = c.of.ensures ∙ made in
     e ∙ merged_is_union bytes_total bytes_exact ours theirs c.self.invariant c.other.invariant
     ∙ ap (λ t. union bytes_cmp t theirs) c.self.view_is
@@ -33,7 +35,8 @@ pub returns-clause-joined : goal.returns-clause-joined
 returns-clause-joined g c =
     let ours = names_in c.self.inside.names in
     let theirs = names_in c.other.inside.names in
-    let made : c.merge_onto.new.names.items ≡ merged bytes_cmp ours theirs = search rules in
+    let made : c.merge_onto.new.names.items ≡ ascending_union bytes_cmp ours theirs =
+    search rules in
     let e = c.of.ensures ∙ made in
     let new = names_in c.of.result in
     subst (λ (t : List (List ℕ)). IsUnited bytes_cmp t c.args.other.now new) c.self.view_is

@@ -1,5 +1,5 @@
 use Rattle.aprs_rows.proofs.SortedTexts.{next_put, all_put}
-use Rattle.aprs_rows.proofs.row.names.put_sorted.Goals as goal
+use Rattle.aprs_rows.proofs.row.names.put_ascending.Goals as goal
 
 pub loop-i-preserved : goal.loop-i-preserved
 loop-i-preserved g c =

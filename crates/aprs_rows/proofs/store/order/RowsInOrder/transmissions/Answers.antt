@@ -1,8 +1,8 @@
 use Rattle.std.proofs.Common.{◌≡◌, ◌∙◌, ◌∷◌, ◌++◌, ◌<◌, [], ℕ, List, inl, length, take, get_or, refl, sym, ap, subst, arith}
 use Rattle.std.proofs.lemmas.List.{get_or-map, length-map, take_all, take_more}
-use Rattle.aprs_laws.specs.Coalescing.{AreInOrder, appended}
+use Rattle.aprs_laws.specs.Coalescing.{AreInOrder, append_row}
 use Rattle.aprs_laws.specs.Gap.{IsGap, millis_of}
-use Rattle.aprs_laws.specs.JoinRow.{coalesce, coalesced}
+use Rattle.aprs_laws.specs.JoinRow.{coalesce, coalesced_rows}
 use Rattle.aprs_laws.specs.Book.{BookOf}
 use Rattle.aprs_laws.specs.BookValue.{Holds}
 use Rattle.aprs_laws.specs.Lists.{SameMembers}
@@ -18,7 +18,7 @@ use Rattle.aprs_rows.specs.Groups.{rows_of_groups}
 use Rattle.aprs_rows.specs.Rows.{AreRowsIn, AreSoundRows, bytes_of, entry_row, IsRowIn, rows_in}
 use Rattle.aprs_rows.specs.Sweep.{Stands}
 use Rattle.aprs_rows.proofs.Rows.{each_lies, if_ok, len_in, sound_rows}
-use Rattle.aprs_rows.proofs.store.order.RowsInOrder.coalesced.Goals as goal
+use Rattle.aprs_rows.proofs.store.order.RowsInOrder.transmissions.Goals as goal
 
 -- What is known of the first entry and the others.
 record Begins (first : Entry) (others : List Entry) (bytes : List ℕ) (all : List Row) : Type 0 where
@@ -94,7 +94,7 @@ loop-entry-preserved g c =
       rows = c.loop-entry.invariant.rows;
       each = c.loop-entry.invariant.each;
       stands = subst (λ rows. Stands c.take.new.self rows)
-          (ap (λ n. appended (millis_of n) (coalesce gap first before) row)
+          (ap (λ n. append_row (millis_of n) (coalesce gap first before) row)
           c.loop-entry.invariant.gap
           ∙ sym (coalesce_one_more gap first before row)
           ∙ ap (λ x. coalesce gap first (before ++ x ∷ []))
@@ -111,8 +111,8 @@ sound_book : (gap : ℕ) (rows all : List Row) (first : Row) (others : List Row)
     → AreInOrder rows → AreSoundRows rows → rows ≡ all → all ≡ first ∷ others
     → Sound (millis_of gap) (coalesce (millis_of gap) first others)
 sound_book gap rows all first others r o s e f =
-    subst (λ xs. Sound (millis_of gap) (coalesced (millis_of gap) xs)) (e ∙ f)
-    (sound (millis_of gap) (witnesses rows) (coalesced (millis_of gap) rows)
+    subst (λ xs. Sound (millis_of gap) (coalesced_rows (millis_of gap) xs)) (e ∙ f)
+    (sound (millis_of gap) (witnesses rows) (coalesced_rows (millis_of gap) rows)
     (coalesces_witnesses (millis_of gap) (some_millis gap r) rows s o))
 
 pub finish-requires : goal.finish-requires
@@ -142,10 +142,10 @@ finish-requires g c =
 -- and they are the book of what the same rows stand for
 told_book : (gap : ℕ) (rows all told : List Row) → IsGap gap → AreInOrder rows
     → AreSoundRows rows → rows ≡ all → SameMembers told all
-    → BookOf (millis_of gap) (witnesses told) (coalesced (millis_of gap) all)
+    → BookOf (millis_of gap) (witnesses told) (coalesced_rows (millis_of gap) all)
 told_book gap rows all told r o s e m =
     let same : SameMembers told rows = subst (λ xs. SameMembers told xs) (sym e) m in
-    subst (λ xs. BookOf (millis_of gap) (witnesses told) (coalesced (millis_of gap) xs)) e
+    subst (λ xs. BookOf (millis_of gap) (witnesses told) (coalesced_rows (millis_of gap) xs)) e
     (coalesces_book (millis_of gap) (some_millis gap r) (witnesses told) told rows
     (record { each = λ x h. s x ((same x).0 h); members = λ t. (λ h. h, λ h. h) })
     same o)
@@ -181,7 +181,7 @@ returns-clause-rows g c =
     if_ok c.finish.result
     (λ t e. e ∙ (λ i. record {
       gap = c.loop-entry.invariant.gap i;
-      rows = coalesced (millis_of gap) (sym c.loop-entry.invariant.rows i);
+      rows = coalesced_rows (millis_of gap) (sym c.loop-entry.invariant.rows i);
     }))
     (c.finish.ensures (coalesce (millis_of gap) first others)
     (subst (λ xs. Stands c.loop-entry.sweep (coalesce (millis_of gap) first xs)) all
@@ -201,7 +201,7 @@ returns-clause-book g c told m =
     (λ t e. subst (λ b. Holds (witnesses told) b) (sym e)
     (subst (λ n. BookOf (millis_of n) (witnesses told) (coalesce (millis_of gap) first others))
     (sym c.loop-entry.invariant.gap)
-    (subst (λ xs. BookOf (millis_of gap) (witnesses told) (coalesced (millis_of gap) xs))
+    (subst (λ xs. BookOf (millis_of gap) (witnesses told) (coalesced_rows (millis_of gap) xs))
     c.loop-entry.invariant.rows
     (told_book gap (rows_in c.self.inside.entries.items c.self.inside.bytes.items) c.args.self.now
     told c.begin-sweep.ensures.range c.self.invariant.1

@@ -4,7 +4,7 @@ use Rattle.aprs_laws.specs.JoinRow.{coalesce}
 use Rattle.aprs_laws.specs.Row.{Row}
 use Rattle.aprs_rows.specs.Rows.{AreRowsIn, rows_in}
 use Rattle.aprs_rows.specs.Sweep.{Stands}
-use Rattle.aprs_rows.proofs.store.order.RowsInOrder.coalesced.Given as goal
+use Rattle.aprs_rows.proofs.store.order.RowsInOrder.transmissions.Given as goal
 
 abbrev pub invariant-loop-entry : goal.invariant-loop-entry
 invariant-loop-entry g l = record {
