@@ -10,7 +10,6 @@ pub mod Sorted
 pub mod Sweep
 -- what public clauses cite of lower crates
 pub use Rattle.aprs_log.specs.Reception
-pub use Rattle.aprs_ax25.specs.CallText
 pub use Rattle.aprs_laws.specs.Order
 pub use Rattle.aprs_laws.specs.Lists
 pub use Rattle.aprs_laws.specs.Key
