@@ -18,7 +18,7 @@ use Rattle.aprs_laws.specs.Row.{Row, row_key, last_of, row_cmp}
 use Rattle.aprs_laws.specs.declared.row_cause.RowCause.{RowCause}
 use Rattle.aprs_laws.specs.declared.row_cause.RowCause.TheVariants as row
 use Rattle.aprs_laws.proofs.Orders.{bytes_total, bytes_exact, key_total, key_exact}
-use Rattle.aprs_rows.specs.Refusal.{is_of_last, is_out_of_order, is_too_near, is_ascending, is_name, refusal}
+use Rattle.aprs_rows.specs.Refusal.{is_of_last, is_out_of_order, is_too_near, is_ascending, is_same_name, refusal}
 use Rattle.aprs_rows.proofs.Refusals.{ordered}
 use Rattle.aprs_booktext.specs.Fault.{book_cause_of}
 use Rattle.aprs_booktext.specs.TextFault.{Meets, MissesFirst, row_causes}
@@ -94,14 +94,14 @@ near_fails gap x l = by (key_cmp (row_key l) (row_key x)) refl where
 
 -- ---- receivers
 
-name_is : (r s : List ℕ) → is_name r s ≡ true → r ≡ s
+name_is : (r s : List ℕ) → is_same_name r s ≡ true → r ≡ s
 name_is r s h = bytes_exact r s (by (bytes_cmp r s) refl) where
   by : (o : Ordering) → bytes_cmp r s ≡ o → bytes_cmp r s ≡ Equal
   by Less e = let bad : false ≡ true = (rw e at h) in absurd cc
   by Equal e = e
   by Greater e = let bad : false ≡ true = (rw e at h) in absurd cc
 
-is_itself : (r : List ℕ) → is_name r r ≡ true
+is_itself : (r : List ℕ) → is_same_name r r ≡ true
 is_itself r = ap is_eq (tied_itself bytes_total r)
 
 ascends : (names : List (List ℕ)) → Ordered (IsBelow bytes_cmp) names → is_ascending names ≡ true
@@ -109,31 +109,31 @@ ascends [] o = refl
 ascends (r ∷ []) o = refl
 ascends (r ∷ s ∷ names) o = rw (o.0 s (inl refl)) (ascends (s ∷ names) o.1)
 
-found : (r : List ℕ) (names : List (List ℕ)) → list_any (is_name r) names ≡ true → r ∈ names
+found : (r : List ℕ) (names : List (List ℕ)) → list_any (is_same_name r) names ≡ true → r ∈ names
 found r [] h = cc
-found r (s ∷ names) h = by (is_name r s) refl (found r names) where
-  by : (b : Bool) → is_name r s ≡ b → (list_any (is_name r) names ≡ true → r ∈ names)
+found r (s ∷ names) h = by (is_same_name r s) refl (found r names) where
+  by : (b : Bool) → is_same_name r s ≡ b → (list_any (is_same_name r) names ≡ true → r ∈ names)
       → r ∈ (s ∷ names)
   by true e others = inl (sym (name_is r s e))
   by false e others = inr (others (rw e at h))
 
-is_found : (r : List ℕ) (names : List (List ℕ)) → r ∈ names → list_any (is_name r) names ≡ true
+is_found : (r : List ℕ) (names : List (List ℕ)) → r ∈ names → list_any (is_same_name r) names ≡ true
 is_found r [] h = absurd h
 is_found r (s ∷ names) (inl e) =
-    rw (subst (λ (q : List ℕ). is_name r q ≡ true) (sym e) (is_itself r))
-is_found r (s ∷ names) (inr h) = either (is_name r s) (is_found r names h) where
-  either : (b : Bool) → list_any (is_name r) names ≡ true
-      → (b || list_any (is_name r) names) ≡ true
+    rw (subst (λ (q : List ℕ). is_same_name r q ≡ true) (sym e) (is_itself r))
+is_found r (s ∷ names) (inr h) = either (is_same_name r s) (is_found r names h) where
+  either : (b : Bool) → list_any (is_same_name r) names ≡ true
+      → (b || list_any (is_same_name r) names) ≡ true
   either true e = refl
   either false e = e
 
 names_fail : (x : Row)
-    → Fails (not (is_ascending x.receivers && list_any (is_name x.greatest.receiver) x.receivers))
+    → Fails (not (is_ascending x.receivers && list_any (is_same_name x.greatest.receiver) x.receivers))
     (Ordered (IsBelow bytes_cmp) x.receivers × (x.greatest.receiver ∈ x.receivers))
-names_fail x = by (is_ascending x.receivers) (list_any (is_name x.greatest.receiver) x.receivers)
+names_fail x = by (is_ascending x.receivers) (list_any (is_same_name x.greatest.receiver) x.receivers)
     refl refl where
       by : (a b : Bool) → is_ascending x.receivers ≡ a
-          → list_any (is_name x.greatest.receiver) x.receivers ≡ b → Fails (not (a && b))
+          → list_any (is_same_name x.greatest.receiver) x.receivers ≡ b → Fails (not (a && b))
           (Ordered (IsBelow bytes_cmp) x.receivers × (x.greatest.receiver ∈ x.receivers))
       by true true e f = record {
         met = λ h. (ordered x.receivers e, found x.greatest.receiver x.receivers f);
@@ -156,18 +156,18 @@ last_some r (s ∷ names) e = last_some s names e
 
 -- a name among others is the last of them
 last_name : (who : List ℕ) (names : List (List ℕ)) → who ∈ names
-    → Fails (not (is_of_last (is_name who) names)) (IfLast names (λ r. r ≡ who))
+    → Fails (not (is_of_last (is_same_name who) names)) (IfLast names (λ r. r ≡ who))
 last_name who names is = by (last_or None names) refl where
   some : (names : List (List ℕ)) → who ∈ names → last_or None names ≡ None → ⊥
   some [] h e = h
   some (r ∷ names) h e = last_some r names e
 
   by : (o : Option (List ℕ)) → last_or None names ≡ o
-      → Fails (not (is_of_last (is_name who) names)) (IfLast names (λ r. r ≡ who))
+      → Fails (not (is_of_last (is_same_name who) names)) (IfLast names (λ r. r ≡ who))
   by None e = absurd (some names is e)
-  by (Some l) e = named (is_name who l) refl where
-    named : (b : Bool) → is_name who l ≡ b
-        → Fails (not (is_of_last (is_name who) names)) (IfLast names (λ r. r ≡ who))
+  by (Some l) e = named (is_same_name who l) refl where
+    named : (b : Bool) → is_same_name who l ≡ b
+        → Fails (not (is_of_last (is_same_name who) names)) (IfLast names (λ r. r ≡ who))
     named true f = record {
       met = λ h. rw e (sym (name_is who l f));
       missed = λ h p. (let bad : false ≡ true = (rw (e, f) at h) in cc);
@@ -176,7 +176,7 @@ last_name who names is = by (last_or None names) refl where
       met = λ h. (let bad : true ≡ false = (rw (e, f) at h) in absurd cc);
       missed = λ h p. (let same : l ≡ who = (rw e at p) in
           let bad : false ≡ true = sym f
-          ∙ subst (λ (q : List ℕ). is_name who q ≡ true) (sym same) (is_itself who) in cc);
+          ∙ subst (λ (q : List ℕ). is_same_name who q ≡ true) (sym same) (is_itself who) in cc);
     }
 
 if_same : (a b : ℕ) (t : Bool) (P : Type 0) → Fails t P → Fails ((a == b) && t) (a ≡ b → P)
@@ -222,8 +222,8 @@ decided gap rows x = record {
   a = is_of_last (λ l. is_out_of_order l x) rows;
   b = ltb (last_of x) x.first;
   c = is_of_last (λ l. is_too_near gap l x) rows;
-  d = not (is_ascending x.receivers && list_any (is_name x.greatest.receiver) x.receivers);
-  e = (x.first == last_of x) && not (is_of_last (is_name x.greatest.receiver) x.receivers);
+  d = not (is_ascending x.receivers && list_any (is_same_name x.greatest.receiver) x.receivers);
+  e = (x.first == last_of x) && not (is_of_last (is_same_name x.greatest.receiver) x.receivers);
   refusal_is = refl;
   tests = record {
     order = of_last (λ l. is_out_of_order l x) (λ l. IsBelow row_cmp l x) (order_fails x) rows;
@@ -232,7 +232,7 @@ decided gap rows x = record {
         (λ l. row_key l ≡ row_key x → last_of l + gap < x.first) (near_fails gap x) rows;
     names = names_fail x;
     greatest = λ h. if_same x.first (last_of x)
-        (not (is_of_last (is_name x.greatest.receiver) x.receivers))
+        (not (is_of_last (is_same_name x.greatest.receiver) x.receivers))
         (IfLast x.receivers (λ r. r ≡ x.greatest.receiver))
         (last_name x.greatest.receiver x.receivers h.1);
   };
