@@ -31,7 +31,8 @@ sevens (suc n) bytes = take 7 bytes ∷ sevens n (drop 7 bytes)
 abbrev pub is_no_letter : ℕ → Bool
 is_no_letter octet = not (is_callsign_byte (octet / 2))
 
--- How many of an address's first six octets stand before the first such octet.
+-- How many of an address's first six octets stand before the first that is no capital or digit,
+-- shifted right by one bit.
 abbrev pub letters_len : List ℕ → ℕ
 letters_len octets = position_or_len is_no_letter (take 6 octets)
 

@@ -101,7 +101,7 @@ fn may_follow(i: usize, before: u8, octet: u8) -> bool
 /// A space, shifted left by one bit.
 const SPACE_OCTET: u8 = 64;
 
-/// Whether the octet is a letter or digit, shifted left by one bit.
+/// Whether the octet is twice the byte of a capital or a digit, so that bit 0 is clear.
 fn is_letter_octet(octet: u8) -> bool
     ensures { result ≡ is_letter_octet octet }
 {

@@ -318,6 +318,7 @@ fn read_gap(text: &str) -> Option<Gap>
     }
 }
 
+/// The form that is asked for, or `None` where its options don't fit.
 fn read_form(matches: &ArgMatches<'_>) -> Option<Form>
     ensures { result ≡ asked_form (rows_of (found_of matches.now)) }
 {
@@ -329,6 +330,7 @@ fn read_form(matches: &ArgMatches<'_>) -> Option<Form>
     )
 }
 
+/// The form of this name. The command takes no name but these four and `capture`.
 fn named_form(name: &str, receiver: Option<&str>, moment: Option<&str>) -> Option<Form>
     ensures { result ≡ named_form_of name.now (option_map (λ s. s.now) receiver.entry)
         (option_map (λ s. s.now) moment.entry) }

@@ -57,12 +57,13 @@ abbrev pub last_at : {A E : Type 0} → Result A E → Last
 last_at (Ok value) = Going
 last_at (Err fault) = Fault
 
--- A prefix of the bytes went out, where it is known what goes out, and `rest` are the others.
+-- A prefix of the bytes went out, after those that went out before, where these are known; `rest`
+-- are the others.
 abbrev pub AppendsAllBut : Option (List ℕ) → Option (List ℕ) → List ℕ → List ℕ → Type 0
 AppendsAllBut old new bytes rest =
     (prefix : List ℕ) × (bytes ≡ prefix ++ rest) × Appends old new prefix
 
--- A prefix of the bytes went out, where it is known what goes out.
+-- A prefix of the bytes went out, after those that went out before, where these are known.
 abbrev pub AppendsPrefix : Option (List ℕ) → Option (List ℕ) → List ℕ → Type 0
 AppendsPrefix old new bytes = (rest : List ℕ) × AppendsAllBut old new bytes rest
 

@@ -13,7 +13,8 @@ most_input = 1073741824
 
 -- After `text` was read of an input, `rest` is left of it, and `after` is what the device still
 -- has: at the input's end nothing is left, after a failed read the device still has just the rest,
--- and where the input is too long the text is as long as the limit and something is left.
+-- and where the input is too long the text is as long as the limit and something is left. What the
+-- device has is said only after a failed read.
 abbrev pub EndsSo : Ending → ℕ → List ℕ → List ℕ → Option (List ℕ) → Type 0
 EndsSo ending.End limit text rest after = (rest ≡ []) × (length text ≤ limit)
 EndsSo ending.Read limit text rest after = (after ≡ Some rest) × (length text ≤ limit)

@@ -15,7 +15,7 @@ pub enum MomentForm {
 }
 
 impl MomentForm {
-    /// The bytes of a moment's text in this form.
+    /// How many bytes a moment's text has in this form.
     pub(crate) fn size(self) -> usize
         ensures { result ≡ form_size self }
     {

@@ -9,13 +9,14 @@ use Rattle.aprs_tool.specs.declared.fault.InputFault.{InputFault}
 use Rattle.aprs_tool.specs.declared.fault.RunFault.{RunFault}
 use Rattle.aprs_tool.specs.declared.fault.RunFault.TheVariants.{Input, Write, Memory}
 
--- The text is that of each set that the inputs stand for, of which there is one at least.
+-- The inputs stand for at least one set, and the text is that of each set that they stand for.
 abbrev pub IsToldOf : (List Heard → Type 0) → (List Heard → List ℕ → Type 0) → List ℕ → Type 0
 IsToldOf Stand Tells text =
     ((S : List Heard) × Stand S) × ((S : List Heard) → Stand S → Tells S text)
 
 -- Such a text went out whole, or a prefix of it where the output was refused. Of the tries to write
--- at most 999 failed for each byte, and one more where the output was refused.
+-- at most 999 failed for each byte, and one more where the output was refused. Of any other answer
+-- nothing is said here.
 abbrev pub WritesFor : {W : Type 0} → (List ℕ → Type 0) → (W → Option (List ℕ))
     → Result (Unit {0}) RunFault → Counted W → Counted W → Type 0
 WritesFor Told contents (Ok u) old new = (text : List ℕ) × Told text

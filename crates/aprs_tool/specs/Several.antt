@@ -18,7 +18,8 @@ pub record GotOf (limit : ℕ) : Type 0 where
   pub after : Option (List ℕ)
   pub ends : EndsSo ending limit text rest after
 
--- P holds of what was got of these readers' inputs, where it is known which bytes all had.
+-- Where it is known which bytes each reader had before: these can be parted into what was got and
+-- what wasn't, each device then has what its part says, and P holds of the parts.
 abbrev pub OfEach : {R : Type 0} → (limit : ℕ) → (R → Option (List ℕ)) → List (Counted R)
     → List (Counted R) → (List (GotOf limit) → Type 0) → Type 0
 OfEach limit remaining old new P = (inputs : List (List ℕ))

@@ -39,9 +39,8 @@ const BOOK_MARK: &[u8] = b"APRSBOOK";
 /// read, to the end. Requires that `limit` is at most `MAX_INPUT` (1,073,741,824). A faulty input
 /// gives its first fault. Where an allocation failed before that fault, a log gives `Memory`, and a
 /// book file gives `Book` with the cause `Memory` and the line that was being read. An input of
-/// which fewer than eight bytes are got is a log, and where an LF is among the first eight, that
-/// line is judged first. Keeps in memory the book, one line and a log's receptions, each in as few
-/// bytes as it has.
+/// which fewer than eight bytes are got is a log, and so is one with an LF among the first eight.
+/// Keeps in memory the book, one line and a log's receptions, packed in bytes.
 pub fn read_input<R: Read, A: Allocator + Copy>(
     alloc: A,
     limit: u64,
@@ -98,7 +97,7 @@ fn book_of<A: Allocator + Copy>(alloc: A, gap: Gap, store: RowStore<A>) -> Resul
     Book::of_rows(alloc, &rows)
 }
 
-/// Reads an input, as `read_input` does, into what was gathered: its book, that of a set, becomes
+/// Reads an input, as `read_input` does, and gathers its rows: what was the book of a set becomes
 /// the book of that set and of the input's receptions. `OtherGap` comes for a faultless book file
 /// of another gap. After a fault anything may be gathered.
 pub(crate) fn read_into<R: Read, A: Allocator + Copy>(

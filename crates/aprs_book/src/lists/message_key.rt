@@ -21,7 +21,7 @@ pub(crate) struct MessageKey<'a> {
 }
 
 impl<'a> MessageKey<'a> {
-    /// The same message.
+    /// A copy.
     pub(crate) fn copy(&self) -> MessageKey<'a>
         ensures { result ≡ self.now }
     {

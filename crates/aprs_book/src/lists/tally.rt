@@ -54,7 +54,8 @@ impl<A: Allocator + Copy> Counting<A> {
         }
     }
 
-    /// Counts one more row of this station.
+    /// Counts one more row of this station. The last station is kept beside the map until another
+    /// comes.
     pub(crate) fn add(&mut self, station: &Callsign) -> Result<(), Memory>
         requires { tally_of station.now self.old < 18446744073709551615 }
         ensures { OnOk result (self.new ≡ with_one_more station.now self.old) }

@@ -61,7 +61,7 @@ impl<'a> RowView<'a> {
         }
     }
 
-    /// Whether there is a row before that this one is too near to.
+    /// Whether there is a row before this one, and it is too near.
     fn is_too_near(&self, before: Option<&RowView<'_>>, gap: Gap) -> bool
         ensures { result ≡ is_of_last (λ l. is_too_near (millis_of gap) l self.now)
             (list_of (option_copied before.entry)) }
