@@ -1,4 +1,5 @@
 -- What is written of the listing of a book.
+-- No public clause cites this module.
 use Rattle.std.specs.Prelude.{◌≡◌, ℕ, List, Option, Result, Ok, Err}
 use Rattle.aprs_io.specs.Device.{Sends}
 use Rattle.aprs_io.specs.declared.device.Counted.{Counted}
