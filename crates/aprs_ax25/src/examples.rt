@@ -19,7 +19,8 @@ pub fn frames_are_as_the_standard_shows_them()
     ensures direct { FrameOf (parts_through []) direct_frame }
     ensures repeated { FrameOf (parts_through (hop_address through_n7oo ∷ [])) repeated_frame }
     ensures reads_direct { parts_of direct_frame ≡ parts_through [] }
-    ensures reads_repeated { parts_of repeated_frame ≡ parts_through (hop_address through_n7oo ∷ []) }
+    ensures reads_repeated { parts_of repeated_frame
+        ≡ parts_through (hop_address through_n7oo ∷ []) }
     ensures misses_i_frame { frame_fault (direct_field ++ hi_after 0x3E 0xF0) ≡ Some Control }
     ensures misses_poll { frame_fault (direct_field ++ hi_after 0x13 0xF0) ≡ Some Control }
     ensures misses_other_pid { frame_fault (direct_field ++ hi_after 0x03 0xCF) ≡ Some Pid }

@@ -208,7 +208,8 @@ impl KissReader {
     /// Adds to the buffer the last bytes that a piece spells, if there is room.
     fn append(&mut self, bytes: &[u8])
         ensures stands { (all : List ℕ) → HasNoEnd all → 0 < length all
-            → spelled_bytes all ≡ Some (self.old.bytes.items ++ bytes.now) → StandsAfter self.new all }
+            → spelled_bytes all ≡ Some (self.old.bytes.items ++ bytes.now)
+            → StandsAfter self.new all }
         ensures closed { IsClosed self.new.state }
     {
         match self.bytes.try_extend_from_slice(bytes) {

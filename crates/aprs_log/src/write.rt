@@ -70,8 +70,8 @@ impl LogWriter {
     }
 }
 
-/// Puts the line and its LF at the start of `line`, and returns how many bytes they are. `moment` is
-/// the text of its moment.
+/// Puts the line and its LF at the start of `line`, and returns how many bytes they are. `moment`
+/// is the text of its moment.
 fn put_line(line: &mut [u8], moment: &[u8; MILLIS_LEN], reception: &Reception) -> usize
     requires line { length line.old ≡ MAX_WRITTEN }
     requires moment { moment.now ≡ moment_text reception.now.moment }

@@ -26,9 +26,11 @@ pub fn plain_examples()
 /// Examples of compressed positions. The first is 49.5 degrees north.
 pub fn compressed_examples()
     ensures full { Example (codes "=/5L!!<*e7> sT") (compressed_position 47 15427503 20427156) }
-    ensures south_pole { Example (codes "=/{{!!<*e7> sT") (compressed_position 47 68566680 20427156) }
+    ensures south_pole { Example (codes "=/{{!!<*e7> sT")
+        (compressed_position 47 68566680 20427156) }
     ensures past_the_pole { Example (codes "=/{{!\"<*e7> sT") raw }
-    ensures end_of_the_east { Example (codes "=/5L!!{{!!> sT") (compressed_position 47 15427503 68566680) }
+    ensures end_of_the_east { Example (codes "=/5L!!{{!!> sT")
+        (compressed_position 47 15427503 68566680) }
     ensures overlay { Example (codes "=c5L!!<*e7> sT") (compressed_position 50 15427503 20427156) }
     ensures north { latitude_of (Base91 15427503 0 []) ≡ fraction (pos 18855837) 380926 }
     ensures south { latitude_of (Base91 68566680 0 []) ≡ fraction (minus 34283340) 380926 }

@@ -29,7 +29,8 @@ pub fn merge_run<R: Read, W: Write, A: Allocator + Copy>(
 ) -> Result<(), RunFault>
     requires { limit ≤ most_input }
     ensures writes { OfEach limit R.remaining inputs.old inputs.new (λ gots.
-        WritesFor (IsToldOf (GiveUnion gap gots) (IsTextOfBook gap)) W.contents result w.old w.new) }
+        WritesFor (IsToldOf (GiveUnion gap gots) (IsTextOfBook gap)) W.contents result
+        w.old w.new) }
     ensures refuses { OfEach limit R.remaining inputs.old inputs.new (λ gots.
         RefusesFor (GiveUnion gap gots) (IsFirstRefused gap gots) result w.old w.new) }
     ensures memory { result ≡ Err RunFault.Memory → ⊥ }

@@ -36,8 +36,8 @@ impl MomentWriter {
         }
     }
 
-    /// The text of a moment, as `Moment::text`. Keeps it, so that of the next moment of that day the
-    /// time alone is written. Takes no memory.
+    /// The text of a moment, as `Moment::text`. Keeps it, so that of the next moment of that day
+    /// the time alone is written. Takes no memory.
     pub fn text(&mut self, moment: Moment) -> [u8; 24]
         ensures { result ≡ moment_text moment }
     {
