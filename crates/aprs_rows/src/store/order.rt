@@ -100,8 +100,8 @@ impl<A: Allocator + Copy> RowsInOrder<A> {
     }
 
     /// The rows of the book of these under a gap: each row joins the one before it that it is near
-    /// to. Takes memory for each row of the book, and for the names of those that were more than
-    /// one.
+    /// to. Takes memory for as many rows as there are here, and for the names of those that were
+    /// more than one.
     pub fn transmissions(&self, gap: Gap) -> Result<Transmissions<'_, A>, Memory>
         ensures rows { IfOk result (λ t. t
             ≡ record { gap = gap; rows = coalesced_rows (millis_of gap) self.now }) }
@@ -114,7 +114,8 @@ impl<A: Allocator + Copy> RowsInOrder<A> {
         let Some((first, others)) = self.entries.as_slice().split_first() else {
             return Ok(Transmissions::of(gap, Vec::new(self.alloc), Vec::new(self.alloc)));
         };
-        let mut sweep = Sweep::begin(self.alloc, gap, Laid::of(first, bytes));
+        let first = Laid::of(first, bytes);
+        let mut sweep = Sweep::begin(self.alloc, gap, first, self.entries.len())?;
         for entry in others {
             sweep.take(Laid::of(entry, bytes))?;
         }

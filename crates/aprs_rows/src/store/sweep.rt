@@ -83,19 +83,28 @@ pub(crate) struct Sweep<'a, A: Allocator> {
 }
 
 impl<'a, A: Allocator + Copy> Sweep<'a, A> {
-    /// A sweep that has taken one row.
-    pub(crate) fn begin(alloc: A, gap: Gap, row: Laid<'a>) -> Sweep<'a, A>
-        ensures stands { Stands result (row.entry ∷ []) }
-        ensures gap { result.gap ≡ gap }
+    /// A sweep of at most `most` rows that has taken one. Takes memory for as many groups at once,
+    /// so that these don't move as they become more.
+    pub(crate) fn begin(
+        alloc: A,
+        gap: Gap,
+        row: Laid<'a>,
+        most: usize,
+    ) -> Result<Sweep<'a, A>, Memory>
+        ensures stands { IfOk result (λ sweep. Stands sweep (row.entry ∷ [])) }
+        ensures gap { IfOk result (λ sweep. sweep.gap ≡ gap) }
         ensures range { IsGap gap }
     {
-        Sweep {
+        let Ok(groups) = Vec::with_capacity(alloc, most) else {
+            return Err(Memory);
+        };
+        Ok(Sweep {
             gap,
-            groups: Vec::new(alloc),
+            groups,
             texts: Vec::new(alloc),
             latest: Open::of(row),
             names: Vec::new(alloc),
-        }
+        })
     }
 
     /// Takes the next row.

@@ -39,8 +39,8 @@ begins es entries among bytes first others all e b f a v =
       rows = sym v ∙ (λ t. rows_in (is t) (sym b t));
     }
 
-pub of-requires-2 : goal.of-requires-2
-of-requires-2 g c =
+pub of-first-requires : goal.of-first-requires
+of-first-requires g c =
     (begins c.self.inside.entries.items c.as_slice.result.now c.as_slice-bytes.result.now
     c.self.inside.bytes.items c.in-Some.first.now c.in-Some.others.now c.args.self.now
     c.as_slice.ensures.value c.as_slice-bytes.ensures.value c.in-Some.ensures.cases.0
@@ -54,11 +54,11 @@ loop-entry-init g c =
     c.as_slice.ensures.value c.as_slice-bytes.ensures.value c.in-Some.ensures.cases.0
     c.self.invariant.0 c.self.view_is in
     record {
-      gap = c.begin-sweep.ensures.gap;
-      first = c.of-2.result;
-      rows = is.rows ∙ (λ t. sym c.of-2.ensures t ∷ rows_in c.in-Some.others.now among);
+      gap = c.in_ok-sweep.ensures.gap;
+      first = c.of-first.result;
+      rows = is.rows ∙ (λ t. sym c.of-first.ensures t ∷ rows_in c.in-Some.others.now among);
       each = is.others_lie;
-      stands = c.begin-sweep.ensures.stands;
+      stands = c.in_ok-sweep.ensures.stands;
     }
 
 pub of-requires-in-loop-entry : goal.of-requires-in-loop-entry
@@ -133,7 +133,7 @@ finish-requires g c =
         subst (λ n. Sound (millis_of n) (coalesce (millis_of gap) first others))
             (sym c.loop-entry.invariant.gap)
             (sound_book gap (rows_in c.self.inside.entries.items c.self.inside.bytes.items)
-            c.args.self.now first others c.begin-sweep.ensures.range c.self.invariant.1
+            c.args.self.now first others c.begin.ensures.range c.self.invariant.1
             (sound_rows c.self.inside.entries.items c.self.inside.bytes.items c.self.invariant.0)
             c.self.view_is c.loop-entry.invariant.rows),
       );
@@ -204,7 +204,7 @@ returns-clause-book g c told m =
     (subst (λ xs. BookOf (millis_of gap) (witnesses told) (coalesced_rows (millis_of gap) xs))
     c.loop-entry.invariant.rows
     (told_book gap (rows_in c.self.inside.entries.items c.self.inside.bytes.items) c.args.self.now
-    told c.begin-sweep.ensures.range c.self.invariant.1
+    told c.begin.ensures.range c.self.invariant.1
     (sound_rows c.self.inside.entries.items c.self.inside.bytes.items c.self.invariant.0)
     c.self.view_is m))))
     (c.finish.ensures (coalesce (millis_of gap) first others)
