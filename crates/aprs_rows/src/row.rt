@@ -3,4 +3,5 @@
 pub(crate) mod head;
 pub(crate) mod judge;
 pub(crate) mod names;
+pub(crate) mod near;
 pub(crate) mod row_view;

@@ -10,6 +10,7 @@ ghost use Rattle.aprs_rows.specs.Refusal.{refusal, is_of_last, is_out_of_order, 
 ghost use Rattle.aprs_rows.specs.Judging.{list_of};
 
 use crate::row::names::cut_name;
+use crate::row::near::is_near;
 use crate::row::row_view::RowView;
 use aprs_laws::{Gap, RowCause};
 
@@ -76,8 +77,7 @@ impl<'a> RowView<'a> {
     fn reaches(&self, gap: Gap, other: &RowView<'_>) -> bool
         ensures { result ≡ is_too_near (millis_of gap) self.now other.now }
     {
-        other.first().millis() <= self.last().millis() + gap.seconds() * 1000
-            && self.key_order(other).is_eq()
+        is_near(gap, self.last(), other.first()) && self.key_order(other).is_eq()
     }
 }
 

@@ -119,8 +119,8 @@ impl<A: Allocator + Copy> RowStore<A> {
         let (receivers, receiver, frame) = (row.receivers(), row.receiver(), row.frame());
         let size = receivers.len() + receiver.len() + frame.len();
         let entry = row.entry(self.bytes.len());
-        make_room(&mut self.entries, 1)?;
-        make_room(&mut self.bytes, size)?;
+        reserve(&mut self.entries, 1)?;
+        reserve(&mut self.bytes, size)?;
         self.entries.push_reserved(entry);
         put(&mut self.bytes, receivers);
         put(&mut self.bytes, receiver);
@@ -147,7 +147,7 @@ impl<A: Allocator + Copy> RowStore<A> {
 }
 
 /// Makes room for so many more.
-fn make_room<T, A: Allocator>(items: &mut Vec<T, A>, more: usize) -> Result<(), Memory>
+fn reserve<T, A: Allocator>(items: &mut Vec<T, A>, more: usize) -> Result<(), Memory>
     ensures items { items.new.items ≡ items.old.items }
     ensures room { OnOk result (vec_len items.new + more ≤ vec_capacity items.new) }
 {

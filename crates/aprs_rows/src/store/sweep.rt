@@ -12,6 +12,7 @@ ghost use Rattle.aprs_rows.specs.Sweep.{AreGathered, gathered_names, HasNames, o
 
 use crate::Memory;
 use crate::row::names::{gather, put_union};
+use crate::row::near::is_near;
 use crate::store::group::Group;
 use crate::store::laid::Laid;
 use crate::store::transmissions::Transmissions;
@@ -47,9 +48,8 @@ impl<'a> Open<'a> {
         ensures { (names : List (Bor (List ℕ)))
             → result ≡ is_eq (place (millis_of gap) (open_row self.now names) row.now) }
     {
-        let gap = gap.seconds() * 1000;
-        row.first().millis() <= self.greatest.last().millis() + gap
-            && self.first.millis() <= row.last().millis() + gap
+        is_near(gap, self.greatest.last(), row.first())
+            && is_near(gap, row.last(), self.first)
             && self.greatest.key_order(row).is_eq()
     }
 

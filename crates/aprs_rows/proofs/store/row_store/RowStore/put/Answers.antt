@@ -16,10 +16,10 @@ lies g c =
     (c.entry-entry.ensures.place ∙ c.len.ensures ∙ c.self.inside.bytes.ok.0)
     (record { row = c.entry-entry.ensures.row; same = c.entry-entry.ensures.same })
     (c.push_reserved.ensures.items
-    ∙ ap (λ es. es ++ c.entry-entry.result ∷ []) c.in_ok-make_room.ensures.items)
+    ∙ ap (λ es. es ++ c.entry-entry.result ∷ []) c.in_ok-reserve.ensures.items)
     (c.put-3.ensures.items ∙ ap (λ bs. bs ++ f) (c.put-2.ensures.items
     ∙ ap (λ bs. bs ++ b) (c.put.ensures.items
-    ∙ ap (λ bs. bs ++ a) c.in_ok-make_room-2.ensures.items))
+    ∙ ap (λ bs. bs ++ a) c.in_ok-reserve-2.ensures.items))
     ∙ append_assoc (bytes ++ a) b f ∙ append_assoc bytes a (b ++ f)
     ∙ (λ t. bytes ++ (c.receivers-receivers.ensures.text t
     ++ (c.receiver-receiver.ensures.value t ++ c.frame-frame.ensures.value t))))
