@@ -1,7 +1,7 @@
 use Rattle.std.proofs.Common.{◌++◌, codes, refl, sym, ap, arith}
 use Rattle.aprs_ax25.proofs.Calls.{ssid_text-one, ssid_text-two}
 use Rattle.aprs_ax25.proofs.CallTexts.{call_fault-FirstCallFault}
-use Rattle.aprs_ax25.proofs.examples.callsigns_have_texts.Goals as goal
+use Rattle.aprs_ax25.proofs.examples.callsigns.callsigns_have_texts.Goals as goal
 
 pub returns-clause-ssid : goal.returns-clause-ssid
 returns-clause-ssid c = record {
