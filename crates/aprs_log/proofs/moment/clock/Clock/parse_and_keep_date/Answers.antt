@@ -3,7 +3,7 @@ use Rattle.aprs_log.proofs.Clocks.{moment_of-midnight}
 use Rattle.aprs_log.specs.declared.moment_form.MomentForm.TheVariants.{Seconds}
 use Rattle.aprs_log.specs.Clock.{midnight_text}
 use Rattle.aprs_log.specs.MomentReading.{moment_in}
-use Rattle.aprs_log.proofs.moment.clock.Clock.parse_anew.Goals as goal
+use Rattle.aprs_log.proofs.moment.clock.Clock.parse_and_keep_date.Goals as goal
 
 pub invariant_of-self : goal.invariant_of-self
 invariant_of-self c =
