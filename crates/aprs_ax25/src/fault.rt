@@ -1,5 +1,5 @@
 //! Why bytes are no frame or callsign, and why parts make no frame.
-ghost use Rattle.std.specs.Prelude.{◌≡◌, codes};
+ghost use Rattle.std.specs.Prelude.{◌≡◌};
 ghost use Rattle.aprs_ax25.specs.Fault as Spec;
 
 /// Why bytes are no UI frame: the first of these that is true of them, in the order of their

@@ -1,6 +1,6 @@
 //! What bytes that may be a frame have where.
 ghost use Rattle.std.specs.Prelude.{◌≡◌, ◌≤◌, ◌<◌, ◌/◌, ◌+◌, ◌-◌, ◌%◌, length, take, drop, slice_index, true, None};
-ghost use Rattle.std.specs.List.{list_all, position_or_len};
+ghost use Rattle.std.specs.List.{list_all};
 ghost use Rattle.aprs_ax25.specs.Callsign.{is_callsign_byte};
 ghost use Rattle.aprs_ax25.specs.FrameFault as Spec;
 ghost use Rattle.aprs_ax25.specs.Scan.{SplitsField, fault_after_field, fault_of_info};

@@ -1,5 +1,5 @@
 //! Worked examples of the definitions, and near misses. These functions do nothing.
-ghost use Rattle.std.specs.Prelude.{◌≡◌, ◌++◌, ◌∷◌, [], ℕ, List, codes};
+ghost use Rattle.std.specs.Prelude.{◌++◌, ◌∷◌, [], ℕ, List, codes};
 ghost use Rattle.aprs_io.specs.declared.input.Ending.TheVariants.{End, Read};
 ghost use Rattle.aprs_log.specs.Examples.{heard_after, hi_digits, hi_line, leap_line, line_by, noon, unended_line};
 ghost use Rattle.aprs_log.specs.LineText.{IsPassed, IsWrongLine, Reports};

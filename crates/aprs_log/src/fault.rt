@@ -1,5 +1,5 @@
 //! Why a line is refused or passed over, and why a log ends before its end.
-ghost use Rattle.std.specs.Prelude.{◌≡◌, codes};
+ghost use Rattle.std.specs.Prelude.{◌≡◌};
 ghost use Rattle.aprs_log.specs.Fault as Spec;
 
 use aprs_ax25::FrameFault;

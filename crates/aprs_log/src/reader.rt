@@ -1,5 +1,5 @@
 //! A reader of a log's lines.
-ghost use Rattle.std.specs.Prelude.{◌≡◌, ◌≢◌, ◌+◌, ◌≤◌, length};
+ghost use Rattle.std.specs.Prelude.{◌≡◌, ◌≢◌, ◌+◌, ◌≤◌, ◌<◌, ◌++◌, ℕ, List, length, Option, None, Some, IfSome, IfErr, false};
 ghost use Rattle.aprs_io.specs.Input.{most_input};
 ghost use Rattle.aprs_log.specs.States.{KeepsMemory};
 ghost use Rattle.aprs_log.specs.Window.{items};
@@ -34,14 +34,12 @@ pub struct LogReader<'a, R> {
 }
 
 impl<'a, R: Read> LogReader<'a, R> {
-    ghost use Rattle.std.specs.Prelude.{◌≡◌, ◌≢◌, ◌+◌, ◌≤◌, ◌<◌, ◌++◌, ℕ, List, length, Option, None, Some, IfSome, IfErr, OnErr, false};
     ghost use Rattle.std.specs.Bool.{OnTrue, OnFalse};
     ghost use Rattle.aprs_io.specs.Device.{Calls, device_of, failures_of};
     ghost use Rattle.aprs_io.specs.Cut.{cut_at};
     ghost use Rattle.aprs_log.specs.ReaderSteps.{Moves, work_of};
     ghost use Rattle.aprs_log.specs.States.{last_in};
     ghost use Rattle.aprs_log.specs.LogAnswers.{Answers, prepend_line};
-    ghost use Rattle.aprs_log.specs.Window.{items};
     ghost use Rattle.aprs_log.specs.Reader as Spec;
 
     /// A reader of the log that begins with `head` and goes on with the bytes of `source`. It takes

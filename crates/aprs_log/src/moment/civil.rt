@@ -1,5 +1,5 @@
 //! Dates of the civil calendar with a time of the day.
-ghost use Rattle.std.specs.Prelude.{◌≡◌, ◌≤◌, ◌<◌, ◌+◌, ◌*◌, ◌/◌, ◌%◌, ◌∷◌, ◌++◌, [], length, pos, SomeIff, IfSome};
+ghost use Rattle.std.specs.Prelude.{◌≡◌, ◌≤◌, ◌<◌, ◌+◌, ◌*◌, ◌/◌, ◌%◌, length, SomeIff, IfSome};
 ghost use Rattle.aprs_log.specs.CivilMoment.{IsCivil};
 ghost use Rattle.aprs_log.specs.MomentReading as Spec;
 ghost use Rattle.aprs_log.specs.Sizes.{last_second, seconds_size};

@@ -1,5 +1,5 @@
 //! Bytes that were read and are not yet taken.
-ghost use Rattle.std.specs.Prelude.{◌≤◌};
+ghost use Rattle.std.specs.Prelude.{◌≡◌, ◌<◌, ◌≤◌, ℕ, List, ◌++◌, length, drop, IfOk, IfErr};
 ghost use Rattle.aprs_log.specs.Sizes.{most_line};
 ghost use Rattle.aprs_log.specs.declared.reader.window.TheConstants.{WINDOW_SIZE};
 
@@ -20,7 +20,6 @@ pub struct Window {
 }
 
 impl Window {
-    ghost use Rattle.std.specs.Prelude.{◌≡◌, ◌<◌, ◌≤◌, ℕ, List, ◌++◌, length, drop, IfOk, IfErr};
     ghost use Rattle.std.specs.Io.KnownBytes.{Consumes};
     ghost use Rattle.aprs_io.specs.Device.{Calls, device_of};
     ghost use Rattle.aprs_io.specs.Input.{EndsHere, last_got};
