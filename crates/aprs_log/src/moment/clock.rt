@@ -76,7 +76,7 @@ impl Clock {
         Moment::from_millis(self.midnight.millis() + u64::from(second) * 1000 + u64::from(milli))
     }
 
-    /// The same, whatever the date is, which is kept.
+    /// The same of any date, which it then keeps.
     #[cold]
     #[inline(never)]
     fn parse_and_keep_date(&mut self, text: &[u8]) -> Option<Moment>
