@@ -1,13 +1,10 @@
 //! Callsigns.
-ghost use Rattle.std.specs.Prelude.{◌≡◌, ◌+◌, ◌<◌, ◌≤◌, ◌*◌, ◌/◌, ◌++◌, length, map, take, true, Ok};
-ghost use Rattle.std.specs.Prelude.{Some, IfOk, IfErr};
+ghost use Rattle.std.specs.Prelude.{◌≡◌, ◌+◌, ◌<◌, ◌≤◌, ◌*◌, ◌/◌, ◌++◌, length, map, take, true, Ok, Some, IfOk, IfErr};
 ghost use Rattle.std.specs.List.{list_all, position_or_len};
 ghost use Rattle.arrayvec.specs.ArrayVec.{array_vec_len};
 ghost use Rattle.aprs_ax25.specs.Address.{address_octets, letters_and_spaces};
-ghost use Rattle.aprs_ax25.specs.Callsign.{Call, IsCall, call_text, ssid_text, is_callsign_byte};
-ghost use Rattle.aprs_ax25.specs.Callsign.{call_cmp, call_eq};
-ghost use Rattle.aprs_ax25.specs.CallText.{CallText, FirstCallFault, is_dash, before_dash};
-ghost use Rattle.aprs_ax25.specs.CallText.{from_dash};
+ghost use Rattle.aprs_ax25.specs.Callsign as Spec;
+ghost use Rattle.aprs_ax25.specs.CallText;
 ghost use Rattle.aprs_ax25.specs.Scan.{PartsOf, ssid_of};
 ghost use Rattle.aprs_ax25.specs.FrameFault.{has_callsign, call_of, letters_len};
 ghost use Rattle.std.specs.Ordering.{as_partial_cmp};
@@ -46,9 +43,9 @@ impl Callsign {
     /// The callsign that this is the text of, or the first fault in the order of the faults'
     /// numbers. Takes no memory.
     pub fn parse(text: &[u8]) -> Result<Callsign, CallFault>
-        ensures found { IfOk result (λ c. CallText c text.now) }
-        ensures only { (c : Call) → CallText c text.now → result ≡ Ok c }
-        ensures fault { IfErr result (λ fault. FirstCallFault text.now fault) }
+        ensures found { IfOk result (λ c. CallText.CallText c text.now) }
+        ensures only { (c : Spec.Call) → CallText.CallText c text.now → result ≡ Ok c }
+        ensures fault { IfErr result (λ fault. CallText.FirstCallFault text.now fault) }
     {
         match parts_of(text) {
             Ok((letters, ssid)) => Ok(Callsign {
@@ -62,8 +59,8 @@ impl Callsign {
     /// The callsign as monitors print it: its letters and digits, then, unless the SSID is 0, a
     /// dash and the SSID. Takes no memory.
     pub fn text(&self) -> ArrayVec<u8, 9>
-        ensures text { result.items ≡ call_text self.now }
-        ensures callsign { IsCall self.now }
+        ensures text { result.items ≡ Spec.call_text self.now }
+        ensures callsign { Spec.IsCall self.now }
     {
         let mut text = ArrayVec::new();
         push_all(&mut text, self.letters.as_slice());
@@ -98,9 +95,10 @@ impl Callsign {
         requires room { array_vec_len out.old + 7 ≤ MAX_UI_FRAME }
         requires flags { flags < 8 }
         requires extension { extension < 2 }
+
         ensures octets { out.new.items ≡ out.old.items
             ++ address_octets extension (record { call = self.now; flags = flags }) }
-        ensures callsign { IsCall self.now }
+        ensures callsign { Spec.IsCall self.now }
     {
         push_letters_and_spaces(out, self.letters.as_slice());
         out.push(32 * flags + 2 * self.ssid + extension);
@@ -120,7 +118,7 @@ impl Callsign {
 }
 
 impl PartialEq for Callsign {
-    ghost eq = { call_eq };
+    ghost eq = { Spec.call_eq };
 
     ghost laws = { Prim.search (comparing, rules) };
 
@@ -130,7 +128,7 @@ impl PartialEq for Callsign {
 }
 
 impl Ord for Callsign {
-    ghost cmp = { call_cmp };
+    ghost cmp = { Spec.call_cmp };
 
     ghost total = { Prim.search (comparing, rules) };
 
@@ -147,7 +145,7 @@ impl Ord for Callsign {
 }
 
 impl PartialOrd for Callsign {
-    ghost partial_cmp = { as_partial_cmp call_cmp };
+    ghost partial_cmp = { as_partial_cmp Spec.call_cmp };
 
     ghost laws = { partial_order_from_own_ties (Prim.search (comparing, rules))
         (Prim.search (comparing, rules)) };
@@ -189,7 +187,7 @@ fn push_letters<const N: usize>(out: &mut ArrayVec<u8, N>, octets: &[u8])
 pub fn push_text_at<const N: usize>(out: &mut ArrayVec<u8, N>, octets: &[u8])
     requires room { array_vec_len out.old + 9 ≤ N }
     requires seven { length octets.now ≡ 7 }
-    ensures text { out.new.items ≡ out.old.items ++ call_text (call_of octets.now) }
+    ensures text { out.new.items ≡ out.old.items ++ Spec.call_text (call_of octets.now) }
     ensures most { array_vec_len out.new ≤ array_vec_len out.old + 9 }
 {
     push_letters(out, octets);
@@ -200,7 +198,7 @@ pub fn push_text_at<const N: usize>(out: &mut ArrayVec<u8, N>, octets: &[u8])
 fn push_ssid<const N: usize>(text: &mut ArrayVec<u8, N>, ssid: u8)
     requires room { array_vec_len text.old + 3 ≤ N }
     requires ssid { ssid < 16 }
-    ensures text { text.new.items ≡ text.old.items ++ ssid_text ssid }
+    ensures text { text.new.items ≡ text.old.items ++ Spec.ssid_text ssid }
     ensures most { array_vec_len text.new ≤ array_vec_len text.old + 3 }
 {
     match ssid {
@@ -219,15 +217,15 @@ fn push_ssid<const N: usize>(text: &mut ArrayVec<u8, N>, ssid: u8)
 
 /// What stands before the first dash, and from it on.
 fn split_dash(text: &[u8]) -> (&[u8], &[u8])
-    ensures before { result.0.now ≡ before_dash text.now }
-    ensures from { result.1.now ≡ from_dash text.now }
+    ensures before { result.0.now ≡ CallText.before_dash text.now }
+    ensures from { result.1.now ≡ CallText.from_dash text.now }
 {
     text.split_at(dash_place(text))
 }
 
 /// Where the first dash stands, or how many bytes there are.
 fn dash_place(text: &[u8]) -> usize
-    ensures place { result ≡ position_or_len is_dash text.now }
+    ensures place { result ≡ position_or_len CallText.is_dash text.now }
     ensures within { result ≤ length text.now }
 {
     for (i, b) in text.iter().enumerate() {
@@ -267,7 +265,7 @@ const SPACES: [u8; 6] = [64; 6];
 fn push_letters_and_spaces(out: &mut ArrayVec<u8, MAX_UI_FRAME>, letters: &[u8])
     requires room { array_vec_len out.old + 6 ≤ MAX_UI_FRAME }
     requires six { length letters.now ≤ 6 }
-    requires bytes { list_all is_callsign_byte letters.now ≡ true }
+    requires bytes { list_all Spec.is_callsign_byte letters.now ≡ true }
     ensures { out.new.items ≡ out.old.items ++ map (λ b. 2 * b) (letters_and_spaces letters.now) }
 {
     for letter in letters {
@@ -296,7 +294,7 @@ fn parts_of(text: &[u8]) -> Result<(&[u8], u8), CallFault>
 
 /// Whether each byte is a capital or a digit.
 fn are_letters(bytes: &[u8]) -> bool
-    ensures { result ≡ list_all is_callsign_byte bytes.now }
+    ensures { result ≡ list_all Spec.is_callsign_byte bytes.now }
 {
     bytes.iter().all(|b| is_callsign_byte(*b))
 }

@@ -1,7 +1,6 @@
 //! Why bytes are no frame or callsign, and why parts make no frame.
-ghost use Rattle.std.specs.Prelude.{◌≡◌, codes};
-ghost use Rattle.aprs_ax25.specs.Fault.{frame_fault_number, frame_fault_name, call_fault_number};
-ghost use Rattle.aprs_ax25.specs.Fault.{call_fault_name, make_fault_number, make_fault_name};
+ghost use Rattle.std.specs.Prelude.{◌≡◌};
+ghost use Rattle.aprs_ax25.specs.Fault as Spec;
 
 /// Why bytes are no UI frame: the first of these that is true of them, in the order of their
 /// numbers.
@@ -25,7 +24,7 @@ pub enum FrameFault {
 impl FrameFault {
     /// The fault's number, 1 to 6. Takes no memory.
     pub fn number(&self) -> u8
-        ensures { result ≡ frame_fault_number self.now }
+        ensures { result ≡ Spec.frame_fault_number self.now }
     {
         match self {
             FrameFault::Address => 1,
@@ -39,7 +38,7 @@ impl FrameFault {
 
     /// The fault's name, as in `Address`. Takes no memory.
     pub fn name(&self) -> &'static str
-        ensures { result.now ≡ frame_fault_name self.now }
+        ensures { result.now ≡ Spec.frame_fault_name self.now }
     {
         match self {
             FrameFault::Address => "Address",
@@ -67,7 +66,7 @@ pub enum CallFault {
 impl CallFault {
     /// The fault's number, 1 to 3. Takes no memory.
     pub fn number(&self) -> u8
-        ensures { result ≡ call_fault_number self.now }
+        ensures { result ≡ Spec.call_fault_number self.now }
     {
         match self {
             CallFault::Length => 1,
@@ -78,7 +77,7 @@ impl CallFault {
 
     /// The fault's name, as in `Length`. Takes no memory.
     pub fn name(&self) -> &'static str
-        ensures { result.now ≡ call_fault_name self.now }
+        ensures { result.now ≡ Spec.call_fault_name self.now }
     {
         match self {
             CallFault::Length => "Length",
@@ -102,7 +101,7 @@ pub enum MakeFault {
 impl MakeFault {
     /// The fault's number, 1 to 3. Takes no memory.
     pub fn number(&self) -> u8
-        ensures { result ≡ make_fault_number self.now }
+        ensures { result ≡ Spec.make_fault_number self.now }
     {
         match self {
             MakeFault::Hops => 1,
@@ -113,7 +112,7 @@ impl MakeFault {
 
     /// The fault's name, as in `Hops`. Takes no memory.
     pub fn name(&self) -> &'static str
-        ensures { result.now ≡ make_fault_name self.now }
+        ensures { result.now ≡ Spec.make_fault_name self.now }
     {
         match self {
             MakeFault::Hops => "Hops",

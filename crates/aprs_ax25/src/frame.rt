@@ -1,7 +1,5 @@
 //! UI frames.
-ghost use Rattle.std.specs.Prelude.{◌≡◌, if◌then◌else◌, ◌<◌, ◌≤◌, [], ◌∷◌, ◌++◌, length, map, None};
-ghost use Rattle.std.specs.Prelude.{IsOk, IfOk, IfErr, OnOk, OnErr, Ok, Err, slice_get};
-ghost use Rattle.std.specs.Prelude.{◌+◌, MatchOption};
+ghost use Rattle.std.specs.Prelude.{◌≡◌, if◌then◌else◌, ◌<◌, ◌≤◌, [], ◌∷◌, ◌++◌, length, map, None, IsOk, IfOk, IfErr, OnOk, OnErr, Ok, Err, slice_get, ◌+◌, MatchOption};
 ghost use Rattle.std.specs.List.{AllByRecursion};
 ghost use Rattle.std.specs.Result.{result_err};
 ghost use Rattle.arrayvec.specs.ArrayVec.{array_vec_len};
@@ -11,8 +9,7 @@ ghost use Rattle.std.specs.Option.{option_map};
 ghost use Rattle.aprs_ax25.specs.Frame.{Parts, FrameOf, address_field};
 ghost use Rattle.aprs_ax25.specs.FrameFault.{frame_of, frame_fault, parts_of};
 ghost use Rattle.aprs_ax25.specs.Hop.{hop_of};
-ghost use Rattle.aprs_ax25.specs.Making.{destination_address, source_address, hop_address};
-ghost use Rattle.aprs_ax25.specs.Making.{made_parts, make_fault};
+ghost use Rattle.aprs_ax25.specs.Making as Spec;
 ghost use Rattle.std.specs.Ordering.{as_partial_cmp};
 ghost use Rattle.std.proofs.Common.{rules};
 ghost use Rattle.std.specs.Cmp.{partial_order_from_own_ties};
@@ -95,11 +92,11 @@ impl Frame {
         info: &[u8],
     ) -> Result<Frame, MakeFault>
         // The call fails exactly with the first fault of the parts, if they have one.
-        ensures fault { result_err result ≡ make_fault (length hops.now) (length info.now) }
+        ensures fault { result_err result ≡ Spec.make_fault (length hops.now) (length info.now) }
         // The frame is spelled from these parts, and is read as these parts.
         ensures spelled { IfOk result (λ frame. FrameOf
-            (made_parts destination.now source.now hops.now info.now) frame) }
-        ensures parts { IfOk result (λ frame. parts_of frame ≡ made_parts destination.now
+            (Spec.made_parts destination.now source.now hops.now info.now) frame) }
+        ensures parts { IfOk result (λ frame. parts_of frame ≡ Spec.made_parts destination.now
             source.now hops.now info.now) }
     {
         match make_fault(hops.len(), info.len()) {
@@ -110,8 +107,8 @@ impl Frame {
 
     /// The frame of these parts, which are not too many.
     fn spell(destination: &Callsign, source: &Callsign, hops: &[Hop], info: &[u8]) -> Frame
-        requires { make_fault (length hops.now) (length info.now) ≡ None }
-        ensures { FrameOf (made_parts destination.now source.now hops.now info.now) result }
+        requires { Spec.make_fault (length hops.now) (length info.now) ≡ None }
+        ensures { FrameOf (Spec.made_parts destination.now source.now hops.now info.now) result }
     {
         let mut bytes = ArrayVec::new();
         push_field(&mut bytes, destination, source, hops);
@@ -296,7 +293,7 @@ fn fault_in(bytes: &[u8]) -> Option<FrameFault>
 
 /// The first fault of so many digipeaters and bytes of information.
 fn make_fault(hops: usize, info: usize) -> Option<MakeFault>
-    ensures { result ≡ make_fault hops info }
+    ensures { result ≡ Spec.make_fault hops info }
 {
     if hops > 8 {
         Some(MakeFault::Hops)
@@ -318,10 +315,11 @@ fn push_field(
 )
     requires empty { out.old.items ≡ [] }
     requires few { length hops.now ≤ 8 }
-    ensures field { out.new.items ≡ address_field (destination_address destination.now
-        ∷ source_address source.now ∷ map hop_address hops.now) }
-    ensures each { AllByRecursion IsAddress (destination_address destination.now
-        ∷ source_address source.now ∷ map hop_address hops.now) }
+
+    ensures field { out.new.items ≡ address_field (Spec.destination_address destination.now
+        ∷ Spec.source_address source.now ∷ map Spec.hop_address hops.now) }
+    ensures each { AllByRecursion IsAddress (Spec.destination_address destination.now
+        ∷ Spec.source_address source.now ∷ map Spec.hop_address hops.now) }
     ensures most { array_vec_len out.new ≤ 70 }
 {
     destination.push_address(out, 7, 0);
@@ -340,8 +338,9 @@ fn extension_bit(is_last: bool) -> u8
 fn push_hops(out: &mut ArrayVec<u8, MAX_UI_FRAME>, hops: &[Hop])
     requires room { array_vec_len out.old ≡ 14 }
     requires few { length hops.now ≤ 8 }
-    ensures field { out.new.items ≡ out.old.items ++ address_field (map hop_address hops.now) }
-    ensures each { AllByRecursion IsAddress (map hop_address hops.now) }
+
+    ensures field { out.new.items ≡ out.old.items ++ address_field (map Spec.hop_address hops.now) }
+    ensures each { AllByRecursion IsAddress (map Spec.hop_address hops.now) }
     ensures most { array_vec_len out.new ≤ 70 }
 {
     for (i, hop) in hops.iter().enumerate() {

@@ -1,10 +1,8 @@
 //! What bytes that may be a frame have where.
 ghost use Rattle.std.specs.Prelude.{◌≡◌, ◌≤◌, ◌<◌, ◌/◌, ◌+◌, ◌-◌, ◌%◌, length, take, drop, slice_index, true, None};
-ghost use Rattle.std.specs.List.{list_all, position_or_len};
+ghost use Rattle.std.specs.List.{list_all};
 ghost use Rattle.aprs_ax25.specs.Callsign.{is_callsign_byte};
-ghost use Rattle.aprs_ax25.specs.FrameFault.{ends_field, field_len, is_field_len, sevens};
-ghost use Rattle.aprs_ax25.specs.FrameFault.{letters_len, has_callsign, is_space_octet};
-ghost use Rattle.aprs_ax25.specs.FrameFault.{frame_fault};
+ghost use Rattle.aprs_ax25.specs.FrameFault as Spec;
 ghost use Rattle.aprs_ax25.specs.Scan.{SplitsField, fault_after_field, fault_of_info};
 
 use crate::fault::FrameFault;
@@ -27,7 +25,7 @@ pub fn is_callsign_byte(b: u8) -> bool
 
 /// How many octets there are up to the first with bit 0 set, or one more than all.
 pub fn field_len(bytes: &[u8]) -> usize
-    ensures { result ≡ field_len bytes.now }
+    ensures { result ≡ Spec.field_len bytes.now }
 {
     for (i, octet) in bytes.iter().enumerate() {
         if octet % 2 == 1 {
@@ -40,8 +38,8 @@ pub fn field_len(bytes: &[u8]) -> usize
 /// The same of a frame. Only the last octet of an address may have the bit set, so that every
 /// seventh octet alone is looked at.
 pub fn end_of_field(frame: &[u8]) -> usize
-    requires { frame_fault frame.now ≡ None }
-    ensures { result ≡ field_len frame.now }
+    requires { Spec.frame_fault frame.now ≡ None }
+    ensures { result ≡ Spec.field_len frame.now }
 {
     let mut end = 14;
     'addresses: while !ends_address(frame, end) {
@@ -54,7 +52,7 @@ pub fn end_of_field(frame: &[u8]) -> usize
 fn ends_address(frame: &[u8], end: usize) -> bool
     requires some { 0 < end }
     requires within { end ≤ length frame.now }
-    ensures { result ≡ ends_field (slice_index frame.now (end - 1)) }
+    ensures { result ≡ Spec.ends_field (slice_index frame.now (end - 1)) }
 {
     frame[end - 1] % 2 == 1
 }
@@ -62,7 +60,7 @@ fn ends_address(frame: &[u8], end: usize) -> bool
 /// How many of an address's first six octets are letters or digits, from the first on.
 pub fn letters_len(octets: &[u8]) -> usize
     requires { 6 ≤ length octets.now }
-    ensures value { result ≡ letters_len octets.now }
+    ensures value { result ≡ Spec.letters_len octets.now }
     ensures six { result ≤ 6 }
 {
     let six = &octets[..6];
@@ -76,7 +74,7 @@ pub fn letters_len(octets: &[u8]) -> usize
 
 /// Whether the octets, shifted right by one bit, are spaces.
 fn are_spaces(octets: &[u8]) -> bool
-    ensures { result ≡ list_all is_space_octet octets.now }
+    ensures { result ≡ list_all Spec.is_space_octet octets.now }
 {
     octets.iter().all(|octet| *octet / 2 == b' ')
 }
@@ -84,7 +82,7 @@ fn are_spaces(octets: &[u8]) -> bool
 /// Whether the octets of an address are a callsign padded with spaces.
 fn has_callsign(octets: &[u8]) -> bool
     requires { 6 ≤ length octets.now }
-    ensures { result ≡ has_callsign octets.now }
+    ensures { result ≡ Spec.has_callsign octets.now }
 {
     let len = letters_len(octets);
     let (_, spaces) = octets[..6].split_at(len);
@@ -93,7 +91,7 @@ fn has_callsign(octets: &[u8]) -> bool
 
 /// Whether each of the addresses has a callsign.
 fn have_callsigns(field: &[u8]) -> bool
-    ensures { result ≡ list_all has_callsign (sevens (length field.now / 7) field.now) }
+    ensures { result ≡ list_all Spec.has_callsign (Spec.sevens (length field.now / 7) field.now) }
 {
     let mut rest = field;
     while rest.len() >= 7 {
@@ -120,7 +118,7 @@ pub fn split_field(bytes: &[u8]) -> Option<(&[u8], &[u8])>
 
 /// Whether so many octets may be an address field.
 fn is_field_len(len: usize) -> bool
-    ensures { result ≡ is_field_len len }
+    ensures { result ≡ Spec.is_field_len len }
 {
     len % 7 == 0 && 14 <= len && len <= 70
 }
@@ -150,7 +148,7 @@ fn fault_of_info(len: usize) -> Option<FrameFault>
 /// The first fault of the bytes as a frame.
 #[cold]
 pub fn fault_of(bytes: &[u8]) -> Option<FrameFault>
-    ensures { result ≡ frame_fault bytes.now }
+    ensures { result ≡ Spec.frame_fault bytes.now }
 {
     let Some((field, rest)) = split_field(bytes) else {
         return Some(FrameFault::Address);

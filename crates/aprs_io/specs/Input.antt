@@ -47,16 +47,6 @@ last_got (Err way) = last_of_ending way
 abbrev pub TakesOne : Option (List ℕ) → Option (List ℕ) → Type 0
 TakesOne known after = IfSome known (λ input. after ≡ Some (drop 1 input))
 
--- The input ends in this way, under a limit of so many bytes more. Where it is too long, one byte
--- more was taken of the device. Whoever asks again after the end, or after a fault, has the counts
--- of answers show it.
-pub record EndsInput {R : Type 0} (remaining : R → Option (List ℕ)) (way : Ending) (left : ℕ)
-    (old new : Counted R) : Type 0 where
-  pub end : EndsHere way left (remaining old.device) (remaining new.device)
-  pub over : way ≡ ending.TooLong → TakesOne (remaining old.device) (remaining new.device)
-  pub calls : Calls (last_of_ending way) old new
-  pub tries : new.failed ≤ old.failed + most_failures (last_of_ending way) 1
-
 -- Some bytes came, as many as are answered, and no more were taken of the device; or the input ends
 -- in the way that is answered.
 pub record GetsSome {R : Type 0} (remaining : R → Option (List ℕ)) (r : Result ℕ Ending) (left : ℕ)

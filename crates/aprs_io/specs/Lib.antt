@@ -3,4 +3,5 @@ pub mod Cut
 pub mod Device
 pub mod Hexadecimal
 pub mod Input
+pub mod InputSteps
 pub mod Outlet

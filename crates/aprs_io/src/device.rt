@@ -1,6 +1,6 @@
 //! A reader or a writer that counts its failed calls.
 ghost use Rattle.std.specs.Prelude.{◌≡◌, ◌+◌, ◌≤◌};
-ghost use Rattle.aprs_io.specs.Device.{device_of, failures_of, answered_of, ends_of, one_more, Rose, Sends};
+ghost use Rattle.aprs_io.specs.Device as Spec;
 ghost use Rattle.aprs_io.specs.Input.{ReadsOnce};
 
 use std::io::{ErrorKind, Read, Write};
@@ -30,10 +30,10 @@ pub struct Counted<T> {
 impl<T> Counted<T> {
     /// The device, none of whose calls failed yet. Takes no memory.
     pub fn new(device: T) -> Self
-        ensures device { device_of result ≡ device }
-        ensures failures { failures_of result ≡ 0 }
-        ensures answered { answered_of result ≡ 0 }
-        ensures ended { ends_of result ≡ 0 }
+        ensures device { Spec.device_of result ≡ device }
+        ensures failures { Spec.failures_of result ≡ 0 }
+        ensures answered { Spec.answered_of result ≡ 0 }
+        ensures ended { Spec.ends_of result ≡ 0 }
     {
         Counted {
             device,
@@ -46,7 +46,7 @@ impl<T> Counted<T> {
     /// How many calls of the device failed, or `u64::MAX` where that many did or more. Takes no
     /// memory.
     pub fn failures(&self) -> u64
-        ensures { result ≡ failures_of self.now }
+        ensures { result ≡ Spec.failures_of self.now }
     {
         self.failed
     }
@@ -54,26 +54,27 @@ impl<T> Counted<T> {
     /// How many calls of `read` and `send` answered a fault, or `u64::MAX` where that many did or
     /// more. Takes no memory.
     pub fn answered(&self) -> u64
-        ensures { result ≡ answered_of self.now }
+        ensures { result ≡ Spec.answered_of self.now }
     {
         self.answered
     }
 
     /// Gives the device back. Takes no memory.
     pub fn into_inner(self) -> T
-        ensures { result ≡ device_of self }
+        ensures { result ≡ Spec.device_of self }
     {
         self.device
     }
 
     /// Counts a failed call.
     fn note_failure(&mut self)
+        ensures rose { Spec.Rose self.old.failed self.new.failed }
+        ensures count { self.old.failed ≤ self.new.failed }
+        ensures once { self.new.failed ≤ self.old.failed + 1 }
+
         ensures device { self.new.device ≡ self.old.device }
         ensures answered { self.new.answered ≡ self.old.answered }
         ensures ended { self.new.ended ≡ self.old.ended }
-        ensures count { self.old.failed ≤ self.new.failed }
-        ensures rose { Rose self.old.failed self.new.failed }
-        ensures once { self.new.failed ≤ self.old.failed + 1 }
     {
         let count = &mut self.failed;
         *count = count.saturating_add(1);
@@ -84,7 +85,7 @@ impl<T> Counted<T> {
         ensures device { self.new.device ≡ self.old.device }
         ensures failed { self.new.failed ≡ self.old.failed }
         ensures ended { self.new.ended ≡ self.old.ended }
-        ensures once { self.new.answered ≡ one_more self.old.answered }
+        ensures once { self.new.answered ≡ Spec.one_more self.old.answered }
     {
         let count = &mut self.answered;
         *count = count.saturating_add(1);
@@ -92,7 +93,7 @@ impl<T> Counted<T> {
 
     /// Counts an end that is answered.
     fn note_end(&mut self)
-        ensures { self.new ≡ record self.old { ended = one_more self.old.ended } }
+        ensures { self.new ≡ record self.old { ended = Spec.one_more self.old.ended } }
     {
         let count = &mut self.ended;
         *count = count.saturating_add(1);
@@ -136,7 +137,7 @@ impl<R: Read> Counted<R> {
 /// try is a failed call and is tried again, up to 999 in a row; the 1,000th, any other error and a
 /// write that takes nothing are faults. Takes no memory.
 pub fn send<W: Write>(w: &mut Counted<W>, bytes: &[u8]) -> Result<(), WriteFault>
-    ensures { Sends W.contents result w.old w.new bytes.now }
+    ensures { Spec.Sends W.contents result w.old w.new bytes.now }
 {
     let mut rest = bytes;
     let mut tries = 0;

@@ -80,9 +80,11 @@ fn encode_few(bytes: &[u8], digits: &mut [u8])
 fn encode_block(bytes: &[u8], digits: &mut [u8], at: usize)
     requires len { length digits.old ≡ 2 * length bytes.now }
     requires room { at + BLOCK ≤ length bytes.now }
+
+    ensures digits { (k : ℕ) → at ≤ k → k < at + BLOCK → HoldsDigits bytes.now digits.new k }
+
     ensures len { length digits.new ≡ length digits.old }
     ensures kept { (k : ℕ) → k < 2 * at → slice_index digits.new k ≡ slice_index digits.old k }
-    ensures digits { (k : ℕ) → at ≤ k → k < at + BLOCK → HoldsDigits bytes.now digits.new k }
 {
     let mut block = [0; 2 * BLOCK];
     put_digits(&bytes[at..at + BLOCK], &mut block);
@@ -199,12 +201,14 @@ fn decode_digits(text: &[u8], out: &mut [u8], lower: bool) -> bool
 fn decode_block(text: &[u8], out: &mut [u8], at: usize, lower: bool) -> bool
     requires len { length text.now ≡ 2 * length out.old }
     requires room { at + BLOCK ≤ length out.old }
-    ensures len { length out.new ≡ length out.old }
-    ensures kept { (k : ℕ) → k < at → slice_index out.new k ≡ slice_index out.old k }
+
     ensures bytes { OnTrue result ((k : ℕ) → at ≤ k → k < at + BLOCK
         → HoldsByte text.now out.new k) }
     ensures lower { lower ≡ true → OnTrue result ((k : ℕ) → at ≤ k → k < at + BLOCK
         → HoldsDigits out.new text.now k) }
+
+    ensures len { length out.new ≡ length out.old }
+    ensures kept { (k : ℕ) → k < at → slice_index out.new k ≡ slice_index out.old k }
 {
     let mut values = [0; 2 * BLOCK];
     let are_digits = put_values(&text[2 * at..2 * at + 2 * BLOCK], &mut values, lower);

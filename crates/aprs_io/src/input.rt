@@ -1,6 +1,7 @@
 //! Inputs that are read under a limit.
 ghost use Rattle.std.specs.Prelude.{◌<◌, length};
-ghost use Rattle.aprs_io.specs.Input.{EndsInput, GetsSome};
+ghost use Rattle.aprs_io.specs.Input.{GetsSome};
+ghost use Rattle.aprs_io.specs.InputSteps.{EndsInput};
 
 use crate::device::{Counted, DeviceFault};
 use std::io::Read;

@@ -18,12 +18,12 @@ pub struct Outlet<'a, W> {
 }
 
 impl<'a, W: Write> Outlet<'a, W> {
-    ghost use Rattle.aprs_io.specs.Outlet.{HasTaken, Puts, writer_loan_of, writer_of, held_of};
+    ghost use Rattle.aprs_io.specs.Outlet as Spec;
 
     /// Holds nothing yet. Takes no memory.
     pub fn new(w: &'a mut Counted<W>) -> Outlet<'a, W>
-        ensures same_reference { writer_loan_of result ≡ w.entry.ghost_name }
-        ensures nothing { HasTaken W.contents w.old result [] }
+        ensures same_reference { Spec.writer_loan_of result ≡ w.entry.ghost_name }
+        ensures nothing { Spec.HasTaken W.contents w.old result [] }
     {
         Outlet {
             w,
@@ -33,7 +33,7 @@ impl<'a, W: Write> Outlet<'a, W> {
 
     /// Puts bytes after those that it took before. Takes no memory.
     pub fn put(&mut self, bytes: &[u8]) -> Result<(), WriteFault>
-        ensures { Puts W.contents result self.old self.new bytes.now }
+        ensures { Spec.Puts W.contents result self.old self.new bytes.now }
     {
         if self.held.len() + bytes.len() > MAX_HELD {
             self.flush()?;
@@ -47,10 +47,10 @@ impl<'a, W: Write> Outlet<'a, W> {
 
     /// Sends what it holds, and lets go of it at a fault too. Takes no memory.
     pub fn flush(&mut self) -> Result<(), WriteFault>
-        ensures same_reference { writer_loan_of self.new ≡ writer_loan_of self.old }
-        ensures sent { Sends W.contents result (writer_of self.old) (writer_of self.new)
-            (held_of self.old) }
-        ensures empty { held_of self.new ≡ [] }
+        ensures same_reference { Spec.writer_loan_of self.new ≡ Spec.writer_loan_of self.old }
+        ensures sent { Sends W.contents result (Spec.writer_of self.old) (Spec.writer_of self.new)
+            (Spec.held_of self.old) }
+        ensures empty { Spec.held_of self.new ≡ [] }
     {
         let sent = send(self.w, self.held.as_slice());
         self.held.clear();

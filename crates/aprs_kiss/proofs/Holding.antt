@@ -8,7 +8,8 @@ use Rattle.aprs_kiss.specs.Plain.{IsPlain, is_special}
 use Rattle.aprs_kiss.specs.Spelling.{HasNoEnd, is_frame_end}
 use Rattle.aprs_kiss.specs.Unspelling.{spelled_bytes}
 use Rattle.aprs_kiss.specs.Judgement.{judgement_by, judgement_of, data_frame_of}
-use Rattle.aprs_kiss.specs.Reader.{HoldsAfter, IsOpen, IsClosed}
+use Rattle.aprs_kiss.specs.Reader.{HoldsAfter}
+use Rattle.aprs_kiss.specs.ReaderSteps.{IsOpen, IsClosed}
 use Rattle.aprs_kiss.specs.declared.reader.State.{State}
 use Rattle.aprs_kiss.specs.declared.reader.State.TheVariants.{Ended, Plain, Escape, Long, LongEscape, Broken}
 use Rattle.aprs_kiss.specs.declared.fault.PassFault.TheVariants.{BadEscape, TooLong}

@@ -56,7 +56,8 @@ data_frame_of (head ∷ bytes) =
 -- The judgement of a piece that spells these bytes, or none.
 abbrev pub judgement_by : Option (List ℕ) → Judgement
 judgement_by None = Err BadEscape
-judgement_by (Some bytes) = if nat_lt most_bytes (length bytes) then Err TooLong else data_frame_of bytes
+judgement_by (Some bytes) =
+    if nat_lt most_bytes (length bytes) then Err TooLong else data_frame_of bytes
 
 -- The judgement of a piece, by the bytes that it spells.
 unfoldable pub judgement_of : List ℕ → Judgement

@@ -1,9 +1,7 @@
 -- What a KISS reader holds of the piece that it reads.
-use Rattle.std.specs.Prelude.{◌≡◌, ◌<◌, ℕ, List, [], ◌∷◌, ◌++◌, length, drop, Option, None, Some, Result, Ok, Err}
+use Rattle.std.specs.Prelude.{◌≡◌, ◌<◌, ℕ, List, [], ◌∷◌, ◌++◌, length, None, Some}
 use Rattle.aprs_kiss.specs.Spelling.{HasNoEnd}
 use Rattle.aprs_kiss.specs.Unspelling.{spelled_bytes}
-use Rattle.aprs_kiss.specs.Judgement.{Judgement}
-use Rattle.aprs_kiss.specs.declared.fault.PassFault.{PassFault}
 use Rattle.aprs_kiss.specs.Sizes.{most_bytes}
 use Rattle.aprs_kiss.specs.declared.reader.KissReader.{KissReader}
 use Rattle.aprs_kiss.specs.declared.reader.State.{State}
@@ -48,21 +46,3 @@ HoldsAfter Broken held bytes = (more : List ℕ) → spelled_bytes (bytes ++ mor
 pub record StandsAfter (reader : KissReader) (bytes : List ℕ) : Type 0 where
   pub whole : HasNoEnd bytes
   pub held : HoldsAfter reader.state reader.bytes.items bytes
-
--- The judgement that an outcome reports, where the buffer holds a frame after its type byte.
-abbrev pub judgements_of_outcome : Option (Result ℕ PassFault) → List ℕ → List Judgement
-judgements_of_outcome None held = []
-judgements_of_outcome (Some (Ok port)) held = Ok (record { port = port; bytes = drop 1 held }) ∷ []
-judgements_of_outcome (Some (Err fault)) held = Err fault ∷ []
-
--- An escape has begun.
-abbrev pub IsOpen : State → Type 0
-IsOpen Escape = Unit {0}
-IsOpen LongEscape = Unit {0}
-IsOpen _ = ⊥
-
--- No escape has begun.
-abbrev pub IsClosed : State → Type 0
-IsClosed Escape = ⊥
-IsClosed LongEscape = ⊥
-IsClosed _ = Unit {0}

@@ -5,7 +5,8 @@ ghost use Rattle.std.specs.Borrow.{sem};
 ghost use Rattle.std.specs.Option.{option_map, option_and_then};
 ghost use Rattle.std.specs.Io.BufRead.{Rests};
 ghost use Rattle.aprs_kiss.specs.Judgement.{judgement_of, data_frame_of};
-ghost use Rattle.aprs_kiss.specs.Reader.{StandsAfter, IsOpen, IsClosed, judgements_of_outcome};
+ghost use Rattle.aprs_kiss.specs.Reader.{StandsAfter};
+ghost use Rattle.aprs_kiss.specs.ReaderSteps.{IsOpen, IsClosed, judgements_of_outcome};
 ghost use Rattle.aprs_kiss.specs.Answer.{IsWithinBounds, judgements_in};
 ghost use Rattle.aprs_kiss.specs.Plain.{IsPlain, is_special};
 ghost use Rattle.aprs_kiss.specs.Spelling.{HasNoEnd};
@@ -72,20 +73,23 @@ impl KissReader {
     /// which lies in the reader until the next call, or why the piece is passed over. The reader
     /// then reads on. Takes no memory.
     pub fn feed(&mut self, piece: &[u8]) -> (usize, Fed<'_>)
-        // Here and below, `before` is what came since the last frame end before the call.
-        ensures* stands { sem 𝓛 (Rests the_row self.entry (λ new. (before : List ℕ)
-            → StandsAfter self.old before
-            → StandsAfter new (rest_of (before ++ take result.0 piece.now)))) }
-        // The nonempty pieces that ended are none or one, and its judgement is reported.
+        // Here and below, `before` is what came since the last frame end before the call. The
+        // nonempty pieces that ended are none or one, and its judgement is reported.
         ensures judged { (before : List ℕ) → StandsAfter self.old before
             → judgements_of (before ++ take result.0 piece.now) ≡ judgements_in result.1 }
+        ensures bounds { IsWithinBounds result.1 }
+
         ensures used { result.0 ≤ length piece.now }
+        ensures progress { 0 < length piece.now → 0 < result.0 }
         ensures whole { judgements_in result.1 ≡ [] → result.0 ≡ length piece.now }
         // The byte that was used last is the frame end of the piece that is reported.
         ensures ends { (before : List ℕ) → StandsAfter self.old before → judgements_in result.1 ≢ []
             → EndsPiece (before ++ take result.0 piece.now) }
-        ensures progress { 0 < length piece.now → 0 < result.0 }
-        ensures bounds { IsWithinBounds result.1 }
+
+        // Then it stands after what is left of all that came.
+        ensures* stands { sem 𝓛 (Rests the_row self.entry (λ new. (before : List ℕ)
+            → StandsAfter self.old before
+            → StandsAfter new (rest_of (before ++ take result.0 piece.now)))) }
     {
         let (used, outcome) = self.step(piece);
         match outcome {
@@ -116,18 +120,20 @@ impl KissReader {
 
     /// As `feed`, with the frame left in the buffer, after its type byte.
     fn step(&mut self, piece: &[u8]) -> (usize, Option<Result<u8, PassFault>>)
-        ensures stands { (before : List ℕ) → StandsAfter self.old before
-            → StandsAfter self.new (rest_of (before ++ take result.0 piece.now)) }
         ensures judged { (before : List ℕ) → StandsAfter self.old before
             → judgements_of (before ++ take result.0 piece.now)
             ≡ judgements_of_outcome result.1 self.new.bytes.items }
+        ensures frame { IfSome result.1 (λ o.
+            IfOk o (λ port. (port < 16) × (0 < length self.new.bytes.items))) }
+
         ensures used { result.0 ≤ length piece.now }
+        ensures progress { OnSome result.1 (0 < result.0) }
         ensures whole { IfNone result.1 (result.0 ≡ length piece.now) }
         ensures ends { (before : List ℕ) → StandsAfter self.old before
             → OnSome result.1 (EndsPiece (before ++ take result.0 piece.now)) }
-        ensures progress { OnSome result.1 (0 < result.0) }
-        ensures frame { IfSome result.1 (λ o.
-            IfOk o (λ port. (port < 16) × (0 < length self.new.bytes.items))) }
+
+        ensures stands { (before : List ℕ) → StandsAfter self.old before
+            → StandsAfter self.new (rest_of (before ++ take result.0 piece.now)) }
     {
         let mut rest = piece;
         loop {

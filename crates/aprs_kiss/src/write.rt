@@ -77,9 +77,11 @@ fn put_plain(out: &mut [u8], frame: &[u8]) -> usize
     requires few { length frame.now ≤ MAX_AT_ONCE }
     requires plain { IsPlain frame.now }
     requires room { length out.old ≡ MAX_TEXT }
-    ensures fits { result ≤ MAX_TEXT }
-    ensures len { length out.new ≡ MAX_TEXT }
+
     ensures text { take result out.new ≡ kiss_text frame.now }
+    ensures fits { result ≤ MAX_TEXT }
+
+    ensures len { length out.new ≡ MAX_TEXT }
 {
     let start = put(out, 0, &[FEND, DATA]);
     let end = put(out, start, frame);

@@ -1,5 +1,5 @@
 //! The gap inside a transmission.
-ghost use Rattle.std.specs.Prelude.{◌≡◌, ◌≤◌, SomeIff};
+ghost use Rattle.std.specs.Prelude.{◌≡◌, SomeIff};
 ghost use Rattle.aprs_laws.specs.Gap.{IsGap, standard_gap};
 
 use std::marker::Model;

@@ -3,20 +3,29 @@
 //! it ensures is a law over the definitions in `specs/`.
 #![tactic(auto)]
 
-mod example;
+mod examples;
 mod gap;
 mod laws;
 mod merge_fault;
 mod row_cause;
 mod widen_fault;
 
-pub use example::{
-    books_are_whole, books_have_gaps, copies_have_one_key, gaps_are_of_seconds, gaps_decide_rows,
-    gaps_decide_what_is_inserted, greatest_is_last_known, joined_books_are_books, joins_take_both,
-    merges_take_what_is_there, real_receptions_are_few, receivers_ascend,
-    rows_are_near_up_to_the_gap, rows_are_whole, rows_in_order_are_one_book, runs_are_maximal,
-    sets_and_orders, soundness_is_seen_in_rows, sources_are_ordered_first,
-    ties_go_by_receiver_then_frame, units_scale_gaps_too, wider_gaps_join_rows,
+pub use examples::gaps::{
+    books_have_gaps, gaps_are_of_seconds, units_scale_gaps_too, wider_gaps_join_rows,
+};
+pub use examples::joins::{joined_books_are_books, joins_take_both};
+pub use examples::keys::{copies_have_one_key, sources_are_ordered_first};
+pub use examples::last_known::greatest_is_last_known;
+pub use examples::merges::merges_take_what_is_there;
+pub use examples::orders::sets_and_orders;
+pub use examples::rows::{
+    books_are_whole, gaps_decide_rows, receivers_ascend, rows_are_whole,
+    ties_go_by_receiver_then_frame,
+};
+pub use examples::runs::runs_are_maximal;
+pub use examples::soundness::{real_receptions_are_few, soundness_is_seen_in_rows};
+pub use examples::steps::{
+    gaps_decide_what_is_inserted, rows_are_near_up_to_the_gap, rows_in_order_are_one_book,
 };
 pub use gap::Gap;
 pub use laws::book_law::{

@@ -1,5 +1,5 @@
 //! Why two books are not merged.
-ghost use Rattle.std.specs.Prelude.{◌≡◌, codes};
+ghost use Rattle.std.specs.Prelude.{◌≡◌};
 ghost use Rattle.aprs_laws.specs.BookFaults.{merge_fault_number, merge_fault_name};
 
 /// Why two books are not merged: the first of these that is true, in the order of their

@@ -1,5 +1,5 @@
 //! Why a book is not widened.
-ghost use Rattle.std.specs.Prelude.{◌≡◌, codes};
+ghost use Rattle.std.specs.Prelude.{◌≡◌};
 ghost use Rattle.aprs_laws.specs.BookFaults.{widen_fault_number, widen_fault_name};
 
 /// Why a book is not widened: the first of these that is true, in the order of their

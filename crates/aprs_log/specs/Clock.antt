@@ -3,7 +3,11 @@ use Rattle.std.specs.Prelude.{◌≡◌, ℕ, ◌+◌, ◌*◌, ◌<◌, ◌==�
 use Rattle.aprs_log.specs.declared.moment_form.MomentForm.{MomentForm}
 use Rattle.aprs_log.specs.declared.moment_form.MomentForm.TheVariants.{Seconds, Millis}
 use Rattle.aprs_log.specs.Moment.{two_digits, fraction_text, room_of}
-use Rattle.aprs_log.specs.Sizes.{millis_size, seconds_size}
+use Rattle.aprs_log.specs.Sizes.{seconds_size}
+
+-- the bytes of a moment to the millisecond: 2026-11-26T18:00:00.000Z
+abbrev pub millis_size : ℕ
+millis_size = 24
 
 -- the bytes of a moment's text in a form
 abbrev pub form_size : MomentForm → ℕ

@@ -1,7 +1,8 @@
 -- The first field of a text, which ends before a space. No public clause cites this module.
 use Rattle.std.specs.Prelude.{◌≡◌, ℕ, ◌<◌, ◌⊎◌, Bool, not, List, length, slice_index, None, Some}
 use Rattle.aprs_io.specs.Cut.{Cut, cut_at}
-use Rattle.aprs_log.specs.Sizes.{millis_size, seconds_size}
+use Rattle.aprs_log.specs.Clock.{millis_size}
+use Rattle.aprs_log.specs.Sizes.{seconds_size}
 use Rattle.aprs_log.specs.MomentReading.{moment_of}
 use Rattle.aprs_log.specs.Receiver.{IsName, is_name_byte}
 

@@ -1,5 +1,5 @@
--- The moment of a text, as a function: it reads the digits at their places, and compares the text of
--- what they say.
+-- The moment of a text, as a function: it reads the digits at their places, and compares the text
+-- of what they say.
 use Rattle.std.specs.Prelude.{ℕ, ◌+◌, ◌-◌, ◌*◌, ◌==◌, ◌&&◌, Bool, if◌then◌else◌, List, [], ◌∷◌, ◌++◌, length, slice_index, Option, None, Some, nat_le, nat_lt, pos, unsigned_abs}
 use Rattle.std.specs.Str.{bytes_eq}
 use Rattle.jiff_core.specs.Calendar.{days_from_civil, days_in_month}

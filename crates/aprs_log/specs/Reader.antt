@@ -98,7 +98,8 @@ GivesNext (Ok (Some x)) known old after new =
     × ((end : Option (List ℕ)) (answers : Answers) → Awaits after end new answers
     → Awaits known end old (prepend_line x answers))
 GivesNext (Ok None) known old after new =
-    (line_count_of new ≡ line_count_of old) × (stop_of new ≡ Some None) × Awaits known after old (end_with None)
+    (line_count_of new ≡ line_count_of old) × (stop_of new ≡ Some None)
+    × Awaits known after old (end_with None)
 GivesNext (Err fault) known old after new =
     (line_count_of new ≡ line_count_of old) × (stop_of new ≡ Some (Some fault))
     × Awaits known after old (end_with (Some fault))

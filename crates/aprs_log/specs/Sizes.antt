@@ -13,10 +13,6 @@ most_name = 16
 abbrev pub seconds_size : ℕ
 seconds_size = 20
 
--- The bytes of a moment to the millisecond: 2026-11-26T18:00:00.000Z.
-abbrev pub millis_size : ℕ
-millis_size = 24
-
 -- The last second, 2099-12-31T23:59:59Z, in seconds since 1970.
 abbrev pub last_second : ℕ
 last_second = 4102444799

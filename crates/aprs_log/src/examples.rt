@@ -1,5 +1,5 @@
 //! Worked examples of the definitions, and near misses. These functions do nothing.
-ghost use Rattle.std.specs.Prelude.{◌≡◌, ◌++◌, ◌∷◌, [], ℕ, List, codes};
+ghost use Rattle.std.specs.Prelude.{◌++◌, ◌∷◌, [], ℕ, List, codes};
 ghost use Rattle.aprs_io.specs.declared.input.Ending.TheVariants.{End, Read};
 ghost use Rattle.aprs_log.specs.Examples.{heard_after, hi_digits, hi_line, leap_line, line_by, noon, unended_line};
 ghost use Rattle.aprs_log.specs.LineText.{IsPassed, IsWrongLine, Reports};
@@ -22,6 +22,7 @@ pub fn lines_report_frames()
     ensures millis { Reports (line_by (codes "2024-05-01T12:00:00.500Z") hi_digits)
         (heard_after 500) }
     ensures misses_moment { Reports hi_line (heard_after 1) → ⊥ }
+
     ensures passed { IsPassed unended_line }
     ensures misses_unended { (x : Heard) → Reports unended_line x → ⊥ }
     ensures empty { IsPassed (line_by noon []) }
@@ -32,6 +33,7 @@ pub fn lines_are_wrong_from_the_left()
     ensures moment { IsWrongLine leap_line why.Moment }
     ensures receiver { IsWrongLine (noon ++ codes " RX.1 c0") why.Receiver }
     ensures hex { IsWrongLine (line_by noon (codes "c")) why.Hex }
+
     ensures misses_later { IsWrongLine (leap_line ++ codes "0") why.Hex → ⊥ }
     ensures misses_passed { IsWrongLine unended_line why.Hex → ⊥ }
 {}
@@ -40,10 +42,11 @@ pub fn lines_are_wrong_from_the_left()
 pub fn logs_have_first_faults()
     ensures faultless { IsLogText (unended_line ++ 10 ∷ hi_line ++ 10 ∷ []) End
         (heard_after 0 ∷ []) }
-    ensures wrong { HasLogFault (hi_line ++ 10 ∷ leap_line ++ 10 ∷ []) End
-        (record { line = 2; cause = why.Moment }) }
     ensures misses_wrong { (S : List Heard)
         → IsLogText (hi_line ++ 10 ∷ leap_line ++ 10 ∷ []) End S → ⊥ }
+
+    ensures wrong { HasLogFault (hi_line ++ 10 ∷ leap_line ++ 10 ∷ []) End
+        (record { line = 2; cause = why.Moment }) }
     ensures unended { HasLogFault (hi_line ++ 10 ∷ hi_line) End
         (record { line = 2; cause = why.NoNewline }) }
     ensures cut_short { HasLogFault (hi_line ++ 10 ∷ hi_line) Read

@@ -1,16 +1,6 @@
 //! Why a line is refused or passed over, and why a log ends before its end.
-ghost use Rattle.std.specs.Prelude.{◌≡◌, codes};
-ghost use Rattle.aprs_log.specs.Fault.{
-  line_fault_number,
-  line_fault_name,
-  log_cause_number,
-  log_cause_name,
-  log_cause_of,
-  reason_number,
-  reason_name,
-  reason_of_pass,
-  reason_of_frame,
-};
+ghost use Rattle.std.specs.Prelude.{◌≡◌};
+ghost use Rattle.aprs_log.specs.Fault as Spec;
 
 use aprs_ax25::FrameFault;
 use aprs_kiss::PassFault;
@@ -34,7 +24,7 @@ pub enum LineFault {
 impl LineFault {
     /// Its number, from 1.
     pub fn number(&self) -> u8
-        ensures { result ≡ line_fault_number self.now }
+        ensures { result ≡ Spec.line_fault_number self.now }
     {
         match self {
             LineFault::LongLine => 1,
@@ -47,7 +37,7 @@ impl LineFault {
 
     /// Its name.
     pub fn name(&self) -> &'static str
-        ensures { result.now ≡ line_fault_name self.now }
+        ensures { result.now ≡ Spec.line_fault_name self.now }
     {
         match self {
             LineFault::LongLine => "LongLine",
@@ -83,7 +73,7 @@ pub enum LogCause {
 impl LogCause {
     /// Its number, from 1.
     pub fn number(&self) -> u8
-        ensures { result ≡ log_cause_number self.now }
+        ensures { result ≡ Spec.log_cause_number self.now }
     {
         match self {
             LogCause::LongLine => 1,
@@ -99,7 +89,7 @@ impl LogCause {
 
     /// Its name.
     pub fn name(&self) -> &'static str
-        ensures { result.now ≡ log_cause_name self.now }
+        ensures { result.now ≡ Spec.log_cause_name self.now }
     {
         match self {
             LogCause::LongLine => "LongLine",
@@ -115,7 +105,7 @@ impl LogCause {
 }
 
 impl From<LineFault> for LogCause {
-    ghost from_gives = { λ fault cause. cause ≡ log_cause_of fault };
+    ghost from_gives = { λ fault cause. cause ≡ Spec.log_cause_of fault };
 
     fn from(fault: LineFault) -> LogCause {
         match fault {
@@ -172,7 +162,7 @@ pub enum Reason {
 impl Reason {
     /// Its number, from 1.
     pub fn number(&self) -> u8
-        ensures { result ≡ reason_number self.now }
+        ensures { result ≡ Spec.reason_number self.now }
     {
         match self {
             Reason::Unended => 1,
@@ -192,7 +182,7 @@ impl Reason {
 
     /// Its name.
     pub fn name(&self) -> &'static str
-        ensures { result.now ≡ reason_name self.now }
+        ensures { result.now ≡ Spec.reason_name self.now }
     {
         match self {
             Reason::Unended => "Unended",
@@ -212,7 +202,7 @@ impl Reason {
 }
 
 impl From<PassFault> for Reason {
-    ghost from_gives = { λ fault reason. reason ≡ reason_of_pass fault };
+    ghost from_gives = { λ fault reason. reason ≡ Spec.reason_of_pass fault };
 
     fn from(fault: PassFault) -> Reason {
         match fault {
@@ -224,7 +214,7 @@ impl From<PassFault> for Reason {
 }
 
 impl From<FrameFault> for Reason {
-    ghost from_gives = { λ fault reason. reason ≡ reason_of_frame fault };
+    ghost from_gives = { λ fault reason. reason ≡ Spec.reason_of_frame fault };
 
     fn from(fault: FrameFault) -> Reason {
         match fault {

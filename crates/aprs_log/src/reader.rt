@@ -1,5 +1,5 @@
 //! A reader of a log's lines.
-ghost use Rattle.std.specs.Prelude.{◌≡◌, ◌≢◌, ◌+◌, ◌≤◌, length};
+ghost use Rattle.std.specs.Prelude.{◌≡◌, ◌≢◌, ◌+◌, ◌≤◌, ◌<◌, ◌++◌, ℕ, List, length, Option, None, Some, IfSome, IfErr, false};
 ghost use Rattle.aprs_io.specs.Input.{most_input};
 ghost use Rattle.aprs_log.specs.States.{KeepsMemory};
 ghost use Rattle.aprs_log.specs.Window.{items};
@@ -34,15 +34,13 @@ pub struct LogReader<'a, R> {
 }
 
 impl<'a, R: Read> LogReader<'a, R> {
-    ghost use Rattle.std.specs.Prelude.{◌≡◌, ◌≢◌, ◌+◌, ◌≤◌, ◌<◌, ◌++◌, ℕ, List, length, Option, None, Some, IfSome, IfErr, OnErr, false};
     ghost use Rattle.std.specs.Bool.{OnTrue, OnFalse};
     ghost use Rattle.aprs_io.specs.Device.{Calls, device_of, failures_of};
     ghost use Rattle.aprs_io.specs.Cut.{cut_at};
     ghost use Rattle.aprs_log.specs.ReaderSteps.{Moves, work_of};
     ghost use Rattle.aprs_log.specs.States.{last_in};
     ghost use Rattle.aprs_log.specs.LogAnswers.{Answers, prepend_line};
-    ghost use Rattle.aprs_log.specs.Window.{items};
-    ghost use Rattle.aprs_log.specs.Reader.{answer_of_stop, answer_with, Awaits, AreAnswersOf, GivesNext, HasLf, Starts, current_of, read_ahead_of, last_told, line_count_of, loan_of, returns_line, source_of, stop_of};
+    ghost use Rattle.aprs_log.specs.Reader as Spec;
 
     /// A reader of the log that begins with `head` and goes on with the bytes of `source`. It takes
     /// at most `limit` bytes, the head among them. Requires that `limit` is at most `MAX_INPUT`,
@@ -57,17 +55,20 @@ impl<'a, R: Read> LogReader<'a, R> {
         requires limit { limit ≤ most_input }
         requires head { length head.now ≤ 8 }
         requires within { length head.now ≤ limit }
-        ensures same_reference { loan_of result ≡ source.entry.ghost_name }
-        ensures source { source_of result ≡ source.old }
-        ensures starts { Starts result head.now }
+
+        ensures starts { Spec.Starts result head.now }
         // What may come are the answers of the whole log.
         ensures whole { (end : Option (List ℕ)) (answers : Answers)
-            → Awaits (R.remaining (device_of (source_of result))) end result answers
+            → Spec.Awaits (R.remaining (device_of (Spec.source_of result))) end result answers
             → IfSome (R.remaining (device_of source.old))
-            (λ input. AreAnswersOf limit (head.now ++ input) end answers) }
+            (λ input. Spec.AreAnswersOf limit (head.now ++ input) end answers) }
         // Some answers may always come.
-        ensures awaits { (answers : Answers) × Awaits (R.remaining (device_of (source_of result)))
-            (R.remaining (device_of (source_of result))) result answers }
+        ensures awaits { (answers : Answers)
+            × Spec.Awaits (R.remaining (device_of (Spec.source_of result)))
+            (R.remaining (device_of (Spec.source_of result))) result answers }
+
+        ensures same_reference { Spec.loan_of result ≡ source.entry.ghost_name }
+        ensures source { Spec.source_of result ≡ source.old }
     {
         LogReader {
             source,
@@ -82,14 +83,14 @@ impl<'a, R: Read> LogReader<'a, R> {
 
     /// The number of the last line that it returned, from 1, or 0 before any. Takes no memory.
     pub fn line(&self) -> u64
-        ensures { result ≡ line_count_of self.now }
+        ensures { result ≡ Spec.line_count_of self.now }
     {
         self.line
     }
 
     /// How many calls of the device that it reads from failed. Takes no memory.
     pub fn failures(&self) -> u64
-        ensures { result ≡ failures_of (source_of self.now) }
+        ensures { result ≡ failures_of (Spec.source_of self.now) }
     {
         self.source.failures()
     }
@@ -98,25 +99,29 @@ impl<'a, R: Read> LogReader<'a, R> {
     /// the number of its line. After a fault it answers that fault for good, and after the end
     /// `None`, and reads no more. All lines before a fault are given first. Takes no memory.
     pub fn next(&mut self) -> Result<Option<Line>, LogFault>
-        ensures same_reference { loan_of self.new ≡ loan_of self.old }
-        ensures gives { GivesNext result (R.remaining (device_of (source_of self.old))) self.old
-            (R.remaining (device_of (source_of self.new))) self.new }
-        // A line that it holds whole is answered without a read.
-        ensures unread { stop_of self.old ≡ None → HasLf (read_ahead_of self.old)
-            → source_of self.new ≡ source_of self.old }
-        // What it came to stays, and it reads no more.
-        ensures stays { (stop : Option LogFault) → stop_of self.old ≡ Some stop
-            → (result ≡ answer_of_stop stop) × (stop_of self.new ≡ Some stop)
-            × (source_of self.new ≡ source_of self.old) }
-        ensures fault { IfErr result (λ fault. (fault.line ≡ line_count_of self.new + 1)
-            × (fault.cause ≢ LogCause.Memory)) }
+        ensures gives { Spec.GivesNext result
+            (R.remaining (device_of (Spec.source_of self.old))) self.old
+            (R.remaining (device_of (Spec.source_of self.new))) self.new }
         // Some answers may always come.
-        ensures awaits { (answers : Answers) × Awaits (R.remaining (device_of (source_of self.new)))
-            (R.remaining (device_of (source_of self.new))) self.new answers }
+        ensures awaits { (answers : Answers)
+            × Spec.Awaits (R.remaining (device_of (Spec.source_of self.new)))
+            (R.remaining (device_of (Spec.source_of self.new))) self.new answers }
+
+        ensures fault { IfErr result (λ fault. (fault.line ≡ Spec.line_count_of self.new + 1)
+            × (fault.cause ≢ LogCause.Memory)) }
+
+        // What it came to stays, and it reads no more.
+        ensures stays { (stop : Option LogFault) → Spec.stop_of self.old ≡ Some stop
+            → (result ≡ Spec.answer_of_stop stop) × (Spec.stop_of self.new ≡ Some stop)
+            × (Spec.source_of self.new ≡ Spec.source_of self.old) }
+        // A line that it holds whole is answered without a read.
+        ensures unread { Spec.stop_of self.old ≡ None → Spec.HasLf (Spec.read_ahead_of self.old)
+            → Spec.source_of self.new ≡ Spec.source_of self.old }
+        ensures same_reference { Spec.loan_of self.new ≡ Spec.loan_of self.old }
         // What it answers tells what the device answered last: a fault at `Read`, the end where the
         // input ended, and nothing else, so that it never asks again.
-        ensures calls { stop_of self.old ≡ None
-            → Calls (last_told result) (source_of self.old) (source_of self.new) }
+        ensures calls { Spec.stop_of self.old ≡ None
+            → Calls (Spec.last_told result) (Spec.source_of self.old) (Spec.source_of self.new) }
     {
         match self.advance() {
             Ok(true) => Ok(Some(self.current.copy())),
@@ -128,29 +133,34 @@ impl<'a, R: Read> LogReader<'a, R> {
     /// Goes to the next line, which `current` then lends, and says whether there is one: as `next`,
     /// without a copy of the line. Takes no memory.
     pub fn advance(&mut self) -> Result<bool, LogFault>
-        ensures same_reference { loan_of self.new ≡ loan_of self.old }
-        ensures gives { GivesNext (answer_with result (current_of self.new))
-            (R.remaining (device_of (source_of self.old))) self.old
-            (R.remaining (device_of (source_of self.new))) self.new }
-        // A line that it holds whole is answered without a read.
-        ensures unread { stop_of self.old ≡ None → HasLf (read_ahead_of self.old)
-            → source_of self.new ≡ source_of self.old }
-        // Where no line comes, the last one stays.
-        ensures keeps { returns_line result ≡ false → current_of self.new ≡ current_of self.old }
-        // What it came to stays, and it reads no more.
-        ensures stays { (stop : Option LogFault) → stop_of self.old ≡ Some stop
-            → (answer_with result (current_of self.new) ≡ answer_of_stop stop)
-            × (stop_of self.new ≡ Some stop) × (source_of self.new ≡ source_of self.old) }
-        ensures fault { IfErr result (λ fault. (fault.line ≡ line_count_of self.new + 1)
-            × (fault.cause ≢ LogCause.Memory)) }
+        ensures gives { Spec.GivesNext (Spec.answer_with result (Spec.current_of self.new))
+            (R.remaining (device_of (Spec.source_of self.old))) self.old
+            (R.remaining (device_of (Spec.source_of self.new))) self.new }
         // Some answers may always come.
-        ensures awaits { (answers : Answers) × Awaits (R.remaining (device_of (source_of self.new)))
-            (R.remaining (device_of (source_of self.new))) self.new answers }
+        ensures awaits { (answers : Answers)
+            × Spec.Awaits (R.remaining (device_of (Spec.source_of self.new)))
+            (R.remaining (device_of (Spec.source_of self.new))) self.new answers }
+
+        ensures fault { IfErr result (λ fault. (fault.line ≡ Spec.line_count_of self.new + 1)
+            × (fault.cause ≢ LogCause.Memory)) }
+
+        // Where no line comes, the last one stays.
+        ensures keeps { Spec.returns_line result ≡ false
+            → Spec.current_of self.new ≡ Spec.current_of self.old }
+        // What it came to stays, and it reads no more.
+        ensures stays { (stop : Option LogFault) → Spec.stop_of self.old ≡ Some stop
+            → (Spec.answer_with result (Spec.current_of self.new) ≡ Spec.answer_of_stop stop)
+            × (Spec.stop_of self.new ≡ Some stop)
+            × (Spec.source_of self.new ≡ Spec.source_of self.old) }
+        // A line that it holds whole is answered without a read.
+        ensures unread { Spec.stop_of self.old ≡ None → Spec.HasLf (Spec.read_ahead_of self.old)
+            → Spec.source_of self.new ≡ Spec.source_of self.old }
+        ensures same_reference { Spec.loan_of self.new ≡ Spec.loan_of self.old }
         // What it answers tells what the device answered last: a fault at `Read`, the end where the
         // input ended, and nothing else, so that it never asks again.
-        ensures calls { stop_of self.old ≡ None
-            → Calls (last_told (answer_with result (current_of self.new))) (source_of self.old)
-            (source_of self.new) }
+        ensures calls { Spec.stop_of self.old ≡ None
+            → Calls (Spec.last_told (Spec.answer_with result (Spec.current_of self.new)))
+            (Spec.source_of self.old) (Spec.source_of self.new) }
     {
         loop {
             match self.state {
@@ -166,7 +176,7 @@ impl<'a, R: Read> LogReader<'a, R> {
 
     /// The line that was given last. Before any it is `Passed(NoFrame)`. Takes no memory.
     pub fn current(&self) -> &Line
-        ensures { result.now ≡ current_of self.now }
+        ensures { result.now ≡ Spec.current_of self.now }
     {
         &self.current
     }
@@ -184,22 +194,26 @@ impl<'a, R: Read> LogReader<'a, R> {
     /// Gives a line that is there, or reads on, or stops.
     fn step(&mut self) -> bool
         requires { self.old.state ≡ State.Reading }
-        ensures same_reference { loan_of self.new ≡ loan_of self.old }
-        ensures given { OnTrue result ((line_count_of self.new ≡ line_count_of self.old + 1)
+
+        ensures given { OnTrue result (
+            (Spec.line_count_of self.new ≡ Spec.line_count_of self.old + 1)
             × ((end : Option (List ℕ)) (answers : Answers)
-            → Awaits (R.remaining (device_of (source_of self.new))) end self.new answers
-            → Awaits (R.remaining (device_of (source_of self.old))) end self.old
-            (prepend_line (current_of self.new) answers))) }
-        ensures none { OnFalse result ((line_count_of self.new ≡ line_count_of self.old)
-            × (current_of self.new ≡ current_of self.old)
-            × Moves (R.remaining (device_of (source_of self.old))) self.old
-            (R.remaining (device_of (source_of self.new))) self.new) }
-        ensures going { OnTrue result (stop_of self.new ≡ None) }
+            → Spec.Awaits (R.remaining (device_of (Spec.source_of self.new))) end self.new answers
+            → Spec.Awaits (R.remaining (device_of (Spec.source_of self.old))) end self.old
+            (prepend_line (Spec.current_of self.new) answers))) }
+        ensures none { OnFalse result ((Spec.line_count_of self.new ≡ Spec.line_count_of self.old)
+            × (Spec.current_of self.new ≡ Spec.current_of self.old)
+            × Moves (R.remaining (device_of (Spec.source_of self.old))) self.old
+            (R.remaining (device_of (Spec.source_of self.new))) self.new) }
+        ensures going { OnTrue result (Spec.stop_of self.new ≡ None) }
         ensures less { OnFalse result (work_of self.new < work_of self.old) }
-        ensures unread { HasLf (read_ahead_of self.old) → (source_of self.new ≡ source_of self.old)
-            × OnFalse result (stop_of self.new ≢ None) }
-        ensures calls { Calls (last_in self.new.state) (source_of self.old)
-            (source_of self.new) }
+
+        ensures unread { Spec.HasLf (Spec.read_ahead_of self.old)
+            → (Spec.source_of self.new ≡ Spec.source_of self.old)
+            × OnFalse result (Spec.stop_of self.new ≢ None) }
+        ensures same_reference { Spec.loan_of self.new ≡ Spec.loan_of self.old }
+        ensures calls { Calls (last_in self.new.state) (Spec.source_of self.old)
+            (Spec.source_of self.new) }
     {
         match take_line(&mut self.window, &mut self.scratch, &mut self.current) {
             Some(Ok(())) => {
@@ -221,14 +235,16 @@ impl<'a, R: Read> LogReader<'a, R> {
     fn read_on(&mut self)
         requires going { self.old.state ≡ State.Reading }
         requires none { cut_at 10 (items self.old.window) ≡ None }
-        ensures same_reference { loan_of self.new ≡ loan_of self.old }
-        ensures lines { line_count_of self.new ≡ line_count_of self.old }
-        ensures current { current_of self.new ≡ current_of self.old }
-        ensures moves { Moves (R.remaining (device_of (source_of self.old))) self.old
-            (R.remaining (device_of (source_of self.new))) self.new }
+
+        ensures moves { Moves (R.remaining (device_of (Spec.source_of self.old))) self.old
+            (R.remaining (device_of (Spec.source_of self.new))) self.new }
         ensures less { work_of self.new < work_of self.old }
-        ensures calls { Calls (last_in self.new.state) (source_of self.old)
-            (source_of self.new) }
+
+        ensures lines { Spec.line_count_of self.new ≡ Spec.line_count_of self.old }
+        ensures current { Spec.current_of self.new ≡ Spec.current_of self.old }
+        ensures same_reference { Spec.loan_of self.new ≡ Spec.loan_of self.old }
+        ensures calls { Calls (last_in self.new.state) (Spec.source_of self.old)
+            (Spec.source_of self.new) }
     {
         if self.window.as_slice().len() > MAX_LINE {
             self.state = State::Failed(LogCause::LongLine);

@@ -76,11 +76,13 @@ fn put_line(line: &mut [u8], moment: &[u8; MILLIS_LEN], reception: &Reception) -
     requires line { length line.old ≡ MAX_WRITTEN }
     requires moment { moment.now ≡ moment_text reception.now.moment }
     requires range { reception.now.moment ≤ last_milli }
-    ensures fits { result ≤ MAX_WRITTEN }
-    ensures len { length line.new ≡ MAX_WRITTEN }
+
     ensures line { take result line.new ≡ written_line reception.now ++ 10 ∷ [] }
     ensures back { length (written_line reception.now) ≤ most_line
         → line_of (written_line reception.now) ≡ Ok (Line.Heard reception.now) }
+    ensures fits { result ≤ MAX_WRITTEN }
+
+    ensures len { length line.new ≡ MAX_WRITTEN }
 {
     let time = put(line, 0, moment);
     let space = put(line, time, b" ");
@@ -94,10 +96,12 @@ fn put_line(line: &mut [u8], moment: &[u8; MILLIS_LEN], reception: &Reception) -
 fn put_frame(out: &mut [u8], at: usize, frame: &[u8]) -> usize
     requires few { length frame.now ≤ MAX_FRAME }
     requires room { at + 2 * MAX_SPELLED ≤ length out.old }
-    ensures end { result ≤ at + 2 * MAX_SPELLED }
-    ensures len { length out.new ≡ length out.old }
+
     ensures digits { take result out.new ≡ take at out.old ++ encode_lower (kiss_text frame.now) }
     ensures back { decode_of (encode_lower (kiss_text frame.now)) ≡ Ok (kiss_text frame.now) }
+    ensures end { result ≤ at + 2 * MAX_SPELLED }
+
+    ensures len { length out.new ≡ length out.old }
 {
     let mut end = put(out, at, b"c000");
     let mut rest = frame;
@@ -128,9 +132,11 @@ fn put_hex(out: &mut [u8], at: usize, bytes: &[u8]) -> usize
 fn put_escape(out: &mut [u8], at: usize, byte: u8) -> usize
     requires special { is_special byte ≡ true }
     requires room { at + 4 ≤ length out.old }
-    ensures end { result ≡ at + 4 }
-    ensures len { length out.new ≡ length out.old }
+
     ensures digits { take result out.new ≡ take at out.old ++ encode_lower (spelling_of_byte byte) }
+    ensures end { result ≡ at + 4 }
+
+    ensures len { length out.new ≡ length out.old }
 {
     if byte == 0xC0 {
         put(out, at, b"dbdc")

@@ -30,7 +30,8 @@ plain lat lon ambiguity = position false None (Plain lat lon ambiguity) (symbol_
 
 -- A car (symbol >) of a station that takes messages, with c, s and T " sT".
 abbrev pub compressed_position : ℕ → ℕ → ℕ → Value
-compressed_position table y x = position true None (Base91 y x (32 ∷ 115 ∷ 84 ∷ [])) (symbol_of table 62) []
+compressed_position table y x =
+    position true None (Base91 y x (32 ∷ 115 ∷ 84 ∷ [])) (symbol_of table 62) []
 
 -- A stamp of the digits 092345 and this mark.
 abbrev pub stamp_with : ℕ → Stamp

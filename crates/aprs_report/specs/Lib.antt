@@ -1,5 +1,6 @@
 pub mod Bytes
 pub mod Trailing
+pub mod TrailingBytes
 pub mod Numeral
 pub mod Stamp
 pub mod Symbol

@@ -1,14 +1,6 @@
 -- Bytes that are cut off at the end of others.
 use Rattle.std.specs.Prelude.{◌≡◌, ℕ, Bool, true, false, List, [], ◌∷◌, ◌++◌}
 use Rattle.std.specs.List.{list_all}
-use Rattle.aprs_report.specs.declared.bytes.Trailing.{Trailing}
-use Rattle.aprs_report.specs.declared.bytes.Trailing.TheVariants.{Spaces, LineEnds}
-use Rattle.aprs_report.specs.Bytes.{is_space, is_line_end}
-
--- The byte is one of these.
-abbrev pub is_end : Trailing → ℕ → Bool
-is_end Spaces b = is_space b
-is_end LineEnds b = is_line_end b
 
 -- The last byte passes the test.
 abbrev pub ends_in : (ℕ → Bool) → List ℕ → Bool

@@ -50,7 +50,7 @@ pub enum Trailing {
 }
 
 impl Trailing {
-    ghost use Rattle.aprs_report.specs.Trailing.{is_end};
+    ghost use Rattle.aprs_report.specs.TrailingBytes.{is_end};
 
     /// Whether the byte is one of these.
     fn has(self, byte: u8) -> bool

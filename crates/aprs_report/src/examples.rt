@@ -4,8 +4,7 @@ ghost use Rattle.std.specs.Prelude.{◌≡◌, [], Some, None, true, false, pos,
 ghost use Rattle.aprs_report.specs.declared.place.Place.TheVariants.{Base91};
 ghost use Rattle.aprs_report.specs.Place.{latitude_of, longitude_of};
 ghost use Rattle.aprs_report.specs.Reading.{message, ack, rej, status, raw};
-ghost use Rattle.aprs_report.specs.Examples.{Example, minus, fraction, plain, compressed_position};
-ghost use Rattle.aprs_report.specs.Examples.{stamp_with, leader, leader_item};
+ghost use Rattle.aprs_report.specs.Examples.{Example, minus, fraction, plain, compressed_position, stamp_with, leader, leader_item};
 
 /// Examples of plain positions, in hundredths of minutes.
 pub fn plain_examples()
@@ -15,6 +14,7 @@ pub fn plain_examples()
     ensures to_degrees { Example (codes "!49  .  N/072  .  W-")
         (plain (pos 294000) (minus 432000) 4) }
     ensures only_in_longitude { Example (codes "!4903.50N/07201.7 W-") raw }
+
     ensures corner { Example (codes "!9000.00N/18000.00E-") (plain (pos 540000) (pos 1080000) 0) }
     ensures past_the_pole { Example (codes "!9000.01N/07201.75W-") raw }
     ensures sixty_minutes { Example (codes "!4960.00N/07201.75W-") raw }
@@ -32,6 +32,7 @@ pub fn compressed_examples()
     ensures end_of_the_east { Example (codes "=/5L!!{{!!> sT")
         (compressed_position 47 15427503 68566680) }
     ensures overlay { Example (codes "=c5L!!<*e7> sT") (compressed_position 50 15427503 20427156) }
+
     ensures north { latitude_of (Base91 15427503 0 []) ≡ fraction (pos 18855837) 380926 }
     ensures south { latitude_of (Base91 68566680 0 []) ≡ fraction (minus 34283340) 380926 }
     ensures west { longitude_of (Base91 0 20427156 []) ≡ fraction (minus 13856184) 190463 }
@@ -44,6 +45,7 @@ pub fn object_examples()
     ensures killed { Example (codes ";LEADER   _092345z4903.50N/07201.75W>") (leader false) }
     ensures no_name { Example (codes ";         *092345z4903.50N/07201.75W>") raw }
     ensures no_stamp { Example (codes ";LEADER   *4903.50N/07201.75W>") raw }
+
     ensures item { Example (codes ")LEADER!4903.50N/07201.75W>") (leader_item true) }
     ensures killed_item { Example (codes ")LEADER_4903.50N/07201.75W>") (leader_item false) }
     ensures two_bytes { Example (codes ")LE!4903.50N/07201.75W>") raw }
@@ -69,6 +71,7 @@ pub fn message_examples()
         (message (codes "WU2Z") (codes "Testing{AB}CD") None) }
     ensures long_id { Example (codes ":WU2Z     :Testing{123456")
         (message (codes "WU2Z") (codes "Testing{123456") None) }
+
     ensures acks { Example (codes ":N0CALL-7 :ack003") (ack (codes "N0CALL-7") (codes "003")) }
     ensures rejects { Example (codes ":N0CALL-7 :rej003") (rej (codes "N0CALL-7") (codes "003")) }
     ensures ack_without_id { Example (codes ":WU2Z     :ack")

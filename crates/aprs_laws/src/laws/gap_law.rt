@@ -1,16 +1,17 @@
 //! Laws of books under another gap.
 ghost use Rattle.std.specs.Prelude.{ℕ};
 ghost use Rattle.aprs_laws.specs.BookValue.{WidenedHolds, WidensJoinedBooks};
-ghost use Rattle.aprs_laws.specs.Widening.{WidensBook, WidenedIsSound, KeepsUnderOwnGap, WidensInSteps, WidensJoined, NarrowsNot};
+ghost use Rattle.aprs_laws.specs.Widening as Spec;
 
 /// One pass over the rows of a book, which joins neighbours that are near under a gap that is not
 /// less, gives the book of the same set under that gap. So widening and joining change places.
 pub fn gaps_can_be_widened()
-    ensures book { WidensBook }
-    ensures sound { WidenedIsSound }
-    ensures equal { (gap : ℕ) → KeepsUnderOwnGap gap }
-    ensures steps { WidensInSteps }
-    ensures joined { WidensJoined }
+    ensures book { Spec.WidensBook }
+    ensures sound { Spec.WidenedIsSound }
+
+    ensures equal { (gap : ℕ) → Spec.KeepsUnderOwnGap gap }
+    ensures steps { Spec.WidensInSteps }
+    ensures joined { Spec.WidensJoined }
 {}
 
 /// A book under a gap that is not less holds the set that it held before, and widening the join of
@@ -22,5 +23,5 @@ pub fn books_can_be_widened()
 
 /// Under a lesser gap the rows don't decide the book: no function of rows alone gives it.
 pub fn gaps_cannot_be_narrowed()
-    ensures { NarrowsNot }
+    ensures { Spec.NarrowsNot }
 {}

@@ -2,7 +2,7 @@
 //! moment has one of two lengths, and a name ends before the first byte that no name has.
 ghost use Rattle.std.specs.Prelude.{◌≡◌, ◌↔◌, IsTrue, MatchOption};
 ghost use Rattle.std.specs.List.{position};
-ghost use Rattle.aprs_log.specs.Fields.{EndsMoment, EndsNoMoment, HasSpace, TakesMoment, TakesName, TakesNoMoment, TakesNoName, ends_name};
+ghost use Rattle.aprs_log.specs.Fields as Spec;
 
 use crate::moment::civil::{MILLIS_LEN, SECONDS_LEN};
 use crate::moment::clock::Clock;
@@ -11,8 +11,8 @@ use crate::{Moment, Receiver};
 
 /// The moment that a line begins with, and what stands after it and a space.
 pub fn first_moment<'a>(clock: &mut Clock, line: &'a [u8]) -> Option<(Moment, &'a [u8])>
-    ensures { MatchOption result (TakesNoMoment line.now)
-        (λ found. TakesMoment line.now found.0 found.1.now) }
+    ensures { MatchOption result (Spec.TakesNoMoment line.now)
+        (λ found. Spec.TakesMoment line.now found.0 found.1.now) }
 {
     let len = moment_len(line)?;
     let moment = clock.parse(&line[..len])?;
@@ -22,7 +22,7 @@ pub fn first_moment<'a>(clock: &mut Clock, line: &'a [u8]) -> Option<(Moment, &'
 /// How many bytes the moment at the beginning of a line has, if there is one. The space after it
 /// tells.
 fn moment_len(line: &[u8]) -> Option<usize>
-    ensures { MatchOption result (EndsNoMoment line.now) (EndsMoment line.now) }
+    ensures { MatchOption result (Spec.EndsNoMoment line.now) (Spec.EndsMoment line.now) }
 {
     if has_space(line, SECONDS_LEN) {
         Some(SECONDS_LEN)
@@ -35,8 +35,8 @@ fn moment_len(line: &[u8]) -> Option<usize>
 
 /// The receiver whose name a text begins with, and what stands after it and a space.
 pub fn take_receiver(text: &[u8]) -> Option<(Receiver, &[u8])>
-    ensures { MatchOption result (TakesNoName text.now)
-        (λ found. TakesName text.now found.0 found.1.now) }
+    ensures { MatchOption result (Spec.TakesNoName text.now)
+        (λ found. Spec.TakesName text.now found.0 found.1.now) }
 {
     let len = name_end(text)?;
     if len == 0 || len > MAX_NAME || text[len] != b' ' {
@@ -47,14 +47,14 @@ pub fn take_receiver(text: &[u8]) -> Option<(Receiver, &[u8])>
 
 /// Where the first byte stands that no name has.
 fn name_end(text: &[u8]) -> Option<usize>
-    ensures { result ≡ position ends_name text.now }
+    ensures { result ≡ position Spec.ends_name text.now }
 {
     text.iter().position(|byte| !is_name_byte(*byte))
 }
 
 /// Whether a space stands at a place.
 fn has_space(text: &[u8], at: usize) -> bool
-    ensures { IsTrue result ↔ HasSpace text.now at }
+    ensures { IsTrue result ↔ Spec.HasSpace text.now at }
 {
     text.get(at) == Some(&b' ')
 }

@@ -15,6 +15,7 @@ pub fn day_number(year: u16, month: u8, day: u8) -> Option<u32>
     requires high { year ≤ 2099 }
     requires month { month < 100 }
     requires day { day < 100 }
+
     ensures { MatchOption result (IsDay year month day → ⊥)
         (λ n. IsDay year month day × (pos n ≡ days_from_civil (pos year) month day) × (n < 47482)) }
 {

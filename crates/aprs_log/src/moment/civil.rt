@@ -1,7 +1,7 @@
 //! Dates of the civil calendar with a time of the day.
-ghost use Rattle.std.specs.Prelude.{◌≡◌, ◌≤◌, ◌<◌, ◌+◌, ◌*◌, ◌/◌, ◌%◌, ◌∷◌, ◌++◌, [], length, pos, SomeIff, IfSome};
+ghost use Rattle.std.specs.Prelude.{◌≡◌, ◌≤◌, ◌<◌, ◌+◌, ◌*◌, ◌/◌, ◌%◌, length, SomeIff, IfSome};
 ghost use Rattle.aprs_log.specs.CivilMoment.{IsCivil};
-ghost use Rattle.aprs_log.specs.MomentReading.{Civil, civil_text, is_time, second_of_day, seconds_of};
+ghost use Rattle.aprs_log.specs.MomentReading as Spec;
 ghost use Rattle.aprs_log.specs.Sizes.{last_second, seconds_size};
 ghost use Rattle.aprs_log.specs.Places.{near_civil, near_digit, near_millis, near_pair};
 
@@ -27,7 +27,7 @@ pub struct CivilTime {
 }
 
 impl Model for CivilTime {
-    ghost Value = { Civil };
+    ghost Value = { Spec.Civil };
 
     ghost view = { λ c. record {
       year = c.year;
@@ -55,7 +55,7 @@ impl CivilTime {
     /// The date and time of a text, and its milliseconds, where the bytes are in the form.
     pub fn parse(form: MomentForm, text: &[u8]) -> Option<(CivilTime, u16)>
         ensures { SomeIff result
-            (civil_text form (near_civil text.now) (near_millis form text.now) ≡ text.now)
+            (Spec.civil_text form (near_civil text.now) (near_millis form text.now) ≡ text.now)
             (near_civil text.now, near_millis form text.now) }
     {
         match form {
@@ -66,7 +66,8 @@ impl CivilTime {
 
     /// The same of a text as `2024-05-01T12:00:00Z`.
     fn parse_short(text: &[u8]) -> Option<(CivilTime, u16)>
-        ensures { SomeIff result (civil_text MomentForm.Seconds (near_civil text.now) 0 ≡ text.now)
+        ensures { SomeIff result
+            (Spec.civil_text MomentForm.Seconds (near_civil text.now) 0 ≡ text.now)
             (near_civil text.now, 0) }
     {
         if text.len() != SECONDS_LEN {
@@ -82,7 +83,7 @@ impl CivilTime {
 
     /// The same of a text as `2024-05-01T12:00:00.000Z`.
     fn parse_long(text: &[u8]) -> Option<(CivilTime, u16)>
-        ensures { SomeIff result (civil_text MomentForm.Millis (near_civil text.now)
+        ensures { SomeIff result (Spec.civil_text MomentForm.Millis (near_civil text.now)
             (near_millis MomentForm.Millis text.now) ≡ text.now)
             (near_civil text.now, near_millis MomentForm.Millis text.now) }
     {
@@ -117,7 +118,7 @@ impl CivilTime {
     pub fn from_seconds(seconds: u64) -> CivilTime
         requires { seconds ≤ last_second }
         ensures real { IsCivil result }
-        ensures number { seconds_of result ≡ seconds }
+        ensures number { Spec.seconds_of result ≡ seconds }
     {
         let second = (seconds % 86_400) as u32;
         let (year, month, day) = date_of((seconds / 86_400) as u32);
@@ -133,7 +134,7 @@ impl CivilTime {
 
     /// The seconds from 1970-01-01T00:00:00Z to this time, where the calendar and the day have it.
     pub fn seconds(&self) -> Option<u64>
-        ensures value { SomeIff result (IsCivil self.now) (seconds_of self.now) }
+        ensures value { SomeIff result (IsCivil self.now) (Spec.seconds_of self.now) }
         ensures bound { IfSome result (λ n. n ≤ last_second) }
     {
         if self.year < 1970 || self.year > 2099 || !self.is_time() {
@@ -147,13 +148,13 @@ impl CivilTime {
 
     /// Whether a day has this hour, minute and second.
     fn is_time(&self) -> bool
-        ensures { result ≡ is_time self.now }
+        ensures { result ≡ Spec.is_time self.now }
     {
         self.hour < 24 && self.minute < 60 && self.second < 60
     }
 
     fn second_of_day(&self) -> u32
-        ensures value { result ≡ second_of_day self.now }
+        ensures value { result ≡ Spec.second_of_day self.now }
         ensures bound { result < 363000 }
     {
         u32::from(self.hour) * 3600 + u32::from(self.minute) * 60 + u32::from(self.second)
@@ -161,7 +162,7 @@ impl CivilTime {
 
     /// The text to the second, as `2024-05-01T12:00:00Z`.
     fn short_text(&self) -> [u8; SECONDS_LEN]
-        ensures { result ≡ civil_text MomentForm.Seconds self.now 0 }
+        ensures { result ≡ Spec.civil_text MomentForm.Seconds self.now 0 }
     {
         let century = (self.year / 100) as u8;
         let year = (self.year % 100) as u8;
@@ -192,7 +193,7 @@ impl CivilTime {
     /// The text to the millisecond, as `2024-05-01T12:00:00.000Z`.
     pub fn text(&self, millis: u16) -> [u8; MILLIS_LEN]
         requires { millis < 1000 }
-        ensures { result ≡ civil_text MomentForm.Millis self.now millis }
+        ensures { result ≡ Spec.civil_text MomentForm.Millis self.now millis }
     {
         let mut text = [b'Z'; MILLIS_LEN];
         text[..19].copy_from_slice(&self.short_text()[..19]);

@@ -3,8 +3,8 @@ ghost use Rattle.std.specs.Prelude.{◌≡◌, ◌⊎◌, ◌↔◌, ℕ, ◌≤
 ghost use Rattle.std.specs.Bool.{OnTrue};
 ghost use Rattle.std.specs.Int.{w64, to_le_bytes};
 ghost use Rattle.aprs_log.specs.declared.moment_form.MomentForm.{MomentForm};
-ghost use Rattle.aprs_log.specs.Clock.{FractionText, form_of_end, SecondText, midnight_text};
-ghost use Rattle.aprs_log.specs.Sizes.{millis_size, seconds_size};
+ghost use Rattle.aprs_log.specs.Clock as Spec;
+ghost use Rattle.aprs_log.specs.Sizes.{seconds_size};
 ghost use Rattle.aprs_log.specs.Moment.{IsWritable, moment_text_in, two_digits};
 ghost use Rattle.aprs_log.specs.MomentReading.{moment_in, moment_of};
 
@@ -26,7 +26,7 @@ pub const MILLIS_A_DAY: u64 = 86_400_000;
 pub struct Clock {
     date: [u8; DATE_LEN],
     midnight: Moment,
-    ghost reads: { moment_in MomentForm.Seconds (date ++ midnight_text) ≡ Some midnight },
+    ghost reads: { moment_in MomentForm.Seconds (date ++ Spec.midnight_text) ≡ Some midnight },
 }
 
 impl Clock {
@@ -52,18 +52,18 @@ impl Clock {
 
     /// The moment of a text, as `Moment::parse`. Keeps its date.
     pub(crate) fn parse(&mut self, text: &[u8]) -> Option<Moment>
-        requires { (length text.now ≡ seconds_size) ⊎ (length text.now ≡ millis_size) }
+        requires { (length text.now ≡ seconds_size) ⊎ (length text.now ≡ Spec.millis_size) }
         ensures { result ≡ moment_of text.now }
     {
         match self.parse_same_day(text) {
             Some(moment) => Some(moment),
-            None => self.parse_anew(text),
+            None => self.parse_and_keep_date(text),
         }
     }
 
     /// The same, where the text has the date that is kept.
     fn parse_same_day(&self, text: &[u8]) -> Option<Moment>
-        requires { (length text.now ≡ seconds_size) ⊎ (length text.now ≡ millis_size) }
+        requires { (length text.now ≡ seconds_size) ⊎ (length text.now ≡ Spec.millis_size) }
         ensures { IfSome result (λ m. moment_of text.now ≡ Some m) }
     {
         if !has_date(text, &self.date) {
@@ -76,11 +76,11 @@ impl Clock {
         Moment::from_millis(self.midnight.millis() + u64::from(second) * 1000 + u64::from(milli))
     }
 
-    /// The same, whatever the date is.
+    /// The same of any date, which it then keeps.
     #[cold]
     #[inline(never)]
-    fn parse_anew(&mut self, text: &[u8]) -> Option<Moment>
-        requires { (length text.now ≡ seconds_size) ⊎ (length text.now ≡ millis_size) }
+    fn parse_and_keep_date(&mut self, text: &[u8]) -> Option<Moment>
+        requires { (length text.now ≡ seconds_size) ⊎ (length text.now ≡ Spec.millis_size) }
         ensures { result ≡ moment_of text.now }
     {
         let moment = Moment::parse(text)?;
@@ -117,9 +117,9 @@ fn word_at(bytes: &[u8], place: usize) -> u64
 /// The second of the day of a text as `12:00:00`, where it is one.
 fn second_of_text(text: &[u8]) -> Option<u32>
     requires { length text.now ≡ TIME_LEN }
-    ensures { IfSome result (λ n. SecondText n text.now) }
+    ensures { IfSome result (λ n. Spec.SecondText n text.now) }
 {
-    let (hour, minute, second) = (digits_at(text, 0), digits_at(text, 3), digits_at(text, 6));
+    let (hour, minute, second) = (number_at(text, 0), number_at(text, 3), number_at(text, 6));
     let is_marked = text[2] == b':' && text[5] == b':';
     if hour < 24 && minute < 60 && second < 60 && is_marked {
         Some(u32::from(hour) * 3600 + u32::from(minute) * 60 + u32::from(second))
@@ -131,13 +131,13 @@ fn second_of_text(text: &[u8]) -> Option<u32>
 /// The millisecond of a second of the end of a text, `Z` or as `.000Z`, where it is one.
 fn milli_of_text(text: &[u8]) -> Option<u32>
     requires { (length text.now ≡ 1) ⊎ (length text.now ≡ 5) }
-    ensures { IfSome result (λ n. FractionText (form_of_end text.now) n text.now) }
+    ensures { IfSome result (λ n. Spec.FractionText (Spec.form_of_end text.now) n text.now) }
 {
     if text.len() == 1 {
         return if text[0] == b'Z' { Some(0) } else { None };
     }
     let hundreds = text[1].wrapping_sub(b'0');
-    let rest = digits_at(text, 2);
+    let rest = number_at(text, 2);
     if text[0] == b'.' && hundreds < 10 && rest < 100 && text[4] == b'Z' {
         Some(u32::from(hundreds) * 100 + u32::from(rest))
     } else {
@@ -146,7 +146,7 @@ fn milli_of_text(text: &[u8]) -> Option<u32>
 }
 
 /// The number whose two digits stand at `i`, and 255 where none do.
-fn digits_at(text: &[u8], i: usize) -> u8
+fn number_at(text: &[u8], i: usize) -> u8
     requires { i + 1 < length text.now }
     ensures { result < 100
         → two_digits result ≡ slice_index text.now i ∷ slice_index text.now (i + 1) ∷ [] }

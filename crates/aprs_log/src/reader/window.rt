@@ -1,5 +1,5 @@
 //! Bytes that were read and are not yet taken.
-ghost use Rattle.std.specs.Prelude.{◌≤◌};
+ghost use Rattle.std.specs.Prelude.{◌≡◌, ◌<◌, ◌≤◌, ℕ, List, ◌++◌, length, drop, IfOk, IfErr};
 ghost use Rattle.aprs_log.specs.Sizes.{most_line};
 ghost use Rattle.aprs_log.specs.declared.reader.window.TheConstants.{WINDOW_SIZE};
 
@@ -20,7 +20,6 @@ pub struct Window {
 }
 
 impl Window {
-    ghost use Rattle.std.specs.Prelude.{◌≡◌, ◌<◌, ◌≤◌, ℕ, List, ◌++◌, length, drop, IfOk, IfErr};
     ghost use Rattle.std.specs.Io.KnownBytes.{Consumes};
     ghost use Rattle.aprs_io.specs.Device.{Calls, device_of};
     ghost use Rattle.aprs_io.specs.Input.{EndsHere, last_got};
@@ -60,14 +59,17 @@ impl Window {
     /// or returns how the input ends.
     pub fn read_more<R: Read>(&mut self, source: &mut Counted<R>, left: u64) -> Result<u64, Ending>
         requires { length (items self.old) ≤ most_line }
+
         ensures some { IfOk result (λ n. (0 < n) × (n ≤ left)) }
         ensures more { IfOk result (λ n. (more : List ℕ) × (length more ≡ n)
             × (items self.new ≡ items self.old ++ more)
             × Consumes (R.remaining (device_of source.old)) (R.remaining (device_of source.new))
             more) }
+
         ensures end { IfErr result (λ ending. (items self.new ≡ items self.old)
             × EndsHere ending left (R.remaining (device_of source.old))
             (R.remaining (device_of source.new))) }
+
         ensures calls { Calls (last_got result) source.old source.new }
     {
         self.move_to_front();

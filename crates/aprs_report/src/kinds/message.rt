@@ -6,8 +6,7 @@ ghost use Rattle.std.specs.List.{list_all};
 ghost use Rattle.aprs_report.specs.Bytes.{is_alphanumeric};
 ghost use Rattle.aprs_report.specs.Message.{is_id};
 ghost use Rattle.aprs_report.specs.Reading.{view};
-ghost use Rattle.aprs_report.specs.Reader.{addressee_and_part_of, answer_at, id_at, text_and_id_of};
-ghost use Rattle.aprs_report.specs.Reader.{part_of, message_of};
+ghost use Rattle.aprs_report.specs.Reader as Spec;
 
 use crate::bytes::{Trailing, chunk, is_alphanumeric_byte};
 use crate::name::name_in;
@@ -30,7 +29,7 @@ fn can_be_id(bytes: &[u8]) -> bool
 /// The id after `ack` or `rej`.
 #[tactic(auto, unfolding(crate::specs::Reader::answer_at))]
 fn answer(word: [u8; 3], part: &[u8]) -> Option<&[u8]>
-    ensures { option_map (λ x. x.now) result ≡ answer_at word part.now }
+    ensures { option_map (λ x. x.now) result ≡ Spec.answer_at word part.now }
 {
     let [a, b, c] = word;
     match part {
@@ -41,7 +40,7 @@ fn answer(word: [u8; 3], part: &[u8]) -> Option<&[u8]>
 
 /// The id after a brace.
 fn id_after_brace(bytes: &[u8]) -> Option<&[u8]>
-    ensures { option_map (λ x. x.now) result ≡ id_at bytes.now }
+    ensures { option_map (λ x. x.now) result ≡ Spec.id_at bytes.now }
 {
     match bytes {
         [b'{', id @ ..] if can_be_id(id) => Some(id),
@@ -52,7 +51,7 @@ fn id_after_brace(bytes: &[u8]) -> Option<&[u8]>
 /// The text before a brace and an id, and the id. No id has a brace, so this one is the last, and
 /// one of the last six bytes, since an id has at most five.
 fn text_and_id(part: &[u8]) -> Option<(&[u8], &[u8])>
-    ensures { option_map (λ x. (x.0.now, x.1.now)) result ≡ text_and_id_of part.now }
+    ensures { option_map (λ x. (x.0.now, x.1.now)) result ≡ Spec.text_and_id_of part.now }
 {
     for i in part.len().saturating_sub(6)..part.len() {
         match id_after_brace(&part[i..]) {
@@ -65,7 +64,7 @@ fn text_and_id(part: &[u8]) -> Option<(&[u8], &[u8])>
 
 /// What the part after the addressee says.
 fn part_to<'a>(addressee: &'a [u8], part: &'a [u8]) -> Report<'a>
-    ensures { view result ≡ part_of addressee.now part.now }
+    ensures { view result ≡ Spec.part_of addressee.now part.now }
 {
     if let Some(id) = answer(*b"ack", part) {
         return Report::Ack { addressee, id };
@@ -90,7 +89,7 @@ fn part_to<'a>(addressee: &'a [u8], part: &'a [u8]) -> Report<'a>
 /// The addressee and the part, without the line's end.
 #[tactic(auto, unfolding(crate::specs::Reader::addressee_and_part_of))]
 fn addressee_and_part(bytes: &[u8]) -> Option<(&[u8], &[u8])>
-    ensures { option_map (λ x. (x.0.now, x.1.now)) result ≡ addressee_and_part_of bytes.now }
+    ensures { option_map (λ x. (x.0.now, x.1.now)) result ≡ Spec.addressee_and_part_of bytes.now }
 {
     let (field, rest) = chunk::<9>(bytes)?;
     let addressee = name_in(field)?;
@@ -103,7 +102,7 @@ fn addressee_and_part(bytes: &[u8]) -> Option<(&[u8], &[u8])>
 /// A message or its answer, from the bytes after the first.
 #[tactic(auto, unfolding(crate::specs::Reader::message_of))]
 pub fn message(bytes: &[u8]) -> Option<Report<'_>>
-    ensures { option_map view result ≡ message_of bytes.now }
+    ensures { option_map view result ≡ Spec.message_of bytes.now }
 {
     let (addressee, part) = addressee_and_part(bytes)?;
     Some(part_to(addressee, part))

@@ -2,7 +2,7 @@
 
 ghost use Rattle.std.specs.Prelude.{◌≡◌, ◌<◌, ◌≤◌, ◌^◌, length, nat_lt, IfSome};
 ghost use Rattle.std.specs.List.{list_all};
-ghost use Rattle.aprs_report.specs.Reader.{value_when, ambiguity_of, minutes_of, half_of, angle_of};
+ghost use Rattle.aprs_report.specs.Reader as Spec;
 ghost use Rattle.aprs_report.specs.Coordinate.{per_degree};
 
 use crate::bytes::{Trailing, is_digit_byte};
@@ -62,7 +62,7 @@ impl Axis {
 
     /// Whether a letter names the negative half.
     fn half(self, letter: u8) -> Option<bool>
-        ensures { result ≡ half_of self letter }
+        ensures { result ≡ Spec.half_of self letter }
     {
         if letter == self.letter(true) {
             Some(true)
@@ -76,7 +76,7 @@ impl Axis {
 
 /// How many of the minutes' four digits are left out, counted from the right: 0 to 4.
 pub fn ambiguity(text: &[u8; 6]) -> u8
-    ensures exact { result ≡ ambiguity_of text.now }
+    ensures exact { result ≡ Spec.ambiguity_of text.now }
     ensures small { result ≤ 4 }
 {
     let [tens, units, _, tenths, hundredths, _] = *text;
@@ -101,7 +101,7 @@ fn power_of_ten(exponent: u8) -> u64
 
 /// The minutes, where they are less than a degree.
 fn within_degree(minutes: u64) -> Option<u64>
-    ensures exact { result ≡ value_when (nat_lt minutes per_degree) minutes }
+    ensures exact { result ≡ Spec.value_when (nat_lt minutes per_degree) minutes }
     ensures small { IfSome result (λ n. n < per_degree) }
 {
     if minutes < PER_DEGREE {
@@ -116,7 +116,7 @@ fn within_degree(minutes: u64) -> Option<u64>
 #[tactic(auto, unfolding(crate::specs::Reader::minutes_of))]
 fn minutes(axis: Axis, ambiguity: u8, places: &[u8; 4]) -> Option<u64>
     requires { ambiguity ≤ 4 }
-    ensures exact { result ≡ minutes_of axis ambiguity places.now }
+    ensures exact { result ≡ Spec.minutes_of axis ambiguity places.now }
     ensures small { IfSome result (λ n. n < per_degree) }
 {
     if ambiguity == 0 {
@@ -136,7 +136,7 @@ fn minutes(axis: Axis, ambiguity: u8, places: &[u8; 4]) -> Option<u64>
 pub fn angle(axis: Axis, ambiguity: u8, degrees: &[u8], text: &[u8; 6]) -> Option<i32>
     requires places { ambiguity ≤ 4 }
     requires digits { length degrees.now ≤ 3 }
-    ensures { result ≡ angle_of axis ambiguity degrees.now text.now }
+    ensures { result ≡ Spec.angle_of axis ambiguity degrees.now text.now }
 {
     let [tens, units, point, tenths, hundredths, letter] = *text;
     let degrees = numeral(10, b'0', degrees)? as u64;

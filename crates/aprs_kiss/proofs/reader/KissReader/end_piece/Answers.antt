@@ -1,6 +1,6 @@
 use Rattle.std.proofs.Common.{◌≡◌, ◌∙◌, ◌∷◌, [], ap, sym, refl, subst, length, Some, arith}
 use Rattle.aprs_kiss.specs.Judgement.{Judgement, data_frame_of}
-use Rattle.aprs_kiss.specs.Reader.{judgements_of_outcome}
+use Rattle.aprs_kiss.specs.ReaderSteps.{judgements_of_outcome}
 use Rattle.aprs_kiss.proofs.Pieces.{HasNoEnd-nil}
 use Rattle.aprs_kiss.proofs.Holding.{HoldsAfter-in, judgement_of-plain, judgement_of-long, judgement_of-broken}
 use Rattle.aprs_kiss.proofs.reader.KissReader.end_piece.Goals as goal

@@ -1,5 +1,5 @@
 use Rattle.std.proofs.Common.{◌∙◌, sym, arith, length-take, ℕ}
-use Rattle.aprs_report.specs.Trailing.{is_end}
+use Rattle.aprs_report.specs.TrailingBytes.{is_end}
 use Rattle.aprs_report.proofs.Cuts.{cut_one, cut_none, cut_nothing}
 use Rattle.aprs_report.proofs.bytes.Trailing.cut.Goals as goal
 

@@ -1,5 +1,5 @@
 use Rattle.std.proofs.Common.{◌≡◌, ◌≤◌, length}
-use Rattle.aprs_report.specs.Trailing.{is_end}
+use Rattle.aprs_report.specs.TrailingBytes.{is_end}
 use Rattle.aprs_report.specs.Reader.{cut_end}
 use Rattle.aprs_report.proofs.bytes.Trailing.cut.Given as goal
 

@@ -1,0 +1,17 @@
+-- What a step of reading an input returns at the limit. No public clause cites this module.
+use Rattle.std.specs.Prelude.{◌≡◌, ℕ, ◌+◌, ◌≤◌, List, Option}
+use Rattle.aprs_io.specs.Device.{Calls, most_failures}
+use Rattle.aprs_io.specs.Input.{EndsHere, TakesOne, last_of_ending}
+use Rattle.aprs_io.specs.declared.device.Counted.{Counted}
+use Rattle.aprs_io.specs.declared.input.Ending.{Ending}
+use Rattle.aprs_io.specs.declared.input.Ending.TheVariants as ending
+
+-- The input ends in this way, under a limit of so many bytes more. Where it is too long, one byte
+-- more was taken of the device. Whoever asks again after the end, or after a fault, has the counts
+-- of answers show it.
+pub record EndsInput {R : Type 0} (remaining : R → Option (List ℕ)) (way : Ending) (left : ℕ)
+    (old new : Counted R) : Type 0 where
+  pub end : EndsHere way left (remaining old.device) (remaining new.device)
+  pub over : way ≡ ending.TooLong → TakesOne (remaining old.device) (remaining new.device)
+  pub calls : Calls (last_of_ending way) old new
+  pub tries : new.failed ≤ old.failed + most_failures (last_of_ending way) 1

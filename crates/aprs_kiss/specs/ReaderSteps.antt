@@ -1,0 +1,24 @@
+-- What the steps of a KISS reader return. No public clause cites this module.
+use Rattle.std.specs.Prelude.{ℕ, List, [], ◌∷◌, drop, Option, None, Some, Result, Ok, Err}
+use Rattle.aprs_kiss.specs.Judgement.{Judgement}
+use Rattle.aprs_kiss.specs.declared.fault.PassFault.{PassFault}
+use Rattle.aprs_kiss.specs.declared.reader.State.{State}
+use Rattle.aprs_kiss.specs.declared.reader.State.TheVariants.{Escape, LongEscape}
+
+-- The judgement that an outcome reports, where the buffer holds a frame after its type byte.
+abbrev pub judgements_of_outcome : Option (Result ℕ PassFault) → List ℕ → List Judgement
+judgements_of_outcome None held = []
+judgements_of_outcome (Some (Ok port)) held = Ok (record { port = port; bytes = drop 1 held }) ∷ []
+judgements_of_outcome (Some (Err fault)) held = Err fault ∷ []
+
+-- An escape has begun.
+abbrev pub IsOpen : State → Type 0
+IsOpen Escape = Unit {0}
+IsOpen LongEscape = Unit {0}
+IsOpen _ = ⊥
+
+-- No escape has begun.
+abbrev pub IsClosed : State → Type 0
+IsClosed Escape = ⊥
+IsClosed LongEscape = ⊥
+IsClosed _ = Unit {0}

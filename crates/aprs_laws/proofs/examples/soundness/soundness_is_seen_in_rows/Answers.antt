@@ -1,0 +1,28 @@
+use Rattle.std.proofs.Common.{[], ◌∷◌, inl, inr, refl, arith}
+use Rattle.aprs_laws.specs.Examples.{rx1, rx2, hi_frame, heard, row_of, early_row, late_row, close_row, far_pair}
+use Rattle.aprs_laws.proofs.Soundness.{sound}
+use Rattle.aprs_laws.proofs.Pushes.{next_of_sound}
+use Rattle.aprs_laws.proofs.Worked.{same_key, far_book}
+use Rattle.aprs_laws.proofs.examples.soundness.soundness_is_seen_in_rows.Goals as goal
+
+pub returns-clause-misses_greatest : goal.returns-clause-misses_greatest
+returns-clause-misses_greatest c = λ w. let h =
+    (w.each (row_of 1 (rx1 ∷ rx2 ∷ []) (heard 1 rx1 hi_frame)) (inl refl)).single refl rx2
+    (inr (inl refl)) in cc h
+
+pub returns-clause-misses_apart : goal.returns-clause-misses_apart
+returns-clause-misses_apart c = λ w. let h = w.apart.0 close_row (inl refl) same_key in
+    omega (arith, h)
+
+pub returns-clause-misses_receivers : goal.returns-clause-misses_receivers
+returns-clause-misses_receivers c = λ w. let h =
+    (w.each (row_of 0 (rx2 ∷ rx1 ∷ []) (heard 1 rx1 hi_frame)) (inl refl)).ascending.0 rx1
+    (inl refl) in cc h
+
+pub returns-clause-next : goal.returns-clause-next
+returns-clause-next c = next_of_sound 30000 (early_row ∷ []) late_row
+    (sound 30000 far_pair (early_row ∷ late_row ∷ []) far_book)
+
+pub returns-clause-misses_near_next : goal.returns-clause-misses_near_next
+returns-clause-misses_near_next c = λ n. let h = n.after.1 same_key in
+    omega (arith, h)

@@ -1,0 +1,87 @@
+use Rattle.std.proofs.Common.{◌≡◌, ℕ, List, [], ◌∷◌, inl, inr, refl, sym, ap, ◌∙◌, arith}
+use Rattle.std.specs.Ordering.{is_gt}
+use Rattle.aprs_log.specs.Reception.{Heard}
+use Rattle.aprs_laws.specs.Order.{IsUpTo}
+use Rattle.aprs_laws.specs.Key.{key_of, key_cmp}
+use Rattle.aprs_laws.specs.Row.{Row, row_cmp}
+use Rattle.aprs_laws.specs.Examples.{half_minute, by_rx1, early, early_row, late_row, row_at}
+use Rattle.aprs_laws.specs.JoinRow.{coalesced_rows}
+use Rattle.aprs_laws.specs.Coalescing.{append_row}
+use Rattle.aprs_laws.proofs.Coalescing.{singles_stand}
+use Rattle.aprs_laws.proofs.examples.steps.rows_in_order_are_one_book.Goals as goal
+
+-- the first moments of rows
+abbrev firsts : List Row → List ℕ
+firsts [] = []
+firsts (x ∷ xs) = x.first ∷ firsts xs
+
+-- the first of them
+abbrev least : List ℕ → ℕ
+least [] = 0
+least (n ∷ ns) = n
+
+-- the second
+abbrev next : List ℕ → ℕ
+next [] = 0
+next (n ∷ ns) = least ns
+
+pub returns-clause-in_order : goal.returns-clause-in_order
+unfolding key_of key_cmp
+returns-clause-in_order c = (
+  λ y h. elim h [
+    | inl e ↦ ends early_row (row_at 0) y e refl
+    | inr k ↦ elim k [ inl e ↦ ends early_row late_row y e refl | inr j ↦ absurd j ]
+  ],
+  (
+    λ y h. elim h [ inl e ↦ ends (row_at 0) late_row y e refl | inr j ↦ absurd j ],
+    (λ y h. absurd h, tt),
+  ),
+) where
+  ends : (x z y : Row) → z ≡ y → IsUpTo row_cmp x z → IsUpTo row_cmp x y
+  ends x z y e u = ap (λ (w : Row). is_gt (row_cmp x w)) (sym e) ∙ u
+
+pub returns-clause-misses_later_first : goal.returns-clause-misses_later_first
+unfolding key_of key_cmp
+returns-clause-misses_later_first c = λ o. let h = o.0 early_row (inl refl) in cc h
+
+pub returns-clause-inside : goal.returns-clause-inside
+unfolding key_of key_cmp
+returns-clause-inside c = refl
+
+pub returns-clause-tied : goal.returns-clause-tied
+unfolding key_of key_cmp
+returns-clause-tied c = refl
+
+-- what comes of two rows in the other order
+turned : coalesced_rows half_minute (row_at 30001 ∷ row_at 0 ∷ []) ≡ row_at 30001 ∷ row_at 0 ∷ []
+unfolding key_of key_cmp
+turned = refl
+
+pub returns-clause-misses_order : goal.returns-clause-misses_order
+returns-clause-misses_order c = λ e.
+    let n : 30001 ≡ 0 = ap (λ (rows : List Row). least (firsts rows)) (sym turned ∙ e) in
+    omega (arith, n)
+
+pub returns-clause-appended : goal.returns-clause-appended
+unfolding key_of key_cmp
+returns-clause-appended c = refl
+
+-- what comes of a row between two others, put after them
+late : append_row half_minute (row_at 0 ∷ row_at 60001 ∷ []) (row_at 30000)
+    ≡ row_at 0 ∷ row_at 60001 ∷ row_at 30000 ∷ []
+unfolding key_of key_cmp
+late = refl
+
+pub returns-clause-misses_bridge : goal.returns-clause-misses_bridge
+returns-clause-misses_bridge c = λ e.
+    let n : 60001 ≡ 30000 = ap (λ (rows : List Row). next (firsts rows)) (sym late ∙ e) in
+    omega (arith, n)
+
+pub returns-clause-stands : goal.returns-clause-stands
+returns-clause-stands c = singles_stand (early ∷ [])
+
+pub returns-clause-misses_witness : goal.returns-clause-misses_witness
+returns-clause-misses_witness c = λ f. elim ((f.members (by_rx1 0)).0 (inl refl)) [
+  | inl e ↦ let n : 1 ≡ 0 = ap (λ (s : Heard). s.moment) e in omega (arith, n)
+  | inr k ↦ k
+]

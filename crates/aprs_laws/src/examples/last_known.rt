@@ -1,0 +1,13 @@
+//! Worked examples of what is last known, and near misses.
+ghost use Rattle.std.specs.Prelude.{◌≡◌, Some, None};
+ghost use Rattle.aprs_laws.specs.Best.{IsBest, LastKnown, known_of};
+ghost use Rattle.aprs_laws.specs.BestLaws.{Passes};
+ghost use Rattle.aprs_laws.specs.Examples.{any_key, by_rx1, early, far_pair};
+
+/// What comes last in a list is not what is last known.
+pub fn greatest_is_last_known()
+    ensures best { IsBest far_pair (Passes any_key) (by_rx1 30001) }
+    ensures plain { known_of any_key None far_pair ≡ Some (by_rx1 30001) }
+    ensures misses_last { IsBest far_pair (Passes any_key) early → ⊥ }
+    ensures misses_none { LastKnown far_pair (Passes any_key) None → ⊥ }
+{}

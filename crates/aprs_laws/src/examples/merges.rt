@@ -1,0 +1,20 @@
+//! Worked examples of merges between places, and near misses.
+ghost use Rattle.std.specs.Prelude.{◌≡◌, [], ◌∷◌};
+ghost use Rattle.aprs_laws.specs.Lists.{◌∈◌};
+ghost use Rattle.aprs_laws.specs.Taken.{sets_after, StepsFit};
+ghost use Rattle.aprs_laws.specs.StepLaws.{rows_after_steps};
+ghost use Rattle.aprs_laws.specs.Examples.{half_minute, hi_frame, rx1, rx2, heard, by_rx1, row_of, merge_then_take, back_and_forth};
+
+/// A merge takes what the other place has then, and not what comes there later.
+pub fn merges_take_what_is_there()
+    ensures taken { sets_after merge_then_take 1 ≡ by_rx1 0 ∷ [] }
+    ensures misses_later { by_rx1 30001 ∈ sets_after merge_then_take 1 → ⊥ }
+
+    ensures fits { StepsFit 2 back_and_forth }
+    ensures misses_place { StepsFit 1 back_and_forth → ⊥ }
+
+    ensures first_book { rows_after_steps half_minute back_and_forth (λ place. []) 0
+        ≡ row_of 0 (rx1 ∷ rx2 ∷ []) (heard 20 rx2 hi_frame) ∷ [] }
+    ensures second_book { rows_after_steps half_minute back_and_forth (λ place. []) 1
+        ≡ row_of 0 (rx1 ∷ rx2 ∷ []) (heard 20 rx2 hi_frame) ∷ [] }
+{}

@@ -1,0 +1,56 @@
+//! Worked examples of rows and of the book of a set, and near misses.
+ghost use Rattle.std.specs.Prelude.{◌≡◌, [], ◌∷◌};
+ghost use Rattle.aprs_laws.specs.Row.{IsOf, RowOf};
+ghost use Rattle.aprs_laws.specs.Book.{BookOf};
+ghost use Rattle.aprs_laws.specs.JoinRow.{plain_book};
+ghost use Rattle.aprs_laws.specs.Examples.{half_minute, hi_frame, hi_after_digipeater, hi_as_response, rx1, rx2, heard, by_rx1, early, row_of, row_at, row_to, near_pair, near_row, far_pair, early_row, late_row, tied_pair, tied_row};
+
+/// A row has its transmission's greatest reception, and all of its receivers.
+pub fn rows_are_whole()
+    ensures is_of { IsOf near_row early }
+    ensures misses_later { IsOf early_row (by_rx1 30001) → ⊥ }
+
+    ensures row { RowOf half_minute tied_pair tied_row }
+    ensures misses_greatest { RowOf half_minute tied_pair
+        (row_of 0 (rx1 ∷ rx2 ∷ []) (by_rx1 0)) → ⊥ }
+    ensures misses_receiver { RowOf half_minute tied_pair (row_of 0 (rx2 ∷ []) early) → ⊥ }
+{}
+
+/// A book has all rows of its set, in order.
+pub fn books_are_whole()
+    ensures book { BookOf half_minute far_pair (early_row ∷ late_row ∷ []) }
+    ensures misses_row { BookOf half_minute far_pair (early_row ∷ []) → ⊥ }
+    ensures misses_order { BookOf half_minute far_pair (late_row ∷ early_row ∷ []) → ⊥ }
+{}
+
+/// Neighbours 30 seconds apart are of one transmission, and 30,001 milliseconds apart of two.
+pub fn gaps_decide_rows()
+    ensures thirty_joins { plain_book half_minute near_pair ≡ near_row ∷ [] }
+    ensures thirty_one_does_not { plain_book half_minute far_pair ≡ early_row ∷ late_row ∷ [] }
+
+    ensures two_rows { plain_book half_minute (by_rx1 30001 ∷ by_rx1 60001 ∷ by_rx1 0 ∷ [])
+        ≡ row_at 0 ∷ row_to 30001 60001 ∷ [] }
+    ensures bridged { plain_book half_minute
+        (by_rx1 30000 ∷ by_rx1 30001 ∷ by_rx1 60001 ∷ by_rx1 0 ∷ [])
+        ≡ row_to 0 60001 ∷ [] }
+    ensures inside { plain_book half_minute
+        (by_rx1 40000 ∷ by_rx1 30000 ∷ by_rx1 30001 ∷ by_rx1 60001 ∷ by_rx1 0 ∷ [])
+        ≡ row_to 0 60001 ∷ [] }
+{}
+
+/// Of receptions at one moment the greater receiver is greatest, and of one receiver's the greater
+/// frame, in whatever order they come.
+pub fn ties_go_by_receiver_then_frame()
+    ensures frame { plain_book half_minute (heard 0 rx1 hi_after_digipeater ∷ by_rx1 0 ∷ [])
+        ≡ row_at 0 ∷ [] }
+    ensures frame_turned { plain_book half_minute (by_rx1 0 ∷ heard 0 rx1 hi_after_digipeater ∷ [])
+        ≡ row_at 0 ∷ [] }
+    ensures receiver { plain_book half_minute tied_pair ≡ tied_row ∷ [] }
+{}
+
+/// Receivers stand in ascending order, each once.
+pub fn receivers_ascend()
+    ensures { plain_book half_minute
+        (heard 10 rx2 hi_frame ∷ heard 5 rx1 hi_as_response ∷ early ∷ [])
+        ≡ row_of 0 (rx1 ∷ rx2 ∷ []) (heard 10 rx2 hi_frame) ∷ [] }
+{}

@@ -1,0 +1,25 @@
+//! Worked examples of sound rows and their witnesses, and near misses.
+ghost use Rattle.std.specs.Prelude.{◌≡◌, [], ◌∷◌};
+ghost use Rattle.aprs_laws.specs.Lists.{◌∈◌};
+ghost use Rattle.aprs_laws.specs.Sound.{Sound, IsNext};
+ghost use Rattle.aprs_laws.specs.Witnesses.{witnesses};
+ghost use Rattle.aprs_laws.specs.Examples.{half_minute, hi_frame, rx1, rx2, heard, by_rx1, row_of, early_row, late_row, close_row, short_row};
+
+/// Rows that no set has are not sound.
+pub fn soundness_is_seen_in_rows()
+    ensures sound { Sound half_minute (short_row ∷ []) }
+    ensures misses_greatest { Sound half_minute (row_of 1 (rx1 ∷ rx2 ∷ []) (by_rx1 1) ∷ []) → ⊥ }
+    ensures misses_apart { Sound half_minute (early_row ∷ close_row ∷ []) → ⊥ }
+    ensures misses_receivers { Sound half_minute (row_of 0 (rx2 ∷ rx1 ∷ []) (by_rx1 1) ∷ []) → ⊥ }
+
+    ensures next { IsNext half_minute (early_row ∷ []) late_row }
+    ensures misses_near_next { IsNext half_minute (early_row ∷ []) close_row → ⊥ }
+{}
+
+/// The witnesses of rows are only as many receptions as give these rows. Others that were heard are
+/// not among them.
+pub fn real_receptions_are_few()
+    ensures witnesses { witnesses (short_row ∷ [])
+        ≡ by_rx1 0 ∷ by_rx1 1 ∷ by_rx1 0 ∷ heard 0 rx2 hi_frame ∷ [] }
+    ensures misses_other { heard 1 rx2 hi_frame ∈ witnesses (short_row ∷ []) → ⊥ }
+{}

@@ -1,0 +1,52 @@
+//! Worked examples of the steps by which code makes a book, and near misses.
+ghost use Rattle.std.specs.Prelude.{◌≡◌, [], ◌∷◌};
+ghost use Rattle.aprs_laws.specs.JoinRow.{single, IsNear, coalesced_rows};
+ghost use Rattle.aprs_laws.specs.Coalescing.{AreInOrder, StandFor, append_row};
+ghost use Rattle.aprs_laws.specs.Inserted.{insert_heard, FitsInPlace};
+ghost use Rattle.aprs_laws.specs.Examples.{half_minute, hi_frame, rx2, heard, by_rx1, early, row_at, row_to, early_row, late_row, tied_row, short_row};
+
+/// Gaps decide in the same way where receptions are inserted one by one, as the code does it.
+pub fn gaps_decide_what_is_inserted()
+    ensures apart { insert_heard half_minute (by_rx1 60001) (row_at 0 ∷ [])
+        ≡ row_at 0 ∷ row_at 60001 ∷ [] }
+    ensures grown { insert_heard half_minute (by_rx1 30001) (row_at 0 ∷ row_at 60001 ∷ [])
+        ≡ row_at 0 ∷ row_to 30001 60001 ∷ [] }
+    ensures bridged { insert_heard half_minute (by_rx1 30000) (row_at 0 ∷ row_to 30001 60001 ∷ [])
+        ≡ row_to 0 60001 ∷ [] }
+    ensures inside { insert_heard half_minute (by_rx1 40000) (row_to 0 60001 ∷ [])
+        ≡ row_to 0 60001 ∷ [] }
+{}
+
+/// Rows are near up to the gap. A reception fits in place where one row alone is near and lists
+/// its receiver.
+pub fn rows_are_near_up_to_the_gap()
+    ensures near { IsNear half_minute early_row (single (by_rx1 30000)) }
+    ensures misses_far { IsNear half_minute early_row (single (by_rx1 30001)) → ⊥ }
+
+    ensures fits { FitsInPlace half_minute (early_row ∷ late_row ∷ []) (heard 0 rx2 hi_frame) }
+    ensures misses_receiver { FitsInPlace half_minute (early_row ∷ []) (by_rx1 10) → ⊥ }
+    ensures misses_two { FitsInPlace half_minute (early_row ∷ late_row ∷ [])
+        (heard 10 rx2 hi_frame) → ⊥ }
+{}
+
+/// Rows in order join the last so far or come after it, whatever book or log each is of. In another
+/// order that gives no book.
+pub fn rows_in_order_are_one_book()
+    ensures in_order { AreInOrder (early_row ∷ row_at 0 ∷ late_row ∷ []) }
+    ensures misses_later_first { AreInOrder (late_row ∷ early_row ∷ []) → ⊥ }
+
+    ensures inside { coalesced_rows half_minute
+        (row_to 0 60000 ∷ row_at 10 ∷ row_at 90000 ∷ row_at 120001 ∷ [])
+        ≡ row_to 0 90000 ∷ row_at 120001 ∷ [] }
+    ensures tied { coalesced_rows half_minute (early_row ∷ row_at 0 ∷ []) ≡ tied_row ∷ [] }
+    ensures misses_order { coalesced_rows half_minute (row_at 30001 ∷ row_at 0 ∷ [])
+        ≡ row_at 0 ∷ row_at 30001 ∷ [] → ⊥ }
+
+    ensures appended { append_row half_minute (row_at 0 ∷ row_at 60001 ∷ []) (row_at 90001)
+        ≡ row_at 0 ∷ row_to 60001 90001 ∷ [] }
+    ensures misses_bridge { append_row half_minute (row_at 0 ∷ row_at 60001 ∷ []) (row_at 30000)
+        ≡ row_at 0 ∷ row_at 30000 ∷ row_at 60001 ∷ [] → ⊥ }
+
+    ensures stands { StandFor (early_row ∷ []) (early ∷ []) }
+    ensures misses_witness { StandFor (short_row ∷ []) (by_rx1 1 ∷ []) → ⊥ }
+{}

@@ -1,0 +1,10 @@
+-- The bytes that a step of reading cuts off. No public clause cites this module.
+use Rattle.std.specs.Prelude.{ℕ, Bool}
+use Rattle.aprs_report.specs.declared.bytes.Trailing.{Trailing}
+use Rattle.aprs_report.specs.declared.bytes.Trailing.TheVariants.{Spaces, LineEnds}
+use Rattle.aprs_report.specs.Bytes.{is_space, is_line_end}
+
+-- The byte is one of these.
+abbrev pub is_end : Trailing → ℕ → Bool
+is_end Spaces b = is_space b
+is_end LineEnds b = is_line_end b
