@@ -3,7 +3,7 @@ ghost use Rattle.std.specs.Prelude.{◌≡◌, ◌↔◌, List, [], ◌∷◌, �
 ghost use Rattle.aprs_laws.specs.Key.{key_of};
 ghost use Rattle.aprs_laws.specs.Row.{Row, row_key, last_of};
 ghost use Rattle.aprs_book.specs.Messages.{message_in};
-ghost use Rattle.aprs_book.specs.MessageRows.{Answer, AreReplies, AreSpans, IsReply, answer_of, message_of};
+ghost use Rattle.aprs_book.specs.MessageRows as Spec;
 ghost use Rattle.aprs_book.specs.Exchange.{IsExchangeOf};
 
 use crate::Memory;
@@ -77,10 +77,10 @@ fn put_span<'t, A: Allocator + Copy>(
     message: MessageKey<'t>,
     more: &Span,
 ) -> Result<(), Memory>
-    ensures { OnOk result ((rows : List Row) (r : Row) → AreSpans rows spans.old.entries
-        → message_in (row_key r) ≡ Some (message_of message.entry)
+    ensures { OnOk result ((rows : List Row) (r : Row) → Spec.AreSpans rows spans.old.entries
+        → message_in (row_key r) ≡ Some (Spec.message_of message.entry)
         → more.now.first ≡ r.first → more.now.last ≡ last_of r
-        → AreSpans (rows ++ r ∷ []) spans.new.entries) }
+        → Spec.AreSpans (rows ++ r ∷ []) spans.new.entries) }
 {
     let again = message.copy();
     let known = match spans.insert(message, *more) {
@@ -100,10 +100,11 @@ fn put_answer<'t, A: Allocator + Copy>(
     asked: Asked<'t>,
     heard: &ReceptionView<'t>,
 ) -> Result<(), Memory>
-    ensures { OnOk result ((rows : List Row) (r : Row) → AreReplies rows answers.old.entries
-        → ((a : Answer) → IsReply a (row_key r) ↔ (Some (answer_of asked.entry) ≡ Some a))
+    ensures { OnOk result ((rows : List Row) (r : Row) → Spec.AreReplies rows answers.old.entries
+        → ((a : Spec.Answer) → Spec.IsReply a (row_key r)
+        ↔ (Some (Spec.answer_of asked.entry) ≡ Some a))
         → heard.now ≡ r.greatest
-        → AreReplies (rows ++ r ∷ []) answers.new.entries) }
+        → Spec.AreReplies (rows ++ r ∷ []) answers.new.entries) }
 {
     let answer = greater(answers.get(&asked), heard.copy());
     if answers.insert(asked, answer).is_err() {
