@@ -79,11 +79,13 @@ impl<A: Allocator + Copy> BookReader<A> {
     /// Reads on, and puts the rows of the lines after those of the store.
     pub fn feed(&mut self, store: &mut RowStore<A>, piece: &[u8]) -> Result<(), BookFault>
         requires { Spec.size_of self.old + length piece.now ≤ most_input }
+
         ensures stands { OnOk result ((before : List Row) (t : List ℕ)
             → Spec.Stands before self.old store.old t
             → Spec.Stands before self.new store.new (t ++ piece.now)) }
         ensures size { OnOk result
             (Spec.size_of self.new ≤ Spec.size_of self.old + length piece.now) }
+
         ensures fault { IfErr result (λ fault. (before : List Row) (t : List ℕ)
             → Spec.Stands before self.old store.old t
             → Spec.IsFault (length piece.now) fault (t ++ piece.now)) }
@@ -100,11 +102,13 @@ impl<A: Allocator + Copy> BookReader<A> {
     /// Puts bytes after those of the line.
     fn append(&mut self, bytes: &[u8]) -> Result<(), BookFault>
         requires { Spec.size_of self.old ≤ most_input }
+
         ensures stands { OnOk result ((before store : List Row) (t : List ℕ)
             → Spec.Stands before self.old store t → Lacks 10 bytes.now
             → Spec.Stands before self.new store (t ++ bytes.now)) }
         ensures size { OnOk result
             (Spec.size_of self.new ≤ Spec.size_of self.old + length bytes.now) }
+
         ensures fault { IfErr result (λ fault. (before store : List Row) (t more : List ℕ)
             → Spec.Stands before self.old store t
             → Spec.IsFault (length bytes.now + length more) fault ((t ++ bytes.now) ++ more)) }
@@ -123,7 +127,9 @@ impl<A: Allocator + Copy> BookReader<A> {
     fn append_nothing(&self, bytes: &[u8]) -> Result<(), BookFault>
         requires few { self.now.count ≤ most_input }
         requires done { Spec.is_done self.now.stage ≡ true }
+
         ensures ok { OnOk result (bytes.now ≡ []) }
+
         ensures fault { IfErr result (λ fault. (before store : List Row) (t more : List ℕ)
             → Spec.Stands before self.now store t
             → Spec.IsFault (length bytes.now + length more) fault ((t ++ bytes.now) ++ more)) }
@@ -139,11 +145,13 @@ impl<A: Allocator + Copy> BookReader<A> {
     /// first.
     fn end_line(&mut self, store: &mut RowStore<A>, part: &[u8]) -> Result<(), BookFault>
         requires { Spec.size_of self.old + length part.now ≤ most_input }
+
         ensures stands { OnOk result ((before : List Row) (t : List ℕ)
             → Spec.Stands before self.old store.old t → Lacks 10 part.now
             → Spec.Stands before self.new store.new ((t ++ part.now) ++ 10 ∷ [])) }
         ensures size { OnOk result
             (Spec.size_of self.new ≤ Spec.size_of self.old + length part.now + 1) }
+
         ensures fault { IfErr result (λ fault. (before : List Row) (t more : List ℕ)
             → Spec.Stands before self.old store.old t → Lacks 10 part.now
             → Spec.IsFault (length part.now + (length more + 1)) fault
@@ -162,10 +170,12 @@ impl<A: Allocator + Copy> BookReader<A> {
         requires size { Spec.size_of self.old + length line.now ≤ most_input }
         requires none { self.old.line.items ≡ [] }
         requires going { Spec.is_done self.old.stage ≡ false }
+
         ensures stands { OnOk result ((before : List Row) (t : List ℕ)
             → Spec.Stands before self.old store.old t → Lacks 10 line.now
             → Spec.Stands before self.new store.new ((t ++ line.now) ++ 10 ∷ [])) }
         ensures size { OnOk result (Spec.size_of self.new ≤ Spec.size_of self.old + 1) }
+
         ensures fault { IfErr result (λ fault. (before : List Row) (t more : List ℕ)
             → Spec.Stands before self.old store.old t → Lacks 10 line.now
             → Spec.IsFault (length more + 1) fault ((t ++ line.now) ++ 10 ∷ more)) }
@@ -183,10 +193,12 @@ impl<A: Allocator + Copy> BookReader<A> {
     /// Judges the line that is held, which is whole.
     fn take_held(&mut self, store: &mut RowStore<A>) -> Result<(), BookFault>
         requires { Spec.size_of self.old ≤ most_input }
+
         ensures stands { OnOk result ((before : List Row) (t : List ℕ)
             → Spec.Stands before self.old store.old t
             → Spec.Stands before self.new store.new (t ++ 10 ∷ [])) }
         ensures size { OnOk result (Spec.size_of self.new ≤ Spec.size_of self.old + 1) }
+
         ensures fault { IfErr result (λ fault. (before : List Row) (t more : List ℕ)
             → Spec.Stands before self.old store.old t
             → Spec.IsFault (length more + 1) fault (t ++ 10 ∷ more)) }
@@ -281,11 +293,14 @@ fn judge<A: Allocator + Copy>(
     line: &[u8],
 ) -> Result<Stage, BookCause>
     requires { count.old + length line.now ≤ most_input }
+
     ensures judged { (before rows : List Row) → Spec.HasRows before rows count.old store.old
         → Spec.HasRowsSo before count.new store.new (Spec.IsJudgedIn stage result rows line.now) }
     ensures count { count.new ≤ count.old + 1 }
-    ensures unchanged { OnErr result (count.new ≡ count.old) }
+
     ensures cause { IfErr result Spec.IsOfText }
+
+    ensures unchanged { OnErr result (count.new ≡ count.old) }
 {
     match stage {
         Stage::Header => judge_header(line),
@@ -314,11 +329,14 @@ fn judge_line<A: Allocator + Copy>(
     line: &[u8],
 ) -> Result<Stage, BookCause>
     requires { count.old + length line.now ≤ most_input }
+
     ensures judged { (before rows : List Row) → Spec.HasRows before rows count.old store.old
         → Spec.HasRowsSo before count.new store.new (Spec.IsJudged version result rows line.now) }
     ensures count { count.new ≤ count.old + 1 }
-    ensures unchanged { OnErr result (count.new ≡ count.old) }
+
     ensures cause { IfErr result Spec.IsOfText }
+
+    ensures unchanged { OnErr result (count.new ≡ count.old) }
 {
     if line.starts_with(b"END") {
         return judge_end(line, version, *count);

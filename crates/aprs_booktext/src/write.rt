@@ -143,10 +143,12 @@ fn row_tail<'r>(room: &'r mut [u8; ROW_TAIL], receiver: &[u8], frame: &[u8]) -> 
 /// the place after them.
 fn put_hex(room: &mut [u8], at: usize, bytes: &[u8]) -> usize
     requires { at + 2 * length bytes.now ≤ length room.old }
+
     ensures end { result ≡ at + 2 * length bytes.now }
-    ensures len { length room.new ≡ length room.old }
     ensures digits { take result room.new ≡ take at room.old ++ encode_lower bytes.now }
     ensures bytes { IsBytes bytes.now }
+
+    ensures len { length room.new ≡ length room.old }
 {
     let end = at + 2 * bytes.len();
     encode_to(bytes, &mut room[at..end]);

@@ -74,9 +74,11 @@ fn read_own<R: Read, A: Allocator + Copy>(
     requires head { IsHead head.now }
     requires few { length head.now ≤ HEAD_LEN }
     requires within { length head.now ≤ limit }
+
     ensures reads { IfSome (R.remaining (device_of r.old))
         (λ input. HoldsOfGot limit (head.now ++ input) (R.remaining (device_of r.new))
         (ReadsInput gap result)) }
+
     ensures calls { AsksInput result r.old r.new }
 {
     if head == BOOK_MARK {
@@ -157,9 +159,11 @@ fn read_own_rows<R: Read, A: Allocator + Copy>(
     requires head { IsHead head.now }
     requires few { length head.now ≤ HEAD_LEN }
     requires within { length head.now ≤ limit }
+
     ensures reads { IfSome (R.remaining (device_of r.old))
         (λ input. HoldsOfGot limit (head.now ++ input) (R.remaining (device_of r.new))
         (ReadsRows gap result store.old store.new)) }
+
     ensures calls { AsksInput result r.old r.new }
 {
     if head == BOOK_MARK {
@@ -180,9 +184,11 @@ fn read_log<R: Read, A: Allocator + Copy>(
     requires limit { limit ≤ most_input }
     requires head { length head.now ≤ HEAD_LEN }
     requires within { length head.now ≤ limit }
+
     ensures reads { IfSome (R.remaining (device_of r.old))
         (λ input. HoldsOfGot limit (head.now ++ input) (R.remaining (device_of r.new))
         (ReadsLog result store.old store.new)) }
+
     ensures calls { AsksInput result r.old r.new }
 {
     let mut reader = LogReader::new(alloc, limit, head, r);
@@ -216,6 +222,7 @@ pub(crate) fn merge_books<A: Allocator + Copy>(
     ensures one { OnOk result (HaveOneGap book.now input) }
     ensures known { OnOk result ((S : List Heard)
         × BookOf (millis_of book.now.gap) S book.now.rows) }
+
     ensures refused { IfErr result (λ fault. RefusesGaps fault book.now.gap input.gap) }
 {
     if book.gap() != input.gap() {

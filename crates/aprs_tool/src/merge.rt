@@ -28,12 +28,15 @@ pub fn merge_run<R: Read, W: Write, A: Allocator + Copy>(
     w: &mut Counted<W>,
 ) -> Result<(), RunFault>
     requires { limit ≤ most_input }
+
     ensures writes { OfEach limit R.remaining inputs.old inputs.new (λ gots.
         WritesFor (IsToldOf (GiveUnion gap gots) (IsTextOfBook gap)) W.contents result
         w.old w.new) }
+
     ensures refuses { OfEach limit R.remaining inputs.old inputs.new (λ gots.
         RefusesFor (GiveUnion gap gots) (IsFirstRefused gap gots) result w.old w.new) }
     ensures memory { result ≡ Err RunFault.Memory → ⊥ }
+
     // The inputs are asked neither after their ends nor after a fault, nor is the output.
     ensures asks { AsksEach result inputs.old inputs.new }
     ensures calls { CallsOutput result w.old w.new }
@@ -69,10 +72,12 @@ pub(crate) fn read_all<R: Read, A: Allocator + Copy>(
     inputs: &mut [Counted<R>],
 ) -> Result<Gathered<A>, (usize, InputFault)>
     requires { limit ≤ most_input }
+
     ensures reads { OfEach limit R.remaining inputs.old inputs.new (ReadsEach gap result) }
-    ensures calls { ReadsAll result inputs.old inputs.new }
     ensures gap { IfOk result (λ gathered. gathered.gap ≡ gap) }
     ensures some { IfOk result (λ gathered. gathered.rows ≢ [] → 0 < length inputs.old) }
+
+    ensures calls { ReadsAll result inputs.old inputs.new }
 {
     let mut gathered = Gathered::new(alloc, gap);
     for (index, r) in inputs.iter_mut().enumerate() {

@@ -31,12 +31,15 @@ pub fn widen_run<R: Read, W: Write, A: Allocator + Copy>(
     w: &mut Counted<W>,
 ) -> Result<(), RunFault>
     requires { limit ≤ most_input }
+
     ensures writes { OfGot limit (R.remaining (device_of r.old)) (R.remaining (device_of r.new))
         (λ text ending. WritesFor (IsToldOf (GivesSetWithin gap text ending) (IsTextOfBook gap))
         W.contents result w.old w.new) }
+
     ensures refuses { OfGot limit (R.remaining (device_of r.old)) (R.remaining (device_of r.new))
         (λ text ending. RefusesFor (GivesSetWithin gap text ending)
         (IsNotWidened gap text ending) result w.old w.new) }
+
     // The input is asked neither after its end nor after a fault, nor is the output.
     ensures asks { AsksEach result (r.old ∷ []) (r.new ∷ []) }
     ensures calls { CallsOutput result w.old w.new }

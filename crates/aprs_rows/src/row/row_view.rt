@@ -97,6 +97,7 @@ impl<'a> RowView<'a> {
     pub(crate) fn entry(&self, place: usize) -> Entry
         requires sound { IsSoundRow self.now }
         requires short { length (join_with_byte 44 self.now.receivers) < 4294967296 }
+
         ensures place { result.place ≡ place }
         ensures row { IsRowIn result (row_bytes self.now) }
         ensures same { entry_row result (row_bytes self.now) ≡ self.now }

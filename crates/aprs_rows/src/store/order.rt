@@ -62,8 +62,10 @@ impl<A: Allocator + Copy> RowsInOrder<A> {
         has_runs: bool,
     ) -> Result<RowsInOrder<A>, Memory>
         requires { AreRowsIn entries.items bytes.items }
+
         ensures same { IfOk result (IsPermutation (rows_in entries.items bytes.items)) }
         ensures ordered { IfOk result AreInOrder }
+
         ensures some { OnErr result (entries.items ≢ []) }
         ensures in_place { has_runs ≡ false → IsOk result }
     {
