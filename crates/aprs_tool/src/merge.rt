@@ -8,7 +8,7 @@ ghost use Rattle.aprs_tool.specs.Outcome.{IsToldOf, RefusesFor, WritesFor};
 ghost use Rattle.aprs_tool.specs.Several.{GiveUnion, IsFirstRefused, OfEach};
 
 use crate::fault::{InputFault, RunFault};
-use crate::gathered::{Gathered, Unwritten};
+use crate::gathered::{Gathered, OutputFault};
 use crate::input::read_into;
 use aprs_book::Gap;
 use aprs_io::Counted;
@@ -47,8 +47,8 @@ pub fn merge_run<R: Read, W: Write, A: Allocator + Copy>(
     };
     match gathered.write(w) {
         Ok(()) => Ok(()),
-        Err(Unwritten::Write) => Err(RunFault::Write),
-        Err(Unwritten::Memory) => Err(fault_of_last(inputs.len())),
+        Err(OutputFault::Write) => Err(RunFault::Write),
+        Err(OutputFault::Memory) => Err(fault_of_last(inputs.len())),
     }
 }
 

@@ -7,7 +7,7 @@ ghost use Rattle.aprs_tool.specs.Several.{GiveUnion, IsFirstRefused, OfEach};
 ghost use Rattle.aprs_tool.specs.Show.{IsListingOf};
 
 use crate::fault::RunFault;
-use crate::gathered::Unwritten;
+use crate::gathered::OutputFault;
 use crate::merge::read_all;
 use aprs_book::Gap;
 use aprs_io::Counted;
@@ -46,7 +46,7 @@ pub fn show_run<R: Read, W: Write, A: Allocator + Copy>(
     };
     match gathered.show(w) {
         Ok(()) => Ok(()),
-        Err(Unwritten::Memory) => Err(RunFault::Memory),
-        Err(Unwritten::Write) => Err(RunFault::Write),
+        Err(OutputFault::Memory) => Err(RunFault::Memory),
+        Err(OutputFault::Write) => Err(RunFault::Write),
     }
 }

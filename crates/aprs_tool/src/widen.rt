@@ -9,7 +9,7 @@ ghost use Rattle.aprs_tool.specs.Outcome.{IsToldOf, RefusesFor, WritesFor};
 ghost use Rattle.aprs_tool.specs.Widen.{GivesSetWithin, IsNotWidened};
 
 use crate::fault::{InputFault, RunFault};
-use crate::gathered::{Gathered, Unwritten};
+use crate::gathered::{Gathered, OutputFault};
 use crate::input::read_input_rows;
 use aprs_book::Gap;
 use aprs_io::Counted;
@@ -54,8 +54,8 @@ pub fn widen_run<R: Read, W: Write, A: Allocator + Copy>(
     }
     match Gathered::of(alloc, gap, store).write(w) {
         Ok(()) => Ok(()),
-        Err(Unwritten::Memory) => Err(RunFault::Memory),
-        Err(Unwritten::Write) => Err(RunFault::Write),
+        Err(OutputFault::Memory) => Err(RunFault::Memory),
+        Err(OutputFault::Write) => Err(RunFault::Write),
     }
 }
 
