@@ -54,7 +54,7 @@ pub fn read_input<R: Read, A: Allocator + Copy>(
     ensures calls { AsksInput result r.old r.new }
 {
     match read_head(limit, r) {
-        Ok(head) => read_own(alloc, limit, gap, head.as_slice(), r),
+        Ok(head) => read_after_head(alloc, limit, gap, head.as_slice(), r),
         Err(short) => {
             read_short(&short)?;
             Ok(Book::with_gap(alloc, gap))
@@ -63,7 +63,7 @@ pub fn read_input<R: Read, A: Allocator + Copy>(
 }
 
 /// The book of an input that begins with these bytes, by which it is known what it is.
-fn read_own<R: Read, A: Allocator + Copy>(
+fn read_after_head<R: Read, A: Allocator + Copy>(
     alloc: A,
     limit: u64,
     gap: Gap,
@@ -138,7 +138,7 @@ pub(crate) fn read_input_rows<R: Read, A: Allocator + Copy>(
     ensures calls { AsksInput result r.old r.new }
 {
     match read_head(limit, r) {
-        Ok(head) => read_own_rows(alloc, limit, gap, head.as_slice(), store, r),
+        Ok(head) => read_rows_after_head(alloc, limit, gap, head.as_slice(), store, r),
         Err(short) => {
             read_short(&short)?;
             Ok(gap)
@@ -147,7 +147,7 @@ pub(crate) fn read_input_rows<R: Read, A: Allocator + Copy>(
 }
 
 /// Reads the rows of an input that begins with these bytes.
-fn read_own_rows<R: Read, A: Allocator + Copy>(
+fn read_rows_after_head<R: Read, A: Allocator + Copy>(
     alloc: A,
     limit: u64,
     gap: Gap,
