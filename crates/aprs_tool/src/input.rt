@@ -243,15 +243,15 @@ fn read_short(short: &ShortInput) -> Result<(), LogFault>
     ensures last { last_of_short result ≡ last_of_ending short.now.ending }
 {
     match short.ending {
-        Ending::Read => Err(first_line(LogCause::Read)),
-        Ending::TooLong => Err(first_line(LogCause::TooLong)),
+        Ending::Read => Err(first_line_fault(LogCause::Read)),
+        Ending::TooLong => Err(first_line_fault(LogCause::TooLong)),
         Ending::End if short.bytes.is_empty() => Ok(()),
-        Ending::End => Err(first_line(LogCause::NoNewline)),
+        Ending::End => Err(first_line_fault(LogCause::NoNewline)),
     }
 }
 
 /// The fault with this cause in the first line.
-fn first_line(cause: LogCause) -> LogFault
+fn first_line_fault(cause: LogCause) -> LogFault
     ensures { result ≡ record { line = 1; cause = cause } }
 {
     LogFault { line: 1, cause }
