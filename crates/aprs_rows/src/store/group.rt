@@ -3,7 +3,7 @@ ghost use Rattle.std.specs.Prelude.{◌≡◌};
 ghost use Rattle.aprs_rows.specs.Groups.{group_row, IsGroup};
 
 use crate::row::row_view::RowView;
-use crate::store::laid::Laid;
+use crate::store::stored_row::StoredRow;
 use aprs_log::Moment;
 
 /// Rows that are one: the first moment of all, how many bytes the text of their receivers has, and
@@ -13,7 +13,7 @@ use aprs_log::Moment;
 pub(crate) struct Group<'a> {
     pub first: Moment,
     pub receivers: usize,
-    pub greatest: Laid<'a>,
+    pub greatest: StoredRow<'a>,
 }
 
 impl<'a> Group<'a> {

@@ -12,7 +12,7 @@ ghost use Rattle.aprs_rows.specs.Rows.{AreRowsIn, rows_in};
 
 use crate::Memory;
 use crate::store::entry::Entry;
-use crate::store::laid::Laid;
+use crate::store::stored_row::StoredRow;
 use crate::store::sweep::Sweep;
 use crate::store::transmissions::Transmissions;
 use aprs_laws::Gap;
@@ -116,9 +116,9 @@ impl<A: Allocator + Copy> RowsInOrder<A> {
         let Some((first, others)) = self.entries.as_slice().split_first() else {
             return Ok(Transmissions::of(gap, Vec::new(self.alloc), Vec::new(self.alloc)));
         };
-        let mut sweep = Sweep::begin(self.alloc, gap, Laid::of(first, bytes));
+        let mut sweep = Sweep::begin(self.alloc, gap, StoredRow::of(first, bytes));
         for entry in others {
-            sweep.take(Laid::of(entry, bytes))?;
+            sweep.take(StoredRow::of(entry, bytes))?;
         }
         sweep.finish()
     }

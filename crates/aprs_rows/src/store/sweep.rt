@@ -13,7 +13,7 @@ ghost use Rattle.aprs_rows.specs.Sweep as Spec;
 use crate::Memory;
 use crate::row::names::{gather, put_union};
 use crate::store::group::Group;
-use crate::store::laid::Laid;
+use crate::store::stored_row::StoredRow;
 use crate::store::transmissions::Transmissions;
 use aprs_laws::Gap;
 use aprs_log::Moment;
@@ -24,13 +24,13 @@ use std::alloc::Allocator;
 #[derive(Drop)]
 pub(crate) struct Open<'a> {
     first: Moment,
-    greatest: Laid<'a>,
+    greatest: StoredRow<'a>,
     is_alone: bool,
 }
 
 impl<'a> Open<'a> {
     /// The row alone.
-    fn of(row: Laid<'a>) -> Open<'a>
+    fn of(row: StoredRow<'a>) -> Open<'a>
         ensures row { (names : List (Bor (List ℕ))) → Spec.open_row result names ≡ row.entry }
         ensures alone { result.is_alone ≡ true }
         ensures own { Spec.HasNames result.greatest }
@@ -43,7 +43,7 @@ impl<'a> Open<'a> {
     }
 
     /// Whether a row is near to these.
-    fn is_near(&self, gap: Gap, row: &Laid<'_>) -> bool
+    fn is_near(&self, gap: Gap, row: &StoredRow<'_>) -> bool
         ensures { (names : List (Bor (List ℕ)))
             → result ≡ is_eq (place (millis_of gap) (Spec.open_row self.now names) row.now) }
     {
@@ -54,7 +54,7 @@ impl<'a> Open<'a> {
     }
 
     /// Adds a row that is near to these.
-    fn grow(&mut self, row: Laid<'a>)
+    fn grow(&mut self, row: StoredRow<'a>)
         ensures first { self.new.first ≡ min self.old.first row.entry.first }
         ensures greatest { self.new.greatest.greatest
             ≡ greater self.old.greatest.greatest row.entry.greatest }
@@ -84,7 +84,7 @@ pub(crate) struct Sweep<'a, A: Allocator> {
 
 impl<'a, A: Allocator + Copy> Sweep<'a, A> {
     /// A sweep that has taken one row.
-    pub(crate) fn begin(alloc: A, gap: Gap, row: Laid<'a>) -> Sweep<'a, A>
+    pub(crate) fn begin(alloc: A, gap: Gap, row: StoredRow<'a>) -> Sweep<'a, A>
         ensures stands { Spec.Stands result (row.entry ∷ []) }
         ensures gap { result.gap ≡ gap }
         ensures range { IsGap gap }
@@ -99,7 +99,7 @@ impl<'a, A: Allocator + Copy> Sweep<'a, A> {
     }
 
     /// Takes the next row.
-    pub(crate) fn take(&mut self, row: Laid<'a>) -> Result<(), Memory>
+    pub(crate) fn take(&mut self, row: StoredRow<'a>) -> Result<(), Memory>
         ensures stands { (rows : List Row) → Spec.Stands self.old rows
             → OnOk result (Spec.Stands self.new
             (append_row (millis_of self.old.gap) rows row.entry)) }
@@ -137,7 +137,7 @@ impl<'a, A: Allocator + Copy> Sweep<'a, A> {
     }
 
     /// Takes a row that is near to the open ones.
-    fn join(&mut self, row: Laid<'a>) -> Result<(), Memory>
+    fn join(&mut self, row: StoredRow<'a>) -> Result<(), Memory>
         ensures groups { self.new.groups ≡ self.old.groups }
         ensures texts { self.new.texts ≡ self.old.texts }
         ensures gap { self.new.gap ≡ self.old.gap }
