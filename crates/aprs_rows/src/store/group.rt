@@ -12,7 +12,7 @@ use aprs_log::Moment;
 #[derive(Drop)]
 pub(crate) struct Group<'a> {
     pub first: Moment,
-    pub receivers: usize,
+    pub text_len: usize,
     pub greatest: StoredRow<'a>,
 }
 
@@ -24,7 +24,7 @@ impl<'a> Group<'a> {
         ensures { result ≡ group_row self.now text.now }
     {
         let row = self.greatest.view();
-        if self.receivers == 0 {
+        if self.text_len == 0 {
             let names = row.receivers();
             return row.with(self.first, names);
         }

@@ -189,7 +189,7 @@ fn close<'a, A: Allocator>(
     put_names(texts, latest, names)?;
     let group = Group {
         first: latest.first,
-        receivers: texts.len() - before,
+        text_len: texts.len() - before,
         greatest: latest.greatest.copy(),
     };
     if groups.push(group).is_err() {
