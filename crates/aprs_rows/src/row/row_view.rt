@@ -115,7 +115,7 @@ impl<'a> RowView<'a> {
     }
 
     /// The row with another first moment, and with the names of this text.
-    pub(crate) fn with(self, first: Moment, receivers: &'a [u8]) -> RowView<'a>
+    pub(crate) fn with_first_and_names(self, first: Moment, receivers: &'a [u8]) -> RowView<'a>
         requires { All IsName (names_in receivers.now) }
         ensures { result ≡ record {
           first = first;

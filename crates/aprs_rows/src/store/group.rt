@@ -26,8 +26,8 @@ impl<'a> Group<'a> {
         let row = self.greatest.view();
         if self.text_len == 0 {
             let names = row.receivers();
-            return row.with(self.first, names);
+            return row.with_first_and_names(self.first, names);
         }
-        row.with(self.first, text)
+        row.with_first_and_names(self.first, text)
     }
 }
