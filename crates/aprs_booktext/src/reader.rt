@@ -115,7 +115,7 @@ impl<A: Allocator + Copy> BookReader<A> {
         ensures cause { IfErr result (λ fault. Spec.IsOfText fault.cause) }
     {
         if is_done(self.stage) {
-            return self.append_nothing(bytes);
+            return self.refuse_after_end(bytes);
         }
         match self.line.extend_from_slice(bytes) {
             Ok(()) => Ok(()),
@@ -124,7 +124,7 @@ impl<A: Allocator + Copy> BookReader<A> {
     }
 
     /// Refuses any bytes after the last line.
-    fn append_nothing(&self, bytes: &[u8]) -> Result<(), BookFault>
+    fn refuse_after_end(&self, bytes: &[u8]) -> Result<(), BookFault>
         requires few { self.now.count ≤ most_input }
         requires done { Spec.is_done self.now.stage ≡ true }
 
