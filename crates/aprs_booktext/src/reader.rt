@@ -162,10 +162,10 @@ impl<A: Allocator + Copy> BookReader<A> {
             return self.take_line(store, part);
         }
         self.append(part)?;
-        self.take_held(store)
+        self.take_kept_line(store)
     }
 
-    /// Judges a line that is whole, where none is held.
+    /// Judges a line that is whole, where none is kept.
     fn take_line(&mut self, store: &mut RowStore<A>, line: &[u8]) -> Result<(), BookFault>
         requires size { Spec.size_of self.old + length line.now ≤ most_input }
         requires none { self.old.line.items ≡ [] }
@@ -190,8 +190,8 @@ impl<A: Allocator + Copy> BookReader<A> {
         }
     }
 
-    /// Judges the line that is held, which is whole.
-    fn take_held(&mut self, store: &mut RowStore<A>) -> Result<(), BookFault>
+    /// Judges the line that is kept, which is whole.
+    fn take_kept_line(&mut self, store: &mut RowStore<A>) -> Result<(), BookFault>
         requires { Spec.size_of self.old ≤ most_input }
 
         ensures stands { OnOk result ((before : List Row) (t : List ℕ)
