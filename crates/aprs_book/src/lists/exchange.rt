@@ -10,7 +10,7 @@ use crate::Memory;
 use crate::known::last_known::greater;
 use crate::known::reception_view::ReceptionView;
 use crate::lists::message_key::{
-    Asked, MessageKey, Span, is_addressed, message_in, reply_in, span_with,
+    AnswerKey, MessageKey, Span, is_addressed, message_in, reply_in, span_with,
 };
 use crate::lists::sender::Sender;
 use crate::rows::walk::Walk;
@@ -22,7 +22,7 @@ use std::collections::BTreeMap;
 /// Each message of some rows with its moments, and the greatest answer of each kind.
 pub(crate) struct Exchange<'t, A: Allocator = Global> {
     pub spans: BTreeMap<MessageKey<'t>, Span, A>,
-    pub answers: BTreeMap<Asked<'t>, ReceptionView<'t>, A>,
+    pub answers: BTreeMap<AnswerKey<'t>, ReceptionView<'t>, A>,
 }
 
 impl<'t, A: Allocator> Drop for Exchange<'t, A> {
@@ -64,7 +64,7 @@ impl<'t, A: Allocator + Copy> Exchange<'t, A> {
             return put_span(&mut self.spans, message, &Span { first, last });
         }
         match reply_in(sender, heard) {
-            Some(asked) => put_answer(&mut self.answers, asked, heard),
+            Some(key) => put_answer(&mut self.answers, key, heard),
             None => Ok(()),
         }
     }
@@ -96,18 +96,18 @@ fn put_span<'t, A: Allocator + Copy>(
 
 /// Keeps this reception as the answer to what it answers, unless a greater answer is kept already.
 fn put_answer<'t, A: Allocator + Copy>(
-    answers: &mut BTreeMap<Asked<'t>, ReceptionView<'t>, A>,
-    asked: Asked<'t>,
+    answers: &mut BTreeMap<AnswerKey<'t>, ReceptionView<'t>, A>,
+    key: AnswerKey<'t>,
     heard: &ReceptionView<'t>,
 ) -> Result<(), Memory>
     ensures { OnOk result ((rows : List Row) (r : Row) → Spec.AreReplies rows answers.old.entries
         → ((a : Spec.Answer) → Spec.IsReply a (row_key r)
-        ↔ (Some (Spec.answer_of asked.entry) ≡ Some a))
+        ↔ (Some (Spec.answer_of key.entry) ≡ Some a))
         → heard.now ≡ r.greatest
         → Spec.AreReplies (rows ++ r ∷ []) answers.new.entries) }
 {
-    let answer = greater(answers.get(&asked), heard.copy());
-    if answers.insert(asked, answer).is_err() {
+    let answer = greater(answers.get(&key), heard.copy());
+    if answers.insert(key, answer).is_err() {
         return Err(Memory);
     }
     Ok(())

@@ -11,7 +11,7 @@ ghost use Rattle.aprs_book.specs.Exchange.{IsExchangeOf};
 
 use crate::known::reception_view::ReceptionView;
 use crate::lists::exchange::{Exchange, exchange_of};
-use crate::lists::message_key::{Asked, MessageKey, Span};
+use crate::lists::message_key::{AnswerKey, MessageKey, Span};
 use crate::{Book, Memory};
 use aprs_ax25::Callsign;
 use aprs_log::Moment;
@@ -78,7 +78,7 @@ pub(crate) fn messages_of<'a, A: Allocator + Copy>(
 fn list_messages<'a, A: Allocator + Copy>(
     alloc: A,
     spans: &BTreeMap<MessageKey<'a>, Span, A>,
-    answers: &BTreeMap<Asked<'a>, ReceptionView<'a>, A>,
+    answers: &BTreeMap<AnswerKey<'a>, ReceptionView<'a>, A>,
 ) -> Result<Vec<MessageRow<'a>, A>, Memory>
     ensures ascending { Ordered Spec.IsKeyBefore spans.now.entries }
     ensures rows { IfOk result (λ list.
@@ -97,7 +97,7 @@ fn list_messages<'a, A: Allocator + Copy>(
 fn row_of<'a, A: Allocator + Copy>(
     message: &MessageKey<'a>,
     span: &Span,
-    answers: &BTreeMap<Asked<'a>, ReceptionView<'a>, A>,
+    answers: &BTreeMap<AnswerKey<'a>, ReceptionView<'a>, A>,
 ) -> MessageRow<'a>
     ensures { Spec.IsListed answers.now.entries (message.now, span.now) result }
 {
@@ -120,19 +120,19 @@ fn row_of<'a, A: Allocator + Copy>(
 fn greatest_answer<'a, 'b, A: Allocator + Copy>(
     message: &MessageKey<'a>,
     id: &'a [u8],
-    answers: &'b BTreeMap<Asked<'a>, ReceptionView<'a>, A>,
+    answers: &'b BTreeMap<AnswerKey<'a>, ReceptionView<'a>, A>,
 ) -> Option<&'b ReceptionView<'a>>
     ensures { Spec.ReportsAnswer answers.now.entries (Spec.message_of message.now) id.now
         (option_copied result) }
 {
     match Callsign::parse(message.addressee) {
         Ok(addressee) => {
-            let asked = Asked {
+            let key = AnswerKey {
                 source: message.source.copy(),
                 addressee,
                 id,
             };
-            answers.get(&asked)
+            answers.get(&key)
         }
         Err(_) => None,
     }

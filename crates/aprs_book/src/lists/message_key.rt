@@ -43,7 +43,7 @@ pub(crate) struct Span {
 
 /// What an answer names: the station whose message it answers, the one that answers, and the id.
 #[derive(PartialEq, Eq, PartialOrd, Ord, Drop)]
-pub(crate) struct Asked<'a> {
+pub(crate) struct AnswerKey<'a> {
     pub source: Callsign,
     pub addressee: Callsign,
     pub id: &'a [u8],
@@ -81,14 +81,14 @@ pub(crate) fn span_with(known: &Span, more: &Span) -> Span
 }
 
 /// What a reception from this station answers, if it is an answer to a callsign.
-pub(crate) fn reply_in<'a>(sender: &Callsign, heard: &ReceptionView<'a>) -> Option<Asked<'a>>
+pub(crate) fn reply_in<'a>(sender: &Callsign, heard: &ReceptionView<'a>) -> Option<AnswerKey<'a>>
     requires { sender.now ≡ (key_of heard.now.frame).source }
     ensures { (a : Spec.Answer) → Spec.IsReply a (key_of heard.now.frame)
         ↔ (option_map Spec.answer_of result ≡ Some a) }
 {
     let (addressee, id) = answer_in(heard.info())?;
     match Callsign::parse(addressee) {
-        Ok(source) => Some(Asked {
+        Ok(source) => Some(AnswerKey {
             source,
             addressee: sender.copy(),
             id,
