@@ -10,7 +10,6 @@ ghost use Rattle.aprs_booktext.specs.Fault.{ending_cause};
 ghost use Rattle.aprs_booktext.specs.Lines.{Lacks};
 ghost use Rattle.aprs_booktext.specs.StoredRows.{book_read};
 ghost use Rattle.aprs_booktext.specs.Text.{end_line};
-ghost use Rattle.aprs_booktext.specs.Version.{gap_of};
 ghost use Rattle.aprs_booktext.specs.Reader as Spec;
 
 use crate::cut::cut;

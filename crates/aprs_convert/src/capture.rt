@@ -1,15 +1,13 @@
 //! A KISS stream, captured as a log.
-ghost use Rattle.std.specs.Prelude.{◌≡◌, ◌≤◌, ◌<◌, ◌++◌, ℕ, List, length, take, IfOk, IfErr, IsErrAnd, OnOk, Err, OnErr};
+ghost use Rattle.std.specs.Prelude.{◌≡◌, ◌≤◌, ◌++◌, ℕ, List, OnOk, OnErr};
 ghost use Rattle.std.specs.List.{flat_map};
-ghost use Rattle.std.specs.Io.KnownBytes.{Appends, Consumes};
+ghost use Rattle.std.specs.Io.KnownBytes.{Appends};
 ghost use Rattle.aprs_io.specs.Input.{most_input};
 ghost use Rattle.aprs_ax25.specs.FrameFault.{frame_of};
 ghost use Rattle.aprs_kiss.specs.Device.{device_of, AppendsPrefix, Calls, Sends, last_at};
 ghost use Rattle.aprs_kiss.specs.Reader.{StandsAfter};
 ghost use Rattle.aprs_kiss.specs.Answer.{judgements_in};
 ghost use Rattle.aprs_kiss.specs.Stream.{judgements_of, rest_of};
-ghost use Rattle.aprs_log.specs.Awaits.{EndsHere};
-ghost use Rattle.aprs_log.specs.declared.Ending.TheVariants.{Read as ReadFailed};
 ghost use Rattle.aprs_convert.specs.Plan as Spec;
 
 use crate::fault::ConvertFault;
