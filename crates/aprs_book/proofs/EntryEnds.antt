@@ -17,7 +17,8 @@ use Rattle.aprs_laws.proofs.Pushes.{empty_or_last}
 use Rattle.aprs_rows.proofs.Cases.{by_order}
 use Rattle.aprs_book.proofs.Entries.{test, IsWritten, set_same, found_key, AreKeyed-set_value, AreKeyed-insert_entry}
 use Rattle.aprs_rows.proofs.Heads.{head_total, head_exact, head_less}
-use Rattle.aprs_rows.specs.Head.{head_cmp, HasHead}
+use Rattle.aprs_rows.specs.Head.{HasHead}
+use Rattle.aprs_rows.specs.HeadSteps.{head_cmp}
 use Rattle.aprs_rows.specs.declared.row.head.Head.{Head}
 use Rattle.aprs_book.specs.Keyed.{HaveHead, rows_of, AreKeyed, AreFilled, AreKept, EndsUpTo, IsEndOf}
 

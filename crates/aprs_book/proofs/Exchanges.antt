@@ -3,7 +3,7 @@ use Rattle.std.proofs.Common.{◌≡◌, ◌∙◌, List, [], ◌∷◌, ◌++�
 use Rattle.aprs_log.specs.Reception.{Heard}
 use Rattle.aprs_laws.specs.Key.{Key}
 use Rattle.aprs_laws.specs.Row.{Row, row_key}
-use Rattle.aprs_book.specs.declared.lists.message_key.Asked.{Asked}
+use Rattle.aprs_book.specs.declared.lists.message_key.AnswerKey.{AnswerKey}
 use Rattle.aprs_book.specs.declared.lists.message_key.MessageKey.{MessageKey}
 use Rattle.aprs_book.specs.declared.lists.message_key.Span.{Span}
 use Rattle.aprs_book.specs.Reports.{report_of}
@@ -44,6 +44,6 @@ module _ (rows : List Row) (r : Row) where
       → AreSpans (rows ++ r ∷ []) es
   spans_beside es n c = spans_passed rows (rows ++ r ∷ []) r (adds_last rows r) es c n
 
-  pub replies_beside : (es : List (Asked × Heard)) → ((a : Answer) → IsReply a (row_key r) → ⊥)
+  pub replies_beside : (es : List (AnswerKey × Heard)) → ((a : Answer) → IsReply a (row_key r) → ⊥)
       → AreReplies rows es → AreReplies (rows ++ r ∷ []) es
   replies_beside es n c = replies_passed rows (rows ++ r ∷ []) r (adds_last rows r) es c n

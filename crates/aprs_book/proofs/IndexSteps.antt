@@ -30,8 +30,8 @@ use Rattle.aprs_laws.proofs.Orders.{bytes_exact, bytes_total, call_exact, call_t
 use Rattle.aprs_laws.proofs.Known.{rows_know, set_knows, known_last}
 use Rattle.aprs_book.specs.declared.known.subject.Subject.{Subject}
 use Rattle.aprs_book.specs.Reports.{report_of, is_position, is_status, is_object, is_item, is_from, reports_position, reports_status, reports_object, reports_item, without_spaces}
-use Rattle.aprs_book.specs.LastKnown.{IsLastKnown, greatest_of}
-use Rattle.aprs_book.specs.Known.{FourIndexes, Topic, call_bytes, positions, statuses, objects, items, index_of, known_at, known_both, is_reported, reports_at, reported_by, reported_in, reported_at, AreIndexesOf, SameKnown, HaveEntries}
+use Rattle.aprs_book.specs.LastKnown.{IsLastKnown}
+use Rattle.aprs_book.specs.Known.{FourIndexes, Topic, call_bytes, positions, statuses, objects, items, index_of, known_at, known_both, is_reported, reports_at, reported_by, reported_in, reported_at, AreIndexesOf, SameKnown, HaveEntries, greatest_of}
 use Rattle.aprs_book.proofs.KnownSteps.{entry_there, same_as_itself}
 
 -- the receptions of a row are of its greatest's key: what the rows know the book's set knows

@@ -12,7 +12,8 @@ use Rattle.aprs_laws.specs.Row.{Row, row_cmp}
 use Rattle.aprs_laws.specs.JoinRow.{combine, place, coalesce, coalesced_rows, interleave}
 use Rattle.aprs_rows.proofs.Cases.{by_order}
 use Rattle.aprs_rows.proofs.Heads.{head_total, head_less}
-use Rattle.aprs_rows.specs.Head.{head_cmp, HasHead}
+use Rattle.aprs_rows.specs.Head.{HasHead}
+use Rattle.aprs_rows.specs.HeadSteps.{head_cmp}
 use Rattle.aprs_rows.specs.declared.row.head.Head.{Head}
 use Rattle.aprs_book.proofs.Entries.{Above, below_all, combined, AreKeyed-insert_entry}
 use Rattle.aprs_book.proofs.EntryEnds.{filled_insert}

@@ -16,7 +16,7 @@ use Rattle.aprs_book.specs.declared.lists.message.MessageRow.{MessageRow}
 use Rattle.aprs_book.specs.declared.lists.message.MessageState.{MessageState}
 use Rattle.aprs_book.specs.declared.lists.message_key.MessageKey.{MessageKey}
 use Rattle.aprs_book.specs.declared.lists.message_key.Span.{Span}
-use Rattle.aprs_book.specs.declared.lists.message_key.Asked.{Asked}
+use Rattle.aprs_book.specs.declared.lists.message_key.AnswerKey.{AnswerKey}
 use Rattle.aprs_book.specs.Messages.{Message, message_cmp, ReportsIt, AnswersIt, StandsBy, shown_message, IsMessageRow, AreMessages, IsListedBefore, ReportsMessages}
 use Rattle.aprs_book.specs.MessageRows.{message_of, Answer, answer_of, IsReply, AreSpans, AreReplies, IsFor, ReportsAnswer, StateFrom, IsListed, Zipped, IsKeyBefore}
 use Rattle.aprs_book.proofs.Listings.{in_zip_right, in_zip_left}
@@ -41,7 +41,7 @@ answers_by m a k id f r =
     })
 
 module _ (gap : ℕ) (S : List Heard) (rows : List Row) (b : BookOf gap S rows) where
-  module _ (es : List (Asked × Heard)) (c : AreReplies rows es) (m : Message)
+  module _ (es : List (AnswerKey × Heard)) (c : AreReplies rows es) (m : Message)
       (id : List ℕ) where
     pub answer_known : (answer : Option Heard) → ReportsAnswer es m id answer
         → LastKnown S (AnswersIt m id) answer
@@ -63,13 +63,13 @@ module _ (gap : ℕ) (S : List Heard) (rows : List Row) (b : BookOf gap S rows) 
         (subst (λ (q : Answer). IsReply q (row_key y))
         (t.3 (record { source = m.source; addressee = (row_key y).source; id = id }) a.1) a.0))))
 
-  stands : (es : List (Asked × Heard)) → AreReplies rows es → (m : Message) (first : ℕ)
+  stands : (es : List (AnswerKey × Heard)) → AreReplies rows es → (m : Message) (first : ℕ)
       (id : Option (List ℕ)) (state : MessageState) → StateFrom es m first id state
       → StandsBy S m first id state
   stands es c m first None state h = h
   stands es c m first (Some id) state h = (h.0, answer_known es c m id h.0 h.1, h.2)
 
-  module _ (es : List (MessageKey × Span)) (rs : List (Asked × Heard)) (xs : List MessageRow)
+  module _ (es : List (MessageKey × Span)) (rs : List (AnswerKey × Heard)) (xs : List MessageRow)
       (cs : AreSpans rows es) (ca : AreReplies rows rs) (o : Ordered IsKeyBefore es)
       (z : Zipped (IsListed rs) es xs) where
     each_row : (x : MessageRow) → x ∈ xs → IsMessageRow S x
@@ -132,7 +132,7 @@ module _ (gap : ℕ) (S : List Heard) (rows : List Row) (b : BookOf gap S rows) 
 
 pub messages_of_book : {E : Type 0} (gap : ℕ) (A : Type 0) (items : A → List MessageRow)
     (r : Result A E)
-    (kept again rows : List Row) (es : List (MessageKey × Span)) (rs : List (Asked × Heard))
+    (kept again rows : List Row) (es : List (MessageKey × Span)) (rs : List (AnswerKey × Heard))
     → kept ≡ rows → again ≡ rows → AreSpans kept es → AreReplies again rs → Ordered IsKeyBefore es
     → IfOk r (λ v. Zipped (IsListed rs) es (items v))
     → IfOk r (λ v. ReportsMessages gap rows (items v))

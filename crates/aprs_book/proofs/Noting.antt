@@ -6,8 +6,7 @@ use Rattle.aprs_laws.specs.JoinRow.{greater}
 use Rattle.aprs_laws.specs.Best.{LastKnown, greater_known}
 use Rattle.aprs_laws.specs.BestLaws.{Passes}
 use Rattle.aprs_laws.proofs.Joins.{greatest_laws, is_greater_of}
-use Rattle.aprs_book.specs.Known.{Topic, is_reported, reported_in, reports_at}
-use Rattle.aprs_book.specs.LastKnown.{greatest_of}
+use Rattle.aprs_book.specs.Known.{Topic, is_reported, reported_in, reports_at, greatest_of}
 use Rattle.aprs_book.proofs.IndexSteps.{pushes_note}
 
 -- the greatest of three

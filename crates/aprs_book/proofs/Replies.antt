@@ -18,7 +18,7 @@ use Rattle.aprs_laws.specs.Best.{greater_known}
 use Rattle.aprs_laws.specs.JoinRow.{greater}
 use Rattle.aprs_laws.proofs.Joins.{is_greater_of}
 use Rattle.aprs_laws.proofs.Orders.{call_total, call_exact, bytes_total, bytes_exact, heard_total, up_to_itself}
-use Rattle.aprs_book.specs.declared.lists.message_key.Asked.{Asked}
+use Rattle.aprs_book.specs.declared.lists.message_key.AnswerKey.{AnswerKey}
 use Rattle.aprs_book.specs.MessageRows.{Answer, answer_of, answer_cmp, IsReply, IsGreatestReply, AreReplies, IsFor, ReportsAnswer}
 use Rattle.aprs_book.specs.Messages.{Message}
 use Rattle.aprs_book.proofs.Collected.{cmp_of, found, absent, Adds, passed, put_by, same_lookup}
@@ -74,25 +74,25 @@ module _ (rows more : List Row) (x : Row) (adds : Adds rows x more) (a : Answer)
   }
 
 -- the order of the keys that code has
-pub asked_alike : (x y : Asked)
+pub answer_keys_alike : (x y : AnswerKey)
     → ordering_then (call_cmp x.source y.source)
     (ordering_then (call_cmp x.addressee y.addressee) (bytes_cmp x.id.now y.id.now))
     ≡ answer_cmp (answer_of x) (answer_of y)
-asked_alike x y = refl
+answer_keys_alike x y = refl
 
-abbrev pub asked_cmp : Asked → Asked → Ordering
-asked_cmp = cmp_of answer_of answer_cmp
+abbrev pub answer_key_cmp : AnswerKey → AnswerKey → Ordering
+answer_key_cmp = cmp_of answer_of answer_cmp
 
 module _ (rows more : List Row) (x : Row) (adds : Adds rows x more)
-    (es : List (Asked × Heard)) (c : AreReplies rows es) where
+    (es : List (AnswerKey × Heard)) (c : AreReplies rows es) where
   pub replies_passed : ((a : Answer) → IsReply a (row_key x) → ⊥) → AreReplies more es
   replies_passed n =
       passed answer_of answer_cmp answer_total answer_exact IsReply IsGreatestReply rows
       more x adds
       (λ a v. reply_stays rows more x adds a v) es c n
 
-  reply_there : (k : Asked) → IsReply (answer_of k) (row_key x) → (known : Option Heard)
-      → lookup (is_at (asked_cmp k)) es ≡ known
+  reply_there : (k : AnswerKey) → IsReply (answer_of k) (row_key x) → (known : Option Heard)
+      → lookup (is_at (answer_key_cmp k)) es ≡ known
       → IsGreatestReply more (answer_of k)
       (greater_known known x.greatest)
   reply_there k q None h =
@@ -105,9 +105,9 @@ module _ (rows more : List Row) (x : Row) (adds : Adds rows x more)
       (subst (IsGreatestReply rows (answer_of k)) f.3
       (subst (λ (t : Answer). IsGreatestReply rows t f.0.1) (sym f.2) (c.each f.0 f.1)))
 
-  pub replies_put : (R : Asked → Asked → Ordering) → ((a b : Asked) → R a b ≡ asked_cmp a b)
-      → (k : Asked)
-      (v : Heard) (new : List (Asked × Heard))
+  pub replies_put : (R : AnswerKey → AnswerKey → Ordering)
+      → ((a b : AnswerKey) → R a b ≡ answer_key_cmp a b)
+      → (k : AnswerKey) (v : Heard) (new : List (AnswerKey × Heard))
       → ((a : Answer) → IsReply a (row_key x) ↔ (Some (answer_of k) ≡ Some a))
       → v ≡ greater_known (lookup (is_at (R k)) es) x.greatest
       → new ≡ insert_entry R es k v → IsStrictlySortedBy R (keys_of new)
@@ -121,7 +121,7 @@ module _ (rows more : List Row) (x : Row) (adds : Adds rows x more)
       (subst (IsGreatestReply more (answer_of k))
       (sym (e ∙ ap (λ t. greater_known t x.greatest)
       (same_lookup answer_of answer_cmp R same k es)))
-      (reply_there k ((q (answer_of k)).1 refl) (lookup (is_at (asked_cmp k)) es) refl)) where
+      (reply_there k ((q (answer_of k)).1 refl) (lookup (is_at (answer_key_cmp k)) es) refl)) where
         unwrapped : (a b : Answer) → Some a ≡ Some b → a ≡ b
         unwrapped a b h = cc
 
@@ -132,9 +132,9 @@ kept_greater r o m x y e f h = e ∙ (ap (λ t. greater_known t x) f ∙ ap (gre
 
 -- ---- the answer that a look-up finds
 
-module _ (es : List (Asked × Heard)) (k : Asked) (m : Message) (id : List ℕ)
+module _ (es : List (AnswerKey × Heard)) (k : AnswerKey) (m : Message) (id : List ℕ)
     (f : IsFor m id (answer_of k)) (u : (a : Answer) → IsFor m id a → a ≡ answer_of k) where
-  reported_by : (known : Option Heard) → lookup (is_at (asked_cmp k)) es ≡ known
+  reported_by : (known : Option Heard) → lookup (is_at (answer_key_cmp k)) es ≡ known
       → ReportsAnswer es m id known
   reported_by None h = λ e j g.
       absent answer_of answer_cmp answer_total answer_exact k es h e j (sym (u (answer_of e.0) g))
@@ -142,13 +142,14 @@ module _ (es : List (Asked × Heard)) (k : Asked) (m : Message) (id : List ℕ)
       let t = found answer_of answer_cmp answer_total answer_exact k v es h in
       (t.0, t.1, subst (IsFor m id) t.2 f, λ a g. u a g ∙ t.2, t.3)
 
-  pub answer_reported_by : (R : Asked → Asked → Ordering) → ((a b : Asked) → R a b ≡ asked_cmp a b)
+  pub answer_reported_by : (R : AnswerKey → AnswerKey → Ordering)
+      → ((a b : AnswerKey) → R a b ≡ answer_key_cmp a b)
       → (o : Option Heard) → o ≡ lookup (is_at (R k)) es
       → ReportsAnswer es m id o
   answer_reported_by R same o e =
       subst (λ t. ReportsAnswer es m id t)
       (sym (e ∙ same_lookup answer_of answer_cmp R same k es))
-      (reported_by (lookup (is_at (asked_cmp k)) es) refl)
+      (reported_by (lookup (is_at (answer_key_cmp k)) es) refl)
 
 -- an answer is known by its parts
 pub same_answer : (a b : Answer) → a.source ≡ b.source → a.addressee ≡ b.addressee → a.id ≡ b.id

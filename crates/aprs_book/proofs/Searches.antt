@@ -23,7 +23,7 @@ use Rattle.aprs_laws.proofs.Parts.{place_before}
 use Rattle.aprs_laws.proofs.Pushes.{IsSound, one_relation, sound_prefix}
 use Rattle.aprs_book.proofs.Places.{here, two_at, one_at, alone_end, alone_next}
 use Rattle.aprs_rows.proofs.Cases.{by_order}
-use Rattle.aprs_rows.specs.Head.{head_cmp}
+use Rattle.aprs_rows.specs.HeadSteps.{head_cmp}
 use Rattle.aprs_rows.specs.declared.row.head.Head.{Head}
 use Rattle.aprs_book.proofs.Entries.{test}
 use Rattle.aprs_book.specs.Places.{IsNewAt, GrowsAt, BridgesAt}

@@ -7,6 +7,7 @@ pub mod Places
 pub mod Taking
 pub mod WithRows
 pub mod Replay
+pub mod Applying
 pub mod RowsFault
 pub mod Reports
 pub mod LastKnown

@@ -13,7 +13,7 @@ use Rattle.aprs_laws.specs.Key.{Key}
 use Rattle.aprs_laws.specs.Row.{Row, row_key, last_of}
 use Rattle.aprs_laws.specs.Spans.{IsLeastFirst, IsGreatestLast}
 use Rattle.aprs_book.specs.declared.lists.message_key.MessageKey.{MessageKey}
-use Rattle.aprs_book.specs.declared.lists.message_key.Asked.{Asked}
+use Rattle.aprs_book.specs.declared.lists.message_key.AnswerKey.{AnswerKey}
 use Rattle.aprs_book.specs.declared.lists.message_key.Span.{Span}
 use Rattle.aprs_book.specs.Reports.{report_of}
 use Rattle.aprs_book.specs.declared.lists.message.MessageRow.{MessageRow}
@@ -66,7 +66,7 @@ pub record Answer : Type 0 where
   pub id : List ℕ
 
 -- the answer that a question of the code asks for
-abbrev pub answer_of : Asked → Answer
+abbrev pub answer_of : AnswerKey → Answer
 answer_of x = record { source = x.source; addressee = x.addressee; id = x.id.now }
 
 -- a key that answers so: who answers sent it to the station whose message it is, and it
@@ -102,7 +102,7 @@ abbrev pub AreSpans : List Row → List (MessageKey × Span) → Type 0
 AreSpans rows entries = IsCollected message_of ReportsIt IsSpan rows entries
 
 -- one greatest reception for each answer of the rows
-abbrev pub AreReplies : List Row → List (Asked × Heard) → Type 0
+abbrev pub AreReplies : List Row → List (AnswerKey × Heard) → Type 0
 AreReplies rows entries = IsCollected answer_of IsReply IsGreatestReply rows entries
 
 -- ---- rows of the listing
@@ -114,22 +114,22 @@ pub record IsFor (m : Message) (id : List ℕ) (a : Answer) : Type 0 where
   pub same_id : a.id ≡ id
 
 -- the greatest answer among the entries, or none
-abbrev pub ReportsAnswer : List (Asked × Heard) → Message → List ℕ → Option Heard → Type 0
+abbrev pub ReportsAnswer : List (AnswerKey × Heard) → Message → List ℕ → Option Heard → Type 0
 ReportsAnswer entries m id None =
-    (e : Asked × Heard) → e ∈ entries → IsFor m id (answer_of e.0) → ⊥
+    (e : AnswerKey × Heard) → e ∈ entries → IsFor m id (answer_of e.0) → ⊥
 ReportsAnswer entries m id (Some g) =
-    (e : Asked × Heard) × (e ∈ entries) × IsFor m id (answer_of e.0)
+    (e : AnswerKey × Heard) × (e ∈ entries) × IsFor m id (answer_of e.0)
     × ((a : Answer) → IsFor m id a → a ≡ answer_of e.0) × (e.1 ≡ g)
 
 -- the state of a message of this first moment and id, by the greatest answer among the entries
-abbrev pub StateFrom : List (Asked × Heard) → Message → ℕ → Option (List ℕ) → MessageState
+abbrev pub StateFrom : List (AnswerKey × Heard) → Message → ℕ → Option (List ℕ) → MessageState
     → Type 0
 StateFrom entries m first None state = state ≡ Unnumbered
 StateFrom entries m first (Some id) state =
     (answer : Option Heard) × ReportsAnswer entries m id answer × (state ≡ state_by first answer)
 
 -- the row of a message and its span
-pub record IsListed (entries : List (Asked × Heard)) (e : MessageKey × Span) (x : MessageRow) :
+pub record IsListed (entries : List (AnswerKey × Heard)) (e : MessageKey × Span) (x : MessageRow) :
     Type 0 where
   pub message : shown_message x ≡ message_of e.0
   pub first : x.first ≡ e.1.first

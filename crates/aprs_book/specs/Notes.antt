@@ -6,8 +6,7 @@ use Rattle.aprs_laws.specs.Best.{LastKnown, greater_known}
 use Rattle.aprs_laws.specs.BestLaws.{Passes}
 use Rattle.aprs_book.specs.declared.known.notes.Notes.{Notes}
 use Rattle.aprs_book.specs.declared.known.notes.Run.{Run}
-use Rattle.aprs_book.specs.Known.{FourIndexes, Topic, index_of, is_reported, known_at, reported_at, reported_in, reports_at}
-use Rattle.aprs_book.specs.LastKnown.{greatest_of}
+use Rattle.aprs_book.specs.Known.{FourIndexes, Topic, index_of, is_reported, known_at, reported_at, reported_in, reports_at, greatest_of}
 
 -- what the indexes know of what has these bytes, with what the last rows report
 abbrev pub known_with : Option Run → Topic → List ℕ → FourIndexes → Option Heard

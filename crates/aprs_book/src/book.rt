@@ -121,11 +121,13 @@ impl<A: Allocator + Copy> Book<A> {
     /// failed, exactly if the rows with it are sound. Looks at the last row alone. After an error
     /// the book is as before.
     pub fn push_row(&mut self, parts: &RowParts<A>) -> Result<(), RowCause>
+        ensures added { OnOk result (self.new.rows ≡ self.old.rows ++ parts.now ∷ []) }
+
         ensures sound { IsOkUnless result RowCause.Memory
             ↔ Sound (millis_of self.old.gap) (self.old.rows ++ parts.now ∷ []) }
         ensures cause { MatchOption (refusal (millis_of self.old.gap) self.old.rows parts.now)
             (IsOkUnless result RowCause.Memory) (λ cause. result ≡ Err cause) }
-        ensures added { OnOk result (self.new.rows ≡ self.old.rows ++ parts.now ∷ []) }
+
         ensures gap { self.new.gap ≡ self.old.gap }
         ensures unchanged { OnErr result (self.new ≡ self.old) }
     {
@@ -160,8 +162,10 @@ impl<A: Allocator + Copy> Book<A> {
         ensures joined { IfOk result (AreJoined self.now other.now) }
         ensures book { IfOk result (λ both.
             MergesInto (millis_of self.now.gap) self.now.rows other.now.rows both.rows) }
+
         ensures other_gap { (result ≡ Err MergeFault.OtherGap)
             ↔ (HaveOneGap self.now other.now → ⊥) }
+
         ensures sound { IsSoundBook self.now }
         ensures sound_other { IsSoundBook other.now }
     {
@@ -177,12 +181,14 @@ impl<A: Allocator + Copy> Book<A> {
     /// The book of both sets together, where the gaps are equal.
     fn unite(&self, other: &Book<A>) -> Result<Book<A>, Memory>
         requires { HaveOneGap self.now other.now }
+
         ensures joined { IfOk result (AreJoined self.now other.now) }
         ensures book { IfOk result (λ both.
             MergesInto (millis_of self.now.gap) self.now.rows other.now.rows both.rows) }
+        ensures sound_result { IfOk result IsSoundBook }
+
         ensures sound { IsSoundBook self.now }
         ensures sound_other { IsSoundBook other.now }
-        ensures sound_result { IfOk result IsSoundBook }
     {
         let rows = self.rows.merge(Millis::of(self.gap), &other.rows)?;
         let indexes = self.indexes.merge(&other.indexes)?;
@@ -201,6 +207,7 @@ impl<A: Allocator + Copy> Book<A> {
         ensures gap { IfOk result (λ wide. wide.gap ≡ gap) }
         ensures book { IfOk result (WidensTo self.now) }
         ensures equal { gap ≡ self.now.gap → IfOk result (λ wide. wide ≡ self.now) }
+
         ensures narrower { (result ≡ Err WidenFault.Narrower) ↔ (gap < self.now.gap) }
     {
         if gap.seconds() < self.gap.seconds() {

@@ -27,6 +27,7 @@ pub fn from_rows<A: Allocator + Copy>(
     ensures gap { IfOk result (λ book. book.gap ≡ gap) }
     ensures rows { IfOk result (λ book. book.rows ≡ rows.now) }
     ensures sound { IsOk result → Sound (millis_of gap) rows.now }
+
     ensures memory { Sound (millis_of gap) rows.now
         → IfErr result (λ f. f.cause ≡ RowCause.Memory) }
     ensures fault { IfErr result (IsRowsFault (millis_of gap) rows.now) }
@@ -40,14 +41,17 @@ pub fn from_rows<A: Allocator + Copy>(
 /// the book has those before it.
 fn push_rows<A: Allocator + Copy>(book: &mut Book<A>, rows: &[RowParts<A>]) -> Result<(), RowsFault>
     requires { book.old.rows ≡ [] }
-    ensures gap { book.new.gap ≡ book.old.gap }
+
     ensures rows { OnOk result (book.new.rows ≡ rows.now) }
     ensures sound { OnOk result (Sound (millis_of book.old.gap) rows.now) }
+
     ensures place { IfErr result (λ f. f.place < length rows.now) }
     ensures reached { IfErr result (λ f. book.new.rows ≡ take f.place rows.now) }
     ensures memory { Sound (millis_of book.old.gap) rows.now
         → IfErr result (λ f. f.cause ≡ RowCause.Memory) }
     ensures fault { IfErr result (IsRowsFault (millis_of book.old.gap) rows.now) }
+
+    ensures gap { book.new.gap ≡ book.old.gap }
 {
     for (place, row) in rows.iter().enumerate() {
         if let Err(cause) = book.push_row(row) {

@@ -5,8 +5,7 @@ use Rattle.std.proofs.lemmas.List.Elements.{All-weaker}
 use Rattle.std.proofs.lemmas.Result.{IfErr-weaker}
 use Rattle.aprs_io.specs.Device.{Rose}
 use Rattle.aprs_io.specs.declared.device.Counted.{Counted}
-use Rattle.aprs_io.specs.Input.{most_input}
-use Rattle.aprs_io.specs.Input.{Gets}
+use Rattle.aprs_io.specs.Input.{most_input, Gets}
 use Rattle.aprs_log.specs.Moment.{IsWritable, date_text, day_after, moment_text_in, time_text}
 use Rattle.aprs_log.specs.Reception.{Heard}
 use Rattle.aprs_io.specs.declared.input.Ending.{Ending}

@@ -45,8 +45,7 @@ use Rattle.aprs_booktext.proofs.Digits.{decode_of-spelled}
 use Rattle.aprs_booktext.proofs.RowReading.{IsNoRow}
 use Rattle.aprs_booktext.proofs.Spellings.{moment_found, moment_missed, moment_read, names_pieces, same_fields, six_pieces, spelled_by}
 use Rattle.aprs_booktext.proofs.Standing.{cut_fault, ended_fault, ended_stands, ended_whole, held_stands}
-use Rattle.aprs_booktext.proofs.Versions.{no_header}
-use Rattle.aprs_booktext.proofs.Versions.{standard_range}
+use Rattle.aprs_booktext.proofs.Versions.{no_header, standard_range}
 
 -- ---- one list, or another
 

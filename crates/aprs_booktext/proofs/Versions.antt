@@ -6,14 +6,13 @@ use Rattle.std.specs.Str.{bytes_eq}
 use Rattle.std.proofs.lemmas.Bool.Decides.{nat_tests}
 use Rattle.std.proofs.lemmas.Fmt.{decimal_by_steps, decimal_injective, length-decimal-le}
 use Rattle.std.proofs.lemmas.Slice.Eq.{bytes_eq-Decides}
-use Rattle.aprs_laws.specs.Gap.{IsGap, millis_of}
+use Rattle.aprs_laws.specs.Gap.{IsGap, millis_of, standard_gap}
 use Rattle.aprs_booktext.specs.Lines.{Lacks}
 use Rattle.aprs_io.specs.Cut.{is_byte}
 use Rattle.aprs_booktext.specs.Version.{gap_of, header_of, IsVersion}
 use Rattle.aprs_booktext.specs.declared.version.Version.{Version}
 use Rattle.aprs_booktext.specs.declared.version.Version.TheVariants.{One, Two, Three}
 use Rattle.aprs_booktext.proofs.Cuts.{lacks_append}
-use Rattle.aprs_laws.specs.Gap.{standard_gap}
 
 -- ---- no number has an LF
 

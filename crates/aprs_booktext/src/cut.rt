@@ -22,6 +22,7 @@ pub fn cut(text: &[u8], stop: u8) -> Option<(&[u8], &[u8])>
 pub fn cut_near(text: &[u8], stop: u8) -> Option<(&[u8], &[u8])>
     ensures none { IfNone result (Lacks stop text.now) }
     ensures one { IfNone result (pieces stop text.now ≡ text.now ∷ []) }
+
     ensures some { IfSome result (λ p. (text.now ≡ p.0.now ++ stop ∷ p.1.now)
         × Lacks stop p.0.now) }
     ensures pieces { IfSome result (λ p. pieces stop text.now ≡ p.0.now ∷ pieces stop p.1.now) }

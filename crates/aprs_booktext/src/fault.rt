@@ -1,5 +1,5 @@
 //! Why a text is no book.
-ghost use Rattle.std.specs.Prelude.{◌≡◌, codes};
+ghost use Rattle.std.specs.Prelude.{◌≡◌};
 ghost use Rattle.aprs_booktext.specs.Fault.{book_cause_number, book_cause_name, book_cause_of};
 
 use aprs_book::RowCause;

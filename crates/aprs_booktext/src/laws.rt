@@ -1,5 +1,5 @@
 //! Laws over all rows. Their functions do nothing: what they ensure is the law.
-ghost use Rattle.aprs_booktext.specs.Law.{AreCutShort, AreOfSets, AreReadBack, AreWrittenBack, BooksAreFaultless, HaveFaultOrBook, HaveOneBookFault, HaveOneText, TellBooksApart};
+ghost use Rattle.aprs_booktext.specs.Law as Spec;
 ghost use Rattle.aprs_booktext.specs.Seconds.{AreWrittenToTheSecond};
 
 /// The text of a book's rows in a version, with its gap, is that of no other version, gap or rows,
@@ -7,35 +7,35 @@ ghost use Rattle.aprs_booktext.specs.Seconds.{AreWrittenToTheSecond};
 /// fault but that a byte is missing after it or that an allocation failed, and the whole text has
 /// none but the latter.
 pub fn each_book_has_one_text()
-    ensures one { HaveOneText }
-    ensures written { TellBooksApart }
-    ensures cut { AreCutShort }
+    ensures one { Spec.HaveOneText }
+    ensures written { Spec.TellBooksApart }
+    ensures cut { Spec.AreCutShort }
 {}
 
 /// The rows and the gap of a whole text of any version are read back, where the text is within the
 /// limit, no read fails and no allocation fails.
 pub fn written_books_are_read()
-    ensures { AreReadBack }
+    ensures { Spec.AreReadBack }
 {}
 
 /// A text has exactly one fault but `Memory`, for each way in which the input may end, unless it is
 /// the whole text of a book and the end came after it: then it has none but that.
 pub fn each_text_has_one_fault_or_none()
-    ensures some { HaveFaultOrBook }
-    ensures one { HaveOneBookFault }
-    ensures none { BooksAreFaultless }
+    ensures some { Spec.HaveFaultOrBook }
+    ensures one { Spec.HaveOneBookFault }
+    ensures none { Spec.BooksAreFaultless }
 {}
 
 /// A text is the whole text of a book exactly if it is, in some version, that of the book of some
 /// set of receptions under the version's gap, each row of which can be spelled in a line of it.
 pub fn book_texts_are_of_sets()
-    ensures { AreOfSets }
+    ensures { Spec.AreOfSets }
 {}
 
 /// A book that was read of a text is written as the text of version 3 of the same gap and the same
 /// rows. Those are the same bytes, to the last, exactly if what was read is of version 3.
 pub fn read_books_are_written_back()
-    ensures { AreWrittenBack }
+    ensures { Spec.AreWrittenBack }
 {}
 
 /// In a text of version 1 the moment of a whole second is written as its date and time of day.

@@ -41,6 +41,7 @@ pub fn read_book<R: Read, A: Allocator + Copy>(
     requires limit { limit ≤ most_input }
     requires head { length head.now ≤ 8 }
     requires within { length head.now ≤ limit }
+
     ensures reads { IfSome (R.remaining (device_of source.old))
         (λ input. ReadsBook limit head.now input (R.remaining (device_of source.new)) result) }
     ensures accepts { IfSome (R.remaining (device_of source.old))
@@ -48,6 +49,7 @@ pub fn read_book<R: Read, A: Allocator + Copy>(
         (Rose (failures_of source.old) (failures_of source.new))) }
     ensures seconds { IfSome (R.remaining (device_of source.old))
         (λ input. ReadsSeconds (head.now ++ input) result) }
+
     // The reader is asked neither after its end nor after a fault.
     ensures calls { Asks result source.old source.new }
     ensures over { IfSome (R.remaining (device_of source.old)) (λ input. Takes result
@@ -76,7 +78,7 @@ pub fn read_rows<R: Read, A: Allocator + Copy>(
     requires limit { limit ≤ most_input }
     requires head { length head.now ≤ 8 }
     requires within { length head.now ≤ limit }
-    ensures kept { OnOk result (store.new ≡ store.old ++ rows_after store.old store.new) }
+
     ensures reads { IfSome (R.remaining (device_of source.old))
         (λ input. ReadsBook limit head.now input (R.remaining (device_of source.new))
         (book_read result store.old store.new)) }
@@ -85,6 +87,8 @@ pub fn read_rows<R: Read, A: Allocator + Copy>(
         (Rose (failures_of source.old) (failures_of source.new))) }
     ensures seconds { IfSome (R.remaining (device_of source.old))
         (λ input. ReadsSeconds (head.now ++ input) (book_read result store.old store.new)) }
+
+    ensures kept { OnOk result (store.new ≡ store.old ++ rows_after store.old store.new) }
     // The reader is asked neither after its end nor after a fault.
     ensures calls { Asks (book_read result store.old store.new) source.old source.new }
     ensures over { IfSome (R.remaining (device_of source.old))
@@ -109,13 +113,16 @@ fn read_lines<R: Read, A: Allocator + Copy>(
     requires within { length head.now ≤ limit }
     requires none { size_of reader.old ≡ 0 }
     requires stands { Stands store.old reader.old store.old [] }
+
     ensures got { IfOk result (λ left. Got (Stands store.old reader.new store.new) head.now
         (R.remaining (device_of source.old)) (R.remaining (device_of source.new)) limit left) }
     ensures few { OnOk result (reader.new.count ≤ most_input) }
     ensures done { OnOk result (is_done reader.new.stage ≡ true) }
-    ensures going { OnOk result (Calls Going source.old source.new) }
+
     ensures fault { IfErr result (λ fault.
         IsAnswered R.remaining limit head.now (Err fault) source.old source.new) }
+
+    ensures going { OnOk result (Calls Going source.old source.new) }
 {
     reader.feed(store, head)?;
     let mut room = [0; CHUNK];

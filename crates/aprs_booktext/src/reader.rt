@@ -10,8 +10,7 @@ ghost use Rattle.aprs_booktext.specs.Fault.{ending_cause};
 ghost use Rattle.aprs_booktext.specs.Lines.{Lacks};
 ghost use Rattle.aprs_booktext.specs.StoredRows.{book_read};
 ghost use Rattle.aprs_booktext.specs.Text.{end_line};
-ghost use Rattle.aprs_booktext.specs.Version.{gap_of};
-ghost use Rattle.aprs_booktext.specs.Reader.{AddsRow, EndsIn, HasRows, HasRowsSo, IsFault, IsJudged, IsJudgedFirst, IsJudgedIn, IsOfText, gap_in, is_done, line_number, may_end, size_of, Stands};
+ghost use Rattle.aprs_booktext.specs.Reader as Spec;
 
 use crate::cut::cut;
 use crate::end_line::end_line;
@@ -48,8 +47,8 @@ pub struct BookReader<A: Allocator> {
 impl<A: Allocator + Copy> BookReader<A> {
     /// A reader before a text.
     pub fn new(alloc: A) -> BookReader<A>
-        ensures stands { (store : List Row) → Stands store result store [] }
-        ensures empty { size_of result ≡ 0 }
+        ensures stands { (store : List Row) → Spec.Stands store result store [] }
+        ensures empty { Spec.size_of result ≡ 0 }
     {
         BookReader {
             count: 0,
@@ -61,14 +60,14 @@ impl<A: Allocator + Copy> BookReader<A> {
 
     /// Whether the last line was read.
     pub fn is_done(&self) -> bool
-        ensures { result ≡ is_done self.now.stage }
+        ensures { result ≡ Spec.is_done self.now.stage }
     {
         is_done(self.stage)
     }
 
     /// The gap of the text's book, as the header says; before that is read, the standard gap.
     pub fn gap(&self) -> Gap
-        ensures { result ≡ gap_in self.now.stage }
+        ensures { result ≡ Spec.gap_in self.now.stage }
     {
         match self.stage {
             Stage::Header => Gap::STANDARD,
@@ -78,15 +77,18 @@ impl<A: Allocator + Copy> BookReader<A> {
 
     /// Reads on, and puts the rows of the lines after those of the store.
     pub fn feed(&mut self, store: &mut RowStore<A>, piece: &[u8]) -> Result<(), BookFault>
-        requires { size_of self.old + length piece.now ≤ most_input }
+        requires { Spec.size_of self.old + length piece.now ≤ most_input }
+
         ensures stands { OnOk result ((before : List Row) (t : List ℕ)
-            → Stands before self.old store.old t
-            → Stands before self.new store.new (t ++ piece.now)) }
-        ensures size { OnOk result (size_of self.new ≤ size_of self.old + length piece.now) }
+            → Spec.Stands before self.old store.old t
+            → Spec.Stands before self.new store.new (t ++ piece.now)) }
+        ensures size { OnOk result
+            (Spec.size_of self.new ≤ Spec.size_of self.old + length piece.now) }
+
         ensures fault { IfErr result (λ fault. (before : List Row) (t : List ℕ)
-            → Stands before self.old store.old t
-            → IsFault (length piece.now) fault (t ++ piece.now)) }
-        ensures cause { IfErr result (λ fault. IsOfText fault.cause) }
+            → Spec.Stands before self.old store.old t
+            → Spec.IsFault (length piece.now) fault (t ++ piece.now)) }
+        ensures cause { IfErr result (λ fault. Spec.IsOfText fault.cause) }
     {
         let mut rest = piece;
         while let Some((part, after)) = cut(rest, b'\n') {
@@ -98,18 +100,21 @@ impl<A: Allocator + Copy> BookReader<A> {
 
     /// Puts bytes after those of the line.
     fn append(&mut self, bytes: &[u8]) -> Result<(), BookFault>
-        requires { size_of self.old ≤ most_input }
+        requires { Spec.size_of self.old ≤ most_input }
+
         ensures stands { OnOk result ((before store : List Row) (t : List ℕ)
-            → Stands before self.old store t → Lacks 10 bytes.now
-            → Stands before self.new store (t ++ bytes.now)) }
-        ensures size { OnOk result (size_of self.new ≤ size_of self.old + length bytes.now) }
+            → Spec.Stands before self.old store t → Lacks 10 bytes.now
+            → Spec.Stands before self.new store (t ++ bytes.now)) }
+        ensures size { OnOk result
+            (Spec.size_of self.new ≤ Spec.size_of self.old + length bytes.now) }
+
         ensures fault { IfErr result (λ fault. (before store : List Row) (t more : List ℕ)
-            → Stands before self.old store t
-            → IsFault (length bytes.now + length more) fault ((t ++ bytes.now) ++ more)) }
-        ensures cause { IfErr result (λ fault. IsOfText fault.cause) }
+            → Spec.Stands before self.old store t
+            → Spec.IsFault (length bytes.now + length more) fault ((t ++ bytes.now) ++ more)) }
+        ensures cause { IfErr result (λ fault. Spec.IsOfText fault.cause) }
     {
         if is_done(self.stage) {
-            return self.append_nothing(bytes);
+            return self.refuse_after_end(bytes);
         }
         match self.line.extend_from_slice(bytes) {
             Ok(()) => Ok(()),
@@ -118,14 +123,16 @@ impl<A: Allocator + Copy> BookReader<A> {
     }
 
     /// Refuses any bytes after the last line.
-    fn append_nothing(&self, bytes: &[u8]) -> Result<(), BookFault>
+    fn refuse_after_end(&self, bytes: &[u8]) -> Result<(), BookFault>
         requires few { self.now.count ≤ most_input }
-        requires done { is_done self.now.stage ≡ true }
+        requires done { Spec.is_done self.now.stage ≡ true }
+
         ensures ok { OnOk result (bytes.now ≡ []) }
+
         ensures fault { IfErr result (λ fault. (before store : List Row) (t more : List ℕ)
-            → Stands before self.now store t
-            → IsFault (length bytes.now + length more) fault ((t ++ bytes.now) ++ more)) }
-        ensures cause { IfErr result (λ fault. IsOfText fault.cause) }
+            → Spec.Stands before self.now store t
+            → Spec.IsFault (length bytes.now + length more) fault ((t ++ bytes.now) ++ more)) }
+        ensures cause { IfErr result (λ fault. Spec.IsOfText fault.cause) }
     {
         if bytes.is_empty() {
             return Ok(());
@@ -136,38 +143,42 @@ impl<A: Allocator + Copy> BookReader<A> {
     /// Judges the line that ends with these bytes. Where they are the whole line, it isn't copied
     /// first.
     fn end_line(&mut self, store: &mut RowStore<A>, part: &[u8]) -> Result<(), BookFault>
-        requires { size_of self.old + length part.now ≤ most_input }
+        requires { Spec.size_of self.old + length part.now ≤ most_input }
+
         ensures stands { OnOk result ((before : List Row) (t : List ℕ)
-            → Stands before self.old store.old t → Lacks 10 part.now
-            → Stands before self.new store.new ((t ++ part.now) ++ 10 ∷ [])) }
+            → Spec.Stands before self.old store.old t → Lacks 10 part.now
+            → Spec.Stands before self.new store.new ((t ++ part.now) ++ 10 ∷ [])) }
         ensures size { OnOk result
-            (size_of self.new ≤ size_of self.old + length part.now + 1) }
+            (Spec.size_of self.new ≤ Spec.size_of self.old + length part.now + 1) }
+
         ensures fault { IfErr result (λ fault. (before : List Row) (t more : List ℕ)
-            → Stands before self.old store.old t → Lacks 10 part.now
-            → IsFault (length part.now + (length more + 1)) fault
+            → Spec.Stands before self.old store.old t → Lacks 10 part.now
+            → Spec.IsFault (length part.now + (length more + 1)) fault
             ((t ++ part.now) ++ 10 ∷ more)) }
-        ensures cause { IfErr result (λ fault. IsOfText fault.cause) }
+        ensures cause { IfErr result (λ fault. Spec.IsOfText fault.cause) }
     {
         if self.line.is_empty() && !is_done(self.stage) {
             return self.take_line(store, part);
         }
         self.append(part)?;
-        self.take_held(store)
+        self.take_kept_line(store)
     }
 
-    /// Judges a line that is whole, where none is held.
+    /// Judges a line that is whole, where none is kept.
     fn take_line(&mut self, store: &mut RowStore<A>, line: &[u8]) -> Result<(), BookFault>
-        requires size { size_of self.old + length line.now ≤ most_input }
+        requires size { Spec.size_of self.old + length line.now ≤ most_input }
         requires none { self.old.line.items ≡ [] }
-        requires going { is_done self.old.stage ≡ false }
+        requires going { Spec.is_done self.old.stage ≡ false }
+
         ensures stands { OnOk result ((before : List Row) (t : List ℕ)
-            → Stands before self.old store.old t → Lacks 10 line.now
-            → Stands before self.new store.new ((t ++ line.now) ++ 10 ∷ [])) }
-        ensures size { OnOk result (size_of self.new ≤ size_of self.old + 1) }
+            → Spec.Stands before self.old store.old t → Lacks 10 line.now
+            → Spec.Stands before self.new store.new ((t ++ line.now) ++ 10 ∷ [])) }
+        ensures size { OnOk result (Spec.size_of self.new ≤ Spec.size_of self.old + 1) }
+
         ensures fault { IfErr result (λ fault. (before : List Row) (t more : List ℕ)
-            → Stands before self.old store.old t → Lacks 10 line.now
-            → IsFault (length more + 1) fault ((t ++ line.now) ++ 10 ∷ more)) }
-        ensures cause { IfErr result (λ fault. IsOfText fault.cause) }
+            → Spec.Stands before self.old store.old t → Lacks 10 line.now
+            → Spec.IsFault (length more + 1) fault ((t ++ line.now) ++ 10 ∷ more)) }
+        ensures cause { IfErr result (λ fault. Spec.IsOfText fault.cause) }
     {
         match judge(self.stage, store, &mut self.scratch, &mut self.count, line) {
             Ok(stage) => {
@@ -178,17 +189,19 @@ impl<A: Allocator + Copy> BookReader<A> {
         }
     }
 
-    /// Judges the line that is held, which is whole.
-    fn take_held(&mut self, store: &mut RowStore<A>) -> Result<(), BookFault>
-        requires { size_of self.old ≤ most_input }
+    /// Judges the line that is kept, which is whole.
+    fn take_kept_line(&mut self, store: &mut RowStore<A>) -> Result<(), BookFault>
+        requires { Spec.size_of self.old ≤ most_input }
+
         ensures stands { OnOk result ((before : List Row) (t : List ℕ)
-            → Stands before self.old store.old t
-            → Stands before self.new store.new (t ++ 10 ∷ [])) }
-        ensures size { OnOk result (size_of self.new ≤ size_of self.old + 1) }
+            → Spec.Stands before self.old store.old t
+            → Spec.Stands before self.new store.new (t ++ 10 ∷ [])) }
+        ensures size { OnOk result (Spec.size_of self.new ≤ Spec.size_of self.old + 1) }
+
         ensures fault { IfErr result (λ fault. (before : List Row) (t more : List ℕ)
-            → Stands before self.old store.old t
-            → IsFault (length more + 1) fault (t ++ 10 ∷ more)) }
-        ensures cause { IfErr result (λ fault. IsOfText fault.cause) }
+            → Spec.Stands before self.old store.old t
+            → Spec.IsFault (length more + 1) fault (t ++ 10 ∷ more)) }
+        ensures cause { IfErr result (λ fault. Spec.IsOfText fault.cause) }
     {
         let line = self.line.as_slice();
         match judge(self.stage, store, &mut self.scratch, &mut self.count, line) {
@@ -204,10 +217,10 @@ impl<A: Allocator + Copy> BookReader<A> {
     /// The gap of the text's book, where the text may end so.
     pub fn finish(&self, ending: Ending) -> Result<Gap, BookFault>
         requires { self.now.count ≤ most_input }
-        ensures reads { (before store : List Row) (t : List ℕ) → Stands before self.now store t
+        ensures reads { (before store : List Row) (t : List ℕ) → Spec.Stands before self.now store t
             → IsAnswerFor (book_read result before store) t ending }
-        ensures ending { EndsIn ending result }
-        ensures gap { IfOk result (λ gap. gap ≡ gap_in self.now.stage) }
+        ensures ending { Spec.EndsIn ending result }
+        ensures gap { IfOk result (λ gap. gap ≡ Spec.gap_in self.now.stage) }
     {
         if may_end(self.stage, ending) {
             return Ok(self.gap());
@@ -219,7 +232,7 @@ impl<A: Allocator + Copy> BookReader<A> {
     pub fn fault_at(&self, ending: Ending) -> BookFault
         requires { self.now.count ≤ most_input }
         ensures { result ≡ record {
-          line = line_number self.now.stage self.now.count;
+          line = Spec.line_number self.now.stage self.now.count;
           cause = ending_cause ending;
         } }
     {
@@ -241,7 +254,7 @@ impl<A: Allocator + Copy> BookReader<A> {
     pub fn fault(&self, cause: BookCause) -> BookFault
         requires { self.now.count ≤ most_input }
         ensures { result
-            ≡ record { line = line_number self.now.stage self.now.count; cause = cause } }
+            ≡ record { line = Spec.line_number self.now.stage self.now.count; cause = cause } }
     {
         let rows = self.count as u64;
         let line = match self.stage {
@@ -255,7 +268,7 @@ impl<A: Allocator + Copy> BookReader<A> {
 
 /// Whether the last line was read.
 fn is_done(stage: Stage) -> bool
-    ensures { result ≡ is_done stage }
+    ensures { result ≡ Spec.is_done stage }
 {
     match stage {
         Stage::Done(_) => true,
@@ -265,7 +278,7 @@ fn is_done(stage: Stage) -> bool
 
 /// Whether a text may end there.
 fn may_end(stage: Stage, ending: Ending) -> bool
-    ensures { result ≡ may_end stage ending }
+    ensures { result ≡ Spec.may_end stage ending }
 {
     is_done(stage) && ending == Ending::End
 }
@@ -279,11 +292,14 @@ fn judge<A: Allocator + Copy>(
     line: &[u8],
 ) -> Result<Stage, BookCause>
     requires { count.old + length line.now ≤ most_input }
-    ensures judged { (before rows : List Row) → HasRows before rows count.old store.old
-        → HasRowsSo before count.new store.new (IsJudgedIn stage result rows line.now) }
+
+    ensures judged { (before rows : List Row) → Spec.HasRows before rows count.old store.old
+        → Spec.HasRowsSo before count.new store.new (Spec.IsJudgedIn stage result rows line.now) }
     ensures count { count.new ≤ count.old + 1 }
+
+    ensures cause { IfErr result Spec.IsOfText }
+
     ensures unchanged { OnErr result (count.new ≡ count.old) }
-    ensures cause { IfErr result IsOfText }
 {
     match stage {
         Stage::Header => judge_header(line),
@@ -294,8 +310,8 @@ fn judge<A: Allocator + Copy>(
 
 /// What comes after the first line: rows of a text of the version that it names.
 fn judge_header(line: &[u8]) -> Result<Stage, BookCause>
-    ensures judged { (rows : List Row) → IsJudgedFirst result rows line.now rows }
-    ensures cause { IfErr result IsOfText }
+    ensures judged { (rows : List Row) → Spec.IsJudgedFirst result rows line.now rows }
+    ensures cause { IfErr result Spec.IsOfText }
 {
     match Version::of_header(line) {
         Some(version) => Ok(Stage::Rows(version)),
@@ -312,11 +328,14 @@ fn judge_line<A: Allocator + Copy>(
     line: &[u8],
 ) -> Result<Stage, BookCause>
     requires { count.old + length line.now ≤ most_input }
-    ensures judged { (before rows : List Row) → HasRows before rows count.old store.old
-        → HasRowsSo before count.new store.new (IsJudged version result rows line.now) }
+
+    ensures judged { (before rows : List Row) → Spec.HasRows before rows count.old store.old
+        → Spec.HasRowsSo before count.new store.new (Spec.IsJudged version result rows line.now) }
     ensures count { count.new ≤ count.old + 1 }
+
+    ensures cause { IfErr result Spec.IsOfText }
+
     ensures unchanged { OnErr result (count.new ≡ count.old) }
-    ensures cause { IfErr result IsOfText }
 {
     if line.starts_with(b"END") {
         return judge_end(line, version, *count);
@@ -349,9 +368,9 @@ fn add_row<A: Allocator + Copy>(
     line: &[u8],
 ) -> Result<(), BookCause>
     requires { length line.now ≤ most_input }
-    ensures added { (before rows : List Row) → HasRows before rows count store.old
-        → AddsRow version.now result rows line.now store.old store.new }
-    ensures cause { IfErr result IsOfText }
+    ensures added { (before rows : List Row) → Spec.HasRows before rows count store.old
+        → Spec.AddsRow version.now result rows line.now store.old store.new }
+    ensures cause { IfErr result Spec.IsOfText }
 {
     let row = read_row(scratch, version.form(), line)?;
     if let Some(cause) = refusal(store, count, version.gap(), &row) {
@@ -370,7 +389,7 @@ fn refusal<A: Allocator + Copy>(
     gap: Gap,
     row: &RowView<'_>,
 ) -> Option<RowCause>
-    ensures cause { (before rows : List Row) → HasRows before rows count store.now
+    ensures cause { (before rows : List Row) → Spec.HasRows before rows count store.now
         → result ≡ refusal (millis_of gap) rows row.now }
     ensures sound { IfNone result (IsSoundRow row.now) }
 {

@@ -1,5 +1,5 @@
 //! A row's line.
-ghost use Rattle.std.specs.Prelude.{◌≡◌, ◌≢◌, ◌↔◌, ◌≤◌, ◌⊎◌, ◌∷◌, ◌++◌, ℕ, List, length, All, IsTrue, IfOk, OnOk, IfErr, IfNone, IfSome};
+ghost use Rattle.std.specs.Prelude.{◌≡◌, ◌≢◌, ◌↔◌, ◌∷◌, ◌++◌, ℕ, List, All, IsTrue, IfOk, OnOk, IfErr, IfNone, IfSome};
 ghost use Rattle.aprs_log.specs.Clock.{form_size};
 ghost use Rattle.aprs_log.specs.Receiver.{IsName};
 ghost use Rattle.aprs_log.specs.Moment.{moment_text_in, IsWritable};

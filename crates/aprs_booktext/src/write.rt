@@ -1,8 +1,7 @@
 //! Writing a book.
-ghost use Rattle.std.specs.Prelude.{◌≡◌, ◌<◌, ◌≤◌, ◌+◌, ◌*◌, ◌++◌, ◌∷◌, [], All, codes, length, map, flat_map, take, OnOk};
+ghost use Rattle.std.specs.Prelude.{◌≡◌, ◌<◌, ◌≤◌, ◌+◌, ◌*◌, ◌++◌, ◌∷◌, [], All, codes, length, flat_map, take, OnOk};
 ghost use Rattle.std.specs.List.{join_with_byte};
 ghost use Rattle.hex.specs.Hex.{encode_lower, IsBytes};
-ghost use Rattle.arrayvec.specs.ArrayVec.{array_vec_len};
 ghost use Rattle.aprs_ax25.specs.Frame.{FrameOf};
 ghost use Rattle.aprs_ax25.specs.FrameFault.{parts_of};
 ghost use Rattle.aprs_log.specs.Moment.{moment_text, IsWritable};
@@ -11,7 +10,7 @@ ghost use Rattle.aprs_log.specs.declared.moment_form.MomentForm.TheVariants.{Mil
 ghost use Rattle.aprs_io.specs.Device.{Sends};
 ghost use Rattle.aprs_io.specs.Outlet.{Puts};
 ghost use Rattle.aprs_booktext.specs.RowLines.{AreSpelled, line_and_lf, ended_by_lf};
-ghost use Rattle.aprs_booktext.specs.Text.{row_line, end_line, IsBookRow, IsBookRows, written_text, written_version};
+ghost use Rattle.aprs_booktext.specs.Text as Spec;
 ghost use Rattle.aprs_booktext.specs.Version.{header_of};
 ghost use Rattle.aprs_booktext.specs.declared.version.Version.TheVariants.{Three};
 
@@ -43,9 +42,9 @@ pub fn write_book<W: Write, A: Allocator + Copy>(
     w: &mut Counted<W>,
     book: &Book<A>,
 ) -> Result<(), WriteFault>
-    ensures sends { Sends W.contents result w.old w.new (written_text book.now) }
+    ensures sends { Sends W.contents result w.old w.new (Spec.written_text book.now) }
     // Such rows are read back of their text.
-    ensures spelled { OnOk result (IsBookRows (written_version book.now) book.now.rows) }
+    ensures spelled { OnOk result (Spec.IsBookRows (Spec.written_version book.now) book.now.rows) }
 {
     let mut out = Outlet::new(w);
     put_book(&mut out, book)?;
@@ -57,8 +56,8 @@ fn put_book<W: Write, A: Allocator + Copy>(
     out: &mut Outlet<'_, W>,
     book: &Book<A>,
 ) -> Result<(), WriteFault>
-    ensures puts { Puts W.contents result out.old out.new (written_text book.now) }
-    ensures spelled { OnOk result (IsBookRows (written_version book.now) book.now.rows) }
+    ensures puts { Puts W.contents result out.old out.new (Spec.written_text book.now) }
+    ensures spelled { OnOk result (Spec.IsBookRows (Spec.written_version book.now) book.now.rows) }
 {
     out.put(header_line(book.gap()).as_slice())?;
     put_rows(out, book)?;
@@ -71,7 +70,7 @@ fn put_rows<W: Write, A: Allocator + Copy>(
     book: &Book<A>,
 ) -> Result<(), WriteFault>
     ensures puts { Puts W.contents result out.old out.new (flat_map line_and_lf book.now.rows) }
-    ensures spelled { OnOk result (IsBookRows (written_version book.now) book.now.rows) }
+    ensures spelled { OnOk result (Spec.IsBookRows (Spec.written_version book.now) book.now.rows) }
 {
     let mut room = RowRoom::new();
     for row in book.rows() {
@@ -86,8 +85,9 @@ fn put_book_row<W: Write>(
     room: &mut RowRoom,
     row: &Row<'_>,
 ) -> Result<(), WriteFault>
-    ensures puts { Puts W.contents result out.old out.new (ended_by_lf (row_line Millis row.now)) }
-    ensures spelled { OnOk result (0 < length row.now.receivers → IsBookRow Millis row.now) }
+    ensures puts { Puts W.contents result out.old out.new
+        (ended_by_lf (Spec.row_line Millis row.now)) }
+    ensures spelled { OnOk result (0 < length row.now.receivers → Spec.IsBookRow Millis row.now) }
 {
     out.put(&row_head(&mut room.moments, row.first, row.last))?;
     put_names(out, row.receivers)?;
@@ -100,8 +100,9 @@ pub(crate) fn put_row<W: Write>(
     room: &mut RowRoom,
     row: &RowView<'_>,
 ) -> Result<(), WriteFault>
-    ensures puts { Puts W.contents result out.old out.new (ended_by_lf (row_line Millis row.now)) }
-    ensures spelled { OnOk result (0 < length row.now.receivers → IsBookRow Millis row.now) }
+    ensures puts { Puts W.contents result out.old out.new
+        (ended_by_lf (Spec.row_line Millis row.now)) }
+    ensures spelled { OnOk result (0 < length row.now.receivers → Spec.IsBookRow Millis row.now) }
 {
     out.put(&row_head(&mut room.moments, row.first(), row.last()))?;
     out.put(row.receivers())?;
@@ -141,10 +142,12 @@ fn row_tail<'r>(room: &'r mut [u8; ROW_TAIL], receiver: &[u8], frame: &[u8]) -> 
 /// the place after them.
 fn put_hex(room: &mut [u8], at: usize, bytes: &[u8]) -> usize
     requires { at + 2 * length bytes.now ≤ length room.old }
+
     ensures end { result ≡ at + 2 * length bytes.now }
-    ensures len { length room.new ≡ length room.old }
     ensures digits { take result room.new ≡ take at room.old ++ encode_lower bytes.now }
     ensures bytes { IsBytes bytes.now }
+
+    ensures len { length room.new ≡ length room.old }
 {
     let end = at + 2 * bytes.len();
     encode_to(bytes, &mut room[at..end]);
@@ -199,7 +202,7 @@ pub(crate) fn header_line(gap: Gap) -> ArrayVec<u8, MAX_HEADER>
 
 /// The last line of a book of so many rows, with its LF.
 pub(crate) fn end_line_and_lf(rows: usize) -> ArrayVec<u8, END_LINE>
-    ensures { result.items ≡ ended_by_lf (end_line rows) }
+    ensures { result.items ≡ ended_by_lf (Spec.end_line rows) }
 {
     let mut text = end_line(rows);
     push_all(&mut text, b"\n");

@@ -1,17 +1,10 @@
 //! The arguments of the command line.
 ghost use Rattle.std.specs.Prelude.{◌≡◌, ◌≢◌, ◌⊎◌, option_map, IfOk, map, true, false};
-ghost use Rattle.clap.specs.Words.{app_of, first_of, found_of, is_simple, is_simple_and_free, kind_of, rows_of};
-ghost use Rattle.clap.specs.Words.{rule_of, subcommand_rows_of};
+ghost use Rattle.clap.specs.Words.{app_of, first_of, found_of, is_simple, is_simple_and_free, kind_of, rows_of, rule_of, subcommand_rows_of};
 ghost use Rattle.clap.specs.declared.error.kind.ErrorKind.TheVariants.{OutOfMemory};
 ghost use Rattle.clap.specs.declared.builder.command.Command.TheViews.{out-Command};
 ghost use Rattle.clap.specs.declared.builder.value_parser.ValueParser.{ValueParser};
-ghost use Rattle.aprs_command.specs.Arguments.{IsForms, AnswersArguments, JudgesArguments, job_task, form_rule, option_rule, required_rule};
-ghost use Rattle.aprs_command.specs.Arguments.{check_app, convert_app, gathering_app, program_app, program_top, receiver_of};
-ghost use Rattle.aprs_command.specs.Arguments.{widen_app, gap_rule, seconds_rule, gap_parser, read_gap};
-ghost use Rattle.aprs_command.specs.Arguments.{chosen_gap, widened_gap};
-ghost use Rattle.aprs_command.specs.Arguments.{AreForms, input_rule, inputs_in, inputs_of, inputs_rule, paths_of};
-ghost use Rattle.aprs_command.specs.Arguments.{plain_form_of, capture_form_of, named_form_of, asked_form};
-ghost use Rattle.aprs_command.specs.Arguments.{task_by_name, task_of};
+ghost use Rattle.aprs_command.specs.Arguments as Spec;
 ghost use Rattle.aprs_log.specs.MomentReading.{moment_of};
 
 use crate::help;
@@ -45,10 +38,10 @@ enum Task {
 /// The inputs' paths are given in the order of the arguments. Where these ask for help or the
 /// version, its text is that of `JobFault::Clap`.
 pub fn job(alloc: Global, arguments: &[&str]) -> Result<Job, JobFault>
-    ensures asked { (p : ValueParser) × IsForms p
-        × AnswersArguments (program_app p) (map (λ a. a.now) arguments.now) result }
-    ensures judged { (p : ValueParser) × IsForms p
-        × JudgesArguments (program_app p) (map (λ a. a.now) arguments.now) result }
+    ensures asked { (p : ValueParser) × Spec.IsForms p
+        × Spec.AnswersArguments (Spec.program_app p) (map (λ a. a.now) arguments.now) result }
+    ensures judged { (p : ValueParser) × Spec.IsForms p
+        × Spec.JudgesArguments (Spec.program_app p) (map (λ a. a.now) arguments.now) result }
 {
     let forms = form_values();
     let command = match program(alloc, forms.as_slice()) {
@@ -70,13 +63,14 @@ pub fn job(alloc: Global, arguments: &[&str]) -> Result<Job, JobFault>
 
 /// The program's command is simple, whatever memory its forms stand in.
 pub fn command_is_simple()
-    ensures simple { (p : ValueParser) → is_simple (program_app p) ≡ true }
-    ensures free { (p : ValueParser) → IsForms p → is_simple_and_free (program_app p) ≡ true }
+    ensures simple { (p : ValueParser) → is_simple (Spec.program_app p) ≡ true }
+    ensures free { (p : ValueParser) → Spec.IsForms p
+        → is_simple_and_free (Spec.program_app p) ≡ true }
 {}
 
 /// The forms, as help describes them.
 fn form_values<'a>() -> [PossibleValue<'a>; 5]
-    ensures { AreForms result }
+    ensures { Spec.AreForms result }
 {
     [
         PossibleValue::new("text").help(help::TEXT),
@@ -88,8 +82,8 @@ fn form_values<'a>() -> [PossibleValue<'a>; 5]
 }
 
 fn form_arg<'a>(alloc: Global, forms: &'a [PossibleValue<'a>]) -> Arg<'a>
-    requires { AreForms forms.now }
-    ensures rule { (p : ValueParser) × IsForms p × (rule_of result ≡ form_rule p) }
+    requires { Spec.AreForms forms.now }
+    ensures rule { (p : ValueParser) × Spec.IsForms p × (rule_of result ≡ Spec.form_rule p) }
     ensures local { result.global ≡ false }
 {
     required_arg(alloc, "form", "FORM", help::FORM).value_parser(forms)
@@ -101,7 +95,7 @@ fn required_arg<'a>(
     value_name: &'static str,
     help: &'static str,
 ) -> Arg<'a>
-    ensures rule { rule_of result ≡ required_rule name.entry.now }
+    ensures rule { rule_of result ≡ Spec.required_rule name.entry.now }
     ensures local { result.global ≡ false }
 {
     Arg::new(alloc, name)
@@ -116,7 +110,7 @@ fn option_arg<'a>(
     value_name: &'static str,
     help: &'static str,
 ) -> Arg<'a>
-    ensures rule { rule_of result ≡ option_rule name.entry.now }
+    ensures rule { rule_of result ≡ Spec.option_rule name.entry.now }
     ensures local { result.global ≡ false }
 {
     Arg::new(alloc, name)
@@ -127,20 +121,20 @@ fn option_arg<'a>(
 
 /// What a gap may be.
 fn gap_parser<'a>() -> ValueParser<'a>
-    ensures { result ≡ gap_parser }
+    ensures { result ≡ Spec.gap_parser }
 {
     ValueParser::unsigned(1, GREATEST_GAP)
 }
 
 fn gap_arg<'a>(alloc: Global) -> Arg<'a>
-    ensures rule { rule_of result ≡ gap_rule }
+    ensures rule { rule_of result ≡ Spec.gap_rule }
     ensures local { result.global ≡ false }
 {
     option_arg(alloc, "gap", "SECONDS", help::GAP).value_parser(gap_parser())
 }
 
 fn seconds_arg<'a>(alloc: Global) -> Arg<'a>
-    ensures rule { rule_of result ≡ seconds_rule }
+    ensures rule { rule_of result ≡ Spec.seconds_rule }
     ensures local { result.global ≡ false }
 {
     required_arg(alloc, "seconds", "SECONDS", help::SECONDS).value_parser(gap_parser())
@@ -148,7 +142,7 @@ fn seconds_arg<'a>(alloc: Global) -> Arg<'a>
 
 /// One input, or none.
 fn input_arg<'a>(alloc: Global, help: &'static str) -> Arg<'a>
-    ensures rule { rule_of result ≡ input_rule }
+    ensures rule { rule_of result ≡ Spec.input_rule }
     ensures local { result.global ≡ false }
 {
     Arg::new(alloc, "input").value_name("INPUT").help(help)
@@ -156,7 +150,7 @@ fn input_arg<'a>(alloc: Global, help: &'static str) -> Arg<'a>
 
 /// Any number of inputs, also none.
 fn inputs_arg<'a>(alloc: Global) -> Arg<'a>
-    ensures rule { rule_of result ≡ inputs_rule }
+    ensures rule { rule_of result ≡ Spec.inputs_rule }
     ensures local { result.global ≡ false }
 {
     Arg::new(alloc, "input")
@@ -169,8 +163,9 @@ fn convert_command<'a>(
     alloc: Global,
     forms: &'a [PossibleValue<'a>],
 ) -> Result<Command<'a>, AllocError>
-    requires { AreForms forms.now }
-    ensures app { IfOk result (λ c. (p : ValueParser) × IsForms p × (app_of c ≡ convert_app p)) }
+    requires { Spec.AreForms forms.now }
+    ensures app { IfOk result (λ c. (p : ValueParser) × Spec.IsForms p
+        × (app_of c ≡ Spec.convert_app p)) }
     ensures globals { IfOk result (λ c. (out-Command c).has_globals ≡ false) }
 {
     let form = form_arg(alloc, forms);
@@ -186,7 +181,7 @@ fn convert_command<'a>(
 }
 
 fn check_command<'a>(alloc: Global) -> Result<Command<'a>, AllocError>
-    ensures app { IfOk result (λ c. app_of c ≡ check_app) }
+    ensures app { IfOk result (λ c. app_of c ≡ Spec.check_app) }
     ensures globals { IfOk result (λ c. (out-Command c).has_globals ≡ false) }
 {
     let input = input_arg(alloc, help::CHECKED);
@@ -199,7 +194,7 @@ fn gathering_command<'a>(
     name: &'static str,
     about: &'static str,
 ) -> Result<Command<'a>, AllocError>
-    ensures app { IfOk result (λ c. app_of c ≡ gathering_app name.entry.now) }
+    ensures app { IfOk result (λ c. app_of c ≡ Spec.gathering_app name.entry.now) }
     ensures globals { IfOk result (λ c. (out-Command c).has_globals ≡ false) }
 {
     let inputs = inputs_arg(alloc);
@@ -209,7 +204,7 @@ fn gathering_command<'a>(
 }
 
 fn widen_command<'a>(alloc: Global) -> Result<Command<'a>, AllocError>
-    ensures app { IfOk result (λ c. app_of c ≡ widen_app) }
+    ensures app { IfOk result (λ c. app_of c ≡ Spec.widen_app) }
     ensures globals { IfOk result (λ c. (out-Command c).has_globals ≡ false) }
 {
     let seconds = seconds_arg(alloc);
@@ -222,7 +217,7 @@ fn widen_command<'a>(alloc: Global) -> Result<Command<'a>, AllocError>
 
 /// The program's command without its commands.
 fn top_command<'a>(alloc: Global) -> Command<'a>
-    ensures { app_of result ≡ program_top }
+    ensures { app_of result ≡ Spec.program_top }
 {
     Command::new(alloc, "aprsbook")
         .version(help::VERSION)
@@ -234,8 +229,9 @@ fn top_command<'a>(alloc: Global) -> Command<'a>
 /// The program's command. Of its commands no two are held at a time, since each that is held would
 /// be given back where memory is refused.
 fn program<'a>(alloc: Global, forms: &'a [PossibleValue<'a>]) -> Result<Command<'a>, AllocError>
-    requires { AreForms forms.now }
-    ensures { IfOk result (λ c. (p : ValueParser) × IsForms p × (app_of c ≡ program_app p)) }
+    requires { Spec.AreForms forms.now }
+    ensures { IfOk result (λ c. (p : ValueParser) × Spec.IsForms p
+        × (app_of c ≡ Spec.program_app p)) }
 {
     let convert = convert_command(alloc, forms)?;
     let with_convert = top_command(alloc).subcommand(convert)?;
@@ -267,7 +263,7 @@ fn text_at<'a>(matches: &ArgMatches<'a>, id: &str) -> Option<&'a str>
 }
 
 fn read_task(matches: &ArgMatches<'_>) -> Option<Task>
-    ensures { result ≡ task_of (subcommand_rows_of matches.now) }
+    ensures { result ≡ Spec.task_of (subcommand_rows_of matches.now) }
 {
     match matches.subcommand() {
         None => Some(Task::Convert(Form::Text)),
@@ -276,7 +272,7 @@ fn read_task(matches: &ArgMatches<'_>) -> Option<Task>
 }
 
 fn read_named(name: &str, matches: &ArgMatches<'_>) -> Option<Task>
-    ensures { result ≡ task_by_name name.now (rows_of (found_of matches.now)) }
+    ensures { result ≡ Spec.task_by_name name.now (rows_of (found_of matches.now)) }
 {
     if name == "convert" {
         Some(Task::Convert(read_form(matches)?))
@@ -293,7 +289,7 @@ fn read_named(name: &str, matches: &ArgMatches<'_>) -> Option<Task>
 
 /// The gap of a book that is made: the standard one where none is given.
 fn read_chosen_gap(matches: &ArgMatches<'_>) -> Option<Gap>
-    ensures { result ≡ chosen_gap (rows_of (found_of matches.now)) }
+    ensures { result ≡ Spec.chosen_gap (rows_of (found_of matches.now)) }
 {
     match text_at(matches, "gap") {
         Some(text) => read_gap(text),
@@ -303,14 +299,14 @@ fn read_chosen_gap(matches: &ArgMatches<'_>) -> Option<Gap>
 
 /// The gap to which a book is widened.
 fn read_widened_gap(matches: &ArgMatches<'_>) -> Option<Gap>
-    ensures { result ≡ widened_gap (rows_of (found_of matches.now)) }
+    ensures { result ≡ Spec.widened_gap (rows_of (found_of matches.now)) }
 {
     read_gap(text_at(matches, "seconds")?)
 }
 
 /// The gap in a text. The command takes no text that has none.
 fn read_gap(text: &str) -> Option<Gap>
-    ensures { result ≡ read_gap text.now }
+    ensures { result ≡ Spec.read_gap text.now }
 {
     match text.parse::<u64>() {
         Ok(seconds) => Gap::new(seconds),
@@ -320,7 +316,7 @@ fn read_gap(text: &str) -> Option<Gap>
 
 /// The form that is asked for, or `None` where its options don't fit.
 fn read_form(matches: &ArgMatches<'_>) -> Option<Form>
-    ensures { result ≡ asked_form (rows_of (found_of matches.now)) }
+    ensures { result ≡ Spec.asked_form (rows_of (found_of matches.now)) }
 {
     let name = text_at(matches, "form")?;
     named_form(
@@ -332,7 +328,7 @@ fn read_form(matches: &ArgMatches<'_>) -> Option<Form>
 
 /// The form of this name. The command takes no name but these four and `capture`.
 fn named_form(name: &str, receiver: Option<&str>, moment: Option<&str>) -> Option<Form>
-    ensures { result ≡ named_form_of name.now (option_map (λ s. s.now) receiver.entry)
+    ensures { result ≡ Spec.named_form_of name.now (option_map (λ s. s.now) receiver.entry)
         (option_map (λ s. s.now) moment.entry) }
 {
     if name == "text" {
@@ -350,7 +346,7 @@ fn named_form(name: &str, receiver: Option<&str>, moment: Option<&str>) -> Optio
 
 /// A form that refuses both options.
 fn plain_form(form: Form, receiver: Option<&str>, moment: Option<&str>) -> Option<Form>
-    ensures { result ≡ plain_form_of form (option_map (λ s. s.now) receiver.entry)
+    ensures { result ≡ Spec.plain_form_of form (option_map (λ s. s.now) receiver.entry)
         (option_map (λ s. s.now) moment.entry) }
 {
     match (receiver, moment) {
@@ -361,7 +357,7 @@ fn plain_form(form: Form, receiver: Option<&str>, moment: Option<&str>) -> Optio
 
 /// The form that needs both options.
 fn capture_form(receiver: Option<&str>, moment: Option<&str>) -> Option<Form>
-    ensures { result ≡ capture_form_of (option_map (λ s. s.now) receiver.entry)
+    ensures { result ≡ Spec.capture_form_of (option_map (λ s. s.now) receiver.entry)
         (option_map (λ s. s.now) moment.entry) }
 {
     let receiver = read_receiver(receiver?)?;
@@ -370,7 +366,7 @@ fn capture_form(receiver: Option<&str>, moment: Option<&str>) -> Option<Form>
 }
 
 fn read_receiver(text: &str) -> Option<Receiver>
-    ensures { result ≡ receiver_of text.now }
+    ensures { result ≡ Spec.receiver_of text.now }
 {
     Receiver::parse(text.as_bytes())
 }
@@ -383,7 +379,8 @@ fn read_moment(text: &str) -> Option<Moment>
 
 /// The paths of the inputs, in order.
 fn read_inputs(alloc: Global, matches: &ArgMatches<'_>) -> Result<Vec<String>, AllocError>
-    ensures { IfOk result (λ v. paths_of v.items ≡ inputs_in (subcommand_rows_of matches.now)) }
+    ensures { IfOk result (λ v. Spec.paths_of v.items
+        ≡ Spec.inputs_in (subcommand_rows_of matches.now)) }
 {
     let Some((_, inner)) = matches.subcommand() else {
         return Ok(Vec::new(alloc));
@@ -396,7 +393,7 @@ fn read_inputs(alloc: Global, matches: &ArgMatches<'_>) -> Result<Vec<String>, A
 
 /// The texts as they are, in memory of their own.
 fn copy_paths(alloc: Global, paths: &[&str]) -> Result<Vec<String>, AllocError>
-    ensures { IfOk result (λ v. paths_of v.items ≡ map (λ path. path.now) paths.now) }
+    ensures { IfOk result (λ v. Spec.paths_of v.items ≡ map (λ path. path.now) paths.now) }
 {
     let mut inputs = Vec::new(alloc);
     for path in paths {
@@ -406,8 +403,8 @@ fn copy_paths(alloc: Global, paths: &[&str]) -> Result<Vec<String>, AllocError>
 }
 
 fn with_inputs(task: Task, inputs: Vec<String>) -> Job
-    ensures task { job_task result ≡ task }
-    ensures inputs { inputs_of result ≡ paths_of inputs.items }
+    ensures task { Spec.job_task result ≡ task }
+    ensures inputs { Spec.inputs_of result ≡ Spec.paths_of inputs.items }
 {
     match task {
         Task::Check => Job::Check(inputs),

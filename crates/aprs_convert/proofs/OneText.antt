@@ -1,9 +1,8 @@
 -- What a conversion or a check writes of an input is one text, and so is the fault.
-use Rattle.std.proofs.Common.{◌≡◌, ◌∙◌, ℕ, ◌+◌, List, [], ◌∷◌, ◌++◌, length, map, Option, None, Some, Ok, Err, inl, inr, sym, ap, append-nil}
+use Rattle.std.proofs.Common.{◌≡◌, ◌∙◌, ℕ, ◌+◌, List, [], ◌∷◌, ◌++◌, length, map, Option, None, Some, Ok, inl, inr, sym, ap, append-nil}
 use Rattle.std.specs.List.{flat_map}
 use Rattle.aprs_kiss.specs.Stream.{judgements_of}
-use Rattle.aprs_log.specs.Line.{frame_in, heard_or_passed, line_of}
-use Rattle.aprs_log.specs.LineText.{IsLine}
+use Rattle.aprs_log.specs.Line.{heard_or_passed, line_of}
 use Rattle.aprs_log.specs.LogAnswers.{log_answers, receptions_of}
 use Rattle.aprs_log.specs.LogText.{HasLogFault, IsLogText, text_of_lines}
 use Rattle.aprs_log.specs.Reception.{Heard}

@@ -1,8 +1,7 @@
 -- Lemmas on texts.
-use Rattle.std.proofs.Common.{◌≡◌, ℕ, ◌+◌, ◌/◌, ◌%◌, ◌≤◌, ◌<◌, ◌^◌, List, [], ◌∷◌, ◌++◌, length, take, Some, None, Option, map, get_or, IfSome, ◌⊎◌, inl, inr, slice_get, refl, ap, sym, ◌∙◌, arith}
+use Rattle.std.proofs.Common.{◌≡◌, ℕ, ◌+◌, ◌/◌, ◌%◌, ◌≤◌, ◌<◌, ◌^◌, List, [], ◌∷◌, ◌++◌, length, take, Some, None, Option, map, get_or, IfSome, ◌⊎◌, inl, inr, slice_get, refl, ap, sym, ◌∙◌, arith, Bool, true, false, cond}
 use Rattle.std.specs.List.{flat_map, list_all}
 use Rattle.std.specs.Option.{option_map}
-use Rattle.std.proofs.Common.{Bool, true, false, cond}
 use Rattle.hex.specs.Hex.{encode_lower}
 use Rattle.aprs_convert.specs.Shown.{is_shown, shown_text}
 use Rattle.std.specs.Fmt.{decimal}

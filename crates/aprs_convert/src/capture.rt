@@ -1,18 +1,14 @@
 //! A KISS stream, captured as a log.
-ghost use Rattle.std.specs.Prelude.{◌≡◌, ◌≤◌, ◌<◌, ◌++◌, ℕ, List, length, take, IfOk, IfErr, IsErrAnd, OnOk, Err};
-ghost use Rattle.std.specs.Prelude.{OnErr};
+ghost use Rattle.std.specs.Prelude.{◌≡◌, ◌≤◌, ◌++◌, ℕ, List, OnOk, OnErr};
 ghost use Rattle.std.specs.List.{flat_map};
-ghost use Rattle.std.specs.Io.KnownBytes.{Appends, Consumes};
+ghost use Rattle.std.specs.Io.KnownBytes.{Appends};
 ghost use Rattle.aprs_io.specs.Input.{most_input};
 ghost use Rattle.aprs_ax25.specs.FrameFault.{frame_of};
-ghost use Rattle.aprs_kiss.specs.Device.{device_of};
-ghost use Rattle.aprs_kiss.specs.Device.{AppendsPrefix, Calls, Sends, last_at};
+ghost use Rattle.aprs_kiss.specs.Device.{device_of, AppendsPrefix, Calls, Sends, last_at};
 ghost use Rattle.aprs_kiss.specs.Reader.{StandsAfter};
 ghost use Rattle.aprs_kiss.specs.Answer.{judgements_in};
 ghost use Rattle.aprs_kiss.specs.Stream.{judgements_of, rest_of};
-ghost use Rattle.aprs_log.specs.Awaits.{EndsHere};
-ghost use Rattle.aprs_log.specs.declared.Ending.TheVariants.{Read as ReadFailed};
-ghost use Rattle.aprs_convert.specs.Plan.{EndsStream, RunsAsPlanned, capture_text, frame_line, stream_plan};
+ghost use Rattle.aprs_convert.specs.Plan as Spec;
 
 use crate::fault::ConvertFault;
 use aprs_ax25::Frame;
@@ -34,8 +30,8 @@ pub fn capture<R: Read, W: Write>(
     w: &mut Counted<W>,
 ) -> Result<(), ConvertFault>
     requires { limit ≤ most_input }
-    ensures { RunsAsPlanned (stream_plan receiver.now moment.now) limit R.remaining W.contents
-        result r.old r.new w.old w.new }
+    ensures { Spec.RunsAsPlanned (Spec.stream_plan receiver.now moment.now) limit
+        R.remaining W.contents result r.old r.new w.old w.new }
 {
     let mut reader = KissReader::new();
     let mut log = LogWriter::new();
@@ -55,7 +51,7 @@ pub fn capture<R: Read, W: Write>(
 
 /// The answer of a run over a stream that ends so.
 fn stream_end(ending: Ending) -> Result<(), ConvertFault>
-    ensures { EndsStream result ending }
+    ensures { Spec.EndsStream result ending }
 {
     match ending {
         Ending::End => Ok(()),
@@ -84,10 +80,10 @@ fn capture_chunk<W: Write>(
         → StandsAfter reader.new (rest_of (e ++ chunk.now))) }
     ensures sent { OnOk result ((e : List ℕ) → StandsAfter reader.old e
         → Appends (W.contents (device_of w.old)) (W.contents (device_of w.new))
-        (flat_map (capture_text receiver.now moment.now) (judgements_of (e ++ chunk.now)))) }
+        (flat_map (Spec.capture_text receiver.now moment.now) (judgements_of (e ++ chunk.now)))) }
     ensures prefix { OnErr result ((e : List ℕ) → StandsAfter reader.old e
         → AppendsPrefix (W.contents (device_of w.old)) (W.contents (device_of w.new))
-        (flat_map (capture_text receiver.now moment.now) (judgements_of (e ++ chunk.now)))) }
+        (flat_map (Spec.capture_text receiver.now moment.now) (judgements_of (e ++ chunk.now)))) }
     ensures calls { Calls (last_at result) w.old w.new }
 {
     let mut rest = chunk;
@@ -109,7 +105,7 @@ fn write_fed<W: Write>(
     fed: Fed<'_>,
 ) -> Result<(), WriteFault>
     ensures { Sends W.contents result w.old w.new
-        (flat_map (capture_text receiver.now moment.now) (judgements_in fed.entry)) }
+        (flat_map (Spec.capture_text receiver.now moment.now) (judgements_in fed.entry)) }
 {
     match fed {
         Fed::Frame { frame, .. } => write_frame(w, log, receiver, moment, frame),
@@ -126,7 +122,7 @@ fn write_frame<W: Write>(
     bytes: &[u8],
 ) -> Result<(), WriteFault>
     ensures { Sends W.contents result w.old w.new
-        (frame_line receiver.now moment.now (frame_of bytes.now)) }
+        (Spec.frame_line receiver.now moment.now (frame_of bytes.now)) }
 {
     match Frame::read(bytes) {
         Ok(frame) => log.write(w, &Reception::new(moment.copy(), receiver.copy(), frame)),

@@ -2,8 +2,7 @@
 ghost use Rattle.std.specs.Prelude.{◌≡◌};
 ghost use Rattle.aprs_io.specs.Outlet.{Puts};
 ghost use Rattle.aprs_listing.specs.Lines.{field_text};
-ghost use Rattle.aprs_listing.specs.Listing.{ambiguity_text, degrees_text, stamp_text};
-ghost use Rattle.aprs_listing.specs.Listing.{word, word_byte};
+ghost use Rattle.aprs_listing.specs.Listing as Spec;
 ghost use Rattle.aprs_convert.specs.Shown.{shown_text};
 
 use aprs_ax25::Callsign;
@@ -52,7 +51,7 @@ pub fn put_field<W: Write>(out: &mut Outlet<'_, W>, field: &Field<'_>) -> Result
 
 /// The stamp's seven bytes, or `-`.
 fn stamp_text(stamp: &Option<Stamp>) -> ArrayVec<u8, 7>
-    ensures { result.items ≡ stamp_text stamp.now }
+    ensures { result.items ≡ Spec.stamp_text stamp.now }
 {
     let mut text = ArrayVec::new();
     match stamp {
@@ -67,7 +66,7 @@ fn stamp_text(stamp: &Option<Stamp>) -> ArrayVec<u8, 7>
 
 /// Numerator and denominator.
 fn degrees_text(fraction: &Fraction) -> ArrayVec<u8, 81>
-    ensures { result.items ≡ degrees_text fraction.now }
+    ensures { result.items ≡ Spec.degrees_text fraction.now }
 {
     let mut text = ArrayVec::new();
     push_all(
@@ -84,7 +83,7 @@ fn degrees_text(fraction: &Fraction) -> ArrayVec<u8, 81>
 
 /// The number of digits that are left out, or `c`.
 fn ambiguity_text(place: &Place) -> ArrayVec<u8, 40>
-    ensures { result.items ≡ ambiguity_text place.now }
+    ensures { result.items ≡ Spec.ambiguity_text place.now }
 {
     let mut text = ArrayVec::new();
     match place {
@@ -111,7 +110,7 @@ pub fn put_shown<W: Write>(out: &mut Outlet<'_, W>, bytes: &[u8]) -> Result<(), 
 
 /// Puts a name, in which a space is shown too.
 fn put_word<W: Write>(out: &mut Outlet<'_, W>, bytes: &[u8]) -> Result<(), WriteFault>
-    ensures { Puts W.contents result out.old out.new (word bytes.now) }
+    ensures { Puts W.contents result out.old out.new (Spec.word bytes.now) }
 {
     for b in bytes {
         out.put(word_byte(*b).as_slice())?;
@@ -121,7 +120,7 @@ fn put_word<W: Write>(out: &mut Outlet<'_, W>, bytes: &[u8]) -> Result<(), Write
 
 /// What a byte of a name is shown as.
 fn word_byte(b: u8) -> ArrayVec<u8, 4>
-    ensures { result.items ≡ word_byte b }
+    ensures { result.items ≡ Spec.word_byte b }
 {
     if b == b' ' {
         let mut text = ArrayVec::new();

@@ -2,8 +2,7 @@
 ghost use Rattle.std.specs.Prelude.{◌≡◌, ◌++◌, ◌∷◌, [], codes, map};
 ghost use Rattle.aprs_io.specs.Outlet.{Puts};
 ghost use Rattle.aprs_listing.specs.Lines.{field_text};
-ghost use Rattle.aprs_listing.specs.Listing.{heard_fields, heard_line, live_text, name_fields};
-ghost use Rattle.aprs_listing.specs.Listing.{place_fields, stamp_text, line_with_text};
+ghost use Rattle.aprs_listing.specs.Listing as Spec;
 
 use crate::field::Field;
 use crate::line::put_text_line;
@@ -42,7 +41,7 @@ impl<'a> Whereabouts<'a> {
 
 /// Puts the line of a position, a status, an object or an item. Other reports have none.
 pub fn put_heard<W: Write>(out: &mut Outlet<'_, W>, heard: &Heard<'_>) -> Result<(), WriteFault>
-    ensures { Puts W.contents result out.old out.new (heard_line heard.now) }
+    ensures { Puts W.contents result out.old out.new (Spec.heard_line heard.now) }
 {
     match heard.report {
         Report::Position {
@@ -88,8 +87,8 @@ fn put_position<W: Write>(
     at: &Whereabouts<'_>,
 ) -> Result<(), WriteFault>
     ensures { Puts W.contents result out.old out.new
-        (line_with_text (codes "position") (heard_fields heard.now
-        ++ place_fields at.now.stamp at.now.place at.now.symbol) at.now.comment.now) }
+        (Spec.line_with_text (codes "position") (Spec.heard_fields heard.now
+        ++ Spec.place_fields at.now.stamp at.now.place at.now.symbol) at.now.comment.now) }
 {
     let fields = [
         Field::Moment(heard.moment),
@@ -108,8 +107,8 @@ fn put_name<'a, W: Write>(
     at: &Whereabouts<'_>,
 ) -> Result<(), WriteFault>
     ensures { Puts W.contents result out.old out.new
-        (line_with_text kind.now (name_fields name.now live heard.now
-        ++ place_fields at.now.stamp at.now.place at.now.symbol) at.now.comment.now) }
+        (Spec.line_with_text kind.now (Spec.name_fields name.now live heard.now
+        ++ Spec.place_fields at.now.stamp at.now.place at.now.symbol) at.now.comment.now) }
 {
     let fields = [
         Field::Word(name),
@@ -129,8 +128,8 @@ fn put_status<W: Write>(
     text: &[u8],
 ) -> Result<(), WriteFault>
     ensures { Puts W.contents result out.old out.new
-        (line_with_text (codes "status") (heard_fields heard.now ++ stamp_text stamp ∷ [])
-        text.now) }
+        (Spec.line_with_text (codes "status")
+        (Spec.heard_fields heard.now ++ Spec.stamp_text stamp ∷ []) text.now) }
 {
     let fields = [
         Field::Moment(heard.moment),
@@ -142,7 +141,7 @@ fn put_status<W: Write>(
 
 /// Where something is.
 fn place_fields(at: &Whereabouts<'_>) -> [Field<'static>; 5]
-    ensures { map field_text result ≡ place_fields at.now.stamp at.now.place at.now.symbol }
+    ensures { map field_text result ≡ Spec.place_fields at.now.stamp at.now.place at.now.symbol }
 {
     [
         Field::Stamp(at.stamp),
@@ -155,7 +154,7 @@ fn place_fields(at: &Whereabouts<'_>) -> [Field<'static>; 5]
 
 /// Whether it is there.
 fn live_text(live: bool) -> &'static [u8]
-    ensures { result.now ≡ live_text live }
+    ensures { result.now ≡ Spec.live_text live }
 {
     if live { b"live" } else { b"killed" }
 }

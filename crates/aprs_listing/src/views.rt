@@ -7,8 +7,7 @@ ghost use Rattle.aprs_laws.specs.Gap.{millis_of};
 ghost use Rattle.aprs_book.specs.Stations.{ReportsStations};
 ghost use Rattle.aprs_book.specs.Names.{ReportsNamed};
 ghost use Rattle.aprs_book.specs.Messages.{ReportsMessages};
-ghost use Rattle.aprs_listing.specs.Listing.{id_text, known_line, message_line, named_line};
-ghost use Rattle.aprs_listing.specs.Listing.{show_text, state_text, station_lines};
+ghost use Rattle.aprs_listing.specs.Listing as Spec;
 
 use crate::field::Field;
 use crate::heard_line::put_heard;
@@ -78,7 +77,7 @@ impl<'a, A: Allocator + Copy> Views<'a, A> {
     /// message. At a fault a prefix of that went out. Takes no memory.
     pub fn write<W: Write>(&self, w: &mut Counted<W>) -> Result<(), WriteFault>
         ensures { Sends W.contents result w.old w.new
-            (show_text self.now.stations.items self.now.named.items self.now.messages.items) }
+            (Spec.show_text self.now.stations.items self.now.named.items self.now.messages.items) }
     {
         let mut out = Outlet::new(w);
         put_views(&mut out, self)?;
@@ -92,7 +91,7 @@ fn put_views<W: Write, A: Allocator + Copy>(
     views: &Views<'_, A>,
 ) -> Result<(), WriteFault>
     ensures { Puts W.contents result out.old out.new
-        (show_text views.now.stations.items views.now.named.items views.now.messages.items) }
+        (Spec.show_text views.now.stations.items views.now.named.items views.now.messages.items) }
 {
     put_stations(out, &views.stations)?;
     put_all_named(out, &views.named)?;
@@ -104,7 +103,7 @@ fn put_stations<W: Write>(
     out: &mut Outlet<'_, W>,
     stations: &[Station<'_>],
 ) -> Result<(), WriteFault>
-    ensures { Puts W.contents result out.old out.new (flat_map station_lines stations.now) }
+    ensures { Puts W.contents result out.old out.new (flat_map Spec.station_lines stations.now) }
 {
     for station in stations {
         put_station(out, station)?;
@@ -114,7 +113,7 @@ fn put_stations<W: Write>(
 
 /// Puts the lines of objects and items.
 fn put_all_named<W: Write>(out: &mut Outlet<'_, W>, all: &[Named<'_>]) -> Result<(), WriteFault>
-    ensures { Puts W.contents result out.old out.new (flat_map named_line all.now) }
+    ensures { Puts W.contents result out.old out.new (flat_map Spec.named_line all.now) }
 {
     for named in all {
         put_heard(out, &named.heard)?;
@@ -127,7 +126,7 @@ fn put_messages<W: Write>(
     out: &mut Outlet<'_, W>,
     messages: &[MessageRow<'_>],
 ) -> Result<(), WriteFault>
-    ensures { Puts W.contents result out.old out.new (flat_map message_line messages.now) }
+    ensures { Puts W.contents result out.old out.new (flat_map Spec.message_line messages.now) }
 {
     for message in messages {
         put_message(out, message)?;
@@ -137,7 +136,7 @@ fn put_messages<W: Write>(
 
 /// Puts the line of a station, and those of its last known position and status.
 fn put_station<W: Write>(out: &mut Outlet<'_, W>, station: &Station<'_>) -> Result<(), WriteFault>
-    ensures { Puts W.contents result out.old out.new (station_lines station.now) }
+    ensures { Puts W.contents result out.old out.new (Spec.station_lines station.now) }
 {
     let fields = [
         Field::Call(station.call.copy()),
@@ -150,7 +149,7 @@ fn put_station<W: Write>(out: &mut Outlet<'_, W>, station: &Station<'_>) -> Resu
 
 /// Puts the line of what is last known, if there is any.
 fn put_known<W: Write>(out: &mut Outlet<'_, W>, known: &Option<Heard<'_>>) -> Result<(), WriteFault>
-    ensures { Puts W.contents result out.old out.new (known_line known.now) }
+    ensures { Puts W.contents result out.old out.new (Spec.known_line known.now) }
 {
     match known {
         Some(heard) => put_heard(out, heard),
@@ -163,7 +162,7 @@ fn put_message<W: Write>(
     out: &mut Outlet<'_, W>,
     message: &MessageRow<'_>,
 ) -> Result<(), WriteFault>
-    ensures { Puts W.contents result out.old out.new (message_line message.now) }
+    ensures { Puts W.contents result out.old out.new (Spec.message_line message.now) }
 {
     let fields = [
         Field::Call(message.source.copy()),
@@ -178,7 +177,7 @@ fn put_message<W: Write>(
 
 /// The id, or `-` without one.
 fn id_text<'a>(id: Option<&'a [u8]>) -> &'a [u8]
-    ensures { result.now ≡ id_text id.entry }
+    ensures { result.now ≡ Spec.id_text id.entry }
 {
     match id {
         Some(id) => id,
@@ -188,7 +187,7 @@ fn id_text<'a>(id: Option<&'a [u8]>) -> &'a [u8]
 
 /// What came of a message.
 fn state_text(state: MessageState) -> &'static [u8]
-    ensures { result.now ≡ state_text state }
+    ensures { result.now ≡ Spec.state_text state }
 {
     match state {
         MessageState::Unnumbered => b"unnumbered",

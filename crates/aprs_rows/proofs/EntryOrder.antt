@@ -15,7 +15,8 @@ use Rattle.aprs_laws.specs.Coalescing.{AreInOrder}
 use Rattle.aprs_laws.specs.Key.{key_cmp}
 use Rattle.aprs_laws.specs.Row.{Row, row_cmp, row_key}
 use Rattle.aprs_laws.proofs.Orders.{bytes_total, ordering_then_assoc}
-use Rattle.aprs_rows.specs.Head.{head_cmp, HasHead}
+use Rattle.aprs_rows.specs.Head.{HasHead}
+use Rattle.aprs_rows.specs.HeadSteps.{head_cmp}
 use Rattle.aprs_rows.specs.Rows.{AreRowsIn, bytes_of, entry_cmp, entry_row, info_of, IsRowIn, rows_in}
 use Rattle.aprs_rows.specs.declared.store.entry.Entry.{Entry}
 use Rattle.aprs_rows.proofs.Heads.{head_and_info, head_total}

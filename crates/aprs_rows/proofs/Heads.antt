@@ -21,7 +21,8 @@ use Rattle.aprs_log.specs.Reception.{bytes_cmp}
 use Rattle.aprs_laws.specs.Key.{Key, key_of, key_cmp}
 use Rattle.aprs_laws.proofs.Orders.{ordering_then_assoc}
 use Rattle.aprs_rows.proofs.Digits.{Bytes, be_cmp, be_cmp_all, first_then_all, then_equal}
-use Rattle.aprs_rows.specs.Head.{call_number, octets_number, head_of, head_cmp, HasHead}
+use Rattle.aprs_rows.specs.Head.{call_number, head_of, HasHead}
+use Rattle.aprs_rows.specs.HeadSteps.{octets_number, head_cmp}
 use Rattle.aprs_rows.specs.declared.row.head.Head.{Head}
 
 -- ---- the numbers of callsigns

@@ -210,14 +210,14 @@ pub record EndsOpen (o : Open) (g : Group) (text : List ℕ) (row : Row) : Type 
   pub row_is : group_row g text ≡ row
 
 ends_alone : (o : Open) (g : Group) → HasNames o.greatest → g.first ≡ o.first
-    → g.receivers ≡ 0 → g.greatest ≡ o.greatest
+    → g.text_len ≡ 0 → g.greatest ≡ o.greatest
     → EndsOpen o g [] (record {
       first = o.first;
       receivers = o.greatest.receivers;
       greatest = o.greatest.greatest;
     })
 ends_alone o g h first size greatest =
-    let is : names_or g.receivers [] g.greatest.receivers ≡ o.greatest.receivers =
+    let is : names_or g.text_len [] g.greatest.receivers ≡ o.greatest.receivers =
     ap (λ n. names_or n [] g.greatest.receivers) size ∙ (λ t. (greatest t).receivers) in
     record {
       group = record { size = sym size; names = subst (All IsName) (sym is) h.each };
@@ -229,7 +229,7 @@ ends_alone o g h first size greatest =
     }
 
 ends_united : (o : Open) (g : Group) (names : List (List ℕ)) → 0 < length names
-    → All IsName names → g.first ≡ o.first → g.receivers ≡ length (join_with_byte 44 names)
+    → All IsName names → g.first ≡ o.first → g.text_len ≡ length (join_with_byte 44 names)
     → g.greatest ≡ o.greatest
     → EndsOpen o g (join_with_byte 44 names) (record {
       first = o.first;
@@ -238,8 +238,8 @@ ends_united : (o : Open) (g : Group) (names : List (List ℕ)) → 0 < length na
     })
 ends_united o g names some h first size greatest =
     let text = join_with_byte 44 names in
-    let is : names_or g.receivers text g.greatest.receivers ≡ names =
-    names_of_text g.receivers text g.greatest.receivers
+    let is : names_or g.text_len text g.greatest.receivers ≡ names =
+    names_of_text g.text_len text g.greatest.receivers
     (let n = text_some names some h in omega (arith, n, size))
     ∙ names_joined names some h in
     record {
@@ -252,11 +252,11 @@ ends_united o g names some h first size greatest =
     }
 
 pub ends_open : (o : Open) (g : Group) (names : List (Bor (List ℕ))) → AreGathered o names
-    → g.first ≡ o.first → g.receivers ≡ length (open_text o names)
+    → g.first ≡ o.first → g.text_len ≡ length (open_text o names)
     → g.greatest ≡ o.greatest → EndsOpen o g (open_text o names) (open_row o names)
 ends_open o g names a first size greatest = by_test o.is_alone refl size where
   by_test : (b : Bool) → o.is_alone ≡ b
-      → g.receivers
+      → g.text_len
       ≡ length (if b then [] else join_with_byte 44 (union bytes_cmp (gathered_names names) []))
       → EndsOpen o g (if b then [] else join_with_byte 44
       (union bytes_cmp (gathered_names names) []))

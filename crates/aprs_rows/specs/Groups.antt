@@ -24,13 +24,13 @@ names_or (suc n) text names = names_in text
 
 -- how many bytes the text of a group has
 abbrev pub text_size : Group → ℕ
-text_size g = g.receivers
+text_size g = g.text_len
 
 -- the row of a group whose receivers have this text
 abbrev pub group_row : Group → List ℕ → Row
 group_row g text = record {
   first = g.first;
-  receivers = names_or g.receivers text g.greatest.receivers;
+  receivers = names_or g.text_len text g.greatest.receivers;
   greatest = g.greatest.greatest;
 }
 

@@ -1,8 +1,6 @@
 -- Heads of keys.
-use Rattle.std.specs.Prelude.{◌≡◌, ℕ, ◌<◌, ◌/◌, ◌%◌, List, [], ◌∷◌, ◌++◌, map, take, slice_index}
+use Rattle.std.specs.Prelude.{◌≡◌, ℕ, ◌<◌, List, [], ◌∷◌, ◌++◌, slice_index}
 use Rattle.std.specs.Int.{w64, from_be_bytes}
-use Rattle.std.specs.Ordering.{nat_cmp, on, then_cmp}
-use Rattle.std.specs.declared.cmp.Ordering.{Ordering}
 use Rattle.aprs_ax25.specs.Callsign.{Call}
 use Rattle.aprs_ax25.specs.Address.{letters_and_spaces}
 use Rattle.aprs_ax25.specs.Frame.{FrameOf}
@@ -14,13 +12,6 @@ use Rattle.aprs_rows.specs.declared.row.head.Head.{Head}
 abbrev pub call_number : Call → ℕ
 call_number call = from_be_bytes w64 (0 ∷ letters_and_spaces call.letters ++ call.ssid ∷ [])
 
--- The same of the seven octets of an address: the letters are the first six, shifted right by one
--- bit, and the SSID is bits 1 to 4 of the last.
-abbrev pub octets_number : List ℕ → ℕ
-octets_number octets =
-    from_be_bytes w64
-    (0 ∷ map (λ o. o / 2) (take 6 octets) ++ slice_index octets 6 / 2 % 16 ∷ [])
-
 -- The head of a key: the numbers of the callsigns, and of the first eight bytes of the information,
 -- base 256. `from_be_bytes` reads zeros where there are fewer.
 unfoldable pub head_of : Key → Head
@@ -29,11 +20,6 @@ head_of key = record {
   destination = call_number key.destination;
   info = from_be_bytes w64 key.info;
 }
-
--- Heads are ordered by the number of the source, then of the destination, then of the information.
-abbrev pub head_cmp : Head → Head → Ordering
-head_cmp = then_cmp (on (λ h. h.source) nat_cmp)
-    (then_cmp (on (λ h. h.destination) nat_cmp) (on (λ h. h.info) nat_cmp))
 
 -- The bytes are a frame, and this is the head of its key.
 pub record HasHead (h : Head) (f : List ℕ) : Type 0 where

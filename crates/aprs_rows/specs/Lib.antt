@@ -1,6 +1,7 @@
 -- Definitions that contracts of rows cite.
 pub mod Groups
 pub mod Head
+pub mod HeadSteps
 pub mod Judging
 pub mod KeptNames
 pub mod Names

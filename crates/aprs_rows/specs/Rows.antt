@@ -11,7 +11,8 @@ use Rattle.aprs_laws.specs.Key.{key_of}
 use Rattle.aprs_laws.specs.Lists.{◌∈◌}
 use Rattle.aprs_laws.specs.Row.{Row}
 use Rattle.aprs_laws.specs.Sound.{IsSoundRow}
-use Rattle.aprs_rows.specs.Head.{head_of, head_cmp}
+use Rattle.aprs_rows.specs.Head.{head_of}
+use Rattle.aprs_rows.specs.HeadSteps.{head_cmp}
 use Rattle.aprs_rows.specs.Names.{row_of_text}
 use Rattle.aprs_rows.specs.declared.store.entry.Entry.{Entry}
 use Rattle.aprs_rows.specs.declared.row.head.Head.{Head}

@@ -2,8 +2,8 @@
 
 pub(crate) mod entry;
 pub(crate) mod group;
-pub(crate) mod laid;
 pub(crate) mod order;
 pub(crate) mod row_store;
+pub(crate) mod stored_row;
 pub(crate) mod sweep;
 pub(crate) mod transmissions;

@@ -18,8 +18,8 @@ use Rattle.aprs_tool.proofs.Merges.{HoldsOfEach, refused_after}
 use Rattle.aprs_tool.specs.declared.fault.InputFault.TheVariants.{Memory}
 use Rattle.aprs_tool.specs.declared.fault.RunFault.{RunFault}
 use Rattle.aprs_tool.specs.declared.fault.RunFault.TheVariants.{Write}
-use Rattle.aprs_tool.specs.declared.gathered.Unwritten.{Unwritten}
-use Rattle.aprs_tool.specs.declared.gathered.Unwritten.TheVariants as unwritten
+use Rattle.aprs_tool.specs.declared.gathered.OutputFault.{OutputFault}
+use Rattle.aprs_tool.specs.declared.gathered.OutputFault.TheVariants as output
 
 -- the last of inputs that are faultless, and those before it
 record Last (gap limit : ℕ) (gots : List (GotOf limit)) : Type 0 where
@@ -80,12 +80,12 @@ module _ {W : Type 0} (contents : W → Option (List ℕ)) (b : BookValue) (old 
   unfolding WritesText
   text_sent h = Sends-ok h
 
-  pub text_cut : (u : Unwritten) → u ≡ unwritten.Write → WritesText contents (Err u) b old new
+  pub text_cut : (u : OutputFault) → u ≡ output.Write → WritesText contents (Err u) b old new
       → Sends {E = RunFault} contents (Err Write) old new (written_text b)
   unfolding WritesText
   text_cut u e h = Sends-err (Err Write) refl (subst (λ v. WritesText contents (Err v) b old new) e h)
 
-  pub text_none : (u : Unwritten) → u ≡ unwritten.Memory → WritesText contents (Err u) b old new
+  pub text_none : (u : OutputFault) → u ≡ output.Memory → WritesText contents (Err u) b old new
       → (new ≡ old) × (b.rows ≡ [] → ⊥)
   unfolding WritesText
   text_none u e h = subst (λ v. WritesText contents (Err v) b old new) e h

@@ -29,8 +29,8 @@ use Rattle.aprs_tool.specs.Show.{IsListingOf, TellsPosition}
 use Rattle.aprs_tool.specs.ShownBook.{IsShown, ShowsBook}
 use Rattle.aprs_tool.specs.declared.fault.RunFault.{RunFault}
 use Rattle.aprs_tool.specs.declared.fault.RunFault.TheVariants.{Write}
-use Rattle.aprs_tool.specs.declared.gathered.Unwritten.{Unwritten}
-use Rattle.aprs_tool.specs.declared.gathered.Unwritten.TheVariants as unwritten
+use Rattle.aprs_tool.specs.declared.gathered.OutputFault.{OutputFault}
+use Rattle.aprs_tool.specs.declared.gathered.OutputFault.TheVariants as output
 
 below_itself : (c : Call) → call_cmp c c ≡ Less → ⊥
 below_itself c h = not_both call_total c c h h
@@ -134,14 +134,14 @@ module _ {W : Type 0} (contents : W → Option (List ℕ)) (b : BookValue) (old 
   unfolding ShowsBook
   shown_sent h = (h.0, h.1, Sends-ok h.2)
 
-  pub shown_cut : (u : Unwritten) → u ≡ unwritten.Write → ShowsBook contents (Err u) b old new
+  pub shown_cut : (u : OutputFault) → u ≡ output.Write → ShowsBook contents (Err u) b old new
       → (text : List ℕ) × IsShown b text
       × Sends {E = RunFault} contents (Err Write) old new text
   unfolding ShowsBook
   shown_cut u e h = let it = subst (λ v. ShowsBook contents (Err v) b old new) e h in
       (it.0, it.1, Sends-err (Err Write) refl it.2)
 
-  pub shown_none : (u : Unwritten) → u ≡ unwritten.Memory → ShowsBook contents (Err u) b old new
+  pub shown_none : (u : OutputFault) → u ≡ output.Memory → ShowsBook contents (Err u) b old new
       → new ≡ old
   unfolding ShowsBook
   shown_none u e h = subst (λ v. ShowsBook contents (Err v) b old new) e h

@@ -12,8 +12,8 @@ use Rattle.aprs_tool.specs.Merge.{IsBookOfAll}
 use Rattle.aprs_tool.specs.Several.{GotOf, IsFirstRefused}
 use Rattle.aprs_tool.specs.declared.fault.InputFault.{InputFault}
 use Rattle.aprs_tool.specs.declared.fault.RunFault.TheVariants.{Input}
-use Rattle.aprs_tool.specs.declared.gathered.Unwritten.{Unwritten}
-use Rattle.aprs_tool.specs.declared.gathered.Unwritten.TheVariants.{Memory, Write}
+use Rattle.aprs_tool.specs.declared.gathered.OutputFault.{OutputFault}
+use Rattle.aprs_tool.specs.declared.gathered.OutputFault.TheVariants.{Memory, Write}
 
 -- the book of this gap that rows are together, whatever their order
 abbrev pub book_of_rows : ℕ → List Row → BookValue
@@ -21,10 +21,10 @@ book_of_rows gap rows = record { gap = gap; rows = merge (millis_of gap) [] rows
 
 -- The text of the book is written, or a prefix of it where the output was refused. Where an
 -- allocation failed, nothing is, and the book has rows.
-unfoldable pub WritesText : {W : Type 0} → (W → Option (List ℕ)) → Result (Unit {0}) Unwritten
+unfoldable pub WritesText : {W : Type 0} → (W → Option (List ℕ)) → Result (Unit {0}) OutputFault
     → BookValue → Counted W → Counted W → Type 0
 WritesText contents (Ok u) book old new =
-    Sends {E = Unwritten} contents (Ok u) old new (written_text book)
+    Sends {E = OutputFault} contents (Ok u) old new (written_text book)
 WritesText contents (Err Write) book old new =
     Sends contents (Err Write) old new (written_text book)
 WritesText contents (Err Memory) book old new = (new ≡ old) × (book.rows ≢ [])

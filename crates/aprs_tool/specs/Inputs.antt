@@ -3,7 +3,7 @@
 use Rattle.std.specs.Prelude.{◌≡◌, ◌==◌, ◌⊎◌, ℕ, Bool, List, codes, All}
 use Rattle.std.specs.List.{starts_with}
 use Rattle.aprs_io.specs.declared.input.Ending.{Ending}
-use Rattle.aprs_io.specs.declared.input.Ending.TheVariants.{End}
+use Rattle.aprs_io.specs.declared.input.Ending.TheVariants as how
 use Rattle.aprs_log.specs.LogText.{IsLogText}
 use Rattle.aprs_log.specs.Reception.{Heard}
 use Rattle.aprs_laws.specs.Book.{BookOf}
@@ -27,7 +27,7 @@ pub record IsBookFileOf (gap : ℕ) (S : List Heard) (text : List ℕ) (ending :
   pub is_version : IsVersion version
   pub spelled : All (IsBookRow (form_of version)) rows
   pub text_is : text ≡ book_text version rows
-  pub whole : ending ≡ End
+  pub whole : ending ≡ how.End
   pub book : BookOf (millis_of gap) S rows
 
 -- The input is faultless and stands for the set S: a book file of this gap for each set whose book

@@ -12,8 +12,8 @@ use Rattle.aprs_book.specs.declared.lists.message.MessageRow.{MessageRow}
 use Rattle.aprs_book.specs.declared.lists.named.Named.{Named}
 use Rattle.aprs_book.specs.declared.lists.station.Station.{Station}
 use Rattle.aprs_listing.specs.Listing.{show_text}
-use Rattle.aprs_tool.specs.declared.gathered.Unwritten.{Unwritten}
-use Rattle.aprs_tool.specs.declared.gathered.Unwritten.TheVariants.{Memory, Write}
+use Rattle.aprs_tool.specs.declared.gathered.OutputFault.{OutputFault}
+use Rattle.aprs_tool.specs.declared.gathered.OutputFault.TheVariants.{Memory, Write}
 
 -- The text is that of what the book's rows report, whatever set they are the book of.
 pub record IsShown (book : BookValue) (text : List ℕ) : Type 0 where
@@ -27,10 +27,10 @@ pub record IsShown (book : BookValue) (text : List ℕ) : Type 0 where
 
 -- The listing of the book is written, or a prefix of it where the output was refused. Where an
 -- allocation failed, nothing is.
-unfoldable pub ShowsBook : {W : Type 0} → (W → Option (List ℕ)) → Result (Unit {0}) Unwritten
+unfoldable pub ShowsBook : {W : Type 0} → (W → Option (List ℕ)) → Result (Unit {0}) OutputFault
     → BookValue → Counted W → Counted W → Type 0
 ShowsBook contents (Ok u) book old new = (text : List ℕ) × IsShown book text
-    × Sends {E = Unwritten} contents (Ok u) old new text
+    × Sends {E = OutputFault} contents (Ok u) old new text
 ShowsBook contents (Err Write) book old new = (text : List ℕ) × IsShown book text
     × Sends contents (Err Write) old new text
 ShowsBook contents (Err Memory) book old new = new ≡ old

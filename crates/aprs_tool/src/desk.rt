@@ -43,6 +43,7 @@ impl<A: Allocator + Copy> Desk<A> {
     /// Requires that `limit` is at most `MAX_INPUT` (1,073,741,824). Takes no memory.
     pub fn new(alloc: A, limit: u64) -> Desk<A>
         requires { limit ≤ most_input }
+
         ensures gap { desk_gap result ≡ standard_gap }
         ensures rows { desk_rows result ≡ [] }
         ensures book { Holds [] (desk_book result) }
@@ -54,6 +55,7 @@ impl<A: Allocator + Copy> Desk<A> {
     /// The same with this gap. Requires that `limit` is at most `MAX_INPUT`. Takes no memory.
     pub fn with_gap(alloc: A, limit: u64, gap: Gap) -> Desk<A>
         requires { limit ≤ most_input }
+
         ensures gap { desk_gap result ≡ gap }
         ensures rows { desk_rows result ≡ [] }
         ensures book { Holds [] (desk_book result) }
@@ -74,6 +76,7 @@ impl<A: Allocator + Copy> Desk<A> {
         ensures takes { OfGot (desk_limit self.old) (R.remaining (device_of r.old))
             (R.remaining (device_of r.new))
             (TakesInput (desk_gap self.old) result (desk_rows self.old) (desk_rows self.new)) }
+
         ensures gap { desk_gap self.new ≡ desk_gap self.old }
         ensures limit { desk_limit self.new ≡ desk_limit self.old }
         ensures unchanged { OnErr result (self.new ≡ self.old) }

@@ -45,30 +45,30 @@ impl<A: Allocator> Model for Gathered<A> {
 
 /// Why the book of the gathered rows, or its listing, isn't written.
 #[derive(Debug, Drop)]
-pub(crate) enum Unwritten {
+pub(crate) enum OutputFault {
     /// An allocation failed, before the first byte.
     Memory,
     /// The output was refused.
     Write,
 }
 
-impl From<Memory> for Unwritten {
-    ghost use Rattle.aprs_tool.specs.declared.gathered.Unwritten.TheVariants as unwritten;
+impl From<Memory> for OutputFault {
+    ghost use Rattle.aprs_tool.specs.declared.gathered.OutputFault.TheVariants as output;
 
-    ghost from_gives = { λ memory made. made ≡ unwritten.Memory };
+    ghost from_gives = { λ memory made. made ≡ output.Memory };
 
-    fn from(_memory: Memory) -> Unwritten {
-        Unwritten::Memory
+    fn from(_memory: Memory) -> OutputFault {
+        OutputFault::Memory
     }
 }
 
-impl From<WriteFault> for Unwritten {
-    ghost use Rattle.aprs_tool.specs.declared.gathered.Unwritten.TheVariants as unwritten;
+impl From<WriteFault> for OutputFault {
+    ghost use Rattle.aprs_tool.specs.declared.gathered.OutputFault.TheVariants as output;
 
-    ghost from_gives = { λ fault made. made ≡ unwritten.Write };
+    ghost from_gives = { λ fault made. made ≡ output.Write };
 
-    fn from(_fault: WriteFault) -> Unwritten {
-        Unwritten::Write
+    fn from(_fault: WriteFault) -> OutputFault {
+        OutputFault::Write
     }
 }
 
@@ -88,7 +88,7 @@ impl<A: Allocator + Copy> Gathered<A> {
     }
 
     /// Writes the text of the book of all rows.
-    pub(crate) fn write<W: Write>(self, w: &mut Counted<W>) -> Result<(), Unwritten>
+    pub(crate) fn write<W: Write>(self, w: &mut Counted<W>) -> Result<(), OutputFault>
         ensures { WritesText W.contents result self w.old w.new }
     {
         let Gathered {
@@ -102,7 +102,7 @@ impl<A: Allocator + Copy> Gathered<A> {
     }
 
     /// Writes the listing of the book of all rows.
-    pub(crate) fn show<W: Write>(self, w: &mut Counted<W>) -> Result<(), Unwritten>
+    pub(crate) fn show<W: Write>(self, w: &mut Counted<W>) -> Result<(), OutputFault>
         ensures { ShowsBook W.contents result self w.old w.new }
     {
         let Gathered { alloc, gap, store } = self;

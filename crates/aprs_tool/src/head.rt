@@ -34,11 +34,13 @@ pub fn read_head<R: Read>(
     ensures few { IfOk result (λ head. length head.items ≤ HEAD_LEN) }
     ensures bytes { IfOk result (λ head. Consumes (R.remaining (device_of r.old))
         (R.remaining (device_of r.new)) head.items) }
+
     ensures short { IfErr result (λ short. length short.bytes.items < HEAD_LEN) }
     ensures one { IfErr result (λ short. list_any is_lf short.bytes.items ≡ false) }
     ensures end { IfErr result (λ short. IfSome (R.remaining (device_of r.old))
         (λ input. Gets limit input (R.remaining (device_of r.new)) short.bytes.items
         short.ending)) }
+
     ensures calls { Calls (last_of_head result) r.old r.new }
 {
     let mut bytes = ArrayVec::new();

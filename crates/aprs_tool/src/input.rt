@@ -54,7 +54,7 @@ pub fn read_input<R: Read, A: Allocator + Copy>(
     ensures calls { AsksInput result r.old r.new }
 {
     match read_head(limit, r) {
-        Ok(head) => read_own(alloc, limit, gap, head.as_slice(), r),
+        Ok(head) => read_after_head(alloc, limit, gap, head.as_slice(), r),
         Err(short) => {
             read_short(&short)?;
             Ok(Book::with_gap(alloc, gap))
@@ -63,7 +63,7 @@ pub fn read_input<R: Read, A: Allocator + Copy>(
 }
 
 /// The book of an input that begins with these bytes, by which it is known what it is.
-fn read_own<R: Read, A: Allocator + Copy>(
+fn read_after_head<R: Read, A: Allocator + Copy>(
     alloc: A,
     limit: u64,
     gap: Gap,
@@ -74,9 +74,11 @@ fn read_own<R: Read, A: Allocator + Copy>(
     requires head { IsHead head.now }
     requires few { length head.now ≤ HEAD_LEN }
     requires within { length head.now ≤ limit }
+
     ensures reads { IfSome (R.remaining (device_of r.old))
         (λ input. HoldsOfGot limit (head.now ++ input) (R.remaining (device_of r.new))
         (ReadsInput gap result)) }
+
     ensures calls { AsksInput result r.old r.new }
 {
     if head == BOOK_MARK {
@@ -136,7 +138,7 @@ pub(crate) fn read_input_rows<R: Read, A: Allocator + Copy>(
     ensures calls { AsksInput result r.old r.new }
 {
     match read_head(limit, r) {
-        Ok(head) => read_own_rows(alloc, limit, gap, head.as_slice(), store, r),
+        Ok(head) => read_rows_after_head(alloc, limit, gap, head.as_slice(), store, r),
         Err(short) => {
             read_short(&short)?;
             Ok(gap)
@@ -145,7 +147,7 @@ pub(crate) fn read_input_rows<R: Read, A: Allocator + Copy>(
 }
 
 /// Reads the rows of an input that begins with these bytes.
-fn read_own_rows<R: Read, A: Allocator + Copy>(
+fn read_rows_after_head<R: Read, A: Allocator + Copy>(
     alloc: A,
     limit: u64,
     gap: Gap,
@@ -157,9 +159,11 @@ fn read_own_rows<R: Read, A: Allocator + Copy>(
     requires head { IsHead head.now }
     requires few { length head.now ≤ HEAD_LEN }
     requires within { length head.now ≤ limit }
+
     ensures reads { IfSome (R.remaining (device_of r.old))
         (λ input. HoldsOfGot limit (head.now ++ input) (R.remaining (device_of r.new))
         (ReadsRows gap result store.old store.new)) }
+
     ensures calls { AsksInput result r.old r.new }
 {
     if head == BOOK_MARK {
@@ -180,9 +184,11 @@ fn read_log<R: Read, A: Allocator + Copy>(
     requires limit { limit ≤ most_input }
     requires head { length head.now ≤ HEAD_LEN }
     requires within { length head.now ≤ limit }
+
     ensures reads { IfSome (R.remaining (device_of r.old))
         (λ input. HoldsOfGot limit (head.now ++ input) (R.remaining (device_of r.new))
         (ReadsLog result store.old store.new)) }
+
     ensures calls { AsksInput result r.old r.new }
 {
     let mut reader = LogReader::new(alloc, limit, head, r);
@@ -216,6 +222,7 @@ pub(crate) fn merge_books<A: Allocator + Copy>(
     ensures one { OnOk result (HaveOneGap book.now input) }
     ensures known { OnOk result ((S : List Heard)
         × BookOf (millis_of book.now.gap) S book.now.rows) }
+
     ensures refused { IfErr result (λ fault. RefusesGaps fault book.now.gap input.gap) }
 {
     if book.gap() != input.gap() {
@@ -236,15 +243,15 @@ fn read_short(short: &ShortInput) -> Result<(), LogFault>
     ensures last { last_of_short result ≡ last_of_ending short.now.ending }
 {
     match short.ending {
-        Ending::Read => Err(first_line(LogCause::Read)),
-        Ending::TooLong => Err(first_line(LogCause::TooLong)),
+        Ending::Read => Err(first_line_fault(LogCause::Read)),
+        Ending::TooLong => Err(first_line_fault(LogCause::TooLong)),
         Ending::End if short.bytes.is_empty() => Ok(()),
-        Ending::End => Err(first_line(LogCause::NoNewline)),
+        Ending::End => Err(first_line_fault(LogCause::NoNewline)),
     }
 }
 
 /// The fault with this cause in the first line.
-fn first_line(cause: LogCause) -> LogFault
+fn first_line_fault(cause: LogCause) -> LogFault
     ensures { result ≡ record { line = 1; cause = cause } }
 {
     LogFault { line: 1, cause }

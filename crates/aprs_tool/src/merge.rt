@@ -8,7 +8,7 @@ ghost use Rattle.aprs_tool.specs.Outcome.{IsToldOf, RefusesFor, WritesFor};
 ghost use Rattle.aprs_tool.specs.Several.{GiveUnion, IsFirstRefused, OfEach};
 
 use crate::fault::{InputFault, RunFault};
-use crate::gathered::{Gathered, Unwritten};
+use crate::gathered::{Gathered, OutputFault};
 use crate::input::read_into;
 use aprs_book::Gap;
 use aprs_io::Counted;
@@ -28,12 +28,15 @@ pub fn merge_run<R: Read, W: Write, A: Allocator + Copy>(
     w: &mut Counted<W>,
 ) -> Result<(), RunFault>
     requires { limit ≤ most_input }
+
     ensures writes { OfEach limit R.remaining inputs.old inputs.new (λ gots.
         WritesFor (IsToldOf (GiveUnion gap gots) (IsTextOfBook gap)) W.contents result
         w.old w.new) }
+
     ensures refuses { OfEach limit R.remaining inputs.old inputs.new (λ gots.
         RefusesFor (GiveUnion gap gots) (IsFirstRefused gap gots) result w.old w.new) }
     ensures memory { result ≡ Err RunFault.Memory → ⊥ }
+
     // The inputs are asked neither after their ends nor after a fault, nor is the output.
     ensures asks { AsksEach result inputs.old inputs.new }
     ensures calls { CallsOutput result w.old w.new }
@@ -44,8 +47,8 @@ pub fn merge_run<R: Read, W: Write, A: Allocator + Copy>(
     };
     match gathered.write(w) {
         Ok(()) => Ok(()),
-        Err(Unwritten::Write) => Err(RunFault::Write),
-        Err(Unwritten::Memory) => Err(fault_of_last(inputs.len())),
+        Err(OutputFault::Write) => Err(RunFault::Write),
+        Err(OutputFault::Memory) => Err(fault_of_last(inputs.len())),
     }
 }
 
@@ -69,10 +72,12 @@ pub(crate) fn read_all<R: Read, A: Allocator + Copy>(
     inputs: &mut [Counted<R>],
 ) -> Result<Gathered<A>, (usize, InputFault)>
     requires { limit ≤ most_input }
+
     ensures reads { OfEach limit R.remaining inputs.old inputs.new (ReadsEach gap result) }
-    ensures calls { ReadsAll result inputs.old inputs.new }
     ensures gap { IfOk result (λ gathered. gathered.gap ≡ gap) }
     ensures some { IfOk result (λ gathered. gathered.rows ≢ [] → 0 < length inputs.old) }
+
+    ensures calls { ReadsAll result inputs.old inputs.new }
 {
     let mut gathered = Gathered::new(alloc, gap);
     for (index, r) in inputs.iter_mut().enumerate() {

@@ -7,7 +7,7 @@ ghost use Rattle.aprs_tool.specs.Several.{GiveUnion, IsFirstRefused, OfEach};
 ghost use Rattle.aprs_tool.specs.Show.{IsListingOf};
 
 use crate::fault::RunFault;
-use crate::gathered::Unwritten;
+use crate::gathered::OutputFault;
 use crate::merge::read_all;
 use aprs_book::Gap;
 use aprs_io::Counted;
@@ -29,10 +29,13 @@ pub fn show_run<R: Read, W: Write, A: Allocator + Copy>(
     w: &mut Counted<W>,
 ) -> Result<(), RunFault>
     requires { limit ≤ most_input }
+
     ensures writes { OfEach limit R.remaining inputs.old inputs.new (λ gots.
         WritesFor (IsToldOf (GiveUnion gap gots) (IsListingOf gap)) W.contents result w.old w.new) }
+
     ensures refuses { OfEach limit R.remaining inputs.old inputs.new (λ gots.
         RefusesFor (GiveUnion gap gots) (IsFirstRefused gap gots) result w.old w.new) }
+
     // The inputs are asked neither after their ends nor after a fault, nor is the output.
     ensures asks { AsksEach result inputs.old inputs.new }
     ensures calls { CallsOutput result w.old w.new }
@@ -43,7 +46,7 @@ pub fn show_run<R: Read, W: Write, A: Allocator + Copy>(
     };
     match gathered.show(w) {
         Ok(()) => Ok(()),
-        Err(Unwritten::Memory) => Err(RunFault::Memory),
-        Err(Unwritten::Write) => Err(RunFault::Write),
+        Err(OutputFault::Memory) => Err(RunFault::Memory),
+        Err(OutputFault::Write) => Err(RunFault::Write),
     }
 }

@@ -9,7 +9,7 @@ ghost use Rattle.aprs_tool.specs.Outcome.{IsToldOf, RefusesFor, WritesFor};
 ghost use Rattle.aprs_tool.specs.Widen.{GivesSetWithin, IsNotWidened};
 
 use crate::fault::{InputFault, RunFault};
-use crate::gathered::{Gathered, Unwritten};
+use crate::gathered::{Gathered, OutputFault};
 use crate::input::read_input_rows;
 use aprs_book::Gap;
 use aprs_io::Counted;
@@ -31,12 +31,15 @@ pub fn widen_run<R: Read, W: Write, A: Allocator + Copy>(
     w: &mut Counted<W>,
 ) -> Result<(), RunFault>
     requires { limit ≤ most_input }
+
     ensures writes { OfGot limit (R.remaining (device_of r.old)) (R.remaining (device_of r.new))
         (λ text ending. WritesFor (IsToldOf (GivesSetWithin gap text ending) (IsTextOfBook gap))
         W.contents result w.old w.new) }
+
     ensures refuses { OfGot limit (R.remaining (device_of r.old)) (R.remaining (device_of r.new))
         (λ text ending. RefusesFor (GivesSetWithin gap text ending)
         (IsNotWidened gap text ending) result w.old w.new) }
+
     // The input is asked neither after its end nor after a fault, nor is the output.
     ensures asks { AsksEach result (r.old ∷ []) (r.new ∷ []) }
     ensures calls { CallsOutput result w.old w.new }
@@ -51,8 +54,8 @@ pub fn widen_run<R: Read, W: Write, A: Allocator + Copy>(
     }
     match Gathered::of(alloc, gap, store).write(w) {
         Ok(()) => Ok(()),
-        Err(Unwritten::Memory) => Err(RunFault::Memory),
-        Err(Unwritten::Write) => Err(RunFault::Write),
+        Err(OutputFault::Memory) => Err(RunFault::Memory),
+        Err(OutputFault::Write) => Err(RunFault::Write),
     }
 }
 

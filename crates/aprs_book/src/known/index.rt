@@ -6,7 +6,7 @@ ghost use Rattle.aprs_log.specs.Reception.{bytes_cmp};
 ghost use Rattle.aprs_laws.specs.Best.{greater_known};
 ghost use Rattle.aprs_laws.specs.JoinRow.{greater};
 ghost use Rattle.aprs_laws.specs.Lists.{Ordered};
-ghost use Rattle.aprs_book.specs.Known.{known_at, known_both, plain, HasEntry, IsEntryBefore};
+ghost use Rattle.aprs_book.specs.Known as Spec;
 
 use crate::Memory;
 use crate::known::reception_view::ReceptionView;
@@ -51,9 +51,9 @@ impl<A: Allocator + Copy> Index<A> {
 
     /// Makes an entry, which is empty, unless there is one. It knows no more than before.
     pub(crate) fn place(&mut self, bytes: &[u8]) -> Result<(), Memory>
-        ensures same { (q : List ℕ) → known_at q self.new ≡ known_at q self.old }
-        ensures made { OnOk result (HasEntry bytes.now self.new) }
-        ensures there { HasEntry bytes.now self.old → IsOk result }
+        ensures same { (q : List ℕ) → Spec.known_at q self.new ≡ Spec.known_at q self.old }
+        ensures made { OnOk result (Spec.HasEntry bytes.now self.new) }
+        ensures there { Spec.HasEntry bytes.now self.old → IsOk result }
     {
         if self.map.contains_key(bytes) {
             return Ok(());
@@ -67,9 +67,9 @@ impl<A: Allocator + Copy> Index<A> {
 
     /// Keeps the reception in the entry if it is greater than what is known. Takes no memory.
     pub(crate) fn note(&mut self, bytes: &[u8], x: &ReceptionView<'_>)
-        requires { HasEntry bytes.now self.old }
-        ensures { (q : List ℕ) → known_at q self.new ≡ cond (is_eq (bytes_cmp bytes.now q))
-            (Some (greater_known (known_at q self.old) x.now)) (known_at q self.old) }
+        requires { Spec.HasEntry bytes.now self.old }
+        ensures { (q : List ℕ) → Spec.known_at q self.new ≡ cond (is_eq (bytes_cmp bytes.now q))
+            (Some (greater_known (Spec.known_at q self.old) x.now)) (Spec.known_at q self.old) }
     {
         if let Some(known) = self.map.get_mut(bytes) {
             keep(known, x);
@@ -80,9 +80,10 @@ impl<A: Allocator + Copy> Index<A> {
     /// what is known.
     pub(crate) fn take(&mut self, bytes: &[u8], x: &ReceptionView<'_>) -> Result<(), Memory>
         ensures taken { OnOk result ((q : List ℕ)
-            → known_at q self.new ≡ cond (is_eq (bytes_cmp bytes.now q))
-            (Some (greater_known (known_at q self.old) x.now)) (known_at q self.old)) }
-        ensures same { OnErr result ((q : List ℕ) → known_at q self.new ≡ known_at q self.old) }
+            → Spec.known_at q self.new ≡ cond (is_eq (bytes_cmp bytes.now q))
+            (Some (greater_known (Spec.known_at q self.old) x.now)) (Spec.known_at q self.old)) }
+        ensures same { OnErr result
+            ((q : List ℕ) → Spec.known_at q self.new ≡ Spec.known_at q self.old) }
     {
         if let Some(known) = self.map.get_mut(bytes) {
             keep(known, x);
@@ -95,7 +96,7 @@ impl<A: Allocator + Copy> Index<A> {
 
     /// What is known. Takes no memory.
     pub(crate) fn get(&self, bytes: &[u8]) -> Option<&Reception>
-        ensures { option_copied result ≡ known_at bytes.now self.now }
+        ensures { option_copied result ≡ Spec.known_at bytes.now self.now }
     {
         match self.map.get(bytes) {
             Some(known) => known.as_ref(),
@@ -105,8 +106,8 @@ impl<A: Allocator + Copy> Index<A> {
 
     /// The entries, by their bytes. Takes no memory, nor does their walk.
     pub(crate) fn iter(&self) -> Iter<'_, Vec<u8, A>, Option<Reception>>
-        ensures entries { plain (λ key. key.items) result ≡ self.now }
-        ensures ascending { Ordered IsEntryBefore self.now }
+        ensures entries { Spec.plain (λ key. key.items) result ≡ self.now }
+        ensures ascending { Ordered Spec.IsEntryBefore self.now }
     {
         self.map.iter()
     }
@@ -114,7 +115,8 @@ impl<A: Allocator + Copy> Index<A> {
     /// What is known to both.
     pub(crate) fn merge(&self, other: &Index<A>) -> Result<Index<A>, Memory>
         ensures { IfOk result (λ both. (q : List ℕ)
-            → known_at q both ≡ known_both (known_at q self.now) (known_at q other.now)) }
+            → Spec.known_at q both
+            ≡ Spec.known_both (Spec.known_at q self.now) (Spec.known_at q other.now)) }
     {
         let mut both = Index::new(self.alloc);
         both.add(self)?;
@@ -125,7 +127,8 @@ impl<A: Allocator + Copy> Index<A> {
     /// Adds what the other knows.
     fn add(&mut self, other: &Index<A>) -> Result<(), Memory>
         ensures { OnOk result ((q : List ℕ)
-            → known_at q self.new ≡ known_both (known_at q self.old) (known_at q other.now)) }
+            → Spec.known_at q self.new
+            ≡ Spec.known_both (Spec.known_at q self.old) (Spec.known_at q other.now)) }
     {
         for (bytes, known) in other.map.iter() {
             if let Some(x) = known {

@@ -2,7 +2,7 @@
 ghost use Rattle.std.specs.Prelude.{◌≡◌, ℕ, List, [], Some, IsOk, IfOk, OnOk, OnErr, if◌then◌else◌};
 ghost use Rattle.std.specs.Option.{option_copied};
 ghost use Rattle.aprs_laws.specs.Best.{greater_known};
-ghost use Rattle.aprs_book.specs.Known.{Topic, FourIndexes, call_bytes, index_of, known_at, known_both, is_reported, reported_at, SameKnown, HaveEntries, positions, statuses, objects, items};
+ghost use Rattle.aprs_book.specs.Known as Spec;
 
 use crate::Memory;
 use crate::known::index::Index;
@@ -52,7 +52,7 @@ impl<A: Allocator> Model for Indexes<A> {
 impl<A: Allocator + Copy> Indexes<A> {
     /// Nothing is known.
     pub(crate) fn new(alloc: A) -> Indexes<A>
-        ensures { (topic : Topic) → index_of topic result ≡ [] }
+        ensures { (topic : Spec.Topic) → Spec.index_of topic result ≡ [] }
     {
         Indexes {
             positions: Index::new(alloc),
@@ -65,7 +65,7 @@ impl<A: Allocator + Copy> Indexes<A> {
     /// The last position reception of this station. Takes no memory, as the other three.
     pub(crate) fn position(&self, station: &Callsign) -> Option<&Reception>
         ensures { option_copied result
-            ≡ known_at (call_bytes station.now) (index_of positions self.now) }
+            ≡ Spec.known_at (Spec.call_bytes station.now) (Spec.index_of Spec.positions self.now) }
     {
         self.positions.get(call_bytes(station).as_slice())
     }
@@ -73,44 +73,46 @@ impl<A: Allocator + Copy> Indexes<A> {
     /// The last status reception of this station.
     pub(crate) fn status(&self, station: &Callsign) -> Option<&Reception>
         ensures { option_copied result
-            ≡ known_at (call_bytes station.now) (index_of statuses self.now) }
+            ≡ Spec.known_at (Spec.call_bytes station.now) (Spec.index_of Spec.statuses self.now) }
     {
         self.statuses.get(call_bytes(station).as_slice())
     }
 
     /// The last report of the object of this name, which has no spaces at its end.
     pub(crate) fn object(&self, name: &[u8]) -> Option<&Reception>
-        ensures { option_copied result ≡ known_at name.now (index_of objects self.now) }
+        ensures { option_copied result
+            ≡ Spec.known_at name.now (Spec.index_of Spec.objects self.now) }
     {
         self.objects.get(name)
     }
 
     /// The last report of the item of this name, which has no spaces at its end.
     pub(crate) fn item(&self, name: &[u8]) -> Option<&Reception>
-        ensures { option_copied result ≡ known_at name.now (index_of items self.now) }
+        ensures { option_copied result
+            ≡ Spec.known_at name.now (Spec.index_of Spec.items self.now) }
     {
         self.items.get(name)
     }
 
     /// The last report of each object, by name.
     pub(crate) fn objects(&self) -> &Index<A>
-        ensures { result.now ≡ index_of objects self.now }
+        ensures { result.now ≡ Spec.index_of Spec.objects self.now }
     {
         &self.objects
     }
 
     /// The last report of each item, by name.
     pub(crate) fn items(&self) -> &Index<A>
-        ensures { result.now ≡ index_of items self.now }
+        ensures { result.now ≡ Spec.index_of Spec.items self.now }
     {
         &self.items
     }
 
     /// Makes an entry for what is reported on, which is empty, unless there is one.
     pub(crate) fn place(&mut self, subject: &Subject<'_>) -> Result<(), Memory>
-        ensures same { SameKnown self.old self.new }
-        ensures made { OnOk result (HaveEntries subject.now self.new) }
-        ensures there { HaveEntries subject.now self.old → IsOk result }
+        ensures same { Spec.SameKnown self.old self.new }
+        ensures made { OnOk result (Spec.HaveEntries subject.now self.new) }
+        ensures there { Spec.HaveEntries subject.now self.old → IsOk result }
     {
         match subject {
             Subject::Position(call) => self.positions.place(call.as_slice()),
@@ -124,11 +126,12 @@ impl<A: Allocator + Copy> Indexes<A> {
     /// Keeps the reception in the entry for what is reported on, if it is greater than what is
     /// known. Takes no memory.
     pub(crate) fn note(&mut self, subject: &Subject<'_>, x: &ReceptionView<'_>)
-        requires { HaveEntries subject.now self.old }
-        ensures { (topic : Topic) (bytes : List ℕ) → known_at bytes (index_of topic self.new)
-            ≡ (if is_reported bytes (reported_at topic subject.now)
-            then Some (greater_known (known_at bytes (index_of topic self.old)) x.now)
-            else known_at bytes (index_of topic self.old)) }
+        requires { Spec.HaveEntries subject.now self.old }
+        ensures { (topic : Spec.Topic) (bytes : List ℕ)
+            → Spec.known_at bytes (Spec.index_of topic self.new)
+            ≡ (if Spec.is_reported bytes (Spec.reported_at topic subject.now)
+            then Some (greater_known (Spec.known_at bytes (Spec.index_of topic self.old)) x.now)
+            else Spec.known_at bytes (Spec.index_of topic self.old)) }
     {
         match subject {
             Subject::Position(call) => self.positions.note(call.as_slice(), x),
@@ -146,12 +149,12 @@ impl<A: Allocator + Copy> Indexes<A> {
         subject: &Subject<'_>,
         x: &ReceptionView<'_>,
     ) -> Result<(), Memory>
-        ensures taken { OnOk result ((topic : Topic) (bytes : List ℕ)
-            → known_at bytes (index_of topic self.new)
-            ≡ (if is_reported bytes (reported_at topic subject.now)
-            then Some (greater_known (known_at bytes (index_of topic self.old)) x.now)
-            else known_at bytes (index_of topic self.old))) }
-        ensures same { OnErr result (SameKnown self.old self.new) }
+        ensures taken { OnOk result ((topic : Spec.Topic) (bytes : List ℕ)
+            → Spec.known_at bytes (Spec.index_of topic self.new)
+            ≡ (if Spec.is_reported bytes (Spec.reported_at topic subject.now)
+            then Some (greater_known (Spec.known_at bytes (Spec.index_of topic self.old)) x.now)
+            else Spec.known_at bytes (Spec.index_of topic self.old))) }
+        ensures same { OnErr result (Spec.SameKnown self.old self.new) }
     {
         match subject {
             Subject::Position(call) => self.positions.take(call.as_slice(), x),
@@ -164,10 +167,10 @@ impl<A: Allocator + Copy> Indexes<A> {
 
     /// What is known to both.
     pub(crate) fn merge(&self, other: &Indexes<A>) -> Result<Indexes<A>, Memory>
-        ensures { IfOk result (λ both. (topic : Topic) (bytes : List ℕ)
-            → known_at bytes (index_of topic both)
-            ≡ known_both (known_at bytes (index_of topic self.now))
-            (known_at bytes (index_of topic other.now))) }
+        ensures { IfOk result (λ both. (topic : Spec.Topic) (bytes : List ℕ)
+            → Spec.known_at bytes (Spec.index_of topic both)
+            ≡ Spec.known_both (Spec.known_at bytes (Spec.index_of topic self.now))
+            (Spec.known_at bytes (Spec.index_of topic other.now))) }
     {
         Ok(Indexes {
             positions: self.positions.merge(&other.positions)?,

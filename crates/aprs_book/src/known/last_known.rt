@@ -4,7 +4,7 @@ ghost use Rattle.std.specs.Option.{option_copied};
 ghost use Rattle.aprs_laws.specs.Best.{greater_known};
 ghost use Rattle.aprs_laws.specs.Gap.{millis_of};
 ghost use Rattle.aprs_book.specs.LastKnown.{IsLastKnown};
-ghost use Rattle.aprs_book.specs.Reports.{reports_position, reports_status, reports_object, reports_item, without_spaces};
+ghost use Rattle.aprs_book.specs.Reports as Spec;
 
 use crate::known::heard::heard_of;
 use crate::known::reception_view::ReceptionView;
@@ -16,7 +16,7 @@ impl<A: Allocator + Copy> Book<A> {
     /// The greatest reception of a position report from this station, or none. Takes no memory.
     pub fn position(&self, station: &Callsign) -> Option<Heard<'_>>
         ensures { IsLastKnown (millis_of self.now.gap) self.now.rows
-            (reports_position station.now) result }
+            (Spec.reports_position station.now) result }
     {
         heard_of(self.indexes().position(station))
     }
@@ -24,7 +24,7 @@ impl<A: Allocator + Copy> Book<A> {
     /// The greatest reception of a status report from this station, or none. Takes no memory.
     pub fn status(&self, station: &Callsign) -> Option<Heard<'_>>
         ensures { IsLastKnown (millis_of self.now.gap) self.now.rows
-            (reports_status station.now) result }
+            (Spec.reports_status station.now) result }
     {
         heard_of(self.indexes().status(station))
     }
@@ -34,7 +34,7 @@ impl<A: Allocator + Copy> Book<A> {
     /// no memory.
     pub fn object(&self, name: &[u8]) -> Option<Heard<'_>>
         ensures { IsLastKnown (millis_of self.now.gap) self.now.rows
-            (reports_object name.now) result }
+            (Spec.reports_object name.now) result }
     {
         heard_of(self.indexes().object(without_spaces(name)))
     }
@@ -44,7 +44,7 @@ impl<A: Allocator + Copy> Book<A> {
     /// memory.
     pub fn item(&self, name: &[u8]) -> Option<Heard<'_>>
         ensures { IsLastKnown (millis_of self.now.gap) self.now.rows
-            (reports_item name.now) result }
+            (Spec.reports_item name.now) result }
     {
         heard_of(self.indexes().item(without_spaces(name)))
     }
@@ -65,7 +65,7 @@ pub(crate) fn greater<'a>(
 
 /// The name without the spaces at its end.
 fn without_spaces(name: &[u8]) -> &[u8]
-    ensures { result.now ≡ without_spaces name.now }
+    ensures { result.now ≡ Spec.without_spaces name.now }
 {
     let mut rest = name;
     while let [prefix @ .., last] = rest {

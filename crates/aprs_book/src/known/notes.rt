@@ -1,7 +1,7 @@
 //! What rows report, taken one after another.
 ghost use Rattle.std.specs.Prelude.{◌≡◌, ℕ, List, [], ◌∷◌, ◌++◌, IfOk, OnOk};
 ghost use Rattle.aprs_laws.specs.Row.{Row, row_key};
-ghost use Rattle.aprs_book.specs.Known.{Topic, AreIndexesOf, index_of, known_at, reported_at, reported_in};
+ghost use Rattle.aprs_book.specs.Known as Spec;
 ghost use Rattle.aprs_book.specs.Notes.{AreNotesOf, known_with};
 
 use crate::Memory;
@@ -46,8 +46,8 @@ impl<'t, A: Allocator + Copy> Notes<'t, A> {
     /// Adds what one more row reports on, by its greatest reception.
     pub(crate) fn take(&mut self, subject: Subject<'t>, x: ReceptionView<'t>) -> Result<(), Memory>
         ensures { OnOk result ((rows : List Row) (r : Row) → AreNotesOf rows self.old
-            → ((topic : Topic)
-            → reported_at topic subject.entry ≡ reported_in topic (row_key r))
+            → ((topic : Spec.Topic)
+            → Spec.reported_at topic subject.entry ≡ Spec.reported_in topic (row_key r))
             → x.entry ≡ r.greatest → AreNotesOf (rows ++ r ∷ []) self.new) }
     {
         if subject.is_nothing() {
@@ -80,7 +80,7 @@ impl<'t, A: Allocator + Copy> Notes<'t, A> {
     /// The indexes of all.
     pub(crate) fn into_indexes(self) -> Result<Indexes<A>, Memory>
         ensures { IfOk result (λ indexes. (rows : List Row) → AreNotesOf rows self.entry
-            → AreIndexesOf rows indexes) }
+            → Spec.AreIndexesOf rows indexes) }
     {
         let Notes { mut indexes, last } = self;
         put(&mut indexes, last)?;
@@ -90,8 +90,8 @@ impl<'t, A: Allocator + Copy> Notes<'t, A> {
 
 /// Puts what rows report into the indexes, where there are some.
 fn put<A: Allocator + Copy>(indexes: &mut Indexes<A>, last: Option<Run<'_>>) -> Result<(), Memory>
-    ensures { OnOk result ((topic : Topic) (bytes : List ℕ)
-        → known_at bytes (index_of topic indexes.new)
+    ensures { OnOk result ((topic : Spec.Topic) (bytes : List ℕ)
+        → Spec.known_at bytes (Spec.index_of topic indexes.new)
         ≡ known_with last.entry topic bytes indexes.old) }
 {
     match last {

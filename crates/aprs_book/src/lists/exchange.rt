@@ -3,14 +3,14 @@ ghost use Rattle.std.specs.Prelude.{◌≡◌, ◌↔◌, List, [], ◌∷◌, �
 ghost use Rattle.aprs_laws.specs.Key.{key_of};
 ghost use Rattle.aprs_laws.specs.Row.{Row, row_key, last_of};
 ghost use Rattle.aprs_book.specs.Messages.{message_in};
-ghost use Rattle.aprs_book.specs.MessageRows.{Answer, AreReplies, AreSpans, IsReply, answer_of, message_of};
+ghost use Rattle.aprs_book.specs.MessageRows as Spec;
 ghost use Rattle.aprs_book.specs.Exchange.{IsExchangeOf};
 
 use crate::Memory;
 use crate::known::last_known::greater;
 use crate::known::reception_view::ReceptionView;
 use crate::lists::message_key::{
-    Asked, MessageKey, Span, is_addressed, message_in, reply_in, span_with,
+    AnswerKey, MessageKey, Span, is_addressed, message_in, reply_in, span_with,
 };
 use crate::lists::sender::Sender;
 use crate::rows::walk::Walk;
@@ -22,7 +22,7 @@ use std::collections::BTreeMap;
 /// Each message of some rows with its moments, and the greatest answer of each kind.
 pub(crate) struct Exchange<'t, A: Allocator = Global> {
     pub spans: BTreeMap<MessageKey<'t>, Span, A>,
-    pub answers: BTreeMap<Asked<'t>, ReceptionView<'t>, A>,
+    pub answers: BTreeMap<AnswerKey<'t>, ReceptionView<'t>, A>,
 }
 
 impl<'t, A: Allocator> Drop for Exchange<'t, A> {
@@ -64,7 +64,7 @@ impl<'t, A: Allocator + Copy> Exchange<'t, A> {
             return put_span(&mut self.spans, message, &Span { first, last });
         }
         match reply_in(sender, heard) {
-            Some(asked) => put_answer(&mut self.answers, asked, heard),
+            Some(key) => put_answer(&mut self.answers, key, heard),
             None => Ok(()),
         }
     }
@@ -77,10 +77,10 @@ fn put_span<'t, A: Allocator + Copy>(
     message: MessageKey<'t>,
     more: &Span,
 ) -> Result<(), Memory>
-    ensures { OnOk result ((rows : List Row) (r : Row) → AreSpans rows spans.old.entries
-        → message_in (row_key r) ≡ Some (message_of message.entry)
+    ensures { OnOk result ((rows : List Row) (r : Row) → Spec.AreSpans rows spans.old.entries
+        → message_in (row_key r) ≡ Some (Spec.message_of message.entry)
         → more.now.first ≡ r.first → more.now.last ≡ last_of r
-        → AreSpans (rows ++ r ∷ []) spans.new.entries) }
+        → Spec.AreSpans (rows ++ r ∷ []) spans.new.entries) }
 {
     let again = message.copy();
     let known = match spans.insert(message, *more) {
@@ -96,17 +96,18 @@ fn put_span<'t, A: Allocator + Copy>(
 
 /// Keeps this reception as the answer to what it answers, unless a greater answer is kept already.
 fn put_answer<'t, A: Allocator + Copy>(
-    answers: &mut BTreeMap<Asked<'t>, ReceptionView<'t>, A>,
-    asked: Asked<'t>,
+    answers: &mut BTreeMap<AnswerKey<'t>, ReceptionView<'t>, A>,
+    key: AnswerKey<'t>,
     heard: &ReceptionView<'t>,
 ) -> Result<(), Memory>
-    ensures { OnOk result ((rows : List Row) (r : Row) → AreReplies rows answers.old.entries
-        → ((a : Answer) → IsReply a (row_key r) ↔ (Some (answer_of asked.entry) ≡ Some a))
+    ensures { OnOk result ((rows : List Row) (r : Row) → Spec.AreReplies rows answers.old.entries
+        → ((a : Spec.Answer) → Spec.IsReply a (row_key r)
+        ↔ (Some (Spec.answer_of key.entry) ≡ Some a))
         → heard.now ≡ r.greatest
-        → AreReplies (rows ++ r ∷ []) answers.new.entries) }
+        → Spec.AreReplies (rows ++ r ∷ []) answers.new.entries) }
 {
-    let answer = greater(answers.get(&asked), heard.copy());
-    if answers.insert(asked, answer).is_err() {
+    let answer = greater(answers.get(&key), heard.copy());
+    if answers.insert(key, answer).is_err() {
         return Err(Memory);
     }
     Ok(())

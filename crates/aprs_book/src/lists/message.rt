@@ -6,12 +6,12 @@ ghost use Rattle.aprs_report.specs.Reader.{reading_of};
 ghost use Rattle.aprs_laws.specs.Gap.{millis_of};
 ghost use Rattle.aprs_laws.specs.Row.{Row};
 ghost use Rattle.aprs_book.specs.Messages.{state_by, reported_state, ReportsMessages};
-ghost use Rattle.aprs_book.specs.MessageRows.{message_of, IsListed, ReportsAnswer, Zipped, IsKeyBefore};
+ghost use Rattle.aprs_book.specs.MessageRows as Spec;
 ghost use Rattle.aprs_book.specs.Exchange.{IsExchangeOf};
 
 use crate::known::reception_view::ReceptionView;
 use crate::lists::exchange::{Exchange, exchange_of};
-use crate::lists::message_key::{Asked, MessageKey, Span};
+use crate::lists::message_key::{AnswerKey, MessageKey, Span};
 use crate::{Book, Memory};
 use aprs_ax25::Callsign;
 use aprs_log::Moment;
@@ -78,11 +78,11 @@ pub(crate) fn messages_of<'a, A: Allocator + Copy>(
 fn list_messages<'a, A: Allocator + Copy>(
     alloc: A,
     spans: &BTreeMap<MessageKey<'a>, Span, A>,
-    answers: &BTreeMap<Asked<'a>, ReceptionView<'a>, A>,
+    answers: &BTreeMap<AnswerKey<'a>, ReceptionView<'a>, A>,
 ) -> Result<Vec<MessageRow<'a>, A>, Memory>
-    ensures ascending { Ordered IsKeyBefore spans.now.entries }
+    ensures ascending { Ordered Spec.IsKeyBefore spans.now.entries }
     ensures rows { IfOk result (λ list.
-        Zipped (IsListed answers.now.entries) spans.now.entries list.items) }
+        Spec.Zipped (Spec.IsListed answers.now.entries) spans.now.entries list.items) }
 {
     let mut list = Vec::new(alloc);
     for (message, span) in spans.iter() {
@@ -97,9 +97,9 @@ fn list_messages<'a, A: Allocator + Copy>(
 fn row_of<'a, A: Allocator + Copy>(
     message: &MessageKey<'a>,
     span: &Span,
-    answers: &BTreeMap<Asked<'a>, ReceptionView<'a>, A>,
+    answers: &BTreeMap<AnswerKey<'a>, ReceptionView<'a>, A>,
 ) -> MessageRow<'a>
-    ensures { IsListed answers.now.entries (message.now, span.now) result }
+    ensures { Spec.IsListed answers.now.entries (message.now, span.now) result }
 {
     let state = match message.id {
         Some(id) => state_by(span.first, greatest_answer(message, id, answers)),
@@ -120,19 +120,19 @@ fn row_of<'a, A: Allocator + Copy>(
 fn greatest_answer<'a, 'b, A: Allocator + Copy>(
     message: &MessageKey<'a>,
     id: &'a [u8],
-    answers: &'b BTreeMap<Asked<'a>, ReceptionView<'a>, A>,
+    answers: &'b BTreeMap<AnswerKey<'a>, ReceptionView<'a>, A>,
 ) -> Option<&'b ReceptionView<'a>>
-    ensures { ReportsAnswer answers.now.entries (message_of message.now) id.now
+    ensures { Spec.ReportsAnswer answers.now.entries (Spec.message_of message.now) id.now
         (option_copied result) }
 {
     match Callsign::parse(message.addressee) {
         Ok(addressee) => {
-            let asked = Asked {
+            let key = AnswerKey {
                 source: message.source.copy(),
                 addressee,
                 id,
             };
-            answers.get(&asked)
+            answers.get(&key)
         }
         Err(_) => None,
     }

@@ -4,7 +4,7 @@ ghost use Rattle.std.specs.Option.{option_map};
 ghost use Rattle.aprs_laws.specs.Key.{key_of};
 ghost use Rattle.aprs_report.specs.Reader.{reading_of};
 ghost use Rattle.aprs_book.specs.Messages.{message_in};
-ghost use Rattle.aprs_book.specs.MessageRows.{message_of, is_addressed, span_with, Answer, answer_of, reported_answer, IsReply};
+ghost use Rattle.aprs_book.specs.MessageRows as Spec;
 
 use crate::known::reception_view::ReceptionView;
 use aprs_ax25::Callsign;
@@ -43,7 +43,7 @@ pub(crate) struct Span {
 
 /// What an answer names: the station whose message it answers, the one that answers, and the id.
 #[derive(PartialEq, Eq, PartialOrd, Ord, Drop)]
-pub(crate) struct Asked<'a> {
+pub(crate) struct AnswerKey<'a> {
     pub source: Callsign,
     pub addressee: Callsign,
     pub id: &'a [u8],
@@ -53,7 +53,7 @@ pub(crate) struct Asked<'a> {
 #[tactic(auto, unfolding(aprs_laws::specs::Key::key_of))]
 pub(crate) fn message_in<'a>(sender: &Callsign, heard: &ReceptionView<'a>) -> Option<MessageKey<'a>>
     requires { sender.now ≡ (key_of heard.now.frame).source }
-    ensures { option_map message_of result ≡ message_in (key_of heard.now.frame) }
+    ensures { option_map Spec.message_of result ≡ message_in (key_of heard.now.frame) }
 {
     match Report::read(heard.info()) {
         Report::Message {
@@ -72,7 +72,7 @@ pub(crate) fn message_in<'a>(sender: &Callsign, heard: &ReceptionView<'a>) -> Op
 
 /// What is known of a message's moments, with those of one more row.
 pub(crate) fn span_with(known: &Span, more: &Span) -> Span
-    ensures { result ≡ span_with (Some known.now) more.now }
+    ensures { result ≡ Spec.span_with (Some known.now) more.now }
 {
     Span {
         first: known.first.min(more.first),
@@ -81,14 +81,14 @@ pub(crate) fn span_with(known: &Span, more: &Span) -> Span
 }
 
 /// What a reception from this station answers, if it is an answer to a callsign.
-pub(crate) fn reply_in<'a>(sender: &Callsign, heard: &ReceptionView<'a>) -> Option<Asked<'a>>
+pub(crate) fn reply_in<'a>(sender: &Callsign, heard: &ReceptionView<'a>) -> Option<AnswerKey<'a>>
     requires { sender.now ≡ (key_of heard.now.frame).source }
-    ensures { (a : Answer) → IsReply a (key_of heard.now.frame)
-        ↔ (option_map answer_of result ≡ Some a) }
+    ensures { (a : Spec.Answer) → Spec.IsReply a (key_of heard.now.frame)
+        ↔ (option_map Spec.answer_of result ≡ Some a) }
 {
     let (addressee, id) = answer_in(heard.info())?;
     match Callsign::parse(addressee) {
-        Ok(source) => Some(Asked {
+        Ok(source) => Some(AnswerKey {
             source,
             addressee: sender.copy(),
             id,
@@ -100,7 +100,7 @@ pub(crate) fn reply_in<'a>(sender: &Callsign, heard: &ReceptionView<'a>) -> Opti
 /// The addressee and the id of an answer that has this information.
 fn answer_in(info: &[u8]) -> Option<(&[u8], &[u8])>
     ensures { option_map (λ x. (x.0.now, x.1.now)) result
-        ≡ reported_answer (reading_of info.now) }
+        ≡ Spec.reported_answer (reading_of info.now) }
 {
     match Report::read(info) {
         Report::Ack { addressee, id } => Some((addressee, id)),
@@ -112,7 +112,7 @@ fn answer_in(info: &[u8]) -> Option<(&[u8], &[u8])>
 /// Whether information begins with the data type of messages and their answers (APRS Protocol
 /// Reference 1.0.1, chapter 14). Most doesn't, and needn't be read.
 pub(crate) fn is_addressed(info: &[u8]) -> bool
-    ensures { result ≡ is_addressed info.now }
+    ensures { result ≡ Spec.is_addressed info.now }
 {
     matches!(info, [b':', ..])
 }

@@ -1,5 +1,5 @@
 //! The stations of a book.
-ghost use Rattle.std.specs.Prelude.{◌≡◌, ℕ, List, IfOk};
+ghost use Rattle.std.specs.Prelude.{ℕ, List, IfOk};
 ghost use Rattle.aprs_laws.specs.Gap.{millis_of};
 ghost use Rattle.aprs_laws.specs.Lists.{Ordered};
 ghost use Rattle.aprs_book.specs.Known.{AreIndexesOf};

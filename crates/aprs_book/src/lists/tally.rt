@@ -1,7 +1,7 @@
 //! How many rows each station has.
 ghost use Rattle.std.specs.Prelude.{◌≡◌, ◌+◌, ◌<◌, [], IfOk, OnOk, length};
 ghost use Rattle.std.specs.Option.{option_copied};
-ghost use Rattle.aprs_book.specs.StationRows.{AreTallies, count_in, tally_of, with_last, with_one_more};
+ghost use Rattle.aprs_book.specs.StationRows as Spec;
 
 use crate::Memory;
 use crate::known::reception_view::ReceptionView;
@@ -57,8 +57,8 @@ impl<A: Allocator + Copy> Counting<A> {
     /// Counts one more row of this station. The last station is kept beside the map until another
     /// comes.
     pub(crate) fn add(&mut self, station: &Callsign) -> Result<(), Memory>
-        requires { tally_of station.now self.old < 18446744073709551615 }
-        ensures { OnOk result (self.new ≡ with_one_more station.now self.old) }
+        requires { Spec.tally_of station.now self.old < 18446744073709551615 }
+        ensures { OnOk result (self.new ≡ Spec.with_one_more station.now self.old) }
     {
         let last = match self.last.take() {
             Some(last) if last.station.cmp(station).is_eq() => {
@@ -94,7 +94,7 @@ fn put<A: Allocator + Copy>(
     map: &mut BTreeMap<Callsign, u64, A>,
     last: Option<Tally>,
 ) -> Result<(), Memory>
-    ensures { OnOk result (map.new.entries ≡ with_last last map.old.entries) }
+    ensures { OnOk result (map.new.entries ≡ Spec.with_last last map.old.entries) }
 {
     if let Some(Tally { station, rows }) = last {
         if map.insert(station, rows).is_err() {
@@ -111,7 +111,7 @@ pub(crate) fn tallies<A: Allocator + Copy>(
     len: usize,
 ) -> Result<BTreeMap<Callsign, u64, A>, Memory>
     requires { length rows ≡ len }
-    ensures { IfOk result (λ tallies. AreTallies rows.entry tallies.entries) }
+    ensures { IfOk result (λ tallies. Spec.AreTallies rows.entry tallies.entries) }
 {
     let mut tallies = Counting::new(alloc);
     let mut before = None;
@@ -125,8 +125,8 @@ pub(crate) fn tallies<A: Allocator + Copy>(
 
 /// One more than were counted.
 fn one_more(known: Option<&u64>) -> u64
-    requires { count_in (option_copied known) < 18446744073709551615 }
-    ensures { result ≡ count_in (option_copied known.entry) + 1 }
+    requires { Spec.count_in (option_copied known) < 18446744073709551615 }
+    ensures { result ≡ Spec.count_in (option_copied known.entry) + 1 }
 {
     match known {
         Some(count) => *count + 1,

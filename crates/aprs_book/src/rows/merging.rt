@@ -72,7 +72,7 @@ fn push<A: Allocator + Copy>(
 ) -> Result<(), Memory>
     ensures { OnOk result (rows.new.items ≡ append_row gap rows.old.items row.now) }
 {
-    if is_near_last(gap, rows.as_slice(), row) {
+    if is_last_near(gap, rows.as_slice(), row) {
         let end = rows.len() - 1;
         let last = &mut rows[end];
         return last.absorb(row);
@@ -86,7 +86,7 @@ fn push<A: Allocator + Copy>(
 }
 
 /// Whether the row is near to the last of the rows, so that both are of one transmission.
-fn is_near_last<A: Allocator + Copy>(gap: Millis, rows: &[KeptRow<A>], row: &KeptRow<A>) -> bool
+fn is_last_near<A: Allocator + Copy>(gap: Millis, rows: &[KeptRow<A>], row: &KeptRow<A>) -> bool
     ensures near { result ≡ true → IsNearLast gap rows.now row.now }
     ensures far { result ≡ false → append_row gap rows.now row.now ≡ rows.now ++ row.now ∷ [] }
 {

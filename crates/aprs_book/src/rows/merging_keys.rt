@@ -1,5 +1,5 @@
 //! The rows of two books in one, head by head.
-ghost use Rattle.std.specs.Prelude.{◌≡◌, IfOk, OnOk};
+ghost use Rattle.std.specs.Prelude.{OnOk};
 ghost use Rattle.aprs_laws.specs.JoinRow.{interleave, coalesced_rows};
 ghost use Rattle.aprs_book.specs.Keyed.{PutsRows};
 

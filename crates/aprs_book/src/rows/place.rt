@@ -51,10 +51,12 @@ pub(crate) fn put<A: Allocator + Copy>(
 ) -> Result<(), Memory>
     requires sound { Sound gap rows.old.items }
     requires fewer { length rows.old.items ≤ count.old }
+
     ensures inserted { OnOk result (rows.new.items ≡ insert_heard gap x.now rows.old.items) }
-    ensures unchanged { OnErr result (rows.new.items ≡ rows.old.items) }
-    ensures in_place { fits_in_place gap x.now rows.old.items ≡ true → IsOk result }
     ensures counted { count.new + length rows.old.items ≡ count.old + length rows.new.items }
+
+    ensures in_place { fits_in_place gap x.now rows.old.items ≡ true → IsOk result }
+    ensures unchanged { OnErr result (rows.new.items ≡ rows.old.items) }
 {
     match find_place(gap, rows.as_slice(), x) {
         Place::New(i) => {

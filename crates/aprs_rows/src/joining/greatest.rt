@@ -54,11 +54,13 @@ impl Join for Greatest {
 
     /// The greater of both. Takes no memory.
     fn join(&self, other: &Greatest) -> Result<Greatest, Memory>
-        ensures valid_self { IsAny self.now }
-        ensures valid_other { IsAny other.now }
         ensures joined { IfOk result (IsGreaterOf self.now other.now) }
         ensures valid_result { IfOk result IsAny }
+
         ensures always { IsOk result }
+
+        ensures valid_self { IsAny self.now }
+        ensures valid_other { IsAny other.now }
     {
         let mut heard = self.heard.copy();
         keep_greater(&mut heard, &other.heard);

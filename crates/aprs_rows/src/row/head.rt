@@ -4,7 +4,8 @@ ghost use Rattle.std.specs.Int.{w64, from_be_bytes};
 ghost use Rattle.aprs_ax25.specs.Frame.{FrameOf};
 ghost use Rattle.aprs_ax25.specs.FrameFault.{parts_of};
 ghost use Rattle.aprs_laws.specs.Key.{key_of, key_cmp};
-ghost use Rattle.aprs_rows.specs.Head.{head_of, octets_number, HasHead};
+ghost use Rattle.aprs_rows.specs.Head.{head_of, HasHead};
+ghost use Rattle.aprs_rows.specs.HeadSteps.{octets_number};
 
 use aprs_ax25::Frame;
 use std::cmp::Ordering;

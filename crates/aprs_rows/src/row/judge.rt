@@ -6,7 +6,7 @@ ghost use Rattle.aprs_laws.specs.Gap.{millis_of};
 ghost use Rattle.aprs_laws.specs.Row.{Row};
 ghost use Rattle.aprs_laws.specs.Sound.{IsSoundRow};
 ghost use Rattle.aprs_rows.specs.Names.{names_in};
-ghost use Rattle.aprs_rows.specs.Refusal.{refusal, is_of_last, is_out_of_order, is_too_near, is_ascending, is_same_name};
+ghost use Rattle.aprs_rows.specs.Refusal as Spec;
 ghost use Rattle.aprs_rows.specs.Judging.{list_of};
 
 use crate::row::names::cut_name;
@@ -19,7 +19,7 @@ impl<'a> RowView<'a> {
     /// `before` is the last. Takes no memory.
     pub fn refusal_after(&self, before: Option<&RowView<'_>>, gap: Gap) -> Option<RowCause>
         ensures cause { (rows : List Row) → last_or None rows ≡ option_copied before.entry
-            → result ≡ refusal (millis_of gap) rows self.now }
+            → result ≡ Spec.refusal (millis_of gap) rows self.now }
         // A row that nothing refuses is sound by itself.
         ensures sound { IfNone result (IsSoundRow self.now) }
     {
@@ -30,7 +30,8 @@ impl<'a> RowView<'a> {
     /// or be the book's first row where `before` is none.
     #[tactic(auto, unfolding(crate::specs::Refusal::refusal))]
     fn first_cause(&self, before: Option<&RowView<'_>>, gap: Gap) -> Option<RowCause>
-        ensures { result ≡ refusal (millis_of gap) (list_of (option_copied before.entry)) self.now }
+        ensures { result
+            ≡ Spec.refusal (millis_of gap) (list_of (option_copied before.entry)) self.now }
     {
         if self.is_out_of_order(before) {
             return Some(RowCause::Order);
@@ -53,8 +54,8 @@ impl<'a> RowView<'a> {
 
     /// Whether there is a row before that this one doesn't come after.
     fn is_out_of_order(&self, before: Option<&RowView<'_>>) -> bool
-        ensures { result
-            ≡ is_of_last (λ l. is_out_of_order l self.now) (list_of (option_copied before.entry)) }
+        ensures { result ≡ Spec.is_of_last (λ l. Spec.is_out_of_order l self.now)
+            (list_of (option_copied before.entry)) }
     {
         match before {
             Some(last) => !last.order(self).is_lt(),
@@ -64,7 +65,7 @@ impl<'a> RowView<'a> {
 
     /// Whether there is a row before this one, and it is too near.
     fn is_too_near(&self, before: Option<&RowView<'_>>, gap: Gap) -> bool
-        ensures { result ≡ is_of_last (λ l. is_too_near (millis_of gap) l self.now)
+        ensures { result ≡ Spec.is_of_last (λ l. Spec.is_too_near (millis_of gap) l self.now)
             (list_of (option_copied before.entry)) }
     {
         match before {
@@ -75,7 +76,7 @@ impl<'a> RowView<'a> {
 
     /// Whether a row of the same key begins at most the gap after this one ends.
     fn reaches(&self, gap: Gap, other: &RowView<'_>) -> bool
-        ensures { result ≡ is_too_near (millis_of gap) self.now other.now }
+        ensures { result ≡ Spec.is_too_near (millis_of gap) self.now other.now }
     {
         is_near(gap, self.last(), other.first()) && self.key_order(other).is_eq()
     }
@@ -83,11 +84,11 @@ impl<'a> RowView<'a> {
 
 /// Where the names of a text ascend and this one is among them: whether it is the last.
 fn find_name(text: &[u8], name: &[u8]) -> Option<bool>
-    ensures none { IfNone result ((is_ascending (names_in text.now)
-        && list_any (is_same_name name.now) (names_in text.now)) ≡ false) }
-    ensures some { IfSome result (λ is_last. ((is_ascending (names_in text.now)
-        && list_any (is_same_name name.now) (names_in text.now)) ≡ true)
-        × (is_last ≡ is_of_last (is_same_name name.now) (names_in text.now))) }
+    ensures none { IfNone result ((Spec.is_ascending (names_in text.now)
+        && list_any (Spec.is_same_name name.now) (names_in text.now)) ≡ false) }
+    ensures some { IfSome result (λ is_last. ((Spec.is_ascending (names_in text.now)
+        && list_any (Spec.is_same_name name.now) (names_in text.now)) ≡ true)
+        × (is_last ≡ Spec.is_of_last (Spec.is_same_name name.now) (names_in text.now))) }
 {
     let Some((first, others)) = cut_name(text) else {
         return if name.cmp(text).is_eq() {

@@ -1,5 +1,5 @@
 //! A row in bytes.
-ghost use Rattle.std.specs.Prelude.{◌≡◌, ◌<◌, ◌++◌, ◌∷◌, [], ℕ, All, IfOk, OnOk, length, slice_index};
+ghost use Rattle.std.specs.Prelude.{◌≡◌, ◌<◌, ◌++◌, ◌∷◌, [], All, IfOk, OnOk, length};
 ghost use Rattle.std.specs.List.{join_with_byte};
 ghost use Rattle.aprs_ax25.specs.Frame.{FrameOf};
 ghost use Rattle.aprs_ax25.specs.FrameFault.{parts_of};
@@ -97,6 +97,7 @@ impl<'a> RowView<'a> {
     pub(crate) fn entry(&self, place: usize) -> Entry
         requires sound { IsSoundRow self.now }
         requires short { length (join_with_byte 44 self.now.receivers) < 4294967296 }
+
         ensures place { result.place ≡ place }
         ensures row { IsRowIn result (row_bytes self.now) }
         ensures same { entry_row result (row_bytes self.now) ≡ self.now }
@@ -114,7 +115,7 @@ impl<'a> RowView<'a> {
     }
 
     /// The row with another first moment, and with the names of this text.
-    pub(crate) fn with(self, first: Moment, receivers: &'a [u8]) -> RowView<'a>
+    pub(crate) fn with_first_and_names(self, first: Moment, receivers: &'a [u8]) -> RowView<'a>
         requires { All IsName (names_in receivers.now) }
         ensures { result ≡ record {
           first = first;

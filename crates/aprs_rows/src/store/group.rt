@@ -3,7 +3,7 @@ ghost use Rattle.std.specs.Prelude.{◌≡◌};
 ghost use Rattle.aprs_rows.specs.Groups.{group_row, IsGroup};
 
 use crate::row::row_view::RowView;
-use crate::store::laid::Laid;
+use crate::store::stored_row::StoredRow;
 use aprs_log::Moment;
 
 /// Rows that are one: the first moment of all, how many bytes the text of their receivers has, and
@@ -12,8 +12,8 @@ use aprs_log::Moment;
 #[derive(Drop)]
 pub(crate) struct Group<'a> {
     pub first: Moment,
-    pub receivers: usize,
-    pub greatest: Laid<'a>,
+    pub text_len: usize,
+    pub greatest: StoredRow<'a>,
 }
 
 impl<'a> Group<'a> {
@@ -24,10 +24,10 @@ impl<'a> Group<'a> {
         ensures { result ≡ group_row self.now text.now }
     {
         let row = self.greatest.view();
-        if self.receivers == 0 {
+        if self.text_len == 0 {
             let names = row.receivers();
-            return row.with(self.first, names);
+            return row.with_first_and_names(self.first, names);
         }
-        row.with(self.first, text)
+        row.with_first_and_names(self.first, text)
     }
 }

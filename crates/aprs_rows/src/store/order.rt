@@ -12,7 +12,7 @@ ghost use Rattle.aprs_rows.specs.Rows.{AreRowsIn, rows_in};
 
 use crate::Memory;
 use crate::store::entry::Entry;
-use crate::store::laid::Laid;
+use crate::store::stored_row::StoredRow;
 use crate::store::sweep::Sweep;
 use crate::store::transmissions::Transmissions;
 use aprs_laws::Gap;
@@ -62,8 +62,10 @@ impl<A: Allocator + Copy> RowsInOrder<A> {
         has_runs: bool,
     ) -> Result<RowsInOrder<A>, Memory>
         requires { AreRowsIn entries.items bytes.items }
+
         ensures same { IfOk result (IsPermutation (rows_in entries.items bytes.items)) }
         ensures ordered { IfOk result AreInOrder }
+
         ensures some { OnErr result (entries.items ≢ []) }
         ensures in_place { has_runs ≡ false → IsOk result }
     {
@@ -114,10 +116,10 @@ impl<A: Allocator + Copy> RowsInOrder<A> {
         let Some((first, others)) = self.entries.as_slice().split_first() else {
             return Ok(Transmissions::of(gap, Vec::new(self.alloc), Vec::new(self.alloc)));
         };
-        let first = Laid::of(first, bytes);
+        let first = StoredRow::of(first, bytes);
         let mut sweep = Sweep::begin(self.alloc, gap, first, self.entries.len())?;
         for entry in others {
-            sweep.take(Laid::of(entry, bytes))?;
+            sweep.take(StoredRow::of(entry, bytes))?;
         }
         sweep.finish()
     }

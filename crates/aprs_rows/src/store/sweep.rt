@@ -8,13 +8,13 @@ ghost use Rattle.aprs_laws.specs.JoinRow.{combine, greater, place};
 ghost use Rattle.aprs_laws.specs.Row.{Row};
 ghost use Rattle.aprs_laws.specs.Sound.{Sound};
 ghost use Rattle.aprs_rows.specs.Groups.{rows_of_groups, AreGroups};
-ghost use Rattle.aprs_rows.specs.Sweep.{AreGathered, gathered_names, HasNames, open_row, open_text, Stands};
+ghost use Rattle.aprs_rows.specs.Sweep as Spec;
 
 use crate::Memory;
 use crate::row::names::{gather, put_union};
 use crate::row::near::is_near;
 use crate::store::group::Group;
-use crate::store::laid::Laid;
+use crate::store::stored_row::StoredRow;
 use crate::store::transmissions::Transmissions;
 use aprs_laws::Gap;
 use aprs_log::Moment;
@@ -25,16 +25,16 @@ use std::alloc::Allocator;
 #[derive(Drop)]
 pub(crate) struct Open<'a> {
     first: Moment,
-    greatest: Laid<'a>,
+    greatest: StoredRow<'a>,
     is_alone: bool,
 }
 
 impl<'a> Open<'a> {
     /// The row alone.
-    fn of(row: Laid<'a>) -> Open<'a>
-        ensures row { (names : List (Bor (List ℕ))) → open_row result names ≡ row.entry }
+    fn of(row: StoredRow<'a>) -> Open<'a>
+        ensures row { (names : List (Bor (List ℕ))) → Spec.open_row result names ≡ row.entry }
         ensures alone { result.is_alone ≡ true }
-        ensures own { HasNames result.greatest }
+        ensures own { Spec.HasNames result.greatest }
     {
         Open {
             first: row.first(),
@@ -44,9 +44,9 @@ impl<'a> Open<'a> {
     }
 
     /// Whether a row is near to these.
-    fn is_near(&self, gap: Gap, row: &Laid<'_>) -> bool
+    fn is_near(&self, gap: Gap, row: &StoredRow<'_>) -> bool
         ensures { (names : List (Bor (List ℕ)))
-            → result ≡ is_eq (place (millis_of gap) (open_row self.now names) row.now) }
+            → result ≡ is_eq (place (millis_of gap) (Spec.open_row self.now names) row.now) }
     {
         is_near(gap, self.greatest.last(), row.first())
             && is_near(gap, row.last(), self.first)
@@ -54,12 +54,12 @@ impl<'a> Open<'a> {
     }
 
     /// Adds a row that is near to these.
-    fn grow(&mut self, row: Laid<'a>)
+    fn grow(&mut self, row: StoredRow<'a>)
         ensures first { self.new.first ≡ min self.old.first row.entry.first }
         ensures greatest { self.new.greatest.greatest
             ≡ greater self.old.greatest.greatest row.entry.greatest }
         ensures alone { self.new.is_alone ≡ false }
-        ensures own { HasNames self.old.greatest → HasNames self.new.greatest }
+        ensures own { Spec.HasNames self.old.greatest → Spec.HasNames self.new.greatest }
     {
         if row.first().millis() < self.first.millis() {
             self.first = row.first();
@@ -88,10 +88,10 @@ impl<'a, A: Allocator + Copy> Sweep<'a, A> {
     pub(crate) fn begin(
         alloc: A,
         gap: Gap,
-        row: Laid<'a>,
+        row: StoredRow<'a>,
         most: usize,
     ) -> Result<Sweep<'a, A>, Memory>
-        ensures stands { IfOk result (λ sweep. Stands sweep (row.entry ∷ [])) }
+        ensures stands { IfOk result (λ sweep. Spec.Stands sweep (row.entry ∷ [])) }
         ensures gap { IfOk result (λ sweep. sweep.gap ≡ gap) }
         ensures range { IsGap gap }
     {
@@ -108,9 +108,10 @@ impl<'a, A: Allocator + Copy> Sweep<'a, A> {
     }
 
     /// Takes the next row.
-    pub(crate) fn take(&mut self, row: Laid<'a>) -> Result<(), Memory>
-        ensures stands { (rows : List Row) → Stands self.old rows
-            → OnOk result (Stands self.new (append_row (millis_of self.old.gap) rows row.entry)) }
+    pub(crate) fn take(&mut self, row: StoredRow<'a>) -> Result<(), Memory>
+        ensures stands { (rows : List Row) → Spec.Stands self.old rows
+            → OnOk result (Spec.Stands self.new
+            (append_row (millis_of self.old.gap) rows row.entry)) }
         ensures gap { OnOk result (self.new.gap ≡ self.old.gap) }
     {
         if self.latest.is_near(self.gap, &row) {
@@ -128,8 +129,9 @@ impl<'a, A: Allocator + Copy> Sweep<'a, A> {
 
     /// The book of the rows, which are sound.
     pub(crate) fn finish(self) -> Result<Transmissions<'a, A>, Memory>
-        requires sound { (rows : List Row) × Stands self rows × Sound (millis_of self.gap) rows }
-        ensures { (rows : List Row) → Stands self.entry rows
+        requires sound { (rows : List Row) × Spec.Stands self rows
+            × Sound (millis_of self.gap) rows }
+        ensures { (rows : List Row) → Spec.Stands self.entry rows
             → IfOk result (λ t. t ≡ record { gap = self.entry.gap; rows = rows }) }
     {
         let Sweep {
@@ -144,14 +146,14 @@ impl<'a, A: Allocator + Copy> Sweep<'a, A> {
     }
 
     /// Takes a row that is near to the open ones.
-    fn join(&mut self, row: Laid<'a>) -> Result<(), Memory>
+    fn join(&mut self, row: StoredRow<'a>) -> Result<(), Memory>
         ensures groups { self.new.groups ≡ self.old.groups }
         ensures texts { self.new.texts ≡ self.old.texts }
         ensures gap { self.new.gap ≡ self.old.gap }
-        ensures joined { AreGathered self.old.latest self.old.names.items
-            → OnOk result (AreGathered self.new.latest self.new.names.items
-            × (open_row self.new.latest self.new.names.items
-            ≡ combine (open_row self.old.latest self.old.names.items) row.entry)) }
+        ensures joined { Spec.AreGathered self.old.latest self.old.names.items
+            → OnOk result (Spec.AreGathered self.new.latest self.new.names.items
+            × (Spec.open_row self.new.latest self.new.names.items
+            ≡ combine (Spec.open_row self.old.latest self.old.names.items) row.entry)) }
     {
         gather_alone(&mut self.names, &self.latest)?;
         gather(&mut self.names, row.receivers())?;
@@ -166,8 +168,8 @@ fn gather_alone<'a, A: Allocator>(
     names: &mut Vec<&'a [u8], A>,
     latest: &Open<'a>,
 ) -> Result<(), Memory>
-    ensures { OnOk result (gathered_names names.new.items
-        ≡ gathered_names names.old.items
+    ensures { OnOk result (Spec.gathered_names names.new.items
+        ≡ Spec.gathered_names names.old.items
         ++ (if latest.now.is_alone then latest.now.greatest.receivers else [])) }
 {
     if latest.is_alone {
@@ -184,19 +186,19 @@ fn close<'a, A: Allocator>(
     latest: &Open<'a>,
     names: &mut Vec<&'a [u8], A>,
 ) -> Result<(), Memory>
-    ensures closed { AreGathered latest.now names.old.items
+    ensures closed { Spec.AreGathered latest.now names.old.items
         → AreGroups groups.old.items texts.old.items
         → OnOk result (AreGroups groups.new.items texts.new.items
         × (rows_of_groups groups.new.items texts.new.items
         ≡ rows_of_groups groups.old.items texts.old.items
-        ++ open_row latest.now names.old.items ∷ [])) }
+        ++ Spec.open_row latest.now names.old.items ∷ [])) }
     ensures names { OnOk result (names.new.items ≡ []) }
 {
     let before = texts.len();
     put_names(texts, latest, names)?;
     let group = Group {
         first: latest.first,
-        receivers: texts.len() - before,
+        text_len: texts.len() - before,
         greatest: latest.greatest.copy(),
     };
     if groups.push(group).is_err() {
@@ -213,7 +215,7 @@ fn put_names<A: Allocator>(
     names: &mut Vec<&[u8], A>,
 ) -> Result<(), Memory>
     ensures { OnOk result
-        (texts.new.items ≡ texts.old.items ++ open_text latest.now names.old.items) }
+        (texts.new.items ≡ texts.old.items ++ Spec.open_text latest.now names.old.items) }
 {
     if latest.is_alone {
         return Ok(());

@@ -114,7 +114,7 @@ impl<'t, 'a> Iterator for RowViews<'t, 'a> {
 
     fn next(&mut self) -> Option<RowView<'t>> {
         let group = self.groups.next()?;
-        let (text, rest) = self.texts.split_at(group.receivers);
+        let (text, rest) = self.texts.split_at(group.text_len);
         self.texts = rest;
         Some(group.view(text))
     }

@@ -9,12 +9,12 @@ use Rattle.aprs_tool.proofs.input.read_input.Goals as goal
 pub returns-in-Ok-clause-reads : goal.returns-in-Ok-clause-reads
 returns-in-Ok-clause-reads g c =
     of_head _ _ _ c.args.limit c.in-Ok.head.items
-    (ReadsInput c.args.gap c.read_own.result) c.in-Ok.ensures.bytes
-    (rw c.as_slice.ensures.value at c.read_own.ensures.reads)
+    (ReadsInput c.args.gap c.read_after_head.result) c.in-Ok.ensures.bytes
+    (rw c.as_slice.ensures.value at c.read_after_head.ensures.reads)
 
 pub returns-in-Ok-clause-calls : goal.returns-in-Ok-clause-calls
-returns-in-Ok-clause-calls g c = AsksInput-then _ _ _ c.in-Ok.ensures.calls c.read_own.result
-    c.read_own.ensures.calls
+returns-in-Ok-clause-calls g c = AsksInput-then _ _ _ c.in-Ok.ensures.calls c.read_after_head.result
+    c.read_after_head.ensures.calls
 
 pub returns-in_err-read_short-in-Err-clause-reads : goal.returns-in_err-read_short-in-Err-clause-reads
 returns-in_err-read_short-in-Err-clause-reads g c =

@@ -1,13 +1,13 @@
 use Rattle.std.proofs.Common.{◌∙◌, ap, not}
 use Rattle.aprs_book.proofs.Collected.{adds_last}
 use Rattle.aprs_book.proofs.Messages.{where_ok}
-use Rattle.aprs_book.proofs.Replies.{asked_alike, kept_greater, replies_put}
+use Rattle.aprs_book.proofs.Replies.{answer_keys_alike, kept_greater, replies_put}
 use Rattle.aprs_book.proofs.lists.exchange.put_answer.Goals as goal
 
 pub returns : goal.returns
 returns g c = λ rows r held asked is.
-    replies_put rows _ r (adds_last rows r) c.args.answers.now.entries held _ asked_alike
-    c.args.asked c.greater-answer.result c.insert.new.self.entries asked
+    replies_put rows _ r (adds_last rows r) c.args.answers.now.entries held _ answer_keys_alike
+    c.args.key c.greater-answer.result c.insert.new.self.entries asked
     (kept_greater c.greater-answer.result c.get.result _ c.copy.result r.greatest
     c.greater-answer.ensures c.get.ensures.value (c.copy.ensures ∙ is))
     (where_ok c.insert.result (c.is_err.ensures.negation ∙ ap not c.if-is_err.false)

@@ -1,6 +1,6 @@
 use Rattle.std.proofs.Common.{◌≡◌, ◌∙◌, sym, refl, Ok}
 use Rattle.aprs_book.specs.MessageRows.{message_of}
-use Rattle.aprs_book.proofs.Replies.{asked_alike, answer_reported_by, same_answer}
+use Rattle.aprs_book.proofs.Replies.{answer_keys_alike, answer_reported_by, same_answer}
 use Rattle.aprs_book.proofs.lists.message.greatest_answer.Goals as goal
 
 pub returns-in-Ok : goal.returns-in-Ok
@@ -13,4 +13,4 @@ returns-in-Ok g c =
     (let t : Ok c.in-Ok.addressee ≡ Ok a.addressee = c.in-Ok.ensures.only a.addressee f.addressee in
     cc)
     f.same_id)
-    _ asked_alike _ c.get.ensures.value
+    _ answer_keys_alike _ c.get.ensures.value

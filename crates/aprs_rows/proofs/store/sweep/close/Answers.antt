@@ -28,7 +28,7 @@ returns-clause-closed g c a m =
     let group : Group =
     record {
       first = c.args.latest.now.first;
-      receivers = c.len.result - c.len-before.result;
+      text_len = c.len.result - c.len-before.result;
       greatest = c.copy.result;
     } in
     let e = ends_open c.args.latest.now group c.args.names.now.items a refl size c.copy.ensures in (

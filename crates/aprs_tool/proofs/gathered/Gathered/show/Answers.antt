@@ -3,7 +3,7 @@ use Rattle.std.proofs.lemmas.Result.{err_from_is_err_and}
 use Rattle.aprs_io.proofs.Sends.{Sends-err, Sends-ok}
 use Rattle.aprs_laws.specs.BookValue.{BookValue}
 use Rattle.aprs_tool.specs.ShownBook.{ShowsBook}
-use Rattle.aprs_tool.specs.declared.gathered.Unwritten.TheVariants.{Write}
+use Rattle.aprs_tool.specs.declared.gathered.OutputFault.TheVariants.{Write}
 use Rattle.aprs_tool.proofs.RowsTold.{same_book}
 use Rattle.aprs_tool.proofs.Shows.{shown_text}
 use Rattle.aprs_tool.proofs.gathered.Gathered.show.Goals as goal

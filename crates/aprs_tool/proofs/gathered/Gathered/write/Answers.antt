@@ -3,7 +3,7 @@ use Rattle.std.proofs.lemmas.Result.{err_from_is_err_and}
 use Rattle.aprs_io.proofs.Sends.{Sends-err, Sends-ok}
 use Rattle.aprs_laws.specs.BookValue.{BookValue}
 use Rattle.aprs_tool.specs.Gathered.{WritesText}
-use Rattle.aprs_tool.specs.declared.gathered.Unwritten.TheVariants.{Write}
+use Rattle.aprs_tool.specs.declared.gathered.OutputFault.TheVariants.{Write}
 use Rattle.aprs_tool.proofs.RowsTold.{none_same, same_book, some_rows}
 use Rattle.aprs_tool.proofs.gathered.Gathered.write.Goals as goal
 

@@ -3,8 +3,7 @@ use Rattle.aprs_log.specs.Reception.{Heard}
 use Rattle.aprs_laws.specs.JoinRow.{greater}
 use Rattle.aprs_laws.specs.Best.{LastKnown, greater_known}
 use Rattle.aprs_laws.specs.BestLaws.{Passes}
-use Rattle.aprs_book.specs.Known.{index_of, is_reported, known_at, reported_at, reported_in, reports_at}
-use Rattle.aprs_book.specs.LastKnown.{greatest_of}
+use Rattle.aprs_book.specs.Known.{index_of, is_reported, known_at, reported_at, reported_in, reports_at, greatest_of}
 use Rattle.aprs_book.specs.Notes.{known_with}
 use Rattle.aprs_book.specs.declared.known.notes.Run.{Run}
 use Rattle.aprs_book.proofs.Noting.{run_grows, run_begins, run_stays}

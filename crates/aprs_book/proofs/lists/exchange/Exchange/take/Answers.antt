@@ -44,7 +44,7 @@ returns-in-Some-reply_in g c =
       answers =
           put rows r held.answers
           (λ a. subst (λ (x : Heard).
-          IsReply a (key_of x.frame) ↔ (Some (answer_of c.in-Some-reply_in.asked) ≡ Some a)) is
+          IsReply a (key_of x.frame) ↔ (Some (answer_of c.in-Some-reply_in.key) ≡ Some a)) is
           (subst (λ t. IsReply a (key_of c.args.heard.now.frame)
           ↔ (option_map answer_of t ≡ Some a)) c.in-Some-reply_in.is (c.reply_in.ensures a)))
           is;

@@ -1,7 +1,7 @@
 use Rattle.std.proofs.Common.{[], ◌∷◌, ◌++◌, ◌∙◌, sym, ap}
 use Rattle.std.specs.BTreeMap.{insert_entry}
 use Rattle.aprs_log.specs.Reception.{Heard}
-use Rattle.aprs_rows.specs.Head.{head_cmp}
+use Rattle.aprs_rows.specs.HeadSteps.{head_cmp}
 use Rattle.aprs_rows.proofs.Cases.{on_not_err, on_err}
 use Rattle.aprs_book.proofs.EntryEnds.{stays, err_stays, count_set, count_insert, goes_after, after_ok, after_err, after_kept, after_new}
 use Rattle.aprs_book.proofs.rows.keyed.KeyedRows.append.Goals as goal

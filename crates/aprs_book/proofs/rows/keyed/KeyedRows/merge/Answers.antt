@@ -1,6 +1,5 @@
-use Rattle.std.proofs.Common.{◌∙◌, refl, arith}
+use Rattle.std.proofs.Common.{◌∙◌, refl, arith, sym}
 use Rattle.aprs_book.proofs.MergedEntries.{first_goes, second_goes, both_go, above_none, above_some, turned, held_length, held_some, ends, starts}
-use Rattle.std.proofs.Common.{sym}
 use Rattle.aprs_book.proofs.rows.keyed.KeyedRows.merge.Goals as goal
 use Rattle.aprs_rows.proofs.Heads.{head_exact}
 

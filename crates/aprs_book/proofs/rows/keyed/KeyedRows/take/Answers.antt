@@ -2,7 +2,7 @@ use Rattle.std.proofs.Common.{[], ◌≡◌, ◌∙◌, sym, ap, subst, true, fa
 use Rattle.aprs_laws.specs.Sound.{Sound}
 use Rattle.aprs_laws.specs.Inserted.{insert_heard, fits_in_place}
 use Rattle.std.specs.BTreeMap.{insert_entry}
-use Rattle.aprs_rows.specs.Head.{head_cmp}
+use Rattle.aprs_rows.specs.HeadSteps.{head_cmp}
 use Rattle.aprs_book.proofs.Searches.{none_sound, found_sound}
 use Rattle.aprs_book.proofs.Entries.{writes, written_ok, written_err, written_keyed, written_in_place, lacks, absent_in_place, absent_done}
 use Rattle.aprs_rows.proofs.Cases.{on_not_err, on_err}

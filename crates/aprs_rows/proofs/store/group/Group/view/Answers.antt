@@ -4,8 +4,8 @@ use Rattle.aprs_log.specs.Receiver.{IsName}
 use Rattle.aprs_rows.proofs.Sweeps.{names_of_text}
 use Rattle.aprs_rows.proofs.store.group.Group.view.Goals as goal
 
-pub with-requires-2 : goal.with-requires-2
-with-requires-2 c =
+pub with_first_and_names-requires-2 : goal.with_first_and_names-requires-2
+with_first_and_names-requires-2 c =
     subst (All IsName)
-    (names_of_text c.args.self.now.receivers c.args.text.now c.args.self.now.greatest.receivers
+    (names_of_text c.args.self.now.text_len c.args.text.now c.args.self.now.greatest.receivers
     (omega (arith, c.if-self-eq0.false))) c.requires.names

@@ -1,7 +1,7 @@
 use Rattle.std.proofs.Common.{◌≡◌, ◌+◌, ◌-◌, length, arith}
 use Rattle.aprs_book.proofs.Places.{not_equal}
 use Rattle.aprs_book.proofs.Pushes.{pushed_far}
-use Rattle.aprs_book.proofs.rows.merging.is_near_last.Goals as goal
+use Rattle.aprs_book.proofs.rows.merging.is_last_near.Goals as goal
 
 pub returns-clause-far : goal.returns-clause-far
 returns-clause-far g c = λ f.

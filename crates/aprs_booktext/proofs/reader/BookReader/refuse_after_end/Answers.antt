@@ -1,6 +1,6 @@
 use Rattle.std.proofs.Common.{arith}
 use Rattle.aprs_booktext.proofs.Standing.{after_fault}
-use Rattle.aprs_booktext.proofs.reader.BookReader.append_nothing.Goals as goal
+use Rattle.aprs_booktext.proofs.reader.BookReader.refuse_after_end.Goals as goal
 
 pub returns-clause-fault : goal.returns-clause-fault
 returns-clause-fault g c = λ before store t more s. rw (c.fault.ensures, s.has.counted)

@@ -1,7 +1,7 @@
 use Rattle.std.proofs.Common.{inr}
 use Rattle.std.proofs.lemmas.Result.{err_from_is_err_and}
 use Rattle.aprs_tool.proofs.Inputs.{book_input, is_mark_eq, is_other_eq, log_input, read_alone, refused_log}
-use Rattle.aprs_tool.proofs.input.read_own.Goals as goal
+use Rattle.aprs_tool.proofs.input.read_after_head.Goals as goal
 
 pub returns-then-eq-clause-reads : goal.returns-then-eq-clause-reads
 returns-then-eq-clause-reads g c =

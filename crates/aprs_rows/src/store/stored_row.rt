@@ -15,12 +15,12 @@ use std::marker::Model;
 
 /// A row whose bytes lie in a store.
 #[derive(Drop)]
-pub(crate) struct Laid<'a> {
+pub(crate) struct StoredRow<'a> {
     entry: &'a Entry,
     bytes: &'a [u8],
 }
 
-impl<'a> Model for Laid<'a> {
+impl<'a> Model for StoredRow<'a> {
     ghost use Rattle.aprs_laws.specs.Row.{Row as RowValue};
     ghost use Rattle.aprs_rows.specs.Rows.{entry_row, IsRowIn};
 
@@ -31,23 +31,23 @@ impl<'a> Model for Laid<'a> {
     ghost invariant = { λ l. IsRowIn l.entry.now l.bytes.now };
 }
 
-impl<'a> Laid<'a> {
+impl<'a> StoredRow<'a> {
     /// The row of an entry whose bytes are among these.
-    pub(crate) fn of(entry: &'a Entry, bytes: &'a [u8]) -> Laid<'a>
+    pub(crate) fn of(entry: &'a Entry, bytes: &'a [u8]) -> StoredRow<'a>
         requires { IsRowIn entry.now (bytes_of entry.now bytes.now) }
         ensures { result ≡ entry_row entry.now (bytes_of entry.now bytes.now) }
     {
-        Laid {
+        StoredRow {
             entry,
             bytes: entry.bytes_in(bytes),
         }
     }
 
     /// The same row.
-    pub(crate) fn copy(&self) -> Laid<'a>
+    pub(crate) fn copy(&self) -> StoredRow<'a>
         ensures { result ≡ self.now }
     {
-        Laid {
+        StoredRow {
             entry: self.entry,
             bytes: self.bytes,
         }
@@ -61,14 +61,14 @@ impl<'a> Laid<'a> {
     }
 
     /// The order of the keys.
-    pub(crate) fn key_order(&self, other: &Laid<'_>) -> Ordering
+    pub(crate) fn key_order(&self, other: &StoredRow<'_>) -> Ordering
         ensures { result ≡ key_cmp (row_key self.now) (row_key other.now) }
     {
         self.view().key_order(&other.view())
     }
 
     /// The order of the greatest receptions, by moment, receiver and frame.
-    pub(crate) fn heard_order(&self, other: &Laid<'_>) -> Ordering
+    pub(crate) fn heard_order(&self, other: &StoredRow<'_>) -> Ordering
         ensures { result ≡ heard_cmp self.now.greatest other.now.greatest }
     {
         self.view().heard_order(&other.view())

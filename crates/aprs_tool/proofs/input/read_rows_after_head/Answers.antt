@@ -1,6 +1,6 @@
 use Rattle.std.proofs.lemmas.Result.{err_from_is_err_and}
 use Rattle.aprs_tool.proofs.Inputs.{gives_log, is_mark_eq, is_other_eq, log_input, refused_input, refused_log, rows_input}
-use Rattle.aprs_tool.proofs.input.read_own_rows.Goals as goal
+use Rattle.aprs_tool.proofs.input.read_rows_after_head.Goals as goal
 
 pub returns-then-eq-clause-reads : goal.returns-then-eq-clause-reads
 returns-then-eq-clause-reads g c =

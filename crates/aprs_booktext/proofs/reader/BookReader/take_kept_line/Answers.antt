@@ -1,5 +1,5 @@
 use Rattle.aprs_booktext.proofs.Standing.{ended_stands, ended_fault}
-use Rattle.aprs_booktext.proofs.reader.BookReader.take_held.Goals as goal
+use Rattle.aprs_booktext.proofs.reader.BookReader.take_kept_line.Goals as goal
 
 pub returns-in-Ok-clause-stands : goal.returns-in-Ok-clause-stands
 returns-in-Ok-clause-stands g c = λ before t s. rw c.clear.ensures.items
