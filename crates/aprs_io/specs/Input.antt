@@ -5,7 +5,7 @@ use Rattle.std.specs.Io.KnownBytes.{Consumes, ReadConsumes}
 use Rattle.aprs_io.specs.Device.{Calls, Last, Going, Fault, End, most_failures}
 use Rattle.aprs_io.specs.declared.device.Counted.{Counted}
 use Rattle.aprs_io.specs.declared.input.Ending.{Ending}
-use Rattle.aprs_io.specs.declared.input.Ending.TheVariants as ending
+use Rattle.aprs_io.specs.declared.input.Ending.TheVariants as how
 
 -- The most bytes that any input may have: 1 GiB.
 abbrev pub most_input : ℕ
@@ -16,9 +16,9 @@ most_input = 1073741824
 -- and where the input is too long the text is as long as the limit and something is left. What the
 -- device has is said only after a failed read.
 abbrev pub EndsSo : Ending → ℕ → List ℕ → List ℕ → Option (List ℕ) → Type 0
-EndsSo ending.End limit text rest after = (rest ≡ []) × (length text ≤ limit)
-EndsSo ending.Read limit text rest after = (after ≡ Some rest) × (length text ≤ limit)
-EndsSo ending.TooLong limit text rest after = (0 < length rest) × (length text ≡ limit)
+EndsSo how.End limit text rest after = (rest ≡ []) × (length text ≤ limit)
+EndsSo how.Read limit text rest after = (after ≡ Some rest) × (length text ≤ limit)
+EndsSo how.TooLong limit text rest after = (0 < length rest) × (length text ≡ limit)
 
 -- A text of at most `limit` bytes is read of the input, which then ends in this way; the device
 -- then has `after`.
@@ -34,9 +34,9 @@ EndsHere ending left known after = IfSome known (λ input. Gets left input after
 
 -- What the device answered last where an input ends in this way: where it is too long, a byte.
 abbrev pub last_of_ending : Ending → Last
-last_of_ending ending.End = End
-last_of_ending ending.Read = Fault
-last_of_ending ending.TooLong = Going
+last_of_ending how.End = End
+last_of_ending how.Read = Fault
+last_of_ending how.TooLong = Going
 
 -- What the device answered last where some bytes came or the input ends in this way.
 abbrev pub last_got : {A : Type 0} → Result A Ending → Last
@@ -54,7 +54,7 @@ pub record GetsSome {R : Type 0} (remaining : R → Option (List ℕ)) (r : Resu
   pub some : IfOk r (λ n. (0 < n) × (n ≤ left) × (n ≤ length room))
   pub bytes : IfOk r (λ n. Consumes (remaining old.device) (remaining new.device) (take n room))
   pub end : IfErr r (λ e. EndsHere e left (remaining old.device) (remaining new.device))
-  pub over : IfErr r (λ e. e ≡ ending.TooLong
+  pub over : IfErr r (λ e. e ≡ how.TooLong
       → TakesOne (remaining old.device) (remaining new.device))
   pub calls : Calls (last_got r) old new
   pub tries : new.failed ≤ old.failed + most_failures (last_got r) 1

@@ -4,7 +4,7 @@ use Rattle.aprs_io.specs.Device.{Calls, most_failures}
 use Rattle.aprs_io.specs.Input.{EndsHere, TakesOne, last_of_ending}
 use Rattle.aprs_io.specs.declared.device.Counted.{Counted}
 use Rattle.aprs_io.specs.declared.input.Ending.{Ending}
-use Rattle.aprs_io.specs.declared.input.Ending.TheVariants as ending
+use Rattle.aprs_io.specs.declared.input.Ending.TheVariants as how
 
 -- The input ends in this way, under a limit of so many bytes more. Where it is too long, one byte
 -- more was taken of the device. Whoever asks again after the end, or after a fault, has the counts
@@ -12,6 +12,6 @@ use Rattle.aprs_io.specs.declared.input.Ending.TheVariants as ending
 pub record EndsInput {R : Type 0} (remaining : R → Option (List ℕ)) (way : Ending) (left : ℕ)
     (old new : Counted R) : Type 0 where
   pub end : EndsHere way left (remaining old.device) (remaining new.device)
-  pub over : way ≡ ending.TooLong → TakesOne (remaining old.device) (remaining new.device)
+  pub over : way ≡ how.TooLong → TakesOne (remaining old.device) (remaining new.device)
   pub calls : Calls (last_of_ending way) old new
   pub tries : new.failed ≤ old.failed + most_failures (last_of_ending way) 1

@@ -13,7 +13,7 @@ pub use joining::join::{Join, all_fit, join_all};
 pub use joining::receiver_list::ReceiverList;
 pub use joining::receivers::Receivers;
 pub use memory::Memory;
-pub use room::make_room;
+pub use room::reserve_one;
 pub use row::head::Head;
 pub use row::row_view::RowView;
 pub use store::order::RowsInOrder;

@@ -6,7 +6,7 @@ use std::alloc::Allocator;
 
 /// Makes room for one more item where there is none, and for an eighth of those that are there, so
 /// that little memory lies idle. The items stay as they are, also after `Memory`.
-pub fn make_room<T, A: Allocator>(items: &mut Vec<T, A>) -> Result<(), Memory>
+pub fn reserve_one<T, A: Allocator>(items: &mut Vec<T, A>) -> Result<(), Memory>
     ensures items { items.new.items ≡ items.old.items }
     ensures room { OnOk result (vec_len items.new < vec_capacity items.new) }
 {

@@ -17,7 +17,7 @@ use crate::rows::push::first_cause;
 use crate::rows::walk::Walk;
 use crate::{Memory, RowCause, RowParts};
 use aprs_log::Reception;
-use aprs_rows::{Head, make_room};
+use aprs_rows::{Head, reserve_one};
 use std::alloc::{Allocator, Global};
 use std::cmp::Ordering;
 use std::collections::BTreeMap;
@@ -219,7 +219,7 @@ fn push_one<A: Allocator + Copy>(
     let Some(more) = count.checked_add(1) else {
         return Err(Memory);
     };
-    make_room(rows)?;
+    reserve_one(rows)?;
     if rows.push(row).is_err() {
         return Err(Memory);
     }

@@ -7,7 +7,7 @@ ghost use Rattle.aprs_book.specs.WithRows.{with_rows, IsNearLast};
 use crate::Memory;
 use crate::rows::kept_row::KeptRow;
 use crate::rows::millis::Millis;
-use aprs_rows::make_room;
+use aprs_rows::reserve_one;
 use std::alloc::Allocator;
 
 /// The rows of both in order, where each joins the one before it that it is near to.
@@ -78,7 +78,7 @@ fn push<A: Allocator + Copy>(
         return last.absorb(row);
     }
     let row = row.duplicate()?;
-    make_room(rows)?;
+    reserve_one(rows)?;
     if rows.push(row).is_err() {
         return Err(Memory);
     }

@@ -8,7 +8,7 @@ use crate::Memory;
 use crate::rows::kept_row::KeptRow;
 use crate::rows::millis::Millis;
 use aprs_log::Reception;
-use aprs_rows::make_room;
+use aprs_rows::reserve_one;
 use std::alloc::Allocator;
 
 /// A place in the rows.
@@ -64,7 +64,7 @@ pub(crate) fn put<A: Allocator + Copy>(
                 return Err(Memory);
             };
             let row = KeptRow::single(*rows.allocator(), x)?;
-            make_room(rows)?;
+            reserve_one(rows)?;
             if rows.insert(i, row).is_err() {
                 return Err(Memory);
             }

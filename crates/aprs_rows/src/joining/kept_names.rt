@@ -3,7 +3,7 @@ ghost use Rattle.std.specs.Prelude.{◌≡◌, ◌≤◌, length, insert, OnOk, 
 ghost use Rattle.aprs_rows.specs.KeptNames.{names_in};
 
 use crate::Memory;
-use crate::room::make_room;
+use crate::room::reserve_one;
 use aprs_log::Receiver;
 use std::alloc::Allocator;
 use std::slice;
@@ -83,7 +83,7 @@ fn insert_name<A: Allocator>(
     ensures inserted { OnOk result (names.new.items ≡ insert names.old.items i name.now) }
     ensures unchanged { OnErr result (names.new.items ≡ names.old.items) }
 {
-    make_room(names)?;
+    reserve_one(names)?;
     if names.insert(i, name.copy()).is_err() {
         return Err(Memory);
     }

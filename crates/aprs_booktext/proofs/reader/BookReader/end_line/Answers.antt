@@ -19,4 +19,5 @@ pub returns-clause-fault : goal.returns-clause-fault
 returns-clause-fault g c = IfErr-weaker c.take_kept_line.result _ _
     (λ f fault before t more s lacks. fault_near _ (length c.args.part.now + (length more + 1)) f _
     (omega arith) (fault before (t ++ c.args.part.now) more
-    (c.in_ok-append.ensures.stands before c.args.store.now t s lacks))) c.take_kept_line.ensures.fault
+    (c.in_ok-append.ensures.stands before c.args.store.now t s lacks)))
+    c.take_kept_line.ensures.fault
