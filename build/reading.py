@@ -286,7 +286,8 @@ To believe what a call promises, one has to read its clauses and the definitions
 directly or through others, and neither code nor proofs. There is a page for each run of the
 program and for the libraries' main calls. It begins with the clauses as they stand in the code,
 and says how much each of them needs. Then come the definitions, each after those that it cites,
-with the sentence that says what it means.
+with the sentence that says what it means. A clause's `Spec.x` is the definition `x` of the module
+that its file imports as `Spec`.
 
 A definition is printed once. The page of `{first}` has all of its own and can be read from the
 top; each further page has what the pages before it don't have, and links for the rest.

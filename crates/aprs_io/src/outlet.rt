@@ -1,5 +1,5 @@
 //! A writer with bytes on their way to it.
-ghost use Rattle.std.specs.Prelude.{◌≡◌, [], ◌++◌, OnOk};
+ghost use Rattle.std.specs.Prelude.{◌≡◌, []};
 ghost use Rattle.aprs_io.specs.Device.{Sends};
 
 use crate::{Counted, WriteFault, push_all, send};
