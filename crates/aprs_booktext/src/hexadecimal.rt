@@ -3,16 +3,14 @@ ghost use Rattle.std.specs.Prelude.{◌≡◌, ◌<◌, ℕ, List, [], length, I
 ghost use Rattle.hex.specs.Hex.{IsBytes};
 ghost use Rattle.aprs_booktext.specs.RowFields.{SpellsBytes};
 
+use aprs_ax25::MAX_UI_FRAME;
 use aprs_io::decode_lower_into;
 
-/// The most bytes of a frame.
-pub const MAX_FRAME: usize = 328;
-
 /// The most digits of a frame.
-pub const MAX_DIGITS: usize = 2 * MAX_FRAME;
+pub const MAX_DIGITS: usize = 2 * MAX_UI_FRAME;
 
-/// The bytes whose digits these are, put into `room`: 1 to `MAX_FRAME` of them.
-pub fn decode_into<'r>(digits: &[u8], room: &'r mut [u8; MAX_FRAME]) -> Option<&'r [u8]>
+/// The bytes whose digits these are, put into `room`: 1 to `MAX_UI_FRAME` of them.
+pub fn decode_into<'r>(digits: &[u8], room: &'r mut [u8; MAX_UI_FRAME]) -> Option<&'r [u8]>
     ensures some { IfSome result (λ bytes. SpellsBytes digits.now bytes.now) }
     ensures none { IfNone result ((bytes : List ℕ) → SpellsBytes digits.now bytes → ⊥) }
 {

@@ -20,8 +20,9 @@ use aprs_rows::RowStore;
 use std::alloc::Allocator;
 use std::io::Read;
 
-/// How many bytes are asked of the reader at once.
-const CHUNK: usize = 16_384;
+/// How many bytes are asked of the reader at once: by so many it may be ahead of the line that is
+/// read.
+const MOST_AHEAD: usize = 16_384;
 
 /// Reads a book from its text, which begins with `head` and goes on with the bytes of `source`, to
 /// the end. The first line is `APRSBOOK 1`, and moments are written to the second (20 bytes each),
@@ -125,7 +126,7 @@ fn read_lines<R: Read, A: Allocator + Copy>(
     ensures going { OnOk result (Calls Going source.old source.new) }
 {
     reader.feed(store, head)?;
-    let mut room = [0; CHUNK];
+    let mut room = [0; MOST_AHEAD];
     let mut left = limit - head.len() as u64;
     while !reader.is_done() {
         match read_some(source, &mut room, left) {

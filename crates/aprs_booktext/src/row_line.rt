@@ -9,9 +9,9 @@ ghost use Rattle.aprs_booktext.specs.Text.{row_line, IsBookRow};
 
 use crate::cut::cut_near;
 use crate::fault::BookCause;
-use crate::hexadecimal::{MAX_FRAME, decode_into};
+use crate::hexadecimal::decode_into;
 use crate::scratch::Scratch;
-use aprs_ax25::Frame;
+use aprs_ax25::{Frame, MAX_UI_FRAME};
 use aprs_log::{Clock, Moment, MomentForm, Receiver};
 use aprs_rows::RowView;
 
@@ -147,7 +147,7 @@ fn is_name(bytes: &[u8]) -> bool
 }
 
 /// Reads the frame of a field in lower case hexadecimal.
-fn read_frame(room: &mut [u8; MAX_FRAME], frame: &mut Frame, field: &[u8]) -> Result<(), BookCause>
+fn read_frame(room: &mut [u8; MAX_UI_FRAME], frame: &mut Frame, field: &[u8]) -> Result<(), BookCause>
     ensures ok { OnOk result (SpellsFrame field.now frame.new) }
     ensures err { IfErr result (λ cause. IsWrongFrame field.now cause) }
 {

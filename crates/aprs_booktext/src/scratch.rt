@@ -1,6 +1,5 @@
 //! What is kept from line to line.
-use crate::hexadecimal::MAX_FRAME;
-use aprs_ax25::Frame;
+use aprs_ax25::{Frame, MAX_UI_FRAME};
 use aprs_log::Clock;
 
 /// A frame in as few octets as one has.
@@ -11,7 +10,7 @@ const SHORTEST: &[u8] = b"\x82\xa0\xa4\xa6\x40\x40\xe0\x9c\x60\x86\x82\x98\x98\x
 #[derive(Drop)]
 pub struct Scratch {
     /// The bytes of the frame's digits.
-    pub bytes: [u8; MAX_FRAME],
+    pub bytes: [u8; MAX_UI_FRAME],
     /// The frame.
     pub frame: Frame,
     /// The day of the line before.
@@ -25,7 +24,7 @@ impl Scratch {
             unreachable!()
         };
         Scratch {
-            bytes: [0; MAX_FRAME],
+            bytes: [0; MAX_UI_FRAME],
             frame,
             clock: Clock::new(),
         }

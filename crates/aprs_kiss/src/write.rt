@@ -11,11 +11,11 @@ use std::io::Write;
 /// The type byte of a data frame on port 0.
 const DATA: u8 = 0;
 
-/// The most bytes of a frame that is written at once: those of a UI frame.
-const MAX_AT_ONCE: usize = 328;
+/// The most bytes of a frame that is written at once, more than a UI frame has.
+const MAX_AT_ONCE: usize = 512;
 
 /// The most bytes that are written at once: such a frame, two frame ends and the type byte.
-const MAX_TEXT: usize = MAX_AT_ONCE + 3;
+const MAX_PLAIN: usize = MAX_AT_ONCE + 3;
 
 /// Writes a frame of any length as a data frame of port 0, between two frame ends (the KISS paper).
 /// At a fault a prefix of that went out, and the count of the device's failures rose. Takes no
@@ -30,14 +30,14 @@ pub fn write_kiss<W: Write>(w: &mut Counted<W>, frame: &[u8]) -> Result<(), Writ
 /// than to fill it.
 #[derive(Drop)]
 pub struct KissWriter {
-    text: [u8; MAX_TEXT],
+    text: [u8; MAX_PLAIN],
 }
 
 impl KissWriter {
     /// A writer of frames. Takes no memory.
     pub fn new() -> KissWriter {
         KissWriter {
-            text: [0; MAX_TEXT],
+            text: [0; MAX_PLAIN],
         }
     }
 
@@ -76,12 +76,12 @@ fn write_spelled<W: Write>(w: &mut Counted<W>, frame: &[u8]) -> Result<(), Write
 fn put_plain(out: &mut [u8], frame: &[u8]) -> usize
     requires few { length frame.now ≤ MAX_AT_ONCE }
     requires plain { IsPlain frame.now }
-    requires room { length out.old ≡ MAX_TEXT }
+    requires room { length out.old ≡ MAX_PLAIN }
 
     ensures text { take result out.new ≡ kiss_text frame.now }
-    ensures fits { result ≤ MAX_TEXT }
+    ensures fits { result ≤ MAX_PLAIN }
 
-    ensures len { length out.new ≡ MAX_TEXT }
+    ensures len { length out.new ≡ MAX_PLAIN }
 {
     let start = put(out, 0, &[FEND, DATA]);
     let end = put(out, start, frame);

@@ -19,7 +19,7 @@ use Rattle.aprs_log.proofs.Lines.{line_of-syntax}
 use Rattle.aprs_log.proofs.Frames.{frame_in-kiss_text}
 use Rattle.aprs_log.proofs.Moments.{text-IsTextOf}
 use Rattle.aprs_log.specs.declared.line.TheConstants.{MAX_LINE}
-use Rattle.aprs_log.specs.declared.write.TheConstants.{MAX_FRAME}
+use Rattle.aprs_ax25.specs.declared.scan.TheConstants.{MAX_UI_FRAME}
 
 -- ---- the digits of a frame's bytes, cut at each byte that isn't sent as itself
 
@@ -132,7 +132,7 @@ pub record IsReal (x : Heard) : Type 0 where
   pub few : length x.frame ≤ 1023
 
 pub real : (x : Heard) (text : List ℕ) → text ≡ moment_text x.moment → MomentText x.moment text
-    → IsName x.receiver → frame_of x.frame ≡ Ok x.frame → length x.frame ≤ MAX_FRAME → IsReal x
+    → IsName x.receiver → frame_of x.frame ≡ Ok x.frame → length x.frame ≤ MAX_UI_FRAME → IsReal x
 real x text e moment receiver frame few = record {
   moment = subst (MomentText x.moment) e moment;
   receiver = receiver;

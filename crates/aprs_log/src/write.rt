@@ -12,15 +12,13 @@ use crate::line::Line;
 use crate::moment::civil::MILLIS_LEN;
 use crate::moment::writer::MomentWriter;
 use crate::reception::Reception;
+use aprs_ax25::MAX_UI_FRAME;
 use aprs_io::{Counted, WriteFault, encode_to, put, send};
 use aprs_kiss::cut_plain;
 use std::io::Write;
 
-/// The most bytes of a frame.
-const MAX_FRAME: usize = 328;
-
 /// The most bytes that a frame is sent as: each byte as two, and three around them.
-const MAX_SPELLED: usize = 2 * MAX_FRAME + 3;
+const MAX_SPELLED: usize = 2 * MAX_UI_FRAME + 3;
 
 /// The most bytes of a line that is written: a moment, a name, two spaces, the digits and the LF.
 const MAX_WRITTEN: usize = 24 + 16 + 2 + 2 * MAX_SPELLED + 1;
@@ -94,7 +92,7 @@ fn put_line(line: &mut [u8], moment: &[u8; MILLIS_LEN], reception: &Reception) -
 
 /// Puts the digits of what goes out for a frame at a place, and returns the place after them.
 fn put_frame(out: &mut [u8], at: usize, frame: &[u8]) -> usize
-    requires few { length frame.now ≤ MAX_FRAME }
+    requires few { length frame.now ≤ MAX_UI_FRAME }
     requires room { at + 2 * MAX_SPELLED ≤ length out.old }
 
     ensures digits { take result out.new ≡ take at out.old ++ encode_lower (kiss_text frame.now) }

@@ -9,7 +9,7 @@ use crate::moment::civil::{MILLIS_LEN, tens, units};
 use crate::moment::clock::{DATE_LEN, MILLIS_A_DAY};
 
 /// The bytes of a time of the day to the millisecond, with the `Z` after it.
-const TIME_LEN: usize = MILLIS_LEN - DATE_LEN;
+const MILLIS_TIME_LEN: usize = MILLIS_LEN - DATE_LEN;
 
 /// Writes moments that follow one another. It keeps the text of the last one and that day's first
 /// moment, since lines of a log or a book that follow one another mostly have the same date.
@@ -69,7 +69,7 @@ impl MomentWriter {
 
 /// The text of a time of the day in milliseconds, as `12:00:00.000Z`.
 #[inline(always)]
-fn time_text(time: u32) -> [u8; TIME_LEN]
+fn time_text(time: u32) -> [u8; MILLIS_TIME_LEN]
     requires { time < MILLIS_A_DAY }
     ensures { result ≡ time_text MomentForm.Millis time }
 {

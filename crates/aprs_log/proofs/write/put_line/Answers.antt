@@ -5,7 +5,7 @@ use Rattle.aprs_ax25.specs.Frame.{FrameOf}
 use Rattle.aprs_ax25.specs.FrameFault.{parts_of}
 use Rattle.aprs_log.specs.Moment.{moment_text}
 use Rattle.aprs_log.specs.Receiver.{IsName}
-use Rattle.aprs_log.specs.declared.write.TheConstants.{MAX_FRAME}
+use Rattle.aprs_ax25.specs.declared.scan.TheConstants.{MAX_UI_FRAME}
 use Rattle.aprs_log.specs.declared.moment_form.MomentForm.TheVariants.{Millis}
 use Rattle.aprs_log.proofs.Moments.{moment_text-is}
 use Rattle.aprs_log.proofs.WrittenLines.{frame_of-is, line_of-written, real}
@@ -15,7 +15,7 @@ pub returns-clause-back : goal.returns-clause-back
 returns-clause-back c short =
     let x = c.args.reception.now in
     let frame : c.bytes.result.now ≡ x.frame = c.bytes.ensures.value ∙ c.frame.ensures in
-    let few : length x.frame ≤ MAX_FRAME = omega (arith, c.bytes.ensures.most, ap length frame) in
+    let few : length x.frame ≤ MAX_UI_FRAME = omega (arith, c.bytes.ensures.most, ap length frame) in
     let P : List ℕ → Type 0 = λ f. FrameOf (parts_of f) f in
     let reads = frame_of-is x.frame _ (subst P c.frame.ensures c.bytes.ensures.frame) in
     let is = real x (moment_text x.moment) refl
