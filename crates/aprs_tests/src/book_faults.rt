@@ -92,7 +92,7 @@ fn each_fault_of_a_line(rt: HostRuntime) -> Result<(), Fail> {
     Ok(())
 }
 
-/// A row of RX1 alone.
+/// A row of RX1 alone, at noon.
 const ROW: &[u8] = b"T 2024-05-01T12:00:00.000Z 2024-05-01T12:00:00.000Z RX1 RX1 \
     82a0a4a64040e09c60868298986f03f03e4869";
 
@@ -171,55 +171,54 @@ fn fields_have_one_spelling(rt: HostRuntime) -> Result<(), Fail> {
     Ok(())
 }
 
-/// Rows of three keys, by the SSID of the source, each two 30 seconds apart.
-const NEAR_PAIRS: &[&[u8]] = &[
-    b"T 2024-05-01T12:00:00.000Z 2024-05-01T12:00:00.000Z RX1 RX1 \
-    82a0a4a64040e09c60868298986103f03e4869",
-    b"T 2024-05-01T12:00:30.000Z 2024-05-01T12:00:30.000Z RX1 RX1 \
-    82a0a4a64040e09c60868298986103f03e4869",
-    b"T 2024-05-01T12:00:00.000Z 2024-05-01T12:00:00.000Z RX1 RX1 \
-    82a0a4a64040e09c60868298986303f03e4869",
-    b"T 2024-05-01T12:00:30.000Z 2024-05-01T12:00:30.000Z RX1 RX1 \
-    82a0a4a64040e09c60868298986303f03e4869",
-    b"T 2024-05-01T12:00:00.000Z 2024-05-01T12:00:00.000Z RX1 RX1 \
-    82a0a4a64040e09c60868298986f03f03e4869",
-    b"T 2024-05-01T12:00:30.000Z 2024-05-01T12:00:30.000Z RX1 RX1 \
-    82a0a4a64040e09c60868298986f03f03e4869",
+/// The direct frame's rows at noon, 30 seconds later and 31.
+const NEAR: &[u8] = b"T 2024-05-01T12:00:30.000Z 2024-05-01T12:00:30.000Z RX1 RX1 \
+    82a0a4a64040e09c60868298986f03f03e4869";
+
+const FAR: &[u8] = b"T 2024-05-01T12:00:31.000Z 2024-05-01T12:00:31.000Z RX1 RX1 \
+    82a0a4a64040e09c60868298986f03f03e4869";
+
+/// Rows of two keys before that one's, by the SSID of the source, each two 30 seconds apart.
+const LOW: &[u8] = b"T 2024-05-01T12:00:00.000Z 2024-05-01T12:00:00.000Z RX1 RX1 \
+    82a0a4a64040e09c60868298986103f03e4869";
+
+const NEAR_LOW: &[u8] = b"T 2024-05-01T12:00:30.000Z 2024-05-01T12:00:30.000Z RX1 RX1 \
+    82a0a4a64040e09c60868298986103f03e4869";
+
+const MIDDLE: &[u8] = b"T 2024-05-01T12:00:00.000Z 2024-05-01T12:00:00.000Z RX1 RX1 \
+    82a0a4a64040e09c60868298986303f03e4869";
+
+const NEAR_MIDDLE: &[u8] = b"T 2024-05-01T12:00:30.000Z 2024-05-01T12:00:30.000Z RX1 RX1 \
+    82a0a4a64040e09c60868298986303f03e4869";
+
+/// Rows, the last line after them, and the fault of their text.
+const ROWS: &[(&[&[u8]], &[u8], Option<(u64, &str)>)] = &[
+    (&[ROW, NEAR], b"END 2\n", Some((3, "Near"))),
+    (&[ROW, FAR], b"END 2\n", None),
+    (&[ROW, ROW], b"END 2\n", Some((3, "Order"))),
+    (&[FAR, ROW], b"END 2\n", Some((3, "Order"))),
+    (&[LOW, MIDDLE, ROW], b"END 3\n", None),
+    (&[LOW, NEAR_LOW, MIDDLE, ROW], b"END 4\n", Some((3, "Near"))),
+    (
+        &[LOW, MIDDLE, NEAR_MIDDLE, ROW],
+        b"END 4\n",
+        Some((4, "Near")),
+    ),
+    (&[LOW, MIDDLE, ROW, NEAR], b"END 4\n", Some((5, "Near"))),
+    (
+        &[LOW, NEAR_LOW, MIDDLE, NEAR_MIDDLE, ROW, NEAR],
+        b"END 4\n",
+        Some((3, "Near")),
+    ),
 ];
 
-// The first of each two alone are a book; with a second one, the line of that is at fault.
+// A row of one key or of several is near to the one before it, or out of order: the line of that
+// row is at fault.
 #[test]
-fn rows_of_three_keys_are_near_in_pairs(rt: HostRuntime) -> Result<(), Fail> {
-    let alloc = rt.alloc();
-    let &[a, near_a, b, near_b, c, near_c] = NEAR_PAIRS else {
-        return Err("six rows".into());
-    };
-    let (third, last) = (Some((3, "Near")), b"END 4\n");
-    assert!(rt; has_fault(alloc, &[a, b, c], b"END 3\n", None)?);
-    assert!(rt; has_fault(alloc, &[a, near_a, b, c], last, third)?);
-    assert!(rt; has_fault(alloc, &[a, b, near_b, c], last, Some((4, "Near")))?);
-    assert!(rt; has_fault(alloc, &[a, b, c, near_c], last, Some((5, "Near")))?);
-    assert!(rt; has_fault(alloc, NEAR_PAIRS, last, third)?);
-    Ok(())
-}
-
-#[test]
-fn a_second_row(rt: HostRuntime) -> Result<(), Fail> {
-    let alloc = rt.alloc();
-    let first = b"T 2024-05-01T12:00:00.000Z 2024-05-01T12:00:00.000Z RX1 RX1 \
-        82a0a4a64040e09c60868298986f03f03e4869"
-        .as_slice();
-    let near = b"T 2024-05-01T12:00:30.000Z 2024-05-01T12:00:30.000Z RX1 RX1 \
-        82a0a4a64040e09c60868298986f03f03e4869"
-        .as_slice();
-    let far = b"T 2024-05-01T12:00:31.000Z 2024-05-01T12:00:31.000Z RX1 RX1 \
-        82a0a4a64040e09c60868298986f03f03e4869"
-        .as_slice();
-    let (order, last) = (Some((3, "Order")), b"END 2\n");
-    assert!(rt; has_fault(alloc, &[first, near], last, Some((3, "Near")))?);
-    assert!(rt; has_fault(alloc, &[first, far], last, None)?);
-    assert!(rt; has_fault(alloc, &[first, first], last, order)?);
-    assert!(rt; has_fault(alloc, &[far, first], last, order)?);
+fn rows_are_near_or_out_of_order(rt: HostRuntime) -> Result<(), Fail> {
+    for &(lines, last, fault) in ROWS {
+        assert!(rt; has_fault(rt.alloc(), lines, last, fault)?);
+    }
     Ok(())
 }
 
@@ -305,7 +304,6 @@ fn each_other_byte_in_the_second_row_of_two(rt: HostRuntime) -> Result<(), Fail>
 
 #[test]
 fn causes_have_names(rt: HostRuntime) {
-    assert!(rt; BookCause::Header.number() == 1);
-    assert!(rt; BookCause::Memory.number() == 13);
+    assert!(rt; BookCause::Header.number() == 1 && BookCause::Memory.number() == 13);
     assert!(rt; BookCause::NotGreatest.name() == "NotGreatest");
 }

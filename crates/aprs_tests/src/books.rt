@@ -1,7 +1,7 @@
 //! Books that take receptions, merge and replay.
 
 use crate::ample_memory::joined_all;
-use crate::shown::{is_shown, name_text};
+use crate::shown::is_shown;
 use crate::vectors::{ANSWERED, DIRECT, REPEATED, heard, receiver};
 use aprs_book::{Book, Gap, Greatest, Join, Receivers, Step, join_all, replay, steps_fit};
 use std::alloc::Global;
@@ -67,20 +67,31 @@ fn other_digipeaters_are_no_other_row(rt: HostRuntime) -> Result<(), Fail> {
     Ok(())
 }
 
+/// Receivers of these names.
+fn receivers_of(alloc: Global, names: &[&[u8]]) -> Result<Receivers, Fail> {
+    let mut receivers = Receivers::new(alloc);
+    for name in names {
+        receivers.add(&receiver(name)?).ok().ok_or("memory")?;
+    }
+    Ok(receivers)
+}
+
+/// Whether these are their names.
+fn are_names(receivers: &Receivers, names: &[&[u8]]) -> bool {
+    receivers.as_slice().len() == names.len()
+        && receivers
+            .as_slice()
+            .iter()
+            .zip(names)
+            .all(|(receiver, name)| receiver.as_bytes() == *name)
+}
+
 #[test]
 fn receivers_stand_once(rt: HostRuntime) -> Result<(), Fail> {
-    let alloc = rt.alloc();
-    let mut names = Receivers::new(alloc);
-    const NAMES: &[&[u8]] = &[b"RX2", b"RX1", b"RX2"];
-    for &name in NAMES {
-        let name = receiver(name)?;
-        names.add(&name).ok().ok_or("memory")?;
-    }
-    let mut text = String::new(alloc);
-    for name in names.as_slice() {
-        name_text(&mut text, name).ok_or("memory")?;
-    }
-    assert!(rt; text.as_str() == "RX1 RX2 ");
+    let receivers = receivers_of(rt.alloc(), &[b"RX2", b"RX1", b"RX2"])?;
+    assert!(rt; are_names(&receivers, &[b"RX1", b"RX2"]));
+    let twice = receivers.join(&receivers).ok().ok_or("memory")?;
+    assert!(rt; are_names(&twice, &[b"RX1", b"RX2"]));
     Ok(())
 }
 
@@ -196,15 +207,5 @@ fn greatest_receptions_join(rt: HostRuntime) -> Result<(), Fail> {
     let third = Greatest::new(&heard(0, b"RX1", &REPEATED)?);
     let all = join_all(&first, &[second, third]).ok().ok_or("memory")?;
     assert!(rt; *all.get() == heard(0, b"RX2", &REPEATED)?);
-    Ok(())
-}
-
-#[test]
-fn receivers_join_with_themselves(rt: HostRuntime) -> Result<(), Fail> {
-    let mut names = Receivers::new(rt.alloc());
-    let name = receiver(b"RX1")?;
-    names.add(&name).ok().ok_or("memory")?;
-    let twice = names.join(&names).ok().ok_or("memory")?;
-    assert!(rt; twice.as_slice().len() == 1);
     Ok(())
 }

@@ -215,24 +215,40 @@ fn is_of_store(alloc: Global, store: RowStore, book: &Book) -> Result<bool, Fail
     Ok(made.same(book))
 }
 
-/// Takes the five in the order of this number, below 120, into both, and into a store.
-fn agrees_in_order(alloc: Global, frames: &[Frame], order: usize) -> Result<bool, Fail> {
-    let mut left = Vec::new(alloc);
-    left.extend_from_slice(&FIVE)?;
-    let mut both = Both::new(alloc);
-    let mut store = RowStore::new(alloc);
+/// Takes a reception into both, and puts it into a store.
+fn take_and_store(
+    alloc: Global,
+    frames: &[Frame],
+    both: &mut Both,
+    store: &mut RowStore,
+    x: Plain,
+) -> Result<(), Fail> {
+    let heard = reception(frames, x)?;
+    store.push_reception(&heard).ok().ok_or("memory")?;
+    both.take(alloc, frames, x)
+}
+
+/// The five in the order of this number, below 120.
+fn five_in_order(order: usize) -> [Plain; 5] {
+    let mut five = FIVE;
     let mut rest = order;
-    const SIZES: &[usize] = &[5, 4, 3, 2, 1];
+    const SIZES: &[usize] = &[5, 4, 3, 2];
     for &size in SIZES {
         let place = rest % size;
         rest /= size;
-        if place >= left.len() {
-            return Ok(false);
+        if place < 5 && size <= 5 {
+            five.swap(place, size - 1);
         }
-        let x = left.remove(place);
-        let heard = reception(frames, x)?;
-        store.push_reception(&heard).ok().ok_or("memory")?;
-        both.take(alloc, frames, x)?;
+    }
+    five
+}
+
+/// Takes the five in the order of this number into both, and into a store.
+fn agrees_in_order(alloc: Global, frames: &[Frame], order: usize) -> Result<bool, Fail> {
+    let mut both = Both::new(alloc);
+    let mut store = RowStore::new(alloc);
+    for x in five_in_order(order) {
+        take_and_store(alloc, frames, &mut both, &mut store, x)?;
         if !both.agree(frames)? {
             return Ok(false);
         }
@@ -340,9 +356,7 @@ fn agrees_in_a_thousand(alloc: Global, frames: &[Frame], stride: u64) -> Result<
             receiver: 1,
             frame: 3,
         };
-        let heard = reception(frames, x)?;
-        store.push_reception(&heard).ok().ok_or("memory")?;
-        both.take(alloc, frames, x)?;
+        take_and_store(alloc, frames, &mut both, &mut store, x)?;
     }
     Ok(
         both.agree(frames)?

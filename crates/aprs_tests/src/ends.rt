@@ -41,7 +41,7 @@ fn a_conversion_ends_at_the_first_end(rt: HostRuntime) {
     for &(run, input, text) in RUNS {
         for &more in MORE {
             let mut r = growing(input, more);
-            assert!(rt; writes(rt.alloc(), run, &mut r, text));
+            assert!(rt; writes(rt.alloc(), rt.alloc(), run, &mut r, text));
             assert!(rt; is_asked_once(r));
         }
     }

@@ -1,14 +1,12 @@
 //! Merges and listings of several inputs, over devices that fail at each byte.
 
 use crate::devices::{Failing, Tight};
-use crate::vectors::{
-    DIRECT_TEXT, FIRST_LINE, LOG, MERGED_TEXT, ONE_LINE, THREE_LINES, line_after,
-};
+use crate::vectors::{DIRECT_TEXT, LOG, MERGED_TEXT, ONE_LINE, THREE_LINES, line_after};
 use aprs_book::Gap;
 use aprs_booktext::BookCause;
 use aprs_kiss::Counted;
 use aprs_log::{LogCause, MAX_INPUT};
-use aprs_tool::{InputFault, RunFault, merge_run, show_run, status_of};
+use aprs_tool::{InputFault, RunFault, merge_run, show_run};
 use std::alloc::Global;
 
 /// A reader that gives all its bytes, or so many of them before it fails.
@@ -83,21 +81,5 @@ fn the_second_of_three_inputs_fails_at_each_byte(rt: HostRuntime) {
             assert!(rt; is_ended_by(rt.alloc(), second, good, false), "{good}");
             assert!(rt; is_ended_by(rt.alloc(), second, good, true), "{good}");
         }
-    }
-}
-
-#[test]
-fn a_fault_of_an_input_has_status_1(rt: HostRuntime) {
-    let mut inputs = [Counted::new(ONE_LINE), Counted::new(FIRST_LINE)];
-    let mut w = Counted::new(Vec::new(rt.alloc()));
-    match merge_run(
-        rt.alloc(),
-        MAX_INPUT,
-        Gap::STANDARD,
-        inputs.as_mut_slice(),
-        &mut w,
-    ) {
-        Err(fault) => assert!(rt; status_of(&fault) == 1),
-        Ok(()) => assert!(rt; false),
     }
 }

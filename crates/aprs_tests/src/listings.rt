@@ -68,7 +68,7 @@ const GREATEST: &str = "station N0CALL-7 2
 position 2024-05-01T12:10:00.000Z RX1 - 294350/6000 -432175/6000 0 /-:
 ";
 
-// The greatest position is listed, whichever was taken last.
+// The greatest position is listed, whichever was taken last, and moments to the millisecond.
 #[test]
 fn stations_are_listed(rt: HostRuntime) -> Result<(), Fail> {
     const CASES: &[(&[Sent], &str)] = &[
@@ -76,6 +76,10 @@ fn stations_are_listed(rt: HostRuntime) -> Result<(), Fail> {
         (
             &[HELLO],
             "station N0CALL-7 1\nstatus 2024-05-01T12:00:00.000Z RX1 -:Hi\n",
+        ),
+        (
+            &[("2024-05-01T12:00:00.500Z", FROM, b">Hi")],
+            "station N0CALL-7 1\nstatus 2024-05-01T12:00:00.500Z RX1 -:Hi\n",
         ),
         (&[LATE, EARLY], GREATEST),
         (&[EARLY, LATE], GREATEST),

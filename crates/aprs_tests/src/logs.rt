@@ -5,6 +5,7 @@ use crate::devices::Failing;
 use crate::vectors::LOG;
 use aprs_kiss::Counted;
 use aprs_log::{Line, LogCause, LogFault, LogReader, MAX_INPUT};
+use std::io::Read;
 
 /// A reader that gives all its bytes, one a call.
 fn slowly(bytes: &[u8]) -> Counted<Failing<'_>> {
@@ -13,6 +14,29 @@ fn slowly(bytes: &[u8]) -> Counted<Failing<'_>> {
         most: 1,
         good: usize::MAX,
     })
+}
+
+/// Whether so many lines are heard, and after them this comes twice.
+fn ends_with<R: Read>(
+    reader: &mut LogReader<'_, R>,
+    lines: u64,
+    end: Option<(u64, LogCause)>,
+) -> bool {
+    for _ in 0..lines {
+        if !matches!(&reader.next(), Ok(Some(Line::Heard(_)))) {
+            return false;
+        }
+    }
+    reader.line() == lines && is_at(reader, end) && is_at(reader, end)
+}
+
+/// Whether the end comes next, or this fault.
+fn is_at<R: Read>(reader: &mut LogReader<'_, R>, end: Option<(u64, LogCause)>) -> bool {
+    match (reader.next(), end) {
+        (Ok(None), None) => true,
+        (Err(fault), Some((line, cause))) => fault == LogFault { line, cause },
+        _ => false,
+    }
 }
 
 #[test]
@@ -24,22 +48,9 @@ fn a_reader_fails_at_each_byte(rt: HostRuntime) {
             good,
         });
         let mut reader = LogReader::new(rt.alloc(), MAX_INPUT, b"", &mut device);
-        for _ in 0..good / 74 {
-            assert!(rt;
-                matches!(&reader.next(), Ok(Some(Line::Heard(_)))),
-                "at {good}"
-            );
-        }
-        let line = good as u64 / 74;
-        assert!(rt; reader.line() == line);
-        for _ in 0..2 {
-            let fault = LogFault {
-                line: line + 1,
-                cause: LogCause::Read,
-            };
-            assert!(rt; reader.next() == Err(fault), "at {good}");
-            assert!(rt; reader.failures() == 1);
-        }
+        let lines = good as u64 / 74;
+        let is_right = ends_with(&mut reader, lines, Some((lines + 1, LogCause::Read)));
+        assert!(rt; is_right && reader.failures() == 1, "at {good}");
     }
 }
 
@@ -54,19 +65,10 @@ fn logs_that_end(rt: HostRuntime) {
         (148, 0, 74, 1, None),
         (0, 0, 0, 0, None),
     ];
-    for &(limit, head, input, lines, fault) in CASES {
+    for &(limit, head, input, lines, end) in CASES {
         let mut device = slowly(&LOG[head..input]);
         let mut reader = LogReader::new(rt.alloc(), limit, &LOG[..head], &mut device);
-        for _ in 0..lines {
-            assert!(rt; matches!(&reader.next(), Ok(Some(Line::Heard(_)))));
-        }
-        for _ in 0..2 {
-            let end = match fault {
-                None => Ok(None),
-                Some((line, cause)) => Err(LogFault { line, cause }),
-            };
-            assert!(rt; reader.next() == end, "{limit} {input}");
-        }
-        assert!(rt; reader.failures() == 0);
+        let is_right = ends_with(&mut reader, lines, end);
+        assert!(rt; is_right && reader.failures() == 0, "{limit} {input}");
     }
 }

@@ -1,12 +1,12 @@
 //! Merges, and the inputs of one.
 ghost use Rattle.std.specs.Prelude.{◌≤◌};
 
-use crate::vectors::{DIRECT_TEXT, EMPTY_TEXT, MERGED_TEXT, ONE_LINE};
+use crate::vectors::{DIRECT_TEXT, EMPTY_TEXT, FIRST_LINE, MERGED_TEXT, ONE_LINE};
 use aprs_book::Gap;
 use aprs_booktext::{BookCause, BookFault, write_book};
 use aprs_kiss::Counted;
 use aprs_log::{LogCause, LogFault, MAX_INPUT};
-use aprs_tool::{Desk, InputFault, RunFault, merge_run, read_input, status_of};
+use aprs_tool::{Desk, InputFault, RunFault, merge_run, read_input, show_run, status_of};
 use std::alloc::Global;
 use std::io::{self, Read};
 use std::test::Fail;
@@ -80,30 +80,52 @@ fn line_and_name(fault: &InputFault) -> Option<(u64, &'static str)> {
     }
 }
 
-#[test]
-fn a_faulty_input_writes_nothing(rt: HostRuntime) -> Result<(), Fail> {
-    let alloc = rt.alloc();
-    let mut faulty = Vec::new(alloc);
-    faulty.extend_from_slice(ONE_LINE)?;
-    faulty.extend_from_slice(ONE_LINE)?;
-    faulty.extend_from_slice(b"2024-05-01T12:00:00Z RX1 zz\n")?;
-    let mut inputs = [Counted::new(DIRECT_TEXT), Counted::new(faulty.as_slice())];
+/// The index, the line and the name of the cause of the fault of a merge or a listing of two
+/// inputs, and its status, where nothing is written.
+fn refusal(
+    alloc: Global,
+    first: &[u8],
+    second: &[u8],
+    is_listing: bool,
+) -> Option<(usize, u64, &'static str, u8)> {
+    let mut inputs = [Counted::new(first), Counted::new(second)];
     let mut w = Counted::new(Vec::new(alloc));
-    let run = merge_run(
-        alloc,
-        MAX_INPUT,
-        Gap::STANDARD,
-        inputs.as_mut_slice(),
-        &mut w,
-    );
-    let Err(RunFault::Input { index, fault }) = run else {
-        return Err("a fault".into());
+    let run = if is_listing {
+        show_run(alloc, MAX_INPUT, Gap::STANDARD, &mut inputs, &mut w)
+    } else {
+        merge_run(alloc, MAX_INPUT, Gap::STANDARD, &mut inputs, &mut w)
     };
-    assert!(rt; index == 1);
-    assert!(rt; line_and_name(&fault) == Some((3, "Hex")));
-    assert!(rt; status_of(&RunFault::Input { index, fault }) == 1);
-    assert!(rt; w.into_inner().is_empty());
-    Ok(())
+    let Err(fault) = run else {
+        return None;
+    };
+    let status = status_of(&fault);
+    match fault {
+        RunFault::Input { index, fault } if w.into_inner().is_empty() => {
+            let (line, name) = line_and_name(&fault)?;
+            Some((index, line, name, status))
+        }
+        _ => None,
+    }
+}
+
+/// A log whose third line is faulty.
+const FAULTY: &[u8] = b"2024-05-01T12:00:00Z RX1 c00082a0a4a64040e09c60868298986f03f03e4869c0
+2024-05-01T12:00:00Z RX1 c00082a0a4a64040e09c60868298986f03f03e4869c0
+2024-05-01T12:00:00Z RX1 zz
+";
+
+#[test]
+fn a_faulty_input_writes_nothing(rt: HostRuntime) {
+    const CASES: &[(&[u8], &[u8], u64, &str)] = &[
+        (DIRECT_TEXT, FAULTY, 3, "Hex"),
+        (ONE_LINE, FIRST_LINE, 1, "NoNewline"),
+    ];
+    for &(first, second, line, name) in CASES {
+        for is_listing in [false, true] {
+            let refusal = refusal(rt.alloc(), first, second, is_listing);
+            assert!(rt; refusal == Some((1, line, name, 1)));
+        }
+    }
 }
 
 /// The line and the name of the cause of the fault of an input under a limit, if it has one.
@@ -117,22 +139,14 @@ fn fault_within(alloc: Global, limit: u64, input: &[u8]) -> Option<(u64, &'stati
 }
 
 #[test]
-fn short_inputs_are_logs(rt: HostRuntime) -> Result<(), Fail> {
-    let alloc = rt.alloc();
-    let read = read_input(
-        alloc,
-        MAX_INPUT,
-        Gap::STANDARD,
-        &mut Counted::new(b"".as_slice()),
-    );
-    assert!(rt; read.ok().ok_or("an empty log")?.len() == 0);
+fn short_inputs_are_logs(rt: HostRuntime) {
+    assert!(rt; fault_within(rt.alloc(), MAX_INPUT, b"").is_none());
     for size in 1..8usize {
-        let short = fault_within(alloc, MAX_INPUT, &DIRECT_TEXT[..size]);
+        let short = fault_within(rt.alloc(), MAX_INPUT, &DIRECT_TEXT[..size]);
         assert!(rt; short == Some((1, "NoNewline")));
-        let long = fault_within(alloc, size as u64, DIRECT_TEXT);
+        let long = fault_within(rt.alloc(), size as u64, DIRECT_TEXT);
         assert!(rt; long == Some((1, "TooLong")));
     }
-    Ok(())
 }
 
 #[test]

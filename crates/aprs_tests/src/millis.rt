@@ -1,7 +1,6 @@
 //! Moments to the second and to the millisecond, in lines, words, rows and texts of books.
 
 use crate::book_faults::fault_of;
-use crate::listings::listing;
 use crate::merges::is_merged_to;
 use crate::runs::converted;
 use crate::vectors::{
@@ -56,6 +55,11 @@ const NO_MOMENTS: &[&[u8]] = &[
     b"2024-05-01T12:00:00.0000",
     b"2024-05-01T12:00:00.-01Z",
     b"2024-05-01T12:00:00:000Z",
+    b"2024-05-01T12:00:60Z",
+    b"2023-02-29T00:00:00Z",
+    b"2100-01-01T00:00:00Z",
+    b"1969-12-31T23:59:59Z",
+    b"2024-05-01t12:00:00Z",
 ];
 
 /// Whether this text is a moment's, in this form alone.
@@ -140,15 +144,6 @@ fn lines_are_written_to_the_millisecond(rt: HostRuntime) {
     let (text, fault) = converted(&rt, MAX_INPUT, Form::Log, faulty);
     assert!(rt; text.is_empty());
     assert!(rt; fault == Some((1, LogCause::Moment)));
-}
-
-#[test]
-fn milliseconds_are_listed(rt: HostRuntime) -> Result<(), Fail> {
-    assert!(rt;
-        listing(rt.alloc(), HALF)?.as_slice()
-            == b"station N0CALL-7 1\nstatus 2024-05-01T12:00:00.500Z RX1 -:Hi\n".as_slice()
-    );
-    Ok(())
 }
 
 /// What is asked for by words that capture at this moment.
@@ -363,20 +358,4 @@ fn near_rows_are_refused_to_the_millisecond(rt: HostRuntime) {
     for &(text, fault) in CASES {
         assert!(rt; fault_of(rt.alloc(), text) == fault);
     }
-}
-
-#[test]
-fn a_text_of_version_3_is_cut_at_each_byte(rt: HostRuntime) {
-    for good in 0..119usize {
-        let line = if good <= 13 {
-            1
-        } else if good <= 112 {
-            2
-        } else {
-            3
-        };
-        let fault = fault_of(rt.alloc(), &DIRECT_TEXT[..good]);
-        assert!(rt; fault == Some((line, "Ending")), "{good}");
-    }
-    assert!(rt; fault_of(rt.alloc(), DIRECT_TEXT).is_none());
 }

@@ -7,7 +7,7 @@ use crate::vectors::{LOG, SHORT_LOG, line_after};
 use aprs_kiss::Counted;
 use aprs_log::{LogCause, LogFault, MAX_INPUT, Moment, Receiver};
 use aprs_tool::{Form, InputFault, RunFault, check_run, convert_run, status_of};
-use std::alloc::Global;
+use std::alloc::{Allocator, Global};
 use std::io::{Read, Write};
 use std::test::Fail;
 
@@ -59,8 +59,9 @@ fn form_of(run: Run) -> Option<Form> {
     }
 }
 
-fn gone<R: Read, W: Write>(
-    alloc: Global,
+/// The answer of a run with this allocator.
+fn gone<A: Allocator + Copy, R: Read, W: Write>(
+    alloc: A,
     run: Run,
     r: &mut Counted<R>,
     w: &mut Counted<W>,
@@ -71,9 +72,15 @@ fn gone<R: Read, W: Write>(
     }
 }
 
-/// Whether a run goes well, and writes this text in one try a call.
-pub fn writes<R: Read>(alloc: Global, run: Run, r: &mut Counted<R>, text: &[u8]) -> bool {
-    let mut w = Counted::new(Vec::new(alloc));
+/// Whether a run with this allocator goes well, and writes this text in one try a call.
+pub fn writes<A: Allocator + Copy, R: Read>(
+    out: Global,
+    alloc: A,
+    run: Run,
+    r: &mut Counted<R>,
+    text: &[u8],
+) -> bool {
+    let mut w = Counted::new(Vec::new(out));
     let is_ok = gone(alloc, run, r, &mut w).is_ok();
     is_ok && w.failures() == 0 && w.into_inner().as_slice() == text
 }
@@ -88,7 +95,7 @@ fn readers_give_few_bytes(rt: HostRuntime) {
                 most,
                 good: usize::MAX,
             });
-            assert!(rt; writes(rt.alloc(), run, &mut r, text), "{most}");
+            assert!(rt; writes(rt.alloc(), rt.alloc(), run, &mut r, text), "{most}");
             assert!(rt; r.failures() == 0);
         }
     }
@@ -104,7 +111,7 @@ fn interrupted_reads_are_tried_again(rt: HostRuntime) {
             left: 999,
             stuck: usize::MAX,
         });
-        assert!(rt; writes(rt.alloc(), run, &mut r, text));
+        assert!(rt; writes(rt.alloc(), rt.alloc(), run, &mut r, text));
     }
 }
 

@@ -1,16 +1,13 @@
 //! Memory that is refused in the midst of a run.
 
-use crate::runs::FRAME;
+use crate::pieces::{RUNS, writes};
 use crate::shown::{is_shown, is_written_as, shown};
-use crate::vectors::{LOG, MERGED_TEXT, ONE_LINE, THREE_LINES, WRITTEN_LINE};
+use crate::vectors::{MERGED_TEXT, THREE_LINES};
 use aprs_book::Gap;
 use aprs_booktext::BookCause;
 use aprs_kiss::Counted;
-use aprs_log::{MAX_INPUT, Moment, Receiver};
-use aprs_tool::{
-    Desk, Form, InputFault, RunFault, check_run, convert_run, merge_run, read_input, show_run,
-    status_of,
-};
+use aprs_log::MAX_INPUT;
+use aprs_tool::{Desk, InputFault, RunFault, merge_run, read_input, show_run, status_of};
 use bumpalo::Bump;
 use std::alloc::Global;
 use std::test::Fail;
@@ -238,43 +235,14 @@ fn runs_write_nothing_where_memory_is_refused(rt: HostRuntime) -> Result<(), Fai
     Ok(())
 }
 
-/// Whether a conversion goes well and writes this text.
-fn is_converted_to(alloc: Global, bump: &Bump, form: Form, input: &[u8], text: &[u8]) -> bool {
-    let mut out = Counted::new(Vec::new(alloc));
-    let run = convert_run(bump, MAX_INPUT, form, &mut Counted::new(input), &mut out);
-    run.is_ok() && out.into_inner().as_slice() == text
-}
-
-/// Whether a check goes well and writes this text.
-fn is_checked_to(alloc: Global, bump: &Bump, input: &[u8], text: &[u8]) -> bool {
-    let mut out = Counted::new(Vec::new(alloc));
-    let run = check_run(bump, MAX_INPUT, &mut Counted::new(input), &mut out);
-    run.is_ok() && out.into_inner().as_slice() == text
-}
-
 // The allocator refuses everything.
 #[test]
-fn checks_and_conversions_take_no_memory(rt: HostRuntime) -> Result<(), Fail> {
-    let alloc = rt.alloc();
-    let bump = Bump::new(alloc);
+fn checks_and_conversions_take_no_memory(rt: HostRuntime) {
+    let bump = Bump::new(rt.alloc());
     bump.set_allocation_limit(Some(0));
     assert!(rt; bump.try_alloc(0u8).is_err());
-    let receiver = Receiver::parse(b"RX1").ok_or("a name")?;
-    let moment = Moment::parse(b"2024-05-01T12:00:00Z").ok_or("a moment")?;
-    let capture = Form::Capture { receiver, moment };
-    assert!(rt; is_converted_to(alloc, &bump, Form::Text, ONE_LINE, b"N0CALL-7>APRS:>Hi\n"));
-    assert!(rt;
-        is_converted_to(
-            alloc,
-            &bump,
-            Form::Kind,
-            ONE_LINE,
-            b"status N0CALL-7>APRS:>Hi\n"
-        )
-    );
-    assert!(rt; is_converted_to(alloc, &bump, Form::Kiss, ONE_LINE, FRAME));
-    assert!(rt; is_converted_to(alloc, &bump, Form::Log, LOG, LOG));
-    assert!(rt; is_converted_to(alloc, &bump, capture, FRAME, WRITTEN_LINE));
-    assert!(rt; is_checked_to(alloc, &bump, LOG, b"heard 2 passed 0\n"));
-    Ok(())
+    for &(run, input, text) in RUNS {
+        let mut r = Counted::new(input);
+        assert!(rt; writes(rt.alloc(), &bump, run, &mut r, text));
+    }
 }

@@ -1,68 +1,43 @@
-//! Listings of several inputs, and their faults.
+//! Listings of several inputs, and outputs that refuse them.
 
 use crate::devices::{Full, Tight};
-use crate::listings::{listing, listing_of};
-use crate::vectors::{DIRECT_TEXT, EMPTY_TEXT, FIRST_LINE, ONE_LINE};
+use crate::listings::listing_of;
+use crate::vectors::{DIRECT_TEXT, EMPTY_TEXT, ONE_LINE};
 use aprs_book::Gap;
 use aprs_kiss::Counted;
 use aprs_log::MAX_INPUT;
-use aprs_tool::{InputFault, RunFault, show_run, status_of};
+use aprs_tool::{RunFault, show_run, status_of};
 use std::alloc::Global;
 use std::test::Fail;
 
 const HELLO_LISTING: &[u8] = b"station N0CALL-7 1\nstatus 2024-05-01T12:00:00.000Z RX1 -:Hi\n";
 
-#[test]
-fn an_empty_log_or_book_lists_nothing(rt: HostRuntime) -> Result<(), Fail> {
-    let alloc = rt.alloc();
-    assert!(rt; listing(alloc, b"")?.is_empty());
-    assert!(rt; listing(alloc, EMPTY_TEXT)?.is_empty());
-    let mut none: [Counted<&[u8]>; 0] = [];
-    let mut w = Counted::new(Vec::new(alloc));
-    assert!(rt; show_run(alloc, MAX_INPUT, Gap::STANDARD, none.as_mut_slice(), &mut w).is_ok());
-    assert!(rt; w.into_inner().is_empty());
-    Ok(())
-}
+/// Inputs, and what is listed of them.
+const LISTED: &[(&[&[u8]], &[u8])] = &[
+    (&[], b""),
+    (&[b""], b""),
+    (&[EMPTY_TEXT], b""),
+    (&[ONE_LINE], HELLO_LISTING),
+    (&[DIRECT_TEXT], HELLO_LISTING),
+    (&[ONE_LINE, DIRECT_TEXT], HELLO_LISTING),
+    (&[DIRECT_TEXT, ONE_LINE], HELLO_LISTING),
+];
 
-/// Whether that line is all that is listed of an input.
-fn is_hello(alloc: Global, input: &[u8]) -> Result<bool, Fail> {
-    Ok(listing(alloc, input)?.as_slice() == HELLO_LISTING)
-}
-
-/// The same of two inputs.
-fn are_hello(alloc: Global, first: &[u8], second: &[u8]) -> Result<bool, Fail> {
-    let mut inputs = [Counted::new(first), Counted::new(second)];
-    Ok(listing_of(alloc, inputs.as_mut_slice())?.as_slice() == HELLO_LISTING)
+/// Whether this is listed of these inputs.
+fn is_listed(alloc: Global, texts: &[&[u8]], listing: &[u8]) -> Result<bool, Fail> {
+    let mut inputs = Vec::new(alloc);
+    for text in texts {
+        inputs.push(Counted::new(*text))?;
+    }
+    Ok(listing_of(alloc, inputs.as_mut_slice())?.as_slice() == listing)
 }
 
 // A log and the book of it have one listing, also together.
 #[test]
 fn a_book_is_listed_as_its_log(rt: HostRuntime) -> Result<(), Fail> {
-    let alloc = rt.alloc();
-    assert!(rt; is_hello(alloc, ONE_LINE)? && is_hello(alloc, DIRECT_TEXT)?);
-    assert!(rt; are_hello(alloc, ONE_LINE, DIRECT_TEXT)?);
-    assert!(rt; are_hello(alloc, DIRECT_TEXT, ONE_LINE)?);
-    Ok(())
-}
-
-#[test]
-fn a_faulty_input_lists_nothing(rt: HostRuntime) -> Result<(), Fail> {
-    let alloc = rt.alloc();
-    let mut inputs = [Counted::new(ONE_LINE), Counted::new(FIRST_LINE)];
-    let mut w = Counted::new(Vec::new(alloc));
-    let run = show_run(
-        alloc,
-        MAX_INPUT,
-        Gap::STANDARD,
-        inputs.as_mut_slice(),
-        &mut w,
-    );
-    let Err(RunFault::Input { index, fault }) = run else {
-        return Err("a fault".into());
-    };
-    assert!(rt; index == 1);
-    assert!(rt; matches!(&fault, InputFault::Log(fault) if fault.cause.name() == "NoNewline"));
-    assert!(rt; w.into_inner().is_empty());
+    for &(texts, listing) in LISTED {
+        assert!(rt; is_listed(rt.alloc(), texts, listing)?);
+    }
     Ok(())
 }
 

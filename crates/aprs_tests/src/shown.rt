@@ -8,7 +8,7 @@ use std::alloc::{Allocator, Global};
 use std::fmt::Write;
 
 /// Puts a name and a space.
-pub fn name_text(text: &mut String, name: &Receiver) -> Option<()> {
+fn name_text(text: &mut String, name: &Receiver) -> Option<()> {
     for byte in name.as_bytes() {
         text.push(char::from(*byte)).ok()?;
     }

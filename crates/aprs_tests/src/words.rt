@@ -35,14 +35,6 @@ fn asks_for_a_capture(rt: &HostRuntime, words: &[&str], asked: &Form, input: &st
     }
 }
 
-/// Whether the words ask for a check of this input.
-fn asks_for_a_check(rt: &HostRuntime, words: &[&str], input: &str) -> bool {
-    match job(rt.alloc(), words) {
-        Ok(Job::Check(inputs)) => are_inputs(inputs.as_slice(), &[input]),
-        _ => false,
-    }
-}
-
 #[test]
 fn words_that_ask_for_a_capture(rt: HostRuntime) -> Result<(), Fail> {
     let words = [
@@ -59,119 +51,101 @@ fn words_that_ask_for_a_capture(rt: HostRuntime) -> Result<(), Fail> {
     let moment = Moment::new(1_714_564_800).ok_or("a moment")?;
     let form = Form::Capture { receiver, moment };
     assert!(rt; asks_for_a_capture(&rt, &words, &form, "heard.kiss"));
-    assert!(rt; asks_for_a_check(&rt, &["aprsbook", "check", "rx1.log"], "rx1.log"));
     Ok(())
 }
 
-/// The gap, in seconds, and the inputs of a merge.
-fn merge_of(asked: &Job) -> Option<(u64, &[String])> {
+/// The name, the gap in seconds, or 0 where there is none, and the inputs of a job that is no
+/// conversion.
+fn parts_of(asked: &Job) -> Option<(&'static str, u64, &[String])> {
     match asked {
-        Job::Merge(gap, inputs) => Some((gap.seconds(), inputs.as_slice())),
-        _ => None,
+        Job::Check(inputs) => Some(("check", 0, inputs.as_slice())),
+        Job::Merge(gap, inputs) => Some(("merge", gap.seconds(), inputs.as_slice())),
+        Job::Show(gap, inputs) => Some(("show", gap.seconds(), inputs.as_slice())),
+        Job::Widen(gap, inputs) => Some(("widen", gap.seconds(), inputs.as_slice())),
+        Job::Convert(_, _) => None,
     }
 }
 
-/// The gap, in seconds, and the inputs of a listing.
-fn listing_of(asked: &Job) -> Option<(u64, &[String])> {
-    match asked {
-        Job::Show(gap, inputs) => Some((gap.seconds(), inputs.as_slice())),
-        _ => None,
-    }
-}
-
-/// Whether this is of these under a gap of 30 seconds.
-fn is_of(asked: Option<(u64, &[String])>, paths: &[&str]) -> bool {
-    match asked {
-        Some((gap, inputs)) => gap == 30 && are_inputs(inputs, paths),
+/// Whether a job has this name and gap, and these inputs.
+fn is_job(asked: &Job, name: &str, gap: u64, paths: &[&str]) -> bool {
+    match parts_of(asked) {
+        Some((found, seconds, inputs)) => {
+            found == name && seconds == gap && are_inputs(inputs, paths)
+        }
         None => false,
     }
 }
 
-/// Whether the words ask for a merge of these under a gap of 30 seconds.
-fn asks_for_a_merge(rt: &HostRuntime, words: &[&str], paths: &[&str]) -> bool {
-    match job(rt.alloc(), words) {
-        Ok(asked) => is_of(merge_of(&asked), paths),
-        Err(_) => false,
-    }
+/// Whether the words ask for such a job.
+fn asks_for_job(rt: &HostRuntime, words: &[&str], name: &str, gap: u64, paths: &[&str]) -> bool {
+    matches!(&job(rt.alloc(), words), Ok(asked) if is_job(asked, name, gap, paths))
 }
 
-/// Whether the words ask for a listing of these under a gap of 30 seconds.
-fn asks_for_a_listing(rt: &HostRuntime, words: &[&str], paths: &[&str]) -> bool {
-    match job(rt.alloc(), words) {
-        Ok(asked) => is_of(listing_of(&asked), paths),
-        Err(_) => false,
-    }
-}
-
-#[test]
-fn words_that_ask_for_a_merge_or_a_listing(rt: HostRuntime) {
-    let paths = ["rx1.log", "rx2.book"];
-    let words = ["aprsbook", "merge", "rx1.log", "rx2.book"];
-    assert!(rt; asks_for_a_merge(&rt, &["aprsbook", "merge"], &[]));
-    assert!(rt; asks_for_a_merge(&rt, &words, &paths));
-    assert!(rt; asks_for_a_listing(&rt, &["aprsbook", "show", "rx1.log"], &["rx1.log"]));
-}
-
-/// The gap, in seconds, that a job has.
-fn seconds_of(asked: &Job) -> Option<u64> {
-    match asked {
-        Job::Merge(gap, _) => Some(gap.seconds()),
-        Job::Show(gap, _) => Some(gap.seconds()),
-        Job::Widen(gap, _) => Some(gap.seconds()),
-        Job::Check(_) | Job::Convert(_, _) => None,
-    }
-}
-
-/// The gap, in seconds, that words ask for.
-fn gap_of(rt: &HostRuntime, words: &[&str]) -> Option<u64> {
-    match job(rt.alloc(), words) {
-        Ok(asked) => seconds_of(&asked),
-        Err(_) => None,
-    }
-}
+/// Words, and the name, the gap and the inputs of the job that they ask for.
+const JOBS: &[(&[&str], &str, u64, &[&str])] = &[
+    (&["aprsbook", "check", "rx1.log"], "check", 0, &["rx1.log"]),
+    (&["aprsbook", "merge"], "merge", 30, &[]),
+    (
+        &["aprsbook", "merge", "rx1.log", "rx2.book"],
+        "merge",
+        30,
+        &["rx1.log", "rx2.book"],
+    ),
+    (&["aprsbook", "show", "rx1.log"], "show", 30, &["rx1.log"]),
+    (&["aprsbook", "merge", "--gap", "1"], "merge", 1, &[]),
+    (
+        &["aprsbook", "merge", "--gap=3600", "rx1.log"],
+        "merge",
+        3600,
+        &["rx1.log"],
+    ),
+    (&["aprsbook", "show", "--gap", "45"], "show", 45, &[]),
+    (&["aprsbook", "widen", "45"], "widen", 45, &[]),
+    (
+        &["aprsbook", "widen", "3600", "net.book"],
+        "widen",
+        3600,
+        &["net.book"],
+    ),
+];
 
 #[test]
-fn words_that_ask_for_a_gap(rt: HostRuntime) {
-    const ASKED: &[(&[&str], u64)] = &[
-        (&["aprsbook", "merge", "--gap", "1"], 1),
-        (&["aprsbook", "merge", "--gap=3600", "rx1.log"], 3600),
-        (&["aprsbook", "show", "--gap", "45"], 45),
-        (&["aprsbook", "widen", "45"], 45),
-        (&["aprsbook", "widen", "3600", "net.book"], 3600),
-    ];
-    for &(words, gap) in ASKED {
-        assert!(rt; gap_of(&rt, words) == Some(gap));
-    }
-    const REFUSED: &[&[&str]] = &[
-        &["aprsbook", "merge", "--gap", "0"],
-        &["aprsbook", "merge", "--gap", "3601"],
-        &["aprsbook", "show", "--gap", "soon"],
-        &["aprsbook", "widen", "0"],
-        &["aprsbook", "widen"],
-        &["aprsbook", "widen", "45", "one.book", "two.book"],
-    ];
-    for &words in REFUSED {
-        assert!(rt; matches!(&job(rt.alloc(), words), Err(JobFault::Clap(_))));
+fn words_that_ask_for_other_jobs(rt: HostRuntime) {
+    for &(words, name, gap, paths) in JOBS {
+        assert!(rt; asks_for_job(&rt, words, name, gap, paths));
     }
 }
+
+/// Whether the words are refused: for the options of a capture, or because they are not the
+/// command's.
+fn is_refused(rt: &HostRuntime, words: &[&str], is_for_options: bool) -> bool {
+    match job(rt.alloc(), words) {
+        Err(JobFault::Options) => is_for_options,
+        Err(JobFault::Clap(_)) => !is_for_options,
+        _ => false,
+    }
+}
+
+/// Words that ask for nothing, and whether the options of a capture are why.
+const REFUSED: &[(&[&str], bool)] = &[
+    (&["aprsbook", "convert", "capture"], true),
+    (&["aprsbook", "convert", "text", "--receiver", "RX1"], true),
+    (&["aprsbook", "convert", "nope"], false),
+    (&["aprsbook", "convert"], false),
+    (&["aprsbook", "unknown"], false),
+    (&["aprsbook", "check", "one.log", "two.log"], false),
+    (&["aprsbook", "merge", "--gap", "0"], false),
+    (&["aprsbook", "merge", "--gap", "3601"], false),
+    (&["aprsbook", "show", "--gap", "soon"], false),
+    (&["aprsbook", "widen", "0"], false),
+    (&["aprsbook", "widen"], false),
+    (&["aprsbook", "widen", "45", "one.book", "two.book"], false),
+];
 
 #[test]
 fn words_that_ask_for_nothing(rt: HostRuntime) {
-    const SHORT: &[&[&str]] = &[
-        &["aprsbook", "convert", "capture"],
-        &["aprsbook", "convert", "text", "--receiver", "RX1"],
-    ];
-    for &words in SHORT {
-        assert!(rt; matches!(&job(rt.alloc(), words), Err(JobFault::Options)));
-    }
-    const WRONG: &[&[&str]] = &[
-        &["aprsbook", "convert", "nope"],
-        &["aprsbook", "convert"],
-        &["aprsbook", "unknown"],
-        &["aprsbook", "check", "one.log", "two.log"],
-    ];
-    for &words in WRONG {
-        assert!(rt; matches!(&job(rt.alloc(), words), Err(JobFault::Clap(_))));
+    for &(words, is_for_options) in REFUSED {
+        assert!(rt; is_refused(&rt, words, is_for_options));
     }
 }
 
