@@ -5,9 +5,11 @@ PROGRAM = crates/aprsbook/out/aprsbook
 .PHONY: build libraries run try test words map reading recipes cookbook bench hostile
 .PHONY: built install uninstall deb tarball
 
-# how many jobs a proof has: as many as there are processors, at most four, each with 3 GB of free memory
-JOBS ?= $(shell awk -v n=$$(nproc) '/MemAvailable/ { most = int($$2 / 3000000) } \
-    END { if (n > 4) n = 4; if (n > most) n = most; print (n < 1 ? 1 : n) }' /proc/meminfo)
+# how many checks run side by side: as many as there are processors, each with 3 GB of free memory
+LANES ?= $(shell awk -v n=$$(nproc) '/MemAvailable/ { most = int($$2 / 3000000) } \
+    END { if (n > most) n = most; print (n < 1 ? 1 : n) }' /proc/meminfo)
+# how many jobs a proof has: at most four
+JOBS ?= $(shell n=$(LANES); echo $$((n < 4 ? n : 4)))
 
 # what is proved beside the book and what leads to it, which take longer: one job each, and after these
 BESIDE = aprs_report aprs_convert aprs_command
@@ -36,9 +38,10 @@ run: build
 try:
 	cd crates/aprsbook && rt try < ../../examples/sample.log
 
-# the whole gate: every proof, edit that must fail, test and stored run
+# the whole gate: every proof, edit that must fail, test and stored run; each check with one job, since
+# four jobs read four times what they begin with
 test: words recipes
-	rt ci
+	RT_JOBS=$(LANES) rt ci
 
 # the manual page and the completions name what the program has, the documents what the crates have, the
 # reading list is that of the sources, and the scripts are in order

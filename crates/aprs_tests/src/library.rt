@@ -1,6 +1,5 @@
 //! The examples of README.md and docs/library.md, which show these functions as they stand here.
 //! `tests/library.sh` compares them.
-ghost use Rattle.std.specs.Prelude.{◌≤◌};
 
 use crate::vectors::{DIRECT, DIRECT_LINE, DIRECT_TEXT, NOON, ONE_LINE, receiver};
 use aprs_ax25::{Callsign, Frame, Hop};

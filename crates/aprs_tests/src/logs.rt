@@ -1,5 +1,4 @@
 //! Logs to their end or their first fault.
-ghost use Rattle.std.specs.Prelude.{◌≤◌, length};
 
 use crate::devices::Failing;
 use crate::vectors::LOG;
