@@ -147,7 +147,11 @@ fn is_name(bytes: &[u8]) -> bool
 }
 
 /// Reads the frame of a field in lower case hexadecimal.
-fn read_frame(room: &mut [u8; MAX_UI_FRAME], frame: &mut Frame, field: &[u8]) -> Result<(), BookCause>
+fn read_frame(
+    room: &mut [u8; MAX_UI_FRAME],
+    frame: &mut Frame,
+    field: &[u8],
+) -> Result<(), BookCause>
     ensures ok { OnOk result (SpellsFrame field.now frame.new) }
     ensures err { IfErr result (λ cause. IsWrongFrame field.now cause) }
 {
