@@ -207,9 +207,14 @@ def item_lines(facts, key, home, file):
 
 
 def definition_lines(facts, key):
-    """A definition: its anchor, its sentence and its text."""
+    """A definition: its anchor, its sentence, of which type its variants are, and its text."""
     it = facts.definitions[key]
-    return [f'<a id="{anchor(key)}"></a>', prose(it.sentence), ""] + fenced("text", it.text)
+    scope, text = facts.modules[key[:2]].scope, "\n".join(it.text)
+    words = [name for name in scope if re.search(rf"(?<![\w.]){re.escape(name)}\.[A-Z]", text)]
+    types = {name: scope[name].module.split(".") for name in words if not scope[name].name}
+    notes = [f"`{name}.` is of `{at[-2]}`" for name, at in types.items() if at[-1] == "TheVariants"]
+    lines = [f'<a id="{anchor(key)}"></a>', prose(it.sentence), ""]
+    return lines + ([", ".join(notes) + ".", ""] if notes else []) + fenced("text", it.text)
 
 
 def part_lines(facts, page, part, home, told):

@@ -19,10 +19,11 @@ use Rattle.aprs_booktext.specs.declared.version.Version.{Version}
 
 -- ---- a row after others
 
--- What a row has to meet after others, each by the cause that it has else: its frame is a UI frame;
--- it comes after the last row, by key and first moment; it doesn't end before it begins; it begins
--- more than `gap` milliseconds after the last row ends, where the keys are equal; its receivers
--- ascend, and that of its greatest reception is one of them, and the last, if it is of one moment.
+-- What a row has to meet after others, and for which cause it is refused if it doesn't: its frame
+-- is a UI frame; it comes after the last row, by key and first moment; it doesn't end before it
+-- begins; where the keys are equal, it begins more than `gap` milliseconds after the last row ends;
+-- its receivers ascend, and that of its greatest reception is one of them; in a row of one moment
+-- it is the last of them.
 abbrev pub Meets : ℕ → List Row → Row → BookCause → Type 0
 Meets gap rows x why.Frame = IsUiFrame x.greatest.frame
 Meets gap rows x why.Order = IfLast rows (λ l. IsBelow row_cmp l x)
@@ -34,7 +35,7 @@ Meets gap rows x why.NotGreatest =
     x.first ≡ last_of x → IfLast x.receivers (λ r. r ≡ x.greatest.receiver)
 Meets gap rows x cause = ⊥
 
--- these causes, in the order in which a row is judged
+-- the causes for which a row is refused, in the order in which it is judged
 abbrev pub row_causes : List BookCause
 row_causes = why.Frame ∷ why.Order ∷ why.Span ∷ why.Near ∷ why.Receivers ∷ why.NotGreatest ∷ []
 
@@ -73,7 +74,8 @@ AreBook lines = (v : Version) × (rows : List Row) × IsBookRows v rows × (line
 
 -- ---- what is wrong after them
 
--- how many bytes past what was read of a line may have come where an allocation failed, at most
+-- the most bytes that may have come after those of the line that was being read when an allocation
+-- failed
 abbrev pub most_ahead : ℕ
 most_ahead = 16384
 
@@ -88,8 +90,8 @@ StopsIn lines line more = (more ≡ []) × (BeginBook lines ⊎ (AreBook lines �
 -- After these lines, which are in order, `line` and `more` are wrong for this cause: the first line
 -- is no header; something follows all lines of a book; a read failed, or the limit was passed,
 -- before an end was seen; an allocation failed, when `line` was read and at most `most_ahead` bytes
--- more; the end came in a line; or the line is neither the last one nor that of a row which may
--- come.
+-- more; the input ended before a book's last line did; or the line is neither the last one nor that
+-- of a row which may come.
 abbrev pub IsWrongRest : List (List ℕ) → List ℕ → List ℕ → Ending → BookCause → Type 0
 IsWrongRest lines line more ending why.Header =
     (lines ≡ []) × ((v : Version) → IsVersion v → line ≢ header_of v) × EndsLine more
@@ -103,7 +105,8 @@ IsWrongRest lines line more ending cause =
     × IsWrongAfter v rows line cause)
 
 -- The fault of a text after which this ending came: the text is some lines that are in order, and
--- then bytes without LF and more that are wrong. The fault's line is the one after those lines.
+-- then `line`, which has no LF, and `more`, and these two are wrong. The fault's line is the one
+-- after the lines that are in order.
 pub record HasBookFault (text : List ℕ) (ending : Ending) (fault : BookFault) : Type 0 where
   pub lines : List (List ℕ)
   pub line : List ℕ

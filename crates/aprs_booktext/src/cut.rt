@@ -6,10 +6,10 @@ use memchr::memchr;
 
 /// What stands before the first `stop` and what stands after it, where there is one.
 pub fn cut(text: &[u8], stop: u8) -> Option<(&[u8], &[u8])>
-    ensures none { IfNone result (Lacks stop text.now) }
     ensures some { IfSome result (λ p. (text.now ≡ p.0.now ++ stop ∷ p.1.now)
         × Lacks stop p.0.now) }
     ensures len { IfSome result (λ p. length p.0.now + 1 + length p.1.now ≡ length text.now) }
+    ensures none { IfNone result (Lacks stop text.now) }
 {
     match memchr(stop, text) {
         Some(i) => Some((&text[..i], &text[i + 1..])),
@@ -17,16 +17,16 @@ pub fn cut(text: &[u8], stop: u8) -> Option<(&[u8], &[u8])>
     }
 }
 
-/// The same, of a text that mostly has one near, as what begins with a name: a plain loop is there
-/// before a search has begun.
+/// As `cut`, for a text that mostly has the byte near its start, as one that begins with a name has:
+/// a plain loop finds it sooner than `memchr`.
 pub fn cut_near(text: &[u8], stop: u8) -> Option<(&[u8], &[u8])>
-    ensures none { IfNone result (Lacks stop text.now) }
-    ensures one { IfNone result (pieces stop text.now ≡ text.now ∷ []) }
-
     ensures some { IfSome result (λ p. (text.now ≡ p.0.now ++ stop ∷ p.1.now)
         × Lacks stop p.0.now) }
     ensures pieces { IfSome result (λ p. pieces stop text.now ≡ p.0.now ∷ pieces stop p.1.now) }
     ensures len { IfSome result (λ p. length p.0.now + 1 + length p.1.now ≡ length text.now) }
+
+    ensures none { IfNone result (Lacks stop text.now) }
+    ensures one { IfNone result (pieces stop text.now ≡ text.now ∷ []) }
 {
     for i in 0..text.len() {
         if text[i] == stop {

@@ -10,8 +10,8 @@ pub fn last_lines_are_told_by_their_beginning()
     ensures misses_syntax { HasBookFault miscounted_text End (fault_in 2 RowSyntax) → ⊥ }
 {}
 
-/// Where an allocation failed, a fault stands in the line that was being read: the second, of a
-/// text that stops in it.
+/// Where an allocation failed, the fault is in the line that was being read. This text stops in its
+/// second line, so it isn't in a third.
 pub fn memory_is_refused_in_a_line()
     ensures second { HasBookFault unfinished_text End (fault_in 2 Memory) }
     ensures misses_third { HasBookFault unfinished_text End (fault_in 3 Memory) → ⊥ }

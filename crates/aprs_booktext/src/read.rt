@@ -90,6 +90,7 @@ pub fn read_rows<R: Read, A: Allocator + Copy>(
         (λ input. ReadsSeconds (head.now ++ input) (book_read result store.old store.new)) }
 
     ensures kept { OnOk result (store.new ≡ store.old ++ rows_after store.old store.new) }
+
     // The reader is asked neither after its end nor after a fault.
     ensures calls { Asks (book_read result store.old store.new) source.old source.new }
     ensures over { IfSome (R.remaining (device_of source.old))
@@ -140,7 +141,8 @@ fn read_lines<R: Read, A: Allocator + Copy>(
     Ok(left)
 }
 
-/// The gap of the book whose last line was read, where the input ends there.
+/// The gap of the book whose last line was read, where the input ends there. In `answer` the reader
+/// got `head` and what came since the source was `first`.
 fn gap_at_end<R: Read, A: Allocator + Copy>(
     left: u64,
     source: &mut Counted<R>,

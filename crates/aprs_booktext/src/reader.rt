@@ -327,6 +327,7 @@ fn judge_line<A: Allocator + Copy>(
     version: Version,
     line: &[u8],
 ) -> Result<Stage, BookCause>
+    // Each row that was counted took bytes of the input, and so does this line.
     requires { count.old + length line.now ≤ most_input }
 
     ensures judged { (before rows : List Row) → Spec.HasRows before rows count.old store.old

@@ -11,28 +11,28 @@ use Rattle.aprs_laws.specs.Row.{Row}
 use Rattle.aprs_booktext.specs.Text.{book_text}
 use Rattle.aprs_booktext.specs.declared.version.Version.{Version}
 use Rattle.aprs_booktext.specs.declared.version.Version.TheVariants.{One, Two, Three}
-use Rattle.aprs_tool.specs.Inputs.{IsBookFileOf, is_book_file}
+use Rattle.aprs_tool.specs.Inputs.{IsBookFileOf, has_book_mark}
 
 abbrev pub mark : List ℕ
 mark = codes "APRSBOOK"
 
-pub begins : (t : List ℕ) → is_book_file t ≡ true → t ≡ mark ++ drop 8 t
-begins t e = (starts_is Decides-eqb t mark (is_book_file t) refl).0 e
+pub begins : (t : List ℕ) → has_book_mark t ≡ true → t ≡ mark ++ drop 8 t
+begins t e = (starts_is Decides-eqb t mark (has_book_mark t) refl).0 e
 
-pub is_book : (t rest : List ℕ) → t ≡ mark ++ rest → is_book_file t ≡ true
-is_book t rest e = (starts_is Decides-eqb t mark (is_book_file t) refl).1 rest e
+pub is_book : (t rest : List ℕ) → t ≡ mark ++ rest → has_book_mark t ≡ true
+is_book t rest e = (starts_is Decides-eqb t mark (has_book_mark t) refl).1 rest e
 
 -- ---- a book file
 
-pub book_begins : (v : Version) (rows : List Row) → is_book_file (book_text v rows) ≡ true
+pub book_begins : (v : Version) (rows : List Row) → has_book_mark (book_text v rows) ≡ true
 book_begins One rows = is_book (book_text One rows) (drop 8 (book_text One rows)) refl
 book_begins Two rows = is_book (book_text Two rows) (drop 8 (book_text Two rows)) refl
 book_begins (Three gap) rows = is_book (book_text (Three gap) rows)
     (drop 8 (book_text (Three gap) rows)) refl
 
 pub file_begins : (gap : ℕ) (S : List Heard) (t : List ℕ) (c : Ending) → IsBookFileOf gap S t c
-    → is_book_file t ≡ true
-file_begins gap S t c p = ap is_book_file p.text_is ∙ book_begins p.version p.rows
+    → has_book_mark t ≡ true
+file_begins gap S t c p = ap has_book_mark p.text_is ∙ book_begins p.version p.rows
 
 -- ---- a log
 
@@ -54,7 +54,7 @@ first_line line lines S (inr heard) =
 
 -- so it begins otherwise
 log_begins : (lines : List (List ℕ)) (S : List Heard) → ReportAll lines S
-    → is_book_file (text_of_lines lines) ≡ true → ⊥
+    → has_book_mark (text_of_lines lines) ≡ true → ⊥
 log_begins [] S all e = let bad : false ≡ true = e in absurd cc
 log_begins (line ∷ lines) S all e =
     let other : get_or ((line ++ 10 ∷ []) ++ text_of_lines lines) 4 0 ≡ 66 =
@@ -63,5 +63,5 @@ log_begins (line ∷ lines) S all e =
     omega (arith, other, own)
 
 pub log_is_no_book : (t : List ℕ) (c : Ending) (S : List Heard) → IsLogText t c S
-    → is_book_file t ≡ true → ⊥
-log_is_no_book t c S p e = log_begins p.lines S p.report (ap is_book_file (sym p.text_is) ∙ e)
+    → has_book_mark t ≡ true → ⊥
+log_is_no_book t c S p e = log_begins p.lines S p.report (ap has_book_mark (sym p.text_is) ∙ e)

@@ -31,7 +31,7 @@ use Rattle.aprs_booktext.specs.declared.fault.BookFault.{BookFault}
 use Rattle.aprs_tool.specs.Head.{IsHead}
 use Rattle.aprs_convert.specs.Got.{OfGot}
 use Rattle.aprs_tool.specs.InputBook.{IsGapOf, ReadsInput}
-use Rattle.aprs_tool.specs.Inputs.{GivesSet, is_book_file}
+use Rattle.aprs_tool.specs.Inputs.{GivesSet, has_book_mark}
 use Rattle.aprs_tool.specs.Refused.{IsFaulty}
 use Rattle.aprs_tool.proofs.Beginnings.{begins, book_begins, is_book, mark}
 use Rattle.aprs_tool.proofs.Sets.{log_of, set_book}
@@ -81,19 +81,19 @@ not_mark head more rest is other e = elim is [
 
 -- no text of an input that begins otherwise
 is_log : (head more t rest : List ℕ) → IsHead head → (head ≡ mark → ⊥) → head ++ more ≡ t ++ rest
-    → is_book_file t ≡ false
-is_log head more t rest whole other e = by (is_book_file t) refl
+    → has_book_mark t ≡ false
+is_log head more t rest whole other e = by (has_book_mark t) refl
   where
-    by : (b : Bool) → is_book_file t ≡ b → is_book_file t ≡ false
+    by : (b : Bool) → has_book_mark t ≡ b → has_book_mark t ≡ false
     by false is = is
     by true is = absurd (not_mark head more (drop 8 t ++ rest) whole other (e
         ∙ ap (λ l. l ++ rest) (begins t is) ∙ append_assoc mark (drop 8 t) rest))
 
 -- nor a shorter one
-pub short_is_log : (t : List ℕ) → length t < 8 → is_book_file t ≡ false
-short_is_log t short = by (is_book_file t) refl
+pub short_is_log : (t : List ℕ) → length t < 8 → has_book_mark t ≡ false
+short_is_log t short = by (has_book_mark t) refl
   where
-    by : (b : Bool) → is_book_file t ≡ b → is_book_file t ≡ false
+    by : (b : Bool) → has_book_mark t ≡ b → has_book_mark t ≡ false
     by false is = is
     by true is = absurd (omega (
       arith,
@@ -105,7 +105,7 @@ short_is_log t short = by (is_book_file t) refl
 -- ---- a log
 
 pub refused_log : (e : InputFault) (old new : List Row) (t : List ℕ) (c : Ending)
-    → is_book_file t ≡ false → ReadsLog (Err e) old new t c → IsFaulty e t c
+    → has_book_mark t ≡ false → ReadsLog (Err e) old new t c → IsFaulty e t c
 refused_log (Log f) old new t c is h = (is, answers-log_fault t c f h)
 refused_log Memory old new t c is h = is
 refused_log (Book f) old new t c is h = absurd h
@@ -114,7 +114,7 @@ refused_log Narrower old new t c is h = absurd h
 
 -- the rows of what is read of a log stand for its receptions
 pub gives_log : (asked : ℕ) (old new : List Row) (t : List ℕ) (c : Ending)
-    → is_book_file t ≡ false → ReadsLog (Ok tt) old new t c → GivesRows asked asked old new t c
+    → has_book_mark t ≡ false → ReadsLog (Ok tt) old new t c → GivesRows asked asked old new t c
 gives_log asked old new t c is h =
     let heard = receptions_of (log_answers t c).given in record {
       gap_is = λ log. refl;
@@ -127,7 +127,7 @@ gives_log asked old new t c is h =
 
 -- the book of what is read of a log is its book
 pub read_alone : (asked : ℕ) (b : BookValue) (old rows : List Row) (t : List ℕ) (c : Ending)
-    → is_book_file t ≡ false → b.gap ≡ asked → old ≡ [] → Holds (witnesses rows) b
+    → has_book_mark t ≡ false → b.gap ≡ asked → old ≡ [] → Holds (witnesses rows) b
     → ReadsLog (Ok tt) old rows t c → ReadsInput asked (Ok b) t c
 read_alone asked b old rows t c is its none holds h =
     let heard = receptions_of (log_answers t c).given in
@@ -144,7 +144,7 @@ read_alone asked b old rows t c is its none holds h =
 -- what was got of one is read as a log's text
 pub log_input : (known after : Option (List ℕ)) (limit : ℕ) (head : List ℕ) (P Q : List ℕ → Ending
     → Type 0) → IsHead head → (head ≡ mark → ⊥)
-    → ((t : List ℕ) (c : Ending) → is_book_file t ≡ false → P t c → Q t c)
+    → ((t : List ℕ) (c : Ending) → has_book_mark t ≡ false → P t c → Q t c)
     → IfSome known (λ input. HoldsOfGot limit (head ++ input) after P)
     → IfSome known (λ input. HoldsOfGot limit (head ++ input) after Q)
 log_input None after limit head P Q size other follows h = tt

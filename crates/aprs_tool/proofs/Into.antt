@@ -13,7 +13,7 @@ use Rattle.aprs_log.specs.declared.Ending.{Ending}
 use Rattle.aprs_tool.specs.InputBook.{IsGapOf, ReadsInput, TakesInput}
 use Rattle.aprs_tool.specs.InputRows.{GivesRows, RefusesGaps}
 use Rattle.aprs_log.specs.Reception.{Heard}
-use Rattle.aprs_tool.specs.Inputs.{GivesSet, IsBookFileOf, is_book_file}
+use Rattle.aprs_tool.specs.Inputs.{GivesSet, IsBookFileOf, has_book_mark}
 use Rattle.aprs_tool.proofs.Beginnings.{log_is_no_book}
 use Rattle.aprs_tool.specs.Refused.{fault_of_merge, IsNotTaken}
 use Rattle.aprs_tool.specs.declared.fault.InputFault.TheVariants.{OtherGap}
@@ -28,10 +28,10 @@ merges_empty gap (x ∷ old) rows e = absurd (omega (arith, e))
 
 -- a log is read with the asked gap, so that only a book file has another
 other_gap : (gap : ℕ) (t : List ℕ) (own : ℕ) → (own ≡ gap → ⊥) → IsGapOf gap t own
-    → is_book_file t ≡ true
-other_gap gap t own differs is = by (is_book_file t) refl
+    → has_book_mark t ≡ true
+other_gap gap t own differs is = by (has_book_mark t) refl
   where
-    by : (b : Bool) → is_book_file t ≡ b → is_book_file t ≡ true
+    by : (b : Bool) → has_book_mark t ≡ b → has_book_mark t ≡ true
     by true e = e
     by false e = absurd (differs (is e))
 

@@ -19,7 +19,7 @@ use Rattle.aprs_booktext.specs.declared.version.Version.TheVariants.{Three}
 use Rattle.aprs_booktext.proofs.OneText.{one_text}
 use Rattle.aprs_booktext.proofs.Standing.{no_rows}
 use Rattle.aprs_tool.specs.Examples.{cut_book, text_of_no_row, unended_log}
-use Rattle.aprs_tool.specs.Inputs.{GivesSet, is_book_file}
+use Rattle.aprs_tool.specs.Inputs.{GivesSet, has_book_mark}
 use Rattle.aprs_tool.proofs.Faultless.{file_none}
 use Rattle.aprs_tool.proofs.Beginnings.{file_begins, log_is_no_book}
 use Rattle.aprs_tool.proofs.Sets.{IsLogOf, file_rows, log_is, log_none, log_of}
@@ -43,7 +43,7 @@ no_reception x (inr p) =
     ((log_is (x ∷ []) [] End p x).0 (inl refl))
 
 -- a log with this fault stands for no set
-no_set : (gap : ℕ) (t : List ℕ) (c : Ending) → is_book_file t ≡ false → length t < 8
+no_set : (gap : ℕ) (t : List ℕ) (c : Ending) → has_book_mark t ≡ false → length t < 8
     → list_any is_lf t ≡ false → ((fault_at 1 (short_tail_cause c t)) ≡ None → ⊥)
     → (S : List Heard) → GivesSet gap t c S → ⊥
 no_set gap t c is few one some S (inl p) =

@@ -12,8 +12,8 @@ use Rattle.aprs_tool.specs.declared.fault.RunFault.TheVariants.{Input, Write}
 
 -- ---- the inputs
 
--- What its reader answered last where it has this fault. Where an allocation failed the input may
--- have come to its end before or not.
+-- What the reader of an input answered last, where the input has this fault. Where an allocation
+-- failed, the input may have come to its end before or not.
 abbrev pub AsksToFault : {R : Type 0} → InputFault → Counted R → Counted R → Type 0
 AsksToFault (Log fault) old new = Calls (last_of_cause fault.cause) old new
 AsksToFault (Book fault) old new = AsksAt fault.cause old new

@@ -6,13 +6,13 @@ use Rattle.aprs_laws.specs.Book.{BookOf}
 use Rattle.aprs_laws.specs.BookValue.{BookValue, Holds}
 use Rattle.aprs_laws.specs.Gap.{millis_of}
 use Rattle.aprs_laws.specs.Row.{Row}
-use Rattle.aprs_tool.specs.Inputs.{GivesSet, is_book_file}
+use Rattle.aprs_tool.specs.Inputs.{GivesSet, has_book_mark}
 use Rattle.aprs_tool.specs.Refused.{IsFaulty, IsNotTaken}
 use Rattle.aprs_tool.specs.declared.fault.InputFault.{InputFault}
 
 -- The book of a log has the gap that was asked for; that of a book file has its own.
 abbrev pub IsGapOf : ℕ → List ℕ → ℕ → Type 0
-IsGapOf asked text gap = is_book_file text ≡ false → gap ≡ asked
+IsGapOf asked text gap = has_book_mark text ≡ false → gap ≡ asked
 
 -- The book of the input is read, that of each set for which the input stands under the book's gap;
 -- or the input is refused.

@@ -14,9 +14,9 @@ use Rattle.aprs_booktext.specs.Text.{book_text, IsBookRow}
 use Rattle.aprs_booktext.specs.Version.{form_of, gap_of, IsVersion}
 use Rattle.aprs_booktext.specs.declared.version.Version.{Version}
 
--- whether the text begins as that of a book, which no log does
-abbrev pub is_book_file : List ℕ → Bool
-is_book_file text = starts_with ◌==◌ text (codes "APRSBOOK")
+-- whether the text begins with the mark of a book file, which no log does
+abbrev pub has_book_mark : List ℕ → Bool
+has_book_mark text = starts_with ◌==◌ text (codes "APRSBOOK")
 
 -- A book file of this gap, in seconds, in some version, to its end: the text of rows that are the
 -- book of S.
@@ -30,8 +30,8 @@ pub record IsBookFileOf (gap : ℕ) (S : List Heard) (text : List ℕ) (ending :
   pub whole : ending ≡ how.End
   pub book : BookOf (millis_of gap) S rows
 
--- The input is faultless and stands for the set S: a book file of this gap for each set whose book
--- it is, and a log for the receptions that its lines report.
+-- The input stands for the set S: it is a book file of this gap, and its book is that of S; or it
+-- is a log, and S are the receptions that its lines report. An input with a fault stands for none.
 abbrev pub GivesSet : ℕ → List ℕ → Ending → List Heard → Type 0
 GivesSet gap text ending S = IsBookFileOf gap S text ending
     ⊎ ((T : List Heard) × IsLogText text ending T × SameMembers S T)

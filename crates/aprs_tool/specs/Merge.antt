@@ -1,4 +1,4 @@
--- What a merge writes, and that it hangs on the set of all receptions alone.
+-- What a merge writes, which depends on the set of all receptions alone.
 use Rattle.std.specs.Prelude.{◌≡◌, ℕ, List}
 use Rattle.aprs_log.specs.Reception.{Heard}
 use Rattle.aprs_laws.specs.Book.{BookOf}

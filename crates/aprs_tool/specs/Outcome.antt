@@ -14,9 +14,9 @@ abbrev pub IsToldOf : (List Heard → Type 0) → (List Heard → List ℕ → T
 IsToldOf Stand Tells text =
     ((S : List Heard) × Stand S) × ((S : List Heard) → Stand S → Tells S text)
 
--- Such a text went out whole, or a prefix of it where the output was refused. Of the tries to write
--- at most 999 failed for each byte, and one more where the output was refused. Of any other answer
--- nothing is said here.
+-- Such a text went out whole, or a prefix of it where the output was refused. A try that is
+-- interrupted is made again, up to 999 times in a row: so at most 999 tries failed for each byte,
+-- and one more where the output was refused. Of any other answer nothing is said here.
 abbrev pub WritesFor : {W : Type 0} → (List ℕ → Type 0) → (W → Option (List ℕ))
     → Result (Unit {0}) RunFault → Counted W → Counted W → Type 0
 WritesFor Told contents (Ok u) old new = (text : List ℕ) × Told text
@@ -27,8 +27,8 @@ WritesFor Told contents (Err Write) old new = (text : List ℕ) × Told text
     × (new.failed ≤ old.failed + (999 * length text + 1))
 WritesFor Told contents answer old new = Unit {0}
 
--- An input is refused for its fault, or an allocation failed for what is written of the inputs,
--- which are faultless; and nothing was written.
+-- An input is refused for its fault; or the inputs stand for sets, and an allocation failed for what
+-- is written of them. In both cases nothing was written.
 abbrev pub RefusesFor : {W : Type 0} → (List Heard → Type 0) → (ℕ → InputFault → Type 0)
     → Result (Unit {0}) RunFault → Counted W → Counted W → Type 0
 RefusesFor Stand Refused (Err (Input index fault)) old new = Refused index fault × (new ≡ old)

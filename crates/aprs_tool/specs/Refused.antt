@@ -7,7 +7,7 @@ use Rattle.aprs_log.specs.Reception.{Heard}
 use Rattle.aprs_laws.specs.declared.merge_fault.MergeFault.{MergeFault}
 use Rattle.aprs_laws.specs.declared.merge_fault.MergeFault.TheVariants as merge
 use Rattle.aprs_booktext.specs.TextFault.{HasBookFault}
-use Rattle.aprs_tool.specs.Inputs.{GivesSet, IsBookFileOf, is_book_file}
+use Rattle.aprs_tool.specs.Inputs.{GivesSet, IsBookFileOf, has_book_mark}
 use Rattle.aprs_tool.specs.Status.{status_of_input}
 use Rattle.aprs_tool.specs.declared.fault.InputFault.{InputFault}
 use Rattle.aprs_tool.specs.declared.fault.InputFault.TheVariants.{Log, Book, Memory, OtherGap}
@@ -15,13 +15,13 @@ use Rattle.aprs_tool.specs.declared.fault.InputFault.TheVariants.{Log, Book, Mem
 -- The input itself is refused: for the fault after a log's lines, or that of a book's text; or
 -- because an allocation failed, for a log.
 abbrev pub IsFaulty : InputFault → List ℕ → Ending → Type 0
-IsFaulty (Log fault) text ending = (is_book_file text ≡ false) × HasLogFault text ending fault
-IsFaulty (Book fault) text ending = (is_book_file text ≡ true) × HasBookFault text ending fault
-IsFaulty Memory text ending = is_book_file text ≡ false
+IsFaulty (Log fault) text ending = (has_book_mark text ≡ false) × HasLogFault text ending fault
+IsFaulty (Book fault) text ending = (has_book_mark text ≡ true) × HasBookFault text ending fault
+IsFaulty Memory text ending = has_book_mark text ≡ false
 IsFaulty fault text ending = ⊥
 
--- A book of this gap doesn't take the input: that is a faultless book file of another gap; or it is
--- faultless, and an allocation failed for the merge; or it is refused itself.
+-- A book of this gap doesn't take the input: that is a book file of another gap; or an allocation
+-- failed, for the input or for what it stands for; or the input itself is refused.
 abbrev pub IsNotTaken : ℕ → InputFault → List ℕ → Ending → Type 0
 IsNotTaken gap OtherGap text ending =
     (other : ℕ) × (S : List Heard) × (other ≢ gap) × IsBookFileOf other S text ending

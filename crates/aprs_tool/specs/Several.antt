@@ -18,8 +18,8 @@ pub record GotOf (limit : ℕ) : Type 0 where
   pub after : Option (List ℕ)
   pub ends : EndsSo ending limit text rest after
 
--- Where it is known which bytes each reader had before: these can be parted into what was got and
--- what wasn't, each device then has what its part says, and P holds of the parts.
+-- If it is known which bytes each reader had before, then they are what was got and a rest, the
+-- device has after it what `GotOf` says, and P holds of all that was got.
 abbrev pub OfEach : {R : Type 0} → (limit : ℕ) → (R → Option (List ℕ)) → List (Counted R)
     → List (Counted R) → (List (GotOf limit) → Type 0) → Type 0
 OfEach limit remaining old new P = (inputs : List (List ℕ))
@@ -27,14 +27,14 @@ OfEach limit remaining old new P = (inputs : List (List ℕ))
     → (gots : List (GotOf limit)) × (inputs ≡ map (λ g. g.text ++ g.rest) gots)
     × (map (λ r. remaining r.device) new ≡ map (λ g. g.after) gots) × P gots
 
--- All inputs are faultless, and S is the union of sets that they stand for, one for each.
+-- Each input stands for a set, and S is the union of such sets, one for each.
 abbrev pub GiveUnion : {limit : ℕ} → ℕ → List (GotOf limit) → List Heard → Type 0
 GiveUnion gap [] S = S ≡ []
 GiveUnion gap (g ∷ gots) S = (T : List Heard) × (U : List Heard)
     × GivesSet gap g.text g.ending T × GiveUnion gap gots U × SameMembers S (T ++ U)
 
 -- Input number `index`, from 0, is the first that a book of this gap doesn't take, for this fault:
--- all before it are faultless.
+-- each before it stands for a set.
 pub record IsFirstRefused {limit : ℕ} (gap : ℕ) (gots : List (GotOf limit)) (index : ℕ)
     (fault : InputFault) : Type 0 where
   pub at : GotOf limit

@@ -7,13 +7,13 @@ use Rattle.aprs_tool.specs.Refused.{IsFaulty}
 use Rattle.aprs_tool.specs.declared.fault.InputFault.{InputFault}
 use Rattle.aprs_tool.specs.declared.fault.InputFault.TheVariants.{Narrower}
 
--- The input is faultless and stands for the set S, and its own gap, if it is a book file, is not
--- greater than this one.
+-- The input stands for the set S, and its own gap, if it is a book file, is not greater than this
+-- one.
 abbrev pub GivesSetWithin : ℕ → List ℕ → Ending → List Heard → Type 0
 GivesSetWithin gap text ending S = (own : ℕ) × (own ≤ gap) × GivesSet own text ending S
 
--- The only input, number 0, is refused: it is a faultless book file of a greater gap than this one,
--- or refused itself.
+-- The only input, number 0, is refused: it is a book file of a greater gap than this one, or it
+-- itself is refused.
 abbrev pub IsNotWidened : ℕ → List ℕ → Ending → ℕ → InputFault → Type 0
 IsNotWidened gap text ending zero Narrower =
     (own : ℕ) × (S : List Heard) × (gap < own) × IsBookFileOf own S text ending

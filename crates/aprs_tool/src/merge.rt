@@ -15,11 +15,12 @@ use aprs_io::Counted;
 use std::alloc::Allocator;
 use std::io::{Read, Write};
 
-/// Writes the text of the book of this gap of all inputs' receptions, each input read as by
-/// `Desk::take_input`. Requires that `limit` is at most `MAX_INPUT` (1,073,741,824). All inputs are
-/// read, in order, before the first byte is written: where one is refused, its number and fault are
-/// reported, no further one is read, and nothing is written. At `Write` a prefix of the text was
-/// written. Never returns `RunFault::Memory`: an allocation that failed is a fault of an input.
+/// Writes the text of the book of this gap of all inputs' receptions. An input that begins with
+/// `APRSBOOK` is a book file, any other a log. Requires that `limit` is at most `MAX_INPUT`
+/// (1,073,741,824). All inputs are read, in order, before the first byte is written: where one is
+/// refused, its number and fault are reported, no further one is read, and nothing is written. At
+/// `Write` a prefix of the text was written. Never returns `RunFault::Memory`: an allocation that
+/// failed is a fault of an input.
 pub fn merge_run<R: Read, W: Write, A: Allocator + Copy>(
     alloc: A,
     limit: u64,

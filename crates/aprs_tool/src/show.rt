@@ -15,12 +15,12 @@ use std::alloc::Allocator;
 use std::io::{Read, Write};
 
 /// Writes the listing of all inputs' receptions: the stations, objects, items and messages that
-/// were heard, and what is last known of them, in the book of this gap. Each input is read as
-/// by `Desk::take_input`. Requires that `limit` is at most `MAX_INPUT` (1,073,741,824). All inputs
-/// are read, in order, and the lists are made, before the first byte is written: where an input is
-/// refused, its number and fault are reported, no further one is read, and nothing is written; nor
-/// is anything at `Memory`, which is that of the lists. At `Write` a prefix of the listing was
-/// written.
+/// were heard, and what is last known of them, in the book of this gap. An input that begins with
+/// `APRSBOOK` is a book file, any other a log. Requires that `limit` is at most `MAX_INPUT`
+/// (1,073,741,824). All inputs are read, in order, and the lists are made, before the first byte is
+/// written: where an input is refused, its number and fault are reported, no further one is read,
+/// and nothing is written; nor is anything at `Memory`, which is that of the lists. At `Write` a
+/// prefix of the listing was written.
 pub fn show_run<R: Read, W: Write, A: Allocator + Copy>(
     alloc: A,
     limit: u64,
