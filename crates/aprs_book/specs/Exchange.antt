@@ -1,4 +1,4 @@
--- What rows say of messages and their answers. No public clause cites this module.
+-- When messages were reported, and how they were answered, by key. No public clause cites this module.
 use Rattle.std.specs.Prelude.{List}
 use Rattle.aprs_laws.specs.Row.{Row}
 use Rattle.aprs_book.specs.declared.lists.exchange.Exchange.{Exchange}

@@ -1,4 +1,4 @@
--- What rows report of messages and their answers. No public clause cites this module.
+-- Which rows report a message, and which an answer to one. No public clause cites this module.
 use Rattle.std.specs.Prelude.{◌≡◌, ◌==◌, ◌⊎◌, ℕ, Bool, false, min, max, List, [], ◌∷◌, Option, Some, None}
 use Rattle.std.specs.Option.{option_map}
 use Rattle.std.specs.Ordering.{on, then_cmp}
@@ -65,7 +65,7 @@ pub record Answer : Type 0 where
   pub addressee : Call
   pub id : List ℕ
 
--- the answer that a question of the code asks for
+-- the answer that a key of the code stands for
 abbrev pub answer_of : AnswerKey → Answer
 answer_of x = record { source = x.source; addressee = x.addressee; id = x.id.now }
 

@@ -105,9 +105,9 @@ impl<A: Allocator + Copy> Book<A> {
     pub fn take(&mut self, x: &Reception) -> Result<(), Memory>
         ensures taken { OnOk result
             (TakesIn (millis_of self.old.gap) self.old.rows x.now self.new.rows) }
+        ensures in_place { FitsInPlace (millis_of self.old.gap) self.old.rows x.now → IsOk result }
         ensures gap { self.new.gap ≡ self.old.gap }
         ensures unchanged { OnErr result (self.new ≡ self.old) }
-        ensures in_place { FitsInPlace (millis_of self.old.gap) self.old.rows x.now → IsOk result }
     {
         let heard = ReceptionView::of(x);
         let subject = heard.subject();
@@ -156,8 +156,8 @@ impl<A: Allocator + Copy> Book<A> {
     }
 
     /// The book of the receptions of both books, in one pass over the rows of both, which stay as
-    /// they are.
-    /// `OtherGap` comes exactly where the gaps differ, and before any memory is taken.
+    /// they are. `joined` says it by the sets of receptions, `book` by the rows. `OtherGap` comes
+    /// exactly where the gaps differ, and before any memory is taken. Both books are sound.
     pub fn merge(&self, other: &Book<A>) -> Result<Book<A>, MergeFault>
         ensures joined { IfOk result (AreJoined self.now other.now) }
         ensures book { IfOk result (λ both.

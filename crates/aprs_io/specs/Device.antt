@@ -45,7 +45,7 @@ ends_after End n = one_more n
 ends_after other n = n
 
 -- The last call answered so, and no call before it answered a fault or the end: the count of failed
--- calls fell nowhere and rose at a fault, and those of answers are exactly so many.
+-- calls didn't fall, and rose at a fault; those of answered faults and ends are exact.
 pub record Calls {T : Type 0} (last : Last) (old new : Counted T) : Type 0 where
   pub count : old.failed ≤ new.failed
   pub fault : faults_after last old.failed ≤ new.failed

@@ -147,9 +147,9 @@ fn decode_to(text: &[u8], out: &mut [u8]) -> bool
 /// Whether the text is the lower case digits of the bytes that now fill `out`.
 fn decode_lower_to(text: &[u8], out: &mut [u8]) -> bool
     requires { length text.now ≡ 2 * length out.old }
-    ensures len { length out.new ≡ length out.old }
     ensures bytes { MatchBool result (text.now ≡ encode_lower out.new)
         ((bytes : List ℕ) → IsBytes bytes → text.now ≢ encode_lower bytes) }
+    ensures len { length out.new ≡ length out.old }
 {
     decode_digits(text, out, true) || decode_few(text, out)
 }
@@ -158,9 +158,9 @@ fn decode_lower_to(text: &[u8], out: &mut [u8]) -> bool
 #[inline(never)]
 fn decode_few(text: &[u8], out: &mut [u8]) -> bool
     requires { length text.now ≡ 2 * length out.old }
-    ensures len { length out.new ≡ length out.old }
     ensures bytes { MatchBool result (text.now ≡ encode_lower out.new)
         ((bytes : List ℕ) → IsBytes bytes → text.now ≢ encode_lower bytes) }
+    ensures len { length out.new ≡ length out.old }
 {
     'bytes: for i in 0..out.len() {
         let high = value_of(text[2 * i], true);
@@ -179,9 +179,9 @@ fn decode_few(text: &[u8], out: &mut [u8]) -> bool
 #[inline(always)]
 fn decode_digits(text: &[u8], out: &mut [u8], lower: bool) -> bool
     requires { length text.now ≡ 2 * length out.old }
-    ensures len { length out.new ≡ length out.old }
     ensures bytes { OnTrue result (decode_of text.now ≡ Ok out.new) }
     ensures lower { lower ≡ true → OnTrue result (text.now ≡ encode_lower out.new) }
+    ensures len { length out.new ≡ length out.old }
 {
     let len = out.len();
     if len < BLOCK {

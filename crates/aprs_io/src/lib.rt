@@ -1,5 +1,5 @@
-//! Reads an input up to a limit, and writes output through a buffer, over devices that count their
-//! failed calls.
+//! Inputs under a limit and output through a buffer, over devices that count their failed calls, and
+//! bytes as hexadecimal digits.
 #![tactic(auto)]
 
 mod byte_vectors;

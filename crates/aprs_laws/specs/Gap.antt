@@ -1,4 +1,4 @@
--- The gap inside a transmission, in seconds. Moments are in milliseconds.
+-- The most that neighbours of a transmission are apart, in seconds. Moments are in milliseconds.
 use Rattle.std.specs.Prelude.{ℕ, ◌*◌, ◌<◌, ◌≤◌}
 
 -- the gap of a book for which no other was chosen: 30 seconds

@@ -1,4 +1,4 @@
--- What makes frames copies of one transmission, and the order of that.
+-- The key of a frame, which copies of it have too, and the order of keys.
 use Rattle.std.specs.Prelude.{ℕ, List, take, drop}
 use Rattle.std.specs.Ordering.{on, then_cmp}
 use Rattle.std.specs.declared.cmp.Ordering.{Ordering}

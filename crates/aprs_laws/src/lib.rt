@@ -23,7 +23,7 @@ pub use examples::rows::{
     ties_go_by_receiver_then_frame,
 };
 pub use examples::runs::runs_are_maximal;
-pub use examples::soundness::{real_receptions_are_few, soundness_is_seen_in_rows};
+pub use examples::soundness::{soundness_is_seen_in_rows, witnesses_are_made_up};
 pub use examples::steps::{
     gaps_decide_what_is_inserted, rows_are_near_up_to_the_gap, rows_in_order_are_one_book,
 };

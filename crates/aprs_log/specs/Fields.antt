@@ -1,4 +1,4 @@
--- The first field of a text, which ends before a space. No public clause cites this module.
+-- The moment and the receiver's name at the start of a line, each before a space. No public clause cites this module.
 use Rattle.std.specs.Prelude.{◌≡◌, ℕ, ◌<◌, ◌⊎◌, Bool, not, List, length, slice_index, None, Some}
 use Rattle.aprs_io.specs.Cut.{Cut, cut_at}
 use Rattle.aprs_log.specs.Clock.{millis_size}

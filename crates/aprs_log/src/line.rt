@@ -81,8 +81,8 @@ impl Line {
         }
     }
 
-    /// Becomes the same line, where none was heard before. Apart from `assign`, which so has no
-    /// room for a line to clear.
+    /// As `assign`, with a frame that is made anew. It stands apart, so that `assign` needs no room
+    /// for a line.
     #[cold]
     #[inline(never)]
     fn assign_anew(&mut self, moment: Moment, receiver: Receiver, bytes: &[u8])

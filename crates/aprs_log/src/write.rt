@@ -118,8 +118,8 @@ fn put_frame(out: &mut [u8], at: usize, frame: &[u8]) -> usize
 fn put_hex(out: &mut [u8], at: usize, bytes: &[u8]) -> usize
     requires { at + 2 * length bytes.now ≤ length out.old }
     ensures end { result ≡ at + 2 * length bytes.now }
-    ensures len { length out.new ≡ length out.old }
     ensures digits { take result out.new ≡ take at out.old ++ encode_lower bytes.now }
+    ensures len { length out.new ≡ length out.old }
 {
     let end = at + 2 * bytes.len();
     encode_to(bytes, &mut out[at..end]);

@@ -1,4 +1,4 @@
--- Rows that are one. No public clause cites this module.
+-- Rows of a store that are one row of the book. No public clause cites this module.
 use Rattle.std.specs.Prelude.{◌≡◌, ℕ, zero, suc, List, [], ◌∷◌, All, length, take, drop}
 use Rattle.aprs_log.specs.Receiver.{IsName}
 use Rattle.aprs_laws.specs.Row.{Row}

@@ -1,4 +1,4 @@
--- The row before another, if there is one. No public clause cites this module.
+-- Rows of which only the last one is known. No public clause cites this module.
 use Rattle.std.specs.Prelude.{List, [], ◌∷◌, Option, None, Some}
 
 -- the list of what there is

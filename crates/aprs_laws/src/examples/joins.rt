@@ -22,7 +22,8 @@ pub fn joins_take_both()
     ensures misses_start { FoldsTo IsGreaterOf (by_rx1 30001) (early ∷ []) early → ⊥ }
 {}
 
-/// The joined value of two books has neither the rows of one alone nor all rows side by side.
+/// Two books whose rows are near are joined to one row: neither the rows of one book alone, nor
+/// those of both side by side.
 pub fn joined_books_are_books()
     ensures joined { Joined half_minute (early_row ∷ []) (close_row ∷ []) (near_row ∷ []) }
     ensures one_pass { coalesced_rows half_minute (interleave (early_row ∷ []) (close_row ∷ []))

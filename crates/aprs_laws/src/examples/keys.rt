@@ -11,7 +11,7 @@ ghost use Rattle.aprs_laws.specs.Examples.{hi_frame, hi_after_digipeater, hi_as_
 pub fn copies_have_one_key()
     ensures direct { key_of hi_frame ≡ hi_key }
     ensures repeated { key_of hi_after_digipeater ≡ hi_key }
-    ensures answered { key_of hi_as_response ≡ hi_key }
+    ensures as_response { key_of hi_as_response ≡ hi_key }
 
     ensures misses_other_ssid { key_of of_other ≡ hi_key → ⊥ }
     ensures misses_bytes { hi_frame ≡ hi_after_digipeater → ⊥ }

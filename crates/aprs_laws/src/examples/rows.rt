@@ -26,7 +26,7 @@ pub fn books_are_whole()
 /// Neighbours 30 seconds apart are of one transmission, and 30,001 milliseconds apart of two.
 pub fn gaps_decide_rows()
     ensures thirty_joins { plain_book half_minute near_pair ≡ near_row ∷ [] }
-    ensures thirty_one_does_not { plain_book half_minute far_pair ≡ early_row ∷ late_row ∷ [] }
+    ensures a_millisecond_more_does_not { plain_book half_minute far_pair ≡ early_row ∷ late_row ∷ [] }
 
     ensures two_rows { plain_book half_minute (by_rx1 30001 ∷ by_rx1 60001 ∷ by_rx1 0 ∷ [])
         ≡ row_at 0 ∷ row_to 30001 60001 ∷ [] }
@@ -38,8 +38,8 @@ pub fn gaps_decide_rows()
         ≡ row_to 0 60001 ∷ [] }
 {}
 
-/// Of receptions at one moment the greater receiver is greatest, and of one receiver's the greater
-/// frame, in whatever order they come.
+/// Of receptions at one moment that of the greater receiver is greatest, and of one receiver's that
+/// with the greater frame, in whatever order they come.
 pub fn ties_go_by_receiver_then_frame()
     ensures frame { plain_book half_minute (heard 0 rx1 hi_after_digipeater ∷ by_rx1 0 ∷ [])
         ≡ row_at 0 ∷ [] }

@@ -16,9 +16,8 @@ pub fn soundness_is_seen_in_rows()
     ensures misses_near_next { IsNext half_minute (early_row ∷ []) close_row → ⊥ }
 {}
 
-/// The witnesses of rows are only as many receptions as give these rows. Others that were heard are
-/// not among them.
-pub fn real_receptions_are_few()
+/// The witnesses of a row are made up of it, so that what was really heard need not be among them.
+pub fn witnesses_are_made_up()
     ensures witnesses { witnesses (short_row ∷ [])
         ≡ by_rx1 0 ∷ by_rx1 1 ∷ by_rx1 0 ∷ heard 0 rx2 hi_frame ∷ [] }
     ensures misses_other { heard 1 rx2 hi_frame ∈ witnesses (short_row ∷ []) → ⊥ }

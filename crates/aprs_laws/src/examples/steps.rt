@@ -29,8 +29,7 @@ pub fn rows_are_near_up_to_the_gap()
         (heard 10 rx2 hi_frame) → ⊥ }
 {}
 
-/// Rows in order join the last so far or come after it, whatever book or log each is of. In another
-/// order that gives no book.
+/// Rows in order join the last so far or come after it, whatever book or log each is of.
 pub fn rows_in_order_are_one_book()
     ensures in_order { AreInOrder (early_row ∷ row_at 0 ∷ late_row ∷ []) }
     ensures misses_later_first { AreInOrder (late_row ∷ early_row ∷ []) → ⊥ }

@@ -30,7 +30,7 @@ pub(crate) struct Open<'a> {
 }
 
 impl<'a> Open<'a> {
-    /// The row alone.
+    /// Open rows, of which this is the only one so far.
     fn of(row: StoredRow<'a>) -> Open<'a>
         ensures row { (names : List (Bor (List ℕ))) → Spec.open_row result names ≡ row.entry }
         ensures alone { result.is_alone ≡ true }

@@ -9,8 +9,8 @@ returns-clause-direct c = key_direct
 pub returns-clause-repeated : goal.returns-clause-repeated
 returns-clause-repeated c = key_repeated
 
-pub returns-clause-answered : goal.returns-clause-answered
-returns-clause-answered c = key_answered
+pub returns-clause-as_response : goal.returns-clause-as_response
+returns-clause-as_response c = key_answered
 
 pub returns-clause-misses_other_ssid : goal.returns-clause-misses_other_ssid
 unfolding key_of

@@ -6,8 +6,8 @@ use Rattle.aprs_laws.proofs.examples.rows.gaps_decide_rows.Goals as goal
 pub returns-clause-thirty_joins : goal.returns-clause-thirty_joins
 returns-clause-thirty_joins c = near_plain
 
-pub returns-clause-thirty_one_does_not : goal.returns-clause-thirty_one_does_not
-returns-clause-thirty_one_does_not c = far_plain
+pub returns-clause-a_millisecond_more_does_not : goal.returns-clause-a_millisecond_more_does_not
+returns-clause-a_millisecond_more_does_not c = far_plain
 
 pub returns-clause-two_rows : goal.returns-clause-two_rows
 unfolding key_of key_cmp
