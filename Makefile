@@ -12,10 +12,7 @@ LANES ?= $(shell awk -v n=$$(nproc) '/MemAvailable/ { most = int($$2 / 3000000) 
 JOBS ?= $(shell n=$(LANES); echo $$((n < 4 ? n : 4)))
 
 # what is proved beside the book and what leads to it, which take longer: one job each, and after these
-BESIDE = aprs_report aprs_convert aprs_command
-# what is proved beside the book's text, which takes as long: half of the jobs
-HALF = aprs_listing
-jobs_of = $(if $(filter $1,$(BESIDE)),1,$(if $(filter $1,$(HALF)),$$((($(JOBS) + 1) / 2)),$(JOBS)))
+BESIDE = aprs_report aprs_convert aprs_command aprs_listing
 
 # the program alone, each call of it proved: crates that don't stand on each other side by side, and last
 # the program with one job, which is quicker than with more
@@ -28,7 +25,7 @@ $(foreach it,$(LIBRARIES),$(eval $(it): $(filter $(LIBRARIES),$(shell sed -n 's/
 .PHONY: $(LIBRARIES)
 libraries: $(LIBRARIES)
 $(LIBRARIES):
-	@$(if $(filter $@,$(BESIDE)),nice) build/prove.sh $@ $(call jobs_of,$@)
+	@$(if $(filter $@,$(BESIDE)),nice) build/prove.sh $@ $(if $(filter $@,$(BESIDE)),1,$(JOBS))
 
 # the sample log as a monitor prints it
 run: build
