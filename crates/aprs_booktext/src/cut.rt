@@ -17,8 +17,8 @@ pub fn cut(text: &[u8], stop: u8) -> Option<(&[u8], &[u8])>
     }
 }
 
-/// As `cut`, for a text that mostly has the byte near its start, as one that begins with a name has:
-/// a plain loop finds it sooner than `memchr`.
+/// As `cut`, for a text that mostly has the byte near its start, as one that begins with a name: a
+/// plain loop finds it sooner than `memchr`.
 pub fn cut_near(text: &[u8], stop: u8) -> Option<(&[u8], &[u8])>
     ensures some { IfSome result (λ p. (text.now ≡ p.0.now ++ stop ∷ p.1.now)
         × Lacks stop p.0.now) }

@@ -1,5 +1,5 @@
-//! Inputs under a limit and output through a buffer, over devices that count their failed calls, and
-//! bytes as hexadecimal digits.
+//! Inputs under a limit and output through a buffer, over devices that count their failed calls,
+//! and bytes as hexadecimal digits.
 #![tactic(auto)]
 
 mod byte_vectors;

@@ -26,7 +26,8 @@ pub fn books_are_whole()
 /// Neighbours 30 seconds apart are of one transmission, and 30,001 milliseconds apart of two.
 pub fn gaps_decide_rows()
     ensures thirty_joins { plain_book half_minute near_pair ≡ near_row ∷ [] }
-    ensures a_millisecond_more_does_not { plain_book half_minute far_pair ≡ early_row ∷ late_row ∷ [] }
+    ensures a_millisecond_more_does_not { plain_book half_minute far_pair
+        ≡ early_row ∷ late_row ∷ [] }
 
     ensures two_rows { plain_book half_minute (by_rx1 30001 ∷ by_rx1 60001 ∷ by_rx1 0 ∷ [])
         ≡ row_at 0 ∷ row_to 30001 60001 ∷ [] }
