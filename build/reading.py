@@ -186,7 +186,8 @@ def kit_words(facts, keys):
     found = collections.defaultdict(set)
     for key in keys:
         for word in facts.kit_words(key):
-            found[f"{word.crate}.{word.module}"].add(word.name)
+            module = re.sub(r"^declared\.|\.TheVariants$", "", word.module)
+            found[f"{word.crate}.{module}"].add(word.name)
     lines = []
     for module in sorted(found):
         names = " ".join(f"`{name}`" for name in sorted(found[module]))
@@ -202,7 +203,7 @@ def item_lines(facts, key, home, file):
         words = sorted(facts.roots([("Value", item.value)], item.scope))
         seen = {key.name: link(key, home, file) for key in words if key in home}
         value = seen.pop(item.value, f"`{item.value}`")
-        return lines + [f"Contracts see of it: {' '.join([value, *seen.values()])}.", ""]
+        return lines + [f"In contracts it is of type {' '.join([value, *seen.values()])}.", ""]
     return lines + fenced("rust", item.text)
 
 

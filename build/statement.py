@@ -200,7 +200,7 @@ def words_of(text, scope):
 
 def named_in(text, scope):
     """Where the words stand that a text names: those of the scope, and those of its modules."""
-    text = re.sub(r"(--|//).*|codes \"[^\"]*\"", " ", text)
+    text = re.sub(r"(--|//).*|(?<=codes )\"[^\"]*\"", " ", text)
     found = {scope[word] for word in words_of(text, scope)}
     for alias, name in re.findall(r"(?<![\w.])(\w+)\.(\w[\w'\-]*)", text):
         if alias in scope and scope[alias].name == "":
@@ -494,8 +494,7 @@ class Statement:
     def kit_words(self, key):
         """The words of the kit that a definition names."""
         ours = {crate for crate, _ in self.modules}
-        words = (word for word in self.named_by(key) if word.crate not in ours and word.name)
-        return [word for word in words if not word.module.startswith("declared")]
+        return [word for word in self.named_by(key) if word.crate not in ours and word.name]
 
 
 def seen_text(item):

@@ -20,7 +20,7 @@ address_field (first ∷ next ∷ more) = address_octets 0 first ++ address_fiel
 abbrev pub control_ui : ℕ
 control_ui = 0x03
 
--- The PID octet of no layer 3 protocol.
+-- The PID octet of a frame without a layer 3 protocol.
 abbrev pub pid_none : ℕ
 pid_none = 0xF0
 

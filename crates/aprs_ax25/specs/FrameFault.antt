@@ -14,7 +14,8 @@ use Rattle.aprs_ax25.specs.declared.fault.FrameFault.TheVariants.{Control, Pid, 
 abbrev pub ends_field : ℕ → Bool
 ends_field octet = octet % 2 == 1
 
--- How many octets there are up to the first with bit 0 set, or one more than all where none has it.
+-- The number of the first octet whose bit 0 is 1, counted from 1: so many octets the address field
+-- has. Where there is no such octet, one more than there are octets.
 abbrev pub field_len : List ℕ → ℕ
 field_len bytes = position_or_len ends_field bytes + 1
 
@@ -32,7 +33,7 @@ abbrev pub is_no_letter : ℕ → Bool
 is_no_letter octet = not (is_callsign_byte (octet / 2))
 
 -- How many of an address's first six octets stand before the first that is no capital or digit,
--- shifted right by one bit.
+-- shifted right by one bit; six where all are.
 abbrev pub letters_len : List ℕ → ℕ
 letters_len octets = position_or_len is_no_letter (take 6 octets)
 
@@ -46,7 +47,7 @@ abbrev pub has_callsign : List ℕ → Bool
 has_callsign octets = nat_lt 0 (letters_len octets) && list_all is_space_octet
     (drop (letters_len octets) (take 6 octets))
 
--- The octets up to the one that ends the address field.
+-- The octets of the address field: all to the one that ends it, and that one.
 abbrev pub field_of : List ℕ → List ℕ
 field_of bytes = take (field_len bytes) bytes
 

@@ -155,7 +155,8 @@ impl PartialOrd for Callsign {
     }
 }
 
-/// The letters or digits that an address's first six octets begin with, shifted right by one bit.
+/// The capitals and digits at the start of an address's first six octets, once each octet is
+/// shifted right by one bit.
 fn letters_of(octets: &[u8]) -> ArrayVec<u8, 6>
     requires { 6 ≤ length octets.now }
     ensures { result.items

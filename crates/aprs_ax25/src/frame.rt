@@ -129,7 +129,7 @@ impl Frame {
         Frame { bytes: held }
     }
 
-    /// Makes this one the frame that is all the bytes.
+    /// Replaces this frame by the one whose bytes these are.
     fn assign(&mut self, bytes: &[u8])
         requires { frame_fault bytes.now ≡ None }
         ensures { self.new ≡ bytes.now }
@@ -184,15 +184,15 @@ impl Frame {
     }
 
     /// Where there is a digipeater number i, counted as by `hop`, puts the text of its callsign at
-    /// the end, at most 9 bytes, and returns whether it has repeated the frame. Takes no memory.
-    /// For the crates of this repository.
+    /// the end, at most 9 bytes, and returns whether it has repeated the frame; where there is
+    /// none, puts nothing. Takes no memory. For the crates of this repository.
     pub fn push_hop_text<const N: usize>(&self, i: usize, out: &mut ArrayVec<u8, N>) -> Option<bool>
         requires room { array_vec_len out.old + 9 ≤ N }
-        ensures repeated { result
-            ≡ option_map is_repeated (slice_get (parts_of self.now).digipeaters i) }
         ensures text { MatchOption (slice_get (parts_of self.now).digipeaters i)
             (out.new.items ≡ out.old.items)
             (λ a. out.new.items ≡ out.old.items ++ call_text a.call) }
+        ensures repeated { result
+            ≡ option_map is_repeated (slice_get (parts_of self.now).digipeaters i) }
         ensures most { array_vec_len out.new ≤ array_vec_len out.old + 9 }
     {
         if i < self.hops() {
@@ -306,7 +306,9 @@ fn make_fault(hops: usize, info: usize) -> Option<MakeFault>
     }
 }
 
-/// Puts the address field into `out`, which is empty.
+/// Puts the address field of a command into `out`, which is empty: destination, source and
+/// digipeaters, seven octets each. The flags are the C bit and both reserved bits: 1 in the
+/// destination, while the source's C bit is 0.
 fn push_field(
     out: &mut ArrayVec<u8, MAX_UI_FRAME>,
     destination: &Callsign,
@@ -334,7 +336,8 @@ fn extension_bit(is_last: bool) -> u8
     u8::from(is_last)
 }
 
-/// Puts the digipeaters' addresses at the end, the extension bit being 1 in the last.
+/// Puts the digipeaters' addresses after the destination's and the source's, 14 octets; the
+/// extension bit is 1 in the last.
 fn push_hops(out: &mut ArrayVec<u8, MAX_UI_FRAME>, hops: &[Hop])
     requires room { array_vec_len out.old ≡ 14 }
     requires few { length hops.now ≤ 8 }

@@ -56,8 +56,9 @@ fn is_plain_rest(rest: &[u8]) -> bool
     }
 }
 
-/// Whether the first six of an address's octets are letters or digits and then spaces, each with
-/// bit 0 clear. There is no early end, so that nothing hangs on how long a callsign is.
+/// Whether the first six of an address's octets are seen to be 1 to 6 capitals or digits and then
+/// spaces, each shifted left by one bit, so that bit 0 is clear. All six are always looked at: no
+/// branch depends on a callsign's length.
 fn is_plain_callsign(octets: &[u8]) -> bool
     requires { length octets.now ≡ 7 }
     ensures { result ≡ true → IsPlainAddress octets.now }

@@ -57,7 +57,8 @@ fn ends_address(frame: &[u8], end: usize) -> bool
     frame[end - 1] % 2 == 1
 }
 
-/// How many of an address's first six octets are letters or digits, from the first on.
+/// How many octets at the start of an address are, shifted right by one bit, capitals or digits: up
+/// to the first that isn't, and at most six.
 pub fn letters_len(octets: &[u8]) -> usize
     requires { 6 ≤ length octets.now }
     ensures value { result ≡ Spec.letters_len octets.now }

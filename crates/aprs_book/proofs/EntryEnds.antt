@@ -20,7 +20,7 @@ use Rattle.aprs_rows.proofs.Heads.{head_total, head_exact, head_less}
 use Rattle.aprs_rows.specs.Head.{HasHead}
 use Rattle.aprs_rows.specs.HeadSteps.{head_cmp}
 use Rattle.aprs_rows.specs.declared.row.head.Head.{Head}
-use Rattle.aprs_book.specs.Keyed.{HaveHead, rows_of, AreKeyed, AreFilled, AreKept, EndsUpTo, IsEndOf}
+use Rattle.aprs_book.specs.Keyed.{HaveHead, rows_of, AreKeyed, AreFilled, AreKept, LastKeyIsUpTo, IsEndOf}
 
 bridged_some : (gap : ℕ) (x : Heard) (j : Row) (rows : List Row)
     → 0 < length (bridge_row gap x j rows)
@@ -186,7 +186,7 @@ module _ {V : Type 0} (rows : V → List Row) where
 
   none_above : (x : Row) (k : Head) (es : List (Head × V)) → HasHead k x.greatest.frame
       → IsStrictlySortedBy head_cmp (keys_of es) → AreKeyed rows es
-      → AreFilled rows es → EndsUpTo x (rows_of rows es) → NoneAbove k es
+      → AreFilled rows es → LastKeyIsUpTo x (rows_of rows es) → NoneAbove k es
   none_above x k [] p s g h u = tt
   none_above x k (e ∷ []) p s g h u = (
     λ below. elim (empty_or_last (rows e.1)) [
@@ -250,17 +250,17 @@ module _ {V : Type 0} (rows : V → List Row) where
     pub head : HasHead k x.greatest.frame
     pub sorted : IsStrictlySortedBy head_cmp (keys_of es)
     pub kept : AreKept rows es
-    pub ends : EndsUpTo x (rows_of rows es)
+    pub ends : LastKeyIsUpTo x (rows_of rows es)
 
   -- the head was made of this frame
   pub goes_after : (x : Row) (f : List ℕ) (k : Head) (es : List (Head × V)) → HasHead k f
       → f ≡ x.greatest.frame → IsStrictlySortedBy head_cmp (keys_of es) → AreKept rows es
-      → (all : List Row) → rows_of rows es ≡ all → EndsUpTo x all → IsAfter x k es
+      → (all : List Row) → rows_of rows es ≡ all → LastKeyIsUpTo x all → IsAfter x k es
   goes_after x f k es head same sorted kept all are ends = record {
     head = subst (HasHead k) same head;
     sorted = sorted;
     kept = kept;
-    ends = subst (EndsUpTo x) (sym are) ends;
+    ends = subst (LastKeyIsUpTo x) (sym are) ends;
   }
 
   above_of : (x : Row) (k : Head) (es : List (Head × V)) → IsAfter x k es → NoneAbove k es

@@ -31,7 +31,7 @@ use Rattle.aprs_laws.proofs.Known.{rows_know, set_knows, known_last}
 use Rattle.aprs_book.specs.declared.known.subject.Subject.{Subject}
 use Rattle.aprs_book.specs.Reports.{report_of, is_position, is_status, is_object, is_item, is_from, reports_position, reports_status, reports_object, reports_item, without_spaces}
 use Rattle.aprs_book.specs.LastKnown.{IsLastKnown}
-use Rattle.aprs_book.specs.Known.{FourIndexes, Topic, call_bytes, positions, statuses, objects, items, index_of, known_at, known_both, is_reported, reports_at, reported_by, reported_in, reported_at, AreIndexesOf, SameKnown, HaveEntries, greatest_of}
+use Rattle.aprs_book.specs.Known.{FourIndexes, Topic, call_bytes, positions, statuses, objects, items, index_of, known_at, known_both, has_bytes, is_report_on, report_bytes, topic_bytes, subject_bytes, AreIndexesOf, SameKnown, HaveEntries, greatest_of}
 use Rattle.aprs_book.proofs.KnownSteps.{entry_there, same_as_itself}
 
 -- the receptions of a row are of its greatest's key: what the rows know the book's set knows
@@ -114,24 +114,24 @@ pushes_note old r test known h =
 -- what a reception reports on is noted
 abbrev pub Noted : Subject → Heard → FourIndexes → FourIndexes → Type 0
 Noted t x old new = (topic : Topic) (bytes : List ℕ)
-    → known_at bytes (index_of topic new) ≡ (if is_reported bytes (reported_at topic t)
+    → known_at bytes (index_of topic new) ≡ (if has_bytes bytes (subject_bytes topic t)
     then Some (greater_known (known_at bytes (index_of topic old)) x)
     else known_at bytes (index_of topic old))
 
 abbrev pub IsReported : Subject → Key → Type 0
-IsReported t k = (topic : Topic) → reported_at topic t ≡ reported_in topic k
+IsReported t k = (topic : Topic) → subject_bytes topic t ≡ topic_bytes topic k
 
 noted_known : (t : Subject) (x : Heard) (i j k : FourIndexes) → IsReported t (key_of x.frame)
     → SameKnown i j
     → Noted t x j k → (topic : Topic) (bytes : List ℕ)
-    → known_after (reports_at (reported_in topic) bytes) (known_at bytes (index_of topic i)) x
+    → known_after (is_report_on (topic_bytes topic) bytes) (known_at bytes (index_of topic i)) x
     ≡ known_at bytes (index_of topic k)
 noted_known t x i j k reported same noted topic bytes =
     sym (noted topic bytes
-    ∙ ap (λ o. if is_reported bytes o then Some
+    ∙ ap (λ o. if has_bytes bytes o then Some
     (greater_known (known_at bytes (index_of topic j)) x) else known_at bytes
     (index_of topic j)) (reported topic)
-    ∙ ap (λ n. if is_reported bytes (reported_in topic (key_of x.frame)) then Some
+    ∙ ap (λ n. if has_bytes bytes (topic_bytes topic (key_of x.frame)) then Some
     (greater_known n x) else n) (same topic bytes))
 
 pub takes_indexes : (gap : ℕ) → 0 < gap → (t : Subject) (x : Heard) (rows new : List Row)
@@ -139,12 +139,12 @@ pub takes_indexes : (gap : ℕ) → 0 < gap → (t : Subject) (x : Heard) (rows 
     → SameKnown i j → Noted t x j k → new ≡ insert_heard gap x rows → AreIndexesOf new k
 takes_indexes gap pos t x rows new i j k w h reported same noted made = λ topic bytes.
     subst (λ (r : List Row). LastKnown (map greatest_of r)
-    (Passes (reports_at (reported_in topic) bytes)) (known_at bytes (index_of topic k)))
+    (Passes (is_report_on (topic_bytes topic) bytes)) (known_at bytes (index_of topic k)))
     (sym made)
     (subst (LastKnown (map greatest_of (insert_heard gap x rows))
-    (Passes (reports_at (reported_in topic) bytes)))
+    (Passes (is_report_on (topic_bytes topic) bytes)))
     (noted_known t x i j k reported same noted topic bytes)
-    (takes_note gap pos x rows (reports_at (reported_in topic) bytes)
+    (takes_note gap pos x rows (is_report_on (topic_bytes topic) bytes)
     (known_at bytes (index_of topic i)) w
     (h topic bytes)))
 
@@ -153,12 +153,12 @@ pub pushes_indexes : (t : Subject) (r : Row) (rows new : List Row) (i j k : Four
     → new ≡ rows ++ r ∷ [] → AreIndexesOf new k
 pushes_indexes t r rows new i j k h reported same noted made = λ topic bytes.
     subst (λ (q : List Row). LastKnown (map greatest_of q)
-    (Passes (reports_at (reported_in topic) bytes)) (known_at bytes (index_of topic k)))
+    (Passes (is_report_on (topic_bytes topic) bytes)) (known_at bytes (index_of topic k)))
     (sym made)
     (subst (LastKnown (map greatest_of (rows ++ r ∷ []))
-    (Passes (reports_at (reported_in topic) bytes)))
+    (Passes (is_report_on (topic_bytes topic) bytes)))
     (noted_known t r.greatest i j k reported same noted topic bytes)
-    (pushes_note rows r (reports_at (reported_in topic) bytes) (known_at bytes (index_of topic i))
+    (pushes_note rows r (is_report_on (topic_bytes topic) bytes) (known_at bytes (index_of topic i))
     (h topic bytes)))
 
 pub merges_indexes : (gap : ℕ) → 0 < gap → (a b c : List Row) (i j k : FourIndexes) → Sound gap a
@@ -167,9 +167,9 @@ pub merges_indexes : (gap : ℕ) → 0 < gap → (a b c : List Row) (i j k : Fou
     ≡ known_both (known_at bytes (index_of topic i)) (known_at bytes (index_of topic j)))
     → AreIndexesOf c k
 merges_indexes gap pos a b c i j k v w joined h g both = λ topic bytes.
-    subst (LastKnown (map greatest_of c) (Passes (reports_at (reported_in topic) bytes)))
+    subst (LastKnown (map greatest_of c) (Passes (is_report_on (topic_bytes topic) bytes)))
     (sym (both topic bytes))
-    (merges_notes gap pos a b c (reports_at (reported_in topic) bytes)
+    (merges_notes gap pos a b c (is_report_on (topic_bytes topic) bytes)
     (known_at bytes (index_of topic i))
     (known_at bytes (index_of topic j)) v w joined (h topic bytes) (g topic bytes))
 
@@ -192,24 +192,24 @@ pub widens_indexes : (g h : ℕ) → 0 < g → g ≤ h → (rows new : List Row)
 widens_indexes g h pos l rows new i none k w held empty both made = λ topic bytes.
     let known = known_at bytes (index_of topic i) in
     subst (λ (r : List Row). LastKnown (map greatest_of r)
-    (Passes (reports_at (reported_in topic) bytes)) (known_at bytes (index_of topic k)))
+    (Passes (is_report_on (topic_bytes topic) bytes)) (known_at bytes (index_of topic k)))
     (sym made)
     (subst (LastKnown (map greatest_of (widened_rows h rows))
-    (Passes (reports_at (reported_in topic) bytes)))
+    (Passes (is_report_on (topic_bytes topic) bytes)))
     (sym (both topic bytes ∙ ap (λ t. known_both known (known_at bytes t)) (empty topic)))
-    (widens_note g h pos l rows (reports_at (reported_in topic) bytes) known w (held topic bytes)))
+    (widens_note g h pos l rows (is_report_on (topic_bytes topic) bytes) known w (held topic bytes)))
 
 pub near_entries : (gap : ℕ) (t : Subject) (x : Heard) (rows : List Row) (i : FourIndexes)
     → AreIndexesOf rows i → IsReported t (key_of x.frame) → FitsInPlace gap rows x → HaveEntries t i
 near_entries gap t x rows i h reported f = λ topic bytes e.
-    entry_there (reported_in topic) rows (index_of topic i) bytes f.row (h topic) f.member
-    (ap (λ k. is_reported bytes (reported_in topic k)) f.near.key
-    ∙ ap (is_reported bytes) (sym (reported topic) ∙ e) ∙ same_as_itself bytes)
+    entry_there (topic_bytes topic) rows (index_of topic i) bytes f.row (h topic) f.member
+    (ap (λ k. has_bytes bytes (topic_bytes topic k)) f.near.key
+    ∙ ap (has_bytes bytes) (sym (reported topic) ∙ e) ∙ same_as_itself bytes)
 
 -- ---- what reports are about
 
 reported_position : (call : Call) (v : Value)
-    → reported_by positions call v ≡ (if is_position v then Some (call_bytes call) else None)
+    → report_bytes positions call v ≡ (if is_position v then Some (call_bytes call) else None)
 reported_position call (position messaging stamp place symbol comment) = refl
 reported_position call (object name live stamp place symbol comment) = refl
 reported_position call (item name live place symbol comment) = refl
@@ -220,7 +220,7 @@ reported_position call (status stamp text) = refl
 reported_position call raw = refl
 
 reported_status : (call : Call) (v : Value)
-    → reported_by statuses call v ≡ (if is_status v then Some (call_bytes call) else None)
+    → report_bytes statuses call v ≡ (if is_status v then Some (call_bytes call) else None)
 reported_status call (position messaging stamp place symbol comment) = refl
 reported_status call (object name live stamp place symbol comment) = refl
 reported_status call (item name live place symbol comment) = refl
@@ -231,7 +231,7 @@ reported_status call (status stamp text) = refl
 reported_status call raw = refl
 
 reported_object : (wanted : List ℕ) (call : Call) (v : Value)
-    → is_reported wanted (reported_by objects call v) ≡ is_object wanted v
+    → has_bytes wanted (report_bytes objects call v) ≡ is_object wanted v
 reported_object wanted call (position messaging stamp place symbol comment) = refl
 reported_object wanted call (object name live stamp place symbol comment) = refl
 reported_object wanted call (item name live place symbol comment) = refl
@@ -242,7 +242,7 @@ reported_object wanted call (status stamp text) = refl
 reported_object wanted call raw = refl
 
 reported_item : (wanted : List ℕ) (call : Call) (v : Value)
-    → is_reported wanted (reported_by items call v) ≡ is_item wanted v
+    → has_bytes wanted (report_bytes items call v) ≡ is_item wanted v
 reported_item wanted call (position messaging stamp place symbol comment) = refl
 reported_item wanted call (object name live stamp place symbol comment) = refl
 reported_item wanted call (item name live place symbol comment) = refl
@@ -257,11 +257,11 @@ reported_item wanted call raw = refl
 -- an index by bytes knows what a test of keys finds
 pub by_bytes : (gap : ℕ) (rows : List Row) (test : Key → Bool) (topic : Topic) (bytes : List ℕ)
     (i : FourIndexes) (known : Option Heard) → AreIndexesOf rows i
-    → ((k : Key) → reports_at (reported_in topic) bytes k ≡ test k)
+    → ((k : Key) → is_report_on (topic_bytes topic) bytes k ≡ test k)
     → known ≡ known_at bytes (index_of topic i)
     → IsLastKnown gap rows test known
 by_bytes gap rows test topic bytes i known h same is =
-    let alike : reports_at (reported_in topic) bytes ≡ test = λ j k. same k j in
+    let alike : is_report_on (topic_bytes topic) bytes ≡ test = λ j k. same k j in
     entry_reports gap rows test known
     (subst (LastKnown (map greatest_of rows) (Passes test)) (sym is)
     (subst (λ (p : Key → Bool). LastKnown (map greatest_of rows) (Passes p)
@@ -304,27 +304,27 @@ call_same a b =
     ∙ ap is_eq (sym o))
 
 of_call : (own : Bool) (call : Call) (k : Key)
-    → is_reported (call_bytes call) (if own then Some (call_bytes k.source) else None)
+    → has_bytes (call_bytes call) (if own then Some (call_bytes k.source) else None)
     ≡ is_from call k && own
 of_call true call k = call_same k.source call ∙ sym (and-true (is_from call k))
 of_call false call k = sym (and-false (is_from call k))
 
 pub reports_of_position : (call : Call) (k : Key)
-    → reports_at (reported_in positions) (call_bytes call) k ≡ reports_position call k
+    → is_report_on (topic_bytes positions) (call_bytes call) k ≡ reports_position call k
 reports_of_position call k =
-    ap (is_reported (call_bytes call)) (reported_position k.source (report_of k))
+    ap (has_bytes (call_bytes call)) (reported_position k.source (report_of k))
     ∙ of_call (is_position (report_of k)) call k
 
 pub reports_of_status : (call : Call) (k : Key)
-    → reports_at (reported_in statuses) (call_bytes call) k ≡ reports_status call k
+    → is_report_on (topic_bytes statuses) (call_bytes call) k ≡ reports_status call k
 reports_of_status call k =
-    ap (is_reported (call_bytes call)) (reported_status k.source (report_of k))
+    ap (has_bytes (call_bytes call)) (reported_status k.source (report_of k))
     ∙ of_call (is_status (report_of k)) call k
 
 pub reports_of_object : (name : List ℕ) (k : Key)
-    → reports_at (reported_in objects) (without_spaces name) k ≡ reports_object name k
+    → is_report_on (topic_bytes objects) (without_spaces name) k ≡ reports_object name k
 reports_of_object name k = reported_object (without_spaces name) k.source (report_of k)
 
 pub reports_of_item : (name : List ℕ) (k : Key)
-    → reports_at (reported_in items) (without_spaces name) k ≡ reports_item name k
+    → is_report_on (topic_bytes items) (without_spaces name) k ≡ reports_item name k
 reports_of_item name k = reported_item (without_spaces name) k.source (report_of k)

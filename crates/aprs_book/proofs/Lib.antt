@@ -7,7 +7,7 @@ mod Entries
 mod Searches
 mod EntryEnds
 mod MergedEntries
-pub mod Places
+pub mod Slots
 pub mod Taking
 pub mod Pushes
 pub mod Replays
@@ -19,7 +19,7 @@ mod Addressed
 pub mod Stations
 pub mod Collected
 pub mod Messages
-pub mod Replies
+pub mod GreatestAnswers
 pub mod Listings
 pub mod MessagesOfSets
 pub mod Things

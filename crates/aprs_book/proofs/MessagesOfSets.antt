@@ -18,19 +18,19 @@ use Rattle.aprs_book.specs.declared.lists.message_key.MessageKey.{MessageKey}
 use Rattle.aprs_book.specs.declared.lists.message_key.Span.{Span}
 use Rattle.aprs_book.specs.declared.lists.message_key.AnswerKey.{AnswerKey}
 use Rattle.aprs_book.specs.Messages.{Message, message_cmp, ReportsIt, AnswersIt, StandsBy, shown_message, IsMessageRow, AreMessages, IsListedBefore, ReportsMessages}
-use Rattle.aprs_book.specs.MessageRows.{message_of, Answer, answer_of, IsReply, AreSpans, AreReplies, IsFor, ReportsAnswer, StateFrom, IsListed, Zipped, IsKeyBefore}
+use Rattle.aprs_book.specs.MessageRows.{message_of, Answer, answer_of, GivesAnswer, AreSpans, AreAnswers, IsFor, ReportsAnswer, StateFrom, IsRowOfMessage, Zipped, IsKeyBefore}
 use Rattle.aprs_book.proofs.Listings.{in_zip_right, in_zip_left}
 
 -- what a key answers
 answer_at : (m : Message) (id : List ℕ) (k : Key) → AnswersIt m id k
-    → IsReply (record { source = m.source; addressee = k.source; id = id }) k
+    → GivesAnswer (record { source = m.source; addressee = k.source; id = id }) k
     × IsFor m id (record { source = m.source; addressee = k.source; id = id })
 answer_at m id k h = (
   record { addressee = h.addressee; sender = refl; to = h.to; answer = h.answer },
   record { source = refl; addressee = h.sender; same_id = refl },
 )
 
-answers_by : (m : Message) (a : Answer) (k : Key) (id : List ℕ) → IsFor m id a → IsReply a k
+answers_by : (m : Message) (a : Answer) (k : Key) (id : List ℕ) → IsFor m id a → GivesAnswer a k
     → AnswersIt m id k
 answers_by m a k id f r =
     subst (λ (i : List ℕ). AnswersIt m i k) f.same_id (record {
@@ -41,7 +41,7 @@ answers_by m a k id f r =
     })
 
 module _ (gap : ℕ) (S : List Heard) (rows : List Row) (b : BookOf gap S rows) where
-  module _ (es : List (AnswerKey × Heard)) (c : AreReplies rows es) (m : Message)
+  module _ (es : List (AnswerKey × Heard)) (c : AreAnswers rows es) (m : Message)
       (id : List ℕ) where
     pub answer_known : (answer : Option Heard) → ReportsAnswer es m id answer
         → LastKnown S (AnswersIt m id) answer
@@ -60,21 +60,21 @@ module _ (gap : ℕ) (S : List Heard) (rows : List Row) (b : BookOf gap S rows) 
         (λ y h k. let a = answer_at m id (row_key y) k in
         subst (IsUpTo heard_cmp y.greatest) (sym x.3)
         (r.greatest y h
-        (subst (λ (q : Answer). IsReply q (row_key y))
+        (subst (λ (q : Answer). GivesAnswer q (row_key y))
         (t.3 (record { source = m.source; addressee = (row_key y).source; id = id }) a.1) a.0))))
 
-  stands : (es : List (AnswerKey × Heard)) → AreReplies rows es → (m : Message) (first : ℕ)
+  stands : (es : List (AnswerKey × Heard)) → AreAnswers rows es → (m : Message) (first : ℕ)
       (id : Option (List ℕ)) (state : MessageState) → StateFrom es m first id state
       → StandsBy S m first id state
   stands es c m first None state h = h
   stands es c m first (Some id) state h = (h.0, answer_known es c m id h.0 h.1, h.2)
 
   module _ (es : List (MessageKey × Span)) (rs : List (AnswerKey × Heard)) (xs : List MessageRow)
-      (cs : AreSpans rows es) (ca : AreReplies rows rs) (o : Ordered IsKeyBefore es)
-      (z : Zipped (IsListed rs) es xs) where
+      (cs : AreSpans rows es) (ca : AreAnswers rows rs) (o : Ordered IsKeyBefore es)
+      (z : Zipped (IsRowOfMessage rs) es xs) where
     each_row : (x : MessageRow) → x ∈ xs → IsMessageRow S x
     each_row x h =
-        let e = in_zip_right (IsListed rs) es xs x z h in
+        let e = in_zip_right (IsRowOfMessage rs) es xs x z h in
         let s = cs.each e.0 e.1 in
         record {
           first =
@@ -96,7 +96,7 @@ module _ (gap : ℕ) (S : List Heard) (rows : List Row) (b : BookOf gap S rows) 
     sent : (m : Message) → (x : MessageRow) × (x ∈ xs) × (shown_message x ≡ m)
         → (s : Heard) × (s ∈ S) × ReportsIt m (key_of s.frame)
     sent m h =
-        let e = in_zip_right (IsListed rs) es xs h.0 z h.1 in
+        let e = in_zip_right (IsRowOfMessage rs) es xs h.0 z h.1 in
         let r = (cs.each e.0 e.1).first.row in (
           r.0.greatest,
           ((b.exactly r.0).0 r.1).member,
@@ -108,7 +108,7 @@ module _ (gap : ℕ) (S : List Heard) (rows : List Row) (b : BookOf gap S rows) 
     listed_there m h =
         let y = a_row gap S rows b h.0 h.1 in
         let e = cs.every y.0 y.1 m (subst (ReportsIt m) y.2.key h.2) in
-        let x = in_zip_left (IsListed rs) es xs e.0 z e.1 in
+        let x = in_zip_left (IsRowOfMessage rs) es xs e.0 z e.1 in
         (x.0, x.1, x.2.message ∙ e.2)
 
     pub messages_of_set : AreMessages S xs
@@ -117,13 +117,13 @@ module _ (gap : ℕ) (S : List Heard) (rows : List Row) (b : BookOf gap S rows) 
       messages = λ m. (sent m, listed_there m);
       each = each_row;
     } where
-      in_order : (es : List (MessageKey × Span)) (xs : List MessageRow) → Zipped (IsListed rs) es xs
+      in_order : (es : List (MessageKey × Span)) (xs : List MessageRow) → Zipped (IsRowOfMessage rs) es xs
           → Ordered IsKeyBefore es → Ordered IsListedBefore xs
       in_order [] [] z o = tt
       in_order [] (x ∷ xs) z o = absurd z
       in_order (e ∷ es) [] z o = absurd z
       in_order (e ∷ es) (x ∷ xs) z o = (
-        λ y h. (let f = in_zip_right (IsListed rs) es xs y z.1 h in
+        λ y h. (let f = in_zip_right (IsRowOfMessage rs) es xs y z.1 h in
             subst (λ (m : Message). IsBelow message_cmp m (shown_message y)) (sym z.0.message)
             (subst (λ (m : Message). IsBelow message_cmp (message_of e.0) m) (sym f.2.message)
             (o.0 f.0 f.1))),
@@ -133,11 +133,11 @@ module _ (gap : ℕ) (S : List Heard) (rows : List Row) (b : BookOf gap S rows) 
 pub messages_of_book : {E : Type 0} (gap : ℕ) (A : Type 0) (items : A → List MessageRow)
     (r : Result A E)
     (kept again rows : List Row) (es : List (MessageKey × Span)) (rs : List (AnswerKey × Heard))
-    → kept ≡ rows → again ≡ rows → AreSpans kept es → AreReplies again rs → Ordered IsKeyBefore es
-    → IfOk r (λ v. Zipped (IsListed rs) es (items v))
+    → kept ≡ rows → again ≡ rows → AreSpans kept es → AreAnswers again rs → Ordered IsKeyBefore es
+    → IfOk r (λ v. Zipped (IsRowOfMessage rs) es (items v))
     → IfOk r (λ v. ReportsMessages gap rows (items v))
 messages_of_book gap A items (Ok v) kept again rows es rs e f cs cr o z = λ S b.
     messages_of_set gap S rows b es rs (items v)
     (subst (λ (t : List Row). AreSpans t es) e cs)
-    (subst (λ (t : List Row). AreReplies t rs) f cr) o z
+    (subst (λ (t : List Row). AreAnswers t rs) f cr) o z
 messages_of_book gap A items (Err q) kept again rows es rs e f cs cr o z = tt

@@ -6,7 +6,7 @@ use Rattle.aprs_laws.specs.JoinRow.{greater}
 use Rattle.aprs_laws.specs.Best.{LastKnown, greater_known}
 use Rattle.aprs_laws.specs.BestLaws.{Passes}
 use Rattle.aprs_laws.proofs.Joins.{greatest_laws, is_greater_of}
-use Rattle.aprs_book.specs.Known.{Topic, is_reported, reported_in, reports_at, greatest_of}
+use Rattle.aprs_book.specs.Known.{Topic, has_bytes, topic_bytes, is_report_on, greatest_of}
 use Rattle.aprs_book.proofs.IndexSteps.{pushes_note}
 
 -- the greatest of three
@@ -26,45 +26,45 @@ one_more true k x y = ap Some (greater_three k x y)
 one_more false k x y = refl
 
 module _ (rows : List Row) (r : Row) (topic : Topic) (bytes : List ℕ) (o : Option (List ℕ))
-    (same : o ≡ reported_in topic (row_key r)) (k : Option Heard) where
+    (same : o ≡ topic_bytes topic (row_key r)) (k : Option Heard) where
   -- a row that reports on what the last ones do
   pub run_grows : (x : Heard)
-      → LastKnown (map greatest_of rows) (Passes (reports_at (reported_in topic) bytes))
-      (if is_reported bytes o then Some (greater_known k x) else k)
+      → LastKnown (map greatest_of rows) (Passes (is_report_on (topic_bytes topic) bytes))
+      (if has_bytes bytes o then Some (greater_known k x) else k)
       → LastKnown (map greatest_of (rows ++ r ∷ []))
-      (Passes (reports_at (reported_in topic) bytes))
-      (if is_reported bytes o then Some (greater_known k (greater x r.greatest)) else k)
+      (Passes (is_report_on (topic_bytes topic) bytes))
+      (if has_bytes bytes o then Some (greater_known k (greater x r.greatest)) else k)
   run_grows x h =
-      let before = if is_reported bytes o then Some (greater_known k x) else k in
+      let before = if has_bytes bytes o then Some (greater_known k x) else k in
       subst (LastKnown (map greatest_of (rows ++ r ∷ []))
-      (Passes (reports_at (reported_in topic) bytes)))
-      (ap (λ p. if is_reported bytes p then Some (greater_known before r.greatest) else before)
+      (Passes (is_report_on (topic_bytes topic) bytes)))
+      (ap (λ p. if has_bytes bytes p then Some (greater_known before r.greatest) else before)
       (sym same)
-      ∙ one_more (is_reported bytes o) k x r.greatest)
-      (pushes_note rows r (reports_at (reported_in topic) bytes) before h)
+      ∙ one_more (has_bytes bytes o) k x r.greatest)
+      (pushes_note rows r (is_report_on (topic_bytes topic) bytes) before h)
 
   -- a row that reports on nothing
   pub run_stays : o ≡ None
-      → LastKnown (map greatest_of rows) (Passes (reports_at (reported_in topic) bytes)) k
+      → LastKnown (map greatest_of rows) (Passes (is_report_on (topic_bytes topic) bytes)) k
       → LastKnown (map greatest_of (rows ++ r ∷ []))
-      (Passes (reports_at (reported_in topic) bytes)) k
+      (Passes (is_report_on (topic_bytes topic) bytes)) k
   run_stays none h =
       subst (LastKnown (map greatest_of (rows ++ r ∷ []))
-      (Passes (reports_at (reported_in topic) bytes)))
-      (ap (λ p. if is_reported bytes p then Some (greater_known k r.greatest) else k)
+      (Passes (is_report_on (topic_bytes topic) bytes)))
+      (ap (λ p. if has_bytes bytes p then Some (greater_known k r.greatest) else k)
       (sym same ∙ none))
-      (pushes_note rows r (reports_at (reported_in topic) bytes) k h)
+      (pushes_note rows r (is_report_on (topic_bytes topic) bytes) k h)
 
   -- a row that reports on something else
   pub run_begins : (x : Heard) → x ≡ r.greatest → (was : Option Heard) → k ≡ was
-      → LastKnown (map greatest_of rows) (Passes (reports_at (reported_in topic) bytes)) was
+      → LastKnown (map greatest_of rows) (Passes (is_report_on (topic_bytes topic) bytes)) was
       → LastKnown (map greatest_of (rows ++ r ∷ []))
-      (Passes (reports_at (reported_in topic) bytes))
-      (if is_reported bytes o then Some (greater_known k x) else k)
+      (Passes (is_report_on (topic_bytes topic) bytes))
+      (if has_bytes bytes o then Some (greater_known k x) else k)
   run_begins x is was e h =
-      let P = Passes (reports_at (reported_in topic) bytes) in
+      let P = Passes (is_report_on (topic_bytes topic) bytes) in
       subst (LastKnown (map greatest_of (rows ++ r ∷ [])) P)
-      (ap (λ p. if is_reported bytes p then Some (greater_known k r.greatest) else k) (sym same)
-      ∙ ap (λ (y : Heard). if is_reported bytes o then Some (greater_known k y) else k) (sym is))
-      (pushes_note rows r (reports_at (reported_in topic) bytes) k
+      (ap (λ p. if has_bytes bytes p then Some (greater_known k r.greatest) else k) (sym same)
+      ∙ ap (λ (y : Heard). if has_bytes bytes o then Some (greater_known k y) else k) (sym is))
+      (pushes_note rows r (is_report_on (topic_bytes topic) bytes) k
       (subst (LastKnown (map greatest_of rows) P) (sym e) h))

@@ -11,7 +11,7 @@ use Rattle.aprs_laws.specs.Sound.{ComesAfter}
 use Rattle.aprs_laws.proofs.Pushes.{empty_or_last}
 use Rattle.aprs_rows.specs.Refusal.{is_of_last, is_out_of_order, is_too_near, is_ascending, is_same_name, refusal}
 use Rattle.aprs_rows.proofs.Refusals.{last_after, first_of, refused_first, free_of_none, next_of_free}
-use Rattle.aprs_book.specs.Keyed.{EndsUpTo, IsEndOf}
+use Rattle.aprs_book.specs.Keyed.{LastKeyIsUpTo, IsEndOf}
 
 same_last : (end all : List Row) → IsEndOf end all → last_or None end ≡ last_or None all
 same_last end all e = elim (empty_or_last end) [
@@ -41,7 +41,7 @@ up_first Greater p h = absurd (cc)
 
 -- what isn't refused has a key not below that of the last row
 pub none_ends_up_to : (gap : ℕ) (rows : List Row) (x : Row) → None ≡ refusal gap rows x
-    → EndsUpTo x rows
+    → LastKeyIsUpTo x rows
 none_ends_up_to gap rows x h prefix l e =
     up_first (key_cmp (row_key l) (row_key x)) _
     (ap (λ o. not (is_lt o))

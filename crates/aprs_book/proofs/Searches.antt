@@ -21,12 +21,12 @@ use Rattle.aprs_laws.proofs.Lists.{in_right}
 use Rattle.aprs_laws.proofs.Rows.{IsBefore, before_trans, place_means}
 use Rattle.aprs_laws.proofs.Parts.{place_before}
 use Rattle.aprs_laws.proofs.Pushes.{IsSound, one_relation, sound_prefix}
-use Rattle.aprs_book.proofs.Places.{here, two_at, one_at, alone_end, alone_next}
+use Rattle.aprs_book.proofs.Slots.{here, two_at, one_at, alone_end, alone_next}
 use Rattle.aprs_rows.proofs.Cases.{by_order}
 use Rattle.aprs_rows.specs.HeadSteps.{head_cmp}
 use Rattle.aprs_rows.specs.declared.row.head.Head.{Head}
 use Rattle.aprs_book.proofs.Entries.{test}
-use Rattle.aprs_book.specs.Places.{IsNewAt, GrowsAt, BridgesAt}
+use Rattle.aprs_book.specs.Slots.{IsNewAt, GrowsAt, BridgesAt}
 use Rattle.aprs_book.specs.Keyed.{rows_of}
 
 in_get : {X : Type 0} (xs : List X) (i : ℕ) (d : X) → i < length xs → get_or xs i d ∈ xs

@@ -21,7 +21,7 @@ use Rattle.aprs_book.specs.declared.lists.named.Named.{Named}
 use Rattle.aprs_book.specs.Reports.{report_of}
 use Rattle.aprs_book.specs.Names.{Thing, reported_thing, thing_cmp, ReportsOf, shown_thing, IsNamedBefore, AreNamed, ReportsNamed}
 use Rattle.aprs_book.specs.NamedRows.{shown_report, report_in, reports_in}
-use Rattle.aprs_book.specs.Known.{Entries, FourIndexes, Topic, objects, items, index_of, entry_at, entry_known, known_at, is_reported, reports_at, reported_by, reported_in, IsEntryBefore, AreIndexesOf}
+use Rattle.aprs_book.specs.Known.{Entries, FourIndexes, Topic, objects, items, index_of, entry_at, entry_known, known_at, has_bytes, is_report_on, report_bytes, topic_bytes, IsEntryBefore, AreIndexesOf}
 use Rattle.aprs_book.proofs.Collected.{found, absent, one_entry}
 use Rattle.aprs_book.proofs.IndexSteps.{entry_reports}
 use Rattle.aprs_rows.proofs.Cases.{by_order}
@@ -68,7 +68,7 @@ is_itself : (t : Thing) (o : Option Thing) → o ≡ Some t → is_that t o ≡ 
 is_itself t o e = ap (is_that t) e ∙ ap is_eq (tied_itself thing_total t)
 
 reported_alike : (is_item : Bool) (name : List ℕ) (call : Call) (v : Value)
-    → is_reported name (reported_by (topic_of is_item) call v) ≡ is_that (thing is_item name)
+    → has_bytes name (report_bytes (topic_of is_item) call v) ≡ is_that (thing is_item name)
     (reported_thing v)
 reported_alike false name call (position messaging stamp place symbol comment) = refl
 reported_alike false name call (object other live stamp place symbol comment) = refl
@@ -89,7 +89,7 @@ reported_alike true name call raw = refl
 
 -- what the index of objects or of items goes by
 abbrev reports_thing : Thing → Key → Bool
-reports_thing t = reports_at (reported_in (topic_of t.is_item)) t.name
+reports_thing t = is_report_on (topic_bytes (topic_of t.is_item)) t.name
 
 reports_of : (t : Thing) (k : Key) → IsTrue (reports_thing t k) → ReportsOf t k
 reports_of t k h =

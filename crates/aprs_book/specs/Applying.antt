@@ -6,17 +6,17 @@ use Rattle.aprs_book.specs.Replay.{HoldsUnder, empty_book}
 use Rattle.aprs_book.specs.declared.steps.Step.{Step}
 use Rattle.aprs_book.specs.declared.steps.Step.TheVariants.{Take, Merge}
 
--- whatever set the old book holds, the new one holds that set and x
+-- Whatever set the old book holds, the new one holds that set and x.
 abbrev pub TakesUnder : ℕ → BookValue → Heard → BookValue → Type 0
 TakesUnder gap old x new =
     (S : List Heard) → HoldsUnder gap S old → HoldsUnder gap (S ++ x ∷ []) new
 
--- whatever sets the books hold, `both` holds them together
+-- Whatever sets the books hold, `both` holds them together.
 abbrev pub MergesUnder : ℕ → BookValue → BookValue → BookValue → Type 0
 MergesUnder gap a b both =
     (S T : List Heard) → HoldsUnder gap S a → HoldsUnder gap T b → HoldsUnder gap (S ++ T) both
 
--- one place has a new book, which has taken what the step says
+-- One place has a new book, which has taken what the step says.
 abbrev pub IsApplied : ℕ → Step → List BookValue → List BookValue → Type 0
 IsApplied gap (Take i x) old new =
     (book : BookValue) × TakesUnder gap (get_or old i (empty_book gap)) x book
@@ -26,6 +26,6 @@ IsApplied gap (Merge i j) old new =
     × MergesUnder gap (get_or old i (empty_book gap)) (get_or old j (empty_book gap)) book
     × (new ≡ slice_set old i book)
 
--- all books have this gap
-abbrev pub AreUnder : ℕ → List BookValue → Type 0
-AreUnder gap books = (i : ℕ) → (get_or books i (empty_book gap)).gap ≡ gap
+-- All books have this gap.
+abbrev pub AllHaveGap : ℕ → List BookValue → Type 0
+AllHaveGap gap books = (i : ℕ) → (get_or books i (empty_book gap)).gap ≡ gap

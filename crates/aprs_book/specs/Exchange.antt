@@ -1,10 +1,11 @@
--- When messages were reported, and how they were answered, by key. No public clause cites this module.
+-- When messages were reported, and how they were answered, by key. No public clause cites this
+-- module.
 use Rattle.std.specs.Prelude.{List}
 use Rattle.aprs_laws.specs.Row.{Row}
 use Rattle.aprs_book.specs.declared.lists.exchange.Exchange.{Exchange}
-use Rattle.aprs_book.specs.MessageRows.{AreReplies, AreSpans}
+use Rattle.aprs_book.specs.MessageRows.{AreAnswers, AreSpans}
 
--- one span for each message of the rows, and one greatest reception for each of their answers
+-- One span for each message of the rows, and one greatest reception for each of their answers.
 pub record IsExchangeOf {A : Type 0} (rows : List Row) (e : Exchange A) : Type 0 where
   pub spans : AreSpans rows e.spans.entries
-  pub answers : AreReplies rows e.answers.entries
+  pub answers : AreAnswers rows e.answers.entries

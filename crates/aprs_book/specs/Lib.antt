@@ -3,7 +3,7 @@ pub mod Keyed
 pub mod Known
 pub mod Shown
 pub mod Notes
-pub mod Places
+pub mod Slots
 pub mod Taking
 pub mod WithRows
 pub mod Replay
@@ -19,7 +19,7 @@ pub mod MessageRows
 pub mod Names
 pub mod NamedRows
 pub mod StationRows
--- what public clauses cite of lower crates
+-- What public clauses cite of lower crates.
 pub use Rattle.aprs_log.specs.Reception
 pub use Rattle.aprs_laws.specs.Lists
 pub use Rattle.aprs_laws.specs.Order

@@ -21,14 +21,14 @@ use Rattle.aprs_book.specs.declared.lists.message.MessageState.{MessageState}
 use Rattle.aprs_book.specs.declared.lists.message.MessageState.TheVariants.{Unnumbered}
 use Rattle.aprs_book.specs.Messages.{Message, ReportsIt, message_cmp, shown_message, state_by}
 
--- whether information begins with a colon, as that of messages and their answers does
+-- Whether information begins with a colon, as that of messages and their answers does.
 abbrev pub is_addressed : List ℕ → Bool
 is_addressed [] = false
 is_addressed (b ∷ bytes) = b == 58
 
 -- ---- spans
 
--- the message that a key of the code stands for
+-- The message that a key of the code stands for.
 abbrev pub message_of : MessageKey → Message
 message_of x = record {
   source = x.source;
@@ -37,52 +37,52 @@ message_of x = record {
   id = option_map (λ y. y.now) x.id;
 }
 
--- from the first to the last moment of a row
+-- From the first to the last moment of a row.
 abbrev pub span_of : Row → Span
 span_of x = record { first = x.first; last = last_of x }
 
--- a span, if there is one, with that of one more row
+-- A span, if there is one, with that of one more row.
 abbrev pub span_with : Option Span → Span → Span
 span_with None t = t
 span_with (Some s) t = record { first = min s.first t.first; last = max s.last t.last }
 
--- from the least first to the greatest last moment of the rows
+-- From the least first to the greatest last moment of the rows.
 pub record IsSpan (rows : List Row) (m : Message) (s : Span) : Type 0 where
   pub first : IsLeastFirst rows (ReportsIt m) s.first
   pub last : IsGreatestLast rows (ReportsIt m) s.last
 
 -- ---- answers
 
--- the addressee and the id of an answer
+-- The addressee and the id of an answer.
 abbrev pub reported_answer : Value → Option (List ℕ × List ℕ)
 reported_answer (ack addressee id) = Some (addressee, id)
 reported_answer (rej addressee id) = Some (addressee, id)
 reported_answer v = None
 
--- whose message is answered, who answers, and the id
+-- Whose message is answered, who answers, and the id.
 pub record Answer : Type 0 where
   pub source : Call
   pub addressee : Call
   pub id : List ℕ
 
--- the answer that a key of the code stands for
+-- The answer that a key of the code stands for.
 abbrev pub answer_of : AnswerKey → Answer
 answer_of x = record { source = x.source; addressee = x.addressee; id = x.id.now }
 
--- a key that answers so: who answers sent it to the station whose message it is, and it
--- acknowledges or rejects the id
-pub record IsReply (a : Answer) (k : Key) : Type 0 where
+-- A key that gives this answer: who answers sent it to the station whose message it is, and it
+-- acknowledges or rejects the id.
+pub record GivesAnswer (a : Answer) (k : Key) : Type 0 where
   pub addressee : List ℕ
   pub sender : k.source ≡ a.addressee
   pub to : CallText a.source addressee
   pub answer : (report_of k ≡ ack addressee a.id) ⊎ (report_of k ≡ rej addressee a.id)
 
--- g is the greatest of the greatest receptions of the rows that answer
-pub record IsGreatestReply (rows : List Row) (a : Answer) (g : Heard) : Type 0 where
-  pub row : (x : Row) × (x ∈ rows) × IsReply a (row_key x) × (x.greatest ≡ g)
-  pub greatest : (x : Row) → x ∈ rows → IsReply a (row_key x) → IsUpTo heard_cmp x.greatest g
+-- g is the greatest of the greatest receptions of the rows that answer.
+pub record IsGreatestAnswer (rows : List Row) (a : Answer) (g : Heard) : Type 0 where
+  pub row : (x : Row) × (x ∈ rows) × GivesAnswer a (row_key x) × (x.greatest ≡ g)
+  pub greatest : (x : Row) → x ∈ rows → GivesAnswer a (row_key x) → IsUpTo heard_cmp x.greatest g
 
--- by the station whose message it is, the one that answers, and the id
+-- By the station whose message it is, the one that answers, and the id.
 abbrev pub answer_cmp : Answer → Answer → Ordering
 answer_cmp = then_cmp (on (λ a. a.source) call_cmp)
     (then_cmp (on (λ a. a.addressee) call_cmp) (on (λ a. a.id) bytes_cmp))
@@ -97,23 +97,23 @@ pub record IsCollected {K V M : Type 0} (shown : K → M) (P : M → Key → Typ
   pub every : (x : Row) → x ∈ rows → (m : M) → P m (row_key x)
       → (e : K × V) × (e ∈ entries) × (shown e.0 ≡ m)
 
--- one span for each message of the rows
+-- One span for each message of the rows.
 abbrev pub AreSpans : List Row → List (MessageKey × Span) → Type 0
 AreSpans rows entries = IsCollected message_of ReportsIt IsSpan rows entries
 
--- one greatest reception for each answer of the rows
-abbrev pub AreReplies : List Row → List (AnswerKey × Heard) → Type 0
-AreReplies rows entries = IsCollected answer_of IsReply IsGreatestReply rows entries
+-- One greatest reception for each answer of the rows.
+abbrev pub AreAnswers : List Row → List (AnswerKey × Heard) → Type 0
+AreAnswers rows entries = IsCollected answer_of GivesAnswer IsGreatestAnswer rows entries
 
 -- ---- rows of the listing
 
--- an answer that is one to this id of a message
+-- An answer that is one to this id of a message.
 pub record IsFor (m : Message) (id : List ℕ) (a : Answer) : Type 0 where
   pub source : a.source ≡ m.source
   pub addressee : CallText a.addressee m.addressee
   pub same_id : a.id ≡ id
 
--- the greatest answer among the entries, or none
+-- The greatest answer among the entries, or none.
 abbrev pub ReportsAnswer : List (AnswerKey × Heard) → Message → List ℕ → Option Heard → Type 0
 ReportsAnswer entries m id None =
     (e : AnswerKey × Heard) → e ∈ entries → IsFor m id (answer_of e.0) → ⊥
@@ -121,28 +121,28 @@ ReportsAnswer entries m id (Some g) =
     (e : AnswerKey × Heard) × (e ∈ entries) × IsFor m id (answer_of e.0)
     × ((a : Answer) → IsFor m id a → a ≡ answer_of e.0) × (e.1 ≡ g)
 
--- the state of a message of this first moment and id, by the greatest answer among the entries
+-- The state of a message of this first moment and id, by the greatest answer among the entries.
 abbrev pub StateFrom : List (AnswerKey × Heard) → Message → ℕ → Option (List ℕ) → MessageState
     → Type 0
 StateFrom entries m first None state = state ≡ Unnumbered
 StateFrom entries m first (Some id) state =
     (answer : Option Heard) × ReportsAnswer entries m id answer × (state ≡ state_by first answer)
 
--- the row of a message and its span
-pub record IsListed (entries : List (AnswerKey × Heard)) (e : MessageKey × Span) (x : MessageRow) :
-    Type 0 where
+-- The row of a message and its span.
+pub record IsRowOfMessage (entries : List (AnswerKey × Heard)) (e : MessageKey × Span)
+    (x : MessageRow) : Type 0 where
   pub message : shown_message x ≡ message_of e.0
   pub first : x.first ≡ e.1.first
   pub last : x.last ≡ e.1.last
   pub state : StateFrom entries (message_of e.0) e.1.first (message_of e.0).id x.state
 
--- each of the one list with its own of the other
+-- Each of the one list with its own of the other.
 abbrev pub Zipped : {X Y : Type 0} → (X → Y → Type 0) → List X → List Y → Type 0
 Zipped R [] [] = Unit {0}
 Zipped R [] (y ∷ ys) = ⊥
 Zipped R (x ∷ xs) [] = ⊥
 Zipped R (x ∷ xs) (y ∷ ys) = R x y × Zipped R xs ys
 
--- the one's message is below the other's
+-- The one's message is below the other's.
 abbrev pub IsKeyBefore : MessageKey × Span → MessageKey × Span → Type 0
 IsKeyBefore a b = IsBelow message_cmp (message_of a.0) (message_of b.0)

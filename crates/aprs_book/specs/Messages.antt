@@ -19,29 +19,29 @@ use Rattle.aprs_book.specs.declared.lists.message.MessageState.{MessageState}
 use Rattle.aprs_book.specs.declared.lists.message.MessageState.TheVariants.{Unnumbered, Unanswered, Acknowledged, Rejected}
 use Rattle.aprs_book.specs.Reports.{report_of}
 
--- who sent it, to whom, its text, and its id or none: receptions that agree in these are of one
--- message
+-- Who sent it, to whom, its text, and its id or none: receptions that agree in these are of one
+-- message.
 pub record Message : Type 0 where
   pub source : Call
   pub addressee : List ℕ
   pub text : List ℕ
   pub id : Option (List ℕ)
 
--- the message that a station sends by a report, if it is one
+-- The message that a station sends by a report, if it is one.
 abbrev pub reported_message : Call → Value → Option Message
 reported_message from (message addressee text id) =
     Some (record { source = from; addressee = addressee; text = text; id = id })
 reported_message from v = None
 
--- the message that a key reports, or none
+-- The message that a key reports, or none.
 abbrev pub message_in : Key → Option Message
 message_in k = reported_message k.source (report_of k)
 
--- a key that reports this message
+-- A key that reports this message.
 abbrev pub ReportsIt : Message → Key → Type 0
 ReportsIt m k = message_in k ≡ Some m
 
--- by source, addressee, text, then id, where none comes before any
+-- By source, addressee, text, then id, where none comes before any.
 abbrev pub message_cmp : Message → Message → Ordering
 message_cmp = then_cmp (on (λ m. m.source) call_cmp)
     (then_cmp (on (λ m. m.addressee) bytes_cmp)
@@ -57,18 +57,18 @@ pub record AnswersIt (m : Message) (id : List ℕ) (k : Key) : Type 0 where
   pub to : CallText m.source addressee
   pub answer : (report_of k ≡ ack addressee id) ⊎ (report_of k ≡ rej addressee id)
 
--- a rejection rejects, and an acknowledgement acknowledges
+-- A rejection rejects, and an acknowledgement acknowledges.
 abbrev pub reported_state : Value → MessageState
 reported_state (rej addressee id) = Rejected
 reported_state v = Acknowledged
 
--- by the greatest answer, which counts from the message's first moment on
+-- By the greatest answer, which counts from the message's first moment on.
 abbrev pub state_by : ℕ → Option Heard → MessageState
 state_by first None = Unanswered
 state_by first (Some a) =
     if nat_lt a.moment first then Unanswered else reported_state (report_of (key_of a.frame))
 
--- a message of no id can't be answered
+-- A message of no id can't be answered.
 abbrev pub StandsBy : List Heard → Message → ℕ → Option (List ℕ) → MessageState → Type 0
 StandsBy S m first None state = state ≡ Unnumbered
 StandsBy S m first (Some id) state =
@@ -76,7 +76,7 @@ StandsBy S m first (Some id) state =
 
 -- ---- all messages
 
--- the message of a row of the list
+-- The message of a row of the list.
 abbrev pub shown_message : MessageRow → Message
 shown_message x = record {
   source = x.source;
@@ -85,27 +85,27 @@ shown_message x = record {
   id = option_map (λ y. y.now) x.id;
 }
 
--- S has a reception of this message
+-- S has a reception of this message.
 abbrev pub IsSent : List Heard → Message → Type 0
 IsSent S m = (s : Heard) × (s ∈ S) × ReportsIt m (key_of s.frame)
 
--- the one's message is below the other's
+-- The one's message is below the other's.
 abbrev pub IsListedBefore : MessageRow → MessageRow → Type 0
 IsListedBefore x y = IsBelow message_cmp (shown_message x) (shown_message y)
 
--- from its first to its last reception in S, and what came of it in S
+-- From its first to its last reception in S, and what came of it in S.
 pub record IsMessageRow (S : List Heard) (x : MessageRow) : Type 0 where
   pub first : IsFirstMoment S (ReportsIt (shown_message x)) x.first
   pub last : IsLastMoment S (ReportsIt (shown_message x)) x.last
   pub state : StandsBy S (shown_message x) x.first (shown_message x).id x.state
 
--- one for each message in S, in order
+-- One for each message in S, in order.
 pub record AreMessages (S : List Heard) (xs : List MessageRow) : Type 0 where
   pub ascending : Ordered IsListedBefore xs
   pub messages : (m : Message)
       → ((x : MessageRow) × (x ∈ xs) × (shown_message x ≡ m)) ↔ IsSent S m
   pub each : (x : MessageRow) → x ∈ xs → IsMessageRow S x
 
--- whatever set the rows are the book of, these are its messages
+-- Whatever set the rows are the book of, these are its messages.
 abbrev pub ReportsMessages : ℕ → List Row → List MessageRow → Type 0
 ReportsMessages gap rows xs = (S : List Heard) → BookOf gap S rows → AreMessages S xs

@@ -5,16 +5,16 @@ use Rattle.aprs_book.specs.declared.lists.named.Named.{Named}
 use Rattle.aprs_book.specs.Names.{Thing, shown_thing}
 use Rattle.aprs_book.specs.Known.{Entries}
 
--- an object or an item, and its last report
+-- An object or an item, and its last report.
 abbrev pub shown_report : Named → Thing × Heard
 shown_report x = (shown_thing x, x.heard)
 
--- what an entry of this name knows, if anything
+-- What an entry of this name knows, if anything.
 abbrev pub report_in : Bool → List ℕ → Option Heard → List (Thing × Heard)
 report_in is_item name None = []
 report_in is_item name (Some g) = (record { is_item = is_item; name = name }, g) ∷ []
 
--- what an index of objects or of items knows, in order
+-- What an index of objects or of items knows, in order.
 abbrev pub reports_in : Bool → Entries → List (Thing × Heard)
 reports_in is_item [] = []
 reports_in is_item (e ∷ es) = report_in is_item e.0 e.1 ++ reports_in is_item es

@@ -13,41 +13,41 @@ use Rattle.aprs_laws.specs.Best.{IsBest}
 use Rattle.aprs_book.specs.declared.lists.named.Named.{Named}
 use Rattle.aprs_book.specs.Reports.{report_of}
 
--- an object or an item, and its name: those of one name are two things
+-- An object or an item, and its name: those of one name are two things.
 pub record Thing : Type 0 where
   pub is_item : Bool
   pub name : List ℕ
 
--- the object or item that a report is of, if it is of one
+-- The object or item that a report is of, if it is of one.
 abbrev pub reported_thing : Value → Option Thing
 reported_thing (object name live stamp place symbol comment) =
     Some (record { is_item = false; name = name })
 reported_thing (item name live place symbol comment) = Some (record { is_item = true; name = name })
 reported_thing v = None
 
--- a key that reports this thing, live or killed, from any station
+-- A key that reports this thing, live or killed, from any station.
 abbrev pub ReportsOf : Thing → Key → Type 0
 ReportsOf t k = reported_thing (report_of k) ≡ Some t
 
--- objects by name, then items by name
+-- Objects by name, then items by name.
 abbrev pub thing_cmp : Thing → Thing → Ordering
 thing_cmp = then_cmp (on (λ t. t.is_item) bool_cmp) (on (λ t. t.name) bytes_cmp)
 
--- the object or item of a row of the list
+-- The object or item of a row of the list.
 abbrev pub shown_thing : Named → Thing
 shown_thing x = record { is_item = x.is_item; name = x.name.now }
 
--- the one's object or item is below the other's
+-- The one's object or item is below the other's.
 abbrev pub IsNamedBefore : Named → Named → Type 0
 IsNamedBefore x y = IsBelow thing_cmp (shown_thing x) (shown_thing y)
 
--- one for each thing that S has a report of, in order, with its greatest reception
+-- One for each thing that S has a report of, in order, with its greatest reception.
 pub record AreNamed (S : List Heard) (xs : List Named) : Type 0 where
   pub ascending : Ordered IsNamedBefore xs
   pub things : (t : Thing) → ((x : Named) × (x ∈ xs) × (shown_thing x ≡ t))
       ↔ ((s : Heard) × (s ∈ S) × ReportsOf t (key_of s.frame))
   pub each : (x : Named) → x ∈ xs → IsBest S (ReportsOf (shown_thing x)) x.heard
 
--- whatever set the rows are the book of, these are its objects and items
+-- Whatever set the rows are the book of, these are its objects and items.
 abbrev pub ReportsNamed : ℕ → List Row → List Named → Type 0
 ReportsNamed gap rows xs = (S : List Heard) → BookOf gap S rows → AreNamed S xs

@@ -6,18 +6,18 @@ use Rattle.aprs_laws.specs.Best.{LastKnown, greater_known}
 use Rattle.aprs_laws.specs.BestLaws.{Passes}
 use Rattle.aprs_book.specs.declared.known.notes.Notes.{Notes}
 use Rattle.aprs_book.specs.declared.known.notes.Run.{Run}
-use Rattle.aprs_book.specs.Known.{FourIndexes, Topic, index_of, is_reported, known_at, reported_at, reported_in, reports_at, greatest_of}
+use Rattle.aprs_book.specs.Known.{FourIndexes, Topic, index_of, has_bytes, known_at, subject_bytes, topic_bytes, is_report_on, greatest_of}
 
--- what the indexes know of what has these bytes, with what the last rows report
+-- What the indexes know of what has these bytes, with what the last rows report.
 abbrev pub known_with : Option Run → Topic → List ℕ → FourIndexes → Option Heard
 known_with None topic bytes indexes = known_at bytes (index_of topic indexes)
 known_with (Some run) topic bytes indexes =
-    if is_reported bytes (reported_at topic run.subject)
+    if has_bytes bytes (subject_bytes topic run.subject)
     then Some (greater_known (known_at bytes (index_of topic indexes)) run.greatest)
     else known_at bytes (index_of topic indexes)
 
--- whatever the rows report on, its greatest reception in them is noted
+-- Whatever the rows report on, its greatest reception in them is noted.
 abbrev pub AreNotesOf : {A : Type 0} → List Row → Notes A → Type 0
 AreNotesOf rows notes = (topic : Topic) (bytes : List ℕ)
-    → LastKnown (map greatest_of rows) (Passes (reports_at (reported_in topic) bytes))
+    → LastKnown (map greatest_of rows) (Passes (is_report_on (topic_bytes topic) bytes))
     (known_with notes.last topic bytes notes.indexes)

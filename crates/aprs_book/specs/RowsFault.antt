@@ -7,29 +7,29 @@ use Rattle.aprs_laws.specs.declared.row_cause.RowCause.{RowCause}
 use Rattle.aprs_laws.specs.declared.row_cause.RowCause.TheVariants.{Memory}
 use Rattle.aprs_book.specs.declared.from_parts.RowsFault.{RowsFault}
 
--- x isn't added after the rows: the cause refuses it, or nothing does and an allocation failed
+-- x isn't added after the rows: the cause refuses it, or nothing does and an allocation failed.
 abbrev pub IsRefusedFor : ℕ → List Row → Row → RowCause → Type 0
 IsRefusedFor gap rows x cause =
     (refusal gap rows x ≡ Some cause) ⊎ ((cause ≡ Memory) × (refusal gap rows x ≡ None))
 
--- the place is that of a row, the rows before it are sound, and it isn't added after them
+-- The place is that of a row, the rows before it are sound, and it isn't added after them.
 pub record IsRowsFault (gap : ℕ) (rows : List Row) (fault : RowsFault) : Type 0 where
   pub row : Row
   pub at_place : slice_get rows fault.place ≡ Some row
   pub sound : Sound gap (take fault.place rows)
   pub refused : IsRefusedFor gap (take fault.place rows) row fault.cause
 
--- rows that aren't sound have a fault that isn't of memory
+-- Rows that aren't sound have a fault that isn't of memory.
 abbrev pub AreSoundOrFaulty : ℕ → Type 0
 AreSoundOrFaulty gap = (rows : List Row)
     → Sound gap rows ⊎ ((f : RowsFault) × IsRowsFault gap rows f × (f.cause ≢ Memory))
 
--- and sound rows have none
+-- And sound rows have none.
 abbrev pub SoundRowsAreFaultless : ℕ → Type 0
 SoundRowsAreFaultless gap = (rows : List Row) (f : RowsFault)
     → Sound gap rows → IsRowsFault gap rows f → f.cause ≡ Memory
 
--- rows have one such fault at most, and any other is of memory, before it
+-- Rows have one such fault at most, and any other is of memory, before it.
 abbrev pub HaveOneRowsFault : ℕ → Type 0
 HaveOneRowsFault gap = (rows : List Row) (f g : RowsFault)
     → IsRowsFault gap rows f → f.cause ≢ Memory → IsRowsFault gap rows g

@@ -9,7 +9,7 @@ use Rattle.aprs_book.specs.Exchange.{IsExchangeOf}
 use Rattle.aprs_book.specs.Notes.{AreNotesOf}
 use Rattle.aprs_book.specs.StationRows.{AreTallies}
 
--- what the rows report, how many each station has, and what they say of messages
+-- What the rows report, how many each station has, and what they say of messages.
 pub record IsSurveyOf {A : Type 0} (rows : List Row) (s : Survey A) : Type 0 where
   pub notes : AreNotesOf rows s.notes
   pub tallies : AreTallies rows s.tallies

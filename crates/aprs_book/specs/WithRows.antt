@@ -4,14 +4,14 @@ use Rattle.std.specs.Prelude.{ℕ, ◌≡◌, ◌<◌, ◌-◌, List, [], ◌∷
 use Rattle.std.specs.declared.cmp.Ordering.TheVariants.{Equal}
 use Rattle.aprs_laws.specs.Row.{Row}
 use Rattle.aprs_laws.specs.JoinRow.{place}
-use Rattle.aprs_laws.specs.Coalescing.{append_row}
+use Rattle.aprs_laws.specs.Coalescing.{append_or_join}
 
--- all of the second list after the first
+-- All of the second list after the first.
 abbrev pub with_rows : ℕ → List Row → List Row → List Row
 with_rows gap rows [] = rows
-with_rows gap rows (r ∷ more) = with_rows gap (append_row gap rows r) more
+with_rows gap rows (r ∷ more) = with_rows gap (append_or_join gap rows r) more
 
--- there is a last row, and it is near to r
+-- There is a last row, and it is near to r.
 pub record IsNearLast (gap : ℕ) (rows : List Row) (r : Row) : Type 0 where
   pub some : 0 < length rows
   pub near : (l : Row) → l ≡ get_or rows (length rows - 1) l → place gap l r ≡ Equal

@@ -29,7 +29,7 @@ use Rattle.aprs_booktext.specs.FirstFault.{FirstFault, is_end}
 use Rattle.aprs_booktext.specs.Law.{IsBookText}
 use Rattle.aprs_booktext.specs.Lines.{Lacks, pieces}
 use Rattle.aprs_io.specs.Cut.{is_byte}
-use Rattle.aprs_booktext.specs.Reader.{IsJudgedIn, StandsAfter, is_done, line_number, may_end}
+use Rattle.aprs_booktext.specs.Reader.{JudgesLine, StandsAfter, is_done, line_number, may_end}
 use Rattle.aprs_booktext.specs.RowFields.{SpellsBytes}
 use Rattle.aprs_booktext.specs.Text.{row_line, end_line, lines_of, book_text, most_frame_bytes, IsSpelled, IsBookRow}
 use Rattle.aprs_booktext.specs.Version.{form_of, gap_of, header_of}
@@ -235,7 +235,7 @@ by_fields form line (a ∷ b ∷ c ∷ d ∷ e ∷ f ∷ g ∷ ps) is =
 pub record Judged (stage : Stage) (rows : List Row) (line : List ℕ) : Type 0 where
   pub result : Result Stage BookCause
   pub new : List Row
-  pub judged : IsJudgedIn stage result rows line new
+  pub judged : JudgesLine stage result rows line new
   pub known : result ≢ Err cause.Memory
 
 five : (a b c d e : Bool) → cond a (Some row.Order)
@@ -534,7 +534,7 @@ step e rest stage rows t going s next = elim (cut_text rest) [
   shorter c = let l = length-append c.line (10 ∷ c.more) in omega (arith, l, ap length c.is)
 
   whole : (c : CutsLine rest) (r : Result Stage BookCause) (new : List Row)
-      → StandsAfter stage rows c.line (t ++ c.line) → IsJudgedIn stage r rows c.line new
+      → StandsAfter stage rows c.line (t ++ c.line) → JudgesLine stage r rows c.line new
       → r ≢ Err cause.Memory → Found (t ++ rest) e
   whole c (Ok after) new stands judged known =
       subst (λ l. Found l e) (append_assoc (t ++ c.line) (10 ∷ []) c.more ∙ text_is c)

@@ -16,7 +16,7 @@ use Rattle.aprs_booktext.proofs.Cuts.{lacks_append}
 use Rattle.aprs_rows.specs.Refusal.{refusal}
 use Rattle.aprs_rows.proofs.Refusals.{none_exactly}
 use Rattle.aprs_booktext.specs.FirstFault.{FirstFault}
-use Rattle.aprs_booktext.specs.Reader.{HoldsIn, StandsAfter, IsFault, IsJudgedIn, HasRows, HasRowsSo, gap_in, is_done, line_number, lines_read, may_end}
+use Rattle.aprs_booktext.specs.Reader.{HoldsIn, StandsAfter, IsFault, JudgesLine, EndsWithRows, EndsWithSuch, gap_in, is_done, line_number, lines_read, may_end}
 use Rattle.aprs_booktext.specs.StoredRows.{rows_after}
 use Rattle.aprs_booktext.specs.Text.{row_line, end_line, lines_of, book_text, IsBookRow, IsBookRows}
 use Rattle.aprs_booktext.specs.RowLines.{ended_by_lf}
@@ -34,15 +34,15 @@ use Rattle.aprs_booktext.proofs.BookRows.{rows_are, rows_sound}
 
 -- ---- rows of a text, in a store
 
-pub HasRowsSo-weaker : (before : List Row) (count : ℕ) (store : List Row)
+pub EndsWithSuch-weaker : (before : List Row) (count : ℕ) (store : List Row)
     (P Q : List Row → Type 0) → ((rows : List Row) → P rows → Q rows)
-    → HasRowsSo before count store P → HasRowsSo before count store Q
-HasRowsSo-weaker before count store P Q step h =
+    → EndsWithSuch before count store P → EndsWithSuch before count store Q
+EndsWithSuch-weaker before count store P Q step h =
     record { rows = h.rows; has = h.has; holds = step h.rows h.holds }
 
 -- so many rows are the last ones
 pub last_before : (before rows : List Row) (count : ℕ) (store : List Row)
-    → HasRows before rows count store → 0 < count → last_or None store ≡ last_or None rows
+    → EndsWithRows before rows count store → 0 < count → last_or None store ≡ last_or None rows
 last_before before rows count store h some =
     ap (last_or None) h.stored ∙ last_after before rows (omega (arith, some, h.counted)) None where
       last_after : (before rows : List Row) → 0 < length rows → (o : Option Row)
@@ -59,7 +59,7 @@ last_found rows (Some x) some none = some
 
 -- they are what came after those from before
 pub rows_stored : (before rows : List Row) (count : ℕ) (store : List Row)
-    → HasRows before rows count store → rows_after before store ≡ rows
+    → EndsWithRows before rows count store → rows_after before store ≡ rows
 rows_stored before rows count store h =
     ap (drop (length before)) h.stored ∙ drop-append_seam before rows
 
@@ -131,7 +131,7 @@ ended_last v old new line t is same s =
     }
 
 pub ended_stands : (stage next : Stage) (old new : List Row) (line t : List ℕ)
-    → IsJudgedIn stage (Ok next) old line new → StandsAfter stage old line t
+    → JudgesLine stage (Ok next) old line new → StandsAfter stage old line t
     → StandsAfter next new [] (t ++ 10 ∷ [])
 ended_stands Header Header old new line t j s = absurd j
 ended_stands Header (Rows v) old new line t j s = ended_header v old new line t j.0 j.1 j.2 s
@@ -163,7 +163,7 @@ and_more stage rows line t more s = ap (λ l. l ++ more) s.text_is
     ∙ append_assoc (text_of_lines (lines_read stage rows)) line more
 
 pub ended_fault : (stage : Stage) (old new : List Row) (line t more : List ℕ) (c : BookCause)
-    → IsJudgedIn stage (Err c) old line new → StandsAfter stage old line t
+    → JudgesLine stage (Err c) old line new → StandsAfter stage old line t
     → IsFault (length more + 1) (record { line = line_number stage (length new); cause = c })
     (t ++ 10 ∷ more)
 ended_fault Header old new line t more c j s = inr (λ e. record {

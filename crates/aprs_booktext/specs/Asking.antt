@@ -7,8 +7,8 @@ use Rattle.aprs_booktext.specs.declared.fault.BookCause.{BookCause}
 use Rattle.aprs_booktext.specs.declared.fault.BookCause.TheVariants as why
 use Rattle.aprs_booktext.specs.declared.fault.BookFault.{BookFault}
 
--- What the reader answered last at a fault of this cause: where a read failed, a fault; where the
--- ending is wrong, bytes or the end; else bytes.
+-- What the reader answered last at a fault of this cause: at `Read` a fault; at `Ending` no fault;
+-- at any other cause neither a fault nor the end.
 abbrev pub AsksAt : {R : Type 0} → BookCause → Counted R → Counted R → Type 0
 AsksAt why.Read old new = Calls Fault old new
 AsksAt why.Ending old new = Calls Going old new ⊎ Calls End old new

@@ -7,7 +7,7 @@ use Rattle.aprs_laws.specs.declared.row_cause.RowCause.TheVariants as row
 use Rattle.aprs_booktext.specs.declared.fault.BookCause.{BookCause}
 use Rattle.aprs_booktext.specs.declared.fault.BookCause.TheVariants as cause
 
--- its number, in the order in which the causes are declared
+-- Its number, in the order in which the causes are declared.
 abbrev pub book_cause_number : BookCause → ℕ
 book_cause_number cause.Header = 1
 book_cause_number cause.RowSyntax = 2
@@ -23,7 +23,7 @@ book_cause_number cause.Read = 11
 book_cause_number cause.TooLong = 12
 book_cause_number cause.Memory = 13
 
--- its name, that of the variant
+-- Its name, that of the variant.
 abbrev pub book_cause_name : BookCause → List ℕ
 book_cause_name cause.Header = codes "Header"
 book_cause_name cause.RowSyntax = codes "RowSyntax"
@@ -39,7 +39,7 @@ book_cause_name cause.Read = codes "Read"
 book_cause_name cause.TooLong = codes "TooLong"
 book_cause_name cause.Memory = codes "Memory"
 
--- why a row is refused, as the cause of a text's fault
+-- Why a row is refused, as the cause of a text's fault.
 abbrev pub book_cause_of : RowCause → BookCause
 book_cause_of row.Order = cause.Order
 book_cause_of row.Span = cause.Span
@@ -48,7 +48,7 @@ book_cause_of row.Receivers = cause.Receivers
 book_cause_of row.NotGreatest = cause.NotGreatest
 book_cause_of row.Memory = cause.Memory
 
--- the cause of a fault where a byte had to come and the input ended so
+-- The cause of a fault where a byte had to come and the input ended so.
 abbrev pub ending_cause : Ending → BookCause
 ending_cause how.End = cause.Ending
 ending_cause how.Read = cause.Read

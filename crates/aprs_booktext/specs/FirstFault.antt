@@ -25,7 +25,7 @@ use Rattle.aprs_booktext.specs.declared.version.Version.{Version}
 
 -- ---- what is wrong with a line after the lines of some rows
 
--- the line begins as a book's last line does
+-- The line begins as a book's last line does.
 abbrev pub is_end : List ℕ → Bool
 is_end line = starts_with ◌==◌ line (codes "END")
 

@@ -7,6 +7,6 @@ use Rattle.aprs_io.specs.Cut.{is_byte}
 abbrev pub Lacks : ℕ → List ℕ → Type 0
 Lacks stop text = AllByRecursion (λ b. is_byte stop b ≡ false) text
 
--- the parts of the text before, between and after the bytes that are `stop`
+-- The parts of the text before, between and after the bytes that are `stop`.
 abbrev pub pieces : ℕ → List ℕ → List (List ℕ)
 pieces stop text = slice_split (is_byte stop) text

@@ -19,13 +19,13 @@ use Rattle.aprs_booktext.specs.declared.reader.Stage.{Stage}
 use Rattle.aprs_booktext.specs.declared.reader.Stage.TheVariants.{Header, Rows, Done}
 use Rattle.aprs_booktext.specs.declared.version.Version.{Version}
 
--- the lines that were read
+-- The lines that were read.
 abbrev pub lines_read : Stage → List Row → List (List ℕ)
 lines_read Header rows = []
 lines_read (Rows v) rows = header_of v ∷ map (row_line (form_of v)) rows
 lines_read (Done v) rows = lines_of v rows
 
--- what rows there may be, and whether there may be a prefix of a line
+-- What rows there may be, and whether there may be a prefix of a line.
 abbrev pub HoldsIn : Stage → List Row → List ℕ → Type 0
 HoldsIn Header rows line = rows ≡ []
 HoldsIn (Rows v) rows line = IsBookRows v rows
@@ -43,25 +43,25 @@ abbrev pub IsFault : ℕ → BookFault → List ℕ → Type 0
 IsFault most fault text =
     IsMemoryAt most text fault ⊎ ((ending : Ending) → FirstFault text ending fault)
 
--- the number of the line that is read after the lines of so many rows
+-- The number of the line that is read after the lines of so many rows.
 abbrev pub line_number : Stage → ℕ → ℕ
 line_number Header count = 1
 line_number (Rows v) count = count + 2
 line_number (Done v) count = count + 3
 
--- the gap that the header says, if it was read
+-- The gap that the header says, if it was read.
 abbrev pub gap_in : Stage → ℕ
 gap_in Header = standard_gap
 gap_in (Rows v) = gap_of v
 gap_in (Done v) = gap_of v
 
--- whether the last line was read
+-- Whether the last line was read.
 abbrev pub is_done : Stage → Bool
 is_done Header = false
 is_done (Rows v) = false
 is_done (Done v) = true
 
--- whether a text may end there
+-- Whether a text may end there.
 abbrev pub may_end : Stage → Ending → Bool
 may_end (Done v) how.End = true
 may_end (Done v) how.Read = false
@@ -81,41 +81,41 @@ EndsIn ending (Err fault) = fault.cause ≡ ending_cause ending
 -- After the lines of the old rows of this version a line is judged so: it is a row's, which nothing
 -- refuses, and which is added to them, or the last line, or an allocation failed, or the line is
 -- wrong.
-abbrev pub IsJudged : Version → Result Stage BookCause → List Row → List ℕ → List Row → Type 0
-IsJudged v (Ok Header) old line new = ⊥
-IsJudged v (Ok (Rows w)) old line new = (w ≡ v) × (x : Row) × IsBookRow (form_of v) x
+abbrev pub JudgesRowLine : Version → Result Stage BookCause → List Row → List ℕ → List Row → Type 0
+JudgesRowLine v (Ok Header) old line new = ⊥
+JudgesRowLine v (Ok (Rows w)) old line new = (w ≡ v) × (x : Row) × IsBookRow (form_of v) x
     × (line ≡ row_line (form_of v) x) × (new ≡ old ++ x ∷ [])
     × (refusal (millis_of (gap_of v)) old x ≡ None)
-IsJudged v (Ok (Done w)) old line new = (w ≡ v) × (line ≡ end_line (length old)) × (new ≡ old)
-IsJudged v (Err cause) old line new =
+JudgesRowLine v (Ok (Done w)) old line new = (w ≡ v) × (line ≡ end_line (length old)) × (new ≡ old)
+JudgesRowLine v (Err cause) old line new =
     ((cause ≡ why.Memory) ⊎ IsWrong (millis_of (gap_of v)) (form_of v) old line cause)
     × (new ≡ old)
 
 -- The first line is judged so: it is a version's header, or none. It adds no rows.
-abbrev pub IsJudgedFirst : Result Stage BookCause → List Row → List ℕ → List Row → Type 0
-IsJudgedFirst (Ok Header) old line new = ⊥
-IsJudgedFirst (Ok (Rows v)) old line new = IsVersion v × (line ≡ header_of v) × (new ≡ old)
-IsJudgedFirst (Ok (Done v)) old line new = ⊥
-IsJudgedFirst (Err cause) old line new = IsNoHeader line cause × (new ≡ old)
+abbrev pub JudgesHeader : Result Stage BookCause → List Row → List ℕ → List Row → Type 0
+JudgesHeader (Ok Header) old line new = ⊥
+JudgesHeader (Ok (Rows v)) old line new = IsVersion v × (line ≡ header_of v) × (new ≡ old)
+JudgesHeader (Ok (Done v)) old line new = ⊥
+JudgesHeader (Err cause) old line new = IsNoHeader line cause × (new ≡ old)
 
 -- At this stage a line is judged so; after the last line there may be none.
-abbrev pub IsJudgedIn : Stage → Result Stage BookCause → List Row → List ℕ → List Row → Type 0
-IsJudgedIn Header answer old line new = IsJudgedFirst answer old line new
-IsJudgedIn (Rows v) answer old line new = IsJudged v answer old line new
-IsJudgedIn (Done v) answer old line new = (answer ≡ Err why.After) × (new ≡ old)
+abbrev pub JudgesLine : Stage → Result Stage BookCause → List Row → List ℕ → List Row → Type 0
+JudgesLine Header answer old line new = JudgesHeader answer old line new
+JudgesLine (Rows v) answer old line new = JudgesRowLine v answer old line new
+JudgesLine (Done v) answer old line new = (answer ≡ Err why.After) × (new ≡ old)
 
 -- ---- the rows of a text, in a store
 
 -- The store has those rows from before the text, and then these, of which there are so many.
-pub record HasRows (before rows : List Row) (count : ℕ) (store : List Row) : Type 0 where
+pub record EndsWithRows (before rows : List Row) (count : ℕ) (store : List Row) : Type 0 where
   pub stored : store ≡ before ++ rows
   pub counted : count ≡ length rows
 
--- The store has those rows from before the text, and then so many of which P holds.
-pub record HasRowsSo (before : List Row) (count : ℕ) (store : List Row) (P : List Row → Type 0)
+-- The store has those rows from before the text, and then so many rows of which P holds.
+pub record EndsWithSuch (before : List Row) (count : ℕ) (store : List Row) (P : List Row → Type 0)
     : Type 0 where
   pub rows : List Row
-  pub has : HasRows before rows count store
+  pub has : EndsWithRows before rows count store
   pub holds : P rows
 
 -- A line adds a row to the store, after these rows of its text: it spells one that nothing refuses;
@@ -131,11 +131,11 @@ AddsRow v (Err cause) rows line old new = ((cause ≡ why.Memory)
 
 -- ---- a reader
 
--- how many rows and bytes of a line it has read
+-- How many rows and bytes of a line it has read.
 abbrev pub size_of : {A : Type 0} → BookReader A → ℕ
 size_of reader = reader.count + length reader.line.items
 
 -- The reader has read this text, and its rows are in the store, after those from before it.
 abbrev pub Stands : {A : Type 0} → List Row → BookReader A → List Row → List ℕ → Type 0
-Stands before reader store text = HasRowsSo before reader.count store
+Stands before reader store text = EndsWithSuch before reader.count store
     (λ rows. StandsAfter reader.stage rows reader.line.items text)

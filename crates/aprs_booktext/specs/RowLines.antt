@@ -9,16 +9,16 @@ use Rattle.aprs_laws.specs.Row.{Row}
 use Rattle.aprs_booktext.specs.Text.{row_line, most_frame_bytes}
 
 -- A row's line can spell this receiver and this frame.
-pub record AreSpelled (who bytes : List ℕ) : Type 0 where
+pub record AreSpellable (who bytes : List ℕ) : Type 0 where
   pub name_is : IsName who
   pub bytes_are : IsBytes bytes
   pub few : (0 < length bytes) × (length bytes ≤ most_frame_bytes)
   pub frame_is : IsUiFrame bytes
 
--- the line with its LF
+-- The line with its LF.
 abbrev pub ended_by_lf : List ℕ → List ℕ
 ended_by_lf line = line ++ 10 ∷ []
 
--- a row's line as it is written, with its LF
+-- A row's line as it is written, with its LF.
 abbrev pub line_and_lf : Row → List ℕ
 line_and_lf x = ended_by_lf (row_line Millis x)

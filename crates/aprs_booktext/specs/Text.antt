@@ -18,51 +18,53 @@ use Rattle.aprs_booktext.specs.declared.version.Version.TheVariants.{Three}
 
 -- ---- lines, without the LF that ends each
 
--- T, the first and the last moment, the receivers, and the greatest reception's receiver and frame
+-- The fields of a row's line: T, the first and the last moment, the receivers with a comma between,
+-- and the greatest reception's receiver, and its frame in lower case hexadecimal.
 abbrev pub fields_of : MomentForm → Row → List (List ℕ)
 fields_of form x = codes "T" ∷ moment_text_in form x.first ∷ moment_text_in form (last_of x)
     ∷ join_with_byte 44 x.receivers ∷ x.greatest.receiver ∷ encode_lower x.greatest.frame ∷ []
 
--- the line of a row: those fields with a space between
+-- The line of a row, without its LF: its fields with a space between.
 abbrev pub row_line : MomentForm → Row → List ℕ
 row_line form x = join_with_byte 32 (fields_of form x)
 
--- the last line of a text: END and how many rows there are
+-- The last line of a text, without its LF: END, a space, and how many rows there are.
 abbrev pub end_line : ℕ → List ℕ
 end_line n = codes "END " ++ decimal n
 
--- the lines of a text: the header, one for each row, and the last
+-- The lines of a text: the header, one for each row, and the last.
 abbrev pub lines_of : Version → List Row → List (List ℕ)
 lines_of v rows = header_of v ∷ map (row_line (form_of v)) rows ++ end_line (length rows) ∷ []
 
 -- ---- the text
 
--- the text of rows in a version
+-- The text of these rows in this version.
 abbrev pub book_text : Version → List Row → List ℕ
 book_text v rows = text_of_lines (lines_of v rows)
 
--- the book of the rows of a text of this version
+-- The book of the rows of a text of this version.
 abbrev pub book_of : Version → List Row → BookValue
 book_of v rows = record { gap = gap_of v; rows = rows }
 
 -- ---- the text that a book is written as
 
--- version 3, with the gap of the book
+-- Version 3, with the gap of the book.
 abbrev pub written_version : BookValue → Version
 written_version book = Three book.gap
 
--- the text of its rows in that version
+-- The text of its rows in that version.
 abbrev pub written_text : BookValue → List ℕ
 written_text book = book_text (written_version book) book.rows
 
 -- ---- whose text it is
 
--- the most bytes of a frame in a book
+-- The most bytes of a frame in a book.
 abbrev pub most_frame_bytes : ℕ
 most_frame_bytes = 328
 
--- The fields of a line can spell the row: its moments, its receivers, at least one, and its
--- greatest reception, whose frame has at least one byte and at most 328.
+-- A line can spell the row in this form: the form can write its first and its last moment; it has
+-- at least one receiver, and each is a receiver's name, that of its greatest reception too; and its
+-- greatest reception's frame is 1 to 328 bytes.
 pub record IsSpelled (form : MomentForm) (x : Row) : Type 0 where
   pub first : IsWritable form x.first
   pub last : IsWritable form (last_of x)
@@ -72,13 +74,13 @@ pub record IsSpelled (form : MomentForm) (x : Row) : Type 0 where
   pub bytes : IsBytes x.greatest.frame
   pub few : (0 < length x.greatest.frame) × (length x.greatest.frame ≤ most_frame_bytes)
 
--- The fields of a line can spell the row, and the bytes of its frame are a UI frame.
+-- A line can spell the row in this form, and its frame is a UI frame.
 pub record IsBookRow (form : MomentForm) (x : Row) : Type 0 where
   pub spelled : IsSpelled form x
   pub frame : IsUiFrame x.greatest.frame
 
--- The rows are the book of some receptions under the version's gap, and each can be spelled in its
--- form.
+-- The version's gap is one that a book can have. The rows are the book of some receptions under
+-- this gap. A line can spell each row in the version's form, and each row's frame is a UI frame.
 pub record IsBookRows (v : Version) (rows : List Row) : Type 0 where
   pub version : IsVersion v
   pub book : (S : List Heard) × BookOf (millis_of (gap_of v)) S rows

@@ -19,11 +19,12 @@ use Rattle.aprs_booktext.specs.declared.version.Version.{Version}
 
 -- ---- a row after others
 
--- What a row has to meet after others, and for which cause it is refused if it doesn't: its frame
--- is a UI frame; it comes after the last row, by key and first moment; it doesn't end before it
--- begins; where the keys are equal, it begins more than `gap` milliseconds after the last row ends;
--- its receivers ascend, and that of its greatest reception is one of them; in a row of one moment
--- it is the last of them.
+-- What row x has to meet after these rows, or be refused for the cause. `Frame`: its frame is a UI
+-- frame. `Order`: it comes after the last row, by key and first moment. `Span`: it doesn't end
+-- before it begins. `Near`: if the last row has the same key, x begins more than `gap` milliseconds
+-- after that row ends. `Receivers`: its receivers ascend, and the greatest reception's receiver is
+-- one of them. `NotGreatest`: if it has one moment only, that receiver is the last of them. For any
+-- other cause this never holds.
 abbrev pub Meets : ℕ → List Row → Row → BookCause → Type 0
 Meets gap rows x why.Frame = IsUiFrame x.greatest.frame
 Meets gap rows x why.Order = IfLast rows (λ l. IsBelow row_cmp l x)
@@ -35,11 +36,11 @@ Meets gap rows x why.NotGreatest =
     x.first ≡ last_of x → IfLast x.receivers (λ r. r ≡ x.greatest.receiver)
 Meets gap rows x cause = ⊥
 
--- the causes for which a row is refused, in the order in which it is judged
+-- The causes for which a row is refused, in the order in which a row is judged.
 abbrev pub row_causes : List BookCause
 row_causes = why.Frame ∷ why.Order ∷ why.Span ∷ why.Near ∷ why.Receivers ∷ why.NotGreatest ∷ []
 
--- The row meets what each cause before this one asks, and not what this one does.
+-- Of the causes of `row_causes`, this is the first that the row doesn't meet.
 pub record MissesFirst (gap : ℕ) (rows : List Row) (x : Row) (cause : BookCause) : Type 0 where
   pub before : List BookCause
   pub after : List BookCause
@@ -47,8 +48,9 @@ pub record MissesFirst (gap : ℕ) (rows : List Row) (x : Row) (cause : BookCaus
   pub meets : All (Meets gap rows x) before
   pub misses : Meets gap rows x cause → ⊥
 
--- After the lines of these rows the line is wrong for this cause: it begins as the last line and
--- isn't that of so many rows; or it spells no row; or one that misses what it has to meet.
+-- The line, which comes after those of these rows, is wrong for this cause: it begins with END and
+-- isn't the last line after so many rows (`Ending`); or it doesn't begin so, and spells no row
+-- (`RowSyntax`); or it spells a row, and this cause is the first that the row doesn't meet.
 abbrev pub IsWrongAfter : Version → List Row → List ℕ → BookCause → Type 0
 IsWrongAfter v rows line why.Ending =
     (starts_with ◌==◌ line (codes "END") ≡ true) × (line ≢ end_line (length rows))
@@ -59,12 +61,13 @@ IsWrongAfter v rows line cause = (x : Row) × IsSpelled (form_of v) x
 
 -- ---- lines that are in order
 
--- The lines are the header of a version and those of these rows, which a book can have.
+-- The lines are the header of this version and those of these rows, which are a book in it.
 pub record AreOfRows (v : Version) (rows : List Row) (lines : List (List ℕ)) : Type 0 where
   pub rows_are : IsBookRows v rows
   pub lines_are : lines ≡ header_of v ∷ map (row_line (form_of v)) rows
 
--- A book's text may go on after these lines: they are none, or a header and those of rows.
+-- A book's text may go on after these lines: they are none, or a header and the lines of rows that
+-- are a book.
 abbrev pub BeginBook : List (List ℕ) → Type 0
 BeginBook lines = (lines ≡ []) ⊎ ((v : Version) × (rows : List Row) × AreOfRows v rows lines)
 
@@ -74,8 +77,8 @@ AreBook lines = (v : Version) × (rows : List Row) × IsBookRows v rows × (line
 
 -- ---- what is wrong after them
 
--- the most bytes that may have come after those of the line that was being read when an allocation
--- failed
+-- The most bytes that may have come after those of the line that was being read when an allocation
+-- failed.
 abbrev pub most_ahead : ℕ
 most_ahead = 16384
 
@@ -83,15 +86,17 @@ most_ahead = 16384
 abbrev pub EndsLine : List ℕ → Type 0
 EndsLine more = (rest : List ℕ) × (more ≡ 10 ∷ rest)
 
--- The text stops in the line after these, or after all those of a book.
+-- The text stops in the line after these lines, or right after all lines of a book.
 abbrev pub StopsIn : List (List ℕ) → List ℕ → List ℕ → Type 0
 StopsIn lines line more = (more ≡ []) × (BeginBook lines ⊎ (AreBook lines × (line ≡ [])))
 
--- After these lines, which are in order, `line` and `more` are wrong for this cause: the first line
--- is no header; something follows all lines of a book; a read failed, or the limit was passed,
--- before an end was seen; an allocation failed, when `line` was read and at most `most_ahead` bytes
--- more; the input ended before a book's last line did; or the line is neither the last one nor that
--- of a row which may come.
+-- After these lines, which have no fault, `line` and `more` are wrong for this cause. `Header`:
+-- `line`, with its LF, is the first and no header. `After`: something follows all lines of a book.
+-- `Read`, `TooLong`: the text stops in the line after these lines, or right after all lines of a
+-- book, since a read failed or the limit was passed. `Memory`: a book's text may go on after the
+-- lines, and at most `most_ahead` bytes came after `line`. `Ending`: the input ended before a
+-- book's last line did. `Ending` or a row's cause: `line`, with its LF, is wrong after the rows
+-- (`IsWrongAfter`).
 abbrev pub IsWrongRest : List (List ℕ) → List ℕ → List ℕ → Ending → BookCause → Type 0
 IsWrongRest lines line more ending why.Header =
     (lines ≡ []) × ((v : Version) → IsVersion v → line ≢ header_of v) × EndsLine more
@@ -104,9 +109,9 @@ IsWrongRest lines line more ending cause =
     ⊎ ((v : Version) × (rows : List Row) × AreOfRows v rows lines × EndsLine more
     × IsWrongAfter v rows line cause)
 
--- The fault of a text after which this ending came: the text is some lines that are in order, and
--- then `line`, which has no LF, and `more`, and these two are wrong. The fault's line is the one
--- after the lines that are in order.
+-- A book file of which this text was got, with this ending, has this fault: the text is some lines
+-- that have no fault, and then `line`, which has no LF in it, and `more`, and these two are wrong.
+-- The fault's line is the one after the lines that have no fault.
 pub record HasBookFault (text : List ℕ) (ending : Ending) (fault : BookFault) : Type 0 where
   pub lines : List (List ℕ)
   pub line : List ℕ

@@ -6,22 +6,22 @@ use Rattle.aprs_laws.specs.Gap.{IsGap, standard_gap}
 use Rattle.aprs_booktext.specs.declared.version.Version.{Version}
 use Rattle.aprs_booktext.specs.declared.version.Version.TheVariants.{One, Two, Three}
 
--- the first line of a text of this version, without its LF
+-- The first line of a text of this version, without its LF.
 abbrev pub header_of : Version → List ℕ
 header_of One = codes "APRSBOOK 1"
 header_of Two = codes "APRSBOOK 2"
 header_of (Three gap) = codes "APRSBOOK 3 " ++ decimal gap
 
--- how its moments are written
+-- How the moments of a text of this version are written.
 abbrev pub form_of : Version → MomentForm
 form_of One = Seconds
 form_of version = Millis
 
--- the gap of its book, in seconds
+-- The gap of a book of this version, in seconds.
 abbrev pub gap_of : Version → ℕ
 gap_of (Three gap) = gap
 gap_of version = standard_gap
 
--- Its gap is one that a book can have.
+-- The gap of this version is one that a book can have.
 abbrev pub IsVersion : Version → Type 0
 IsVersion version = IsGap (gap_of version)

@@ -4,8 +4,9 @@ ghost use Rattle.aprs_booktext.specs.Examples.{fault_in, miscounted_text, disord
 ghost use Rattle.aprs_booktext.specs.TextFault.{HasBookFault};
 ghost use Rattle.aprs_booktext.specs.declared.fault.BookCause.TheVariants.{Ending, Memory, Order, RowSyntax, Span};
 
-/// A line that begins with `END` and isn't the last one is `Ending`, though it spells no row.
-pub fn last_lines_are_told_by_their_beginning()
+/// A line that begins with `END` is judged as the last line: with another number of rows it is
+/// `Ending`, and not `RowSyntax`.
+pub fn end_line_with_another_count_is_no_row()
     ensures ending { HasBookFault miscounted_text End (fault_in 2 Ending) }
     ensures misses_syntax { HasBookFault miscounted_text End (fault_in 2 RowSyntax) → ⊥ }
 {}

@@ -10,7 +10,7 @@ use aprs_io::decode_lower_into;
 pub const MAX_DIGITS: usize = 2 * MAX_UI_FRAME;
 
 /// The bytes whose digits these are, put into `room`: 1 to `MAX_UI_FRAME` of them.
-pub fn decode_into<'r>(digits: &[u8], room: &'r mut [u8; MAX_UI_FRAME]) -> Option<&'r [u8]>
+pub fn decode_frame<'r>(digits: &[u8], room: &'r mut [u8; MAX_UI_FRAME]) -> Option<&'r [u8]>
     ensures some { IfSome result (λ bytes. SpellsBytes digits.now bytes.now) }
     ensures none { IfNone result ((bytes : List ℕ) → SpellsBytes digits.now bytes → ⊥) }
 {
@@ -20,12 +20,12 @@ pub fn decode_into<'r>(digits: &[u8], room: &'r mut [u8; MAX_UI_FRAME]) -> Optio
     let Some(count) = decode_lower_into(digits, room) else {
         return None;
     };
-    some_bytes(&room[..count])
+    nonempty(&room[..count])
 }
 
 /// These bytes, if there are any.
 #[inline(always)]
-fn some_bytes(bytes: &[u8]) -> Option<&[u8]>
+fn nonempty(bytes: &[u8]) -> Option<&[u8]>
     ensures some { IfSome result (λ same. (same.now ≡ bytes.now) × IsBytes bytes.now
         × (0 < length bytes.now)) }
     ensures none { IfNone result (bytes.now ≡ []) }

@@ -17,7 +17,7 @@ mod write;
 mod write_transmissions;
 
 pub use example::{
-    last_lines_are_told_by_their_beginning, memory_is_refused_in_a_line, order_comes_before_span,
+    end_line_with_another_count_is_no_row, memory_is_refused_in_a_line, order_comes_before_span,
 };
 pub use fault::{BookCause, BookFault};
 pub use laws::{

@@ -135,14 +135,14 @@ fn read_lines<R: Read, A: Allocator + Copy>(
                 reader.feed(store, &room[..count])?;
                 left -= count as u64;
             }
-            Err(ending) => return Err(reader.fault_at(ending)),
+            Err(ending) => return Err(reader.fault_of_ending(ending)),
         }
     }
     Ok(left)
 }
 
-/// The gap of the book whose last line was read, where the input ends there. In `answer` the reader
-/// got `head` and what came since the source was `first`.
+/// The gap of the book whose last line was read, where the input ends there. `answer` says the same
+/// of the whole text, where the reader got `head` and then what came since the source was `first`.
 fn gap_at_end<R: Read, A: Allocator + Copy>(
     left: u64,
     source: &mut Counted<R>,

@@ -225,11 +225,11 @@ impl<A: Allocator + Copy> BookReader<A> {
         if may_end(self.stage, ending) {
             return Ok(self.gap());
         }
-        Err(self.fault_at(ending))
+        Err(self.fault_of_ending(ending))
     }
 
-    /// The fault where the text ends so and may not.
-    pub fn fault_at(&self, ending: Ending) -> BookFault
+    /// The fault of a text that ends in this way where a book's text may not end.
+    pub fn fault_of_ending(&self, ending: Ending) -> BookFault
         requires { self.now.count ≤ most_input }
         ensures { result ≡ record {
           line = Spec.line_number self.now.stage self.now.count;
@@ -293,8 +293,9 @@ fn judge<A: Allocator + Copy>(
 ) -> Result<Stage, BookCause>
     requires { count.old + length line.now ≤ most_input }
 
-    ensures judged { (before rows : List Row) → Spec.HasRows before rows count.old store.old
-        → Spec.HasRowsSo before count.new store.new (Spec.IsJudgedIn stage result rows line.now) }
+    ensures judged { (before rows : List Row) → Spec.EndsWithRows before rows count.old store.old
+        → Spec.EndsWithSuch before count.new store.new
+        (Spec.JudgesLine stage result rows line.now) }
     ensures count { count.new ≤ count.old + 1 }
 
     ensures cause { IfErr result Spec.IsOfText }
@@ -310,7 +311,7 @@ fn judge<A: Allocator + Copy>(
 
 /// What comes after the first line: rows of a text of the version that it names.
 fn judge_header(line: &[u8]) -> Result<Stage, BookCause>
-    ensures judged { (rows : List Row) → Spec.IsJudgedFirst result rows line.now rows }
+    ensures judged { (rows : List Row) → Spec.JudgesHeader result rows line.now rows }
     ensures cause { IfErr result Spec.IsOfText }
 {
     match Version::of_header(line) {
@@ -330,8 +331,9 @@ fn judge_line<A: Allocator + Copy>(
     // Each row that was counted took bytes of the input, and so does this line.
     requires { count.old + length line.now ≤ most_input }
 
-    ensures judged { (before rows : List Row) → Spec.HasRows before rows count.old store.old
-        → Spec.HasRowsSo before count.new store.new (Spec.IsJudged version result rows line.now) }
+    ensures judged { (before rows : List Row) → Spec.EndsWithRows before rows count.old store.old
+        → Spec.EndsWithSuch before count.new store.new
+        (Spec.JudgesRowLine version result rows line.now) }
     ensures count { count.new ≤ count.old + 1 }
 
     ensures cause { IfErr result Spec.IsOfText }
@@ -359,8 +361,9 @@ fn judge_end(line: &[u8], version: Version, rows: usize) -> Result<Stage, BookCa
     }
 }
 
-/// Puts the row that a line spells after the rows of the store, of which the last, so many, are of
-/// its text.
+/// Puts the row that `line` spells at the end of the store, whose last `count` rows are those of
+/// this text so far. Fails, with the store as before, where the line spells no row, where the row
+/// may not follow those of its text, or where an allocation failed.
 fn add_row<A: Allocator + Copy>(
     store: &mut RowStore<A>,
     scratch: &mut Scratch,
@@ -369,7 +372,7 @@ fn add_row<A: Allocator + Copy>(
     line: &[u8],
 ) -> Result<(), BookCause>
     requires { length line.now ≤ most_input }
-    ensures added { (before rows : List Row) → Spec.HasRows before rows count store.old
+    ensures added { (before rows : List Row) → Spec.EndsWithRows before rows count store.old
         → Spec.AddsRow version.now result rows line.now store.old store.new }
     ensures cause { IfErr result Spec.IsOfText }
 {
@@ -383,14 +386,14 @@ fn add_row<A: Allocator + Copy>(
     }
 }
 
-/// Why a row isn't put after the last rows of the store, so many, which are of its text.
+/// Why a row may not follow the last `count` rows of the store, which are those of its text.
 fn refusal<A: Allocator + Copy>(
     store: &RowStore<A>,
     count: usize,
     gap: Gap,
     row: &RowView<'_>,
 ) -> Option<RowCause>
-    ensures cause { (before rows : List Row) → Spec.HasRows before rows count store.now
+    ensures cause { (before rows : List Row) → Spec.EndsWithRows before rows count store.now
         → result ≡ refusal (millis_of gap) rows row.now }
     ensures sound { IfNone result (IsSoundRow row.now) }
 {

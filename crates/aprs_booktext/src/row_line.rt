@@ -9,7 +9,7 @@ ghost use Rattle.aprs_booktext.specs.Text.{row_line, IsBookRow};
 
 use crate::cut::cut_near;
 use crate::fault::BookCause;
-use crate::hexadecimal::decode_into;
+use crate::hexadecimal::decode_frame;
 use crate::scratch::Scratch;
 use aprs_ax25::{Frame, MAX_UI_FRAME};
 use aprs_log::{Clock, Moment, MomentForm, Receiver};
@@ -54,7 +54,8 @@ fn cut_tag(line: &[u8]) -> Option<&[u8]>
     Some(&line[2..])
 }
 
-/// The moment in this form that a text begins with, and what follows the space after it.
+/// The moment in this form that a text begins with, and what follows the space after it, or `None`
+/// where the text doesn't begin so. The clock keeps the day that was read before.
 fn cut_moment<'l>(clock: &mut Clock, form: MomentForm, text: &'l [u8]) -> Option<(Moment, &'l [u8])>
     ensures some { IfSome result (λ p. IsWritable form p.0
         × (text.now ≡ moment_text_in form p.0 ++ 32 ∷ p.1.now)) }
@@ -155,7 +156,7 @@ fn read_frame(
     ensures ok { OnOk result (SpellsFrame field.now frame.new) }
     ensures err { IfErr result (λ cause. IsWrongFrame field.now cause) }
 {
-    let Some(bytes) = decode_into(field, room) else {
+    let Some(bytes) = decode_frame(field, room) else {
         return Err(BookCause::RowSyntax);
     };
     match frame.reread(bytes) {

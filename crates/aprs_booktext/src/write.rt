@@ -1,7 +1,7 @@
 //! Writing a book.
-ghost use Rattle.std.specs.Prelude.{◌≡◌, ◌<◌, ◌≤◌, ◌+◌, ◌*◌, ◌++◌, ◌∷◌, [], All, codes, length, flat_map, take, OnOk};
+ghost use Rattle.std.specs.Prelude.{◌≡◌, ◌<◌, ◌++◌, ◌∷◌, [], All, codes, length, flat_map, OnOk};
 ghost use Rattle.std.specs.List.{join_with_byte};
-ghost use Rattle.hex.specs.Hex.{encode_lower, IsBytes};
+ghost use Rattle.hex.specs.Hex.{encode_lower};
 ghost use Rattle.aprs_ax25.specs.Frame.{FrameOf};
 ghost use Rattle.aprs_ax25.specs.FrameFault.{parts_of};
 ghost use Rattle.aprs_log.specs.Moment.{moment_text, IsWritable};
@@ -9,7 +9,7 @@ ghost use Rattle.aprs_log.specs.Receiver.{IsName};
 ghost use Rattle.aprs_log.specs.declared.moment_form.MomentForm.TheVariants.{Millis};
 ghost use Rattle.aprs_io.specs.Device.{Sends};
 ghost use Rattle.aprs_io.specs.Outlet.{Puts};
-ghost use Rattle.aprs_booktext.specs.RowLines.{AreSpelled, line_and_lf, ended_by_lf};
+ghost use Rattle.aprs_booktext.specs.RowLines.{AreSpellable, line_and_lf, ended_by_lf};
 ghost use Rattle.aprs_booktext.specs.Text as Spec;
 ghost use Rattle.aprs_booktext.specs.Version.{header_of};
 ghost use Rattle.aprs_booktext.specs.declared.version.Version.TheVariants.{Three};
@@ -18,7 +18,7 @@ use crate::end_line::{END_LINE, end_line};
 use crate::row_room::RowRoom;
 use crate::version::{MAX_HEADER, Version};
 use aprs_book::{Book, Gap, Row};
-use aprs_io::{Counted, Outlet, WriteFault, encode_to, push_all, put};
+use aprs_io::{Counted, Outlet, WriteFault, push_all, put, put_hex};
 use aprs_log::{Moment, MomentWriter, Receiver};
 use aprs_rows::RowView;
 use arrayvec::ArrayVec;
@@ -122,13 +122,14 @@ fn row_head(moments: &mut MomentWriter, first: Moment, last: Moment) -> [u8; ROW
     text
 }
 
-/// The part after the receivers in a row's line, with the LF, at the start of a room.
+/// What stands after the receivers in a row's line: a space, the receiver's name, a space, the
+/// frame in hexadecimal and an LF. It is written to the start of `room`, and that part is returned.
 fn row_tail<'r>(room: &'r mut [u8; ROW_TAIL], receiver: &[u8], frame: &[u8]) -> &'r [u8]
     requires name { IsName receiver.now }
     requires frame { FrameOf (parts_of frame.now) frame.now }
     ensures text { result.now
         ≡ 32 ∷ receiver.now ++ 32 ∷ encode_lower frame.now ++ 10 ∷ [] }
-    ensures spelled { AreSpelled receiver.now frame.now }
+    ensures spelled { AreSpellable receiver.now frame.now }
 {
     room[0] = b' ';
     let space = put(room, 1, receiver);
@@ -136,22 +137,6 @@ fn row_tail<'r>(room: &'r mut [u8; ROW_TAIL], receiver: &[u8], frame: &[u8]) -> 
     let end = put_hex(room, space + 1, frame);
     room[end] = b'\n';
     &room[..end + 1]
-}
-
-/// Puts the digits of a frame's bytes at a place of a room, over those that are there, and returns
-/// the place after them.
-fn put_hex(room: &mut [u8], at: usize, bytes: &[u8]) -> usize
-    requires { at + 2 * length bytes.now ≤ length room.old }
-
-    ensures end { result ≡ at + 2 * length bytes.now }
-    ensures digits { take result room.new ≡ take at room.old ++ encode_lower bytes.now }
-    ensures bytes { IsBytes bytes.now }
-
-    ensures len { length room.new ≡ length room.old }
-{
-    let end = at + 2 * bytes.len();
-    encode_to(bytes, &mut room[at..end]);
-    end
 }
 
 /// Puts names with commas between.
@@ -175,13 +160,13 @@ fn put_further_names<W: Write>(
     ensures names { OnOk result (All IsName names.now) }
 {
     for name in names {
-        out.put(after_comma(name).as_slice())?;
+        out.put(comma_and_name(name).as_slice())?;
     }
     Ok(())
 }
 
 /// A comma and the name.
-fn after_comma(name: &Receiver) -> ArrayVec<u8, MAX_FURTHER>
+fn comma_and_name(name: &Receiver) -> ArrayVec<u8, MAX_FURTHER>
     ensures text { result.items ≡ 44 ∷ name.now }
     ensures name { IsName name.now }
 {

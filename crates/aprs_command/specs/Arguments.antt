@@ -25,11 +25,11 @@ use Rattle.aprs_command.specs.declared.arguments.Task.TheVariants as task
 
 -- ---- the command
 
--- the names of the forms
+-- The names of the forms.
 abbrev pub form_names : List Text
 form_names = codes "text" ∷ codes "kind" ∷ codes "kiss" ∷ codes "log" ∷ codes "capture" ∷ []
 
--- the name of a value and its aliases
+-- The name of a value and its aliases.
 abbrev pub words_for : PossibleValue → List Text
 words_for v = v.name.now ∷ map (λ s. s.now) v.aliases.now
 
@@ -41,75 +41,75 @@ AreForms values = map words_for values ≡ map (λ name. name ∷ []) form_names
 abbrev pub IsForms : ValueParser → Type 0
 IsForms p = (values : Bor (List PossibleValue)) × (p ≡ vp.Values values) × AreForms values.now
 
--- an argument of this name that has to be given
+-- An argument of this name that has to be given.
 abbrev pub required_rule : Text → Rule
 required_rule name = record (new_rule name) { required = true; value_names = 1 }
 
--- the argument FORM
+-- The argument FORM.
 abbrev pub form_rule : ValueParser → Rule
 form_rule p = record (required_rule (codes "form")) { parser = Some p }
 
--- an option of this name, with one value
+-- An option of this name, with one value.
 abbrev pub option_rule : Text → Rule
 option_rule name = record (new_rule name) { long = Some name; value_names = 1 }
 
--- the argument INPUT
+-- The argument INPUT.
 abbrev pub input_rule : Rule
 input_rule = record (new_rule (codes "input")) { value_names = 1 }
 
--- a number of 1 to 3,600
+-- A number of 1 to 3,600.
 abbrev pub gap_parser : ValueParser
 gap_parser = vp.Unsigned 1 greatest_gap
 
--- the option --gap
+-- The option --gap.
 abbrev pub gap_rule : Rule
 gap_rule = record (option_rule (codes "gap")) { parser = Some gap_parser }
 
--- the argument SECONDS
+-- The argument SECONDS.
 abbrev pub seconds_rule : Rule
 seconds_rule =
     record (required_rule (codes "seconds")) {
       parser = Some gap_parser;
     }
 
--- any number of inputs
+-- Any number of inputs.
 abbrev pub inputs_rule : Rule
 inputs_rule = record input_rule {
   range = Some (record { start_inclusive = 1; end_inclusive = usize_max });
 }
 
--- `convert FORM [INPUT] [--receiver NAME] [--moment MOMENT]`
+-- `convert FORM [INPUT] [--receiver NAME] [--moment MOMENT]`.
 abbrev pub convert_app : ValueParser → App
 convert_app p =
     with_rule (with_rule (with_rule (with_rule (new_app (codes "convert")) (form_rule p))
     input_rule) (option_rule (codes "receiver"))) (option_rule (codes "moment"))
 
--- `check [INPUT]`
+-- `check [INPUT]`.
 abbrev pub check_app : App
 check_app = with_rule (new_app (codes "check")) input_rule
 
--- a command of this name with `[--gap SECONDS] [INPUT]...`
+-- A command of this name with `[--gap SECONDS] [INPUT]...`.
 abbrev pub gathering_app : Text → App
 gathering_app name = with_rule (with_rule (new_app name) inputs_rule) gap_rule
 
--- `merge [--gap SECONDS] [INPUT]...`
+-- `merge [--gap SECONDS] [INPUT]...`.
 abbrev pub merge_app : App
 merge_app = gathering_app (codes "merge")
 
--- `show [--gap SECONDS] [INPUT]...`
+-- `show [--gap SECONDS] [INPUT]...`.
 abbrev pub show_app : App
 show_app = gathering_app (codes "show")
 
--- `widen SECONDS [INPUT]`
+-- `widen SECONDS [INPUT]`.
 abbrev pub widen_app : App
 widen_app = with_rule (with_rule (new_app (codes "widen")) seconds_rule) input_rule
 
--- the program, which has a version
+-- The program, which has a version.
 abbrev pub program_top : App
 program_top = let a = new_app (codes "aprsbook") in
     record a { top = record a.top { has_version = true } }
 
--- the program with its commands
+-- The program with its commands.
 abbrev pub program_app : ValueParser → App
 program_app p = with_subcommand (with_subcommand (with_subcommand (with_subcommand
     (with_subcommand program_top (convert_app p).top) check_app.top) merge_app.top) show_app.top)
@@ -117,25 +117,25 @@ program_app p = with_subcommand (with_subcommand (with_subcommand (with_subcomma
 
 -- ---- what is read of the matches
 
--- the text as the name of a receiver, if it is one
+-- The text as the name of a receiver, if it is one.
 abbrev pub receiver_of : Text → Option (List ℕ)
 receiver_of t = if is_name t then Some t else None
 
--- a form but capture, which has neither option
+-- A form but capture, which has neither option.
 abbrev pub plain_form_of : Form → Option Text → Option Text → Option Form
 plain_form_of f None None = Some f
 plain_form_of f _ _ = None
 
--- a capture of this receiver at this moment, if both are given
+-- A capture of this receiver at this moment, if both are given.
 abbrev pub capture_of : Option (List ℕ) → Option ℕ → Option Form
 capture_of (Some r) (Some m) = Some (form.Capture r m)
 capture_of _ _ = None
 
--- a capture of the receiver and the moment that these texts name
+-- A capture of the receiver and the moment that these texts name.
 abbrev pub capture_form_of : Option Text → Option Text → Option Form
 capture_form_of r m = capture_of (option_and_then receiver_of r) (option_and_then moment_of m)
 
--- the form of this name: `capture` with both options, another without them, and else none
+-- The form of this name: `capture` with both options, another without them, and else none.
 abbrev pub named_form_of : Text → Option Text → Option Text → Option Form
 named_form_of name r m = if bytes_eq name (codes "text") then plain_form_of form.Text r m
     else (if bytes_eq name (codes "kind") then plain_form_of form.Kind r m
@@ -143,30 +143,30 @@ named_form_of name r m = if bytes_eq name (codes "text") then plain_form_of form
     else (if bytes_eq name (codes "log") then plain_form_of form.Log r m
     else capture_form_of r m)))
 
--- the form that the matches name
+-- The form that the matches name.
 abbrev pub asked_form : List Row → Option Form
 asked_form rows = option_and_then (λ name. named_form_of name (first_of (codes "receiver") rows)
     (first_of (codes "moment") rows)) (first_of (codes "form") rows)
 
--- the number of seconds in a text, if the command takes it as a gap
+-- The number of seconds in a text, if the command takes it as a gap.
 abbrev pub read_gap : Text → Option ℕ
 read_gap t = if is_unsigned_in 1 greatest_gap t
     then Some (digits_value 10 (without_leading_plus t)) else None
 
--- the gap in a text, or the standard one without a text
+-- The gap in a text, or the standard one without a text.
 abbrev pub given_gap : Option Text → Option ℕ
 given_gap None = Some standard_gap
 given_gap (Some t) = read_gap t
 
--- the gap of a merge or a listing
+-- The gap of a merge or a listing.
 abbrev pub chosen_gap : List Row → Option ℕ
 chosen_gap rows = given_gap (first_of (codes "gap") rows)
 
--- the gap to widen to
+-- The gap to widen to.
 abbrev pub widened_gap : List Row → Option ℕ
 widened_gap rows = option_and_then read_gap (first_of (codes "seconds") rows)
 
--- the task of the command of this name, if its options are right
+-- The task of the command of this name, if its options are right.
 abbrev pub task_by_name : Text → List Row → Option Task
 task_by_name name rows =
     if bytes_eq name (codes "convert") then option_map (λ f. task.Convert f) (asked_form rows)
@@ -175,23 +175,23 @@ task_by_name name rows =
     else (if bytes_eq name (codes "widen") then option_map (λ g. task.Widen g) (widened_gap rows)
     else Some task.Check)))
 
--- the task, or none where the options break the rule on capture; `convert text` without a command
+-- The task, or none where the options break the rule on capture; `convert text` without a command.
 abbrev pub task_of : Option (Text × List Row) → Option Task
 task_of None = Some (task.Convert form.Text)
 task_of (Some p) = task_by_name p.0 p.1
 
--- the paths of the inputs, in the order of the arguments; none without a command
+-- The paths of the inputs, in the order of the arguments; none without a command.
 abbrev pub inputs_in : Option (Text × List Row) → List Text
 inputs_in None = []
 inputs_in (Some p) = unwrap_or (all_of (codes "input") p.1) []
 
 -- ---- the answer
 
--- the bytes of paths
+-- The bytes of paths.
 abbrev pub paths_of : {Z : Type 0} → List (String Z) → List Text
 paths_of inputs = map (λ path. string_bytes path) inputs
 
--- the paths of a job's inputs
+-- The paths of a job's inputs.
 abbrev pub inputs_of : Job → List Text
 inputs_of (job.Check inputs) = paths_of inputs.items
 inputs_of (job.Convert f inputs) = paths_of inputs.items
@@ -199,7 +199,7 @@ inputs_of (job.Merge g inputs) = paths_of inputs.items
 inputs_of (job.Show g inputs) = paths_of inputs.items
 inputs_of (job.Widen g inputs) = paths_of inputs.items
 
--- what a job asks for, apart from its inputs
+-- What a job asks for, apart from its inputs.
 abbrev pub job_task : Job → Task
 job_task (job.Check inputs) = task.Check
 job_task (job.Convert f inputs) = task.Convert f

@@ -68,7 +68,7 @@ pub fn command_is_simple()
         → is_simple_and_free (Spec.program_app p) ≡ true }
 {}
 
-/// The forms, as help describes them.
+/// The values that FORM may have: the name of each form, with its help.
 fn form_values<'a>() -> [PossibleValue<'a>; 5]
     ensures { Spec.AreForms result }
 {
@@ -304,7 +304,8 @@ fn read_widened_gap(matches: &ArgMatches<'_>) -> Option<Gap>
     read_gap(text_at(matches, "seconds")?)
 }
 
-/// The gap in a text. The command takes no text that has none.
+/// The gap of as many seconds as the text says, or `None` where it says no number of 1 to 3,600.
+/// The command has refused such a text before.
 fn read_gap(text: &str) -> Option<Gap>
     ensures { result ≡ Spec.read_gap text.now }
 {
@@ -326,7 +327,8 @@ fn read_form(matches: &ArgMatches<'_>) -> Option<Form>
     )
 }
 
-/// The form of this name. The command takes no name but these four and `capture`.
+/// The form of this name with these options, or `None` where they don't fit: `text`, `kind`, `kiss`
+/// and `log` have neither, `capture` needs both. The command takes no other name.
 fn named_form(name: &str, receiver: Option<&str>, moment: Option<&str>) -> Option<Form>
     ensures { result ≡ Spec.named_form_of name.now (option_map (λ s. s.now) receiver.entry)
         (option_map (λ s. s.now) moment.entry) }
@@ -355,7 +357,8 @@ fn plain_form(form: Form, receiver: Option<&str>, moment: Option<&str>) -> Optio
     }
 }
 
-/// The form that needs both options.
+/// A capture by this receiver at this moment, or `None` where an option is missing, or its text is
+/// no receiver's name or no moment.
 fn capture_form(receiver: Option<&str>, moment: Option<&str>) -> Option<Form>
     ensures { result ≡ Spec.capture_form_of (option_map (λ s. s.now) receiver.entry)
         (option_map (λ s. s.now) moment.entry) }

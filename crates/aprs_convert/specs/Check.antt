@@ -10,11 +10,11 @@ use Rattle.aprs_log.specs.Reception.{Heard}
 use Rattle.aprs_log.specs.declared.fault.LogFault.{LogFault}
 use Rattle.aprs_log.specs.declared.fault.Reason.{Reason}
 
--- the report of a line that is passed over: its number, and the reason
+-- The report of a line that is passed over: its number, and the reason.
 abbrev pub passed_line : ℕ × Reason → List ℕ
 passed_line pass = codes "line " ++ decimal pass.0 ++ codes " passed " ++ reason_name pass.1
 
--- the report of how many lines are heard and how many passed over
+-- The report of how many lines are heard and how many passed over.
 abbrev pub totals_line : ℕ → ℕ → List ℕ
 totals_line heard passed = codes "heard " ++ decimal heard ++ codes " passed " ++ decimal passed
 
@@ -33,8 +33,9 @@ PassesOver n (line ∷ lines) passed =
     ⊎ ((reason : Reason) × (more : List (ℕ × Reason)) × IsPassedFor line reason
     × PassesOver (n + 1) lines more × (passed ≡ (n, reason) ∷ more))
 
--- A check writes this of a log up to this fault, if it has one: a line for each that is passed over;
--- and where there is no fault, how many lines report a reception and how many are passed over.
+-- A check writes this of a log up to this fault, if it has one: a line for each that is passed
+-- over; and where there is no fault, how many lines report a reception and how many are passed
+-- over.
 abbrev pub Checks : Option LogFault → List ℕ → Ending → List ℕ → Type 0
 Checks None text ending written = (S : List Heard) × (log : IsLogText text ending S)
     × (passed : List (ℕ × Reason)) × PassesOver 1 log.lines passed × (written

@@ -17,19 +17,20 @@ use Rattle.aprs_convert.specs.Monitor.{monitor_text, kind_text}
 use Rattle.aprs_convert.specs.declared.form.Form.{Form}
 use Rattle.aprs_convert.specs.declared.form.Form.TheVariants as form
 
--- what is written for a reception: a capture is written as a log
+-- What is written for a reception: a capture is written as a log.
 abbrev pub reception_text : Form → Heard → List ℕ
 reception_text form.Text x = monitor_text (parts_of x.frame) ++ 10 ∷ []
 reception_text form.Kind x = kind_text (parts_of x.frame) ++ 10 ∷ []
 reception_text form.Kiss x = kiss_text x.frame
 reception_text other x = written_line x ++ 10 ∷ []
 
--- the UI frames of a KISS stream: its data frames, as far as they are UI frames
+-- The UI frames of a KISS stream: its data frames, as far as they are UI frames.
 abbrev pub frames_of : List ℕ → List (List ℕ)
-frames_of stream = filter_map (λ judgement. option_and_then (λ found. result_ok (frame_of found.bytes))
+frames_of stream =
+    filter_map (λ judgement. option_and_then (λ found. result_ok (frame_of found.bytes))
     (result_ok judgement)) (judgements_of stream)
 
--- the fault of a stream that ends so: it has no lines, and line 0 stands for it
+-- The fault of a stream that ends so: it has no lines, and line 0 stands for it.
 abbrev pub stream_fault : Ending → Option LogFault
 stream_fault how.End = None
 stream_fault how.Read = Some (record { line = 0; cause = why.Read })

@@ -22,7 +22,8 @@ Ends Told (Err Write) old new =
 
 -- What the input answered last, by the run's answer: where the output was refused, it may have
 -- come to the end before or not.
-abbrev pub AsksForRun : {R : Type 0} → Result (Unit {0}) ConvertFault → Counted R → Counted R → Type 0
+abbrev pub AsksForRun : {R : Type 0} → Result (Unit {0}) ConvertFault → Counted R → Counted R
+    → Type 0
 AsksForRun (Ok u) old new = Calls End old new
 AsksForRun (Err (Log fault)) old new = Calls (last_of_cause fault.cause) old new
 AsksForRun (Err Write) old new = Calls Going old new ⊎ Calls End old new
@@ -33,7 +34,8 @@ last_of_output (Err Write) = Fault
 last_of_output answer = Going
 
 -- The run wrote what is to be written of what it got of its input. It asked the input no more after
--- its end or a fault, and the output no more after a fault: it answers that, and the counts show it.
+-- its end or a fault, and the output no more after a fault: it answers that, and the counts show
+-- it.
 pub record Runs {R W : Type 0} (Told : Option LogFault → List ℕ → Ending → List ℕ → Type 0)
     (limit : ℕ) (remaining : R → Option (List ℕ)) (contents : W → Option (List ℕ))
     (answer : Result (Unit {0}) ConvertFault) (read_from now_read : Counted R)

@@ -9,15 +9,15 @@ use Rattle.aprs_report.specs.Reading.{kind_of}
 use Rattle.aprs_report.specs.Reader.{reading_of}
 use Rattle.aprs_convert.specs.Shown.{shown_text}
 
--- a comma, the digipeater, and a star where it has repeated the frame
+-- A comma, the digipeater, and a star where it has repeated the frame.
 abbrev pub hop_text : Hop → List ℕ
 hop_text hop = 44 ∷ call_text hop.call ++ (if hop.repeated then 42 ∷ [] else [])
 
--- SOURCE>DESTINATION,DIGIPEATER*,..:INFORMATION
+-- SOURCE>DESTINATION,DIGIPEATER*,..:INFORMATION.
 abbrev pub monitor_text : Parts → List ℕ
 monitor_text p = call_text p.source.call ++ 62 ∷ call_text p.destination.call
     ++ flat_map hop_text (map hop_of p.digipeaters) ++ 58 ∷ shown_text p.info
 
--- the same, after the kind of report that the information is
+-- The same, after the kind of report that the information is.
 abbrev pub kind_text : Parts → List ℕ
 kind_text p = kind_of (reading_of p.info) ++ 32 ∷ monitor_text p

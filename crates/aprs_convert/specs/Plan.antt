@@ -1,5 +1,5 @@
--- What a run writes, and the fault that it ends with, as a function of what was got of its input. No
--- public clause cites this module.
+-- What a run writes, and the fault that it ends with, as a function of what was got of its input.
+-- No public clause cites this module.
 use Rattle.std.specs.Prelude.{◌≡◌, ℕ, ◌+◌, List, [], ◌∷◌, ◌++◌, Option, None, Some, Result, Ok, Err}
 use Rattle.std.specs.Io.KnownBytes.{Appends}
 use Rattle.std.specs.List.{flat_map}
@@ -33,31 +33,32 @@ pub record Plan : Type 0 where
 
 -- ---- a conversion
 
--- what is written for a line; one that is passed over gives nothing
+-- What is written for a line; one that is passed over gives nothing.
 abbrev pub line_text : Form → Line → List ℕ
 line_text f (line.Heard x) = reception_text f x
 line_text f (line.Passed reason) = []
 
--- what a conversion of a log does
+-- What a conversion of a log does.
 abbrev pub lines_plan : Form → List ℕ → Ending → Plan
 lines_plan f text ending = record {
   text = flat_map (line_text f) (log_answers text ending).given;
   fault = (log_answers text ending).fault;
 }
 
--- the log line of a UI frame, as this receiver heard it at this moment; another frame gives nothing
+-- The log line of a UI frame, as this receiver heard it at this moment; another frame gives
+-- nothing.
 abbrev pub frame_line : List ℕ → ℕ → Result (List ℕ) FrameFault → List ℕ
 frame_line receiver moment (Ok frame) =
     written_line (record { moment = moment; receiver = receiver; frame = frame }) ++ 10 ∷ []
 frame_line receiver moment (Err fault) = []
 
--- the log line of a data frame that is a UI frame; anything else gives nothing
+-- The log line of a data frame that is a UI frame; anything else gives nothing.
 abbrev pub capture_text : List ℕ → ℕ → Judgement → List ℕ
 capture_text receiver moment (Ok data_frame) =
     frame_line receiver moment (frame_of data_frame.bytes)
 capture_text receiver moment (Err fault) = []
 
--- what a capture of a stream does
+-- What a capture of a stream does.
 abbrev pub stream_plan : List ℕ → ℕ → List ℕ → Ending → Plan
 stream_plan receiver moment text ending = record {
   text = flat_map (capture_text receiver moment) (judgements_of text);
@@ -70,7 +71,7 @@ EndsStream answer how.End = answer ≡ Ok tt
 EndsStream answer how.Read = answer ≡ Err (Log (record { line = 0; cause = why.Read }))
 EndsStream answer how.TooLong = answer ≡ Err (Log (record { line = 0; cause = why.TooLong }))
 
--- what a conversion does: a capture reads a stream, and any other form a log
+-- What a conversion does: a capture reads a stream, and any other form a log.
 abbrev pub convert_plan : Form → List ℕ → Ending → Plan
 convert_plan form.Text text ending = lines_plan form.Text text ending
 convert_plan form.Kind text ending = lines_plan form.Kind text ending
@@ -80,35 +81,35 @@ convert_plan (form.Capture receiver moment) text ending = stream_plan receiver m
 
 -- ---- a check
 
--- the reports of lines that are passed over, of which the first line has number n
+-- The reports of lines that are passed over, of which the first line has number n.
 abbrev pub check_lines : ℕ → List Line → List ℕ
 check_lines n [] = []
 check_lines n (line.Heard x ∷ lines) = check_lines (n + 1) lines
 check_lines n (line.Passed reason ∷ lines) =
     (passed_line (n, reason) ++ 10 ∷ []) ++ check_lines (n + 1) lines
 
--- how many lines are heard
+-- How many lines are heard.
 abbrev pub count_heard : List Line → ℕ
 count_heard [] = 0
 count_heard (line.Heard x ∷ lines) = count_heard lines + 1
 count_heard (line.Passed reason ∷ lines) = count_heard lines
 
--- how many lines are passed over
+-- How many lines are passed over.
 abbrev pub count_passed : List Line → ℕ
 count_passed [] = 0
 count_passed (line.Heard x ∷ lines) = count_passed lines
 count_passed (line.Passed reason ∷ lines) = count_passed lines + 1
 
--- the totals, which a fault leaves out
+-- The totals, which a fault leaves out.
 abbrev pub totals : Option LogFault → List Line → List ℕ
 totals None lines = totals_line (count_heard lines) (count_passed lines) ++ 10 ∷ []
 totals (Some fault) lines = []
 
--- the reports of a log with these answers
+-- The reports of a log with these answers.
 abbrev pub check_of : Answers → List ℕ
 check_of answers = check_lines 1 answers.given ++ totals answers.fault answers.given
 
--- what a check of a log does
+-- What a check of a log does.
 abbrev pub check_plan : List ℕ → Ending → Plan
 check_plan text ending = record {
   text = check_of (log_answers text ending);

@@ -97,7 +97,8 @@ fn write_kind_line<W: Write>(
     send(w, text.as_slice())
 }
 
-/// Puts the kind of report, a space, the frame as a monitor prints it, and an LF into the text.
+/// Puts the kind of report, a space, the frame as a monitor prints it, and an LF into the text,
+/// which is empty.
 fn push_kind_line(text: &mut Text, frame: &Frame)
     requires { text.old.items ≡ [] }
     ensures { text.new.items ≡ kind_text (parts_of frame.now) ++ 10 ∷ [] }

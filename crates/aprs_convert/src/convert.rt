@@ -11,7 +11,10 @@ use aprs_log::LogReader;
 use std::alloc::Allocator;
 use std::io::{Read, Write};
 
-/// Writes what a form gives for each line of a log.
+/// Reads a log of at most `limit` bytes, and writes what the form gives for each line that was
+/// heard; a line that is passed over gives nothing. At `Log`, the log's first fault, the text of
+/// all lines before it has been written; at `Write` a prefix of the text. Neither device is asked
+/// again after its end or a fault. Takes no memory.
 pub fn convert_lines<R: Read, W: Write, A: Allocator + Copy>(
     alloc: A,
     limit: u64,

@@ -19,7 +19,7 @@ answered_of counted = counted.answered
 abbrev pub ends_of : {T : Type 0} → Counted T → ℕ
 ends_of counted = counted.ended
 
--- One more, up to the greatest number of 64 bits.
+-- One more, up to 2^64 - 1, the greatest number of 64 bits.
 abbrev pub one_more : ℕ → ℕ
 one_more n = min (n + 1) (2 ^ 64 - 1)
 
@@ -27,8 +27,8 @@ one_more n = min (n + 1) (2 ^ 64 - 1)
 abbrev pub Rose : ℕ → ℕ → Type 0
 Rose old new = one_more old ≤ new
 
--- What the last call of a function's device answered: a fault, the end of the input, or neither,
--- and the function may go on.
+-- What a function's last call of its device was answered: a fault (`Fault`), the end of the input
+-- (`End`), or neither (`Going`). `Going` it is also where the device wasn't called at all.
 pub data Last : Type 0 where
   Going : Last
   Fault : Last
@@ -44,8 +44,12 @@ abbrev pub ends_after : Last → ℕ → ℕ
 ends_after End n = one_more n
 ends_after other n = n
 
--- The last call answered so, and no call before it answered a fault or the end: the count of failed
--- calls didn't fall, and rose at a fault; those of answered faults and ends are exact.
+-- What a function did to its device, by the device's counts. At `Going` no call of `read` or `send`
+-- answered a fault or the end; at `Fault` one answered a fault, and none the end; at `End` one
+-- answered the end, and none a fault. A function that promises this for every device makes no call
+-- after such an answer: one more could have answered the same again. `failed` counts each failed
+-- try, also one that was made again in the same call: it doesn't fall, and rises at `Fault`. A
+-- count stays at 2^64 - 1.
 pub record Calls {T : Type 0} (last : Last) (old new : Counted T) : Type 0 where
   pub count : old.failed ≤ new.failed
   pub fault : faults_after last old.failed ≤ new.failed

@@ -7,14 +7,14 @@ use Rattle.aprs_io.specs.declared.device.Counted.{Counted}
 use Rattle.aprs_io.specs.declared.input.Ending.{Ending}
 use Rattle.aprs_io.specs.declared.input.Ending.TheVariants as how
 
--- The most bytes that any input may have: 1 GiB.
+-- The greatest limit that a caller may set for an input: 1 GiB.
 abbrev pub most_input : ℕ
 most_input = 1073741824
 
 -- After `text` was read of an input, `rest` is left of it, and `after` is what the device still
--- has: at the input's end nothing is left, after a failed read the device still has just the rest,
--- and where the input is too long the text is as long as the limit and something is left. What the
--- device has is said only after a failed read.
+-- has. `End`: nothing is left. `Read`: the device still has just the rest, as after a failed read.
+-- In both the text has at most `limit` bytes. `TooLong`: the text is as long as the limit, and
+-- something is left. What the device has is said only at `Read`.
 abbrev pub EndsSo : Ending → ℕ → List ℕ → List ℕ → Option (List ℕ) → Type 0
 EndsSo how.End limit text rest after = (rest ≡ []) × (length text ≤ limit)
 EndsSo how.Read limit text rest after = (after ≡ Some rest) × (length text ≤ limit)

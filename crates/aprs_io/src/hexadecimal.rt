@@ -1,5 +1,5 @@
 //! Bytes in hexadecimal.
-ghost use Rattle.std.specs.Prelude.{◌≡◌, ◌≢◌, ◌≤◌, ◌<◌, ◌+◌, ◌*◌, ◌/◌, ◌%◌, ℕ, List, take, length, slice_index, true, false, Ok, Some, MatchBool, MatchOption, MatchResult, IsOk};
+ghost use Rattle.std.specs.Prelude.{◌≡◌, ◌≢◌, ◌≤◌, ◌<◌, ◌+◌, ◌*◌, ◌++◌, ◌/◌, ◌%◌, ℕ, List, take, length, slice_index, true, false, Ok, Some, MatchBool, MatchOption, MatchResult, IsOk};
 ghost use Rattle.std.specs.Bool.{OnTrue};
 ghost use Rattle.hex.specs.Hex.{IsBytes, decode_of, encode_lower, hex_digit_value, lower_digits};
 ghost use Rattle.aprs_io.specs.Hexadecimal.{HoldsByte, HoldsDigits, HoldsValue, byte_of};
@@ -47,8 +47,24 @@ fn count_pairs(text: &[u8]) -> Option<usize>
     }
 }
 
-/// Writes the lower case digits of bytes, which are to fill `digits`. Takes no memory.
-pub fn encode_to(bytes: &[u8], digits: &mut [u8])
+/// Puts the lower case digits of bytes at a place, over the bytes that are there, and returns the
+/// place after them. Takes no memory.
+pub fn put_hex(out: &mut [u8], at: usize, bytes: &[u8]) -> usize
+    requires { at + 2 * length bytes.now ≤ length out.old }
+
+    ensures end { result ≡ at + 2 * length bytes.now }
+    ensures digits { take result out.new ≡ take at out.old ++ encode_lower bytes.now }
+    ensures bytes { IsBytes bytes.now }
+
+    ensures len { length out.new ≡ length out.old }
+{
+    let end = at + 2 * bytes.len();
+    encode_to(bytes, &mut out[at..end]);
+    end
+}
+
+/// Writes the lower case digits of bytes, which are to fill `digits`.
+fn encode_to(bytes: &[u8], digits: &mut [u8])
     requires { length digits.old ≡ 2 * length bytes.now }
     ensures { digits.new ≡ encode_lower bytes.now }
 {

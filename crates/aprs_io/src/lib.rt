@@ -1,5 +1,5 @@
-//! Inputs under a limit and output through a buffer, over devices that count their failed calls,
-//! and bytes as hexadecimal digits.
+//! Inputs under a limit and output through a buffer, over devices that count their failed calls;
+//! and bytes that are copied, cut, and read or written as hexadecimal digits.
 #![tactic(auto)]
 
 mod byte_vectors;
@@ -13,7 +13,7 @@ mod outlet;
 pub use byte_vectors::{copy_bytes, push_all, put};
 pub use cut::cut_at;
 pub use device::{Counted, DeviceFault, WriteFault, send};
-pub use hexadecimal::{decode_into, decode_lower_into, encode_to};
+pub use hexadecimal::{decode_into, decode_lower_into, put_hex};
 pub use input::{Ending, MAX_INPUT, read_some};
 pub use laws::inputs_have_at_most_one_gibibyte;
 pub use outlet::{MAX_HELD, Outlet};

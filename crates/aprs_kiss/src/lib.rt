@@ -1,4 +1,4 @@
-//! KISS frames both ways, over devices that count their failed calls.
+//! KISS frames both ways.
 #![tactic(auto)]
 
 mod example;

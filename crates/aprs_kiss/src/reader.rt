@@ -78,7 +78,6 @@ impl KissReader {
         ensures judged { (before : List ℕ) → StandsAfter self.old before
             → judgements_of (before ++ take result.0 piece.now) ≡ judgements_in result.1 }
         ensures bounds { IsWithinBounds result.1 }
-
         ensures used { result.0 ≤ length piece.now }
         ensures progress { 0 < length piece.now → 0 < result.0 }
         ensures whole { judgements_in result.1 ≡ [] → result.0 ≡ length piece.now }
@@ -125,7 +124,6 @@ impl KissReader {
             ≡ judgements_of_outcome result.1 self.new.bytes.items }
         ensures frame { IfSome result.1 (λ o.
             IfOk o (λ port. (port < 16) × (0 < length self.new.bytes.items))) }
-
         ensures used { result.0 ≤ length piece.now }
         ensures progress { OnSome result.1 (0 < result.0) }
         ensures whole { IfNone result.1 (result.0 ≡ length piece.now) }
@@ -176,7 +174,8 @@ impl KissReader {
         matches!(self.state, State::Escape | State::LongEscape)
     }
 
-    /// Takes bytes that stand for themselves, where no escape is open.
+    /// Takes bytes that stand for themselves, where no escape is open. The first of a piece take
+    /// the place of the frame before. A piece that is too long or broken stays so, and keeps none.
     fn take_unescaped(&mut self, run: &[u8])
         requires plain { IsPlain run.now }
         requires closed { IsClosed self.old.state }
@@ -268,7 +267,7 @@ fn port_of(bytes: &[u8]) -> Result<u8, PassFault>
     }
 }
 
-/// The byte that an escape and this code stand for.
+/// The byte that an escape and this code stand for, or `None` where they stand for none.
 fn unescape(code: u8) -> Option<u8>
     ensures { (more : List ℕ) → spelled_bytes (0xDB ∷ code ∷ more)
         ≡ option_and_then (λ byte. option_map (λ bytes. byte ∷ bytes) (spelled_bytes more)) result }

@@ -13,7 +13,7 @@ use Rattle.aprs_laws.specs.Sound.{IsSoundRow, Sound}
 use Rattle.aprs_laws.specs.Witnesses.{witnesses_of_row, witnesses}
 use Rattle.aprs_laws.specs.Joining.{Joined}
 use Rattle.aprs_laws.specs.JoinRow.{choose, single, IsNear, combine, place, coalesce, coalesced_rows}
-use Rattle.aprs_laws.specs.Coalescing.{AreInOrder, StandFor, append_row}
+use Rattle.aprs_laws.specs.Coalescing.{AreInOrder, StandFor, append_or_join}
 use Rattle.aprs_laws.proofs.Lists.{in_left, in_right, in_either}
 use Rattle.aprs_laws.proofs.Made.{Made, Keeps, makes_single}
 use Rattle.aprs_laws.proofs.Books.{book_of_keeps, book_carries}
@@ -169,42 +169,42 @@ coalesces_joined gap pos a b rows v w e o =
 
 -- one more row looks at the last alone
 after_first : (gap : ℕ) (k l : Row) (xs : List Row) (x : Row)
-    → append_row gap (k ∷ coalesce gap l xs) x ≡ k ∷ append_row gap (coalesce gap l xs) x
+    → append_or_join gap (k ∷ coalesce gap l xs) x ≡ k ∷ append_or_join gap (coalesce gap l xs) x
 after_first gap k l [] x = refl
 after_first gap k l (y ∷ xs) x =
     by_case (place gap l y) (after_first gap k (combine l y) xs x) where
       by_case : (o : Ordering)
-          → append_row gap (k ∷ coalesce gap (combine l y) xs) x
-          ≡ k ∷ append_row gap (coalesce gap (combine l y) xs) x
-          → append_row gap (k ∷ choose o (l ∷ coalesce gap y xs) (coalesce gap (combine l y) xs)
+          → append_or_join gap (k ∷ coalesce gap (combine l y) xs) x
+          ≡ k ∷ append_or_join gap (coalesce gap (combine l y) xs) x
+          → append_or_join gap (k ∷ choose o (l ∷ coalesce gap y xs) (coalesce gap (combine l y) xs)
           (l ∷ coalesce gap y xs)) x
-          ≡ k ∷ append_row gap (choose o (l ∷ coalesce gap y xs) (coalesce gap (combine l y) xs)
+          ≡ k ∷ append_or_join gap (choose o (l ∷ coalesce gap y xs) (coalesce gap (combine l y) xs)
           (l ∷ coalesce gap y xs)) x
       by_case Less e = refl
       by_case Equal e = e
       by_case Greater e = refl
 
 pub coalesce_one_more : (gap : ℕ) (l : Row) (xs : List Row) (x : Row)
-    → coalesce gap l (xs ++ x ∷ []) ≡ append_row gap (coalesce gap l xs) x
+    → coalesce gap l (xs ++ x ∷ []) ≡ append_or_join gap (coalesce gap l xs) x
 coalesce_one_more gap l [] x = refl
 coalesce_one_more gap l (y ∷ xs) x =
     by_case (place gap l y)
     (ap (λ zs. l ∷ zs) (coalesce_one_more gap y xs x) ∙ sym (after_first gap l y xs x))
     (coalesce_one_more gap (combine l y) xs x) where
       by_case : (o : Ordering)
-          → l ∷ coalesce gap y (xs ++ x ∷ []) ≡ append_row gap (l ∷ coalesce gap y xs) x
-          → coalesce gap (combine l y) (xs ++ x ∷ []) ≡ append_row gap
+          → l ∷ coalesce gap y (xs ++ x ∷ []) ≡ append_or_join gap (l ∷ coalesce gap y xs) x
+          → coalesce gap (combine l y) (xs ++ x ∷ []) ≡ append_or_join gap
           (coalesce gap (combine l y) xs) x
           → choose o (l ∷ coalesce gap y (xs ++ x ∷ [])) (coalesce gap (combine l y) (xs ++ x ∷ []))
           (l ∷ coalesce gap y (xs ++ x ∷ []))
-          ≡ append_row gap (choose o (l ∷ coalesce gap y xs) (coalesce gap (combine l y) xs)
+          ≡ append_or_join gap (choose o (l ∷ coalesce gap y xs) (coalesce gap (combine l y) xs)
           (l ∷ coalesce gap y xs)) x
       by_case Less f n = f
       by_case Equal f n = n
       by_case Greater f n = f
 
 pub coalesces_one_by_one : (gap : ℕ) (rows : List Row) (x : Row)
-    → coalesced_rows gap (rows ++ x ∷ []) ≡ append_row gap (coalesced_rows gap rows) x
+    → coalesced_rows gap (rows ++ x ∷ []) ≡ append_or_join gap (coalesced_rows gap rows) x
 coalesces_one_by_one gap [] x = refl
 coalesces_one_by_one gap (l ∷ rows) x = coalesce_one_more gap l rows x
 

@@ -6,27 +6,27 @@ use Rattle.aprs_laws.specs.Order.{IsUpTo}
 use Rattle.aprs_laws.specs.Key.{Key, key_of}
 use Rattle.aprs_laws.specs.JoinRow.{greater}
 
--- g is the greatest of the receptions in S whose key has the property
+-- g is the greatest of the receptions in S whose key has the property.
 pub record IsBest (S : List Heard) (P : Key → Type 0) (g : Heard) : Type 0 where
   pub member : g ∈ S
   pub property : P (key_of g.frame)
   pub greatest : (s : Heard) → s ∈ S → P (key_of s.frame) → IsUpTo heard_cmp s g
 
--- that member, or none where no member's key has the property
+-- That member, or none where no member's key has the property.
 abbrev pub LastKnown : List Heard → (Key → Type 0) → Option Heard → Type 0
 LastKnown S P None = (s : Heard) → s ∈ S → P (key_of s.frame) → ⊥
 LastKnown S P (Some g) = IsBest S P g
 
--- the greater of what is known and one more reception
+-- The greater of what is known and one more reception.
 abbrev pub greater_known : Option Heard → Heard → Heard
 greater_known None s = s
 greater_known (Some g) s = greater g s
 
--- what is known after one more reception: nothing new, unless its key passes the test
+-- What is known after one more reception: nothing new, unless its key passes the test.
 abbrev pub known_after : (Key → Bool) → Option Heard → Heard → Option Heard
 known_after test known s = if test (key_of s.frame) then Some (greater_known known s) else known
 
--- the plain way to what is last known: one reception after another
+-- The plain way to what is last known: one reception after another.
 abbrev pub known_of : (Key → Bool) → Option Heard → List Heard → Option Heard
 known_of test known [] = known
 known_of test known (s ∷ S) = known_of test (known_after test known s) S

@@ -7,27 +7,27 @@ use Rattle.aprs_laws.specs.Row.{Row}
 use Rattle.aprs_laws.specs.Book.{BookOf}
 use Rattle.aprs_laws.specs.Best.{LastKnown, known_of}
 
--- the test holds of a key
+-- The test holds of a key.
 abbrev pub Passes : (Key → Bool) → Key → Type 0
 Passes test key = IsTrue (test key)
 
--- something is last known, or nothing: one of the two always holds
+-- Something is last known, or nothing: one of the two always holds.
 abbrev pub SomeIsLastKnown : Type 0
 SomeIsLastKnown =
     (test : Key → Bool) (S : List Heard) → (known : Option Heard) × LastKnown S (Passes test) known
 
--- looking at one reception after another finds what is last known
+-- Looking at one reception after another finds what is last known.
 abbrev pub PlainIsLastKnown : Type 0
 PlainIsLastKnown =
     (test : Key → Bool) (S : List Heard) → LastKnown S (Passes test) (known_of test None S)
 
--- sets with the same members have one last known reception
+-- Sets with the same members have one last known reception.
 abbrev pub MembersDecideLastKnown : Type 0
 MembersDecideLastKnown =
     (test : Key → Bool) (S T : List Heard) (x y : Option Heard) → SameMembers S T
     → LastKnown S (Passes test) x → LastKnown T (Passes test) y → x ≡ y
 
--- what is last known of a set is what is last known of the greatest receptions of its book's rows
+-- What is last known of a set is what is last known of the greatest receptions of its book's rows.
 abbrev pub RowsTellLastKnown : Type 0
 RowsTellLastKnown =
     (gap : ℕ) (test : Key → Bool) (S : List Heard) (rows : List Row) (known : Option Heard)

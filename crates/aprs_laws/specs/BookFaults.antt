@@ -5,22 +5,22 @@ use Rattle.aprs_laws.specs.declared.merge_fault.MergeFault.TheVariants as merge_
 use Rattle.aprs_laws.specs.declared.widen_fault.WidenFault.{WidenFault}
 use Rattle.aprs_laws.specs.declared.widen_fault.WidenFault.TheVariants as widen_fault
 
--- the number of each fault of a merge
+-- The number of each fault of a merge.
 abbrev pub merge_fault_number : MergeFault → ℕ
 merge_fault_number merge_fault.OtherGap = 1
 merge_fault_number merge_fault.Memory = 2
 
--- its name
+-- Its name.
 abbrev pub merge_fault_name : MergeFault → List ℕ
 merge_fault_name merge_fault.OtherGap = codes "OtherGap"
 merge_fault_name merge_fault.Memory = codes "Memory"
 
--- the number of each fault of a widening
+-- The number of each fault of a widening.
 abbrev pub widen_fault_number : WidenFault → ℕ
 widen_fault_number widen_fault.Narrower = 1
 widen_fault_number widen_fault.Memory = 2
 
--- its name
+-- Its name.
 abbrev pub widen_fault_name : WidenFault → List ℕ
 widen_fault_name widen_fault.Narrower = codes "Narrower"
 widen_fault_name widen_fault.Memory = codes "Memory"

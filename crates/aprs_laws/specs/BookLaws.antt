@@ -9,58 +9,58 @@ use Rattle.aprs_laws.specs.Book.{BookOf}
 use Rattle.aprs_laws.specs.Sound.{Sound}
 use Rattle.aprs_laws.specs.Witnesses.{witnesses}
 
--- each set has a book
+-- Each set has a book.
 abbrev pub EachSetHasBook : ℕ → Type 0
 EachSetHasBook gap = (S : List Heard) → (p : List Row) × BookOf gap S p
 
--- sets with the same members have one book
+-- Sets with the same members have one book.
 abbrev pub MembersDecideBook : ℕ → Type 0
 MembersDecideBook gap =
     (S T : List Heard) (p q : List Row) → SameMembers S T → BookOf gap S p → BookOf gap T q → p ≡ q
 
--- only the empty set has a book without rows
+-- Only the empty set has a book without rows.
 abbrev pub EmptyBookIsOfNothing : ℕ → Type 0
 EmptyBookIsOfNothing gap = (S : List Heard) → BookOf gap S [] ↔ (S ≡ [])
 
--- a book of a set is sound
+-- A book of a set is sound.
 abbrev pub BooksAreSound : ℕ → Type 0
 BooksAreSound gap = (S : List Heard) (p : List Row) → BookOf gap S p → Sound gap p
 
--- rows are sound exactly if they are the book of some set
+-- Rows are sound exactly if they are the book of some set.
 abbrev pub SoundRowsAreBooks : ℕ → Type 0
 SoundRowsAreBooks gap = (p : List Row) → Sound gap p ↔ ((S : List Heard) × BookOf gap S p)
 
--- sound rows are the book of their witnesses
+-- Sound rows are the book of their witnesses.
 abbrev pub WitnessesHaveBook : ℕ → Type 0
 WitnessesHaveBook gap = (p : List Row) → Sound gap p → BookOf gap (witnesses p) p
 
--- what is added to sets with one book gives one book again
+-- What is added to sets with one book gives one book again.
 abbrev pub BooksDecideUnion : ℕ → Type 0
 BooksDecideUnion gap =
     (S S' T T' : List Heard) (p q c : List Row)
     → BookOf gap S p → BookOf gap S' p → BookOf gap T q → BookOf gap T' q
     → BookOf gap (S ++ T) c → BookOf gap (S' ++ T') c
 
--- the union has the joined value of the books
+-- The union has the joined value of the books.
 abbrev pub UnionIsJoined : ℕ → Type 0
 UnionIsJoined gap =
     (S T : List Heard) (a b c : List Row) → BookOf gap S a → BookOf gap T b
     → BookOf gap (S ++ T) c ↔ BookOf gap (witnesses a ++ witnesses b) c
 
--- the row is of the transmission of this key from its first to its last moment
+-- The row is of the transmission of this key from its first to its last moment.
 pub record IsRowAt (key : Key) (first last : ℕ) (x : Row) : Type 0 where
   pub key_of_row : row_key x ≡ key
   pub first_of_row : x.first ≡ first
   pub last_of_row : last_of x ≡ last
 
--- each transmission in S has exactly one of the rows, and each row is of a transmission
+-- Each transmission in S has exactly one of the rows, and each row is of a transmission.
 pub record HasOneRowEach (gap : ℕ) (S : List Heard) (rows : List Row) : Type 0 where
   pub some : (k : Key) (a b : ℕ) → Run gap S k a b → (x : Row) × (x ∈ rows) × IsRowAt k a b x
   pub only : (k : Key) (a b : ℕ) (x y : Row) → x ∈ rows → y ∈ rows
       → IsRowAt k a b x → IsRowAt k a b y → x ≡ y
   pub run : (x : Row) → x ∈ rows → Run gap S (row_key x) x.first (last_of x)
 
--- in a book each transmission of its set has exactly one row
+-- In a book each transmission of its set has exactly one row.
 abbrev pub RunsHaveOneRowEach : ℕ → Type 0
 RunsHaveOneRowEach gap =
     (S : List Heard) (rows : List Row) → BookOf gap S rows → HasOneRowEach gap S rows

@@ -13,7 +13,7 @@ use Rattle.aprs_laws.specs.Joining.{Joined}
 use Rattle.aprs_laws.specs.JoinRow.{choose, single, combine, place, coalesced_rows}
 use Rattle.aprs_laws.specs.Widening.{widened_rows}
 
--- rows in the order of key and first moment; equal ones stand in any order
+-- Rows in the order of key and first moment; equal ones stand in any order.
 abbrev pub AreInOrder : List Row → Type 0
 AreInOrder rows = Ordered (IsUpTo row_cmp) rows
 
@@ -22,65 +22,65 @@ pub record StandFor (rows : List Row) (S : List Heard) : Type 0 where
   pub each : (x : Row) → x ∈ rows → IsSoundRow x
   pub members : SameMembers (witnesses rows) S
 
--- the rows with one more after them, which joins the last of them where it is near to it
-abbrev pub append_row : ℕ → List Row → Row → List Row
-append_row gap [] r = r ∷ []
-append_row gap (l ∷ []) r =
+-- The rows with one more after them, which joins the last of them where it is near to it.
+abbrev pub append_or_join : ℕ → List Row → Row → List Row
+append_or_join gap [] r = r ∷ []
+append_or_join gap (l ∷ []) r =
     choose (place gap l r) (l ∷ r ∷ []) (combine l r ∷ []) (l ∷ r ∷ [])
-append_row gap (l ∷ m ∷ rows) r = l ∷ append_row gap (m ∷ rows) r
+append_or_join gap (l ∷ m ∷ rows) r = l ∷ append_or_join gap (m ∷ rows) r
 
--- rows in order that are sound each by itself coalesce to the book of their witnesses
+-- Rows in order that are sound each by itself coalesce to the book of their witnesses.
 abbrev pub CoalescesWitnesses : ℕ → Type 0
 CoalescesWitnesses gap =
     (rows : List Row) → ((x : Row) → x ∈ rows → IsSoundRow x) → AreInOrder rows
     → BookOf gap (witnesses rows) (coalesced_rows gap rows)
 
--- rows that stand for a set, put in order, coalesce to the book of that set
+-- Rows that stand for a set, put in order, coalesce to the book of that set.
 abbrev pub CoalescesBook : ℕ → Type 0
 CoalescesBook gap =
     (S : List Heard) (told rows : List Row) → StandFor told S → SameMembers told rows
     → AreInOrder rows
     → BookOf gap S (coalesced_rows gap rows)
 
--- receptions stand for themselves, each as a row of its own
+-- Receptions stand for themselves, each as a row of its own.
 abbrev pub SinglesStand : Type 0
 SinglesStand = (S : List Heard) → StandFor (map single S) S
 
--- the rows of a book stand for their witnesses
+-- The rows of a book stand for their witnesses.
 abbrev pub BooksStand : Type 0
 BooksStand = (gap : ℕ) (rows : List Row) → Sound gap rows → StandFor rows (witnesses rows)
 
--- rows that stand for two sets stand together for their union
+-- Rows that stand for two sets stand together for their union.
 abbrev pub UnionsStand : Type 0
 UnionsStand =
     (p q : List Row) (S T : List Heard) → StandFor p S → StandFor q T → StandFor (p ++ q) (S ++ T)
 
--- receptions in order, each as a row of its own, coalesce to their book
+-- Receptions in order, each as a row of its own, coalesce to their book.
 abbrev pub CoalescesReceptions : ℕ → Type 0
 CoalescesReceptions gap =
     (S : List Heard) → AreInOrder (map single S) → BookOf gap S (coalesced_rows gap (map single S))
 
--- the rows of two books, put in order, coalesce to their joined value
+-- The rows of two books, put in order, coalesce to their joined value.
 abbrev pub CoalescesJoined : ℕ → Type 0
 CoalescesJoined gap =
     (a b rows : List Row) → Sound gap a → Sound gap b → SameMembers (a ++ b) rows
     → AreInOrder rows
     → Joined gap a b (coalesced_rows gap rows)
 
--- the rows of a book, put in order under a gap that is not less, coalesce to the widened book
+-- The rows of a book, put in order under a gap that is not less, coalesce to the widened book.
 abbrev pub CoalescesWider : Type 0
 CoalescesWider =
     (narrow wide : ℕ) (told rows : List Row) → 0 < narrow → narrow ≤ wide → Sound narrow told
     → SameMembers told rows → AreInOrder rows → coalesced_rows wide rows ≡ widened_rows wide told
 
--- one more row is appended to what the rows before it coalesce to
+-- One more row is appended to what the rows before it coalesce to.
 abbrev pub CoalescesOneByOne : ℕ → Type 0
 CoalescesOneByOne gap =
     (rows : List Row) (x : Row)
-    → coalesced_rows gap (rows ++ x ∷ []) ≡ append_row gap (coalesced_rows gap rows) x
+    → coalesced_rows gap (rows ++ x ∷ []) ≡ append_or_join gap (coalesced_rows gap rows) x
 
--- whether the next row joins the last so far: it has its key, and begins at most the gap after its
--- end
+-- Whether the next row joins the last so far: it has its key, and begins at most the gap after its
+-- end.
 abbrev pub JoinsLast : ℕ → Type 0
 JoinsLast gap =
     (rows done : List Row) (l x : Row) → coalesced_rows gap rows ≡ done ++ l ∷ []

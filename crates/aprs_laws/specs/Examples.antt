@@ -14,7 +14,7 @@ hi_after_digipeater =
     130 ∷ 160 ∷ 164 ∷ 166 ∷ 64 ∷ 64 ∷ 224 ∷ 156 ∷ 96 ∷ 134 ∷ 130 ∷ 152 ∷ 152 ∷ 110
     ∷ 174 ∷ 146 ∷ 136 ∷ 138 ∷ 98 ∷ 64 ∷ 227 ∷ 3 ∷ 240 ∷ 62 ∷ 72 ∷ 105 ∷ []
 
--- the same, with the C bits the other way round
+-- The same, with the C bits the other way round.
 abbrev pub hi_as_response : List ℕ
 hi_as_response =
     130 ∷ 160 ∷ 164 ∷ 166 ∷ 64 ∷ 64 ∷ 96 ∷ 156 ∷ 96 ∷ 134 ∷ 130 ∷ 152 ∷ 152 ∷ 238
@@ -26,7 +26,7 @@ of_other =
     130 ∷ 160 ∷ 164 ∷ 166 ∷ 64 ∷ 64 ∷ 224 ∷ 156 ∷ 96 ∷ 134 ∷ 130 ∷ 152 ∷ 152 ∷ 113
     ∷ 3 ∷ 240 ∷ 62 ∷ 72 ∷ 105 ∷ []
 
--- the key of the first three
+-- The key of the first three.
 abbrev pub hi_key : Key
 hi_key = record {
   source = record { letters = codes "N0CALL"; ssid = 7 };
@@ -34,105 +34,105 @@ hi_key = record {
   info = codes ">Hi";
 }
 
--- N0CALL with an SSID
+-- N0CALL with an SSID.
 abbrev pub n0call : ℕ → Call
 n0call ssid = record { letters = codes "N0CALL"; ssid = ssid }
 
--- a property that each key has
+-- A property that each key has.
 abbrev pub any_key : Key → Bool
 any_key key = true
 
--- a receiver
+-- A receiver.
 abbrev pub rx1 : List ℕ
 rx1 = codes "RX1"
 
--- another receiver, after the first
+-- Another receiver, after the first.
 abbrev pub rx2 : List ℕ
 rx2 = codes "RX2"
 
--- a reception of these parts
+-- A reception of these parts.
 abbrev pub heard : ℕ → List ℕ → List ℕ → Heard
 heard moment receiver frame = record { moment = moment; receiver = receiver; frame = frame }
 
--- a row of these parts
+-- A row of these parts.
 abbrev pub row_of : ℕ → List (List ℕ) → Heard → Row
 row_of first receivers greatest =
     record { first = first; receivers = receivers; greatest = greatest }
 
--- heard by RX1 at a moment
+-- Heard by RX1 at a moment.
 abbrev pub by_rx1 : ℕ → Heard
 by_rx1 moment = heard moment rx1 hi_frame
 
--- heard by RX2 through a digipeater, at moment 0
+-- Heard by RX2 through a digipeater, at moment 0.
 abbrev pub early : Heard
 early = heard 0 rx2 hi_after_digipeater
 
--- the standard gap, in milliseconds
+-- The standard gap, in milliseconds.
 abbrev pub half_minute : ℕ
 half_minute = 30000
 
--- two receptions 30 seconds apart
+-- Two receptions 30 seconds apart.
 abbrev pub near_pair : List Heard
 near_pair = by_rx1 30000 ∷ early ∷ []
 
--- their row
+-- Their row.
 abbrev pub near_row : Row
 near_row = row_of 0 (rx1 ∷ rx2 ∷ []) (by_rx1 30000)
 
--- two receptions 30,001 milliseconds apart
+-- Two receptions 30,001 milliseconds apart.
 abbrev pub far_pair : List Heard
 far_pair = by_rx1 30001 ∷ early ∷ []
 
--- the row of the earlier one
+-- The row of the earlier one.
 abbrev pub early_row : Row
 early_row = row_of 0 (rx2 ∷ []) early
 
--- the row of the later one
+-- The row of the later one.
 abbrev pub late_row : Row
 late_row = row_of 30001 (rx1 ∷ []) (by_rx1 30001)
 
--- these rows, under a gap in seconds
+-- These rows, under a gap in seconds.
 abbrev pub book_under : ℕ → BookValue
 book_under gap = record { gap = gap; rows = early_row ∷ late_row ∷ [] }
 
--- two receptions at one moment
+-- Two receptions at one moment.
 abbrev pub tied_pair : List Heard
 tied_pair = by_rx1 0 ∷ early ∷ []
 
--- their row
+-- Their row.
 abbrev pub tied_row : Row
 tied_row = row_of 0 (rx1 ∷ rx2 ∷ []) early
 
--- by two receivers in two milliseconds, where the last reception is by the lesser receiver
+-- By two receivers in two milliseconds, where the last reception is by the lesser receiver.
 abbrev pub short_row : Row
 short_row = row_of 0 (rx1 ∷ rx2 ∷ []) (by_rx1 1)
 
--- a row that begins 30 seconds after the early one
+-- A row that begins 30 seconds after the early one.
 abbrev pub close_row : Row
 close_row = row_of 30000 (rx1 ∷ []) (by_rx1 30000)
 
--- a row of one receiver at one moment
+-- A row of one receiver at one moment.
 abbrev pub row_at : ℕ → Row
 row_at moment = row_of moment (rx1 ∷ []) (by_rx1 moment)
 
--- a row of one receiver from one moment to another
+-- A row of one receiver from one moment to another.
 abbrev pub row_to : ℕ → ℕ → Row
 row_to first last = row_of first (rx1 ∷ []) (by_rx1 last)
 
--- a key with this source and information
+-- A key with this source and information.
 abbrev pub key_by : ℕ → List ℕ → Key
 key_by ssid info = record { source = n0call ssid; destination = n0call 0; info = info }
 
--- the second place takes what stands in the first, which then has one more
+-- The second place takes what stands in the first, which then has one more.
 abbrev pub merge_then_take : List Step
 merge_then_take = Take 0 (by_rx1 0) ∷ Merge 1 0 ∷ Take 0 (by_rx1 30001) ∷ []
 
--- each place takes one, and then what the other has, and one takes what it has itself
+-- Each place takes one, and then what the other has, and one takes what it has itself.
 abbrev pub back_and_forth : List Step
 back_and_forth =
     Take 0 (by_rx1 0) ∷ Take 1 (heard 20 rx2 hi_frame)
     ∷ Merge 0 1 ∷ Merge 1 0 ∷ Merge 0 0 ∷ []
 
--- a join that answers the first value
+-- A join that answers the first value.
 abbrev pub TakesFirst : Heard → Heard → Heard → Type 0
 TakesFirst a b c = c ≡ a

@@ -6,11 +6,11 @@ use Rattle.aprs_laws.specs.Lists.{◌∈◌}
 use Rattle.aprs_laws.specs.Row.{Row}
 use Rattle.aprs_laws.specs.JoinRow.{choose, add, greater, single, IsNear, combine, place}
 
--- where a row lies, seen from a reception: before it, near to it (`Equal`), or after it
+-- Where a row lies, seen from a reception: before it, near to it (`Equal`), or after it.
 abbrev pub side : ℕ → Row → Heard → Ordering
 side gap r s = place gap r (single s)
 
--- a row with one more reception
+-- A row with one more reception.
 abbrev pub grow_row : Row → Heard → Row
 grow_row r s = record {
   first = min r.first s.moment;
@@ -18,19 +18,19 @@ grow_row r s = record {
   greatest = greater r.greatest s;
 }
 
--- a row grown by s, and the rows after it, of which the first may be near to s too
+-- A row grown by s, and the rows after it, of which the first may be near to s too.
 abbrev pub bridge_row : ℕ → Heard → Row → List Row → List Row
 bridge_row gap s r [] = r ∷ []
 bridge_row gap s r (x ∷ xs) = choose (side gap x s) (r ∷ x ∷ xs) (combine r x ∷ xs) (r ∷ x ∷ xs)
 
--- the rows with one more reception, in its place among them
+-- The rows with one more reception, in its place among them.
 abbrev pub insert_heard : ℕ → Heard → List Row → List Row
 insert_heard gap s [] = single s ∷ []
 insert_heard gap s (r ∷ rows) =
     choose (side gap r s) (r ∷ insert_heard gap s rows) (bridge_row gap s (grow_row r s) rows)
     (single s ∷ r ∷ rows)
 
--- exactly one row is near to s, and lists its receiver: what s changes fits where it is
+-- Exactly one row is near to s, and lists its receiver: what s changes fits where it is.
 pub record FitsInPlace (gap : ℕ) (rows : List Row) (s : Heard) : Type 0 where
   pub row : Row
   pub member : row ∈ rows
@@ -38,17 +38,17 @@ pub record FitsInPlace (gap : ℕ) (rows : List Row) (s : Heard) : Type 0 where
   pub listed : s.receiver ∈ row.receivers
   pub only : (x : Row) → x ∈ rows → IsNear gap x (single s) → x ≡ row
 
--- whether the ascending list has this receiver
+-- Whether the ascending list has this receiver.
 abbrev pub is_listed : List ℕ → List (List ℕ) → Bool
 is_listed r [] = false
 is_listed r (x ∷ xs) = choose (bytes_cmp r x) false true (is_listed r xs)
 
--- whether the first of the rows is near to s
+-- Whether the first of the rows is near to s.
 abbrev pub is_near_first : ℕ → Heard → List Row → Bool
 is_near_first gap s [] = false
 is_near_first gap s (x ∷ xs) = choose (side gap x s) false true false
 
--- `FitsInPlace` as a test of sound rows
+-- `FitsInPlace` as a test of sound rows.
 abbrev pub fits_in_place : ℕ → Heard → List Row → Bool
 fits_in_place gap s [] = false
 fits_in_place gap s (r ∷ rows) =

@@ -7,37 +7,37 @@ use Rattle.aprs_log.specs.Reception.{Heard, bytes_cmp, heard_cmp}
 use Rattle.aprs_laws.specs.Key.{key_cmp}
 use Rattle.aprs_laws.specs.Row.{Row, row_key, last_of, row_cmp}
 
--- one of three values, by an ordering
+-- One of three values, by an ordering.
 abbrev pub choose : {A : Type 0} → Ordering → A → A → A → A
 choose Less a b c = a
 choose Equal a b c = b
 choose Greater a b c = c
 
--- a list in order with x in its place, unless it is there
+-- A list in order with x in its place, unless it is there.
 abbrev pub add : {X : Type 0} → (X → X → Ordering) → X → List X → List X
 add cmp x [] = x ∷ []
 add cmp x (y ∷ ys) = choose (cmp x y) (x ∷ y ∷ ys) (y ∷ ys) (y ∷ add cmp x ys)
 
--- a list in order with all of xs in their places
+-- A list in order with all of xs in their places.
 abbrev pub union : {X : Type 0} → (X → X → Ordering) → List X → List X → List X
 union cmp [] ys = ys
 union cmp (x ∷ xs) ys = add cmp x (union cmp xs ys)
 
--- the greater of two receptions
+-- The greater of two receptions.
 abbrev pub greater : Heard → Heard → Heard
 greater a b = choose (heard_cmp a b) b a a
 
--- the row of one reception
+-- The row of one reception.
 abbrev pub single : Heard → Row
 single s = record { first = s.moment; receivers = s.receiver ∷ []; greatest = s }
 
--- x and y have one key, and neither begins more than `gap` milliseconds after the other ends
+-- x and y have one key, and neither begins more than `gap` milliseconds after the other ends.
 pub record IsNear (gap : ℕ) (x y : Row) : Type 0 where
   pub key : row_key x ≡ row_key y
   pub after : y.first ≤ last_of x + gap
   pub before : x.first ≤ last_of y + gap
 
--- two near rows as one
+-- Two near rows as one.
 abbrev pub combine : Row → Row → Row
 combine x y = record {
   first = min x.first y.first;
@@ -45,51 +45,51 @@ combine x y = record {
   greatest = greater x.greatest y.greatest;
 }
 
--- of rows of one key: x before y and far from it, near (`Equal`), or after it
+-- Of rows of one key: x before y and far from it, near (`Equal`), or after it.
 abbrev pub by_moments : ℕ → Row → Row → Ordering
 by_moments gap x y =
     if nat_lt (last_of x + gap) y.first then Less
     else if nat_lt (last_of y + gap) x.first then Greater else Equal
 
--- where x lies, seen from y: before, near or after
+-- Where x lies, seen from y: before, near or after.
 abbrev pub place : ℕ → Row → Row → Ordering
 place gap x y = ordering_then (key_cmp (row_key x) (row_key y)) (by_moments gap x y)
 
--- the rows with one more row, which is one with each row that it is near to
+-- The rows with one more row, which is one with each row that it is near to.
 abbrev pub join_row : ℕ → List Row → Row → List Row
 join_row gap [] r = r ∷ []
 join_row gap (x ∷ xs) r =
     choose (place gap x r) (x ∷ join_row gap xs r) (join_row gap xs (combine x r)) (r ∷ x ∷ xs)
 
--- all rows of the second list join the first
+-- All rows of the second list join the first.
 abbrev pub merge : ℕ → List Row → List Row → List Row
 merge gap p [] = p
 merge gap p (r ∷ rs) = merge gap (join_row gap p r) rs
 
--- l and the rows that follow it, where each joins the one before it that it is near to
+-- l and the rows that follow it, where each joins the one before it that it is near to.
 abbrev pub coalesce : ℕ → Row → List Row → List Row
 coalesce gap l [] = l ∷ []
 coalesce gap l (x ∷ xs) =
     choose (place gap l x) (l ∷ coalesce gap x xs) (coalesce gap (combine l x) xs)
     (l ∷ coalesce gap x xs)
 
--- rows in order, where each joins the one before it that it is near to
+-- Rows in order, where each joins the one before it that it is near to.
 abbrev pub coalesced_rows : ℕ → List Row → List Row
 coalesced_rows gap [] = []
 coalesced_rows gap (l ∷ xs) = coalesce gap l xs
 
--- x and the rows after it, in order with others, where `rest` does this for the rows after it
+-- x and the rows after it, in order with others, where `rest` does this for the rows after it.
 abbrev pub interleave_from : Row → List Row → (List Row → List Row) → List Row → List Row
 interleave_from x xs rest [] = x ∷ xs
 interleave_from x xs rest (y ∷ ys) =
     choose (row_cmp y x) (y ∷ interleave_from x xs rest ys) (x ∷ rest (y ∷ ys)) (x ∷ rest (y ∷ ys))
 
--- the rows of two lists in order, those of the first before equal ones of the second
+-- The rows of two lists in order, those of the first before equal ones of the second.
 abbrev pub interleave : List Row → List Row → List Row
 interleave [] ys = ys
 interleave (x ∷ xs) ys = interleave_from x xs (interleave xs) ys
 
--- the plain way to a book: one reception after another
+-- The plain way to a book: one reception after another.
 abbrev pub plain_book : ℕ → List Heard → List Row
 plain_book gap [] = []
 plain_book gap (s ∷ S) = join_row gap (plain_book gap S) (single s)

@@ -25,40 +25,40 @@ pub record JoinLaws {X : Type 0} (valid : X → Type 0) (alike : X → X → Typ
   pub associative : (a b c x y p q : X)
       → joined a b x → joined x c p → joined b c y → joined a y q → p ≡ q
 
--- c is the greater of two receptions
+-- c is the greater of two receptions.
 pub record IsGreaterOf (a b c : Heard) : Type 0 where
   pub one : (c ≡ a) ⊎ (c ≡ b)
   pub left : IsUpTo heard_cmp a c
   pub right : IsUpTo heard_cmp b c
 
--- any two are alike
+-- Any two are alike.
 abbrev pub AreAny : {X : Type 0} → X → X → Type 0
 AreAny x y = Unit {0}
 
--- each item is alike to `start`
+-- Each item is alike to `start`.
 abbrev pub AreAllAlike : {X : Type 0} → (X → X → Type 0) → X → List X → Type 0
 AreAllAlike {X} alike start items = (item : X) → item ∈ items → alike start item
 
--- every reception is valid
+-- Every reception is valid.
 abbrev pub IsAny : Heard → Type 0
 IsAny x = Unit {0}
 
--- c ascends, and has the members of a and of b, no others
+-- c ascends, and has the members of a and of b, no others.
 pub record IsUnited {X : Type 0} (cmp : X → X → Ordering) (a b c : List X) : Type 0 where
   pub ascending : Ordered (IsBelow cmp) c
   pub members : (x : X) → (x ∈ c) ↔ ((x ∈ a) ⊎ (x ∈ b))
 
--- c is the book of the witnesses of a and b
+-- c is the book of the witnesses of a and b.
 abbrev pub Joined : ℕ → List Row → List Row → List Row → Type 0
 Joined gap a b c = BookOf gap (witnesses a ++ witnesses b) c
 
--- the items joined to `start` one after another
+-- The items joined to `start` one after another.
 abbrev pub FoldsTo : {X : Type 0} → (X → X → X → Type 0) → X → List X → X → Type 0
 FoldsTo joined start [] end = end ≡ start
 FoldsTo {X} joined start (x ∷ xs) end =
     (next : X) × joined start x next × FoldsTo joined next xs end
 
--- valid items in another order or with repeats fold to the same
+-- Valid items in another order or with repeats fold to the same.
 abbrev pub FoldsFreely : {X : Type 0} → (X → Type 0) → (X → X → X → Type 0) → Type 0
 FoldsFreely {X} valid joined =
     (start : X) (xs ys : List X) (c d : X)

@@ -14,8 +14,8 @@ pub record Key : Type 0 where
   pub destination : Call
   pub info : List ℕ
 
--- the key of a frame's bytes: the callsigns of its second address and of its first, and what
--- follows control and PID
+-- The key of a frame's bytes: the callsigns of its second address and of its first, and what
+-- follows control and PID.
 unfoldable pub key_of : List ℕ → Key
 key_of frame = record {
   source = call_of (take 7 (drop 7 frame));
@@ -23,11 +23,11 @@ key_of frame = record {
   info = drop 2 (after_field frame);
 }
 
--- the key of a frame's parts
+-- The key of a frame's parts.
 abbrev pub key_of_parts : Parts → Key
 key_of_parts p = record { source = p.source.call; destination = p.destination.call; info = p.info }
 
--- keys are ordered by source, then destination, then the bytes of the information
+-- Keys are ordered by source, then destination, then the bytes of the information.
 unfoldable pub key_cmp : Key → Key → Ordering
 key_cmp = then_cmp (on (λ k. k.source) call_cmp)
     (then_cmp (on (λ k. k.destination) call_cmp) (on (λ k. k.info) bytes_cmp))

@@ -26,7 +26,7 @@ pub mod Coalescing
 pub mod Widening
 pub mod BookValue
 pub mod Scaling
--- what public clauses cite of lower crates
+-- What public clauses cite of lower crates.
 pub use Rattle.aprs_ax25.specs.Callsign
 pub use Rattle.aprs_ax25.specs.Frame
 pub use Rattle.aprs_log.specs.Reception

@@ -6,19 +6,19 @@ use Rattle.aprs_laws.specs.Order.{IsBelow}
 use Rattle.aprs_laws.specs.Joining.{IsUnited}
 use Rattle.aprs_laws.specs.JoinRow.{choose}
 
--- x and what follows it, merged with others, where `rest` does this for what follows x
+-- x and what follows it, merged with others, where `rest` does this for what follows x.
 abbrev pub ascending_union_from : {X : Type 0}
     → (X → X → Ordering) → X → List X → (List X → List X) → List X → List X
 ascending_union_from cmp x xs rest [] = x ∷ xs
 ascending_union_from cmp x xs rest (y ∷ ys) =
     choose (cmp x y) (x ∷ rest (y ∷ ys)) (x ∷ rest ys) (y ∷ ascending_union_from cmp x xs rest ys)
 
--- the members of both, each once
+-- The members of both, each once.
 abbrev pub ascending_union : {X : Type 0} → (X → X → Ordering) → List X → List X → List X
 ascending_union cmp [] ys = ys
 ascending_union cmp (x ∷ xs) ys = ascending_union_from cmp x xs (ascending_union cmp xs) ys
 
--- that is the joined value of ascending lists
+-- That is the joined value of ascending lists.
 abbrev pub MergesInOnePass : {X : Type 0} → (X → X → Ordering) → Type 0
 MergesInOnePass {X} cmp =
     (a b : List X) → Ordered (IsBelow cmp) a → Ordered (IsBelow cmp) b

@@ -15,22 +15,22 @@ pub record Row : Type 0 where
   pub receivers : List (List ℕ)
   pub greatest : Heard
 
--- the key of a row: that of its greatest reception
+-- The key of a row: that of its greatest reception.
 abbrev pub row_key : Row → Key
 row_key x = key_of x.greatest.frame
 
--- the last moment of a row: that of its greatest reception
+-- The last moment of a row: that of its greatest reception.
 abbrev pub last_of : Row → ℕ
 last_of x = x.greatest.moment
 
--- s is of the row's key, at a moment from its first to its last
+-- s is of the row's key, at a moment from its first to its last.
 pub record IsOf (x : Row) (s : Heard) : Type 0 where
   pub key : key_of s.frame ≡ row_key x
   pub from : x.first ≤ s.moment
   pub to : s.moment ≤ last_of x
 
 -- x is the row of a transmission in S: its receivers are those of the transmission's receptions,
--- ascending and without repeats, and its greatest reception is the greatest of them
+-- ascending and without repeats, and its greatest reception is the greatest of them.
 pub record RowOf (gap : ℕ) (S : List Heard) (x : Row) : Type 0 where
   pub run : Run gap S (row_key x) x.first (last_of x)
   pub ascending : Ordered (IsBelow bytes_cmp) x.receivers
@@ -39,6 +39,6 @@ pub record RowOf (gap : ℕ) (S : List Heard) (x : Row) : Type 0 where
   pub member : x.greatest ∈ S
   pub greatest : (s : Heard) → s ∈ S → IsOf x s → IsUpTo heard_cmp s x.greatest
 
--- rows are ordered by key, then first moment
+-- Rows are ordered by key, then first moment.
 abbrev pub row_cmp : Row → Row → Ordering
 row_cmp = then_cmp (on row_key key_cmp) (on (λ x. x.first) nat_cmp)

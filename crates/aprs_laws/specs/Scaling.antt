@@ -4,12 +4,12 @@ use Rattle.aprs_log.specs.Reception.{Heard}
 use Rattle.aprs_laws.specs.Row.{Row}
 use Rattle.aprs_laws.specs.Book.{BookOf}
 
--- the same reception, its moment counted in units of which one of the old has `factor`
+-- The same reception, its moment counted in units of which one of the old has `factor`.
 abbrev pub scaled_heard : ℕ → Heard → Heard
 scaled_heard factor s =
     record { moment = s.moment * factor; receiver = s.receiver; frame = s.frame }
 
--- the same row in the other unit
+-- The same row in the other unit.
 abbrev pub scaled_row : ℕ → Row → Row
 scaled_row factor x = record {
   first = x.first * factor;
@@ -17,7 +17,7 @@ scaled_row factor x = record {
   greatest = scaled_heard factor x.greatest;
 }
 
--- the same rows in the other unit
+-- The same rows in the other unit.
 abbrev pub scaled_rows : ℕ → List Row → List Row
 scaled_rows factor rows = map (scaled_row factor) rows
 

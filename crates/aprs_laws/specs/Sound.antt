@@ -13,21 +13,21 @@ pub record IsSoundRow (x : Row) : Type 0 where
   pub single : x.first ≡ last_of x
       → (r : List ℕ) → r ∈ x.receivers → IsUpTo bytes_cmp r x.greatest.receiver
 
--- where the keys are equal, y begins more than `gap` milliseconds after x ends
+-- Where the keys are equal, y begins more than `gap` milliseconds after x ends.
 abbrev pub IsFar : ℕ → Row → Row → Type 0
 IsFar gap x y = row_key x ≡ row_key y → last_of x + gap < y.first
 
--- the rows ascend, rows of one key are far from each other, and each is sound by itself
+-- The rows ascend, rows of one key are far from each other, and each is sound by itself.
 pub record Sound (gap : ℕ) (rows : List Row) : Type 0 where
   pub ascending : Ordered (IsBelow row_cmp) rows
   pub apart : Ordered (IsFar gap) rows
   pub each : (x : Row) → x ∈ rows → IsSoundRow x
 
--- x comes after the row `last` in the order of rows, and far from it
+-- x comes after the row `last` in the order of rows, and far from it.
 abbrev pub ComesAfter : ℕ → Row → Row → Type 0
 ComesAfter gap x last = IsBelow row_cmp last x × IsFar gap last x
 
--- x may follow the rows: it is sound by itself, and comes after the last of them, far from it
+-- x may follow the rows: it is sound by itself, and comes after the last of them, far from it.
 pub record IsNext (gap : ℕ) (rows : List Row) (x : Row) : Type 0 where
   pub own : IsSoundRow x
   pub after : IfLast rows (ComesAfter gap x)

@@ -7,13 +7,13 @@ use Rattle.aprs_laws.specs.Book.{BookOf}
 use Rattle.aprs_laws.specs.BestLaws.{Passes}
 use Rattle.aprs_laws.specs.Spans.{IsFirstMoment, IsLastMoment, IsLeastFirst, IsGreatestLast}
 
--- the least moment of a set's receptions is the least first moment of its book's rows
+-- The least moment of a set's receptions is the least first moment of its book's rows.
 abbrev pub RowsTellFirstMoment : Type 0
 RowsTellFirstMoment =
     (gap : ℕ) (test : Key → Bool) (S : List Heard) (rows : List Row) (m : ℕ) → BookOf gap S rows
     → IsFirstMoment S (Passes test) m ↔ IsLeastFirst rows (Passes test) m
 
--- the greatest moment of a set's receptions is the greatest last moment of its book's rows
+-- The greatest moment of a set's receptions is the greatest last moment of its book's rows.
 abbrev pub RowsTellLastMoment : Type 0
 RowsTellLastMoment =
     (gap : ℕ) (test : Key → Bool) (S : List Heard) (rows : List Row) (m : ℕ) → BookOf gap S rows

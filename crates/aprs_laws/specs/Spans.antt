@@ -5,22 +5,22 @@ use Rattle.aprs_laws.specs.Lists.{◌∈◌}
 use Rattle.aprs_laws.specs.Key.{Key, key_of}
 use Rattle.aprs_laws.specs.Row.{Row, row_key, last_of}
 
--- the least moment at which S has a reception whose key has the property
+-- The least moment at which S has a reception whose key has the property.
 pub record IsFirstMoment (S : List Heard) (P : Key → Type 0) (m : ℕ) : Type 0 where
   pub heard : (s : Heard) × (s ∈ S) × P (key_of s.frame) × (s.moment ≡ m)
   pub least : (s : Heard) → s ∈ S → P (key_of s.frame) → m ≤ s.moment
 
--- the greatest such moment
+-- The greatest such moment.
 pub record IsLastMoment (S : List Heard) (P : Key → Type 0) (m : ℕ) : Type 0 where
   pub heard : (s : Heard) × (s ∈ S) × P (key_of s.frame) × (s.moment ≡ m)
   pub greatest : (s : Heard) → s ∈ S → P (key_of s.frame) → s.moment ≤ m
 
--- the least first moment of the rows whose key has the property
+-- The least first moment of the rows whose key has the property.
 pub record IsLeastFirst (rows : List Row) (P : Key → Type 0) (m : ℕ) : Type 0 where
   pub row : (x : Row) × (x ∈ rows) × P (row_key x) × (x.first ≡ m)
   pub least : (x : Row) → x ∈ rows → P (row_key x) → m ≤ x.first
 
--- the greatest last moment of the rows whose key has the property
+-- The greatest last moment of the rows whose key has the property.
 pub record IsGreatestLast (rows : List Row) (P : Key → Type 0) (m : ℕ) : Type 0 where
   pub row : (x : Row) × (x ∈ rows) × P (row_key x) × (last_of x ≡ m)
   pub greatest : (x : Row) → x ∈ rows → P (row_key x) → last_of x ≤ m

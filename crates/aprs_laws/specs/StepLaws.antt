@@ -10,74 +10,74 @@ use Rattle.aprs_laws.specs.Taken.{Step, Take, Merge, sets_after}
 use Rattle.aprs_laws.specs.Inserted.{insert_heard, FitsInPlace, fits_in_place}
 use Rattle.aprs_laws.specs.JoinRow.{single, IsNear, join_row, merge, interleave, coalesced_rows, plain_book}
 
--- the plain way gives the book
+-- The plain way gives the book.
 abbrev pub PlainBookIsBook : ℕ → Type 0
 PlainBookIsBook gap = (S : List Heard) → BookOf gap S (plain_book gap S)
 
--- one more reception joins the rows as a row of its own does
+-- One more reception joins the rows as a row of its own does.
 abbrev pub TakesReception : ℕ → Type 0
 TakesReception gap =
     (S : List Heard) (s : Heard) (p : List Row) → BookOf gap S p
     → BookOf gap (S ++ s ∷ []) (join_row gap p (single s))
 
--- one more reception is inserted as code does it
+-- One more reception is inserted as code does it.
 abbrev pub InsertsReception : ℕ → Type 0
 InsertsReception gap =
     (S : List Heard) (s : Heard) (p : List Row) → BookOf gap S p
     → BookOf gap (S ++ s ∷ []) (insert_heard gap s p)
 
--- what fits in place passes the test of that
+-- What fits in place passes the test of that.
 abbrev pub FitsByTest : ℕ → Type 0
 FitsByTest gap =
     (s : Heard) (p : List Row) → Sound gap p → FitsInPlace gap p s → fits_in_place gap s p ≡ true
 
--- sound rows stay sound with exactly those rows after them that may follow
+-- Sound rows stay sound with exactly those rows after them that may follow.
 abbrev pub OnlyNextFollows : ℕ → Type 0
 OnlyNextFollows gap =
     (p : List Row) (x : Row) → Sound gap p → Sound gap (p ++ x ∷ []) ↔ IsNext gap p x
 
--- one more sound row gives the joined rows
+-- One more sound row gives the joined rows.
 abbrev pub TakesRow : ℕ → Type 0
 TakesRow gap =
     (p : List Row) (r : Row) → Sound gap p → IsSoundRow r → Joined gap p (r ∷ []) (join_row gap p r)
 
--- the rows of another book, taken one after another, give the book of the union
+-- The rows of another book, taken one after another, give the book of the union.
 abbrev pub TakesRows : ℕ → Type 0
 TakesRows gap =
     (S T : List Heard) (p q : List Row) → BookOf gap S p → BookOf gap T q
     → BookOf gap (S ++ T) (merge gap p q)
 
--- of three rows to which one reception is near, two are one
+-- Of three rows to which one reception is near, two are one.
 abbrev pub AtMostTwoAreNear : ℕ → Type 0
 AtMostTwoAreNear gap =
     (p : List Row) (s : Heard) (x y z : Row) → Sound gap p → x ∈ p → y ∈ p → z ∈ p
     → IsNear gap x (single s) → IsNear gap y (single s) → IsNear gap z (single s)
     → (x ≡ y) ⊎ (y ≡ z) ⊎ (x ≡ z)
 
--- the rows of two books in order, where each joins the one before it if they are near
+-- The rows of two books in order, where each joins the one before it if they are near.
 abbrev pub OnePassJoins : ℕ → Type 0
 OnePassJoins gap =
     (a b : List Row) → Sound gap a → Sound gap b
     → Joined gap a b (coalesced_rows gap (interleave a b))
 
--- the rows at all places after one more step
+-- The rows at all places after one more step.
 abbrev pub rows_after_step : ℕ → Step → (ℕ → List Row) → ℕ → List Row
 rows_after_step gap (Take i x) rows k = if k == i then join_row gap (rows k) (single x) else rows k
 rows_after_step gap (Merge i j) rows k = if k == i then merge gap (rows k) (rows j) else rows k
 
--- the rows at all places after these steps
+-- The rows at all places after these steps.
 abbrev pub rows_after_steps : ℕ → List Step → (ℕ → List Row) → ℕ → List Row
 rows_after_steps gap [] rows = rows
 rows_after_steps gap (step ∷ steps) rows =
     rows_after_steps gap steps (rows_after_step gap step rows)
 
--- the steps on rows give the books of the sets that the steps take
+-- The steps on rows give the books of the sets that the steps take.
 abbrev pub StepsGiveBooks : ℕ → Type 0
 StepsGiveBooks gap =
     (steps : List Step) (i : ℕ)
     → BookOf gap (sets_after steps i) (rows_after_steps gap steps (λ k. []) i)
 
--- places that took the same receptions, in any order, with any repeats and merges, have equal rows
+-- Places that took the same receptions, in any order, with any repeats and merges, have equal rows.
 abbrev pub SameTakenSameRows : ℕ → Type 0
 SameTakenSameRows gap =
     (steps others : List Step) (i j : ℕ) → SameMembers (sets_after steps i) (sets_after others j)

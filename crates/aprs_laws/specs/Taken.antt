@@ -3,30 +3,30 @@ use Rattle.std.specs.Prelude.{ℕ, ◌<◌, ◌==◌, if◌then◌else◌, List,
 use Rattle.aprs_log.specs.Reception.{Heard}
 use Rattle.aprs_laws.specs.Lists.{◌∈◌}
 
--- a reception goes to a place; what stands at the second place goes to the first too
+-- A reception goes to a place; what stands at the second place goes to the first too.
 pub data Step : Type 0 where
   Take : ℕ → Heard → Step
   Merge : ℕ → ℕ → Step
 
--- the sets at all places after one more step
+-- The sets at all places after one more step.
 abbrev pub after_step : Step → (ℕ → List Heard) → ℕ → List Heard
 after_step (Take i x) sets k = if k == i then sets k ++ x ∷ [] else sets k
 after_step (Merge i j) sets k = if k == i then sets k ++ sets j else sets k
 
--- the sets at all places after these steps
+-- The sets at all places after these steps.
 abbrev pub after_steps : List Step → (ℕ → List Heard) → ℕ → List Heard
 after_steps [] sets = sets
 after_steps (step ∷ steps) sets = after_steps steps (after_step step sets)
 
--- the sets at all places after these steps, from empty sets at all places
+-- The sets at all places after these steps, from empty sets at all places.
 abbrev pub sets_after : List Step → ℕ → List Heard
 sets_after steps = after_steps steps (λ k. [])
 
--- every place is below n
+-- Every place is below n.
 abbrev pub StepFits : ℕ → Step → Type 0
 StepFits n (Take i x) = i < n
 StepFits n (Merge i j) = (i < n) × (j < n)
 
--- every place of every step is below n
+-- Every place of every step is below n.
 abbrev pub StepsFit : ℕ → List Step → Type 0
 StepsFit n steps = (step : Step) → step ∈ steps → StepFits n step

@@ -7,40 +7,40 @@ use Rattle.aprs_laws.specs.Sound.{Sound}
 use Rattle.aprs_laws.specs.Joining.{Joined}
 use Rattle.aprs_laws.specs.JoinRow.{coalesced_rows}
 
--- rows of a book under a gap that is not less: each joins the one before it that it is near to
+-- Rows of a book under a gap that is not less: each joins the one before it that it is near to.
 abbrev pub widened_rows : ℕ → List Row → List Row
 widened_rows gap rows = coalesced_rows gap rows
 
--- that is the book of the same set
+-- That is the book of the same set.
 abbrev pub WidensBook : Type 0
 WidensBook =
     (narrow wide : ℕ) (S : List Heard) (rows : List Row) → narrow ≤ wide → BookOf narrow S rows
     → BookOf wide S (widened_rows wide rows)
 
--- sound rows are sound under the other gap too, once they are widened
+-- Sound rows are sound under the other gap too, once they are widened.
 abbrev pub WidenedIsSound : Type 0
 WidenedIsSound =
     (narrow wide : ℕ) (rows : List Row) → 0 < narrow → narrow ≤ wide → Sound narrow rows
     → Sound wide (widened_rows wide rows)
 
--- an equal gap changes nothing
+-- An equal gap changes nothing.
 abbrev pub KeepsUnderOwnGap : ℕ → Type 0
 KeepsUnderOwnGap gap = (rows : List Row) → 0 < gap → Sound gap rows → widened_rows gap rows ≡ rows
 
--- in two steps as in one
+-- In two steps as in one.
 abbrev pub WidensInSteps : Type 0
 WidensInSteps =
     (narrow middle wide : ℕ) (rows : List Row) → 0 < narrow → narrow ≤ middle → middle ≤ wide
     → Sound narrow rows → widened_rows wide (widened_rows middle rows) ≡ widened_rows wide rows
 
--- what is widened and then joined is what is joined and then widened
+-- What is widened and then joined is what is joined and then widened.
 abbrev pub WidensJoined : Type 0
 WidensJoined =
     (narrow wide : ℕ) (a b c : List Row) → 0 < narrow → narrow ≤ wide → Sound narrow a
     → Sound narrow b → Joined narrow a b c
     → Joined wide (widened_rows wide a) (widened_rows wide b) (widened_rows wide c)
 
--- under a lesser gap, rows do not decide the book: no function of rows gives it for each set
+-- Under a lesser gap, rows do not decide the book: no function of rows gives it for each set.
 abbrev pub NarrowsNot : Type 0
 NarrowsNot =
     (narrow wide : ℕ) (narrowed : List Row → List Row) → 0 < narrow → narrow < wide

@@ -5,25 +5,25 @@ use Rattle.std.specs.Prelude.{ℕ, ◌+◌, ◌-◌, List, [], ◌∷◌, ◌++�
 use Rattle.aprs_log.specs.Reception.{Heard}
 use Rattle.aprs_laws.specs.Row.{Row, last_of}
 
--- the n moments from m on, a millisecond apart
+-- The n moments from m on, a millisecond apart.
 abbrev pub moments : ℕ → ℕ → List ℕ
 moments m zero = []
 moments m (suc n) = m ∷ moments (m + 1) n
 
--- the witness of a row at a moment: its greatest reception, moved to that moment
+-- The witness of a row at a moment: its greatest reception, moved to that moment.
 abbrev pub witness_at : Row → ℕ → Heard
 witness_at x m = record { moment = m; receiver = x.greatest.receiver; frame = x.greatest.frame }
 
--- the witness of a row by a receiver: its greatest reception's frame, at the row's first moment
+-- The witness of a row by a receiver: its greatest reception's frame, at the row's first moment.
 abbrev pub witness_by : Row → List ℕ → Heard
 witness_by x r = record { moment = x.first; receiver = r; frame = x.greatest.frame }
 
--- the witnesses of one row: one at each of its milliseconds, and one by each of its receivers
+-- The witnesses of one row: one at each of its milliseconds, and one by each of its receivers.
 abbrev pub witnesses_of_row : Row → List Heard
 witnesses_of_row x =
     map (witness_at x) (moments x.first (last_of x - x.first + 1)) ++ map (witness_by x) x.receivers
 
--- the witnesses of all rows
+-- The witnesses of all rows.
 abbrev pub witnesses : List Row → List Heard
 witnesses [] = []
 witnesses (x ∷ xs) = witnesses_of_row x ++ witnesses xs

@@ -1,6 +1,7 @@
-//! What the book of a set of receptions is, and the laws of books. There is no code here but that
-//! of the gap, and of the numbers and names of faults: each other function does nothing, and what
-//! it ensures is a law over the definitions in `specs/`.
+//! What the book of a set of receptions is, with its gap; the laws of books; and why a row, a merge
+//! or a widening is refused. There is no code here but that of the gap, and of the numbers and
+//! names of faults: each other function does nothing, and what it ensures is a law over the
+//! definitions in `specs/`.
 #![tactic(auto)]
 
 mod examples;

@@ -7,7 +7,7 @@ use Rattle.aprs_listing.specs.Listing.{word, stamp_text, degrees_text, ambiguity
 use Rattle.aprs_listing.specs.declared.field.Field.{Field}
 use Rattle.aprs_listing.specs.declared.field.Field.TheVariants as field
 
--- the text of a field
+-- The text of a field.
 abbrev pub field_text : Field → List ℕ
 field_text (field.Plain bytes) = bytes.now
 field_text (field.Word bytes) = word bytes.now
@@ -19,6 +19,6 @@ field_text (field.Degrees fraction) = degrees_text fraction
 field_text (field.Ambiguity place) = ambiguity_text place
 field_text (field.Symbol symbol) = symbol_text symbol
 
--- a space and the text of a field
+-- A space and the text of a field.
 abbrev pub spaced_field : Field → List ℕ
 spaced_field x = 32 ∷ field_text x

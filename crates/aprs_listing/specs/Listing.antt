@@ -26,79 +26,79 @@ use Rattle.aprs_convert.specs.Shown.{shown_byte, shown_text}
 
 -- ---- fields
 
--- a space as \x20, and any other byte as it is shown
+-- A space as \x20, and any other byte as it is shown.
 abbrev pub word_byte : ℕ → List ℕ
 word_byte b = if b == 32 then codes "\\x20" else shown_byte b
 
--- a name
+-- A name.
 abbrev pub word : List ℕ → List ℕ
 word bytes = flat_map word_byte bytes
 
--- the seven bytes of a time stamp, or - without one
+-- The seven bytes of a time stamp, or - without one.
 abbrev pub stamp_text : Option Stamp → List ℕ
 stamp_text None = codes "-"
 stamp_text (Some s) = stamp_bytes s
 
--- numerator/denominator, in decimal
+-- Numerator/denominator, in decimal.
 abbrev pub degrees_text : Fraction → List ℕ
 degrees_text f = signed_decimal f.numerator ++ codes "/" ++ signed_decimal f.denominator
 
--- how many digits of the minutes are left out, or c for a compressed position
+-- How many digits of the minutes are left out, or c for a compressed position.
 abbrev pub ambiguity_text : Place → List ℕ
 ambiguity_text (Plain lat lon ambiguity) = decimal ambiguity
 ambiguity_text (Base91 y x cst) = codes "c"
 
--- its table and its code
+-- Its table and its code.
 abbrev pub symbol_text : Symbol → List ℕ
 symbol_text s = shown_text (s.table ∷ s.code ∷ [])
 
--- whether an object or an item is live or killed
+-- Whether an object or an item is live or killed.
 abbrev pub live_text : Bool → List ℕ
 live_text true = codes "live"
 live_text false = codes "killed"
 
--- the id of a message, or - without one
+-- The id of a message, or - without one.
 abbrev pub id_text : Option (Bor (List ℕ)) → List ℕ
 id_text None = codes "-"
 id_text (Some id) = id.now
 
--- what came of a message
+-- What came of a message.
 abbrev pub state_text : MessageState → List ℕ
 state_text Unnumbered = codes "unnumbered"
 state_text Unanswered = codes "unanswered"
 state_text Acknowledged = codes "acknowledged"
 state_text Rejected = codes "rejected"
 
--- when and by whom it was heard
+-- When and by whom it was heard.
 abbrev pub heard_fields : Heard → List (List ℕ)
 heard_fields x = moment_text x.moment ∷ x.receiver ∷ []
 
--- a name, its state, when and by whom it was heard, and from whom
+-- A name, its state, when and by whom it was heard, and from whom.
 abbrev pub name_fields : List ℕ → Bool → Heard → List (List ℕ)
 name_fields name live x =
     word name ∷ live_text live ∷ heard_fields x ++ call_text (key_of x.frame).source ∷ []
 
--- where something is: time stamp, latitude, longitude, ambiguity and symbol
+-- Where something is: time stamp, latitude, longitude, ambiguity and symbol.
 abbrev pub place_fields : Option Stamp → Place → Symbol → List (List ℕ)
 place_fields stamp place symbol = stamp_text stamp ∷ degrees_text (latitude_of place)
     ∷ degrees_text (longitude_of place) ∷ ambiguity_text place ∷ symbol_text symbol ∷ []
 
 -- ---- lines
 
--- a field after a space
+-- A field after a space.
 abbrev pub after_space : List ℕ → List ℕ
 after_space field = 32 ∷ field
 
--- the kind of a line, and each field after a space
+-- The kind of a line, and each field after a space.
 abbrev pub line_with : List ℕ → List (List ℕ) → List ℕ
 line_with kind fields = kind ++ (flat_map after_space fields ++ 10 ∷ [])
 
--- the same, and at the end a text after a colon
+-- The same, and at the end a text after a colon.
 abbrev pub line_with_text : List ℕ → List (List ℕ) → List ℕ → List ℕ
 line_with_text kind fields text =
     kind ++ (flat_map after_space fields ++ (58 ∷ shown_text text ++ 10 ∷ []))
 
--- the line of a reception, by what it reports: a position, a status, an object or an item
+-- The line of a reception, by what it reports: a position, a status, an object or an item.
 abbrev pub report_line : Heard → Value → List ℕ
 report_line x (position messaging stamp place symbol comment) =
     line_with_text (codes "position") (heard_fields x ++ place_fields stamp place symbol) comment
@@ -108,45 +108,46 @@ report_line x (object name live stamp place symbol comment) =
     line_with_text (codes "object")
     (name_fields name live x ++ place_fields (Some stamp) place symbol) comment
 report_line x (item name live place symbol comment) =
-    line_with_text (codes "item") (name_fields name live x ++ place_fields None place symbol) comment
+    line_with_text (codes "item") (name_fields name live x ++ place_fields None place symbol)
+    comment
 report_line x (message addressee text id) = []
 report_line x (ack addressee id) = []
 report_line x (rej addressee id) = []
 report_line x raw = []
 
--- the line of a reception
+-- The line of a reception.
 abbrev pub heard_line : Heard → List ℕ
 heard_line x = report_line x (report_of (key_of x.frame))
 
--- where there is something last known
+-- Where there is something last known.
 abbrev pub known_line : Option Heard → List ℕ
 known_line None = []
 known_line (Some x) = heard_line x
 
--- its callsign and the number of its transmissions
+-- Its callsign and the number of its transmissions.
 abbrev pub station_line : Station → List ℕ
 station_line x = line_with (codes "station") (call_text x.call ∷ decimal x.transmissions ∷ [])
 
--- that line, and those of its last known position and status
+-- That line, and those of its last known position and status.
 abbrev pub station_lines : Station → List ℕ
 station_lines x = station_line x ++ (known_line x.position ++ known_line x.status)
 
--- the line of an object or an item
+-- The line of an object or an item.
 abbrev pub named_line : Named → List ℕ
 named_line x = heard_line x.heard
 
--- from whom, to whom, its id, its state, its first and its last moment, and its text
+-- From whom, to whom, its id, its state, its first and its last moment, and its text.
 abbrev pub message_fields : MessageRow → List (List ℕ)
 message_fields x = call_text x.source ∷ word x.addressee.now ∷ id_text x.id ∷ state_text x.state
     ∷ moment_text x.first ∷ moment_text x.last ∷ []
 
--- the line of a message
+-- The line of a message.
 abbrev pub message_line : MessageRow → List ℕ
 message_line x = line_with_text (codes "message") (message_fields x) x.text.now
 
 -- ---- the text
 
--- all stations, then all objects and items, then all messages
+-- All stations, then all objects and items, then all messages.
 abbrev pub show_text : List Station → List Named → List MessageRow → List ℕ
 show_text stations named messages =
     flat_map station_lines stations

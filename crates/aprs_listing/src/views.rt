@@ -73,8 +73,9 @@ impl<'a, A: Allocator + Copy> Views<'a, A> {
         })
     }
 
-    /// Writes the listing, a line for each station, what is last known of it, each object, item and
-    /// message. At a fault a prefix of that went out. Takes no memory.
+    /// Writes the listing: for each station its line and those of its last known position and
+    /// status; then a line for each object, item and message. At a fault a prefix of this went out.
+    /// Takes no memory.
     pub fn write<W: Write>(&self, w: &mut Counted<W>) -> Result<(), WriteFault>
         ensures { Sends W.contents result w.old w.new
             (Spec.show_text self.now.stations.items self.now.named.items self.now.messages.items) }

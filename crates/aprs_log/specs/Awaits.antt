@@ -1,5 +1,6 @@
--- What a reader of a log may still answer, by what it holds. Nobody knows yet what the device will
--- give, so many answers may follow: those do that some rest of the input yields.
+-- What a reader of a log may still answer, by what it has read so far, and what its device answered
+-- last. What that will give isn't known yet: an answer may follow if some rest of the input gives
+-- it.
 use Rattle.std.specs.Prelude.{◌≡◌, ℕ, ◌+◌, List, ◌++◌, Option, None, Some, IfSome}
 use Rattle.aprs_log.specs.LogAnswers.{Answers, answers_from, end_with, Gets}
 use Rattle.aprs_log.specs.declared.fault.LogCause.{LogCause}
@@ -22,7 +23,7 @@ pub record Awaited (left line : ℕ) (held input : List ℕ) (after : Option (Li
   pub gets : Gets left input after text ending
   pub is : answers ≡ answers_from (line + 1) (held ++ text) ending
 
--- the fault with this cause in the line that follows
+-- The fault with this cause in the line that follows.
 abbrev pub fault_after : ℕ → LogCause → LogFault
 fault_after line why = record { line = line + 1; cause = why }
 
@@ -36,13 +37,13 @@ AwaitsIn Ended known after left line held answers = (after ≡ known) × (answer
 AwaitsIn (Failed cause) known after left line held answers =
     (after ≡ known) × (answers ≡ end_with (Some (fault_after line cause)))
 
--- the fault or the end that is answered from now on, if the reader has stopped
+-- The fault or the end that is answered from now on, if the reader has stopped.
 abbrev pub stop_in : State → ℕ → Option (Option LogFault)
 stop_in Reading line = None
 stop_in Ended line = Some None
 stop_in (Failed cause) line = Some (Some (fault_after line cause))
 
--- what the device answered last where a log is read no further for this cause
+-- What the device answered last where a log is read no further for this cause.
 abbrev pub last_of_cause : LogCause → Last
 last_of_cause cause.Read = Fault
 last_of_cause cause.NoNewline = End

@@ -5,11 +5,11 @@ use Rattle.aprs_log.specs.Moment.{day_after, room_of}
 use Rattle.aprs_log.specs.MomentReading.{Civil, civil_text, second_of_day}
 use Rattle.aprs_log.specs.declared.moment_form.MomentForm.{MomentForm}
 
--- a date of the calendar, in one of the years 1970 to 2099
+-- A date of the calendar, in one of the years 1970 to 2099.
 abbrev pub IsDay : ℕ → ℕ → ℕ → Type 0
 IsDay y m d = (1970 ≤ y) × (y ≤ 2099) × IsDate (pos y) (pos m) (pos d)
 
--- such a date, and an hour, a minute and a second of its day; no second is a leap second
+-- Such a date, and an hour, a minute and a second of its day; no second is a leap second.
 pub record IsCivil (civil : Civil) : Type 0 where
   pub date : IsDay civil.year civil.month civil.day
   pub hour : civil.hour < 24
@@ -28,11 +28,11 @@ pub record MomentTextIn (form : MomentForm) (m : ℕ) (text : List ℕ) : Type 0
       +ℤ pos (second_of_day civil)) *ℤ pos 1000) +ℤ pos millis
   pub spelled : text ≡ civil_text form civil millis
 
--- `text` is a text of the moment m, in either form
+-- `text` is a text of the moment m, in either form.
 abbrev pub MomentText : ℕ → List ℕ → Type 0
 MomentText m text = (form : MomentForm) × MomentTextIn form m text
 
--- the civil time so many seconds after 1970-01-01T00:00:00Z
+-- The civil time so many seconds after 1970-01-01T00:00:00Z.
 abbrev pub civil_after : ℕ → Civil
 civil_after m = record {
   year = (day_after (m / 86400)).year;

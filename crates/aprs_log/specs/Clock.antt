@@ -5,24 +5,24 @@ use Rattle.aprs_log.specs.declared.moment_form.MomentForm.TheVariants.{Seconds, 
 use Rattle.aprs_log.specs.Moment.{two_digits, fraction_text, room_of}
 use Rattle.aprs_log.specs.Sizes.{seconds_size}
 
--- the bytes of a moment to the millisecond: 2026-11-26T18:00:00.000Z
+-- The bytes of a moment to the millisecond: 2026-11-26T18:00:00.000Z.
 abbrev pub millis_size : ℕ
 millis_size = 24
 
--- the bytes of a moment's text in a form
+-- The bytes of a moment's text in a form.
 abbrev pub form_size : MomentForm → ℕ
 form_size Seconds = seconds_size
 form_size Millis = millis_size
 
--- the text HH:MM:SS of a time of the day
+-- The text HH:MM:SS of a time of the day.
 abbrev pub clock_text : ℕ → ℕ → ℕ → List ℕ
 clock_text hour minute second = two_digits hour ++ 58 ∷ two_digits minute ++ 58 ∷ two_digits second
 
--- the end of the text of a day's first moment: 00:00:00Z
+-- The end of the text of a day's first moment: 00:00:00Z.
 abbrev pub midnight_text : List ℕ
 midnight_text = clock_text 0 0 0 ++ 90 ∷ []
 
--- `text` is the text of second n of a day
+-- `text` is the text of second n of a day.
 pub record SecondText (n : ℕ) (text : List ℕ) : Type 0 where
   pub hour : ℕ
   pub minute : ℕ
@@ -33,11 +33,11 @@ pub record SecondText (n : ℕ) (text : List ℕ) : Type 0 where
   pub number : n ≡ hour * 3600 + minute * 60 + second
   pub spelled : text ≡ clock_text hour minute second
 
--- `text` is what follows the seconds, in this form, at millisecond n of a second
+-- `text` is what follows the seconds, in this form, at millisecond n of a second.
 pub record FractionText (form : MomentForm) (n : ℕ) (text : List ℕ) : Type 0 where
   pub below : n < room_of form
   pub spelled : text ≡ fraction_text form n ++ 90 ∷ []
 
--- the form of a text whose seconds these bytes follow: Z alone, or a fraction and Z
+-- The form of a text whose seconds these bytes follow: Z alone, or a fraction and Z.
 abbrev pub form_of_end : List ℕ → MomentForm
 form_of_end end = if length end == 1 then Seconds else Millis

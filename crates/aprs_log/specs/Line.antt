@@ -25,37 +25,37 @@ use Rattle.aprs_log.specs.declared.line.Line.TheVariants as line
 
 -- ---- the frame in a line's bytes, or the first reason why there is none
 
--- the frame that the bytes of a data frame are, or the reason why they are none
+-- The frame that the bytes of a data frame are, or the reason why they are none.
 abbrev pub frame_or_reason : Result (List ℕ) FrameFault → Result (List ℕ) Reason
 frame_or_reason (Ok frame) = Ok frame
 frame_or_reason (Err fault) = Err (reason_of_frame fault)
 
--- the frame in one piece of a KISS stream, by its judgement
+-- The frame in one piece of a KISS stream, by its judgement.
 abbrev pub frame_in_piece : Judgement → Result (List ℕ) Reason
 frame_in_piece (Ok data_frame) = frame_or_reason (frame_of data_frame.bytes)
 frame_in_piece (Err fault) = Err (reason_of_pass fault)
 
--- the frame in the one nonempty piece, by the judgements of all nonempty pieces
+-- The frame in the one nonempty piece, by the judgements of all nonempty pieces.
 abbrev pub only_frame : List Judgement → Result (List ℕ) Reason
 only_frame [] = Err reason.NoFrame
 only_frame (piece ∷ []) = frame_in_piece piece
 only_frame (piece ∷ next ∷ more) = Err reason.TwoFrames
 
--- the one frame in a line's bytes, or the first reason why there is none: if bytes follow the last
--- frame end, it is Unended, and otherwise the pieces between frame ends decide
+-- The one frame in a line's bytes, or the first reason why there is none: if bytes follow the last
+-- frame end, it is Unended, and otherwise the pieces between frame ends decide.
 unfoldable pub frame_in : List ℕ → Result (List ℕ) Reason
 frame_in bytes =
     if is_nonempty (rest_of bytes) then Err reason.Unended else only_frame (judgements_of bytes)
 
 -- ---- a line's fields, from the left
 
--- a frame was heard, or the line is passed over for this reason
+-- A frame was heard, or the line is passed over for this reason.
 abbrev pub heard_or_passed : ℕ → List ℕ → Result (List ℕ) Reason → Line
 heard_or_passed m r (Ok frame) = line.Heard (record { moment = m; receiver = r; frame = frame })
 heard_or_passed m r (Err reason) = line.Passed reason
 
--- the line of a moment and a receiver whose bytes stand in these digits: they are hexadecimal, or
--- the fault is Hex; then the frame in the bytes was heard, or the line is passed over
+-- The line of a moment and a receiver whose bytes stand in these digits: they are hexadecimal, or
+-- the fault is Hex; then the frame in the bytes was heard, or the line is passed over.
 abbrev pub line_of_digits : ℕ → List ℕ → List ℕ → Result Line LineFault
 line_of_digits m r digits =
     result_ok (decode_of digits) otherwise fault.Hex then λ bytes.
@@ -75,6 +75,6 @@ line_of l =
 
 -- ---- the line that is written
 
--- the line of a reception, without its LF
+-- The line of a reception, without its LF.
 abbrev pub written_line : Heard → List ℕ
 written_line x = moment_text x.moment ++ 32 ∷ x.receiver ++ 32 ∷ encode_lower (kiss_text x.frame)

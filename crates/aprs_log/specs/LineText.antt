@@ -28,9 +28,8 @@ pub record IsLine (line : List ℕ) (m : ℕ) (name bytes : List ℕ) : Type 0 w
   pub fields : HasReceiver line m name digits
   pub is_hex : decode_of digits ≡ Ok bytes
 
--- The bytes are one data frame of KISS, and a UI frame is all that is in it: a type byte of command
--- 0 and the frame's bytes, as KISS sends them, then a frame end; and more frame ends may stand
--- before and after.
+-- The bytes are one data frame of KISS, with this UI frame in it: any number of frame ends; a type
+-- byte of command 0 and the bytes of the UI frame, as KISS sends them; and at least one frame end.
 pub record CarriesFrame (bytes frame : List ℕ) : Type 0 where
   pub before : ℕ
   pub head : ℕ
@@ -40,20 +39,22 @@ pub record CarriesFrame (bytes frame : List ℕ) : Type 0 where
   pub bytes_are : bytes
       ≡ replicate before 0xC0 ++ (spelling_of (head ∷ frame) ++ 0xC0 ∷ replicate after 0xC0)
 
--- The line reports this reception: its bytes carry the frame.
+-- The line has the reception's moment and receiver, and its bytes carry the reception's frame.
 abbrev pub Reports : List ℕ → Heard → Type 0
 Reports line x =
     (bytes : List ℕ) × IsLine line x.moment x.receiver bytes × CarriesFrame bytes x.frame
 
--- The line is passed over: its bytes carry no frame.
+-- The line has a moment, a receiver and bytes, but the bytes carry no frame: it is passed over, and
+-- that is no fault.
 abbrev pub IsPassed : List ℕ → Type 0
 IsPassed line = (m : ℕ) × (name : List ℕ) × (bytes : List ℕ) × IsLine line m name bytes
     × ((frame : List ℕ) → ¬ CarriesFrame bytes frame)
 
 -- ---- a line that is refused
 
--- The line is wrong for the first of these that is so: it is too long, it begins with no moment, no
--- receiver's name comes next, or what follows isn't hexadecimal.
+-- The line is wrong for this cause, and for none before it: it is too long; it doesn't begin with a
+-- moment and a space; no receiver's name and a space come next; or what follows isn't an even
+-- number of hexadecimal digits.
 abbrev pub IsWrongLine : List ℕ → LogCause → Type 0
 IsWrongLine line why.LongLine = most_line < length line
 IsWrongLine line why.Moment =

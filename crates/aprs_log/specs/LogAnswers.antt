@@ -16,63 +16,64 @@ use Rattle.aprs_io.specs.declared.input.Ending.{Ending}
 use Rattle.aprs_io.specs.declared.input.Ending.TheVariants.{End, Read, TooLong}
 pub use Rattle.aprs_io.specs.Input.{EndsSo, Gets}
 
--- LF, which ends a line
+-- LF, which ends a line.
 abbrev pub is_lf : ℕ → Bool
 is_lf b = is_byte 10 b
 
--- why a log ends at a tail of no more bytes than a line may have, unless it ends well
+-- Why a log ends at a tail of no more bytes than a line may have, unless it ends well.
 abbrev pub short_tail_cause : Ending → List ℕ → Option LogCause
 short_tail_cause Read tail = Some cause.Read
 short_tail_cause TooLong tail = Some cause.TooLong
 short_tail_cause End [] = None
 short_tail_cause End (b ∷ bs) = Some cause.NoNewline
 
--- why a log ends at what stands after its last LF, by how the input ended after that
+-- Why a log ends at what stands after its last LF, by how the input ended after that.
 abbrev pub tail_cause : List ℕ → Ending → Option LogCause
 tail_cause tail ending =
     if nat_lt most_line (length tail) then Some cause.LongLine else short_tail_cause ending tail
 
--- the lines that are given, and the fault after them, if there is one
+-- The lines that are given, and the fault after them, if there is one.
 pub record Answers : Type 0 where
   pub given : List Line
   pub fault : Option LogFault
 
--- the fault with this cause in line n, if there is a cause
+-- The fault with this cause in line n, if there is a cause.
 abbrev pub fault_at : ℕ → Option LogCause → Option LogFault
 fault_at n None = None
 fault_at n (Some cause) = Some (record { line = n; cause = cause })
 
--- no line, and then this fault or the end
+-- No line, and then this fault or the end.
 abbrev pub end_with : Option LogFault → Answers
 end_with fault = record { given = []; fault = fault }
 
--- this line, and then these answers
+-- This line, and then these answers.
 abbrev pub prepend_line : Line → Answers → Answers
 prepend_line x answers = record { given = x ∷ answers.given; fault = answers.fault }
 
--- what line n gives, and then the rest, which a fault cuts off
+-- What line n gives, and then the rest, which a fault cuts off.
 abbrev pub then_answers : ℕ → Result Line LineFault → Answers → Answers
 then_answers n (Ok x) rest = prepend_line x rest
 then_answers n (Err fault) rest = end_with (fault_at n (Some (log_cause_of fault)))
 
--- the answers of the lines from number n on, of which the last is what stands after the last LF
+-- The answers of the lines from number n on, of which the last is what stands after the last LF.
 abbrev pub answers_of : ℕ → List (List ℕ) → Ending → Answers
 answers_of n [] ending = end_with None
 answers_of n (tail ∷ []) ending = end_with (fault_at n (tail_cause tail ending))
 answers_of n (l ∷ next ∷ more) ending =
     then_answers n (line_of l) (answers_of (n + 1) (next ∷ more) ending)
 
--- the answers of the bytes that were got of a log from line n on, by how the input ended after them
+-- The answers of the bytes that were got of a log from line n on, by how the input ended after
+-- them.
 abbrev pub answers_from : ℕ → List ℕ → Ending → Answers
 answers_from n text ending = answers_of n (slice_split is_lf text) ending
 
--- the answers of a whole log
+-- The answers of a whole log.
 abbrev pub log_answers : List ℕ → Ending → Answers
 log_answers text ending = answers_from 1 text ending
 
 -- ---- the receptions among the answers
 
--- the receptions that the lines report, in order
+-- The receptions that the lines report, in order.
 abbrev pub receptions_of : List Line → List Heard
 receptions_of [] = []
 receptions_of (line.Heard x ∷ lines) = x ∷ receptions_of lines

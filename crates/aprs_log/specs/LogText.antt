@@ -31,8 +31,8 @@ pub record IsLogText (text : List ℕ) (ending : Ending) (S : List Heard) : Type
   pub whole : ending ≡ how.End
   pub report : ReportAll lines S
 
--- What stands after the last LF is wrong: it is too long for a line; or the input ended with a
--- fault of its own; or it came to its end, and a line has no LF.
+-- What stands after the last LF is wrong for this cause: it is too long for a line; or it isn't too
+-- long, and a read failed, or the input is over the limit, or the input ended inside a line.
 abbrev pub IsWrongTail : List ℕ → Ending → LogCause → Type 0
 IsWrongTail tail ending why.LongLine = most_line < length tail
 IsWrongTail tail ending why.Read = (length tail ≤ most_line) × (ending ≡ how.Read)
@@ -40,13 +40,15 @@ IsWrongTail tail ending why.TooLong = (length tail ≤ most_line) × (ending ≡
 IsWrongTail tail ending why.NoNewline = (length tail ≤ most_line) × (ending ≡ how.End) × (tail ≢ [])
 IsWrongTail tail ending other = ⊥
 
--- The text begins with a line that is wrong for this cause; or no line is left, and the tail is.
+-- The text begins with a line that is wrong for this cause; or it has no LF, and is wrong as what
+-- stands after the last LF of a log.
 abbrev pub BeginsWrong : List ℕ → Ending → LogCause → Type 0
 BeginsWrong text ending cause = (HasNoLf text × IsWrongTail text ending cause)
     ⊎ ((line : List ℕ) × (more : List ℕ) × (text ≡ line ++ 10 ∷ more) × HasNoLf line
     × IsWrongLine line cause)
 
--- The log has this fault: after lines that are in order, what comes next is wrong.
+-- The log of which this text was got, with this ending, has this fault: after lines that have none,
+-- what comes next is wrong. The fault's line is the one after these lines.
 pub record HasLogFault (text : List ℕ) (ending : Ending) (fault : LogFault) : Type 0 where
   pub lines : List (List ℕ)
   pub rest : List ℕ

@@ -57,7 +57,7 @@ time_text form n =
 
 -- ---- a moment
 
--- The text of a moment in a form, a date, a T and a time, in UTC; no second is a leap second. A
+-- The text of a moment in this form: its date, a T, and its time, in UTC without leap seconds. A
 -- form to the second leaves the milliseconds out.
 unfoldable pub moment_text_in : MomentForm → ℕ → List ℕ
 moment_text_in form m = date_text (day_after (m / 86400000)) ++ 84 ∷ time_text form (m % 86400000)
@@ -71,8 +71,8 @@ abbrev pub room_of : MomentForm → ℕ
 room_of Seconds = 1
 room_of Millis = 1000
 
--- The moment is before the year 2100 and can be written in this form: to the second, one of a whole
--- second.
+-- The moment is before the year 2100, and this form can write it: a form to the second can only
+-- write whole seconds.
 pub record IsWritable (form : MomentForm) (m : ℕ) : Type 0 where
   pub in_range : m ≤ last_milli
   pub whole : m % 1000 < room_of form

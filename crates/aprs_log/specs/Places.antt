@@ -4,15 +4,15 @@ use Rattle.aprs_log.specs.declared.moment_form.MomentForm.{MomentForm}
 use Rattle.aprs_log.specs.declared.moment_form.MomentForm.TheVariants.{Seconds, Millis}
 use Rattle.aprs_log.specs.MomentReading.{Civil}
 
--- the value of a digit, and of another byte that of the digit next to it
+-- The value of a digit, and of another byte that of the digit next to it.
 abbrev pub near_digit : ℕ → ℕ
 near_digit b = min 9 (b - 48)
 
--- the number whose two digits are nearest to the bytes at i
+-- The number whose two digits are nearest to the bytes at i.
 abbrev pub near_pair : List ℕ → ℕ → ℕ
 near_pair text i = 10 * near_digit (slice_index text i) + near_digit (slice_index text (i + 1))
 
--- the civil time whose digits are nearest to the bytes at their places in a text
+-- The civil time whose digits are nearest to the bytes at their places in a text.
 abbrev pub near_civil : List ℕ → Civil
 near_civil text = record {
   year = 100 * near_pair text 0 + near_pair text 2;
@@ -23,7 +23,7 @@ near_civil text = record {
   second = near_pair text 17;
 }
 
--- the milliseconds whose digits are nearest to the bytes at their places
+-- The milliseconds whose digits are nearest to the bytes at their places.
 abbrev pub near_millis : MomentForm → List ℕ → ℕ
 near_millis Seconds text = 0
 near_millis Millis text = 100 * near_digit (slice_index text 20) + near_pair text 21

@@ -14,55 +14,55 @@ use Rattle.aprs_log.specs.declared.fault.LogFault.{LogFault}
 use Rattle.aprs_io.specs.declared.input.Ending.{Ending}
 use Rattle.aprs_log.specs.declared.reader.LogReader.{LogReader}
 
--- the device that it borrows
+-- The device that it borrows.
 abbrev pub source_of : {R : Type 0} → LogReader R → Counted R
 source_of r = r.source.now
 
--- the name of that loan
+-- The name of that loan.
 abbrev pub loan_of : {R : Type 0} → LogReader R → GName
 loan_of r = r.source.ghost_name
 
--- how many lines it has returned
+-- How many lines it has returned.
 abbrev pub line_count_of : {R : Type 0} → LogReader R → ℕ
 line_count_of r = r.line
 
--- the line that it returned last
+-- The line that it returned last.
 abbrev pub current_of : {R : Type 0} → LogReader R → Line
 current_of r = r.current
 
--- the bytes that it has read and not yet answered
+-- The bytes that it has read and not yet answered.
 abbrev pub read_ahead_of : {R : Type 0} → LogReader R → List ℕ
 read_ahead_of r = items r.window
 
--- an LF stands in the bytes, so that a whole line is among them
+-- An LF stands in the bytes, so that a whole line is among them.
 abbrev pub HasLf : List ℕ → Type 0
 HasLf bytes = IsTrue (has_byte 10 bytes)
 
--- the fault or the end that it answers from now on, if it has come to one
+-- The fault or the end that it answers from now on, if it has come to one.
 abbrev pub stop_of : {R : Type 0} → LogReader R → Option (Option LogFault)
 stop_of r = stop_in r.state r.line
 
--- these answers may follow, where the bytes that are left of the input are known, and the device at
--- the last has `end`: some rest of the input yields them
+-- These answers may follow, where the bytes that are left of the input are known, and the device at
+-- the last has `end`: some rest of the input yields them.
 abbrev pub Awaits : {R : Type 0} → Option (List ℕ) → Option (List ℕ) → LogReader R → Answers
     → Type 0
 Awaits known end r answers =
     AwaitsIn r.state known end r.left r.line (items r.window) answers
 
--- nothing was read yet: no line was returned, it holds the head alone, and it may go on
+-- Nothing was read yet: no line was returned, it holds the head alone, and it may go on.
 pub record Starts {R : Type 0} (r : LogReader R) (head : List ℕ) : Type 0 where
   pub first : line_count_of r ≡ 0
   pub current : current_of r ≡ line.Passed NoFrame
   pub held : read_ahead_of r ≡ head
   pub going : stop_of r ≡ None
 
--- what the device answered last, by what the reader answers
+-- What the device answered last, by what the reader answers.
 abbrev pub last_told : Result (Option Line) LogFault → Last
 last_told (Ok (Some x)) = Going
 last_told (Ok None) = End
 last_told (Err fault) = last_of_cause fault.cause
 
--- these are the answers of a log of which at most `limit` bytes are got
+-- These are the answers of a log of which at most `limit` bytes are got.
 pub record AreAnswersOf (limit : ℕ) (input : List ℕ) (after : Option (List ℕ)) (answers : Answers)
     : Type 0 where
   pub text : List ℕ
@@ -70,17 +70,17 @@ pub record AreAnswersOf (limit : ℕ) (input : List ℕ) (after : Option (List �
   pub gets : Gets limit input after text ending
   pub is : answers ≡ log_answers text ending
 
--- what it answers where it has come to a fault or to the end
+-- What it answers where it has come to a fault or to the end.
 abbrev pub answer_of_stop : Option LogFault → Result (Option Line) LogFault
 answer_of_stop None = Ok None
 answer_of_stop (Some fault) = Err fault
 
--- whether a line is returned
+-- Whether a line is returned.
 abbrev pub returns_line : Result Bool LogFault → Bool
 returns_line (Ok is_line) = is_line
 returns_line (Err fault) = false
 
--- what is answered, where the line lies in the reader
+-- What is answered, where the line lies in the reader.
 abbrev pub answer_with : Result Bool LogFault → Line → Result (Option Line) LogFault
 answer_with (Ok true) x = Ok (Some x)
 answer_with (Ok false) x = Ok None

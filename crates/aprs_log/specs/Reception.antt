@@ -4,13 +4,13 @@ use Rattle.std.specs.declared.cmp.Ordering.{Ordering}
 use Rattle.std.specs.Ordering.{nat_cmp, on, then_cmp}
 pub use Rattle.aprs_ax25.specs.Order.{bytes_cmp}
 
--- when and by whom a frame was heard, and its bytes
+-- When and by whom a frame was heard, and its bytes.
 pub record Heard : Type 0 where
   pub moment : ℕ
   pub receiver : List ℕ
   pub frame : List ℕ
 
--- the order of receptions: by moment, then receiver, then frame
+-- The order of receptions: by moment, then receiver, then frame.
 abbrev pub heard_cmp : Heard → Heard → Ordering
 heard_cmp = then_cmp (on (λ x. x.moment) nat_cmp)
     (then_cmp (on (λ x. x.receiver) bytes_cmp) (on (λ x. x.frame) bytes_cmp))

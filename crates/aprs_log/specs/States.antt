@@ -7,22 +7,22 @@ use Rattle.aprs_log.specs.declared.reader.ending.State.TheVariants.{Reading, End
 use Rattle.aprs_log.specs.declared.fault.LogCause.{LogCause}
 use Rattle.aprs_log.specs.declared.fault.LogCause.TheVariants as cause
 
--- no failed allocation stopped it
+-- No failed allocation stopped it.
 abbrev pub KeepsMemory : State → Type 0
 KeepsMemory state = state ≢ Failed cause.Memory
 
--- what a reader does after the tail: it stops well, or with this cause
+-- What a reader does after the tail: it stops well, or with this cause.
 abbrev pub state_after : Option LogCause → State
 state_after None = Ended
 state_after (Some cause) = Failed cause
 
--- what it answered last, by the state of the reader
+-- What it answered last, by the state of the reader.
 abbrev pub last_in : State → Last
 last_in Reading = Going
 last_in Ended = End
 last_in (Failed cause) = last_of_cause cause
 
--- how many steps a reader may take yet: one for each byte that it may read, and one to stop
+-- How many steps a reader may take yet: one for each byte that it may read, and one to stop.
 abbrev pub work_in : State → ℕ → ℕ
 work_in Reading left = left + 1
 work_in Ended left = 0

@@ -102,10 +102,11 @@ impl PartialOrd for Receiver {
 fn is_name(bytes: &[u8]) -> bool
     ensures { result ≡ is_name bytes.now }
 {
-    matches!(bytes.len(), 1..=MAX_NAME) && has_name_bytes(bytes)
+    matches!(bytes.len(), 1..=MAX_NAME) && are_name_bytes(bytes)
 }
 
-fn has_name_bytes(bytes: &[u8]) -> bool
+/// Whether each of the bytes may be in a name.
+fn are_name_bytes(bytes: &[u8]) -> bool
     ensures { result ≡ list_all is_name_byte bytes.now }
 {
     bytes.iter().all(|b| is_name_byte(*b))

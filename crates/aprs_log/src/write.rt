@@ -13,7 +13,7 @@ use crate::moment::civil::MILLIS_LEN;
 use crate::moment::writer::MomentWriter;
 use crate::reception::Reception;
 use aprs_ax25::MAX_UI_FRAME;
-use aprs_io::{Counted, WriteFault, encode_to, put, send};
+use aprs_io::{Counted, WriteFault, put, put_hex, send};
 use aprs_kiss::cut_plain;
 use std::io::Write;
 
@@ -112,18 +112,6 @@ fn put_frame(out: &mut [u8], at: usize, frame: &[u8]) -> usize
         end = put_escape(out, end, byte);
         rest = after;
     }
-}
-
-/// Puts the digits of bytes at a place, and returns the place after them.
-fn put_hex(out: &mut [u8], at: usize, bytes: &[u8]) -> usize
-    requires { at + 2 * length bytes.now ≤ length out.old }
-    ensures end { result ≡ at + 2 * length bytes.now }
-    ensures digits { take result out.new ≡ take at out.old ++ encode_lower bytes.now }
-    ensures len { length out.new ≡ length out.old }
-{
-    let end = at + 2 * bytes.len();
-    encode_to(bytes, &mut out[at..end]);
-    end
 }
 
 /// Puts the digits of what FEND or FESC is sent as at a place, and returns the place after them.

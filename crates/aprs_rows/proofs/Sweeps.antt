@@ -10,7 +10,7 @@ use Rattle.std.proofs.lemmas.List.{append-nil, length-append}
 use Rattle.std.proofs.lemmas.List.Elements.{All-from_recursion, recursion_from_All}
 use Rattle.aprs_log.specs.Receiver.{IsName}
 use Rattle.aprs_log.specs.Reception.{bytes_cmp}
-use Rattle.aprs_laws.specs.Coalescing.{append_row}
+use Rattle.aprs_laws.specs.Coalescing.{append_or_join}
 use Rattle.aprs_laws.specs.Row.{Row}
 use Rattle.aprs_laws.specs.JoinRow.{choose, combine, greater, place, union}
 use Rattle.aprs_laws.specs.Lists.{◌∈◌, Ordered}
@@ -278,7 +278,7 @@ ends_open o g names a first size greatest = by_test o.is_alone refl size where
 -- ---- the next row
 
 pub appended_last : (gap : ℕ) (done : List Row) (l x : Row)
-    → append_row gap (done ++ l ∷ []) x
+    → append_or_join gap (done ++ l ∷ []) x
     ≡ choose (place gap l x) (done ++ l ∷ x ∷ []) (done ++ combine l x ∷ []) (done ++ l ∷ x ∷ [])
 appended_last gap [] l x = refl
 appended_last gap (d ∷ []) l x = at_front (place gap l x) d (l ∷ x ∷ []) (combine l x ∷ [])
@@ -287,7 +287,7 @@ appended_last gap (d ∷ e ∷ done) l x =
     ∙ at_front (place gap l x) d ((e ∷ done) ++ l ∷ x ∷ []) ((e ∷ done) ++ combine l x ∷ [])
 
 pub joins_last : (gap : ℕ) (done : List Row) (l x : Row) → is_eq (place gap l x) ≡ true
-    → done ++ combine l x ∷ [] ≡ append_row gap (done ++ l ∷ []) x
+    → done ++ combine l x ∷ [] ≡ append_or_join gap (done ++ l ∷ []) x
 joins_last gap done l x e =
     sym (appended_last gap done l x ∙ near (place gap l x) e) where
       near : (o : Ordering) → is_eq o ≡ true
@@ -298,7 +298,7 @@ joins_last gap done l x e =
       near Greater e = absurd (cc)
 
 pub follows_last : (gap : ℕ) (done : List Row) (l x : Row) → is_eq (place gap l x) ≡ false
-    → (done ++ l ∷ []) ++ x ∷ [] ≡ append_row gap (done ++ l ∷ []) x
+    → (done ++ l ∷ []) ++ x ∷ [] ≡ append_or_join gap (done ++ l ∷ []) x
 follows_last gap done l x e =
     append_assoc done (l ∷ []) (x ∷ [])
     ∙ sym (appended_last gap done l x ∙ far (place gap l x) e) where

@@ -5,28 +5,28 @@ use Rattle.aprs_laws.specs.Row.{Row}
 use Rattle.aprs_rows.specs.Names.{names_in}
 use Rattle.aprs_rows.specs.declared.store.group.Group.{Group}
 
--- the rows of the bytes, one for each part, which takes so many of them
+-- The rows of the bytes, one for each part, which takes so many of them.
 module _ {E : Type 0} (size : E → ℕ) (row : E → List ℕ → Row) where
   abbrev pub rows_of : List E → List ℕ → List Row
   rows_of [] bytes = []
   rows_of (e ∷ es) bytes = row e (take (size e) bytes) ∷ rows_of es (drop (size e) bytes)
 
--- the bytes are those of these parts, one after another, and nothing more
+-- The bytes are those of these parts, one after another, and nothing more.
 module _ {E : Type 0} (size : E → ℕ) (Fits : E → List ℕ → Type 0) where
   abbrev pub AreOf : List E → List ℕ → Type 0
   AreOf [] bytes = bytes ≡ []
   AreOf (e ∷ es) bytes = Fits e (take (size e) bytes) × AreOf es (drop (size e) bytes)
 
--- the names of a text of so many bytes, and these where it has none
+-- The names of a text of so many bytes, and these where it has none.
 abbrev pub names_or : ℕ → List ℕ → List (List ℕ) → List (List ℕ)
 names_or zero text names = names
 names_or (suc n) text names = names_in text
 
--- how many bytes the text of a group has
+-- How many bytes the text of a group has.
 abbrev pub text_size : Group → ℕ
 text_size g = g.text_len
 
--- the row of a group whose receivers have this text
+-- The row of a group whose receivers have this text.
 abbrev pub group_row : Group → List ℕ → Row
 group_row g text = record {
   first = g.first;
@@ -39,10 +39,10 @@ pub record IsGroup (g : Group) (text : List ℕ) : Type 0 where
   pub size : length text ≡ text_size g
   pub names : All IsName (group_row g text).receivers
 
--- the rows of groups, whose texts lie one after another
+-- The rows of groups, whose texts lie one after another.
 abbrev pub rows_of_groups : List Group → List ℕ → List Row
 rows_of_groups = rows_of text_size group_row
 
--- the text is that of the groups
+-- The text is that of the groups.
 abbrev pub AreGroups : List Group → List ℕ → Type 0
 AreGroups = AreOf text_size IsGroup

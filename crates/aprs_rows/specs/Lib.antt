@@ -9,7 +9,7 @@ pub mod Refusal
 pub mod Rows
 pub mod Sorted
 pub mod Sweep
--- what public clauses cite of lower crates
+-- What public clauses cite of lower crates.
 pub use Rattle.aprs_log.specs.Reception
 pub use Rattle.aprs_laws.specs.Order
 pub use Rattle.aprs_laws.specs.Lists

@@ -3,12 +3,12 @@ use Rattle.std.specs.Prelude.{ℕ, ◌==◌, List}
 use Rattle.std.specs.List.{slice_split}
 use Rattle.aprs_laws.specs.Row.{Row}
 
--- the names in the text: what stands before, between and after its commas
+-- The names in the text: what stands before, between and after its commas.
 abbrev pub names_in : List ℕ → List (List ℕ)
 names_in text = slice_split (λ b. b == 44) text
 
--- the row of a first and a last moment, the text of its receivers, and the greatest reception's
--- receiver and frame
+-- The row of a first and a last moment, the text of its receivers, and the greatest reception's
+-- receiver and frame.
 abbrev pub row_of_text : ℕ → ℕ → List ℕ → List ℕ → List ℕ → Row
 row_of_text start end text who bytes = record {
   first = start;

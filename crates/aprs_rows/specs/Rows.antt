@@ -30,16 +30,16 @@ pub record HasKey (h : Head) (place : ℕ) (frame : List ℕ) : Type 0 where
   pub bytes : (i : ℕ) → slice_index (parts_of frame).info i < 256
   pub head : h ≡ head_of (key_of frame)
 
--- the bytes of a row as they lie in a store: the names of its receivers with commas between, the
--- name of the greatest reception's receiver, and its frame
+-- The bytes of a row as they lie in a store: the names of its receivers with commas between, the
+-- name of the greatest reception's receiver, and its frame.
 abbrev pub row_bytes : Row → List ℕ
 row_bytes x = join_with_byte 44 x.receivers ++ (x.greatest.receiver ++ x.greatest.frame)
 
--- how many bytes the row of an entry has
+-- How many bytes the row of an entry has.
 abbrev pub size_of : Entry → ℕ
 size_of e = e.receivers + (e.receiver + e.frame)
 
--- the row of these bytes, as the entry says how many are whose
+-- The row of these bytes, as the entry says how many are whose.
 abbrev pub entry_row : Entry → List ℕ → Row
 entry_row e bytes =
     row_of_text e.first e.last (take e.receivers bytes) (take e.receiver (drop e.receivers bytes))
@@ -52,19 +52,19 @@ pub record IsRowIn (e : Entry) (bytes : List ℕ) : Type 0 where
   pub told : IsTold (entry_row e bytes)
   pub key : HasKey e.head e.info_at (entry_row e bytes).greatest.frame
 
--- the bytes of an entry's row, among those of all rows
+-- The bytes of an entry's row, among those of all rows.
 abbrev pub bytes_of : Entry → List ℕ → List ℕ
 bytes_of e bytes = take (size_of e) (drop e.place bytes)
 
--- the rows of a store
+-- The rows of a store.
 abbrev pub rows_in : List Entry → List ℕ → List Row
 rows_in entries bytes = map (λ e. entry_row e (bytes_of e bytes)) entries
 
--- among these bytes are those of each entry's row
+-- Among these bytes are those of each entry's row.
 abbrev pub AreRowsIn : List Entry → List ℕ → Type 0
 AreRowsIn entries bytes = AllByRecursion (λ e. IsRowIn e (bytes_of e bytes)) entries
 
--- the information of an entry's frame, among the bytes of all rows
+-- The information of an entry's frame, among the bytes of all rows.
 abbrev pub info_of : Entry → List ℕ → List ℕ
 info_of e bytes = drop (e.receivers + (e.receiver + e.info_at)) (bytes_of e bytes)
 
@@ -73,6 +73,6 @@ abbrev pub entry_cmp : List ℕ → Entry → Entry → Ordering
 entry_cmp bytes = then_cmp (on (λ e. e.head) head_cmp)
     (then_cmp (on (λ e. info_of e bytes) bytes_cmp) (on (λ e. e.first) nat_cmp))
 
--- each of the rows is sound by itself
+-- Each of the rows is sound by itself.
 abbrev pub AreSoundRows : List Row → Type 0
 AreSoundRows rows = (x : Row) → x ∈ rows → IsSoundRow x

@@ -3,21 +3,21 @@ use Rattle.std.specs.Prelude.{ℕ, List, [], ◌∷◌, ◌++◌, if◌then◌el
 use Rattle.std.specs.Ordering.{is_ne}
 use Rattle.aprs_log.specs.Reception.{bytes_cmp}
 
--- a comma and the name, unless the name before it is the same
+-- A comma and the name, unless the name before it is the same.
 abbrev pub next_text : List ℕ → List ℕ → List ℕ
 next_text before n = if is_ne (bytes_cmp before n) then 44 ∷ n else []
 
--- the names after this one, each with a comma before it, of equal ones one
+-- The names after this one, each with a comma before it, of equal ones one.
 abbrev pub further : List ℕ → List (List ℕ) → List ℕ
 further before [] = []
 further before (n ∷ names) = next_text before n ++ further n names
 
--- what comes after the first of the names
+-- What comes after the first of the names.
 abbrev pub after_first : List (List ℕ) → List ℕ
 after_first [] = []
 after_first (n ∷ names) = further n names
 
--- the names with commas between, of equal ones one
+-- The names with commas between, of equal ones one.
 abbrev pub ascending_text : List (List ℕ) → List ℕ
 ascending_text [] = []
 ascending_text (n ∷ names) = n ++ further n names

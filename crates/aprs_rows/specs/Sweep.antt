@@ -12,11 +12,11 @@ use Rattle.aprs_rows.specs.Groups.{rows_of_groups, AreGroups}
 use Rattle.aprs_rows.specs.declared.store.sweep.Open.{Open}
 use Rattle.aprs_rows.specs.declared.store.sweep.Sweep.{Sweep}
 
--- the names that were gathered
+-- The names that were gathered.
 abbrev pub gathered_names : List (Bor (List ℕ)) → List (List ℕ)
 gathered_names names = map (λ n. n.now) names
 
--- the row that open rows are, with the names that were gathered if they are more than one
+-- The row that open rows are, with the names that were gathered if they are more than one.
 abbrev pub open_row : Open → List (Bor (List ℕ)) → Row
 open_row o names = record {
   first = o.first;
@@ -25,7 +25,7 @@ open_row o names = record {
   greatest = o.greatest.greatest;
 }
 
--- the text of the names that were gathered, if the open rows are more than one
+-- The text of the names that were gathered, if the open rows are more than one.
 abbrev pub open_text : Open → List (Bor (List ℕ)) → List ℕ
 open_text o names =
     if o.is_alone then [] else join_with_byte 44 (union bytes_cmp (gathered_names names) [])

@@ -12,8 +12,9 @@ use Rattle.aprs_tool.specs.declared.fault.RunFault.TheVariants.{Input, Write}
 
 -- ---- the inputs
 
--- What the reader of an input answered last, where the input has this fault. Where an allocation
--- failed, the input may have come to its end before or not.
+-- What the reader of an input answered last, where the input is refused for this fault: at a log's
+-- fault what `last_of_cause` says of its cause, at a book file's what `AsksAt` says; at `Memory` no
+-- fault; at any other fault the end, since a whole book file was read.
 abbrev pub AsksToFault : {R : Type 0} → InputFault → Counted R → Counted R → Type 0
 AsksToFault (Log fault) old new = Calls (last_of_cause fault.cause) old new
 AsksToFault (Book fault) old new = AsksAt fault.cause old new
@@ -25,8 +26,8 @@ abbrev pub AsksInput : {A R : Type 0} → Result A InputFault → Counted R → 
 AsksInput (Ok value) old new = Calls End old new
 AsksInput (Err fault) old new = AsksToFault fault old new
 
--- Each input was read to its end; or, where one is refused, that one to its fault, each before it to
--- its end, and none after it was asked.
+-- Each input was read to its end; or, where one is refused, that one to its fault, each before it
+-- to its end, and none after it was asked. No answer names an input that isn't there.
 abbrev pub AsksEach : {R : Type 0} → Result (Unit {0}) RunFault → List (Counted R)
     → List (Counted R) → Type 0
 AsksEach (Err (Input zero fault)) (r ∷ old) (s ∷ new) = AsksToFault fault r s × (new ≡ old)
@@ -37,8 +38,8 @@ AsksEach answer old new = AllZip (Calls End) old new
 
 -- ---- the output
 
--- The last call of the output answered a fault where that is reported, and no other call did. Where
--- an input is refused, or an allocation failed, there was none.
+-- At `Ok` no call of the output answered a fault; at `Write` the last one did, and no other; at any
+-- other error the output wasn't called.
 abbrev pub CallsOutput : {W : Type 0} → Result (Unit {0}) RunFault → Counted W → Counted W → Type 0
 CallsOutput (Ok u) old new = Calls Going old new
 CallsOutput (Err Write) old new = Calls Fault old new

@@ -15,7 +15,7 @@ use Rattle.aprs_tool.specs.declared.fault.RunFault.TheVariants.{Input}
 use Rattle.aprs_tool.specs.declared.gathered.OutputFault.{OutputFault}
 use Rattle.aprs_tool.specs.declared.gathered.OutputFault.TheVariants.{Memory, Write}
 
--- the book of this gap that rows are together, whatever their order
+-- The book of this gap that rows are together, whatever their order.
 abbrev pub book_of_rows : ℕ → List Row → BookValue
 book_of_rows gap rows = record { gap = gap; rows = merge (millis_of gap) [] rows }
 

@@ -13,12 +13,12 @@ abbrev pub IsHead : List ℕ → Type 0
 IsHead head = (length head ≡ HEAD_LEN)
     ⊎ ((line : List ℕ) × (length line < HEAD_LEN) × (head ≡ line ++ 10 ∷ []))
 
--- what a reader answered last, where its first bytes were read so
+-- What a reader answered last, where its first bytes were read so.
 abbrev pub last_of_head : {A : Type 0} → Result A ShortInput → Last
 last_of_head (Ok head) = Going
 last_of_head (Err short) = last_of_ending short.ending
 
--- the same by the answer for an input that is too short for a book file
+-- The same by the answer for an input that is too short for a book file.
 abbrev pub last_of_short : Result (Unit {0}) LogFault → Last
 last_of_short (Ok u) = End
 last_of_short (Err fault) = last_of_cause fault.cause

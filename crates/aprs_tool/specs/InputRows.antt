@@ -16,8 +16,8 @@ use Rattle.aprs_tool.specs.Refused.{IsFaulty}
 use Rattle.aprs_tool.specs.declared.fault.InputFault.{InputFault}
 use Rattle.aprs_tool.specs.declared.fault.InputFault.TheVariants.{Log, Memory}
 
--- P holds of at most `limit` bytes that were got of an input and of what came after them; the device
--- then has `after`.
+-- P holds of the text that was got of an input, at most `limit` bytes, and of how the input then
+-- ended; `after` is what the device then has.
 abbrev pub HoldsOfGot : ℕ → List ℕ → Option (List ℕ) → (List ℕ → Ending → Type 0) → Type 0
 HoldsOfGot limit input after P =
     (text : List ℕ) × (ending : Ending) × Gets limit input after text ending × P text ending

@@ -14,12 +14,13 @@ use Rattle.aprs_booktext.specs.Text.{book_text, IsBookRow}
 use Rattle.aprs_booktext.specs.Version.{form_of, gap_of, IsVersion}
 use Rattle.aprs_booktext.specs.declared.version.Version.{Version}
 
--- whether the text begins with the mark of a book file, which no log does
+-- Whether the text begins with the mark of a book file, which no log does.
 abbrev pub has_book_mark : List ℕ → Bool
 has_book_mark text = starts_with ◌==◌ text (codes "APRSBOOK")
 
--- A book file of this gap, in seconds, in some version, to its end: the text of rows that are the
--- book of S.
+-- A whole book file of this gap, in seconds, which is one that a book can have: the text, in some
+-- version, of rows that are the book of S. A line can spell each row in the version's form, and
+-- each row's frame is a UI frame.
 pub record IsBookFileOf (gap : ℕ) (S : List Heard) (text : List ℕ) (ending : Ending) : Type 0 where
   pub version : Version
   pub rows : List Row
@@ -30,8 +31,10 @@ pub record IsBookFileOf (gap : ℕ) (S : List Heard) (text : List ℕ) (ending :
   pub whole : ending ≡ how.End
   pub book : BookOf (millis_of gap) S rows
 
--- The input stands for the set S: it is a book file of this gap, and its book is that of S; or it
--- is a log, and S are the receptions that its lines report. An input with a fault stands for none.
+-- The input stands for the set S: it is a book file of this gap, and its book is that of S, as of
+-- other sets too; or it is a log without a fault, and S are the receptions that its lines report.
+-- Any other input stands for none: one whose text has a fault, one that wasn't got to its end, and
+-- a book file of another gap.
 abbrev pub GivesSet : ℕ → List ℕ → Ending → List Heard → Type 0
 GivesSet gap text ending S = IsBookFileOf gap S text ending
     ⊎ ((T : List Heard) × IsLogText text ending T × SameMembers S T)

@@ -16,7 +16,7 @@ pub mod Show
 pub mod ShownBook
 pub mod Widen
 pub mod Examples
--- what public clauses cite of lower crates
+-- What public clauses cite of lower crates.
 pub use Rattle.aprs_listing.specs.Listing
 pub use Rattle.aprs_convert.specs.Shown
 pub use Rattle.aprs_convert.specs.Monitor

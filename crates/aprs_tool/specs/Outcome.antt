@@ -9,14 +9,15 @@ use Rattle.aprs_tool.specs.declared.fault.InputFault.{InputFault}
 use Rattle.aprs_tool.specs.declared.fault.RunFault.{RunFault}
 use Rattle.aprs_tool.specs.declared.fault.RunFault.TheVariants.{Input, Write, Memory}
 
--- The inputs stand for at least one set, and the text is that of each set that they stand for.
+-- There is a set for which the inputs `Stand`; and for each such set, `Tells` holds of it and of
+-- this text.
 abbrev pub IsToldOf : (List Heard → Type 0) → (List Heard → List ℕ → Type 0) → List ℕ → Type 0
 IsToldOf Stand Tells text =
     ((S : List Heard) × Stand S) × ((S : List Heard) → Stand S → Tells S text)
 
--- Such a text went out whole, or a prefix of it where the output was refused. A try that is
--- interrupted is made again, up to 999 times in a row: so at most 999 tries failed for each byte,
--- and one more where the output was refused. Of any other answer nothing is said here.
+-- A text of which `Told` holds went out whole, or a prefix of it where the output was refused. In
+-- all no more tries failed than 999 for each byte of the text, and one more where the output was
+-- refused. Of any other answer nothing is said here.
 abbrev pub WritesFor : {W : Type 0} → (List ℕ → Type 0) → (W → Option (List ℕ))
     → Result (Unit {0}) RunFault → Counted W → Counted W → Type 0
 WritesFor Told contents (Ok u) old new = (text : List ℕ) × Told text
@@ -27,8 +28,8 @@ WritesFor Told contents (Err Write) old new = (text : List ℕ) × Told text
     × (new.failed ≤ old.failed + (999 * length text + 1))
 WritesFor Told contents answer old new = Unit {0}
 
--- An input is refused for its fault; or the inputs stand for sets, and an allocation failed for what
--- is written of them. In both cases nothing was written.
+-- At `Input` the input of that number was refused for this fault; at `Memory` the inputs stand for
+-- at least one set. In both cases nothing was written. Of any other answer nothing is said here.
 abbrev pub RefusesFor : {W : Type 0} → (List Heard → Type 0) → (ℕ → InputFault → Type 0)
     → Result (Unit {0}) RunFault → Counted W → Counted W → Type 0
 RefusesFor Stand Refused (Err (Input index fault)) old new = Refused index fault × (new ≡ old)

@@ -12,16 +12,19 @@ use Rattle.aprs_tool.specs.Status.{status_of_input}
 use Rattle.aprs_tool.specs.declared.fault.InputFault.{InputFault}
 use Rattle.aprs_tool.specs.declared.fault.InputFault.TheVariants.{Log, Book, Memory, OtherGap}
 
--- The input itself is refused: for the fault after a log's lines, or that of a book's text; or
--- because an allocation failed, for a log.
+-- This fault may be answered for an input by itself. If the text that was got has the mark of a
+-- book file, that is `Book`, with a fault that the text has as a book file. If not, it is `Log`,
+-- with a fault that the text has as a log, or `Memory`, which fits every such text. No other fault
+-- fits. That an allocation really failed isn't said here.
 abbrev pub IsFaulty : InputFault → List ℕ → Ending → Type 0
 IsFaulty (Log fault) text ending = (has_book_mark text ≡ false) × HasLogFault text ending fault
 IsFaulty (Book fault) text ending = (has_book_mark text ≡ true) × HasBookFault text ending fault
 IsFaulty Memory text ending = has_book_mark text ≡ false
 IsFaulty fault text ending = ⊥
 
--- A book of this gap doesn't take the input: that is a book file of another gap; or an allocation
--- failed, for the input or for what it stands for; or the input itself is refused.
+-- This fault may be answered where a book of this gap is to take the input: `OtherGap` for a book
+-- file of another gap; `Memory` for any text without that mark, and for any input that stands for a
+-- set; and each fault that may be answered for the input by itself.
 abbrev pub IsNotTaken : ℕ → InputFault → List ℕ → Ending → Type 0
 IsNotTaken gap OtherGap text ending =
     (other : ℕ) × (S : List Heard) × (other ≢ gap) × IsBookFileOf other S text ending
@@ -29,7 +32,7 @@ IsNotTaken gap Memory text ending =
     IsFaulty Memory text ending ⊎ ((S : List Heard) × GivesSet gap text ending S)
 IsNotTaken gap fault text ending = IsFaulty fault text ending
 
--- the fault of an input whose merge is refused
+-- The fault of an input whose merge is refused.
 abbrev pub fault_of_merge : MergeFault → InputFault
 fault_of_merge merge.OtherGap = OtherGap
 fault_of_merge merge.Memory = Memory

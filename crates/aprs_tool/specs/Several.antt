@@ -9,8 +9,10 @@ use Rattle.aprs_tool.specs.Inputs.{GivesSet}
 use Rattle.aprs_tool.specs.Refused.{IsNotTaken}
 use Rattle.aprs_tool.specs.declared.fault.InputFault.{InputFault}
 
--- What was got of one input, at most `limit` bytes: a text, and how it ended. The `rest` of the
--- input wasn't got, and its device then has `after`.
+-- What was got of one input: a text, how it ended, the `rest` that wasn't got, and `after`, which
+-- its device then has, as `EndsSo` says. `Read` doesn't mean that a read failed: it fits also where
+-- reading stopped early or never began, since the device still has just the rest then. `End` fits
+-- where nothing is left.
 pub record GotOf (limit : ℕ) : Type 0 where
   pub text : List ℕ
   pub ending : Ending
@@ -18,8 +20,9 @@ pub record GotOf (limit : ℕ) : Type 0 where
   pub after : Option (List ℕ)
   pub ends : EndsSo ending limit text rest after
 
--- If it is known which bytes each reader had before, then they are what was got and a rest, the
--- device has after it what `GotOf` says, and P holds of all that was got.
+-- If it is known which bytes each reader had before the run, then there is a `GotOf` for each:
+-- those bytes are its `text` and its `rest`, the reader has its `after` when the run has ended, and
+-- P holds of the list of them all.
 abbrev pub OfEach : {R : Type 0} → (limit : ℕ) → (R → Option (List ℕ)) → List (Counted R)
     → List (Counted R) → (List (GotOf limit) → Type 0) → Type 0
 OfEach limit remaining old new P = (inputs : List (List ℕ))

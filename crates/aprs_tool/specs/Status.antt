@@ -10,17 +10,17 @@ use Rattle.aprs_tool.specs.declared.fault.RunFault.{RunFault}
 use Rattle.aprs_tool.specs.declared.fault.RunFault.TheVariants.{Input, Write}
 use Rattle.aprs_tool.specs.declared.fault.RunFault.TheVariants as run
 
--- the status for a log's cause: 4 where an allocation failed, 1 for every other cause
+-- The status for a log's cause: 4 where an allocation failed, 1 for every other cause.
 abbrev pub status_of_cause : LogCause → ℕ
 status_of_cause cause.Memory = 4
 status_of_cause other = 1
 
--- the same for a book file's cause
+-- The same for a book file's cause.
 abbrev pub status_of_book_cause : BookCause → ℕ
 status_of_book_cause book.Memory = 4
 status_of_book_cause other = 1
 
--- the status for an input's fault
+-- The status for an input's fault.
 abbrev pub status_of_input : InputFault → ℕ
 status_of_input (Log fault) = status_of_cause fault.cause
 status_of_input (Book fault) = status_of_book_cause fault.cause
@@ -28,7 +28,7 @@ status_of_input Memory = 4
 status_of_input OtherGap = 1
 status_of_input Narrower = 1
 
--- the status for a run's fault: 3 where the output was refused
+-- The status for a run's fault: 3 where the output was refused.
 abbrev pub status_of_fault : RunFault → ℕ
 status_of_fault (Input index fault) = status_of_input fault
 status_of_fault Write = 3

@@ -73,7 +73,7 @@ impl From<WriteFault> for OutputFault {
 }
 
 impl<A: Allocator + Copy> Gathered<A> {
-    /// Nothing, for a book of this gap. Takes no memory.
+    /// No rows, for a book of this gap. Takes no memory.
     pub(crate) fn new(alloc: A, gap: Gap) -> Gathered<A>
         ensures { result ≡ record { gap = gap; rows = [] } }
     {

@@ -89,7 +89,8 @@ fn read_after_head<R: Read, A: Allocator + Copy>(
     Ok(book_of(alloc, gap, store)?)
 }
 
-/// The book of the rows in a store.
+/// The book, under this gap, of the receptions that a store's rows stand for. The rows may lie in
+/// any order; those that are near become one.
 fn book_of<A: Allocator + Copy>(alloc: A, gap: Gap, store: RowStore<A>) -> Result<Book<A>, Memory>
     ensures book { IfOk result (Holds (witnesses store)) }
     ensures gap { IfOk result (λ book. book.gap ≡ gap) }
@@ -99,9 +100,10 @@ fn book_of<A: Allocator + Copy>(alloc: A, gap: Gap, store: RowStore<A>) -> Resul
     Book::of_rows(alloc, &rows)
 }
 
-/// Reads an input, as `read_input` does, and gathers its rows: what was the book of a set becomes
-/// the book of that set and of the input's receptions. `OtherGap` comes for a faultless book file
-/// of another gap. After a fault anything may be gathered.
+/// Adds the rows of an input to those that are gathered: if these were the book of a set of
+/// receptions, they are now the book of that set and of the input's receptions. Fails where
+/// `read_input` does, and with `OtherGap` for a faultless book file of another gap. After a fault
+/// any rows may be gathered; the gap stays. Reads at most `limit` bytes.
 pub(crate) fn read_into<R: Read, A: Allocator + Copy>(
     alloc: A,
     limit: u64,

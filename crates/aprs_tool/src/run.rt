@@ -1,11 +1,10 @@
 //! Conversions and checks as runs over one input.
 ghost use Rattle.std.specs.Prelude.{◌≤◌};
-ghost use Rattle.aprs_io.specs.Device.{Calls, device_of};
 ghost use Rattle.aprs_io.specs.Input.{most_input};
 ghost use Rattle.aprs_convert.specs.Check.{Checks};
 ghost use Rattle.aprs_convert.specs.Conversion.{Converts};
-ghost use Rattle.aprs_convert.specs.Got.{OfGot};
-ghost use Rattle.aprs_tool.specs.Run.{AsksOne, WritesWhileRead, last_of_writer};
+ghost use Rattle.aprs_convert.specs.Ends.{Runs};
+ghost use Rattle.aprs_tool.specs.Run.{AnswersAs};
 
 use crate::fault::RunFault;
 use aprs_convert::{Form, check_log, convert_input};
@@ -16,7 +15,7 @@ use std::io::{Read, Write};
 /// Writes what a form gives for each line of a log, or for each frame of a KISS stream where the
 /// form is a capture. Requires that `limit` is at most `MAX_INPUT` (1,073,741,824). At a fault the
 /// text of all before it has been written; at `Write` a prefix of the text. A stream's faults have
-/// line 0. Takes no memory.
+/// line 0. Takes no memory: it asks nothing of `alloc`.
 pub fn convert_run<R: Read, W: Write, A: Allocator + Copy>(
     alloc: A,
     limit: u64,
@@ -25,12 +24,8 @@ pub fn convert_run<R: Read, W: Write, A: Allocator + Copy>(
     w: &mut Counted<W>,
 ) -> Result<(), RunFault>
     requires { limit ≤ most_input }
-    ensures writes { OfGot limit (R.remaining (device_of r.old)) (R.remaining (device_of r.new))
-        (λ text ending. WritesWhileRead (λ fault. Converts form fault text ending) result
-        (W.contents (device_of w.old)) (W.contents (device_of w.new))) }
-    // The input is asked neither after its end nor after a fault, nor is the output.
-    ensures asks { AsksOne result r.old r.new }
-    ensures calls { Calls (last_of_writer result) w.old w.new }
+    ensures { AnswersAs result (λ answer.
+        Runs (Converts form) limit R.remaining W.contents answer r.old r.new w.old w.new) }
 {
     Ok(convert_input(alloc, limit, form, r, w)?)
 }
@@ -38,7 +33,7 @@ pub fn convert_run<R: Read, W: Write, A: Allocator + Copy>(
 /// Writes a line for each line of a log that holds no frame, with the reason, and last how many
 /// lines are heard and how many passed over. Requires that `limit` is at most `MAX_INPUT`
 /// (1,073,741,824). At a fault all lines before it have been reported, and there are no totals; at
-/// `Write` a prefix of the text was written. Takes no memory.
+/// `Write` a prefix of the text was written. Takes no memory: it asks nothing of `alloc`.
 pub fn check_run<R: Read, W: Write, A: Allocator + Copy>(
     alloc: A,
     limit: u64,
@@ -46,12 +41,8 @@ pub fn check_run<R: Read, W: Write, A: Allocator + Copy>(
     w: &mut Counted<W>,
 ) -> Result<(), RunFault>
     requires { limit ≤ most_input }
-    ensures writes { OfGot limit (R.remaining (device_of r.old)) (R.remaining (device_of r.new))
-        (λ text ending. WritesWhileRead (λ fault. Checks fault text ending) result
-        (W.contents (device_of w.old)) (W.contents (device_of w.new))) }
-    // The input is asked neither after its end nor after a fault, nor is the output.
-    ensures asks { AsksOne result r.old r.new }
-    ensures calls { Calls (last_of_writer result) w.old w.new }
+    ensures { AnswersAs result (λ answer.
+        Runs Checks limit R.remaining W.contents answer r.old r.new w.old w.new) }
 {
     Ok(check_log(alloc, limit, r, w)?)
 }

@@ -140,7 +140,7 @@ impl<A: Allocator + Copy> Index<A> {
     }
 }
 
-/// Makes it the greater of what is known and the reception.
+/// Puts `x` into `known`, unless a reception is there that is as great or greater.
 fn keep(known: &mut Option<Reception>, x: &ReceptionView<'_>)
     ensures { known.new ≡ Some (greater_known known.old x.now) }
 {
@@ -150,7 +150,7 @@ fn keep(known: &mut Option<Reception>, x: &ReceptionView<'_>)
     }
 }
 
-/// Makes it the greater of both.
+/// Puts `x` into the place of `greatest`, if it is greater.
 fn keep_greater(greatest: &mut Reception, x: &ReceptionView<'_>)
     ensures { greatest.new ≡ greater greatest.old x.now }
 {

@@ -1,7 +1,6 @@
 //! What is last known of each station, object and item.
-ghost use Rattle.std.specs.Prelude.{◌≡◌, ℕ, List, [], Some, IsOk, IfOk, OnOk, OnErr, if◌then◌else◌};
+ghost use Rattle.std.specs.Prelude.{◌≡◌, ℕ, List, [], IsOk, IfOk, OnOk, OnErr};
 ghost use Rattle.std.specs.Option.{option_copied};
-ghost use Rattle.aprs_laws.specs.Best.{greater_known};
 ghost use Rattle.aprs_book.specs.Known as Spec;
 
 use crate::Memory;
@@ -123,15 +122,11 @@ impl<A: Allocator + Copy> Indexes<A> {
         }
     }
 
-    /// Keeps the reception in the entry for what is reported on, if it is greater than what is
-    /// known. Takes no memory.
+    /// Keeps the reception as what is last known of its subject, where nothing was known or it is
+    /// greater. The subject has its entry. Takes no memory.
     pub(crate) fn note(&mut self, subject: &Subject<'_>, x: &ReceptionView<'_>)
         requires { Spec.HaveEntries subject.now self.old }
-        ensures { (topic : Spec.Topic) (bytes : List ℕ)
-            → Spec.known_at bytes (Spec.index_of topic self.new)
-            ≡ (if Spec.is_reported bytes (Spec.reported_at topic subject.now)
-            then Some (greater_known (Spec.known_at bytes (Spec.index_of topic self.old)) x.now)
-            else Spec.known_at bytes (Spec.index_of topic self.old)) }
+        ensures { Spec.NotesReport subject.now x.now self.old self.new }
     {
         match subject {
             Subject::Position(call) => self.positions.note(call.as_slice(), x),
@@ -142,18 +137,15 @@ impl<A: Allocator + Copy> Indexes<A> {
         }
     }
 
-    /// Keeps the reception for what is reported on, if it is greater than what is known. After
-    /// `Memory` the same is known as before.
+    /// Keeps the reception as what is last known of its subject, where nothing was known or it is
+    /// greater, and makes the subject's entry where there is none. After `Memory` the same is known
+    /// as before.
     pub(crate) fn take(
         &mut self,
         subject: &Subject<'_>,
         x: &ReceptionView<'_>,
     ) -> Result<(), Memory>
-        ensures taken { OnOk result ((topic : Spec.Topic) (bytes : List ℕ)
-            → Spec.known_at bytes (Spec.index_of topic self.new)
-            ≡ (if Spec.is_reported bytes (Spec.reported_at topic subject.now)
-            then Some (greater_known (Spec.known_at bytes (Spec.index_of topic self.old)) x.now)
-            else Spec.known_at bytes (Spec.index_of topic self.old))) }
+        ensures taken { OnOk result (Spec.NotesReport subject.now x.now self.old self.new) }
         ensures same { OnErr result (Spec.SameKnown self.old self.new) }
     {
         match subject {

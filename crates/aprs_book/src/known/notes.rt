@@ -47,7 +47,7 @@ impl<'t, A: Allocator + Copy> Notes<'t, A> {
     pub(crate) fn take(&mut self, subject: Subject<'t>, x: ReceptionView<'t>) -> Result<(), Memory>
         ensures { OnOk result ((rows : List Row) (r : Row) → AreNotesOf rows self.old
             → ((topic : Spec.Topic)
-            → Spec.reported_at topic subject.entry ≡ Spec.reported_in topic (row_key r))
+            → Spec.subject_bytes topic subject.entry ≡ Spec.topic_bytes topic (row_key r))
             → x.entry ≡ r.greatest → AreNotesOf (rows ++ r ∷ []) self.new) }
     {
         if subject.is_nothing() {

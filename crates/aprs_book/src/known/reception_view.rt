@@ -5,7 +5,7 @@ ghost use Rattle.aprs_ax25.specs.Frame.{FrameOf};
 ghost use Rattle.aprs_ax25.specs.FrameFault.{parts_of};
 ghost use Rattle.aprs_log.specs.Reception.{heard_cmp};
 ghost use Rattle.aprs_laws.specs.Key.{key_of};
-ghost use Rattle.aprs_book.specs.Known.{Topic, reported_at, reported_in};
+ghost use Rattle.aprs_book.specs.Known.{Topic, subject_bytes, topic_bytes};
 
 use crate::known::subject::Subject;
 use aprs_ax25::{Callsign, Frame};
@@ -107,7 +107,7 @@ impl<'a> ReceptionView<'a> {
     #[tactic(auto, unfolding(aprs_laws::specs::Key::key_of))]
     pub(crate) fn subject(&self) -> Subject<'a>
         ensures { (topic : Topic)
-            → reported_at topic result ≡ reported_in topic (key_of self.now.frame) }
+            → subject_bytes topic result ≡ topic_bytes topic (key_of self.now.frame) }
     {
         Subject::of(&self.source(), self.info)
     }

@@ -1,7 +1,7 @@
 //! What a frame reports on.
 ghost use Rattle.std.specs.Prelude.{◌≡◌, true, None};
 ghost use Rattle.aprs_report.specs.Reader.{reading_of};
-ghost use Rattle.aprs_book.specs.Known.{Topic, call_bytes, reported_at, reported_by};
+ghost use Rattle.aprs_book.specs.Known.{Topic, call_bytes, subject_bytes, report_bytes};
 
 use aprs_ax25::Callsign;
 use aprs_report::Report;
@@ -28,8 +28,8 @@ pub(crate) enum Subject<'a> {
 impl<'a> Subject<'a> {
     /// What a frame from this station with this information reports on.
     pub(crate) fn of(source: &Callsign, info: &'a [u8]) -> Subject<'a>
-        ensures { (topic : Topic) → reported_at topic result
-            ≡ reported_by topic source.now (reading_of info.now) }
+        ensures { (topic : Topic) → subject_bytes topic result
+            ≡ report_bytes topic source.now (reading_of info.now) }
     {
         match Report::read(info) {
             Report::Position { .. } => Subject::Position(call_bytes(source)),
@@ -42,7 +42,7 @@ impl<'a> Subject<'a> {
 
     /// Whether it is nothing that an index has.
     pub(crate) fn is_nothing(&self) -> bool
-        ensures { result ≡ true → (topic : Topic) → reported_at topic self.now ≡ None }
+        ensures { result ≡ true → (topic : Topic) → subject_bytes topic self.now ≡ None }
     {
         matches!(self, Subject::Nothing)
     }
@@ -50,7 +50,7 @@ impl<'a> Subject<'a> {
     /// Whether it is the same that another frame reports on. Two that report on nothing aren't.
     pub(crate) fn is_same(&self, other: &Subject<'_>) -> bool
         ensures { result ≡ true
-            → (topic : Topic) → reported_at topic self.now ≡ reported_at topic other.now }
+            → (topic : Topic) → subject_bytes topic self.now ≡ subject_bytes topic other.now }
     {
         match (self, other) {
             (Subject::Position(ours), Subject::Position(theirs)) => {

@@ -10,7 +10,7 @@ use crate::Memory;
 use crate::known::last_known::greater;
 use crate::known::reception_view::ReceptionView;
 use crate::lists::message_key::{
-    AnswerKey, MessageKey, Span, is_addressed, message_in, reply_in, span_with,
+    AnswerKey, MessageKey, Span, answer_in, is_addressed, message_in, span_with,
 };
 use crate::lists::sender::Sender;
 use crate::rows::walk::Walk;
@@ -19,7 +19,7 @@ use aprs_log::Moment;
 use std::alloc::{Allocator, Global};
 use std::collections::BTreeMap;
 
-/// Each message of some rows with its moments, and the greatest answer of each kind.
+/// Each message of some rows with its moments, and the greatest reception of each answer.
 pub(crate) struct Exchange<'t, A: Allocator = Global> {
     pub spans: BTreeMap<MessageKey<'t>, Span, A>,
     pub answers: BTreeMap<AnswerKey<'t>, ReceptionView<'t>, A>,
@@ -63,15 +63,15 @@ impl<'t, A: Allocator + Copy> Exchange<'t, A> {
             let last = heard.moment();
             return put_span(&mut self.spans, message, &Span { first, last });
         }
-        match reply_in(sender, heard) {
+        match answer_in(sender, heard) {
             Some(key) => put_answer(&mut self.answers, key, heard),
             None => Ok(()),
         }
     }
 }
 
-/// Adds the moments of a row to those of its message. Most messages come once, so that the map is
-/// searched once for them.
+/// Widens the span of a row's message by `more`, the row's moments, or begins it with these. It
+/// inserts first and mends after, since most messages come once: these need one search.
 fn put_span<'t, A: Allocator + Copy>(
     spans: &mut BTreeMap<MessageKey<'t>, Span, A>,
     message: MessageKey<'t>,
@@ -100,11 +100,11 @@ fn put_answer<'t, A: Allocator + Copy>(
     key: AnswerKey<'t>,
     heard: &ReceptionView<'t>,
 ) -> Result<(), Memory>
-    ensures { OnOk result ((rows : List Row) (r : Row) → Spec.AreReplies rows answers.old.entries
-        → ((a : Spec.Answer) → Spec.IsReply a (row_key r)
+    ensures { OnOk result ((rows : List Row) (r : Row) → Spec.AreAnswers rows answers.old.entries
+        → ((a : Spec.Answer) → Spec.GivesAnswer a (row_key r)
         ↔ (Some (Spec.answer_of key.entry) ≡ Some a))
         → heard.now ≡ r.greatest
-        → Spec.AreReplies (rows ++ r ∷ []) answers.new.entries) }
+        → Spec.AreAnswers (rows ++ r ∷ []) answers.new.entries) }
 {
     let answer = greater(answers.get(&key), heard.copy());
     if answers.insert(key, answer).is_err() {

@@ -82,7 +82,7 @@ fn list_messages<'a, A: Allocator + Copy>(
 ) -> Result<Vec<MessageRow<'a>, A>, Memory>
     ensures ascending { Ordered Spec.IsKeyBefore spans.now.entries }
     ensures rows { IfOk result (λ list.
-        Spec.Zipped (Spec.IsListed answers.now.entries) spans.now.entries list.items) }
+        Spec.Zipped (Spec.IsRowOfMessage answers.now.entries) spans.now.entries list.items) }
 {
     let mut list = Vec::new(alloc);
     for (message, span) in spans.iter() {
@@ -99,7 +99,7 @@ fn row_of<'a, A: Allocator + Copy>(
     span: &Span,
     answers: &BTreeMap<AnswerKey<'a>, ReceptionView<'a>, A>,
 ) -> MessageRow<'a>
-    ensures { Spec.IsListed answers.now.entries (message.now, span.now) result }
+    ensures { Spec.IsRowOfMessage answers.now.entries (message.now, span.now) result }
 {
     let state = match message.id {
         Some(id) => state_by(span.first, greatest_answer(message, id, answers)),

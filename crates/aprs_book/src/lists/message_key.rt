@@ -41,7 +41,8 @@ pub(crate) struct Span {
     pub last: Moment,
 }
 
-/// What an answer names: the station whose message it answers, the one that answers, and the id.
+/// What an answer names: the source and the addressee of the message that it answers, so that the
+/// addressee is who answers; and the id.
 #[derive(PartialEq, Eq, PartialOrd, Ord, Drop)]
 pub(crate) struct AnswerKey<'a> {
     pub source: Callsign,
@@ -81,12 +82,12 @@ pub(crate) fn span_with(known: &Span, more: &Span) -> Span
 }
 
 /// What a reception from this station answers, if it is an answer to a callsign.
-pub(crate) fn reply_in<'a>(sender: &Callsign, heard: &ReceptionView<'a>) -> Option<AnswerKey<'a>>
+pub(crate) fn answer_in<'a>(sender: &Callsign, heard: &ReceptionView<'a>) -> Option<AnswerKey<'a>>
     requires { sender.now ≡ (key_of heard.now.frame).source }
-    ensures { (a : Spec.Answer) → Spec.IsReply a (key_of heard.now.frame)
+    ensures { (a : Spec.Answer) → Spec.GivesAnswer a (key_of heard.now.frame)
         ↔ (option_map Spec.answer_of result ≡ Some a) }
 {
-    let (addressee, id) = answer_in(heard.info())?;
+    let (addressee, id) = answer_fields(heard.info())?;
     match Callsign::parse(addressee) {
         Ok(source) => Some(AnswerKey {
             source,
@@ -97,8 +98,8 @@ pub(crate) fn reply_in<'a>(sender: &Callsign, heard: &ReceptionView<'a>) -> Opti
     }
 }
 
-/// The addressee and the id of an answer that has this information.
-fn answer_in(info: &[u8]) -> Option<(&[u8], &[u8])>
+/// The addressee and the id of an answer that has this information; none where it is no ack or rej.
+fn answer_fields(info: &[u8]) -> Option<(&[u8], &[u8])>
     ensures { option_map (λ x. (x.0.now, x.1.now)) result
         ≡ Spec.reported_answer (reading_of info.now) }
 {

@@ -97,8 +97,8 @@ impl<'t, 'a, A: Allocator + Copy> Overview<'t, 'a, A> {
         objects_of(self.alloc, &self.indexes)
     }
 
-    /// The messages that were heard, ascending by source, addressee, text and id, where none comes
-    /// first.
+    /// The messages that were heard, ascending by source, addressee, text and id; one without an id
+    /// comes before those with one.
     pub fn messages(&self) -> Result<Vec<MessageRow<'_>, A>, Memory>
         ensures { IfOk result (λ messages.
             ReportsMessages (millis_of self.now.gap) self.now.rows messages.items) }

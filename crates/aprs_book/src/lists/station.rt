@@ -40,7 +40,8 @@ impl<A: Allocator + Copy> Book<A> {
     }
 }
 
-/// The stations of rows, by how many rows each has and what is known of them.
+/// The stations of any rows that have these tallies and indexes, ascending by callsign, each with
+/// its number of rows and what is last known of it.
 pub(crate) fn stations_of<'a, A: Allocator + Copy>(
     alloc: A,
     tallies: &BTreeMap<Callsign, u64, A>,

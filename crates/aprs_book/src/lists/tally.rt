@@ -89,7 +89,8 @@ impl<A: Allocator + Copy> Counting<A> {
     }
 }
 
-/// Puts a station's rows into the map, where there is one.
+/// Puts the station that was counted last into the map, with the number of its rows. Without such a
+/// station the map stays.
 fn put<A: Allocator + Copy>(
     map: &mut BTreeMap<Callsign, u64, A>,
     last: Option<Tally>,

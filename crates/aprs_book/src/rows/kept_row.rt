@@ -9,7 +9,7 @@ ghost use Rattle.aprs_laws.specs.Key.{key_of, key_cmp};
 ghost use Rattle.aprs_laws.specs.Row.{row_cmp};
 ghost use Rattle.aprs_laws.specs.JoinRow.{single, combine, place};
 ghost use Rattle.aprs_laws.specs.Inserted.{side, grow_row};
-ghost use Rattle.aprs_book.specs.Keyed.{HaveSameCalls};
+ghost use Rattle.aprs_book.specs.Keyed.{HaveSameCallsigns};
 ghost use Rattle.aprs_rows.specs.Refusal.{is_too_near};
 
 use crate::rows::millis::Millis;
@@ -109,7 +109,9 @@ impl<A: Allocator + Copy> KeptRow<A> {
         }
     }
 
-    /// Where this row lies, seen from another: before it, near to it, or after it.
+    /// Where this row lies, seen from another: by key first; of one key it is `Less` where it ends
+    /// more than the gap before the other begins, `Greater` where the other ends so before it, and
+    /// `Equal` where they are near.
     pub(crate) fn place(&self, gap: Millis, other: &KeptRow<A>) -> Ordering
         ensures { result ≡ place gap self.now other.now }
     {
@@ -158,8 +160,8 @@ impl<A: Allocator + Copy> KeptRow<A> {
     /// Adds a reception that is near to this row. Takes no memory where the row lists its receiver.
     pub(crate) fn grow(&mut self, x: &Reception) -> Result<(), Memory>
         ensures grown { OnOk result (self.new ≡ grow_row self.old x.now) }
-        ensures unchanged { OnErr result (self.new ≡ self.old) }
         ensures listed { x.now.receiver ∈ self.old.receivers → IsOk result }
+        ensures unchanged { OnErr result (self.new ≡ self.old) }
     {
         let sent = self.sent.as_mut();
         sent.receivers.add(x.receiver())?;
@@ -273,7 +275,7 @@ const CALLS: usize = 14;
 /// Whether two frames have the same destination and the same source, seen by their octets alone. So
 /// have most copies of one transmission.
 fn have_same_calls(a: &[u8], b: &[u8]) -> bool
-    ensures { result ≡ true → HaveSameCalls a.now b.now }
+    ensures { result ≡ true → HaveSameCallsigns a.now b.now }
 {
     a.len() >= CALLS && b.len() >= CALLS && a[..CALLS] == b[..CALLS]
 }

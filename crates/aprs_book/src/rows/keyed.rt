@@ -1,6 +1,6 @@
 //! The rows of a book by the heads of their keys.
 ghost use Rattle.std.specs.Prelude.{◌≡◌, ◌+◌, [], ◌∷◌, ◌++◌, length, true, IsOk, IfOk, OnOk, OnErr};
-ghost use Rattle.aprs_book.specs.Keyed.{EndsUpTo, IsEndOf, rows_of};
+ghost use Rattle.aprs_book.specs.Keyed.{LastKeyIsUpTo, IsEndOf, rows_of};
 ghost use Rattle.aprs_rows.specs.Refusal.{refusal};
 ghost use Rattle.aprs_laws.specs.JoinRow.{interleave, coalesced_rows};
 ghost use Rattle.aprs_log.specs.Reception.{bytes_cmp};
@@ -10,10 +10,10 @@ ghost use Rattle.aprs_laws.specs.Inserted.{insert_heard, fits_in_place};
 ghost use Rattle.aprs_laws.specs.Sound.{Sound};
 
 use crate::rows::kept_row::KeptRow;
-use crate::rows::merging_keys::{put_both, put_either};
+use crate::rows::merging_keys::{put_both, put_joined};
 use crate::rows::millis::Millis;
-use crate::rows::place::put;
 use crate::rows::push::first_cause;
+use crate::rows::slot::put;
 use crate::rows::walk::Walk;
 use crate::{Memory, RowCause, RowParts};
 use aprs_log::Reception;
@@ -87,7 +87,9 @@ impl<A: Allocator + Copy> KeyedRows<A> {
         Walk::of(&[], self.map.values())
     }
 
-    /// The rows of both, head by head, in one pass over the heads of both.
+    /// The rows of both in order, where each that is near, under this gap, to the row before it is
+    /// joined to that. So are rows of one side alone: under a wider gap they may have come near.
+    /// One pass over the heads of both.
     pub(crate) fn merge(&self, gap: Millis, other: &KeyedRows<A>) -> Result<KeyedRows<A>, Memory>
         ensures { IfOk result (λ both. both ≡ coalesced_rows gap (interleave self.now other.now)) }
     {
@@ -100,16 +102,16 @@ impl<A: Allocator + Copy> KeyedRows<A> {
             match (our, their) {
                 (None, None) => break,
                 (Some((head, x)), None) => {
-                    put_either(self.alloc, gap, &mut map, head, x.as_slice())?;
+                    put_joined(self.alloc, gap, &mut map, head, x.as_slice())?;
                     our = ours.next();
                 }
                 (None, Some((head, y))) => {
-                    put_either(self.alloc, gap, &mut map, head, y.as_slice())?;
+                    put_joined(self.alloc, gap, &mut map, head, y.as_slice())?;
                     their = theirs.next();
                 }
                 (Some((head, x)), Some((other_head, y))) => match head.cmp(other_head) {
                     Ordering::Less => {
-                        put_either(self.alloc, gap, &mut map, head, x.as_slice())?;
+                        put_joined(self.alloc, gap, &mut map, head, x.as_slice())?;
                         our = ours.next();
                     }
                     Ordering::Equal => {
@@ -118,7 +120,7 @@ impl<A: Allocator + Copy> KeyedRows<A> {
                         their = theirs.next();
                     }
                     Ordering::Greater => {
-                        put_either(self.alloc, gap, &mut map, other_head, y.as_slice())?;
+                        put_joined(self.alloc, gap, &mut map, other_head, y.as_slice())?;
                         their = theirs.next();
                     }
                 },
@@ -139,9 +141,10 @@ impl<A: Allocator + Copy> KeyedRows<A> {
         }
     }
 
-    /// Puts a row after all others. What needs memory is made before the first change.
+    /// Puts a row after all others, none of whose keys is above its key. What needs memory is made
+    /// before the first change.
     fn append(&mut self, row: KeptRow<A>) -> Result<(), Memory>
-        requires { EndsUpTo row self.old }
+        requires { LastKeyIsUpTo row self.old }
         ensures added { OnOk result (self.new ≡ self.old ++ row ∷ []) }
         ensures unchanged { OnErr result (self.new ≡ self.old) }
     {
@@ -173,7 +176,7 @@ impl<A: Allocator + Copy> KeyedRows<A> {
     /// change.
     pub(crate) fn push(&mut self, parts: &RowParts<A>) -> Result<(), Memory>
         requires ascending { Ordered (IsBelow bytes_cmp) parts.now.receivers }
-        requires last { EndsUpTo parts.now self.old }
+        requires last { LastKeyIsUpTo parts.now self.old }
         ensures added { OnOk result (self.new ≡ self.old ++ parts.now ∷ []) }
         ensures unchanged { OnErr result (self.new ≡ self.old) }
     {
@@ -185,8 +188,8 @@ impl<A: Allocator + Copy> KeyedRows<A> {
     pub(crate) fn take(&mut self, gap: Millis, x: &Reception) -> Result<(), Memory>
         requires { Sound gap self.old }
         ensures inserted { OnOk result (self.new ≡ insert_heard gap x.now self.old) }
-        ensures unchanged { OnErr result (self.new ≡ self.old) }
         ensures in_place { fits_in_place gap x.now self.old ≡ true → IsOk result }
+        ensures unchanged { OnErr result (self.new ≡ self.old) }
     {
         let head = Head::of_frame(x.frame());
         let mut count = self.count;

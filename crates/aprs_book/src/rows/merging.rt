@@ -1,7 +1,7 @@
 //! The rows of two books in one.
 ghost use Rattle.std.specs.Prelude.{◌≡◌, [], ◌∷◌, ◌++◌, true, false, IfOk, OnOk};
 ghost use Rattle.aprs_laws.specs.JoinRow.{interleave, coalesced_rows};
-ghost use Rattle.aprs_laws.specs.Coalescing.{append_row};
+ghost use Rattle.aprs_laws.specs.Coalescing.{append_or_join};
 ghost use Rattle.aprs_book.specs.WithRows.{with_rows, IsNearLast};
 
 use crate::Memory;
@@ -70,7 +70,7 @@ fn push<A: Allocator + Copy>(
     rows: &mut Vec<KeptRow<A>, A>,
     row: &KeptRow<A>,
 ) -> Result<(), Memory>
-    ensures { OnOk result (rows.new.items ≡ append_row gap rows.old.items row.now) }
+    ensures { OnOk result (rows.new.items ≡ append_or_join gap rows.old.items row.now) }
 {
     if is_last_near(gap, rows.as_slice(), row) {
         let end = rows.len() - 1;
@@ -88,7 +88,7 @@ fn push<A: Allocator + Copy>(
 /// Whether the row is near to the last of the rows, so that both are of one transmission.
 fn is_last_near<A: Allocator + Copy>(gap: Millis, rows: &[KeptRow<A>], row: &KeptRow<A>) -> bool
     ensures near { result ≡ true → IsNearLast gap rows.now row.now }
-    ensures far { result ≡ false → append_row gap rows.now row.now ≡ rows.now ++ row.now ∷ [] }
+    ensures far { result ≡ false → append_or_join gap rows.now row.now ≡ rows.now ++ row.now ∷ [] }
 {
     let len = rows.len();
     if len == 0 {

@@ -30,8 +30,8 @@ pub(crate) fn put_both<A: Allocator + Copy>(
     Ok(())
 }
 
-/// Puts one head's rows of either at the end.
-pub(crate) fn put_either<A: Allocator + Copy>(
+/// Puts the rows of a head that one side alone has at the end, near ones joined.
+pub(crate) fn put_joined<A: Allocator + Copy>(
     alloc: A,
     gap: Millis,
     map: &mut BTreeMap<Head, Vec<KeptRow<A>, A>, A>,

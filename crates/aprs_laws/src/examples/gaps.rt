@@ -37,7 +37,7 @@ pub fn books_have_gaps()
 pub fn wider_gaps_join_rows()
     ensures widened { widened_rows 30001 (early_row ∷ late_row ∷ [])
         ≡ row_of 0 (rx1 ∷ rx2 ∷ []) (by_rx1 30001) ∷ [] }
-    ensures misses_one { widened_rows 30000 (early_row ∷ late_row ∷ [])
+    ensures apart { widened_rows 30000 (early_row ∷ late_row ∷ [])
         ≡ early_row ∷ late_row ∷ [] }
 {}
 
@@ -48,6 +48,6 @@ pub fn units_scale_gaps_too()
         ≡ row_of 0 (rx1 ∷ rx2 ∷ []) (by_rx1 30000000) ∷ [] }
     ensures plain { plain_book 30000000 (map (scaled_heard 1000) near_pair)
         ≡ scaled_rows 1000 (near_row ∷ []) }
-    ensures misses_gap { plain_book 30000 (map (scaled_heard 1000) near_pair)
+    ensures two { plain_book 30000 (map (scaled_heard 1000) near_pair)
         ≡ early_row ∷ row_at 30000000 ∷ [] }
 {}

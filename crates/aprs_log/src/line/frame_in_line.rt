@@ -15,8 +15,11 @@ const DATA: u8 = 0;
 /// The most bytes of a frame, and the frame end after it.
 const MAX_ENDED: usize = 1024;
 
-/// The one data frame that the bytes hold, or the first reason why they hold none. It lies in the
-/// bytes or in the reader, which then begins anew.
+/// The bytes of the one data frame, of any port, that a line's bytes hold as a KISS stream; whether
+/// they are a UI frame is judged by the caller. Otherwise the first reason why there is none: bytes
+/// follow the last frame end, there are two pieces, there is none, or the piece is no data frame.
+/// The bytes lie in `bytes`, or in `reader` where a quick look didn't do; that is reset before it
+/// is used.
 pub fn data_in<'r>(reader: &'r mut KissReader, bytes: &'r [u8]) -> Result<&'r [u8], Reason>
     ensures { MatchResult result
         (λ frame. frame_in bytes.now ≡ frame_or_reason (frame_of frame.now))
@@ -28,7 +31,9 @@ pub fn data_in<'r>(reader: &'r mut KissReader, bytes: &'r [u8]) -> Result<&'r [u
     }
 }
 
-/// The same, where the bytes are plainly one data frame of port 0 without an escape, as most are.
+/// A quick look for `data_in`: the frame's bytes, where the line's bytes are a frame end, the type
+/// byte 0, at most 1,023 bytes without a frame end or an escape, and a frame end, as most are.
+/// `None` decides nothing: there may be a frame all the same.
 fn plain_frame_in(bytes: &[u8]) -> Option<&[u8]>
     ensures { IfSome result
         (λ frame. frame_in bytes.now ≡ frame_or_reason (frame_of frame.now)) }
@@ -81,7 +86,7 @@ fn is_unended(bytes: &[u8]) -> bool
     }
 }
 
-/// Whether a byte is no frame end.
+/// Whether any of the bytes is not a frame end.
 fn has_other(bytes: &[u8]) -> bool
     ensures { result ≡ has_other bytes.now }
 {

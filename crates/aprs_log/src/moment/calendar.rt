@@ -8,8 +8,8 @@ use jiff_core::civil::Date;
 /// The days from -9999-01-01, at which the calendar's own count begins, to 1970-01-01.
 const DAYS_BEFORE_1970: u32 = 4_371_587;
 
-/// The days from 1970-01-01 to a date, where the calendar has it: fewer than the 47,482 to
-/// 2100-01-01.
+/// The days from 1970-01-01 to a date, where the calendar has it: always below 47,482, the number
+/// of 2100-01-01. The year is one of 1970 to 2099, month and day have two digits.
 pub fn day_number(year: u16, month: u8, day: u8) -> Option<u32>
     requires low { 1970 ≤ year }
     requires high { year ≤ 2099 }

@@ -55,8 +55,10 @@ impl Window {
         self.start += count;
     }
 
-    /// Reads once after the bytes that it holds, at most `left` bytes, and returns how many came;
-    /// or returns how the input ends.
+    /// Reads once, at most `left` bytes, to the place after those that it holds, and returns how
+    /// many came. Otherwise returns how the input ends here: with `TooLong` where `left` is 0 and a
+    /// further byte came, which is dropped. It has to hold at most a longest line, so that there is
+    /// room.
     pub fn read_more<R: Read>(&mut self, source: &mut Counted<R>, left: u64) -> Result<u64, Ending>
         requires { length (items self.old) ≤ most_line }
 

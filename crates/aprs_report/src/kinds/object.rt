@@ -23,7 +23,10 @@ fn state_at_start(live: u8, bytes: &[u8]) -> Option<(bool, &[u8])>
     }
 }
 
-/// An object, from the bytes after the first.
+/// An object, from the bytes of an information field after its first, `;`: a name of nine bytes,
+/// `*` where it is live or `_` where it is killed, a stamp, a position with its symbol, and a
+/// comment (APRS Protocol Reference 1.0.1, chapter 11). `None` where one of these but the comment
+/// can't be read.
 #[tactic(auto, unfolding(crate::specs::Reader::object_of))]
 pub fn object(bytes: &[u8]) -> Option<Report<'_>>
     ensures { option_map view result ≡ object_of bytes.now }

@@ -60,8 +60,8 @@ impl<A: Allocator + Copy> Receivers<A> {
     pub fn add(&mut self, name: &Receiver) -> Result<(), Memory>
         ensures joined { OnOk result (IsUnited bytes_cmp (name.now ∷ []) self.old self.new) }
         ensures added { OnOk result (self.new ≡ add bytes_cmp name.now self.old) }
-        ensures unchanged { OnErr result (self.new ≡ self.old) }
         ensures listed { name.now ∈ self.old → IsOk result }
+        ensures unchanged { OnErr result (self.new ≡ self.old) }
     {
         match search(self.names.as_slice(), name) {
             Ok(_) => Ok(()),
@@ -129,6 +129,7 @@ impl<A: Allocator + Copy> Join for Receivers<A> {
         true
     }
 
+    /// The names of both, ascending, each once.
     fn join(&self, other: &Receivers<A>) -> Result<Receivers<A>, Memory> {
         self.unite(other)
     }

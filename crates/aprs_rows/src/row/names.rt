@@ -49,7 +49,8 @@ fn push_name<'a, A: Allocator>(names: &mut Vec<&'a [u8], A>, name: &'a [u8]) -> 
     Ok(())
 }
 
-/// Puts names, each once and ascending, with commas between, after the text that is there.
+/// Puts names, each once and ascending, with commas between, after the text that is there. Sorts
+/// `names` in place.
 pub(crate) fn put_union<A: Allocator, B: Allocator>(
     text: &mut Vec<u8, A>,
     names: &mut Vec<&[u8], B>,

@@ -60,7 +60,7 @@ fn first_of(bytes: &[u8], count: usize) -> &[u8]
     first
 }
 
-/// The bytes from a place on, none where there are fewer.
+/// The bytes from index `place` on, or none where `place` is past the end.
 fn after(bytes: &[u8], place: usize) -> &[u8]
     ensures { result.now ≡ drop place bytes.now }
 {

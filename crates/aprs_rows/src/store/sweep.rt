@@ -2,7 +2,7 @@
 ghost use Rattle.std.specs.Prelude.{◌≡◌, if◌then◌else◌, ℕ, ◌++◌, ◌∷◌, [], false, true, min, List, OnOk, IfOk};
 ghost use Rattle.std.specs.Ordering.{is_eq};
 ghost use Rattle.std.specs.Borrow.{Bor};
-ghost use Rattle.aprs_laws.specs.Coalescing.{append_row};
+ghost use Rattle.aprs_laws.specs.Coalescing.{append_or_join};
 ghost use Rattle.aprs_laws.specs.Gap.{IsGap, millis_of};
 ghost use Rattle.aprs_laws.specs.JoinRow.{combine, greater, place};
 ghost use Rattle.aprs_laws.specs.Row.{Row};
@@ -34,7 +34,7 @@ impl<'a> Open<'a> {
     fn of(row: StoredRow<'a>) -> Open<'a>
         ensures row { (names : List (Bor (List ℕ))) → Spec.open_row result names ≡ row.entry }
         ensures alone { result.is_alone ≡ true }
-        ensures own { Spec.HasNames result.greatest }
+        ensures names { Spec.HasNames result.greatest }
     {
         Open {
             first: row.first(),
@@ -59,7 +59,7 @@ impl<'a> Open<'a> {
         ensures greatest { self.new.greatest.greatest
             ≡ greater self.old.greatest.greatest row.entry.greatest }
         ensures alone { self.new.is_alone ≡ false }
-        ensures own { Spec.HasNames self.old.greatest → Spec.HasNames self.new.greatest }
+        ensures names { Spec.HasNames self.old.greatest → Spec.HasNames self.new.greatest }
     {
         if row.first().millis() < self.first.millis() {
             self.first = row.first();
@@ -111,7 +111,7 @@ impl<'a, A: Allocator + Copy> Sweep<'a, A> {
     pub(crate) fn take(&mut self, row: StoredRow<'a>) -> Result<(), Memory>
         ensures stands { (rows : List Row) → Spec.Stands self.old rows
             → OnOk result (Spec.Stands self.new
-            (append_row (millis_of self.old.gap) rows row.entry)) }
+            (append_or_join (millis_of self.old.gap) rows row.entry)) }
         ensures gap { OnOk result (self.new.gap ≡ self.old.gap) }
     {
         if self.latest.is_near(self.gap, &row) {
@@ -147,13 +147,13 @@ impl<'a, A: Allocator + Copy> Sweep<'a, A> {
 
     /// Takes a row that is near to the open ones.
     fn join(&mut self, row: StoredRow<'a>) -> Result<(), Memory>
-        ensures groups { self.new.groups ≡ self.old.groups }
-        ensures texts { self.new.texts ≡ self.old.texts }
-        ensures gap { self.new.gap ≡ self.old.gap }
         ensures joined { Spec.AreGathered self.old.latest self.old.names.items
             → OnOk result (Spec.AreGathered self.new.latest self.new.names.items
             × (Spec.open_row self.new.latest self.new.names.items
             ≡ combine (Spec.open_row self.old.latest self.old.names.items) row.entry)) }
+        ensures groups { self.new.groups ≡ self.old.groups }
+        ensures texts { self.new.texts ≡ self.old.texts }
+        ensures gap { self.new.gap ≡ self.old.gap }
     {
         gather_alone(&mut self.names, &self.latest)?;
         gather(&mut self.names, row.receivers())?;
@@ -178,8 +178,9 @@ fn gather_alone<'a, A: Allocator>(
     Ok(())
 }
 
-/// Makes a group of the open rows, those that later rows could still join, and puts it after the
-/// other groups and the text of its names after the other texts. `names` is empty afterwards.
+/// Ends the open rows, so that no later row joins them. Puts their group after the other groups
+/// and, where they are two or more, the text of their names after the other texts; the group of a
+/// single row has no text, and that row's own names. `names` is empty afterwards.
 fn close<'a, A: Allocator>(
     groups: &mut Vec<Group<'a>, A>,
     texts: &mut Vec<u8, A>,

@@ -60,7 +60,7 @@ returns-in_err-feed-in-Ok-clause-fault g c =
 
 pub returns-in-Err-clause-fault : goal.returns-in-Err-clause-fault
 returns-in-Err-clause-fault g c =
-    rw c.fault_at.ensures (IsAnswered-end _ c.args.limit c.args.head.now _ _ _
+    rw c.fault_of_ending.ensures (IsAnswered-end _ c.args.limit c.args.head.now _ _ _
     c.loop-room.invariant.calls _ _ c.in-Err.ending _ c.loop-room.invariant.got refl
     c.in-Err.ensures.end c.in-Err.ensures.over c.in-Err.ensures.calls
     (λ t s. rw s.has.counted (first_is _ _ _ (cut_fault _ _ _ t _ (may_end-going _ _

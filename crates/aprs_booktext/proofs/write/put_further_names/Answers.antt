@@ -14,5 +14,5 @@ loop-name-preserved g c = record {
   puts = Puts-more (λ name. 44 ∷ name) c.args.names.now c.loop-name.name-index _ (omega arith)
       c.name-item.is c.loop-name.invariant.puts (Puts-is c.in_ok-put.ensures (cc));
   names = names_more c.args.names.now c.loop-name.name-index _ (omega arith) c.name-item.is
-      c.loop-name.invariant.names c.after_comma.ensures.name;
+      c.loop-name.invariant.names c.comma_and_name.ensures.name;
 }

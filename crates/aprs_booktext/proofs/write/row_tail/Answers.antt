@@ -39,7 +39,7 @@ returns-clause-text c =
     let frame = c.args.frame.now in
     let few = IsSound-len frame (FrameOf-IsSound _ frame c.requires.frame) in
     let short : length c.args.receiver.now ≤ 16 = name_len _ c.requires.name in
-    tail_is c.args.room.now c.put-space.new.out c.put_hex-end.new.room c.args.receiver.now _
+    tail_is c.args.room.now c.put-space.new.out c.put_hex-end.new.out c.args.receiver.now _
     c.put-space.result c.put_hex-end.result (grind (arith, common_steps))
     (grind (arith, common_steps)) (grind (arith, common_steps)) c.put-space.ensures.bytes
     c.put_hex-end.ensures.digits

@@ -4,7 +4,7 @@ use Rattle.aprs_laws.specs.Gap.{millis_of}
 use Rattle.aprs_laws.specs.Key.{key_of}
 use Rattle.aprs_laws.specs.Sound.{Sound}
 use Rattle.aprs_rows.specs.Refusal.{refusal}
-use Rattle.aprs_book.specs.Known.{reported_in}
+use Rattle.aprs_book.specs.Known.{topic_bytes}
 use Rattle.aprs_book.proofs.Taking.{refusal_is}
 use Rattle.aprs_rows.proofs.Refusals.{free_ascends, none_exactly}
 use Rattle.aprs_book.proofs.RefusalEnds.{none_ends_up_to}
@@ -37,7 +37,7 @@ invariant_of-self-2 g c =
       pushes_indexes c.subject-subject.result c.args.parts.now c.self.inside.rows c.push.new.self
           c.self.inside.indexes c.place.new.self c.note.new.self c.self.invariant.1
           (λ topic. c.subject-subject.ensures topic
-          ∙ ap (λ (x : Heard). reported_in topic (key_of x.frame)) c.heard-heard.ensures)
+          ∙ ap (λ (x : Heard). topic_bytes topic (key_of x.frame)) c.heard-heard.ensures)
           c.in_ok-place.ensures.same
           (subst (λ (x : Heard). Noted c.subject-subject.result x c.place.new.self c.note.new.self)
           c.heard-heard.ensures c.note.ensures)

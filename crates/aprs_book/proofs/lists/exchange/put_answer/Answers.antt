@@ -1,12 +1,12 @@
 use Rattle.std.proofs.Common.{◌∙◌, ap, not}
 use Rattle.aprs_book.proofs.Collected.{adds_last}
 use Rattle.aprs_book.proofs.Messages.{where_ok}
-use Rattle.aprs_book.proofs.Replies.{answer_keys_alike, kept_greater, replies_put}
+use Rattle.aprs_book.proofs.GreatestAnswers.{answer_keys_alike, kept_greater, answers_put}
 use Rattle.aprs_book.proofs.lists.exchange.put_answer.Goals as goal
 
 pub returns : goal.returns
 returns g c = λ rows r held asked is.
-    replies_put rows _ r (adds_last rows r) c.args.answers.now.entries held _ answer_keys_alike
+    answers_put rows _ r (adds_last rows r) c.args.answers.now.entries held _ answer_keys_alike
     c.args.key c.greater-answer.result c.insert.new.self.entries asked
     (kept_greater c.greater-answer.result c.get.result _ c.copy.result r.greatest
     c.greater-answer.ensures c.get.ensures.value (c.copy.ensures ∙ is))

@@ -1,6 +1,6 @@
 use Rattle.std.proofs.Common.{◌≡◌, ◌∙◌, sym, refl, Ok}
 use Rattle.aprs_book.specs.MessageRows.{message_of}
-use Rattle.aprs_book.proofs.Replies.{answer_keys_alike, answer_reported_by, same_answer}
+use Rattle.aprs_book.proofs.GreatestAnswers.{answer_keys_alike, answer_reported_by, same_answer}
 use Rattle.aprs_book.proofs.lists.message.greatest_answer.Goals as goal
 
 pub returns-in-Ok : goal.returns-in-Ok

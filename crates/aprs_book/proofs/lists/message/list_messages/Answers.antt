@@ -1,20 +1,20 @@
 use Rattle.std.proofs.Common.{◌∙◌, ap, not}
 use Rattle.std.proofs.lemmas.Map.Iter.{rest_more, rest_all}
 use Rattle.std.specs.Map.Iter.{deref_pair}
-use Rattle.aprs_book.specs.MessageRows.{IsListed}
+use Rattle.aprs_book.specs.MessageRows.{IsRowOfMessage}
 use Rattle.aprs_book.proofs.Messages.{keys_alike}
 use Rattle.aprs_book.proofs.Listings.{ascending_keys, lists_first, lists_next, lists_last, push_done}
 use Rattle.aprs_book.proofs.lists.message.list_messages.Goals as goal
 
 pub loop-message-init : goal.loop-message-init
 loop-message-init g c =
-    lists_first (IsListed c.args.answers.now.entries) c.args.spans.now.entries _ _
+    lists_first (IsRowOfMessage c.args.answers.now.entries) c.args.spans.now.entries _ _
     (c.into_iter-message-iterator.ensures.into_iter_gives ∙ c.iter-message-items.ensures.rest)
     c.new-list.ensures.items
 
 pub loop-message-preserved : goal.loop-message-preserved
 loop-message-preserved g c =
-    lists_next (IsListed c.args.answers.now.entries) c.args.spans.now.entries
+    lists_next (IsRowOfMessage c.args.answers.now.entries) c.args.spans.now.entries
     c.loop-message.message-iterator _ _ _ (c.in-Some.message.now, c.in-Some.span.now)
     c.row_of.result
     (rest_more deref_pair c.loop-message.message-iterator c.next.new.self c.next.result
@@ -32,7 +32,7 @@ returns-clause-ascending g c =
 
 pub returns-clause-rows : goal.returns-clause-rows
 returns-clause-rows g c =
-    lists_last (IsListed c.args.answers.now.entries) c.args.spans.now.entries
+    lists_last (IsRowOfMessage c.args.answers.now.entries) c.args.spans.now.entries
     c.loop-message.message-iterator _
     (rest_all deref_pair c.loop-message.message-iterator c.next.new.self c.next.result c.in-None.is
     c.next.ensures.steps) c.loop-message.invariant

@@ -1,5 +1,5 @@
 use Rattle.std.proofs.Common.{◌≡◌, ◌+◌, ◌-◌, length, arith}
-use Rattle.aprs_book.proofs.Places.{not_equal}
+use Rattle.aprs_book.proofs.Slots.{not_equal}
 use Rattle.aprs_book.proofs.Pushes.{pushed_far}
 use Rattle.aprs_book.proofs.rows.merging.is_last_near.Goals as goal
 

@@ -1,10 +1,10 @@
 use Rattle.std.proofs.Common.{◌∙◌, sym}
-use Rattle.aprs_booktext.proofs.Standing.{held_fault, held_stands, HasRowsSo-weaker}
+use Rattle.aprs_booktext.proofs.Standing.{held_fault, held_stands, EndsWithSuch-weaker}
 use Rattle.aprs_booktext.proofs.reader.BookReader.append.Goals as goal
 
 pub returns-in-Ok-clause-stands : goal.returns-in-Ok-clause-stands
 returns-in-Ok-clause-stands g c = λ before store t s lacks. rw c.in-Ok.ensures.items
-    (HasRowsSo-weaker _ _ _ _ _ (λ rows h. held_stands _ _ _ t c.args.bytes.now
+    (EndsWithSuch-weaker _ _ _ _ _ (λ rows h. held_stands _ _ _ t c.args.bytes.now
     (sym c.is_done.ensures ∙ c.if-is_done.false) lacks h) s)
 
 pub returns-in-Err-clause-fault : goal.returns-in-Err-clause-fault

@@ -9,5 +9,5 @@ returns-then-may_end-clause-reads g c = λ before store t s.
     (ended_read _ _ _ t _ (sym c.may_end.ensures ∙ c.if-may_end.true) s.holds)
 
 pub returns-clause-reads : goal.returns-clause-reads
-returns-clause-reads g c = λ before store t s. rw (c.fault_at.ensures, s.has.counted)
+returns-clause-reads g c = λ before store t s. rw (c.fault_of_ending.ensures, s.has.counted)
     (first_is _ _ _ (cut_fault _ _ _ t _ (sym c.may_end.ensures ∙ c.if-may_end.false) s.holds))

@@ -10,6 +10,6 @@ pub returns-clause-plain : goal.returns-clause-plain
 unfolding key_of key_cmp
 returns-clause-plain c = refl
 
-pub returns-clause-misses_gap : goal.returns-clause-misses_gap
+pub returns-clause-two : goal.returns-clause-two
 unfolding key_of key_cmp
-returns-clause-misses_gap c = refl
+returns-clause-two c = refl

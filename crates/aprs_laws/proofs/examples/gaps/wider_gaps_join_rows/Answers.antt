@@ -6,6 +6,6 @@ pub returns-clause-widened : goal.returns-clause-widened
 unfolding key_of key_cmp
 returns-clause-widened c = refl
 
-pub returns-clause-misses_one : goal.returns-clause-misses_one
+pub returns-clause-apart : goal.returns-clause-apart
 unfolding key_of key_cmp
-returns-clause-misses_one c = refl
+returns-clause-apart c = refl

@@ -6,7 +6,7 @@ use Rattle.aprs_laws.specs.Key.{key_of, key_cmp}
 use Rattle.aprs_laws.specs.Row.{Row, row_cmp}
 use Rattle.aprs_laws.specs.Examples.{half_minute, by_rx1, early, early_row, late_row, row_at}
 use Rattle.aprs_laws.specs.JoinRow.{coalesced_rows}
-use Rattle.aprs_laws.specs.Coalescing.{append_row}
+use Rattle.aprs_laws.specs.Coalescing.{append_or_join}
 use Rattle.aprs_laws.proofs.Coalescing.{singles_stand}
 use Rattle.aprs_laws.proofs.examples.steps.rows_in_order_are_one_book.Goals as goal
 
@@ -67,7 +67,7 @@ unfolding key_of key_cmp
 returns-clause-appended c = refl
 
 -- what comes of a row between two others, put after them
-late : append_row half_minute (row_at 0 ∷ row_at 60001 ∷ []) (row_at 30000)
+late : append_or_join half_minute (row_at 0 ∷ row_at 60001 ∷ []) (row_at 30000)
     ≡ row_at 0 ∷ row_at 60001 ∷ row_at 30000 ∷ []
 unfolding key_of key_cmp
 late = refl

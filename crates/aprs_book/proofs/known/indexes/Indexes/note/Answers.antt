@@ -1,5 +1,5 @@
 use Rattle.std.proofs.Common.{◌∙◌, Some, sym, ap, subst}
-use Rattle.aprs_book.specs.Known.{FourIndexes, HasEntry, index_of, reported_at, positions, statuses, objects, items}
+use Rattle.aprs_book.specs.Known.{FourIndexes, HasEntry, index_of, subject_bytes, positions, statuses, objects, items}
 use Rattle.aprs_book.proofs.known.indexes.Indexes.note.Goals as goal
 
 pub note-requires : goal.note-requires
@@ -7,22 +7,22 @@ note-requires g c =
     subst (λ (i : FourIndexes). HasEntry c.as_slice.result.now (index_of positions i))
     (sym c.self.view_is)
     (c.requires positions c.as_slice.result.now
-    (ap (reported_at positions) c.in-Position.is ∙ ap Some (sym c.as_slice.ensures.value)))
+    (ap (subject_bytes positions) c.in-Position.is ∙ ap Some (sym c.as_slice.ensures.value)))
 
 pub note-requires-in-Status : goal.note-requires-in-Status
 note-requires-in-Status g c =
     subst (λ (i : FourIndexes). HasEntry c.as_slice-in-Status.result.now (index_of statuses i))
     (sym c.self.view_is)
     (c.requires statuses c.as_slice-in-Status.result.now
-    (ap (reported_at statuses) c.in-Status.is ∙ ap Some (sym c.as_slice-in-Status.ensures.value)))
+    (ap (subject_bytes statuses) c.in-Status.is ∙ ap Some (sym c.as_slice-in-Status.ensures.value)))
 
 pub note-requires-in-Object : goal.note-requires-in-Object
 note-requires-in-Object g c =
     subst (λ (i : FourIndexes). HasEntry c.in-Object.name.now (index_of objects i))
     (sym c.self.view_is)
-    (c.requires objects c.in-Object.name.now (ap (reported_at objects) c.in-Object.is))
+    (c.requires objects c.in-Object.name.now (ap (subject_bytes objects) c.in-Object.is))
 
 pub note-requires-in-Item : goal.note-requires-in-Item
 note-requires-in-Item g c =
     subst (λ (i : FourIndexes). HasEntry c.in-Item.name.now (index_of items i)) (sym c.self.view_is)
-    (c.requires items c.in-Item.name.now (ap (reported_at items) c.in-Item.is))
+    (c.requires items c.in-Item.name.now (ap (subject_bytes items) c.in-Item.is))

@@ -1,10 +1,10 @@
 use Rattle.std.proofs.Common.{[], subst, sym}
 use Rattle.aprs_laws.specs.Best.{LastKnown}
 use Rattle.aprs_laws.specs.BestLaws.{Passes}
-use Rattle.aprs_book.specs.Known.{known_at, reported_in, reports_at}
+use Rattle.aprs_book.specs.Known.{known_at, topic_bytes, is_report_on}
 use Rattle.aprs_book.proofs.known.notes.Notes.new.Goals as goal
 
 pub returns : goal.returns
 returns g c = λ topic bytes.
-    subst (λ es. LastKnown [] (Passes (reports_at (reported_in topic) bytes)) (known_at bytes es))
+    subst (λ es. LastKnown [] (Passes (is_report_on (topic_bytes topic) bytes)) (known_at bytes es))
     (sym (c.new.ensures topic)) (λ s h p. h)

@@ -3,7 +3,7 @@ use Rattle.aprs_log.specs.Reception.{Heard}
 use Rattle.aprs_laws.specs.JoinRow.{greater}
 use Rattle.aprs_laws.specs.Best.{LastKnown, greater_known}
 use Rattle.aprs_laws.specs.BestLaws.{Passes}
-use Rattle.aprs_book.specs.Known.{index_of, is_reported, known_at, reported_at, reported_in, reports_at, greatest_of}
+use Rattle.aprs_book.specs.Known.{index_of, has_bytes, known_at, subject_bytes, topic_bytes, is_report_on, greatest_of}
 use Rattle.aprs_book.specs.Notes.{known_with}
 use Rattle.aprs_book.specs.declared.known.notes.Run.{Run}
 use Rattle.aprs_book.proofs.Noting.{run_grows, run_begins, run_stays}
@@ -11,7 +11,7 @@ use Rattle.aprs_book.proofs.known.notes.Notes.take.Goals as goal
 
 pub returns-then-is_nothing : goal.returns-then-is_nothing
 returns-then-is_nothing g c = λ rows r known reported is topic bytes.
-    run_stays rows r topic bytes (reported_at topic c.args.subject) (reported topic) _
+    run_stays rows r topic bytes (subject_bytes topic c.args.subject) (reported topic) _
     (c.is_nothing.ensures c.if-is_nothing.true topic) (known topic bytes)
 
 pub returns-in-Some : goal.returns-in-Some
@@ -24,33 +24,33 @@ returns-in-Some g c = λ rows r known reported is topic bytes.
     let made : greater c.in-Some.run'.greatest r.greatest ≡ c.greater-greatest.result =
     sym (c.greater-greatest.ensures ∙ ap (λ (x : Heard). greater c.in-Some.run'.greatest x) is) in
     subst (λ (x : Heard). LastKnown (map greatest_of (rows ++ r ∷ []))
-    (Passes (reports_at (reported_in topic) bytes))
-    (if is_reported bytes (reported_at topic c.args.subject)
+    (Passes (is_report_on (topic_bytes topic) bytes))
+    (if has_bytes bytes (subject_bytes topic c.args.subject)
     then Some (greater_known k x) else k)) made
-    (run_grows rows r topic bytes (reported_at topic c.args.subject) (reported topic) k
+    (run_grows rows r topic bytes (subject_bytes topic c.args.subject) (reported topic) k
     c.in-Some.run'.greatest
     (subst (λ (o : Option (List ℕ)). LastKnown (map greatest_of rows)
-    (Passes (reports_at (reported_in topic) bytes))
-    (if is_reported bytes o then Some (greater_known k c.in-Some.run'.greatest) else k)) one
+    (Passes (is_report_on (topic_bytes topic) bytes))
+    (if has_bytes bytes o then Some (greater_known k c.in-Some.run'.greatest) else k)) one
     (subst (λ (l : Option Run). LastKnown (map greatest_of rows)
-    (Passes (reports_at (reported_in topic) bytes)) (known_with l topic bytes indexes)) last
+    (Passes (is_report_on (topic_bytes topic) bytes)) (known_with l topic bytes indexes)) last
     (known topic bytes))))
 
 pub returns-in-None : goal.returns-in-None
 returns-in-None g c = λ rows r known reported is topic bytes.
     let indexes = c.args.self.now.indexes in
-    run_begins rows r topic bytes (reported_at topic c.args.subject) (reported topic)
+    run_begins rows r topic bytes (subject_bytes topic c.args.subject) (reported topic)
     (known_at bytes (index_of topic indexes)) c.args.x is _ refl
     (subst (λ (l : Option Run). LastKnown (map greatest_of rows)
-    (Passes (reports_at (reported_in topic) bytes)) (known_with l topic bytes indexes))
+    (Passes (is_report_on (topic_bytes topic) bytes)) (known_with l topic bytes indexes))
     (sym c.take.ensures.value ∙ c.in-None.is) (known topic bytes))
 
 pub returns-in_ok-take-in-Some-2 : goal.returns-in_ok-take-in-Some-2
 returns-in_ok-take-in-Some-2 g c = λ rows r known reported is topic bytes.
     let indexes = c.args.self.now.indexes in
-    run_begins rows r topic bytes (reported_at topic c.args.subject) (reported topic)
+    run_begins rows r topic bytes (subject_bytes topic c.args.subject) (reported topic)
     (known_at bytes (index_of topic c.take-in-Some-2.new.self)) c.args.x is _
     (c.in_ok-take-in-Some-2.ensures.taken topic bytes)
     (subst (λ (l : Option Run). LastKnown (map greatest_of rows)
-    (Passes (reports_at (reported_in topic) bytes)) (known_with l topic bytes indexes))
+    (Passes (is_report_on (topic_bytes topic) bytes)) (known_with l topic bytes indexes))
     (sym c.take.ensures.value ∙ c.in-Some.is) (known topic bytes))

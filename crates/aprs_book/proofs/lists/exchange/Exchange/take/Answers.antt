@@ -4,10 +4,10 @@ use Rattle.aprs_log.specs.Reception.{Heard}
 use Rattle.aprs_laws.specs.Key.{key_of}
 use Rattle.aprs_laws.specs.Row.{row_key}
 use Rattle.aprs_book.specs.Messages.{message_in}
-use Rattle.aprs_book.specs.MessageRows.{IsReply, answer_of, is_addressed, message_of}
+use Rattle.aprs_book.specs.MessageRows.{GivesAnswer, answer_of, is_addressed, message_of}
 use Rattle.aprs_book.proofs.Addressed.{no_message_in}
 use Rattle.aprs_book.proofs.Collected.{on_ok}
-use Rattle.aprs_book.proofs.Exchanges.{message_no_reply, no_reply, replies_beside, spans_beside}
+use Rattle.aprs_book.proofs.Exchanges.{message_no_answer, no_answer_given, answers_beside, spans_beside}
 use Rattle.aprs_book.proofs.lists.exchange.Exchange.take.Goals as goal
 
 pub returns-then-not-is_addressed : goal.returns-then-not-is_addressed
@@ -17,7 +17,7 @@ returns-then-not-is_addressed g c = λ rows r held first is.
     ∙ sym c.is_addressed.ensures ∙ c.if-not-is_addressed.true in
     record {
       spans = spans_beside rows r _ (no_message_in (row_key r) not) held.spans;
-      answers = replies_beside rows r _ (no_reply (row_key r) not) held.answers;
+      answers = answers_beside rows r _ (no_answer_given (row_key r) not) held.answers;
     }
 
 pub returns-in-Some : goal.returns-in-Some
@@ -30,11 +30,11 @@ returns-in-Some g c =
       spans =
           put rows r held.spans message first
           (c.moment-last.ensures ∙ ap (λ (x : Heard). x.moment) is);
-      answers = replies_beside rows r _ (message_no_reply (row_key r) _ message) held.answers;
+      answers = answers_beside rows r _ (message_no_answer (row_key r) _ message) held.answers;
     }) c.put_span.ensures
 
-pub returns-in-Some-reply_in : goal.returns-in-Some-reply_in
-returns-in-Some-reply_in g c =
+pub returns-in-Some-answer_in : goal.returns-in-Some-answer_in
+returns-in-Some-answer_in g c =
     on_ok c.put_answer.result (λ put rows r held first is.
     let none : message_in (row_key r) ≡ None =
     sym (ap (λ (x : Heard). message_in (key_of x.frame)) is)
@@ -44,9 +44,9 @@ returns-in-Some-reply_in g c =
       answers =
           put rows r held.answers
           (λ a. subst (λ (x : Heard).
-          IsReply a (key_of x.frame) ↔ (Some (answer_of c.in-Some-reply_in.key) ≡ Some a)) is
-          (subst (λ t. IsReply a (key_of c.args.heard.now.frame)
-          ↔ (option_map answer_of t ≡ Some a)) c.in-Some-reply_in.is (c.reply_in.ensures a)))
+          GivesAnswer a (key_of x.frame) ↔ (Some (answer_of c.in-Some-answer_in.key) ≡ Some a)) is
+          (subst (λ t. GivesAnswer a (key_of c.args.heard.now.frame)
+          ↔ (option_map answer_of t ≡ Some a)) c.in-Some-answer_in.is (c.answer_in.ensures a)))
           is;
     }) c.put_answer.ensures
 
@@ -58,9 +58,9 @@ returns-in-None g c = λ rows r held first is.
     record {
       spans = spans_beside rows r _ none held.spans;
       answers =
-          replies_beside rows r _
+          answers_beside rows r _
           (λ a p. let t : None ≡ Some a = ap (option_map answer_of) (sym c.in-None.is)
-          ∙ (c.reply_in.ensures a).0
-          (subst (λ (x : Heard). IsReply a (key_of x.frame)) (sym is) p) in absurd (cc))
+          ∙ (c.answer_in.ensures a).0
+          (subst (λ (x : Heard). GivesAnswer a (key_of x.frame)) (sym is) p) in absurd (cc))
           held.answers;
     }

@@ -2,7 +2,7 @@ use Rattle.std.proofs.Common.{◌∙◌, ◌+◌, [], ◌∷◌, ◌++◌, ap, r
 use Rattle.aprs_log.specs.Reception.{Heard}
 use Rattle.aprs_laws.specs.Key.{key_of}
 use Rattle.aprs_report.specs.Reader.{reading_of}
-use Rattle.aprs_book.specs.Known.{reported_by}
+use Rattle.aprs_book.specs.Known.{report_bytes}
 use Rattle.aprs_book.specs.StationRows.{tally_of}
 use Rattle.aprs_book.proofs.Collected.{adds_last, on_ok}
 use Rattle.aprs_book.proofs.Stations.{stays_in_order, tallies_put}
@@ -17,7 +17,7 @@ returns g c =
       notes =
           noted rows r held.notes
           (λ topic. c.of-subject.ensures topic
-          ∙ (λ i. reported_by topic (source i) (reading_of (info i)))) is;
+          ∙ (λ i. report_bytes topic (source i) (reading_of (info i)))) is;
       tallies =
           tallies_put rows c.args.self.now.tallies held.tallies (rows ++ r ∷ []) r
           (adds_last rows r) c.args.sender.now

@@ -16,12 +16,12 @@ loop-our-init g c =
 pub loop-our-preserved-in-Some-None : goal.loop-our-preserved-in-Some-None
 loop-our-preserved-in-Some-None g c =
     first_goes (λ v. v.items) c.args.gap _ c.loop-our.map.entries
-    c.put_either-in-Some-None.new.map.entries
+    c.put_joined-in-Some-None.new.map.entries
     (c.in-Some-None.head, c.in-Some-None.x) c.loop-our.ours c.next-our-in-Some-None.new.self
     c.loop-our.theirs c.loop-our.our c.loop-our.their c.next-our-in-Some-None.result
     c.in-Some-None.head.now c.as_slice-in-Some-None.result.now
     refl c.as_slice-in-Some-None.ensures.value
-    c.in_ok-put_either-in-Some-None.ensures
+    c.in_ok-put_joined-in-Some-None.ensures
     c.in-Some-None.is-0 c.loop-our.invariant
     (above_none (λ v. v.items) _ _ _ c.in-Some-None.is-1)
     c.next-our-in-Some-None.ensures.steps
@@ -29,11 +29,11 @@ loop-our-preserved-in-Some-None g c =
 pub loop-our-preserved-in-None-Some : goal.loop-our-preserved-in-None-Some
 loop-our-preserved-in-None-Some g c =
     second_goes (λ v. v.items) c.args.gap _ c.loop-our.map.entries
-    c.put_either.new.map.entries
+    c.put_joined.new.map.entries
     (c.in-None-Some.head, c.in-None-Some.y) c.loop-our.theirs c.next-their-in-None-Some.new.self
     c.loop-our.ours c.loop-our.their c.loop-our.our c.next-their-in-None-Some.result
     c.in-None-Some.head.now c.as_slice.result.now refl c.as_slice.ensures.value
-    c.in_ok-put_either-in-None-Some.ensures
+    c.in_ok-put_joined-in-None-Some.ensures
     c.in-None-Some.is-1 c.loop-our.invariant
     (above_none (λ v. v.items) _ _ _ c.in-None-Some.is-0)
     c.next-their-in-None-Some.ensures.steps
@@ -41,11 +41,11 @@ loop-our-preserved-in-None-Some g c =
 pub loop-our-preserved-in-Less : goal.loop-our-preserved-in-Less
 loop-our-preserved-in-Less g c =
     first_goes (λ v. v.items) c.args.gap _ c.loop-our.map.entries
-    c.put_either-in-Less.new.map.entries
+    c.put_joined-in-Less.new.map.entries
     (c.in-Some-Some.head, c.in-Some-Some.x) c.loop-our.ours c.next-our-in-Less.new.self
     c.loop-our.theirs c.loop-our.our c.loop-our.their c.next-our-in-Less.result
     c.in-Some-Some.head.now c.as_slice-in-Less.result.now refl c.as_slice-in-Less.ensures.value
-    c.in_ok-put_either-in-Less.ensures
+    c.in_ok-put_joined-in-Less.ensures
     c.in-Some-Some.is-0 c.loop-our.invariant
     (above_some (λ v. v.items) _ _ _
     (c.in-Some-Some.other_head, c.in-Some-Some.y) _ _ c.in-Some-Some.is-1 refl refl
@@ -55,12 +55,12 @@ loop-our-preserved-in-Less g c =
 pub loop-our-preserved : goal.loop-our-preserved
 loop-our-preserved g c =
     second_goes (λ v. v.items) c.args.gap _ c.loop-our.map.entries
-    c.put_either-in-Greater.new.map.entries
+    c.put_joined-in-Greater.new.map.entries
     (c.in-Some-Some.other_head, c.in-Some-Some.y) c.loop-our.theirs c.next-their-in-Greater.new.self
     c.loop-our.ours c.loop-our.their c.loop-our.our c.next-their-in-Greater.result
     c.in-Some-Some.other_head.now c.as_slice-in-Greater.result.now
     refl c.as_slice-in-Greater.ensures.value
-    c.in_ok-put_either-in-Greater.ensures
+    c.in_ok-put_joined-in-Greater.ensures
     c.in-Some-Some.is-1 c.loop-our.invariant
     (above_some (λ v. v.items) _ _ _
     (c.in-Some-Some.head, c.in-Some-Some.x) _ _ c.in-Some-Some.is-0 refl refl

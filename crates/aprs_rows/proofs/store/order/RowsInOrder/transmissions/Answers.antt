@@ -1,6 +1,6 @@
 use Rattle.std.proofs.Common.{◌≡◌, ◌∙◌, ◌∷◌, ◌++◌, ◌<◌, [], ℕ, List, inl, length, take, get_or, refl, sym, ap, subst, arith}
 use Rattle.std.proofs.lemmas.List.{get_or-map, length-map, take_all, take_more}
-use Rattle.aprs_laws.specs.Coalescing.{AreInOrder, append_row}
+use Rattle.aprs_laws.specs.Coalescing.{AreInOrder, append_or_join}
 use Rattle.aprs_laws.specs.Gap.{IsGap, millis_of}
 use Rattle.aprs_laws.specs.JoinRow.{coalesce, coalesced_rows}
 use Rattle.aprs_laws.specs.Book.{BookOf}
@@ -94,7 +94,7 @@ loop-entry-preserved g c =
       rows = c.loop-entry.invariant.rows;
       each = c.loop-entry.invariant.each;
       stands = subst (λ rows. Stands c.take.new.self rows)
-          (ap (λ n. append_row (millis_of n) (coalesce gap first before) row)
+          (ap (λ n. append_or_join (millis_of n) (coalesce gap first before) row)
           c.loop-entry.invariant.gap
           ∙ sym (coalesce_one_more gap first before row)
           ∙ ap (λ x. coalesce gap first (before ++ x ∷ []))

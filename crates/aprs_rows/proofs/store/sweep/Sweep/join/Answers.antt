@@ -12,5 +12,5 @@ returns-clause-joined g c a =
     })
     c.in_ok-gather_alone.ensures c.in_ok-gather.ensures c.receivers.ensures.names
     (some_names c.receivers.result.now) c.grow.ensures.first c.grow.ensures.greatest
-    c.grow.ensures.alone (c.grow.ensures.own a.own) in
+    c.grow.ensures.alone (c.grow.ensures.names a.own) in
     (j.gathered_are, j.row_is)

@@ -1,7 +1,7 @@
 use Rattle.std.proofs.Common.{◌∙◌, ◌∷◌, ◌++◌, [], refl, sym, ap, subst}
 use Rattle.std.proofs.lemmas.List.Elements.{All-nil}
 use Rattle.aprs_log.specs.Receiver.{IsName}
-use Rattle.aprs_laws.specs.Coalescing.{append_row}
+use Rattle.aprs_laws.specs.Coalescing.{append_or_join}
 use Rattle.aprs_laws.specs.Gap.{millis_of}
 use Rattle.aprs_rows.specs.Groups.{AreGroups, rows_of_groups}
 use Rattle.aprs_rows.specs.Sweep.{AreGathered, open_row}
@@ -24,7 +24,7 @@ returns-then-is_near-clause-stands g c rows s =
           ++ j.1 t ∷ [])
           ∙ joins_last gap (rows_of_groups old.groups.items old.texts.items)
           (open_row old.latest old.names.items) c.args.row is
-          ∙ ap (λ rs. append_row gap rs c.args.row) s.rows_are;
+          ∙ ap (λ rs. append_or_join gap rs c.args.row) s.rows_are;
     })
     (c.join.ensures.joined s.gathered)
 
@@ -38,7 +38,7 @@ returns-clause-stands g c rows s =
       groups = k.0;
       gathered = subst (λ ns. AreGathered c.of-self.result ns) (sym c.in_ok-close.ensures.names)
           (record {
-            own = c.of-self.ensures.own;
+            own = c.of-self.ensures.names;
             each = All-nil IsName;
             none = λ _. refl;
             some = λ e. absurd (let t = sym c.of-self.ensures.alone ∙ e in cc);
@@ -46,5 +46,5 @@ returns-clause-stands g c rows s =
       rows_are = (λ t. k.1 t ++ c.of-self.ensures.row c.close.new.names.items t ∷ [])
           ∙ follows_last gap (rows_of_groups old.groups.items old.texts.items)
           (open_row old.latest old.names.items) c.args.row is
-          ∙ ap (λ rs. append_row gap rs c.args.row) s.rows_are;
+          ∙ ap (λ rs. append_or_join gap rs c.args.row) s.rows_are;
     }

@@ -1,5 +1,5 @@
 use Rattle.aprs_rows.proofs.Cases.{on_not_err}
-use Rattle.aprs_book.proofs.rows.merging_keys.put_either.Goals as goal
+use Rattle.aprs_book.proofs.rows.merging_keys.put_joined.Goals as goal
 
 pub returns : goal.returns
 returns g c = (

@@ -3,7 +3,7 @@ use Rattle.std.specs.Prelude.{IfNone}
 use Rattle.hex.specs.Hex.{lower_digits}
 use Rattle.hex.proofs.HexLemmas.{length-encode_with}
 use Rattle.aprs_booktext.proofs.Digits.{length-spelled}
-use Rattle.aprs_booktext.proofs.hexadecimal.decode_into.Goals as goal
+use Rattle.aprs_booktext.proofs.hexadecimal.decode_frame.Goals as goal
 
 pub returns-then-digits-gt-MAX_DIGITS-clause-none :
     goal.returns-then-digits-gt-MAX_DIGITS-clause-none
@@ -24,9 +24,9 @@ none_weaker None P Q f h = f h
 none_weaker (Some x) P Q f h = tt
 
 pub returns-clause-none : goal.returns-clause-none
-returns-clause-none c = none_weaker c.some_bytes.result _ _ (λ none bytes h.
+returns-clause-none c = none_weaker c.nonempty.result _ _ (λ none bytes h.
     let read = take c.in-Some.count c.decode_lower_into.new.room in
     let size : length c.args.digits.now ≡ 2 * length read
     = ap length c.in-Some.ensures.1 ∙ length-encode_with lower_digits read in
     omega (arith, ap length none, size, length-spelled c.args.digits.now bytes h, h.few))
-    c.some_bytes.ensures.none
+    c.nonempty.ensures.none

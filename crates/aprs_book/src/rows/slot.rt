@@ -2,7 +2,7 @@
 ghost use Rattle.std.specs.Prelude.{◌≡◌, ◌≤◌, ◌+◌, true, length, IsOk, OnOk, OnErr};
 ghost use Rattle.aprs_laws.specs.Inserted.{insert_heard, fits_in_place};
 ghost use Rattle.aprs_laws.specs.Sound.{Sound};
-ghost use Rattle.aprs_book.specs.Places.{IsPlace};
+ghost use Rattle.aprs_book.specs.Slots.{IsSlot};
 
 use crate::Memory;
 use crate::rows::kept_row::KeptRow;
@@ -11,9 +11,9 @@ use aprs_log::Reception;
 use aprs_rows::reserve_one;
 use std::alloc::Allocator;
 
-/// A place in the rows.
+/// Where a reception goes among rows.
 #[derive(Drop)]
-pub(crate) enum Place {
+pub(crate) enum Slot {
     /// Between rows, none of which is near.
     New(usize),
     /// At the one row that is near.
@@ -22,23 +22,23 @@ pub(crate) enum Place {
     Two(usize),
 }
 
-/// The place of a reception in the rows of its head, found by halves.
-pub(crate) fn find_place<A: Allocator + Copy>(
+/// The slot of a reception among the rows whose keys have the head of its key, by binary search.
+pub(crate) fn find_slot<A: Allocator + Copy>(
     gap: Millis,
     rows: &[KeptRow<A>],
     x: &Reception,
-) -> Place
+) -> Slot
     requires { Sound gap rows.now }
-    ensures { IsPlace gap x.now rows.now result }
+    ensures { IsSlot gap x.now rows.now result }
 {
     let i = rows.partition_point(|row| row.side(gap, x).is_lt());
     if i == rows.len() || rows[i].side(gap, x).is_gt() {
-        return Place::New(i);
+        return Slot::New(i);
     }
     if i + 1 == rows.len() || rows[i + 1].side(gap, x).is_gt() {
-        return Place::One(i);
+        return Slot::One(i);
     }
-    Place::Two(i)
+    Slot::Two(i)
 }
 
 /// Adds a reception to the rows of its head. `count`, which goes with them, is the number of the
@@ -58,8 +58,8 @@ pub(crate) fn put<A: Allocator + Copy>(
     ensures in_place { fits_in_place gap x.now rows.old.items ≡ true → IsOk result }
     ensures unchanged { OnErr result (rows.new.items ≡ rows.old.items) }
 {
-    match find_place(gap, rows.as_slice(), x) {
-        Place::New(i) => {
+    match find_slot(gap, rows.as_slice(), x) {
+        Slot::New(i) => {
             let Some(more) = count.checked_add(1) else {
                 return Err(Memory);
             };
@@ -70,11 +70,11 @@ pub(crate) fn put<A: Allocator + Copy>(
             }
             *count = more;
         }
-        Place::One(i) => {
+        Slot::One(i) => {
             let row = &mut rows[i];
             row.grow(x)?;
         }
-        Place::Two(i) => {
+        Slot::Two(i) => {
             let row = rows[i].bridge(x, &rows[i + 1])?;
             rows[i] = row;
             rows.remove(i + 1);

@@ -19,7 +19,7 @@ use Rattle.aprs_laws.specs.JoinRow.{greater}
 use Rattle.aprs_laws.proofs.Joins.{is_greater_of}
 use Rattle.aprs_laws.proofs.Orders.{call_total, call_exact, bytes_total, bytes_exact, heard_total, up_to_itself}
 use Rattle.aprs_book.specs.declared.lists.message_key.AnswerKey.{AnswerKey}
-use Rattle.aprs_book.specs.MessageRows.{Answer, answer_of, answer_cmp, IsReply, IsGreatestReply, AreReplies, IsFor, ReportsAnswer}
+use Rattle.aprs_book.specs.MessageRows.{Answer, answer_of, answer_cmp, GivesAnswer, IsGreatestAnswer, AreAnswers, IsFor, ReportsAnswer}
 use Rattle.aprs_book.specs.Messages.{Message}
 use Rattle.aprs_book.proofs.Collected.{cmp_of, found, absent, Adds, passed, put_by, same_lookup}
 
@@ -39,10 +39,10 @@ answer_exact a b h =
 
 module _ (rows more : List Row) (x : Row) (adds : Adds rows x more) (a : Answer) where
   abbrev pub Q : Row → Type 0
-  Q y = IsReply a (row_key y)
+  Q y = GivesAnswer a (row_key y)
 
-  pub reply_stays : (g : Heard) → (Q x → ⊥) → IsGreatestReply rows a g → IsGreatestReply more a g
-  reply_stays g n t = record {
+  pub answer_stays : (g : Heard) → (Q x → ⊥) → IsGreatestAnswer rows a g → IsGreatestAnswer more a g
+  answer_stays g n t = record {
     row = (t.row.0, adds.old t.row.0 t.row.1, t.row.2, t.row.3);
     greatest = λ y h p. elim (adds.to y h) [
       | inl j ↦ t.greatest y j p
@@ -50,8 +50,8 @@ module _ (rows more : List Row) (x : Row) (adds : Adds rows x more) (a : Answer)
     ];
   }
 
-  pub reply_begins : Q x → ((y : Row) → y ∈ rows → Q y → ⊥) → IsGreatestReply more a x.greatest
-  reply_begins p n = record {
+  pub answer_begins : Q x → ((y : Row) → y ∈ rows → Q y → ⊥) → IsGreatestAnswer more a x.greatest
+  answer_begins p n = record {
     row = (x, adds.new, p, refl);
     greatest = λ y h q. elim (adds.to y h) [
       | inl j ↦ absurd (n y j q)
@@ -60,9 +60,9 @@ module _ (rows more : List Row) (x : Row) (adds : Adds rows x more) (a : Answer)
     ];
   }
 
-  pub reply_grows : (g : Heard) → Q x → IsGreatestReply rows a g
-      → IsGreatestReply more a (greater g x.greatest)
-  reply_grows g p t = let c = is_greater_of g x.greatest in record {
+  pub answer_grows : (g : Heard) → Q x → IsGreatestAnswer rows a g
+      → IsGreatestAnswer more a (greater g x.greatest)
+  answer_grows g p t = let c = is_greater_of g x.greatest in record {
     row = elim c.one [
       | inl e ↦ (t.row.0, adds.old t.row.0 t.row.1, t.row.2, t.row.3 ∙ sym e)
       | inr e ↦ (x, adds.new, p, sym e)
@@ -84,44 +84,44 @@ abbrev pub answer_key_cmp : AnswerKey → AnswerKey → Ordering
 answer_key_cmp = cmp_of answer_of answer_cmp
 
 module _ (rows more : List Row) (x : Row) (adds : Adds rows x more)
-    (es : List (AnswerKey × Heard)) (c : AreReplies rows es) where
-  pub replies_passed : ((a : Answer) → IsReply a (row_key x) → ⊥) → AreReplies more es
-  replies_passed n =
-      passed answer_of answer_cmp answer_total answer_exact IsReply IsGreatestReply rows
+    (es : List (AnswerKey × Heard)) (c : AreAnswers rows es) where
+  pub answers_passed : ((a : Answer) → GivesAnswer a (row_key x) → ⊥) → AreAnswers more es
+  answers_passed n =
+      passed answer_of answer_cmp answer_total answer_exact GivesAnswer IsGreatestAnswer rows
       more x adds
-      (λ a v. reply_stays rows more x adds a v) es c n
+      (λ a v. answer_stays rows more x adds a v) es c n
 
-  reply_there : (k : AnswerKey) → IsReply (answer_of k) (row_key x) → (known : Option Heard)
+  answer_there : (k : AnswerKey) → GivesAnswer (answer_of k) (row_key x) → (known : Option Heard)
       → lookup (is_at (answer_key_cmp k)) es ≡ known
-      → IsGreatestReply more (answer_of k)
+      → IsGreatestAnswer more (answer_of k)
       (greater_known known x.greatest)
-  reply_there k q None h =
-      reply_begins rows more x adds (answer_of k) q
+  answer_there k q None h =
+      answer_begins rows more x adds (answer_of k) q
       (λ y j p. let t = c.every y j (answer_of k) p in
       absent answer_of answer_cmp answer_total answer_exact k es h t.0 t.1 (sym t.2))
-  reply_there k q (Some s) h =
+  answer_there k q (Some s) h =
       let f = found answer_of answer_cmp answer_total answer_exact k s es h in
-      reply_grows rows more x adds (answer_of k) s q
-      (subst (IsGreatestReply rows (answer_of k)) f.3
-      (subst (λ (t : Answer). IsGreatestReply rows t f.0.1) (sym f.2) (c.each f.0 f.1)))
+      answer_grows rows more x adds (answer_of k) s q
+      (subst (IsGreatestAnswer rows (answer_of k)) f.3
+      (subst (λ (t : Answer). IsGreatestAnswer rows t f.0.1) (sym f.2) (c.each f.0 f.1)))
 
-  pub replies_put : (R : AnswerKey → AnswerKey → Ordering)
+  pub answers_put : (R : AnswerKey → AnswerKey → Ordering)
       → ((a b : AnswerKey) → R a b ≡ answer_key_cmp a b)
       → (k : AnswerKey) (v : Heard) (new : List (AnswerKey × Heard))
-      → ((a : Answer) → IsReply a (row_key x) ↔ (Some (answer_of k) ≡ Some a))
+      → ((a : Answer) → GivesAnswer a (row_key x) ↔ (Some (answer_of k) ≡ Some a))
       → v ≡ greater_known (lookup (is_at (R k)) es) x.greatest
       → new ≡ insert_entry R es k v → IsStrictlySortedBy R (keys_of new)
-      → AreReplies more new
-  replies_put R same k v new q e n sorted =
-      put_by answer_of answer_cmp answer_total answer_exact IsReply IsGreatestReply rows
+      → AreAnswers more new
+  answers_put R same k v new q e n sorted =
+      put_by answer_of answer_cmp answer_total answer_exact GivesAnswer IsGreatestAnswer rows
       more x adds
-      (λ a v. reply_stays rows more x adds a v) es c R
+      (λ a v. answer_stays rows more x adds a v) es c R
       same k v new n sorted
       (λ a p. unwrapped (answer_of k) a ((q a).0 p))
-      (subst (IsGreatestReply more (answer_of k))
+      (subst (IsGreatestAnswer more (answer_of k))
       (sym (e ∙ ap (λ t. greater_known t x.greatest)
       (same_lookup answer_of answer_cmp R same k es)))
-      (reply_there k ((q (answer_of k)).1 refl) (lookup (is_at (answer_key_cmp k)) es) refl)) where
+      (answer_there k ((q (answer_of k)).1 refl) (lookup (is_at (answer_key_cmp k)) es) refl)) where
         unwrapped : (a b : Answer) → Some a ≡ Some b → a ≡ b
         unwrapped a b h = cc
 
@@ -134,11 +134,11 @@ kept_greater r o m x y e f h = e ∙ (ap (λ t. greater_known t x) f ∙ ap (gre
 
 module _ (es : List (AnswerKey × Heard)) (k : AnswerKey) (m : Message) (id : List ℕ)
     (f : IsFor m id (answer_of k)) (u : (a : Answer) → IsFor m id a → a ≡ answer_of k) where
-  reported_by : (known : Option Heard) → lookup (is_at (answer_key_cmp k)) es ≡ known
+  report_bytes : (known : Option Heard) → lookup (is_at (answer_key_cmp k)) es ≡ known
       → ReportsAnswer es m id known
-  reported_by None h = λ e j g.
+  report_bytes None h = λ e j g.
       absent answer_of answer_cmp answer_total answer_exact k es h e j (sym (u (answer_of e.0) g))
-  reported_by (Some v) h =
+  report_bytes (Some v) h =
       let t = found answer_of answer_cmp answer_total answer_exact k v es h in
       (t.0, t.1, subst (IsFor m id) t.2 f, λ a g. u a g ∙ t.2, t.3)
 
@@ -149,7 +149,7 @@ module _ (es : List (AnswerKey × Heard)) (k : AnswerKey) (m : Message) (id : Li
   answer_reported_by R same o e =
       subst (λ t. ReportsAnswer es m id t)
       (sym (e ∙ same_lookup answer_of answer_cmp R same k es))
-      (reported_by (lookup (is_at (answer_key_cmp k)) es) refl)
+      (report_bytes (lookup (is_at (answer_key_cmp k)) es) refl)
 
 -- an answer is known by its parts
 pub same_answer : (a b : Answer) → a.source ≡ b.source → a.addressee ≡ b.addressee → a.id ≡ b.id

@@ -1,5 +1,5 @@
 use Rattle.aprs_booktext.proofs.Worked.{wrong_end, no_syntax}
-use Rattle.aprs_booktext.proofs.example.last_lines_are_told_by_their_beginning.Goals as goal
+use Rattle.aprs_booktext.proofs.example.end_line_with_another_count_is_no_row.Goals as goal
 
 pub returns-clause-ending : goal.returns-clause-ending
 returns-clause-ending c = wrong_end

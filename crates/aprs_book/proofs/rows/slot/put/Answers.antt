@@ -1,8 +1,8 @@
 use Rattle.std.proofs.Common.{◌≡◌, ◌∙◌, List, false, true, subst, arith}
 use Rattle.aprs_laws.specs.Row.{Row}
-use Rattle.aprs_book.specs.Places.{GrowsAt, BridgesAt}
-use Rattle.aprs_book.proofs.Places.{grow_listed, grow_done, bridge_done, one_within, two_within}
-use Rattle.aprs_book.proofs.rows.place.put.Goals as goal
+use Rattle.aprs_book.specs.Slots.{GrowsAt, BridgesAt}
+use Rattle.aprs_book.proofs.Slots.{grow_listed, grow_done, bridge_done, one_within, two_within}
+use Rattle.aprs_book.proofs.rows.slot.put.Goals as goal
 
 pub returns-in_err-grow-in-One-clause-in_place : goal.returns-in_err-grow-in-One-clause-in_place
 returns-in_err-grow-in-One-clause-in_place g c = λ p.

@@ -1,8 +1,8 @@
 use Rattle.std.proofs.Common.{◌∙◌, sym, ap, suc, drop, rules, arith, add-one}
 use Rattle.std.specs.Ordering.{is_gt}
 use Rattle.aprs_book.proofs.Searches.{IsFound, found_here, new_at_end, new_before, grows_last, grows_before, bridges}
-use Rattle.aprs_book.proofs.rows.place.find_place.Goals as goal
-use Rattle.aprs_book.proofs.rows.place.find_place.Goals.{then-i-rows-via-then-i-rows, then-i-rows-via-else-i-rows+then-is_gt, then-i-rows-2-via-then-i-rows-2, then-i-rows-2-via-else-i-rows-2+then-is_gt-2}
+use Rattle.aprs_book.proofs.rows.slot.find_slot.Goals as goal
+use Rattle.aprs_book.proofs.rows.slot.find_slot.Goals.{then-i-rows-via-then-i-rows, then-i-rows-via-else-i-rows+then-is_gt, then-i-rows-2-via-then-i-rows-2, then-i-rows-2-via-else-i-rows-2+then-is_gt-2}
 
 pub returns-then-i-rows : goal.returns-then-i-rows
 returns-then-i-rows g c =
