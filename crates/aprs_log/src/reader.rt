@@ -83,14 +83,15 @@ impl<'a, R: Read> LogReader<'a, R> {
         }
     }
 
-    /// The number of the last line that it returned, from 1, or 0 before any. Takes no memory.
+    /// The number of the last line that the reader returned, from 1, or 0 before any. Takes no
+    /// memory.
     pub fn line(&self) -> u64
         ensures { result ≡ Spec.line_count_of self.now }
     {
         self.line
     }
 
-    /// How many calls of the device that it reads from failed. Takes no memory.
+    /// How many calls of the device that the reader reads from failed. Takes no memory.
     pub fn failures(&self) -> u64
         ensures { result ≡ failures_of (Spec.source_of self.now) }
     {

@@ -55,10 +55,10 @@ impl Window {
         self.start += count;
     }
 
-    /// Reads once, at most `left` bytes, to the place after those that it holds, and returns how
-    /// many came. Otherwise returns how the input ends here: with `TooLong` where `left` is 0 and a
-    /// further byte came, which is dropped. It has to hold at most a longest line, so that there is
-    /// room.
+    /// Reads once, at most `left` bytes, to the place after those that the window holds, and
+    /// returns how many came, at least one. Otherwise returns how the input ends here: with
+    /// `TooLong` where `left` is 0 and a further byte came, which is dropped. Requires that the
+    /// window holds no more than a longest line, 8,192 bytes, so that there is room.
     pub fn read_more<R: Read>(&mut self, source: &mut Counted<R>, left: u64) -> Result<u64, Ending>
         requires { length (items self.old) ≤ most_line }
 
