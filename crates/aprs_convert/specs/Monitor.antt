@@ -18,6 +18,6 @@ abbrev pub monitor_text : Parts → List ℕ
 monitor_text p = call_text p.source.call ++ 62 ∷ call_text p.destination.call
     ++ flat_map hop_text (map hop_of p.digipeaters) ++ 58 ∷ shown_text p.info
 
--- The same, after the kind of report that the information is.
+-- The kind of report that the information is, a space, and the frame as a monitor prints it.
 abbrev pub kind_text : Parts → List ℕ
 kind_text p = kind_of (reading_of p.info) ++ 32 ∷ monitor_text p

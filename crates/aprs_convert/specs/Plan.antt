@@ -133,7 +133,7 @@ abbrev pub RunsOver : (List ℕ → Ending → Plan) → ℕ → Option (List �
 RunsOver plan_of limit known after answer old new =
     OfGot limit known after (λ text ending. EndsAsPlanned answer old new (plan_of text ending))
 
--- It did so, and its devices were asked as `Runs` says.
+-- The run did as planned, and its devices were asked as `Runs` says.
 pub record RunsAsPlanned {R W : Type 0} (plan_of : List ℕ → Ending → Plan) (limit : ℕ)
     (remaining : R → Option (List ℕ)) (contents : W → Option (List ℕ))
     (answer : Result (Unit {0}) ConvertFault) (read_from now_read : Counted R)

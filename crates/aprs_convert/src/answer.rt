@@ -28,7 +28,7 @@ pub struct Scratch {
 }
 
 impl Scratch {
-    /// The same before the first line.
+    /// The scratch before the first line.
     pub fn new() -> Scratch {
         Scratch {
             text: Text::new(),
@@ -38,7 +38,8 @@ impl Scratch {
     }
 }
 
-/// Writes what a form gives for a line.
+/// Writes what a form gives for a line; one that is passed over gives nothing. `scratch` is room
+/// that is kept from line to line. At a fault a prefix of what is to be written went out.
 pub fn write_line_as<W: Write>(
     form: &Form,
     w: &mut Counted<W>,
@@ -53,7 +54,8 @@ pub fn write_line_as<W: Write>(
     }
 }
 
-/// Writes what a form gives for a reception.
+/// Writes what a form gives for a reception: a monitor's line, with or without the kind of report,
+/// a KISS frame, or the line of a log. At a fault a prefix of it went out.
 fn write_reception<W: Write>(
     form: &Form,
     w: &mut Counted<W>,
@@ -70,7 +72,8 @@ fn write_reception<W: Write>(
     }
 }
 
-/// Writes the frame as a monitor prints it, and an LF.
+/// Writes the frame as a monitor prints it, and an LF; `text` is room for the line. At a fault a
+/// prefix of the line went out.
 fn write_monitor_line<W: Write>(
     w: &mut Counted<W>,
     frame: &Frame,
@@ -84,7 +87,8 @@ fn write_monitor_line<W: Write>(
     send(w, text.as_slice())
 }
 
-/// Writes the kind of report, a space, the frame as a monitor prints it, and an LF.
+/// Writes the kind of report, a space, the frame as a monitor prints it, and an LF; `text` is room
+/// for the line. At a fault a prefix of the line went out.
 fn write_kind_line<W: Write>(
     w: &mut Counted<W>,
     frame: &Frame,
@@ -109,7 +113,8 @@ fn push_kind_line(text: &mut Text, frame: &Frame)
     text.push(b'\n');
 }
 
-/// Puts the name of the report's kind at the end.
+/// Puts the name of the kind of the report in `info`, at most 8 bytes, at the end of `out`, which
+/// is empty.
 fn push_kind(out: &mut Text, info: &[u8])
     requires { array_vec_len out.old ≡ 0 }
     ensures name { out.new.items ≡ out.old.items ++ kind_of (reading_of info.now) }
@@ -119,7 +124,7 @@ fn push_kind(out: &mut Text, info: &[u8])
     push_all(out, kind.as_bytes());
 }
 
-/// Puts the frame as a monitor prints it, and an LF into the text.
+/// Puts the frame as a monitor prints it, and an LF into the text, which is empty.
 fn push_monitor_line(text: &mut Text, frame: &Frame)
     requires { text.old.items ≡ [] }
     ensures { text.new.items ≡ monitor_text (parts_of frame.now) ++ 10 ∷ [] }

@@ -20,8 +20,11 @@ use std::io::{Read, Write};
 /// How many bytes of the stream are read at once, at most.
 const CHUNK: usize = 16_384;
 
-/// Writes a log line for each frame of a KISS stream, as if one receiver had heard all at one
-/// moment.
+/// Reads a KISS stream of at most `limit` bytes, and writes a log line for each UI frame in it, as
+/// if this receiver had heard all at this moment. Requires that `limit` is at most `MAX_INPUT`. At
+/// `Log`, the stream's fault in line 0, the lines of all frames before it have been written; at
+/// `Write` a prefix of the lines. Neither device is asked again after its end or a fault. Takes no
+/// memory.
 pub fn capture<R: Read, W: Write>(
     limit: u64,
     receiver: &Receiver,
@@ -49,7 +52,8 @@ pub fn capture<R: Read, W: Write>(
     }
 }
 
-/// The answer of a run over a stream that ends so.
+/// The answer of a capture whose stream ended so: `Ok` where it has no further byte, and otherwise
+/// a fault in line 0, since a read failed or the stream is over the limit.
 fn stream_end(ending: Ending) -> Result<(), ConvertFault>
     ensures { Spec.EndsStream result ending }
 {
@@ -60,14 +64,16 @@ fn stream_end(ending: Ending) -> Result<(), ConvertFault>
     }
 }
 
-/// A stream has no lines: its faults stand in line 0.
+/// The fault of a stream for this cause. A stream has no lines: its faults stand in line 0.
 fn fault_of_stream(cause: LogCause) -> ConvertFault
     ensures { result ≡ ConvertFault.Log (record { line = 0; cause = cause }) }
 {
     ConvertFault::from(LogFault { line: 0, cause })
 }
 
-/// Writes the log lines of the frames that end in a chunk of the stream.
+/// Writes the log lines of the UI frames that end in a chunk of the stream. Without a fault the
+/// reader was fed all of the chunk, and keeps the bytes of a frame that goes on after it. At a
+/// fault a prefix of the lines went out.
 fn capture_chunk<W: Write>(
     reader: &mut KissReader,
     log: &mut LogWriter,
@@ -76,6 +82,7 @@ fn capture_chunk<W: Write>(
     moment: &Moment,
     w: &mut Counted<W>,
 ) -> Result<(), WriteFault>
+    // Here `e` is what came of the stream since the last frame end before the chunk.
     ensures stands { OnOk result ((e : List ℕ) → StandsAfter reader.old e
         → StandsAfter reader.new (rest_of (e ++ chunk.now))) }
     ensures sent { OnOk result ((e : List ℕ) → StandsAfter reader.old e
@@ -96,7 +103,8 @@ fn capture_chunk<W: Write>(
     Ok(())
 }
 
-/// Writes the log line of what the reader returns, where it is a frame.
+/// Writes the log line of what the KISS reader returned, where that is a UI frame, and otherwise
+/// nothing. At a fault a prefix of the line went out.
 fn write_fed<W: Write>(
     w: &mut Counted<W>,
     log: &mut LogWriter,
@@ -113,7 +121,8 @@ fn write_fed<W: Write>(
     }
 }
 
-/// Writes the log line of a data frame's bytes, where they are a UI frame.
+/// Writes the log line of a data frame's bytes, where they are a UI frame, and otherwise nothing.
+/// At a fault a prefix of the line went out.
 fn write_frame<W: Write>(
     w: &mut Counted<W>,
     log: &mut LogWriter,

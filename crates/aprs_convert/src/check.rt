@@ -46,7 +46,8 @@ pub fn check_log<R: Read, W: Write, A: Allocator + Copy>(
     }
 }
 
-/// Writes that a line is passed over, and why.
+/// Writes that line number `line` is passed over, and why. At a fault a prefix of the report went
+/// out.
 fn write_passed<W: Write>(w: &mut Counted<W>, line: u64, reason: Reason) -> Result<(), WriteFault>
     ensures { Sends W.contents result w.old w.new (passed_line (line, reason) ++ 10 ∷ []) }
 {
@@ -54,7 +55,8 @@ fn write_passed<W: Write>(w: &mut Counted<W>, line: u64, reason: Reason) -> Resu
     send(w, text.as_slice())
 }
 
-/// Writes how many lines are heard and how many passed over.
+/// Writes how many lines are heard and how many passed over. At a fault a prefix of the report went
+/// out.
 fn write_totals<W: Write>(w: &mut Counted<W>, heard: u64, passed: u64) -> Result<(), WriteFault>
     ensures { Sends W.contents result w.old w.new (totals_line heard passed ++ 10 ∷ []) }
 {
@@ -62,6 +64,7 @@ fn write_totals<W: Write>(w: &mut Counted<W>, heard: u64, passed: u64) -> Result
     send(w, text.as_slice())
 }
 
+/// The report that line number `line` is passed over, with its LF, as `line 3 passed NoFrame`.
 fn passed_line(line: u64, reason: Reason) -> Text
     ensures { result.items ≡ passed_line (line, reason) ++ 10 ∷ [] }
 {
@@ -74,6 +77,8 @@ fn passed_line(line: u64, reason: Reason) -> Text
     text
 }
 
+/// The report of how many lines are heard and how many passed over, as `heard 5 passed 1`, with its
+/// LF.
 fn totals_line(heard: u64, passed: u64) -> Text
     ensures { result.items ≡ totals_line heard passed ++ 10 ∷ [] }
 {
@@ -86,7 +91,8 @@ fn totals_line(heard: u64, passed: u64) -> Text
     text
 }
 
-/// Puts the reason's name at the end.
+/// Puts the reason's name at the end of `out`. The contract leaves much room: a name has at most 9
+/// bytes.
 fn push_reason(out: &mut Text, reason: Reason)
     requires { array_vec_len out.old ≤ 1000 }
     ensures name { out.new.items ≡ out.old.items ++ reason_name reason }

@@ -6,7 +6,7 @@ use aprs_log::{Moment, Receiver};
 pub enum Form {
     /// The text of a monitor, a line for each frame.
     Text,
-    /// The same, with the kind of report before each line.
+    /// The text of a monitor, with the kind of report before each line.
     Kind,
     /// A KISS stream of the frames.
     Kiss,

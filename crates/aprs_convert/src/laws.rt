@@ -16,7 +16,8 @@ pub fn one_text_is_converted()
         → Converts f other text ending more → (fault ≡ other) × (written ≡ more) }
 {}
 
-/// So does a check.
+/// Of whatever was got of an input, a check writes exactly one text, and ends with exactly one
+/// fault or with none.
 pub fn one_text_is_checked()
     ensures some { (text : List ℕ) (ending : Ending)
         → (fault : Option LogFault) × (written : List ℕ) × Checks fault text ending written }

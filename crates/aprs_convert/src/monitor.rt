@@ -10,7 +10,8 @@ ghost use Rattle.aprs_convert.specs.Monitor.{hop_text, monitor_text};
 use crate::text::{Text, push_shown};
 use aprs_ax25::Frame;
 
-/// Puts the frame's text at the end: source, destination, digipeaters and information.
+/// Puts the frame as a monitor prints it at the end of `out`: source, destination, digipeaters and
+/// information. `out` holds at most 10 bytes before, which leaves room for every frame.
 pub fn push_monitor_text(out: &mut Text, frame: &Frame)
     requires { array_vec_len out.old ≤ 10 }
     ensures text { out.new.items ≡ out.old.items ++ monitor_text (parts_of frame.now) }
@@ -24,7 +25,8 @@ pub fn push_monitor_text(out: &mut Text, frame: &Frame)
     push_shown(out, frame.info());
 }
 
-/// Puts the texts of the frame's digipeaters at the end.
+/// Puts the frame's digipeaters at the end of `out`, at most 88 bytes: each a comma, its callsign,
+/// and a star where it has repeated the frame.
 fn push_hops(out: &mut Text, frame: &Frame)
     requires { array_vec_len out.old ≤ 29 }
     ensures text { out.new.items ≡ out.old.items
@@ -36,7 +38,9 @@ fn push_hops(out: &mut Text, frame: &Frame)
     }
 }
 
-/// Puts the text of digipeater number i, counted from 0, at the end.
+/// Puts a comma, the callsign of digipeater number `i`, counted from 0, and a star where it has
+/// repeated the frame at the end of `out`. Where the frame has no such digipeater, puts the comma
+/// alone.
 fn push_hop(out: &mut Text, frame: &Frame, i: usize)
     requires { array_vec_len out.old + 11 ≤ MAX_TEXT }
     ensures text { IfSome (slice_get (parts_of frame.now).digipeaters i) (λ a.

@@ -12,10 +12,10 @@ use arrayvec::ArrayVec;
 /// The most bytes of a line that is put together before it is written.
 pub const MAX_TEXT: usize = 1200;
 
-/// Such a line. It takes no memory.
+/// A line of output, while it is put together. It takes no memory.
 pub type Text = ArrayVec<u8, MAX_TEXT>;
 
-/// Whether the byte is shown as itself.
+/// Whether the byte is shown as itself: it is 0x20 to 0x7E and no backslash.
 fn is_shown(b: u8) -> bool
     ensures { result ≡ is_shown b }
 {
@@ -32,7 +32,7 @@ pub fn shown_byte(b: u8) -> ArrayVec<u8, 4>
     text
 }
 
-/// Puts at the end what the byte is shown as.
+/// Puts what the byte is shown as, as `shown_byte` returns it, at the end of `out`.
 fn push_shown_byte<const N: usize>(out: &mut ArrayVec<u8, N>, b: u8)
     requires { array_vec_len out.old + 4 ≤ N }
     ensures shown { out.new.items ≡ out.old.items ++ shown_byte b }
@@ -47,7 +47,7 @@ fn push_shown_byte<const N: usize>(out: &mut ArrayVec<u8, N>, b: u8)
     }
 }
 
-/// Whether `shown_byte` shows each of the bytes as itself, as it does where there are none. Then
+/// Whether `shown_byte` shows each of the bytes as itself; `true` where there are no bytes. Then
 /// they can be put as they are, in one piece. Takes no memory.
 pub fn are_shown(bytes: &[u8]) -> bool
     ensures { result ≡ list_all is_shown bytes.now }
@@ -73,7 +73,8 @@ fn push_hex<const N: usize>(out: &mut ArrayVec<u8, N>, b: u8)
     push_all(out, &digits);
 }
 
-/// Puts at the end what the bytes are shown as.
+/// Puts what the bytes are shown as at the end of `out`: 1 or 4 bytes for each, as `shown_byte`
+/// returns them.
 pub fn push_shown(out: &mut Text, bytes: &[u8])
     requires { array_vec_len out.old + 4 * length bytes.now ≤ MAX_TEXT }
     ensures shown { out.new.items ≡ out.old.items ++ shown_text bytes.now }
@@ -86,7 +87,7 @@ pub fn push_shown(out: &mut Text, bytes: &[u8])
     }
 }
 
-/// The same, byte by byte.
+/// Puts what the bytes are shown as at the end of `out`, one byte after the other.
 fn push_escaped(out: &mut Text, bytes: &[u8])
     requires { array_vec_len out.old + 4 * length bytes.now ≤ MAX_TEXT }
     ensures shown { out.new.items ≡ out.old.items ++ shown_text bytes.now }
@@ -106,7 +107,7 @@ pub fn push_decimal(out: &mut Text, n: u64)
     push_digits(out, n);
 }
 
-/// Puts the number's digits at the end.
+/// Puts the number's decimal digits at the end.
 fn push_digits(out: &mut Text, n: u64)
     requires { array_vec_len out.old + length (decimal n) ≤ MAX_TEXT }
     ensures decimal { out.new.items ≡ out.old.items ++ decimal n }

@@ -9,7 +9,8 @@ use Rattle.aprs_log.specs.declared.moment_form.MomentForm.{MomentForm}
 abbrev pub IsDay : ℕ → ℕ → ℕ → Type 0
 IsDay y m d = (1970 ≤ y) × (y ≤ 2099) × IsDate (pos y) (pos m) (pos d)
 
--- Such a date, and an hour, a minute and a second of its day; no second is a leap second.
+-- A date of the calendar in the years 1970 to 2099, and an hour, a minute and a second of its day;
+-- no second is a leap second.
 pub record IsCivil (civil : Civil) : Type 0 where
   pub date : IsDay civil.year civil.month civil.day
   pub hour : civil.hour < 24
@@ -32,7 +33,7 @@ pub record MomentTextIn (form : MomentForm) (m : ℕ) (text : List ℕ) : Type 0
 abbrev pub MomentText : ℕ → List ℕ → Type 0
 MomentText m text = (form : MomentForm) × MomentTextIn form m text
 
--- The civil time so many seconds after 1970-01-01T00:00:00Z.
+-- The civil time m seconds after 1970-01-01T00:00:00Z.
 abbrev pub civil_after : ℕ → Civil
 civil_after m = record {
   year = (day_after (m / 86400)).year;

@@ -8,7 +8,7 @@ hi_frame =
     0x82 ∷ 0xA0 ∷ 0xA4 ∷ 0xA6 ∷ 0x40 ∷ 0x40 ∷ 0xE0
     ∷ 0x9C ∷ 0x60 ∷ 0x86 ∷ 0x82 ∷ 0x98 ∷ 0x98 ∷ 0x6F ∷ 0x03 ∷ 0xF0 ∷ codes ">Hi"
 
--- It was heard by RX1, so many milliseconds after 2024-05-01T12:00:00Z.
+-- The frame, as RX1 heard it n milliseconds after 2024-05-01T12:00:00Z.
 abbrev pub heard_after : ℕ → Heard
 heard_after n = record {
   moment = 1714564800000 + n;
@@ -16,7 +16,7 @@ heard_after n = record {
   frame = hi_frame;
 }
 
--- A line of this moment and these bytes, by RX1.
+-- A line by RX1, with this text of a moment and these digits.
 abbrev pub line_by : List ℕ → List ℕ → List ℕ
 line_by moment bytes = moment ++ codes " RX1 " ++ bytes
 

@@ -11,7 +11,8 @@ use Rattle.aprs_log.specs.Receiver.{IsName, is_name_byte}
 abbrev pub HasSpace : List ℕ → ℕ → Type 0
 HasSpace text n = (n < length text) × (slice_index text n ≡ 32)
 
--- The place of the space that ends a moment to the second, or else one to the millisecond.
+-- n is the place of the space that ends a moment: where a moment to the second would end, or, if no
+-- space stands there, where one to the millisecond would end.
 abbrev pub EndsMoment : List ℕ → ℕ → Type 0
 EndsMoment text n = ((n ≡ seconds_size) × HasSpace text seconds_size)
     ⊎ ((n ≡ millis_size) × HasSpace text millis_size × ¬ HasSpace text seconds_size)

@@ -3,6 +3,6 @@ use Rattle.std.specs.Prelude.{ℕ, Bool, not, List}
 use Rattle.std.specs.List.{list_any}
 use Rattle.aprs_kiss.specs.Spelling.{is_frame_end}
 
--- Whether a byte is no frame end.
+-- Whether any of the bytes is no frame end.
 abbrev pub has_other : List ℕ → Bool
 has_other bytes = list_any (λ b. not (is_frame_end b)) bytes

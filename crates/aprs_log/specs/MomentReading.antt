@@ -17,7 +17,7 @@ pub record Civil : Type 0 where
   pub minute : ℕ
   pub second : ℕ
 
--- YYYY-MM-DDTHH:MM:SSZ, or with .mmm before the Z.
+-- The text of a civil time and its milliseconds: YYYY-MM-DDTHH:MM:SSZ, or with .mmm before the Z.
 abbrev pub civil_text : MomentForm → Civil → ℕ → List ℕ
 civil_text form civil n =
     four_digits civil.year ++ 45 ∷ two_digits civil.month ++ 45 ∷ two_digits civil.day

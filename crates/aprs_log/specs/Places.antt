@@ -4,7 +4,7 @@ use Rattle.aprs_log.specs.declared.moment_form.MomentForm.{MomentForm}
 use Rattle.aprs_log.specs.declared.moment_form.MomentForm.TheVariants.{Seconds, Millis}
 use Rattle.aprs_log.specs.MomentReading.{Civil}
 
--- The value of a digit, and of another byte that of the digit next to it.
+-- The value of a digit. For a byte below `0` it is 0, and for one above `9` it is 9.
 abbrev pub near_digit : ℕ → ℕ
 near_digit b = min 9 (b - 48)
 

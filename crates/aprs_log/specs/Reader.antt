@@ -14,11 +14,11 @@ use Rattle.aprs_log.specs.declared.fault.LogFault.{LogFault}
 use Rattle.aprs_io.specs.declared.input.Ending.{Ending}
 use Rattle.aprs_log.specs.declared.reader.LogReader.{LogReader}
 
--- The device that it borrows.
+-- The device that the reader borrows.
 abbrev pub source_of : {R : Type 0} → LogReader R → Counted R
 source_of r = r.source.now
 
--- The name of that loan.
+-- The name of the loan by which the reader has its device.
 abbrev pub loan_of : {R : Type 0} → LogReader R → GName
 loan_of r = r.source.ghost_name
 

@@ -7,17 +7,17 @@ use Rattle.aprs_log.specs.declared.fault.LineFault.{LineFault}
 use Rattle.aprs_log.specs.declared.line.Line.{Line}
 use Rattle.aprs_log.specs.declared.reader.LogReader.{LogReader}
 
--- The line that now lies in a place, or its fault.
+-- The line that lies in `found` after it was read, or the fault of the reading.
 abbrev pub line_in : Result (Unit {0}) LineFault → Line → Result Line LineFault
 line_in (Ok u) found = Ok found
 line_in (Err fault) found = Err fault
 
--- How much it may read yet, where it has not stopped.
+-- How many steps a reader may take yet.
 abbrev pub work_of : {R : Type 0} → LogReader R → ℕ
 work_of r = work_in r.state r.left
 
--- A reader that moves without an answer: what may follow now, could have followed where it was
--- `old`.
+-- A reader moves from `old` to `new` without an answer: what may follow now could have followed
+-- before.
 abbrev pub Moves : {R : Type 0} → Option (List ℕ) → LogReader R → Option (List ℕ) → LogReader R
     → Type 0
 Moves known old after new = (end : Option (List ℕ)) (answers : Answers)

@@ -16,7 +16,7 @@ abbrev pub state_after : Option LogCause → State
 state_after None = Ended
 state_after (Some cause) = Failed cause
 
--- What it answered last, by the state of the reader.
+-- What the device answered last, by the state of its reader.
 abbrev pub last_in : State → Last
 last_in Reading = Going
 last_in Ended = End

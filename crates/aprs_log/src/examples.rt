@@ -8,7 +8,8 @@ ghost use Rattle.aprs_log.specs.LogText.{HasLogFault, IsLogText};
 ghost use Rattle.aprs_log.specs.Reception.{Heard};
 ghost use Rattle.aprs_log.specs.declared.fault.LogCause.TheVariants as why;
 
-/// A moment has a text to the second, if it is of a whole one, and a text to the millisecond.
+/// Each moment has a text to the millisecond, and one at a whole second has a text to the second
+/// too. A text with the second 60 is that of no moment.
 pub fn moments_have_texts()
     ensures seconds { IsTextOf 1714564800000 noon }
     ensures millis { IsTextOf 1714564800500 (codes "2024-05-01T12:00:00.500Z") }
@@ -16,7 +17,8 @@ pub fn moments_have_texts()
     ensures misses_leap { (m : ℕ) → IsTextOf m (codes "2024-05-01T12:00:60.000Z") → ⊥ }
 {}
 
-/// A line reports the frame that its bytes are, and is passed over where they are none.
+/// A line reports the frame that its bytes carry, at the line's moment. A line whose bytes carry no
+/// frame is passed over, and reports nothing.
 pub fn lines_report_frames()
     ensures reports { Reports hi_line (heard_after 0) }
     ensures millis { Reports (line_by (codes "2024-05-01T12:00:00.500Z") hi_digits)
@@ -28,7 +30,8 @@ pub fn lines_report_frames()
     ensures empty { IsPassed (line_by noon []) }
 {}
 
-/// A line that is refused is wrong for its first fault, from the left.
+/// A line that is refused is wrong for its first fault from the left, and for no later one. A line
+/// that is passed over isn't wrong.
 pub fn lines_are_wrong_from_the_left()
     ensures moment { IsWrongLine leap_line why.Moment }
     ensures receiver { IsWrongLine (noon ++ codes " RX.1 c0") why.Receiver }
@@ -39,6 +42,7 @@ pub fn lines_are_wrong_from_the_left()
 {}
 
 /// A log has no fault where each of its lines is in order and ended, and it is read to its end.
+/// Otherwise its fault says which line is the first at fault, and why.
 pub fn logs_have_first_faults()
     ensures faultless { IsLogText (unended_line ++ 10 ∷ hi_line ++ 10 ∷ []) End
         (heard_after 0 ∷ []) }

@@ -15,7 +15,8 @@ ghost use Rattle.aprs_log.specs.declared.fault.Reason.{Reason};
 ghost use Rattle.aprs_log.specs.declared.line.Line.TheVariants as line;
 
 /// A line is read as it says: what it reports is heard, a line that carries no frame is passed over
-/// for some reason, and a line that is wrong is refused for that.
+/// for some reason, and a line that is wrong is refused for the same cause. `line_of` is the
+/// reading, the other definitions say what the text is.
 pub fn lines_are_read_as_they_say()
     ensures heard { (l : List ℕ) (x : Heard) → Reports l x ↔ (line_of l ≡ Ok (line.Heard x)) }
     ensures passed { (l : List ℕ)
@@ -24,8 +25,9 @@ pub fn lines_are_read_as_they_say()
         ↔ ((fault : LineFault) × (line_of l ≡ Err fault) × (log_cause_of fault ≡ cause)) }
 {}
 
-/// A log is read as it says: it has no fault, and its lines report these receptions, exactly where
-/// its text is that of such a log; and it has a fault exactly where that is the text's.
+/// A log is read as it says: its answers end without a fault and give these receptions exactly
+/// where its text is that of a faultless log with these receptions; and they end with a fault
+/// exactly where the text has that fault. `log_answers` is the reading.
 pub fn logs_are_read_as_they_say()
     ensures faultless { (text : List ℕ) (ending : Ending) (S : List Heard)
         → IsLogText text ending S ↔ (((log_answers text ending).fault ≡ None)

@@ -66,8 +66,8 @@ impl Line {
         }
     }
 
-    /// Becomes the line of a frame that was heard, where the bytes are one, or of the reason why
-    /// they are none.
+    /// Becomes `Heard`, with this moment, this receiver and the frame, where the bytes are a UI
+    /// frame, and otherwise `Passed`, with the first reason why they aren't.
     fn assign(&mut self, moment: Moment, receiver: Receiver, bytes: &[u8])
         ensures { self.new
             ≡ heard_or_passed moment receiver (frame_or_reason (frame_of bytes.now)) }
@@ -81,8 +81,9 @@ impl Line {
         }
     }
 
-    /// As `assign`, with a frame that is made anew. It stands apart, so that `assign` needs no room
-    /// for a line.
+    /// What `assign` does, with a reception that is made anew: becomes `Heard` where the bytes are
+    /// a UI frame, and otherwise `Passed`. It stands apart, so that `assign` needs no room for a
+    /// line.
     #[cold]
     #[inline(never)]
     fn assign_anew(&mut self, moment: Moment, receiver: Receiver, bytes: &[u8])
@@ -95,7 +96,7 @@ impl Line {
         };
     }
 
-    /// Becomes a line that is passed over.
+    /// Becomes a line that is passed over for this reason.
     #[cold]
     #[inline(never)]
     fn pass(&mut self, reason: Reason)
@@ -105,7 +106,9 @@ impl Line {
     }
 }
 
-/// Reads a line as `read_line` does, field by field, into `found`, which a fault leaves as it was.
+/// Reads a line without its LF, field by field, into `found`, or returns its first fault, as
+/// `read_line` does; a fault leaves `found` as it was. `scratch` is room for the reading, and what
+/// it held before changes nothing of the answer.
 pub(crate) fn read_fields(
     line: &[u8],
     scratch: &mut Scratch,
@@ -127,7 +130,8 @@ pub(crate) fn read_fields(
     read_within(moment, receiver, digits, scratch, found)
 }
 
-/// Reads the line of a moment, a receiver and the digits of the bytes that the receiver gave.
+/// Reads the rest of a line, the digits of the bytes that the receiver gave, and makes `found` the
+/// line of this moment and receiver. The only fault is `Hex`, which leaves `found` as it was.
 fn read_within(
     moment: Moment,
     receiver: Receiver,

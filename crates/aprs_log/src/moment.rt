@@ -42,8 +42,8 @@ impl Model for Moment {
 }
 
 impl Moment {
-    /// The moment so many seconds after 1970-01-01T00:00:00Z, where these are 0 to 4,102,444,799.
-    /// Takes no memory.
+    /// The moment `seconds` seconds after 1970-01-01T00:00:00Z, or `None` where these are more than
+    /// 4,102,444,799, the last second of 2099. Takes no memory.
     pub fn new(seconds: u64) -> Option<Moment>
         ensures { SomeIff result (seconds ≤ last_second) (seconds * 1000) }
     {
@@ -56,8 +56,8 @@ impl Moment {
         }
     }
 
-    /// The moment so many milliseconds after 1970-01-01T00:00:00Z, where these are 0 to
-    /// 4,102,444,799,999. Takes no memory.
+    /// The moment `millis` milliseconds after 1970-01-01T00:00:00Z, or `None` where these are more
+    /// than 4,102,444,799,999, the last millisecond of 2099. Takes no memory.
     pub fn from_millis(millis: u64) -> Option<Moment>
         ensures { SomeIff result (millis ≤ last_milli) millis }
     {
@@ -91,9 +91,9 @@ impl Moment {
         self.millis / 1000
     }
 
-    /// The moment of a text as `2024-05-01T12:00:00Z` or `2024-05-01T12:00:00.000Z`, where the
-    /// bytes are the text of one: a date of the civil calendar from 1970 to 2099, an hour below 24,
-    /// a minute and a second below 60. Takes no memory.
+    /// The moment of a text such as `2024-05-01T12:00:00Z` or `2024-05-01T12:00:00.000Z`. `None`
+    /// where the bytes aren't exactly such a text, of a date of the civil calendar from 1970 to
+    /// 2099, an hour below 24, and a minute and a second below 60. Takes no memory.
     pub fn parse(text: &[u8]) -> Option<Moment>
         ensures value { result ≡ moment_of text.now }
         ensures exact { (m : ℕ) → (result ≡ Some m) ↔ IsTextOf m text.now }
@@ -101,7 +101,8 @@ impl Moment {
         Moment::parse_in(form_of(text), text)
     }
 
-    /// The same, of a text in one form alone. Takes no memory.
+    /// The moment of a text in `form`. `None` where the text is in the other form, and wherever
+    /// `parse` returns `None`. Takes no memory.
     pub fn parse_in(form: MomentForm, text: &[u8]) -> Option<Moment>
         ensures exact { (m : ℕ)
             → (result ≡ Some m) ↔ (IsWritable form m × (text.now ≡ moment_text_in form m)) }
@@ -117,7 +118,8 @@ impl Moment {
         }
     }
 
-    /// The moment's text that is written, as `2024-05-01T12:00:00.000Z`. Takes no memory.
+    /// The moment's text to the millisecond, as `2024-05-01T12:00:00.000Z`, which `parse` reads
+    /// back as the same moment. Takes no memory.
     pub fn text(&self) -> [u8; 24]
         ensures value { result ≡ moment_text self.now }
         ensures writable { IsWritable MomentForm.Millis self.now }
@@ -159,7 +161,8 @@ impl PartialOrd for Moment {
     }
 }
 
-/// The one form that a text can be in, by its length.
+/// The one form that a text can be in, by its length: `Seconds` for 20 bytes, and `Millis` for any
+/// other number.
 fn form_of(text: &[u8]) -> MomentForm
     ensures { result ≡ form_of_text text.now }
 {

@@ -26,7 +26,9 @@ pub struct LogReader<'a, R> {
     window: Window,
     scratch: Scratch,
     current: Line,
+    /// How many bytes may be read yet.
     left: u64,
+    /// The number of the line that was returned last, from 1, or 0 before any.
     line: u64,
     state: State,
     ghost few: { line + length (items window) + left ≤ most_input },
@@ -81,14 +83,15 @@ impl<'a, R: Read> LogReader<'a, R> {
         }
     }
 
-    /// The number of the last line that it returned, from 1, or 0 before any. Takes no memory.
+    /// The number of the last line that the reader returned, from 1, or 0 before any. Takes no
+    /// memory.
     pub fn line(&self) -> u64
         ensures { result ≡ Spec.line_count_of self.now }
     {
         self.line
     }
 
-    /// How many calls of the device that it reads from failed. Takes no memory.
+    /// How many calls of the device that the reader reads from failed. Takes no memory.
     pub fn failures(&self) -> u64
         ensures { result ≡ failures_of (Spec.source_of self.now) }
     {
@@ -130,8 +133,9 @@ impl<'a, R: Read> LogReader<'a, R> {
         }
     }
 
-    /// Goes to the next line, which `current` then lends, and says whether there is one: as `next`,
-    /// without a copy of the line. Takes no memory.
+    /// Goes to the next line, which `current` then lends: `next` without a copy of the line.
+    /// Returns `true` where there is a line, `false` at the end, or the fault at which the log is
+    /// read no further; at the last two `current` stays. Takes no memory.
     pub fn advance(&mut self) -> Result<bool, LogFault>
         ensures gives { Spec.GivesNext (Spec.answer_with result (Spec.current_of self.new))
             (R.remaining (device_of (Spec.source_of self.old))) self.old
@@ -181,7 +185,7 @@ impl<'a, R: Read> LogReader<'a, R> {
         &self.current
     }
 
-    /// The fault with this cause in the line that follows.
+    /// The fault with this cause in the line after the last one that was returned.
     fn fault(&self, cause: LogCause) -> LogFault
         ensures { result ≡ record { line = self.now.line + 1; cause = cause } }
     {
@@ -191,23 +195,29 @@ impl<'a, R: Read> LogReader<'a, R> {
         }
     }
 
-    /// Gives a line that is there, or reads on, or stops.
+    /// Takes a line that is held whole, counts it and returns `true`: `current` is then this line.
+    /// Otherwise returns `false` and `current` stays: it read once, or `state` now says that the
+    /// log ended or failed.
     fn step(&mut self) -> bool
         requires { self.old.state ≡ State.Reading }
 
+        // The line, put before any answers that may follow now, could have followed before.
         ensures given { OnTrue result (
             (Spec.line_count_of self.new ≡ Spec.line_count_of self.old + 1)
             × ((end : Option (List ℕ)) (answers : Answers)
             → Spec.Awaits (R.remaining (device_of (Spec.source_of self.new))) end self.new answers
             → Spec.Awaits (R.remaining (device_of (Spec.source_of self.old))) end self.old
             (prepend_line (Spec.current_of self.new) answers))) }
+        // What may follow now could have followed before.
         ensures none { OnFalse result ((Spec.line_count_of self.new ≡ Spec.line_count_of self.old)
             × (Spec.current_of self.new ≡ Spec.current_of self.old)
             × Moves (R.remaining (device_of (Spec.source_of self.old))) self.old
             (R.remaining (device_of (Spec.source_of self.new))) self.new) }
         ensures going { OnTrue result (Spec.stop_of self.new ≡ None) }
+        // A step without a line leaves fewer steps, so that `advance` ends.
         ensures less { OnFalse result (work_of self.new < work_of self.old) }
 
+        // A line that is held whole is taken without a read, or is at fault and stops the reader.
         ensures unread { Spec.HasLf (Spec.read_ahead_of self.old)
             → (Spec.source_of self.new ≡ Spec.source_of self.old)
             × OnFalse result (Spec.stop_of self.new ≢ None) }
@@ -231,11 +241,13 @@ impl<'a, R: Read> LogReader<'a, R> {
         }
     }
 
-    /// Reads once, where no whole line is there, or stops.
+    /// Reads once, where no whole line is held. Stops by setting `state`, where too many bytes for
+    /// a line are held, a read failed, or the input ended or is over the limit.
     fn read_on(&mut self)
         requires going { self.old.state ≡ State.Reading }
         requires none { cut_at 10 (items self.old.window) ≡ None }
 
+        // What may follow now could have followed before.
         ensures moves { Moves (R.remaining (device_of (Spec.source_of self.old))) self.old
             (R.remaining (device_of (Spec.source_of self.new))) self.new }
         ensures less { work_of self.new < work_of self.old }

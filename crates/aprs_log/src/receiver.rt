@@ -33,8 +33,8 @@ impl Model for Receiver {
 }
 
 impl Receiver {
-    /// The receiver of this name, where the bytes are 1 to 16 ASCII letters, digits, `-` and `_`.
-    /// Takes no memory.
+    /// The receiver of this name, or `None` where the bytes aren't 1 to 16 ASCII letters, digits,
+    /// `-` and `_`. Takes no memory.
     pub fn parse(bytes: &[u8]) -> Option<Receiver>
         ensures { SomeIff result (IsName bytes.now) bytes.now }
     {
@@ -45,7 +45,7 @@ impl Receiver {
         }
     }
 
-    /// The receiver of this name.
+    /// The receiver of this name. Requires that the bytes are a name.
     pub(crate) fn with_name(bytes: &[u8]) -> Receiver
         requires { IsName bytes.now }
         ensures { result ≡ bytes.now }
@@ -99,6 +99,7 @@ impl PartialOrd for Receiver {
     }
 }
 
+/// Whether the bytes are a receiver's name: 1 to 16 letters, digits, `-` and `_`.
 fn is_name(bytes: &[u8]) -> bool
     ensures { result ≡ is_name bytes.now }
 {
@@ -112,6 +113,7 @@ fn are_name_bytes(bytes: &[u8]) -> bool
     bytes.iter().all(|b| is_name_byte(*b))
 }
 
+/// Whether a byte may be in a name: an ASCII letter, a digit, `-` or `_`.
 pub(crate) fn is_name_byte(byte: u8) -> bool
     ensures { result ≡ is_name_byte byte }
 {

@@ -41,7 +41,9 @@ impl Reception {
         }
     }
 
-    /// Becomes the reception of these parts, where the bytes are a frame. Takes no memory.
+    /// Becomes the reception of these parts, where the bytes are a UI frame. Otherwise returns the
+    /// first fault why they aren't: moment and receiver are then the new ones, and the frame the
+    /// old one. Takes no memory.
     pub(crate) fn assign(
         &mut self,
         moment: Moment,
@@ -65,7 +67,7 @@ impl Reception {
         self.moment
     }
 
-    /// Which receiver heard it. Takes no memory.
+    /// Which receiver heard the frame. Takes no memory.
     pub fn receiver(&self) -> &Receiver
         ensures { result.now ≡ self.now.receiver }
     {

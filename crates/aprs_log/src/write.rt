@@ -51,7 +51,8 @@ impl LogWriter {
         }
     }
 
-    /// Writes one line, as `write_line` does. Takes no memory.
+    /// Writes a reception as one line of a log, with its LF, as `write_line` does. At a fault a
+    /// prefix of the line went out, and the count of the device's failures rose. Takes no memory.
     pub fn write<W: Write>(
         &mut self,
         w: &mut Counted<W>,
@@ -68,8 +69,9 @@ impl LogWriter {
     }
 }
 
-/// Puts the line and its LF at the start of `line`, and returns how many bytes they are. `moment`
-/// is the text of its moment.
+/// Puts the line of a reception and its LF at the start of `line`, and returns how many bytes they
+/// are. `moment` is the text of the reception's moment. The line, if it has at most 8,192 bytes,
+/// reads back as the reception.
 fn put_line(line: &mut [u8], moment: &[u8; MILLIS_LEN], reception: &Reception) -> usize
     requires line { length line.old ≡ MAX_WRITTEN }
     requires moment { moment.now ≡ moment_text reception.now.moment }
@@ -90,7 +92,9 @@ fn put_line(line: &mut [u8], moment: &[u8; MILLIS_LEN], reception: &Reception) -
     put(line, digits, b"\n")
 }
 
-/// Puts the digits of what goes out for a frame at a place, and returns the place after them.
+/// Puts what goes out for a frame into `out` at `at`, in lower case hexadecimal: a frame end, the
+/// type byte 0, the frame with its escapes, and a frame end. Returns the place after the digits;
+/// what stands before `at` stays.
 fn put_frame(out: &mut [u8], at: usize, frame: &[u8]) -> usize
     requires few { length frame.now ≤ MAX_UI_FRAME }
     requires room { at + 2 * MAX_SPELLED ≤ length out.old }
@@ -114,7 +118,8 @@ fn put_frame(out: &mut [u8], at: usize, frame: &[u8]) -> usize
     }
 }
 
-/// Puts the digits of what FEND or FESC is sent as at a place, and returns the place after them.
+/// Puts the four digits of what FEND (C0) or FESC (DB) is sent as into `out` at `at`, and returns
+/// the place after them; what stands before `at` stays.
 fn put_escape(out: &mut [u8], at: usize, byte: u8) -> usize
     requires special { is_special byte ≡ true }
     requires room { at + 4 ≤ length out.old }

@@ -17,9 +17,9 @@ const MAX_ENDED: usize = 1024;
 
 /// The bytes of the one data frame, of any port, that a line's bytes hold as a KISS stream; whether
 /// they are a UI frame is judged by the caller. Otherwise the first reason why there is none: bytes
-/// follow the last frame end, there are two pieces, there is none, or the piece is no data frame.
-/// The bytes lie in `bytes`, or in `reader` where a quick look didn't do; that is reset before it
-/// is used.
+/// follow the last frame end, there are two pieces or more, there is no piece, or the piece is no
+/// data frame. Where a quick look isn't enough, `reader` is reset and reads the bytes, and the
+/// frame lies in it.
 pub fn data_in<'r>(reader: &'r mut KissReader, bytes: &'r [u8]) -> Result<&'r [u8], Reason>
     ensures { MatchResult result
         (λ frame. frame_in bytes.now ≡ frame_or_reason (frame_of frame.now))
@@ -53,7 +53,8 @@ fn plain_frame_in(bytes: &[u8]) -> Option<&[u8]>
     }
 }
 
-/// The same by a reader of KISS streams, which begins anew.
+/// What `data_in` returns, found by a reader of KISS streams, which is reset first: the bytes of
+/// the one data frame, or the first reason why there is none.
 #[cold]
 #[inline(never)]
 fn fed_frame_in<'r>(reader: &'r mut KissReader, bytes: &[u8]) -> Result<&'r [u8], Reason>
@@ -66,6 +67,7 @@ fn fed_frame_in<'r>(reader: &'r mut KissReader, bytes: &[u8]) -> Result<&'r [u8]
     }
     reader.reset();
     let (used, fed) = reader.feed(bytes);
+    // The first piece is read: a byte after it that is no frame end is of a second piece.
     if has_other(&bytes[used..]) {
         return Err(Reason::TwoFrames);
     }

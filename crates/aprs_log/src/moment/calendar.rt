@@ -8,8 +8,9 @@ use jiff_core::civil::Date;
 /// The days from -9999-01-01, at which the calendar's own count begins, to 1970-01-01.
 const DAYS_BEFORE_1970: u32 = 4_371_587;
 
-/// The days from 1970-01-01 to a date, where the calendar has it: always below 47,482, the number
-/// of 2100-01-01. The year is one of 1970 to 2099, month and day have two digits.
+/// The days from 1970-01-01 to a date, or `None` where the calendar doesn't have the date. They are
+/// below 47,482, the number of 2100-01-01. Requires a year from 1970 to 2099, and a month and a day
+/// below 100.
 pub fn day_number(year: u16, month: u8, day: u8) -> Option<u32>
     requires low { 1970 ≤ year }
     requires high { year ≤ 2099 }
@@ -25,7 +26,8 @@ pub fn day_number(year: u16, month: u8, day: u8) -> Option<u32>
     }
 }
 
-/// The date so many days after 1970-01-01: its year, month and day.
+/// The date `day` days after 1970-01-01: its year, month and day. Requires that it is before
+/// 2100-01-01, the day with the number 47,482.
 pub fn date_of(day: u32) -> (u16, u8, u8)
     requires { day < 47482 }
     ensures date { IsDay result.0 result.1 result.2 }

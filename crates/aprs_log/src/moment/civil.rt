@@ -15,7 +15,8 @@ pub const SECONDS_LEN: usize = 20;
 /// The bytes of a date and time's text to the millisecond.
 pub const MILLIS_LEN: usize = 24;
 
-/// A date and a time of its day, as the digits of a text say them.
+/// A date and a time of its day, as the digits of a text say them. The calendar may lack the date,
+/// and a day the time.
 #[derive(Clone, Copy)]
 pub struct CivilTime {
     year: u16,
@@ -52,7 +53,8 @@ impl Model for CivilTime {
 }
 
 impl CivilTime {
-    /// The date and time of a text, and its milliseconds, where the bytes are in the form.
+    /// The date and time of a text in this form, and its milliseconds, or `None` where the text
+    /// isn't in this form. Ranges aren't tested: a month may be 99.
     pub fn parse(form: MomentForm, text: &[u8]) -> Option<(CivilTime, u16)>
         ensures { SomeIff result
             (Spec.civil_text form (near_civil text.now) (near_millis form text.now) ≡ text.now)
@@ -64,7 +66,8 @@ impl CivilTime {
         }
     }
 
-    /// The same of a text as `2024-05-01T12:00:00Z`.
+    /// The date and time of a text in the form `2024-05-01T12:00:00Z`, with 0 milliseconds, or
+    /// `None` where the text isn't in this form. Ranges aren't tested: a month may be 99.
     fn parse_short(text: &[u8]) -> Option<(CivilTime, u16)>
         ensures { SomeIff result
             (Spec.civil_text MomentForm.Seconds (near_civil text.now) 0 ≡ text.now)
@@ -74,6 +77,7 @@ impl CivilTime {
             return None;
         }
         let civil = CivilTime::from_digits(text);
+        // Written again, it differs where a byte was no digit, or not the right mark.
         if civil.short_text().as_slice() == text {
             Some((civil, 0))
         } else {
@@ -81,7 +85,8 @@ impl CivilTime {
         }
     }
 
-    /// The same of a text as `2024-05-01T12:00:00.000Z`.
+    /// The date and time of a text in the form `2024-05-01T12:00:00.000Z`, and its milliseconds, or
+    /// `None` where the text isn't in this form. Ranges aren't tested: a month may be 99.
     fn parse_long(text: &[u8]) -> Option<(CivilTime, u16)>
         ensures { SomeIff result (Spec.civil_text MomentForm.Millis (near_civil text.now)
             (near_millis MomentForm.Millis text.now) ≡ text.now)
@@ -92,6 +97,7 @@ impl CivilTime {
         }
         let civil = CivilTime::from_digits(text);
         let millis = u16::from(near_digit(text[20])) * 100 + u16::from(near_pair(text, 21));
+        // Written again, it differs where a byte was no digit, or not the right mark.
         if civil.text(millis).as_slice() == text {
             Some((civil, millis))
         } else {
@@ -99,7 +105,8 @@ impl CivilTime {
         }
     }
 
-    /// The time whose digits stand at their places in a text.
+    /// The time whose digits stand at their places in a text of at least 20 bytes. A byte that is
+    /// no digit counts as 0 or 9, whichever is nearer.
     fn from_digits(text: &[u8]) -> CivilTime
         requires { seconds_size ≤ length text.now }
         ensures { result ≡ near_civil text.now }
@@ -114,7 +121,8 @@ impl CivilTime {
         }
     }
 
-    /// The date and the time of the day that are so many seconds after 1970-01-01T00:00:00Z.
+    /// The date and the time of the day `seconds` seconds after 1970-01-01T00:00:00Z. Requires that
+    /// this is before the year 2100.
     pub fn from_seconds(seconds: u64) -> CivilTime
         requires { seconds ≤ last_second }
         ensures real { IsCivil result }
@@ -132,7 +140,8 @@ impl CivilTime {
         }
     }
 
-    /// The seconds from 1970-01-01T00:00:00Z to this time, where the calendar and the day have it.
+    /// The seconds from 1970-01-01T00:00:00Z to this time, or `None` where the years 1970 to 2099
+    /// don't have the date, or a day doesn't have the time.
     pub fn seconds(&self) -> Option<u64>
         ensures value { SomeIff result (IsCivil self.now) (Spec.seconds_of self.now) }
         ensures bound { IfSome result (λ n. n ≤ last_second) }
@@ -153,6 +162,8 @@ impl CivilTime {
         self.hour < 24 && self.minute < 60 && self.second < 60
     }
 
+    /// The seconds from the start of the day to this time. Hour, minute and second are below 100,
+    /// so that the sum is below 363,000 even where no day has the time.
     fn second_of_day(&self) -> u32
         ensures value { result ≡ Spec.second_of_day self.now }
         ensures bound { result < 363000 }
@@ -190,12 +201,14 @@ impl CivilTime {
         ]
     }
 
-    /// The text to the millisecond, as `2024-05-01T12:00:00.000Z`.
+    /// The text to the millisecond, as `2024-05-01T12:00:00.000Z`. `millis` are the milliseconds of
+    /// the second, below 1,000.
     pub fn text(&self, millis: u16) -> [u8; MILLIS_LEN]
         requires { millis < 1000 }
         ensures { result ≡ Spec.civil_text MomentForm.Millis self.now millis }
     {
         let mut text = [b'Z'; MILLIS_LEN];
+        // The text to the second has 19 bytes before its `Z`.
         text[..19].copy_from_slice(&self.short_text()[..19]);
         text[19] = b'.';
         text[20] = b'0' + (millis / 100) as u8;
@@ -205,7 +218,7 @@ impl CivilTime {
     }
 }
 
-/// The value of a digit, and of another byte that of the digit next to it.
+/// The value of a digit. For a byte below `0` it is 0, and for one above `9` it is 9.
 fn near_digit(byte: u8) -> u8
     ensures value { result ≡ near_digit byte }
     ensures bound { result ≤ 9 }
@@ -213,7 +226,8 @@ fn near_digit(byte: u8) -> u8
     byte.saturating_sub(b'0').min(9)
 }
 
-/// The number whose two digits stand at `i`.
+/// The number whose two digits stand at `i` and after it. A byte that is no digit counts as 0 or 9,
+/// whichever is nearer.
 fn near_pair(text: &[u8], i: usize) -> u8
     requires { i + 1 < length text.now }
     ensures value { result ≡ near_pair text.now i }
@@ -222,7 +236,7 @@ fn near_pair(text: &[u8], i: usize) -> u8
     near_digit(text[i]) * 10 + near_digit(text[i + 1])
 }
 
-/// The tens digit of a number.
+/// The tens digit of a number below 100, as an ASCII byte.
 pub fn tens(n: u8) -> u8
     requires { n < 100 }
     ensures { result ≡ 48 + n / 10 }
@@ -230,7 +244,7 @@ pub fn tens(n: u8) -> u8
     b'0' + n / 10
 }
 
-/// The last digit of a number.
+/// The last digit of a number, as an ASCII byte.
 pub fn units(n: u8) -> u8
     ensures { result ≡ 48 + n % 10 }
 {

@@ -38,8 +38,9 @@ impl Clock {
         }
     }
 
-    /// The moment of a text in this form, as `Moment::parse_in`. Keeps its date, so that the next
-    /// moment of that day is read sooner. Takes no memory.
+    /// The moment of a text in `form`, or `None` where the text isn't that of a moment in this
+    /// form. Keeps the date of a moment that it returns, so that the next one of that day is read
+    /// sooner. Takes no memory.
     pub fn parse_in(&mut self, form: MomentForm, text: &[u8]) -> Option<Moment>
         ensures exact { (m : ℕ)
             → (result ≡ Some m) ↔ (IsWritable form m × (text.now ≡ moment_text_in form m)) }
@@ -50,7 +51,8 @@ impl Clock {
         self.parse(text)
     }
 
-    /// The moment of a text, as `Moment::parse`. Keeps its date.
+    /// The moment of a text of 20 or 24 bytes, or `None` where it isn't the text of a moment. Keeps
+    /// the date of a moment that it returns.
     pub(crate) fn parse(&mut self, text: &[u8]) -> Option<Moment>
         requires { (length text.now ≡ seconds_size) ⊎ (length text.now ≡ Spec.millis_size) }
         ensures { result ≡ moment_of text.now }
@@ -61,7 +63,8 @@ impl Clock {
         }
     }
 
-    /// The same, where the text has the date that is kept.
+    /// The moment of a text of 20 or 24 bytes, where it has the date that is kept. `None` decides
+    /// nothing: the text may be that of a moment of another date.
     fn parse_same_day(&self, text: &[u8]) -> Option<Moment>
         requires { (length text.now ≡ seconds_size) ⊎ (length text.now ≡ Spec.millis_size) }
         ensures { IfSome result (λ m. moment_of text.now ≡ Some m) }
@@ -76,7 +79,8 @@ impl Clock {
         Moment::from_millis(self.midnight.millis() + u64::from(second) * 1000 + u64::from(milli))
     }
 
-    /// The same of any date, which it then keeps.
+    /// The moment of a text of 20 or 24 bytes, of any date, which is then kept. `None` where it
+    /// isn't the text of a moment; then the date before is kept on.
     #[cold]
     #[inline(never)]
     fn parse_and_keep_date(&mut self, text: &[u8]) -> Option<Moment>
@@ -85,6 +89,7 @@ impl Clock {
     {
         let moment = Moment::parse(text)?;
         let millis = moment.millis();
+        // The first moment of that day: it is no later, so there always is one.
         if let Some(midnight) = Moment::from_millis(millis - millis % MILLIS_A_DAY) {
             let mut date = [0; DATE_LEN];
             date.copy_from_slice(&text[..DATE_LEN]);
@@ -103,7 +108,7 @@ fn has_date(text: &[u8], date: &[u8; DATE_LEN]) -> bool
     word_at(text, 0) == word_at(date, 0) && word_at(text, 3) == word_at(date, 3)
 }
 
-/// The eight bytes at a place, as a number.
+/// The eight bytes at a place, as a number whose lowest byte is the first of them.
 #[inline(always)]
 fn word_at(bytes: &[u8], place: usize) -> u64
     requires { place + 8 ≤ length bytes.now }
@@ -114,7 +119,8 @@ fn word_at(bytes: &[u8], place: usize) -> u64
     u64::from_le_bytes(word)
 }
 
-/// The second of the day of a text as `12:00:00`, where it is one.
+/// The second of the day that a text of 8 bytes says, as `12:00:00`, or `None` where it isn't the
+/// text of a time.
 fn second_of_text(text: &[u8]) -> Option<u32>
     requires { length text.now ≡ TIME_LEN }
     ensures { IfSome result (λ n. Spec.SecondText n text.now) }
@@ -128,7 +134,8 @@ fn second_of_text(text: &[u8]) -> Option<u32>
     }
 }
 
-/// The millisecond of a second of the end of a text, `Z` or as `.000Z`, where it is one.
+/// The millisecond that the end of a moment's text says: 0 for `Z`, and 0 to 999 for `.000Z` to
+/// `.999Z`. `None` where it is neither. Requires 1 or 5 bytes.
 fn milli_of_text(text: &[u8]) -> Option<u32>
     requires { (length text.now ≡ 1) ⊎ (length text.now ≡ 5) }
     ensures { IfSome result (λ n. Spec.FractionText (Spec.form_of_end text.now) n text.now) }
@@ -145,7 +152,8 @@ fn milli_of_text(text: &[u8]) -> Option<u32>
     }
 }
 
-/// The number whose two digits stand at `i`, and 255 where none do.
+/// The number whose two digits stand at `i` and after it, or 255 where one of these bytes is no
+/// digit.
 fn number_at(text: &[u8], i: usize) -> u8
     requires { i + 1 < length text.now }
     ensures { result < 100

@@ -36,11 +36,12 @@ impl MomentWriter {
         }
     }
 
-    /// The text of a moment, as `Moment::text`. Keeps it, so that of the next moment of that day
-    /// the time alone is written. Takes no memory.
+    /// The text of a moment to the millisecond, as `2024-05-01T12:00:00.000Z`. Keeps the text, so
+    /// that of the next moment of that day the time alone is written. Takes no memory.
     pub fn text(&mut self, moment: Moment) -> [u8; 24]
         ensures { result ≡ moment_text moment }
     {
+        // Wraps to a large number for a moment before the day that is kept.
         let time = moment.millis().wrapping_sub(self.midnight);
         if time >= MILLIS_A_DAY {
             self.begin_day(moment);
@@ -51,7 +52,7 @@ impl MomentWriter {
         self.text
     }
 
-    /// Keeps the text of a moment of another day.
+    /// Keeps the text of a moment of another day, and the first moment of that day.
     #[cold]
     #[inline(never)]
     fn begin_day(&mut self, moment: Moment)

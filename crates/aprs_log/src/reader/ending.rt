@@ -17,7 +17,8 @@ pub enum State {
     Failed(LogCause),
 }
 
-/// Why a log ends at `tail`, the bytes after its last LF, unless it ends well.
+/// Why a log is at fault at its end, by how its input ended; `tail` are the bytes after its last
+/// LF. `None` where it ends well: at the end of the input, with no byte after the last LF.
 pub fn refuse_tail(tail: &[u8], ending: Ending) -> Option<LogCause>
     ensures { result ≡ tail_cause tail.now ending }
 {

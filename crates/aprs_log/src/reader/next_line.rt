@@ -11,8 +11,9 @@ use crate::line::{Line, read_fields};
 use crate::reader::window::Window;
 use aprs_io::cut_at;
 
-/// Takes the first line out of the window, where it holds a whole one, and reads it into `found`,
-/// which a fault leaves as it was.
+/// Takes the first line and its LF out of the window and reads it into `found`. A line at fault is
+/// taken out too, but leaves `found` as it was. `None` where the window holds no whole line: then
+/// window and `found` stay.
 pub fn take_line(
     window: &mut Window,
     scratch: &mut Scratch,

@@ -25,7 +25,7 @@ impl Window {
     ghost use Rattle.aprs_io.specs.Input.{EndsHere, last_got};
     ghost use Rattle.aprs_log.specs.Window.{items};
 
-    /// A window that holds a few bytes.
+    /// A window that holds `head`, which has at most 8 bytes.
     pub fn new(head: &[u8]) -> Window
         requires { length head.now ≤ 8 }
         ensures { items result ≡ head.now }
@@ -39,7 +39,7 @@ impl Window {
         }
     }
 
-    /// The bytes that it holds.
+    /// The bytes that the window holds.
     pub fn as_slice(&self) -> &[u8]
         ensures value { result.now ≡ items self.now }
         ensures fits { length result.now ≤ WINDOW_SIZE }
@@ -47,7 +47,7 @@ impl Window {
         &self.bytes[self.start..self.end]
     }
 
-    /// Lets go of its first bytes.
+    /// Lets go of the first `count` bytes that the window holds.
     pub fn consume(&mut self, count: usize)
         requires { count ≤ length (items self.old) }
         ensures { items self.new ≡ drop count (items self.old) }
@@ -55,10 +55,10 @@ impl Window {
         self.start += count;
     }
 
-    /// Reads once, at most `left` bytes, to the place after those that it holds, and returns how
-    /// many came. Otherwise returns how the input ends here: with `TooLong` where `left` is 0 and a
-    /// further byte came, which is dropped. It has to hold at most a longest line, so that there is
-    /// room.
+    /// Reads once, at most `left` bytes, to the place after those that the window holds, and
+    /// returns how many came, at least one. Otherwise returns how the input ends here: with
+    /// `TooLong` where `left` is 0 and a further byte came, which is dropped. Requires that the
+    /// window holds no more than a longest line, 8,192 bytes, so that there is room.
     pub fn read_more<R: Read>(&mut self, source: &mut Counted<R>, left: u64) -> Result<u64, Ending>
         requires { length (items self.old) ≤ most_line }
 
@@ -81,7 +81,7 @@ impl Window {
         Ok(count as u64)
     }
 
-    /// Moves the bytes that it holds to the start, which makes all the room that there is.
+    /// Moves the bytes that the window holds to its start, so that all its room is after them.
     fn move_to_front(&mut self)
         ensures items { items self.new ≡ items self.old }
         ensures room { self.new.end ≡ length (items self.old) }
