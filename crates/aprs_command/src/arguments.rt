@@ -33,10 +33,14 @@ enum Task {
 /// What the program's arguments ask for, its name being the first: a command of `check [INPUT]`,
 /// `convert FORM [INPUT]`, `merge [INPUT]...`, `show [INPUT]...` and `widen SECONDS [INPUT]`, and
 /// `convert text` where no command is given. `convert capture` needs `--receiver NAME` and
-/// `--moment MOMENT`, and the other forms refuse both. `merge` and `show` have `--gap SECONDS`,
-/// which is 30 where it is not given. SECONDS is 1 to 3,600, and else a fault of `JobFault::Clap`.
-/// The inputs' paths are given in the order of the arguments. Where these ask for help or the
-/// version, its text is that of `JobFault::Clap`.
+/// `--moment MOMENT`, and the other forms refuse both: else it is `JobFault::Options`. `merge`
+/// and `show` have `--gap SECONDS`, which is 30 where it is not given. SECONDS is 1 to 3,600, and
+/// else a fault of `JobFault::Clap`. The inputs' paths are given in the order of the arguments.
+/// Where these ask for help or the version, its text is that of `JobFault::Clap`.
+/// `JobFault::Memory` where an allocation failed. By `asked` the job is the one that the
+/// definition of the command reads from the arguments; by `judged` clap's refusal is for a fault
+/// that this definition finds in them. There `p` is a parser that takes the names of the forms
+/// and nothing else.
 pub fn job(alloc: Global, arguments: &[&str]) -> Result<Job, JobFault>
     ensures asked { (p : ValueParser) × Spec.IsForms p
         × Spec.AnswersArguments (Spec.program_app p) (map (λ a. a.now) arguments.now) result }
@@ -61,7 +65,9 @@ pub fn job(alloc: Global, arguments: &[&str]) -> Result<Job, JobFault>
     }
 }
 
-/// The program's command is simple, whatever memory its forms stand in.
+/// A law; the function does nothing. The program's command is simple: clap's definitions say what
+/// it finds in any arguments. It is free too where FORM takes the names of the forms: no argument
+/// has a rule on another, so that these definitions also say which faults it finds.
 pub fn command_is_simple()
     ensures simple { (p : ValueParser) → is_simple (Spec.program_app p) ≡ true }
     ensures free { (p : ValueParser) → Spec.IsForms p
@@ -81,6 +87,7 @@ fn form_values<'a>() -> [PossibleValue<'a>; 5]
     ]
 }
 
+/// The argument FORM, which has to be given and takes these names of forms and nothing else.
 fn form_arg<'a>(alloc: Global, forms: &'a [PossibleValue<'a>]) -> Arg<'a>
     requires { Spec.AreForms forms.now }
     ensures rule { (p : ValueParser) × Spec.IsForms p × (rule_of result ≡ Spec.form_rule p) }
@@ -89,6 +96,8 @@ fn form_arg<'a>(alloc: Global, forms: &'a [PossibleValue<'a>]) -> Arg<'a>
     required_arg(alloc, "form", "FORM", help::FORM).value_parser(forms)
 }
 
+/// An argument that has to be given. `value_name` stands for its value in the help. By the clause
+/// `local` it is one of its own command alone.
 fn required_arg<'a>(
     alloc: Global,
     name: &'static str,
@@ -104,6 +113,8 @@ fn required_arg<'a>(
         .help(help)
 }
 
+/// The option `--name` with one value, for which `value_name` stands in the help. By the clause
+/// `local` it is one of its own command alone.
 fn option_arg<'a>(
     alloc: Global,
     name: &'static str,
@@ -119,13 +130,14 @@ fn option_arg<'a>(
         .help(help)
 }
 
-/// What a gap may be.
+/// What the text of a gap may be: a number of seconds, 1 to 3,600.
 fn gap_parser<'a>() -> ValueParser<'a>
     ensures { result ≡ Spec.gap_parser }
 {
     ValueParser::unsigned(1, GREATEST_GAP)
 }
 
+/// The option `--gap SECONDS`, with 1 to 3,600 seconds.
 fn gap_arg<'a>(alloc: Global) -> Arg<'a>
     ensures rule { rule_of result ≡ Spec.gap_rule }
     ensures local { result.global ≡ false }
@@ -133,6 +145,7 @@ fn gap_arg<'a>(alloc: Global) -> Arg<'a>
     option_arg(alloc, "gap", "SECONDS", help::GAP).value_parser(gap_parser())
 }
 
+/// The argument SECONDS, which has to be given: 1 to 3,600 seconds.
 fn seconds_arg<'a>(alloc: Global) -> Arg<'a>
     ensures rule { rule_of result ≡ Spec.seconds_rule }
     ensures local { result.global ≡ false }
@@ -140,7 +153,7 @@ fn seconds_arg<'a>(alloc: Global) -> Arg<'a>
     required_arg(alloc, "seconds", "SECONDS", help::SECONDS).value_parser(gap_parser())
 }
 
-/// One input, or none.
+/// The argument INPUT of a command that takes one input or none.
 fn input_arg<'a>(alloc: Global, help: &'static str) -> Arg<'a>
     ensures rule { rule_of result ≡ Spec.input_rule }
     ensures local { result.global ≡ false }
@@ -148,7 +161,7 @@ fn input_arg<'a>(alloc: Global, help: &'static str) -> Arg<'a>
     Arg::new(alloc, "input").value_name("INPUT").help(help)
 }
 
-/// Any number of inputs, also none.
+/// The argument INPUT of a command that takes any number of inputs, also none.
 fn inputs_arg<'a>(alloc: Global) -> Arg<'a>
     ensures rule { rule_of result ≡ Spec.inputs_rule }
     ensures local { result.global ≡ false }
@@ -159,6 +172,9 @@ fn inputs_arg<'a>(alloc: Global) -> Arg<'a>
         .help(help::GATHERED)
 }
 
+/// The command `convert FORM [INPUT]` with the options `--receiver NAME` and `--moment MOMENT`,
+/// where FORM takes the names `forms`. `AllocError` where an allocation failed. By the clause
+/// `globals` no argument of it is taken over by other commands.
 fn convert_command<'a>(
     alloc: Global,
     forms: &'a [PossibleValue<'a>],
@@ -180,6 +196,8 @@ fn convert_command<'a>(
     with_receiver.arg(moment)
 }
 
+/// The command `check [INPUT]`. `AllocError` where an allocation failed. By the clause `globals`
+/// no argument of it is taken over by other commands.
 fn check_command<'a>(alloc: Global) -> Result<Command<'a>, AllocError>
     ensures app { IfOk result (λ c. app_of c ≡ Spec.check_app) }
     ensures globals { IfOk result (λ c. (out-Command c).has_globals ≡ false) }
@@ -188,7 +206,9 @@ fn check_command<'a>(alloc: Global) -> Result<Command<'a>, AllocError>
     Command::new(alloc, "check").about(help::CHECK).arg(input)
 }
 
-/// A command that gathers inputs under a gap: `merge` or `show`.
+/// A command that gathers inputs under a gap, `merge` or `show`: `[--gap SECONDS] [INPUT]...`,
+/// with `about` as its help. `AllocError` where an allocation failed. By the clause `globals` no
+/// argument of it is taken over by other commands.
 fn gathering_command<'a>(
     alloc: Global,
     name: &'static str,
@@ -203,6 +223,8 @@ fn gathering_command<'a>(
     with_inputs.arg(gap)
 }
 
+/// The command `widen SECONDS [INPUT]`. `AllocError` where an allocation failed. By the clause
+/// `globals` no argument of it is taken over by other commands.
 fn widen_command<'a>(alloc: Global) -> Result<Command<'a>, AllocError>
     ensures app { IfOk result (λ c. app_of c ≡ Spec.widen_app) }
     ensures globals { IfOk result (λ c. (out-Command c).has_globals ≡ false) }
@@ -215,7 +237,7 @@ fn widen_command<'a>(alloc: Global) -> Result<Command<'a>, AllocError>
     with_seconds.arg(input)
 }
 
-/// The program's command without its commands.
+/// The program's command, before `convert` and the other commands are added to it.
 fn top_command<'a>(alloc: Global) -> Command<'a>
     ensures { app_of result ≡ Spec.program_top }
 {
@@ -226,8 +248,9 @@ fn top_command<'a>(alloc: Global) -> Command<'a>
         .after_long_help(help::EXAMPLES)
 }
 
-/// The program's command. Of its commands no two are held at a time, since each that is held would
-/// be given back where memory is refused.
+/// The program's command with all its commands, where FORM of `convert` takes the names `forms`.
+/// `AllocError` where an allocation failed. Each command is added before the next is made, since
+/// each that is held would have to be given back where memory is refused.
 fn program<'a>(alloc: Global, forms: &'a [PossibleValue<'a>]) -> Result<Command<'a>, AllocError>
     requires { Spec.AreForms forms.now }
     ensures { IfOk result (λ c. (p : ValueParser) × Spec.IsForms p
@@ -245,6 +268,7 @@ fn program<'a>(alloc: Global, forms: &'a [PossibleValue<'a>]) -> Result<Command<
     with_show.subcommand(widen)
 }
 
+/// The fault for an error of clap: `Memory` where an allocation failed, and else this error.
 fn clap_fault(error: clap::Error) -> JobFault
     ensures { ((kind_of error ≡ OutOfMemory) × (result ≡ JobFault.Memory))
         ⊎ ((kind_of error ≢ OutOfMemory) × (result ≡ JobFault.Clap error)) }
@@ -255,13 +279,16 @@ fn clap_fault(error: clap::Error) -> JobFault
     }
 }
 
-/// The first value of the argument.
+/// The first value of the argument of this name, or `None` where it was not given.
 fn text_at<'a>(matches: &ArgMatches<'a>, id: &str) -> Option<&'a str>
     ensures { option_map (λ s. s.now) result ≡ first_of id.now (rows_of (found_of matches.now)) }
 {
     matches.get_str(id)
 }
 
+/// The task that the arguments ask for, which is `convert text` without a command. `None` where
+/// the options of `capture` are missing, unreadable or given to another form. (An unreadable gap
+/// would be `None` too, but clap has refused it before.)
 fn read_task(matches: &ArgMatches<'_>) -> Option<Task>
     ensures { result ≡ Spec.task_of (subcommand_rows_of matches.now) }
 {
@@ -271,6 +298,9 @@ fn read_task(matches: &ArgMatches<'_>) -> Option<Task>
     }
 }
 
+/// The task of the command of this name, with what its arguments say. Any name but `convert`,
+/// `merge`, `show` and `widen` is taken as `check`. `None` where the form or the gap can't be
+/// read.
 fn read_named(name: &str, matches: &ArgMatches<'_>) -> Option<Task>
     ensures { result ≡ Spec.task_by_name name.now (rows_of (found_of matches.now)) }
 {
@@ -287,7 +317,8 @@ fn read_named(name: &str, matches: &ArgMatches<'_>) -> Option<Task>
     }
 }
 
-/// The gap of a book that is made: the standard one where none is given.
+/// The gap that `--gap` gives to `merge` or `show`: 30 seconds where it isn't given, and `None`
+/// where its text is no number of 1 to 3,600.
 fn read_chosen_gap(matches: &ArgMatches<'_>) -> Option<Gap>
     ensures { result ≡ Spec.chosen_gap (rows_of (found_of matches.now)) }
 {
@@ -297,7 +328,8 @@ fn read_chosen_gap(matches: &ArgMatches<'_>) -> Option<Gap>
     }
 }
 
-/// The gap to which a book is widened.
+/// The gap that SECONDS gives to `widen`, or `None` where it isn't given or its text is no number
+/// of 1 to 3,600.
 fn read_widened_gap(matches: &ArgMatches<'_>) -> Option<Gap>
     ensures { result ≡ Spec.widened_gap (rows_of (found_of matches.now)) }
 {
@@ -315,7 +347,8 @@ fn read_gap(text: &str) -> Option<Gap>
     }
 }
 
-/// The form that is asked for, or `None` where its options don't fit.
+/// The form that FORM, `--receiver` and `--moment` ask for, or `None` where FORM isn't given or
+/// these two options don't fit it.
 fn read_form(matches: &ArgMatches<'_>) -> Option<Form>
     ensures { result ≡ Spec.asked_form (rows_of (found_of matches.now)) }
 {
@@ -346,7 +379,7 @@ fn named_form(name: &str, receiver: Option<&str>, moment: Option<&str>) -> Optio
     }
 }
 
-/// A form that refuses both options.
+/// The form, one that refuses both options: `None` where either is given.
 fn plain_form(form: Form, receiver: Option<&str>, moment: Option<&str>) -> Option<Form>
     ensures { result ≡ Spec.plain_form_of form (option_map (λ s. s.now) receiver.entry)
         (option_map (λ s. s.now) moment.entry) }
@@ -368,19 +401,22 @@ fn capture_form(receiver: Option<&str>, moment: Option<&str>) -> Option<Form>
     Some(Form::Capture { receiver, moment })
 }
 
+/// The receiver of this name, or `None` where the text is no receiver's name.
 fn read_receiver(text: &str) -> Option<Receiver>
     ensures { result ≡ Spec.receiver_of text.now }
 {
     Receiver::parse(text.as_bytes())
 }
 
+/// The moment that the text says, or `None` where it is no text of a moment.
 fn read_moment(text: &str) -> Option<Moment>
     ensures { result ≡ moment_of text.now }
 {
     Moment::parse(text.as_bytes())
 }
 
-/// The paths of the inputs, in order.
+/// The paths of the inputs, in the order of the arguments and in memory of their own. There are
+/// none where no command or no input is given. `AllocError` where an allocation failed.
 fn read_inputs(alloc: Global, matches: &ArgMatches<'_>) -> Result<Vec<String>, AllocError>
     ensures { IfOk result (λ v. Spec.paths_of v.items
         ≡ Spec.inputs_in (subcommand_rows_of matches.now)) }
@@ -394,7 +430,8 @@ fn read_inputs(alloc: Global, matches: &ArgMatches<'_>) -> Result<Vec<String>, A
     }
 }
 
-/// The texts as they are, in memory of their own.
+/// Copies of the texts, in their order and in memory of their own. `AllocError` where an
+/// allocation failed.
 fn copy_paths(alloc: Global, paths: &[&str]) -> Result<Vec<String>, AllocError>
     ensures { IfOk result (λ v. Spec.paths_of v.items ≡ map (λ path. path.now) paths.now) }
 {
@@ -405,6 +442,7 @@ fn copy_paths(alloc: Global, paths: &[&str]) -> Result<Vec<String>, AllocError>
     Ok(inputs)
 }
 
+/// The job of this task, with these inputs.
 fn with_inputs(task: Task, inputs: Vec<String>) -> Job
     ensures task { Spec.job_task result ≡ task }
     ensures inputs { Spec.inputs_of result ≡ Spec.paths_of inputs.items }

@@ -9,7 +9,7 @@ pub const ABOUT: &str = "Reads, checks, converts, merges and lists the logs of A
 /// What the program does without a command.
 pub const NO_COMMAND: &str = "Without a command: convert text of standard input.";
 
-/// The same, examples and exit statuses.
+/// What the program does without a command, examples of commands, and the exit statuses.
 pub const EXAMPLES: &str = "Without a command: convert text of standard input.
 
 Examples:

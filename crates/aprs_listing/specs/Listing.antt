@@ -30,7 +30,7 @@ use Rattle.aprs_convert.specs.Shown.{shown_byte, shown_text}
 abbrev pub word_byte : ℕ → List ℕ
 word_byte b = if b == 32 then codes "\\x20" else shown_byte b
 
--- A name.
+-- A name as it is shown in a line: one word without a space.
 abbrev pub word : List ℕ → List ℕ
 word bytes = flat_map word_byte bytes
 
@@ -48,7 +48,7 @@ abbrev pub ambiguity_text : Place → List ℕ
 ambiguity_text (Plain lat lon ambiguity) = decimal ambiguity
 ambiguity_text (Base91 y x cst) = codes "c"
 
--- Its table and its code.
+-- The table and the code of a symbol, as they are shown.
 abbrev pub symbol_text : Symbol → List ℕ
 symbol_text s = shown_text (s.table ∷ s.code ∷ [])
 
@@ -69,16 +69,17 @@ state_text Unanswered = codes "unanswered"
 state_text Acknowledged = codes "acknowledged"
 state_text Rejected = codes "rejected"
 
--- When and by whom it was heard.
+-- The fields that say when and by whom a reception was heard.
 abbrev pub heard_fields : Heard → List (List ℕ)
 heard_fields x = moment_text x.moment ∷ x.receiver ∷ []
 
--- A name, its state, when and by whom it was heard, and from whom.
+-- The fields of an object or an item: its name, whether it is live, when and by whom it was heard,
+-- and from whom.
 abbrev pub name_fields : List ℕ → Bool → Heard → List (List ℕ)
 name_fields name live x =
     word name ∷ live_text live ∷ heard_fields x ++ call_text (key_of x.frame).source ∷ []
 
--- Where something is: time stamp, latitude, longitude, ambiguity and symbol.
+-- The fields that say where something is: time stamp, latitude, longitude, ambiguity and symbol.
 abbrev pub place_fields : Option Stamp → Place → Symbol → List (List ℕ)
 place_fields stamp place symbol = stamp_text stamp ∷ degrees_text (latitude_of place)
     ∷ degrees_text (longitude_of place) ∷ ambiguity_text place ∷ symbol_text symbol ∷ []
@@ -89,16 +90,18 @@ place_fields stamp place symbol = stamp_text stamp ∷ degrees_text (latitude_of
 abbrev pub after_space : List ℕ → List ℕ
 after_space field = 32 ∷ field
 
--- The kind of a line, and each field after a space.
+-- A line: its kind, each field after a space, and LF.
 abbrev pub line_with : List ℕ → List (List ℕ) → List ℕ
 line_with kind fields = kind ++ (flat_map after_space fields ++ 10 ∷ [])
 
--- The same, and at the end a text after a colon.
+-- A line that ends in a text: its kind, each field after a space, a colon, the text as it is shown,
+-- and LF.
 abbrev pub line_with_text : List ℕ → List (List ℕ) → List ℕ → List ℕ
 line_with_text kind fields text =
     kind ++ (flat_map after_space fields ++ (58 ∷ shown_text text ++ 10 ∷ []))
 
--- The line of a reception, by what it reports: a position, a status, an object or an item.
+-- The line of a reception, by what it reports: a position, a status, an object or an item. There is
+-- none for other reports.
 abbrev pub report_line : Heard → Value → List ℕ
 report_line x (position messaging stamp place symbol comment) =
     line_with_text (codes "position") (heard_fields x ++ place_fields stamp place symbol) comment
@@ -119,16 +122,16 @@ report_line x raw = []
 abbrev pub heard_line : Heard → List ℕ
 heard_line x = report_line x (report_of (key_of x.frame))
 
--- Where there is something last known.
+-- The line of what is last known, or nothing where nothing is known.
 abbrev pub known_line : Option Heard → List ℕ
 known_line None = []
 known_line (Some x) = heard_line x
 
--- Its callsign and the number of its transmissions.
+-- The line of a station: its callsign and the number of its transmissions.
 abbrev pub station_line : Station → List ℕ
 station_line x = line_with (codes "station") (call_text x.call ∷ decimal x.transmissions ∷ [])
 
--- That line, and those of its last known position and status.
+-- The lines of a station: its own, and those of its last known position and status.
 abbrev pub station_lines : Station → List ℕ
 station_lines x = station_line x ++ (known_line x.position ++ known_line x.status)
 
@@ -136,7 +139,8 @@ station_lines x = station_line x ++ (known_line x.position ++ known_line x.statu
 abbrev pub named_line : Named → List ℕ
 named_line x = heard_line x.heard
 
--- From whom, to whom, its id, its state, its first and its last moment, and its text.
+-- The fields of a message: from whom, to whom, its id, what came of it, and its first and its last
+-- moment.
 abbrev pub message_fields : MessageRow → List (List ℕ)
 message_fields x = call_text x.source ∷ word x.addressee.now ∷ id_text x.id ∷ state_text x.state
     ∷ moment_text x.first ∷ moment_text x.last ∷ []

@@ -32,7 +32,7 @@ pub enum Field<'a> {
     Symbol(Symbol),
 }
 
-/// Puts the field's text.
+/// Puts the field's text. Fails where the output is refused.
 pub fn put_field<W: Write>(out: &mut Outlet<'_, W>, field: &Field<'_>) -> Result<(), WriteFault>
     ensures { Puts W.contents result out.old out.new (field_text field.now) }
 {
@@ -49,7 +49,7 @@ pub fn put_field<W: Write>(out: &mut Outlet<'_, W>, field: &Field<'_>) -> Result
     }
 }
 
-/// The stamp's seven bytes, or `-`.
+/// The stamp's six digits and its mark, or `-` without a stamp.
 fn stamp_text(stamp: &Option<Stamp>) -> ArrayVec<u8, 7>
     ensures { result.items ≡ Spec.stamp_text stamp.now }
 {
@@ -64,7 +64,8 @@ fn stamp_text(stamp: &Option<Stamp>) -> ArrayVec<u8, 7>
     text
 }
 
-/// Numerator and denominator.
+/// The fraction's numerator, `/` and its denominator, in decimal. There is room for two numbers
+/// of 40 bytes, the most that `itoa` writes.
 fn degrees_text(fraction: &Fraction) -> ArrayVec<u8, 81>
     ensures { result.items ≡ Spec.degrees_text fraction.now }
 {
@@ -81,7 +82,8 @@ fn degrees_text(fraction: &Fraction) -> ArrayVec<u8, 81>
     text
 }
 
-/// The number of digits that are left out, or `c`.
+/// How many digits of its minutes a plain position leaves out, in decimal, or `c` for a
+/// compressed position. There is room for 40 bytes, the most that `itoa` writes.
 fn ambiguity_text(place: &Place) -> ArrayVec<u8, 40>
     ensures { result.items ≡ Spec.ambiguity_text place.now }
 {
@@ -95,7 +97,9 @@ fn ambiguity_text(place: &Place) -> ArrayVec<u8, 40>
     text
 }
 
-/// Puts what the bytes are shown as.
+/// Puts the bytes as they are shown: those of 0x20 to 0x7E, except the backslash, as they are,
+/// and all others as a backslash, `x` and two hexadecimal digits. Fails where the output is
+/// refused.
 pub fn put_shown<W: Write>(out: &mut Outlet<'_, W>, bytes: &[u8]) -> Result<(), WriteFault>
     ensures { Puts W.contents result out.old out.new (shown_text bytes.now) }
 {
@@ -108,7 +112,8 @@ pub fn put_shown<W: Write>(out: &mut Outlet<'_, W>, bytes: &[u8]) -> Result<(), 
     Ok(())
 }
 
-/// Puts a name, in which a space is shown too.
+/// Puts the bytes of a name as they are shown, and a space as `\x20`. Fails where the output is
+/// refused.
 fn put_word<W: Write>(out: &mut Outlet<'_, W>, bytes: &[u8]) -> Result<(), WriteFault>
     ensures { Puts W.contents result out.old out.new (Spec.word bytes.now) }
 {
@@ -118,7 +123,7 @@ fn put_word<W: Write>(out: &mut Outlet<'_, W>, bytes: &[u8]) -> Result<(), Write
     Ok(())
 }
 
-/// What a byte of a name is shown as.
+/// What a byte of a name is shown as: a space as `\x20`, and any other byte as in a text.
 fn word_byte(b: u8) -> ArrayVec<u8, 4>
     ensures { result.items ≡ Spec.word_byte b }
 {

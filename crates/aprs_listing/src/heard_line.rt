@@ -21,7 +21,7 @@ struct Whereabouts<'a> {
 }
 
 impl<'a> Whereabouts<'a> {
-    /// These parts of a report.
+    /// These parts of a report, put together.
     fn new(stamp: Option<Stamp>, place: Place, symbol: Symbol, comment: &'a [u8]) -> Whereabouts<'a>
         ensures { result ≡ record {
           stamp = stamp;
@@ -39,7 +39,8 @@ impl<'a> Whereabouts<'a> {
     }
 }
 
-/// Puts the line of a position, a status, an object or an item. Other reports have none.
+/// Puts the line of what was heard, where that is a position, a status, an object or an item. Of
+/// any other report nothing is put. Fails where the output is refused.
 pub fn put_heard<W: Write>(out: &mut Outlet<'_, W>, heard: &Heard<'_>) -> Result<(), WriteFault>
     ensures { Puts W.contents result out.old out.new (Spec.heard_line heard.now) }
 {
@@ -80,7 +81,8 @@ pub fn put_heard<W: Write>(out: &mut Outlet<'_, W>, heard: &Heard<'_>) -> Result
     }
 }
 
-/// Puts the line of a position.
+/// Puts the line of a position: when and by whom it was heard, where it is, and its comment after
+/// a colon. Fails where the output is refused.
 fn put_position<W: Write>(
     out: &mut Outlet<'_, W>,
     heard: &Heard<'_>,
@@ -97,7 +99,9 @@ fn put_position<W: Write>(
     put_text_line(out, b"position", &fields, &place_fields(at), at.comment)
 }
 
-/// Puts the line of an object or an item of this name, which is live or killed.
+/// Puts the line of an object or an item, as `kind` says: its name, whether it is live or killed,
+/// when, by whom and from whom it was heard, where it is, and its comment after a colon. Fails
+/// where the output is refused.
 fn put_name<'a, W: Write>(
     out: &mut Outlet<'_, W>,
     kind: &[u8],
@@ -120,7 +124,8 @@ fn put_name<'a, W: Write>(
     put_text_line(out, kind, &fields, &place_fields(at), at.comment)
 }
 
-/// Puts the line of a status.
+/// Puts the line of a status: when and by whom it was heard, its time stamp, and its text after a
+/// colon. Fails where the output is refused.
 fn put_status<W: Write>(
     out: &mut Outlet<'_, W>,
     heard: &Heard<'_>,
@@ -139,7 +144,7 @@ fn put_status<W: Write>(
     put_text_line(out, b"status", &fields, &[], text)
 }
 
-/// Where something is.
+/// The fields that say where something is: time stamp, latitude, longitude, ambiguity and symbol.
 fn place_fields(at: &Whereabouts<'_>) -> [Field<'static>; 5]
     ensures { map field_text result ≡ Spec.place_fields at.now.stamp at.now.place at.now.symbol }
 {
@@ -152,7 +157,7 @@ fn place_fields(at: &Whereabouts<'_>) -> [Field<'static>; 5]
     ]
 }
 
-/// Whether it is there.
+/// `live`, or `killed`: whether an object or an item is still there.
 fn live_text(live: bool) -> &'static [u8]
     ensures { result.now ≡ Spec.live_text live }
 {

@@ -9,7 +9,7 @@ use crate::field::{Field, put_field, put_shown};
 use aprs_io::{Outlet, WriteFault};
 use std::io::Write;
 
-/// Puts a line: its kind, and each field after a space.
+/// Puts a line: its kind, each field after a space, and LF. Fails where the output is refused.
 pub fn put_line<W: Write>(
     out: &mut Outlet<'_, W>,
     kind: &[u8],
@@ -23,7 +23,8 @@ pub fn put_line<W: Write>(
     out.put(b"\n")
 }
 
-/// Puts a line of the one fields and then the others, with a text at its end, after a colon.
+/// Puts a line: its kind, each of `fields` and then of `others` after a space, a colon, the text
+/// as it is shown, and LF. Fails where the output is refused.
 pub fn put_text_line<W: Write>(
     out: &mut Outlet<'_, W>,
     kind: &[u8],
@@ -41,7 +42,7 @@ pub fn put_text_line<W: Write>(
     put_text(out, text)
 }
 
-/// Puts each field after a space.
+/// Puts each field after a space. Fails where the output is refused.
 fn put_fields<W: Write>(out: &mut Outlet<'_, W>, fields: &[Field<'_>]) -> Result<(), WriteFault>
     ensures { Puts W.contents result out.old out.new (flat_map spaced_field fields.now) }
 {
@@ -51,7 +52,7 @@ fn put_fields<W: Write>(out: &mut Outlet<'_, W>, fields: &[Field<'_>]) -> Result
     Ok(())
 }
 
-/// Puts a space and the field.
+/// Puts a space and the field. Fails where the output is refused.
 fn put_spaced<W: Write>(out: &mut Outlet<'_, W>, field: &Field<'_>) -> Result<(), WriteFault>
     ensures { Puts W.contents result out.old out.new (spaced_field field.now) }
 {
@@ -59,7 +60,7 @@ fn put_spaced<W: Write>(out: &mut Outlet<'_, W>, field: &Field<'_>) -> Result<()
     put_field(out, field)
 }
 
-/// Puts a colon, the text as it is shown, and an LF.
+/// Puts a colon, the text as it is shown, and LF. Fails where the output is refused.
 fn put_text<W: Write>(out: &mut Outlet<'_, W>, text: &[u8]) -> Result<(), WriteFault>
     ensures { Puts W.contents result out.old out.new (58 ∷ shown_text text.now ++ 10 ∷ []) }
 {

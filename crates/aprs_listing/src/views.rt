@@ -28,6 +28,7 @@ pub struct Views<'a, A: Allocator = Global> {
 }
 
 impl<'a, A: Allocator> Drop for Views<'a, A> {
+    /// Gives the memory of the three lists back.
     fn drop(self) {
         let Views {
             stations,
@@ -41,7 +42,8 @@ impl<'a, A: Allocator> Drop for Views<'a, A> {
 }
 
 impl<'a, A: Allocator + Copy> Views<'a, A> {
-    /// What is listed of the book. `Memory` where an allocation failed for it.
+    /// What is listed of the book: its stations, its objects and items, and its messages.
+    /// `Memory` where an allocation failed for it.
     pub fn of(book: &'a Book<A>) -> Result<Views<'a, A>, Memory>
         ensures stations { IfOk result (λ v.
             ReportsStations (millis_of book.now.gap) book.now.rows v.stations.items) }
@@ -57,7 +59,8 @@ impl<'a, A: Allocator + Copy> Views<'a, A> {
         })
     }
 
-    /// What is listed of rows in a store. `Memory` where an allocation failed for it.
+    /// What is listed of rows in a store, from the overview of them: their stations, their
+    /// objects and items, and their messages. `Memory` where an allocation failed for it.
     pub fn of_rows(rows: &'a Overview<'_, '_, A>) -> Result<Views<'a, A>, Memory>
         ensures stations { IfOk result (λ v.
             ReportsStations (millis_of rows.now.gap) rows.now.rows v.stations.items) }
@@ -86,7 +89,8 @@ impl<'a, A: Allocator + Copy> Views<'a, A> {
     }
 }
 
-/// Puts the lines of all.
+/// Puts the listing: the lines of all stations, then of all objects and items, then of all
+/// messages. Fails where the output is refused.
 fn put_views<W: Write, A: Allocator + Copy>(
     out: &mut Outlet<'_, W>,
     views: &Views<'_, A>,
@@ -99,7 +103,7 @@ fn put_views<W: Write, A: Allocator + Copy>(
     put_messages(out, &views.messages)
 }
 
-/// Puts the lines of stations.
+/// Puts the lines of the stations, in their order. Fails where the output is refused.
 fn put_stations<W: Write>(
     out: &mut Outlet<'_, W>,
     stations: &[Station<'_>],
@@ -112,7 +116,7 @@ fn put_stations<W: Write>(
     Ok(())
 }
 
-/// Puts the lines of objects and items.
+/// Puts the lines of the objects and items, in their order. Fails where the output is refused.
 fn put_all_named<W: Write>(out: &mut Outlet<'_, W>, all: &[Named<'_>]) -> Result<(), WriteFault>
     ensures { Puts W.contents result out.old out.new (flat_map Spec.named_line all.now) }
 {
@@ -122,7 +126,7 @@ fn put_all_named<W: Write>(out: &mut Outlet<'_, W>, all: &[Named<'_>]) -> Result
     Ok(())
 }
 
-/// Puts the lines of messages.
+/// Puts the lines of the messages, in their order. Fails where the output is refused.
 fn put_messages<W: Write>(
     out: &mut Outlet<'_, W>,
     messages: &[MessageRow<'_>],
@@ -135,7 +139,8 @@ fn put_messages<W: Write>(
     Ok(())
 }
 
-/// Puts the line of a station, and those of its last known position and status.
+/// Puts the line of a station, and those of its last known position and status. Fails where the
+/// output is refused.
 fn put_station<W: Write>(out: &mut Outlet<'_, W>, station: &Station<'_>) -> Result<(), WriteFault>
     ensures { Puts W.contents result out.old out.new (Spec.station_lines station.now) }
 {
@@ -148,7 +153,8 @@ fn put_station<W: Write>(out: &mut Outlet<'_, W>, station: &Station<'_>) -> Resu
     put_known(out, &station.status)
 }
 
-/// Puts the line of what is last known, if there is any.
+/// Puts the line of what is last known, and nothing where nothing is known. Fails where the
+/// output is refused.
 fn put_known<W: Write>(out: &mut Outlet<'_, W>, known: &Option<Heard<'_>>) -> Result<(), WriteFault>
     ensures { Puts W.contents result out.old out.new (Spec.known_line known.now) }
 {
@@ -158,7 +164,8 @@ fn put_known<W: Write>(out: &mut Outlet<'_, W>, known: &Option<Heard<'_>>) -> Re
     }
 }
 
-/// Puts the line of a message.
+/// Puts the line of a message: from whom and to whom, its id, what came of it, its first and its
+/// last moment, and its text after a colon. Fails where the output is refused.
 fn put_message<W: Write>(
     out: &mut Outlet<'_, W>,
     message: &MessageRow<'_>,
@@ -186,7 +193,7 @@ fn id_text<'a>(id: Option<&'a [u8]>) -> &'a [u8]
     }
 }
 
-/// What came of a message.
+/// The word for what came of a message.
 fn state_text(state: MessageState) -> &'static [u8]
     ensures { result.now ≡ Spec.state_text state }
 {

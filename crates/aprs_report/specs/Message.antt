@@ -48,7 +48,7 @@ pub record IsMessage (addressee text : List ℕ) (id : Option (List ℕ)) (info 
     pub no_answer : IsNoAnswer part
     pub at_text : IsText text id part
 
--- The field is "ack" or "rej" and an id, to the addressee.
+-- The field is the word, "ack" or "rej", and an id, to the addressee.
 pub record IsReply (word addressee id info : List ℕ) : Type 0 where
   pub part : List ℕ
   pub addressed : IsAddressed addressee part info

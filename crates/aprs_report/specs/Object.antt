@@ -9,7 +9,7 @@ use Rattle.aprs_report.specs.Stamp.{IsStamp, stamp_bytes}
 use Rattle.aprs_report.specs.Place.{IsPlace}
 use Rattle.aprs_report.specs.Name.{IsPaddedName}
 
--- The mark of a live one, or _ for a killed one.
+-- The mark of an object or an item: the byte `live` where it is live, _ where it is killed.
 abbrev pub state_mark : ℕ → Bool → ℕ
 state_mark live true = live
 state_mark live false = 95

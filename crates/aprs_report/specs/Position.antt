@@ -19,7 +19,7 @@ abbrev pub IsOptionalStamp : Option Stamp → List ℕ → Type 0
 IsOptionalStamp None text = text ≡ []
 IsOptionalStamp (Some s) text = IsStamp s × (text ≡ stamp_bytes s)
 
--- The field is such a byte, a stamp if there is one, a position and a comment.
+-- The field is the first byte as above, a stamp if there is one, a position and a comment.
 pub record IsPosition (messaging : Bool) (stamp : Option Stamp) (place : Place) (symbol : Symbol)
     (comment : List ℕ) (info : List ℕ) : Type 0 where
   pub stamp_text : List ℕ

@@ -20,17 +20,17 @@ use Rattle.aprs_report.specs.Object.{is_item_mark}
 use Rattle.aprs_report.specs.Message.{is_id}
 use Rattle.aprs_report.specs.Reading.{Value, position, object, item, message, ack, rej, status, raw}
 
--- A step, and the next one from its value, if it has one.
+-- A step and the next one, which takes its value. Where the first has none, there is none.
 infixl 10 ◌>>=◌
 abbrev pub ◌>>=◌ : {A B : Type 0} → Option A → (A → Option B) → Option B
 (Some x) >>= f = f x
 None >>= f = None
 
--- The value, if the test passes.
+-- The value, or None where the test fails.
 abbrev pub value_when : {A : Type 0} → Bool → A → Option A
 value_when b x = if b then Some x else None
 
--- The first n bytes and the rest.
+-- The first n bytes and the rest, or None where there are fewer.
 abbrev pub chunk_of : ℕ → List ℕ → Option (List ℕ × List ℕ)
 chunk_of n bytes = if nat_lt (length bytes) n then None else Some (take n bytes, drop n bytes)
 
@@ -39,7 +39,7 @@ abbrev pub byte_of : (ℕ → Bool) → List ℕ → Option (ℕ × List ℕ)
 byte_of p [] = None
 byte_of p (b ∷ rest) = value_when (p b) (b, rest)
 
--- A byte and what is left after it, or nothing where the byte passes and nothing is left after it.
+-- A byte and those after it, or nothing where there are none after it and it passes the test.
 abbrev pub byte_before : (ℕ → Bool) → ℕ → List ℕ → List ℕ
 byte_before p b [] = if p b then [] else b ∷ []
 byte_before p b (x ∷ xs) = b ∷ x ∷ xs
@@ -49,7 +49,7 @@ unfoldable pub cut_end : (ℕ → Bool) → List ℕ → List ℕ
 cut_end p [] = []
 cut_end p (b ∷ bs) = byte_before p b (cut_end p bs)
 
--- The number that digits of a base are.
+-- The number that the text is in digits of the base, or None where a byte is no digit of the base.
 unfoldable pub numeral_of : ℕ → ℕ → List ℕ → Option ℕ
 numeral_of base nought text =
     value_when (list_all (is_digit_of base nought) text) (number base nought text)
@@ -83,12 +83,12 @@ minutes_of axis ambiguity places =
       value_when (nat_lt (known * 10 ^ ambiguity) per_degree) (known * 10 ^ ambiguity))
     else None
 
--- Whether a letter is that of the negative half, if it is that of a half.
+-- Whether the half that a letter names is negative, or None where it is no letter of this axis.
 abbrev pub half_of : Axis → ℕ → Option Bool
 half_of axis b =
     if b == letter axis true then Some true else value_when (b == letter axis false) false
 
--- The angle of its degrees and of MM.hh and the letter of its half.
+-- The angle, from the text of its degrees, and from MM.hh with the letter of its half.
 unfoldable pub angle_of : Axis → ℕ → List ℕ → List ℕ → Option ℤ
 angle_of axis ambiguity degree_text text = do
   degrees ← numeral_of 10 48 degree_text
@@ -129,7 +129,7 @@ table_at (b ∷ rest) = do
   table ← table_of_byte b
   Some (table, rest)
 
--- The number of a compressed position that four digits are.
+-- The number of a compressed position, from its four digits of base 91.
 unfoldable pub base91_of : List ℕ → Option ℕ
 base91_of text = do
   n ← numeral_of 91 33 text
@@ -174,7 +174,8 @@ name_of field =
     value_when (list_all is_printable field && nat_lt 0 (length (cut_end is_space field)))
     (cut_end is_space field)
 
--- Whether the first byte is the mark of a live one or of a killed one, and the rest.
+-- Whether an object or an item is live, by its mark, which is the first byte, and the rest. The
+-- mark is `live`, or _ where it is killed.
 abbrev pub state_of : ℕ → List ℕ → Option (Bool × List ℕ)
 state_of live [] = None
 state_of live (b ∷ rest) =
@@ -228,7 +229,8 @@ status_of bytes = status_with bytes (utc_at bytes)
 abbrev pub is_colon : ℕ → Bool
 is_colon b = b == 58
 
--- The addressee and the part.
+-- The addressee, from nine bytes, and the part, which follows a colon, without CR and LF at its
+-- end.
 unfoldable pub addressee_and_part_of : List ℕ → Option (List ℕ × List ℕ)
 addressee_and_part_of bytes = do
   field ← chunk_of 9 bytes
@@ -236,7 +238,7 @@ addressee_and_part_of bytes = do
   colon ← byte_of is_colon field.1
   Some (name, cut_end is_line_end colon.1)
 
--- The id after a word of three bytes.
+-- The id after this word of three bytes, or None where the part doesn't begin so or no id follows.
 unfoldable pub answer_at : List ℕ → List ℕ → Option (List ℕ)
 answer_at word [] = None
 answer_at word (x ∷ []) = None
@@ -250,7 +252,8 @@ abbrev pub id_at : List ℕ → Option (List ℕ)
 id_at [] = None
 id_at (b ∷ id) = value_when (b == 123 && is_id id) id
 
--- A text that ends before this byte, if an id begins here, or later.
+-- The text and the id of a part that begins with this byte: where a brace and an id begin here, the
+-- text is empty, and else this byte stands before the text and the id found later.
 abbrev pub text_and_id_with : ℕ → Option (List ℕ) → Option (List ℕ × List ℕ) →
     Option (List ℕ × List ℕ)
 text_and_id_with b (Some id) later = Some ([], id)

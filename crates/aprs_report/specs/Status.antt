@@ -9,7 +9,8 @@ pub record BeginsInUtc (stamp : Stamp) (bytes rest : List ℕ) : Type 0 where
   pub utc : stamp.mark ≡ 122
   pub whole : bytes ≡ stamp_bytes stamp ++ rest
 
--- The field is ">", such a stamp if the bytes begin with one, and the text.
+-- The field is ">", a stamp in UTC and the text; or ">" and the text, which begins with no such
+-- stamp.
 abbrev pub IsStatus : Option Stamp → List ℕ → List ℕ → Type 0
 IsStatus (Some stamp) text info = (bytes : List ℕ) × BeginsInUtc stamp bytes text ×
     (info ≡ 62 ∷ bytes)

@@ -5,35 +5,35 @@ ghost use Rattle.std.specs.Option.{option_map};
 ghost use Rattle.aprs_report.specs.Bytes.{is_digit, is_capital, is_alphanumeric, is_printable};
 ghost use Rattle.aprs_report.specs.Reader.{chunk_of, cut_end};
 
-/// Whether it is `0` to `9`.
+/// Whether the byte is `0` to `9`.
 pub fn is_digit_byte(byte: u8) -> bool
     ensures { result ≡ is_digit byte }
 {
     byte.is_ascii_digit()
 }
 
-/// Whether it is `A` to `Z`.
+/// Whether the byte is `A` to `Z`.
 pub fn is_capital_byte(byte: u8) -> bool
     ensures { result ≡ is_capital byte }
 {
     byte.is_ascii_uppercase()
 }
 
-/// Whether it is a letter of either case or a digit.
+/// Whether the byte is a letter of either case or a digit.
 pub fn is_alphanumeric_byte(byte: u8) -> bool
     ensures { result ≡ is_alphanumeric byte }
 {
     byte.is_ascii_alphanumeric()
 }
 
-/// Whether it is a space to `~`.
+/// Whether the byte is a space to `~`.
 pub fn is_printable_byte(byte: u8) -> bool
     ensures { result ≡ is_printable byte }
 {
     b' ' <= byte && byte <= b'~'
 }
 
-/// The first `N` bytes and the rest.
+/// The first `N` bytes and the rest, or `None` where there are fewer than `N`.
 pub fn chunk<const N: usize>(bytes: &[u8]) -> Option<(&[u8; N], &[u8])>
     ensures { option_map (λ x. (x.0.now, x.1.now)) result ≡ chunk_of N bytes.now }
 {
@@ -52,7 +52,7 @@ pub enum Trailing {
 impl Trailing {
     ghost use Rattle.aprs_report.specs.TrailingBytes.{is_end};
 
-    /// Whether the byte is one of these.
+    /// Whether the byte is of this kind: a space for `Spaces`, CR or LF for `LineEnds`.
     fn has(self, byte: u8) -> bool
         ensures { result ≡ is_end self byte }
     {
@@ -62,7 +62,7 @@ impl Trailing {
         }
     }
 
-    /// The bytes without those of this kind at their end.
+    /// The bytes without all those of this kind at their end.
     pub fn cut(self, bytes: &[u8]) -> &[u8]
         ensures exact { result.now ≡ cut_end (is_end self) bytes.now }
         ensures short { length result.now ≤ length bytes.now }

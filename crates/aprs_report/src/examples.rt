@@ -6,7 +6,9 @@ ghost use Rattle.aprs_report.specs.Place.{latitude_of, longitude_of};
 ghost use Rattle.aprs_report.specs.Reading.{message, ack, rej, status, raw};
 ghost use Rattle.aprs_report.specs.Examples.{Example, minus, fraction, plain, compressed_position, stamp_with, leader, leader_item};
 
-/// Examples of plain positions, in hundredths of minutes.
+/// Examples of plain positions. `plain` is a house (symbol `/-`) at these hundredths of minutes
+/// north and east (`minus`: south and west), with this number of digits left out. `raw` is a
+/// field that has the form of no report.
 pub fn plain_examples()
     ensures full { Example (codes "!4903.50N/07201.75W-") (plain (pos 294350) (minus 432175) 0) }
     ensures to_tenths { Example (codes "!4903.5 N/07201.75W-")
@@ -23,7 +25,9 @@ pub fn plain_examples()
     ensures sixty_to_tens { Example (codes "!496 .  N/07201.75W-") raw }
 {}
 
-/// Examples of compressed positions. The first is 49.5 degrees north.
+/// Examples of compressed positions. `compressed_position` is a car (symbol `>` of this table) at
+/// these numbers y and x. `raw` is a field that has the form of no report. The first example is
+/// 49.5 degrees north. The last four are angles, as fractions of degrees.
 pub fn compressed_examples()
     ensures full { Example (codes "=/5L!!<*e7> sT") (compressed_position 47 15427503 20427156) }
     ensures south_pole { Example (codes "=/{{!!<*e7> sT")
@@ -39,7 +43,9 @@ pub fn compressed_examples()
     ensures east { longitude_of (Base91 0 68566680 []) ≡ fraction (pos 34283340) 190463 }
 {}
 
-/// Examples of objects and items.
+/// Examples of objects and items. `leader` is the object LEADER, live where `true` and killed
+/// where `false`, `leader_item` an item like it, and `raw` a field that has the form of no
+/// report.
 pub fn object_examples()
     ensures live { Example (codes ";LEADER   *092345z4903.50N/07201.75W>") (leader true) }
     ensures killed { Example (codes ";LEADER   _092345z4903.50N/07201.75W>") (leader false) }
@@ -52,14 +58,16 @@ pub fn object_examples()
     ensures ten_bytes { Example (codes ")LEADERSHIP!4903.50N/07201.75W>") raw }
 {}
 
-/// Examples of statuses.
+/// Examples of statuses: with no stamp, with a stamp in UTC, and with a stamp in local time,
+/// which is part of the text.
 pub fn status_examples()
     ensures plain { Example (codes ">Hi") (status None (codes "Hi")) }
     ensures utc { Example (codes ">092345zHi") (status (Some (stamp_with 122)) (codes "Hi")) }
     ensures local { Example (codes ">092345/Hi") (status None (codes "092345/Hi")) }
 {}
 
-/// Examples of messages and what answers them.
+/// Examples of messages, with their addressee, text and id, and of what answers them, with its
+/// addressee and id.
 pub fn message_examples()
     ensures numbered { Example (codes ":WU2Z     :Testing{003")
         (message (codes "WU2Z") (codes "Testing") (Some (codes "003"))) }

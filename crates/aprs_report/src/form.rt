@@ -11,7 +11,8 @@ use crate::kinds::position::{position, stamped_position};
 use crate::kinds::status::status;
 use crate::report::Report;
 
-/// The report of a field, if its bytes have a form.
+/// The report that an information field is, by its first byte. `None` where no kind of report
+/// begins with that byte, or where the bytes after it don't have the form of that kind.
 #[inline(always)]
 #[tactic(auto, unfolding(crate::specs::Reader::report_by_form))]
 pub fn form(info: &[u8]) -> Option<Report<'_>>

@@ -8,14 +8,15 @@ ghost use Rattle.aprs_report.specs.Reader.{name_of};
 
 use crate::bytes::{Trailing, is_printable_byte};
 
-/// Whether each is a space to `~`.
+/// Whether each byte is a space to `~`.
 fn all_printable(field: &[u8]) -> bool
     ensures { result ≡ list_all is_printable field.now }
 {
     field.iter().all(|byte| is_printable_byte(*byte))
 }
 
-/// The name that a field has, without the spaces at its end.
+/// The name in a field of an object, an item or an addressee: its bytes without the spaces at
+/// their end. `None` where a byte isn't a space to `~`, or where nothing is left.
 pub fn name_in(field: &[u8]) -> Option<&[u8]>
     ensures { option_map (λ x. x.now) result ≡ name_of field.now }
 {

@@ -4,14 +4,17 @@ ghost use Rattle.std.specs.Prelude.{◌≡◌, ◌<◌, ◌≤◌, length, IfSom
 ghost use Rattle.aprs_report.specs.Numeral.{is_digit_of};
 ghost use Rattle.aprs_report.specs.Reader.{numeral_of};
 
-/// Whether the byte is a digit of the base, of which `nought` is the digit 0.
+/// Whether the byte is a digit of the base, where `nought` is the digit 0, the byte after it is
+/// 1, and so on.
 fn is_digit_in(base: u32, nought: u8, byte: u8) -> bool
     ensures { result ≡ is_digit_of base nought byte }
 {
     nought <= byte && ((byte - nought) as u32) < base
 }
 
-/// The number that up to four digits spell, the most significant first. `nought` is the digit 0.
+/// The number that up to four digits of a base spell, the most significant first, or `None` where
+/// a byte is no digit of the base. `nought` is the digit 0. Without a byte the number is 0, and
+/// in any case it is less than 91 to the power of 4, which is 68,574,961.
 pub fn numeral(base: u32, nought: u8, text: &[u8]) -> Option<u32>
     requires base { base ≤ 91 }
     requires four { length text.now ≤ 4 }

@@ -90,7 +90,9 @@ impl Place {
     }
 }
 
-/// The plain position that some bytes begin with, its symbol, and the rest.
+/// The plain position that some bytes begin with, its symbol, and the rest. It is `DDMM.hhN`, the
+/// table of the symbol, `DDDMM.hhE` and the code of the symbol, and both angles have the
+/// ambiguity of the latitude. `None` where the bytes don't begin so.
 #[tactic(auto, unfolding(crate::specs::Reader::plain_of))]
 fn plain_at_start(bytes: &[u8]) -> Option<(Place, Symbol, &[u8])>
     ensures { option_map (λ x. (x.0, x.1, x.2.now)) result ≡ plain_of bytes.now }
@@ -112,7 +114,9 @@ fn plain_at_start(bytes: &[u8]) -> Option<(Place, Symbol, &[u8])>
     Some((place, Symbol { table, code }, rest))
 }
 
-/// The compressed position that some bytes begin with, its symbol, and the rest.
+/// The compressed position that some bytes begin with, its symbol, and the rest. It is the table
+/// of the symbol, four digits of base 91 for each angle, the code of the symbol, and the bytes c,
+/// s and T. `None` where the bytes don't begin so.
 #[tactic(auto, unfolding(crate::specs::Reader::compressed_of))]
 fn compressed_at_start(bytes: &[u8]) -> Option<(Place, Symbol, &[u8])>
     ensures { option_map (λ x. (x.0, x.1, x.2.now)) result ≡ compressed_of bytes.now }
@@ -131,7 +135,8 @@ fn compressed_at_start(bytes: &[u8]) -> Option<(Place, Symbol, &[u8])>
     ))
 }
 
-/// The position that some bytes begin with, its symbol, and the rest.
+/// The position that some bytes begin with, its symbol, and the rest. The position is plain where
+/// the first byte is a digit, and else compressed. `None` where the bytes begin with no position.
 #[tactic(auto, unfolding(crate::specs::Reader::place_of))]
 pub fn place_at_start(bytes: &[u8]) -> Option<(Place, Symbol, &[u8])>
     ensures { option_map (λ x. (x.0, x.1, x.2.now)) result ≡ place_of bytes.now }

@@ -89,7 +89,9 @@ impl<'a> Report<'a> {
     ghost use Rattle.aprs_report.specs.Reading.{view, kind_of, Reads};
     ghost use Rattle.aprs_report.specs.Reader.{reading_of};
 
-    /// What an information field says. Every field is some report; what has no other form is raw.
+    /// What an information field says. This can't fail: a field that has the form of no other
+    /// report is `Raw`. Promised by `reads` is that the field has the form of the report, or of
+    /// none where that is `Raw`; by `value`, that the report is a function of the field's bytes.
     /// Takes no memory.
     #[inline(always)]
     pub fn read(info: &'a [u8]) -> Report<'a>
@@ -102,7 +104,7 @@ impl<'a> Report<'a> {
         }
     }
 
-    /// The kind's name in lower case, as `position`. Takes no memory.
+    /// The name of the report's kind in lower case, as `position`. Takes no memory.
     pub fn kind(&self) -> &'static str
         ensures { result.now ≡ kind_of (view self.now) }
     {

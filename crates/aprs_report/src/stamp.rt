@@ -26,7 +26,8 @@ fn all_digits(bytes: &[u8]) -> bool
     bytes.iter().all(|byte| is_digit_byte(*byte))
 }
 
-/// The mark of a stamp, and the rest.
+/// The mark of a time stamp (`z`, `/` or `h`) that some bytes begin with, and the rest, or `None`
+/// where they don't begin so.
 fn mark_at_start(bytes: &[u8]) -> Option<(u8, &[u8])>
     ensures { option_map (λ x. (x.0, x.1.now)) result ≡ byte_of is_mark bytes.now }
 {
@@ -36,7 +37,8 @@ fn mark_at_start(bytes: &[u8]) -> Option<(u8, &[u8])>
     }
 }
 
-/// The stamp that some bytes begin with, and the rest.
+/// The time stamp that some bytes begin with, six digits and a mark (`z`, `/` or `h`), and the
+/// rest. `None` where they don't begin so.
 #[tactic(auto, unfolding(crate::specs::Reader::stamp_at))]
 pub fn stamp_at_start(bytes: &[u8]) -> Option<(Stamp, &[u8])>
     ensures { option_map (λ x. (x.0, x.1.now)) result ≡ stamp_at bytes.now }

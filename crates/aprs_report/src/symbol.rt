@@ -30,7 +30,8 @@ fn is_code_byte(byte: u8) -> bool
     b'!' <= byte && byte <= b'~'
 }
 
-/// The table that a plain position names, and the rest.
+/// The first byte, which names a table of symbols as in a plain position, and the rest. `None`
+/// where it names no table, or where there is no byte.
 pub fn table_at_start(bytes: &[u8]) -> Option<(u8, &[u8])>
     ensures { option_map (λ x. (x.0, x.1.now)) result ≡ byte_of is_table bytes.now }
 {
@@ -40,7 +41,8 @@ pub fn table_at_start(bytes: &[u8]) -> Option<(u8, &[u8])>
     }
 }
 
-/// The code of a symbol, and the rest.
+/// The first byte, which is the code of a symbol, and the rest. `None` where it is no code, or
+/// where there is no byte.
 pub fn code_at_start(bytes: &[u8]) -> Option<(u8, &[u8])>
     ensures { option_map (λ x. (x.0, x.1.now)) result ≡ byte_of is_code bytes.now }
 {
@@ -50,7 +52,8 @@ pub fn code_at_start(bytes: &[u8]) -> Option<(u8, &[u8])>
     }
 }
 
-/// The table that a byte of a compressed position stands for.
+/// The table of symbols that a byte of a compressed position stands for: `a` to `j` for `0` to
+/// `9`, and `/`, `\` and `A` to `Z` for themselves. `None` for any other byte.
 fn table_by_name(byte: u8) -> Option<u8>
     ensures { result ≡ table_of_byte byte }
 {
@@ -61,7 +64,8 @@ fn table_by_name(byte: u8) -> Option<u8>
     }
 }
 
-/// The table that a compressed position names, and the rest.
+/// The table of symbols that the first byte stands for in a compressed position, and the rest.
+/// `None` where it stands for no table, or where there is no byte.
 #[tactic(auto, unfolding(crate::specs::Reader::table_at))]
 pub fn compressed_table_at_start(bytes: &[u8]) -> Option<(u8, &[u8])>
     ensures { option_map (λ x. (x.0, x.1.now)) result ≡ table_at bytes.now }

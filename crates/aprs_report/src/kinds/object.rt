@@ -12,7 +12,8 @@ use crate::place::place_at_start;
 use crate::report::Report;
 use crate::stamp::stamp_at_start;
 
-/// Whether the first byte is the mark of a live one or `_`, and the rest.
+/// Whether an object or an item is live, and the rest, from bytes that begin with its mark: the
+/// byte `live` where it is live, `_` where it is killed. `None` where they begin with neither.
 fn state_at_start(live: u8, bytes: &[u8]) -> Option<(bool, &[u8])>
     ensures { option_map (λ x. (x.0, x.1.now)) result ≡ state_of live bytes.now }
 {
@@ -46,7 +47,8 @@ pub fn object(bytes: &[u8]) -> Option<Report<'_>>
     })
 }
 
-/// Where the first mark of an item stands.
+/// The index of the first `!` or `_`, which is the mark of an item, or `None` where there is
+/// none.
 fn place_of_mark(bytes: &[u8]) -> Option<usize>
     ensures exact { result ≡ position is_item_mark bytes.now }
     ensures within { IfSome result (λ i. i < length bytes.now) }
@@ -54,7 +56,8 @@ fn place_of_mark(bytes: &[u8]) -> Option<usize>
     bytes.iter().position(|byte| *byte == b'!' || *byte == b'_')
 }
 
-/// An item's name as it stands before the mark, and the rest.
+/// The bytes before an item's mark, which are its name, and the rest, from the mark on. `None`
+/// where there is no mark, or where the name isn't three to nine bytes.
 #[tactic(auto, unfolding(crate::specs::Reader::item_field_of))]
 fn item_field(bytes: &[u8]) -> Option<(&[u8], &[u8])>
     ensures { option_map (λ x. (x.0.now, x.1.now)) result ≡ item_field_of bytes.now }
@@ -67,7 +70,10 @@ fn item_field(bytes: &[u8]) -> Option<(&[u8], &[u8])>
     }
 }
 
-/// An item, from the bytes after the first.
+/// An item, from the bytes of an information field after its first, `)`: a name of three to nine
+/// bytes, `!` where it is live or `_` where it is killed, a position with its symbol, and a
+/// comment (APRS Protocol Reference 1.0.1, chapter 11). `None` where one of these but the comment
+/// can't be read.
 #[tactic(auto, unfolding(crate::specs::Reader::item_of))]
 pub fn item(bytes: &[u8]) -> Option<Report<'_>>
     ensures { option_map view result ≡ item_of bytes.now }

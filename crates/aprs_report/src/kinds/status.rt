@@ -8,7 +8,8 @@ ghost use Rattle.aprs_report.specs.Reader.{utc_at, status_of};
 use crate::report::Report;
 use crate::stamp::{Stamp, stamp_at_start};
 
-/// The stamp of day, hour and minute in UTC that some bytes begin with, and the rest.
+/// The stamp of day, hour and minute in UTC (its mark is `z`) that some bytes begin with, and the
+/// rest, or `None` where they don't begin so.
 #[tactic(auto, unfolding(crate::specs::Reader::utc_at))]
 fn utc_at_start(bytes: &[u8]) -> Option<(Stamp, &[u8])>
     ensures { option_map (λ x. (x.0, x.1.now)) result ≡ utc_at bytes.now }

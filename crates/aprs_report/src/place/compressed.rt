@@ -8,7 +8,8 @@ use crate::numeral::numeral;
 /// 180 degrees of latitude or 360 of longitude: the greatest number of a compressed position.
 pub const MAX_BASE91: u32 = 68_566_680;
 
-/// A number of at most `MAX_BASE91`, of four digits in base 91.
+/// The number that four digits of base 91 spell, of which `!` is 0, or `None` where a byte is no
+/// such digit or the number is greater than `MAX_BASE91`.
 #[tactic(auto, unfolding(crate::specs::Reader::base91_of))]
 pub fn base91(text: &[u8; 4]) -> Option<u32>
     ensures { result ≡ base91_of text.now }

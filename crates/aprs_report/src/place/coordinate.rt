@@ -21,7 +21,7 @@ pub enum Axis {
 impl Axis {
     ghost use Rattle.aprs_report.specs.Coordinate.{limit, letter, is_blank};
 
-    /// 90 or 180 degrees, in hundredths of minutes.
+    /// The greatest angle in hundredths of minutes: 90 degrees of latitude, 180 of longitude.
     fn limit(self) -> u32
         ensures { result ≡ limit self }
     {
@@ -31,7 +31,7 @@ impl Axis {
         }
     }
 
-    /// The letter of the negative or the positive half.
+    /// The letter of a half of the globe, of which the south and the west are negative.
     fn letter(self, is_negative: bool) -> u8
         ensures { result ≡ letter self is_negative }
     {
@@ -43,7 +43,8 @@ impl Axis {
         }
     }
 
-    /// Whether a byte may stand at an ambiguous place.
+    /// Whether a byte may stand where a digit of the minutes is left out: a space. In a longitude
+    /// it may be a digit too, since the latitude shows how many digits are left out.
     fn can_blank(self, byte: u8) -> bool
         ensures { result ≡ is_blank self byte }
     {
@@ -53,14 +54,15 @@ impl Axis {
         }
     }
 
-    /// Whether each of these places may be ambiguous.
+    /// Whether each of the bytes may stand where a digit of the minutes is left out.
     fn all_blank(self, places: &[u8]) -> bool
         ensures { result ≡ list_all (is_blank self) places.now }
     {
         places.iter().all(|place| self.can_blank(*place))
     }
 
-    /// Whether a letter names the negative half.
+    /// Whether the half of the globe that a letter names is negative: south or west. `None` where
+    /// it is no letter of this axis.
     fn half(self, letter: u8) -> Option<bool>
         ensures { result ≡ Spec.half_of self letter }
     {
@@ -74,7 +76,8 @@ impl Axis {
     }
 }
 
-/// How many of the minutes' four digits are left out, counted from the right: 0 to 4.
+/// How many of the four digits of minutes in `MM.hhN` are left out: the number of spaces at their
+/// right end, 0 to 4.
 pub fn ambiguity(text: &[u8; 6]) -> u8
     ensures exact { result ≡ Spec.ambiguity_of text.now }
     ensures small { result ≤ 4 }
@@ -84,7 +87,7 @@ pub fn ambiguity(text: &[u8; 6]) -> u8
     4 - Trailing::Spaces.cut(&places).len() as u8
 }
 
-/// 1 to 10,000.
+/// Ten to the power of this exponent, 0 to 4: 1 to 10,000.
 fn power_of_ten(exponent: u8) -> u64
     requires { exponent ≤ 4 }
     ensures exact { result ≡ 10 ^ exponent }
@@ -99,7 +102,7 @@ fn power_of_ten(exponent: u8) -> u64
     }
 }
 
-/// The minutes, where they are less than a degree.
+/// These hundredths of minutes, or `None` where they make a degree or more.
 fn within_degree(minutes: u64) -> Option<u64>
     ensures exact { result ≡ Spec.value_when (nat_lt minutes per_degree) minutes }
     ensures small { IfSome result (λ n. n < per_degree) }
@@ -111,7 +114,9 @@ fn within_degree(minutes: u64) -> Option<u64>
     }
 }
 
-/// The minutes in hundredths, of their four digits, of which the last are ambiguous.
+/// The minutes in hundredths, from the bytes of their tens, units, tenths and hundredths. The
+/// last of these, as many as `ambiguity` says, are left out and read as 0. `None` where a byte
+/// can't stand at its place, or where the minutes make a degree or more.
 #[inline(always)]
 #[tactic(auto, unfolding(crate::specs::Reader::minutes_of))]
 fn minutes(axis: Axis, ambiguity: u8, places: &[u8; 4]) -> Option<u64>
@@ -120,7 +125,7 @@ fn minutes(axis: Axis, ambiguity: u8, places: &[u8; 4]) -> Option<u64>
     ensures small { IfSome result (λ n. n < per_degree) }
 {
     if ambiguity == 0 {
-        // As nearly everywhere. That there are four digits is known here before the program runs.
+        // As in nearly all positions. Here the compiler knows that there are four digits.
         return within_degree(numeral(10, b'0', places)? as u64);
     }
     let (known, blank) = places.split_at(4 - ambiguity as usize);
@@ -130,7 +135,10 @@ fn minutes(axis: Axis, ambiguity: u8, places: &[u8; 4]) -> Option<u64>
     within_degree(numeral(10, b'0', known)? as u64 * power_of_ten(ambiguity))
 }
 
-/// An angle in hundredths of minutes, from its degrees and from `MM.hh` and the letter of its half.
+/// An angle in hundredths of minutes, negative to the south and the west, from the digits of its
+/// degrees, and from `MM.hh` with the letter of its half of the globe. The last digits of the
+/// minutes, as many as `ambiguity` says, are left out and read as 0. `None` where a byte can't
+/// stand at its place, or where the angle is over 90 degrees of latitude or 180 of longitude.
 #[inline(always)]
 #[tactic(auto, unfolding(crate::specs::Reader::angle_of))]
 pub fn angle(axis: Axis, ambiguity: u8, degrees: &[u8], text: &[u8; 6]) -> Option<i32>
