@@ -31,7 +31,9 @@ pub struct RowView<'a> {
     names: &'a [u8],
     receiver: &'a [u8],
     frame: &'a [u8],
+    /// Where the frame's information begins.
     info_at: u8,
+    /// The head of the frame's key.
     head: Head,
 }
 
