@@ -12,7 +12,8 @@ pub record IsBest (S : List Heard) (P : Key → Type 0) (g : Heard) : Type 0 whe
   pub property : P (key_of g.frame)
   pub greatest : (s : Heard) → s ∈ S → P (key_of s.frame) → IsUpTo heard_cmp s g
 
--- That member, or none where no member's key has the property.
+-- What is last known: the greatest of the receptions in S whose key has the property, or none where
+-- there are none of these.
 abbrev pub LastKnown : List Heard → (Key → Type 0) → Option Heard → Type 0
 LastKnown S P None = (s : Heard) → s ∈ S → P (key_of s.frame) → ⊥
 LastKnown S P (Some g) = IsBest S P g

@@ -10,7 +10,7 @@ abbrev pub merge_fault_number : MergeFault → ℕ
 merge_fault_number merge_fault.OtherGap = 1
 merge_fault_number merge_fault.Memory = 2
 
--- Its name.
+-- The name of each fault of a merge.
 abbrev pub merge_fault_name : MergeFault → List ℕ
 merge_fault_name merge_fault.OtherGap = codes "OtherGap"
 merge_fault_name merge_fault.Memory = codes "Memory"
@@ -20,7 +20,7 @@ abbrev pub widen_fault_number : WidenFault → ℕ
 widen_fault_number widen_fault.Narrower = 1
 widen_fault_number widen_fault.Memory = 2
 
--- Its name.
+-- The name of each fault of a widening.
 abbrev pub widen_fault_name : WidenFault → List ℕ
 widen_fault_name widen_fault.Narrower = codes "Narrower"
 widen_fault_name widen_fault.Memory = codes "Memory"

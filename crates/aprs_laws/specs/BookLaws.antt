@@ -34,7 +34,8 @@ SoundRowsAreBooks gap = (p : List Row) → Sound gap p ↔ ((S : List Heard) × 
 abbrev pub WitnessesHaveBook : ℕ → Type 0
 WitnessesHaveBook gap = (p : List Row) → Sound gap p → BookOf gap (witnesses p) p
 
--- What is added to sets with one book gives one book again.
+-- Where S and S' have one book, and T and T' have one, the unions of S and T and of S' and T' have
+-- one.
 abbrev pub BooksDecideUnion : ℕ → Type 0
 BooksDecideUnion gap =
     (S S' T T' : List Heard) (p q c : List Row)

@@ -14,7 +14,7 @@ hi_after_digipeater =
     130 ∷ 160 ∷ 164 ∷ 166 ∷ 64 ∷ 64 ∷ 224 ∷ 156 ∷ 96 ∷ 134 ∷ 130 ∷ 152 ∷ 152 ∷ 110
     ∷ 174 ∷ 146 ∷ 136 ∷ 138 ∷ 98 ∷ 64 ∷ 227 ∷ 3 ∷ 240 ∷ 62 ∷ 72 ∷ 105 ∷ []
 
--- The same, with the C bits the other way round.
+-- The frame of `hi_after_digipeater`, with the C bits the other way round.
 abbrev pub hi_as_response : List ℕ
 hi_as_response =
     130 ∷ 160 ∷ 164 ∷ 166 ∷ 64 ∷ 64 ∷ 96 ∷ 156 ∷ 96 ∷ 134 ∷ 130 ∷ 152 ∷ 152 ∷ 238
@@ -26,7 +26,7 @@ of_other =
     130 ∷ 160 ∷ 164 ∷ 166 ∷ 64 ∷ 64 ∷ 224 ∷ 156 ∷ 96 ∷ 134 ∷ 130 ∷ 152 ∷ 152 ∷ 113
     ∷ 3 ∷ 240 ∷ 62 ∷ 72 ∷ 105 ∷ []
 
--- The key of the first three.
+-- The key of `hi_frame`, `hi_after_digipeater` and `hi_as_response`.
 abbrev pub hi_key : Key
 hi_key = record {
   source = record { letters = codes "N0CALL"; ssid = 7 };
@@ -75,7 +75,7 @@ half_minute = 30000
 abbrev pub near_pair : List Heard
 near_pair = by_rx1 30000 ∷ early ∷ []
 
--- Their row.
+-- The row of `near_pair`.
 abbrev pub near_row : Row
 near_row = row_of 0 (rx1 ∷ rx2 ∷ []) (by_rx1 30000)
 
@@ -83,15 +83,15 @@ near_row = row_of 0 (rx1 ∷ rx2 ∷ []) (by_rx1 30000)
 abbrev pub far_pair : List Heard
 far_pair = by_rx1 30001 ∷ early ∷ []
 
--- The row of the earlier one.
+-- The row of the earlier reception of `far_pair`.
 abbrev pub early_row : Row
 early_row = row_of 0 (rx2 ∷ []) early
 
--- The row of the later one.
+-- The row of the later reception of `far_pair`.
 abbrev pub late_row : Row
 late_row = row_of 30001 (rx1 ∷ []) (by_rx1 30001)
 
--- These rows, under a gap in seconds.
+-- The rows `early_row` and `late_row` as a book under a gap in seconds. They are near from 31 on.
 abbrev pub book_under : ℕ → BookValue
 book_under gap = record { gap = gap; rows = early_row ∷ late_row ∷ [] }
 
@@ -99,7 +99,7 @@ book_under gap = record { gap = gap; rows = early_row ∷ late_row ∷ [] }
 abbrev pub tied_pair : List Heard
 tied_pair = by_rx1 0 ∷ early ∷ []
 
--- Their row.
+-- The row of `tied_pair`.
 abbrev pub tied_row : Row
 tied_row = row_of 0 (rx1 ∷ rx2 ∷ []) early
 
@@ -123,11 +123,12 @@ row_to first last = row_of first (rx1 ∷ []) (by_rx1 last)
 abbrev pub key_by : ℕ → List ℕ → Key
 key_by ssid info = record { source = n0call ssid; destination = n0call 0; info = info }
 
--- The second place takes what stands in the first, which then has one more.
-abbrev pub merge_then_take : List Step
-merge_then_take = Take 0 (by_rx1 0) ∷ Merge 1 0 ∷ Take 0 (by_rx1 30001) ∷ []
+-- Place 0 takes a reception, place 1 takes what place 0 has, and then place 0 takes one more.
+abbrev pub take_merge_take : List Step
+take_merge_take = Take 0 (by_rx1 0) ∷ Merge 1 0 ∷ Take 0 (by_rx1 30001) ∷ []
 
--- Each place takes one, and then what the other has, and one takes what it has itself.
+-- Two places take a reception each, then each what the other has, and then place 0 what it has
+-- itself.
 abbrev pub back_and_forth : List Step
 back_and_forth =
     Take 0 (by_rx1 0) ∷ Take 1 (heard 20 rx2 hi_frame)

@@ -18,7 +18,7 @@ abbrev pub ascending_union : {X : Type 0} → (X → X → Ordering) → List X 
 ascending_union cmp [] ys = ys
 ascending_union cmp (x ∷ xs) ys = ascending_union_from cmp x xs (ascending_union cmp xs) ys
 
--- That is the joined value of ascending lists.
+-- The one list that is made of two ascending lists in one pass is their joined value.
 abbrev pub MergesInOnePass : {X : Type 0} → (X → X → Ordering) → Type 0
 MergesInOnePass {X} cmp =
     (a b : List X) → Ordered (IsBelow cmp) a → Ordered (IsBelow cmp) b

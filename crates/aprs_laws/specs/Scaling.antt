@@ -9,7 +9,7 @@ abbrev pub scaled_heard : ℕ → Heard → Heard
 scaled_heard factor s =
     record { moment = s.moment * factor; receiver = s.receiver; frame = s.frame }
 
--- The same row in the other unit.
+-- The same row, all its moments counted in units of which one of the old has `factor`.
 abbrev pub scaled_row : ℕ → Row → Row
 scaled_row factor x = record {
   first = x.first * factor;
@@ -17,12 +17,12 @@ scaled_row factor x = record {
   greatest = scaled_heard factor x.greatest;
 }
 
--- The same rows in the other unit.
+-- The same rows, all their moments counted in units of which one of the old has `factor`.
 abbrev pub scaled_rows : ℕ → List Row → List Row
 scaled_rows factor rows = map (scaled_row factor) rows
 
--- The same rows in the finer unit are the book of the same receptions in it, under the same gap in
--- it; and no other rows of the old unit are.
+-- Rows are the book of S under a gap exactly if they still are with all moments and the gap counted
+-- in the finer unit.
 abbrev pub ScalesBook : Type 0
 ScalesBook =
     (factor gap : ℕ) (S : List Heard) (rows : List Row) → 0 < factor

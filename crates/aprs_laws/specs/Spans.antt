@@ -10,7 +10,7 @@ pub record IsFirstMoment (S : List Heard) (P : Key → Type 0) (m : ℕ) : Type 
   pub heard : (s : Heard) × (s ∈ S) × P (key_of s.frame) × (s.moment ≡ m)
   pub least : (s : Heard) → s ∈ S → P (key_of s.frame) → m ≤ s.moment
 
--- The greatest such moment.
+-- The greatest moment at which S has a reception whose key has the property.
 pub record IsLastMoment (S : List Heard) (P : Key → Type 0) (m : ℕ) : Type 0 where
   pub heard : (s : Heard) × (s ∈ S) × P (key_of s.frame) × (s.moment ≡ m)
   pub greatest : (s : Heard) → s ∈ S → P (key_of s.frame) → s.moment ≤ m

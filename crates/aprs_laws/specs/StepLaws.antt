@@ -10,7 +10,7 @@ use Rattle.aprs_laws.specs.Taken.{Step, Take, Merge, sets_after}
 use Rattle.aprs_laws.specs.Inserted.{insert_heard, FitsInPlace, fits_in_place}
 use Rattle.aprs_laws.specs.JoinRow.{single, IsNear, join_row, merge, interleave, coalesced_rows, plain_book}
 
--- The plain way gives the book.
+-- Receptions that join one after another give their book.
 abbrev pub PlainBookIsBook : ℕ → Type 0
 PlainBookIsBook gap = (S : List Heard) → BookOf gap S (plain_book gap S)
 
@@ -36,7 +36,7 @@ abbrev pub OnlyNextFollows : ℕ → Type 0
 OnlyNextFollows gap =
     (p : List Row) (x : Row) → Sound gap p → Sound gap (p ++ x ∷ []) ↔ IsNext gap p x
 
--- One more sound row gives the joined rows.
+-- A row that is sound by itself and joins sound rows gives the joined rows of both.
 abbrev pub TakesRow : ℕ → Type 0
 TakesRow gap =
     (p : List Row) (r : Row) → Sound gap p → IsSoundRow r → Joined gap p (r ∷ []) (join_row gap p r)
@@ -47,14 +47,15 @@ TakesRows gap =
     (S T : List Heard) (p q : List Row) → BookOf gap S p → BookOf gap T q
     → BookOf gap (S ++ T) (merge gap p q)
 
--- Of three rows to which one reception is near, two are one.
+-- Of three rows of one book to which one reception is near, two are the same row.
 abbrev pub AtMostTwoAreNear : ℕ → Type 0
 AtMostTwoAreNear gap =
     (p : List Row) (s : Heard) (x y z : Row) → Sound gap p → x ∈ p → y ∈ p → z ∈ p
     → IsNear gap x (single s) → IsNear gap y (single s) → IsNear gap z (single s)
     → (x ≡ y) ⊎ (y ≡ z) ⊎ (x ≡ z)
 
--- The rows of two books in order, where each joins the one before it if they are near.
+-- The rows of two books, put in order, where each joins the one before it if they are near, are the
+-- joined rows of both.
 abbrev pub OnePassJoins : ℕ → Type 0
 OnePassJoins gap =
     (a b : List Row) → Sound gap a → Sound gap b

@@ -3,7 +3,7 @@ use Rattle.std.specs.Prelude.{ℕ, ◌<◌, ◌==◌, if◌then◌else◌, List,
 use Rattle.aprs_log.specs.Reception.{Heard}
 use Rattle.aprs_laws.specs.Lists.{◌∈◌}
 
--- A reception goes to a place; what stands at the second place goes to the first too.
+-- `Take`: a reception goes to a place. `Merge`: what the second place has goes to the first too.
 pub data Step : Type 0 where
   Take : ℕ → Heard → Step
   Merge : ℕ → ℕ → Step
@@ -22,7 +22,7 @@ after_steps (step ∷ steps) sets = after_steps steps (after_step step sets)
 abbrev pub sets_after : List Step → ℕ → List Heard
 sets_after steps = after_steps steps (λ k. [])
 
--- Every place is below n.
+-- Every place that the step names is below n.
 abbrev pub StepFits : ℕ → Step → Type 0
 StepFits n (Take i x) = i < n
 StepFits n (Merge i j) = (i < n) × (j < n)

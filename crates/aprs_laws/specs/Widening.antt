@@ -11,7 +11,7 @@ use Rattle.aprs_laws.specs.JoinRow.{coalesced_rows}
 abbrev pub widened_rows : ℕ → List Row → List Row
 widened_rows gap rows = coalesced_rows gap rows
 
--- That is the book of the same set.
+-- The widened rows of a set's book are the book of the same set under the other gap.
 abbrev pub WidensBook : Type 0
 WidensBook =
     (narrow wide : ℕ) (S : List Heard) (rows : List Row) → narrow ≤ wide → BookOf narrow S rows
@@ -23,11 +23,11 @@ WidenedIsSound =
     (narrow wide : ℕ) (rows : List Row) → 0 < narrow → narrow ≤ wide → Sound narrow rows
     → Sound wide (widened_rows wide rows)
 
--- An equal gap changes nothing.
+-- Widening under an equal gap changes nothing.
 abbrev pub KeepsUnderOwnGap : ℕ → Type 0
 KeepsUnderOwnGap gap = (rows : List Row) → 0 < gap → Sound gap rows → widened_rows gap rows ≡ rows
 
--- In two steps as in one.
+-- Widening in two steps gives what widening in one does.
 abbrev pub WidensInSteps : Type 0
 WidensInSteps =
     (narrow middle wide : ℕ) (rows : List Row) → 0 < narrow → narrow ≤ middle → middle ≤ wide

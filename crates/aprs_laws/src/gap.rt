@@ -30,7 +30,7 @@ impl Gap {
     /// The gap that a book has where no other is chosen: 30 seconds.
     pub const STANDARD: Gap = Gap { seconds: 30 };
 
-    /// The gap of so many seconds, or none where they are not 1 to 3,600. Takes no memory.
+    /// The gap of this many seconds, or `None` where they are not 1 to 3,600. Takes no memory.
     pub fn new(seconds: u64) -> Option<Gap>
         ensures { SomeIff result (IsGap seconds) seconds }
     {

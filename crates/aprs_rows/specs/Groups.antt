@@ -5,7 +5,7 @@ use Rattle.aprs_laws.specs.Row.{Row}
 use Rattle.aprs_rows.specs.Names.{names_in}
 use Rattle.aprs_rows.specs.declared.store.group.Group.{Group}
 
--- The rows of the bytes, one for each part, which takes so many of them.
+-- One row for each part, of the bytes that are the part's own, which lie one after another.
 module _ {E : Type 0} (size : E → ℕ) (row : E → List ℕ → Row) where
   abbrev pub rows_of : List E → List ℕ → List Row
   rows_of [] bytes = []
@@ -17,7 +17,7 @@ module _ {E : Type 0} (size : E → ℕ) (Fits : E → List ℕ → Type 0) wher
   AreOf [] bytes = bytes ≡ []
   AreOf (e ∷ es) bytes = Fits e (take (size e) bytes) × AreOf es (drop (size e) bytes)
 
--- The names of a text of so many bytes, and these where it has none.
+-- The names in a text of this many bytes, or `names` where it has none.
 abbrev pub names_or : ℕ → List ℕ → List (List ℕ) → List (List ℕ)
 names_or zero text names = names
 names_or (suc n) text names = names_in text

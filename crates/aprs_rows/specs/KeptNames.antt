@@ -4,7 +4,7 @@ use Rattle.aprs_rows.specs.declared.joining.kept_names.KeptNames.{KeptNames}
 use Rattle.aprs_rows.specs.declared.joining.kept_names.KeptNames.TheVariants.{One, Many}
 
 module _ {A : Type 0} where
-  -- the names that are kept
+  -- The names that are kept.
   abbrev pub names_in : KeptNames A → List (List ℕ)
   names_in (One alloc name) = name ∷ []
   names_in (Many names) = names.items

@@ -39,7 +39,8 @@ row_bytes x = join_with_byte 44 x.receivers ++ (x.greatest.receiver ++ x.greates
 abbrev pub size_of : Entry → ℕ
 size_of e = e.receivers + (e.receiver + e.frame)
 
--- The row of these bytes, as the entry says how many are whose.
+-- The row of these bytes. The entry says how many of them are the text of the receivers, and how
+-- many after these the greatest reception's receiver; the rest is the frame.
 abbrev pub entry_row : Entry → List ℕ → Row
 entry_row e bytes =
     row_of_text e.first e.last (take e.receivers bytes) (take e.receiver (drop e.receivers bytes))
@@ -68,7 +69,7 @@ AreRowsIn entries bytes = AllByRecursion (λ e. IsRowIn e (bytes_of e bytes)) en
 abbrev pub info_of : Entry → List ℕ → List ℕ
 info_of e bytes = drop (e.receivers + (e.receiver + e.info_at)) (bytes_of e bytes)
 
--- Entries are ordered by their heads, then by what is of the information, then by the first moment.
+-- Entries are ordered by their heads, then by the information, then by the first moment.
 abbrev pub entry_cmp : List ℕ → Entry → Entry → Ordering
 entry_cmp bytes = then_cmp (on (λ e. e.head) head_cmp)
     (then_cmp (on (λ e. info_of e bytes) bytes_cmp) (on (λ e. e.first) nat_cmp))

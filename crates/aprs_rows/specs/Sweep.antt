@@ -35,7 +35,8 @@ pub record HasNames (x : Row) : Type 0 where
   pub each : All IsName x.receivers
   pub ascending : Ordered (IsBelow bytes_cmp) x.receivers
 
--- Names are gathered of open rows, some if they are more than one, and none else.
+-- No name is gathered while a single row is open, and at least one where more are. All are names,
+-- and those of the row with the greatest reception are names that ascend.
 pub record AreGathered (o : Open) (names : List (Bor (List ℕ))) : Type 0 where
   pub own : HasNames o.greatest
   pub each : All IsName (gathered_names names)

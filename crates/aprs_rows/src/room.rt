@@ -4,8 +4,8 @@ ghost use Rattle.std.specs.Prelude.{◌≡◌, ◌<◌, OnOk, vec_len, vec_capac
 use crate::Memory;
 use std::alloc::Allocator;
 
-/// Makes room for one more item where there is none, and for an eighth of those that are there, so
-/// that little memory lies idle. The items stay as they are, also after `Memory`.
+/// Makes room for one more item. Where there is none, takes room for an eighth of the items and one
+/// more, so that little memory lies idle. The items stay as they are, also after `Memory`.
 pub fn reserve_one<T, A: Allocator>(items: &mut Vec<T, A>) -> Result<(), Memory>
     ensures items { items.new.items ≡ items.old.items }
     ensures room { OnOk result (vec_len items.new < vec_capacity items.new) }

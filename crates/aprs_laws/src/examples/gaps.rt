@@ -17,7 +17,9 @@ pub fn gaps_are_of_seconds()
     ensures misses_more { IsGap 3601 → ⊥ }
 {}
 
-/// A book holds a set under its own gap, and is joined with books of that gap alone.
+/// A book holds a set under its own gap, which is at least a second, and is joined with books of
+/// that gap alone. Rows that are far enough apart under 30 seconds, and not under 31, become one
+/// row where the book is widened.
 pub fn books_have_gaps()
     ensures holds { Holds far_pair (book_under 30) }
     ensures misses_gap { Holds far_pair (book_under 31) → ⊥ }

@@ -7,7 +7,8 @@ ghost use Rattle.aprs_laws.specs.Merged.{ascending_union};
 ghost use Rattle.aprs_laws.specs.Examples.{half_minute, rx1, rx2, by_rx1, early, near_row, early_row, late_row, close_row, TakesFirst};
 
 /// A join of two receptions is the greater one, and a join of two lists of receivers has the names
-/// of both, each once. A rule that always gives the first value is no join.
+/// of both, each once. A rule that always gives the first value is no join. Where items are joined
+/// to a start, the start counts too.
 pub fn joins_take_both()
     ensures greater { IsGreaterOf early (by_rx1 30001) (by_rx1 30001) }
     ensures misses_lesser { IsGreaterOf early (by_rx1 30001) early → ⊥ }

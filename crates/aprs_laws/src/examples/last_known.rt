@@ -4,7 +4,8 @@ ghost use Rattle.aprs_laws.specs.Best.{IsBest, LastKnown, known_of};
 ghost use Rattle.aprs_laws.specs.BestLaws.{Passes};
 ghost use Rattle.aprs_laws.specs.Examples.{any_key, by_rx1, early, far_pair};
 
-/// What comes last in a list is not what is last known.
+/// What is last known is the greatest reception, and not the one that comes last in the list. Where
+/// the key of any reception passes the test, something is last known.
 pub fn greatest_is_last_known()
     ensures best { IsBest far_pair (Passes any_key) (by_rx1 30001) }
     ensures plain { known_of any_key None far_pair ≡ Some (by_rx1 30001) }

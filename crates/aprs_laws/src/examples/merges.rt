@@ -3,12 +3,14 @@ ghost use Rattle.std.specs.Prelude.{◌≡◌, [], ◌∷◌};
 ghost use Rattle.aprs_laws.specs.Lists.{◌∈◌};
 ghost use Rattle.aprs_laws.specs.Taken.{sets_after, StepsFit};
 ghost use Rattle.aprs_laws.specs.StepLaws.{rows_after_steps};
-ghost use Rattle.aprs_laws.specs.Examples.{half_minute, hi_frame, rx1, rx2, heard, by_rx1, row_of, merge_then_take, back_and_forth};
+ghost use Rattle.aprs_laws.specs.Examples.{half_minute, hi_frame, rx1, rx2, heard, by_rx1, row_of, take_merge_take, back_and_forth};
 
-/// A merge takes what the other place has then, and not what comes there later.
+/// A merge takes what the other place has then, and not what comes there later. Steps fit a number
+/// of places if each place that they name is below it. Two places that take from each other have
+/// the same book afterwards.
 pub fn merges_take_what_is_there()
-    ensures taken { sets_after merge_then_take 1 ≡ by_rx1 0 ∷ [] }
-    ensures misses_later { by_rx1 30001 ∈ sets_after merge_then_take 1 → ⊥ }
+    ensures taken { sets_after take_merge_take 1 ≡ by_rx1 0 ∷ [] }
+    ensures misses_later { by_rx1 30001 ∈ sets_after take_merge_take 1 → ⊥ }
 
     ensures fits { StepsFit 2 back_and_forth }
     ensures misses_place { StepsFit 1 back_and_forth → ⊥ }

@@ -6,7 +6,7 @@ ghost use Rattle.aprs_laws.specs.Order.{IsBelow, IsUpTo};
 ghost use Rattle.aprs_laws.specs.Examples.{rx1, rx2, by_rx1};
 
 /// Two lists have the same members in whatever order and however often. Ascending lists have no
-/// repeats.
+/// repeats. A value is up to itself, and not below itself.
 pub fn sets_and_orders()
     ensures members { SameMembers (rx1 ∷ rx2 ∷ rx1 ∷ []) (rx2 ∷ rx1 ∷ []) }
     ensures misses_member { SameMembers (rx1 ∷ []) (rx1 ∷ rx2 ∷ []) → ⊥ }

@@ -5,7 +5,8 @@ ghost use Rattle.aprs_laws.specs.Book.{BookOf};
 ghost use Rattle.aprs_laws.specs.JoinRow.{plain_book};
 ghost use Rattle.aprs_laws.specs.Examples.{half_minute, hi_frame, hi_after_digipeater, hi_as_response, rx1, rx2, heard, by_rx1, early, row_of, row_at, row_to, near_pair, near_row, far_pair, early_row, late_row, tied_pair, tied_row};
 
-/// A row has its transmission's greatest reception, and all of its receivers.
+/// A row has its transmission's greatest reception, and all of its receivers. A reception after its
+/// last moment is not of it.
 pub fn rows_are_whole()
     ensures is_of { IsOf near_row early }
     ensures misses_later { IsOf early_row (by_rx1 30001) → ⊥ }
@@ -23,7 +24,9 @@ pub fn books_are_whole()
     ensures misses_order { BookOf half_minute far_pair (late_row ∷ early_row ∷ []) → ⊥ }
 {}
 
-/// Neighbours 30 seconds apart are of one transmission, and 30,001 milliseconds apart of two.
+/// Neighbours 30 seconds apart are of one transmission, and 30,001 milliseconds apart of two. One
+/// more reception that is near to two rows makes them one, and a further one between its first and
+/// its last moment doesn't change that row.
 pub fn gaps_decide_rows()
     ensures thirty_joins { plain_book half_minute near_pair ≡ near_row ∷ [] }
     ensures a_millisecond_more_does_not { plain_book half_minute far_pair

@@ -5,7 +5,9 @@ ghost use Rattle.aprs_laws.specs.Sound.{Sound, IsNext};
 ghost use Rattle.aprs_laws.specs.Witnesses.{witnesses};
 ghost use Rattle.aprs_laws.specs.Examples.{half_minute, hi_frame, rx1, rx2, heard, by_rx1, row_of, early_row, late_row, close_row, short_row};
 
-/// Rows that no set has are not sound.
+/// Rows that no set has are not sound: those with a greatest reception that isn't by the last
+/// receiver where all is at one moment, with near rows of one key, or with receivers that don't
+/// ascend. A row that is near to the last one can't be next.
 pub fn soundness_is_seen_in_rows()
     ensures sound { Sound half_minute (short_row ∷ []) }
     ensures misses_greatest { Sound half_minute (row_of 1 (rx1 ∷ rx2 ∷ []) (by_rx1 1) ∷ []) → ⊥ }

@@ -5,7 +5,9 @@ ghost use Rattle.aprs_laws.specs.Coalescing.{AreInOrder, StandFor, append_or_joi
 ghost use Rattle.aprs_laws.specs.Inserted.{insert_heard, FitsInPlace};
 ghost use Rattle.aprs_laws.specs.Examples.{half_minute, hi_frame, rx2, heard, by_rx1, early, row_at, row_to, early_row, late_row, tied_row, short_row};
 
-/// Gaps decide in the same way where receptions are inserted one by one, as the code does it.
+/// A reception that code inserts into rows becomes a row of its own where it is far from all, makes
+/// a near row longer, makes two near rows one, or, inside a row that has its receiver, changes
+/// nothing.
 pub fn gaps_decide_what_is_inserted()
     ensures apart { insert_heard half_minute (by_rx1 60001) (row_at 0 ∷ [])
         ≡ row_at 0 ∷ row_at 60001 ∷ [] }
@@ -29,7 +31,9 @@ pub fn rows_are_near_up_to_the_gap()
         (heard 10 rx2 hi_frame) → ⊥ }
 {}
 
-/// Rows in order join the last so far or come after it, whatever book or log each is of.
+/// Of rows in order each joins the last so far, where it is near to that, or comes after it. Rows
+/// that aren't in order are neither sorted nor put in their place. A row stands for all its
+/// witnesses, and for no fewer.
 pub fn rows_in_order_are_one_book()
     ensures in_order { AreInOrder (early_row ∷ row_at 0 ∷ late_row ∷ []) }
     ensures misses_later_first { AreInOrder (late_row ∷ early_row ∷ []) → ⊥ }
@@ -43,7 +47,8 @@ pub fn rows_in_order_are_one_book()
 
     ensures appended { append_or_join half_minute (row_at 0 ∷ row_at 60001 ∷ []) (row_at 90001)
         ≡ row_at 0 ∷ row_to 60001 90001 ∷ [] }
-    ensures misses_bridge { append_or_join half_minute (row_at 0 ∷ row_at 60001 ∷ []) (row_at 30000)
+    ensures misses_insertion { append_or_join half_minute (row_at 0 ∷ row_at 60001 ∷ [])
+        (row_at 30000)
         ≡ row_at 0 ∷ row_at 30000 ∷ row_at 60001 ∷ [] → ⊥ }
 
     ensures stands { StandFor (early_row ∷ []) (early ∷ []) }

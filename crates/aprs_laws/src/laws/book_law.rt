@@ -10,7 +10,8 @@ pub fn sets_have_one_book()
 {}
 
 /// Sound rows are exactly the books, and each is the book of its witnesses: of receptions that, if
-/// heard, would give exactly these rows.
+/// heard, would give exactly these rows. Under a gap of 0, which no book can have, the law is only
+/// that books are sound.
 pub fn sound_rows_are_books()
     ensures sound { (gap : ℕ) → Spec.BooksAreSound gap }
     ensures exactly { (gap : ℕ) → 0 < gap → Spec.SoundRowsAreBooks gap }

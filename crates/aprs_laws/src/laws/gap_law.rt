@@ -4,7 +4,8 @@ ghost use Rattle.aprs_laws.specs.BookValue.{WidenedHolds, WidensJoinedBooks};
 ghost use Rattle.aprs_laws.specs.Widening as Spec;
 
 /// One pass over the rows of a book, which joins neighbours that are near under a gap that is not
-/// less, gives the book of the same set under that gap. So widening and joining change places.
+/// less, gives the book of the same set under that gap. The rows stay sound, an equal gap changes
+/// nothing, two steps give what one gives, and widened books join to the widened join.
 pub fn gaps_can_be_widened()
     ensures book { Spec.WidensBook }
     ensures sound { Spec.WidenedIsSound }

@@ -8,13 +8,15 @@ ghost use Rattle.aprs_laws.specs.BookValue.{IsSoundBook, HaveOneGap, AreJoined, 
 ghost use Rattle.aprs_laws.specs.Merged.{MergesInOnePass};
 ghost use Rattle.aprs_laws.specs.Joining as Spec;
 
-/// The greater of two receptions is a join.
+/// Taking the greater of two receptions has the laws of a join: in any order, in any groups and
+/// with any repeats the outcome is the same.
 pub fn receptions_join()
     ensures laws { Spec.JoinLaws Spec.IsAny Spec.AreAny Spec.IsGreaterOf }
     ensures folds { Spec.FoldsFreely Spec.IsAny Spec.IsGreaterOf }
 {}
 
-/// Ascending lists of receivers join to the ascending list of both.
+/// Ascending lists of receivers join to the ascending list of the names of both, by the laws of a
+/// join and in one pass. Many lists give the same in any order and with any repeats.
 pub fn receivers_join()
     ensures laws { Spec.JoinLaws (Ordered (IsBelow bytes_cmp)) Spec.AreAny
         (Spec.IsUnited bytes_cmp) }
@@ -22,8 +24,9 @@ pub fn receivers_join()
     ensures one_pass { MergesInOnePass bytes_cmp }
 {}
 
-/// Sound books of one gap join to the book of the witnesses of both, under that gap. It holds
-/// the union of what the two hold.
+/// Sound books of one gap join to the book of the witnesses of both, under that gap, by the laws of
+/// a join. It holds the union of what the two hold. Many books give the same in any order and with
+/// any repeats.
 pub fn books_join()
     ensures laws { Spec.JoinLaws IsSoundBook HaveOneGap AreJoined }
     ensures folds { Spec.FoldsFreely IsSoundBook AreJoined }

@@ -2,8 +2,9 @@
 ghost use Rattle.aprs_laws.specs.BestLaws.{SomeIsLastKnown, PlainIsLastKnown, MembersDecideLastKnown, RowsTellLastKnown};
 ghost use Rattle.aprs_laws.specs.SpanLaws.{RowsTellFirstMoment, RowsTellLastMoment};
 
-/// What is last known of a set, by any property of keys, is one value that depends on membership
-/// alone. It is what is last known of the greatest receptions of the rows of its book.
+/// What is last known of a set, the greatest reception whose key passes a test, is one value that
+/// depends on membership alone, or none. Looking at one reception after another finds it. It is
+/// also what is last known of the greatest receptions of the rows of the set's book.
 pub fn books_tell_last_known()
     ensures some { SomeIsLastKnown }
     ensures plain { PlainIsLastKnown }
@@ -11,8 +12,8 @@ pub fn books_tell_last_known()
     ensures rows { RowsTellLastKnown }
 {}
 
-/// The least and the greatest moments of a set's receptions, by any property of keys, are the least
-/// first and the greatest last moments of the rows of its book.
+/// The least and the greatest moments of those receptions of a set whose keys pass a test are the
+/// least first and the greatest last moments of those rows of its book whose keys pass it.
 pub fn books_tell_spans()
     ensures first { RowsTellFirstMoment }
     ensures last { RowsTellLastMoment }

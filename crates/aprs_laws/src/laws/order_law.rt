@@ -14,8 +14,8 @@ pub fn orders_are_total()
     ensures rows { IsTotalOrder row_cmp }
 {}
 
-/// Callsigns, keys and receptions that are equal in their order are one. Rows of one key
-/// and one first moment may differ.
+/// Callsigns, keys and receptions that are equal in their order are identical. Rows of one key and
+/// one first moment may differ.
 pub fn equals_are_identical()
     ensures callsigns { IsAntisymmetric call_cmp }
     ensures keys { IsAntisymmetric key_cmp }

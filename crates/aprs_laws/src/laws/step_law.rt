@@ -3,7 +3,8 @@ ghost use Rattle.std.specs.Prelude.{ℕ, ◌<◌};
 ghost use Rattle.aprs_laws.specs.Coalescing;
 ghost use Rattle.aprs_laws.specs.StepLaws as Spec;
 
-/// One more row that joins a book gives the book of the union.
+/// A reception or a sound row that joins a book gives the book of the union, and so do the rows of
+/// a second book, one after another. Receptions that join one after another give their book.
 pub fn one_more_joins()
     ensures reception { (gap : ℕ) → Spec.TakesReception gap }
     ensures row { (gap : ℕ) → 0 < gap → Spec.TakesRow gap }
@@ -12,14 +13,14 @@ pub fn one_more_joins()
 {}
 
 /// Code looks at two rows at most: what it makes of a book and one more reception is the book of
-/// the union, and whether that fits in place can be tested.
+/// the union. A reception that fits in place passes the code's test for that.
 pub fn reception_is_inserted()
     ensures book { (gap : ℕ) → Spec.InsertsReception gap }
     ensures in_place { (gap : ℕ) → Spec.FitsByTest gap }
 {}
 
-/// Behind sound rows one more row is sound exactly if it is sound by itself, and after their last
-/// row and far from it.
+/// Sound rows with one more after them are sound exactly if that row is sound by itself, and comes
+/// after the last of them and far from it.
 pub fn last_row_decides()
     ensures { (gap : ℕ) → Spec.OnlyNextFollows gap }
 {}
@@ -34,8 +35,9 @@ pub fn one_pass_joins()
     ensures { (gap : ℕ) → 0 < gap → Spec.OnePassJoins gap }
 {}
 
-/// After any steps on empty books, each is the book of what its place has taken. So two that took
-/// the same receptions are equal.
+/// After any steps on empty books, which take receptions or merge one place's book into another's,
+/// each place has the book of the receptions that it took. So two places that took the same ones
+/// have equal books.
 pub fn steps_give_books()
     ensures books { (gap : ℕ) → Spec.StepsGiveBooks gap }
     ensures equal { (gap : ℕ) → Spec.SameTakenSameRows gap }
@@ -51,10 +53,12 @@ pub fn rows_in_order_coalesce()
     ensures joined { (gap : ℕ) → 0 < gap → Coalescing.CoalescesJoined gap }
     ensures wider { Coalescing.CoalescesWider }
 
+    // Which rows stand for which set.
     ensures singles { Coalescing.SinglesStand }
     ensures books { Coalescing.BooksStand }
     ensures unions { Coalescing.UnionsStand }
 
+    // The pass, row by row: each either joins the last one so far or comes after it.
     ensures one_by_one { (gap : ℕ) → Coalescing.CoalescesOneByOne gap }
     ensures last { (gap : ℕ) → Coalescing.JoinsLast gap }
 {}

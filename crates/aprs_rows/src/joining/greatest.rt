@@ -31,7 +31,7 @@ impl Greatest {
         Greatest { heard: x.copy() }
     }
 
-    /// The reception. Takes no memory.
+    /// The greatest reception. Takes no memory.
     pub fn get(&self) -> &Reception
         ensures { result.now ≡ self.now }
     {
@@ -48,11 +48,12 @@ impl Join for Greatest {
 
     ghost laws = { greatest_laws };
 
+    /// Always `true`: any two can be joined.
     fn fits(&self, _other: &Greatest) -> bool {
         true
     }
 
-    /// The greater of both. Takes no memory.
+    /// The greater of both. Never fails. Takes no memory.
     fn join(&self, other: &Greatest) -> Result<Greatest, Memory>
         ensures joined { IfOk result (IsGreaterOf self.now other.now) }
         ensures valid_result { IfOk result IsAny }
@@ -68,7 +69,8 @@ impl Join for Greatest {
     }
 }
 
-/// Makes it the greater of both, as [`Greatest`] orders them. Takes no memory.
+/// Puts `x` in place of `greatest` where `x` is greater: later, or at the same moment by a greater
+/// receiver, or by the same receiver with a greater frame. Takes no memory.
 pub fn keep_greater(greatest: &mut Reception, x: &Reception)
     ensures { greatest.new ≡ greater greatest.old x.now }
 {

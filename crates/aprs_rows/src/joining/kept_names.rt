@@ -16,7 +16,7 @@ pub(crate) enum KeptNames<A: Allocator> {
 }
 
 impl<A: Allocator + Copy> KeptNames<A> {
-    /// These names.
+    /// Keeps these names: one alone without the list, any others in their list.
     pub(crate) fn of(names: Vec<Receiver, A>) -> KeptNames<A>
         ensures { names_in result ≡ names.items }
     {
@@ -34,7 +34,7 @@ impl<A: Allocator + Copy> KeptNames<A> {
         }
     }
 
-    /// The names one after another.
+    /// The names as a slice, in the order in which they are kept.
     pub(crate) fn as_slice(&self) -> &[Receiver]
         ensures { result.now ≡ names_in self.now }
     {
@@ -44,7 +44,8 @@ impl<A: Allocator + Copy> KeptNames<A> {
         }
     }
 
-    /// Puts a name at a place. What needs memory is made before the first change.
+    /// Puts `name` before the name at index `i`, or after all where `i` is their number. After
+    /// `Memory` the names are as before.
     pub(crate) fn insert(&mut self, i: usize, name: &Receiver) -> Result<(), Memory>
         requires { i ≤ length (names_in self.old) }
         ensures inserted { OnOk result (names_in self.new ≡ insert (names_in self.old) i name.now) }
@@ -73,7 +74,8 @@ impl<A: Allocator + Copy> KeptNames<A> {
     }
 }
 
-/// Puts a name at a place.
+/// Puts `name` before the name at index `i`, or after all where `i` is their number. After `Memory`
+/// the names are as before.
 fn insert_name<A: Allocator>(
     names: &mut Vec<Receiver, A>,
     i: usize,

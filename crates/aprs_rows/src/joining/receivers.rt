@@ -55,8 +55,8 @@ impl<A: Allocator + Copy> Receivers<A> {
         self.names.as_slice()
     }
 
-    /// Puts a name in its place. Where it is there already, that takes no memory. After `Memory`
-    /// the names are as before.
+    /// Puts a name in its place. Where the name is there already, nothing changes and no memory is
+    /// taken. After `Memory` the names are as before.
     pub fn add(&mut self, name: &Receiver) -> Result<(), Memory>
         ensures joined { OnOk result (IsUnited bytes_cmp (name.now ∷ []) self.old self.new) }
         ensures added { OnOk result (self.new ≡ add bytes_cmp name.now self.old) }
@@ -69,7 +69,8 @@ impl<A: Allocator + Copy> Receivers<A> {
         }
     }
 
-    /// The names of both, which stay as they are. For the crates of this repository.
+    /// The names of both lists, ascending and each once; the two lists stay as they are. For the
+    /// crates of this repository.
     pub fn unite(&self, other: &Receivers<A>) -> Result<Receivers<A>, Memory>
         ensures union { IfOk result (λ both. both ≡ union bytes_cmp self.now other.now) }
         ensures joined { IfOk result (IsUnited bytes_cmp self.now other.now) }
@@ -108,7 +109,7 @@ impl<A: Allocator + Copy> Receivers<A> {
         })
     }
 
-    /// The same names again. For the crates of this repository.
+    /// A copy of the names, in memory from the same allocator. For the crates of this repository.
     pub fn duplicate(&self) -> Result<Receivers<A>, Memory>
         ensures { IfOk result (λ copy. copy ≡ self.now) }
     {
@@ -125,6 +126,7 @@ impl<A: Allocator + Copy> Join for Receivers<A> {
 
     ghost laws = { receivers_laws bytes_total bytes_exact };
 
+    /// Always `true`: any two can be joined.
     fn fits(&self, _other: &Receivers<A>) -> bool {
         true
     }
@@ -135,7 +137,8 @@ impl<A: Allocator + Copy> Join for Receivers<A> {
     }
 }
 
-/// The place of the name, or, as `Err`, the place where it belongs.
+/// Looks for a name among ascending names: its index, or as `Err` the index at which it would have
+/// to be inserted.
 fn search(names: &[Receiver], name: &Receiver) -> Result<usize, usize>
     ensures { MatchResult result
         (λ _. add bytes_cmp name.now names.now ≡ names.now)
@@ -152,7 +155,8 @@ fn search(names: &[Receiver], name: &Receiver) -> Result<usize, usize>
     Err(names.len())
 }
 
-/// Puts the names of both in order after those that are there.
+/// Puts the names of `ours` and `theirs`, which both ascend, in order and each once after those in
+/// `names`. Requires room for all of them.
 fn merge_onto<A: Allocator>(names: &mut Vec<Receiver, A>, ours: &[Receiver], theirs: &[Receiver])
     requires { vec_len names.old + length ours.now + length theirs.now ≤ vec_capacity names.old }
     ensures { names.new.items ≡ names.old.items ++ ascending_union bytes_cmp ours.now theirs.now }
@@ -180,7 +184,7 @@ fn merge_onto<A: Allocator>(names: &mut Vec<Receiver, A>, ours: &[Receiver], the
     copy_onto(names, &theirs[j..]);
 }
 
-/// Puts the names after those that are there.
+/// Puts the names of `more` after those in `names`. Requires room for them.
 fn copy_onto<A: Allocator>(names: &mut Vec<Receiver, A>, more: &[Receiver])
     requires { vec_len names.old + length more.now ≤ vec_capacity names.old }
     ensures items { names.new.items ≡ names.old.items ++ more.now }

@@ -11,7 +11,7 @@ use aprs_ax25::Frame;
 use std::cmp::Ordering;
 
 /// The head of a frame's key: the numbers of its source, of its destination and of the first eight
-/// bytes of its information. Heads are in order as keys are, as far as they go.
+/// bytes of its information. Where two heads differ, they are in the order of their keys.
 #[derive(Clone, Copy, PartialEq, Eq, PartialOrd, Ord)]
 pub struct Head {
     source: u64,
@@ -27,7 +27,7 @@ impl Head {
         Head::of(frame.bytes(), frame.info())
     }
 
-    /// The head of the key of the frame of these bytes, with this information.
+    /// The head of the key of a frame, from the frame's bytes and its information.
     #[tactic(auto, unfolding(aprs_laws::specs::Key::key_of))]
     pub(crate) fn of(frame: &[u8], info: &[u8]) -> Head
         requires frame { FrameOf (parts_of frame.now) frame.now }
@@ -44,7 +44,8 @@ impl Head {
     }
 }
 
-/// The order of the keys of two frames that have these heads and this information.
+/// The order of the keys of two frames, from the head of each key and the information of each
+/// frame.
 pub(crate) fn key_order(head: Head, info: &[u8], other: Head, other_info: &[u8]) -> Ordering
     ensures { (f g : List ℕ) → HasHead head f → HasHead other g → info.now ≡ (parts_of f).info
         → other_info.now ≡ (parts_of g).info → result ≡ key_cmp (key_of f) (key_of g) }
@@ -55,7 +56,9 @@ pub(crate) fn key_order(head: Head, info: &[u8], other: Head, other_info: &[u8])
     }
 }
 
-/// The number of the callsign in an address: base 256, of the six letters and then the SSID.
+/// The number of the callsign in the seven octets of an address: base 256, of the six letters and
+/// then the SSID. In the octets each letter is shifted left by one bit, and the SSID is bits 1 to 4
+/// of the last.
 fn call_number(octets: &[u8]) -> u64
     requires { length octets.now ≡ 7 }
     ensures { result ≡ octets_number octets.now }

@@ -15,8 +15,9 @@ use crate::row::row_view::RowView;
 use aprs_laws::{Gap, RowCause};
 
 impl<'a> RowView<'a> {
-    /// The first cause for which the row can't follow others in a book of this gap, of which
-    /// `before` is the last. Takes no memory.
+    /// The first cause, in the order of `RowCause`, for which the row can't follow the rows of a
+    /// book of this gap, or `None` where it can. `before` is the last of those rows, or `None`
+    /// where there are none. Takes no memory.
     pub fn refusal_after(&self, before: Option<&RowView<'_>>, gap: Gap) -> Option<RowCause>
         ensures cause { (rows : List Row) → last_or None rows ≡ option_copied before.entry
             → result ≡ Spec.refusal (millis_of gap) rows self.now }
@@ -27,7 +28,7 @@ impl<'a> RowView<'a> {
     }
 
     /// The first cause for which this row can't come right after `before`, the last row of a book,
-    /// or be the book's first row where `before` is none.
+    /// or be the book's first row where `before` is `None`. `None` where nothing speaks against it.
     #[tactic(auto, unfolding(crate::specs::Refusal::refusal))]
     fn first_cause(&self, before: Option<&RowView<'_>>, gap: Gap) -> Option<RowCause>
         ensures { result
@@ -52,7 +53,8 @@ impl<'a> RowView<'a> {
         None
     }
 
-    /// Whether there is a row before that this one doesn't come after.
+    /// Whether `before` is a row that this one doesn't come after, by key and first moment. `false`
+    /// where `before` is `None`.
     fn is_out_of_order(&self, before: Option<&RowView<'_>>) -> bool
         ensures { result ≡ Spec.is_of_last (λ l. Spec.is_out_of_order l self.now)
             (list_of (option_copied before.entry)) }
@@ -63,7 +65,8 @@ impl<'a> RowView<'a> {
         }
     }
 
-    /// Whether there is a row before this one, and it is too near.
+    /// Whether `before` is a row of the same key, and this one begins at most the gap after it
+    /// ends, or earlier. `false` where `before` is `None`.
     fn is_too_near(&self, before: Option<&RowView<'_>>, gap: Gap) -> bool
         ensures { result ≡ Spec.is_of_last (λ l. Spec.is_too_near (millis_of gap) l self.now)
             (list_of (option_copied before.entry)) }
@@ -74,7 +77,8 @@ impl<'a> RowView<'a> {
         }
     }
 
-    /// Whether a row of the same key begins at most the gap after this one ends.
+    /// Whether `other` has the key of this row, and begins at most the gap after this one ends, or
+    /// earlier.
     fn reaches(&self, gap: Gap, other: &RowView<'_>) -> bool
         ensures { result ≡ Spec.is_too_near (millis_of gap) self.now other.now }
     {
@@ -82,7 +86,8 @@ impl<'a> RowView<'a> {
     }
 }
 
-/// Where the names of a text ascend and this one is among them: whether it is the last.
+/// Whether `name` is the last name of the text, or `None` where the names of the text don't
+/// strictly ascend or `name` isn't among them.
 fn find_name(text: &[u8], name: &[u8]) -> Option<bool>
     ensures none { IfNone result ((Spec.is_ascending (names_in text.now)
         && list_any (Spec.is_same_name name.now) (names_in text.now)) ≡ false) }

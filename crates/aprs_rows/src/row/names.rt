@@ -10,7 +10,8 @@ use crate::Memory;
 use memchr::memchr;
 use std::alloc::Allocator;
 
-/// The first name of a text and what stands after the comma behind it, where there is one.
+/// The first name of a text and what stands after the comma behind it, or `None` where the text has
+/// no comma, so that it is one name.
 pub(crate) fn cut_name(text: &[u8]) -> Option<(&[u8], &[u8])>
     ensures some { IfSome result (λ p. names_in text.now ≡ p.0.now ∷ names_in p.1.now) }
     ensures none { IfNone result (names_in text.now ≡ text.now ∷ []) }
@@ -22,7 +23,8 @@ pub(crate) fn cut_name(text: &[u8]) -> Option<(&[u8], &[u8])>
     }
 }
 
-/// Puts the names of a text after those that are there.
+/// Puts the names of a text, with commas between, after those in `names`. After `Memory` some of
+/// them may have been put.
 pub(crate) fn gather<'a, A: Allocator>(
     names: &mut Vec<&'a [u8], A>,
     text: &'a [u8],
@@ -38,7 +40,7 @@ pub(crate) fn gather<'a, A: Allocator>(
     push_name(names, rest)
 }
 
-/// Puts a name after those that are there.
+/// Puts a name after those in `names`.
 fn push_name<'a, A: Allocator>(names: &mut Vec<&'a [u8], A>, name: &'a [u8]) -> Result<(), Memory>
     ensures { OnOk result (map (λ n. n.now) names.new.items
         ≡ map (λ n. n.now) names.old.items ++ name.now ∷ []) }
@@ -50,7 +52,7 @@ fn push_name<'a, A: Allocator>(names: &mut Vec<&'a [u8], A>, name: &'a [u8]) -> 
 }
 
 /// Puts names, each once and ascending, with commas between, after the text that is there. Sorts
-/// `names` in place.
+/// `names` in place. After `Memory` a part may stand in the text.
 pub(crate) fn put_union<A: Allocator, B: Allocator>(
     text: &mut Vec<u8, A>,
     names: &mut Vec<&[u8], B>,
@@ -62,7 +64,8 @@ pub(crate) fn put_union<A: Allocator, B: Allocator>(
     put_ascending(text, names.as_slice())
 }
 
-/// Puts names that ascend, of equal ones one, with commas between, after the text that is there.
+/// Puts names, which the caller has sorted, with commas between after the text that is there; of
+/// equal names one, and nothing where there are no names.
 fn put_ascending<A: Allocator>(text: &mut Vec<u8, A>, names: &[&[u8]]) -> Result<(), Memory>
     ensures { OnOk result (text.new.items ≡ text.old.items
         ++ ascending_text (map (λ n. n.now) names.now)) }
@@ -77,7 +80,8 @@ fn put_ascending<A: Allocator>(text: &mut Vec<u8, A>, names: &[&[u8]]) -> Result
     Ok(())
 }
 
-/// Puts a comma and the name after the text, unless the name before it is the same.
+/// Puts a comma and `name` after the text, or nothing where `before`, the name before it, is the
+/// same.
 fn put_next<A: Allocator>(text: &mut Vec<u8, A>, before: &[u8], name: &[u8]) -> Result<(), Memory>
     ensures { OnOk result (text.new.items ≡ text.old.items ++ next_text before.now name.now) }
 {

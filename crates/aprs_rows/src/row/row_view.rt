@@ -31,7 +31,9 @@ pub struct RowView<'a> {
     names: &'a [u8],
     receiver: &'a [u8],
     frame: &'a [u8],
+    /// Where the frame's information begins.
     info_at: u8,
+    /// The head of the frame's key.
     head: Head,
 }
 
@@ -50,7 +52,8 @@ impl<'a> Model for RowView<'a> {
 }
 
 impl<'a> RowView<'a> {
-    /// The row of these, with the names in `receivers`, which commas part. Takes no memory.
+    /// The row of a first and a last moment, of the receivers whose names stand in `receivers` with
+    /// commas between, and of the greatest reception's `receiver` and `frame`. Takes no memory.
     pub fn new(
         first: Moment,
         last: Moment,
@@ -75,7 +78,8 @@ impl<'a> RowView<'a> {
         }
     }
 
-    /// The row of an entry that has these bytes.
+    /// The row that an entry notes, from the row's bytes: the text of its receivers, then the name
+    /// of the greatest reception's receiver, then the frame.
     pub(crate) fn of_entry(entry: &Entry, bytes: &'a [u8]) -> RowView<'a>
         requires { IsRowIn entry.now bytes.now }
         ensures { result ≡ entry_row entry.now bytes.now }
@@ -93,7 +97,9 @@ impl<'a> RowView<'a> {
         }
     }
 
-    /// The entry of the row, if its bytes begin at this place. Requires what `RowStore::push` does.
+    /// The entry of the row, if its bytes are to begin at `place` in a store. Requires that the row
+    /// is sound by itself, and that its receivers' names with commas between have fewer than
+    /// 4,294,967,296 bytes, so that their number fits.
     pub(crate) fn entry(&self, place: usize) -> Entry
         requires sound { IsSoundRow self.now }
         requires short { length (join_with_byte 44 self.now.receivers) < 4294967296 }
@@ -114,7 +120,8 @@ impl<'a> RowView<'a> {
         }
     }
 
-    /// The row with another first moment, and with the names of this text.
+    /// This row with another first moment, and with the names in `receivers`, which commas part, in
+    /// place of its own.
     pub(crate) fn with_first_and_names(self, first: Moment, receivers: &'a [u8]) -> RowView<'a>
         requires { All IsName (names_in receivers.now) }
         ensures { result ≡ record {
@@ -173,7 +180,7 @@ impl<'a> RowView<'a> {
         self.frame
     }
 
-    /// The information of that frame. Takes no memory.
+    /// The information of the greatest reception's frame. Takes no memory.
     pub fn info(&self) -> &'a [u8]
         ensures { result.now ≡ (parts_of self.now.greatest.frame).info }
     {
@@ -181,7 +188,8 @@ impl<'a> RowView<'a> {
         info
     }
 
-    /// The names of those who heard it, in memory of their own.
+    /// The names of those who heard it, as a list in memory from `alloc`, or `Memory` where that is
+    /// refused.
     pub fn receiver_names<A: Allocator + Copy>(&self, alloc: A) -> Result<Vec<Receiver, A>, Memory>
         ensures { IfOk result (λ names. names.items ≡ self.now.receivers) }
     {
@@ -202,7 +210,8 @@ impl<'a> RowView<'a> {
         Reception::new(self.last, self.read_receiver(), self.read_frame())
     }
 
-    /// The receiver of the greatest reception, in a place of its own. Takes no memory.
+    /// The receiver of the greatest reception, in a place of its own. Can't fail, since a row's
+    /// bytes hold a name there. Takes no memory.
     pub fn read_receiver(&self) -> Receiver
         ensures { result ≡ self.now.greatest.receiver }
     {
@@ -212,7 +221,8 @@ impl<'a> RowView<'a> {
         }
     }
 
-    /// The frame of the greatest reception, in a place of its own. Takes no memory.
+    /// The frame of the greatest reception, in a place of its own. Can't fail, since a row's bytes
+    /// hold a UI frame there. Takes no memory.
     pub fn read_frame(&self) -> Frame
         ensures { result ≡ self.now.greatest.frame }
     {
@@ -232,7 +242,7 @@ impl<'a> RowView<'a> {
         }
     }
 
-    /// The order of the keys.
+    /// The order of the two rows' keys.
     pub(crate) fn key_order(&self, other: &RowView<'_>) -> Ordering
         ensures { result ≡ key_cmp (row_key self.now) (row_key other.now) }
     {
@@ -260,7 +270,7 @@ impl<'a> RowView<'a> {
     }
 }
 
-/// Puts the receiver of this name after the others.
+/// Puts the receiver of this name, which has to be a receiver's name, after the others.
 fn push_receiver<A: Allocator>(names: &mut Vec<Receiver, A>, name: &[u8]) -> Result<(), Memory>
     requires { IsName name.now }
     ensures { OnOk result (names.new.items ≡ names.old.items ++ name.now ∷ []) }

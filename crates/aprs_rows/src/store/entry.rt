@@ -22,7 +22,7 @@ pub(crate) struct Entry {
 }
 
 impl Entry {
-    /// The bytes of the row, among those of all rows.
+    /// The bytes of this entry's row, out of `bytes`, which are those of all rows.
     pub(crate) fn bytes_in<'b>(&self, bytes: &'b [u8]) -> &'b [u8]
         ensures { result.now ≡ bytes_of self.now bytes.now }
     {
@@ -30,7 +30,8 @@ impl Entry {
         first_of(after(bytes, self.place), size)
     }
 
-    /// The order of two rows that lie in these bytes, by key, then first moment.
+    /// The order of the rows of two entries, by key, then first moment. `bytes` are those of all
+    /// rows.
     pub(crate) fn order(&self, other: &Entry, bytes: &[u8]) -> Ordering
         ensures { result ≡ entry_cmp bytes.now self.now other.now }
     {
@@ -52,7 +53,7 @@ impl Entry {
     }
 }
 
-/// The first bytes, so many, or all where there are fewer.
+/// The first `count` bytes, or all where there are fewer.
 fn first_of(bytes: &[u8], count: usize) -> &[u8]
     ensures { result.now ≡ take count bytes.now }
 {

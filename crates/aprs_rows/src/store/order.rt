@@ -53,8 +53,9 @@ impl<A: Allocator> Model for RowsInOrder<A> {
 }
 
 impl<A: Allocator + Copy> RowsInOrder<A> {
-    /// These rows, put in order. Where some came in order as a book file's do, a sort that takes
-    /// such runs as they are is quicker; else one that takes no memory.
+    /// These rows, put in order. `has_runs` says that some came in order, as a book file's do: then
+    /// a sort is used that takes such runs as they are, which is quicker and may fail for memory,
+    /// though not without rows. Otherwise the sort takes no memory and can't fail.
     pub(crate) fn of(
         alloc: A,
         mut entries: Vec<Entry, A>,
@@ -81,7 +82,8 @@ impl<A: Allocator + Copy> RowsInOrder<A> {
         })
     }
 
-    /// These rows, put in order by a sort that takes runs as they are.
+    /// These rows, put in order by a sort that is quick where runs of them are in order already. It
+    /// takes memory, and can't fail where there are no rows.
     fn of_runs(
         alloc: A,
         mut entries: Vec<Entry, A>,
@@ -101,9 +103,9 @@ impl<A: Allocator + Copy> RowsInOrder<A> {
         })
     }
 
-    /// The rows of the book of these under a gap: each row joins the one before it that it is near
-    /// to. Takes memory for as many rows as there are here, and for the names of those that were
-    /// more than one.
+    /// The book of these rows under a gap: each row joins the last so far where it is near to that.
+    /// Takes memory for as many rows as there are here, and for the receivers' names of rows that
+    /// joined. Without rows it can't fail.
     pub fn transmissions(&self, gap: Gap) -> Result<Transmissions<'_, A>, Memory>
         ensures rows { IfOk result (λ t. t
             ≡ record { gap = gap; rows = coalesced_rows (millis_of gap) self.now }) }

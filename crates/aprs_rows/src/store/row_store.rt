@@ -21,7 +21,7 @@ pub struct RowStore<A: Allocator = Global> {
     alloc: A,
     entries: Vec<Entry, A>,
     bytes: Vec<u8, A>,
-    /// Whether rows came that were in order, as those of a book file.
+    /// Whether rows came by `push`, as those of a book file do, which are in order.
     has_runs: bool,
 }
 
@@ -77,7 +77,7 @@ impl<A: Allocator + Copy> RowStore<A> {
         self.entries.len()
     }
 
-    /// The last of the rows. Takes no memory.
+    /// The row that was put last, or `None` where there are no rows. Takes no memory.
     pub fn last(&self) -> Option<RowView<'_>>
         ensures some { IfSome result (λ row. last_or None self.now ≡ Some row) }
         ensures none { IfNone result (self.now ≡ []) }
@@ -109,7 +109,8 @@ impl<A: Allocator + Copy> RowStore<A> {
         Ok(())
     }
 
-    /// Puts a row after the others.
+    /// Puts a row after the others. Takes all memory before the first change: after `Memory` the
+    /// rows are as before.
     fn put(&mut self, row: &RowView<'_>) -> Result<(), Memory>
         requires sound { IsSoundRow row.now }
         requires short { length (join_with_byte 44 row.now.receivers) < 4294967296 }
@@ -128,8 +129,8 @@ impl<A: Allocator + Copy> RowStore<A> {
         Ok(())
     }
 
-    /// The rows by key and first moment. Takes memory for each row where rows of books came, and
-    /// none else. Gives the store up, at `Memory` too.
+    /// The rows in the order of key and first moment. Takes memory for each row where `push` put
+    /// some, and otherwise takes none. Gives the store up, at `Memory` too.
     pub fn in_order(self) -> Result<RowsInOrder<A>, Memory>
         ensures members { IfOk result (SameMembers self) }
         ensures ordered { IfOk result AreInOrder }
@@ -146,7 +147,8 @@ impl<A: Allocator + Copy> RowStore<A> {
     }
 }
 
-/// Makes room for so many more.
+/// Makes room for `more` items after those that are there, which stay as they are, also after
+/// `Memory`.
 fn reserve<T, A: Allocator>(items: &mut Vec<T, A>, more: usize) -> Result<(), Memory>
     ensures items { items.new.items ≡ items.old.items }
     ensures room { OnOk result (vec_len items.new + more ≤ vec_capacity items.new) }
@@ -157,7 +159,7 @@ fn reserve<T, A: Allocator>(items: &mut Vec<T, A>, more: usize) -> Result<(), Me
     }
 }
 
-/// Puts bytes after those that are there, where there is room.
+/// Puts bytes after those that are there. Requires room for them, and so can't fail.
 fn put<A: Allocator>(items: &mut Vec<u8, A>, more: &[u8])
     requires { vec_len items.old + length more.now ≤ vec_capacity items.old }
     ensures items { items.new.items ≡ items.old.items ++ more.now }

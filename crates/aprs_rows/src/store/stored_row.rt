@@ -32,7 +32,7 @@ impl<'a> Model for StoredRow<'a> {
 }
 
 impl<'a> StoredRow<'a> {
-    /// The row of an entry whose bytes are among these.
+    /// The row of an entry. `bytes` are those of all rows, and the row's are among them.
     pub(crate) fn of(entry: &'a Entry, bytes: &'a [u8]) -> StoredRow<'a>
         requires { IsRowIn entry.now (bytes_of entry.now bytes.now) }
         ensures { result ≡ entry_row entry.now (bytes_of entry.now bytes.now) }
@@ -43,7 +43,7 @@ impl<'a> StoredRow<'a> {
         }
     }
 
-    /// The same row.
+    /// The same row again. Its bytes are not copied.
     pub(crate) fn copy(&self) -> StoredRow<'a>
         ensures { result ≡ self.now }
     {
@@ -53,14 +53,14 @@ impl<'a> StoredRow<'a> {
         }
     }
 
-    /// The row with all that is said of it.
+    /// The row as a `RowView`, which lends the same bytes.
     pub(crate) fn view(&self) -> RowView<'a>
         ensures { result ≡ self.now }
     {
         RowView::of_entry(self.entry, self.bytes)
     }
 
-    /// The order of the keys.
+    /// The order of the two rows' keys.
     pub(crate) fn key_order(&self, other: &StoredRow<'_>) -> Ordering
         ensures { result ≡ key_cmp (row_key self.now) (row_key other.now) }
     {
@@ -74,7 +74,8 @@ impl<'a> StoredRow<'a> {
         self.view().heard_order(&other.view())
     }
 
-    /// The first moment at which it was heard.
+    /// The first moment at which the row's transmission was heard. What the contract says beside
+    /// that holds of each row in a store.
     pub(crate) fn first(&self) -> Moment
         ensures value { result ≡ self.now.first }
         ensures told { IsTold self.now }
@@ -83,14 +84,15 @@ impl<'a> StoredRow<'a> {
         self.entry.first
     }
 
-    /// The last moment.
+    /// The last moment at which the row's transmission was heard.
     pub(crate) fn last(&self) -> Moment
         ensures { result ≡ last_of self.now }
     {
         self.entry.last
     }
 
-    /// The names of those who heard it, with commas between.
+    /// The names of those who heard it, with commas between. What the contract says beside that
+    /// holds of each row in a store.
     pub(crate) fn receivers(&self) -> &'a [u8]
         ensures names { names_in result.now ≡ self.now.receivers }
         ensures told { IsTold self.now }

@@ -43,7 +43,8 @@ impl<'a> Open<'a> {
         }
     }
 
-    /// Whether a row is near to these.
+    /// Whether a row is near to these: it has their key, and neither begins more than the gap after
+    /// the other ends.
     fn is_near(&self, gap: Gap, row: &StoredRow<'_>) -> bool
         ensures { (names : List (Bor (List ℕ)))
             → result ≡ is_eq (place (millis_of gap) (Spec.open_row self.now names) row.now) }
@@ -53,7 +54,8 @@ impl<'a> Open<'a> {
             && self.greatest.key_order(row).is_eq()
     }
 
-    /// Adds a row that is near to these.
+    /// Makes a row that is near to these one with them: the earlier first moment and the greater of
+    /// the greatest receptions stay. The caller gathers the names.
     fn grow(&mut self, row: StoredRow<'a>)
         ensures first { self.new.first ≡ min self.old.first row.entry.first }
         ensures greatest { self.new.greatest.greatest
@@ -83,8 +85,8 @@ pub(crate) struct Sweep<'a, A: Allocator> {
 }
 
 impl<'a, A: Allocator + Copy> Sweep<'a, A> {
-    /// A sweep of at most `most` rows that has taken one. Takes memory for as many groups at once,
-    /// so that these don't move as they become more.
+    /// A sweep that has taken `row`, the first of at most `most` rows. Takes memory for as many
+    /// groups at once, so that these don't move as they become more.
     pub(crate) fn begin(
         alloc: A,
         gap: Gap,
@@ -107,7 +109,8 @@ impl<'a, A: Allocator + Copy> Sweep<'a, A> {
         })
     }
 
-    /// Takes the next row.
+    /// Takes the next row: it joins the open rows where it is near to them. Otherwise these end,
+    /// and it is open alone. After `Memory` nothing is promised of the rows.
     pub(crate) fn take(&mut self, row: StoredRow<'a>) -> Result<(), Memory>
         ensures stands { (rows : List Row) → Spec.Stands self.old rows
             → OnOk result (Spec.Stands self.new
@@ -127,7 +130,8 @@ impl<'a, A: Allocator + Copy> Sweep<'a, A> {
         Ok(())
     }
 
-    /// The book of the rows, which are sound.
+    /// The book of the rows that were taken, after the open ones have ended. Requires that what the
+    /// rows have become is sound under the gap.
     pub(crate) fn finish(self) -> Result<Transmissions<'a, A>, Memory>
         requires sound { (rows : List Row) × Spec.Stands self rows
             × Sound (millis_of self.gap) rows }
@@ -145,7 +149,9 @@ impl<'a, A: Allocator + Copy> Sweep<'a, A> {
         Ok(Transmissions::of(gap, groups, texts))
     }
 
-    /// Takes a row that is near to the open ones.
+    /// Makes this row one with the open rows, to which the caller found it near. Gathers its names,
+    /// and first those of the open row where it was alone. Groups and texts stay as they are; after
+    /// `Memory` nothing is promised of the open rows.
     fn join(&mut self, row: StoredRow<'a>) -> Result<(), Memory>
         ensures joined { Spec.AreGathered self.old.latest self.old.names.items
             → OnOk result (Spec.AreGathered self.new.latest self.new.names.items
@@ -209,7 +215,8 @@ fn close<'a, A: Allocator>(
     Ok(())
 }
 
-/// Puts the text of the names of open rows after the texts of others, if they are more than one.
+/// Puts the text of the open rows' names, each once and ascending, after the other texts, or
+/// nothing where a single row is open. Sorts `names` in place.
 fn put_names<A: Allocator>(
     texts: &mut Vec<u8, A>,
     latest: &Open<'_>,

@@ -47,7 +47,8 @@ impl<'a, A: Allocator> Model for Transmissions<'a, A> {
 }
 
 impl<'a, A: Allocator + Copy> Transmissions<'a, A> {
-    /// The rows of these groups, which are sound.
+    /// The book of these groups under the gap. `texts` are the texts of their names, one after
+    /// another. Requires that the rows of the groups are sound under the gap.
     pub(crate) fn of(gap: Gap, groups: Vec<Group<'a>, A>, texts: Vec<u8, A>) -> Transmissions<'a, A>
         requires groups { AreGroups groups.items texts.items }
         requires sound { IsSoundBook (record {
@@ -112,6 +113,7 @@ impl<'t, 'a> Iterator for RowViews<'t, 'a> {
 
     ghost remaining = { item_count (λ rows. rows) };
 
+    /// The next row, or `None` after the last. Takes no memory.
     fn next(&mut self) -> Option<RowView<'t>> {
         let group = self.groups.next()?;
         let (text, rest) = self.texts.split_at(group.text_len);

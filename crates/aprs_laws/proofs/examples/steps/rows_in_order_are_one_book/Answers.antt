@@ -72,8 +72,8 @@ late : append_or_join half_minute (row_at 0 ∷ row_at 60001 ∷ []) (row_at 300
 unfolding key_of key_cmp
 late = refl
 
-pub returns-clause-misses_bridge : goal.returns-clause-misses_bridge
-returns-clause-misses_bridge c = λ e.
+pub returns-clause-misses_insertion : goal.returns-clause-misses_insertion
+returns-clause-misses_insertion c = λ e.
     let n : 60001 ≡ 30000 = ap (λ (rows : List Row). next (firsts rows)) (sym late ∙ e) in
     omega (arith, n)
 
