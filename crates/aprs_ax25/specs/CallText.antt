@@ -23,8 +23,8 @@ before_dash text = before_first is_dash text
 abbrev pub from_dash : List ℕ → List ℕ
 from_dash text = drop (length (before_dash text)) text
 
--- The text names this SSID: no text names 0, and a dash and a number from 1 to 15, without a
--- leading zero, that number.
+-- The text names this SSID: an empty text names 0, and a dash and a number from 1 to 15, without
+-- a leading zero, that number.
 pub record SsidText (ssid : ℕ) (text : List ℕ) : Type 0 where
   pub range : ssid < 16
   pub spelled : text ≡ ssid_text ssid

@@ -75,10 +75,10 @@ abbrev pub more_by_n7oo : ℕ → List ℕ
 more_by_n7oo zero = []
 more_by_n7oo (suc n) = by_n7oo 0xE2 ++ more_by_n7oo n
 
--- The addresses of a frame through one digipeater more than this.
+-- The addresses of a frame through n + 1 digipeaters.
 abbrev pub field_through : ℕ → List ℕ
 field_through n = to_nj7p ++ from_n7lem 0x60 ++ more_by_n7oo n ++ by_n7oo 0xE3
 
--- So many letters A.
+-- The letter A, n times.
 abbrev pub letters_a : ℕ → List ℕ
 letters_a n = replicate n 65

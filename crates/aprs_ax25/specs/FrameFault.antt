@@ -19,7 +19,7 @@ ends_field octet = octet % 2 == 1
 abbrev pub field_len : List ℕ → ℕ
 field_len bytes = position_or_len ends_field bytes + 1
 
--- So many octets are 2 to 10 addresses of seven octets each.
+-- n octets are 2 to 10 addresses of seven octets each.
 abbrev pub is_field_len : ℕ → Bool
 is_field_len n = n % 7 == 0 && nat_le 14 n && nat_le n 70
 

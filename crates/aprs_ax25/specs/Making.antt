@@ -29,7 +29,7 @@ made_parts destination source hops info = record {
   info = info;
 }
 
--- The first fault of so many digipeaters and so many bytes of information.
+-- The first fault of this many digipeaters and bytes of information, if they make no frame.
 abbrev pub make_fault : ℕ → ℕ → Option MakeFault
 make_fault hops info = if nat_lt 8 hops then Some Hops
     else (if info == 0 then Some NoInfo else (if nat_lt 256 info then Some LongInfo else None))

@@ -16,8 +16,9 @@ letters_then_spaces after_letter (octet ∷ more) =
     (octet == 64 || (after_letter && is_letter_octet octet))
     && letters_then_spaces (is_letter_octet octet) more
 
--- An octet that may stand after octet i of two addresses, as far as callsigns go: a letter or digit
--- first and after one, a space at any place but the first, and anything after octets 5 and 12.
+-- An octet that may stand after octet i of two addresses, as far as callsigns go: a letter or
+-- digit at the second callsign's start, after octet 6, and after another one; a space anywhere
+-- but at that start; any octet after octet 5 and from octet 12 on.
 abbrev pub may_follow : ℕ → ℕ → ℕ → Bool
 may_follow i before octet =
     ((i == 5 || nat_le 12 i) || (is_letter_octet octet && (i == 6 || is_letter_octet before)))

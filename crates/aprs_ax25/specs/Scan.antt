@@ -21,7 +21,7 @@ SplitsField r bytes = MatchOption r (is_wrong Address bytes ≡ true)
     (λ p. (is_wrong Address bytes ≡ false) × (p.0.now ≡ field_of bytes)
     × (p.1.now ≡ after_field bytes))
 
--- The fault of so many bytes of information.
+-- The fault of this many bytes of information, if there is one.
 abbrev pub fault_of_info : ℕ → Option FrameFault
 fault_of_info len = if len == 0 then Some NoInfo
     else (if nat_lt 256 len then Some LongInfo else None)
@@ -34,7 +34,7 @@ fault_after_field rest =
     else (if nat_le (length rest) 2 then Some NoInfo
     else (if nat_lt 258 (length rest) then Some LongInfo else None)))
 
--- The SSID that a text names, by its digits.
+-- The SSID that the end of a callsign's text names, by its digits: an empty end names 0.
 abbrev pub ssid_of : List ℕ → Option ℕ
 ssid_of [] = Some 0
 ssid_of (dash ∷ []) = None

@@ -75,7 +75,7 @@ impl Callsign {
         self.ssid
     }
 
-    /// The same callsign. Takes no memory.
+    /// A copy of the callsign. Takes no memory.
     pub fn copy(&self) -> Callsign
         ensures { result ≡ self.now }
     {
@@ -85,7 +85,8 @@ impl Callsign {
         }
     }
 
-    /// Puts an address of this callsign at the end.
+    /// Puts the seven octets of an address of this callsign at the end of `out`. The last has
+    /// `flags` as its three high bits, then the SSID, and `extension` as bit 0.
     pub(crate) fn push_address(
         &self,
         out: &mut ArrayVec<u8, MAX_UI_FRAME>,
@@ -104,7 +105,8 @@ impl Callsign {
         out.push(32 * flags + 2 * self.ssid + extension);
     }
 
-    /// The callsign in the seven octets of an address.
+    /// The callsign that the seven octets of an address spell; bits 1 to 4 of the last are the
+    /// SSID.
     pub(crate) fn from_octets(octets: &[u8]) -> Callsign
         requires seven { length octets.now ≡ 7 }
         requires callsign { has_callsign octets.now ≡ true }
@@ -167,7 +169,8 @@ fn letters_of(octets: &[u8]) -> ArrayVec<u8, 6>
     letters
 }
 
-/// Puts these letters or digits at the end.
+/// Puts the capitals and digits that an address's first six octets begin with, once each is
+/// shifted right by one bit, at the end of `out`.
 fn push_letters<const N: usize>(out: &mut ArrayVec<u8, N>, octets: &[u8])
     requires six { 6 ≤ length octets.now }
     requires room { array_vec_len out.old + 6 ≤ N }
@@ -184,7 +187,8 @@ fn push_letters<const N: usize>(out: &mut ArrayVec<u8, N>, octets: &[u8])
     }
 }
 
-/// Puts the text of the callsign in the seven octets of an address at the end.
+/// Puts at the end of `out` the text of the callsign that these seven octets of an address spell,
+/// at most 9 bytes.
 pub fn push_text_at<const N: usize>(out: &mut ArrayVec<u8, N>, octets: &[u8])
     requires room { array_vec_len out.old + 9 ≤ N }
     requires seven { length octets.now ≡ 7 }
@@ -195,7 +199,7 @@ pub fn push_text_at<const N: usize>(out: &mut ArrayVec<u8, N>, octets: &[u8])
     push_ssid(out, octets[6] / 2 % 16);
 }
 
-/// Puts a dash and the SSID at the end, unless it is 0.
+/// Puts a dash and the SSID in decimal at the end of `text`, or nothing where the SSID is 0.
 fn push_ssid<const N: usize>(text: &mut ArrayVec<u8, N>, ssid: u8)
     requires room { array_vec_len text.old + 3 ≤ N }
     requires ssid { ssid < 16 }
@@ -216,7 +220,8 @@ fn push_ssid<const N: usize>(text: &mut ArrayVec<u8, N>, ssid: u8)
     }
 }
 
-/// What stands before the first dash, and from it on.
+/// The part of a text before its first dash, and the part from this dash on. Without a dash, all
+/// of the text and nothing.
 fn split_dash(text: &[u8]) -> (&[u8], &[u8])
     ensures before { result.0.now ≡ CallText.before_dash text.now }
     ensures from { result.1.now ≡ CallText.from_dash text.now }
@@ -224,7 +229,7 @@ fn split_dash(text: &[u8]) -> (&[u8], &[u8])
     text.split_at(dash_place(text))
 }
 
-/// Where the first dash stands, or how many bytes there are.
+/// Where the first dash stands, or the text's length where there is none.
 fn dash_place(text: &[u8]) -> usize
     ensures place { result ≡ position_or_len CallText.is_dash text.now }
     ensures within { result ≤ length text.now }
@@ -237,7 +242,8 @@ fn dash_place(text: &[u8]) -> usize
     text.len()
 }
 
-/// The SSID that nothing, or a dash and what stands after it, is the text of.
+/// The SSID that the end of a callsign's text names: 0 where it is empty, or the number after the
+/// dash, 1 to 15 without a leading zero. `None` for any other end.
 fn ssid_of(dash: &[u8]) -> Option<u8>
     ensures { result ≡ ssid_of dash.now }
 {
@@ -249,7 +255,7 @@ fn ssid_of(dash: &[u8]) -> Option<u8>
     }
 }
 
-/// The same bytes, of which there are at most six.
+/// A copy of the bytes, of which there are at most six.
 fn up_to_six(bytes: &[u8]) -> ArrayVec<u8, 6>
     requires { length bytes.now ≤ 6 }
     ensures { result.items ≡ bytes.now }
@@ -262,7 +268,8 @@ fn up_to_six(bytes: &[u8]) -> ArrayVec<u8, 6>
 /// Six spaces, shifted left by one bit.
 const SPACES: [u8; 6] = [64; 6];
 
-/// Puts letters at the end, padded with spaces to six and shifted left by one bit.
+/// Puts letters at the end of `out`, with spaces after them up to six, each shifted left by one
+/// bit.
 fn push_letters_and_spaces(out: &mut ArrayVec<u8, MAX_UI_FRAME>, letters: &[u8])
     requires room { array_vec_len out.old + 6 ≤ MAX_UI_FRAME }
     requires six { length letters.now ≤ 6 }
@@ -276,7 +283,8 @@ fn push_letters_and_spaces(out: &mut ArrayVec<u8, MAX_UI_FRAME>, letters: &[u8])
     push_all(out, spaces);
 }
 
-/// What stands before the first dash, and the SSID.
+/// The letters and digits of a callsign's text, before its first dash, and its SSID; or the
+/// text's first fault in the order of the faults' numbers.
 fn parts_of(text: &[u8]) -> Result<(&[u8], u8), CallFault>
     ensures { PartsOf text.now result }
 {

@@ -36,7 +36,7 @@ impl FrameFault {
         }
     }
 
-    /// The fault's name, as in `Address`. Takes no memory.
+    /// The fault's name, such as `Address`. Takes no memory.
     pub fn name(&self) -> &'static str
         ensures { result.now ≡ Spec.frame_fault_name self.now }
     {
@@ -75,7 +75,7 @@ impl CallFault {
         }
     }
 
-    /// The fault's name, as in `Length`. Takes no memory.
+    /// The fault's name, such as `Length`. Takes no memory.
     pub fn name(&self) -> &'static str
         ensures { result.now ≡ Spec.call_fault_name self.now }
     {
@@ -110,7 +110,7 @@ impl MakeFault {
         }
     }
 
-    /// The fault's name, as in `Hops`. Takes no memory.
+    /// The fault's name, such as `Hops`. Takes no memory.
     pub fn name(&self) -> &'static str
         ensures { result.now ≡ Spec.make_fault_name self.now }
     {

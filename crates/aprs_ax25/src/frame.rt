@@ -65,8 +65,9 @@ impl Frame {
         }
     }
 
-    /// Reads the frame that is all the bytes in the place of this one, or returns the first fault
-    /// as `read` does, and then this one stays. Takes no memory. For the crates of this repository.
+    /// Puts the frame that is all the bytes in the place of this one. Otherwise it returns their
+    /// first fault in the order of the faults' numbers, and this frame stays. Takes no memory.
+    /// For the crates of this repository.
     pub fn reread(&mut self, bytes: &[u8]) -> Result<(), FrameFault>
         ensures read { OnOk result (frame_of bytes.now ≡ Ok self.new) }
         ensures fault { IfErr result (λ fault. frame_of bytes.now ≡ Err fault) }
@@ -105,7 +106,8 @@ impl Frame {
         }
     }
 
-    /// The frame of these parts, which are not too many.
+    /// The frame of these parts, as a command. They are at most 8 digipeaters, and 1 to 256 bytes
+    /// of information.
     fn spell(destination: &Callsign, source: &Callsign, hops: &[Hop], info: &[u8]) -> Frame
         requires { Spec.make_fault (length hops.now) (length info.now) ≡ None }
         ensures { FrameOf (Spec.made_parts destination.now source.now hops.now info.now) result }
@@ -118,7 +120,7 @@ impl Frame {
         Frame { bytes }
     }
 
-    /// The frame whose bytes these are.
+    /// The frame whose bytes these are, which have no fault as a frame.
     fn from_bytes(bytes: &[u8]) -> Frame
         requires { frame_fault bytes.now ≡ None }
         ensures value { result ≡ bytes.now }
@@ -129,7 +131,7 @@ impl Frame {
         Frame { bytes: held }
     }
 
-    /// Replaces this frame by the one whose bytes these are.
+    /// Replaces this frame by the one whose bytes these are, which have no fault as a frame.
     fn assign(&mut self, bytes: &[u8])
         requires { frame_fault bytes.now ≡ None }
         ensures { self.new ≡ bytes.now }
@@ -162,8 +164,8 @@ impl Frame {
         Callsign::from_octets(seven_at(&self.bytes, 0))
     }
 
-    /// Puts the source's text at the end, as `source` and `Callsign::text` give it: at most 9
-    /// bytes. Takes no memory. For the crates of this repository.
+    /// Puts the text of the source's callsign, as `Callsign::text` gives it, at the end of `out`:
+    /// at most 9 bytes. Takes no memory. For the crates of this repository.
     pub fn push_source_text<const N: usize>(&self, out: &mut ArrayVec<u8, N>)
         requires room { array_vec_len out.old + 9 ≤ N }
         ensures text { out.new.items ≡ out.old.items ++ call_text (parts_of self.now).source.call }
@@ -172,8 +174,8 @@ impl Frame {
         push_text_at(out, seven_at(&self.bytes, 7));
     }
 
-    /// Puts the destination's text at the end: at most 9 bytes. Takes no memory. For the crates of
-    /// this repository.
+    /// Puts the text of the destination's callsign, as `Callsign::text` gives it, at the end of
+    /// `out`: at most 9 bytes. Takes no memory. For the crates of this repository.
     pub fn push_destination_text<const N: usize>(&self, out: &mut ArrayVec<u8, N>)
         requires room { array_vec_len out.old + 9 ≤ N }
         ensures text { out.new.items ≡ out.old.items
@@ -183,9 +185,10 @@ impl Frame {
         push_text_at(out, seven_at(&self.bytes, 0));
     }
 
-    /// Where there is a digipeater number i, counted as by `hop`, puts the text of its callsign at
-    /// the end, at most 9 bytes, and returns whether it has repeated the frame; where there is
-    /// none, puts nothing. Takes no memory. For the crates of this repository.
+    /// Puts the text of the callsign of digipeater number `i`, counted from 0, at the end of
+    /// `out`, at most 9 bytes, and returns whether this digipeater has repeated the frame. `None`
+    /// where there is no such digipeater, and then `out` stays. Takes no memory. For the crates
+    /// of this repository.
     pub fn push_hop_text<const N: usize>(&self, i: usize, out: &mut ArrayVec<u8, N>) -> Option<bool>
         requires room { array_vec_len out.old + 9 ≤ N }
         ensures text { MatchOption (slice_get (parts_of self.now).digipeaters i)
@@ -197,6 +200,7 @@ impl Frame {
     {
         if i < self.hops() {
             let octets = seven_at(&self.bytes, 7 * (i + 2));
+            // The high bit of an address's last octet is the H bit.
             let repeated = octets[6] >= 128;
             push_text_at(out, octets);
             Some(repeated)
@@ -210,11 +214,12 @@ impl Frame {
         ensures value { result ≡ length (parts_of self.now).digipeaters }
         ensures few { result ≤ 8 }
     {
+        // An address has 7 octets; the first two are the destination's and the source's.
         end_of_field(&self.bytes) / 7 - 2
     }
 
-    /// Digipeater number i, counted from 0 in the order of the path, where there is one. Takes no
-    /// memory.
+    /// Digipeater number `i`, counted from 0 in the order of the path, or `None` where the frame
+    /// names fewer. Takes no memory.
     pub fn hop(&self, i: usize) -> Option<Hop>
         ensures { result ≡ option_map hop_of (slice_get (parts_of self.now).digipeaters i) }
     {
@@ -231,12 +236,13 @@ impl Frame {
         ensures some { 0 < length result.now }
         ensures most { length result.now ≤ 256 }
     {
+        // Control and PID stand before the information.
         let start = end_of_field(&self.bytes) + 2;
         let (_, info) = self.bytes.split_at(start);
         info
     }
 
-    /// The same frame. Takes no memory.
+    /// A copy of the frame. Takes no memory.
     pub fn copy(&self) -> Frame
         ensures { result ≡ self.now }
     {
@@ -281,7 +287,8 @@ impl PartialOrd for Frame {
     }
 }
 
-/// The first fault of the bytes as a frame.
+/// The first fault of the bytes as a frame, or `None` where they are a frame. Where one fast look
+/// at the addresses doesn't show that they are, `fault_of` decides.
 fn fault_in(bytes: &[u8]) -> Option<FrameFault>
     ensures { result ≡ frame_fault bytes.now }
 {
@@ -291,7 +298,8 @@ fn fault_in(bytes: &[u8]) -> Option<FrameFault>
     }
 }
 
-/// The first fault of so many digipeaters and bytes of information.
+/// Why this many digipeaters and bytes of information make no frame: the first fault, or `None`
+/// where they make one.
 fn make_fault(hops: usize, info: usize) -> Option<MakeFault>
     ensures { result ≡ Spec.make_fault hops info }
 {
@@ -307,8 +315,8 @@ fn make_fault(hops: usize, info: usize) -> Option<MakeFault>
 }
 
 /// Puts the address field of a command into `out`, which is empty: destination, source and
-/// digipeaters, seven octets each. The flags are the C bit and both reserved bits: 1 in the
-/// destination, while the source's C bit is 0.
+/// digipeaters, seven octets each. An address's flags are its C bit and two reserved bits: 7 in
+/// the destination, where all three are 1, and 3 in the source, whose C bit is 0.
 fn push_field(
     out: &mut ArrayVec<u8, MAX_UI_FRAME>,
     destination: &Callsign,
@@ -329,15 +337,15 @@ fn push_field(
     push_hops(out, hops);
 }
 
-/// The extension bit of an address: 1 in the last.
+/// The extension bit of an address: 1 in the last of a frame, 0 in the others.
 fn extension_bit(is_last: bool) -> u8
     ensures { result ≡ (if is_last then 1 else 0) }
 {
     u8::from(is_last)
 }
 
-/// Puts the digipeaters' addresses after the destination's and the source's, 14 octets; the
-/// extension bit is 1 in the last.
+/// Puts the digipeaters' addresses at the end of `out`, which has the 14 octets of the
+/// destination and the source. The extension bit is 1 in the last alone.
 fn push_hops(out: &mut ArrayVec<u8, MAX_UI_FRAME>, hops: &[Hop])
     requires room { array_vec_len out.old ≡ 14 }
     requires few { length hops.now ≤ 8 }

@@ -21,7 +21,9 @@ impl Hop {
     ghost use Rattle.aprs_ax25.specs.Hop.{hop_of};
     ghost use Rattle.aprs_ax25.specs.Making.{hop_address};
 
-    /// Puts the digipeater's address at the end.
+    /// Puts the seven octets of the digipeater's address at the end of `out`, with this extension
+    /// bit. The flags are the H bit, 1 if the digipeater has repeated the frame, and two reserved
+    /// bits, both 1: together 7 or 3.
     pub(crate) fn push(&self, out: &mut ArrayVec<u8, MAX_UI_FRAME>, extension: u8)
         requires room { array_vec_len out.old + 7 ≤ MAX_UI_FRAME }
         requires extension { extension < 2 }
@@ -33,7 +35,8 @@ impl Hop {
         self.call.push_address(out, flags, extension);
     }
 
-    /// The digipeater in the seven octets of an address.
+    /// The digipeater that the seven octets of an address spell. It has repeated the frame if the
+    /// H bit is 1, the high bit of the last octet.
     pub(crate) fn from_octets(octets: &[u8]) -> Hop
         requires seven { length octets.now ≡ 7 }
         requires callsign { has_callsign octets.now ≡ true }

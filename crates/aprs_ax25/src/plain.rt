@@ -6,18 +6,22 @@ ghost use Rattle.aprs_ax25.specs.Scan.{fault_after_field};
 
 use crate::scan::{CONTROL_UI, PID_NONE, is_callsign_byte};
 
-/// How many octets the address field has, where the bytes are a frame and one look at each octet
-/// of the field shows it. Where nothing comes, `fault_of` decides.
+/// How many octets the address field has, where one look at each of its octets shows that the
+/// bytes are a frame. `None` decides nothing: the bytes may be a frame or not, which `fault_of`
+/// tells.
 pub fn plain_field_len(bytes: &[u8]) -> Option<usize>
     ensures { IfSome result (λ len. (frame_fault bytes.now ≡ None) × (len ≡ field_len bytes.now)) }
 {
     let mut rest = bytes;
+    // Each turn looks at the next two addresses, of seven octets each, or at the last one.
     for pair in 0..5 {
+        // `are_plain_callsigns` looks at 17 octets.
         if rest.len() < 17 {
             return None;
         }
         let (first, more) = rest.split_at(7);
         if ends_field(first) {
+            // One address alone is no field.
             if pair > 0 && is_plain_callsign(first) && is_plain_rest(more) {
                 return Some(14 * pair + 7);
             }
@@ -38,7 +42,7 @@ pub fn plain_field_len(bytes: &[u8]) -> Option<usize>
     None
 }
 
-/// Whether the last of an address's octets ends the address field.
+/// Whether bit 0 of an address's last octet is 1, so that the address field ends there.
 fn ends_field(address: &[u8]) -> bool
     requires { length address.now ≡ 7 }
     ensures { result ≡ ends_field (slice_index address.now 6) }
@@ -46,7 +50,8 @@ fn ends_field(address: &[u8]) -> bool
     address[6] % 2 == 1
 }
 
-/// Whether control, PID and 1 to 256 bytes of information stand there.
+/// Whether the bytes after the address field are control 03, PID F0 and 1 to 256 bytes of
+/// information.
 fn is_plain_rest(rest: &[u8]) -> bool
     ensures { result ≡ true → fault_after_field rest.now ≡ None }
 {
@@ -73,8 +78,10 @@ fn is_plain_callsign(octets: &[u8]) -> bool
     is_fine
 }
 
-/// The same of two addresses, which are looked at together: all sixteen octets after the first in
-/// one step of the processor. So ten octets stand after the first address.
+/// Whether the first six octets of each of two addresses are 1 to 6 capitals or digits and then
+/// spaces, each shifted left by one bit. The addresses stand at the start of `octets`, and three
+/// octets more have to follow: the sixteen after the first are looked at in one step of the
+/// processor.
 fn are_plain_callsigns(octets: &[u8]) -> bool
     requires { 17 ≤ length octets.now }
     ensures first { result ≡ true → IsPlainAddress (take 7 octets.now) }
@@ -88,8 +95,10 @@ fn are_plain_callsigns(octets: &[u8]) -> bool
     are_fine
 }
 
-/// Whether an octet may stand after octet i of two addresses, as far as callsigns go: the second
-/// callsign begins after octet 6, and after octets 5 and 12 comes none of a callsign's.
+/// Whether `octet` may stand after octet `i` of two addresses, `before`, as far as callsigns go;
+/// `i` counts from 0. A letter or digit may stand at the second callsign's start, after octet 6,
+/// and after another one. A space may stand anywhere but at that start. After octet 5 and from
+/// octet 12 on any octet may stand, since it is in no callsign.
 fn may_follow(i: usize, before: u8, octet: u8) -> bool
     ensures { result ≡ may_follow i before octet }
 {

@@ -16,14 +16,15 @@ pub const PID_NONE: u8 = 0xf0;
 /// The most bytes of a UI frame: 10 addresses of 7 octets, control, PID and 256 of information.
 pub const MAX_UI_FRAME: usize = 328;
 
-/// Whether it is a capital or a digit.
+/// Whether the byte is a capital or a digit.
 pub fn is_callsign_byte(b: u8) -> bool
     ensures { result ≡ is_callsign_byte b }
 {
     b.is_ascii_uppercase() || b.is_ascii_digit()
 }
 
-/// How many octets there are up to the first with bit 0 set, or one more than all.
+/// How many octets the address field has: all up to and with the first whose bit 0 is 1. Where
+/// there is no such octet, one more than there are octets.
 pub fn field_len(bytes: &[u8]) -> usize
     ensures { result ≡ Spec.field_len bytes.now }
 {
@@ -35,8 +36,8 @@ pub fn field_len(bytes: &[u8]) -> usize
     bytes.len() + 1
 }
 
-/// The same of a frame. Only the last octet of an address may have the bit set, so that every
-/// seventh octet alone is looked at.
+/// How many octets the address field of a frame has. In a frame only the last octet of an address
+/// may have bit 0 set, so that every seventh octet alone is looked at, from the source's on.
 pub fn end_of_field(frame: &[u8]) -> usize
     requires { Spec.frame_fault frame.now ≡ None }
     ensures { result ≡ Spec.field_len frame.now }
@@ -80,7 +81,8 @@ fn are_spaces(octets: &[u8]) -> bool
     octets.iter().all(|octet| *octet / 2 == b' ')
 }
 
-/// Whether the octets of an address are a callsign padded with spaces.
+/// Whether the first six octets of an address, shifted right by one bit, are 1 to 6 capitals or
+/// digits and then spaces alone.
 fn has_callsign(octets: &[u8]) -> bool
     requires { 6 ≤ length octets.now }
     ensures { result ≡ Spec.has_callsign octets.now }
@@ -90,7 +92,7 @@ fn has_callsign(octets: &[u8]) -> bool
     len > 0 && are_spaces(spaces)
 }
 
-/// Whether each of the addresses has a callsign.
+/// Whether each address of the field, seven octets each, has a callsign.
 fn have_callsigns(field: &[u8]) -> bool
     ensures { result ≡ list_all Spec.has_callsign (Spec.sevens (length field.now / 7) field.now) }
 {
@@ -105,7 +107,8 @@ fn have_callsigns(field: &[u8]) -> bool
     true
 }
 
-/// The address field and what stands after it, where the field may be one.
+/// The address field and the bytes after it, or `None` where the octets up to the first whose bit
+/// 0 is 1 aren't 2 to 10 addresses, or there is no such octet.
 pub fn split_field(bytes: &[u8]) -> Option<(&[u8], &[u8])>
     ensures { SplitsField result bytes.now }
 {
@@ -117,14 +120,15 @@ pub fn split_field(bytes: &[u8]) -> Option<(&[u8], &[u8])>
     }
 }
 
-/// Whether so many octets may be an address field.
+/// Whether this many octets are 2 to 10 addresses of seven octets each.
 fn is_field_len(len: usize) -> bool
     ensures { result ≡ Spec.is_field_len len }
 {
     len % 7 == 0 && 14 <= len && len <= 70
 }
 
-/// The first fault of what stands after the address field.
+/// The first fault of the bytes after the address field, or `None` where they are control 03, PID
+/// F0 and 1 to 256 bytes of information.
 fn fault_after(rest: &[u8]) -> Option<FrameFault>
     ensures { result ≡ fault_after_field rest.now }
 {
@@ -135,7 +139,7 @@ fn fault_after(rest: &[u8]) -> Option<FrameFault>
     }
 }
 
-/// The fault of so many bytes of information.
+/// The fault of this many bytes of information, or `None` where they are 1 to 256.
 fn fault_of_info(len: usize) -> Option<FrameFault>
     ensures { result ≡ fault_of_info len }
 {
@@ -146,7 +150,8 @@ fn fault_of_info(len: usize) -> Option<FrameFault>
     }
 }
 
-/// The first fault of the bytes as a frame.
+/// The first fault of the bytes as a frame, in the order of the faults' numbers, or `None` where
+/// they are a frame.
 #[cold]
 pub fn fault_of(bytes: &[u8]) -> Option<FrameFault>
     ensures { result ≡ Spec.frame_fault bytes.now }

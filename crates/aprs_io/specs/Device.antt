@@ -56,7 +56,8 @@ pub record Calls {T : Type 0} (last : Last) (old new : Counted T) : Type 0 where
   pub answered : new.answered ≡ faults_after last old.answered
   pub ended : new.ended ≡ ends_after last old.ended
 
--- A call that returns an error had a fault answered.
+-- What the device was answered last, by what a function returned: a fault where it returned an
+-- error.
 abbrev pub last_at : {A E : Type 0} → Result A E → Last
 last_at (Ok value) = Going
 last_at (Err fault) = Fault
@@ -71,7 +72,7 @@ AppendsAllBut old new bytes rest =
 abbrev pub AppendsPrefix : Option (List ℕ) → Option (List ℕ) → List ℕ → Type 0
 AppendsPrefix old new bytes = (rest : List ℕ) × AppendsAllBut old new bytes rest
 
--- How many tries may fail in so many calls of a device: 999 in each, and one more at a fault.
+-- How many tries may fail in this many calls of a device: 999 in each, and one more at a fault.
 abbrev pub most_failures : Last → ℕ → ℕ
 most_failures Fault calls = 999 * calls + 1
 most_failures other calls = 999 * calls

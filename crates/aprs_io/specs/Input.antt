@@ -59,7 +59,8 @@ pub record GetsSome {R : Type 0} (remaining : R → Option (List ℕ)) (r : Resu
   pub calls : Calls (last_got r) old new
   pub tries : new.failed ≤ old.failed + most_failures (last_got r) 1
 
--- The answer of one read with room for as many bytes.
+-- What one read was answered, by what it returned and how many bytes there was room for: the end
+-- where no byte came though there was room, and a fault where it returned an error.
 abbrev pub last_read : {E : Type 0} → Result ℕ E → ℕ → Last
 last_read (Ok zero) zero = Going
 last_read (Ok zero) (suc room) = End

@@ -6,9 +6,9 @@ use Rattle.aprs_io.specs.declared.device.Counted.{Counted}
 use Rattle.aprs_io.specs.declared.input.Ending.{Ending}
 use Rattle.aprs_io.specs.declared.input.Ending.TheVariants as how
 
--- The input ends in this way, under a limit of so many bytes more. Where it is too long, one byte
--- more was taken of the device. Whoever asks again after the end, or after a fault, has the counts
--- of answers show it.
+-- The input ends in this way, where the limit allows `left` bytes more. Where it is too long, one
+-- byte more was taken of the device. If the device was asked again after the end, or after a
+-- fault, its counts of answers would show it.
 pub record EndsInput {R : Type 0} (remaining : R → Option (List ℕ)) (way : Ending) (left : ℕ)
     (old new : Counted R) : Type 0 where
   pub end : EndsHere way left (remaining old.device) (remaining new.device)

@@ -17,7 +17,8 @@ writer_loan_of o = o.w.ghost_name
 abbrev pub held_of : {W : Type 0} → Outlet W → List ℕ
 held_of o = o.held.items
 
--- It took this text since the writer was `first`: what it holds of it is yet to go out.
+-- The outlet took this text since the writer was `first`: a first part of it went out, and the
+-- rest is what the outlet holds.
 abbrev pub HasTaken : {W : Type 0} → (W → Option (List ℕ)) → Counted W → Outlet W → List ℕ → Type 0
 HasTaken contents first o text = SendsAllBut contents first (writer_of o) text (held_of o)
 

@@ -6,8 +6,8 @@ ghost use Rattle.aprs_io.specs.Cut.{cut_at, cut_of, is_byte};
 
 use memchr::memchr;
 
-/// What stands before the first `stop` and what stands after it, where there is one. Takes no
-/// memory.
+/// The bytes before the first `stop` and the bytes after it, or `None` where the text has no such
+/// byte. Takes no memory.
 pub fn cut_at(text: &[u8], stop: u8) -> Option<(&[u8], &[u8])>
     ensures { option_map cut_of result ≡ cut_at stop text.now }
 {
@@ -19,7 +19,7 @@ pub fn cut_at(text: &[u8], stop: u8) -> Option<(&[u8], &[u8])>
     }
 }
 
-/// How many bytes stand before the first `stop`, or in all.
+/// How many bytes stand before the first `stop`, or the text's length where it has no such byte.
 fn len_before(text: &[u8], stop: u8) -> usize
     ensures { result ≡ position_or_len (is_byte stop) text.now }
 {

@@ -28,7 +28,7 @@ pub struct Counted<T> {
 }
 
 impl<T> Counted<T> {
-    /// The device, none of whose calls failed yet. Takes no memory.
+    /// The device, with each of the counts at 0. Takes no memory.
     pub fn new(device: T) -> Self
         ensures device { Spec.device_of result ≡ device }
         ensures failures { Spec.failures_of result ≡ 0 }
@@ -66,7 +66,7 @@ impl<T> Counted<T> {
         self.device
     }
 
-    /// Counts a failed call.
+    /// Counts a failed call of the device. At `u64::MAX` the count stays.
     fn note_failure(&mut self)
         ensures rose { Spec.Rose self.old.failed self.new.failed }
         ensures count { self.old.failed ≤ self.new.failed }
@@ -80,7 +80,7 @@ impl<T> Counted<T> {
         *count = count.saturating_add(1);
     }
 
-    /// Counts a fault that is answered.
+    /// Counts a fault that `read` or `send` answers. At `u64::MAX` the count stays.
     fn note_answer(&mut self)
         ensures device { self.new.device ≡ self.old.device }
         ensures failed { self.new.failed ≡ self.old.failed }
@@ -91,7 +91,7 @@ impl<T> Counted<T> {
         *count = count.saturating_add(1);
     }
 
-    /// Counts an end that is answered.
+    /// Counts an end that `read` answers. At `u64::MAX` the count stays.
     fn note_end(&mut self)
         ensures { self.new ≡ record self.old { ended = Spec.one_more self.old.ended } }
     {
@@ -101,10 +101,11 @@ impl<T> Counted<T> {
 }
 
 impl<R: Read> Counted<R> {
-    /// Reads the device's next bytes to the start of `buf`: 0 of them at its end, or where `buf`
-    /// is empty. An interrupted try is a failed call and is tried again, up to 999 in a row; the
-    /// 1,000th, and any other error at once, is a fault. At a fault no byte is lost and the count
-    /// rises. A device isn't asked where `buf` is empty. Takes no memory.
+    /// Reads the device's next bytes to the start of `buf`, and returns how many came: 0 at the
+    /// device's end, or where `buf` is empty, and then the device isn't asked. Each failed try is
+    /// counted. An interrupted try is made again, up to 999 in a row; the 1,000th, and any other
+    /// error at once, is a fault. At a fault no byte is lost. An answer that is a fault or the
+    /// end is counted too. Takes no memory.
     pub fn read(&mut self, buf: &mut [u8]) -> Result<usize, DeviceFault>
         ensures { ReadsOnce R.remaining result self.old self.new buf.new }
     {
@@ -133,9 +134,9 @@ impl<R: Read> Counted<R> {
     }
 }
 
-/// Writes all of `bytes`, or at a fault a prefix of them, and then the count rises. An interrupted
-/// try is a failed call and is tried again, up to 999 in a row; the 1,000th, any other error and a
-/// write that takes nothing are faults. Takes no memory.
+/// Writes all of `bytes`, or at a fault a prefix of them. Each failed try is counted. An
+/// interrupted try is made again, up to 999 in a row; the 1,000th, any other error and a write
+/// that takes no byte are faults. An answer that is a fault is counted too. Takes no memory.
 pub fn send<W: Write>(w: &mut Counted<W>, bytes: &[u8]) -> Result<(), WriteFault>
     ensures { Spec.Sends W.contents result w.old w.new bytes.now }
 {

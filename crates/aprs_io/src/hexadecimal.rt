@@ -7,9 +7,9 @@ ghost use Rattle.aprs_io.specs.Hexadecimal.{HoldsByte, HoldsDigits, HoldsValue, 
 /// How many bytes are read or written in a step.
 const BLOCK: usize = 16;
 
-/// Reads a hexadecimal text to the start of `room`, which has to have room for it, and returns how
-/// many bytes it holds, where it is one: an even number of digits, `A` to `F` in either case. Takes
-/// no memory.
+/// Decodes hexadecimal digits, with letters in either case, to the start of `room`, which has to
+/// have room for their bytes, and returns how many bytes they are. `None` where the text has
+/// another byte or an odd number of digits; then too `room` may have changed. Takes no memory.
 pub fn decode_into(text: &[u8], room: &mut [u8]) -> Option<usize>
     requires { length text.now ≤ 2 * length room.old }
     ensures { MatchOption result (¬ IsOk (decode_of text.now))
@@ -21,9 +21,9 @@ pub fn decode_into(text: &[u8], room: &mut [u8]) -> Option<usize>
     decode_to(text, &mut room[..len]).then_some(len)
 }
 
-/// Reads lower case digits to the start of `room`, which has to have room for their bytes, and
-/// returns how many bytes they are. `None` where the text is that of no bytes: it has a capital
-/// letter, another byte that is no digit, or an odd number of digits. Takes no memory.
+/// Decodes lower case digits to the start of `room`, which has to have room for their bytes, and
+/// returns how many bytes they are. `None` where the text has a capital letter, another byte that
+/// is no digit, or an odd number of digits; then too `room` may have changed. Takes no memory.
 pub fn decode_lower_into(text: &[u8], room: &mut [u8]) -> Option<usize>
     requires { length text.now ≤ 2 * length room.old }
     ensures { MatchOption result
@@ -36,7 +36,7 @@ pub fn decode_lower_into(text: &[u8], room: &mut [u8]) -> Option<usize>
     decode_lower_to(text, &mut room[..len]).then_some(len)
 }
 
-/// How many pairs of digits a text has, where their number is even.
+/// Half the length of a text, or `None` where the length is odd. Its bytes aren't looked at.
 fn count_pairs(text: &[u8]) -> Option<usize>
     ensures { MatchOption result (¬ (length text.now % 2 ≡ 0)) (λ n. length text.now ≡ 2 * n) }
 {
@@ -47,8 +47,8 @@ fn count_pairs(text: &[u8]) -> Option<usize>
     }
 }
 
-/// Puts the lower case digits of bytes at a place, over the bytes that are there, and returns the
-/// place after them. Takes no memory.
+/// Writes the lower case digits of `bytes`, two for each, to `out` from `at` on, over what is
+/// there, and returns the place after them. Takes no memory.
 pub fn put_hex(out: &mut [u8], at: usize, bytes: &[u8]) -> usize
     requires { at + 2 * length bytes.now ≤ length out.old }
 
@@ -63,7 +63,8 @@ pub fn put_hex(out: &mut [u8], at: usize, bytes: &[u8]) -> usize
     end
 }
 
-/// Writes the lower case digits of bytes, which are to fill `digits`.
+/// Fills `digits` with the lower case digits of `bytes`, two for each: block by block, where the
+/// last block may overlap the one before it, or byte by byte where there are fewer than a block.
 fn encode_to(bytes: &[u8], digits: &mut [u8])
     requires { length digits.old ≡ 2 * length bytes.now }
     ensures { digits.new ≡ encode_lower bytes.now }
@@ -78,7 +79,7 @@ fn encode_to(bytes: &[u8], digits: &mut [u8])
     }
 }
 
-/// The same, byte by byte.
+/// Fills `digits` with the lower case digits of `bytes`, two for each, byte by byte.
 fn encode_few(bytes: &[u8], digits: &mut [u8])
     requires { length digits.old ≡ 2 * length bytes.now }
     ensures { digits.new ≡ encode_lower bytes.now }
@@ -90,8 +91,9 @@ fn encode_few(bytes: &[u8], digits: &mut [u8])
     }
 }
 
-/// Writes the digits of the bytes of a block. They are made apart, so that many of them are made in
-/// one step of the processor.
+/// Writes the digits of the 16 bytes from `at` on to their place in `digits`; the digits before
+/// them stay. They are made in an array of their own, so that many of them are made in one step
+/// of the processor.
 #[inline(always)]
 fn encode_block(bytes: &[u8], digits: &mut [u8], at: usize)
     requires len { length digits.old ≡ 2 * length bytes.now }
@@ -107,8 +109,8 @@ fn encode_block(bytes: &[u8], digits: &mut [u8], at: usize)
     digits[2 * at..2 * at + 2 * BLOCK].copy_from_slice(&block);
 }
 
-/// Puts the digits of the bytes of a block. Each byte is put twice first, so that all digits are
-/// made alike, which the compiler does in fewer steps.
+/// Fills `digits` with the digits of the 16 bytes of a block. Each byte is put twice first, so
+/// that all digits are made alike, which the compiler does in fewer steps.
 #[inline(always)]
 fn put_digits(bytes: &[u8], digits: &mut [u8; 32])
     requires { length bytes.now ≡ BLOCK }
@@ -124,7 +126,8 @@ fn put_digits(bytes: &[u8], digits: &mut [u8; 32])
     }
 }
 
-/// The half of a byte that digit `k` stands for: the high one at an even place.
+/// The half of a byte that digit `k` stands for: the high four bits where `k` is even, or else
+/// the low four.
 #[inline(always)]
 fn half_of(byte: u8, k: usize) -> u8
     ensures small { result < 16 }
@@ -151,7 +154,9 @@ fn digit_of(value: u8) -> u8
     }
 }
 
-/// Whether the bytes of a hexadecimal text now fill `out`.
+/// Fills `out` with the bytes of hexadecimal digits, in either case, and returns whether the text
+/// is digits alone. At `false` what `out` holds means nothing. Where the fast look of
+/// `decode_digits` says no, the crate `hex` decides.
 fn decode_to(text: &[u8], out: &mut [u8]) -> bool
     requires { length text.now ≡ 2 * length out.old }
     ensures { MatchResult (decode_of text.now) (λ bytes. (result ≡ true) × (out.new ≡ bytes))
@@ -160,7 +165,9 @@ fn decode_to(text: &[u8], out: &mut [u8]) -> bool
     decode_digits(text, out, false) || hex::decode_to_slice(text, out).is_ok()
 }
 
-/// Whether the text is the lower case digits of the bytes that now fill `out`.
+/// Fills `out` with the bytes of lower case digits, and returns whether the text is such digits
+/// alone. At `false` what `out` holds means nothing. Where the fast look of `decode_digits` says
+/// no, a look byte by byte decides.
 fn decode_lower_to(text: &[u8], out: &mut [u8]) -> bool
     requires { length text.now ≡ 2 * length out.old }
     ensures bytes { MatchBool result (text.now ≡ encode_lower out.new)
@@ -170,7 +177,8 @@ fn decode_lower_to(text: &[u8], out: &mut [u8]) -> bool
     decode_digits(text, out, true) || decode_few(text, out)
 }
 
-/// The same, byte by byte.
+/// Fills `out` with the bytes of lower case digits, byte by byte, and returns whether the text is
+/// such digits alone. At `false` what `out` holds means nothing.
 #[inline(never)]
 fn decode_few(text: &[u8], out: &mut [u8]) -> bool
     requires { length text.now ≡ 2 * length out.old }
@@ -189,9 +197,10 @@ fn decode_few(text: &[u8], out: &mut [u8]) -> bool
     true
 }
 
-/// Whether the text is seen to have digits alone, and then its bytes fill `out`; `lower` asks for
-/// small letters. Digits are read a block at a time; the last block may overlap the one before it.
-/// Where it says no, as of a text that is shorter than a block, `out` says nothing.
+/// Fills `out` with the bytes of hexadecimal digits, and returns whether the text is digits
+/// alone; if `lower`, a capital letter is no digit. It goes block by block, where the last block
+/// may overlap the one before it, and says `false` of any text that is shorter than a block. At
+/// `false` what `out` holds means nothing.
 #[inline(always)]
 fn decode_digits(text: &[u8], out: &mut [u8], lower: bool) -> bool
     requires { length text.now ≡ 2 * length out.old }
@@ -212,7 +221,9 @@ fn decode_digits(text: &[u8], out: &mut [u8], lower: bool) -> bool
     true
 }
 
-/// Whether the digits of the bytes of a block are digits, and then `out` has these bytes there.
+/// Decodes the digits of the 16 bytes from `at` on to their place in `out`, and returns whether
+/// all are digits; if `lower`, a capital letter is none. At `false` these 16 bytes mean nothing.
+/// The bytes before them stay.
 #[inline(always)]
 fn decode_block(text: &[u8], out: &mut [u8], at: usize, lower: bool) -> bool
     requires len { length text.now ≡ 2 * length out.old }
@@ -232,7 +243,8 @@ fn decode_block(text: &[u8], out: &mut [u8], at: usize, lower: bool) -> bool
     are_digits
 }
 
-/// Puts the values of digits, and says whether they are digits. There is no early end, so that many
+/// Fills `values` with the value of each digit, and returns whether all are digits; if `lower`, a
+/// capital letter is none. The value of another byte is 255. There is no early end, so that many
 /// are looked at in one step of the processor.
 #[inline(always)]
 fn put_values(digits: &[u8], values: &mut [u8; 32], lower: bool) -> bool
@@ -250,7 +262,8 @@ fn put_values(digits: &[u8], values: &mut [u8; 32], lower: bool) -> bool
     most < 16
 }
 
-/// Puts the bytes of pairs of digits that have these values.
+/// Fills `out` with the byte of each pair of values: the first value is its high half, the second
+/// its low half. Where a value is 255, which no digit has, the byte means nothing.
 #[inline(always)]
 fn put_bytes(values: &[u8; 32], out: &mut [u8])
     requires { length out.old ≡ BLOCK }

@@ -20,9 +20,10 @@ pub enum Ending {
     TooLong,
 }
 
-/// Reads once to the start of `room`, which is not empty, and returns how many bytes came: at least
-/// one, at most `left`. Otherwise it returns how the input ends. Where `left` is 0, the device is
-/// asked for one byte more: if it gives one, the input is too long. Takes no memory.
+/// Reads once to the start of `room`, which is not empty, and returns how many bytes came: at
+/// least one, and at most `left`, the bytes that the input's limit still allows. `Err` says how
+/// the input ends. Where `left` is 0, the device is asked for one byte more, which isn't kept: if
+/// it gives one, the input is too long. Takes no memory.
 pub fn read_some<R: Read>(
     source: &mut Counted<R>,
     room: &mut [u8],
@@ -42,7 +43,9 @@ pub fn read_some<R: Read>(
     }
 }
 
-/// How an input ends of which as many bytes were read as the limit: it has a further byte or not.
+/// How an input ends of which as many bytes were read as its limit. The device is asked for one
+/// byte more, which isn't kept: `TooLong` if it gives one, `End` if it gives none, `Read` if it
+/// fails.
 fn ending_at_limit<R: Read>(source: &mut Counted<R>) -> Ending
     ensures { EndsInput R.remaining result 0 source.old source.new }
 {

@@ -20,7 +20,7 @@ pub struct Outlet<'a, W> {
 impl<'a, W: Write> Outlet<'a, W> {
     ghost use Rattle.aprs_io.specs.Outlet as Spec;
 
-    /// Holds nothing yet. Takes no memory.
+    /// An outlet that has this writer on loan, and has taken no bytes yet. Takes no memory.
     pub fn new(w: &'a mut Counted<W>) -> Outlet<'a, W>
         ensures same_reference { Spec.writer_loan_of result ≡ w.entry.ghost_name }
         ensures nothing { Spec.HasTaken W.contents w.old result [] }
@@ -31,7 +31,10 @@ impl<'a, W: Write> Outlet<'a, W> {
         }
     }
 
-    /// Puts bytes after those that it took before. Takes no memory.
+    /// Takes `bytes` after those that it took before. It holds them back where there is room;
+    /// otherwise it sends what it holds first, and then `bytes` too where they are longer than
+    /// all the room. At a fault a prefix of what it held and then of `bytes` went out, and the
+    /// rest is lost. Takes no memory.
     pub fn put(&mut self, bytes: &[u8]) -> Result<(), WriteFault>
         ensures { Spec.Puts W.contents result self.old self.new bytes.now }
     {
@@ -45,7 +48,8 @@ impl<'a, W: Write> Outlet<'a, W> {
         Ok(())
     }
 
-    /// Sends what it holds, and lets go of it at a fault too. Takes no memory.
+    /// Sends all bytes that it holds, and then holds none. At a fault a prefix of them went out,
+    /// and the others are lost. Takes no memory.
     pub fn flush(&mut self) -> Result<(), WriteFault>
         ensures same_reference { Spec.writer_loan_of self.new ≡ Spec.writer_loan_of self.old }
         ensures sent { Sends W.contents result (Spec.writer_of self.old) (Spec.writer_of self.new)

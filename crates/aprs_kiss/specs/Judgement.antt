@@ -53,7 +53,7 @@ data_frame_of [] = Err NotData
 data_frame_of (head ∷ bytes) =
     if head % 16 == 0 then Ok (record { port = head / 16; bytes = bytes }) else Err NotData
 
--- The judgement of a piece that spells these bytes, or none.
+-- The judgement of a piece, by the bytes that it spells: `None` is a piece that spells no bytes.
 abbrev pub judgement_by : Option (List ℕ) → Judgement
 judgement_by None = Err BadEscape
 judgement_by (Some bytes) =

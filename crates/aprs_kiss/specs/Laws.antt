@@ -61,7 +61,7 @@ CutAtEachEnd = (stream : List ℕ) → All HasNoEnd (pieces_of stream) × HasNoE
 abbrev pub OpenPiece : Type 0
 OpenPiece = (bytes : List ℕ) → HasNoEnd bytes → (judgements_of bytes ≡ []) × (rest_of bytes ≡ bytes)
 
--- A frame end after them ends one piece, which is judged.
+-- A frame end after one byte or more, none of them a frame end, ends one piece, which is judged.
 abbrev pub EndedPiece : Type 0
 EndedPiece = (bytes : List ℕ) → HasNoEnd bytes → 0 < length bytes
     → judgements_of (bytes ++ 0xC0 ∷ []) ≡ judgement_of bytes ∷ []

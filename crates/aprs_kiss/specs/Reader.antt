@@ -7,7 +7,7 @@ use Rattle.aprs_kiss.specs.declared.reader.KissReader.{KissReader}
 use Rattle.aprs_kiss.specs.declared.reader.State.{State}
 use Rattle.aprs_kiss.specs.declared.reader.State.TheVariants.{Ended, Plain, Escape, Long, LongEscape, Broken}
 
--- The bytes are some, and they spell what is held.
+-- There are bytes, and they spell what is held.
 pub record HoldsPlain (held bytes : List ℕ) : Type 0 where
   pub nonempty : 0 < length bytes
   pub spelled : spelled_bytes bytes ≡ Some held

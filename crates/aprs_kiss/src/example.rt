@@ -13,7 +13,8 @@ pub fn test_goes_to_port_0()
     ensures misses_end { judgements_of (0xC0 ∷ 0x00 ∷ 0x54 ∷ 0x45 ∷ 0x53 ∷ 0x54 ∷ []) ≡ [] }
 {}
 
-/// `Hello` goes out of port 5, which the high four bits of the type byte name.
+/// `Hello` goes out of port 5, which the high four bits of the type byte 50 name. The type byte
+/// 05 names command 5, which is no data frame.
 pub fn hello_goes_to_port_5()
     ensures judged { judgements_of (0xC0 ∷ 0x50 ∷ codes "Hello" ++ 0xC0 ∷ [])
         ≡ Ok (record { port = 5; bytes = codes "Hello" }) ∷ [] }

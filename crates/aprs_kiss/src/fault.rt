@@ -14,7 +14,8 @@ pub enum PassFault {
 }
 
 impl PassFault {
-    /// 1 to 3, in the order in which the faults are looked for. Takes no memory.
+    /// The fault's number, 1 to 3, in the order in which the faults are looked for. Takes no
+    /// memory.
     pub fn number(&self) -> u8
         ensures { result ≡ pass_fault_number self.now }
     {

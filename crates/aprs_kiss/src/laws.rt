@@ -2,7 +2,8 @@
 //! makes such a call knows what it ensures.
 ghost use Rattle.aprs_kiss.specs.Laws as Spec;
 
-/// No bytes are spelled as others are, and each nonempty piece of a stream is judged in one way.
+/// No two lists of bytes are sent alike, and each nonempty piece of a stream has exactly one
+/// judgement.
 pub fn each_piece_is_judged_once()
     ensures spelled { Spec.SpellsOnce }
     ensures judged { Spec.JudgedOnce }
@@ -14,7 +15,8 @@ pub fn a_stream_is_its_pieces()
     ensures cut { Spec.CutAtEachEnd }
 {}
 
-/// A piece is judged at the frame end after it, and then nothing is left.
+/// Bytes without a frame end aren't judged until a frame end follows, and then nothing is left of
+/// the stream. A frame end alone has no judgement.
 pub fn frame_ends_end_pieces()
     ensures begun { Spec.OpenPiece }
     ensures ended { Spec.EndedPiece }
@@ -29,8 +31,9 @@ pub fn cuts_change_nothing()
     ensures left { Spec.LeftInParts }
 {}
 
-/// What `write_kiss` writes is read as a data frame of port 0 with the same bytes, where there are
-/// at most 1,023 of them. In whatever pieces it is read, a reader stands at its end after it.
+/// What `write_kiss` writes is read as a data frame of port 0 with the same bytes, where there
+/// are at most 1,023 of them; a longer frame is passed over as too long. After either nothing is
+/// left of the stream.
 pub fn written_frames_are_read_back()
     ensures frame { Spec.ReadBack }
     ensures long { Spec.ReadBackLong }

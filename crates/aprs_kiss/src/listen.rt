@@ -21,6 +21,8 @@ pub trait Listener {
 /// Feeds all of a piece of a stream to the reader, and hands each answer to the listener. Takes no
 /// memory.
 pub fn feed_all<L: Listener>(reader: &mut KissReader, piece: &[u8], listener: &mut L)
+    // `before` is what came since the last frame end before the call. The listener hears the
+    // judgements of the pieces that ended since, in order.
     ensures stands { (before : List ℕ) → StandsAfter reader.old before
         → StandsAfter reader.new (rest_of (before ++ piece.now)) }
     ensures heard { (before : List ℕ) → StandsAfter reader.old before
@@ -44,6 +46,8 @@ pub fn feed_in_parts<L: Listener>(
     lengths: &[usize],
     listener: &mut L,
 )
+    // `before` is what came since the last frame end before the call. The listener hears the
+    // judgements of the pieces that ended since, in order.
     ensures stands { (before : List ℕ) → StandsAfter reader.old before
         → StandsAfter reader.new (rest_of (before ++ stream.now)) }
     ensures heard { (before : List ℕ) → StandsAfter reader.old before

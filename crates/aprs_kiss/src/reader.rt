@@ -68,10 +68,11 @@ impl KissReader {
         }
     }
 
-    /// Takes the bytes of `piece` up to the frame end of a nonempty piece of the stream, or all of
-    /// them, and returns how many they were and what they are: a data frame of at most 1,023 bytes,
-    /// which lies in the reader until the next call, or why the piece is passed over. The reader
-    /// then reads on. Takes no memory.
+    /// Takes bytes from the start of `piece`, the next part of a stream: up to and with the first
+    /// frame end of a nonempty piece of the stream, or all of them where there is none. Returns
+    /// how many it took, and what ended there: a data frame of at most 1,023 bytes, which lies in
+    /// the reader until the next call, the fault for which a piece is passed over, or nothing.
+    /// The next call goes on with the bytes after these. Takes no memory.
     pub fn feed(&mut self, piece: &[u8]) -> (usize, Fed<'_>)
         // Here and below, `before` is what came since the last frame end before the call. The
         // nonempty pieces that ended are none or one, and its judgement is reported.
@@ -85,7 +86,7 @@ impl KissReader {
         ensures ends { (before : List ℕ) → StandsAfter self.old before → judgements_in result.1 ≢ []
             → EndsPiece (before ++ take result.0 piece.now) }
 
-        // Then it stands after what is left of all that came.
+        // Once the frame is given back, the reader stands after what is left of all that came.
         ensures* stands { sem 𝓛 (Rests the_row self.entry (λ new. (before : List ℕ)
             → StandsAfter self.old before
             → StandsAfter new (rest_of (before ++ take result.0 piece.now)))) }
@@ -109,7 +110,8 @@ impl KissReader {
         matches!(self.state, State::Ended)
     }
 
-    /// Goes to the beginning of another stream. Takes no memory.
+    /// Goes to the beginning of another stream, and forgets the piece that it was reading. Takes
+    /// no memory.
     pub fn reset(&mut self)
         ensures { StandsAfter self.new [] }
     {
@@ -117,7 +119,10 @@ impl KissReader {
         *state = State::Ended;
     }
 
-    /// As `feed`, with the frame left in the buffer, after its type byte.
+    /// Takes bytes from the start of `piece`, up to and with the first frame end of a nonempty
+    /// piece of the stream, or all of them where there is none, and returns how many. Then, where
+    /// such a piece ended, the port of its data frame, which lies in the buffer after its type
+    /// byte, or why it is passed over; `None` where none ended.
     fn step(&mut self, piece: &[u8]) -> (usize, Option<Result<u8, PassFault>>)
         ensures judged { (before : List ℕ) → StandsAfter self.old before
             → judgements_of (before ++ take result.0 piece.now)
@@ -140,6 +145,7 @@ impl KissReader {
             let Some((byte, after)) = mark else {
                 return (piece.len(), None);
             };
+            // A frame end right after another ends nothing.
             if byte == FESC {
                 self.take_escape();
             } else if !self.finish() {
@@ -149,7 +155,8 @@ impl KissReader {
         }
     }
 
-    /// Takes bytes that stand for themselves, but for the first where an escape is open.
+    /// Takes bytes of a piece among which there is no FEND or FESC. Where an escape has begun,
+    /// the first of them ends it.
     fn take_plain(&mut self, run: &[u8])
         requires { IsPlain run.now }
         ensures { (before : List ℕ) → StandsAfter self.old before
@@ -166,7 +173,7 @@ impl KissReader {
         }
     }
 
-    /// Whether an escape has begun.
+    /// Whether an escape has begun, and its second byte hasn't come yet.
     fn is_open(&self) -> bool
         ensures open { OnTrue result (IsOpen self.now.state) }
         ensures closed { OnFalse result (IsClosed self.now.state) }
@@ -174,8 +181,9 @@ impl KissReader {
         matches!(self.state, State::Escape | State::LongEscape)
     }
 
-    /// Takes bytes that stand for themselves, where no escape is open. The first of a piece take
-    /// the place of the frame before. A piece that is too long or broken stays so, and keeps none.
+    /// Takes bytes of a piece that stand for themselves, where no escape has begun. The first of
+    /// a piece replace the frame before in the buffer. Where the piece is too long or broken, it
+    /// stays so, and these bytes aren't kept.
     fn take_unescaped(&mut self, run: &[u8])
         requires plain { IsPlain run.now }
         requires closed { IsClosed self.old.state }
@@ -193,7 +201,9 @@ impl KissReader {
         }
     }
 
-    /// Takes the byte after an escape.
+    /// Takes the second byte of an escape. The byte that the escape stands for goes into the
+    /// buffer; without room for it the piece is too long, and stays so. If the escape stands for
+    /// no byte, the piece is broken.
     fn take_escaped(&mut self, code: u8)
         requires open { IsOpen self.old.state }
         requires plain { is_special code ≡ false }
@@ -210,8 +220,10 @@ impl KissReader {
         }
     }
 
-    /// Adds to the buffer the last bytes that a piece spells, if there is room.
+    /// Adds bytes to the end of the buffer. Without room for all of them none is added, and the
+    /// piece is too long.
     fn append(&mut self, bytes: &[u8])
+        // `all` is the piece with these bytes: it spells what the buffer held, and then `bytes`.
         ensures stands { (all : List ℕ) → HasNoEnd all → 0 < length all
             → spelled_bytes all ≡ Some (self.old.bytes.items ++ bytes.now)
             → StandsAfter self.new all }
@@ -223,7 +235,7 @@ impl KissReader {
         }
     }
 
-    /// Takes the byte that begins an escape.
+    /// Takes FESC, which begins an escape. As the second byte of an escape it breaks the piece.
     fn take_escape(&mut self)
         ensures { (before : List ℕ) → StandsAfter self.old before
             → StandsAfter self.new (before ++ 0xDB ∷ []) }
@@ -239,7 +251,9 @@ impl KissReader {
         }
     }
 
-    /// Judges the piece that a frame end ends: the port of its frame, or its first fault.
+    /// Judges a piece at the frame end after it: the port of its data frame, which stays in the
+    /// buffer, or its first fault. An escape that isn't whole is a bad one. The next byte begins
+    /// another piece.
     fn end_piece(&mut self) -> Result<u8, PassFault>
         ensures stands { StandsAfter self.new [] }
         ensures judged { (before : List ℕ) → StandsAfter self.old before → 0 < length before
@@ -256,7 +270,8 @@ impl KissReader {
     }
 }
 
-/// The port of a data frame, from its type byte.
+/// The port of a data frame, from its type byte, the first. `NotData` where there is no byte, or
+/// the low four bits, the command, aren't 0.
 fn port_of(bytes: &[u8]) -> Result<u8, PassFault>
     ensures judged { judgements_of_outcome (Some result) bytes.now ≡ data_frame_of bytes.now ∷ [] }
     ensures frame { IfOk result (λ port. (port < 16) × (0 < length bytes.now)) }
@@ -267,8 +282,10 @@ fn port_of(bytes: &[u8]) -> Result<u8, PassFault>
     }
 }
 
-/// The byte that an escape and this code stand for, or `None` where they stand for none.
+/// The byte that an escape stands for which ends in `code`: FEND after TFEND, FESC after TFESC,
+/// and `None` after any other byte.
 fn unescape(code: u8) -> Option<u8>
+    // An escape before `more` spells that byte, and then what `more` spells.
     ensures { (more : List ℕ) → spelled_bytes (0xDB ∷ code ∷ more)
         ≡ option_and_then (λ byte. option_map (λ bytes. byte ∷ bytes) (spelled_bytes more)) result }
 {

@@ -13,8 +13,8 @@ pub const TFEND: u8 = 0xDC;
 /// Stands for FESC after FESC.
 pub const TFESC: u8 = 0xDD;
 
-/// Cuts at the first FEND or FESC, which aren't sent as themselves: what stands before it, and that
-/// byte with what follows it. Takes no memory.
+/// The bytes before the first FEND or FESC, which aren't sent as themselves, and then that byte
+/// and the bytes after it; or all bytes and `None` where neither occurs. Takes no memory.
 #[inline(always)]
 pub fn cut_plain(bytes: &[u8]) -> (&[u8], Option<(u8, &[u8])>)
     ensures plain { IsPlain result.0.now }
@@ -27,7 +27,8 @@ pub fn cut_plain(bytes: &[u8]) -> (&[u8], Option<(u8, &[u8])>)
     }
 }
 
-/// How many bytes stand before the first FEND or FESC, or in all.
+/// How many bytes stand before the first FEND or FESC, or how many there are where neither
+/// occurs.
 fn plain_len(bytes: &[u8]) -> usize
     ensures within { result ≤ length bytes.now }
     ensures plain { IsPlain (take result bytes.now) }

@@ -17,9 +17,9 @@ const MAX_AT_ONCE: usize = 512;
 /// The most bytes that are written at once: such a frame, two frame ends and the type byte.
 const MAX_PLAIN: usize = MAX_AT_ONCE + 3;
 
-/// Writes a frame of any length as a data frame of port 0, between two frame ends (the KISS paper).
-/// At a fault a prefix of that went out, and the count of the device's failures rose. Takes no
-/// memory.
+/// Writes a frame of any length as a data frame of port 0 (the KISS paper): a frame end, the type
+/// byte 0, the frame's bytes with FEND and FESC escaped, and a frame end. At a fault a prefix of
+/// these went out, and the count of the device's failures rose. Takes no memory.
 pub fn write_kiss<W: Write>(w: &mut Counted<W>, frame: &[u8]) -> Result<(), WriteFault>
     ensures { Sends W.contents result w.old w.new (kiss_text frame.now) }
 {
@@ -41,7 +41,9 @@ impl KissWriter {
         }
     }
 
-    /// Writes one frame, as `write_kiss` does. Takes no memory.
+    /// Writes one frame of any length as `write_kiss` does: a data frame of port 0, of which at a
+    /// fault a prefix went out. It goes out at once where no byte is escaped and there are at
+    /// most 512, otherwise part by part. Takes no memory.
     pub fn write<W: Write>(&mut self, w: &mut Counted<W>, frame: &[u8]) -> Result<(), WriteFault>
         ensures { Sends W.contents result w.old w.new (kiss_text frame.now) }
     {
@@ -54,7 +56,8 @@ impl KissWriter {
     }
 }
 
-/// Writes a frame part by part.
+/// Writes a frame as a data frame of port 0, part by part: what stands before a byte that is
+/// escaped, then its escape, and so on. At a fault a prefix went out.
 fn write_spelled<W: Write>(w: &mut Counted<W>, frame: &[u8]) -> Result<(), WriteFault>
     ensures { Sends W.contents result w.old w.new (kiss_text frame.now) }
 {
@@ -71,8 +74,8 @@ fn write_spelled<W: Write>(w: &mut Counted<W>, frame: &[u8]) -> Result<(), Write
     }
 }
 
-/// Puts what goes out for a frame, whose bytes all stand for themselves, at the beginning of `out`,
-/// and returns how many bytes it is.
+/// Writes what is sent for a frame to the start of `out`, and returns how many bytes that is. The
+/// frame has no FEND or FESC, so each of its bytes is sent as itself.
 fn put_plain(out: &mut [u8], frame: &[u8]) -> usize
     requires few { length frame.now ≤ MAX_AT_ONCE }
     requires plain { IsPlain frame.now }

@@ -4,7 +4,7 @@ ghost use Rattle.aprs_ax25.specs.declared.fault.CallFault.TheVariants as call;
 ghost use Rattle.aprs_ax25.specs.CallText.{CallText, FirstCallFault};
 ghost use Rattle.aprs_ax25.specs.Examples.{callsign, nj7p, n7oo};
 
-/// Callsigns as monitors print them.
+/// Callsigns as monitors print them, and texts of no callsign with their first faults.
 pub fn callsigns_have_texts()
     ensures ssid { CallText n7oo (codes "N7OO-1") }
     ensures no_ssid { CallText nj7p (codes "NJ7P") }
