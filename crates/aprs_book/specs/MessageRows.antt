@@ -89,8 +89,8 @@ answer_cmp = then_cmp (on (λ a. a.source) call_cmp)
 
 -- ---- entries, one for each message or answer of the rows
 
--- One entry for each thing that the rows report: T holds of the rows, of the thing that an entry's
--- key shows and of the entry's value; and each thing that a row's key reports (P) has an entry.
+-- Entries for what the rows report: T holds of the rows, of the thing that an entry's key shows
+-- and of the entry's value; and each thing that a row's key reports (P) has an entry.
 pub record IsCollected {K V M : Type 0} (shown : K → M) (P : M → Key → Type 0)
     (T : List Row → M → V → Type 0) (rows : List Row) (entries : List (K × V)) : Type 0 where
   pub each : (e : K × V) → e ∈ entries → T rows (shown e.0) e.1
