@@ -16,7 +16,7 @@ abbrev pub MergesUnder : ℕ → BookValue → BookValue → BookValue → Type 
 MergesUnder gap a b both =
     (S T : List Heard) → HoldsUnder gap S a → HoldsUnder gap T b → HoldsUnder gap (S ++ T) both
 
--- One place has a new book, which has taken what the step says.
+-- The step's first place has a new book, which has taken what the step says, and the others stay.
 abbrev pub IsApplied : ℕ → Step → List BookValue → List BookValue → Type 0
 IsApplied gap (Take i x) old new =
     (book : BookValue) × TakesUnder gap (get_or old i (empty_book gap)) x book

@@ -82,15 +82,15 @@ pub record IsGreatestAnswer (rows : List Row) (a : Answer) (g : Heard) : Type 0 
   pub row : (x : Row) × (x ∈ rows) × GivesAnswer a (row_key x) × (x.greatest ≡ g)
   pub greatest : (x : Row) → x ∈ rows → GivesAnswer a (row_key x) → IsUpTo heard_cmp x.greatest g
 
--- By the station whose message it is, the one that answers, and the id.
+-- The order of answers: by the station whose message it is, the one that answers, and the id.
 abbrev pub answer_cmp : Answer → Answer → Ordering
 answer_cmp = then_cmp (on (λ a. a.source) call_cmp)
     (then_cmp (on (λ a. a.addressee) call_cmp) (on (λ a. a.id) bytes_cmp))
 
 -- ---- entries, one for each message or answer of the rows
 
--- Entries of the rows: of what each shows and has, T holds, and each thing that a row's key is of
--- by P has one.
+-- Entries for what the rows report: T holds of the rows, of the thing that an entry's key shows
+-- and of the entry's value; and each thing that a row's key reports (P) has an entry.
 pub record IsCollected {K V M : Type 0} (shown : K → M) (P : M → Key → Type 0)
     (T : List Row → M → V → Type 0) (rows : List Row) (entries : List (K × V)) : Type 0 where
   pub each : (e : K × V) → e ∈ entries → T rows (shown e.0) e.1
@@ -113,7 +113,8 @@ pub record IsFor (m : Message) (id : List ℕ) (a : Answer) : Type 0 where
   pub addressee : CallText a.addressee m.addressee
   pub same_id : a.id ≡ id
 
--- The greatest answer among the entries, or none.
+-- The greatest answer to this id of a message: that of the one entry which is for it, or none
+-- where no entry is.
 abbrev pub ReportsAnswer : List (AnswerKey × Heard) → Message → List ℕ → Option Heard → Type 0
 ReportsAnswer entries m id None =
     (e : AnswerKey × Heard) → e ∈ entries → IsFor m id (answer_of e.0) → ⊥
@@ -136,7 +137,7 @@ pub record IsRowOfMessage (entries : List (AnswerKey × Heard)) (e : MessageKey 
   pub last : x.last ≡ e.1.last
   pub state : StateFrom entries (message_of e.0) e.1.first (message_of e.0).id x.state
 
--- Each of the one list with its own of the other.
+-- Both lists are of one length, and R holds of each two that stand at one place.
 abbrev pub Zipped : {X Y : Type 0} → (X → Y → Type 0) → List X → List Y → Type 0
 Zipped R [] [] = Unit {0}
 Zipped R [] (y ∷ ys) = ⊥

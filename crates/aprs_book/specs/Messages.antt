@@ -41,7 +41,7 @@ message_in k = reported_message k.source (report_of k)
 abbrev pub ReportsIt : Message → Key → Type 0
 ReportsIt m k = message_in k ≡ Some m
 
--- By source, addressee, text, then id, where none comes before any.
+-- The order of messages: by source, addressee, text, then id, where no id comes before any.
 abbrev pub message_cmp : Message → Message → Ordering
 message_cmp = then_cmp (on (λ m. m.source) call_cmp)
     (then_cmp (on (λ m. m.addressee) bytes_cmp)
@@ -62,13 +62,15 @@ abbrev pub reported_state : Value → MessageState
 reported_state (rej addressee id) = Rejected
 reported_state v = Acknowledged
 
--- By the greatest answer, which counts from the message's first moment on.
+-- The state of a message by its greatest answer, which counts only if it was heard at the
+-- message's first moment or later.
 abbrev pub state_by : ℕ → Option Heard → MessageState
 state_by first None = Unanswered
 state_by first (Some a) =
     if nat_lt a.moment first then Unanswered else reported_state (report_of (key_of a.frame))
 
--- A message of no id can't be answered.
+-- The state of a message of S with this first moment and id: without an id it can't be answered;
+-- otherwise its greatest answer in S says it.
 abbrev pub StandsBy : List Heard → Message → ℕ → Option (List ℕ) → MessageState → Type 0
 StandsBy S m first None state = state ≡ Unnumbered
 StandsBy S m first (Some id) state =
@@ -93,13 +95,13 @@ IsSent S m = (s : Heard) × (s ∈ S) × ReportsIt m (key_of s.frame)
 abbrev pub IsListedBefore : MessageRow → MessageRow → Type 0
 IsListedBefore x y = IsBelow message_cmp (shown_message x) (shown_message y)
 
--- From its first to its last reception in S, and what came of it in S.
+-- A row of the list has the message's first and last moment in S, and what came of it in S.
 pub record IsMessageRow (S : List Heard) (x : MessageRow) : Type 0 where
   pub first : IsFirstMoment S (ReportsIt (shown_message x)) x.first
   pub last : IsLastMoment S (ReportsIt (shown_message x)) x.last
   pub state : StandsBy S (shown_message x) x.first (shown_message x).id x.state
 
--- One for each message in S, in order.
+-- One row for each message in S, in order.
 pub record AreMessages (S : List Heard) (xs : List MessageRow) : Type 0 where
   pub ascending : Ordered IsListedBefore xs
   pub messages : (m : Message)

@@ -29,7 +29,7 @@ reported_thing v = None
 abbrev pub ReportsOf : Thing → Key → Type 0
 ReportsOf t k = reported_thing (report_of k) ≡ Some t
 
--- Objects by name, then items by name.
+-- The order of things: objects by name, then items by name.
 abbrev pub thing_cmp : Thing → Thing → Ordering
 thing_cmp = then_cmp (on (λ t. t.is_item) bool_cmp) (on (λ t. t.name) bytes_cmp)
 
@@ -41,7 +41,8 @@ shown_thing x = record { is_item = x.is_item; name = x.name.now }
 abbrev pub IsNamedBefore : Named → Named → Type 0
 IsNamedBefore x y = IsBelow thing_cmp (shown_thing x) (shown_thing y)
 
--- One for each thing that S has a report of, in order, with its greatest reception.
+-- One row for each thing that S has a report of, in order, with the greatest reception that
+-- reports it.
 pub record AreNamed (S : List Heard) (xs : List Named) : Type 0 where
   pub ascending : Ordered IsNamedBefore xs
   pub things : (t : Thing) → ((x : Named) × (x ∈ xs) × (shown_thing x ≡ t))

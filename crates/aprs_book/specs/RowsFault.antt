@@ -24,12 +24,13 @@ abbrev pub AreSoundOrFaulty : ℕ → Type 0
 AreSoundOrFaulty gap = (rows : List Row)
     → Sound gap rows ⊎ ((f : RowsFault) × IsRowsFault gap rows f × (f.cause ≢ Memory))
 
--- And sound rows have none.
+-- Sound rows have no fault that isn't of memory.
 abbrev pub SoundRowsAreFaultless : ℕ → Type 0
 SoundRowsAreFaultless gap = (rows : List Row) (f : RowsFault)
     → Sound gap rows → IsRowsFault gap rows f → f.cause ≡ Memory
 
--- Rows have one such fault at most, and any other is of memory, before it.
+-- Rows have at most one fault that isn't of memory. Any other is of memory, at a row before that
+-- one.
 abbrev pub HaveOneRowsFault : ℕ → Type 0
 HaveOneRowsFault gap = (rows : List Row) (f g : RowsFault)
     → IsRowsFault gap rows f → f.cause ≢ Memory → IsRowsFault gap rows g

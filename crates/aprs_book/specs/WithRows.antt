@@ -6,7 +6,8 @@ use Rattle.aprs_laws.specs.Row.{Row}
 use Rattle.aprs_laws.specs.JoinRow.{place}
 use Rattle.aprs_laws.specs.Coalescing.{append_or_join}
 
--- All of the second list after the first.
+-- The rows, and after them those of the second list one by one, where each joins the last that it
+-- is near to.
 abbrev pub with_rows : ℕ → List Row → List Row → List Row
 with_rows gap rows [] = rows
 with_rows gap rows (r ∷ more) = with_rows gap (append_or_join gap rows r) more

@@ -76,8 +76,8 @@ impl<A: Allocator + Copy> Book<A> {
         }
     }
 
-    /// The gap: receptions of one key whose neighbours are at most so far apart are one
-    /// transmission. Takes no memory.
+    /// The gap: neighbouring receptions of one key are of one transmission if they are at most
+    /// this far apart. Takes no memory.
     pub fn gap(&self) -> Gap
         ensures { result ≡ self.now.gap }
     {
@@ -91,7 +91,8 @@ impl<A: Allocator + Copy> Book<A> {
         self.rows.len()
     }
 
-    /// The rows in order. Takes no memory, nor does their walk.
+    /// The rows, ascending by key, then first moment. `sound` says that they are those of a book.
+    /// Takes no memory, nor does walking over them.
     pub fn rows(&self) -> Rows<'_, A>
         ensures rows { result ≡ self.now.rows }
         ensures sound { IsSoundBook self.now }
@@ -112,19 +113,21 @@ impl<A: Allocator + Copy> Book<A> {
         let heard = ReceptionView::of(x);
         let subject = heard.subject();
         self.indexes.place(&subject)?;
+        // If no memory is left for this, an empty entry may stay, which says nothing.
         self.rows.take(Millis::of(self.gap), x)?;
         self.indexes.note(&subject, &heard);
         Ok(())
     }
 
-    /// Adds a row after all others, unless a cause refuses it: it is added, or an allocation
-    /// failed, exactly if the rows with it are sound. Looks at the last row alone. After an error
-    /// the book is as before.
+    /// Adds a row after all others, or returns the first cause that refuses it. `Ok`, or the cause
+    /// `Memory` where an allocation failed, is returned exactly if the rows with it are sound.
+    /// Looks at the last row alone. After an error the book is as before.
     pub fn push_row(&mut self, parts: &RowParts<A>) -> Result<(), RowCause>
         ensures added { OnOk result (self.new.rows ≡ self.old.rows ++ parts.now ∷ []) }
 
         ensures sound { IsOkUnless result RowCause.Memory
             ↔ Sound (millis_of self.old.gap) (self.old.rows ++ parts.now ∷ []) }
+        // Where a cause refuses the row, that is returned; otherwise `Ok` or `Memory`.
         ensures cause { MatchOption (refusal (millis_of self.old.gap) self.old.rows parts.now)
             (IsOkUnless result RowCause.Memory) (λ cause. result ≡ Err cause) }
 
@@ -140,7 +143,8 @@ impl<A: Allocator + Copy> Book<A> {
         Ok(())
     }
 
-    /// Adds a row that nothing refuses.
+    /// Adds a row after all others, and notes what it reports. Nothing may refuse the row. After
+    /// `Memory` the book is as before.
     fn add(&mut self, parts: &RowParts<A>) -> Result<(), Memory>
         requires { refusal (millis_of self.old.gap) self.old.rows parts.now ≡ None }
         ensures added { OnOk result (self.new.rows ≡ self.old.rows ++ parts.now ∷ []) }
@@ -150,13 +154,14 @@ impl<A: Allocator + Copy> Book<A> {
         let heard = parts.heard();
         let subject = heard.subject();
         self.indexes.place(&subject)?;
+        // If no memory is left for this, an empty entry may stay, which says nothing.
         self.rows.push(parts)?;
         self.indexes.note(&subject, &heard);
         Ok(())
     }
 
     /// The book of the receptions of both books, in one pass over the rows of both, which stay as
-    /// they are. `joined` says it by the sets of receptions, `book` by the rows. `OtherGap` comes
+    /// they are. `book` says it by the sets of receptions, `joined` by the rows. `OtherGap` comes
     /// exactly where the gaps differ, and before any memory is taken. Both books are sound.
     pub fn merge(&self, other: &Book<A>) -> Result<Book<A>, MergeFault>
         ensures joined { IfOk result (AreJoined self.now other.now) }
@@ -178,7 +183,8 @@ impl<A: Allocator + Copy> Book<A> {
         }
     }
 
-    /// The book of both sets together, where the gaps are equal.
+    /// The book of the receptions of both books, whose gaps have to be equal. `book` says it by
+    /// the sets of receptions, `joined` by the rows. All three books are sound.
     fn unite(&self, other: &Book<A>) -> Result<Book<A>, Memory>
         requires { HaveOneGap self.now other.now }
 
@@ -199,9 +205,9 @@ impl<A: Allocator + Copy> Book<A> {
         })
     }
 
-    /// The book of the same set under a gap that is not less, in one pass over the rows. `Narrower`
-    /// comes exactly where the gap is less, since rows don't say what lies between their moments,
-    /// and before any memory is taken. This book stays as it is.
+    /// The book of the same set of receptions under a gap that is not less, in one pass over the
+    /// rows. `Narrower` comes exactly where the gap is less, before any memory is taken: rows
+    /// don't say what lies between their moments. This book stays as it is.
     pub fn widen(&self, gap: Gap) -> Result<Book<A>, WidenFault>
         ensures wide { IfOk result (λ wide. wide ≡ widened_to gap self.now) }
         ensures gap { IfOk result (λ wide. wide.gap ≡ gap) }
@@ -219,7 +225,8 @@ impl<A: Allocator + Copy> Book<A> {
         }
     }
 
-    /// The book of the same set under a gap that is not less.
+    /// The book of the same set of receptions under a gap that has to be at least this book's. The
+    /// merge with no rows joins those that have come near.
     fn widen_to(&self, gap: Gap) -> Result<Book<A>, Memory>
         requires { self.now.gap ≤ gap }
         ensures wide { IfOk result (λ wide. wide ≡ widened_to gap self.now) }
@@ -239,7 +246,7 @@ impl<A: Allocator + Copy> Book<A> {
         self.rows.walk()
     }
 
-    /// What is last known.
+    /// The indexes of what is last known, which are those of the rows.
     pub(crate) fn indexes(&self) -> &Indexes<A>
         ensures { AreIndexesOf self.now.rows result.now }
     {
@@ -271,16 +278,18 @@ impl<A: Allocator + Copy> Join for Book<A> {
 
     ghost laws = { gap_laws };
 
+    /// Whether both books have the same gap.
     fn fits(&self, other: &Book<A>) -> bool {
         other.gap == self.gap
     }
 
+    /// The book of the receptions of both books, whose gaps have to be equal.
     fn join(&self, other: &Book<A>) -> Result<Book<A>, Memory> {
         self.unite(other)
     }
 }
 
-/// Whether the rows are the same.
+/// Whether both walks give the same rows, and as many.
 fn same_rows<A: Allocator + Copy>(ours: Walk<'_, A>, mut theirs: Walk<'_, A>) -> bool
     ensures { IsTrue result ↔ (ours.entry ≡ theirs.entry) }
 {

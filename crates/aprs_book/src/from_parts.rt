@@ -16,9 +16,10 @@ pub struct RowsFault {
     pub cause: RowCause,
 }
 
-/// The book of these rows under this gap, pushed one after another, or the first that is refused.
-/// Sound rows are a book unless memory is refused, and a book's rows are sound. Takes memory for
-/// the rows, their receivers and the indexes; a book that isn't finished is dropped.
+/// The book of these rows under this gap, pushed one after another; or, as `Err`, the first row
+/// that is refused, and why. Sound rows are a book unless memory is refused, and a book's rows are
+/// sound. Takes memory for the rows, their receivers and the indexes; a book that isn't finished
+/// is dropped.
 pub fn from_rows<A: Allocator + Copy>(
     alloc: A,
     gap: Gap,
@@ -37,8 +38,9 @@ pub fn from_rows<A: Allocator + Copy>(
     Ok(book)
 }
 
-/// Pushes these rows onto an empty book, one after another, up to the first that is refused: then
-/// the book has those before it.
+/// Pushes these rows onto a book that has to be empty, one after another, up to the first that is
+/// refused. `Err` has the place and the cause of that row, and then the book has the rows before
+/// it.
 fn push_rows<A: Allocator + Copy>(book: &mut Book<A>, rows: &[RowParts<A>]) -> Result<(), RowsFault>
     requires { book.old.rows ≡ [] }
 
@@ -62,7 +64,8 @@ fn push_rows<A: Allocator + Copy>(book: &mut Book<A>, rows: &[RowParts<A>]) -> R
 }
 
 /// Rows that aren't sound have exactly one fault that isn't of memory: the first row that a cause
-/// refuses. Any other fault is of memory, before that. Sound rows have no fault but of memory.
+/// refuses. Any other fault is of memory, at a row before that one. Sound rows have no faults but
+/// those of memory.
 pub fn rows_are_sound_or_have_one_fault()
     ensures some { (gap : ℕ) → AreSoundOrFaulty gap }
     ensures one { (gap : ℕ) → HaveOneRowsFault gap }

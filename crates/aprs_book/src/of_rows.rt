@@ -6,7 +6,8 @@ use aprs_rows::{RowView, Transmissions};
 use std::alloc::Allocator;
 
 impl<A: Allocator + Copy> Book<A> {
-    /// The book of these rows, in memory of its own. A book that isn't finished is dropped.
+    /// The book of these rows, in memory of its own. Where an allocation fails, the unfinished
+    /// book is dropped.
     pub fn of_rows(alloc: A, rows: &Transmissions<'_, A>) -> Result<Book<A>, Memory>
         ensures { IfOk result (λ book. book ≡ rows.now) }
     {
@@ -34,7 +35,8 @@ fn parts_of<A: Allocator + Copy>(alloc: A, row: &RowView<'_>) -> Result<RowParts
     })
 }
 
-/// Why a row that may be pushed is refused: an allocation failed.
+/// Turns the cause `Memory` into the error `Memory`. The cause has to be that one: a row that may
+/// be pushed is refused only where an allocation fails.
 fn memory_of(cause: RowCause) -> Memory
     requires { cause ≡ RowCause.Memory }
 {

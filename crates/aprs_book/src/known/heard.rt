@@ -7,7 +7,8 @@ use aprs_log::{Moment, Receiver, Reception};
 use aprs_report::Report;
 use std::marker::Model;
 
-/// What was heard last of something. Its report is what its frame's information says.
+/// What was heard last of something: the greatest reception, by moment, then receiver, then frame,
+/// that reports on it. Its report is what its frame's information says.
 #[derive(Drop)]
 pub struct Heard<'a> {
     /// When the frame was heard.
@@ -36,7 +37,7 @@ impl<'a> Model for Heard<'a> {
 }
 
 impl<'a> Heard<'a> {
-    /// The reception, with what it says.
+    /// This reception, with the report that its information says.
     #[tactic(auto, unfolding(aprs_laws::specs::Key::key_of))]
     pub(crate) fn of(x: &'a Reception) -> Heard<'a>
         ensures { result ≡ x.now }
@@ -51,7 +52,7 @@ impl<'a> Heard<'a> {
     }
 }
 
-/// The reception, if there is one, with what it says.
+/// The reception that is known, with what it says, or `None` where none is known.
 pub(crate) fn heard_of<'a>(known: Option<&'a Reception>) -> Option<Heard<'a>>
     ensures { result ≡ option_copied known.entry }
 {

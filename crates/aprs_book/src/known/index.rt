@@ -17,7 +17,8 @@ use std::collections::BTreeMap;
 use std::collections::btree_map::Iter;
 use std::marker::Model;
 
-/// The greatest reception that reports on each callsign or name. An empty entry stands for nothing.
+/// The greatest reception that reports on each callsign or name, by the bytes of these. An entry
+/// with `None` says as much as no entry: nothing is known.
 pub(crate) struct Index<A: Allocator = Global> {
     map: BTreeMap<Vec<u8, A>, Option<Reception>, A>,
     alloc: A,
@@ -39,7 +40,7 @@ impl<A: Allocator> Model for Index<A> {
 }
 
 impl<A: Allocator + Copy> Index<A> {
-    /// Nothing is known.
+    /// An index in which nothing is known. Takes no memory.
     pub(crate) fn new(alloc: A) -> Index<A>
         ensures { result ≡ [] }
     {
@@ -49,7 +50,8 @@ impl<A: Allocator + Copy> Index<A> {
         }
     }
 
-    /// Makes an entry, which is empty, unless there is one. It knows no more than before.
+    /// Makes an empty entry at these bytes, unless there is an entry: then it takes no memory.
+    /// What is known stays as it was, also after `Memory`.
     pub(crate) fn place(&mut self, bytes: &[u8]) -> Result<(), Memory>
         ensures same { (q : List ℕ) → Spec.known_at q self.new ≡ Spec.known_at q self.old }
         ensures made { OnOk result (Spec.HasEntry bytes.now self.new) }
@@ -65,7 +67,9 @@ impl<A: Allocator + Copy> Index<A> {
         Ok(())
     }
 
-    /// Keeps the reception in the entry if it is greater than what is known. Takes no memory.
+    /// Keeps the reception in the entry at these bytes, if nothing, or a lesser reception, is
+    /// known there. The entry has to be there. What is known at other bytes stays. Takes no
+    /// memory.
     pub(crate) fn note(&mut self, bytes: &[u8], x: &ReceptionView<'_>)
         requires { Spec.HasEntry bytes.now self.old }
         ensures { (q : List ℕ) → Spec.known_at q self.new ≡ cond (is_eq (bytes_cmp bytes.now q))
@@ -76,8 +80,9 @@ impl<A: Allocator + Copy> Index<A> {
         }
     }
 
-    /// Keeps the reception in its entry, which is made where there is none, if it is greater than
-    /// what is known.
+    /// Keeps the reception in the entry at these bytes, if nothing, or a lesser reception, is
+    /// known there. The entry is made where there is none. What is known at other bytes stays.
+    /// After `Memory` the same is known as before.
     pub(crate) fn take(&mut self, bytes: &[u8], x: &ReceptionView<'_>) -> Result<(), Memory>
         ensures taken { OnOk result ((q : List ℕ)
             → Spec.known_at q self.new ≡ cond (is_eq (bytes_cmp bytes.now q))
@@ -94,7 +99,7 @@ impl<A: Allocator + Copy> Index<A> {
         Ok(())
     }
 
-    /// What is known. Takes no memory.
+    /// The reception that is known at these bytes, or `None`. Takes no memory.
     pub(crate) fn get(&self, bytes: &[u8]) -> Option<&Reception>
         ensures { option_copied result ≡ Spec.known_at bytes.now self.now }
     {
@@ -104,7 +109,8 @@ impl<A: Allocator + Copy> Index<A> {
         }
     }
 
-    /// The entries, by their bytes. Takes no memory, nor does their walk.
+    /// The entries, ascending by their bytes, empty ones too. Takes no memory, nor does walking
+    /// over them.
     pub(crate) fn iter(&self) -> Iter<'_, Vec<u8, A>, Option<Reception>>
         ensures entries { Spec.plain (λ key. key.items) result ≡ self.now }
         ensures ascending { Ordered Spec.IsEntryBefore self.now }
@@ -112,7 +118,7 @@ impl<A: Allocator + Copy> Index<A> {
         self.map.iter()
     }
 
-    /// What is known to both.
+    /// What either knows. Where both know a reception at the same bytes, it is the greater one.
     pub(crate) fn merge(&self, other: &Index<A>) -> Result<Index<A>, Memory>
         ensures { IfOk result (λ both. (q : List ℕ)
             → Spec.known_at q both
@@ -124,7 +130,8 @@ impl<A: Allocator + Copy> Index<A> {
         Ok(both)
     }
 
-    /// Adds what the other knows.
+    /// Adds what the other knows. Where both know a reception at the same bytes, the greater one
+    /// is kept. After `Memory` a part of it may have been added.
     fn add(&mut self, other: &Index<A>) -> Result<(), Memory>
         ensures { OnOk result ((q : List ℕ)
             → Spec.known_at q self.new

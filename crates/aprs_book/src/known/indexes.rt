@@ -49,7 +49,7 @@ impl<A: Allocator> Model for Indexes<A> {
 }
 
 impl<A: Allocator + Copy> Indexes<A> {
-    /// Nothing is known.
+    /// Four indexes in which nothing is known. Takes no memory.
     pub(crate) fn new(alloc: A) -> Indexes<A>
         ensures { (topic : Spec.Topic) → Spec.index_of topic result ≡ [] }
     {
@@ -61,7 +61,8 @@ impl<A: Allocator + Copy> Indexes<A> {
         }
     }
 
-    /// The last position reception of this station. Takes no memory, as the other three.
+    /// The greatest reception of a position report from this station, or `None` where none is
+    /// known. Takes no memory.
     pub(crate) fn position(&self, station: &Callsign) -> Option<&Reception>
         ensures { option_copied result
             ≡ Spec.known_at (Spec.call_bytes station.now) (Spec.index_of Spec.positions self.now) }
@@ -69,7 +70,8 @@ impl<A: Allocator + Copy> Indexes<A> {
         self.positions.get(call_bytes(station).as_slice())
     }
 
-    /// The last status reception of this station.
+    /// The greatest reception of a status report from this station, or `None` where none is known.
+    /// Takes no memory.
     pub(crate) fn status(&self, station: &Callsign) -> Option<&Reception>
         ensures { option_copied result
             ≡ Spec.known_at (Spec.call_bytes station.now) (Spec.index_of Spec.statuses self.now) }
@@ -77,7 +79,8 @@ impl<A: Allocator + Copy> Indexes<A> {
         self.statuses.get(call_bytes(station).as_slice())
     }
 
-    /// The last report of the object of this name, which has no spaces at its end.
+    /// The greatest reception of a report of the object of this name, or `None` where none is
+    /// known. The name must have no spaces at its end. Takes no memory.
     pub(crate) fn object(&self, name: &[u8]) -> Option<&Reception>
         ensures { option_copied result
             ≡ Spec.known_at name.now (Spec.index_of Spec.objects self.now) }
@@ -85,7 +88,8 @@ impl<A: Allocator + Copy> Indexes<A> {
         self.objects.get(name)
     }
 
-    /// The last report of the item of this name, which has no spaces at its end.
+    /// The greatest reception of a report of the item of this name, or `None` where none is known.
+    /// The name must have no spaces at its end. Takes no memory.
     pub(crate) fn item(&self, name: &[u8]) -> Option<&Reception>
         ensures { option_copied result
             ≡ Spec.known_at name.now (Spec.index_of Spec.items self.now) }
@@ -107,7 +111,9 @@ impl<A: Allocator + Copy> Indexes<A> {
         &self.items
     }
 
-    /// Makes an entry for what is reported on, which is empty, unless there is one.
+    /// Makes an empty entry for this subject in its index, unless there is an entry: then it takes
+    /// no memory. For `Nothing` no entry is made. What is known stays as it was, also after
+    /// `Memory`.
     pub(crate) fn place(&mut self, subject: &Subject<'_>) -> Result<(), Memory>
         ensures same { Spec.SameKnown self.old self.new }
         ensures made { OnOk result (Spec.HaveEntries subject.now self.new) }
@@ -123,7 +129,7 @@ impl<A: Allocator + Copy> Indexes<A> {
     }
 
     /// Keeps the reception as what is last known of its subject, where nothing was known or it is
-    /// greater. The subject has its entry. Takes no memory.
+    /// greater. The subject has to have its entry; for `Nothing` nothing is kept. Takes no memory.
     pub(crate) fn note(&mut self, subject: &Subject<'_>, x: &ReceptionView<'_>)
         requires { Spec.HaveEntries subject.now self.old }
         ensures { Spec.NotesReport subject.now x.now self.old self.new }
@@ -138,8 +144,8 @@ impl<A: Allocator + Copy> Indexes<A> {
     }
 
     /// Keeps the reception as what is last known of its subject, where nothing was known or it is
-    /// greater, and makes the subject's entry where there is none. After `Memory` the same is known
-    /// as before.
+    /// greater, and makes the subject's entry where there is none. For `Nothing` nothing is kept.
+    /// After `Memory` the same is known as before.
     pub(crate) fn take(
         &mut self,
         subject: &Subject<'_>,
@@ -157,7 +163,7 @@ impl<A: Allocator + Copy> Indexes<A> {
         }
     }
 
-    /// What is known to both.
+    /// What either knows. Where both know a reception of the same subject, it is the greater one.
     pub(crate) fn merge(&self, other: &Indexes<A>) -> Result<Indexes<A>, Memory>
         ensures { IfOk result (λ both. (topic : Spec.Topic) (bytes : List ℕ)
             → Spec.known_at bytes (Spec.index_of topic both)

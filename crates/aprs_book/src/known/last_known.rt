@@ -13,7 +13,8 @@ use aprs_ax25::Callsign;
 use std::alloc::Allocator;
 
 impl<A: Allocator + Copy> Book<A> {
-    /// The greatest reception of a position report from this station, or none. Takes no memory.
+    /// The greatest reception of a position report from this station, or `None` where there is
+    /// none. Takes no memory.
     pub fn position(&self, station: &Callsign) -> Option<Heard<'_>>
         ensures { IsLastKnown (millis_of self.now.gap) self.now.rows
             (Spec.reports_position station.now) result }
@@ -21,7 +22,8 @@ impl<A: Allocator + Copy> Book<A> {
         heard_of(self.indexes().position(station))
     }
 
-    /// The greatest reception of a status report from this station, or none. Takes no memory.
+    /// The greatest reception of a status report from this station, or `None` where there is none.
+    /// Takes no memory.
     pub fn status(&self, station: &Callsign) -> Option<Heard<'_>>
         ensures { IsLastKnown (millis_of self.now.gap) self.now.rows
             (Spec.reports_status station.now) result }
@@ -29,9 +31,9 @@ impl<A: Allocator + Copy> Book<A> {
         heard_of(self.indexes().status(station))
     }
 
-    /// The greatest reception, from any station, of a report of the object of this name, or none.
-    /// It says whether the object is live or killed. Spaces at the name's end don't count. Takes
-    /// no memory.
+    /// The greatest reception, from any station, of a report of the object of this name, or `None`
+    /// where there is none. It says whether the object is live or killed. Spaces at the name's end
+    /// don't count. Takes no memory.
     pub fn object(&self, name: &[u8]) -> Option<Heard<'_>>
         ensures { IsLastKnown (millis_of self.now.gap) self.now.rows
             (Spec.reports_object name.now) result }
@@ -39,9 +41,9 @@ impl<A: Allocator + Copy> Book<A> {
         heard_of(self.indexes().object(without_spaces(name)))
     }
 
-    /// The greatest reception, from any station, of a report of the item of this name, or none. It
-    /// says whether the item is live or killed. Spaces at the name's end don't count. Takes no
-    /// memory.
+    /// The greatest reception, from any station, of a report of the item of this name, or `None`
+    /// where there is none. It says whether the item is live or killed. Spaces at the name's end
+    /// don't count. Takes no memory.
     pub fn item(&self, name: &[u8]) -> Option<Heard<'_>>
         ensures { IsLastKnown (millis_of self.now.gap) self.now.rows
             (Spec.reports_item name.now) result }
@@ -50,7 +52,7 @@ impl<A: Allocator + Copy> Book<A> {
     }
 }
 
-/// The greater of what is known and a reception.
+/// The greater of the reception that is known and `x`; `x` where none is known.
 pub(crate) fn greater<'a>(
     known: Option<&ReceptionView<'a>>,
     x: ReceptionView<'a>,

@@ -11,15 +11,16 @@ use crate::known::reception_view::ReceptionView;
 use crate::known::subject::Subject;
 use std::alloc::{Allocator, Global};
 
-/// What some rows one after another report on, and the greatest reception of them.
+/// What some rows, one after another, all report on, and the greatest of their receptions.
 #[derive(Drop)]
 pub(crate) struct Run<'t> {
     subject: Subject<'t>,
     greatest: ReceptionView<'t>,
 }
 
-/// What rows report. What the last ones report is put into the indexes where a row follows that
-/// reports on something else, since most rows report on what the one before them does.
+/// What rows report. The last rows that report on one thing are kept in `last`. They are put into
+/// the indexes when a row follows that reports on something else, since most rows report on what
+/// the row before them does.
 pub(crate) struct Notes<'t, A: Allocator = Global> {
     indexes: Indexes<A>,
     last: Option<Run<'t>>,
@@ -33,7 +34,7 @@ impl<'t, A: Allocator> Drop for Notes<'t, A> {
 }
 
 impl<'t, A: Allocator + Copy> Notes<'t, A> {
-    /// Those of no rows.
+    /// The notes of no rows. Takes no memory.
     pub(crate) fn new(alloc: A) -> Notes<'t, A>
         ensures { AreNotesOf [] result }
     {
@@ -43,7 +44,9 @@ impl<'t, A: Allocator + Copy> Notes<'t, A> {
         }
     }
 
-    /// Adds what one more row reports on, by its greatest reception.
+    /// Notes one more row, by what it reports on and its greatest reception `x`: the notes of some
+    /// rows become those of these rows and this one. A row that reports on nothing changes
+    /// nothing. After `Memory` what was noted last may be lost.
     pub(crate) fn take(&mut self, subject: Subject<'t>, x: ReceptionView<'t>) -> Result<(), Memory>
         ensures { OnOk result ((rows : List Row) (r : Row) → AreNotesOf rows self.old
             → ((topic : Spec.Topic)
@@ -77,7 +80,7 @@ impl<'t, A: Allocator + Copy> Notes<'t, A> {
         }
     }
 
-    /// The indexes of all.
+    /// The indexes of all rows that were noted.
     pub(crate) fn into_indexes(self) -> Result<Indexes<A>, Memory>
         ensures { IfOk result (λ indexes. (rows : List Row) → AreNotesOf rows self.entry
             → Spec.AreIndexesOf rows indexes) }
@@ -88,7 +91,8 @@ impl<'t, A: Allocator + Copy> Notes<'t, A> {
     }
 }
 
-/// Puts what rows report into the indexes, where there are some.
+/// Puts into the indexes what the last rows report; `None` changes nothing. After `Memory` the
+/// same is known as before.
 fn put<A: Allocator + Copy>(indexes: &mut Indexes<A>, last: Option<Run<'_>>) -> Result<(), Memory>
     ensures { OnOk result ((topic : Spec.Topic) (bytes : List ℕ)
         → Spec.known_at bytes (Spec.index_of topic indexes.new)

@@ -41,7 +41,7 @@ impl<'a> Model for ReceptionView<'a> {
 }
 
 impl<'a> ReceptionView<'a> {
-    /// The reception of these.
+    /// A view of the reception of this moment, receiver and frame.
     pub(crate) fn new(moment: Moment, receiver: &'a Receiver, frame: &'a Frame) -> ReceptionView<'a>
         ensures { result
             ≡ record { moment = moment; receiver = receiver.now; frame = frame.now } }
@@ -54,14 +54,14 @@ impl<'a> ReceptionView<'a> {
         }
     }
 
-    /// The reception.
+    /// A view of this reception.
     pub(crate) fn of(x: &'a Reception) -> ReceptionView<'a>
         ensures { result ≡ x.now }
     {
         ReceptionView::new(x.moment(), x.receiver(), x.frame())
     }
 
-    /// The greatest reception of a row.
+    /// A view of the greatest reception of a row.
     pub(crate) fn of_row(row: &RowView<'a>) -> ReceptionView<'a>
         ensures { result ≡ row.now.greatest }
     {
@@ -96,14 +96,14 @@ impl<'a> ReceptionView<'a> {
         read_frame(self.frame).source()
     }
 
-    /// The seven octets of the address of that station.
+    /// The seven octets of the source's address, which follow the seven of the destination's.
     pub(crate) fn source_octets(&self) -> &'a [u8]
         ensures { result.now ≡ take 7 (drop 7 self.now.frame) }
     {
         &self.frame[7..14]
     }
 
-    /// What its frame reports on.
+    /// What the frame reports on, with the bytes under which an index has it.
     #[tactic(auto, unfolding(aprs_laws::specs::Key::key_of))]
     pub(crate) fn subject(&self) -> Subject<'a>
         ensures { (topic : Topic)
@@ -112,7 +112,7 @@ impl<'a> ReceptionView<'a> {
         Subject::of(&self.source(), self.info)
     }
 
-    /// Whether it comes before the other in the order of receptions.
+    /// Whether this reception is less than the other: by moment, then receiver, then frame.
     pub(crate) fn is_below(&self, other: &ReceptionView<'_>) -> bool
         ensures { result ≡ is_lt (heard_cmp self.now other.now) }
     {
@@ -125,7 +125,7 @@ impl<'a> ReceptionView<'a> {
         }
     }
 
-    /// The same reception.
+    /// Another view of the same reception.
     pub(crate) fn copy(&self) -> ReceptionView<'a>
         ensures { result ≡ self.now }
     {
@@ -137,7 +137,7 @@ impl<'a> ReceptionView<'a> {
         }
     }
 
-    /// The reception, in a place of its own.
+    /// The reception itself, copied from where it lies.
     pub(crate) fn read(&self) -> Reception
         ensures { result ≡ self.now }
     {
@@ -148,7 +148,7 @@ impl<'a> ReceptionView<'a> {
     }
 }
 
-/// The frame of these bytes.
+/// The frame of these bytes, which have to be those of a frame.
 fn read_frame(bytes: &[u8]) -> Frame
     requires { FrameOf (parts_of bytes.now) bytes.now }
     ensures { result ≡ bytes.now }

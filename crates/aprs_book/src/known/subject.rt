@@ -7,7 +7,7 @@ use aprs_ax25::Callsign;
 use aprs_report::Report;
 use arrayvec::ArrayVec;
 
-/// The most bytes by which an index has a callsign.
+/// The most bytes under which an index has a callsign: one of its SSID, and nine of its text.
 const CALL_BYTES: usize = 10;
 
 /// What a frame reports on, with the bytes under which an index has it.
@@ -40,14 +40,14 @@ impl<'a> Subject<'a> {
         }
     }
 
-    /// Whether it is nothing that an index has.
+    /// Whether the frame reports on nothing that an index has.
     pub(crate) fn is_nothing(&self) -> bool
         ensures { result ≡ true → (topic : Topic) → subject_bytes topic self.now ≡ None }
     {
         matches!(self, Subject::Nothing)
     }
 
-    /// Whether it is the same that another frame reports on. Two that report on nothing aren't.
+    /// Whether both are the same subject, under the same bytes. `false` where both are `Nothing`.
     pub(crate) fn is_same(&self, other: &Subject<'_>) -> bool
         ensures { result ≡ true
             → (topic : Topic) → subject_bytes topic self.now ≡ subject_bytes topic other.now }
@@ -66,7 +66,8 @@ impl<'a> Subject<'a> {
     }
 }
 
-/// The bytes by which an index has a callsign: its SSID, and then its text. No other has the same.
+/// The bytes under which an index has a callsign: its SSID, and then its text. No other callsign
+/// has the same bytes.
 pub(crate) fn call_bytes(call: &Callsign) -> ArrayVec<u8, CALL_BYTES>
     ensures { result.items ≡ call_bytes call.now }
 {

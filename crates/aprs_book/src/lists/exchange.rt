@@ -44,7 +44,10 @@ impl<'t, A: Allocator + Copy> Exchange<'t, A> {
         }
     }
 
-    /// Adds one more row, by who sent it, its first moment and its greatest reception.
+    /// Adds one more row, by its station, its first moment and its greatest reception: the
+    /// exchange of some rows becomes that of these rows and this one. A row that is neither
+    /// message nor answer changes nothing. `sender` has to be the source of the reception's frame.
+    /// Nothing is promised of the exchange after `Memory`.
     pub(crate) fn take(
         &mut self,
         sender: &Callsign,
@@ -70,13 +73,15 @@ impl<'t, A: Allocator + Copy> Exchange<'t, A> {
     }
 }
 
-/// Widens the span of a row's message by `more`, the row's moments, or begins it with these. It
-/// inserts first and mends after, since most messages come once: these need one search.
+/// Widens the span of a message by `more`, the moments of one more row, or begins the span with
+/// these. The span is inserted first, and mended where one was there: most messages come once, and
+/// then one search is enough.
 fn put_span<'t, A: Allocator + Copy>(
     spans: &mut BTreeMap<MessageKey<'t>, Span, A>,
     message: MessageKey<'t>,
     more: &Span,
 ) -> Result<(), Memory>
+    // The spans of some rows become those of these rows and r, which reports this message.
     ensures { OnOk result ((rows : List Row) (r : Row) → Spec.AreSpans rows spans.old.entries
         → message_in (row_key r) ≡ Some (Spec.message_of message.entry)
         → more.now.first ≡ r.first → more.now.last ≡ last_of r
@@ -94,12 +99,14 @@ fn put_span<'t, A: Allocator + Copy>(
     Ok(())
 }
 
-/// Keeps this reception as the answer to what it answers, unless a greater answer is kept already.
+/// Keeps this reception as the answer under this key, unless one is kept there that is as great or
+/// greater.
 fn put_answer<'t, A: Allocator + Copy>(
     answers: &mut BTreeMap<AnswerKey<'t>, ReceptionView<'t>, A>,
     key: AnswerKey<'t>,
     heard: &ReceptionView<'t>,
 ) -> Result<(), Memory>
+    // The answers of some rows become those of these rows and r, which gives this answer alone.
     ensures { OnOk result ((rows : List Row) (r : Row) → Spec.AreAnswers rows answers.old.entries
         → ((a : Spec.Answer) → Spec.GivesAnswer a (row_key r)
         ↔ (Some (Spec.answer_of key.entry) ≡ Some a))
@@ -113,7 +120,7 @@ fn put_answer<'t, A: Allocator + Copy>(
     Ok(())
 }
 
-/// The exchange of a book's rows.
+/// The messages and answers of a book's rows, in one pass over these.
 pub(crate) fn exchange_of<'t, A: Allocator + Copy>(
     alloc: A,
     rows: Walk<'t, A>,

@@ -52,8 +52,8 @@ pub struct MessageRow<'a> {
 }
 
 impl<A: Allocator + Copy> Book<A> {
-    /// The messages that were heard, ascending by source, addressee, text and id, where none comes
-    /// first.
+    /// The messages that were heard, ascending by source, addressee, text and id; one without an
+    /// id comes before those with one.
     pub fn messages(&self) -> Result<Vec<MessageRow<'_>, A>, Memory>
         ensures { IfOk result (λ messages.
             ReportsMessages (millis_of self.now.gap) self.now.rows messages.items) }
@@ -63,7 +63,8 @@ impl<A: Allocator + Copy> Book<A> {
     }
 }
 
-/// The messages of rows, by what they exchange.
+/// The list of the messages of any rows that have this exchange, ascending by source, addressee,
+/// text and id.
 pub(crate) fn messages_of<'a, A: Allocator + Copy>(
     alloc: A,
     exchange: &Exchange<'a, A>,
@@ -74,7 +75,8 @@ pub(crate) fn messages_of<'a, A: Allocator + Copy>(
     list_messages(alloc, &exchange.spans, &exchange.answers)
 }
 
-/// The messages with their moments and what came of them.
+/// A row for each message that has a span, in order, with its moments and its state by these
+/// answers.
 fn list_messages<'a, A: Allocator + Copy>(
     alloc: A,
     spans: &BTreeMap<MessageKey<'a>, Span, A>,
@@ -93,7 +95,8 @@ fn list_messages<'a, A: Allocator + Copy>(
     Ok(list)
 }
 
-/// A message with its moments and what came of it.
+/// The row of a message: its moments, and its state by the greatest answer. A message without an
+/// id is `Unnumbered`.
 fn row_of<'a, A: Allocator + Copy>(
     message: &MessageKey<'a>,
     span: &Span,
@@ -116,7 +119,8 @@ fn row_of<'a, A: Allocator + Copy>(
     }
 }
 
-/// The greatest answer to this id of a message, or none.
+/// The greatest answer to this id of a message. `None` where there is none, or the addressee is no
+/// callsign.
 fn greatest_answer<'a, 'b, A: Allocator + Copy>(
     message: &MessageKey<'a>,
     id: &'a [u8],
@@ -138,7 +142,8 @@ fn greatest_answer<'a, 'b, A: Allocator + Copy>(
     }
 }
 
-/// What came of a message first heard at this moment, by its greatest answer.
+/// What came of a message first heard at this moment, by its greatest answer: `Unanswered` where
+/// there is none, or only one from before that moment.
 fn state_by(first: Moment, answer: Option<&ReceptionView<'_>>) -> MessageState
     ensures { result ≡ state_by first (option_copied answer.entry) }
 {
@@ -148,7 +153,8 @@ fn state_by(first: Moment, answer: Option<&ReceptionView<'_>>) -> MessageState
     }
 }
 
-/// What an answer, an ack or a rej with this information, says of its message.
+/// The state of a message whose answer has this information: `Rejected` by a rej, otherwise
+/// `Acknowledged`.
 fn reported_state(info: &[u8]) -> MessageState
     ensures { result ≡ reported_state (reading_of info.now) }
 {

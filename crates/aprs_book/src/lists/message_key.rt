@@ -11,7 +11,7 @@ use aprs_ax25::Callsign;
 use aprs_log::Moment;
 use aprs_report::Report;
 
-/// A message: receptions that agree in all of these are of one.
+/// A message: receptions that agree in all of these fields are of one message.
 #[derive(PartialEq, Eq, PartialOrd, Ord, Drop)]
 pub(crate) struct MessageKey<'a> {
     pub source: Callsign,
@@ -50,7 +50,8 @@ pub(crate) struct AnswerKey<'a> {
     pub id: &'a [u8],
 }
 
-/// The message that a reception from this station reports, or none.
+/// The message that a reception reports, or `None` where it reports none. `sender` has to be the
+/// source of its frame.
 #[tactic(auto, unfolding(aprs_laws::specs::Key::key_of))]
 pub(crate) fn message_in<'a>(sender: &Callsign, heard: &ReceptionView<'a>) -> Option<MessageKey<'a>>
     requires { sender.now ≡ (key_of heard.now.frame).source }
@@ -71,7 +72,7 @@ pub(crate) fn message_in<'a>(sender: &Callsign, heard: &ReceptionView<'a>) -> Op
     }
 }
 
-/// What is known of a message's moments, with those of one more row.
+/// From the earlier first to the later last moment of both.
 pub(crate) fn span_with(known: &Span, more: &Span) -> Span
     ensures { result ≡ Spec.span_with (Some known.now) more.now }
 {
@@ -81,7 +82,8 @@ pub(crate) fn span_with(known: &Span, more: &Span) -> Span
     }
 }
 
-/// What a reception from this station answers, if it is an answer to a callsign.
+/// What a reception answers, or `None` where it is no ack or rej, or not to a callsign. `sender`,
+/// who answers, has to be the source of its frame.
 pub(crate) fn answer_in<'a>(sender: &Callsign, heard: &ReceptionView<'a>) -> Option<AnswerKey<'a>>
     requires { sender.now ≡ (key_of heard.now.frame).source }
     ensures { (a : Spec.Answer) → Spec.GivesAnswer a (key_of heard.now.frame)
@@ -98,7 +100,8 @@ pub(crate) fn answer_in<'a>(sender: &Callsign, heard: &ReceptionView<'a>) -> Opt
     }
 }
 
-/// The addressee and the id of an answer that has this information; none where it is no ack or rej.
+/// The addressee and the id of an ack or a rej that has this information; `None` where it is
+/// neither.
 fn answer_fields(info: &[u8]) -> Option<(&[u8], &[u8])>
     ensures { option_map (λ x. (x.0.now, x.1.now)) result
         ≡ Spec.reported_answer (reading_of info.now) }

@@ -24,7 +24,8 @@ pub struct Named<'a> {
 }
 
 impl<A: Allocator + Copy> Book<A> {
-    /// The last report of each object, by name, and then of each item, by name.
+    /// The last report of each object, ascending by name, and then of each item, ascending by
+    /// name. Killed ones are among them.
     pub fn objects(&self) -> Result<Vec<Named<'_>, A>, Memory>
         ensures { IfOk result (λ named.
             ReportsNamed (millis_of self.now.gap) self.now.rows named.items) }
@@ -33,7 +34,8 @@ impl<A: Allocator + Copy> Book<A> {
     }
 }
 
-/// The objects and items that are known of.
+/// The objects of any rows that have these indexes, and then the items, each ascending by name,
+/// with the last report of each.
 pub(crate) fn objects_of<'a, A: Allocator + Copy>(
     alloc: A,
     indexes: &'a Indexes<A>,
@@ -47,7 +49,9 @@ pub(crate) fn objects_of<'a, A: Allocator + Copy>(
     Ok(list)
 }
 
-/// Adds what an index knows of objects or of items, in order.
+/// Puts at the list's end what an index knows, ascending by name: as items where `is_item` says
+/// so, otherwise as objects. Empty entries are left out. After `Memory` a part may have been put
+/// there.
 fn push_reports<'a, A: Allocator + Copy>(
     list: &mut Vec<Named<'a>, A>,
     is_item: bool,

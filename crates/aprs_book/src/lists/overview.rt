@@ -89,7 +89,8 @@ impl<'t, 'a, A: Allocator + Copy> Overview<'t, 'a, A> {
         stations_of(self.alloc, &self.tallies, &self.indexes)
     }
 
-    /// The last report of each object, by name, and then of each item, by name.
+    /// The last report of each object, ascending by name, and then of each item, ascending by
+    /// name. Killed ones are among them.
     pub fn objects(&self) -> Result<Vec<Named<'_>, A>, Memory>
         ensures { IfOk result (λ named.
             ReportsNamed (millis_of self.now.gap) self.now.rows named.items) }

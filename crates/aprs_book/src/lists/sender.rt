@@ -6,8 +6,8 @@ use crate::known::reception_view::ReceptionView;
 use aprs_ax25::Callsign;
 use std::marker::Model;
 
-/// The station that sent a frame, with the octets of its address. A row follows mostly one of its
-/// own station, and then its callsign needn't be read.
+/// The station that sent a frame, with the octets of its address. Most rows follow one of the same
+/// station, and then its callsign needn't be read.
 #[derive(Drop)]
 pub(crate) struct Sender<'a> {
     call: Callsign,
@@ -27,7 +27,8 @@ impl<'a> Model for Sender<'a> {
 }
 
 impl<'a> Sender<'a> {
-    /// Who sent the frame of a reception, after that of another.
+    /// Who sent the frame of a reception. `before` is who sent the frame of the row before it, if
+    /// there is one: where the address octets are equal, no callsign is read.
     #[tactic(auto, unfolding(aprs_laws::specs::Key::key_of))]
     pub(crate) fn after(before: Option<Sender<'a>>, x: &ReceptionView<'a>) -> Sender<'a>
         ensures { result ≡ (key_of x.now.frame).source }
@@ -42,7 +43,7 @@ impl<'a> Sender<'a> {
         }
     }
 
-    /// Its callsign.
+    /// The station's callsign.
     pub(crate) fn call(&self) -> &Callsign
         ensures { result.now ≡ self.now }
     {

@@ -54,7 +54,7 @@ pub(crate) fn stations_of<'a, A: Allocator + Copy>(
     list_stations(alloc, tallies, indexes)
 }
 
-/// The stations that were counted, in order.
+/// A row for each station that was counted, ascending by callsign.
 fn list_stations<'a, A: Allocator + Copy>(
     alloc: A,
     tallies: &BTreeMap<Callsign, u64, A>,
@@ -76,7 +76,8 @@ fn list_stations<'a, A: Allocator + Copy>(
     Ok(list)
 }
 
-/// A station of so many rows, with what is last known of it.
+/// The row of a station with this number of rows in the book: its position and its status are what
+/// the indexes know, or `None`.
 fn station_of<'a, A: Allocator + Copy>(
     call: &Callsign,
     transmissions: u64,

@@ -17,7 +17,7 @@ use aprs_log::Moment;
 use aprs_rows::RowViews;
 use std::alloc::{Allocator, Global};
 
-/// What some rows report, how many each station has, and which messages they are.
+/// What some rows report, how many each station has, and the messages and answers among them.
 #[derive(Drop)]
 pub(crate) struct Survey<'t, A: Allocator = Global> {
     pub notes: Notes<'t, A>,
@@ -26,7 +26,7 @@ pub(crate) struct Survey<'t, A: Allocator = Global> {
 }
 
 impl<'t, A: Allocator + Copy> Survey<'t, A> {
-    /// That of no rows.
+    /// The survey of no rows. Takes no memory.
     fn new(alloc: A) -> Survey<'t, A>
         ensures { IsSurveyOf [] result }
     {
@@ -37,7 +37,10 @@ impl<'t, A: Allocator + Copy> Survey<'t, A> {
         }
     }
 
-    /// Adds one more row, by who sent it, its first moment and its greatest reception.
+    /// Adds one more row, by its station, its first moment and its greatest reception: the survey
+    /// of some rows becomes that of these rows and this one. `sender` has to be the source of the
+    /// reception's frame, and has to have fewer than 2^64 - 1 rows so far. Nothing is promised of
+    /// the survey after `Memory`.
     fn take(
         &mut self,
         sender: &Callsign,
@@ -57,7 +60,8 @@ impl<'t, A: Allocator + Copy> Survey<'t, A> {
     }
 }
 
-/// The survey of the rows of a store, of which there are `len`.
+/// The survey of the rows of a store, in one pass over them. `len` has to be their number: so no
+/// station's number of rows overflows.
 pub(crate) fn survey_of<'t, A: Allocator + Copy>(
     alloc: A,
     rows: RowViews<'t, '_>,

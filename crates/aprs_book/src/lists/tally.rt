@@ -44,7 +44,7 @@ impl<A: Allocator> Model for Counting<A> {
 }
 
 impl<A: Allocator + Copy> Counting<A> {
-    /// No stations.
+    /// No rows were counted yet. Takes no memory.
     pub(crate) fn new(alloc: A) -> Counting<A>
         ensures { result ≡ [] }
     {
@@ -54,8 +54,9 @@ impl<A: Allocator + Copy> Counting<A> {
         }
     }
 
-    /// Counts one more row of this station. The last station is kept beside the map until another
-    /// comes.
+    /// Counts one more row of this station, whose number of rows has to be below 2^64 - 1. The
+    /// last station is kept beside the map until another comes. After `Memory` its number may be
+    /// lost.
     pub(crate) fn add(&mut self, station: &Callsign) -> Result<(), Memory>
         requires { Spec.tally_of station.now self.old < 18446744073709551615 }
         ensures { OnOk result (self.new ≡ Spec.with_one_more station.now self.old) }
@@ -79,7 +80,7 @@ impl<A: Allocator + Copy> Counting<A> {
         Ok(())
     }
 
-    /// The stations with their rows, in order.
+    /// The number of rows of each station, ascending by callsign.
     pub(crate) fn into_map(self) -> Result<BTreeMap<Callsign, u64, A>, Memory>
         ensures { IfOk result (λ map. map.entries ≡ self) }
     {
@@ -105,7 +106,8 @@ fn put<A: Allocator + Copy>(
     Ok(())
 }
 
-/// How many of a book's rows, of which there are `len`, each station has.
+/// How many rows of a book each station has. `len` has to be the number of all rows: so no
+/// station's number of rows overflows.
 pub(crate) fn tallies<A: Allocator + Copy>(
     alloc: A,
     rows: Walk<'_, A>,
@@ -124,7 +126,7 @@ pub(crate) fn tallies<A: Allocator + Copy>(
     tallies.into_map()
 }
 
-/// One more than were counted.
+/// One more than the known number, which has to be below 2^64 - 1, or 1 where none is known.
 fn one_more(known: Option<&u64>) -> u64
     requires { Spec.count_in (option_copied known) < 18446744073709551615 }
     ensures { result ≡ Spec.count_in (option_copied known.entry) + 1 }

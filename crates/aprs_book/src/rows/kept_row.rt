@@ -56,7 +56,8 @@ impl<A: Allocator> Model for KeptRow<A> {
 }
 
 impl<A: Allocator + Copy> KeptRow<A> {
-    /// The row of these, in a place of its own.
+    /// The row of this first moment, these receivers and this greatest reception, in memory of its
+    /// own.
     pub(crate) fn new(
         alloc: A,
         first: Moment,
@@ -86,7 +87,7 @@ impl<A: Allocator + Copy> KeptRow<A> {
         KeptRow::new(alloc, x.moment(), receivers, x.copy())
     }
 
-    /// The row of these parts, whose receivers ascend.
+    /// The row of these parts, whose receivers have to ascend strictly, in memory of its own.
     pub(crate) fn of(alloc: A, parts: &RowParts<A>) -> Result<KeptRow<A>, Memory>
         requires { Ordered (IsBelow bytes_cmp) parts.now.receivers }
         ensures { IfOk result (λ row. row ≡ parts.now) }
@@ -95,7 +96,9 @@ impl<A: Allocator + Copy> KeptRow<A> {
         KeptRow::new(alloc, parts.first, receivers, parts.greatest())
     }
 
-    /// Where this row lies, seen from a reception: before it, near to it, or after it.
+    /// Where this row lies, seen from a reception: by key first; of one key it is `Less` where it
+    /// ends more than the gap before the reception, `Greater` where it begins more than the gap
+    /// after the reception, and `Equal` where they are near.
     pub(crate) fn side(&self, gap: Millis, x: &Reception) -> Ordering
         ensures { result ≡ side gap self.now x.now }
     {
@@ -110,8 +113,8 @@ impl<A: Allocator + Copy> KeptRow<A> {
     }
 
     /// Where this row lies, seen from another: by key first; of one key it is `Less` where it ends
-    /// more than the gap before the other begins, `Greater` where the other ends so before it, and
-    /// `Equal` where they are near.
+    /// more than the gap before the other begins, `Greater` where it begins more than the gap
+    /// after the other ends, and `Equal` where they are near.
     pub(crate) fn place(&self, gap: Millis, other: &KeptRow<A>) -> Ordering
         ensures { result ≡ place gap self.now other.now }
     {
@@ -128,7 +131,7 @@ impl<A: Allocator + Copy> KeptRow<A> {
         }
     }
 
-    /// The order of rows in a book.
+    /// The order of rows in a book: by key, then first moment.
     pub(crate) fn order(&self, other: &KeptRow<A>) -> Ordering
         ensures { result ≡ row_cmp self.now other.now }
     {
@@ -138,7 +141,7 @@ impl<A: Allocator + Copy> KeptRow<A> {
         }
     }
 
-    /// Whether a row of these parts comes after this one.
+    /// Whether this row comes before a row of these parts, by key, then first moment.
     pub(crate) fn comes_before(&self, parts: &RowParts<A>) -> bool
         ensures { result ≡ is_lt (row_cmp self.now parts.now) }
     {
@@ -148,7 +151,8 @@ impl<A: Allocator + Copy> KeptRow<A> {
         }
     }
 
-    /// Whether a row of these parts has the key of this one, and begins too soon after its end.
+    /// Whether a row of these parts has the key of this row, and begins at most the gap after this
+    /// row ends.
     pub(crate) fn reaches(&self, gap: Millis, parts: &RowParts<A>) -> bool
         ensures { result ≡ is_too_near gap self.now parts.now }
     {
@@ -157,7 +161,9 @@ impl<A: Allocator + Copy> KeptRow<A> {
             && parts.first.millis() <= greatest.moment().millis() + gap.get()
     }
 
-    /// Adds a reception that is near to this row. Takes no memory where the row lists its receiver.
+    /// Adds a reception that is near to this row: lists its receiver, and keeps the earlier first
+    /// moment and the greater reception. Takes no memory where the receiver is listed already.
+    /// After `Memory` the row is as before.
     pub(crate) fn grow(&mut self, x: &Reception) -> Result<(), Memory>
         ensures grown { OnOk result (self.new ≡ grow_row self.old x.now) }
         ensures listed { x.now.receiver ∈ self.old.receivers → IsOk result }
@@ -170,7 +176,8 @@ impl<A: Allocator + Copy> KeptRow<A> {
         Ok(())
     }
 
-    /// Makes one row of this and a near one.
+    /// Adds a near row to this one: lists the receivers of both, and keeps the earlier first
+    /// moment and the greater reception. After `Memory` this row is as before.
     pub(crate) fn absorb(&mut self, other: &KeptRow<A>) -> Result<(), Memory>
         ensures { OnOk result (self.new ≡ combine self.old other.now) }
     {
@@ -182,7 +189,7 @@ impl<A: Allocator + Copy> KeptRow<A> {
         Ok(())
     }
 
-    /// The same row again.
+    /// A copy of this row, in memory of its own.
     pub(crate) fn duplicate(&self) -> Result<KeptRow<A>, Memory>
         ensures { IfOk result (λ copy. copy ≡ self.now) }
     {
@@ -195,7 +202,8 @@ impl<A: Allocator + Copy> KeptRow<A> {
         )
     }
 
-    /// The one row that this row, the next row and a reception that is near to both become.
+    /// The one row that this row, the row `next` and a reception that is near to both become, in
+    /// memory of its own.
     pub(crate) fn bridge(&self, x: &Reception, next: &KeptRow<A>) -> Result<KeptRow<A>, Memory>
         ensures { IfOk result (λ row. row ≡ combine (grow_row self.now x.now) next.now) }
     {
@@ -225,7 +233,7 @@ impl<A: Allocator + Copy> KeptRow<A> {
         self.sent.as_ref().first
     }
 
-    /// Who heard it.
+    /// The receivers that heard the transmission.
     fn receivers(&self) -> &Receivers<A>
         ensures { result.now ≡ self.now.receivers }
     {
@@ -237,14 +245,14 @@ impl<A: Allocator + Copy> KeptRow<A> {
         *Box::allocator(&self.sent)
     }
 
-    /// The greatest reception.
+    /// The greatest reception, which has the key and the last moment of the row.
     pub(crate) fn greatest(&self) -> &Reception
         ensures { result.now ≡ self.now.greatest }
     {
         &self.sent.as_ref().greatest
     }
 
-    /// What the row shows.
+    /// This row as callers see it. Its receivers and its greatest reception stay where they lie.
     pub(crate) fn show(&self) -> Row<'_>
         ensures { result ≡ self.now }
     {
@@ -252,7 +260,8 @@ impl<A: Allocator + Copy> KeptRow<A> {
     }
 }
 
-/// The order of the frames' keys.
+/// The order of two frames by their keys: by source, destination, then information. Where the
+/// address octets are equal, no callsign is read.
 #[tactic(auto, unfolding(aprs_laws::specs::Key::key_of, aprs_laws::specs::Key::key_cmp))]
 fn key_order(a: &Frame, b: &Frame) -> Ordering
     ensures { result ≡ key_cmp (key_of a.now) (key_of b.now) }
@@ -272,15 +281,18 @@ fn key_order(a: &Frame, b: &Frame) -> Ordering
 /// How many octets the destination and the source of a frame have.
 const CALLS: usize = 14;
 
-/// Whether two frames have the same destination and the same source, seen by their octets alone. So
-/// have most copies of one transmission.
+/// Whether two frames, given by their bytes, have equal octets for destination and source, as most
+/// copies of one transmission have. Then both callsigns are the same. `false` says nothing of
+/// these: the octets hold other bits too.
 fn have_same_calls(a: &[u8], b: &[u8]) -> bool
     ensures { result ≡ true → HaveSameCallsigns a.now b.now }
 {
     a.len() >= CALLS && b.len() >= CALLS && a[..CALLS] == b[..CALLS]
 }
 
-/// Where the first span lies: before the second and far from it, near to it, or after it.
+/// Where the span from `first` to `last` lies, seen from the other span: `Less` where it ends more
+/// than the gap before the other begins, `Greater` where it begins more than the gap after the
+/// other ends, and `Equal` where they are near.
 fn moment_order(
     gap: Millis,
     first: Moment,
@@ -307,7 +319,7 @@ fn earlier(a: Moment, b: Moment) -> Moment
     if b.millis() < a.millis() { b } else { a }
 }
 
-/// Whether both are the same names.
+/// Whether both are the same names, in the same order.
 fn same_names(a: &[Receiver], b: &[Receiver]) -> bool
     ensures { IsTrue result ↔ (a.now ≡ b.now) }
 {

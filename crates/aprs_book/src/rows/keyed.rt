@@ -23,8 +23,9 @@ use std::cmp::Ordering;
 use std::collections::BTreeMap;
 use std::marker::Model;
 
-/// The rows of the keys with one head, in their order, by that head. No head is without rows. Heads
-/// lie in the map itself, so that most keys are told apart without a look at their frames.
+/// The rows of a book in a map: under each head (the beginning of a key, as numbers) lie the rows
+/// whose keys have that head, in order. No head is without rows. Heads lie in the map itself, so
+/// that most keys are told apart without a look at their frames.
 pub(crate) struct KeyedRows<A: Allocator = Global> {
     map: BTreeMap<Head, Vec<KeptRow<A>, A>, A>,
     /// The number of the rows of all keys.
@@ -57,7 +58,7 @@ impl<A: Allocator> Model for KeyedRows<A> {
 }
 
 impl<A: Allocator + Copy> KeyedRows<A> {
-    /// No rows.
+    /// The rows of an empty book. Takes no memory.
     pub(crate) fn new(alloc: A) -> KeyedRows<A>
         ensures { result ≡ [] }
     {
@@ -87,9 +88,9 @@ impl<A: Allocator + Copy> KeyedRows<A> {
         Walk::of(&[], self.map.values())
     }
 
-    /// The rows of both in order, where each that is near, under this gap, to the row before it is
-    /// joined to that. So are rows of one side alone: under a wider gap they may have come near.
-    /// One pass over the heads of both.
+    /// The rows of both in order. Each row that is near, under this gap, to the row before it is
+    /// joined to that row. This goes for rows of one side too: under a wider gap they may have
+    /// come near. One pass over the heads of both.
     pub(crate) fn merge(&self, gap: Millis, other: &KeyedRows<A>) -> Result<KeyedRows<A>, Memory>
         ensures { IfOk result (λ both. both ≡ coalesced_rows gap (interleave self.now other.now)) }
     {
@@ -131,7 +132,8 @@ impl<A: Allocator + Copy> KeyedRows<A> {
         Ok(KeyedRows { map, count, alloc })
     }
 
-    /// The last head's rows.
+    /// The rows of the last head, with which all rows end; or no rows, where there are none at
+    /// all.
     fn last_rows(&self) -> &[KeptRow<A>]
         ensures { IsEndOf result.now self.now }
     {
@@ -141,8 +143,8 @@ impl<A: Allocator + Copy> KeyedRows<A> {
         }
     }
 
-    /// Puts a row after all others, none of whose keys is above its key. What needs memory is made
-    /// before the first change.
+    /// Puts a row after all others. The key of the last of these must not be above its key. What
+    /// needs memory is made before the first change: after `Memory` the rows are as before.
     fn append(&mut self, row: KeptRow<A>) -> Result<(), Memory>
         requires { LastKeyIsUpTo row self.old }
         ensures added { OnOk result (self.new ≡ self.old ++ row ∷ []) }
@@ -164,16 +166,16 @@ impl<A: Allocator + Copy> KeyedRows<A> {
         Ok(())
     }
 
-    /// The first cause that refuses a row of these parts after all others. Looks at the last row
-    /// alone.
+    /// The first cause that refuses a row of these parts after all others, or `None` where it may
+    /// be added. Looks at the last row alone.
     pub(crate) fn refusal(&self, gap: Millis, parts: &RowParts<A>) -> Option<RowCause>
         ensures { result ≡ refusal gap self.now parts.now }
     {
         first_cause(gap, self.last_rows(), parts)
     }
 
-    /// Adds a row of these parts after all others. What needs memory is made before the first
-    /// change.
+    /// Adds a row of these parts after all others. Its receivers have to ascend strictly, and the
+    /// key of the last row must not be above its key. After `Memory` the rows are as before.
     pub(crate) fn push(&mut self, parts: &RowParts<A>) -> Result<(), Memory>
         requires ascending { Ordered (IsBelow bytes_cmp) parts.now.receivers }
         requires last { LastKeyIsUpTo parts.now self.old }
@@ -184,7 +186,9 @@ impl<A: Allocator + Copy> KeyedRows<A> {
         self.append(row)
     }
 
-    /// Adds a reception. What needs memory is made before the first change.
+    /// Adds a reception to sound rows: it becomes a new row in its place, or a near row grows, or
+    /// two near rows become one. Takes no memory where exactly one row is near and lists its
+    /// receiver. After `Memory` the rows are as before.
     pub(crate) fn take(&mut self, gap: Millis, x: &Reception) -> Result<(), Memory>
         requires { Sound gap self.old }
         ensures inserted { OnOk result (self.new ≡ insert_heard gap x.now self.old) }
@@ -208,8 +212,8 @@ impl<A: Allocator + Copy> KeyedRows<A> {
     }
 }
 
-/// Puts a row after the others of its head. `count` is the number of the rows of all keys, and goes
-/// with them.
+/// Puts a row after the others of its head, and adds 1 to `count`, the number of the rows of all
+/// keys. `Memory` is also returned where `count` has no room. After it both are as before.
 fn push_one<A: Allocator + Copy>(
     rows: &mut Vec<KeptRow<A>, A>,
     count: &mut usize,
@@ -230,7 +234,7 @@ fn push_one<A: Allocator + Copy>(
     Ok(())
 }
 
-/// The number of the rows of all keys.
+/// The number of the rows of all keys, or `Memory` where it is too great for a `usize`.
 fn number_of_rows<A: Allocator + Copy>(
     map: &BTreeMap<Head, Vec<KeptRow<A>, A>, A>,
 ) -> Result<usize, Memory>

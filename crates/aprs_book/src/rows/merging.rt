@@ -10,7 +10,8 @@ use crate::rows::millis::Millis;
 use aprs_rows::reserve_one;
 use std::alloc::Allocator;
 
-/// The rows of both in order, where each joins the one before it that it is near to.
+/// The rows of both in order, those of `ours` before equal ones of `theirs`. Each row that is near
+/// to the row before it is joined to that row.
 pub(crate) fn merged_rows<A: Allocator + Copy>(
     alloc: A,
     gap: Millis,
@@ -37,7 +38,7 @@ pub(crate) fn merged_rows<A: Allocator + Copy>(
     Ok(rows)
 }
 
-/// The rows in order, where each joins the one before it that it is near to.
+/// The rows one after another. Each row that is near to the row before it is joined to that row.
 pub(crate) fn joined_rows<A: Allocator + Copy>(
     alloc: A,
     gap: Millis,
@@ -50,7 +51,8 @@ pub(crate) fn joined_rows<A: Allocator + Copy>(
     Ok(rows)
 }
 
-/// Puts the rows after those that are there.
+/// Puts copies of `more` after the rows, one by one. Each that is near to the last row so far is
+/// joined to it. After `Memory` some of them may have been put there.
 fn push_all<A: Allocator + Copy>(
     gap: Millis,
     rows: &mut Vec<KeptRow<A>, A>,
@@ -64,7 +66,8 @@ fn push_all<A: Allocator + Copy>(
     Ok(())
 }
 
-/// Puts a row after those that are there, or joins it to the last of them if that is near.
+/// Puts a copy of a row after the rows, or joins it to the last of them if they are near. After
+/// `Memory` the rows are as before.
 fn push<A: Allocator + Copy>(
     gap: Millis,
     rows: &mut Vec<KeptRow<A>, A>,
@@ -85,7 +88,8 @@ fn push<A: Allocator + Copy>(
     Ok(())
 }
 
-/// Whether the row is near to the last of the rows, so that both are of one transmission.
+/// Whether the row is near to the last of the rows, so that both are of one transmission. `false`
+/// where there is no last row. `far` says that a row that isn't near goes after the rows as it is.
 fn is_last_near<A: Allocator + Copy>(gap: Millis, rows: &[KeptRow<A>], row: &KeptRow<A>) -> bool
     ensures near { result ≡ true → IsNearLast gap rows.now row.now }
     ensures far { result ≡ false → append_or_join gap rows.now row.now ≡ rows.now ++ row.now ∷ [] }

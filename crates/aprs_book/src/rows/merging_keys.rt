@@ -11,7 +11,8 @@ use aprs_rows::Head;
 use std::alloc::Allocator;
 use std::collections::BTreeMap;
 
-/// Puts one head's rows of both at the end.
+/// Puts into the map, at this head, the rows that both sides have of it, in order; each that is
+/// near to the row before it is joined to that.
 pub(crate) fn put_both<A: Allocator + Copy>(
     alloc: A,
     gap: Millis,
@@ -30,7 +31,8 @@ pub(crate) fn put_both<A: Allocator + Copy>(
     Ok(())
 }
 
-/// Puts the rows of a head that one side alone has at the end, near ones joined.
+/// Puts into the map, at this head, the rows of a head that only one side has; each that is near
+/// to the row before it is joined to that.
 pub(crate) fn put_joined<A: Allocator + Copy>(
     alloc: A,
     gap: Millis,

@@ -24,7 +24,7 @@ impl Model for Millis {
 }
 
 impl Millis {
-    /// The gap as moments count.
+    /// The gap in milliseconds. `range` says that a `Gap` is 1 to 3,600 seconds.
     pub(crate) fn of(gap: Gap) -> Millis
         ensures value { result ≡ millis_of gap }
         ensures range { IsGap gap }
@@ -34,7 +34,7 @@ impl Millis {
         }
     }
 
-    /// The number, at most 3,600,000.
+    /// The number of milliseconds, at most 3,600,000.
     pub(crate) fn get(&self) -> u64
         ensures value { result ≡ self.now }
         ensures bound { result ≤ 3600000 }

@@ -18,7 +18,8 @@ pub fn sound_rows_are_pushed()
     ensures prefix { (gap : ℕ) → PrefixesAreSound gap }
 {}
 
-/// The first cause that refuses a row of these parts after the rows.
+/// The first cause, in the order of `RowCause`, that refuses a row of these parts after the rows,
+/// or `None` where it may be added. Looks at the last row alone.
 #[tactic(auto, unfolding(aprs_rows::specs::Refusal::refusal))]
 pub(crate) fn first_cause<A: Allocator + Copy>(
     gap: Millis,
@@ -46,7 +47,8 @@ pub(crate) fn first_cause<A: Allocator + Copy>(
     None
 }
 
-/// Whether there is a last row that a row of these parts doesn't come after.
+/// Whether a row of these parts doesn't come after the last row, by key, then first moment.
+/// `false` where there is no last row.
 fn is_out_of_order<A: Allocator + Copy>(rows: &[KeptRow<A>], parts: &RowParts<A>) -> bool
     ensures { result ≡ is_of_last (λ l. is_out_of_order l parts.now) rows.now }
 {
@@ -56,7 +58,8 @@ fn is_out_of_order<A: Allocator + Copy>(rows: &[KeptRow<A>], parts: &RowParts<A>
     }
 }
 
-/// Whether there is a last row that a row of these parts is too near to.
+/// Whether a row of these parts has the key of the last row, and begins at most the gap after that
+/// ends. `false` where there is no last row.
 fn is_too_near<A: Allocator + Copy>(gap: Millis, rows: &[KeptRow<A>], parts: &RowParts<A>) -> bool
     ensures { result ≡ is_of_last (λ l. is_too_near gap l parts.now) rows.now }
 {
@@ -87,7 +90,7 @@ fn has_name(names: &[Receiver], name: &Receiver) -> bool
     names.iter().any(|other| name.cmp(other).is_eq())
 }
 
-/// Whether the name is the last of these.
+/// Whether the name is the last of these. `false` where there are no names.
 fn is_last_name(names: &[Receiver], name: &Receiver) -> bool
     ensures { result ≡ is_of_last (is_same_name name.now) names.now }
 {

@@ -41,7 +41,8 @@ impl<'a> Model for Row<'a> {
 }
 
 impl<'a> Row<'a> {
-    /// The row of these parts.
+    /// The row of this first moment, these receivers and this greatest reception. The other fields
+    /// are read from the greatest reception.
     #[tactic(auto, unfolding(aprs_laws::specs::Key::key_of))]
     pub(crate) fn new(first: Moment, receivers: &'a [Receiver], greatest: &'a Reception) -> Row<'a>
         ensures { result
@@ -77,7 +78,7 @@ impl<'a, A: Allocator> Model for Rows<'a, A> {
 }
 
 impl<'a, A: Allocator> Rows<'a, A> {
-    /// These rows.
+    /// The rows that are still to come in this walk.
     pub(crate) fn of(walk: Walk<'a, A>) -> Rows<'a, A>
         ensures { result ≡ walk.entry }
     {
@@ -92,6 +93,7 @@ impl<'a, A: Allocator + Copy> Iterator for Rows<'a, A> {
 
     ghost remaining = { item_count (λ rows. rows) };
 
+    /// The next row, or `None` after the last.
     fn next(&mut self) -> Option<Row<'a>> {
         let row = self.walk.next()?;
         Some(row.show())

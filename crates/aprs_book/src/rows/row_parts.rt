@@ -8,7 +8,7 @@ use aprs_log::{Moment, Receiver, Reception};
 use std::alloc::{Allocator, Global};
 use std::marker::Model;
 
-/// What makes a row, in any values.
+/// What makes a row. Any values may stand here: a row is judged when it is pushed.
 #[derive(Drop)]
 pub struct RowParts<A: Allocator = Global> {
     /// The first moment at which it was heard.
@@ -33,14 +33,14 @@ impl<A: Allocator> Model for RowParts<A> {
 }
 
 impl<A: Allocator> RowParts<A> {
-    /// The greatest reception.
+    /// A copy of the greatest reception.
     pub(crate) fn greatest(&self) -> Reception
         ensures { result ≡ self.now.greatest }
     {
         Reception::new(self.last, self.receiver.copy(), self.frame.copy())
     }
 
-    /// The greatest reception, where it lies.
+    /// A view of the greatest reception, which stays where it lies.
     pub(crate) fn heard(&self) -> ReceptionView<'_>
         ensures { result ≡ self.now.greatest }
     {

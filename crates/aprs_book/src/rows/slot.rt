@@ -14,15 +14,16 @@ use std::alloc::Allocator;
 /// Where a reception goes among rows.
 #[derive(Drop)]
 pub(crate) enum Slot {
-    /// Between rows, none of which is near.
+    /// No row is near: a new row goes to this place, from 0.
     New(usize),
-    /// At the one row that is near.
+    /// One row is near: that at this place.
     One(usize),
-    /// At the first of two rows that are near.
+    /// Two rows are near: those at this place and at the next.
     Two(usize),
 }
 
 /// The slot of a reception among the rows whose keys have the head of its key, by binary search.
+/// The rows have to be sound; so at most two of them are near to it.
 pub(crate) fn find_slot<A: Allocator + Copy>(
     gap: Millis,
     rows: &[KeptRow<A>],
@@ -41,8 +42,9 @@ pub(crate) fn find_slot<A: Allocator + Copy>(
     Slot::Two(i)
 }
 
-/// Adds a reception to the rows of its head. `count`, which goes with them, is the number of the
-/// rows of all keys. What needs memory is made before the first change.
+/// Adds a reception to the sound rows of its head: it becomes a new row, or a near row grows, or
+/// two near rows become one. `count`, the number of the rows of all keys, rises or falls with
+/// them. What needs memory is made before the first change: after `Memory` both are as before.
 pub(crate) fn put<A: Allocator + Copy>(
     gap: Millis,
     rows: &mut Vec<KeptRow<A>, A>,

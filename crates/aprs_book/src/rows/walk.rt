@@ -9,7 +9,8 @@ use std::alloc::{Allocator, Global};
 use std::collections::btree_map::Values;
 use std::marker::Model;
 
-/// The rows as they are kept that are still to come, in order: those of one head, then all others.
+/// The rows that are still to come, in order, as a book keeps them: what is left of the rows of
+/// one head, then the rows of all further heads.
 #[derive(Drop)]
 pub(crate) struct Walk<'a, A: Allocator = Global> {
     rows: &'a [KeptRow<A>],
@@ -27,7 +28,7 @@ impl<'a, A: Allocator> Model for Walk<'a, A> {
 }
 
 impl<'a, A: Allocator> Walk<'a, A> {
-    /// These rows, and then those of all these heads.
+    /// A walk over `rows`, and then over the rows of each of the `others`.
     pub(crate) fn of(
         rows: &'a [KeptRow<A>],
         others: Values<'a, Head, Vec<KeptRow<A>, A>>,
@@ -45,6 +46,7 @@ impl<'a, A: Allocator + Copy> Iterator for Walk<'a, A> {
 
     ghost remaining = { item_count (λ rows. rows) };
 
+    /// The next row, or `None` after the last.
     fn next(&mut self) -> Option<&'a KeptRow<A>> {
         while self.rows.is_empty() {
             self.rows = self.others.next()?.as_slice();
