@@ -7,7 +7,7 @@ use Rattle.aprs_laws.specs.declared.row_cause.RowCause.TheVariants as row
 use Rattle.aprs_booktext.specs.declared.fault.BookCause.{BookCause}
 use Rattle.aprs_booktext.specs.declared.fault.BookCause.TheVariants as cause
 
--- Its number, in the order in which the causes are declared.
+-- The cause's number, in the order in which the causes are declared.
 abbrev pub book_cause_number : BookCause → ℕ
 book_cause_number cause.Header = 1
 book_cause_number cause.RowSyntax = 2
@@ -23,7 +23,7 @@ book_cause_number cause.Read = 11
 book_cause_number cause.TooLong = 12
 book_cause_number cause.Memory = 13
 
--- Its name, that of the variant.
+-- The cause's name, that of its variant.
 abbrev pub book_cause_name : BookCause → List ℕ
 book_cause_name cause.Header = codes "Header"
 book_cause_name cause.RowSyntax = codes "RowSyntax"

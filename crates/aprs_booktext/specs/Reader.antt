@@ -19,13 +19,13 @@ use Rattle.aprs_booktext.specs.declared.reader.Stage.{Stage}
 use Rattle.aprs_booktext.specs.declared.reader.Stage.TheVariants.{Header, Rows, Done}
 use Rattle.aprs_booktext.specs.declared.version.Version.{Version}
 
--- The lines that were read.
+-- The whole lines that were read before this stage, where these are the rows.
 abbrev pub lines_read : Stage → List Row → List (List ℕ)
 lines_read Header rows = []
 lines_read (Rows v) rows = header_of v ∷ map (row_line (form_of v)) rows
 lines_read (Done v) rows = lines_of v rows
 
--- What rows there may be, and whether there may be a prefix of a line.
+-- What rows there may be at this stage, and whether there may be a prefix of a line.
 abbrev pub HoldsIn : Stage → List Row → List ℕ → Type 0
 HoldsIn Header rows line = rows ≡ []
 HoldsIn (Rows v) rows line = IsBookRows v rows
@@ -49,7 +49,7 @@ line_number Header count = 1
 line_number (Rows v) count = count + 2
 line_number (Done v) count = count + 3
 
--- The gap that the header says, if it was read.
+-- The gap that the header says; before that is read, the standard gap.
 abbrev pub gap_in : Stage → ℕ
 gap_in Header = standard_gap
 gap_in (Rows v) = gap_of v
@@ -61,7 +61,7 @@ is_done Header = false
 is_done (Rows v) = false
 is_done (Done v) = true
 
--- Whether a text may end there.
+-- Whether a book's text may end at this stage and in this way.
 abbrev pub may_end : Stage → Ending → Bool
 may_end (Done v) how.End = true
 may_end (Done v) how.Read = false
@@ -73,7 +73,7 @@ may_end (Rows v) ending = false
 abbrev pub IsOfText : BookCause → Type 0
 IsOfText cause = (cause ≢ why.Read) × (cause ≢ why.TooLong)
 
--- The answer is no fault at the end alone, and else the fault of this ending.
+-- `Ok` comes only where the input ended (`End`), and a fault has the cause of this ending.
 abbrev pub EndsIn : {A : Type 0} → Ending → Result A BookFault → Type 0
 EndsIn ending (Ok value) = ending ≡ how.End
 EndsIn ending (Err fault) = fault.cause ≡ ending_cause ending
@@ -131,7 +131,7 @@ AddsRow v (Err cause) rows line old new = ((cause ≡ why.Memory)
 
 -- ---- a reader
 
--- How many rows and bytes of a line it has read.
+-- How many rows the reader has read, and how many bytes of a line it keeps, together.
 abbrev pub size_of : {A : Type 0} → BookReader A → ℕ
 size_of reader = reader.count + length reader.line.items
 

@@ -27,7 +27,7 @@ IsWrongFrame digits cause =
     ⊎ ((cause ≡ why.Frame)
     × ((bytes : List ℕ) × SpellsBytes digits bytes × IsErr (frame_of bytes)))
 
--- The line spells no row, or one whose frame is none.
+-- The line spells no row, or it spells one but for its frame, whose bytes aren't a UI frame.
 abbrev pub IsWrongRow : MomentForm → List ℕ → BookCause → Type 0
 IsWrongRow form line cause =
     ((cause ≡ why.RowSyntax) × ((x : Row) → IsSpelled form x → line ≢ row_line form x))

@@ -52,7 +52,7 @@ book_of v rows = record { gap = gap_of v; rows = rows }
 abbrev pub written_version : BookValue → Version
 written_version book = Three book.gap
 
--- The text of its rows in that version.
+-- The text that a book is written as: that of its rows in version 3, with its gap.
 abbrev pub written_text : BookValue → List ℕ
 written_text book = book_text (written_version book) book.rows
 

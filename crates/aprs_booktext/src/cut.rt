@@ -4,7 +4,8 @@ ghost use Rattle.aprs_booktext.specs.Lines.{Lacks, pieces};
 
 use memchr::memchr;
 
-/// What stands before the first `stop` and what stands after it, where there is one.
+/// What stands before the first `stop` in a text and what stands after it, or `None` where the text
+/// has no such byte.
 pub fn cut(text: &[u8], stop: u8) -> Option<(&[u8], &[u8])>
     ensures some { IfSome result (λ p. (text.now ≡ p.0.now ++ stop ∷ p.1.now)
         × Lacks stop p.0.now) }
@@ -17,8 +18,9 @@ pub fn cut(text: &[u8], stop: u8) -> Option<(&[u8], &[u8])>
     }
 }
 
-/// As `cut`, for a text that mostly has the byte near its start, as one that begins with a name: a
-/// plain loop finds it sooner than `memchr`.
+/// What stands before the first `stop` in a text and what stands after it, or `None` where the text
+/// has no such byte. For a text that mostly has it near its start, as one that begins with a name:
+/// a plain loop finds it sooner than `memchr`.
 pub fn cut_near(text: &[u8], stop: u8) -> Option<(&[u8], &[u8])>
     ensures some { IfSome result (λ p. (text.now ≡ p.0.now ++ stop ∷ p.1.now)
         × Lacks stop p.0.now) }

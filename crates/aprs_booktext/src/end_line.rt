@@ -7,10 +7,10 @@ use aprs_io::push_all;
 use arrayvec::ArrayVec;
 use itoa::Buffer;
 
-/// At least the bytes of such a line with its LF.
+/// The room for the last line with its LF, in bytes: no such line is longer.
 pub const END_LINE: usize = 64;
 
-/// The last line of a book of so many rows, without its LF.
+/// The last line of the text of a book of this many rows, `END` and their number, without its LF.
 pub fn end_line(rows: usize) -> ArrayVec<u8, END_LINE>
     ensures text { result.items ≡ end_line rows }
     ensures short { array_vec_len result ≤ 60 }

@@ -36,7 +36,7 @@ pub enum BookCause {
 }
 
 impl BookCause {
-    /// Its number, 1 to 13, in the order in which the causes stand here.
+    /// The cause's number, 1 to 13, in the order in which the causes stand here.
     pub fn number(&self) -> u8
         ensures { result ≡ book_cause_number self.now }
     {
@@ -57,7 +57,7 @@ impl BookCause {
         }
     }
 
-    /// Its name, as programs report it: that of its variant.
+    /// The cause's name, as programs report it: that of its variant.
     pub fn name(&self) -> &'static str
         ensures { result.now ≡ book_cause_name self.now }
     {

@@ -9,7 +9,9 @@ use aprs_io::decode_lower_into;
 /// The most digits of a frame.
 pub const MAX_DIGITS: usize = 2 * MAX_UI_FRAME;
 
-/// The bytes whose digits these are, put into `room`: 1 to `MAX_UI_FRAME` of them.
+/// The bytes that lower case hexadecimal digits spell, 1 to `MAX_UI_FRAME` of them, written to the
+/// start of `room`; or `None` where the text spells no such bytes, and then anything may be in
+/// `room`.
 pub fn decode_frame<'r>(digits: &[u8], room: &'r mut [u8; MAX_UI_FRAME]) -> Option<&'r [u8]>
     ensures some { IfSome result (λ bytes. SpellsBytes digits.now bytes.now) }
     ensures none { IfNone result ((bytes : List ℕ) → SpellsBytes digits.now bytes → ⊥) }

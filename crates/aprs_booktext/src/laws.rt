@@ -18,8 +18,8 @@ pub fn written_books_are_read()
     ensures { Spec.AreReadBack }
 {}
 
-/// A text has exactly one fault but `Memory`, for each way in which the input may end, unless it is
-/// the whole text of a book and the end came after it: then it has none but that.
+/// Apart from `Memory`, a text has exactly one fault for each way in which the input may end,
+/// unless it is the whole text of a book and the end came after it: then it has none.
 pub fn each_text_has_one_fault_or_none()
     ensures some { Spec.HaveFaultOrBook }
     ensures one { Spec.HaveOneBookFault }

@@ -43,16 +43,20 @@ pub fn read_book<R: Read, A: Allocator + Copy>(
     requires head { length head.now ≤ 8 }
     requires within { length head.now ≤ limit }
 
+    // The answer is that for the text that was got: its book, or a fault that it has.
     ensures reads { IfSome (R.remaining (device_of source.old))
         (λ input. ReadsBook limit head.now input (R.remaining (device_of source.new)) result) }
+    // A book's text within the limit is read, unless a read or an allocation failed.
     ensures accepts { IfSome (R.remaining (device_of source.old))
         (λ input. AcceptsBook limit (head.now ++ input) result
         (Rose (failures_of source.old) (failures_of source.new))) }
+    // A text of version 1 gives the book of its set, with moments in milliseconds.
     ensures seconds { IfSome (R.remaining (device_of source.old))
         (λ input. ReadsSeconds (head.now ++ input) result) }
 
     // The reader is asked neither after its end nor after a fault.
     ensures calls { Asks result source.old source.new }
+    // No more bytes are taken than the limit allows; where the input is too long, just one more.
     ensures over { IfSome (R.remaining (device_of source.old)) (λ input. Takes result
         (limit - length head.now) input (R.remaining (device_of source.new))) }
 {
@@ -66,9 +70,13 @@ pub fn read_book<R: Read, A: Allocator + Copy>(
     Ok(book)
 }
 
-/// Reads the rows of a book from its text, as `read_book` does, and puts them after those of a
-/// store: the answer is the book's gap. What is required is the same, and so are the faults; after
-/// one, anything may be in the store. Holds the store and one line.
+/// Reads the rows of a book from its text, which begins with `head` and goes on with the bytes of
+/// `source`, to the end. Puts them after those of a store, and returns the book's gap. The text is
+/// of version 1, 2 or 3. Reading takes at most `limit` bytes, the head among them. Requires a limit
+/// of at most `MAX_INPUT` (1,073,741,824) and a head of at most 8 bytes and at most `limit`. A
+/// fault is the text's first, with the number of its line; `Memory` comes instead where an
+/// allocation failed before that fault, with the number of the line that was being read. After a
+/// fault anything may be in the store. Holds the store and one line.
 pub fn read_rows<R: Read, A: Allocator + Copy>(
     alloc: A,
     limit: u64,
@@ -80,12 +88,15 @@ pub fn read_rows<R: Read, A: Allocator + Copy>(
     requires head { length head.now ≤ 8 }
     requires within { length head.now ≤ limit }
 
+    // The answer is that for the text that was got: its book, or a fault that it has.
     ensures reads { IfSome (R.remaining (device_of source.old))
         (λ input. ReadsBook limit head.now input (R.remaining (device_of source.new))
         (book_read result store.old store.new)) }
+    // A book's text within the limit is read, unless a read or an allocation failed.
     ensures accepts { IfSome (R.remaining (device_of source.old))
         (λ input. AcceptsBook limit (head.now ++ input) (book_read result store.old store.new)
         (Rose (failures_of source.old) (failures_of source.new))) }
+    // A text of version 1 gives the book of its set, with moments in milliseconds.
     ensures seconds { IfSome (R.remaining (device_of source.old))
         (λ input. ReadsSeconds (head.now ++ input) (book_read result store.old store.new)) }
 
@@ -93,6 +104,7 @@ pub fn read_rows<R: Read, A: Allocator + Copy>(
 
     // The reader is asked neither after its end nor after a fault.
     ensures calls { Asks (book_read result store.old store.new) source.old source.new }
+    // No more bytes are taken than the limit allows; where the input is too long, just one more.
     ensures over { IfSome (R.remaining (device_of source.old))
         (λ input. Takes (book_read result store.old store.new) (limit - length head.now) input
         (R.remaining (device_of source.new))) }
@@ -102,7 +114,10 @@ pub fn read_rows<R: Read, A: Allocator + Copy>(
     gap_at_end(left, source, &reader)
 }
 
-/// Reads the lines of a text to its last one, and gives how many bytes more may be read.
+/// Reads a text, `head` and then bytes of `source`, to the end of its last line, with a reader that
+/// has read nothing before. Puts its rows after those of the store, and returns how many bytes of
+/// the limit are left. Fails with the text's first fault, or with `Memory` where an allocation
+/// failed; after that any rows may be in the store.
 fn read_lines<R: Read, A: Allocator + Copy>(
     limit: u64,
     head: &[u8],
@@ -116,6 +131,7 @@ fn read_lines<R: Read, A: Allocator + Copy>(
     requires none { size_of reader.old ≡ 0 }
     requires stands { Stands store.old reader.old store.old [] }
 
+    // The reader has read `head` and what was got of the source, and the store has its rows.
     ensures got { IfOk result (λ left. Got (Stands store.old reader.new store.new) head.now
         (R.remaining (device_of source.old)) (R.remaining (device_of source.new)) limit left) }
     ensures few { OnOk result (reader.new.count ≤ most_input) }
@@ -141,8 +157,9 @@ fn read_lines<R: Read, A: Allocator + Copy>(
     Ok(left)
 }
 
-/// The gap of the book whose last line was read, where the input ends there. `answer` says the same
-/// of the whole text, where the reader got `head` and then what came since the source was `first`.
+/// The gap of the book whose last line was read, where the input ends there. One byte more is asked
+/// for; the limit still allows `left`. Fails with `After` where a byte comes, with `TooLong` where
+/// one is there past the limit, and with `Read` where the read failed.
 fn gap_at_end<R: Read, A: Allocator + Copy>(
     left: u64,
     source: &mut Counted<R>,
@@ -151,6 +168,8 @@ fn gap_at_end<R: Read, A: Allocator + Copy>(
     requires few { reader.now.count ≤ most_input }
     requires done { is_done reader.now.stage ≡ true }
     ensures gap { IfOk result (λ gap. gap ≡ gap_in reader.now.stage) }
+    // This is the answer for the whole text, where the reader got `head` and then what came since
+    // the source was `first`.
     ensures answer { (before store : List Row) (head : List ℕ) (first : CountedValue R) (limit : ℕ)
         → Got (Stands before reader.now store) head (R.remaining (device_of first))
         (R.remaining (device_of source.old)) limit left → Calls Going first source.old

@@ -28,9 +28,9 @@ use std::alloc::Allocator;
 pub enum Stage {
     /// The header.
     Header,
-    /// That of a row of a text of this version, or the last one.
+    /// A row's line or the last line, in a text of this version.
     Rows(Version),
-    /// None.
+    /// No line: the last line of a text of this version was read.
     Done(Version),
 }
 
@@ -45,8 +45,9 @@ pub struct BookReader<A: Allocator> {
 }
 
 impl<A: Allocator + Copy> BookReader<A> {
-    /// A reader before a text.
+    /// A reader that has read nothing of a text.
     pub fn new(alloc: A) -> BookReader<A>
+        // Whatever the store has, no row of it is of this text.
         ensures stands { (store : List Row) → Spec.Stands store result store [] }
         ensures empty { Spec.size_of result ≡ 0 }
     {
@@ -75,16 +76,21 @@ impl<A: Allocator + Copy> BookReader<A> {
         }
     }
 
-    /// Reads on, and puts the rows of the lines after those of the store.
+    /// Reads the next piece of the text: puts the rows of the lines that end in it after those of
+    /// the store, and keeps the beginning of the next line. Fails with the text's first fault where
+    /// that is in what was read so far, and with `Memory` where an allocation failed; after that
+    /// rows of the piece may be in the store.
     pub fn feed(&mut self, store: &mut RowStore<A>, piece: &[u8]) -> Result<(), BookFault>
         requires { Spec.size_of self.old + length piece.now ≤ most_input }
 
+        // If the text `t` was read before, `t` and the piece are read now.
         ensures stands { OnOk result ((before : List Row) (t : List ℕ)
             → Spec.Stands before self.old store.old t
             → Spec.Stands before self.new store.new (t ++ piece.now)) }
         ensures size { OnOk result
             (Spec.size_of self.new ≤ Spec.size_of self.old + length piece.now) }
 
+        // The fault is that of the text, whatever comes after; or an allocation failed.
         ensures fault { IfErr result (λ fault. (before : List Row) (t : List ℕ)
             → Spec.Stands before self.old store.old t
             → Spec.IsFault (length piece.now) fault (t ++ piece.now)) }
@@ -98,16 +104,20 @@ impl<A: Allocator + Copy> BookReader<A> {
         self.append(rest)
     }
 
-    /// Puts bytes after those of the line.
+    /// Puts bytes, none of them an LF, after those that are kept of the line. Fails with `After`
+    /// where there are any and the last line was read, and with `Memory` where an allocation
+    /// failed.
     fn append(&mut self, bytes: &[u8]) -> Result<(), BookFault>
         requires { Spec.size_of self.old ≤ most_input }
 
+        // If the text `t` was read before, `t` and the bytes are read now.
         ensures stands { OnOk result ((before store : List Row) (t : List ℕ)
             → Spec.Stands before self.old store t → Lacks 10 bytes.now
             → Spec.Stands before self.new store (t ++ bytes.now)) }
         ensures size { OnOk result
             (Spec.size_of self.new ≤ Spec.size_of self.old + length bytes.now) }
 
+        // The fault is that of the text, whatever comes after; or an allocation failed.
         ensures fault { IfErr result (λ fault. (before store : List Row) (t more : List ℕ)
             → Spec.Stands before self.old store t
             → Spec.IsFault (length bytes.now + length more) fault ((t ++ bytes.now) ++ more)) }
@@ -122,13 +132,14 @@ impl<A: Allocator + Copy> BookReader<A> {
         }
     }
 
-    /// Refuses any bytes after the last line.
+    /// `Ok` where there are no bytes after the last line, and else the fault `After`.
     fn refuse_after_end(&self, bytes: &[u8]) -> Result<(), BookFault>
         requires few { self.now.count ≤ most_input }
         requires done { Spec.is_done self.now.stage ≡ true }
 
         ensures ok { OnOk result (bytes.now ≡ []) }
 
+        // The fault is that of the text, whatever comes after; or an allocation failed.
         ensures fault { IfErr result (λ fault. (before store : List Row) (t more : List ℕ)
             → Spec.Stands before self.now store t
             → Spec.IsFault (length bytes.now + length more) fault ((t ++ bytes.now) ++ more)) }
@@ -140,17 +151,20 @@ impl<A: Allocator + Copy> BookReader<A> {
         Err(self.fault(BookCause::After))
     }
 
-    /// Judges the line that ends with these bytes. Where they are the whole line, it isn't copied
-    /// first.
+    /// Judges the line that is the kept bytes and then `part`, and puts its row, if it has one,
+    /// after those of the store. Where `part` is the whole line, it isn't copied first. Fails where
+    /// the line is wrong, or where an allocation failed.
     fn end_line(&mut self, store: &mut RowStore<A>, part: &[u8]) -> Result<(), BookFault>
         requires { Spec.size_of self.old + length part.now ≤ most_input }
 
+        // If the text `t` was read before, `t`, `part` and an LF are read now.
         ensures stands { OnOk result ((before : List Row) (t : List ℕ)
             → Spec.Stands before self.old store.old t → Lacks 10 part.now
             → Spec.Stands before self.new store.new ((t ++ part.now) ++ 10 ∷ [])) }
         ensures size { OnOk result
             (Spec.size_of self.new ≤ Spec.size_of self.old + length part.now + 1) }
 
+        // The fault is that of the text, whatever comes after; or an allocation failed.
         ensures fault { IfErr result (λ fault. (before : List Row) (t more : List ℕ)
             → Spec.Stands before self.old store.old t → Lacks 10 part.now
             → Spec.IsFault (length part.now + (length more + 1)) fault
@@ -164,17 +178,21 @@ impl<A: Allocator + Copy> BookReader<A> {
         self.take_kept_line(store)
     }
 
-    /// Judges a line that is whole, where none is kept.
+    /// Judges a whole line, where nothing is kept and the last line wasn't read, and puts its row,
+    /// if it has one, after those of the store. Fails where the line is wrong, or where an
+    /// allocation failed.
     fn take_line(&mut self, store: &mut RowStore<A>, line: &[u8]) -> Result<(), BookFault>
         requires size { Spec.size_of self.old + length line.now ≤ most_input }
         requires none { self.old.line.items ≡ [] }
         requires going { Spec.is_done self.old.stage ≡ false }
 
+        // If the text `t` was read before, `t`, the line and an LF are read now.
         ensures stands { OnOk result ((before : List Row) (t : List ℕ)
             → Spec.Stands before self.old store.old t → Lacks 10 line.now
             → Spec.Stands before self.new store.new ((t ++ line.now) ++ 10 ∷ [])) }
         ensures size { OnOk result (Spec.size_of self.new ≤ Spec.size_of self.old + 1) }
 
+        // The fault is that of the text, whatever comes after; or an allocation failed.
         ensures fault { IfErr result (λ fault. (before : List Row) (t more : List ℕ)
             → Spec.Stands before self.old store.old t → Lacks 10 line.now
             → Spec.IsFault (length more + 1) fault ((t ++ line.now) ++ 10 ∷ more)) }
@@ -189,15 +207,18 @@ impl<A: Allocator + Copy> BookReader<A> {
         }
     }
 
-    /// Judges the line that is kept, which is whole.
+    /// Judges the kept bytes as a whole line, puts its row, if it has one, after those of the
+    /// store, and then keeps nothing. Fails where the line is wrong, or where an allocation failed.
     fn take_kept_line(&mut self, store: &mut RowStore<A>) -> Result<(), BookFault>
         requires { Spec.size_of self.old ≤ most_input }
 
+        // If the text `t` was read before, `t` and an LF are read now.
         ensures stands { OnOk result ((before : List Row) (t : List ℕ)
             → Spec.Stands before self.old store.old t
             → Spec.Stands before self.new store.new (t ++ 10 ∷ [])) }
         ensures size { OnOk result (Spec.size_of self.new ≤ Spec.size_of self.old + 1) }
 
+        // The fault is that of the text, whatever comes after; or an allocation failed.
         ensures fault { IfErr result (λ fault. (before : List Row) (t more : List ℕ)
             → Spec.Stands before self.old store.old t
             → Spec.IsFault (length more + 1) fault (t ++ 10 ∷ more)) }
@@ -214,9 +235,11 @@ impl<A: Allocator + Copy> BookReader<A> {
         }
     }
 
-    /// The gap of the text's book, where the text may end so.
+    /// The gap of the text's book, where its last line was read and the input ended after it
+    /// (`End`). Otherwise the fault of a text that ends in this way, in the line that comes next.
     pub fn finish(&self, ending: Ending) -> Result<Gap, BookFault>
         requires { self.now.count ≤ most_input }
+        // Where `t` is the text that was read, this is the answer for it with this ending.
         ensures reads { (before store : List Row) (t : List ℕ) → Spec.Stands before self.now store t
             → IsAnswerFor (book_read result before store) t ending }
         ensures ending { Spec.EndsIn ending result }
@@ -228,7 +251,8 @@ impl<A: Allocator + Copy> BookReader<A> {
         Err(self.fault_of_ending(ending))
     }
 
-    /// The fault of a text that ends in this way where a book's text may not end.
+    /// The fault of a text that ends in this way where a book's text may not end: `Ending`, `Read`
+    /// or `TooLong`, in the line that comes next.
     pub fn fault_of_ending(&self, ending: Ending) -> BookFault
         requires { self.now.count ≤ most_input }
         ensures { result ≡ record {
@@ -239,7 +263,8 @@ impl<A: Allocator + Copy> BookReader<A> {
         self.fault(ending_cause(ending))
     }
 
-    /// The fault where memory is refused after the last line was read: it is that line's.
+    /// The fault where memory is refused after the last line was read. It is in that line, which
+    /// comes after the header and the rows.
     pub fn refusal_at_last(&self) -> BookFault
         requires { self.now.count ≤ most_input }
         ensures { result ≡ record { line = self.now.count + 2; cause = BookCause.Memory } }
@@ -250,7 +275,8 @@ impl<A: Allocator + Copy> BookReader<A> {
         }
     }
 
-    /// A fault of this cause in the line that is read.
+    /// A fault of this cause in the line that comes next. Its number counts from 1 and goes by the
+    /// stage: first the header, then the rows and the last line, then what follows that.
     pub fn fault(&self, cause: BookCause) -> BookFault
         requires { self.now.count ≤ most_input }
         ensures { result
@@ -276,14 +302,18 @@ fn is_done(stage: Stage) -> bool
     }
 }
 
-/// Whether a text may end there.
+/// Whether a book's text may end at this stage and in this way: only after its last line, and where
+/// the input has no further byte.
 fn may_end(stage: Stage, ending: Ending) -> bool
     ensures { result ≡ Spec.may_end stage ending }
 {
     is_done(stage) && ending == Ending::End
 }
 
-/// What comes after a line at this stage, where so many of the rows in the store are of its text.
+/// Judges a whole line at this stage, and returns the stage after it. The last `count` rows of the
+/// store are those of this text: a row's line puts its row after them, and `count` rises by 1.
+/// Fails with the cause for which the line is wrong, or with `Memory` where an allocation failed,
+/// and then the store and `count` are as before.
 fn judge<A: Allocator + Copy>(
     stage: Stage,
     store: &mut RowStore<A>,
@@ -293,6 +323,8 @@ fn judge<A: Allocator + Copy>(
 ) -> Result<Stage, BookCause>
     requires { count.old + length line.now ≤ most_input }
 
+    // Where the store is `before` and then `rows`, the `count` rows of this text, the line is
+    // judged after those rows.
     ensures judged { (before rows : List Row) → Spec.EndsWithRows before rows count.old store.old
         → Spec.EndsWithSuch before count.new store.new
         (Spec.JudgesLine stage result rows line.now) }
@@ -309,7 +341,8 @@ fn judge<A: Allocator + Copy>(
     }
 }
 
-/// What comes after the first line: rows of a text of the version that it names.
+/// The stage after the first line: rows of a text of the version that it names. Fails with
+/// `Header` where it is the header of no version.
 fn judge_header(line: &[u8]) -> Result<Stage, BookCause>
     ensures judged { (rows : List Row) → Spec.JudgesHeader result rows line.now rows }
     ensures cause { IfErr result Spec.IsOfText }
@@ -320,7 +353,11 @@ fn judge_header(line: &[u8]) -> Result<Stage, BookCause>
     }
 }
 
-/// Adds the row that a line spells in a text of this version, or sees that it is the last line.
+/// Judges a line after the header in a text of this version, and returns the stage after it: `Done`
+/// after the last line, else `Rows`. The last `count` rows of the store are those of this text: a
+/// row's line puts its row after them, and `count` rises by 1. Fails with the cause for which the
+/// line is wrong, or with `Memory` where an allocation failed, and then the store and `count` are
+/// as before.
 fn judge_line<A: Allocator + Copy>(
     store: &mut RowStore<A>,
     scratch: &mut Scratch,
@@ -331,6 +368,8 @@ fn judge_line<A: Allocator + Copy>(
     // Each row that was counted took bytes of the input, and so does this line.
     requires { count.old + length line.now ≤ most_input }
 
+    // Where the store is `before` and then `rows`, the `count` rows of this text, the line is
+    // judged after those rows.
     ensures judged { (before rows : List Row) → Spec.EndsWithRows before rows count.old store.old
         → Spec.EndsWithSuch before count.new store.new
         (Spec.JudgesRowLine version result rows line.now) }
@@ -348,7 +387,8 @@ fn judge_line<A: Allocator + Copy>(
     Ok(Stage::Rows(version))
 }
 
-/// Whether this is the last line of so many rows, in a text of this version.
+/// The stage `Done` of this version, where `line` is the last line after this many rows. Fails with
+/// `Ending` where it isn't.
 fn judge_end(line: &[u8], version: Version, rows: usize) -> Result<Stage, BookCause>
     ensures { MatchResult result
         (λ stage. (stage ≡ Stage.Done version) × (line.now ≡ end_line rows))
@@ -386,7 +426,8 @@ fn add_row<A: Allocator + Copy>(
     }
 }
 
-/// Why a row may not follow the last `count` rows of the store, which are those of its text.
+/// The first cause for which a row may not follow the last `count` rows of the store, which are
+/// those of its text, or `None` where it may.
 fn refusal<A: Allocator + Copy>(
     store: &RowStore<A>,
     count: usize,

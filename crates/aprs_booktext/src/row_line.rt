@@ -15,7 +15,9 @@ use aprs_ax25::{Frame, MAX_UI_FRAME};
 use aprs_log::{Clock, Moment, MomentForm, Receiver};
 use aprs_rows::RowView;
 
-/// The row that a line spells, its moments in this form, or why it spells none.
+/// The row that a line spells, with its moments in this form. Fails with `RowSyntax` where the line
+/// spells no row, and with `Frame` where it spells one but for its frame, whose bytes aren't a UI
+/// frame. The frame is read into `scratch`, of which the row borrows it.
 pub fn read_row<'l>(
     scratch: &'l mut Scratch,
     form: MomentForm,
@@ -43,7 +45,8 @@ pub fn read_row<'l>(
     Ok(RowView::new(first.0, last.0, receivers, receiver, &scratch.frame))
 }
 
-/// What follows the tag of a row's line, `T`, and a space.
+/// What follows the tag of a row's line, `T`, and a space, or `None` where the line doesn't begin
+/// so.
 fn cut_tag(line: &[u8]) -> Option<&[u8]>
     ensures some { IfSome result (λ rest. line.now ≡ 84 ∷ 32 ∷ rest.now) }
     ensures none { IfNone result ((rest : List ℕ) → line.now ≢ 84 ∷ 32 ∷ rest) }
@@ -72,7 +75,7 @@ fn cut_moment<'l>(clock: &mut Clock, form: MomentForm, text: &'l [u8]) -> Option
     }
 }
 
-/// The bytes of a moment in this form.
+/// How many bytes the text of a moment has in this form.
 fn size_in(form: MomentForm) -> usize
     ensures { result ≡ form_size form }
 {
@@ -82,7 +85,8 @@ fn size_in(form: MomentForm) -> usize
     }
 }
 
-/// The moment that a field spells in this form.
+/// The moment that a field spells in this form, or `None` where it spells none. The clock keeps its
+/// day. No moment is after the last millisecond of 2099.
 fn read_moment(clock: &mut Clock, form: MomentForm, field: &[u8]) -> Option<Moment>
     ensures some { IfSome result (λ m. IsWritable form m × (field.now ≡ moment_text_in form m)) }
     ensures none { IfNone result ((m : ℕ) → IsWritable form m → field.now ≢ moment_text_in form m) }
@@ -97,7 +101,7 @@ fn read_moment(clock: &mut Clock, form: MomentForm, field: &[u8]) -> Option<Mome
 }
 
 /// The names of receivers, with commas between, that a text begins with, and what follows the space
-/// after them.
+/// after them, or `None` where the text doesn't begin so.
 fn cut_names(text: &[u8]) -> Option<(&[u8], &[u8])>
     ensures some { IfSome result (λ p. All IsName (pieces 44 p.0.now)
         × (text.now ≡ p.0.now ++ 32 ∷ p.1.now)) }
@@ -112,7 +116,8 @@ fn cut_names(text: &[u8]) -> Option<(&[u8], &[u8])>
     }
 }
 
-/// The name of a receiver that a text begins with, and what follows the space after it.
+/// The name of a receiver that a text begins with, and what follows the space after it, or `None`
+/// where the text doesn't begin so.
 fn cut_name(text: &[u8]) -> Option<(&[u8], &[u8])>
     ensures some { IfSome result (λ p. IsName p.0.now × (text.now ≡ p.0.now ++ 32 ∷ p.1.now)) }
     ensures none { IfNone result ((name rest : List ℕ) → IsName name
@@ -147,7 +152,9 @@ fn is_name(bytes: &[u8]) -> bool
     Receiver::parse(bytes).is_some()
 }
 
-/// Reads the frame of a field in lower case hexadecimal.
+/// Reads the frame of a field in lower case hexadecimal into `frame`, over that of the line before.
+/// Fails with `RowSyntax` where the field isn't the digits of 1 to `MAX_UI_FRAME` bytes, and with
+/// `Frame` where these aren't a UI frame. The bytes go to the start of `room`.
 fn read_frame(
     room: &mut [u8; MAX_UI_FRAME],
     frame: &mut Frame,

@@ -18,7 +18,7 @@ pub struct Scratch {
 }
 
 impl Scratch {
-    /// Room for the first line.
+    /// Room for the first line. Its frame is `SHORTEST`, since none was read yet.
     pub fn new() -> Scratch {
         let Ok(frame) = Frame::read(SHORTEST) else {
             unreachable!()

@@ -25,7 +25,8 @@ pub enum Version {
 }
 
 impl Version {
-    /// The version whose first line this is, without its LF, if it is that of one.
+    /// The version whose first line this is, without its LF, or `None` where it is that of no
+    /// version. A gap has to be 1 to 3,600 in decimal, with no zero before it.
     pub fn of_header(line: &[u8]) -> Option<Version>
         ensures some { IfSome result (λ v. IsVersion v × (line.now ≡ header_of v)) }
         ensures none { IfNone result ((v : Version) → IsVersion v → line.now ≢ header_of v) }
@@ -46,7 +47,7 @@ impl Version {
         }
     }
 
-    /// Its first line, without the LF: at most 15 bytes.
+    /// The first line of a text of this version, without its LF: at most 15 bytes.
     pub fn header(&self) -> ArrayVec<u8, MAX_HEADER>
         ensures text { result.items ≡ header_of self.now }
         ensures short { array_vec_len result ≤ 15 }
@@ -63,7 +64,8 @@ impl Version {
         line
     }
 
-    /// How its moments are written.
+    /// How the moments of a text of this version are written: to the second in version 1, and to
+    /// the millisecond in the others.
     pub fn form(&self) -> MomentForm
         ensures { result ≡ form_of self.now }
     {
@@ -73,7 +75,7 @@ impl Version {
         }
     }
 
-    /// The gap of its book: 30 seconds in versions 1 and 2.
+    /// The gap of a book of this version: 30 seconds in versions 1 and 2.
     pub fn gap(&self) -> Gap
         ensures { result ≡ gap_of self.now }
     {
@@ -84,7 +86,9 @@ impl Version {
     }
 }
 
-/// The gap that a first line of version 3 may name.
+/// The gap that a line names after its first 11 bytes, or `None` where it names none there. In a
+/// header of version 3 these bytes are `APRSBOOK 3 `; here they aren't looked at, so a line that is
+/// no header may give a gap too.
 fn gap_in(line: &[u8]) -> Option<Gap>
     ensures some { IfSome result IsGap }
     ensures only { (gap : ℕ) → IsGap gap → line.now ≡ header_of (Version.Three gap)
@@ -99,7 +103,8 @@ fn gap_in(line: &[u8]) -> Option<Gap>
     }
 }
 
-/// The number that digits spell, if they do.
+/// The number below 2^64 that digits spell, or `None` where they spell none. Zeros before it are
+/// passed over.
 fn number_in(digits: &[u8]) -> Option<u64>
     ensures { (n : ℕ) → n < 2 ^ 64 → digits.now ≡ decimal n → result ≡ Some n }
 {

@@ -43,7 +43,7 @@ pub fn write_book<W: Write, A: Allocator + Copy>(
     book: &Book<A>,
 ) -> Result<(), WriteFault>
     ensures sends { Sends W.contents result w.old w.new (Spec.written_text book.now) }
-    // Such rows are read back of their text.
+    // A text that was written whole is that of a book, which can be read back.
     ensures spelled { OnOk result (Spec.IsBookRows (Spec.written_version book.now) book.now.rows) }
 {
     let mut out = Outlet::new(w);
@@ -51,7 +51,8 @@ pub fn write_book<W: Write, A: Allocator + Copy>(
     out.flush()
 }
 
-/// Puts the text of a book.
+/// Puts the text of a book, from its header to its last line, into `out`. At a fault a prefix of
+/// what `out` held and of this text went out.
 fn put_book<W: Write, A: Allocator + Copy>(
     out: &mut Outlet<'_, W>,
     book: &Book<A>,
@@ -64,7 +65,8 @@ fn put_book<W: Write, A: Allocator + Copy>(
     out.put(end_line_and_lf(book.len()).as_slice())
 }
 
-/// Puts the lines of a book's rows.
+/// Puts the lines of a book's rows into `out`. At a fault a prefix of what `out` held and of these
+/// lines went out.
 fn put_rows<W: Write, A: Allocator + Copy>(
     out: &mut Outlet<'_, W>,
     book: &Book<A>,
@@ -79,7 +81,8 @@ fn put_rows<W: Write, A: Allocator + Copy>(
     Ok(())
 }
 
-/// Puts the line of a book's row. The room is kept from row to row.
+/// Puts the line of a book's row, with its LF, into `out`. At a fault a prefix of what `out` held
+/// and of this line went out. The room is written over; it is kept from row to row.
 fn put_book_row<W: Write>(
     out: &mut Outlet<'_, W>,
     room: &mut RowRoom,
@@ -87,6 +90,7 @@ fn put_book_row<W: Write>(
 ) -> Result<(), WriteFault>
     ensures puts { Puts W.contents result out.old out.new
         (ended_by_lf (Spec.row_line Millis row.now)) }
+    // If the row has a receiver, a line can spell it, and its frame is a UI frame.
     ensures spelled { OnOk result (0 < length row.now.receivers → Spec.IsBookRow Millis row.now) }
 {
     out.put(&row_head(&mut room.moments, row.first, row.last))?;
@@ -94,7 +98,8 @@ fn put_book_row<W: Write>(
     out.put(row_tail(&mut room.tail, row.receiver.as_bytes(), row.frame.bytes()))
 }
 
-/// Puts the line of a row in bytes. The room is kept from row to row.
+/// Puts the line of a row that is packed in bytes, with its LF, into `out`. At a fault a prefix of
+/// what `out` held and of this line went out. The room is written over; it is kept from row to row.
 pub(crate) fn put_row<W: Write>(
     out: &mut Outlet<'_, W>,
     room: &mut RowRoom,
@@ -102,6 +107,7 @@ pub(crate) fn put_row<W: Write>(
 ) -> Result<(), WriteFault>
     ensures puts { Puts W.contents result out.old out.new
         (ended_by_lf (Spec.row_line Millis row.now)) }
+    // If the row has a receiver, a line can spell it, and its frame is a UI frame.
     ensures spelled { OnOk result (0 < length row.now.receivers → Spec.IsBookRow Millis row.now) }
 {
     out.put(&row_head(&mut room.moments, row.first(), row.last()))?;
@@ -109,7 +115,8 @@ pub(crate) fn put_row<W: Write>(
     out.put(row_tail(&mut room.tail, row.receiver(), row.frame()))
 }
 
-/// The part before the receivers in a row's line.
+/// The part before the receivers in a row's line: `T`, a space, the first moment, a space, the last
+/// moment and a space. Each moment has 24 bytes. `moments` keeps the date of the last one.
 fn row_head(moments: &mut MomentWriter, first: Moment, last: Moment) -> [u8; ROW_HEAD]
     ensures text { result
         ≡ codes "T " ++ moment_text first ++ 32 ∷ moment_text last ++ 32 ∷ [] }
@@ -176,7 +183,7 @@ fn comma_and_name(name: &Receiver) -> ArrayVec<u8, MAX_FURTHER>
     text
 }
 
-/// The first line of a book with this gap, with its LF.
+/// The first line of the text of version 3 of a book with this gap, with its LF.
 pub(crate) fn header_line(gap: Gap) -> ArrayVec<u8, MAX_HEADER>
     ensures { result.items ≡ ended_by_lf (header_of (Three gap)) }
 {
@@ -185,7 +192,7 @@ pub(crate) fn header_line(gap: Gap) -> ArrayVec<u8, MAX_HEADER>
     text
 }
 
-/// The last line of a book of so many rows, with its LF.
+/// The last line of the text of a book of this many rows, `END` and their number, with its LF.
 pub(crate) fn end_line_and_lf(rows: usize) -> ArrayVec<u8, END_LINE>
     ensures { result.items ≡ ended_by_lf (Spec.end_line rows) }
 {

@@ -12,14 +12,15 @@ use aprs_rows::Transmissions;
 use std::alloc::Allocator;
 use std::io::Write;
 
-/// Writes the rows of a book as the text of that book, as `write_book` does. At a fault a prefix of
-/// the text went out, and the count of the device's failures rose. Takes no memory.
+/// Writes the rows of a book as the book's text of version 3: a header with the gap in seconds, a
+/// line for each row, and a last line with their number. At a fault a prefix of the text went out,
+/// and the count of the device's failures rose. Takes no memory.
 pub fn write_rows<W: Write, A: Allocator + Copy>(
     w: &mut Counted<W>,
     rows: &Transmissions<'_, A>,
 ) -> Result<(), WriteFault>
     ensures sends { Sends W.contents result w.old w.new (written_text rows.now) }
-    // Such rows are read back of their text.
+    // A text that was written whole is that of a book, which can be read back.
     ensures spelled { OnOk result (IsBookRows (written_version rows.now) rows.now.rows) }
 {
     let mut out = Outlet::new(w);
@@ -27,7 +28,8 @@ pub fn write_rows<W: Write, A: Allocator + Copy>(
     out.flush()
 }
 
-/// Puts the text of the book of these rows.
+/// Puts the text of the book of these rows, from its header to its last line, into `out`. At a
+/// fault a prefix of what `out` held and of this text went out.
 fn put_text<W: Write, A: Allocator + Copy>(
     out: &mut Outlet<'_, W>,
     rows: &Transmissions<'_, A>,
@@ -40,7 +42,8 @@ fn put_text<W: Write, A: Allocator + Copy>(
     out.put(end_line_and_lf(rows.len()).as_slice())
 }
 
-/// Puts the lines of these rows.
+/// Puts the lines of these rows into `out`. At a fault a prefix of what `out` held and of these
+/// lines went out.
 fn put_lines<W: Write, A: Allocator + Copy>(
     out: &mut Outlet<'_, W>,
     rows: &Transmissions<'_, A>,

@@ -4,18 +4,18 @@ use Rattle.aprs_laws.specs.BookValue.{BookValue}
 use Rattle.aprs_laws.specs.Row.{Row}
 use Rattle.aprs_tool.specs.declared.desk.Desk.{Desk}
 
--- Its book.
+-- The desk's book.
 abbrev pub desk_book : {A : Type 0} → Desk A → BookValue
 desk_book desk = desk.book
 
--- The gap of its book, in seconds.
+-- The gap of the desk's book, in seconds.
 abbrev pub desk_gap : {A : Type 0} → Desk A → ℕ
 desk_gap desk = desk.book.gap
 
--- The rows of its book.
+-- The rows of the desk's book.
 abbrev pub desk_rows : {A : Type 0} → Desk A → List Row
 desk_rows desk = desk.book.rows
 
--- How many bytes it reads of an input at most.
+-- The most bytes that the desk reads of an input.
 abbrev pub desk_limit : {A : Type 0} → Desk A → ℕ
 desk_limit desk = desk.limit

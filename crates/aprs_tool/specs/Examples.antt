@@ -9,6 +9,6 @@ unended_log = codes "2024"
 abbrev pub text_of_no_row : List ℕ
 text_of_no_row = codes "APRSBOOK 3 5" ++ 10 ∷ (codes "END 0" ++ 10 ∷ [])
 
--- Its first line alone.
+-- The first line of `text_of_no_row` alone, with its LF.
 abbrev pub cut_book : List ℕ
 cut_book = codes "APRSBOOK 3 5" ++ 10 ∷ []

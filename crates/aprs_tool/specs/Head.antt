@@ -13,12 +13,14 @@ abbrev pub IsHead : List ℕ → Type 0
 IsHead head = (length head ≡ HEAD_LEN)
     ⊎ ((line : List ℕ) × (length line < HEAD_LEN) × (head ≡ line ++ 10 ∷ []))
 
--- What a reader answered last, where its first bytes were read so.
+-- What a reader answered last, by what reading the first bytes answered: at `Ok` bytes, and else
+-- what the input's ending says.
 abbrev pub last_of_head : {A : Type 0} → Result A ShortInput → Last
 last_of_head (Ok head) = Going
 last_of_head (Err short) = last_of_ending short.ending
 
--- The same by the answer for an input that is too short for a book file.
+-- What a reader answered last, by the answer for an input of fewer than eight bytes without an LF:
+-- at `Ok` the end, at a fault what its cause says.
 abbrev pub last_of_short : Result (Unit {0}) LogFault → Last
 last_of_short (Ok u) = End
 last_of_short (Err fault) = last_of_cause fault.cause

@@ -6,7 +6,8 @@ use Rattle.aprs_tool.specs.declared.fault.InputFault.TheVariants.{Log}
 use Rattle.aprs_tool.specs.declared.fault.RunFault.{RunFault}
 use Rattle.aprs_tool.specs.declared.fault.RunFault.TheVariants.{Input, Write}
 
--- The run answers as a conversion or a check of whose answer P holds. Its one input is number 0.
+-- P holds of the run's answer, taken as that of a conversion or a check: a fault of the log is one
+-- of input 0, and the only other error is `Write`.
 abbrev pub AnswersAs : Result (Unit {0}) RunFault → (Result (Unit {0}) ConvertFault → Type 0)
     → Type 0
 AnswersAs (Ok u) P = P (Ok u)

@@ -15,7 +15,7 @@ abbrev pub status_of_cause : LogCause → ℕ
 status_of_cause cause.Memory = 4
 status_of_cause other = 1
 
--- The same for a book file's cause.
+-- The status for a book file's cause: 4 where an allocation failed, 1 for every other cause.
 abbrev pub status_of_book_cause : BookCause → ℕ
 status_of_book_cause book.Memory = 4
 status_of_book_cause other = 1

@@ -52,7 +52,8 @@ impl<A: Allocator + Copy> Desk<A> {
         Desk::with_gap(alloc, limit, Gap::STANDARD)
     }
 
-    /// The same with this gap. Requires that `limit` is at most `MAX_INPUT`. Takes no memory.
+    /// An empty book with this gap, into which inputs are read up to `limit` bytes each. Requires
+    /// that `limit` is at most `MAX_INPUT` (1,073,741,824). Takes no memory.
     pub fn with_gap(alloc: A, limit: u64, gap: Gap) -> Desk<A>
         requires { limit ≤ most_input }
 
@@ -68,10 +69,11 @@ impl<A: Allocator + Copy> Desk<A> {
         }
     }
 
-    /// Reads an input, as `read_input` does with the gap of this desk's book, and merges its book
-    /// into that. `OtherGap` comes for a faultless book file of another gap, and after that check
-    /// `Memory` where an allocation failed for the merge.
-    /// After a fault the desk is as before.
+    /// Reads an input, a log or a book file, and merges its book into the desk's: if that was the
+    /// book of a set of receptions, it is then that of this set and of the input's receptions.
+    /// Fails with the input's first fault; with `OtherGap` for a faultless book file whose gap
+    /// isn't that of the desk's book; and where an allocation failed. After a fault the desk is as
+    /// before.
     pub fn take_input<R: Read>(&mut self, r: &mut Counted<R>) -> Result<(), InputFault>
         ensures takes { OfGot (desk_limit self.old) (R.remaining (device_of r.old))
             (R.remaining (device_of r.new))
@@ -88,14 +90,14 @@ impl<A: Allocator + Copy> Desk<A> {
         Ok(())
     }
 
-    /// The book. Takes no memory.
+    /// The desk's book. Takes no memory.
     pub fn book(&self) -> &Book<A>
         ensures { result.now ≡ desk_book self.now }
     {
         &self.book
     }
 
-    /// Returns the book. Takes no memory.
+    /// Returns the desk's book. Takes no memory.
     pub fn into_book(self) -> Book<A>
         ensures { result ≡ desk_book self }
     {

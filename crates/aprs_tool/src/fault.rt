@@ -137,6 +137,7 @@ pub fn status_of(fault: &RunFault) -> u8
     }
 }
 
+/// The exit status for an input's fault: 4 where an allocation failed, 1 for any other fault.
 fn status_of_input(fault: &InputFault) -> u8
     ensures { result ≡ status_of_input fault.now }
 {

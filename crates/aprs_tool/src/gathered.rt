@@ -87,7 +87,8 @@ impl<A: Allocator + Copy> Gathered<A> {
         Gathered { alloc, gap, store }
     }
 
-    /// Writes the text of the book of all rows.
+    /// Writes the text of the book of all rows. At `Memory` an allocation failed, and nothing was
+    /// written; without any row this doesn't come. At `Write` a prefix of the text was written.
     pub(crate) fn write<W: Write>(self, w: &mut Counted<W>) -> Result<(), OutputFault>
         ensures { WritesText W.contents result self w.old w.new }
     {
@@ -101,7 +102,8 @@ impl<A: Allocator + Copy> Gathered<A> {
         Ok(write_rows(w, &rows)?)
     }
 
-    /// Writes the listing of the book of all rows.
+    /// Writes the listing of the book of all rows. At `Memory` an allocation failed, and nothing
+    /// was written; at `Write` a prefix of the listing was written.
     pub(crate) fn show<W: Write>(self, w: &mut Counted<W>) -> Result<(), OutputFault>
         ensures { ShowsBook W.contents result self w.old w.new }
     {

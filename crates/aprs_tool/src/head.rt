@@ -11,21 +11,23 @@ use aprs_io::{Counted, Ending, read_some};
 use arrayvec::ArrayVec;
 use std::io::Read;
 
-/// By so many bytes a book file is known from a log.
+/// How many bytes are read first: by these a book file is known from a log.
 const HEAD_LEN: usize = 8;
 
 /// What ends a line.
 const LF: u8 = b'\n';
 
-/// All of an input of which fewer bytes were got, none of them an LF, and what came after them.
+/// All that was got of an input, fewer than eight bytes, none of them an LF; and how the input
+/// ended after them.
 #[derive(Drop)]
 pub struct ShortInput {
     pub bytes: ArrayVec<u8, HEAD_LEN>,
     pub ending: Ending,
 }
 
-/// Reads the first eight bytes of an input, or fewer where an LF is the last of them, or all where
-/// neither is got.
+/// Reads the first eight bytes of an input, or those up to its first LF, where that comes sooner.
+/// Fails where neither comes, since the input ended, a read failed, or the input has more than
+/// `limit` bytes: the error holds the bytes that came, and says which of these it was.
 pub fn read_head<R: Read>(
     limit: u64,
     r: &mut Counted<R>,
@@ -57,7 +59,8 @@ pub fn read_head<R: Read>(
     Ok(bytes)
 }
 
-/// The next byte of an input of which at most `left` more are got, or how it ends.
+/// The next byte of an input of which at most `left` more bytes may be read. The error says why
+/// there is none: the input ended, a read failed, or `left` is 0 and a byte follows (`TooLong`).
 fn read_byte<R: Read>(r: &mut Counted<R>, left: u64) -> Result<u8, Ending>
     ensures some { OnOk result (0 < left) }
     ensures byte { IfOk result (λ byte. Consumes (R.remaining (device_of r.old))

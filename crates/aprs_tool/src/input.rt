@@ -35,11 +35,12 @@ const BOOK_MARK: &[u8] = b"APRSBOOK";
 
 /// Reads the book of an input. An input whose first eight bytes are `APRSBOOK` is a book file, and
 /// gives its book with its own gap. Every other is a log, and gives the book of its receptions with
-/// the gap that is asked for; lines without a frame are passed over. At most `limit` bytes are
-/// read, to the end. Requires that `limit` is at most `MAX_INPUT` (1,073,741,824). A faulty input
-/// gives its first fault. Where an allocation failed before that fault, a log gives `Memory`, and a
-/// book file gives `Book` with the cause `Memory` and the line that was being read. An input of
-/// which fewer than eight bytes are got is a log, and so is one with an LF among the first eight.
+/// the gap that is asked for; lines without a frame are passed over. Requires that `limit` is at
+/// most `MAX_INPUT` (1,073,741,824). At most `limit` bytes are read: an input that has more is
+/// faulty. A faulty input gives its first fault. Where an allocation failed before that fault, a
+/// log gives `Memory`, and a book file gives `Book` with the cause `Memory` and the line that was
+/// being read. An input of which fewer than eight bytes are got is a log, and so is one with an LF
+/// among the first eight.
 /// Keeps in memory the book, one line and a log's receptions, packed in bytes.
 pub fn read_input<R: Read, A: Allocator + Copy>(
     alloc: A,
@@ -62,7 +63,10 @@ pub fn read_input<R: Read, A: Allocator + Copy>(
     }
 }
 
-/// The book of an input that begins with these bytes, by which it is known what it is.
+/// The book of an input whose first bytes, `head`, were read before; `r` gives the others. If
+/// `head` is `APRSBOOK`, the input is a book file, and the book has its own gap; if not, it is a
+/// log, and the book has `gap`. At most `limit` bytes are read, `head` among them. Fails with the
+/// input's first fault, or where an allocation failed.
 fn read_after_head<R: Read, A: Allocator + Copy>(
     alloc: A,
     limit: u64,
@@ -75,6 +79,7 @@ fn read_after_head<R: Read, A: Allocator + Copy>(
     requires few { length head.now ≤ HEAD_LEN }
     requires within { length head.now ≤ limit }
 
+    // The text is `head` and what `r` gives after it.
     ensures reads { IfSome (R.remaining (device_of r.old))
         (λ input. HoldsOfGot limit (head.now ++ input) (R.remaining (device_of r.new))
         (ReadsInput gap result)) }
@@ -101,9 +106,10 @@ fn book_of<A: Allocator + Copy>(alloc: A, gap: Gap, store: RowStore<A>) -> Resul
 }
 
 /// Adds the rows of an input to those that are gathered: if these were the book of a set of
-/// receptions, they are now the book of that set and of the input's receptions. Fails where
-/// `read_input` does, and with `OtherGap` for a faultless book file of another gap. After a fault
-/// any rows may be gathered; the gap stays. Reads at most `limit` bytes.
+/// receptions, they are now the book of that set and of the input's receptions. Fails with the
+/// input's first fault, with `OtherGap` for a faultless book file of another gap, or where an
+/// allocation failed. After a fault any rows may be gathered; the gap stays. Reads at most `limit`
+/// bytes.
 pub(crate) fn read_into<R: Read, A: Allocator + Copy>(
     alloc: A,
     limit: u64,
@@ -124,9 +130,10 @@ pub(crate) fn read_into<R: Read, A: Allocator + Copy>(
     Ok(())
 }
 
-/// Reads the rows of an input into a store, after those that are there, and gives its gap: its own,
-/// where it is a book file, and else the one that is asked for. A reception of a log is a row.
-/// After a fault anything may be there. Holds the store and one line.
+/// Reads the rows of an input into a store, after those that are there, and returns the input's
+/// gap: a book file's own, or `gap` for a log. Each reception of a log is a row. Reads at most
+/// `limit` bytes. Fails with the input's first fault, or where an allocation failed; after that any
+/// rows may be in the store. Holds the store and one line.
 pub(crate) fn read_input_rows<R: Read, A: Allocator + Copy>(
     alloc: A,
     limit: u64,
@@ -148,7 +155,11 @@ pub(crate) fn read_input_rows<R: Read, A: Allocator + Copy>(
     }
 }
 
-/// Reads the rows of an input that begins with these bytes.
+/// Reads the rows of an input into a store, after those that are there, and returns the input's
+/// gap. The input's first bytes, `head`, were read before; `r` gives the others. If `head` is
+/// `APRSBOOK`, the input is a book file with its own gap; if not, it is a log, whose gap is `gap`.
+/// At most `limit` bytes are read, `head` among them. Fails with the input's first fault, or where
+/// an allocation failed; after that any rows may be in the store.
 fn read_rows_after_head<R: Read, A: Allocator + Copy>(
     alloc: A,
     limit: u64,
@@ -162,6 +173,7 @@ fn read_rows_after_head<R: Read, A: Allocator + Copy>(
     requires few { length head.now ≤ HEAD_LEN }
     requires within { length head.now ≤ limit }
 
+    // The text is `head` and what `r` gives after it.
     ensures reads { IfSome (R.remaining (device_of r.old))
         (λ input. HoldsOfGot limit (head.now ++ input) (R.remaining (device_of r.new))
         (ReadsRows gap result store.old store.new)) }
@@ -175,7 +187,10 @@ fn read_rows_after_head<R: Read, A: Allocator + Copy>(
     Ok(gap)
 }
 
-/// Reads the receptions of a log that begins with `head` into a store, each as a row.
+/// Reads the receptions of a log into a store, each as a row after those that are there. The log's
+/// first bytes, `head`, were read before; `r` gives the others. At most `limit` bytes are read,
+/// `head` among them. Fails with the log's first fault, or with `Memory` where an allocation
+/// failed; after that any rows may be in the store.
 fn read_log<R: Read, A: Allocator + Copy>(
     alloc: A,
     limit: u64,
@@ -187,6 +202,7 @@ fn read_log<R: Read, A: Allocator + Copy>(
     requires head { length head.now ≤ HEAD_LEN }
     requires within { length head.now ≤ limit }
 
+    // The text is `head` and what `r` gives after it.
     ensures reads { IfSome (R.remaining (device_of r.old))
         (λ input. HoldsOfGot limit (head.now ++ input) (R.remaining (device_of r.new))
         (ReadsLog result store.old store.new)) }
@@ -202,7 +218,7 @@ fn read_log<R: Read, A: Allocator + Copy>(
     }
 }
 
-/// Puts the reception of a line after the rows, if it has one.
+/// Puts the reception of a line, if it has one, after the rows of a store.
 fn push_heard<A: Allocator + Copy>(store: &mut RowStore<A>, line: &Line) -> Result<(), Memory>
     ensures { OnOk result (store.new
         ≡ store.old ++ map single (receptions_of (line.now ∷ []))) }
@@ -213,7 +229,8 @@ fn push_heard<A: Allocator + Copy>(store: &mut RowStore<A>, line: &Line) -> Resu
     }
 }
 
-/// The book of the receptions of both books: the second itself where the first has no rows.
+/// The book of the receptions of both books: the second itself where the first has no rows. Fails
+/// with `OtherGap` where their gaps differ, and with `Memory` where an allocation failed.
 pub(crate) fn merge_books<A: Allocator + Copy>(
     book: &Book<A>,
     input: Book<A>,
@@ -222,6 +239,7 @@ pub(crate) fn merge_books<A: Allocator + Copy>(
         MergesInto (millis_of book.now.gap) book.now.rows input.rows both.rows) }
     ensures gap { IfOk result (λ both. both.gap ≡ book.now.gap) }
     ensures one { OnOk result (HaveOneGap book.now input) }
+    // The first book is that of some set of receptions.
     ensures known { OnOk result ((S : List Heard)
         × BookOf (millis_of book.now.gap) S book.now.rows) }
 
@@ -236,7 +254,8 @@ pub(crate) fn merge_books<A: Allocator + Copy>(
     book.merge(&input)
 }
 
-/// The answer for an input that is too short for a book file: that of a log without an LF.
+/// The answer for an input of which fewer than eight bytes came, none of them an LF, as for a log:
+/// `Ok` where it ended without any byte, and else a fault of line 1.
 fn read_short(short: &ShortInput) -> Result<(), LogFault>
     requires few { length short.now.bytes.items < HEAD_LEN }
     requires one { list_any is_lf short.now.bytes.items ≡ false }

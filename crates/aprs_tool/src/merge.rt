@@ -30,15 +30,19 @@ pub fn merge_run<R: Read, W: Write, A: Allocator + Copy>(
 ) -> Result<(), RunFault>
     requires { limit ≤ most_input }
 
+    // At `Ok` and `Write` the inputs stand for sets; of any union of these, what was written is the
+    // book's text, whole at `Ok`, a prefix of it at `Write`.
     ensures writes { OfEach limit R.remaining inputs.old inputs.new (λ gots.
         WritesFor (IsToldOf (GiveUnion gap gots) (IsTextOfBook gap)) W.contents result
         w.old w.new) }
 
+    // At `Input` that input is the first that isn't taken, for this fault, and nothing was written.
     ensures refuses { OfEach limit R.remaining inputs.old inputs.new (λ gots.
         RefusesFor (GiveUnion gap gots) (IsFirstRefused gap gots) result w.old w.new) }
     ensures memory { result ≡ Err RunFault.Memory → ⊥ }
 
-    // The inputs are asked neither after their ends nor after a fault, nor is the output.
+    // No input is asked after its end or a fault, and none after the refused one; the output isn't
+    // asked after a fault, nor at all where an input is refused.
     ensures asks { AsksEach result inputs.old inputs.new }
     ensures calls { CallsOutput result w.old w.new }
 {
@@ -53,8 +57,8 @@ pub fn merge_run<R: Read, W: Write, A: Allocator + Copy>(
     }
 }
 
-/// An allocation failed for the book of so many inputs, all of which were read: a fault of the
-/// last.
+/// The run's fault where an allocation failed for the book of this many inputs, after all of them
+/// were read: `Memory` of the last input, whose number is one less, since they count from 0.
 pub(crate) fn fault_of_last(inputs: usize) -> RunFault
     ensures { result ≡ RunFault.Input (inputs - 1) InputFault.Memory }
 {
@@ -64,8 +68,9 @@ pub(crate) fn fault_of_last(inputs: usize) -> RunFault
     }
 }
 
-/// Gathers all inputs' receptions for a book of this gap, or reports the first input that is
-/// refused, with its fault.
+/// Gathers all inputs' receptions for a book of this gap, or returns the number, from 0, and the
+/// fault of the first input that is refused. The inputs after that one aren't read. At most `limit`
+/// bytes are read of each.
 pub(crate) fn read_all<R: Read, A: Allocator + Copy>(
     alloc: A,
     limit: u64,
@@ -76,6 +81,7 @@ pub(crate) fn read_all<R: Read, A: Allocator + Copy>(
 
     ensures reads { OfEach limit R.remaining inputs.old inputs.new (ReadsEach gap result) }
     ensures gap { IfOk result (λ gathered. gathered.gap ≡ gap) }
+    // Without an input there are no rows.
     ensures some { IfOk result (λ gathered. gathered.rows ≢ [] → 0 < length inputs.old) }
 
     ensures calls { ReadsAll result inputs.old inputs.new }

@@ -19,8 +19,8 @@ use std::io::{Read, Write};
 /// `APRSBOOK` is a book file, any other a log. Requires that `limit` is at most `MAX_INPUT`
 /// (1,073,741,824). All inputs are read, in order, and the lists are made, before the first byte is
 /// written: where an input is refused, its number and fault are reported, no further one is read,
-/// and nothing is written; nor is anything at `Memory`, which is that of the lists. At `Write` a
-/// prefix of the listing was written.
+/// and nothing is written. At `Memory` an allocation failed for the lists, and nothing was written.
+/// At `Write` a prefix of the listing was written.
 pub fn show_run<R: Read, W: Write, A: Allocator + Copy>(
     alloc: A,
     limit: u64,
@@ -30,13 +30,18 @@ pub fn show_run<R: Read, W: Write, A: Allocator + Copy>(
 ) -> Result<(), RunFault>
     requires { limit ≤ most_input }
 
+    // At `Ok` and `Write` the inputs stand for sets; of any union of these, what was written is the
+    // listing, whole at `Ok`, a prefix of it at `Write`.
     ensures writes { OfEach limit R.remaining inputs.old inputs.new (λ gots.
         WritesFor (IsToldOf (GiveUnion gap gots) (IsListingOf gap)) W.contents result w.old w.new) }
 
+    // At `Input` that input is the first that isn't taken, for this fault; at `Memory` all inputs
+    // stand for sets. At both nothing was written.
     ensures refuses { OfEach limit R.remaining inputs.old inputs.new (λ gots.
         RefusesFor (GiveUnion gap gots) (IsFirstRefused gap gots) result w.old w.new) }
 
-    // The inputs are asked neither after their ends nor after a fault, nor is the output.
+    // No input is asked after its end or a fault, and none after the refused one; the output isn't
+    // asked after a fault, nor at all where an input is refused or at `Memory`.
     ensures asks { AsksEach result inputs.old inputs.new }
     ensures calls { CallsOutput result w.old w.new }
 {

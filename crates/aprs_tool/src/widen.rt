@@ -17,12 +17,12 @@ use aprs_rows::RowStore;
 use std::alloc::Allocator;
 use std::io::{Read, Write};
 
-/// Writes the text of an input's book under this gap. The input is read as by `read_input` with
-/// this gap, so that `Narrower` comes for a faultless book file of a greater gap alone. Requires
-/// that `limit` is at most `MAX_INPUT` (1,073,741,824). The input is number 0. All of it is read,
-/// and its rows are joined, before the first byte is written: where the input is refused nothing is
-/// written, nor is anything at `Memory`, which is that of the widened book. At `Write` a prefix of
-/// the text was written.
+/// Writes the text of an input's book, widened to this gap. An input that begins with `APRSBOOK` is
+/// a book file, any other a log. A faultless book file of a greater gap is refused as `Narrower`.
+/// Requires that `limit` is at most `MAX_INPUT` (1,073,741,824). All of the input is read, and its
+/// rows are joined, before the first byte is written: where the input is refused, its fault is
+/// returned as that of input 0, and nothing is written. At `Memory` an allocation failed for the
+/// widened book, and nothing was written. At `Write` a prefix of the text was written.
 pub fn widen_run<R: Read, W: Write, A: Allocator + Copy>(
     alloc: A,
     limit: u64,
@@ -32,15 +32,20 @@ pub fn widen_run<R: Read, W: Write, A: Allocator + Copy>(
 ) -> Result<(), RunFault>
     requires { limit ≤ most_input }
 
+    // At `Ok` and `Write` the input stands for a set, and its own gap isn't greater; of any such
+    // set, what was written is the book's text, whole at `Ok`, a prefix of it at `Write`.
     ensures writes { OfGot limit (R.remaining (device_of r.old)) (R.remaining (device_of r.new))
         (λ text ending. WritesFor (IsToldOf (GivesSetWithin gap text ending) (IsTextOfBook gap))
         W.contents result w.old w.new) }
 
+    // At `Input` its number is 0, and the input isn't taken, for this fault; at `Memory` the input
+    // stands for a set. At both nothing was written.
     ensures refuses { OfGot limit (R.remaining (device_of r.old)) (R.remaining (device_of r.new))
         (λ text ending. RefusesFor (GivesSetWithin gap text ending)
         (IsNotWidened gap text ending) result w.old w.new) }
 
-    // The input is asked neither after its end nor after a fault, nor is the output.
+    // The input isn't asked after its end or a fault; the output isn't asked after a fault, nor at
+    // all where the input is refused or at `Memory`.
     ensures asks { AsksEach result (r.old ∷ []) (r.new ∷ []) }
     ensures calls { CallsOutput result w.old w.new }
 {
@@ -59,7 +64,7 @@ pub fn widen_run<R: Read, W: Write, A: Allocator + Copy>(
     }
 }
 
-/// The only input has a greater gap.
+/// The fault of a run whose only input, number 0, is a book file of a greater gap.
 fn narrower_fault() -> RunFault
     ensures { result ≡ RunFault.Input 0 InputFault.Narrower }
 {
