@@ -197,7 +197,8 @@ impl<'a, R: Read> LogReader<'a, R> {
 
     /// Takes a line that is held whole, counts it and returns `true`: `current` is then this line.
     /// Otherwise returns `false` and `current` stays: it read once, or `state` now says that the
-    /// log ended or failed.
+    /// log ended or failed. A line that is held whole is taken without a read, or is at fault and
+    /// stops the reader. What may follow after `false` could have followed before.
     fn step(&mut self) -> bool
         requires { self.old.state ≡ State.Reading }
 
@@ -208,7 +209,6 @@ impl<'a, R: Read> LogReader<'a, R> {
             → Spec.Awaits (R.remaining (device_of (Spec.source_of self.new))) end self.new answers
             → Spec.Awaits (R.remaining (device_of (Spec.source_of self.old))) end self.old
             (prepend_line (Spec.current_of self.new) answers))) }
-        // What may follow now could have followed before.
         ensures none { OnFalse result ((Spec.line_count_of self.new ≡ Spec.line_count_of self.old)
             × (Spec.current_of self.new ≡ Spec.current_of self.old)
             × Moves (R.remaining (device_of (Spec.source_of self.old))) self.old
@@ -217,7 +217,6 @@ impl<'a, R: Read> LogReader<'a, R> {
         // A step without a line leaves fewer steps, so that `advance` ends.
         ensures less { OnFalse result (work_of self.new < work_of self.old) }
 
-        // A line that is held whole is taken without a read, or is at fault and stops the reader.
         ensures unread { Spec.HasLf (Spec.read_ahead_of self.old)
             → (Spec.source_of self.new ≡ Spec.source_of self.old)
             × OnFalse result (Spec.stop_of self.new ≢ None) }
