@@ -77,8 +77,10 @@ impl<A: Allocator + Copy> BookReader<A> {
     }
 
     /// Reads the next piece of the text: puts the rows of the lines that end in it after those of
-    /// the store, and keeps the beginning of the next line. Fails with the text's first fault where
-    /// that is in what was read so far, and with `Memory` where an allocation failed; after that
+    /// the store, and keeps the beginning of the next line. Requires that the number of rows read
+    /// so far, the bytes kept of a line and those of the piece are together at most `MAX_INPUT`
+    /// (1,073,741,824). Fails with the text's first fault where that is in what was read so far,
+    /// never with `Read` or `TooLong`, and with `Memory` where an allocation failed; after that
     /// rows of the piece may be in the store.
     pub fn feed(&mut self, store: &mut RowStore<A>, piece: &[u8]) -> Result<(), BookFault>
         requires { Spec.size_of self.old + length piece.now ≤ most_input }

@@ -30,7 +30,8 @@ pub(crate) struct Open<'a> {
 }
 
 impl<'a> Open<'a> {
-    /// Open rows, of which this is the only one so far.
+    /// One open row, `row`, which is alone so far. In the contract `row.entry` is the argument;
+    /// since it is alone, the open rows are that row, whatever names are gathered.
     fn of(row: StoredRow<'a>) -> Open<'a>
         ensures row { (names : List (Bor (List ℕ))) → Spec.open_row result names ≡ row.entry }
         ensures alone { result.is_alone ≡ true }
