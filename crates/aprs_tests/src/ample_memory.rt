@@ -12,7 +12,7 @@ use std::alloc::{Allocator, Global};
 use std::test::Fail;
 
 /// A hundred receptions of one frame, a minute apart, from a second of the hour on.
-pub fn hundred(alloc: Global, first: u64, name: &[u8]) -> Result<Book, Fail> {
+pub fn hundred<A: Allocator + Copy>(alloc: A, first: u64, name: &[u8]) -> Result<Book<A>, Fail> {
     let mut book = Book::new(alloc);
     for minute in 0..100u64 {
         let x = heard(first.saturating_add(minute * 60), name, &DIRECT)?;
@@ -22,7 +22,11 @@ pub fn hundred(alloc: Global, first: u64, name: &[u8]) -> Result<Book, Fail> {
 }
 
 /// The same receptions as a log.
-fn hundred_lines(alloc: Global, first: u64, name: &[u8]) -> Result<Vec<u8>, Fail> {
+fn hundred_lines<A: Allocator + Copy>(
+    alloc: A,
+    first: u64,
+    name: &[u8],
+) -> Result<Vec<u8, A>, Fail> {
     let mut log = Counted::new(Vec::new(alloc));
     for minute in 0..100u64 {
         let x = heard(first.saturating_add(minute * 60), name, &DIRECT)?;
@@ -32,14 +36,14 @@ fn hundred_lines(alloc: Global, first: u64, name: &[u8]) -> Result<Vec<u8>, Fail
 }
 
 /// The text of a book.
-pub fn text_of(alloc: Global, book: &Book) -> Result<Vec<u8>, Fail> {
+pub fn text_of<A: Allocator + Copy>(alloc: A, book: &Book<A>) -> Result<Vec<u8, A>, Fail> {
     let mut out = Counted::new(Vec::new(alloc));
     write_book(&mut out, book).ok().ok_or("memory")?;
     Ok(out.into_inner())
 }
 
 /// The number of rows of a hundred minutes by RX1 together with as many by RX2 from this second on.
-fn rows_together(alloc: Global, first: u64) -> Result<usize, Fail> {
+fn rows_together<A: Allocator + Copy>(alloc: A, first: u64) -> Result<usize, Fail> {
     let book = hundred(alloc, 0, b"RX1")?;
     let other = hundred(alloc, first, b"RX2")?;
     Ok(book.merge(&other).ok().ok_or("memory")?.len())
@@ -59,7 +63,7 @@ fn a_hundred_rows_are_taken_and_merged(rt: HostRuntime) -> Result<(), Fail> {
 }
 
 /// Three books of a hundred minutes each, and two of them close to each other.
-fn three_books(alloc: Global) -> Result<Vec<Book>, Fail> {
+fn three_books<A: Allocator + Copy>(alloc: A) -> Result<Vec<Book<A>, A>, Fail> {
     let mut books = Vec::new(alloc);
     const HEARD: &[(u64, &[u8])] = &[(0, b"RX1"), (30, b"RX2"), (6031, b"RX2")];
     for &(first, name) in HEARD {
@@ -69,7 +73,7 @@ fn three_books(alloc: Global) -> Result<Vec<Book>, Fail> {
 }
 
 /// The books joined to the first, where they all have its gap.
-pub fn joined_all(first: &Book, books: &[Book]) -> Option<Book> {
+pub fn joined_all<A: Allocator + Copy>(first: &Book<A>, books: &[Book<A>]) -> Option<Book<A>> {
     if !all_fit(first, books) {
         return None;
     }
@@ -77,7 +81,7 @@ pub fn joined_all(first: &Book, books: &[Book]) -> Option<Book> {
 }
 
 /// Whether a book stays the same where this one is joined to it.
-fn has_joined(joined: &Book, first: &Book) -> bool {
+fn has_joined<A: Allocator + Copy>(joined: &Book<A>, first: &Book<A>) -> bool {
     if !joined.fits(first) {
         return false;
     }
@@ -88,7 +92,7 @@ fn has_joined(joined: &Book, first: &Book) -> bool {
 }
 
 /// Whether these books have a hundred and one rows together, among them the first one's.
-fn are_joined(books: &[Book]) -> Option<bool> {
+fn are_joined<A: Allocator + Copy>(books: &[Book<A>]) -> Option<bool> {
     let first = books.first()?;
     let joined = joined_all(first, books)?;
     Some(joined.len() == 101 && has_joined(&joined, first))
@@ -102,7 +106,7 @@ fn a_hundred_rows_are_joined(rt: HostRuntime) -> Result<(), Fail> {
 }
 
 /// A book of a hundred rows that are pushed.
-fn pushed(alloc: Global) -> Result<Book, Fail> {
+fn pushed<A: Allocator + Copy>(alloc: A) -> Result<Book<A>, Fail> {
     let mut book = Book::new(alloc);
     for minute in 0..100u64 {
         let second = NOON.saturating_add(minute * 60);
@@ -113,7 +117,7 @@ fn pushed(alloc: Global) -> Result<Book, Fail> {
 }
 
 /// Whether the book's text is read as the book.
-fn is_written_and_read(alloc: Global, book: &Book) -> Result<bool, Fail> {
+fn is_written_and_read<A: Allocator + Copy>(alloc: A, book: &Book<A>) -> Result<bool, Fail> {
     let text = text_of(alloc, book)?;
     match read_book(alloc, MAX_INPUT, b"", &mut Counted::new(text.as_slice())) {
         Ok(read) => Ok(read.same(book)),
@@ -131,7 +135,7 @@ fn a_hundred_rows_are_pushed_written_and_read(rt: HostRuntime) -> Result<(), Fai
 }
 
 /// Whether the book of this input is this one.
-fn is_read(alloc: Global, input: &[u8], book: &Book) -> bool {
+fn is_read<A: Allocator + Copy>(alloc: A, input: &[u8], book: &Book<A>) -> bool {
     match read_input(alloc, MAX_INPUT, Gap::STANDARD, &mut Counted::new(input)) {
         Ok(read) => read.same(book),
         Err(_) => false,
@@ -157,7 +161,7 @@ END 1
 const ONE_STATION: &[u8] = b"station N0CALL-7 1\nstatus 2024-05-01T13:39:30.000Z RX2 -:Hi\n";
 
 /// A log of a hundred lines, one of what was heard between, and the first one's book.
-fn three_inputs(alloc: Global) -> Result<Vec<Vec<u8>>, Fail> {
+fn three_inputs<A: Allocator + Copy>(alloc: A) -> Result<Vec<Vec<u8, A>, A>, Fail> {
     let mut inputs = Vec::new(alloc);
     inputs.push(hundred_lines(alloc, 0, b"RX1")?)?;
     inputs.push(hundred_lines(alloc, 30, b"RX2")?)?;
@@ -166,7 +170,10 @@ fn three_inputs(alloc: Global) -> Result<Vec<Vec<u8>>, Fail> {
 }
 
 /// Nine inputs, each one of three.
-fn nine_of<'a>(alloc: Global, three: &'a [Vec<u8>]) -> Result<Vec<Counted<&'a [u8]>>, Fail> {
+fn nine_of<'a, A: Allocator + Copy>(
+    alloc: A,
+    three: &'a [Vec<u8, A>],
+) -> Result<Vec<Counted<&'a [u8]>, A>, Fail> {
     let mut inputs = Vec::new(alloc);
     const NUMBERS: &[usize] = &[0, 2, 1, 0, 2, 2, 2, 1, 2];
     for &number in NUMBERS {
@@ -177,9 +184,9 @@ fn nine_of<'a>(alloc: Global, three: &'a [Vec<u8>]) -> Result<Vec<Counted<&'a [u
 }
 
 /// What is written of these inputs, or listed of them.
-fn gathered(
+fn gathered<A: Allocator + Copy>(
     alloc: Global,
-    heap: &LocalHeap,
+    heap: A,
     inputs: &mut [Counted<&[u8]>],
     is_listing: bool,
 ) -> Option<Vec<u8>> {
@@ -193,9 +200,9 @@ fn gathered(
 }
 
 /// Whether this is written of nine inputs, or listed of them.
-fn is_gathered(
+fn is_gathered<A: Allocator + Copy>(
     alloc: Global,
-    heap: &LocalHeap,
+    heap: A,
     three: &[Vec<u8>],
     is_listing: bool,
     want: &[u8],

@@ -4,11 +4,16 @@ use crate::ample_memory::joined_all;
 use crate::shown::is_shown;
 use crate::vectors::{ANSWERED, DIRECT, REPEATED, heard, receiver};
 use aprs_book::{Book, Gap, Greatest, Join, Receivers, Step, join_all, replay, steps_fit};
-use std::alloc::Global;
+use std::alloc::{Allocator, Global};
 use std::test::Fail;
 
 /// Takes what a receiver hears at a second of the hour.
-fn take(book: &mut Book, second: u64, name: &[u8], frame: &[u8]) -> Result<(), Fail> {
+fn take<A: Allocator + Copy>(
+    book: &mut Book<A>,
+    second: u64,
+    name: &[u8],
+    frame: &[u8],
+) -> Result<(), Fail> {
     let x = heard(second, name, frame)?;
     Ok(book.take(&x).ok().ok_or("memory")?)
 }
@@ -32,7 +37,7 @@ fn rows_join_within_thirty_seconds(rt: HostRuntime) -> Result<(), Fail> {
 }
 
 /// The book that takes these, all of which are heard at once.
-fn heard_at_once(alloc: Global, all: &[(&[u8], &[u8])]) -> Result<Book, Fail> {
+fn heard_at_once<A: Allocator + Copy>(alloc: A, all: &[(&[u8], &[u8])]) -> Result<Book<A>, Fail> {
     let mut book = Book::new(alloc);
     for (name, frame) in all {
         take(&mut book, 0, name, frame)?;
@@ -68,7 +73,7 @@ fn other_digipeaters_are_no_other_row(rt: HostRuntime) -> Result<(), Fail> {
 }
 
 /// Receivers of these names.
-fn receivers_of(alloc: Global, names: &[&[u8]]) -> Result<Receivers, Fail> {
+fn receivers_of<A: Allocator + Copy>(alloc: A, names: &[&[u8]]) -> Result<Receivers<A>, Fail> {
     let mut receivers = Receivers::new(alloc);
     for name in names {
         receivers.add(&receiver(name)?).ok().ok_or("memory")?;
@@ -77,7 +82,7 @@ fn receivers_of(alloc: Global, names: &[&[u8]]) -> Result<Receivers, Fail> {
 }
 
 /// Whether these are their names.
-fn are_names(receivers: &Receivers, names: &[&[u8]]) -> bool {
+fn are_names<A: Allocator + Copy>(receivers: &Receivers<A>, names: &[&[u8]]) -> bool {
     receivers.as_slice().len() == names.len()
         && receivers
             .as_slice()
@@ -96,7 +101,7 @@ fn receivers_stand_once(rt: HostRuntime) -> Result<(), Fail> {
 }
 
 /// A book of receptions by one receiver at these seconds.
-fn book_by(alloc: Global, name: &[u8], seconds: &[u64]) -> Result<Book, Fail> {
+fn book_by<A: Allocator + Copy>(alloc: A, name: &[u8], seconds: &[u64]) -> Result<Book<A>, Fail> {
     let mut book = Book::new(alloc);
     for second in seconds {
         take(&mut book, *second, name, &DIRECT)?;
@@ -122,7 +127,7 @@ fn two_rows_bridge_three(rt: HostRuntime) -> Result<(), Fail> {
 }
 
 /// Two books that take in turn, and merge both ways.
-fn two_books(alloc: Global) -> Result<Vec<Book>, Fail> {
+fn two_books<A: Allocator + Copy>(alloc: A) -> Result<Vec<Book<A>, A>, Fail> {
     let steps = [
         Step::Take(0, heard(0, b"RX1", &DIRECT)?),
         Step::Take(1, heard(20, b"RX2", &DIRECT)?),
@@ -141,7 +146,7 @@ fn two_books(alloc: Global) -> Result<Vec<Book>, Fail> {
 }
 
 /// Whether the book stays the same where these are joined to it.
-fn stays_joined(book: &Book, items: &[Book]) -> bool {
+fn stays_joined<A: Allocator + Copy>(book: &Book<A>, items: &[Book<A>]) -> bool {
     match joined_all(book, items) {
         Some(all) => all.same(book),
         None => false,

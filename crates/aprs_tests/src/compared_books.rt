@@ -8,7 +8,7 @@ use aprs_ax25::Frame;
 use aprs_book::{Book, Gap, Heard, Row};
 use aprs_log::{Moment, Receiver, Reception};
 use aprs_rows::RowStore;
-use std::alloc::Global;
+use std::alloc::{Allocator, Global};
 use std::test::Fail;
 
 /// An hour's first millisecond.
@@ -94,7 +94,7 @@ fn plain_row(frames: &[Frame], row: &Row<'_>) -> Option<PlainRow> {
 }
 
 /// Whether the rows of both are the same.
-fn same_rows(frames: &[Frame], book: &Book, plain: &PlainBook) -> bool {
+fn same_rows<A: Allocator + Copy>(frames: &[Frame], book: &Book<A>, plain: &PlainBook) -> bool {
     book.len() == plain.rows.len()
         && book
             .rows()
@@ -114,7 +114,11 @@ fn is_greatest(
 }
 
 /// Whether the same is last known to both.
-fn same_known(frames: &[Frame], book: &Book, plain: &PlainBook) -> Result<bool, Fail> {
+fn same_known<A: Allocator + Copy>(
+    frames: &[Frame],
+    book: &Book<A>,
+    plain: &PlainBook,
+) -> Result<bool, Fail> {
     let seven = callsign(b"N0CALL-7")?;
     let eight = callsign(b"N0CALL-8")?;
     Ok(
@@ -127,7 +131,7 @@ fn same_known(frames: &[Frame], book: &Book, plain: &PlainBook) -> Result<bool, 
 }
 
 /// Whether both list the same stations with as many transmissions.
-fn same_stations(book: &Book, plain: &PlainBook) -> Result<bool, Fail> {
+fn same_stations<A: Allocator + Copy>(book: &Book<A>, plain: &PlainBook) -> Result<bool, Fail> {
     let stations = book.stations().ok().ok_or("memory")?;
     let mut listed = stations.iter().map(|station| station.transmissions);
     const KEYS: &[&[u8]] = &[SEVEN, EIGHT];
@@ -208,7 +212,11 @@ const FIVE: [Plain; 5] = [
 ];
 
 /// Whether this is the book of a store's rows.
-fn is_of_store(alloc: Global, store: RowStore, book: &Book) -> Result<bool, Fail> {
+fn is_of_store<A: Allocator + Copy>(
+    alloc: A,
+    store: RowStore<A>,
+    book: &Book<A>,
+) -> Result<bool, Fail> {
     let order = store.in_order().ok().ok_or("memory")?;
     let rows = order.transmissions(Gap::STANDARD).ok().ok_or("memory")?;
     let made = Book::of_rows(alloc, &rows).ok().ok_or("memory")?;

@@ -50,7 +50,7 @@ fn is_widened_to(alloc: Global, book: &Book, seconds: u64, rows: &str) -> bool {
 }
 
 /// Whether a book has a wider gap than this one.
-fn is_narrower(book: &Book, seconds: u64) -> bool {
+fn is_narrower<A: Allocator + Copy>(book: &Book<A>, seconds: u64) -> bool {
     match Gap::new(seconds) {
         Some(gap) => matches!(&book.widen(gap), Err(WidenFault::Narrower)),
         None => false,
@@ -71,7 +71,7 @@ fn rows_join_where_the_gap_reaches(rt: HostRuntime) -> Result<(), Fail> {
 }
 
 /// Whether the books are not merged since each has a gap of its own.
-fn have_two_gaps(ours: &Book, theirs: &Book) -> bool {
+fn have_two_gaps<A: Allocator + Copy>(ours: &Book<A>, theirs: &Book<A>) -> bool {
     matches!(&ours.merge(theirs), Err(MergeFault::OtherGap))
 }
 
@@ -89,7 +89,7 @@ fn books_of_two_gaps_are_not_merged(rt: HostRuntime) -> Result<(), Fail> {
 
 /// The book of another frame of the same key, which RX2 heard 130 seconds after the first, under
 /// this gap.
-fn later_row(alloc: Global, seconds: u64) -> Result<Book, Fail> {
+fn later_row<A: Allocator + Copy>(alloc: A, seconds: u64) -> Result<Book<A>, Fail> {
     let mut book = Book::with_gap(alloc, gap(seconds)?);
     let x = heard(130, b"RX2", &REPEATED)?;
     book.take(&x).ok().ok_or("memory")?;
@@ -97,14 +97,14 @@ fn later_row(alloc: Global, seconds: u64) -> Result<Book, Fail> {
 }
 
 /// The two books merged, and then widened.
-fn merged_first(alloc: Global) -> Result<Book, Fail> {
+fn merged_first<A: Allocator + Copy>(alloc: A) -> Result<Book<A>, Fail> {
     let book = three_rows(alloc)?;
     let both = book.merge(&later_row(alloc, 30)?).ok().ok_or("a merge")?;
     Ok(both.widen(gap(45)?).ok().ok_or("a wide book")?)
 }
 
 /// The two books widened, and then merged.
-fn widened_first(alloc: Global) -> Result<Book, Fail> {
+fn widened_first<A: Allocator + Copy>(alloc: A) -> Result<Book<A>, Fail> {
     let wide = three_rows(alloc)?
         .widen(gap(45)?)
         .ok()

@@ -2,13 +2,13 @@
 
 use crate::last_known::sent;
 use crate::pushed_rows::parts;
-use crate::refused_calls::SENT;
+use crate::refused_calls::{SENT, book_of_sent, store_of_sent};
 use crate::vectors::{LOG, MERGED_TEXT, NOON, receiver};
 use aprs_book::{Book, Gap, Join, Overview, Receivers, Step, from_rows, replay, steps_fit};
 use aprs_booktext::read_book;
 use aprs_kiss::Counted;
 use aprs_log::MAX_INPUT;
-use aprs_rows::{RowStore, Transmissions};
+use aprs_rows::Transmissions;
 use aprs_tool::{Desk, merge_run, read_input, show_run};
 use linked_list_allocator::LocalHeap;
 use std::alloc::Global;
@@ -72,19 +72,9 @@ fn used_with<T: Drop, E: Drop>(heap: &LocalHeap, value: Result<T, E>) -> Result<
     Ok(heap.used())
 }
 
-/// The book of what was sent.
-fn book_of_sent(heap: &LocalHeap) -> Result<Book<&LocalHeap>, Fail> {
-    let mut book = Book::new(heap);
-    for &(second, source, info) in SENT {
-        let x = sent(second, source, info)?;
-        book.take(&x).ok().ok_or("memory")?;
-    }
-    Ok(book)
-}
-
 /// How much is in use with this book, and with what is made of it.
 fn used_of_book(heap: &LocalHeap, made: Made) -> Result<usize, Fail> {
-    let book = book_of_sent(heap)?;
+    let book = book_of_sent(heap, Gap::STANDARD, 0)?;
     match made {
         Made::Book => Ok(heap.used()),
         Made::Merged | Made::Joined | Made::Widened => used_of_another(heap, &book, made),
@@ -116,16 +106,6 @@ fn used_of_entries<'a>(
         Made::Objects => used_with(heap, book.objects()),
         _ => used_with(heap, book.messages()),
     }
-}
-
-/// The store of what was sent.
-fn store_of_sent(heap: &LocalHeap) -> Result<RowStore<&LocalHeap>, Fail> {
-    let mut store = RowStore::new(heap);
-    for &(second, source, info) in SENT {
-        let x = sent(second, source, info)?;
-        store.push_reception(&x).ok().ok_or("memory")?;
-    }
-    Ok(store)
 }
 
 /// How much is in use with a store, and with what is made of it.

@@ -5,7 +5,7 @@ use aprs_ax25::{Callsign, Frame};
 use aprs_book::{Book, Heard, Station};
 use aprs_log::{Moment, Reception};
 use aprs_report::{Place, Report, Stamp, Symbol};
-use std::alloc::Global;
+use std::alloc::{Allocator, Global};
 use std::test::Fail;
 
 /// 49 degrees 3.50 minutes north, 72 degrees 1.75 minutes west.
@@ -45,7 +45,7 @@ pub fn sent(second: u64, source: &[u8], info: &[u8]) -> Result<Reception, Fail> 
     ))
 }
 
-fn book_of(alloc: Global, receptions: &[&Reception]) -> Result<Book, Fail> {
+fn book_of<A: Allocator + Copy>(alloc: A, receptions: &[&Reception]) -> Result<Book<A>, Fail> {
     let mut book = Book::new(alloc);
     for x in receptions {
         book.take(x).ok().ok_or("memory")?;
@@ -72,7 +72,11 @@ fn is_known(known: &Option<Heard<'_>>, x: &Reception, report: &Report<'_>) -> bo
 }
 
 /// Whether a book of two receptions from N0CALL-7 has the later one's report as its position.
-fn knows_the_later(book: &Book, late: &Reception, report: &Report<'_>) -> Result<bool, Fail> {
+fn knows_the_later<A: Allocator + Copy>(
+    book: &Book<A>,
+    late: &Reception,
+    report: &Report<'_>,
+) -> Result<bool, Fail> {
     let station = callsign(b"N0CALL-7")?;
     let stations = book.stations().ok().ok_or("memory")?;
     let [listed] = stations.as_slice() else {
@@ -112,7 +116,7 @@ fn positions_are_the_greatest_heard(rt: HostRuntime) -> Result<(), Fail> {
 }
 
 /// Whether a book of a status and a later position from N0CALL-7 keeps the status.
-fn keeps_the_status(book: &Book, status: &Reception) -> Result<bool, Fail> {
+fn keeps_the_status<A: Allocator + Copy>(book: &Book<A>, status: &Reception) -> Result<bool, Fail> {
     let station = callsign(b"N0CALL-7")?;
     let hi = Report::Status {
         stamp: None,
@@ -138,7 +142,12 @@ fn nothing_is_known_of_no_rows(rt: HostRuntime) -> Result<(), Fail> {
 }
 
 /// Whether the book knows the killed object and the item by this name.
-fn knows_leader(book: &Book, name: &[u8], killed: &Reception, item: &Reception) -> bool {
+fn knows_leader<A: Allocator + Copy>(
+    book: &Book<A>,
+    name: &[u8],
+    killed: &Reception,
+    item: &Reception,
+) -> bool {
     let object_report = Report::Object {
         name: b"LEADER",
         live: false,
@@ -162,12 +171,12 @@ fn knows_leader(book: &Book, name: &[u8], killed: &Reception, item: &Reception) 
 }
 
 /// Whether it knows them by their name, with spaces at its end or without.
-fn knows_both(book: &Book, killed: &Reception, item: &Reception) -> bool {
+fn knows_both<A: Allocator + Copy>(book: &Book<A>, killed: &Reception, item: &Reception) -> bool {
     knows_leader(book, b"LEADER", killed, item) && knows_leader(book, b"LEADER   ", killed, item)
 }
 
 /// Whether it knows an object or an item of another name.
-fn knows_others(book: &Book) -> bool {
+fn knows_others<A: Allocator + Copy>(book: &Book<A>) -> bool {
     const OTHERS: &[&[u8]] = &[b"", b" LEADER", b"LEAD"];
     for &name in OTHERS {
         if book.object(name).is_some() || book.item(name).is_some() {
@@ -178,7 +187,7 @@ fn knows_others(book: &Book) -> bool {
 }
 
 /// Whether two transmissions of N0CALL-7 and one of N0CALL-8, which has no position, are listed.
-fn lists_three(book: &Book) -> Result<bool, Fail> {
+fn lists_three<A: Allocator + Copy>(book: &Book<A>) -> Result<bool, Fail> {
     let stations = book.stations().ok().ok_or("memory")?;
     let [first, second] = stations.as_slice() else {
         return Ok(false);

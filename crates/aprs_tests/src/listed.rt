@@ -4,7 +4,7 @@ use crate::last_known::sent;
 use aprs_book::{Book, Gap, MessageRow, MessageState, Named, Overview};
 use aprs_log::Reception;
 use aprs_rows::RowStore;
-use std::alloc::Global;
+use std::alloc::{Allocator, Global};
 use std::test::Fail;
 
 /// Whether these are fifty messages with an id of their own, and fifty items with a name of their
@@ -52,7 +52,7 @@ fn both(number: u64) -> Result<[Reception; 2], Fail> {
 }
 
 /// The book that takes fifty of both.
-fn fifty_taken(alloc: Global) -> Result<Book, Fail> {
+fn fifty_taken<A: Allocator + Copy>(alloc: A) -> Result<Book<A>, Fail> {
     let mut book = Book::new(alloc);
     for i in 0..50u64 {
         for x in both(i)? {
@@ -63,7 +63,7 @@ fn fifty_taken(alloc: Global) -> Result<Book, Fail> {
 }
 
 /// The store of fifty of both.
-fn fifty_stored(alloc: Global) -> Result<RowStore, Fail> {
+fn fifty_stored<A: Allocator + Copy>(alloc: A) -> Result<RowStore<A>, Fail> {
     let mut store = RowStore::new(alloc);
     for i in 0..50u64 {
         for x in both(i)? {
@@ -74,21 +74,21 @@ fn fifty_stored(alloc: Global) -> Result<RowStore, Fail> {
 }
 
 /// Whether the book lists the fifty messages and the fifty items.
-fn book_has_fifty(book: &Book) -> Result<bool, Fail> {
+fn book_has_fifty<A: Allocator + Copy>(book: &Book<A>) -> Result<bool, Fail> {
     let messages = book.messages().ok().ok_or("memory")?;
     let named = book.objects().ok().ok_or("memory")?;
     Ok(are_fifty(messages.as_slice(), named.as_slice()))
 }
 
 /// Whether these rows tell of the fifty messages and the fifty items.
-fn overview_has_fifty(overview: &Overview<'_, '_>) -> Result<bool, Fail> {
+fn overview_has_fifty<A: Allocator + Copy>(overview: &Overview<'_, '_, A>) -> Result<bool, Fail> {
     let messages = overview.messages().ok().ok_or("memory")?;
     let named = overview.objects().ok().ok_or("memory")?;
     Ok(are_fifty(messages.as_slice(), named.as_slice()))
 }
 
 /// Whether these rows are of two stations of fifty transmissions each.
-fn overview_has_two(overview: &Overview<'_, '_>) -> Result<bool, Fail> {
+fn overview_has_two<A: Allocator + Copy>(overview: &Overview<'_, '_, A>) -> Result<bool, Fail> {
     let stations = overview.stations().ok().ok_or("memory")?;
     Ok(stations.len() == 2 && stations.iter().all(|station| station.transmissions == 50))
 }

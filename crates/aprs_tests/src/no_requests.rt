@@ -1,8 +1,8 @@
 //! Calls that take no memory ask for none. A full arena grows at a request and stays as large, so
 //! that a request shows even where what it got is given back at once.
 
-use crate::last_known::{callsign, sent};
-use crate::refused_calls::{SENT, squeeze};
+use crate::last_known::callsign;
+use crate::refused_calls::{SENT, book_of_sent, squeeze, store_of_sent};
 use crate::vectors::{DIRECT, heard, receiver};
 use aprs_book::{
     Book, Gap, Join, MergeFault, ReceiverList, Receivers, RowCause, WidenFault, all_fit,
@@ -10,7 +10,7 @@ use aprs_book::{
 use aprs_log::Receiver;
 use aprs_rows::{RowStore, RowsInOrder, Transmissions};
 use bumpalo::Bump;
-use std::alloc::Global;
+use std::alloc::{Allocator, Global};
 use std::test::Fail;
 
 /// Fills the arena, so that it grows at the next request.
@@ -30,16 +30,6 @@ fn a_request_shows(rt: HostRuntime) -> Result<(), Fail> {
     drop(spare);
     assert!(rt; bump.allocated_bytes() > size);
     Ok(())
-}
-
-/// The book under this gap of what was sent.
-fn book_of_sent(bump: &Bump, gap: Gap) -> Result<Book<&Bump>, Fail> {
-    let mut book = Book::with_gap(bump, gap);
-    for &(second, source, info) in SENT {
-        let x = sent(second, source, info)?;
-        book.take(&x).ok().ok_or("memory")?;
-    }
-    Ok(book)
 }
 
 /// A call that takes no memory.
@@ -79,16 +69,16 @@ const CALLS: &[Call] = &[
 ];
 
 /// Whether what is new is empty.
-fn is_empty(bump: &Bump, call: Call) -> bool {
+fn is_empty<A: Allocator + Copy>(alloc: A, call: Call) -> bool {
     match call {
-        Call::NewStore => RowStore::new(bump).is_empty(),
-        Call::NewReceivers => Receivers::new(bump).as_slice().is_empty(),
-        _ => Book::new(bump).len() == 0,
+        Call::NewStore => RowStore::new(alloc).is_empty(),
+        Call::NewReceivers => Receivers::new(alloc).as_slice().is_empty(),
+        _ => Book::new(alloc).len() == 0,
     }
 }
 
 /// Whether the call refuses a book of another gap, or a gap that is less.
-fn is_refused<'a>(call: Call, book: &Book<&'a Bump>, wide: &Book<&'a Bump>) -> bool {
+fn is_refused<A: Allocator + Copy>(call: Call, book: &Book<A>, wide: &Book<A>) -> bool {
     match call {
         Call::OtherGap => match book.merge(wide) {
             Err(MergeFault::OtherGap) => true,
@@ -102,7 +92,7 @@ fn is_refused<'a>(call: Call, book: &Book<&'a Bump>, wide: &Book<&'a Bump>) -> b
 }
 
 /// Whether something is last known of the sender, of the object or of the item.
-fn is_known(call: Call, book: &Book<&Bump>) -> Result<bool, Fail> {
+fn is_known<A: Allocator + Copy>(call: Call, book: &Book<A>) -> Result<bool, Fail> {
     let sender = callsign(b"N0CALL-7")?;
     Ok(match call {
         Call::Position => book.position(&sender).is_some(),
@@ -113,7 +103,7 @@ fn is_known(call: Call, book: &Book<&Bump>) -> Result<bool, Fail> {
 }
 
 /// How many rows are shown that one receiver heard.
-fn shown_rows(book: &Book<&Bump>) -> usize {
+fn shown_rows<A: Allocator + Copy>(book: &Book<A>) -> usize {
     let mut shown = 0usize;
     for row in book.rows() {
         if row.receivers.len() == 1 {
@@ -125,7 +115,7 @@ fn shown_rows(book: &Book<&Bump>) -> usize {
 
 /// Whether the book has the gap and the rows of what was sent, and differs from one with a wider
 /// gap.
-fn is_seen<'a>(call: Call, book: &Book<&'a Bump>, wide: &Book<&'a Bump>) -> bool {
+fn is_seen<A: Allocator + Copy>(call: Call, book: &Book<A>, wide: &Book<A>) -> bool {
     match call {
         Call::Gap => book.gap() == Gap::STANDARD && book.len() == SENT.len(),
         Call::Rows => shown_rows(book) == SENT.len(),
@@ -135,12 +125,12 @@ fn is_seen<'a>(call: Call, book: &Book<&'a Bump>, wide: &Book<&'a Bump>) -> bool
 }
 
 /// Whether the call answers as it has to, of books with and without a wider gap.
-fn is_answered<'a>(bump: &'a Bump, call: Call, books: &[Book<&'a Bump>]) -> Result<bool, Fail> {
+fn is_answered<A: Allocator + Copy>(alloc: A, call: Call, books: &[Book<A>]) -> Result<bool, Fail> {
     let [book, wide] = books else {
         return Err("two books".into());
     };
     match call {
-        Call::New | Call::NewStore | Call::NewReceivers => Ok(is_empty(bump, call)),
+        Call::New | Call::NewStore | Call::NewReceivers => Ok(is_empty(alloc, call)),
         Call::Gap | Call::Rows | Call::Same | Call::Fits => Ok(is_seen(call, book, wide)),
         Call::AllFit => Ok(!all_fit(book, books)),
         Call::OtherGap | Call::Narrower => Ok(is_refused(call, book, wide)),
@@ -149,10 +139,10 @@ fn is_answered<'a>(bump: &'a Bump, call: Call, books: &[Book<&'a Bump>]) -> Resu
 }
 
 /// Two books of what was sent, the second with a wider gap.
-fn two_books<'a>(bump: &'a Bump, alloc: Global) -> Result<Vec<Book<&'a Bump>>, Fail> {
-    let mut books = Vec::new(alloc);
-    books.push(book_of_sent(bump, Gap::STANDARD)?)?;
-    books.push(book_of_sent(bump, Gap::new(31).ok_or("a gap")?)?)?;
+fn two_books<A: Allocator + Copy>(alloc: A, list: Global) -> Result<Vec<Book<A>>, Fail> {
+    let mut books = Vec::new(list);
+    books.push(book_of_sent(alloc, Gap::STANDARD, 0)?)?;
+    books.push(book_of_sent(alloc, Gap::new(31).ok_or("a gap")?, 0)?)?;
     Ok(books)
 }
 
@@ -188,7 +178,10 @@ const IN_PLACE: &[(u64, &[u8])] = &[
 ];
 
 /// Takes what a receiver hears at each second of the hour.
-fn take_all<'a>(book: &mut Book<&'a Bump>, heard_at: &[(u64, &[u8])]) -> Result<(), Fail> {
+fn take_all<A: Allocator + Copy>(
+    book: &mut Book<A>,
+    heard_at: &[(u64, &[u8])],
+) -> Result<(), Fail> {
     for &(second, name) in heard_at {
         let x = heard(second, name, &DIRECT)?;
         book.take(&x).ok().ok_or("memory")?;
@@ -212,7 +205,7 @@ fn receptions_in_place_ask_for_none(rt: HostRuntime) -> Result<(), Fail> {
 const NAMES: &[&[u8]] = &[b"RX2", b"RX1", b"RX3"];
 
 /// Adds these names.
-fn add_all<'a>(names: &mut Receivers<&'a Bump>, added: &[&[u8]]) -> Result<(), Fail> {
+fn add_all<A: Allocator + Copy>(names: &mut Receivers<A>, added: &[&[u8]]) -> Result<(), Fail> {
     for name in added {
         names.add(&receiver(name)?).ok().ok_or("memory")?;
     }
@@ -232,7 +225,7 @@ fn listed_names_ask_for_none(rt: HostRuntime) -> Result<(), Fail> {
 }
 
 /// How many names a list shows, and then gives back.
-fn shown_and_given(names: Vec<Receiver, &Bump>) -> (usize, usize) {
+fn shown_and_given<A: Allocator + Copy>(names: Vec<Receiver, A>) -> (usize, usize) {
     let list = ReceiverList::new(names);
     let shown = list.as_slice().len();
     (shown, list.into_vec().len())
@@ -249,18 +242,8 @@ fn lists_of_names_ask_for_none(rt: HostRuntime) -> Result<(), Fail> {
     Ok(())
 }
 
-/// The store of what was sent.
-fn store_of_sent(bump: &Bump) -> Result<RowStore<&Bump>, Fail> {
-    let mut store = RowStore::new(bump);
-    for &(second, source, info) in SENT {
-        let x = sent(second, source, info)?;
-        store.push_reception(&x).ok().ok_or("memory")?;
-    }
-    Ok(store)
-}
-
 /// How many rows are shown that RX1 alone heard, at one moment.
-fn shown_transmissions(rows: &Transmissions<'_, &Bump>) -> usize {
+fn shown_transmissions<A: Allocator + Copy>(rows: &Transmissions<'_, A>) -> usize {
     let mut shown = 0usize;
     for row in rows.rows() {
         if row.first() == row.last()
@@ -294,7 +277,7 @@ fn store_asks_for_none<'a>(
 }
 
 /// Whether calls of a store of what was sent answer as they have to.
-fn answers(store: &RowStore<&Bump>) -> bool {
+fn answers<A: Allocator + Copy>(store: &RowStore<A>) -> bool {
     match store.last() {
         Some(last) => {
             !store.is_empty()

@@ -78,7 +78,7 @@ fn receivers_are_given_back(rt: HostRuntime) -> Result<(), Fail> {
 }
 
 /// A book of two rows of one key, as close to one another as rows can be.
-fn two_rows(alloc: Global) -> Result<Book, Fail> {
+fn two_rows<A: Allocator + Copy>(alloc: A) -> Result<Book<A>, Fail> {
     let mut book = Book::new(alloc);
     const SECONDS: &[u64] = &[0, 31];
     for &second in SECONDS {
@@ -89,7 +89,7 @@ fn two_rows(alloc: Global) -> Result<Book, Fail> {
 }
 
 /// The book that takes what they stand for, the later first.
-fn two_taken(alloc: Global) -> Result<Book, Fail> {
+fn two_taken<A: Allocator + Copy>(alloc: A) -> Result<Book<A>, Fail> {
     let mut book = Book::new(alloc);
     const SECONDS: &[u64] = &[31, 0];
     for &second in SECONDS {
@@ -127,7 +127,10 @@ fn rows_out_of_place_are_refused(rt: HostRuntime) -> Result<(), Fail> {
 }
 
 /// Rows of the direct frame, all by RX1, from these to these seconds.
-fn rows_of(alloc: Global, spans: &[(u64, u64)]) -> Result<Vec<RowParts>, Fail> {
+fn rows_of<A: Allocator + Copy>(
+    alloc: A,
+    spans: &[(u64, u64)],
+) -> Result<Vec<RowParts<A>, A>, Fail> {
     let mut rows = Vec::new(alloc);
     for (first, last) in spans {
         let (first, last) = (NOON.saturating_add(*first), NOON.saturating_add(*last));

@@ -4,6 +4,7 @@ use crate::last_known::sent;
 use crate::shown::is_shown;
 use crate::vectors::receiver;
 use aprs_book::{Book, Gap, Join, Receivers, Step, all_fit, join_all, replay};
+use aprs_rows::RowStore;
 use bumpalo::Bump;
 use std::alloc::{Allocator, Global};
 use std::test::Fail;
@@ -17,9 +18,9 @@ pub const SENT: &[(u64, &[u8], &[u8])] = &[
     (40, b"N0CALL-8", b")LEADER!4903.50N/07201.75W>"),
 ];
 
-/// A book of them, so many seconds later.
-fn book_of_sent(bump: &Bump, later: u64) -> Result<Book<&Bump>, Fail> {
-    let mut book = Book::new(bump);
+/// A book of them under this gap, so many seconds later.
+pub fn book_of_sent<A: Allocator + Copy>(alloc: A, gap: Gap, later: u64) -> Result<Book<A>, Fail> {
+    let mut book = Book::with_gap(alloc, gap);
     for &(second, source, info) in SENT {
         let x = sent(later.saturating_add(second), source, info)?;
         book.take(&x).ok().ok_or("memory")?;
@@ -27,11 +28,21 @@ fn book_of_sent(bump: &Bump, later: u64) -> Result<Book<&Bump>, Fail> {
     Ok(book)
 }
 
+/// A store of them.
+pub fn store_of_sent<A: Allocator + Copy>(alloc: A) -> Result<RowStore<A>, Fail> {
+    let mut store = RowStore::new(alloc);
+    for &(second, source, info) in SENT {
+        let x = sent(second, source, info)?;
+        store.push_reception(&x).ok().ok_or("memory")?;
+    }
+    Ok(store)
+}
+
 /// Two books of them, the second a minute later.
-fn two_books<'a>(bump: &'a Bump, alloc: Global) -> Result<Vec<Book<&'a Bump>>, Fail> {
-    let mut books = Vec::new(alloc);
-    books.push(book_of_sent(bump, 0)?)?;
-    books.push(book_of_sent(bump, 60)?)?;
+fn two_books<A: Allocator + Copy>(alloc: A, list: Global) -> Result<Vec<Book<A>>, Fail> {
+    let mut books = Vec::new(list);
+    books.push(book_of_sent(alloc, Gap::STANDARD, 0)?)?;
+    books.push(book_of_sent(alloc, Gap::STANDARD, 60)?)?;
     Ok(books)
 }
 
@@ -69,7 +80,7 @@ const CALLS: &[(Call, usize)] = &[
 ];
 
 /// How many rows the book has, if there is one.
-fn rows_of<E: Drop>(book: Result<Book<&Bump>, E>) -> Option<usize> {
+fn rows_of<A: Allocator + Copy, E: Drop>(book: Result<Book<A>, E>) -> Option<usize> {
     Some(book.ok()?.len())
 }
 
@@ -79,7 +90,7 @@ fn entries_of<T: Drop, A: Allocator, E: Drop>(list: Result<Vec<T, A>, E>) -> Opt
 }
 
 /// How many rows the two books have together, or nothing where memory was refused.
-fn rows_together<'a>(call: Call, books: &[Book<&'a Bump>]) -> Option<usize> {
+fn rows_together<A: Allocator + Copy>(call: Call, books: &[Book<A>]) -> Option<usize> {
     let [first, second] = books else {
         return None;
     };
@@ -94,7 +105,7 @@ fn rows_together<'a>(call: Call, books: &[Book<&'a Bump>]) -> Option<usize> {
 }
 
 /// How many entries the book's list has, or nothing where memory was refused.
-fn entries_in(call: Call, book: &Book<&Bump>) -> Option<usize> {
+fn entries_in<A: Allocator + Copy>(call: Call, book: &Book<A>) -> Option<usize> {
     match call {
         Call::Stations => entries_of(book.stations()),
         Call::Objects => entries_of(book.objects()),
@@ -103,25 +114,25 @@ fn entries_in(call: Call, book: &Book<&Bump>) -> Option<usize> {
 }
 
 /// How many rows or entries the call gives, or nothing where memory was refused.
-fn called<'a>(
-    bump: &'a Bump,
+fn called<A: Allocator + Copy>(
+    alloc: A,
     call: Call,
-    books: &[Book<&'a Bump>],
+    books: &[Book<A>],
     steps: &[Step],
 ) -> Option<usize> {
     match call {
         Call::Merge | Call::Join | Call::JoinAll => rows_together(call, books),
-        Call::Replay => replayed(bump, steps),
+        Call::Replay => replayed(alloc, steps),
         Call::Stations | Call::Objects | Call::Messages => entries_in(call, books.first()?),
     }
 }
 
 /// The number of rows of the first book after the steps.
-fn replayed(bump: &Bump, steps: &[Step]) -> Option<usize> {
+fn replayed<A: Allocator + Copy>(alloc: A, steps: &[Step]) -> Option<usize> {
     if !aprs_book::steps_fit(2, steps) {
         return None;
     }
-    let books = replay(bump, Gap::STANDARD, 2, steps).ok()?;
+    let books = replay(alloc, Gap::STANDARD, 2, steps).ok()?;
     Some(books.first()?.len())
 }
 
@@ -270,8 +281,8 @@ fn refused_names_are_not_added(rt: HostRuntime) -> Result<(), Fail> {
 }
 
 /// Receivers of these names.
-fn receivers<'a>(bump: &'a Bump, names: &[&[u8]]) -> Result<Receivers<&'a Bump>, Fail> {
-    let mut receivers = Receivers::new(bump);
+fn receivers<A: Allocator + Copy>(alloc: A, names: &[&[u8]]) -> Result<Receivers<A>, Fail> {
+    let mut receivers = Receivers::new(alloc);
     for name in names {
         receivers.add(&receiver(name)?).ok().ok_or("memory")?;
     }
@@ -279,7 +290,7 @@ fn receivers<'a>(bump: &'a Bump, names: &[&[u8]]) -> Result<Receivers<&'a Bump>,
 }
 
 /// How many names both have, or nothing where memory was refused.
-fn joined<'a>(ours: &Receivers<&'a Bump>, theirs: &Receivers<&'a Bump>) -> Option<usize> {
+fn joined<A: Allocator + Copy>(ours: &Receivers<A>, theirs: &Receivers<A>) -> Option<usize> {
     let both = ours.join(theirs).ok()?;
     Some(both.as_slice().len())
 }

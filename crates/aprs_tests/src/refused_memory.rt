@@ -8,13 +8,13 @@ use aprs_booktext::{BookCause, BookFault, read_book};
 use aprs_kiss::Counted;
 use aprs_log::{MAX_INPUT, Reception};
 use linked_list_allocator::LocalHeap;
-use std::alloc::Global;
+use std::alloc::{Allocator, Global};
 use std::test::Fail;
 
 /// Takes a reception, and returns whether an allocation failed. Then the rows have to be as before.
-fn is_untaken<'a>(
+fn is_untaken<A: Allocator + Copy>(
     alloc: Global,
-    book: &mut Book<&'a LocalHeap>,
+    book: &mut Book<A>,
     x: &Reception,
 ) -> Result<bool, Fail> {
     let before = shown(alloc, book).ok_or("memory")?;
@@ -90,22 +90,19 @@ fn refused_growths_change_nothing(rt: HostRuntime) -> Result<(), Fail> {
 }
 
 /// Three rows of one key, whose receivers stand in a heap.
-fn three_rows<'a>(
-    alloc: Global,
-    heap: &'a LocalHeap,
-) -> Result<Vec<RowParts<&'a LocalHeap>>, Fail> {
-    let mut rows = Vec::new(alloc);
-    rows.push(parts(heap, NOON, NOON, &[b"RX1", b"RX2"], b"RX2")?)?;
-    rows.push(parts(heap, NOON + 60, NOON + 70, &[b"RX1", b"RX2"], b"RX1")?)?;
-    rows.push(parts(heap, NOON + 200, NOON + 200, &[b"RX1"], b"RX1")?)?;
+fn three_rows<A: Allocator + Copy>(list: Global, alloc: A) -> Result<Vec<RowParts<A>>, Fail> {
+    let mut rows = Vec::new(list);
+    rows.push(parts(alloc, NOON, NOON, &[b"RX1", b"RX2"], b"RX2")?)?;
+    rows.push(parts(alloc, NOON + 60, NOON + 70, &[b"RX1", b"RX2"], b"RX1")?)?;
+    rows.push(parts(alloc, NOON + 200, NOON + 200, &[b"RX1"], b"RX1")?)?;
     Ok(rows)
 }
 
 /// Pushes a row, and returns whether an allocation failed. Then the rows have to be as before.
-fn is_refused<'a>(
+fn is_refused<A: Allocator + Copy>(
     alloc: Global,
-    book: &mut Book<&'a LocalHeap>,
-    row: &RowParts<&'a LocalHeap>,
+    book: &mut Book<A>,
+    row: &RowParts<A>,
 ) -> Result<bool, Fail> {
     let before = shown(alloc, book).ok_or("memory")?;
     match book.push_row(row) {
@@ -176,7 +173,7 @@ fn refused_rows_change_nothing(rt: HostRuntime) -> Result<(), Fail> {
 }
 
 /// The place of the row for which memory was refused, if it was.
-fn place_of(made: Result<Book<&LocalHeap>, RowsFault>) -> Result<Option<usize>, Fail> {
+fn place_of<A: Allocator + Copy>(made: Result<Book<A>, RowsFault>) -> Result<Option<usize>, Fail> {
     match made {
         Ok(book) if book.len() == 3 => Ok(None),
         Err(RowsFault { place, cause }) if cause == RowCause::Memory => Ok(Some(place)),

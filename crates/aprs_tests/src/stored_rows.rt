@@ -19,7 +19,7 @@ fn book_of<A: Allocator + Copy>(alloc: A, store: RowStore<A>) -> Result<Book<A>,
 }
 
 /// The receptions of a hundred minutes by RX2 from this second on, the last first, and by RX1.
-fn two_hundred(alloc: Global, first: u64) -> Result<RowStore, Fail> {
+fn two_hundred<A: Allocator + Copy>(alloc: A, first: u64) -> Result<RowStore<A>, Fail> {
     let mut store = RowStore::new(alloc);
     for minute in 0..100u64 {
         let second = first.saturating_add(99u64.saturating_sub(minute) * 60);
@@ -34,7 +34,7 @@ fn two_hundred(alloc: Global, first: u64) -> Result<RowStore, Fail> {
 }
 
 /// The book of a hundred minutes by RX1, and by RX2 from this second on.
-fn taken(alloc: Global, first: u64) -> Result<Book, Fail> {
+fn taken<A: Allocator + Copy>(alloc: A, first: u64) -> Result<Book<A>, Fail> {
     let book = hundred(alloc, 0, b"RX1")?;
     let other = hundred(alloc, first, b"RX2")?;
     Ok(book.merge(&other).ok().ok_or("memory")?)
