@@ -1,33 +1,12 @@
 -- Lemmas on what is read of an input under a limit.
-use Rattle.std.proofs.Common.{◌≡◌, ℕ, ◌+◌, List, [], ◌++◌, length, take, drop, Option, inl, inr, refl, sym, ap, ◌∙◌, append_assoc, append-nil, length-append, length-take, length-drop, take-append-drop, arith}
-use Rattle.std.proofs.lemmas.Bool.{cases_lt}
+use Rattle.std.proofs.Common.{◌≡◌, ℕ, ◌+◌, List, [], ◌++◌, length, Option, Some, refl, sym, ap, ◌∙◌, append_assoc, length-append, arith}
 use Rattle.aprs_io.specs.Input.{EndsSo, Gets}
 use Rattle.aprs_io.specs.declared.input.Ending.{Ending}
 use Rattle.aprs_io.specs.declared.input.Ending.TheVariants as ending
 
--- An input is read to its end or to the limit.
-pub record GetsWhole (left : ℕ) (input : List ℕ) (end : Option (List ℕ)) : Type 0 where
-  pub text : List ℕ
-  pub ending : Ending
-  pub gets : Gets left input end text ending
-
-pub gets_whole : (left : ℕ) (input : List ℕ) (end : Option (List ℕ)) → GetsWhole left input end
-gets_whole left input end = elim (cases_lt left (length input)) [
-  | inl lt ↦ record {
-    text = take left input;
-    ending = ending.TooLong;
-    gets = record {
-      rest = drop left input;
-      whole = sym (take-append-drop left input);
-      ends = (simp length-drop (omega arith), simp length-take (omega arith));
-    };
-  }
-  | inr le ↦ record {
-    text = input;
-    ending = ending.End;
-    gets = record { rest = []; whole = sym (append-nil input); ends = (refl, le) };
-  }
-]
+-- Nothing is read of an input, and its device still has all of it.
+pub Gets-nothing : (left : ℕ) (input : List ℕ) → Gets left input (Some input) [] ending.Read
+Gets-nothing left input = record { rest = input; whole = refl; ends = (refl, omega arith) }
 
 -- The way in which an input ends after a text is also that in which it ends after a prefix and the
 -- text, under a limit that is higher by the prefix.
@@ -39,7 +18,7 @@ ends_after ending.End limit left prefix text rest after size h =
 ends_after ending.Read limit left prefix text rest after size h =
     (h.0, omega (arith, size, h.1, length-append prefix text))
 ends_after ending.TooLong limit left prefix text rest after size h =
-    (h.0, omega (arith, size, h.1, length-append prefix text))
+    (h.0, omega (arith, size, h.1, length-append prefix text), h.2)
 
 -- What is read of an input is a prefix that was read before, and what is read of the rest.
 pub Gets-after : (limit left : ℕ) (input prefix rest text : List ℕ) (after : Option (List ℕ))

@@ -25,8 +25,10 @@ module _ {W : Type 0} {contents : W → Option (List ℕ)} {old new : Outlet W} 
           sends = Sends-ok p;
         });
     fails = tt;
+    empty = tt;
   }
-  Puts-sent (Err e) none p = record { same_reference = same; took = tt; fails = p }
+  Puts-sent (Err e) none p =
+      record { same_reference = same; took = tt; fails = p; empty = none }
 
 module _ {W : Type 0} {contents : W → Option (List ℕ)} where
   -- nothing is put
@@ -36,6 +38,7 @@ module _ {W : Type 0} {contents : W → Option (List ℕ)} where
     took = subst (λ t. SendsAllBut contents (writer_of o) (writer_of o) t (held_of o))
         (sym (append-nil (held_of o))) (left_all (writer_of o) (held_of o));
     fails = tt;
+    empty = tt;
   }
 
   -- a text by another name
@@ -52,11 +55,13 @@ module _ {W : Type 0} {contents : W → Option (List ℕ)} where
     took = subst (λ t. SendsAllBut contents (writer_of o) (writer_of q) t (held_of q))
         (append_assoc (held_of o) x y) (left_of_both first.took y then.took);
     fails = tt;
+    empty = tt;
   }
   Puts-then {E} {F} {r = Err e} {o} {p} {q} {x} {y} first then = record {
     same_reference = then.same_reference ∙ first.same_reference;
     took = tt;
     fails = Sends-is (fails_of_both first.took y then.fails) (append_assoc (held_of o) x y);
+    empty = then.empty;
   }
 
   -- the first of two texts failed
@@ -67,6 +72,7 @@ module _ {W : Type 0} {contents : W → Option (List ℕ)} where
     same_reference = put.same_reference;
     took = tt;
     fails = Sends-is (Sends-fails (Err f) is put.fails y) (append_assoc (held_of o) x y);
+    empty = put.empty;
   }
 
 -- ---- pieces one after another
@@ -90,7 +96,12 @@ module _ {X : Type 0} (f : X → List ℕ) (xs : List X) (i : ℕ) (x : X) (lt :
       where
         ok : {E : Type 0} → Puts {E = E} contents (Ok tt) p q (f x)
             → Puts {E = Unit {0}} contents (Ok tt) p q (f x)
-        ok put = record { same_reference = put.same_reference; took = put.took; fails = tt }
+        ok put = record {
+          same_reference = put.same_reference;
+          took = put.took;
+          fails = tt;
+          empty = tt;
+        }
 
     -- a piece failed
     pub Puts-broken : {E F : Type 0} {e : E} (r : Result (Unit {0}) F) → IsErr r

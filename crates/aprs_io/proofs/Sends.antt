@@ -1,6 +1,6 @@
 -- Laws of what a function did to its device.
-use Rattle.std.proofs.Common.{◌≡◌, ◌≤◌, ℕ, List, [], ◌++◌, Option, Result, Ok, Err, refl, sym, ap, ◌∙◌, subst, append_assoc, length-append, arith}
-use Rattle.std.specs.Result.{IsErr}
+use Rattle.std.proofs.Common.{◌≡◌, ◌≤◌, ℕ, List, [], ◌++◌, length, Option, Result, Ok, Err, refl, sym, ap, ◌∙◌, subst, append_assoc, length-append, arith}
+use Rattle.std.specs.Result.{IsErr, IsOk}
 use Rattle.std.proofs.KnownBytes.{Appends-nil, Appends-trans}
 use Rattle.aprs_io.specs.Device.{Calls, Last, Going, Fault, End, Sends, SendsAllBut, faults_after, ends_after}
 use Rattle.aprs_io.specs.declared.device.Counted.{Counted}
@@ -36,6 +36,7 @@ module _ {W : Type 0} {contents : W → Option (List ℕ)} where
     prefix = tt;
     calls = Calls-none a;
     tries = omega arith;
+    unasked = λ e. (refl, refl);
   }
 
   -- a text by another name
@@ -46,7 +47,22 @@ module _ {W : Type 0} {contents : W → Option (List ℕ)} where
   -- what the error would be is not said
   pub Sends-ok : {E F : Type 0} {a b : Counted W} {x : List ℕ}
       → Sends {E = E} contents (Ok tt) a b x → Sends {E = F} contents (Ok tt) a b x
-  Sends-ok p = record { sent = p.sent; prefix = tt; calls = p.calls; tries = p.tries }
+  Sends-ok p = record {
+    sent = p.sent;
+    prefix = tt;
+    calls = p.calls;
+    tries = p.tries;
+    unasked = λ e. (refl, (p.unasked e).1);
+  }
+
+  -- of two texts without bytes nothing is asked
+  unasked_then : {E F : Type 0} {r : Result (Unit {0}) F} {a b c : Counted W} {x y : List ℕ}
+      → Sends {E = E} contents (Ok tt) a b x → Sends contents r b c y
+      → length (x ++ y) ≡ 0 → IsOk r × (c ≡ a)
+  unasked_then {E} {F} {r} {a} {b} {c} {x} {y} p q none =
+      let first = p.unasked (omega (arith, none, length-append x y)) in
+      let second = q.unasked (omega (arith, none, length-append x y)) in
+      (second.0, second.1 ∙ first.1)
 
   -- a text, and then another
   pub Sends-then : {E F : Type 0} {r : Result (Unit {0}) F} {a b c : Counted W} {x y : List ℕ}
@@ -57,6 +73,7 @@ module _ {W : Type 0} {contents : W → Option (List ℕ)} where
     prefix = tt;
     calls = Calls-then p.calls q.calls;
     tries = omega (arith, length-append x y, p.tries, q.tries);
+    unasked = unasked_then p q;
   }
   Sends-then {E} {F} {r = Err e} {a} {b} {c} {x} {y} p q = record {
     sent = tt;
@@ -64,13 +81,20 @@ module _ {W : Type 0} {contents : W → Option (List ℕ)} where
         q.prefix;
     calls = Calls-then p.calls q.calls;
     tries = omega (arith, length-append x y, p.tries, q.tries);
+    unasked = unasked_then p q;
   }
 
   -- which error it is is not said
   pub Sends-err : {E F : Type 0} {e : E} {a b : Counted W} {x : List ℕ} (r : Result (Unit {0}) F)
       → IsErr r → Sends contents (Err e) a b x → Sends contents r a b x
   Sends-err (Ok v) is p = absurd cc
-  Sends-err (Err f) is p = record { sent = tt; prefix = p.prefix; calls = p.calls; tries = p.tries }
+  Sends-err (Err f) is p = record {
+    sent = tt;
+    prefix = p.prefix;
+    calls = p.calls;
+    tries = p.tries;
+    unasked = λ none. absurd (let ok = (p.unasked none).0 in cc);
+  }
 
   -- a text failed that another begins with
   pub Sends-fails : {E F : Type 0} {e : E} {a b : Counted W} {x : List ℕ}
@@ -82,6 +106,8 @@ module _ {W : Type 0} {contents : W → Option (List ℕ)} where
     prefix = AppendsPrefix-more (contents a.device) (contents b.device) x y p.prefix;
     calls = p.calls;
     tries = omega (arith, length-append x y, p.tries);
+    unasked = λ none.
+        absurd (let ok = (p.unasked (omega (arith, none, length-append x y))).0 in cc);
   }
 
 -- ---- a text that goes out part by part

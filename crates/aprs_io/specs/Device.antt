@@ -1,5 +1,5 @@
 -- What a function did to a device that counts its failed calls.
-use Rattle.std.specs.Prelude.{◌≡◌, ℕ, ◌+◌, ◌-◌, ◌*◌, ◌^◌, ◌≤◌, min, List, ◌++◌, length, Option, Result, Ok, Err, OnOk, OnErr}
+use Rattle.std.specs.Prelude.{◌≡◌, ℕ, ◌+◌, ◌-◌, ◌*◌, ◌^◌, ◌≤◌, min, List, ◌++◌, length, Option, Result, Ok, Err, OnOk, OnErr, IsOk}
 use Rattle.std.specs.Io.KnownBytes.{Appends}
 use Rattle.aprs_io.specs.declared.device.Counted.{Counted}
 
@@ -78,13 +78,15 @@ most_failures Fault calls = 999 * calls + 1
 most_failures other calls = 999 * calls
 
 -- At Ok the text went out. At an error a prefix of it did, and the last call of the device answered
--- a fault, which no call before it did. There is at most one call for each byte.
+-- a fault, which no call before it did. There is at most one call for each byte: of a text without
+-- bytes the device isn't asked, and that is Ok.
 pub record Sends {W E : Type 0} (contents : W → Option (List ℕ)) (r : Result (Unit {0}) E)
     (old new : Counted W) (text : List ℕ) : Type 0 where
   pub sent : OnOk r (Appends (contents old.device) (contents new.device) text)
   pub prefix : OnErr r (AppendsPrefix (contents old.device) (contents new.device) text)
   pub calls : Calls (last_at r) old new
   pub tries : new.failed ≤ old.failed + most_failures (last_at r) (length text)
+  pub unasked : length text ≡ 0 → IsOk r × (new ≡ old)
 
 -- A first part of the text went out, and `rest` is left.
 pub record SendsAllBut {W : Type 0} (contents : W → Option (List ℕ)) (old new : Counted W)

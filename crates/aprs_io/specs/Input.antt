@@ -12,13 +12,15 @@ abbrev pub most_input : ℕ
 most_input = 1073741824
 
 -- After `text` was read of an input, `rest` is left of it, and `after` is what the device still
--- has. `End`: nothing is left. `Read`: the device still has just the rest, as after a failed read.
--- In both the text has at most `limit` bytes. `TooLong`: the text is as long as the limit, and
--- something is left. What the device has is said only at `Read`.
+-- has. `End`: nothing is left, and what the device has isn't said. `Read`: the device still has just
+-- the rest, as after a failed read. In both the text has at most `limit` bytes. `TooLong`: the text
+-- is as long as the limit, something is left, and the device still has it but for its first byte,
+-- which was taken and isn't kept.
 abbrev pub EndsSo : Ending → ℕ → List ℕ → List ℕ → Option (List ℕ) → Type 0
 EndsSo how.End limit text rest after = (rest ≡ []) × (length text ≤ limit)
 EndsSo how.Read limit text rest after = (after ≡ Some rest) × (length text ≤ limit)
-EndsSo how.TooLong limit text rest after = (0 < length rest) × (length text ≡ limit)
+EndsSo how.TooLong limit text rest after =
+    (0 < length rest) × (length text ≡ limit) × (after ≡ Some (drop 1 rest))
 
 -- A text of at most `limit` bytes is read of the input, which then ends in this way; the device
 -- then has `after`.
@@ -43,10 +45,6 @@ abbrev pub last_got : {A : Type 0} → Result A Ending → Last
 last_got (Ok value) = Going
 last_got (Err way) = last_of_ending way
 
--- A byte was taken of the device and is not kept.
-abbrev pub TakesOne : Option (List ℕ) → Option (List ℕ) → Type 0
-TakesOne known after = IfSome known (λ input. after ≡ Some (drop 1 input))
-
 -- Some bytes came, as many as are answered, and no more were taken of the device; or the input ends
 -- in the way that is answered.
 pub record GetsSome {R : Type 0} (remaining : R → Option (List ℕ)) (r : Result ℕ Ending) (left : ℕ)
@@ -54,8 +52,6 @@ pub record GetsSome {R : Type 0} (remaining : R → Option (List ℕ)) (r : Resu
   pub some : IfOk r (λ n. (0 < n) × (n ≤ left) × (n ≤ length room))
   pub bytes : IfOk r (λ n. Consumes (remaining old.device) (remaining new.device) (take n room))
   pub end : IfErr r (λ e. EndsHere e left (remaining old.device) (remaining new.device))
-  pub over : IfErr r (λ e. e ≡ how.TooLong
-      → TakesOne (remaining old.device) (remaining new.device))
   pub calls : Calls (last_got r) old new
   pub tries : new.failed ≤ old.failed + most_failures (last_got r) 1
 

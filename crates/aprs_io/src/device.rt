@@ -136,7 +136,8 @@ impl<R: Read> Counted<R> {
 
 /// Writes all of `bytes`, or at a fault a prefix of them. Each failed try is counted. An
 /// interrupted try is made again, up to 999 in a row; the 1,000th, any other error and a write
-/// that takes no byte are faults. An answer that is a fault is counted too. Takes no memory.
+/// that takes no byte are faults. An answer that is a fault is counted too. Where `bytes` is empty,
+/// the device isn't asked. Takes no memory.
 pub fn send<W: Write>(w: &mut Counted<W>, bytes: &[u8]) -> Result<(), WriteFault>
     ensures { Spec.Sends W.contents result w.old w.new bytes.now }
 {

@@ -1,5 +1,5 @@
 //! Bytes in hexadecimal.
-ghost use Rattle.std.specs.Prelude.{◌≡◌, ◌≢◌, ◌≤◌, ◌<◌, ◌+◌, ◌*◌, ◌++◌, ◌/◌, ◌%◌, ℕ, List, take, length, slice_index, true, false, Ok, Some, MatchBool, MatchOption, MatchResult, IsOk};
+ghost use Rattle.std.specs.Prelude.{◌≡◌, ◌≢◌, ◌≤◌, ◌<◌, ◌+◌, ◌*◌, ◌++◌, ◌/◌, ◌%◌, ℕ, List, take, drop, length, slice_index, true, false, Ok, Some, MatchBool, MatchOption, MatchResult, IsOk};
 ghost use Rattle.std.specs.Bool.{OnTrue};
 ghost use Rattle.hex.specs.Hex.{IsBytes, decode_of, encode_lower, hex_digit_value, lower_digits};
 ghost use Rattle.aprs_io.specs.Hexadecimal.{HoldsByte, HoldsDigits, HoldsValue, byte_of};
@@ -9,11 +9,13 @@ const BLOCK: usize = 16;
 
 /// Decodes hexadecimal digits, with letters in either case, to the start of `room`, which has to
 /// have room for their bytes, and returns how many bytes they are. `None` where the text has
-/// another byte or an odd number of digits; then too `room` may have changed. Takes no memory.
+/// another byte or an odd number of digits; then too the first half as many bytes of `room` as the
+/// text has may have changed. The bytes after these stay. Takes no memory.
 pub fn decode_into(text: &[u8], room: &mut [u8]) -> Option<usize>
     requires { length text.now ≤ 2 * length room.old }
-    ensures { MatchOption result (¬ IsOk (decode_of text.now))
+    ensures bytes { MatchOption result (¬ IsOk (decode_of text.now))
         (λ n. (n ≤ length room.new) × (decode_of text.now ≡ Ok (take n room.new))) }
+    ensures stays { let n = length text.now / 2 in drop n room.new ≡ drop n room.old }
 {
     let Some(len) = count_pairs(text) else {
         return None;
@@ -23,12 +25,14 @@ pub fn decode_into(text: &[u8], room: &mut [u8]) -> Option<usize>
 
 /// Decodes lower case digits to the start of `room`, which has to have room for their bytes, and
 /// returns how many bytes they are. `None` where the text has a capital letter, another byte that
-/// is no digit, or an odd number of digits; then too `room` may have changed. Takes no memory.
+/// is no digit, or an odd number of digits; then too the first half as many bytes of `room` as the
+/// text has may have changed. The bytes after these stay. Takes no memory.
 pub fn decode_lower_into(text: &[u8], room: &mut [u8]) -> Option<usize>
     requires { length text.now ≤ 2 * length room.old }
-    ensures { MatchOption result
+    ensures bytes { MatchOption result
         ((bytes : List ℕ) → IsBytes bytes → text.now ≢ encode_lower bytes)
         (λ n. (n ≤ length room.new) × (text.now ≡ encode_lower (take n room.new))) }
+    ensures stays { let n = length text.now / 2 in drop n room.new ≡ drop n room.old }
 {
     let Some(len) = count_pairs(text) else {
         return None;
@@ -48,7 +52,7 @@ fn count_pairs(text: &[u8]) -> Option<usize>
 }
 
 /// Writes the lower case digits of `bytes`, two for each, to `out` from `at` on, over what is
-/// there, and returns the place after them. Takes no memory.
+/// there, and returns the place after them. The other bytes of `out` stay. Takes no memory.
 pub fn put_hex(out: &mut [u8], at: usize, bytes: &[u8]) -> usize
     requires { at + 2 * length bytes.now ≤ length out.old }
 
@@ -57,6 +61,7 @@ pub fn put_hex(out: &mut [u8], at: usize, bytes: &[u8]) -> usize
     ensures bytes { IsBytes bytes.now }
 
     ensures len { length out.new ≡ length out.old }
+    ensures stays { drop result out.new ≡ drop result out.old }
 {
     let end = at + 2 * bytes.len();
     encode_to(bytes, &mut out[at..end]);

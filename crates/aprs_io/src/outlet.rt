@@ -33,8 +33,8 @@ impl<'a, W: Write> Outlet<'a, W> {
 
     /// Takes `bytes` after those that it took before. It holds them back where there is room;
     /// otherwise it sends what it holds first, and then `bytes` too where they are longer than
-    /// all the room. At a fault a prefix of what it held and then of `bytes` went out, and the
-    /// rest is lost. Takes no memory.
+    /// all the room. At a fault a prefix of what it held and then of `bytes` went out, the rest
+    /// is lost, and it holds nothing. Takes no memory.
     pub fn put(&mut self, bytes: &[u8]) -> Result<(), WriteFault>
         ensures { Spec.Puts W.contents result self.old self.new bytes.now }
     {

@@ -15,6 +15,8 @@ loop-rest-init g c =
       none =
           λ e. refl;
       sent = ([], refl, Appends-nil _);
+      fewer = omega arith;
+      unasked = λ e. refl;
     }
 
 pub loop-rest-preserved-then-n-gt0 : goal.loop-rest-preserved-then-n-gt0
@@ -26,4 +28,12 @@ loop-rest-preserved-then-n-gt0 g c = record {
   answered = c.loop-rest.invariant.answered;
   ended = c.loop-rest.invariant.ended;
   sent = AppendsAllBut-more _ _ _ _ _ _ c.loop-rest.invariant.sent c.in-Ok.ensures.bytes;
+  fewer = omega (
+    arith,
+    length-drop {A = ℕ},
+    c.in-Ok.ensures.bound,
+    c.loop-rest.invariant.fewer,
+  );
+  unasked = λ none.
+      absurd (omega (arith, none, c.loop-rest.invariant.fewer, c.in-Ok.ensures.bound));
 }

@@ -13,6 +13,8 @@ invariant-loop-rest g l = record {
   ended : l.w.ended ≡ l.initial.w.ended;
   sent : AppendsAllBut (g.W.Write.contents l.initial.w.device)
       (g.W.Write.contents l.w.device) l.initial.rest l.rest;
+  fewer : length l.rest ≤ length l.initial.rest;
+  unasked : length l.initial.rest ≡ 0 → l.w ≡ l.initial.w;
 }
 
 abbrev pub decreases-loop-rest : goal.decreases-loop-rest
