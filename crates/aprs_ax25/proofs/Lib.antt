@@ -8,3 +8,4 @@ pub mod Sounds
 pub mod Spellings
 pub mod UiFrames
 pub mod Making
+pub mod Least

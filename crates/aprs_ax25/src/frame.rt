@@ -144,6 +144,7 @@ impl Frame {
     pub fn bytes(&self) -> &[u8]
         ensures value { result.now ≡ self.now }
         ensures frame { FrameOf (parts_of self.now) self.now }
+        ensures least { 17 ≤ length result.now }
         ensures most { length result.now ≤ 328 }
     {
         self.bytes.as_slice()

@@ -14,20 +14,25 @@ use Rattle.aprs_log.specs.declared.fault.LineFault.TheVariants as fault
 use Rattle.aprs_log.specs.declared.fault.LogCause.{LogCause}
 use Rattle.aprs_log.specs.declared.fault.LogCause.TheVariants as cause
 use Rattle.aprs_io.specs.declared.input.Ending.{Ending}
+use Rattle.aprs_io.specs.declared.input.Ending.TheVariants as ending
 use Rattle.aprs_log.specs.declared.reader.ending.State.{State}
 use Rattle.aprs_log.specs.declared.reader.ending.State.TheVariants.{Reading, Ended, Failed}
-pub use Rattle.aprs_io.proofs.Inputs.{GetsWhole, gets_whole}
+pub use Rattle.aprs_io.proofs.Inputs.{Gets-nothing}
 use Rattle.aprs_io.proofs.Inputs.{Gets-after}
 use Rattle.aprs_log.proofs.LogAnswers.{answers_from-line, answers_from-tail, answers_from-long, no_lf}
 use Rattle.aprs_log.specs.declared.line.TheConstants.{MAX_LINE}
 
--- an answer that doesn't depend on the bytes to come
-always : (known end : Option (List ℕ)) (left line : ℕ) (held : List ℕ) (a : Answers)
+-- an answer that doesn't depend on the bytes to come, where no more is read
+always : (known : Option (List ℕ)) (left line : ℕ) (held : List ℕ) (a : Answers)
     → ((text : List ℕ) (c : Ending) → a ≡ answers_from (line + 1) (held ++ text) c)
-    → AwaitsIn Reading known end left line held a
-always None end left line held a h = tt
-always (Some input) end left line held a h = let g = gets_whole left input end in
-    record { text = g.text; ending = g.ending; gets = g.gets; is = h g.text g.ending }
+    → AwaitsIn Reading known known left line held a
+always None left line held a h = tt
+always (Some input) left line held a h = record {
+  text = [];
+  ending = ending.Read;
+  gets = Gets-nothing left input;
+  is = h [] ending.Read;
+}
 
 -- ---- a line
 
@@ -47,22 +52,23 @@ awaits_line (Some input) end left line held cut x a e f w = record {
       ∙ sym (answers_from-line (line + 1) held w.text w.ending cut e);
 }
 
-pub awaits_fault : (known end : Option (List ℕ)) (left line : ℕ) (held : List ℕ) (cut : Cut)
+pub awaits_fault : (known : Option (List ℕ)) (left line : ℕ) (held : List ℕ) (cut : Cut)
     (f : LineFault) → cut_at 10 held ≡ Some cut
     → Err f ≡ line_of cut.before
-    → AwaitsIn Reading known end left line held (end_with (Some (fault_after line (log_cause_of f))))
-awaits_fault known end left line held cut f e g = always known end left line held _
+    → AwaitsIn Reading known known left line held
+    (end_with (Some (fault_after line (log_cause_of f))))
+awaits_fault known left line held cut f e g = always known left line held _
     (λ text c. ap (λ r. then_answers (line + 1) r
     (answers_from (line + 1 + 1) (cut.after ++ text) c)) g
     ∙ sym (answers_from-line (line + 1) held text c cut e))
 
 -- ---- no whole line
 
-pub awaits_long : (known end : Option (List ℕ)) (left line : ℕ) (held : List ℕ)
+pub awaits_long : (known : Option (List ℕ)) (left line : ℕ) (held : List ℕ)
     → cut_at 10 held ≡ None
     → MAX_LINE < length held
-    → AwaitsIn Reading known end left line held (end_with (Some (fault_after line cause.LongLine)))
-awaits_long known end left line held none long = always known end left line held _
+    → AwaitsIn Reading known known left line held (end_with (Some (fault_after line cause.LongLine)))
+awaits_long known left line held none long = always known left line held _
     (λ text c. sym (answers_from-long (line + 1) held text c (no_lf held none) long))
 
 pub awaits_end : (known end : Option (List ℕ)) (left line : ℕ) (held : List ℕ) (c : Ending)
@@ -136,22 +142,25 @@ step_line s known end left line held now x cut a going e f rest w =
 pub step_fault : (s : State) (known end : Option (List ℕ)) (left line : ℕ) (held : List ℕ)
     (f : LineFault) (cut : Cut) (c : LogCause) (a : Answers) → s ≡ Reading
     → cut_at 10 held ≡ Some cut → Err f ≡ line_of cut.before → c ≡ log_cause_of f
-    → a ≡ end_with (Some (fault_after line c))
+    → (end ≡ known) × (a ≡ end_with (Some (fault_after line c)))
     → AwaitsIn s known end left line held a
 step_fault s known end left line held f cut c a going e g same is =
     going_on s known end left line held a going
-    (subst (λ a. AwaitsIn Reading known end left line held a)
-    (sym (is ∙ ap (λ c. end_with (Some (fault_after line c))) same))
-    (awaits_fault known end left line held cut f e g))
+    (subst (λ end. AwaitsIn Reading known end left line held a) (sym is.0)
+    (subst (λ a. AwaitsIn Reading known known left line held a)
+    (sym (is.1 ∙ ap (λ c. end_with (Some (fault_after line c))) same))
+    (awaits_fault known left line held cut f e g)))
 
 pub step_long : (s : State) (known end : Option (List ℕ)) (left line : ℕ) (held slice : List ℕ)
     (a : Answers) → s ≡ Reading
     → cut_at 10 held ≡ None → slice ≡ held → MAX_LINE < length slice
-    → a ≡ end_with (Some (fault_after line cause.LongLine)) → AwaitsIn s known end left line held a
+    → (end ≡ known) × (a ≡ end_with (Some (fault_after line cause.LongLine)))
+    → AwaitsIn s known end left line held a
 step_long s known end left line held slice a going none same long is =
     going_on s known end left line held a going
-    (subst (λ a. AwaitsIn Reading known end left line held a) (sym is)
-    (awaits_long known end left line held none (omega (arith, long, ap length same))))
+    (subst (λ end. AwaitsIn Reading known end left line held a) (sym is.0)
+    (subst (λ a. AwaitsIn Reading known known left line held a) (sym is.1)
+    (awaits_long known left line held none (omega (arith, long, ap length same)))))
 
 -- more bytes came
 pub record CameMore (known after : Option (List ℕ)) (held now : List ℕ) (n : ℕ) : Type 0 where
@@ -207,11 +216,10 @@ faults_keep fault.Hex c e k = cc
 pub something : (s : State) (known : Option (List ℕ)) (left line : ℕ) (held : List ℕ)
     → (a : Answers) × AwaitsIn s known known left line held a
 something Reading None left line held = (end_with None, tt)
-something Reading (Some input) left line held =
-    let g = gets_whole left input (Some input) in (
-      answers_from (line + 1) (held ++ g.text) g.ending,
-      record
-          { text = g.text; ending = g.ending; gets = g.gets; is = refl },
-    )
+something Reading (Some input) left line held = (
+  answers_from (line + 1) (held ++ []) ending.Read,
+  record
+      { text = []; ending = ending.Read; gets = Gets-nothing left input; is = refl },
+)
 something Ended known left line held = (end_with None, (refl, refl))
 something (Failed c) known left line held = (end_with (Some (fault_after line c)), (refl, refl))

@@ -1,15 +1,16 @@
 -- What contracts see of a reader of a log.
-use Rattle.std.specs.Prelude.{◌≡◌, ℕ, ◌+◌, Bool, true, false, List, Option, None, Some, Result, Ok, Err, IsTrue}
+use Rattle.std.specs.Prelude.{◌≡◌, ◌≢◌, ℕ, ◌+◌, Bool, true, false, List, Option, None, Some, Result, Ok, Err, IfErr, IsTrue}
 use Rattle.std.specs.Borrow.{GName}
 use Rattle.aprs_io.specs.declared.device.Counted.{Counted}
 use Rattle.aprs_log.specs.Awaits.{AwaitsIn, last_of_cause, stop_in}
 use Rattle.aprs_io.specs.Cut.{has_byte}
-use Rattle.aprs_io.specs.Device.{Last, Going, End}
+use Rattle.aprs_io.specs.Device.{Calls, Last, Going, End}
 use Rattle.aprs_log.specs.LogAnswers.{Answers, Gets, end_with, log_answers, prepend_line}
 use Rattle.aprs_log.specs.Window.{items}
 use Rattle.aprs_log.specs.declared.line.Line.{Line}
 use Rattle.aprs_log.specs.declared.line.Line.TheVariants as line
 use Rattle.aprs_log.specs.declared.fault.Reason.TheVariants.{NoFrame}
+use Rattle.aprs_log.specs.declared.fault.LogCause.TheVariants as cause
 use Rattle.aprs_log.specs.declared.fault.LogFault.{LogFault}
 use Rattle.aprs_io.specs.declared.input.Ending.{Ending}
 use Rattle.aprs_log.specs.declared.reader.LogReader.{LogReader}
@@ -75,12 +76,12 @@ abbrev pub answer_of_stop : Option LogFault → Result (Option Line) LogFault
 answer_of_stop None = Ok None
 answer_of_stop (Some fault) = Err fault
 
--- Whether a line is returned.
-abbrev pub returns_line : Result Bool LogFault → Bool
-returns_line (Ok is_line) = is_line
-returns_line (Err fault) = false
+-- The line that the reader keeps at this answer: the one that is answered, or else the one before.
+abbrev pub line_kept : Line → Result (Option Line) LogFault → Line
+line_kept before (Ok (Some x)) = x
+line_kept before other = before
 
--- What is answered, where the line lies in the reader.
+-- What is answered by whether there is a line, where that line lies in the reader.
 abbrev pub answer_with : Result Bool LogFault → Line → Result (Option Line) LogFault
 answer_with (Ok true) x = Ok (Some x)
 answer_with (Ok false) x = Ok None
@@ -103,3 +104,24 @@ GivesNext (Ok None) known old after new =
 GivesNext (Err fault) known old after new =
     (line_count_of new ≡ line_count_of old) × (stop_of new ≡ Some (Some fault))
     × Awaits known after old (end_with (Some fault))
+
+-- The reader goes from `old` to `new`, and gives its next answer. The answer is right, and some
+-- answers may always come. An error is in the line after those that were returned, and isn't
+-- `Memory`. The line that is answered is kept, and else the one before. A reader that has come to
+-- the end or to a fault answers that again, reads no more and stays so. One that hasn't reads
+-- nothing where it holds a whole line; and what it answers tells what its device answered last, so
+-- that it never asks again.
+pub record Advances {R : Type 0} (remaining : R → Option (List ℕ))
+    (answer : Result (Option Line) LogFault) (old new : LogReader R) : Type 0 where
+  pub gives : GivesNext answer (remaining (source_of old).device) old
+      (remaining (source_of new).device) new
+  pub awaits : (answers : Answers) × Awaits (remaining (source_of new).device)
+      (remaining (source_of new).device) new answers
+  pub fault : IfErr answer
+      (λ fault. (fault.line ≡ line_count_of new + 1) × (fault.cause ≢ cause.Memory))
+  pub current : current_of new ≡ line_kept (current_of old) answer
+  pub stays : (stop : Option LogFault) → stop_of old ≡ Some stop → (answer ≡ answer_of_stop stop)
+      × (stop_of new ≡ Some stop) × (source_of new ≡ source_of old)
+  pub unread : stop_of old ≡ None → HasLf (read_ahead_of old) → source_of new ≡ source_of old
+  pub same_reference : loan_of new ≡ loan_of old
+  pub calls : stop_of old ≡ None → Calls (last_told answer) (source_of old) (source_of new)

@@ -1,5 +1,5 @@
 //! A reader of a log's lines.
-ghost use Rattle.std.specs.Prelude.{◌≡◌, ◌≢◌, ◌+◌, ◌≤◌, ◌<◌, ◌++◌, ℕ, List, length, Option, None, Some, IfSome, IfErr, false};
+ghost use Rattle.std.specs.Prelude.{◌≡◌, ◌≢◌, ◌+◌, ◌≤◌, ◌<◌, ◌++◌, ℕ, List, length, Option, None, Some, IfSome};
 ghost use Rattle.aprs_io.specs.Input.{most_input};
 ghost use Rattle.aprs_log.specs.States.{KeepsMemory};
 ghost use Rattle.aprs_log.specs.Window.{items};
@@ -45,7 +45,7 @@ impl<'a, R: Read> LogReader<'a, R> {
     ghost use Rattle.aprs_log.specs.Reader as Spec;
 
     /// A reader of the log that begins with `head` and goes on with the bytes of `source`. It takes
-    /// at most `limit` bytes, the head among them. Requires that `limit` is at most `MAX_INPUT`,
+    /// at most `limit` bytes, the head among them, and one more where the log is `TooLong`. Requires that `limit` is at most `MAX_INPUT`,
     /// that the head has at most 8 bytes, and that it has no more than `limit`. It reads nothing
     /// yet, cannot fail, and takes no memory: it asks nothing of the allocator.
     pub fn new<A: Allocator + Copy>(
@@ -100,31 +100,10 @@ impl<'a, R: Read> LogReader<'a, R> {
 
     /// The next line, or `None` at the end, or the fault at which the log is read no further, with
     /// the number of its line. After a fault it answers that fault for good, and after the end
-    /// `None`, and reads no more. All lines before a fault are given first. Takes no memory.
+    /// `None`, and reads no more. All lines before a fault are given first. `current` then lends a
+    /// copy of the line, or the same line as before where none came. Takes no memory.
     pub fn next(&mut self) -> Result<Option<Line>, LogFault>
-        ensures gives { Spec.GivesNext result
-            (R.remaining (device_of (Spec.source_of self.old))) self.old
-            (R.remaining (device_of (Spec.source_of self.new))) self.new }
-        // Some answers may always come.
-        ensures awaits { (answers : Answers)
-            × Spec.Awaits (R.remaining (device_of (Spec.source_of self.new)))
-            (R.remaining (device_of (Spec.source_of self.new))) self.new answers }
-
-        ensures fault { IfErr result (λ fault. (fault.line ≡ Spec.line_count_of self.new + 1)
-            × (fault.cause ≢ LogCause.Memory)) }
-
-        // What it came to stays, and it reads no more.
-        ensures stays { (stop : Option LogFault) → Spec.stop_of self.old ≡ Some stop
-            → (result ≡ Spec.answer_of_stop stop) × (Spec.stop_of self.new ≡ Some stop)
-            × (Spec.source_of self.new ≡ Spec.source_of self.old) }
-        // A line that it holds whole is answered without a read.
-        ensures unread { Spec.stop_of self.old ≡ None → Spec.HasLf (Spec.read_ahead_of self.old)
-            → Spec.source_of self.new ≡ Spec.source_of self.old }
-        ensures same_reference { Spec.loan_of self.new ≡ Spec.loan_of self.old }
-        // What it answers tells what the device answered last: a fault at `Read`, the end where the
-        // input ended, and nothing else, so that it never asks again.
-        ensures calls { Spec.stop_of self.old ≡ None
-            → Calls (Spec.last_told result) (Spec.source_of self.old) (Spec.source_of self.new) }
+        ensures { Spec.Advances R.remaining result self.old self.new }
     {
         match self.advance() {
             Ok(true) => Ok(Some(self.current.copy())),
@@ -137,34 +116,8 @@ impl<'a, R: Read> LogReader<'a, R> {
     /// Returns `true` where there is a line, `false` at the end, or the fault at which the log is
     /// read no further; at the last two `current` stays. Takes no memory.
     pub fn advance(&mut self) -> Result<bool, LogFault>
-        ensures gives { Spec.GivesNext (Spec.answer_with result (Spec.current_of self.new))
-            (R.remaining (device_of (Spec.source_of self.old))) self.old
-            (R.remaining (device_of (Spec.source_of self.new))) self.new }
-        // Some answers may always come.
-        ensures awaits { (answers : Answers)
-            × Spec.Awaits (R.remaining (device_of (Spec.source_of self.new)))
-            (R.remaining (device_of (Spec.source_of self.new))) self.new answers }
-
-        ensures fault { IfErr result (λ fault. (fault.line ≡ Spec.line_count_of self.new + 1)
-            × (fault.cause ≢ LogCause.Memory)) }
-
-        // Where no line comes, the last one stays.
-        ensures keeps { Spec.returns_line result ≡ false
-            → Spec.current_of self.new ≡ Spec.current_of self.old }
-        // What it came to stays, and it reads no more.
-        ensures stays { (stop : Option LogFault) → Spec.stop_of self.old ≡ Some stop
-            → (Spec.answer_with result (Spec.current_of self.new) ≡ Spec.answer_of_stop stop)
-            × (Spec.stop_of self.new ≡ Some stop)
-            × (Spec.source_of self.new ≡ Spec.source_of self.old) }
-        // A line that it holds whole is answered without a read.
-        ensures unread { Spec.stop_of self.old ≡ None → Spec.HasLf (Spec.read_ahead_of self.old)
-            → Spec.source_of self.new ≡ Spec.source_of self.old }
-        ensures same_reference { Spec.loan_of self.new ≡ Spec.loan_of self.old }
-        // What it answers tells what the device answered last: a fault at `Read`, the end where the
-        // input ended, and nothing else, so that it never asks again.
-        ensures calls { Spec.stop_of self.old ≡ None
-            → Calls (Spec.last_told (Spec.answer_with result (Spec.current_of self.new)))
-            (Spec.source_of self.old) (Spec.source_of self.new) }
+        ensures { Spec.Advances R.remaining
+            (Spec.answer_with result (Spec.current_of self.new)) self.old self.new }
     {
         loop {
             match self.state {

@@ -1,5 +1,5 @@
 //! Receptions.
-ghost use Rattle.std.specs.Prelude.{◌≡◌, Ok, Err, OnOk, IfErr};
+ghost use Rattle.std.specs.Prelude.{◌≡◌, Ok, Err, OnOk, OnErr, IfErr};
 ghost use Rattle.std.specs.Ordering.{as_partial_cmp};
 ghost use Rattle.std.proofs.Common.{rules};
 ghost use Rattle.std.specs.Cmp.{partial_order_from_own_ties};
@@ -51,9 +51,10 @@ impl Reception {
         bytes: &[u8],
     ) -> Result<(), FrameFault>
         ensures heard { OnOk result (frame_of bytes.now ≡ Ok self.new.frame) }
-        ensures moment { OnOk result (self.new.moment ≡ moment) }
-        ensures receiver { OnOk result (self.new.receiver ≡ receiver) }
+        ensures moment { self.new.moment ≡ moment }
+        ensures receiver { self.new.receiver ≡ receiver }
         ensures fault { IfErr result (λ fault. frame_of bytes.now ≡ Err fault) }
+        ensures unchanged { OnErr result (self.new.frame ≡ self.old.frame) }
     {
         self.moment = moment;
         self.receiver = receiver;

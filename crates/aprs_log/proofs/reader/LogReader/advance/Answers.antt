@@ -1,11 +1,39 @@
+use Rattle.std.proofs.Common.{rules}
 use Rattle.aprs_log.proofs.Awaiting.{something}
 use Rattle.aprs_log.proofs.reader.LogReader.advance.Goals as goal
 
-pub returns-in-Ended-clause-awaits : goal.returns-in-Ended-clause-awaits
-returns-in-Ended-clause-awaits g c = something _ _ _ _ _
+pub returns-in-Ended : goal.returns-in-Ended
+returns-in-Ended g c = record {
+  gives = search rules;
+  awaits = something _ _ _ _ _;
+  fault = search rules;
+  current = search rules;
+  stays = search rules;
+  unread = search rules;
+  same_reference = search rules;
+  calls = search rules;
+}
 
-pub returns-in-Failed-clause-awaits : goal.returns-in-Failed-clause-awaits
-returns-in-Failed-clause-awaits g c = something _ _ _ _ _
+pub returns-in-Failed : goal.returns-in-Failed
+returns-in-Failed g c = record {
+  gives = search rules;
+  awaits = something _ _ _ _ _;
+  fault = search rules;
+  current = search rules;
+  stays = search rules;
+  unread = search rules;
+  same_reference = search rules;
+  calls = search rules;
+}
 
-pub returns-then-step-clause-awaits : goal.returns-then-step-clause-awaits
-returns-then-step-clause-awaits g c = something _ _ _ _ _
+pub returns-then-step : goal.returns-then-step
+returns-then-step g c = record {
+  gives = search rules;
+  awaits = something _ _ _ _ _;
+  fault = search rules;
+  current = search rules;
+  stays = search rules;
+  unread = search rules;
+  same_reference = search rules;
+  calls = search rules;
+}

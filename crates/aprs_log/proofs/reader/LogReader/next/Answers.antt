@@ -1,9 +1,9 @@
+use Rattle.std.proofs.Common.{Ok, Some, subst, sym}
+use Rattle.aprs_log.specs.Reader.{Advances}
+use Rattle.aprs_log.specs.declared.line.Line.{Line}
 use Rattle.aprs_log.proofs.reader.LogReader.next.Goals as goal
 
-pub returns-in-Ok-true-clause-stays : goal.returns-in-Ok-true-clause-stays
-returns-in-Ok-true-clause-stays g c stop is =
-    let s = c.advance.ensures.stays stop is in (cc (c.copy.ensures, s.0), s.1, s.2)
-
-pub returns-in-Ok-false-clause-stays : goal.returns-in-Ok-false-clause-stays
-returns-in-Ok-false-clause-stays g c stop is =
-    let s = c.advance.ensures.stays stop is in (cc s.0, s.1, s.2)
+pub returns-in-Ok-true : goal.returns-in-Ok-true
+returns-in-Ok-true g c = subst
+    (λ (x : Line). Advances g.R.Read.remaining (Ok (Some x)) c.args.self.now c.advance.new.self)
+    (sym c.copy.ensures) (rw c.in-Ok-true.field-0-test at c.in-Ok-true.ensures)

@@ -9,7 +9,7 @@ pub returns-then-as_slice-gt-MAX_LINE-clause-moves
     : goal.returns-then-as_slice-gt-MAX_LINE-clause-moves
 returns-then-as_slice-gt-MAX_LINE-clause-moves g c end a w =
     step_long _ _ end _ _ _ c.as_slice.result.now a c.requires.going c.requires.none
-    c.as_slice.ensures.value c.if-as_slice-gt-MAX_LINE.true w.1
+    c.as_slice.ensures.value c.if-as_slice-gt-MAX_LINE.true w
 
 pub returns-in-Ok-clause-moves : goal.returns-in-Ok-clause-moves
 returns-in-Ok-clause-moves g c end a =

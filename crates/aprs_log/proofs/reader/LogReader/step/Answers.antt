@@ -26,7 +26,7 @@ returns-in-Some-Err-clause-none g c =
       refl,
       search rules,
       λ end a w. step_fault _ _ end _ _ _ c.in-Some-Err.fault t.0 c.from.result a c.requires t.1
-          (ap (λ r. line_in r found) (sym c.in-Some-Err.field-0-is) ∙ t.2) c.from.ensures w.1,
+          (ap (λ r. line_in r found) (sym c.in-Some-Err.field-0-is) ∙ t.2) c.from.ensures w,
     )
 
 pub returns-in-None-clause-unread : goal.returns-in-None-clause-unread
