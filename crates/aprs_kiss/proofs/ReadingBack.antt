@@ -34,7 +34,7 @@ no_end_of_byte b =
       ]
     ]
 
-no_end : (bytes : List ℕ) → HasNoEnd (spelling_of bytes)
+pub no_end : (bytes : List ℕ) → HasNoEnd (spelling_of bytes)
 unfolding spelling_of
 no_end [] = HasNoEnd-nil
 no_end (b ∷ bytes) =

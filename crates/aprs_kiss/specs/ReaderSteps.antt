@@ -1,15 +1,19 @@
 -- What the steps of a KISS reader return. No public clause cites this module.
-use Rattle.std.specs.Prelude.{ℕ, List, [], ◌∷◌, drop, Option, None, Some, Result, Ok, Err}
+use Rattle.std.specs.Prelude.{◌≡◌, ℕ, ◌<◌, List, [], ◌∷◌, length, drop, Option, None, Some, Result, Ok, Err}
 use Rattle.aprs_kiss.specs.Judgement.{Judgement}
 use Rattle.aprs_kiss.specs.declared.fault.PassFault.{PassFault}
 use Rattle.aprs_kiss.specs.declared.reader.State.{State}
-use Rattle.aprs_kiss.specs.declared.reader.State.TheVariants.{Escape, LongEscape}
+use Rattle.aprs_kiss.specs.declared.reader.State.TheVariants.{Plain, Escape, LongEscape}
 
 -- The judgement that an outcome reports, where the buffer holds a frame after its type byte.
 abbrev pub judgements_of_outcome : Option (Result ℕ PassFault) → List ℕ → List Judgement
 judgements_of_outcome None held = []
 judgements_of_outcome (Some (Ok port)) held = Ok (record { port = port; bytes = drop 1 held }) ∷ []
 judgements_of_outcome (Some (Err fault)) held = Err fault ∷ []
+
+-- A piece that spells its bytes holds some.
+abbrev pub HoldsSome : State → List ℕ → Type 0
+HoldsSome state held = state ≡ Plain → 0 < length held
 
 -- An escape has begun.
 abbrev pub IsOpen : State → Type 0

@@ -1,6 +1,10 @@
 //! What holds of KISS streams whatever calls are made. These functions do nothing: a caller that
 //! makes such a call knows what it ensures.
+ghost use Rattle.std.specs.Prelude.{ℕ, List};
 ghost use Rattle.aprs_kiss.specs.Laws as Spec;
+ghost use Rattle.aprs_kiss.specs.Reader.{StandsAfter};
+
+use crate::reader::KissReader;
 
 /// No two lists of bytes are sent alike, and each nonempty piece of a stream has exactly one
 /// judgement.
@@ -13,6 +17,12 @@ pub fn each_piece_is_judged_once()
 pub fn a_stream_is_its_pieces()
     ensures joined { Spec.MadeOfPieces }
     ensures cut { Spec.CutAtEachEnd }
+{}
+
+/// There are bytes that a reader may have been fed since the last frame end, whatever was done with
+/// it before.
+pub fn a_reader_stands_after_some_bytes(_reader: &KissReader)
+    ensures { (before : List ℕ) × StandsAfter _reader.now before }
 {}
 
 /// Bytes without a frame end aren't judged until a frame end follows, and then nothing is left of

@@ -5,14 +5,11 @@ ghost use Rattle.std.specs.Borrow.{sem};
 ghost use Rattle.std.specs.Option.{option_map, option_and_then};
 ghost use Rattle.std.specs.Io.BufRead.{Rests};
 ghost use Rattle.aprs_kiss.specs.Judgement.{judgement_of, data_frame_of};
-ghost use Rattle.aprs_kiss.specs.Reader.{StandsAfter};
-ghost use Rattle.aprs_kiss.specs.ReaderSteps.{IsOpen, IsClosed, judgements_of_outcome};
-ghost use Rattle.aprs_kiss.specs.Answer.{IsWithinBounds, judgements_in};
+ghost use Rattle.aprs_kiss.specs.ReaderSteps.{IsOpen, IsClosed, HoldsSome, judgements_of_outcome};
 ghost use Rattle.aprs_kiss.specs.Plain.{IsPlain, is_special};
 ghost use Rattle.aprs_kiss.specs.Spelling.{HasNoEnd};
 ghost use Rattle.aprs_kiss.specs.Unspelling.{spelled_bytes};
 ghost use Rattle.aprs_kiss.specs.Stream.{EndsPiece, judgements_of, rest_of};
-ghost use Rattle.aprs_kiss.specs.contracts.reader.KissReader.{the_row};
 
 use crate::fault::PassFault;
 use crate::spelling::{FEND, FESC, TFEND, TFESC, cut_plain};
@@ -55,9 +52,14 @@ enum State {
 pub struct KissReader {
     bytes: ArrayVec<u8, MAX_FRAME>,
     state: State,
+    ghost some: { HoldsSome state bytes.items },
 }
 
 impl KissReader {
+    ghost use Rattle.aprs_kiss.specs.Reader.{StandsAfter};
+    ghost use Rattle.aprs_kiss.specs.Answer.{IsWithinBounds, judgements_in};
+    ghost use Rattle.aprs_kiss.specs.contracts.reader.KissReader.{the_row};
+
     /// A reader at the beginning of a stream. Takes no memory.
     pub fn new() -> Self
         ensures { StandsAfter result [] }
@@ -223,6 +225,7 @@ impl KissReader {
     /// Adds bytes to the end of the buffer. Without room for all of them none is added, and the
     /// piece is too long.
     fn append(&mut self, bytes: &[u8])
+        requires { 0 < length self.old.bytes.items + length bytes.now }
         // `all` is the piece with these bytes: it spells what the buffer held, and then `bytes`.
         ensures stands { (all : List ℕ) → HasNoEnd all → 0 < length all
             → spelled_bytes all ≡ Some (self.old.bytes.items ++ bytes.now)
