@@ -45,9 +45,10 @@ impl<'a, R: Read> LogReader<'a, R> {
     ghost use Rattle.aprs_log.specs.Reader as Spec;
 
     /// A reader of the log that begins with `head` and goes on with the bytes of `source`. It takes
-    /// at most `limit` bytes, the head among them, and one more where the log is `TooLong`. Requires that `limit` is at most `MAX_INPUT`,
-    /// that the head has at most 8 bytes, and that it has no more than `limit`. It reads nothing
-    /// yet, cannot fail, and takes no memory: it asks nothing of the allocator.
+    /// at most `limit` bytes, the head among them, and one more where the log is `TooLong`.
+    /// Requires that `limit` is at most `MAX_INPUT`, that the head has at most 8 bytes, and that it
+    /// has no more than `limit`. It reads nothing yet, cannot fail, and takes no memory: it asks
+    /// nothing of the allocator.
     pub fn new<A: Allocator + Copy>(
         _alloc: A,
         limit: u64,
