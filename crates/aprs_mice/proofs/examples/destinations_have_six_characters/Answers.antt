@@ -9,6 +9,7 @@ unfolding mic_e_of destination_of position_mark_of ambiguity_of longitude_of mot
 returns c = record {
   nine_as_custom = computed refl;
   nine_as_digit = computed refl;
+  nought_as_custom = computed refl;
   misses_between = missed refl;
   misses_before_standard = missed refl;
   misses_after_standard = missed refl;
