@@ -44,11 +44,11 @@ pub enum MicEMessage {
 }
 
 impl MicEMessage {
-    ghost use Rattle.aprs_mice.specs.MicEMessage.{name_of};
+    ghost use Rattle.aprs_mice.specs.MicEMessage.{message_name};
 
     /// The message's name in lower case, as `off-duty`, `custom-0` or `unknown`. Takes no memory.
     pub fn name(self) -> &'static str
-        ensures { result.now ≡ name_of self }
+        ensures { result.now ≡ message_name self }
     {
         match self {
             MicEMessage::OffDuty => "off-duty",
