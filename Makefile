@@ -48,8 +48,10 @@ test: words recipes
 	RT_JOBS=$(LANES) rt ci
 
 # the manual page and the completions name what the program has, the documents what the crates have, the
-# reading list is that of the sources, and the scripts are in order
+# reading list is that of the sources, the version is one, and the scripts and packaging/system.c are in
+# order
 words:
+	tests/version.sh
 	tests/words.sh
 	tests/names.sh
 	tests/map.sh
@@ -57,6 +59,7 @@ words:
 	tests/library.sh
 	tests/completions.sh
 	tests/scripts.sh
+	tests/system_c.sh
 
 # the map in docs/architecture.md, drawn anew
 map:
@@ -68,19 +71,22 @@ reading:
 	build/reading.py
 
 # what is tried with the program: the README's example, the old club's book, gaps, outputs that take
-# nothing, what happens to logs and books, each awk, the packages
-TRIED = readme old_book gaps full_output logs books awks packages
+# nothing, what happens to logs and books, the units, each awk, the packages, and the same program on
+# other machines
+TRIED = readme old_book gaps full_output logs books units awks version packages everywhere
 tried = $(foreach it,$(TRIED),tests/$(it).sh $(PROGRAM) &&)
 
 # these, and the recipes that need only a POSIX system, where a program is there that is newer than
 # its sources; each says what it leaves out because a tool isn't there
 recipes:
 	@if [ -x $(PROGRAM) ] && [ -z "$$(find crates -name '*.rt' -newer $(PROGRAM))" ]; then \
+	    $(MAKE) --no-print-directory elsewhere && \
 	    $(tried) examples/cookbook.sh --posix $(PROGRAM); \
 	else echo 'left out: the recipes of the cookbook, since no program is built (make build)'; fi
 
 # these, and every recipe of the cookbook whose tools are there
 cookbook: build
+	@$(MAKE) --no-print-directory elsewhere
 	$(tried) examples/cookbook.sh $(PROGRAM)
 
 bench: build

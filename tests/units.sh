@@ -24,8 +24,8 @@ if has 'systemd-analyze verify' systemd-analyze; then
     done
 fi
 
-# command UNIT: what the unit gives to the shell, once systemd has read $$ and %%
-command() { sed -n "s/^ExecStart=.*-c '\(.*\)' .*/\1/p" "$recipes/$1" | sed 's/\$\$/$/g; s/%%/%/g'; }
+# command_of UNIT: what the unit gives to the shell, once systemd has read $$ and %%
+command_of() { sed -n "s/^ExecStart=.*-c '\(.*\)' .*/\1/p" "$recipes/$1" | sed 's/\$\$/$/g; s/%%/%/g'; }
 # settings UNIT: what the unit and the file below /etc set, as the shell reads it
 settings() {
     sed -n 's/^Environment=PATH=[^ ]* //p' "$recipes/$1" | tr -d '"' | sed 's/\([A-Z_]*=--.*\)/"\1"/'
@@ -44,7 +44,7 @@ calls() {
     shift 2
     rm -f called
     # shellcheck disable=SC2046 # one setting a word
-    env $(settings "$unit") sh -c "$(command "$unit")" "$instance" < /dev/null
+    env $(settings "$unit") sh -c "$(command_of "$unit")" "$instance" < /dev/null
     printf '%s\n' "$@" | sort > expected
     sort called | cmp - expected || fail "$unit as $instance calls: $(cat called)"
 }
@@ -64,7 +64,7 @@ rm bin/nc bin/aprs-log bin/aprs-listen
 
 if has 'what aprs-log@.service runs' nc stdbuf timeout; then
     aprsbook convert kiss hill.log > heard.kiss
-    run=$(command aprs-log@.service | sed 's/-w 900/-w 1/')
+    run=$(command_of aprs-log@.service | sed 's/-w 900/-w 1/')
     (cat heard.kiss; sleep 8) | nc -l 127.0.0.1 8127 > sent & other=$!
     # until the other end listens
     until cat logs/*/RX1.log > said 2>&1; do
@@ -82,7 +82,7 @@ fi
 if has 'what net-page.service runs' python3; then
     mkdir -p logs/2024-06-21
     cp hill.log logs/2024-06-21/HILL.log
-    DAYS=2024-06-21 sh -c "$(command net-page.service)" net-now --title 'Tuesday net' --live 60 ||
+    DAYS=2024-06-21 sh -c "$(command_of net-page.service)" net-now --title 'Tuesday net' --live 60 ||
         fail 'net-page.service makes no page'
     aprsbook merge hill.log | cmp - page/net.book || fail 'the book of the page is another'
     grep -q '<title>Tuesday net' page/index.html || fail 'the page has another title'
