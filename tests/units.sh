@@ -19,7 +19,7 @@ for unit in "$recipes"/*.service; do
 done
 if has 'systemd-analyze verify' systemd-analyze; then
     for unit in "$recipes"/*.service "$recipes"/*.timer; do
-        systemd-analyze verify "$unit" > said 2>&1 || fail "$unit: $(cat said)"
+        systemd-analyze verify --man=no "$unit" > said 2>&1 || fail "$unit: $(cat said)"
         [ ! -s said ] || fail "$unit: $(cat said)"
     done
 fi
