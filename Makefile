@@ -118,16 +118,16 @@ out/arm64/%: out/arm64/%.o packaging/system.c packaging/link
 	packaging/link arm64 shared $< $@
 out/arm64/%.o: $(BUILT) packaging/prove-for
 	$(call there,build,$(BUILT))
+	packaging/link arm64
 	packaging/prove-for aarch64-unknown-linux-gnu $(call crate,$*) $@
 $(BUILT):
 	$(call there,build,$(BUILT))
 
 # the same programs without shared libraries, which any Linux runs; for ARM where its compiler is there
 static: $(PROGRAMS:%=out/static/amd64/%)
-	@if command -v aarch64-linux-gnu-gcc > /dev/null; then \
+	@if packaging/link arm64 2> /dev/null; then \
 	    $(MAKE) --no-print-directory $(PROGRAMS:%=out/static/arm64/%); \
-	else echo 'left out: static programs for ARM (Debian: apt install gcc-aarch64-linux-gnu' \
-	    'libc6-dev-arm64-cross)'; fi
+	else echo "left out: static programs for ARM ($$(packaging/link arm64 2>&1))"; fi
 out/static/amd64/%: $(BUILT) packaging/system.c packaging/link
 	packaging/link amd64 static crates/$(call crate,$*)/out/$(call crate,$*).o $@
 out/static/arm64/%: out/arm64/%.o packaging/system.c packaging/link
@@ -136,10 +136,10 @@ out/static/arm64/%: out/arm64/%.o packaging/system.c packaging/link
 
 # those of them whose tools are there
 elsewhere:
-	@if ! command -v gcc > /dev/null; then echo 'left out: static programs (needs gcc)'; \
-	else $(MAKE) --no-print-directory static; \
-	    if command -v aarch64-linux-gnu-gcc > /dev/null; then \
-	        $(MAKE) --no-print-directory arm64; fi; fi
+	@if packaging/link amd64; then $(MAKE) --no-print-directory static; \
+	else echo 'left out: static programs'; fi
+	@if packaging/link arm64; then $(MAKE) --no-print-directory arm64; \
+	else echo 'left out: programs for ARM'; fi
 
 # ---- what follows builds nothing, so that no root runs a prover ----
 
