@@ -169,4 +169,4 @@ release:
 	for arch in amd64 arm64; do \
 	    $(MAKE) --no-print-directory deb tarball ARCH=$$arch OUT=out/release || exit 1; done
 	$(if $(PAGES),cp $(PAGES) out/release)
-	cd out/release && sha256sum * > SHA256SUMS
+	cd out/release && sums=$$(sha256sum *) && printf '%s\n' "$$sums" > SHA256SUMS

@@ -92,7 +92,7 @@ twice() {
 if has 'make tarball' tar; then
     twice make-tarball amd64 "$program"
     tar -xzf make-tarball-amd64/*.tar.gz
-    "aprsbook-$version/install.sh" "$PWD/prefix"
+    for turn in first second; do "aprsbook-$version/install.sh" prefix; done
     diff -r --no-dereference installed prefix || fail 'the tar file has other files than make install'
     runs prefix
     # the cookbook that was unpacked with it
