@@ -92,7 +92,9 @@ twice() {
 if has 'make tarball' tar; then
     twice make-tarball amd64 "$program"
     tar -xzf make-tarball-amd64/*.tar.gz
-    for turn in first second; do "aprsbook-$version/install.sh" prefix; done
+    # and again, over itself
+    "aprsbook-$version/install.sh" prefix
+    "aprsbook-$version/install.sh" prefix
     diff -r --no-dereference installed prefix || fail 'the tar file has other files than make install'
     runs prefix
     # the cookbook that was unpacked with it
