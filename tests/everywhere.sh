@@ -85,28 +85,26 @@ done
 
 # ---- little memory: 100 MB, which a log of a million lines outgrows in a merge ----
 
-long_log() {
-    awk 'BEGIN {
-        for (i = 0; i < 1000000; i++)
-            printf "2024-05-%02dT%02d:%02d:%02dZ RX1 %s\n", 1 + int(i / 86400), i / 3600 % 24, i / 60 % 60,
-                i % 60, "c00082a0a4a64040e09c60868298986f03f03e4869c0"
-    }' 2>&1
-}
-# short PROGRAM STATUS WORD..: with so little it ends with that status
+awk 'BEGIN {
+    for (i = 0; i < 1000000; i++)
+        printf "2024-05-%02dT%02d:%02d:%02dZ RX1 %s\n", 1 + int(i / 86400), i / 3600 % 24, i / 60 % 60,
+            i % 60, "c00082a0a4a64040e09c60868298986f03f03e4869c0"
+}' > long.log
+# short STATUS PROGRAM WORD..: with so little it ends with that status
 short() {
-    it=$1 wanted=$2 status=0
-    shift 2
+    wanted=$1 status=0
+    shift
     # shellcheck disable=SC3045 # not of POSIX, but of each shell of Debian
-    long_log | (ulimit -v 100000 && exec "$it" "$@") > short.out 2> short.said || status=$?
-    [ $status = "$wanted" ] || fail "$it $* in 100 MB ended with $status: $(cat short.said)"
+    (ulimit -v 100000 && exec "$@" long.log) > short.out 2> short.said || status=$?
+    [ $status = "$wanted" ] || fail "$* in 100 MB ended with $status: $(cat short.said)"
     [ $status = 0 ] || [ "$(cat short.said)" = 'aprsbook: out of memory' ] ||
-        fail "$it $* in 100 MB says: $(cat short.said)"
+        fail "$* in 100 MB says: $(cat short.said)"
 }
 for it in "$program" programs/static-amd64/aprsbook; do
     [ -x "$it" ] || continue
-    short "$it" 0 check
-    short "$it" 0 convert kind
-    short "$it" 4 merge
-    short "$it" 4 show
+    short 0 "$it" check
+    short 0 "$it" convert kind
+    short 4 "$it" merge
+    short 4 "$it" show
 done
 if [ -n "$running" ]; then echo 'the programs for other machines answer as this one'; fi
