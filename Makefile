@@ -2,8 +2,15 @@
 PREFIX ?= /usr/local
 PROGRAM = crates/aprsbook/out/aprsbook
 
+# the programs that are installed and packed: each has a crate (with _ for -), a manual page and
+# completions of its name
+PROGRAMS = aprsbook
+crate = $(subst -,_,$(1))
+# as `make build` made them
+BUILT = $(foreach it,$(PROGRAMS),crates/$(call crate,$(it))/out/$(call crate,$(it)))
+
 .PHONY: build libraries run try test words map reading recipes cookbook bench hostile
-.PHONY: built install uninstall deb tarball
+.PHONY: arm64 static elsewhere install uninstall deb tarball release
 
 # how many checks run side by side: as many as there are processors, each with 3 GB of free memory
 LANES ?= $(shell awk -v n=$$(nproc) '/MemAvailable/ { most = int($$2 / 3000000) } \
@@ -41,8 +48,10 @@ test: words recipes
 	RT_JOBS=$(LANES) rt ci
 
 # the manual page and the completions name what the program has, the documents what the crates have, the
-# reading list is that of the sources, and the scripts are in order
+# reading list is that of the sources, the version is one, and the scripts and packaging/system.c are in
+# order
 words:
+	tests/version.sh
 	tests/words.sh
 	tests/names.sh
 	tests/map.sh
@@ -50,6 +59,7 @@ words:
 	tests/library.sh
 	tests/completions.sh
 	tests/scripts.sh
+	tests/system_c.sh
 
 # the map in docs/architecture.md, drawn anew
 map:
@@ -61,19 +71,22 @@ reading:
 	build/reading.py
 
 # what is tried with the program: the README's example, the old club's book, gaps, outputs that take
-# nothing, what happens to logs and books, each awk, the packages
-TRIED = readme old_book gaps full_output logs books awks packages
+# nothing, what happens to logs and books, the units, each awk, the packages, and the same program on
+# other machines
+TRIED = readme old_book gaps full_output logs books units awks version packages everywhere
 tried = $(foreach it,$(TRIED),tests/$(it).sh $(PROGRAM) &&)
 
 # these, and the recipes that need only a POSIX system, where a program is there that is newer than
 # its sources; each says what it leaves out because a tool isn't there
 recipes:
 	@if [ -x $(PROGRAM) ] && [ -z "$$(find crates -name '*.rt' -newer $(PROGRAM))" ]; then \
+	    $(MAKE) --no-print-directory elsewhere && \
 	    $(tried) examples/cookbook.sh --posix $(PROGRAM); \
 	else echo 'left out: the recipes of the cookbook, since no program is built (make build)'; fi
 
 # these, and every recipe of the cookbook whose tools are there
 cookbook: build
+	@$(MAKE) --no-print-directory elsewhere
 	$(tried) examples/cookbook.sh $(PROGRAM)
 
 bench: build
@@ -90,22 +103,70 @@ net: build
 hostile: build
 	bench/hostile.sh $(PROGRAM)
 
-# what follows needs the program and builds nothing, so that no root runs a prover
-built:
-	@if [ ! -x $(PROGRAM) ]; then echo 'there is no program yet: make build' >&2; exit 1; fi
+# ---- for other machines, once `make build` made the programs ----
 
-install: built
-	packaging/put-into '$(DESTDIR)$(PREFIX)' $(PROGRAM)
-
-# what install has put there; folders that other programs use too are left
-uninstall:
-	cd '$(DESTDIR)$(PREFIX)' && rm -rf bin/aprsbook share/man/man1/aprsbook.1 share/aprsbook \
-	    share/bash-completion/completions/aprsbook share/zsh/site-functions/_aprsbook \
-	    share/fish/vendor_completions.d/aprsbook.fish
-
-# a package of Debian, and a tar file to unpack into a PREFIX, in the folder OUT
+# what goes with what was made there, in the folder OUT
 OUT = out
-deb: built
-	packaging/make-deb $(PROGRAM) '$(OUT)'
-tarball: built
-	packaging/make-tarball $(PROGRAM) '$(OUT)'
+# there TARGET,FILE..: the programs are there, or it is said what makes them
+there = @for it in $(2); do if [ ! -x "$$it" ]; then \
+    echo "there is no program $$it yet: make $(1)" >&2; exit 1; fi; done
+
+# the programs for 64-bit ARM, such as a Raspberry Pi, proved again for that processor
+ARM = $(PROGRAMS:%=out/arm64/%)
+arm64: $(ARM)
+out/arm64/%: out/arm64/%.o packaging/system.c packaging/link
+	packaging/link arm64 shared $< $@
+out/arm64/%.o: $(BUILT) packaging/prove-for
+	$(call there,build,$(BUILT))
+	packaging/link arm64
+	packaging/prove-for aarch64-unknown-linux-gnu $(call crate,$*) $@
+$(BUILT):
+	$(call there,build,$(BUILT))
+
+# the same programs without shared libraries, which any Linux runs; for ARM where its compiler is there
+static: $(PROGRAMS:%=out/static/amd64/%)
+	@if packaging/link arm64 2> /dev/null; then \
+	    $(MAKE) --no-print-directory $(PROGRAMS:%=out/static/arm64/%); \
+	else echo "left out: static programs for ARM ($$(packaging/link arm64 2>&1))"; fi
+out/static/amd64/%: $(BUILT) packaging/system.c packaging/link
+	packaging/link amd64 static crates/$(call crate,$*)/out/$(call crate,$*).o $@
+out/static/arm64/%: out/arm64/%.o packaging/system.c packaging/link
+	packaging/link arm64 static $< $@
+.PRECIOUS: out/arm64/%.o
+
+# those of them whose tools are there
+elsewhere:
+	@if packaging/link amd64; then $(MAKE) --no-print-directory static; \
+	else echo 'left out: static programs'; fi
+	@if packaging/link arm64; then $(MAKE) --no-print-directory arm64; \
+	else echo 'left out: programs for ARM'; fi
+
+# ---- what follows builds nothing, so that no root runs a prover ----
+
+install:
+	$(call there,build,$(BUILT))
+	packaging/put-into '$(DESTDIR)$(PREFIX)' $(BUILT)
+
+uninstall:
+	packaging/take-from '$(DESTDIR)$(PREFIX)' $(BUILT)
+
+# a package of Debian, for amd64 or ARCH=arm64
+ARCH = amd64
+deb:
+	$(call there,$(if $(filter arm64,$(ARCH)),arm64,build),$(if $(filter arm64,$(ARCH)),$(ARM),$(BUILT)))
+	packaging/make-deb '$(ARCH)' '$(OUT)' $(if $(filter arm64,$(ARCH)),$(ARM),$(BUILT))
+
+# a tar file of the static programs, with what puts it in place
+tarball:
+	$(call there,static,$(PROGRAMS:%=out/static/$(ARCH)/%))
+	packaging/make-tarball '$(ARCH)' '$(OUT)' $(PROGRAMS:%=out/static/$(ARCH)/%)
+
+# all that a release has, in out/release: packages and tar files for both processors, the pages that
+# were made, and sums. The same commit gives the same bytes, in any folder and on any day.
+PAGES = $(wildcard out/aprsbook.html)
+release:
+	rm -rf out/release
+	for arch in amd64 arm64; do \
+	    $(MAKE) --no-print-directory deb tarball ARCH=$$arch OUT=out/release || exit 1; done
+	$(if $(PAGES),cp $(PAGES) out/release)
+	cd out/release && sums=$$(sha256sum *) && printf '%s\n' "$$sums" > SHA256SUMS

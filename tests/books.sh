@@ -1,5 +1,5 @@
 #!/bin/sh
-# Tries what happens to books: gap-of, fold-in, days.mk, the crontab line, the units, merge-driver,
+# Tries what happens to books: gap-of, fold-in, days.mk, the crontab line, merge-driver,
 # book-to-sqlite and merge-tree. Needs a POSIX system and mktemp, and says what it leaves out
 # because a tool isn't there.
 # usage: tests/books.sh PROGRAM
@@ -190,36 +190,6 @@ if has days.mk make timeout; then
         /bin/sh -c "$(printf '%s\n' "$line" | sed "s,/var/lib/aprs,$scratch/net,")" ||
         fail 'the line of the crontab fails'
     same net/net.book all.30
-fi
-
-# ---- units ----
-
-for unit in "$recipes"/aprs-*.service; do
-    grep -q '^Environment=PATH=/usr/local' "$unit" || fail "$unit doesn't find the program"
-    grep -q '^After=.*time-sync.target' "$unit" || fail "$unit doesn't wait for the clock"
-    grep -q 'useradd .*aprs' "$unit" || fail "$unit doesn't say which user to make"
-done
-if has 'systemd-analyze verify' systemd-analyze; then
-    for unit in "$recipes"/aprs-log@.service "$recipes"/aprs-book.*; do
-        systemd-analyze verify "$unit" > said 2>&1 || fail "$unit: $(cat said)"
-        [ ! -s said ] || fail "$unit: $(cat said)"
-    done
-fi
-# what the unit runs: frames of a port, and the end of a connection on which nothing comes
-if has 'what aprs-log@.service runs' nc stdbuf timeout; then
-    aprsbook convert kiss hill.log > heard.kiss
-    run=$(sed -n "s/^ExecStart=.*-c '\(.*\)' %i\$/\1/p" "$recipes/aprs-log@.service" |
-        sed "s/8001/8127/; s/-w 900/-w 1/; s/\\\$\\\$/\$/; s,/var/lib/aprs,$scratch,")
-    (cat heard.kiss; sleep 8) | nc -l 127.0.0.1 8127 > sent & other=$!
-    # until the other end listens
-    until cat logs/*/RX1.log > said 2>&1; do
-        kill -0 $other 2> /dev/null || fail 'nobody listens on port 8127'
-        sleep 0.2
-        timeout 6 sh -c "$run" RX1 || fail "a dead connection isn't ended"
-    done
-    kill $other 2> /dev/null || true
-    aprsbook convert text hill.log > heard.txt
-    cat logs/*/RX1.log | aprsbook convert text | cmp - heard.txt || fail 'a frame is lost'
 fi
 
 # ---- merge-driver ----

@@ -16,16 +16,17 @@ trap 'rm -rf "$scratch"' EXIT
 
 # what is no name of this repository
 cat > "$scratch/others" << 'end'
-tools: awk callgrind cat decode_aprs direwolf gen_packets grep ifne kissutil moreutils nc nice od ogr2ogr rsync
+tools: awk callgrind cat decode_aprs direwolf gcc gen_packets grep ifne kissutil moreutils nc nice od ogr2ogr rsync
 shellcheck sort sponge stdbuf stdin stdout text2pcap valgrind zcat
 Rattle: rattle rt contents remaining ensures requires proves file old std Proof.decls out/incremental x.old x.new x.now x.entry
 std: Box BufWriter Copy Drop Ok Option PartialEq Result u64::MAX
 standards: DDMM.hh DDDMM.hh atest f0 rust
-commands of make: deb tarball try
+commands of make: arm64 deb install release static tarball try
+processors and users of Debian: amd64 aprs
 states of messages and objects: acknowledged rejected unanswered unnumbered tracks
 of examples: in/ logs/DAY/HILL.log logs/DAY/RECEIVER.log millis.log numerator/denominator own.book page
 slow.log time
-what is made: out/ crates/aprsbook/out/aprsbook share/aprsbook
+what is made: out out/ out/release crates/aprsbook/out/aprsbook share/aprsbook
 how names are written: function.clause
 end
 

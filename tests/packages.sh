@@ -1,41 +1,62 @@
 #!/bin/sh
-# Tries make install, uninstall, tarball and deb: each is put into an empty folder and runs the
-# sample there. Needs a POSIX system, mktemp, GNU make, install and tar, and git, and says what it
-# leaves out because a tool isn't there.
+# Tries make install, uninstall, deb and tarball: what each puts into an empty folder runs there, and
+# is the same bytes when it is made of another folder on another day. Needs a POSIX system, mktemp,
+# GNU make, install, tar and git, and says what it leaves out because a tool isn't there.
 # usage: tests/packages.sh PROGRAM
 # shellcheck source=program.sh
 . "$(dirname "$0")/program.sh"
 has 'make install, tarball and deb' make git || exit 0
-if ! git -C "$repository" log -1 > "$scratch/said" 2>&1; then
+if ! SOURCE_DATE_EPOCH=$(git -C "$repository" log -1 --format=%ct 2> "$scratch/said"); then
     echo 'left out: make install, tarball and deb (no commit is there)'
     exit 0
 fi
+export SOURCE_DATE_EPOCH
 cd "$scratch"
 # whoever builds is found out
 printf '#!/bin/sh\n: > "%s/built"\nexit 1\n' "$scratch" > bin/rt
 chmod +x bin/rt
 aprsbook convert text "$repository/examples/sample.log" > expected
+version=$("$repository/packaging/version")
 # make_it TARGET ARGUMENT..: builds nothing
 make_it() {
-    make -s -C "$repository" PROGRAM="$program" "$@" > said 2>&1 || fail "make $*: $(cat said)"
+    make -s -C "$repository" BUILT="$program" "$@" > said 2>&1 || fail "make $*: $(cat said)"
     [ ! -e built ] || fail "make $* builds"
 }
 # runs PREFIX: what was put there runs, its links lead somewhere, and nobody else may write there
 runs() {
     "$1/bin/aprsbook" convert text "$1/share/aprsbook/examples/sample.log" | cmp - expected ||
         fail "$1: the sample is another"
+    [ "$("$1/bin/aprsbook" --version)" = "aprsbook $version" ] || fail "$1 isn't version $version"
     [ -z "$(find "$1" -perm -2 ! -type l)" ] || fail "$1 may be written by others"
+    [ -z "$(find "$1" -type l ! -exec test -e {} \; -print)" ] || fail "$1 has links to nothing"
     find "$1/share/aprsbook" -name '*.md' | while read -r page; do
         grep -o ']([^):]*)' "$page" | sed 's/^](//; s/[#)].*//; /^$/d' | while read -r link; do
             [ -e "${page%/*}/$link" ] || fail "$page: nothing is at $link"
         done
     done
+    # the recipes are in the PATH, also one that needs a file beside it, and each unit finds its own
+    for recipe in "$repository"/examples/recipes/*; do
+        [ -x "$recipe" ] || continue
+        name=${recipe##*/}
+        [ -x "$1/bin/$name" ] || fail "$1: $name isn't in bin"
+        [ -e "$1/share/man/man1/$name.1" ] || [ -e "$1/share/man/man1/$name.1.gz" ] ||
+            fail "$1: $name has no manual page"
+    done
+    PATH=$PWD/$1/bin:/usr/bin:/bin last-heard "$1/share/aprsbook/examples/sample.log" > said 2>&1 ||
+        fail "$1: last-heard says: $(cat said)"
+    grep -q 'N0CALL-8' said || fail "$1: last-heard says: $(cat said)"
+    grep -h '^ExecStart=' "$1"/lib/systemd/system/*.service | tr ' ' '\n' |
+        sed -n 's,^/usr\(/local\)\{0,1\}/share/,,p' | while read -r file; do
+        [ -e "$1/share/$file" ] || fail "$1: a unit names $file"
+    done
 }
 
 # ---- install and uninstall ----
 
-for target in install deb tarball; do
-    if make -s -C "$repository" PROGRAM=/nowhere DESTDIR="$scratch/none" $target > said 2>&1; then
+for target in install deb tarball 'deb ARCH=arm64'; do
+    # shellcheck disable=SC2086 # two words
+    if make -s -C "$repository" BUILT=/nowhere PROGRAMS=nowhere DESTDIR="$scratch/none" \
+        OUT="$scratch/none" $target > said 2>&1; then
         fail "make $target doesn't fail without a program"
     fi
     grep -q 'there is no program' said || fail "make $target says: $(cat said)"
@@ -47,44 +68,60 @@ mkdir -p 'a root/usr/bin'
 runs 'a root/usr'
 cp -R 'a root/usr' installed
 make_it uninstall DESTDIR="$scratch/a root" PREFIX=/usr
-[ "$(find 'a root' -type f)" = 'a root/usr/bin/other' ] ||
-    fail "make uninstall leaves: $(find 'a root' -type f)"
+[ "$(find 'a root' ! -type d)" = 'a root/usr/bin/other' ] ||
+    fail "make uninstall leaves: $(find 'a root' ! -type d)"
 [ ! -e 'a root/usr/share/aprsbook' ] || fail 'make uninstall leaves a folder'
 rm installed/bin/other
 
-# ---- packages: the same bytes twice ----
+# ---- packages: the same bytes of two folders, on two days ----
 
-# twice TARGET: makes it, at another time, place, umask and time zone again, and gives the file
+mkdir copy
+(cd "$repository" && git ls-files | tar -cf - -T -) | tar -xf - -C copy
+find copy -exec touch -h -t 202001020304 {} +
+# twice WORD..: packs the program here, and in another folder, day, umask and time zone
 twice() {
-    for turn in 1 2; do
-        make_it "$1" OUT="$scratch/$1$turn"
-        sleep 1
-        umask 077
-        export TZ=Asia/Tokyo
-    done
-    umask 022
-    cmp "$1"1/* "$1"2/* || fail "make $1 makes other bytes the second time"
+    script=$1 architecture=$2
+    shift 2
+    "$repository/packaging/$script" "$architecture" "$script-$architecture" "$@" > said 2>&1 ||
+        fail "$script: $(cat said)"
+    (umask 077 && TZ=Asia/Tokyo "copy/packaging/$script" "$architecture" again "$@") > said 2>&1 ||
+        fail "$script: $(cat said)"
+    cmp again/* "$script-$architecture"/* || fail "$script makes other bytes in another folder"
+    rm -r again
 }
 if has 'make tarball' tar; then
-    twice tarball
-    mkdir prefix
-    tar -xzf tarball1/*.tar.gz -C prefix
-    diff -r installed prefix || fail 'the tar file has other files than make install'
+    twice make-tarball amd64 "$program"
+    tar -xzf make-tarball-amd64/*.tar.gz
+    # and again, over itself
+    "aprsbook-$version/install.sh" prefix
+    "aprsbook-$version/install.sh" prefix
+    diff -r --no-dereference installed prefix || fail 'the tar file has other files than make install'
     runs prefix
     # the cookbook that was unpacked with it
     prefix/share/aprsbook/examples/cookbook.sh --posix prefix/bin/aprsbook > said 2>&1 ||
         fail "unpacked: $(cat said)"
 fi
-if has 'make deb' dpkg-deb strip; then
-    twice deb
-    dpkg-deb -x deb1/*.deb package
-    runs package/usr
-    diff -r installed/share/aprsbook package/usr/share/aprsbook || fail 'the deb has other files'
-    gzip -dc package/usr/share/man/man1/aprsbook.1.gz | cmp - "$repository/man/aprsbook.1"
-    if has 'lintian of the package' lintian; then
-        lintian --allow-root deb1/*.deb > said 2>&1 || true
-        sed '/initial-upload-closes-no-bugs/d; /^N:/d; /^warning: /d' said > complaints
+# deb ARCHITECTURE PROGRAM: lintian has nothing to say of it
+deb() {
+    twice make-deb "$@"
+    dpkg-deb -x make-deb-"$1"/*.deb "package-$1"
+    diff -r -x '*.service' installed/share/aprsbook "package-$1/usr/share/aprsbook" ||
+        fail 'the deb has other files'
+    gzip -dc "package-$1/usr/share/man/man1/aprsbook.1.gz" | cmp - "$repository/man/aprsbook.1"
+    if has "lintian of the package for $1" lintian; then
+        lintian --allow-root --fail-on none make-deb-"$1"/*.deb > said 2>&1 || fail "$(cat said)"
+        sed '/^N:/d; /^warning: /d' said > complaints
         [ ! -s complaints ] || fail "lintian says: $(cat complaints)"
+    fi
+}
+if has 'make deb' dpkg-deb strip readelf; then
+    deb amd64 "$program"
+    runs package-amd64/usr
+    arm=$repository/out/arm64/aprsbook
+    if [ ! -x "$arm" ]; then
+        echo 'left out: make deb ARCH=arm64 (no program is built: make arm64)'
+    elif has 'make deb ARCH=arm64' aarch64-linux-gnu-strip; then
+        deb arm64 "$arm"
     fi
 fi
 echo 'what is installed, packed and unpacked runs'

@@ -1,7 +1,7 @@
 //! What the program's help says, beside the arguments that it takes.
 
 /// The program's version.
-pub const VERSION: &str = "0.1.0";
+pub const VERSION: &str = "0.2.0";
 
 /// What the program is for.
 pub const ABOUT: &str = "Reads, checks, converts, merges and lists the logs of APRS receivers";
