@@ -20,7 +20,7 @@ build:
 	@$(MAKE) --no-print-directory -j 3 libraries JOBS=$(JOBS)
 	cd crates/aprsbook && rt run --jobs 1 -- check ../../examples/sample.log > /dev/null
 
-LIBRARIES := $(shell sed -n '/_tests:/d; s/^\(aprs_[a-z0-9]*\):.*/\1/p' crates.txt)
+LIBRARIES := $(shell sed -n '/_tests:/d; /^aprs_arena:/d; s/^\(aprs_[a-z0-9]*\):.*/\1/p' crates.txt)
 $(foreach it,$(LIBRARIES),$(eval $(it): $(filter $(LIBRARIES),$(shell sed -n 's/^$(it)://p' crates.txt))))
 .PHONY: $(LIBRARIES)
 libraries: $(LIBRARIES)
