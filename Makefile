@@ -3,7 +3,7 @@ PREFIX ?= /usr/local
 PROGRAM = crates/aprsbook/out/aprsbook
 
 .PHONY: build libraries run try test words map reading recipes cookbook bench hostile
-.PHONY: built install uninstall deb tarball
+.PHONY: built install uninstall deb tarball wasm clib
 
 # how many checks run side by side: as many as there are processors, each with 3 GB of free memory
 LANES ?= $(shell awk -v n=$$(nproc) '/MemAvailable/ { most = int($$2 / 3000000) } \
@@ -26,6 +26,13 @@ $(foreach it,$(LIBRARIES),$(eval $(it): $(filter $(LIBRARIES),$(shell sed -n 's/
 libraries: $(LIBRARIES)
 $(LIBRARIES):
 	@$(if $(filter $@,$(BESIDE)),nice) build/prove.sh $@ $(if $(filter $@,$(BESIDE)),1,$(JOBS))
+
+# the runs for other programs, each call proved: out/aprsbook.wasm for web pages, and the library for C
+# and other languages, out/aprsbook.h, out/libaprsbook.a and out/libaprsbook.so
+wasm:
+	build/wasm.sh
+clib:
+	build/clib.sh
 
 # the sample log as a monitor prints it
 run: build
@@ -72,9 +79,12 @@ recipes:
 	    $(tried) examples/cookbook.sh --posix $(PROGRAM); \
 	else echo 'left out: the recipes of the cookbook, since no program is built (make build)'; fi
 
-# these, and every recipe of the cookbook whose tools are there
+# these, the module and the library for C, and every recipe of the cookbook whose tools are there
 cookbook: build
 	$(tried) examples/cookbook.sh $(PROGRAM)
+	$(MAKE) --no-print-directory clib wasm
+	tests/clib.sh $(PROGRAM)
+	tests/module.sh $(PROGRAM)
 
 bench: build
 	bench/run.sh $(PROGRAM)
