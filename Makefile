@@ -10,7 +10,7 @@ crate = $(subst -,_,$(1))
 BUILT = $(foreach it,$(PROGRAMS),crates/$(call crate,$(it))/out/$(call crate,$(it)))
 
 .PHONY: build libraries run try test words map reading recipes cookbook bench hostile
-.PHONY: arm64 static elsewhere install uninstall deb tarball release
+.PHONY: arm64 static elsewhere install uninstall deb tarball release wasm clib
 
 # how many checks run side by side: as many as there are processors, each with 3 GB of free memory
 LANES ?= $(shell awk -v n=$$(nproc) '/MemAvailable/ { most = int($$2 / 3000000) } \
@@ -27,12 +27,19 @@ build:
 	@$(MAKE) --no-print-directory -j 3 libraries JOBS=$(JOBS)
 	cd crates/aprsbook && rt run --jobs 1 -- check ../../examples/sample.log > /dev/null
 
-LIBRARIES := $(shell sed -n '/_tests:/d; s/^\(aprs_[a-z0-9]*\):.*/\1/p' crates.txt)
+LIBRARIES := $(shell sed -n '/_tests:/d; /^aprs_arena:/d; s/^\(aprs_[a-z0-9]*\):.*/\1/p' crates.txt)
 $(foreach it,$(LIBRARIES),$(eval $(it): $(filter $(LIBRARIES),$(shell sed -n 's/^$(it)://p' crates.txt))))
 .PHONY: $(LIBRARIES)
 libraries: $(LIBRARIES)
 $(LIBRARIES):
 	@$(if $(filter $@,$(BESIDE)),nice) build/prove.sh $@ $(if $(filter $@,$(BESIDE)),1,$(JOBS))
+
+# the runs for other programs, each call proved: out/aprsbook.wasm for web pages, and the library for C
+# and other languages, out/aprsbook.h, out/libaprsbook.a and out/libaprsbook.so
+wasm:
+	build/wasm.sh
+clib:
+	build/clib.sh
 
 # the sample log as a monitor prints it
 run: build
@@ -84,10 +91,13 @@ recipes:
 	    $(tried) examples/cookbook.sh --posix $(PROGRAM); \
 	else echo 'left out: the recipes of the cookbook, since no program is built (make build)'; fi
 
-# these, and every recipe of the cookbook whose tools are there
+# these, the module and the library for C, and every recipe of the cookbook whose tools are there
 cookbook: build
 	@$(MAKE) --no-print-directory elsewhere
 	$(tried) examples/cookbook.sh $(PROGRAM)
+	$(MAKE) --no-print-directory clib wasm
+	tests/clib.sh $(PROGRAM)
+	tests/module.sh $(PROGRAM)
 
 bench: build
 	bench/run.sh $(PROGRAM)

@@ -7,7 +7,7 @@ cd "$(dirname "$0")/.."
 
 # a line for each crate: NAME|its sentence
 sentences() {
-    sed -n 's/^\([a-z][a-z0-9_]*\):.*/\1/p' crates.txt | while read -r crate; do
+    sed -n 's/^\([a-z][a-z0-9_]*\)[a-z ]*:.*/\1/p' crates.txt | while read -r crate; do
         file=crates/$crate/src/lib.rt
         [ -f "$file" ] || file=crates/$crate/src/main.rt
         sentence=$(awk '
@@ -28,6 +28,7 @@ map() {
         !/^[a-z]/ { next }
         {
             split($0, side, ":")
+            sub(/ .*/, "", side[1])
             crate[++n] = side[1]
             number = split(side[2], below, " ")
             for (i = 1; i <= number; i++)

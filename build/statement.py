@@ -256,7 +256,7 @@ def functions_of(path, is_public):
     text, crate = read(path), path.split("/")[1]
     code, scope, found = masked(text), imports(text, r"ghost use"), []
     kinds = blocks(code)
-    for head in re.finditer(r"^ *(pub(?:\(\w+\))? )?(?:const )?fn (\w+)", code, re.M):
+    for head in re.finditer(r"^ *(pub(?:\(\w+\))? )?(?:const |extern .{3} )?fn (\w+)", code, re.M):
         inside = [block for block in kinds if block[0] < head.start() < block[1]]
         owner, kind, trait = inside[0][2:] if inside else ("", "", "")
         seen = head.group(1) == "pub " or kind == "trait" or trait
@@ -328,7 +328,7 @@ class Statement:
             self.definitions.update({d.key: d for d in found})
         for lib in sorted(glob.glob("crates/*/src/lib.rt")):
             self.read_crate(lib)
-        self.crates = re.findall(r"^([a-z]\w*):", read("crates.txt"), re.M)
+        self.crates = re.findall(r"^([a-z]\w*)(?: staticlib)?:", read("crates.txt"), re.M)
         self.cites = {key: self.cited_by(key) for key in self.definitions}
         self.order = self.in_order()
 

@@ -16,7 +16,7 @@ trap 'rm -rf "$scratch"' EXIT
 
 # what is no name of this repository
 cat > "$scratch/others" << 'end'
-tools: awk callgrind cat decode_aprs direwolf gcc gen_packets grep ifne kissutil moreutils nc nice od ogr2ogr rsync
+tools: awk callgrind cat ctypes decode_aprs direwolf gcc gen_packets grep ifne kissutil moreutils nc nice od ogr2ogr rsync
 shellcheck sort sponge stdbuf stdin stdout text2pcap valgrind zcat
 Rattle: rattle rt contents remaining ensures requires proves file old std Proof.decls out/incremental x.old x.new x.now x.entry
 std: Box BufWriter Copy Drop Ok Option PartialEq Result u64::MAX
@@ -26,7 +26,8 @@ processors and users of Debian: amd64 aprs
 states of messages and objects: acknowledged rejected unanswered unnumbered tracks
 of examples: in/ logs/DAY/HILL.log logs/DAY/RECEIVER.log millis.log numerator/denominator own.book page
 slow.log time
-what is made: out out/ out/release crates/aprsbook/out/aprsbook share/aprsbook
+what is made: out out/ out/release out/aprsbook.wasm crates/aprsbook/out/aprsbook share/aprsbook libaprsbook.a
+libaprsbook.so __heap_base
 how names are written: function.clause
 end
 
@@ -63,9 +64,9 @@ awk '
     }
     # ---- code
     code && /^}/ { owner = within = bound = "" }
-    code && /^ *(pub(\([a-z]*\))? )?(const )?(fn|struct|enum|trait|const|type) [A-Za-z_]/ {
+    code && /^ *(pub(\([a-z]*\))? )?((const|extern "C") )?(fn|struct|enum|trait|const|type) [A-Za-z_]/ {
         item = $0
-        sub(/^ *(pub(\([a-z]*\))? )?/, "", item)
+        sub(/^ *(pub(\([a-z]*\))? )?(extern "C" )?/, "", item)
         kind = item
         sub(/ .*/, "", kind)
         if (item ~ /^const fn/) { kind = "fn"; sub(/^const /, "", item) }

@@ -1,0 +1,26 @@
+#!/bin/sh
+# build/wasm.sh [MODULE]: builds the module for web pages, out/aprsbook.wasm or MODULE. It proves
+# aprs_web, which crates.txt has as a static library, and proves it again for wasm64.
+set -eu
+cd "$(dirname "$0")/.."
+module=${1:-out/aprsbook.wasm}
+case $module in /*) ;; *) module=$PWD/$module ;; esac
+kit=$(dirname "$(dirname "$(readlink -f "$(command -v rt)")")")
+uses=$(sed -n 's/^aprs_web staticlib: *//p' crates.txt)
+cd crates/aprs_web
+rt check --jobs 1
+set -- --crate-name aprs_web src/lib.rt -L dependency="$kit/rlibs" --extern std="$kit/rlibs/std.rlib"
+for it in $uses; do
+    library=$kit/rlibs/$it.rlib
+    if [ -d "../$it" ]; then library=$PWD/../$it/out/rlib/$it.rlib; fi
+    set -- "$@" --extern "$it=$library"
+done
+for it in ../*/out/rlib; do set -- "$@" -L dependency="$PWD/$it"; done
+"$kit/bin/rattle" build "$@" --antt-project "$kit/rattle/logic/antt-project.json" \
+    --logic-built "$kit/logic_built" --incremental out/incremental --jobs 1 --links aprs_web= \
+    --crate-type staticlib --target wasm64-unknown-unknown --toolchain "$kit/toolchain" \
+    --backend llvm -o out/aprs_web.wasm.a
+mkdir -p "$(dirname "$module")"
+"$kit/bin/rattle-link" --target wasm64-unknown-unknown --toolchain "$kit/toolchain" -o "$module" \
+    out/aprs_web.wasm.a
+echo "$module: $(wc -c < "$module") bytes"

@@ -1,0 +1,3 @@
+pub mod Gathers
+pub mod Over
+pub mod Sums

@@ -1,0 +1,215 @@
+//! What a host calls. Each function is given a region of memory for good.
+ghost use Rattle.std.specs.Prelude.{◌≡◌, ℕ, None, Some};
+ghost use Rattle.aprs_convert.specs.Check.{Checks};
+ghost use Rattle.aprs_convert.specs.Conversion.{Converts};
+ghost use Rattle.aprs_convert.specs.declared.form.Form.TheVariants as form;
+ghost use Rattle.aprs_laws.specs.Gap.{IsGap};
+ghost use Rattle.aprs_log.specs.MomentReading.{moment_of};
+ghost use Rattle.aprs_log.specs.Receiver.{IsName};
+ghost use Rattle.aprs_web.specs.Answer.{TellsNoRun, TellsRun};
+ghost use Rattle.aprs_web.specs.Runs.{AskForSeveral, Merges, Shows, Widens, WritesOver, pieces};
+
+use crate::answer::{Answer, answer_of, no_run};
+use crate::inputs::add_up;
+use crate::written::{check, convert, merge, show, widen};
+use aprs_arena::{Arena, Region};
+use aprs_book::Gap;
+use aprs_log::{Moment, Receiver};
+use aprs_tool::Form;
+
+/// Checks the log `input`: writes a line for each line in which no frame was heard, and the totals.
+/// At a fault of the log its lines before that are written, and no totals.
+#[unsafe(no_mangle)]
+pub extern "C" fn aprs_check(
+    region: Region,
+    input: &[u8],
+    output: &mut [u8],
+    name: &mut [u8],
+) -> Answer
+    ensures { TellsRun (WritesOver Checks input.now)
+        result output.old output.new name.old name.new }
+{
+    let arena = Arena::over(region);
+    let (outcome, text) = check(&arena, input);
+    answer_of(&outcome, text.as_slice(), output, name)
+}
+
+/// Writes the log `input` as a monitor prints its frames. At a fault of the log all before it is
+/// written.
+#[unsafe(no_mangle)]
+pub extern "C" fn aprs_text(
+    region: Region,
+    input: &[u8],
+    output: &mut [u8],
+    name: &mut [u8],
+) -> Answer
+    ensures { TellsRun (WritesOver (Converts form.Text) input.now)
+        result output.old output.new name.old name.new }
+{
+    let arena = Arena::over(region);
+    let (outcome, text) = convert(&arena, Form::Text, input);
+    answer_of(&outcome, text.as_slice(), output, name)
+}
+
+/// Writes the log `input` as a monitor prints its frames, each with its kind of report. At a fault
+/// of the log all before it is written.
+#[unsafe(no_mangle)]
+pub extern "C" fn aprs_kind(
+    region: Region,
+    input: &[u8],
+    output: &mut [u8],
+    name: &mut [u8],
+) -> Answer
+    ensures { TellsRun (WritesOver (Converts form.Kind) input.now)
+        result output.old output.new name.old name.new }
+{
+    let arena = Arena::over(region);
+    let (outcome, text) = convert(&arena, Form::Kind, input);
+    answer_of(&outcome, text.as_slice(), output, name)
+}
+
+/// Writes the log `input` as a KISS stream of its frames. At a fault of the log all before it is
+/// written.
+#[unsafe(no_mangle)]
+pub extern "C" fn aprs_kiss(
+    region: Region,
+    input: &[u8],
+    output: &mut [u8],
+    name: &mut [u8],
+) -> Answer
+    ensures { TellsRun (WritesOver (Converts form.Kiss) input.now)
+        result output.old output.new name.old name.new }
+{
+    let arena = Arena::over(region);
+    let (outcome, text) = convert(&arena, Form::Kiss, input);
+    answer_of(&outcome, text.as_slice(), output, name)
+}
+
+/// Writes the log `input` as a log again, in its one spelling. At a fault of the log all before it
+/// is written.
+#[unsafe(no_mangle)]
+pub extern "C" fn aprs_log(
+    region: Region,
+    input: &[u8],
+    output: &mut [u8],
+    name: &mut [u8],
+) -> Answer
+    ensures { TellsRun (WritesOver (Converts form.Log) input.now)
+        result output.old output.new name.old name.new }
+{
+    let arena = Arena::over(region);
+    let (outcome, text) = convert(&arena, Form::Log, input);
+    answer_of(&outcome, text.as_slice(), output, name)
+}
+
+/// Writes a log of the KISS stream `input`, as if the receiver of the name `receiver` had heard
+/// each frame at `moment`, which is text. No run where these are no name or no moment.
+#[unsafe(no_mangle)]
+pub extern "C" fn aprs_capture(
+    region: Region,
+    receiver: &[u8],
+    moment: &[u8],
+    input: &[u8],
+    output: &mut [u8],
+    name: &mut [u8],
+) -> Answer
+    ensures run { (m : ℕ) → IsName receiver.now → moment_of moment.now ≡ Some m
+        → TellsRun (WritesOver (Converts (form.Capture receiver.now m)) input.now)
+        result output.old output.new name.old name.new }
+    ensures no_name { ¬ IsName receiver.now
+        → TellsNoRun result output.old output.new name.old name.new }
+    ensures no_moment { moment_of moment.now ≡ None
+        → TellsNoRun result output.old output.new name.old name.new }
+{
+    let arena = Arena::over(region);
+    let Some(receiver) = Receiver::parse(receiver) else {
+        return no_run();
+    };
+    let Some(moment) = Moment::parse(moment) else {
+        return no_run();
+    };
+    let (outcome, text) = convert(&arena, Form::Capture { receiver, moment }, input);
+    answer_of(&outcome, text.as_slice(), output, name)
+}
+
+/// Writes the book of several inputs, logs or books, under a gap of so many seconds. They lie one
+/// after the other in `inputs` and have these lengths. No run where the seconds are no gap, or the
+/// lengths don't add up to that of `inputs`. Where an input is refused, nothing is written.
+#[unsafe(no_mangle)]
+pub extern "C" fn aprs_merge(
+    region: Region,
+    seconds: u64,
+    inputs: &[u8],
+    lengths: &[usize],
+    output: &mut [u8],
+    name: &mut [u8],
+) -> Answer
+    ensures run { AskForSeveral seconds lengths.now inputs.now
+        → TellsRun (Merges seconds (pieces lengths.now inputs.now))
+        result output.old output.new name.old name.new }
+    ensures no_run { ¬ AskForSeveral seconds lengths.now inputs.now
+        → TellsNoRun result output.old output.new name.old name.new }
+{
+    let arena = Arena::over(region);
+    let Some(gap) = Gap::new(seconds) else {
+        return no_run();
+    };
+    if !add_up(lengths, inputs.len()) {
+        return no_run();
+    }
+    let (outcome, text) = merge(&arena, gap, inputs, lengths);
+    answer_of(&outcome, text.as_slice(), output, name)
+}
+
+/// Writes the listing of several inputs, logs or books, under a gap of so many seconds. They lie
+/// one after the other in `inputs` and have these lengths. No run where the seconds are no gap, or
+/// the lengths don't add up to that of `inputs`. Where an input is refused, nothing is written.
+#[unsafe(no_mangle)]
+pub extern "C" fn aprs_show(
+    region: Region,
+    seconds: u64,
+    inputs: &[u8],
+    lengths: &[usize],
+    output: &mut [u8],
+    name: &mut [u8],
+) -> Answer
+    ensures run { AskForSeveral seconds lengths.now inputs.now
+        → TellsRun (Shows seconds (pieces lengths.now inputs.now))
+        result output.old output.new name.old name.new }
+    ensures no_run { ¬ AskForSeveral seconds lengths.now inputs.now
+        → TellsNoRun result output.old output.new name.old name.new }
+{
+    let arena = Arena::over(region);
+    let Some(gap) = Gap::new(seconds) else {
+        return no_run();
+    };
+    if !add_up(lengths, inputs.len()) {
+        return no_run();
+    }
+    let (outcome, text) = show(&arena, gap, inputs, lengths);
+    answer_of(&outcome, text.as_slice(), output, name)
+}
+
+/// Writes the book of `input`, a log or a book, under a gap of so many seconds, which may be wider
+/// than its own. No run where the seconds are no gap. Where the input is refused, nothing is
+/// written.
+#[unsafe(no_mangle)]
+pub extern "C" fn aprs_widen(
+    region: Region,
+    seconds: u64,
+    input: &[u8],
+    output: &mut [u8],
+    name: &mut [u8],
+) -> Answer
+    ensures run { IsGap seconds → TellsRun (Widens seconds input.now)
+        result output.old output.new name.old name.new }
+    ensures no_run { ¬ IsGap seconds
+        → TellsNoRun result output.old output.new name.old name.new }
+{
+    let arena = Arena::over(region);
+    let Some(gap) = Gap::new(seconds) else {
+        return no_run();
+    };
+    let (outcome, text) = widen(&arena, gap, input);
+    answer_of(&outcome, text.as_slice(), output, name)
+}

@@ -1,0 +1,86 @@
+//! The runs, with what they write in memory.
+ghost use Rattle.std.specs.Prelude.{◌≡◌};
+ghost use Rattle.aprs_convert.specs.Check.{Checks};
+ghost use Rattle.aprs_convert.specs.Conversion.{Converts};
+ghost use Rattle.aprs_web.specs.Runs.{Merges, Shows, Widens, WritesOver, pieces};
+
+use crate::inputs::readers;
+use aprs_book::Gap;
+use aprs_log::MAX_INPUT;
+use aprs_tool::{Counted, Form, RunFault, check_run, convert_run, merge_run, show_run, widen_run};
+use std::alloc::Allocator;
+
+/// A check of a log, and what it wrote.
+pub(crate) fn check<A: Allocator + Copy>(
+    alloc: A,
+    input: &[u8],
+) -> (Result<(), RunFault>, Vec<u8, A>)
+    ensures { WritesOver Checks input.now result.0 result.1.items }
+{
+    let mut r = Counted::new(input);
+    let mut w = Counted::new(Vec::new(alloc));
+    let outcome = check_run(alloc, MAX_INPUT, &mut r, &mut w);
+    (outcome, w.into_inner())
+}
+
+/// A conversion of a log or a stream, and what it wrote.
+pub(crate) fn convert<A: Allocator + Copy>(
+    alloc: A,
+    form: Form,
+    input: &[u8],
+) -> (Result<(), RunFault>, Vec<u8, A>)
+    ensures { WritesOver (Converts form) input.now result.0 result.1.items }
+{
+    let mut r = Counted::new(input);
+    let mut w = Counted::new(Vec::new(alloc));
+    let outcome = convert_run(alloc, MAX_INPUT, form, &mut r, &mut w);
+    (outcome, w.into_inner())
+}
+
+/// A merge of the inputs, and what it wrote.
+pub(crate) fn merge<A: Allocator + Copy>(
+    alloc: A,
+    gap: Gap,
+    inputs: &[u8],
+    lengths: &[usize],
+) -> (Result<(), RunFault>, Vec<u8, A>)
+    ensures { Merges gap (pieces lengths.now inputs.now) result.0 result.1.items }
+{
+    let mut w = Counted::new(Vec::new(alloc));
+    let Ok(mut readers) = readers(alloc, inputs, lengths) else {
+        return (Err(RunFault::Memory), w.into_inner());
+    };
+    let outcome = merge_run(alloc, MAX_INPUT, gap, readers.as_mut_slice(), &mut w);
+    (outcome, w.into_inner())
+}
+
+/// A listing of the inputs, and what it wrote.
+pub(crate) fn show<A: Allocator + Copy>(
+    alloc: A,
+    gap: Gap,
+    inputs: &[u8],
+    lengths: &[usize],
+) -> (Result<(), RunFault>, Vec<u8, A>)
+    ensures { Shows gap (pieces lengths.now inputs.now) result.0 result.1.items }
+{
+    let mut w = Counted::new(Vec::new(alloc));
+    let Ok(mut readers) = readers(alloc, inputs, lengths) else {
+        return (Err(RunFault::Memory), w.into_inner());
+    };
+    let outcome = show_run(alloc, MAX_INPUT, gap, readers.as_mut_slice(), &mut w);
+    (outcome, w.into_inner())
+}
+
+/// A widening of an input, and what it wrote.
+pub(crate) fn widen<A: Allocator + Copy>(
+    alloc: A,
+    gap: Gap,
+    input: &[u8],
+) -> (Result<(), RunFault>, Vec<u8, A>)
+    ensures { Widens gap input.now result.0 result.1.items }
+{
+    let mut r = Counted::new(input);
+    let mut w = Counted::new(Vec::new(alloc));
+    let outcome = widen_run(alloc, MAX_INPUT, gap, &mut r, &mut w);
+    (outcome, w.into_inner())
+}

@@ -1,0 +1,105 @@
+"use strict";
+// The host of the module: it makes an instance for each run, as a shell starts the program anew. It
+// has to keep to what the functions of the module ask for: all that it hands over lies from
+// __heap_base on, no two of it in one place, and the region begins at a multiple of 16.
+
+// the commands of the program, by the functions of the module that do them
+const FUNCTIONS = {
+  check: "aprs_check", "convert text": "aprs_text", "convert kind": "aprs_kind",
+  "convert kiss": "aprs_kiss", "convert log": "aprs_log", "convert capture": "aprs_capture",
+  merge: "aprs_merge", show: "aprs_show", widen: "aprs_widen",
+};
+const OF_SEVERAL = ["merge", "show"];
+const WITH_GAP = [...OF_SEVERAL, "widen"];
+const PAGE = 65536;
+const NAME_ROOM = 16;
+
+class OutOfMemory extends Error {}
+
+// browsers count the pages of a 64-bit memory in a BigInt, Node 20 in a number
+function grow(memory, pages) {
+  try {
+    memory.grow(BigInt(pages));
+  } catch (fault) {
+    if (!(fault instanceof TypeError)) throw fault;
+    memory.grow(pages);
+  }
+}
+
+// Puts things one after the other from the end of the module's own memory on.
+class Layout {
+  constructor(start) {
+    this.end = start;
+  }
+  take(size) {
+    const at = this.end;
+    this.end = Math.ceil((at + size) / 16) * 16;
+    return at;
+  }
+  // makes the memory as large as all that was taken
+  fit(memory) {
+    const pages = Math.ceil(this.end / PAGE) - memory.buffer.byteLength / PAGE;
+    try {
+      if (pages > 0) grow(memory, pages);
+    } catch (fault) {
+      throw new OutOfMemory(String(fault));
+    }
+  }
+}
+
+// One run with so much room for its output and in its region, both in bytes. `options` are a gap in
+// seconds for merge, show and widen, and for convert capture the name of a receiver and a moment,
+// texts. Returns the answer, the name of an input's fault, and what was written, or null where that
+// had no room.
+function attempt(module, command, options, inputs, outputRoom, regionRoom) {
+  const it = new WebAssembly.Instance(module).exports, { memory } = it;
+  const layout = new Layout(Number(it.__heap_base.value));
+  const words = command === "convert capture"
+    ? options.map(word => new TextEncoder().encode(word)) : [];
+  const total = inputs.reduce((sum, input) => sum + input.length, 0);
+  const answer = layout.take(40), region = layout.take(16);
+  const lengths = layout.take(8 * inputs.length);
+  const places = words.map(word => layout.take(word.length)), text = layout.take(total);
+  const output = layout.take(outputRoom), name = layout.take(NAME_ROOM);
+  const start = layout.take(regionRoom);
+  layout.fit(memory);
+  const view = new DataView(memory.buffer), bytes = new Uint8Array(memory.buffer);
+  const put = (at, value) => view.setBigUint64(at, BigInt(value), true);
+  put(region, start);
+  put(region + 8, Math.floor(regionRoom / 16));
+  words.forEach((word, k) => bytes.set(word, places[k]));
+  let at = text;
+  inputs.forEach((input, k) => {
+    bytes.set(input, at);
+    at += input.length;
+    put(lengths + 8 * k, input.length);
+  });
+  const given = [answer, region];
+  if (WITH_GAP.includes(command)) given.push(options);
+  words.forEach((word, k) => given.push(places[k], word.length));
+  given.push(text, total);
+  if (OF_SEVERAL.includes(command)) given.push(lengths, inputs.length);
+  it[FUNCTIONS[command]](...[...given, output, outputRoom, name, NAME_ROOM].map(BigInt));
+  const [status, input, line, written, named] =
+    [0, 8, 16, 24, 32].map(field => Number(view.getBigUint64(answer + field, true)));
+  return {
+    status, input, line, written,
+    fault: String.fromCharCode(...bytes.subarray(name, name + named)),
+    bytes: written <= outputRoom ? bytes.slice(output, output + written) : null,
+  };
+}
+
+// A run of a command over inputs, which are Uint8Arrays, again with more room where there was too
+// little, up to a region of `most` bytes.
+function run(module, command, options, inputs, most = 2 ** 33) {
+  const total = inputs.reduce((sum, input) => sum + input.length, 0);
+  let outputRoom = 2 * total + PAGE, regionRoom = 16 * Math.ceil(total / 2) + (1 << 22);
+  for (;;) {
+    const got = attempt(module, command, options, inputs, outputRoom, regionRoom);
+    if ((got.status === 3 || got.status === 4) && 2 * regionRoom <= most) regionRoom *= 2;
+    else if (!got.bytes) outputRoom = got.written;
+    else return got;
+  }
+}
+
+if (typeof module !== "undefined") module.exports = { FUNCTIONS, OutOfMemory, attempt, run };

@@ -1,0 +1,149 @@
+"use strict";
+// Runs the commands by the module and by the program, over the given files, books made of them,
+// damaged texts and none, and compares bytes, statuses and what is said of a fault.
+// usage: node [--experimental-wasm-memory64] tests/module.js MODULE PROGRAM COUNT SEED FILE..
+const fs = require("fs"), path = require("path"), { spawnSync } = require("child_process");
+const { FUNCTIONS, attempt, run } = require("../page/host.js");
+const [file, program, count, seed, ...files] = process.argv.slice(2);
+const code = new WebAssembly.Module(fs.readFileSync(file));
+const COMMANDS = Object.keys(FUNCTIONS);
+const SEVERAL = ["merge", "show"];
+const CAPTURE = ["RX1", "2024-05-01T12:00:00Z"];
+let runs = 0, faults = 0;
+
+function fail(...words) {
+  if (++faults < 9) console.error("tests/module.js:", ...words);
+}
+
+// what the program does
+function byProgram(command, options, inputs) {
+  const names = inputs.map((_, k) => path.join(process.cwd(), `input-${k}`));
+  inputs.forEach((it, k) => fs.writeFileSync(names[k], it));
+  const words = command.split(" ");
+  if (SEVERAL.includes(command)) words.push("--gap", String(options));
+  if (command === "widen") words.push(String(options));
+  if (command === "convert capture") words.push("--receiver", options[0], "--moment", options[1]);
+  const it = spawnSync(program, [...words, ...names], { input: "", maxBuffer: 1 << 30 });
+  return { status: it.status, bytes: it.stdout, said: it.stderr.toString(), names };
+}
+
+// what the program says of a fault
+function saidOf(it, names) {
+  if (it.status === 0) return "";
+  if (it.status !== 1) return null;
+  const ofLine = /^[A-Z]/.test(it.fault);
+  return `aprsbook: ${names[it.input]}: ${ofLine ? `line ${it.line}: ` : ""}${it.fault}\n`;
+}
+
+function compare(command, options, inputs) {
+  const wanted = byProgram(command, options, inputs), got = run(code, command, options, inputs);
+  const said = wanted.status === 2 ? null : wanted.said;
+  runs++;
+  if (wanted.status !== got.status || Buffer.compare(wanted.bytes, Buffer.from(got.bytes)) !== 0
+      || said !== saidOf(got, wanted.names))
+    fail(command, options, inputs.map(it => it.length), "status", got.status, "and not",
+      wanted.status, got.bytes.length, "bytes and not", wanted.bytes.length, said, got.fault);
+  return wanted;
+}
+
+const optionsOf = (command, gap) => command === "convert capture" ? CAPTURE : gap;
+
+function tryFiles(texts) {
+  for (const gap of [30, 1, 3600, 0, 3601]) {
+    for (const command of COMMANDS) {
+      if (SEVERAL.includes(command)) {
+        compare(command, gap, texts);
+        // the program reads standard input, which is empty here, where there is no file
+        compare(command, gap, []);
+      }
+      for (const it of texts) compare(command, optionsOf(command, gap), [it]);
+    }
+  }
+  const book = new Uint8Array(byProgram("merge", 30, texts.slice(0, 2)).bytes);
+  for (const command of COMMANDS) compare(command, optionsOf(command, 30), [book]);
+  for (const gap of [30, 60]) compare("merge", gap, [book, ...texts]);
+  for (const gap of [5, 60]) compare("widen", gap, [book]);
+  for (const options of [["", CAPTURE[1]], ["RX 1", CAPTURE[1]], ["RX1", "today"]])
+    compare("convert capture", options, [texts[0]]);
+}
+
+// ---- texts that were changed at random
+
+let state = Number(seed) >>> 0;
+function random(most) {
+  state = (Math.imul(state, 1664525) + 1013904223) >>> 0;
+  return Math.floor(state / 4294967296 * most);
+}
+const pick = list => list[random(list.length)];
+
+function changed(text) {
+  let it = Buffer.from(text);
+  // a few whole lines of a log, and then up to three changes
+  const lines = it.toString("latin1").split("\n"), from = random(lines.length);
+  if (random(2) && !it.subarray(0, 8).equals(Buffer.from("APRSBOOK"))) {
+    const part = lines.slice(from, from + 1 + random(40)).join("\n");
+    it = Buffer.from(part + (random(4) ? "\n" : ""), "latin1");
+  }
+  for (let n = random(4); n > 0 && it.length; n--) {
+    const at = random(it.length), kind = random(3);
+    if (kind === 0) it = Buffer.concat([it.subarray(0, at), it.subarray(at + 1 + random(9))]);
+    else if (kind === 1) it[at] = pick(Buffer.from("0123456789abcdefAF \nZ:-cR\0\xff", "latin1"));
+    else it = Buffer.concat([it.subarray(0, at), Buffer.from([random(256)]), it.subarray(at)]);
+  }
+  return new Uint8Array(it);
+}
+
+function tryDamaged(logs) {
+  const texts = [...logs];
+  for (const gap of [30, 60]) texts.push(byProgram("merge", gap, logs).bytes);
+  texts.push(byProgram("convert kiss", 30, [logs[0]]).bytes);
+  const statuses = {};
+  for (let k = 0; k < Number(count); k++) {
+    const command = pick([...COMMANDS, ...SEVERAL]);
+    const many = SEVERAL.includes(command) ? 1 + random(4) : 1;
+    const inputs = Array.from({ length: many }, () => changed(pick(texts)));
+    const gap = pick([30, 30, 60, 1, 3600]);
+    const { status } = compare(command, optionsOf(command, gap), inputs);
+    statuses[status] = (statuses[status] || 0) + 1;
+  }
+  return statuses;
+}
+
+// ---- too little room: the bytes that are wanted, a first part of them, or none
+
+const ROOM = 1 << 21;
+
+// whether a run in a small region may end so, where it would end as `wanted`
+function mayEnd(got, wanted) {
+  if (got.status === wanted.status) return got.written === wanted.written;
+  return got.status === 3 || (got.status === 4 && got.written === 0);
+}
+
+function tryLittleOf(command, inputs) {
+  const options = optionsOf(command, 30), wanted = run(code, command, options, inputs);
+  for (let size = 32; size < ROOM; size = Math.ceil(size * 1.3)) {
+    const got = attempt(code, command, options, inputs, ROOM, size);
+    runs++;
+    if (!mayEnd(got, wanted)) fail(command, "in", size, "ends with", got.status);
+    const part = Buffer.from(wanted.bytes.subarray(0, got.written));
+    if (Buffer.compare(part, Buffer.from(got.bytes)) !== 0) fail(command, "in", size, "is other");
+  }
+  if (wanted.written === 0) return;
+  const got = attempt(code, command, options, inputs, wanted.written - 1, 2 * ROOM);
+  if (got.bytes !== null || got.written !== wanted.written) fail(command, "writes without room");
+}
+
+function tryLittle(texts) {
+  for (const command of COMMANDS)
+    tryLittleOf(command, SEVERAL.includes(command) ? texts : texts.slice(0, 1));
+}
+
+const imports = WebAssembly.Module.imports(code).length;
+if (imports !== 0) fail("the module has", imports, "imports");
+const texts = files.map(it => new Uint8Array(fs.readFileSync(it)));
+tryFiles(texts);
+tryLittle(texts);
+const statuses = tryDamaged(texts);
+console.log(`the module does what the program does in ${runs} runs, ${Number(count)} of them over`
+  + ` damaged texts, of which ${statuses[0] || 0} went well`);
+process.exitCode = faults ? 1 : 0;

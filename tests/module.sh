@@ -1,0 +1,17 @@
+#!/bin/sh
+# Compares the module for web pages with the program: bytes, statuses and what is said of faults,
+# over the examples and 300 damaged texts. Needs Node 20 or later.
+# usage: tests/module.sh PROGRAM [MODULE]
+# shellcheck source=program.sh
+. "$(dirname "$0")/program.sh"
+module=${2:-$repository/out/aprsbook.wasm}
+case $module in /*) ;; *) module=$PWD/$module ;; esac
+[ -f "$module" ] || fail "there is no module '$module': make wasm"
+has 'the module in Node' node || exit 0
+flag=--experimental-wasm-memory64
+node $flag -e 0 2> "$scratch/said" || flag=
+cd "$scratch"
+# shellcheck disable=SC2086 # none or one word
+node $flag "$repository/tests/module.js" "$module" "$program" 300 11 \
+    "$repository"/examples/sample.log "$repository"/examples/millis.log \
+    "$repository"/examples/evening/*.log
