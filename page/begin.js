@@ -8,4 +8,4 @@ if (byId("data").textContent.trim()) {
 }
 // for the script that reads logs, and for tests
 globalThis.aprsbook = Object.freeze({ page, show, refresh, begin: beginClock, bring, make, byId, save, count,
-  fullText, choose, chosen, tick, SAVES, zoneText });
+  choose, chosen, tick, SAVES, alive });

@@ -188,19 +188,21 @@ function placeList(box) {
 
 // ---- the time that the map shows
 
+/** Shows the net as it was at the clock's moment. */
 function turnClock() {
   const clock = byId("clock"), { net } = page, all = +clock.value === +clock.max;
   const moment = net.begin + (net.end - net.begin) * clock.value / clock.max;
   page.map.until = all ? Infinity : moment;
   byId("then").textContent = net.rows.length ? timeText(moment) : "";
-  if (!page.playing) choose("clock", all || !net.rows.length ? "" : Math.round(moment));
   page.map.paintSoon();
+  return all || !net.rows.length ? "" : Math.round(moment);
 }
+const keepClock = () => choose("clock", turnClock());
 function stop() {
   clearInterval(page.playing);
   page.playing = null;
   byId("play").textContent = "play";
-  turnClock();
+  keepClock();
 }
 function play() {
   if (page.playing) return stop();
@@ -254,7 +256,7 @@ function listenToControls() {
   on("in", "click", () => { map.zoom(1.5); map.turn(); });
   on("out", "click", () => { map.zoom(1 / 1.5); map.turn(); });
   on("fit", "click", () => { map.fit(); map.turn(); });
-  on("clock", "input", turnClock);
+  on("clock", "input", keepClock);
   on("play", "click", play);
   on("find", "input", sift);
   on("kind", "change", sift);

@@ -8,6 +8,8 @@ function roundUp(atLeast) {
   return [1, 2, 5, 10].map(k => k * ten).find(size => size >= atLeast * 0.999);
 }
 
+const RANK = { item: 1, object: 2, station: 3 };
+
 /** Which parts of the map have a mark or a name, in squares of 4 pixels. */
 class Room {
   constructor(width, height) {
@@ -134,7 +136,9 @@ class NetMap {
       const place = thing.at(this.until);
       if (place) shown.push({ thing, place, picked: thing.key === this.picked });
     }
-    shown.sort((a, b) => a.picked - b.picked);
+    // stations lie above the rest, and what is picked above all
+    const rank = it => it.picked ? 4 : it.place.state === "killed" ? 0 : RANK[it.thing.kind];
+    shown.sort((a, b) => rank(a) - rank(b));
     for (const it of shown) if (it.thing.places.length > 1) this.paintTrack(it);
     this.paintRuler();
     this.paintMarks(shown);
