@@ -272,7 +272,15 @@ function listenToControls() {
   addEventListener("beforeprint", () => {
     runAllWaiting();
     for (const list of Object.values(page.lists)) list.whole();
+    dressFor(true);
   });
+  addEventListener("afterprint", () => dressFor(false));
+}
+/** Puts on the colours of paper, or takes them off. */
+function dressFor(paper) {
+  document.documentElement.classList.toggle("printed", paper);
+  page.map.readColours();
+  page.map.measure();
 }
 function openForm(open) {
   document.body.classList.toggle("ics", open);

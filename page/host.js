@@ -1,15 +1,22 @@
-// The host of the module: it makes an instance for each run, as a shell starts the program anew.
+"use strict";
+// The host of the module: it makes an instance for each run, as a shell starts the program anew. It
+// has to keep to what the functions of the module ask for: all that it hands over lies from
+// __heap_base on, no two of it in one place, and the region begins at a multiple of 16.
 
-/** The commands, by the functions of the module that do them. */
-const EXPORTS = { check: "aprs_check", "convert text": "aprs_text", "convert kind": "aprs_kind",
+// the commands of the program, by the functions of the module that do them
+const FUNCTIONS = {
+  check: "aprs_check", "convert text": "aprs_text", "convert kind": "aprs_kind",
   "convert kiss": "aprs_kiss", "convert log": "aprs_log", "convert capture": "aprs_capture",
-  merge: "aprs_merge", show: "aprs_show", widen: "aprs_widen", history: "aprs_history" };
-const SEVERAL = ["merge", "show", "history"];
-const WASM_PAGE = 65536;
-/** Bytes for an answer, which is five numbers of 64 bits, and for the name of a fault. */
-const ANSWER = 40, NAME = 64;
+  merge: "aprs_merge", show: "aprs_show", widen: "aprs_widen", history: "aprs_history",
+};
+const OF_SEVERAL = ["merge", "show", "history"];
+const WITH_GAP = [...OF_SEVERAL, "widen"];
+const PAGE = 65536;
+const NAME_ROOM = 16;
 
-/** Today's engines count the pages of a 64-bit memory in a BigInt, older ones in a number. */
+class OutOfMemory extends Error {}
+
+// browsers count the pages of a 64-bit memory in a BigInt, Node 20 in a number
 function grow(memory, pages) {
   try {
     memory.grow(BigInt(pages));
@@ -19,68 +26,80 @@ function grow(memory, pages) {
   }
 }
 
-/**
- * Where all that a run is given lies, one after the other, each at a multiple of 16: the answer,
- * the region that the module gets for good, lengths, words, inputs, output and name.
- */
-function layOut(base, words, inputs, room, region) {
-  let end = base;
-  const take = size => {
-    const at = end;
-    end = Math.ceil((end + size) / 16) * 16;
+// Puts things one after the other from the end of the module's own memory on.
+class Layout {
+  constructor(start) {
+    this.end = start;
+  }
+  take(size) {
+    const at = this.end;
+    this.end = Math.ceil((at + size) / 16) * 16;
     return at;
-  };
-  const total = inputs.reduce((sum, it) => sum + it.length, 0);
-  return { total, answer: take(ANSWER), struct: take(16), lengths: take(8 * inputs.length),
-    words: words.map(it => take(it.length)), inputs: take(total), output: take(room),
-    name: take(NAME), region: take(region), end };
+  }
+  // makes the memory as large as all that was taken
+  fit(memory) {
+    const pages = Math.ceil(this.end / PAGE) - memory.buffer.byteLength / PAGE;
+    try {
+      if (pages > 0) grow(memory, pages);
+    } catch (fault) {
+      throw new OutOfMemory(String(fault));
+    }
+  }
 }
 
-/** One run, with so many bytes of room for the output and for the run's own memory. */
-function attempt(module, command, options, inputs, room, region) {
+// One run with so much room for its output and in its region, both in bytes. `options` are a gap in
+// seconds for merge, show, history and widen, and for convert capture the name of a receiver and a moment,
+// texts. Returns the answer, the name of an input's fault, and what was written, or null where that
+// had no room.
+function attempt(module, command, options, inputs, outputRoom, regionRoom) {
   const it = new WebAssembly.Instance(module).exports, { memory } = it;
+  const layout = new Layout(Number(it.__heap_base.value));
   const words = command === "convert capture"
     ? options.map(word => new TextEncoder().encode(word)) : [];
-  const at = layOut(Number(it.__heap_base.value), words, inputs, room, region);
-  const pages = Math.ceil((at.region + region) / WASM_PAGE) - memory.buffer.byteLength / WASM_PAGE;
-  if (pages > 0) grow(memory, pages);
+  const total = inputs.reduce((sum, input) => sum + input.length, 0);
+  const answer = layout.take(40), region = layout.take(16);
+  const lengths = layout.take(8 * inputs.length);
+  const places = words.map(word => layout.take(word.length)), text = layout.take(total);
+  const output = layout.take(outputRoom), name = layout.take(NAME_ROOM);
+  const start = layout.take(regionRoom);
+  layout.fit(memory);
   const view = new DataView(memory.buffer), bytes = new Uint8Array(memory.buffer);
-  const put = (where, value) => view.setBigUint64(where, BigInt(value), true);
-  put(at.struct, at.region);
-  put(at.struct + 8, region / 16);
-  words.forEach((word, k) => bytes.set(word, at.words[k]));
-  let where = at.inputs;
+  const put = (at, value) => view.setBigUint64(at, BigInt(value), true);
+  put(region, start);
+  put(region + 8, Math.floor(regionRoom / 16));
+  words.forEach((word, k) => bytes.set(word, places[k]));
+  let at = text;
   inputs.forEach((input, k) => {
-    bytes.set(input, where);
-    where += input.length;
-    put(at.lengths + 8 * k, input.length);
+    bytes.set(input, at);
+    at += input.length;
+    put(lengths + 8 * k, input.length);
   });
-  const given = [at.answer, at.struct];
-  if (SEVERAL.includes(command) || command === "widen") given.push(options);
-  words.forEach((word, k) => given.push(at.words[k], word.length));
-  given.push(at.inputs, at.total);
-  if (SEVERAL.includes(command)) given.push(at.lengths, inputs.length);
-  it[EXPORTS[command]](...[...given, at.output, room, at.name, NAME].map(BigInt));
-  const [status, input, line, length, named] = [0, 8, 16, 24, 32]
-    .map(k => Number(view.getBigUint64(at.answer + k, true)));
-  return { status, input, line, length,
-    fault: String.fromCharCode(...bytes.subarray(at.name, at.name + named)),
-    bytes: length <= room ? bytes.slice(at.output, at.output + length) : null };
+  const given = [answer, region];
+  if (WITH_GAP.includes(command)) given.push(options);
+  words.forEach((word, k) => given.push(places[k], word.length));
+  given.push(text, total);
+  if (OF_SEVERAL.includes(command)) given.push(lengths, inputs.length);
+  it[FUNCTIONS[command]](...[...given, output, outputRoom, name, NAME_ROOM].map(BigInt));
+  const [status, input, line, written, named] =
+    [0, 8, 16, 24, 32].map(field => Number(view.getBigUint64(answer + field, true)));
+  return {
+    status, input, line, written,
+    fault: String.fromCharCode(...bytes.subarray(name, name + named)),
+    bytes: written <= outputRoom ? bytes.slice(output, output + written) : null,
+  };
 }
 
-/**
- * Runs a command over inputs (Uint8Arrays), again with more room where there was too little, up to
- * `most` bytes. `options` are a gap in seconds for merge, show, history and widen, and for a capture
- * the receiver's name and a moment.
- */
+// A run of a command over inputs, which are Uint8Arrays, again with more room where there was too
+// little, up to a region of `most` bytes.
 function run(module, command, options, inputs, most = 2 ** 33) {
-  const total = inputs.reduce((sum, it) => sum + it.length, 0);
-  let room = 2 * total + 65536, region = 16 * Math.ceil(total / 2) + (1 << 22);
+  const total = inputs.reduce((sum, input) => sum + input.length, 0);
+  let outputRoom = 2 * total + PAGE, regionRoom = 16 * Math.ceil(total / 2) + (1 << 22);
   for (;;) {
-    const got = attempt(module, command, options, inputs, room, region);
-    if ((got.status === 3 || got.status === 4) && 2 * region <= most) region *= 2;
-    else if (!got.bytes) room = got.length;
+    const got = attempt(module, command, options, inputs, outputRoom, regionRoom);
+    if ((got.status === 3 || got.status === 4) && 2 * regionRoom <= most) regionRoom *= 2;
+    else if (!got.bytes) outputRoom = got.written;
     else return got;
   }
 }
-if (typeof module !== "undefined") module.exports = { attempt, run };
+
+if (typeof module !== "undefined") module.exports = { FUNCTIONS, OutOfMemory, attempt, run };

@@ -139,17 +139,22 @@ class NetMap {
     // stations lie above the rest, and what is picked above all
     const rank = it => it.picked ? 4 : it.place.state === "killed" ? 0 : RANK[it.thing.kind];
     shown.sort((a, b) => rank(a) - rank(b));
-    for (const it of shown) if (it.thing.places.length > 1) this.paintTrack(it);
+    this.paintTracks(shown);
     this.paintRuler();
     this.paintMarks(shown);
     for (const label of labels) this.write(label.text, label.x, label.y, colours.soft, 11);
     this.paintScale();
   }
-  /** Draws a line through places, broken where `breaks` says so or where it leaves this side. */
-  line(vectors, breaks = () => false) {
+  /** Draws a line through places. */
+  line(vectors) {
+    this.pen.beginPath();
+    this.trace(vectors, () => false);
+    this.pen.stroke();
+  }
+  /** A path through places, broken where `breaks` says so or where it leaves this side. */
+  trace(vectors, breaks) {
     const { pen, view } = this, { width, height } = view;
     let lastX = 0, lastY = 0, drawn = false;
-    pen.beginPath();
     for (let k = 0; k < vectors.length; k++) {
       const near = view.put(vectors[k]), { x, y } = view;
       const whole = drawn && near && !breaks(k);
@@ -162,7 +167,6 @@ class NetMap {
       else pen.moveTo(x, y);
       [lastX, lastY, drawn] = [x, y, near];
     }
-    pen.stroke();
   }
   paintBase(base) {
     const { pen, colours } = this;
@@ -183,15 +187,33 @@ class NetMap {
     const near = this.view.put(vector), { x, y, width, height } = this.view;
     return near && x > -10 && y > -10 && x < width + 10 && y < height + 10;
   }
-  paintTrack({ thing, picked }) {
-    const { pen } = this, places = this.until === Infinity ? thing.places
-      : thing.places.filter(it => it.first <= this.until);
-    pen.strokeStyle = this.colours.tracks[colourOf(thing.key)];
-    pen.lineWidth = picked ? 4 : 2;
-    pen.globalAlpha = picked || !this.picked ? 0.85 : 0.3;
-    // a kill ends a segment
-    this.line(places.map(it => it.vector), k => places[k - 1].state === "killed");
+  /** The tracks of all, those of one colour at once. */
+  paintTracks(shown) {
+    const { pen } = this, moved = shown.filter(it => it.thing.places.length > 1);
+    const draw = list => {
+      pen.beginPath();
+      for (const { thing } of list) this.traceTrack(thing);
+      pen.stroke();
+    };
+    const picked = moved.filter(it => it.picked), rest = moved.filter(it => !it.picked);
+    pen.lineWidth = 2;
+    pen.globalAlpha = this.picked ? 0.3 : 0.85;
+    this.colours.tracks.forEach((colour, k) => {
+      pen.strokeStyle = colour;
+      draw(rest.filter(it => colourOf(it.thing.key) === k));
+    });
     pen.globalAlpha = 1;
+    pen.lineWidth = 4;
+    for (const it of picked) {
+      pen.strokeStyle = this.colours.tracks[colourOf(it.thing.key)];
+      draw([it]);
+    }
+  }
+  traceTrack(thing) {
+    const places = this.until === Infinity ? thing.places
+      : thing.places.filter(it => it.first <= this.until);
+    // a kill ends a segment
+    this.trace(places.map(it => it.vector), k => places[k - 1].state === "killed");
   }
   /** The line between what was picked before and what is picked. */
   paintRuler() {
@@ -211,24 +233,36 @@ class NetMap {
     }
     const { width, height } = this.view, room = new Room(width, height);
     const small = this.marks.length > 250, reach = small ? 4 : 10;
+    if (small) this.paintDots(this.marks.filter(it => !it.picked));
     for (const mark of this.marks) {
-      this.paintMark(mark, small && !mark.picked);
+      if (!small || mark.picked) this.paintMark(mark);
       room.take(mark.x - reach, mark.y - reach, mark.x + reach, mark.y + reach);
     }
     // the picked one comes first, so that its name has room
     const named = this.marks.slice(small ? -600 : 0).reverse();
     for (const mark of named) this.name(mark, room, reach);
   }
-  paintMark({ thing, place, picked, x, y }, small) {
+  colourAt(thing, place) {
+    return place.state === "killed" ? this.colours.soft : this.colours.tracks[colourOf(thing.key)];
+  }
+  /** Marks where there are many: dots, those of one colour at once. */
+  paintDots(marks) {
+    const { pen } = this, byColour = new Map();
+    for (const { thing, place, x, y } of marks) {
+      const colour = this.colourAt(thing, place);
+      if (!byColour.has(colour)) byColour.set(colour, new Path2D());
+      byColour.get(colour).rect(x - 3, y - 3, 6, 6);
+    }
+    for (const [colour, dots] of byColour) {
+      pen.fillStyle = colour;
+      pen.fill(dots);
+    }
+  }
+  paintMark({ thing, place, picked, x, y }) {
     const { pen, colours } = this, killed = place.state === "killed";
-    const colour = killed ? colours.soft : colours.tracks[colourOf(thing.key)];
+    const colour = this.colourAt(thing, place);
     if (OPEN[place.ambiguity]) this.ring(x, y, place, colour);
     pen.fillStyle = colour;
-    if (small) {
-      pen.beginPath();
-      pen.arc(x, y, 3.5, 0, 7);
-      return pen.fill();
-    }
     const motion = motionOf(place);
     if (motion?.course && !killed) this.arrow(x, y, motion.course);
     pen.strokeStyle = picked ? colours.ink : colours.paper;

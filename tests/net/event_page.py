@@ -135,7 +135,7 @@ def test_contrast(_):
         return 0.2126 * parts[0] + 0.7152 * parts[1] + 0.0722 * parts[2]
 
     style = INSIDE.findall(read(event_page(LOGS[0]))[0])[0][1]
-    blocks = re.findall(r":root \{([^}]*)\}", style)
+    blocks = re.findall(r":root(?:\.printed)? \{([^}]*)\}", style)
     assert len(blocks) == 3
     for block in blocks:
         colours = dict(re.findall(r"--(\w+): (#\w+)", block))

@@ -7,20 +7,18 @@ usage: in_browser.py EXAMPLES [PICTURES]    aprsbook, aprsbook-history and the r
 """
 import base64
 import csv
-import functools
-import http.server
 import io
 import json
 import pathlib
 import subprocess
 import sys
 import tempfile
-import threading
 import time
 import xml.etree.ElementTree
 
 import browser
 import hostile
+from serving import Server
 
 sys.dont_write_bytecode = True
 EXAMPLES = pathlib.Path(sys.argv[1])
@@ -418,17 +416,6 @@ def test_scale(page, folder):
     picture(page, "many")
 
 
-class Quiet(http.server.SimpleHTTPRequestHandler):
-    def log_message(self, *_):
-        pass
-
-
-def serve(folder, port=0):
-    server = http.server.ThreadingHTTPServer(("127.0.0.1", port), functools.partial(Quiet, directory=folder))
-    threading.Thread(target=server.serve_forever, daemon=True).start()
-    return server
-
-
 def test_live(page, folder):
     path = folder / "live.html"
     event_page(path, "--live", "1", EVENING[0])
@@ -455,22 +442,17 @@ def test_live(page, folder):
 def test_served(page, folder):
     """From a server: only the data are asked for again, and the page stays while the server is away."""
     event_page(folder / "live.html", "--live", "1", EVENING[0])
-    server = serve(folder)
-    port = server.server_address[1]
-    page.open(f"http://127.0.0.1:{port}/live.html")
-    is_(page.problems(), [])
-    event_page(folder / "live.html", "--live", "1", *EVENING)
-    page.events.clear()
-    page.wait("document.querySelector('header p').textContent.includes('64 transmissions')")
-    is_(page.happened("Page.loadEventFired"), [])
-    server.shutdown()
-    server.server_close()
+    with Server(folder) as server:
+        page.open(f"http://127.0.0.1:{server.port}/live.html")
+        is_(page.problems(), [])
+        event_page(folder / "live.html", "--live", "1", *EVENING)
+        page.events.clear()
+        page.wait("document.querySelector('header p').textContent.includes('64 transmissions')")
+        is_(page.happened("Page.loadEventFired"), [])
     page.wait("stale.textContent.startsWith('the server has been away since 20')")
     is_(page.js("document.querySelector('#things tbody th').textContent"), "Q1BAY")
-    server = serve(folder, port)
-    page.wait("!stale.textContent.includes('away')")
-    server.shutdown()
-    server.server_close()
+    with Server(folder, server.port):
+        page.wait("!stale.textContent.includes('away')")
 
 
 def picture(page, name, whole=False):
