@@ -7,5 +7,5 @@ if (byId("data").textContent.trim()) {
   if (page.data.live) beginAlive();
 }
 // for the script that reads logs, and for tests
-globalThis.aprsbook = Object.freeze({ page, show, refresh, begin: beginClock, bring, make, byId, save, count,
-  choose, chosen, tick, SAVES, alive });
+globalThis.aprsbook = Object.freeze({ page, show, refresh, bring, make, byId, save, count, choose,
+  chosen, tick, SAVES, alive });

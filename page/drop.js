@@ -40,7 +40,9 @@ async function run(command, options, inputs) {
 // ---- files
 
 const asText = bytes => new TextDecoder("latin1").decode(bytes);
-const place = got => (/^[A-Z]/.test(got.fault) ? `line ${got.line}: ` : "") + (got.fault || "out of memory");
+/** A fault of an input, as the program says it. */
+const place = got =>
+  (/^[A-Z]/.test(got.fault) ? `line ${got.line}: ` : "") + (got.fault || "out of memory");
 
 /** What a file is, by how it begins. */
 function kindOf(bytes, name) {
@@ -102,8 +104,9 @@ function fileRow(file) {
     textContent: file.fault || file.said }));
   if (file.passed.length) {
     const most = file.passed.slice(0, 50).map(it => make("li", { textContent: it }));
-    told.append(make("details", { aria: { "aria-label": "lines passed over" } }, make("summary", { textContent: `${count(file.passed.length, "line")} passed over` }),
-      make("ul", {}, ...most)));
+    const words = `${count(file.passed.length, "line")} passed over`;
+    told.append(make("details", { aria: { "aria-label": "lines passed over" } },
+      make("summary", { textContent: words }), make("ul", {}, ...most)));
   }
   if (file.kind === "KISS stream") {
     const set = key => async event => { file[key] = event.target.value; await look(file); work(); };
@@ -135,7 +138,8 @@ const optionsOf = () => ({ title: byId("name").value || "APRS net", gap: +byId("
 async function textsOf(good, gap, tellShare) {
   const call = async (command, inputs) => {
     const got = await run(command, gap, inputs);
-    if (got.status) throw Object.assign(new Error(place(got)), { at: got.status === 1 ? got.input : -1 });
+    if (got.status)
+      throw Object.assign(new Error(place(got)), { at: got.status === 1 ? got.input : -1 });
     return got.bytes;
   };
   const book = await call("merge", good.map(it => it.taken));
@@ -245,8 +249,8 @@ async function beginReading() {
     const many = Math.max(2, Math.min(3, navigator.hardwareConcurrency || 2));
     await Promise.all(Array.from({ length: many }, () => ask(addWorker(), "load", module)));
   } catch (fault) {
-    return say(`This browser can't run the page (${fault.message}): it takes Chromium or Edge 133, ` +
-      "Firefox 134, or newer.", true);
+    return say(`This browser can't run the page (${fault.message}): it takes Chromium or Edge ` +
+      "133, Firefox 134, or newer.", true);
   }
   listen();
   byId("choose").disabled = false;

@@ -3,7 +3,7 @@
 const page = { data: null, all: null, net: null, map: null, lists: {}, bases: [], roster: [],
   found: [], brought: [], until: Infinity, playing: null, finder: new Map() };
 
-/** The moment to which ages count: now where the page goes on, or else the last one of the inputs. */
+/** The moment to which ages count: now where the page goes on, or else the last of the inputs. */
 const presentOf = () => page.data.live || page.follows ? Date.now() / 1000 : page.all.end;
 const view = {
   get now() { return presentOf(); },
@@ -64,34 +64,40 @@ function drawAbout() {
     byId("about").textContent = all.rows.length ? "Nothing was heard in this time." :
       page.data.waits ? "" : "Nothing was heard yet.";
   else {
-    const to = (clocks.dated ? dateText(net.end) + " " : "") +
-      `${hourText(net.end)}:${two(civil(net.end)[5])} ${zone}`;
-    byId("about").replaceChildren(`${fullText(net.begin).replace(" " + zone, "")} to ${to} \u00b7 ` +
-      `${count(net.rows.length, "transmission")} of ${count(stations, "station")} \u00b7 ` +
-      `heard by ${net.receivers.map(it => it.name).join(", ")}`);
+    const by = net.receivers.map(it => it.name).join(", ");
+    const to = (clocks.dated ? dateText(net.end) + " " : "") + secondText(net.end);
+    byId("about").textContent = `${dateText(net.begin)} ${secondText(net.begin)} to ${to} ` +
+      `${zone} \u00b7 ${count(net.rows.length, "transmission")} of ` +
+      `${count(stations, "station")} \u00b7 heard by ${by}`;
   }
 }
-/** What wants doing, each with a link to where it stands. */
-function drawNews() {
-  const { net, data } = page, news = [];
-  const tell = (href, kind, ...words) => news.push(make("a", { href, className: kind }, ...words), " ");
-  if (net.rows.length) {
-    const of = state => net.messages.filter(it => it.state === state).length;
-    const unanswered = of("unanswered"), open = of("not judged");
-    tell("#said", unanswered ? "bad" : "good", `${count(unanswered, "message")} unanswered`);
-    if (open) tell("#said", "warn", `${count(open, "message")} can\u2019t be judged`);
-    const silent = net.things.filter(view.isSilent).length;
-    tell("#list", silent ? "warn" : "good", `${count(silent, "station")} silent for over ${data.silent} min`);
-    const missing = rosterOf(page.roster, net).filter(it => presentOf() - it.last > view.silent);
-    if (page.roster.length)
-      tell("#roster", missing.length ? "bad" : "good", `${missing.length} of ${page.roster.length} expected not heard`);
-    for (const it of net.receivers) {
-      const clock = clockWords(it, data.gap);
-      if (clock.wrong) tell("#ears", "bad", `the clock of ${it.name} is ${clock.text} from the others`);
-    }
+/** What wants doing: where it stands, how bad it is, and in words. */
+function newsOf(net, data) {
+  const of = state => net.messages.filter(it => it.state === state).length;
+  const unanswered = of("unanswered"), open = of("not judged"), { roster } = page;
+  const silent = net.things.filter(view.isSilent).length;
+  const missing = rosterOf(roster, net).filter(it => presentOf() - it.last > view.silent).length;
+  const news = [];
+  news.push(["#said", unanswered ? "bad" : "good", `${count(unanswered, "message")} unanswered`]);
+  if (open) news.push(["#said", "warn", `${count(open, "message")} can\u2019t be judged`]);
+  news.push(["#list", silent ? "warn" : "good",
+    `${count(silent, "station")} silent for over ${data.silent} min`]);
+  if (roster.length) news.push(["#roster", missing ? "bad" : "good",
+    `${missing} of ${roster.length} expected not heard`]);
+  for (const it of net.receivers) {
+    const clock = clockWords(it, data.gap);
+    if (clock.wrong)
+      news.push(["#ears", "bad", `the clock of ${it.name} is ${clock.text} from the others`]);
   }
-  for (const text of data.notes) news.push(make("span", { className: "bad", textContent: text }), " ");
-  byId("news").replaceChildren(...news);
+  return news;
+}
+function drawNews() {
+  const news = page.net.rows.length ? newsOf(page.net, page.data) : [];
+  const nodes = news.map(([href, className, textContent]) =>
+    make("a", { href, className, textContent }));
+  for (const text of page.data.notes)
+    nodes.push(make("span", { className: "bad", textContent: text }));
+  byId("news").replaceChildren(...nodes.flatMap(it => [it, " "]));
 }
 function drawLists() {
   const { net, lists } = page;
@@ -127,8 +133,8 @@ function sift() {
     : `${page.found.length} of ${things.length}`;
   page.lists.things.show(page.found);
   page.map.show(page.found);
-  const placed = page.map.things.length;
-  byId("map").setAttribute("aria-label", `map of ${count(placed, "place")}; the table has them too`);
+  const placed = count(page.map.things.length, "place");
+  byId("map").setAttribute("aria-label", `map of ${placed}; the table has them too`);
   choose("find", byId("find").value);
   choose("kind", kind);
 }
@@ -157,8 +163,9 @@ function drawOne() {
   page.lists.places.show([...thing.places].reverse());
 }
 function factsOf(thing) {
-  const { now } = thing, facts = [["last heard", momentOf(thing.last), ` by ${thing.by.join(", ")}`],
-    ["sent", String(thing.sent)]];
+  const { now } = thing, facts = [];
+  facts.push(["last heard", momentOf(thing.last), ` by ${thing.by.join(", ")}`],
+    ["sent", String(thing.sent)]);
   if (now) {
     const word = symbolOf(now).word, words = wordsOf(now);
     if (word) facts.push(["symbol", word]);
@@ -179,11 +186,13 @@ function factsOf(thing) {
 }
 function placeList(box) {
   const row = it => make("tr", {}, timeCell(it.first), cell("where", ...whereOf(it)),
-    cell("about", wordsOf(it).join(", ")), cell("about", air(it.comment)), cell("by", it.receivers.join(", ")));
+    cell("about", wordsOf(it).join(", ")), cell("about", air(it.comment)),
+    cell("by", it.receivers.join(", ")));
   return new List(box, { id: "places", caption: "places", row, none: "no place", columns: [
     { title: "heard", number: true, value: it => it.first },
     { title: "place", value: it => it.north }, { title: "says", value: it => wordsOf(it).join() },
-    { title: "comment", value: it => it.comment }, { title: "by", value: it => it.receivers.join() }] });
+    { title: "comment", value: it => it.comment },
+    { title: "by", value: it => it.receivers.join() }] });
 }
 
 // ---- the time that the map shows
@@ -221,13 +230,11 @@ function play() {
 /** Takes a base map or a roster; says so where it is none. */
 function bring(name, text) {
   try {
-    if (/^\s*[<{[]/.test(text)) page.brought.push({ name, text, base: readBase(text) });
-    else {
-      const roster = readRoster(text);
-      if (!roster.length) throw new Error("no map and no list of calls");
-      page.brought.push({ name, text, roster });
-    }
-    tell(`${name}: ${page.brought.at(-1).base ? "a map" : count(page.brought.at(-1).roster.length, "call")}`);
+    const base = /^\s*[<{[]/.test(text) ? readBase(text) : null;
+    const roster = base ? [] : readRoster(text);
+    if (!base && !roster.length) throw new Error("no map and no list of calls");
+    page.brought.push({ name, text, base, roster });
+    tell(`${name}: ${base ? "a map" : count(roster.length, "call")}`);
   } catch (fault) {
     tell(`${name}: ${fault.message}`, true);
   }
@@ -260,8 +267,14 @@ function listenToControls() {
   on("play", "click", play);
   on("find", "input", sift);
   on("kind", "change", sift);
-  on("since", "change", () => { choose("since", byId("since").value.replace(/^0$/, "")); refresh(); });
-  on("local", "change", () => { choose("time", byId("local").checked ? "local" : ""); refresh(); });
+  on("since", "change", () => {
+    choose("since", byId("since").value === "0" ? "" : byId("since").value);
+    refresh();
+  });
+  on("local", "change", () => {
+    choose("time", byId("local").checked ? "local" : "");
+    refresh();
+  });
   on("one-close", "click", () => pick(page.picked));
   on("bring", "change", event => bringAll(event.target.files));
   on("away", "click", () => { page.brought = []; tell(""); readBrought(); refresh(); });
@@ -297,15 +310,19 @@ function begin() {
   byId("local").checked = chosen.get("time") === "local";
   byId("find").value = chosen.get("find") || "";
   byId("kind").value = chosen.get("kind") || "";
-  page.lists = { messages: messageList(byId("messages-box")), bulletins: bulletinList(byId("bulletins-box")),
-    things: thingList(byId("things-box"), view), receivers: receiverList(byId("receivers-box"), view),
-    roster: rosterList(byId("roster-box"), view), places: placeList(byId("one-places")) };
+  page.lists = {
+    messages: messageList(byId("messages-box")), bulletins: bulletinList(byId("bulletins-box")),
+    things: thingList(byId("things-box"), view), places: placeList(byId("one-places")),
+    receivers: receiverList(byId("receivers-box"), view),
+    roster: rosterList(byId("roster-box"), view),
+  };
   drawSaves();
   listenToControls();
 }
 /** Puts the clock where it was left. */
 function beginClock() {
   const { net } = page, at = chosen.get("clock"), clock = byId("clock");
-  if (at && net.rows.length) clock.value = (at - net.begin) / Math.max(1, net.end - net.begin) * clock.max;
+  const share = (at - net.begin) / Math.max(1, net.end - net.begin);
+  if (at && net.rows.length) clock.value = share * clock.max;
   turnClock();
 }

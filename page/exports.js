@@ -36,9 +36,8 @@ function segmentsOf(thing) {
   }
   return segments.filter(it => it.length);
 }
-const hasMoved = thing => thing.places.some(it => it.where.split(" ", 3).join() !==
-  thing.places[0].where.split(" ", 3).join() &&
-  (it.north !== thing.places[0].north || it.east !== thing.places[0].east));
+const hasMoved = ({ places }) =>
+  places.some(it => it.north !== places[0].north || it.east !== places[0].east);
 
 function gpxOf(things, title) {
   const at = it => `lat="${decimal(it.north)}" lon="${decimal(it.east)}"`;
@@ -50,7 +49,8 @@ function gpxOf(things, title) {
       .join("") + "</trkseg>").join("") + "</trk>\n");
   return '<?xml version="1.0" encoding="UTF-8"?>\n<gpx version="1.1" creator="aprsbook" ' +
     'xmlns="http://www.topografix.com/GPX/1/1">\n' +
-    `<metadata><name>${markup(title)}</name></metadata>\n${points.join("")}${tracks.join("")}</gpx>\n`;
+    `<metadata><name>${markup(title)}</name></metadata>\n${points.join("")}${tracks.join("")}` +
+    "</gpx>\n";
 }
 
 /** A line of [east, north], cut where it goes over the date line (RFC 7946, 3.1.9). */
@@ -60,7 +60,8 @@ function cutAtDateLine(spots) {
     const [lastEast, lastNorth] = spots[k - 1] || [east, north];
     if (Math.abs(east - lastEast) > 180) {
       const side = lastEast < 0 ? -180 : 180, way = east - lastEast + (lastEast < 0 ? -360 : 360);
-      const share = way ? (side - lastEast) / way : 0, between = lastNorth + (north - lastNorth) * share;
+      const share = way ? (side - lastEast) / way : 0;
+      const between = lastNorth + (north - lastNorth) * share;
       lines.at(-1).push([side, between]);
       lines.push([[-side, between]]);
     }
@@ -70,7 +71,8 @@ function cutAtDateLine(spots) {
 }
 function geoJsonOf(things) {
   const spot = it => [Number(decimal(it.east)), Number(decimal(it.north))], features = [];
-  const feature = (geometry, properties) => features.push({ type: "Feature", geometry, properties });
+  const feature = (geometry, properties) =>
+    features.push({ type: "Feature", geometry, properties });
   for (const it of things)
     for (const at of it.places)
       feature({ type: "Point", coordinates: spot(at) }, { kind: it.kind, name: it.label,
@@ -86,9 +88,10 @@ function geoJsonOf(things) {
 }
 function kmlOf(things, title) {
   const spot = it => `${decimal(it.east)},${decimal(it.north)}`;
-  const one = it => `<Placemark><name>${markup(it.label)}</name><description>` +
-    `${markup(said(it.now.comment))}</description><TimeStamp><when>${isoText(it.now.first)}</when>` +
-    `</TimeStamp><Point><coordinates>${spot(it.now)}</coordinates></Point></Placemark>\n`;
+  const one = it => `<Placemark><name>${markup(it.label)}</name>` +
+    `<description>${markup(said(it.now.comment))}</description>` +
+    `<TimeStamp><when>${isoText(it.now.first)}</when></TimeStamp>` +
+    `<Point><coordinates>${spot(it.now)}</coordinates></Point></Placemark>\n`;
   const track = it => `<Placemark><name>${markup(it.label)} track</name><MultiGeometry>` +
     segmentsOf(it).map(run => "<LineString><tessellate>1</tessellate><coordinates>" +
       `${run.map(spot).join(" ")}</coordinates></LineString>`).join("") +
@@ -104,7 +107,8 @@ const SAVES = {
   "messages (CSV)": net => ["messages.csv", "text/csv", messagesCsv(net)],
   "places and tracks (GPX)": (net, data) =>
     ["net.gpx", "application/gpx+xml", gpxOf(net.placed, data.title)],
-  "places and tracks (GeoJSON)": net => ["net.geojson", "application/geo+json", geoJsonOf(net.placed)],
+  "places and tracks (GeoJSON)": net =>
+    ["net.geojson", "application/geo+json", geoJsonOf(net.placed)],
   "places and tracks (KML)": (net, data) =>
     ["net.kml", "application/vnd.google-earth.kml+xml", kmlOf(net.placed, data.title)],
   "listing (text)": (net, data) => ["net.txt", "text/plain", data.listing],

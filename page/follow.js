@@ -1,4 +1,5 @@
-// A page that is served beside logs: it reads a list of their names, and asks again for what has grown.
+// A page that is served beside logs: it reads a list of their names, and asks again for what has
+// grown.
 
 const { alive, tick, choose, chosen } = globalThis.aprsbook;
 const EACH = 15; // seconds

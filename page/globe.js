@@ -1,5 +1,6 @@
 // The earth as a ball: places are unit vectors, so that the date line and the poles are nothing
-// special. The map is Lambert's azimuthal projection, with areas kept, around the middle of the view.
+// special. The map is Lambert's azimuthal projection, with areas kept, around the middle of the
+// view.
 
 const RADIUS = 6371008.8; // metres
 const RADIAN = Math.PI / 180;
@@ -58,7 +59,7 @@ class Projection {
     this.centre = vectorOf(...this.middle);
     this.frame = frameAt(...this.middle);
   }
-  /** Puts the pixel of a place into x and y; says whether the place is on this side of the earth. */
+  /** Puts the pixel of a place into x and y; says whether it is on this side of the earth. */
   put(vector) {
     const near = dot(this.centre, vector), k = this.scale * Math.sqrt(2 / Math.max(1e-9, 1 + near));
     this.x = this.width / 2 + k * dot(this.frame.east, vector);

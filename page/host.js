@@ -48,9 +48,9 @@ class Layout {
 }
 
 // One run with so much room for its output and in its region, both in bytes. `options` are a gap in
-// seconds for merge, show, history and widen, and for convert capture the name of a receiver and a moment,
-// texts. Returns the answer, the name of an input's fault, and what was written, or null where that
-// had no room.
+// seconds for merge, show, history and widen, and for convert capture the name of a receiver and a
+// moment, texts. Returns the answer, the name of an input's fault, and what was written, or null
+// where that had no room.
 function attempt(module, command, options, inputs, outputRoom, regionRoom) {
   const it = new WebAssembly.Instance(module).exports, { memory } = it;
   const layout = new Layout(Number(it.__heap_base.value));

@@ -10,13 +10,15 @@ class List {
    */
   constructor(box, { id, caption, columns, row, none = "none" }) {
     Object.assign(this, { box, id, columns, row, none, items: [], built: 0 });
-    const heads = columns.map((it, n) => make("th", { scope: "col", className: it.number ? "num" : "" },
-      it.value ? make("button", { type: "button", textContent: it.title, onclick: () => this.turn(n) })
-        : it.title));
+    const button = (textContent, n) =>
+      make("button", { type: "button", textContent, onclick: () => this.turn(n) });
+    this.heads = columns.map((it, n) =>
+      make("th", { scope: "col", className: it.number ? "num" : "" },
+        it.value ? button(it.title, n) : it.title));
     this.body = make("tbody");
     this.table = make("table", { id, className: "sorted" },
-      make("caption", { textContent: caption }), make("thead", {}, make("tr", {}, ...heads)), this.body);
-    this.heads = heads;
+      make("caption", { textContent: caption }),
+      make("thead", {}, make("tr", {}, ...this.heads)), this.body);
     const [, column, way] = /^(\d+)([ad])$/.exec(chosen.get(id)) || [];
     this.order = columns[column]?.value ? { column: +column, down: way === "d" } : null;
     box.addEventListener("scroll", () => {
@@ -96,3 +98,5 @@ const collator = new Intl.Collator("en", { numeric: true });
 const cell = (className, ...inside) => make("td", { className }, ...inside);
 const number = n => cell("num", n === undefined || n === 0 ? "" : n.toLocaleString("en"));
 const timeCell = seconds => cell("num time", momentOf(seconds));
+const ageCell = (seconds, view) => make("td", { className: "num age", data: { v: seconds },
+  textContent: age(view.now - seconds) });

@@ -37,8 +37,8 @@ class NetMap {
   /** `node` holds a canvas; `onPick` is told of the thing that was picked, `onView` of a move. */
   constructor(node, onPick, onView) {
     Object.assign(this, { node, onPick, onView, canvas: node.querySelector("canvas"),
-      view: new Projection(), placed: [], things: [], bases: [], picked: null, from: null, until: Infinity,
-      fitted: true, marks: [], colours: {}, widths: new Map() });
+      view: new Projection(), placed: [], things: [], bases: [], picked: null, from: null,
+      until: Infinity, fitted: true, marks: [], colours: {}, widths: new Map() });
     this.pen = this.canvas.getContext("2d");
     this.paintSoon = oncePerFrame(() => this.paint());
     this.readColours();
@@ -348,10 +348,9 @@ class NetMap {
 }
 const FONT = (size, bold) => `${bold ? "600 " : ""}${size}px system-ui, sans-serif`;
 
-/** Parallels and meridians, and their names for the edge of the map. */
-function paintGrid(pen, view, colours) {
-  const { width, height, scale } = view, labels = [];
-  const edge = [];
+/** The parallels and meridians between which the map lies, in degrees; `wide` if all around. */
+function rangeOf(view) {
+  const { width, height } = view, edge = [], mid = view.middle[1];
   for (let k = 0; k <= 24; k++)
     for (const [x, y] of [[k / 24 * width, 0], [k / 24 * width, height], [0, k / 24 * height],
       [width, k / 24 * height]]) edge.push(degreesOf(view.at(x, y)));
@@ -359,22 +358,28 @@ function paintGrid(pen, view, colours) {
     const near = view.put(vectorOf(north, 0));
     return near && view.x >= 0 && view.y >= 0 && view.x <= width && view.y <= height;
   });
-  const [mid] = view.middle.slice(1), turned = edge.map(([, east]) => (east - mid + 540) % 360 - 180);
+  const turned = edge.map(([, east]) => (east - mid + 540) % 360 - 180);
   const norths = [...edge.map(it => it[0]), ...(pole === undefined ? [] : [pole])];
   const low = Math.min(...norths), high = Math.max(...norths);
   const wide = pole !== undefined || Math.max(...turned) - Math.min(...turned) > 300;
   const [west, east] = wide ? [-180, 180] : [Math.min(...turned), Math.max(...turned)];
+  return { low, high, west: mid + west, east: mid + east, wide };
+}
+/** Draws parallels and meridians, and returns their names for the edge of the map. */
+function paintGrid(pen, view, colours) {
+  const { width, height, scale } = view, { low, high, west, east, wide } = rangeOf(view);
+  const labels = [];
   Object.assign(pen, { strokeStyle: colours.line, lineWidth: 1 });
   const stepNorth = Math.min(30, roundUp(70 / scale / RADIAN));
   for (const north of steps(low, high, stepNorth)) {
     if (Math.abs(north) > 90) continue;
-    const label = gridLine(pen, view, t => [north, mid + west + (east - west) * t], "x", 4);
+    const label = gridLine(pen, view, t => [north, west + (east - west) * t], "x", 4);
     if (label && label.y > 15)
       labels.push({ text: degreeText(north, stepNorth, "NS"), x: 4, y: label.y - 3 });
   }
   const level = Math.max(0.02, Math.cos(Math.min(89, Math.abs(view.middle[0])) * RADIAN));
   const stepEast = wide ? 30 : Math.min(30, roundUp(90 / scale / RADIAN / level));
-  for (const at of steps(mid + west, mid + east, stepEast)) {
+  for (const at of steps(west, east, stepEast)) {
     const turnedEast = (at + 540) % 360 - 180;
     const label = gridLine(pen, view, t => [low + (high - low) * t, at], "y", height - 4);
     if (label && label.x > 40 && label.x < width - 50)
@@ -388,7 +393,8 @@ function steps(from, to, by) {
     (_, k) => (first + k) * by);
 }
 function degreeText(at, by, marks) {
-  const digits = Math.max(0, -Math.floor(Math.log10(by) + 1e-9)), text = Math.abs(at).toFixed(digits);
+  const digits = Math.max(0, -Math.floor(Math.log10(by) + 1e-9));
+  const text = Math.abs(at).toFixed(digits);
   const mark = +text === 0 || marks === "EW" && +text === 180 ? "" : marks[at < 0 ? 1 : 0];
   return `${text}\u00b0${mark}`;
 }

@@ -45,15 +45,16 @@ function readGeoJson(text) {
 }
 
 /** The calls of a roster: the first word of each line, and what stands after it. */
+const expected = /^\s*([A-Za-z0-9]{1,6}(?:-[0-9]{1,2})?)(?:[\s,;]+(.*))?$/;
 function readRoster(text) {
   const list = [];
   for (const line of text.split(/\r?\n/)) {
-    const [, call, note] = /^\s*([A-Za-z0-9]{1,6}(?:-[0-9]{1,2})?)(?:[\s,;]+(.*))?$/.exec(line) || [];
+    const [, call, note] = expected.exec(line) || [];
     if (call) list.push({ call: call.toUpperCase(), note: (note || "").trim() });
   }
   return list;
 }
-/** Of each expected station when it was last heard. A call without SSID stands for each of its SSIDs. */
+/** When each expected station was last heard. A call without SSID stands for each of its SSIDs. */
 function rosterOf(list, net) {
   const last = new Map();
   for (const it of net.things) {
@@ -67,10 +68,10 @@ function rosterList(box, view) {
   const row = it => {
     const heard = it.last > -Infinity, silent = !heard || view.now - it.last > view.silent;
     return make("tr", { className: silent ? "silent" : "" },
-      make("th", { scope: "row", textContent: it.call }), cell("text", make("bdi", { textContent: it.note })),
+      make("th", { scope: "row", textContent: it.call }),
+      cell("text", make("bdi", { textContent: it.note })),
       heard ? timeCell(it.last) : cell("num time", "not heard"),
-      make("td", { className: "num age", data: heard ? { v: it.last } : {},
-        textContent: heard ? age(view.now - it.last) : "" }));
+      heard ? ageCell(it.last, view) : cell("num"));
   };
   return new List(box, { id: "expected", caption: "expected stations", row, columns: [
     { title: "call", value: it => it.call }, { title: "who", value: it => it.note },

@@ -8,9 +8,9 @@ function thingRow(it, view) {
     onclick: () => view.onPick(it.key) }, air(it.name));
   const about = [];
   if (now) {
-    const words = wordsOf(now);
-    if (words.length) about.push(make("span", { className: "words", textContent: words.join(", ") }));
-    about.push(air(now.comment));
+    const words = wordsOf(now).join(", ");
+    if (words) about.push(make("span", { className: "words", textContent: words }), " ");
+    about.push(air(now.comment), " ");
   }
   if (it.status) about.push(make("i", { title: "status" }, air(it.status)));
   const kind = [it.kind + (it.killed ? " killed" : "")];
@@ -18,9 +18,8 @@ function thingRow(it, view) {
   return make("tr", { className: marks.join(" "), data: { key: it.key } },
     make("th", { scope: "row" }, now ? markOf(it) : make("span", { className: "mark" }), pick),
     cell("kind", ...kind), timeCell(it.last),
-    make("td", { className: "num age", data: { v: it.last }, textContent: age(view.now - it.last) }),
-    cell("by", it.by.join(", ")), cell("num sent", String(it.sent)),
-    cell("where", ...whereOf(now)), cell("about", ...about.filter(Boolean).flatMap(one => [one, " "])));
+    ageCell(it.last, view), cell("by", it.by.join(", ")), cell("num sent", String(it.sent)),
+    cell("where", ...whereOf(now)), cell("about", ...about));
 }
 function whereOf(place) {
   if (!place) return [];
@@ -41,9 +40,11 @@ function thingList(box, view) {
     ] });
 }
 /** What `find` looks in. */
-const haystack = it => [it.label, it.kind, it.by.join(" "), it.status && said(it.status),
-  it.now && said(it.now.comment), it.now && symbolOf(it.now).word, it.now && wordsOf(it.now).join(" "),
-  it.now && it.kind !== "station" && it.now.source].filter(Boolean).join("\n").toLowerCase();
+function haystack(it) {
+  const words = [it.label, it.kind, it.by.join(" "), said(it.status)], { now } = it;
+  if (now) words.push(said(now.comment), symbolOf(now).word, wordsOf(now).join(" "), now.source);
+  return words.join("\n").toLowerCase();
+}
 
 /** A table of stations by receivers or digipeaters; `tell` says what a pair stands for. */
 function pairList(box, id, caption, pairs, sent, tell) {
@@ -51,8 +52,8 @@ function pairList(box, id, caption, pairs, sent, tell) {
   const row = source => {
     const of = sent.get(source), cells = columns.map(name => {
       const n = pairs.get(source, name), share = n / of;
-      return make("td", { className: `num h${Math.ceil(share * 5)}`, title: tell(source, name, n, of),
-        textContent: n || "" });
+      return make("td", { className: `num h${Math.ceil(share * 5)}`, textContent: n || "",
+        title: tell(source, name, n, of) });
     });
     return make("tr", { className: source === "all" ? "all" : "" },
       make("th", { scope: "row", textContent: source }), ...cells, cell("num", String(of)));
@@ -69,7 +70,8 @@ const shareText = (n, of) => `${n} of ${of} (${Math.round(n / of * 100)} %)`;
 
 /** A receiver's clock beside the others', in words. */
 function clockWords(it, gap) {
-  if (!it.clock || it.clock.of < 2) return { text: "", title: "too few frames that others heard too" };
+  if (!it.clock || it.clock.of < 2)
+    return { text: "", title: "too few transmissions that others heard too" };
   const { by, of } = it.clock, title = `the median of ${of} transmissions that others heard too`;
   if (Math.abs(by) <= gap) return { text: `within ${gap} s`, title };
   return { text: `${by < 0 ? "\u2212" : "+"}${age(Math.abs(by))}`, title, wrong: true };
@@ -79,8 +81,7 @@ function receiverList(box, view) {
     const clock = clockWords(it, view.gap);
     return make("tr", { className: view.now - it.last > view.silent ? "silent" : "" },
       make("th", { scope: "row", textContent: it.name }), timeCell(it.last),
-      make("td", { className: "num age", data: { v: it.last }, textContent: age(view.now - it.last) }),
-      number(it.heard), number(it.alone),
+      ageCell(it.last, view), number(it.heard), number(it.alone),
       make("td", { className: clock.wrong ? "num wrong" : "num", title: clock.title,
         textContent: clock.text }));
   };

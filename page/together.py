@@ -3,8 +3,8 @@
 
 usage: together.py MODULE.wasm > aprsbook.html
 
-The page has the module in it and reads logs. event-page imports this, and makes the page of an event
-of the same files, with two texts in it and no module.
+The page has the module in it and reads logs. event-page imports this, and makes the page of an
+event of the same files, with two texts in it and no module.
 """
 import base64
 import hashlib

@@ -55,14 +55,16 @@ function dateText(seconds) {
   return `${year}-${two(month + 1)}-${two(day)}`;
 }
 function hourText(seconds) {
-  const [, , , hour, minute] = civil(seconds);
-  return `${two(hour)}:${two(minute)}`;
+  return secondText(seconds).slice(0, 5);
+}
+function secondText(seconds) {
+  const [, , , hour, minute, second] = civil(seconds);
+  return `${two(hour)}:${two(minute)}:${two(second)}`;
 }
 /** A moment, with the date where more than one day is shown. */
 function timeText(seconds) {
-  const [, month, day, , , second] = civil(seconds);
-  const date = clocks.dated ? `${day} ${MONTHS[month]} ` : "";
-  return `${date}${hourText(seconds)}:${two(second)}`;
+  const [, month, day] = civil(seconds);
+  return (clocks.dated ? `${day} ${MONTHS[month]} ` : "") + secondText(seconds);
 }
 function zoneText(seconds) {
   if (!clocks.local) return "UTC";
@@ -70,7 +72,7 @@ function zoneText(seconds) {
   return `UTC${ahead < 0 ? "\u2212" : "+"}${two(Math.floor(far / 60))}:${two(far % 60)}`;
 }
 const fullText = seconds =>
-  `${dateText(seconds)} ${hourText(seconds)}:${two(civil(seconds)[5])} ${zoneText(seconds)}`;
+  `${dateText(seconds)} ${secondText(seconds)} ${zoneText(seconds)}`;
 const isoText = seconds => new Date(seconds * 1000).toISOString();
 
 /** How long ago something was. */
