@@ -25,7 +25,7 @@ commands of make: deb tarball try
 states of messages and objects: acknowledged rejected unanswered unnumbered tracks
 of examples: in/ logs/DAY/HILL.log logs/DAY/RECEIVER.log millis.log numerator/denominator own.book page
 slow.log time
-what is made: out/ crates/aprsbook/out/aprsbook share/aprsbook
+what is made: out/ crates/aprsbook/out/aprsbook share/aprsbook aprsbook.html out/aprsbook.html
 how names are written: function.clause
 end
 

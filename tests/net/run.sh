@@ -15,8 +15,7 @@ scratch=$(mktemp -d)
 trap 'rm -rf "$scratch"' EXIT
 mkdir "$scratch/bin"
 ln -s "$(realpath "$1")" "$scratch/bin/aprsbook"
-for it in "${1%/*}/aprsbook-history" "${1%/*}/aprsbook_history" \
-    "$here/../../crates/aprsbook_history/out/aprsbook_history"; do
+for it in "${1%/*}/aprsbook-history" "$here/../../crates/aprsbook_history/out/aprsbook_history"; do
     if [ -x "$it" ]; then ln -sf "$(realpath "$it")" "$scratch/bin/aprsbook-history"; fi
 done
 page=${2:-$here/../../out/aprsbook.html}
