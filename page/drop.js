@@ -46,10 +46,10 @@ const place = got =>
 
 /** What a file is, by how it begins. */
 function kindOf(bytes, name) {
-  const begin = asText(bytes.subarray(0, 400));
+  const begin = asText(bytes.subarray(0, 2000));
   if (begin.startsWith("APRSBOOK")) return "book";
   if (bytes[0] === 0xc0) return "KISS stream";
-  if (/^(\xef\xbb\xbf)?\s*[<{]/.test(begin)) return "map";
+  if (/^(\xef\xbb\xbf)?\s*(\{|<([^]*<)?([\w-]+:)?gpx[\s>])/.test(begin)) return "map";
   if (!/^\d{4}-\d\d-\d\dT/.test(begin) && /\.(txt|csv)$/i.test(name) &&
     /^\s*[A-Za-z0-9]{1,6}(-\d{1,2})?([\s,;]|$)/.test(begin)) return "roster";
   return "log";
@@ -125,6 +125,7 @@ function fileRow(file) {
 }
 function list() {
   byId("files-box").hidden = !files.length;
+  byId("files-box").parentNode.classList.toggle("filled", files.length > 0);
   byId("files").tBodies[0].replaceChildren(...files.map(fileRow));
 }
 
@@ -216,7 +217,7 @@ function eventPage() {
     POLICY: `default-src 'none'; script-src ${digests.draws}; style-src ${digests.style}; ` +
       "base-uri 'none'; form-action 'none'",
     FILES: "", FOOTER: "Made by event-page from a book of aprsbook.", DATA: asData(data),
-    SCRIPTS: `<script>${byId("draws").textContent}</script>` };
+    SCRIPTS: `<script>${byId("draws").textContent}<\/script>` };
   return parts.shell.replace(/@([A-Z]+)@/g, (_, name) => values[name]);
 }
 function drawOwnSaves() {

@@ -27,7 +27,13 @@ function show(data) {
 function readBrought() {
   page.bases = [];
   page.roster = readRoster(page.data.roster);
-  for (const text of page.data.maps) page.bases.push(readBase(text));
+  for (const text of page.data.maps) {
+    try {
+      page.bases.push(readBase(text));
+    } catch (fault) {
+      tell(`a map: ${fault.message}`, true);
+    }
+  }
   for (const it of page.brought) {
     if (it.base) page.bases.push(it.base);
     else page.roster.push(...it.roster);

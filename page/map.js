@@ -79,8 +79,10 @@ class NetMap {
   fit() {
     this.fitted = true;
     const vectors = this.placed.flatMap(it => it.places.map(place => place.vector));
-    for (const base of this.bases)
-      vectors.push(...base.lines.flat(), ...base.points.map(it => it.vector));
+    for (const { lines, points } of this.bases) {
+      for (const line of lines) for (const it of line) vectors.push(it);
+      for (const it of points) vectors.push(it.vector);
+    }
     this.view.fit(vectors);
   }
   move(right, down) {
@@ -269,8 +271,13 @@ class NetMap {
     pen.lineWidth = picked ? 2.5 : 1.5;
     pen.beginPath();
     if (thing.kind === "station") pen.arc(x, y, 9.5, 0, 7);
-    else if (thing.kind === "object") pen.roundRect(x - 9, y - 9, 18, 18, 2);
-    else pen.roundRect(x - 9, y - 9, 18, 18, [9, 9, 2, 2]);
+    else if (thing.kind === "object") pen.rect(x - 9, y - 9, 18, 18);
+    else {
+      pen.arc(x, y, 9.5, Math.PI, 0);
+      pen.lineTo(x + 9.5, y + 9);
+      pen.lineTo(x - 9.5, y + 9);
+      pen.closePath();
+    }
     pen.fill();
     pen.stroke();
     const symbol = symbolOf(place);

@@ -42,7 +42,8 @@ class Thing {
   /** The place that was known at a moment. */
   at(moment) {
     if (moment === Infinity) return this.now;
-    return this.places.findLast(it => it.first <= moment) || null;
+    const later = this.places.findIndex(it => it.first > moment);
+    return (later < 0 ? this.places.at(-1) : this.places[later - 1]) || null;
   }
 }
 

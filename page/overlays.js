@@ -9,9 +9,9 @@ function spotOf(north, east) {
   return vectorOf(north, east);
 }
 function readGpx(text) {
+  if (!/<([\w-]+:)?gpx[\s>]/.test(text)) throw new Error("no GPX");
   const tree = new DOMParser().parseFromString(text, "application/xml");
   if (tree.querySelector("parsererror")) throw new Error("not well-formed XML");
-  if (tree.documentElement.localName !== "gpx") throw new Error("no GPX");
   const spot = it => spotOf(Number.parseFloat(it.getAttribute("lat")),
     Number.parseFloat(it.getAttribute("lon")));
   const all = name => [...tree.getElementsByTagNameNS("*", name)];

@@ -30,6 +30,8 @@ def read(name):
 def script(names):
     """These files as one script, which leaves no name behind but those that it gives away."""
     parts = "".join(read(name + ".js") for name in names)
+    if "</script" in parts:
+        raise ValueError("a script that would end its own element")
     return f'"use strict";\n(() => {{\n{parts}}})();\n'
 
 

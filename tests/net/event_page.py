@@ -103,7 +103,9 @@ def test_refused(folder):
     assert "torn.log" in refused(folder, folder / "torn.log")
     for text in ("2024", "<gpx>", "<svg/>", "[1]", '{"type": 1', '<gpx><wpt lat="x" lon="1"/></gpx>',
                  '<gpx><wpt lat="91" lon="1"/></gpx>', "<gpx><wpt/></gpx>",
-                 '{"type": "Point", "coordinates": [0, 95]}'):
+                 '{"type": "Point", "coordinates": [0, 95]}', '{"type": "Point"}', "[]",
+                 '{"type": "Point", "coordinates": ["0", "x"]}', '{"type": "Topology"}',
+                 '{"type": "LineString", "coordinates": []}', '{"type": "Point", "coordinates": "ab"}'):
         (folder / "course").write_text(text)
         said = refused(folder, "--course", folder / "course", EXAMPLES / "sample.log")
         assert re.fullmatch("event-page: .*\n", said), (text, said)

@@ -269,12 +269,18 @@ def test_messages(page, folder):
         f"Q1A Q1B 7 acknowledged {moment(5)} {moment(6)}:all well"])
     mice = (f"mic-e {moment(2)} {moment(3)} RX1,RX2 Q1MIC-9 Q1DIG*,WIDE2-1 251 20 en-route "
             "- 199560/6000 -747000/6000 0 /j:hello\\x5c\n")
-    page.open(page_of(folder / "mice.html", mice + place(4, "Q1A", 33.2, -124.4), listing))
+    # a symbol may be a colon, and its table a backslash
+    fire = place(5, "Q1FIRE", 33.3, -124.4).replace("/>:", "/::here: it burns")
+    shed = place(6, "Q1SHED", 33.3, -124.3).replace("/>:", "\\x5c\\x5c:x")
+    page.open(page_of(folder / "mice.html", mice + place(4, "Q1A", 33.2, -124.4) + fire + shed, listing))
     is_(page.js(BADGES)[:2], ["0 messages unanswered", "2 messages can\u2019t be judged"])
     is_(page.js(texts % "#messages .state"), ["not judged", "not judged", "unnumbered", "acknowledged"])
     is_(page.js(texts % "#bulletins td.text"), ["open at 18"])
-    is_(page.js(texts % "#things .where")[1], "33.2600, -124.5000")
-    is_(page.js(texts % "#things .about")[1].strip(), "251\u00b0, 37 km/h, en route hello\\")
+    rows = page.js("Object.fromEntries([...document.querySelectorAll('#things tbody tr')].map(it => "
+                   "[it.cells[0].textContent, [it.cells[6].textContent, it.cells[7].textContent.trim()]]))")
+    is_(rows["Q1MIC-9"], ["33.2600, -124.5000", "251\u00b0, 37 km/h, en route hello\\"])
+    is_(rows["Q1FIRE"][1], "here: it burns")
+    is_(rows["Q1SHED"][1], "x")
     page.wait("!!document.querySelector('#repeated')")
     is_(page.js(texts % "#repeated thead th"), ["station", "Q1DIG", "sent"])
     # the form, and what it saves
