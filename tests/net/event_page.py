@@ -1,7 +1,8 @@
 #!/usr/bin/env python3
 """Tests event-page without a browser: what came off the air is data alone.
 
-usage: event_page.py EXAMPLES    aprsbook, aprsbook-history and the recipes in the PATH; needs Python 3
+usage: event_page.py EXAMPLES    aprsbook, aprsbook-history and the recipes in the PATH; needs
+                                 Python 3
 """
 import base64
 import hashlib
@@ -24,7 +25,8 @@ INSIDE = re.compile(r"<(style|script)>(.*?)</\1>", re.S)
 
 
 def event_page(*arguments, **keywords):
-    done = subprocess.run(["event-page", *arguments], stdout=subprocess.PIPE, check=True, **keywords)
+    command = ["event-page", *arguments]
+    done = subprocess.run(command, stdout=subprocess.PIPE, check=True, **keywords)
     return done.stdout.decode("utf-8")
 
 
@@ -75,8 +77,9 @@ def test_hostile(folder):
     (folder / "hostile.log").write_text("".join(hostile.log()))
     (folder / "hostile.gpx").write_text(hostile.course())
     (folder / "-x.log").write_text("".join(hostile.log()))
-    frame, data = read(event_page("--title", hostile.TITLE, "--live", "60", "--note", hostile.TEXTS[0],
-                                  "--course", folder / "hostile.gpx", folder / "hostile.log"))
+    frame, data = read(event_page("--title", hostile.TITLE, "--note", hostile.TEXTS[0],
+                                  "--live", "60", "--course", folder / "hostile.gpx",
+                                  folder / "hostile.log"))
     assert frame == read(event_page(*LOGS))[0]
     assert data["title"] == hostile.TITLE and data["maps"] == [hostile.course()]
     other = read(event_page("--gap", "60", "--", "-x.log", cwd=folder))[1]
@@ -98,14 +101,19 @@ def refused(folder, *arguments, **keywords):
     return done.stderr.decode()
 
 
+BAD_MAPS = [
+    "2024", "<gpx>", "<svg/>", '<gpx><wpt lat="x" lon="1"/></gpx>',
+    '<gpx><wpt lat="91" lon="1"/></gpx>', "<gpx><wpt/></gpx>", "[1]", "[]", '{"type": 1',
+    '{"type": "Topology"}', '{"type": "Point"}', '{"type": "Point", "coordinates": [0, 95]}',
+    '{"type": "Point", "coordinates": ["0", "x"]}', '{"type": "Point", "coordinates": "ab"}',
+    '{"type": "LineString", "coordinates": []}',
+]
+
+
 def test_refused(folder):
     (folder / "torn.log").write_text("2024-06-21T18:00")
     assert "torn.log" in refused(folder, folder / "torn.log")
-    for text in ("2024", "<gpx>", "<svg/>", "[1]", '{"type": 1', '<gpx><wpt lat="x" lon="1"/></gpx>',
-                 '<gpx><wpt lat="91" lon="1"/></gpx>', "<gpx><wpt/></gpx>",
-                 '{"type": "Point", "coordinates": [0, 95]}', '{"type": "Point"}', "[]",
-                 '{"type": "Point", "coordinates": ["0", "x"]}', '{"type": "Topology"}',
-                 '{"type": "LineString", "coordinates": []}', '{"type": "Point", "coordinates": "ab"}'):
+    for text in BAD_MAPS:
         (folder / "course").write_text(text)
         said = refused(folder, "--course", folder / "course", EXAMPLES / "sample.log")
         assert re.fullmatch("event-page: .*\n", said), (text, said)
@@ -121,7 +129,8 @@ def test_refused(folder):
 
 def test_two(folder):
     """Two at once write one page or the other, whole."""
-    commands = [["event-page", "-o", folder / "page.html", "--title", title, *LOGS] for title in "ab"]
+    commands = [["event-page", "-o", folder / "page.html", "--title", title, *LOGS]
+                for title in "ab"]
     for _ in range(3):
         for one in [subprocess.Popen(command) for command in commands]:
             assert one.wait() == 0

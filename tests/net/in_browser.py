@@ -43,7 +43,8 @@ def moment(minute):
 
 
 def place(minute, source, north, east, comment="", via="-"):
-    return PLACE.format(moment(minute), source, via, round(north * 6000), round(east * 6000), comment)
+    where = round(north * 6000), round(east * 6000)
+    return PLACE.format(moment(minute), source, via, *where, comment)
 
 
 def event_page(path, *arguments):
@@ -108,10 +109,12 @@ def test_hostile(page, folder):
 def test_contained(page, folder):
     """Marks that pile up and text that runs the other way stay in their cell."""
     zalgo = "a" + "\\xcc\\x83" * 60
-    lines = [place(k, f"Q1A{k}", 54.5, -3.5 + k / 100, zalgo if k == 3 else "plain") for k in range(7)]
+    lines = [place(k, f"Q1A{k}", 54.5, -3.5 + k / 100, zalgo if k == 3 else "plain")
+             for k in range(7)]
     page.open(page_of(folder / "zalgo.html", "".join(lines)))
     is_(page.js("getComputedStyle(document.querySelector('#things .about bdi')).contain"), "paint")
-    heights = page.js("[...document.querySelectorAll('#things tbody tr')].map(it => it.clientHeight)")
+    heights = page.js("[...document.querySelectorAll('#things tbody tr')]"
+                      ".map(it => it.clientHeight)")
     assert max(heights) - min(heights) <= 2, heights
 
 
@@ -164,7 +167,7 @@ def test_controls(page, folder):
 
 
 def mouse(page):
-    """The wheel zooms, a drag moves, a click picks; and replaying comes to the end and stops there."""
+    """The wheel zooms, a drag moves, a click picks; replaying comes to the end and stops there."""
     corner = page.js("(() => { const it = map.getBoundingClientRect(); return [it.x, it.y] })()")
     x, y = corner[0] + 90, corner[1] + 90
     page.call("Input.dispatchMouseEvent", type="mouseWheel", x=x, y=y, deltaX=0, deltaY=-99)
@@ -179,8 +182,8 @@ def mouse(page):
     page.js("play.click()")
     page.wait("clock.value === '1000' && play.textContent === 'play'")
     is_(page.js(marks), 16)
-    x, y = page.js("(() => { const it = aprsbook.page.map.marks.find(it => it.thing.name === 'Q1BAY'); "
-                   "return [it.x, it.y] })()")
+    x, y = page.js("aprsbook.page.map.marks.filter(it => it.thing.name === 'Q1BAY')"
+                   ".map(it => [it.x, it.y])[0]")
     for kind in "mousePressed", "mouseReleased":
         page.call("Input.dispatchMouseEvent", type=kind, x=corner[0] + x, y=corner[1] + y,
                   button="left", buttons=1, clickCount=1)
@@ -260,7 +263,7 @@ def test_times(page, folder):
 
 
 def test_messages(page, folder):
-    """Reply-acks aren't counted as in order; bulletins stand apart; Mic-E has places and messages."""
+    """Reply-acks aren't counted as in order; bulletins stand apart; Mic-E has its places."""
     listing = "".join(f"message {it}\n" for it in [
         f"Q1A Q1B - unnumbered {moment(1)} {moment(1)}:help needed{{01}}",
         f"Q1A Q1B - unnumbered {moment(2)} {moment(2)}:on my way{{02}}AA",
@@ -272,12 +275,15 @@ def test_messages(page, folder):
     # a symbol may be a colon, and its table a backslash
     fire = place(5, "Q1FIRE", 33.3, -124.4).replace("/>:", "/::here: it burns")
     shed = place(6, "Q1SHED", 33.3, -124.3).replace("/>:", "\\x5c\\x5c:x")
-    page.open(page_of(folder / "mice.html", mice + place(4, "Q1A", 33.2, -124.4) + fire + shed, listing))
+    history = mice + place(4, "Q1A", 33.2, -124.4) + fire + shed
+    page.open(page_of(folder / "mice.html", history, listing))
     is_(page.js(BADGES)[:2], ["0 messages unanswered", "2 messages can\u2019t be judged"])
-    is_(page.js(texts % "#messages .state"), ["not judged", "not judged", "unnumbered", "acknowledged"])
+    is_(page.js(texts % "#messages .state"),
+        ["not judged", "not judged", "unnumbered", "acknowledged"])
     is_(page.js(texts % "#bulletins td.text"), ["open at 18"])
-    rows = page.js("Object.fromEntries([...document.querySelectorAll('#things tbody tr')].map(it => "
-                   "[it.cells[0].textContent, [it.cells[6].textContent, it.cells[7].textContent.trim()]]))")
+    rows = {name: [where, about.strip()] for name, where, about in page.js(
+        "[...document.querySelectorAll('#things tbody tr')]"
+        ".map(it => [0, 6, 7].map(k => it.cells[k].textContent))")}
     is_(rows["Q1MIC-9"], ["33.2600, -124.5000", "251\u00b0, 37 km/h, en route hello\\"])
     is_(rows["Q1FIRE"][1], "here: it burns")
     is_(rows["Q1SHED"][1], "x")
@@ -301,11 +307,13 @@ def test_messages(page, folder):
 
 def test_world(page, folder):
     """Over the date line and round the pole: short tracks, and no place off the earth."""
-    ferry = "".join(place(k, "Q1FERRY", -17.5, (179.95 + k / 100 + 180) % 360 - 180) for k in range(11))
+    ferry = "".join(place(k, "Q1FERRY", -17.5, (179.95 + k / 100 + 180) % 360 - 180)
+                    for k in range(11))
     page.open(page_of(folder / "ferry.html", ferry))
     is_(page.js(marks), 1)
     # 0.1 degree of longitude at 17.5 south is 10.6 km; the map is no wider than that takes
-    assert 10000 < page.js("6371008.8 / aprsbook.page.map.view.scale * aprsbook.page.map.view.width") < 30000
+    scale, width = page.js("[aprsbook.page.map.view.scale, aprsbook.page.map.view.width]")
+    assert 10000 < 6371008.8 / scale * width < 30000
     lines = json.loads(page.js(
         "aprsbook.SAVES['places and tracks (GeoJSON)'](aprsbook.page.net, aprsbook.page.data)[2]"))
     track = lines["features"][-1]["geometry"]["coordinates"]
@@ -319,7 +327,8 @@ def test_world(page, folder):
     # all that the canvas is told to write
     page.js("""(() => { const pen = aprsbook.page.map.pen, write = pen.fillText; window.wrote = [];
         pen.fillText = (...it) => { wrote.push(it[0]); write.apply(pen, it) };
-        for (let k = 0; k < 60; k++) { aprsbook.page.map.zoom(0.8); aprsbook.page.map.paint(); } })()""")
+        for (let k = 0; k < 60; k++) { aprsbook.page.map.zoom(0.8); aprsbook.page.map.paint(); }
+        })()""")
     wrote = page.js("wrote")
     assert any("\u00b0" in it for it in wrote)
     assert all(float(it[:it.index("\u00b0")]) <= (90 if it[-1] in "NS" else 180)
@@ -378,7 +387,8 @@ def test_saves(page, folder):
     saved = {name: page.js(f"aprsbook.SAVES[{name!r}](aprsbook.page.net, aprsbook.page.data)[2]")
              for name in page.js("Object.keys(aprsbook.SAVES)")}
     rows = list(csv.DictReader(io.StringIO(saved["places (CSV)"])))
-    own = subprocess.run(["aprsbook-history", folder / "all.log"], stdout=subprocess.PIPE, check=True)
+    command = ["aprsbook-history", folder / "all.log"]
+    own = subprocess.run(command, stdout=subprocess.PIPE, check=True)
     count = sum(it.startswith((b"position", b"object", b"item")) for it in own.stdout.splitlines())
     is_(len(rows), count)
     for row in [*csv.reader(io.StringIO(saved["places (CSV)"])),
@@ -396,12 +406,14 @@ def test_saves(page, folder):
 
 def test_scale(page, folder):
     """2,000 stations: the time to the first picture, for a letter in find, and for a move."""
-    lines = [place(3 * n % 1400, f"Q{n:04}-{n % 15 + 1}", 54 + n % 50 / 25, -4 + n % 61 / 20 + k / 100,
-                   f"mobile {n}") for n in range(2000) for k in range(3)]
+    lines = [place(3 * n % 1400, f"Q{n:04}-{n % 15 + 1}", 54 + n % 50 / 25,
+                   -4 + n % 61 / 20 + k / 100, f"mobile {n}")
+             for n in range(2000) for k in range(3)]
     began = time.monotonic()
     page.open(page_of(folder / "many.html", "".join(lines)))
     times = page.js("""(async () => {
-        const spent = run => { const from = performance.now(); run(); return performance.now() - from };
+        const spent = run => {
+            const from = performance.now(); run(); return performance.now() - from };
         const find = document.getElementById("find"), letters = [];
         for (const word of ["q", "q1", "q10", "q1", "q", ""]) letters.push(spent(() => {
             find.value = word; find.dispatchEvent(new Event("input")) }));
@@ -446,7 +458,7 @@ def test_live(page, folder):
 
 
 def test_served(page, folder):
-    """From a server: only the data are asked for again, and the page stays while the server is away."""
+    """From a server: the data alone are asked for again, and the page stays while that is away."""
     event_page(folder / "live.html", "--live", "1", EVENING[0])
     with Server(folder) as server:
         page.open(f"http://127.0.0.1:{server.port}/live.html")
@@ -476,5 +488,5 @@ try:
             test(page, pathlib.Path(name))
 finally:
     page.close()
-print("event-page in Chromium: nothing ran, one request, no message; controls, names, widths, times, "
-      "the world, what is brought and saved, live")
+print("event-page in Chromium: nothing ran, one request, no message; controls, names, widths, "
+      "times, the world, what is brought and saved, live")

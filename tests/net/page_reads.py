@@ -29,6 +29,7 @@ PICTURES = sys.argv[4] if len(sys.argv) > 4 else None
 EVENING = sorted(EXAMPLES.glob("evening/*.log"))
 STATUS = "document.getElementById('status').textContent"
 MADE = "aprsfiles.made() !== null"
+BOOK = "btoa(String.fromCharCode(...aprsfiles.made().book))"
 # each file, and what is said of it
 TOLD = ("Object.fromEntries([...document.querySelectorAll('#files tbody tr')]"
         ".map(it => [it.cells[0].textContent, it.cells[3].firstChild.textContent]))")
@@ -43,6 +44,15 @@ def program(words, files=(), given=None):
         words = ["aprsbook", *words]
     return subprocess.run([*words, *map(str, files)], input=given, stdout=subprocess.PIPE,
                           stderr=subprocess.PIPE)
+
+
+def checked(path):
+    """How many lines a log has, as check says."""
+    return program(["check"], [path]).stdout.decode().splitlines()[-1]
+
+
+def base64_of(text):
+    return base64.b64encode(text).decode()
 
 
 def is_(got, wanted):
@@ -65,17 +75,41 @@ def test_same(page, _):
     fresh(page)
     page.give("#choose", *EVENING)
     page.wait(MADE)
-    is_(page.js("btoa(String.fromCharCode(...aprsfiles.made().book))"),
-        base64.b64encode(program(["merge"], EVENING).stdout).decode())
+    is_(page.js(BOOK), base64_of(program(["merge"], EVENING).stdout))
     is_(page.js("aprsbook.page.data.history"), program(["history"], EVENING).stdout.decode())
     is_(page.js("aprsbook.page.data.listing"), program(["show"], EVENING).stdout.decode())
     own = subprocess.run(["event-page", *EVENING], stdout=subprocess.PIPE, check=True).stdout
     is_(page.js("aprsfiles.eventPage()") == own.decode(), True)
     is_(page.js("(aprsbook.page.map.paint(), aprsbook.page.map.marks.length)"), 16)
     for name in sorted(page.js(TOLD)):
-        is_(page.js(TOLD)[name], program(["check"], [EXAMPLES / "evening" / name]).stdout.decode().splitlines()[-1])
+        is_(page.js(TOLD)[name], checked(EXAMPLES / "evening" / name))
     picture(page, "evening")
     quiet(page)
+
+
+def test_saves(page, folder):
+    """What a click saves is what the programs and event-page write."""
+    if not hasattr(page, "events"):
+        return  # Firefox would ask where to
+    page.call("Page.setDownloadBehavior", behavior="allow", downloadPath=str(folder))
+    fresh(page)
+    data = {"items": [], "files": list(map(str, EVENING)), "dragOperationsMask": 1}
+    for kind in "dragEnter", "dragOver", "drop":
+        page.call("Input.dispatchDragEvent", type=kind, x=300, y=130, data=data)
+    page.wait(MADE)
+    for name, words in (("net.book", ["aprsbook", "merge"]), ("net.txt", ["aprsbook", "show"]),
+                        ("history.txt", ["aprsbook-history"]), ("event.html", ["event-page"])):
+        button = {"net.book": "book", "net.txt": "listing (text)", "history.txt": "history (text)",
+                  "event.html": "page of the event (HTML)"}[name]
+        page.js("[...document.querySelectorAll('#saves button')]"
+                f".find(it => it.textContent === {button!r}).click()")
+        own = subprocess.run([*words, *EVENING], stdout=subprocess.PIPE, check=True).stdout
+        for _ in range(100):
+            if (folder / name).exists() and (folder / name).read_bytes() == own:
+                break
+            time.sleep(0.05)
+        else:
+            raise AssertionError(f"{name} is another")
 
 
 def test_faults(page, folder):
@@ -83,7 +117,8 @@ def test_faults(page, folder):
     book = program(["merge"], EVENING).stdout
     files = {
         "bad.log": log[:2000] + b"Z" + log[2001:], "crlf.log": log.replace(b"\n", b"\r\n"),
-        "cut.book": book[:-30], "empty.log": b"", "net.book": book, "packed.log.gz": gzip.compress(log),
+        "cut.book": book[:-30], "empty.log": b"", "net.book": book,
+        "packed.log.gz": gzip.compress(log),
         "wide.book": program(["widen", "60"], EVENING[:1]).stdout,
         "heard.kiss": program(["convert", "kiss"], EVENING[:1]).stdout,
         "torn.log": log[:-5],
@@ -98,9 +133,9 @@ def test_faults(page, folder):
         said = program(["merge"], [folder / name]).stderr.decode()
         is_(f"aprsbook: {folder / name}: {told[name]}\n", said)
     is_(told["heard.kiss"], "give the receiver's name and the moment")
-    is_(told["packed.log.gz"], program(["check"], EVENING[:1]).stdout.decode().splitlines()[-1])
+    is_(told["packed.log.gz"], checked(EVENING[0]))
     is_(told["empty.log"], "heard 0 passed 0")
-    is_(page.js("btoa(String.fromCharCode(...aprsfiles.made().book))"), base64.b64encode(book).decode())
+    is_(page.js(BOOK), base64_of(book))
     notes = page.js("aprsbook.page.data.notes")
     is_(sorted(it.split(" ")[0] for it in notes),
         ["bad.log", "crlf.log", "cut.book", "heard.kiss", "torn.log", "wide.book"])
@@ -142,7 +177,8 @@ class Inputs:
 
     def __init__(self, seed):
         self.random = random.Random(seed)
-        logs = [it.read_bytes() for it in [*EVENING, EXAMPLES / "sample.log", EXAMPLES / "millis.log"]]
+        paths = [*EVENING, EXAMPLES / "sample.log", EXAMPLES / "millis.log"]
+        logs = [it.read_bytes() for it in paths]
         books = [program(["merge", "--gap", gap], given=b"".join(some)).stdout
                  for gap in ("30", "60") for some in (logs[:3], logs[1:])]
         self.texts = logs + books
@@ -174,7 +210,8 @@ def test_random(page, folder):
     for _ in range(RUNS):
         command = inputs.random.choice(COMMANDS)
         several = command in ("merge", "show", "history")
-        given = [inputs.one(command) for _ in range(inputs.random.randrange(1, 5) if several else 1)]
+        many = inputs.random.randrange(1, 5) if several else 1
+        given = [inputs.one(command) for _ in range(many)]
         gap = inputs.random.choice([30, 30, 30, 60, 1, 3600])
         options, words = gap, command.split()
         if several:
@@ -190,7 +227,7 @@ def test_random(page, folder):
         own = program(words, names)
         status, text, index, line, fault = page.js(
             f"go({json.dumps(command)}, {json.dumps(options)}, "
-            f"{json.dumps([base64.b64encode(it).decode() for it in given])})")
+            f"{json.dumps(list(map(base64_of, given)))})")
         place = f"line {line}: " if fault[:1].isupper() else ""
         told = f"{names[index]}: {place}{fault}\n" if status else ""
         by[own.returncode] += 1
@@ -211,10 +248,12 @@ def test_follow(page, folder):
         fresh(page, f"http://127.0.0.1:{server.port}/net.html#logs=logs.txt")
         page.wait(MADE)
         whole = hill[:hill.rindex(b"\n", 0, 3001) + 1]
-        is_(page.js("aprsbook.page.data.history"), program(["history"], given=coast + whole).stdout.decode())
+        history = program(["history"], given=coast + whole).stdout.decode()
+        is_(page.js("aprsbook.page.data.history"), history)
         (folder / "hill.log").write_bytes(hill)
         page.js("(document.getElementById('follow').dispatchEvent(new Event('change')), 1)")
-        page.wait(f"aprsbook.page.data.history.length === {len(program(['history'], given=coast + hill).stdout)}")
+        history = program(["history"], given=coast + hill).stdout
+        page.wait(f"aprsbook.page.data.history.length === {len(history)}")
         # the rest of the log alone was asked for
         assert any(it.startswith("bytes=") for it in server.ranges), server.ranges
     page.js("(document.getElementById('follow').dispatchEvent(new Event('change')), 1)")
@@ -227,15 +266,19 @@ def test_follow(page, folder):
 
 
 def test_large(page, folder):
-    """200,000 lines of three receivers: how long until they are shown, and that the page goes on."""
-    subprocess.run([sys.executable, EXAMPLES.parent / "bench/make_log.py", "200000", folder], check=True)
+    """200,000 lines of three receivers: how long until they are shown, and the page goes on."""
+    make_log = EXAMPLES.parent / "bench/make_log.py"
+    subprocess.run([sys.executable, make_log, "200000", folder], check=True)
     logs = sorted(folder.glob("*.log"))
     fresh(page)
     page.js("""(() => { let last = performance.now(); window.still = 0;
-        setInterval(() => { const now = performance.now(); still = Math.max(still, now - last); last = now; }, 20);
-        new MutationObserver(() => { if (aprsfiles.made() && !window.came) window.came = performance.now(); })
-            .observe(document.getElementById('status'), { childList: true });
-        document.getElementById('choose').addEventListener('change', () => { window.went = performance.now(); }, true);
+        setInterval(() => {
+            const now = performance.now(); still = Math.max(still, now - last); last = now; }, 20);
+        new MutationObserver(() => {
+            if (aprsfiles.made() && !window.came) window.came = performance.now();
+        }).observe(document.getElementById('status'), { childList: true });
+        document.getElementById('choose').addEventListener('change', () => {
+            window.went = performance.now(); }, true);
         return 1; })()""")
     page.give("#choose", *logs)
     page.wait("window.came > 0", 120)
@@ -251,7 +294,7 @@ def picture(page, name):
         page.picture(f"{PICTURES}/{page.name}-{name}.png")
 
 
-TESTS = (test_same, test_faults, test_hostile, test_random, test_follow, test_large)
+TESTS = (test_same, test_saves, test_faults, test_hostile, test_random, test_follow, test_large)
 there = [it for it, names in ((browser.Browser, ["chromium"]),
                               (firefox.Firefox, ["firefox-esr", "firefox"]))
          if any(map(shutil.which, names))]
