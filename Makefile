@@ -103,11 +103,17 @@ bench: build
 	bench/run.sh $(PROGRAM)
 	bench/books.sh $(PROGRAM)
 
+# the page that reads logs, out/aprsbook.html, with the module in it
+.PHONY: page
+page: wasm
+	page/together.py out/aprsbook.wasm > out/aprsbook.html.new
+	mv out/aprsbook.html.new out/aprsbook.html
+
 # the recipes of tracks, a page, a net that runs and an engine, each where its tools are there
 .PHONY: net
 cookbook: net
 net: build
-	tests/net/run.sh $(PROGRAM)
+	tests/net/run.sh $(PROGRAM) out/aprsbook.html
 
 # book files that nobody would write by hand: what each takes
 hostile: build

@@ -7,9 +7,9 @@
 const FUNCTIONS = {
   check: "aprs_check", "convert text": "aprs_text", "convert kind": "aprs_kind",
   "convert kiss": "aprs_kiss", "convert log": "aprs_log", "convert capture": "aprs_capture",
-  merge: "aprs_merge", show: "aprs_show", widen: "aprs_widen",
+  merge: "aprs_merge", show: "aprs_show", widen: "aprs_widen", history: "aprs_history",
 };
-const OF_SEVERAL = ["merge", "show"];
+const OF_SEVERAL = ["merge", "show", "history"];
 const WITH_GAP = [...OF_SEVERAL, "widen"];
 const PAGE = 65536;
 const NAME_ROOM = 16;
@@ -48,9 +48,9 @@ class Layout {
 }
 
 // One run with so much room for its output and in its region, both in bytes. `options` are a gap in
-// seconds for merge, show and widen, and for convert capture the name of a receiver and a moment,
-// texts. Returns the answer, the name of an input's fault, and what was written, or null where that
-// had no room.
+// seconds for merge, show, history and widen, and for convert capture the name of a receiver and a
+// moment, texts. Returns the answer, the name of an input's fault, and what was written, or null
+// where that had no room.
 function attempt(module, command, options, inputs, outputRoom, regionRoom) {
   const it = new WebAssembly.Instance(module).exports, { memory } = it;
   const layout = new Layout(Number(it.__heap_base.value));

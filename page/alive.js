@@ -1,0 +1,54 @@
+// A page that goes on: it asks for itself again, ages count to now, and it says what it misses.
+
+const alive = { asked: Date.now(), touched: 0, away: 0 };
+
+/** Has the page of an event ask for itself again, unless somebody is at work in it. */
+function beginAlive() {
+  const { live } = page.data, box = byId("live");
+  byId("live-label").hidden = false;
+  byId("live-label").lastElementChild.textContent = `load again each ${live} s`;
+  for (const kind of ["keydown", "pointerdown", "wheel", "input"])
+    addEventListener(kind, () => { alive.touched = Date.now(); }, { passive: true });
+  box.checked = chosen.get("live") !== "off";
+  box.addEventListener("change", () => choose("live", box.checked ? "" : "off"));
+  setInterval(() => {
+    tick();
+    const idle = Date.now() - alive.touched > 10000 && !page.playing;
+    if (!box.checked || !idle || Date.now() - alive.asked < live * 1000) return;
+    alive.asked = Date.now();
+    again();
+  }, 1000);
+}
+/** Loads the page again: its data alone where a server has it, and all of it from a disk. */
+async function again() {
+  if (!location.protocol.startsWith("http")) return location.reload();
+  try {
+    const answer = await fetch(location.pathname + location.search, { cache: "no-store" });
+    if (!answer.ok) throw new Error(String(answer.status));
+    const tree = new DOMParser().parseFromString(await answer.text(), "text/html");
+    const policy = it => it.querySelector("meta[http-equiv]").content;
+    if (policy(tree) !== policy(document)) return location.reload();
+    const text = tree.getElementById("data").textContent;
+    alive.away = 0;
+    if (text !== byId("data").textContent) {
+      byId("data").textContent = text;
+      show(JSON.parse(text));
+    }
+  } catch {
+    alive.away ||= Date.now();
+  }
+  tick();
+}
+/** Counts ages on, and says how long nothing came. */
+function tick() {
+  if (!page.all) return;
+  const now = Date.now() / 1000, quiet = now - page.all.end, words = [];
+  for (const it of document.querySelectorAll(".age[data-v]"))
+    it.textContent = age(now - it.dataset.v);
+  for (const row of byId("things-box").querySelectorAll("tr.station"))
+    row.classList.toggle("silent", now - row.querySelector(".age").dataset.v > view.silent);
+  drawNews();
+  if (alive.away) words.push(`the server has been away since ${fullText(alive.away / 1000)}`);
+  if (page.all.rows.length && quiet > 600) words.push(`nothing was heard for ${age(quiet)}`);
+  byId("stale").textContent = words.join("; ");
+}

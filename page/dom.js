@@ -1,0 +1,73 @@
+// Small helpers for what stands in the page. All text goes in as text, never as HTML.
+
+const byId = id => document.getElementById(id);
+
+function make(tag, of = {}, ...inside) {
+  const { data, aria, ...rest } = of, node = Object.assign(document.createElement(tag), rest);
+  for (const key in data) node.dataset[key] = data[key];
+  for (const key in aria) node.setAttribute(key, aria[key]);
+  node.append(...inside.filter(it => it !== null && it !== undefined));
+  return node;
+}
+/** A text off the air: which way it runs, and where it ends, stays its own affair. */
+function air(shown) {
+  return shown ? make("bdi", { textContent: said(shown) }) : "";
+}
+function momentOf(seconds) {
+  return make("time", {
+    dateTime: isoText(seconds), title: fullText(seconds), textContent: timeText(seconds),
+  });
+}
+function svg(tag, attributes, ...inside) {
+  const node = document.createElementNS("http://www.w3.org/2000/svg", tag);
+  for (const key in attributes) node.setAttribute(key, attributes[key]);
+  node.append(...inside);
+  return node;
+}
+/** Hands a file to the reader. */
+function save(name, what, type) {
+  const url = URL.createObjectURL(new Blob([what], { type }));
+  make("a", { href: url, download: name }).click();
+  setTimeout(() => URL.revokeObjectURL(url), 60000);
+}
+/** Calls `run` once before the next picture, however often it is asked. */
+function oncePerFrame(run) {
+  let asked = false;
+  return () => {
+    if (asked) return;
+    asked = true;
+    requestAnimationFrame(() => {
+      asked = false;
+      run();
+    });
+  };
+}
+
+const waiting = [];
+/** Calls `run` once the page has been painted, after what waits already; `key` is its name. */
+function later(key, run) {
+  const before = waiting.findIndex(it => it.key === key);
+  if (before >= 0) waiting.splice(before, 1);
+  if (waiting.push({ key, run }) === 1) setTimeout(runWaiting, 30);
+}
+function runWaiting() {
+  waiting.shift()?.run();
+  if (waiting.length) setTimeout(runWaiting);
+}
+/** Calls at once all that waits, for paper. */
+function runAllWaiting() {
+  while (waiting.length) waiting.shift().run();
+}
+
+/** What the reader chose stands in the address after #, where it outlives loading again. */
+const chosen = new URLSearchParams(location.hash.slice(1));
+function choose(key, value) {
+  if ((chosen.get(key) ?? "") === String(value)) return;
+  if (value === "") chosen.delete(key);
+  else chosen.set(key, value);
+  try {
+    history.replaceState(null, "", "#" + chosen);
+  } catch {
+    // a browser takes so many changes in a while; the next one goes through
+  }
+}

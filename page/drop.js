@@ -1,0 +1,260 @@
+// The page that reads logs: what is dropped on it goes through the module, and nothing leaves it.
+
+const { page, show, bring, make, byId, save, count } = globalThis.aprsbook;
+const parts = JSON.parse(byId("parts").textContent);
+const files = [];
+let made = null, turn = 0, last = 0;
+
+// ---- workers, each with the module: a run is given to one that is free
+
+const workers = [], waiting = new Map(), queue = [];
+function addWorker() {
+  const url = URL.createObjectURL(new Blob([parts.worker], { type: "text/javascript" }));
+  const worker = { it: new Worker(url), busy: 0 };
+  worker.it.onmessage = ({ data: [id, value, fault] }) => {
+    const [done, fail] = waiting.get(id);
+    waiting.delete(id);
+    worker.busy--;
+    if (fault) fail(new Error(fault));
+    else done(value);
+    queue.shift()?.();
+  };
+  worker.it.onerror = event => say(`a worker stopped: ${event.message}`, true);
+  workers.push(worker);
+  return worker;
+}
+function ask(worker, what, given) {
+  worker.busy++;
+  return new Promise((done, fail) => {
+    waiting.set(++last, [done, fail]);
+    worker.it.postMessage([last, what, given]);
+  });
+}
+/** A run of the module over inputs. */
+async function run(command, options, inputs) {
+  let free;
+  while (!(free = workers.find(it => !it.busy))) await new Promise(done => queue.push(done));
+  return ask(free, "run", { command, options, inputs });
+}
+
+// ---- files
+
+const asText = bytes => new TextDecoder("latin1").decode(bytes);
+/** A fault of an input, as the program says it. */
+const place = got =>
+  (/^[A-Z]/.test(got.fault) ? `line ${got.line}: ` : "") + (got.fault || "out of memory");
+
+/** What a file is, by how it begins. */
+function kindOf(bytes, name) {
+  const begin = asText(bytes.subarray(0, 2000));
+  if (begin.startsWith("APRSBOOK")) return "book";
+  if (bytes[0] === 0xc0) return "KISS stream";
+  if (/^(\xef\xbb\xbf)?\s*(\{|<([^]*<)?([\w-]+:)?gpx[\s>])/.test(begin)) return "map";
+  if (!/^\d{4}-\d\d-\d\dT/.test(begin) && /\.(txt|csv)$/i.test(name) &&
+    /^\s*[A-Za-z0-9]{1,6}(-\d{1,2})?([\s,;]|$)/.test(begin)) return "roster";
+  return "log";
+}
+async function bytesOf(file) {
+  const bytes = new Uint8Array(await file.arrayBuffer());
+  if (bytes[0] !== 0x1f || bytes[1] !== 0x8b) return bytes;
+  const stream = new Blob([bytes]).stream().pipeThrough(new DecompressionStream("gzip"));
+  return new Uint8Array(await new Response(stream).arrayBuffer());
+}
+/** Reads a file as what it is, and keeps what the program says of it. */
+async function look(file) {
+  Object.assign(file, { fault: "", said: "", passed: [], taken: null });
+  let { bytes } = file;
+  const refuse = got => {
+    file.fault = got.status === 2 ? "give the receiver's name and the moment" : place(got);
+  };
+  if (file.kind === "KISS stream") {
+    if (!file.moment) return refuse({ status: 2 });
+    const got = await run("convert capture", [file.receiver, file.moment], [bytes]);
+    if (got.status) return refuse(got);
+    bytes = got.bytes;
+  }
+  if (file.kind === "book") {
+    const got = await run("merge", +byId("gap").value, [bytes]);
+    if (got.status) return refuse(got);
+    const rows = asText(got.bytes.subarray(-20)).match(/END (\d+)\n$/)[1];
+    file.said = count(+rows, "transmission");
+  } else {
+    const got = await run("check", 30, [bytes]), lines = asText(got.bytes).trimEnd().split("\n");
+    if (!got.status) file.said = lines.pop();
+    file.passed = lines.filter(Boolean);
+    if (got.status) return refuse(got);
+  }
+  file.taken = bytes;
+}
+
+// ---- what the page says
+
+function say(text, bad = false) {
+  byId("status").textContent = text;
+  byId("status").className = bad ? "bad" : "";
+}
+/** How far it is, in hundredths. */
+function tellProgress(share, words) {
+  byId("progress").hidden = share >= 1;
+  byId("progress").value = Math.round(share * 100);
+  if (share < 1) say(`${words}: ${Math.round(share * 100)} %`);
+}
+function fileRow(file) {
+  const told = make("td", {}, make("span", { className: file.fault ? "bad" : "good",
+    textContent: file.fault || file.said }));
+  if (file.passed.length) {
+    const most = file.passed.slice(0, 50).map(it => make("li", { textContent: it }));
+    const words = `${count(file.passed.length, "line")} passed over`;
+    told.append(make("details", { aria: { "aria-label": "lines passed over" } },
+      make("summary", { textContent: words }), make("ul", {}, ...most)));
+  }
+  if (file.kind === "KISS stream") {
+    const set = key => async event => { file[key] = event.target.value; await look(file); work(); };
+    told.append(make("p", {}, make("label", { textContent: "receiver " },
+      make("input", { value: file.receiver, size: 9, onchange: set("receiver") })),
+    make("label", { textContent: " heard at " }, make("input", { value: file.moment, size: 24,
+      placeholder: "2024-06-21T18:00:00Z", onchange: set("moment") }))));
+  }
+  const away = make("button", { type: "button", textContent: "take away",
+    aria: { "aria-label": `take ${file.name} away` },
+    onclick() { files.splice(files.indexOf(file), 1); work(); } });
+  return make("tr", {}, make("th", { scope: "row", textContent: file.name }),
+    make("td", { textContent: file.kind }),
+    make("td", { className: "num", textContent: file.bytes.length.toLocaleString("en") }), told,
+    make("td", {}, away));
+}
+function list() {
+  byId("files-box").hidden = !files.length;
+  byId("files-box").parentNode.classList.toggle("filled", files.length > 0);
+  byId("files").tBodies[0].replaceChildren(...files.map(fileRow));
+}
+
+// ---- the book, and what is drawn of it
+
+const optionsOf = () => ({ title: byId("name").value || "APRS net", gap: +byId("gap").value,
+  live: 0, silent: +byId("silent").value || 30, maps: [], roster: "",
+  notes: files.filter(it => it.fault).map(it => `${it.name} was left out: ${it.fault}`) });
+
+/** Book, history and listing of all files that can be read. */
+async function textsOf(good, gap, tellShare) {
+  const call = async (command, inputs) => {
+    const got = await run(command, gap, inputs);
+    if (got.status)
+      throw Object.assign(new Error(place(got)), { at: got.status === 1 ? got.input : -1 });
+    return got.bytes;
+  };
+  const book = await call("merge", good.map(it => it.taken));
+  tellShare(0.6);
+  const texts = await Promise.all(["history", "show"].map(command => call(command, [book])));
+  return { book, history: asText(texts[0]), listing: asText(texts[1]) };
+}
+async function work() {
+  list();
+  const good = files.filter(it => it.taken), mine = ++turn, begin = performance.now();
+  byId("book").disabled = byId("event").disabled = true;
+  made = null;
+  if (!good.length) {
+    show({ ...optionsOf(), notes: [], history: "", listing: "", waits: true });
+    return say(files.length ? "no file can be read" : "", true);
+  }
+  const words = `merging ${count(good.length, "file")}`;
+  tellProgress(0.3, words);
+  try {
+    const texts = await textsOf(good, +byId("gap").value, share => tellProgress(share, words));
+    if (mine !== turn) return; // other files came
+    made = texts;
+    tellProgress(0.9, "drawing");
+    await new Promise(done => setTimeout(done));
+    show({ ...optionsOf(), history: texts.history, listing: texts.listing });
+    byId("book").disabled = byId("event").disabled = false;
+    tellProgress(1);
+    say(`${count(page.all.rows.length, "transmission")} of ${count(good.length, "file")}, ` +
+      `in ${((performance.now() - begin) / 1000).toFixed(1)} s`);
+  } catch (fault) {
+    tellProgress(1);
+    say((good[fault.at] ? good[fault.at].name + ": " : "") + fault.message, true);
+  }
+}
+/** Takes files, one after the other; the last turn draws. */
+async function add(dropped) {
+  const list = [...dropped], all = list.reduce((sum, it) => sum + it.size, 0) || 1;
+  let done = 0;
+  await Promise.all(list.map(async it => {
+    tellProgress(0.3 * done / all, `reading ${it.name}`);
+    try {
+      const bytes = await bytesOf(it), kind = kindOf(bytes, it.name);
+      if (kind === "map" || kind === "roster") bring(it.name, new TextDecoder().decode(bytes));
+      else {
+        const file = { name: it.name, bytes, kind, receiver: "RX1", moment: "", passed: [] };
+        await look(file);
+        files.push(file);
+      }
+    } catch (fault) {
+      say(`${it.name}: ${fault.message}`, true);
+    }
+    done += it.size;
+    tellProgress(0.3 * done / all, "reading");
+  }));
+  files.sort((a, b) => a.name < b.name ? -1 : a.name > b.name ? 1 : 0);
+  await work();
+}
+
+// ---- saves
+
+const asData = value => JSON.stringify(value).replaceAll("&", "\\u0026")
+  .replaceAll("<", "\\u003c").replaceAll(">", "\\u003e");
+const asHtml = text => text.replace(/[&<>"']/g, it =>
+  ({ "&": "&amp;", "<": "&lt;", ">": "&gt;", '"': "&quot;", "'": "&#x27;" })[it]);
+
+/** The page of the event, the same that event-page makes of these files. */
+function eventPage() {
+  const { digests } = parts, { waits, ...data } = page.data;
+  for (const it of page.brought) {
+    if (it.base) data.maps = [...data.maps, it.text];
+    else data.roster += it.text;
+  }
+  const values = { TITLE: asHtml(data.title), STYLE: document.querySelector("style").textContent,
+    POLICY: `default-src 'none'; script-src ${digests.draws}; style-src ${digests.style}; ` +
+      "base-uri 'none'; form-action 'none'",
+    FILES: "", FOOTER: "Made by event-page from a book of aprsbook.", DATA: asData(data),
+    SCRIPTS: `<script>${byId("draws").textContent}<\/script>` };
+  return parts.shell.replace(/@([A-Z]+)@/g, (_, name) => values[name]);
+}
+function drawOwnSaves() {
+  const put = (id, name, run) => byId("saves").lastElementChild.prepend(
+    make("button", { type: "button", id, textContent: name, disabled: true, onclick: run }));
+  put("event", "page of the event (HTML)", () => save("event.html", eventPage(), "text/html"));
+  put("book", "book", () => save("net.book", made.book, "application/octet-stream"));
+}
+
+// ---- begin
+
+function listen() {
+  byId("choose").onchange = event => add(event.target.files);
+  byId("gap").onchange = byId("name").onchange = byId("silent").onchange = async () => {
+    for (const it of files) await look(it);
+    work();
+  };
+  for (const kind of ["dragover", "dragleave", "drop"])
+    addEventListener(kind, event => {
+      event.preventDefault();
+      byId("drop").classList.toggle("over", kind === "dragover");
+      if (kind === "drop" && event.dataTransfer) add(event.dataTransfer.files);
+    });
+}
+async function beginReading() {
+  drawOwnSaves();
+  show({ ...optionsOf(), title: "aprsbook", history: "", listing: "", waits: true });
+  const module = Uint8Array.from(atob(parts.module), it => it.charCodeAt(0));
+  try {
+    const many = Math.max(2, Math.min(3, navigator.hardwareConcurrency || 2));
+    await Promise.all(Array.from({ length: many }, () => ask(addWorker(), "load", module)));
+  } catch (fault) {
+    return say(`This browser can't run the page (${fault.message}): it takes Chromium or Edge ` +
+      "133, Firefox 134, or newer.", true);
+  }
+  listen();
+  byId("choose").disabled = false;
+  say("");
+  beginFollowing();
+}

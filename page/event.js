@@ -1,0 +1,334 @@
+// The page: what it has of the net, what the reader chose, and what is drawn of both.
+
+const page = { data: null, all: null, net: null, map: null, lists: {}, bases: [], roster: [],
+  found: [], brought: [], until: Infinity, playing: null, finder: new Map() };
+
+/** The moment to which ages count: now where the page goes on, or else the last of the inputs. */
+const presentOf = () => page.data.live || page.follows ? Date.now() / 1000 : page.all.end;
+const view = {
+  get now() { return presentOf(); },
+  get silent() { return page.data.silent * 60; },
+  get gap() { return page.data.gap; },
+  isSilent: it => it.kind === "station" && presentOf() - it.last > page.data.silent * 60,
+  onPick: key => pick(key),
+};
+
+/** Draws the page of these texts and options. What the reader chose stays. */
+function show(data) {
+  const rows = readHistory(data.history);
+  page.data = data;
+  page.all = { rows, listing: readListing(data.listing),
+    end: rows.reduce((end, row) => Math.max(end, row.last), 0) };
+  byId("title").textContent = document.title = data.title;
+  readBrought();
+  refresh();
+}
+/** Reads base maps and the roster, those of the page and those that the reader brought. */
+function readBrought() {
+  page.bases = [];
+  page.roster = readRoster(page.data.roster);
+  for (const text of page.data.maps) {
+    try {
+      page.bases.push(readBase(text));
+    } catch (fault) {
+      tell(`a map: ${fault.message}`, true);
+    }
+  }
+  for (const it of page.brought) {
+    if (it.base) page.bases.push(it.base);
+    else page.roster.push(...it.roster);
+  }
+  page.map.bases = page.bases;
+}
+/** Draws all anew, for the part of the time that is shown. */
+function refresh() {
+  const hours = +byId("since").value;
+  const since = hours ? presentOf() - hours * 3600 : -Infinity, net = netOf(page.all, since);
+  clocks.local = byId("local").checked;
+  clocks.dated = net.rows.length > 0 && dateText(net.begin) !== dateText(net.end);
+  net.placed = net.things.filter(it => it.now);
+  page.net = net;
+  page.map.take(net.placed);
+  page.finder.clear();
+  byId("net").hidden = !page.all.rows.length;
+  byId("controls").hidden = !page.all.rows.length && !page.follows;
+  drawAbout();
+  drawLists();
+  drawNews();
+  drawOne();
+  fillForm(net);
+  page.map.picked = page.net.things.some(it => it.key === page.picked) ? page.picked : null;
+  turnClock();
+  sift();
+}
+
+function drawAbout() {
+  const { net, all } = page, stations = net.things.filter(it => it.kind === "station").length;
+  const zone = net.rows.length ? zoneText(net.end) : "UTC";
+  byId("zone").textContent = `All times are ${zone}.`;
+  if (!net.rows.length)
+    byId("about").textContent = all.rows.length ? "Nothing was heard in this time." :
+      page.data.waits ? "" : "Nothing was heard yet.";
+  else {
+    const by = net.receivers.map(it => it.name).join(", ");
+    const to = (clocks.dated ? dateText(net.end) + " " : "") + secondText(net.end);
+    byId("about").textContent = `${dateText(net.begin)} ${secondText(net.begin)} to ${to} ` +
+      `${zone} \u00b7 ${count(net.rows.length, "transmission")} of ` +
+      `${count(stations, "station")} \u00b7 heard by ${by}`;
+  }
+}
+/** What wants doing: where it stands, how bad it is, and in words. */
+function newsOf(net, data) {
+  const of = state => net.messages.filter(it => it.state === state).length;
+  const unanswered = of("unanswered"), open = of("not judged"), { roster } = page;
+  const silent = net.things.filter(view.isSilent).length;
+  const missing = rosterOf(roster, net).filter(it => presentOf() - it.last > view.silent).length;
+  const news = [];
+  news.push(["#said", unanswered ? "bad" : "good", `${count(unanswered, "message")} unanswered`]);
+  if (open) news.push(["#said", "warn", `${count(open, "message")} can\u2019t be judged`]);
+  news.push(["#list", silent ? "warn" : "good",
+    `${count(silent, "station")} silent for over ${data.silent} min`]);
+  if (roster.length) news.push(["#roster", missing ? "bad" : "good",
+    `${missing} of ${roster.length} expected not heard`]);
+  for (const it of net.receivers) {
+    const clock = clockWords(it, data.gap);
+    if (clock.wrong)
+      news.push(["#ears", "bad", `the clock of ${it.name} is ${clock.text} from the others`]);
+  }
+  return news;
+}
+function drawNews() {
+  const news = page.net.rows.length ? newsOf(page.net, page.data) : [];
+  const nodes = news.map(([href, className, textContent]) =>
+    make("a", { href, className, textContent }));
+  for (const text of page.data.notes)
+    nodes.push(make("span", { className: "bad", textContent: text }));
+  byId("news").replaceChildren(...nodes.flatMap(it => [it, " "]));
+}
+function drawLists() {
+  const { net, lists } = page;
+  lists.messages.show([...net.messages].sort(inOrder));
+  byId("bulletins-head").hidden = byId("bulletins-box").hidden = !net.bulletins.length;
+  lists.bulletins.show([...net.bulletins].sort((a, b) => b.last - a.last));
+  byId("roster").hidden = !page.roster.length;
+  lists.roster.show(rosterOf(page.roster, net));
+  later("receivers", () => lists.receivers.show(net.receivers));
+  later("heard", () => { lists.heard = heardList(net); });
+  later("repeated", () => { lists.repeated = repeatedList(net); });
+  later("timeline", () => { lists.timeline = timelineList(byId("timeline-box"), net); });
+}
+const heardList = net => pairList(byId("heard-box"), "heard",
+  "how many transmissions each receiver heard", net.heard, net.sent, (source, name, n, of) =>
+    `${shareText(n, of)}, ${net.alone.get(source, name)} by no other`);
+const repeatedList = net => pairList(byId("repeated-box"), "repeated",
+  "how many transmissions each digipeater repeated, of those that were heard", net.repeated,
+  net.sent, (source, name, n, of) => shareText(n, of));
+
+/** Filters the things by what is asked for; that holds for the map too. */
+function sift() {
+  const words = byId("find").value.toLowerCase(), kind = byId("kind").value;
+  const isOfKind = it => !kind || (kind === "silent" ? view.isSilent(it) : it.kind === kind);
+  const hay = it => {
+    let text = page.finder.get(it);
+    if (text === undefined) page.finder.set(it, text = haystack(it));
+    return text;
+  };
+  const { things } = page.net;
+  page.found = things.filter(it => isOfKind(it) && (!words || hay(it).includes(words)));
+  byId("found").textContent = page.found.length === things.length ? ""
+    : `${page.found.length} of ${things.length}`;
+  page.lists.things.show(page.found);
+  page.map.show(page.found);
+  const placed = count(page.map.things.length, "place");
+  byId("map").setAttribute("aria-label", `map of ${placed}; the table has them too`);
+  choose("find", byId("find").value);
+  choose("kind", kind);
+}
+
+/** Picks a thing, or, where it is picked already, nothing. */
+function pick(key) {
+  page.from = page.picked && page.picked !== key ? page.picked : page.from;
+  page.picked = page.picked === key ? null : key;
+  if (!page.picked) page.from = null;
+  choose("pick", page.picked || "");
+  Object.assign(page.map, { picked: page.picked, from: page.from });
+  const thing = page.net.things.find(it => it.key === page.picked);
+  if (thing?.now) page.map.reach(thing.now.vector);
+  drawOne();
+  page.map.paintSoon();
+}
+/** What is known of the thing that is picked. */
+function drawOne() {
+  const thing = page.net.things.find(it => it.key === page.picked);
+  byId("one").hidden = !thing;
+  if (!thing) return;
+  byId("one-name").replaceChildren(...(thing.now ? [markOf(thing)] : []), thing.label,
+    make("small", { textContent: ` ${thing.kind}${thing.killed ? ", killed" : ""}` }));
+  byId("one-about").replaceChildren(...factsOf(thing).flatMap(([name, ...value]) =>
+    [make("dt", { textContent: name }), make("dd", {}, ...value)]));
+  page.lists.places.show([...thing.places].reverse());
+}
+function factsOf(thing) {
+  const { now } = thing, facts = [];
+  facts.push(["last heard", momentOf(thing.last), ` by ${thing.by.join(", ")}`],
+    ["sent", String(thing.sent)]);
+  if (now) {
+    const word = symbolOf(now).word, words = wordsOf(now);
+    if (word) facts.push(["symbol", word]);
+    facts.push(["place", `${now.north.toFixed(5)}, ${now.east.toFixed(5)}`],
+      ["", minutesText(now.north, now.east)], ["locator", locatorOf(now.north, now.east)]);
+    if (words.length) facts.push(["says", words.join(", ")]);
+    if (now.comment) facts.push(["comment", air(now.comment)]);
+    if (thing.kind !== "station") facts.push(["put by", now.source]);
+  }
+  if (thing.status) facts.push(["status", air(thing.status)]);
+  const from = page.net.things.find(it => it.key === page.from);
+  if (now && from?.now && from !== thing) {
+    const way = bearing(from.now.vector, now.vector);
+    facts.push([`from ${from.label}`,
+      `${far(distance(from.now.vector, now.vector))}, ${Math.round(way) % 360}\u00b0`]);
+  }
+  return facts;
+}
+function placeList(box) {
+  const row = it => make("tr", {}, timeCell(it.first), cell("where", ...whereOf(it)),
+    cell("about", wordsOf(it).join(", ")), cell("about", air(it.comment)),
+    cell("by", it.receivers.join(", ")));
+  return new List(box, { id: "places", caption: "places", row, none: "no place", columns: [
+    { title: "heard", number: true, value: it => it.first },
+    { title: "place", value: it => it.north }, { title: "says", value: it => wordsOf(it).join() },
+    { title: "comment", value: it => it.comment },
+    { title: "by", value: it => it.receivers.join() }] });
+}
+
+// ---- the time that the map shows
+
+/** Shows the net as it was at the clock's moment. */
+function turnClock() {
+  const clock = byId("clock"), { net } = page, all = +clock.value === +clock.max;
+  const moment = net.begin + (net.end - net.begin) * clock.value / clock.max;
+  page.map.until = all ? Infinity : moment;
+  byId("then").textContent = net.rows.length ? timeText(moment) : "";
+  page.map.paintSoon();
+  return all || !net.rows.length ? "" : Math.round(moment);
+}
+const keepClock = () => choose("clock", turnClock());
+function stop() {
+  clearInterval(page.playing);
+  page.playing = null;
+  byId("play").textContent = "play";
+  keepClock();
+}
+function play() {
+  if (page.playing) return stop();
+  const clock = byId("clock");
+  if (+clock.value === +clock.max) clock.value = 0;
+  byId("play").textContent = "stop";
+  page.playing = setInterval(() => {
+    clock.value = +clock.value + 4;
+    turnClock();
+    if (+clock.value === +clock.max) stop();
+  }, 80);
+}
+
+// ---- what the reader brings and takes away
+
+/** Takes a base map or a roster; says so where it is none. */
+function bring(name, text) {
+  try {
+    const base = /^\s*[<{[]/.test(text) ? readBase(text) : null;
+    const roster = base ? [] : readRoster(text);
+    if (!base && !roster.length) throw new Error("no map and no list of calls");
+    page.brought.push({ name, text, base, roster });
+    tell(`${name}: ${base ? "a map" : count(roster.length, "call")}`);
+  } catch (fault) {
+    tell(`${name}: ${fault.message}`, true);
+  }
+  readBrought();
+  refresh();
+}
+function tell(text, bad = false) {
+  byId("told").textContent = text;
+  byId("told").className = bad ? "bad" : "";
+}
+async function bringAll(files) {
+  for (const it of files) bring(it.name, await it.text());
+}
+function drawSaves() {
+  byId("saves").lastElementChild.replaceChildren(...Object.keys(SAVES).map(name =>
+    make("button", { type: "button", textContent: name, onclick() {
+      const [file, type, text] = SAVES[name](page.net, page.data);
+      save(file, text, type);
+    } })));
+}
+
+// ---- begin
+
+function listenToControls() {
+  const { map } = page, on = (id, kind, run) => byId(id).addEventListener(kind, run);
+  on("in", "click", () => { map.zoom(1.5); map.turn(); });
+  on("out", "click", () => { map.zoom(1 / 1.5); map.turn(); });
+  on("fit", "click", () => { map.fit(); map.turn(); });
+  on("clock", "input", keepClock);
+  on("play", "click", play);
+  on("find", "input", sift);
+  on("kind", "change", sift);
+  on("since", "change", () => {
+    choose("since", byId("since").value === "0" ? "" : byId("since").value);
+    refresh();
+  });
+  on("local", "change", () => {
+    choose("time", byId("local").checked ? "local" : "");
+    refresh();
+  });
+  on("one-close", "click", () => pick(page.picked));
+  on("bring", "change", event => bringAll(event.target.files));
+  on("away", "click", () => { page.brought = []; tell(""); readBrought(); refresh(); });
+  on("ics-open", "click", () => openForm(true));
+  on("ics-close", "click", () => openForm(false));
+  on("ics-print", "click", () => print());
+  on("ics-save", "click", () => save("ics-309.csv", messagesCsv(page.net), "text/csv"));
+  addEventListener("beforeprint", () => {
+    runAllWaiting();
+    for (const list of Object.values(page.lists)) list.whole();
+    dressFor(true);
+  });
+  addEventListener("afterprint", () => dressFor(false));
+}
+/** Puts on the colours of paper, or takes them off. */
+function dressFor(paper) {
+  document.documentElement.classList.toggle("printed", paper);
+  page.map.readColours();
+  page.map.measure();
+}
+function openForm(open) {
+  document.body.classList.toggle("ics", open);
+  byId("ics").hidden = !open;
+  byId("ics-incident").value ||= page.data.title;
+  byId(open ? "ics-incident" : "ics-open").focus();
+}
+/** Makes what is drawn into, with what was chosen before. */
+function begin() {
+  page.map = new NetMap(byId("map"), pick, text => choose("view", text));
+  page.picked = chosen.get("pick");
+  page.map.look(chosen.get("view") || "");
+  byId("since").value = chosen.get("since") || "0";
+  byId("local").checked = chosen.get("time") === "local";
+  byId("find").value = chosen.get("find") || "";
+  byId("kind").value = chosen.get("kind") || "";
+  page.lists = {
+    messages: messageList(byId("messages-box")), bulletins: bulletinList(byId("bulletins-box")),
+    things: thingList(byId("things-box"), view), places: placeList(byId("one-places")),
+    receivers: receiverList(byId("receivers-box"), view),
+    roster: rosterList(byId("roster-box"), view),
+  };
+  drawSaves();
+  listenToControls();
+}
+/** Puts the clock where it was left. */
+function beginClock() {
+  const { net } = page, at = chosen.get("clock"), clock = byId("clock");
+  const share = (at - net.begin) / Math.max(1, net.end - net.begin);
+  if (at && net.rows.length) clock.value = share * clock.max;
+  turnClock();
+}

@@ -1,0 +1,118 @@
+// The earth as a ball: places are unit vectors, so that the date line and the poles are nothing
+// special. The map is Lambert's azimuthal projection, with areas kept, around the middle of the
+// view.
+
+const RADIUS = 6371008.8; // metres
+const RADIAN = Math.PI / 180;
+
+function vectorOf(north, east) {
+  const level = Math.cos(north * RADIAN);
+  return [level * Math.cos(east * RADIAN), level * Math.sin(east * RADIAN),
+    Math.sin(north * RADIAN)];
+}
+function degreesOf([x, y, z]) {
+  return [Math.atan2(z, Math.hypot(x, y)) / RADIAN, Math.atan2(y, x) / RADIAN];
+}
+function distance(a, b) {
+  const half = Math.hypot(a[0] - b[0], a[1] - b[1], a[2] - b[2]) / 2;
+  return 2 * RADIUS * Math.asin(Math.min(1, half));
+}
+const dot = (a, b) => a[0] * b[0] + a[1] * b[1] + a[2] * b[2];
+
+/** East and north at a place, as vectors. */
+function frameAt(north, east) {
+  const [sinN, cosN] = [Math.sin(north * RADIAN), Math.cos(north * RADIAN)];
+  const [sinE, cosE] = [Math.sin(east * RADIAN), Math.cos(east * RADIAN)];
+  return { east: [-sinE, cosE, 0], north: [-sinN * cosE, -sinN * sinE, cosN] };
+}
+/** The course from one place to another as it begins, in degrees from north by east. */
+function bearing(from, to) {
+  const frame = frameAt(...degreesOf(from));
+  return (Math.atan2(dot(frame.east, to), dot(frame.north, to)) / RADIAN + 360) % 360;
+}
+/** The Maidenhead locator of a place, with six letters. */
+function locatorOf(north, east) {
+  const a = Math.min(359.9999, Math.max(0, east + 180)), b = Math.min(179.9999, north + 90);
+  const letter = (n, first) => String.fromCharCode(first.charCodeAt(0) + n);
+  return letter(Math.floor(a / 20), "A") + letter(Math.floor(b / 10), "A") +
+    Math.floor(a % 20 / 2) + Math.floor(b % 10) +
+    letter(Math.floor(a % 2 * 12), "a") + letter(Math.floor(b % 1 * 24), "a");
+}
+/** A place in degrees and minutes, as radio amateurs say it. */
+function minutesText(north, east) {
+  const one = (value, digits, marks) => {
+    const all = Math.round(Math.abs(value) * 6000);
+    return `${String(Math.floor(all / 6000)).padStart(digits, "0")}\u00b0` +
+      `${(all % 6000 / 100).toFixed(2).padStart(5, "0")}\u2032${marks[value < 0 ? 1 : 0]}`;
+  };
+  return `${one(north, 2, "NS")} ${one(east, 3, "EW")}`;
+}
+
+/** Between the earth and the pixels of a map. `scale` is pixels for a radian. */
+class Projection {
+  constructor() {
+    Object.assign(this, { width: 1, height: 1, scale: 1, x: 0, y: 0 });
+    this.look(0, 0);
+  }
+  look(north, east) {
+    this.middle = [Math.max(-90, Math.min(90, north)), east];
+    this.centre = vectorOf(...this.middle);
+    this.frame = frameAt(...this.middle);
+  }
+  /** Puts the pixel of a place into x and y; says whether it is on this side of the earth. */
+  put(vector) {
+    const near = dot(this.centre, vector), k = this.scale * Math.sqrt(2 / Math.max(1e-9, 1 + near));
+    this.x = this.width / 2 + k * dot(this.frame.east, vector);
+    this.y = this.height / 2 - k * dot(this.frame.north, vector);
+    return near > -0.9;
+  }
+  /** The place under a pixel; beyond the earth's rim, that of the rim. */
+  at(x, y) {
+    const right = (x - this.width / 2) / this.scale, up = (this.height / 2 - y) / this.scale;
+    const out = Math.hypot(right, up), angle = 2 * Math.asin(Math.min(1, out / 2));
+    if (out < 1e-12) return [...this.centre];
+    const [a, b, c] = [Math.cos(angle), Math.sin(angle) * right / out, Math.sin(angle) * up / out];
+    return [0, 1, 2].map(k =>
+      a * this.centre[k] + b * this.frame.east[k] + c * this.frame.north[k]);
+  }
+  /** Moves the picture so many pixels to the right and down. */
+  move(right, down) {
+    this.look(...degreesOf(this.at(this.width / 2 - right, this.height / 2 - down)));
+  }
+  /** Zooms, and the place under that pixel stays there. */
+  zoom(by, x = this.width / 2, y = this.height / 2) {
+    const under = this.at(x, y);
+    this.scale = Math.min(6.4e7, Math.max(60, this.scale * by));
+    for (let turn = 0; turn < 2; turn++) {
+      this.put(under);
+      this.move(x - this.x, y - this.y);
+    }
+  }
+  /** Looks at all of these places. */
+  fit(vectors) {
+    const sum = vectors.reduce((a, b) => [a[0] + b[0], a[1] + b[1], a[2] + b[2]], [0, 0, 0]);
+    this.look(...(vectors.length ? degreesOf(sum) : [0, 0]));
+    this.scale = Math.min(this.width, this.height) / 4;
+    // around the earth: from above the equator both poles are seen
+    if (vectors.some(it => !this.put(it))) return this.look(0, this.middle[1]);
+    for (let turn = 0; turn < 4; turn++) {
+      const [left, right, top, bottom] = this.box(vectors);
+      this.move(this.width / 2 - (left + right) / 2, this.height / 2 - (top + bottom) / 2);
+      const wide = Math.max((right - left) / this.scale, 6e-5);
+      const high = Math.max((bottom - top) / this.scale, 6e-5);
+      this.scale = Math.max(60, Math.min(Math.max(50, this.width - 130) / wide,
+        Math.max(50, this.height - 90) / high));
+    }
+  }
+  box(vectors) {
+    let left = Infinity, right = -Infinity, top = Infinity, bottom = -Infinity;
+    for (const vector of vectors) {
+      if (!this.put(vector)) continue;
+      left = Math.min(left, this.x);
+      right = Math.max(right, this.x);
+      top = Math.min(top, this.y);
+      bottom = Math.max(bottom, this.y);
+    }
+    return left <= right ? [left, right, top, bottom] : [0, this.width, 0, this.height];
+  }
+}

@@ -1,0 +1,102 @@
+// Tables that build their rows as they come into view, sort by their heads, and take one stop of
+// the tab key: arrow keys go from row to row.
+
+const PART = 40;
+
+class List {
+  /**
+   * `columns` are { title, number, value } with the value to sort by; `row` makes a row of an item.
+   * It stands in `box`, which scrolls.
+   */
+  constructor(box, { id, caption, columns, row, none = "none" }) {
+    Object.assign(this, { box, id, columns, row, none, items: [], built: 0 });
+    const button = (textContent, n) =>
+      make("button", { type: "button", textContent, onclick: () => this.turn(n) });
+    this.heads = columns.map((it, n) =>
+      make("th", { scope: "col", className: it.number ? "num" : "" },
+        it.value ? button(it.title, n) : it.title));
+    this.body = make("tbody");
+    this.table = make("table", { id, className: "sorted" },
+      make("caption", { textContent: caption }),
+      make("thead", {}, make("tr", {}, ...this.heads)), this.body);
+    const [, column, way] = /^(\d+)([ad])$/.exec(chosen.get(id)) || [];
+    this.order = columns[column]?.value ? { column: +column, down: way === "d" } : null;
+    box.addEventListener("scroll", () => {
+      this.scrolled = true;
+      this.fill();
+    }, { passive: true });
+    this.body.addEventListener("keydown", event => this.step(event));
+    this.body.addEventListener("focusin", event => this.rove(event.target));
+  }
+  /** Sorts by a column; once more, the other way round. */
+  turn(column) {
+    const down = this.order?.column === column ? !this.order.down : !!this.columns[column].number;
+    this.order = { column, down };
+    choose(this.id, column + (down ? "d" : "a"));
+    this.show(this.given);
+  }
+  show(items) {
+    this.given = items;
+    this.items = this.order ? this.sorted(items) : items;
+    this.heads.forEach((head, n) => {
+      if (this.order?.column === n)
+        head.setAttribute("aria-sort", this.order.down ? "descending" : "ascending");
+      else head.removeAttribute("aria-sort");
+    });
+    this.built = 0;
+    this.body.replaceChildren();
+    this.table.setAttribute("aria-rowcount", items.length + 1);
+    this.box.replaceChildren(items.length ? this.table : make("p", { textContent: this.none }));
+    if (this.scrolled) this.box.scrollTop = 0;
+    this.scrolled = false;
+    this.build(PART);
+  }
+  sorted(items) {
+    const { value } = this.columns[this.order.column], way = this.order.down ? -1 : 1;
+    const compare = (a, b) =>
+      (typeof a[0] === "number" ? a[0] - b[0] : collator.compare(a[0], b[0])) * way || a[1] - b[1];
+    return items.map((it, n) => [value(it), n, it]).sort(compare).map(it => it[2]);
+  }
+  build(n) {
+    const rows = this.items.slice(this.built, this.built + n).map((item, k) => {
+      const row = this.row(item);
+      row.setAttribute("aria-rowindex", this.built + k + 2);
+      return row;
+    });
+    this.body.append(...rows);
+    if (!this.built) this.rove(this.body.querySelector(".pick"));
+    else for (const it of rows) for (const pick of it.querySelectorAll(".pick")) pick.tabIndex = -1;
+    this.built += rows.length;
+  }
+  /** Builds on where the end of what is built comes near. */
+  fill() {
+    while (this.built < this.items.length &&
+      this.box.scrollTop + this.box.clientHeight > this.box.scrollHeight - 600) this.build(PART);
+  }
+  /** Builds all, for paper. */
+  whole(most = 5000) {
+    this.build(Math.max(0, Math.min(this.items.length, most) - this.built));
+  }
+  /** The one row that the tab key reaches. */
+  rove(pick) {
+    if (!pick?.classList.contains("pick")) return;
+    for (const it of this.body.querySelectorAll(".pick")) it.tabIndex = it === pick ? 0 : -1;
+  }
+  step(event) {
+    const by = { ArrowDown: 1, ArrowUp: -1, Home: -Infinity, End: Infinity }[event.key];
+    if (!by || !event.target.classList.contains("pick")) return;
+    event.preventDefault();
+    if (by === Infinity) this.whole();
+    const picks = [...this.body.querySelectorAll(".pick")];
+    const at = Math.max(0, Math.min(picks.length - 1, picks.indexOf(event.target) + by));
+    picks[at].focus();
+    this.fill();
+  }
+}
+const collator = new Intl.Collator("en", { numeric: true });
+
+const cell = (className, ...inside) => make("td", { className }, ...inside);
+const number = n => cell("num", n === undefined || n === 0 ? "" : n.toLocaleString("en"));
+const timeCell = seconds => cell("num time", momentOf(seconds));
+const ageCell = (seconds, view) => make("td", { className: "num age", data: { v: seconds },
+  textContent: age(view.now - seconds) });

@@ -1,0 +1,491 @@
+// The map: a canvas on which all in view is drawn, once for each picture.
+
+/** Digits of the minutes that were left out leave so many metres open to each side. */
+const OPEN = { 1: 93, 2: 926, 3: 9260, 4: 55560 };
+/** 1, 2 or 5 times a power of ten. */
+function roundUp(atLeast) {
+  const ten = 10 ** Math.floor(Math.log10(atLeast));
+  return [1, 2, 5, 10].map(k => k * ten).find(size => size >= atLeast * 0.999);
+}
+
+const RANK = { item: 1, object: 2, station: 3 };
+
+/** Which parts of the map have a mark or a name, in squares of 4 pixels. */
+class Room {
+  constructor(width, height) {
+    this.across = Math.ceil(width / 4);
+    this.down = Math.ceil(height / 4);
+    this.squares = new Uint8Array(this.across * this.down);
+  }
+  each(left, top, right, bottom, run) {
+    const [x0, x1] = [Math.floor(left / 4), Math.floor(right / 4)];
+    const [y0, y1] = [Math.floor(top / 4), Math.floor(bottom / 4)];
+    if (x0 < 0 || y0 < 0 || x1 >= this.across || y1 >= this.down) return false;
+    for (let y = y0; y <= y1; y++)
+      for (let x = x0; x <= x1; x++) if (!run(y * this.across + x)) return false;
+    return true;
+  }
+  isFree(...box) {
+    return this.each(...box, at => !this.squares[at]);
+  }
+  take(...box) {
+    this.each(...box, at => (this.squares[at] = 1));
+  }
+}
+
+class NetMap {
+  /** `node` holds a canvas; `onPick` is told of the thing that was picked, `onView` of a move. */
+  constructor(node, onPick, onView) {
+    Object.assign(this, { node, onPick, onView, canvas: node.querySelector("canvas"),
+      view: new Projection(), placed: [], things: [], bases: [], picked: null, from: null,
+      until: Infinity, fitted: true, marks: [], colours: {}, widths: new Map() });
+    this.pen = this.canvas.getContext("2d");
+    this.paintSoon = oncePerFrame(() => this.paint());
+    this.readColours();
+    matchMedia("(prefers-color-scheme: dark)").addEventListener("change", () => {
+      this.readColours();
+      this.paintSoon();
+    });
+    new ResizeObserver(() => this.measure()).observe(node);
+    listenToMap(this);
+  }
+  readColours() {
+    const style = getComputedStyle(document.documentElement);
+    for (const name of ["paper", "sheet", "ink", "soft", "line", "warn"])
+      this.colours[name] = style.getPropertyValue("--" + name).trim();
+    this.colours.tracks = Array.from({ length: TRACKS }, (_, k) =>
+      style.getPropertyValue("--t" + k).trim());
+  }
+  measure() {
+    const { width, height } = this.node.getBoundingClientRect();
+    if (!width || !height) return;
+    const ratio = devicePixelRatio || 1;
+    this.canvas.width = Math.round(width * ratio);
+    this.canvas.height = Math.round(height * ratio);
+    this.pen.setTransform(ratio, 0, 0, ratio, 0, 0);
+    Object.assign(this.view, { width, height });
+    if (this.fitted) this.fit();
+    this.paint();
+  }
+  /** All that the map may show; `show` says what of it. */
+  take(placed) {
+    this.placed = placed;
+    if (this.fitted) this.fit();
+  }
+  show(things) {
+    this.things = things.filter(it => it.places.length);
+    this.paintSoon();
+  }
+  fit() {
+    this.fitted = true;
+    const vectors = this.placed.flatMap(it => it.places.map(place => place.vector));
+    for (const { lines, points } of this.bases) {
+      for (const line of lines) for (const it of line) vectors.push(it);
+      for (const it of points) vectors.push(it.vector);
+    }
+    this.view.fit(vectors);
+  }
+  move(right, down) {
+    this.fitted = false;
+    this.view.move(right, down);
+  }
+  zoom(by, x, y) {
+    this.fitted = false;
+    this.view.zoom(by, x, y);
+  }
+  /** Paints what the reader asked for, and says so. */
+  turn() {
+    this.paintSoon();
+    this.onView(this.fitted ? "" : [...this.view.middle.map(it => it.toFixed(5)),
+      (this.view.scale / RADIUS * 1000).toPrecision(5)].join());
+  }
+  /** The view of `turn`: degrees, and pixels for a kilometre. */
+  look(text) {
+    const [north, east, scale] = text.split(",").map(Number);
+    if (![north, east, scale].every(Number.isFinite) || !(scale > 0)) return;
+    this.fitted = false;
+    this.view.look(north, east);
+    this.view.scale = Math.min(6.4e7, Math.max(60, scale * RADIUS / 1000));
+  }
+  /** Brings a place into view where it isn't. */
+  reach(vector) {
+    const near = this.view.put(vector), { x, y, width, height } = this.view;
+    if (near && x > 20 && y > 20 && x < width - 20 && y < height - 20) return;
+    this.fitted = false;
+    this.view.look(...degreesOf(vector));
+    this.turn();
+  }
+  /** The thing whose mark is near a pixel. */
+  markAt(x, y) {
+    let best = null, least = 16 * 16;
+    for (const mark of this.marks) {
+      const off = (mark.x - x) ** 2 + (mark.y - y) ** 2;
+      if (off <= least) [best, least] = [mark.thing, off];
+    }
+    return best;
+  }
+
+  paint() {
+    const { pen, view, colours } = this;
+    pen.clearRect(0, 0, view.width, view.height);
+    pen.fillStyle = colours.sheet;
+    pen.fillRect(0, 0, view.width, view.height);
+    pen.lineJoin = "round";
+    const labels = paintGrid(pen, view, colours);
+    for (const base of this.bases) this.paintBase(base);
+    const shown = [];
+    for (const thing of this.things) {
+      const place = thing.at(this.until);
+      if (place) shown.push({ thing, place, picked: thing.key === this.picked });
+    }
+    // stations lie above the rest, and what is picked above all
+    const rank = it => it.picked ? 4 : it.place.state === "killed" ? 0 : RANK[it.thing.kind];
+    shown.sort((a, b) => rank(a) - rank(b));
+    this.paintTracks(shown);
+    this.paintRuler();
+    this.paintMarks(shown);
+    for (const label of labels) this.write(label.text, label.x, label.y, colours.soft, 11);
+    this.paintScale();
+  }
+  /** Draws a line through places. */
+  line(vectors) {
+    this.pen.beginPath();
+    this.trace(vectors, () => false);
+    this.pen.stroke();
+  }
+  /** A path through places, broken where `breaks` says so or where it leaves this side. */
+  trace(vectors, breaks) {
+    const { pen, view } = this, { width, height } = view;
+    let lastX = 0, lastY = 0, drawn = false;
+    for (let k = 0; k < vectors.length; k++) {
+      const near = view.put(vectors[k]), { x, y } = view;
+      const whole = drawn && near && !breaks(k);
+      // what lies wholly to one side of the map, or within half a pixel, needn't be drawn
+      const beside = Math.max(x, lastX) < 0 || Math.min(x, lastX) > width ||
+        Math.max(y, lastY) < 0 || Math.min(y, lastY) > height;
+      const still = Math.abs(x - lastX) + Math.abs(y - lastY) < 0.5 && k < vectors.length - 1;
+      if (whole && still) continue;
+      if (whole && !beside) pen.lineTo(x, y);
+      else pen.moveTo(x, y);
+      [lastX, lastY, drawn] = [x, y, near];
+    }
+  }
+  paintBase(base) {
+    const { pen, colours } = this;
+    Object.assign(pen, { strokeStyle: colours.soft, lineWidth: 4, globalAlpha: 0.35 });
+    for (const line of base.lines) this.line(line);
+    pen.globalAlpha = 1;
+    pen.fillStyle = colours.soft;
+    for (const { vector, name } of base.points) {
+      if (!this.isInView(vector)) continue;
+      const { x, y } = this.view;
+      pen.beginPath();
+      pen.arc(x, y, 3, 0, 7);
+      pen.fill();
+      this.write(name.slice(0, 40), x + 5, y + 14, colours.soft, 11);
+    }
+  }
+  isInView(vector) {
+    const near = this.view.put(vector), { x, y, width, height } = this.view;
+    return near && x > -10 && y > -10 && x < width + 10 && y < height + 10;
+  }
+  /** The tracks of all, those of one colour at once. */
+  paintTracks(shown) {
+    const { pen } = this, moved = shown.filter(it => it.thing.places.length > 1);
+    const draw = list => {
+      pen.beginPath();
+      for (const { thing } of list) this.traceTrack(thing);
+      pen.stroke();
+    };
+    const picked = moved.filter(it => it.picked), rest = moved.filter(it => !it.picked);
+    pen.lineWidth = 2;
+    pen.globalAlpha = this.picked ? 0.3 : 0.85;
+    this.colours.tracks.forEach((colour, k) => {
+      pen.strokeStyle = colour;
+      draw(rest.filter(it => colourOf(it.thing.key) === k));
+    });
+    pen.globalAlpha = 1;
+    pen.lineWidth = 4;
+    for (const it of picked) {
+      pen.strokeStyle = this.colours.tracks[colourOf(it.thing.key)];
+      draw([it]);
+    }
+  }
+  traceTrack(thing) {
+    const places = this.until === Infinity ? thing.places
+      : thing.places.filter(it => it.first <= this.until);
+    // a kill ends a segment
+    this.trace(places.map(it => it.vector), k => places[k - 1].state === "killed");
+  }
+  /** The line between what was picked before and what is picked. */
+  paintRuler() {
+    const [a, b] = [this.from, this.picked].map(key =>
+      this.things.find(it => it.key === key)?.at(this.until));
+    if (!a || !b || a === b) return;
+    Object.assign(this.pen, { strokeStyle: this.colours.ink, lineWidth: 1.5 });
+    this.pen.setLineDash([2, 4]);
+    this.line([a.vector, b.vector]);
+    this.pen.setLineDash([]);
+  }
+  paintMarks(shown) {
+    this.marks = [];
+    for (const it of shown) {
+      if (!this.isInView(it.place.vector)) continue;
+      this.marks.push({ ...it, x: this.view.x, y: this.view.y });
+    }
+    const { width, height } = this.view, room = new Room(width, height);
+    const small = this.marks.length > 250, reach = small ? 4 : 10;
+    if (small) this.paintDots(this.marks.filter(it => !it.picked));
+    for (const mark of this.marks) {
+      if (!small || mark.picked) this.paintMark(mark);
+      room.take(mark.x - reach, mark.y - reach, mark.x + reach, mark.y + reach);
+    }
+    // the picked one comes first, so that its name has room
+    const named = this.marks.slice(small ? -600 : 0).reverse();
+    for (const mark of named) this.name(mark, room, reach);
+  }
+  colourAt(thing, place) {
+    return place.state === "killed" ? this.colours.soft : this.colours.tracks[colourOf(thing.key)];
+  }
+  /** Marks where there are many: dots, those of one colour at once. */
+  paintDots(marks) {
+    const { pen } = this, byColour = new Map();
+    for (const { thing, place, x, y } of marks) {
+      const colour = this.colourAt(thing, place);
+      if (!byColour.has(colour)) byColour.set(colour, new Path2D());
+      byColour.get(colour).rect(x - 3, y - 3, 6, 6);
+    }
+    for (const [colour, dots] of byColour) {
+      pen.fillStyle = colour;
+      pen.fill(dots);
+    }
+  }
+  paintMark({ thing, place, picked, x, y }) {
+    const { pen, colours } = this, killed = place.state === "killed";
+    const colour = this.colourAt(thing, place);
+    if (OPEN[place.ambiguity]) this.ring(x, y, place, colour);
+    pen.fillStyle = colour;
+    const motion = motionOf(place);
+    if (motion?.course && !killed) this.arrow(x, y, motion.course);
+    pen.strokeStyle = picked ? colours.ink : colours.paper;
+    pen.lineWidth = picked ? 2.5 : 1.5;
+    pen.beginPath();
+    if (thing.kind === "station") pen.arc(x, y, 9.5, 0, 7);
+    else if (thing.kind === "object") pen.rect(x - 9, y - 9, 18, 18);
+    else {
+      pen.arc(x, y, 9.5, Math.PI, 0);
+      pen.lineTo(x + 9.5, y + 9);
+      pen.lineTo(x - 9.5, y + 9);
+      pen.closePath();
+    }
+    pen.fill();
+    pen.stroke();
+    const symbol = symbolOf(place);
+    pen.save();
+    pen.translate(x - 6.6, y - 6.6);
+    pen.scale(0.55, 0.55);
+    pen.fillStyle = colours.paper;
+    pen.fill(pathOf(killed ? "x" : symbol.shape), "evenodd");
+    pen.restore();
+    if (symbol.overlay) this.write(symbol.overlay, x + 4, y - 5, colours.ink, 10, true);
+  }
+  ring(x, y, place, colour) {
+    const { pen, view } = this;
+    pen.setLineDash([3, 3]);
+    Object.assign(pen, { strokeStyle: colour, lineWidth: 1 });
+    pen.beginPath();
+    pen.arc(x, y, Math.max(13, OPEN[place.ambiguity] / RADIUS * view.scale), 0, 7);
+    pen.stroke();
+    pen.setLineDash([]);
+  }
+  /** The way that something goes, as a beak on its mark. */
+  arrow(x, y, course) {
+    const { pen } = this;
+    pen.save();
+    pen.translate(x, y);
+    pen.rotate(course * RADIAN);
+    pen.beginPath();
+    pen.moveTo(-6, -8);
+    pen.lineTo(0, -18);
+    pen.lineTo(6, -8);
+    pen.fill();
+    pen.restore();
+  }
+  widthOf(text) {
+    let width = this.widths.get(text);
+    if (width === undefined) {
+      this.pen.font = FONT(12);
+      this.widths.set(text, width = this.pen.measureText(text).width);
+    }
+    return width;
+  }
+  /** Puts a name beside its mark, where there is room. */
+  name({ thing, place, picked, x, y }, room, reach) {
+    const width = this.widthOf(thing.label) + 2, by = reach + 3;
+    const places = [[by, 4], [-by - width, 4], [-width / 2, -by], [-width / 2, by + 10],
+      [by - 2, by + 7], [-by + 2 - width, by + 7], [by - 2, -by + 3], [-by + 2 - width, -by + 3]];
+    const at = places.find(([right, down]) =>
+      room.isFree(x + right, y + down - 11, x + right + width, y + down + 3)) ||
+      picked && places[0];
+    if (!at) return;
+    room.take(x + at[0], y + at[1] - 11, x + at[0] + width, y + at[1] + 3);
+    const colour = place.state === "killed" ? this.colours.soft : this.colours.ink;
+    this.write(thing.label, x + at[0], y + at[1], colour, 12, picked);
+  }
+  write(text, x, y, colour, size, bold = false) {
+    const { pen } = this;
+    pen.font = FONT(size, bold);
+    Object.assign(pen, { lineWidth: 3, strokeStyle: this.colours.sheet, fillStyle: colour });
+    pen.strokeText(text, x, y);
+    pen.fillText(text, x, y);
+  }
+  paintScale() {
+    const { pen, view, colours } = this, km = roundUp(70 / view.scale * RADIUS / 1000);
+    const long = km * 1000 / RADIUS * view.scale, x = view.width - 12, y = view.height - 22;
+    const text = km < 1 ? `${Math.round(km * 1000)} m` : `${km.toLocaleString("en")} km`;
+    this.write(text, x - this.widthOf(text), y - 5, colours.ink, 12);
+    Object.assign(pen, { strokeStyle: colours.ink, lineWidth: 1.5 });
+    pen.beginPath();
+    pen.moveTo(x - long, y);
+    pen.lineTo(x - long, y + 6);
+    pen.lineTo(x, y + 6);
+    pen.lineTo(x, y);
+    pen.stroke();
+  }
+}
+const FONT = (size, bold) => `${bold ? "600 " : ""}${size}px system-ui, sans-serif`;
+
+/** The parallels and meridians between which the map lies, in degrees; `wide` if all around. */
+function rangeOf(view) {
+  const { width, height } = view, edge = [], mid = view.middle[1];
+  for (let k = 0; k <= 24; k++)
+    for (const [x, y] of [[k / 24 * width, 0], [k / 24 * width, height], [0, k / 24 * height],
+      [width, k / 24 * height]]) edge.push(degreesOf(view.at(x, y)));
+  const pole = [90, -90].find(north => {
+    const near = view.put(vectorOf(north, 0));
+    return near && view.x >= 0 && view.y >= 0 && view.x <= width && view.y <= height;
+  });
+  const turned = edge.map(([, east]) => (east - mid + 540) % 360 - 180);
+  const norths = [...edge.map(it => it[0]), ...(pole === undefined ? [] : [pole])];
+  const low = Math.min(...norths), high = Math.max(...norths);
+  const wide = pole !== undefined || Math.max(...turned) - Math.min(...turned) > 300;
+  const [west, east] = wide ? [-180, 180] : [Math.min(...turned), Math.max(...turned)];
+  return { low, high, west: mid + west, east: mid + east, wide };
+}
+/** Draws parallels and meridians, and returns their names for the edge of the map. */
+function paintGrid(pen, view, colours) {
+  const { width, height, scale } = view, { low, high, west, east, wide } = rangeOf(view);
+  const labels = [];
+  Object.assign(pen, { strokeStyle: colours.line, lineWidth: 1 });
+  const stepNorth = Math.min(30, roundUp(70 / scale / RADIAN));
+  for (const north of steps(low, high, stepNorth)) {
+    if (Math.abs(north) > 90) continue;
+    const label = gridLine(pen, view, t => [north, west + (east - west) * t], "x", 4);
+    if (label && label.y > 15)
+      labels.push({ text: degreeText(north, stepNorth, "NS"), x: 4, y: label.y - 3 });
+  }
+  const level = Math.max(0.02, Math.cos(Math.min(89, Math.abs(view.middle[0])) * RADIAN));
+  const stepEast = wide ? 30 : Math.min(30, roundUp(90 / scale / RADIAN / level));
+  for (const at of steps(west, east, stepEast)) {
+    const turnedEast = (at + 540) % 360 - 180;
+    const label = gridLine(pen, view, t => [low + (high - low) * t, at], "y", height - 4);
+    if (label && label.x > 40 && label.x < width - 50)
+      labels.push({ text: degreeText(turnedEast, stepEast, "EW"), x: label.x + 3, y: height - 5 });
+  }
+  return labels;
+}
+function steps(from, to, by) {
+  const first = Math.ceil(from / by), last = Math.floor(to / by);
+  return Array.from({ length: Math.max(0, Math.min(200, last - first + 1)) },
+    (_, k) => (first + k) * by);
+}
+function degreeText(at, by, marks) {
+  const digits = Math.max(0, -Math.floor(Math.log10(by) + 1e-9));
+  const text = Math.abs(at).toFixed(digits);
+  const mark = +text === 0 || marks === "EW" && +text === 180 ? "" : marks[at < 0 ? 1 : 0];
+  return `${text}\u00b0${mark}`;
+}
+/** Draws the curve of `place` from 0 to 1, and says where it crosses x or y = `edge`. */
+function gridLine(pen, view, place, axis, edge) {
+  let last = null, crossing = null;
+  pen.beginPath();
+  for (let k = 0; k <= 48; k++) {
+    const near = view.put(vectorOf(...place(k / 48))), now = { x: view.x, y: view.y };
+    if (near && last) {
+      pen.lineTo(now.x, now.y);
+      if ((last[axis] - edge) * (now[axis] - edge) <= 0 && last[axis] !== now[axis]) {
+        const share = (edge - last[axis]) / (now[axis] - last[axis]);
+        const at = { x: last.x + share * (now.x - last.x), y: last.y + share * (now.y - last.y) };
+        if (at.x >= 0 && at.x <= view.width && at.y >= 0 && at.y <= view.height) crossing = at;
+      }
+    } else pen.moveTo(now.x, now.y);
+    last = near ? now : null;
+  }
+  pen.stroke();
+  return crossing;
+}
+
+const KEYS = {
+  ArrowLeft: map => map.move(60, 0), ArrowRight: map => map.move(-60, 0),
+  ArrowUp: map => map.move(0, 60), ArrowDown: map => map.move(0, -60),
+  "+": map => map.zoom(1.3), "=": map => map.zoom(1.3), "-": map => map.zoom(1 / 1.3),
+  0: map => map.fit(),
+};
+/** The mouse, fingers and keys on the map. */
+function listenToMap(map) {
+  const { node } = map, fingers = new Map();
+  let moved = 0;
+  const pixel = event => {
+    const box = node.getBoundingClientRect();
+    return [event.clientX - box.left, event.clientY - box.top];
+  };
+  node.addEventListener("wheel", event => {
+    event.preventDefault();
+    map.zoom(event.deltaY < 0 ? 1.2 : 1 / 1.2, ...pixel(event));
+    map.turn();
+  }, { passive: false });
+  node.addEventListener("pointerdown", event => {
+    fingers.set(event.pointerId, pixel(event));
+    moved = 0;
+  });
+  addEventListener("pointermove", event => {
+    const before = fingers.get(event.pointerId);
+    if (!before) return;
+    const now = pixel(event), other = [...fingers].find(([id]) => id !== event.pointerId)?.[1];
+    fingers.set(event.pointerId, now);
+    moved += Math.hypot(now[0] - before[0], now[1] - before[1]);
+    if (other) {
+      const off = spot => Math.hypot(spot[0] - other[0], spot[1] - other[1]) || 1;
+      map.zoom(off(now) / off(before), (now[0] + other[0]) / 2, (now[1] + other[1]) / 2);
+    } else map.move(now[0] - before[0], now[1] - before[1]);
+    map.paintSoon();
+  });
+  addEventListener("pointerup", event => {
+    if (!fingers.delete(event.pointerId)) return;
+    if (moved > 6) return map.turn();
+    const thing = map.markAt(...pixel(event));
+    if (thing) map.onPick(thing.key);
+  });
+  addEventListener("pointercancel", event => fingers.delete(event.pointerId));
+  node.addEventListener("keydown", event => {
+    if (!Object.hasOwn(KEYS, event.key) || event.ctrlKey || event.altKey || event.metaKey) return;
+    event.preventDefault();
+    KEYS[event.key](map);
+    map.turn();
+  });
+  node.addEventListener("pointermove", event => hover(map, fingers.size ? null : pixel(event)));
+  node.addEventListener("pointerleave", () => hover(map, null));
+}
+/** Says beside the pointer what is under it. */
+function hover(map, at) {
+  const tip = map.node.querySelector(".tip"), thing = at && map.markAt(...at);
+  map.node.style.cursor = thing ? "pointer" : "";
+  tip.hidden = !thing;
+  if (!thing) return;
+  const place = thing.at(map.until);
+  tip.replaceChildren(make("b", { textContent: thing.label }), ` ${timeText(place.last)}`,
+    ...[place.state === "killed" ? "killed" : "", symbolOf(place).word, ...wordsOf(place)]
+      .filter(Boolean).map(it => make("div", { textContent: it })));
+  tip.style.left = `${Math.min(at[0] + 14, map.view.width - 170)}px`;
+  tip.style.top = `${at[1] + 14}px`;
+}

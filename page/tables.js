@@ -1,0 +1,96 @@
+// Stations, objects and items; receivers; who heard whom, and who repeated whom.
+
+function thingRow(it, view) {
+  const { now } = it, names = ["pick", it.kind].join(" "), marks = [it.kind];
+  if (it.killed) marks.push("killed");
+  if (view.isSilent(it)) marks.push("silent");
+  const pick = make("button", { type: "button", className: names, title: "show on the map",
+    onclick: () => view.onPick(it.key) }, air(it.name));
+  const about = [];
+  if (now) {
+    const words = wordsOf(now).join(", ");
+    if (words) about.push(make("span", { className: "words", textContent: words }), " ");
+    about.push(air(now.comment), " ");
+  }
+  if (it.status) about.push(make("i", { title: "status" }, air(it.status)));
+  const kind = [it.kind + (it.killed ? " killed" : "")];
+  if (it.kind !== "station") kind.push(make("small", { textContent: ` of ${now.source}` }));
+  return make("tr", { className: marks.join(" "), data: { key: it.key } },
+    make("th", { scope: "row" }, now ? markOf(it) : make("span", { className: "mark" }), pick),
+    cell("kind", ...kind), timeCell(it.last),
+    ageCell(it.last, view), cell("by", it.by.join(", ")), cell("num sent", String(it.sent)),
+    cell("where", ...whereOf(now)), cell("about", ...about));
+}
+function whereOf(place) {
+  if (!place) return [];
+  const text = `${place.north.toFixed(4)}, ${place.east.toFixed(4)}`;
+  return [make("a", { href: `geo:${place.north.toFixed(6)},${place.east.toFixed(6)}`, tabIndex: -1,
+    textContent: text }), OPEN[place.ambiguity] ? " (about)" : ""];
+}
+function thingList(box, view) {
+  return new List(box, { id: "things", caption: "stations, objects and items",
+    row: it => thingRow(it, view), columns: [
+      { title: "name", value: it => it.label }, { title: "kind", value: it => it.kind },
+      { title: "last heard", number: true, value: it => it.last },
+      { title: "age", number: true, value: it => -it.last },
+      { title: "by", value: it => it.by.join() },
+      { title: "sent", number: true, value: it => it.sent },
+      { title: "place", value: it => it.now ? it.now.north : -Infinity },
+      { title: "comment, status", value: it => (it.now?.comment || "") + it.status },
+    ] });
+}
+/** What `find` looks in. */
+function haystack(it) {
+  const words = [it.label, it.kind, it.by.join(" "), said(it.status)], { now } = it;
+  if (now) words.push(said(now.comment), symbolOf(now).word, wordsOf(now).join(" "), now.source);
+  return words.join("\n").toLowerCase();
+}
+
+/** A table of stations by receivers or digipeaters; `tell` says what a pair stands for. */
+function pairList(box, id, caption, pairs, sent, tell) {
+  const columns = [...pairs.columns].sort();
+  const row = source => {
+    const of = sent.get(source), cells = columns.map(name => {
+      const n = pairs.get(source, name), share = n / of;
+      return make("td", { className: `num h${Math.ceil(share * 5)}`, textContent: n || "",
+        title: tell(source, name, n, of) });
+    });
+    return make("tr", { className: source === "all" ? "all" : "" },
+      make("th", { scope: "row", textContent: source }), ...cells, cell("num", String(of)));
+  };
+  const list = new List(box, { id, caption, row, columns: [
+    { title: "station", value: it => it },
+    ...columns.map(name => ({ title: name, number: true, value: it => pairs.get(it, name) })),
+    { title: "sent", number: true, value: it => sent.get(it) }] });
+  const sources = [...pairs.counts.keys()].filter(it => it !== "all").sort();
+  list.show(sources.length ? ["all", ...sources] : []);
+  return list;
+}
+const shareText = (n, of) => `${n} of ${of} (${Math.round(n / of * 100)} %)`;
+
+/** A receiver's clock beside the others', in words. */
+function clockWords(it, gap) {
+  if (!it.clock || it.clock.of < 2)
+    return { text: "", title: "too few transmissions that others heard too" };
+  const { by, of } = it.clock, title = `the median of ${of} transmissions that others heard too`;
+  if (Math.abs(by) <= gap) return { text: `within ${gap} s`, title };
+  return { text: `${by < 0 ? "\u2212" : "+"}${age(Math.abs(by))}`, title, wrong: true };
+}
+function receiverList(box, view) {
+  const row = it => {
+    const clock = clockWords(it, view.gap);
+    return make("tr", { className: view.now - it.last > view.silent ? "silent" : "" },
+      make("th", { scope: "row", textContent: it.name }), timeCell(it.last),
+      ageCell(it.last, view), number(it.heard), number(it.alone),
+      make("td", { className: clock.wrong ? "num wrong" : "num", title: clock.title,
+        textContent: clock.text }));
+  };
+  return new List(box, { id: "receivers", caption: "receivers", row, columns: [
+    { title: "receiver", value: it => it.name },
+    { title: "last heard", number: true, value: it => it.last },
+    { title: "age", number: true, value: it => -it.last },
+    { title: "heard", number: true, value: it => it.heard },
+    { title: "alone", number: true, value: it => it.alone },
+    { title: "clock", number: true, value: it => it.clock?.by || 0 },
+  ] });
+}

@@ -1,0 +1,44 @@
+// How many transmissions there were in each part of the time, of all and of each station.
+
+const PARTS = 144;
+
+/** A strip for all and one for each station, as rows of a list. */
+function timelineList(box, net) {
+  const width = Math.max(net.end - net.begin, 1) / PARTS, counts = new Map();
+  const note = (name, part) => {
+    let parts = counts.get(name);
+    if (!parts) counts.set(name, parts = new Uint32Array(PARTS));
+    parts[part]++;
+  };
+  for (const row of net.rows) {
+    const part = Math.min(Math.floor((row.first - net.begin) / width), PARTS - 1);
+    note("all", part);
+    note(row.source, part);
+  }
+  const row = name => make("tr", {}, make("th", { scope: "row", textContent: name }),
+    cell("strip", stripOf(name, counts.get(name))),
+    cell("num", net.sent.get(name).toLocaleString("en")));
+  const list = new List(box, { id: "timeline", caption: "when", row, columns: [
+    { title: "station", value: it => it }, { title: hoursOf(net) },
+    { title: "sent", number: true, value: it => net.sent.get(it) }] });
+  const sources = [...counts.keys()].filter(it => it !== "all").sort();
+  list.show(sources.length ? ["all", ...sources] : []);
+  return list;
+}
+/** The hours above the strips: as many as there is room for. */
+function hoursOf(net) {
+  const days = net.end - net.begin > 86400;
+  const marks = [0, 0.25, 0.5, 0.75, 1].map(share => net.begin + (net.end - net.begin) * share);
+  return make("span", { className: "hours" }, ...marks.map(it => make("span", {
+    textContent: days ? `${dateText(it).slice(5)} ${hourText(it)}` : hourText(it) })));
+}
+function stripOf(name, parts) {
+  let path = "", total = 0;
+  const most = parts.reduce((a, b) => Math.max(a, b), 0);
+  parts.forEach((n, part) => {
+    total += n;
+    if (n) path += `M${part} 20v-${(4 + 16 * n / most).toFixed(1)}h1V20z`;
+  });
+  return svg("svg", { viewBox: `0 0 ${PARTS} 20`, preserveAspectRatio: "none", role: "img",
+    "aria-label": `${name}: ${count(total, "transmission")}` }, svg("path", { d: path }));
+}

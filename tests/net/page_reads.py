@@ -1,0 +1,310 @@
+#!/usr/bin/env python3
+"""Tries the page that reads logs, in each browser that is there: what it makes of files is what the
+program makes of them, byte for byte, and what is wrong is named as the program names it.
+
+usage: page_reads.py PAGE.html EXAMPLES [RUNS [PICTURES]]
+       aprsbook, aprsbook-history and the recipes in the PATH; needs Python 3, and chromium or
+       firefox; RUNS is how many random runs there are in each browser (1000)
+"""
+import base64
+import collections
+import gzip
+import json
+import pathlib
+import random
+import shutil
+import subprocess
+import sys
+import tempfile
+import time
+
+import browser
+import firefox
+import hostile
+from serving import Server
+
+PAGE, EXAMPLES = map(pathlib.Path, sys.argv[1:3])
+RUNS = int(sys.argv[3]) if len(sys.argv) > 3 else 1000
+PICTURES = sys.argv[4] if len(sys.argv) > 4 else None
+EVENING = sorted(EXAMPLES.glob("evening/*.log"))
+STATUS = "document.getElementById('status').textContent"
+MADE = "aprsfiles.made() !== null"
+BOOK = "btoa(String.fromCharCode(...aprsfiles.made().book))"
+# each file, and what is said of it
+TOLD = ("Object.fromEntries([...document.querySelectorAll('#files tbody tr')]"
+        ".map(it => [it.cells[0].textContent, it.cells[3].firstChild.textContent]))")
+COMMANDS = ["check", "convert text", "convert kind", "convert kiss", "convert log",
+            "convert capture", "merge", "merge", "show", "show", "history", "widen"]
+
+
+def program(words, files=(), given=None):
+    if words[0] == "history":
+        words = ["aprsbook-history", *words[1:]]
+    else:
+        words = ["aprsbook", *words]
+    return subprocess.run([*words, *map(str, files)], input=given, stdout=subprocess.PIPE,
+                          stderr=subprocess.PIPE)
+
+
+def checked(path):
+    """How many lines a log has, as check says."""
+    return program(["check"], [path]).stdout.decode().splitlines()[-1]
+
+
+def base64_of(text):
+    return base64.b64encode(text).decode()
+
+
+def is_(got, wanted):
+    assert got == wanted, f"{got!r} is not {wanted!r}"
+
+
+def fresh(page, url=None):
+    page.open(url or PAGE.resolve().as_uri(), 1280, 1400)
+    page.wait("!document.getElementById('choose').disabled")
+
+
+def quiet(page):
+    """Nothing was asked of any server, and no message was written, where the browser says so."""
+    is_([it for it in page.requests() if not it.startswith(("blob:", "file:"))], [])
+    if hasattr(page, "problems"):
+        is_(page.problems(), [])
+
+
+def test_same(page, _):
+    fresh(page)
+    page.give("#choose", *EVENING)
+    page.wait(MADE)
+    is_(page.js(BOOK), base64_of(program(["merge"], EVENING).stdout))
+    is_(page.js("aprsbook.page.data.history"), program(["history"], EVENING).stdout.decode())
+    is_(page.js("aprsbook.page.data.listing"), program(["show"], EVENING).stdout.decode())
+    own = subprocess.run(["event-page", *EVENING], stdout=subprocess.PIPE, check=True).stdout
+    is_(page.js("aprsfiles.eventPage()") == own.decode(), True)
+    is_(page.js("(aprsbook.page.map.paint(), aprsbook.page.map.marks.length)"), 16)
+    for name in sorted(page.js(TOLD)):
+        is_(page.js(TOLD)[name], checked(EXAMPLES / "evening" / name))
+    picture(page, "evening")
+    quiet(page)
+
+
+def test_saves(page, folder):
+    """What a click saves is what the programs and event-page write."""
+    if not hasattr(page, "events"):
+        return  # Firefox would ask where to
+    page.call("Page.setDownloadBehavior", behavior="allow", downloadPath=str(folder))
+    fresh(page)
+    data = {"items": [], "files": list(map(str, EVENING)), "dragOperationsMask": 1}
+    for kind in "dragEnter", "dragOver", "drop":
+        page.call("Input.dispatchDragEvent", type=kind, x=300, y=130, data=data)
+    page.wait(MADE)
+    for name, words in (("net.book", ["aprsbook", "merge"]), ("net.txt", ["aprsbook", "show"]),
+                        ("history.txt", ["aprsbook-history"]), ("event.html", ["event-page"])):
+        button = {"net.book": "book", "net.txt": "listing (text)", "history.txt": "history (text)",
+                  "event.html": "page of the event (HTML)"}[name]
+        page.js("[...document.querySelectorAll('#saves button')]"
+                f".find(it => it.textContent === {button!r}).click()")
+        own = subprocess.run([*words, *EVENING], stdout=subprocess.PIPE, check=True).stdout
+        for _ in range(100):
+            if (folder / name).exists() and (folder / name).read_bytes() == own:
+                break
+            time.sleep(0.05)
+        else:
+            raise AssertionError(f"{name} is another")
+
+
+def test_faults(page, folder):
+    log = EVENING[0].read_bytes()
+    book = program(["merge"], EVENING).stdout
+    files = {
+        "bad.log": log[:2000] + b"Z" + log[2001:], "crlf.log": log.replace(b"\n", b"\r\n"),
+        "cut.book": book[:-30], "empty.log": b"", "net.book": book,
+        "packed.log.gz": gzip.compress(log),
+        "wide.book": program(["widen", "60"], EVENING[:1]).stdout,
+        "heard.kiss": program(["convert", "kiss"], EVENING[:1]).stdout,
+        "torn.log": log[:-5],
+    }
+    for name, text in files.items():
+        (folder / name).write_bytes(text)
+    fresh(page)
+    page.give("#choose", *[folder / name for name in files])
+    page.wait(MADE)
+    told = page.js(TOLD)
+    for name in "bad.log", "crlf.log", "cut.book", "wide.book", "torn.log":
+        said = program(["merge"], [folder / name]).stderr.decode()
+        is_(f"aprsbook: {folder / name}: {told[name]}\n", said)
+    is_(told["heard.kiss"], "give the receiver's name and the moment")
+    is_(told["packed.log.gz"], checked(EVENING[0]))
+    is_(told["empty.log"], "heard 0 passed 0")
+    is_(page.js(BOOK), base64_of(book))
+    notes = page.js("aprsbook.page.data.notes")
+    is_(sorted(it.split(" ")[0] for it in notes),
+        ["bad.log", "crlf.log", "cut.book", "heard.kiss", "torn.log", "wide.book"])
+    # a stream gets a receiver and a moment
+    page.js("""(() => { const [name, moment] = document.querySelectorAll('#files input');
+        name.value = 'TAPE'; name.dispatchEvent(new Event('change')); })()""")
+    page.js("""(() => { const it = document.querySelectorAll('#files input')[1];
+        it.value = '2024-06-21T18:00:00Z'; it.dispatchEvent(new Event('change')); })()""")
+    page.wait("aprsbook.page.net?.receivers.some(it => it.name === 'TAPE')")
+    picture(page, "faults")
+    quiet(page)
+
+
+def test_hostile(page, folder):
+    bad = folder / "<img src=x onerror='window.ran=1'>.log"
+    bad.write_text("".join(hostile.log()))
+    worse = folder / "<b>.log"
+    worse.write_text("<script>window.ran=2</script>\n")
+    fresh(page)
+    page.give("#choose", bad, worse)
+    page.wait(MADE)
+    time.sleep(0.3)
+    is_(page.js("[window.ran === undefined, document.images.length]"), [True, 0])
+    assert bad.name in page.js(TOLD)
+    quiet(page)
+
+
+GO = """window.go = async (command, options, inputs) => {
+    const bytes = inputs.map(it => Uint8Array.from(atob(it), c => c.charCodeAt(0)));
+    const got = await aprsfiles.run(command, options, bytes);
+    let text = '';
+    for (const b of got.bytes) text += String.fromCharCode(b);
+    return [got.status, btoa(text), got.input, got.line, got.fault];
+}"""
+
+
+class Inputs:
+    """Inputs at random: parts of logs, books and streams, damaged ones among them."""
+
+    def __init__(self, seed):
+        self.random = random.Random(seed)
+        paths = [*EVENING, EXAMPLES / "sample.log", EXAMPLES / "millis.log"]
+        logs = [it.read_bytes() for it in paths]
+        books = [program(["merge", "--gap", gap], given=b"".join(some)).stdout
+                 for gap in ("30", "60") for some in (logs[:3], logs[1:])]
+        self.texts = logs + books
+        self.streams = [program(["convert", "kiss"], given=it).stdout for it in logs]
+
+    def one(self, command):
+        some = self.random
+        text = some.choice(self.streams if command == "convert capture" else self.texts)
+        it = bytearray(text)
+        if some.random() < 0.6 and not it.startswith((b"APRSBOOK", b"\xc0")):
+            lines = text.splitlines(True)
+            at = some.randrange(len(lines))
+            it = bytearray(b"".join(lines[at:at + 1 + some.randrange(40)]))
+        for _ in range(some.choice([0, 0, 0, 1, 1, 2, 3])):
+            at, how = some.randrange(len(it) or 1), some.randrange(3)
+            if how == 0:
+                del it[at:at + 1 + some.randrange(9)]
+            elif how == 1 and it:
+                it[min(at, len(it) - 1)] = some.choice(b"0123456789abcdefAF \nZ:-cR\0\xff")
+            else:
+                it.insert(at, some.randrange(256))
+        return bytes(it)
+
+
+def test_random(page, folder):
+    fresh(page)
+    page.js(f"({GO}, 1)")
+    inputs, by = Inputs(3), collections.Counter()
+    for _ in range(RUNS):
+        command = inputs.random.choice(COMMANDS)
+        several = command in ("merge", "show", "history")
+        many = inputs.random.randrange(1, 5) if several else 1
+        given = [inputs.one(command) for _ in range(many)]
+        gap = inputs.random.choice([30, 30, 30, 60, 1, 3600])
+        options, words = gap, command.split()
+        if several:
+            words += ["--gap", str(gap)]
+        elif command == "widen":
+            words += [str(gap)]
+        elif command == "convert capture":
+            options = ["RX1", "2024-05-01T12:00:00.250Z"]
+            words += ["--receiver", options[0], "--moment", options[1]]
+        names = [folder / str(k) for k in range(len(given))]
+        for name, text in zip(names, given):
+            name.write_bytes(text)
+        own = program(words, names)
+        status, text, index, line, fault = page.js(
+            f"go({json.dumps(command)}, {json.dumps(options)}, "
+            f"{json.dumps(list(map(base64_of, given)))})")
+        place = f"line {line}: " if fault[:1].isupper() else ""
+        told = f"{names[index]}: {place}{fault}\n" if status else ""
+        by[own.returncode] += 1
+        is_((status, base64.b64decode(text)), (own.returncode, own.stdout))
+        is_(told, own.stderr.decode().partition(": ")[2])
+    print(f"{page.name}: {RUNS} random runs as the program's, by status {dict(by)}")
+    quiet(page)
+
+
+def test_follow(page, folder):
+    """Served beside logs: what has grown is merged, and a server that goes away is missed alone."""
+    shutil.copy(PAGE, folder / "net.html")
+    (folder / "logs.txt").write_text("# receivers\ncoast.log\nhill.log\n")
+    coast, hill = [it.read_bytes() for it in EVENING[:2]]
+    (folder / "coast.log").write_bytes(coast)
+    (folder / "hill.log").write_bytes(hill[:3001])
+    with Server(folder) as server:
+        fresh(page, f"http://127.0.0.1:{server.port}/net.html#logs=logs.txt")
+        page.wait(MADE)
+        whole = hill[:hill.rindex(b"\n", 0, 3001) + 1]
+        history = program(["history"], given=coast + whole).stdout.decode()
+        is_(page.js("aprsbook.page.data.history"), history)
+        (folder / "hill.log").write_bytes(hill)
+        page.js("(document.getElementById('follow').dispatchEvent(new Event('change')), 1)")
+        history = program(["history"], given=coast + hill).stdout
+        page.wait(f"aprsbook.page.data.history.length === {len(history)}")
+        # the rest of the log alone was asked for
+        assert any(it.startswith("bytes=") for it in server.ranges), server.ranges
+    page.js("(document.getElementById('follow').dispatchEvent(new Event('change')), 1)")
+    page.wait("stale.textContent.startsWith('the server has been away since 20')")
+    is_(page.js("document.querySelector('#things tbody th').textContent"), "Q1BAY")
+    with Server(folder, server.port):
+        page.js("(document.getElementById('follow').dispatchEvent(new Event('change')), 1)")
+        page.wait("!stale.textContent.includes('away')")
+    is_([it for it in page.requests() if not it.startswith(("blob:", "http://127.0.0.1:"))], [])
+
+
+def test_large(page, folder):
+    """200,000 lines of three receivers: how long until they are shown, and the page goes on."""
+    make_log = EXAMPLES.parent / "bench/make_log.py"
+    subprocess.run([sys.executable, make_log, "200000", folder], check=True)
+    logs = sorted(folder.glob("*.log"))
+    fresh(page)
+    page.js("""(() => { let last = performance.now(); window.still = 0;
+        setInterval(() => {
+            const now = performance.now(); still = Math.max(still, now - last); last = now; }, 20);
+        new MutationObserver(() => {
+            if (aprsfiles.made() && !window.came) window.came = performance.now();
+        }).observe(document.getElementById('status'), { childList: true });
+        document.getElementById('choose').addEventListener('change', () => {
+            window.went = performance.now(); }, true);
+        return 1; })()""")
+    page.give("#choose", *logs)
+    page.wait("window.came > 0", 120)
+    spent, still, said = page.js(f"[came - went, still, {STATUS}]")
+    print(f"{page.name}: 200,000 lines shown after {spent / 1000:.1f} s ({said}); "
+          f"stood still for at most {still:.0f} ms")
+    own = program(["merge"], logs).stdout
+    is_(page.js("aprsfiles.made().book.length"), len(own))
+
+
+def picture(page, name):
+    if PICTURES:
+        page.picture(f"{PICTURES}/{page.name}-{name}.png")
+
+
+TESTS = (test_same, test_saves, test_faults, test_hostile, test_random, test_follow, test_large)
+there = [it for it, names in ((browser.Browser, ["chromium"]),
+                              (firefox.Firefox, ["firefox-esr", "firefox"]))
+         if any(map(shutil.which, names))]
+for kind in there:
+    page = kind()
+    try:
+        for test in TESTS:
+            with tempfile.TemporaryDirectory() as name:
+                test(page, pathlib.Path(name))
+    finally:
+        page.close()
+    print(f"the page that reads logs, in {page.name}: the program's bytes, faults named, nothing "
+          "ran, no request elsewhere, logs that grow")
