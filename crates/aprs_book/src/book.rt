@@ -15,8 +15,10 @@ use crate::known::subject::Subject;
 use crate::rows::keyed::KeyedRows;
 use crate::rows::millis::Millis;
 use crate::rows::walk::Walk;
+use crate::stored::{book_of, put_rows};
 use crate::{Gap, Join, Memory, MergeFault, RowCause, RowParts, Rows, WidenFault};
 use aprs_log::Reception;
+use aprs_rows::RowStore;
 use std::alloc::{Allocator, Global};
 use std::marker::Model;
 
@@ -160,9 +162,10 @@ impl<A: Allocator + Copy> Book<A> {
         Ok(())
     }
 
-    /// The book of the receptions of both books, in one pass over the rows of both, which stay as
-    /// they are. `book` says it by the sets of receptions, `joined` by the rows. `OtherGap` comes
-    /// exactly where the gaps differ, and before any memory is taken. Both books are sound.
+    /// The book of the receptions of both books, which stay as they are. `book` says it by the sets
+    /// of receptions, `joined` by the rows. `OtherGap` comes exactly where the gaps differ, and
+    /// before any memory is taken. Beside the new book it takes memory for a store of the rows of
+    /// both, and gives that back. Both books are sound.
     pub fn merge(&self, other: &Book<A>) -> Result<Book<A>, MergeFault>
         ensures joined { IfOk result (AreJoined self.now other.now) }
         ensures book { IfOk result (λ both.
@@ -183,8 +186,8 @@ impl<A: Allocator + Copy> Book<A> {
         }
     }
 
-    /// The book of the receptions of both books, whose gaps have to be equal. `book` says it by
-    /// the sets of receptions, `joined` by the rows. All three books are sound.
+    /// The book of the receptions of both books, whose gaps have to be equal, by way of a store.
+    /// `book` says it by the sets of receptions, `joined` by the rows. All three books are sound.
     fn unite(&self, other: &Book<A>) -> Result<Book<A>, Memory>
         requires { HaveOneGap self.now other.now }
 
@@ -196,18 +199,18 @@ impl<A: Allocator + Copy> Book<A> {
         ensures sound { IsSoundBook self.now }
         ensures sound_other { IsSoundBook other.now }
     {
-        let rows = self.rows.merge(Millis::of(self.gap), &other.rows)?;
-        let indexes = self.indexes.merge(&other.indexes)?;
-        Ok(Book {
-            gap: self.gap,
-            rows,
-            indexes,
-        })
+        let alloc = self.rows.allocator();
+        let (ours, theirs) = (self.walk(), other.walk());
+        let mut store = RowStore::new(alloc);
+        put_rows(alloc, &mut store, ours)?;
+        put_rows(alloc, &mut store, theirs)?;
+        book_of(alloc, self.gap, store)
     }
 
-    /// The book of the same set of receptions under a gap that is not less, in one pass over the
-    /// rows. `Narrower` comes exactly where the gap is less, before any memory is taken: rows
-    /// don't say what lies between their moments. This book stays as it is.
+    /// The book of the same set of receptions under a gap that is not less. `Narrower` comes exactly
+    /// where the gap is less, before any memory is taken: rows don't say what lies between their
+    /// moments. Beside the new book it takes memory for a store of the rows, and gives that back.
+    /// This book stays as it is.
     pub fn widen(&self, gap: Gap) -> Result<Book<A>, WidenFault>
         ensures wide { IfOk result (λ wide. wide ≡ widened_to gap self.now) }
         ensures gap { IfOk result (λ wide. wide.gap ≡ gap) }
@@ -225,17 +228,17 @@ impl<A: Allocator + Copy> Book<A> {
         }
     }
 
-    /// The book of the same set of receptions under a gap that has to be at least this book's. The
-    /// merge with no rows joins those that have come near.
+    /// The book of the same set of receptions under a gap that has to be at least this book's, by
+    /// way of a store.
     fn widen_to(&self, gap: Gap) -> Result<Book<A>, Memory>
         requires { self.now.gap ≤ gap }
         ensures wide { IfOk result (λ wide. wide ≡ widened_to gap self.now) }
         ensures sound { IsSoundBook self.now }
     {
         let alloc = self.rows.allocator();
-        let rows = self.rows.merge(Millis::of(gap), &KeyedRows::new(alloc))?;
-        let indexes = self.indexes.merge(&Indexes::new(alloc))?;
-        Ok(Book { gap, rows, indexes })
+        let mut store = RowStore::new(alloc);
+        put_rows(alloc, &mut store, self.walk())?;
+        book_of(alloc, gap, store)
     }
 
     /// The rows as they are kept, one after another.

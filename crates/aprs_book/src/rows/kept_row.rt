@@ -7,7 +7,7 @@ ghost use Rattle.aprs_laws.specs.Lists.{◌∈◌, Ordered};
 ghost use Rattle.aprs_laws.specs.Order.{IsBelow};
 ghost use Rattle.aprs_laws.specs.Key.{key_of, key_cmp};
 ghost use Rattle.aprs_laws.specs.Row.{row_cmp};
-ghost use Rattle.aprs_laws.specs.JoinRow.{single, combine, place};
+ghost use Rattle.aprs_laws.specs.JoinRow.{single, combine};
 ghost use Rattle.aprs_laws.specs.Inserted.{side, grow_row};
 ghost use Rattle.aprs_book.specs.Keyed.{HaveSameCallsigns};
 ghost use Rattle.aprs_rows.specs.Refusal.{is_too_near};
@@ -112,35 +112,6 @@ impl<A: Allocator + Copy> KeptRow<A> {
         }
     }
 
-    /// Where this row lies, seen from another: by key first; of one key it is `Less` where it ends
-    /// more than the gap before the other begins, `Greater` where it begins more than the gap
-    /// after the other ends, and `Equal` where they are near.
-    pub(crate) fn place(&self, gap: Millis, other: &KeptRow<A>) -> Ordering
-        ensures { result ≡ place gap self.now other.now }
-    {
-        let (ours, theirs) = (self.greatest(), other.greatest());
-        match key_order(ours.frame(), theirs.frame()) {
-            Ordering::Equal => moment_order(
-                gap,
-                self.first(),
-                ours.moment(),
-                other.first(),
-                theirs.moment(),
-            ),
-            unequal => unequal,
-        }
-    }
-
-    /// The order of rows in a book: by key, then first moment.
-    pub(crate) fn order(&self, other: &KeptRow<A>) -> Ordering
-        ensures { result ≡ row_cmp self.now other.now }
-    {
-        match key_order(self.greatest().frame(), other.greatest().frame()) {
-            Ordering::Equal => self.first().cmp(&other.first()),
-            unequal => unequal,
-        }
-    }
-
     /// Whether this row comes before a row of these parts, by key, then first moment.
     pub(crate) fn comes_before(&self, parts: &RowParts<A>) -> bool
         ensures { result ≡ is_lt (row_cmp self.now parts.now) }
@@ -176,32 +147,6 @@ impl<A: Allocator + Copy> KeptRow<A> {
         Ok(())
     }
 
-    /// Adds a near row to this one: lists the receivers of both, and keeps the earlier first
-    /// moment and the greater reception. After `Memory` this row is as before.
-    pub(crate) fn absorb(&mut self, other: &KeptRow<A>) -> Result<(), Memory>
-        ensures { OnOk result (self.new ≡ combine self.old other.now) }
-    {
-        let receivers = self.receivers().unite(other.receivers())?;
-        let sent = self.sent.as_mut();
-        sent.receivers = receivers;
-        sent.first = earlier(sent.first, other.first());
-        keep_greater(&mut sent.greatest, other.greatest());
-        Ok(())
-    }
-
-    /// A copy of this row, in memory of its own.
-    pub(crate) fn duplicate(&self) -> Result<KeptRow<A>, Memory>
-        ensures { IfOk result (λ copy. copy ≡ self.now) }
-    {
-        let receivers = self.receivers().duplicate()?;
-        KeptRow::new(
-            self.allocator(),
-            self.first(),
-            receivers,
-            self.greatest().copy(),
-        )
-    }
-
     /// The one row that this row, the row `next` and a reception that is near to both become, in
     /// memory of its own.
     pub(crate) fn bridge(&self, x: &Reception, next: &KeptRow<A>) -> Result<KeptRow<A>, Memory>
@@ -231,6 +176,13 @@ impl<A: Allocator + Copy> KeptRow<A> {
         ensures { result ≡ self.now.first }
     {
         self.sent.as_ref().first
+    }
+
+    /// The names of the receivers that heard the transmission.
+    pub(crate) fn names(&self) -> &[Receiver]
+        ensures { result.now ≡ self.now.receivers }
+    {
+        self.receivers().as_slice()
     }
 
     /// The receivers that heard the transmission.
