@@ -147,7 +147,7 @@ impl<A: Allocator + Copy> Book<A> {
 
     /// Adds a row after all others, and notes what it reports. Nothing may refuse the row. After
     /// `Memory` the book is as before.
-    fn add(&mut self, parts: &RowParts<A>) -> Result<(), Memory>
+    pub(crate) fn add(&mut self, parts: &RowParts<A>) -> Result<(), Memory>
         requires { refusal (millis_of self.old.gap) self.old.rows parts.now ≡ None }
         ensures added { OnOk result (self.new.rows ≡ self.old.rows ++ parts.now ∷ []) }
         ensures gap { self.new.gap ≡ self.old.gap }

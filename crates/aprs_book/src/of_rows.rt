@@ -1,7 +1,7 @@
 //! The rows of a store as a book.
 ghost use Rattle.std.specs.Prelude.{◌≡◌, IfOk};
 
-use crate::{Book, Memory, ReceiverList, RowCause, RowParts};
+use crate::{Book, Memory, ReceiverList, RowParts};
 use aprs_rows::{RowView, Transmissions};
 use std::alloc::Allocator;
 
@@ -14,9 +14,7 @@ impl<A: Allocator + Copy> Book<A> {
         let mut book = Book::with_gap(alloc, rows.gap());
         for row in rows.rows() {
             let parts = parts_of(alloc, &row)?;
-            if let Err(cause) = book.push_row(&parts) {
-                return Err(memory_of(cause));
-            }
+            book.add(&parts)?;
         }
         Ok(book)
     }
@@ -33,15 +31,4 @@ fn parts_of<A: Allocator + Copy>(alloc: A, row: &RowView<'_>) -> Result<RowParts
         receiver: row.read_receiver(),
         frame: row.read_frame(),
     })
-}
-
-/// Turns the cause `Memory` into the error `Memory`. The cause has to be that one: a row that may
-/// be pushed is refused only where an allocation fails.
-fn memory_of(cause: RowCause) -> Memory
-    requires { cause ≡ RowCause.Memory }
-{
-    match cause {
-        RowCause::Memory => Memory,
-        _ => unreachable!(),
-    }
 }
