@@ -12,6 +12,7 @@ ghost use Rattle.aprs_book.specs.Known.{AreIndexesOf};
 use crate::known::indexes::Indexes;
 use crate::known::reception_view::ReceptionView;
 use crate::known::subject::Subject;
+use crate::rows::kept_row::KeptRow;
 use crate::rows::keyed::KeyedRows;
 use crate::rows::millis::Millis;
 use crate::rows::walk::Walk;
@@ -76,6 +77,15 @@ impl<A: Allocator + Copy> Book<A> {
             rows: KeyedRows::new(alloc),
             indexes: Indexes::new(alloc),
         }
+    }
+
+    /// The book of this gap and of these rows, whose indexes those have to be.
+    pub(crate) fn of_kept(gap: Gap, rows: KeyedRows<A>, indexes: Indexes<A>) -> Book<A>
+        requires sound { IsSoundBook (record { gap = gap; rows = rows }) }
+        requires indexes { AreIndexesOf rows indexes }
+        ensures { result ≡ record { gap = gap; rows = rows } }
+    {
+        Book { gap, rows, indexes }
     }
 
     /// The gap: neighbouring receptions of one key are of one transmission if they are at most
@@ -147,7 +157,7 @@ impl<A: Allocator + Copy> Book<A> {
 
     /// Adds a row after all others, and notes what it reports. Nothing may refuse the row. After
     /// `Memory` the book is as before.
-    pub(crate) fn add(&mut self, parts: &RowParts<A>) -> Result<(), Memory>
+    fn add(&mut self, parts: &RowParts<A>) -> Result<(), Memory>
         requires { refusal (millis_of self.old.gap) self.old.rows parts.now ≡ None }
         ensures added { OnOk result (self.new.rows ≡ self.old.rows ++ parts.now ∷ []) }
         ensures gap { self.new.gap ≡ self.old.gap }
@@ -157,7 +167,8 @@ impl<A: Allocator + Copy> Book<A> {
         let subject = heard.subject();
         self.indexes.place(&subject)?;
         // If no memory is left for this, an empty entry may stay, which says nothing.
-        self.rows.push(parts)?;
+        self.rows
+            .append(KeptRow::of(self.rows.allocator(), parts)?)?;
         self.indexes.note(&subject, &heard);
         Ok(())
     }

@@ -98,10 +98,7 @@ fn put_names<A: Allocator>(text: &mut Vec<u8, A>, names: &[Receiver]) -> Result<
 }
 
 /// Puts names after the text that is there, with a comma before each.
-fn put_further_names<A: Allocator>(
-    text: &mut Vec<u8, A>,
-    names: &[Receiver],
-) -> Result<(), Memory>
+fn put_further_names<A: Allocator>(text: &mut Vec<u8, A>, names: &[Receiver]) -> Result<(), Memory>
     ensures text { OnOk result (text.new.items
         ≡ text.old.items ++ flat_map (λ name. 44 ∷ name) names.now) }
     ensures names { OnOk result (All IsName names.now) }

@@ -10,7 +10,6 @@ ghost use Rattle.aprs_book.specs.Known as Spec;
 
 use crate::Memory;
 use crate::known::reception_view::ReceptionView;
-use crate::rows::keyed::copy_of;
 use aprs_log::Reception;
 use std::alloc::{Allocator, Global};
 use std::collections::BTreeMap;
@@ -60,7 +59,9 @@ impl<A: Allocator + Copy> Index<A> {
         if self.map.contains_key(bytes) {
             return Ok(());
         }
-        let key = copy_of(self.alloc, bytes)?;
+        let Ok(key) = Vec::from_slice(self.alloc, bytes) else {
+            return Err(Memory);
+        };
         if self.map.insert(key, None).is_err() {
             return Err(Memory);
         }

@@ -16,7 +16,7 @@ use crate::rows::millis::Millis;
 use crate::{Memory, Receivers, Row, RowParts};
 use aprs_ax25::Frame;
 use aprs_log::{Moment, Receiver, Reception};
-use aprs_rows::keep_greater;
+use aprs_rows::{RowView, keep_greater};
 use std::alloc::{Allocator, Global};
 use std::boxed::Box;
 use std::cmp::Ordering;
@@ -94,6 +94,15 @@ impl<A: Allocator + Copy> KeptRow<A> {
     {
         let receivers = Receivers::of_ascending(alloc, parts.receivers.as_slice())?;
         KeptRow::new(alloc, parts.first, receivers, parts.greatest())
+    }
+
+    /// A row of a store, whose receivers have to ascend strictly, in memory of its own.
+    pub(crate) fn of_view(alloc: A, row: &RowView<'_>) -> Result<KeptRow<A>, Memory>
+        requires { Ordered (IsBelow bytes_cmp) row.now.receivers }
+        ensures { IfOk result (λ kept. kept ≡ row.now) }
+    {
+        let receivers = Receivers::of_row(alloc, row)?;
+        KeptRow::new(alloc, row.first(), receivers, row.greatest())
     }
 
     /// Where this row lies, seen from a reception: by key first; of one key it is `Less` where it

@@ -2,9 +2,6 @@
 ghost use Rattle.std.specs.Prelude.{◌≡◌, ◌+◌, [], ◌∷◌, ◌++◌, length, true, IsOk, IfOk, OnOk, OnErr};
 ghost use Rattle.aprs_book.specs.Keyed.{LastKeyIsUpTo, IsEndOf};
 ghost use Rattle.aprs_rows.specs.Refusal.{refusal};
-ghost use Rattle.aprs_log.specs.Reception.{bytes_cmp};
-ghost use Rattle.aprs_laws.specs.Lists.{Ordered};
-ghost use Rattle.aprs_laws.specs.Order.{IsBelow};
 ghost use Rattle.aprs_laws.specs.Inserted.{insert_heard, fits_in_place};
 ghost use Rattle.aprs_laws.specs.Sound.{Sound};
 
@@ -98,7 +95,7 @@ impl<A: Allocator + Copy> KeyedRows<A> {
 
     /// Puts a row after all others. The key of the last of these must not be above its key. What
     /// needs memory is made before the first change: after `Memory` the rows are as before.
-    fn append(&mut self, row: KeptRow<A>) -> Result<(), Memory>
+    pub(crate) fn append(&mut self, row: KeptRow<A>) -> Result<(), Memory>
         requires { LastKeyIsUpTo row self.old }
         ensures added { OnOk result (self.new ≡ self.old ++ row ∷ []) }
         ensures unchanged { OnErr result (self.new ≡ self.old) }
@@ -125,18 +122,6 @@ impl<A: Allocator + Copy> KeyedRows<A> {
         ensures { result ≡ refusal gap self.now parts.now }
     {
         first_cause(gap, self.last_rows(), parts)
-    }
-
-    /// Adds a row of these parts after all others. Its receivers have to ascend strictly, and the
-    /// key of the last row must not be above its key. After `Memory` the rows are as before.
-    pub(crate) fn push(&mut self, parts: &RowParts<A>) -> Result<(), Memory>
-        requires ascending { Ordered (IsBelow bytes_cmp) parts.now.receivers }
-        requires last { LastKeyIsUpTo parts.now self.old }
-        ensures added { OnOk result (self.new ≡ self.old ++ parts.now ∷ []) }
-        ensures unchanged { OnErr result (self.new ≡ self.old) }
-    {
-        let row = KeptRow::of(self.alloc, parts)?;
-        self.append(row)
     }
 
     /// Adds a reception to sound rows: it becomes a new row in its place, or a near row grows, or
@@ -185,18 +170,4 @@ fn push_one<A: Allocator + Copy>(
     }
     *count = more;
     Ok(())
-}
-
-/// The same bytes, in memory of their own.
-pub(crate) fn copy_of<A: Allocator + Copy>(alloc: A, bytes: &[u8]) -> Result<Vec<u8, A>, Memory>
-    ensures { IfOk result (λ copy. copy.items ≡ bytes.now) }
-{
-    let mut copy = Vec::new(alloc);
-    if copy.reserve_exact(bytes.len()).is_err() {
-        return Err(Memory);
-    }
-    if copy.extend_from_slice(bytes).is_err() {
-        return Err(Memory);
-    }
-    Ok(copy)
 }

@@ -1,12 +1,14 @@
 //! Names of receivers in texts, gathered and united.
 ghost use Rattle.std.specs.Prelude.{◌≡◌, ◌<◌, ◌++◌, ◌∷◌, [], length, map, IfNone, IfSome, OnOk};
 ghost use Rattle.std.specs.List.{join_with_byte};
+ghost use Rattle.aprs_log.specs.Receiver.{IsName};
 ghost use Rattle.aprs_log.specs.Reception.{bytes_cmp};
 ghost use Rattle.aprs_laws.specs.JoinRow.{union};
 ghost use Rattle.aprs_rows.specs.Names.{names_in};
 ghost use Rattle.aprs_rows.specs.Sorted.{next_text, ascending_text};
 
 use crate::Memory;
+use aprs_log::Receiver;
 use memchr::memchr;
 use std::alloc::Allocator;
 
@@ -20,6 +22,17 @@ pub(crate) fn cut_name(text: &[u8]) -> Option<(&[u8], &[u8])>
     match memchr(b',', text) {
         Some(i) => Some((&text[..i], &text[i + 1..])),
         None => None,
+    }
+}
+
+/// The receiver of this name. Requires that the bytes are a name, and so can't fail.
+pub(crate) fn read_name(bytes: &[u8]) -> Receiver
+    requires { IsName bytes.now }
+    ensures { result ≡ bytes.now }
+{
+    match Receiver::parse(bytes) {
+        Some(receiver) => receiver,
+        None => unreachable!(),
     }
 }
 
