@@ -79,6 +79,7 @@ cookbook: build
 bench: build
 	bench/run.sh $(PROGRAM)
 	bench/books.sh $(PROGRAM)
+	bench/library.sh
 
 # the recipes of tracks, a page, a net that runs and an engine, each where its tools are there
 .PHONY: net
