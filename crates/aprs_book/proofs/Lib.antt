@@ -1,6 +1,5 @@
 -- Lemmas of the book.
 mod KnownSteps
-mod SameCalls
 mod IndexSteps
 mod Entries
 mod Searches

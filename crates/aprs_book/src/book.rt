@@ -176,7 +176,8 @@ impl<A: Allocator + Copy> Book<A> {
     /// The book of the receptions of both books, which stay as they are. `book` says it by the sets
     /// of receptions, `joined` by the rows. `OtherGap` comes exactly where the gaps differ, and
     /// before any memory is taken. Beside the new book it takes memory for a store of the rows of
-    /// both, and gives that back. Both books are sound.
+    /// both, and gives that back. `Memory` comes where an allocation failed, and where a row's
+    /// names of receivers have 4 GiB or more, commas among them. Both books are sound.
     pub fn merge(&self, other: &Book<A>) -> Result<Book<A>, MergeFault>
         ensures joined { IfOk result (AreJoined self.now other.now) }
         ensures book { IfOk result (λ both.
@@ -221,7 +222,7 @@ impl<A: Allocator + Copy> Book<A> {
     /// The book of the same set of receptions under a gap that is not less. `Narrower` comes exactly
     /// where the gap is less, before any memory is taken: rows don't say what lies between their
     /// moments. Beside the new book it takes memory for a store of the rows, and gives that back.
-    /// This book stays as it is.
+    /// `Memory` comes as from `merge`. This book stays as it is.
     pub fn widen(&self, gap: Gap) -> Result<Book<A>, WidenFault>
         ensures wide { IfOk result (λ wide. wide ≡ widened_to gap self.now) }
         ensures gap { IfOk result (λ wide. wide.gap ≡ gap) }

@@ -1,6 +1,6 @@
 //! Rows of books by way of a store.
 ghost use Rattle.std.specs.Prelude.{◌≡◌, ◌++◌, ◌∷◌, [], All, IfOk, OnOk};
-ghost use Rattle.std.specs.List.{join_with_byte, flat_map};
+ghost use Rattle.std.specs.List.{join_with_byte};
 ghost use Rattle.aprs_log.specs.Receiver.{IsName};
 ghost use Rattle.aprs_laws.specs.Gap.{millis_of};
 ghost use Rattle.aprs_laws.specs.BookValue.{IsSoundBook};
@@ -11,8 +11,7 @@ ghost use Rattle.aprs_book.specs.Coalesced.{IsCoalesced};
 use crate::rows::kept_row::KeptRow;
 use crate::rows::walk::Walk;
 use crate::{Book, Gap, Memory};
-use aprs_log::Receiver;
-use aprs_rows::{RowStore, RowView};
+use aprs_rows::{RowStore, RowView, put_names};
 use std::alloc::Allocator;
 
 /// The book of a store's rows, in any order, under this gap: those that are near are one row. Takes
@@ -82,40 +81,4 @@ fn view_of<'t, A: Allocator + Copy>(row: &'t KeptRow<A>, text: &'t [u8]) -> RowV
         greatest.receiver().as_bytes(),
         greatest.frame(),
     )
-}
-
-/// Writes names over the text, with commas between. After `Memory` a part of them may stand there.
-fn put_names<A: Allocator>(text: &mut Vec<u8, A>, names: &[Receiver]) -> Result<(), Memory>
-    ensures text { OnOk result (text.new.items ≡ join_with_byte 44 names.now) }
-    ensures names { OnOk result (All IsName names.now) }
-{
-    text.clear();
-    let Some((first, others)) = names.split_first() else {
-        return Ok(());
-    };
-    put(text, first.as_bytes())?;
-    put_further_names(text, others)
-}
-
-/// Puts names after the text that is there, with a comma before each.
-fn put_further_names<A: Allocator>(text: &mut Vec<u8, A>, names: &[Receiver]) -> Result<(), Memory>
-    ensures text { OnOk result (text.new.items
-        ≡ text.old.items ++ flat_map (λ name. 44 ∷ name) names.now) }
-    ensures names { OnOk result (All IsName names.now) }
-{
-    for name in names {
-        put(text, b",")?;
-        put(text, name.as_bytes())?;
-    }
-    Ok(())
-}
-
-/// Puts bytes after the text that is there.
-fn put<A: Allocator>(text: &mut Vec<u8, A>, bytes: &[u8]) -> Result<(), Memory>
-    ensures { OnOk result (text.new.items ≡ text.old.items ++ bytes.now) }
-{
-    if text.extend_from_slice(bytes).is_err() {
-        return Err(Memory);
-    }
-    Ok(())
 }

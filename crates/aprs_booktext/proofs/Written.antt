@@ -21,14 +21,6 @@ use Rattle.aprs_booktext.specs.RowLines.{line_and_lf}
 use Rattle.aprs_booktext.specs.Text.{IsBookRow, IsBookRows, written_version}
 use Rattle.aprs_booktext.proofs.BookRows.{rows_are}
 
--- one name more
-pub names_more : (names : List (List ℕ)) (i : ℕ) (name : List ℕ) → i < length names
-    → name ≡ get_or names i name → All IsName (take i names) → IsName name
-    → All IsName (take (i + 1) names)
-names_more names i name lt is h n =
-    subst (All IsName) (ap (λ (y : List ℕ). take i names ++ y ∷ []) is
-    ∙ sym (take_more names i name lt)) (All-push IsName (take i names) name h n)
-
 some_of : (x : List ℕ) (xs : List (List ℕ)) → x ∈ xs → 0 < length xs
 some_of x [] h = absurd h
 some_of x (y ∷ ys) h = omega arith

@@ -5,18 +5,15 @@ ghost use Rattle.std.specs.declared.cmp.Ordering.TheVariants.{Less, Equal, Great
 ghost use Rattle.aprs_log.specs.Reception.{bytes_cmp};
 ghost use Rattle.aprs_laws.specs.Lists.{◌∈◌, Ordered};
 ghost use Rattle.aprs_laws.specs.Order.{IsBelow};
-ghost use Rattle.aprs_laws.specs.Key.{key_of, key_cmp};
 ghost use Rattle.aprs_laws.specs.Row.{row_cmp};
 ghost use Rattle.aprs_laws.specs.JoinRow.{single, combine};
 ghost use Rattle.aprs_laws.specs.Inserted.{side, grow_row};
-ghost use Rattle.aprs_book.specs.Keyed.{HaveSameCallsigns};
 ghost use Rattle.aprs_rows.specs.Refusal.{is_too_near};
 
 use crate::rows::millis::Millis;
 use crate::{Memory, Receivers, Row, RowParts};
-use aprs_ax25::Frame;
 use aprs_log::{Moment, Receiver, Reception};
-use aprs_rows::{RowView, keep_greater};
+use aprs_rows::{RowView, keep_greater, order_of_keys};
 use std::alloc::{Allocator, Global};
 use std::boxed::Box;
 use std::cmp::Ordering;
@@ -112,7 +109,7 @@ impl<A: Allocator + Copy> KeptRow<A> {
         ensures { result ≡ side gap self.now x.now }
     {
         let greatest = self.greatest();
-        match key_order(greatest.frame(), x.frame()) {
+        match order_of_keys(greatest.frame(), x.frame()) {
             Ordering::Equal => {
                 let moment = x.moment();
                 moment_order(gap, self.first(), greatest.moment(), moment, moment)
@@ -125,7 +122,7 @@ impl<A: Allocator + Copy> KeptRow<A> {
     pub(crate) fn comes_before(&self, parts: &RowParts<A>) -> bool
         ensures { result ≡ is_lt (row_cmp self.now parts.now) }
     {
-        match key_order(self.greatest().frame(), &parts.frame) {
+        match order_of_keys(self.greatest().frame(), &parts.frame) {
             Ordering::Equal => self.first() < parts.first,
             unequal => unequal.is_lt(),
         }
@@ -137,7 +134,7 @@ impl<A: Allocator + Copy> KeptRow<A> {
         ensures { result ≡ is_too_near gap self.now parts.now }
     {
         let greatest = self.greatest();
-        key_order(greatest.frame(), &parts.frame).is_eq()
+        order_of_keys(greatest.frame(), &parts.frame).is_eq()
             && parts.first.millis() <= greatest.moment().millis() + gap.get()
     }
 
@@ -219,36 +216,6 @@ impl<A: Allocator + Copy> KeptRow<A> {
     {
         Row::new(self.first(), self.receivers().as_slice(), self.greatest())
     }
-}
-
-/// The order of two frames by their keys: by source, destination, then information. Where the
-/// address octets are equal, no callsign is read.
-#[tactic(auto, unfolding(aprs_laws::specs::Key::key_of, aprs_laws::specs::Key::key_cmp))]
-fn key_order(a: &Frame, b: &Frame) -> Ordering
-    ensures { result ≡ key_cmp (key_of a.now) (key_of b.now) }
-{
-    if have_same_calls(a.bytes(), b.bytes()) {
-        return a.info().cmp(b.info());
-    }
-    match a.source().cmp(&b.source()) {
-        Ordering::Equal => match a.destination().cmp(&b.destination()) {
-            Ordering::Equal => a.info().cmp(b.info()),
-            unequal => unequal,
-        },
-        unequal => unequal,
-    }
-}
-
-/// How many octets the destination and the source of a frame have.
-const CALLS: usize = 14;
-
-/// Whether two frames, given by their bytes, have equal octets for destination and source, as most
-/// copies of one transmission have. Then both callsigns are the same. `false` says nothing of
-/// these: the octets hold other bits too.
-fn have_same_calls(a: &[u8], b: &[u8]) -> bool
-    ensures { result ≡ true → HaveSameCallsigns a.now b.now }
-{
-    a.len() >= CALLS && b.len() >= CALLS && a[..CALLS] == b[..CALLS]
 }
 
 /// Where the span from `first` to `last` lies, seen from the other span: `Less` where it ends more

@@ -1,10 +1,8 @@
 use Rattle.std.proofs.Common.{◌≡◌, ◌∙◌, List, ◌∷◌, ◌++◌, [], ℕ, None, append_assoc, append-nil, ap, subst, sym}
-use Rattle.aprs_log.specs.Reception.{Heard, bytes_cmp}
+use Rattle.aprs_log.specs.Reception.{Heard}
 use Rattle.aprs_laws.specs.BookValue.{BookValue, IsSoundBook}
 use Rattle.aprs_laws.specs.Gap.{millis_of}
 use Rattle.aprs_laws.specs.Key.{key_of}
-use Rattle.aprs_laws.specs.Lists.{Ordered}
-use Rattle.aprs_laws.specs.Order.{IsBelow}
 use Rattle.aprs_laws.specs.Row.{Row}
 use Rattle.aprs_laws.specs.Sound.{Sound}
 use Rattle.aprs_laws.proofs.Pushes.{sound_prefix}
@@ -24,34 +22,30 @@ all_kept kept rest all none split =
 
 -- the next of sound rows
 module _ (gap : ℕ) (kept old new all : List Row) (x : Row) (step : old ≡ x ∷ new)
-    (split : kept ++ old ≡ all) (s : Sound gap all) where
+    (split : kept ++ old ≡ all) where
   whole : (kept ++ x ∷ []) ++ new ≡ all
   whole = append_assoc kept (x ∷ []) new ∙ ap (λ xs. kept ++ xs) (sym step) ∙ split
 
-  free : None ≡ refusal gap kept x
-  free =
+  free : Sound gap all → None ≡ refusal gap kept x
+  free s =
       let one : Sound gap (kept ++ x ∷ []) =
       sound_prefix gap (kept ++ x ∷ []) new (subst (Sound gap) (sym whole) s) in
       sym ((none_exactly gap kept x (sound_prefix gap kept (x ∷ []) one)).1 one)
 
-  ascends : Ordered (IsBelow bytes_cmp) x.receivers
-  ascends = free_ascends gap kept x free
-
-  goes_last : (y : Row) → y ≡ x → LastKeyIsUpTo y kept
-  goes_last y e =
-      subst (λ (r : Row). LastKeyIsUpTo r kept) (sym e) (none_ends_up_to gap kept x free)
-
 pub of_view-requires : goal.of_view-requires
 of_view-requires g c =
-    ascends (millis_of c.args.rows.now.gap) c.loop-row.kept c.loop-row.row-iterator c.next.new.self
-    c.args.rows.now.rows c.in-Some.row c.in-Some.ensures.steps c.loop-row.invariant.rows
-    c.rows-row-items.ensures.sound.sound
+    let gap = millis_of c.args.rows.now.gap in
+    free_ascends gap c.loop-row.kept c.in-Some.row
+    (free gap c.loop-row.kept c.loop-row.row-iterator c.next.new.self c.args.rows.now.rows c.in-Some.row
+    c.in-Some.ensures.steps c.loop-row.invariant.rows c.rows-row-items.ensures.sound.sound)
 
 pub append-requires : goal.append-requires
 append-requires g c =
-    goes_last (millis_of c.args.rows.now.gap) c.loop-row.kept c.loop-row.row-iterator
-    c.next.new.self c.args.rows.now.rows c.in-Some.row c.in-Some.ensures.steps
-    c.loop-row.invariant.rows c.rows-row-items.ensures.sound.sound _ c.in_ok-of_view.ensures
+    let gap = millis_of c.args.rows.now.gap in
+    subst (λ (x : Row). LastKeyIsUpTo x c.loop-row.kept) (sym c.in_ok-of_view.ensures)
+    (none_ends_up_to gap c.loop-row.kept c.in-Some.row
+    (free gap c.loop-row.kept c.loop-row.row-iterator c.next.new.self c.args.rows.now.rows c.in-Some.row
+    c.in-Some.ensures.steps c.loop-row.invariant.rows c.rows-row-items.ensures.sound.sound))
 
 pub loop-row-preserved : goal.loop-row-preserved
 loop-row-preserved g c =
@@ -66,8 +60,7 @@ loop-row-preserved g c =
     record {
       rows = ap (λ xs. xs ++ c.next.new.self) added
           ∙ whole (millis_of c.args.rows.now.gap) kept c.loop-row.row-iterator c.next.new.self
-          c.args.rows.now.rows row c.in-Some.ensures.steps c.loop-row.invariant.rows
-          c.rows-row-items.ensures.sound.sound;
+          c.args.rows.now.rows row c.in-Some.ensures.steps c.loop-row.invariant.rows;
       notes = subst (λ (xs : List Row). AreNotesOf xs c.take.new.self) (sym added)
           (c.in_ok-take.ensures kept row c.loop-row.invariant.notes
           (λ topic. c.of.ensures topic

@@ -1,6 +1,6 @@
 use Rattle.std.proofs.Common.{◌≡◌, ◌∙◌, ◌++◌, ◌∷◌, [], arith}
-use Rattle.aprs_book.proofs.InStore.{more_text, more_names}
-use Rattle.aprs_book.proofs.stored.put_further_names.Goals as goal
+use Rattle.aprs_rows.proofs.JoinedNames.{more_text, more_names}
+use Rattle.aprs_rows.proofs.row.names.put_further_names.Goals as goal
 
 pub loop-name-preserved : goal.loop-name-preserved
 loop-name-preserved g c =

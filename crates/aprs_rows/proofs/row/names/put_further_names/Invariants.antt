@@ -2,8 +2,8 @@ use Rattle.std.proofs.Common.{◌≡◌, ◌++◌, take}
 use Rattle.std.specs.Prelude.{All}
 use Rattle.std.specs.List.{flat_map}
 use Rattle.aprs_log.specs.Receiver.{IsName}
-use Rattle.aprs_book.proofs.InStore.{after_comma}
-use Rattle.aprs_book.proofs.stored.put_further_names.Given as goal
+use Rattle.aprs_rows.proofs.JoinedNames.{after_comma}
+use Rattle.aprs_rows.proofs.row.names.put_further_names.Given as goal
 
 abbrev pub invariant-loop-name : goal.invariant-loop-name
 invariant-loop-name g l =

@@ -1,8 +1,8 @@
 use Rattle.std.proofs.Common.{◌∙◌, ◌++◌, ap, sym}
 use Rattle.std.specs.List.{flat_map}
 use Rattle.aprs_rows.proofs.Rows.{on_ok}
-use Rattle.aprs_book.proofs.InStore.{joined_first, after_comma}
-use Rattle.aprs_book.proofs.stored.put_names.Goals as goal
+use Rattle.aprs_rows.proofs.JoinedNames.{joined_first, after_comma}
+use Rattle.aprs_rows.proofs.row.names.put_names.Goals as goal
 
 pub returns-clause-text : goal.returns-clause-text
 returns-clause-text g c =
