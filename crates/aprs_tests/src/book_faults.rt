@@ -222,12 +222,12 @@ fn rows_are_near_or_out_of_order(rt: HostRuntime) -> Result<(), Fail> {
     Ok(())
 }
 
-/// Rows after `ROW`, each with the fault of the text of both. A row is refused for the first of these
-/// that it doesn't meet. `Frame`: its frame is a UI frame. `Order`: it comes after the last row, by
-/// key and first moment. `Span`: it doesn't end before it begins. `Near`: if the last row has the
-/// same key, it begins more than the gap after that row ends. `Receivers`: its receivers ascend, and
-/// the greatest reception's receiver is one of them. `NotGreatest`: if it has one moment alone, that
-/// receiver is the last of them.
+/// Rows after `ROW`, each with the fault of the text of both. A row is refused for the first of
+/// these that it doesn't meet. `Frame`: its frame is a UI frame. `Order`: it comes after the last
+/// row, by key and first moment. `Span`: it doesn't end before it begins. `Near`: if the last row
+/// has the same key, it begins more than the gap after that row ends. `Receivers`: its receivers
+/// ascend, and the greatest reception's receiver is one of them. `NotGreatest`: if it has one
+/// moment alone, that receiver is the last of them.
 const NEXT_ROWS: &[(&[u8], Option<(u64, &str)>)] = &[
     (
         b"T 2024-05-01T12:00:00.000Z 2024-05-01T12:00:00.000Z RX1 RX1 \
