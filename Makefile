@@ -102,6 +102,7 @@ cookbook: build
 bench: build
 	bench/run.sh $(PROGRAM)
 	bench/books.sh $(PROGRAM)
+	bench/library.sh
 
 # the page that reads logs, out/aprsbook.html, with the module in it
 .PHONY: page

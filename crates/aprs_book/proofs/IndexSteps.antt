@@ -1,7 +1,7 @@
 -- What the indexes know after one more reception, one more row, or a merge.
-use Rattle.std.proofs.Common.{◌≡◌, ◌∙◌, Bool, true, false, ◌&&◌, if◌then◌else◌, List, [], ◌∷◌, ◌++◌, Option, None, Some, map, inl, inr, refl, sym, ap, subst, arith, length, take, ℕ, ◌<◌, ◌≤◌}
+use Rattle.std.proofs.Common.{◌≡◌, ◌∙◌, Bool, true, false, ◌&&◌, if◌then◌else◌, List, [], ◌∷◌, ◌++◌, Option, None, Some, map, refl, sym, ap, subst, arith, length, take, ℕ, ◌<◌}
 use Rattle.std.proofs.Math.Bool.{and-false, and-true}
-use Rattle.std.proofs.lemmas.Cmp.{tied_itself, upto}
+use Rattle.std.proofs.lemmas.Cmp.{tied_itself}
 use Rattle.std.proofs.lemmas.List.{length-append, map-append}
 use Rattle.std.proofs.Math.Seq.{take-append_seam}
 use Rattle.std.specs.declared.cmp.Ordering.TheVariants.{Less, Equal, Greater}
@@ -10,28 +10,21 @@ use Rattle.std.specs.Ordering.{is_eq}
 use Rattle.aprs_ax25.specs.Callsign.{Call, call_cmp, call_text, ssid_text}
 use Rattle.aprs_log.specs.Reception.{Heard, bytes_cmp}
 use Rattle.aprs_report.specs.Reading.{Value, position, object, item, message, ack, rej, status, raw}
-use Rattle.aprs_laws.specs.Lists.{◌∈◌}
 use Rattle.aprs_laws.specs.Key.{Key, key_of}
 use Rattle.aprs_laws.specs.Row.{Row, row_key}
-use Rattle.aprs_laws.specs.JoinRow.{greater}
 use Rattle.aprs_laws.specs.Inserted.{insert_heard, FitsInPlace}
 use Rattle.aprs_laws.specs.Sound.{Sound}
 use Rattle.aprs_laws.specs.Witnesses.{witnesses}
-use Rattle.aprs_laws.specs.Joining.{Joined}
-use Rattle.aprs_laws.specs.Widening.{widened_rows}
-use Rattle.aprs_laws.proofs.Widening.{widens_book}
 use Rattle.aprs_laws.specs.Best.{LastKnown, greater_known, known_after}
 use Rattle.aprs_laws.specs.BestLaws.{Passes}
-use Rattle.aprs_laws.proofs.Lists.{in_left, in_right, in_either}
 use Rattle.aprs_laws.proofs.Soundness.{witnessed}
 use Rattle.aprs_laws.proofs.Inserts.{inserted_is_book}
-use Rattle.aprs_laws.proofs.Joins.{is_greater_of}
-use Rattle.aprs_laws.proofs.Orders.{bytes_exact, bytes_total, call_exact, call_total, heard_total}
+use Rattle.aprs_laws.proofs.Orders.{bytes_exact, bytes_total, call_exact, call_total}
 use Rattle.aprs_laws.proofs.Known.{rows_know, set_knows, known_last}
 use Rattle.aprs_book.specs.declared.known.subject.Subject.{Subject}
 use Rattle.aprs_book.specs.Reports.{report_of, is_position, is_status, is_object, is_item, is_from, reports_position, reports_status, reports_object, reports_item, without_spaces}
 use Rattle.aprs_book.specs.LastKnown.{IsLastKnown}
-use Rattle.aprs_book.specs.Known.{FourIndexes, Topic, call_bytes, positions, statuses, objects, items, index_of, known_at, known_both, has_bytes, is_report_on, report_bytes, topic_bytes, subject_bytes, AreIndexesOf, SameKnown, HaveEntries, greatest_of}
+use Rattle.aprs_book.specs.Known.{FourIndexes, Topic, call_bytes, positions, statuses, objects, items, index_of, known_at, has_bytes, is_report_on, report_bytes, topic_bytes, subject_bytes, AreIndexesOf, SameKnown, HaveEntries, greatest_of}
 use Rattle.aprs_book.proofs.KnownSteps.{entry_there, same_as_itself}
 
 -- the receptions of a row are of its greatest's key: what the rows know the book's set knows
@@ -51,53 +44,6 @@ takes_note gap pos x old test known w h =
 pub entry_reports : (gap : ℕ) (rows : List Row) (test : Key → Bool) (known : Option Heard)
     → LastKnown (map greatest_of rows) (Passes test) known → IsLastKnown gap rows test known
 entry_reports gap rows test known h = λ S b. set_knows gap S rows (Passes test) known b h
-
-sets_know : (S T : List Heard) (P : Key → Type 0) (f g : Option Heard) → LastKnown S P f
-    → LastKnown T P g → LastKnown (S ++ T) P (known_both f g)
-sets_know S T P None None h k = λ s m. elim (in_either s S T m) [ inl i ↦ h s i | inr j ↦ k s j ]
-sets_know S T P (Some f) None h k = record {
-  member = in_left f S T h.member;
-  property = h.property;
-  greatest = λ s m q. elim (in_either s S T m) [
-    | inl i ↦ h.greatest s i q
-    | inr j ↦ absurd (k s j q)
-  ];
-}
-sets_know S T P None (Some g) h k = record {
-  member = in_right g S T k.member;
-  property = k.property;
-  greatest = λ s m q. elim (in_either s S T m) [
-    | inl i ↦ absurd (h s i q)
-    | inr j ↦ k.greatest s j q
-  ];
-}
-sets_know S T P (Some f) (Some g) h k =
-    let c = is_greater_of f g in
-    record {
-      member = elim c.one [
-        | inl e ↦ subst (λ (u : Heard). u ∈ (S ++ T)) (sym e) (in_left f S T h.member)
-        | inr e ↦ subst (λ (u : Heard). u ∈ (S ++ T)) (sym e) (in_right g S T k.member)
-      ];
-      property = elim c.one [
-        | inl e ↦ subst (λ (u : Heard). P (key_of u.frame)) (sym e) h.property
-        | inr e ↦ subst (λ (u : Heard). P (key_of u.frame)) (sym e) k.property
-      ];
-      greatest = λ s m q. elim (in_either s S T m) [
-        | inl i ↦ upto heard_total s f (greater f g) (h.greatest s i q) c.left
-        | inr j ↦ upto heard_total s g (greater f g) (k.greatest s j q) c.right
-      ];
-    }
-
-pub merges_notes : (gap : ℕ) → 0 < gap → (a b c : List Row) (test : Key → Bool) (f g : Option Heard)
-    → Sound gap a → Sound gap b → Joined gap a b c
-    → LastKnown (map greatest_of a) (Passes test) f
-    → LastKnown (map greatest_of b) (Passes test) g
-    → LastKnown (map greatest_of c) (Passes test) (known_both f g)
-merges_notes gap pos a b c test f g v w j h k =
-    rows_know gap (witnesses a ++ witnesses b) c (Passes test) (known_both f g) j
-    (sets_know (witnesses a) (witnesses b) (Passes test) f g
-    (set_knows gap (witnesses a) a (Passes test) f (witnessed gap a pos v) h)
-    (set_knows gap (witnesses b) b (Passes test) g (witnessed gap b pos w) k))
 
 -- a row after the others
 pub pushes_note : (old : List Row) (r : Row) (test : Key → Bool) (known : Option Heard)
@@ -160,44 +106,6 @@ pushes_indexes t r rows new i j k h reported same noted made = λ topic bytes.
     (noted_known t r.greatest i j k reported same noted topic bytes)
     (pushes_note rows r (is_report_on (topic_bytes topic) bytes) (known_at bytes (index_of topic i))
     (h topic bytes)))
-
-pub merges_indexes : (gap : ℕ) → 0 < gap → (a b c : List Row) (i j k : FourIndexes) → Sound gap a
-    → Sound gap b → Joined gap a b c → AreIndexesOf a i → AreIndexesOf b j
-    → ((topic : Topic) (bytes : List ℕ) → known_at bytes (index_of topic k)
-    ≡ known_both (known_at bytes (index_of topic i)) (known_at bytes (index_of topic j)))
-    → AreIndexesOf c k
-merges_indexes gap pos a b c i j k v w joined h g both = λ topic bytes.
-    subst (LastKnown (map greatest_of c) (Passes (is_report_on (topic_bytes topic) bytes)))
-    (sym (both topic bytes))
-    (merges_notes gap pos a b c (is_report_on (topic_bytes topic) bytes)
-    (known_at bytes (index_of topic i))
-    (known_at bytes (index_of topic j)) v w joined (h topic bytes) (g topic bytes))
-
--- what fits in place has its entries: a row that is near reports on the same
--- a wider gap joins rows, and their greatest receptions know what they knew
-pub widens_note : (g h : ℕ) → 0 < g → g ≤ h → (old : List Row) (test : Key → Bool)
-    (known : Option Heard) → Sound g old → LastKnown (map greatest_of old) (Passes test) known
-    → LastKnown (map greatest_of (widened_rows h old)) (Passes test) known
-widens_note g h pos l old test known w k =
-    let b = witnessed g old pos w in
-    rows_know h (witnesses old) (widened_rows h old) (Passes test) known
-    (widens_book g h (witnesses old) old l b)
-    (set_knows g (witnesses old) old (Passes test) known b k)
-
-pub widens_indexes : (g h : ℕ) → 0 < g → g ≤ h → (rows new : List Row) (i none k : FourIndexes)
-    → Sound g rows → AreIndexesOf rows i → ((topic : Topic) → index_of topic none ≡ [])
-    → ((topic : Topic) (bytes : List ℕ) → known_at bytes (index_of topic k)
-    ≡ known_both (known_at bytes (index_of topic i)) (known_at bytes (index_of topic none)))
-    → new ≡ widened_rows h rows → AreIndexesOf new k
-widens_indexes g h pos l rows new i none k w held empty both made = λ topic bytes.
-    let known = known_at bytes (index_of topic i) in
-    subst (λ (r : List Row). LastKnown (map greatest_of r)
-    (Passes (is_report_on (topic_bytes topic) bytes)) (known_at bytes (index_of topic k)))
-    (sym made)
-    (subst (LastKnown (map greatest_of (widened_rows h rows))
-    (Passes (is_report_on (topic_bytes topic) bytes)))
-    (sym (both topic bytes ∙ ap (λ t. known_both known (known_at bytes t)) (empty topic)))
-    (widens_note g h pos l rows (is_report_on (topic_bytes topic) bytes) known w (held topic bytes)))
 
 pub near_entries : (gap : ℕ) (t : Subject) (x : Heard) (rows : List Row) (i : FourIndexes)
     → AreIndexesOf rows i → IsReported t (key_of x.frame) → FitsInPlace gap rows x → HaveEntries t i

@@ -1,15 +1,12 @@
 -- Lemmas of the book.
 mod KnownSteps
-mod SameCalls
 mod IndexSteps
-mod MergedKeys
 mod Entries
 mod Searches
 mod EntryEnds
-mod MergedEntries
+pub mod InStore
 pub mod Slots
 pub mod Taking
-pub mod Pushes
 pub mod Replays
 pub mod RefusalEnds
 pub mod RowsFaults

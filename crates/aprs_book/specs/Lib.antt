@@ -5,9 +5,9 @@ pub mod Shown
 pub mod Notes
 pub mod Slots
 pub mod Taking
-pub mod WithRows
 pub mod Replay
 pub mod Applying
+pub mod Coalesced
 pub mod RowsFault
 pub mod Reports
 pub mod LastKnown

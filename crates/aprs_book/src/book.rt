@@ -12,11 +12,14 @@ ghost use Rattle.aprs_book.specs.Known.{AreIndexesOf};
 use crate::known::indexes::Indexes;
 use crate::known::reception_view::ReceptionView;
 use crate::known::subject::Subject;
+use crate::rows::kept_row::KeptRow;
 use crate::rows::keyed::KeyedRows;
 use crate::rows::millis::Millis;
 use crate::rows::walk::Walk;
+use crate::stored::{book_of, put_rows};
 use crate::{Gap, Join, Memory, MergeFault, RowCause, RowParts, Rows, WidenFault};
 use aprs_log::Reception;
+use aprs_rows::RowStore;
 use std::alloc::{Allocator, Global};
 use std::marker::Model;
 
@@ -74,6 +77,15 @@ impl<A: Allocator + Copy> Book<A> {
             rows: KeyedRows::new(alloc),
             indexes: Indexes::new(alloc),
         }
+    }
+
+    /// The book of this gap and of these rows, whose indexes those have to be.
+    pub(crate) fn of_kept(gap: Gap, rows: KeyedRows<A>, indexes: Indexes<A>) -> Book<A>
+        requires sound { IsSoundBook (record { gap = gap; rows = rows }) }
+        requires indexes { AreIndexesOf rows indexes }
+        ensures { result ≡ record { gap = gap; rows = rows } }
+    {
+        Book { gap, rows, indexes }
     }
 
     /// The gap: neighbouring receptions of one key are of one transmission if they are at most
@@ -155,14 +167,17 @@ impl<A: Allocator + Copy> Book<A> {
         let subject = heard.subject();
         self.indexes.place(&subject)?;
         // If no memory is left for this, an empty entry may stay, which says nothing.
-        self.rows.push(parts)?;
+        self.rows
+            .append(KeptRow::of(self.rows.allocator(), parts)?)?;
         self.indexes.note(&subject, &heard);
         Ok(())
     }
 
-    /// The book of the receptions of both books, in one pass over the rows of both, which stay as
-    /// they are. `book` says it by the sets of receptions, `joined` by the rows. `OtherGap` comes
-    /// exactly where the gaps differ, and before any memory is taken. Both books are sound.
+    /// The book of the receptions of both books, which stay as they are. `book` says it by the sets
+    /// of receptions, `joined` by the rows. `OtherGap` comes exactly where the gaps differ, and
+    /// before any memory is taken. Beside the new book it takes memory for a store of the rows of
+    /// both, and gives that back. `Memory` comes where an allocation failed, and where a row's
+    /// names of receivers have 4 GiB or more, commas among them. Both books are sound.
     pub fn merge(&self, other: &Book<A>) -> Result<Book<A>, MergeFault>
         ensures joined { IfOk result (AreJoined self.now other.now) }
         ensures book { IfOk result (λ both.
@@ -183,8 +198,8 @@ impl<A: Allocator + Copy> Book<A> {
         }
     }
 
-    /// The book of the receptions of both books, whose gaps have to be equal. `book` says it by
-    /// the sets of receptions, `joined` by the rows. All three books are sound.
+    /// The book of the receptions of both books, whose gaps have to be equal, by way of a store.
+    /// `book` says it by the sets of receptions, `joined` by the rows. All three books are sound.
     fn unite(&self, other: &Book<A>) -> Result<Book<A>, Memory>
         requires { HaveOneGap self.now other.now }
 
@@ -196,18 +211,18 @@ impl<A: Allocator + Copy> Book<A> {
         ensures sound { IsSoundBook self.now }
         ensures sound_other { IsSoundBook other.now }
     {
-        let rows = self.rows.merge(Millis::of(self.gap), &other.rows)?;
-        let indexes = self.indexes.merge(&other.indexes)?;
-        Ok(Book {
-            gap: self.gap,
-            rows,
-            indexes,
-        })
+        let alloc = self.rows.allocator();
+        let (ours, theirs) = (self.walk(), other.walk());
+        let mut store = RowStore::new(alloc);
+        put_rows(alloc, &mut store, ours)?;
+        put_rows(alloc, &mut store, theirs)?;
+        book_of(alloc, self.gap, store)
     }
 
-    /// The book of the same set of receptions under a gap that is not less, in one pass over the
-    /// rows. `Narrower` comes exactly where the gap is less, before any memory is taken: rows
-    /// don't say what lies between their moments. This book stays as it is.
+    /// The book of the same set of receptions under a gap that is not less. `Narrower` comes exactly
+    /// where the gap is less, before any memory is taken: rows don't say what lies between their
+    /// moments. Beside the new book it takes memory for a store of the rows, and gives that back.
+    /// `Memory` comes as from `merge`. This book stays as it is.
     pub fn widen(&self, gap: Gap) -> Result<Book<A>, WidenFault>
         ensures wide { IfOk result (λ wide. wide ≡ widened_to gap self.now) }
         ensures gap { IfOk result (λ wide. wide.gap ≡ gap) }
@@ -225,17 +240,17 @@ impl<A: Allocator + Copy> Book<A> {
         }
     }
 
-    /// The book of the same set of receptions under a gap that has to be at least this book's. The
-    /// merge with no rows joins those that have come near.
+    /// The book of the same set of receptions under a gap that has to be at least this book's, by
+    /// way of a store.
     fn widen_to(&self, gap: Gap) -> Result<Book<A>, Memory>
         requires { self.now.gap ≤ gap }
         ensures wide { IfOk result (λ wide. wide ≡ widened_to gap self.now) }
         ensures sound { IsSoundBook self.now }
     {
         let alloc = self.rows.allocator();
-        let rows = self.rows.merge(Millis::of(gap), &KeyedRows::new(alloc))?;
-        let indexes = self.indexes.merge(&Indexes::new(alloc))?;
-        Ok(Book { gap, rows, indexes })
+        let mut store = RowStore::new(alloc);
+        put_rows(alloc, &mut store, self.walk())?;
+        book_of(alloc, gap, store)
     }
 
     /// The rows as they are kept, one after another.

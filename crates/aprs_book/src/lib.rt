@@ -8,6 +8,7 @@ mod lists;
 mod of_rows;
 mod rows;
 mod steps;
+mod stored;
 
 pub use aprs_laws::{Gap, MergeFault, RowCause, WidenFault};
 pub use aprs_rows::{Greatest, Join, Memory, ReceiverList, Receivers, all_fit, join_all};

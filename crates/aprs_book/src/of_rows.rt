@@ -1,8 +1,14 @@
 //! The rows of a store as a book.
 ghost use Rattle.std.specs.Prelude.{◌≡◌, IfOk};
 
-use crate::{Book, Memory, ReceiverList, RowCause, RowParts};
-use aprs_rows::{RowView, Transmissions};
+use crate::known::notes::Notes;
+use crate::known::reception_view::ReceptionView;
+use crate::known::subject::Subject;
+use crate::lists::sender::Sender;
+use crate::rows::kept_row::KeptRow;
+use crate::rows::keyed::KeyedRows;
+use crate::{Book, Memory};
+use aprs_rows::Transmissions;
 use std::alloc::Allocator;
 
 impl<A: Allocator + Copy> Book<A> {
@@ -11,37 +17,16 @@ impl<A: Allocator + Copy> Book<A> {
     pub fn of_rows(alloc: A, rows: &Transmissions<'_, A>) -> Result<Book<A>, Memory>
         ensures { IfOk result (λ book. book ≡ rows.now) }
     {
-        let mut book = Book::with_gap(alloc, rows.gap());
+        let mut kept = KeyedRows::new(alloc);
+        let mut notes = Notes::new(alloc);
+        let mut before = None;
         for row in rows.rows() {
-            let parts = parts_of(alloc, &row)?;
-            if let Err(cause) = book.push_row(&parts) {
-                return Err(memory_of(cause));
-            }
+            let heard = ReceptionView::of_row(&row);
+            let sender = Sender::after(before, &heard);
+            notes.take(Subject::of(sender.call(), heard.info()), heard)?;
+            kept.append(KeptRow::of_view(alloc, &row)?)?;
+            before = Some(sender);
         }
-        Ok(book)
-    }
-}
-
-/// What makes the row, in memory of its own.
-fn parts_of<A: Allocator + Copy>(alloc: A, row: &RowView<'_>) -> Result<RowParts<A>, Memory>
-    ensures { IfOk result (λ parts. parts ≡ row.now) }
-{
-    Ok(RowParts {
-        first: row.first(),
-        last: row.last(),
-        receivers: ReceiverList::new(row.receiver_names(alloc)?),
-        receiver: row.read_receiver(),
-        frame: row.read_frame(),
-    })
-}
-
-/// Turns the cause `Memory` into the error `Memory`. The cause has to be that one: a row that may
-/// be pushed is refused only where an allocation fails.
-fn memory_of(cause: RowCause) -> Memory
-    requires { cause ≡ RowCause.Memory }
-{
-    match cause {
-        RowCause::Memory => Memory,
-        _ => unreachable!(),
+        Ok(Book::of_kept(rows.gap(), kept, notes.into_indexes()?))
     }
 }

@@ -2,8 +2,6 @@
 
 pub(crate) mod kept_row;
 pub(crate) mod keyed;
-pub(crate) mod merging;
-pub(crate) mod merging_keys;
 pub(crate) mod millis;
 pub(crate) mod push;
 pub(crate) mod row;

@@ -25,7 +25,8 @@ use Rattle.aprs_rows.specs.Refusal.{refusal, is_refused}
 use Rattle.aprs_book.specs.Shown.{row_of}
 use Rattle.aprs_laws.specs.declared.row_cause.RowCause.{RowCause}
 use Rattle.aprs_laws.specs.declared.row_cause.RowCause.TheVariants as row
-use Rattle.aprs_booktext.specs.FirstFault.{FirstFault, is_end}
+use Rattle.aprs_booktext.specs.FirstFault.{FirstFault}
+use Rattle.aprs_booktext.specs.TextFault.{is_end}
 use Rattle.aprs_booktext.specs.Law.{IsBookText}
 use Rattle.aprs_booktext.specs.Lines.{Lacks, pieces}
 use Rattle.aprs_io.specs.Cut.{is_byte}

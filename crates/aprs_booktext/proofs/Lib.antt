@@ -11,7 +11,6 @@ pub mod LastLines
 pub mod OneCause
 pub mod OneFault
 pub mod OneText
-pub mod Requirements
 pub mod RowReading
 pub mod SameFaults
 pub mod TextParts

@@ -7,7 +7,7 @@ use Rattle.aprs_laws.specs.Row.{Row}
 use Rattle.aprs_rows.specs.Refusal.{refusal}
 use Rattle.aprs_laws.specs.declared.row_cause.RowCause.{RowCause}
 use Rattle.aprs_laws.specs.declared.row_cause.RowCause.TheVariants as row
-use Rattle.aprs_booktext.specs.FirstFault.{HasNoFrame, IsRefused, IsWrong, is_end}
+use Rattle.aprs_booktext.specs.TextFault.{HasNoFrame, IsRefused, IsWrong, is_end}
 use Rattle.aprs_booktext.specs.Fault.{book_cause_of}
 use Rattle.aprs_booktext.specs.Text.{row_line, IsSpelled}
 use Rattle.aprs_booktext.specs.declared.fault.BookCause.{BookCause}

@@ -9,7 +9,8 @@ use Rattle.aprs_log.specs.declared.moment_form.MomentForm.{MomentForm}
 use Rattle.aprs_laws.specs.Gap.{millis_of}
 use Rattle.aprs_laws.specs.Row.{Row}
 use Rattle.aprs_laws.specs.Sound.{Sound}
-use Rattle.aprs_booktext.specs.FirstFault.{AmongRows, EndFault, FaultAfter, FirstFault, HeaderFault, IsCut, IsWrong, LineFault, PastEnd}
+use Rattle.aprs_booktext.specs.FirstFault.{AmongRows, EndFault, FaultAfter, FirstFault, HeaderFault, IsCut, LineFault, PastEnd}
+use Rattle.aprs_booktext.specs.TextFault.{IsWrong}
 use Rattle.aprs_booktext.specs.Lines.{Lacks}
 use Rattle.aprs_booktext.specs.Text.{row_line, end_line, lines_of, IsBookRow, IsBookRows}
 use Rattle.aprs_log.specs.LogText.{text_of_lines}

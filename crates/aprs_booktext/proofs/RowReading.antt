@@ -15,7 +15,7 @@ use Rattle.aprs_log.specs.Receiver.{IsName}
 use Rattle.aprs_laws.specs.Row.{Row, last_of}
 use Rattle.aprs_rows.specs.Names.{row_of_text}
 use Rattle.aprs_booktext.specs.Lines.{Lacks, pieces}
-use Rattle.aprs_booktext.specs.FirstFault.{HasNoFrame}
+use Rattle.aprs_booktext.specs.TextFault.{HasNoFrame}
 use Rattle.aprs_booktext.specs.RowFields.{SpellsBytes, SpellsFrame, IsWrongFrame, IsWrongRow}
 use Rattle.aprs_booktext.specs.Text.{row_line, IsSpelled, IsBookRow}
 use Rattle.aprs_booktext.specs.declared.fault.BookCause.{BookCause}

@@ -1,30 +1,23 @@
 -- A text's fault is its first, as it is found, or Memory.
-use Rattle.std.proofs.Common.{◌≡◌, ◌∙◌, ℕ, ◌<◌, ◌≤◌, false, true, List, [], ◌∷◌, ◌++◌, ◌⊎◌, inl, inr, Some, length, refl, sym, ap, subst, append-nil, arith}
+use Rattle.std.proofs.Common.{◌≡◌, ◌∙◌, ℕ, ◌<◌, ◌≤◌, false, true, List, [], ◌∷◌, ◌++◌, ◌⊎◌, inl, inr, length, refl, sym, ap, subst, append-nil, arith}
 use Rattle.std.specs.Prelude.{◌≢◌}
 use Rattle.std.proofs.lemmas.List.Elements.{All-nil, All-cons, All-head, All-tail}
 use Rattle.std.proofs.lemmas.Bool.Decides.{nat_tests}
-use Rattle.aprs_ax25.specs.UiFrame.{IsUiFrame}
 use Rattle.aprs_io.specs.Cut.{is_byte}
 use Rattle.aprs_io.specs.declared.input.Ending.{Ending}
 use Rattle.aprs_io.specs.declared.input.Ending.TheVariants as how
 use Rattle.aprs_log.specs.LogText.{HasNoLf, text_of_lines}
 use Rattle.aprs_laws.specs.Gap.{millis_of}
 use Rattle.aprs_laws.specs.Row.{Row}
-use Rattle.aprs_rows.specs.Refusal.{refusal}
-use Rattle.aprs_rows.proofs.Refusals.{never_memory}
-use Rattle.aprs_laws.specs.declared.row_cause.RowCause.{RowCause}
-use Rattle.aprs_laws.specs.declared.row_cause.RowCause.TheVariants as row
-use Rattle.aprs_booktext.specs.Fault.{book_cause_of, ending_cause}
-use Rattle.aprs_booktext.specs.FirstFault.{EndFault, FaultAfter, FirstFault, HasNoFrame, HeaderFault, IsMemoryAt, IsRefused, IsWrong, LineFault}
+use Rattle.aprs_booktext.specs.Fault.{ending_cause}
+use Rattle.aprs_booktext.specs.FirstFault.{EndFault, FaultAfter, FirstFault, HeaderFault, IsMemoryAt, LineFault}
 use Rattle.aprs_booktext.specs.Lines.{Lacks}
-use Rattle.aprs_booktext.specs.Text.{row_line, IsSpelled}
-use Rattle.aprs_booktext.specs.TextFault.{AreBook, AreOfRows, BeginBook, EndsLine, HasBookFault, IsWrongRest, IsWrongAfter, Meets, MissesFirst, StopsIn, most_ahead}
+use Rattle.aprs_booktext.specs.TextFault.{AreBook, AreOfRows, BeginBook, EndsLine, HasBookFault, IsWrong, IsWrongRest, most_ahead, StopsIn}
 use Rattle.aprs_booktext.specs.Version.{form_of, gap_of, header_of, IsVersion}
 use Rattle.aprs_booktext.specs.declared.fault.BookCause.{BookCause}
 use Rattle.aprs_booktext.specs.declared.fault.BookCause.TheVariants as why
 use Rattle.aprs_booktext.specs.declared.fault.BookFault.{BookFault}
 use Rattle.aprs_booktext.specs.declared.version.Version.{Version}
-use Rattle.aprs_booktext.proofs.Requirements.{misses_refused, refused_misses}
 
 -- ---- bytes without LF
 
@@ -42,96 +35,6 @@ pub lacks : (l : List ℕ) → HasNoLf l → Lacks 10 l
 lacks [] h = tt
 lacks (b ∷ l) h =
     (no_byte b (All-head (λ b. b ≢ 10) b l h), lacks l (All-tail (λ b. b ≢ 10) b l h))
-
--- ---- a line after rows
-
-module _ (v : Version) (rows : List Row) (line : List ℕ) where
-  refused_line : (reason : RowCause)
-      → IsRefused (millis_of (gap_of v)) (form_of v) rows line reason
-      → (x : Row) × IsSpelled (form_of v) x × (line ≡ row_line (form_of v) x)
-      × MissesFirst (millis_of (gap_of v)) rows x (book_cause_of reason)
-  refused_line reason h = (
-    h.row,
-    h.is.spelled,
-    h.spelled,
-    refused_misses (millis_of (gap_of v)) rows h.row h.is.frame reason h.refused,
-  )
-
-  frame_line : HasNoFrame (form_of v) line → IsWrongAfter v rows line why.Frame
-  frame_line h = (
-    h.row,
-    h.is,
-    h.spelled,
-    record {
-      before = [];
-      after = why.Order ∷ why.Span ∷ why.Near ∷ why.Receivers ∷ why.NotGreatest ∷ [];
-      in_order = refl;
-      meets = All-nil (Meets (millis_of (gap_of v)) rows h.row);
-      misses = h.refused;
-    },
-  )
-
-  wrong_line : (c : BookCause) → IsWrong (millis_of (gap_of v)) (form_of v) rows line c
-      → IsWrongAfter v rows line c
-  wrong_line why.Ending w = w
-  wrong_line why.RowSyntax w = w
-  wrong_line why.Frame w = frame_line w
-  wrong_line why.Order w = refused_line row.Order w
-  wrong_line why.Span w = refused_line row.Span w
-  wrong_line why.Near w = refused_line row.Near w
-  wrong_line why.Receivers w = refused_line row.Receivers w
-  wrong_line why.NotGreatest w = refused_line row.NotGreatest w
-  wrong_line why.Header w = absurd w
-  wrong_line why.After w = absurd w
-  wrong_line why.Read w = absurd w
-  wrong_line why.TooLong w = absurd w
-  wrong_line why.Memory w = absurd w
-
-  -- a row that isn't met
-  reasons : (c : BookCause) (x : Row) → IsSpelled (form_of v) x → line ≡ row_line (form_of v) x
-      → MissesFirst (millis_of (gap_of v)) rows x c
-      → IsWrong (millis_of (gap_of v)) (form_of v) rows line c
-  reasons c x is spelled h = elim (misses_refused (millis_of (gap_of v)) rows x c h) [
-    | inl none ↦ subst (IsWrong (millis_of (gap_of v)) (form_of v) rows line) (sym none.0)
-        (record { row = x; is = is; spelled = spelled; refused = none.1 })
-    | inr r ↦ subst (IsWrong (millis_of (gap_of v)) (form_of v) rows line) (sym r.cause_is)
-        (by r.reason r.frame r.refused)
-  ] where
-    it : (reason : RowCause) → IsUiFrame x.greatest.frame
-        → refusal (millis_of (gap_of v)) rows x ≡ Some reason
-        → IsRefused (millis_of (gap_of v)) (form_of v) rows line reason
-    it reason frame refused = record {
-      row = x;
-      is = record { spelled = is; frame = frame };
-      spelled = spelled;
-      refused = refused;
-    }
-
-    by : (reason : RowCause) → IsUiFrame x.greatest.frame
-        → refusal (millis_of (gap_of v)) rows x ≡ Some reason
-        → IsWrong (millis_of (gap_of v)) (form_of v) rows line (book_cause_of reason)
-    by row.Order frame refused = it row.Order frame refused
-    by row.Span frame refused = it row.Span frame refused
-    by row.Near frame refused = it row.Near frame refused
-    by row.Receivers frame refused = it row.Receivers frame refused
-    by row.NotGreatest frame refused = it row.NotGreatest frame refused
-    by row.Memory frame refused = absurd (never_memory (millis_of (gap_of v)) rows x refused)
-
-  line_wrong : (c : BookCause) → IsWrongAfter v rows line c
-      → IsWrong (millis_of (gap_of v)) (form_of v) rows line c
-  line_wrong why.Ending w = w
-  line_wrong why.RowSyntax w = w
-  line_wrong why.Frame w = reasons why.Frame w.0 w.1 w.2 w.3
-  line_wrong why.Order w = reasons why.Order w.0 w.1 w.2 w.3
-  line_wrong why.Span w = reasons why.Span w.0 w.1 w.2 w.3
-  line_wrong why.Near w = reasons why.Near w.0 w.1 w.2 w.3
-  line_wrong why.Receivers w = reasons why.Receivers w.0 w.1 w.2 w.3
-  line_wrong why.NotGreatest w = reasons why.NotGreatest w.0 w.1 w.2 w.3
-  line_wrong why.Header w = reasons why.Header w.0 w.1 w.2 w.3
-  line_wrong why.After w = reasons why.After w.0 w.1 w.2 w.3
-  line_wrong why.Read w = reasons why.Read w.0 w.1 w.2 w.3
-  line_wrong why.TooLong w = reasons why.TooLong w.0 w.1 w.2 w.3
-  line_wrong why.Memory w = reasons why.Memory w.0 w.1 w.2 w.3
 
 -- ---- from the first fault
 
@@ -154,21 +57,21 @@ module _ (lines : List (List ℕ)) (line more : List ℕ) (e : Ending) where
       → IsWrong (millis_of (gap_of v)) (form_of v) rows line c
       → IsWrongRest lines line (10 ∷ more) e c
   at_row v rows are why.Ending w =
-      inr (v, rows, are, (more, refl), wrong_line v rows line why.Ending w)
+      inr (v, rows, are, (more, refl), w)
   at_row v rows are why.RowSyntax w =
-      inr (v, rows, are, (more, refl), wrong_line v rows line why.RowSyntax w)
+      inr (v, rows, are, (more, refl), w)
   at_row v rows are why.Frame w =
-      inr (v, rows, are, (more, refl), wrong_line v rows line why.Frame w)
+      inr (v, rows, are, (more, refl), w)
   at_row v rows are why.Order w =
-      inr (v, rows, are, (more, refl), wrong_line v rows line why.Order w)
+      inr (v, rows, are, (more, refl), w)
   at_row v rows are why.Span w =
-      inr (v, rows, are, (more, refl), wrong_line v rows line why.Span w)
+      inr (v, rows, are, (more, refl), w)
   at_row v rows are why.Near w =
-      inr (v, rows, are, (more, refl), wrong_line v rows line why.Near w)
+      inr (v, rows, are, (more, refl), w)
   at_row v rows are why.Receivers w =
-      inr (v, rows, are, (more, refl), wrong_line v rows line why.Receivers w)
+      inr (v, rows, are, (more, refl), w)
   at_row v rows are why.NotGreatest w =
-      inr (v, rows, are, (more, refl), wrong_line v rows line why.NotGreatest w)
+      inr (v, rows, are, (more, refl), w)
   at_row v rows are why.Header w = absurd w
   at_row v rows are why.After w = absurd w
   at_row v rows are why.Read w = absurd w
@@ -295,7 +198,7 @@ module _ (lines : List (List ℕ)) (line more : List ℕ) (e : Ending) (one : La
   -- the text stops in a line, or a line can't come after rows
   other : (c : BookCause) → ((c ≡ why.Ending) × BeginBook lines × (more ≡ []) × (e ≡ how.End))
       ⊎ ((v : Version) × (rows : List Row) × AreOfRows v rows lines × EndsLine more
-      × IsWrongAfter v rows line c) → FaultAfter lines (line ++ more) e c
+      × IsWrong (millis_of (gap_of v)) (form_of v) rows line c) → FaultAfter lines (line ++ more) e c
   other c (inl h) = cut_after c h.1 h.2 (h.0 ∙ sym (ap ending_cause h.3))
   other c (inr h) = inr (inl (record {
     version = h.0;
@@ -307,7 +210,7 @@ module _ (lines : List (List ℕ)) (line more : List ℕ) (e : Ending) (one : La
       more = h.3.0;
       is = ap (λ m. line ++ m) h.3.1;
       one = one;
-      holds = line_wrong h.0 h.1 line c h.4;
+      holds = h.4;
     });
   }))
 

@@ -18,17 +18,6 @@ use Rattle.aprs_booktext.specs.Text.{row_line, end_line, written_text}
 use Rattle.aprs_booktext.specs.Version.{header_of}
 use Rattle.aprs_booktext.specs.declared.version.Version.TheVariants.{Three}
 
--- names with commas between are one, and then each after a comma
-joined_names : (x : List ℕ) (xs : List (List ℕ))
-    → join_with_byte 44 (x ∷ xs) ≡ x ++ flat_map (λ n. 44 ∷ n) xs
-joined_names x [] = sym (append-nil x)
-joined_names x (y ∷ ys) = ap (λ l. x ++ 44 ∷ l) (joined_names y ys)
-
-pub joined_first : (names : List (List ℕ)) (x bytes : List ℕ) (xs : List (List ℕ)) → names ≡ x ∷ xs
-    → bytes ≡ x → join_with_byte 44 names ≡ bytes ++ flat_map (λ n. 44 ∷ n) xs
-joined_first names x bytes xs e is = ap (join_with_byte 44) e ∙ joined_names x xs
-    ∙ ap (λ l. l ++ flat_map (λ n. 44 ∷ n) xs) (sym is)
-
 -- ---- the parts of a line
 
 space_between : (a b c : List ℕ) → (a ++ 32 ∷ b) ++ c ≡ a ++ 32 ∷ (b ++ c)

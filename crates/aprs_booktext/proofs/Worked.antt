@@ -1,5 +1,5 @@
 -- Worked examples of what is at fault in a text.
-use Rattle.std.proofs.Common.{◌≡◌, ◌∙◌, ℕ, zero, suc, ◌^◌, ◌+◌, ◌<◌, ◌≤◌, Bool, cond, false, true, List, [], ◌∷◌, ◌++◌, get_or, length, codes, inl, inr, refl, ap, subst, arith}
+use Rattle.std.proofs.Common.{◌≡◌, ◌∙◌, ℕ, zero, suc, ◌^◌, ◌+◌, ◌<◌, ◌≤◌, Bool, cond, false, true, List, [], ◌∷◌, ◌++◌, get_or, length, codes, Some, inl, inr, refl, ap, subst, arith}
 use Rattle.std.specs.Prelude.{◌≢◌, nat_lt}
 use Rattle.std.specs.List.{list_all}
 use Rattle.std.proofs.lemmas.Bool.Decides.{nat_tests}
@@ -19,13 +19,15 @@ use Rattle.aprs_log.specs.declared.moment_form.MomentForm.TheVariants.{Millis}
 use Rattle.aprs_log.proofs.Lines.{both}
 use Rattle.aprs_laws.specs.Gap.{millis_of, standard_gap}
 use Rattle.aprs_laws.specs.Key.{key_cmp, key_of}
-use Rattle.aprs_laws.specs.Order.{IsBelow, IsUpTo}
-use Rattle.aprs_laws.specs.Row.{Row, row_cmp}
+use Rattle.aprs_laws.specs.Order.{IsUpTo}
+use Rattle.aprs_laws.specs.Row.{Row}
 use Rattle.aprs_laws.specs.Sound.{IsSoundRow, Sound}
+use Rattle.aprs_laws.specs.declared.row_cause.RowCause.TheVariants.{Order}
 use Rattle.aprs_laws.proofs.Orders.{bytes_total, up_to_itself}
+use Rattle.aprs_rows.specs.Refusal.{refusal}
 use Rattle.aprs_booktext.specs.Examples.{fault_in, miscounted_text, disordered_text, unfinished_text}
 use Rattle.aprs_booktext.specs.Text.{end_line, row_line, IsBookRow, IsBookRows, IsSpelled}
-use Rattle.aprs_booktext.specs.TextFault.{AreOfRows, HasBookFault, Meets}
+use Rattle.aprs_booktext.specs.TextFault.{AreOfRows, HasBookFault}
 use Rattle.aprs_booktext.specs.declared.fault.BookCause.{BookCause}
 use Rattle.aprs_booktext.specs.declared.fault.BookCause.TheVariants as why
 use Rattle.aprs_booktext.specs.declared.version.Version.TheVariants.{Two}
@@ -181,9 +183,10 @@ lines_of_rows : disordered_text ≡ text_of_lines (codes "APRSBOOK 2"
 unfolding moment_text_in day_after encode_with
 lines_of_rows = refl
 
-no_order : IsBelow row_cmp (row_in 3000 3000) (row_in 2000 1000) → ⊥
-unfolding key_cmp key_of
-no_order below = cc
+refused_order : refusal (millis_of standard_gap) (row_in 3000 3000 ∷ []) (row_in 2000 1000)
+    ≡ Some Order
+unfolding refusal key_cmp key_of
+refused_order = refl
 
 pub out_of_order : HasBookFault disordered_text End (fault_in 3 why.Order)
 out_of_order = record {
@@ -198,20 +201,12 @@ out_of_order = record {
     row_in 3000 3000 ∷ [],
     record { rows_are = first_row; lines_are = refl },
     ([], refl),
-    (
-      row_in 2000 1000,
-      spelled,
-      refl,
-      record {
-        before = why.Frame ∷ [];
-        after = why.Span ∷ why.Near ∷ why.Receivers ∷ why.NotGreatest ∷ [];
-        in_order = refl;
-        meets = All-cons (Meets (millis_of standard_gap) (row_in 3000 3000 ∷ []) (row_in 2000 1000))
-            why.Frame [] hi_is_frame
-            (All-nil (Meets (millis_of standard_gap) (row_in 3000 3000 ∷ []) (row_in 2000 1000)));
-        misses = no_order;
-      },
-    ),
+    record {
+      row = row_in 2000 1000;
+      is = record { spelled = spelled; frame = hi_is_frame };
+      spelled = refl;
+      refused = refused_order;
+    },
   );
 } where
   spelled : IsSpelled Millis (row_in 2000 1000)

@@ -1,16 +1,15 @@
 -- Rows that were written can be read.
-use Rattle.std.proofs.Common.{◌≡◌, ℕ, ◌+◌, ◌<◌, List, [], ◌∷◌, ◌++◌, length, get_or, take, Option, Result, Ok, Err, inl, refl, sym, ap, ◌∙◌, subst, append_assoc, append-nil, arith}
+use Rattle.std.proofs.Common.{◌≡◌, ℕ, ◌+◌, ◌<◌, List, [], ◌∷◌, ◌++◌, length, Option, Result, Ok, Err, inl, refl, sym, ap, ◌∙◌, subst, append_assoc, append-nil, arith}
 use Rattle.std.specs.Prelude.{All}
 use Rattle.std.specs.List.{flat_map}
 use Rattle.std.specs.Result.{IsErr}
-use Rattle.std.proofs.lemmas.List.{flat_map_more, take_more}
+use Rattle.std.proofs.lemmas.List.{flat_map_more}
 use Rattle.std.proofs.lemmas.List.Concat.{flat_map-append}
 use Rattle.std.proofs.lemmas.List.Elements.{All-nil, All-push}
 use Rattle.aprs_io.specs.declared.device.WriteFault.{WriteFault}
 use Rattle.aprs_io.specs.Outlet.{Puts}
 use Rattle.aprs_io.specs.declared.outlet.Outlet.{Outlet}
 use Rattle.aprs_io.proofs.Outlets.{Puts-fails, Puts-is, Puts-none, Puts-then}
-use Rattle.aprs_log.specs.Receiver.{IsName}
 use Rattle.aprs_log.specs.declared.moment_form.MomentForm.TheVariants.{Millis}
 use Rattle.aprs_laws.specs.BookValue.{BookValue, IsSoundBook}
 use Rattle.aprs_laws.specs.Lists.{◌∈◌}
@@ -20,14 +19,6 @@ use Rattle.aprs_laws.proofs.Lists.{in_right}
 use Rattle.aprs_booktext.specs.RowLines.{line_and_lf}
 use Rattle.aprs_booktext.specs.Text.{IsBookRow, IsBookRows, written_version}
 use Rattle.aprs_booktext.proofs.BookRows.{rows_are}
-
--- one name more
-pub names_more : (names : List (List ℕ)) (i : ℕ) (name : List ℕ) → i < length names
-    → name ≡ get_or names i name → All IsName (take i names) → IsName name
-    → All IsName (take (i + 1) names)
-names_more names i name lt is h n =
-    subst (All IsName) (ap (λ (y : List ℕ). take i names ++ y ∷ []) is
-    ∙ sym (take_more names i name lt)) (All-push IsName (take i names) name h n)
 
 some_of : (x : List ℕ) (xs : List (List ℕ)) → x ∈ xs → 0 < length xs
 some_of x [] h = absurd h

@@ -1,66 +1,23 @@
 -- The first fault of a text that isn't that of a book, as it is found: right after the longest
 -- prefix of lines that a book's text may begin with, in some version. No public clause cites this
 -- module.
-use Rattle.std.specs.Prelude.{◌≡◌, ◌≢◌, ℕ, ◌+◌, ◌<◌, ◌≤◌, ◌==◌, ◌⊎◌, Bool, false, true, List, [], ◌∷◌, ◌++◌, length, map, codes, Some}
-use Rattle.std.specs.List.{starts_with}
-use Rattle.aprs_ax25.specs.UiFrame.{IsUiFrame}
+use Rattle.std.specs.Prelude.{◌≡◌, ◌≢◌, ℕ, ◌+◌, ◌<◌, ◌≤◌, ◌⊎◌, List, [], ◌∷◌, ◌++◌, length, map}
 use Rattle.aprs_io.specs.declared.input.Ending.{Ending}
 use Rattle.aprs_io.specs.declared.input.Ending.TheVariants as how
 use Rattle.aprs_log.specs.LogText.{text_of_lines}
-use Rattle.aprs_log.specs.declared.moment_form.MomentForm.{MomentForm}
 use Rattle.aprs_laws.specs.Gap.{millis_of}
 use Rattle.aprs_laws.specs.Row.{Row}
-use Rattle.aprs_rows.specs.Refusal.{refusal}
-use Rattle.aprs_laws.specs.declared.row_cause.RowCause.{RowCause}
-use Rattle.aprs_laws.specs.declared.row_cause.RowCause.TheVariants as row
 use Rattle.aprs_booktext.specs.Fault.{ending_cause}
 use Rattle.aprs_booktext.specs.Lines.{Lacks}
-use Rattle.aprs_booktext.specs.Text.{row_line, end_line, lines_of, IsSpelled, IsBookRow, IsBookRows}
-use Rattle.aprs_booktext.specs.TextFault.{BeginBook}
+use Rattle.aprs_booktext.specs.Text.{row_line, lines_of, IsBookRows}
+use Rattle.aprs_booktext.specs.TextFault.{BeginBook, IsWrong}
 use Rattle.aprs_booktext.specs.Version.{form_of, gap_of, header_of, IsVersion}
 use Rattle.aprs_booktext.specs.declared.fault.BookCause.{BookCause}
 use Rattle.aprs_booktext.specs.declared.fault.BookCause.TheVariants as why
 use Rattle.aprs_booktext.specs.declared.fault.BookFault.{BookFault}
 use Rattle.aprs_booktext.specs.declared.version.Version.{Version}
 
--- ---- what is wrong with a line after the lines of some rows
-
--- The line begins as a book's last line does.
-abbrev pub is_end : List ℕ → Bool
-is_end line = starts_with ◌==◌ line (codes "END")
-
--- The line spells a row that can't be added to these rows, for this reason.
-pub record IsRefused (gap : ℕ) (form : MomentForm) (rows : List Row) (line : List ℕ)
-    (reason : RowCause) : Type 0 where
-  pub row : Row
-  pub is : IsBookRow form row
-  pub spelled : line ≡ row_line form row
-  pub refused : refusal gap rows row ≡ Some reason
-
--- The line spells a row but for its frame, whose bytes aren't a UI frame.
-pub record HasNoFrame (form : MomentForm) (line : List ℕ) : Type 0 where
-  pub row : Row
-  pub is : IsSpelled form row
-  pub spelled : line ≡ row_line form row
-  pub refused : IsUiFrame row.greatest.frame → ⊥
-
--- After these rows the line is wrong for this cause: it begins as the last line and isn't that of
--- so many rows, or it spells no row, or one whose frame is none, or one that can't be added.
-abbrev pub IsWrong : ℕ → MomentForm → List Row → List ℕ → BookCause → Type 0
-IsWrong gap form rows line why.Ending = (is_end line ≡ true) × (line ≢ end_line (length rows))
-IsWrong gap form rows line why.RowSyntax =
-    (is_end line ≡ false) × ((x : Row) → IsSpelled form x → line ≢ row_line form x)
-IsWrong gap form rows line why.Frame = HasNoFrame form line
-IsWrong gap form rows line why.Order = IsRefused gap form rows line row.Order
-IsWrong gap form rows line why.Span = IsRefused gap form rows line row.Span
-IsWrong gap form rows line why.Near = IsRefused gap form rows line row.Near
-IsWrong gap form rows line why.Receivers = IsRefused gap form rows line row.Receivers
-IsWrong gap form rows line why.NotGreatest = IsRefused gap form rows line row.NotGreatest
-IsWrong gap form rows line why.Header = ⊥
-IsWrong gap form rows line why.After = ⊥
-IsWrong gap form rows line why.Read = ⊥
-IsWrong gap form rows line why.TooLong = ⊥
-IsWrong gap form rows line why.Memory = ⊥
+-- ---- what is wrong with a whole line
 
 -- The line is the header of no version.
 abbrev pub IsNoHeader : List ℕ → BookCause → Type 0

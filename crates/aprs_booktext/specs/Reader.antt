@@ -5,7 +5,8 @@ use Rattle.aprs_io.specs.declared.input.Ending.TheVariants as how
 use Rattle.aprs_laws.specs.Gap.{millis_of, standard_gap}
 use Rattle.aprs_laws.specs.Row.{Row}
 use Rattle.aprs_rows.specs.Refusal.{refusal}
-use Rattle.aprs_booktext.specs.FirstFault.{FirstFault, IsMemoryAt, IsNoHeader, IsWrong, is_end}
+use Rattle.aprs_booktext.specs.FirstFault.{FirstFault, IsMemoryAt, IsNoHeader}
+use Rattle.aprs_booktext.specs.TextFault.{IsWrong, is_end}
 use Rattle.aprs_booktext.specs.Lines.{Lacks}
 use Rattle.aprs_booktext.specs.Text.{row_line, end_line, lines_of, IsBookRow, IsBookRows}
 use Rattle.aprs_log.specs.LogText.{text_of_lines}

@@ -4,7 +4,7 @@ use Rattle.hex.specs.Hex.{encode_lower, IsBytes}
 use Rattle.aprs_ax25.specs.FrameFault.{frame_of}
 use Rattle.aprs_log.specs.declared.moment_form.MomentForm.{MomentForm}
 use Rattle.aprs_laws.specs.Row.{Row}
-use Rattle.aprs_booktext.specs.FirstFault.{HasNoFrame}
+use Rattle.aprs_booktext.specs.TextFault.{HasNoFrame}
 use Rattle.aprs_booktext.specs.Text.{row_line, IsSpelled, most_frame_bytes}
 use Rattle.aprs_booktext.specs.declared.fault.BookCause.{BookCause}
 use Rattle.aprs_booktext.specs.declared.fault.BookCause.TheVariants as why

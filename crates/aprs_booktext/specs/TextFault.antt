@@ -1,63 +1,61 @@
 -- What is at fault in a text that isn't that of a book, and in which line.
-use Rattle.std.specs.Prelude.{◌≡◌, ◌≢◌, ℕ, ◌+◌, ◌<◌, ◌≤◌, ◌==◌, ◌⊎◌, false, true, List, [], ◌∷◌, ◌++◌, length, map, codes, All}
+use Rattle.std.specs.Prelude.{◌≡◌, ◌≢◌, ℕ, ◌+◌, ◌≤◌, ◌==◌, ◌⊎◌, Bool, false, true, List, [], ◌∷◌, ◌++◌, length, map, codes, Some}
 use Rattle.std.specs.List.{starts_with}
 use Rattle.aprs_ax25.specs.UiFrame.{IsUiFrame}
 use Rattle.aprs_io.specs.declared.input.Ending.{Ending}
 use Rattle.aprs_io.specs.declared.input.Ending.TheVariants as how
 use Rattle.aprs_log.specs.LogText.{HasNoLf, text_of_lines}
-use Rattle.aprs_log.specs.Reception.{bytes_cmp}
+use Rattle.aprs_log.specs.declared.moment_form.MomentForm.{MomentForm}
 use Rattle.aprs_laws.specs.Gap.{millis_of}
-use Rattle.aprs_laws.specs.Lists.{◌∈◌, IfLast, Ordered}
-use Rattle.aprs_laws.specs.Order.{IsBelow}
-use Rattle.aprs_laws.specs.Row.{Row, row_key, last_of, row_cmp}
-use Rattle.aprs_booktext.specs.Text.{row_line, end_line, lines_of, IsSpelled, IsBookRows}
+use Rattle.aprs_laws.specs.Row.{Row}
+use Rattle.aprs_rows.specs.Refusal.{refusal}
+use Rattle.aprs_laws.specs.declared.row_cause.RowCause.{RowCause}
+use Rattle.aprs_laws.specs.declared.row_cause.RowCause.TheVariants as row
+use Rattle.aprs_booktext.specs.Text.{row_line, end_line, lines_of, IsSpelled, IsBookRow, IsBookRows}
 use Rattle.aprs_booktext.specs.Version.{form_of, gap_of, header_of, IsVersion}
 use Rattle.aprs_booktext.specs.declared.fault.BookCause.{BookCause}
 use Rattle.aprs_booktext.specs.declared.fault.BookCause.TheVariants as why
 use Rattle.aprs_booktext.specs.declared.fault.BookFault.{BookFault}
 use Rattle.aprs_booktext.specs.declared.version.Version.{Version}
 
--- ---- a row after others
+-- ---- what is wrong with a line after the lines of some rows
 
--- What row x has to meet after these rows, or be refused for the cause. `Frame`: its frame is a UI
--- frame. `Order`: it comes after the last row, by key and first moment. `Span`: it doesn't end
--- before it begins. `Near`: if the last row has the same key, x begins more than `gap` milliseconds
--- after that row ends. `Receivers`: its receivers ascend, and the greatest reception's receiver is
--- one of them. `NotGreatest`: if it has one moment only, that receiver is the last of them. For any
--- other cause this never holds.
-abbrev pub Meets : ℕ → List Row → Row → BookCause → Type 0
-Meets gap rows x why.Frame = IsUiFrame x.greatest.frame
-Meets gap rows x why.Order = IfLast rows (λ l. IsBelow row_cmp l x)
-Meets gap rows x why.Span = x.first ≤ last_of x
-Meets gap rows x why.Near = IfLast rows (λ l. row_key l ≡ row_key x → last_of l + gap < x.first)
-Meets gap rows x why.Receivers =
-    Ordered (IsBelow bytes_cmp) x.receivers × (x.greatest.receiver ∈ x.receivers)
-Meets gap rows x why.NotGreatest =
-    x.first ≡ last_of x → IfLast x.receivers (λ r. r ≡ x.greatest.receiver)
-Meets gap rows x cause = ⊥
+-- The line begins as a book's last line does.
+abbrev pub is_end : List ℕ → Bool
+is_end line = starts_with ◌==◌ line (codes "END")
 
--- The causes for which a row is refused, in the order in which a row is judged.
-abbrev pub row_causes : List BookCause
-row_causes = why.Frame ∷ why.Order ∷ why.Span ∷ why.Near ∷ why.Receivers ∷ why.NotGreatest ∷ []
+-- The line spells a row that can't be added to these rows, for this reason.
+pub record IsRefused (gap : ℕ) (form : MomentForm) (rows : List Row) (line : List ℕ)
+    (reason : RowCause) : Type 0 where
+  pub row : Row
+  pub is : IsBookRow form row
+  pub spelled : line ≡ row_line form row
+  pub refused : refusal gap rows row ≡ Some reason
 
--- Of the causes of `row_causes`, this is the first that the row doesn't meet.
-pub record MissesFirst (gap : ℕ) (rows : List Row) (x : Row) (cause : BookCause) : Type 0 where
-  pub before : List BookCause
-  pub after : List BookCause
-  pub in_order : row_causes ≡ before ++ cause ∷ after
-  pub meets : All (Meets gap rows x) before
-  pub misses : Meets gap rows x cause → ⊥
+-- The line spells a row but for its frame, whose bytes aren't a UI frame.
+pub record HasNoFrame (form : MomentForm) (line : List ℕ) : Type 0 where
+  pub row : Row
+  pub is : IsSpelled form row
+  pub spelled : line ≡ row_line form row
+  pub refused : IsUiFrame row.greatest.frame → ⊥
 
--- The line, which comes after those of these rows, is wrong for this cause: it begins with END and
--- isn't the last line after so many rows (`Ending`); or it doesn't begin so, and spells no row
--- (`RowSyntax`); or it spells a row, and this cause is the first that the row doesn't meet.
-abbrev pub IsWrongAfter : Version → List Row → List ℕ → BookCause → Type 0
-IsWrongAfter v rows line why.Ending =
-    (starts_with ◌==◌ line (codes "END") ≡ true) × (line ≢ end_line (length rows))
-IsWrongAfter v rows line why.RowSyntax = (starts_with ◌==◌ line (codes "END") ≡ false)
-    × ((x : Row) → IsSpelled (form_of v) x → line ≢ row_line (form_of v) x)
-IsWrongAfter v rows line cause = (x : Row) × IsSpelled (form_of v) x
-    × (line ≡ row_line (form_of v) x) × MissesFirst (millis_of (gap_of v)) rows x cause
+-- After these rows the line is wrong for this cause: it begins as the last line and isn't that of
+-- so many rows, or it spells no row, or one whose frame is none, or one that can't be added.
+abbrev pub IsWrong : ℕ → MomentForm → List Row → List ℕ → BookCause → Type 0
+IsWrong gap form rows line why.Ending = (is_end line ≡ true) × (line ≢ end_line (length rows))
+IsWrong gap form rows line why.RowSyntax =
+    (is_end line ≡ false) × ((x : Row) → IsSpelled form x → line ≢ row_line form x)
+IsWrong gap form rows line why.Frame = HasNoFrame form line
+IsWrong gap form rows line why.Order = IsRefused gap form rows line row.Order
+IsWrong gap form rows line why.Span = IsRefused gap form rows line row.Span
+IsWrong gap form rows line why.Near = IsRefused gap form rows line row.Near
+IsWrong gap form rows line why.Receivers = IsRefused gap form rows line row.Receivers
+IsWrong gap form rows line why.NotGreatest = IsRefused gap form rows line row.NotGreatest
+IsWrong gap form rows line why.Header = ⊥
+IsWrong gap form rows line why.After = ⊥
+IsWrong gap form rows line why.Read = ⊥
+IsWrong gap form rows line why.TooLong = ⊥
+IsWrong gap form rows line why.Memory = ⊥
 
 -- ---- lines that are in order
 
@@ -96,7 +94,7 @@ StopsIn lines line more = (more ≡ []) × (BeginBook lines ⊎ (AreBook lines �
 -- book, since a read failed or the limit was passed. `Memory`: a book's text may go on after the
 -- lines, and at most `most_ahead` bytes came after `line`. `Ending`: the input ended before a
 -- book's last line did. `Ending` or a row's cause: `line`, with its LF, is wrong after the rows
--- (`IsWrongAfter`).
+-- (`IsWrong`).
 abbrev pub IsWrongRest : List (List ℕ) → List ℕ → List ℕ → Ending → BookCause → Type 0
 IsWrongRest lines line more ending why.Header =
     (lines ≡ []) × ((v : Version) → IsVersion v → line ≢ header_of v) × EndsLine more
@@ -107,7 +105,7 @@ IsWrongRest lines line more ending why.Memory = BeginBook lines × (length more 
 IsWrongRest lines line more ending cause =
     ((cause ≡ why.Ending) × BeginBook lines × (more ≡ []) × (ending ≡ how.End))
     ⊎ ((v : Version) × (rows : List Row) × AreOfRows v rows lines × EndsLine more
-    × IsWrongAfter v rows line cause)
+    × IsWrong (millis_of (gap_of v)) (form_of v) rows line cause)
 
 -- A book file of which this text was got, with this ending, has this fault: the text is some lines
 -- that have no fault, and then `line`, which has no LF in it, and `more`, and these two are wrong.

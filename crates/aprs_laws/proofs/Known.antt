@@ -169,10 +169,3 @@ plain_known test S = known_on test [] S None (λ s m. absurd m)
 pub some_known : (test : Key → Bool) (S : List Heard)
     → (known : Option Heard) × LastKnown S (Passes test) known
 some_known test S = (known_of test None S, plain_known test S)
-
--- the rows of the book of S decide what is last known of S
-pub book_knows : (gap : ℕ) (test : Key → Bool) (S : List Heard) (rows : List Row)
-    → BookOf gap S rows → LastKnown S (Passes test) (known_of test None (map greatest_of rows))
-book_knows gap test S rows b =
-    set_knows gap S rows (Passes test) (known_of test None (map greatest_of rows)) b
-    (plain_known test (map greatest_of rows))

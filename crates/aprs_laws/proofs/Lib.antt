@@ -14,7 +14,6 @@ pub mod Views
 pub mod Pushes
 pub mod Streams
 pub mod NearRows
-pub mod Interleaves
 pub mod RunRows
 pub mod TakenSteps
 pub mod Known

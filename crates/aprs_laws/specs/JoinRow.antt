@@ -5,7 +5,7 @@ use Rattle.std.specs.declared.cmp.Ordering.{Ordering}
 use Rattle.std.specs.declared.cmp.Ordering.TheVariants.{Less, Equal, Greater}
 use Rattle.aprs_log.specs.Reception.{Heard, bytes_cmp, heard_cmp}
 use Rattle.aprs_laws.specs.Key.{key_cmp}
-use Rattle.aprs_laws.specs.Row.{Row, row_key, last_of, row_cmp}
+use Rattle.aprs_laws.specs.Row.{Row, row_key, last_of}
 
 -- One of three values, by an ordering.
 abbrev pub choose : {A : Type 0} → Ordering → A → A → A → A
@@ -77,17 +77,6 @@ coalesce gap l (x ∷ xs) =
 abbrev pub coalesced_rows : ℕ → List Row → List Row
 coalesced_rows gap [] = []
 coalesced_rows gap (l ∷ xs) = coalesce gap l xs
-
--- x and the rows after it, in order with others, where `rest` does this for the rows after it.
-abbrev pub interleave_from : Row → List Row → (List Row → List Row) → List Row → List Row
-interleave_from x xs rest [] = x ∷ xs
-interleave_from x xs rest (y ∷ ys) =
-    choose (row_cmp y x) (y ∷ interleave_from x xs rest ys) (x ∷ rest (y ∷ ys)) (x ∷ rest (y ∷ ys))
-
--- The rows of two lists in order, those of the first before equal ones of the second.
-abbrev pub interleave : List Row → List Row → List Row
-interleave [] ys = ys
-interleave (x ∷ xs) ys = interleave_from x xs (interleave xs) ys
 
 -- The plain way to a book: one reception after another.
 abbrev pub plain_book : ℕ → List Heard → List Row

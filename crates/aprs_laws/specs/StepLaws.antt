@@ -8,7 +8,7 @@ use Rattle.aprs_laws.specs.Sound.{IsSoundRow, Sound, IsNext}
 use Rattle.aprs_laws.specs.Joining.{Joined}
 use Rattle.aprs_laws.specs.Taken.{Step, Take, Merge, sets_after}
 use Rattle.aprs_laws.specs.Inserted.{insert_heard, FitsInPlace, fits_in_place}
-use Rattle.aprs_laws.specs.JoinRow.{single, IsNear, join_row, merge, interleave, coalesced_rows, plain_book}
+use Rattle.aprs_laws.specs.JoinRow.{single, IsNear, join_row, merge, plain_book}
 
 -- Receptions that join one after another give their book.
 abbrev pub PlainBookIsBook : ℕ → Type 0
@@ -53,13 +53,6 @@ AtMostTwoAreNear gap =
     (p : List Row) (s : Heard) (x y z : Row) → Sound gap p → x ∈ p → y ∈ p → z ∈ p
     → IsNear gap x (single s) → IsNear gap y (single s) → IsNear gap z (single s)
     → (x ≡ y) ⊎ (y ≡ z) ⊎ (x ≡ z)
-
--- The rows of two books, put in order, where each joins the one before it if they are near, are the
--- joined rows of both.
-abbrev pub OnePassJoins : ℕ → Type 0
-OnePassJoins gap =
-    (a b : List Row) → Sound gap a → Sound gap b
-    → Joined gap a b (coalesced_rows gap (interleave a b))
 
 -- The rows at all places after one more step.
 abbrev pub rows_after_step : ℕ → Step → (ℕ → List Row) → ℕ → List Row

@@ -38,8 +38,8 @@ pub use laws::key_law::keys_are_of_parts;
 pub use laws::last_known_law::{books_tell_last_known, books_tell_spans};
 pub use laws::order_law::{equals_are_identical, orders_are_total};
 pub use laws::step_law::{
-    last_row_decides, one_more_joins, one_pass_joins, reception_is_inserted,
-    rows_in_order_coalesce, steps_give_books, two_rows_are_near_at_most,
+    last_row_decides, one_more_joins, reception_is_inserted, rows_in_order_coalesce,
+    steps_give_books, two_rows_are_near_at_most,
 };
 pub use laws::unit_law::units_can_change;
 pub use merge_fault::MergeFault;

@@ -12,7 +12,7 @@ ghost use Rattle.aprs_listing.specs.Listing as Spec;
 use crate::field::Field;
 use crate::heard_line::put_heard;
 use crate::line::{put_line, put_text_line};
-use aprs_book::{Book, Heard, Memory, MessageRow, MessageState, Named, Overview, Station};
+use aprs_book::{Heard, Memory, MessageRow, MessageState, Named, Overview, Station};
 use aprs_io::{Counted, Outlet, WriteFault};
 use std::alloc::{Allocator, Global};
 use std::io::Write;
@@ -42,23 +42,6 @@ impl<'a, A: Allocator> Drop for Views<'a, A> {
 }
 
 impl<'a, A: Allocator + Copy> Views<'a, A> {
-    /// What is listed of the book: its stations, its objects and items, and its messages.
-    /// `Memory` where an allocation failed for it.
-    pub fn of(book: &'a Book<A>) -> Result<Views<'a, A>, Memory>
-        ensures stations { IfOk result (λ v.
-            ReportsStations (millis_of book.now.gap) book.now.rows v.stations.items) }
-        ensures named { IfOk result (λ v.
-            ReportsNamed (millis_of book.now.gap) book.now.rows v.named.items) }
-        ensures messages { IfOk result (λ v.
-            ReportsMessages (millis_of book.now.gap) book.now.rows v.messages.items) }
-    {
-        Ok(Views {
-            stations: book.stations()?,
-            named: book.objects()?,
-            messages: book.messages()?,
-        })
-    }
-
     /// What is listed of rows in a store, from the overview of them: their stations, their
     /// objects and items, and their messages. `Memory` where an allocation failed for it.
     pub fn of_rows(rows: &'a Overview<'_, '_, A>) -> Result<Views<'a, A>, Memory>

@@ -5,6 +5,7 @@ pub mod EntryOrder
 pub mod Groups
 pub mod Heads
 pub mod Infos
+pub mod JoinedNames
 pub mod Judgements
 pub mod NameTexts
 pub mod Orders

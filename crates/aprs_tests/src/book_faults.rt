@@ -222,6 +222,64 @@ fn rows_are_near_or_out_of_order(rt: HostRuntime) -> Result<(), Fail> {
     Ok(())
 }
 
+/// Rows after `ROW`, each with the fault of the text of both. A row is refused for the first of
+/// these that it doesn't meet. `Frame`: its frame is a UI frame. `Order`: it comes after the last
+/// row, by key and first moment. `Span`: it doesn't end before it begins. `Near`: if the last row
+/// has the same key, it begins more than the gap after that row ends. `Receivers`: its receivers
+/// ascend, and the greatest reception's receiver is one of them. `NotGreatest`: if it has one
+/// moment alone, that receiver is the last of them.
+const NEXT_ROWS: &[(&[u8], Option<(u64, &str)>)] = &[
+    (
+        b"T 2024-05-01T12:00:00.000Z 2024-05-01T12:00:00.000Z RX1 RX1 \
+        82a0a4a64040e09c60868298986f03f03e4869",
+        Some((3, "Order")),
+    ),
+    (
+        b"T 2024-05-01T12:00:30.000Z 2024-05-01T12:00:29.999Z RX1 RX1 \
+        82a0a4a64040e09c60868298986f03f03e4869",
+        Some((3, "Span")),
+    ),
+    (
+        b"T 2024-05-01T12:00:30.000Z 2024-05-01T12:00:30.000Z RX2,RX1 RX1 \
+        82a0a4a64040e09c60868298986f03f03e4869",
+        Some((3, "Near")),
+    ),
+    (
+        b"T 2024-05-01T12:00:30.001Z 2024-05-01T12:00:30.001Z RX2,RX1 RX1 \
+        82a0a4a64040e09c60868298986f03f03e4869",
+        Some((3, "Receivers")),
+    ),
+    (
+        b"T 2024-05-01T12:00:30.001Z 2024-05-01T12:00:30.001Z RX1,RX2 RX3 \
+        82a0a4a64040e09c60868298986f03f03e4869",
+        Some((3, "Receivers")),
+    ),
+    (
+        b"T 2024-05-01T12:00:30.001Z 2024-05-01T12:00:30.001Z RX1,RX2 RX1 \
+        82a0a4a64040e09c60868298986f03f03e4869",
+        Some((3, "NotGreatest")),
+    ),
+    (
+        b"T 2024-05-01T12:00:30.001Z 2024-05-01T12:00:30.001Z RX1,RX2 RX2 \
+        82a0a4a64040e09c60868298986f03f03e4869",
+        None,
+    ),
+    (
+        b"T 2024-05-01T12:00:30.001Z 2024-05-01T12:00:30.002Z RX1,RX2 RX1 \
+        82a0a4a64040e09c60868298986f03f03e4869",
+        None,
+    ),
+];
+
+// Each row misses what it is refused for, and what comes after that in the order of judging.
+#[test]
+fn rows_are_refused_for_the_first_that_they_miss(rt: HostRuntime) -> Result<(), Fail> {
+    for &(line, fault) in NEXT_ROWS {
+        assert!(rt; has_fault(rt.alloc(), &[ROW, line], b"END 2\n", fault)?);
+    }
+    Ok(())
+}
+
 // The fault is of the line in which the text ends.
 #[test]
 fn texts_cut_short(rt: HostRuntime) {

@@ -1,5 +1,5 @@
 //! What is last known, by the bytes of what it is known of.
-ghost use Rattle.std.specs.Prelude.{◌≡◌, ℕ, List, [], Some, IsOk, IfOk, OnOk, OnErr, cond};
+ghost use Rattle.std.specs.Prelude.{◌≡◌, ℕ, List, [], Some, IsOk, OnOk, OnErr, cond};
 ghost use Rattle.std.specs.Option.{option_copied};
 ghost use Rattle.std.specs.Ordering.{is_eq};
 ghost use Rattle.aprs_log.specs.Reception.{bytes_cmp};
@@ -10,7 +10,6 @@ ghost use Rattle.aprs_book.specs.Known as Spec;
 
 use crate::Memory;
 use crate::known::reception_view::ReceptionView;
-use crate::rows::keyed::copy_of;
 use aprs_log::Reception;
 use std::alloc::{Allocator, Global};
 use std::collections::BTreeMap;
@@ -60,7 +59,9 @@ impl<A: Allocator + Copy> Index<A> {
         if self.map.contains_key(bytes) {
             return Ok(());
         }
-        let key = copy_of(self.alloc, bytes)?;
+        let Ok(key) = Vec::from_slice(self.alloc, bytes) else {
+            return Err(Memory);
+        };
         if self.map.insert(key, None).is_err() {
             return Err(Memory);
         }
@@ -116,34 +117,6 @@ impl<A: Allocator + Copy> Index<A> {
         ensures ascending { Ordered Spec.IsEntryBefore self.now }
     {
         self.map.iter()
-    }
-
-    /// What either knows. Where both know a reception at the same bytes, it is the greater one.
-    pub(crate) fn merge(&self, other: &Index<A>) -> Result<Index<A>, Memory>
-        ensures { IfOk result (λ both. (q : List ℕ)
-            → Spec.known_at q both
-            ≡ Spec.known_both (Spec.known_at q self.now) (Spec.known_at q other.now)) }
-    {
-        let mut both = Index::new(self.alloc);
-        both.add(self)?;
-        both.add(other)?;
-        Ok(both)
-    }
-
-    /// Adds what the other knows. Where both know a reception at the same bytes, the greater one
-    /// is kept. After `Memory` a part of it may have been added.
-    fn add(&mut self, other: &Index<A>) -> Result<(), Memory>
-        ensures { OnOk result ((q : List ℕ)
-            → Spec.known_at q self.new
-            ≡ Spec.known_both (Spec.known_at q self.old) (Spec.known_at q other.now)) }
-    {
-        for (bytes, known) in other.map.iter() {
-            if let Some(x) = known {
-                self.place(bytes.as_slice())?;
-                self.note(bytes.as_slice(), &ReceptionView::of(x));
-            }
-        }
-        Ok(())
     }
 }
 

@@ -1,5 +1,5 @@
 //! What is last known of each station, object and item.
-ghost use Rattle.std.specs.Prelude.{◌≡◌, ℕ, List, [], IsOk, IfOk, OnOk, OnErr};
+ghost use Rattle.std.specs.Prelude.{◌≡◌, [], IsOk, OnOk, OnErr};
 ghost use Rattle.std.specs.Option.{option_copied};
 ghost use Rattle.aprs_book.specs.Known as Spec;
 
@@ -161,20 +161,5 @@ impl<A: Allocator + Copy> Indexes<A> {
             Subject::Item(name) => self.items.take(name, x),
             Subject::Nothing => Ok(()),
         }
-    }
-
-    /// What either knows. Where both know a reception of the same subject, it is the greater one.
-    pub(crate) fn merge(&self, other: &Indexes<A>) -> Result<Indexes<A>, Memory>
-        ensures { IfOk result (λ both. (topic : Spec.Topic) (bytes : List ℕ)
-            → Spec.known_at bytes (Spec.index_of topic both)
-            ≡ Spec.known_both (Spec.known_at bytes (Spec.index_of topic self.now))
-            (Spec.known_at bytes (Spec.index_of topic other.now))) }
-    {
-        Ok(Indexes {
-            positions: self.positions.merge(&other.positions)?,
-            statuses: self.statuses.merge(&other.statuses)?,
-            objects: self.objects.merge(&other.objects)?,
-            items: self.items.merge(&other.items)?,
-        })
     }
 }

@@ -5,18 +5,15 @@ ghost use Rattle.std.specs.declared.cmp.Ordering.TheVariants.{Less, Equal, Great
 ghost use Rattle.aprs_log.specs.Reception.{bytes_cmp};
 ghost use Rattle.aprs_laws.specs.Lists.{◌∈◌, Ordered};
 ghost use Rattle.aprs_laws.specs.Order.{IsBelow};
-ghost use Rattle.aprs_laws.specs.Key.{key_of, key_cmp};
 ghost use Rattle.aprs_laws.specs.Row.{row_cmp};
-ghost use Rattle.aprs_laws.specs.JoinRow.{single, combine, place};
+ghost use Rattle.aprs_laws.specs.JoinRow.{single, combine};
 ghost use Rattle.aprs_laws.specs.Inserted.{side, grow_row};
-ghost use Rattle.aprs_book.specs.Keyed.{HaveSameCallsigns};
 ghost use Rattle.aprs_rows.specs.Refusal.{is_too_near};
 
 use crate::rows::millis::Millis;
 use crate::{Memory, Receivers, Row, RowParts};
-use aprs_ax25::Frame;
 use aprs_log::{Moment, Receiver, Reception};
-use aprs_rows::keep_greater;
+use aprs_rows::{RowView, keep_greater, order_of_keys};
 use std::alloc::{Allocator, Global};
 use std::boxed::Box;
 use std::cmp::Ordering;
@@ -96,6 +93,15 @@ impl<A: Allocator + Copy> KeptRow<A> {
         KeptRow::new(alloc, parts.first, receivers, parts.greatest())
     }
 
+    /// A row of a store, whose receivers have to ascend strictly, in memory of its own.
+    pub(crate) fn of_view(alloc: A, row: &RowView<'_>) -> Result<KeptRow<A>, Memory>
+        requires { Ordered (IsBelow bytes_cmp) row.now.receivers }
+        ensures { IfOk result (λ kept. kept ≡ row.now) }
+    {
+        let receivers = Receivers::of_row(alloc, row)?;
+        KeptRow::new(alloc, row.first(), receivers, row.greatest())
+    }
+
     /// Where this row lies, seen from a reception: by key first; of one key it is `Less` where it
     /// ends more than the gap before the reception, `Greater` where it begins more than the gap
     /// after the reception, and `Equal` where they are near.
@@ -103,7 +109,7 @@ impl<A: Allocator + Copy> KeptRow<A> {
         ensures { result ≡ side gap self.now x.now }
     {
         let greatest = self.greatest();
-        match key_order(greatest.frame(), x.frame()) {
+        match order_of_keys(greatest.frame(), x.frame()) {
             Ordering::Equal => {
                 let moment = x.moment();
                 moment_order(gap, self.first(), greatest.moment(), moment, moment)
@@ -112,40 +118,11 @@ impl<A: Allocator + Copy> KeptRow<A> {
         }
     }
 
-    /// Where this row lies, seen from another: by key first; of one key it is `Less` where it ends
-    /// more than the gap before the other begins, `Greater` where it begins more than the gap
-    /// after the other ends, and `Equal` where they are near.
-    pub(crate) fn place(&self, gap: Millis, other: &KeptRow<A>) -> Ordering
-        ensures { result ≡ place gap self.now other.now }
-    {
-        let (ours, theirs) = (self.greatest(), other.greatest());
-        match key_order(ours.frame(), theirs.frame()) {
-            Ordering::Equal => moment_order(
-                gap,
-                self.first(),
-                ours.moment(),
-                other.first(),
-                theirs.moment(),
-            ),
-            unequal => unequal,
-        }
-    }
-
-    /// The order of rows in a book: by key, then first moment.
-    pub(crate) fn order(&self, other: &KeptRow<A>) -> Ordering
-        ensures { result ≡ row_cmp self.now other.now }
-    {
-        match key_order(self.greatest().frame(), other.greatest().frame()) {
-            Ordering::Equal => self.first().cmp(&other.first()),
-            unequal => unequal,
-        }
-    }
-
     /// Whether this row comes before a row of these parts, by key, then first moment.
     pub(crate) fn comes_before(&self, parts: &RowParts<A>) -> bool
         ensures { result ≡ is_lt (row_cmp self.now parts.now) }
     {
-        match key_order(self.greatest().frame(), &parts.frame) {
+        match order_of_keys(self.greatest().frame(), &parts.frame) {
             Ordering::Equal => self.first() < parts.first,
             unequal => unequal.is_lt(),
         }
@@ -157,7 +134,7 @@ impl<A: Allocator + Copy> KeptRow<A> {
         ensures { result ≡ is_too_near gap self.now parts.now }
     {
         let greatest = self.greatest();
-        key_order(greatest.frame(), &parts.frame).is_eq()
+        order_of_keys(greatest.frame(), &parts.frame).is_eq()
             && parts.first.millis() <= greatest.moment().millis() + gap.get()
     }
 
@@ -174,32 +151,6 @@ impl<A: Allocator + Copy> KeptRow<A> {
         sent.first = earlier(sent.first, x.moment());
         keep_greater(&mut sent.greatest, x);
         Ok(())
-    }
-
-    /// Adds a near row to this one: lists the receivers of both, and keeps the earlier first
-    /// moment and the greater reception. After `Memory` this row is as before.
-    pub(crate) fn absorb(&mut self, other: &KeptRow<A>) -> Result<(), Memory>
-        ensures { OnOk result (self.new ≡ combine self.old other.now) }
-    {
-        let receivers = self.receivers().unite(other.receivers())?;
-        let sent = self.sent.as_mut();
-        sent.receivers = receivers;
-        sent.first = earlier(sent.first, other.first());
-        keep_greater(&mut sent.greatest, other.greatest());
-        Ok(())
-    }
-
-    /// A copy of this row, in memory of its own.
-    pub(crate) fn duplicate(&self) -> Result<KeptRow<A>, Memory>
-        ensures { IfOk result (λ copy. copy ≡ self.now) }
-    {
-        let receivers = self.receivers().duplicate()?;
-        KeptRow::new(
-            self.allocator(),
-            self.first(),
-            receivers,
-            self.greatest().copy(),
-        )
     }
 
     /// The one row that this row, the row `next` and a reception that is near to both become, in
@@ -233,6 +184,13 @@ impl<A: Allocator + Copy> KeptRow<A> {
         self.sent.as_ref().first
     }
 
+    /// The names of the receivers that heard the transmission.
+    pub(crate) fn names(&self) -> &[Receiver]
+        ensures { result.now ≡ self.now.receivers }
+    {
+        self.receivers().as_slice()
+    }
+
     /// The receivers that heard the transmission.
     fn receivers(&self) -> &Receivers<A>
         ensures { result.now ≡ self.now.receivers }
@@ -258,36 +216,6 @@ impl<A: Allocator + Copy> KeptRow<A> {
     {
         Row::new(self.first(), self.receivers().as_slice(), self.greatest())
     }
-}
-
-/// The order of two frames by their keys: by source, destination, then information. Where the
-/// address octets are equal, no callsign is read.
-#[tactic(auto, unfolding(aprs_laws::specs::Key::key_of, aprs_laws::specs::Key::key_cmp))]
-fn key_order(a: &Frame, b: &Frame) -> Ordering
-    ensures { result ≡ key_cmp (key_of a.now) (key_of b.now) }
-{
-    if have_same_calls(a.bytes(), b.bytes()) {
-        return a.info().cmp(b.info());
-    }
-    match a.source().cmp(&b.source()) {
-        Ordering::Equal => match a.destination().cmp(&b.destination()) {
-            Ordering::Equal => a.info().cmp(b.info()),
-            unequal => unequal,
-        },
-        unequal => unequal,
-    }
-}
-
-/// How many octets the destination and the source of a frame have.
-const CALLS: usize = 14;
-
-/// Whether two frames, given by their bytes, have equal octets for destination and source, as most
-/// copies of one transmission have. Then both callsigns are the same. `false` says nothing of
-/// these: the octets hold other bits too.
-fn have_same_calls(a: &[u8], b: &[u8]) -> bool
-    ensures { result ≡ true → HaveSameCallsigns a.now b.now }
-{
-    a.len() >= CALLS && b.len() >= CALLS && a[..CALLS] == b[..CALLS]
 }
 
 /// Where the span from `first` to `last` lies, seen from the other span: `Less` where it ends more

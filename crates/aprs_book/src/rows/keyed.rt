@@ -1,16 +1,11 @@
 //! The rows of a book by the heads of their keys.
 ghost use Rattle.std.specs.Prelude.{◌≡◌, ◌+◌, [], ◌∷◌, ◌++◌, length, true, IsOk, IfOk, OnOk, OnErr};
-ghost use Rattle.aprs_book.specs.Keyed.{LastKeyIsUpTo, IsEndOf, rows_of};
+ghost use Rattle.aprs_book.specs.Keyed.{LastKeyIsUpTo, IsEndOf};
 ghost use Rattle.aprs_rows.specs.Refusal.{refusal};
-ghost use Rattle.aprs_laws.specs.JoinRow.{interleave, coalesced_rows};
-ghost use Rattle.aprs_log.specs.Reception.{bytes_cmp};
-ghost use Rattle.aprs_laws.specs.Lists.{Ordered};
-ghost use Rattle.aprs_laws.specs.Order.{IsBelow};
 ghost use Rattle.aprs_laws.specs.Inserted.{insert_heard, fits_in_place};
 ghost use Rattle.aprs_laws.specs.Sound.{Sound};
 
 use crate::rows::kept_row::KeptRow;
-use crate::rows::merging_keys::{put_both, put_joined};
 use crate::rows::millis::Millis;
 use crate::rows::push::first_cause;
 use crate::rows::slot::put;
@@ -19,7 +14,6 @@ use crate::{Memory, RowCause, RowParts};
 use aprs_log::Reception;
 use aprs_rows::{Head, reserve_one};
 use std::alloc::{Allocator, Global};
-use std::cmp::Ordering;
 use std::collections::BTreeMap;
 use std::marker::Model;
 
@@ -88,50 +82,6 @@ impl<A: Allocator + Copy> KeyedRows<A> {
         Walk::of(&[], self.map.values())
     }
 
-    /// The rows of both in order. Each row that is near, under this gap, to the row before it is
-    /// joined to that row. This goes for rows of one side too: under a wider gap they may have
-    /// come near. One pass over the heads of both.
-    pub(crate) fn merge(&self, gap: Millis, other: &KeyedRows<A>) -> Result<KeyedRows<A>, Memory>
-        ensures { IfOk result (λ both. both ≡ coalesced_rows gap (interleave self.now other.now)) }
-    {
-        let mut map = BTreeMap::new(self.alloc);
-        let mut ours = self.map.iter();
-        let mut theirs = other.map.iter();
-        let mut our = ours.next();
-        let mut their = theirs.next();
-        loop {
-            match (our, their) {
-                (None, None) => break,
-                (Some((head, x)), None) => {
-                    put_joined(self.alloc, gap, &mut map, head, x.as_slice())?;
-                    our = ours.next();
-                }
-                (None, Some((head, y))) => {
-                    put_joined(self.alloc, gap, &mut map, head, y.as_slice())?;
-                    their = theirs.next();
-                }
-                (Some((head, x)), Some((other_head, y))) => match head.cmp(other_head) {
-                    Ordering::Less => {
-                        put_joined(self.alloc, gap, &mut map, head, x.as_slice())?;
-                        our = ours.next();
-                    }
-                    Ordering::Equal => {
-                        put_both(self.alloc, gap, &mut map, head, x.as_slice(), y.as_slice())?;
-                        our = ours.next();
-                        their = theirs.next();
-                    }
-                    Ordering::Greater => {
-                        put_joined(self.alloc, gap, &mut map, other_head, y.as_slice())?;
-                        their = theirs.next();
-                    }
-                },
-            }
-        }
-        let count = number_of_rows(&map)?;
-        let alloc = self.alloc;
-        Ok(KeyedRows { map, count, alloc })
-    }
-
     /// The rows of the last head, with which all rows end; or no rows, where there are none at
     /// all.
     fn last_rows(&self) -> &[KeptRow<A>]
@@ -145,7 +95,7 @@ impl<A: Allocator + Copy> KeyedRows<A> {
 
     /// Puts a row after all others. The key of the last of these must not be above its key. What
     /// needs memory is made before the first change: after `Memory` the rows are as before.
-    fn append(&mut self, row: KeptRow<A>) -> Result<(), Memory>
+    pub(crate) fn append(&mut self, row: KeptRow<A>) -> Result<(), Memory>
         requires { LastKeyIsUpTo row self.old }
         ensures added { OnOk result (self.new ≡ self.old ++ row ∷ []) }
         ensures unchanged { OnErr result (self.new ≡ self.old) }
@@ -172,18 +122,6 @@ impl<A: Allocator + Copy> KeyedRows<A> {
         ensures { result ≡ refusal gap self.now parts.now }
     {
         first_cause(gap, self.last_rows(), parts)
-    }
-
-    /// Adds a row of these parts after all others. Its receivers have to ascend strictly, and the
-    /// key of the last row must not be above its key. After `Memory` the rows are as before.
-    pub(crate) fn push(&mut self, parts: &RowParts<A>) -> Result<(), Memory>
-        requires ascending { Ordered (IsBelow bytes_cmp) parts.now.receivers }
-        requires last { LastKeyIsUpTo parts.now self.old }
-        ensures added { OnOk result (self.new ≡ self.old ++ parts.now ∷ []) }
-        ensures unchanged { OnErr result (self.new ≡ self.old) }
-    {
-        let row = KeptRow::of(self.alloc, parts)?;
-        self.append(row)
     }
 
     /// Adds a reception to sound rows: it becomes a new row in its place, or a near row grows, or
@@ -232,35 +170,4 @@ fn push_one<A: Allocator + Copy>(
     }
     *count = more;
     Ok(())
-}
-
-/// The number of the rows of all keys, or `Memory` where it is too great for a `usize`.
-fn number_of_rows<A: Allocator + Copy>(
-    map: &BTreeMap<Head, Vec<KeptRow<A>, A>, A>,
-) -> Result<usize, Memory>
-    ensures { IfOk result (λ n.
-        n ≡ length (rows_of (λ v. v.items) map.now.entries)) }
-{
-    let mut count: usize = 0;
-    for rows in map.values() {
-        let Some(more) = count.checked_add(rows.len()) else {
-            return Err(Memory);
-        };
-        count = more;
-    }
-    Ok(count)
-}
-
-/// The same bytes, in memory of their own.
-pub(crate) fn copy_of<A: Allocator + Copy>(alloc: A, bytes: &[u8]) -> Result<Vec<u8, A>, Memory>
-    ensures { IfOk result (λ copy. copy.items ≡ bytes.now) }
-{
-    let mut copy = Vec::new(alloc);
-    if copy.reserve_exact(bytes.len()).is_err() {
-        return Err(Memory);
-    }
-    if copy.extend_from_slice(bytes).is_err() {
-        return Err(Memory);
-    }
-    Ok(copy)
 }

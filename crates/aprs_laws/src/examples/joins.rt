@@ -2,7 +2,7 @@
 ghost use Rattle.std.specs.Prelude.{◌≡◌, [], ◌∷◌};
 ghost use Rattle.aprs_log.specs.Reception.{bytes_cmp};
 ghost use Rattle.aprs_laws.specs.Joining.{JoinLaws, AreAny, IsGreaterOf, IsAny, IsUnited, Joined, FoldsTo};
-ghost use Rattle.aprs_laws.specs.JoinRow.{interleave, coalesced_rows};
+ghost use Rattle.aprs_laws.specs.JoinRow.{coalesced_rows};
 ghost use Rattle.aprs_laws.specs.Merged.{ascending_union};
 ghost use Rattle.aprs_laws.specs.Examples.{half_minute, rx1, rx2, by_rx1, early, near_row, early_row, late_row, close_row, TakesFirst};
 
@@ -27,7 +27,7 @@ pub fn joins_take_both()
 /// those of both side by side.
 pub fn joined_books_are_books()
     ensures joined { Joined half_minute (early_row ∷ []) (close_row ∷ []) (near_row ∷ []) }
-    ensures one_pass { coalesced_rows half_minute (interleave (early_row ∷ []) (close_row ∷ []))
+    ensures one_pass { coalesced_rows half_minute (early_row ∷ close_row ∷ [])
         ≡ near_row ∷ [] }
     ensures misses_side_by_side { Joined half_minute (early_row ∷ []) (close_row ∷ [])
         (early_row ∷ close_row ∷ []) → ⊥ }

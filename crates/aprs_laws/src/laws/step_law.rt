@@ -30,11 +30,6 @@ pub fn two_rows_are_near_at_most()
     ensures { (gap : ℕ) → Spec.AtMostTwoAreNear gap }
 {}
 
-/// One pass over the rows of two books, put in order, gives the rows of the merged book.
-pub fn one_pass_joins()
-    ensures { (gap : ℕ) → 0 < gap → Spec.OnePassJoins gap }
-{}
-
 /// After any steps on empty books, which take receptions or merge one place's book into another's,
 /// each place has the book of the receptions that it took. So two places that took the same ones
 /// have equal books.

@@ -11,6 +11,8 @@ ghost use Rattle.aprs_laws.proofs.Orders.{bytes_total, bytes_exact};
 ghost use Rattle.aprs_laws.proofs.Joins.{receivers_laws};
 
 use crate::joining::kept_names::KeptNames;
+use crate::row::names::{cut_name, read_name};
+use crate::row::row_view::RowView;
 use crate::{Join, Memory};
 use aprs_log::Receiver;
 use std::alloc::{Allocator, Global};
@@ -106,6 +108,23 @@ impl<A: Allocator + Copy> Receivers<A> {
         copy_onto(&mut names, ascending);
         Ok(Receivers {
             names: KeptNames::Many(names),
+        })
+    }
+
+    /// The receivers of a row, which have to ascend strictly, in memory of their own. For the
+    /// crates of this repository.
+    pub fn of_row(alloc: A, row: &RowView<'_>) -> Result<Receivers<A>, Memory>
+        requires { Ordered (IsBelow bytes_cmp) row.now.receivers }
+        ensures { IfOk result (λ names. names ≡ row.now.receivers) }
+    {
+        let text = row.receivers();
+        if cut_name(text).is_none() {
+            return Ok(Receivers {
+                names: KeptNames::One(alloc, read_name(text)),
+            });
+        }
+        Ok(Receivers {
+            names: KeptNames::Many(row.receiver_names(alloc)?),
         })
     }
 

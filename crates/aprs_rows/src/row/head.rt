@@ -56,6 +56,13 @@ pub(crate) fn key_order(head: Head, info: &[u8], other: Head, other_info: &[u8])
     }
 }
 
+/// The order of the keys of two frames: by source, destination, then information. Takes no memory.
+pub fn order_of_keys(a: &Frame, b: &Frame) -> Ordering
+    ensures { result ≡ key_cmp (key_of a.now) (key_of b.now) }
+{
+    key_order(Head::of_frame(a), a.info(), Head::of_frame(b), b.info())
+}
+
 /// The number of the callsign in the seven octets of an address: base 256, of the six letters and
 /// then the SSID. In the octets each letter is shifted left by one bit, and the SSID is bits 1 to 4
 /// of the last.

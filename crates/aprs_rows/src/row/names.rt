@@ -1,12 +1,14 @@
 //! Names of receivers in texts, gathered and united.
-ghost use Rattle.std.specs.Prelude.{◌≡◌, ◌<◌, ◌++◌, ◌∷◌, [], length, map, IfNone, IfSome, OnOk};
-ghost use Rattle.std.specs.List.{join_with_byte};
+ghost use Rattle.std.specs.Prelude.{◌≡◌, ◌<◌, ◌++◌, ◌∷◌, [], All, length, map, IfNone, IfSome, OnOk};
+ghost use Rattle.std.specs.List.{join_with_byte, flat_map};
+ghost use Rattle.aprs_log.specs.Receiver.{IsName};
 ghost use Rattle.aprs_log.specs.Reception.{bytes_cmp};
 ghost use Rattle.aprs_laws.specs.JoinRow.{union};
 ghost use Rattle.aprs_rows.specs.Names.{names_in};
 ghost use Rattle.aprs_rows.specs.Sorted.{next_text, ascending_text};
 
 use crate::Memory;
+use aprs_log::Receiver;
 use memchr::memchr;
 use std::alloc::Allocator;
 
@@ -20,6 +22,17 @@ pub(crate) fn cut_name(text: &[u8]) -> Option<(&[u8], &[u8])>
     match memchr(b',', text) {
         Some(i) => Some((&text[..i], &text[i + 1..])),
         None => None,
+    }
+}
+
+/// The receiver of this name. Requires that the bytes are a name, and so can't fail.
+pub(crate) fn read_name(bytes: &[u8]) -> Receiver
+    requires { IsName bytes.now }
+    ensures { result ≡ bytes.now }
+{
+    match Receiver::parse(bytes) {
+        Some(receiver) => receiver,
+        None => unreachable!(),
     }
 }
 
@@ -90,6 +103,33 @@ fn put_next<A: Allocator>(text: &mut Vec<u8, A>, before: &[u8], name: &[u8]) -> 
     }
     put(text, b",")?;
     put(text, name)
+}
+
+/// Writes names over the text, with commas between. After `Memory` a part of them may stand there.
+/// For the crates of this repository.
+pub fn put_names<A: Allocator>(text: &mut Vec<u8, A>, names: &[Receiver]) -> Result<(), Memory>
+    ensures text { OnOk result (text.new.items ≡ join_with_byte 44 names.now) }
+    ensures names { OnOk result (All IsName names.now) }
+{
+    text.clear();
+    let Some((first, others)) = names.split_first() else {
+        return Ok(());
+    };
+    put(text, first.as_bytes())?;
+    put_further_names(text, others)
+}
+
+/// Puts names after the text that is there, with a comma before each.
+fn put_further_names<A: Allocator>(text: &mut Vec<u8, A>, names: &[Receiver]) -> Result<(), Memory>
+    ensures text { OnOk result (text.new.items
+        ≡ text.old.items ++ flat_map (λ name. 44 ∷ name) names.now) }
+    ensures names { OnOk result (All IsName names.now) }
+{
+    for name in names {
+        put(text, b",")?;
+        put(text, name.as_bytes())?;
+    }
+    Ok(())
 }
 
 /// Puts bytes after the text that is there.

@@ -13,8 +13,9 @@ ghost use Rattle.aprs_rows.specs.Names.{names_in, row_of_text};
 ghost use Rattle.aprs_rows.specs.Rows.{IsRowIn, entry_row, row_bytes};
 
 use crate::Memory;
+use crate::room::reserve_one;
 use crate::row::head::{Head, key_order};
-use crate::row::names::cut_name;
+use crate::row::names::{cut_name, read_name};
 use crate::store::entry::Entry;
 use aprs_ax25::Frame;
 use aprs_log::{Moment, Receiver, Reception};
@@ -215,10 +216,7 @@ impl<'a> RowView<'a> {
     pub fn read_receiver(&self) -> Receiver
         ensures { result ≡ self.now.greatest.receiver }
     {
-        match Receiver::parse(self.receiver()) {
-            Some(receiver) => receiver,
-            None => unreachable!(),
-        }
+        read_name(self.receiver())
     }
 
     /// The frame of the greatest reception, in a place of its own. Can't fail, since a row's bytes
@@ -275,10 +273,8 @@ fn push_receiver<A: Allocator>(names: &mut Vec<Receiver, A>, name: &[u8]) -> Res
     requires { IsName name.now }
     ensures { OnOk result (names.new.items ≡ names.old.items ++ name.now ∷ []) }
 {
-    let Some(receiver) = Receiver::parse(name) else {
-        unreachable!()
-    };
-    if names.push(receiver).is_err() {
+    reserve_one(names)?;
+    if names.push(read_name(name)).is_err() {
         return Err(Memory);
     }
     Ok(())

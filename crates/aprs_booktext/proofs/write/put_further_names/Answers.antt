@@ -1,6 +1,6 @@
 use Rattle.std.proofs.Common.{◌∷◌, arith}
 use Rattle.aprs_io.proofs.Outlets.{Puts-broken, Puts-is, Puts-more}
-use Rattle.aprs_booktext.proofs.Written.{names_more}
+use Rattle.aprs_rows.proofs.JoinedNames.{more_names}
 use Rattle.aprs_booktext.proofs.write.put_further_names.Goals as goal
 
 pub returns-in_err-put-clause-puts : goal.returns-in_err-put-clause-puts
@@ -13,6 +13,6 @@ pub loop-name-preserved : goal.loop-name-preserved
 loop-name-preserved g c = record {
   puts = Puts-more (λ name. 44 ∷ name) c.args.names.now c.loop-name.name-index _ (omega arith)
       c.name-item.is c.loop-name.invariant.puts (Puts-is c.in_ok-put.ensures (cc));
-  names = names_more c.args.names.now c.loop-name.name-index _ (omega arith) c.name-item.is
+  names = more_names c.args.names.now c.loop-name.name-index _ (omega arith) c.name-item.is
       c.loop-name.invariant.names c.comma_and_name.ensures.name;
 }

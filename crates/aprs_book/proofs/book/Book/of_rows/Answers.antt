@@ -1,21 +1,89 @@
-use Rattle.std.proofs.Common.{◌≡◌, ◌∙◌, ◌∷◌, ◌++◌, [], append_assoc, ap, subst, sym}
+use Rattle.std.proofs.Common.{◌≡◌, ◌∙◌, List, ◌∷◌, ◌++◌, [], ℕ, None, append_assoc, append-nil, ap, subst, sym}
+use Rattle.aprs_log.specs.Reception.{Heard}
+use Rattle.aprs_laws.specs.BookValue.{BookValue, IsSoundBook}
 use Rattle.aprs_laws.specs.Gap.{millis_of}
+use Rattle.aprs_laws.specs.Key.{key_of}
+use Rattle.aprs_laws.specs.Row.{Row}
 use Rattle.aprs_laws.specs.Sound.{Sound}
 use Rattle.aprs_laws.proofs.Pushes.{sound_prefix}
+use Rattle.aprs_report.specs.Reader.{reading_of}
+use Rattle.aprs_rows.specs.Refusal.{refusal}
+use Rattle.aprs_rows.proofs.Refusals.{none_exactly, free_ascends}
+use Rattle.aprs_book.specs.Keyed.{LastKeyIsUpTo}
+use Rattle.aprs_book.specs.Known.{report_bytes}
+use Rattle.aprs_book.specs.Notes.{AreNotesOf}
+use Rattle.aprs_book.proofs.RefusalEnds.{none_ends_up_to}
 use Rattle.aprs_book.proofs.book.Book.of_rows.Goals as goal
 
-pub memory_of-requires : goal.memory_of-requires
-memory_of-requires g c =
-    let gap = millis_of c.loop-row.book.gap in
-    let all : Sound gap c.args.rows.now.rows =
-    subst (λ n. Sound (millis_of n) c.args.rows.now.rows) (sym c.loop-row.invariant.gap)
-    c.rows-row-items.ensures.sound.sound in
-    let whole : (c.loop-row.book.rows ++ c.in_ok-parts.parts ∷ []) ++ c.next.new.self
-    ≡ c.args.rows.now.rows =
-    append_assoc c.loop-row.book.rows (c.in_ok-parts.parts ∷ []) c.next.new.self
-    ∙ ap (λ x. c.loop-row.book.rows ++ x ∷ c.next.new.self) c.in_ok-parts.ensures
-    ∙ ap (λ xs. c.loop-row.book.rows ++ xs) (sym c.in-Some.ensures.steps)
-    ∙ c.loop-row.invariant.rows in
-    c.in-Err.ensures.sound.1
-    (sound_prefix gap (c.loop-row.book.rows ++ c.in_ok-parts.parts ∷ []) c.next.new.self
-    (subst (Sound gap) (sym whole) all))
+-- after the last row
+all_kept : (kept rest all : List Row) → rest ≡ [] → kept ++ rest ≡ all → kept ≡ all
+all_kept kept rest all none split =
+    sym (append-nil kept) ∙ ap (λ xs. kept ++ xs) (sym none) ∙ split
+
+-- the next of sound rows
+module _ (gap : ℕ) (kept old new all : List Row) (x : Row) (step : old ≡ x ∷ new)
+    (split : kept ++ old ≡ all) where
+  whole : (kept ++ x ∷ []) ++ new ≡ all
+  whole = append_assoc kept (x ∷ []) new ∙ ap (λ xs. kept ++ xs) (sym step) ∙ split
+
+  free : Sound gap all → None ≡ refusal gap kept x
+  free s =
+      let one : Sound gap (kept ++ x ∷ []) =
+      sound_prefix gap (kept ++ x ∷ []) new (subst (Sound gap) (sym whole) s) in
+      sym ((none_exactly gap kept x (sound_prefix gap kept (x ∷ []) one)).1 one)
+
+pub of_view-requires : goal.of_view-requires
+of_view-requires g c =
+    let gap = millis_of c.args.rows.now.gap in
+    free_ascends gap c.loop-row.kept c.in-Some.row
+    (free gap c.loop-row.kept c.loop-row.row-iterator c.next.new.self c.args.rows.now.rows c.in-Some.row
+    c.in-Some.ensures.steps c.loop-row.invariant.rows c.rows-row-items.ensures.sound.sound)
+
+pub append-requires : goal.append-requires
+append-requires g c =
+    let gap = millis_of c.args.rows.now.gap in
+    subst (λ (x : Row). LastKeyIsUpTo x c.loop-row.kept) (sym c.in_ok-of_view.ensures)
+    (none_ends_up_to gap c.loop-row.kept c.in-Some.row
+    (free gap c.loop-row.kept c.loop-row.row-iterator c.next.new.self c.args.rows.now.rows c.in-Some.row
+    c.in-Some.ensures.steps c.loop-row.invariant.rows c.rows-row-items.ensures.sound.sound))
+
+pub loop-row-preserved : goal.loop-row-preserved
+loop-row-preserved g c =
+    let kept = c.loop-row.kept in
+    let row = c.in-Some.row in
+    let heard = c.of_row-heard.ensures in
+    let added : c.append.new.self ≡ kept ++ row ∷ [] =
+    c.in_ok-append.ensures.added ∙ ap (λ (x : Row). kept ++ x ∷ []) c.in_ok-of_view.ensures in
+    let source = c.call.ensures ∙ c.after-sender.ensures
+    ∙ ap (λ (x : Heard). (key_of x.frame).source) heard in
+    let info = c.info.ensures ∙ ap (λ (x : Heard). (key_of x.frame).info) heard in
+    record {
+      rows = ap (λ xs. xs ++ c.next.new.self) added
+          ∙ whole (millis_of c.args.rows.now.gap) kept c.loop-row.row-iterator c.next.new.self
+          c.args.rows.now.rows row c.in-Some.ensures.steps c.loop-row.invariant.rows;
+      notes = subst (λ (xs : List Row). AreNotesOf xs c.take.new.self) (sym added)
+          (c.in_ok-take.ensures kept row c.loop-row.invariant.notes
+          (λ topic. c.of.ensures topic
+          ∙ (λ i. report_bytes topic (source i) (reading_of (info i)))) heard);
+    }
+
+pub of_kept-requires-clause-sound : goal.of_kept-requires-clause-sound
+of_kept-requires-clause-sound g c =
+    let rows = all_kept c.loop-row.kept c.loop-row.row-iterator c.args.rows.now.rows
+    c.in-None.ensures.steps.0 c.loop-row.invariant.rows in
+    subst (λ (b : BookValue). IsSoundBook b)
+    (λ i. record { gap = sym c.gap.ensures i; rows = sym rows i })
+    c.rows-row-items.ensures.sound
+
+pub of_kept-requires-clause-indexes : goal.of_kept-requires-clause-indexes
+of_kept-requires-clause-indexes g c =
+    c.in_ok-into_indexes.ensures c.loop-row.kept c.loop-row.invariant.notes
+
+pub returns : goal.returns
+returns g c =
+    c.of_kept.ensures
+    ∙ (λ i. record {
+      gap = c.gap.ensures i;
+      rows = all_kept c.loop-row.kept c.loop-row.row-iterator c.args.rows.now.rows
+          c.in-None.ensures.steps.0 c.loop-row.invariant.rows i;
+    })

@@ -1,8 +1,9 @@
 use Rattle.std.proofs.Common.{◌≡◌, ◌++◌}
+use Rattle.aprs_book.specs.Notes.{AreNotesOf}
 use Rattle.aprs_book.proofs.book.Book.of_rows.Given as goal
 
 abbrev pub invariant-loop-row : goal.invariant-loop-row
 invariant-loop-row g l = record {
-  gap : l.book.gap ≡ l.fn.rows.gap;
-  rows : l.book.rows ++ l.row-iterator ≡ l.fn.rows.rows;
+  rows : l.kept ++ l.row-iterator ≡ l.fn.rows.rows;
+  notes : AreNotesOf l.kept l.notes;
 }

@@ -1,0 +1,65 @@
+#!/usr/bin/env bash
+# Measures a call of the library that no command makes: `Book::merge` of two books in memory, as a ratio to
+# what it takes to make these of logs. Proves the program that makes the calls over the libraries of
+# `make build`, in out/ of the repository.
+# usage: bench/library.sh [ROWS]...    two books of 20,000 rows where none are asked for
+# environment: RUNS                    of how many runs the best counts (5)
+set -euo pipefail
+export LC_ALL=C
+[ $# -gt 0 ] || set -- 20000
+here=$(dirname "$(realpath "$0")")
+. "$here/timing.sh"
+work=$(mktemp -d)
+view=$(dirname "$here")/out/bench_library
+trap 'rm -rf "$work" "$view"; rmdir "$(dirname "$view")" 2> /dev/null || true' EXIT
+
+# Proves and builds the caller in a view of its own: links to the libraries and to what was proved of them.
+build_caller() {
+    local root=${here%/*} crate part
+    rm -rf "$view"
+    mkdir -p "$view/crates/bench_library"
+    cp -r "$here/library" "$view/crates/bench_library/src"
+    grep '^aprs_' "$root/crates.txt" | grep -v '_tests:' > "$view/crates.txt"
+    while IFS=: read -r crate _; do
+        mkdir -p "$view/crates/$crate/out"
+        for part in src specs proofs out/rlib; do
+            if [ -d "$root/crates/$crate/$part" ]; then
+                cp -rl "$root/crates/$crate/$part" "$view/crates/$crate/$part"
+            fi
+        done
+    done < "$view/crates.txt"
+    echo 'bench_library: aprs_book aprs_log aprs_io' >> "$view/crates.txt"
+    (cd "$view/crates/bench_library" && rt run --jobs 1 -- 0 /dev/null /dev/null) > "$work/proof" 2>&1 || {
+        cat "$work/proof" >&2
+        exit 1
+    }
+    cp "$view/crates/bench_library/out/bench_library" "$work/caller"
+}
+
+# How many more calls the one run makes than the other.
+CALLS=20
+
+merge_none() { "$@" ./caller 0 one.log other.log; }
+merge_once() { "$@" ./caller 1 one.log other.log; }
+merge_often() { "$@" ./caller $((CALLS + 1)) one.log other.log; }
+
+# measure_call ROWS: of a book of so many rows, and of the book of the same frames by other receivers.
+measure_call() {
+    python3 "$here/make_log.py" "$1" > one.log
+    sed 's/ RX/ RY/' one.log > other.log
+    take_turns merge_none merge_once merge_often
+    time_of[call]=$(((time_of[merge_often] - time_of[merge_once]) / CALLS))
+    time_row 'Book::merge, a call / its two books of logs' "$1" 0.5 call merge_none
+    memory_row 'Book::merge of two books / the two: peak memory' "$1" 1.85 merge_once merge_none
+}
+
+build_caller
+cd "$work"
+mkdir plain
+"${CC:-cc}" -O2 -Wall -Wextra -o plain/cost "$here/plain/cost.c"
+show_load 'before'
+echo
+ratio_head
+for rows; do measure_call "$rows"; done
+echo
+show_load 'after'
