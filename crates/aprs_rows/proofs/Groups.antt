@@ -1,9 +1,12 @@
 -- Rows of groups, whose texts lie one after another.
 use Rattle.std.proofs.Common.{◌≡◌, ◌∙◌, Bool, true, false, ℕ, zero, suc, ◌≤◌, List, [], ◌∷◌, ◌++◌, length, take, drop, refl, sym, ap, subst, arith}
 use Rattle.std.proofs.lemmas.List.{take_all}
-use Rattle.std.specs.Prelude.{if◌then◌else◌}
+use Rattle.std.specs.Prelude.{All, if◌then◌else◌}
+use Rattle.std.proofs.lemmas.List.Elements.{All-nil, All-cons}
 use Rattle.aprs_laws.specs.Row.{Row}
-use Rattle.aprs_rows.specs.Groups.{rows_of, AreOf}
+use Rattle.aprs_rows.specs.declared.store.group.Group.{Group}
+use Rattle.aprs_rows.specs.Groups.{rows_of, AreOf, rows_of_groups, AreGroups, group_row, text_size}
+use Rattle.aprs_rows.specs.Told.{IsTold}
 use Rattle.aprs_rows.proofs.Places.{as_many, drop_front, take_front}
 
 module _ {E : Type 0} (size : E → ℕ) (row : E → List ℕ → Row) (Fits : E → List ℕ → Type 0)
@@ -55,3 +58,12 @@ module _ {E : Type 0} (size : E → ℕ) (row : E → List ℕ → Row) (Fits : 
 pub if_true : {X : Type 0} (b : Bool) (x y : X) → b ≡ true → (if b then x else y) ≡ x
 if_true true x y e = refl
 if_true false x y e = absurd (cc)
+
+-- each row of groups is one of a store
+pub told_rows : (gs : List Group) (text : List ℕ) → AreGroups gs text
+    → All IsTold (rows_of_groups gs text)
+told_rows [] text a = All-nil IsTold
+told_rows (g ∷ gs) text a =
+    All-cons IsTold (group_row g (take (text_size g) text))
+    (rows_of_groups gs (drop (text_size g) text)) a.0.told
+    (told_rows gs (drop (text_size g) text) a.1)

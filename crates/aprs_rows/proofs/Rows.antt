@@ -16,7 +16,8 @@ use Rattle.aprs_laws.specs.Sound.{IsSoundRow}
 use Rattle.aprs_laws.proofs.Coalescing.{single_is_sound}
 use Rattle.aprs_rows.specs.declared.store.entry.Entry.{Entry}
 use Rattle.aprs_rows.specs.Names.{names_in, row_of_text}
-use Rattle.aprs_rows.specs.Rows.{AreRowsIn, AreSoundRows, bytes_of, entry_row, HasKey, info_of, IsRowIn, IsTold, row_bytes, rows_in, size_of}
+use Rattle.aprs_rows.specs.Rows.{AreRowsIn, AreSoundRows, bytes_of, entry_row, HasKey, info_of, IsRowIn, row_bytes, rows_in, size_of}
+use Rattle.aprs_rows.specs.Told.{IsTold}
 use Rattle.aprs_rows.proofs.NameTexts.{name_alone}
 use Rattle.aprs_rows.proofs.Places.{part_after, part_stays}
 

@@ -22,6 +22,7 @@ use Rattle.aprs_rows.specs.declared.store.group.Group.{Group}
 use Rattle.aprs_rows.specs.declared.store.sweep.Open.{Open}
 use Rattle.aprs_rows.specs.Groups.{names_or, group_row, IsGroup}
 use Rattle.aprs_rows.specs.Names.{names_in}
+use Rattle.aprs_rows.specs.Told.{IsTold}
 use Rattle.aprs_rows.specs.Sweep.{AreGathered, gathered_names, HasNames, open_row, open_text}
 use Rattle.aprs_rows.proofs.NameTexts.{names_joined}
 
@@ -128,7 +129,7 @@ all_names : (o : Open) (names : List (Bor (List ℕ))) → AreGathered o names
 all_names o names a = by_test o.is_alone where
   by_test : (b : Bool)
       → All IsName (gathered_names names ++ (if b then o.greatest.receivers else []))
-  by_test true = all_append (gathered_names names) o.greatest.receivers a.each a.own.each
+  by_test true = all_append (gathered_names names) o.greatest.receivers a.each a.own.told.names_are
   by_test false = subst (All IsName) (sym (append-nil (gathered_names names))) a.each
 
 -- What joining a row makes of the open ones.
@@ -158,7 +159,7 @@ joins_open o p names most more x own a h e f own_is some first greatest alone ha
       gathered_are = record {
         own = has;
         each = subst (All IsName) (sym all)
-            (all_append (gathered_names names ++ extra) x.receivers (all_names o names a) h.each);
+            (all_append (gathered_names names ++ extra) x.receivers (all_names o names a) h.told.names_are);
         none = λ t. absurd (let n = sym t ∙ alone in cc);
         some = λ t. let n = length_more in omega (arith, n, some);
       };
@@ -209,6 +210,19 @@ pub record EndsOpen (o : Open) (g : Group) (text : List ℕ) (row : Row) : Type 
   pub group : IsGroup g text
   pub row_is : group_row g text ≡ row
 
+-- the open row with other names
+with_names : (o : Open) (names : List (List ℕ)) → IsTold o.greatest → All IsName names
+    → IsTold (record {
+      first = o.first;
+      receivers = names;
+      greatest = o.greatest.greatest;
+    })
+with_names o names told h = record {
+  names_are = h;
+  name_is = told.name_is;
+  frame_is = told.frame_is;
+}
+
 ends_alone : (o : Open) (g : Group) → HasNames o.greatest → g.first ≡ o.first
     → g.text_len ≡ 0 → g.greatest ≡ o.greatest
     → EndsOpen o g [] (record {
@@ -219,36 +233,47 @@ ends_alone : (o : Open) (g : Group) → HasNames o.greatest → g.first ≡ o.fi
 ends_alone o g h first size greatest =
     let is : names_or g.text_len [] g.greatest.receivers ≡ o.greatest.receivers =
     ap (λ n. names_or n [] g.greatest.receivers) size ∙ (λ t. (greatest t).receivers) in
+    let row_is : group_row g [] ≡ record {
+      first = o.first;
+      receivers = o.greatest.receivers;
+      greatest = o.greatest.greatest;
+    } =
+    λ t. record { first = first t; receivers = is t; greatest = (greatest t).greatest; } in
     record {
-      group = record { size = sym size; names = subst (All IsName) (sym is) h.each };
-      row_is = λ t. record {
-        first = first t;
-        receivers = is t;
-        greatest = (greatest t).greatest;
+      group = record {
+        size = sym size;
+        told = subst IsTold (sym row_is)
+            (with_names o o.greatest.receivers h.told h.told.names_are);
       };
+      row_is = row_is;
     }
 
-ends_united : (o : Open) (g : Group) (names : List (List ℕ)) → 0 < length names
-    → All IsName names → g.first ≡ o.first → g.text_len ≡ length (join_with_byte 44 names)
+ends_united : (o : Open) (g : Group) (names : List (List ℕ)) → HasNames o.greatest
+    → 0 < length names → All IsName names → g.first ≡ o.first → g.text_len ≡ length (join_with_byte 44 names)
     → g.greatest ≡ o.greatest
     → EndsOpen o g (join_with_byte 44 names) (record {
       first = o.first;
       receivers = names;
       greatest = o.greatest.greatest;
     })
-ends_united o g names some h first size greatest =
+ends_united o g names own some h first size greatest =
     let text = join_with_byte 44 names in
     let is : names_or g.text_len text g.greatest.receivers ≡ names =
     names_of_text g.text_len text g.greatest.receivers
     (let n = text_some names some h in omega (arith, n, size))
     ∙ names_joined names some h in
+    let row_is : group_row g text ≡ record {
+      first = o.first;
+      receivers = names;
+      greatest = o.greatest.greatest;
+    } =
+    λ t. record { first = first t; receivers = is t; greatest = (greatest t).greatest; } in
     record {
-      group = record { size = sym size; names = subst (All IsName) (sym is) h };
-      row_is = λ t. record {
-        first = first t;
-        receivers = is t;
-        greatest = (greatest t).greatest;
+      group = record {
+        size = sym size;
+        told = subst IsTold (sym row_is) (with_names o names own.told h);
       };
+      row_is = row_is;
     }
 
 pub ends_open : (o : Open) (g : Group) (names : List (Bor (List ℕ))) → AreGathered o names
@@ -267,7 +292,7 @@ ends_open o g names a first size greatest = by_test o.is_alone refl size where
       })
   by_test true e k = ends_alone o g a.own first k greatest
   by_test false e k =
-      ends_united o g (union bytes_cmp (gathered_names names) [])
+      ends_united o g (union bytes_cmp (gathered_names names) []) a.own
       (united_some (gathered_names names) (some_gathered names (a.some e)))
       (united_names (gathered_names names) a.each) first k greatest
     where

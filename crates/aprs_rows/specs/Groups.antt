@@ -1,8 +1,8 @@
 -- Rows of a store that are one row of the book. No public clause cites this module.
-use Rattle.std.specs.Prelude.{◌≡◌, ℕ, zero, suc, List, [], ◌∷◌, All, length, take, drop}
-use Rattle.aprs_log.specs.Receiver.{IsName}
+use Rattle.std.specs.Prelude.{◌≡◌, ℕ, zero, suc, List, [], ◌∷◌, length, take, drop}
 use Rattle.aprs_laws.specs.Row.{Row}
 use Rattle.aprs_rows.specs.Names.{names_in}
+use Rattle.aprs_rows.specs.Told.{IsTold}
 use Rattle.aprs_rows.specs.declared.store.group.Group.{Group}
 
 -- One row for each part, of the bytes that are the part's own, which lie one after another.
@@ -34,10 +34,10 @@ group_row g text = record {
   greatest = g.greatest.greatest;
 }
 
--- The text has as many bytes as the group says, and its names are names of receivers.
+-- The text has as many bytes as the group says, and with it the row is one of a store.
 pub record IsGroup (g : Group) (text : List ℕ) : Type 0 where
   pub size : length text ≡ text_size g
-  pub names : All IsName (group_row g text).receivers
+  pub told : IsTold (group_row g text)
 
 -- The rows of groups, whose texts lie one after another.
 abbrev pub rows_of_groups : List Group → List ℕ → List Row

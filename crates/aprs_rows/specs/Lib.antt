@@ -9,6 +9,7 @@ pub mod Refusal
 pub mod Rows
 pub mod Sorted
 pub mod Sweep
+pub mod Told
 -- What public clauses cite of lower crates.
 pub use Rattle.aprs_log.specs.Reception
 pub use Rattle.aprs_laws.specs.Order

@@ -3,9 +3,7 @@ use Rattle.std.specs.Prelude.{◌≡◌, ℕ, ◌+◌, ◌≤◌, ◌<◌, List,
 use Rattle.std.specs.List.{AllByRecursion, join_with_byte}
 use Rattle.std.specs.Ordering.{nat_cmp, on, then_cmp}
 use Rattle.std.specs.declared.cmp.Ordering.{Ordering}
-use Rattle.aprs_ax25.specs.Frame.{FrameOf}
 use Rattle.aprs_ax25.specs.FrameFault.{parts_of}
-use Rattle.aprs_log.specs.Receiver.{IsName}
 use Rattle.aprs_log.specs.Reception.{bytes_cmp}
 use Rattle.aprs_laws.specs.Key.{key_of}
 use Rattle.aprs_laws.specs.Lists.{◌∈◌}
@@ -14,14 +12,9 @@ use Rattle.aprs_laws.specs.Sound.{IsSoundRow}
 use Rattle.aprs_rows.specs.Head.{head_of}
 use Rattle.aprs_rows.specs.HeadSteps.{head_cmp}
 use Rattle.aprs_rows.specs.Names.{row_of_text}
+use Rattle.aprs_rows.specs.Told.{IsTold}
 use Rattle.aprs_rows.specs.declared.store.entry.Entry.{Entry}
 use Rattle.aprs_rows.specs.declared.row.head.Head.{Head}
-
--- The receivers have names, and so has that of the greatest reception, whose frame is a UI frame.
-pub record IsTold (x : Row) : Type 0 where
-  pub names_are : All IsName x.receivers
-  pub name_is : IsName x.greatest.receiver
-  pub frame_is : FrameOf (parts_of x.greatest.frame) x.greatest.frame
 
 -- The head is that of the key of this frame, whose information begins at a place.
 pub record HasKey (h : Head) (place : ℕ) (frame : List ℕ) : Type 0 where

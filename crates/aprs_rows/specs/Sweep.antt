@@ -9,6 +9,7 @@ use Rattle.aprs_laws.specs.Order.{IsBelow}
 use Rattle.aprs_laws.specs.Row.{Row}
 use Rattle.aprs_laws.specs.JoinRow.{union}
 use Rattle.aprs_rows.specs.Groups.{rows_of_groups, AreGroups}
+use Rattle.aprs_rows.specs.Told.{IsTold}
 use Rattle.aprs_rows.specs.declared.store.sweep.Open.{Open}
 use Rattle.aprs_rows.specs.declared.store.sweep.Sweep.{Sweep}
 
@@ -30,9 +31,9 @@ abbrev pub open_text : Open → List (Bor (List ℕ)) → List ℕ
 open_text o names =
     if o.is_alone then [] else join_with_byte 44 (union bytes_cmp (gathered_names names) [])
 
--- The receivers of a row have names, which ascend.
+-- The row is one of a store, and the names of its receivers ascend.
 pub record HasNames (x : Row) : Type 0 where
-  pub each : All IsName x.receivers
+  pub told : IsTold x
   pub ascending : Ordered (IsBelow bytes_cmp) x.receivers
 
 -- No name is gathered while a single row is open, and at least one where more are. All are names,

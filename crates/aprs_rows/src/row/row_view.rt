@@ -41,7 +41,8 @@ pub struct RowView<'a> {
 impl<'a> Model for RowView<'a> {
     ghost use Rattle.aprs_laws.specs.Row.{Row as RowValue};
     ghost use Rattle.aprs_rows.specs.Names.{row_of_text};
-    ghost use Rattle.aprs_rows.specs.Rows.{HasKey, IsTold};
+    ghost use Rattle.aprs_rows.specs.Rows.{HasKey};
+    ghost use Rattle.aprs_rows.specs.Told.{IsTold};
 
     ghost Value = { RowValue };
 

@@ -5,7 +5,8 @@ ghost use Rattle.aprs_laws.specs.Key.{key_cmp};
 ghost use Rattle.aprs_laws.specs.Row.{row_key, last_of};
 ghost use Rattle.aprs_laws.specs.Sound.{IsSoundRow};
 ghost use Rattle.aprs_rows.specs.Names.{names_in};
-ghost use Rattle.aprs_rows.specs.Rows.{bytes_of, entry_row, IsRowIn, IsTold};
+ghost use Rattle.aprs_rows.specs.Rows.{bytes_of, entry_row, IsRowIn};
+ghost use Rattle.aprs_rows.specs.Told.{IsTold};
 
 use crate::row::row_view::RowView;
 use crate::store::entry::Entry;

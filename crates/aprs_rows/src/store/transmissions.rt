@@ -1,8 +1,9 @@
 //! What the rows of a store are together.
-ghost use Rattle.std.specs.Prelude.{◌≡◌, length};
+ghost use Rattle.std.specs.Prelude.{◌≡◌, All, length};
 ghost use Rattle.std.specs.Iterator.{YieldsFirst, item_count};
 ghost use Rattle.aprs_laws.specs.BookValue.{IsSoundBook};
 ghost use Rattle.aprs_rows.specs.Groups.{rows_of_groups, AreGroups};
+ghost use Rattle.aprs_rows.specs.Told.{IsTold};
 
 use crate::row::row_view::RowView;
 use crate::store::group::Group;
@@ -79,6 +80,7 @@ impl<'a, A: Allocator + Copy> Transmissions<'a, A> {
     pub fn rows(&self) -> RowViews<'_, 'a>
         ensures rows { result ≡ self.now.rows }
         ensures sound { IsSoundBook self.now }
+        ensures told { All IsTold self.now.rows }
     {
         RowViews {
             groups: self.groups.iter(),

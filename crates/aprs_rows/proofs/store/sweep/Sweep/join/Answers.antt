@@ -7,7 +7,7 @@ returns-clause-joined g c a =
     let j = joins_open c.args.self.now.latest c.grow.new.self c.args.self.now.names.items
     c.gather_alone.new.names.items c.gather.new.names.items c.args.row _ a
     (record {
-      each = c.receivers.ensures.told.names_are;
+      told = c.receivers.ensures.told;
       ascending = c.receivers.ensures.sound.ascending;
     })
     c.in_ok-gather_alone.ensures c.in_ok-gather.ensures c.receivers.ensures.names

@@ -1,0 +1,11 @@
+use Rattle.std.proofs.Common.{subst, sym}
+use Rattle.std.specs.Prelude.{All}
+use Rattle.aprs_laws.specs.BookValue.{BookValue}
+use Rattle.aprs_rows.specs.Told.{IsTold}
+use Rattle.aprs_rows.proofs.Groups.{told_rows}
+use Rattle.aprs_rows.proofs.store.transmissions.Transmissions.rows.Goals as goal
+
+pub returns-clause-told : goal.returns-clause-told
+returns-clause-told g c =
+    subst (λ (b : BookValue). All IsTold b.rows) c.self.view_is
+    (told_rows c.self.inside.groups.items c.self.inside.texts.items c.self.invariant.0)
