@@ -5,7 +5,7 @@ use Rattle.std.specs.Io.KnownBytes.{Consumes}
 use Rattle.std.proofs.KnownBytes.{Consumes-nil, Consumes-trans}
 use Rattle.aprs_io.specs.Device.{Calls, Going}
 use Rattle.aprs_io.specs.declared.device.Counted.{Counted}
-use Rattle.aprs_io.specs.Input.{EndsHere, EndsSo, Gets, TakesOne, last_of_ending}
+use Rattle.aprs_io.specs.Input.{EndsHere, EndsSo, Gets, last_of_ending}
 use Rattle.aprs_io.specs.declared.input.Ending.{Ending}
 use Rattle.aprs_io.specs.declared.input.Ending.TheVariants as ending
 use Rattle.aprs_laws.specs.BookValue.{BookValue}
@@ -55,7 +55,7 @@ module _ (P : List ℕ → Type 0) (head : List ℕ) (old now : Option (List ℕ
       → EndsSo e limit (head ++ p.got) rest after
   ends_so ending.End rest after h = (h.0, omega (arith, p.size))
   ends_so ending.Read rest after h = (h.0, omega (arith, p.size))
-  ends_so ending.TooLong rest after h = (h.0, omega (arith, p.size, h.1))
+  ends_so ending.TooLong rest after h = (h.0, omega (arith, p.size, h.1), h.2)
 
   -- nothing more is got, since the input ends so
   pub Gets-here : (e : Ending) (after : Option (List ℕ))
@@ -102,36 +102,34 @@ module _ (P : List ℕ → Type 0) (head : List ℕ) (old now : Option (List ℕ
     takes (Some input) (Some y) took = at_most input y y took (omega arith)
 
   taken : (e : Ending) (input y : List ℕ) (after : Option (List ℕ)) → input ≡ p.got ++ y
-      → Gets left y after [] e → (e ≡ ending.TooLong → after ≡ Some (drop 1 y))
-      → TakesAt (ending_cause e) (limit - length head) input after
-  taken ending.End input y None took gets one = tt
-  taken ending.End input y (Some rest) took gets one =
+      → Gets left y after [] e → TakesAt (ending_cause e) (limit - length head) input after
+  taken ending.End input y None took gets = tt
+  taken ending.End input y (Some rest) took gets =
       let none = ap length (gets.whole ∙ gets.ends.0) in
       at_most input y rest took (omega (arith, none))
-  taken ending.Read input y after took gets one =
+  taken ending.Read input y after took gets =
       subst (TakesAtMost (limit - length head) input) (sym gets.ends.0)
       (let all = ap length gets.whole in
       at_most input y gets.rest took (omega (arith, all)))
-  taken ending.TooLong input y after took gets one =
+  taken ending.TooLong input y after took gets =
       let size : limit - length head ≡ length p.got =
       omega (arith, p.size, gets.ends.1, length-append head p.got) in
-      one refl ∙ ap Some (sym (ap (λ n. drop (n + 1) input) size
+      gets.ends.2 ∙ ap (λ l. Some (drop 1 l)) (sym gets.whole)
+      ∙ ap Some (sym (ap (λ n. drop (n + 1) input) size
       ∙ ap (drop (length p.got + 1)) took ∙ drop-append-add p.got y 1))
 
   -- the input ends so, and the answer says it
   pub Takes-here : (e : Ending) (after : Option (List ℕ)) (r : Result BookValue BookFault)
       → EndsIn e r → IfSome now (λ rest. Gets left rest after [] e)
-      → (e ≡ ending.TooLong → TakesOne now after)
       → IfSome old (λ input. Takes r (limit - length head) input after)
-  Takes-here e after r is gets one = here old now p.took gets one where
+  Takes-here e after r is gets = here old now p.took gets where
     here : (old now : Option (List ℕ)) → Consumes old now p.got
         → IfSome now (λ rest. Gets left rest after [] e)
-        → (e ≡ ending.TooLong → TakesOne now after)
         → IfSome old (λ input. Takes r (limit - length head) input after)
-    here None now took gets one = tt
-    here (Some input) None took gets one = absurd took
-    here (Some input) (Some y) took gets one =
-        Takes-end (limit - length head) input after e r is (taken e input y after took gets one)
+    here None now took gets = tt
+    here (Some input) None took gets = absurd took
+    here (Some input) (Some y) took gets =
+        Takes-end (limit - length head) input after e r is (taken e input y after took gets)
 
 -- what was got is read so
 pub ReadsBook-got : (old after : Option (List ℕ)) (limit : ℕ) (head got : List ℕ) (e : Ending)
@@ -177,14 +175,13 @@ module _ {R : Type 0} (remaining : R → Option (List ℕ)) (limit : ℕ) (head 
       (r : Result BookValue BookFault)
       → Got P head (remaining a.device) (remaining b.device) limit left → EndsIn way r
       → EndsHere way left (remaining b.device) (remaining c.device)
-      → (way ≡ ending.TooLong → TakesOne (remaining b.device) (remaining c.device))
       → Calls (last_of_ending way) b c → ((t : List ℕ) → P t → IsAnswerFor r t way)
       → IsAnswered remaining limit head r a c
-  IsAnswered-end P c way r p is end over last reads = record {
+  IsAnswered-end P c way r p is end last reads = record {
     reads = ReadsBook-got _ _ limit head p.got way r
         (Gets-here P head _ _ limit left p way _ end) (reads _ p.stands);
     calls = Asks-end calls way r is last;
-    over = Takes-here P head _ _ limit left p way _ r is end over;
+    over = Takes-here P head _ _ limit left p way _ r is end;
   }
 
 -- a book's answer is at the end alone, as that of its gap

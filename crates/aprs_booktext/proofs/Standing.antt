@@ -1,6 +1,6 @@
 -- Lemmas on what a reader of a book holds.
-use Rattle.std.proofs.Common.{◌≡◌, ℕ, ◌+◌, ◌<◌, ◌≤◌, true, false, List, [], ◌∷◌, ◌++◌, length, drop, map, Option, None, Some, Ok, Err, inl, inr, refl, sym, ap, ◌∙◌, subst, append_assoc, append-nil, length-append, arith}
-use Rattle.std.specs.Prelude.{◌≢◌, All, IfNone, IfSome}
+use Rattle.std.proofs.Common.{◌≡◌, ℕ, ◌+◌, ◌<◌, ◌≤◌, true, false, List, [], ◌∷◌, ◌++◌, length, drop, map, Option, None, Some, Result, Ok, Err, inl, inr, refl, sym, ap, ◌∙◌, subst, append_assoc, append-nil, length-append, arith}
+use Rattle.std.specs.Prelude.{◌≢◌, All, IfErr, IfNone, IfSome}
 use Rattle.std.specs.List.{last_or}
 use Rattle.std.proofs.lemmas.List.{length-map, map_push}
 use Rattle.std.proofs.lemmas.List.Concat.{flat_map-append}
@@ -16,8 +16,8 @@ use Rattle.aprs_booktext.proofs.Cuts.{lacks_append}
 use Rattle.aprs_rows.specs.Refusal.{refusal}
 use Rattle.aprs_rows.proofs.Refusals.{none_exactly}
 use Rattle.aprs_booktext.specs.FirstFault.{FirstFault}
-use Rattle.aprs_booktext.specs.Reader.{HoldsIn, StandsAfter, IsFault, JudgesLine, EndsWithRows, EndsWithSuch, gap_in, is_done, line_number, lines_read, may_end}
-use Rattle.aprs_booktext.specs.StoredRows.{rows_after}
+use Rattle.aprs_booktext.specs.Reader.{HoldsIn, StandsAfter, IsFault, JudgesLine, EndsWithRows, EndsWithSuch, StopsAt, EndsIn, gap_in, is_done, line_number, lines_read, may_end}
+use Rattle.aprs_booktext.specs.StoredRows.{IsNextLine, StopsAfter, rows_after}
 use Rattle.aprs_booktext.specs.Text.{row_line, end_line, lines_of, book_text, IsBookRow, IsBookRows}
 use Rattle.aprs_booktext.specs.RowLines.{ended_by_lf}
 use Rattle.aprs_log.specs.LogText.{text_of_lines}
@@ -437,3 +437,46 @@ Fed-rest P Q piece rest part after p cuts =
     let l = Fed-len P Q piece rest p in
     let k = length-append part (10 ∷ after) in
     omega (arith, l, k, ap length cuts)
+
+-- ---- where an allocation failed
+
+-- nothing more is kept of a line
+pub held_stop : (stage : Stage) (rows : List Row) (line t : List ℕ) → is_done stage ≡ false
+    → StandsAfter stage rows line t → IsNextLine (line_number stage (length rows)) rows
+held_stop Header rows line t going s = inl (refl, s.holds)
+held_stop (Rows v) rows line t going s = inr refl
+held_stop (Done v) rows line t going s = absurd (let f : true ≡ false = going in cc)
+
+-- a line isn't judged
+pub judged_stop : (stage : Stage) (old new : List Row) (line read t : List ℕ) (c : BookCause)
+    → JudgesLine stage (Err c) old read new → StandsAfter stage old line t → c ≡ cause.Memory
+    → IsNextLine (line_number stage (length new)) new
+judged_stop Header old new line read t c j s e = inl (refl, j.1 ∙ s.holds)
+judged_stop (Rows v) old new line read t c j s e = inr refl
+judged_stop (Done v) old new line read t c j s e = absurd (let f = j.0 in cc)
+
+-- the input ended
+pub ending_not_memory : (e : Ending) → ending_cause e ≢ cause.Memory
+ending_not_memory ending.End = λ x. cc
+ending_not_memory ending.Read = λ x. cc
+ending_not_memory ending.TooLong = λ x. cc
+
+pub ending_stop : (e : Ending) (line : ℕ) (before : List Row) (count : ℕ) (store : List Row)
+    (P : List Row → Type 0) → EndsWithSuch before count store P
+    → StopsAt before (record { line = line; cause = ending_cause e }) count store
+ending_stop e line before count store P s =
+    record { rows = s.rows; has = s.has; holds = λ x. absurd (ending_not_memory e x) }
+
+-- rows that were read into a store
+pub stopped_after : (before : List Row) (f : BookFault) (count : ℕ) (store : List Row)
+    → StopsAt before f count store → StopsAfter f before store
+stopped_after before f count store s e =
+    let rows = rows_stored before s.rows count store s.has in (
+      s.has.stored ∙ ap (λ (l : List Row). before ++ l) (sym rows),
+      subst (IsNextLine f.line) (sym rows) (s.holds e),
+    )
+
+pub ends_err : {A : Type 0} (e : Ending) (r : Result A BookFault) → EndsIn e r
+    → IfErr r (λ f. f.cause ≡ ending_cause e)
+ends_err e (Ok value) is = tt
+ends_err e (Err f) is = is

@@ -8,6 +8,7 @@ use Rattle.aprs_rows.specs.Refusal.{refusal}
 use Rattle.aprs_booktext.specs.FirstFault.{FirstFault, IsMemoryAt, IsNoHeader}
 use Rattle.aprs_booktext.specs.TextFault.{IsWrong, is_end}
 use Rattle.aprs_booktext.specs.Lines.{Lacks}
+use Rattle.aprs_booktext.specs.StoredRows.{IsNextLine}
 use Rattle.aprs_booktext.specs.Text.{row_line, end_line, lines_of, IsBookRow, IsBookRows}
 use Rattle.aprs_log.specs.LogText.{text_of_lines}
 use Rattle.aprs_booktext.specs.Fault.{ending_cause}
@@ -118,6 +119,12 @@ pub record EndsWithSuch (before : List Row) (count : ℕ) (store : List Row) (P 
   pub rows : List Row
   pub has : EndsWithRows before rows count store
   pub holds : P rows
+
+-- The store has those rows from before the text, and then so many. Where an allocation failed, the
+-- fault is in the line after theirs.
+abbrev pub StopsAt : List Row → BookFault → ℕ → List Row → Type 0
+StopsAt before fault count store = EndsWithSuch before count store
+    (λ rows. fault.cause ≡ why.Memory → IsNextLine fault.line rows)
 
 -- A line adds a row to the store, after these rows of its text: it spells one that nothing refuses;
 -- or an allocation failed, or the line is wrong.

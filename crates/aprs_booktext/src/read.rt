@@ -1,5 +1,5 @@
 //! Reading a book.
-ghost use Rattle.std.specs.Prelude.{◌≡◌, ◌≤◌, ◌-◌, ◌++◌, ℕ, [], List, Err, true, length, IfSome, IfOk, IfErr, OnOk};
+ghost use Rattle.std.specs.Prelude.{◌≡◌, ◌≢◌, ◌≤◌, ◌-◌, ◌++◌, ℕ, [], List, Err, true, length, IfSome, IfOk, IfErr, OnOk};
 ghost use Rattle.aprs_io.specs.Device.{device_of, failures_of, Calls, Going, Rose};
 ghost use Rattle.aprs_io.specs.Input.{most_input};
 ghost use Rattle.aprs_io.specs.declared.device.Counted.{Counted as CountedValue};
@@ -7,10 +7,10 @@ ghost use Rattle.aprs_laws.specs.BookValue.{IsSoundBook};
 ghost use Rattle.aprs_laws.specs.Row.{Row};
 ghost use Rattle.aprs_booktext.specs.Asking.{Asks, Takes};
 ghost use Rattle.aprs_booktext.specs.BookAnswers.{AcceptsBook, ReadsBook};
-ghost use Rattle.aprs_booktext.specs.Reader.{gap_in, is_done, size_of, Stands};
+ghost use Rattle.aprs_booktext.specs.Reader.{gap_in, is_done, size_of, Stands, StopsAt};
 ghost use Rattle.aprs_booktext.specs.Reading.{Got, IsAnswered};
 ghost use Rattle.aprs_booktext.specs.Seconds.{ReadsSeconds};
-ghost use Rattle.aprs_booktext.specs.StoredRows.{book_read, rows_after};
+ghost use Rattle.aprs_booktext.specs.StoredRows.{book_read, rows_after, StopsAfter};
 
 use crate::fault::{BookCause, BookFault};
 use crate::reader::BookReader;
@@ -28,11 +28,11 @@ const MOST_AHEAD: usize = 16_384;
 /// the end. The first line is `APRSBOOK 1`, and moments are written to the second (20 bytes each),
 /// or `APRSBOOK 2` or `APRSBOOK 3 G`, and they are written to the millisecond (24 bytes each). The
 /// book's gap is G seconds, 1 to 3,600 in decimal with no zero before it; in versions 1 and 2 it is
-/// 30 seconds. Reading takes at most `limit` bytes, the head among them. Requires a limit of at
-/// most `MAX_INPUT` (1,073,741,824) and a head of at most 8 bytes and at most `limit`. A fault is
-/// the text's first, with the number of its line; `Memory` comes instead where an allocation failed
-/// before that fault, with the number of the line that was being read. Holds one line and the rows
-/// in bytes, and then the book beside them.
+/// 30 seconds. Reading takes at most `limit` bytes, the head among them, and one more at `TooLong`.
+/// Requires a limit of at most `MAX_INPUT` (1,073,741,824) and a head of at most 8 bytes and at
+/// most `limit`. A fault is the text's first, with the number of its line; `Memory` comes instead
+/// where an allocation failed before that fault, with the number of the line that was being read.
+/// Holds one line and the rows in bytes, and then the book beside them.
 pub fn read_book<R: Read, A: Allocator + Copy>(
     alloc: A,
     limit: u64,
@@ -72,11 +72,12 @@ pub fn read_book<R: Read, A: Allocator + Copy>(
 
 /// Reads the rows of a book from its text, which begins with `head` and goes on with the bytes of
 /// `source`, to the end. Puts them after those of a store, and returns the book's gap. The text is
-/// of version 1, 2 or 3. Reading takes at most `limit` bytes, the head among them. Requires a limit
-/// of at most `MAX_INPUT` (1,073,741,824) and a head of at most 8 bytes and at most `limit`. A
-/// fault is the text's first, with the number of its line; `Memory` comes instead where an
-/// allocation failed before that fault, with the number of the line that was being read. After a
-/// fault anything may be in the store. Holds the store and one line.
+/// of version 1, 2 or 3. Reading takes at most `limit` bytes, the head among them, and one more at
+/// `TooLong`. Requires a limit of at most `MAX_INPUT` (1,073,741,824) and a head of at most 8 bytes
+/// and at most `limit`. A fault is the text's first, with the number of its line; `Memory` comes instead where an
+/// allocation failed before that fault, with the number of the line that was being read, and the
+/// rows of the lines before it are then in the store. After another fault anything may be there.
+/// Holds the store and one line.
 pub fn read_rows<R: Read, A: Allocator + Copy>(
     alloc: A,
     limit: u64,
@@ -101,6 +102,8 @@ pub fn read_rows<R: Read, A: Allocator + Copy>(
         (λ input. ReadsSeconds (head.now ++ input) (book_read result store.old store.new)) }
 
     ensures kept { OnOk result (store.new ≡ store.old ++ rows_after store.old store.new) }
+    // Where an allocation failed, the rows are those of the lines before the one that is named.
+    ensures stops { IfErr result (λ fault. StopsAfter fault store.old store.new) }
 
     // The reader is asked neither after its end nor after a fault.
     ensures calls { Asks (book_read result store.old store.new) source.old source.new }
@@ -139,6 +142,7 @@ fn read_lines<R: Read, A: Allocator + Copy>(
 
     ensures fault { IfErr result (λ fault.
         IsAnswered R.remaining limit head.now (Err fault) source.old source.new) }
+    ensures rows { IfErr result (λ fault. StopsAt store.old fault reader.new.count store.new) }
 
     ensures going { OnOk result (Calls Going source.old source.new) }
 {
@@ -168,6 +172,7 @@ fn gap_at_end<R: Read, A: Allocator + Copy>(
     requires few { reader.now.count ≤ most_input }
     requires done { is_done reader.now.stage ≡ true }
     ensures gap { IfOk result (λ gap. gap ≡ gap_in reader.now.stage) }
+    ensures refused { IfErr result (λ fault. fault.cause ≢ BookCause.Memory) }
     // This is the answer for the whole text, where the reader got `head` and then what came since
     // the source was `first`.
     ensures answer { (before store : List Row) (head : List ℕ) (first : CountedValue R) (limit : ℕ)

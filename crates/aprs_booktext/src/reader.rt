@@ -80,8 +80,8 @@ impl<A: Allocator + Copy> BookReader<A> {
     /// the store, and keeps the beginning of the next line. Requires that the number of rows read
     /// so far, the bytes kept of a line and those of the piece are together at most `MAX_INPUT`
     /// (1,073,741,824). Fails with the text's first fault where that is in what was read so far,
-    /// never with `Read` or `TooLong`, and with `Memory` where an allocation failed; after that
-    /// rows of the piece may be in the store.
+    /// never with `Read` or `TooLong`, and with `Memory` in the line in which an allocation failed;
+    /// after that the rows of the lines before that one are in the store.
     pub fn feed(&mut self, store: &mut RowStore<A>, piece: &[u8]) -> Result<(), BookFault>
         requires { Spec.size_of self.old + length piece.now ≤ most_input }
 
@@ -97,6 +97,10 @@ impl<A: Allocator + Copy> BookReader<A> {
             → Spec.Stands before self.old store.old t
             → Spec.IsFault (length piece.now) fault (t ++ piece.now)) }
         ensures cause { IfErr result (λ fault. Spec.IsOfText fault.cause) }
+        // Where an allocation failed, it is in the line after those that were read.
+        ensures rows { IfErr result (λ fault. (before : List Row) (t : List ℕ)
+            → Spec.Stands before self.old store.old t
+            → Spec.StopsAt before fault self.new.count store.new) }
     {
         let mut rest = piece;
         while let Some((part, after)) = cut(rest, b'\n') {
@@ -124,6 +128,9 @@ impl<A: Allocator + Copy> BookReader<A> {
             → Spec.Stands before self.old store t
             → Spec.IsFault (length bytes.now + length more) fault ((t ++ bytes.now) ++ more)) }
         ensures cause { IfErr result (λ fault. Spec.IsOfText fault.cause) }
+        ensures rows { IfErr result (λ fault. (before store : List Row) (t : List ℕ)
+            → Spec.Stands before self.old store t
+            → Spec.StopsAt before fault self.new.count store) }
     {
         if is_done(self.stage) {
             return self.refuse_after_end(bytes);
@@ -146,6 +153,7 @@ impl<A: Allocator + Copy> BookReader<A> {
             → Spec.Stands before self.now store t
             → Spec.IsFault (length bytes.now + length more) fault ((t ++ bytes.now) ++ more)) }
         ensures cause { IfErr result (λ fault. Spec.IsOfText fault.cause) }
+        ensures after { IfErr result (λ fault. fault.cause ≡ BookCause.After) }
     {
         if bytes.is_empty() {
             return Ok(());
@@ -172,6 +180,9 @@ impl<A: Allocator + Copy> BookReader<A> {
             → Spec.IsFault (length part.now + (length more + 1)) fault
             ((t ++ part.now) ++ 10 ∷ more)) }
         ensures cause { IfErr result (λ fault. Spec.IsOfText fault.cause) }
+        ensures rows { IfErr result (λ fault. (before : List Row) (t : List ℕ)
+            → Spec.Stands before self.old store.old t → Lacks 10 part.now
+            → Spec.StopsAt before fault self.new.count store.new) }
     {
         if self.line.is_empty() && !is_done(self.stage) {
             return self.take_line(store, part);
@@ -199,6 +210,9 @@ impl<A: Allocator + Copy> BookReader<A> {
             → Spec.Stands before self.old store.old t → Lacks 10 line.now
             → Spec.IsFault (length more + 1) fault ((t ++ line.now) ++ 10 ∷ more)) }
         ensures cause { IfErr result (λ fault. Spec.IsOfText fault.cause) }
+        ensures rows { IfErr result (λ fault. (before : List Row) (t : List ℕ)
+            → Spec.Stands before self.old store.old t
+            → Spec.StopsAt before fault self.new.count store.new) }
     {
         match judge(self.stage, store, &mut self.scratch, &mut self.count, line) {
             Ok(stage) => {
@@ -225,6 +239,9 @@ impl<A: Allocator + Copy> BookReader<A> {
             → Spec.Stands before self.old store.old t
             → Spec.IsFault (length more + 1) fault (t ++ 10 ∷ more)) }
         ensures cause { IfErr result (λ fault. Spec.IsOfText fault.cause) }
+        ensures rows { IfErr result (λ fault. (before : List Row) (t : List ℕ)
+            → Spec.Stands before self.old store.old t
+            → Spec.StopsAt before fault self.new.count store.new) }
     {
         let line = self.line.as_slice();
         match judge(self.stage, store, &mut self.scratch, &mut self.count, line) {

@@ -42,7 +42,8 @@ impl Read for Rough<'_> {
 }
 
 /// A writer that has room for so many bytes, takes at most `most` a call, is interrupted
-/// `interrupts` times before each call that takes any. No clause says what it has written.
+/// `interrupts` times before each call that takes any. A flush sets `used` to 0, so that it shows.
+/// No clause says what it has written.
 #[derive(Drop)]
 struct Tight<'a> {
     room: &'a mut [u8],
@@ -69,6 +70,7 @@ impl Write for Tight<'_> {
     }
 
     fn flush(&mut self) -> io::Result<()> {
+        self.used = 0;
         Ok(())
     }
 }

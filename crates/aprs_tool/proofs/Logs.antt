@@ -6,7 +6,6 @@ use Rattle.aprs_log.specs.declared.Ending.{Ending}
 use Rattle.aprs_log.specs.declared.fault.LogFault.{LogFault}
 use Rattle.aprs_log.specs.declared.line.Line.{Line}
 use Rattle.aprs_log.specs.declared.line.Line.TheVariants.{Heard, Passed}
-use Rattle.aprs_log.proofs.Awaiting.{gets_whole}
 use Rattle.std.proofs.lemmas.List.{map-append}
 use Rattle.aprs_laws.specs.JoinRow.{single}
 use Rattle.aprs_laws.specs.Row.{Row}
@@ -88,11 +87,16 @@ Took-fault first now old rows known end limit head fault h may whole =
     (λ t c e. ap (λ (a : Answers). a.fault) (sym e))
 
 -- an allocation failed
-pub Took-refused : (known end : Option (List ℕ)) (limit : ℕ) (head : List ℕ)
-    (old new : List Row)
+pub Took-refused : (first now after : Answers → Type 0) (old rows new : List Row)
+    (known end : Option (List ℕ)) (limit : ℕ) (head : List ℕ) (x : Line)
+    → Took first now old rows
+    → ((answers : Answers) → after answers → now (prepend_line x answers))
+    → (answers : Answers) → after answers → ((a : Answers) → first a
+    → IfSome known (λ input. AreAnswersOf limit (head ++ input) end a))
     → IfSome known (λ input. HoldsOfGot limit (head ++ input) end
     (ReadsLog (Err Memory) old new))
-Took-refused None end limit head old new = tt
-Took-refused (Some input) end limit head old new =
-    let g = gets_whole limit (head ++ input) end in
-    (g.text, g.ending, g.gets, tt)
+Took-refused first now after old rows new known end limit head x h next answers may whole =
+    let line = prepend_line x answers in
+    let all = prepended h.seen line in
+    over_log known end limit head all (Err Memory) old new
+    (whole all (h.has.complete line (next answers may))) (λ t c e. tt)

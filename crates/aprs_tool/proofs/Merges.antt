@@ -1,7 +1,7 @@
 -- Lemmas on several inputs that are read one after another.
-use Rattle.std.proofs.Common.{◌≡◌, ◌<◌, ℕ, ◌+◌, List, [], ◌∷◌, ◌++◌, length, map, take, drop, Option, Some, Ok, Err, slice_get, set, option_map, inl, inr, refl, ap, sym, ◌∙◌, add-one, append_assoc, append-nil, length-append, length-drop, take-append-drop, subst, arith}
-use Rattle.std.proofs.Math.Seq.{take-append_seam, take-suc-set}
-use Rattle.std.proofs.lemmas.List.{length-map, map-append, map-set, take_all}
+use Rattle.std.proofs.Common.{◌≡◌, ◌<◌, ℕ, zero, suc, ◌+◌, List, [], ◌∷◌, ◌++◌, length, map, take, drop, Option, Some, Ok, Err, slice_get, set, option_map, inl, inr, refl, ap, sym, ◌∙◌, add-one, append_assoc, append-nil, length-append, take-append-drop, subst, arith}
+use Rattle.std.proofs.Math.Seq.{drop-append-add, take-append_seam, take-suc-set}
+use Rattle.std.proofs.lemmas.List.{drop-map, length-map, map-append, map-set, take_all}
 use Rattle.std.proofs.lemmas.Option.{slice_get-map, slice_get_within}
 use Rattle.aprs_laws.specs.Book.{BookOf}
 use Rattle.aprs_laws.specs.BookValue.{BookValue}
@@ -10,8 +10,9 @@ use Rattle.aprs_laws.specs.Lists.{SameMembers}
 use Rattle.aprs_laws.specs.Row.{Row}
 use Rattle.aprs_laws.proofs.Lists.{in_either, in_left, in_right}
 use Rattle.aprs_io.specs.declared.input.Ending.{Ending}
+use Rattle.aprs_io.specs.declared.input.Ending.TheVariants as ending
 use Rattle.aprs_log.specs.Reception.{Heard}
-use Rattle.aprs_log.proofs.Awaiting.{gets_whole}
+use Rattle.aprs_log.proofs.Awaiting.{Gets-nothing}
 use Rattle.aprs_booktext.specs.Text.{book_text, written_text}
 use Rattle.aprs_booktext.specs.declared.version.Version.TheVariants.{Three}
 use Rattle.aprs_convert.specs.Got.{OfGot}
@@ -48,6 +49,21 @@ after_more f now i y within =
     ap (take (i + 1)) (map-set f now i y) ∙ ap (λ n. take n (set (map f now) i (f y))) (add-one i)
     ∙ take-suc-set (map f now) i (f y) (omega (arith, within, length-map now f))
 
+rest_same : {X : Type 0} (xs : List X) (i : ℕ) (y : X)
+    → drop (suc i) (set xs i y) ≡ drop (suc i) xs
+rest_same [] i y = refl
+rest_same (x ∷ xs) zero y = refl
+rest_same (x ∷ xs) (suc i) y = rest_same xs i y
+
+-- the devices after that place are as they were
+pub after_same : {X Y : Type 0} (f : X → Y) (now old : List X) (all : List Y) (i : ℕ) (y : X)
+    → drop (suc i) now ≡ drop (suc i) old → map f old ≡ all
+    → drop (i + 1) (map f (set now i y)) ≡ drop (i + 1) all
+after_same f now old all i y same e =
+    ap (λ n. drop n (map f (set now i y))) (add-one i) ∙ drop-map f (suc i) (set now i y)
+    ∙ ap (map f) (rest_same now i y ∙ same) ∙ sym (drop-map f (suc i) old)
+    ∙ ap (drop (suc i)) e ∙ ap (λ n. drop n all) (sym (add-one i))
+
 -- ---- one input more
 
 -- a set with more of both sides
@@ -80,32 +96,27 @@ union_more gap limit (x ∷ gots) g S T h k = (
       (more_members S (h.0 ++ h.1) T h.4),
 )
 
--- inputs that aren't read may be got whole
-record GetsUnread (limit : ℕ) (inputs : List (List ℕ)) (afters : List (Option (List ℕ)))
-    : Type 0 where
+-- of inputs that aren't read nothing is got
+record GetsUnread (limit : ℕ) (inputs : List (List ℕ)) : Type 0 where
   gots : List (GotOf limit)
   inputs_are : inputs ≡ map (λ (g : GotOf limit). g.text ++ g.rest) gots
-  afters_are : afters ≡ map (λ (g : GotOf limit). g.after) gots
+  afters_are : some_each inputs ≡ map (λ (g : GotOf limit). g.after) gots
 
-gets_unread : (limit : ℕ) (inputs : List (List ℕ)) (afters : List (Option (List ℕ)))
-    → length inputs ≡ length afters → GetsUnread limit inputs afters
-gets_unread limit [] [] e = record { gots = []; inputs_are = refl; afters_are = refl }
-gets_unread limit [] (after ∷ afters) e = absurd (omega (arith, e))
-gets_unread limit (input ∷ inputs) [] e = absurd (omega (arith, e))
-gets_unread limit (input ∷ inputs) (after ∷ afters) e =
-    let w = gets_whole limit input after in
-    let more = gets_unread limit inputs afters (omega (arith, e)) in
+gets_unread : (limit : ℕ) (inputs : List (List ℕ)) → GetsUnread limit inputs
+gets_unread limit [] = record { gots = []; inputs_are = refl; afters_are = refl }
+gets_unread limit (input ∷ inputs) =
+    let none = Gets-nothing limit input in
+    let more = gets_unread limit inputs in
     record {
       gots = record {
-        text = w.text;
-        ending = w.ending;
-        rest = w.gets.rest;
-        after = after;
-        ends = w.gets.ends;
+        text = [];
+        ending = ending.Read;
+        rest = input;
+        after = Some input;
+        ends = none.ends;
       } ∷ more.gots;
-      inputs_are = ap (λ i. i ∷ inputs) w.gets.whole
-          ∙ ap (λ l. (w.text ++ w.gets.rest) ∷ l) more.inputs_are;
-      afters_are = ap (λ l. after ∷ l) more.afters_are;
+      inputs_are = ap (λ l. input ∷ l) more.inputs_are;
+      afters_are = ap (λ l. Some input ∷ l) more.afters_are;
     }
 
 -- ---- the first that is refused
@@ -229,10 +240,10 @@ module _ (gap limit : ℕ) (inputs : List (List ℕ)) (afters next : List (Optio
 
   -- it is not
   pub HasRead-refused : (e : InputFault) (old new : List Row) (most : ℕ) → most ≡ limit
-      → length next ≡ length inputs → (own : ℕ) → own ≡ gap
+      → drop (index + 1) next ≡ drop (index + 1) (some_each inputs) → (own : ℕ) → own ≡ gap
       → OfGot most known after (TakesInput own (Err e) old new)
       → HoldsOfEach limit inputs next (ReadsEach gap (Err (index, e)))
-  HasRead-refused fault old new most same size own is took = go h.rest refl
+  HasRead-refused fault old new most same unread own is took = go h.rest refl
     where
       tail : List (Option (List ℕ))
       tail = drop (index + 1) next
@@ -240,6 +251,15 @@ module _ (gap limit : ℕ) (inputs : List (List ℕ)) (afters next : List (Optio
       parts : next ≡ take index afters ++ after ∷ tail
       parts = sym (take-append-drop (index + 1) next) ∙ ap (λ l. l ++ tail) adds
           ∙ append_assoc (take index afters) (after ∷ []) tail
+
+      others : (input : List ℕ) (rest : List (List ℕ)) → h.rest ≡ input ∷ rest
+          → tail ≡ some_each rest
+      others input rest e =
+          unread ∙ ap (λ l. drop (index + 1) (some_each l)) (whole (input ∷ rest) e)
+          ∙ ap (drop (index + 1)) (map-append (λ input. Some input) done (input ∷ rest))
+          ∙ ap (λ n. drop (n + 1) (some_each done ++ some_each (input ∷ rest)))
+          (sym (length-map done (λ input. Some input) ∙ so_many))
+          ∙ drop-append-add (some_each done) (some_each (input ∷ rest)) 1
 
       go : (rest : List (List ℕ)) → h.rest ≡ rest
           → HoldsOfEach limit inputs next (ReadsEach gap (Err (index, fault)))
@@ -251,17 +271,15 @@ module _ (gap limit : ℕ) (inputs : List (List ℕ)) (afters next : List (Optio
           (TakesInput gap (Err fault) old new)) same
           (subst (λ n. OfGot most known after (TakesInput n (Err fault) old new)) is took)) in
           let g = got_of (TakesInput gap (Err fault) old new) input got in
-          let all : length inputs ≡ length done + length (input ∷ rest) =
-          ap length (whole (input ∷ rest) e) ∙ length-append done (input ∷ rest) in
-          let few = length-drop (index + 1) next in
-          let left = gets_unread limit rest tail (omega (arith, all, few, size, so_many)) in (
+          let left = gets_unread limit rest in (
             h.gots ++ g ∷ left.gots,
             whole (input ∷ rest) e ∙ ap (λ i. done ++ i ∷ rest) got.2.whole
                 ∙ ap (λ l. done ++ (g.text ++ g.rest) ∷ l) left.inputs_are
                 ∙ sym (map-append (λ (g : GotOf limit). g.text ++ g.rest) h.gots
                 (g ∷ left.gots)),
             parts ∙ ap (λ l. l ++ after ∷ tail) h.left
-                ∙ ap (λ l. map (λ (g : GotOf limit). g.after) h.gots ++ after ∷ l) left.afters_are
+                ∙ ap (λ l. map (λ (g : GotOf limit). g.after) h.gots ++ after ∷ l)
+                (others input rest e ∙ left.afters_are)
                 ∙ sym (map-append (λ (g : GotOf limit). g.after) h.gots (g ∷ left.gots)),
             refused_after gap limit index h.gots left.gots g fault (sym h.place)
                 (h.book.0, h.book.1) got.3,

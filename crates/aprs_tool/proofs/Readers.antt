@@ -1,6 +1,6 @@
 -- Lemmas on what was asked of the readers of inputs.
 use Rattle.std.specs.Prelude.{◌⊎◌}
-use Rattle.std.proofs.Common.{◌≡◌, ℕ, zero, suc, List, [], ◌∷◌, length, Some, Result, Ok, Err, inl, inr, slice_get, set, refl, sym, ap, subst, arith}
+use Rattle.std.proofs.Common.{◌≡◌, ℕ, zero, suc, List, [], ◌∷◌, length, drop, Some, Result, Ok, Err, inl, inr, slice_get, set, refl, sym, ap, subst, arith}
 use Rattle.aprs_io.specs.Device.{Calls, Going, End}
 use Rattle.aprs_io.specs.declared.device.Counted.{Counted}
 use Rattle.aprs_io.proofs.Sends.{Calls-then}
@@ -69,6 +69,14 @@ module _ {R : Type 0} where
   ReadsFirst-next (suc n) (r ∷ old) (s ∷ now) h = ReadsFirst-next n old now h.1
   ReadsFirst-next (suc n) [] now h = absurd h
   ReadsFirst-next (suc n) (r ∷ old) [] h = absurd h
+
+  -- nor was any after it
+  pub ReadsFirst-rest : (n : ℕ) (old now : List (Counted R)) → ReadsFirst n old now
+      → drop (suc n) now ≡ drop (suc n) old
+  ReadsFirst-rest zero old now h = ap (drop (suc zero)) h
+  ReadsFirst-rest (suc n) (r ∷ old) (s ∷ now) h = ReadsFirst-rest n old now h.1
+  ReadsFirst-rest (suc n) [] now h = absurd h
+  ReadsFirst-rest (suc n) (r ∷ old) [] h = absurd h
 
   module _ (x y : Counted R) where
     -- it is read to its end

@@ -1,5 +1,5 @@
 -- How a run ends: what it writes, or why it writes nothing. `Stand` says which sets its inputs
--- stand for, and `Tells` which text is written of a set.
+-- stand for, and `Tell` which text is written of a set.
 use Rattle.std.specs.Prelude.{◌≡◌, ◌≤◌, ℕ, ◌+◌, ◌*◌, List, length, Option, Result, Ok, Err}
 use Rattle.std.specs.Io.KnownBytes.{Appends}
 use Rattle.aprs_io.specs.Device.{AppendsPrefix}
@@ -9,11 +9,10 @@ use Rattle.aprs_tool.specs.declared.fault.InputFault.{InputFault}
 use Rattle.aprs_tool.specs.declared.fault.RunFault.{RunFault}
 use Rattle.aprs_tool.specs.declared.fault.RunFault.TheVariants.{Input, Write, Memory}
 
--- There is a set for which the inputs `Stand`; and for each such set, `Tells` holds of it and of
+-- There is a set for which the inputs `Stand`; and for each such set, `Tell` holds of it and of
 -- this text.
 abbrev pub IsToldOf : (List Heard → Type 0) → (List Heard → List ℕ → Type 0) → List ℕ → Type 0
-IsToldOf Stand Tells text =
-    ((S : List Heard) × Stand S) × ((S : List Heard) → Stand S → Tells S text)
+IsToldOf Stand Tell text = ((S : List Heard) × Stand S) × ((S : List Heard) → Stand S → Tell S text)
 
 -- A text of which `Told` holds went out whole, or a prefix of it where the output was refused. In
 -- all no more tries failed than 999 for each byte of the text, and one more where the output was

@@ -17,7 +17,7 @@ returns-then-digits-gt-MAX_DIGITS-clause-none c =
 
 pub returns-in_default-clause-none : goal.returns-in_default-clause-none
 returns-in_default-clause-none c =
-    λ bytes h. c.in_default.ensures bytes h.bytes_are h.digits_are
+    λ bytes h. c.in_default.ensures.bytes bytes h.bytes_are h.digits_are
 
 none_weaker : {A : Type 0} (r : Option A) (P Q : Type 0) → (P → Q) → IfNone r P → IfNone r Q
 none_weaker None P Q f h = f h
@@ -27,6 +27,6 @@ pub returns-clause-none : goal.returns-clause-none
 returns-clause-none c = none_weaker c.nonempty.result _ _ (λ none bytes h.
     let read = take c.in-Some.count c.decode_lower_into.new.room in
     let size : length c.args.digits.now ≡ 2 * length read
-    = ap length c.in-Some.ensures.1 ∙ length-encode_with lower_digits read in
+    = ap length c.in-Some.ensures.bytes.1 ∙ length-encode_with lower_digits read in
     omega (arith, ap length none, size, length-spelled c.args.digits.now bytes h, h.few))
     c.nonempty.ensures.none

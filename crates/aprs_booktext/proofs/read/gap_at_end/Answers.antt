@@ -1,9 +1,10 @@
-use Rattle.std.proofs.Common.{◌≡◌, ◌+◌, ◌++◌, ◌-◌, [], arith, length, take, length-take, subst, append-nil}
+use Rattle.std.proofs.Common.{◌≡◌, ◌+◌, ◌++◌, ◌-◌, ◌∙◌, [], arith, length, sym, take, length-take, subst, append-nil}
+use Rattle.std.proofs.lemmas.Result.{IfErr-weaker}
 use Rattle.aprs_io.proofs.Sends.{Calls-then}
 use Rattle.aprs_booktext.specs.TextFault.{most_ahead}
 use Rattle.aprs_booktext.specs.Reader.{IsFault}
 use Rattle.aprs_booktext.proofs.Inputs.{EndsIn-book, Got-more, IsAnswered-end, IsAnswered-fault}
-use Rattle.aprs_booktext.proofs.Standing.{after_fault, fault_near}
+use Rattle.aprs_booktext.proofs.Standing.{after_fault, ending_not_memory, ends_err, fault_near}
 use Rattle.aprs_booktext.proofs.read.gap_at_end.Goals as goal
 
 pub returns-in-Ok-clause-answer : goal.returns-in-Ok-clause-answer
@@ -25,5 +26,9 @@ pub returns-in-Err-clause-answer : goal.returns-in-Err-clause-answer
 returns-in-Err-clause-answer g c = λ before store head first limit got calls.
     IsAnswered-end _ limit head first _ _ calls _ _ c.in-Err.ending _ got
     (EndsIn-book _ c.finish.result before store c.finish.ensures.ending)
-    c.in-Err.ensures.end c.in-Err.ensures.over c.in-Err.ensures.calls
+    c.in-Err.ensures.end c.in-Err.ensures.calls
     (c.finish.ensures.reads before store)
+
+pub returns-in-Err-clause-refused : goal.returns-in-Err-clause-refused
+returns-in-Err-clause-refused g c = IfErr-weaker c.finish.result _ _
+    (λ f is e. ending_not_memory c.in-Err.ending (sym is ∙ e)) (ends_err _ _ c.finish.ensures.ending)

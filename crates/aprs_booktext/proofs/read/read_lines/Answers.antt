@@ -4,7 +4,7 @@ use Rattle.aprs_io.proofs.Sends.{Calls-none, Calls-then}
 use Rattle.aprs_booktext.specs.TextFault.{most_ahead}
 use Rattle.aprs_booktext.proofs.SameFaults.{first_is}
 use Rattle.aprs_booktext.specs.Reader.{IsFault, Stands}
-use Rattle.aprs_booktext.proofs.Standing.{cut_fault, fault_near, may_end-going}
+use Rattle.aprs_booktext.proofs.Standing.{cut_fault, ending_stop, fault_near, may_end-going}
 use Rattle.aprs_booktext.proofs.Inputs.{Got-none, Got-more, IsAnswered-end, IsAnswered-fault}
 use Rattle.aprs_booktext.proofs.read.read_lines.Goals as goal
 
@@ -62,6 +62,22 @@ pub returns-in-Err-clause-fault : goal.returns-in-Err-clause-fault
 returns-in-Err-clause-fault g c =
     rw c.fault_of_ending.ensures (IsAnswered-end _ c.args.limit c.args.head.now _ _ _
     c.loop-room.invariant.calls _ _ c.in-Err.ending _ c.loop-room.invariant.got refl
-    c.in-Err.ensures.end c.in-Err.ensures.over c.in-Err.ensures.calls
+    c.in-Err.ensures.end c.in-Err.ensures.calls
     (λ t s. rw s.has.counted (first_is _ _ _ (cut_fault _ _ _ t _ (may_end-going _ _
     (sym c.is_done.ensures ∙ c.loop-room-test.true)) s.holds))))
+
+pub returns-in_err-feed-clause-rows : goal.returns-in_err-feed-clause-rows
+returns-in_err-feed-clause-rows g c =
+    let p = err_from_is_err_and c.from_residual.result c.from_residual.ensures.1 in
+    rw (p.1, p.2) (c.in_err-feed.ensures.rows c.args.store.now [] c.requires.stands)
+
+pub returns-in_err-feed-in-Ok-clause-rows : goal.returns-in_err-feed-in-Ok-clause-rows
+returns-in_err-feed-in-Ok-clause-rows g c =
+    let p = err_from_is_err_and c.from_residual-in_err-feed-in-Ok.result
+    c.from_residual-in_err-feed-in-Ok.ensures.1 in
+    rw (p.1, p.2) (c.in_err-feed-in-Ok.ensures.rows c.args.store.now _
+    c.loop-room.invariant.got.stands)
+
+pub returns-in-Err-clause-rows : goal.returns-in-Err-clause-rows
+returns-in-Err-clause-rows g c = rw c.fault_of_ending.ensures
+    (ending_stop c.in-Err.ending _ _ _ _ _ c.loop-room.invariant.got.stands)

@@ -1,13 +1,13 @@
 use Rattle.std.proofs.Common.{◌≡◌, [], Some, get_or, set, slice_get, length, map, refl, sym, ap, ◌∙◌, add-one, subst, arith}
-use Rattle.std.proofs.lemmas.List.{length-map, length-set}
+use Rattle.std.proofs.lemmas.List.{length-map}
 use Rattle.std.proofs.lemmas.Option.{slice_get-get_or}
 use Rattle.aprs_io.specs.Device.{device_of}
 use Rattle.aprs_laws.specs.Book.{BookOf}
 use Rattle.aprs_laws.specs.BookValue.{BookValue}
 use Rattle.aprs_laws.specs.Gap.{millis_of}
 use Rattle.aprs_laws.proofs.RunRows.{book_of_nothing}
-use Rattle.aprs_tool.proofs.Merges.{HasRead-all, HasRead-more, HasRead-none, HasRead-refused, after_more, element_of, same_len}
-use Rattle.aprs_tool.proofs.Readers.{AsksEach-next, ReadsFirst, ReadsFirst-all, ReadsFirst-more, ReadsFirst-next}
+use Rattle.aprs_tool.proofs.Merges.{HasRead-all, HasRead-more, HasRead-none, HasRead-refused, after_more, after_same, element_of, same_len, some_each}
+use Rattle.aprs_tool.proofs.Readers.{AsksEach-next, ReadsFirst, ReadsFirst-all, ReadsFirst-more, ReadsFirst-next, ReadsFirst-rest}
 use Rattle.aprs_tool.proofs.merge.read_all.Goals as goal
 
 pub loop-index-init : goal.loop-index-init
@@ -56,16 +56,15 @@ returns-in-Err-clause-reads g c =
     ∙ slice_get-get_or now i c.index-inputs-index.result
     (omega (arith, c.loop-index-test.true, c.loop-index.auto.inputs)) in
     λ inputs e.
-    let len = same_len (λ r. g.R.Read.remaining (device_of r)) old inputs e in
-    let new = length-map (set now i c.read_into.new.r) (λ r. g.R.Read.remaining (device_of r)) in
-    let size = length-set now i c.read_into.new.r in
     HasRead-refused _ c.args.limit inputs (map (λ r. g.R.Read.remaining (device_of r)) now) _ i
     c.loop-index.gathered.rows _ _ (c.loop-index.invariant.read inputs e)
     (element_of (λ r. g.R.Read.remaining (device_of r)) old _ i r at e)
     (after_more (λ r. g.R.Read.remaining (device_of r)) now i c.read_into.new.r
     (omega (arith, c.loop-index-test.true, c.loop-index.auto.inputs)))
     c.in-Err.fault c.loop-index.gathered.rows c.read_into.new.gathered.rows
-    _ refl (omega (arith, len, new, size, c.loop-index.auto.inputs)) c.loop-index.gathered.gap
+    _ refl (after_same (λ r. g.R.Read.remaining (device_of r)) now old (some_each inputs) i
+    c.read_into.new.r (ReadsFirst-rest i old now c.loop-index.invariant.calls) e)
+    c.loop-index.gathered.gap
     c.loop-index.invariant.gap c.in-Err.ensures.reads
 
 pub returns-in-Err-clause-calls : goal.returns-in-Err-clause-calls

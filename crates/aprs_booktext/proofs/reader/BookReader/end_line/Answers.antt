@@ -21,3 +21,18 @@ returns-clause-fault g c = IfErr-weaker c.take_kept_line.result _ _
     (omega arith) (fault before (t ++ c.args.part.now) more
     (c.in_ok-append.ensures.stands before c.args.store.now t s lacks)))
     c.take_kept_line.ensures.fault
+
+pub returns-then-not-is_done-clause-rows : goal.returns-then-not-is_done-clause-rows
+returns-then-not-is_done-clause-rows g c = IfErr-weaker c.take_line.result _ _
+    (λ f rows before t s lacks. rows before t s) c.take_line.ensures.rows
+
+pub returns-in_err-append-clause-rows : goal.returns-in_err-append-clause-rows
+returns-in_err-append-clause-rows g c =
+    let p = err_from_is_err_and c.from_residual.result c.from_residual.ensures.1 in
+    rw (p.1, p.2) (λ before t s lacks. c.in_err-append.ensures.rows before c.args.store.now t s)
+
+pub returns-clause-rows : goal.returns-clause-rows
+returns-clause-rows g c = IfErr-weaker c.take_kept_line.result _ _
+    (λ f rows before t s lacks. rows before (t ++ c.args.part.now)
+    (c.in_ok-append.ensures.stands before c.args.store.now t s lacks))
+    c.take_kept_line.ensures.rows

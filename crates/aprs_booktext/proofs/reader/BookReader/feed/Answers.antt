@@ -49,3 +49,17 @@ returns-clause-fault g c =
     (subst (IsFault (length c.loop-part.rest.now + 0) f) (append-nil (t ++ c.loop-part.rest.now))
     (fault before c.loop-part.store t [] s))))
     c.append.ensures.fault
+
+pub returns-in_err-end_line-clause-rows : goal.returns-in_err-end_line-clause-rows
+returns-in_err-end_line-clause-rows g c =
+    let p = err_from_is_err_and c.from_residual.result c.from_residual.ensures.1 in
+    rw (p.1, p.2) (λ before t s.
+    let fed = c.loop-part.invariant.fed before in
+    c.in_err-end_line.ensures.rows before (t ++ fed.prefix) (fed.fed t s) c.in-Some.ensures.some.1)
+
+pub returns-clause-rows : goal.returns-clause-rows
+returns-clause-rows g c = IfErr-weaker c.append.result _ _
+    (λ f rows before t s.
+    let fed = c.loop-part.invariant.fed before in
+    rows before c.loop-part.store (t ++ fed.prefix) (fed.fed t s))
+    c.append.ensures.rows
