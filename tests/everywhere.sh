@@ -76,35 +76,42 @@ for it in programs/*; do
     tried "$name" > "$name.said" 2>&1 &
     running="$running $name:$!"
 done
-answers "$program" > expected
+answers "$scratch/bin/aprsbook" > expected
 for it in $running; do
     name=${it%:*}
     wait "${it#*:}" || fail "$name: $(cat "$name.said")"
     cmp expected "$name.answers" || fail "$name answers something else"
 done
 
-# ---- little memory: 100 MB, which a log of a million lines outgrows in a merge ----
+# ---- little memory: a log of a million lines, which a merge has to hold ----
 
 awk 'BEGIN {
     for (i = 0; i < 1000000; i++)
         printf "2024-05-%02dT%02d:%02d:%02dZ RX1 %s\n", 1 + int(i / 86400), i / 3600 % 24, i / 60 % 60,
             i % 60, "c00082a0a4a64040e09c60868298986f03f03e4869c0"
 }' > long.log
-# short STATUS PROGRAM WORD..: with so little it ends with that status
+# short KILOBYTES STATUSES PROGRAM WORD..: with so little it ends with one of the statuses
 short() {
-    wanted=$1 status=0
-    shift
+    limit=$1 wanted=$2 status=0
+    shift 2
     # shellcheck disable=SC3045 # not of POSIX, but of each shell of Debian
-    (ulimit -v 100000 && exec "$@" long.log) > short.out 2> short.said || status=$?
-    [ $status = "$wanted" ] || fail "$* in 100 MB ended with $status: $(cat short.said)"
+    (ulimit -v "$limit" && exec "$@" long.log) > short.out 2> short.said || status=$?
+    case $status in
+    [$wanted]) ;;
+    *) fail "$* in $limit kB ended with $status: $(cat short.said)" ;;
+    esac
     [ $status = 0 ] || [ "$(cat short.said)" = 'aprsbook: out of memory' ] ||
-        fail "$* in 100 MB says: $(cat short.said)"
+        fail "$* in $limit kB says: $(cat short.said)"
 }
 for it in "$program" programs/static-amd64/aprsbook; do
     [ -x "$it" ] || continue
-    short 0 "$it" check
-    short 0 "$it" convert kind
-    short 4 "$it" merge
-    short 4 "$it" show
+    short 20000 0 "$it" check
+    short 20000 0 "$it" convert kind
+    for words in merge show 'widen 60'; do
+        # shellcheck disable=SC2086 # one word each
+        short 20000 4 "$it" $words
+        # shellcheck disable=SC2086 # one word each
+        short 100000 04 "$it" $words
+    done
 done
 if [ -n "$running" ]; then echo 'the programs for other machines answer as this one'; fi

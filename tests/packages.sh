@@ -46,7 +46,7 @@ runs() {
         fail "$1: last-heard says: $(cat said)"
     grep -q 'N0CALL-8' said || fail "$1: last-heard says: $(cat said)"
     grep -h '^ExecStart=' "$1"/lib/systemd/system/*.service | tr ' ' '\n' |
-        sed -n 's,^/usr\(/local\)\{0,1\}/share/,,p' | while read -r file; do
+        sed -n 's|^/usr/local/share/||p; s|^/usr/share/||p' | while read -r file; do
         [ -e "$1/share/$file" ] || fail "$1: a unit names $file"
     done
 }
