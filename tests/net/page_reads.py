@@ -80,7 +80,8 @@ def test_same(page, _):
     is_(page.js("aprsbook.page.data.listing"), program(["show"], EVENING).stdout.decode())
     own = subprocess.run(["event-page", *EVENING], stdout=subprocess.PIPE, check=True).stdout
     is_(page.js("aprsfiles.eventPage()") == own.decode(), True)
-    is_(page.js("(aprsbook.page.map.paint(), aprsbook.page.map.marks.length)"), 16)
+    is_(page.js("(aprsbook.page.map.paint(), aprsbook.page.map.marks.length)"),
+        page.js("aprsbook.page.net.placed.length"))
     for name in sorted(page.js(TOLD)):
         is_(page.js(TOLD)[name], checked(EXAMPLES / "evening" / name))
     picture(page, "evening")
