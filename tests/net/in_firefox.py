@@ -41,7 +41,6 @@ def test_evening(page, folder):
     is_(page.js(texts % "#things tbody th"), ["Q1MED-7"])
     page.js("document.querySelector('.pick').click()")
     is_(page.js("document.getElementById('one-name').textContent"), "Q1MED-7 station")
-    is_(page.js("getComputedStyle(document.getElementById('one')).display"), "block")
     if PICTURES:
         page.picture(f"{PICTURES}/firefox.png", whole=True)
     is_(page.requests(), [])
