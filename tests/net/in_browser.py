@@ -273,6 +273,11 @@ def test_times(page, folder):
     is_(page.js(times), ["11:10:00", "12:05:00"])
     assert "UTC+12:00" in page.js("about.textContent")
     page.call("Emulation.setTimezoneOverride", timezoneId="")
+    # a net that goes on, and in whose last hour nothing was heard
+    page.open(page_of(folder / "days.html", "".join(lines), listing, live=3600) + "#since=1")
+    is_(page.js("about.textContent"), "Nothing was heard in this time.")
+    page.wait("document.getElementById('timeline-box').textContent === 'none'")
+    page.wait("stale.textContent.startsWith('nothing was heard for ')")
     is_(page.problems(), [])
 
 
