@@ -115,6 +115,7 @@ function drawLists() {
   later("receivers", () => lists.receivers.show(net.receivers));
   later("heard", () => { lists.heard = heardList(net); });
   later("repeated", () => { lists.repeated = repeatedList(net); });
+  later("find", () => net.things.forEach(hayOf));
   later("timeline", () => { lists.timeline = timelineList(byId("timeline-box"), net); });
 }
 const heardList = net => pairList(byId("heard-box"), "heard",
@@ -124,17 +125,18 @@ const repeatedList = net => pairList(byId("repeated-box"), "repeated",
   "how many transmissions each digipeater repeated, of those that were heard", net.repeated,
   net.sent, (source, name, n, of) => shareText(n, of));
 
+/** What `find` looks in, kept. */
+function hayOf(it) {
+  let text = page.finder.get(it);
+  if (text === undefined) page.finder.set(it, text = haystack(it));
+  return text;
+}
 /** Filters the things by what is asked for; that holds for the map too. */
 function sift() {
   const words = byId("find").value.toLowerCase(), kind = byId("kind").value;
   const isOfKind = it => !kind || (kind === "silent" ? view.isSilent(it) : it.kind === kind);
-  const hay = it => {
-    let text = page.finder.get(it);
-    if (text === undefined) page.finder.set(it, text = haystack(it));
-    return text;
-  };
   const { things } = page.net;
-  page.found = things.filter(it => isOfKind(it) && (!words || hay(it).includes(words)));
+  page.found = things.filter(it => isOfKind(it) && (!words || hayOf(it).includes(words)));
   byId("found").textContent = page.found.length === things.length ? ""
     : `${page.found.length} of ${things.length}`;
   page.lists.things.show(page.found);

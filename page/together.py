@@ -16,8 +16,8 @@ import sys
 
 HERE = pathlib.Path(__file__).resolve().parent
 # what draws, in each page; what reads logs; and what runs the module, beside the page
-DRAWS = ("words dom reading net globe symbols comment map lists messages tables timeline overlays "
-         "exports event alive begin").split()
+DRAWS = ("words dom reading net globe symbols comment grid map hands lists messages tables "
+         "timeline overlays exports event alive begin").split()
 READS = "drop follow".split()
 RUNS = "host worker".split()
 FOOTER = "Made by {} from a book of aprsbook."

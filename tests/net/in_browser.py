@@ -52,6 +52,20 @@ def event_page(path, *arguments):
     return "file://" + str(path)
 
 
+def placed(*inputs):
+    """How many things have a place, by the history of the inputs."""
+    command = ["aprsbook-history", *inputs]
+    history = subprocess.run(command, stdout=subprocess.PIPE, check=True).stdout.decode()
+    things = set()
+    for line in history.splitlines():
+        words = line.split(" ")
+        if words[0] in ("position", "mic-e"):
+            things.add(("station", words[4]))
+        elif words[0] in ("object", "item"):
+            things.add((words[0], words[6]))
+    return len(things)
+
+
 def page_of(path, history, listing="", **options):
     """The page of texts by hand."""
     data = {"title": "APRS net", "gap": 30, "live": 0, "silent": 30, "maps": [], "roster": "",
@@ -123,7 +137,7 @@ def test_controls(page, folder):
     page.open(url)
     is_(page.requests(), [url])
     is_(page.problems(), [])
-    is_(page.js(marks), 16)
+    is_(page.js(marks), placed(*EVENING))
     page.js("document.querySelectorAll('#things thead button')[5].click()")
     is_(page.js(shown + "[0]"), "Q1NET")
     page.js("document.querySelectorAll('#things thead button')[5].click()")
@@ -145,7 +159,7 @@ def test_controls(page, folder):
     picture(page, "picked")
     # the clock: half way, fewer have been anywhere; and what is chosen outlives loading again
     change(page, "clock", "100", "input")
-    assert 0 < page.js(marks) < 16
+    assert 0 < page.js(marks) < placed(*EVENING)
     before = [page.js("document.getElementById('then').textContent"), page.js(marks)]
     page.js("map.focus()")
     hash_before = page.js("location.hash")
@@ -181,7 +195,7 @@ def mouse(page):
     change(page, "clock", "950", "input")
     page.js("play.click()")
     page.wait("clock.value === '1000' && play.textContent === 'play'")
-    is_(page.js(marks), 16)
+    is_(page.js(marks), placed(*EVENING))
     x, y = page.js("aprsbook.page.map.marks.filter(it => it.thing.name === 'Q1BAY')"
                    ".map(it => [it.x, it.y])[0]")
     for kind in "mousePressed", "mouseReleased":
@@ -259,6 +273,11 @@ def test_times(page, folder):
     is_(page.js(times), ["11:10:00", "12:05:00"])
     assert "UTC+12:00" in page.js("about.textContent")
     page.call("Emulation.setTimezoneOverride", timezoneId="")
+    # a net that goes on, and in whose last hour nothing was heard
+    page.open(page_of(folder / "days.html", "".join(lines), listing, live=3600) + "#since=1")
+    is_(page.js("about.textContent"), "Nothing was heard in this time.")
+    page.wait("document.getElementById('timeline-box').textContent === 'none'")
+    page.wait("stale.textContent.startsWith('nothing was heard for ')")
     is_(page.problems(), [])
 
 

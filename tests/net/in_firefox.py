@@ -31,7 +31,8 @@ def is_(got, wanted):
 def test_evening(page, folder):
     page.open(event_page(folder / "evening.html", "--title", "Fell race", *EVENING))
     page.wait("document.querySelectorAll('#timeline tbody tr').length > 10")
-    is_(page.js("(aprsbook.page.map.paint(), aprsbook.page.map.marks.length)"), 16)
+    is_(page.js("(aprsbook.page.map.paint(), aprsbook.page.map.marks.length)"),
+        page.js("aprsbook.page.net.placed.length"))
     is_(page.js(texts % "#messages .state"),
         ["unanswered", "rejected", "acknowledged", "acknowledged", "acknowledged"])
     is_(page.js(texts % "#receivers tbody th"), ["COAST", "HILL", "NORTH"])
@@ -40,7 +41,6 @@ def test_evening(page, folder):
     is_(page.js(texts % "#things tbody th"), ["Q1MED-7"])
     page.js("document.querySelector('.pick').click()")
     is_(page.js("document.getElementById('one-name').textContent"), "Q1MED-7 station")
-    is_(page.js("getComputedStyle(document.getElementById('one')).display"), "block")
     if PICTURES:
         page.picture(f"{PICTURES}/firefox.png", whole=True)
     is_(page.requests(), [])

@@ -23,7 +23,7 @@ head -c 1001 "$examples/evening/north.log" > logs/2024-06-21/north.log
 DAYS=2024-06-21 net-now logs page --title 'Fell race' 2> said
 cmp page/net.book wanted.book || fail 'the book is another'
 [ "$(cat said)" = 'net-now: logs/2024-06-21/hill.log: lines left out: 1' ] || fail "$(cat said)"
-grep -q '<h1>Fell race</h1>' page/index.html || fail 'the page has another title'
+grep -q '<h1 id="title">Fell race</h1>' page/index.html || fail 'the page has another title'
 [ -z "$(find page -name '*.new')" ] || fail 'something was left beside'
 
 # another gap, and what has the book's old file open goes on reading it

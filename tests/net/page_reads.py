@@ -80,7 +80,8 @@ def test_same(page, _):
     is_(page.js("aprsbook.page.data.listing"), program(["show"], EVENING).stdout.decode())
     own = subprocess.run(["event-page", *EVENING], stdout=subprocess.PIPE, check=True).stdout
     is_(page.js("aprsfiles.eventPage()") == own.decode(), True)
-    is_(page.js("(aprsbook.page.map.paint(), aprsbook.page.map.marks.length)"), 16)
+    is_(page.js("(aprsbook.page.map.paint(), aprsbook.page.map.marks.length)"),
+        page.js("aprsbook.page.net.placed.length"))
     for name in sorted(page.js(TOLD)):
         is_(page.js(TOLD)[name], checked(EXAMPLES / "evening" / name))
     picture(page, "evening")
@@ -248,12 +249,11 @@ def test_follow(page, folder):
         fresh(page, f"http://127.0.0.1:{server.port}/net.html#logs=logs.txt")
         page.wait(MADE)
         whole = hill[:hill.rindex(b"\n", 0, 3001) + 1]
-        history = program(["history"], given=coast + whole).stdout.decode()
-        is_(page.js("aprsbook.page.data.history"), history)
+        is_(page.js(BOOK), base64_of(program(["merge"], given=coast + whole).stdout))
         (folder / "hill.log").write_bytes(hill)
         page.js("(document.getElementById('follow').dispatchEvent(new Event('change')), 1)")
-        history = program(["history"], given=coast + hill).stdout
-        page.wait(f"aprsbook.page.data.history.length === {len(history)}")
+        book = base64_of(program(["merge"], given=coast + hill).stdout)
+        page.wait(f"{MADE} && {BOOK} === '{book}'")
         # the rest of the log alone was asked for
         assert any(it.startswith("bytes=") for it in server.ranges), server.ranges
     page.js("(document.getElementById('follow').dispatchEvent(new Event('change')), 1)")
