@@ -106,7 +106,11 @@ def test_order(folder):
     (folder / "page.html").write_text("before")
     event_page("-o", folder / "page.html", "--title", "Fell race", *logs)
     assert read((folder / "page.html").read_text())[0].texts["h1"] == ["Fell race"]
-    assert not list(folder.glob("*.new"))
+    assert not list(folder.glob("*.new*"))
+    (folder / "-x.log").write_bytes(pathlib.Path(logs[0]).read_bytes())
+    done = subprocess.run(["event-page", "--note", "<b>", "--", "-x.log"], cwd=folder,
+                          stdout=subprocess.PIPE, check=True)
+    assert "<b>" in read(done.stdout.decode())[0].texts["p"]
 
 
 def test_hostile(folder):
@@ -142,7 +146,9 @@ def test_refused(folder):
     done = subprocess.run(["event-page", "-o", folder / "page.html", folder / "torn.log"],
                           stderr=subprocess.PIPE)
     assert done.returncode == 1 and (folder / "page.html").read_text() == "before"
-    for course in "torn.log", "nowhere.gpx":
+    (folder / "north.gpx").write_text('<gpx><trkpt lat="95" lon="0"/><wpt lat="x" lon="0"/></gpx>')
+    (folder / "point.gpx").write_text('<gpx><trkseg><trkpt lon="0"/></trkseg></gpx>')
+    for course in "torn.log", "nowhere.gpx", "north.gpx", "point.gpx":
         done = subprocess.run(["event-page", "--course", folder / course, EXAMPLES / "sample.log"],
                               stdout=subprocess.PIPE, stderr=subprocess.PIPE)
         assert done.returncode == 1 and done.stdout == b"", course
