@@ -35,6 +35,9 @@ fi
 mkdir -p "$work/logs/2024-06-21" "$work/output" "$scratch/bin" "$scratch/blocks"
 work=$(realpath "$work")
 ln -s "$program" "$scratch/bin/aprsbook"
+for history in "${program%/*}/aprsbook-history" "${program%/aprsbook/out/*}"/*/out/aprsbook_history; do
+    if [ -x "$history" ]; then ln -sf "$history" "$scratch/bin/aprsbook-history"; fi
+done
 export PATH="$scratch/bin:$here/recipes:$PATH"
 export RECIPES="$here/recipes" EXAMPLES="$here"
 cp "$here"/evening/*.log "$work"

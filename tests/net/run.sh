@@ -13,7 +13,11 @@ examples=$(cd "$here/../../examples" && pwd)
 scratch=$(mktemp -d)
 trap 'rm -rf "$scratch"' EXIT
 mkdir "$scratch/bin"
-ln -s "$(realpath "$1")" "$scratch/bin/aprsbook"
+program=$(realpath "$1")
+ln -s "$program" "$scratch/bin/aprsbook"
+for history in "${program%/*}/aprsbook-history" "${program%/aprsbook/out/*}"/*/out/aprsbook_history; do
+    if [ -x "$history" ]; then ln -sf "$history" "$scratch/bin/aprsbook-history"; fi
+done
 export PATH="$scratch/bin:$examples/recipes:$PATH"
 # with TOOLS TEST ARGUMENT..: runs a test where its tools are there
 with() {
@@ -30,7 +34,7 @@ with() {
 
 with 'python3' every_place.py
 with 'python3' tracks.py "$examples"
-with '' last_heard.sh "$examples"
+with 'python3' asked.py "$examples"
 with 'python3' event_page.py "$examples"
 with 'python3 chromium' in_browser.py "$examples"
 with 'python3' listen.py "$examples"
