@@ -53,6 +53,7 @@ else
     aprsbook merge "$examples"/evening/*.log "$examples/slow.log" > net.book
     aprsbook show net.book > listing
     history-rows net.book > rows
+    aprsbook-history net.book > history
     cat > atest.txt << 'end'
 DECODED[1] 1:02.345 N0CALL audio level = 50(21/22)     |||||||||
   000:  82 a0 a4 a6 40 40 e0 9c 60 86 82 98 98 6f 03 f0  ....@@..`....o..
@@ -68,7 +69,7 @@ end
         "$@" -f "$recipes/log.awk" net.book
         "$@" -f "$recipes/pcap.awk" net.book
         "$@" -f "$recipes/receivers.awk" net.book | sort
-        "$@" -f "$recipes/stations.awk" net.book | sort
+        "$@" -f "$recipes/stations.awk" history | sort
         "$@" -v start=1714564800 -v name=TAPE -f "$recipes/atest.awk" atest.txt
     }
     all awk > expected

@@ -116,8 +116,12 @@ for it in 'empty.book is passed over: empty' 'link.book is passed over: no file'
 says '^fold-in: in/cut.book is passed over: line [0-9]*: Ending$'
 says '^fold-in: in/gap.book is passed over: other gap$'
 [ "$(wc -l < said)" = 7 ] || fail "fold-in says: $(cat said)"
-# its own book is empty, faulty, or isn't there: nothing changes
+# a full disk (a limit stands for it) isn't a book's fault
 club
+cp coast.60 club/in/coast.book
+if (trap '' XFSZ; ulimit -f 1; fold-in club) 2> said; then fail 'fold-in passes over a full disk'; fi
+same club/own.book hill.60
+# its own book is empty, faulty, or isn't there: nothing changes
 : > club/own.book
 cp north.60 club/in/north.book
 if fold-in club 2> said; then fail 'fold-in takes an empty file for its own book'; fi

@@ -7,21 +7,22 @@ function degrees(fraction,   text) {
     return text
 }
 # its fields begin at the n-th with the stamp; then degrees, ambiguity, symbol:comment
-function place(kind, name, state, n, before,   at, symbol, about, i, it) {
+function place(kind, name, state, n, before,   tail, symbol, about, it) {
     it = kind " " name
     if (it in heard) {
         if (heard[it] >= $5 " " $1 " " $2) return
     } else order[++count] = it
     heard[it] = $5 " " $1 " " $2
-    for (i = 1; i < n + 4; i++) at += length($i) + 1
-    symbol = substr($0, at + 1, 1) == "\\" ? 4 : 1
-    symbol += substr($0, at + 1 + symbol, 1) == "\\" ? 4 : 1
-    about = substr($0, at + symbol + 2)
+    tail = $(n + 1) " " $(n + 2) " " $(n + 3) " "
+    tail = substr($0, index($0, tail) + length(tail))
+    symbol = substr(tail, 1, 1) == "\\" ? 4 : 1
+    symbol += substr(tail, 1 + symbol, 1) == "\\" ? 4 : 1
+    about = substr(tail, symbol + 2)
     if (state == "killed") about = about == "" ? "killed" : "killed: " about
     gsub(/\\x20/, " ", name)
     line[it] = kind "\t" name "\t" state "\t" substr($5, 1, 10) "\t" substr($5, 12, 12) "\t" $1 "\t" \
         $7 "\t" degrees($(n + 1)) "\t" degrees($(n + 2)) "\t" $(n + 3) "\t" \
-        substr($0, at + 1, symbol) "\t" before about
+        substr(tail, 1, symbol) "\t" before about
 }
 $3 == "position" { place("station", $7, "live", 9) }
 $3 == "mic-e" { place("station", $7, "mic-e", 12, sprintf("%03d/%03d %s ", $9, $10, $11)) }

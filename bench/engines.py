@@ -1,0 +1,62 @@
+#!/usr/bin/env python3
+"""Merges of logs, and of the book files of their days, by one process and by merge-tree with one to
+four processors: seconds, beside the one process, and the greatest memory of a process.
+
+usage: engines.py PROGRAM LINES..    needs taskset, and what merge-tree needs
+"""
+import os
+import pathlib
+import subprocess
+import sys
+import tempfile
+import time
+
+HERE = pathlib.Path(__file__).resolve().parent
+DAYS = 16
+
+
+def run(*command, to=None):
+    """Seconds, and MiB of the greatest process that it starts."""
+    begin = time.monotonic()
+    with open(to or os.devnull, "wb") as out:
+        _, status, used = os.wait4(subprocess.Popen(list(map(str, command)), stdout=out).pid, 0)
+    if status:
+        sys.exit(f"engines.py: {command[:4]} failed")
+    return time.monotonic() - begin, used.ru_maxrss / 1024
+
+
+def days_of(folder, lines):
+    """Logs of three receivers, each cut into days."""
+    subprocess.run([sys.executable, HERE / "make_log.py", str(lines), folder], check=True)
+    for log in sorted(folder.glob("*.log")):
+        subprocess.run(["split", "-n", f"l/{DAYS}", "--numeric-suffixes=1", log, folder / "part"], check=True)
+        for part in sorted(folder.glob("part*")):
+            day = folder / "logs" / f"2024-05-{part.name[4:]}"
+            day.mkdir(parents=True, exist_ok=True)
+            part.rename(day / log.name)
+        log.unlink()
+
+
+def measure(program, lines):
+    with tempfile.TemporaryDirectory(dir=os.environ.get("TMPDIR", "/var/tmp")) as name:
+        folder = pathlib.Path(name)
+        (folder / "bin").mkdir()
+        (folder / "bin/aprsbook").symlink_to(program.resolve())
+        os.environ["PATH"] = f"{folder}/bin:{HERE.parent}/examples/recipes:" + os.environ["PATH"]
+        days_of(folder, lines)
+        (folder / "books").mkdir()
+        for day in (folder / "logs").iterdir():
+            run("aprsbook", "merge", *sorted(day.iterdir()), to=folder / "books" / (day.name + ".book"))
+        for kind in "logs", "books":
+            trees = [(n, *run("taskset", "-c", f"0-{n - 1}", "merge-tree", folder / kind, folder / "tree"))
+                     for n in (1, 2, 3, 4)]
+            inputs = sorted(path for path in (folder / kind).rglob("*") if path.is_file())
+            one, memory = run("aprsbook", "merge", *inputs, to=folder / "one")
+            assert (folder / "one").read_bytes() == (folder / "tree").read_bytes()
+            print(f"{lines} lines, {kind}: one process {one:.1f} s, {memory:.0f} MiB")
+            for n, took, most in trees:
+                print(f"    {n} processors: {took:.1f} s ({one / took:.2f} times as fast), {most:.0f} MiB")
+
+
+for text in sys.argv[2:]:
+    measure(pathlib.Path(sys.argv[1]), int(text))
