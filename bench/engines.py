@@ -37,26 +37,25 @@ def days_of(folder, lines):
         log.unlink()
 
 
-def measure(program, lines):
-    with tempfile.TemporaryDirectory(dir=os.environ.get("TMPDIR", "/var/tmp")) as name:
-        folder = pathlib.Path(name)
-        (folder / "bin").mkdir()
-        (folder / "bin/aprsbook").symlink_to(program.resolve())
-        os.environ["PATH"] = f"{folder}/bin:{HERE.parent}/examples/recipes:" + os.environ["PATH"]
-        days_of(folder, lines)
-        (folder / "books").mkdir()
-        for day in (folder / "logs").iterdir():
-            run("aprsbook", "merge", *sorted(day.iterdir()), to=folder / "books" / (day.name + ".book"))
-        for kind in "logs", "books":
-            trees = [(n, *run("taskset", "-c", f"0-{n - 1}", "merge-tree", folder / kind, folder / "tree"))
-                     for n in (1, 2, 3, 4)]
-            inputs = sorted(path for path in (folder / kind).rglob("*") if path.is_file())
-            one, memory = run("aprsbook", "merge", *inputs, to=folder / "one")
+def measure(program, folder, lines):
+    (folder / "bin").mkdir()
+    (folder / "bin/aprsbook").symlink_to(program.resolve())
+    os.environ["PATH"] = f"{folder}/bin:{HERE.parent}/examples/recipes:" + os.environ["PATH"]
+    (folder / "books").mkdir()
+    for day in (folder / "logs").iterdir():
+        run("aprsbook", "merge", *sorted(day.iterdir()), to=folder / "books" / (day.name + ".book"))
+    for kind in "logs", "books":
+        inputs = sorted(path for path in (folder / kind).rglob("*") if path.is_file())
+        one, memory = run("aprsbook", "merge", *inputs, to=folder / "one")
+        print(f"{lines} lines, {kind}: one process {one:.1f} s, {memory:.0f} MiB", flush=True)
+        for n in 1, 2, 3, 4:
+            took, most = run("taskset", "-c", f"0-{n - 1}", "merge-tree", folder / kind, folder / "tree")
             assert (folder / "one").read_bytes() == (folder / "tree").read_bytes()
-            print(f"{lines} lines, {kind}: one process {one:.1f} s, {memory:.0f} MiB")
-            for n, took, most in trees:
-                print(f"    {n} processors: {took:.1f} s ({one / took:.2f} times as fast), {most:.0f} MiB")
+            print(f"    {n} processors: {took:.1f} s ({one / took:.2f} times as fast), {most:.0f} MiB",
+                  flush=True)
 
 
 for text in sys.argv[2:]:
-    measure(pathlib.Path(sys.argv[1]), int(text))
+    with tempfile.TemporaryDirectory(dir="/var/tmp") as name:
+        days_of(pathlib.Path(name), int(text))
+        measure(pathlib.Path(sys.argv[1]), pathlib.Path(name), int(text))
