@@ -26,14 +26,14 @@ def run(*command, to=None):
 
 
 def days_of(folder, lines):
-    """Logs of three receivers, each cut into days."""
-    subprocess.run([sys.executable, HERE / "make_log.py", str(lines), folder], check=True)
+    """Logs of three receivers, in DAYS folders: what they heard of one day, in as many years."""
+    subprocess.run([sys.executable, HERE / "make_log.py", str(lines // DAYS), folder], check=True)
     for log in sorted(folder.glob("*.log")):
-        subprocess.run(["split", "-n", f"l/{DAYS}", "--numeric-suffixes=1", log, folder / "part"], check=True)
-        for part in sorted(folder.glob("part*")):
-            day = folder / "logs" / f"2024-05-{part.name[4:]}"
+        text = b"\n" + log.read_bytes()
+        for year in range(2024, 2024 + DAYS):
+            day = folder / "logs" / f"{year}-05-01"
             day.mkdir(parents=True, exist_ok=True)
-            part.rename(day / log.name)
+            (day / log.name).write_bytes(text.replace(b"\n2024-", b"\n%d-" % year)[1:])
         log.unlink()
 
 
