@@ -7,7 +7,8 @@
 #        thrown away
 #
 # A recipe is a block that begins with ```sh. The words after sh are the tools that it needs beyond
-# those of a POSIX system.
+# those of a POSIX system. A block that begins with ```text printed is what the one before it prints,
+# but for how many blanks or tabs are between words.
 set -euo pipefail
 export LC_ALL=C
 posix=
@@ -57,12 +58,17 @@ awk -v to="$scratch/blocks/" '
         open = 1
         next
     }
+    /^```text printed/ {
+        file = file ".printed"
+        open = 1
+        next
+    }
     /^```/ { if (open) close(file); open = 0 }
     open { print > file }
 ' "$here/../docs/cookbook.md"
 
 ran=0 left=0
-for block in "$scratch"/blocks/*; do
+for block in "$scratch"/blocks/???; do
     heading=$(sed -n 1p "$block")
     read -ra tools <<< "$(sed -n 2p "$block")"
     if [ -n "$posix" ] && [ "${#tools[@]}" -gt 0 ]; then
@@ -80,6 +86,10 @@ for block in "$scratch"/blocks/*; do
         echo "failed: $heading"
         sed 1,2d "$block"
         cat "$output"
+        exit 1
+    fi
+    if [ -e "$block.printed" ] && ! diff -b "$block.printed" "$output"; then
+        echo "$heading prints something else"
         exit 1
     fi
     echo "ran: $heading"

@@ -50,42 +50,31 @@ if ! has 'a decimal comma' localedef; then
 elif ! localedef -i de_DE -f UTF-8 locales/de_DE.UTF-8 > said 2>&1; then
     echo "left out: a decimal comma (needs the language de_DE, as in Debian's package locales)"
 else
-    cp "$examples/evening/hill.log" .
     aprsbook merge "$examples"/evening/*.log "$examples/slow.log" > net.book
     aprsbook show net.book > listing
+    history-rows net.book > rows
+    aprsbook-history net.book > history
     cat > atest.txt << 'end'
 DECODED[1] 1:02.345 N0CALL audio level = 50(21/22)     |||||||||
   000:  82 a0 a4 a6 40 40 e0 9c 60 86 82 98 98 6f 03 f0  ....@@..`....o..
   010:  3e 48 69                                         >Hi
 ------
 end
-    cat > kissutil.txt << 'end'
-From KISS TNC:
-  000:  c0 00 82 a0 a4 a6 40 40 e0 9c 60 86 82 98 98 6f  ......@@..`....o
-  010:  03 f0 3e 48 69 c0                                ..>Hi.
-[0 2024-05-01T12:00:00Z] N0CALL-7>APRS:>Hi
-end
     # all AWK..: what each file of awk prints
     all() {
-        "$@" -f "$recipes/places.awk" listing
+        "$@" -f "$recipes/places.awk" rows
         "$@" -f "$examples/map.awk" listing
         "$@" -v within=54.51,-3.54,54.53,-3.50 -f "$examples/map.awk" listing
         "$@" -f "$examples/coverage.awk" net.book
         "$@" -f "$recipes/log.awk" net.book
         "$@" -f "$recipes/pcap.awk" net.book
         "$@" -f "$recipes/receivers.awk" net.book | sort
-        "$@" -f "$recipes/stations.awk" net.book | sort
-        "$@" -f "$recipes/map-source.awk" hill.log |
-            "$@" -v parts=4 -v name=part -f "$recipes/partition.awk"
-        cat part.?
+        "$@" -f "$recipes/stations.awk" history | sort
         "$@" -v start=1714564800 -v name=TAPE -f "$recipes/atest.awk" atest.txt
-        "$@" -v name=RX1 -f "$recipes/kissutil.awk" kissutil.txt
     }
     all awk > expected
     grep -q '^2024-05-01T12:01:02.345Z TAPE c00082' expected ||
         fail 'atest.awk makes another moment'
-    grep -q '^2024-05-01T12:00:00Z RX1 c00082.*4869c0$' expected ||
-        fail 'kissutil.awk makes another line'
     for awk in mawk gawk 'gawk --use-lc-numeric' 'busybox awk'; do
         has "a decimal comma with $awk" "${awk%% *}" || continue
         # shellcheck disable=SC2086 # the name of one, or a name and an argument

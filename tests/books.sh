@@ -1,6 +1,6 @@
 #!/bin/sh
-# Tries what happens to books: gap-of, fold-in, days.mk, the crontab line, merge-driver,
-# book-to-sqlite and merge-tree. Needs a POSIX system and mktemp, and says what it leaves out
+# Tries what happens to books: put-whole, gap-of, fold-in, days.mk, the crontab line, the units,
+# merge-driver, book-to-sqlite and merge-tree. Needs a POSIX system and mktemp, and says what it leaves out
 # because a tool isn't there.
 # usage: tests/books.sh PROGRAM
 # shellcheck source=program.sh
@@ -18,12 +18,57 @@ same() { cmp "$1" "$2" || fail "$1 isn't $2"; }
 # says WORDS: the last run said so on standard error
 says() { grep -q -- "$1" said || fail "it doesn't say '$1', but: $(cat said)"; }
 
+# left NAME: nothing but NAME is there that begins so
+left() { [ "$(echo "$1"*)" = "$1" ] || fail "left behind: $(echo "$1"*)"; }
+# as_nobody COMMAND..: of one who may not read all that root reads
+as_nobody() {
+    if [ "$(id -u)" != 0 ]; then "$@"; else setpriv --reuid 65534 --clear-groups "$@"; fi
+}
+
+# ---- put-whole ----
+
+mkdir whole 'whole/a b'
+echo before > 'whole/a b/file'
+chmod 640 'whole/a b/file'
+ln -s 'a b/file' whole/link
+put-whole whole/link echo after
+[ "$(cat 'whole/a b/file') $(stat -c %a 'whole/a b/file')" = 'after 640' ] || fail 'another file'
+[ -L whole/link ] || fail 'put-whole makes a file of a link'
+(umask 027 && put-whole whole/new echo new)
+[ "$(stat -c %a whole/new)" = 640 ] || fail 'a new file has another mode'
+# a command that fails, that meets a full disk (a limit stands for it) or is ended; a folder
+for wrong in false 'yes' 'kill 0'; do
+    cp whole/new was
+    if (
+        trap '' XFSZ
+        ulimit -f 8
+        setsid -w put-whole whole/new sh -c "echo half; $wrong" || exit 1
+    ) > said 2>&1; then fail "put-whole takes what '$wrong' printed"; fi
+    same whole/new was
+    left whole/new
+done
+if put-whole whole echo new 2> said || put-whole whole/no/file echo new 2> said; then
+    fail 'put-whole writes to a folder'
+fi
+# what a killed run has left goes after a day, and what another run writes stays
+: > whole/new.new.AAAAAA
+touch -d '2 days ago' whole/new.new.AAAAAA
+put-whole whole/new sh -c 'echo slow; sleep 0.3; echo end' &
+put-whole whole/new echo quick
+[ "$(cat whole/new)" = quick ] || fail 'half of a file was there'
+wait $!
+[ "$(cat whole/new)" = 'slow
+end' ] || fail 'two runs at once harm each other'
+left whole/new
+
 # ---- gap-of ----
 
 gaps() { for it; do gap-of "$it"; done | tr '\n' ' '; }
 : > empty
 told=$(gaps hill.60 hill.30 hill.log empty "$repository/examples/old-book.txt")
 [ "$told" = '60 30 30 30 30 ' ] || fail "gap-of tells: $told"
+if gap-of nowhere 2> said; then fail 'gap-of tells of nothing'; fi
+if [ -c /dev/full ] && gap-of hill.60 2> said > /dev/full; then fail 'gap-of writes to a full disk'; fi
 
 # ---- fold-in ----
 
@@ -52,21 +97,42 @@ cp cut.30 club/in/cut.book
 cp north.30 club/in/gap.book
 mkdir club/in/folder.book
 mkfifo club/in/pipe.book
+ln -s nowhere club/in/link.book
+: > club/in/empty.book
+cp coast.60 club/in/closed.book
+chmod 000 club/in/closed.book
 cp north.60 club/in/north.book
-fold-in club 2> said || fail "fold-in: $(cat said)"
+mv club/own.book club/kept
+chmod 640 club/kept
+ln -s kept club/own.book
+chmod -R a+rwX . && chmod 000 club/in/closed.book && chmod 640 club/kept
+chown -R 65534 club 2> said || true
+as_nobody fold-in club 2> said || fail "fold-in: $(cat said)"
 same club/own.book all.60
+[ -L club/own.book ] || fail 'fold-in makes a file of a link'
+[ "$(stat -c %a club/kept)" = 640 ] || fail 'fold-in changes the mode of a book'
+for it in 'empty.book is passed over: empty' 'link.book is passed over: no file' \
+    'closed.book is passed over: no leave to read it'; do says "^fold-in: in/$it\$"; done
 says '^fold-in: in/cut.book is passed over: line [0-9]*: Ending$'
 says '^fold-in: in/gap.book is passed over: other gap$'
-[ "$(wc -l < said)" = 2 ] || fail "fold-in says: $(cat said)"
-# its own book is faulty, or isn't there: nothing changes
+[ "$(wc -l < said)" = 7 ] || fail "fold-in says: $(cat said)"
+# a full disk (a limit stands for it) isn't a book's fault
 club
+cp coast.60 club/in/coast.book
+if (trap '' XFSZ; ulimit -f 1; fold-in club) 2> said; then fail 'fold-in passes over a full disk'; fi
+same club/own.book hill.60
+# its own book is empty, faulty, or isn't there: nothing changes
+: > club/own.book
+cp north.60 club/in/north.book
+if fold-in club 2> said; then fail 'fold-in takes an empty file for its own book'; fi
+[ ! -s club/own.book ] || fail 'fold-in makes an empty book of what others sent'
 cp cut.30 club/own.book
 cp north.30 club/in/north.book
 if fold-in club 2> said; then fail 'fold-in merges into a book that was cut short'; fi
 says 'own.book: line [0-9]*: Ending'
 same club/own.book cut.30
 if fold-in nowhere 2> said; then fail 'fold-in folds into nothing'; fi
-[ "$(cd club && echo fold-in.*)" = 'fold-in.*' ] || fail 'fold-in leaves files behind'
+left club/own.book
 
 # two runs at once, the first of which merges slowly
 club
@@ -117,9 +183,18 @@ if has days.mk make timeout; then
     same net/net.book all.30
     same net/days/2024-06-22.book north.30
     # nothing is made again without need
-    find net -name '*.book' -exec touch -t 202401010000 {} +
+    find net -name '*.book' -exec ls -i {} + > books
     days && good
-    [ -z "$(find net -name '*.book' -mtime -1)" ] || fail 'a book is made again without need'
+    find net -name '*.book' -exec ls -i {} + | cmp - books || fail 'a book is made again without need'
+    # books that are empty or cut, as a power failure leaves them, are made again
+    for book in net.book days/2024-06-22.book; do
+        for bytes in 0 300; do
+            head -c $bytes all.30 > net/$book
+            days && good
+            same net/net.book all.30
+            same net/days/2024-06-22.book north.30
+        done
+    done
     # another gap makes all again, and back
     days GAP=60 && good
     same net/net.book all.60
@@ -162,6 +237,14 @@ if has days.mk make timeout; then
     rm -r net/logs/2024-06-22
     days && good
     same net/net.book all.30
+    # unless it is empty or cut: then it is named, and the book of all stays
+    for bytes in 0 300; do
+        head -c $bytes north.30 > net/days/2024-06-22.book
+        days && bad
+        says 'days/2024-06-22.book'
+        same net/net.book all.30
+    done
+    cp north.30 net/days/2024-06-22.book
 
     # two runs at once, while a log grows
     : > net/logs/2024-06-21/GROWS.log
@@ -186,7 +269,7 @@ if has days.mk make timeout; then
     [ "$path" = /usr/local/bin:/usr/bin:/bin ] || fail "PATH of the crontab is '$path'"
     cp "$recipes/days.mk" net
     rm net/net.book
-    env -i PATH="$scratch/bin:$(dirname "$(command -v make)"):/usr/bin:/bin" HOME=/ \
+    env -i PATH="$scratch/bin:$recipes:$(dirname "$(command -v make)"):/usr/bin:/bin" HOME=/ \
         /bin/sh -c "$(printf '%s\n' "$line" | sed "s,/var/lib/aprs,$scratch/net,")" ||
         fail 'the line of the crontab fails'
     same net/net.book all.30
@@ -227,9 +310,11 @@ if has merge-driver git; then
     aprsbook merge --gap 5 hill.log north.log > theirs.5
     both '' ours.5 theirs.5
     aprsbook merge --gap 5 ./*.log | cmp - 'repo/a net.book' || fail 'without a base it is another'
-    # a book that was cut short is a conflict, and nothing is left behind
-    if both hill.30 ours.30 cut.30; then fail 'git merged a book that was cut short'; fi
-    says CONFLICT
+    # an empty book and one that was cut short are conflicts, and nothing is left behind
+    for book in empty cut.30; do
+        if both hill.30 ours.30 $book; then fail "git merged $book"; fi
+        says CONFLICT
+    done
     find repo/* repo/.merge* > left 2> said || true
     [ "$(cat left)" = 'repo/a net.book' ] || fail "left behind: $(cat left)"
 fi
@@ -254,6 +339,7 @@ if has book-to-sqlite sqlite3; then
     # one is faulty: what was there stays
     before=$(counts)
     if book-to-sqlite cut.30 net.db 2> said; then fail 'book-to-sqlite takes a book cut short'; fi
+    if book-to-sqlite empty net.db 2> said; then fail 'book-to-sqlite takes an empty file'; fi
     [ "$(counts)" = "$before" ] || fail 'a faulty book changed the database'
     printf 'APRSBOOK 3 30\nEND 0\n' > nothing
     book-to-sqlite nothing net.db
@@ -265,9 +351,9 @@ fi
 aprsbook show all.30 > listing
 killed=$(grep -Ec '^(object|item) [^ ]* killed ' listing)
 [ "$killed" -gt 0 ] || fail 'no object of the evening was killed'
-awk -f "$recipes/places.awk" listing > places.csv
-[ "$(grep -c ',killed,.*,"killed[:"]' places.csv)" = "$killed" ] || fail 'the CSV has other ones'
-[ "$(grep -c ',"killed' places.csv)" = "$killed" ] || fail 'the CSV says killed of others'
+history-rows all.30 | awk -f "$recipes/places.awk" | to-csv > places.csv
+[ "$(grep -c ',killed,.*,"*killed' places.csv)" = "$killed" ] || fail 'the CSV has other ones'
+[ "$(grep -c ',[^,]*,"*killed[^,]*$' places.csv)" = "$killed" ] || fail 'the CSV says killed of others'
 if has 'GPX and KML' gpsbabel; then
     for form in gpx kml; do
         gpsbabel -i unicsv -f places.csv -o $form -F places.$form
@@ -278,21 +364,53 @@ fi
 
 # ---- merge-tree ----
 
-if has merge-tree parallel; then
-    mkdir -p 'tree/a b' "tree/it's"
-    cp hill.log 'tree/a b/hill.log'
+if has merge-tree bash; then
+    mkdir -p 'tree/a b' "tree/it's" elsewhere
+    cp hill.log elsewhere
+    ln -s ../../elsewhere/hill.log 'tree/a b/hill.log'
+    ln -s tree link
     cp coast.30 "tree/it's/coast.book"
     cp north.log "tree/north;echo.log"
-    merge-tree tree tree.book
-    same tree.book all.30
+    for folder in tree link; do
+        merge-tree $folder tree.book
+        same tree.book all.30
+    done
     cp coast.60 "tree/it's/coast.book"
     merge-tree --gap 60 tree tree.book
     same tree.book all.60
-    # a faulty log, another gap and an empty folder leave the book as it was
+    # another gap, an empty folder, an empty book and a link to nothing leave the book as it was
     if merge-tree tree tree.book 2> said; then fail 'merge-tree takes a book of another gap'; fi
     mkdir none
     if merge-tree none tree.book 2> said; then fail 'merge-tree makes a book of nothing'; fi
+    says 'no logs and no books are in none'
+    cp hill.log none
+    : > none/empty.book
+    if merge-tree none tree.book 2> said; then fail 'merge-tree takes an empty file for a book'; fi
+    rm none/empty.book
+    ln -s nowhere none/coast.log
+    if merge-tree none tree.book 2> said; then fail 'merge-tree leaves out a link to nothing'; fi
     same tree.book all.60
-    [ "$(echo tree.book*)" = tree.book ] || fail 'merge-tree leaves files behind'
+    # parts: twenty days of two receivers, each day whole, in sixteen parts or more; beyond 64 logs
+    for day in 1 2; do
+        for number in 0 1 2 3 4 5 6 7 8 9; do
+            mkdir -p many/2024-06-$day$number
+            cp hill.log coast.log many/2024-06-$day$number
+        done
+    done
+    mkdir -p slow
+    printf '#!/bin/sh\necho "$*" >> %s/runs\nexec %s "$@"\n' "$scratch" "$program" > slow/aprsbook
+    PATH=$scratch/slow:$PATH merge-tree many many.book
+    aprsbook merge hill.log coast.log | cmp - many.book || fail 'merge-tree makes another book of days'
+    [ "$(grep -c 'hill.log' runs)" -ge 16 ] || fail "merge-tree makes few parts: $(cat runs)"
+    sed 's/.*merge/merge/; s/coast/hill/g' runs | awk '
+        { for (i = 4; i <= NF; i++) if ($i ~ /many/ && ($i in part)) { if (part[$i] != NR) exit 1 }
+            else part[$i] = NR }' || fail "merge-tree cuts a day: $(cat runs)"
+    for number in 1 2 3 4 5 6 7 8 9 10 11 12; do
+        for day in many/*; do cp hill.log "$day/$number.log"; done
+    done
+    merge-tree many many.book
+    aprsbook merge hill.log coast.log | cmp - many.book || fail 'merge-tree makes another book of many'
+    left many.book
+    left tree.book
 fi
 echo 'books survive what happens to them'

@@ -69,6 +69,8 @@ tr '@' '\000' > wrong << end
 2024-05-01T12:00:00Z RX1
 APRSBOOK 3 30
 end
+# carriage returns go
+[ "$(sed 's/$/\r/' start | whole-lines)" = "$(whole-lines < start)" ] || fail 'a carriage return stays'
 number=$(wc -l < wrong)
 while [ "$number" -gt 0 ]; do
     sed -n "${number}p" wrong > line
@@ -76,6 +78,32 @@ while [ "$number" -gt 0 ]; do
     number=$((number - 1))
 done
 [ -z "$(whole-lines < wrong)" ] || fail "whole-lines keeps: $(whole-lines < wrong)"
+
+# ---- clock-skew and shift-log ----
+
+if has 'clock-skew and shift-log' python3; then
+    evening=$repository/examples/evening
+    shift-log 7201 < "$evening/coast.log" > ahead.log
+    shift-log -7201 < ahead.log | cmp - "$evening/coast.log" || fail 'a log comes back another'
+    printf '%s\n' '2024-02-28T23:59:59.250Z RX1 c0' '2099-12-31T23:59:59Z RX1 00' > ends.log
+    [ "$(shift-log 1 < ends.log 2> said || echo "$?")" = '2024-02-29T00:00:00.250Z RX1 c0
+1' ] || fail 'shift-log moves a moment past 2099, or wrongly'
+    for wrong in 1.5 '' 1h; do
+        if shift-log "$wrong" < ends.log > out 2> said || [ -s out ]; then fail "shift-log $wrong"; fi
+    done
+    for log in "$evening/coast.log" ahead.log; do
+        status=0
+        clock-skew "$evening/hill.log" "$evening/north.log" "$log" > out || status=$?
+        echo "$(tr '\n' ' ' < out)$status"
+    done > skews
+    cmp skews - << 'end' || fail "clock-skew says: $(cat skews)"
+COAST HILL +1.000 12 COAST NORTH -2.000 7 HILL NORTH -1.000 12 0
+COAST HILL +7202.000 12 COAST NORTH +7199.000 7 HILL NORTH -1.000 12 1
+end
+    clock-skew --gap 7300 "$evening/hill.log" ahead.log > out || fail 'clock-skew has another gap'
+    if clock-skew "$hill" > out 2> said || [ -s out ]; then fail 'clock-skew of one receiver'; fi
+    if clock-skew nowhere 2> said; then fail 'clock-skew reads nothing'; fi
+fi
 
 # ---- aprs-log ----
 

@@ -20,6 +20,10 @@ scratch=$(mktemp -d)
 trap 'rm -rf "$scratch"' EXIT
 mkdir "$scratch/bin"
 ln -s "$program" "$scratch/bin/aprsbook"
+# the other program lies beside it, or where it is built
+for history in "${program%/*}/aprsbook-history" "${program%/aprsbook/out/*}"/*/out/aprsbook_history; do
+    if [ -x "$history" ]; then ln -sf "$history" "$scratch/bin/aprsbook-history"; fi
+done
 PATH=$scratch/bin:$repository/examples/recipes:$PATH
 # has WHAT TOOL..: the tools are there; where they aren't, it is said what is left out
 has() {

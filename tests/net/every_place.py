@@ -1,18 +1,23 @@
 #!/usr/bin/env python3
-"""Holds every-place to aprsbook itself: each row of a book, alone in a log, through `show`.
+"""Holds every-place, places.awk and places.jq to aprsbook itself: each row of a book, alone in a log,
+through `show`, and the listing of all. Then their places in Mic-E, of lines that are written here.
 
 usage: every_place.py [SEED [FRAMES]]    aprsbook and the recipes in the PATH; needs Python 3
 
 The frames are made at random, with the same seed the same ones: positions plain and compressed,
 with digits left out, stamped or not; objects and items, also killed, with odd names; reports that
-are none of these; frames of 256 bytes; up to eight digipeaters; calls that look like every-place's
-numbers.
+are none of these; frames of 256 bytes; up to eight digipeaters.
 """
 import collections
 import datetime
+import json
+import os
+import pathlib
 import random
+import shutil
 import subprocess
 import sys
+import tempfile
 
 SOURCES = ["Q1A", "Q1A-7", "Q1BBBB-15", "000001", "ZZZZZZ-3", "9"]
 HOPS = ["WIDE1-1", "Q1DIG", "WIDE2-2"]
@@ -87,42 +92,109 @@ def heard():
             yield line(moment.isoformat(timespec="milliseconds") + "Z", receiver, octets)
 
 
-def degrees(fraction):
+def value(fraction):
     above, below = fraction.split("/")
-    return "%.7f" % (int(above) / int(below))
+    return int(above) / int(below)
 
 
-def places(row):
-    """What `show` says of a row alone, in every-place's form."""
-    _, first, last, receivers, receiver, octets = row.split(" ")
-    for shown in run("aprsbook", "show", given=line(last, receiver, bytes.fromhex(octets))):
+def degrees(fraction):
+    return "%.7f" % value(fraction)
+
+
+Place = collections.namedtuple(
+    "Place", "kind name state moment receiver source stamp north east ambiguity symbol comment")
+
+
+def shown_places(log):
+    """What `show` says of a log."""
+    for shown in run("aprsbook", "show", given=log):
         words = shown.split(" ")
         if words[0] == "station":
             call = words[1]
             continue
         if words[0] == "position":
-            kind, name, state, stamp = "station", call, "live", 3
+            who, stamp = ("station", call, "live", *words[1:3], call), 3
         elif words[0] in ("object", "item"):
-            kind, name, state, stamp = words[0], words[1].replace("\\x20", " "), words[2], 6
+            who, stamp = (words[0], words[1].replace("\\x20", " "), *words[2:6]), 6
         else:
             continue
-        north, east, ambiguity, tail = shown.split(" ", stamp + 4)[stamp + 1:]
+        at, north, east, ambiguity, tail = shown.split(" ", stamp + 4)[stamp:]
         # the symbol is two bytes, each as shown
         end = 0
         for _ in range(2):
             end += 4 if tail.startswith("\\x5c", end) else 1
         assert tail[end] == ":", shown
-        yield "\t".join([kind, name, state, first, last, receivers, call, degrees(north),
-                         degrees(east), ambiguity, tail[:end], tail[end + 1:]])
+        yield Place(*who, at, north, east, ambiguity, tail[:end], tail[end + 1:])
 
 
+def places(row):
+    """What `show` says of a row alone, in every-place's form."""
+    _, first, last, receivers, receiver, octets = row.split(" ")
+    for it in shown_places(line(last, receiver, bytes.fromhex(octets))):
+        yield "\t".join([it.kind, it.name, it.state, first, last, receivers, it.source,
+                         degrees(it.north), degrees(it.east), *it[9:]])
+
+
+def fields(it):
+    """A place in the form of places.awk."""
+    killed = "killed" + ": " * bool(it.comment) if it.state == "killed" else ""
+    return "\t".join([*it[:3], it.moment[:10], it.moment[11:23], it.receiver, it.source,
+                      degrees(it.north), degrees(it.east), *it[9:11], killed + it.comment])
+
+
+def feature(it):
+    """A place in the form of places.jq: names and texts of its properties."""
+    given = {name: text for name, text in it._asdict().items() if name not in ("north", "east")}
+    if it.kind == "station":
+        del given["state"], given["source"]
+    spot = [value(it.east), value(it.north)]
+    return json.dumps([spot, given], sort_keys=True)
+
+
+def features(rows):
+    for it in json.loads("".join(run("jq", "-R", "-n", "-f", PLACES + "jq", given=rows)))["features"]:
+        spot = list(map(float, it["geometry"]["coordinates"]))
+        yield json.dumps([spot, it["properties"]], sort_keys=True)
+
+
+def same(what, wanted, got):
+    wanted, got = collections.Counter(wanted), collections.Counter(got)
+    for name, lines in ("missing", wanted - got), ("extra", got - wanted):
+        for shown in lines:
+            print("%s: %s: %r" % (what, name, shown), file=sys.stderr)
+    if wanted != got or not wanted:
+        sys.exit(1)
+    return sum(got.values())
+
+
+PLACES = str(pathlib.Path(shutil.which("every-place")).parent / "places.")
 log = "".join(heard())
 book = run("aprsbook", "merge", given=log)[1:-1]
-wanted = collections.Counter(place for row in book for place in places(row))
-got = collections.Counter(run("every-place", given=log))
-for name, lines in ("missing", wanted - got), ("extra", got - wanted):
-    for shown in lines:
-        print("every-place: %s: %r" % (name, shown), file=sys.stderr)
-if wanted != got or not wanted:
-    sys.exit(1)
-print("every-place: %d rows, all %d places" % (len(book), sum(got.values())))
+rows = "\n".join(run("history-rows", given=log)) + "\n"
+count = same("every-place", (place for row in book for place in places(row)), run("every-place", given=log))
+last = list(shown_places(log))
+same("places.awk", map(fields, last), run("awk", "-f", PLACES + "awk", given=rows)[1:])
+if shutil.which("jq"):
+    same("places.jq", map(feature, last), features(rows))
+
+# a place in Mic-E, by the grammar of the history
+mic_e = ("mic-e 2024-06-21T18:00:00.000Z 2024-06-21T18:00:01.000Z RX1,RX2 Q1CAR-9 Q1DIG*,WIDE2-1 "
+         "88 36 en-route - 294350/6000 -432175/6000 0 /::in the valley")
+after = "49.0583333\t-72.0291667\t0\t/:\t088/036 en-route in the valley"
+with tempfile.TemporaryDirectory() as folder:
+    history = pathlib.Path(folder) / "aprsbook-history"
+    history.write_text(f"#!/bin/sh\necho '{mic_e}'\n")
+    history.chmod(0o755)
+    os.environ["PATH"] = folder + ":" + os.environ["PATH"]
+    [got] = run("every-place")
+    heard = "\t".join(mic_e.split(" ")[1:5])
+    assert got == f"station\tQ1CAR-9\tmic-e\t{heard}\t{after}", got
+    given = f"RX2 00 {mic_e}\nRX1 01 {mic_e}\n"
+    _, got = run("awk", "-f", PLACES + "awk", given=given)
+    heard = "2024-06-21\t18:00:01.000\tRX2\tQ1CAR-9"
+    assert got == f"station\tQ1CAR-9\tmic-e\t{heard}\t{after}", got
+    if shutil.which("jq"):
+        [got] = features(given)
+        for part in '"says": "en-route"', '"course": "88"', '"state": "mic-e"', '"receiver": "RX2"':
+            assert part in got, got
+print("every-place: %d rows, all %d places; places: the last of each; Mic-E" % (len(book), count))

@@ -1,6 +1,6 @@
 #!/usr/bin/env python3
 """Tests aprs-listen, on the loopback alone: torn lines, a full disk, midnight, a clock that is set,
-several radios, a server that ends and comes back, and one that says nothing.
+several radios, a server that ends and comes back, and one that says nothing, wrong arguments.
 
 usage: listen.py EXAMPLES    aprsbook in the PATH; needs Python 3
 """
@@ -34,10 +34,11 @@ def aprsbook(*command, given=b""):
     return done.stdout
 
 
-def run(folder, given, *options, **keywords):
+def run(folder, given, *options, status=0, **keywords):
     """What the program says of a stream."""
     done = subprocess.run([LISTEN, *options, "RX1", folder], input=given, stderr=subprocess.PIPE,
-                          check=True, **keywords)
+                          **keywords)
+    assert done.returncode == status and b"Traceback" not in done.stderr, done
     return done.stderr.decode()
 
 
@@ -67,7 +68,7 @@ def test_torn(folder):
     log = path.read_bytes()
     for cut in range(len(log)):
         path.write_bytes(log[:cut])
-        listen.put(folder, "RX1", f"{path.parent.name}T12:00:00.000Z", FRAME)
+        listen.Logs(folder).put("RX1", f"{path.parent.name}T12:00:00.000Z", FRAME)
         assert whole(path.read_bytes()) == log[:cut].count(b"\n") + 1, cut
     path.write_bytes(log[:-7])
     assert "torn line" in run(folder, FRAME)
@@ -78,11 +79,39 @@ def test_full(folder):
     def limit():
         resource.setrlimit(resource.RLIMIT_FSIZE, (1000, 1000))
 
-    assert run(folder, FRAME * 40, preexec_fn=limit).count("torn line") > 20
+    text = run(folder, FRAME * 40, status=1, preexec_fn=limit)
     [log] = logs(folder).values()
     assert 900 < len(log) <= 1000 and whole(log) == len(log.splitlines())
+    assert f"frames that are lost: {40 - whole(log)}" in text, text
     assert run(folder, FRAME) == ""
     assert whole(logs(folder)["RX1.log"]) == len(log.splitlines()) + 1
+
+
+def test_held(folder):
+    """Frames wait while there is no room, in their order, and the oldest go first."""
+    place = pathlib.Path(folder) / "2024-06-21"
+    place.write_bytes(b"in the way")
+    held, listen.HELD = listen.HELD, 3
+    held_logs = listen.Logs(folder)
+    for second in range(5):
+        held_logs.put("RX1", f"2024-06-21T12:00:0{second}.000Z", FRAME)
+    listen.HELD = held
+    assert "held: 1, lost: 0" in said[0] and logs(folder) == {}, said
+    place.unlink()
+    assert held_logs.end() == 1 and said[-1] == "frames that are lost: 2", said
+    log = logs(folder)["RX1.log"]
+    assert whole(log) == 3 and [line[18:19] for line in log.splitlines()] == [b"2", b"3", b"4"]
+
+
+def test_refused(folder):
+    file = pathlib.Path(folder) / "file"
+    file.write_bytes(b"")
+    assert "no folder to write to" in run(file, FRAME, status=2)
+    for place in "localhost:99999", "localhost:0", "localhost", ":8001", "localhost:http":
+        assert "HOST:PORT" in run(folder, b"", "--connect", place, status=2), place
+    run(folder, b"", "--idle", "-1", status=2)
+    done = subprocess.run(["sh", "-c", '"$0" RX1 "$1" <&-', LISTEN, folder], stderr=subprocess.PIPE)
+    assert done.returncode == 1 and done.stderr.count(b"\n") == 1, done
 
 
 def clock_at(*moments):
@@ -98,7 +127,8 @@ def test_midnight(folder):
     midnight = 1719014400  # 2024-06-22
     options = types.SimpleNamespace(folder=folder, name="RX1", ports=False)
     stream = [b"", FRAME * 2]
-    listen.listen(options, clock_at(midnight - 0.001, midnight + 0.999), lambda _: stream.pop())
+    clock = clock_at(midnight - 0.001, midnight + 0.999)
+    listen.listen(options, listen.Logs(folder), clock, lambda _: stream.pop())
     for moment in "2024-06-21T23:59:59.999Z", "2024-06-22T00:00:00.999Z":
         [line] = (pathlib.Path(folder) / moment[:10] / "RX1.log").read_text().splitlines()
         assert line.startswith(moment + " RX1 "), line
@@ -134,7 +164,8 @@ def test_server(folder):
     server = socket.create_server(("127.0.0.1", 0))
     place = server.getsockname()
     options = types.SimpleNamespace(folder=folder, name="RX1", ports=False, connect=place, idle=0.5)
-    threading.Thread(target=listen.connect, args=(options, listen.Clock()), daemon=True).start()
+    given = options, listen.Logs(folder), listen.Clock()
+    threading.Thread(target=listen.connect, args=given, daemon=True).start()
 
     def accept():
         server.settimeout(10)
@@ -163,8 +194,8 @@ def wait(condition):
         time.sleep(0.05)
 
 
-tests = [test_stream, test_torn, test_full, test_midnight, test_clock, test_radios, test_noise,
-         test_server]
+tests = [test_stream, test_torn, test_full, test_held, test_refused, test_midnight, test_clock,
+         test_radios, test_noise, test_server]
 for test in tests:
     said.clear()
     with tempfile.TemporaryDirectory() as name:

@@ -70,4 +70,9 @@ if merge-dask "$address" faulty.book "127.0.0.1:$PWD/cut.book" part/aa 2> said.t
 fi
 grep -q 'merge-dask: aprsbook: .*cut.book: line 4: Ending' said.txt || fail 'the fault is another'
 cmp faulty.book wanted.book || fail 'a book was written at a fault'
-echo "merge-dask: the same bytes, with two of four workers killed; a fault"
+# a path with a colon isn't one of a host; two books at once aren't mixed
+cp part/aa ./18:00.log
+merge-dask "$address" colon.book ./18:00.log 2> said.txt || fail 'a path with a colon is refused'
+aprsbook merge part/aa | cmp - colon.book || fail 'a path with a colon has another book'
+[ "$(echo ./*.book.new*)" = './*.book.new*' ] || fail 'something was left beside'
+echo "merge-dask: the same bytes, with two of four workers killed; a fault, a path with a colon"

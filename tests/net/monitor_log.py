@@ -39,9 +39,13 @@ Q1RUN-7>APDW17,qAO,Q0OTHER:!5432.58N/00327.36W>caf\xc3\xa9 <0x41> \\x41
 Q1NET>APDW17,TCPIP*,qAC,T2TEST:>sent over the net alone
 Q1lower>APDW17,qAR,Q0GATE-1:>no call
 Q1NET>APDW17,Q1NETTOOLONG,qAR,Q0GATE-1:>no call either
+Q1ABC-A>APDW17,qAR,Q0GATE-1:>a call of D-STAR
+Q1NET>APDW17,qAR,ABCDEFGHIJKLMNOPQ:>a gate of 17 letters
 """
     log, said = run("monitor-log", "--igate", "--now", "--bytes", "raw", given=feed)
-    assert said.count("\n") == 1 and "Q1NETTOOLONG is no call" in said, said
+    for name in "Q1lower is no", "Q1NETTOOLONG is no", "Q1ABC-A is no", "ABCDEFGHIJKLMNOPQ can't":
+        assert name in said, said
+    assert said.count("\n") == 4, said
     book, _ = run("aprsbook", "merge", given=log)
     [row] = book.splitlines()[1:-1]
     assert row.split(b" ")[3] == b"Q0GATE-1,Q0OTHER", row
@@ -56,12 +60,20 @@ def test_refused():
 2024-06-21T12:00:00Z Q1NET>APRS:
 2024-06-21T12:00:00Z Q1NET>APRS,A,B,C,D,E,F,G,H,I:>too many
 2024-06-21T12:00:00Z Q1NET>APRS:%s
+1969-12-31T23:59:59Z Q1NET>APRS:>before
+2100-01-01 00:00:00 Q1NET>APRS:>after
 2024-06-21 12:00:00.25 Q1NET>APRS:>kept\r
+2024-06-21T00:30:00+02:00 Q1NET>APRS:>elsewhere
+2024-06-21 12:00:00 -0430 Q1NET>APRS:>elsewhere too
 """ % (b"x" * 257)
     log, said = run("monitor-log", given=text)
-    assert said.count("monitor-log: ") == 3, said
-    assert log.startswith(b"2024-06-21T12:00:00.250Z TEXT c000") and log.count(b"\n") == 1
-    assert run("aprsbook", "check", given=log)[0] == b"heard 1 passed 0\n"
+    assert said.count("monitor-log: ") == 6, said
+    assert [line[:24] for line in log.splitlines()] == [
+        b"2024-06-21T12:00:00.250Z", b"2024-06-20T22:30:00.000Z", b"2024-06-21T16:30:00.000Z"], log
+    assert run("aprsbook", "check", given=log)[0] == b"heard 3 passed 0\n"
+    for command, status in ("--name 'a b.c'", 2), ("--name ''", 2), (">&-", 1), (">/dev/full", 1):
+        done = subprocess.run(["sh", "-c", "monitor-log " + command], input=text, capture_output=True)
+        assert done.returncode == status and b"Traceback" not in done.stderr, (command, done)
 
 
 for test in test_evening, test_feed, test_refused:

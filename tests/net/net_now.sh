@@ -1,5 +1,6 @@
 #!/bin/sh
-# Tests net-now: the days that it takes, torn lines, a second round, and a round that fails.
+# Tests net-now: the days that it takes, torn lines, logs from Windows and compressed ones, a second
+# round, two at once, a round that fails, and one without logs.
 # usage: net_now.sh EXAMPLES    aprsbook and the recipes in the PATH; needs Python 3
 set -eu
 export LC_ALL=C
@@ -24,7 +25,34 @@ DAYS=2024-06-21 net-now logs page --title 'Fell race' 2> said
 cmp page/net.book wanted.book || fail 'the book is another'
 [ "$(cat said)" = 'net-now: logs/2024-06-21/hill.log: lines left out: 1' ] || fail "$(cat said)"
 grep -q '<h1 id="title">Fell race</h1>' page/index.html || fail 'the page has another title'
-[ -z "$(find page -name '*.new')" ] || fail 'something was left beside'
+grep -q 'hill.log: lines left out: 1' page/index.html || fail 'the page says nothing of a torn line'
+
+# a log with carriage returns and one that is compressed are read; one that was cut short, and one
+# that leads to nothing, are named on the page, and the status is 1
+mkdir other
+cp -R logs/2024-06-21 other
+gzip other/2024-06-21/coast.log
+sed 's/$/\r/' "$examples/evening/hill.log" > other/2024-06-21/hill.log
+DAYS=2024-06-21 net-now other page 2> said
+cmp page/net.book wanted.book || fail 'a log from Windows or a compressed one is left out'
+[ ! -s said ] || fail "$(cat said)"
+gzip -c "$examples/evening/hill.log" | head -c 900 > other/2024-06-21/hill.log.gz
+ln -s nowhere other/2024-06-21/gone.log
+if DAYS=2024-06-21 net-now other page 2> said; then fail 'a log that leads to nothing was read'; fi
+cmp page/net.book wanted.book || fail 'the other logs are left out'
+for it in hill.log.gz gone.log; do
+    grep -q "$it: can.*t be read to its end" page/index.html || fail "the page doesn't name $it"
+done
+
+# two at once, and one who reads
+(DAYS=2024-06-21 net-now logs page; DAYS=2024-06-21 net-now logs page; : > over) 2> other.txt &
+until [ -e over ]; do
+    cmp page/net.book wanted.book || fail 'half of a book was there'
+    tail -n 1 page/index.html | grep -q '</html>' || fail 'half of a page was there'
+    DAYS=2024-06-21 net-now logs page 2> said || fail 'one of two runs failed'
+done
+wait $!
+[ "$(find page -type f | wc -l)" = 2 ] || fail "something was left beside: $(find page)"
 
 # another gap, and what has the book's old file open goes on reading it
 exec 3< page/net.book
@@ -55,7 +83,17 @@ do :; done
 sed -n 's/^T \([^T]*\)T.*/\1/p' page/net.book | sort -u > days
 printf '%s\n' logs/* | sed '1d; s/.*\///' | cmp - days || fail "it took the days $(cat days)"
 
+# no folder, an empty one, one without logs of these days: book and page stay
+cp page/net.book before.book
+cp page/index.html before.html
+mkdir -p empty logs/2024-06-22
+for folder in none empty logs; do
+    if DAYS=2024-06-22 net-now $folder page 2> said; then fail "a round without logs in $folder"; fi
+    grep -q "in $folder is no log of 2024-06-22" said || fail "$(cat said)"
+    cmp page/net.book before.book && cmp page/index.html before.html
+done
 # none was heard yet
-net-now none page
+: > logs/2024-06-22/RX1.log
+DAYS=2024-06-22 net-now logs page
 [ "$(sed -n '$p' page/net.book)" = 'END 0' ] || fail 'a book of nothing has rows'
-echo "net-now: its days, torn lines, a second round, a round that fails"
+echo "net-now: its days, torn lines, other logs, a second round, two at once, rounds that fail"

@@ -40,7 +40,9 @@ def test(log):
     listed = run("every-place", given=log).splitlines()
     places = [dict(zip(COLUMNS, line.split("\t"), strict=True)) for line in listed]
     assert places
-    assert list(csv.DictReader(io.StringIO(run("tracks", "csv", given=log)))) == places
+    rows = list(csv.DictReader(io.StringIO(run("tracks", "csv", given=log))))
+    assert [{name: text.removeprefix("'") for name, text in row.items()} for row in rows] \
+        == [{name: text.removeprefix("'") for name, text in it.items()} for it in places]
     groups = itertools.groupby(places, lambda it: (it["kind"], it["name"]))
     things = [list(group) for _, group in groups]
     moved = [them for them in things if len({(it["lat"], it["lon"]) for it in them}) > 1]
@@ -97,6 +99,17 @@ for minute, source, text in [
     frame = hostile.address("APRS", 0xE0) + hostile.address(source, 0x60, 1) + b"\x03\xf0" + text
     more.append(f"2024-06-21T21:{minute:02}:00Z RX1 c000{frame.hex()}c0\n")
 assert test("".join(more).encode()) == (6, 2)
+# what a spreadsheet would take for a formula is text, and numbers stay
+formulas = [b"=1+1", b"+1+1", b"-1+1", b"@SUM(1)"]
+heard = ""
+for n, text in enumerate(formulas):
+    frame = hostile.address("APRS", 0xE0) + hostile.address("Q1F", 0x60, 1) + b"\x03\xf0"
+    frame += b";%-9s*111111z0432.58S/00327.36W>%s" % (text, text)
+    heard += f"2024-06-21T21:0{n}:00Z RX1 c000{frame.hex()}c0\n"
+rows = list(csv.DictReader(io.StringIO(run("tracks", "csv", given=heard.encode()))))
+assert {row["comment"] for row in rows} == {"'" + it.decode() for it in formulas}, rows
+assert {row["name"] for row in rows} == {"'" + it.decode() for it in formulas}, rows
+assert {row["lat"][:3] + row["lon"][:3] for row in rows} == {"-4.-3."}, rows
 root = xml.etree.ElementTree.fromstring(run("tracks", "gpx", given="".join(more).encode()))
 # a point of the track alone: the last place has none
 assert [height.text for height in root.iter(GPX + "ele")] == ["304.8"]
