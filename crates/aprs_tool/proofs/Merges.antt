@@ -12,7 +12,6 @@ use Rattle.aprs_laws.proofs.Lists.{in_either, in_left, in_right}
 use Rattle.aprs_io.specs.declared.input.Ending.{Ending}
 use Rattle.aprs_io.specs.declared.input.Ending.TheVariants as ending
 use Rattle.aprs_log.specs.Reception.{Heard}
-use Rattle.aprs_log.proofs.Awaiting.{Gets-nothing}
 use Rattle.aprs_booktext.specs.Text.{book_text, written_text}
 use Rattle.aprs_booktext.specs.declared.version.Version.TheVariants.{Three}
 use Rattle.aprs_convert.specs.Got.{OfGot}
@@ -105,7 +104,6 @@ record GetsUnread (limit : ℕ) (inputs : List (List ℕ)) : Type 0 where
 gets_unread : (limit : ℕ) (inputs : List (List ℕ)) → GetsUnread limit inputs
 gets_unread limit [] = record { gots = []; inputs_are = refl; afters_are = refl }
 gets_unread limit (input ∷ inputs) =
-    let none = Gets-nothing limit input in
     let more = gets_unread limit inputs in
     record {
       gots = record {
@@ -113,7 +111,7 @@ gets_unread limit (input ∷ inputs) =
         ending = ending.Read;
         rest = input;
         after = Some input;
-        ends = none.ends;
+        ends = (refl, omega arith);
       } ∷ more.gots;
       inputs_are = ap (λ l. input ∷ l) more.inputs_are;
       afters_are = ap (λ l. Some input ∷ l) more.afters_are;

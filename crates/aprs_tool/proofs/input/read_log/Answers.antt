@@ -7,7 +7,7 @@ use Rattle.aprs_tool.specs.InputRows.{HoldsOfGot, ReadsLog}
 use Rattle.aprs_tool.specs.declared.fault.InputFault.TheVariants.{Log, Memory}
 use Rattle.aprs_log.specs.LogAnswers.{receptions_of}
 use Rattle.aprs_log.specs.Awaits.{last_of_cause}
-use Rattle.aprs_log.specs.Reader.{current_of}
+use Rattle.aprs_log.specs.Reader.{current_of, source_of}
 use Rattle.aprs_log.specs.declared.line.Line.{Line}
 use Rattle.aprs_tool.proofs.Logs.{Took-none, Took-line, Took-ended, Took-fault, Took-refused}
 use Rattle.aprs_tool.proofs.input.read_log.Goals as goal
@@ -67,15 +67,13 @@ returns-in_err-push_heard-clause-reads g c =
     let p = err_from_is_err_and c.from_residual-in_err-push_heard.result
     c.from_residual-in_err-push_heard.ensures.1 in
     let gives = rw c.if-not-branch.false at c.in_ok-advance.ensures.gives in
-    let loan = c.in_ok-advance.ensures.same_reference ∙ c.lines.invariant.same_reference
-    ∙ c.new-reader.ensures.same_reference in
-    let back = c.in_err-push_heard.r-1-own.given.1 (sym loan) in
+    let remaining = g.R.Read.remaining in
     rw (p.1, p.2)
-    (subst (λ k. IfSome (g.R.Read.remaining (device_of c.args.r.now))
-    (λ input. HoldsOfGot c.args.limit (c.args.head.now ++ input) k
-    (ReadsLog (Err Memory) c.args.store.now c.push_heard.new.store)))
-    (ap (λ k. g.R.Read.remaining (device_of k)) (sym back))
-    (Took-refused _ _ _ _ _ c.push_heard.new.store _ _ c.args.limit c.args.head.now
+    (subst (λ k. IfSome (remaining (device_of c.args.r.now))
+    (λ input. HoldsOfGot c.args.limit (c.args.head.now ++ input) (remaining (device_of k))
+    (ReadsLog (Err Memory) c.args.store.now c.push_heard.new.store))) (search rules)
+    (Took-refused _ _ _ _ _ c.push_heard.new.store (remaining (device_of c.args.r.now))
+    (remaining (device_of (source_of c.advance.new.self))) c.args.limit c.args.head.now
     (current_of c.advance.new.self) (c.lines.invariant.took _) (gives.2 _)
     c.in_ok-advance.ensures.awaits.0 c.in_ok-advance.ensures.awaits.1
     (c.new-reader.ensures.whole _)))
