@@ -32,7 +32,8 @@ use Rattle.aprs_report.specs.declared.symbol.Symbol.{Symbol}
 use Rattle.aprs_report.proofs.Readings.{reads_as}
 use Rattle.aprs_listing.specs.History.{history_line, history_text, hop_word, id_word, row_fields, told_line, via_text}
 use Rattle.aprs_listing.specs.Listing.{after_space, ambiguity_text, degrees_text, line_with, line_with_text, live_text, place_fields, stamp_text, word, word_byte}
-use Rattle.aprs_listing.specs.OneLine.{HasOneLineEach, IsTold}
+use Rattle.aprs_rows.specs.Told.{IsTold}
+use Rattle.aprs_listing.specs.OneLine.{HasOneLineEach}
 
 -- no LF stands in the text
 abbrev Free : List ℕ → Type 0
@@ -336,13 +337,13 @@ told head h p are raw is =
 row_line : (x : Row) → IsTold x → Line (history_line x)
 row_line x h =
     let p = parts_of x.greatest.frame in
-    let are = h.frame.parts in
+    let are = h.frame_is.parts in
     told (row_fields x) (
       free_moment x.first,
       (
         free_moment (last_of x),
         (
-          free_names x.receivers (recursion_from_All IsName x.receivers h.names),
+          free_names x.receivers (recursion_from_All IsName x.receivers h.names_are),
           (free_call p.source.call are.source.call, (free_via p.digipeaters are.digipeaters, tt)),
         ),
       ),
