@@ -103,7 +103,10 @@ function drawNews() {
     make("a", { href, className, textContent }));
   for (const text of page.data.notes)
     nodes.push(make("span", { className: "bad", textContent: text }));
-  byId("news").replaceChildren(...nodes.flatMap(it => [it, " "]));
+  // what says the same stays, and keeps the focus
+  const words = list => list.map(it => it.className + it.textContent).join("\n");
+  if (words(nodes) !== words([...byId("news").children]))
+    byId("news").replaceChildren(...nodes.flatMap(it => [it, " "]));
 }
 function drawLists() {
   const { net, lists } = page;
