@@ -64,17 +64,19 @@ def test_passed(folder):
                     for minute, source, part, text in [
                         (0, "Q1A", 0.00, ""), (1, "Q1A", 0.06, ""), (2, "Q1A", 0.12, ""),
                         (3, "Q1B", 0.12, ""), (4, "Q1B", 0.06, "")])
-    heard += line("18:05:00", "Q1C", "!5430.  N/00330.  W>") \
+    heard += line("18:07:00", "Q1SHIP", "!6000.00N/17959.94E>") \
+        + line("18:05:00", "Q1C", "!5430.  N/00330.  W>") \
         + line("17:59:00", "Q1NET", ";CAR      *111111z5430.12N/00330.00W>") \
         + line("17:58:00", "Q1NET", ";CAR      _111111z5430.00N/00330.00W>")
     points = folder / "points"
-    points.write_text("Half way 54.501 -3.5 60\n# none\nEnd 54.502 -3.5 112\n")
+    points.write_text("Half way 54.501 -3.5 60\n# none\nEnd 54.502 -3.5 112\nDate line 60 -179.999 200\n")
     assert run("passed", points, given=heard) == [
         "Half way\t1\t2024-06-21T18:01:00.000Z\tstation\tQ1A\t0",
         "Half way\t2\t2024-06-21T18:04:00.000Z\tstation\tQ1B\t0",
         "End\t1\t2024-06-21T17:59:00.000Z\tobject\tCAR\t0",
         "End\t2\t2024-06-21T18:01:00.000Z\tstation\tQ1A\t111",
-        "End\t3\t2024-06-21T18:03:00.000Z\tstation\tQ1B\t0"]
+        "End\t3\t2024-06-21T18:03:00.000Z\tstation\tQ1B\t0",
+        "Date line\t1\t2024-06-21T18:07:00.000Z\tstation\tQ1SHIP\t111"]
     points.write_text("Tarn 54.5 west 60\n")
     assert run("passed", points, given=heard, status=1) == []
 
