@@ -1,6 +1,7 @@
 # The commands of this repository. The kit's `rt` does the work.
 PREFIX ?= /usr/local
 PROGRAM = crates/aprsbook/out/aprsbook
+HISTORY = crates/aprsbook_history/out/aprsbook_history
 
 .PHONY: build libraries run try test words map reading recipes cookbook bench hostile
 .PHONY: built install uninstall deb tarball
@@ -14,11 +15,12 @@ JOBS ?= $(shell n=$(LANES); echo $$((n < 4 ? n : 4)))
 # what is proved beside the book and what leads to it, which take longer: one job each, and after these
 BESIDE = aprs_report aprs_convert aprs_command aprs_listing
 
-# the program alone, each call of it proved: crates that don't stand on each other side by side, and last
-# the program with one job, which is quicker than with more
+# the programs alone, each call of them proved: crates that don't stand on each other side by side, and
+# last the programs with one job, which is quicker than with more
 build:
 	@$(MAKE) --no-print-directory -j 3 libraries JOBS=$(JOBS)
 	cd crates/aprsbook && rt run --jobs 1 -- check ../../examples/sample.log > /dev/null
+	cd crates/aprsbook_history && rt run --jobs 1 -- ../../examples/sample.log > /dev/null
 
 LIBRARIES := $(shell sed -n '/_tests:/d; s/^\(aprs_[a-z0-9]*\):.*/\1/p' crates.txt)
 $(foreach it,$(LIBRARIES),$(eval $(it): $(filter $(LIBRARIES),$(shell sed -n 's/^$(it)://p' crates.txt))))
@@ -61,14 +63,18 @@ reading:
 	build/reading.py
 
 # what is tried with the program: the README's example, the old club's book, gaps, outputs that take
-# nothing, what happens to logs and books, each awk, the packages
+# nothing, what happens to logs and books, each awk, the packages; and with both programs: what they
+# complain of, and the history
 TRIED = readme old_book gaps full_output logs books awks packages
-tried = $(foreach it,$(TRIED),tests/$(it).sh $(PROGRAM) &&)
+TRIED_BOTH = complaints history
+tried = $(foreach it,$(TRIED),tests/$(it).sh $(PROGRAM) &&) \
+    $(foreach it,$(TRIED_BOTH),tests/$(it).sh $(PROGRAM) $(HISTORY) &&)
 
 # these, and the recipes that need only a POSIX system, where a program is there that is newer than
 # its sources; each says what it leaves out because a tool isn't there
 recipes:
-	@if [ -x $(PROGRAM) ] && [ -z "$$(find crates -name '*.rt' -newer $(PROGRAM))" ]; then \
+	@if [ -x $(PROGRAM) ] && [ -x $(HISTORY) ] && \
+	    [ -z "$$(find crates -name '*.rt' -newer $(PROGRAM))" ]; then \
 	    $(tried) examples/cookbook.sh --posix $(PROGRAM); \
 	else echo 'left out: the recipes of the cookbook, since no program is built (make build)'; fi
 
@@ -79,6 +85,7 @@ cookbook: build
 bench: build
 	bench/run.sh $(PROGRAM)
 	bench/books.sh $(PROGRAM)
+	bench/history.sh $(PROGRAM) $(HISTORY)
 
 # the recipes of tracks, a page, a net that runs and an engine, each where its tools are there
 .PHONY: net
