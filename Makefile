@@ -1,10 +1,11 @@
 # The commands of this repository. The kit's `rt` does the work.
 PREFIX ?= /usr/local
 PROGRAM = crates/aprsbook/out/aprsbook
+HISTORY = crates/aprsbook_history/out/aprsbook_history
 
 # the programs that are installed and packed: each has a crate (with _ for -), a manual page and
 # completions of its name
-PROGRAMS = aprsbook
+PROGRAMS = aprsbook aprsbook-history
 crate = $(subst -,_,$(1))
 # as `make build` made them
 BUILT = $(foreach it,$(PROGRAMS),crates/$(call crate,$(it))/out/$(call crate,$(it)))
@@ -21,11 +22,12 @@ JOBS ?= $(shell n=$(LANES); echo $$((n < 4 ? n : 4)))
 # what is proved beside the book and what leads to it, which take longer: one job each, and after these
 BESIDE = aprs_report aprs_convert aprs_command aprs_listing
 
-# the program alone, each call of it proved: crates that don't stand on each other side by side, and last
-# the program with one job, which is quicker than with more
+# the programs alone, each call of them proved: crates that don't stand on each other side by side, and
+# last the programs with one job, which is quicker than with more
 build:
 	@$(MAKE) --no-print-directory -j 3 libraries JOBS=$(JOBS)
 	cd crates/aprsbook && rt run --jobs 1 -- check ../../examples/sample.log > /dev/null
+	cd crates/aprsbook_history && rt run --jobs 1 -- ../../examples/sample.log > /dev/null
 
 LIBRARIES := $(shell sed -n '/_tests:/d; /^aprs_arena:/d; s/^\(aprs_[a-z0-9]*\):.*/\1/p' crates.txt)
 $(foreach it,$(LIBRARIES),$(eval $(it): $(filter $(LIBRARIES),$(shell sed -n 's/^$(it)://p' crates.txt))))
@@ -79,14 +81,17 @@ reading:
 
 # what is tried with the program: the README's example, the old club's book, gaps, outputs that take
 # nothing, what happens to logs and books, the units, each awk, the packages, and the same program on
-# other machines
+# other machines; and with both programs: what they complain of, and the history
 TRIED = readme old_book gaps full_output logs books units awks version packages everywhere
-tried = $(foreach it,$(TRIED),tests/$(it).sh $(PROGRAM) &&)
+TRIED_BOTH = complaints history
+tried = $(foreach it,$(TRIED),tests/$(it).sh $(PROGRAM) &&) \
+    $(foreach it,$(TRIED_BOTH),tests/$(it).sh $(PROGRAM) $(HISTORY) &&)
 
 # these, and the recipes that need only a POSIX system, where a program is there that is newer than
 # its sources; each says what it leaves out because a tool isn't there
 recipes:
-	@if [ -x $(PROGRAM) ] && [ -z "$$(find crates -name '*.rt' -newer $(PROGRAM))" ]; then \
+	@if [ -x $(PROGRAM) ] && [ -x $(HISTORY) ] && \
+	    [ -z "$$(find crates -name '*.rt' -newer $(PROGRAM))" ]; then \
 	    $(MAKE) --no-print-directory elsewhere && \
 	    $(tried) examples/cookbook.sh --posix $(PROGRAM); \
 	else echo 'left out: the recipes of the cookbook, since no program is built (make build)'; fi
@@ -103,6 +108,7 @@ bench: build
 	bench/run.sh $(PROGRAM)
 	bench/books.sh $(PROGRAM)
 	bench/library.sh
+	bench/history.sh $(PROGRAM) $(HISTORY)
 
 # the page that reads logs, out/aprsbook.html, with the module in it
 .PHONY: page

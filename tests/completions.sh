@@ -5,6 +5,8 @@ export LC_ALL=C
 cd "$(dirname "$0")/.."
 # shellcheck source=../completions/aprsbook.bash
 source completions/aprsbook.bash
+# shellcheck source=../completions/aprsbook-history.bash
+source completions/aprsbook-history.bash
 # bash knows this only while it completes
 compopt() { :; }
 scratch=$(mktemp -d)
@@ -26,7 +28,7 @@ offers() {
     done
     if [[ -n $rest ]]; then COMP_WORDS+=(''); fi
     COMP_CWORD=$((${#COMP_WORDS[@]} - 1))
-    _aprsbook
+    if [[ ${COMP_WORDS[0]} == aprsbook ]]; then _aprsbook; else _aprsbook_history; fi
     if [[ $(printf '%s\n' "$@" | sort) != $(printf '%s\n' "${COMPREPLY[@]}" | sort) ]]; then
         echo "tests/completions.sh: after '$COMP_LINE': ${COMPREPLY[*]@Q}, not ${*@Q}" >&2
         failed=1
@@ -54,5 +56,12 @@ offers 'aprsbook check di:r/' r/x.log
 offers 'aprsbook check a\ ' 'a b.log'
 offers 'aprsbook convert capture --moment 2024-05-01T12:00:00Z --receiver RX1 r' rx1.log
 offers 'aprsbook convert capture --moment 2024-05-01T12:00:00Z --re' --receiver
+offers 'aprsbook-history -' --gap --help --version
+offers 'aprsbook-history --gap '
+offers 'aprsbook-history --gap 60 r' rx1.log
+offers 'aprsbook-history rx1.log ' 2024-05-01T12:00.log rx1.log 'a b.log' 'di:r'
+offers 'aprsbook-history 2024-05-01T12:' 00.log
+offers 'aprsbook-history 2024-05-01T12:0' 00.log
+offers 'aprsbook-history rx1.log di:r/' r/x.log
 [ $failed = 0 ] && echo 'the completion of bash offers what it has to'
 exit $failed

@@ -25,7 +25,7 @@ if command -v shellcheck > /dev/null; then
         awk 'FNR == 1 && /^#!.*sh$/ { print FILENAME }' {} +)
     # shellcheck disable=SC2086 # no name has a blank
     shellcheck $scripts || fail 'shellcheck says so'
-    shellcheck -s bash completions/aprsbook.bash || fail 'shellcheck says so'
+    shellcheck -s bash completions/*.bash || fail 'shellcheck says so'
 else
     echo 'left out: shellcheck'
 fi

@@ -1,9 +1,9 @@
 #!/bin/sh
 # Checks that the cookbook's table "When it says" has each message and each cause of a fault, and,
-# both ways, that the manual page and the completions name the words that the program has: its
-# commands, forms, options, kinds of reports, lines and states of a listing, exit statuses and
-# messages, the causes of faults, and the reasons for which a line is passed over. The program's
-# words are read from its sources. Needs a POSIX system alone; where mandoc, bash, zsh or fish is
+# both ways, that the manual pages and the completions name the words that the programs have: their
+# commands, forms, options, kinds of reports, lines of a listing and of a history, states, exit
+# statuses and messages, the causes of faults, and the reasons for which a line is passed over. These
+# words are read from the sources. Needs a POSIX system alone; where mandoc, bash, zsh or fish is
 # there, it also looks at its file.
 set -eu
 export LC_ALL=C
@@ -54,13 +54,30 @@ arms aprs_booktext/src/fault.rt 'impl BookCause {' | sed '/^Memory$/d' \
     > "$scratch/program/book_causes"
 {
     echo 0
-    sed -n 's/^const [A-Z_]*: u8 = \([0-9]*\);/\1/p' aprsbook/src/main.rt
+    sed -n 's/^\(pub \)*const [A-Z_]*: u8 = \([0-9]*\);/\2/p' aprs_program/src/complaint.rt
 } > "$scratch/program/statuses"
-sed -n 's/.*eprintln!(rt; "\(aprsbook: .*\)").*/\1/p' aprsbook/src/main.rt |
-    sed 's/{p[a-z]*}/PLACE/; s/{line}/N/; s/{cause}/CAUSE/' > "$scratch/program/messages"
+# the words of a complaint, as their definition has them, but for those that clap would say too
+awk '/^words_of / && !/UTF-8/ && match($0, /codes ".*"$/) {
+    print "aprsbook: " ($0 ~ /\.now/ ? "PLACE" : "") substr($0, RSTART + 7, RLENGTH - 8)
+}' aprs_program/specs/Complaint.antt > "$scratch/program/messages"
+echo 'aprsbook: PLACE: line N: CAUSE' >> "$scratch/program/messages"
+# those of the program of histories, which has no capture and widens nothing
+history=aprs_command/src/history.rt
+{
+    sed -n 's/.*inputs_arg(alloc).*/INPUT/p; s/.*gap_arg(alloc).*/--gap/p' $history |
+        sed '/^INPUT$/d'
+    printf '%s\n' -h --help
+    grep -q '\.version(' $history && printf '%s\n' -V --version
+} > "$scratch/program/history_options"
+sed '/^-.$/d' "$scratch/program/history_options" > "$scratch/program/history_long_options"
+sed -n 's/.*put_[a-z]*_line(out, b"\([a-z-]*\)".*/\1/p; s/^ *b"\([a-z-]*\)",$/\1/p' \
+    aprs_listing/src/history.rt > "$scratch/program/history_lines"
+sed '/: narrower$/d; /capture/d; s/^aprsbook/aprsbook-history/' "$scratch/program/messages" \
+    > "$scratch/program/history_messages"
+cp "$scratch/program/statuses" "$scratch/program/history_statuses"
 cd ..
 
-# ---- the manual page: the tags below each heading ----
+# ---- the manual pages: the tags below each heading ----
 
 page=man/aprsbook.1
 # tags HEADING: as they are read
@@ -97,6 +114,11 @@ first_words 'Causes in a log' > "$scratch/page/log_causes"
 first_words 'Causes in a book' > "$scratch/page/book_causes"
 first_words 'EXIT STATUS' > "$scratch/page/statuses"
 tags DIAGNOSTICS > "$scratch/page/messages"
+page=man/aprsbook-history.1
+first_words OPTIONS > "$scratch/page/history_options"
+first_words 'Lines of a history' > "$scratch/page/history_lines"
+first_words 'EXIT STATUS' > "$scratch/page/history_statuses"
+tags DIAGNOSTICS > "$scratch/page/history_messages"
 
 # ---- the completions ----
 
@@ -125,6 +147,14 @@ offered __aprsbook_wants_command > "$scratch/fish/commands"
 offered __aprsbook_wants_form > "$scratch/fish/forms"
 sed -n 's/^complete .* -l \([a-z]*\) .*/--\1/p' $file > "$scratch/fish/long_options"
 
+# those of the program of histories
+grep -o -e '--gap' -e '--help' -e '--version' completions/aprsbook-history.bash \
+    > "$scratch/bash/history_long_options"
+grep -o -e '--[a-z]*[[}]' completions/_aprsbook-history | tr -d '[}' \
+    > "$scratch/zsh/history_long_options"
+sed -n 's/^complete .* -l \([a-z]*\) .*/--\1/p' completions/aprsbook-history.fish \
+    > "$scratch/fish/history_long_options"
+
 # ---- both ways ----
 
 for list in "$scratch"/*/*; do sort -u -o "$list" "$list"; done
@@ -139,11 +169,12 @@ same() {
     fi
 }
 for kind in commands forms options kinds listed object_states message_states reasons log_causes \
-    book_causes statuses messages; do
+    book_causes statuses messages history_options history_lines history_statuses \
+    history_messages; do
     same $kind page
 done
 for shell in bash zsh fish; do
-    for kind in commands forms long_options; do same $kind $shell; done
+    for kind in commands forms long_options history_long_options; do same $kind $shell; done
 done
 
 # ---- the cookbook's table ----
@@ -164,12 +195,14 @@ read_by() {
     "$@" > "$scratch/said" 2>&1 || fail "$* ended with $?"
     [ ! -s "$scratch/said" ] || fail "$* says: $(cat "$scratch/said")"
 }
-read_by mandoc -T lint $page
-read_by bash -n completions/aprsbook.bash
-read_by zsh -n completions/_aprsbook
-read_by fish -n completions/aprsbook.fish
+for name in aprsbook aprsbook-history; do
+    read_by mandoc -T lint man/$name.1
+    read_by bash -n completions/$name.bash
+    read_by zsh -n completions/_$name
+    read_by fish -n completions/$name.fish
+done
 
 if [ $failed = 0 ]; then
-    echo "the manual page and the completions name the program's words"
+    echo "the manual pages and the completions name the programs' words"
 fi
 exit $failed

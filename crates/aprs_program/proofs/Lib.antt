@@ -1,0 +1,2 @@
+-- Lemmas on what a program does beside its runs.
+mod Openings

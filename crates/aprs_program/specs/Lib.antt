@@ -1,0 +1,5 @@
+-- Definitions that contracts of a program cite.
+pub mod Complaint
+pub mod Ending
+pub mod Opening
+pub mod Work

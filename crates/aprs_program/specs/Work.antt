@@ -1,0 +1,63 @@
+-- What a program is to do, and what the run for it does.
+use Rattle.std.specs.Prelude.{ℕ, List, [], ◌∷◌, Option, Result}
+use Rattle.aprs_io.specs.Device.{device_of}
+use Rattle.aprs_io.specs.declared.device.Counted.{Counted}
+use Rattle.aprs_log.specs.Reception.{Heard}
+use Rattle.aprs_convert.specs.Check.{Checks}
+use Rattle.aprs_convert.specs.Conversion.{Converts}
+use Rattle.aprs_convert.specs.Ends.{Runs}
+use Rattle.aprs_convert.specs.Got.{OfGot}
+use Rattle.aprs_command.specs.declared.jobs.Job.{Job}
+use Rattle.aprs_command.specs.declared.jobs.Job.TheVariants as job
+use Rattle.aprs_tool.specs.Devices.{AsksEach, CallsOutput}
+use Rattle.aprs_tool.specs.HistoryOf.{IsHistoryOf}
+use Rattle.aprs_tool.specs.Merge.{IsTextOfBook}
+use Rattle.aprs_tool.specs.Outcome.{IsToldOf, RefusesFor, WritesFor}
+use Rattle.aprs_tool.specs.Run.{AnswersAs}
+use Rattle.aprs_tool.specs.Show.{IsListingOf}
+use Rattle.aprs_tool.specs.Widen.{GivesSetWithin, IsNotWidened}
+use Rattle.aprs_tool.specs.declared.fault.RunFault.{RunFault}
+use Rattle.aprs_program.specs.declared.work.Gathering.{Gathering}
+use Rattle.aprs_program.specs.declared.work.Gathering.TheVariants as gathering
+use Rattle.aprs_program.specs.declared.work.Single.{Single}
+use Rattle.aprs_program.specs.declared.work.Single.TheVariants as single
+use Rattle.aprs_program.specs.declared.work.Work.{Work}
+use Rattle.aprs_program.specs.declared.work.Work.TheVariants as work
+
+-- The work of a job.
+abbrev pub work_of : Job → Work
+work_of (job.Check inputs) = work.Of single.Check
+work_of (job.Convert form inputs) = work.Of (single.Convert form)
+work_of (job.Widen gap inputs) = work.Of (single.Widen gap)
+work_of (job.Merge gap inputs) = work.OfAll gathering.Merge gap
+work_of (job.Show gap inputs) = work.OfAll gathering.Show gap
+
+-- The text is what is written of a set: its book, its listing or its history under this gap.
+abbrev pub IsOutputOf : Gathering → ℕ → List Heard → List ℕ → Type 0
+IsOutputOf gathering.Merge gap = IsTextOfBook gap
+IsOutputOf gathering.Show gap = IsListingOf gap
+IsOutputOf gathering.History gap = IsHistoryOf gap
+
+-- The input was widened to this gap: what was written, why the input is refused, and what the
+-- devices were asked.
+pub record WidensInput {R W : Type 0} (gap limit : ℕ) (remaining : R → Option (List ℕ))
+    (contents : W → Option (List ℕ)) (result : Result (Unit {0}) RunFault)
+    (r s : Counted R) (w x : Counted W) : Type 0 where
+  pub writes : OfGot limit (remaining (device_of r)) (remaining (device_of s))
+      (λ text ending. WritesFor (IsToldOf (GivesSetWithin gap text ending) (IsTextOfBook gap))
+      contents result w x)
+  pub refuses : OfGot limit (remaining (device_of r)) (remaining (device_of s))
+      (λ text ending. RefusesFor (GivesSetWithin gap text ending)
+      (IsNotWidened gap text ending) result w x)
+  pub asks : AsksEach result (r ∷ []) (s ∷ [])
+  pub calls : CallsOutput result w x
+
+-- The run over one input did this work: a check, a conversion or a widening.
+abbrev pub Does : {R W : Type 0} → Single → ℕ → (R → Option (List ℕ)) → (W → Option (List ℕ))
+    → Result (Unit {0}) RunFault → Counted R → Counted R → Counted W → Counted W → Type 0
+Does single.Check limit remaining contents result r s w x =
+    AnswersAs result (λ answer. Runs Checks limit remaining contents answer r s w x)
+Does (single.Convert form) limit remaining contents result r s w x =
+    AnswersAs result (λ answer. Runs (Converts form) limit remaining contents answer r s w x)
+Does (single.Widen gap) limit remaining contents result r s w x =
+    WidensInput gap limit remaining contents result r s w x

@@ -1,0 +1,68 @@
+//! Opening the inputs of a run.
+ghost use Rattle.std.specs.Prelude.{◌≡◌, ◌∷◌, [], IfErr, IfOk, OnOk, length, map, string_bytes, take, List, Option, None, ℕ};
+ghost use Rattle.aprs_program.specs.Opening.{AsksFor, StopsAt, complaint_at};
+
+use crate::complaint::Complaint;
+use aprs_io::Counted;
+use std::alloc::Allocator;
+use std::io::Read;
+
+/// Why an input can't be opened.
+#[derive(Clone, Copy, Debug, PartialEq, Eq)]
+pub enum OpenFault {
+    /// The system refuses it.
+    Refused,
+    /// An allocation failed.
+    Memory,
+}
+
+/// What opens the inputs of a run by their paths.
+pub trait Opener {
+    /// An input that is open.
+    type Input: Read + Drop;
+
+    /// The paths that it was asked for, in order, where they are known.
+    ghost asked: { Self → Option (List (List ℕ)) } = { λ _. None };
+
+    /// Opens the input of this path.
+    fn open(&mut self, path: &str) -> Result<Self::Input, OpenFault>
+        ensures asks { AsksFor (asked self.old) (asked self.new) (path.now ∷ []) };
+}
+
+/// Opens all inputs, in the order of their paths. Where one can't be opened, or an allocation
+/// fails, none after it is opened, and the answer is what is complained of.
+pub fn open_all<'t, O: Opener, A: Allocator>(
+    opener: &mut O,
+    alloc: A,
+    paths: &'t [String],
+) -> Result<Vec<Counted<O::Input>, A>, Complaint<'t>>
+    // All are opened, in order; or one can't be, and none after it is asked for.
+    ensures each { IfOk result (λ inputs. length inputs.items ≡ length paths.entry.now) }
+    ensures in_order { OnOk result (AsksFor (O.asked opener.old) (O.asked opener.new)
+        (map (λ path. string_bytes path) paths.entry.now)) }
+    ensures stops { IfErr result (StopsAt (O.asked opener.old) (O.asked opener.new)
+        paths.entry.now) }
+{
+    let mut inputs = Vec::new(alloc);
+    for path in paths {
+        match opener.open(path.as_str()) {
+            Ok(input) => {
+                if inputs.push(Counted::new(input)).is_err() {
+                    return Err(Complaint::OutOfMemory);
+                }
+            }
+            Err(fault) => return Err(complaint_of_open(path.as_bytes(), fault)),
+        }
+    }
+    Ok(inputs)
+}
+
+/// What is complained of where the input of this path can't be opened.
+pub fn complaint_of_open<'t>(path: &'t [u8], fault: OpenFault) -> Complaint<'t>
+    ensures { result ≡ complaint_at path.entry fault }
+{
+    match fault {
+        OpenFault::Refused => Complaint::CannotOpen(path),
+        OpenFault::Memory => Complaint::OutOfMemory,
+    }
+}

@@ -1,0 +1,109 @@
+//! What a program is to do, and which run does it.
+ghost use Rattle.std.specs.Prelude.{◌≡◌, ◌≤◌};
+ghost use Rattle.aprs_command.specs.Arguments.{inputs_of, paths_of};
+ghost use Rattle.aprs_io.specs.Input.{most_input};
+ghost use Rattle.aprs_tool.specs.Devices.{AsksEach, CallsOutput};
+ghost use Rattle.aprs_tool.specs.Outcome.{IsToldOf, RefusesFor, WritesFor};
+ghost use Rattle.aprs_tool.specs.Several.{GiveUnion, IsFirstRefused, OfEach};
+ghost use Rattle.aprs_program.specs.Work as Spec;
+
+use aprs_io::Counted;
+use aprs_laws::Gap;
+use aprs_tool::{
+    Form, Job, RunFault, check_run, convert_run, history_run, merge_run, show_run, widen_run,
+};
+use std::alloc::Allocator;
+use std::io::{Read, Write};
+
+/// A run over one input.
+#[derive(Drop)]
+pub enum Single {
+    /// Reports the input's lines that hold no frame.
+    Check,
+    /// Writes the input in another form.
+    Convert(Form),
+    /// Writes the input's book under this gap.
+    Widen(Gap),
+}
+
+/// A run over several inputs.
+#[derive(Clone, Copy)]
+pub enum Gathering {
+    /// Writes the inputs' book.
+    Merge,
+    /// Writes the listing of the inputs' book.
+    Show,
+    /// Writes the history of the inputs' book.
+    History,
+}
+
+/// What a program is to do.
+#[derive(Drop)]
+pub enum Work {
+    /// A run over one input.
+    Of(Single),
+    /// A run over several inputs, for a book of this gap.
+    OfAll(Gathering, Gap),
+}
+
+/// The work of a job, and the paths of its inputs. Takes no memory.
+pub fn work_of(job: Job) -> (Work, Vec<String>)
+    ensures work { result.0 ≡ Spec.work_of job }
+    ensures inputs { paths_of result.1.items ≡ inputs_of job }
+{
+    match job {
+        Job::Check(inputs) => (Work::Of(Single::Check), inputs),
+        Job::Convert(form, inputs) => (Work::Of(Single::Convert(form)), inputs),
+        Job::Widen(gap, inputs) => (Work::Of(Single::Widen(gap)), inputs),
+        Job::Merge(gap, inputs) => (Work::OfAll(Gathering::Merge, gap), inputs),
+        Job::Show(gap, inputs) => (Work::OfAll(Gathering::Show, gap), inputs),
+    }
+}
+
+/// Does the work over one input. Requires that `limit` is at most `MAX_INPUT` (1,073,741,824). What
+/// it writes, when it ends with which fault and what memory it takes is as `check_run`,
+/// `convert_run` and `widen_run` of `aprs_tool` say.
+pub fn run_single<R: Read, W: Write, A: Allocator + Copy>(
+    alloc: A,
+    limit: u64,
+    single: Single,
+    r: &mut Counted<R>,
+    w: &mut Counted<W>,
+) -> Result<(), RunFault>
+    requires { limit ≤ most_input }
+    ensures { Spec.Does single limit R.remaining W.contents result r.old r.new w.old w.new }
+{
+    match single {
+        Single::Check => check_run(alloc, limit, r, w),
+        Single::Convert(form) => convert_run(alloc, limit, form, r, w),
+        Single::Widen(gap) => widen_run(alloc, limit, gap, r, w),
+    }
+}
+
+/// Does the work over several inputs. Requires that `limit` is at most `MAX_INPUT` (1,073,741,824).
+/// What it writes, when it ends with which fault and what memory it takes is as `merge_run`,
+/// `show_run` and `history_run` of `aprs_tool` say.
+pub fn run_gathering<R: Read, W: Write, A: Allocator + Copy>(
+    alloc: A,
+    limit: u64,
+    gathering: Gathering,
+    gap: Gap,
+    inputs: &mut [Counted<R>],
+    w: &mut Counted<W>,
+) -> Result<(), RunFault>
+    requires { limit ≤ most_input }
+
+    ensures writes { OfEach limit R.remaining inputs.old inputs.new (λ gots.
+        WritesFor (IsToldOf (GiveUnion gap gots) (Spec.IsOutputOf gathering gap)) W.contents result
+        w.old w.new) }
+    ensures refuses { OfEach limit R.remaining inputs.old inputs.new (λ gots.
+        RefusesFor (GiveUnion gap gots) (IsFirstRefused gap gots) result w.old w.new) }
+    ensures asks { AsksEach result inputs.old inputs.new }
+    ensures calls { CallsOutput result w.old w.new }
+{
+    match gathering {
+        Gathering::Merge => merge_run(alloc, limit, gap, inputs, w),
+        Gathering::Show => show_run(alloc, limit, gap, inputs, w),
+        Gathering::History => history_run(alloc, limit, gap, inputs, w),
+    }
+}

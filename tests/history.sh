@@ -1,0 +1,71 @@
+#!/bin/sh
+# Tries the history of the example logs: the lines of the README's log, worked out by hand; one line
+# for each row of the book, with the row's moments and receivers, in the book's order; and the same
+# bytes of the same receptions. Needs a POSIX system alone.
+# usage: tests/history.sh PROGRAM HISTORY
+# shellcheck source=program.sh
+. "$(dirname "$0")/program.sh"
+[ -n "$history" ] || fail "there is no program of histories"
+cd "$repository/examples"
+cat > "$scratch/wanted" << 'end'
+message 2024-05-01T12:02:10.000Z 2024-05-01T12:02:10.000Z RX2 N0CALL-7 - WU2Z 003:Testing
+status 2024-05-01T12:00:00.000Z 2024-05-01T12:00:02.000Z RX1,RX2 N0CALL-7 WIDE1-1* -:Hi
+object 2024-05-01T12:01:00.000Z 2024-05-01T12:01:00.000Z RX1 N0CALL-8 WIDE1-1*,WIDE2-1 LEADER live 092345z 294350/6000 -432175/6000 0 />:
+position 2024-05-01T12:00:31.000Z 2024-05-01T12:00:31.000Z RX1 WU2Z - - 294350/6000 -432175/6000 0 /-:Club house
+ack 2024-05-01T12:02:12.000Z 2024-05-01T12:02:12.000Z RX1 WU2Z - N0CALL-7 003
+end
+aprsbook-history sample.log > "$scratch/history"
+diff "$scratch/wanted" "$scratch/history" >&2 || fail 'the history of the sample differs'
+
+# ---- one line for each row, with its moments and receivers ----
+
+# rows BOOK HISTORY: as the book has them
+rows() {
+    awk '$1 == "T" { print $2, $3, $4 }' "$1" > "$scratch/rows"
+    awk '{ print $2, $3, $4 }' "$2" > "$scratch/told"
+    cmp -s "$scratch/rows" "$scratch/told" || fail "the rows of $1 differ"
+    [ -s "$scratch/rows" ] || fail "$1 has no rows"
+}
+for gap in 1 30 600; do
+    aprsbook merge --gap $gap evening/*.log > "$scratch/evening.book"
+    aprsbook-history --gap $gap evening/*.log > "$scratch/evening"
+    rows "$scratch/evening.book" "$scratch/evening"
+done
+
+# ---- the same receptions, the same bytes ----
+
+aprsbook-history evening/*.log > "$scratch/evening"
+# alike WHAT ARGUMENT..: the history of these inputs is that of the evening
+alike() {
+    what=$1
+    shift
+    aprsbook-history "$@" | cmp -s - "$scratch/evening" || fail "the history differs: $what"
+}
+cd evening
+backwards=
+for log in *.log; do
+    backwards="$log $backwards"
+    aprsbook merge "$log" > "$scratch/$log.book"
+done
+# shellcheck disable=SC2086 # one name a word
+alike 'inputs in another order' $backwards
+alike 'inputs that are given twice' ./*.log ./*.log
+alike 'book files' "$scratch"/*.log.book
+aprsbook merge ./*.log > "$scratch/all.book"
+alike 'one book' "$scratch/all.book"
+sed '1s/.*/APRSBOOK 2/' "$scratch/all.book" > "$scratch/two.book"
+alike 'a book of version 2' "$scratch/two.book"
+alike 'a book and its logs' "$scratch/all.book" ./*.log
+cat ./*.log | aprsbook-history | cmp -s - "$scratch/evening" || fail 'standard input'
+
+# ---- what show says is the last of what the history says ----
+
+aprsbook show ./*.log | awk '$1 == "station" { call = $2 } $1 == "position" || $1 == "status" {
+    print call, $1, $2
+}' | sort > "$scratch/last"
+awk '$1 == "position" || $1 == "status" {
+    if ($3 > last[$5 " " $1]) last[$5 " " $1] = $3
+}
+END { for (it in last) print it, last[it] }' "$scratch/evening" | sort | cmp -s - "$scratch/last" ||
+    fail 'the last positions and statuses differ from those of show'
+echo 'a history has one line for each row, whatever the inputs are called and how they come'
