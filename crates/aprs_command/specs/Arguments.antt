@@ -6,7 +6,7 @@ use Rattle.std.specs.String.{string_bytes}
 use Rattle.std.specs.declared.string.String.{String}
 use Rattle.std.specs.Borrow.{Bor}
 use Rattle.clap.specs.Lexer.{usize_max}
-use Rattle.clap.specs.Words.{App, Row, Rule, Text, all_of, first_of, new_app, new_rule, subcommand_of, IsAmong, fault_of, kind_of, takes, with_rule, with_subcommand}
+use Rattle.clap.specs.Words.{App, Row, Rule, Text, all_of, first_of, new_app, new_rule, subcommand_of, matches_of, IsAmong, fault_of, kind_of, takes, with_rule, with_subcommand}
 use Rattle.clap.specs.ValueTests.{is_unsigned_in}
 use Rattle.clap.specs.declared.builder.value_parser.ValueParser.{ValueParser}
 use Rattle.clap.specs.declared.builder.value_parser.ValueParser.TheVariants as vp
@@ -16,6 +16,7 @@ use Rattle.aprs_log.specs.MomentReading.{moment_of}
 use Rattle.aprs_log.specs.Receiver.{is_name}
 use Rattle.aprs_convert.specs.declared.form.Form.{Form}
 use Rattle.aprs_convert.specs.declared.form.Form.TheVariants as form
+use Rattle.aprs_command.specs.declared.jobs.HistoryJob.{HistoryJob}
 use Rattle.aprs_command.specs.declared.jobs.Job.{Job}
 use Rattle.aprs_command.specs.declared.jobs.Job.TheVariants as job
 use Rattle.aprs_command.specs.declared.jobs.JobFault.{JobFault}
@@ -88,9 +89,13 @@ convert_app p =
 abbrev pub check_app : App
 check_app = with_rule (new_app (codes "check")) input_rule
 
+-- The command, with `[--gap SECONDS] [INPUT]...` too.
+abbrev pub with_gathered : App → App
+with_gathered a = with_rule (with_rule a inputs_rule) gap_rule
+
 -- A command of this name with `[--gap SECONDS] [INPUT]...`.
 abbrev pub gathering_app : Text → App
-gathering_app name = with_rule (with_rule (new_app name) inputs_rule) gap_rule
+gathering_app name = with_gathered (new_app name)
 
 -- `merge [--gap SECONDS] [INPUT]...`.
 abbrev pub merge_app : App
@@ -104,16 +109,24 @@ show_app = gathering_app (codes "show")
 abbrev pub widen_app : App
 widen_app = with_rule (with_rule (new_app (codes "widen")) seconds_rule) input_rule
 
+-- A program of this name, which has a version.
+abbrev pub versioned_app : Text → App
+versioned_app name = let a = new_app name in
+    record a { top = record a.top { has_version = true } }
+
 -- The program, which has a version.
 abbrev pub program_top : App
-program_top = let a = new_app (codes "aprsbook") in
-    record a { top = record a.top { has_version = true } }
+program_top = versioned_app (codes "aprsbook")
 
 -- The program with its commands.
 abbrev pub program_app : ValueParser → App
 program_app p = with_subcommand (with_subcommand (with_subcommand (with_subcommand
     (with_subcommand program_top (convert_app p).top) check_app.top) merge_app.top) show_app.top)
     widen_app.top
+
+-- The program of histories, which has a version: `aprsbook-history [--gap SECONDS] [INPUT]...`.
+abbrev pub history_app : App
+history_app = with_gathered (versioned_app (codes "aprsbook-history"))
 
 -- ---- what is read of the matches
 
@@ -180,10 +193,14 @@ abbrev pub task_of : Option (Text × List Row) → Option Task
 task_of None = Some (task.Convert form.Text)
 task_of (Some p) = task_by_name p.0 p.1
 
+-- The paths of the inputs among the matches, in the order of the arguments.
+abbrev pub given_inputs : List Row → List Text
+given_inputs rows = unwrap_or (all_of (codes "input") rows) []
+
 -- The paths of the inputs, in the order of the arguments; none without a command.
 abbrev pub inputs_in : Option (Text × List Row) → List Text
 inputs_in None = []
-inputs_in (Some p) = unwrap_or (all_of (codes "input") p.1) []
+inputs_in (Some p) = given_inputs p.1
 
 -- ---- the answer
 
@@ -234,6 +251,25 @@ RefusesSo a arguments (fault.Clap error) =
 
 -- A job is returned only where the command's definition finds no fault in the arguments, and a
 -- refusal is as above.
-abbrev pub JudgesArguments : App → List Text → Result Job JobFault → Type 0
+abbrev pub JudgesArguments : {J : Type 0} → App → List Text → Result J JobFault → Type 0
 JudgesArguments a arguments answer =
     MatchResult answer (λ j. fault_of a arguments ≡ []) (RefusesSo a arguments)
+
+-- ---- the program of histories
+
+-- The job has the gap and the inputs that these matches ask for.
+pub record IsHistoryJobOf (rows : List Row) (j : HistoryJob) : Type 0 where
+  pub gap : chosen_gap rows ≡ Some j.gap
+  pub inputs : paths_of j.inputs.items ≡ given_inputs rows
+
+-- The arguments are refused only where the command doesn't take them, and for `Options` only where
+-- the gap can't be read.
+abbrev pub FailsHistory : List Text → JobFault → Type 0
+FailsHistory arguments fault.Memory = Unit {0}
+FailsHistory arguments fault.Options = chosen_gap (matches_of history_app arguments) ≡ None
+FailsHistory arguments (fault.Clap error) = takes history_app arguments ≡ true → ⊥
+
+-- The answer is the job that the matches ask for, or the arguments are refused so.
+abbrev pub AnswersHistory : List Text → Result HistoryJob JobFault → Type 0
+AnswersHistory arguments answer = MatchResult answer
+    (IsHistoryJobOf (matches_of history_app arguments)) (FailsHistory arguments)

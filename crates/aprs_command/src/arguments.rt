@@ -138,7 +138,7 @@ fn gap_parser<'a>() -> ValueParser<'a>
 }
 
 /// The option `--gap SECONDS`, with 1 to 3,600 seconds.
-fn gap_arg<'a>(alloc: Global) -> Arg<'a>
+pub(crate) fn gap_arg<'a>(alloc: Global) -> Arg<'a>
     ensures rule { rule_of result ≡ Spec.gap_rule }
     ensures local { result.global ≡ false }
 {
@@ -162,7 +162,7 @@ fn input_arg<'a>(alloc: Global, help: &'static str) -> Arg<'a>
 }
 
 /// The argument INPUT of a command that takes any number of inputs, also none.
-fn inputs_arg<'a>(alloc: Global) -> Arg<'a>
+pub(crate) fn inputs_arg<'a>(alloc: Global) -> Arg<'a>
     ensures rule { rule_of result ≡ Spec.inputs_rule }
     ensures local { result.global ≡ false }
 {
@@ -269,7 +269,7 @@ fn program<'a>(alloc: Global, forms: &'a [PossibleValue<'a>]) -> Result<Command<
 }
 
 /// The fault for an error of clap: `Memory` where an allocation failed, and else this error.
-fn clap_fault(error: clap::Error) -> JobFault
+pub(crate) fn clap_fault(error: clap::Error) -> JobFault
     ensures { ((kind_of error ≡ OutOfMemory) × (result ≡ JobFault.Memory))
         ⊎ ((kind_of error ≢ OutOfMemory) × (result ≡ JobFault.Clap error)) }
 {
@@ -319,7 +319,7 @@ fn read_named(name: &str, matches: &ArgMatches<'_>) -> Option<Task>
 
 /// The gap that `--gap` gives to `merge` or `show`: 30 seconds where it isn't given, and `None`
 /// where its text is no number of 1 to 3,600.
-fn read_chosen_gap(matches: &ArgMatches<'_>) -> Option<Gap>
+pub(crate) fn read_chosen_gap(matches: &ArgMatches<'_>) -> Option<Gap>
     ensures { result ≡ Spec.chosen_gap (rows_of (found_of matches.now)) }
 {
     match text_at(matches, "gap") {
@@ -421,10 +421,22 @@ fn read_inputs(alloc: Global, matches: &ArgMatches<'_>) -> Result<Vec<String>, A
     ensures { IfOk result (λ v. Spec.paths_of v.items
         ≡ Spec.inputs_in (subcommand_rows_of matches.now)) }
 {
-    let Some((_, inner)) = matches.subcommand() else {
-        return Ok(Vec::new(alloc));
-    };
-    match inner.get_strs("input") {
+    match matches.subcommand() {
+        Some((_, inner)) => read_given_inputs(alloc, inner),
+        None => Ok(Vec::new(alloc)),
+    }
+}
+
+/// The paths that INPUT gives among these matches, in the order of the arguments and in memory of
+/// their own. `AllocError` where an allocation failed.
+pub(crate) fn read_given_inputs(
+    alloc: Global,
+    matches: &ArgMatches<'_>,
+) -> Result<Vec<String>, AllocError>
+    ensures { IfOk result (λ v. Spec.paths_of v.items
+        ≡ Spec.given_inputs (rows_of (found_of matches.now))) }
+{
+    match matches.get_strs("input") {
         Some(paths) => copy_paths(alloc, paths),
         None => Ok(Vec::new(alloc)),
     }

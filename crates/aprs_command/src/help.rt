@@ -1,6 +1,6 @@
-//! What the program's help says, beside the arguments that it takes.
+//! What a program's help says, beside the arguments that it takes.
 
-/// The program's version.
+/// The version of both programs.
 pub const VERSION: &str = "0.1.0";
 
 /// What the program is for.
@@ -67,3 +67,20 @@ pub const RECEIVER: &str = "With capture: the receiver's name, of 1 to 16 letter
 
 pub const MOMENT: &str =
     "With capture: when all was heard, in UTC, as 2024-05-01T12:00:00Z or 2024-05-01T12:00:00.000Z";
+
+/// What `aprsbook-history` is for.
+pub const HISTORY: &str =
+    "Writes a line for each transmission of logs and book files, with what it reports";
+
+/// Examples of `aprsbook-history`, and its exit statuses.
+pub const HISTORY_EXAMPLES: &str = "Examples:
+  aprsbook-history net.book
+  aprsbook-history rx1.log rx2.log > evening.txt
+  aprsbook-history --gap 60 slow.book
+
+Exit status:
+  0  done, or help or the version was asked for
+  1  an input can't be opened or read, is faulty or has another gap
+  2  the words aren't those of the command
+  3  the output was refused
+  4  memory was refused";

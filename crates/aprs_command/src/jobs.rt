@@ -1,4 +1,4 @@
-//! What the program is asked to do.
+//! What a program is asked to do.
 use aprs_convert::Form;
 use aprs_laws::Gap;
 
@@ -18,7 +18,17 @@ pub enum Job {
     Widen(Gap, Vec<String>),
 }
 
-/// Why the program's arguments ask for no job.
+/// What the arguments of `aprsbook-history` ask for: the history of logs and book files, with the
+/// paths of these; without any, standard input is read.
+#[derive(Drop)]
+pub struct HistoryJob {
+    /// The gap of the book whose history is written.
+    pub gap: Gap,
+    /// The paths, in the order of the arguments.
+    pub inputs: Vec<String>,
+}
+
+/// Why a program's arguments ask for no job.
 #[derive(Drop)]
 pub enum JobFault {
     /// The arguments are not those of the command, or ask for help or the version: its text says

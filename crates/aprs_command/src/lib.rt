@@ -1,9 +1,11 @@
-//! What the program's arguments ask for.
+//! What a program's arguments ask for.
 #![tactic(auto)]
 
 mod arguments;
 mod help;
+mod history;
 mod jobs;
 
 pub use arguments::{command_is_simple, job};
-pub use jobs::{Job, JobFault};
+pub use history::{history_command_is_simple, history_job};
+pub use jobs::{HistoryJob, Job, JobFault};

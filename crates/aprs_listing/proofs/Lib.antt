@@ -1,2 +1,4 @@
 -- Lemmas of what is put out line by line.
 mod Lines
+mod Histories
+mod OneLines

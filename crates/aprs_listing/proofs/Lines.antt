@@ -11,7 +11,7 @@ use Rattle.aprs_listing.specs.Listing.{after_space, heard_fields, live_text, nam
 use Rattle.aprs_convert.specs.Shown.{shown_text}
 use Rattle.aprs_listing.specs.declared.field.Field.{Field}
 
-spaced_fields : (xs : List Field) → flat_map spaced_field xs
+pub spaced_fields : (xs : List Field) → flat_map spaced_field xs
     ≡ flat_map after_space (map field_text xs)
 spaced_fields [] = refl
 spaced_fields (x ∷ xs) = ap (λ l. spaced_field x ++ l) (spaced_fields xs)

@@ -158,7 +158,7 @@ fn place_fields(at: &Whereabouts<'_>) -> [Field<'static>; 5]
 }
 
 /// `live`, or `killed`: whether an object or an item is still there.
-fn live_text(live: bool) -> &'static [u8]
+pub fn live_text(live: bool) -> &'static [u8]
     ensures { result.now ≡ Spec.live_text live }
 {
     if live { b"live" } else { b"killed" }

@@ -42,6 +42,24 @@ pub fn put_text_line<W: Write>(
     put_text(out, text)
 }
 
+/// Puts a line: its kind, each of `fields` and then of `others` after a space, and LF. Fails where
+/// the output is refused.
+pub fn put_lists_line<W: Write>(
+    out: &mut Outlet<'_, W>,
+    kind: &[u8],
+    fields: &[Field<'_>],
+    others: &[Field<'_>],
+) -> Result<(), WriteFault>
+    ensures { Puts W.contents result out.old out.new
+        (kind.now ++ (flat_map spaced_field fields.now ++ (flat_map spaced_field others.now
+        ++ 10 ∷ []))) }
+{
+    out.put(kind)?;
+    put_fields(out, fields)?;
+    put_fields(out, others)?;
+    out.put(b"\n")
+}
+
 /// Puts each field after a space. Fails where the output is refused.
 fn put_fields<W: Write>(out: &mut Outlet<'_, W>, fields: &[Field<'_>]) -> Result<(), WriteFault>
     ensures { Puts W.contents result out.old out.new (flat_map spaced_field fields.now) }

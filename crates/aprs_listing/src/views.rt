@@ -184,7 +184,7 @@ fn put_message<W: Write>(
 }
 
 /// The id, or `-` without one.
-fn id_text<'a>(id: Option<&'a [u8]>) -> &'a [u8]
+pub fn id_text<'a>(id: Option<&'a [u8]>) -> &'a [u8]
     ensures { result.now ≡ Spec.id_text id.entry }
 {
     match id {

@@ -14,10 +14,13 @@ pub mod Merge
 pub mod Gathered
 pub mod Show
 pub mod ShownBook
+pub mod HistoryOf
+pub mod WrittenHistory
 pub mod Widen
 pub mod Examples
 -- What public clauses cite of lower crates.
 pub use Rattle.aprs_listing.specs.Listing
+pub use Rattle.aprs_listing.specs.History
 pub use Rattle.aprs_convert.specs.Shown
 pub use Rattle.aprs_convert.specs.Monitor
 pub use Rattle.aprs_convert.specs.Conversion

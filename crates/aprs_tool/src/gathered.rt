@@ -3,11 +3,12 @@ ghost use Rattle.std.specs.Prelude.{◌≡◌, []};
 ghost use Rattle.aprs_laws.specs.BookValue.{BookValue};
 ghost use Rattle.aprs_tool.specs.Gathered.{book_of_rows, WritesText};
 ghost use Rattle.aprs_tool.specs.ShownBook.{ShowsBook};
+ghost use Rattle.aprs_tool.specs.WrittenHistory.{WritesHistory};
 
 use aprs_book::{Gap, Memory, Overview};
 use aprs_booktext::write_rows;
 use aprs_io::{Counted, WriteFault};
-use aprs_listing::Views;
+use aprs_listing::{Views, write_history};
 use aprs_rows::RowStore;
 use std::alloc::{Allocator, Global};
 use std::io::Write;
@@ -113,5 +114,20 @@ impl<A: Allocator + Copy> Gathered<A> {
         let overview = Overview::of(alloc, &rows)?;
         let views = Views::of_rows(&overview)?;
         Ok(views.write(w)?)
+    }
+
+    /// Writes the history of the book of all rows. At `Memory` an allocation failed, and nothing
+    /// was written; at `Write` a prefix of the history was written.
+    pub(crate) fn history<W: Write>(self, w: &mut Counted<W>) -> Result<(), OutputFault>
+        ensures { WritesHistory W.contents result self w.old w.new }
+    {
+        let Gathered {
+            alloc: _,
+            gap,
+            store,
+        } = self;
+        let order = store.in_order()?;
+        let rows = order.transmissions(gap)?;
+        Ok(write_history(w, &rows)?)
     }
 }

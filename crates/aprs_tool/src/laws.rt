@@ -1,7 +1,8 @@
-//! What a merge writes depends on the set of receptions alone, and so do the positions in a
-//! listing. What stands for a set has no fault. The functions do nothing: what they ensure are the
+//! What a merge writes depends on the set of receptions alone, and so do a history and the positions
+//! in a listing. What stands for a set has no fault. The functions do nothing: what they ensure are the
 //! laws.
 ghost use Rattle.std.specs.Prelude.{ℕ};
+ghost use Rattle.aprs_tool.specs.HistoryOf.{HaveOneHistory, HistoriesTellItems, HistoriesTellObjects, HistoriesTellPlaces};
 ghost use Rattle.aprs_tool.specs.Merge.{AreBooksOfUnions, HaveOneMerge};
 ghost use Rattle.aprs_tool.specs.Refused.{HaveNoFault};
 ghost use Rattle.aprs_tool.specs.Show.{ListingsTellPositions};
@@ -25,4 +26,19 @@ pub fn faultless_inputs_have_no_fault()
 /// position that is its greatest reception of a position report in the set, where it has one.
 pub fn listings_tell_positions()
     ensures positions { (gap : ℕ) → ListingsTellPositions gap }
+{}
+
+/// Under one gap, inputs that stand for sets with the same members have one history: in any order,
+/// with repeats, and some of them through books that were written before.
+pub fn same_receptions_same_history()
+    ensures { (gap : ℕ) → HaveOneHistory gap }
+{}
+
+/// The history of any set of receptions under any gap has, for each station with a position report
+/// in the set, a line of the greatest reception of these, and it says the place that the listing
+/// says of it. So it has of each object and each item, as reported by any station.
+pub fn histories_tell_places()
+    ensures places { (gap : ℕ) → HistoriesTellPlaces gap }
+    ensures objects { (gap : ℕ) → HistoriesTellObjects gap }
+    ensures items { (gap : ℕ) → HistoriesTellItems gap }
 {}

@@ -1,5 +1,5 @@
 //! What each command does, from its inputs to its output and its exit status: check, convert,
-//! merge, widen, show.
+//! merge, widen, show, history.
 #![tactic(auto)]
 
 mod desk;
@@ -7,6 +7,7 @@ mod example;
 mod fault;
 mod gathered;
 mod head;
+mod history;
 mod input;
 mod laws;
 mod merge;
@@ -14,15 +15,19 @@ mod run;
 mod show;
 mod widen;
 
-pub use aprs_command::{Job, JobFault, command_is_simple, job};
+pub use aprs_command::{
+    HistoryJob, Job, JobFault, command_is_simple, history_command_is_simple, history_job, job,
+};
 pub use aprs_convert::Form;
 pub use aprs_io::{Counted, DeviceFault, WriteFault, send};
 pub use desk::Desk;
 pub use example::{book_files_stand_for_their_sets, logs_stand_for_their_receptions};
 pub use fault::{InputFault, RunFault, status_of};
+pub use history::history_run;
 pub use input::read_input;
 pub use laws::{
-    faultless_inputs_have_no_fault, listings_tell_positions, same_receptions_same_bytes,
+    faultless_inputs_have_no_fault, histories_tell_places, listings_tell_positions,
+    same_receptions_same_bytes, same_receptions_same_history,
 };
 pub use merge::merge_run;
 pub use run::{check_run, convert_run};

@@ -1,15 +1,11 @@
 use Rattle.std.proofs.Common.{◌≡◌, ℕ, List, [], None, map, true, false, refl, ap, ◌∙◌, sym, subst, inl, inr, Bor}
-use Rattle.std.specs.Prelude.{◌⊎◌, ◌≢◌}
 use Rattle.clap.specs.Kinds.{HasKind}
-use Rattle.clap.specs.Words.{App, fault_of, is_simple_and_free, kind_of, takes}
-use Rattle.clap.specs.declared.error.Error.{Error}
-use Rattle.clap.specs.declared.error.kind.ErrorKind.TheVariants.{OutOfMemory}
+use Rattle.clap.specs.Words.{App, fault_of, is_simple_and_free, takes}
 use Rattle.clap.specs.declared.builder.value_parser.ValueParser.{ValueParser}
 use Rattle.clap.specs.declared.builder.value_parser.ValueParser.TheVariants as vp
 use Rattle.clap.specs.declared.builder.possible_value.PossibleValue.{PossibleValue}
-use Rattle.aprs_command.specs.Arguments.{FailsSo, form_names, program_app, RefusesSo}
-use Rattle.aprs_command.specs.declared.jobs.JobFault.{JobFault}
-use Rattle.aprs_command.specs.declared.jobs.JobFault.TheVariants as fault
+use Rattle.aprs_command.specs.Arguments.{FailsSo, form_names, program_app}
+use Rattle.aprs_command.proofs.Refusals.{refused}
 use Rattle.aprs_command.proofs.arguments.job.Goals as goal
 
 abbrev at_zero : {A : Type 0} → A → Bor A
@@ -50,19 +46,6 @@ returns-in-Ok-read_inputs-clause-judged c =
     let kinds = c.in-Ok-try_get_matches_from.ensures.kinds (ap is_simple_and_free built.2
     ∙ free built.0) in
     (built.0, built.1, ap (λ (a : App). fault_of a arguments) (sym built.2) ∙ kinds)
-
--- an error is refused as its kind says
-refused : (a : App) (arguments : List (List ℕ)) (e : Error) (f : JobFault)
-    → HasKind (fault_of a arguments) e
-    → ((kind_of e ≡ OutOfMemory) × (f ≡ fault.Memory))
-    ⊎ ((kind_of e ≢ OutOfMemory) × (f ≡ fault.Clap e)) → RefusesSo a arguments f
-refused a arguments e f has known = elim known [
-  | inl h ↦ subst (RefusesSo a arguments) (sym h.1) tt
-  | inr h ↦ subst (RefusesSo a arguments) (sym h.1) (elim has [
-    | inl out ↦ absurd (h.0 out)
-    | inr among ↦ among
-  ])
-]
 
 pub returns-in-Err-try_get_matches_from-clause-judged :
     goal.returns-in-Err-try_get_matches_from-clause-judged

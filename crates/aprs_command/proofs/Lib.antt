@@ -1,0 +1,2 @@
+-- Lemmas on arguments that are refused.
+mod Refusals

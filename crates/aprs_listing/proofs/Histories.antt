@@ -1,0 +1,110 @@
+-- Lemmas on the lines of a history.
+use Rattle.std.proofs.Common.{◌≡◌, ℕ, List, [], ◌∷◌, ◌++◌, map, Option, Some, None, Result, Ok, Err, refl, sym, ap, ap₂, ◌∙◌, append_assoc, append-nil}
+use Rattle.std.specs.List.{flat_map, join_with_byte}
+use Rattle.std.specs.Option.{option_map}
+use Rattle.std.specs.Result.{IsErr}
+use Rattle.std.proofs.lemmas.List.{flat_map_more}
+use Rattle.std.proofs.lemmas.List.Concat.{flat_map-append}
+use denote.Ref.{Bor}
+use Rattle.aprs_ax25.specs.Callsign.{Call, call_text}
+use Rattle.aprs_ax25.specs.FrameFault.{parts_of}
+use Rattle.aprs_ax25.specs.Hop.{hop_of}
+use Rattle.aprs_convert.specs.Shown.{shown_text}
+use Rattle.aprs_io.specs.Outlet.{Puts}
+use Rattle.aprs_io.specs.declared.device.WriteFault.{WriteFault}
+use Rattle.aprs_io.specs.declared.outlet.Outlet.{Outlet}
+use Rattle.aprs_io.proofs.Outlets.{Puts-fails, Puts-is, Puts-none, Puts-then}
+use Rattle.aprs_laws.specs.Row.{Row, last_of}
+use Rattle.aprs_log.specs.Moment.{moment_text}
+use Rattle.aprs_report.specs.Reader.{reading_of}
+use Rattle.aprs_report.specs.Reading.{Value}
+use Rattle.aprs_listing.specs.History.{history_line, history_text, id_word, told_line, via_text}
+use Rattle.aprs_listing.specs.Lines.{field_text, spaced_field}
+use Rattle.aprs_listing.specs.Listing.{after_space, id_text, line_with, line_with_text}
+use Rattle.aprs_listing.specs.declared.field.Field.{Field}
+use Rattle.aprs_listing.proofs.Lines.{spaced_fields}
+
+-- ---- fields
+
+both : (told others : List Field) (more : List (List ℕ)) (rest : List ℕ)
+    → map field_text others ≡ more
+    → flat_map spaced_field told ++ (flat_map spaced_field others ++ rest)
+    ≡ flat_map after_space (map field_text told ++ more) ++ rest
+both told others more rest e =
+    ap₂ (λ l m. l ++ (m ++ rest)) (spaced_fields told)
+    (spaced_fields others ∙ ap (flat_map after_space) e)
+    ∙ sym (append_assoc (flat_map after_space (map field_text told)) (flat_map after_space more) rest)
+    ∙ ap (λ l. l ++ rest) (sym (flat_map-append after_space (map field_text told) more))
+
+-- a line of two lists of fields
+pub lists_line : (kind : List ℕ) (told others : List Field) (more : List (List ℕ))
+    → map field_text others ≡ more
+    → kind ++ (flat_map spaced_field told ++ (flat_map spaced_field others ++ 10 ∷ []))
+    ≡ line_with kind (map field_text told ++ more)
+lists_line kind told others more e = ap (λ l. kind ++ l) (both told others more (10 ∷ []) e)
+
+-- and with a text at its end
+pub text_line : (kind : List ℕ) (told others : List Field) (more : List (List ℕ))
+    (text : List ℕ) → map field_text others ≡ more
+    → kind ++ (flat_map spaced_field told ++ (flat_map spaced_field others
+    ++ (58 ∷ shown_text text ++ 10 ∷ [])))
+    ≡ line_with_text kind (map field_text told ++ more) text
+text_line kind told others more text e =
+    ap (λ l. kind ++ l) (both told others more (58 ∷ shown_text text ++ 10 ∷ []) e)
+
+pub id_of : (id : Option (Bor (List ℕ))) → id_text id ≡ id_word (option_map (λ x. x.now) id)
+id_of None = refl
+id_of (Some id) = refl
+
+-- ---- rows
+
+-- what a row is read as
+pub row_told : (x : Row) (first last : ℕ) (who via frame info : List ℕ) (source : Call)
+    (told : List (List ℕ)) (v : Value) → frame ≡ x.greatest.frame → first ≡ x.first
+    → last ≡ last_of x → who ≡ join_with_byte 44 x.receivers
+    → source ≡ (parts_of frame).source.call
+    → via ≡ via_text (map hop_of (parts_of frame).digipeaters)
+    → told ≡ moment_text first ∷ moment_text last ∷ who ∷ call_text source ∷ via ∷ []
+    → info ≡ (parts_of frame).info → v ≡ reading_of info
+    → told_line told (parts_of frame) v ≡ history_line x
+row_told x first last who via frame info source told v f start end w s h t i r =
+    rw (r, i, t, h, s, w, end, start, f) refl
+
+-- The lines of a prefix of the rows were put.
+pub record PutSoFar {W : Type 0} (contents : W → Option (List ℕ)) (first now : Outlet W)
+    (all rest : List Row) : Type 0 where
+  pub prefix : List Row
+  pub whole : all ≡ prefix ++ rest
+  pub puts : Puts {E = WriteFault} contents (Ok tt) first now (history_text prefix)
+
+module _ {W : Type 0} {contents : W → Option (List ℕ)} where
+  pub PutSoFar-none : (o : Outlet W) (all : List Row) → PutSoFar contents o o all all
+  PutSoFar-none o all = record { prefix = []; whole = refl; puts = Puts-none o }
+
+  module _ {o p : Outlet W} {all rest : List Row} (so : PutSoFar contents o p all rest) where
+    module _ (x : Row) (more : List Row) (next : rest ≡ x ∷ more) where
+      cut : all ≡ so.prefix ++ x ∷ more
+      cut = so.whole ∙ ap (λ r. so.prefix ++ r) next
+
+      -- one row more
+      pub PutSoFar-more : {q : Outlet W}
+          → Puts {E = WriteFault} contents (Ok tt) p q (history_line x)
+          → PutSoFar contents o q all more
+      PutSoFar-more {q} put = record {
+        prefix = so.prefix ++ x ∷ [];
+        whole = cut ∙ sym (append_assoc so.prefix (x ∷ []) more);
+        puts = Puts-is (Puts-then so.puts put) (flat_map_more history_line [] so.prefix x);
+      }
+
+      -- a row could not be put
+      pub PutSoFar-broken : {q : Outlet W} {e : WriteFault} (r : Result (Unit {0}) WriteFault)
+          → IsErr r → Puts contents (Err e) p q (history_line x)
+          → Puts contents r o q (history_text all)
+      PutSoFar-broken r is put = Puts-is
+          (Puts-then so.puts (Puts-fails r is put (history_text more)))
+          (sym (ap history_text cut ∙ flat_map-append history_line so.prefix (x ∷ more)))
+
+    -- all rows were put
+    pub PutSoFar-all : rest ≡ [] → Puts {E = WriteFault} contents (Ok tt) o p (history_text all)
+    PutSoFar-all none = Puts-is so.puts (ap history_text
+        (sym (so.whole ∙ ap (λ r. so.prefix ++ r) none ∙ append-nil so.prefix)))

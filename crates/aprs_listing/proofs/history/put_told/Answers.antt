@@ -1,0 +1,91 @@
+use Rattle.std.proofs.Common.{◌≡◌, ◌∙◌, ℕ, List, [], ◌∷◌, ◌++◌, map, Some, None, ap, sym, refl}
+use Rattle.std.specs.Prelude.{codes}
+use Rattle.std.specs.Option.{option_map}
+use Rattle.aprs_ax25.specs.Callsign.{call_text}
+use Rattle.aprs_ax25.specs.Frame.{Parts}
+use Rattle.aprs_ax25.specs.FrameFault.{parts_of}
+use Rattle.aprs_report.specs.Reading.{view}
+use Rattle.aprs_report.specs.declared.report.Report.{Report}
+use Rattle.aprs_listing.specs.History.{id_word, told_line}
+use Rattle.aprs_listing.specs.Lines.{field_text}
+use Rattle.aprs_listing.specs.Listing.{line_with_text, live_text, place_fields, stamp_text, word}
+use Rattle.aprs_listing.specs.declared.field.Field.TheVariants as field
+use Rattle.aprs_io.proofs.Outlets.{Puts-is}
+use Rattle.aprs_listing.proofs.Histories.{id_of, lists_line, text_line}
+use Rattle.aprs_listing.proofs.history.put_told.Goals as goal
+
+line_by : (told : List (List ℕ)) (p : Parts) (r s : Report) → r ≡ s
+    → told_line told p (view s) ≡ told_line told p (view r)
+line_by told p r s e = ap (λ (r : Report). told_line told p (view r)) (sym e)
+
+pub returns-in-Position : goal.returns-in-Position
+returns-in-Position g c =
+    let it = c.in-Position in
+    Puts-is c.put_text_line.ensures
+    (text_line (codes "position") c.args.told.now c.place_fields-fields.result
+    (place_fields it.stamp it.place it.symbol) it.comment.now c.place_fields-fields.ensures
+    ∙ line_by (map field_text c.args.told.now) (parts_of c.args.frame.now) c.args.report _ it.is)
+
+pub returns-in-Object : goal.returns-in-Object
+returns-in-Object g c =
+    let it = c.in-Object in
+    Puts-is c.put_text_line-in-Object.ensures
+    (text_line (codes "object") c.args.told.now c.named_fields-fields.result
+    (word it.name.now ∷ live_text it.live ∷ place_fields (Some it.stamp) it.place it.symbol)
+    it.comment.now c.named_fields-fields.ensures
+    ∙ line_by (map field_text c.args.told.now) (parts_of c.args.frame.now) c.args.report _ it.is)
+
+pub returns-in-Item : goal.returns-in-Item
+returns-in-Item g c =
+    let it = c.in-Item in
+    Puts-is c.put_text_line-in-Item.ensures
+    (text_line (codes "item") c.args.told.now c.named_fields-fields-in-Item.result
+    (word it.name.now ∷ live_text it.live ∷ place_fields None it.place it.symbol)
+    it.comment.now c.named_fields-fields-in-Item.ensures
+    ∙ line_by (map field_text c.args.told.now) (parts_of c.args.frame.now) c.args.report _ it.is)
+
+pub returns-in-Status : goal.returns-in-Status
+returns-in-Status g c =
+    let it = c.in-Status in
+    Puts-is c.put_text_line-in-Status.ensures
+    (text_line (codes "status") c.args.told.now (field.Stamp it.stamp ∷ [])
+    (stamp_text it.stamp ∷ []) it.text.now refl
+    ∙ line_by (map field_text c.args.told.now) (parts_of c.args.frame.now) c.args.report _ it.is)
+
+pub returns-in-Message : goal.returns-in-Message
+returns-in-Message g c =
+    let it = c.in-Message in
+    Puts-is c.put_text_line-in-Message.ensures
+    (text_line (codes "message") c.args.told.now
+    (field.Word it.addressee ∷ field.Plain c.id_text.result ∷ [])
+    (word it.addressee.now ∷ id_word (option_map (λ x. x.now) it.id) ∷ []) it.text.now
+    (ap (λ id. word it.addressee.now ∷ id ∷ []) (c.id_text.ensures ∙ id_of it.id))
+    ∙ line_by (map field_text c.args.told.now) (parts_of c.args.frame.now) c.args.report _ it.is)
+
+pub returns-in-Ack : goal.returns-in-Ack
+returns-in-Ack g c =
+    let it = c.in-Ack in
+    Puts-is c.put_lists_line.ensures
+    (lists_line (codes "ack") c.args.told.now (field.Word it.addressee ∷ field.Plain it.id ∷ [])
+    (word it.addressee.now ∷ it.id.now ∷ []) refl
+    ∙ line_by (map field_text c.args.told.now) (parts_of c.args.frame.now) c.args.report _ it.is)
+
+pub returns-in-Rej : goal.returns-in-Rej
+returns-in-Rej g c =
+    let it = c.in-Rej in
+    Puts-is c.put_lists_line-in-Rej.ensures
+    (lists_line (codes "rej") c.args.told.now (field.Word it.addressee ∷ field.Plain it.id ∷ [])
+    (word it.addressee.now ∷ it.id.now ∷ []) refl
+    ∙ line_by (map field_text c.args.told.now) (parts_of c.args.frame.now) c.args.report _ it.is)
+
+pub returns-in-Raw : goal.returns-in-Raw
+returns-in-Raw g c =
+    let told = map field_text c.args.told.now in
+    let p = parts_of c.args.frame.now in
+    Puts-is c.put_text_line-in-Raw.ensures
+    (text_line (codes "raw") c.args.told.now (field.Call c.destination.result ∷ [])
+    (call_text p.destination.call ∷ []) c.info.result.now
+    (ap (λ call. call_text call ∷ []) c.destination.ensures)
+    ∙ ap (line_with_text (codes "raw") (told ++ call_text p.destination.call ∷ []))
+    c.info.ensures.value
+    ∙ line_by told p c.args.report _ c.in-Raw.is)

@@ -1,0 +1,70 @@
+-- The history of a book: a line for each row, which says what the row's frame reports.
+use Rattle.std.specs.Prelude.{ℕ, if◌then◌else◌, List, [], ◌∷◌, ◌++◌, map, Option, None, Some, codes}
+use Rattle.std.specs.List.{flat_map, join_with_byte}
+use Rattle.aprs_ax25.specs.Callsign.{call_text}
+use Rattle.aprs_ax25.specs.Frame.{Parts}
+use Rattle.aprs_ax25.specs.FrameFault.{parts_of}
+use Rattle.aprs_ax25.specs.Hop.{hop_of}
+use Rattle.aprs_ax25.specs.declared.hop.Hop.{Hop}
+use Rattle.aprs_report.specs.Reading.{Value, position, object, item, message, ack, rej, status, raw}
+use Rattle.aprs_report.specs.Reader.{reading_of}
+use Rattle.aprs_log.specs.Moment.{moment_text}
+use Rattle.aprs_laws.specs.Row.{Row, last_of}
+use Rattle.aprs_convert.specs.Monitor.{hop_text}
+use Rattle.aprs_listing.specs.Listing.{line_with, line_with_text, live_text, place_fields, stamp_text, word}
+
+-- ---- fields
+
+-- A digipeater, and a star where it has repeated the frame.
+abbrev pub hop_word : Hop → List ℕ
+hop_word hop = call_text hop.call ++ (if hop.repeated then 42 ∷ [] else [])
+
+-- The digipeaters with a comma between, or - where there are none.
+abbrev pub via_text : List Hop → List ℕ
+via_text [] = codes "-"
+via_text (hop ∷ more) = hop_word hop ++ flat_map hop_text more
+
+-- The id of a message, or - without one.
+abbrev pub id_word : Option (List ℕ) → List ℕ
+id_word None = codes "-"
+id_word (Some id) = id
+
+-- The fields of a row: its first and its last moment, its receivers with a comma between, and who
+-- sent its greatest reception's frame, by which digipeaters.
+abbrev pub row_fields : Row → List (List ℕ)
+row_fields x = moment_text x.first ∷ moment_text (last_of x) ∷ join_with_byte 44 x.receivers
+    ∷ call_text (parts_of x.greatest.frame).source.call
+    ∷ via_text (map hop_of (parts_of x.greatest.frame).digipeaters) ∷ []
+
+-- ---- lines
+
+-- The line of a frame of these parts by what it reports: its kind, the `told` fields, and those of
+-- the report.
+abbrev pub told_line : List (List ℕ) → Parts → Value → List ℕ
+told_line told p (position messaging stamp place symbol comment) =
+    line_with_text (codes "position") (told ++ place_fields stamp place symbol) comment
+told_line told p (object name live stamp place symbol comment) =
+    line_with_text (codes "object")
+    (told ++ word name ∷ live_text live ∷ place_fields (Some stamp) place symbol) comment
+told_line told p (item name live place symbol comment) =
+    line_with_text (codes "item")
+    (told ++ word name ∷ live_text live ∷ place_fields None place symbol) comment
+told_line told p (message addressee text id) =
+    line_with_text (codes "message") (told ++ word addressee ∷ id_word id ∷ []) text
+told_line told p (ack addressee id) = line_with (codes "ack") (told ++ word addressee ∷ id ∷ [])
+told_line told p (rej addressee id) = line_with (codes "rej") (told ++ word addressee ∷ id ∷ [])
+told_line told p (status stamp text) =
+    line_with_text (codes "status") (told ++ stamp_text stamp ∷ []) text
+told_line told p raw =
+    line_with_text (codes "raw") (told ++ call_text p.destination.call ∷ []) p.info
+
+-- The line of a row.
+abbrev pub history_line : Row → List ℕ
+history_line x = told_line (row_fields x) (parts_of x.greatest.frame)
+    (reading_of (parts_of x.greatest.frame).info)
+
+-- ---- the text
+
+-- The lines of the rows, in their order.
+abbrev pub history_text : List Row → List ℕ
+history_text rows = flat_map history_line rows

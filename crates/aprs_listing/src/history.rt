@@ -1,0 +1,199 @@
+//! The history of a book.
+ghost use Rattle.std.specs.Prelude.{◌≡◌, ◌∷◌, [], map};
+ghost use Rattle.aprs_ax25.specs.Callsign.{call_text};
+ghost use Rattle.aprs_log.specs.Moment.{moment_text};
+ghost use Rattle.aprs_ax25.specs.FrameFault.{parts_of};
+ghost use Rattle.aprs_io.specs.Device.{Sends};
+ghost use Rattle.aprs_io.specs.Outlet.{Puts};
+ghost use Rattle.aprs_report.specs.Reading.{view};
+ghost use Rattle.aprs_listing.specs.History.{history_line, history_text, told_line};
+ghost use Rattle.aprs_listing.specs.Lines.{field_text};
+ghost use Rattle.aprs_listing.specs.Listing as Spec;
+
+use crate::field::Field;
+use crate::heard_line::live_text;
+use crate::line::{put_lists_line, put_text_line};
+use crate::via::{hops_text, via_of};
+use crate::views::id_text;
+use aprs_ax25::{Callsign, Frame};
+use aprs_io::{Counted, Outlet, WriteFault};
+use aprs_log::Moment;
+use aprs_report::{Place, Report, Stamp, Symbol};
+use aprs_rows::{RowView, Transmissions};
+use std::alloc::Allocator;
+use std::io::Write;
+
+/// Writes the history of the rows: a line for each, in their order. At a fault a prefix of this
+/// went out. Takes no memory.
+pub fn write_history<W: Write, A: Allocator + Copy>(
+    w: &mut Counted<W>,
+    rows: &Transmissions<'_, A>,
+) -> Result<(), WriteFault>
+    ensures { Sends W.contents result w.old w.new (history_text rows.now.rows) }
+{
+    let mut out = Outlet::new(w);
+    put_history(&mut out, rows)?;
+    out.flush()
+}
+
+/// Puts the lines of the rows, in their order. Fails where the output is refused.
+fn put_history<W: Write, A: Allocator + Copy>(
+    out: &mut Outlet<'_, W>,
+    rows: &Transmissions<'_, A>,
+) -> Result<(), WriteFault>
+    ensures { Puts W.contents result out.old out.new (history_text rows.now.rows) }
+{
+    for row in rows.rows() {
+        put_row_history(out, &row)?;
+    }
+    Ok(())
+}
+
+/// Puts the line of a row: when and by whom it was heard, from whom and by which digipeaters, and
+/// what it reports. Fails where the output is refused.
+fn put_row_history<W: Write>(out: &mut Outlet<'_, W>, row: &RowView<'_>) -> Result<(), WriteFault>
+    ensures { Puts W.contents result out.old out.new (history_line row.now) }
+{
+    let frame = row.read_frame();
+    let hops = hops_text(&frame);
+    let told = told_fields(
+        row.first(),
+        row.last(),
+        row.receivers(),
+        frame.source(),
+        via_of(hops.as_slice()),
+    );
+    put_told(out, &told, &frame, Report::read(frame.info()))
+}
+
+/// The fields of a row: its moments, its receivers, and who sent it by which digipeaters.
+fn told_fields<'t>(
+    first: Moment,
+    last: Moment,
+    receivers: &'t [u8],
+    source: Callsign,
+    via: &'t [u8],
+) -> [Field<'t>; 5]
+    ensures { map field_text result ≡ moment_text first ∷ moment_text last ∷ receivers.entry.now
+        ∷ call_text source ∷ via.entry.now ∷ [] }
+{
+    [
+        Field::Moment(first),
+        Field::Moment(last),
+        Field::Plain(receivers),
+        Field::Call(source),
+        Field::Plain(via),
+    ]
+}
+
+/// Puts the line of a frame by what it reports: its kind, the fields that are told, and those of
+/// the report. Fails where the output is refused.
+fn put_told<W: Write>(
+    out: &mut Outlet<'_, W>,
+    told: &[Field<'_>],
+    frame: &Frame,
+    report: Report<'_>,
+) -> Result<(), WriteFault>
+    ensures { Puts W.contents result out.old out.new
+        (told_line (map field_text told.now) (parts_of frame.now) (view report.entry)) }
+{
+    match report {
+        Report::Position {
+            stamp,
+            place,
+            symbol,
+            comment,
+            ..
+        } => {
+            let fields = place_fields(stamp, place, symbol);
+            put_text_line(out, b"position", told, &fields, comment)
+        }
+        Report::Object {
+            name,
+            live,
+            stamp,
+            place,
+            symbol,
+            comment,
+        } => {
+            let fields = named_fields(name, live, Some(stamp), place, symbol);
+            put_text_line(out, b"object", told, &fields, comment)
+        }
+        Report::Item {
+            name,
+            live,
+            place,
+            symbol,
+            comment,
+        } => {
+            let fields = named_fields(name, live, None, place, symbol);
+            put_text_line(out, b"item", told, &fields, comment)
+        }
+        Report::Status { stamp, text } => {
+            put_text_line(out, b"status", told, &[Field::Stamp(stamp)], text)
+        }
+        Report::Message {
+            addressee,
+            text,
+            id,
+        } => {
+            let fields = [Field::Word(addressee), Field::Plain(id_text(id))];
+            put_text_line(out, b"message", told, &fields, text)
+        }
+        Report::Ack { addressee, id } => {
+            put_lists_line(
+                out,
+                b"ack",
+                told,
+                &[Field::Word(addressee), Field::Plain(id)],
+            )
+        }
+        Report::Rej { addressee, id } => {
+            put_lists_line(
+                out,
+                b"rej",
+                told,
+                &[Field::Word(addressee), Field::Plain(id)],
+            )
+        }
+        Report::Raw => {
+            let fields = [Field::Call(frame.destination())];
+            put_text_line(out, b"raw", told, &fields, frame.info())
+        }
+    }
+}
+
+/// The fields that say where something is: time stamp, latitude, longitude, ambiguity and symbol.
+fn place_fields(stamp: Option<Stamp>, place: Place, symbol: Symbol) -> [Field<'static>; 5]
+    ensures { map field_text result ≡ Spec.place_fields stamp place symbol }
+{
+    [
+        Field::Stamp(stamp),
+        Field::Degrees(place.lat()),
+        Field::Degrees(place.lon()),
+        Field::Ambiguity(place),
+        Field::Symbol(symbol),
+    ]
+}
+
+/// The fields of an object or an item: its name, whether it is live or killed, and where it is.
+fn named_fields<'a>(
+    name: &'a [u8],
+    live: bool,
+    stamp: Option<Stamp>,
+    place: Place,
+    symbol: Symbol,
+) -> [Field<'a>; 7]
+    ensures { map field_text result ≡ Spec.word name.entry.now ∷ Spec.live_text live
+        ∷ Spec.place_fields stamp place symbol }
+{
+    [
+        Field::Word(name),
+        Field::Plain(live_text(live)),
+        Field::Stamp(stamp),
+        Field::Degrees(place.lat()),
+        Field::Degrees(place.lon()),
+        Field::Ambiguity(place),
+        Field::Symbol(symbol),
+    ]
+}

@@ -1,0 +1,257 @@
+-- Lemmas on the text of a history.
+use Rattle.std.proofs.Common.{codes, ◌≡◌, ◌∙◌, ℕ, Bool, true, List, [], ◌∷◌, ◌++◌, map, Option, Some, None, Ok, Err, inl, inr, refl, ap, sym, subst}
+use Rattle.std.proofs.lemmas.Bool.{and_parts}
+use Rattle.std.proofs.lemmas.List.Concat.{flat_map-append}
+use Rattle.aprs_ax25.specs.Callsign.{Call}
+use Rattle.aprs_ax25.specs.FrameFault.{parts_of}
+use Rattle.aprs_report.specs.Reader.{reading_of}
+use Rattle.aprs_report.specs.Reading.{Value, position, object, item, message, ack, rej, status, raw}
+use Rattle.aprs_report.specs.declared.place.Place.{Place}
+use Rattle.aprs_report.specs.declared.stamp.Stamp.{Stamp}
+use Rattle.aprs_report.specs.declared.symbol.Symbol.{Symbol}
+use Rattle.aprs_io.specs.Device.{Sends}
+use Rattle.aprs_io.specs.declared.device.Counted.{Counted}
+use Rattle.aprs_io.proofs.Sends.{Sends-err, Sends-ok}
+use Rattle.aprs_laws.specs.Best.{LastKnown}
+use Rattle.aprs_laws.specs.BestLaws.{Passes}
+use Rattle.aprs_laws.specs.Book.{BookOf}
+use Rattle.aprs_laws.specs.BookValue.{BookValue}
+use Rattle.aprs_laws.specs.Gap.{millis_of}
+use Rattle.aprs_laws.specs.Key.{key_of}
+use Rattle.aprs_laws.specs.Lists.{SameMembers, ◌∈◌}
+use Rattle.aprs_laws.specs.Row.{Row}
+use Rattle.aprs_laws.proofs.Books.{unique}
+use Rattle.aprs_laws.proofs.Known.{rows_know}
+use Rattle.aprs_book.specs.Reports.{is_from, is_item, is_object, is_position, report_of, reports_item, reports_object, reports_position, without_spaces}
+use Rattle.aprs_log.specs.Reception.{Heard}
+use Rattle.aprs_listing.specs.History.{history_line, history_text, row_fields, told_line}
+use Rattle.aprs_listing.specs.Listing.{report_line}
+use Rattle.aprs_tool.specs.HistoryOf.{IsHistoryOf, TellsNamed, TellsPlace}
+use Rattle.aprs_tool.specs.WrittenHistory.{WritesHistory}
+use Rattle.aprs_tool.specs.declared.fault.RunFault.{RunFault}
+use Rattle.aprs_tool.specs.declared.fault.RunFault.TheVariants.{Write}
+use Rattle.aprs_tool.specs.declared.gathered.OutputFault.{OutputFault}
+use Rattle.aprs_tool.specs.declared.gathered.OutputFault.TheVariants as output
+
+module _ {W : Type 0} (contents : W → Option (List ℕ)) (b : BookValue) (old new : Counted W) where
+  pub history_sent : WritesHistory contents (Ok tt) b old new
+      → Sends {E = RunFault} contents (Ok tt) old new (history_text b.rows)
+  unfolding WritesHistory
+  history_sent h = Sends-ok h
+
+  pub history_cut : (u : OutputFault) → u ≡ output.Write → WritesHistory contents (Err u) b old new
+      → Sends {E = RunFault} contents (Err Write) old new (history_text b.rows)
+  unfolding WritesHistory
+  history_cut u e h =
+      Sends-err (Err Write) refl (subst (λ v. WritesHistory contents (Err v) b old new) e h)
+
+  pub history_none : (u : OutputFault) → u ≡ output.Memory
+      → WritesHistory contents (Err u) b old new → new ≡ old
+  unfolding WritesHistory
+  history_none u e h = subst (λ v. WritesHistory contents (Err v) b old new) e h
+
+-- the history of a book of this gap tells of each set whose book it is
+pub history_of_book : (gap : ℕ) (b : BookValue) → b.gap ≡ gap → (S : List Heard)
+    → BookOf (millis_of gap) S b.rows → IsHistoryOf gap S (history_text b.rows)
+history_of_book gap b same S book = record { rows = b.rows; book = book; text_is = refl }
+
+pub one_history : (gap : ℕ) (S T : List Heard) (text other : List ℕ) → SameMembers S T
+    → IsHistoryOf gap S text → IsHistoryOf gap T other → text ≡ other
+one_history gap S T text other same p q = p.text_is
+    ∙ ap history_text (unique (millis_of gap) S T p.rows q.rows same p.book q.book)
+    ∙ sym q.text_is
+
+-- ---- the places in it
+
+-- a row whose greatest reception is x
+record Cut (rows : List Row) (x : Heard) : Type 0 where
+  before : List Row
+  row : Row
+  after : List Row
+  is : row.greatest ≡ x
+  whole : rows ≡ before ++ row ∷ after
+
+cut_at : (rows : List Row) (x : Heard) → x ∈ map (λ (y : Row). y.greatest) rows → Cut rows x
+cut_at [] x m = absurd m
+cut_at (y ∷ ys) x (inl e) = record { before = []; row = y; after = ys; is = e; whole = refl }
+cut_at (y ∷ ys) x (inr m) =
+    let rest = cut_at ys x m in
+    record {
+      before = y ∷ rest.before;
+      row = rest.row;
+      after = rest.after;
+      is = rest.is;
+      whole = ap (λ l. y ∷ l) rest.whole;
+    }
+
+-- a report of a position
+record Position (v : Value) : Type 0 where
+  messaging : Bool
+  stamp : Option Stamp
+  place : Place
+  symbol : Symbol
+  comment : List ℕ
+  is : v ≡ position messaging stamp place symbol comment
+
+position_of : (v : Value) → is_position v ≡ true → Position v
+position_of (position messaging stamp place symbol comment) e = record {
+  messaging = messaging;
+  stamp = stamp;
+  place = place;
+  symbol = symbol;
+  comment = comment;
+  is = refl;
+}
+position_of (object name live stamp place symbol comment) e = absurd cc
+position_of (item name live place symbol comment) e = absurd cc
+position_of (message addressee text id) e = absurd cc
+position_of (ack addressee id) e = absurd cc
+position_of (rej addressee id) e = absurd cc
+position_of (status stamp text) e = absurd cc
+position_of raw e = absurd cc
+
+-- what a frame is read as
+info_of : (frame : List ℕ) → (key_of frame).info ≡ (parts_of frame).info
+unfolding key_of
+info_of frame = refl
+
+pub tells_place_of : (gap : ℕ) (S : List Heard) (text : List ℕ) (call : Call) (x : Heard)
+    → IsHistoryOf gap S text → LastKnown S (Passes (reports_position call)) (Some x)
+    → TellsPlace text x
+tells_place_of gap S text call x h best =
+    let its =
+    rows_know (millis_of gap) S h.rows (Passes (reports_position call)) (Some x) h.book best in
+    let cut = cut_at h.rows x its.member in
+    let key = key_of x.frame in
+    let it = position_of (report_of key)
+    ((and_parts (is_from call key) (is_position (report_of key)) its.property).1) in
+    let read : reading_of (parts_of x.frame).info
+    ≡ position it.messaging it.stamp it.place it.symbol it.comment =
+    ap reading_of (sym (info_of x.frame)) ∙ it.is in
+    record {
+      before = cut.before;
+      row = cut.row;
+      after = cut.after;
+      is = cut.is;
+      text_is = h.text_is ∙ ap history_text cut.whole
+          ∙ flat_map-append history_line cut.before (cut.row ∷ cut.after);
+      stamp = it.stamp;
+      place = it.place;
+      symbol = it.symbol;
+      comment = it.comment;
+      listed = ap (report_line x) it.is;
+      told = ap (told_line (row_fields cut.row) (parts_of cut.row.greatest.frame))
+          (ap (λ (y : Heard). reading_of (parts_of y.frame).info) cut.is ∙ read);
+    }
+
+-- a report of an object
+record Object (v : Value) : Type 0 where
+  name : List ℕ
+  live : Bool
+  stamp : Stamp
+  place : Place
+  symbol : Symbol
+  comment : List ℕ
+  is : v ≡ object name live stamp place symbol comment
+
+object_of : (wanted : List ℕ) (v : Value) → is_object wanted v ≡ true → Object v
+object_of wanted (object name live stamp place symbol comment) e = record {
+  name = name;
+  live = live;
+  stamp = stamp;
+  place = place;
+  symbol = symbol;
+  comment = comment;
+  is = refl;
+}
+object_of wanted (position messaging stamp place symbol comment) e = absurd cc
+object_of wanted (item name live place symbol comment) e = absurd cc
+object_of wanted (message addressee text id) e = absurd cc
+object_of wanted (ack addressee id) e = absurd cc
+object_of wanted (rej addressee id) e = absurd cc
+object_of wanted (status stamp text) e = absurd cc
+object_of wanted raw e = absurd cc
+
+-- a report of an item
+record Item (v : Value) : Type 0 where
+  name : List ℕ
+  live : Bool
+  place : Place
+  symbol : Symbol
+  comment : List ℕ
+  is : v ≡ item name live place symbol comment
+
+item_of : (wanted : List ℕ) (v : Value) → is_item wanted v ≡ true → Item v
+item_of wanted (item name live place symbol comment) e = record {
+  name = name;
+  live = live;
+  place = place;
+  symbol = symbol;
+  comment = comment;
+  is = refl;
+}
+item_of wanted (position messaging stamp place symbol comment) e = absurd cc
+item_of wanted (object name live stamp place symbol comment) e = absurd cc
+item_of wanted (message addressee text id) e = absurd cc
+item_of wanted (ack addressee id) e = absurd cc
+item_of wanted (rej addressee id) e = absurd cc
+item_of wanted (status stamp text) e = absurd cc
+item_of wanted raw e = absurd cc
+
+pub tells_object_of : (gap : ℕ) (S : List Heard) (text name : List ℕ) (x : Heard)
+    → IsHistoryOf gap S text → LastKnown S (Passes (reports_object name)) (Some x)
+    → TellsNamed (codes "object") text x
+tells_object_of gap S text name x h best =
+    let its =
+    rows_know (millis_of gap) S h.rows (Passes (reports_object name)) (Some x) h.book best in
+    let cut = cut_at h.rows x its.member in
+    let it = object_of (without_spaces name) (report_of (key_of x.frame)) its.property in
+    let read : reading_of (parts_of x.frame).info
+    ≡ object it.name it.live it.stamp it.place it.symbol it.comment =
+    ap reading_of (sym (info_of x.frame)) ∙ it.is in
+    record {
+      before = cut.before;
+      row = cut.row;
+      after = cut.after;
+      is = cut.is;
+      text_is = h.text_is ∙ ap history_text cut.whole
+          ∙ flat_map-append history_line cut.before (cut.row ∷ cut.after);
+      name = it.name;
+      live = it.live;
+      stamp = Some it.stamp;
+      place = it.place;
+      symbol = it.symbol;
+      comment = it.comment;
+      listed = ap (report_line x) it.is;
+      told = ap (told_line (row_fields cut.row) (parts_of cut.row.greatest.frame))
+          (ap (λ (y : Heard). reading_of (parts_of y.frame).info) cut.is ∙ read);
+    }
+
+pub tells_item_of : (gap : ℕ) (S : List Heard) (text name : List ℕ) (x : Heard)
+    → IsHistoryOf gap S text → LastKnown S (Passes (reports_item name)) (Some x)
+    → TellsNamed (codes "item") text x
+tells_item_of gap S text name x h best =
+    let its =
+    rows_know (millis_of gap) S h.rows (Passes (reports_item name)) (Some x) h.book best in
+    let cut = cut_at h.rows x its.member in
+    let it = item_of (without_spaces name) (report_of (key_of x.frame)) its.property in
+    let read : reading_of (parts_of x.frame).info
+    ≡ item it.name it.live it.place it.symbol it.comment =
+    ap reading_of (sym (info_of x.frame)) ∙ it.is in
+    record {
+      before = cut.before;
+      row = cut.row;
+      after = cut.after;
+      is = cut.is;
+      text_is = h.text_is ∙ ap history_text cut.whole
+          ∙ flat_map-append history_line cut.before (cut.row ∷ cut.after);
+      name = it.name;
+      live = it.live;
+      stamp = None;
+      place = it.place;
+      symbol = it.symbol;
+      comment = it.comment;
+      listed = ap (report_line x) it.is;
+      told = ap (told_line (row_fields cut.row) (parts_of cut.row.greatest.frame))
+          (ap (λ (y : Heard). reading_of (parts_of y.frame).info) cut.is ∙ read);
+    }
