@@ -79,6 +79,12 @@ struct aprs_answer aprs_show(struct aprs_region region, uint64_t seconds, const 
     size_t inputs_length, const size_t *lengths, size_t count, uint8_t *output, size_t output_length,
     uint8_t *name, size_t name_length);
 
+/* Writes the history of several logs and books, given as to aprs_merge: a line for each row of
+ * their book, which says what its frame reports. */
+struct aprs_answer aprs_history(struct aprs_region region, uint64_t seconds,
+    const uint8_t *inputs, size_t inputs_length, const size_t *lengths, size_t count,
+    uint8_t *output, size_t output_length, uint8_t *name, size_t name_length);
+
 /* Writes the book of a log or a book under another gap in seconds, no narrower than its own;
  * status 2 where it isn't 1 to 3,600. */
 struct aprs_answer aprs_widen(struct aprs_region region, uint64_t seconds, const uint8_t *input,

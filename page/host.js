@@ -7,7 +7,7 @@
 const FUNCTIONS = {
   check: "aprs_check", "convert text": "aprs_text", "convert kind": "aprs_kind",
   "convert kiss": "aprs_kiss", "convert log": "aprs_log", "convert capture": "aprs_capture",
-  merge: "aprs_merge", show: "aprs_show", widen: "aprs_widen", history: "aprs_history",
+  merge: "aprs_merge", show: "aprs_show", history: "aprs_history", widen: "aprs_widen",
 };
 const OF_SEVERAL = ["merge", "show", "history"];
 const WITH_GAP = [...OF_SEVERAL, "widen"];

@@ -8,6 +8,7 @@ use Rattle.aprs_log.specs.declared.fault.LogFault.{LogFault}
 use Rattle.aprs_laws.specs.Gap.{IsGap}
 use Rattle.aprs_convert.specs.Ends.{Ends}
 use Rattle.aprs_convert.specs.Got.{OfGot}
+use Rattle.aprs_tool.specs.HistoryOf.{IsHistoryOf}
 use Rattle.aprs_tool.specs.Merge.{IsTextOfBook}
 use Rattle.aprs_tool.specs.Outcome.{IsToldOf}
 use Rattle.aprs_tool.specs.Run.{AnswersAs}
@@ -63,6 +64,10 @@ Merges gap = GathersTo (IsTextOfBook gap) gap
 -- The listing of these inputs under this gap ends so, and this is its text.
 abbrev pub Shows : ℕ → List (List ℕ) → Outcome → List ℕ → Type 0
 Shows gap = GathersTo (IsListingOf gap) gap
+
+-- The history of these inputs under this gap ends so, and this is its text.
+abbrev pub TellsHistory : ℕ → List (List ℕ) → Outcome → List ℕ → Type 0
+TellsHistory gap = GathersTo (IsHistoryOf gap) gap
 
 -- The widening of this input to this gap ends so, and writes this text.
 abbrev pub Widens : ℕ → List ℕ → Outcome → List ℕ → Type 0

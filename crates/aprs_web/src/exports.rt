@@ -7,11 +7,11 @@ ghost use Rattle.aprs_laws.specs.Gap.{IsGap};
 ghost use Rattle.aprs_log.specs.MomentReading.{moment_of};
 ghost use Rattle.aprs_log.specs.Receiver.{IsName};
 ghost use Rattle.aprs_web.specs.Answer.{TellsNoRun, TellsRun};
-ghost use Rattle.aprs_web.specs.Runs.{AskForSeveral, Merges, Shows, Widens, WritesOver, pieces};
+ghost use Rattle.aprs_web.specs.Runs.{AskForSeveral, Merges, Shows, TellsHistory, Widens, WritesOver, pieces};
 
 use crate::answer::{Answer, answer_of, no_run};
 use crate::inputs::add_up;
-use crate::written::{check, convert, merge, show, widen};
+use crate::written::{check, convert, history, merge, show, widen};
 use aprs_arena::{Arena, Region};
 use aprs_book::Gap;
 use aprs_log::{Moment, Receiver};
@@ -187,6 +187,35 @@ pub extern "C" fn aprs_show(
         return no_run();
     }
     let (outcome, text) = show(&arena, gap, inputs, lengths);
+    answer_of(&outcome, text.as_slice(), output, name)
+}
+
+/// Writes the history of the book of several inputs, logs or books, under a gap of so many seconds. They lie
+/// one after the other in `inputs` and have these lengths. No run where the seconds are no gap, or
+/// the lengths don't add up to that of `inputs`. Where an input is refused, nothing is written.
+#[unsafe(no_mangle)]
+pub extern "C" fn aprs_history(
+    region: Region,
+    seconds: u64,
+    inputs: &[u8],
+    lengths: &[usize],
+    output: &mut [u8],
+    name: &mut [u8],
+) -> Answer
+    ensures run { AskForSeveral seconds lengths.now inputs.now
+        → TellsRun (TellsHistory seconds (pieces lengths.now inputs.now))
+        result output.old output.new name.old name.new }
+    ensures no_run { ¬ AskForSeveral seconds lengths.now inputs.now
+        → TellsNoRun result output.old output.new name.old name.new }
+{
+    let arena = Arena::over(region);
+    let Some(gap) = Gap::new(seconds) else {
+        return no_run();
+    };
+    if !add_up(lengths, inputs.len()) {
+        return no_run();
+    }
+    let (outcome, text) = history(&arena, gap, inputs, lengths);
     answer_of(&outcome, text.as_slice(), output, name)
 }
 

@@ -2,12 +2,14 @@
 ghost use Rattle.std.specs.Prelude.{◌≡◌};
 ghost use Rattle.aprs_convert.specs.Check.{Checks};
 ghost use Rattle.aprs_convert.specs.Conversion.{Converts};
-ghost use Rattle.aprs_web.specs.Runs.{Merges, Shows, Widens, WritesOver, pieces};
+ghost use Rattle.aprs_web.specs.Runs.{Merges, Shows, TellsHistory, Widens, WritesOver, pieces};
 
 use crate::inputs::readers;
 use aprs_book::Gap;
 use aprs_log::MAX_INPUT;
-use aprs_tool::{Counted, Form, RunFault, check_run, convert_run, merge_run, show_run, widen_run};
+use aprs_tool::{
+    Counted, Form, RunFault, check_run, convert_run, history_run, merge_run, show_run, widen_run,
+};
 use std::alloc::Allocator;
 
 /// A check of a log, and what it wrote.
@@ -68,6 +70,23 @@ pub(crate) fn show<A: Allocator + Copy>(
         return (Err(RunFault::Memory), w.into_inner());
     };
     let outcome = show_run(alloc, MAX_INPUT, gap, readers.as_mut_slice(), &mut w);
+    (outcome, w.into_inner())
+}
+
+/// The history of the inputs, and what it wrote.
+pub(crate) fn history<A: Allocator + Copy>(
+    alloc: A,
+    gap: Gap,
+    inputs: &[u8],
+    lengths: &[usize],
+) -> (Result<(), RunFault>, Vec<u8, A>)
+    ensures { TellsHistory gap (pieces lengths.now inputs.now) result.0 result.1.items }
+{
+    let mut w = Counted::new(Vec::new(alloc));
+    let Ok(mut readers) = readers(alloc, inputs, lengths) else {
+        return (Err(RunFault::Memory), w.into_inner());
+    };
+    let outcome = history_run(alloc, MAX_INPUT, gap, readers.as_mut_slice(), &mut w);
     (outcome, w.into_inner())
 }
 
