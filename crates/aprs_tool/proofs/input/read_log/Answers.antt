@@ -68,10 +68,13 @@ returns-in_err-push_heard-clause-reads g c =
     c.from_residual-in_err-push_heard.ensures.1 in
     let gives = rw c.if-not-branch.false at c.in_ok-advance.ensures.gives in
     let remaining = g.R.Read.remaining in
+    let loan = c.in_ok-advance.ensures.same_reference ∙ c.lines.invariant.same_reference
+    ∙ c.new-reader.ensures.same_reference in
+    let back = c.in_err-push_heard.r-in-Break-branch-2-1-own.given.1 (sym loan) in
     rw (p.1, p.2)
     (subst (λ k. IfSome (remaining (device_of c.args.r.now))
     (λ input. HoldsOfGot c.args.limit (c.args.head.now ++ input) (remaining (device_of k))
-    (ReadsLog (Err Memory) c.args.store.now c.push_heard.new.store))) (search rules)
+    (ReadsLog (Err Memory) c.args.store.now c.push_heard.new.store))) (sym back)
     (Took-refused _ _ _ _ _ c.push_heard.new.store (remaining (device_of c.args.r.now))
     (remaining (device_of (source_of c.advance.new.self))) c.args.limit c.args.head.now
     (current_of c.advance.new.self) (c.lines.invariant.took _) (gives.2 _)
