@@ -238,7 +238,7 @@ ends_alone o g h first size greatest =
       receivers = o.greatest.receivers;
       greatest = o.greatest.greatest;
     } =
-    λ t. record { first = first t; receivers = is t; greatest = (greatest t).greatest; } in
+    λ t. record { first = first t; receivers = is t; greatest = (greatest t).greatest } in
     record {
       group = record {
         size = sym size;
@@ -267,7 +267,7 @@ ends_united o g names own some h first size greatest =
       receivers = names;
       greatest = o.greatest.greatest;
     } =
-    λ t. record { first = first t; receivers = is t; greatest = (greatest t).greatest; } in
+    λ t. record { first = first t; receivers = is t; greatest = (greatest t).greatest } in
     record {
       group = record {
         size = sym size;
