@@ -17,9 +17,9 @@ trap 'rm -rf "$work" "$view"; rmdir "$(dirname "$view")" 2> /dev/null || true' E
 build_caller() {
     local root=${here%/*} crate part
     rm -rf "$view"
-    mkdir -p "$view/crates/bench_library"
-    cp -r "$here/library" "$view/crates/bench_library/src"
-    grep '^aprs_' "$root/crates.txt" | grep -v '_tests:' > "$view/crates.txt"
+    mkdir -p "$view/crates/bench_library/src"
+    cp "$here/library.main" "$view/crates/bench_library/src/main.rt"
+    grep '^aprs_[a-z_]*:' "$root/crates.txt" | grep -v '_tests:' > "$view/crates.txt"
     while IFS=: read -r crate _; do
         mkdir -p "$view/crates/$crate/out"
         for part in src specs proofs out/rlib; do
