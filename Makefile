@@ -184,12 +184,13 @@ tarball:
 	$(call there,static,$(PROGRAMS:%=out/static/$(ARCH)/%))
 	packaging/make-tarball '$(ARCH)' '$(OUT)' $(PROGRAMS:%=out/static/$(ARCH)/%)
 
-# all that a release has, in out/release: packages and tar files for both processors, the pages that
-# were made, and sums. The same commit gives the same bytes, in any folder and on any day.
-PAGES = $(wildcard out/aprsbook.html)
+# all that a release has, in out/release: packages and tar files for both processors, the page, the
+# module that it runs, and sums. The same programs give the same packages, in any folder and on any day.
+PAGES = out/aprsbook.html out/aprsbook.wasm
 release:
+	@for it in $(PAGES); do [ -f $$it ] || { echo "there is no $$it yet: make page" >&2; exit 1; }; done
 	rm -rf out/release
 	for arch in amd64 arm64; do \
 	    $(MAKE) --no-print-directory deb tarball ARCH=$$arch OUT=out/release || exit 1; done
-	$(if $(PAGES),cp $(PAGES) out/release)
+	cp $(PAGES) out/release
 	cd out/release && sums=$$(sha256sum *) && printf '%s\n' "$$sums" > SHA256SUMS

@@ -26,7 +26,7 @@ processors and users of Debian: amd64 aprs
 states of messages and objects: acknowledged rejected unanswered unnumbered tracks
 of examples: in/ logs/DAY/HILL.log logs/DAY/RECEIVER.log millis.log numerator/denominator own.book page
 slow.log time
-what is made: out out/ out/release aprsbook.html out/aprsbook.html out/aprsbook.wasm crates/aprsbook/out/aprsbook
+what is made: out out/ out/release aprsbook.html aprsbook.wasm out/aprsbook.html out/aprsbook.wasm crates/aprsbook/out/aprsbook
 share/aprsbook libaprsbook.a
 libaprsbook.so __heap_base
 how names are written: function.clause
