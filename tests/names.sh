@@ -29,7 +29,7 @@ slow.log time
 what is made: out out/ out/release aprsbook.html aprsbook.wasm out/aprsbook.html out/aprsbook.wasm crates/aprsbook/out/aprsbook
 share/aprsbook libaprsbook.a
 libaprsbook.so __heap_base
-how names are written: function.clause
+how names are written: function.clause Spec Spec.x lines.invariant.reads
 end
 
 # ---- what is there: `x`, `x::y`, `x.y`, and `x.` where a function has a clause without a name ----
