@@ -1,7 +1,8 @@
 #!/usr/bin/env python3
-"""What a reader has to believe, as pages: docs/reading.md, and one for each call in docs/reading.
+"""What a reader has to believe, as pages: one for each call in docs/reading, listed in docs/proved.md.
 
 usage: build/reading.py [--into FOLDER]    writes the pages anew, and the sums in docs/proved.md
+       build/reading.py --calls CRATE      the public functions of a crate, with sentence and clauses
        build/reading.py --of CALL..        the definitions of calls by name, and their sums
        build/reading.py --page CALL        prints a call's page that has all of its definitions
        build/reading.py --names            names that stand for more than one cited definition
@@ -260,64 +261,7 @@ def page_text(facts, page, home, told):
     return "\n".join(lines).rstrip() + "\n"
 
 
-# ---- the first page, and the sums elsewhere
-
-
-def call_row(facts, page):
-    """A call's row on the first page."""
-    clauses = []
-    for part in page.clauses:
-        clauses.append(f"`{part.clause}` {number(facts.size(part.needed))}")
-    does = prose([re.split(r"(?<=\.) ", " ".join(page.call.doc))[0]])
-    name = f"[`{page.call.name}`](reading/{page.file})"
-    return [name, does] + spread(facts, page.needed) + [", ".join(clauses)]
-
-
-def crate_rows(facts, pages):
-    """A row for each crate: its lines on the pages, those that public clauses cite, and all."""
-    shown = {key for page in pages for key in page.needed}
-    public, rows = set(facts.public()), []
-    for crate in facts.crates:
-        own = [key for key in facts.definitions if key.crate == crate]
-        if own:
-            groups = [[k for k in own if k in shown], [k for k in own if k in public], own]
-            rows.append([f"`{crate}`"] + [number(facts.size(group)) for group in groups])
-    groups = [shown, public, facts.definitions]
-    return rows + [["all"] + [number(facts.size(group)) for group in groups]]
-
-
-FIRST = """# The reading list
-
-{made}
-To believe what a call promises, one has to read its clauses and the definitions that these cite,
-directly or through others, and neither code nor proofs. There is a page for each run of the
-program and for the libraries' main calls. It begins with the clauses as they stand in the code,
-and says how much each of them needs. Then come the definitions, each after those that it cites,
-with the sentence that says what it means. A clause's `Spec.x` is the definition `x` of the module
-that its file imports as `Spec`.
-
-A definition is printed once. The page of `{first}` has all of its own and can be read from the
-top; each further page has what the pages before it don't have, and links for the rest.
-`build/reading.py --page CALL` prints a page that has all, of any public function;
-[promises.md](promises.md) has their names.
-
-Lines are counted without comments and imports. Not counted are the types of the code whose fields
-and variants are named, which the pages show, and the words of the kit, such as lists and numbers,
-which they name.
-"""
-
-
-def first_page(facts, pages):
-    """The list of the pages, with all sums."""
-    lines = FIRST.format(made=MADE, first=pages[0].call.name).split("\n") + ["## By call", ""]
-    rows = [call_row(facts, page) for page in pages]
-    lines += table(["call", "it", "lines", "definitions", "lines by clause"], rows)
-    runs = {key for page in pages if page.call.name.endswith("_run") for key in page.needed}
-    lines += [f"All runs of the program together need {number(facts.size(runs))} lines, "]
-    lines[-1] += f"{number(len(runs))} definitions."
-    lines += ["", "## By crate", "", "Lines of definitions:", ""]
-    heads = ["crate", "on these pages", "that public clauses cite", "in `specs/`"]
-    return "\n".join(lines + table(heads, crate_rows(facts, pages)))
+# ---- the sums in docs/proved.md
 
 
 def counted(facts, what):
@@ -372,11 +316,13 @@ def write_all(facts, folder):
         os.remove(os.path.join(inner, file))
     for page in pages:
         write(os.path.join(inner, page.file), page_text(facts, page, home, told))
-    write(os.path.join(folder, "reading.md"), first_page(facts, pages))
     try:
         sums = with_sums(facts, statement.read(PROVED))
     except LookupError as said:
         raise LookupError(f"{PROVED}: {said}") from said
+    for page in pages:
+        if f"(reading/{page.file})" not in sums:
+            raise LookupError(f"{PROVED} has no link to reading/{page.file}")
     write(os.path.join(folder, "proved.md"), sums)
 
 
@@ -396,6 +342,16 @@ def print_page(facts, words):
     """The page of a call as if no other were there."""
     pages, home = pages_of(facts, [facts.call(words)])
     print(page_text(facts, pages[0], home, set()), end="")
+
+
+def print_calls(facts, crate):
+    """The public functions of a crate, each with the first sentence of its comment and its clauses."""
+    found = [call for call in facts.calls if call.crate == crate and call.text and call.clauses]
+    if not found:
+        raise LookupError(f"there is no crate {crate} with public clauses")
+    for call in found:
+        print(call.name + ": " + re.split(r"(?<=\.) ", " ".join(call.doc))[0])
+        print("    " + ", ".join(dict.fromkeys(name for name, _ in call.clauses)))
 
 
 def ambiguous(facts):
@@ -456,6 +412,7 @@ def words_given():
     words.add_argument("--into", default="docs")
     words.add_argument("--of", nargs="+")
     words.add_argument("--page")
+    words.add_argument("--calls")
     for name in ANSWERS:
         words.add_argument("--" + name, action="store_true")
     return words.parse_args()
@@ -471,6 +428,8 @@ def main():
         print_list(facts, words.of)
     elif words.page:
         print_page(facts, words.page)
+    elif words.calls:
+        print_calls(facts, words.calls)
     elif not asked:
         write_all(facts, words.into)
     for answer in asked:

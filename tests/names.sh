@@ -152,10 +152,9 @@ find . -name .git -prune -o -name out -prune -o -print | awk '
     }
 ' >> "$scratch/there"
 
-# ---- what the documents name; what is in docs/reading.md comes from the sources ----
+# ---- what the documents name ----
 
-set -- README.md CONTRIBUTING.md
-for page in docs/*.md; do [ "$page" = docs/reading.md ] || set -- "$@" "$page"; done
+set -- README.md CONTRIBUTING.md docs/*.md
 awk -v failed=0 '
     FILENAME == ARGV[1] { there[$0]; next }
     FILENAME == ARGV[2] { for (i = 1; i <= NF; i++) there[$i]; next }
