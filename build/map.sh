@@ -22,7 +22,6 @@ sentences() {
 map() {
     sentences | awk -F '|' '
         function listed(text, name) { return text (text == "" ? "" : ", ") "`" name "`" }
-        function or_none(text) { return text == "" ? "none" : text }
         FILENAME == "-" { is[$1] = $2; next }
         sub(/^# floors of the map, from below: /, "") { named = split($0, name_of, "; "); next }
         !/^[a-z]/ { next }
@@ -33,7 +32,6 @@ map() {
             number = split(side[2], below, " ")
             for (i = 1; i <= number; i++)
                 if (below[i] in is) on[side[1], below[i]]
-                else kit[side[1]] = listed(kit[side[1]], below[i])
         }
         END {
             # under[a, b]: a stands on b, maybe through others; lower crates come first
@@ -55,7 +53,7 @@ map() {
                 print line
             }
             print "```\n"
-            print "| crate | is | stands on | calls of the kit |\n|---|---|---|---|"
+            print "| crate | is | stands on |\n|---|---|---|"
             for (floor = most; floor >= 0; floor--) for (j = 1; j <= n; j++) {
                 if (most - down[j] != floor) continue
                 # those on which it stands through no other
@@ -65,8 +63,7 @@ map() {
                     for (m = k + 1; m < j; m++) if (((j, m) in under) && ((m, k) in under)) direct = 0
                     if (direct) line = listed(line, crate[k])
                 }
-                printf "| `%s` | %s | %s | %s |\n", crate[j], is[crate[j]], or_none(line), \
-                    or_none(kit[crate[j]])
+                printf "| `%s` | %s | %s |\n", crate[j], is[crate[j]], line == "" ? "none" : line
             }
         }
     ' - crates.txt
