@@ -33,7 +33,7 @@ LIBRARY = (
     "Frame::read KissReader::feed LogReader::next Report::read Book::take Book::merge read_book"
 ).split()
 # the runs whose pages come first, if they are there
-RUNS = "merge_run widen_run show_run".split()
+RUNS = "merge_run widen_run show_run history_run".split()
 PROVED = "docs/proved.md"
 MADE = "<!-- made by `make reading`: change the sources and not this page -->\n"
 
