@@ -56,7 +56,7 @@ function refresh() {
   drawLists();
   drawNews();
   drawOne();
-  fillForm(net);
+  if (!byId("ics").hidden) fillForm(net);
   page.map.picked = page.net.things.some(it => it.key === page.picked) ? page.picked : null;
   turnClock();
   sift();
@@ -309,6 +309,7 @@ function dressFor(paper) {
 function openForm(open) {
   document.body.classList.toggle("ics", open);
   byId("ics").hidden = !open;
+  if (open) fillForm(page.net);
   byId("ics-incident").value ||= page.data.title;
   byId(open ? "ics-incident" : "ics-open").focus();
 }
