@@ -30,7 +30,8 @@ import statement
 
 # the library calls of the first rank; the runs of the program are found
 LIBRARY = (
-    "Frame::read KissReader::feed LogReader::next Report::read Book::take Book::merge read_book"
+    "Frame::read KissReader::feed LogReader::next Report::read MicE::read Book::take Book::merge "
+    "read_book"
 ).split()
 # the runs whose pages come first, if they are there
 RUNS = "merge_run widen_run show_run history_run".split()

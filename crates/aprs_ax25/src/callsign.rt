@@ -68,6 +68,13 @@ impl Callsign {
         text
     }
 
+    /// The letters and digits, 1 to 6, without the SSID. Takes no memory.
+    pub fn letters(&self) -> &[u8]
+        ensures { result.now ≡ self.now.letters }
+    {
+        self.letters.as_slice()
+    }
+
     /// The SSID, 0 to 15. Takes no memory.
     pub fn ssid(&self) -> u8
         ensures { result ≡ self.now.ssid }

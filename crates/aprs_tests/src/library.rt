@@ -7,6 +7,7 @@ use aprs_book::{Book, Gap};
 use aprs_booktext::{BookFault, read_book, write_book};
 use aprs_kiss::{Counted, Fed, KissReader, WriteFault, write_kiss};
 use aprs_log::{Line, MAX_INPUT, Moment, Receiver, Reception, read_line};
+use aprs_mice::MicE;
 use aprs_report::{Fraction, Report};
 use aprs_tool::{RunFault, merge_run};
 use std::alloc::Global;
@@ -55,6 +56,12 @@ fn latitude(information: &[u8]) -> Option<Fraction> {
         Report::Position { place, .. } => Some(place.lat()),
         _ => None,
     }
+}
+
+/// How many knots a Mic-E station moves at, and the name of its message.
+fn knots_and_message(frame: &Frame) -> Option<(u16, &'static str)> {
+    let says = MicE::read(&frame.destination(), frame.info())?;
+    Some((says.speed, says.message.name()))
 }
 
 /// Takes what a line of a log reports, if a frame was heard.
@@ -122,6 +129,21 @@ fn frames_and_reports_are_made_and_read(rt: HostRuntime) -> Result<(), Fail> {
     assert!(rt; beacon(b"n0call", b">Hi").is_none());
     let lat = latitude(b"=4903.50N/07201.75W-").ok_or("position")?;
     assert!(rt; lat.numerator == 294_350 && lat.denominator == 6_000);
+    Ok(())
+}
+
+/// A frame to this destination, by way of none.
+fn sent_to(destination: &[u8], info: &[u8]) -> Option<Frame> {
+    let to = Callsign::parse(destination).ok()?;
+    let from = Callsign::parse(b"N0CALL-9").ok()?;
+    Frame::make(&to, &from, &[], info).ok()
+}
+
+#[test]
+fn mic_e_frames_are_read(rt: HostRuntime) -> Result<(), Fail> {
+    let frame = sent_to(b"S32UVT", b"`(_fn\"Oj/").ok_or("frame")?;
+    let (knots, message) = knots_and_message(&frame).ok_or("Mic-E")?;
+    assert!(rt; knots == 20 && message == "returning");
     Ok(())
 }
 
