@@ -2,12 +2,12 @@
 use Rattle.std.proofs.Common.{◌≡◌, ℕ, List, [], ◌∷◌, ◌++◌, map, Option, Some, None, Result, Ok, Err, refl, sym, ap, ap₂, ◌∙◌, append_assoc, append-nil}
 use Rattle.std.specs.List.{flat_map, join_with_byte}
 use Rattle.std.specs.Option.{option_map}
-use Rattle.std.specs.Prelude.{IfSome}
 use Rattle.std.specs.Result.{IsErr}
 use Rattle.std.proofs.lemmas.List.{flat_map_more}
 use Rattle.std.proofs.lemmas.List.Concat.{flat_map-append}
 use denote.Ref.{Bor}
 use Rattle.aprs_ax25.specs.Callsign.{Call, call_text}
+use Rattle.aprs_ax25.specs.Frame.{Parts}
 use Rattle.aprs_ax25.specs.FrameFault.{parts_of}
 use Rattle.aprs_ax25.specs.Hop.{hop_of}
 use Rattle.aprs_convert.specs.Shown.{shown_text}
@@ -19,10 +19,9 @@ use Rattle.aprs_laws.specs.Row.{Row, last_of}
 use Rattle.aprs_log.specs.Moment.{moment_text}
 use Rattle.aprs_report.specs.Reader.{reading_of}
 use Rattle.aprs_report.specs.Reading.{Value}
-use Rattle.aprs_mice.specs.MicE.{MicEOf, Value as Said, view}
+use Rattle.aprs_mice.specs.MicE.{mic_e_view}
 use Rattle.aprs_mice.specs.Reader.{mic_e_of}
 use Rattle.aprs_mice.specs.declared.mic_e.MicE.{MicE}
-use Rattle.aprs_mice.proofs.Readings.{mic_e_found, mic_e_takes}
 use Rattle.aprs_listing.specs.History.{history_line, history_text, id_word, told_line, via_text}
 use Rattle.aprs_listing.specs.Lines.{field_text, spaced_field}
 use Rattle.aprs_listing.specs.Listing.{after_space, id_text, line_with, line_with_text}
@@ -75,25 +74,12 @@ pub row_told : (x : Row) (first last : ℕ) (who via frame info : List ℕ) (sou
 row_told x first last who via frame info source told v f start end w s h t i r =
     rw (r, i, t, h, s, w, end, start, f) refl
 
--- what a frame is read as
-mic_e_is : (r : Option MicE) (letters info : List ℕ)
-    → IfSome r (λ v. MicEOf (view v) letters info)
-    → ((v : Said) → MicEOf v letters info → option_map view r ≡ Some v)
-    → option_map view r ≡ mic_e_of letters info
-mic_e_is (Some v) letters info found only = sym (mic_e_takes letters info (view v) found)
-mic_e_is None letters info found only = go (mic_e_of letters info) refl
-  where
-    go : (o : Option Said) → mic_e_of letters info ≡ o → None ≡ o
-    go None e = refl
-    go (Some v) e = only v (mic_e_found letters info v e)
-
--- and that of a frame of these parts
+-- what is read of a frame of these parts
 pub mic_e_read : (p : Parts) (to : Call) (info : List ℕ) (r : Option MicE)
     → to ≡ p.destination.call → info ≡ p.info
-    → IfSome r (λ v. MicEOf (view v) to.letters info)
-    → ((v : Said) → MicEOf v to.letters info → option_map view r ≡ Some v)
-    → option_map view r ≡ mic_e_of p.destination.call.letters p.info
-mic_e_read p to info r t i found only = mic_e_is r to.letters info found only
+    → option_map mic_e_view r ≡ mic_e_of to.letters info
+    → option_map mic_e_view r ≡ mic_e_of p.destination.call.letters p.info
+mic_e_read p to info r t i is = is
     ∙ ap (λ (call : Call). mic_e_of call.letters info) t
     ∙ ap (mic_e_of p.destination.call.letters) i
 

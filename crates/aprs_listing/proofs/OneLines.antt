@@ -30,8 +30,8 @@ use Rattle.aprs_report.specs.declared.place.Place.TheVariants.{Plain, Base91}
 use Rattle.aprs_report.specs.declared.stamp.Stamp.{Stamp}
 use Rattle.aprs_report.specs.declared.symbol.Symbol.{Symbol}
 use Rattle.aprs_report.proofs.Readings.{reads_as}
-use Rattle.aprs_mice.specs.MicE.{Value as Said}
-use Rattle.aprs_mice.specs.MicEMessage.{name_of}
+use Rattle.aprs_mice.specs.MicE.{MicEValue}
+use Rattle.aprs_mice.specs.MicEMessage.{message_name}
 use Rattle.aprs_mice.specs.Reader.{mic_e_of}
 use Rattle.aprs_mice.specs.declared.mic_e_message.MicEMessage.{MicEMessage}
 use Rattle.aprs_mice.specs.declared.mic_e_message.MicEMessage.TheVariants as say
@@ -294,7 +294,7 @@ plain_line kind fields k f =
 kind_free : (kind : List ℕ) → list_all (λ c. not (c == 10)) kind ≡ true → Free kind
 kind_free kind h = free_by (λ c. not (c == 10)) refl kind h
 
-free_says : (m : MicEMessage) → Free (name_of m)
+free_says : (m : MicEMessage) → Free (message_name m)
 free_says say.OffDuty = kind_free (codes "off-duty") refl
 free_says say.EnRoute = kind_free (codes "en-route") refl
 free_says say.InService = kind_free (codes "in-service") refl
@@ -312,7 +312,7 @@ free_says say.Custom5 = kind_free (codes "custom-5") refl
 free_says say.Custom6 = kind_free (codes "custom-6") refl
 free_says say.Unknown = kind_free (codes "unknown") refl
 
-other : (head : List (List ℕ)) → AreFree head → (p : Parts) → IsParts p → (m : Option Said)
+other : (head : List (List ℕ)) → AreFree head → (p : Parts) → IsParts p → (m : Option MicEValue)
     → Line (other_line head p m)
 other head h p are (Some m) =
     text_line (codes "mic-e") _ m.comment (kind_free (codes "mic-e") refl)

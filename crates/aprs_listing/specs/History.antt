@@ -9,8 +9,8 @@ use Rattle.aprs_ax25.specs.Hop.{hop_of}
 use Rattle.aprs_ax25.specs.declared.hop.Hop.{Hop}
 use Rattle.aprs_report.specs.Reading.{Value, position, object, item, message, ack, rej, status, raw}
 use Rattle.aprs_report.specs.Reader.{reading_of}
-use Rattle.aprs_mice.specs.MicE.{Value as MicE}
-use Rattle.aprs_mice.specs.MicEMessage.{name_of}
+use Rattle.aprs_mice.specs.MicE.{MicEValue}
+use Rattle.aprs_mice.specs.MicEMessage.{message_name}
 use Rattle.aprs_mice.specs.Reader.{mic_e_of}
 use Rattle.aprs_log.specs.Moment.{moment_text}
 use Rattle.aprs_laws.specs.Row.{Row, last_of}
@@ -44,9 +44,9 @@ row_fields x = moment_text x.first ∷ moment_text (last_of x) ∷ join_with_byt
 
 -- The line of a frame of these parts that has no report: its kind, the `told` fields, and what its
 -- Mic-E position says, if it is one, or else its destination and its information.
-abbrev pub other_line : List (List ℕ) → Parts → Option MicE → List ℕ
+abbrev pub other_line : List (List ℕ) → Parts → Option MicEValue → List ℕ
 other_line told p (Some x) = line_with_text (codes "mic-e")
-    (told ++ decimal x.course ∷ decimal x.speed ∷ name_of x.message
+    (told ++ decimal x.course ∷ decimal x.speed ∷ message_name x.message
     ∷ place_fields None x.place x.symbol) x.comment
 other_line told p None =
     line_with_text (codes "raw") (told ++ call_text p.destination.call ∷ []) p.info

@@ -7,7 +7,7 @@ ghost use Rattle.aprs_ax25.specs.FrameFault.{parts_of};
 ghost use Rattle.aprs_io.specs.Device.{Sends};
 ghost use Rattle.aprs_io.specs.Outlet.{Puts};
 ghost use Rattle.aprs_report.specs.Reading.{view};
-ghost use Rattle.aprs_mice.specs.MicEMessage.{name_of};
+ghost use Rattle.aprs_mice.specs.MicEMessage.{message_name};
 ghost use Rattle.aprs_mice.specs.Reader.{mic_e_of};
 ghost use Rattle.aprs_listing.specs.History.{history_line, history_text, other_line, told_line};
 ghost use Rattle.aprs_listing.specs.Lines.{field_text};
@@ -193,7 +193,7 @@ fn put_other<W: Write>(
 /// The fields of a Mic-E position: course, speed, what the station says of itself, and where it is.
 fn mic_e_fields(says: &MicE<'_>) -> [Field<'static>; 8]
     ensures { map field_text result ≡ decimal says.now.course ∷ decimal says.now.speed
-        ∷ name_of says.now.message ∷ Spec.place_fields None says.now.place says.now.symbol }
+        ∷ message_name says.now.message ∷ Spec.place_fields None says.now.place says.now.symbol }
 {
     [
         Field::Count(u64::from(says.course)),

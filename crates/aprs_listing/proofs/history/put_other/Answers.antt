@@ -1,11 +1,10 @@
-use Rattle.std.proofs.Common.{◌≡◌, ◌∙◌, ℕ, List, [], ◌∷◌, ◌++◌, map, Option, Some, None, ap, sym, option_map}
+use Rattle.std.proofs.Common.{◌∙◌, [], ◌∷◌, ◌++◌, map, Some, None, ap}
 use Rattle.std.specs.Prelude.{codes}
 use Rattle.std.specs.Fmt.{decimal}
 use Rattle.aprs_ax25.specs.Callsign.{Call, call_text}
 use Rattle.aprs_ax25.specs.FrameFault.{parts_of}
-use Rattle.aprs_mice.specs.MicE.{Value as Said, view}
-use Rattle.aprs_mice.specs.MicEMessage.{name_of}
-use Rattle.aprs_mice.specs.Reader.{mic_e_of}
+use Rattle.aprs_mice.specs.MicE.{mic_e_view}
+use Rattle.aprs_mice.specs.MicEMessage.{message_name}
 use Rattle.aprs_listing.specs.History.{other_line}
 use Rattle.aprs_listing.specs.Lines.{field_text}
 use Rattle.aprs_listing.specs.Listing.{line_with_text, place_fields}
@@ -18,15 +17,14 @@ pub returns-in-Some : goal.returns-in-Some
 returns-in-Some g c =
     let told = map field_text c.args.told.now in
     let p = parts_of c.args.frame.now in
-    let says = view c.in-Some.says in
+    let says = mic_e_view c.in-Some.says in
     Puts-is c.put_text_line.ensures
     (text_line (codes "mic-e") c.args.told.now c.mic_e_fields-fields.result
-    (decimal says.course ∷ decimal says.speed ∷ name_of says.message
+    (decimal says.course ∷ decimal says.speed ∷ message_name says.message
     ∷ place_fields None says.place says.symbol) says.comment c.mic_e_fields-fields.ensures
     ∙ ap (other_line told p)
     (mic_e_read p c.destination-destination.result c.info-info.result.now (Some c.in-Some.says)
-    c.destination-destination.ensures c.info-info.ensures.value c.in-Some.ensures.found
-    c.in-Some.ensures.only))
+    c.destination-destination.ensures c.info-info.ensures.value c.in-Some.ensures.value))
 
 pub returns-in-None : goal.returns-in-None
 returns-in-None g c =
@@ -40,4 +38,4 @@ returns-in-None g c =
     c.info-info.ensures.value
     ∙ ap (other_line told p)
     (mic_e_read p c.destination-destination.result c.info-info.result.now None
-    c.destination-destination.ensures c.info-info.ensures.value tt c.in-None.ensures.only))
+    c.destination-destination.ensures c.info-info.ensures.value c.in-None.ensures.value))
