@@ -7,6 +7,7 @@ use Rattle.std.proofs.lemmas.List.{flat_map_more}
 use Rattle.std.proofs.lemmas.List.Concat.{flat_map-append}
 use denote.Ref.{Bor}
 use Rattle.aprs_ax25.specs.Callsign.{Call, call_text}
+use Rattle.aprs_ax25.specs.Frame.{Parts}
 use Rattle.aprs_ax25.specs.FrameFault.{parts_of}
 use Rattle.aprs_ax25.specs.Hop.{hop_of}
 use Rattle.aprs_convert.specs.Shown.{shown_text}
@@ -18,6 +19,9 @@ use Rattle.aprs_laws.specs.Row.{Row, last_of}
 use Rattle.aprs_log.specs.Moment.{moment_text}
 use Rattle.aprs_report.specs.Reader.{reading_of}
 use Rattle.aprs_report.specs.Reading.{Value}
+use Rattle.aprs_mice.specs.MicE.{mic_e_view}
+use Rattle.aprs_mice.specs.Reader.{mic_e_of}
+use Rattle.aprs_mice.specs.declared.mic_e.MicE.{MicE}
 use Rattle.aprs_listing.specs.History.{history_line, history_text, id_word, told_line, via_text}
 use Rattle.aprs_listing.specs.Lines.{field_text, spaced_field}
 use Rattle.aprs_listing.specs.Listing.{after_space, id_text, line_with, line_with_text}
@@ -69,6 +73,15 @@ pub row_told : (x : Row) (first last : ℕ) (who via frame info : List ℕ) (sou
     → told_line told (parts_of frame) v ≡ history_line x
 row_told x first last who via frame info source told v f start end w s h t i r =
     rw (r, i, t, h, s, w, end, start, f) refl
+
+-- what is read of a frame of these parts
+pub mic_e_read : (p : Parts) (to : Call) (info : List ℕ) (r : Option MicE)
+    → to ≡ p.destination.call → info ≡ p.info
+    → option_map mic_e_view r ≡ mic_e_of to.letters info
+    → option_map mic_e_view r ≡ mic_e_of p.destination.call.letters p.info
+mic_e_read p to info r t i is = is
+    ∙ ap (λ (call : Call). mic_e_of call.letters info) t
+    ∙ ap (mic_e_of p.destination.call.letters) i
 
 -- The lines of a prefix of the rows were put.
 pub record PutSoFar {W : Type 0} (contents : W → Option (List ℕ)) (first now : Outlet W)

@@ -30,7 +30,12 @@ use Rattle.aprs_report.specs.declared.place.Place.TheVariants.{Plain, Base91}
 use Rattle.aprs_report.specs.declared.stamp.Stamp.{Stamp}
 use Rattle.aprs_report.specs.declared.symbol.Symbol.{Symbol}
 use Rattle.aprs_report.proofs.Readings.{reads_as}
-use Rattle.aprs_listing.specs.History.{history_line, history_text, hop_word, id_word, row_fields, told_line, via_text}
+use Rattle.aprs_mice.specs.MicE.{MicEValue}
+use Rattle.aprs_mice.specs.MicEMessage.{message_name}
+use Rattle.aprs_mice.specs.Reader.{mic_e_of}
+use Rattle.aprs_mice.specs.declared.mic_e_message.MicEMessage.{MicEMessage}
+use Rattle.aprs_mice.specs.declared.mic_e_message.MicEMessage.TheVariants as say
+use Rattle.aprs_listing.specs.History.{history_line, history_text, hop_word, id_word, other_line, row_fields, told_line, via_text}
 use Rattle.aprs_listing.specs.Listing.{after_space, ambiguity_text, degrees_text, line_with, line_with_text, live_text, place_fields, stamp_text, word, word_byte}
 use Rattle.aprs_rows.specs.Told.{IsTold}
 use Rattle.aprs_listing.specs.OneLine.{HasOneLineEach}
@@ -289,6 +294,42 @@ plain_line kind fields k f =
 kind_free : (kind : List ℕ) → list_all (λ c. not (c == 10)) kind ≡ true → Free kind
 kind_free kind h = free_by (λ c. not (c == 10)) refl kind h
 
+free_says : (m : MicEMessage) → Free (message_name m)
+free_says say.OffDuty = kind_free (codes "off-duty") refl
+free_says say.EnRoute = kind_free (codes "en-route") refl
+free_says say.InService = kind_free (codes "in-service") refl
+free_says say.Returning = kind_free (codes "returning") refl
+free_says say.Committed = kind_free (codes "committed") refl
+free_says say.Special = kind_free (codes "special") refl
+free_says say.Priority = kind_free (codes "priority") refl
+free_says say.Emergency = kind_free (codes "emergency") refl
+free_says say.Custom0 = kind_free (codes "custom-0") refl
+free_says say.Custom1 = kind_free (codes "custom-1") refl
+free_says say.Custom2 = kind_free (codes "custom-2") refl
+free_says say.Custom3 = kind_free (codes "custom-3") refl
+free_says say.Custom4 = kind_free (codes "custom-4") refl
+free_says say.Custom5 = kind_free (codes "custom-5") refl
+free_says say.Custom6 = kind_free (codes "custom-6") refl
+free_says say.Unknown = kind_free (codes "unknown") refl
+
+other : (head : List (List ℕ)) → AreFree head → (p : Parts) → IsParts p → (m : Option MicEValue)
+    → Line (other_line head p m)
+other head h p are (Some m) =
+    text_line (codes "mic-e") _ m.comment (kind_free (codes "mic-e") refl)
+    (are_append head _ h (
+      free_decimal m.course,
+      (
+        free_decimal m.speed,
+        (
+          free_says m.message,
+          free_place None m.place m.symbol (λ e. absurd cc, tt),
+        ),
+      ),
+    ))
+other head h p are None =
+    text_line (codes "raw") _ p.info (kind_free (codes "raw") refl)
+    (are_append head _ h (free_call p.destination.call are.destination.call, tt))
+
 told : (head : List (List ℕ)) → AreFree head → (p : Parts) → IsParts p → (v : Value)
     → Reads v p.info → Line (told_line head p v)
 told head h p are (position messaging stamp place symbol comment) is =
@@ -330,9 +371,7 @@ told head h p are (rej addressee id) is =
 told head h p are (status stamp text) is =
     text_line (codes "status") _ text (kind_free (codes "status") refl)
     (are_append head _ h (free_status stamp text p.info is, tt))
-told head h p are raw is =
-    text_line (codes "raw") _ p.info (kind_free (codes "raw") refl)
-    (are_append head _ h (free_call p.destination.call are.destination.call, tt))
+told head h p are raw is = other head h p are (mic_e_of p.destination.call.letters p.info)
 
 row_line : (x : Row) → IsTold x → Line (history_line x)
 row_line x h =

@@ -1,5 +1,6 @@
 -- The history of a book: a line for each row, which says what the row's frame reports.
 use Rattle.std.specs.Prelude.{ℕ, if◌then◌else◌, List, [], ◌∷◌, ◌++◌, map, Option, None, Some, codes}
+use Rattle.std.specs.Fmt.{decimal}
 use Rattle.std.specs.List.{flat_map, join_with_byte}
 use Rattle.aprs_ax25.specs.Callsign.{call_text}
 use Rattle.aprs_ax25.specs.Frame.{Parts}
@@ -8,6 +9,9 @@ use Rattle.aprs_ax25.specs.Hop.{hop_of}
 use Rattle.aprs_ax25.specs.declared.hop.Hop.{Hop}
 use Rattle.aprs_report.specs.Reading.{Value, position, object, item, message, ack, rej, status, raw}
 use Rattle.aprs_report.specs.Reader.{reading_of}
+use Rattle.aprs_mice.specs.MicE.{MicEValue}
+use Rattle.aprs_mice.specs.MicEMessage.{message_name}
+use Rattle.aprs_mice.specs.Reader.{mic_e_of}
 use Rattle.aprs_log.specs.Moment.{moment_text}
 use Rattle.aprs_laws.specs.Row.{Row, last_of}
 use Rattle.aprs_convert.specs.Monitor.{hop_text}
@@ -38,6 +42,15 @@ row_fields x = moment_text x.first ∷ moment_text (last_of x) ∷ join_with_byt
 
 -- ---- lines
 
+-- The line of a frame of these parts that has no report: its kind, the `told` fields, and what its
+-- Mic-E position says, if it is one, or else its destination and its information.
+abbrev pub other_line : List (List ℕ) → Parts → Option MicEValue → List ℕ
+other_line told p (Some x) = line_with_text (codes "mic-e")
+    (told ++ decimal x.course ∷ decimal x.speed ∷ message_name x.message
+    ∷ place_fields None x.place x.symbol) x.comment
+other_line told p None =
+    line_with_text (codes "raw") (told ++ call_text p.destination.call ∷ []) p.info
+
 -- The line of a frame of these parts by what it reports: its kind, the `told` fields, and those of
 -- the report.
 abbrev pub told_line : List (List ℕ) → Parts → Value → List ℕ
@@ -55,8 +68,7 @@ told_line told p (ack addressee id) = line_with (codes "ack") (told ++ word addr
 told_line told p (rej addressee id) = line_with (codes "rej") (told ++ word addressee ∷ id ∷ [])
 told_line told p (status stamp text) =
     line_with_text (codes "status") (told ++ stamp_text stamp ∷ []) text
-told_line told p raw =
-    line_with_text (codes "raw") (told ++ call_text p.destination.call ∷ []) p.info
+told_line told p raw = other_line told p (mic_e_of p.destination.call.letters p.info)
 
 -- The line of a row.
 abbrev pub history_line : Row → List ℕ

@@ -1,12 +1,15 @@
 //! The history of a book.
-ghost use Rattle.std.specs.Prelude.{◌≡◌, ◌∷◌, [], map};
+ghost use Rattle.std.specs.Prelude.{◌≡◌, ◌∷◌, [], map, None};
+ghost use Rattle.std.specs.Fmt.{decimal};
 ghost use Rattle.aprs_ax25.specs.Callsign.{call_text};
 ghost use Rattle.aprs_log.specs.Moment.{moment_text};
 ghost use Rattle.aprs_ax25.specs.FrameFault.{parts_of};
 ghost use Rattle.aprs_io.specs.Device.{Sends};
 ghost use Rattle.aprs_io.specs.Outlet.{Puts};
 ghost use Rattle.aprs_report.specs.Reading.{view};
-ghost use Rattle.aprs_listing.specs.History.{history_line, history_text, told_line};
+ghost use Rattle.aprs_mice.specs.MicEMessage.{message_name};
+ghost use Rattle.aprs_mice.specs.Reader.{mic_e_of};
+ghost use Rattle.aprs_listing.specs.History.{history_line, history_text, other_line, told_line};
 ghost use Rattle.aprs_listing.specs.Lines.{field_text};
 ghost use Rattle.aprs_listing.specs.Listing as Spec;
 
@@ -18,6 +21,7 @@ use crate::views::id_text;
 use aprs_ax25::{Callsign, Frame};
 use aprs_io::{Counted, Outlet, WriteFault};
 use aprs_log::Moment;
+use aprs_mice::MicE;
 use aprs_report::{Place, Report, Stamp, Symbol};
 use aprs_rows::{RowView, Transmissions};
 use std::alloc::Allocator;
@@ -156,11 +160,51 @@ fn put_told<W: Write>(
                 &[Field::Word(addressee), Field::Plain(id)],
             )
         }
-        Report::Raw => {
-            let fields = [Field::Call(frame.destination())];
-            put_text_line(out, b"raw", told, &fields, frame.info())
+        Report::Raw => put_other(out, told, frame),
+    }
+}
+
+/// Puts the line of a frame that has no report: its kind, the fields that are told, and those of
+/// its Mic-E position, or else its destination and its information. Fails where the output is
+/// refused.
+fn put_other<W: Write>(
+    out: &mut Outlet<'_, W>,
+    told: &[Field<'_>],
+    frame: &Frame,
+) -> Result<(), WriteFault>
+    ensures { Puts W.contents result out.old out.new
+        (other_line (map field_text told.now) (parts_of frame.now)
+        (mic_e_of (parts_of frame.now).destination.call.letters (parts_of frame.now).info)) }
+{
+    let destination = frame.destination();
+    let info = frame.info();
+    match MicE::read(&destination, info) {
+        Some(says) => {
+            let fields = mic_e_fields(&says);
+            put_text_line(out, b"mic-e", told, &fields, says.comment)
+        }
+        None => {
+            let fields = [Field::Call(destination)];
+            put_text_line(out, b"raw", told, &fields, info)
         }
     }
+}
+
+/// The fields of a Mic-E position: course, speed, what the station says of itself, and where it is.
+fn mic_e_fields(says: &MicE<'_>) -> [Field<'static>; 8]
+    ensures { map field_text result ≡ decimal says.now.course ∷ decimal says.now.speed
+        ∷ message_name says.now.message ∷ Spec.place_fields None says.now.place says.now.symbol }
+{
+    [
+        Field::Count(u64::from(says.course)),
+        Field::Count(u64::from(says.speed)),
+        Field::Plain(says.message.name().as_bytes()),
+        Field::Stamp(None),
+        Field::Degrees(says.place.lat()),
+        Field::Degrees(says.place.lon()),
+        Field::Ambiguity(says.place),
+        Field::Symbol(says.symbol),
+    ]
 }
 
 /// The fields that say where something is: time stamp, latitude, longitude, ambiguity and symbol.

@@ -1,14 +1,13 @@
-use Rattle.std.proofs.Common.{◌≡◌, ◌∙◌, ℕ, List, [], ◌∷◌, ◌++◌, map, Some, None, ap, sym, refl}
+use Rattle.std.proofs.Common.{◌≡◌, ◌∙◌, ℕ, List, [], ◌∷◌, map, Some, None, ap, sym, refl}
 use Rattle.std.specs.Prelude.{codes}
 use Rattle.std.specs.Option.{option_map}
-use Rattle.aprs_ax25.specs.Callsign.{call_text}
 use Rattle.aprs_ax25.specs.Frame.{Parts}
 use Rattle.aprs_ax25.specs.FrameFault.{parts_of}
 use Rattle.aprs_report.specs.Reading.{view}
 use Rattle.aprs_report.specs.declared.report.Report.{Report}
 use Rattle.aprs_listing.specs.History.{id_word, told_line}
 use Rattle.aprs_listing.specs.Lines.{field_text}
-use Rattle.aprs_listing.specs.Listing.{line_with_text, live_text, place_fields, stamp_text, word}
+use Rattle.aprs_listing.specs.Listing.{live_text, place_fields, stamp_text, word}
 use Rattle.aprs_listing.specs.declared.field.Field.TheVariants as field
 use Rattle.aprs_io.proofs.Outlets.{Puts-is}
 use Rattle.aprs_listing.proofs.Histories.{id_of, lists_line, text_line}
@@ -79,13 +78,5 @@ returns-in-Rej g c =
     ∙ line_by (map field_text c.args.told.now) (parts_of c.args.frame.now) c.args.report _ it.is)
 
 pub returns-in-Raw : goal.returns-in-Raw
-returns-in-Raw g c =
-    let told = map field_text c.args.told.now in
-    let p = parts_of c.args.frame.now in
-    Puts-is c.put_text_line-in-Raw.ensures
-    (text_line (codes "raw") c.args.told.now (field.Call c.destination.result ∷ [])
-    (call_text p.destination.call ∷ []) c.info.result.now
-    (ap (λ call. call_text call ∷ []) c.destination.ensures)
-    ∙ ap (line_with_text (codes "raw") (told ++ call_text p.destination.call ∷ []))
-    c.info.ensures.value
-    ∙ line_by told p c.args.report _ c.in-Raw.is)
+returns-in-Raw g c = Puts-is c.put_other.ensures
+    (line_by (map field_text c.args.told.now) (parts_of c.args.frame.now) c.args.report _ c.in-Raw.is)

@@ -1,0 +1,41 @@
+use Rattle.std.proofs.Common.{◌∙◌, [], ◌∷◌, ◌++◌, map, Some, None, ap}
+use Rattle.std.specs.Prelude.{codes}
+use Rattle.std.specs.Fmt.{decimal}
+use Rattle.aprs_ax25.specs.Callsign.{Call, call_text}
+use Rattle.aprs_ax25.specs.FrameFault.{parts_of}
+use Rattle.aprs_mice.specs.MicE.{mic_e_view}
+use Rattle.aprs_mice.specs.MicEMessage.{message_name}
+use Rattle.aprs_listing.specs.History.{other_line}
+use Rattle.aprs_listing.specs.Lines.{field_text}
+use Rattle.aprs_listing.specs.Listing.{line_with_text, place_fields}
+use Rattle.aprs_listing.specs.declared.field.Field.TheVariants as field
+use Rattle.aprs_io.proofs.Outlets.{Puts-is}
+use Rattle.aprs_listing.proofs.Histories.{mic_e_read, text_line}
+use Rattle.aprs_listing.proofs.history.put_other.Goals as goal
+
+pub returns-in-Some : goal.returns-in-Some
+returns-in-Some g c =
+    let told = map field_text c.args.told.now in
+    let p = parts_of c.args.frame.now in
+    let says = mic_e_view c.in-Some.says in
+    Puts-is c.put_text_line.ensures
+    (text_line (codes "mic-e") c.args.told.now c.mic_e_fields-fields.result
+    (decimal says.course ∷ decimal says.speed ∷ message_name says.message
+    ∷ place_fields None says.place says.symbol) says.comment c.mic_e_fields-fields.ensures
+    ∙ ap (other_line told p)
+    (mic_e_read p c.destination-destination.result c.info-info.result.now (Some c.in-Some.says)
+    c.destination-destination.ensures c.info-info.ensures.value c.in-Some.ensures.value))
+
+pub returns-in-None : goal.returns-in-None
+returns-in-None g c =
+    let told = map field_text c.args.told.now in
+    let p = parts_of c.args.frame.now in
+    Puts-is c.put_text_line-in-None.ensures
+    (text_line (codes "raw") c.args.told.now (field.Call c.destination-destination.result ∷ [])
+    (call_text p.destination.call ∷ []) c.info-info.result.now
+    (ap (λ (call : Call). call_text call ∷ []) c.destination-destination.ensures)
+    ∙ ap (line_with_text (codes "raw") (told ++ call_text p.destination.call ∷ []))
+    c.info-info.ensures.value
+    ∙ ap (other_line told p)
+    (mic_e_read p c.destination-destination.result c.info-info.result.now None
+    c.destination-destination.ensures c.info-info.ensures.value c.in-None.ensures.value))
