@@ -331,7 +331,11 @@ if has book-to-sqlite sqlite3; then
     aprsbook show all.30 > listing
     # heads WORDS FILE: so many lines begin so
     heads() { grep -Ec "^($1) " "$2"; }
-    expected="$(heads T all.30) $(heads 'position|object|item' listing) $(heads message listing) "
+    # stations whose places are in Mic-E alone are in no listing
+    more=$(aprsbook-history all.30 | awk '$1 == "mic-e" { some[$5] } $1 == "position" { listed[$5] }
+        END { for (it in some) if (!(it in listed)) n++; print n + 0 }')
+    places=$(($(heads 'position|object|item' listing) + more))
+    expected="$(heads T all.30) $places $(heads message listing) "
     for book in all.30 all.30 all.60; do
         book-to-sqlite $book net.db
         [ "$(counts)" = "$expected" ] || [ $book = all.60 ] || fail "rows: $(counts), not $expected"

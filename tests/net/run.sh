@@ -35,7 +35,6 @@ with() {
 
 with 'python3' every_place.py
 with 'python3' tracks.py "$examples"
-with '' last_heard.sh "$examples"
 with 'python3 aprsbook-history' asked.py "$examples"
 with 'python3 aprsbook-history' event_page.py "$examples"
 with 'python3 aprsbook-history chromium' in_browser.py "$examples"
