@@ -1,10 +1,10 @@
 #!/bin/sh
 # Tries the library for C of `make clib`: each of its functions, and the examples in C and in Python,
 # which write what the program writes. Needs a C compiler and Python 3, and says what it leaves out.
-# usage: tests/clib.sh PROGRAM [FOLDER]
+# usage: tests/clib.sh PROGRAM, and FOLDER of the environment,
 # shellcheck source=program.sh
 . "$(dirname "$0")/program.sh"
-folder=${2:-$repository/out}
+folder=${FOLDER:-$repository/out}
 case $folder in /*) ;; *) folder=$PWD/$folder ;; esac
 [ -f "$folder/libaprsbook.so" ] || fail "there is no library in '$folder': make clib"
 cd "$scratch"

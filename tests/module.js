@@ -7,7 +7,9 @@ const { FUNCTIONS, attempt, run } = require("../page/host.js");
 const [file, program, count, seed, ...files] = process.argv.slice(2);
 const code = new WebAssembly.Module(fs.readFileSync(file));
 const COMMANDS = Object.keys(FUNCTIONS);
-const SEVERAL = ["merge", "show"];
+const SEVERAL = ["merge", "show", "history"];
+// the history has a program of its own
+const NAME_OF = command => command === "history" ? "aprsbook-history" : "aprsbook";
 const CAPTURE = ["RX1", "2024-05-01T12:00:00Z"];
 let runs = 0, faults = 0;
 
@@ -19,20 +21,21 @@ function fail(...words) {
 function byProgram(command, options, inputs) {
   const names = inputs.map((_, k) => path.join(process.cwd(), `input-${k}`));
   inputs.forEach((it, k) => fs.writeFileSync(names[k], it));
-  const words = command.split(" ");
+  const words = command === "history" ? [] : command.split(" ");
   if (SEVERAL.includes(command)) words.push("--gap", String(options));
   if (command === "widen") words.push(String(options));
   if (command === "convert capture") words.push("--receiver", options[0], "--moment", options[1]);
-  const it = spawnSync(program, [...words, ...names], { input: "", maxBuffer: 1 << 30 });
+  const it = spawnSync(command === "history" ? NAME_OF(command) : program, [...words, ...names],
+    { input: "", maxBuffer: 1 << 30 });
   return { status: it.status, bytes: it.stdout, said: it.stderr.toString(), names };
 }
 
 // what the program says of a fault
-function saidOf(it, names) {
+function saidOf(command, it, names) {
   if (it.status === 0) return "";
   if (it.status !== 1) return null;
   const ofLine = /^[A-Z]/.test(it.fault);
-  return `aprsbook: ${names[it.input]}: ${ofLine ? `line ${it.line}: ` : ""}${it.fault}\n`;
+  return `${NAME_OF(command)}: ${names[it.input]}: ${ofLine ? `line ${it.line}: ` : ""}${it.fault}\n`;
 }
 
 function compare(command, options, inputs) {
@@ -40,7 +43,7 @@ function compare(command, options, inputs) {
   const said = wanted.status === 2 ? null : wanted.said;
   runs++;
   if (wanted.status !== got.status || Buffer.compare(wanted.bytes, Buffer.from(got.bytes)) !== 0
-      || said !== saidOf(got, wanted.names))
+      || said !== saidOf(command, got, wanted.names))
     fail(command, options, inputs.map(it => it.length), "status", got.status, "and not",
       wanted.status, got.bytes.length, "bytes and not", wanted.bytes.length, said, got.fault);
   return wanted;

@@ -1,13 +1,14 @@
 #!/bin/sh
-# Compares the module for web pages with the program: bytes, statuses and what is said of faults,
+# Compares the module for web pages with the programs: bytes, statuses and what is said of faults,
 # over the examples and 300 damaged texts. Needs Node 20 or later.
-# usage: tests/module.sh PROGRAM [MODULE]
+# usage: tests/module.sh PROGRAM [HISTORY]
+# environment: MODULE                      the module (out/aprsbook.wasm)
 # shellcheck source=program.sh
 . "$(dirname "$0")/program.sh"
-module=${2:-$repository/out/aprsbook.wasm}
+module=${MODULE:-$repository/out/aprsbook.wasm}
 case $module in /*) ;; *) module=$PWD/$module ;; esac
 [ -f "$module" ] || fail "there is no module '$module': make wasm"
-has 'the module in Node' node || exit 0
+has 'the module in Node' node aprsbook-history || exit 0
 flag=--experimental-wasm-memory64
 node $flag -e 0 2> "$scratch/said" || flag=
 cd "$scratch"
