@@ -1,7 +1,8 @@
 #!/bin/sh
 # Tries the library for C of `make clib`: each of its functions, and the examples in C and in Python,
 # which write what the program writes. Needs a C compiler and Python 3, and says what it leaves out.
-# usage: tests/clib.sh PROGRAM, and FOLDER of the environment,
+# usage: tests/clib.sh PROGRAM
+# environment: FOLDER                    where the library lies (out)
 # shellcheck source=program.sh
 . "$(dirname "$0")/program.sh"
 folder=${FOLDER:-$repository/out}
