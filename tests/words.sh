@@ -70,7 +70,7 @@ history=aprs_command/src/history.rt
     grep -q '\.version(' $history && printf '%s\n' -V --version
 } > "$scratch/program/history_options"
 sed '/^-.$/d' "$scratch/program/history_options" > "$scratch/program/history_long_options"
-sed -n 's/.*put_[a-z]*_line(out, b"\([a-z-]*\)".*/\1/p; s/^ *b"\([a-z-]*\)",$/\1/p' \
+sed -n 's/.*put_[a-z]*_line(out, b"\([a-z-]*\)".*/\1/p' \
     aprs_listing/src/history.rt > "$scratch/program/history_lines"
 sed '/: narrower$/d; /capture/d; s/^aprsbook/aprsbook-history/' "$scratch/program/messages" \
     > "$scratch/program/history_messages"
