@@ -72,7 +72,7 @@ words:
 
 # the map in docs/architecture.md, drawn anew
 map:
-	build/map.sh > docs/architecture.new
+	build/map.py > docs/architecture.new
 	mv docs/architecture.new docs/architecture.md
 
 # the pages of docs/reading and the sums in docs/proved.md, written anew of the clauses and definitions
