@@ -21,7 +21,7 @@ tools: awk callgrind cat ctypes decode_aprs direwolf gcc gen_packets grep nc nic
 shellcheck sort stdbuf stdin stdout text2pcap valgrind zcat
 Rattle: rattle rt contents remaining ensures requires proves file old std Proof.decls out/incremental x.old x.new x.now x.entry
 std: Box BufWriter Copy Drop Ok Option PartialEq Result u64::MAX
-standards: DDMM.hh DDDMM.hh atest f0 rust
+standards: DDMM.hh DDDMM.hh atest f0 rust loop use
 commands of make: arm64 deb install release static tarball try
 processors and users of Debian: amd64 aprs
 states of messages and objects: acknowledged rejected unanswered unnumbered tracks

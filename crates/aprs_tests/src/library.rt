@@ -1,5 +1,5 @@
-//! The examples of README.md and docs/library.md, which show these functions as they stand here.
-//! `tests/library.sh` compares them.
+//! Examples of a call or two, which docs/library.md shows as they stand here: `tests/library.sh`
+//! compares them.
 
 use crate::vectors::{DIRECT, DIRECT_LINE, DIRECT_TEXT, NOON, ONE_LINE, receiver};
 use aprs_ax25::{Callsign, Frame, Hop};
