@@ -186,6 +186,12 @@ sed 's/^aprsbook: //; s/^PLACE: //; /^line N/d' "$scratch/program/messages" |
 done > "$scratch/lacks"
 [ ! -s "$scratch/lacks" ] || fail "the cookbook's table lacks: $(cat "$scratch/lacks")"
 
+# ---- the documents: all of them can be read, and the first at once ----
+
+[ "$(cat README.md CONTRIBUTING.md CHANGELOG.md docs/*.md | wc -w)" -le 24000 ] ||
+    fail 'the documents have more than 24,000 words'
+[ "$(wc -l < README.md)" -le 120 ] || fail 'README.md has more than 120 lines'
+
 # ---- each file by its own reader ----
 
 # read_by TOOL WORD..: the tool, where it is there, has nothing to say of the file
