@@ -157,6 +157,12 @@ days() {
 # good, bad: how the last run ended
 good() { [ "$status $(cat said)" = '0 ' ] || fail "make ended with $status: $(cat said)"; }
 bad() { [ $status = 2 ] || fail "make ended with $status: $(cat said)"; }
+# all [GAP=SECONDS]: a run that ends well, and the book is that of all logs under the gap
+all() {
+    days "$@" && good
+    gap=${1-GAP=30}
+    same net/net.book "all.${gap#GAP=}"
+}
 if has days.mk make timeout; then
     mkfifo endless
     exec 3<> endless
@@ -187,23 +193,19 @@ if has days.mk make timeout; then
     for book in net.book days/2024-06-22.book; do
         for bytes in 0 300; do
             head -c $bytes all.30 > net/$book
-            days && good
-            same net/net.book all.30
+            all
             same net/days/2024-06-22.book north.30
         done
     done
     # another gap makes all again, and back
-    days GAP=60 && good
-    same net/net.book all.60
+    all GAP=60
     same net/days/2024-06-22.book north.60
-    days && good
-    same net/net.book all.30
+    all
 
     # books that another program made, of which nobody knows of what
     rm net/days/*.of
     cp hill.60 net/days/2024-06-22.book
-    days && good
-    same net/net.book all.30
+    all
 
     # a log that was cut short: its day and the book of all stay, and the other day is made
     cp -R net/logs kept
@@ -222,8 +224,7 @@ if has days.mk make timeout; then
     # mended by a log that is older than the book, as rsync may put it there
     cp hill.log net/logs/2024-06-21/HILL.log
     touch -t 202301010000 net/logs/2024-06-21/HILL.log
-    days && good
-    same net/net.book all.30
+    all
     # a changed log of the same size
     sed 's/HILL/TILL/' hill.log > net/logs/2024-06-21/HILL.log
     days && good
@@ -232,8 +233,7 @@ if has days.mk make timeout; then
     rm -r net/logs
     mv kept net/logs
     rm -r net/logs/2024-06-22
-    days && good
-    same net/net.book all.30
+    all
     # unless it is empty or cut: then it is named, and the book of all stays
     for bytes in 0 300; do
         head -c $bytes north.30 > net/days/2024-06-22.book
@@ -257,8 +257,7 @@ if has days.mk make timeout; then
         aprsbook merge net/net.book > again || fail 'two runs at once harm the book'
     done
     wait
-    days && good
-    same net/net.book all.30
+    all
 
     # the line for a crontab, with cron's environment, and the program where it was installed
     path=$(sed -n 's/^PATH=//p' "$repository/docs/cookbook.md")

@@ -29,11 +29,11 @@ def run(*command, given=b""):
 
 
 def end(main, *needed):
-    """Runs a recipe, which needs these of stdin and stdout. A file's or an output's fault is said."""
+    """Runs a recipe, which needs input or output. A fault of a file or of these is said."""
     try:
         for name in needed:
-            if getattr(sys, name) is None:
-                raise OSError(f"{name} is closed")
+            if {"input": sys.stdin, "output": sys.stdout}[name] is None:
+                raise OSError(f"standard {name} is closed")
         status = main()
         if sys.stdout:
             sys.stdout.flush()

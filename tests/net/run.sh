@@ -16,7 +16,7 @@ with() {
     if has "$test" $tools; then "$repository/tests/net/$test" "$@"; fi
 }
 
-with 'python3' every_place.py
+with 'python3' every_place.py "$examples"
 with 'python3' tracks.py "$examples"
 with 'python3 aprsbook-history' asked.py "$examples"
 with 'python3 aprsbook-history' event_page.py "$examples"
