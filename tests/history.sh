@@ -80,15 +80,15 @@ if has "Dire Wolf's places" decode_aprs; then
     done > "$scratch/wolf"
     awk '
         # degrees and minutes, as Dire Wolf prints them
-        function of(fraction, plus, minus,   part) {
+        function of(fraction, digits, plus, minus,   part) {
             split(fraction, part, "/")
             part[1] *= 600000 / part[2]
             minus = part[1] < 0 ? minus : plus
             part[1] = int((part[1] < 0 ? -part[1] : part[1]) + 0.5)
-            return sprintf("%s %02d %07.4f", minus, int(part[1] / 600000), part[1] % 600000 / 10000)
+            return sprintf("%s %0*d %07.4f", minus, digits, int(part[1] / 600000), part[1] % 600000 / 10000)
         }
         { n = $1 == "position" ? 8 : $1 == "mic-e" ? 11 : $1 == "object" || $1 == "item" ? 10 : 0 }
-        { print n ? of($n, "N", "S") ", " of($(n + 1), "E", "W") : "none" }' "$scratch/evening" > "$scratch/places"
+        { print n ? of($n, 2, "N", "S") ", " of($(n + 1), 3, "E", "W") : "none" }' "$scratch/evening" > "$scratch/places"
     diff "$scratch/places" "$scratch/wolf" >&2 || fail 'Dire Wolf reads other places'
 fi
 echo 'a history has one line for each row, whatever the inputs are called and how they come'

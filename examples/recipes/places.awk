@@ -4,7 +4,7 @@
 # aprsbook-history NET.book | awk -v every=1 -f places.awk: each place, as every-place has them.
 function degrees(fraction,   text) {
     text = sprintf("%.7f", fraction / substr(fraction, index(fraction, "/") + 1))
-    sub(/,/, ".", text) # the decimal sign of some languages
+    if (comma) sub(/,/, ".", text)
     return text
 }
 # its fields begin at the n-th with the stamp; then degrees, ambiguity, symbol:comment
@@ -15,7 +15,7 @@ function place(kind, name, state, n, before,   tail, symbol, where, about, it) {
     symbol += substr(tail, 1 + symbol, 1) == "\\" ? 4 : 1
     about = before substr(tail, symbol + 2)
     where = degrees($(n + 1)) "\t" degrees($(n + 2)) "\t" $(n + 3) "\t" substr(tail, 1, symbol) "\t"
-    gsub(/\\x20/, " ", name)
+    if (kind != "station") gsub(/\\x20/, " ", name)
     if (every) {
         print kind "\t" name "\t" state "\t" $2 "\t" $3 "\t" $4 "\t" $5 "\t" where about
         return
@@ -29,12 +29,17 @@ function place(kind, name, state, n, before,   tail, symbol, where, about, it) {
     line[it] = kind "\t" name "\t" state "\t" substr($5, 1, 10) "\t" substr($5, 12, 12) "\t" $1 "\t" \
         $7 "\t" where about
 }
-BEGIN { s = every ? 0 : 2 } # words before the history's line
-$(s + 1) == "position" { place("station", $(s + 5), "live", s + 7) }
-$(s + 1) == "mic-e" {
+BEGIN {
+    s = every ? 0 : 2 # words before the history's line
+    comma = index(sprintf("%.1f", 0.5), ",") # the decimal sign of some languages
+}
+every && !/^(position|object|item|mic-e) / { next }
+{ what = $(s + 1) }
+what == "position" { place("station", $(s + 5), "live", s + 7) }
+what == "mic-e" {
     place("station", $(s + 5), "mic-e", s + 10, sprintf("%03d/%03d %s ", $(s + 7), $(s + 8), $(s + 9)))
 }
-$(s + 1) == "object" || $(s + 1) == "item" { place($(s + 1), $(s + 7), $(s + 8), s + 9) }
+what == "object" || what == "item" { place(what, $(s + 7), $(s + 8), s + 9) }
 END {
     if (every) exit
     print "kind\tname\tstate\tutc_d\tutc_t\treceiver\tsource\tlat\tlon\tambiguity\tsymbol\tdesc"

@@ -7,12 +7,12 @@ say() { echo "$recipe: $*" >&2; }
 refuse() { say "$*"; exit 1; }
 usage() { echo "usage: $recipe $*" >&2; exit 2; }
 # filled FILE..: each that is a book by its name isn't empty, which would be an empty log
-filled() {
+filled() (
     for it; do
         [ "${it%.book}" = "$it" ] || [ ! -f "$it" ] || [ -s "$it" ] ||
             refuse "$it is empty, which no book is"
     done
-}
+)
 # a folder that is thrown away
 work=$(mktemp -d)
 trap 'rm -rf "$work"' EXIT

@@ -16,7 +16,7 @@ import threading
 import time
 import types
 
-EXAMPLES = pathlib.Path(sys.argv[1])
+EXAMPLES = pathlib.Path(sys.argv[1]).resolve()
 HILL = EXAMPLES / "evening/hill.log"
 LISTEN = str(EXAMPLES / "recipes/aprs-log")
 sys.dont_write_bytecode = True
