@@ -2,6 +2,7 @@
 #![tactic(auto)]
 
 mod book;
+mod examples;
 mod from_parts;
 mod known;
 mod lists;

@@ -2,6 +2,7 @@
 //! which may follow.
 #![tactic(auto)]
 
+mod examples;
 mod joining;
 mod memory;
 mod room;

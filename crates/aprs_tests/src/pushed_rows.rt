@@ -112,14 +112,18 @@ fn rows_are_pushed_after_the_last(rt: HostRuntime) -> Result<(), Fail> {
 fn rows_out_of_place_are_refused(rt: HostRuntime) -> Result<(), Fail> {
     let alloc = rt.alloc();
     let mut book = two_rows(alloc)?;
-    const CASES: &[(u64, u64, RowCause)] = &[
-        (33, 32, RowCause::Span),
-        (61, 61, RowCause::Near),
-        (31, 31, RowCause::Order),
-        (0, 0, RowCause::Order),
+    const ONE: &[&[u8]] = &[b"RX1"];
+    const WRONG: &[&[u8]] = &[b"RX2", b"RX1"];
+    const CASES: &[(u64, u64, &[&[u8]], RowCause)] = &[
+        (33, 32, ONE, RowCause::Span),
+        (61, 61, ONE, RowCause::Near),
+        (61, 61, WRONG, RowCause::Near),
+        (62, 62, WRONG, RowCause::Receivers),
+        (31, 31, ONE, RowCause::Order),
+        (0, 0, ONE, RowCause::Order),
     ];
-    for &(first, last, cause) in CASES {
-        let row = parts(alloc, NOON + first, NOON + last, &[b"RX1"], b"RX1")?;
+    for &(first, last, names, cause) in CASES {
+        let row = parts(alloc, NOON + first, NOON + last, names, b"RX1")?;
         assert!(rt; book.push_row(&row) == Err(cause));
     }
     assert!(rt; book.len() == 2);
