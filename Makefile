@@ -80,10 +80,10 @@ reading:
 	build/reading.py
 
 # what is tried with the program: the README's example, the old club's book, gaps, outputs that take
-# nothing, what happens to logs and books, the units, each awk, the packages, and the same program on
-# other machines; and with both programs: what they complain of, and the history
-TRIED = readme old_book gaps full_output logs books units awks version packages everywhere
-TRIED_BOTH = complaints history
+# nothing, what happens to logs and books, the units, and each awk; and with both programs: what they
+# complain of, the history, the version, the packages, and the same programs on other machines
+TRIED = readme old_book gaps full_output logs books units awks
+TRIED_BOTH = complaints history version packages everywhere
 tried = $(foreach it,$(TRIED),tests/$(it).sh $(PROGRAM) &&) \
     $(foreach it,$(TRIED_BOTH),tests/$(it).sh $(PROGRAM) $(HISTORY) &&)
 

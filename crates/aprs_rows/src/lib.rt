@@ -11,7 +11,6 @@ mod store;
 
 pub use joining::greatest::{Greatest, keep_greater};
 pub use joining::join::{Join, all_fit, join_all};
-pub use joining::receiver_list::ReceiverList;
 pub use joining::receivers::Receivers;
 pub use memory::Memory;
 pub use room::reserve_one;

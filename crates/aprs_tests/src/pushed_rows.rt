@@ -3,7 +3,7 @@
 use crate::shown::is_shown;
 use crate::vectors::{DIRECT, NOON, heard, receiver};
 use aprs_ax25::Frame;
-use aprs_book::{Book, Gap, ReceiverList, RowCause, RowParts, RowsFault, from_rows};
+use aprs_book::{Book, Gap, RowCause, RowParts, RowsFault, from_rows};
 use aprs_log::{Moment, Receiver};
 use std::alloc::{Allocator, Global};
 use std::test::Fail;
@@ -30,7 +30,7 @@ pub fn parts<A: Allocator + Copy>(
     let last = Moment::new(last).ok_or("moment")?;
     let receiver = receiver(name)?;
     let frame = Frame::read(&DIRECT).ok().ok_or("frame")?;
-    let receivers = ReceiverList::new(receivers_of(alloc, names)?);
+    let receivers = receivers_of(alloc, names)?;
     Ok(RowParts {
         first,
         last,
@@ -67,13 +67,6 @@ fn rows_without_their_greatest_are_refused(rt: HostRuntime) -> Result<(), Fail> 
         assert!(rt; pushed(alloc, &mut book, first, names)? == want);
     }
     assert!(rt; is_shown(alloc, &book, "3599-0 RX1 RX2 / RX1 6f; "));
-    Ok(())
-}
-
-#[test]
-fn receivers_are_given_back(rt: HostRuntime) -> Result<(), Fail> {
-    let row = parts(rt.alloc(), NOON, NOON, &[b"RX1", b"RX2"], b"RX1")?;
-    assert!(rt; row.receivers.into_vec().len() == 2);
     Ok(())
 }
 

@@ -1,5 +1,5 @@
 #!/usr/bin/env python3
-"""Tests aprs-listen, on the loopback alone: torn lines, a full disk, midnight, a clock that is set,
+"""Tests aprs-log, on the loopback alone: torn lines, a full disk, midnight, a clock that is set,
 several radios, a server that ends and comes back, and one that says nothing, wrong arguments.
 
 usage: listen.py EXAMPLES    aprsbook in the PATH; needs Python 3
@@ -16,12 +16,13 @@ import threading
 import time
 import types
 
-EXAMPLES = pathlib.Path(sys.argv[1])
+EXAMPLES = pathlib.Path(sys.argv[1]).resolve()
 HILL = EXAMPLES / "evening/hill.log"
-LISTEN = str(EXAMPLES / "recipes/aprs-listen")
+LISTEN = str(EXAMPLES / "recipes/aprs-log")
 sys.dont_write_bytecode = True
-loader = importlib.machinery.SourceFileLoader("aprs_listen", LISTEN)
-listen = importlib.util.module_from_spec(importlib.util.spec_from_loader("aprs_listen", loader))
+sys.path.append(str(EXAMPLES / "recipes"))
+loader = importlib.machinery.SourceFileLoader("aprs_log", LISTEN)
+listen = importlib.util.module_from_spec(importlib.util.spec_from_loader("aprs_log", loader))
 loader.exec_module(listen)
 said = []
 listen.say = said.append
@@ -70,9 +71,11 @@ def test_torn(folder):
         path.write_bytes(log[:cut])
         listen.Logs(folder).put("RX1", f"{path.parent.name}T12:00:00.000Z", FRAME)
         assert whole(path.read_bytes()) == log[:cut].count(b"\n") + 1, cut
-    path.write_bytes(log[:-7])
-    assert "torn line" in run(folder, FRAME)
-    assert whole(path.read_bytes()) == 2
+    # also a hole that a power failure left
+    for torn in log[:-7], log[:len(log) // 2] + bytes(4096):
+        path.write_bytes(torn)
+        assert "torn line" in run(folder, FRAME)
+        assert whole(path.read_bytes()) == 2
 
 
 def test_full(folder):
@@ -110,12 +113,17 @@ def test_refused(folder):
     for place in "localhost:99999", "localhost:0", "localhost", ":8001", "localhost:http":
         assert "HOST:PORT" in run(folder, b"", "--connect", place, status=2), place
     run(folder, b"", "--idle", "-1", status=2)
+    for wrong in [], ["RX1"], ["RX1", "made", "more"], ["RX.1", "made"], ["", "made"], ["RX1", ""], \
+            ["12345678901234567", "made"], ["RX1", "file/made"]:
+        done = subprocess.run([LISTEN, *wrong], capture_output=True, cwd=folder)
+        assert done.returncode == 2 and done.stderr.count(b"error: ") == 1, done
+    assert [it.name for it in pathlib.Path(folder).iterdir()] == ["file"]
     done = subprocess.run(["sh", "-c", '"$0" RX1 "$1" <&-', LISTEN, folder], stderr=subprocess.PIPE)
     assert done.returncode == 1 and done.stderr.count(b"\n") == 1, done
 
 
 def clock_at(*moments):
-    """A clock for aprs-listen that says each of these seconds once."""
+    """A clock for aprs-log that says each of these seconds once."""
     rest = list(moments)
     boot = iter(range(1000))
     listen.time = types.SimpleNamespace(
@@ -154,8 +162,21 @@ def test_radios(folder):
 
 def test_noise(folder):
     noise = bytes(range(1, 192)) * 50
-    assert run(folder, noise + FRAME * 2 + noise + FRAME + noise[:2049] + FRAME) == ""
+    text = run(folder, noise + FRAME * 2 + noise + FRAME + noise[:2049] + FRAME)
+    assert set(text.splitlines()) == {"aprs-log: noise without a C0 is left out"}, text
     assert whole(logs(folder)["RX1.log"]) == 4
+    # the longest frame: 1,024 bytes, all of them escaped
+    assert run(folder + "/longest", b"\xc0" + b"\xdb\xdd" * 1024 + b"\xc0") == ""
+    assert aprsbook("check", given=logs(folder + "/longest")["RX1.log"]).startswith(b"line 1 passed NotData")
+
+
+def test_folders(folder):
+    """A folder with text for a shell in its name, or that begins as an option does, is one as any."""
+    for name in "-n", "a b", "$(touch pwned)`touch pwned`\";touch pwned;'":
+        for program in LISTEN, LISTEN.replace("aprs-log", "aprs-listen"):
+            subprocess.run([program, "RX1", "--", name], input=FRAME, check=True, cwd=folder)
+        assert whole(logs(folder + "/" + name)["RX1.log"]) == 2
+    assert len(list(pathlib.Path(folder).iterdir())) == 3
 
 
 def test_server(folder):
@@ -195,9 +216,9 @@ def wait(condition):
 
 
 tests = [test_stream, test_torn, test_full, test_held, test_refused, test_midnight, test_clock,
-         test_radios, test_noise, test_server]
+         test_radios, test_noise, test_folders, test_server]
 for test in tests:
     said.clear()
     with tempfile.TemporaryDirectory() as name:
         test(name)
-print("aprs-listen: torn lines, a full disk, midnight, the clock, radios, servers that end")
+print("aprs-log: torn lines, a full disk, midnight, the clock, radios, servers that end")
