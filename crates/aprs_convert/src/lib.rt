@@ -19,4 +19,3 @@ pub use fault::ConvertFault;
 pub use form::Form;
 pub use laws::{one_text_is_checked, one_text_is_converted};
 pub use run::convert_input;
-pub use text::{are_shown, shown_byte};

@@ -9,9 +9,8 @@ use Rattle.aprs_ax25.specs.Address.{Address, IsAddress, is_repeated}
 use Rattle.aprs_ax25.specs.Callsign.{Call, IsCall, call_text, is_callsign_byte}
 use Rattle.aprs_ax25.specs.Frame.{Parts, IsParts}
 use Rattle.aprs_ax25.specs.FrameFault.{parts_of}
-use Rattle.aprs_ax25.specs.Hop.{hop_of}
-use Rattle.aprs_convert.specs.Monitor.{hop_text}
-use Rattle.aprs_convert.specs.Shown.{is_shown, shown_byte, shown_text}
+use Rattle.aprs_ax25.specs.Hop.{hop_of, hop_text}
+use Rattle.aprs_io.specs.Shown.{is_shown, shown_byte, shown_text}
 use Rattle.aprs_log.specs.LogText.{HasNoLf}
 use Rattle.aprs_log.specs.Moment.{day_after, moment_text, moment_text_in, two_digits}
 use Rattle.aprs_log.specs.Receiver.{IsName, is_name_byte}

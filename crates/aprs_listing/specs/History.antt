@@ -5,7 +5,7 @@ use Rattle.std.specs.List.{flat_map, join_with_byte}
 use Rattle.aprs_ax25.specs.Callsign.{call_text}
 use Rattle.aprs_ax25.specs.Frame.{Parts}
 use Rattle.aprs_ax25.specs.FrameFault.{parts_of}
-use Rattle.aprs_ax25.specs.Hop.{hop_of}
+use Rattle.aprs_ax25.specs.Hop.{hop_of, hop_text}
 use Rattle.aprs_ax25.specs.declared.hop.Hop.{Hop}
 use Rattle.aprs_report.specs.Reading.{Value, position, object, item, message, ack, rej, status, raw}
 use Rattle.aprs_report.specs.Reader.{reading_of}
@@ -14,7 +14,6 @@ use Rattle.aprs_mice.specs.MicEMessage.{message_name}
 use Rattle.aprs_mice.specs.Reader.{mic_e_of}
 use Rattle.aprs_log.specs.Moment.{moment_text}
 use Rattle.aprs_laws.specs.Row.{Row, last_of}
-use Rattle.aprs_convert.specs.Monitor.{hop_text}
 use Rattle.aprs_listing.specs.Listing.{line_with, line_with_text, live_text, place_fields, stamp_text, word}
 
 -- ---- fields

@@ -21,7 +21,7 @@ pub mod Examples
 -- What public clauses cite of lower crates.
 pub use Rattle.aprs_listing.specs.Listing
 pub use Rattle.aprs_listing.specs.History
-pub use Rattle.aprs_convert.specs.Shown
+pub use Rattle.aprs_io.specs.Shown
 pub use Rattle.aprs_convert.specs.Monitor
 pub use Rattle.aprs_convert.specs.Conversion
 pub use Rattle.aprs_convert.specs.Check
