@@ -10,6 +10,7 @@ mod fault;
 mod form;
 mod laws;
 mod monitor;
+mod monitor_example;
 mod run;
 mod text;
 
@@ -19,4 +20,3 @@ pub use fault::ConvertFault;
 pub use form::Form;
 pub use laws::{one_text_is_checked, one_text_is_converted};
 pub use run::convert_input;
-pub use text::{are_shown, shown_byte};
