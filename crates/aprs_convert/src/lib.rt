@@ -1,7 +1,6 @@
 //! Logs and KISS streams, converted and checked as they are read.
 #![tactic(auto)]
 
-mod answer;
 mod capture;
 mod check;
 mod convert;
@@ -12,6 +11,7 @@ mod laws;
 mod monitor;
 mod run;
 mod text;
+mod write_line;
 
 pub use check::check_log;
 pub use example::checks_count_lines;
