@@ -1,20 +1,14 @@
 #!/bin/sh
 # Tests merge-dask on the loopback: a scheduler and four workers, two of which are killed in the
 # middle.
-# usage: merge_dask.sh EXAMPLES    aprsbook and the recipes in the PATH; needs python3-distributed
-set -eu
-export LC_ALL=C
-examples=$(cd "$1" && pwd)
-scratch=$(mktemp -d)
+# usage: merge_dask.sh PROGRAM    needs python3-distributed
+# shellcheck source=../program.sh
+. "$(dirname "$0")/../program.sh"
+examples=$repository/examples
 started=
 # workers don't always end on a polite signal
 trap 'kill -9 $started 2> "$scratch/kill.txt" || true; wait; rm -rf "$scratch"' EXIT
 cd "$scratch"
-fail() {
-    echo "tests/net/merge_dask.sh: $*" >&2
-    cat ./*.txt >&2
-    exit 1
-}
 # until_there N FOLDER: waits until so many files are in the folder
 until_there() {
     tries=0
@@ -26,15 +20,14 @@ until_there() {
 }
 
 # the workers' aprsbook says when it begins, and takes its time
-mkdir bin begun part
-program=$(command -v aprsbook)
-cat > bin/aprsbook << END
+mkdir slow begun part
+cat > slow/aprsbook << END
 #!/bin/sh
 mktemp $scratch/begun/XXXXXX > $scratch/begun.txt
 sleep 0.3
 exec $program "\$@"
 END
-chmod +x bin/aprsbook
+chmod +x slow/aprsbook
 cat "$examples"/evening/*.log | split -l 6 - part/
 aprsbook merge "$examples"/evening/*.log > wanted.book
 
@@ -49,7 +42,7 @@ until [ -s scheduler.json ]; do
 done
 address=$(sed -n 's/.*"address": "\(tcp:[^"]*\)".*/\1/p' scheduler.json)
 for n in 1 2 3 4; do
-    PATH="$scratch/bin:$PATH" dask-worker "$address" --host 127.0.0.1 --nthreads 1 --no-nanny \
+    PATH="$scratch/slow:$PATH" dask-worker "$address" --host 127.0.0.1 --nthreads 1 --no-nanny \
         --no-dashboard --local-directory "$scratch/worker.$n" > "worker.$n.txt" 2>&1 &
     started="$started $!"
 done
@@ -59,7 +52,7 @@ until_there 6 begun
 # shellcheck disable=SC2086 # the numbers are words
 set -- $started
 kill -9 "$2" "$3"
-wait $client || fail 'merge-dask ended with a fault'
+wait $client || fail "merge-dask ended with a fault: $(cat ./*.txt)"
 cmp net.book wanted.book || fail 'the book is another'
 
 # a log with a fault is said, and no book is made; the inputs of one host go to its workers

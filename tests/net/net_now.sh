@@ -1,17 +1,11 @@
 #!/bin/sh
 # Tests net-now: the days that it takes, torn lines, logs from Windows and compressed ones, a second
 # round, two at once, a round that fails, and one without logs.
-# usage: net_now.sh EXAMPLES    aprsbook and the recipes in the PATH; needs Python 3
-set -eu
-export LC_ALL=C
-examples=$(cd "$1" && pwd)
-scratch=$(mktemp -d)
-trap 'rm -r "$scratch"' EXIT
+# usage: net_now.sh PROGRAM    needs Python 3
+# shellcheck source=../program.sh
+. "$(dirname "$0")/../program.sh"
+examples=$repository/examples
 cd "$scratch"
-fail() {
-    echo "tests/net/net_now.sh: $*" >&2
-    exit 1
-}
 
 # a day that is named; a torn line in the midst of a log, and one that is being written
 mkdir -p logs/2024-06-21
