@@ -416,11 +416,16 @@ fi
 # ---- a book by its name that is empty ----
 
 cp empty empty.book
-for recipe in every-place history-rows last-heard ics-309 'tracks csv' 'roster hill.log' \
+for recipe in gap-of every-place history-rows last-heard ics-309 'tracks csv' 'roster hill.log' \
     'passed /dev/null' event-page 'put-whole empty.book aprsbook merge'; do
     case $recipe in event-page) has event-page python3 || continue ;; esac
     # shellcheck disable=SC2086 # words
     refused 'empty.book is empty, which no book is' $recipe empty.book hill.log
 done
 [ ! -s empty.book ] || fail 'an empty book was made anew of logs'
+# an input that could be an option isn't one, and --help is
+cp hill.log ./-h.log
+refused 'write ./-h.log' every-place -h.log
+[ "$(tracks csv -- -h.log)" = "$(tracks csv hill.log)" ] || fail "a name after -- is another input"
+[ "$(roster --help | head -n 1)" = "roster FILE [--gap SECONDS] INPUT.." ] || fail "roster --help says nothing"
 echo 'books survive what happens to them'

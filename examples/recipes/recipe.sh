@@ -6,13 +6,21 @@ PATH=$PATH:$here
 say() { echo "$recipe: $*" >&2; }
 refuse() { say "$*"; exit 1; }
 usage() { echo "usage: $recipe $*" >&2; exit 2; }
-# filled FILE..: each that is a book by its name isn't empty, which would be an empty log
+# filled ARGUMENT..: no book by its name is empty, which would be an empty log, nor an input an option
 filled() (
     for it; do
-        [ "${it%.book}" = "$it" ] || [ ! -f "$it" ] || [ -s "$it" ] ||
-            refuse "$it is empty, which no book is"
+        case $it in
+        --) break ;;
+        -[!-]*) usage "..: write ./$it" ;;
+        *.book) [ ! -f "$it" ] || [ -s "$it" ] || refuse "$it is empty, which no book is" ;;
+        esac
     done
 )
+case ${1-} in -h | --help)
+    sed -n '2,/^[^#]/{/^# shellcheck/d; s/^# \{0,1\}//p;}' "$0"
+    exit
+    ;;
+esac
 # a folder that is thrown away
 work=$(mktemp -d)
 trap 'rm -rf "$work"' EXIT

@@ -10,6 +10,7 @@ mod fault;
 mod form;
 mod laws;
 mod monitor;
+mod monitor_example;
 mod run;
 mod text;
 
