@@ -263,4 +263,6 @@ def sentences():
 ASKED = {"--names": all_names, "--calls": call_texts, "--arms": arm_texts}
 
 if __name__ == "__main__":
+    if not set(sys.argv[1:2]) & set(ASKED):
+        sys.exit(__doc__)
     print("\n".join(ASKED[sys.argv[1]](*sys.argv[2:])))

@@ -9,6 +9,9 @@
 [ -n "$history" ] || fail "there is no program of histories"
 made=$repository/out
 cd "$scratch"
+# tests/books.sh, run as root, runs a program as another user
+umask 022
+chmod 755 .
 mkdir inputs programs
 
 # ---- the programs, those of one machine in a folder of their own by their names ----
@@ -102,28 +105,34 @@ awk 'BEGIN {
         printf "2024-05-%02dT%02d:%02d:%02dZ RX1 %s\n", 1 + int(i / 86400), i / 3600 % 24, i / 60 % 60,
             i % 60, "c00082a0a4a64040e09c60868298986f03f03e4869c0"
 }' > long.log
-# short KILOBYTES STATUSES PROGRAM WORD..: with so little it ends with one of the statuses
+# short LIMIT STATUSES PROGRAM WORD..: with so little it ends with one of the statuses
 short() {
     limit=$1 wanted=$2 status=0 name=${3##*/}
     shift 2
-    # shellcheck disable=SC3045 # not of POSIX, but of each shell of Debian
-    (ulimit -v "$limit" && exec "$@" long.log) > short.out 2> short.said || status=$?
+    ($limit && exec "$@" long.log) > short.out 2> short.said || status=$?
     case $status in
     [$wanted]) ;;
-    *) fail "$* in $limit kB ended with $status: $(cat short.said)" ;;
+    *) fail "$* under $limit ended with $status: $(cat short.said)" ;;
     esac
     [ $status = 0 ] || [ "$(cat short.said)" = "$name: out of memory" ] ||
-        fail "$* in $limit kB says: $(cat short.said)"
+        fail "$* under $limit says: $(cat short.said)"
 }
 for it in bin programs/static-amd64; do
     [ -d "$it" ] || continue
-    short 20000 0 "$it/aprsbook" check
-    short 20000 0 "$it/aprsbook" convert kind
+    short 'ulimit -v 20000' 0 "$it/aprsbook" check
+    short 'ulimit -v 20000' 0 "$it/aprsbook" convert kind
     for words in 'aprsbook merge' 'aprsbook show' 'aprsbook widen 60' aprsbook-history; do
         # shellcheck disable=SC2086 # one word each
-        short 20000 4 "$it"/$words
+        short 'ulimit -v 20000' 4 "$it"/$words
         # shellcheck disable=SC2086 # one word each
-        short 100000 04 "$it"/$words
+        short 'ulimit -v 100000' 04 "$it"/$words
     done
 done
+# qemu itself needs more, and gives what it plays no more than 96 MiB
+if [ -d programs/static-arm64 ]; then
+    for words in 'aprsbook merge' aprsbook-history; do
+        # shellcheck disable=SC2086 # one word each
+        short 'export QEMU_RESERVED_VA=0x6000000' 04 programs/static-arm64/$words
+    done
+fi
 if [ -n "$running" ]; then echo 'the programs for other machines answer as this one'; fi

@@ -1,7 +1,7 @@
 #!/bin/sh
-# Runs the README's commands: those of its example print what the README says, those of the table, and of
-# the block with the page, end well, and the files of a release have the names that it has. Needs a POSIX
-# system, and says what it leaves out because a tool isn't there.
+# Runs the README's commands: those of its example print what the README says, those of the table and that
+# of the page end well, and the files of a release have the names that it has. Needs a POSIX system, and
+# says what it leaves out because a tool isn't there.
 # usage: tests/readme.sh PROGRAM
 # shellcheck source=program.sh
 . "$(dirname "$0")/program.sh"
@@ -28,17 +28,9 @@ cp rx1.log rx3.log
 sed -n 's/^| .* | .* | `\(aprsbook.*\)` |$/\1/p' "$page" > table
 runs table
 cmp new.book net.book || fail 'a receiver that heard nothing else changes the book'
-awk '
-    /^```sh$/ { text = "" }
-    { text = text $0 "\n" }
-    /^```$/ && text ~ /\nevent-page / { printf "%s", text }
-' "$page" | sed '/^```/d' > block
-# a receiver hands out what was heard
-printf '#!/bin/sh\nexec aprsbook convert kiss rx1.log\n' > bin/nc
-chmod +x bin/nc
-if has 'the block with the page' python3 stdbuf; then
-    runs block
-    cat logs/*/RX1.log | aprsbook convert kiss | cmp - rx1.kiss || fail 'aprs-log makes another log'
+sed -n '/^event-page /p' "$page" > pages
+if has 'the page of the README' python3; then
+    runs pages
     grep -q 'Fell race' race.html || fail 'event-page makes another page'
 fi
 version=$("$repository/packaging/version")

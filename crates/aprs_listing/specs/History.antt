@@ -1,5 +1,5 @@
 -- The history of a book: a line for each row, which says what the row's frame reports.
-use Rattle.std.specs.Prelude.{ℕ, if◌then◌else◌, List, [], ◌∷◌, ◌++◌, map, Option, None, Some, codes}
+use Rattle.std.specs.Prelude.{ℕ, List, [], ◌∷◌, ◌++◌, drop, map, Option, None, Some, codes}
 use Rattle.std.specs.Fmt.{decimal}
 use Rattle.std.specs.List.{flat_map, join_with_byte}
 use Rattle.aprs_ax25.specs.Callsign.{call_text}
@@ -18,14 +18,11 @@ use Rattle.aprs_listing.specs.Listing.{line_with, line_with_text, live_text, pla
 
 -- ---- fields
 
--- A digipeater, and a star where it has repeated the frame.
-abbrev pub hop_word : Hop → List ℕ
-hop_word hop = call_text hop.call ++ (if hop.repeated then 42 ∷ [] else [])
-
--- The digipeaters with a comma between, or - where there are none.
+-- The digipeaters as a monitor prints them, without the comma before the first, or - where there
+-- are none.
 abbrev pub via_text : List Hop → List ℕ
 via_text [] = codes "-"
-via_text (hop ∷ more) = hop_word hop ++ flat_map hop_text more
+via_text (hop ∷ more) = drop 1 (flat_map hop_text (hop ∷ more))
 
 -- The id of a message, or - without one.
 abbrev pub id_word : Option (List ℕ) → List ℕ

@@ -1,5 +1,5 @@
-//! Examples of a call or two, which docs/library.md shows as they stand here: `tests/library.sh`
-//! compares them.
+//! Examples of a few calls each, most of which docs/library.md shows as they stand here:
+//! `tests/library.sh` compares these.
 
 use crate::vectors::{DIRECT, DIRECT_LINE, DIRECT_TEXT, NOON, ONE_LINE, receiver};
 use aprs_ax25::{Callsign, Frame, Hop};

@@ -13,9 +13,8 @@ pub mod Outcome
 pub mod Merge
 pub mod Gathered
 pub mod Show
-pub mod ShownBook
+pub mod ToldBook
 pub mod HistoryOf
-pub mod WrittenHistory
 pub mod Widen
 pub mod Examples
 -- What public clauses cite of lower crates.
