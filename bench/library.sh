@@ -61,13 +61,13 @@ take_rows_mixed() { fill rows-mixed 200000 "$@"; }
 take_keys_back() { fill keys-back 200000 "$@"; }
 take_receivers() { fill receivers 80000 "$@"; }
 
-# `Book::take` in an order that costs much.
+# `Book::take` in the orders that cost most
 measure_takes() {
     take_turns take_rows take_rows_back take_rows_mixed take_keys_back take_receivers
-    time_row 'Book::take: latest first / earliest first' 200000 3 take_rows_back take_rows
-    time_row 'the same in no order' 200000 30 take_rows_mixed take_rows
-    time_row 'keys of one beginning, the last first' 200000 3 take_keys_back take_rows
-    time_row 'receivers of one transmission, ascending' 80000 3 take_receivers take_rows
+    time_row 'Book::take: latest first / earliest first' 200000 1.5 take_rows_back take_rows
+    time_row 'the same in no order' 200000 12 take_rows_mixed take_rows
+    time_row 'keys of one beginning, the last first' 200000 1.5 take_keys_back take_rows
+    time_row 'receivers of one transmission, ascending' 80000 1 take_receivers take_rows
 }
 
 build_caller

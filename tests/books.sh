@@ -378,6 +378,11 @@ if has merge-tree bash; then
     cp coast.60 "tree/it's/coast.book"
     merge-tree --gap 60 tree tree.book
     same tree.book all.60
+    mkdir shelf
+    for name in hill coast north; do cp $name.30 "shelf/a $name.book"; done
+    merge-tree shelf tree.book
+    same tree.book all.30
+    merge-tree --gap 60 tree tree.book
     # another gap, an empty folder, an empty book and a link to nothing leave the book as it was
     refused 'other gap' merge-tree tree tree.book
     mkdir none

@@ -17,7 +17,7 @@ trap 'rm -rf "$scratch"' EXIT
 
 # what is no name of this repository
 cat > "$scratch/others" << 'end'
-tools: awk callgrind cat ctypes decode_aprs direwolf gcc gen_packets grep nc nice od ogr2ogr rsync
+tools: awk callgrind cat ctypes decode_aprs direwolf gcc gen_packets git grep nc nice od ogr2ogr python3 rsync
 shellcheck sort stdbuf stdin stdout text2pcap valgrind zcat
 Rattle: rattle rt contents remaining ensures requires proves file old std Proof.decls out/incremental x.old x.new x.now x.entry
 std: Box BufWriter Copy Drop Ok Option PartialEq Result u64::MAX

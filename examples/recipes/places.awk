@@ -3,9 +3,11 @@
 # place in Mic-E has the state mic-e, and the description begins with course, speed and what it says.
 # aprsbook-history NET.book | awk -v every=1 -f places.awk: each place, as every-place has them.
 function degrees(fraction,   text) {
+    if (fraction in known) return known[fraction] # most things stand still
     text = sprintf("%.7f", fraction / substr(fraction, index(fraction, "/") + 1))
     if (comma) sub(/,/, ".", text)
-    return text
+    if (++kept % 100000 == 0) split("", known)
+    return known[fraction] = text
 }
 # its fields begin at the n-th with the stamp; then degrees, ambiguity, symbol:comment
 function place(kind, name, state, n, before,   tail, symbol, where, about, it) {

@@ -163,7 +163,7 @@ def test_radios(folder):
 def test_noise(folder):
     noise = bytes(range(1, 192)) * 50
     text = run(folder, noise + FRAME * 2 + noise + FRAME + noise[:2049] + FRAME)
-    assert set(text.splitlines()) == {"aprs-log: noise without a C0 is left out"}, text
+    assert text == "aprs-log: noise without a C0 is left out\n" * 3, text
     assert whole(logs(folder)["RX1.log"]) == 4
     # the longest frame: 1,024 bytes, all of them escaped
     assert run(folder + "/longest", b"\xc0" + b"\xdb\xdd" * 1024 + b"\xc0") == ""

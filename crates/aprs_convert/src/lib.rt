@@ -1,7 +1,6 @@
 //! Logs and KISS streams, converted and checked as they are read.
 #![tactic(auto)]
 
-mod answer;
 mod capture;
 mod check;
 mod convert;
@@ -13,6 +12,7 @@ mod monitor;
 mod monitor_example;
 mod run;
 mod text;
+mod write_line;
 
 pub use check::check_log;
 pub use example::checks_count_lines;

@@ -2,7 +2,7 @@
 ghost use Rattle.std.specs.Prelude.{◌≡◌, true, false, [], ◌∷◌, codes};
 ghost use Rattle.aprs_ax25.specs.Examples.{address, n7lem, nj7p, parts_through};
 ghost use Rattle.aprs_convert.specs.Monitor.{kind_text, monitor_text};
-ghost use Rattle.aprs_convert.specs.Shown.{is_shown};
+ghost use Rattle.aprs_io.specs.Shown.{is_shown};
 
 /// A star stands after a digipeater that has repeated the frame, and after no other. A space and a
 /// tilde are shown as themselves, and a backslash isn't.

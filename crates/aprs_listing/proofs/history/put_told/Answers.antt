@@ -1,4 +1,4 @@
-use Rattle.std.proofs.Common.{◌≡◌, ◌∙◌, ℕ, List, [], ◌∷◌, map, Some, None, ap, sym, refl}
+use Rattle.std.proofs.Common.{◌≡◌, ◌∙◌, ℕ, List, [], ◌∷◌, map, ap, sym, refl}
 use Rattle.std.specs.Prelude.{codes}
 use Rattle.std.specs.Option.{option_map}
 use Rattle.aprs_ax25.specs.Frame.{Parts}
@@ -7,7 +7,7 @@ use Rattle.aprs_report.specs.Reading.{view}
 use Rattle.aprs_report.specs.declared.report.Report.{Report}
 use Rattle.aprs_listing.specs.History.{id_word, told_line}
 use Rattle.aprs_listing.specs.Lines.{field_text, told_named_line}
-use Rattle.aprs_listing.specs.Listing.{live_text, place_fields, stamp_text, word}
+use Rattle.aprs_listing.specs.Listing.{place_fields, stamp_text, word}
 use Rattle.aprs_listing.specs.declared.field.Field.TheVariants as field
 use Rattle.aprs_io.proofs.Outlets.{Puts-is}
 use Rattle.aprs_listing.proofs.Histories.{id_of, text_line}

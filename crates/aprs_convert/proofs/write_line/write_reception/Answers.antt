@@ -6,7 +6,7 @@ use Rattle.aprs_log.specs.Line.{written_line}
 use Rattle.aprs_convert.specs.Monitor.{monitor_text, kind_text}
 use Rattle.aprs_convert.specs.Conversion.{reception_text}
 use Rattle.aprs_convert.specs.declared.form.Form.{Form}
-use Rattle.aprs_convert.proofs.answer.write_reception.Goals as goal
+use Rattle.aprs_convert.proofs.write_line.write_reception.Goals as goal
 
 pub returns-in-Text : goal.returns-in-Text
 returns-in-Text g c =
