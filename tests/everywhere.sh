@@ -107,6 +107,22 @@ for it in $running; do
     cmp $wanted "$name.answers" || fail "$name answers something else"
 done
 
+# ---- an x86-64 processor of 2009, and an older one ----
+
+if [ -d programs/static-amd64 ] && has 'old x86-64 processors' qemu-x86_64-static; then
+    # shellcheck disable=SC2086 # one word each
+    for words in 'aprsbook show' aprsbook-history; do
+        bin/$words inputs/hill.log > expected
+        qemu-x86_64-static -cpu Nehalem programs/static-amd64/$words inputs/hill.log > here 2> said ||
+            fail "$words on a Nehalem says: $(cat said)"
+        cmp here expected || fail "$words on a Nehalem answers something else"
+        if qemu-x86_64-static -cpu core2duo programs/static-amd64/$words inputs/hill.log > here 2> said; then
+            fail "$words runs on a processor that it can't count on"
+        fi
+        grep -q 'lacks a feature of x86-64-v2' said || fail "$words on a Core 2 says: $(cat said)"
+    done
+fi
+
 # ---- little memory: a log of a million lines, which a merge has to hold ----
 
 awk 'BEGIN {
