@@ -16,10 +16,8 @@ filled() (
         esac
     done
 )
-case ${1-} in -h | --help)
-    sed -n '2,/^[^#]/{/^# shellcheck/d; s/^# \{0,1\}//p;}' "$0"
-    exit
-    ;;
+case ${1-} in
+-h | --help) sed -n '2,/^[^#]/{/^# shellcheck/d; s/^# \{0,1\}//p;}' "$0" && exit ;;
 esac
 # a folder that is thrown away
 work=$(mktemp -d)
