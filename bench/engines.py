@@ -10,6 +10,7 @@ usage: engines.py PROGRAM HISTORY FOLDER LINES..    needs taskset, and what merg
 """
 import os
 import pathlib
+import shutil
 import subprocess
 import sys
 import tempfile
@@ -23,7 +24,10 @@ def run(*command, to=None):
     """Seconds, and MiB of the greatest process that it starts."""
     begin = time.monotonic()
     with open(to or os.devnull, "wb") as out:
-        _, status, used = os.wait4(subprocess.Popen(list(map(str, command)), stdout=out).pid, 0)
+        # held, since what nobody holds is waited for by itself
+        started = subprocess.Popen(list(map(str, command)), stdout=out)
+        _, status, used = os.wait4(started.pid, 0)
+        started.returncode = status
     if status:
         sys.exit(f"engines.py: {command[:4]} failed")
     return time.monotonic() - begin, used.ru_maxrss / 1024
@@ -45,6 +49,7 @@ def make_inputs(program, folder, lines):
     if folder.is_dir():
         return
     new = folder.with_name(folder.name + ".new")
+    shutil.rmtree(new, ignore_errors=True)
     (new / "books").mkdir(parents=True)
     days_of(new, lines)
     for day in (new / "logs").iterdir():

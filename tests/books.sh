@@ -395,11 +395,9 @@ if has merge-tree bash; then
     refused 'none/coast.log: cannot open' merge-tree none tree.book
     same tree.book all.60
     # parts: twenty days of two receivers, each day whole, in sixteen parts or more; beyond 64 logs
-    for day in 1 2; do
-        for number in 0 1 2 3 4 5 6 7 8 9; do
-            mkdir -p many/2024-06-$day$number
-            cp hill.log coast.log many/2024-06-$day$number
-        done
+    for day in $(seq 10 29); do
+        mkdir -p "many/2024-06-$day"
+        cp hill.log coast.log "many/2024-06-$day"
     done
     mkdir -p slow
     printf '#!/bin/sh\necho "$*" >> %s/runs\nexec %s "$@"\n' "$scratch" "$program" > slow/aprsbook

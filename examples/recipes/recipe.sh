@@ -1,4 +1,4 @@
-# Read by the recipes that are scripts of the shell: what each begins with. The others lie beside it.
+# Read by recipes that are scripts of the shell: what each begins with; the folder "$work" goes away.
 set -eu
 export LC_ALL=C
 recipe=${0##*/} here=$(dirname "$(readlink -f "$0")")
@@ -16,12 +16,9 @@ filled() (
         esac
     done
 )
-case ${1-} in -h | --help)
-    sed -n '2,/^[^#]/{/^# shellcheck/d; s/^# \{0,1\}//p;}' "$0"
-    exit
-    ;;
+case ${1-} in
+-h | --help) sed -n '2,/^[^#]/{/^# shellcheck/d; s/^# \{0,1\}//p;}' "$0" && exit ;;
 esac
-# a folder that is thrown away
 work=$(mktemp -d)
 trap 'rm -rf "$work"' EXIT
 trap 'exit 1' HUP INT TERM

@@ -9,15 +9,16 @@ started=
 # workers don't always end on a polite signal
 trap 'kill -9 $started 2> "$scratch/kill.txt" || true; wait; rm -rf "$scratch"' EXIT
 cd "$scratch"
-# until_there N FOLDER: waits until so many files are in the folder
-until_there() {
+# wait_until COMMAND..: waits until it succeeds
+wait_until() {
     tries=0
-    while [ "$(find "$2" -type f | wc -l)" -lt "$1" ]; do
+    until "$@"; do
         tries=$((tries + 1))
-        [ $tries -lt 300 ] || fail "waited too long for $2"
+        [ $tries -lt 300 ] || fail "waited too long: $*"
         sleep 0.1
     done
 }
+six_begun() { [ "$(find begun -type f | wc -l)" -ge 6 ]; }
 
 # the workers' aprsbook says when it begins, and takes its time
 mkdir slow begun part
@@ -34,12 +35,7 @@ aprsbook merge "$examples"/evening/*.log > wanted.book
 dask-scheduler --host 127.0.0.1 --port 0 --no-dashboard --scheduler-file scheduler.json \
     > scheduler.txt 2>&1 &
 started=$!
-tries=0
-until [ -s scheduler.json ]; do
-    tries=$((tries + 1))
-    [ $tries -lt 300 ] || fail 'no scheduler'
-    sleep 0.1
-done
+wait_until test -s scheduler.json
 address=$(sed -n 's/.*"address": "\(tcp:[^"]*\)".*/\1/p' scheduler.json)
 for n in 1 2 3 4; do
     PATH="$scratch/slow:$PATH" dask-worker "$address" --host 127.0.0.1 --nthreads 1 --no-nanny \
@@ -48,7 +44,7 @@ for n in 1 2 3 4; do
 done
 merge-dask --fan 2 "$address" net.book part/* > client.txt 2>&1 &
 client=$!
-until_there 6 begun
+wait_until six_begun
 # shellcheck disable=SC2086 # the numbers are words
 set -- $started
 kill -9 "$2" "$3"
