@@ -30,11 +30,11 @@ function ask(worker, what, given) {
     worker.it.postMessage([last, what, given]);
   });
 }
-/** A run of the module over inputs. */
-async function run(command, options, inputs) {
+/** A run of the module over inputs; with `read`, of a history, as a text and its columns. */
+async function run(command, options, inputs, read = false) {
   let free;
   while (!(free = workers.find(it => !it.busy))) await new Promise(done => queue.push(done));
-  return ask(free, "run", { command, options, inputs });
+  return ask(free, "run", { command, options, inputs, read });
 }
 
 // ---- files
@@ -137,16 +137,17 @@ const optionsOf = () => ({ title: byId("name").value || "APRS net", gap: +byId("
 
 /** Book, history and listing of all files that can be read. */
 async function textsOf(good, gap, tellShare) {
-  const call = async (command, inputs) => {
-    const got = await run(command, gap, inputs);
+  const call = async (command, inputs, read) => {
+    const got = await run(command, gap, inputs, read);
     if (got.status)
       throw Object.assign(new Error(place(got)), { at: got.status === 1 ? got.input : -1 });
-    return got.bytes;
+    return got;
   };
-  const book = await call("merge", good.map(it => it.taken));
+  const book = (await call("merge", good.map(it => it.taken))).bytes;
   tellShare(0.6);
-  const texts = await Promise.all(["history", "show"].map(command => call(command, [book])));
-  return { book, history: asText(texts[0]), listing: asText(texts[1]) };
+  const [history, listing] =
+    await Promise.all([call("history", [book], true), call("show", [book], false)]);
+  return { book, history: history.text, read: history.read, listing: asText(listing.bytes) };
 }
 async function work() {
   list();
@@ -165,7 +166,7 @@ async function work() {
     made = texts;
     tellProgress(0.9, "drawing");
     await new Promise(done => setTimeout(done));
-    show({ ...optionsOf(), history: texts.history, listing: texts.listing });
+    show({ ...optionsOf(), history: texts.history, listing: texts.listing }, texts.read);
     byId("book").disabled = byId("event").disabled = false;
     tellProgress(1);
     say(`${count(page.all.rows.length, "transmission")} of ${count(good.length, "file")}, ` +

@@ -1,7 +1,8 @@
 // Tables that build their rows as they come into view, sort by their heads, and take one stop of
 // the tab key: arrow keys go from row to row.
 
-const PART = 40;
+/** So many rows are more than any box shows at once. */
+const PART = 26;
 
 class List {
   /**

@@ -1,14 +1,156 @@
-// The two texts: the history of a book (aprsbook-history) and its listing (aprsbook show).
+// The two texts: the history of a book (aprsbook-history) and its listing (aprsbook show). Of a
+// history, columns of numbers are made in one pass; what else stands in a row is cut out of the
+// text when it is asked for.
 
-const days = new Map();
+/** What a row is, by its first word, and how many words stand between its head and its place. */
+const BEFORE_PLACE = { position: 0, object: 2, item: 2, "mic-e": 3 };
+const KINDS = [...Object.keys(BEFORE_PLACE), "status", "message", "ack", "rej", "raw"];
+const NONE = 0xffffffff;
 
-/** Seconds since 1970, of a moment such as 2024-06-21T18:00:30.000Z. */
-function secondsOf(moment) {
-  const day = moment.slice(0, 10);
-  let begin = days.get(day);
-  if (begin === undefined) days.set(day, begin = Date.parse(day) / 1000);
-  return begin + moment.slice(11, 13) * 3600 + moment.slice(14, 16) * 60 + +moment.slice(17, -1);
+/** Where the nth word after a place of the text begins. */
+function after(text, at, words) {
+  for (let k = 0; k < words; k++) at = text.indexOf(" ", at) + 1;
+  return at;
 }
+const digit = (text, at) => text.charCodeAt(at) - 48;
+const digits2 = (text, at) => 10 * digit(text, at) + digit(text, at + 1);
+const lastDay = { is: -1, begin: 0 };
+/** Seconds since 1970, of a moment such as 2024-06-21T18:00:30.000Z in a text. */
+function secondsAt(text, at) {
+  const year = 100 * digits2(text, at) + digits2(text, at + 2);
+  const month = digits2(text, at + 5), day = digits2(text, at + 8);
+  const is = (year * 16 + month) * 32 + day;
+  if (is !== lastDay.is)
+    Object.assign(lastDay, { is, begin: Date.UTC(year, month - 1, day) / 1000 });
+  const millis = 10 * digits2(text, at + 20) + digit(text, at + 22);
+  return lastDay.begin + 3600 * digits2(text, at + 11) + 60 * digits2(text, at + 14) +
+    digits2(text, at + 17) + millis / 1000;
+}
+/** Degrees, of a fraction such as -21084/6000 in a text. */
+function degreesAt(text, at) {
+  const sign = text.charCodeAt(at) === 45 ? -1 : 1;
+  const parts = [0, 0];
+  for (let k = sign < 0 ? at + 1 : at, part = 0, n; part < 2; k++) {
+    n = digit(text, k);
+    if (n >= 0 && n <= 9) parts[part] = 10 * parts[part] + n;
+    else part++;
+  }
+  return sign * parts[0] / parts[1];
+}
+
+/** Gives each of several texts a number, from 0 on. */
+class Numbers {
+  constructor() {
+    this.of = new Map();
+  }
+  take(text) {
+    let n = this.of.get(text);
+    if (n === undefined) this.of.set(text, n = this.of.size);
+    return n;
+  }
+  get texts() {
+    return [...this.of.keys()];
+  }
+}
+
+/** The columns for so many rows. */
+const emptyColumns = n => ({
+  kind: new Uint8Array(n), first: new Float64Array(n), last: new Float64Array(n),
+  // who sent it and what it places, by their numbers in `things`; lists, by theirs in `lists`
+  station: new Uint32Array(n), thing: new Uint32Array(n), heard: new Uint32Array(n),
+  via: new Uint32Array(n),
+  // where its words and its place begin, and where it ends, in the text
+  rest: new Uint32Array(n), where: new Uint32Array(n), stop: new Uint32Array(n),
+  killed: new Uint8Array(n), north: new Float64Array(n), east: new Float64Array(n),
+  // what has the same text but for moments, receivers and digipeaters has the same number
+  same: new Uint32Array(n),
+});
+/** The numbers of moments, those of earlier ones first, of equal ones as they stand. */
+function orderOf(moments) {
+  const n = moments.length;
+  const least = moments.reduce((a, b) => Math.min(a, b), Infinity);
+  const keys = moments.map((it, k) => Math.round((it - least) * 1000) * n + k);
+  // numbers alone are sorted much faster, as long as they are exact
+  if (keys.every(Number.isSafeInteger)) return Uint32Array.from(keys.sort(), key => key % n);
+  return Uint32Array.from(keys, (_, k) => k).sort((a, b) => moments[a] - moments[b] || a - b);
+}
+/** Puts the columns in the order of the first moments. */
+function inOrderOfTime(columns, n) {
+  const order = orderOf(columns.first.subarray(0, n));
+  for (const name in columns) {
+    const from = columns[name], to = columns[name] = new from.constructor(n);
+    for (let k = 0; k < n; k++) to[k] = from[order[k]];
+  }
+  return columns;
+}
+
+/** Reads the rows of a history into columns. */
+class HistoryReader {
+  constructor(text) {
+    let n = 0;
+    for (let at = -1; (at = text.indexOf("\n", at + 1)) >= 0;) n++;
+    Object.assign(this, { text, n: 0, columns: emptyColumns(n), things: [],
+      lists: new Numbers(), rests: new Numbers(), sames: new Numbers(),
+      named: { station: new Map(), object: new Map(), item: new Map() } });
+  }
+  word(at) {
+    return this.text.slice(at, this.text.indexOf(" ", at));
+  }
+  /** The number of the thing whose name begins at a place of the text. */
+  thing(kind, at) {
+    const name = this.word(at), of = this.named[kind];
+    let n = of.get(name);
+    if (n === undefined) {
+      of.set(name, n = this.things.length);
+      this.things.push(`${kind} ${name}`);
+    }
+    return n;
+  }
+  line(at, end) {
+    const { text, columns, n } = this, kind = KINDS.indexOf(this.word(at));
+    if (kind < 0) return;
+    const first = after(text, at, 1), last = after(text, first, 1), heard = after(text, last, 1);
+    const source = after(text, heard, 1), via = after(text, source, 1), rest = after(text, via, 1);
+    columns.kind[n] = kind;
+    columns.first[n] = secondsAt(text, first);
+    columns.last[n] = secondsAt(text, last);
+    columns.heard[n] = this.lists.take(this.word(heard));
+    columns.station[n] = columns.thing[n] = this.thing("station", source);
+    columns.via[n] = this.lists.take(this.word(via));
+    columns.rest[n] = rest;
+    columns.stop[n] = end;
+    columns.same[n] = this.sameOf(kind, columns.station[n], rest, end);
+    this.place(KINDS[kind], rest, n);
+    this.n++;
+  }
+  place(kind, rest, n) {
+    const { text, columns } = this, words = BEFORE_PLACE[kind];
+    if (words === undefined) {
+      columns.where[n] = NONE;
+      return;
+    }
+    const where = after(text, rest, words), north = after(text, where, 1);
+    if (words === 2) {
+      columns.thing[n] = this.thing(kind, rest);
+      columns.killed[n] = text.startsWith("killed ", after(text, rest, 1)) ? 1 : 0;
+    }
+    columns.where[n] = where;
+    columns.north[n] = degreesAt(text, north);
+    columns.east[n] = degreesAt(text, after(text, north, 1));
+  }
+  sameOf(kind, station, rest, end) {
+    const of = this.rests.take(this.text.slice(rest, end)) * KINDS.length + kind;
+    return this.sames.take(of * 2 ** 22 + station);
+  }
+}
+/** The columns of a history, which a worker can hand over. */
+function columnsOf(text) {
+  const reader = new HistoryReader(text);
+  for (let at = 0, end; (end = text.indexOf("\n", at)) >= 0; at = end + 1) reader.line(at, end);
+  return { columns: inOrderOfTime(reader.columns, reader.n), things: reader.things,
+    lists: reader.lists.texts };
+}
+
 /** The first `n` words of a text, and what stands after them. */
 function cut(text, n) {
   const words = [];
@@ -20,94 +162,77 @@ function cut(text, n) {
   }
   return words;
 }
-/** What stands before the first colon, and after it. */
-function atColon(text) {
-  const at = text.indexOf(":");
-  return [text.slice(0, at), text.slice(at + 1)];
-}
-function degrees(fraction) {
-  const at = fraction.indexOf("/");
-  return fraction.slice(0, at) / fraction.slice(at + 1);
-}
-/** STAMP LATITUDE LONGITUDE AMBIGUITY SYMBOL:COMMENT */
+/** Of STAMP LATITUDE LONGITUDE AMBIGUITY SYMBOL:COMMENT, all but latitude and longitude. */
 function placeOf(where) {
-  const [stamp, north, east, ambiguity, rest] = cut(where, 4);
+  const [stamp, , , ambiguity, rest] = cut(where, 4);
   let at = rest[0] === "\\" ? 4 : 1;
   const table = rest.slice(0, at), mark = rest[at] === "\\" ? 4 : 1;
   const code = rest.slice(at, at + mark);
   at += mark;
-  return { where, stamp, north: degrees(north), east: degrees(east), ambiguity,
-    table: said(table), code: said(code), comment: rest.slice(at + 1) };
+  return { stamp, ambiguity, table: said(table), code: said(code), comment: rest.slice(at + 1) };
 }
 
-const readers = {
-  position: rest => ({ place: placeOf(rest) }),
-  object(rest) {
-    const [name, state, where] = cut(rest, 2);
-    return { name, state, place: placeOf(where) };
-  },
-  status: rest => ({ text: atColon(rest)[1] }),
-  message(rest) {
-    const [addressee, tail] = cut(rest, 1), [id, text] = atColon(tail);
-    return { addressee, id, text };
-  },
-  ack(rest) {
-    const [addressee, id] = cut(rest, 1);
-    return { addressee, id };
-  },
-  "mic-e"(rest) {
-    const [course, speed, says, where] = cut(rest, 3);
-    return { place: { ...placeOf(where), course: +course, knots: +speed, says } };
-  },
-  raw() {
-    return {};
-  },
-};
-readers.item = readers.object;
-readers.rej = readers.ack;
-
-/**
- * The transmissions of a history, by their first moment. Each has kind, first and last (seconds),
- * receivers, source, via (digipeaters, with a `*` after each that has repeated it), `same` (its
- * text without the moments, receivers and digipeaters), and what its kind has.
- */
-function readHistory(text) {
-  const lists = new Map(), rows = [];
-  const listOf = names => {
-    let list = lists.get(names);
-    if (!list) lists.set(names, list = names === "-" ? [] : names.split(","));
-    return list;
-  };
-  for (let at = 0, end; (end = text.indexOf("\n", at)) >= 0; at = end + 1) {
-    const [kind, first, last, receivers, source, via, rest] = cut(text.slice(at, end), 6);
-    const row = readers[kind]?.(rest);
-    if (!row) continue;
-    Object.assign(row, { kind, source, first: secondsOf(first), last: secondsOf(last),
-      receivers: listOf(receivers), via: listOf(via), same: `${kind} ${source} ${rest}` });
-    rows.push(row);
+/** The transmissions of a history, by their first moments; each goes by its number. */
+class Rows {
+  constructor(text, { columns, things, lists }) {
+    Object.assign(this, columns, { text, things,
+      lists: lists.map(it => it === "-" ? [] : it.split(",")) });
+    this.length = this.first.length;
+    this.all = Uint32Array.from(this.first, (_, k) => k);
+    this.until = this.last.reduce((a, b) => Math.max(a, b), 0);
   }
-  return rows.sort((a, b) => a.first - b.first);
+  /** The numbers of those that were heard since a moment. */
+  since(moment) {
+    return moment === -Infinity ? this.all : this.all.filter(k => this.last[k] >= moment);
+  }
+  hasPlace(k) {
+    return this.where[k] !== NONE;
+  }
+  isStatus(k) {
+    return KINDS[this.kind[k]] === "status";
+  }
+  /** What a status says. */
+  statusOf(k) {
+    return this.text.slice(this.text.indexOf(":", this.rest[k]) + 1, this.stop[k]);
+  }
+  /** A place as it stands in the text, which a listing has too. */
+  whereOf(k) {
+    return this.text.slice(this.where[k], this.stop[k]);
+  }
+  /** All that a row says of a place. */
+  placeOf(k) {
+    const place = { ...placeOf(this.whereOf(k)), north: this.north[k], east: this.east[k],
+      first: this.first[k], last: this.last[k], receivers: this.lists[this.heard[k]],
+      source: nameIn(this.things[this.station[k]]), state: this.killed[k] ? "killed" : "live" };
+    place.vector = vectorOf(place.north, place.east);
+    if (KINDS[this.kind[k]] !== "mic-e") return place;
+    const [course, knots, says] = this.text.slice(this.rest[k], this.where[k]).split(" ");
+    return Object.assign(place, { course: +course, knots: +knots, says });
+  }
 }
+const kindIn = thing => thing.slice(0, thing.indexOf(" "));
+const nameIn = thing => thing.slice(thing.indexOf(" ") + 1);
 
 /** MESSAGE of the listing: SOURCE ADDRESSEE ID STATE FIRST LAST:TEXT */
-function messageOf(line) {
-  const [, source, addressee, id, state, first, tail] = cut(line, 6), at = tail.indexOf("Z:");
-  return { source, addressee, id, state, first: secondsOf(first),
-    last: secondsOf(tail.slice(0, at + 1)), text: tail.slice(at + 2) };
+function messageOf(text, at, end) {
+  const [source, addressee, id, state] = text.slice(at, end).split(" ", 4);
+  const first = after(text, at, 4), last = after(text, first, 1);
+  return { source, addressee, id, state, first: secondsAt(text, first),
+    last: secondsAt(text, last), text: text.slice(last + 25, end) };
 }
-
 /** The messages of a listing, and the last place of each thing, as text, by kind and name. */
 function readListing(text) {
   const messages = [], places = new Map();
   let call = "";
-  for (const line of text.split("\n")) {
-    const kind = line.slice(0, line.indexOf(" "));
-    if (kind === "station") call = line.split(" ")[1];
-    else if (kind === "position") places.set("station " + call, cut(line, 3)[3]);
-    else if (kind === "object" || kind === "item") {
-      const [, name, , , , , where] = cut(line, 6);
-      places.set(`${kind} ${name}`, where);
-    } else if (kind === "message") messages.push(messageOf(line));
+  for (let at = 0, end; (end = text.indexOf("\n", at)) >= 0; at = end + 1) {
+    const begin = after(text, at, 1), kind = text.slice(at, begin - 1);
+    const word = () => text.slice(begin, text.indexOf(" ", begin));
+    if (kind === "message") messages.push(messageOf(text, begin, end));
+    else if (kind === "station") call = word();
+    else if (kind === "position")
+      places.set("station " + call, text.slice(after(text, begin, 2), end));
+    else if (kind === "object" || kind === "item")
+      places.set(`${kind} ${word()}`, text.slice(after(text, begin, 5), end));
   }
   return { messages, places };
 }
