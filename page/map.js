@@ -3,6 +3,12 @@
 /** Digits of the minutes that were left out leave so many metres open to each side. */
 const OPEN = { 1: 93, 2: 926, 3: 9260, 4: 55560 };
 const RANK = { item: 1, object: 2, station: 3 };
+/**
+ * Where a name may stand: its left edge is so many reaches of the mark, widths of the name and
+ * pixels to the right, and its base so many reaches and pixels down.
+ */
+const SIDES = [[1, 0, 0, 0, 4], [-1, -1, 0, 0, 4], [0, -0.5, 0, -1, 0], [0, -0.5, 0, 1, 10],
+  [1, 0, -2, 1, 7], [-1, -1, 2, 1, 7], [1, 0, -2, -1, 3], [-1, -1, 2, -1, 3]];
 /** Of more places than these, tracks are thin. */
 const MANY = 8000;
 const FONT = (size, bold) => `${bold ? "600 " : ""}${size}px system-ui, sans-serif`;
@@ -337,16 +343,17 @@ class NetMap {
   /** Puts a name beside its mark, where there is room. */
   name({ thing, place, picked, x, y }, room, reach, small) {
     const width = this.widthOf(thing.label) + 2, by = reach + 3;
-    const places = [[by, 4], [-by - width, 4], [-width / 2, -by], [-width / 2, by + 10],
-      [by - 2, by + 7], [-by + 2 - width, by + 7], [by - 2, -by + 3], [-by + 2 - width, -by + 3]];
-    const at = places.find(([right, down]) =>
-      room.isFree(x + right, y + down - 11, x + right + width, y + down + 3)) ||
-      picked && places[0];
-    if (!at) return;
-    room.take(x + at[0], y + at[1] - 11, x + at[0] + width, y + at[1] + 3);
+    const at = SIDES.findIndex(([a, b, c, d, e]) => {
+      const left = x + a * by + b * width + c, base = y + d * by + e;
+      return room.isFree(left, base - 11, left + width, base + 3);
+    });
+    if (at < 0 && !picked) return;
+    const [a, b, c, d, e] = SIDES[Math.max(at, 0)];
+    const left = x + a * by + b * width + c, base = y + d * by + e;
+    room.take(left, base - 11, left + width, base + 3);
     const colour = place.state === "killed" ? this.colours.soft : this.colours.ink;
-    if (!small || picked) this.write(thing.label, x + at[0], y + at[1], colour, 12, picked);
-    else this.writeOnSheet(thing.label, x + at[0], y + at[1], width, colour);
+    if (!small || picked) this.write(thing.label, left, base, colour, 12, picked);
+    else this.writeOnSheet(thing.label, left, base, width, colour);
   }
   write(text, x, y, colour, size, bold = false) {
     const { pen } = this;
