@@ -77,7 +77,7 @@ class NetMap {
   }
   show(things) {
     this.things = things.filter(it => it.lastPlace >= 0);
-    this.paintSoon();
+    later("map", () => this.paintSoon());
   }
   fit() {
     this.fitted = true;

@@ -17,8 +17,8 @@ class Thing {
   constructor(rows, key) {
     const kind = kindIn(key), name = nameIn(key);
     Object.assign(this, { rows, kind, name, key, label: said(name), colour: colourOf(key),
-      first: Infinity, last: -Infinity, by: [], sent: 0, status: "", statusAt: -Infinity,
-      placedBy: [], lastPlace: -1, made: new Map() });
+      first: Infinity, last: -Infinity, by: [], sent: 0, lastStatus: -1, placedBy: [],
+      lastPlace: -1, made: new Map() });
   }
   hear(k) {
     const { rows } = this;
@@ -47,6 +47,9 @@ class Thing {
   }
   get now() {
     return this.placeAt(this.lastPlace);
+  }
+  get status() {
+    return this.lastStatus < 0 ? "" : this.rows.statusOf(this.lastStatus);
   }
   get killed() {
     return this.lastPlace >= 0 && this.rows.killed[this.lastPlace] === 1;
@@ -80,8 +83,8 @@ function thingsOf(rows, picks, places) {
   for (const k of picks) {
     const station = thing(rows.station[k]);
     station.hear(k);
-    if (rows.isStatus(k) && rows.last[k] >= station.statusAt)
-      Object.assign(station, { status: rows.statusOf(k), statusAt: rows.last[k] });
+    if (rows.isStatus(k) && !(rows.last[k] < rows.last[station.lastStatus]))
+      station.lastStatus = k;
     if (!rows.hasPlace(k)) continue;
     const it = thing(rows.thing[k]);
     if (it !== station) it.hear(k);

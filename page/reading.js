@@ -38,18 +38,53 @@ function degreesAt(text, at) {
   return sign * parts[0] / parts[1];
 }
 
-/** Gives each of several texts a number, from 0 on. */
-class Numbers {
-  constructor() {
-    this.of = new Map();
+// where a hash begins, so that nobody can send texts that all have the same one
+const SEED = Math.floor(Math.random() * 2 ** 31);
+/** Gives each of several parts of a text a number, from 0 on, without cutting them out. */
+class Parts {
+  constructor(text) {
+    Object.assign(this, { text, begins: [], ends: [], owns: [], hashes: [],
+      slots: new Int32Array(1024) });
   }
-  take(text) {
-    let n = this.of.get(text);
-    if (n === undefined) this.of.set(text, n = this.of.size);
-    return n;
+  /** The number of a part, which comes with a number of its own that must be the same too. */
+  take(begin, end, own = 0) {
+    const { text } = this;
+    let hash = SEED ^ own;
+    for (let at = begin; at < end; at++) hash = Math.imul(hash ^ text.charCodeAt(at), 0x5bd1e995);
+    hash ^= hash >>> 15;
+    const mask = this.slots.length - 1;
+    for (let slot = hash & mask; ; slot = (slot + 1) & mask) {
+      const n = this.slots[slot] - 1;
+      if (n < 0) return this.add(begin, end, own, hash, slot);
+      if (this.hashes[n] === hash && this.owns[n] === own && this.isSame(n, begin, end)) return n;
+    }
+  }
+  isSame(n, begin, end) {
+    const from = this.begins[n], { text } = this;
+    if (this.ends[n] - from !== end - begin) return false;
+    for (let k = 0; k < end - begin; k++)
+      if (text.charCodeAt(from + k) !== text.charCodeAt(begin + k)) return false;
+    return true;
+  }
+  add(begin, end, own, hash, slot) {
+    this.slots[slot] = this.begins.push(begin);
+    this.ends.push(end);
+    this.owns.push(own);
+    this.hashes.push(hash);
+    if (2 * this.begins.length > this.slots.length) this.widen();
+    return this.begins.length - 1;
+  }
+  widen() {
+    const mask = 2 * this.slots.length - 1;
+    this.slots = new Int32Array(mask + 1);
+    this.hashes.forEach((hash, n) => {
+      let slot = hash & mask;
+      while (this.slots[slot]) slot = (slot + 1) & mask;
+      this.slots[slot] = n + 1;
+    });
   }
   get texts() {
-    return [...this.of.keys()];
+    return this.begins.map((begin, n) => this.text.slice(begin, this.ends[n]));
   }
 }
 
@@ -65,23 +100,21 @@ const emptyColumns = n => ({
   // what has the same text but for moments, receivers and digipeaters has the same number
   same: new Uint32Array(n),
 });
-/** The numbers of moments, those of earlier ones first, of equal ones as they stand. */
-function orderOf(moments) {
-  const n = moments.length;
-  const least = moments.reduce((a, b) => Math.min(a, b), Infinity);
-  const keys = moments.map((it, k) => Math.round((it - least) * 1000) * n + k);
-  // numbers alone are sorted much faster, as long as they are exact
-  if (keys.every(Number.isSafeInteger)) return Uint32Array.from(keys.sort(), key => key % n);
-  return Uint32Array.from(keys, (_, k) => k).sort((a, b) => moments[a] - moments[b] || a - b);
-}
-/** Puts the columns in the order of the first moments. */
-function inOrderOfTime(columns, n) {
-  const order = orderOf(columns.first.subarray(0, n));
-  for (const name in columns) {
-    const from = columns[name], to = columns[name] = new from.constructor(n);
-    for (let k = 0; k < n; k++) to[k] = from[order[k]];
+/** The numbers of `n` moments, those of earlier ones first, of equal ones as they stand. */
+function orderOf(moments, n) {
+  let least = Infinity, most = -Infinity;
+  for (let k = 0; k < n; k++) {
+    least = Math.min(least, moments[k]);
+    most = Math.max(most, moments[k]);
   }
-  return columns;
+  const order = new Uint32Array(n), keys = new Float64Array(n);
+  // numbers alone are sorted much faster, as long as they are exact
+  if ((most - least) * 1000 * n > 2 ** 52)
+    return order.map((_, k) => k).sort((a, b) => moments[a] - moments[b] || a - b);
+  for (let k = 0; k < n; k++) keys[k] = Math.round((moments[k] - least) * 1000) * n + k;
+  keys.sort();
+  for (let k = 0; k < n; k++) order[k] = keys[k] % n;
+  return order;
 }
 
 /** Reads the rows of a history into columns. */
@@ -89,37 +122,35 @@ class HistoryReader {
   constructor(text) {
     let n = 0;
     for (let at = -1; (at = text.indexOf("\n", at + 1)) >= 0;) n++;
-    Object.assign(this, { text, n: 0, columns: emptyColumns(n), things: [],
-      lists: new Numbers(), rests: new Numbers(), sames: new Numbers(),
-      named: { station: new Map(), object: new Map(), item: new Map() } });
+    const parts = () => new Parts(text);
+    Object.assign(this, { text, n: 0, columns: emptyColumns(n), things: [], lists: parts(),
+      rests: parts(), named: { station: parts(), object: parts(), item: parts() },
+      numbers: { station: [], object: [], item: [] } });
   }
-  word(at) {
-    return this.text.slice(at, this.text.indexOf(" ", at));
-  }
-  /** The number of the thing whose name begins at a place of the text. */
-  thing(kind, at) {
-    const name = this.word(at), of = this.named[kind];
-    let n = of.get(name);
-    if (n === undefined) {
-      of.set(name, n = this.things.length);
-      this.things.push(`${kind} ${name}`);
+  /** The number of the thing whose name stands between two places of the text. */
+  thing(kind, begin, end) {
+    const n = this.named[kind].take(begin, end), numbers = this.numbers[kind];
+    if (n === numbers.length) {
+      numbers.push(this.things.length);
+      this.things.push(`${kind} ${this.text.slice(begin, end)}`);
     }
-    return n;
+    return numbers[n];
   }
   line(at, end) {
-    const { text, columns, n } = this, kind = KINDS.indexOf(this.word(at));
+    const { text, columns, n } = this, first = after(text, at, 1);
+    const kind = KINDS.indexOf(text.slice(at, first - 1));
     if (kind < 0) return;
-    const first = after(text, at, 1), last = after(text, first, 1), heard = after(text, last, 1);
+    const last = after(text, first, 1), heard = after(text, last, 1);
     const source = after(text, heard, 1), via = after(text, source, 1), rest = after(text, via, 1);
     columns.kind[n] = kind;
     columns.first[n] = secondsAt(text, first);
     columns.last[n] = secondsAt(text, last);
-    columns.heard[n] = this.lists.take(this.word(heard));
-    columns.station[n] = columns.thing[n] = this.thing("station", source);
-    columns.via[n] = this.lists.take(this.word(via));
+    columns.heard[n] = this.lists.take(heard, source - 1);
+    columns.station[n] = columns.thing[n] = this.thing("station", source, via - 1);
+    columns.via[n] = this.lists.take(via, rest - 1);
     columns.rest[n] = rest;
     columns.stop[n] = end;
-    columns.same[n] = this.sameOf(kind, columns.station[n], rest, end);
+    columns.same[n] = this.rests.take(rest, end, columns.station[n] * KINDS.length + kind);
     this.place(KINDS[kind], rest, n);
     this.n++;
   }
@@ -131,24 +162,21 @@ class HistoryReader {
     }
     const where = after(text, rest, words), north = after(text, where, 1);
     if (words === 2) {
-      columns.thing[n] = this.thing(kind, rest);
-      columns.killed[n] = text.startsWith("killed ", after(text, rest, 1)) ? 1 : 0;
+      const state = after(text, rest, 1);
+      columns.thing[n] = this.thing(kind, rest, state - 1);
+      columns.killed[n] = text.startsWith("killed ", state) ? 1 : 0;
     }
     columns.where[n] = where;
     columns.north[n] = degreesAt(text, north);
     columns.east[n] = degreesAt(text, after(text, north, 1));
   }
-  sameOf(kind, station, rest, end) {
-    const of = this.rests.take(this.text.slice(rest, end)) * KINDS.length + kind;
-    return this.sames.take(of * 2 ** 22 + station);
-  }
 }
 /** The columns of a history, which a worker can hand over. */
 function columnsOf(text) {
-  const reader = new HistoryReader(text);
+  const reader = new HistoryReader(text), { columns } = reader;
   for (let at = 0, end; (end = text.indexOf("\n", at)) >= 0; at = end + 1) reader.line(at, end);
-  return { columns: inOrderOfTime(reader.columns, reader.n), things: reader.things,
-    lists: reader.lists.texts };
+  columns.order = orderOf(columns.first, reader.n);
+  return { columns, things: reader.things, lists: reader.lists.texts };
 }
 
 /** The first `n` words of a text, and what stands after them. */
@@ -172,18 +200,18 @@ function placeOf(where) {
   return { stamp, ambiguity, table: said(table), code: said(code), comment: rest.slice(at + 1) };
 }
 
-/** The transmissions of a history, by their first moments; each goes by its number. */
+/** The transmissions of a history: numbers of rows, in `order` by their first moments. */
 class Rows {
   constructor(text, { columns, things, lists }) {
     Object.assign(this, columns, { text, things,
       lists: lists.map(it => it === "-" ? [] : it.split(",")) });
-    this.length = this.first.length;
-    this.all = Uint32Array.from(this.first, (_, k) => k);
-    this.until = this.last.reduce((a, b) => Math.max(a, b), 0);
+    this.length = this.order.length;
+    this.until = 0;
+    for (const k of this.order) this.until = Math.max(this.until, this.last[k]);
   }
   /** The numbers of those that were heard since a moment. */
   since(moment) {
-    return moment === -Infinity ? this.all : this.all.filter(k => this.last[k] >= moment);
+    return moment === -Infinity ? this.order : this.order.filter(k => this.last[k] >= moment);
   }
   hasPlace(k) {
     return this.where[k] !== NONE;

@@ -12,10 +12,10 @@ function answer({ command, options, inputs, read }) {
   got.bytes = null;
   return [got, Object.values(got.read.columns).map(it => it.buffer)];
 }
-onmessage = async ({ data: [id, what, given] }) => {
+onmessage = ({ data: [id, what, given] }) => {
   try {
     if (what === "load") {
-      core = await WebAssembly.compile(given);
+      core = given;
       return postMessage([id, true, ""]);
     }
     const [got, buffers] = answer(given);
